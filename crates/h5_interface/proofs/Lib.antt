@@ -1,0 +1,9 @@
+pub mod AncestorLaws
+pub mod ChildLaws
+pub mod ElementLemmas
+pub mod ForestLaws
+pub mod RehangLaws
+pub mod HangingLaws
+pub mod MakingLaws
+pub mod CallLaws
+pub mod SmallTreeLaws

@@ -1,0 +1,7 @@
+pub mod Ancestors
+pub mod Changes
+pub mod Forest
+pub mod NewElement
+pub mod Seen
+pub mod SinkRules
+pub mod SmallTree

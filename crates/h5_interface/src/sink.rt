@@ -1,0 +1,249 @@
+//! The trees that a tree builder builds.
+ghost use Rattle.std.specs.Prelude.{◌≡◌, ◌≤◌, ◌<◌, ◌==◌, ℕ, List, Option, IfOk, OnOk, OnErr, string_bytes};
+ghost use Rattle.std.specs.Option.{option_map};
+ghost use Rattle.h5_names.specs.AttributeText.{attribute_texts};
+ghost use Rattle.h5_interface.specs.Forest.{CommentNode, ElementNode, HasContents, InstructionNode, IsElement, IsForest, IsNode, contents_of, kind_of};
+ghost use Rattle.h5_interface.specs.Seen.{CanAppend, CanAppendBasedOnParent, CanDetach, CanInsertBefore, CanReparent, Seen, after_add_attrs, after_append, after_append_before, after_append_by, after_append_doctype, after_associate, after_attach, after_create, after_create_element, after_option_copy, after_pop, after_quirks, after_remove, after_reparent, after_started, child_of, is_integration_point};
+ghost use Rattle.h5_interface.specs.SinkRules.{SinkRules};
+
+use super::marks::{ElementFlags, QuirksMode};
+use h5_names::{Attribute, QualName};
+use std::alloc::AllocError;
+
+/// A child that is put into a tree.
+#[derive(Drop)]
+pub enum NodeOrText<Handle> {
+    /// This node, which has no parent yet.
+    AppendNode(Handle),
+    /// This text, which isn't empty. It is joined to the texts beside which it comes to stand.
+    AppendText(String),
+}
+
+/// A tree that a tree builder builds. The builder holds handles of its nodes, and nothing else.
+///
+/// What the tree holds is a forest of nodes (DOM standard, section 4, "Nodes"). The answers, and what a
+/// call makes of the forest, are functions of the forest; what a sink may choose among these is in its
+/// rules. Texts that come to be neighbours are joined. After an `AllocError` the forest is what it was.
+///
+/// Conditions on the caller: handles are of nodes of this sink; an appended text isn't empty; an appended
+/// node is no document, has no parent, and is neither its new parent nor above it; only elements are asked
+/// for names or given marks and attributes; only templates are asked for contents.
+pub trait TreeSink {
+    type Handle: Drop;
+
+    type Output;
+
+    // What it shows.
+    ghost sees: { Self → Seen };
+
+    // The node that a handle names.
+    ghost node: { Self.Handle → ℕ };
+
+    // What it chooses.
+    ghost rules: { SinkRules };
+
+    // What its result tells.
+    ghost told: { Self.Output → Seen };
+
+    /// The result, which tells what the sink showed.
+    fn finish(self) -> Self::Output
+        ensures { told result ≡ sees self };
+
+    /// Notes a parse error. Forest and quirks mode stay.
+    fn parse_error(&mut self, message: &str)
+        ensures forest { (sees self.new).forest ≡ (sees self.old).forest }
+        ensures quirks { (sees self.new).quirks ≡ (sees self.old).quirks }
+        ensures grows { (sees self.old).errors ≤ (sees self.new).errors }
+        ensures noted { 0 < (sees self.new).errors };
+
+    /// The document.
+    fn get_document(&self) -> Self::Handle
+        ensures is_forest { IsForest (sees self.now).forest }
+        ensures document { node result ≡ (sees self.now).forest.document };
+
+    /// The name of an element.
+    fn elem_name<'a>(&'a self, target: &'a Self::Handle) -> &'a QualName
+        requires { IsElement (sees self.now).forest (node target.now) }
+        ensures { kind_of (sees self.now).forest (node target.now) ≡ Some (ElementNode result.now) };
+
+    /// Whether two handles are of the same node.
+    fn same_node(&self, x: &Self::Handle, y: &Self::Handle) -> bool
+        ensures { result ≡ (node x.now == node y.now) };
+
+    /// Another handle of the same node.
+    fn clone_handle(&self, handle: &Self::Handle) -> Self::Handle
+        ensures { node result ≡ node handle.now };
+
+    /// The contents of a template (HTML standard, section 4.12.3, "The template element").
+    fn get_template_contents(&self, target: &Self::Handle) -> Self::Handle
+        requires { HasContents (sees self.now).forest (node target.now) }
+        ensures { contents_of (sees self.now).forest (node target.now) ≡ Some (node result) };
+
+    /// A new element without parent; where `flags.template` is set its contents are made, too. An Err
+    /// leaves the forest.
+    fn create_element(
+        &mut self,
+        name: QualName,
+        attrs: Vec<Attribute>,
+        flags: ElementFlags,
+    ) -> Result<Self::Handle, AllocError>
+        ensures handle { IfOk result (λ handle. node handle ≡ rules.fresh (sees self.old).forest) }
+        ensures ok { OnOk result
+            (sees self.new ≡ after_create_element rules name (attribute_texts attrs.items) flags (sees self.old)) }
+        ensures err { OnErr result (sees self.new ≡ sees self.old) };
+
+    /// A new comment without parent. An Err leaves the forest.
+    fn create_comment(&mut self, text: String) -> Result<Self::Handle, AllocError>
+        ensures handle { IfOk result (λ handle. node handle ≡ rules.fresh (sees self.old).forest) }
+        ensures ok { OnOk result (sees self.new ≡ after_create rules (CommentNode (string_bytes text)) (sees self.old)) }
+        ensures err { OnErr result (sees self.new ≡ sees self.old) };
+
+    /// A new processing instruction without parent. An Err leaves the forest.
+    fn create_pi(&mut self, target: String, data: String) -> Result<Self::Handle, AllocError>
+        ensures handle { IfOk result (λ handle. node handle ≡ rules.fresh (sees self.old).forest) }
+        ensures ok { OnOk result
+            (sees self.new ≡ after_create rules (InstructionNode (string_bytes target) (string_bytes «data»)) (sees self.old)) }
+        ensures err { OnErr result (sees self.new ≡ sees self.old) };
+
+    /// A new last child. An Err leaves the forest.
+    fn append(
+        &mut self,
+        parent: &Self::Handle,
+        child: NodeOrText<Self::Handle>,
+    ) -> Result<(), AllocError>
+        requires { CanAppend (sees self.old).forest (node parent.now) (child_of node child) }
+        ensures ok { OnOk result (sees self.new ≡ after_append (node parent.now) (child_of node child) (sees self.old)) }
+        ensures err { OnErr result (sees self.new ≡ sees self.old) };
+
+    /// A new child before a sibling that has a parent and is no fragment. An Err leaves the forest.
+    fn append_before_sibling(
+        &mut self,
+        sibling: &Self::Handle,
+        child: NodeOrText<Self::Handle>,
+    ) -> Result<(), AllocError>
+        requires { CanInsertBefore (sees self.old).forest (node sibling.now) (child_of node child) }
+        ensures ok { OnOk result
+            (sees self.new ≡ after_append_before (node sibling.now) (child_of node child) (sees self.old)) }
+        ensures err { OnErr result (sees self.new ≡ sees self.old) };
+
+    /// A new child before `element` if that has a parent, else a new last child of `prev`. An Err leaves
+    /// the forest.
+    fn append_based_on_parent_node(
+        &mut self,
+        element: &Self::Handle,
+        prev: &Self::Handle,
+        child: NodeOrText<Self::Handle>,
+    ) -> Result<(), AllocError>
+        requires { CanAppendBasedOnParent (sees self.old).forest (node element.now) (node prev.now) (child_of node child) }
+        ensures ok { OnOk result
+            (sees self.new ≡ after_append_by (node element.now) (node prev.now) (child_of node child) (sees self.old)) }
+        ensures err { OnErr result (sees self.new ≡ sees self.old) };
+
+    /// A new doctype as the last child of the document. An Err leaves the forest.
+    fn append_doctype_to_document(
+        &mut self,
+        name: String,
+        public_id: String,
+        system_id: String,
+    ) -> Result<(), AllocError>
+        ensures ok { OnOk result
+            (sees self.new ≡ after_append_doctype rules (string_bytes name) (string_bytes public_id) (string_bytes system_id) (sees self.old)) }
+        ensures err { OnErr result (sees self.new ≡ sees self.old) };
+
+    /// An element gets those of the attributes whose names it doesn't have. An Err leaves the forest.
+    fn add_attrs_if_missing(
+        &mut self,
+        target: &Self::Handle,
+        attrs: Vec<Attribute>,
+    ) -> Result<(), AllocError>
+        requires { IsElement (sees self.old).forest (node target.now) }
+        ensures ok { OnOk result
+            (sees self.new ≡ after_add_attrs (node target.now) (attribute_texts attrs.items) (sees self.old)) }
+        ensures err { OnErr result (sees self.new ≡ sees self.old) };
+
+    /// Takes a node that is no fragment from its parent, if it has one. An Err leaves the forest.
+    fn remove_from_parent(&mut self, target: &Self::Handle) -> Result<(), AllocError>
+        requires { CanDetach (sees self.old).forest (node target.now) }
+        ensures ok { OnOk result (sees self.new ≡ after_remove (node target.now) (sees self.old)) }
+        ensures err { OnErr result (sees self.new ≡ sees self.old) };
+
+    /// Moves all children of `from`, in order, to the end of those of `to`, which is neither `from` nor
+    /// below it. An Err leaves the forest.
+    fn reparent_children(
+        &mut self,
+        from: &Self::Handle,
+        to: &Self::Handle,
+    ) -> Result<(), AllocError>
+        requires { CanReparent (sees self.old).forest (node from.now) (node to.now) }
+        ensures ok { OnOk result (sees self.new ≡ after_reparent (node from.now) (node to.now) (sees self.old)) }
+        ensures err { OnErr result (sees self.new ≡ sees self.old) };
+
+    /// Notes that a script has started (HTML standard, section 4.12.1, already started).
+    fn mark_script_already_started(&mut self, script: &Self::Handle)
+        requires { IsElement (sees self.old).forest (node script.now) }
+        ensures { sees self.new ≡ after_started rules (node script.now) (sees self.old) };
+
+    /// Notes that an element was popped off the stack of open elements.
+    fn pop(&mut self, element: &Self::Handle)
+        requires { IsElement (sees self.old).forest (node element.now) }
+        ensures { sees self.new ≡ after_pop rules (node element.now) (sees self.old) };
+
+    /// Associates an element with a form (HTML standard, section 13.2.6.1, create an element for a token).
+    /// `nodes` are the place where it is to stand, and what stands outside that place.
+    fn associate_with_form(
+        &mut self,
+        target: &Self::Handle,
+        form: &Self::Handle,
+        nodes: (&Self::Handle, Option<&Self::Handle>),
+    )
+        requires target { IsElement (sees self.old).forest (node target.now) }
+        requires form { IsNode (sees self.old).forest (node form.now) }
+        requires place { IsNode (sees self.old).forest (node nodes.0.now) }
+        ensures { sees self.new ≡ after_associate rules (node target.now) (node form.now) (node nodes.entry.0.now)
+            (option_map (λ outer. node outer.now) nodes.entry.1) (sees self.old) };
+
+    /// Sets the quirks mode. The forest stays.
+    fn set_quirks_mode(&mut self, mode: QuirksMode)
+        ensures { sees self.new ≡ after_quirks mode (sees self.old) };
+
+    /// Notes the line of the token that comes. All that is shown stays.
+    fn set_current_line(&mut self, line: u64)
+        ensures { sees self.new ≡ sees self.old };
+
+    /// Whether a MathML `annotation-xml` is an HTML integration point (HTML standard, section 13.2.6, "Tree
+    /// construction"). Its name, its attributes and its marks tell.
+    fn is_mathml_annotation_xml_integration_point(&self, target: &Self::Handle) -> bool
+        requires { IsElement (sees self.now).forest (node target.now) }
+        ensures { result ≡ is_integration_point rules (sees self.now).forest (node target.now) };
+
+    /// Whether declarative shadow roots are allowed below this parent (HTML standard, section 13.2.6.4.4,
+    /// start tag "template").
+    fn allow_declarative_shadow_roots(&self, parent: &Self::Handle) -> bool
+        requires { IsNode (sees self.now).forest (node parent.now) }
+        ensures { result ≡ rules.allows_shadow (sees self.now).forest (node parent.now) };
+
+    /// Attaches the contents of a template as the shadow root of its host, and tells whether it did. Where
+    /// it didn't nothing has changed. An Err leaves the forest.
+    fn attach_declarative_shadow(
+        &mut self,
+        host: &Self::Handle,
+        template: &Self::Handle,
+        attrs: &[Attribute],
+    ) -> Result<bool, AllocError>
+        requires host { IsNode (sees self.old).forest (node host.now) }
+        requires template { IsNode (sees self.old).forest (node template.now) }
+        ensures answer { IfOk result (λ attached. attached ≡ rules.attaches (sees self.old).forest (node host.now) (node template.now) (attribute_texts attrs.now)) }
+        ensures ok { OnOk result
+            (sees self.new ≡ after_attach rules (node host.now) (node template.now) (attribute_texts attrs.now) (sees self.old)) }
+        ensures err { OnErr result (sees self.new ≡ sees self.old) };
+
+    /// Copies an option into `selectedcontent` elements (HTML standard, section 4.10.10, "The option
+    /// element"). An Err leaves the forest.
+    fn maybe_clone_an_option_into_selectedcontent(
+        &mut self,
+        option: &Self::Handle,
+    ) -> Result<(), AllocError>
+        requires { IsElement (sees self.old).forest (node option.now) }
+        ensures ok { OnOk result (sees self.new ≡ after_option_copy rules (node option.now) (sees self.old)) }
+        ensures err { OnErr result (sees self.new ≡ sees self.old) };
+}

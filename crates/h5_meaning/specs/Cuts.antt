@@ -1,0 +1,45 @@
+-- Lists of tokens that differ in how their texts are cut.
+use Rattle.std.specs.Prelude.{◌≡◌, ◌≢◌, ℕ, Bool, true, false, if◌then◌else◌, List, [], ◌∷◌, ◌++◌}
+use Rattle.h5_token.specs.Reply.{Reply}
+use Rattle.h5_token.specs.TokenText.{TokenText, DoctypeIs, TagIs, CommentIs, Characters, NullCharacter, EndOfFile, ParseErrorIs}
+use Rattle.h5_interface.specs.SinkRules.{SinkRules}
+use Rattle.h5_meaning.specs.Run.{View, after_all, replies}
+
+-- a text before a list: it is joined to a text that isn't empty; an empty text stays by itself
+abbrev pub glue : List ℕ → List TokenText → List TokenText
+glue (b ∷ t) (Characters (d ∷ u) ∷ ts) = Characters ((b ∷ t) ++ d ∷ u) ∷ ts
+glue t ts = Characters t ∷ ts
+
+-- a list of which neighbouring texts that aren't empty are joined
+abbrev pub join : List TokenText → List TokenText
+join [] = []
+join (Characters t ∷ ts) = glue t (join ts)
+join (t ∷ ts) = t ∷ join ts
+
+-- no text is empty
+abbrev pub NoEmptyText : List TokenText → Type 0
+NoEmptyText [] = Unit {0}
+NoEmptyText (Characters t ∷ ts) = (t ≢ []) × NoEmptyText ts
+NoEmptyText (t ∷ ts) = NoEmptyText ts
+
+-- whether a text, and the token that follows, belong to one run
+abbrev pub goes_on : List ℕ → List TokenText → Bool
+goes_on (b ∷ t) (Characters (d ∷ u) ∷ ts) = true
+goes_on t ts = false
+
+-- each piece of a run has the run's reply
+abbrev pub spread_next : Bool → Reply → List Reply → List Reply
+spread_next true r rs = r ∷ rs
+spread_next false r rs = rs
+
+abbrev pub spread : List TokenText → List Reply → List Reply
+spread ts [] = []
+spread [] (r ∷ rs) = []
+spread (Characters t ∷ ts) (r ∷ rs) = r ∷ spread ts (spread_next (goes_on t ts) r rs)
+spread (t ∷ ts) (r ∷ rs) = r ∷ spread ts rs
+
+-- a list and its join give one view, one reply to each token that is no text, and to each piece of a run
+-- the run's reply
+pub record CutsAgree (rules : SinkRules) (ts : List TokenText) (v : View) : Type 0 where
+  pub views : after_all rules ts v ≡ after_all rules (join ts) v
+  pub replies : replies rules ts v ≡ spread ts (replies rules (join ts) v)

@@ -1,0 +1,12 @@
+pub mod Blanks
+pub mod Changes
+pub mod Cuts
+pub mod Modes
+pub mod Order
+pub mod Rows
+pub mod Run
+pub mod Scope
+pub mod Settle
+pub mod Sound
+pub mod Text
+pub mod World

@@ -1,0 +1,44 @@
+-- Questions about the open elements, by their names, the current node's first.
+use Rattle.std.specs.Prelude.{ℕ, Bool, true, false, not, ◌&&◌, if◌then◌else◌, List, [], ◌∷◌}
+use Rattle.std.specs.List.{list_all, list_any}
+use Rattle.h5_names.specs.declared.qualified.QualName.{QualName}
+use Rattle.h5_interface.specs.NewElement.{is_html_template}
+use Rattle.h5_tag_sets.specs.TagSets.{is_html_named, is_implied, is_special}
+use Rattle.h5_meaning.specs.World.{but_first}
+
+-- from the current node on, one of these comes before, or is, the first that ends the scope (HTML standard,
+-- section 13.2.4.2, "have a particular element in scope")
+abbrev pub in_scope : (QualName → Bool) → (QualName → Bool) → List QualName → Bool
+in_scope is ends [] = false
+in_scope is ends (n ∷ ns) = if is n then true else (if ends n then false else in_scope is ends ns)
+
+-- some open element is an HTML `template`
+abbrev pub has_template : List QualName → Bool
+has_template = list_any is_html_template
+
+-- from the current node on, an HTML element of this name comes before any special one
+abbrev pub comes_before_special : List ℕ → List QualName → Bool
+comes_before_special local [] = false
+comes_before_special local (n ∷ ns) =
+    if is_html_named local n then true else (if is_special n then false else comes_before_special local ns)
+
+-- the open elements below the current nodes that have this name, and that one
+abbrev pub cut_through : (QualName → Bool) → List QualName → List ℕ → List ℕ
+cut_through is [] s = s
+cut_through is (n ∷ ns) s = if is n then but_first s else cut_through is ns (but_first s)
+
+-- the second open element from the root on is an HTML element of this name
+abbrev pub second_is : List ℕ → List QualName → Bool
+second_is local [] = false
+second_is local (n ∷ []) = false
+second_is local (n ∷ m ∷ []) = is_html_named local n
+second_is local (n ∷ m ∷ k ∷ ns) = second_is local (m ∷ k ∷ ns)
+
+-- the first name, if there is one, passes
+abbrev pub first_passes : (QualName → Bool) → List QualName → Bool
+first_passes p [] = false
+first_passes p (n ∷ ns) = p n
+
+-- an implied end tag, but for an HTML element of this name
+abbrev pub is_implied_but : List ℕ → QualName → Bool
+is_implied_but local n = is_implied n && not (is_html_named local n)

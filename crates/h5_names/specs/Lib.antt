@@ -1,0 +1,2 @@
+pub mod AttributeText
+pub mod Laws

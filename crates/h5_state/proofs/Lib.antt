@@ -1,0 +1,4 @@
+pub mod AttributeLaws
+pub mod BelowLaws
+pub mod StackLaws
+pub mod TextLaws

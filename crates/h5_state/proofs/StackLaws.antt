@@ -1,0 +1,129 @@
+-- The stack as it is kept, and as it is seen.
+use Rattle.std.proofs.Common.{◌≡◌, ◌-◌, ◌+◌, ◌<◌, ◌≤◌, ℕ, zero, suc, get_or, take, length-append, Bool, true, false, cond, List, [], ◌∷◌, ◌++◌, length, map, reverse, Option, Some, None, inl, inr, codes, refl, ap, sym, subst, ◌∙◌, arith}
+use Rattle.std.specs.Prelude.{slice_get, unwrap_or}
+use Rattle.h5_names.specs.declared.qualified.QualName.{QualName}
+use Rattle.h5_tag_sets.specs.TagSets.{html_namespace, is_html_named}
+use Rattle.h5_interface.specs.NewElement.{is_html_template}
+use Rattle.h5_meaning.specs.Order.{IsIn}
+use Rattle.h5_meaning.specs.Scope.{second_is}
+use Rattle.h5_meaning.specs.World.{first_or, inside, last_or, name_in, name_of_found}
+use Rattle.std.proofs.lemmas.List.{length-map, length-reverse, map-append, reverse-append, take_more}
+use Rattle.h5_interface.specs.Changes.{mark}
+use Rattle.h5_interface.specs.Forest.{ElementNode, Forest, IsElement, Marks, contents_of, kind_of}
+use Rattle.h5_interface.specs.Seen.{Seen}
+use Rattle.h5_interface.specs.SinkRules.{Rearranges}
+use Rattle.h5_interface.proofs.MakingLaws.{mark_rearranges}
+use Rattle.h5_meaning.specs.Sound.{Stands}
+use Rattle.h5_meaning.proofs.SoundLaws.{stands_rearranged, stands_tail}
+
+pub seen_pushed : {H : Type 0} (node : H → ℕ) (xs ys : List H) (x : H) → ys ≡ xs ++ x ∷ [] → reverse (map node ys) ≡ node x ∷ reverse (map node xs)
+seen_pushed node xs ys x e = ap (λ z. reverse (map node z)) e ∙ ap reverse (map-append node xs (x ∷ [])) ∙ reverse-append (map node xs) (node x ∷ [])
+
+-- one element less is open, and some marks changed
+pub stands_popped : {H : Type 0} (node : H → ℕ) (xs ys : List H) (x : H) (f : Forest) (marks : ℕ → Marks) → ys ≡ xs ++ x ∷ [] → Stands f (reverse (map node ys)) → Stands (mark marks f) (reverse (map node xs))
+stands_popped node xs ys x f marks e k =
+    let k' = stands_tail f (node x) (reverse (map node xs)) (subst (Stands f) (seen_pushed node xs ys x e) k) in
+    stands_rearranged f (mark marks f) (reverse (map node xs)) k' (mark_rearranges f marks k'.is_forest)
+
+-- the last of a list
+pub last_split : {A : Type 0} (xs : List A) (x : A) → Some x ≡ slice_get xs (length xs - 1) → (ys : List A) × (xs ≡ ys ++ x ∷ [])
+last_split [] x e = absurd (cc)
+last_split (y ∷ []) x e = ([], ap (λ z. z ∷ []) (cc))
+last_split (y ∷ z ∷ zs) x e =
+    let k : length (y ∷ z ∷ zs) - 1 ≡ suc (length (z ∷ zs) - 1) = omega arith in
+    let r = last_split (z ∷ zs) x (e ∙ ap (slice_get (y ∷ z ∷ zs)) k) in
+    (y ∷ r.0, ap (λ t. y ∷ t) r.1)
+
+-- where it stands as it is seen
+pub record SeenFirst (s : List ℕ) (n : ℕ) : Type 0 where
+  pub rest : List ℕ
+  pub is : s ≡ n ∷ rest
+
+pub seen_first : {H : Type 0} (node : H → ℕ) (xs : List H) (x : H) → Some x ≡ slice_get xs (length xs - 1) → SeenFirst (reverse (map node xs)) (node x)
+seen_first node xs x e = let r = last_split xs x e in record { rest = reverse (map node r.0); is = seen_pushed node r.0 xs x r.1 }
+
+pub first_in : (s : List ℕ) (n : ℕ) → SeenFirst s n → IsIn n s
+first_in s n f = subst (IsIn n) (sym f.is) (inl refl)
+
+pub first_of : (d : ℕ) (s : List ℕ) (n : ℕ) → SeenFirst s n → first_or d s ≡ n
+first_of d s n f = ap (first_or d) f.is
+
+-- the name of an element
+pub named : (f : Forest) (n : ℕ) (name : QualName) → kind_of f n ≡ Some (ElementNode name) → name_in f n ≡ name
+named f n name e = ap name_of_found e
+
+-- an HTML template, by the test of the code
+pub template_test : (f : Forest) (n : ℕ) (name : QualName) (b : Bool) → kind_of f n ≡ Some (ElementNode name) → b ≡ is_html_named (codes "template") name → is_html_template (name_in f n) ≡ b
+unfolding is_html_named html_namespace
+template_test f n name b e t = ap is_html_template (named f n name e) ∙ sym t
+
+-- where something is put into a template, and into another node
+pub inside_template : (f : Forest) (n c : ℕ) → is_html_template (name_in f n) ≡ true → contents_of f n ≡ Some c → inside f n ≡ c
+inside_template f n c t e = ap (λ b. cond b (unwrap_or (contents_of f n) n) n) t ∙ ap (λ o. unwrap_or o n) e
+
+pub inside_other : (f : Forest) (n : ℕ) → is_html_template (name_in f n) ≡ false → inside f n ≡ n
+inside_other f n t = ap (λ b. cond b (unwrap_or (contents_of f n) n) n) t
+
+-- the root as it is seen
+pub last_or-append : (d a : ℕ) (s : List ℕ) → last_or d (s ++ a ∷ []) ≡ a
+last_or-append d a [] = refl
+last_or-append d a (n ∷ s) = last_or-append n a s
+
+pub seen_root : {H : Type 0} (node : H → ℕ) (d : ℕ) (xs : List H) (x : H) → Some x ≡ slice_get xs 0 → last_or d (reverse (map node xs)) ≡ node x
+seen_root node d [] x e = absurd (cc)
+seen_root node d (y ∷ ys) x e =
+    let same : x ≡ y = cc in
+    ap (last_or d) (reverse-append (node y ∷ []) (map node ys)) ∙ last_or-append d (node y) (reverse (map node ys)) ∙ ap node (sym same)
+
+-- a member as it is seen
+in_right : (n : ℕ) (s r : List ℕ) → IsIn n r → IsIn n (s ++ r)
+in_right n [] r h = h
+in_right n (m ∷ s) r h = inr (in_right n s r h)
+
+in_left : (n : ℕ) (s r : List ℕ) → IsIn n s → IsIn n (s ++ r)
+in_left n [] r h = absurd h
+in_left n (m ∷ s) r (inl e) = inl e
+in_left n (m ∷ s) r (inr h) = inr (in_left n s r h)
+
+reverse_cons : (n : ℕ) (s : List ℕ) → reverse (n ∷ s) ≡ reverse s ++ n ∷ []
+reverse_cons n s = reverse-append (n ∷ []) s
+
+pub seen_at : {H : Type 0} (node : H → ℕ) (xs : List H) (i : ℕ) (x : H) → i < length xs → x ≡ get_or xs i x → IsIn (node x) (reverse (map node xs))
+seen_at node [] i x h e = absurd (omega arith)
+seen_at node (y ∷ ys) zero x h e =
+    subst (IsIn (node x)) (sym (reverse_cons (node y) (map node ys))) (in_right (node x) (reverse (map node ys)) (node y ∷ []) (inl (ap node e)))
+seen_at node (y ∷ ys) (suc i) x h e =
+    subst (IsIn (node x)) (sym (reverse_cons (node y) (map node ys))) (in_left (node x) (reverse (map node ys)) (node y ∷ []) (seen_at node ys i x (omega arith) e))
+
+pub element_at : {H : Type 0} (node : H → ℕ) (xs : List H) (f : Forest) (i : ℕ) (x : H) → Stands f (reverse (map node xs)) → i < length (reverse (map node xs)) → x ≡ get_or xs i x → IsElement f (node x)
+element_at node xs f i x k h e =
+    k.elements (node x) (seen_at node xs i x (omega (arith, h, length-reverse (map node xs), length-map xs node)) e)
+
+-- one element more
+pub stack_step : {H : Type 0} (node : H → ℕ) (xs : List H) (i : ℕ) (x : H) → i < length xs → x ≡ get_or xs i x → reverse (map node (take (i + 1) xs)) ≡ node x ∷ reverse (map node (take i xs))
+stack_step node xs i x h e = seen_pushed node (take i xs) (take (i + 1) xs) x (take_more xs i x h ∙ ap (λ z. take i xs ++ z ∷ []) (sym e))
+
+-- the second from the root on
+second_more : (local : List ℕ) (n : QualName) (ns : List QualName) → 2 ≤ length ns → second_is local (n ∷ ns) ≡ second_is local ns
+second_more local n [] h = absurd (omega arith)
+second_more local n (m ∷ []) h = absurd (omega arith)
+second_more local n (m ∷ k ∷ ns) h = refl
+
+second_is-append : (local : List ℕ) (ns : List QualName) (m k : QualName) → second_is local (ns ++ m ∷ k ∷ []) ≡ is_html_named local m
+second_is-append local [] m k = refl
+second_is-append local (n ∷ ns) m k =
+    second_more local n (ns ++ m ∷ k ∷ []) (omega (arith, length-append ns (m ∷ k ∷ []))) ∙ second_is-append local ns m k
+
+pub second_named : {H : Type 0} (node : H → ℕ) (f : Forest) (local : List ℕ) (xs : List H) (x : H) → 1 < length xs → x ≡ get_or xs 1 x → second_is local (map (name_in f) (reverse (map node xs))) ≡ is_html_named local (name_in f (node x))
+second_named node f local [] x h e = absurd (omega arith)
+second_named node f local (a ∷ []) x h e = absurd (omega arith)
+second_named node f local (a ∷ b ∷ cs) x h e =
+    ap (λ s. second_is local (map (name_in f) s)) (reverse-append (node a ∷ node b ∷ []) (map node cs))
+    ∙ ap (second_is local) (map-append (name_in f) (reverse (map node cs)) (node b ∷ node a ∷ []))
+    ∙ second_is-append local (map (name_in f) (reverse (map node cs))) (name_in f (node b)) (name_in f (node a))
+    ∙ ap (λ z. is_html_named local (name_in f (node z))) (sym e)
+
+pub second_none : {H : Type 0} (node : H → ℕ) (f : Forest) (local : List ℕ) (xs : List H) → length xs ≤ 1 → second_is local (map (name_in f) (reverse (map node xs))) ≡ false
+second_none node f local [] h = refl
+second_none node f local (a ∷ []) h = refl
+second_none node f local (a ∷ b ∷ cs) h = absurd (omega arith)

@@ -1,0 +1,18 @@
+use Rattle.std.proofs.Common.{◌≡◌, length}
+use Rattle.h5_meaning.specs.Changes.{implied_ends_except}
+use Rattle.h5_meaning.specs.Sound.{Sound}
+use Rattle.h5_state.specs.View.{world}
+use Rattle.h5_state.proofs.open_elems.generate_implied_end_except.Given as goal
+
+abbrev pub invariant-implied : goal.invariant-implied
+invariant-implied g l =
+    let w = world g.S.TreeSink.sees g.S.TreeSink.node l.sink l.state in
+    let first = world g.S.TreeSink.sees g.S.TreeSink.node l.fn.sink l.fn.state in
+    record {
+      sound : Sound w;
+      quiet : (g.S.TreeSink.sees l.sink).errors ≡ (g.S.TreeSink.sees l.fn.sink).errors;
+      left : implied_ends_except g.S.TreeSink.rules l.local w ≡ implied_ends_except g.S.TreeSink.rules l.local first;
+    }
+
+abbrev pub decreases-implied : goal.decreases-implied
+decreases-implied g l = length (world g.S.TreeSink.sees g.S.TreeSink.node l.sink l.state).stack

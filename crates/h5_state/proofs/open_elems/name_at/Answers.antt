@@ -1,0 +1,8 @@
+use Rattle.std.proofs.Common.{◌≡◌, ◌∷◌, ap, sym, ◌∙◌}
+use Rattle.h5_state.specs.View.{names_under, stack_under, world}
+use Rattle.h5_state.proofs.StackLaws.{element_at}
+use Rattle.h5_state.proofs.open_elems.name_at.Goals as goal
+
+pub elem_name-requires : goal.elem_name-requires
+unfolding world
+elem_name-requires g c = element_at g.S.TreeSink.node c.args.state.now.open_elems.items _ c.args.place c.index.result.now c.requires.sound c.requires.place c.index.ensures

@@ -1,0 +1,47 @@
+-- What a builder's state and its sink mean together.
+use Rattle.std.specs.Prelude.{ℕ, List, map, reverse, take, Option, option_map, string_bytes}
+use Rattle.std.specs.List.{flat_map}
+use Rattle.h5_names.specs.declared.qualified.QualName.{QualName}
+use Rattle.h5_token.specs.TokenText.{tag_text}
+use Rattle.h5_interface.specs.Seen.{Seen}
+use Rattle.h5_types.specs.declared.entry.FormatEntry.{FormatEntry}
+use Rattle.h5_types.specs.declared.entry.FormatEntry.TheVariants.{Element, Marker}
+use Rattle.h5_meaning.specs.World.{World, Entry, ElementEntry, MarkerEntry, name_in}
+use Rattle.h5_state.specs.declared.state.State.{State}
+
+abbrev pub entry_of : {H : Type 0} → (H → ℕ) → FormatEntry H → Entry
+entry_of node (Element handle tag) = ElementEntry (node handle) (tag_text tag)
+entry_of node Marker = MarkerEntry
+
+-- lists that grow at their end are seen with the newest first
+unfoldable pub world : {S H : Type 0} → (S → Seen) → (H → ℕ) → S → State H → World
+world sees node sink state = record {
+  forest = (sees sink).forest;
+  seen_quirks = (sees sink).quirks;
+  options = state.opts;
+  mode = state.mode;
+  saved_mode = state.orig_mode;
+  template_modes = reverse state.template_modes.items;
+  pending = flat_map string_bytes state.pending_table_text.items;
+  quirks = state.quirks_mode;
+  stack = reverse (map node state.open_elems.items);
+  formatting = reverse (map (entry_of node) state.active_formatting.items);
+  head = option_map node state.head_elem;
+  form = option_map node state.form_elem;
+  frameset_ok = state.frameset_ok;
+  ignore_lf = state.ignore_lf;
+  foster = state.foster_parenting;
+  context = option_map node state.context_elem;
+}
+
+-- the names of the oldest open elements, so many of them, the newest first
+unfoldable pub names_under : {S H : Type 0} → (S → Seen) → (H → ℕ) → S → State H → ℕ → List QualName
+names_under sees node sink state count =
+    map (name_in (sees sink).forest) (reverse (map node (take count state.open_elems.items)))
+
+-- those elements
+unfoldable pub stack_under : {H : Type 0} → (H → ℕ) → State H → ℕ → List ℕ
+stack_under node state count = reverse (map node (take count state.open_elems.items))
+
+abbrev pub with_stack : List ℕ → World → World
+with_stack s w = record w { stack = s }

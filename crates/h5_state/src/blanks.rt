@@ -1,0 +1,88 @@
+//! Blanks, and the runs of a text (Infra standard: ASCII whitespace).
+ghost use Rattle.std.specs.Prelude.{◌≡◌, ◌≢◌, ◌<◌, ℕ, [], false, take, slice_index, IsCharBoundary};
+ghost use Rattle.h5_meaning.specs.Blanks.{all_blank, is_blank, rest_of};
+ghost use Rattle.h5_meaning.specs.Changes.{ok_if_text};
+ghost use Rattle.h5_meaning.specs.Sound.{Sound};
+ghost use Rattle.h5_meaning.specs.Text.{IsRun, splits};
+ghost use Rattle.h5_state.specs.View.{world};
+
+use super::state::State;
+use h5_interface::TreeSink;
+use h5_types::{InsertionMode, SplitStatus};
+
+fn is_blank_byte(b: u8) -> bool
+    ensures { result ≡ is_blank b }
+{
+    b == b' ' || b == b'\n' || b == b'\t' || b == b'\r' || b == 12
+}
+
+/// Whether all of a text is blank.
+pub fn is_blank_text(text: &str) -> bool
+    ensures { result ≡ all_blank text.now }
+{
+    for b in text.as_bytes() {
+        if !is_blank_byte(*b) {
+            return false;
+        }
+    }
+    true
+}
+
+/// The frameset flag goes off if the text has a character that is no blank.
+#[tactic(auto, unfolding(crate::specs::View::world, h5_meaning::specs::Changes::ok_if_text))]
+pub fn set_frameset_ok_by_text<S: TreeSink>(sink: &S, state: &mut State<S::Handle>, text: &str)
+    ensures done { world S.sees S.node sink.now state.new ≡ ok_if_text text.now (world S.sees S.node sink.now state.old) }
+    ensures sound { Sound (world S.sees S.node sink.now state.old) → Sound (world S.sees S.node sink.now state.new) }
+{
+    state.frameset_ok = state.frameset_ok && is_blank_text(text);
+}
+
+// How many blanks a text begins with.
+fn blank_len(text: &str) -> usize
+    ensures boundary { IsCharBoundary text.now result }
+    ensures blank { rest_of (take result text.now) ≡ [] }
+    ensures solid { result ≡ 0 → text.now ≢ [] → is_blank (slice_index text.now 0) ≡ false }
+{
+    for (i, b) in text.as_bytes().iter().enumerate() {
+        if !is_blank_byte(*b) {
+            return i;
+        }
+    }
+    text.len()
+}
+
+// How long the run is that a text begins with that doesn't begin with a blank.
+fn solid_len(text: &str) -> usize
+    ensures boundary { IsCharBoundary text.now result }
+    ensures some { text.now ≢ [] → 0 < result }
+{
+    for (i, b) in text.as_bytes().iter().enumerate() {
+        if i > 0 && is_blank_byte(*b) {
+            return i;
+        }
+    }
+    text.len()
+}
+
+fn splits_text(mode: InsertionMode) -> bool
+    ensures { result ≡ splits mode }
+{
+    mode != InsertionMode::InBody
+}
+
+/// The first run of a text in a mode: whether it is blank, and its length.
+pub fn first_run(mode: InsertionMode, text: &str) -> (SplitStatus, usize)
+    requires { text.now ≢ [] }
+    ensures boundary { IsCharBoundary text.now result.1 }
+    ensures some { 0 < result.1 }
+    ensures run { IsRun mode result.0 (take result.1 text.now) }
+{
+    if !splits_text(mode) {
+        return (SplitStatus::NotSplit, text.len());
+    }
+    let blanks = blank_len(text);
+    if blanks > 0 {
+        return (SplitStatus::Whitespace, blanks);
+    }
+    (SplitStatus::NotWhitespace, solid_len(text))
+}

@@ -1,0 +1,28 @@
+//! The state of a tree builder.
+use h5_interface::QuirksMode;
+use h5_types::{FormatEntry, InsertionMode, TreeBuilderOpts};
+use std::alloc::Global;
+
+/// The state of a tree builder (HTML standard, section 13.2.4, "Parse state").
+#[derive(Drop)]
+pub struct State<Handle> {
+    pub opts: TreeBuilderOpts,
+    pub mode: InsertionMode,
+    /// The mode to which "text" and "in table text" go back.
+    pub orig_mode: Option<InsertionMode>,
+    pub template_modes: Vec<InsertionMode>,
+    pub pending_table_text: Vec<String>,
+    pub quirks_mode: QuirksMode,
+    /// The stack of open elements, the root first.
+    pub open_elems: Vec<Handle>,
+    pub active_formatting: Vec<FormatEntry<Handle>>,
+    pub head_elem: Option<Handle>,
+    pub form_elem: Option<Handle>,
+    pub frameset_ok: bool,
+    /// Whether a newline that comes next is dropped.
+    pub ignore_lf: bool,
+    pub foster_parenting: bool,
+    /// The context of a fragment.
+    pub context_elem: Option<Handle>,
+    pub alloc: Global,
+}

@@ -1,0 +1,2 @@
+pub mod KnownNames
+pub mod TagSets

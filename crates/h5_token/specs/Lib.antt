@@ -1,0 +1,4 @@
+pub mod Occurrences
+pub mod OptionalText
+pub mod Reply
+pub mod TokenText

@@ -1,0 +1,99 @@
+//! Start tags and end tags.
+ghost use Rattle.std.specs.Prelude.{◌≡◌, ◌==◌, ◌↔◌, IfOk, IsTrue};
+ghost use Rattle.h5_names.specs.AttributeText.{attribute_text, attribute_texts};
+
+use h5_names::{Attribute, LocalName};
+use std::alloc::AllocError;
+
+#[derive(Clone, Copy, Debug, PartialEq, Eq)]
+pub enum TagKind {
+    StartTag,
+    EndTag,
+}
+
+/// A start tag or an end tag (HTML standard, section 13.2.5, "Tokenization").
+#[derive(Debug, Drop, PartialEq, Eq)]
+pub struct Tag {
+    pub kind: TagKind,
+    pub name: LocalName,
+    pub self_closing: bool,
+    pub attrs: Vec<Attribute>,
+    /// Whether the reader dropped an attribute, since one of its name came before.
+    pub had_duplicate_attributes: bool,
+}
+
+impl Tag {
+    ghost use Rattle.std.specs.Option.{option_copied};
+    ghost use Rattle.h5_token.specs.TokenText.{tag_text, IsAlike, first_value};
+
+    /// Whether kind and name are equal, and the attributes are equal in some order. The flags aren't
+    /// looked at (HTML standard, section 13.2.4.3, "The list of active formatting elements").
+    pub fn equiv_modulo_attr_order(&self, other: &Tag) -> bool
+        ensures { IsTrue result ↔ IsAlike (tag_text self.now) (tag_text other.now) }
+    {
+        self.kind == other.kind
+            && self.name == other.name
+            && have_same_attributes(&self.attrs, &other.attrs)
+    }
+
+    /// The value of the first attribute with this local name, in whatever namespace.
+    pub fn get_attribute(&self, name: &LocalName) -> Option<&str>
+        ensures { option_copied result ≡ first_value name.now (tag_text self.now).attrs }
+    {
+        for attribute in &self.attrs {
+            if attribute.name.local == *name {
+                return Some(attribute.value.as_str());
+            }
+        }
+        None
+    }
+
+    /// An equal tag, or an `AllocError` where memory is refused.
+    pub fn clone(&self) -> Result<Tag, AllocError>
+        ensures { IfOk result (λ tag. tag_text tag ≡ tag_text self.now) }
+    {
+        Ok(Tag {
+            kind: self.kind,
+            name: self.name.clone()?,
+            self_closing: self.self_closing,
+            attrs: clone_attributes(&self.attrs)?,
+            had_duplicate_attributes: self.had_duplicate_attributes,
+        })
+    }
+}
+
+ghost use Rattle.std.specs.List.{list_all};
+ghost use Rattle.h5_token.specs.Occurrences.{occurrences, HaveSameAttributes};
+
+fn clone_attributes(attrs: &Vec<Attribute>) -> Result<Vec<Attribute>, AllocError>
+    ensures { IfOk result (λ copy. attribute_texts copy.items ≡ attribute_texts attrs.now.items) }
+{
+    let mut copy = Vec::with_capacity(*attrs.allocator(), attrs.len())?;
+    for attribute in attrs {
+        copy.push(attribute.clone()?)?;
+    }
+    Ok(copy)
+}
+
+// How often an attribute stands in a list.
+fn occurrences_of(attribute: &Attribute, attrs: &[Attribute]) -> usize
+    ensures { result ≡ occurrences (attribute_text attribute.now) (attribute_texts attrs.now) }
+{
+    attrs.iter().filter(|other| **other == *attribute).count()
+}
+
+// Whether each of these attributes stands as often in the one list as in the other.
+fn each_is_as_often(these: &[Attribute], left: &[Attribute], right: &[Attribute]) -> bool
+    ensures { result ≡ list_all (λ x. occurrences (attribute_text x) (attribute_texts left.now)
+        == occurrences (attribute_text x) (attribute_texts right.now)) these.now }
+{
+    these.iter().all(|attribute| occurrences_of(attribute, left)
+        == occurrences_of(attribute, right))
+}
+
+// Whether two lists have the same attributes in some order.
+fn have_same_attributes(left: &[Attribute], right: &[Attribute]) -> bool
+    ensures { IsTrue result ↔ HaveSameAttributes (attribute_texts left.now) (attribute_texts right.now) }
+{
+    each_is_as_often(left, left, right) && each_is_as_often(right, left, right)
+}

@@ -1,0 +1,109 @@
+//! A sink that refuses tokens after the end, and one over any sink that counts what it hands on.
+use crate::fault::BuildFault;
+use crate::sink::{TokenSink, TokenSinkResult};
+use crate::tokens::Token;
+
+#[derive(Drop)]
+pub struct Recorder {
+    ended: bool,
+}
+
+impl Recorder {
+    pub fn new() -> Recorder {
+        Recorder { ended: false }
+    }
+}
+
+impl TokenSink for Recorder {
+    ghost use Rattle.std.specs.Prelude.{Bool, true, false, if◌then◌else◌};
+    ghost use Rattle.h5_token.specs.Reply.{Continues, Refuses};
+    ghost use Rattle.h5_token.specs.declared.fault.BuildFault.TheVariants.{AfterEnd};
+
+    type Handle = ();
+
+    ghost Meaning = { Bool };
+
+    ghost meaning = { λ sink. sink.ended };
+
+    ghost node = { λ _. 0 };
+
+    ghost reply_to = { λ ended token. if ended then Refuses AfterEnd else Continues };
+
+    ghost after = { λ ended token. ended };
+
+    ghost ended = { λ _. true };
+
+    ghost is_foreign = { λ _. false };
+
+    fn process_token(
+        &mut self,
+        _token: Token,
+        _line_number: u64,
+    ) -> Result<TokenSinkResult<()>, BuildFault> {
+        if self.ended {
+            Err(BuildFault::AfterEnd)
+        } else {
+            Ok(TokenSinkResult::Continue)
+        }
+    }
+
+    fn end(&mut self) {
+        self.ended = true;
+    }
+
+    fn adjusted_current_node_present_but_not_in_html_namespace(&self) -> bool {
+        false
+    }
+}
+
+#[derive(Drop)]
+pub struct Counter<S: TokenSink> {
+    inner: S,
+    taken: u64,
+}
+
+impl<S: TokenSink> Counter<S> {
+    pub fn new(inner: S) -> Counter<S> {
+        Counter { inner, taken: 0 }
+    }
+
+    pub fn taken(&self) -> u64 {
+        self.taken
+    }
+}
+
+impl<S: TokenSink> TokenSink for Counter<S> {
+    type Handle = S::Handle;
+
+    ghost Meaning = { S.Meaning };
+
+    ghost meaning = { λ sink. S.meaning sink.inner };
+
+    ghost node = { S.node };
+
+    ghost reply_to = { S.reply_to };
+
+    ghost after = { S.after };
+
+    ghost ended = { S.ended };
+
+    ghost is_foreign = { S.is_foreign };
+
+    fn process_token(
+        &mut self,
+        token: Token,
+        line_number: u64,
+    ) -> Result<TokenSinkResult<S::Handle>, BuildFault> {
+        self.taken = self.taken.saturating_add(1);
+        self.inner.process_token(token, line_number)
+    }
+
+    fn end(&mut self) {
+        self.inner.end();
+    }
+
+    fn adjusted_current_node_present_but_not_in_html_namespace(&self) -> bool {
+        self.inner
+            .adjusted_current_node_present_but_not_in_html_namespace()
+    }
+}

@@ -1,0 +1,10 @@
+//! Entries of the list of active formatting elements.
+use h5_token::Tag;
+
+/// An entry of the list of active formatting elements (HTML standard, section 13.2.4.3).
+#[derive(Drop)]
+pub enum FormatEntry<Handle> {
+    /// An element, and the tag that it was made for.
+    Element(Handle, Tag),
+    Marker,
+}
