@@ -1,5 +1,7 @@
 pub mod CutLaws
+pub mod FitsLaws
 pub mod FlagLaws
+pub mod NameLaws
 pub mod PopLaws
 pub mod RunLaws
 pub mod SettleLaws

@@ -188,37 +188,21 @@ settle-turn rules t w =
 pub settle-row : (rules : SinkRules) (t : TurnText) (w : World) (m : InsertionMode) (r : Row) → w.mode ≡ m → rule m t w ≡ r → settle rules t w ≡ by_row rules (settle rules t) t r w
 settle-row rules t w m r e f = settle-turn rules t w ∙ ap (λ x. by_row rules (settle rules t) t x w) (ap (λ k. rule k t w) e ∙ f)
 
--- so many turns before, and whether they were quiet
-abbrev pub after_turns : ℕ → Bool → Settled → Settled
-after_turns n q s = record { world = s.world; turns = s.turns + n; reply = s.reply; quiet = q && s.quiet }
-
--- a turn of the loop where the chain ends
-pub chain_ends : (rules : SinkRules) (t : TurnText) (first : Settled) (w v : World) (a b : ℕ) (n : ℕ) (q : Bool) → Follows rules (rule w.mode t w) t w v a b Done → first ≡ after_turns n q (settle rules t w)
-    → first ≡ record { world = v; turns = n + 1; reply = Continues; quiet = q && ((rule w.mode t w).quiet && not (is_self_closing t)) }
-chain_ends rules t first w v a b n q f h =
+-- the chain where its turn ends in "done"
+pub ends_here : (rules : SinkRules) (t : TurnText) (w v : World) (a b : ℕ) → Follows rules (rule w.mode t w) t w v a b Done → settle rules t w ≡ record { world = v; turns = 1; reply = Continues; quiet = (rule w.mode t w).quiet && not (is_self_closing t) }
+ends_here rules t w v a b f =
     let r = rule w.mode t w in
-    let s : settle rules t w ≡ record { world = v; turns = 1; reply = Continues; quiet = r.quiet && not (is_self_closing t) } =
     settle-turn rules t w ∙ ap (λ x. after_turn (settle rules t) t r.quiet x (apply_all rules r.changes w)) f.ending
-    ∙ ap (λ x. after_turn (settle rules t) t r.quiet IsDone x) (sym f.world) in
-    h ∙ ap (after_turns n q) s ∙ ap (λ k. let x : Settled = record { world = v; turns = k; reply = Continues; quiet = q && (r.quiet && not (is_self_closing t)) } in x) (omega arith)
+    ∙ ap (λ x. after_turn (settle rules t) t r.quiet IsDone x) (sym f.world)
 
-and_assoc : (p q r : Bool) → (p && (q && r)) ≡ ((p && q) && r)
-and_assoc true q r = refl
-and_assoc false q r = refl
-
--- and where it goes on
-pub chain_goes_on : (rules : SinkRules) (t : TurnText) (first : Settled) (w v u : World) (a b : ℕ) (m : InsertionMode) (token : _) (n : ℕ) (q : Bool) → Follows rules (rule w.mode t w) t w v a b (Reprocess m token) → u ≡ in_mode m v → first ≡ after_turns n q (settle rules t w)
-    → first ≡ after_turns (n + 1) (q && (rule w.mode t w).quiet) (settle rules t u)
-chain_goes_on rules t first w v u a b m token n q f i h =
+-- and where it ends in "again"
+pub goes_on : (rules : SinkRules) (t : TurnText) (w v u : World) (a b : ℕ) (m : InsertionMode) (token : _) → Follows rules (rule w.mode t w) t w v a b (Reprocess m token) → u ≡ in_mode m v
+    → settle rules t w ≡ record { world = (settle rules t u).world; turns = (settle rules t u).turns + 1; reply = (settle rules t u).reply; quiet = (rule w.mode t w).quiet && (settle rules t u).quiet }
+goes_on rules t w v u a b m token f i =
     let r = rule w.mode t w in
-    let on = settle rules t (in_mode m v) in
-    let s : settle rules t w ≡ record { world = on.world; turns = on.turns + 1; reply = on.reply; quiet = r.quiet && on.quiet } =
     settle-turn rules t w ∙ ap (λ x. after_turn (settle rules t) t r.quiet x (apply_all rules r.changes w)) f.ending.0
-    ∙ ap (λ x. after_turn (settle rules t) t r.quiet (Again m) x) (sym f.world) in
-    h ∙ ap (after_turns n q) s
-    ∙ ap (λ k. let x : Settled = record { world = on.world; turns = k; reply = on.reply; quiet = q && (r.quiet && on.quiet) } in x) (omega arith)
-    ∙ ap (λ k. let x : Settled = record { world = on.world; turns = on.turns + (n + 1); reply = on.reply; quiet = k } in x) (and_assoc q r.quiet on.quiet)
-    ∙ ap (λ x. after_turns (n + 1) (q && r.quiet) (settle rules t x)) (sym i)
+    ∙ ap (λ x. after_turn (settle rules t) t r.quiet (Again m) x) (sym f.world)
+    ∙ ap (λ (x : World). let s : Settled = record { world = (settle rules t x).world; turns = (settle rules t x).turns + 1; reply = (settle rules t x).reply; quiet = r.quiet && (settle rules t x).quiet } in s) (sym i)
 
 pub rank_falls : (rules : SinkRules) (t : TurnText) (w v u : World) (a b : ℕ) (m : InsertionMode) (token : _) → Follows rules (rule w.mode t w) t w v a b (Reprocess m token) → u ≡ in_mode m v → rank (is_end_html t) u.mode < rank (is_end_html t) w.mode
 rank_falls rules t w v u a b m token f i =

@@ -121,11 +121,11 @@ element_below_may rules f p name attrs flags k there =
     record { is_node = rearranged_node f (make_element rules name attrs flags f) p r there; child = made_is_free rules f name attrs flags p k there }
 
 -- what is known of the new element where it stands
-record NewStands (g h : Forest) (n : ℕ) : Type 0 where
-  kind : kind_of h n ≡ kind_of g n
-  contents : HasContents g n → HasContents h n
+pub record NewStands (g h : Forest) (n : ℕ) : Type 0 where
+  pub kind : kind_of h n ≡ kind_of g n
+  pub contents : HasContents g n → HasContents h n
 
-new_below : (rules : SinkRules) (f : Forest) (p : ℕ) (name : QualName) (attrs : List AttributeText) (flags : ElementFlags) → IsForest f → IsNode f p → NewStands (make_element rules name attrs flags f) (append_node p (rules.fresh f) (make_element rules name attrs flags f)) (rules.fresh f)
+pub new_below : (rules : SinkRules) (f : Forest) (p : ℕ) (name : QualName) (attrs : List AttributeText) (flags : ElementFlags) → IsForest f → IsNode f p → NewStands (make_element rules name attrs flags f) (append_node p (rules.fresh f) (make_element rules name attrs flags f)) (rules.fresh f)
 new_below rules f p name attrs flags k there =
     let g = make_element rules name attrs flags f in
     let may = element_below_may rules f p name attrs flags k there in

@@ -31,21 +31,16 @@ least InBody = 1
 least AfterBody = 1
 least AfterAfterBody = 1
 
--- whether the head element is there
-abbrev pub has_head : InsertionMode → Bool
-has_head Initial = false
-has_head BeforeHtml = false
-has_head BeforeHead = false
-has_head _ = true
-
 -- the root, once made, is an HTML `html`
 abbrev pub RootIsHtml : List QualName → Type 0
 RootIsHtml [] = Unit {0}
 RootIsHtml (n ∷ []) = IsTrue (is_html_named (codes "html") n)
 RootIsHtml (n ∷ m ∷ ns) = RootIsHtml (m ∷ ns)
 
--- what a mode tells of open elements and pointers
-pub record Fits (w : World) : Type 0 where
-  pub enough : least w.mode ≤ length w.stack
-  pub root : RootIsHtml (names_of w)
-  pub head : has_head w.mode ≡ true → w.head ≢ None
+-- what a mode tells of the names of open elements
+pub record FitsMode (mode : InsertionMode) (names : List QualName) : Type 0 where
+  pub enough : least mode ≤ length names
+  pub root : RootIsHtml names
+
+abbrev pub Fits : World → Type 0
+Fits w = FitsMode w.mode (names_of w)

@@ -1,0 +1,7 @@
+mod AttributeLaws
+mod CallConditions
+mod ChildTexts
+mod ChildViews
+mod MakeLaws
+mod MoveLaws
+mod NodeWrites

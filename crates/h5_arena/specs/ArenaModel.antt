@@ -1,0 +1,151 @@
+-- What an arena holds: its nodes in the order in which they were made, and the forest that they are.
+use Rattle.std.specs.Prelude.{◌<◌, ◌+◌, ℕ, ◌==◌, Bool, true, false, cond, length, List, map, Option, None, Some, String, slice_get, string_bytes, refl}
+use Rattle.std.specs.Option.{option_map, option_map_or}
+use Rattle.std.specs.declared.alloc.Global.{Global}
+use Rattle.std.proofs.Math.Nat.{le_refl}
+use Rattle.h5_names.specs.declared.qualified.QualName.{QualName}
+use Rattle.h5_names.specs.AttributeText.{attribute_texts}
+use Rattle.h5_interface.specs.declared.marks.QuirksMode.{QuirksMode}
+use Rattle.h5_interface.specs.Forest as forest
+use Rattle.h5_interface.specs.Forest.{CommentNode, DoctypeNode, DocumentNode, ElementNode, Forest, FragmentNode, InstructionNode, IsForest, IsNode, Marks, Node}
+use Rattle.h5_interface.specs.Seen.{Seen, no_flags, no_marks}
+use Rattle.h5_interface.specs.SinkRules.{Rearranges, SinkRules}
+use Rattle.h5_arena.specs.declared.nodes.NodeData.{NodeData}
+use Rattle.h5_arena.specs.declared.nodes.NodeId.{NodeId}
+use Rattle.h5_arena.specs.declared.nodes.Kind.{Kind}
+use Rattle.h5_arena.specs.declared.nodes.Kind.TheVariants.{Comment, Doctype, Document, Element, Fragment, Instruction}
+use Rattle.h5_arena.specs.declared.nodes.Child as child
+use Rattle.h5_arena.specs.declared.nodes.Child.TheVariants as child_is
+
+-- a kind, a child and a node, without where their texts lie in memory
+abbrev pub kind_view : Kind → forest.Kind
+kind_view Document = DocumentNode
+kind_view (Doctype name public_id system_id) = DoctypeNode (string_bytes name) (string_bytes public_id) (string_bytes system_id)
+kind_view (Element name) = ElementNode name
+kind_view (Comment text) = CommentNode (string_bytes text)
+kind_view (Instruction target text) = InstructionNode (string_bytes target) (string_bytes text)
+kind_view Fragment = FragmentNode
+
+abbrev pub child_view : child.Child → forest.Child
+child_view (child_is.Node id) = forest.ChildNode id.index
+child_view (child_is.Text text) = forest.ChildText (string_bytes text)
+
+abbrev pub child_views : List child.Child → List forest.Child
+child_views = map child_view
+
+abbrev pub place : NodeId → ℕ
+place id = id.index
+
+abbrev pub optional_place : Option NodeId → Option ℕ
+optional_place = option_map place
+
+abbrev pub node_view : NodeData → Node
+node_view d = record {
+  kind = kind_view d.kind;
+  attrs = attribute_texts d.attrs.items;
+  children = child_views d.children.items;
+  contents = optional_place d.contents;
+  parent = optional_place d.parent;
+  marks = record { flags = d.flags; started = d.started; form = optional_place d.form };
+}
+
+abbrev pub node_views : List NodeData → List Node
+node_views = map node_view
+
+-- nodes named by their places; the first is the document
+abbrev pub forest_of : List Node → Forest
+forest_of nodes = record { document = 0; bound = length nodes; node = slice_get nodes }
+
+abbrev pub forest_in : List NodeData → Forest
+forest_in nodes = forest_of (node_views nodes)
+
+-- an arena: its nodes, its quirks mode, the texts of the errors told to it, and whether the text of an
+-- error found no memory
+pub record ArenaView : Type 0 where
+  pub nodes : List Node
+  pub quirks : QuirksMode
+  pub errors : List (List ℕ)
+  pub errors_lost : Bool
+
+abbrev pub forest_seen : ArenaView → Forest
+forest_seen a = forest_of a.nodes
+
+-- each error counts, and so does that any was lost
+abbrev pub seen_of : ArenaView → Seen
+seen_of a = record { forest = forest_of a.nodes; quirks = a.quirks; errors = length a.errors + cond a.errors_lost 1 0 }
+
+abbrev pub texts_of : List (String Global) → List (List ℕ)
+texts_of = map string_bytes
+
+-- id is a node of the arena
+abbrev pub IsHeld : ArenaView → NodeId → Type 0
+IsHeld a id = id.index < length a.nodes
+
+-- the name of an element
+abbrev pub name_of_kind : forest.Kind → Option QualName
+name_of_kind DocumentNode = None
+name_of_kind (DoctypeNode name public_id system_id) = None
+name_of_kind (ElementNode name) = Some name
+name_of_kind (CommentNode text) = None
+name_of_kind (InstructionNode target text) = None
+name_of_kind FragmentNode = None
+
+-- whose child a node is; a fragment is none, but contents
+abbrev pub child_parent_of_kind : forest.Kind → Option ℕ → Option ℕ
+child_parent_of_kind DocumentNode parent = parent
+child_parent_of_kind (DoctypeNode name public_id system_id) parent = parent
+child_parent_of_kind (ElementNode name) parent = parent
+child_parent_of_kind (CommentNode text) parent = parent
+child_parent_of_kind (InstructionNode target text) parent = parent
+child_parent_of_kind FragmentNode parent = None
+
+abbrev pub child_parent : Node → Option ℕ
+child_parent d = child_parent_of_kind d.kind d.parent
+
+-- what an arena knows of a node
+abbrev pub at_node : {T : Type 0} → (Node → T) → ArenaView → NodeId → Option T
+at_node look a id = option_map look (slice_get a.nodes id.index)
+
+-- the node at this place, if there is one
+abbrev pub id_at : ArenaView → ℕ → Option NodeId
+id_at a n = option_map (λ _. record { index = n }) (slice_get a.nodes n)
+
+-- the marks of a node
+abbrev pub marks_at : Forest → ℕ → Marks
+marks_at f n = option_map_or (λ d. d.marks) (f.node n) (no_marks no_flags)
+
+-- a forest that stays is a rearrangement of itself
+pub same_forest : (f : Forest) → IsForest f → Rearranges f f
+same_forest f k = record {
+  is_forest = k;
+  same_document = refl;
+  same_kind = λ n there. refl;
+  contents = λ n has. has;
+  parents = λ n p there e. e;
+}
+
+-- A new node has the first free place. A script that started is marked, and an element that is associated
+-- with a form gets that form; `pop` changes nothing. Shadow roots are allowed, but none is attached, and
+-- no option is copied.
+abbrev pub arena_rules : SinkRules
+arena_rules = record {
+  fresh = λ f. f.bound;
+  fresh_is_new = λ f k. k.bounded f.bound (le_refl f.bound);
+  marks_after_pop = λ f popped n. marks_at f n;
+  marks_after_started = λ f script n. record (marks_at f n) { started = cond (n == script) true (marks_at f n).started };
+  marks_after_associate = λ f element form outer inner n. record (marks_at f n) { form = cond (n == element) (Some form) (marks_at f n).form };
+  is_integration_point = λ name attrs marks. marks.flags.mathml_annotation_xml_integration_point;
+  allows_shadow = λ f parent. true;
+  attaches = λ f host template attrs. false;
+  after_attach = λ f host template attrs. f;
+  attach_rearranges = λ f host template attrs k a b attached. same_forest f k;
+  after_option_copy = λ f option. f;
+  option_copy_rearranges = λ f option k there. same_forest f k;
+}
+
+-- the same, but that every shadow root is said to be attached, and nothing changes
+abbrev pub attaching_rules : SinkRules
+attaching_rules = record arena_rules {
+  attaches = λ f host template attrs. true;
+  attach_rearranges = λ f host template attrs k a b attached. same_forest f k;
+}

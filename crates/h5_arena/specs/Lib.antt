@@ -1,0 +1,2 @@
+pub mod ArenaModel
+pub mod ChildTests

@@ -1,0 +1,20 @@
+//! A tree whose nodes lie in one vector: a lawful sink of a tree builder.
+#![tactic(auto)]
+
+#[cfg(test)]
+mod attaching;
+mod attributes;
+#[cfg(test)]
+mod calls;
+mod children;
+mod links;
+mod makes;
+mod moves;
+mod nodes;
+mod sink;
+#[cfg(test)]
+mod tests;
+mod tree;
+
+pub use nodes::{Child, Kind, NodeId};
+pub use tree::Arena;

@@ -1,0 +1,161 @@
+//! Changes of parents and children over the nodes of an arena. An Err leaves all nodes as they were.
+ghost use Rattle.std.specs.Prelude.{◌≡◌, ◌≢◌, ◌<◌, ◌==◌, ℕ, [], None, Some, OnOk, OnErr, string_bytes, vec_len};
+ghost use Rattle.h5_interface.specs.Changes as change;
+ghost use Rattle.h5_interface.specs.Forest.{FragmentNode, IsForest, kind_of, parent_of};
+ghost use Rattle.h5_arena.specs.ArenaModel.{forest_in, node_views};
+
+use super::children;
+use super::nodes::{Child, NodeData, NodeId};
+use std::alloc::{AllocError, Global};
+use std::mem;
+
+// A node as the last child of another.
+pub(crate) fn append_node(
+    nodes: &mut Vec<NodeData>,
+    parent: NodeId,
+    id: NodeId,
+) -> Result<(), AllocError>
+    requires parent { parent.index < vec_len nodes.old }
+    requires held { id.index < vec_len nodes.old }
+    requires forest { IsForest (forest_in nodes.old.items) }
+    ensures ok { OnOk result (forest_in nodes.new.items ≡ change.append_node parent.index id.index (forest_in nodes.old.items)) }
+    ensures err { OnErr result (node_views nodes.new.items ≡ node_views nodes.old.items) }
+{
+    let node = &mut nodes[parent.index];
+    node.children.push(Child::Node(id))?;
+    let moved = &mut nodes[id.index];
+    moved.parent = Some(parent);
+    Ok(())
+}
+
+// A text at the end of the children of a node.
+pub(crate) fn append_text(
+    nodes: &mut Vec<NodeData>,
+    parent: NodeId,
+    text: String,
+) -> Result<(), AllocError>
+    requires parent { parent.index < vec_len nodes.old }
+    requires forest { IsForest (forest_in nodes.old.items) }
+    ensures ok { OnOk result (forest_in nodes.new.items ≡ change.append_text parent.index (string_bytes text) (forest_in nodes.old.items)) }
+    ensures err { OnErr result (node_views nodes.new.items ≡ node_views nodes.old.items) }
+{
+    let node = &mut nodes[parent.index];
+    children::push_text(&mut node.children, text)?;
+    Ok(())
+}
+
+// A node before a sibling, below this parent of the sibling.
+fn insert_node_below(
+    nodes: &mut Vec<NodeData>,
+    parent: NodeId,
+    sibling: NodeId,
+    id: NodeId,
+) -> Result<(), AllocError>
+    requires parent { parent_of (forest_in nodes.old.items) sibling.index ≡ Some parent.index }
+    requires no_fragment { kind_of (forest_in nodes.old.items) sibling.index ≢ Some FragmentNode }
+    requires held { id.index < vec_len nodes.old }
+    requires forest { IsForest (forest_in nodes.old.items) }
+    ensures ok { OnOk result (forest_in nodes.new.items ≡ change.insert_node_below (Some parent.index) sibling.index id.index (forest_in nodes.old.items)) }
+    ensures err { OnErr result (node_views nodes.new.items ≡ node_views nodes.old.items) }
+{
+    let node = &mut nodes[parent.index];
+    let at = children::place_of(node.children.as_slice(), sibling.index);
+    children::insert_node(&mut node.children, at, id)?;
+    let placed = &mut nodes[id.index];
+    placed.parent = Some(parent);
+    Ok(())
+}
+
+// A text before a sibling, below this parent of the sibling.
+fn insert_text_below(
+    nodes: &mut Vec<NodeData>,
+    parent: NodeId,
+    sibling: NodeId,
+    text: String,
+) -> Result<(), AllocError>
+    requires parent { parent_of (forest_in nodes.old.items) sibling.index ≡ Some parent.index }
+    requires no_fragment { kind_of (forest_in nodes.old.items) sibling.index ≢ Some FragmentNode }
+    requires forest { IsForest (forest_in nodes.old.items) }
+    ensures ok { OnOk result (forest_in nodes.new.items ≡ change.insert_text_below (Some parent.index) sibling.index (string_bytes text) (forest_in nodes.old.items)) }
+    ensures err { OnErr result (node_views nodes.new.items ≡ node_views nodes.old.items) }
+{
+    let node = &mut nodes[parent.index];
+    let at = children::place_of(node.children.as_slice(), sibling.index);
+    children::insert_text(&mut node.children, at, text)?;
+    Ok(())
+}
+
+// A node before a sibling.
+pub(crate) fn insert_node_before(
+    nodes: &mut Vec<NodeData>,
+    sibling: NodeId,
+    id: NodeId,
+) -> Result<(), AllocError>
+    requires sibling { sibling.index < vec_len nodes.old }
+    requires no_fragment { kind_of (forest_in nodes.old.items) sibling.index ≢ Some FragmentNode }
+    requires held { id.index < vec_len nodes.old }
+    requires forest { IsForest (forest_in nodes.old.items) }
+    ensures ok { OnOk result (forest_in nodes.new.items ≡ change.insert_node_before sibling.index id.index (forest_in nodes.old.items)) }
+    ensures err { OnErr result (node_views nodes.new.items ≡ node_views nodes.old.items) }
+{
+    match nodes[sibling.index].parent {
+        None => Ok(()),
+        Some(parent) => {
+            insert_node_below(nodes, parent, sibling, id)?;
+            Ok(())
+        }
+    }
+}
+
+// A text before a sibling.
+pub(crate) fn insert_text_before(
+    nodes: &mut Vec<NodeData>,
+    sibling: NodeId,
+    text: String,
+) -> Result<(), AllocError>
+    requires sibling { sibling.index < vec_len nodes.old }
+    requires no_fragment { kind_of (forest_in nodes.old.items) sibling.index ≢ Some FragmentNode }
+    requires forest { IsForest (forest_in nodes.old.items) }
+    ensures ok { OnOk result (forest_in nodes.new.items ≡ change.insert_text_before sibling.index (string_bytes text) (forest_in nodes.old.items)) }
+    ensures err { OnErr result (node_views nodes.new.items ≡ node_views nodes.old.items) }
+{
+    match nodes[sibling.index].parent {
+        None => Ok(()),
+        Some(parent) => {
+            insert_text_below(nodes, parent, sibling, text)?;
+            Ok(())
+        }
+    }
+}
+
+// Takes a node from this parent.
+fn detach_from(nodes: &mut Vec<NodeData>, parent: NodeId, id: NodeId) -> Result<(), AllocError>
+    requires parent { parent_of (forest_in nodes.old.items) id.index ≡ Some parent.index }
+    requires no_fragment { kind_of (forest_in nodes.old.items) id.index ≢ Some FragmentNode }
+    requires forest { IsForest (forest_in nodes.old.items) }
+    ensures ok { OnOk result (forest_in nodes.new.items ≡ change.detach_from (Some parent.index) id.index (forest_in nodes.old.items)) }
+    ensures err { OnErr result (node_views nodes.new.items ≡ node_views nodes.old.items) }
+{
+    let node = &mut nodes[parent.index];
+    children::remove_node(&mut node.children, id)?;
+    let moved = &mut nodes[id.index];
+    moved.parent = None;
+    Ok(())
+}
+
+// Takes a node from its parent, if it has one.
+pub(crate) fn detach(nodes: &mut Vec<NodeData>, id: NodeId) -> Result<(), AllocError>
+    requires held { id.index < vec_len nodes.old }
+    requires no_fragment { kind_of (forest_in nodes.old.items) id.index ≢ Some FragmentNode }
+    requires forest { IsForest (forest_in nodes.old.items) }
+    ensures ok { OnOk result (forest_in nodes.new.items ≡ change.detach id.index (forest_in nodes.old.items)) }
+    ensures err { OnErr result (node_views nodes.new.items ≡ node_views nodes.old.items) }
+{
+    match nodes[id.index].parent {
+        None => Ok(()),
+        Some(parent) => {
+            detach_from(nodes, parent, id)?;
+            Ok(())
+        }
+    }
+}

@@ -1,0 +1,138 @@
+//! New nodes. An Err leaves all nodes as they were.
+ghost use Rattle.std.specs.Prelude.{◌≡◌, ◌<◌, ◌++◌, ◌∷◌, [], None, OnOk, OnErr, vec_len};
+ghost use Rattle.h5_names.specs.AttributeText.{attribute_texts};
+ghost use Rattle.h5_interface.specs.Changes.{append_node};
+ghost use Rattle.h5_interface.specs.Forest.{IsForest};
+ghost use Rattle.h5_interface.specs.Seen.{element, make, make_contents, make_element, plain};
+ghost use Rattle.h5_arena.specs.ArenaModel.{arena_rules, forest_in, kind_view, node_view, node_views};
+
+use super::links;
+use super::nodes::{Kind, NodeData, NodeId};
+use h5_interface::ElementFlags;
+use h5_names::{Attribute, QualName};
+use std::alloc::{AllocError, Global};
+
+// A node that is no element, with nothing below it and no parent.
+pub(crate) fn bare_node(alloc: Global, kind: Kind) -> NodeData
+    ensures { node_view result ≡ plain (kind_view kind) }
+{
+    NodeData {
+        kind,
+        attrs: Vec::new(alloc),
+        children: Vec::new(alloc),
+        contents: None,
+        parent: None,
+        flags: ElementFlags {
+            template: false,
+            mathml_annotation_xml_integration_point: false,
+            had_duplicate_attributes: false,
+        },
+        started: false,
+        form: None,
+    }
+}
+
+// An element with nothing below it and no parent.
+fn bare_element(
+    alloc: Global,
+    name: QualName,
+    attrs: Vec<Attribute>,
+    flags: ElementFlags,
+) -> NodeData
+    ensures { node_view result ≡ element name (attribute_texts attrs.items) flags }
+{
+    NodeData {
+        kind: Kind::Element(name),
+        attrs,
+        children: Vec::new(alloc),
+        contents: None,
+        parent: None,
+        flags,
+        started: false,
+        form: None,
+    }
+}
+
+// A new node that is no element.
+pub(crate) fn push_plain(
+    nodes: &mut Vec<NodeData>,
+    alloc: Global,
+    kind: Kind,
+) -> Result<(), AllocError>
+    ensures ok { OnOk result (forest_in nodes.new.items ≡ make arena_rules (plain (kind_view kind)) (forest_in nodes.old.items)) }
+    ensures err { OnErr result (node_views nodes.new.items ≡ node_views nodes.old.items) }
+    ensures pushed { OnOk result (node_views nodes.new.items ≡ node_views nodes.old.items ++ plain (kind_view kind) ∷ []) }
+{
+    nodes.push(bare_node(alloc, kind))?;
+    Ok(())
+}
+
+// A new template, and its contents right after it.
+fn push_template(
+    nodes: &mut Vec<NodeData>,
+    alloc: Global,
+    template: NodeData,
+) -> Result<(), AllocError>
+    requires { (node_view template).contents ≡ None }
+    ensures ok { OnOk result (forest_in nodes.new.items ≡
+        make_contents arena_rules (vec_len nodes.old) (make arena_rules (node_view template) (forest_in nodes.old.items))) }
+    ensures err { OnErr result (node_views nodes.new.items ≡ node_views nodes.old.items) }
+{
+    let index = nodes.len();
+    let mut contents = bare_node(alloc, Kind::Fragment);
+    contents.parent = Some(NodeId { index });
+    let mut template = template;
+    template.contents = Some(NodeId { index: index + 1 });
+    nodes.push(template)?;
+    match nodes.push(contents) {
+        Ok(()) => Ok(()),
+        Err(refused) => {
+            let _ = nodes.pop();
+            Err(AllocError::from(refused))
+        }
+    }
+}
+
+// A new element, and its contents where it is a template.
+pub(crate) fn push_element(
+    nodes: &mut Vec<NodeData>,
+    alloc: Global,
+    name: QualName,
+    attrs: Vec<Attribute>,
+    flags: ElementFlags,
+) -> Result<(), AllocError>
+    ensures ok { OnOk result
+        (forest_in nodes.new.items ≡ make_element arena_rules name (attribute_texts attrs.items) flags (forest_in nodes.old.items)) }
+    ensures err { OnErr result (node_views nodes.new.items ≡ node_views nodes.old.items) }
+{
+    let is_template = flags.template;
+    let node = bare_element(alloc, name, attrs, flags);
+    if is_template {
+        push_template(nodes, alloc, node)?;
+        return Ok(());
+    }
+    nodes.push(node)?;
+    Ok(())
+}
+
+// A new node that is no element, as the last child of an old one.
+pub(crate) fn push_child(
+    nodes: &mut Vec<NodeData>,
+    alloc: Global,
+    parent: NodeId,
+    kind: Kind,
+) -> Result<(), AllocError>
+    requires parent { parent.index < vec_len nodes.old }
+    requires forest { IsForest (forest_in nodes.old.items) }
+    ensures ok { OnOk result (forest_in nodes.new.items ≡
+        append_node parent.index (vec_len nodes.old) (make arena_rules (plain (kind_view kind)) (forest_in nodes.old.items))) }
+    ensures err { OnErr result (node_views nodes.new.items ≡ node_views nodes.old.items) }
+{
+    let id = NodeId { index: nodes.len() };
+    push_plain(nodes, alloc, kind)?;
+    if let Err(e) = links::append_node(nodes, parent, id) {
+        let _unhung = nodes.pop();
+        return Err(e);
+    }
+    Ok(())
+}

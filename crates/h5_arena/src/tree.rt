@@ -1,0 +1,181 @@
+//! The arena, and the calls that read it.
+ghost use Rattle.std.specs.Prelude.{◌≡◌, ◌<◌, [], ◌∷◌, IfOk, Some, false, length, nat_lt, option_copied};
+ghost use Rattle.h5_names.specs.AttributeText.{attribute_texts};
+ghost use Rattle.h5_interface.specs.Forest.{DocumentNode};
+ghost use Rattle.h5_interface.specs.Seen.{plain};
+
+use super::makes;
+use super::nodes::{Child, Kind, NodeData, NodeId};
+use h5_interface::QuirksMode;
+use h5_names::{Attribute, QualName};
+use std::alloc::{AllocError, Global};
+use std::marker::Model;
+
+/// A tree whose nodes lie in one vector, in the order in which they were made. The contents of a template
+/// are a node of their own, right after the template.
+#[derive(Drop)]
+pub struct Arena {
+    pub(crate) nodes: Vec<NodeData>,
+    pub(crate) quirks: QuirksMode,
+    pub(crate) errors: Vec<String>,
+    pub(crate) errors_lost: bool,
+    pub(crate) alloc: Global,
+}
+
+impl Model for Arena {
+    ghost use Rattle.h5_interface.specs.Forest.{IsForest};
+    ghost use Rattle.h5_arena.specs.ArenaModel.{ArenaView, forest_in, node_views, texts_of};
+
+    ghost Value = { ArenaView };
+
+    ghost view = { λ a. record { nodes = node_views a.nodes.items; quirks = a.quirks; errors = texts_of a.errors.items; errors_lost = a.errors_lost } };
+
+    ghost invariant = { λ a. IsForest (forest_in a.nodes.items) };
+}
+
+ghost use Rattle.h5_arena.specs.ArenaModel.{ArenaView, IsHeld, at_node, child_parent, child_views, id_at, kind_view, name_of_kind, optional_place, texts_of};
+
+impl Arena {
+    /// An arena that holds its document alone, with NoQuirks and no error, or an `AllocError` where memory
+    /// is refused.
+    pub fn new(alloc: Global) -> Result<Arena, AllocError>
+        ensures { IfOk result (λ a. a ≡ record { nodes = plain DocumentNode ∷ []; quirks = QuirksMode.NoQuirks; errors = []; errors_lost = false }) }
+    {
+        let mut nodes = Vec::new(alloc);
+        nodes.push(makes::bare_node(alloc, Kind::Document))?;
+        Ok(Arena {
+            nodes,
+            quirks: QuirksMode::NoQuirks,
+            errors: Vec::new(alloc),
+            errors_lost: false,
+            alloc,
+        })
+    }
+
+    /// Whether this is a node of the arena.
+    pub fn holds(&self, id: NodeId) -> bool
+        ensures { result ≡ nat_lt id.index (length self.now.nodes) }
+    {
+        id.index < self.len()
+    }
+
+    /// The document.
+    pub fn document(&self) -> NodeId
+        ensures document { result.index ≡ 0 }
+        ensures held { IsHeld self.now result }
+    {
+        let _nodes = &self.nodes;
+        NodeId { index: 0 }
+    }
+
+    /// How many nodes there are, those without a parent too.
+    pub fn len(&self) -> usize
+        ensures { result ≡ length self.now.nodes }
+    {
+        self.nodes.len()
+    }
+
+    /// The node that was made at this place in the order, from 0, or nothing where there is none.
+    pub fn id(&self, index: usize) -> Option<NodeId>
+        ensures { result ≡ id_at self.now index }
+    {
+        if index < self.len() {
+            Some(NodeId { index })
+        } else {
+            None
+        }
+    }
+
+    /// What a node is.
+    pub fn kind(&self, id: NodeId) -> &Kind
+        requires { IsHeld self.now id }
+        ensures { at_node (λ d. d.kind) self.now id ≡ Some (kind_view result.now) }
+    {
+        &self.nodes[id.index].kind
+    }
+
+    /// The name of an element, and nothing of any other node.
+    pub fn name(&self, id: NodeId) -> Option<&QualName>
+        requires { IsHeld self.now id }
+        ensures { at_node (λ d. name_of_kind d.kind) self.now id ≡ Some (option_copied result) }
+    {
+        let node = &self.nodes[id.index];
+        match &node.kind {
+            Kind::Element(name) => Some(name),
+            _ => None,
+        }
+    }
+
+    /// The attributes of an element, in the order in which they came.
+    pub fn attrs(&self, id: NodeId) -> &[Attribute]
+        requires { IsHeld self.now id }
+        ensures { at_node (λ d. d.attrs) self.now id ≡ Some (attribute_texts result.now) }
+    {
+        self.nodes[id.index].attrs.as_slice()
+    }
+
+    /// The children of a node, in order.
+    pub fn children(&self, id: NodeId) -> &[Child]
+        requires { IsHeld self.now id }
+        ensures { at_node (λ d. d.children) self.now id ≡ Some (child_views result.now) }
+    {
+        self.nodes[id.index].children.as_slice()
+    }
+
+    /// Whose child a node is. The contents of a template are nobody's child.
+    pub fn parent(&self, id: NodeId) -> Option<NodeId>
+        requires { IsHeld self.now id }
+        ensures { at_node child_parent self.now id ≡ Some (optional_place result) }
+    {
+        let node = &self.nodes[id.index];
+        match &node.kind {
+            Kind::Fragment => None,
+            _ => node.parent,
+        }
+    }
+
+    /// The contents of a template, and nothing of any other node.
+    pub fn contents(&self, id: NodeId) -> Option<NodeId>
+        requires { IsHeld self.now id }
+        ensures { at_node (λ d. d.contents) self.now id ≡ Some (optional_place result) }
+    {
+        self.nodes[id.index].contents
+    }
+
+    /// The form that an element was associated with.
+    pub fn form(&self, id: NodeId) -> Option<NodeId>
+        requires { IsHeld self.now id }
+        ensures { at_node (λ d. d.marks.form) self.now id ≡ Some (optional_place result) }
+    {
+        self.nodes[id.index].form
+    }
+
+    /// Whether an element was marked as a script that has started.
+    pub fn started(&self, id: NodeId) -> bool
+        requires { IsHeld self.now id }
+        ensures { at_node (λ d. d.marks.started) self.now id ≡ Some result }
+    {
+        self.nodes[id.index].started
+    }
+
+    /// The quirks mode.
+    pub fn quirks(&self) -> QuirksMode
+        ensures { result ≡ self.now.quirks }
+    {
+        self.quirks
+    }
+
+    /// The texts of the parse errors, in the order in which they were told.
+    pub fn errors(&self) -> &[String]
+        ensures { texts_of result.now ≡ self.now.errors }
+    {
+        self.errors.as_slice()
+    }
+
+    /// Whether the text of a parse error found no memory.
+    pub fn errors_lost(&self) -> bool
+        ensures { result ≡ self.now.errors_lost }
+    {
+        self.errors_lost
+    }
+}

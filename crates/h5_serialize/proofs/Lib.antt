@@ -1,0 +1,6 @@
+pub mod EntryLemmas
+pub mod EscapeLaws
+pub mod Escapes
+pub mod NameLemmas
+pub mod WalkLemmas
+pub mod WalkSteps

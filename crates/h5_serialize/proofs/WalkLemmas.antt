@@ -1,0 +1,113 @@
+-- What a walk of calls leaves of the HTML serializer.
+use Rattle.std.proofs.Common.{◌≡◌, ℕ, Bool, true, false, ◌||◌, cond, List, [], ◌∷◌, ◌++◌, Option, Result, Ok, Err, refl, sym, ap, ◌∙◌, subst, append_assoc, append-nil}
+use Rattle.std.proofs.KnownBytes.{Appends-nil, Appends-trans}
+use Rattle.std.specs.Io.KnownBytes.{Appends}
+use Rattle.h5_serialize.specs.Call.{Call}
+use Rattle.h5_serialize.specs.Openers.{lacks_parent}
+use Rattle.h5_serialize.specs.Standing.{Standing, Broken, Working, answer_to, standing_after, text_written, IsBrokenBy, walk_text, is_orphan, has_orphan}
+use Rattle.h5_serialize.specs.Walk.{Makes, AreMade, NoCall, OneMore, IsStopped, Starved, Refused}
+use Rattle.h5_serialize.specs.declared.fault.SerializeFault.{SerializeFault}
+use Rattle.h5_serialize.specs.declared.fault.SerializeFault.TheVariants.{NoParent, Failed}
+
+-- how it stands after these calls
+abbrev pub after_all : Standing → List Call → Standing
+after_all m [] = m
+after_all m (call ∷ calls) = after_all (standing_after m call) calls
+
+after_more : (m : Standing) (calls : List Call) (call : Call) → after_all m (calls ++ call ∷ []) ≡ standing_after (after_all m calls) call
+after_more m [] call = refl
+after_more m (first ∷ calls) call = after_more (standing_after m first) calls call
+
+-- the text of a walk in two parts
+pub text_split : (m : Standing) (calls rest : List Call) → walk_text m (calls ++ rest) ≡ walk_text m calls ++ walk_text (after_all m calls) rest
+text_split m [] rest = refl
+text_split m (call ∷ calls) rest = ap (λ l. text_written m call ++ l) (text_split (standing_after m call) calls rest) ∙ sym (append_assoc (text_written m call) _ _)
+
+text_more : (m : Standing) (calls : List Call) (call : Call) → walk_text m (calls ++ call ∷ []) ≡ walk_text m calls ++ text_written (after_all m calls) call
+text_more m calls call = text_split m calls (call ∷ []) ∙ ap (λ l. walk_text m calls ++ l) (append-nil (text_written (after_all m calls) call))
+
+or_assoc : (a b c : Bool) → a || (b || c) ≡ (a || b) || c
+or_assoc true b c = refl
+or_assoc false b c = refl
+
+pub orphan_split : (m : Standing) (calls rest : List Call) → has_orphan m (calls ++ rest) ≡ has_orphan m calls || has_orphan (after_all m calls) rest
+orphan_split m [] rest = refl
+orphan_split m (call ∷ calls) rest = ap (λ b. is_orphan m call || b) (orphan_split (standing_after m call) calls rest) ∙ or_assoc (is_orphan m call) _ _
+
+or_true : (a b : Bool) → b ≡ true → a || b ≡ true
+or_true true b h = refl
+or_true false b h = h
+
+or_false : (a b : Bool) → a ≡ false → b ≡ false → a || b ≡ false
+or_false a b h g = ap (λ x. x || b) h ∙ g
+
+-- what the answers tell
+abbrev answer_where : Bool → Result (Unit {0}) SerializeFault
+answer_where lacks = cond lacks (Err NoParent) (Ok tt)
+
+lacks_none : (r : Result (Unit {0}) SerializeFault) (b : Bool) → r ≡ Ok tt → r ≡ answer_where b → b ≡ false
+lacks_none r true e h = cc
+lacks_none r false e h = refl
+
+lacks_one : (r : Result (Unit {0}) SerializeFault) (b : Bool) → r ≡ Err NoParent → r ≡ answer_where b → b ≡ true
+lacks_one r true e h = refl
+lacks_one r false e h = cc
+
+never_failed : (r : Result (Unit {0}) SerializeFault) (b : Bool) → r ≡ Err Failed → r ≡ answer_where b → ⊥
+never_failed r true e h = cc
+never_failed r false e h = cc
+
+no_orphan : (m : Standing) (call : Call) → Ok tt ≡ answer_to m call → is_orphan m call ≡ false
+no_orphan Broken call h = refl
+no_orphan (Working s c os) call h = lacks_none _ (lacks_parent c call os) refl h
+
+an_orphan : (m : Standing) (call : Call) → Err NoParent ≡ answer_to m call → is_orphan m call ≡ true
+an_orphan Broken call h = cc
+an_orphan (Working s c os) call h = lacks_one _ (lacks_parent c call os) refl h
+
+abbrev pub IsWorking : Standing → Type 0
+IsWorking Broken = ⊥
+IsWorking (Working s c os) = Unit {0}
+
+working_after : (m : Standing) (calls : List Call) → IsWorking m → IsWorking (after_all m calls)
+working_after m [] h = h
+working_after Broken (call ∷ calls) h = absurd h
+working_after (Working s c os) (call ∷ calls) h = working_after (standing_after (Working s c os) call) calls tt
+
+works : (m : Standing) (call : Call) → IsWorking m → Err Failed ≡ answer_to m call → ⊥
+works Broken call h g = h
+works (Working s c os) call h g = never_failed _ (lacks_parent c call os) refl g
+
+-- calls that were made have parents, and their text was written
+pub record HasMade (m : Standing) (t : Option (List ℕ)) (calls : List Call) (n : Standing) (u : Option (List ℕ)) : Type 0 where
+  pub standing : n ≡ after_all m calls
+  pub text : Appends t u (walk_text m calls)
+  pub parents : has_orphan m calls ≡ false
+
+pub has_made : {m : Standing} {t : Option (List ℕ)} {calls : List Call} {n : Standing} {u : Option (List ℕ)} → AreMade answer_to standing_after text_written IsBrokenBy m t calls n u → HasMade m t calls n u
+has_made {m} {t} NoCall = record { standing = refl; text = Appends-nil t; parents = refl }
+has_made {m} {t} (OneMore {calls} {k} {v} call n u before made) =
+    let h = has_made before in
+    let here : text_written k call ≡ text_written (after_all m calls) call = ap (λ s. text_written s call) h.standing in
+    record {
+      standing = made.meant ∙ ap (λ s. standing_after s call) h.standing ∙ sym (after_more m calls call);
+      text = subst (Appends t u) (ap (λ l. walk_text m calls ++ l) here ∙ sym (text_more m calls call)) (Appends-trans t v u (walk_text m calls) (text_written k call) h.text made.written);
+      parents = orphan_split m calls (call ∷ []) ∙ or_false _ _ h.parents (or_false _ _ (ap (λ s. is_orphan s call) (sym h.standing) ∙ no_orphan k call made.answered) refl);
+    }
+
+pub stopped_orphan : {m : Standing} {t : Option (List ℕ)} {calls : List Call} {fault : SerializeFault} {n : Standing} {u : Option (List ℕ)} → IsStopped answer_to standing_after text_written IsBrokenBy calls m t fault n u → fault ≡ NoParent → has_orphan m calls ≡ true
+stopped_orphan (Starved made left e h) is = cc
+stopped_orphan {m} {t} (Refused made call left {k} {n} {v} {u} {fault} e h makes) is =
+    let before = has_made h in
+    let P : SerializeFault → Type 0 = λ f. Makes answer_to standing_after text_written IsBrokenBy call k v (Err f) n u in
+    let answered = (subst P is makes).answered in
+    let here = ap (λ s. is_orphan s call) (sym before.standing) ∙ an_orphan k call answered in
+    ap (has_orphan m) e ∙ orphan_split m made (call ∷ left) ∙ or_true _ _ (ap (λ b. b || has_orphan (standing_after (after_all m made) call) left) here)
+
+pub never_stopped : {m : Standing} {t : Option (List ℕ)} {calls : List Call} {fault : SerializeFault} {n : Standing} {u : Option (List ℕ)} → IsStopped answer_to standing_after text_written IsBrokenBy calls m t fault n u → IsWorking m → fault ≡ Failed → ⊥
+never_stopped (Starved made left e h) works is = cc
+never_stopped {m} {t} (Refused made call left {k} {n} {v} {u} {fault} e h makes) working is =
+    let before = has_made h in
+    let P : SerializeFault → Type 0 = λ f. Makes answer_to standing_after text_written IsBrokenBy call k v (Err f) n u in
+    let answered = (subst P is makes).answered in
+    works k call (subst IsWorking (sym before.standing) (working_after m made working)) answered

@@ -1,0 +1,12 @@
+use Rattle.std.proofs.Common.{subst, IsUtf8}
+use Rattle.h5_serialize.proofs.Escapes.{wrote_more}
+use Rattle.h5_serialize.proofs.escape.write_segment.Goals as goal
+
+pub loop-after-preserved : goal.loop-after-preserved
+loop-after-preserved g c =
+    let made = rw c.in-Some.is at c.in_ok-after.ensures.text in
+    record {
+      unmarked = made.4;
+      utf8 = subst IsUtf8 c.as_bytes-bytes.ensures.value c.as_bytes-bytes.ensures.utf8;
+      wrote = wrote_more _ _ _ _ _ _ made.0 c.loop-after.invariant.wrote made.1 made.2;
+    }

@@ -1,0 +1,14 @@
+use Rattle.std.proofs.Common.{rules, inr}
+use Rattle.h5_serialize.proofs.html.HtmlSerializerSerializer.start_elem.Goals as goal
+
+pub returns-in_err-parent_answer : goal.returns-in_err-parent_answer
+returns-in_err-parent_answer g c = inr (λ attrs. search rules)
+
+pub returns-in_err-find_parent : goal.returns-in_err-find_parent
+returns-in_err-find_parent g c = inr (λ attrs. search rules)
+
+pub returns-in_err-push : goal.returns-in_err-push
+returns-in_err-push g c = inr (λ attrs. search rules)
+
+pub returns-in_err-write_start_tag : goal.returns-in_err-write_start_tag
+returns-in_err-write_start_tag g c = inr (λ attrs. search rules)

@@ -1,0 +1,9 @@
+pub mod Call
+pub mod Entries
+pub mod Escape
+pub mod Openers
+pub mod Places
+pub mod Names
+pub mod Standing
+pub mod Walk
+pub mod Writing

@@ -1,0 +1,80 @@
+-- How the HTML serializer stands between two calls, and what it answers, writes and keeps.
+use Rattle.std.specs.Prelude.{◌≡◌, ◌||◌, ℕ, Bool, true, false, List, [], ◌∷◌, ◌++◌, Option, Result, Ok, Err, if◌then◌else◌}
+use Rattle.h5_serialize.specs.Call.{Call, StartOf, EndOf, TextOf, CommentOf, DoctypeOf, InstructionOf}
+use Rattle.h5_serialize.specs.Openers.{base_of, lacks_parent, openers_of, openers_left}
+use Rattle.h5_serialize.specs.Writing.{written}
+use Rattle.h5_serialize.specs.declared.fault.SerializeFault.{SerializeFault}
+use Rattle.h5_serialize.specs.declared.fault.SerializeFault.TheVariants.{NoParent, Memory, Write, Failed}
+use Rattle.h5_serialize.specs.declared.openers.Opener.{Opener}
+use Rattle.h5_serialize.specs.declared.options.SerializeOpts.{SerializeOpts}
+
+-- it met want of memory or a failing writer; or it works, and keeps the openers that no end has closed
+pub data Standing : Type 0 where
+  Broken : Standing
+  Working : (scripting_enabled create_missing_parent : Bool) (openers : List Opener) → Standing
+
+-- a new serializer keeps the one base entry of its options
+abbrev pub new_standing : SerializeOpts → Standing
+new_standing opts = Working opts.scripting_enabled opts.create_missing_parent (base_of opts.traversal_scope ∷ [])
+
+-- the answer to a call
+abbrev pub answer_to : Standing → Call → Result (Unit {0}) SerializeFault
+answer_to Broken call = Err Failed
+answer_to (Working scripting create openers) call = if lacks_parent create call openers then Err NoParent else Ok tt
+
+-- the same, to a call that needs a parent
+abbrev pub parent_answer : Standing → Result (Unit {0}) SerializeFault
+parent_answer Broken = Err Failed
+parent_answer (Working scripting create (opener ∷ openers)) = Ok tt
+parent_answer (Working scripting true []) = Ok tt
+parent_answer (Working scripting false []) = Err NoParent
+
+-- what is refused changes nothing
+abbrev pub standing_after : Standing → Call → Standing
+standing_after Broken call = Broken
+standing_after (Working scripting create openers) call =
+    Working scripting create
+    (if lacks_parent create call openers then openers else openers_left call (openers_of create call openers))
+
+-- and writes nothing
+abbrev pub text_written : Standing → Call → List ℕ
+text_written Broken call = []
+text_written (Working scripting create openers) call =
+    if lacks_parent create call openers then [] else written scripting (openers_of create call openers) call
+
+-- a call that may take memory
+abbrev pub takes_memory : Call → Bool
+takes_memory (StartOf name attrs) = true
+takes_memory (EndOf name) = false
+takes_memory (TextOf text) = true
+takes_memory (CommentOf text) = false
+takes_memory (DoctypeOf name) = false
+takes_memory (InstructionOf target content) = false
+
+-- want of memory comes in such a call alone, before its first byte; how much a failing writer took isn't
+-- said; after either the serializer is broken
+abbrev pub IsBrokenBy : Standing → Option (List ℕ) → Call → SerializeFault → Standing → Option (List ℕ) → Type 0
+IsBrokenBy m t call NoParent n u = ⊥
+IsBrokenBy m t call Memory n u = (takes_memory call ≡ true) × (n ≡ Broken) × (u ≡ t)
+IsBrokenBy m t call Write n u = n ≡ Broken
+IsBrokenBy m t call Failed n u = ⊥
+
+-- the text of a walk
+abbrev pub walk_text : Standing → List Call → List ℕ
+walk_text standing [] = []
+walk_text standing (call ∷ calls) = text_written standing call ++ walk_text (standing_after standing call) calls
+
+-- a call that needs a parent and finds none
+abbrev pub is_orphan : Standing → Call → Bool
+is_orphan Broken call = false
+is_orphan (Working scripting create openers) call = lacks_parent create call openers
+
+-- whether some call of a walk is one
+abbrev pub has_orphan : Standing → List Call → Bool
+has_orphan standing [] = false
+has_orphan standing (call ∷ calls) = is_orphan standing call || has_orphan (standing_after standing call) calls
+
+-- an HTML serializer: how it stands, and what its writer holds, where that is known
+pub record HtmlState : Type 0 where
+  pub standing : Standing
+  pub contents : Option (List ℕ)

@@ -1,0 +1,56 @@
+-- Calls made on a serializer, one or several. What the serializer says of itself comes first: what it
+-- answers to a call, means after it and writes for it, and what a call may leave in which memory or a
+-- writer failed.
+use Rattle.std.specs.Prelude.{◌≡◌, ◌⊎◌, ℕ, List, [], ◌∷◌, ◌++◌, map, Option, Result, Ok, Err}
+use Rattle.std.specs.Io.KnownBytes.{Appends}
+use Rattle.h5_names.specs.AttributeText.{AttributeText}
+use Rattle.h5_names.specs.declared.qualified.QualName.{QualName}
+use Rattle.h5_serialize.specs.Call.{Call, StartOf}
+use Rattle.h5_serialize.specs.declared.fault.SerializeFault.{SerializeFault}
+use Rattle.h5_serialize.specs.declared.fault.SerializeFault.TheVariants.{NoParent, Memory, Write, Failed}
+
+-- neither memory nor a writer failed, and P
+abbrev pub UnlessBroken : Result (Unit {0}) SerializeFault → Type 0 → Type 0
+UnlessBroken (Ok done) P = P
+UnlessBroken (Err NoParent) P = P
+UnlessBroken (Err Memory) P = Unit {0}
+UnlessBroken (Err Write) P = Unit {0}
+UnlessBroken (Err Failed) P = P
+
+-- where memory or a writer failed, P of that fault
+abbrev pub WhereBroken : Result (Unit {0}) SerializeFault → (SerializeFault → Type 0) → Type 0
+WhereBroken (Ok done) P = Unit {0}
+WhereBroken (Err NoParent) P = Unit {0}
+WhereBroken (Err Memory) P = P Memory
+WhereBroken (Err Write) P = P Write
+WhereBroken (Err Failed) P = Unit {0}
+
+module _ {M : Type 0} (answer : M → Call → Result (Unit {0}) SerializeFault) (after : M → Call → M) (writes : M → Call → List ℕ) (breaks : M → Option (List ℕ) → Call → SerializeFault → M → Option (List ℕ) → Type 0) where
+  -- a call made where the serializer means m and has written t gives this result, n and u
+  pub record Makes (call : Call) (m : M) (t : Option (List ℕ)) (result : Result (Unit {0}) SerializeFault) (n : M) (u : Option (List ℕ)) : Type 0 where
+    pub answered : UnlessBroken result (result ≡ answer m call)
+    pub meant : UnlessBroken result (n ≡ after m call)
+    pub written : UnlessBroken result (Appends t u (writes m call))
+    pub broken : WhereBroken result (λ fault. breaks m t call fault n u)
+
+  -- a start made with the attributes that an iterator gives: it read all of them, or it did what it does
+  -- whatever they are
+  abbrev pub MakesStart : {A : Type 0} → (A → AttributeText) → (given : List A → Type 0) → QualName → M → Option (List ℕ) → Result (Unit {0}) SerializeFault → M → Option (List ℕ) → Type 0
+  MakesStart {A} attribute given name m t result n u =
+      ((all : List A) × given all × Makes (StartOf name (map attribute all)) m t result n u)
+      ⊎ ((attrs : List AttributeText) → Makes (StartOf name attrs) m t result n u)
+
+  -- calls made one after another, none of which met a fault, lead from m and t to n and u
+  pub data AreMade (m : M) (t : Option (List ℕ)) : List Call → M → Option (List ℕ) → Type 0 where
+    NoCall : AreMade m t [] m t
+    OneMore : {calls : List Call} {k : M} {v : Option (List ℕ)} (call : Call) (n : M) (u : Option (List ℕ)) → AreMade m t calls k v → Makes call k v (Ok tt) n u → AreMade m t (calls ++ call ∷ []) n u
+
+  -- a walk was stopped behind the calls made: it found no memory of its own, or the next call met a fault
+  pub data IsStopped (calls : List Call) (m : M) (t : Option (List ℕ)) : SerializeFault → M → Option (List ℕ) → Type 0 where
+    Starved : (made left : List Call) {n : M} {u : Option (List ℕ)} → calls ≡ made ++ left → AreMade m t made n u → IsStopped calls m t Memory n u
+    Refused : (made : List Call) (call : Call) (left : List Call) {k n : M} {v u : Option (List ℕ)} {fault : SerializeFault} → calls ≡ made ++ call ∷ left → AreMade m t made k v → Makes call k v (Err fault) n u → IsStopped calls m t fault n u
+
+  -- the calls are made in order, up to the first fault
+  abbrev pub Walks : List Call → M → Option (List ℕ) → Result (Unit {0}) SerializeFault → M → Option (List ℕ) → Type 0
+  Walks calls m t (Ok done) n u = AreMade m t calls n u
+  Walks calls m t (Err fault) n u = IsStopped calls m t fault n u

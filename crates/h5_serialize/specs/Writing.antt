@@ -1,0 +1,40 @@
+-- What is written for a call (HTML standard, section 13.3, "Serializing HTML fragments").
+use Rattle.std.specs.Prelude.{ℕ, Bool, true, false, List, [], ◌++◌, if◌then◌else◌, codes}
+use Rattle.std.specs.List.{flat_map}
+use Rattle.h5_names.specs.AttributeText.{AttributeText, is_same_text}
+use Rattle.h5_names.specs.declared.qualified.QualName.{QualName}
+use Rattle.h5_serialize.specs.Call.{Call, StartOf, EndOf, TextOf, CommentOf, DoctypeOf, InstructionOf}
+use Rattle.h5_serialize.specs.Escape.{escape}
+use Rattle.h5_serialize.specs.Openers.{are_hidden, is_raw}
+use Rattle.h5_serialize.specs.declared.openers.Opener.{Opener}
+
+-- what stands before the local name of an attribute
+abbrev pub attribute_prefix : QualName → List ℕ
+attribute_prefix name =
+    if is_same_text name.ns [] then []
+    else (if is_same_text name.ns (codes "http://www.w3.org/XML/1998/namespace") then codes "xml:"
+    else (if is_same_text name.ns (codes "http://www.w3.org/2000/xmlns/")
+    then (if is_same_text name.local (codes "xmlns") then [] else codes "xmlns:")
+    else (if is_same_text name.ns (codes "http://www.w3.org/1999/xlink") then codes "xlink:"
+    else codes "unknown_namespace:")))
+
+abbrev pub attribute_written : AttributeText → List ℕ
+attribute_written attribute =
+    codes " " ++ attribute_prefix attribute.name ++ attribute.name.local
+    ++ codes "=\"" ++ escape true attribute.value ++ codes "\""
+
+abbrev pub start_tag : QualName → List AttributeText → List ℕ
+start_tag name attrs = codes "<" ++ name.local ++ flat_map attribute_written attrs ++ codes ">"
+
+abbrev pub end_tag : QualName → List ℕ
+end_tag name = codes "</" ++ name.local ++ codes ">"
+
+-- what a call writes, for its openers
+abbrev pub written : (scripting_enabled : Bool) → List Opener → Call → List ℕ
+written scripting openers (StartOf name attrs) = if are_hidden openers then [] else start_tag name attrs
+written scripting openers (EndOf name) = if are_hidden openers then [] else end_tag name
+written scripting openers (TextOf text) = if is_raw scripting openers then text else escape false text
+written scripting openers (CommentOf text) = codes "<!--" ++ text ++ codes "-->"
+written scripting openers (DoctypeOf name) = codes "<!DOCTYPE " ++ name ++ codes ">"
+written scripting openers (InstructionOf target content) =
+    codes "<?" ++ target ++ codes " " ++ content ++ codes ">"

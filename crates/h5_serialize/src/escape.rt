@@ -1,0 +1,220 @@
+//! Writing text with its escapes.
+//!
+//! The text is searched for the bytes at which a character with a reference may begin, and what lies
+//! before is written as it stands. It is searched for `&`, `<` and `>` first, and each segment between
+//! these for the others, so that no byte is searched more than twice.
+ghost use Rattle.std.specs.Prelude.{◌≡◌, ℕ, true, false, ◌<◌, ◌≤◌, ◌+◌, ◌++◌, List, length, slice_index, OnOk, IfOk, IsOkUnless, MatchOption};
+ghost use Rattle.std.specs.Char.{encode_utf8};
+ghost use Rattle.std.specs.Io.KnownBytes.{Appends};
+ghost use Rattle.memchr.specs.Find.{IsFirstByte, is_byte3};
+ghost use Rattle.h5_serialize.specs.Escape.{escape, escape_char};
+ghost use Rattle.h5_serialize.specs.Places.{reference_at, is_candidate, IsPlainBefore, HasNoMarkBefore};
+
+use super::fault::SerializeFault;
+use memchr::{memchr, memchr2, memchr3};
+use std::io::Write;
+
+/// Writes a text as it stands. The fault is `Write`, where the writer fails.
+pub fn write_verbatim<Wr: Write>(writer: &mut Wr, text: &str) -> Result<(), SerializeFault>
+    ensures text { OnOk result (Appends (Wr.contents writer.old) (Wr.contents writer.new) text.now) }
+    ensures fault { IsOkUnless result SerializeFault.Write }
+{
+    match writer.write_all(text.as_bytes()) {
+        Ok(()) => Ok(()),
+        Err(_) => Err(SerializeFault::Write),
+    }
+}
+
+// The place of the first `&`, `<` or `>`, or the length.
+fn first_mark(bytes: &[u8]) -> usize
+    ensures len { result ≤ length bytes.now }
+    ensures before { HasNoMarkBefore bytes.now result }
+    ensures found { result < length bytes.now → is_byte3 0x26 0x3c 0x3e (slice_index bytes.now result) ≡ true }
+{
+    match memchr3(b'&', b'<', b'>', bytes) {
+        Some(i) => i,
+        None => bytes.len(),
+    }
+}
+
+// The first C2, or in the attribute mode `"`.
+fn find_candidate(attr_mode: bool, bytes: &[u8]) -> Option<usize>
+    ensures { IsFirstByte (is_candidate attr_mode) bytes.now result }
+{
+    if attr_mode {
+        memchr2(b'"', 0xc2, bytes)
+    } else {
+        memchr(0xc2, bytes)
+    }
+}
+
+// The place of the first such byte from a place on, or the length.
+fn first_candidate(attr_mode: bool, bytes: &[u8], from: usize) -> usize
+    requires { from ≤ length bytes.now }
+    ensures low { from ≤ result }
+    ensures high { result ≤ length bytes.now }
+    ensures before { (k : ℕ) → from ≤ k → k < result → is_candidate attr_mode (slice_index bytes.now k) ≡ false }
+{
+    match find_candidate(attr_mode, &bytes[from..]) {
+        Some(i) => from + i,
+        None => bytes.len(),
+    }
+}
+
+// Whether a character with a reference begins at a place.
+fn is_reference_at(attr_mode: bool, bytes: &[u8], i: usize) -> bool
+    requires { i < length bytes.now }
+    ensures { result ≡ reference_at attr_mode bytes.now i }
+{
+    match bytes[i] {
+        b'&' | b'<' | b'>' => true,
+        b'"' => attr_mode,
+        0xc2 => i + 1 < bytes.len() && bytes[i + 1] == 0xa0,
+        _ => false,
+    }
+}
+
+// The place of the first character with a reference in a text without `&`, `<` and `>`, or its length.
+fn first_reference(attr_mode: bool, bytes: &[u8]) -> usize
+    requires { HasNoMarkBefore bytes.now (length bytes.now) }
+    ensures len { result ≤ length bytes.now }
+    ensures plain { IsPlainBefore attr_mode bytes.now result }
+    ensures found { result < length bytes.now → reference_at attr_mode bytes.now result ≡ true }
+{
+    let mut from = 0;
+    while from < bytes.len() {
+        let i = first_candidate(attr_mode, bytes, from);
+        if i == bytes.len() || is_reference_at(attr_mode, bytes, i) {
+            return i;
+        }
+        from = i + 1;
+    }
+    bytes.len()
+}
+
+// The reference that stands for a character, if it has one.
+fn reference(attr_mode: bool, c: char) -> Option<&'static str>
+    ensures { MatchOption result (escape_char attr_mode c ≡ encode_utf8 c)
+        (λ s. escape_char attr_mode c ≡ s.now) }
+{
+    match c {
+        '&' => Some("&amp;"),
+        '\u{a0}' => Some("&nbsp;"),
+        '<' => Some("&lt;"),
+        '>' => Some("&gt;"),
+        '"' if attr_mode => Some("&quot;"),
+        _ => None,
+    }
+}
+
+// Writes one character with its escape.
+fn write_char<Wr: Write>(writer: &mut Wr, attr_mode: bool, c: char) -> Result<(), SerializeFault>
+    ensures text { OnOk result
+        (Appends (Wr.contents writer.old) (Wr.contents writer.new) (escape_char attr_mode c)) }
+    ensures fault { IsOkUnless result SerializeFault.Write }
+{
+    match reference(attr_mode, c) {
+        Some(text) => write_verbatim(writer, text),
+        None => {
+            let mut buffer = [0; 4];
+            write_verbatim(writer, c.encode_utf8(&mut buffer))
+        }
+    }
+}
+
+// Of a text without `&`, `<` and `>`, writes what comes before the first reference, and one character
+// more. What is left is answered.
+fn write_front<'a, Wr: Write>(
+    writer: &mut Wr,
+    attr_mode: bool,
+    text: &'a str,
+) -> Result<Option<&'a str>, SerializeFault>
+    requires { HasNoMarkBefore text.now (length text.now) }
+    ensures text { IfOk result (λ left. MatchOption left
+        (Appends (Wr.contents writer.old) (Wr.contents writer.new) (escape attr_mode text.now))
+        (λ rest. (part : List ℕ) × Appends (Wr.contents writer.old) (Wr.contents writer.new) part
+        × (escape attr_mode text.now ≡ part ++ escape attr_mode rest.now) × (length rest.now < length text.now)
+        × HasNoMarkBefore rest.now (length rest.now))) }
+    ensures fault { IsOkUnless result SerializeFault.Write }
+{
+    let n = first_reference(attr_mode, text.as_bytes());
+    let (front, after) = text.split_at(n);
+    // No effect when it runs: the proof reads here that what is left is text.
+    let _tail = after.as_bytes();
+    write_verbatim(writer, front)?;
+    let mut chars = after.chars();
+    match chars.next() {
+        None => Ok(None),
+        Some(c) => {
+            write_char(writer, attr_mode, c)?;
+            Ok(Some(chars.as_str()))
+        }
+    }
+}
+
+// Writes a text without `&`, `<` and `>`.
+fn write_segment<Wr: Write>(
+    writer: &mut Wr,
+    attr_mode: bool,
+    text: &str,
+) -> Result<(), SerializeFault>
+    requires { HasNoMarkBefore text.now (length text.now) }
+    ensures text { OnOk result
+        (Appends (Wr.contents writer.old) (Wr.contents writer.new) (escape attr_mode text.now)) }
+    ensures fault { IsOkUnless result SerializeFault.Write }
+{
+    let mut rest = text;
+    while let Some(after) = write_front(writer, attr_mode, rest)? {
+        // No effect when it runs: the proof reads here that what is left is text.
+        let _bytes = after.as_bytes();
+        rest = after;
+    }
+    Ok(())
+}
+
+// Writes what comes before the first `&`, `<` or `>`, and that. What is left is answered.
+fn write_to_mark<'a, Wr: Write>(
+    writer: &mut Wr,
+    attr_mode: bool,
+    text: &'a str,
+) -> Result<Option<&'a str>, SerializeFault>
+    ensures text { IfOk result (λ left. MatchOption left
+        (Appends (Wr.contents writer.old) (Wr.contents writer.new) (escape attr_mode text.now))
+        (λ rest. (part : List ℕ) × Appends (Wr.contents writer.old) (Wr.contents writer.new) part
+        × (escape attr_mode text.now ≡ part ++ escape attr_mode rest.now) × (length rest.now < length text.now))) }
+    ensures fault { IsOkUnless result SerializeFault.Write }
+{
+    let n = first_mark(text.as_bytes());
+    let (front, after) = text.split_at(n);
+    // No effect when it runs: the proof reads here that both parts are text.
+    let _head = front.as_bytes();
+    let _tail = after.as_bytes();
+    write_segment(writer, attr_mode, front)?;
+    let mut chars = after.chars();
+    match chars.next() {
+        None => Ok(None),
+        Some(c) => {
+            write_char(writer, attr_mode, c)?;
+            Ok(Some(chars.as_str()))
+        }
+    }
+}
+
+/// Writes a text with its escapes. The fault is `Write`, where the writer fails.
+pub fn write_escaped<Wr: Write>(
+    writer: &mut Wr,
+    text: &str,
+    attr_mode: bool,
+) -> Result<(), SerializeFault>
+    ensures text { OnOk result
+        (Appends (Wr.contents writer.old) (Wr.contents writer.new) (escape attr_mode text.now)) }
+    ensures fault { IsOkUnless result SerializeFault.Write }
+{
+    let mut rest = text;
+    while let Some(after) = write_to_mark(writer, attr_mode, rest)? {
+        // No effect when it runs: the proof reads here that what is left is text.
+        let _bytes = after.as_bytes();
+        rest = after;
+    }
+    Ok(())
+}

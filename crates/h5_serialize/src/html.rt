@@ -1,0 +1,213 @@
+//! The serializer that writes HTML.
+ghost use Rattle.std.specs.Prelude.{◌≡◌, ◌++◌, OnOk, IfOk, IsOkUnless};
+ghost use Rattle.std.specs.Io.KnownBytes.{Appends};
+ghost use Rattle.h5_serialize.specs.Openers.{base_of};
+ghost use Rattle.h5_serialize.specs.Standing.{new_standing, parent_answer};
+
+use super::attributes::AttrRef;
+use super::escape::{write_escaped, write_verbatim};
+use super::fault::SerializeFault;
+use super::openers::{Opener, Openers};
+use super::options::{SerializeOpts, TraversalScope};
+use super::serializer::Serializer;
+use super::tags::{write_end_tag, write_start_tag};
+use h5_names::QualName;
+use std::alloc::Global;
+use std::io::Write;
+use std::marker::Model;
+
+/// Writes HTML (HTML standard, section 13.3, "Serializing HTML fragments").
+///
+/// A contract sees how it stands, that is its openers and options or that it is broken, and what its
+/// writer holds, where the writer tells that. Once a call has answered `Memory` or `Write` every call
+/// answers `Failed` and writes nothing. Only `start_elem` and `write_text` take memory, before their first
+/// byte.
+#[derive(Drop)]
+pub struct HtmlSerializer<Wr: Write + Drop> {
+    pub writer: Wr,
+    openers: Openers,
+    scripting_enabled: bool,
+    create_missing_parent: bool,
+    // Whether a call met want of memory or a failing writer.
+    failed: bool,
+}
+
+impl<Wr: Write + Drop> Model for HtmlSerializer<Wr> {
+    ghost use Rattle.h5_serialize.specs.Standing.{HtmlState, Standing, Broken, Working};
+    ghost use Rattle.std.specs.Prelude.{if◌then◌else◌};
+
+    ghost Value = { HtmlState };
+
+    ghost view = { λ serializer. record {
+      standing = if serializer.failed then Broken
+          else Working serializer.scripting_enabled serializer.create_missing_parent serializer.openers;
+      contents = Wr.contents serializer.writer;
+    } };
+}
+
+// The base entry of a scope.
+fn base_of(traversal_scope: TraversalScope) -> Opener
+    ensures { result ≡ base_of traversal_scope }
+{
+    match traversal_scope {
+        TraversalScope::ChildrenOnly(Some(name)) => Opener::Base(Some(name.local)),
+        TraversalScope::ChildrenOnly(None) | TraversalScope::IncludeNode => Opener::Base(None),
+    }
+}
+
+impl<Wr: Write + Drop> HtmlSerializer<Wr> {
+    /// A serializer that has written nothing and keeps the base entry of the options. The fault is
+    /// `Memory`, where memory is refused; the writer is dropped then.
+    pub fn new(
+        alloc: Global,
+        writer: Wr,
+        opts: SerializeOpts,
+    ) -> Result<HtmlSerializer<Wr>, SerializeFault>
+        ensures standing { IfOk result (λ serializer. serializer.standing ≡ new_standing opts) }
+        ensures contents { IfOk result (λ serializer. serializer.contents ≡ Wr.contents writer) }
+        ensures fault { IsOkUnless result SerializeFault.Memory }
+    {
+        Ok(HtmlSerializer {
+            writer,
+            openers: Openers::new(alloc, base_of(opts.traversal_scope))?,
+            scripting_enabled: opts.scripting_enabled,
+            create_missing_parent: opts.create_missing_parent,
+            failed: false,
+        })
+    }
+
+    // What it answers to a call that needs a parent.
+    fn parent_answer(&self) -> Result<(), SerializeFault>
+        ensures { result ≡ parent_answer self.now.standing }
+    {
+        if self.failed {
+            return Err(SerializeFault::Failed);
+        }
+        if self.openers.is_empty() && !self.create_missing_parent {
+            return Err(SerializeFault::NoParent);
+        }
+        Ok(())
+    }
+}
+
+// Writes a text with what comes before and after it.
+fn write_between<Wr: Write>(
+    writer: &mut Wr,
+    before: &str,
+    text: &str,
+    after: &str,
+) -> Result<(), SerializeFault>
+    ensures text { OnOk result (Appends (Wr.contents writer.old) (Wr.contents writer.new)
+        (before.now ++ text.now ++ after.now)) }
+    ensures fault { IsOkUnless result SerializeFault.Write }
+{
+    write_verbatim(writer, before)?;
+    write_verbatim(writer, text)?;
+    write_verbatim(writer, after)
+}
+
+impl<Wr: Write + Drop> Serializer for HtmlSerializer<Wr> {
+    ghost use Rattle.h5_serialize.specs.Standing.{Standing, answer_to, standing_after, text_written, IsBrokenBy};
+
+    ghost Meaning = { Standing };
+
+    ghost meaning = { λ serializer. serializer.standing };
+
+    ghost contents = { λ serializer. serializer.contents };
+
+    ghost answer = { answer_to };
+
+    ghost after = { standing_after };
+
+    ghost writes = { text_written };
+
+    ghost breaks = { IsBrokenBy };
+
+    /// Nothing is written where an opener is the start of a void element.
+    fn start_elem<T: AttrRef, I: Iterator<Item = T> + Drop>(
+        &mut self,
+        name: QualName,
+        attrs: I,
+    ) -> Result<(), SerializeFault> {
+        self.parent_answer()?;
+        self.failed = true;
+        self.openers.find_parent()?;
+        let is_hidden = self.openers.are_hidden();
+        self.openers.push(Opener::Start(name))?;
+        if is_hidden {
+            self.failed = false;
+            return Ok(());
+        }
+        let Some(name) = self.openers.last_start() else {
+            unreachable!()
+        };
+        write_start_tag(&mut self.writer, name, attrs)?;
+        self.failed = false;
+        Ok(())
+    }
+
+    /// Closes the innermost opener. Nothing is written where it or one around it is the start of a void
+    /// element.
+    fn end_elem(&mut self, name: QualName) -> Result<(), SerializeFault> {
+        self.parent_answer()?;
+        self.failed = true;
+        if !self.openers.are_hidden() {
+            write_end_tag(&mut self.writer, &name)?;
+        }
+        self.openers.pop();
+        self.failed = false;
+        Ok(())
+    }
+
+    /// A text right inside an element as `style` is written as it stands, any other with its escapes.
+    fn write_text(&mut self, text: &str) -> Result<(), SerializeFault> {
+        self.parent_answer()?;
+        self.failed = true;
+        self.openers.find_parent()?;
+        if self.openers.is_raw(self.scripting_enabled) {
+            write_verbatim(&mut self.writer, text)?;
+        } else {
+            write_escaped(&mut self.writer, text, false)?;
+        }
+        self.failed = false;
+        Ok(())
+    }
+
+    /// The text stands between `<!--` and `-->`.
+    fn write_comment(&mut self, text: &str) -> Result<(), SerializeFault> {
+        if self.failed {
+            return Err(SerializeFault::Failed);
+        }
+        self.failed = true;
+        write_between(&mut self.writer, "<!--", text, "-->")?;
+        self.failed = false;
+        Ok(())
+    }
+
+    /// The name stands between `<!DOCTYPE ` and `>`.
+    fn write_doctype(&mut self, name: &str) -> Result<(), SerializeFault> {
+        if self.failed {
+            return Err(SerializeFault::Failed);
+        }
+        self.failed = true;
+        write_between(&mut self.writer, "<!DOCTYPE ", name, ">")?;
+        self.failed = false;
+        Ok(())
+    }
+
+    /// The target, a space and the content stand between `<?` and `>`.
+    fn write_processing_instruction(
+        &mut self,
+        target: &str,
+        content: &str,
+    ) -> Result<(), SerializeFault> {
+        if self.failed {
+            return Err(SerializeFault::Failed);
+        }
+        self.failed = true;
+        write_between(&mut self.writer, "<?", target, " ")?;
+        write_between(&mut self.writer, "", content, ">")?;
+        self.failed = false;
+        Ok(())
+    }
+}

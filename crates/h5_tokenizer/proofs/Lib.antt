@@ -1,0 +1,13 @@
+pub mod FrontStays
+pub mod FrontTakes
+pub mod PlainLaws
+pub mod StepLaws
+pub mod FrontLeaves
+pub mod ReadLaws
+pub mod RunLaws
+pub mod MarkLaws
+pub mod OutcomeLaws
+pub mod TextLaws
+pub mod AttributeLaws
+pub mod TokenLaws
+pub mod ProperLaws

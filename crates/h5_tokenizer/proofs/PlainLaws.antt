@@ -1,0 +1,145 @@
+-- Text, bit by bit.
+use Rattle.std.proofs.Common.{◌≡◌, ℕ, zero, suc, ◌<◌, ◌≤◌, Bool, true, false, not, ◌||◌, List, [], ◌∷◌, ◌++◌, eqb, length, take, drop, get_or, refl, sym, ap, ◌∙◌, subst, arith, append_assoc, append-nil, length-drop, max, le_refl, ⊎_elim, IsUtf8}
+use Rattle.std.proofs.lemmas.Bool.{false≢true, cases_lt}
+use Rattle.std.proofs.lemmas.Bool.Decides.{nat_tests}
+use Rattle.std.specs.Char.{to_ascii_lowercase}
+use Rattle.std.specs.Str.{IsCharBoundary}
+use Rattle.std.proofs.lemmas.Str.{IsCharBoundary-before_ascii, IsCharBoundary-after_ascii, IsCharBoundary-end}
+use Rattle.h5_token.specs.declared.states.RawKind.TheVariants.{Rcdata, Rawtext, ScriptData}
+use Rattle.h5_scan.specs.Matching.{Open, No, Found, or_else, and_then}
+use Rattle.h5_tokenizer.specs.declared.front.Mode.{Mode}
+use Rattle.h5_tokenizer.specs.declared.front.Mode.TheVariants.{Data, RawData, Plaintext, Cdata}
+use Rattle.h5_tokenizer.specs.Front.{Opening, Gives, Bit, Place, in_data, raw_end_tag, opening, finished, other, front}
+use Rattle.h5_tokenizer.specs.Text.{escape}
+use Rattle.h5_tokenizer.specs.Read.{Bits, no_bit, more_bits}
+use Rattle.h5_tokenizer.specs.Steps.{is_plain, TakesBits, TakesMany}
+use Rattle.h5_tokenizer.proofs.FrontTakes.{front_eats, found_shorter}
+
+-- where nothing else stands, and where something stands for a piece of text
+pub front_no : (mode : Mode) (last : List ℕ) (foreign : Bool) (xs : List ℕ) → opening mode last foreign xs ≡ No → front mode last foreign xs ≡ other xs
+front_no mode last foreign xs h = ap (λ m. or_else (and_then m finished) (other xs)) h
+
+pub front_found : {o : Opening} {rest : List ℕ} (mode : Mode) (last : List ℕ) (foreign : Bool) (xs : List ℕ) → opening mode last foreign xs ≡ Found o rest → front mode last foreign xs ≡ or_else (finished o rest) (other xs)
+front_found mode last foreign xs h = ap (λ m. or_else (and_then m finished) (other xs)) h
+
+pub front_open : (mode : Mode) (last : List ℕ) (foreign : Bool) (xs : List ℕ) → opening mode last foreign xs ≡ Open → front mode last foreign xs ≡ Open
+front_open mode last foreign xs h = ap (λ m. or_else (and_then m finished) (other xs)) h
+
+-- a byte that begins nothing
+record Plain (x : ℕ) : Type 0 where
+  lt : eqb x 60 ≡ false
+  amp : eqb x 38 ≡ false
+  cr : eqb x 13 ≡ false
+  nul : eqb x 0 ≡ false
+  bracket : eqb x 93 ≡ false
+  low : eqb (to_ascii_lowercase x) 60 ≡ false
+
+plain_by : (a b c d e : Bool) → not (a || (b || (c || (d || e)))) ≡ true → (a ≡ false) × (b ≡ false) × (c ≡ false) × (d ≡ false) × (e ≡ false)
+plain_by true b c d e h = absurd (false≢true h)
+plain_by false true c d e h = absurd (false≢true h)
+plain_by false false true d e h = absurd (false≢true h)
+plain_by false false false true e h = absurd (false≢true h)
+plain_by false false false false true h = absurd (false≢true h)
+plain_by false false false false false h = (refl, refl, refl, refl, refl)
+
+lower_not : (x : ℕ) → eqb x 60 ≡ false → eqb (to_ascii_lowercase x) 60 ≡ false
+lower_not x h = grind (arith, nat_tests)
+
+plain : (x : ℕ) → is_plain x ≡ true → Plain x
+plain x h = let p = plain_by (eqb x 60) (eqb x 38) (eqb x 13) (eqb x 0) (eqb x 93) h in record { lt = p.0; amp = p.1; cr = p.2; nul = p.3; bracket = p.4; low = lower_not x p.0 }
+
+plain_raw : (last : List ℕ) (x : ℕ) (xs : List ℕ) → Plain x → raw_end_tag last (x ∷ xs) ≡ No
+plain_raw [] x xs p = refl
+plain_raw (c ∷ cs) x xs p = simp (p.lt)
+
+plain_data : (foreign : Bool) (x : ℕ) (xs : List ℕ) → Plain x → in_data foreign (x ∷ xs) ≡ No
+plain_data true x xs p = simp (p.lt, p.amp, p.cr, p.nul, p.low)
+plain_data false x xs p = simp (p.lt, p.amp, p.cr, p.nul, p.low)
+
+plain_opening : (mode : Mode) (last : List ℕ) (foreign : Bool) (x : ℕ) (xs : List ℕ) → Plain x → opening mode last foreign (x ∷ xs) ≡ No
+plain_opening Data last foreign x xs p = plain_data foreign x xs p
+plain_opening (RawData Rcdata) last foreign x xs p = simp (plain_raw last x xs p, p.amp, p.cr, p.nul)
+plain_opening (RawData Rawtext) last foreign x xs p = simp (plain_raw last x xs p, p.cr, p.nul)
+plain_opening (RawData ScriptData) last foreign x xs p = simp (plain_raw last x xs p, p.cr, p.nul)
+plain_opening Plaintext last foreign x xs p = simp (p.cr, p.nul)
+plain_opening Cdata last foreign x xs p = simp (p.bracket, p.cr, p.nul)
+
+pub plain_escape : (references : Bool) (x : ℕ) (xs : List ℕ) → is_plain x ≡ true → escape references (x ∷ xs) ≡ No
+plain_escape true x xs h = let p = plain x h in simp (p.amp, p.cr, p.nul)
+plain_escape false x xs h = let p = plain x h in simp (p.cr, p.nul)
+
+-- a byte where nothing else is
+one_bit : {p : Place} {foreign : Bool} (x : ℕ) (xs : List ℕ) → opening p.mode p.last foreign (x ∷ xs) ≡ No → Bits p foreign (x ∷ xs) (x ∷ []) xs
+one_bit {p} {foreign} x xs h = more_bits (x ∷ []) (front_no p.mode p.last foreign (x ∷ xs) h) no_bit
+
+join_behind : {p : Place} {xs t ys u zs : List ℕ} → Bits p true xs t ys → Bits p true ys u zs → Bits p true xs (t ++ u) zs
+join_behind no_bit second = second
+join_behind {u} (more_bits {text} bit h bits) second = rw append_assoc (more_bits bit h (join_behind bits second))
+
+pub bits_join : {p : Place} {foreign : Bool} {xs t ys u zs : List ℕ} → length ys < length xs → Bits p foreign xs t ys → Bits p true ys u zs → Bits p foreign xs (t ++ u) zs
+bits_join some no_bit second = absurd (omega arith)
+bits_join some (more_bits bit h bits) second = rw append_assoc (more_bits bit h (join_behind bits second))
+
+plain_bits : {p : Place} (foreign : Bool) (xs : List ℕ) (n : ℕ) → n ≤ length xs → ((k : ℕ) → k < n → is_plain (get_or xs k 0) ≡ true) → Bits p foreign xs (take n xs) (drop n xs)
+plain_bits foreign xs zero le h = no_bit
+plain_bits foreign [] (suc n) le h = absurd (omega arith)
+plain_bits {p} foreign (x ∷ xs) (suc n) le h =
+    more_bits (x ∷ []) (front_no p.mode p.last foreign (x ∷ xs) (plain_opening p.mode p.last foreign x xs (plain x (h 0 (omega arith)))))
+    (plain_bits true xs n (omega arith) (λ k lt. h (suc k) (omega arith)))
+
+some_plain : {p : Place} (foreign : Bool) (xs rest old new : List ℕ) (n : ℕ) → 0 < n → n ≤ length xs → ((k : ℕ) → k < n → is_plain (get_or xs k 0) ≡ true) → new ≡ old ++ take n xs → rest ≡ drop n xs → TakesBits p foreign xs rest old new
+some_plain foreign xs rest old new n some le h e f = record {
+  text = take n xs;
+  bits = rw f (plain_bits foreign xs n le h);
+  put = e;
+  shorter = omega (arith, ap length f, length-drop n xs);
+}
+
+pub takes_plain : {p : Place} (foreign : Bool) (xs rest old new : List ℕ) (c n : ℕ) → 0 < length xs → c ≤ length xs → ((k : ℕ) → k < c → is_plain (get_or xs k 0) ≡ true) → n ≡ max c 1 → opening p.mode p.last foreign xs ≡ No → new ≡ old ++ take n xs → rest ≡ drop n xs → TakesBits p foreign xs rest old new
+takes_plain foreign [] rest old new c n some le h m s e f = absurd (omega arith)
+takes_plain foreign (x ∷ xs) rest old new zero n some le h m s e f = record {
+  text = x ∷ [];
+  bits = rw (f, m) (one_bit x xs s);
+  put = rw m at e;
+  shorter = omega (arith, ap length f, length-drop n (x ∷ xs));
+}
+takes_plain foreign (x ∷ xs) rest old new (suc c) n some le h m s e f =
+    let same : n ≡ suc c = omega arith in
+    some_plain foreign (x ∷ xs) rest old new n (omega arith) (omega arith) (λ k lt. h k (omega arith)) e f
+
+ascii : (x : ℕ) → is_plain x ≡ false → x < 128
+ascii x h = ⊎_elim (λ lt. lt) (λ le. absurd (false≢true (sym h ∙ high x le))) (cases_lt x 128)
+  where
+    high : (y : ℕ) → 128 ≤ y → is_plain y ≡ true
+    high y le = grind (arith, nat_tests)
+
+cut_more : (xs : List ℕ) (n : ℕ) → n ≤ length xs → (n < length xs → is_plain (get_or xs n 0) ≡ false) → IsCharBoundary xs n
+cut_more xs n le stops = ⊎_elim (λ lt. IsCharBoundary-before_ascii xs n lt (ascii (get_or xs n 0) (stops lt))) (λ ge. let e : length xs ≡ n = omega arith in subst (IsCharBoundary xs) e (IsCharBoundary-end xs)) (cases_lt n (length xs))
+
+pub cut_plain : (xs : List ℕ) (c n : ℕ) → IsUtf8 xs → 0 < length xs → c ≤ length xs → (c < length xs → is_plain (get_or xs c 0) ≡ false) → n ≡ max c 1 → IsCharBoundary xs n
+cut_plain xs zero n utf8 some le stops e = rw e (IsCharBoundary-after_ascii xs 0 utf8 some (ascii (get_or xs 0 0) (stops some)))
+cut_plain xs (suc c) n utf8 some le stops e = let same : n ≡ suc c = omega arith in rw same (cut_more xs (suc c) le stops)
+
+pub takes_bit : {p : Place} (foreign : Bool) (xs rest bit old new : List ℕ) → opening p.mode p.last foreign xs ≡ Found (Gives bit) rest → new ≡ old ++ bit → TakesBits p foreign xs rest old new
+takes_bit {p} foreign xs rest bit old new h e =
+    let here = front_found p.mode p.last foreign xs h in
+    record {
+      text = bit ++ [];
+      bits = more_bits bit here no_bit;
+      put = rw append-nil e;
+      shorter = found_shorter (Bit bit) xs rest (front_eats p.mode p.last foreign) here;
+    }
+
+pub many_more : {p : Place} (xs ys zs old mid new : List ℕ) → TakesMany p xs ys old mid → TakesBits p true ys zs mid new → TakesMany p xs zs old new
+many_more xs ys zs old mid new first second =
+    let before = first.bits in
+    let behind = second.bits in
+    record {
+      text = first.text ++ second.text;
+      bits = join_behind before behind;
+      put = second.put ∙ ap (λ l. l ++ second.text) first.put ∙ append_assoc old first.text second.text;
+      no_longer = omega (arith, first.no_longer, second.shorter);
+    }
+
+pub many_none : {p : Place} (xs old : List ℕ) → TakesMany p xs xs old old
+many_none xs old = record { text = []; bits = no_bit; put = sym (append-nil old); no_longer = le_refl (length xs) }

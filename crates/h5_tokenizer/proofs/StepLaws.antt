@@ -1,0 +1,118 @@
+-- What the parts of a step do is a step of Read.
+use Rattle.std.proofs.Common.{◌≡◌, ◌⊎◌, ℕ, ◌<◌, ◌≤◌, Bool, false, List, [], ◌∷◌, ◌++◌, length, take, refl, sym, ap, ◌∙◌, subst, arith, Option, Some, None, Ok, Err, ⊎_elim, zero-le}
+use Rattle.std.specs.Borrow.{Bor}
+use Rattle.h5_token.specs.TokenText.{TokenText, Characters}
+use Rattle.h5_token.specs.Reply.{Reply, Continues, Refuses}
+use Rattle.h5_token.specs.declared.fault.BuildFault.{BuildFault}
+use Rattle.h5_token.specs.declared.fault.BuildFault.TheVariants as fault
+use Rattle.h5_scan.specs.Matching.{Match, Open, Found, or_else}
+use Rattle.h5_scan.specs.Ending.{walk, up_to_end}
+use Rattle.h5_tokenizer.specs.Tokens.{start_of, token_of}
+use Rattle.h5_tokenizer.specs.Front.{Opening, Begins, Turns, opening, Whole, Switch, Place, concluded, other, front}
+use Rattle.h5_tokenizer.specs.Read.{Bits, token_step, switch_step, text_step, next_place, in_mode}
+use Rattle.h5_tokenizer.specs.Steps.{TakesBits, TakesMany, IsPending, Pending, fresh, turn_of, HandedOn, HandsOn, Moves, MovesOn, MovesInto, Makes}
+use Rattle.h5_tokenizer.specs.declared.front.Mode.{Mode}
+use Rattle.h5_tokenizer.specs.declared.front.Construct.{Construct}
+use Rattle.h5_tokenizer.specs.declared.state.Stop.{Stop}
+use Rattle.h5_tokenizer.specs.declared.state.Search.{Search}
+use Rattle.h5_tokenizer.proofs.FrontTakes.{front_eats, found_shorter}
+use Rattle.h5_tokenizer.proofs.PlainLaws.{front_found, bits_join}
+
+module _ {M : Type 0} (reply_to : M → TokenText → Reply) (after : M → TokenText → M) (foreign : M → Bool) where
+  -- a token's step, wherever it leads
+  pub record Leads (p : Place) (m : M) (xs : List ℕ) (t : TokenText) (ys : List ℕ) : Type 0 where
+    pub moves : (q : Place) (n : M) → q ≡ next_place p t (reply_to m t) → n ≡ after m t → Moves reply_to after foreign p m xs (reply_to m t) q n ys
+
+  pub token_leads : (p : Place) (m : M) (xs ys : List ℕ) (t : TokenText) → p.at_start ≡ false → front p.mode p.last (foreign m) xs ≡ Found (Whole t) ys → Leads p m xs t ys
+  token_leads p m xs ys t started here = record {
+    moves = λ q n e f.
+        subst (λ (o : M). Moves reply_to after foreign p m xs (reply_to m t) q o ys) (sym f)
+        (subst (λ (r : Place). Moves reply_to after foreign p m xs (reply_to m t) r (after m t) ys) (sym e)
+        (record {
+          tokens = t ∷ [];
+          step = token_step t started here;
+          shorter = found_shorter (Whole t) xs ys (front_eats p.mode p.last (foreign m)) here;
+        }));
+  }
+
+  text_goes : (p : Place) (m : M) (xs ys text : List ℕ) → p.at_start ≡ false → length ys < length xs → Bits p (foreign m) xs text ys → Moves reply_to after foreign p m xs (reply_to m (Characters text)) p (after m (Characters text)) ys
+  text_goes p m xs ys text started less bits = record { tokens = Characters text ∷ []; step = text_step text started less bits; shorter = less }
+
+  text_leads_by : (p : Place) (m : M) (xs ys text : List ℕ) → p.at_start ≡ false → length ys < length xs → Bits p (foreign m) xs text ys → Leads p m xs (Characters text) ys
+  text_leads_by p m xs ys text started less bits = record {
+    moves = λ q n e f.
+        subst (λ (o : M). Moves reply_to after foreign p m xs (reply_to m (Characters text)) q o ys) (sym f)
+        (subst (λ (r : Place). Moves reply_to after foreign p m xs (reply_to m (Characters text)) r (after m (Characters text)) ys) (sym e)
+        (text_goes p m xs ys text started less bits));
+  }
+
+  pub text_leads : (p : Place) (m : M) (xs mid ys begun out : List ℕ) → p.at_start ≡ false → TakesBits p (foreign m) xs mid [] begun → TakesMany (record { at_start = false; mode = p.mode; last = p.last }) mid ys begun out → Leads p m xs (Characters out) ys
+  text_leads p m xs mid ys begun out started first behind =
+      let P : Bool → Type 0 = λ b. TakesMany (record { at_start = b; mode = p.mode; last = p.last }) mid ys begun out in
+      let second : TakesMany p mid ys begun out = subst P (sym started) behind in
+      let less : length ys < length xs = omega (arith, first.shorter, second.no_longer) in
+      let whole : out ≡ first.text ++ second.text = second.put ∙ ap (λ l. l ++ second.text) first.put in
+      subst (λ l. Leads p m xs (Characters l) ys) (sym whole)
+      (text_leads_by p m xs ys (first.text ++ second.text) started less (bits_join first.shorter first.bits second.bits))
+
+  -- a token that was taken
+  pub turned : {H : Type 0} (node : H → ℕ) (p : Place) (m : M) (xs : List ℕ) (ys : Bor (List ℕ)) (t : TokenText) (q : Place) (n : M) (stopped : Option (Stop H)) → Leads p m xs t ys.now → HandedOn reply_to after node p m t q n stopped → Makes reply_to after foreign node p m xs q n (Ok (turn_of stopped ys))
+  turned node p m xs ys t q n None leads h = record { reply = reply_to m t; goes_on = h.answer; moves = leads.moves q n h.place h.meaning }
+  turned node p m xs ys t q n (Some s) leads h =
+      subst (λ (r : Reply). Moves reply_to after foreign p m xs r q n ys.now) h.answer (leads.moves q n h.place h.meaning)
+
+  -- one that was refused
+  refused_by : (p : Place) (m : M) (xs ys : List ℕ) (t : TokenText) (n : M) (f : BuildFault) → Leads p m xs t ys → reply_to m t ≡ Refuses f → n ≡ after m t → MovesInto reply_to after foreign p m xs f n
+  refused_by p m xs ys t n f leads e g = record {
+    place = next_place p t (reply_to m t);
+    rest = ys;
+    moves = subst (λ (r : Reply). Moves reply_to after foreign p m xs r (next_place p t (reply_to m t)) n ys) e (leads.moves (next_place p t (reply_to m t)) n refl g);
+  }
+
+  pub refused : {H : Type 0} (node : H → ℕ) (p : Place) (m : M) (xs ys : List ℕ) (t : TokenText) (q : Place) (n : M) (f : BuildFault) → Leads p m xs t ys → HandsOn reply_to after {H = H} node p m t q n (Err f) → Makes reply_to after foreign {H = H} node p m xs q n (Err f)
+  refused node p m xs ys t q n fault.Memory leads h = tt
+  refused node p m xs ys t q n fault.AfterEnd leads h = refused_by p m xs ys t n fault.AfterEnd leads h.0 h.1
+  refused node p m xs ys t q n fault.NotInText leads h = refused_by p m xs ys t n fault.NotInText leads h.0 h.1
+  refused node p m xs ys t q n fault.Failed leads h = refused_by p m xs ys t n fault.Failed leads h.0 h.1
+
+  pub switch_moves : (p : Place) (m : M) (xs ys : List ℕ) (mode : Mode) → p.at_start ≡ false → opening p.mode p.last (foreign m) xs ≡ Found (Turns mode) ys → MovesOn reply_to after foreign p m xs (in_mode mode p) m ys
+  switch_moves p m xs ys mode started h =
+      let here = front_found p.mode p.last (foreign m) xs h in
+      record {
+        reply = Continues;
+        goes_on = refl;
+        moves = record { tokens = []; step = switch_step mode started here; shorter = found_shorter (Switch mode) xs ys (front_eats p.mode p.last (foreign m)) here };
+      }
+
+-- a construct whose end is there, and one whose end isn't
+pub front_concluded : (mode : Mode) (last : List ℕ) (foreign : Bool) (xs inner text rest : List ℕ) (construct : Construct) → opening mode last foreign xs ≡ Found (Begins construct) inner → up_to_end (start_of construct) inner ≡ Found text rest → front mode last foreign xs ≡ Found (Whole (token_of construct text)) rest
+front_concluded mode last foreign xs inner text rest construct h e = front_found mode last foreign xs h ∙ ap (λ m. or_else (concluded construct m) (other xs)) e
+
+pub front_unfinished : (mode : Mode) (last : List ℕ) (foreign : Bool) (xs inner : List ℕ) (construct : Construct) → opening mode last foreign xs ≡ Found (Begins construct) inner → up_to_end (start_of construct) inner ≡ Open → front mode last foreign xs ≡ Open
+front_unfinished mode last foreign xs inner construct h e = front_found mode last foreign xs h ∙ ap (λ m. or_else (concluded construct m) (other xs)) e
+
+-- a search goes on where the same construct was looked through
+pub record CanGoOn (construct : Construct) (inner : List ℕ) (search : Search) : Type 0 where
+  pub within : search.at ≤ length inner
+  pub walked : walk (start_of construct) (take search.at inner) ≡ Some search.place
+
+goes_on_by : (mode : Mode) (last xs inner : List ℕ) (construct : Construct) (search : Search) (foreign : Bool) → IsPending search mode last xs → search.foreign ≡ foreign → opening mode last foreign xs ≡ Found (Begins construct) inner → CanGoOn construct inner search
+goes_on_by mode last xs inner construct search foreign h e here =
+    let both : Found (Begins h.construct) h.inner ≡ Found (Begins construct) inner = sym h.begins ∙ ap (λ b. opening mode last b xs) e ∙ here in
+    let same : h.construct ≡ construct = cc in
+    let texts : h.inner ≡ inner = cc in
+    record {
+      within = omega (arith, h.within, ap length texts);
+      walked = rw (same, texts) at h.walked;
+    }
+
+pub can_go_on : (mode : Mode) (last xs inner : List ℕ) (construct : Construct) (old : Option Search) (search : Search) (foreign : Bool) → Pending old mode last xs → opening mode last foreign xs ≡ Found (Begins construct) inner → (search ≡ fresh foreign construct) ⊎ ((old ≡ Some search) × (search.foreign ≡ foreign)) → CanGoOn construct inner search
+can_go_on mode last xs inner construct old search foreign h here way =
+    ⊎_elim
+    (λ new. subst (CanGoOn construct inner) (sym new) (record { within = zero-le; walked = refl }))
+    (λ same. let P : Option Search → Type 0 = λ o. Pending o mode last xs in goes_on_by mode last xs inner construct search foreign (subst P same.0 h) same.1 here)
+    way
+
+-- the search, at the state and the sink's answer
+pub opening_at : (mode : Mode) (last name : List ℕ) (asked foreign : Bool) (xs : List ℕ) (m : Match Opening) → m ≡ opening mode name asked xs → name ≡ last → asked ≡ foreign → opening mode last foreign xs ≡ m
+opening_at mode last name asked foreign xs m h e f = sym (h ∙ (λ i. opening mode (e i) (f i) xs))

@@ -1,0 +1,78 @@
+-- The end of the input: what it makes of an undecided rest, and what is handed on then.
+use Rattle.std.specs.Prelude.{◌≡◌, ◌⊎◌, ℕ, Bool, true, false, List, [], ◌∷◌, Result, Ok, Err, Option, Some, None}
+use Rattle.h5_token.specs.TokenText.{TokenText, CommentIs, Characters, EndOfFile}
+use Rattle.h5_token.specs.Reply.{Reply, Continues, RunsScript, TurnsPlain, TurnsRaw, Indicates, Refuses}
+use Rattle.h5_token.specs.declared.fault.BuildFault.{BuildFault}
+use Rattle.h5_token.specs.declared.fault.BuildFault.TheVariants as fault
+use Rattle.h5_scan.specs.Matching.{Match, Open, No, Found}
+use Rattle.h5_tokenizer.specs.Text.{text_of}
+use Rattle.h5_tokenizer.specs.Front.{Opening, Begins, Gives, Null, Turns, opening}
+use Rattle.h5_tokenizer.specs.ReaderText.{ReaderText}
+use Rattle.h5_tokenizer.specs.declared.front.Mode.{Mode}
+use Rattle.h5_tokenizer.specs.declared.front.Construct.{Construct}
+use Rattle.h5_tokenizer.specs.declared.front.Construct.TheVariants.{Comment, Doctype, StartTag, EndTag, RawEndTag}
+use Rattle.h5_tokenizer.specs.declared.stage.Stage.TheVariants.{Ended, Failed}
+
+-- a text is handed on unless it is empty
+abbrev pub text_token : List ℕ → Option TokenText
+text_token [] = None
+text_token (x ∷ xs) = Some (Characters (x ∷ xs))
+
+-- an unfinished comment is given, an unfinished tag or doctype is dropped
+abbrev pub unfinished : Construct → List ℕ → Option TokenText
+unfinished Comment inner = Some (CommentIs (text_of false inner))
+unfinished Doctype inner = None
+unfinished StartTag inner = None
+unfinished EndTag inner = None
+unfinished RawEndTag inner = None
+
+-- any other undecided front is text
+abbrev pub settled : List ℕ → Match Opening → Option TokenText
+settled xs Open = text_token (text_of false xs)
+settled xs No = text_token (text_of false xs)
+settled xs (Found (Begins construct) inner) = unfinished construct inner
+settled xs (Found (Gives text) rest) = text_token (text_of false xs)
+settled xs (Found Null rest) = text_token (text_of false xs)
+settled xs (Found (Turns mode) rest) = text_token (text_of false xs)
+
+abbrev pub settle : Mode → List ℕ → Bool → List ℕ → Option TokenText
+settle mode last foreign xs = settled xs (opening mode last foreign xs)
+
+abbrev pub refuses : Reply → Bool
+refuses Continues = false
+refuses (RunsScript node) = false
+refuses TurnsPlain = false
+refuses (TurnsRaw kind) = false
+refuses (Indicates encoding) = false
+refuses (Refuses fault) = true
+
+module _ {M : Type 0} (reply_to : M → TokenText → Reply) (after : M → TokenText → M) (ended : M → M) where
+  -- a token was taken, whatever else was answered, or refused
+  abbrev pub Takes : M → TokenText → M → Result (Unit {0}) BuildFault → Type 0
+  Takes m t n (Ok done) = (refuses (reply_to m t) ≡ false) × (n ≡ after m t)
+  Takes m t n (Err fault.Memory) = Unit {0}
+  Takes m t n (Err fault.AfterEnd) = (reply_to m t ≡ Refuses fault.AfterEnd) × (n ≡ after m t)
+  Takes m t n (Err fault.NotInText) = (reply_to m t ≡ Refuses fault.NotInText) × (n ≡ after m t)
+  Takes m t n (Err fault.Failed) = (reply_to m t ≡ Refuses fault.Failed) × (n ≡ after m t)
+
+  -- the end of the file was handed on, and then the sink was told of the end
+  abbrev pub Finishes : M → M → Result (Unit {0}) BuildFault → Type 0
+  Finishes m n (Ok done) = (refuses (reply_to m EndOfFile) ≡ false) × (n ≡ ended (after m EndOfFile))
+  Finishes m n (Err fault.Memory) = Unit {0}
+  Finishes m n (Err fault.AfterEnd) = (reply_to m EndOfFile ≡ Refuses fault.AfterEnd) × (n ≡ after m EndOfFile)
+  Finishes m n (Err fault.NotInText) = (reply_to m EndOfFile ≡ Refuses fault.NotInText) × (n ≡ after m EndOfFile)
+  Finishes m n (Err fault.Failed) = (reply_to m EndOfFile ≡ Refuses fault.Failed) × (n ≡ after m EndOfFile)
+
+  -- first the token of the undecided rest, if that makes one; where the sink refuses it nothing follows
+  abbrev pub FinishesBehind : M → TokenText → M → Result (Unit {0}) BuildFault → Type 0
+  FinishesBehind m t n (Ok done) = (refuses (reply_to m t) ≡ false) × Finishes (after m t) n (Ok done)
+  FinishesBehind m t n (Err f) = Takes m t n (Err f) ⊎ ((refuses (reply_to m t) ≡ false) × Finishes (after m t) n (Err f))
+
+  abbrev pub Closes : M → Option TokenText → M → Result (Unit {0}) BuildFault → Type 0
+  Closes m None n result = Finishes m n result
+  Closes m (Some t) n result = FinishesBehind m t n result
+
+-- whether the reader has ended, or failed
+abbrev pub ClosedAs : ReaderText → Result (Unit {0}) BuildFault → Type 0
+ClosedAs new (Ok done) = new.stage ≡ Ended
+ClosedAs new (Err f) = new.stage ≡ Failed

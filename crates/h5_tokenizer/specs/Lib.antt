@@ -1,0 +1,17 @@
+pub mod Text
+pub mod Attributes
+pub mod Doctypes
+pub mod Tokens
+pub mod Front
+pub mod Openings
+pub mod Read
+pub mod Steps
+pub mod ReaderText
+pub mod Outcome
+pub mod End
+pub mod Options
+pub mod Writing
+pub mod Quoting
+pub mod Logged
+pub mod Proper
+pub mod Lines

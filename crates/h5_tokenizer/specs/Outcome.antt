@@ -1,0 +1,53 @@
+-- What the reader's calls answer, and what it is then.
+use Rattle.std.specs.Prelude.{◌≡◌, ℕ, Bool, true, List, [], length, ◌<◌, Result, Ok, Err, string_bytes}
+use Rattle.h5_token.specs.TokenText.{TokenText}
+use Rattle.h5_token.specs.Reply.{Reply, RunsScript, Indicates, Refuses}
+use Rattle.h5_token.specs.declared.fault.BuildFault.{BuildFault}
+use Rattle.h5_token.specs.declared.fault.BuildFault.TheVariants as fault
+use Rattle.h5_tokenizer.specs.Front.{Place}
+use Rattle.h5_tokenizer.specs.Read.{Reads, goes_on, IsUndecided}
+use Rattle.h5_tokenizer.specs.ReaderText.{ReaderText}
+use Rattle.h5_tokenizer.specs.declared.stage.Stage.TheVariants.{Reading, Failed}
+use Rattle.h5_tokenizer.specs.declared.state.Stop.{Stop}
+use Rattle.h5_tokenizer.specs.declared.state.Stop.TheVariants as stop
+use Rattle.h5_tokenizer.specs.declared.result.TokenizerResult.{TokenizerResult}
+use Rattle.h5_tokenizer.specs.declared.result.TokenizerResult.TheVariants as result
+
+-- what stops the reader, as `feed` answers it
+abbrev pub result_of : {H : Type 0} → Stop H → TokenizerResult H
+result_of (stop.Script handle) = result.Script handle
+result_of (stop.EncodingIndicator encoding) = result.EncodingIndicator encoding
+
+module _ {M : Type 0} (reply_to : M → TokenText → Reply) (after : M → TokenText → M) (foreign : M → Bool) where
+  -- all is handed on but an undecided rest
+  pub record ReadsAll (p : Place) (m : M) (xs : List ℕ) (new : ReaderText) (n : M) (queue : List ℕ) : Type 0 where
+    pub reply : Reply
+    pub goes_on : goes_on reply ≡ true
+    pub reads : Reads reply_to after foreign p m xs reply new.place n new.held
+    pub empty : queue ≡ []
+    pub undecided : IsUndecided new.place (foreign n) new.held
+    pub stage : new.stage ≡ Reading
+
+  -- reading stopped at a token that was answered so, and the rest is in the queue
+  pub record StopsAt (p : Place) (m : M) (xs : List ℕ) (reply : Reply) (new : ReaderText) (n : M) (queue : List ℕ) : Type 0 where
+    pub reads : Reads reply_to after foreign p m xs reply new.place n queue
+    pub nothing_held : new.held ≡ []
+    pub shorter : length queue < length xs
+    pub stage : new.stage ≡ Reading
+
+  -- the sink refused the last token that was handed on
+  pub record RefusedAt (p : Place) (m : M) (xs : List ℕ) (fault : BuildFault) (new : ReaderText) (n : M) : Type 0 where
+    pub place : Place
+    pub rest : List ℕ
+    pub reads : Reads reply_to after foreign p m xs (Refuses fault) place n rest
+    pub stage : new.stage ≡ Failed
+
+  -- what `feed` did, by its answer
+  abbrev pub Feeds : {H : Type 0} → (H → ℕ) → Place → M → List ℕ → ReaderText → M → List ℕ → Result (TokenizerResult H) BuildFault → Type 0
+  Feeds node p m xs new n queue (Ok result.Done) = ReadsAll p m xs new n queue
+  Feeds node p m xs new n queue (Ok (result.Script handle)) = StopsAt p m xs (RunsScript (node handle)) new n queue
+  Feeds node p m xs new n queue (Ok (result.EncodingIndicator encoding)) = StopsAt p m xs (Indicates (string_bytes encoding)) new n queue
+  Feeds node p m xs new n queue (Err fault.Memory) = new.stage ≡ Failed
+  Feeds node p m xs new n queue (Err fault.AfterEnd) = RefusedAt p m xs fault.AfterEnd new n
+  Feeds node p m xs new n queue (Err fault.NotInText) = RefusedAt p m xs fault.NotInText new n
+  Feeds node p m xs new n queue (Err fault.Failed) = RefusedAt p m xs fault.Failed new n

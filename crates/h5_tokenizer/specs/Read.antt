@@ -1,0 +1,90 @@
+-- What the reader hands on, and where it stops (HTML standard, section 13.2.5).
+use Rattle.std.specs.Prelude.{◌≡◌, ℕ, Bool, true, false, List, [], ◌∷◌, ◌++◌, length, ◌<◌, ◌≤◌}
+use Rattle.h5_token.specs.TokenText.{TokenText, DoctypeIs, TagIs, CommentIs, Characters, NullCharacter, EndOfFile, ParseErrorIs}
+use Rattle.h5_token.specs.Reply.{Reply, Continues, RunsScript, TurnsPlain, TurnsRaw, Indicates, Refuses}
+use Rattle.h5_token.specs.declared.tag.TagKind.{TagKind}
+use Rattle.h5_token.specs.declared.tag.TagKind.TheVariants.{StartTag, EndTag}
+use Rattle.h5_scan.specs.Matching.{Open, No, Found}
+use Rattle.h5_tokenizer.specs.Front.{Bit, Whole, Switch, Place, front, mark}
+use Rattle.h5_tokenizer.specs.declared.front.Mode.{Mode}
+use Rattle.h5_tokenizer.specs.declared.front.Mode.TheVariants.{Data, RawData, Plaintext}
+
+-- whether reading goes on after an answer
+abbrev pub goes_on : Reply → Bool
+goes_on Continues = true
+goes_on (RunsScript node) = false
+goes_on TurnsPlain = true
+goes_on (TurnsRaw kind) = true
+goes_on (Indicates encoding) = false
+goes_on (Refuses fault) = false
+
+-- the state that an answer to a start tag chooses
+abbrev pub chosen_mode : Reply → Mode
+chosen_mode Continues = Data
+chosen_mode (RunsScript node) = Data
+chosen_mode TurnsPlain = Plaintext
+chosen_mode (TurnsRaw kind) = RawData kind
+chosen_mode (Indicates encoding) = Data
+chosen_mode (Refuses fault) = Data
+
+abbrev pub after_tag : Place → TagKind → List ℕ → Reply → Place
+after_tag p StartTag name reply = record { at_start = p.at_start; mode = chosen_mode reply; last = name }
+after_tag p EndTag name reply = record { at_start = p.at_start; mode = Data; last = p.last }
+
+-- the place behind a token that was answered so
+abbrev pub next_place : Place → TokenText → Reply → Place
+next_place p (DoctypeIs doctype) reply = p
+next_place p (TagIs tag) reply = after_tag p tag.kind tag.name reply
+next_place p (CommentIs text) reply = p
+next_place p (Characters text) reply = p
+next_place p NullCharacter reply = p
+next_place p EndOfFile reply = p
+next_place p (ParseErrorIs message) reply = p
+
+abbrev pub in_mode : Mode → Place → Place
+in_mode mode p = record { at_start = p.at_start; mode = mode; last = p.last }
+
+abbrev pub started : Place → Place
+started p = record { at_start = false; mode = p.mode; last = p.last }
+
+-- The front of the input is this text, bit by bit. Behind its first bit no part of it may begin a CDATA part.
+pub data Bits : Place → Bool → List ℕ → List ℕ → List ℕ → Type 0 where
+  no_bit : {p : Place} {foreign : Bool} {xs : List ℕ} → Bits p foreign xs [] xs
+  more_bits : {p : Place} {foreign : Bool} {xs rest text ys : List ℕ} (bit : List ℕ)
+      → front p.mode p.last foreign xs ≡ Found (Bit bit) rest
+      → Bits p true rest text ys → Bits p foreign xs (bit ++ text) ys
+
+-- whether a step can't be taken that is right whatever input follows
+abbrev pub IsUndecided : Place → Bool → List ℕ → Type 0
+IsUndecided p foreign xs = (p.at_start ≡ true → mark xs ≡ Open) × (p.at_start ≡ false → front p.mode p.last foreign xs ≡ Open)
+
+module _ {M : Type 0} (reply_to : M → TokenText → Reply) (after : M → TokenText → M) (foreign : M → Bool) where
+  -- One step: from a place, a meaning and an input, these tokens are handed on, the last is answered so, and
+  -- this is left.
+  pub data Step : Place → M → List ℕ → List TokenText → Reply → Place → M → List ℕ → Type 0 where
+    -- a byte order mark, and where there is none
+    marked : {p : Place} {m : M} {xs rest : List ℕ}
+        → p.at_start ≡ true → mark xs ≡ Found tt rest → Step p m xs [] Continues (started p) m rest
+    unmarked : {p : Place} {m : M} {xs : List ℕ}
+        → p.at_start ≡ true → mark xs ≡ No → Step p m xs [] Continues (started p) m xs
+    token_step : {p : Place} {m : M} {xs rest : List ℕ} (token : TokenText)
+        → p.at_start ≡ false → front p.mode p.last (foreign m) xs ≡ Found (Whole token) rest
+        → Step p m xs (token ∷ []) (reply_to m token) (next_place p token (reply_to m token)) (after m token) rest
+    switch_step : {p : Place} {m : M} {xs rest : List ℕ} (mode : Mode)
+        → p.at_start ≡ false → front p.mode p.last (foreign m) xs ≡ Found (Switch mode) rest
+        → Step p m xs [] Continues (in_mode mode p) m rest
+    text_step : {p : Place} {m : M} {xs ys : List ℕ} (text : List ℕ)
+        → p.at_start ≡ false → length ys < length xs → Bits p (foreign m) xs text ys
+        → Step p m xs (Characters text ∷ []) (reply_to m (Characters text)) p (after m (Characters text)) ys
+
+  -- Steps, one after another, each after an answer after which reading goes on.
+  pub data Read : Place → M → List ℕ → List TokenText → Reply → Place → M → List ℕ → Type 0 where
+    nothing_read : {p : Place} {m : M} {xs : List ℕ} → Read p m xs [] Continues p m xs
+    read_on : {p q r : Place} {m n o : M} {xs ys zs : List ℕ} {ts us : List TokenText} {reply next : Reply}
+        → Read p m xs ts reply q n ys → goes_on reply ≡ true → Step q n ys us next r o zs → Read p m xs (ts ++ us) next r o zs
+
+  -- some tokens were handed on, up to an answer
+  pub record Reads (p : Place) (m : M) (xs : List ℕ) (reply : Reply) (q : Place) (n : M) (ys : List ℕ) : Type 0 where
+    pub tokens : List TokenText
+    pub read : Read p m xs tokens reply q n ys
+    pub no_longer : length ys ≤ length xs

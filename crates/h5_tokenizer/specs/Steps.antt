@@ -1,0 +1,193 @@
+-- What one step of the reader did.
+use Rattle.std.specs.Prelude.{◌≡◌, ℕ, Bool, true, false, List, ◌++◌, length, ◌<◌, ◌≤◌, ◌==◌, ◌||◌, ◌⊎◌, not, take, Result, Ok, Err, Option, Some, None, string_bytes}
+use Rattle.std.specs.Borrow.{Bor}
+use Rattle.h5_token.specs.TokenText.{TokenText}
+use Rattle.h5_token.specs.Reply.{Reply, RunsScript, Indicates, Refuses, reply}
+use Rattle.h5_token.specs.declared.fault.BuildFault.{BuildFault}
+use Rattle.h5_token.specs.declared.fault.BuildFault.TheVariants as fault
+use Rattle.h5_token.specs.declared.sink.TokenSinkResult.{TokenSinkResult}
+use Rattle.h5_scan.specs.Matching.{Open, No, Found}
+use Rattle.h5_scan.specs.Ending.{walk}
+use Rattle.h5_tokenizer.specs.Front.{Begins, opening, Place, front, mark}
+use Rattle.h5_tokenizer.specs.Tokens.{start_of}
+use Rattle.h5_tokenizer.specs.Read.{Bits, Step, Reads, goes_on, next_place, started, IsUndecided}
+use Rattle.h5_tokenizer.specs.declared.front.Mode.{Mode}
+use Rattle.h5_tokenizer.specs.declared.front.Construct.{Construct}
+use Rattle.h5_tokenizer.specs.declared.state.State.{State}
+use Rattle.h5_tokenizer.specs.declared.state.Search.{Search}
+use Rattle.h5_tokenizer.specs.declared.state.Stop.{Stop}
+use Rattle.h5_tokenizer.specs.declared.state.Stop.TheVariants as stop
+use Rattle.h5_tokenizer.specs.declared.state.Halt.{Halt}
+use Rattle.h5_tokenizer.specs.declared.state.Halt.TheVariants as halt
+use Rattle.h5_tokenizer.specs.declared.state.Turn.{Turn}
+use Rattle.h5_tokenizer.specs.declared.state.Turn.TheVariants.{Waits, Goes, Stops}
+
+abbrev pub place_of : State → Place
+place_of state = record { at_start = state.at_start; mode = state.mode; last = string_bytes state.last }
+
+-- a byte that begins nothing but text, in every state
+abbrev pub is_plain : ℕ → Bool
+is_plain x = not (x == 60 || (x == 38 || (x == 13 || (x == 0 || x == 93))))
+
+-- From xs on, up to ys, there is text, which was put behind what had been there.
+pub record TakesBits (p : Place) (foreign : Bool) (xs ys old new : List ℕ) : Type 0 where
+  pub text : List ℕ
+  pub bits : Bits p foreign xs text ys
+  pub put : new ≡ old ++ text
+  pub shorter : length ys < length xs
+
+abbrev pub TakesSome : Place → Bool → List ℕ → Option (List ℕ) → List ℕ → List ℕ → Type 0
+TakesSome p foreign xs None old new = new ≡ old
+TakesSome p foreign xs (Some ys) old new = TakesBits p foreign xs ys old new
+
+-- some text, or none
+pub record TakesMany (p : Place) (xs ys old new : List ℕ) : Type 0 where
+  pub text : List ℕ
+  pub bits : Bits p true xs text ys
+  pub put : new ≡ old ++ text
+  pub no_longer : length ys ≤ length xs
+
+-- at the front a construct begins, and its end isn't in the bytes behind its opening that were looked at
+pub record IsPending (search : Search) (mode : Mode) (last xs : List ℕ) : Type 0 where
+  pub construct : Construct
+  pub inner : List ℕ
+  pub begins : opening mode last search.foreign xs ≡ Found (Begins construct) inner
+  pub within : search.at ≤ length inner
+  pub walked : walk (start_of construct) (take search.at inner) ≡ Some search.place
+
+abbrev pub Pending : Option Search → Mode → List ℕ → List ℕ → Type 0
+Pending None mode last xs = Unit {0}
+Pending (Some search) mode last xs = IsPending search mode last xs
+
+-- a search that has looked at nothing
+abbrev pub fresh : Bool → Construct → Search
+fresh foreign construct = record { foreign = foreign; at = 0; place = start_of construct }
+
+-- Behind the byte order mark, if one may come and does. Nothing else is passed.
+abbrev pub IsBehindMark : Place → List ℕ → List ℕ → Type 0
+IsBehindMark p xs rest =
+    ((p.at_start ≡ false) × (rest ≡ xs))
+    ⊎ ((p.at_start ≡ true) × ((mark xs ≡ Found tt rest) ⊎ ((mark xs ≡ No) × (rest ≡ xs))))
+
+pub record Skipped (p : Place) (xs : List ℕ) (q : Place) (rest : List ℕ) (search : Option Search) : Type 0 where
+  pub place : q ≡ started p
+  pub behind : IsBehindMark p xs rest
+  pub pending : Pending search q.mode q.last rest
+
+abbrev pub Skips : Place → List ℕ → Place → Option (Bor (List ℕ) × Option Search) → Type 0
+Skips p xs q None = (q ≡ p) × (p.at_start ≡ true) × (mark xs ≡ Open)
+Skips p xs q (Some x) = Skipped p xs q x.0.now x.1
+
+-- what stops the reader, as an answer
+abbrev pub stops_as : {H : Type 0} → (H → ℕ) → Stop H → Reply
+stops_as node (stop.Script handle) = RunsScript (node handle)
+stops_as node (stop.EncodingIndicator encoding) = Indicates (string_bytes encoding)
+
+abbrev pub turn_of : {H : Type 0} → Option (Stop H) → Bor (List ℕ) → Turn H
+turn_of None rest = Goes rest
+turn_of (Some s) rest = Stops s rest
+
+abbrev pub AnswersAs : {H : Type 0} → (H → ℕ) → Option (Stop H) → Reply → Type 0
+AnswersAs node None reply = goes_on reply ≡ true
+AnswersAs node (Some s) reply = reply ≡ stops_as node s
+
+module _ {M : Type 0} (reply_to : M → TokenText → Reply) (after : M → TokenText → M) where
+  -- what the sink answered and is then, unless memory was refused
+  abbrev pub Asks : {H : Type 0} → (H → ℕ) → M → TokenText → M → Result (TokenSinkResult H) BuildFault → Type 0
+  Asks node m t n (Ok answer) = (reply_to m t ≡ reply node answer) × (n ≡ after m t)
+  Asks node m t n (Err fault.Memory) = Unit {0}
+  Asks node m t n (Err fault.AfterEnd) = (reply_to m t ≡ Refuses fault.AfterEnd) × (n ≡ after m t)
+  Asks node m t n (Err fault.NotInText) = (reply_to m t ≡ Refuses fault.NotInText) × (n ≡ after m t)
+  Asks node m t n (Err fault.Failed) = (reply_to m t ≡ Refuses fault.Failed) × (n ≡ after m t)
+
+  -- a token was handed on: where reading goes on from, whether it stops, and what the sink is then
+  pub record HandedOn {H : Type 0} (node : H → ℕ) (p : Place) (m : M) (t : TokenText) (q : Place) (n : M) (stopped : Option (Stop H)) : Type 0 where
+    pub place : q ≡ next_place p t (reply_to m t)
+    pub meaning : n ≡ after m t
+    pub answer : AnswersAs node stopped (reply_to m t)
+
+  abbrev pub HandsOn : {H : Type 0} → (H → ℕ) → Place → M → TokenText → Place → M → Result (Option (Stop H)) BuildFault → Type 0
+  HandsOn node p m t q n (Ok stopped) = HandedOn node p m t q n stopped
+  HandsOn node p m t q n (Err fault.Memory) = Unit {0}
+  HandsOn node p m t q n (Err fault.AfterEnd) = (reply_to m t ≡ Refuses fault.AfterEnd) × (n ≡ after m t)
+  HandsOn node p m t q n (Err fault.NotInText) = (reply_to m t ≡ Refuses fault.NotInText) × (n ≡ after m t)
+  HandsOn node p m t q n (Err fault.Failed) = (reply_to m t ≡ Refuses fault.Failed) × (n ≡ after m t)
+
+module _ {M : Type 0} (reply_to : M → TokenText → Reply) (after : M → TokenText → M) (foreign : M → Bool) where
+  -- one step was made, up to an answer
+  pub record Moves (p : Place) (m : M) (xs : List ℕ) (reply : Reply) (q : Place) (n : M) (ys : List ℕ) : Type 0 where
+    pub tokens : List TokenText
+    pub step : Step reply_to after foreign p m xs tokens reply q n ys
+    pub shorter : length ys < length xs
+
+  -- one step was made, after which reading goes on
+  pub record MovesOn (p : Place) (m : M) (xs : List ℕ) (q : Place) (n : M) (ys : List ℕ) : Type 0 where
+    pub reply : Reply
+    pub goes_on : goes_on reply ≡ true
+    pub moves : Moves p m xs reply q n ys
+
+  -- no step can be made, and nothing has changed
+  pub record StandsStill (p : Place) (m : M) (xs : List ℕ) (q : Place) (n : M) (search : Option Search) : Type 0 where
+    pub place : q ≡ p
+    pub meaning : n ≡ m
+    pub undecided : front p.mode p.last (foreign m) xs ≡ Open
+    pub pending : Pending search p.mode p.last xs
+
+  -- the sink refused the token of a step
+  pub record MovesInto (p : Place) (m : M) (xs : List ℕ) (fault : BuildFault) (n : M) : Type 0 where
+    pub place : Place
+    pub rest : List ℕ
+    pub moves : Moves p m xs (Refuses fault) place n rest
+
+  abbrev pub Makes : {H : Type 0} → (H → ℕ) → Place → M → List ℕ → Place → M → Result (Turn H) BuildFault → Type 0
+  Makes node p m xs q n (Ok (Waits search)) = StandsStill p m xs q n search
+  Makes node p m xs q n (Ok (Goes rest)) = MovesOn p m xs q n rest.now
+  Makes node p m xs q n (Ok (Stops s rest)) = Moves p m xs (stops_as node s) q n rest.now
+  Makes node p m xs q n (Err fault.Memory) = Unit {0}
+  Makes node p m xs q n (Err fault.AfterEnd) = MovesInto p m xs fault.AfterEnd n
+  Makes node p m xs q n (Err fault.NotInText) = MovesInto p m xs fault.NotInText n
+  Makes node p m xs q n (Err fault.Failed) = MovesInto p m xs fault.Failed n
+
+  -- Steps were made up to a front that what follows decides.
+  pub record ComesTo (p : Place) (m : M) (xs : List ℕ) (q : Place) (n : M) (ys : List ℕ) (search : Option Search) : Type 0 where
+    pub reply : Reply
+    pub goes_on : goes_on reply ≡ true
+    pub reads : Reads reply_to after foreign p m xs reply q n ys
+    pub undecided : front q.mode q.last (foreign n) ys ≡ Open
+    pub pending : Pending search q.mode q.last ys
+    pub started : q.at_start ≡ false
+
+  -- Steps were made up to an answer that stops the reader.
+  pub record HaltsAt (p : Place) (m : M) (xs : List ℕ) (reply : Reply) (q : Place) (n : M) (ys : List ℕ) : Type 0 where
+    pub reads : Reads reply_to after foreign p m xs reply q n ys
+    pub shorter : length ys < length xs
+
+  -- Steps were made up to a token that the sink refused.
+  pub record RunsInto (p : Place) (m : M) (xs : List ℕ) (fault : BuildFault) (n : M) : Type 0 where
+    pub place : Place
+    pub rest : List ℕ
+    pub reads : Reads reply_to after foreign p m xs (Refuses fault) place n rest
+
+  abbrev pub Runs : {H : Type 0} → (H → ℕ) → Place → M → List ℕ → Place → M → Result (Halt H) BuildFault → Type 0
+  Runs node p m xs q n (Ok (halt.Waits rest search)) = ComesTo p m xs q n rest.now search
+  Runs node p m xs q n (Ok (halt.Stops s rest)) = HaltsAt p m xs (stops_as node s) q n rest.now
+  Runs node p m xs q n (Err fault.Memory) = Unit {0}
+  Runs node p m xs q n (Err fault.AfterEnd) = RunsInto p m xs fault.AfterEnd n
+  Runs node p m xs q n (Err fault.NotInText) = RunsInto p m xs fault.NotInText n
+  Runs node p m xs q n (Err fault.Failed) = RunsInto p m xs fault.Failed n
+
+  -- The same, where a byte order mark may come first.
+  pub record WaitsAt (p : Place) (m : M) (xs : List ℕ) (q : Place) (n : M) (ys : List ℕ) (search : Option Search) : Type 0 where
+    pub reply : Reply
+    pub goes_on : goes_on reply ≡ true
+    pub reads : Reads reply_to after foreign p m xs reply q n ys
+    pub undecided : IsUndecided q (foreign n) ys
+    pub pending : Pending search q.mode q.last ys
+
+  abbrev pub RunsFrom : {H : Type 0} → (H → ℕ) → Place → M → List ℕ → Place → M → Result (Halt H) BuildFault → Type 0
+  RunsFrom node p m xs q n (Ok (halt.Waits rest search)) = WaitsAt p m xs q n rest.now search
+  RunsFrom node p m xs q n (Ok (halt.Stops s rest)) = HaltsAt p m xs (stops_as node s) q n rest.now
+  RunsFrom node p m xs q n (Err fault.Memory) = Unit {0}
+  RunsFrom node p m xs q n (Err fault.AfterEnd) = RunsInto p m xs fault.AfterEnd n
+  RunsFrom node p m xs q n (Err fault.NotInText) = RunsInto p m xs fault.NotInText n
+  RunsFrom node p m xs q n (Err fault.Failed) = RunsInto p m xs fault.Failed n

@@ -1,0 +1,95 @@
+//! The end of the input.
+ghost use Rattle.std.specs.Prelude.{◌≡◌, IfOk, Option, false};
+ghost use Rattle.std.specs.String.{string_bytes};
+ghost use Rattle.std.specs.Option.{option_map};
+ghost use Rattle.h5_token.specs.TokenText.{token_text};
+ghost use Rattle.h5_tokenizer.specs.End.{settle, text_token, unfinished, Takes, Finishes, Closes};
+ghost use Rattle.h5_tokenizer.specs.Text.{text_of};
+
+use super::front::{Construct, Mode, Opening, find_opening};
+use super::run::line_after;
+use super::state::State;
+use super::steps::ask;
+use super::text::text_of;
+use h5_scan::Seen;
+use h5_token::{BuildFault, Token, TokenSink};
+use std::alloc::{AllocError, Global};
+
+fn text_token(alloc: Global, text: &str) -> Result<Option<Token>, AllocError>
+    ensures { IfOk result (λ token. option_map token_text token ≡ text_token (text_of false text.now)) }
+{
+    let text = text_of(alloc, false, text)?;
+    if text.as_str().is_empty() {
+        return Ok(None);
+    }
+    Ok(Some(Token::CharacterTokens(text)))
+}
+
+fn unfinished(alloc: Global, construct: Construct, inner: &str) -> Result<Option<Token>, AllocError>
+    ensures { IfOk result (λ token. option_map token_text token ≡ unfinished construct inner.now) }
+{
+    match construct {
+        Construct::Comment => Ok(Some(Token::CommentToken(text_of(alloc, false, inner)?))),
+        _ => Ok(None),
+    }
+}
+
+// The token that the end makes of an undecided rest, if it makes one.
+fn settle(
+    alloc: Global,
+    mode: Mode,
+    last: &str,
+    foreign: bool,
+    rest: &str,
+) -> Result<Option<Token>, AllocError>
+    ensures { IfOk result (λ token. option_map token_text token ≡ settle mode last.now foreign rest.now) }
+{
+    match find_opening(mode, last, foreign, rest) {
+        Seen::Open => text_token(alloc, rest),
+        Seen::No => text_token(alloc, rest),
+        Seen::Found(opening, inner) => match opening {
+            Opening::Begins(construct) => unfinished(alloc, construct, inner),
+            Opening::Gives(_) => text_token(alloc, rest),
+            Opening::Null => text_token(alloc, rest),
+            Opening::Turns(_) => text_token(alloc, rest),
+        },
+    }
+}
+
+fn offer<S: TokenSink>(sink: &mut S, token: Token, line: u64) -> Result<(), BuildFault>
+    ensures { Takes S.reply_to S.after S.ended (S.meaning sink.old) (token_text token) (S.meaning sink.new) result }
+{
+    ask(sink, token, line)?;
+    Ok(())
+}
+
+fn finish<S: TokenSink>(sink: &mut S, line: u64) -> Result<(), BuildFault>
+    ensures { Finishes S.reply_to S.after S.ended (S.meaning sink.old) (S.meaning sink.new) result }
+{
+    offer(sink, Token::EOFToken, line)?;
+    sink.end();
+    Ok(())
+}
+
+/// Hands on what the end makes of the undecided rest, and the end of the file, and tells the sink.
+pub fn close<S: TokenSink>(
+    sink: &mut S,
+    state: &State,
+    alloc: Global,
+    rest: &str,
+    line: u64,
+) -> Result<(), BuildFault>
+    ensures { Closes S.reply_to S.after S.ended (S.meaning sink.old)
+        (settle state.now.mode (string_bytes state.now.last) (S.is_foreign (S.meaning sink.old)) rest.now)
+        (S.meaning sink.new) result }
+{
+    let last_line = line_after(line, rest, rest.len());
+    let foreign = sink.adjusted_current_node_present_but_not_in_html_namespace();
+    match settle(alloc, state.mode, state.last.as_str(), foreign, rest)? {
+        None => finish(sink, last_line),
+        Some(token) => {
+            offer(sink, token, line)?;
+            finish(sink, last_line)
+        }
+    }
+}

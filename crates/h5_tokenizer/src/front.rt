@@ -1,0 +1,200 @@
+//! What stands at the front of the input, in each state.
+ghost use Rattle.std.specs.Prelude.{◌≡◌, Bool};
+ghost use Rattle.h5_scan.specs.Matching.{and_then, or_else, Found};
+ghost use Rattle.h5_scan.specs.Seen.{seen};
+ghost use Rattle.h5_tokenizer.specs.Front as f;
+ghost use Rattle.h5_tokenizer.specs.Openings.{opening_of};
+ghost use Rattle.h5_tokenizer.specs.Text as t;
+
+use super::text::{cleaned, escape, newline, reference};
+use h5_scan::{Seen, literal, name_is, peek_letter, word};
+use h5_token::states::RawKind;
+
+/// The states that are told apart between two tokens.
+#[derive(Clone, Copy, Debug, PartialEq, Eq)]
+pub enum Mode {
+    Data,
+    RawData(RawKind),
+    Plaintext,
+    /// Inside a CDATA part.
+    Cdata,
+}
+
+/// What goes up to a `>`.
+#[derive(Clone, Copy, Debug, PartialEq, Eq)]
+pub enum Construct {
+    Comment,
+    Doctype,
+    StartTag,
+    EndTag,
+    /// The end tag of a raw element.
+    RawEndTag,
+}
+
+/// How something other than plain text begins.
+#[derive(Drop)]
+pub enum Opening {
+    Begins(Construct),
+    /// This text stands for it.
+    Gives(&'static str),
+    Null,
+    Turns(Mode),
+}
+
+fn says<'a>(opening: Opening, found: Seen<'a, ()>) -> Seen<'a, Opening>
+    ensures { seen opening_of result
+        ≡ f.says (opening_of opening) (seen {B = Unit {0}} (λ _. tt) found.entry) }
+{
+    match found {
+        Seen::Open => Seen::Open,
+        Seen::No => Seen::No,
+        Seen::Found(_, rest) => Seen::Found(opening, rest),
+    }
+}
+
+fn stands_for<'a>(found: Seen<'a, &'static str>) -> Seen<'a, Opening>
+    ensures { seen opening_of result ≡ f.stands_for (seen (λ text. text.now) found.entry) }
+{
+    match found {
+        Seen::Open => Seen::Open,
+        Seen::No => Seen::No,
+        Seen::Found(text, rest) => Seen::Found(Opening::Gives(text), rest),
+    }
+}
+
+fn comment<'a>(text: &'a str) -> Seen<'a, Opening>
+    ensures { seen opening_of result ≡ f.comment text.now }
+{
+    says(Opening::Begins(Construct::Comment), literal(text, "<!--"))
+}
+
+fn doctype<'a>(text: &'a str) -> Seen<'a, Opening>
+    ensures { seen opening_of result ≡ f.doctype text.now }
+{
+    says(Opening::Begins(Construct::Doctype), word(text, "<!DOCTYPE"))
+}
+
+fn cdata<'a>(foreign: bool, text: &'a str) -> Seen<'a, Opening>
+    ensures { seen opening_of result ≡ f.cdata foreign text.now }
+{
+    if foreign {
+        says(Opening::Turns(Mode::Cdata), literal(text, "<![CDATA["))
+    } else {
+        Seen::No
+    }
+}
+
+fn end_tag<'a>(text: &'a str) -> Seen<'a, Opening>
+    ensures { seen opening_of result ≡ f.end_tag text.now }
+{
+    match literal(text, "</") {
+        Seen::Open => Seen::Open,
+        Seen::No => Seen::No,
+        Seen::Found(_, rest) => says(Opening::Begins(Construct::EndTag), peek_letter(rest)),
+    }
+}
+
+fn start_tag<'a>(text: &'a str) -> Seen<'a, Opening>
+    ensures { seen opening_of result ≡ f.start_tag text.now }
+{
+    match literal(text, "<") {
+        Seen::Open => Seen::Open,
+        Seen::No => Seen::No,
+        Seen::Found(_, rest) => says(Opening::Begins(Construct::StartTag), peek_letter(rest)),
+    }
+}
+
+fn data_text<'a>(text: &'a str) -> Seen<'a, Opening>
+    ensures { seen opening_of result
+        ≡ or_else (f.stands_for (t.reference text.now)) (or_else (f.stands_for (t.newline text.now)) (f.null text.now)) }
+{
+    match stands_for(reference(text)) {
+        Seen::No => match stands_for(newline(text)) {
+            Seen::No => says(Opening::Null, literal(text, "\0")),
+            found => found,
+        },
+        found => found,
+    }
+}
+
+fn tag_or_text<'a>(text: &'a str) -> Seen<'a, Opening>
+    ensures { seen opening_of result
+        ≡ or_else (f.end_tag text.now) (or_else (f.start_tag text.now)
+        (or_else (f.stands_for (t.reference text.now)) (or_else (f.stands_for (t.newline text.now)) (f.null text.now)))) }
+{
+    match end_tag(text) {
+        Seen::No => match start_tag(text) {
+            Seen::No => data_text(text),
+            found => found,
+        },
+        found => found,
+    }
+}
+
+fn in_data<'a>(foreign: bool, text: &'a str) -> Seen<'a, Opening>
+    ensures { seen opening_of result ≡ f.in_data foreign text.now }
+{
+    match comment(text) {
+        Seen::No => match doctype(text) {
+            Seen::No => match cdata(foreign, text) {
+                Seen::No => tag_or_text(text),
+                found => found,
+            },
+            found => found,
+        },
+        found => found,
+    }
+}
+
+fn raw_end_tag<'a>(last: &str, text: &'a str) -> Seen<'a, Opening>
+    ensures { seen opening_of result ≡ f.raw_end_tag last.now text.now }
+{
+    if last.is_empty() {
+        return Seen::No;
+    }
+    match literal(text, "</") {
+        Seen::Open => Seen::Open,
+        Seen::No => Seen::No,
+        Seen::Found(_, rest) => says(Opening::Begins(Construct::RawEndTag), name_is(rest, last)),
+    }
+}
+
+fn reads_references(kind: RawKind) -> bool
+    ensures { result ≡ f.reads_references kind }
+{
+    match kind {
+        RawKind::Rcdata => true,
+        RawKind::Rawtext => false,
+        RawKind::ScriptData => false,
+    }
+}
+
+fn in_raw<'a>(kind: RawKind, last: &str, text: &'a str) -> Seen<'a, Opening>
+    ensures { seen opening_of result ≡ f.in_raw kind last.now text.now }
+{
+    match raw_end_tag(last, text) {
+        Seen::No => stands_for(escape(reads_references(kind), text)),
+        found => found,
+    }
+}
+
+fn in_cdata<'a>(text: &'a str) -> Seen<'a, Opening>
+    ensures { seen opening_of result ≡ f.in_cdata text.now }
+{
+    match says(Opening::Turns(Mode::Data), literal(text, "]]>")) {
+        Seen::No => stands_for(cleaned(text)),
+        found => found,
+    }
+}
+
+/// What is more than a byte of plain text.
+pub fn find_opening<'a>(mode: Mode, last: &str, foreign: bool, text: &'a str) -> Seen<'a, Opening>
+    ensures { seen opening_of result ≡ f.opening mode last.now foreign text.now }
+{
+    match mode {
+        Mode::Data => in_data(foreign, text),
+        Mode::RawData(kind) => in_raw(kind, last, text),
+        Mode::Plaintext => stands_for(cleaned(text)),
+        Mode::Cdata => in_cdata(text),
+    }
+}

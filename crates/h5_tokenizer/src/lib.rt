@@ -1,0 +1,27 @@
+//! The plain reader: from text to tokens, for every taker of tokens.
+#![tactic(auto)]
+
+mod attributes;
+mod buffer;
+mod doctypes;
+mod ending;
+mod front;
+pub mod laws;
+mod options;
+mod plain;
+mod reader;
+mod result;
+mod run;
+mod stage;
+mod state;
+mod steps;
+#[cfg(test)]
+mod tests;
+mod text;
+mod tokenizer;
+mod tokens;
+
+pub use buffer::BufferQueue;
+pub use options::TokenizerOpts;
+pub use result::TokenizerResult;
+pub use tokenizer::Tokenizer;

@@ -1,0 +1,89 @@
+//! Text, up to what is more than that.
+ghost use Rattle.std.specs.Prelude.{◌≡◌, ℕ, Bool, true, false, IfOk, ◌<◌, ◌≤◌, length, slice_index};
+ghost use Rattle.std.specs.String.{string_bytes};
+ghost use Rattle.std.specs.Option.{option_copied};
+ghost use Rattle.h5_scan.specs.Matching as m;
+ghost use Rattle.h5_scan.specs.Seen.{seen};
+ghost use Rattle.h5_tokenizer.specs.Front.{Place, opening};
+ghost use Rattle.h5_tokenizer.specs.Openings.{opening_of};
+ghost use Rattle.h5_tokenizer.specs.Steps.{is_plain, place_of, TakesBits, TakesSome, TakesMany};
+
+use super::front::{Mode, Opening, find_opening};
+use h5_scan::Seen;
+use std::alloc::AllocError;
+
+fn is_plain(b: u8) -> bool
+    ensures { result ≡ is_plain b }
+{
+    !(b == b'<' || b == b'&' || b == b'\r' || b == 0 || b == b']')
+}
+
+/// How many bytes at the front are text in every state.
+pub fn plain_len(text: &str) -> usize
+    ensures within { result ≤ length text.now }
+    ensures plain { (k : ℕ) → k < result → is_plain (slice_index text.now k) ≡ true }
+    ensures stops { result < length text.now → is_plain (slice_index text.now result) ≡ false }
+{
+    let bytes = text.as_bytes();
+    for (i, b) in bytes.iter().enumerate() {
+        if !is_plain(*b) {
+            return i;
+        }
+    }
+    bytes.len()
+}
+
+/// Takes text where nothing else stands: all that is plain, or one byte that might have begun something.
+pub fn take_plain<'a>(text: &'a str, out: &mut String) -> Result<&'a str, AllocError>
+    requires { 0 < length text.now }
+    ensures { IfOk result (λ rest. (p : Place) (foreign : Bool) → opening p.mode p.last foreign text.now ≡ m.No
+        → TakesBits p foreign text.now rest.now (string_bytes out.old) (string_bytes out.new)) }
+{
+    let n = plain_len(text).max(1);
+    let (front, rest) = text.split_at(n);
+    out.push_str(front)?;
+    Ok(rest)
+}
+
+// Takes text where the search found nothing but text.
+fn take_bit<'a>(
+    found: Seen<'a, Opening>,
+    text: &'a str,
+    out: &mut String,
+) -> Result<Option<&'a str>, AllocError>
+    ensures { IfOk result (λ rest. (p : Place) (foreign : Bool) → opening p.mode p.last foreign text.now ≡ seen opening_of found.entry
+        → TakesSome p foreign text.now (option_copied rest) (string_bytes out.old) (string_bytes out.new)) }
+{
+    match found {
+        Seen::Found(Opening::Gives(bit), rest) => {
+            out.push_str(bit)?;
+            Ok(Some(rest))
+        }
+        Seen::No => {
+            if text.is_empty() {
+                return Ok(None);
+            }
+            Ok(Some(take_plain(text, out)?))
+        }
+        _ => Ok(None),
+    }
+}
+
+/// Takes all the text there is.
+pub fn take_texts<'a>(
+    mode: Mode,
+    last: &str,
+    text: &'a str,
+    out: &mut String,
+) -> Result<&'a str, AllocError>
+    ensures { IfOk result (λ rest. TakesMany (record { at_start = false; mode = mode; last = last.now }) text.now rest.now
+        (string_bytes out.old) (string_bytes out.new)) }
+{
+    let mut rest = text;
+    while let Some(after) = take_bit(find_opening(mode, last, true, rest), rest, out)? {
+        // That it is text holds for the loop's next turn.
+        let _bytes = after.as_bytes();
+        rest = after;
+    }
+    Ok(rest)
+}

@@ -1,0 +1,95 @@
+//! The reader, apart from what takes its tokens.
+ghost use Rattle.std.specs.Prelude.{◌≡◌, ◌++◌, [], true, false, length};
+ghost use Rattle.h5_tokenizer.specs.Outcome.{Feeds, result_of};
+
+use super::buffer::BufferQueue;
+use super::result::TokenizerResult;
+use super::run::run_from;
+use super::stage::Stage;
+use super::state::{Halt, Search, State, Stop};
+use h5_token::{BuildFault, TokenSink};
+use std::alloc::Global;
+use std::marker::Model;
+use std::mem;
+
+/// Where the reader is, what it keeps undecided, and whether it still reads.
+#[derive(Drop)]
+pub struct Reader {
+    pub state: State,
+    pub held: BufferQueue,
+    // How far the end of what stands at the front of it was looked for.
+    pub search: Option<Search>,
+    pub line: u64,
+    pub phase: Stage,
+}
+
+impl Model for Reader {
+    ghost use Rattle.std.specs.String.{string_bytes};
+    ghost use Rattle.h5_tokenizer.specs.ReaderText.{ReaderText};
+    ghost use Rattle.h5_tokenizer.specs.Steps.{place_of, Pending};
+
+    ghost Value = { ReaderText };
+
+    ghost view = { λ r. record { place = place_of r.state; held = r.held; stage = r.phase } };
+
+    ghost invariant = { λ r. Pending r.search r.state.mode (string_bytes r.state.last) r.held };
+}
+
+impl Reader {
+    pub fn stage(&self) -> Stage
+        ensures { result ≡ self.now.stage }
+    {
+        self.phase
+    }
+}
+
+fn result_of<H: Drop>(stop: Stop<H>) -> TokenizerResult<H>
+    ensures { result ≡ result_of stop }
+{
+    match stop {
+        Stop::Script(handle) => TokenizerResult::Script(handle),
+        Stop::EncodingIndicator(encoding) => TokenizerResult::EncodingIndicator(encoding),
+    }
+}
+
+/// Reads what is held and what waits in the queue.
+pub fn read<S: TokenSink>(
+    sink: &mut S,
+    reader: &mut Reader,
+    alloc: Global,
+    input: &mut BufferQueue,
+) -> Result<TokenizerResult<S::Handle>, BuildFault>
+    ensures { Feeds S.reply_to S.after S.is_foreign S.node reader.old.place (S.meaning sink.old) (reader.old.held ++ input.old)
+        reader.new (S.meaning sink.new) input.new result }
+{
+    // Until the call has gone well.
+    reader.phase = Stage::Failed;
+    let search = reader.search.take();
+    let mut buffer = mem::replace(&mut reader.held, BufferQueue::new(alloc));
+    buffer.append(input)?;
+    let text = buffer.as_str();
+    match run_from(
+        sink,
+        &mut reader.state,
+        &mut reader.line,
+        alloc,
+        text,
+        search,
+    )? {
+        Halt::Waits(rest, search) => {
+            let left = rest.as_bytes().len();
+            buffer.keep(left);
+            reader.held = buffer;
+            reader.search = search;
+            reader.phase = Stage::Reading;
+            Ok(TokenizerResult::Done)
+        }
+        Halt::Stops(stop, rest) => {
+            let left = rest.as_bytes().len();
+            buffer.keep(left);
+            *input = buffer;
+            reader.phase = Stage::Reading;
+            Ok(result_of(stop))
+        }
+    }
+}

@@ -1,0 +1,114 @@
+//! Steps, one after another.
+ghost use Rattle.std.specs.Prelude.{◌≡◌, ◌≤◌, ◌+◌, false, length, min, take};
+ghost use Rattle.std.specs.String.{string_bytes};
+ghost use Rattle.h5_tokenizer.specs.Lines.{newlines};
+ghost use Rattle.h5_tokenizer.specs.Steps.{place_of, Pending, Runs, RunsFrom, Skips};
+
+use super::state::{Halt, Search, State, Turn};
+use super::steps::step;
+use h5_scan::{Seen, literal};
+use h5_token::{BuildFault, TokenSink};
+use std::alloc::Global;
+
+// How many newlines these bytes are: CR LF is one.
+fn newlines(bytes: &[u8]) -> u64
+    ensures { result ≡ newlines false bytes.now }
+{
+    let mut count: u64 = 0;
+    let mut after_cr = false;
+    for b in bytes {
+        if *b == b'\r' || (*b == b'\n' && !after_cr) {
+            count += 1;
+        }
+        after_cr = *b == b'\r';
+    }
+    count
+}
+
+/// The line behind the first bytes, of a text that begins in this line.
+pub fn line_after(line: u64, text: &str, len: usize) -> u64
+    requires { len ≤ length text.now }
+    ensures { result ≡ min (line + newlines false (take len text.now)) u64.MAX }
+{
+    let (front, _) = text.as_bytes().split_at(len);
+    line.saturating_add(newlines(front))
+}
+
+// Steps up to an answer that stops the reader, or to a front that what follows decides.
+fn run<'a, S: TokenSink>(
+    sink: &mut S,
+    state: &mut State,
+    line: &mut u64,
+    alloc: Global,
+    text: &'a str,
+    search: Option<Search>,
+) -> Result<Halt<'a, S::Handle>, BuildFault>
+    requires started { state.old.at_start ≡ false }
+    requires pending { Pending search state.old.mode (string_bytes state.old.last) text.now }
+    ensures { Runs S.reply_to S.after S.is_foreign S.node (place_of state.old) (S.meaning sink.old) text.now
+        (place_of state.new) (S.meaning sink.new) result }
+{
+    let mut rest = text;
+    let mut search = search;
+    'steps: loop {
+        match step(sink, state, alloc, rest, search, *line)? {
+            Turn::Waits(search) => return Ok(Halt::Waits(rest, search)),
+            Turn::Stops(stop, after) => {
+                *line = line_after(*line, rest, rest.len() - after.len());
+                return Ok(Halt::Stops(stop, after));
+            }
+            Turn::Goes(after) => {
+                *line = line_after(*line, rest, rest.len() - after.len());
+                // That it is text holds for the loop's next turn.
+                let _bytes = after.as_bytes();
+                rest = after;
+                search = None;
+            }
+        }
+    }
+}
+
+// Passes the byte order mark, where one may come and does. Nothing, if what follows decides that.
+fn skip_mark<'a>(
+    state: &mut State,
+    text: &'a str,
+    search: Option<Search>,
+) -> Option<(&'a str, Option<Search>)>
+    requires { Pending search state.old.mode (string_bytes state.old.last) text.now }
+    ensures { Skips (place_of state.old) text.now (place_of state.new) result }
+{
+    if !state.at_start {
+        return Some((text, search));
+    }
+    match literal(text, "\u{feff}") {
+        Seen::Open => None,
+        Seen::No => {
+            state.at_start = false;
+            Some((text, None))
+        }
+        Seen::Found(_, rest) => {
+            state.at_start = false;
+            Some((rest, None))
+        }
+    }
+}
+
+/// Steps up to an answer that stops the reader, or to a front that what follows decides. The byte order
+/// mark is passed first.
+pub fn run_from<'a, S: TokenSink>(
+    sink: &mut S,
+    state: &mut State,
+    line: &mut u64,
+    alloc: Global,
+    text: &'a str,
+    search: Option<Search>,
+) -> Result<Halt<'a, S::Handle>, BuildFault>
+    requires { Pending search state.old.mode (string_bytes state.old.last) text.now }
+    ensures { RunsFrom S.reply_to S.after S.is_foreign S.node (place_of state.old) (S.meaning sink.old) text.now
+        (place_of state.new) (S.meaning sink.new) result }
+{
+    match skip_mark(state, text, search) {
+        None => Ok(Halt::Waits(text, None)),
+        Some((rest, search)) => run(sink, state, line, alloc, rest, search),
+    }
+}

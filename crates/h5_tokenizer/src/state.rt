@@ -1,0 +1,51 @@
+//! Where the reader is, and what a step comes to.
+ghost use Rattle.std.specs.Prelude.{◌≡◌};
+
+use super::front::Mode;
+use h5_scan::Inside;
+
+/// Where the reader is between two tokens.
+#[derive(Drop)]
+pub struct State {
+    /// Whether a byte order mark may still come.
+    pub at_start: bool,
+    pub mode: Mode,
+    /// The last start tag's name, or the empty text.
+    pub last: String,
+}
+
+/// How far the end of the construct at the front was looked for.
+#[derive(Clone, Copy)]
+pub struct Search {
+    /// What the sink said of CDATA parts when its opening was found.
+    pub foreign: bool,
+    /// How many bytes behind the opening were looked at.
+    pub at: usize,
+    /// Where in the construct the next byte stands.
+    pub place: Inside,
+}
+
+/// What makes `feed` return before the end of its input.
+#[derive(Drop)]
+pub enum Stop<H> {
+    Script(H),
+    EncodingIndicator(String),
+}
+
+/// What a step comes to.
+#[derive(Drop)]
+pub enum Turn<'a, H> {
+    /// What follows decides the front.
+    Waits(Option<Search>),
+    /// Reading goes on here.
+    Goes(&'a str),
+    Stops(Stop<H>, &'a str),
+}
+
+/// Where steps come to.
+#[derive(Drop)]
+pub enum Halt<'a, H> {
+    /// What follows decides the front.
+    Waits(&'a str, Option<Search>),
+    Stops(Stop<H>, &'a str),
+}

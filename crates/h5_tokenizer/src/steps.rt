@@ -1,0 +1,251 @@
+//! One step of the reader: the token at the front is handed on, or a part that is none is passed.
+ghost use Rattle.std.specs.Prelude.{◌≡◌, ℕ, false, [], length, ◌<◌};
+ghost use Rattle.std.specs.String.{string_bytes};
+ghost use Rattle.h5_scan.specs.Matching as m;
+ghost use Rattle.h5_token.specs.TokenText.{token_text};
+ghost use Rattle.h5_tokenizer.specs.Front as f;
+ghost use Rattle.h5_tokenizer.specs.Read.{chosen_mode};
+ghost use Rattle.h5_tokenizer.specs.Steps.{place_of, Asks, AnswersAs, HandsOn, Makes, Pending, TakesBits, turn_of};
+ghost use Rattle.h5_token.specs.Reply.{reply};
+
+use super::front::{Construct, Mode, Opening, find_opening};
+use super::plain::{take_plain, take_texts};
+use super::state::{Search, State, Stop, Turn};
+use super::tokens::make_token;
+use h5_scan::{Inside, Seen, Sought, seek_end};
+use h5_token::{BuildFault, Tag, TagKind, Token, TokenSink, TokenSinkResult};
+use std::alloc::Global;
+
+fn chosen_mode<H>(answer: &TokenSinkResult<H>) -> Mode
+    ensures { (node : H → ℕ) → result ≡ chosen_mode (reply node answer.now) }
+{
+    match answer {
+        TokenSinkResult::Plaintext => Mode::Plaintext,
+        TokenSinkResult::RawData(kind) => Mode::RawData(*kind),
+        _ => Mode::Data,
+    }
+}
+
+// Whether an answer stops the reader.
+fn stop_of<H: Drop>(answer: TokenSinkResult<H>) -> Option<Stop<H>>
+    ensures { (node : H → ℕ) → AnswersAs node result (reply node answer) }
+{
+    match answer {
+        TokenSinkResult::Script(handle) => Some(Stop::Script(handle)),
+        TokenSinkResult::EncodingIndicator(encoding) => Some(Stop::EncodingIndicator(encoding)),
+        _ => None,
+    }
+}
+
+pub fn ask<S: TokenSink>(
+    sink: &mut S,
+    token: Token,
+    line: u64,
+) -> Result<TokenSinkResult<S::Handle>, BuildFault>
+    ensures { Asks S.reply_to S.after S.node (S.meaning sink.old) (token_text token) (S.meaning sink.new) result }
+{
+    sink.process_token(token, line)
+}
+
+fn hand_on_tag<S: TokenSink>(
+    sink: &mut S,
+    state: &mut State,
+    tag: Tag,
+    line: u64,
+) -> Result<Option<Stop<S::Handle>>, BuildFault>
+    ensures { HandsOn S.reply_to S.after S.node (place_of state.old) (S.meaning sink.old) (token_text (Token.TagToken tag))
+        (place_of state.new) (S.meaning sink.new) result }
+{
+    match tag.kind {
+        TagKind::StartTag => {
+            state.last.clear();
+            state.last.push_str(tag.name.as_str())?;
+            let answer = ask(sink, Token::TagToken(tag), line)?;
+            state.mode = chosen_mode(&answer);
+            Ok(stop_of(answer))
+        }
+        TagKind::EndTag => {
+            let answer = ask(sink, Token::TagToken(tag), line)?;
+            state.mode = Mode::Data;
+            Ok(stop_of(answer))
+        }
+    }
+}
+
+// Hands a token on, and goes where it and the answer lead.
+fn hand_on<S: TokenSink>(
+    sink: &mut S,
+    state: &mut State,
+    token: Token,
+    line: u64,
+) -> Result<Option<Stop<S::Handle>>, BuildFault>
+    ensures { HandsOn S.reply_to S.after S.node (place_of state.old) (S.meaning sink.old) (token_text token)
+        (place_of state.new) (S.meaning sink.new) result }
+{
+    match token {
+        Token::TagToken(tag) => hand_on_tag(sink, state, tag, line),
+        token => {
+            let answer = ask(sink, token, line)?;
+            Ok(stop_of(answer))
+        }
+    }
+}
+
+fn turn<'a, H: Drop>(stopped: Option<Stop<H>>, rest: &'a str) -> Turn<'a, H>
+    ensures { result ≡ turn_of stopped rest.entry }
+{
+    match stopped {
+        Some(stop) => Turn::Stops(stop, rest),
+        None => Turn::Goes(rest),
+    }
+}
+
+ghost use Rattle.std.specs.Prelude.{◌≤◌, ◌⊎◌, Bool, List, Option, Some, None, take};
+ghost use Rattle.h5_scan.specs.Ending.{walk};
+ghost use Rattle.h5_tokenizer.specs.Tokens.{start_of};
+ghost use Rattle.h5_tokenizer.specs.Steps.{fresh};
+
+// A whole token stands at the front.
+fn token_step<'a, S: TokenSink>(
+    sink: &mut S,
+    state: &mut State,
+    rest: &'a str,
+    after: &'a str,
+    token: Token,
+    line: u64,
+) -> Result<Turn<'a, S::Handle>, BuildFault>
+    requires started { state.old.at_start ≡ false }
+    requires front { f.front state.old.mode (string_bytes state.old.last) (S.is_foreign (S.meaning sink.old)) rest.now
+        ≡ m.Found (f.Whole (token_text token)) after.now }
+    ensures { Makes S.reply_to S.after S.is_foreign S.node (place_of state.old) (S.meaning sink.old) rest.now
+        (place_of state.new) (S.meaning sink.new) result }
+{
+    let _rest = rest;
+    let stopped = hand_on(sink, state, token, line)?;
+    Ok(turn(stopped, after))
+}
+
+// A text has begun.
+fn text_step<'a, S: TokenSink>(
+    sink: &mut S,
+    state: &mut State,
+    rest: &'a str,
+    after: &'a str,
+    mut text: String,
+    line: u64,
+) -> Result<Turn<'a, S::Handle>, BuildFault>
+    requires started { state.old.at_start ≡ false }
+    requires begun { TakesBits (place_of state.old) (S.is_foreign (S.meaning sink.old)) rest.now after.now [] (string_bytes text) }
+    ensures { Makes S.reply_to S.after S.is_foreign S.node (place_of state.old) (S.meaning sink.old) rest.now
+        (place_of state.new) (S.meaning sink.new) result }
+{
+    let _rest = rest;
+    let end = take_texts(state.mode, state.last.as_str(), after, &mut text)?;
+    let stopped = hand_on(sink, state, Token::CharacterTokens(text), line)?;
+    Ok(turn(stopped, end))
+}
+
+// A construct has begun, and its end is looked for.
+fn construct_step<'a, S: TokenSink>(
+    sink: &mut S,
+    state: &mut State,
+    alloc: Global,
+    rest: &'a str,
+    inner: &'a str,
+    construct: Construct,
+    search: Search,
+    line: u64,
+) -> Result<Turn<'a, S::Handle>, BuildFault>
+    requires started { state.old.at_start ≡ false }
+    requires foreign { search.foreign ≡ S.is_foreign (S.meaning sink.old) }
+    requires begins { f.opening state.old.mode (string_bytes state.old.last) search.foreign rest.now
+        ≡ m.Found (f.Begins construct) inner.now }
+    requires within { search.at ≤ length inner.now }
+    requires walked { walk (start_of construct) (take search.at inner.now) ≡ Some search.place }
+    ensures { Makes S.reply_to S.after S.is_foreign S.node (place_of state.old) (S.meaning sink.old) rest.now
+        (place_of state.new) (S.meaning sink.new) result }
+{
+    let _rest = rest;
+    match seek_end(inner, search.at, search.place) {
+        Sought::Open(place) => Ok(Turn::Waits(Some(Search {
+            foreign: search.foreign,
+            at: inner.len(),
+            place,
+        }))),
+        Sought::End(text, after, place) => {
+            let token = make_token(alloc, construct, text, place)?;
+            token_step(sink, state, rest, after, token, line)
+        }
+    }
+}
+
+fn start_of(construct: Construct) -> Inside
+    ensures { result ≡ start_of construct }
+{
+    match construct {
+        Construct::Comment => Inside::Comment,
+        Construct::Doctype => Inside::Doctype,
+        Construct::StartTag => Inside::TagName,
+        Construct::EndTag => Inside::TagName,
+        Construct::RawEndTag => Inside::TagName,
+    }
+}
+
+// The search to go on with: the last one, where it was for the same front.
+fn resumed(search: Option<Search>, foreign: bool, construct: Construct) -> Search
+    ensures { (result ≡ fresh foreign construct) ⊎ ((search ≡ Some result) × (result.foreign ≡ foreign)) }
+{
+    if let Some(search) = search {
+        if search.foreign == foreign {
+            return search;
+        }
+    }
+    Search {
+        foreign,
+        at: 0,
+        place: start_of(construct),
+    }
+}
+
+/// One step, unless what follows decides the front.
+pub fn step<'a, S: TokenSink>(
+    sink: &mut S,
+    state: &mut State,
+    alloc: Global,
+    rest: &'a str,
+    search: Option<Search>,
+    line: u64,
+) -> Result<Turn<'a, S::Handle>, BuildFault>
+    requires started { state.old.at_start ≡ false }
+    requires pending { Pending search state.old.mode (string_bytes state.old.last) rest.now }
+    ensures { Makes S.reply_to S.after S.is_foreign S.node (place_of state.old) (S.meaning sink.old) rest.now
+        (place_of state.new) (S.meaning sink.new) result }
+{
+    let foreign = sink.adjusted_current_node_present_but_not_in_html_namespace();
+    match find_opening(state.mode, state.last.as_str(), foreign, rest) {
+        Seen::Open => Ok(Turn::Waits(None)),
+        Seen::No => {
+            if rest.is_empty() {
+                return Ok(Turn::Waits(None));
+            }
+            let mut text = String::new(alloc);
+            let after = take_plain(rest, &mut text)?;
+            text_step(sink, state, rest, after, text, line)
+        }
+        Seen::Found(opening, after) => match opening {
+            Opening::Begins(construct) => {
+                let search = resumed(search, foreign, construct);
+                construct_step(sink, state, alloc, rest, after, construct, search, line)
+            }
+            Opening::Gives(bit) => {
+                let text = String::from_str(alloc, bit)?;
+                text_step(sink, state, rest, after, text, line)
+            }
+            Opening::Null => token_step(sink, state, rest, after, Token::NullCharacterToken, line),
+            Opening::Turns(mode) => {
+                state.mode = mode;
+                Ok(Turn::Goes(after))
+            }
+        },
+    }
+}

@@ -1,0 +1,272 @@
+//! What the reader hands on, over a sink that writes it down.
+use super::*;
+use h5_token::states::RawKind;
+use h5_token::{BuildFault, Doctype, Tag, TagKind, Token, TokenSink, TokenSinkResult};
+use std::alloc::{AllocError, Global};
+use std::fmt::Write;
+use std::test::Fail;
+
+/// Writes down what it is handed. To a start tag it answers as it is told, to all else `Continue`.
+#[derive(Drop)]
+struct Log {
+    text: String,
+    foreign: bool,
+    script: bool,
+    raw: Option<RawKind>,
+}
+
+fn part(text: &Option<String>) -> &str {
+    match text {
+        Some(text) => text.as_str(),
+        None => "-",
+    }
+}
+
+fn put_doctype(out: &mut String, doctype: &Doctype) -> Result<(), AllocError> {
+    let name = part(&doctype.name);
+    let public = part(&doctype.public_id);
+    let system = part(&doctype.system_id);
+    let quirks = doctype.force_quirks;
+    write!(out, "D({name},{public},{system},{quirks})")
+}
+
+fn put_tag(out: &mut String, tag: &Tag) -> Result<(), AllocError> {
+    out.push_str(match tag.kind {
+        TagKind::StartTag => "<",
+        TagKind::EndTag => "</",
+    })?;
+    out.push_str(tag.name.as_str())?;
+    for attribute in &tag.attrs {
+        let name = attribute.name.local.as_str();
+        let value = attribute.value.as_str();
+        write!(out, " {name}={value}")?;
+    }
+    if tag.self_closing {
+        out.push_str(" /")?;
+    }
+    if tag.had_duplicate_attributes {
+        out.push_str(" !")?;
+    }
+    out.push_str(">")
+}
+
+fn put(out: &mut String, token: &Token, line: u64) -> Result<(), AllocError> {
+    match token {
+        Token::DoctypeToken(doctype) => put_doctype(out, doctype),
+        Token::TagToken(tag) => put_tag(out, tag),
+        Token::CommentToken(text) => {
+            let text = text.as_str();
+            write!(out, "C({line},{text})")
+        }
+        Token::CharacterTokens(text) => out.push_str(text.as_str()),
+        Token::NullCharacterToken => out.push_str("[0]"),
+        Token::EOFToken => write!(out, "${line}"),
+        Token::ParseError(_) => out.push_str("[error]"),
+    }
+}
+
+ghost use Rattle.std.specs.Prelude.{◌≡◌};
+ghost use Rattle.h5_token.specs.TokenText.{token_text};
+ghost use Rattle.h5_tokenizer.specs.Logged.{is_start};
+
+fn is_start(token: &Token) -> bool
+    ensures { result ≡ is_start (token_text token.now) }
+{
+    match token {
+        Token::TagToken(tag) => match tag.kind {
+            TagKind::StartTag => true,
+            TagKind::EndTag => false,
+        },
+        _ => false,
+    }
+}
+
+impl TokenSink for Log {
+    ghost use Rattle.h5_tokenizer.specs.Logged.{is_start};
+    ghost use Rattle.std.specs.Prelude.{Bool, cond, Option, Some, None};
+    ghost use Rattle.h5_token.specs.Reply.{Reply, Continues, RunsScript, TurnsRaw};
+    ghost use Rattle.h5_token.specs.declared.states.RawKind.{RawKind};
+
+    type Handle = u8;
+
+    ghost Meaning = { Bool × Bool × Option RawKind };
+
+    ghost meaning = { λ log. (log.foreign, log.script, log.raw) };
+
+    ghost node = { λ handle. handle };
+
+    ghost reply_to = { λ m t. cond (is_start t) (elim (m.2) as (λ _. Reply) [ None ↦ cond m.1 (RunsScript 7) Continues | Some kind ↦ TurnsRaw kind ]) Continues };
+
+    ghost after = { λ m t. m };
+
+    ghost ended = { λ m. m };
+
+    ghost is_foreign = { λ m. m.0 };
+
+    fn process_token(
+        &mut self,
+        token: Token,
+        line_number: u64,
+    ) -> Result<TokenSinkResult<u8>, BuildFault> {
+        put(&mut self.text, &token, line_number)?;
+        let is_start = is_start(&token);
+        drop(token);
+        if !is_start {
+            return Ok(TokenSinkResult::Continue);
+        }
+        if let Some(kind) = self.raw {
+            return Ok(TokenSinkResult::RawData(kind));
+        }
+        if self.script {
+            return Ok(TokenSinkResult::Script(7));
+        }
+        Ok(TokenSinkResult::Continue)
+    }
+
+    fn end(&mut self) {}
+
+    fn adjusted_current_node_present_but_not_in_html_namespace(&self) -> bool {
+        self.foreign
+    }
+}
+
+fn make_log(alloc: Global) -> Log {
+    Log {
+        text: String::new(alloc),
+        foreign: false,
+        script: false,
+        raw: None,
+    }
+}
+
+// What is written down of a text that is fed at once, or character by character.
+fn read(alloc: Global, sink: Log, text: &str, whole: bool) -> Result<String, BuildFault> {
+    let mut reader = Tokenizer::new(alloc, sink, TokenizerOpts::default());
+    let mut queue = BufferQueue::new(alloc);
+    if whole {
+        queue.push_back(String::from_str(alloc, text)?)?;
+        reader.feed(&mut queue)?;
+    } else {
+        for c in text.chars() {
+            let mut piece = String::new(alloc);
+            piece.push(c)?;
+            queue.push_back(piece)?;
+            reader.feed(&mut queue)?;
+        }
+    }
+    reader.end()?;
+    let Tokenizer { sink, .. } = reader;
+    Ok(sink.text)
+}
+
+#[test]
+fn reads_each_construct(rt: HostRuntime) -> Result<(), Fail> {
+    let alloc = rt.alloc();
+    let rows = [
+        ("a<!-- x --><Title>b&amp;c", "aC(1, x )<title>b&c$1"),
+        ("\u{feff}x\r\ny\rz\n<!--\r\n-->&am", "x\ny\nz\nC(4,\n)&am$5"),
+        ("<!DOCTYPE html>", "D(html,-,-,false)$1"),
+        ("<!doctype HTML public 'a' \"b\" >", "D(html,a,b,false)$1"),
+        ("<!doctype x system\t'b'>", "D(x,-,b,false)$1"),
+        ("<!doctype x system>", "D(x,-,-,true)$1"),
+        ("<!doctype  >", "D(-,-,-,true)$1"),
+        ("<a b=/>", "<a b=/>$1"),
+        ("<a b/>", "<a b= />$1"),
+        ("<A c='1' C=2 =d=e f = g h>", "<a c=1 =d=e f=g h= !>$1"),
+        ("<a b='>' c=\"&lt;\r\n\"/>", "<a b=> c=<\n />$2"),
+        ("</p a=b/>x</1>", "</p>x</1>$1"),
+        ("a\0<b \0=\0>", "a[0]<b \u{fffd}=\u{fffd}>$1"),
+        ("<!x><?x><1<", "<!x><?x><1<$1"),
+        ("x<a b", "x$1"),
+        ("x<!doctype a", "x$1"),
+        ("x<!-- y --", "xC(1, y --)$1"),
+        ("<!---->", "C(1,)$1"),
+        ("<!--->-->", "C(1,->)$1"),
+        ("<![CDATA[x]]>", "<![CDATA[x]]>$1"),
+        ("\r", "\n$2"),
+    ];
+    for (text, tokens) in rows {
+        let found = read(alloc, make_log(alloc), text, true)?;
+        assert_eq!(rt; found.as_str(), tokens, "{text}");
+        let found = read(alloc, make_log(alloc), text, false)?;
+        assert_eq!(rt; found.as_str(), tokens, "{text} by characters");
+    }
+    Ok(())
+}
+
+fn raw_log(alloc: Global, kind: RawKind) -> Log {
+    let mut log = make_log(alloc);
+    log.raw = Some(kind);
+    log
+}
+
+#[test]
+fn reads_raw_text(rt: HostRuntime) -> Result<(), Fail> {
+    let alloc = rt.alloc();
+    let rows = [
+        (
+            RawKind::Rcdata,
+            "<t>a</x>&lt;</T b>&gt;",
+            "<t>a</x><</t>>$1",
+        ),
+        (
+            RawKind::Rawtext,
+            "<t>&lt;<!--\0</t/>&gt;",
+            "<t>&lt;<!--\u{fffd}</t>>$1",
+        ),
+        (RawKind::ScriptData, "<t></tt></t", "<t></tt></t$1"),
+        (RawKind::ScriptData, "<t>x</t ", "<t>x$1"),
+    ];
+    for (kind, text, tokens) in rows {
+        let found = read(alloc, raw_log(alloc, kind), text, true)?;
+        assert_eq!(rt; found.as_str(), tokens, "{text}");
+        let found = read(alloc, raw_log(alloc, kind), text, false)?;
+        assert_eq!(rt; found.as_str(), tokens, "{text} by characters");
+    }
+    Ok(())
+}
+
+#[test]
+fn reads_cdata_where_the_sink_says_so(rt: HostRuntime) -> Result<(), Fail> {
+    let alloc = rt.alloc();
+    let rows = [
+        ("a<![CDATA[<b>&amp;\0]]]>c", "a<b>&amp;\u{fffd}]c$1"),
+        ("<![CDATA[x]]", "x]]$1"),
+        ("<![CDAT", "<![CDAT$1"),
+    ];
+    for (text, tokens) in rows {
+        for whole in [true, false] {
+            let mut sink = make_log(alloc);
+            sink.foreign = true;
+            let found = read(alloc, sink, text, whole)?;
+            assert_eq!(rt; found.as_str(), tokens, "{text}");
+        }
+    }
+    Ok(())
+}
+
+#[test]
+fn stops_at_a_script(rt: HostRuntime) -> Result<(), Fail> {
+    let alloc = rt.alloc();
+    let mut sink = make_log(alloc);
+    sink.script = true;
+    let opts = TokenizerOpts::default();
+    assert_eq!(rt; opts.clone()?.discard_bom, true);
+    let mut reader = Tokenizer::new(alloc, sink, opts);
+    let mut queue = BufferQueue::new(alloc);
+    queue.push_back(String::from_str(alloc, "a<s>b</s>")?)?;
+    let stopped = match reader.feed(&mut queue)? {
+        TokenizerResult::Script(handle) => handle == 7,
+        _ => false,
+    };
+    assert!(rt; stopped);
+    assert!(rt; !queue.is_empty());
+    assert_eq!(rt; reader.sink.text.as_str(), "a<s>");
+    assert!(rt; matches!(reader.feed(&mut queue)?, TokenizerResult::Done));
+    assert!(rt; queue.is_empty());
+    reader.end()?;
+    assert_eq!(rt; reader.sink.text.as_str(), "a<s>b</s>$1");
+    assert_eq!(rt; reader.end().err(), Some(BuildFault::AfterEnd));
+    assert!(rt; matches!(reader.feed(&mut queue), Err(BuildFault::AfterEnd)));
+    Ok(())
+}

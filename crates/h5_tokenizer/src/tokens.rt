@@ -1,0 +1,98 @@
+//! The tokens that comments, doctypes and tags are.
+ghost use Rattle.std.specs.Prelude.{◌≡◌, IfOk};
+ghost use Rattle.h5_token.specs.TokenText.{token_text};
+ghost use Rattle.h5_scan.specs.Ending.{place_after};
+ghost use Rattle.h5_tokenizer.specs.Text.{text_of};
+ghost use Rattle.h5_tokenizer.specs.Tokens as s;
+
+use super::attributes::{make_name, read_attributes};
+use super::doctypes::make_doctype;
+use super::front::Construct;
+use super::text::text_of;
+use h5_scan::{Class, Inside, cut_at};
+use h5_token::{Tag, TagKind, Token};
+use std::alloc::{AllocError, Global};
+
+fn ends_in_slash(text: &str) -> bool
+    ensures { result ≡ s.last_is 47 text.now }
+{
+    let bytes = text.as_bytes();
+    if bytes.is_empty() {
+        return false;
+    }
+    bytes[bytes.len() - 1] == b'/'
+}
+
+fn is_between(place: Inside) -> bool
+    ensures { result ≡ s.is_between place }
+{
+    match place {
+        Inside::BeforeAttributeName => true,
+        _ => false,
+    }
+}
+
+// Whether a tag ends in a `/` that belongs to no value.
+fn is_self_closing(text: &str, place: Inside) -> bool
+    requires { place_after Inside.TagName text.now ≡ place }
+    ensures { result ≡ s.is_self_closing text.now }
+{
+    ends_in_slash(text) && is_between(place)
+}
+
+fn make_start_tag(alloc: Global, text: &str, place: Inside) -> Result<Token, AllocError>
+    requires { place_after Inside.TagName text.now ≡ place }
+    ensures { IfOk result (λ token. token_text token ≡ s.start_tag text.now) }
+{
+    let (name, behind) = cut_at(text, Class::NameEnd);
+    let kept = read_attributes(alloc, behind)?;
+    Ok(Token::TagToken(Tag {
+        kind: TagKind::StartTag,
+        name: make_name(alloc, name)?,
+        self_closing: is_self_closing(text, place),
+        attrs: kept.attributes,
+        had_duplicate_attributes: kept.duplicates,
+    }))
+}
+
+fn make_end_tag(alloc: Global, text: &str) -> Result<Token, AllocError>
+    ensures { IfOk result (λ token. token_text token ≡ s.end_tag text.now) }
+{
+    let (name, _) = cut_at(text, Class::NameEnd);
+    Ok(Token::TagToken(Tag {
+        kind: TagKind::EndTag,
+        name: make_name(alloc, name)?,
+        self_closing: false,
+        attrs: Vec::new(alloc),
+        had_duplicate_attributes: false,
+    }))
+}
+
+// A comment, by what stands between `<!--` and `>`: two dashes end it.
+fn make_comment(alloc: Global, text: &str) -> Result<Token, AllocError>
+    ensures { IfOk result (λ token. token_text token ≡ s.token_of Construct.Comment text.now) }
+{
+    match text.strip_suffix("--") {
+        Some(comment) => Ok(Token::CommentToken(text_of(alloc, false, comment)?)),
+        None => Ok(Token::CommentToken(text_of(alloc, false, text)?)),
+    }
+}
+
+/// The token, by what stands between its opening and the `>` that ends it, and where in it the `>` stands.
+pub fn make_token(
+    alloc: Global,
+    construct: Construct,
+    text: &str,
+    place: Inside,
+) -> Result<Token, AllocError>
+    requires { place_after (s.start_of construct) text.now ≡ place }
+    ensures { IfOk result (λ token. token_text token ≡ s.token_of construct text.now) }
+{
+    match construct {
+        Construct::Comment => make_comment(alloc, text),
+        Construct::Doctype => Ok(Token::DoctypeToken(make_doctype(alloc, text)?)),
+        Construct::StartTag => make_start_tag(alloc, text, place),
+        Construct::EndTag => make_end_tag(alloc, text),
+        Construct::RawEndTag => make_end_tag(alloc, text),
+    }
+}

@@ -1,0 +1,24 @@
+use Rattle.std.proofs.Common.{◌≡◌, length}
+use Rattle.h5_types.specs.declared.modes.InsertionMode.TheVariants.{InBody}
+use Rattle.h5_meaning.specs.Sound.{Fits, Sound}
+use Rattle.h5_meaning.specs.Text.{text_any}
+use Rattle.h5_state.specs.View.{world}
+use denote.Shadow.{shadow}
+use denote.Text.{Utf8}
+use Rattle.h5_tree_builder.proofs.text.process_runs.Given as goal
+
+abbrev pub invariant-runs : goal.invariant-runs
+invariant-runs g l =
+    let w = world g.S.TreeSink.sees g.S.TreeSink.node l.sink l.state in
+    let first = world g.S.TreeSink.sees g.S.TreeSink.node l.fn.sink l.fn.state in
+    record {
+      utf8 : shadow (Utf8 l.rest);
+      sound : Sound w;
+      fits : Fits w;
+      rest : text_any g.S.TreeSink.rules l.rest w ≡ text_any g.S.TreeSink.rules l.fn.text first;
+      mode : first.mode ≡ InBody → w.mode ≡ InBody;
+      quiet : first.mode ≡ InBody → (g.S.TreeSink.sees l.sink).errors ≡ (g.S.TreeSink.sees l.fn.sink).errors;
+    }
+
+abbrev pub decreases-runs : goal.decreases-runs
+decreases-runs g l = length l.rest
