@@ -14,7 +14,7 @@ pub fn no_errors_and_no_empty_texts<S: TokenSink>()
         Read S.reply_to S.after S.is_foreign p m xs ts reply q n ys → AreProper ts }
 {}
 
-/// What was read is read so whatever follows: so it doesn't matter how the input was cut into pieces.
+/// What was read is read so whatever follows: a piece that is read early is read as in the whole input.
 pub fn reading_goes_on<S: TokenSink>()
     ensures { (p : Place) (m : S.Meaning) (xs : List ℕ) (ts : List TokenText) (reply : Reply) (q : Place) (n : S.Meaning) (ys more : List ℕ) →
         Read S.reply_to S.after S.is_foreign p m xs ts reply q n ys
