@@ -2,7 +2,7 @@
 use super::states::{RawKind, State};
 use super::*;
 use h5_names::{Attribute, LocalName, Namespace, QualName, namespaces};
-use std::alloc::{AllocError, Global};
+use std::alloc::{AllocError, AllocFailed, Global};
 use std::process::Abort;
 use std::test::Fail;
 
@@ -103,6 +103,7 @@ fn faults_say_what_is_wrong(rt: HostRuntime) -> Result<(), Fail> {
         "out of memory"
     );
     assert!(rt; BuildFault::from(AllocError) == BuildFault::Memory);
+    assert!(rt; BuildFault::from(AllocFailed { value: 'x' }) == BuildFault::Memory);
     Ok(())
 }
 
