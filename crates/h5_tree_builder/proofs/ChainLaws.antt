@@ -1,6 +1,5 @@
 -- Turn after turn: what is left of a chain.
-use Rattle.std.proofs.Common.{◌≡◌, ◌+◌, ◌&&◌, not, ℕ, Bool, true, false, refl, ap, sym, subst, ◌∙◌, arith}
-use Rattle.h5_token.specs.Reply.{Continues}
+use Rattle.std.proofs.Common.{◌≡◌, ◌+◌, ◌&&◌, not, ℕ, Bool, true, false, refl, ap, sym, ◌∙◌, arith}
 use Rattle.h5_interface.specs.SinkRules.{SinkRules}
 use Rattle.h5_types.specs.TurnText.{TurnText, is_self_closing}
 use Rattle.h5_types.specs.declared.turns.ProcessResult.TheVariants.{Done, Reprocess}
@@ -10,7 +9,7 @@ use Rattle.h5_meaning.specs.Rows.{Follows}
 use Rattle.h5_meaning.specs.Settle.{Settled, settle}
 use Rattle.h5_meaning.specs.World.{World}
 use Rattle.h5_meaning.proofs.SettleLaws.{ends_here, goes_on}
-use Rattle.h5_tree_builder.specs.Chains.{Ran, Settles}
+use Rattle.h5_tree_builder.specs.Chains.{Ran}
 
 -- after so many turns: the chain of the first world ends as that of this one
 pub record Left (rules : SinkRules) (t : TurnText) (first now : World) (first_errors errors count : ℕ) : Type 0 where
@@ -52,7 +51,7 @@ left_last rules t first w v a b c n f l =
     record {
       settles = record {
         world = sym (l.world ∙ ap (λ (s : Settled). s.world) e);
-        turns = omega (arith, l.turns, ap (λ (s : Settled). s.turns) e);
+        turns = λ h. omega (arith, l.turns, ap (λ (s : Settled). s.turns) e);
         reply = l.reply ∙ ap (λ (s : Settled). s.reply) e;
         quiet = λ h. let k = l.quiet h in f.quiet (and_left r.quiet (not (is_self_closing t)) (sym q ∙ k.0)) ∙ k.1;
       };

@@ -1,2 +1,6 @@
+pub mod BuilderLaws
 pub mod ChainLaws
+pub mod DoctypeLaws
+pub mod EndLaws
 pub mod TextLaws
+pub mod WholeLaws

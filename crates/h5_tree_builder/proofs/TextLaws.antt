@@ -1,5 +1,5 @@
 -- The chain of turns of one run is the text rule on it.
-use Rattle.std.proofs.Common.{◌≡◌, ◌≢◌, ℕ, zero, suc, ◌+◌, ◌<◌, ◌&&◌, not, Bool, true, false, cond, List, [], ◌∷◌, ◌++◌, length, take, drop, refl, ap, sym, subst, ◌∙◌, slice_index, arith}
+use Rattle.std.proofs.Common.{◌≡◌, ◌≢◌, ℕ, zero, suc, ◌<◌, Bool, true, false, cond, List, [], ◌∷◌, ◌++◌, take, drop, refl, ap, sym, ◌∙◌, arith}
 use Rattle.std.proofs.lemmas.List.{take-append-drop}
 use Rattle.h5_interface.specs.SinkRules.{SinkRules}
 use Rattle.h5_interface.specs.declared.marks.QuirksMode.TheVariants.{Quirks}
@@ -13,7 +13,7 @@ use Rattle.h5_meaning.specs.Changes.{append, in_mode, ok_if_text}
 use Rattle.h5_meaning.specs.Modes.{after_head_else, back_to_body, before_head_else, before_html_else, choose, in_body_text, in_head_else, initial_else, rule}
 use Rattle.h5_meaning.specs.Rows.{Again, Append, IsDone, Row, SetQuirks, apply_all, errs, row}
 use Rattle.h5_meaning.specs.Settle.{Settled, after_turn, settle}
-use Rattle.h5_meaning.specs.Text.{IsRun, back_in_body, by_else, dropped, if_any, is_quiet_text, split, text_after_body, text_after_head, text_any, text_before_head, text_before_html, text_in, text_in_body, text_in_head, text_initial, text_rule}
+use Rattle.h5_meaning.specs.Text.{IsRun, back_in_body, by_else, dropped, if_any, split, text_after_body, text_after_head, text_any, text_before_head, text_before_html, text_in, text_in_body, text_in_head, text_initial, text_rule}
 use Rattle.h5_meaning.specs.World.{World}
 use Rattle.h5_meaning.proofs.CutLaws.{append_nil, text_cut}
 use Rattle.h5_meaning.proofs.SettleLaws.{settle-row}

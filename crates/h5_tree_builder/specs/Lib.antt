@@ -1,1 +1,4 @@
+pub mod Builder
 pub mod Chains
+pub mod Held
+pub mod Replies

@@ -1,9 +1,19 @@
 //! The tree builder (HTML standard, section 13.2.6, "Tree construction").
 #![tactic(auto)]
 
+mod ask;
+mod builder;
 mod chain;
+mod doctype;
+mod end;
+mod first;
+mod foreign;
+mod replies;
+mod take;
+mod taker;
 mod text;
 mod turn;
+mod whole;
 
-pub use chain::settle_token;
-pub use text::process_text;
+pub use builder::TreeBuilder;
+pub use replies::Reply;

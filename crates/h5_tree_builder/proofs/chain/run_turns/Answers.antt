@@ -1,4 +1,4 @@
-use Rattle.std.proofs.Common.{◌≡◌, ◌<◌, ◌+◌, ◌-◌, ℕ, sym, subst, ◌∙◌, ap, arith}
+use Rattle.std.proofs.Common.{◌-◌, sym, subst, arith}
 use Rattle.h5_types.specs.TurnText.{HasText, turn_text}
 use Rattle.h5_types.specs.declared.turns.ProcessResult.TheVariants.{Done, Reprocess}
 use Rattle.h5_meaning.specs.Modes.{rule}

@@ -1,5 +1,5 @@
 use Rattle.std.proofs.Common.{◌≡◌, ◌≤◌, ◌+◌, ◌-◌, ◌<◌}
-use Rattle.h5_types.specs.TurnText.{HasText, turn_text}
+use Rattle.h5_types.specs.TurnText.{turn_text}
 use Rattle.h5_meaning.specs.Settle.{is_end_html, rank}
 use Rattle.h5_meaning.specs.Sound.{Fits, Sound}
 use Rattle.h5_state.specs.View.{world}

@@ -1,4 +1,4 @@
-use Rattle.std.proofs.Common.{◌≡◌, ◌<◌, sym, ◌∙◌}
+use Rattle.std.proofs.Common.{sym, ◌∙◌}
 use Rattle.h5_types.specs.declared.modes.InsertionMode.TheVariants.{BeforeHead, InHead, AfterHead, InBody, AfterBody, AfterAfterBody}
 use Rattle.h5_meaning.proofs.FitsLaws.{enough_open}
 use Rattle.h5_tree_builder.proofs.turn.step.Goals as goal

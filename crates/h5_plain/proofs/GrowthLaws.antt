@@ -1,0 +1,135 @@
+-- The forest of a document, as it grows.
+use Rattle.std.proofs.Common.{◌≡◌, ◌≢◌, ◌∙◌, ℕ, Bool, false, cond, List, [], ◌∷◌, ◌++◌, Some, unwrap_or, codes, refl, ap, sym, subst}
+use Rattle.h5_names.specs.AttributeText.{AttributeText}
+use Rattle.h5_names.specs.declared.qualified.QualName.{QualName}
+use Rattle.h5_interface.specs.Changes.{append_node, mark}
+use Rattle.h5_interface.specs.Forest.{Child, ChildNode, DoctypeNode, DocumentNode, ElementNode, Forest, IsForest, IsNode, Marks, contents_of, kind_of}
+use Rattle.h5_interface.specs.NewElement.{flags_of, is_html_template}
+use Rattle.h5_interface.specs.Seen.{append_doctype, element, make, make_element, plain, with_contents}
+use Rattle.h5_interface.specs.SinkRules.{SinkRules}
+use Rattle.h5_interface.proofs.ForestLaws.{document_is_node}
+use Rattle.h5_interface.proofs.MakingLaws.{append_doctype_rearranges, element_lone, mark_rearranges, plain_lone}
+use Rattle.h5_meaning.specs.World.{html_name, inside, name_in, name_of_found}
+use Rattle.h5_meaning.proofs.SoundLaws.{element_below_rearranges}
+use Rattle.h5_plain.specs.Rebuilding.{HoldsDocument, Looks}
+use Rattle.h5_plain.proofs.LooksLaws.{hung, looks_marked, looks_new, looks_node, looks_other, looks_parent}
+
+abbrev pub html : QualName
+html = html_name (codes "html")
+
+abbrev pub head : QualName
+head = html_name (codes "head")
+
+abbrev pub body : QualName
+body = html_name (codes "body")
+
+-- the document holds the doctype and what comes after it
+pub record Begun (f : Forest) (doctype : ℕ) (more : List Child) : Type 0 where
+  pub is_forest : IsForest f
+  pub document : Looks f f.document DocumentNode [] (ChildNode doctype ∷ more)
+  pub is_doctype : Looks f doctype (DoctypeNode (codes "html") [] []) [] []
+
+-- and then a root with these children
+pub record Rooted (f : Forest) (doctype root : ℕ) (attrs : List AttributeText) (children : List Child) : Type 0 where
+  pub begun : Begun f doctype (ChildNode root ∷ [])
+  pub is_root : Looks f root (ElementNode html) attrs children
+
+-- nodes of different kinds
+kinds_apart : (f : Forest) (n m : ℕ) (k j : _) (a b : List AttributeText) (cs ds : List Child) → Looks f n k a cs → Looks f m j b ds → k ≢ j → n ≢ m
+kinds_apart f n m k j a b cs ds l r h e =
+    let w : Some k ≡ Some j = sym l.is_kind ∙ ap (kind_of f) e ∙ r.is_kind in h (cc)
+
+-- the name of an element, and where something is put into one that is no template
+pub name_of : (f : Forest) (n : ℕ) (name : QualName) (a : List AttributeText) (cs : List Child) → Looks f n (ElementNode name) a cs → name_in f n ≡ name
+name_of f n name a cs l = ap name_of_found l.is_kind
+
+pub inside_plain : (f : Forest) (n : ℕ) (name : QualName) (a : List AttributeText) (cs : List Child) → Looks f n (ElementNode name) a cs → is_html_template name ≡ false → inside f n ≡ n
+inside_plain f n name a cs l e = ap (λ b. cond b (unwrap_or (contents_of f n) n) n) (ap is_html_template (name_of f n name a cs l) ∙ e)
+
+-- an element that is no template is made without contents
+made_plain : (rules : SinkRules) (name : QualName) (attrs : List AttributeText) (duplicates : Bool) (f : Forest) → is_html_template name ≡ false → make_element rules name attrs (flags_of name attrs duplicates) f ≡ make rules (element name attrs (flags_of name attrs duplicates)) f
+made_plain rules name attrs duplicates f e =
+    ap (λ b. with_contents b rules (rules.fresh f) (make rules (element name attrs (flags_of name attrs duplicates)) f)) e
+
+abbrev pub with_element : SinkRules → ℕ → QualName → List AttributeText → Forest → Forest
+with_element rules p name attrs f = append_node p (rules.fresh f) (make_element rules name attrs (flags_of name attrs false) f)
+
+-- a new element below another: what the forest is then
+pub record Below (rules : SinkRules) (f : Forest) (p : ℕ) (name : QualName) (attrs : List AttributeText) : Type 0 where
+  pub is_forest : IsForest (with_element rules p name attrs f)
+  pub same_document : (with_element rules p name attrs f).document ≡ f.document
+  pub new : Looks (with_element rules p name attrs f) (rules.fresh f) (ElementNode name) attrs []
+  pub parent : (k : _) (a : List AttributeText) (cs : List Child) → Looks f p k a cs → Looks (with_element rules p name attrs f) p k a (cs ++ ChildNode (rules.fresh f) ∷ [])
+  pub other : (m : ℕ) (k : _) (a : List AttributeText) (cs : List Child) → m ≢ p → Looks f m k a cs → Looks (with_element rules p name attrs f) m k a cs
+
+pub element_below : (rules : SinkRules) (f : Forest) (p : ℕ) (name : QualName) (attrs : List AttributeText) → IsForest f → IsNode f p → is_html_template name ≡ false → Below rules f p name attrs
+element_below rules f p name attrs forest there e =
+    let n = rules.fresh f in
+    let d = element name attrs (flags_of name attrs false) in
+    let new = rules.fresh_is_new f forest in
+    let same : hung p n d f ≡ with_element rules p name attrs f = ap (append_node p n) (sym (made_plain rules name attrs false f e)) in
+    record {
+      is_forest = (element_below_rearranges rules f p name attrs (flags_of name attrs false) forest there).is_forest;
+      same_document = sym (ap (λ (g : Forest). g.document) same);
+      new = subst (λ g. Looks g n (ElementNode name) attrs []) same (looks_new f p n d new there (element_lone name attrs (flags_of name attrs false)));
+      parent = λ k a cs l. subst (λ g. Looks g p k a (cs ++ ChildNode n ∷ [])) same (looks_parent f p n d k a cs forest new l);
+      other = λ m k a cs h l. subst (λ g. Looks g m k a cs) same (looks_other f p n m d k a cs new h l);
+    }
+
+-- the doctype comes first
+pub begun_first : (rules : SinkRules) (f : Forest) → HoldsDocument f → Begun (append_doctype rules (codes "html") [] [] f) (rules.fresh f) []
+begun_first rules f h =
+    let n = rules.fresh f in
+    let d = plain (DoctypeNode (codes "html") [] []) in
+    let new = rules.fresh_is_new f h.is_forest in
+    record {
+      is_forest = (append_doctype_rearranges rules f (codes "html") [] [] h.is_forest).is_forest;
+      document = looks_parent f f.document n d DocumentNode [] [] h.is_forest new h.document;
+      is_doctype = looks_new f f.document n d new (document_is_node f h.is_forest) (plain_lone (DoctypeNode (codes "html") [] []));
+    }
+
+-- then the root
+pub rooted_first : (rules : SinkRules) (f : Forest) (x : ℕ) (attrs : List AttributeText) → Begun f x [] → Rooted (with_element rules f.document html attrs f) x (rules.fresh f) attrs []
+rooted_first rules f x attrs b =
+    let below = element_below rules f f.document html attrs b.is_forest (document_is_node f b.is_forest) refl in
+    record {
+      begun = record {
+        is_forest = below.is_forest;
+        document = below.parent DocumentNode [] (ChildNode x ∷ []) b.document;
+        is_doctype = below.other x (DoctypeNode (codes "html") [] []) [] []
+            (kinds_apart f x f.document (DoctypeNode (codes "html") [] []) DocumentNode [] [] [] (ChildNode x ∷ []) b.is_doctype b.document (λ e. cc)) b.is_doctype;
+      };
+      is_root = below.new;
+    }
+
+-- an element below the root
+pub rooted_grown : (rules : SinkRules) (f : Forest) (x h : ℕ) (a : List AttributeText) (cs : List Child) (name : QualName) (attrs : List AttributeText) → Rooted f x h a cs → Below rules f h name attrs → Rooted (with_element rules h name attrs f) x h a (cs ++ ChildNode (rules.fresh f) ∷ [])
+rooted_grown rules f x h a cs name attrs r below =
+    let b = r.begun in
+    record {
+      begun = record {
+        is_forest = below.is_forest;
+        document = subst (λ n. Looks (with_element rules h name attrs f) n DocumentNode [] (ChildNode x ∷ ChildNode h ∷ [])) (sym below.same_document)
+            (below.other f.document DocumentNode [] (ChildNode x ∷ ChildNode h ∷ [])
+            (kinds_apart f f.document h DocumentNode (ElementNode html) [] a (ChildNode x ∷ ChildNode h ∷ []) cs b.document r.is_root (λ e. cc)) b.document);
+        is_doctype = below.other x (DoctypeNode (codes "html") [] []) [] []
+            (kinds_apart f x h (DoctypeNode (codes "html") [] []) (ElementNode html) [] a [] cs b.is_doctype r.is_root (λ e. cc)) b.is_doctype;
+      };
+      is_root = below.parent (ElementNode html) a cs r.is_root;
+    }
+
+pub root_below : (rules : SinkRules) (f : Forest) (x h : ℕ) (a : List AttributeText) (cs : List Child) (name : QualName) (attrs : List AttributeText) → Rooted f x h a cs → is_html_template name ≡ false → Below rules f h name attrs
+root_below rules f x h a cs name attrs r e = element_below rules f h name attrs r.begun.is_forest (looks_node f h (ElementNode html) a cs r.is_root) e
+
+-- marks change nothing of it
+pub rooted_marked : (f : Forest) (marks : ℕ → Marks) (x h : ℕ) (a : List AttributeText) (cs : List Child) → Rooted f x h a cs → Rooted (mark marks f) x h a cs
+rooted_marked f marks x h a cs r =
+    let b = r.begun in
+    record {
+      begun = record {
+        is_forest = (mark_rearranges f marks b.is_forest).is_forest;
+        document = looks_marked f f.document marks DocumentNode [] (ChildNode x ∷ ChildNode h ∷ []) b.document;
+        is_doctype = looks_marked f x marks (DoctypeNode (codes "html") [] []) [] [] b.is_doctype;
+      };
+      is_root = looks_marked f h marks (ElementNode html) a cs r.is_root;
+    }

@@ -1,0 +1,5 @@
+pub mod GoesLaws
+pub mod GrowthLaws
+pub mod LooksLaws
+pub mod StageLaws
+pub mod WholeLaws

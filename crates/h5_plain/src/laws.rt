@@ -1,0 +1,13 @@
+//! The law of rebuilding, as the contract of a function that does nothing.
+ghost use Rattle.std.specs.Prelude.{◌≡◌, List};
+ghost use Rattle.h5_token.specs.TokenText.{TokenText};
+ghost use Rattle.h5_interface.specs.SinkRules.{SinkRules};
+ghost use Rattle.h5_meaning.specs.Run.{View};
+ghost use Rattle.h5_plain.specs.Rebuilding.{RebuildsAll};
+
+/// The tokens of a plain document, however its texts are cut, rebuild exactly that document: from a builder
+/// that took nothing yet, with the default options, over any sink that holds its document alone, in no
+/// quirks, without a parse error, and with no answer but "go on".
+pub fn documents_are_rebuilt()
+    ensures { (rules : SinkRules) (tokens : List TokenText) (view : View) → RebuildsAll rules tokens view }
+{}

@@ -1,0 +1,142 @@
+-- What contracts see of a tree builder.
+use Rattle.std.specs.Prelude.{◌≡◌, ◌≤◌, ℕ, ◌+◌, Bool, true, false, not, List, [], ◌∷◌, length, None, Some, Result, Ok, Err}
+use Rattle.h5_names.specs.AttributeText.{is_same_text}
+use Rattle.h5_names.specs.declared.qualified.QualName.{QualName}
+use Rattle.h5_token.specs.Reply.{Reply, reply}
+use Rattle.h5_token.specs.TokenText.{TokenText}
+use Rattle.h5_token.specs.declared.fault.BuildFault.{BuildFault}
+use Rattle.h5_token.specs.declared.fault.BuildFault.TheVariants.{Memory, AfterEnd, NotInText, Failed}
+use Rattle.h5_token.specs.declared.sink.TokenSinkResult.{TokenSinkResult}
+use Rattle.h5_interface.specs.Seen.{Seen}
+use Rattle.h5_interface.specs.SinkRules.{SinkRules}
+use Rattle.h5_interface.specs.declared.marks.QuirksMode.TheVariants.{NoQuirks}
+use Rattle.h5_tag_sets.specs.TagSets.{html_namespace}
+use Rattle.h5_types.specs.Options.{default_options}
+use Rattle.h5_types.specs.declared.modes.InsertionMode.TheVariants.{Initial}
+use Rattle.h5_types.specs.declared.options.TreeBuilderOpts.{TreeBuilderOpts}
+use Rattle.h5_meaning.specs.Changes.{pop}
+use Rattle.h5_meaning.specs.Cuts.{join, spread}
+use Rattle.h5_meaning.specs.Run.{View, after_all, after_token, all_quiet, is_quiet, refusal, replies, reply_to, step}
+use Rattle.h5_meaning.specs.Sound.{Fits, Sound}
+use Rattle.h5_meaning.specs.World.{World, names_of}
+use Rattle.h5_plain.specs.Plain.{PlainDocument, document_tokens}
+use Rattle.h5_plain.specs.Rebuilding.{AllContinue, DocumentStands, HoldsDocument}
+use Rattle.h5_tree_builder.specs.Chains.{is_counted, is_free}
+
+-- the view, the turns of the token that came last, and the sink's error mark
+pub record Building : Type 0 where
+  pub view : View
+  pub turns : ℕ
+  pub errors : ℕ
+
+-- what holds at every moment, also after want of memory
+pub record IsKept (b : Building) : Type 0 where
+  pub sound : Sound b.view.world
+  pub fits : b.view.failed ≡ false → b.view.ended ≡ false → Fits b.view.world
+  pub closed : b.view.ended ≡ true → b.view.world.stack ≡ []
+
+-- a builder that took nothing yet
+abbrev pub first_world : Seen → TreeBuilderOpts → World
+first_world seen opts = record {
+  forest = seen.forest;
+  seen_quirks = seen.quirks;
+  options = opts;
+  mode = Initial;
+  saved_mode = None;
+  template_modes = [];
+  pending = [];
+  quirks = opts.quirks_mode;
+  stack = [];
+  formatting = [];
+  head = None;
+  form = None;
+  frameset_ok = true;
+  ignore_lf = false;
+  foster = false;
+  context = None;
+}
+
+abbrev pub first_building : Seen → TreeBuilderOpts → Building
+first_building seen opts = record {
+  view = record { world = first_world seen opts; ended = false; failed = false };
+  turns = 0;
+  errors = seen.errors;
+}
+
+-- at the end each open element is popped, from the current node on, and the sink is told
+abbrev pub pop_each : SinkRules → List ℕ → World → World
+pop_each rules [] w = w
+pop_each rules (n ∷ s) w = pop_each rules s (pop rules w)
+
+abbrev pub all_popped : SinkRules → World → World
+all_popped rules w = pop_each rules w.stack w
+
+abbrev pub ended_view : SinkRules → View → View
+ended_view rules v = record v { world = all_popped rules v.world; ended = true }
+
+-- whether an element is open, and the current one isn't in the HTML namespace
+abbrev pub is_first_foreign : List QualName → Bool
+is_first_foreign [] = false
+is_first_foreign (n ∷ ns) = not (is_same_text n.ns html_namespace)
+
+abbrev pub is_foreign_in : World → Bool
+is_foreign_in w = is_first_foreign (names_of w)
+
+-- what taking a token did: an answer, want of memory, or a refusal
+pub record Answered (rules : SinkRules) (t : TokenText) (old new : Building) (answer : Reply) : Type 0 where
+  pub view : new.view ≡ after_token rules t old.view
+  pub reply : answer ≡ reply_to rules t old.view
+  pub turns : is_counted t old.view.world ≡ true → new.turns ≡ (step rules t old.view.world).turns
+  pub few : is_counted t old.view.world ≡ true → new.turns ≤ 16 + length old.view.world.stack
+  pub quiet : is_quiet rules t old.view ≡ true → new.errors ≡ old.errors
+  pub working : old.view.failed ≡ false
+  pub unended : old.view.ended ≡ false
+
+-- the refusal that is due, and nothing has changed
+pub record Refused (old new : Building) (fault : BuildFault) : Type 0 where
+  pub due : refusal old.view ≡ Some fault
+  pub same : new ≡ old
+
+-- every later token is refused then
+pub record OutOfMemory (t : TokenText) (old new : Building) : Type 0 where
+  pub working : old.view.failed ≡ false
+  pub unended : old.view.ended ≡ false
+  pub failed : new.view.failed ≡ true
+  pub still_unended : new.view.ended ≡ false
+  pub costs : is_free t old.view.world ≡ false
+
+abbrev pub Takes : {H : Type 0} → SinkRules → (H → ℕ) → TokenText → Building → Building → Result (TokenSinkResult H) BuildFault → Type 0
+Takes rules node t old new (Ok answer) = Answered rules t old new (reply node answer)
+Takes rules node t old new (Err Memory) = OutOfMemory t old new
+Takes rules node t old new (Err AfterEnd) = Refused old new AfterEnd
+Takes rules node t old new (Err NotInText) = Refused old new NotInText
+Takes rules node t old new (Err Failed) = Refused old new Failed
+
+-- a token of a list was taken or refused
+pub record Replied (rules : SinkRules) (t : TokenText) (old new : Building) (answer : Reply) : Type 0 where
+  pub view : new.view ≡ after_token rules t old.view
+  pub told : answer ≡ reply_to rules t old.view
+  pub quiet : is_quiet rules t old.view ≡ true → new.errors ≡ old.errors
+
+-- what taking a list did: the run of the whole list, one reply for each token; and however its texts are
+-- cut, the run of the list with its neighbouring texts joined, each piece of a text with the text's reply
+pub record RanAll (rules : SinkRules) (ts : List TokenText) (old new : Building) (answers : List Reply) : Type 0 where
+  pub view : new.view ≡ after_all rules ts old.view
+  pub told : answers ≡ replies rules ts old.view
+  pub quiet : all_quiet rules ts old.view ≡ true → new.errors ≡ old.errors
+  pub joined : new.view ≡ after_all rules (join ts) old.view
+  pub spread : answers ≡ spread ts (replies rules (join ts) old.view)
+
+-- a plain document was rebuilt: it stands in the forest, in no quirks, every answer was "go on", and no parse
+-- error was told
+pub record Rebuilt (d : PlainDocument) (old new : Building) (answers : List Reply) : Type 0 where
+  pub stands : DocumentStands new.view.world.forest d
+  pub quirks : new.view.world.seen_quirks ≡ NoQuirks
+  pub continue : AllContinue answers
+  pub quiet : new.errors ≡ old.errors
+
+-- so it is where the tokens of a plain document, however its texts are cut, come to a builder that took
+-- nothing yet, with the default options, over a sink that holds its document alone
+abbrev pub RebuildsPlain : List TokenText → (old new : Building) → List Reply → Type 0
+RebuildsPlain ts old new answers =
+    (d : PlainDocument) (seen : Seen) → HoldsDocument seen.forest → old ≡ first_building seen default_options → join ts ≡ document_tokens d → Rebuilt d old new answers

@@ -1,0 +1,22 @@
+-- What a tree builder holds: its sink, its state, whether it has ended or failed, and the turns of the token
+-- that came last.
+use Rattle.std.specs.Prelude.{ℕ, Bool}
+use Rattle.h5_interface.specs.Seen.{Seen}
+use Rattle.h5_state.specs.View.{world}
+use Rattle.h5_state.specs.declared.state.State.{State}
+use Rattle.h5_tree_builder.specs.Builder.{Building}
+
+pub record Held (S H : Type 0) : Type 0 where
+  pub sink : S
+  pub state : State H
+  pub ended : Bool
+  pub failed : Bool
+  pub turns : ℕ
+
+-- what that means
+abbrev pub building : {S H : Type 0} → (S → Seen) → (H → ℕ) → Held S H → Building
+building sees node h = record {
+  view = record { world = world sees node h.sink h.state; ended = h.ended; failed = h.failed };
+  turns = h.turns;
+  errors = (sees h.sink).errors;
+}

@@ -1,0 +1,35 @@
+//! What a tree builder is asked.
+ghost use Rattle.std.specs.Prelude.{◌≡◌, is_some};
+ghost use Rattle.h5_tree_builder.specs.Builder.{is_foreign_in};
+ghost use Rattle.h5_tree_builder.specs.Held.{building};
+
+use super::builder::TreeBuilder;
+use super::foreign::is_current_foreign;
+use h5_interface::TreeSink;
+
+impl<Handle: Drop, Sink: TreeSink<Handle = Handle> + Drop> TreeBuilder<Handle, Sink> {
+    /// How many turns the token took that was taken last: the rules that were applied one after the other.
+    /// A doctype, a parse error and a text that is or becomes empty take none.
+    pub fn turns(&self) -> u64
+        ensures { result ≡ self.now.turns }
+    {
+        self.turns
+    }
+
+    /// Whether what is built is a fragment, with a context: not yet.
+    #[tactic(auto, unfolding(h5_state::specs::View::world))]
+    pub fn is_fragment(&self) -> bool
+        ensures { result ≡ is_some (building Sink.sees Sink.node self.now).view.world.context }
+    {
+        self.state.context_elem.is_some()
+    }
+
+    /// Whether an element is open and the current one isn't in the HTML namespace: then a reader takes
+    /// `<![CDATA[` for the start of a text (HTML standard, section 13.2.5.42, "Markup declaration open
+    /// state").
+    pub fn adjusted_current_node_present_but_not_in_html_namespace(&self) -> bool
+        ensures { result ≡ is_foreign_in (building Sink.sees Sink.node self.now).view.world }
+    {
+        is_current_foreign(&self.sink, &self.state)
+    }
+}

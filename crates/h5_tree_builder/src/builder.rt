@@ -1,0 +1,117 @@
+//! The tree builder.
+ghost use Rattle.std.specs.Prelude.{◌≡◌, true};
+ghost use Rattle.h5_token.specs.TokenText.{token_text};
+ghost use Rattle.h5_meaning.specs.Sound.{Sound};
+ghost use Rattle.h5_tree_builder.specs.Held.{building};
+ghost use Rattle.h5_tree_builder.specs.Builder.{Takes, ended_view, first_building};
+
+use super::end::pop_all;
+use super::first::first_state;
+use super::take::{note_line, take_token};
+use h5_interface::TreeSink;
+use h5_state::State;
+use h5_token::{BuildFault, Token, TokenSinkResult};
+use h5_types::TreeBuilderOpts;
+use std::alloc::Global;
+use std::marker::Model;
+
+/// A tree builder over a sink (HTML standard, section 13.2.6, "Tree construction").
+///
+/// Contracts see it as the world that builder and sink are together, whether it has ended or failed, and
+/// the turns that the last token took. At every moment, also after want of memory, the sink's forest is a
+/// forest, the open elements are its elements, they are distinct, and none is an ancestor, through
+/// children or contents, of one nearer the root.
+#[derive(Drop)]
+pub struct TreeBuilder<Handle: Drop, Sink: TreeSink<Handle = Handle> + Drop> {
+    /// The sink. It is the builder's as long as tokens come: nobody else changes it.
+    pub sink: Sink,
+    pub(super) state: State<Handle>,
+    ended: bool,
+    failed: bool,
+    pub(super) turns: u64,
+}
+
+impl<Handle: Drop, Sink: TreeSink<Handle = Handle> + Drop> Model for TreeBuilder<Handle, Sink> {
+    ghost use Rattle.h5_tree_builder.specs.Builder.{IsKept};
+    ghost use Rattle.h5_tree_builder.specs.Held.{Held, building};
+
+    ghost Value = { Held Sink Handle };
+
+    ghost view = { λ b. record { sink = b.sink; state = b.state; ended = b.ended; failed = b.failed; turns = b.turns } };
+
+    ghost invariant = { λ b. IsKept (building Sink.sees Sink.node (record { sink = b.sink; state = b.state; ended = b.ended; failed = b.failed; turns = b.turns })) };
+}
+
+impl<Handle: Drop, Sink: TreeSink<Handle = Handle> + Drop> TreeBuilder<Handle, Sink> {
+    /// A builder of a document, that took no token yet. It takes no memory, and the sink stays as it is.
+    pub fn new(alloc: Global, sink: Sink, opts: TreeBuilderOpts) -> TreeBuilder<Handle, Sink>
+        ensures { building Sink.sees Sink.node result ≡ first_building (Sink.sees sink) opts }
+    {
+        let _document = sink.get_document();
+        let state = first_state(&sink, alloc, opts);
+        TreeBuilder {
+            sink,
+            state,
+            ended: false,
+            failed: false,
+            turns: 0,
+        }
+    }
+
+    /// Takes a token that began in this line.
+    ///
+    /// After want of memory it answers `Failed`, after the end `AfterEnd`, and then nothing has changed.
+    /// Where memory is refused now it answers `Memory`.
+    pub fn process_token(
+        &mut self,
+        token: Token,
+        line_number: u64,
+    ) -> Result<TokenSinkResult<Handle>, BuildFault>
+        ensures takes { Takes Sink.rules Sink.node (token_text token) (building Sink.sees Sink.node self.old) (building Sink.sees Sink.node self.new) result }
+        ensures sound { Sound (building Sink.sees Sink.node self.new).view.world }
+    {
+        if self.failed {
+            return Err(BuildFault::Failed);
+        }
+        if self.ended {
+            return Err(BuildFault::AfterEnd);
+        }
+        note_line(&mut self.sink, &self.state, line_number);
+        self.failed = true;
+        self.turns = take_token(&mut self.sink, &mut self.state, token)?;
+        self.failed = false;
+        Ok(TokenSinkResult::Continue)
+    }
+
+    /// Takes note that no token comes any more: all open elements are popped, from the current node on,
+    /// and the sink is told of each. Where it was called before, nothing is left to do.
+    pub fn end(&mut self)
+        ensures view { (building Sink.sees Sink.node self.new).view ≡ ended_view Sink.rules (building Sink.sees Sink.node self.old).view }
+        ensures turns { self.new.turns ≡ self.old.turns }
+        ensures quiet { (building Sink.sees Sink.node self.new).errors ≡ (building Sink.sees Sink.node self.old).errors }
+    {
+        pop_all(&mut self.sink, &mut self.state);
+        self.ended = true;
+    }
+
+    // Notes that memory was refused: every later token is refused.
+    pub(crate) fn fail(&mut self) -> BuildFault
+        ensures memory { result ≡ BuildFault.Memory }
+        ensures failed { (building Sink.sees Sink.node self.new).view.failed ≡ true }
+        ensures sound { Sound (building Sink.sees Sink.node self.new).view.world }
+    {
+        self.failed = true;
+        BuildFault::Memory
+    }
+
+    pub(crate) fn has_failed(&self) -> bool
+        ensures sound { Sound (building Sink.sees Sink.node self.now).view.world }
+        ensures failed { result ≡ (building Sink.sees Sink.node self.now).view.failed }
+    {
+        self.failed
+    }
+
+    pub(crate) fn alloc(&self) -> Global {
+        self.state.alloc
+    }
+}

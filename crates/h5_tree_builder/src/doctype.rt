@@ -1,0 +1,120 @@
+//! Doctypes (HTML standard, section 13.2.6.4.1, "The 'initial' insertion mode").
+ghost use Rattle.std.specs.Prelude.{◌≡◌, ℕ, List, [], Option, Some, None, true, IfOk, OnOk, option_map, string_bytes, unwrap_or};
+ghost use Rattle.h5_token.specs.TokenText.{doctype_text};
+ghost use Rattle.h5_meaning.specs.Run.{doctype_in, is_good_doctype, is_html_text, is_missing, judged, quirks_of, with_doctype};
+ghost use Rattle.h5_meaning.specs.Sound.{Fits, Sound};
+ghost use Rattle.h5_state.specs.View.{world};
+ghost use Rattle.h5_tree_builder.specs.Chains.{Comes};
+
+use h5_interface::{QuirksMode, TreeSink};
+use h5_state::{State, current_mode, set_mode, set_quirks_mode, tell_error};
+use h5_token::Doctype;
+use h5_types::InsertionMode;
+use std::alloc::{AllocError, Global};
+
+fn is_html_name(name: &Option<String>) -> bool
+    ensures { result ≡ is_html_text (option_map string_bytes name.now) }
+{
+    match name {
+        Some(text) => text.as_str() == "html",
+        None => false,
+    }
+}
+
+// Whether a doctype is no error: `html`, without identifiers, not forced.
+fn is_good(doctype: &Doctype) -> bool
+    ensures { result ≡ is_good_doctype (doctype_text doctype.now) }
+{
+    is_html_name(&doctype.name)
+        && doctype.public_id.is_none()
+        && doctype.system_id.is_none()
+        && !doctype.force_quirks
+}
+
+fn text_or_empty(alloc: Global, text: Option<String>) -> String
+    ensures { string_bytes result ≡ unwrap_or (option_map string_bytes text) [] }
+{
+    match text {
+        Some(text) => text,
+        None => String::new(alloc),
+    }
+}
+
+// The doctype goes into the document, unless doctypes are dropped.
+#[tactic(auto, unfolding(h5_state::specs::View::world, h5_meaning::specs::Run::with_doctype, h5_meaning::specs::Changes::insert_doctype))]
+fn append_doctype<S: TreeSink>(
+    sink: &mut S,
+    state: &State<S::Handle>,
+    doctype: Doctype,
+) -> Result<(), AllocError>
+    requires sound { Sound (world S.sees S.node sink.old state.now) }
+    ensures done { OnOk result (world S.sees S.node sink.new state.now ≡ with_doctype S.rules (doctype_text doctype) (world S.sees S.node sink.old state.now)) }
+    ensures quiet { (S.sees sink.new).errors ≡ (S.sees sink.old).errors }
+    ensures sound { Sound (world S.sees S.node sink.new state.now) }
+{
+    if state.opts.drop_doctype {
+        return Ok(());
+    }
+    let Doctype {
+        name,
+        public_id,
+        system_id,
+        force_quirks: _,
+    } = doctype;
+    sink.append_doctype_to_document(
+        text_or_empty(state.alloc, name),
+        text_or_empty(state.alloc, public_id),
+        text_or_empty(state.alloc, system_id),
+    )
+}
+
+// A doctype at the start goes into the document and chooses the quirks mode.
+#[tactic(auto, unfolding(h5_meaning::specs::Run::judged))]
+fn judge_doctype<S: TreeSink>(
+    sink: &mut S,
+    state: &mut State<S::Handle>,
+    doctype: Doctype,
+) -> Result<(), AllocError>
+    requires sound { Sound (world S.sees S.node sink.old state.old) }
+    ensures done { OnOk result (world S.sees S.node sink.new state.new ≡ judged S.rules (doctype_text doctype) (world S.sees S.node sink.old state.old)) }
+    ensures quiet { OnOk result (is_good_doctype (doctype_text doctype) ≡ true → (S.sees sink.new).errors ≡ (S.sees sink.old).errors) }
+    ensures sound { Sound (world S.sees S.node sink.new state.new) }
+{
+    let good = is_good(&doctype);
+    append_doctype(sink, state, doctype)?;
+    if good {
+        set_quirks_mode(sink, state, QuirksMode::NoQuirks);
+        set_mode(sink, state, InsertionMode::BeforeHtml);
+        Ok(())
+    } else {
+        tell_error(sink, state, "bad doctype");
+        set_quirks_mode(sink, state, QuirksMode::Quirks);
+        set_mode(sink, state, InsertionMode::BeforeHtml);
+        Ok(())
+    }
+}
+
+/// A doctype: at the start it is judged, elsewhere it is an error and nothing more. It takes no turn.
+pub fn take_doctype<S: TreeSink>(
+    sink: &mut S,
+    state: &mut State<S::Handle>,
+    doctype: Doctype,
+) -> Result<u64, AllocError>
+    requires sound { Sound (world S.sees S.node sink.old state.old) }
+    requires fits { Fits (world S.sees S.node sink.old state.old) }
+    ensures done { IfOk result (λ n. Comes (doctype_in (world S.sees S.node sink.old state.old).mode S.rules (doctype_text doctype) (world S.sees S.node sink.old state.old)) true
+        (world S.sees S.node sink.new state.new) (S.sees sink.old).errors (S.sees sink.new).errors n) }
+    ensures sound { Sound (world S.sees S.node sink.new state.new) }
+    ensures fits { OnOk result (Fits (world S.sees S.node sink.new state.new)) }
+{
+    match current_mode(sink, state) {
+        InsertionMode::Initial => {
+            judge_doctype(sink, state, doctype)?;
+            Ok(0)
+        }
+        _ => {
+            tell_error(sink, state, "unexpected doctype");
+            Ok(0)
+        }
+    }
+}

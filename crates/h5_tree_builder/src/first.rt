@@ -1,0 +1,33 @@
+//! The state of a builder that took nothing yet (HTML standard, section 13.2.4, "Parse state").
+ghost use Rattle.std.specs.Prelude.{◌≡◌};
+ghost use Rattle.h5_state.specs.View.{world};
+ghost use Rattle.h5_tree_builder.specs.Builder.{first_world};
+
+use h5_interface::TreeSink;
+use h5_state::State;
+use h5_types::{InsertionMode, TreeBuilderOpts};
+use std::alloc::Global;
+
+// Nothing is open, in the mode "initial".
+#[tactic(auto, unfolding(h5_state::specs::View::world))]
+pub fn first_state<S: TreeSink>(sink: &S, alloc: Global, opts: TreeBuilderOpts) -> State<S::Handle>
+    ensures { world S.sees S.node sink.now result ≡ first_world (S.sees sink.now) opts }
+{
+    State {
+        opts,
+        mode: InsertionMode::Initial,
+        orig_mode: None,
+        template_modes: Vec::new(alloc),
+        pending_table_text: Vec::new(alloc),
+        quirks_mode: opts.quirks_mode,
+        open_elems: Vec::new(alloc),
+        active_formatting: Vec::new(alloc),
+        head_elem: None,
+        form_elem: None,
+        frameset_ok: true,
+        ignore_lf: false,
+        foster_parenting: false,
+        context_elem: None,
+        alloc,
+    }
+}

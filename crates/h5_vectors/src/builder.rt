@@ -1,0 +1,84 @@
+//! Each public call of the tree builder once, with ample memory, over an arena.
+use h5_arena::{Arena, Child, NodeId};
+use h5_interface::QuirksMode;
+use h5_names::LocalName;
+use h5_token::{Tag, TagKind, Token, TokenSink, TokenSinkResult};
+use h5_tree_builder::{Reply, TreeBuilder};
+use h5_types::TreeBuilderOpts;
+use std::alloc::{AllocError, Global};
+use std::process::Abort;
+use std::test::Fail;
+
+type ArenaBuilder = TreeBuilder<NodeId, Arena>;
+
+fn new_builder(alloc: Global) -> Result<ArenaBuilder, AllocError> {
+    let arena = Arena::new(alloc)?;
+    Ok(TreeBuilder::new(alloc, arena, TreeBuilderOpts::default()))
+}
+
+fn start(alloc: Global, name: &str) -> Result<Token, AllocError> {
+    Ok(Token::TagToken(Tag {
+        kind: TagKind::StartTag,
+        name: LocalName::new(alloc, name)?,
+        self_closing: false,
+        attrs: Vec::new(alloc),
+        had_duplicate_attributes: false,
+    }))
+}
+
+fn is_continue(reply: &Reply<NodeId>) -> bool {
+    matches!(reply, Reply::Answer(TokenSinkResult::Continue))
+}
+
+#[test]
+fn the_end_of_file_alone_takes_six_turns(rt: HostRuntime) -> Result<(), Fail> {
+    let alloc = rt.alloc();
+    let mut builder = new_builder(alloc)?;
+    assert!(rt; !builder.is_fragment());
+    let tokens = vec![in alloc; (Token::EOFToken, 1)]?;
+    let replies = builder.process_all(tokens).map_err(|_| "refused")?;
+    assert_eq!(rt; builder.turns(), 6);
+    assert!(rt; replies.iter().all(is_continue));
+    assert_eq!(rt; replies.len(), 1);
+    assert_eq!(rt; builder.sink.len(), 4);
+    assert!(rt; builder.sink.quirks() == QuirksMode::Quirks);
+    Ok(())
+}
+
+#[test]
+fn a_text_is_one_however_it_is_cut(rt: HostRuntime) -> Result<(), Fail> {
+    let alloc = rt.alloc();
+    let mut builder = new_builder(alloc)?;
+    for text in [" ", "a", " "] {
+        let token = Token::CharacterTokens(String::from_str(alloc, text)?);
+        builder.process_token(token, 1).map_err(|_| "refused")?;
+    }
+    builder.end();
+    assert!(rt; builder.process_token(Token::EOFToken, 1).is_err());
+    let arena = &builder.sink;
+    assert!(rt; body_holds(arena, "a "));
+    Ok(())
+}
+
+// Whether the body, which is made after the document, the root and the head, holds this text alone.
+fn body_holds(arena: &Arena, text: &str) -> bool {
+    match arena.id(3) {
+        Some(id) => match arena.children(id) {
+            [Child::Text(found)] => found.as_str() == text,
+            _ => false,
+        },
+        None => false,
+    }
+}
+
+#[test]
+fn a_builder_takes_tokens_as_any_sink_of_them(rt: HostRuntime) -> Result<(), Fail> {
+    let alloc = rt.alloc();
+    let mut builder = new_builder(alloc)?;
+    let answer = TokenSink::process_token(&mut builder, start(alloc, "p")?, 2);
+    assert!(rt; matches!(answer, Ok(TokenSinkResult::Continue)));
+    assert!(rt; !TokenSink::adjusted_current_node_present_but_not_in_html_namespace(&builder));
+    TokenSink::end(&mut builder);
+    assert!(rt; TokenSink::process_token(&mut builder, Token::EOFToken, 1).is_err());
+    Ok(())
+}
