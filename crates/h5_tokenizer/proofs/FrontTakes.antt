@@ -1,21 +1,18 @@
 -- How much is taken off the front.
-use Rattle.std.proofs.Common.{◌≡◌, ℕ, ◌+◌, ◌<◌, ◌≤◌, Bool, true, false, List, [], ◌∷◌, length, subst, arith}
+use Rattle.std.proofs.Common.{ℕ, ◌≤◌, Bool, true, false, List, [], ◌∷◌, length, arith}
 use Rattle.std.specs.Prelude.{codes}
 use Rattle.std.specs.Char.{is_ascii_alphabetic}
 use Rattle.h5_token.specs.TokenText.{NullCharacter}
-use Rattle.h5_scan.specs.Matching.{Match, Found, and_then, literal, word, peek}
+use Rattle.h5_scan.specs.Matching.{Match, and_then, word, peek}
 use Rattle.h5_scan.specs.Cuts.{is_in}
 use Rattle.h5_scan.specs.declared.cut.Class.TheVariants.{NameEnd}
 use Rattle.h5_scan.proofs.Eating.{Takes, Eats, literal_eats, word_eats, peek_eats, ahead_eats, up_to_end_eats, found_eats, no_eats, and_then_eats, or_else_eats, eats_less}
 use Rattle.h5_tokenizer.specs.declared.front.Mode.{Mode}
 use Rattle.h5_tokenizer.specs.declared.front.Mode.TheVariants.{Data, RawData, Plaintext, Cdata}
 use Rattle.h5_tokenizer.specs.declared.front.Construct.TheVariants.{Comment, Doctype, StartTag, EndTag, RawEndTag}
-use Rattle.h5_tokenizer.specs.Text.{gives, reference, newline, cleaned, escape}
+use Rattle.h5_constructs.proofs.TextTakes.{reference_eats, newline_eats, cleaned_eats, escape_eats}
 use Rattle.h5_tokenizer.specs.Tokens.{start_of, token_of}
 use Rattle.h5_tokenizer.specs.Front.{Opening, Begins, Gives, Null, Turns, says, stands_for, cdata, in_data, raw_end_tag, reads_references, opening, Bit, Whole, Switch, finished, other, front}
-
-gives_eats : (bytes : List ℕ) (c : ℕ) (cs : List ℕ) → Eats 1 (λ xs. gives bytes (literal (c ∷ cs) xs))
-gives_eats bytes c cs = eats_less 1 (omega arith) (and_then_eats (literal_eats (c ∷ cs)) (λ _. found_eats bytes))
 
 says_eats : {p : List ℕ → Match (Unit {0})} {k : ℕ} (o : Opening) → Eats k p → 1 ≤ k → Eats 1 (λ xs. says o (p xs))
 says_eats o h le = eats_less 1 (omega arith) (and_then_eats h (λ _. found_eats o))
@@ -25,24 +22,6 @@ says_keeps o h = eats_less 0 (omega arith) (and_then_eats h (λ _. found_eats o)
 
 stands_eats : {p : List ℕ → Match (List ℕ)} → Eats 1 p → Eats 1 (λ xs. stands_for (p xs))
 stands_eats h = eats_less 1 (omega arith) (and_then_eats h (λ text. found_eats (Gives text)))
-
-reference_eats : Eats 1 reference
-reference_eats =
-    or_else_eats (gives_eats (38 ∷ []) 38 (codes "amp;"))
-    (or_else_eats (gives_eats (60 ∷ []) 38 (codes "lt;"))
-    (or_else_eats (gives_eats (62 ∷ []) 38 (codes "gt;"))
-    (or_else_eats (gives_eats (34 ∷ []) 38 (codes "quot;"))
-    (gives_eats (0xc2 ∷ 0xa0 ∷ []) 38 (codes "nbsp;")))))
-
-newline_eats : Eats 1 newline
-newline_eats = or_else_eats (gives_eats (10 ∷ []) 13 (10 ∷ [])) (gives_eats (10 ∷ []) 13 [])
-
-pub cleaned_eats : Eats 1 cleaned
-cleaned_eats = or_else_eats newline_eats (gives_eats (0xef ∷ 0xbf ∷ 0xbd ∷ []) 0 [])
-
-pub escape_eats : (references : Bool) → Eats 1 (escape references)
-escape_eats true = or_else_eats reference_eats cleaned_eats
-escape_eats false = or_else_eats (no_eats 1) cleaned_eats
 
 cdata_eats : (foreign : Bool) → Eats 1 (cdata foreign)
 cdata_eats true = says_eats (Turns Cdata) (literal_eats (codes "<![CDATA[")) (omega arith)
@@ -81,7 +60,3 @@ other_takes (x ∷ xs) = omega arith
 
 pub front_eats : (mode : Mode) (last : List ℕ) (foreign : Bool) → Eats 1 (front mode last foreign)
 front_eats mode last foreign = or_else_eats (eats_less 1 (omega arith) (and_then_eats (opening_eats mode last foreign) finished_eats)) (record { takes = other_takes })
-
--- what is found leaves less
-pub found_shorter : {A : Type 0} {p : List ℕ → Match A} (a : A) (xs rest : List ℕ) → Eats 1 p → p xs ≡ Found a rest → length rest < length xs
-found_shorter {A} a xs rest h e = let P : Match A → Type 0 = λ m. Takes 1 (length xs) m in let t : 1 + length rest ≤ length xs = subst P e (h.takes xs) in omega arith

@@ -7,7 +7,9 @@ pub mod ReadLaws
 pub mod RunLaws
 pub mod MarkLaws
 pub mod OutcomeLaws
-pub mod TextLaws
-pub mod AttributeLaws
 pub mod TokenLaws
 pub mod ProperLaws
+pub mod JoinLaws
+pub mod DeedLaws
+pub mod CutLaws
+pub mod WholeLaws

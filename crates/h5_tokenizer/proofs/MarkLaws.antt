@@ -22,7 +22,7 @@ use Rattle.h5_scan.specs.Ending.{walk}
 use Rattle.std.proofs.lemmas.List.{take-append-le}
 use Rattle.h5_tokenizer.specs.Tokens.{start_of}
 use Rattle.h5_tokenizer.proofs.FrontStays.{opening_stable, found_stays}
-use Rattle.h5_tokenizer.proofs.FrontTakes.{found_shorter}
+use Rattle.h5_constructs.proofs.TextTakes.{found_shorter}
 use Rattle.h5_tokenizer.proofs.FrontLeaves.{read_cut}
 use Rattle.h5_tokenizer.proofs.ReadLaws.{reads_none, read_after}
 

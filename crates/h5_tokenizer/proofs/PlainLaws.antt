@@ -1,19 +1,16 @@
 -- Text, bit by bit.
-use Rattle.std.proofs.Common.{◌≡◌, ℕ, zero, suc, ◌<◌, ◌≤◌, Bool, true, false, not, ◌||◌, List, [], ◌∷◌, ◌++◌, eqb, length, take, drop, get_or, refl, sym, ap, ◌∙◌, subst, arith, append_assoc, append-nil, length-drop, max, le_refl, ⊎_elim, IsUtf8}
-use Rattle.std.proofs.lemmas.Bool.{false≢true, cases_lt}
-use Rattle.std.proofs.lemmas.Bool.Decides.{nat_tests}
-use Rattle.std.specs.Char.{to_ascii_lowercase}
-use Rattle.std.specs.Str.{IsCharBoundary}
-use Rattle.std.proofs.lemmas.Str.{IsCharBoundary-before_ascii, IsCharBoundary-after_ascii, IsCharBoundary-end}
+use Rattle.std.proofs.Common.{◌≡◌, ℕ, zero, suc, ◌<◌, ◌≤◌, Bool, true, false, List, [], ◌∷◌, ◌++◌, length, take, drop, get_or, refl, sym, ap, ◌∙◌, arith, append_assoc, append-nil, length-drop, max, le_refl}
 use Rattle.h5_token.specs.declared.states.RawKind.TheVariants.{Rcdata, Rawtext, ScriptData}
 use Rattle.h5_scan.specs.Matching.{Open, No, Found, or_else, and_then}
 use Rattle.h5_tokenizer.specs.declared.front.Mode.{Mode}
 use Rattle.h5_tokenizer.specs.declared.front.Mode.TheVariants.{Data, RawData, Plaintext, Cdata}
 use Rattle.h5_tokenizer.specs.Front.{Opening, Gives, Bit, Place, in_data, raw_end_tag, opening, finished, other, front}
-use Rattle.h5_tokenizer.specs.Text.{escape}
 use Rattle.h5_tokenizer.specs.Read.{Bits, no_bit, more_bits}
-use Rattle.h5_tokenizer.specs.Steps.{is_plain, TakesBits, TakesMany}
-use Rattle.h5_tokenizer.proofs.FrontTakes.{front_eats, found_shorter}
+use Rattle.h5_tokenizer.specs.Steps.{TakesBits, TakesMany}
+use Rattle.h5_tokenizer.proofs.FrontTakes.{front_eats}
+use Rattle.h5_constructs.specs.Plain.{is_plain}
+use Rattle.h5_constructs.proofs.PlainBytes.{Plain, plain}
+use Rattle.h5_constructs.proofs.TextTakes.{found_shorter}
 
 -- where nothing else stands, and where something stands for a piece of text
 pub front_no : (mode : Mode) (last : List ℕ) (foreign : Bool) (xs : List ℕ) → opening mode last foreign xs ≡ No → front mode last foreign xs ≡ other xs
@@ -24,29 +21,6 @@ front_found mode last foreign xs h = ap (λ m. or_else (and_then m finished) (ot
 
 pub front_open : (mode : Mode) (last : List ℕ) (foreign : Bool) (xs : List ℕ) → opening mode last foreign xs ≡ Open → front mode last foreign xs ≡ Open
 front_open mode last foreign xs h = ap (λ m. or_else (and_then m finished) (other xs)) h
-
--- a byte that begins nothing
-record Plain (x : ℕ) : Type 0 where
-  lt : eqb x 60 ≡ false
-  amp : eqb x 38 ≡ false
-  cr : eqb x 13 ≡ false
-  nul : eqb x 0 ≡ false
-  bracket : eqb x 93 ≡ false
-  low : eqb (to_ascii_lowercase x) 60 ≡ false
-
-plain_by : (a b c d e : Bool) → not (a || (b || (c || (d || e)))) ≡ true → (a ≡ false) × (b ≡ false) × (c ≡ false) × (d ≡ false) × (e ≡ false)
-plain_by true b c d e h = absurd (false≢true h)
-plain_by false true c d e h = absurd (false≢true h)
-plain_by false false true d e h = absurd (false≢true h)
-plain_by false false false true e h = absurd (false≢true h)
-plain_by false false false false true h = absurd (false≢true h)
-plain_by false false false false false h = (refl, refl, refl, refl, refl)
-
-lower_not : (x : ℕ) → eqb x 60 ≡ false → eqb (to_ascii_lowercase x) 60 ≡ false
-lower_not x h = grind (arith, nat_tests)
-
-plain : (x : ℕ) → is_plain x ≡ true → Plain x
-plain x h = let p = plain_by (eqb x 60) (eqb x 38) (eqb x 13) (eqb x 0) (eqb x 93) h in record { lt = p.0; amp = p.1; cr = p.2; nul = p.3; bracket = p.4; low = lower_not x p.0 }
 
 plain_raw : (last : List ℕ) (x : ℕ) (xs : List ℕ) → Plain x → raw_end_tag last (x ∷ xs) ≡ No
 plain_raw [] x xs p = refl
@@ -63,10 +37,6 @@ plain_opening (RawData Rawtext) last foreign x xs p = simp (plain_raw last x xs 
 plain_opening (RawData ScriptData) last foreign x xs p = simp (plain_raw last x xs p, p.cr, p.nul)
 plain_opening Plaintext last foreign x xs p = simp (p.cr, p.nul)
 plain_opening Cdata last foreign x xs p = simp (p.bracket, p.cr, p.nul)
-
-pub plain_escape : (references : Bool) (x : ℕ) (xs : List ℕ) → is_plain x ≡ true → escape references (x ∷ xs) ≡ No
-plain_escape true x xs h = let p = plain x h in simp (p.amp, p.cr, p.nul)
-plain_escape false x xs h = let p = plain x h in simp (p.cr, p.nul)
 
 -- a byte where nothing else is
 one_bit : {p : Place} {foreign : Bool} (x : ℕ) (xs : List ℕ) → opening p.mode p.last foreign (x ∷ xs) ≡ No → Bits p foreign (x ∷ xs) (x ∷ []) xs
@@ -106,19 +76,6 @@ takes_plain foreign (x ∷ xs) rest old new zero n some le h m s e f = record {
 takes_plain foreign (x ∷ xs) rest old new (suc c) n some le h m s e f =
     let same : n ≡ suc c = omega arith in
     some_plain foreign (x ∷ xs) rest old new n (omega arith) (omega arith) (λ k lt. h k (omega arith)) e f
-
-ascii : (x : ℕ) → is_plain x ≡ false → x < 128
-ascii x h = ⊎_elim (λ lt. lt) (λ le. absurd (false≢true (sym h ∙ high x le))) (cases_lt x 128)
-  where
-    high : (y : ℕ) → 128 ≤ y → is_plain y ≡ true
-    high y le = grind (arith, nat_tests)
-
-cut_more : (xs : List ℕ) (n : ℕ) → n ≤ length xs → (n < length xs → is_plain (get_or xs n 0) ≡ false) → IsCharBoundary xs n
-cut_more xs n le stops = ⊎_elim (λ lt. IsCharBoundary-before_ascii xs n lt (ascii (get_or xs n 0) (stops lt))) (λ ge. let e : length xs ≡ n = omega arith in subst (IsCharBoundary xs) e (IsCharBoundary-end xs)) (cases_lt n (length xs))
-
-pub cut_plain : (xs : List ℕ) (c n : ℕ) → IsUtf8 xs → 0 < length xs → c ≤ length xs → (c < length xs → is_plain (get_or xs c 0) ≡ false) → n ≡ max c 1 → IsCharBoundary xs n
-cut_plain xs zero n utf8 some le stops e = rw e (IsCharBoundary-after_ascii xs 0 utf8 some (ascii (get_or xs 0 0) (stops some)))
-cut_plain xs (suc c) n utf8 some le stops e = let same : n ≡ suc c = omega arith in rw same (cut_more xs (suc c) le stops)
 
 pub takes_bit : {p : Place} (foreign : Bool) (xs rest bit old new : List ℕ) → opening p.mode p.last foreign xs ≡ Found (Gives bit) rest → new ≡ old ++ bit → TakesBits p foreign xs rest old new
 takes_bit {p} foreign xs rest bit old new h e =

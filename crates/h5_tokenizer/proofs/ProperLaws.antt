@@ -1,5 +1,5 @@
 -- Bits of text aren't empty, and tokens that stand at the front are proper.
-use Rattle.std.proofs.Common.{ℕ, ◌<◌, Bool, true, false, List, [], ◌∷◌, ◌++◌, length, subst, arith}
+use Rattle.std.proofs.Common.{◌≡◌, ℕ, ◌<◌, Bool, true, false, List, [], ◌∷◌, ◌++◌, length, subst, arith}
 use Rattle.std.specs.Prelude.{codes}
 use Rattle.std.specs.Char.{is_ascii_alphabetic}
 use Rattle.h5_token.specs.TokenText.{TokenText, Characters}
@@ -12,13 +12,14 @@ use Rattle.h5_tokenizer.specs.declared.front.Mode.{Mode}
 use Rattle.h5_tokenizer.specs.declared.front.Mode.TheVariants.{Data, RawData, Plaintext, Cdata}
 use Rattle.h5_tokenizer.specs.declared.front.Construct.{Construct}
 use Rattle.h5_tokenizer.specs.declared.front.Construct.TheVariants.{Comment, Doctype, StartTag, EndTag, RawEndTag}
-use Rattle.h5_tokenizer.specs.Text.{gives, reference, newline, cleaned, escape}
+use Rattle.h5_constructs.specs.Text.{gives, reference, newline, cleaned, escape}
 use Rattle.h5_tokenizer.specs.Tokens.{start_of, token_of}
 use Rattle.h5_tokenizer.specs.Front.{Opening, Begins, Gives, Null, Turns, says, stands_for, cdata, in_data, raw_end_tag, reads_references, opening, Piece, Bit, Whole, Switch, finished, other, front, Place}
 use Rattle.h5_tokenizer.specs.Proper.{IsProper, AreProper}
 use Rattle.h5_tokenizer.specs.Read.{Bits, no_bit, more_bits, Step, marked, unmarked, token_step, switch_step, text_step, Read, nothing_read, read_on}
 
-abbrev IsFull : List ℕ → Type 0
+-- a text that is not empty
+abbrev pub IsFull : List ℕ → Type 0
 IsFull [] = ⊥
 IsFull (x ∷ xs) = Unit {0}
 
@@ -140,11 +141,15 @@ other_fits (x ∷ xs) = tt
 front_fits : (mode : Mode) (last : List ℕ) (foreign : Bool) (xs : List ℕ) → Holds Fits (front mode last foreign xs)
 front_fits mode last foreign xs = or_holds Fits _ _ (then_holds Opens Fits (opening mode last foreign xs) finished (opening_opens mode last foreign xs) finished_fits) (other_fits xs)
 
+-- a bit at the front is not empty
+pub bit_full : (mode : Mode) (last : List ℕ) (foreign : Bool) (xs bit rest : List ℕ) → front mode last foreign xs ≡ Found (Bit bit) rest → IsFull bit
+bit_full mode last foreign xs bit rest h = subst (Holds Fits) h (front_fits mode last foreign xs)
+
 full_more : (xs ys : List ℕ) → IsFull xs → IsFull (xs ++ ys)
 full_more [] ys h = absurd h
 full_more (x ∷ xs) ys h = tt
 
-bits_full : {p : Place} {foreign : Bool} {xs text ys : List ℕ} → length ys < length xs → Bits p foreign xs text ys → IsFull text
+pub bits_full : {p : Place} {foreign : Bool} {xs text ys : List ℕ} → length ys < length xs → Bits p foreign xs text ys → IsFull text
 bits_full less no_bit = absurd (omega arith)
 bits_full less (more_bits {p} {foreign} {xs} {rest} {text} bit h bits) = full_more bit text (subst (Holds Fits) h (front_fits p.mode p.last foreign xs))
 

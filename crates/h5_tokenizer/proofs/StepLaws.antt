@@ -15,7 +15,8 @@ use Rattle.h5_tokenizer.specs.declared.front.Mode.{Mode}
 use Rattle.h5_tokenizer.specs.declared.front.Construct.{Construct}
 use Rattle.h5_tokenizer.specs.declared.state.Stop.{Stop}
 use Rattle.h5_tokenizer.specs.declared.state.Search.{Search}
-use Rattle.h5_tokenizer.proofs.FrontTakes.{front_eats, found_shorter}
+use Rattle.h5_tokenizer.proofs.FrontTakes.{front_eats}
+use Rattle.h5_constructs.proofs.TextTakes.{found_shorter}
 use Rattle.h5_tokenizer.proofs.PlainLaws.{front_found, bits_join}
 
 module _ {M : Type 0} (reply_to : M → TokenText → Reply) (after : M → TokenText → M) (foreign : M → Bool) where

@@ -1,10 +1,6 @@
 -- The ends of tags, comments and doctypes.
 use Rattle.std.proofs.lemmas.Bool.{eqb-true}
 use Rattle.std.proofs.Common.{◌≡◌, ℕ, zero, suc, ◌<◌, ◌+◌, ◌&&◌, Bool, true, false, List, [], ◌∷◌, ◌++◌, eqb, length, get_or, refl, ap, arith}
-use Rattle.h5_scan.specs.Cuts.{past}
-use Rattle.h5_scan.specs.declared.cut.Class.TheVariants.{Blank}
-use Rattle.h5_tokenizer.specs.Text.{name_of}
-use Rattle.h5_tokenizer.specs.Doctypes.{doctype_at, identified, identifiers}
 use Rattle.h5_tokenizer.specs.Tokens.{last_is, is_dashes, without_dashes}
 
 pub last_byte : (byte : ℕ) (xs : List ℕ) (n : ℕ) → n + 1 ≡ length xs → eqb (get_or xs n 0) byte ≡ last_is byte xs
@@ -13,10 +9,6 @@ last_byte byte (x ∷ []) zero e = refl
 last_byte byte (x ∷ []) (suc n) e = absurd (omega arith)
 last_byte byte (x ∷ y ∷ xs) zero e = absurd (omega arith)
 last_byte byte (x ∷ y ∷ xs) (suc n) e = last_byte byte (y ∷ xs) n (omega arith)
-
-pub doctype_named : (name rest : List ℕ) → 0 < length name → doctype_at name rest ≡ identified (name_of name) (identifiers (past Blank rest))
-doctype_named [] rest some = absurd (omega arith)
-doctype_named (x ∷ name) rest some = refl
 
 not_dashes : (x : ℕ) (xs rest : List ℕ) → 0 < length xs → xs ≡ rest ++ 45 ∷ 45 ∷ [] → is_dashes (x ∷ xs) ≡ false
 not_dashes x xs [] some e = ap (λ l. is_dashes (x ∷ l)) e

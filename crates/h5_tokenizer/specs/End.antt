@@ -5,7 +5,7 @@ use Rattle.h5_token.specs.Reply.{Reply, Continues, RunsScript, TurnsPlain, Turns
 use Rattle.h5_token.specs.declared.fault.BuildFault.{BuildFault}
 use Rattle.h5_token.specs.declared.fault.BuildFault.TheVariants as fault
 use Rattle.h5_scan.specs.Matching.{Match, Open, No, Found}
-use Rattle.h5_tokenizer.specs.Text.{text_of}
+use Rattle.h5_constructs.specs.Text.{text_of}
 use Rattle.h5_tokenizer.specs.Front.{Opening, Begins, Gives, Null, Turns, opening}
 use Rattle.h5_tokenizer.specs.ReaderText.{ReaderText}
 use Rattle.h5_tokenizer.specs.declared.front.Mode.{Mode}

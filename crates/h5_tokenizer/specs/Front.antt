@@ -8,7 +8,7 @@ use Rattle.h5_scan.specs.Matching.{Match, Open, No, Found, and_then, or_else, li
 use Rattle.h5_scan.specs.Cuts.{is_in}
 use Rattle.h5_scan.specs.Ending.{up_to_end}
 use Rattle.h5_scan.specs.declared.cut.Class.TheVariants.{NameEnd}
-use Rattle.h5_tokenizer.specs.Text.{escape, reference, newline, cleaned}
+use Rattle.h5_constructs.specs.Text.{escape, reference, newline, cleaned}
 use Rattle.h5_tokenizer.specs.Tokens.{start_of, token_of}
 use Rattle.h5_tokenizer.specs.declared.front.Mode.{Mode}
 use Rattle.h5_tokenizer.specs.declared.front.Mode.TheVariants.{Data, RawData, Plaintext, Cdata}

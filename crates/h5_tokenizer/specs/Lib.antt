@@ -1,6 +1,3 @@
-pub mod Text
-pub mod Attributes
-pub mod Doctypes
 pub mod Tokens
 pub mod Front
 pub mod Openings
@@ -10,8 +7,8 @@ pub mod ReaderText
 pub mod Outcome
 pub mod End
 pub mod Options
-pub mod Writing
-pub mod Quoting
 pub mod Logged
 pub mod Proper
 pub mod Lines
+pub mod Joins
+pub mod Whole

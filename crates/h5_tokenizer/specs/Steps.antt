@@ -1,5 +1,5 @@
 -- What one step of the reader did.
-use Rattle.std.specs.Prelude.{◌≡◌, ℕ, Bool, true, false, List, ◌++◌, length, ◌<◌, ◌≤◌, ◌==◌, ◌||◌, ◌⊎◌, not, take, Result, Ok, Err, Option, Some, None, string_bytes}
+use Rattle.std.specs.Prelude.{◌≡◌, ℕ, Bool, true, false, List, ◌++◌, length, ◌<◌, ◌≤◌, ◌⊎◌, take, Result, Ok, Err, Option, Some, None, string_bytes}
 use Rattle.std.specs.Borrow.{Bor}
 use Rattle.h5_token.specs.TokenText.{TokenText}
 use Rattle.h5_token.specs.Reply.{Reply, RunsScript, Indicates, Refuses, reply}
@@ -24,10 +24,6 @@ use Rattle.h5_tokenizer.specs.declared.state.Turn.TheVariants.{Waits, Goes, Stop
 
 abbrev pub place_of : State → Place
 place_of state = record { at_start = state.at_start; mode = state.mode; last = string_bytes state.last }
-
--- a byte that begins nothing but text, in every state
-abbrev pub is_plain : ℕ → Bool
-is_plain x = not (x == 60 || (x == 38 || (x == 13 || (x == 0 || x == 93))))
 
 -- From xs on, up to ys, there is text, which was put behind what had been there.
 pub record TakesBits (p : Place) (foreign : Bool) (xs ys old new : List ℕ) : Type 0 where

@@ -7,9 +7,9 @@ use Rattle.h5_scan.specs.Ending.{place_after}
 use Rattle.h5_scan.specs.declared.cut.Class.TheVariants.{NameEnd}
 use Rattle.h5_scan.specs.declared.ending.Inside.{Inside}
 use Rattle.h5_scan.specs.declared.ending.Inside.TheVariants as inside
-use Rattle.h5_tokenizer.specs.Text.{text_of, name_of}
-use Rattle.h5_tokenizer.specs.Attributes.{attributes_of, distinct, has_duplicates}
-use Rattle.h5_tokenizer.specs.Doctypes.{doctype_of}
+use Rattle.h5_constructs.specs.Text.{text_of, name_of}
+use Rattle.h5_constructs.specs.Attributes.{attributes_of, distinct, has_duplicates}
+use Rattle.h5_constructs.specs.Doctypes.{doctype_of}
 use Rattle.h5_tokenizer.specs.declared.front.Construct.{Construct}
 use Rattle.h5_tokenizer.specs.declared.front.Construct.TheVariants.{Comment, Doctype, StartTag, EndTag, RawEndTag}
 

@@ -4,9 +4,9 @@ ghost use Rattle.h5_scan.specs.Matching.{and_then, or_else, Found};
 ghost use Rattle.h5_scan.specs.Seen.{seen};
 ghost use Rattle.h5_tokenizer.specs.Front as f;
 ghost use Rattle.h5_tokenizer.specs.Openings.{opening_of};
-ghost use Rattle.h5_tokenizer.specs.Text as t;
+ghost use Rattle.h5_constructs.specs.Text as t;
 
-use super::text::{cleaned, escape, newline, reference};
+use h5_constructs::{cleaned, escape, newline, reference};
 use h5_scan::{Seen, literal, name_is, peek_letter, word};
 use h5_token::states::RawKind;
 

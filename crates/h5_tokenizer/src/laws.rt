@@ -1,5 +1,5 @@
 //! Laws of what the reader hands on, each the contract of a function that does nothing.
-ghost use Rattle.std.specs.Prelude.{◌≡◌, ℕ, true, List, ◌++◌};
+ghost use Rattle.std.specs.Prelude.{◌≡◌, ℕ, Bool, true, List, ◌++◌};
 ghost use Rattle.h5_token.specs.Reply.{Reply};
 ghost use Rattle.h5_token.specs.TokenText.{TokenText};
 ghost use Rattle.h5_tokenizer.specs.Front.{Place};
@@ -30,4 +30,70 @@ pub fn readings_join<S: TokenSink>()
         → goes_on reply ≡ true
         → Read S.reply_to S.after S.is_foreign q n ys us next r o zs
         → (last : Reply) × ((goes_on next ≡ true → goes_on last ≡ true) × Read S.reply_to S.after S.is_foreign p m xs (ts ++ us) last r o zs) }
+{}
+
+ghost use Rattle.std.specs.Prelude.{[], Ok, false};
+ghost use Rattle.h5_tokenizer.specs.End.{Closes, refuses, settle};
+ghost use Rattle.h5_tokenizer.specs.Joins.{join};
+ghost use Rattle.h5_tokenizer.specs.Read.{IsUndecided};
+ghost use Rattle.h5_tokenizer.specs.Outcome.{Feeds};
+ghost use Rattle.h5_tokenizer.specs.ReaderText.{ReaderText};
+ghost use Rattle.h5_tokenizer.specs.Whole.{closing, HasRead, IsBlindToCuts, Readings, ReadsToEnd};
+ghost use Rattle.h5_tokenizer.specs.declared.result.TokenizerResult.{TokenizerResult};
+
+/// Readings, and then one of what they left and of more input behind it, are readings of the whole input.
+/// So what calls of `feed` read in turn is read of all that was fed, one piece behind the other.
+pub fn pieces_join<S: TokenSink>()
+    ensures { (p : Place) (m : S.Meaning) (xs : List ℕ) (ts : List TokenText) (q : Place) (n : S.Meaning) (ys more : List ℕ)
+        (us : List TokenText) (reply : Reply) (r : Place) (o : S.Meaning) (zs : List ℕ) →
+        Readings S.reply_to S.after S.is_foreign p m xs ts q n ys
+        → Read S.reply_to S.after S.is_foreign q n (ys ++ more) us reply r o zs
+        → refuses reply ≡ false
+        → Readings S.reply_to S.after S.is_foreign p m (xs ++ more) (ts ++ us) r o zs }
+{}
+
+/// The same of a call of `feed` that goes well: what waits then, held or in the queue, is what is left of all
+/// that was fed.
+pub fn feeds_join<S: TokenSink>()
+    ensures { (p : Place) (m : S.Meaning) (xs more : List ℕ) (q : Place) (n : S.Meaning) (ys : List ℕ)
+        (new : ReaderText) (o : S.Meaning) (queue : List ℕ) (answer : TokenizerResult S.Handle) →
+        HasRead S.reply_to S.after S.is_foreign p m xs q n ys
+        → Feeds S.reply_to S.after S.is_foreign S.node q n (ys ++ more) new o queue (Ok answer)
+        → HasRead S.reply_to S.after S.is_foreign p m (xs ++ more) new.place o (new.held ++ queue) }
+{}
+
+/// Nothing is decided where no input is left.
+pub fn nothing_is_undecided()
+    ensures { (p : Place) (foreign : Bool) → IsUndecided p foreign [] }
+{}
+
+/// Readings up to an undecided rest, and then the end, read the input to its end.
+pub fn the_end_ends_readings<S: TokenSink>()
+    ensures { (p : Place) (m : S.Meaning) (xs : List ℕ) (ts : List TokenText) (q : Place) (n : S.Meaning) (ys : List ℕ) (o : S.Meaning) →
+        Readings S.reply_to S.after S.is_foreign p m xs ts q n ys
+        → IsUndecided q (S.is_foreign n) ys
+        → Closes S.reply_to S.after S.ended n (settle q.mode q.last (S.is_foreign n) ys) o (Ok tt)
+        → ReadsToEnd S.reply_to S.after S.is_foreign S.ended p m xs (ts ++ closing (settle q.mode q.last (S.is_foreign n) ys)) o }
+{}
+
+/// A relation of what is seen of a sink's meanings, for the law of cuts. It has no code.
+pub trait Likeness {
+    ghost Seen: { Type 0 };
+
+    ghost alike: { Seen → Seen → Type 0 };
+}
+
+/// How an input is cut doesn't matter: two readings of it to its end, over two meanings of a sink that are
+/// alike, hand on lists of tokens that differ in cuts of texts alone, and leave meanings that are alike.
+///
+/// That holds for every equivalence of meanings that is kept by equal tokens, gives equal answers, and
+/// doesn't see how a text is cut.
+pub fn cuts_of_the_input_agree<S: TokenSink, L: Likeness>()
+    ensures { (see : S.Meaning → L.Seen) →
+        IsBlindToCuts S.reply_to S.after S.is_foreign S.ended (λ m n. L.alike (see m) (see n))
+        → (p : Place) (m n : S.Meaning) (xs : List ℕ) (ts us : List TokenText) (k l : S.Meaning) →
+        L.alike (see m) (see n)
+        → ReadsToEnd S.reply_to S.after S.is_foreign S.ended p m xs ts k
+        → ReadsToEnd S.reply_to S.after S.is_foreign S.ended p n xs us l
+        → (join ts ≡ join us) × L.alike (see k) (see l) }
 {}

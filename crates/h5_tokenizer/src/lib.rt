@@ -1,9 +1,7 @@
 //! The plain reader: from text to tokens, for every taker of tokens.
 #![tactic(auto)]
 
-mod attributes;
 mod buffer;
-mod doctypes;
 mod ending;
 mod front;
 pub mod laws;
@@ -17,7 +15,6 @@ mod state;
 mod steps;
 #[cfg(test)]
 mod tests;
-mod text;
 mod tokenizer;
 mod tokens;
 

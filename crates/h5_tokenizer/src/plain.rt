@@ -1,37 +1,17 @@
 //! Text, up to what is more than that.
-ghost use Rattle.std.specs.Prelude.{◌≡◌, ℕ, Bool, true, false, IfOk, ◌<◌, ◌≤◌, length, slice_index};
+ghost use Rattle.std.specs.Prelude.{◌≡◌, Bool, false, IfOk, ◌<◌, length};
 ghost use Rattle.std.specs.String.{string_bytes};
 ghost use Rattle.std.specs.Option.{option_copied};
 ghost use Rattle.h5_scan.specs.Matching as m;
 ghost use Rattle.h5_scan.specs.Seen.{seen};
 ghost use Rattle.h5_tokenizer.specs.Front.{Place, opening};
 ghost use Rattle.h5_tokenizer.specs.Openings.{opening_of};
-ghost use Rattle.h5_tokenizer.specs.Steps.{is_plain, place_of, TakesBits, TakesSome, TakesMany};
+ghost use Rattle.h5_tokenizer.specs.Steps.{place_of, TakesBits, TakesSome, TakesMany};
 
 use super::front::{Mode, Opening, find_opening};
+use h5_constructs::plain_len;
 use h5_scan::Seen;
 use std::alloc::AllocError;
-
-fn is_plain(b: u8) -> bool
-    ensures { result ≡ is_plain b }
-{
-    !(b == b'<' || b == b'&' || b == b'\r' || b == 0 || b == b']')
-}
-
-/// How many bytes at the front are text in every state.
-pub fn plain_len(text: &str) -> usize
-    ensures within { result ≤ length text.now }
-    ensures plain { (k : ℕ) → k < result → is_plain (slice_index text.now k) ≡ true }
-    ensures stops { result < length text.now → is_plain (slice_index text.now result) ≡ false }
-{
-    let bytes = text.as_bytes();
-    for (i, b) in bytes.iter().enumerate() {
-        if !is_plain(*b) {
-            return i;
-        }
-    }
-    bytes.len()
-}
 
 /// Takes text where nothing else stands: all that is plain, or one byte that might have begun something.
 pub fn take_plain<'a>(text: &'a str, out: &mut String) -> Result<&'a str, AllocError>

@@ -270,3 +270,65 @@ fn stops_at_a_script(rt: HostRuntime) -> Result<(), Fail> {
     assert!(rt; matches!(reader.feed(&mut queue), Err(BuildFault::AfterEnd)));
     Ok(())
 }
+
+// A piece that waits to be read, unless memory is refused.
+fn queued(alloc: Global, queue: &mut BufferQueue, piece: &str) -> Result<(), AllocError> {
+    queue.push_back(String::from_str(alloc, piece)?)
+}
+
+// Feeds both pieces and the end, and gives the first fault of the reader.
+fn first_fault(
+    reader: &mut Tokenizer<Log>,
+    queue: &mut BufferQueue,
+    alloc: Global,
+) -> Option<BuildFault> {
+    for piece in [
+        "a<!-- b",
+        " --><c d='e' f>&amp;\r</g><!doctype h public 'i' 'j'>\0k<!-- l",
+    ] {
+        if queued(alloc, queue, piece).is_err() {
+            return None;
+        }
+        if let Err(fault) = reader.feed(queue) {
+            return Some(fault);
+        }
+    }
+    reader.end().err()
+}
+
+#[test]
+fn refused_memory_is_told_and_then_the_reader_has_failed(rt: HostRuntime) -> Result<(), Fail> {
+    let alloc = rt.alloc();
+    let mut reader = Tokenizer::new(alloc, make_log(alloc), TokenizerOpts::default());
+    let mut queue = BufferQueue::new(alloc);
+    if let Some(fault) = first_fault(&mut reader, &mut queue, alloc) {
+        assert_eq!(rt; fault, BuildFault::Memory);
+        assert!(rt; matches!(reader.feed(&mut queue), Err(BuildFault::Failed)));
+        assert_eq!(rt; reader.end().err(), Some(BuildFault::Failed));
+    }
+    Ok(())
+}
+
+/// Sees all that the log means.
+struct SeesAll;
+
+impl laws::Likeness for SeesAll {
+    ghost use Rattle.std.specs.Prelude.{◌≡◌, Bool, Option};
+    ghost use Rattle.h5_token.specs.declared.states.RawKind.{RawKind};
+
+    ghost Seen = { Bool × Bool × Option RawKind };
+
+    ghost alike = { λ m n. m ≡ n };
+}
+
+#[test]
+fn laws_are_of_every_sink() {
+    laws::no_errors_and_no_empty_texts::<Log>();
+    laws::reading_goes_on::<Log>();
+    laws::readings_join::<Log>();
+    laws::pieces_join::<Log>();
+    laws::feeds_join::<Log>();
+    laws::nothing_is_undecided();
+    laws::the_end_ends_readings::<Log>();
+    laws::cuts_of_the_input_agree::<Log, SeesAll>();
+}

@@ -6,6 +6,7 @@ ghost use Rattle.h5_tree_builder.specs.Held.{building};
 use super::builder::TreeBuilder;
 use super::foreign::is_current_foreign;
 use h5_interface::TreeSink;
+use h5_state::tell_error;
 
 impl<Handle: Drop, Sink: TreeSink<Handle = Handle> + Drop> TreeBuilder<Handle, Sink> {
     /// How many turns the token took that was taken last: the rules that were applied one after the other.
@@ -31,5 +32,21 @@ impl<Handle: Drop, Sink: TreeSink<Handle = Handle> + Drop> TreeBuilder<Handle, S
         ensures { result ≡ is_foreign_in (building Sink.sees Sink.node self.now).view.world }
     {
         is_current_foreign(&self.sink, &self.state)
+    }
+
+    /// The sink, as it is now.
+    pub fn into_sink(self) -> Sink
+        ensures { result ≡ self.sink }
+    {
+        let TreeBuilder { sink, .. } = self;
+        sink
+    }
+
+    /// Tells the sink of an error that isn't the builder's. Forest and quirks mode stay.
+    pub fn tell_error(&mut self, message: &str)
+        ensures view { (building Sink.sees Sink.node self.new).view ≡ (building Sink.sees Sink.node self.old).view }
+        ensures turns { self.new.turns ≡ self.old.turns }
+    {
+        tell_error(&mut self.sink, &self.state, message);
     }
 }

@@ -17,3 +17,4 @@ mod whole;
 
 pub use builder::TreeBuilder;
 pub use replies::Reply;
+pub use h5_types::TreeBuilderOpts;

@@ -1,0 +1,5 @@
+pub mod TextTakes
+pub mod PlainBytes
+pub mod TextLaws
+pub mod AttributeLaws
+pub mod DoctypeLaws

@@ -1,0 +1,7 @@
+use Rattle.std.proofs.Common.{sym, ◌∙◌}
+use Rattle.std.proofs.lemmas.Bool.{eqb-true}
+use Rattle.h5_constructs.proofs.TextLaws.{text_done}
+use Rattle.h5_constructs.proofs.text.text_of.Goals as goal
+
+pub returns : goal.returns
+returns c = text_done c.args.references _ c.loop-rest.rest.now _ (eqb-true _ _ (sym c.is_empty.ensures ∙ c.loop-rest-test.false)) c.loop-rest.invariant.same

@@ -1,0 +1,6 @@
+pub mod Plain
+pub mod Text
+pub mod Attributes
+pub mod Doctypes
+pub mod Writing
+pub mod Quoting

@@ -1,0 +1,163 @@
+//! The attributes of a tag.
+ghost use Rattle.std.specs.Prelude.{◌≡◌, ◌<◌, ◌||◌, ◌∷◌, IfOk, [], true, false, drop, length};
+ghost use Rattle.h5_names.specs.AttributeText.{attribute_text, attribute_texts};
+ghost use Rattle.h5_scan.specs.Cuts.{is_in, from};
+ghost use Rattle.h5_constructs.specs.Attributes as a;
+ghost use Rattle.h5_constructs.specs.Writing.{written, WrittenAt};
+ghost use Rattle.h5_constructs.specs.Text as t;
+
+use super::text::text_of;
+use h5_names::{Attribute, LocalName, Namespace, QualName, namespaces};
+use h5_scan::{Class, Seen, cut_at, cut_name, cut_past, literal, skip};
+use std::alloc::{AllocError, Global};
+
+/// A name as a tag or an attribute has it: NULs are U+FFFD, newlines LF, and ASCII letters in lower case.
+/// `AllocError` where memory is refused (HTML standard, section 13.2.5.8, "Tag name state").
+pub fn make_name(alloc: Global, text: &str) -> Result<LocalName, AllocError>
+    ensures { IfOk result (λ name. name ≡ t.name_of text.now) }
+{
+    let mut lower = text_of(alloc, false, text)?;
+    lower.make_ascii_lowercase();
+    LocalName::new(alloc, lower.as_str())
+}
+
+/// An attribute as it is written, and what follows it.
+#[derive(Drop)]
+pub struct Written<'a> {
+    pub name: &'a str,
+    pub value: &'a str,
+    pub rest: &'a str,
+}
+
+fn cut_unquoted<'a>(name: &'a str, text: &'a str) -> Written<'a>
+    ensures { written result ≡ a.value_to Class.ValueEnd name.entry.now text.entry.now (from (is_in Class.ValueEnd) text.entry.now) }
+{
+    let (value, rest) = cut_at(text, Class::ValueEnd);
+    Written { name, value, rest }
+}
+
+fn cut_quoted<'a>(name: &'a str, text: &'a str, class: Class) -> Written<'a>
+    ensures { written result ≡ a.value_to class name.entry.now text.entry.now (drop 1 (from (is_in class) text.entry.now)) }
+{
+    let (value, rest) = cut_past(text, class);
+    Written { name, value, rest }
+}
+
+// The value behind a `=` and blanks.
+fn cut_value<'a>(name: &'a str, text: &'a str) -> Written<'a>
+    ensures { written result ≡ a.valued name.entry.now text.entry.now }
+{
+    match literal(text, "\"") {
+        Seen::Found(_, inner) => cut_quoted(name, inner, Class::DoubleQuote),
+        Seen::Open => cut_unquoted(name, text),
+        Seen::No => match literal(text, "'") {
+            Seen::Found(_, inner) => cut_quoted(name, inner, Class::SingleQuote),
+            Seen::Open => cut_unquoted(name, text),
+            Seen::No => cut_unquoted(name, text),
+        },
+    }
+}
+
+// What follows a name and blanks.
+fn cut_rest<'a>(name: &'a str, text: &'a str) -> Written<'a>
+    ensures { written result ≡ a.with_value name.entry.now text.entry.now }
+{
+    match literal(text, "=") {
+        Seen::Found(_, inner) => cut_value(name, skip(inner, Class::Blank)),
+        Seen::Open => Written {
+            name,
+            value: "",
+            rest: text,
+        },
+        Seen::No => Written {
+            name,
+            value: "",
+            rest: text,
+        },
+    }
+}
+
+// The attribute at the front.
+fn cut_attribute<'a>(text: &'a str) -> Written<'a>
+    requires { 0 < length text.now }
+    ensures { WrittenAt text.now (written result) }
+{
+    let (name, behind) = cut_name(text, Class::AttributeNameEnd);
+    cut_rest(name, skip(behind, Class::Blank))
+}
+
+fn make_attribute(alloc: Global, name: LocalName, value: &str) -> Result<Attribute, AllocError>
+    ensures { IfOk result (λ attribute. attribute_text attribute ≡ a.attribute_named name (t.text_of true value.now)) }
+{
+    Ok(Attribute {
+        name: QualName::new(None, Namespace::new(alloc, namespaces::NONE)?, name),
+        value: text_of(alloc, true, value)?,
+    })
+}
+
+fn is_named_in(name: &LocalName, attributes: &[Attribute]) -> bool
+    ensures { result ≡ a.is_named_in name.now (attribute_texts attributes.now) }
+{
+    for attribute in attributes {
+        if attribute.name.local == *name {
+            return true;
+        }
+    }
+    false
+}
+
+/// The attributes that were kept, each name once, and whether one came twice.
+#[derive(Drop)]
+pub struct Kept {
+    pub attributes: Vec<Attribute>,
+    pub duplicates: bool,
+}
+
+impl Kept {
+    ghost use Rattle.std.specs.Prelude.{List};
+    ghost use Rattle.h5_names.specs.AttributeText.{AttributeText};
+
+    // Keeps an attribute, unless its name is there.
+    fn keep(&mut self, alloc: Global, name: LocalName, value: &str) -> Result<(), AllocError>
+        ensures attributes { IfOk result (λ _. (others : List AttributeText) →
+            a.distinct (attribute_texts self.new.attributes.items) others
+            ≡ a.distinct (attribute_texts self.old.attributes.items) (a.attribute_named name (t.text_of true value.now) ∷ others)) }
+        ensures duplicates { IfOk result (λ _. (others : List AttributeText) →
+            (self.new.duplicates || a.repeats (attribute_texts self.new.attributes.items) others)
+            ≡ (self.old.duplicates || a.repeats (attribute_texts self.old.attributes.items) (a.attribute_named name (t.text_of true value.now) ∷ others))) }
+    {
+        if is_named_in(&name, &self.attributes) {
+            self.duplicates = true;
+            return Ok(());
+        }
+        let attribute = make_attribute(alloc, name, value)?;
+        self.attributes.push(attribute)?;
+        Ok(())
+    }
+}
+
+/// The attributes of a tag, by what stands between its name and the `>` that ends it, in their order. One
+/// whose name came before is left out. `AllocError` where memory is refused (HTML standard, sections
+/// 13.2.5.32, "Before attribute name state", to 13.2.5.40, "Self-closing start tag state").
+pub fn read_attributes(alloc: Global, text: &str) -> Result<Kept, AllocError>
+    ensures attributes { IfOk result (λ kept. attribute_texts kept.attributes.items ≡ a.distinct [] (a.attributes_of text.now)) }
+    ensures duplicates { IfOk result (λ kept. kept.duplicates ≡ a.has_duplicates (a.attributes_of text.now)) }
+{
+    let mut kept = Kept {
+        attributes: Vec::new(alloc),
+        duplicates: false,
+    };
+    let mut rest = text;
+    'attributes: loop {
+        let front = skip(rest, Class::BetweenAttributes);
+        if front.is_empty() {
+            return Ok(kept);
+        }
+        let attribute = cut_attribute(front);
+        let name = make_name(alloc, attribute.name)?;
+        kept.keep(alloc, name, attribute.value)?;
+        // That it is text holds for the loop's next turn.
+        let _bytes = attribute.rest.as_bytes();
+        rest = attribute.rest;
+    }
+}

@@ -1,0 +1,14 @@
+//! The parts of texts, tags and doctypes, by what stands between their marks.
+#![tactic(auto)]
+
+mod attributes;
+mod doctypes;
+mod plain;
+#[cfg(test)]
+mod tests;
+mod text;
+
+pub use attributes::{Kept, make_name, read_attributes};
+pub use doctypes::make_doctype;
+pub use plain::plain_len;
+pub use text::{cleaned, escape, newline, reference, text_of};

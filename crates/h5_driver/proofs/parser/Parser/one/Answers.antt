@@ -1,0 +1,18 @@
+use Rattle.std.proofs.Common.{◌++◌}
+use Rattle.h5_driver.specs.Parsing.{view_of}
+use Rattle.h5_driver.proofs.ReadingLaws.{nothing_read_yet, piece_taken, told_behind}
+use Rattle.h5_driver.proofs.parser.Parser.one.Goals as goal
+
+pub returns-clause-parses : goal.returns-clause-parses
+returns-clause-parses g c =
+    let k = g.Sink.TreeSink.rules in
+    let sees = g.Sink.TreeSink.sees in
+    let node = g.Sink.TreeSink.node in
+    let first = c.args.self in
+    let now = c.process.new.self in
+    let base = first.reader.held ++ first.waiting in
+    let took = c.in_ok-process.ensures.takes in
+    told_behind k g.Sink.TreeSink.told first.reader.place now.reader.place (view_of sees node first) (view_of sees node now) (base ++ c.args.text.now) (now.reader.held ++ now.waiting)
+    (piece_taken k first.reader.place first.reader.place now.reader.place (view_of sees node first) (view_of sees node first) (view_of sees node now) base first.reader.held first.waiting c.args.text.now now.reader.held now.waiting
+    (nothing_read_yet k first.reader.place (view_of sees node first) base) took.takes took.none_waits)
+    c.finish.result c.finish.ensures.parses

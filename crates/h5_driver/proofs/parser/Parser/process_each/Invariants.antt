@@ -1,0 +1,17 @@
+use Rattle.std.proofs.Common.{◌≡◌, ◌++◌, ℕ, List, length, map, string_bytes}
+use Rattle.h5_driver.specs.Parsing.{Advances, joined, view_of}
+use Rattle.h5_driver.proofs.parser.Parser.process_each.Given as goal
+
+abbrev pub invariant-pieces : goal.invariant-pieces
+invariant-pieces g l =
+    let k = g.Sink.TreeSink.rules in
+    let first = l.fn.self in
+    let now = l.self in
+    record {
+      flag : now.failed ≡ first.failed;
+      advances : (text : List ℕ) × (Advances k first.reader.place (view_of g.Sink.TreeSink.sees g.Sink.TreeSink.node first) text now.reader.place (view_of g.Sink.TreeSink.sees g.Sink.TreeSink.node now) (now.reader.held ++ now.waiting)
+          × (text ++ joined (map string_bytes l.left) ≡ (first.reader.held ++ first.waiting) ++ joined (map string_bytes l.fn.pieces)));
+    }
+
+abbrev pub decreases-pieces : goal.decreases-pieces
+decreases-pieces g l = length l.left

@@ -1,0 +1,13 @@
+use Rattle.std.proofs.Common.{◌++◌, map, string_bytes}
+use Rattle.h5_driver.specs.Parsing.{joined, view_of}
+use Rattle.h5_driver.proofs.ReadingLaws.{told_behind}
+use Rattle.h5_driver.proofs.parser.Parser.process_pieces.Goals as goal
+
+pub returns-clause-parses : goal.returns-clause-parses
+returns-clause-parses g c =
+    let sees = g.Sink.TreeSink.sees in
+    let node = g.Sink.TreeSink.node in
+    let first = c.args.self in
+    let now = c.process_each.new.self in
+    told_behind g.Sink.TreeSink.rules g.Sink.TreeSink.told first.reader.place now.reader.place (view_of sees node first) (view_of sees node now)
+    ((first.reader.held ++ first.waiting) ++ joined (map string_bytes c.args.pieces.now)) (now.reader.held ++ now.waiting) c.in_ok-process_each.ensures.takes c.finish.result c.finish.ensures.parses

@@ -1,0 +1,18 @@
+use Rattle.std.proofs.Common.{◌≡◌, ◌++◌, length}
+use Rattle.h5_tree_builder.specs.Held.{building}
+use Rattle.h5_tokenizer.specs.declared.stage.Stage.TheVariants.{Reading}
+use Rattle.h5_driver.specs.Parsing.{Advances, IsWorking}
+use Rattle.h5_driver.proofs.parser.feed_all.Given as goal
+
+abbrev pub invariant-pieces : goal.invariant-pieces
+invariant-pieces g l =
+    let now = (building g.Sink.TreeSink.sees g.Sink.TreeSink.node l.tokenizer.sink).view in
+    let first = (building g.Sink.TreeSink.sees g.Sink.TreeSink.node l.fn.tokenizer.sink).view in
+    record {
+      reading : l.tokenizer.reader.stage ≡ Reading;
+      works : IsWorking now;
+      advances : Advances g.Sink.TreeSink.rules l.fn.tokenizer.reader.place first (l.fn.tokenizer.reader.held ++ l.fn.queue) l.tokenizer.reader.place now (l.tokenizer.reader.held ++ l.queue);
+    }
+
+abbrev pub decreases-pieces : goal.decreases-pieces
+decreases-pieces g l = length (l.tokenizer.reader.held ++ l.queue)

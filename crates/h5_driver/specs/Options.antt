@@ -1,0 +1,7 @@
+-- The options that hold where nothing else is said.
+use Rattle.h5_types.specs.Options.{default_options as of_builder}
+use Rattle.h5_tokenizer.specs.Options.{default_options as of_reader}
+use Rattle.h5_driver.specs.declared.options.ParseOpts.{ParseOpts}
+
+abbrev pub default_options : ParseOpts
+default_options = record { tokenizer = of_reader; tree_builder = of_builder }

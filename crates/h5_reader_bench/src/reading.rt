@@ -1,0 +1,45 @@
+//! A reading of a text in pieces of one size.
+ghost use Rattle.std.specs.Prelude.{◌<◌};
+
+use super::sink::{Answer, Counter};
+use h5_token::{BuildFault, TokenSink};
+use h5_tokenizer::{BufferQueue, Tokenizer, TokenizerOpts, TokenizerResult};
+use std::alloc::Global;
+
+// Feeds a piece, and again where the sink's answer stopped the reader.
+fn feed<S: TokenSink>(
+    reader: &mut Tokenizer<S>,
+    queue: &mut BufferQueue,
+    piece: String,
+) -> Result<(), BuildFault> {
+    queue.push_back(piece)?;
+    for _ in 0..u64::MAX {
+        if let TokenizerResult::Done = reader.feed(queue)? {
+            break;
+        }
+    }
+    Ok(())
+}
+
+/// How many tokens a text is, read in pieces of so many bytes. What can't be cut so is left out.
+pub fn count_tokens(
+    alloc: Global,
+    text: &str,
+    size: usize,
+    answer: Answer,
+) -> Result<u64, BuildFault>
+    requires { 0 < size }
+{
+    let sink = Counter { tokens: 0, answer };
+    let mut reader = Tokenizer::new(alloc, sink, TokenizerOpts::default());
+    let mut queue = BufferQueue::new(alloc);
+    let mut rest = text;
+    while rest.len() > size && rest.is_char_boundary(size) {
+        let (front, back) = rest.split_at(size);
+        feed(&mut reader, &mut queue, String::from_str(alloc, front)?)?;
+        rest = back;
+    }
+    feed(&mut reader, &mut queue, String::from_str(alloc, rest)?)?;
+    reader.end()?;
+    Ok(reader.sink.tokens)
+}

@@ -1,0 +1,199 @@
+-- Readings do what is done bit by bit, up to cuts of texts.
+use Rattle.std.proofs.Common.{◌≡◌, ℕ, ◌<◌, Bool, true, false, List, [], ◌∷◌, ◌++◌, length, refl, sym, ap, ◌∙◌, subst, arith, append-nil}
+use Rattle.h5_token.specs.TokenText.{TokenText, Characters}
+use Rattle.h5_token.specs.Reply.{Reply}
+use Rattle.h5_scan.specs.Matching.{Match, Open, No, Found, and_then, or_else, literal}
+use Rattle.std.specs.Prelude.{codes, Option}
+use Rattle.h5_constructs.specs.Text.{reference, newline}
+use Rattle.h5_tokenizer.specs.declared.front.Mode.{Mode}
+use Rattle.h5_tokenizer.specs.declared.front.Mode.TheVariants.{Data, RawData, Plaintext, Cdata}
+use Rattle.h5_tokenizer.specs.Front.{Opening, Turns, says, stands_for, comment, doctype, end_tag, start_tag, null, Piece, Bit, Whole, Switch, finished, other, front, Place}
+use Rattle.h5_tokenizer.specs.Joins.{glue, join}
+use Rattle.h5_tokenizer.specs.Read.{Bits, no_bit, more_bits, Step, marked, unmarked, token_step, switch_step, text_step, Read, nothing_read, read_on, started, in_mode, next_place}
+use Rattle.h5_tokenizer.specs.Whole.{IsBlindToCuts, Readings, no_reading, more_reading, ReadsToEnd, closing, after_all}
+use Rattle.h5_tokenizer.specs.End.{settle}
+use Rattle.h5_tokenizer.proofs.ProperLaws.{IsFull, bit_full, bits_full}
+use Rattle.h5_tokenizer.proofs.JoinLaws.{joins_append}
+use Rattle.h5_tokenizer.proofs.DeedLaws.{Deed, Begun, Done, behind_mark, done, deed, deed_begins, deed_goes_on, deed_waits, tokens_of, place_behind, meaning_behind, Runs, stays, does, runs_join, same_runs}
+
+-- what is text where a CDATA part might begin is text where none may
+bit_by : (c d : Match Opening) (m : Match (Unit {0})) (r : Match Opening) (o : Match Piece) (bit rest : List ℕ)
+    → or_else (and_then (or_else c (or_else d (or_else (says (Turns Cdata) m) r))) finished) o ≡ Found (Bit bit) rest
+    → or_else (and_then (or_else c (or_else d (or_else No r))) finished) o ≡ Found (Bit bit) rest
+bit_by Open d m r o bit rest h = h
+bit_by (Found a l) d m r o bit rest h = h
+bit_by No Open m r o bit rest h = h
+bit_by No (Found a l) m r o bit rest h = h
+bit_by No No Open r o bit rest h = cc
+bit_by No No No r o bit rest h = h
+bit_by No No (Found a l) r o bit rest h = cc
+
+bit_anyway : (mode : Mode) (last : List ℕ) (foreign : Bool) (xs bit rest : List ℕ) → front mode last true xs ≡ Found (Bit bit) rest → front mode last foreign xs ≡ Found (Bit bit) rest
+bit_anyway mode last true xs bit rest h = h
+bit_anyway Data last false xs bit rest h =
+    bit_by (comment xs) (doctype xs) (literal (codes "<![CDATA[") xs)
+    (or_else (end_tag xs) (or_else (start_tag xs) (or_else (stands_for (reference xs)) (or_else (stands_for (newline xs)) (null xs)))))
+    (other xs) bit rest h
+bit_anyway (RawData kind) last false xs bit rest h = h
+bit_anyway Plaintext last false xs bit rest h = h
+bit_anyway Cdata last false xs bit rest h = h
+
+-- a text as a list of tokens; the empty one is none
+abbrev told : List ℕ → List TokenText
+told [] = []
+told (x ∷ xs) = Characters (x ∷ xs) ∷ []
+
+told_glues : (bit text : List ℕ) → IsFull bit → join (told (bit ++ text)) ≡ glue bit (join (told text))
+told_glues [] text full = absurd full
+told_glues (x ∷ bit) [] full = ap (λ l. Characters (x ∷ l) ∷ []) (append-nil bit)
+told_glues (x ∷ bit) (y ∷ text) full = refl
+
+module _ {M : Type 0} (reply_to : M → TokenText → Reply) (after : M → TokenText → M) (foreign : M → Bool) (ended : M → M) (alike : M → M → Type 0) (blind : IsBlindToCuts reply_to after foreign ended alike) where
+  -- what the sink means after a text
+  abbrev after_text : M → List ℕ → M
+  after_text m [] = m
+  after_text m (x ∷ xs) = after m (Characters (x ∷ xs))
+
+  after_cut : (m n : M) (bit text : List ℕ) → IsFull bit → alike (after_text (after m (Characters bit)) text) n → alike (after_text m (bit ++ text)) n
+  after_cut m n [] text full h = absurd full
+  after_cut m n (x ∷ bit) [] full h = subst (λ (l : List ℕ). alike (after m (Characters (x ∷ l))) n) (sym (append-nil bit)) h
+  after_cut m n (x ∷ bit) (y ∷ text) full h =
+      blind.transitive (after m (Characters ((x ∷ bit) ++ y ∷ text))) (after (after m (Characters (x ∷ bit))) (Characters (y ∷ text))) n (blind.cut m x y bit text) h
+
+  -- the same was done bit by bit
+  pub record Follows (p : Place) (m : M) (xs : List ℕ) (ts : List TokenText) (q : Place) (n : M) (ys : List ℕ) : Type 0 where
+    pub tokens : List TokenText
+    pub meaning : M
+    pub run : Runs reply_to after foreign p m xs tokens q meaning ys
+    pub joined : join ts ≡ join tokens
+    pub like : alike n meaning
+
+  bit_deed : (p : Place) (f : Bool) (xs bit rest : List ℕ) → p.at_start ≡ false → front p.mode p.last f xs ≡ Found (Bit bit) rest → deed p f xs ≡ Found (Done (Bit bit)) rest
+  bit_deed p f xs bit rest started h = deed_goes_on p f xs started ∙ ap done h
+
+  one_bit : (p : Place) (m n : M) (xs bit rest text ys : List ℕ) → p.at_start ≡ false → alike m n
+      → front p.mode p.last (foreign n) xs ≡ Found (Bit bit) rest
+      → Follows p (after n (Characters bit)) rest (told text) p (after_text (after m (Characters bit)) text) ys
+      → Follows p n xs (told (bit ++ text)) p (after_text m (bit ++ text)) ys
+  one_bit p m n xs bit rest text ys begun like h behind =
+      let full = bit_full p.mode p.last (foreign n) xs bit rest h in
+      record {
+        tokens = Characters bit ∷ behind.tokens;
+        meaning = behind.meaning;
+        run = does (Done (Bit bit)) (bit_deed p (foreign n) xs bit rest begun h) behind.run;
+        joined = told_glues bit text full ∙ ap (glue bit) behind.joined;
+        like = after_cut m behind.meaning bit text full behind.like;
+      }
+
+  follow_bits : {p : Place} {xs text ys : List ℕ} (m n : M) → p.at_start ≡ false → alike m n → Bits p true xs text ys → Follows p n xs (told text) p (after_text m text) ys
+  follow_bits m n begun like no_bit = record { tokens = []; meaning = n; run = stays; joined = refl; like = like }
+  follow_bits {p} {xs} {ys} m n begun like (more_bits {rest} {text} bit h bits) =
+      one_bit p m n xs bit rest text ys begun like (bit_anyway p.mode p.last (foreign n) xs bit rest h)
+      (follow_bits (after m (Characters bit)) (after n (Characters bit)) begun (blind.kept m n (Characters bit) like) bits)
+
+  -- the first bit is read where the sink's answer counts
+  follow_first : (p : Place) (m n : M) (xs text ys : List ℕ) → p.at_start ≡ false → alike m n → length ys < length xs → Bits p (foreign m) xs text ys → Follows p n xs (told text) p (after_text m text) ys
+  follow_first p m n xs text ys begun like less no_bit = absurd (omega arith)
+  follow_first p m n xs text ys begun like less (more_bits {rest} {text = others} bit h bits) =
+      one_bit p m n xs bit rest others ys begun like (ap (λ b. front p.mode p.last b xs) (sym (blind.spaces m n like)) ∙ h)
+      (follow_bits (after m (Characters bit)) (after n (Characters bit)) begun (blind.kept m n (Characters bit) like) bits)
+
+  -- one deed, from a meaning that is alike
+  one_deed : (p : Place) (n : M) (xs rest : List ℕ) (d : Deed) (ts : List TokenText) (q : Place) (k : M)
+      → deed p (foreign n) xs ≡ Found d rest → place_behind reply_to after foreign p n d ≡ q → ts ≡ tokens_of d
+      → alike k (meaning_behind reply_to after foreign n d) → Follows p n xs ts q k rest
+  one_deed p n xs rest d ts q k h place told like = record {
+    tokens = tokens_of d ++ [];
+    meaning = meaning_behind reply_to after foreign n d;
+    run = does d h (subst (λ (x : Place). Runs reply_to after foreign (place_behind reply_to after foreign p n d) (meaning_behind reply_to after foreign n d) rest [] x (meaning_behind reply_to after foreign n d) rest) place stays);
+    joined = ap join (told ∙ sym (append-nil (tokens_of d)));
+    like = like;
+  }
+
+  told_one : (text : List ℕ) → IsFull text → told text ≡ Characters text ∷ []
+  told_one [] full = absurd full
+  told_one (x ∷ text) full = refl
+
+  after_one : (m : M) (text : List ℕ) → IsFull text → after_text m text ≡ after m (Characters text)
+  after_one m [] full = absurd full
+  after_one m (x ∷ text) full = refl
+
+  follow_text : (p : Place) (m n : M) (xs text ys : List ℕ) → p.at_start ≡ false → alike m n → length ys < length xs → Bits p (foreign m) xs text ys → Follows p n xs (Characters text ∷ []) p (after m (Characters text)) ys
+  follow_text p m n xs text ys begun like less bits =
+      let full = bits_full less bits in
+      subst (λ (l : List TokenText). Follows p n xs l p (after m (Characters text)) ys) (told_one text full)
+      (subst (λ (k : M). Follows p n xs (told text) p k ys) (after_one m text full) (follow_first p m n xs text ys begun like less bits))
+
+  follow_step : {p : Place} {m : M} {xs : List ℕ} {ts : List TokenText} {reply : Reply} {q : Place} {k : M} {ys : List ℕ} (n : M) → alike m n → Step reply_to after foreign p m xs ts reply q k ys → Follows p n xs ts q k ys
+  follow_step {p} {m} n like (marked {xs} {rest} s h) =
+      one_deed p n xs rest Begun [] (started p) m (deed_begins p (foreign n) xs s ∙ ap (behind_mark xs) h) refl refl like
+  follow_step {p} {m} n like (unmarked {xs} s h) =
+      one_deed p n xs xs Begun [] (started p) m (deed_begins p (foreign n) xs s ∙ ap (behind_mark xs) h) refl refl like
+  follow_step n like (token_step {p} {m} {xs} {rest} t s h) =
+      one_deed p n xs rest (Done (Whole t)) (t ∷ []) (next_place p t (reply_to m t)) (after m t)
+      (deed_goes_on p (foreign n) xs s ∙ ap (λ b. done (front p.mode p.last b xs)) (sym (blind.spaces m n like)) ∙ ap done h)
+      (ap (next_place p t) (sym (blind.replies m n t like))) refl (blind.kept m n t like)
+  follow_step n like (switch_step {p} {m} {xs} {rest} mode s h) =
+      one_deed p n xs rest (Done (Switch mode)) [] (in_mode mode p) m
+      (deed_goes_on p (foreign n) xs s ∙ ap (λ b. done (front p.mode p.last b xs)) (sym (blind.spaces m n like)) ∙ ap done h)
+      refl refl like
+  follow_step n like (text_step {p} {m} {xs} {ys} text s less bits) = follow_text p m n xs text ys s like less bits
+
+  follow_more : (p : Place) (n : M) (xs : List ℕ) (ts : List TokenText) (q : Place) (k : M) (ys : List ℕ) (us : List TokenText) (r : Place) (o : M) (zs : List ℕ)
+      → (first : Follows p n xs ts q k ys) → Follows q first.meaning ys us r o zs → Follows p n xs (ts ++ us) r o zs
+  follow_more p n xs ts q k ys us r o zs first second = record {
+    tokens = first.tokens ++ second.tokens;
+    meaning = second.meaning;
+    run = runs_join reply_to after foreign first.run second.run;
+    joined = joins_append ts first.tokens us second.tokens first.joined second.joined;
+    like = second.like;
+  }
+
+  follow_none : (p : Place) (m n : M) (xs : List ℕ) → alike m n → Follows p n xs [] p m xs
+  follow_none p m n xs like = record { tokens = []; meaning = n; run = stays; joined = refl; like = like }
+
+  follow_read : {p : Place} {m : M} {xs : List ℕ} {ts : List TokenText} {reply : Reply} {q : Place} {k : M} {ys : List ℕ} (n : M) → alike m n → Read reply_to after foreign p m xs ts reply q k ys → Follows p n xs ts q k ys
+  follow_read {p} {m} {xs} n like nothing_read = follow_none p m n xs like
+  follow_read n like (read_on {p} {q} {r} {m} {n = k} {o} {xs} {ys} {zs} {ts} {us} read goes step) =
+      let first = follow_read n like read in
+      follow_more p n xs ts q k ys us r o zs first (follow_step first.meaning first.like step)
+
+  follow_readings : {p : Place} {m : M} {xs : List ℕ} {ts : List TokenText} {q : Place} {k : M} {ys : List ℕ} (n : M) → alike m n → Readings reply_to after foreign p m xs ts q k ys → Follows p n xs ts q k ys
+  follow_readings {p} {m} {xs} n like no_reading = follow_none p m n xs like
+  follow_readings n like (more_reading {p} {q} {r} {m} {n = k} {o} {xs} {ys} {zs} {ts} {us} readings read goes) =
+      let first = follow_readings n like readings in
+      follow_more p n xs ts q k ys us r o zs first (follow_read first.meaning first.like read)
+
+  all_alike : (ts : List TokenText) (m n : M) → alike m n → alike (after_all after m ts) (after_all after n ts)
+  all_alike [] m n like = like
+  all_alike (t ∷ ts) m n like = all_alike ts (after m t) (after n t) (blind.kept m n t like)
+
+  -- the end, behind readings that came to alike meanings and the same rest
+  ends_alike : (m n : M) (s t : Option TokenText) → s ≡ t → alike m n → alike (ended (after_all after m (closing s))) (ended (after_all after n (closing t)))
+  ends_alike m n s t e like =
+      subst (λ (o : Option TokenText). alike (ended (after_all after m (closing s))) (ended (after_all after n (closing o)))) e
+      (blind.ends (after_all after m (closing s)) (after_all after n (closing s)) (all_alike (closing s) m n like))
+
+  -- how an input is cut doesn't matter
+  pub cuts_agree : (p : Place) (m n : M) (xs : List ℕ) (ts us : List TokenText) (k l : M) → alike m n
+      → ReadsToEnd reply_to after foreign ended p m xs ts k → ReadsToEnd reply_to after foreign ended p n xs us l
+      → (join ts ≡ join us) × alike k l
+  cuts_agree p m n xs ts us k l like a b =
+      let f = follow_readings m (blind.reflexive m) a.readings in
+      let g = follow_readings n (blind.reflexive n) b.readings in
+      let d : deed a.place (foreign f.meaning) a.rest ≡ Open = ap (λ x. deed a.place x a.rest) (sym (blind.spaces a.meaning f.meaning f.like)) ∙ deed_waits a.place (foreign a.meaning) a.rest a.undecided in
+      let e : deed b.place (foreign g.meaning) b.rest ≡ Open = ap (λ x. deed b.place x b.rest) (sym (blind.spaces b.meaning g.meaning g.like)) ∙ deed_waits b.place (foreign b.meaning) b.rest b.undecided in
+      let same = same_runs reply_to after foreign ended alike blind like f.run d g.run e in
+      let meanings : alike a.meaning b.meaning =
+      blind.transitive a.meaning f.meaning b.meaning f.like
+      (blind.transitive f.meaning g.meaning b.meaning same.like (blind.symmetric b.meaning g.meaning g.like)) in
+      let settled : settle a.place.mode a.place.last (foreign a.meaning) a.rest ≡ settle b.place.mode b.place.last (foreign b.meaning) b.rest =
+      (λ i. settle (same.place i).mode (same.place i).last (blind.spaces a.meaning b.meaning meanings i) (same.rest i)) in
+      let handed : join a.handed ≡ join b.handed = f.joined ∙ ap join same.tokens ∙ sym g.joined in (
+        ap join a.tokens
+            ∙ joins_append a.handed b.handed (closing (settle a.place.mode a.place.last (foreign a.meaning) a.rest)) (closing (settle b.place.mode b.place.last (foreign b.meaning) b.rest)) handed (ap (λ o. join (closing o)) settled)
+            ∙ sym (ap join b.tokens),
+        subst (λ (o : M). alike o l) (sym a.closed)
+            (subst (λ (o : M). alike (ended (after_all after a.meaning (closing (settle a.place.mode a.place.last (foreign a.meaning) a.rest)))) o) (sym b.closed)
+            (ends_alike a.meaning b.meaning (settle a.place.mode a.place.last (foreign a.meaning) a.rest) (settle b.place.mode b.place.last (foreign b.meaning) b.rest) settled meanings)),
+      )

@@ -1,0 +1,87 @@
+-- Readings of pieces, one behind the other, and the end.
+use Rattle.std.proofs.Common.{◌≡◌, ℕ, Bool, true, false, List, [], ◌∷◌, ◌++◌, refl, sym, ap, ◌∙◌, subst, append-nil, Option, Some, None, Ok}
+use Rattle.std.proofs.lemmas.Bool.{false≢true}
+use Rattle.h5_token.specs.TokenText.{TokenText}
+use Rattle.h5_token.specs.Reply.{Reply, Continues, RunsScript, TurnsPlain, TurnsRaw, Indicates, Refuses}
+use Rattle.h5_token.specs.declared.states.RawKind.TheVariants.{Rcdata, Rawtext, ScriptData}
+use Rattle.h5_scan.specs.Matching.{Open}
+use Rattle.h5_tokenizer.specs.declared.front.Mode.{Mode}
+use Rattle.h5_tokenizer.specs.declared.front.Mode.TheVariants.{Data, RawData, Plaintext, Cdata}
+use Rattle.h5_tokenizer.specs.End.{refuses, settle, Closes}
+use Rattle.h5_tokenizer.specs.Front.{Place, front}
+use Rattle.h5_tokenizer.specs.Outcome.{Feeds}
+use Rattle.h5_tokenizer.specs.Read.{Read, Reads, goes_on, IsUndecided}
+use Rattle.h5_tokenizer.specs.ReaderText.{ReaderText}
+use Rattle.h5_tokenizer.specs.declared.result.TokenizerResult.{TokenizerResult}
+use Rattle.h5_tokenizer.specs.declared.result.TokenizerResult.TheVariants as result
+use Rattle.h5_tokenizer.specs.Whole.{HasRead, Readings, no_reading, more_reading, ReadsToEnd, closing, after_all}
+use Rattle.h5_tokenizer.proofs.ReadLaws.{read_goes_on}
+
+unrefused : (reply : Reply) → goes_on reply ≡ true → refuses reply ≡ false
+unrefused Continues h = refl
+unrefused (RunsScript node) h = refl
+unrefused TurnsPlain h = refl
+unrefused (TurnsRaw kind) h = refl
+unrefused (Indicates encoding) h = refl
+unrefused (Refuses fault) h = absurd (false≢true h)
+
+front_nothing : (mode : Mode) (last : List ℕ) (foreign : Bool) → front mode last foreign [] ≡ Open
+front_nothing Data last foreign = refl
+front_nothing (RawData Rcdata) [] foreign = refl
+front_nothing (RawData Rawtext) [] foreign = refl
+front_nothing (RawData ScriptData) [] foreign = refl
+front_nothing (RawData kind) (c ∷ cs) foreign = refl
+front_nothing Plaintext last foreign = refl
+front_nothing Cdata last foreign = refl
+
+-- nothing is decided of nothing
+pub undecided_nothing : (p : Place) (foreign : Bool) → IsUndecided p foreign []
+undecided_nothing p foreign = ((λ _. refl), (λ _. front_nothing p.mode p.last foreign))
+
+module _ {M : Type 0} (reply_to : M → TokenText → Reply) (after : M → TokenText → M) (foreign : M → Bool) where
+  pub readings_go_on : {p : Place} {m : M} {xs : List ℕ} {ts : List TokenText} {q : Place} {n : M} {ys : List ℕ} (more : List ℕ) → Readings reply_to after foreign p m xs ts q n ys → Readings reply_to after foreign p m (xs ++ more) ts q n (ys ++ more)
+  readings_go_on more no_reading = no_reading
+  readings_go_on more (more_reading readings read goes) = more_reading (readings_go_on more readings) (read_goes_on reply_to after foreign more read) goes
+
+  pub pieces_join : {p : Place} {m : M} {xs : List ℕ} {ts : List TokenText} {q : Place} {n : M} {ys : List ℕ} {us : List TokenText} {reply : Reply} {r : Place} {o : M} {zs : List ℕ} (more : List ℕ)
+      → Readings reply_to after foreign p m xs ts q n ys → Read reply_to after foreign q n (ys ++ more) us reply r o zs → refuses reply ≡ false
+      → Readings reply_to after foreign p m (xs ++ more) (ts ++ us) r o zs
+  pieces_join more readings read goes = more_reading (readings_go_on more readings) read goes
+
+  has_read_more : {p : Place} {m : M} {xs : List ℕ} {q : Place} {n : M} {ys : List ℕ} {reply : Reply} {r : Place} {o : M} {zs : List ℕ} (more rest : List ℕ)
+      → HasRead reply_to after foreign p m xs q n ys → Reads reply_to after foreign q n (ys ++ more) reply r o zs → refuses reply ≡ false → zs ≡ rest
+      → HasRead reply_to after foreign p m (xs ++ more) r o rest
+  has_read_more {p} {m} {xs} {r} {o} more rest had reads goes e =
+      subst (λ (l : List ℕ). HasRead reply_to after foreign p m (xs ++ more) r o l) e
+      (record { tokens = had.tokens ++ reads.tokens; readings = pieces_join more had.readings reads.read goes })
+
+  -- a call of `feed` that goes well goes on with what was read
+  pub feeds_join : {H : Type 0} (node : H → ℕ) (p : Place) (m : M) (xs more : List ℕ) (q : Place) (n : M) (ys : List ℕ) (new : ReaderText) (o : M) (queue : List ℕ) (answer : TokenizerResult H)
+      → HasRead reply_to after foreign p m xs q n ys → Feeds reply_to after foreign node q n (ys ++ more) new o queue (Ok answer)
+      → HasRead reply_to after foreign p m (xs ++ more) new.place o (new.held ++ queue)
+  feeds_join node p m xs more q n ys new o queue result.Done had fed =
+      has_read_more more (new.held ++ queue) had fed.reads (unrefused fed.reply fed.goes_on) (sym (append-nil new.held) ∙ ap (λ l. new.held ++ l) (sym fed.empty))
+  feeds_join node p m xs more q n ys new o queue (result.Script handle) had fed =
+      has_read_more more (new.held ++ queue) had fed.reads refl (ap (λ l. l ++ queue) (sym fed.nothing_held))
+  feeds_join node p m xs more q n ys new o queue (result.EncodingIndicator encoding) had fed =
+      has_read_more more (new.held ++ queue) had fed.reads refl (ap (λ l. l ++ queue) (sym fed.nothing_held))
+
+module _ {M : Type 0} (reply_to : M → TokenText → Reply) (after : M → TokenText → M) (foreign : M → Bool) (ended : M → M) where
+  closed_by : (n o : M) (s : Option TokenText) → Closes reply_to after ended n s o (Ok tt) → o ≡ ended (after_all after n (closing s))
+  closed_by n o None h = h.1
+  closed_by n o (Some t) h = h.1.1
+
+  pub end_ends : (p : Place) (m : M) (xs : List ℕ) (ts : List TokenText) (q : Place) (n : M) (ys : List ℕ) (o : M)
+      → Readings reply_to after foreign p m xs ts q n ys → IsUndecided q (foreign n) ys
+      → Closes reply_to after ended n (settle q.mode q.last (foreign n) ys) o (Ok tt)
+      → ReadsToEnd reply_to after foreign ended p m xs (ts ++ closing (settle q.mode q.last (foreign n) ys)) o
+  end_ends p m xs ts q n ys o readings waits closes = record {
+    handed = ts;
+    place = q;
+    meaning = n;
+    rest = ys;
+    readings = readings;
+    undecided = waits;
+    tokens = refl;
+    closed = closed_by n o (settle q.mode q.last (foreign n) ys) closes;
+  }

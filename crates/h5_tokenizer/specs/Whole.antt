@@ -1,0 +1,57 @@
+-- Input that is read to its end, and sinks to which it doesn't matter how a text is cut.
+use Rattle.std.specs.Prelude.{◌≡◌, ℕ, Bool, false, List, [], ◌∷◌, ◌++◌, Option, Some, None}
+use Rattle.h5_token.specs.TokenText.{TokenText, Characters, EndOfFile}
+use Rattle.h5_token.specs.Reply.{Reply}
+use Rattle.h5_tokenizer.specs.End.{refuses, settle}
+use Rattle.h5_tokenizer.specs.Front.{Place}
+use Rattle.h5_tokenizer.specs.Read.{Read, IsUndecided}
+
+-- what the end hands on: what it makes of the undecided rest, and the end of the file
+abbrev pub closing : Option TokenText → List TokenText
+closing None = EndOfFile ∷ []
+closing (Some t) = t ∷ EndOfFile ∷ []
+
+module _ {M : Type 0} (after : M → TokenText → M) where
+  -- what the sink means after some tokens
+  abbrev pub after_all : M → List TokenText → M
+  after_all m [] = m
+  after_all m (t ∷ ts) = after_all (after m t) ts
+
+module _ {M : Type 0} (reply_to : M → TokenText → Reply) (after : M → TokenText → M) (foreign : M → Bool) where
+  -- readings, one after another, where no token is refused
+  pub data Readings : Place → M → List ℕ → List TokenText → Place → M → List ℕ → Type 0 where
+    no_reading : {p : Place} {m : M} {xs : List ℕ} → Readings p m xs [] p m xs
+    more_reading : {p q r : Place} {m n o : M} {xs ys zs : List ℕ} {ts us : List TokenText} {reply : Reply}
+        → Readings p m xs ts q n ys → Read reply_to after foreign q n ys us reply r o zs → refuses reply ≡ false
+        → Readings p m xs (ts ++ us) r o zs
+
+  -- some tokens were handed on
+  pub record HasRead (p : Place) (m : M) (xs : List ℕ) (q : Place) (n : M) (ys : List ℕ) : Type 0 where
+    pub tokens : List TokenText
+    pub readings : Readings p m xs tokens q n ys
+
+module _ {M : Type 0} (reply_to : M → TokenText → Reply) (after : M → TokenText → M) (foreign : M → Bool) (ended : M → M) where
+  -- An input was read to its end: up to an undecided rest, and then the end. These tokens were handed on,
+  -- and this is what the sink means then.
+  pub record ReadsToEnd (p : Place) (m : M) (xs : List ℕ) (ts : List TokenText) (n : M) : Type 0 where
+    pub handed : List TokenText
+    pub place : Place
+    pub meaning : M
+    pub rest : List ℕ
+    pub readings : Readings reply_to after foreign p m xs handed place meaning rest
+    pub undecided : IsUndecided place (foreign meaning) rest
+    pub tokens : ts ≡ handed ++ closing (settle place.mode place.last (foreign meaning) rest)
+    pub closed : n ≡ ended (after_all after meaning (closing (settle place.mode place.last (foreign meaning) rest)))
+
+  -- An equivalence of meanings that is kept by equal tokens, and to which it doesn't matter how a text is
+  -- cut. Meanings that are equivalent give the same answers.
+  pub record IsBlindToCuts (alike : M → M → Type 0) : Type 0 where
+    pub reflexive : (m : M) → alike m m
+    pub symmetric : (m n : M) → alike m n → alike n m
+    pub transitive : (m n o : M) → alike m n → alike n o → alike m o
+    pub replies : (m n : M) (t : TokenText) → alike m n → reply_to m t ≡ reply_to n t
+    pub spaces : (m n : M) → alike m n → foreign m ≡ foreign n
+    pub kept : (m n : M) (t : TokenText) → alike m n → alike (after m t) (after n t)
+    pub ends : (m n : M) → alike m n → alike (ended m) (ended n)
+    pub cut : (m : M) (x y : ℕ) (xs ys : List ℕ)
+        → alike (after m (Characters ((x ∷ xs) ++ y ∷ ys))) (after (after m (Characters (x ∷ xs))) (Characters (y ∷ ys)))

@@ -1,0 +1,60 @@
+//! Each public call of the parser once, with ample memory, over an arena.
+use h5_arena::{Arena, Child};
+use h5_driver::{ParseOpts, Parser, parse_document};
+use h5_interface::QuirksMode;
+use std::alloc::{AllocError, Global};
+use std::process::Abort;
+use std::test::Fail;
+
+type ArenaParser = Parser<h5_arena::NodeId, Arena>;
+
+fn new_parser(alloc: Global) -> Result<ArenaParser, AllocError> {
+    Ok(parse_document(alloc, Arena::new(alloc)?, ParseOpts::default()))
+}
+
+// Whether the first element of the body, which is made after the document, a doctype, the root, the head and the
+// body, holds this text alone.
+fn paragraph_holds(arena: &Arena, text: &str) -> bool {
+    match arena.id(5) {
+        Some(id) => match arena.children(id) {
+            [Child::Text(found)] => found.as_str() == text,
+            _ => false,
+        },
+        None => false,
+    }
+}
+
+#[test]
+fn pieces_make_the_tree_of_the_whole_text(rt: HostRuntime) -> Result<(), Fail> {
+    let alloc = rt.alloc();
+    let pieces = vec![in alloc;
+        String::from_str(alloc, "<!DOCTYPE html><p>a&am")?,
+        String::new(alloc),
+        String::from_str(alloc, "p;b</p>")?,
+    ]?;
+    let parser = new_parser(alloc)?;
+    let arena = parser
+        .process_pieces(pieces.as_slice())
+        .map_err(|_| "refused")?;
+    assert!(rt; paragraph_holds(&arena, "a&b"));
+    assert!(rt; arena.quirks() == QuirksMode::NoQuirks);
+    let parser = new_parser(alloc)?;
+    let arena = parser
+        .one("<!DOCTYPE html><p>a&amp;b</p>")
+        .map_err(|_| "refused")?;
+    assert!(rt; paragraph_holds(&arena, "a&b"));
+    Ok(())
+}
+
+#[test]
+fn a_parser_takes_text_and_then_the_end(rt: HostRuntime) -> Result<(), Fail> {
+    let alloc = rt.alloc();
+    let mut parser = new_parser(alloc)?;
+    parser.error("from outside");
+    parser.process("<!DOCTYPE html><p>").map_err(|_| "refused")?;
+    parser.process("x").map_err(|_| "refused")?;
+    let arena = parser.finish().map_err(|_| "refused")?;
+    assert!(rt; paragraph_holds(&arena, "x"));
+    assert_eq!(rt; arena.errors().len(), 1);
+    Ok(())
+}
