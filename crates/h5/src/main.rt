@@ -9,6 +9,12 @@ fn main(rt: HostRuntime) -> io::Result<ExitCode> {
     for word in env::args(&rt)?.skip(1) {
         words.push(word)?;
     }
-    let status = h5_commands::run(rt.alloc(), words.as_slice(), rt.reader(), &mut rt.stderr());
+    let status = h5_commands::run(
+        rt.alloc(),
+        words.as_slice(),
+        rt.reader(),
+        &mut rt.stdout(),
+        &mut rt.stderr(),
+    );
     Ok(ExitCode::from(status))
 }

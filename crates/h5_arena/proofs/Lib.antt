@@ -1,7 +1,11 @@
 mod AttributeLaws
+mod BalanceLaws
 mod CallConditions
+mod LevelLaws
+mod NodeCallLaws
 mod ChildTexts
 mod ChildViews
 mod MakeLaws
 mod MoveLaws
 mod NodeWrites
+mod WalkLaws

@@ -1,2 +1,4 @@
 pub mod ArenaModel
 pub mod ChildTests
+pub mod NodeCalls
+pub mod OpenNodes

@@ -7,6 +7,7 @@ mod attributes;
 #[cfg(test)]
 mod calls;
 mod children;
+pub mod laws;
 mod links;
 mod makes;
 mod moves;
@@ -15,6 +16,10 @@ mod sink;
 #[cfg(test)]
 mod tests;
 mod tree;
+mod walk;
+#[cfg(test)]
+mod walk_tests;
 
 pub use nodes::{Child, Kind, NodeId};
 pub use tree::Arena;
+pub use walk::NodeRef;

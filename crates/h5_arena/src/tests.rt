@@ -8,7 +8,7 @@ use std::alloc::{AllocError, Global};
 use std::process::Abort;
 use std::test::Fail;
 
-fn name_of(alloc: Global, ns: &str, local: &str) -> Result<QualName, AllocError> {
+pub(crate) fn name_of(alloc: Global, ns: &str, local: &str) -> Result<QualName, AllocError> {
     Ok(QualName::new(
         None,
         Namespace::new(alloc, ns)?,
@@ -16,7 +16,11 @@ fn name_of(alloc: Global, ns: &str, local: &str) -> Result<QualName, AllocError>
     ))
 }
 
-fn attribute(alloc: Global, local: &str, value: &str) -> Result<Vec<Attribute>, AllocError> {
+pub(crate) fn attribute(
+    alloc: Global,
+    local: &str,
+    value: &str,
+) -> Result<Vec<Attribute>, AllocError> {
     let mut attrs = Vec::new(alloc);
     attrs.push(Attribute {
         name: name_of(alloc, namespaces::NONE, local)?,
@@ -131,6 +135,11 @@ fn templates_have_contents(rt: HostRuntime) -> Result<(), Fail> {
     assert!(rt; matches!(arena.kind(contents), Kind::Fragment));
     assert_eq!(rt; arena.parent(contents), None, "nobody's child");
     assert!(rt; arena.same_node(&arena.clone_handle(&contents), &contents));
+    assert_eq!(rt;
+        calls::template_contents(&arena, template, &rt),
+        Some(contents)
+    );
+    assert!(rt; calls::allows_shadow_roots(&arena, template, &rt));
     Ok(())
 }
 
@@ -226,5 +235,54 @@ fn elements_are_marked_and_moved(rt: HostRuntime) -> Result<(), Fail> {
     calls::detach(&mut arena, root, &rt)?;
     assert!(rt; arena.holds(document));
     assert_eq!(rt; arena.children(document).len(), 0);
+    Ok(())
+}
+
+pub(crate) fn new_element(
+    arena: &mut Arena,
+    alloc: Global,
+    local: &str,
+) -> Result<NodeId, AllocError> {
+    let name = name_of(alloc, namespaces::HTML, local)?;
+    create_element(arena, name, Vec::new(alloc))
+}
+
+#[test]
+fn children_come_before_siblings(rt: HostRuntime) -> Result<(), Fail> {
+    let alloc = rt.alloc();
+    let text = |s: &str| -> Result<String, AllocError> { String::from_str(alloc, s) };
+    let mut arena = Arena::new(alloc)?;
+    arena.append_doctype_to_document(text("html")?, text("")?, text("")?)?;
+    let document = arena.document();
+    let doctype = arena.id(1).ok_or("the doctype is the second node")?;
+    let other = new_element(&mut arena, alloc, "p")?;
+    // Without a parent, the text goes to the end of the document; with one, it comes before the element.
+    calls::put_text_by(&mut arena, other, document, text("b")?, &rt)?;
+    calls::put_before(&mut arena, doctype, other, &rt)?;
+    calls::put_text_before(&mut arena, doctype, text("a")?, &rt)?;
+    calls::put_text_by(&mut arena, other, doctype, text("c")?, &rt)?;
+    assert!(rt; arena.holds(document));
+    let children = arena.children(document);
+    assert_eq!(rt; children.len(), 5);
+    assert!(rt; is_text(&children[0], "c") && is_node(&children[1], other));
+    assert!(rt; is_text(&children[2], "a") && is_node(&children[3], doctype));
+    assert!(rt; is_text(&children[4], "b"));
+    Ok(())
+}
+
+#[test]
+fn children_are_moved(rt: HostRuntime) -> Result<(), Fail> {
+    let alloc = rt.alloc();
+    let mut arena = Arena::new(alloc)?;
+    let from = arena.document();
+    let to = new_element(&mut arena, alloc, "p")?;
+    let text = String::from_str(alloc, "a")?;
+    calls::put_text_by(&mut arena, to, from, text, &rt)?;
+    calls::reparent(&mut arena, from, to, &rt)?;
+    assert!(rt; arena.holds(from) && arena.holds(to));
+    assert_eq!(rt; arena.children(from).len(), 0);
+    let children = arena.children(to);
+    assert_eq!(rt; children.len(), 1);
+    assert!(rt; is_text(&children[0], "a"));
     Ok(())
 }

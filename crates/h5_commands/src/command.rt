@@ -1,57 +1,110 @@
 //! A run of the program.
-ghost use Rattle.std.specs.Prelude.{◌≡◌, ◌⊎◌, false, true};
-ghost use Rattle.h5_commands.specs.Status.{status_of};
-ghost use Rattle.h5_commands.specs.Words.{is_tokens};
+ghost use Rattle.std.specs.Prelude.{◌≡◌, None, Some};
+ghost use Rattle.h5_commands.specs.Faults.{message_of, status_of};
+ghost use Rattle.h5_commands.specs.Outcome.{AppendsFront, AreRead, Comes, ComesBy, Ends, IsRead, LinesCome, Puts};
+ghost use Rattle.h5_commands.specs.Words.{command_of};
 
-use super::fault::{Fault, fault_of_read};
+use super::build::{build, html_output, tree_output};
+use super::fault::{Fault, bad_line, fault_of_read};
+use super::output::write_bytes;
+use super::words::{Command, command_of};
+use h5_lines::{Item, LineFault, parse};
 use std::alloc::Global;
 use std::io::{Read, Write};
 
-/// Runs the command of these words, and answers the exit status; what went wrong is said in `faults`.
+/// Runs the command of these words, and answers the exit status: 0, or that of a fault, which is said in
+/// `faults`. The output is written to `out` once the whole of it stands; where a fault is met before, nothing
+/// is written there.
 ///
-/// Words that are no command are found before anything is read.
-pub fn run<R: Read + Drop, W: Write>(
+/// Faults are found in this order: words that are no command, before anything is read; an input that can't be
+/// read; an input that is no UTF-8; the first bad line; an output that can't be written; and wherever it is
+/// met, want of memory.
+pub fn run<R: Read + Drop, Out: Write, Note: Write>(
     alloc: Global,
     words: &[String],
     input: R,
-    faults: &mut W,
+    out: &mut Out,
+    faults: &mut Note,
 ) -> u8
-    ensures usage { is_tokens words.now ≡ false → result ≡ 2 }
-    ensures known { is_tokens words.now ≡ true → (result ≡ 0) ⊎ (result ≡ 1) }
+    ensures ends { Ends words.now (R.remaining input)
+        (Out.contents out.old) (Out.contents out.new) (Note.contents faults.old) (Note.contents faults.new) result }
+    ensures usage { command_of words.now ≡ None → result ≡ 2 }
 {
-    if !are_tokens(words) {
-        return say(Fault::Usage, faults);
-    }
-    match read_text(alloc, input) {
-        Ok(_text) => 0,
-        Err(fault) => {
-            say(fault, faults);
-            1
-        }
+    match output_of(alloc, words, input) {
+        Ok(output) => put(output.as_slice(), out, faults),
+        Err(fault) => say(&fault, faults),
     }
 }
 
-fn are_tokens(words: &[String]) -> bool
-    ensures { result ≡ is_tokens words.now }
+// What a command prints.
+fn output_of<R: Read + Drop>(alloc: Global, words: &[String], input: R) -> Result<Vec<u8>, Fault>
+    ensures { Comes words.now (R.remaining input) result }
 {
-    match words {
-        [word] => word.as_str() == "tokens",
-        _ => false,
+    match command_of(words) {
+        Some(command) => output_by(alloc, command, input),
+        None => Err(Fault::Usage),
     }
+}
+
+fn output_by<R: Read + Drop>(alloc: Global, command: Command, input: R) -> Result<Vec<u8>, Fault>
+    ensures { ComesBy (Some command) (R.remaining input) result }
+{
+    let text = read_text(alloc, input)?;
+    match command {
+        Command::Tokens => tokens_output(alloc, text.as_str()),
+        Command::Tree => tree_output(alloc, text),
+        Command::Html => html_output(alloc, text),
+    }
+}
+
+// What lines of tokens make.
+fn tokens_output(alloc: Global, text: &str) -> Result<Vec<u8>, Fault>
+    ensures { LinesCome text.now result }
+{
+    let items = read_items(alloc, text)?;
+    build(alloc, items)
+}
+
+// The whole input.
+fn read_text<R: Read + Drop>(alloc: Global, mut input: R) -> Result<String, Fault>
+    ensures { IsRead (R.remaining input) result }
+{
+    let mut bytes = Vec::new(alloc);
+    match input.read_to_end(&mut bytes) {
+        Ok(_) => match String::from_utf8(bytes) {
+            Ok(text) => Ok(text),
+            Err(_) => Err(Fault::NotUtf8),
+        },
+        Err(error) => Err(fault_of_read(&error)),
+    }
+}
+
+// Its tokens.
+fn read_items(alloc: Global, text: &str) -> Result<Vec<Item>, Fault>
+    ensures { AreRead text.now result }
+{
+    match parse(alloc, text) {
+        Ok(items) => Ok(items),
+        Err(LineFault::Bad(line)) => Err(bad_line(alloc, line)?),
+        Err(LineFault::Memory) => Err(Fault::Memory),
+    }
+}
+
+// Writes the output, and answers the status.
+fn put<Out: Write, Note: Write>(output: &[u8], out: &mut Out, faults: &mut Note) -> u8
+    ensures { Puts output.now (Out.contents out.old) (Out.contents out.new) (Note.contents faults.old) (Note.contents faults.new) result }
+{
+    if write_bytes(out, output).is_err() || out.flush().is_err() {
+        return say(&Fault::Unwritable, faults);
+    }
+    0
 }
 
 // Says what went wrong, and answers its status. Where that can't be said, the status alone tells.
-fn say<W: Write>(fault: Fault, faults: &mut W) -> u8
-    ensures { result ≡ status_of fault }
+fn say<W: Write>(fault: &Fault, faults: &mut W) -> u8
+    ensures status { result ≡ status_of fault.now }
+    ensures said { AppendsFront (W.contents faults.old) (W.contents faults.new) (message_of fault.now) }
 {
-    let _ = faults.write_all(fault.message().as_bytes());
+    let _ = write_bytes(faults, fault.message().as_bytes());
     fault.status()
-}
-
-fn read_text<R: Read + Drop>(alloc: Global, mut input: R) -> Result<String, Fault> {
-    let mut bytes = Vec::new(alloc);
-    match input.read_to_end(&mut bytes) {
-        Ok(_) => String::from_utf8(bytes).map_err(|_| Fault::NotUtf8),
-        Err(error) => Err(fault_of_read(&error)),
-    }
 }

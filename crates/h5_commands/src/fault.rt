@@ -1,11 +1,12 @@
 //! What can go wrong, what is said of it, and the exit status.
-ghost use Rattle.std.specs.Prelude.{◌≡◌};
-ghost use Rattle.h5_commands.specs.Status.{status_of};
+ghost use Rattle.std.specs.Prelude.{◌≡◌, IfOk, string_bytes};
+ghost use Rattle.h5_commands.specs.Faults.{IsBadLine, IsReadFault, message_of, status_of};
 
+use std::alloc::{AllocError, AllocFailed, Global};
 use std::io;
 
 /// What went wrong.
-#[derive(Clone, Copy, Debug, PartialEq, Eq)]
+#[derive(Debug, Drop, PartialEq, Eq)]
 pub enum Fault {
     /// The words are no command.
     Usage,
@@ -13,34 +14,75 @@ pub enum Fault {
     Unreadable,
     /// The input is not UTF-8.
     NotUtf8,
+    /// A line of the input is bad; with what is said of it.
+    BadLine(String),
+    /// The output can't be written.
+    Unwritable,
     /// Memory was refused.
     Memory,
 }
 
 impl Fault {
     /// What is said of it on standard error.
-    pub fn message(self) -> &'static str {
+    pub fn message(&self) -> &str
+        ensures { result.now ≡ message_of self.now }
+    {
         match self {
             Fault::Usage => "h5: usage: h5 tokens | h5 tree [context] | h5 html\n",
             Fault::Unreadable => "h5: cannot read\n",
             Fault::NotUtf8 => "h5: input is not UTF-8\n",
+            Fault::BadLine(message) => message.as_str(),
+            Fault::Unwritable => "h5: cannot write\n",
             Fault::Memory => "h5: out of memory\n",
         }
     }
 
-    /// The exit status: 2 where the caller gave no command, else 1.
-    pub fn status(self) -> u8
-        ensures { result ≡ status_of self }
+    /// The exit status: 2 where the words or a line are bad, else 1.
+    pub fn status(&self) -> u8
+        ensures { result ≡ status_of self.now }
     {
         match self {
             Fault::Usage => 2,
-            Fault::Unreadable | Fault::NotUtf8 | Fault::Memory => 1,
+            Fault::BadLine(_) => 2,
+            Fault::Unreadable => 1,
+            Fault::NotUtf8 => 1,
+            Fault::Unwritable => 1,
+            Fault::Memory => 1,
         }
     }
 }
 
+impl From<AllocError> for Fault {
+    ghost use Rattle.h5_commands.specs.declared.fault.Fault.TheVariants.{Memory};
+
+    ghost from_gives = { λ _ fault. fault ≡ Memory };
+
+    fn from(_error: AllocError) -> Fault {
+        Fault::Memory
+    }
+}
+
+impl<T: Drop> From<AllocFailed<T>> for Fault {
+    ghost use Rattle.h5_commands.specs.declared.fault.Fault.TheVariants.{Memory};
+
+    ghost from_gives = { λ _ fault. fault ≡ Memory };
+
+    fn from(_error: AllocFailed<T>) -> Fault {
+        Fault::Memory
+    }
+}
+
+/// The fault that the bad line of this number is.
+pub fn bad_line(alloc: Global, line: u64) -> Result<Fault, AllocError>
+    ensures { IfOk result (IsBadLine line) }
+{
+    Ok(Fault::BadLine(format!(in alloc; "h5: bad line {line}\n")?))
+}
+
 /// The fault that a failed read is.
-pub fn fault_of_read(error: &io::Error) -> Fault {
+pub fn fault_of_read(error: &io::Error) -> Fault
+    ensures { IsReadFault result }
+{
     if error.kind() == io::ErrorKind::OutOfMemory {
         Fault::Memory
     } else {

@@ -1,8 +1,33 @@
 //! Each outcome of a run once.
 use super::run;
 use std::alloc::{AllocError, Global};
+use std::io::{self, Read, Write};
 use std::process::Abort;
 use std::test::Fail;
+
+// A reader, and a writer, that fails.
+#[derive(Drop)]
+struct Broken;
+
+impl Read for Broken {
+    fn read(&mut self, _buf: &mut [u8]) -> io::Result<usize> {
+        Err(io::Error::from(io::ErrorKind::BrokenPipe))
+    }
+}
+
+impl Write for Broken {
+    fn write(&mut self, _buf: &[u8]) -> io::Result<usize> {
+        Err(io::Error::from(io::ErrorKind::BrokenPipe))
+    }
+
+    fn flush(&mut self) -> io::Result<()> {
+        Ok(())
+    }
+}
+
+fn words_of(alloc: Global, word: &str) -> Result<Vec<String>, AllocError> {
+    Ok(vec![in alloc; String::from_str(alloc, word)?]?)
+}
 
 fn says(
     rt: &impl Abort,
@@ -12,11 +37,13 @@ fn says(
     status: u8,
     message: &str,
 ) -> Result<(), AllocError> {
-    let words = vec![in alloc; String::from_str(alloc, word)?]?;
+    let words = words_of(alloc, word)?;
+    let mut out: Vec<u8> = Vec::new(alloc);
     let mut faults: Vec<u8> = Vec::new(alloc);
-    let answer = run(alloc, words.as_slice(), input, &mut faults);
+    let answer = run(alloc, words.as_slice(), input, &mut out, &mut faults);
     assert_eq!(rt; answer, status);
     assert_eq!(rt; faults.as_slice(), message.as_bytes());
+    assert_eq!(rt; out.is_empty(), status != 0);
     Ok(())
 }
 
@@ -24,14 +51,17 @@ fn says(
 fn runs_end_with_their_status(rt: HostRuntime) -> Result<(), Fail> {
     let alloc = rt.alloc();
     says(&rt, alloc, "tokens", b"S p\n", 0, "")?;
+    says(&rt, alloc, "tree", b"<p>", 0, "")?;
+    says(&rt, alloc, "html", b"<p>", 0, "")?;
     says(
         &rt,
         alloc,
-        "tokens",
-        b"S \xff\n",
+        "html",
+        b"<p\xff>",
         1,
         "h5: input is not UTF-8\n",
     )?;
+    says(&rt, alloc, "tokens", b"\nS p q\n", 2, "h5: bad line 2\n")?;
     says(
         &rt,
         alloc,
@@ -40,5 +70,22 @@ fn runs_end_with_their_status(rt: HostRuntime) -> Result<(), Fail> {
         2,
         "h5: usage: h5 tokens | h5 tree [context] | h5 html\n",
     )?;
+    Ok(())
+}
+
+#[test]
+fn broken_readers_and_writers_are_told(rt: HostRuntime) -> Result<(), Fail> {
+    let alloc = rt.alloc();
+    let words = words_of(alloc, "tokens")?;
+    let mut out: Vec<u8> = Vec::new(alloc);
+    let mut faults: Vec<u8> = Vec::new(alloc);
+    let answer = run(alloc, words.as_slice(), Broken, &mut out, &mut faults);
+    assert_eq!(rt; answer, 1);
+    assert_eq!(rt; faults.as_slice(), "h5: cannot read\n".as_bytes());
+    faults.clear();
+    let input: &[u8] = b"Z\n";
+    let answer = run(alloc, words.as_slice(), input, &mut Broken, &mut faults);
+    assert_eq!(rt; answer, 1);
+    assert_eq!(rt; faults.as_slice(), "h5: cannot write\n".as_bytes());
     Ok(())
 }

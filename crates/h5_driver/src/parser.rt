@@ -1,5 +1,5 @@
 //! The parser.
-ghost use Rattle.std.specs.Prelude.{◌≡◌, ◌++◌, [], map, string_bytes, true, false, Ok, Err, IfOk, OnErr, OnOk};
+ghost use Rattle.std.specs.Prelude.{◌≡◌, ◌++◌, ◌<◌, [], map, string_bytes, true, false, Ok, Err, IfOk, OnErr, OnOk};
 ghost use Rattle.h5_meaning.specs.Run.{View};
 ghost use Rattle.h5_tree_builder.specs.Held.{building};
 ghost use Rattle.h5_tokenizer.specs.declared.stage.Stage.TheVariants.{Reading};
@@ -190,6 +190,7 @@ impl<Handle: Drop, Sink: TreeSink<Handle = Handle> + Drop> Parser<Handle, Sink> 
 
     /// Tells the sink of an error that was met outside. Nothing else changes.
     pub fn error(&mut self, message: &str)
+        ensures noted { 0 < (building Sink.sees Sink.node self.new.builder).errors }
         ensures view { view_of Sink.sees Sink.node self.new ≡ view_of Sink.sees Sink.node self.old }
         ensures reader { self.new.reader ≡ self.old.reader }
         ensures waiting { self.new.waiting ≡ self.old.waiting }

@@ -1,12 +1,11 @@
 //! What a tree builder is asked.
-ghost use Rattle.std.specs.Prelude.{◌≡◌, is_some};
+ghost use Rattle.std.specs.Prelude.{◌≡◌, ◌<◌, is_some};
 ghost use Rattle.h5_tree_builder.specs.Builder.{is_foreign_in};
 ghost use Rattle.h5_tree_builder.specs.Held.{building};
 
 use super::builder::TreeBuilder;
 use super::foreign::is_current_foreign;
 use h5_interface::TreeSink;
-use h5_state::tell_error;
 
 impl<Handle: Drop, Sink: TreeSink<Handle = Handle> + Drop> TreeBuilder<Handle, Sink> {
     /// How many turns the token took that was taken last: the rules that were applied one after the other.
@@ -43,10 +42,12 @@ impl<Handle: Drop, Sink: TreeSink<Handle = Handle> + Drop> TreeBuilder<Handle, S
     }
 
     /// Tells the sink of an error that isn't the builder's. Forest and quirks mode stay.
+    #[tactic(auto, unfolding(h5_state::specs::View::world))]
     pub fn tell_error(&mut self, message: &str)
+        ensures noted { 0 < (building Sink.sees Sink.node self.new).errors }
         ensures view { (building Sink.sees Sink.node self.new).view ≡ (building Sink.sees Sink.node self.old).view }
         ensures turns { self.new.turns ≡ self.old.turns }
     {
-        tell_error(&mut self.sink, &self.state, message);
+        self.sink.parse_error(message);
     }
 }

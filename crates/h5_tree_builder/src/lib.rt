@@ -16,5 +16,5 @@ mod turn;
 mod whole;
 
 pub use builder::TreeBuilder;
-pub use replies::Reply;
 pub use h5_types::TreeBuilderOpts;
+pub use replies::Reply;

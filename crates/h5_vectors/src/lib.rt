@@ -1,7 +1,9 @@
-//! Tests that cross crates: the tree builder and the parser over an arena.
+//! Tests that cross crates: the tree builder and the parser over an arena, and runs of the program.
 #![tactic(auto)]
 
 #[cfg(test)]
 mod builder;
 #[cfg(test)]
 mod parser;
+#[cfg(test)]
+mod rows;

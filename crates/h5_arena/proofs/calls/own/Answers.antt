@@ -1,4 +1,3 @@
-use Rattle.h5_interface.specs.Forest.{ElementNode}
 use Rattle.h5_arena.proofs.CallConditions.{element_of, element_is_node}
 use Rattle.h5_arena.proofs.calls.own.Goals as goal
 

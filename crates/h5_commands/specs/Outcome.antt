@@ -1,0 +1,82 @@
+-- What a run comes to, and what it shows.
+use Rattle.std.specs.Prelude.{◌≡◌, ◌⊎◌, ℕ, List, take, Option, Some, None, Result, Ok, Err, String, Vec, IfSome, IsUtf8, string_bytes}
+use Rattle.std.specs.Io.KnownBytes.{Appends, Keeps}
+use Rattle.std.specs.declared.alloc.Global.{Global}
+use Rattle.h5_lines.specs.Items.{ItemText, item_texts, items_of}
+use Rattle.h5_lines.specs.declared.items.Item.{Item}
+use Rattle.h5_commands.specs.Faults.{IsBadLine, IsReadFault, message_of, status_of}
+use Rattle.h5_commands.specs.Words.{command_of}
+use Rattle.h5_commands.specs.declared.words.Command.{Command}
+use Rattle.h5_commands.specs.declared.words.Command.TheVariants.{Tokens, Tree, Html}
+use Rattle.h5_commands.specs.declared.fault.Fault.{Fault}
+use Rattle.h5_commands.specs.declared.fault.Fault.TheVariants.{Usage, NotUtf8, Unwritable, Memory}
+
+-- a front of a text, perhaps the whole, was written behind what is known of a writer
+abbrev pub AppendsFront : Option (List ℕ) → Option (List ℕ) → List ℕ → Type 0
+AppendsFront old new text = (n : ℕ) × Appends old new (take n text)
+
+-- reading the known input comes to this text, or to this fault
+abbrev pub IsRead : Option (List ℕ) → Result (String Global) Fault → Type 0
+IsRead known (Ok text) = IfSome known (λ bytes. string_bytes text ≡ bytes)
+IsRead known (Err fault) = IsReadFault fault ⊎ ((fault ≡ NotUtf8) × IfSome known (λ bytes. ¬ (IsUtf8 bytes)))
+
+-- reading the lines of a text comes to these items, or to this fault
+abbrev pub AreRead : List ℕ → Result (Vec Item Global) Fault → Type 0
+AreRead text (Ok items) = items_of text ≡ Ok (item_texts items.items)
+AreRead text (Err fault) = (fault ≡ Memory) ⊎ ((n : ℕ) × IsBadLine n fault × (items_of text ≡ Err n))
+
+-- the input is text, and its lines are good
+abbrev pub IsGood : List ℕ → Type 0
+IsGood bytes = IsUtf8 bytes × ((items : List ItemText) × (items_of bytes ≡ Ok items))
+
+-- the input is text, and the line of this number is its first bad one
+abbrev pub IsBadAt : ℕ → List ℕ → Type 0
+IsBadAt n bytes = IsUtf8 bytes × (items_of bytes ≡ Err n)
+
+-- what a command asks of its input: lines of tokens, or text
+abbrev pub IsGoodFor : Command → List ℕ → Type 0
+IsGoodFor Tokens bytes = IsGood bytes
+IsGoodFor Tree bytes = IsUtf8 bytes
+IsGoodFor Html bytes = IsUtf8 bytes
+
+-- a line is bad, where lines are asked for
+abbrev pub IsBadFor : Command → Option (List ℕ) → Fault → Type 0
+IsBadFor Tokens known fault = (n : ℕ) × IsBadLine n fault × IfSome known (IsBadAt n)
+IsBadFor Tree known fault = ⊥
+IsBadFor Html known fault = ⊥
+
+-- a command and the known input come to this output, or to this fault
+abbrev pub ComesBy : Option Command → Option (List ℕ) → Result (Vec ℕ Global) Fault → Type 0
+ComesBy None known (Ok output) = ⊥
+ComesBy None known (Err fault) = fault ≡ Usage
+ComesBy (Some command) known (Ok output) = IfSome known (IsGoodFor command)
+ComesBy (Some command) known (Err fault) =
+    IsReadFault fault
+    ⊎ ((fault ≡ NotUtf8) × IfSome known (λ bytes. ¬ (IsUtf8 bytes)))
+    ⊎ IsBadFor command known fault
+
+-- and so do words and the known input
+abbrev pub Comes : List (String Global) → Option (List ℕ) → Result (Vec ℕ Global) Fault → Type 0
+Comes words known outcome = ComesBy (command_of words) known outcome
+
+-- the lines of a text come to an output, or to this fault
+abbrev pub LinesCome : List ℕ → Result (Vec ℕ Global) Fault → Type 0
+LinesCome text (Ok output) = (items : List ItemText) × (items_of text ≡ Ok items)
+LinesCome text (Err fault) = (fault ≡ Memory) ⊎ ((n : ℕ) × IsBadLine n fault × (items_of text ≡ Err n))
+
+-- an output was written, or a front of it, and then that is said
+abbrev pub Puts : List ℕ → (out out_new faults faults_new : Option (List ℕ)) → ℕ → Type 0
+Puts text out out_new faults faults_new status =
+    ((status ≡ 0) × Appends out out_new text × Keeps faults faults_new)
+    ⊎ ((status ≡ 1) × AppendsFront out out_new text × AppendsFront faults faults_new (message_of Unwritable))
+
+-- an outcome is shown by what is written, and by the exit status
+abbrev pub Shows : Result (Vec ℕ Global) Fault → (out out_new faults faults_new : Option (List ℕ)) → ℕ → Type 0
+Shows (Ok output) out out_new faults faults_new status = Puts output.items out out_new faults faults_new status
+Shows (Err fault) out out_new faults faults_new status =
+    (status ≡ status_of fault) × Keeps out out_new × AppendsFront faults faults_new (message_of fault)
+
+-- a run with these words and this known input shows what it comes to
+abbrev pub Ends : List (String Global) → (input out out_new faults faults_new : Option (List ℕ)) → ℕ → Type 0
+Ends words input out out_new faults faults_new status =
+    (outcome : Result (Vec ℕ Global) Fault) × Comes words input outcome × Shows outcome out out_new faults faults_new status

@@ -1,0 +1,3 @@
+pub mod EscapeLaws
+pub mod ItemLaws
+pub mod WordLaws

@@ -1,0 +1,5 @@
+pub mod Escapes
+pub mod Items
+pub mod Lines
+pub mod Parts
+pub mod Words

@@ -1,0 +1,3 @@
+pub mod FrameLaws
+pub mod HeldLaws
+pub mod OneText

@@ -1,0 +1,4 @@
+pub mod Frames
+pub mod Nodes
+pub mod Printed
+pub mod Replies

@@ -1,0 +1,13 @@
+//! What a builder built, and answered, as text.
+#![tactic(auto)]
+
+pub mod laws;
+mod names;
+mod nodes;
+mod replies;
+#[cfg(test)]
+mod tests;
+mod tree;
+
+pub use replies::{print_answer, print_quirks, print_refusal};
+pub use tree::print_tree;

@@ -1,0 +1,107 @@
+//! Trees as text.
+ghost use Rattle.std.specs.Prelude.{◌≡◌, ◌+◌, ◌++◌, ◌∷◌, [], IfOk, OnOk, vec_len};
+ghost use Rattle.std.specs.String.{string_bytes};
+ghost use Rattle.h5_interface.specs.Forest.{IsForest};
+ghost use Rattle.h5_arena.specs.ArenaModel.{IsHeld, forest_seen};
+ghost use Rattle.h5_print.specs.Frames.{AreHeld, GoesOn, Opens};
+ghost use Rattle.h5_print.specs.Printed.{IsTreeText};
+
+use super::nodes::{print_attributes, print_content, print_kind, print_text};
+use h5_arena::{Arena, Child, NodeId};
+use h5_interface::TreeSink;
+use std::alloc::{AllocError, Global};
+
+// A node whose first lines are printed, and how many of its children are.
+#[derive(Clone, Copy)]
+pub struct Frame {
+    node: NodeId,
+    printed: usize,
+}
+
+// The first lines of a node at a level, which is opened.
+fn print_node(
+    arena: &Arena,
+    node: NodeId,
+    level: usize,
+    out: &mut String,
+    stack: &mut Vec<Frame>,
+) -> Result<(), AllocError>
+    requires forest { IsForest (forest_seen arena.now) }
+    requires held { IsHeld arena.now node }
+    requires level { vec_len stack.old ≡ level + 1 }
+    ensures { OnOk result (Opens arena.now node level stack.old.items
+        (string_bytes out.old) stack.new.items (string_bytes out.new)) }
+{
+    let inner = stack.len();
+    print_kind(out, level, arena.kind(node))?;
+    print_attributes(out, inner, arena.attrs(node))?;
+    stack.push(Frame { node, printed: 0 })?;
+    match arena.contents(node) {
+        Some(contents) => {
+            print_content(out, inner)?;
+            stack.push(Frame {
+                node: contents,
+                printed: 0,
+            })?;
+            Ok(())
+        }
+        None => Ok(()),
+    }
+}
+
+// The next child of an open node, or its close where none is left.
+fn print_next(
+    arena: &Arena,
+    frame: Frame,
+    out: &mut String,
+    stack: &mut Vec<Frame>,
+) -> Result<(), AllocError>
+    requires forest { IsForest (forest_seen arena.now) }
+    requires held { IsHeld arena.now frame.node }
+    requires stack { AreHeld arena.now stack.old.items }
+    ensures held { OnOk result (AreHeld arena.now stack.new.items) }
+    ensures goes_on { OnOk result
+        (GoesOn arena.now (stack.old.items ++ frame ∷ []) (string_bytes out.old) stack.new.items (string_bytes out.new)) }
+{
+    let level = stack.len();
+    let children = arena.children(frame.node);
+    if frame.printed >= children.len() {
+        return Ok(());
+    }
+    stack.push(Frame {
+        node: frame.node,
+        printed: frame.printed + 1,
+    })?;
+    match &children[frame.printed] {
+        Child::Text(text) => print_text(out, level, text.as_str()),
+        Child::Node(node) => print_node(arena, *node, level, out, stack),
+    }
+}
+
+/// The children of the document of an arena, one line a node, two spaces a level.
+///
+/// `<!DOCTYPE name>`, with both identifiers quoted before the `>` where either isn't empty; `<name>`, with
+/// `svg ` or `math ` before the name in those namespaces; `<!-- text -->`; `"text"`; `<?target text>`. Below
+/// an element stand its attributes, as `name="value"` with `xlink `, `xml ` or `xmlns ` before the name in
+/// those namespaces, then the contents of a template below a line `content`, then its children. Texts,
+/// values, identifiers and comments have their escapes. An `AllocError` is told where memory is refused.
+///
+/// The nodes that are open are kept in a list, so that no depth of a tree is too great for the stack.
+pub fn print_tree(alloc: Global, arena: &Arena) -> Result<String, AllocError>
+    ensures { IfOk result (λ text. IsTreeText arena.now (string_bytes text)) }
+{
+    let mut out = String::new(alloc);
+    let mut stack = Vec::new(alloc);
+    stack.push(Frame {
+        node: arena.get_document(),
+        printed: 0,
+    })?;
+    'frames: for _ in 0..u64::MAX {
+        let Some(frame) = stack.pop() else {
+            return Ok(out);
+        };
+        print_next(arena, frame, &mut out, &mut stack)?;
+    }
+    // No memory holds so many lines.
+    Err(AllocError)
+}

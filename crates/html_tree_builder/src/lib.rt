@@ -1,0 +1,15 @@
+//! The tree builder, driver and serializer of html5ever, proved: every module under its name there.
+//!
+//! ```text
+//! text -> driver::Parser -> a sink of trees (arena::Arena) -> serialize::serialize -> text
+//! ```
+#![tactic(auto)]
+
+pub use h5_arena as arena;
+pub use h5_driver as driver;
+pub use h5_interface as interface;
+pub use h5_names as names;
+pub use h5_serialize as serialize;
+pub use h5_token as token;
+pub use h5_tokenizer as tokenizer;
+pub use h5_tree_builder as tree_builder;
