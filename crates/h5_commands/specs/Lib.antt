@@ -1,3 +1,4 @@
 pub mod Faults
 pub mod Outcome
+pub mod Printed
 pub mod Words

@@ -5,6 +5,7 @@ use Rattle.std.specs.declared.alloc.Global.{Global}
 use Rattle.h5_lines.specs.Items.{ItemText, item_texts, items_of}
 use Rattle.h5_lines.specs.declared.items.Item.{Item}
 use Rattle.h5_commands.specs.Faults.{IsBadLine, IsReadFault, message_of, status_of}
+use Rattle.h5_commands.specs.Printed.{HtmlPrints, ItemsPrint, TreePrints}
 use Rattle.h5_commands.specs.Words.{command_of}
 use Rattle.h5_commands.specs.declared.words.Command.{Command}
 use Rattle.h5_commands.specs.declared.words.Command.TheVariants.{Tokens, Tree, Html}
@@ -25,19 +26,19 @@ abbrev pub AreRead : List ℕ → Result (Vec Item Global) Fault → Type 0
 AreRead text (Ok items) = items_of text ≡ Ok (item_texts items.items)
 AreRead text (Err fault) = (fault ≡ Memory) ⊎ ((n : ℕ) × IsBadLine n fault × (items_of text ≡ Err n))
 
--- the input is text, and its lines are good
-abbrev pub IsGood : List ℕ → Type 0
-IsGood bytes = IsUtf8 bytes × ((items : List ItemText) × (items_of bytes ≡ Ok items))
+-- the input is text, its lines are tokens and calls of the end, and this is printed of them
+abbrev pub ArePrinted : List ℕ → List ℕ → Type 0
+ArePrinted bytes output = IsUtf8 bytes × ((items : List ItemText) × (items_of bytes ≡ Ok items) × ItemsPrint items output)
 
 -- the input is text, and the line of this number is its first bad one
 abbrev pub IsBadAt : ℕ → List ℕ → Type 0
 IsBadAt n bytes = IsUtf8 bytes × (items_of bytes ≡ Err n)
 
--- what a command asks of its input: lines of tokens, or text
-abbrev pub IsGoodFor : Command → List ℕ → Type 0
-IsGoodFor Tokens bytes = IsGood bytes
-IsGoodFor Tree bytes = IsUtf8 bytes
-IsGoodFor Html bytes = IsUtf8 bytes
+-- a command prints this of its input: of lines of tokens, or of a text
+abbrev pub Prints : Command → List ℕ → List ℕ → Type 0
+Prints Tokens bytes output = ArePrinted bytes output
+Prints Tree bytes output = IsUtf8 bytes × TreePrints bytes output
+Prints Html bytes output = IsUtf8 bytes × HtmlPrints bytes output
 
 -- a line is bad, where lines are asked for
 abbrev pub IsBadFor : Command → Option (List ℕ) → Fault → Type 0
@@ -49,7 +50,7 @@ IsBadFor Html known fault = ⊥
 abbrev pub ComesBy : Option Command → Option (List ℕ) → Result (Vec ℕ Global) Fault → Type 0
 ComesBy None known (Ok output) = ⊥
 ComesBy None known (Err fault) = fault ≡ Usage
-ComesBy (Some command) known (Ok output) = IfSome known (IsGoodFor command)
+ComesBy (Some command) known (Ok output) = IfSome known (λ bytes. Prints command bytes output.items)
 ComesBy (Some command) known (Err fault) =
     IsReadFault fault
     ⊎ ((fault ≡ NotUtf8) × IfSome known (λ bytes. ¬ (IsUtf8 bytes)))
@@ -61,7 +62,7 @@ Comes words known outcome = ComesBy (command_of words) known outcome
 
 -- the lines of a text come to an output, or to this fault
 abbrev pub LinesCome : List ℕ → Result (Vec ℕ Global) Fault → Type 0
-LinesCome text (Ok output) = (items : List ItemText) × (items_of text ≡ Ok items)
+LinesCome text (Ok output) = (items : List ItemText) × (items_of text ≡ Ok items) × ItemsPrint items output.items
 LinesCome text (Err fault) = (fault ≡ Memory) ⊎ ((n : ℕ) × IsBadLine n fault × (items_of text ≡ Err n))
 
 -- an output was written, or a front of it, and then that is said

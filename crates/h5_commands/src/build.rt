@@ -1,14 +1,23 @@
 //! What an input makes.
-ghost use Rattle.std.specs.Prelude.{◌≡◌, Err, IfErr};
+ghost use Rattle.std.specs.Prelude.{◌≡◌, ◌++◌, Err, IfErr, IfOk, OnOk, string_bytes};
+ghost use Rattle.h5_arena.specs.ArenaModel.{arena_rules, place, seen_of};
+ghost use Rattle.h5_lines.specs.Items.{item_texts};
+ghost use Rattle.h5_meaning.specs.Run.{after_all, replies as replies_to};
+ghost use Rattle.h5_print.specs.Replies.{reply_line};
+ghost use Rattle.h5_tree_builder.specs.Builder.{ended_view};
+ghost use Rattle.h5_tree_builder.specs.Held.{building};
+ghost use Rattle.h5_tree_builder.specs.Replies.{reply_text, reply_texts, token_texts};
+ghost use Rattle.h5_commands.specs.Printed.{HtmlPrints, IsParsed, IsTreeOutput, ItemsPrint, TreePrints, after_items, html_of, replies_to_items, reply_lines};
 
 use super::fault::Fault;
 use h5_arena::{Arena, NodeId};
 use h5_driver::{ParseOpts, parse_document};
 use h5_lines::Item;
 use h5_print::{print_answer, print_quirks, print_refusal, print_tree};
-use h5_serialize::{SerializeFault, SerializeOpts, serialize};
+use h5_serialize::{SerializeOpts, serialize};
 use h5_token::{BuildFault, Token};
-use h5_tree_builder::{Reply, TreeBuilder, TreeBuilderOpts};
+use h5_tree_builder::{Reply, TreeBuilder};
+use h5_types::TreeBuilderOpts;
 use std::alloc::Global;
 use std::mem;
 
@@ -27,12 +36,14 @@ fn take_tokens(
     tokens: Vec<(Token, u64)>,
     replies: &mut Vec<Reply<NodeId>>,
 ) -> Result<(), Fault>
-    ensures { IfErr result (λ fault. fault ≡ Fault.Memory) }
+    ensures view { OnOk result ((building seen_of place builder.new).view
+        ≡ after_all arena_rules (token_texts tokens.items) (building seen_of place builder.old).view) }
+    ensures told { OnOk result (reply_texts place replies.new.items
+        ≡ reply_texts place replies.old.items ++ replies_to arena_rules (token_texts tokens.items) (building seen_of place builder.old).view) }
+    ensures memory { IfErr result (λ fault. fault ≡ Fault.Memory) }
 {
-    let more = builder.process_all(tokens).map_err(fault_of_build)?;
-    for reply in more {
-        replies.push(reply)?;
-    }
+    let mut more = builder.process_all(tokens).map_err(fault_of_build)?;
+    replies.append(&mut more)?;
     Ok(())
 }
 
@@ -42,11 +53,15 @@ fn take_items(
     builder: &mut Builder,
     items: Vec<Item>,
 ) -> Result<Vec<Reply<NodeId>>, Fault>
-    ensures { IfErr result (λ fault. fault ≡ Fault.Memory) }
+    ensures view { OnOk result ((building seen_of place builder.new).view
+        ≡ ended_view arena_rules (after_items (item_texts items.items) (building seen_of place builder.old).view)) }
+    ensures told { IfOk result (λ rs. reply_texts place rs.items
+        ≡ replies_to_items (item_texts items.items) (building seen_of place builder.old).view) }
+    ensures memory { IfErr result (λ fault. fault ≡ Fault.Memory) }
 {
     let mut replies = Vec::new(alloc);
     let mut tokens = Vec::new(alloc);
-    for item in items {
+    'items: for item in items {
         match item {
             Item::Token(token, line) => tokens.push((token, line))?,
             Item::End => {
@@ -61,38 +76,67 @@ fn take_items(
     Ok(replies)
 }
 
-// The replies other than "go on", each with the number of its token, from 1.
-fn print_replies(out: &mut String, replies: &[Reply<NodeId>]) -> Result<(), Fault>
-    ensures { IfErr result (λ fault. fault ≡ Fault.Memory) }
+// The line of the reply to the token of this number, where it has one.
+fn print_reply(out: &mut String, number: u64, reply: &Reply<NodeId>) -> Result<(), Fault>
+    ensures line { OnOk result (string_bytes out.new
+        ≡ string_bytes out.old ++ reply_line number (reply_text place reply.now)) }
+    ensures memory { IfErr result (λ fault. fault ≡ Fault.Memory) }
 {
-    let mut number: u64 = 0;
-    for reply in replies {
-        number = number.saturating_add(1);
-        match reply {
-            Reply::Answer(answer) => print_answer(out, number, answer)?,
-            Reply::Refused(fault) => print_refusal(out, number, *fault)?,
+    match reply {
+        Reply::Answer(answer) => {
+            print_answer(out, number, answer)?;
+            Ok(())
+        }
+        Reply::Refused(fault) => {
+            print_refusal(out, number, *fault)?;
+            Ok(())
         }
     }
+}
+
+// The replies other than "go on", each with the number of its token, from 1.
+fn print_replies(out: &mut String, replies: &[Reply<NodeId>]) -> Result<(), Fault>
+    ensures lines { OnOk result (string_bytes out.new
+        ≡ string_bytes out.old ++ reply_lines 1 (reply_texts place replies.now)) }
+    ensures memory { IfErr result (λ fault. fault ≡ Fault.Memory) }
+{
+    let mut left = replies;
+    'replies: while let Some((reply, rest)) = left.split_first() {
+        let number = (replies.len() - rest.len()) as u64;
+        print_reply(out, number, reply)?;
+        left = rest;
+    }
     Ok(())
+}
+
+// What is printed of a tree: its text, and the quirks mode.
+fn print_arena(alloc: Global, arena: &Arena) -> Result<String, Fault>
+    ensures tree { IfOk result (λ text. IsTreeOutput arena.now (string_bytes text)) }
+    ensures memory { IfErr result (λ fault. fault ≡ Fault.Memory) }
+{
+    let mut out = print_tree(alloc, arena)?;
+    print_quirks(&mut out, arena.quirks())?;
+    Ok(out)
 }
 
 /// What is printed of these items: the tree that they make, the quirks mode, and the replies other than "go
 /// on". The only fault is `Memory`.
 pub fn build(alloc: Global, items: Vec<Item>) -> Result<Vec<u8>, Fault>
-    ensures { IfErr result (λ fault. fault ≡ Fault.Memory) }
+    ensures prints { IfOk result (λ output. ItemsPrint (item_texts items.items) output.items) }
+    ensures memory { IfErr result (λ fault. fault ≡ Fault.Memory) }
 {
     let arena = Arena::new(alloc)?;
     let mut builder = TreeBuilder::new(alloc, arena, TreeBuilderOpts::default());
     let replies = take_items(alloc, &mut builder, items)?;
-    let mut out = print_tree(alloc, &builder.sink)?;
-    print_quirks(&mut out, builder.sink.quirks())?;
+    let mut out = print_arena(alloc, &builder.sink)?;
     print_replies(&mut out, replies.as_slice())?;
     Ok(out.into_bytes())
 }
 
 // The tree that a text makes.
 fn parse(alloc: Global, text: String) -> Result<Arena, Fault>
-    ensures { IfErr result (λ fault. fault ≡ Fault.Memory) }
+    ensures parsed { IfOk result (λ arena. IsParsed (string_bytes text) arena) }
+    ensures memory { IfErr result (λ fault. fault ≡ Fault.Memory) }
 {
     let pieces = vec![in alloc; text]?;
     let parser = parse_document(alloc, Arena::new(alloc)?, ParseOpts::default());
@@ -103,26 +147,33 @@ fn parse(alloc: Global, text: String) -> Result<Arena, Fault>
 
 /// What is printed of the tree that a text makes: the tree, and the quirks mode. The only fault is `Memory`.
 pub fn tree_output(alloc: Global, text: String) -> Result<Vec<u8>, Fault>
-    ensures { IfErr result (λ fault. fault ≡ Fault.Memory) }
+    ensures prints { IfOk result (λ output. TreePrints (string_bytes text) output.items) }
+    ensures memory { IfErr result (λ fault. fault ≡ Fault.Memory) }
 {
     let arena = parse(alloc, text)?;
-    let mut out = print_tree(alloc, &arena)?;
-    print_quirks(&mut out, arena.quirks())?;
+    let out = print_arena(alloc, &arena)?;
     Ok(out.into_bytes())
 }
 
-// A tree isn't written only where memory is refused: the writer is memory, too.
-fn fault_of_writing(_fault: SerializeFault) -> Fault
-    ensures { result ≡ Fault.Memory }
+// The HTML of a tree. It isn't written only where memory is refused: the writer is memory, too.
+fn write_html(alloc: Global, arena: &Arena) -> Result<Vec<u8>, Fault>
+    ensures html { IfOk result (λ output. output.items ≡ html_of arena.now) }
+    ensures memory { IfErr result (λ fault. fault ≡ Fault.Memory) }
 {
-    Fault::Memory
+    let node = arena.at(arena.document());
+    let opts = SerializeOpts::default();
+    match serialize(alloc, Vec::new(alloc), &node, opts) {
+        Ok(written) => Ok(written),
+        Err(_) => Err(Fault::Memory),
+    }
 }
 
 /// The HTML of the tree that a text makes, with the default options. The only fault is `Memory`.
 pub fn html_output(alloc: Global, text: String) -> Result<Vec<u8>, Fault>
-    ensures { IfErr result (λ fault. fault ≡ Fault.Memory) }
+    ensures prints { IfOk result (λ output. HtmlPrints (string_bytes text) output.items) }
+    ensures memory { IfErr result (λ fault. fault ≡ Fault.Memory) }
 {
     let arena = parse(alloc, text)?;
-    let node = arena.at(arena.document());
-    serialize(alloc, Vec::new(alloc), &node, SerializeOpts::default()).map_err(fault_of_writing)
+    let output = write_html(alloc, &arena)?;
+    Ok(output)
 }

@@ -4,6 +4,7 @@
 mod build;
 mod command;
 mod fault;
+pub mod laws;
 mod output;
 #[cfg(test)]
 mod tests;

@@ -1,4 +1,7 @@
 //! Options of a parser.
+ghost use Rattle.std.specs.Prelude.{◌≡◌, IfOk};
+ghost use Rattle.h5_tokenizer.specs.Options.{options_text};
+
 use h5_tokenizer::TokenizerOpts;
 use h5_types::TreeBuilderOpts;
 use std::alloc::AllocError;
@@ -8,6 +11,19 @@ use std::alloc::AllocError;
 pub struct ParseOpts {
     pub tokenizer: TokenizerOpts,
     pub tree_builder: TreeBuilderOpts,
+}
+
+impl ParseOpts {
+    /// Equal options, or an `AllocError` where memory is refused.
+    pub fn clone(&self) -> Result<ParseOpts, AllocError>
+        ensures tokenizer { IfOk result (λ opts. options_text opts.tokenizer ≡ options_text self.now.tokenizer) }
+        ensures tree_builder { IfOk result (λ opts. opts.tree_builder ≡ self.now.tree_builder) }
+    {
+        Ok(ParseOpts {
+            tokenizer: self.tokenizer.clone()?,
+            tree_builder: self.tree_builder,
+        })
+    }
 }
 
 impl Default for ParseOpts {

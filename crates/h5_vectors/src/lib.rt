@@ -4,6 +4,12 @@
 #[cfg(test)]
 mod builder;
 #[cfg(test)]
+mod cuts;
+#[cfg(test)]
+mod deep;
+#[cfg(test)]
 mod parser;
 #[cfg(test)]
 mod rows;
+#[cfg(test)]
+mod running;

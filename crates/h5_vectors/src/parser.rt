@@ -6,9 +6,10 @@ use std::alloc::{AllocError, Global};
 use std::process::Abort;
 use std::test::Fail;
 
-type ArenaParser = Parser<h5_arena::NodeId, Arena>;
+pub type ArenaParser = Parser<h5_arena::NodeId, Arena>;
 
-fn new_parser(alloc: Global) -> Result<ArenaParser, AllocError> {
+/// A parser of a document, into an arena.
+pub fn new_parser(alloc: Global) -> Result<ArenaParser, AllocError> {
     Ok(parse_document(alloc, Arena::new(alloc)?, ParseOpts::default()))
 }
 
@@ -33,16 +34,20 @@ fn pieces_make_the_tree_of_the_whole_text(rt: HostRuntime) -> Result<(), Fail> {
         String::from_str(alloc, "p;b</p>")?,
     ]?;
     let parser = new_parser(alloc)?;
-    let arena = parser
-        .process_pieces(pieces.as_slice())
-        .map_err(|_| "refused")?;
+    let arena = parser.process_pieces(pieces.as_slice())?;
     assert!(rt; paragraph_holds(&arena, "a&b"));
     assert!(rt; arena.quirks() == QuirksMode::NoQuirks);
     let parser = new_parser(alloc)?;
-    let arena = parser
-        .one("<!DOCTYPE html><p>a&amp;b</p>")
-        .map_err(|_| "refused")?;
+    let arena = parser.one("<!DOCTYPE html><p>a&amp;b</p>")?;
     assert!(rt; paragraph_holds(&arena, "a&b"));
+    Ok(())
+}
+
+#[test]
+fn options_are_cloned(rt: HostRuntime) -> Result<(), Fail> {
+    let opts = ParseOpts::default().clone()?;
+    assert!(rt; opts.tokenizer.discard_bom);
+    assert!(rt; opts.tree_builder.scripting_enabled);
     Ok(())
 }
 
@@ -51,9 +56,9 @@ fn a_parser_takes_text_and_then_the_end(rt: HostRuntime) -> Result<(), Fail> {
     let alloc = rt.alloc();
     let mut parser = new_parser(alloc)?;
     parser.error("from outside");
-    parser.process("<!DOCTYPE html><p>").map_err(|_| "refused")?;
-    parser.process("x").map_err(|_| "refused")?;
-    let arena = parser.finish().map_err(|_| "refused")?;
+    parser.process("<!DOCTYPE html><p>")?;
+    parser.process("x")?;
+    let arena = parser.finish()?;
     assert!(rt; paragraph_holds(&arena, "x"));
     assert_eq!(rt; arena.errors().len(), 1);
     Ok(())

@@ -6,9 +6,9 @@ use Rattle.h5_commands.proofs.command.output_by.Goals as goal
 pub returns-in-Tree : goal.returns-in-Tree
 returns-in-Tree g c =
     let known = g.R.Read.remaining c.args.input in
-    subst (λ x. ComesBy (Some x) known c.tree_output.result) (sym c.in-Tree.is) (tree_comes known c.in_ok-text.text c.tree_output.result c.in_ok-text.ensures c.tree_output.ensures)
+    subst (λ x. ComesBy (Some x) known c.tree_output.result) (sym c.in-Tree.is) (tree_comes known c.in_ok-text.text c.tree_output.result c.in_ok-text.ensures c.tree_output.ensures.prints c.tree_output.ensures.memory)
 
 pub returns-in-Html : goal.returns-in-Html
 returns-in-Html g c =
     let known = g.R.Read.remaining c.args.input in
-    subst (λ x. ComesBy (Some x) known c.html_output.result) (sym c.in-Html.is) (html_comes known c.in_ok-text.text c.html_output.result c.in_ok-text.ensures c.html_output.ensures)
+    subst (λ x. ComesBy (Some x) known c.html_output.result) (sym c.in-Html.is) (html_comes known c.in_ok-text.text c.html_output.result c.in_ok-text.ensures c.html_output.ensures.prints c.html_output.ensures.memory)

@@ -1,0 +1,86 @@
+-- A command prints one output of one input.
+use Rattle.std.proofs.Common.{◌≡◌, ℕ, suc, List, [], ◌∷◌, ◌++◌, Some, None, Result, Ok, slice_get, refl, sym, ap, subst, ◌∙◌}
+use Rattle.h5_interface.specs.Forest.{Child, Forest}
+use Rattle.h5_arena.specs.ArenaModel.{ArenaView, arena_rules, forest_seen}
+use Rattle.h5_arena.specs.NodeCalls.{walk_of}
+use Rattle.h5_serialize.specs.Standing.{new_standing, walk_text}
+use Rattle.h5_serialize.specs.declared.options.TraversalScope.TheVariants.{ChildrenOnly}
+use Rattle.h5_lines.specs.Items.{ItemText, items_of}
+use Rattle.h5_print.specs.Printed.{IsTreeText, NoChild, NodeChild, Printed, TemplateChild, TextChild}
+use Rattle.h5_print.specs.Replies.{quirks_line}
+use Rattle.h5_print.proofs.OneText.{one_tree_text}
+use Rattle.h5_tree_builder.specs.Builder.{ended_view}
+use Rattle.h5_commands.specs.Outcome.{Prints}
+use Rattle.h5_commands.specs.Printed.{HtmlPrints, IsParsed, IsTreeOutput, ItemsPrint, TreePrints, after_items, default_serializing, first_view, replies_to_items, reply_lines}
+use Rattle.h5_commands.specs.declared.words.Command.{Command}
+use Rattle.h5_commands.specs.declared.words.Command.TheVariants.{Tokens, Tree, Html}
+
+some_same : {A : Type 0} (x y : A) → Some x ≡ Some y → x ≡ y
+some_same x y e = cc
+
+-- a list is its length and what stands at each place
+lists_same : {A : Type 0} (xs ys : List A) → ((n : ℕ) → slice_get xs n ≡ slice_get ys n) → xs ≡ ys
+lists_same [] [] h = refl
+lists_same [] (y ∷ ys) h = absurd (cc (h 0))
+lists_same (x ∷ xs) [] h = absurd (cc (h 0))
+lists_same (x ∷ xs) (y ∷ ys) h =
+    ap (λ z. z ∷ xs) (some_same x y (h 0)) ∙ ap (λ zs. y ∷ zs) (lists_same xs ys (λ n. h (suc n)))
+
+-- nodes of one forest are the same nodes
+nodes_same : (a b : ArenaView) → forest_seen a ≡ forest_seen b → a.nodes ≡ b.nodes
+nodes_same a b e = lists_same a.nodes b.nodes (λ n. ap (λ (f : Forest). f.node n) e)
+
+-- a text of a tree is one of each arena with these nodes
+printed_alike : (a b : ArenaView) → a.nodes ≡ b.nodes → (level : ℕ) (children : List Child) (text : List ℕ) → Printed a level children text → Printed b level children text
+printed_alike a b e level _ _ NoChild = NoChild
+printed_alike a b e level _ _ (TextChild text rest) = TextChild text (printed_alike a b e level _ _ rest)
+printed_alike a b e level _ _ (NodeChild n d at none inner rest) =
+    NodeChild n d (ap (λ ds. slice_get ds n) (sym e) ∙ at) none (printed_alike a b e (suc level) _ _ inner) (printed_alike a b e level _ _ rest)
+printed_alike a b e level _ _ (TemplateChild n c d f at some there held inner rest) =
+    TemplateChild n c d f (ap (λ ds. slice_get ds n) (sym e) ∙ at) some (ap (λ ds. slice_get ds c) (sym e) ∙ there)
+    (printed_alike a b e (suc (suc level)) _ _ held) (printed_alike a b e (suc level) _ _ inner) (printed_alike a b e level _ _ rest)
+
+tree_same : (a b : ArenaView) (x y : List ℕ) → a.nodes ≡ b.nodes → IsTreeText a x → IsTreeText b y → x ≡ y
+tree_same a b x y e (root, at, printed) t =
+    one_tree_text b x y (root, ap (λ ds. slice_get ds 0) (sym e) ∙ at, printed_alike a b e 0 root.children x printed) t
+
+output_same : (a b : ArenaView) (x y : List ℕ) → forest_seen a ≡ forest_seen b → a.quirks ≡ b.quirks → IsTreeOutput a x → IsTreeOutput b y → x ≡ y
+output_same a b x y e q t u =
+    t.whole ∙ ap (λ z. z ++ quirks_line a.quirks) (tree_same a b t.tree u.tree (nodes_same a b e) t.is_tree u.is_tree) ∙ ap (λ m. u.tree ++ quirks_line m) q ∙ sym u.whole
+
+-- what is built of items is printed in one way
+items_print : (items : List ItemText) (x y : List ℕ) → ItemsPrint items x → ItemsPrint items y → x ≡ y
+items_print items x y p q =
+    let v = ended_view arena_rules (after_items items first_view) in
+    let tree = output_same p.arena q.arena p.tree q.tree (p.built.forest ∙ sym q.built.forest) (p.built.quirks ∙ sym q.built.quirks) p.is_tree q.is_tree in
+    p.whole ∙ ap (λ t. t ++ reply_lines 1 (replies_to_items items first_view)) tree ∙ sym q.whole
+
+-- a parser makes one tree of a text
+record SameSeen (a b : ArenaView) : Type 0 where
+  pub forest : forest_seen a ≡ forest_seen b
+  pub quirks : a.quirks ≡ b.quirks
+
+parsed_same : (text : List ℕ) (a b : ArenaView) → IsParsed text a → IsParsed text b → SameSeen a b
+parsed_same text a b p q =
+    let one = (p.any p.tokens _ p.reads).1 in
+    let other = (q.any p.tokens _ p.reads).1 in
+    record { forest = one.0 ∙ sym other.0; quirks = one.1 ∙ sym other.1 }
+
+tree_prints : (text x y : List ℕ) → TreePrints text x → TreePrints text y → x ≡ y
+tree_prints text x y p q =
+    let same = parsed_same text p.arena q.arena p.parsed q.parsed in
+    output_same p.arena q.arena x y same.forest same.quirks p.is_tree q.is_tree
+
+html_prints : (text x y : List ℕ) → HtmlPrints text x → HtmlPrints text y → x ≡ y
+html_prints text x y p q =
+    let same = parsed_same text p.arena q.arena p.parsed q.parsed in
+    p.whole ∙ ap (λ f. walk_text (new_standing default_serializing) (walk_of f 0 (ChildrenOnly None))) same.forest ∙ sym q.whole
+
+ok_same : {A B : Type 0} (r : Result A B) (x y : A) → r ≡ Ok x → r ≡ Ok y → x ≡ y
+ok_same r x y p q = cc
+
+pub one_output : (command : Command) (bytes x y : List ℕ) → Prints command bytes x → Prints command bytes y → x ≡ y
+one_output Tokens bytes x y (u, (items, e, p)) (v, (others, f, q)) =
+    items_print others x y (subst (λ is. ItemsPrint is x) (ok_same (items_of bytes) items others e f) p) q
+one_output Tree bytes x y (u, p) (v, q) = tree_prints bytes x y p q
+one_output Html bytes x y (u, p) (v, q) = html_prints bytes x y p q

@@ -1,0 +1,87 @@
+-- What the program prints of an input.
+use Rattle.std.specs.Prelude.{◌≡◌, ℕ, ◌+◌, true, false, List, [], ◌∷◌, ◌++◌, None}
+use Rattle.h5_token.specs.Reply.{Reply}
+use Rattle.h5_interface.specs.Seen.{plain}
+use Rattle.h5_interface.specs.Forest.{DocumentNode}
+use Rattle.h5_interface.specs.declared.marks.QuirksMode.TheVariants.{NoQuirks}
+use Rattle.h5_serialize.specs.Standing.{new_standing, walk_text}
+use Rattle.h5_serialize.specs.declared.options.SerializeOpts.{SerializeOpts}
+use Rattle.h5_serialize.specs.declared.options.TraversalScope.TheVariants.{ChildrenOnly}
+use Rattle.h5_arena.specs.ArenaModel.{ArenaView, arena_rules, forest_seen, seen_of}
+use Rattle.h5_arena.specs.NodeCalls.{walk_of}
+use Rattle.h5_tokenizer.specs.Options.{first_place}
+use Rattle.h5_meaning.specs.Run.{View, after_token, reply_to}
+use Rattle.h5_tree_builder.specs.Builder.{ended_view, first_building}
+use Rattle.h5_driver.specs.Options.{default_options}
+use Rattle.h5_driver.specs.Parsing.{Parses}
+use Rattle.h5_lines.specs.Items.{ItemText, TheEnd, TokenAt}
+use Rattle.h5_print.specs.Printed.{IsTreeText}
+use Rattle.h5_print.specs.Replies.{quirks_line, reply_line}
+
+-- an arena that holds its document alone
+abbrev pub new_arena : ArenaView
+new_arena = record { nodes = plain DocumentNode ∷ []; quirks = NoQuirks; errors = []; errors_lost = false }
+
+-- a builder over it that took nothing yet, with the default options
+abbrev pub first_view : View
+first_view = (first_building (seen_of new_arena) default_options.tree_builder).view
+
+-- what a builder means after the items of a text: tokens that it takes, and calls of the end
+abbrev pub after_items : List ItemText → View → View
+after_items [] v = v
+after_items (TokenAt token line ∷ items) v = after_items items (after_token arena_rules token v)
+after_items (TheEnd ∷ items) v = after_items items (ended_view arena_rules v)
+
+-- and its replies to the tokens
+abbrev pub replies_to_items : List ItemText → View → List Reply
+replies_to_items [] v = []
+replies_to_items (TokenAt token line ∷ items) v = reply_to arena_rules token v ∷ replies_to_items items (after_token arena_rules token v)
+replies_to_items (TheEnd ∷ items) v = replies_to_items items (ended_view arena_rules v)
+
+-- the lines of replies, the first of which is that to the token of this number
+abbrev pub reply_lines : ℕ → List Reply → List ℕ
+reply_lines n [] = []
+reply_lines n (r ∷ rs) = reply_line n r ++ reply_lines (n + 1) rs
+
+-- an arena is what a builder has built
+pub record IsBuilt (v : View) (a : ArenaView) : Type 0 where
+  pub forest : forest_seen a ≡ v.world.forest
+  pub quirks : a.quirks ≡ v.world.seen_quirks
+
+-- a tree, and its quirks mode
+pub record IsTreeOutput (a : ArenaView) (output : List ℕ) : Type 0 where
+  pub tree : List ℕ
+  pub is_tree : IsTreeText a tree
+  pub whole : output ≡ tree ++ quirks_line a.quirks
+
+-- of the items of a text the tree that they build is printed, with the end behind them, then the replies
+pub record ItemsPrint (items : List ItemText) (output : List ℕ) : Type 0 where
+  pub arena : ArenaView
+  pub built : IsBuilt (ended_view arena_rules (after_items items first_view)) arena
+  pub tree : List ℕ
+  pub is_tree : IsTreeOutput arena tree
+  pub whole : output ≡ tree ++ reply_lines 1 (replies_to_items items first_view)
+
+-- an arena is what a parser with the default options makes of a text
+abbrev pub IsParsed : List ℕ → ArenaView → Type 0
+IsParsed text a = Parses arena_rules (first_place default_options.tokenizer) first_view text (seen_of a)
+
+-- its tree is printed
+pub record TreePrints (text output : List ℕ) : Type 0 where
+  pub arena : ArenaView
+  pub parsed : IsParsed text arena
+  pub is_tree : IsTreeOutput arena output
+
+-- the options of a serializer that hold where nothing else is said
+abbrev pub default_serializing : SerializeOpts
+default_serializing = record { scripting_enabled = true; traversal_scope = ChildrenOnly None; create_missing_parent = false }
+
+-- the HTML of an arena: the text of the walk over what its document holds
+abbrev pub html_of : ArenaView → List ℕ
+html_of a = walk_text (new_standing default_serializing) (walk_of (forest_seen a) 0 (ChildrenOnly None))
+
+-- its HTML is printed
+pub record HtmlPrints (text output : List ℕ) : Type 0 where
+  pub arena : ArenaView
+  pub parsed : IsParsed text arena
+  pub whole : output ≡ html_of arena

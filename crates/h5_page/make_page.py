@@ -1,0 +1,278 @@
+#!/usr/bin/env python3
+"""Writes the two files beside this one: the page `stdin`, and what the program is to print of it, `stdout`.
+
+Each part of the page stands here twice: as it is written, and as its HTML is to be. The HTML is thought out by
+hand, from what the reader and the tree builder are to do; nothing here reads the page. Each element that is
+opened is closed, so that the tree is meant to stay as it is once tables, forms and formatting have their rules.
+"""
+
+import os
+
+SECTIONS = 31
+LINE_ENDS = ["\n", "\r\n", "\r"]
+NAMES = ["Aldermoor", "Bréhat", "Cape Wrath", "Długi Ostrów", "Eddystone", "Fårö", "Górki", "灯台", "Høgsteinen"]
+NAMES += ["Île Vierge", "Маяк"]
+KEEPERS = ["Ann Orme", "J. de Vries", "Søren Bø", "María Peña", "Old Tom", "K. Öztürk", "two sisters"]
+SEAS = ["a grey sea", "shallow sands", "the narrow strait", "a harbour without a mole", "rocks that no chart shows"]
+LAMPS = ["whale oil", "coal in an open grate", "paraffin", "gas", "an arc lamp", "a lens of the second order"]
+SENTENCES = [
+    "The first tower was of timber, and burnt in its ninth winter.",
+    "It took three summers to bring the stone, since no boat could land in a swell.",
+    "From the gallery one sees the whole bay, and on clear nights the next light.",
+    "The log of those years is kept in the town, in four thick volumes.",
+    "Each stair is cut from one block; there are no two of the same height.",
+    "Ships' masters complained that the lamp was put out before dawn to save oil.",
+    "A bell was hung for fog, and rung by hand until a spring was found that could.",
+    "When the road came, the keepers were the last to leave the island.",
+]
+
+
+def pick(choices, number):
+    return choices[number % len(choices)]
+
+
+def same(text):
+    """A part whose HTML is what is written."""
+    return (text, text)
+
+
+def prose(number, count):
+    return " ".join(pick(SENTENCES, number * 3 + k * 5) for k in range(count))
+
+
+def heading(n):
+    name = pick(NAMES, n)
+    return [
+        (f"<section id=s{n} data-number='{n}'>\n", f'<section id="s{n}" data-number="{n}">\n'),
+        (
+            f"<H2 Class=title>{n}. The light of {name} &amp; its keepers</H2>\n",
+            f'<h2 class="title">{n}. The light of {name} &amp; its keepers</h2>\n',
+        ),
+    ]
+
+
+def references(n):
+    keeper, sea = pick(KEEPERS, n), pick(SEAS, n)
+    return [
+        ("<p class='lead'>", '<p class="lead">'),
+        (
+            f"The tower stands &quot;{90 + n} feet&quot; high, &lt;more or less&gt;, above {sea};",
+            f'The tower stands "{90 + n} feet" high, &lt;more or less&gt;, above {sea};',
+        ),
+        (
+            f" {keeper}&nbsp;({1800 + n}&ndash;{1830 + n}) had &pound;{n} a year & coal,",
+            f" {keeper}&nbsp;({1800 + n}&amp;ndash;{1830 + n}) had &amp;pound;{n} a year &amp; coal,",
+        ),
+        (
+            f" &copy; &#65;&#x42; &amp &lt; &lt {n} &AMP; &;&&amp;&amp;amp; R&D.\u00a0",
+            f" &amp;copy; &amp;#65;&amp;#x42; &amp;amp &lt; &amp;lt {n} &amp;AMP; &amp;;&amp;&amp;&amp;amp; R&amp;D.&nbsp;",
+        ),
+        same(prose(n, 3)),
+        same("</p>\n"),
+    ]
+
+
+def links(n):
+    name = pick(NAMES, n + 1)
+    return [
+        same("<p>See "),
+        (
+            f"<a href=/towers/{n}/ title = \"The &quot;{name}&quot; light\">{name}</a>, ",
+            f'<a href="/towers/{n}/" title="The &quot;{name}&quot; light">{name}</a>, ',
+        ),
+        (
+            f"<A HREF='/find?q={n}&amp;page=2' Title=''>the second page</A>, ",
+            f'<a href="/find?q={n}&amp;page=2" title="">the second page</a>, ',
+        ),
+        (
+            f'<a href="/b?x={n}&y=2&copy=3"rel=next>a list</a > and ',
+            f'<a href="/b?x={n}&amp;y=2&amp;copy=3" rel="next">a list</a> and ',
+        ),
+        (
+            f"<a\n  href = '#s{n}'\n  title=\"two\n\tlines, it's > one\"\n>this place</a\n>.",
+            f'<a href="#s{n}" title="two\n\tlines, it\'s &gt; one">this place</a>.',
+        ),
+        same("</p>\n"),
+    ]
+
+
+def images(n):
+    return [
+        same("<p>"),
+        (
+            f"<img src=\"/pictures/{n}.png\" ALT='the \"tower\" & its\u00a0sea' width={100 + n} hidden/></img>",
+            f'<img src="/pictures/{n}.png" alt="the &quot;tower&quot; &amp; its&nbsp;sea" width="{100 + n}" hidden="">',
+        ),
+        (f"<img src=plan-{n}.png/></img>", f'<img src="plan-{n}.png/">'),
+        (f"<IMG/alt/src='x{n}'/ /></img>", f'<img alt="" src="x{n}">'),
+        ("</p  class=ignored id='a>b'>\n", "</p>\n"),
+    ]
+
+
+def item(n, k):
+    return [
+        (f"<li id=i{n}-{k} ID='other' iD=\"third\" class=a Class=b>", f'<li id="i{n}-{k}" class="a">'),
+        same(f"{pick(LAMPS, n + k)}, <em>{1700 + 10 * k + n}</em>"),
+        ("</li class=ignored>\n", "</li>\n"),
+    ]
+
+
+def nested_list(n, depth):
+    if depth == 0:
+        return item(n, 0)
+    parts = [(f"<ul class=depth{depth}>\n", f'<ul class="depth{depth}">\n')]
+    for k in range(2):
+        parts += item(n, depth * 2 + k)
+    parts += [same("<li>below this:\n"), *nested_list(n, depth - 1), ("</li/>\n", "</li>\n")]
+    return parts + [("</UL >\n", "</ul>\n")]
+
+
+def lists(n):
+    if n % 3 == 0:
+        return nested_list(n, 3)
+    parts = [("<ol start=3 reversed>\n", '<ol start="3" reversed="">\n')]
+    for k in range(n % 4 + 1):
+        parts += item(n, k)
+    return parts + [same("</ol>\n")]
+
+
+def row(n, k):
+    return [
+        (f"<tr><td>{pick(NAMES, n + k)}</td>", f"<tr><td>{pick(NAMES, n + k)}</td>"),
+        (
+            f"<td align=right>{30 + (n * 7 + k * 13) % 60}</td><td>&lt;{k}&gt;</td></tr>\n",
+            f'<td align="right">{30 + (n * 7 + k * 13) % 60}</td><td>&lt;{k}&gt;</td></tr>\n',
+        ),
+    ]
+
+
+def table(n):
+    parts = [
+        ("<table border=1>\n<caption>Heights</caption>\n", '<table border="1">\n<caption>Heights</caption>\n'),
+        (
+            "<thead><tr><th scope=col>Light</th><th scope=\"col\">Feet</th><th scope='col'>Rank</th></tr></thead>\n",
+            '<thead><tr><th scope="col">Light</th><th scope="col">Feet</th><th scope="col">Rank</th></tr></thead>\n',
+        ),
+        same("<tbody>\n<!-- rows -->\n"),
+    ]
+    for k in range(n % 5 + 2):
+        parts += row(n, k)
+    return parts + [same("</tbody>\n</table>\n")]
+
+
+def comments(n):
+    return [
+        same(f"<!-- section {n} - a -- b -> c > d <p>not one</p> &amp; -->\n"),
+        same("<!----><!-- three dashes --->"),
+        ("<!-- a NUL: \0 -->\n", "<!-- a NUL: \ufffd -->\n"),
+        same("<!-- on\nthree\nlines -->\n"),
+    ]
+
+
+def marks(n):
+    return [
+        same("<p>"),
+        (
+            f"{n} < {n + 1}, x<3, a <- b, <>, </>, </{n}, </ p>, <!x{n}>, <!->, <!DOC>, ",
+            f"{n} &lt; {n + 1}, x&lt;3, a &lt;- b, &lt;&gt;, &lt;/&gt;, &lt;/{n}, &lt;/ p&gt;, &lt;!x{n}&gt;, &lt;!-&gt;, &lt;!DOC&gt;, ",
+        ),
+        (
+            f"<?echo {n} ?>, <![CDATA[a{n} > b]]> and <été>",
+            f"&lt;?echo {n} ?&gt;, &lt;![CDATA[a{n} &gt; b]]&gt; and &lt;été&gt;",
+        ),
+        ("; dro\0pped, <!DOCTYPE html PUBLIC 'x' \"y\">left out", "; dropped, left out"),
+        same("</p>\n"),
+    ]
+
+
+def odd_tags(n):
+    return [
+        (
+            "<p =x=1 a\"b=c d'e / f = g/h title=\"\0&NBSP;\">",
+            '<p =x="1" a"b="c" d\'e="" f="g/h" title="\ufffd&amp;NBSP;">',
+        ),
+        (
+            f"<X-Note Kind = tip><span class=\"icon\" />i</span>{n}</x-NOTE>",
+            f'<x-note kind="tip"><span class="icon">i</span>{n}</x-note>',
+        ),
+        ("<Café LANG=fr>crème</CAFé> <o:p></o:p>", '<café lang="fr">crème</café> <o:p></o:p>'),
+        ("<span>a<x-y>b</span>c</x-y></nothing>d", "<span>a<x-y>b</x-y></span>cd"),
+        same("</p>\n"),
+    ]
+
+
+def form(n):
+    return [
+        (
+            f"<form action=/go method='get'><label for=q{n}>Find</label> ",
+            f'<form action="/go" method="get"><label for="q{n}">Find</label> ',
+        ),
+        (
+            f"<input type=text name=q id=q{n} value=\"a &lt; b\" disabled></input>",
+            f'<input type="text" name="q" id="q{n}" value="a &lt; b" disabled="">',
+        ),
+        ("<button type=submit>Go</button></form>\n", '<button type="submit">Go</button></form>\n'),
+    ]
+
+
+def quotation(n):
+    return [
+        same(f"<blockquote>\n<p>{prose(n + 1, 4)}</p>\n<footer>{pick(KEEPERS, n + 2)}, “letters” 🗼</footer>\n</blockquote>\n"),
+        ("<hr class=thin></hr>\n", '<hr class="thin">\n'),
+        same(f"<pre>  N\n W + E   {n}\n  S\n</pre>\n<dl><dt>Lamp</dt><dd>{pick(LAMPS, n)}</dd></dl>\n"),
+    ]
+
+
+def story(n):
+    return [same(f"<p>{prose(n + 5, 4 + n % 4)}</p>\n")]
+
+
+def with_line_ends(parts, line_end):
+    return [(written.replace("\n", line_end), wanted) for written, wanted in parts]
+
+
+def section(n):
+    parts = heading(n) + references(n) + story(n) + links(n)
+    parts += pick([images, table, quotation], n)(n) + lists(n) + comments(n) + marks(n)
+    parts += pick([odd_tags, form], n)(n) + story(n + 1) + pick([table, images], n)(n)
+    return with_line_ends(parts + [("</Section>\n", "</section>\n")], pick(LINE_ENDS, n))
+
+
+def front():
+    return [
+        ("\ufeff<!-- Lights - a page made by hand -->\r\n", "<!-- Lights - a page made by hand -->"),
+        ("<!doctype HTML>\r\n", "<!DOCTYPE html>"),
+        (" <html LANG=en>\n ", '<html lang="en">'),
+        ("<head id=h>\r<!-- no title yet -->\r\n</head >\r", '<head id="h">\n<!-- no title yet -->\n</head>\n'),
+        ("<body CLASS='page wide'>\n<h1>Lights</h1>\n", '<body class="page wide">\n<h1>Lights</h1>\n'),
+    ]
+
+
+def back():
+    """What comes behind the body's end: blanks belong to the body, and the unfinished tag is dropped."""
+    return [
+        ("</body>\r</html>\r\n<!-- end - of -- page -->\n", "\n\n\n</body></html><!-- end - of -- page -->"),
+        ("<a href=\"cut off &amp; never closed>here</a>\n", ""),
+    ]
+
+
+def report(page, html):
+    ways = [f"pieces of {size}: the same\n" for size in (1, 2, 3, 7, 64)]
+    counts = f"page: {len(page.encode())} bytes, {len(page)} characters\nHTML: {len(html.encode())} bytes\n"
+    return counts + "".join(ways) + "one character at a time: the same\n" + html + "\n"
+
+
+def main():
+    parts = front()
+    for n in range(1, SECTIONS + 1):
+        parts += section(n)
+    parts += back()
+    page = "".join(written for written, _ in parts)
+    html = "".join(wanted for _, wanted in parts)
+    folder = os.path.dirname(os.path.abspath(__file__))
+    for name, text in (("stdin", page), ("stdout", report(page, html))):
+        with open(os.path.join(folder, name), "wb") as file:
+            file.write(text.encode())
+
+
+main()

@@ -1,0 +1,73 @@
+//! Texts that come in pieces: the trees are those of the whole texts.
+use super::parser::new_parser;
+use super::rows::{PAGES, TREES};
+use super::running::prints;
+use h5_arena::Arena;
+use h5_serialize::{SerializeFault, SerializeOpts, serialize};
+use std::alloc::{AllocError, Global};
+use std::fmt::Write;
+use std::test::Fail;
+
+fn html_of(alloc: Global, arena: &Arena) -> Result<Vec<u8>, SerializeFault> {
+    let node = arena.at(arena.document());
+    serialize(alloc, Vec::new(alloc), &node, SerializeOpts::default())
+}
+
+fn characters_of(alloc: Global, text: &str) -> Result<Vec<String>, AllocError> {
+    let mut pieces = Vec::new(alloc);
+    for character in text.chars() {
+        pieces.push(character.to_string(alloc)?)?;
+    }
+    Ok(pieces)
+}
+
+#[test]
+fn pages_in_single_characters(rt: HostRuntime) -> Result<(), Fail> {
+    let alloc = rt.alloc();
+    for (page, html) in PAGES {
+        let pieces = characters_of(alloc, page)?;
+        let arena = new_parser(alloc)?.process_pieces(pieces.as_slice())?;
+        let found = html_of(alloc, &arena)?;
+        assert_eq!(rt; found.as_slice(), html.as_bytes());
+    }
+    Ok(())
+}
+
+#[test]
+fn a_newline_in_two_pieces_is_one(rt: HostRuntime) -> Result<(), Fail> {
+    let alloc = rt.alloc();
+    let mut parser = new_parser(alloc)?;
+    parser.process("a\r")?;
+    parser.process("\nb")?;
+    let arena = parser.finish()?;
+    let found = html_of(alloc, &arena)?;
+    let html = "<html><head></head><body>a\nb</body></html>";
+    assert_eq!(rt; found.as_slice(), html.as_bytes());
+    Ok(())
+}
+
+// A line, or a line for each character of the text that it says.
+fn write_line(lines: &mut String, line: &str) -> Result<(), AllocError> {
+    match line.strip_prefix("T ") {
+        Some(text) => {
+            for character in text.chars() {
+                writeln!(lines, "T {character}")?;
+            }
+            Ok(())
+        }
+        None => writeln!(lines, "{line}"),
+    }
+}
+
+#[test]
+fn tokens_whose_texts_are_single_characters(rt: HostRuntime) -> Result<(), Fail> {
+    let alloc = rt.alloc();
+    for (input, output) in TREES {
+        let mut lines = String::new(alloc);
+        for line in input.lines() {
+            write_line(&mut lines, line)?;
+        }
+        prints(&rt, alloc, "tokens", lines.as_str(), output)?;
+    }
+    Ok(())
+}
