@@ -1,4 +1,5 @@
 -- Whole texts, bit by bit.
+use Rattle.std.proofs.lemmas.List.{drop_all, take_all}
 use Rattle.std.proofs.Common.{◌≡◌, ℕ, zero, suc, ◌<◌, ◌≤◌, Bool, true, false, List, [], ◌∷◌, ◌++◌, cond, eqb, length, take, drop, get_or, refl, sym, ap, ◌∙◌, arith, append_assoc, append-nil, length-drop, max, ⊎_elim, le_refl}
 use Rattle.h5_scan.specs.Matching.{Match, Open, No, Found, literal}
 use Rattle.h5_scan.proofs.Eating.{Takes}
@@ -89,3 +90,11 @@ reads_cr references xs rest old new k h e f g =
 pub text_done : (references : Bool) (out rest whole : List ℕ) → length rest ≡ 0 → out ++ text_of references rest ≡ whole → out ≡ whole
 text_done references out [] whole e h = sym (append-nil out) ∙ ap (λ l. out ++ l) (sym (text_nil references)) ∙ h
 text_done references out (x ∷ rest) whole e h = absurd (omega arith)
+
+-- a text of plain bytes alone stands for itself
+pub text_all_plain : (references : Bool) (xs : List ℕ) (n : ℕ) → n ≡ length xs → ((k : ℕ) → k < n → is_plain (get_or xs k 0) ≡ true) → text_of references xs ≡ xs
+text_all_plain references xs n e h =
+    sym (text_plain references xs n (omega arith) h)
+    ∙ ap (λ l. take n xs ++ l) (ap (text_of references) (drop_all n xs (omega arith)) ∙ text_nil references)
+    ∙ append-nil (take n xs)
+    ∙ take_all n xs (omega arith)

@@ -18,7 +18,7 @@ pub fn make_name(alloc: Global, text: &str) -> Result<LocalName, AllocError>
 {
     let mut lower = text_of(alloc, false, text)?;
     lower.make_ascii_lowercase();
-    LocalName::new(alloc, lower.as_str())
+    Ok(LocalName::from_string(lower))
 }
 
 /// An attribute as it is written, and what follows it.

@@ -5,7 +5,7 @@ ghost use Rattle.h5_constructs.specs.Plain.{is_plain};
 fn is_plain(b: u8) -> bool
     ensures { result ≡ is_plain b }
 {
-    !(b == b'<' || b == b'&' || b == b'\r' || b == 0 || b == b']')
+    b > b']' || !(b == b'<' || b == b'&' || b == b'\r' || b == 0 || b == b']')
 }
 
 /// How many bytes at the front are text in every state: none of them begins a tag, a reference or the end

@@ -21,18 +21,15 @@ fn gives<'a>(bytes: &'static str, found: Seen<'a, ()>) -> Seen<'a, &'static str>
 pub fn reference<'a>(text: &'a str) -> Seen<'a, &'static str>
     ensures { seen (λ text. text.now) result ≡ t.reference text.now }
 {
-    match gives("&", literal(text, "&amp;")) {
-        Seen::No => match gives("<", literal(text, "&lt;")) {
-            Seen::No => match gives(">", literal(text, "&gt;")) {
-                Seen::No => match gives("\"", literal(text, "&quot;")) {
-                    Seen::No => gives("\u{a0}", literal(text, "&nbsp;")),
-                    found => found,
-                },
-                found => found,
-            },
-            found => found,
-        },
-        found => found,
+    match text.as_bytes() {
+        [] => Seen::Open,
+        [b'&'] => Seen::Open,
+        [b'&', b'a', ..] => gives("&", literal(text, "&amp;")),
+        [b'&', b'l', ..] => gives("<", literal(text, "&lt;")),
+        [b'&', b'g', ..] => gives(">", literal(text, "&gt;")),
+        [b'&', b'q', ..] => gives("\"", literal(text, "&quot;")),
+        [b'&', b'n', ..] => gives("\u{a0}", literal(text, "&nbsp;")),
+        _ => Seen::No,
     }
 }
 
@@ -52,9 +49,11 @@ pub fn newline<'a>(text: &'a str) -> Seen<'a, &'static str>
 pub fn cleaned<'a>(text: &'a str) -> Seen<'a, &'static str>
     ensures { seen (λ text. text.now) result ≡ t.cleaned text.now }
 {
-    match newline(text) {
-        Seen::No => gives("\u{fffd}", literal(text, "\0")),
-        found => found,
+    match text.as_bytes() {
+        [] => Seen::Open,
+        [b'\r', ..] => newline(text),
+        [0, ..] => gives("\u{fffd}", literal(text, "\0")),
+        _ => Seen::No,
     }
 }
 
@@ -66,9 +65,9 @@ pub fn escape<'a>(references: bool, text: &'a str) -> Seen<'a, &'static str>
     if !references {
         return cleaned(text);
     }
-    match reference(text) {
-        Seen::No => cleaned(text),
-        found => found,
+    match text.as_bytes() {
+        [b'&', ..] => reference(text),
+        _ => cleaned(text),
     }
 }
 
@@ -118,6 +117,9 @@ fn read_bit<'a>(references: bool, text: &'a str, out: &mut String) -> Result<&'a
 pub fn text_of(alloc: Global, references: bool, text: &str) -> Result<String, AllocError>
     ensures { IfOk result (λ s. string_bytes s ≡ t.text_of references text.now) }
 {
+    if plain_len(text) == text.len() {
+        return String::from_str(alloc, text);
+    }
     let mut out = String::with_capacity(alloc, text.len())?;
     let mut rest = text;
     while !rest.is_empty() {

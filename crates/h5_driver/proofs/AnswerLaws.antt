@@ -13,13 +13,13 @@ use Rattle.h5_types.specs.TurnText.{TurnText, TagTurn, CommentTurn, TextTurn, Nu
 use Rattle.h5_types.specs.declared.modes.InsertionMode.{InsertionMode}
 use Rattle.h5_types.specs.declared.modes.InsertionMode.TheVariants.{Initial, BeforeHtml, BeforeHead, InHead, AfterHead, InBody, AfterBody, AfterAfterBody}
 use Rattle.h5_types.specs.declared.modes.SplitStatus.TheVariants.{NotSplit, Whitespace, NotWhitespace}
-use Rattle.h5_meaning.specs.Modes.{rule, choose, initial_else, before_html_tag, before_head_tag, in_head_tag, after_head_tag, in_body_tag, in_body_start_html, in_body_start_body, if_body_in_scope, body_in_scope, in_body_end_other, after_body_tag, after_after_body_tag}
+use Rattle.h5_meaning.specs.Modes.{rule, body_ends, choose, initial_else, before_html_tag, before_head_tag, in_head_tag, after_head_tag, in_body_tag, in_body_start_html, in_body_start_body, if_body_in_scope, body_in_scope, in_body_end_other, after_body_tag, after_after_body_tag}
 use Rattle.h5_meaning.specs.Rows.{AddAttributesToRoot, AddAttributesToSecond, Again, Answer, CutAtNamed, Ending, FramesetOff, ImpliedEndsExcept, IsDone, Row, SetMode, SetQuirks, apply_all, errs, ignored, row}
 use Rattle.h5_meaning.specs.Run.{View, doctype_in, reply_or_refusal, reply_to, step, taken, text_step, without_lf}
 use Rattle.h5_meaning.specs.Scope.{comes_before_special, has_template, second_is}
 use Rattle.h5_meaning.specs.Settle.{Settled, after_turn, rank, is_end_html, settle, settle_within}
 use Rattle.h5_meaning.specs.World.{World, names_of}
-use Rattle.h5_plain.proofs.GoesLaws.{is_taken}
+use Rattle.h5_meaning.proofs.RunLaws.{is_taken}
 
 -- a row that answers nothing of its own
 abbrev Silent : Ending → Type 0
@@ -70,8 +70,8 @@ unfolding in_body_start_body if_body_in_scope in_body_end_other
 in_body StartTag Html tag w = start_html tag w
 in_body StartTag Body tag w = choose_silent (second_is (codes "body") (names_of w) && not (has_template (names_of w))) (errs (FramesetOff ∷ AddAttributesToSecond tag.attrs ∷ []) IsDone) ignored tt tt
 in_body StartTag _ tag w = tt
-in_body EndTag Html tag w = choose_silent (body_in_scope w) (row [] (Again AfterBody)) ignored tt tt
-in_body EndTag Body tag w = choose_silent (body_in_scope w) (row (SetMode AfterBody ∷ []) IsDone) ignored tt tt
+in_body EndTag Html tag w = choose_silent (body_in_scope w) (body_ends [] (Again AfterBody) w) ignored tt tt
+in_body EndTag Body tag w = choose_silent (body_in_scope w) (body_ends (SetMode AfterBody ∷ []) IsDone w) ignored tt tt
 in_body EndTag _ tag w = choose_silent (comes_before_special tag.name (names_of w)) (errs (ImpliedEndsExcept tag.name ∷ CutAtNamed tag.name ∷ []) IsDone) ignored tt tt
 
 after_body : (k : TagKind) (n : KnownName) (tag : TagText) (w : World) → Silent (after_body_tag k n tag w).ending

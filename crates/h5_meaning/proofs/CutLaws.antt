@@ -1,5 +1,5 @@
 -- A text that is cut in two is the whole text.
-use Rattle.std.proofs.Common.{◌≡◌, ℕ, Bool, true, false, cond, ◌&&◌, List, [], ◌∷◌, ◌++◌, refl, ap, sym, subst, ◌∙◌}
+use Rattle.std.proofs.Common.{◌≡◌, ℕ, Bool, true, false, ◌&&◌, List, [], ◌∷◌, ◌++◌, refl, ap, sym, ◌∙◌}
 use Rattle.h5_interface.specs.SinkRules.{SinkRules}
 use Rattle.h5_interface.specs.Changes.{append_text}
 use Rattle.h5_interface.specs.Forest.{Forest}
@@ -9,7 +9,7 @@ use Rattle.h5_meaning.specs.Blanks.{is_blank, all_blank, blanks_of, rest_of}
 use Rattle.h5_meaning.specs.Changes.{append, in_mode, ok_if_text, with_forest}
 use Rattle.h5_meaning.specs.Modes.{initial_else, before_html_else, before_head_else, in_head_else, after_head_else}
 use Rattle.h5_meaning.specs.Rows.{Row, apply_all}
-use Rattle.h5_meaning.specs.Text.{if_any, split, dropped, by_else, text_in_body, back_in_body, text_after_body, text_after_head, text_in_head, text_before_head, text_before_html, text_initial, text_in, text_rule, text_any}
+use Rattle.h5_meaning.specs.Text.{if_any, split, dropped, by_else, text_in_body, back_in_body, text_after_body, text_after_head, text_in_head, text_before_head, text_before_html, text_initial, text_in, text_rule}
 use Rattle.h5_meaning.specs.World.{World, current, place}
 use Rattle.h5_meaning.proofs.TextForestLaws.{append_text_twice, inside_text}
 

@@ -1,5 +1,5 @@
 -- What a mode tells of open elements stays true, row by row.
-use Rattle.std.proofs.Common.{◌≡◌, ◌≢◌, Option, Some, None, ◌<◌, ◌≤◌, ℕ, suc, Bool, true, false, cond, not, ◌&&◌, List, [], ◌∷◌, length, IsTrue, bytes_eq, codes, refl, ap, sym, subst, ◌∙◌, arith}
+use Rattle.std.proofs.Common.{◌≡◌, ◌≢◌, Some, None, ◌<◌, ◌≤◌, ℕ, Bool, true, false, cond, not, ◌&&◌, List, [], ◌∷◌, length, bytes_eq, codes, refl, ap, sym, subst, ◌∙◌, arith}
 use Rattle.std.proofs.lemmas.List.{length-map}
 use Rattle.h5_names.specs.declared.qualified.QualName.{QualName}
 use Rattle.h5_names.specs.AttributeText.{is_same_text}
@@ -11,7 +11,7 @@ use Rattle.h5_interface.specs.declared.marks.QuirksMode.TheVariants.{Quirks}
 use Rattle.h5_tag_sets.specs.KnownNames.{known_name_of}
 use Rattle.h5_tag_sets.specs.TagSets.{html_namespace, is_html_named}
 use Rattle.h5_tag_sets.specs.declared.known.KnownName.{KnownName}
-use Rattle.h5_tag_sets.specs.declared.known.KnownName.TheVariants.{Html, Head, Body, Br, Other}
+use Rattle.h5_tag_sets.specs.declared.known.KnownName.TheVariants.{Html, Head, Body, Other}
 use Rattle.h5_types.specs.TurnText.{TurnText, TagTurn, CommentTurn, TextTurn, NullTurn, EofTurn, HasText}
 use Rattle.h5_types.specs.declared.modes.InsertionMode.{InsertionMode}
 use Rattle.h5_types.specs.declared.modes.InsertionMode.TheVariants.{Initial, BeforeHtml, BeforeHead, InHead, AfterHead, InBody, AfterBody, AfterAfterBody}
@@ -19,12 +19,12 @@ use Rattle.h5_types.specs.declared.modes.SplitStatus.TheVariants.{NotSplit, Whit
 use Rattle.h5_types.specs.declared.turns.ProcessResult.{ProcessResult}
 use Rattle.h5_types.specs.declared.turns.ProcessResult.TheVariants.{Done, Reprocess}
 use Rattle.h5_meaning.specs.Changes.{add_attributes_at, add_attributes_to_root, add_attributes_to_second, append, append_comment, append_comment_to_document, append_comment_to_root, cut_at_named, frameset_off, head_is_current, implied_ends_except, in_mode, insert, insert_root, ok_if_text, pop, pop_while, set_quirks}
-use Rattle.h5_meaning.specs.Modes.{after_after_body_tag, after_body_tag, after_head_tag, before_head_tag, before_html_tag, body_in_scope, choose, if_body_in_scope, in_body_end_other, in_body_start_body, in_body_start_html, in_body_tag, in_head_tag, initial_else, rule}
+use Rattle.h5_meaning.specs.Modes.{after_after_body_tag, after_body_tag, after_head_tag, before_head_tag, before_html_tag, body_ends, body_in_scope, choose, if_body_in_scope, in_body_end_other, in_body_start_body, in_body_start_html, in_body_tag, in_head_tag, initial_else, rule}
 use Rattle.h5_meaning.specs.Rows.{Follows, AddAttributesToRoot, AddAttributesToSecond, Again, Answer, Append, AppendComment, AppendCommentToDocument, AppendCommentToRoot, Change, CutAtNamed, Ending, FramesetOff, HeadIsCurrent, ImpliedEndsExcept, Insert, InsertRoot, IsDone, OkIfText, Pop, Row, SetMode, SetQuirks, apply, apply_all, errs, ignored, row}
 use Rattle.h5_meaning.specs.Scope.{comes_before_special, has_template, second_is}
-use Rattle.h5_meaning.specs.Sound.{Fits, FitsMode, RootIsHtml, Sound, least}
+use Rattle.h5_meaning.specs.Sound.{Fits, FitsMode, Sound, least}
 use Rattle.h5_meaning.specs.World.{World, html_name, name_in, names_of, second_from_last}
-use Rattle.h5_meaning.proofs.NameLaws.{names-add_to_root, names-add_to_second, names-append, names-append_comment, names-append_comment_to_document, names-append_comment_to_root, names-cut, names-implied, names-insert, names-insert_root, root_stays, RootStays, cut_names, drop_while}
+use Rattle.h5_meaning.proofs.NameLaws.{names-add_to_root, names-add_to_second, names-append, names-append_comment, names-append_comment_to_document, names-append_comment_to_root, names-cut, names-implied, names-insert, names-insert_root, root_stays, RootStays, cut_names}
 use Rattle.h5_meaning.proofs.PopLaws.{later_names, names-pop}
 
 -- the mode that changes and an ending leave
@@ -170,8 +170,8 @@ module _ (rules : SinkRules) (w : World) (sound : Sound w) where
   kept_in_body StartTag Html tag other h = kept_start_html InBody tag h
   kept_in_body StartTag Body tag other h = kept_start_body tag h
   kept_in_body StartTag _ tag other h = pushed InBody InBody _ _ _ (names-insert rules tag.name tag.attrs tag.had_duplicate_attributes w sound) refl (omega arith) h
-  kept_in_body EndTag Html tag other h = kept_if_body InBody (row [] (Again AfterBody)) (kept_none InBody (row [] (Again AfterBody)) refl (omega arith)) h
-  kept_in_body EndTag Body tag other h = kept_if_body InBody (row (SetMode AfterBody ∷ []) IsDone) (kept_set_mode InBody AfterBody (omega arith)) h
+  kept_in_body EndTag Html tag other h = kept_if_body InBody (body_ends [] (Again AfterBody) w) (kept_none InBody (body_ends [] (Again AfterBody) w) refl (omega arith)) h
+  kept_in_body EndTag Body tag other h = kept_if_body InBody (body_ends (SetMode AfterBody ∷ []) IsDone w) (kept_set_mode InBody AfterBody (omega arith)) h
   kept_in_body EndTag _ tag other h = kept_end_other tag (other (λ e. cc)) h
 
   names_ok_if : (t : List ℕ) → names_of (ok_if_text t w) ≡ names_of w

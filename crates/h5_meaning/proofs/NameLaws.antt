@@ -1,10 +1,10 @@
 -- What changes do to the names of open elements.
-use Rattle.std.proofs.Common.{◌≡◌, ◌≢◌, inl, inr, ◌<◌, ◌≤◌, ℕ, suc, Bool, true, false, cond, not, ◌&&◌, List, [], ◌∷◌, length, map, Option, Some, None, IsTrue, codes, refl, ap, sym, subst, ◌∙◌, arith}
+use Rattle.std.proofs.Common.{◌≡◌, ◌≢◌, inl, inr, ◌<◌, ℕ, Bool, true, false, cond, not, ◌&&◌, List, [], ◌∷◌, length, map, Option, Some, None, codes, refl, ap, sym, ◌∙◌, arith}
 use Rattle.std.proofs.lemmas.Slice.Eq.{bytes_eq-Decides}
 use Rattle.h5_names.specs.AttributeText.{AttributeText, is_same_text}
 use Rattle.h5_names.specs.declared.qualified.QualName.{QualName}
 use Rattle.h5_interface.specs.Changes.{append_node, append_text}
-use Rattle.h5_interface.specs.Forest.{ElementNode, Forest, IsElement, IsForest, IsNode, kind_of}
+use Rattle.h5_interface.specs.Forest.{Forest, IsElement, IsNode}
 use Rattle.h5_interface.specs.NewElement.{flags_of}
 use Rattle.h5_interface.specs.Seen.{make_element}
 use Rattle.h5_interface.specs.SinkRules.{Rearranges, SinkRules}
@@ -15,8 +15,8 @@ use Rattle.h5_tag_sets.specs.TagSets.{html_namespace, is_html_named, is_implied,
 use Rattle.h5_meaning.specs.Changes.{add_attributes_to_root, add_attributes_to_second, add_attributes_at, append, append_comment, append_comment_to_document, append_comment_to_root, cut_at_named, implied_ends_except, insert, insert_root, pop, pop_while, push_new}
 use Rattle.h5_meaning.specs.Order.{IsIn}
 use Rattle.h5_meaning.specs.Scope.{comes_before_special, cut_through, is_implied_but}
-use Rattle.h5_meaning.specs.Sound.{RootIsHtml, Sound, Stands}
-use Rattle.h5_meaning.specs.World.{World, but_first, html_name, name_in, name_of_found, names_of, place, root, second_from_last}
+use Rattle.h5_meaning.specs.Sound.{RootIsHtml, Sound}
+use Rattle.h5_meaning.specs.World.{World, html_name, name_in, name_of_found, names_of, place, root, second_from_last}
 use Rattle.h5_meaning.proofs.PopLaws.{later_names, names-pop}
 use Rattle.h5_meaning.proofs.SoundLaws.{comment_below_rearranges, element_below_rearranges, element_is_node, name_kept, new_below, place_is_node, root_is_node}
 

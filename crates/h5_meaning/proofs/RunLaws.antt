@@ -1,10 +1,12 @@
 -- A list of tokens and its join.
-use Rattle.std.proofs.Common.{◌≡◌, ℕ, ◌==◌, Bool, true, false, cond, List, [], ◌∷◌, ◌++◌, Option, Some, None, refl, ap, sym, subst, ◌∙◌}
+use Rattle.std.proofs.Common.{◌≡◌, ℕ, ◌==◌, Bool, true, false, cond, List, [], ◌∷◌, ◌++◌, Option, Some, None, refl, ap, sym, ◌∙◌}
 use Rattle.h5_token.specs.Reply.{Reply, Continues, Refuses}
 use Rattle.h5_token.specs.TokenText.{TokenText, DoctypeIs, TagIs, CommentIs, Characters, NullCharacter, EndOfFile, ParseErrorIs}
 use Rattle.h5_token.specs.declared.fault.BuildFault.{BuildFault}
+use Rattle.h5_token.specs.declared.fault.BuildFault.TheVariants.{AfterEnd, Failed}
 use Rattle.h5_interface.specs.SinkRules.{SinkRules}
-use Rattle.h5_meaning.specs.Cuts.{glue, join, goes_on, spread_next, spread, CutsAgree}
+use Rattle.h5_token.specs.Joins.{glue, join}
+use Rattle.h5_meaning.specs.Cuts.{goes_on, spread_next, spread, CutsAgree}
 use Rattle.h5_meaning.specs.Run.{View, refusal, taken, text_step, without_lf, step, take_or_refuse, after_token, reply_or_refusal, reply_to, after_all, replies}
 use Rattle.h5_meaning.specs.Text.{text_rule}
 use Rattle.h5_meaning.specs.World.{World}
@@ -40,10 +42,14 @@ step_cut rules b t d u w =
     ∙ step_pieces rules (without_lf w.ignore_lf (b ∷ t)) d u (taken w)
     ∙ sym (step_plain rules d u (text_step rules (without_lf w.ignore_lf (b ∷ t)) (taken w)).world (step_flag rules (without_lf w.ignore_lf (b ∷ t)) (taken w)))
 
+-- a view that has neither failed nor ended refuses nothing
+pub is_taken : (v : View) → v.failed ≡ false → v.ended ≡ false → refusal v ≡ None
+is_taken v f e = ap (λ b. cond b (Some Failed) (cond v.ended (Some AfterEnd) None)) f ∙ ap (λ b. cond b (Some AfterEnd) None) e
+
 after_refused : (rules : SinkRules) (t : TokenText) (v : View) (f : BuildFault) → refusal v ≡ Some f → after_token rules t v ≡ v
 after_refused rules t v f e = ap (λ o. take_or_refuse rules t o v) e
 
-abbrev moved : View → World → View
+abbrev pub moved : View → World → View
 moved v w = record v { world = w }
 
 after_taken : (rules : SinkRules) (t : TokenText) (v : View) → refusal v ≡ None → after_token rules t v ≡ moved v (step rules t v.world).world

@@ -1,23 +1,21 @@
 -- The chain of a token, turn by turn.
 use Rattle.std.proofs.Common.{◌≡◌, ℕ, zero, suc, ◌+◌, ◌<◌, ◌≤◌, Bool, true, false, not, ◌&&◌, List, [], ◌∷◌, codes, refl, ap, sym, subst, ◌∙◌, arith}
-use Rattle.h5_token.specs.Reply.{Reply, Continues}
+use Rattle.h5_token.specs.Reply.{Continues}
 use Rattle.h5_token.specs.TokenText.{TagText}
 use Rattle.h5_token.specs.declared.tag.TagKind.{TagKind}
 use Rattle.h5_token.specs.declared.tag.TagKind.TheVariants.{StartTag, EndTag}
 use Rattle.h5_interface.specs.SinkRules.{SinkRules}
 use Rattle.h5_tag_sets.specs.KnownNames.{known_name_of}
 use Rattle.h5_tag_sets.specs.declared.known.KnownName.{KnownName}
-use Rattle.h5_tag_sets.specs.declared.known.KnownName.TheVariants.{Html, Head, Body, Br, Other}
+use Rattle.h5_tag_sets.specs.declared.known.KnownName.TheVariants.{Html, Head, Body, Other}
 use Rattle.h5_types.specs.TurnText.{TurnText, TagTurn, CommentTurn, TextTurn, NullTurn, EofTurn, is_self_closing}
 use Rattle.h5_types.specs.declared.modes.InsertionMode.{InsertionMode}
 use Rattle.h5_types.specs.declared.modes.InsertionMode.TheVariants.{Initial, BeforeHtml, BeforeHead, InHead, AfterHead, InBody, AfterBody, AfterAfterBody}
-use Rattle.h5_types.specs.declared.modes.SplitStatus.{SplitStatus}
 use Rattle.h5_types.specs.declared.modes.SplitStatus.TheVariants.{NotSplit, Whitespace, NotWhitespace}
-use Rattle.h5_types.specs.declared.turns.ProcessResult.{ProcessResult}
 use Rattle.h5_types.specs.declared.turns.ProcessResult.TheVariants.{Done, Reprocess}
 use Rattle.h5_meaning.specs.Changes.{in_mode}
-use Rattle.h5_meaning.specs.Modes.{rule, choose, initial, initial_else, before_html_tag, before_head_tag, in_head_tag, after_head_tag, in_body_tag, in_body_start_html, in_body_start_body, if_body_in_scope, body_in_scope, in_body_end_other, after_body_tag, after_after_body_tag}
-use Rattle.h5_meaning.specs.Rows.{row, errs, ignored, SetMode, SetQuirks, FramesetOff, AddAttributesToRoot, AddAttributesToSecond, ImpliedEndsExcept, CutAtNamed, Row, Ending, IsDone, Again, Answer, Follows, EndsAs, apply_all}
+use Rattle.h5_meaning.specs.Modes.{rule, body_ends, choose, initial_else, before_html_tag, before_head_tag, in_head_tag, after_head_tag, in_body_tag, in_body_start_html, in_body_start_body, if_body_in_scope, body_in_scope, in_body_end_other, after_body_tag, after_after_body_tag}
+use Rattle.h5_meaning.specs.Rows.{row, errs, ignored, SetMode, SetQuirks, FramesetOff, AddAttributesToRoot, AddAttributesToSecond, ImpliedEndsExcept, CutAtNamed, Row, Ending, IsDone, Again, Answer, Follows, apply_all}
 use Rattle.h5_meaning.specs.Settle.{Settled, after_turn, by_row, is_end_html_tag, is_end_html, rank, settle, settle_within}
 use Rattle.h5_interface.specs.declared.marks.QuirksMode.TheVariants.{Quirks}
 use Rattle.h5_meaning.specs.Scope.{has_template, second_is, comes_before_special}
@@ -72,8 +70,8 @@ unfolding in_body_start_body if_body_in_scope in_body_end_other
 falls_in_body StartTag Html tag w = falls_start_html false InBody tag w
 falls_in_body StartTag Body tag w = falls_choose false InBody (second_is (codes "body") (names_of w) && not (has_template (names_of w))) (errs (FramesetOff ∷ AddAttributesToSecond tag.attrs ∷ []) IsDone) ignored tt tt
 falls_in_body StartTag _ tag w = tt
-falls_in_body EndTag Html tag w = falls_choose true InBody (body_in_scope w) (row [] (Again AfterBody)) ignored (omega arith) tt
-falls_in_body EndTag Body tag w = falls_choose false InBody (body_in_scope w) (row (SetMode AfterBody ∷ []) IsDone) ignored tt tt
+falls_in_body EndTag Html tag w = falls_choose true InBody (body_in_scope w) (body_ends [] (Again AfterBody) w) ignored (omega arith) tt
+falls_in_body EndTag Body tag w = falls_choose false InBody (body_in_scope w) (body_ends (SetMode AfterBody ∷ []) IsDone w) ignored tt tt
 falls_in_body EndTag _ tag w = falls_choose false InBody (comes_before_special tag.name (names_of w)) (errs (ImpliedEndsExcept tag.name ∷ CutAtNamed tag.name ∷ []) IsDone) ignored tt tt
 
 falls_after_body : (k : TagKind) (n : KnownName) (tag : TagText) (w : World) → Falls (is_end_html_tag k n) AfterBody (after_body_tag k n tag w).ending

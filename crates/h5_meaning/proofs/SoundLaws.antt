@@ -1,21 +1,21 @@
 -- What changes leave of a forest and its open elements.
-use Rattle.std.proofs.Common.{◌≡◌, ◌≢◌, ◌⊎◌, inl, inr, ℕ, ◌==◌, Bool, true, false, cond, List, [], ◌∷◌, ◌++◌, Option, Some, None, Result, Ok, Err, OnOk, OnErr, IsTrue, refl, ap, sym, subst, ◌∙◌}
+use Rattle.std.proofs.Common.{◌≡◌, inl, inr, ℕ, Bool, true, false, cond, List, [], ◌∷◌, Option, Some, None, Result, Ok, Err, OnOk, OnErr, IsTrue, refl, ap, sym, subst, ◌∙◌}
 use Rattle.std.specs.Prelude.{unwrap_or}
 use Rattle.h5_names.specs.declared.qualified.QualName.{QualName}
 use Rattle.h5_names.specs.AttributeText.{AttributeText}
 use Rattle.h5_interface.specs.declared.marks.ElementFlags.{ElementFlags}
-use Rattle.h5_interface.specs.Ancestors.{AtOrAbove, IsAncestor}
-use Rattle.h5_interface.specs.Changes.{append_node, append_text, mark, add_missing_attributes}
-use Rattle.h5_interface.specs.Forest.{Child, ChildNode, ChildText, CommentNode, DocumentNode, ElementNode, Forest, HasContents, IsElement, IsForest, IsNode, Kind, Marks, contents_of, kind_of, parent_of}
+use Rattle.h5_interface.specs.Ancestors.{AtOrAbove}
+use Rattle.h5_interface.specs.Changes.{append_node}
+use Rattle.h5_interface.specs.Forest.{ChildNode, CommentNode, ElementNode, Forest, HasContents, IsElement, IsForest, IsNode, contents_of, kind_of, parent_of}
 use Rattle.h5_interface.specs.NewElement.{is_html_template, flags_of}
-use Rattle.h5_interface.specs.Seen.{CanAppend, IsFreeFor, Seen, changed, make, make_element, plain}
+use Rattle.h5_interface.specs.Seen.{CanAppend, Seen, changed, make, make_element, plain}
 use Rattle.h5_interface.specs.SinkRules.{Rearranges, SinkRules}
-use Rattle.h5_interface.proofs.ForestLaws.{ancestor_is_node, contents_are_node, document_is_node, node_of_kind, rearranged_ancestor, rearranged_node, rearranges_refl, rearranges_trans}
-use Rattle.h5_interface.proofs.HangingLaws.{append_node_keeps, append_node_rehangs, append_text_rearranges}
-use Rattle.h5_interface.proofs.MakingLaws.{add_missing_rearranges, hung_fresh_rearranges, made_contents, append_new_rearranges, made_is_free, made_kind, make_element_rearranges, mark_rearranges, new_is_free, old_is_node}
-use Rattle.h5_meaning.specs.Order.{IsIn, Before, IsOrdered}
+use Rattle.h5_interface.proofs.ForestLaws.{ancestor_is_node, contents_are_node, document_is_node, node_of_kind, rearranged_ancestor, rearranged_node, rearranges_refl}
+use Rattle.h5_interface.proofs.HangingLaws.{append_node_keeps, append_node_rehangs}
+use Rattle.h5_interface.proofs.MakingLaws.{hung_fresh_rearranges, made_contents, append_new_rearranges, made_is_free, made_kind, make_element_rearranges, new_is_free, old_is_node}
+use Rattle.h5_meaning.specs.Order.{IsIn, Before}
 use Rattle.h5_meaning.specs.Sound.{Stands, Sound}
-use Rattle.h5_meaning.specs.World.{World, but_first, current, first_or, html_name, inside, last_or, name_in, name_of_found, place, root}
+use Rattle.h5_meaning.specs.World.{World, but_first, current, first_or, inside, last_or, name_in, name_of_found, place, root}
 
 -- an element is a node
 pub element_is_node : (f : Forest) (n : ℕ) → IsElement f n → IsNode f n

@@ -1,9 +1,8 @@
 -- A text put twice is the joined text put once.
-use Rattle.std.proofs.Common.{◌≡◌, ℕ, ◌==◌, Bool, true, false, cond, List, [], ◌∷◌, ◌++◌, Option, Some, None, refl, ap, sym, subst, ◌∙◌, append_assoc}
+use Rattle.std.proofs.Common.{◌≡◌, ℕ, ◌==◌, Bool, true, false, cond, List, [], ◌∷◌, ◌++◌, Option, Some, None, refl, ap, ◌∙◌, append_assoc}
 use Rattle.std.specs.Prelude.{unwrap_or}
-use Rattle.std.specs.Option.{option_map}
 use Rattle.h5_interface.specs.Changes.{append_text, join, joined}
-use Rattle.h5_interface.specs.Forest.{Child, ChildNode, ChildText, Forest, Kind, Node, contents_of, kind_of}
+use Rattle.h5_interface.specs.Forest.{Child, ChildNode, ChildText, Forest, Node, contents_of, kind_of}
 use Rattle.h5_interface.specs.NewElement.{is_html_template}
 use Rattle.h5_interface.proofs.ForestLaws.{same_forest}
 use Rattle.h5_meaning.specs.World.{inside, name_of_found}

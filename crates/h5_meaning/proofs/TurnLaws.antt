@@ -6,7 +6,7 @@ use Rattle.h5_types.specs.declared.modes.InsertionMode.TheVariants.{Initial, Bef
 use Rattle.h5_meaning.specs.Changes.{in_mode}
 use Rattle.h5_meaning.specs.Modes.{rule, initial_else}
 use Rattle.h5_meaning.specs.Rows.{Ending, IsDone, Again, Answer, Row, apply_all}
-use Rattle.h5_meaning.specs.Settle.{Settled, after_turn, by_row, is_end_html, rank, settle, settle_within}
+use Rattle.h5_meaning.specs.Settle.{Settled, after_turn, is_end_html, rank, settle, settle_within}
 use Rattle.h5_meaning.specs.World.{World}
 use Rattle.h5_meaning.proofs.SettleLaws.{rank_few, settle-row, settle-turn}
 

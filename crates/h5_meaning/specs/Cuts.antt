@@ -1,20 +1,10 @@
 -- Lists of tokens that differ in how their texts are cut.
 use Rattle.std.specs.Prelude.{◌≡◌, ◌≢◌, ℕ, Bool, true, false, if◌then◌else◌, List, [], ◌∷◌, ◌++◌}
+use Rattle.h5_token.specs.Joins.{join}
 use Rattle.h5_token.specs.Reply.{Reply}
 use Rattle.h5_token.specs.TokenText.{TokenText, DoctypeIs, TagIs, CommentIs, Characters, NullCharacter, EndOfFile, ParseErrorIs}
 use Rattle.h5_interface.specs.SinkRules.{SinkRules}
 use Rattle.h5_meaning.specs.Run.{View, after_all, replies}
-
--- a text before a list: it is joined to a text that isn't empty; an empty text stays by itself
-abbrev pub glue : List ℕ → List TokenText → List TokenText
-glue (b ∷ t) (Characters (d ∷ u) ∷ ts) = Characters ((b ∷ t) ++ d ∷ u) ∷ ts
-glue t ts = Characters t ∷ ts
-
--- a list of which neighbouring texts that aren't empty are joined
-abbrev pub join : List TokenText → List TokenText
-join [] = []
-join (Characters t ∷ ts) = glue t (join ts)
-join (t ∷ ts) = t ∷ join ts
 
 -- no text is empty
 abbrev pub NoEmptyText : List TokenText → Type 0

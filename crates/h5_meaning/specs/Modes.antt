@@ -15,8 +15,8 @@ use Rattle.h5_types.specs.declared.modes.InsertionMode.{InsertionMode}
 use Rattle.h5_types.specs.declared.modes.InsertionMode.TheVariants.{Initial, BeforeHtml, BeforeHead, InHead, AfterHead, InBody, AfterBody, AfterAfterBody}
 use Rattle.h5_types.specs.declared.modes.SplitStatus.{SplitStatus}
 use Rattle.h5_types.specs.declared.modes.SplitStatus.TheVariants.{NotSplit, Whitespace, NotWhitespace}
-use Rattle.h5_meaning.specs.Rows.{Row, row, errs, ignored, IsDone, Again, SetMode, SetQuirks, FramesetOff, OkIfText, Insert, InsertRoot, HeadIsCurrent, Append, AppendComment, AppendCommentToDocument, AppendCommentToRoot, AddAttributesToRoot, AddAttributesToSecond, Pop, ImpliedEndsExcept, CutAtNamed}
-use Rattle.h5_meaning.specs.Scope.{in_scope, has_template, comes_before_special, second_is}
+use Rattle.h5_meaning.specs.Rows.{Change, Ending, Row, row, errs, ignored, IsDone, Again, SetMode, SetQuirks, FramesetOff, OkIfText, Insert, InsertRoot, HeadIsCurrent, Append, AppendComment, AppendCommentToDocument, AppendCommentToRoot, AddAttributesToRoot, AddAttributesToSecond, Pop, ImpliedEndsExcept, CutAtNamed}
+use Rattle.h5_meaning.specs.Scope.{in_scope, has_template, has_unclosed, comes_before_special, second_is}
 use Rattle.h5_meaning.specs.World.{World, names_of}
 
 -- one of two rows
@@ -70,11 +70,15 @@ body_in_scope w = in_scope (is_html_named (codes "body")) is_default_scope (name
 unfoldable pub if_body_in_scope : Row → World → Row
 if_body_in_scope r w = choose (body_in_scope w) r ignored
 
+-- the body ends, and a parse error is told where an element is still open that may not be
+abbrev pub body_ends : List Change → Ending → World → Row
+body_ends changes ending w = record { changes = changes; ending = ending; quiet = not (has_unclosed (names_of w)) }
+
 abbrev pub in_body_end_body : World → Row
-in_body_end_body w = if_body_in_scope (row (SetMode AfterBody ∷ []) IsDone) w
+in_body_end_body w = if_body_in_scope (body_ends (SetMode AfterBody ∷ []) IsDone w) w
 
 abbrev pub in_body_end_html : World → Row
-in_body_end_html w = if_body_in_scope (row [] (Again AfterBody)) w
+in_body_end_html w = if_body_in_scope (body_ends [] (Again AfterBody) w) w
 
 -- any other end tag
 unfoldable pub in_body_end_other : TagText → World → Row
@@ -97,7 +101,7 @@ in_body (TagTurn tag) w = in_body_tag tag.kind (known_name_of tag.name) tag w
 in_body (CommentTurn text) w = row (AppendComment text ∷ []) IsDone
 in_body (TextTurn status text) w = in_body_text text
 in_body NullTurn w = ignored
-in_body EofTurn w = row [] IsDone
+in_body EofTurn w = body_ends [] IsDone w
 
 -- section 13.2.6.4.3, the "before head" insertion mode
 abbrev pub before_head_else : Row

@@ -3,7 +3,7 @@ use Rattle.std.specs.Prelude.{ℕ, Bool, true, false, not, ◌&&◌, if◌then�
 use Rattle.std.specs.List.{list_all, list_any}
 use Rattle.h5_names.specs.declared.qualified.QualName.{QualName}
 use Rattle.h5_interface.specs.NewElement.{is_html_template}
-use Rattle.h5_tag_sets.specs.TagSets.{is_html_named, is_implied, is_special}
+use Rattle.h5_tag_sets.specs.TagSets.{is_body_end_ok, is_html_named, is_implied, is_special}
 use Rattle.h5_meaning.specs.World.{but_first}
 
 -- from the current node on, one of these comes before, or is, the first that ends the scope (HTML standard,
@@ -15,6 +15,10 @@ in_scope is ends (n ∷ ns) = if is n then true else (if ends n then false else 
 -- some open element is an HTML `template`
 abbrev pub has_template : List QualName → Bool
 has_template = list_any is_html_template
+
+-- some open element may not be open where the body ends
+abbrev pub has_unclosed : List QualName → Bool
+has_unclosed = list_any (λ n. not (is_body_end_ok n))
 
 -- from the current node on, an HTML element of this name comes before any special one
 abbrev pub comes_before_special : List ℕ → List QualName → Bool

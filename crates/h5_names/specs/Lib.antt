@@ -1,2 +1,3 @@
 pub mod AttributeText
 pub mod Laws
+pub mod Urls

@@ -1,5 +1,5 @@
 //! Local names.
-ghost use Rattle.std.specs.Prelude.{◌≡◌, IfOk, Some, nat_eq, refl};
+ghost use Rattle.std.specs.Prelude.{◌≡◌, IfOk, Some, nat_eq, refl, string_bytes};
 ghost use Rattle.std.specs.Cmp.{partial_equiv_from_equiv};
 ghost use Rattle.std.specs.Cmp.Lexicographic.{pointwise, slice_cmp, nat_list_eq_equiv, nat_list_cmp_total, texts_ties, texts_po};
 ghost use Rattle.std.specs.Cmp.Rules.{hashing};
@@ -35,6 +35,13 @@ impl LocalName {
         Ok(LocalName {
             text: String::from_str(alloc, text)?,
         })
+    }
+
+    /// The local name with this text, which is moved. It takes no memory.
+    pub fn from_string(text: String) -> LocalName
+        ensures { result ≡ string_bytes text }
+    {
+        LocalName { text }
     }
 
     /// The text of the local name.

@@ -1,30 +1,85 @@
 //! Namespaces.
-ghost use Rattle.std.specs.Prelude.{◌≡◌, IfOk, Some, nat_eq, refl};
+ghost use Rattle.std.specs.Prelude.{◌≡◌, IfOk, IfSome, Some, nat_eq, refl};
 ghost use Rattle.std.specs.Cmp.{partial_equiv_from_equiv};
 ghost use Rattle.std.specs.Cmp.Lexicographic.{pointwise, slice_cmp, nat_list_eq_equiv, nat_list_cmp_total, texts_ties, texts_po};
 ghost use Rattle.std.specs.Cmp.Rules.{hashing};
 ghost use Rattle.std.specs.Hash as fed;
 ghost use Rattle.std.specs.Ordering.{nat_cmp};
 ghost use Rattle.std.proofs.Common.{rules};
+ghost use Rattle.h5_names.specs.Urls.{known_text};
 
+use super::namespaces;
 use std::alloc::{AllocError, Global};
 use std::cmp::Ordering;
 use std::hash::{Hash, Hasher};
 use std::marker::Model;
 
+// The namespaces that HTML knows.
+#[derive(Clone, Copy, Debug)]
+enum Known {
+    NoNamespace,
+    Html,
+    MathMl,
+    Svg,
+    XLink,
+    Xml,
+    Xmlns,
+}
+
+impl Known {
+    fn as_str(self) -> &'static str
+        ensures { result.now ≡ known_text self }
+    {
+        match self {
+            Known::NoNamespace => namespaces::NONE,
+            Known::Html => namespaces::HTML,
+            Known::MathMl => namespaces::MATHML,
+            Known::Svg => namespaces::SVG,
+            Known::XLink => namespaces::XLINK,
+            Known::Xml => namespaces::XML,
+            Known::Xmlns => namespaces::XMLNS,
+        }
+    }
+}
+
+// The namespace that HTML knows by this text.
+fn find_known(text: &str) -> Option<Known>
+    ensures { IfSome result (λ url. known_text url ≡ text.now) }
+{
+    match text {
+        namespaces::NONE => Some(Known::NoNamespace),
+        namespaces::HTML => Some(Known::Html),
+        namespaces::MATHML => Some(Known::MathMl),
+        namespaces::SVG => Some(Known::Svg),
+        namespaces::XLINK => Some(Known::XLink),
+        namespaces::XML => Some(Known::Xml),
+        namespaces::XMLNS => Some(Known::Xmlns),
+        _ => None,
+    }
+}
+
+// What stands behind a namespace: one of those that HTML knows, or a text.
+#[derive(Debug, Drop)]
+enum Url {
+    Known(Known),
+    Other(String),
+}
+
 /// The namespace that a name belongs to, by its URL (DOM standard: namespace). The empty text is no namespace.
+///
+/// Those that HTML knows take no memory.
 #[derive(Debug, Drop)]
 pub struct Namespace {
-    text: String,
+    url: Url,
 }
 
 impl Model for Namespace {
     ghost use Rattle.std.specs.Prelude.{List, ℕ};
-    ghost use Rattle.std.specs.String.{string_bytes};
+    ghost use Rattle.h5_names.specs.Urls.{url_text};
 
     ghost Value = { List ℕ };
 
-    ghost view = { λ name. string_bytes name.text };
+    ghost view = { λ name. url_text name.url };
 }
 
 impl Namespace {
@@ -32,25 +87,38 @@ impl Namespace {
     pub fn new(alloc: Global, text: &str) -> Result<Namespace, AllocError>
         ensures { IfOk result (λ name. name ≡ text.now) }
     {
-        Ok(Namespace {
-            text: String::from_str(alloc, text)?,
-        })
+        match find_known(text) {
+            Some(url) => Ok(Namespace {
+                url: Url::Known(url),
+            }),
+            None => Ok(Namespace {
+                url: Url::Other(String::from_str(alloc, text)?),
+            }),
+        }
     }
 
     /// The text of the namespace.
     pub fn as_str(&self) -> &str
         ensures { result.now ≡ self.now }
     {
-        self.text.as_str()
+        match &self.url {
+            Url::Known(url) => url.as_str(),
+            Url::Other(text) => text.as_str(),
+        }
     }
 
     /// An equal namespace, or an `AllocError` where memory is refused.
     pub fn clone(&self) -> Result<Namespace, AllocError>
         ensures { IfOk result (λ name. name ≡ self.now) }
     {
-        Ok(Namespace {
-            text: self.text.clone()?,
-        })
+        match &self.url {
+            Url::Known(url) => Ok(Namespace {
+                url: Url::Known(*url),
+            }),
+            Url::Other(text) => Ok(Namespace {
+                url: Url::Other(text.clone()?),
+            }),
+        }
     }
 }
 

@@ -1,17 +1,17 @@
 -- Tokens that are taken one after the other, each in one turn.
-use Rattle.std.proofs.Common.{◌≡◌, ◌&&◌, not, ℕ, Bool, true, false, cond, List, [], ◌∷◌, Some, None, refl, ap, sym, subst, ◌∙◌}
+use Rattle.std.proofs.Common.{◌≡◌, ◌&&◌, not, ℕ, Bool, true, false, List, [], ◌∷◌, refl, ap, sym, subst, ◌∙◌}
 use Rattle.h5_token.specs.Reply.{Continues}
 use Rattle.h5_token.specs.TokenText.{TagText, TokenText, DoctypeIs, TagIs, CommentIs, Characters, NullCharacter, EndOfFile, ParseErrorIs}
-use Rattle.h5_token.specs.declared.fault.BuildFault.TheVariants.{AfterEnd, Failed}
 use Rattle.h5_interface.specs.SinkRules.{SinkRules}
 use Rattle.h5_types.specs.TurnText.{EofTurn, TagTurn, TurnText, is_self_closing}
 use Rattle.h5_types.specs.declared.modes.InsertionMode.{InsertionMode}
-use Rattle.h5_meaning.specs.Cuts.{glue, join}
+use Rattle.h5_token.specs.Joins.{glue, join}
 use Rattle.h5_meaning.specs.Modes.{rule}
 use Rattle.h5_meaning.specs.Rows.{Change, IsDone, apply_all, row}
-use Rattle.h5_meaning.specs.Run.{View, after_all, after_token, all_quiet, is_quiet, quiet_or_refused, refusal, replies, reply_or_refusal, step, take_or_refuse, taken}
+use Rattle.h5_meaning.specs.Run.{View, after_all, after_token, all_quiet, is_quiet, quiet_or_refused, replies, reply_or_refusal, step, take_or_refuse, taken}
 use Rattle.h5_meaning.specs.Settle.{Settled, settle}
 use Rattle.h5_meaning.specs.World.{World}
+use Rattle.h5_meaning.proofs.RunLaws.{is_taken, moved}
 use Rattle.h5_meaning.proofs.SettleLaws.{settle-row}
 use Rattle.h5_plain.specs.Rebuilding.{AllContinue}
 
@@ -50,13 +50,6 @@ pub record Arrives (rules : SinkRules) (ts : List TokenText) (v : View) (u : Wor
   pub world : (after_all rules ts v).world ≡ u
   pub continue : AllContinue (replies rules ts v)
   pub quiet : all_quiet rules ts v ≡ true
-
--- a view that has neither failed nor ended refuses nothing
-pub is_taken : (v : View) → v.failed ≡ false → v.ended ≡ false → refusal v ≡ None
-is_taken v f e = ap (λ b. cond b (Some Failed) (cond v.ended (Some AfterEnd) None)) f ∙ ap (λ b. cond b (Some AfterEnd) None) e
-
-abbrev pub moved : View → World → View
-moved v w = record v { world = w }
 
 both : (a b : Bool) → a ≡ true → b ≡ true → (a && b) ≡ true
 both true b p q = q

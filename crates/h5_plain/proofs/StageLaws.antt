@@ -1,19 +1,19 @@
 -- What a builder makes of the tokens of a document, one after the other.
-use Rattle.std.proofs.Common.{◌≡◌, ◌≢◌, ◌∙◌, ℕ, true, false, cond, List, [], ◌∷◌, ◌++◌, map, Some, None, codes, refl, ap, sym, subst}
+use Rattle.std.proofs.Common.{◌≡◌, ◌≢◌, ◌∙◌, ℕ, true, false, not, cond, List, [], ◌∷◌, ◌++◌, map, Some, None, codes, refl, ap, sym, subst}
 use Rattle.h5_names.specs.AttributeText.{AttributeText}
 use Rattle.h5_token.specs.TokenText.{EndOfFile, TokenText}
 use Rattle.h5_interface.specs.Forest.{Child, ChildNode, ElementNode}
 use Rattle.h5_interface.specs.SinkRules.{SinkRules}
 use Rattle.h5_interface.specs.declared.marks.QuirksMode.TheVariants.{NoQuirks}
-use Rattle.h5_tag_sets.specs.TagSets.{html_namespace, is_default_scope, is_html_named}
+use Rattle.h5_tag_sets.specs.TagSets.{body_end_names, html_namespace, is_body_end_ok, is_default_scope, is_html_named}
 use Rattle.h5_types.specs.declared.modes.InsertionMode.{InsertionMode}
 use Rattle.h5_types.specs.declared.modes.InsertionMode.TheVariants.{BeforeHtml, BeforeHead, InHead, AfterHead, InBody, AfterBody, AfterAfterBody}
 use Rattle.h5_types.specs.declared.options.TreeBuilderOpts.{TreeBuilderOpts}
 use Rattle.h5_meaning.specs.Changes.{frameset_off, head_is_current, in_mode, insert, insert_doctype, insert_root, pop, set_quirks}
-use Rattle.h5_meaning.specs.Modes.{body_in_scope, choose, if_body_in_scope}
-use Rattle.h5_meaning.specs.Rows.{FramesetOff, HeadIsCurrent, Insert, InsertRoot, IsDone, Pop, SetMode, ignored, row}
+use Rattle.h5_meaning.specs.Modes.{body_ends, body_in_scope, choose, if_body_in_scope}
+use Rattle.h5_meaning.specs.Rows.{FramesetOff, HeadIsCurrent, Insert, InsertRoot, IsDone, Pop, Row, SetMode, ignored}
 use Rattle.h5_meaning.specs.Run.{doctype_in, judged, step, taken, with_doctype}
-use Rattle.h5_meaning.specs.Scope.{in_scope}
+use Rattle.h5_meaning.specs.Scope.{has_unclosed, in_scope}
 use Rattle.h5_meaning.specs.World.{World, but_first, current, first_or, html_name, inside, name_in, names_of, place}
 use Rattle.h5_plain.specs.Plain.{end_tag, plain_doctype, start_tag}
 use Rattle.h5_plain.specs.Rebuilding.{IsStart, Looks}
@@ -206,11 +206,20 @@ body_is_in_scope m a b c w s =
     ap (λ r. in_scope (is_html_named (codes "body")) is_default_scope (map (name_in w.forest) r)) s.are_open
     ∙ ap (λ n. in_scope (is_html_named (codes "body")) is_default_scope (n ∷ name_in w.forest s.root ∷ [])) (name_of w.forest s.content body c [] s.is_body)
 
+-- and nothing else is open but the root
+all_is_closed : (m : InsertionMode) (a b c : List AttributeText) (w : World) → WithBody m a b c w → not (has_unclosed (names_of (taken w))) ≡ true
+unfolding names_of is_body_end_ok body_end_names html_namespace
+all_is_closed m a b c w s =
+    ap (λ r. not (has_unclosed (map (name_in w.forest) r))) s.are_open
+    ∙ ap (λ n. not (has_unclosed (n ∷ name_in w.forest s.root ∷ []))) (name_of w.forest s.content body c [] s.is_body)
+    ∙ ap (λ n. not (has_unclosed (body ∷ n ∷ []))) (name_of w.forest s.root html a _ s.rooted.is_root)
+
 pub body_end_next : (rules : SinkRules) (a b c : List AttributeText) (w : World) → WithBody InBody a b c w → Next rules (end_tag (codes "body")) w (WithBody AfterBody a b c)
 unfolding if_body_in_scope
 body_end_next rules a b c w s = record {
   after = in_mode AfterBody (taken w);
-  moves = moves_tag rules _ w InBody (SetMode AfterBody ∷ []) s.mode (ap (λ v. choose v (row (SetMode AfterBody ∷ []) IsDone) ignored) (body_is_in_scope InBody a b c w s)) refl;
+  moves = moves_tag rules _ w InBody (SetMode AfterBody ∷ []) s.mode (ap (λ v. choose v (body_ends (SetMode AfterBody ∷ []) IsDone (taken w)) ignored) (body_is_in_scope InBody a b c w s)
+      ∙ ap (λ q. let r : Row = record { changes = SetMode AfterBody ∷ []; ending = IsDone; quiet = q } in r) (all_is_closed InBody a b c w s)) refl;
   holds = in_other_mode InBody AfterBody a b c w s;
 }
 

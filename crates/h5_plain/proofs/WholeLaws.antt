@@ -5,7 +5,7 @@ use Rattle.h5_token.specs.TokenText.{EndOfFile, TokenText}
 use Rattle.h5_interface.specs.Forest.{ChildNode, ElementNode, Forest, children_of}
 use Rattle.h5_interface.specs.SinkRules.{SinkRules}
 use Rattle.h5_types.specs.declared.modes.InsertionMode.TheVariants.{AfterAfterBody}
-use Rattle.h5_meaning.specs.Cuts.{join}
+use Rattle.h5_token.specs.Joins.{join}
 use Rattle.h5_meaning.specs.Run.{View}
 use Rattle.h5_meaning.specs.World.{World}
 use Rattle.h5_plain.specs.Plain.{ElementThen, End, IsPlain, Nodes, Nothing, PlainDocument, Sort, TextThen, document_tokens, end_tag, plain_doctype, start_tag, tokens_before}

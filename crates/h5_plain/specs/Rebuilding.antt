@@ -8,7 +8,7 @@ use Rattle.h5_interface.specs.SinkRules.{SinkRules}
 use Rattle.h5_interface.specs.declared.marks.QuirksMode.TheVariants.{NoQuirks}
 use Rattle.h5_types.specs.Options.{default_options}
 use Rattle.h5_types.specs.declared.modes.InsertionMode.TheVariants.{Initial}
-use Rattle.h5_meaning.specs.Cuts.{join}
+use Rattle.h5_token.specs.Joins.{join}
 use Rattle.h5_meaning.specs.Run.{View, after_all, all_quiet, replies}
 use Rattle.h5_meaning.specs.World.{World, html_name}
 use Rattle.h5_plain.specs.Plain.{ElementThen, End, Nodes, PlainDocument, TextThen, document_tokens, root_of}

@@ -10,7 +10,7 @@ ghost use Rattle.h5_state.specs.View.{world};
 
 use super::in_body::{in_body_start_html, in_body_text};
 use h5_interface::TreeSink;
-use h5_state::{State, append_comment_to_doc, append_comment_to_html, set_mode, tell_error};
+use h5_state::{State, append_comment_to_doc, append_comment_to_html, set_mode, unexpected};
 use h5_tag_sets::{KnownName, known_name};
 use h5_token::{Tag, TagKind};
 use h5_types::{InsertionMode, ProcessResult, SplitStatus, Token};
@@ -27,7 +27,7 @@ fn back_to_body<S: TreeSink>(
         (world S.sees S.node sink.old state.old) (world S.sees S.node sink.new state.new) (S.sees sink.old).errors (S.sees sink.new).errors r) }
     ensures sound { Sound (world S.sees S.node sink.new state.new) }
 {
-    tell_error(sink, state, "unexpected token after the body");
+    unexpected(sink, state, &token);
     Ok(ProcessResult::Reprocess(InsertionMode::InBody, token))
 }
 

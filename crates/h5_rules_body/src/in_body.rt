@@ -10,10 +10,10 @@ ghost use Rattle.h5_state.specs.View.{world};
 
 use h5_interface::TreeSink;
 use h5_state::{
-    State, add_attrs_to_html, add_attrs_to_second, append_comment, append_text, cut_at,
-    generate_implied_end_except, has_body_second, has_open_template, in_scope_named,
-    insert_element, is_named_before_special, set_frameset_not_ok, set_frameset_ok_by_text,
-    set_mode, tell_error,
+    State, add_attrs_to_html, add_attrs_to_second, append_comment, append_text, check_body_end,
+    cut_at, generate_implied_end_except, has_body_second, has_open_template, in_scope_named,
+    insert_element, is_current_html, is_named_before_special, set_frameset_not_ok,
+    set_frameset_ok_by_text, set_mode, tell_error, unexpected, unexpected_tag,
 };
 use h5_tag_sets::{KnownName, known_name};
 use h5_token::{Tag, TagKind};
@@ -33,7 +33,7 @@ pub fn in_body_start_html<S: TreeSink>(
         (world S.sees S.node sink.old state.old) (world S.sees S.node sink.new state.new) (S.sees sink.old).errors (S.sees sink.new).errors r) }
     ensures sound { Sound (world S.sees S.node sink.new state.new) }
 {
-    tell_error(sink, state, "unexpected start tag html");
+    unexpected_tag(sink, state, &tag);
     if !has_open_template(sink, state) {
         add_attrs_to_html(sink, state, tag.attrs)?;
     }
@@ -53,7 +53,7 @@ fn in_body_start_body<S: TreeSink>(
         (world S.sees S.node sink.old state.old) (world S.sees S.node sink.new state.new) (S.sees sink.old).errors (S.sees sink.new).errors r) }
     ensures sound { Sound (world S.sees S.node sink.new state.new) }
 {
-    tell_error(sink, state, "unexpected start tag body");
+    unexpected_tag(sink, state, &tag);
     if has_body_second(sink, state) && !has_open_template(sink, state) {
         set_frameset_not_ok(sink, state);
         add_attrs_to_second(sink, state, tag.attrs)?;
@@ -78,9 +78,10 @@ fn in_body_end_body<S: TreeSink>(
 {
     let _ = tag;
     if in_scope_named(sink, state, "body") {
+        check_body_end(sink, state);
         set_mode(sink, state, InsertionMode::AfterBody);
     } else {
-        tell_error(sink, state, "unexpected end tag body");
+        tell_error(sink, state, "</body> with no <body> in scope");
     }
     Ok(ProcessResult::Done)
 }
@@ -99,10 +100,21 @@ fn in_body_end_html<S: TreeSink>(
     ensures sound { Sound (world S.sees S.node sink.new state.new) }
 {
     if in_scope_named(sink, state, "body") {
+        check_body_end(sink, state);
         Ok(ProcessResult::Reprocess(InsertionMode::AfterBody, Token::Tag(tag)))
     } else {
-        tell_error(sink, state, "unexpected end tag html");
+        tell_error(sink, state, "</html> with no <body> in scope");
         Ok(ProcessResult::Done)
+    }
+}
+
+// An end tag that closes another element than the current node isn't expected.
+fn check_nesting<S: TreeSink>(sink: &mut S, state: &State<S::Handle>, tag: &Tag)
+    requires sound { Sound (world S.sees S.node sink.old state.now) }
+    ensures { world S.sees S.node sink.new state.now ≡ world S.sees S.node sink.old state.now }
+{
+    if !is_current_html(sink, state, tag.name.as_str()) {
+        unexpected_tag(sink, state, tag);
     }
 }
 
@@ -122,9 +134,10 @@ fn in_body_end_other<S: TreeSink>(
     let local = tag.name.as_str();
     if is_named_before_special(sink, state, local) {
         generate_implied_end_except(sink, state, local);
+        check_nesting(sink, state, &tag);
         cut_at(sink, state, local);
     } else {
-        tell_error(sink, state, "unexpected end tag");
+        tell_error(sink, state, "special element before the one to close");
     }
     Ok(ProcessResult::Done)
 }
@@ -142,13 +155,7 @@ fn in_body_start_other<S: TreeSink>(
     ensures sound { Sound (world S.sees S.node sink.new state.new) }
 {
     let attrs = tag.attrs;
-    insert_element(
-        sink,
-        state,
-        tag.name.as_str(),
-        attrs,
-        tag.had_duplicate_attributes,
-    )?;
+    insert_element(sink, state, tag.name, attrs, tag.had_duplicate_attributes)?;
     Ok(ProcessResult::Done)
 }
 
@@ -213,9 +220,12 @@ pub fn step_in_body<S: TreeSink>(
         }
         Token::Characters(status, text) => in_body_text(sink, state, status, text),
         Token::NullCharacter => {
-            tell_error(sink, state, "unexpected NUL");
+            unexpected(sink, state, &Token::NullCharacter);
             Ok(ProcessResult::Done)
         }
-        Token::Eof => Ok(ProcessResult::Done),
+        Token::Eof => {
+            check_body_end(sink, state);
+            Ok(ProcessResult::Done)
+        }
     }
 }

@@ -12,7 +12,7 @@ use h5_interface::TreeSink;
 use h5_rules_body::in_body_start_html;
 use h5_state::{
     State, append_comment, append_text, insert_element, insert_phantom, set_frameset_not_ok,
-    set_mode, tell_error,
+    set_mode, unexpected_tag,
 };
 use h5_tag_sets::{KnownName, known_name};
 use h5_token::{Tag, TagKind};
@@ -49,20 +49,14 @@ fn after_head_tag<S: TreeSink>(
         (TagKind::StartTag, KnownName::Html) => in_body_start_html(sink, state, tag),
         (TagKind::StartTag, KnownName::Body) => {
             let attrs = tag.attrs;
-            insert_element(
-                sink,
-                state,
-                tag.name.as_str(),
-                attrs,
-                tag.had_duplicate_attributes,
-            )?;
+            insert_element(sink, state, tag.name, attrs, tag.had_duplicate_attributes)?;
             set_frameset_not_ok(sink, state);
             set_mode(sink, state, InsertionMode::InBody);
             Ok(ProcessResult::Done)
         }
         (TagKind::StartTag, KnownName::Head)
         | (TagKind::EndTag, KnownName::Head | KnownName::Other) => {
-            tell_error(sink, state, "unexpected tag after the head");
+            unexpected_tag(sink, state, &tag);
             Ok(ProcessResult::Done)
         }
         _ => after_head_else(sink, state, Token::Tag(tag)),

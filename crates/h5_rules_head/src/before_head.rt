@@ -12,7 +12,7 @@ use h5_interface::TreeSink;
 use h5_rules_body::in_body_start_html;
 use h5_state::{
     State, append_comment, insert_element, insert_phantom, set_head_to_current, set_mode,
-    tell_error,
+    unexpected_tag,
 };
 use h5_tag_sets::{KnownName, known_name};
 use h5_token::{Tag, TagKind};
@@ -50,19 +50,13 @@ fn before_head_tag<S: TreeSink>(
         (TagKind::StartTag, KnownName::Html) => in_body_start_html(sink, state, tag),
         (TagKind::StartTag, KnownName::Head) => {
             let attrs = tag.attrs;
-            insert_element(
-                sink,
-                state,
-                tag.name.as_str(),
-                attrs,
-                tag.had_duplicate_attributes,
-            )?;
+            insert_element(sink, state, tag.name, attrs, tag.had_duplicate_attributes)?;
             set_head_to_current(sink, state);
             set_mode(sink, state, InsertionMode::InHead);
             Ok(ProcessResult::Done)
         }
         (TagKind::EndTag, KnownName::Other) => {
-            tell_error(sink, state, "unexpected end tag");
+            unexpected_tag(sink, state, &tag);
             Ok(ProcessResult::Done)
         }
         _ => before_head_else(sink, state, Token::Tag(tag)),

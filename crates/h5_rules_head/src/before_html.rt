@@ -9,7 +9,7 @@ ghost use Rattle.h5_meaning.specs.Sound.{Sound};
 ghost use Rattle.h5_state.specs.View.{world};
 
 use h5_interface::TreeSink;
-use h5_state::{State, append_comment_to_doc, create_root, set_mode, tell_error};
+use h5_state::{State, append_comment_to_doc, create_root, set_mode, unexpected_tag};
 use h5_tag_sets::{KnownName, known_name};
 use h5_token::{Tag, TagKind};
 use h5_types::{InsertionMode, ProcessResult, SplitStatus, Token};
@@ -48,7 +48,7 @@ fn before_html_tag<S: TreeSink>(
             Ok(ProcessResult::Done)
         }
         (TagKind::EndTag, KnownName::Other) => {
-            tell_error(sink, state, "unexpected end tag");
+            unexpected_tag(sink, state, &tag);
             Ok(ProcessResult::Done)
         }
         _ => before_html_else(sink, state, Token::Tag(tag)),

@@ -10,7 +10,7 @@ ghost use Rattle.h5_state.specs.View.{world};
 
 use h5_interface::TreeSink;
 use h5_rules_body::in_body_start_html;
-use h5_state::{State, append_comment, append_text, pop, set_mode, tell_error};
+use h5_state::{State, append_comment, append_text, pop, set_mode, unexpected_tag};
 use h5_tag_sets::{KnownName, known_name};
 use h5_token::{Tag, TagKind};
 use h5_types::{InsertionMode, ProcessResult, SplitStatus, Token};
@@ -51,7 +51,7 @@ fn in_head_tag<S: TreeSink>(
             Ok(ProcessResult::Done)
         }
         (TagKind::StartTag, KnownName::Head) | (TagKind::EndTag, KnownName::Other) => {
-            tell_error(sink, state, "unexpected tag in the head");
+            unexpected_tag(sink, state, &tag);
             Ok(ProcessResult::Done)
         }
         _ => in_head_else(sink, state, Token::Tag(tag)),

@@ -9,7 +9,7 @@ ghost use Rattle.h5_meaning.specs.Sound.{Sound};
 ghost use Rattle.h5_state.specs.View.{world};
 
 use h5_interface::{QuirksMode, TreeSink};
-use h5_state::{State, append_comment_to_doc, has_srcdoc, set_quirks_mode, tell_error};
+use h5_state::{State, append_comment_to_doc, has_srcdoc, set_quirks_mode, unexpected};
 use h5_types::{InsertionMode, ProcessResult, SplitStatus, Token};
 use std::alloc::AllocError;
 
@@ -28,7 +28,7 @@ fn initial_else<S: TreeSink>(
     if has_srcdoc(sink, state) {
         Ok(ProcessResult::Reprocess(InsertionMode::BeforeHtml, token))
     } else {
-        tell_error(sink, state, "no doctype");
+        unexpected(sink, state, &token);
         set_quirks_mode(sink, state, QuirksMode::Quirks);
         Ok(ProcessResult::Reprocess(InsertionMode::BeforeHtml, token))
     }

@@ -39,7 +39,7 @@ end_found place now (y ∷ xs) x rest h e = let t = if_some (ends place y) (walk
 pub walk_turn : (place now : Inside) (xs : List ℕ) (i : ℕ) → i < length xs → walk place (take i xs) ≡ Some now → ends now (get_or xs i 0) ≡ false → walk place (take (i + 1) xs) ≡ Some (next now (get_or xs i 0))
 walk_turn place now xs i lt h e = ap (walk place) (take_more xs i 0 lt) ∙ walk_more place now (take i xs) (get_or xs i 0) h e
 
-walk_along : (place middle now : Inside) (xs : List ℕ) (from n : ℕ) → walk place (take from xs) ≡ Some middle → walk middle (take n (drop from xs)) ≡ Some now → walk place (take (from + n) xs) ≡ Some now
+pub walk_along : (place middle now : Inside) (xs : List ℕ) (from n : ℕ) → walk place (take from xs) ≡ Some middle → walk middle (take n (drop from xs)) ≡ Some now → walk place (take (from + n) xs) ≡ Some now
 walk_along place middle now xs from n h k = ap (walk place) (take-add from n xs) ∙ walk_append place middle (take from xs) (take n (drop from xs)) h ∙ k
 
 -- the end that was looked for in two parts isn't there yet

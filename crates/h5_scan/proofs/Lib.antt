@@ -5,3 +5,4 @@ pub mod Endings
 pub mod Cutting
 pub mod Words
 pub mod Leaving
+pub mod Staying

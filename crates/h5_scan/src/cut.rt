@@ -1,6 +1,8 @@
 //! Whole texts, cut where a byte of some class stands.
-ghost use Rattle.std.specs.Prelude.{◌≡◌, ℕ, Bool, ◌<◌, ◌≤◌, not, length, slice_index};
+ghost use Rattle.std.specs.Prelude.{◌≡◌, ℕ, Bool, ◌<◌, ◌≤◌, ◌==◌, true, false, IfSome, not, length, slice_index};
 ghost use Rattle.h5_scan.specs.Cuts.{is_in, before, from, past};
+
+use memchr::memchr;
 
 /// Bytes that end or separate the parts of a tag or a doctype, all of them ASCII.
 #[derive(Clone, Copy, Debug, PartialEq, Eq)]
@@ -37,7 +39,7 @@ fn is_in(class: Class, b: u8) -> bool
 
 // The index of the first byte that is in the class, or the first that isn't; the length where there is
 // none.
-fn first_index(bytes: &[u8], class: Class, wanted: bool) -> usize
+pub(crate) fn first_index(bytes: &[u8], class: Class, wanted: bool) -> usize
     ensures within { result ≤ length bytes.now }
     ensures passed { (k : ℕ) → k < result → is_in class (slice_index bytes.now k) ≡ not wanted }
     ensures stops { result < length bytes.now → is_in class (slice_index bytes.now result) ≡ wanted }
@@ -50,12 +52,47 @@ fn first_index(bytes: &[u8], class: Class, wanted: bool) -> usize
     bytes.len()
 }
 
+// The index of the first such byte, or the length where there is none.
+pub(crate) fn first_byte(bytes: &[u8], wanted: u8) -> usize
+    ensures within { result ≤ length bytes.now }
+    ensures passed { (k : ℕ) → k < result → (slice_index bytes.now k == wanted) ≡ false }
+    ensures stops { result < length bytes.now → (slice_index bytes.now result == wanted) ≡ true }
+{
+    match memchr(wanted, bytes) {
+        Some(n) => n,
+        None => bytes.len(),
+    }
+}
+
+// The quote that is all of its class.
+fn quote_of(class: Class) -> Option<u8>
+    ensures { IfSome result (λ quote. (x : ℕ) → is_in class x ≡ (x == quote)) }
+{
+    match class {
+        Class::DoubleQuote => Some(b'"'),
+        Class::SingleQuote => Some(b'\''),
+        _ => None,
+    }
+}
+
+// The index of the first byte that is in the class, or the length where there is none.
+fn first_inside(bytes: &[u8], class: Class) -> usize
+    ensures within { result ≤ length bytes.now }
+    ensures passed { (k : ℕ) → k < result → is_in class (slice_index bytes.now k) ≡ false }
+    ensures stops { result < length bytes.now → is_in class (slice_index bytes.now result) ≡ true }
+{
+    match quote_of(class) {
+        Some(quote) => first_byte(bytes, quote),
+        None => first_index(bytes, class, true),
+    }
+}
+
 /// What stands before the first byte of the class, and that byte with what follows it.
 pub fn cut_at(text: &str, class: Class) -> (&str, &str)
     ensures front { result.0.now ≡ before (is_in class) text.now }
     ensures back { result.1.now ≡ from (is_in class) text.now }
 {
-    let n = first_index(text.as_bytes(), class, true);
+    let n = first_inside(text.as_bytes(), class);
     text.split_at(n)
 }
 

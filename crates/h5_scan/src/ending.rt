@@ -2,6 +2,8 @@
 ghost use Rattle.std.specs.Prelude.{◌≡◌, ◌<◌, ◌≤◌, Some, true, length, take, slice_index};
 ghost use Rattle.h5_scan.specs.Ending.{may_end, ends, named, next, walk};
 
+use super::cut::{Class, first_byte, first_index};
+
 /// Where in a construct a byte stands, by the names of the standard's states (HTML standard, sections
 /// 13.2.5.6 to 13.2.5.54).
 #[derive(Clone, Copy, Debug, PartialEq, Eq)]
@@ -105,6 +107,23 @@ fn choose(test: bool, yes: Inside, no: Inside) -> Inside
     if test { yes } else { no }
 }
 
+// How many bytes may be passed at once: behind each the next stands at the same place.
+fn unmoved(bytes: &[u8], place: Inside) -> usize
+    ensures within { result ≤ length bytes.now }
+    ensures walked { walk place (take result bytes.now) ≡ Some place }
+{
+    match place {
+        Inside::Comment => first_byte(bytes, b'-'),
+        Inside::Doctype => first_byte(bytes, b'>'),
+        Inside::TagName => first_index(bytes, Class::NameEnd, true),
+        Inside::AttributeName => first_index(bytes, Class::AttributeNameEnd, true),
+        Inside::AttributeValueDoubleQuoted => first_byte(bytes, b'"'),
+        Inside::AttributeValueSingleQuoted => first_byte(bytes, b'\''),
+        Inside::AttributeValueUnquoted => first_index(bytes, Class::ValueEnd, true),
+        _ => 0,
+    }
+}
+
 // The index of the `>` that ends a construct, or the length where none does, and where in the construct
 // that is. The bytes go on from the place.
 fn find_end(bytes: &[u8], place: Inside) -> (usize, Inside)
@@ -113,13 +132,17 @@ fn find_end(bytes: &[u8], place: Inside) -> (usize, Inside)
     ensures ended { result.0 < length bytes.now → ends result.1 (slice_index bytes.now result.0) ≡ true }
 {
     let mut now = place;
-    for (i, b) in bytes.iter().enumerate() {
-        if ends(now, *b) {
-            return (i, now);
+    let mut n = 0;
+    while n < bytes.len() {
+        let (_, unread) = bytes.split_at(n);
+        n += unmoved(unread, now);
+        if n == bytes.len() || ends(now, bytes[n]) {
+            return (n, now);
         }
-        now = next(now, *b);
+        now = next(now, bytes[n]);
+        n += 1;
     }
-    (bytes.len(), now)
+    (n, now)
 }
 
 ghost use Rattle.h5_scan.specs.Sought.{EndsAs};

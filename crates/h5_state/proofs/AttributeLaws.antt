@@ -1,9 +1,8 @@
 -- The root and the second open element, and what their attributes change.
-use Rattle.std.proofs.Common.{◌≡◌, ◌+◌, ◌<◌, ◌≤◌, ℕ, zero, suc, get_or, length-append, List, [], ◌∷◌, ◌++◌, length, map, reverse, Option, Some, None, Result, Ok, Err, OnOk, OnErr, refl, ap, sym, subst, ◌∙◌, arith}
+use Rattle.std.proofs.Common.{◌≡◌, ◌<◌, ◌≤◌, ℕ, get_or, length-append, List, [], ◌∷◌, ◌++◌, length, map, reverse, Some, None, Result, Ok, Err, OnOk, OnErr, refl, ap, sym, ◌∙◌, arith}
 use Rattle.std.proofs.lemmas.List.{length-map, length-reverse, reverse-append}
 use Rattle.h5_names.specs.AttributeText.{AttributeText}
 use Rattle.h5_interface.specs.Changes.{add_missing_attributes}
-use Rattle.h5_interface.specs.Forest.{Forest, IsForest}
 use Rattle.h5_interface.specs.Seen.{Seen, changed}
 use Rattle.h5_interface.proofs.MakingLaws.{add_missing_rearranges}
 use Rattle.h5_meaning.specs.Sound.{Stands}

@@ -1,5 +1,5 @@
 -- What is put below a node, as it is seen.
-use Rattle.std.proofs.Common.{◌≡◌, ℕ, Bool, List, [], ◌∷◌, Result, Ok, Err, OnOk, OnErr, refl, ap, sym, subst, ◌∙◌}
+use Rattle.std.proofs.Common.{◌≡◌, ℕ, List, Result, Ok, Err, OnOk, OnErr, refl, ap, sym, subst, ◌∙◌}
 use Rattle.h5_names.specs.declared.qualified.QualName.{QualName}
 use Rattle.h5_names.specs.AttributeText.{AttributeText}
 use Rattle.h5_interface.specs.declared.marks.ElementFlags.{ElementFlags}
@@ -7,8 +7,7 @@ use Rattle.h5_interface.specs.Changes.{append_node}
 use Rattle.h5_interface.specs.Forest.{ChildNode, CommentNode, Forest, IsForest, IsNode}
 use Rattle.h5_interface.specs.Seen.{CanAppend, Seen, changed, make, make_element, plain}
 use Rattle.h5_interface.specs.SinkRules.{Rearranges, SinkRules}
-use Rattle.h5_interface.proofs.ForestLaws.{rearranges_trans}
-use Rattle.h5_interface.proofs.MakingLaws.{make_element_rearranges, make_rearranges}
+use Rattle.h5_interface.proofs.MakingLaws.{make_rearranges}
 use Rattle.h5_meaning.specs.Sound.{Sound, Stands}
 use Rattle.h5_meaning.specs.World.{World, place}
 use Rattle.h5_meaning.proofs.SoundLaws.{comment_below_may, comment_below_rearranges, element_below_may, place_is_node}

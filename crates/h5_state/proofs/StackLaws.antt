@@ -1,5 +1,5 @@
 -- The stack as it is kept, and as it is seen.
-use Rattle.std.proofs.Common.{◌≡◌, ◌-◌, ◌+◌, ◌<◌, ◌≤◌, ℕ, zero, suc, get_or, take, length-append, Bool, true, false, cond, List, [], ◌∷◌, ◌++◌, length, map, reverse, Option, Some, None, inl, inr, codes, refl, ap, sym, subst, ◌∙◌, arith}
+use Rattle.std.proofs.Common.{◌≡◌, ◌-◌, ◌+◌, ◌<◌, ◌≤◌, ℕ, zero, suc, get_or, take, length-append, Bool, true, false, cond, List, [], ◌∷◌, ◌++◌, length, map, reverse, Some, inl, inr, codes, refl, ap, sym, subst, ◌∙◌, arith}
 use Rattle.std.specs.Prelude.{slice_get, unwrap_or}
 use Rattle.h5_names.specs.declared.qualified.QualName.{QualName}
 use Rattle.h5_tag_sets.specs.TagSets.{html_namespace, is_html_named}
@@ -10,8 +10,6 @@ use Rattle.h5_meaning.specs.World.{first_or, inside, last_or, name_in, name_of_f
 use Rattle.std.proofs.lemmas.List.{length-map, length-reverse, map-append, reverse-append, take_more}
 use Rattle.h5_interface.specs.Changes.{mark}
 use Rattle.h5_interface.specs.Forest.{ElementNode, Forest, IsElement, Marks, contents_of, kind_of}
-use Rattle.h5_interface.specs.Seen.{Seen}
-use Rattle.h5_interface.specs.SinkRules.{Rearranges}
 use Rattle.h5_interface.proofs.MakingLaws.{mark_rearranges}
 use Rattle.h5_meaning.specs.Sound.{Stands}
 use Rattle.h5_meaning.proofs.SoundLaws.{stands_rearranged, stands_tail}

@@ -36,15 +36,11 @@ pub fn appropriate_place_for_insertion<S: TreeSink>(sink: &S, state: &State<S::H
 // The HTML name of this local name.
 fn html_qual_name<S: TreeSink>(
     state: &State<S::Handle>,
-    local: &str,
+    local: LocalName,
 ) -> Result<QualName, AllocError>
-    ensures { IfOk result (λ name. name ≡ html_name local.now) }
+    ensures { IfOk result (λ name. name ≡ html_name local) }
 {
-    Ok(QualName::new(
-        None,
-        Namespace::new(state.alloc, namespaces::HTML)?,
-        LocalName::new(state.alloc, local)?,
-    ))
+    Ok(QualName::new(None, Namespace::new(state.alloc, namespaces::HTML)?, local))
 }
 
 // An HTML element of this name as the last child of a node; it becomes the current node.
@@ -53,14 +49,14 @@ fn insert_below<S: TreeSink>(
     sink: &mut S,
     state: &mut State<S::Handle>,
     parent: &S::Handle,
-    local: &str,
+    local: LocalName,
     attrs: Vec<Attribute>,
     had_duplicate_attributes: bool,
 ) -> Result<(), AllocError>
     requires sound { Sound (world S.sees S.node sink.old state.old) }
     requires parent { IsNode (world S.sees S.node sink.old state.old).forest (S.node parent.now) }
     ensures done { OnOk result
-        (world S.sees S.node sink.new state.new ≡ push_new S.rules (S.node parent.now) local.now (attribute_texts attrs.items) had_duplicate_attributes (world S.sees S.node sink.old state.old)) }
+        (world S.sees S.node sink.new state.new ≡ push_new S.rules (S.node parent.now) local (attribute_texts attrs.items) had_duplicate_attributes (world S.sees S.node sink.old state.old)) }
     ensures quiet { (S.sees sink.new).errors ≡ (S.sees sink.old).errors }
     ensures sound { Sound (world S.sees S.node sink.new state.new) }
 {
@@ -76,13 +72,13 @@ fn insert_below<S: TreeSink>(
 pub fn insert_element<S: TreeSink>(
     sink: &mut S,
     state: &mut State<S::Handle>,
-    local: &str,
+    local: LocalName,
     attrs: Vec<Attribute>,
     had_duplicate_attributes: bool,
 ) -> Result<(), AllocError>
     requires sound { Sound (world S.sees S.node sink.old state.old) }
     ensures done { OnOk result
-        (world S.sees S.node sink.new state.new ≡ insert S.rules local.now (attribute_texts attrs.items) had_duplicate_attributes (world S.sees S.node sink.old state.old)) }
+        (world S.sees S.node sink.new state.new ≡ insert S.rules local (attribute_texts attrs.items) had_duplicate_attributes (world S.sees S.node sink.old state.old)) }
     ensures quiet { (S.sees sink.new).errors ≡ (S.sees sink.old).errors }
     ensures sound { Sound (world S.sees S.node sink.new state.new) }
 {
@@ -103,8 +99,9 @@ pub fn insert_phantom<S: TreeSink>(
     ensures quiet { (S.sees sink.new).errors ≡ (S.sees sink.old).errors }
     ensures sound { Sound (world S.sees S.node sink.new state.new) }
 {
+    let name = LocalName::new(state.alloc, local)?;
     let attrs = Vec::new(state.alloc);
-    insert_element(sink, state, local, attrs, false)
+    insert_element(sink, state, name, attrs, false)
 }
 
 /// The root, as the document's last child; it becomes the current node.
@@ -121,7 +118,8 @@ pub fn create_root<S: TreeSink>(
     ensures sound { Sound (world S.sees S.node sink.new state.new) }
 {
     let document = sink.get_document();
-    insert_below(sink, state, &document, "html", attrs, false)
+    let name = LocalName::new(state.alloc, "html")?;
+    insert_below(sink, state, &document, name, attrs, false)
 }
 
 /// A comment at the place of insertion. An Err leaves open elements.

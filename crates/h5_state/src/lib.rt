@@ -5,6 +5,7 @@
 mod attributes;
 mod below;
 mod blanks;
+mod errors;
 mod insert;
 mod open_elems;
 mod state;
@@ -12,16 +13,17 @@ mod steps;
 
 pub use attributes::{add_attrs_to_html, add_attrs_to_second};
 pub use blanks::{first_run, is_blank_text, set_frameset_ok_by_text};
+pub use errors::{tell_error, unexpected, unexpected_tag};
 pub use insert::{
     append_comment, append_comment_to_doc, append_comment_to_html, append_text,
     appropriate_place_for_insertion, create_root, insert_element, insert_phantom,
 };
 pub use open_elems::{
-    cut_at, generate_implied_end_except, has_body_second, has_open_template, in_scope_named,
-    is_named_before_special,
+    check_body_end, cut_at, generate_implied_end_except, has_body_second, has_open_template,
+    in_scope_named, is_current_html, is_named_before_special,
 };
 pub use state::State;
 pub use steps::{
     current_mode, current_node, has_srcdoc, pop, set_frameset_not_ok, set_head_to_current,
-    set_mode, set_quirks_mode, tell_error,
+    set_mode, set_quirks_mode,
 };

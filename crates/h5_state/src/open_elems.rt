@@ -1,19 +1,20 @@
 //! Questions about the stack of open elements (HTML standard, section 13.2.4.2, "The stack of open
 //! elements").
-ghost use Rattle.std.specs.Prelude.{◌≡◌, ◌<◌, ◌≤◌, ◌+◌, ◌∷◌, [], ℕ, length, codes};
+ghost use Rattle.std.specs.Prelude.{◌≡◌, ◌<◌, ◌≤◌, ◌+◌, ◌∷◌, [], ℕ, false, length, codes};
 ghost use Rattle.h5_tag_sets.specs.TagSets.{is_default_scope, is_html_named, is_special};
 ghost use Rattle.h5_interface.specs.NewElement.{is_html_template};
 ghost use Rattle.h5_meaning.specs.Changes.{cut_at_named, implied_ends_except};
-ghost use Rattle.h5_meaning.specs.Scope.{comes_before_special, cut_through, first_passes, has_template, in_scope, is_implied_but, second_is};
+ghost use Rattle.h5_meaning.specs.Scope.{comes_before_special, cut_through, first_passes, has_template, has_unclosed, in_scope, is_implied_but, second_is};
 ghost use Rattle.h5_meaning.specs.Sound.{Sound};
 ghost use Rattle.h5_meaning.specs.World.{but_first, names_of};
 ghost use Rattle.h5_state.specs.View.{names_under, stack_under, with_stack, world};
 
+use super::errors::tell_error;
 use super::state::State;
 use super::steps::pop;
 use h5_interface::TreeSink;
 use h5_names::QualName;
-use h5_tag_sets::{cursory_implied_end, default_scope, is_html, special_tag};
+use h5_tag_sets::{body_end_ok, cursory_implied_end, default_scope, is_html, special_tag};
 
 // How many elements are open.
 #[tactic(auto, unfolding(crate::specs::View::world, crate::specs::View::names_under, crate::specs::View::stack_under, h5_meaning::specs::World::names_of))]
@@ -99,6 +100,33 @@ pub fn has_open_template<S: TreeSink>(sink: &S, state: &State<S::Handle>) -> boo
     false
 }
 
+// Whether an element is open that may not be where the body ends.
+fn has_unclosed<S: TreeSink>(sink: &S, state: &State<S::Handle>) -> bool
+    requires sound { Sound (world S.sees S.node sink.now state.now) }
+    ensures { result ≡ has_unclosed (names_of (world S.sees S.node sink.now state.now)) }
+{
+    let mut place = open_count(sink, state);
+    'down: while place > 0 {
+        place -= 1;
+        if !body_end_ok(name_at(sink, state, place)) {
+            return true;
+        }
+    }
+    false
+}
+
+/// Tells a parse error where an element is open that may not be where the body ends (HTML standard, section
+/// 13.2.6.4.7, an end tag "body").
+pub fn check_body_end<S: TreeSink>(sink: &mut S, state: &State<S::Handle>)
+    requires sound { Sound (world S.sees S.node sink.old state.now) }
+    ensures done { world S.sees S.node sink.new state.now ≡ world S.sees S.node sink.old state.now }
+    ensures quiet { has_unclosed (names_of (world S.sees S.node sink.old state.now)) ≡ false → (S.sees sink.new).errors ≡ (S.sees sink.old).errors }
+{
+    if has_unclosed(sink, state) {
+        tell_error(sink, state, "unexpected open tag at the end of the body");
+    }
+}
+
 /// Whether the second open element, from the root on, is an HTML `body`.
 #[tactic(auto, unfolding(crate::specs::View::world, h5_meaning::specs::World::names_of))]
 pub fn has_body_second<S: TreeSink>(sink: &S, state: &State<S::Handle>) -> bool
@@ -112,6 +140,18 @@ pub fn has_body_second<S: TreeSink>(sink: &S, state: &State<S::Handle>) -> bool
     }
 }
 
+/// Whether the current node is an HTML element of this name.
+#[tactic(auto, unfolding(crate::specs::View::world, h5_meaning::specs::World::names_of))]
+pub fn is_current_html<S: TreeSink>(sink: &S, state: &State<S::Handle>, local: &str) -> bool
+    requires sound { Sound (world S.sees S.node sink.now state.now) }
+    ensures { result ≡ first_passes (is_html_named local.now) (names_of (world S.sees S.node sink.now state.now)) }
+{
+    match state.open_elems.last() {
+        Some(element) => is_html(sink.elem_name(element), local),
+        None => false,
+    }
+}
+
 // Whether the end tag of the current node is implied, and it is no HTML element of this name.
 #[tactic(auto, unfolding(crate::specs::View::world, h5_meaning::specs::World::names_of))]
 fn is_current_implied<S: TreeSink>(sink: &S, state: &State<S::Handle>, local: &str) -> bool
@@ -121,7 +161,7 @@ fn is_current_implied<S: TreeSink>(sink: &S, state: &State<S::Handle>, local: &s
     match state.open_elems.last() {
         Some(element) => {
             let name = sink.elem_name(element);
-            cursory_implied_end(name) && !is_html(name, local)
+            !is_html(name, local) && cursory_implied_end(name)
         }
         None => false,
     }

@@ -44,14 +44,6 @@ pub fn set_quirks_mode<S: TreeSink>(sink: &mut S, state: &mut State<S::Handle>, 
     sink.set_quirks_mode(mode);
 }
 
-/// Tells the sink of a parse error. Nothing else changes.
-#[tactic(auto, unfolding(crate::specs::View::world))]
-pub fn tell_error<S: TreeSink>(sink: &mut S, state: &State<S::Handle>, message: &str)
-    ensures { world S.sees S.node sink.new state.now ≡ world S.sees S.node sink.old state.now }
-{
-    sink.parse_error(message);
-}
-
 /// The current node becomes the head element.
 #[tactic(auto, unfolding(crate::specs::View::world, h5_meaning::specs::Changes::head_is_current))]
 pub fn set_head_to_current<S: TreeSink>(sink: &S, state: &mut State<S::Handle>)

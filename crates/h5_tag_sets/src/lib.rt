@@ -5,4 +5,4 @@ mod known;
 mod sets;
 
 pub use known::{KnownName, known_name};
-pub use sets::{cursory_implied_end, default_scope, is_html, special_tag};
+pub use sets::{body_end_ok, cursory_implied_end, default_scope, is_html, special_tag};

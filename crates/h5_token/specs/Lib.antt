@@ -1,3 +1,4 @@
+pub mod Joins
 pub mod Occurrences
 pub mod OptionalText
 pub mod Reply

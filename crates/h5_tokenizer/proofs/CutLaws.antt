@@ -8,7 +8,7 @@ use Rattle.h5_constructs.specs.Text.{reference, newline}
 use Rattle.h5_tokenizer.specs.declared.front.Mode.{Mode}
 use Rattle.h5_tokenizer.specs.declared.front.Mode.TheVariants.{Data, RawData, Plaintext, Cdata}
 use Rattle.h5_tokenizer.specs.Front.{Opening, Turns, says, stands_for, comment, doctype, end_tag, start_tag, null, Piece, Bit, Whole, Switch, finished, other, front, Place}
-use Rattle.h5_tokenizer.specs.Joins.{glue, join}
+use Rattle.h5_token.specs.Joins.{glue, join}
 use Rattle.h5_tokenizer.specs.Read.{Bits, no_bit, more_bits, Step, marked, unmarked, token_step, switch_step, text_step, Read, nothing_read, read_on, started, in_mode, next_place}
 use Rattle.h5_tokenizer.specs.Whole.{IsBlindToCuts, Readings, no_reading, more_reading, ReadsToEnd, closing, after_all}
 use Rattle.h5_tokenizer.specs.End.{settle}

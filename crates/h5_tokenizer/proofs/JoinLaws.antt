@@ -1,7 +1,7 @@
 -- Joins of neighbouring texts.
 use Rattle.std.proofs.Common.{◌≡◌, ℕ, List, [], ◌∷◌, ◌++◌, refl, sym, ap, ◌∙◌, append_assoc}
 use Rattle.h5_token.specs.TokenText.{TokenText, Characters}
-use Rattle.h5_tokenizer.specs.Joins.{glue, join}
+use Rattle.h5_token.specs.Joins.{glue, join}
 
 -- a list before another, with its texts joined
 abbrev onto : List TokenText → List TokenText → List TokenText

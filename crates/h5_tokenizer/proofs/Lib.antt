@@ -4,6 +4,7 @@ pub mod PlainLaws
 pub mod StepLaws
 pub mod FrontLeaves
 pub mod ReadLaws
+pub mod LineLaws
 pub mod RunLaws
 pub mod MarkLaws
 pub mod OutcomeLaws

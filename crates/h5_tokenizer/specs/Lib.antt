@@ -10,5 +10,4 @@ pub mod Options
 pub mod Logged
 pub mod Proper
 pub mod Lines
-pub mod Joins
 pub mod Whole

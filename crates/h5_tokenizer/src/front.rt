@@ -104,45 +104,43 @@ fn start_tag<'a>(text: &'a str) -> Seen<'a, Opening>
     }
 }
 
-fn data_text<'a>(text: &'a str) -> Seen<'a, Opening>
-    ensures { seen opening_of result
-        ≡ or_else (f.stands_for (t.reference text.now)) (or_else (f.stands_for (t.newline text.now)) (f.null text.now)) }
+fn declaration<'a>(foreign: bool, text: &'a str) -> Seen<'a, Opening>
+    ensures { seen opening_of result ≡ or_else (f.comment text.now) (or_else (f.doctype text.now) (f.cdata foreign text.now)) }
 {
-    match stands_for(reference(text)) {
-        Seen::No => match stands_for(newline(text)) {
-            Seen::No => says(Opening::Null, literal(text, "\0")),
+    match comment(text) {
+        Seen::No => match doctype(text) {
+            Seen::No => cdata(foreign, text),
             found => found,
         },
         found => found,
     }
 }
 
-fn tag_or_text<'a>(text: &'a str) -> Seen<'a, Opening>
+// What begins with `<`.
+fn markup<'a>(foreign: bool, text: &'a str) -> Seen<'a, Opening>
     ensures { seen opening_of result
-        ≡ or_else (f.end_tag text.now) (or_else (f.start_tag text.now)
-        (or_else (f.stands_for (t.reference text.now)) (or_else (f.stands_for (t.newline text.now)) (f.null text.now)))) }
+        ≡ or_else (f.comment text.now) (or_else (f.doctype text.now) (or_else (f.cdata foreign text.now)
+        (or_else (f.end_tag text.now) (f.start_tag text.now)))) }
 {
-    match end_tag(text) {
-        Seen::No => match start_tag(text) {
-            Seen::No => data_text(text),
-            found => found,
-        },
-        found => found,
+    match text.as_bytes() {
+        [] => Seen::Open,
+        [b'<'] => Seen::Open,
+        [b'<', b'/', ..] => end_tag(text),
+        [b'<', b'!', ..] => declaration(foreign, text),
+        _ => start_tag(text),
     }
 }
 
 fn in_data<'a>(foreign: bool, text: &'a str) -> Seen<'a, Opening>
     ensures { seen opening_of result ≡ f.in_data foreign text.now }
 {
-    match comment(text) {
-        Seen::No => match doctype(text) {
-            Seen::No => match cdata(foreign, text) {
-                Seen::No => tag_or_text(text),
-                found => found,
-            },
-            found => found,
-        },
-        found => found,
+    match text.as_bytes() {
+        [] => Seen::Open,
+        [b'<', ..] => markup(foreign, text),
+        [b'&', ..] => stands_for(reference(text)),
+        [b'\r', ..] => stands_for(newline(text)),
+        [0, ..] => says(Opening::Null, literal(text, "\0")),
+        _ => Seen::No,
     }
 }
 
@@ -172,18 +170,18 @@ fn reads_references(kind: RawKind) -> bool
 fn in_raw<'a>(kind: RawKind, last: &str, text: &'a str) -> Seen<'a, Opening>
     ensures { seen opening_of result ≡ f.in_raw kind last.now text.now }
 {
-    match raw_end_tag(last, text) {
-        Seen::No => stands_for(escape(reads_references(kind), text)),
-        found => found,
+    match text.as_bytes() {
+        [b'<', ..] => raw_end_tag(last, text),
+        _ => stands_for(escape(reads_references(kind), text)),
     }
 }
 
 fn in_cdata<'a>(text: &'a str) -> Seen<'a, Opening>
     ensures { seen opening_of result ≡ f.in_cdata text.now }
 {
-    match says(Opening::Turns(Mode::Data), literal(text, "]]>")) {
-        Seen::No => stands_for(cleaned(text)),
-        found => found,
+    match text.as_bytes() {
+        [b']', ..] => says(Opening::Turns(Mode::Data), literal(text, "]]>")),
+        _ => stands_for(cleaned(text)),
     }
 }
 

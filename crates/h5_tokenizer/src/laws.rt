@@ -34,7 +34,7 @@ pub fn readings_join<S: TokenSink>()
 
 ghost use Rattle.std.specs.Prelude.{[], Ok, false};
 ghost use Rattle.h5_tokenizer.specs.End.{Closes, refuses, settle};
-ghost use Rattle.h5_tokenizer.specs.Joins.{join};
+ghost use Rattle.h5_token.specs.Joins.{join};
 ghost use Rattle.h5_tokenizer.specs.Read.{IsUndecided};
 ghost use Rattle.h5_tokenizer.specs.Outcome.{Feeds};
 ghost use Rattle.h5_tokenizer.specs.ReaderText.{ReaderText};

@@ -1,5 +1,5 @@
 //! Steps, one after another.
-ghost use Rattle.std.specs.Prelude.{◌≡◌, ◌≤◌, ◌+◌, false, length, min, take};
+ghost use Rattle.std.specs.Prelude.{◌≡◌, ◌<◌, ◌≤◌, ◌+◌, ℕ, false, length, min, slice_index, take};
 ghost use Rattle.std.specs.String.{string_bytes};
 ghost use Rattle.h5_tokenizer.specs.Lines.{newlines};
 ghost use Rattle.h5_tokenizer.specs.Steps.{place_of, Pending, Runs, RunsFrom, Skips};
@@ -10,12 +10,14 @@ use h5_scan::{Seen, literal};
 use h5_token::{BuildFault, TokenSink};
 use std::alloc::Global;
 
-// How many newlines these bytes are: CR LF is one.
-fn newlines(bytes: &[u8]) -> u64
-    ensures { result ≡ newlines false bytes.now }
+// How many newlines a few bytes are, where a CR came before them or didn't: CR LF is one. There are few
+// enough of them that a byte counts them.
+fn few_newlines(bytes: &[u8], behind_cr: bool) -> u8
+    requires { length bytes.now < 256 }
+    ensures { result ≡ newlines behind_cr bytes.now }
 {
-    let mut count: u64 = 0;
-    let mut after_cr = false;
+    let mut count: u8 = 0;
+    let mut after_cr = behind_cr;
     for b in bytes {
         if *b == b'\r' || (*b == b'\n' && !after_cr) {
             count += 1;
@@ -23,6 +25,47 @@ fn newlines(bytes: &[u8]) -> u64
         after_cr = *b == b'\r';
     }
     count
+}
+
+// The index of the first byte that may be a newline, or the length where there is none.
+fn first_low(bytes: &[u8]) -> usize
+    ensures within { result ≤ length bytes.now }
+    ensures passed { (k : ℕ) → k < result → 13 < slice_index bytes.now k }
+{
+    for (i, b) in bytes.iter().enumerate() {
+        if *b <= b'\r' {
+            return i;
+        }
+    }
+    bytes.len()
+}
+
+// The same as `few_newlines`, for bytes that mostly have none.
+fn rare_newlines(bytes: &[u8], behind_cr: bool) -> u8
+    requires { length bytes.now < 256 }
+    ensures { result ≡ newlines behind_cr bytes.now }
+{
+    if behind_cr {
+        return few_newlines(bytes, true);
+    }
+    let (_, rest) = bytes.split_at(first_low(bytes));
+    few_newlines(rest, false)
+}
+
+// How many newlines these bytes are.
+fn newlines(bytes: &[u8]) -> u64
+    ensures { result ≡ newlines false bytes.now }
+{
+    let mut count: u64 = 0;
+    let mut after_cr = false;
+    let mut rest = bytes;
+    while rest.len() > 63 {
+        let (front, back) = rest.split_at(64);
+        count += few_newlines(front, after_cr) as u64;
+        after_cr = rest[63] == b'\r';
+        rest = back;
+    }
+    count + rare_newlines(rest, after_cr) as u64
 }
 
 /// The line behind the first bytes, of a text that begins in this line.

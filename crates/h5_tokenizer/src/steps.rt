@@ -2,7 +2,7 @@
 ghost use Rattle.std.specs.Prelude.{◌≡◌, ℕ, false, [], length, ◌<◌};
 ghost use Rattle.std.specs.String.{string_bytes};
 ghost use Rattle.h5_scan.specs.Matching as m;
-ghost use Rattle.h5_token.specs.TokenText.{token_text};
+ghost use Rattle.h5_token.specs.TokenText.{token_text, Characters};
 ghost use Rattle.h5_tokenizer.specs.Front as f;
 ghost use Rattle.h5_tokenizer.specs.Read.{chosen_mode};
 ghost use Rattle.h5_tokenizer.specs.Steps.{place_of, Asks, AnswersAs, HandsOn, Makes, Pending, TakesBits, turn_of};
@@ -13,7 +13,7 @@ use super::plain::{take_plain, take_texts};
 use super::state::{Search, State, Stop, Turn};
 use super::tokens::make_token;
 use h5_scan::{Inside, Seen, Sought, seek_end};
-use h5_token::{BuildFault, Tag, TagKind, Token, TokenSink, TokenSinkResult};
+use h5_token::{BuildFault, TagKind, Token, TokenSink, TokenSinkResult};
 use std::alloc::Global;
 
 fn chosen_mode<H>(answer: &TokenSinkResult<H>) -> Mode
@@ -47,31 +47,6 @@ pub fn ask<S: TokenSink>(
     sink.process_token(token, line)
 }
 
-fn hand_on_tag<S: TokenSink>(
-    sink: &mut S,
-    state: &mut State,
-    tag: Tag,
-    line: u64,
-) -> Result<Option<Stop<S::Handle>>, BuildFault>
-    ensures { HandsOn S.reply_to S.after S.node (place_of state.old) (S.meaning sink.old) (token_text (Token.TagToken tag))
-        (place_of state.new) (S.meaning sink.new) result }
-{
-    match tag.kind {
-        TagKind::StartTag => {
-            state.last.clear();
-            state.last.push_str(tag.name.as_str())?;
-            let answer = ask(sink, Token::TagToken(tag), line)?;
-            state.mode = chosen_mode(&answer);
-            Ok(stop_of(answer))
-        }
-        TagKind::EndTag => {
-            let answer = ask(sink, Token::TagToken(tag), line)?;
-            state.mode = Mode::Data;
-            Ok(stop_of(answer))
-        }
-    }
-}
-
 // Hands a token on, and goes where it and the answer lead.
 fn hand_on<S: TokenSink>(
     sink: &mut S,
@@ -82,13 +57,39 @@ fn hand_on<S: TokenSink>(
     ensures { HandsOn S.reply_to S.after S.node (place_of state.old) (S.meaning sink.old) (token_text token)
         (place_of state.new) (S.meaning sink.new) result }
 {
-    match token {
-        Token::TagToken(tag) => hand_on_tag(sink, state, tag, line),
-        token => {
+    match &token {
+        Token::TagToken(tag) => match tag.kind {
+            TagKind::StartTag => {
+                state.last.clear();
+                state.last.push_str(tag.name.as_str())?;
+                let answer = ask(sink, token, line)?;
+                state.mode = chosen_mode(&answer);
+                Ok(stop_of(answer))
+            }
+            TagKind::EndTag => {
+                let answer = ask(sink, token, line)?;
+                state.mode = Mode::Data;
+                Ok(stop_of(answer))
+            }
+        },
+        _ => {
             let answer = ask(sink, token, line)?;
             Ok(stop_of(answer))
         }
     }
+}
+
+// Hands a text on, which leads nowhere else.
+fn hand_on_text<S: TokenSink>(
+    sink: &mut S,
+    text: String,
+    line: u64,
+) -> Result<Option<Stop<S::Handle>>, BuildFault>
+    ensures { (p : f.Place) → HandsOn S.reply_to S.after S.node p (S.meaning sink.old) (Characters (string_bytes text))
+        p (S.meaning sink.new) result }
+{
+    let answer = ask(sink, Token::CharacterTokens(text), line)?;
+    Ok(stop_of(answer))
 }
 
 fn turn<'a, H: Drop>(stopped: Option<Stop<H>>, rest: &'a str) -> Turn<'a, H>
@@ -141,7 +142,7 @@ fn text_step<'a, S: TokenSink>(
 {
     let _rest = rest;
     let end = take_texts(state.mode, state.last.as_str(), after, &mut text)?;
-    let stopped = hand_on(sink, state, Token::CharacterTokens(text), line)?;
+    let stopped = hand_on_text(sink, text, line)?;
     Ok(turn(stopped, end))
 }
 
@@ -221,13 +222,13 @@ pub fn step<'a, S: TokenSink>(
     ensures { Makes S.reply_to S.after S.is_foreign S.node (place_of state.old) (S.meaning sink.old) rest.now
         (place_of state.new) (S.meaning sink.new) result }
 {
+    if rest.is_empty() {
+        return Ok(Turn::Waits(None));
+    }
     let foreign = sink.adjusted_current_node_present_but_not_in_html_namespace();
     match find_opening(state.mode, state.last.as_str(), foreign, rest) {
         Seen::Open => Ok(Turn::Waits(None)),
         Seen::No => {
-            if rest.is_empty() {
-                return Ok(Turn::Waits(None));
-            }
             let mut text = String::new(alloc);
             let after = take_plain(rest, &mut text)?;
             text_step(sink, state, rest, after, text, line)

@@ -13,7 +13,7 @@ use Rattle.h5_meaning.specs.Run.{doctype_in, quiet_or_refused, reply_or_refusal,
 use Rattle.h5_meaning.specs.Sound.{Stands}
 use Rattle.h5_meaning.specs.World.{World, names_of}
 use Rattle.h5_meaning.proofs.TurnLaws.{turns_few}
-use Rattle.h5_plain.proofs.GoesLaws.{is_taken, moved}
+use Rattle.h5_meaning.proofs.RunLaws.{is_taken, moved}
 use Rattle.h5_tree_builder.specs.Builder.{Answered, Building, IsKept, first_building}
 use Rattle.h5_tree_builder.specs.Chains.{Steps}
 

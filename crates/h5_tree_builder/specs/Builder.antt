@@ -15,7 +15,8 @@ use Rattle.h5_types.specs.Options.{default_options}
 use Rattle.h5_types.specs.declared.modes.InsertionMode.TheVariants.{Initial}
 use Rattle.h5_types.specs.declared.options.TreeBuilderOpts.{TreeBuilderOpts}
 use Rattle.h5_meaning.specs.Changes.{pop}
-use Rattle.h5_meaning.specs.Cuts.{join, spread}
+use Rattle.h5_token.specs.Joins.{join}
+use Rattle.h5_meaning.specs.Cuts.{spread}
 use Rattle.h5_meaning.specs.Run.{View, after_all, after_token, all_quiet, is_quiet, refusal, replies, reply_to, step}
 use Rattle.h5_meaning.specs.Sound.{Fits, Sound}
 use Rattle.h5_meaning.specs.World.{World, names_of}

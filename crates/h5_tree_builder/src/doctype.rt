@@ -68,6 +68,42 @@ fn append_doctype<S: TreeSink>(
     )
 }
 
+// What is said of a bad doctype where exact messages are asked for. Nothing, where they aren't or memory is
+// refused.
+fn exact_bad<H>(state: &State<H>, doctype: &Doctype) -> Option<String> {
+    if !state.opts.exact_errors {
+        return None;
+    }
+    format!(in state.alloc; "Bad DOCTYPE: {doctype:?}").ok()
+}
+
+fn tell_bad<S: TreeSink>(sink: &mut S, state: &State<S::Handle>, doctype: &Doctype)
+    ensures { world S.sees S.node sink.new state.now ≡ world S.sees S.node sink.old state.now }
+{
+    match exact_bad(state, doctype) {
+        Some(message) => tell_error(sink, state, message.as_str()),
+        None => tell_error(sink, state, "Bad DOCTYPE"),
+    }
+}
+
+// The same of a doctype that comes too late.
+fn exact_late<H>(state: &State<H>) -> Option<String> {
+    if !state.opts.exact_errors {
+        return None;
+    }
+    let mode = state.mode;
+    format!(in state.alloc; "DOCTYPE in insertion mode {mode:?}").ok()
+}
+
+fn tell_late<S: TreeSink>(sink: &mut S, state: &State<S::Handle>)
+    ensures { world S.sees S.node sink.new state.now ≡ world S.sees S.node sink.old state.now }
+{
+    match exact_late(state) {
+        Some(message) => tell_error(sink, state, message.as_str()),
+        None => tell_error(sink, state, "DOCTYPE in body"),
+    }
+}
+
 // A doctype at the start goes into the document and chooses the quirks mode.
 #[tactic(auto, unfolding(h5_meaning::specs::Run::judged))]
 fn judge_doctype<S: TreeSink>(
@@ -80,14 +116,14 @@ fn judge_doctype<S: TreeSink>(
     ensures quiet { OnOk result (is_good_doctype (doctype_text doctype) ≡ true → (S.sees sink.new).errors ≡ (S.sees sink.old).errors) }
     ensures sound { Sound (world S.sees S.node sink.new state.new) }
 {
-    let good = is_good(&doctype);
-    append_doctype(sink, state, doctype)?;
-    if good {
+    if is_good(&doctype) {
+        append_doctype(sink, state, doctype)?;
         set_quirks_mode(sink, state, QuirksMode::NoQuirks);
         set_mode(sink, state, InsertionMode::BeforeHtml);
         Ok(())
     } else {
-        tell_error(sink, state, "bad doctype");
+        tell_bad(sink, state, &doctype);
+        append_doctype(sink, state, doctype)?;
         set_quirks_mode(sink, state, QuirksMode::Quirks);
         set_mode(sink, state, InsertionMode::BeforeHtml);
         Ok(())
@@ -113,7 +149,7 @@ pub fn take_doctype<S: TreeSink>(
             Ok(0)
         }
         _ => {
-            tell_error(sink, state, "unexpected doctype");
+            tell_late(sink, state);
             Ok(0)
         }
     }

@@ -2,7 +2,7 @@
 use h5_arena::{Arena, Child, NodeId};
 use h5_interface::QuirksMode;
 use h5_names::LocalName;
-use h5_token::{Tag, TagKind, Token, TokenSink, TokenSinkResult};
+use h5_token::{Doctype, Tag, TagKind, Token, TokenSink, TokenSinkResult};
 use h5_tree_builder::{Reply, TreeBuilder};
 use h5_types::TreeBuilderOpts;
 use std::alloc::{AllocError, Global};
@@ -80,5 +80,60 @@ fn a_builder_takes_tokens_as_any_sink_of_them(rt: HostRuntime) -> Result<(), Fai
     assert!(rt; !TokenSink::adjusted_current_node_present_but_not_in_html_namespace(&builder));
     TokenSink::end(&mut builder);
     assert!(rt; TokenSink::process_token(&mut builder, Token::EOFToken, 1).is_err());
+    Ok(())
+}
+
+fn end(alloc: Global, name: &str) -> Result<Token, AllocError> {
+    Ok(Token::TagToken(Tag {
+        kind: TagKind::EndTag,
+        name: LocalName::new(alloc, name)?,
+        self_closing: false,
+        attrs: Vec::new(alloc),
+        had_duplicate_attributes: false,
+    }))
+}
+
+fn doctype(alloc: Global, name: &str) -> Result<Token, AllocError> {
+    Ok(Token::DoctypeToken(Doctype {
+        name: Some(String::from_str(alloc, name)?),
+        public_id: None,
+        system_id: None,
+        force_quirks: false,
+    }))
+}
+
+// The errors of an end tag that comes first, and of a doctype behind it.
+fn errors_of(alloc: Global, opts: TreeBuilderOpts) -> Result<Vec<String>, Fail> {
+    let mut builder: ArenaBuilder = TreeBuilder::new(alloc, Arena::new(alloc)?, opts);
+    builder.process_token(end(alloc, "b")?, 1)?;
+    builder.process_token(doctype(alloc, "x")?, 1)?;
+    let mut errors = Vec::new(alloc);
+    for error in builder.sink.errors() {
+        errors.push(error.clone()?)?;
+    }
+    Ok(errors)
+}
+
+#[test]
+fn exact_errors_name_the_token_and_the_mode(rt: HostRuntime) -> Result<(), Fail> {
+    let alloc = rt.alloc();
+    let mut opts = TreeBuilderOpts::default();
+    let plain = ["Unexpected token", "Unexpected token", "DOCTYPE in body"];
+    let errors = errors_of(alloc, opts)?;
+    assert_eq!(rt; errors.len(), plain.len());
+    for (error, text) in errors.iter().zip(plain) {
+        assert_eq!(rt; error.as_str(), text);
+    }
+    opts.exact_errors = true;
+    let exact = [
+        "Unexpected token </b> in insertion mode Initial",
+        "Unexpected token </b> in insertion mode BeforeHtml",
+        "DOCTYPE in insertion mode BeforeHtml",
+    ];
+    let errors = errors_of(alloc, opts)?;
+    assert_eq!(rt; errors.len(), exact.len());
+    for (error, text) in errors.iter().zip(exact) {
+        assert_eq!(rt; error.as_str(), text);
+    }
     Ok(())
 }

@@ -43,6 +43,32 @@ fn pieces_make_the_tree_of_the_whole_text(rt: HostRuntime) -> Result<(), Fail> {
     Ok(())
 }
 
+// How many parse errors a text has.
+fn errors_in(alloc: Global, text: &str) -> Result<usize, Fail> {
+    let arena = new_parser(alloc)?.one(text)?;
+    Ok(arena.errors().len())
+}
+
+#[test]
+fn what_is_open_where_the_body_ends_may_be_an_error(rt: HostRuntime) -> Result<(), Fail> {
+    let alloc = rt.alloc();
+    for text in [
+        "<!DOCTYPE html><p>",
+        "<!DOCTYPE html><ul></ul><li>",
+        "<!DOCTYPE html><div></div></body>",
+    ] {
+        assert_eq!(rt; errors_in(alloc, text)?, 0);
+    }
+    for text in [
+        "<!DOCTYPE html><div>",
+        "<!DOCTYPE html><ul><li></body>",
+        "<!DOCTYPE html><b></html>",
+    ] {
+        assert_eq!(rt; errors_in(alloc, text)?, 1);
+    }
+    Ok(())
+}
+
 #[test]
 fn options_are_cloned(rt: HostRuntime) -> Result<(), Fail> {
     let opts = ParseOpts::default().clone()?;

@@ -5,14 +5,14 @@ use Rattle.h5_scan.proofs.cut.cut_at.Goals as goal
 
 pub returns-clause-front : goal.returns-clause-front
 returns-clause-front c =
-    let at = c.first_index-n.ensures in
+    let at = c.first_inside-n.ensures in
     let same = c.as_bytes.ensures.value in
-    c.split_at.ensures.front ∙ sym (before_take (is_in c.args.class) c.args.text.now c.first_index-n.result (omega (arith, at.within, c.as_bytes.ensures.len))
+    c.split_at.ensures.front ∙ sym (before_take (is_in c.args.class) c.args.text.now c.first_inside-n.result (omega (arith, at.within, c.as_bytes.ensures.len))
     (rw same at at.passed) (rw same at at.stops))
 
 pub returns-clause-back : goal.returns-clause-back
 returns-clause-back c =
-    let at = c.first_index-n.ensures in
+    let at = c.first_inside-n.ensures in
     let same = c.as_bytes.ensures.value in
-    c.split_at.ensures.back ∙ sym (from_drop (is_in c.args.class) c.args.text.now c.first_index-n.result (omega (arith, at.within, c.as_bytes.ensures.len))
+    c.split_at.ensures.back ∙ sym (from_drop (is_in c.args.class) c.args.text.now c.first_inside-n.result (omega (arith, at.within, c.as_bytes.ensures.len))
     (rw same at at.passed) (rw same at at.stops))

@@ -1,11 +1,10 @@
-use Rattle.std.proofs.Common.{◌≡◌, ◌<◌, length, map, reverse, Some, ap, sym, ◌∙◌, arith, refl}
+use Rattle.std.proofs.Common.{map, reverse, ap, sym, ◌∙◌, arith, refl}
 use Rattle.h5_names.specs.AttributeText.{attribute_texts}
 use Rattle.h5_interface.specs.Changes.{add_missing_attributes}
 use Rattle.h5_interface.specs.Seen.{changed}
 use Rattle.h5_meaning.specs.Changes.{add_attributes_to_root, with_forest}
-use Rattle.h5_meaning.specs.World.{World}
 use Rattle.h5_state.specs.View.{world}
-use Rattle.h5_state.proofs.AttributeLaws.{on_ok, open_length, root_at, second_at, second_missing, stands_added}
+use Rattle.h5_state.proofs.AttributeLaws.{on_ok, open_length, root_at, stands_added}
 use Rattle.h5_state.proofs.BelowLaws.{same_world}
 use Rattle.h5_state.proofs.StackLaws.{element_at}
 use Rattle.h5_state.proofs.attributes.add_attrs_to_html.Goals as goal

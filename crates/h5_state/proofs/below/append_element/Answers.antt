@@ -1,4 +1,4 @@
-use Rattle.std.proofs.Common.{◌≡◌, sym, ◌∙◌, rules}
+use Rattle.std.proofs.Common.{◌≡◌, ◌∙◌, rules}
 use Rattle.h5_names.specs.AttributeText.{attribute_texts}
 use Rattle.h5_interface.specs.NewElement.{flags_of}
 use Rattle.h5_interface.specs.Seen.{changed, make_element}

@@ -1,12 +1,12 @@
-use Rattle.std.proofs.Common.{◌≡◌, ◌∷◌, reverse, map, ap, sym, subst, ◌∙◌}
+use Rattle.std.proofs.Common.{◌∷◌, reverse, map, ap, sym, subst, ◌∙◌}
 use Rattle.h5_names.specs.AttributeText.{attribute_texts}
 use Rattle.h5_interface.specs.Seen.{changed}
 use Rattle.h5_meaning.specs.Sound.{Stands}
-use Rattle.h5_meaning.specs.World.{html_name, place}
-use Rattle.h5_meaning.proofs.SoundLaws.{place_is_node, stands_inserted, stands_rearranged}
+use Rattle.h5_meaning.specs.World.{html_name}
+use Rattle.h5_meaning.proofs.SoundLaws.{stands_inserted, stands_rearranged}
 use Rattle.h5_state.specs.Below.{element_below}
 use Rattle.h5_state.specs.View.{world}
-use Rattle.h5_state.proofs.BelowLaws.{is_place, same_stands, same_world}
+use Rattle.h5_state.proofs.BelowLaws.{same_stands, same_world}
 use Rattle.h5_state.proofs.StackLaws.{seen_pushed}
 use Rattle.h5_state.proofs.insert.insert_below.Goals as goal
 
@@ -29,7 +29,7 @@ returns-clause-done g c =
     let attrs = attribute_texts c.args.attrs.items in
     let flag = c.args.had_duplicate_attributes in
     let p = node c.args.parent.now in
-    same_world w (g.S.TreeSink.sees c.append_element.new.sink) (changed (element_below g.S.TreeSink.rules p (html_name c.args.local.now) attrs flag) seen) _ _
+    same_world w (g.S.TreeSink.sees c.append_element.new.sink) (changed (element_below g.S.TreeSink.rules p (html_name c.args.local) attrs flag) seen) _ _
     (c.in_ok-element.ensures.done ∙ ap (λ name. changed (element_below g.S.TreeSink.rules p name attrs flag) seen) c.in_ok-name.ensures)
     (seen_pushed node _ _ c.in_ok-element.element c.in_ok-push.ensures.items ∙ ap (λ n. n ∷ reverse (map node c.args.state.now.open_elems.items)) c.in_ok-element.ensures.handle)
 

@@ -1,7 +1,7 @@
 use Rattle.std.proofs.Common.{ap, sym, subst, ◌∙◌}
 use Rattle.h5_meaning.specs.Changes.{cut_at_named}
 use Rattle.h5_meaning.specs.Sound.{Sound}
-use Rattle.h5_meaning.specs.World.{World, names_of}
+use Rattle.h5_meaning.specs.World.{names_of}
 use Rattle.h5_tag_sets.specs.TagSets.{is_html_named}
 use Rattle.h5_meaning.proofs.PopLaws.{stands_cut}
 use Rattle.h5_state.specs.View.{with_stack, world}

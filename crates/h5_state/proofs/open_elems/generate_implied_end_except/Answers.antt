@@ -1,4 +1,4 @@
-use Rattle.std.proofs.Common.{◌≡◌, ◌<◌, length, sym, subst, ◌∙◌, ap, rules}
+use Rattle.std.proofs.Common.{◌<◌, length, sym, subst, ◌∙◌, ap}
 use Rattle.h5_meaning.specs.Changes.{implied_ends_except}
 use Rattle.h5_meaning.specs.World.{World}
 use Rattle.h5_meaning.proofs.PopLaws.{first_is_open, implied_none, implied_step, pop_shorter}

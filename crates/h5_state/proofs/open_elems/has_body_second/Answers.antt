@@ -1,4 +1,4 @@
-use Rattle.std.proofs.Common.{◌≡◌, ap, codes, map, sym, ◌∙◌, arith}
+use Rattle.std.proofs.Common.{ap, codes, map, sym, ◌∙◌, arith}
 use Rattle.std.proofs.lemmas.List.{length-map, length-reverse}
 use Rattle.h5_tag_sets.specs.TagSets.{is_html_named}
 use Rattle.h5_meaning.specs.World.{names_of}

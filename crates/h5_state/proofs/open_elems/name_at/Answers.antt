@@ -1,5 +1,4 @@
-use Rattle.std.proofs.Common.{◌≡◌, ◌∷◌, ap, sym, ◌∙◌}
-use Rattle.h5_state.specs.View.{names_under, stack_under, world}
+use Rattle.h5_state.specs.View.{world}
 use Rattle.h5_state.proofs.StackLaws.{element_at}
 use Rattle.h5_state.proofs.open_elems.name_at.Goals as goal
 

@@ -1,0 +1,86 @@
+//! Parse errors (HTML standard, section 13.2.2, "Parse errors"). What a message says is no part of a contract.
+ghost use Rattle.std.specs.Prelude.{◌≡◌};
+ghost use Rattle.h5_state.specs.View.{world};
+
+use super::state::State;
+use h5_interface::TreeSink;
+use h5_token::{Tag, TagKind};
+use h5_types::Token;
+use std::alloc::AllocError;
+
+/// Tells the sink of a parse error. Nothing else changes.
+#[tactic(auto, unfolding(crate::specs::View::world))]
+pub fn tell_error<S: TreeSink>(sink: &mut S, state: &State<S::Handle>, message: &str)
+    ensures { world S.sees S.node sink.new state.now ≡ world S.sees S.node sink.old state.now }
+{
+    sink.parse_error(message);
+}
+
+fn write_tag(out: &mut String, tag: &Tag) -> Result<(), AllocError> {
+    let name = tag.name.as_str();
+    match tag.kind {
+        TagKind::StartTag => write!(out, "<{name}>"),
+        TagKind::EndTag => write!(out, "</{name}>"),
+    }
+}
+
+fn write_token(out: &mut String, token: &Token) -> Result<(), AllocError> {
+    match token {
+        Token::Tag(tag) => write_tag(out, tag),
+        Token::Comment(text) => write!(out, "<!--{text}-->"),
+        Token::Characters(_, text) => write!(out, "{text:?}"),
+        Token::NullCharacter => out.push_str("NUL"),
+        Token::Eof => out.push_str("EOF"),
+    }
+}
+
+// The front of an exact message. Nothing, where exact messages aren't asked for, or memory is refused.
+fn begin_exact<H>(state: &State<H>) -> Option<String> {
+    if !state.opts.exact_errors {
+        return None;
+    }
+    let mut out = String::new(state.alloc);
+    out.push_str("Unexpected token ").ok()?;
+    Some(out)
+}
+
+// The end of one.
+fn end_exact<H>(state: &State<H>, message: String) -> Option<String> {
+    let mode = state.mode;
+    let mut out = message;
+    write!(out, " in insertion mode {mode:?}").ok()?;
+    Some(out)
+}
+
+fn exact_tag<H>(state: &State<H>, tag: &Tag) -> Option<String> {
+    let mut out = begin_exact(state)?;
+    write_tag(&mut out, tag).ok()?;
+    end_exact(state, out)
+}
+
+fn exact_token<H>(state: &State<H>, token: &Token) -> Option<String> {
+    let mut out = begin_exact(state)?;
+    write_token(&mut out, token).ok()?;
+    end_exact(state, out)
+}
+
+/// Tells the sink that a tag wasn't expected; with `exact_errors`, which tag, and in which insertion mode, unless
+/// memory is refused for the message. Nothing else changes.
+pub fn unexpected_tag<S: TreeSink>(sink: &mut S, state: &State<S::Handle>, tag: &Tag)
+    ensures { world S.sees S.node sink.new state.now ≡ world S.sees S.node sink.old state.now }
+{
+    match exact_tag(state, tag) {
+        Some(message) => tell_error(sink, state, message.as_str()),
+        None => tell_error(sink, state, "Unexpected token"),
+    }
+}
+
+/// The same of any token.
+pub fn unexpected<S: TreeSink>(sink: &mut S, state: &State<S::Handle>, token: &Token)
+    ensures { world S.sees S.node sink.new state.now ≡ world S.sees S.node sink.old state.now }
+{
+    match exact_token(state, token) {
+        Some(message) => tell_error(sink, state, message.as_str()),
+        None => tell_error(sink, state, "Unexpected token"),
+    }
+}

@@ -1,0 +1,45 @@
+-- Newlines, counted in parts.
+use Rattle.std.proofs.Common.{◌≡◌, ℕ, zero, suc, ◌<◌, ◌≤◌, ◌+◌, Bool, true, false, not, ◌&&◌, List, [], ◌∷◌, cond, eqb, length, take, drop, get_or, refl, arith}
+use Rattle.std.proofs.lemmas.Bool.{eqb-true}
+use Rattle.h5_tokenizer.specs.Lines.{newlines}
+
+few_by : (a b : Bool) (n m k l : ℕ) → n ≤ k → m ≤ k → l ≤ k → cond a (1 + n) (cond b (1 + m) l) ≤ suc k
+few_by true b n m k l h i j = omega arith
+few_by false true n m k l h i j = omega arith
+few_by false false n m k l h i j = omega arith
+
+-- there are no more newlines than bytes
+pub few : (after_cr : Bool) (xs : List ℕ) → newlines after_cr xs ≤ length xs
+few after_cr [] = omega arith
+few after_cr (x ∷ xs) = few_by (eqb x 13) (eqb x 10 && not after_cr) (newlines true xs) (newlines false xs) (length xs) (newlines false xs) (few true xs) (few false xs) (few false xs)
+
+one_by : (a b : Bool) (n n' m m' r : ℕ) → n ≡ n' + r → m ≡ m' + r → cond a (1 + n) (cond b (1 + m) m) ≡ cond a (1 + n') (cond b (1 + m') m') + r
+one_by true b n n' m m' r h i = omega arith
+one_by false true n n' m m' r h i = omega arith
+one_by false false n n' m m' r h i = i
+
+none_by : (a b : Bool) (r : ℕ → ℕ) (f : Bool → ℕ) → cond a (1 + f true) (cond b (1 + f false) (f false)) ≡ cond a 1 (cond b 1 0) + f a
+none_by true b r f = refl
+none_by false true r f = refl
+none_by false false r f = omega arith
+
+-- those up to a byte, and those behind it
+pub in_parts : (after_cr : Bool) (xs : List ℕ) (n : ℕ) → n < length xs → newlines after_cr xs ≡ newlines after_cr (take (suc n) xs) + newlines (eqb (get_or xs n 0) 13) (drop (suc n) xs)
+in_parts after_cr [] n lt = absurd (omega arith)
+in_parts after_cr (x ∷ xs) zero lt = none_by (eqb x 13) (eqb x 10 && not after_cr) (λ n. n) (λ b. newlines b xs)
+in_parts after_cr (x ∷ xs) (suc n) lt =
+    one_by (eqb x 13) (eqb x 10 && not after_cr) (newlines true xs) (newlines true (take (suc n) xs)) (newlines false xs) (newlines false (take (suc n) xs)) (newlines (eqb (get_or xs n 0) 13) (drop (suc n) xs))
+    (in_parts true xs n (omega arith)) (in_parts false xs n (omega arith))
+
+high_by : (x : ℕ) (a b : Bool) → eqb x 13 ≡ a → eqb x 10 ≡ b → 13 < x → (a ≡ false) × (b ≡ false)
+high_by x true b e f h = let same : x ≡ 13 = eqb-true x 13 e in absurd (omega arith)
+high_by x false true e f h = let same : x ≡ 10 = eqb-true x 10 f in absurd (omega arith)
+high_by x false false e f h = (refl, refl)
+
+-- bytes that are none may be passed, where no CR came before them
+pub passed : (xs : List ℕ) (n : ℕ) → ((k : ℕ) → k < n → 13 < get_or xs k 0) → newlines false xs ≡ newlines false (drop n xs)
+passed xs zero h = refl
+passed [] (suc n) h = refl
+passed (x ∷ xs) (suc n) h =
+    let none = high_by x (eqb x 13) (eqb x 10) refl refl (h 0 (omega arith)) in
+    rw (none.0, none.1) (passed xs n (λ k lt. h (suc k) (omega arith)))
