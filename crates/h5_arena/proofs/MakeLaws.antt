@@ -8,13 +8,13 @@ use Prim.Native.Nat.{zero, suc}
 use Rattle.h5_interface.specs.Changes.{add_node, host}
 use Rattle.h5_interface.specs.Forest.{Forest, FragmentNode, Node}
 use Rattle.h5_interface.specs.Seen.{element, make, make_contents, make_element, plain, with_contents}
-use Rattle.h5_interface.specs.SinkRules.{SinkRules}
+use Rattle.h5_interface.specs.SinkChoices.{SinkChoices}
 use Rattle.h5_interface.specs.declared.marks.ElementFlags.{ElementFlags}
 use Rattle.h5_names.specs.declared.qualified.QualName.{QualName}
 use Rattle.h5_names.specs.AttributeText.{AttributeText}
 use Rattle.h5_interface.proofs.ForestLaws.{same_forest}
 use Rattle.h5_arena.specs.declared.nodes.NodeData.{NodeData}
-use Rattle.h5_arena.specs.ArenaModel.{arena_rules, forest_in, forest_of, node_view, node_views}
+use Rattle.h5_arena.specs.ArenaModel.{arena_choices, forest_in, forest_of, node_view, node_views}
 
 get-push : (xs : List Node) (v : Node) (m : ℕ) → slice_get (xs ++ v ∷ []) m ≡ cond (m == length xs) (Some v) (slice_get xs m)
 get-push [] v zero = refl
@@ -29,7 +29,7 @@ pub views_pushed : (ns : List NodeData) (d : NodeData) → node_views (ns ++ d �
 views_pushed ns d = map-append node_view ns (d ∷ [])
 
 -- a node at the end of the vector is the node that is made next
-pub push_is : (ns : List NodeData) (d : NodeData) (v : Node) → node_view d ≡ v → forest_in (ns ++ d ∷ []) ≡ make arena_rules v (forest_in ns)
+pub push_is : (ns : List NodeData) (d : NodeData) (v : Node) → node_view d ≡ v → forest_in (ns ++ d ∷ []) ≡ make arena_choices v (forest_in ns)
 push_is ns d v e = ap forest_of (views_pushed ns d ∙ ap (λ x. node_views ns ++ x ∷ []) e) ∙ pushed (node_views ns) v
 
 take-front : (xs : List Node) (v : Node) (k : ℕ) → k ≡ length xs → take k (xs ++ v ∷ []) ≡ xs
@@ -69,13 +69,13 @@ template_forest : (f : Forest) (bound n : ℕ) (v : Node) → bound ≡ n
 template_forest f bound n v e = let next : max n (n + 1) ≡ n + 1 = omega arith in rw (e, next) (hosted f n (n + 1) v refl)
 
 pub template_is : (ns : List NodeData) (t c : NodeData) (v : Node) (n : ℕ) → n ≡ length ns → node_view t ≡ record v { contents = Some (n + 1) } → node_view c ≡ record (plain FragmentNode) { parent = Some n }
-    → forest_in ((ns ++ t ∷ []) ++ c ∷ []) ≡ make_contents arena_rules n (make arena_rules v (forest_in ns))
+    → forest_in ((ns ++ t ∷ []) ++ c ∷ []) ≡ make_contents arena_choices n (make arena_choices v (forest_in ns))
 template_is ns t c v n e wt wc =
     let len : length (node_views ns) ≡ n = length-map ns node_view ∙ sym e in
     push_is (ns ++ t ∷ []) c (record (plain FragmentNode) { parent = Some n }) wc
-    ∙ ap (make arena_rules (record (plain FragmentNode) { parent = Some n })) (push_is ns t (record v { contents = Some (n + 1) }) wt)
+    ∙ ap (make arena_choices (record (plain FragmentNode) { parent = Some n })) (push_is ns t (record v { contents = Some (n + 1) }) wt)
     ∙ template_forest (forest_in ns) (length (node_views ns)) n v len
 
 -- an element that is no template is made alone
-pub made_alone : (rules : SinkRules) (name : QualName) (attrs : List AttributeText) (flags : ElementFlags) (f g : Forest) → flags.template ≡ false → g ≡ make rules (element name attrs flags) f → g ≡ make_element rules name attrs flags f
-made_alone rules name attrs flags f g w e = e ∙ sym (ap (λ b. with_contents b rules (rules.fresh f) (make rules (element name attrs flags) f)) w)
+pub made_alone : (choices : SinkChoices) (name : QualName) (attrs : List AttributeText) (flags : ElementFlags) (f g : Forest) → flags.template ≡ false → g ≡ make choices (element name attrs flags) f → g ≡ make_element choices name attrs flags f
+made_alone choices name attrs flags f g w e = e ∙ sym (ap (λ b. with_contents b choices (choices.fresh f) (make choices (element name attrs flags) f)) w)

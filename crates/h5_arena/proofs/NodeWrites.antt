@@ -16,7 +16,7 @@ use Rattle.h5_interface.specs.Seen.{Seen}
 use Rattle.h5_interface.specs.declared.marks.QuirksMode.{QuirksMode}
 use Rattle.h5_names.specs.AttributeText.{AttributeText}
 use Rattle.h5_arena.specs.declared.nodes.NodeData.{NodeData}
-use Rattle.h5_arena.specs.ArenaModel.{ArenaView, arena_rules, at_node, child_views, forest_in, forest_of, marks_at, name_of_kind, node_view, node_views, optional_place}
+use Rattle.h5_arena.specs.ArenaModel.{ArenaView, arena_choices, at_node, child_views, forest_in, forest_of, marks_at, name_of_kind, node_view, node_views, optional_place}
 use Rattle.h5_arena.specs.declared.nodes.NodeId.{NodeId}
 use Rattle.h5_names.specs.declared.qualified.QualName.{QualName}
 
@@ -86,9 +86,9 @@ attrs_write ns i d d1 more there e w =
     (λ m v g z. ap (λ b. record v { attrs = cond b (with_missing more v.attrs) v.attrs }) z)
 
 pub started_write : (ns : List NodeData) (i : ℕ) (d d1 : NodeData) → i < length ns → d ≡ get_or ns i d → node_view d1 ≡ record (node_view d) { marks = record (node_view d).marks { started = true } }
-    → forest_in (set ns i d1) ≡ mark (arena_rules.marks_after_started (forest_in ns) i) (forest_in ns)
+    → forest_in (set ns i d1) ≡ mark (arena_choices.marks_after_started (forest_in ns) i) (forest_in ns)
 started_write ns i d d1 there e w =
-    node_write ns i d d1 (λ m v. record v { marks = arena_rules.marks_after_started (forest_in ns) i m }) there e
+    node_write ns i d d1 (λ m v. record v { marks = arena_choices.marks_after_started (forest_in ns) i m }) there e
     (w ∙ sym (ap (λ x. record (node_view d) { marks = record x { started = cond (i == i) true x.started } }) (at_marks i (node_view d) (node_at ns i d there e)) ∙ ap (λ b. record (node_view d) { marks = record (node_view d).marks { started = cond b true (node_view d).marks.started } }) (eq-eqb i i refl)))
     (λ m v g z. ap (λ x. record v { marks = record x { started = cond (m == i) true x.started } }) (at_marks m v g) ∙ ap (λ b. record v { marks = record v.marks { started = cond b true v.marks.started } }) z)
   where
@@ -96,9 +96,9 @@ started_write ns i d d1 there e w =
     at_marks m v g = rw g refl
 
 pub form_write : (ns : List NodeData) (i form place : ℕ) (outer : Option ℕ) (d d1 : NodeData) → i < length ns → d ≡ get_or ns i d → node_view d1 ≡ record (node_view d) { marks = record (node_view d).marks { form = Some form } }
-    → forest_in (set ns i d1) ≡ mark (arena_rules.marks_after_associate (forest_in ns) i form place outer) (forest_in ns)
+    → forest_in (set ns i d1) ≡ mark (arena_choices.marks_after_associate (forest_in ns) i form place outer) (forest_in ns)
 form_write ns i form place outer d d1 there e w =
-    node_write ns i d d1 (λ m v. record v { marks = arena_rules.marks_after_associate (forest_in ns) i form place outer m }) there e
+    node_write ns i d d1 (λ m v. record v { marks = arena_choices.marks_after_associate (forest_in ns) i form place outer m }) there e
     (w ∙ sym (ap (λ x. record (node_view d) { marks = record x { form = cond (i == i) (Some form) x.form } }) (at_marks i (node_view d) (node_at ns i d there e)) ∙ ap (λ b. record (node_view d) { marks = record (node_view d).marks { form = cond b (Some form) (node_view d).marks.form } }) (eq-eqb i i refl)))
     (λ m v g z. ap (λ x. record v { marks = record x { form = cond (m == i) (Some form) x.form } }) (at_marks m v g) ∙ ap (λ b. record v { marks = record v.marks { form = cond b (Some form) v.marks.form } }) z)
   where

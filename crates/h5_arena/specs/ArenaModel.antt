@@ -9,7 +9,7 @@ use Rattle.h5_interface.specs.declared.marks.QuirksMode.{QuirksMode}
 use Rattle.h5_interface.specs.Forest as forest
 use Rattle.h5_interface.specs.Forest.{CommentNode, DoctypeNode, DocumentNode, ElementNode, Forest, FragmentNode, InstructionNode, IsForest, IsNode, Marks, Node}
 use Rattle.h5_interface.specs.Seen.{Seen, no_flags, no_marks}
-use Rattle.h5_interface.specs.SinkRules.{Rearranges, SinkRules}
+use Rattle.h5_interface.specs.SinkChoices.{Rearranges, SinkChoices}
 use Rattle.h5_arena.specs.declared.nodes.NodeData.{NodeData}
 use Rattle.h5_arena.specs.declared.nodes.NodeId.{NodeId}
 use Rattle.h5_arena.specs.declared.nodes.Kind.{Kind}
@@ -127,8 +127,8 @@ same_forest f k = record {
 -- A new node has the first free place. A script that started is marked, and an element that is associated
 -- with a form gets that form; `pop` changes nothing. Shadow roots are allowed, but none is attached, and
 -- no option is copied.
-abbrev pub arena_rules : SinkRules
-arena_rules = record {
+abbrev pub arena_choices : SinkChoices
+arena_choices = record {
   fresh = λ f. f.bound;
   fresh_is_new = λ f k. k.bounded f.bound (le_refl f.bound);
   marks_after_pop = λ f popped n. marks_at f n;
@@ -144,8 +144,8 @@ arena_rules = record {
 }
 
 -- the same, but that every shadow root is said to be attached, and nothing changes
-abbrev pub attaching_rules : SinkRules
-attaching_rules = record arena_rules {
+abbrev pub attaching_choices : SinkChoices
+attaching_choices = record arena_choices {
   attaches = λ f host template attrs. true;
   attach_rearranges = λ f host template attrs k a b attached. same_forest f k;
 }

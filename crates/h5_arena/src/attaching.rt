@@ -1,7 +1,7 @@
 //! A second lawful sink: an arena that answers true to every attach of a shadow root, and changes nothing.
 ghost use Rattle.std.specs.Prelude.{◌≡◌, OnOk, OnErr};
 ghost use Rattle.h5_interface.specs.Seen.{CanAppend, CanAppendBasedOnParent, CanInsertBefore, after_append, after_append_before, after_append_by, child_of};
-ghost use Rattle.h5_arena.specs.ArenaModel.{attaching_rules, place, seen_of};
+ghost use Rattle.h5_arena.specs.ArenaModel.{attaching_choices, place, seen_of};
 
 use super::nodes::NodeId;
 use super::tree::Arena;
@@ -31,7 +31,7 @@ impl TreeSink for Attaching {
 
     ghost node = { place };
 
-    ghost rules = { attaching_rules };
+    ghost choices = { attaching_choices };
 
     ghost told = { seen_of };
 

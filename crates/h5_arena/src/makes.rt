@@ -4,7 +4,7 @@ ghost use Rattle.h5_names.specs.AttributeText.{attribute_texts};
 ghost use Rattle.h5_interface.specs.Changes.{append_node};
 ghost use Rattle.h5_interface.specs.Forest.{IsForest};
 ghost use Rattle.h5_interface.specs.Seen.{element, make, make_contents, make_element, plain};
-ghost use Rattle.h5_arena.specs.ArenaModel.{arena_rules, forest_in, kind_view, node_view, node_views};
+ghost use Rattle.h5_arena.specs.ArenaModel.{arena_choices, forest_in, kind_view, node_view, node_views};
 
 use super::links;
 use super::nodes::{Kind, NodeData, NodeId};
@@ -59,7 +59,7 @@ pub(crate) fn push_plain(
     alloc: Global,
     kind: Kind,
 ) -> Result<(), AllocError>
-    ensures ok { OnOk result (forest_in nodes.new.items ≡ make arena_rules (plain (kind_view kind)) (forest_in nodes.old.items)) }
+    ensures ok { OnOk result (forest_in nodes.new.items ≡ make arena_choices (plain (kind_view kind)) (forest_in nodes.old.items)) }
     ensures err { OnErr result (node_views nodes.new.items ≡ node_views nodes.old.items) }
     ensures pushed { OnOk result (node_views nodes.new.items ≡ node_views nodes.old.items ++ plain (kind_view kind) ∷ []) }
 {
@@ -75,7 +75,7 @@ fn push_template(
 ) -> Result<(), AllocError>
     requires { (node_view template).contents ≡ None }
     ensures ok { OnOk result (forest_in nodes.new.items ≡
-        make_contents arena_rules (vec_len nodes.old) (make arena_rules (node_view template) (forest_in nodes.old.items))) }
+        make_contents arena_choices (vec_len nodes.old) (make arena_choices (node_view template) (forest_in nodes.old.items))) }
     ensures err { OnErr result (node_views nodes.new.items ≡ node_views nodes.old.items) }
 {
     let index = nodes.len();
@@ -102,7 +102,7 @@ pub(crate) fn push_element(
     flags: ElementFlags,
 ) -> Result<(), AllocError>
     ensures ok { OnOk result
-        (forest_in nodes.new.items ≡ make_element arena_rules name (attribute_texts attrs.items) flags (forest_in nodes.old.items)) }
+        (forest_in nodes.new.items ≡ make_element arena_choices name (attribute_texts attrs.items) flags (forest_in nodes.old.items)) }
     ensures err { OnErr result (node_views nodes.new.items ≡ node_views nodes.old.items) }
 {
     let is_template = flags.template;
@@ -125,7 +125,7 @@ pub(crate) fn push_child(
     requires parent { parent.index < vec_len nodes.old }
     requires forest { IsForest (forest_in nodes.old.items) }
     ensures ok { OnOk result (forest_in nodes.new.items ≡
-        append_node parent.index (vec_len nodes.old) (make arena_rules (plain (kind_view kind)) (forest_in nodes.old.items))) }
+        append_node parent.index (vec_len nodes.old) (make arena_choices (plain (kind_view kind)) (forest_in nodes.old.items))) }
     ensures err { OnErr result (node_views nodes.new.items ≡ node_views nodes.old.items) }
 {
     let id = NodeId { index: nodes.len() };

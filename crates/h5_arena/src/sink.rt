@@ -1,7 +1,7 @@
 //! The arena as a sink of a tree builder.
 ghost use Rattle.std.specs.Prelude.{◌≡◌, ◌≤◌, ◌<◌, ◌⊎◌, ◌++◌, ◌∷◌, [], OnOk, OnErr, true};
 ghost use Rattle.h5_interface.specs.Seen.{CanAppend, CanAppendBasedOnParent, CanInsertBefore, after_append, after_append_before, after_append_by, child_of};
-ghost use Rattle.h5_arena.specs.ArenaModel.{ArenaView, arena_rules, place, seen_of};
+ghost use Rattle.h5_arena.specs.ArenaModel.{ArenaView, arena_choices, place, seen_of};
 
 use super::nodes::{Kind, NodeId};
 use super::tree::Arena;
@@ -19,7 +19,7 @@ impl TreeSink for Arena {
 
     ghost node = { place };
 
-    ghost rules = { arena_rules };
+    ghost choices = { arena_choices };
 
     ghost told = { seen_of };
 

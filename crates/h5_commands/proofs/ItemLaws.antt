@@ -2,8 +2,8 @@
 use Rattle.std.proofs.Common.{◌≡◌, ℕ, Bool, List, [], ◌∷◌, ◌++◌, refl, sym, ap, ◌∙◌, append_assoc, append-nil}
 use Rattle.h5_token.specs.Reply.{Reply}
 use Rattle.h5_token.specs.TokenText.{TokenText}
-use Rattle.h5_meaning.specs.Run.{View, after_all, after_token, replies, reply_to}
-use Rattle.h5_arena.specs.ArenaModel.{ArenaView, arena_rules, place, seen_of}
+use Rattle.h5_meaning.specs.Run.{View, after_all, after_token, replies, reply_to, run}
+use Rattle.h5_arena.specs.ArenaModel.{ArenaView, arena_choices, place, seen_of}
 use Rattle.h5_arena.specs.declared.nodes.NodeId.{NodeId}
 use Rattle.h5_state.specs.View.{world}
 use Rattle.h5_state.specs.declared.state.State.{State}
@@ -12,51 +12,51 @@ use Rattle.h5_lines.specs.Items.{ItemText, TheEnd, TokenAt}
 use Rattle.h5_commands.specs.Printed.{IsBuilt, after_items, replies_to_items}
 
 -- a run of some tokens, and one more
-after_more : (ts : List TokenText) (t : TokenText) (v : View) → after_all arena_rules (ts ++ t ∷ []) v ≡ after_token arena_rules t (after_all arena_rules ts v)
-unfolding after_all
+after_more : (ts : List TokenText) (t : TokenText) (v : View) → after_all arena_choices (ts ++ t ∷ []) v ≡ after_token arena_choices t (after_all arena_choices ts v)
+unfolding run
 after_more [] t v = refl
-after_more (x ∷ ts) t v = after_more ts t (after_token arena_rules x v)
+after_more (x ∷ ts) t v = after_more ts t (after_token arena_choices x v)
 
-told_more : (ts : List TokenText) (t : TokenText) (v : View) (rs : List Reply) → replies arena_rules (ts ++ t ∷ []) v ++ rs ≡ replies arena_rules ts v ++ reply_to arena_rules t (after_all arena_rules ts v) ∷ rs
-unfolding after_all replies
+told_more : (ts : List TokenText) (t : TokenText) (v : View) (rs : List Reply) → replies arena_choices (ts ++ t ∷ []) v ++ rs ≡ replies arena_choices ts v ++ reply_to arena_choices t (after_all arena_choices ts v) ∷ rs
+unfolding run
 told_more [] t v rs = refl
-told_more (x ∷ ts) t v rs = ap (λ z. reply_to arena_rules x v ∷ z) (told_more ts t (after_token arena_rules x v) rs)
+told_more (x ∷ ts) t v rs = ap (λ z. reply_to arena_choices x v ∷ z) (told_more ts t (after_token arena_choices x v) rs)
 
 -- the builder means `now` and gave these replies, these tokens wait, and these items are left
 pub record Left (items : List ItemText) (first now : View) (told : List Reply) (waiting : List TokenText) (left : List ItemText) : Type 0 where
-  pub meaning : after_items left (after_all arena_rules waiting now) ≡ after_items items first
-  pub replies : told ++ (replies arena_rules waiting now ++ replies_to_items left (after_all arena_rules waiting now)) ≡ replies_to_items items first
+  pub meaning : after_items left (after_all arena_choices waiting now) ≡ after_items items first
+  pub replies : told ++ (replies arena_choices waiting now ++ replies_to_items left (after_all arena_choices waiting now)) ≡ replies_to_items items first
 
 pub all_left : (items : List ItemText) (first : View) → Left items first first [] [] items
-unfolding after_all replies
+unfolding run
 all_left items first = record { meaning = refl; replies = refl }
 
 -- a token waits with the others
 pub token_waits : (items left : List ItemText) (first now : View) (told : List Reply) (waiting : List TokenText) (t : TokenText) (line : ℕ) → Left items first now told waiting (TokenAt t line ∷ left) → Left items first now told (waiting ++ t ∷ []) left
 token_waits items left first now told waiting t line l = record {
   meaning = ap (after_items left) (after_more waiting t now) ∙ l.meaning;
-  replies = ap (λ v. told ++ (replies arena_rules (waiting ++ t ∷ []) now ++ replies_to_items left v)) (after_more waiting t now)
-      ∙ ap (λ rs. told ++ rs) (told_more waiting t now (replies_to_items left (after_token arena_rules t (after_all arena_rules waiting now))))
+  replies = ap (λ v. told ++ (replies arena_choices (waiting ++ t ∷ []) now ++ replies_to_items left v)) (after_more waiting t now)
+      ∙ ap (λ rs. told ++ rs) (told_more waiting t now (replies_to_items left (after_token arena_choices t (after_all arena_choices waiting now))))
       ∙ l.replies;
 }
 
 -- what waits is taken, and the end is told
-pub end_is_told : (items left : List ItemText) (first now next : View) (told more : List Reply) (waiting : List TokenText) → Left items first now told waiting (TheEnd ∷ left) → next ≡ ended_view arena_rules (after_all arena_rules waiting now) → more ≡ told ++ replies arena_rules waiting now → Left items first next more [] left
-unfolding after_all replies
+pub end_is_told : (items left : List ItemText) (first now next : View) (told more : List Reply) (waiting : List TokenText) → Left items first now told waiting (TheEnd ∷ left) → next ≡ ended_view arena_choices (after_all arena_choices waiting now) → more ≡ told ++ replies arena_choices waiting now → Left items first next more [] left
+unfolding run
 end_is_told items left first now next told more waiting l e r = record {
   meaning = ap (after_items left) e ∙ l.meaning;
   replies = ap (λ v. more ++ replies_to_items left v) e
-      ∙ ap (λ rs. rs ++ replies_to_items left (ended_view arena_rules (after_all arena_rules waiting now))) r
-      ∙ append_assoc told (replies arena_rules waiting now) (replies_to_items left (ended_view arena_rules (after_all arena_rules waiting now)))
+      ∙ ap (λ rs. rs ++ replies_to_items left (ended_view arena_choices (after_all arena_choices waiting now))) r
+      ∙ append_assoc told (replies arena_choices waiting now) (replies_to_items left (ended_view arena_choices (after_all arena_choices waiting now)))
       ∙ l.replies;
 }
 
 -- nothing is left but what waits
-pub last_waits : (items : List ItemText) (first now : View) (told : List Reply) (waiting : List TokenText) → Left items first now told waiting [] → after_all arena_rules waiting now ≡ after_items items first
+pub last_waits : (items : List ItemText) (first now : View) (told : List Reply) (waiting : List TokenText) → Left items first now told waiting [] → after_all arena_choices waiting now ≡ after_items items first
 last_waits items first now told waiting l = l.meaning
 
-pub last_told : (items : List ItemText) (first now : View) (told : List Reply) (waiting : List TokenText) → Left items first now told waiting [] → told ++ replies arena_rules waiting now ≡ replies_to_items items first
-last_told items first now told waiting l = ap (λ rs. told ++ rs) (sym (append-nil (replies arena_rules waiting now))) ∙ l.replies
+pub last_told : (items : List ItemText) (first now : View) (told : List Reply) (waiting : List TokenText) → Left items first now told waiting [] → told ++ replies arena_choices waiting now ≡ replies_to_items items first
+last_told items first now told waiting l = ap (λ rs. told ++ rs) (sym (append-nil (replies arena_choices waiting now))) ∙ l.replies
 
 -- the sink of a builder that means this is what was built
 pub sink_is_built : (sink : ArenaView) (state : State NodeId) (ended failed : Bool) (v : View) → record { world = world seen_of place sink state; ended = ended; failed = failed } ≡ v → IsBuilt v sink

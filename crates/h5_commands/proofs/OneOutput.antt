@@ -1,7 +1,7 @@
 -- A command prints one output of one input.
 use Rattle.std.proofs.Common.{◌≡◌, ℕ, suc, List, [], ◌∷◌, ◌++◌, Some, None, Result, Ok, slice_get, refl, sym, ap, subst, ◌∙◌}
 use Rattle.h5_interface.specs.Forest.{Child, Forest}
-use Rattle.h5_arena.specs.ArenaModel.{ArenaView, arena_rules, forest_seen}
+use Rattle.h5_arena.specs.ArenaModel.{ArenaView, arena_choices, forest_seen}
 use Rattle.h5_arena.specs.NodeCalls.{walk_of}
 use Rattle.h5_serialize.specs.Standing.{new_standing, walk_text}
 use Rattle.h5_serialize.specs.declared.options.TraversalScope.TheVariants.{ChildrenOnly}
@@ -51,7 +51,7 @@ output_same a b x y e q t u =
 -- what is built of items is printed in one way
 items_print : (items : List ItemText) (x y : List ℕ) → ItemsPrint items x → ItemsPrint items y → x ≡ y
 items_print items x y p q =
-    let v = ended_view arena_rules (after_items items first_view) in
+    let v = ended_view arena_choices (after_items items first_view) in
     let tree = output_same p.arena q.arena p.tree q.tree (p.built.forest ∙ sym q.built.forest) (p.built.quirks ∙ sym q.built.quirks) p.is_tree q.is_tree in
     p.whole ∙ ap (λ t. t ++ reply_lines 1 (replies_to_items items first_view)) tree ∙ sym q.whole
 

@@ -7,7 +7,7 @@ use Rattle.h5_interface.specs.declared.marks.QuirksMode.TheVariants.{NoQuirks}
 use Rattle.h5_serialize.specs.Standing.{new_standing, walk_text}
 use Rattle.h5_serialize.specs.declared.options.SerializeOpts.{SerializeOpts}
 use Rattle.h5_serialize.specs.declared.options.TraversalScope.TheVariants.{ChildrenOnly}
-use Rattle.h5_arena.specs.ArenaModel.{ArenaView, arena_rules, forest_seen, seen_of}
+use Rattle.h5_arena.specs.ArenaModel.{ArenaView, arena_choices, forest_seen, seen_of}
 use Rattle.h5_arena.specs.NodeCalls.{walk_of}
 use Rattle.h5_tokenizer.specs.Options.{first_place}
 use Rattle.h5_meaning.specs.Run.{View, after_token, reply_to}
@@ -29,14 +29,14 @@ first_view = (first_building (seen_of new_arena) default_options.tree_builder).v
 -- what a builder means after the items of a text: tokens that it takes, and calls of the end
 abbrev pub after_items : List ItemText → View → View
 after_items [] v = v
-after_items (TokenAt token line ∷ items) v = after_items items (after_token arena_rules token v)
-after_items (TheEnd ∷ items) v = after_items items (ended_view arena_rules v)
+after_items (TokenAt token line ∷ items) v = after_items items (after_token arena_choices token v)
+after_items (TheEnd ∷ items) v = after_items items (ended_view arena_choices v)
 
 -- and its replies to the tokens
 abbrev pub replies_to_items : List ItemText → View → List Reply
 replies_to_items [] v = []
-replies_to_items (TokenAt token line ∷ items) v = reply_to arena_rules token v ∷ replies_to_items items (after_token arena_rules token v)
-replies_to_items (TheEnd ∷ items) v = replies_to_items items (ended_view arena_rules v)
+replies_to_items (TokenAt token line ∷ items) v = reply_to arena_choices token v ∷ replies_to_items items (after_token arena_choices token v)
+replies_to_items (TheEnd ∷ items) v = replies_to_items items (ended_view arena_choices v)
 
 -- the lines of replies, the first of which is that to the token of this number
 abbrev pub reply_lines : ℕ → List Reply → List ℕ
@@ -57,14 +57,14 @@ pub record IsTreeOutput (a : ArenaView) (output : List ℕ) : Type 0 where
 -- of the items of a text the tree that they build is printed, with the end behind them, then the replies
 pub record ItemsPrint (items : List ItemText) (output : List ℕ) : Type 0 where
   pub arena : ArenaView
-  pub built : IsBuilt (ended_view arena_rules (after_items items first_view)) arena
+  pub built : IsBuilt (ended_view arena_choices (after_items items first_view)) arena
   pub tree : List ℕ
   pub is_tree : IsTreeOutput arena tree
   pub whole : output ≡ tree ++ reply_lines 1 (replies_to_items items first_view)
 
 -- an arena is what a parser with the default options makes of a text
 abbrev pub IsParsed : List ℕ → ArenaView → Type 0
-IsParsed text a = Parses arena_rules (first_place default_options.tokenizer) first_view text (seen_of a)
+IsParsed text a = Parses arena_choices (first_place default_options.tokenizer) first_view text (seen_of a)
 
 -- its tree is printed
 pub record TreePrints (text output : List ℕ) : Type 0 where

@@ -1,6 +1,6 @@
 //! What an input makes.
 ghost use Rattle.std.specs.Prelude.{◌≡◌, ◌++◌, Err, IfErr, IfOk, OnOk, string_bytes};
-ghost use Rattle.h5_arena.specs.ArenaModel.{arena_rules, place, seen_of};
+ghost use Rattle.h5_arena.specs.ArenaModel.{arena_choices, place, seen_of};
 ghost use Rattle.h5_lines.specs.Items.{item_texts};
 ghost use Rattle.h5_meaning.specs.Run.{after_all, replies as replies_to};
 ghost use Rattle.h5_print.specs.Replies.{reply_line};
@@ -37,9 +37,9 @@ fn take_tokens(
     replies: &mut Vec<Reply<NodeId>>,
 ) -> Result<(), Fault>
     ensures view { OnOk result ((building seen_of place builder.new).view
-        ≡ after_all arena_rules (token_texts tokens.items) (building seen_of place builder.old).view) }
+        ≡ after_all arena_choices (token_texts tokens.items) (building seen_of place builder.old).view) }
     ensures told { OnOk result (reply_texts place replies.new.items
-        ≡ reply_texts place replies.old.items ++ replies_to arena_rules (token_texts tokens.items) (building seen_of place builder.old).view) }
+        ≡ reply_texts place replies.old.items ++ replies_to arena_choices (token_texts tokens.items) (building seen_of place builder.old).view) }
     ensures memory { IfErr result (λ fault. fault ≡ Fault.Memory) }
 {
     let mut more = builder.process_all(tokens).map_err(fault_of_build)?;
@@ -54,7 +54,7 @@ fn take_items(
     items: Vec<Item>,
 ) -> Result<Vec<Reply<NodeId>>, Fault>
     ensures view { OnOk result ((building seen_of place builder.new).view
-        ≡ ended_view arena_rules (after_items (item_texts items.items) (building seen_of place builder.old).view)) }
+        ≡ ended_view arena_choices (after_items (item_texts items.items) (building seen_of place builder.old).view)) }
     ensures told { IfOk result (λ rs. reply_texts place rs.items
         ≡ replies_to_items (item_texts items.items) (building seen_of place builder.old).view) }
     ensures memory { IfErr result (λ fault. fault ≡ Fault.Memory) }

@@ -3,3 +3,4 @@ pub mod PlainBytes
 pub mod TextLaws
 pub mod AttributeLaws
 pub mod DoctypeLaws
+pub mod NameLaws

@@ -7,7 +7,7 @@ ghost use Rattle.h5_constructs.specs.Writing.{written, WrittenAt};
 ghost use Rattle.h5_constructs.specs.Text as t;
 
 use super::text::text_of;
-use h5_names::{Attribute, LocalName, Namespace, QualName, namespaces};
+use h5_names::{Attribute, KnownName, LocalName, Namespace, QualName};
 use h5_scan::{Class, Seen, cut_at, cut_name, cut_past, literal, skip};
 use std::alloc::{AllocError, Global};
 
@@ -16,6 +16,11 @@ use std::alloc::{AllocError, Global};
 pub fn make_name(alloc: Global, text: &str) -> Result<LocalName, AllocError>
     ensures { IfOk result (λ name. name ≡ t.name_of text.now) }
 {
+    // Most names are known. They take no memory, and all but these two are in lower case.
+    match KnownName::from_text(text) {
+        KnownName::Other | KnownName::ForeignObject | KnownName::DefinitionUrl => {}
+        known => return Ok(LocalName::from_known(known)),
+    }
     let mut lower = text_of(alloc, false, text)?;
     lower.make_ascii_lowercase();
     Ok(LocalName::from_string(lower))
@@ -90,7 +95,7 @@ fn make_attribute(alloc: Global, name: LocalName, value: &str) -> Result<Attribu
     ensures { IfOk result (λ attribute. attribute_text attribute ≡ a.attribute_named name (t.text_of true value.now)) }
 {
     Ok(Attribute {
-        name: QualName::new(None, Namespace::new(alloc, namespaces::NONE)?, name),
+        name: QualName::new(None, Namespace::none(), name),
         value: text_of(alloc, true, value)?,
     })
 }

@@ -3,7 +3,7 @@ use Rattle.std.specs.Prelude.{◌≡◌, ℕ, Bool, false, List, [], ◌∷◌, 
 use Rattle.h5_token.specs.Reply.{Reply}
 use Rattle.h5_token.specs.TokenText.{TokenText}
 use Rattle.h5_interface.specs.Seen.{Seen}
-use Rattle.h5_interface.specs.SinkRules.{SinkRules}
+use Rattle.h5_interface.specs.SinkChoices.{SinkChoices}
 use Rattle.h5_meaning.specs.Run.{View, after_all, after_token, reply_to}
 use Rattle.h5_tree_builder.specs.Builder.{ended_view, is_foreign_in}
 use Rattle.h5_tree_builder.specs.Held.{Held, building}
@@ -22,14 +22,14 @@ pub record Parsing (S H : Type 0) : Type 0 where
 
 -- a builder as what takes the reader's tokens: what it answers, what it means after a token and after the
 -- end, and whether its current node isn't HTML
-abbrev pub replies : SinkRules → View → TokenText → Reply
-replies rules v t = reply_to rules t v
+abbrev pub replies : SinkChoices → View → TokenText → Reply
+replies choices v t = reply_to choices t v
 
-abbrev pub after : SinkRules → View → TokenText → View
-after rules v t = after_token rules t v
+abbrev pub after : SinkChoices → View → TokenText → View
+after choices v t = after_token choices t v
 
-abbrev pub ended : SinkRules → View → View
-ended rules v = ended_view rules v
+abbrev pub ended : SinkChoices → View → View
+ended choices v = ended_view choices v
 
 abbrev pub foreign : View → Bool
 foreign v = is_foreign_in v.world
@@ -49,33 +49,42 @@ pub record IsParsing {S H : Type 0} (sees : S → Seen) (node : H → ℕ) (p : 
   pub works : p.failed ≡ false → IsWorking (view_of sees node p)
 
 -- from a place, a view and an input some tokens were read, up to a place, a view and the rest of the input
-pub record Advances (rules : SinkRules) (p : Place) (m : View) (xs : List ℕ) (q : Place) (n : View) (ys : List ℕ) : Type 0 where
+pub record Advances (choices : SinkChoices) (p : Place) (m : View) (xs : List ℕ) (q : Place) (n : View) (ys : List ℕ) : Type 0 where
   pub tokens : List TokenText
-  pub readings : Readings (replies rules) (after rules) foreign p m xs tokens q n ys
+  pub readings : Readings (replies choices) (after choices) foreign p m xs tokens q n ys
 
 -- and the rest is undecided
-pub record TakesAll (rules : SinkRules) (p : Place) (m : View) (xs : List ℕ) (q : Place) (n : View) (ys : List ℕ) : Type 0 where
-  pub advances : Advances rules p m xs q n ys
+pub record TakesAll (choices : SinkChoices) (p : Place) (m : View) (xs : List ℕ) (q : Place) (n : View) (ys : List ℕ) : Type 0 where
+  pub advances : Advances choices p m xs q n ys
   pub undecided : IsUndecided q (foreign n) ys
 
 -- a piece was taken: what was held, what waited and the piece were read, as far as that is decided
-pub record Processed {S H : Type 0} (rules : SinkRules) (sees : S → Seen) (node : H → ℕ) (text : List ℕ) (old new : Parsing S H) : Type 0 where
-  pub takes : TakesAll rules old.reader.place (view_of sees node old) (old.reader.held ++ (old.waiting ++ text)) new.reader.place (view_of sees node new) new.reader.held
+pub record Processed {S H : Type 0} (choices : SinkChoices) (sees : S → Seen) (node : H → ℕ) (text : List ℕ) (old new : Parsing S H) : Type 0 where
+  pub takes : TakesAll choices old.reader.place (view_of sees node old) (old.reader.held ++ (old.waiting ++ text)) new.reader.place (view_of sees node new) new.reader.held
   pub none_waits : new.waiting ≡ []
 
 -- a text is read to its end by these tokens
-abbrev pub Reads : SinkRules → Place → View → List ℕ → List TokenText → View → Type 0
-Reads rules p m xs ts n = ReadsToEnd (replies rules) (after rules) foreign (ended rules) p m xs ts n
+abbrev pub Reads : SinkChoices → Place → View → List ℕ → List TokenText → View → Type 0
+Reads choices p m xs ts n = ReadsToEnd (replies choices) (after choices) foreign (ended choices) p m xs ts n
 
 -- what a parser built of a text: the forest and the quirks mode of the run of a list of tokens that reads it,
 -- and of any such list
-pub record Parses (rules : SinkRules) (p : Place) (m : View) (xs : List ℕ) (told : Seen) : Type 0 where
+pub record Parses (choices : SinkChoices) (p : Place) (m : View) (xs : List ℕ) (told : Seen) : Type 0 where
   pub tokens : List TokenText
-  pub reads : Reads rules p m xs tokens (ended rules (after_all rules tokens m))
-  pub any : (ts : List TokenText) (n : View) → Reads rules p m xs ts n
-      → (n ≡ ended rules (after_all rules ts m)) × ((told.forest ≡ n.world.forest) × (told.quirks ≡ n.world.seen_quirks))
+  pub reads : Reads choices p m xs tokens (ended choices (after_all choices tokens m))
+  pub any : (ts : List TokenText) (n : View) → Reads choices p m xs ts n
+      → (n ≡ ended choices (after_all choices ts m)) × ((told.forest ≡ n.world.forest) × (told.quirks ≡ n.world.seen_quirks))
 
 -- pieces, one behind the other
 abbrev pub joined : List (List ℕ) → List ℕ
 joined [] = []
 joined (t ∷ ts) = t ++ joined ts
+
+-- pieces were taken, one after the other
+abbrev pub ProcessedAll : {S H : Type 0} → SinkChoices → (S → Seen) → (H → ℕ) → List (List ℕ) → Parsing S H → Parsing S H → Type 0
+ProcessedAll choices sees node [] old new = old ≡ new
+ProcessedAll {S} {H} choices sees node (text ∷ texts) old new = (now : Parsing S H) × (Processed choices sees node text old now × ProcessedAll choices sees node texts now new)
+
+-- the text that a parser has not read yet: what its reader holds, and what waits
+abbrev pub unread : {S H : Type 0} → Parsing S H → List ℕ
+unread p = p.reader.held ++ p.waiting

@@ -2,6 +2,7 @@
 //! documents").
 #![tactic(auto)]
 
+pub mod laws;
 mod options;
 mod parser;
 

@@ -23,7 +23,7 @@ fn feed_all<Handle: Drop, Sink: TreeSink<Handle = Handle> + Drop>(
 ) -> Result<(), BuildFault>
     requires reading { tokenizer.old.reader.stage ≡ Reading }
     requires works { IsWorking (building Sink.sees Sink.node tokenizer.old.sink).view }
-    ensures takes { OnOk result (TakesAll Sink.rules tokenizer.old.reader.place (building Sink.sees Sink.node tokenizer.old.sink).view (tokenizer.old.reader.held ++ queue.old)
+    ensures takes { OnOk result (TakesAll Sink.choices tokenizer.old.reader.place (building Sink.sees Sink.node tokenizer.old.sink).view (tokenizer.old.reader.held ++ queue.old)
         tokenizer.new.reader.place (building Sink.sees Sink.node tokenizer.new.sink).view tokenizer.new.reader.held) }
     ensures none_waits { OnOk result (queue.new ≡ []) }
     ensures reading { OnOk result (tokenizer.new.reader.stage ≡ Reading) }
@@ -45,7 +45,7 @@ fn close<Handle: Drop, Sink: TreeSink<Handle = Handle> + Drop>(
 ) -> Result<(), BuildFault>
     requires reading { tokenizer.old.reader.stage ≡ Reading }
     requires works { IsWorking (building Sink.sees Sink.node tokenizer.old.sink).view }
-    ensures closed { OnOk result (Closes (replies Sink.rules) (after Sink.rules) (ended Sink.rules) (building Sink.sees Sink.node tokenizer.old.sink).view
+    ensures closed { OnOk result (Closes (replies Sink.choices) (after Sink.choices) (ended Sink.choices) (building Sink.sees Sink.node tokenizer.old.sink).view
         (settle tokenizer.old.reader.place.mode tokenizer.old.reader.place.last (foreign (building Sink.sees Sink.node tokenizer.old.sink).view) tokenizer.old.reader.held)
         (building Sink.sees Sink.node tokenizer.new.sink).view (Ok tt)) }
     ensures memory { OnErr result (result ≡ Err BuildFault.Memory) }
@@ -104,7 +104,7 @@ impl<Handle: Drop, Sink: TreeSink<Handle = Handle> + Drop> Parser<Handle, Sink> 
     ///
     /// It answers `Memory` where memory is refused, and `Failed` after that; then nothing has changed.
     pub fn process(&mut self, text: &str) -> Result<(), BuildFault>
-        ensures takes { OnOk result (Processed Sink.rules Sink.sees Sink.node text.now self.old self.new) }
+        ensures takes { OnOk result (Processed Sink.choices Sink.sees Sink.node text.now self.old self.new) }
         ensures works { OnOk result (self.new.failed ≡ false) }
         ensures failed { self.old.failed ≡ true → (result ≡ Err BuildFault.Failed) × (self.new ≡ self.old) }
         ensures memory { self.old.failed ≡ false → OnErr result (result ≡ Err BuildFault.Memory) }
@@ -126,7 +126,7 @@ impl<Handle: Drop, Sink: TreeSink<Handle = Handle> + Drop> Parser<Handle, Sink> 
     /// It has built what the tokens of the whole text build, by the rules of tree construction. It answers
     /// `Memory` where memory is refused, and `Failed` where that was before.
     pub fn finish(self) -> Result<Sink::Output, BuildFault>
-        ensures parses { IfOk result (λ output. Parses Sink.rules self.reader.place (view_of Sink.sees Sink.node self) (self.reader.held ++ self.waiting) (Sink.told output)) }
+        ensures parses { IfOk result (λ output. Parses Sink.choices self.reader.place (view_of Sink.sees Sink.node self) (self.reader.held ++ self.waiting) (Sink.told output)) }
         ensures failed { self.failed ≡ true → result ≡ Err BuildFault.Failed }
         ensures memory { self.failed ≡ false → OnErr result (result ≡ Err BuildFault.Memory) }
     {
@@ -148,7 +148,7 @@ impl<Handle: Drop, Sink: TreeSink<Handle = Handle> + Drop> Parser<Handle, Sink> 
 
     // Takes pieces, one after the other.
     fn process_each(&mut self, pieces: &[String]) -> Result<(), BuildFault>
-        ensures takes { OnOk result (Advances Sink.rules self.old.reader.place (view_of Sink.sees Sink.node self.old) ((self.old.reader.held ++ self.old.waiting) ++ joined (map string_bytes pieces.now))
+        ensures takes { OnOk result (Advances Sink.choices self.old.reader.place (view_of Sink.sees Sink.node self.old) ((self.old.reader.held ++ self.old.waiting) ++ joined (map string_bytes pieces.now))
             self.new.reader.place (view_of Sink.sees Sink.node self.new) (self.new.reader.held ++ self.new.waiting)) }
         ensures works { OnOk result (self.new.failed ≡ self.old.failed) }
         ensures memory { self.old.failed ≡ false → OnErr result (result ≡ Err BuildFault.Memory) }
@@ -168,7 +168,7 @@ impl<Handle: Drop, Sink: TreeSink<Handle = Handle> + Drop> Parser<Handle, Sink> 
     /// run of a list of tokens that reads the whole text, and of any such list. It answers `Memory` where
     /// memory is refused, and `Failed` where that was before.
     pub fn process_pieces(self, pieces: &[String]) -> Result<Sink::Output, BuildFault>
-        ensures parses { IfOk result (λ output. Parses Sink.rules self.reader.place (view_of Sink.sees Sink.node self) ((self.reader.held ++ self.waiting) ++ joined (map string_bytes pieces.now)) (Sink.told output)) }
+        ensures parses { IfOk result (λ output. Parses Sink.choices self.reader.place (view_of Sink.sees Sink.node self) ((self.reader.held ++ self.waiting) ++ joined (map string_bytes pieces.now)) (Sink.told output)) }
         ensures failed { self.failed ≡ true → result ≡ Err BuildFault.Failed }
         ensures memory { self.failed ≡ false → OnErr result (result ≡ Err BuildFault.Memory) }
     {
@@ -179,7 +179,7 @@ impl<Handle: Drop, Sink: TreeSink<Handle = Handle> + Drop> Parser<Handle, Sink> 
 
     /// Takes a whole text, and its end: `process`, and `finish`.
     pub fn one(self, text: &str) -> Result<Sink::Output, BuildFault>
-        ensures parses { IfOk result (λ output. Parses Sink.rules self.reader.place (view_of Sink.sees Sink.node self) ((self.reader.held ++ self.waiting) ++ text.now) (Sink.told output)) }
+        ensures parses { IfOk result (λ output. Parses Sink.choices self.reader.place (view_of Sink.sees Sink.node self) ((self.reader.held ++ self.waiting) ++ text.now) (Sink.told output)) }
         ensures failed { self.failed ≡ true → result ≡ Err BuildFault.Failed }
         ensures memory { self.failed ≡ false → OnErr result (result ≡ Err BuildFault.Memory) }
     {

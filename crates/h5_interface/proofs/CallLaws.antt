@@ -4,7 +4,7 @@ use Rattle.std.specs.Prelude.{◌==◌, Option, None, Some, unwrap_or}
 use Rattle.h5_names.specs.AttributeText.{AttributeText}
 use Rattle.h5_interface.specs.Forest.{Child, ChildNode, ChildText, Forest, IsForest, IsNode, parent_of}
 use Rattle.h5_interface.specs.Seen.{CanAppend, CanAppendBasedOnParent, CanInsertBefore, CanStandBy, attach, attach_where, with_child_before, with_child_by, with_last_child}
-use Rattle.h5_interface.specs.SinkRules.{Rearranges, SinkRules}
+use Rattle.h5_interface.specs.SinkChoices.{Rearranges, SinkChoices}
 use Rattle.h5_interface.proofs.ForestLaws.{rearranges_refl}
 use Rattle.h5_interface.proofs.HangingLaws.{append_node_keeps, append_node_rehangs, append_text_rearranges, append_text_rehangs, insert_node_keeps, insert_node_rehangs, insert_text_rearranges, insert_text_rehangs}
 use Rattle.h5_interface.proofs.RehangLaws.{Rehangs, none_chosen}
@@ -63,9 +63,9 @@ child_by_keeps f element prev x k may = at (parent_of f element) may.child
     at (Some p) m = child_before_keeps f element x k m
 
 -- an attach rearranges, whether it happens or not
-pub attach_rearranges : (rules : SinkRules) (f : Forest) (host template : ℕ) (attrs : List AttributeText) → IsForest f → IsNode f host → IsNode f template → Rearranges f (attach rules host template attrs f)
-attach_rearranges rules f host template attrs k a b = at (rules.attaches f host template attrs) refl
+pub attach_rearranges : (choices : SinkChoices) (f : Forest) (host template : ℕ) (attrs : List AttributeText) → IsForest f → IsNode f host → IsNode f template → Rearranges f (attach choices host template attrs f)
+attach_rearranges choices f host template attrs k a b = at (choices.attaches f host template attrs) refl
   where
-    at : (c : Bool) → rules.attaches f host template attrs ≡ c → Rearranges f (attach_where c rules host template attrs f)
-    at true e = rules.attach_rearranges f host template attrs k a b e
+    at : (c : Bool) → choices.attaches f host template attrs ≡ c → Rearranges f (attach_where c choices host template attrs f)
+    at true e = choices.attach_rearranges f host template attrs k a b e
     at false e = rearranges_refl f k

@@ -5,7 +5,7 @@ use Rattle.std.specs.Option.{option_map, option_to_list}
 use Rattle.std.proofs.lemmas.Bool.{eq-eqb, eqb-true}
 use Rattle.h5_interface.specs.Ancestors.{Further, IsAncestor, Parent}
 use Rattle.h5_interface.specs.Forest.{DocumentNode, Forest, FragmentNode, IsForest, IsNode, Kind, Node, below_of, children_of, contents_of, count, is_at, kind_of, nodes, parent_of}
-use Rattle.h5_interface.specs.SinkRules.{Rearranges}
+use Rattle.h5_interface.specs.SinkChoices.{Rearranges}
 use Rattle.h5_interface.proofs.ChildLaws.{count-append}
 
 -- forests are equal that agree at each node

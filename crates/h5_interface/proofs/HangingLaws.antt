@@ -8,7 +8,7 @@ use Rattle.h5_interface.specs.Ancestors.{AtOrAbove, Parent}
 use Rattle.h5_interface.specs.Changes.{append_node, append_text, detach, detach_from, has_child, insert_before, insert_node_before, insert_node_below, insert_text_before, insert_text_below, reparent, without}
 use Rattle.h5_interface.specs.Forest.{AreParted, Child, ChildNode, ChildText, Forest, IsForest, IsNode, Node, below, below_of, children_of, contents_of, count, is_at, kind_of, nodes, parent_of}
 use Rattle.h5_interface.specs.Seen.{CanAppend, CanDetach, CanInsertBefore, CanReparent, IsFreeFor}
-use Rattle.h5_interface.specs.SinkRules.{Rearranges}
+use Rattle.h5_interface.specs.SinkChoices.{Rearranges}
 use Rattle.h5_interface.proofs.AncestorLaws.{ancestor_trans}
 use Rattle.h5_interface.proofs.ChildLaws.{count-append, count-insert_before, count-without, nodes-append, nodes-insert_before_text, nodes-joined, none_empty-append, none_empty-insert_before, none_empty-without, none_empty_of_parted, parted-joined}
 use Rattle.h5_interface.proofs.ForestLaws.{child_is_node, child_once, children_few, none_below, parent_of_child, rearranges_refl, self_at}

@@ -9,7 +9,7 @@ use Rattle.h5_interface.specs.Ancestors.{AtOrAbove}
 use Rattle.h5_interface.specs.Changes.{add_missing_attributes, add_node, append_node, host, mark}
 use Rattle.h5_interface.specs.Forest.{AreParted, DoctypeNode, DocumentNode, ElementNode, Forest, FragmentNode, HasContents, IsForest, IsNode, Kind, Marks, Node, below_of, children_of, contents_of, count, is_at, kind_of, parent_of}
 use Rattle.h5_interface.specs.Seen.{IsFreeFor, append_doctype, element, make, make_contents, make_element, plain, with_contents}
-use Rattle.h5_interface.specs.SinkRules.{Rearranges, SinkRules}
+use Rattle.h5_interface.specs.SinkChoices.{Rearranges, SinkChoices}
 use Rattle.h5_interface.proofs.AncestorLaws.{ancestor_fewer}
 use Rattle.h5_interface.proofs.ChildLaws.{count-append}
 use Rattle.h5_interface.proofs.ForestLaws.{ancestor_is_node, document_is_node, node_of_kind, rearranged_ancestor, rearranges_trans}
@@ -214,16 +214,16 @@ pub element_lone : (name : QualName) (attrs : List AttributeText) (flags : Eleme
 element_lone name attrs flags = record { children = refl; contents = refl; parent = refl }
 
 -- a comment, an instruction or any plain node is made
-pub make_rearranges : (rules : SinkRules) (f : Forest) (d : Node) → IsForest f → IsLone d → Rearranges f (make rules d f)
-make_rearranges rules f d k lone = add_rearranges f (rules.fresh f) d k (rules.fresh_is_new f k) lone
+pub make_rearranges : (choices : SinkChoices) (f : Forest) (d : Node) → IsForest f → IsLone d → Rearranges f (make choices d f)
+make_rearranges choices f d k lone = add_rearranges f (choices.fresh f) d k (choices.fresh_is_new f k) lone
 
 -- contents are made
-pub make_contents_rearranges : (rules : SinkRules) (f : Forest) (t : ℕ) → IsForest f → IsNode f t → contents_of f t ≡ None → Rearranges f (make_contents rules t f)
-make_contents_rearranges rules f t k there none =
-    let c : ℕ = rules.fresh f in
-    let new : f.node c ≡ None = rules.fresh_is_new f k in
+pub make_contents_rearranges : (choices : SinkChoices) (f : Forest) (t : ℕ) → IsForest f → IsNode f t → contents_of f t ≡ None → Rearranges f (make_contents choices t f)
+make_contents_rearranges choices f t k there none =
+    let c : ℕ = choices.fresh f in
+    let new : f.node c ≡ None = choices.fresh_is_new f k in
     let lone : IsLone (plain FragmentNode) = plain_lone FragmentNode in
-    let g : Forest = make rules (plain FragmentNode) f in
+    let g : Forest = make choices (plain FragmentNode) f in
     let kept : IsForest g = add_keeps f c (plain FragmentNode) k new lone in
     let there' : IsNode g t = old_is_node f c t (plain FragmentNode) there in
     let free : IsFreeFor g t c = new_is_free f c t (plain FragmentNode) k new lone (λ e. cc) there in
@@ -233,90 +233,90 @@ make_contents_rearranges rules f t k there none =
     (hung_keeps g (host t c g) (λ n. n == c) t kept hangs there' (λ x w. rw (eqb-true x c w) free.not_above)) hangs
 
 -- an element is made, and its contents where it is a template
-pub make_element_rearranges : (rules : SinkRules) (f : Forest) (name : QualName) (attrs : List AttributeText) (flags : ElementFlags) → IsForest f → Rearranges f (make_element rules name attrs flags f)
-make_element_rearranges rules f name attrs flags k = at flags.template
+pub make_element_rearranges : (choices : SinkChoices) (f : Forest) (name : QualName) (attrs : List AttributeText) (flags : ElementFlags) → IsForest f → Rearranges f (make_element choices name attrs flags f)
+make_element_rearranges choices f name attrs flags k = at flags.template
   where
-    made : Rearranges f (make rules (element name attrs flags) f)
-    made = make_rearranges rules f (element name attrs flags) k (element_lone name attrs flags)
+    made : Rearranges f (make choices (element name attrs flags) f)
+    made = make_rearranges choices f (element name attrs flags) k (element_lone name attrs flags)
 
-    at : (b : Bool) → Rearranges f (with_contents b rules (rules.fresh f) (make rules (element name attrs flags) f))
+    at : (b : Bool) → Rearranges f (with_contents b choices (choices.fresh f) (make choices (element name attrs flags) f))
     at true =
-        rearranges_trans f (make rules (element name attrs flags) f) (make_contents rules (rules.fresh f) (make rules (element name attrs flags) f)) made
-        (make_contents_rearranges rules (make rules (element name attrs flags) f) (rules.fresh f) made.is_forest (new_is_node f (rules.fresh f) (element name attrs flags))
-        (rw (eq-eqb (rules.fresh f) (rules.fresh f) refl) refl))
+        rearranges_trans f (make choices (element name attrs flags) f) (make_contents choices (choices.fresh f) (make choices (element name attrs flags) f)) made
+        (make_contents_rearranges choices (make choices (element name attrs flags) f) (choices.fresh f) made.is_forest (new_is_node f (choices.fresh f) (element name attrs flags))
+        (rw (eq-eqb (choices.fresh f) (choices.fresh f) refl) refl))
     at false = made
 
 -- what the new element is
-pub made_kind : (rules : SinkRules) (f : Forest) (name : QualName) (attrs : List AttributeText) (flags : ElementFlags) → IsForest f → kind_of (make_element rules name attrs flags f) (rules.fresh f) ≡ Some (ElementNode name)
-made_kind rules f name attrs flags k = at flags.template
+pub made_kind : (choices : SinkChoices) (f : Forest) (name : QualName) (attrs : List AttributeText) (flags : ElementFlags) → IsForest f → kind_of (make_element choices name attrs flags f) (choices.fresh f) ≡ Some (ElementNode name)
+made_kind choices f name attrs flags k = at flags.template
   where
     g : Forest
-    g = make rules (element name attrs flags) f
+    g = make choices (element name attrs flags) f
 
     kept : IsForest g
-    kept = (make_rearranges rules f (element name attrs flags) k (element_lone name attrs flags)).is_forest
+    kept = (make_rearranges choices f (element name attrs flags) k (element_lone name attrs flags)).is_forest
 
-    there : IsNode g (rules.fresh f)
-    there = new_is_node f (rules.fresh f) (element name attrs flags)
+    there : IsNode g (choices.fresh f)
+    there = new_is_node f (choices.fresh f) (element name attrs flags)
 
-    at : (b : Bool) → kind_of (with_contents b rules (rules.fresh f) g) (rules.fresh f) ≡ Some (ElementNode name)
-    at true = (make_contents_rearranges rules g (rules.fresh f) kept there (rw (eq-eqb (rules.fresh f) (rules.fresh f) refl) refl)).same_kind (rules.fresh f) there ∙ new_kind f (rules.fresh f) (element name attrs flags)
-    at false = new_kind f (rules.fresh f) (element name attrs flags)
+    at : (b : Bool) → kind_of (with_contents b choices (choices.fresh f) g) (choices.fresh f) ≡ Some (ElementNode name)
+    at true = (make_contents_rearranges choices g (choices.fresh f) kept there (rw (eq-eqb (choices.fresh f) (choices.fresh f) refl) refl)).same_kind (choices.fresh f) there ∙ new_kind f (choices.fresh f) (element name attrs flags)
+    at false = new_kind f (choices.fresh f) (element name attrs flags)
 
-pub made_parent : (rules : SinkRules) (f : Forest) (name : QualName) (attrs : List AttributeText) (flags : ElementFlags) → IsForest f → parent_of (make_element rules name attrs flags f) (rules.fresh f) ≡ None
-made_parent rules f name attrs flags k = at flags.template
+pub made_parent : (choices : SinkChoices) (f : Forest) (name : QualName) (attrs : List AttributeText) (flags : ElementFlags) → IsForest f → parent_of (make_element choices name attrs flags f) (choices.fresh f) ≡ None
+made_parent choices f name attrs flags k = at flags.template
   where
     g : Forest
-    g = make rules (element name attrs flags) f
+    g = make choices (element name attrs flags) f
 
     kept : IsForest g
-    kept = (make_rearranges rules f (element name attrs flags) k (element_lone name attrs flags)).is_forest
+    kept = (make_rearranges choices f (element name attrs flags) k (element_lone name attrs flags)).is_forest
 
-    there : IsNode g (rules.fresh f)
-    there = new_is_node f (rules.fresh f) (element name attrs flags)
+    there : IsNode g (choices.fresh f)
+    there = new_is_node f (choices.fresh f) (element name attrs flags)
 
-    none : parent_of g (rules.fresh f) ≡ None
-    none = new_parent f (rules.fresh f) (element name attrs flags) (element_lone name attrs flags)
+    none : parent_of g (choices.fresh f) ≡ None
+    none = new_parent f (choices.fresh f) (element name attrs flags) (element_lone name attrs flags)
 
-    stays : (o : Option ℕ) → parent_of (make_contents rules (rules.fresh f) g) (rules.fresh f) ≡ o → o ≡ None
+    stays : (o : Option ℕ) → parent_of (make_contents choices (choices.fresh f) g) (choices.fresh f) ≡ o → o ≡ None
     stays None e = refl
     stays (Some p) e =
-        let up = (make_contents_rearranges rules g (rules.fresh f) kept there (rw (eq-eqb (rules.fresh f) (rules.fresh f) refl) refl)).parents (rules.fresh f) p there e in
+        let up = (make_contents_rearranges choices g (choices.fresh f) kept there (rw (eq-eqb (choices.fresh f) (choices.fresh f) refl) refl)).parents (choices.fresh f) p there e in
         let w : None ≡ Some p = sym none ∙ up in cc
 
-    at : (b : Bool) → parent_of (with_contents b rules (rules.fresh f) g) (rules.fresh f) ≡ None
-    at true = stays (parent_of (make_contents rules (rules.fresh f) g) (rules.fresh f)) refl
+    at : (b : Bool) → parent_of (with_contents b choices (choices.fresh f) g) (choices.fresh f) ≡ None
+    at true = stays (parent_of (make_contents choices (choices.fresh f) g) (choices.fresh f)) refl
     at false = none
 
 -- a new template has contents
-pub made_contents : (rules : SinkRules) (f : Forest) (name : QualName) (attrs : List AttributeText) (flags : ElementFlags) → flags.template ≡ true → HasContents (make_element rules name attrs flags f) (rules.fresh f)
-made_contents rules f name attrs flags e =
-    subst (λ b. HasContents (with_contents b rules (rules.fresh f) g) (rules.fresh f)) (sym e) (at (rules.fresh f == rules.fresh g) refl)
+pub made_contents : (choices : SinkChoices) (f : Forest) (name : QualName) (attrs : List AttributeText) (flags : ElementFlags) → flags.template ≡ true → HasContents (make_element choices name attrs flags f) (choices.fresh f)
+made_contents choices f name attrs flags e =
+    subst (λ b. HasContents (with_contents b choices (choices.fresh f) g) (choices.fresh f)) (sym e) (at (choices.fresh f == choices.fresh g) refl)
   where
     g : Forest
-    g = make rules (element name attrs flags) f
+    g = make choices (element name attrs flags) f
 
-    at : (b : Bool) → (rules.fresh f == rules.fresh g) ≡ b → HasContents (make_contents rules (rules.fresh f) g) (rules.fresh f)
-    at true w = rw (w, eq-eqb (rules.fresh f) (rules.fresh f) refl) (λ z. cc)
-    at false w = rw (w, eq-eqb (rules.fresh f) (rules.fresh f) refl) (λ z. cc)
+    at : (b : Bool) → (choices.fresh f == choices.fresh g) ≡ b → HasContents (make_contents choices (choices.fresh f) g) (choices.fresh f)
+    at true w = rw (w, eq-eqb (choices.fresh f) (choices.fresh f) refl) (λ z. cc)
+    at false w = rw (w, eq-eqb (choices.fresh f) (choices.fresh f) refl) (λ z. cc)
 
 -- the new element may be hung below each old node
-pub made_is_free : (rules : SinkRules) (f : Forest) (name : QualName) (attrs : List AttributeText) (flags : ElementFlags) (p : ℕ) → IsForest f → IsNode f p → IsFreeFor (make_element rules name attrs flags f) p (rules.fresh f)
-made_is_free rules f name attrs flags p k there = record {
-  is_node = node_of_kind (make_element rules name attrs flags f) (rules.fresh f) (ElementNode name) (made_kind rules f name attrs flags k);
-  no_document = λ e. let w : Some (ElementNode name) ≡ Some DocumentNode = sym (made_kind rules f name attrs flags k) ∙ e in cc;
-  no_parent = made_parent rules f name attrs flags k;
+pub made_is_free : (choices : SinkChoices) (f : Forest) (name : QualName) (attrs : List AttributeText) (flags : ElementFlags) (p : ℕ) → IsForest f → IsNode f p → IsFreeFor (make_element choices name attrs flags f) p (choices.fresh f)
+made_is_free choices f name attrs flags p k there = record {
+  is_node = node_of_kind (make_element choices name attrs flags f) (choices.fresh f) (ElementNode name) (made_kind choices f name attrs flags k);
+  no_document = λ e. let w : Some (ElementNode name) ≡ Some DocumentNode = sym (made_kind choices f name attrs flags k) ∙ e in cc;
+  no_parent = made_parent choices f name attrs flags k;
   not_above = apart;
 }
   where
-    new : f.node (rules.fresh f) ≡ None
-    new = rules.fresh_is_new f k
+    new : f.node (choices.fresh f) ≡ None
+    new = choices.fresh_is_new f k
 
-    apart : ¬ (AtOrAbove (parent_of (make_element rules name attrs flags f)) (rules.fresh f) p)
+    apart : ¬ (AtOrAbove (parent_of (make_element choices name attrs flags f)) (choices.fresh f) p)
     apart (inl e) = there (rw (← e) new)
-    apart (inr h) = ancestor_is_node f (rules.fresh f) p k (rearranged_ancestor f (make_element rules name attrs flags f) (rules.fresh f) p k (make_element_rearranges rules f name attrs flags k) there h) new
+    apart (inr h) = ancestor_is_node f (choices.fresh f) p k (rearranged_ancestor f (make_element choices name attrs flags f) (choices.fresh f) p k (make_element_rearranges choices f name attrs flags k) there h) new
 
 -- a doctype is made, and becomes the document's last child
-pub append_doctype_rearranges : (rules : SinkRules) (f : Forest) (name public_id system_id : List ℕ) → IsForest f → Rearranges f (append_doctype rules name public_id system_id f)
-append_doctype_rearranges rules f name public_id system_id k =
-    append_new_rearranges f (rules.fresh f) f.document (plain (DoctypeNode name public_id system_id)) k (rules.fresh_is_new f k) (plain_lone (DoctypeNode name public_id system_id)) (λ e. cc) (document_is_node f k)
+pub append_doctype_rearranges : (choices : SinkChoices) (f : Forest) (name public_id system_id : List ℕ) → IsForest f → Rearranges f (append_doctype choices name public_id system_id f)
+append_doctype_rearranges choices f name public_id system_id k =
+    append_new_rearranges f (choices.fresh f) f.document (plain (DoctypeNode name public_id system_id)) k (choices.fresh_is_new f k) (plain_lone (DoctypeNode name public_id system_id)) (λ e. cc) (document_is_node f k)

@@ -6,7 +6,7 @@ use Rattle.std.proofs.lemmas.Bool.{eq-eqb, eqb-true}
 use Rattle.h5_interface.specs.Ancestors.{AtOrAbove, IsAncestor}
 use Rattle.h5_interface.specs.Changes.{change_nodes, edit_children, joined, set_parents}
 use Rattle.h5_interface.specs.Forest.{AreParted, Child, Forest, FragmentNode, HasContents, IsForest, IsNode, Node, below, below_of, children_of, contents_of, count, is_at, kind_of, nodes, parent_of}
-use Rattle.h5_interface.specs.SinkRules.{Rearranges}
+use Rattle.h5_interface.specs.SinkChoices.{Rearranges}
 use Rattle.h5_interface.proofs.AncestorLaws.{ComesBy, acyclic_after, ancestor_after, ancestor_fewer, hung}
 use Rattle.h5_interface.proofs.ChildLaws.{NoneEmpty, count-append, nodes-joined, none_empty_of_parted, parted-joined}
 use Rattle.h5_interface.proofs.ForestLaws.{gone_alike, same_forest, there_alike}

@@ -3,5 +3,5 @@ pub mod Changes
 pub mod Forest
 pub mod NewElement
 pub mod Seen
-pub mod SinkRules
+pub mod SinkChoices
 pub mod SmallTree

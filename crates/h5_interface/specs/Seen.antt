@@ -10,7 +10,7 @@ use Rattle.h5_interface.specs.declared.sink.NodeOrText.TheVariants.{AppendNode, 
 use Rattle.h5_interface.specs.Ancestors.{AtOrAbove}
 use Rattle.h5_interface.specs.Changes.{add_missing_attributes, add_node, append_node, append_text, detach, host, insert_node_before, insert_text_before, mark, reparent}
 use Rattle.h5_interface.specs.Forest.{Child, ChildNode, ChildText, CommentNode, DoctypeNode, DocumentNode, ElementNode, Forest, FragmentNode, InstructionNode, IsNode, Kind, Marks, Node, kind_of, parent_of}
-use Rattle.h5_interface.specs.SinkRules.{SinkRules}
+use Rattle.h5_interface.specs.SinkChoices.{SinkChoices}
 
 -- `errors` grows with each parse error that is told, and with nothing else
 pub record Seen : Type 0 where
@@ -82,23 +82,23 @@ abbrev pub plain : Kind → Node
 plain kind = record { kind = kind; attrs = []; children = []; contents = None; parent = None; marks = no_marks no_flags }
 
 -- a new node stands in the forest, without a parent
-abbrev pub make : SinkRules → Node → Forest → Forest
-make rules d f = add_node (rules.fresh f) d f
+abbrev pub make : SinkChoices → Node → Forest → Forest
+make choices d f = add_node (choices.fresh f) d f
 
 -- a new fragment becomes the contents of t
-abbrev pub make_contents : SinkRules → ℕ → Forest → Forest
-make_contents rules t f = host t (rules.fresh f) (make rules (plain FragmentNode) f)
+abbrev pub make_contents : SinkChoices → ℕ → Forest → Forest
+make_contents choices t f = host t (choices.fresh f) (make choices (plain FragmentNode) f)
 
 -- the contents of t are made where it is to have them
-abbrev pub with_contents : Bool → SinkRules → ℕ → Forest → Forest
-with_contents true rules t f = make_contents rules t f
-with_contents false rules t f = f
+abbrev pub with_contents : Bool → SinkChoices → ℕ → Forest → Forest
+with_contents true choices t f = make_contents choices t f
+with_contents false choices t f = f
 
 -- a new element, and its contents where it is a template (HTML standard, section 13.2.6.1, create an
 -- element for a token)
-abbrev pub make_element : SinkRules → QualName → List AttributeText → ElementFlags → Forest → Forest
-make_element rules name attrs flags f =
-    with_contents flags.template rules (rules.fresh f) (make rules (element name attrs flags) f)
+abbrev pub make_element : SinkChoices → QualName → List AttributeText → ElementFlags → Forest → Forest
+make_element choices name attrs flags f =
+    with_contents flags.template choices (choices.fresh f) (make choices (element name attrs flags) f)
 
 -- the forest after each change of it
 abbrev pub with_last_child : ℕ → Child → Forest → Forest
@@ -118,11 +118,11 @@ abbrev pub changed : (Forest → Forest) → Seen → Seen
 changed change s = record s { forest = change s.forest }
 
 -- what is seen after each call
-abbrev pub after_create_element : SinkRules → QualName → List AttributeText → ElementFlags → Seen → Seen
-after_create_element rules name attrs flags = changed (make_element rules name attrs flags)
+abbrev pub after_create_element : SinkChoices → QualName → List AttributeText → ElementFlags → Seen → Seen
+after_create_element choices name attrs flags = changed (make_element choices name attrs flags)
 
-abbrev pub after_create : SinkRules → Kind → Seen → Seen
-after_create rules kind = changed (make rules (plain kind))
+abbrev pub after_create : SinkChoices → Kind → Seen → Seen
+after_create choices kind = changed (make choices (plain kind))
 
 abbrev pub after_append : ℕ → Child → Seen → Seen
 after_append p x = changed (with_last_child p x)
@@ -133,12 +133,12 @@ after_append_before s x = changed (with_child_before s x)
 abbrev pub after_append_by : (element prev : ℕ) → Child → Seen → Seen
 after_append_by element prev x = changed (λ f. with_child_by (parent_of f element) element prev x f)
 
-abbrev pub append_doctype : SinkRules → (name public_id system_id : List ℕ) → Forest → Forest
-append_doctype rules name public_id system_id f =
-    append_node f.document (rules.fresh f) (make rules (plain (DoctypeNode name public_id system_id)) f)
+abbrev pub append_doctype : SinkChoices → (name public_id system_id : List ℕ) → Forest → Forest
+append_doctype choices name public_id system_id f =
+    append_node f.document (choices.fresh f) (make choices (plain (DoctypeNode name public_id system_id)) f)
 
-abbrev pub after_append_doctype : SinkRules → (name public_id system_id : List ℕ) → Seen → Seen
-after_append_doctype rules name public_id system_id = changed (append_doctype rules name public_id system_id)
+abbrev pub after_append_doctype : SinkChoices → (name public_id system_id : List ℕ) → Seen → Seen
+after_append_doctype choices name public_id system_id = changed (append_doctype choices name public_id system_id)
 
 abbrev pub after_add_attrs : ℕ → List AttributeText → Seen → Seen
 after_add_attrs n attrs = changed (add_missing_attributes n attrs)
@@ -149,39 +149,39 @@ after_remove n = changed (detach n)
 abbrev pub after_reparent : (from to : ℕ) → Seen → Seen
 after_reparent from to = changed (reparent from to)
 
-abbrev pub after_started : SinkRules → ℕ → Seen → Seen
-after_started rules n = changed (λ f. mark (rules.marks_after_started f n) f)
+abbrev pub after_started : SinkChoices → ℕ → Seen → Seen
+after_started choices n = changed (λ f. mark (choices.marks_after_started f n) f)
 
-abbrev pub after_pop : SinkRules → ℕ → Seen → Seen
-after_pop rules n = changed (λ f. mark (rules.marks_after_pop f n) f)
+abbrev pub after_pop : SinkChoices → ℕ → Seen → Seen
+after_pop choices n = changed (λ f. mark (choices.marks_after_pop f n) f)
 
-abbrev pub after_associate : SinkRules → (element form place : ℕ) → (outer : Option ℕ) → Seen → Seen
-after_associate rules element form place outer = changed (λ f. mark (rules.marks_after_associate f element form place outer) f)
+abbrev pub after_associate : SinkChoices → (element form place : ℕ) → (outer : Option ℕ) → Seen → Seen
+after_associate choices element form place outer = changed (λ f. mark (choices.marks_after_associate f element form place outer) f)
 
-abbrev pub attach_where : Bool → SinkRules → (host template : ℕ) → List AttributeText → Forest → Forest
-attach_where true rules host template attrs f = rules.after_attach f host template attrs
-attach_where false rules host template attrs f = f
+abbrev pub attach_where : Bool → SinkChoices → (host template : ℕ) → List AttributeText → Forest → Forest
+attach_where true choices host template attrs f = choices.after_attach f host template attrs
+attach_where false choices host template attrs f = f
 
-abbrev pub attach : SinkRules → (host template : ℕ) → List AttributeText → Forest → Forest
-attach rules host template attrs f = attach_where (rules.attaches f host template attrs) rules host template attrs f
+abbrev pub attach : SinkChoices → (host template : ℕ) → List AttributeText → Forest → Forest
+attach choices host template attrs f = attach_where (choices.attaches f host template attrs) choices host template attrs f
 
-abbrev pub after_attach : SinkRules → (host template : ℕ) → List AttributeText → Seen → Seen
-after_attach rules host template attrs = changed (attach rules host template attrs)
+abbrev pub after_attach : SinkChoices → (host template : ℕ) → List AttributeText → Seen → Seen
+after_attach choices host template attrs = changed (attach choices host template attrs)
 
-abbrev pub after_option_copy : SinkRules → ℕ → Seen → Seen
-after_option_copy rules n = changed (λ f. rules.after_option_copy f n)
+abbrev pub after_option_copy : SinkChoices → ℕ → Seen → Seen
+after_option_copy choices n = changed (λ f. choices.after_option_copy f n)
 
 abbrev pub after_quirks : QuirksMode → Seen → Seen
 after_quirks mode s = record s { quirks = mode }
 
 -- whether a node is an element that is an integration point
-abbrev pub is_point_of_kind : SinkRules → Node → Kind → Bool
-is_point_of_kind rules d DocumentNode = false
-is_point_of_kind rules d (DoctypeNode name public_id system_id) = false
-is_point_of_kind rules d (ElementNode name) = rules.is_integration_point name d.attrs d.marks
-is_point_of_kind rules d (CommentNode text) = false
-is_point_of_kind rules d (InstructionNode target text) = false
-is_point_of_kind rules d FragmentNode = false
+abbrev pub is_point_of_kind : SinkChoices → Node → Kind → Bool
+is_point_of_kind choices d DocumentNode = false
+is_point_of_kind choices d (DoctypeNode name public_id system_id) = false
+is_point_of_kind choices d (ElementNode name) = choices.is_integration_point name d.attrs d.marks
+is_point_of_kind choices d (CommentNode text) = false
+is_point_of_kind choices d (InstructionNode target text) = false
+is_point_of_kind choices d FragmentNode = false
 
-abbrev pub is_integration_point : SinkRules → Forest → ℕ → Bool
-is_integration_point rules f n = option_map_or (λ d. is_point_of_kind rules d d.kind) (f.node n) false
+abbrev pub is_integration_point : SinkChoices → Forest → ℕ → Bool
+is_integration_point choices f n = option_map_or (λ d. is_point_of_kind choices d d.kind) (f.node n) false

@@ -19,9 +19,9 @@ pub fn create_element<S: TreeSink>(
     name: QualName,
     attrs: Vec<Attribute>,
 ) -> Result<S::Handle, AllocError>
-    ensures handle { IfOk result (λ handle. S.node handle ≡ S.rules.fresh (S.sees sink.old).forest) }
+    ensures handle { IfOk result (λ handle. S.node handle ≡ S.choices.fresh (S.sees sink.old).forest) }
     ensures ok { OnOk result
-        (S.sees sink.new ≡ after_create_element S.rules name (attribute_texts attrs.items) (flags_of name (attribute_texts attrs.items) false) (S.sees sink.old)) }
+        (S.sees sink.new ≡ after_create_element S.choices name (attribute_texts attrs.items) (flags_of name (attribute_texts attrs.items) false) (S.sees sink.old)) }
     ensures err { OnErr result (S.sees sink.new ≡ S.sees sink.old) }
 {
     create_element_with_flags(sink, name, attrs, false)
@@ -34,9 +34,9 @@ pub fn create_element_with_flags<S: TreeSink>(
     attrs: Vec<Attribute>,
     had_duplicate_attributes: bool,
 ) -> Result<S::Handle, AllocError>
-    ensures handle { IfOk result (λ handle. S.node handle ≡ S.rules.fresh (S.sees sink.old).forest) }
+    ensures handle { IfOk result (λ handle. S.node handle ≡ S.choices.fresh (S.sees sink.old).forest) }
     ensures ok { OnOk result
-        (S.sees sink.new ≡ after_create_element S.rules name (attribute_texts attrs.items) (flags_of name (attribute_texts attrs.items) had_duplicate_attributes) (S.sees sink.old)) }
+        (S.sees sink.new ≡ after_create_element S.choices name (attribute_texts attrs.items) (flags_of name (attribute_texts attrs.items) had_duplicate_attributes) (S.sees sink.old)) }
     ensures err { OnErr result (S.sees sink.new ≡ S.sees sink.old) }
 {
     let flags = flags_for(&name, attrs.as_slice(), had_duplicate_attributes);

@@ -4,7 +4,7 @@ ghost use Rattle.std.specs.Option.{option_map};
 ghost use Rattle.h5_names.specs.AttributeText.{attribute_texts};
 ghost use Rattle.h5_interface.specs.Forest.{CommentNode, ElementNode, HasContents, InstructionNode, IsElement, IsForest, IsNode, contents_of, kind_of};
 ghost use Rattle.h5_interface.specs.Seen.{CanAppend, CanAppendBasedOnParent, CanDetach, CanInsertBefore, CanReparent, Seen, after_add_attrs, after_append, after_append_before, after_append_by, after_append_doctype, after_associate, after_attach, after_create, after_create_element, after_option_copy, after_pop, after_quirks, after_remove, after_reparent, after_started, child_of, is_integration_point};
-ghost use Rattle.h5_interface.specs.SinkRules.{SinkRules};
+ghost use Rattle.h5_interface.specs.SinkChoices.{SinkChoices};
 
 use super::marks::{ElementFlags, QuirksMode};
 use h5_names::{Attribute, QualName};
@@ -22,8 +22,8 @@ pub enum NodeOrText<Handle> {
 /// A tree that a tree builder builds. The builder holds handles of its nodes, and nothing else.
 ///
 /// What the tree holds is a forest of nodes (DOM standard, section 4, "Nodes"). The answers, and what a
-/// call makes of the forest, are functions of the forest; what a sink may choose among these is in its
-/// rules. Texts that come to be neighbours are joined. After an `AllocError` the forest is what it was.
+/// call makes of the forest, are functions of the forest; what a sink may choose among these are its
+/// choices. Texts that come to be neighbours are joined. After an `AllocError` the forest is what it was.
 ///
 /// Conditions on the caller: handles are of nodes of this sink; an appended text isn't empty; an appended
 /// node is no document, has no parent, and is neither its new parent nor above it; only elements are asked
@@ -40,7 +40,7 @@ pub trait TreeSink {
     ghost node: { Self.Handle → ℕ };
 
     // What it chooses.
-    ghost rules: { SinkRules };
+    ghost choices: { SinkChoices };
 
     // What its result tells.
     ghost told: { Self.Output → Seen };
@@ -87,22 +87,22 @@ pub trait TreeSink {
         attrs: Vec<Attribute>,
         flags: ElementFlags,
     ) -> Result<Self::Handle, AllocError>
-        ensures handle { IfOk result (λ handle. node handle ≡ rules.fresh (sees self.old).forest) }
+        ensures handle { IfOk result (λ handle. node handle ≡ choices.fresh (sees self.old).forest) }
         ensures ok { OnOk result
-            (sees self.new ≡ after_create_element rules name (attribute_texts attrs.items) flags (sees self.old)) }
+            (sees self.new ≡ after_create_element choices name (attribute_texts attrs.items) flags (sees self.old)) }
         ensures err { OnErr result (sees self.new ≡ sees self.old) };
 
     /// A new comment without parent. An Err leaves the forest.
     fn create_comment(&mut self, text: String) -> Result<Self::Handle, AllocError>
-        ensures handle { IfOk result (λ handle. node handle ≡ rules.fresh (sees self.old).forest) }
-        ensures ok { OnOk result (sees self.new ≡ after_create rules (CommentNode (string_bytes text)) (sees self.old)) }
+        ensures handle { IfOk result (λ handle. node handle ≡ choices.fresh (sees self.old).forest) }
+        ensures ok { OnOk result (sees self.new ≡ after_create choices (CommentNode (string_bytes text)) (sees self.old)) }
         ensures err { OnErr result (sees self.new ≡ sees self.old) };
 
     /// A new processing instruction without parent. An Err leaves the forest.
     fn create_pi(&mut self, target: String, data: String) -> Result<Self::Handle, AllocError>
-        ensures handle { IfOk result (λ handle. node handle ≡ rules.fresh (sees self.old).forest) }
+        ensures handle { IfOk result (λ handle. node handle ≡ choices.fresh (sees self.old).forest) }
         ensures ok { OnOk result
-            (sees self.new ≡ after_create rules (InstructionNode (string_bytes target) (string_bytes «data»)) (sees self.old)) }
+            (sees self.new ≡ after_create choices (InstructionNode (string_bytes target) (string_bytes «data»)) (sees self.old)) }
         ensures err { OnErr result (sees self.new ≡ sees self.old) };
 
     /// A new last child. An Err leaves the forest.
@@ -147,7 +147,7 @@ pub trait TreeSink {
         system_id: String,
     ) -> Result<(), AllocError>
         ensures ok { OnOk result
-            (sees self.new ≡ after_append_doctype rules (string_bytes name) (string_bytes public_id) (string_bytes system_id) (sees self.old)) }
+            (sees self.new ≡ after_append_doctype choices (string_bytes name) (string_bytes public_id) (string_bytes system_id) (sees self.old)) }
         ensures err { OnErr result (sees self.new ≡ sees self.old) };
 
     /// An element gets those of the attributes whose names it doesn't have. An Err leaves the forest.
@@ -181,12 +181,12 @@ pub trait TreeSink {
     /// Notes that a script has started (HTML standard, section 4.12.1, already started).
     fn mark_script_already_started(&mut self, script: &Self::Handle)
         requires { IsElement (sees self.old).forest (node script.now) }
-        ensures { sees self.new ≡ after_started rules (node script.now) (sees self.old) };
+        ensures { sees self.new ≡ after_started choices (node script.now) (sees self.old) };
 
     /// Notes that an element was popped off the stack of open elements.
     fn pop(&mut self, element: &Self::Handle)
         requires { IsElement (sees self.old).forest (node element.now) }
-        ensures { sees self.new ≡ after_pop rules (node element.now) (sees self.old) };
+        ensures { sees self.new ≡ after_pop choices (node element.now) (sees self.old) };
 
     /// Associates an element with a form (HTML standard, section 13.2.6.1, create an element for a token).
     /// `nodes` are the place where it is to stand, and what stands outside that place.
@@ -199,7 +199,7 @@ pub trait TreeSink {
         requires target { IsElement (sees self.old).forest (node target.now) }
         requires form { IsNode (sees self.old).forest (node form.now) }
         requires place { IsNode (sees self.old).forest (node nodes.0.now) }
-        ensures { sees self.new ≡ after_associate rules (node target.now) (node form.now) (node nodes.entry.0.now)
+        ensures { sees self.new ≡ after_associate choices (node target.now) (node form.now) (node nodes.entry.0.now)
             (option_map (λ outer. node outer.now) nodes.entry.1) (sees self.old) };
 
     /// Sets the quirks mode. The forest stays.
@@ -214,13 +214,13 @@ pub trait TreeSink {
     /// construction"). Its name, its attributes and its marks tell.
     fn is_mathml_annotation_xml_integration_point(&self, target: &Self::Handle) -> bool
         requires { IsElement (sees self.now).forest (node target.now) }
-        ensures { result ≡ is_integration_point rules (sees self.now).forest (node target.now) };
+        ensures { result ≡ is_integration_point choices (sees self.now).forest (node target.now) };
 
     /// Whether declarative shadow roots are allowed below this parent (HTML standard, section 13.2.6.4.4,
     /// start tag "template").
     fn allow_declarative_shadow_roots(&self, parent: &Self::Handle) -> bool
         requires { IsNode (sees self.now).forest (node parent.now) }
-        ensures { result ≡ rules.allows_shadow (sees self.now).forest (node parent.now) };
+        ensures { result ≡ choices.allows_shadow (sees self.now).forest (node parent.now) };
 
     /// Attaches the contents of a template as the shadow root of its host, and tells whether it did. Where
     /// it didn't nothing has changed. An Err leaves the forest.
@@ -232,9 +232,9 @@ pub trait TreeSink {
     ) -> Result<bool, AllocError>
         requires host { IsNode (sees self.old).forest (node host.now) }
         requires template { IsNode (sees self.old).forest (node template.now) }
-        ensures answer { IfOk result (λ attached. attached ≡ rules.attaches (sees self.old).forest (node host.now) (node template.now) (attribute_texts attrs.now)) }
+        ensures answer { IfOk result (λ attached. attached ≡ choices.attaches (sees self.old).forest (node host.now) (node template.now) (attribute_texts attrs.now)) }
         ensures ok { OnOk result
-            (sees self.new ≡ after_attach rules (node host.now) (node template.now) (attribute_texts attrs.now) (sees self.old)) }
+            (sees self.new ≡ after_attach choices (node host.now) (node template.now) (attribute_texts attrs.now) (sees self.old)) }
         ensures err { OnErr result (sees self.new ≡ sees self.old) };
 
     /// Copies an option into `selectedcontent` elements (HTML standard, section 4.10.10, "The option
@@ -244,6 +244,6 @@ pub trait TreeSink {
         option: &Self::Handle,
     ) -> Result<(), AllocError>
         requires { IsElement (sees self.old).forest (node option.now) }
-        ensures ok { OnOk result (sees self.new ≡ after_option_copy rules (node option.now) (sees self.old)) }
+        ensures ok { OnOk result (sees self.new ≡ after_option_copy choices (node option.now) (sees self.old)) }
         ensures err { OnErr result (sees self.new ≡ sees self.old) };
 }

@@ -1,15 +1,22 @@
 -- A text that is cut in two is the whole text.
 use Rattle.std.proofs.Common.{◌≡◌, ℕ, Bool, true, false, ◌&&◌, List, [], ◌∷◌, ◌++◌, refl, ap, sym, ◌∙◌}
-use Rattle.h5_interface.specs.SinkRules.{SinkRules}
-use Rattle.h5_interface.specs.Changes.{append_text}
+use Rattle.h5_interface.specs.SinkChoices.{SinkChoices}
+use Rattle.h5_interface.specs.Changes.{append_text as append_text_to}
 use Rattle.h5_interface.specs.Forest.{Forest}
+use Rattle.h5_types.specs.TurnText.{TextTurn, TurnText}
 use Rattle.h5_types.specs.declared.modes.InsertionMode.{InsertionMode}
+use Rattle.h5_types.specs.declared.modes.SplitStatus.TheVariants.{NotWhitespace}
 use Rattle.h5_types.specs.declared.modes.InsertionMode.TheVariants.{Initial, BeforeHtml, BeforeHead, InHead, AfterHead, InBody, AfterBody, AfterAfterBody}
 use Rattle.h5_meaning.specs.Blanks.{is_blank, all_blank, blanks_of, rest_of}
-use Rattle.h5_meaning.specs.Changes.{append, in_mode, ok_if_text, with_forest}
-use Rattle.h5_meaning.specs.Modes.{initial_else, before_html_else, before_head_else, in_head_else, after_head_else}
-use Rattle.h5_meaning.specs.Rows.{Row, apply_all}
-use Rattle.h5_meaning.specs.Text.{if_any, split, dropped, by_else, text_in_body, back_in_body, text_after_body, text_after_head, text_in_head, text_before_head, text_before_html, text_initial, text_in, text_rule}
+use Rattle.h5_meaning.specs.Changes.{append_text, set_frameset_ok_by_text, with_forest}
+use Rattle.h5_meaning.specs.AfterBody.{back_to_body}
+use Rattle.h5_meaning.specs.AfterHead.{after_head_else}
+use Rattle.h5_meaning.specs.BeforeHead.{before_head_else}
+use Rattle.h5_meaning.specs.BeforeHtml.{before_html_else}
+use Rattle.h5_meaning.specs.InHead.{in_head_else}
+use Rattle.h5_meaning.specs.InitialMode.{initial_else}
+use Rattle.h5_meaning.specs.Rows.{Row, choose}
+use Rattle.h5_meaning.specs.Text.{after_row, if_any, split, dropped, by_else, text_in_body, text_after_body, text_after_head, text_in_head, text_before_head, text_before_html, text_initial, text_in, text_rule}
 use Rattle.h5_meaning.specs.World.{World, current, place}
 use Rattle.h5_meaning.proofs.TextForestLaws.{append_text_twice, inside_text}
 
@@ -43,13 +50,13 @@ drops : Blanks dropped
 drops = record { twice = λ t u w. refl; mode = λ t w. refl }
 
 -- the forest after a text that is put twice
-forest_twice : (t u : List ℕ) (w : World) → append_text (place (with_forest (append_text (place w) t w.forest) w)) u (append_text (place w) t w.forest) ≡ append_text (place w) (t ++ u) w.forest
+forest_twice : (t u : List ℕ) (w : World) → append_text_to (place (with_forest (append_text_to (place w) t w.forest) w)) u (append_text_to (place w) t w.forest) ≡ append_text_to (place w) (t ++ u) w.forest
 forest_twice t u w =
-    ap (λ p. append_text p u (append_text (place w) t w.forest)) (inside_text (place w) (current w) t w.forest)
+    ap (λ p. append_text_to p u (append_text_to (place w) t w.forest)) (inside_text (place w) (current w) t w.forest)
     ∙ append_text_twice (place w) t u w.forest
 
-appends : Blanks append
-unfolding append
+appends : Blanks append_text
+unfolding append_text
 appends = record { twice = λ t u w. ap (λ f. with_forest f w) (forest_twice t u w); mode = λ t w. refl }
 
 all_blank-append : (t u : List ℕ) → all_blank (t ++ u) ≡ (all_blank t && all_blank u)
@@ -67,10 +74,10 @@ abbrev with_text : World → Forest → Bool → World
 with_text w f o = record w { forest = f; frameset_ok = o }
 
 in_body_twice : Blanks text_in_body
-unfolding text_in_body append ok_if_text
+unfolding text_in_body append_text set_frameset_ok_by_text
 in_body_twice = record {
   twice = λ t u w. ap (λ f. with_text w f ((w.frameset_ok && all_blank t) && all_blank u)) (forest_twice t u w)
-      ∙ ap (λ o. with_text w (append_text (place w) (t ++ u) w.forest) o) (ok_twice w.frameset_ok t u);
+      ∙ ap (λ o. with_text w (append_text_to (place w) (t ++ u) w.forest) o) (ok_twice w.frameset_ok t u);
   mode = λ t w. refl;
 }
 
@@ -84,86 +91,118 @@ any_twice f b (x ∷ t) [] w = ap (λ z. f z w) (sym (append_nil (x ∷ t)))
 any_twice f b (x ∷ t) (y ∷ u) w = b.twice (x ∷ t) (y ∷ u) w
 
 -- the law of a rule of what is no blank: cut, it goes on by the rule of the view that is reached
-abbrev Law : SinkRules → (List ℕ → World → World) → Type 0
-Law rules f = (b : ℕ) (t : List ℕ) (d : ℕ) (u : List ℕ) (w : World) → f ((b ∷ t) ++ d ∷ u) w ≡ text_rule rules (d ∷ u) (f (b ∷ t) w)
+abbrev Law : SinkChoices → (List ℕ → World → World) → Type 0
+Law choices f = (b : ℕ) (t : List ℕ) (d : ℕ) (u : List ℕ) (w : World) → f ((b ∷ t) ++ d ∷ u) w ≡ text_rule choices (d ∷ u) (f (b ∷ t) w)
 
-split_cut : (rules : SinkRules) (m : InsertionMode) (blanks others : List ℕ → World → World) → Blanks blanks → Law rules others → ((t : List ℕ) (w : World) → w.mode ≡ m → text_rule rules t w ≡ split blanks others t w)
-    → (t : List ℕ) (d : ℕ) (u : List ℕ) (w : World) → w.mode ≡ m → Cut t (d ∷ u) → split blanks others (t ++ d ∷ u) w ≡ text_rule rules (d ∷ u) (split blanks others t w)
-split_cut rules m blanks others bs law is t d u w h (AllBlank e f g i) =
+split_cut : (choices : SinkChoices) (m : InsertionMode) (blanks others : List ℕ → World → World) → Blanks blanks → Law choices others → ((t : List ℕ) (w : World) → w.mode ≡ m → text_rule choices t w ≡ split blanks others t w)
+    → (t : List ℕ) (d : ℕ) (u : List ℕ) (w : World) → w.mode ≡ m → Cut t (d ∷ u) → split blanks others (t ++ d ∷ u) w ≡ text_rule choices (d ∷ u) (split blanks others t w)
+split_cut choices m blanks others bs law is t d u w h (AllBlank e f g i) =
     let v = if_any blanks t w in
     let left : split blanks others (t ++ d ∷ u) w ≡ split blanks others (d ∷ u) v = rw (g, i) (ap (λ x. if_any others (rest_of (d ∷ u)) x) (sym (any_twice blanks bs t (blanks_of (d ∷ u)) w))) in
     let right : split blanks others t w ≡ v = rw (e, f) refl in
-    left ∙ sym (is (d ∷ u) v (any_mode blanks bs t w ∙ h)) ∙ ap (λ x. text_rule rules (d ∷ u) x) (sym right)
-split_cut rules m blanks others bs law is t d u w h (HasRest b r e f g) =
+    left ∙ sym (is (d ∷ u) v (any_mode blanks bs t w ∙ h)) ∙ ap (λ x. text_rule choices (d ∷ u) x) (sym right)
+split_cut choices m blanks others bs law is t d u w h (HasRest b r e f g) =
     let v = if_any blanks (blanks_of t) w in
     let left : split blanks others (t ++ d ∷ u) w ≡ others ((b ∷ r) ++ d ∷ u) v = rw (f, g) refl in
     let right : split blanks others t w ≡ others (b ∷ r) v = rw e refl in
-    left ∙ law b r d u v ∙ ap (λ x. text_rule rules (d ∷ u) x) (sym right)
+    left ∙ law b r d u v ∙ ap (λ x. text_rule choices (d ∷ u) x) (sym right)
 
 -- the law of a mode
-abbrev Holds : SinkRules → InsertionMode → Type 0
-Holds rules m = (b : ℕ) (t : List ℕ) (d : ℕ) (u : List ℕ) (w : World) → w.mode ≡ m → text_in m rules ((b ∷ t) ++ d ∷ u) w ≡ text_rule rules (d ∷ u) (text_in m rules (b ∷ t) w)
+abbrev Holds : SinkChoices → InsertionMode → Type 0
+Holds choices m = (b : ℕ) (t : List ℕ) (d : ℕ) (u : List ℕ) (w : World) → w.mode ≡ m → text_in m choices ((b ∷ t) ++ d ∷ u) w ≡ text_rule choices (d ∷ u) (text_in m choices (b ∷ t) w)
 
-else_law : (rules : SinkRules) (r : World → Row) (m : InsertionMode) → Holds rules m → Law rules (by_else rules r m (text_in m rules))
-else_law rules r m h b t d u w = h b t d u (in_mode m (apply_all rules (r w).changes w)) refl
+-- a rule of "anything else" that looks at no text leads to one mode
+pub record Leads (choices : SinkChoices) (r : TurnText → World → Row) (m : InsertionMode) : Type 0 where
+  pub same : (t u : List ℕ) (w : World) → r (TextTurn NotWhitespace t) w ≡ r (TextTurn NotWhitespace u) w
+  pub mode : (t : List ℕ) (w : World) → (after_row choices (r (TextTurn NotWhitespace t) w) w).mode ≡ m
 
-pub by_mode : (rules : SinkRules) (m : InsertionMode) (t : List ℕ) (w : World) → w.mode ≡ m → text_rule rules t w ≡ text_in m rules t w
-by_mode rules m t w h = ap (λ k. text_in k rules t w) h
+else_law : (choices : SinkChoices) (r : TurnText → World → Row) (m : InsertionMode) → Leads choices r m → Holds choices m → Law choices (by_else choices r (text_in m choices))
+else_law choices r m leads h b t d u w =
+    ap (λ x. text_in m choices ((b ∷ t) ++ d ∷ u) (after_row choices x w)) (leads.same ((b ∷ t) ++ d ∷ u) (b ∷ t) w)
+    ∙ h b t d u (after_row choices (r (TextTurn NotWhitespace (b ∷ t)) w) w) (leads.mode (b ∷ t) w)
 
-in_body_holds : (rules : SinkRules) → Holds rules InBody
-in_body_holds rules b t d u w h =
+pub leads_back : (choices : SinkChoices) → Leads choices back_to_body InBody
+leads_back choices = record { same = λ t u w. refl; mode = λ t w. refl }
+
+pub leads_after_head : (choices : SinkChoices) → Leads choices after_head_else InBody
+leads_after_head choices = record { same = λ t u w. refl; mode = λ t w. refl }
+
+pub leads_in_head : (choices : SinkChoices) → Leads choices in_head_else AfterHead
+leads_in_head choices = record { same = λ t u w. refl; mode = λ t w. refl }
+
+pub leads_before_head : (choices : SinkChoices) → Leads choices before_head_else InHead
+leads_before_head choices = record { same = λ t u w. refl; mode = λ t w. refl }
+
+pub leads_before_html : (choices : SinkChoices) → Leads choices before_html_else BeforeHead
+leads_before_html choices = record { same = λ t u w. refl; mode = λ t w. refl }
+
+pub leads_initial : (choices : SinkChoices) → Leads choices initial_else BeforeHtml
+unfolding initial_else
+leads_initial choices = record {
+  same = λ t u w. refl;
+  mode = λ t w. elim w.options.iframe_srcdoc as (λ b. (after_row choices (choose b _ _) w).mode ≡ BeforeHtml) [ true ↦ refl | false ↦ refl ];
+}
+
+pub by_mode : (choices : SinkChoices) (m : InsertionMode) (t : List ℕ) (w : World) → w.mode ≡ m → text_rule choices t w ≡ text_in m choices t w
+by_mode choices m t w h = ap (λ k. text_in k choices t w) h
+
+in_body_holds : (choices : SinkChoices) → Holds choices InBody
+in_body_holds choices b t d u w h =
     sym (in_body_twice.twice (b ∷ t) (d ∷ u) w)
-    ∙ sym (by_mode rules InBody (d ∷ u) (text_in_body (b ∷ t) w) (in_body_twice.mode (b ∷ t) w ∙ h))
+    ∙ sym (by_mode choices InBody (d ∷ u) (text_in_body (b ∷ t) w) (in_body_twice.mode (b ∷ t) w ∙ h))
 
-back_law : (rules : SinkRules) → Law rules back_in_body
-back_law rules b t d u w = in_body_holds rules b t d u (in_mode InBody w) refl
-
-after_body_holds : (rules : SinkRules) → Holds rules AfterBody
+after_body_holds : (choices : SinkChoices) → Holds choices AfterBody
 unfolding text_after_body
-after_body_holds rules b t d u w h =
-    split_cut rules AfterBody text_in_body back_in_body in_body_twice (back_law rules) (λ s v e. by_mode rules AfterBody s v e) (b ∷ t) d u w h (cut (b ∷ t) (d ∷ u))
+after_body_holds choices b t d u w h =
+    split_cut choices AfterBody text_in_body (by_else choices back_to_body text_in_body) in_body_twice (else_law choices back_to_body InBody (leads_back choices) (in_body_holds choices)) (λ s v e. by_mode choices AfterBody s v e) (b ∷ t) d u w h (cut (b ∷ t) (d ∷ u))
 
-after_after_body_holds : (rules : SinkRules) → Holds rules AfterAfterBody
+after_after_body_holds : (choices : SinkChoices) → Holds choices AfterAfterBody
 unfolding text_after_body
-after_after_body_holds rules b t d u w h =
-    split_cut rules AfterAfterBody text_in_body back_in_body in_body_twice (back_law rules) (λ s v e. by_mode rules AfterAfterBody s v e) (b ∷ t) d u w h (cut (b ∷ t) (d ∷ u))
+after_after_body_holds choices b t d u w h =
+    split_cut choices AfterAfterBody text_in_body (by_else choices back_to_body text_in_body) in_body_twice (else_law choices back_to_body InBody (leads_back choices) (in_body_holds choices)) (λ s v e. by_mode choices AfterAfterBody s v e) (b ∷ t) d u w h (cut (b ∷ t) (d ∷ u))
 
-after_head_holds : (rules : SinkRules) → Holds rules AfterHead
+after_head_holds : (choices : SinkChoices) → Holds choices AfterHead
 unfolding text_after_head
-after_head_holds rules b t d u w h =
-    split_cut rules AfterHead append (by_else rules (λ w. after_head_else) InBody (text_in InBody rules)) appends (else_law rules (λ w. after_head_else) InBody (in_body_holds rules)) (λ s v e. by_mode rules AfterHead s v e) (b ∷ t) d u w h (cut (b ∷ t) (d ∷ u))
+after_head_holds choices b t d u w h =
+    split_cut choices AfterHead append_text (by_else choices after_head_else text_in_body) appends (else_law choices after_head_else InBody (leads_after_head choices) (in_body_holds choices)) (λ s v e. by_mode choices AfterHead s v e) (b ∷ t) d u w h (cut (b ∷ t) (d ∷ u))
 
-in_head_holds : (rules : SinkRules) → Holds rules InHead
+in_head_holds : (choices : SinkChoices) → Holds choices InHead
 unfolding text_in_head
-in_head_holds rules b t d u w h =
-    split_cut rules InHead append (by_else rules (λ w. in_head_else) AfterHead (text_in AfterHead rules)) appends (else_law rules (λ w. in_head_else) AfterHead (after_head_holds rules)) (λ s v e. by_mode rules InHead s v e) (b ∷ t) d u w h (cut (b ∷ t) (d ∷ u))
+in_head_holds choices b t d u w h =
+    split_cut choices InHead append_text (by_else choices in_head_else (text_after_head choices)) appends (else_law choices in_head_else AfterHead (leads_in_head choices) (after_head_holds choices)) (λ s v e. by_mode choices InHead s v e) (b ∷ t) d u w h (cut (b ∷ t) (d ∷ u))
 
-before_head_holds : (rules : SinkRules) → Holds rules BeforeHead
+before_head_holds : (choices : SinkChoices) → Holds choices BeforeHead
 unfolding text_before_head
-before_head_holds rules b t d u w h =
-    split_cut rules BeforeHead dropped (by_else rules (λ w. before_head_else) InHead (text_in InHead rules)) drops (else_law rules (λ w. before_head_else) InHead (in_head_holds rules)) (λ s v e. by_mode rules BeforeHead s v e) (b ∷ t) d u w h (cut (b ∷ t) (d ∷ u))
+before_head_holds choices b t d u w h =
+    split_cut choices BeforeHead dropped (by_else choices before_head_else (text_in_head choices)) drops (else_law choices before_head_else InHead (leads_before_head choices) (in_head_holds choices)) (λ s v e. by_mode choices BeforeHead s v e) (b ∷ t) d u w h (cut (b ∷ t) (d ∷ u))
 
-before_html_holds : (rules : SinkRules) → Holds rules BeforeHtml
+before_html_holds : (choices : SinkChoices) → Holds choices BeforeHtml
 unfolding text_before_html
-before_html_holds rules b t d u w h =
-    split_cut rules BeforeHtml dropped (by_else rules (λ w. before_html_else) BeforeHead (text_in BeforeHead rules)) drops (else_law rules (λ w. before_html_else) BeforeHead (before_head_holds rules)) (λ s v e. by_mode rules BeforeHtml s v e) (b ∷ t) d u w h (cut (b ∷ t) (d ∷ u))
+before_html_holds choices b t d u w h =
+    split_cut choices BeforeHtml dropped (by_else choices before_html_else (text_before_head choices)) drops (else_law choices before_html_else BeforeHead (leads_before_html choices) (before_head_holds choices)) (λ s v e. by_mode choices BeforeHtml s v e) (b ∷ t) d u w h (cut (b ∷ t) (d ∷ u))
 
-initial_holds : (rules : SinkRules) → Holds rules Initial
+initial_holds : (choices : SinkChoices) → Holds choices Initial
 unfolding text_initial
-initial_holds rules b t d u w h =
-    split_cut rules Initial dropped (by_else rules initial_else BeforeHtml (text_in BeforeHtml rules)) drops (else_law rules initial_else BeforeHtml (before_html_holds rules)) (λ s v e. by_mode rules Initial s v e) (b ∷ t) d u w h (cut (b ∷ t) (d ∷ u))
+initial_holds choices b t d u w h =
+    split_cut choices Initial dropped (by_else choices initial_else (text_before_html choices)) drops (else_law choices initial_else BeforeHtml (leads_initial choices) (before_html_holds choices)) (λ s v e. by_mode choices Initial s v e) (b ∷ t) d u w h (cut (b ∷ t) (d ∷ u))
 
-holds : (rules : SinkRules) (m : InsertionMode) → Holds rules m
-holds rules Initial = initial_holds rules
-holds rules BeforeHtml = before_html_holds rules
-holds rules BeforeHead = before_head_holds rules
-holds rules InHead = in_head_holds rules
-holds rules AfterHead = after_head_holds rules
-holds rules InBody = in_body_holds rules
-holds rules AfterBody = after_body_holds rules
-holds rules AfterAfterBody = after_after_body_holds rules
+-- a mode that isn't reached yet, whose rule of texts does nothing
+unreached_holds : (choices : SinkChoices) (m : InsertionMode) → ((t : List ℕ) (w : World) → text_in m choices t w ≡ w) → Holds choices m
+unreached_holds choices m none b t d u w h =
+    none ((b ∷ t) ++ d ∷ u) w ∙ sym (none (d ∷ u) w) ∙ sym (by_mode choices m (d ∷ u) w h) ∙ ap (text_rule choices (d ∷ u)) (sym (none (b ∷ t) w))
+
+holds : (choices : SinkChoices) (m : InsertionMode) → Holds choices m
+holds choices Initial = initial_holds choices
+holds choices BeforeHtml = before_html_holds choices
+holds choices BeforeHead = before_head_holds choices
+holds choices InHead = in_head_holds choices
+holds choices AfterHead = after_head_holds choices
+holds choices InBody = in_body_holds choices
+holds choices AfterBody = after_body_holds choices
+holds choices AfterAfterBody = after_after_body_holds choices
+holds choices m = unreached_holds choices m (λ t w. refl)
 
 -- The rule on a text and another is the rule on the first, and then the text rule of the view that is
 -- reached on the second.
-pub text_cut : (rules : SinkRules) (b : ℕ) (t : List ℕ) (d : ℕ) (u : List ℕ) (w : World) → text_rule rules ((b ∷ t) ++ d ∷ u) w ≡ text_rule rules (d ∷ u) (text_rule rules (b ∷ t) w)
-text_cut rules b t d u w = holds rules w.mode b t d u w refl
+pub text_cut : (choices : SinkChoices) (b : ℕ) (t : List ℕ) (d : ℕ) (u : List ℕ) (w : World) → text_rule choices ((b ∷ t) ++ d ∷ u) w ≡ text_rule choices (d ∷ u) (text_rule choices (b ∷ t) w)
+text_cut choices b t d u w = holds choices w.mode b t d u w refl

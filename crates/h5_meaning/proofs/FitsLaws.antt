@@ -1,31 +1,47 @@
 -- What a mode tells of open elements stays true, row by row.
-use Rattle.std.proofs.Common.{◌≡◌, ◌≢◌, Some, None, ◌<◌, ◌≤◌, ℕ, Bool, true, false, cond, not, ◌&&◌, List, [], ◌∷◌, length, bytes_eq, codes, refl, ap, sym, subst, ◌∙◌, arith}
-use Rattle.std.proofs.lemmas.List.{length-map}
+use Rattle.std.proofs.Common.{◌≡◌, ◌≢◌, Option, Some, None, is_some, ◌<◌, ℕ, Bool, true, false, cond, not, ◌&&◌, List, [], ◌∷◌, length, codes, refl, ap, sym, subst, ◌∙◌}
 use Rattle.h5_names.specs.declared.qualified.QualName.{QualName}
-use Rattle.h5_names.specs.AttributeText.{is_same_text}
+use Rattle.h5_names.specs.AttributeText.{AttributeText, is_same_text}
+use Rattle.h5_names.proofs.KnownNameLemmas.{not_text_of, text_of_known}
 use Rattle.h5_token.specs.TokenText.{TagText}
 use Rattle.h5_token.specs.declared.tag.TagKind.{TagKind}
 use Rattle.h5_token.specs.declared.tag.TagKind.TheVariants.{StartTag, EndTag}
-use Rattle.h5_interface.specs.SinkRules.{SinkRules}
+use Rattle.h5_interface.specs.SinkChoices.{SinkChoices}
 use Rattle.h5_interface.specs.declared.marks.QuirksMode.TheVariants.{Quirks}
-use Rattle.h5_tag_sets.specs.KnownNames.{known_name_of}
-use Rattle.h5_tag_sets.specs.TagSets.{html_namespace, is_html_named}
-use Rattle.h5_tag_sets.specs.declared.known.KnownName.{KnownName}
-use Rattle.h5_tag_sets.specs.declared.known.KnownName.TheVariants.{Html, Head, Body, Other}
+use Rattle.h5_names.specs.KnownNames.{known_name_of, name_text}
+use Rattle.h5_tag_sets.specs.TagSets.{is_html_named}
+use Rattle.h5_names.specs.declared.known_name.KnownName.{KnownName}
+use Rattle.h5_names.specs.declared.known_name.KnownName.TheVariants.{Html, Head, Body, Br}
 use Rattle.h5_types.specs.TurnText.{TurnText, TagTurn, CommentTurn, TextTurn, NullTurn, EofTurn, HasText}
 use Rattle.h5_types.specs.declared.modes.InsertionMode.{InsertionMode}
 use Rattle.h5_types.specs.declared.modes.InsertionMode.TheVariants.{Initial, BeforeHtml, BeforeHead, InHead, AfterHead, InBody, AfterBody, AfterAfterBody}
 use Rattle.h5_types.specs.declared.modes.SplitStatus.TheVariants.{NotSplit, Whitespace, NotWhitespace}
 use Rattle.h5_types.specs.declared.turns.ProcessResult.{ProcessResult}
-use Rattle.h5_types.specs.declared.turns.ProcessResult.TheVariants.{Done, Reprocess}
-use Rattle.h5_meaning.specs.Changes.{add_attributes_at, add_attributes_to_root, add_attributes_to_second, append, append_comment, append_comment_to_document, append_comment_to_root, cut_at_named, frameset_off, head_is_current, implied_ends_except, in_mode, insert, insert_root, ok_if_text, pop, pop_while, set_quirks}
-use Rattle.h5_meaning.specs.Modes.{after_after_body_tag, after_body_tag, after_head_tag, before_head_tag, before_html_tag, body_ends, body_in_scope, choose, if_body_in_scope, in_body_end_other, in_body_start_body, in_body_start_html, in_body_tag, in_head_tag, initial_else, rule}
-use Rattle.h5_meaning.specs.Rows.{Follows, AddAttributesToRoot, AddAttributesToSecond, Again, Answer, Append, AppendComment, AppendCommentToDocument, AppendCommentToRoot, Change, CutAtNamed, Ending, FramesetOff, HeadIsCurrent, ImpliedEndsExcept, Insert, InsertRoot, IsDone, OkIfText, Pop, Row, SetMode, SetQuirks, apply, apply_all, errs, ignored, row}
-use Rattle.h5_meaning.specs.Scope.{comes_before_special, has_template, second_is}
-use Rattle.h5_meaning.specs.Sound.{Fits, FitsMode, Sound, least}
-use Rattle.h5_meaning.specs.World.{World, html_name, name_in, names_of, second_from_last}
-use Rattle.h5_meaning.proofs.NameLaws.{names-add_to_root, names-add_to_second, names-append, names-append_comment, names-append_comment_to_document, names-append_comment_to_root, names-cut, names-implied, names-insert, names-insert_root, root_stays, RootStays, cut_names}
-use Rattle.h5_meaning.proofs.PopLaws.{later_names, names-pop}
+use Rattle.h5_types.specs.declared.turns.ProcessResult.TheVariants as results
+use Rattle.h5_fits.specs.Fits.{Situation, is_before_root}
+use Rattle.h5_fits.specs.StageFits.{IsRootAlone, IsRootOpen, StageFits}
+use Rattle.h5_fits.proofs.RoleLaws.{made_named}
+use Rattle.h5_fits.proofs.StageLaws.{stage_body_pushed, stage_ended, stage_head_popped, stage_head_pushed, stage_pushed, stage_root_pushed, stage_situation, stage_some}
+use Rattle.h5_meaning.specs.AfterAfterBody.{after_after_body_named, after_after_body_tag}
+use Rattle.h5_meaning.specs.AfterBody.{after_body_named, after_body_tag}
+use Rattle.h5_meaning.specs.AfterHead.{after_head_named, after_head_tag}
+use Rattle.h5_meaning.specs.BeforeHead.{before_head_named, before_head_tag}
+use Rattle.h5_meaning.specs.BeforeHtml.{before_html_named, before_html_tag}
+use Rattle.h5_meaning.specs.Changes.{add_attrs_at, add_attrs_to_html, add_attrs_to_second, append_text, append_comment, append_comment_to_doc, append_comment_to_html, pop_until_named, set_frameset_not_ok, set_head_to_current, generate_implied_end_except, set_mode, insert_element, create_root, set_frameset_ok_by_text, pop, pop_while, set_quirks_mode}
+use Rattle.h5_meaning.specs.InBody.{body_ends, body_in_scope, if_body_in_scope, in_body_end_other, in_body_named, in_body_start_body, in_body_tag}
+use Rattle.h5_meaning.specs.InHead.{in_head_named, in_head_tag}
+use Rattle.h5_meaning.specs.InitialMode.{initial_else}
+use Rattle.h5_meaning.specs.Modes.{rule}
+use Rattle.h5_meaning.specs.Rows.{Follows, AddAttrsToHtml, AddAttrsToSecond, Again, AppendText, AppendComment, AppendCommentToDoc, AppendCommentToHtml, Change, PopUntilNamed, Ending, SetFramesetNotOk, SetHeadToCurrent, GenerateImpliedEndExcept, InsertElement, CreateRoot, IsDone, SetFramesetOkByText, Pop, Row, SetMode, SetQuirksMode, apply, apply_all, choose, errs, ignored, next_mode, row}
+use Rattle.h5_meaning.specs.Shared.{in_body_start_html}
+use Rattle.h5_stack.specs.Scope.{comes_before_special, has_template, second_is}
+use Rattle.h5_meaning.specs.Sound.{Fits, Sound, situation_of}
+use Rattle.h5_meaning.specs.World.{World, names_of}
+use Rattle.h5_stack.specs.FormattingNames.{html_name}
+use Rattle.h5_stack.specs.Order.{second_from_last}
+use Rattle.h5_meaning.proofs.NameLaws.{names-add_to_root, names-add_to_second, names-append, names-append_comment, names-append_comment_to_document, names-append_comment_to_root, names-cut, names-implied, names-insert, names-insert_root}
+use Rattle.h5_stack.specs.Scope.{cut_names}
+use Rattle.h5_meaning.proofs.PopLaws.{names-pop, names_length}
 
 -- the mode that changes and an ending leave
 abbrev mode_after : InsertionMode → List Change → InsertionMode
@@ -33,199 +49,211 @@ mode_after m [] = m
 mode_after m (SetMode k ∷ xs) = mode_after k xs
 mode_after m (x ∷ xs) = mode_after m xs
 
-abbrev pub next_mode : InsertionMode → Ending → InsertionMode
-next_mode m IsDone = m
-next_mode m (Again k) = k
-next_mode m (Answer reply) = m
+abbrev mode_with : InsertionMode → Option InsertionMode → InsertionMode
+mode_with m None = m
+mode_with m (Some k) = k
 
-abbrev mode_of_row : InsertionMode → Row → InsertionMode
-mode_of_row m r = next_mode (mode_after m r.changes) r.ending
+-- the open elements fit a mode
+abbrev FitsAs : InsertionMode → World → Type 0
+FitsAs m w = StageFits (situation_of w) m (names_of w)
 
-module _ (rules : SinkRules) (w : World) (sound : Sound w) where
-  -- after a row in a mode, the names fit the mode that it leaves
+-- open elements and head are as they were
+as_before : (m : InsertionMode) (w v : World) → names_of v ≡ names_of w → v.head ≡ w.head → FitsAs m w → FitsAs m v
+as_before m w v e d h =
+    subst (StageFits (situation_of v) m) (sym e) (stage_situation (situation_of w) (situation_of v) m (names_of w) (λ k. ap is_some d ∙ k) h)
+
+module _ (choices : SinkChoices) (w : World) (sound : Sound w) where
+  abbrev After : Row → World
+  After r = apply_all choices r.changes w
+
+  abbrev here : Situation
+  here = situation_of w
+
+  -- after a row in a mode, the open elements fit the mode that it leaves
   abbrev Kept : InsertionMode → Row → Type 0
-  Kept m r = FitsMode m (names_of w) → FitsMode (mode_of_row m r) (names_of (apply_all rules r.changes w))
+  Kept m r = FitsAs m w → FitsAs (mode_with (mode_after m r.changes) (next_mode r.ending (After r))) (After r)
 
   kept_choose : (m : InsertionMode) (b : Bool) (r s : Row) → (b ≡ true → Kept m r) → Kept m s → Kept m (choose b r s)
   kept_choose m true r s x y = x refl
   kept_choose m false r s x y = y
 
-  kept_none : (m : InsertionMode) (r : Row) → r.changes ≡ [] → least (next_mode m r.ending) ≤ least m → Kept m r
-  kept_none m r e few h =
-      subst (λ xs. FitsMode (next_mode (mode_after m xs) r.ending) (names_of (apply_all rules xs w))) (sym e)
-      (record { enough = omega (arith, few, h.enough); root = h.root })
-
-  -- the names are as they were
-  as_before : (m k : InsertionMode) (ns : List QualName) → ns ≡ names_of w → least k ≤ least m → FitsMode m (names_of w) → FitsMode k ns
-  as_before m k ns e few h = subst (FitsMode k) (sym e) (record { enough = omega (arith, few, h.enough); root = h.root })
-
-  -- an element is the newest
-  pushed : (m k : InsertionMode) (n : QualName) (ns os : List QualName) → ns ≡ n ∷ os → least m ≡ 1 → least k ≤ 2 → FitsMode m os → FitsMode k ns
-  pushed m k n ns [] e one few h = absurd (omega (arith, one, h.enough))
-  pushed m k n ns (o ∷ os) e one few h = subst (FitsMode k) (sym e) (record { enough = omega (arith, few); root = h.root })
-
   -- the root is made
-  root_pushed : (m k : InsertionMode) (ns os : List QualName) → ns ≡ html_name (codes "html") ∷ os → least k ≤ 1 → FitsMode m os → FitsMode k ns
-  unfolding is_html_named html_namespace
-  root_pushed m k ns [] e few h = subst (FitsMode k) (sym e) (record { enough = omega (arith, few); root = refl })
-  root_pushed m k ns (o ∷ os) e few h = subst (FitsMode k) (sym e) (record { enough = omega (arith, few); root = h.root })
+  root_made : (attrs : List AttributeText) → FitsAs BeforeHtml w → FitsAs BeforeHead (create_root choices attrs w)
+  root_made attrs h = subst IsRootAlone (sym (names-insert_root choices attrs w sound)) (stage_root_pushed here here (names_of w) h)
 
-  -- the newest is popped
-  popped : (ns os : List QualName) → ns ≡ later_names os → FitsMode InHead os → FitsMode AfterHead ns
-  popped ns [] e h = absurd (omega (arith, h.enough))
-  popped ns (o ∷ []) e h = absurd (omega (arith, h.enough))
-  popped ns (o ∷ p ∷ os) e h = subst (FitsMode AfterHead) (sym e) (record { enough = omega arith; root = h.root })
+  -- the head is pushed, and known
+  head_pushed : (local : List ℕ) (attrs : List AttributeText) (duplicates : Bool) → local ≡ codes "head" → FitsAs BeforeHead w → FitsAs InHead (set_head_to_current (insert_element choices local attrs duplicates w))
+  unfolding names_of set_head_to_current
+  head_pushed local attrs duplicates e h =
+      let v = set_head_to_current (insert_element choices local attrs duplicates w) in
+      subst (StageFits (situation_of v) InHead) (sym (names-insert choices local attrs duplicates w sound))
+      (stage_head_pushed here (situation_of v) (html_name local) (names_of w) (subst (λ l. is_html_named l (html_name local) ≡ true) e (made_named local)) refl h)
+
+  -- the head is popped
+  head_popped : FitsAs InHead w → FitsAs AfterHead (pop choices w)
+  unfolding pop
+  head_popped h = subst (StageFits here AfterHead) (sym (names-pop choices w)) (stage_head_popped here (names_of w) h)
+
+  -- the body is pushed
+  body_pushed : (local : List ℕ) (attrs : List AttributeText) (duplicates : Bool) → FitsAs AfterHead w → FitsAs InBody (insert_element choices local attrs duplicates w)
+  body_pushed local attrs duplicates h =
+      subst IsRootOpen (sym (names-insert choices local attrs duplicates w sound)) (stage_body_pushed here here (html_name local) (names_of w) h)
+
+  -- an element is pushed in the body
+  pushed : (local : List ℕ) (attrs : List AttributeText) (duplicates : Bool) → FitsAs InBody w → FitsAs InBody (insert_element choices local attrs duplicates w)
+  pushed local attrs duplicates h =
+      subst IsRootOpen (sym (names-insert choices local attrs duplicates w sound)) (stage_pushed here here (html_name local) (names_of w) h)
 
   kept_start_html : (m : InsertionMode) (tag : TagText) → Kept m (in_body_start_html tag w)
-  unfolding in_body_start_html
-  kept_start_html m tag = kept_choose m (has_template (names_of w)) ignored (errs (AddAttributesToRoot tag.attrs ∷ []) IsDone)
-      (λ e. kept_none m ignored refl (omega arith))
-      (λ h. as_before m m _ (names-add_to_root tag.attrs w sound) (omega arith) h)
+  unfolding in_body_start_html add_attrs_to_html
+  kept_start_html m tag = kept_choose m (has_template (names_of w)) ignored (errs (AddAttrsToHtml tag.attrs ∷ []) IsDone)
+      (λ e h. h)
+      (as_before m w (add_attrs_to_html tag.attrs w) (names-add_to_root tag.attrs w sound) refl)
 
-  kept_quirks : Kept Initial (errs (SetQuirks Quirks ∷ []) (Again BeforeHtml))
-  unfolding set_quirks names_of
-  kept_quirks h = record { enough = omega arith; root = h.root }
+  kept_quirks : Kept Initial (errs (SetQuirksMode Quirks ∷ []) (Again BeforeHtml))
+  unfolding set_quirks_mode names_of
+  kept_quirks h = h
 
-  kept_initial : Kept Initial (initial_else w)
+  kept_initial : (t : TurnText) → Kept Initial (initial_else t w)
   unfolding initial_else
-  kept_initial = kept_choose Initial w.options.iframe_srcdoc (row [] (Again BeforeHtml)) (errs (SetQuirks Quirks ∷ []) (Again BeforeHtml))
-      (λ e. kept_none Initial (row [] (Again BeforeHtml)) refl (omega arith)) kept_quirks
+  kept_initial t = kept_choose Initial w.options.iframe_srcdoc (row [] (Again BeforeHtml)) (errs (SetQuirksMode Quirks ∷ []) (Again BeforeHtml))
+      (λ e h. h) kept_quirks
 
-  kept_root : Kept BeforeHtml (row (InsertRoot [] ∷ []) (Again BeforeHead))
-  kept_root h = root_pushed BeforeHtml BeforeHead _ _ (names-insert_root rules [] w sound) (omega arith) h
+  kept_root : Kept BeforeHtml (row (CreateRoot [] ∷ []) (Again BeforeHead))
+  kept_root = root_made []
 
-  kept_before_html : (k : TagKind) (n : KnownName) (tag : TagText) → Kept BeforeHtml (before_html_tag k n tag)
+  kept_before_html : (k : TagKind) (n : KnownName) (tag : TagText) → Kept BeforeHtml (before_html_named k n tag w)
   unfolding names_of
-  kept_before_html StartTag Html tag h = root_pushed BeforeHtml BeforeHead _ _ (names-insert_root rules tag.attrs w sound) (omega arith) h
-  kept_before_html EndTag Other tag h = h
-  kept_before_html _ _ tag h = kept_root h
+  kept_before_html StartTag Html tag h = root_made tag.attrs h
+  kept_before_html EndTag Head tag h = kept_root h
+  kept_before_html EndTag Body tag h = kept_root h
+  kept_before_html EndTag Html tag h = kept_root h
+  kept_before_html EndTag Br tag h = kept_root h
+  kept_before_html EndTag _ tag h = h
+  kept_before_html StartTag _ tag h = kept_root h
 
-  kept_head : Kept BeforeHead (row (Insert (codes "head") [] false ∷ HeadIsCurrent ∷ []) (Again InHead))
-  unfolding names_of head_is_current
-  kept_head h = pushed BeforeHead InHead _ _ _ (names-insert rules (codes "head") [] false w sound) refl (omega arith) h
+  kept_head : Kept BeforeHead (row (InsertElement (codes "head") [] false ∷ SetHeadToCurrent ∷ []) (Again InHead))
+  kept_head = head_pushed (codes "head") [] false refl
 
-  kept_before_head : (k : TagKind) (n : KnownName) (tag : TagText) → Kept BeforeHead (before_head_tag k n tag w)
-  unfolding names_of head_is_current
-  kept_before_head StartTag Html tag h = kept_start_html BeforeHead tag h
-  kept_before_head StartTag Head tag h = pushed BeforeHead InHead _ _ _ (names-insert rules tag.name tag.attrs tag.had_duplicate_attributes w sound) refl (omega arith) h
-  kept_before_head EndTag Other tag h = h
-  kept_before_head _ _ tag h = kept_head h
+  kept_before_head : (k : TagKind) (n : KnownName) (tag : TagText) → (n ≡ Head → tag.name ≡ codes "head") → Kept BeforeHead (before_head_named k n tag w)
+  unfolding names_of
+  kept_before_head StartTag Html tag named h = kept_start_html BeforeHead tag h
+  kept_before_head StartTag Head tag named h = head_pushed tag.name tag.attrs tag.had_duplicate_attributes (named refl) h
+  kept_before_head EndTag Head tag named h = kept_head h
+  kept_before_head EndTag Body tag named h = kept_head h
+  kept_before_head EndTag Html tag named h = kept_head h
+  kept_before_head EndTag Br tag named h = kept_head h
+  kept_before_head EndTag _ tag named h = h
+  kept_before_head StartTag _ tag named h = kept_head h
 
   kept_pop : Kept InHead (row (Pop ∷ []) (Again AfterHead))
-  kept_pop h = popped _ _ (names-pop rules w) h
+  kept_pop = head_popped
 
-  kept_in_head : (k : TagKind) (n : KnownName) (tag : TagText) → Kept InHead (in_head_tag k n tag w)
+  kept_in_head : (k : TagKind) (n : KnownName) (tag : TagText) → Kept InHead (in_head_named k n tag w)
   unfolding names_of
   kept_in_head StartTag Html tag h = kept_start_html InHead tag h
+  kept_in_head EndTag Head tag h = head_popped h
+  kept_in_head EndTag Body tag h = kept_pop h
+  kept_in_head EndTag Html tag h = kept_pop h
+  kept_in_head EndTag Br tag h = kept_pop h
   kept_in_head StartTag Head tag h = h
-  kept_in_head EndTag Head tag h = popped _ _ (names-pop rules w) h
-  kept_in_head EndTag Other tag h = h
-  kept_in_head _ _ tag h = kept_pop h
+  kept_in_head EndTag _ tag h = h
+  kept_in_head StartTag _ tag h = kept_pop h
 
-  kept_body : Kept AfterHead (row (Insert (codes "body") [] false ∷ []) (Again InBody))
-  kept_body h = pushed AfterHead InBody _ _ _ (names-insert rules (codes "body") [] false w sound) refl (omega arith) h
+  kept_body : Kept AfterHead (row (InsertElement (codes "body") [] false ∷ []) (Again InBody))
+  kept_body = body_pushed (codes "body") [] false
 
-  kept_after_head : (k : TagKind) (n : KnownName) (tag : TagText) → Kept AfterHead (after_head_tag k n tag w)
+  kept_after_head : (k : TagKind) (n : KnownName) (tag : TagText) → Kept AfterHead (after_head_named k n tag w)
   unfolding names_of
   kept_after_head StartTag Html tag h = kept_start_html AfterHead tag h
-  kept_after_head StartTag Body tag h = pushed AfterHead InBody _ _ _ (names-insert rules tag.name tag.attrs tag.had_duplicate_attributes w sound) refl (omega arith) h
+  kept_after_head StartTag Body tag h = body_pushed tag.name tag.attrs tag.had_duplicate_attributes h
+  kept_after_head EndTag Body tag h = kept_body h
+  kept_after_head EndTag Html tag h = kept_body h
+  kept_after_head EndTag Br tag h = kept_body h
   kept_after_head StartTag Head tag h = h
-  kept_after_head EndTag Head tag h = h
-  kept_after_head EndTag Other tag h = h
-  kept_after_head _ _ tag h = kept_body h
+  kept_after_head EndTag _ tag h = h
+  kept_after_head StartTag _ tag h = kept_body h
 
-  names_off : names_of (frameset_off w) ≡ names_of w
+  kept_second : (tag : TagText) → Kept InBody (errs (SetFramesetNotOk ∷ AddAttrsToSecond tag.attrs ∷ []) IsDone)
   unfolding names_of
-  names_off = refl
-
-  kept_second : (tag : TagText) → Kept InBody (errs (FramesetOff ∷ AddAttributesToSecond tag.attrs ∷ []) IsDone)
-  kept_second tag h = as_before InBody InBody _ (names-add_to_second tag.attrs (frameset_off w) sound ∙ names_off) (omega arith) h
+  kept_second tag h = subst IsRootOpen (sym (names-add_to_second tag.attrs (set_frameset_not_ok w) sound)) h
 
   kept_start_body : (tag : TagText) → Kept InBody (in_body_start_body tag w)
   unfolding in_body_start_body
   kept_start_body tag = kept_choose InBody (second_is (codes "body") (names_of w) && not (has_template (names_of w)))
-      (errs (FramesetOff ∷ AddAttributesToSecond tag.attrs ∷ []) IsDone) ignored
-      (λ e. kept_second tag) (kept_none InBody ignored refl (omega arith))
+      (errs (SetFramesetNotOk ∷ AddAttrsToSecond tag.attrs ∷ []) IsDone) ignored
+      (λ e. kept_second tag) (λ h. h)
 
   kept_if_body : (m : InsertionMode) (r : Row) → Kept m r → Kept m (if_body_in_scope r w)
   unfolding if_body_in_scope
-  kept_if_body m r k = kept_choose m (body_in_scope w) r ignored (λ e. k) (kept_none m ignored refl (omega arith))
-
-  kept_set_mode : (m k : InsertionMode) → least k ≤ least m → Kept m (row (SetMode k ∷ []) IsDone)
-  unfolding names_of
-  kept_set_mode m k few h = record { enough = omega (arith, few, h.enough); root = h.root }
-
-  from_stays : (ns : List QualName) → RootStays ns → FitsMode InBody ns
-  from_stays ns k = record { enough = omega (arith, k.some); root = k.root }
+  kept_if_body m r k = kept_choose m (body_in_scope w) r ignored (λ e. k) (λ h. h)
 
   kept_end_other : (tag : TagText) → is_same_text tag.name (codes "html") ≡ false → Kept InBody (in_body_end_other tag w)
   unfolding in_body_end_other
-  kept_end_other tag other = kept_choose InBody (comes_before_special tag.name (names_of w)) (errs (ImpliedEndsExcept tag.name ∷ CutAtNamed tag.name ∷ []) IsDone) ignored
-      (λ e h. subst (FitsMode InBody)
-      (sym (names-cut tag.name (implied_ends_except rules tag.name w) ∙ ap (cut_names (is_html_named tag.name)) (names-implied rules tag.name w)))
-      (from_stays _ (root_stays tag.name (names_of w) other e h.root)))
-      (kept_none InBody ignored refl (omega arith))
+  kept_end_other tag other = kept_choose InBody (comes_before_special tag.name (names_of w)) (errs (GenerateImpliedEndExcept tag.name ∷ PopUntilNamed tag.name ∷ []) IsDone) ignored
+      (λ e h. subst IsRootOpen
+      (sym (names-cut tag.name (generate_implied_end_except choices tag.name w) ∙ ap (cut_names (is_html_named tag.name)) (names-implied choices tag.name w)))
+      (stage_ended here here tag.name (names_of w) other e h))
+      (λ h. h)
 
-  kept_in_body : (k : TagKind) (n : KnownName) (tag : TagText) → (n ≢ Html → is_same_text tag.name (codes "html") ≡ false) → Kept InBody (in_body_tag k n tag w)
+  kept_in_body : (k : TagKind) (n : KnownName) (tag : TagText) → (n ≢ Html → is_same_text tag.name (codes "html") ≡ false) → Kept InBody (in_body_named k n tag w)
+  unfolding names_of
   kept_in_body StartTag Html tag other h = kept_start_html InBody tag h
   kept_in_body StartTag Body tag other h = kept_start_body tag h
-  kept_in_body StartTag _ tag other h = pushed InBody InBody _ _ _ (names-insert rules tag.name tag.attrs tag.had_duplicate_attributes w sound) refl (omega arith) h
-  kept_in_body EndTag Html tag other h = kept_if_body InBody (body_ends [] (Again AfterBody) w) (kept_none InBody (body_ends [] (Again AfterBody) w) refl (omega arith)) h
-  kept_in_body EndTag Body tag other h = kept_if_body InBody (body_ends (SetMode AfterBody ∷ []) IsDone w) (kept_set_mode InBody AfterBody (omega arith)) h
+  kept_in_body StartTag _ tag other h = pushed tag.name tag.attrs tag.had_duplicate_attributes h
+  kept_in_body EndTag Html tag other h = kept_if_body InBody (body_ends [] (Again AfterBody) w) (λ k. k) h
+  kept_in_body EndTag Body tag other h = kept_if_body InBody (body_ends (SetMode AfterBody ∷ []) IsDone w) (λ k. k) h
   kept_in_body EndTag _ tag other h = kept_end_other tag (other (λ e. cc)) h
 
-  names_ok_if : (t : List ℕ) → names_of (ok_if_text t w) ≡ names_of w
-  unfolding names_of ok_if_text
-  names_ok_if t = refl
+  kept_text_in_body : (m : InsertionMode) (t : List ℕ) → t ≢ [] → Kept m (row (SetFramesetOkByText t ∷ AppendText t ∷ []) IsDone)
+  unfolding append_text names_of set_frameset_ok_by_text
+  kept_text_in_body m t some = as_before m w (append_text t (set_frameset_ok_by_text t w)) (names-append t (set_frameset_ok_by_text t w) some sound) refl
 
-  sound_ok_if : (t : List ℕ) → Sound (ok_if_text t w)
-  unfolding ok_if_text
-  sound_ok_if t = sound
-
-  kept_text_in_body : (m : InsertionMode) (t : List ℕ) → t ≢ [] → Kept m (row (OkIfText t ∷ Append t ∷ []) IsDone)
-  kept_text_in_body m t some h = as_before m m _ (names-append t (ok_if_text t w) some (sound_ok_if t) ∙ names_ok_if t) (omega arith) h
-
-  kept_append : (m : InsertionMode) (t : List ℕ) → t ≢ [] → Kept m (row (Append t ∷ []) IsDone)
-  kept_append m t some h = as_before m m _ (names-append t w some sound) (omega arith) h
+  kept_append : (m : InsertionMode) (t : List ℕ) → t ≢ [] → Kept m (row (AppendText t ∷ []) IsDone)
+  unfolding append_text
+  kept_append m t some = as_before m w (append_text t w) (names-append t w some sound) refl
 
   kept_comment : (m : InsertionMode) (t : List ℕ) → Kept m (row (AppendComment t ∷ []) IsDone)
-  kept_comment m t h = as_before m m _ (names-append_comment rules t w sound) (omega arith) h
+  unfolding append_comment
+  kept_comment m t = as_before m w (append_comment choices t w) (names-append_comment choices t w sound) refl
 
-  kept_comment_to_document : (m : InsertionMode) (t : List ℕ) → Kept m (row (AppendCommentToDocument t ∷ []) IsDone)
-  kept_comment_to_document m t h = as_before m m _ (names-append_comment_to_document rules t w sound) (omega arith) h
+  kept_comment_to_document : (m : InsertionMode) (t : List ℕ) → Kept m (row (AppendCommentToDoc t ∷ []) IsDone)
+  unfolding append_comment_to_doc
+  kept_comment_to_document m t = as_before m w (append_comment_to_doc choices t w) (names-append_comment_to_document choices t w sound) refl
 
-  kept_comment_to_root : (m : InsertionMode) (t : List ℕ) → Kept m (row (AppendCommentToRoot t ∷ []) IsDone)
-  kept_comment_to_root m t h = as_before m m _ (names-append_comment_to_root rules t w sound) (omega arith) h
+  kept_comment_to_root : (m : InsertionMode) (t : List ℕ) → Kept m (row (AppendCommentToHtml t ∷ []) IsDone)
+  unfolding append_comment_to_html
+  kept_comment_to_root m t = as_before m w (append_comment_to_html choices t w) (names-append_comment_to_root choices t w sound) refl
 
-  kept_back : (m : InsertionMode) → least m ≡ 1 → Kept m (errs [] (Again InBody))
-  kept_back m one = kept_none m (errs [] (Again InBody)) refl (omega (arith, one))
-
-  kept_after_body : (k : TagKind) (n : KnownName) (tag : TagText) → Kept AfterBody (after_body_tag k n tag w)
+  kept_after_body : (k : TagKind) (n : KnownName) (tag : TagText) → Kept AfterBody (after_body_named k n tag w)
+  unfolding names_of
   kept_after_body StartTag Html tag h = kept_start_html AfterBody tag h
-  kept_after_body EndTag Html tag h = kept_set_mode AfterBody AfterAfterBody (omega arith) h
-  kept_after_body _ _ tag h = kept_back AfterBody refl h
+  kept_after_body EndTag Html tag h = h
+  kept_after_body _ _ tag h = h
 
-  kept_after_after_body : (k : TagKind) (n : KnownName) (tag : TagText) → Kept AfterAfterBody (after_after_body_tag k n tag w)
+  kept_after_after_body : (k : TagKind) (n : KnownName) (tag : TagText) → Kept AfterAfterBody (after_after_body_named k n tag w)
   kept_after_after_body StartTag Html tag h = kept_start_html AfterAfterBody tag h
-  kept_after_after_body _ _ tag h = kept_back AfterAfterBody refl h
+  kept_after_after_body _ _ tag h = h
 
   -- a name that isn't known as `html` isn't `html`
   other_name : (name : List ℕ) → known_name_of name ≢ Html → is_same_text name (codes "html") ≡ false
-  other_name name = at (bytes_eq name (codes "html")) _
-    where
-      at : (b : Bool) (k : KnownName) → (cond b Html k ≢ Html) → b ≡ false
-      at true k h = absurd (h refl)
-      at false k h = refl
+  other_name name h = not_text_of name Html h
+
+  -- the text of a name that is known as `head`
+  head_name : (name : List ℕ) → known_name_of name ≡ Head → name ≡ codes "head"
+  head_name name e = sym (text_of_known name (λ other. cc)) ∙ ap name_text e
 
   kept_tag : (m : InsertionMode) (tag : TagText) → Kept m (rule m (TagTurn tag) w)
-  kept_tag Initial tag = kept_initial
+  unfolding before_html_tag before_head_tag in_head_tag after_head_tag in_body_tag after_body_tag after_after_body_tag
+  kept_tag Initial tag = kept_initial (TagTurn tag)
   kept_tag BeforeHtml tag = kept_before_html tag.kind (known_name_of tag.name) tag
-  kept_tag BeforeHead tag = kept_before_head tag.kind (known_name_of tag.name) tag
+  kept_tag BeforeHead tag = kept_before_head tag.kind (known_name_of tag.name) tag (head_name tag.name)
   kept_tag InHead tag = kept_in_head tag.kind (known_name_of tag.name) tag
   kept_tag AfterHead tag = kept_after_head tag.kind (known_name_of tag.name) tag
   kept_tag InBody tag = kept_in_body tag.kind (known_name_of tag.name) tag (other_name tag.name)
   kept_tag AfterBody tag = kept_after_body tag.kind (known_name_of tag.name) tag
   kept_tag AfterAfterBody tag = kept_after_after_body tag.kind (known_name_of tag.name) tag
+  kept_tag _ tag = λ h. h
 
   kept_comments : (m : InsertionMode) (x : List ℕ) → Kept m (rule m (CommentTurn x) w)
   kept_comments Initial x = kept_comment_to_document Initial x
@@ -236,57 +264,43 @@ module _ (rules : SinkRules) (w : World) (sound : Sound w) where
   kept_comments InBody x = kept_comment InBody x
   kept_comments AfterBody x = kept_comment_to_root AfterBody x
   kept_comments AfterAfterBody x = kept_comment_to_document AfterAfterBody x
+  kept_comments _ x = λ h. h
 
   kept_blank : (m : InsertionMode) (x : List ℕ) → x ≢ [] → Kept m (rule m (TextTurn Whitespace x) w)
-  kept_blank Initial x some = kept_none Initial (row [] IsDone) refl (omega arith)
-  kept_blank BeforeHtml x some = kept_none BeforeHtml (row [] IsDone) refl (omega arith)
-  kept_blank BeforeHead x some = kept_none BeforeHead (row [] IsDone) refl (omega arith)
+  kept_blank Initial x some = λ h. h
+  kept_blank BeforeHtml x some = λ h. h
+  kept_blank BeforeHead x some = λ h. h
   kept_blank InHead x some = kept_append InHead x some
   kept_blank AfterHead x some = kept_append AfterHead x some
   kept_blank InBody x some = kept_text_in_body InBody x some
   kept_blank AfterBody x some = kept_text_in_body AfterBody x some
   kept_blank AfterAfterBody x some = kept_text_in_body AfterAfterBody x some
+  kept_blank _ x some = λ h. h
 
-  -- whatever else there is: a mode's "else"
-  kept_solid : (m : InsertionMode) (x : List ℕ) → x ≢ [] → Kept m (rule m (TextTurn NotWhitespace x) w)
-  kept_solid Initial x some = kept_initial
-  kept_solid BeforeHtml x some = kept_root
-  kept_solid BeforeHead x some = kept_head
-  kept_solid InHead x some = kept_pop
-  kept_solid AfterHead x some = kept_body
-  kept_solid InBody x some = kept_text_in_body InBody x some
-  kept_solid AfterBody x some = kept_back AfterBody refl
-  kept_solid AfterAfterBody x some = kept_back AfterAfterBody refl
-
-  kept_whole : (m : InsertionMode) (x : List ℕ) → x ≢ [] → Kept m (rule m (TextTurn NotSplit x) w)
-  kept_whole Initial x some = kept_initial
-  kept_whole BeforeHtml x some = kept_root
-  kept_whole BeforeHead x some = kept_head
-  kept_whole InHead x some = kept_pop
-  kept_whole AfterHead x some = kept_body
-  kept_whole InBody x some = kept_text_in_body InBody x some
-  kept_whole AfterBody x some = kept_back AfterBody refl
-  kept_whole AfterAfterBody x some = kept_back AfterAfterBody refl
-
+  -- a null, in most modes handled as anything else
   kept_null : (m : InsertionMode) → Kept m (rule m NullTurn w)
-  kept_null Initial = kept_initial
+  kept_null Initial = kept_initial NullTurn
   kept_null BeforeHtml = kept_root
   kept_null BeforeHead = kept_head
   kept_null InHead = kept_pop
   kept_null AfterHead = kept_body
-  kept_null InBody = kept_none InBody ignored refl (omega arith)
-  kept_null AfterBody = kept_back AfterBody refl
-  kept_null AfterAfterBody = kept_back AfterAfterBody refl
+  kept_null _ = λ h. h
+
+  kept_solid : (m : InsertionMode) (x : List ℕ) → x ≢ [] → Kept m (rule m (TextTurn NotWhitespace x) w)
+  unfolding initial_else
+  kept_solid InBody x some = kept_text_in_body InBody x some
+  kept_solid m x some = kept_null m
+
+  kept_whole : (m : InsertionMode) (x : List ℕ) → x ≢ [] → Kept m (rule m (TextTurn NotSplit x) w)
+  unfolding initial_else
+  kept_whole InBody x some = kept_text_in_body InBody x some
+  kept_whole m x some = kept_null m
 
   kept_end : (m : InsertionMode) → Kept m (rule m EofTurn w)
-  kept_end Initial = kept_initial
-  kept_end BeforeHtml = kept_root
-  kept_end BeforeHead = kept_head
-  kept_end InHead = kept_pop
-  kept_end AfterHead = kept_body
-  kept_end InBody = kept_none InBody (row [] IsDone) refl (omega arith)
-  kept_end AfterBody = kept_none AfterBody (row [] IsDone) refl (omega arith)
-  kept_end AfterAfterBody = kept_none AfterAfterBody (row [] IsDone) refl (omega arith)
+  unfolding initial_else
+  kept_end AfterBody = λ h. h
+  kept_end AfterAfterBody = λ h. h
+  kept_end m = kept_null m
 
   kept_rule : (m : InsertionMode) (t : TurnText) → HasText t → Kept m (rule m t w)
   kept_rule m (TagTurn tag) some = kept_tag m tag
@@ -298,68 +312,75 @@ module _ (rules : SinkRules) (w : World) (sound : Sound w) where
   kept_rule m EofTurn some = kept_end m
 
 -- the mode of a world after changes
-while_mode : (rules : SinkRules) (p : QualName → Bool) (ns : List QualName) (w : World) → (pop_while rules p ns w).mode ≡ w.mode
+while_mode : (choices : SinkChoices) (p : QualName → Bool) (ns : List QualName) (w : World) → (pop_while choices p ns w).mode ≡ w.mode
 unfolding pop
-while_mode rules p [] w = refl
-while_mode rules p (n ∷ ns) w = elim (p n) as (λ b. (cond b (pop_while rules p ns (pop rules w)) w).mode ≡ w.mode) [ true ↦ while_mode rules p ns (pop rules w) | false ↦ refl ]
+while_mode choices p [] w = refl
+while_mode choices p (n ∷ ns) w = elim (p n) as (λ b. (cond b (pop_while choices p ns (pop choices w)) w).mode ≡ w.mode) [ true ↦ while_mode choices p ns (pop choices w) | false ↦ refl ]
 
-change_mode : (rules : SinkRules) (x : Change) (w : World) → (apply rules x w).mode ≡ mode_after w.mode (x ∷ [])
-unfolding ok_if_text set_quirks insert insert_root append_comment append_comment_to_document append_comment_to_root append pop head_is_current add_attributes_to_root add_attributes_to_second implied_ends_except cut_at_named
-change_mode rules (SetMode mode) w = refl
-change_mode rules (SetQuirks mode) w = refl
-change_mode rules FramesetOff w = refl
-change_mode rules (OkIfText text) w = refl
-change_mode rules (Insert local attrs duplicates) w = refl
-change_mode rules (InsertRoot attrs) w = refl
-change_mode rules HeadIsCurrent w = refl
-change_mode rules (Append text) w = refl
-change_mode rules (AppendComment text) w = refl
-change_mode rules (AppendCommentToDocument text) w = refl
-change_mode rules (AppendCommentToRoot text) w = refl
-change_mode rules (AddAttributesToRoot attrs) w = refl
-change_mode rules (AddAttributesToSecond attrs) w = at (second_from_last w.stack)
+change_mode : (choices : SinkChoices) (x : Change) (w : World) → (apply choices x w).mode ≡ mode_after w.mode (x ∷ [])
+unfolding set_frameset_ok_by_text set_quirks_mode insert_element create_root append_comment append_comment_to_doc append_comment_to_html append_text pop set_head_to_current add_attrs_to_html add_attrs_to_second generate_implied_end_except pop_until_named
+change_mode choices (SetMode mode) w = refl
+change_mode choices (SetQuirksMode mode) w = refl
+change_mode choices SetFramesetNotOk w = refl
+change_mode choices (SetFramesetOkByText text) w = refl
+change_mode choices (InsertElement local attrs duplicates) w = refl
+change_mode choices (CreateRoot attrs) w = refl
+change_mode choices SetHeadToCurrent w = refl
+change_mode choices (AppendText text) w = refl
+change_mode choices (AppendComment text) w = refl
+change_mode choices (AppendCommentToDoc text) w = refl
+change_mode choices (AppendCommentToHtml text) w = refl
+change_mode choices (AddAttrsToHtml attrs) w = refl
+change_mode choices (AddAttrsToSecond attrs) w = at (second_from_last w.stack)
   where
-    at : (o : _) → (add_attributes_at o attrs w).mode ≡ w.mode
+    at : (o : _) → (add_attrs_at o attrs w).mode ≡ w.mode
     at None = refl
     at (Some n) = refl
-change_mode rules Pop w = refl
-change_mode rules (ImpliedEndsExcept local) w = while_mode rules _ (names_of w) w
-change_mode rules (CutAtNamed local) w = refl
+change_mode choices Pop w = refl
+change_mode choices (GenerateImpliedEndExcept local) w = while_mode choices _ (names_of w) w
+change_mode choices (PopUntilNamed local) w = refl
 
 mode_in_turn : (m : InsertionMode) (x : Change) (xs : List Change) → mode_after (mode_after m (x ∷ [])) xs ≡ mode_after m (x ∷ xs)
 mode_in_turn m (SetMode k) xs = refl
 mode_in_turn m _ xs = refl
 
-changes_mode : (rules : SinkRules) (xs : List Change) (w : World) → (apply_all rules xs w).mode ≡ mode_after w.mode xs
-changes_mode rules [] w = refl
-changes_mode rules (x ∷ xs) w =
-    changes_mode rules xs (apply rules x w) ∙ ap (λ m. mode_after m xs) (change_mode rules x w) ∙ mode_in_turn w.mode x xs
+changes_mode : (choices : SinkChoices) (xs : List Change) (w : World) → (apply_all choices xs w).mode ≡ mode_after w.mode xs
+changes_mode choices [] w = refl
+changes_mode choices (x ∷ xs) w =
+    changes_mode choices xs (apply choices x w) ∙ ap (λ m. mode_after m xs) (change_mode choices x w) ∙ mode_in_turn w.mode x xs
 
 -- what an ending leaves fits
 abbrev pub FitsAfter : Ending → World → Type 0
-FitsAfter e w = FitsMode (next_mode w.mode e) (names_of w)
+FitsAfter e w = FitsAs (mode_with w.mode (next_mode e w)) w
 
-pub rule_fits : (rules : SinkRules) (t : TurnText) (w : World) → Sound w → HasText t → Fits w → FitsAfter (rule w.mode t w).ending (apply_all rules (rule w.mode t w).changes w)
-rule_fits rules t w k some h =
+pub rule_fits : (choices : SinkChoices) (t : TurnText) (w : World) → Sound w → HasText t → Fits w → FitsAfter (rule w.mode t w).ending (apply_all choices (rule w.mode t w).changes w)
+rule_fits choices t w k some h =
     let r = rule w.mode t w in
-    subst (λ m. FitsMode (next_mode m r.ending) (names_of (apply_all rules r.changes w))) (sym (changes_mode rules r.changes w)) (kept_rule rules w k w.mode t some h)
+    let v = apply_all choices r.changes w in
+    subst (λ m. FitsAs (mode_with m (next_mode r.ending v)) v) (sym (changes_mode choices r.changes w)) (kept_rule choices w k w.mode t some h)
 
-pub enough_open : (w : World) (m : InsertionMode) → w.mode ≡ m → least m ≢ 0 → Fits w → 0 < length w.stack
+-- where neither open elements nor mode nor head change
+pub fits_kept : (w v : World) → v.mode ≡ w.mode → names_of v ≡ names_of w → v.head ≡ w.head → Fits w → Fits v
+fits_kept w v same e d h = subst (λ m. FitsAs m v) (sym same) (as_before w.mode w v e d h)
+
+-- once the root has been made an element is open
+pub enough_open : (w : World) (m : InsertionMode) → w.mode ≡ m → is_before_root m ≡ false → Fits w → 0 < length w.stack
+enough_open w m e after h =
+    subst (λ n. 0 < n) (sym (names_length w)) (stage_some (situation_of w) m (names_of w) after (subst (λ k. FitsAs k w) e h))
+
+follows_fits : {H : Type 0} (choices : SinkChoices) (node : H → ℕ) (t : TurnText) (w v : World) (a b : ℕ) (result : ProcessResult H) → Follows choices node (rule w.mode t w) t w v a b result → Sound w → HasText t → Fits w → FitsAfter (rule w.mode t w).ending v
+follows_fits choices node t w v a b result f k some h = subst (FitsAfter (rule w.mode t w).ending) (sym f.world) (rule_fits choices t w k some h)
+
+pub fits_done : {H : Type 0} (choices : SinkChoices) (node : H → ℕ) (t : TurnText) (w v : World) (a b : ℕ) → Follows choices node (rule w.mode t w) t w v a b results.Done → Sound w → HasText t → Fits w → Fits v
+fits_done choices node t w v a b f k some h = subst (λ e. FitsAfter e v) f.ending (follows_fits choices node t w v a b results.Done f k some h)
+
+pub fits_acknowledged : {H : Type 0} (choices : SinkChoices) (node : H → ℕ) (t : TurnText) (w v : World) (a b : ℕ) → Follows choices node (rule w.mode t w) t w v a b results.DoneAckSelfClosing → Sound w → HasText t → Fits w → Fits v
+fits_acknowledged choices node t w v a b f k some h = subst (λ e. FitsAfter e v) f.ending (follows_fits choices node t w v a b results.DoneAckSelfClosing f k some h)
+
+pub fits_answered : {H : Type 0} (choices : SinkChoices) (node : H → ℕ) (t : TurnText) (w v : World) (a b : ℕ) (answer : _) → Follows choices node (rule w.mode t w) t w v a b (results.Answer answer) → Sound w → HasText t → Fits w → Fits v
+fits_answered choices node t w v a b answer f k some h = subst (λ e. FitsAfter e v) f.ending (follows_fits choices node t w v a b (results.Answer answer) f k some h)
+
+pub fits_again : {H : Type 0} (choices : SinkChoices) (node : H → ℕ) (t : TurnText) (w v u : World) (a b : ℕ) (m : InsertionMode) (token : _) → Follows choices node (rule w.mode t w) t w v a b (results.Reprocess m token) → u ≡ set_mode m v → Sound w → HasText t → Fits w → Fits u
 unfolding names_of
-enough_open w m e some h = omega (arith, h.enough, length-map w.stack (name_in w.forest), least_some w.mode (λ z. some (ap least (sym e) ∙ z)))
-  where
-    least_some : (k : InsertionMode) → least k ≢ 0 → 0 < least k
-    least_some Initial z = absurd (z refl)
-    least_some BeforeHtml z = absurd (z refl)
-    least_some _ z = omega arith
-
-follows_fits : (rules : SinkRules) (t : TurnText) (w v : World) (a b : ℕ) (result : ProcessResult) → Follows rules (rule w.mode t w) t w v a b result → Sound w → HasText t → Fits w → FitsAfter (rule w.mode t w).ending v
-follows_fits rules t w v a b result f k some h = subst (FitsAfter (rule w.mode t w).ending) (sym f.world) (rule_fits rules t w k some h)
-
-pub fits_done : (rules : SinkRules) (t : TurnText) (w v : World) (a b : ℕ) → Follows rules (rule w.mode t w) t w v a b Done → Sound w → HasText t → Fits w → Fits v
-fits_done rules t w v a b f k some h = subst (λ e. FitsAfter e v) f.ending (follows_fits rules t w v a b Done f k some h)
-
-pub fits_again : (rules : SinkRules) (t : TurnText) (w v u : World) (a b : ℕ) (m : InsertionMode) (token : _) → Follows rules (rule w.mode t w) t w v a b (Reprocess m token) → u ≡ in_mode m v → Sound w → HasText t → Fits w → Fits u
-unfolding names_of
-fits_again rules t w v u a b m token f i k some h =
-    subst Fits (sym i) (subst (λ e. FitsAfter e v) f.ending.0 (follows_fits rules t w v a b (Reprocess m token) f k some h))
+fits_again choices node t w v u a b m token f i k some h =
+    subst Fits (sym i) (subst (λ o. FitsAs (mode_with v.mode o) v) f.ending.0 (follows_fits choices node t w v a b (results.Reprocess m token) f k some h))

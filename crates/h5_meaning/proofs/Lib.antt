@@ -1,6 +1,7 @@
 pub mod CutLaws
 pub mod FitsLaws
 pub mod FlagLaws
+pub mod JoinLaws
 pub mod NameLaws
 pub mod PopLaws
 pub mod RunLaws

@@ -1,14 +1,21 @@
 -- What popping and cutting leave.
 use Rattle.std.proofs.Common.{◌≡◌, ◌<◌, ℕ, Bool, true, false, cond, List, [], ◌∷◌, length, map, Option, Some, None, refl, ap, sym, ◌∙◌, arith}
+use Rattle.std.proofs.lemmas.List.{length-map}
 use Rattle.h5_names.specs.declared.qualified.QualName.{QualName}
 use Rattle.h5_interface.specs.Changes.{mark}
 use Rattle.h5_interface.specs.Forest.{Forest, Marks, Node, kind_of}
-use Rattle.h5_interface.specs.SinkRules.{SinkRules}
-use Rattle.h5_meaning.specs.Changes.{implied_ends_except, pop, pop_while}
-use Rattle.h5_meaning.specs.Scope.{cut_through, first_passes, is_implied_but}
+use Rattle.h5_interface.specs.SinkChoices.{SinkChoices}
+use Rattle.h5_meaning.specs.Changes.{generate_implied_end_except, pop, pop_while}
+use Rattle.h5_stack.specs.Scope.{cut_through, first_passes, is_implied_but, later_names}
 use Rattle.h5_meaning.specs.Sound.{Stands}
-use Rattle.h5_meaning.specs.World.{World, but_first, current, name_in, name_of_found, names_of}
+use Rattle.h5_meaning.specs.World.{World, current, name_in, name_of_found, names_of}
+use Rattle.h5_stack.specs.Order.{but_first}
 use Rattle.h5_meaning.proofs.SoundLaws.{stands_but_first}
+
+-- as many names as open elements
+pub names_length : (w : World) → length w.stack ≡ length (names_of w)
+unfolding names_of
+names_length w = sym (length-map w.stack (name_in w.forest))
 
 -- marks change no names
 marked_name : (marks : ℕ → Marks) (f : Forest) (n : ℕ) → name_in (mark marks f) n ≡ name_in f n
@@ -22,36 +29,32 @@ marked_names : (marks : ℕ → Marks) (f : Forest) (s : List ℕ) → map (name
 marked_names marks f [] = refl
 marked_names marks f (n ∷ s) = ap (λ x. x ∷ map (name_in (mark marks f)) s) (marked_name marks f n) ∙ ap (λ xs. name_in f n ∷ xs) (marked_names marks f s)
 
-abbrev pub later_names : List QualName → List QualName
-later_names [] = []
-later_names (n ∷ ns) = ns
-
-pub names-pop : (rules : SinkRules) (w : World) → names_of (pop rules w) ≡ later_names (names_of w)
+pub names-pop : (choices : SinkChoices) (w : World) → names_of (pop choices w) ≡ later_names (names_of w)
 unfolding names_of pop
-names-pop rules w = at w.stack refl
+names-pop choices w = at w.stack refl
   where
-    at : (s : List ℕ) → w.stack ≡ s → map (name_in (mark (rules.marks_after_pop w.forest (current w)) w.forest)) (but_first s) ≡ later_names (map (name_in w.forest) s)
+    at : (s : List ℕ) → w.stack ≡ s → map (name_in (mark (choices.marks_after_pop w.forest (current w)) w.forest)) (but_first s) ≡ later_names (map (name_in w.forest) s)
     at [] e = refl
-    at (n ∷ s) e = marked_names (rules.marks_after_pop w.forest (current w)) w.forest s
+    at (n ∷ s) e = marked_names (choices.marks_after_pop w.forest (current w)) w.forest s
 
-while_step : (rules : SinkRules) (p : QualName → Bool) (ns : List QualName) (w : World) → first_passes p ns ≡ true → pop_while rules p ns w ≡ pop_while rules p (later_names ns) (pop rules w)
-while_step rules p [] w h = absurd (cc)
-while_step rules p (n ∷ ns) w h = ap (λ b. cond b (pop_while rules p ns (pop rules w)) w) h
+while_step : (choices : SinkChoices) (p : QualName → Bool) (ns : List QualName) (w : World) → first_passes p ns ≡ true → pop_while choices p ns w ≡ pop_while choices p (later_names ns) (pop choices w)
+while_step choices p [] w h = absurd (cc)
+while_step choices p (n ∷ ns) w h = ap (λ b. cond b (pop_while choices p ns (pop choices w)) w) h
 
-while_none : (rules : SinkRules) (p : QualName → Bool) (ns : List QualName) (w : World) → first_passes p ns ≡ false → pop_while rules p ns w ≡ w
-while_none rules p [] w h = refl
-while_none rules p (n ∷ ns) w h = ap (λ b. cond b (pop_while rules p ns (pop rules w)) w) h
+while_none : (choices : SinkChoices) (p : QualName → Bool) (ns : List QualName) (w : World) → first_passes p ns ≡ false → pop_while choices p ns w ≡ w
+while_none choices p [] w h = refl
+while_none choices p (n ∷ ns) w h = ap (λ b. cond b (pop_while choices p ns (pop choices w)) w) h
 
 -- one implied end more
-pub implied_step : (rules : SinkRules) (local : List ℕ) (w : World) → first_passes (is_implied_but local) (names_of w) ≡ true → implied_ends_except rules local (pop rules w) ≡ implied_ends_except rules local w
-unfolding implied_ends_except
-implied_step rules local w h =
-    ap (λ ns. pop_while rules (is_implied_but local) ns (pop rules w)) (names-pop rules w)
-    ∙ sym (while_step rules (is_implied_but local) (names_of w) w h)
+pub implied_step : (choices : SinkChoices) (local : List ℕ) (w : World) → first_passes (is_implied_but local) (names_of w) ≡ true → generate_implied_end_except choices local (pop choices w) ≡ generate_implied_end_except choices local w
+unfolding generate_implied_end_except
+implied_step choices local w h =
+    ap (λ ns. pop_while choices (is_implied_but local) ns (pop choices w)) (names-pop choices w)
+    ∙ sym (while_step choices (is_implied_but local) (names_of w) w h)
 
-pub implied_none : (rules : SinkRules) (local : List ℕ) (w : World) → first_passes (is_implied_but local) (names_of w) ≡ false → implied_ends_except rules local w ≡ w
-unfolding implied_ends_except
-implied_none rules local w h = while_none rules (is_implied_but local) (names_of w) w h
+pub implied_none : (choices : SinkChoices) (local : List ℕ) (w : World) → first_passes (is_implied_but local) (names_of w) ≡ false → generate_implied_end_except choices local w ≡ w
+unfolding generate_implied_end_except
+implied_none choices local w h = while_none choices (is_implied_but local) (names_of w) w h
 
 pub first_is_open : (p : QualName → Bool) (w : World) → first_passes p (names_of w) ≡ true → 0 < length w.stack
 unfolding names_of
@@ -61,9 +64,9 @@ first_is_open p w h = at w.stack h
     at [] e = absurd (cc)
     at (n ∷ s) e = omega arith
 
-pub pop_shorter : (rules : SinkRules) (w : World) → 0 < length w.stack → length (pop rules w).stack < length w.stack
+pub pop_shorter : (choices : SinkChoices) (w : World) → 0 < length w.stack → length (pop choices w).stack < length w.stack
 unfolding pop
-pop_shorter rules w h = at w.stack h
+pop_shorter choices w h = at w.stack h
   where
     at : (s : List ℕ) → 0 < length s → length (but_first s) < length s
     at [] k = absurd (omega arith)

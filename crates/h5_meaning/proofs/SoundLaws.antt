@@ -9,13 +9,14 @@ use Rattle.h5_interface.specs.Changes.{append_node}
 use Rattle.h5_interface.specs.Forest.{ChildNode, CommentNode, ElementNode, Forest, HasContents, IsElement, IsForest, IsNode, contents_of, kind_of, parent_of}
 use Rattle.h5_interface.specs.NewElement.{is_html_template, flags_of}
 use Rattle.h5_interface.specs.Seen.{CanAppend, Seen, changed, make, make_element, plain}
-use Rattle.h5_interface.specs.SinkRules.{Rearranges, SinkRules}
+use Rattle.h5_interface.specs.SinkChoices.{Rearranges, SinkChoices}
 use Rattle.h5_interface.proofs.ForestLaws.{ancestor_is_node, contents_are_node, document_is_node, node_of_kind, rearranged_ancestor, rearranged_node, rearranges_refl}
 use Rattle.h5_interface.proofs.HangingLaws.{append_node_keeps, append_node_rehangs}
 use Rattle.h5_interface.proofs.MakingLaws.{hung_fresh_rearranges, made_contents, append_new_rearranges, made_is_free, made_kind, make_element_rearranges, new_is_free, old_is_node}
-use Rattle.h5_meaning.specs.Order.{IsIn, Before}
+use Rattle.h5_stack.specs.Order.{IsIn, Before}
 use Rattle.h5_meaning.specs.Sound.{Stands, Sound}
-use Rattle.h5_meaning.specs.World.{World, but_first, current, first_or, inside, last_or, name_in, name_of_found, place, root}
+use Rattle.h5_meaning.specs.World.{World, current, inside, name_in, name_of_found, place, root}
+use Rattle.h5_stack.specs.Order.{but_first, first_or, last_or}
 
 -- an element is a node
 pub element_is_node : (f : Forest) (n : ℕ) → IsElement f n → IsNode f n
@@ -105,53 +106,53 @@ pub place_is_node : (w : World) → Sound w → IsNode w.forest (place w)
 place_is_node w k = inside_is_node w.forest (current w) k.is_forest (first_is_node w.forest w.stack k)
 
 -- a new element below p
-pub element_below_rearranges : (rules : SinkRules) (f : Forest) (p : ℕ) (name : QualName) (attrs : List AttributeText) (flags : ElementFlags) → IsForest f → IsNode f p → Rearranges f (append_node p (rules.fresh f) (make_element rules name attrs flags f))
-element_below_rearranges rules f p name attrs flags k there =
-    let g = make_element rules name attrs flags f in
-    let r = make_element_rearranges rules f name attrs flags k in
-    let free = made_is_free rules f name attrs flags p k there in
+pub element_below_rearranges : (choices : SinkChoices) (f : Forest) (p : ℕ) (name : QualName) (attrs : List AttributeText) (flags : ElementFlags) → IsForest f → IsNode f p → Rearranges f (append_node p (choices.fresh f) (make_element choices name attrs flags f))
+element_below_rearranges choices f p name attrs flags k there =
+    let g = make_element choices name attrs flags f in
+    let r = make_element_rearranges choices f name attrs flags k in
+    let free = made_is_free choices f name attrs flags p k there in
     let p_there = rearranged_node f g p r there in
-    hung_fresh_rearranges f g (append_node p (rules.fresh f) g) (rules.fresh f) p (rules.fresh_is_new f k) r
-    (append_node_keeps g p (rules.fresh f) r.is_forest (record { is_node = p_there; child = free }))
-    (append_node_rehangs g p (rules.fresh f) r.is_forest p_there free)
+    hung_fresh_rearranges f g (append_node p (choices.fresh f) g) (choices.fresh f) p (choices.fresh_is_new f k) r
+    (append_node_keeps g p (choices.fresh f) r.is_forest (record { is_node = p_there; child = free }))
+    (append_node_rehangs g p (choices.fresh f) r.is_forest p_there free)
 
-pub element_below_may : (rules : SinkRules) (f : Forest) (p : ℕ) (name : QualName) (attrs : List AttributeText) (flags : ElementFlags) → IsForest f → IsNode f p → CanAppend (make_element rules name attrs flags f) p (ChildNode (rules.fresh f))
-element_below_may rules f p name attrs flags k there =
-    let r = make_element_rearranges rules f name attrs flags k in
-    record { is_node = rearranged_node f (make_element rules name attrs flags f) p r there; child = made_is_free rules f name attrs flags p k there }
+pub element_below_may : (choices : SinkChoices) (f : Forest) (p : ℕ) (name : QualName) (attrs : List AttributeText) (flags : ElementFlags) → IsForest f → IsNode f p → CanAppend (make_element choices name attrs flags f) p (ChildNode (choices.fresh f))
+element_below_may choices f p name attrs flags k there =
+    let r = make_element_rearranges choices f name attrs flags k in
+    record { is_node = rearranged_node f (make_element choices name attrs flags f) p r there; child = made_is_free choices f name attrs flags p k there }
 
 -- what is known of the new element where it stands
 pub record NewStands (g h : Forest) (n : ℕ) : Type 0 where
   pub kind : kind_of h n ≡ kind_of g n
   pub contents : HasContents g n → HasContents h n
 
-pub new_below : (rules : SinkRules) (f : Forest) (p : ℕ) (name : QualName) (attrs : List AttributeText) (flags : ElementFlags) → IsForest f → IsNode f p → NewStands (make_element rules name attrs flags f) (append_node p (rules.fresh f) (make_element rules name attrs flags f)) (rules.fresh f)
-new_below rules f p name attrs flags k there =
-    let g = make_element rules name attrs flags f in
-    let may = element_below_may rules f p name attrs flags k there in
-    let r = append_node_rehangs g p (rules.fresh f) (make_element_rearranges rules f name attrs flags k).is_forest may.is_node may.child in
-    record { kind = r.kinds (rules.fresh f); contents = r.contents (rules.fresh f) }
+pub new_below : (choices : SinkChoices) (f : Forest) (p : ℕ) (name : QualName) (attrs : List AttributeText) (flags : ElementFlags) → IsForest f → IsNode f p → NewStands (make_element choices name attrs flags f) (append_node p (choices.fresh f) (make_element choices name attrs flags f)) (choices.fresh f)
+new_below choices f p name attrs flags k there =
+    let g = make_element choices name attrs flags f in
+    let may = element_below_may choices f p name attrs flags k there in
+    let r = append_node_rehangs g p (choices.fresh f) (make_element_rearranges choices f name attrs flags k).is_forest may.is_node may.child in
+    record { kind = r.kinds (choices.fresh f); contents = r.contents (choices.fresh f) }
 
 -- an element at p is pushed
-pub stands_inserted : (rules : SinkRules) (f : Forest) (p : ℕ) (name : QualName) (attrs : List AttributeText) (duplicates : Bool) (s : List ℕ) → Stands f s → IsNode f p
-    → Stands (append_node p (rules.fresh f) (make_element rules name attrs (flags_of name attrs duplicates) f)) (rules.fresh f ∷ s)
-stands_inserted rules f p name attrs duplicates s k there =
+pub stands_inserted : (choices : SinkChoices) (f : Forest) (p : ℕ) (name : QualName) (attrs : List AttributeText) (duplicates : Bool) (s : List ℕ) → Stands f s → IsNode f p
+    → Stands (append_node p (choices.fresh f) (make_element choices name attrs (flags_of name attrs duplicates) f)) (choices.fresh f ∷ s)
+stands_inserted choices f p name attrs duplicates s k there =
     let flags = flags_of name attrs duplicates in
-    let new = new_below rules f p name attrs flags k.is_forest there in
-    let kind = new.kind ∙ made_kind rules f name attrs flags k.is_forest in
-    stands_pushed f _ (rules.fresh f) s k (element_below_rearranges rules f p name attrs flags k.is_forest there) (rules.fresh_is_new f k.is_forest)
+    let new = new_below choices f p name attrs flags k.is_forest there in
+    let kind = new.kind ∙ made_kind choices f name attrs flags k.is_forest in
+    stands_pushed f _ (choices.fresh f) s k (element_below_rearranges choices f p name attrs flags k.is_forest there) (choices.fresh_is_new f k.is_forest)
     (name, kind)
-    (λ t. new.contents (made_contents rules f name attrs flags (ap (λ x. is_html_template (name_of_found x)) (sym kind) ∙ t)))
+    (λ t. new.contents (made_contents choices f name attrs flags (ap (λ x. is_html_template (name_of_found x)) (sym kind) ∙ t)))
 
 -- a comment below p
-pub comment_below_rearranges : (rules : SinkRules) (f : Forest) (p : ℕ) (t : List ℕ) → IsForest f → IsNode f p → Rearranges f (append_node p (rules.fresh f) (make rules (plain (CommentNode t)) f))
-comment_below_rearranges rules f p t k there =
-    append_new_rearranges f (rules.fresh f) p (plain (CommentNode t)) k (rules.fresh_is_new f k) (record { children = refl; contents = refl; parent = refl }) (λ e. cc) there
+pub comment_below_rearranges : (choices : SinkChoices) (f : Forest) (p : ℕ) (t : List ℕ) → IsForest f → IsNode f p → Rearranges f (append_node p (choices.fresh f) (make choices (plain (CommentNode t)) f))
+comment_below_rearranges choices f p t k there =
+    append_new_rearranges f (choices.fresh f) p (plain (CommentNode t)) k (choices.fresh_is_new f k) (record { children = refl; contents = refl; parent = refl }) (λ e. cc) there
 
-pub comment_below_may : (rules : SinkRules) (f : Forest) (p : ℕ) (t : List ℕ) → IsForest f → IsNode f p → CanAppend (make rules (plain (CommentNode t)) f) p (ChildNode (rules.fresh f))
-comment_below_may rules f p t k there = record {
-  is_node = old_is_node f (rules.fresh f) p (plain (CommentNode t)) there;
-  child = new_is_free f (rules.fresh f) p (plain (CommentNode t)) k (rules.fresh_is_new f k) (record { children = refl; contents = refl; parent = refl }) (λ e. cc) there;
+pub comment_below_may : (choices : SinkChoices) (f : Forest) (p : ℕ) (t : List ℕ) → IsForest f → IsNode f p → CanAppend (make choices (plain (CommentNode t)) f) p (ChildNode (choices.fresh f))
+comment_below_may choices f p t k there = record {
+  is_node = old_is_node f (choices.fresh f) p (plain (CommentNode t)) there;
+  child = new_is_free f (choices.fresh f) p (plain (CommentNode t)) k (choices.fresh_is_new f k) (record { children = refl; contents = refl; parent = refl }) (λ e. cc) there;
 }
 
 -- a call that may be refused: the forest is rearranged or as it was

@@ -1,63 +1,70 @@
 -- How many turns a token takes.
-use Rattle.std.proofs.Common.{◌≡◌, ℕ, zero, suc, ◌+◌, ◌<◌, ◌≤◌, Bool, true, false, cond, refl, ap, sym, subst, ◌∙◌, arith}
-use Rattle.h5_interface.specs.SinkRules.{SinkRules}
+use Rattle.std.proofs.Common.{◌≡◌, ℕ, zero, suc, ◌+◌, ◌<◌, ◌≤◌, true, false, Option, Some, None, length, refl, ap, sym, subst, ◌∙◌, arith}
+use Rattle.h5_interface.specs.SinkChoices.{SinkChoices}
 use Rattle.h5_types.specs.TurnText.{TurnText, EofTurn}
+use Rattle.h5_types.specs.declared.modes.InsertionMode.{InsertionMode}
 use Rattle.h5_types.specs.declared.modes.InsertionMode.TheVariants.{Initial, BeforeHtml, BeforeHead, InHead, AfterHead, InBody}
-use Rattle.h5_meaning.specs.Changes.{in_mode}
-use Rattle.h5_meaning.specs.Modes.{rule, initial_else}
-use Rattle.h5_meaning.specs.Rows.{Ending, IsDone, Again, Answer, Row, apply_all}
-use Rattle.h5_meaning.specs.Settle.{Settled, after_turn, is_end_html, rank, settle, settle_within}
+use Rattle.h5_meaning.specs.Changes.{set_mode}
+use Rattle.h5_meaning.specs.InitialMode.{initial_else}
+use Rattle.h5_meaning.specs.Modes.{rule}
+use Rattle.h5_meaning.specs.Rows.{Row, changed_by, choose, next_mode}
+use Rattle.h5_meaning.specs.Settle.{Settled, settle, settle_within, then_turns}
 use Rattle.h5_meaning.specs.World.{World}
-use Rattle.h5_meaning.proofs.SettleLaws.{rank_few, settle-row, settle-turn}
+use Rattle.h5_meaning.proofs.SettleLaws.{enough, is_end_html, rank_few, settle-row, settle-turn}
 
-turn_some : (go : World → Settled) (t : TurnText) (q : Bool) (e : Ending) (w : World) → 0 < (after_turn go t q e w).turns
-turn_some go t q IsDone w = omega arith
-turn_some go t q (Answer reply) w = omega arith
-turn_some go t q (Again m) w = omega arith
+turn_some : (go : World → Settled) (t : TurnText) (r : Row) (w : World) (o : Option InsertionMode) → 0 < (then_turns go t r w o).turns
+turn_some go t r w None = omega arith
+turn_some go t r w (Some m) = omega arith
 
-pub turns_some : (rules : SinkRules) (t : TurnText) (w : World) → 0 < (settle rules t w).turns
-turns_some rules t w =
-    subst (λ (s : Settled). 0 < s.turns) (sym (settle-turn rules t w)) (turn_some (settle rules t) t (rule w.mode t w).quiet (rule w.mode t w).ending (apply_all rules (rule w.mode t w).changes w))
+pub turns_some : (choices : SinkChoices) (t : TurnText) (w : World) → 0 < (settle choices t w).turns
+turns_some choices t w =
+    let r = rule w.mode t w in
+    let v = changed_by choices r w in
+    subst (λ (s : Settled). 0 < s.turns) (sym (settle-turn choices t w)) (turn_some (settle choices t) t r v (next_mode r.ending v))
 
-turn_few : (go : World → Settled) (n : ℕ) (t : TurnText) (q : Bool) (e : Ending) (w : World) → ((v : World) → (go v).turns ≤ n) → (after_turn go t q e w).turns ≤ suc n
-turn_few go n t q IsDone w h = omega arith
-turn_few go n t q (Answer reply) w h = omega arith
-turn_few go n t q (Again m) w h = omega (arith, h (in_mode m w))
+turn_few : (go : World → Settled) (n : ℕ) (t : TurnText) (r : Row) (w : World) (o : Option InsertionMode) → 0 < n → ((v : World) → (go v).turns + 1 ≤ n) → (then_turns go t r w o).turns ≤ n
+turn_few go n t r w None p h = omega arith
+turn_few go n t r w (Some m) p h = h (set_mode m w)
 
-within_few : (rules : SinkRules) (n : ℕ) (t : TurnText) (w : World) → (settle_within rules n t w).turns ≤ n
+within_few : (choices : SinkChoices) (n : ℕ) (t : TurnText) (w : World) → (settle_within choices n t w).turns ≤ n
 unfolding settle_within
-within_few rules zero t w = omega arith
-within_few rules (suc n) t w = turn_few (λ v. settle_within rules n t v) n t (rule w.mode t w).quiet (rule w.mode t w).ending (apply_all rules (rule w.mode t w).changes w) (λ v. within_few rules n t v)
+within_few choices zero t w = omega arith
+within_few choices (suc n) t w =
+    let r = rule w.mode t w in
+    let v = changed_by choices r w in
+    turn_few (λ v. settle_within choices n t v) (suc n) t r v (next_mode r.ending v) (omega arith) (λ u. omega (arith, within_few choices n t u))
 
-pub turns_few : (rules : SinkRules) (t : TurnText) (w : World) → (settle rules t w).turns ≤ 7
+pub turns_few : (choices : SinkChoices) (t : TurnText) (w : World) → (settle choices t w).turns ≤ 7
 unfolding settle
-turns_few rules t w = omega (arith, within_few rules (rank (is_end_html t) w.mode) t w, rank_few (is_end_html t) w.mode)
+turns_few choices t w =
+    let few = rank_few (is_end_html t) w.mode in
+    subst (λ (s : Settled). s.turns ≤ 7) (enough choices t 7 (16 + length w.stack) w few (omega arith)) (within_few choices 7 t w)
 
 -- one more turn, in another mode
-again : (rules : SinkRules) (w : World) (m k : _) (r : Row) (n : ℕ) → w.mode ≡ m → rule m EofTurn w ≡ r → r.ending ≡ Again k → ((v : World) → v.mode ≡ k → (settle rules EofTurn v).turns ≡ n) → (settle rules EofTurn w).turns ≡ n + 1
-again rules w m k r n e f a next =
-    ap (λ (s : Settled). s.turns) (settle-row rules EofTurn w m r e f)
-    ∙ ap (λ x. (after_turn (settle rules EofTurn) EofTurn r.quiet x (apply_all rules r.changes w)).turns) a
-    ∙ ap (λ x. x + 1) (next (in_mode k (apply_all rules r.changes w)) refl)
+one_more : (choices : SinkChoices) (w : World) (m k : _) (r : Row) (n : ℕ) → w.mode ≡ m → rule m EofTurn w ≡ r → next_mode r.ending (changed_by choices r w) ≡ Some k → ((v : World) → v.mode ≡ k → (settle choices EofTurn v).turns ≡ n) → (settle choices EofTurn w).turns ≡ n + 1
+one_more choices w m k r n e f a next =
+    ap (λ (s : Settled). s.turns) (settle-row choices EofTurn w m r e f)
+    ∙ ap (λ o. (then_turns (settle choices EofTurn) EofTurn r (changed_by choices r w) o).turns) a
+    ∙ ap (λ x. x + 1) (next (set_mode k (changed_by choices r w)) refl)
 
-body_end : (rules : SinkRules) (w : World) → w.mode ≡ InBody → (settle rules EofTurn w).turns ≡ 1
-body_end rules w e = ap (λ (s : Settled). s.turns) (settle-row rules EofTurn w InBody _ e refl)
+body_end : (choices : SinkChoices) (w : World) → w.mode ≡ InBody → (settle choices EofTurn w).turns ≡ 1
+body_end choices w e = ap (λ (s : Settled). s.turns) (settle-row choices EofTurn w InBody _ e refl)
 
-after_head_end : (rules : SinkRules) (w : World) → w.mode ≡ AfterHead → (settle rules EofTurn w).turns ≡ 2
-after_head_end rules w e = again rules w AfterHead InBody _ 1 e refl refl (body_end rules)
+after_head_end : (choices : SinkChoices) (w : World) → w.mode ≡ AfterHead → (settle choices EofTurn w).turns ≡ 2
+after_head_end choices w e = one_more choices w AfterHead InBody _ 1 e refl refl (body_end choices)
 
-in_head_end : (rules : SinkRules) (w : World) → w.mode ≡ InHead → (settle rules EofTurn w).turns ≡ 3
-in_head_end rules w e = again rules w InHead AfterHead _ 2 e refl refl (after_head_end rules)
+in_head_end : (choices : SinkChoices) (w : World) → w.mode ≡ InHead → (settle choices EofTurn w).turns ≡ 3
+in_head_end choices w e = one_more choices w InHead AfterHead _ 2 e refl refl (after_head_end choices)
 
-before_head_end : (rules : SinkRules) (w : World) → w.mode ≡ BeforeHead → (settle rules EofTurn w).turns ≡ 4
-before_head_end rules w e = again rules w BeforeHead InHead _ 3 e refl refl (in_head_end rules)
+before_head_end : (choices : SinkChoices) (w : World) → w.mode ≡ BeforeHead → (settle choices EofTurn w).turns ≡ 4
+before_head_end choices w e = one_more choices w BeforeHead InHead _ 3 e refl refl (in_head_end choices)
 
-before_html_end : (rules : SinkRules) (w : World) → w.mode ≡ BeforeHtml → (settle rules EofTurn w).turns ≡ 5
-before_html_end rules w e = again rules w BeforeHtml BeforeHead _ 4 e refl refl (before_head_end rules)
+before_html_end : (choices : SinkChoices) (w : World) → w.mode ≡ BeforeHtml → (settle choices EofTurn w).turns ≡ 5
+before_html_end choices w e = one_more choices w BeforeHtml BeforeHead _ 4 e refl refl (before_head_end choices)
 
-initial_ending : (w : World) → (initial_else w).ending ≡ Again BeforeHtml
+initial_next : (choices : SinkChoices) (w : World) → next_mode (initial_else EofTurn w).ending (changed_by choices (initial_else EofTurn w) w) ≡ Some BeforeHtml
 unfolding initial_else
-initial_ending w = elim w.options.iframe_srcdoc as (λ b. (cond {A = Row} b _ _).ending ≡ Again BeforeHtml) [ true ↦ refl | false ↦ refl ]
+initial_next choices w = elim w.options.iframe_srcdoc as (λ b. next_mode (choose b _ _).ending (changed_by choices (choose b _ _) w) ≡ Some BeforeHtml) [ true ↦ refl | false ↦ refl ]
 
-pub end_alone : (rules : SinkRules) (w : World) → w.mode ≡ Initial → (settle rules EofTurn w).turns ≡ 6
-end_alone rules w e = again rules w Initial BeforeHtml (initial_else w) 5 e refl (initial_ending w) (before_html_end rules)
+pub end_alone : (choices : SinkChoices) (w : World) → w.mode ≡ Initial → (settle choices EofTurn w).turns ≡ 6
+end_alone choices w e = one_more choices w Initial BeforeHtml (initial_else EofTurn w) 5 e refl (initial_next choices w) (before_html_end choices)

@@ -1,5 +1,5 @@
 -- Blanks: TAB, LF, FF, CR and SPACE (Infra standard: ASCII whitespace).
-use Rattle.std.specs.Prelude.{◌≡◌, ◌==◌, ℕ, Bool, true, false, ◌&&◌, ◌||◌, if◌then◌else◌, List, [], ◌∷◌}
+use Rattle.std.specs.Prelude.{◌==◌, ℕ, Bool, true, ◌&&◌, ◌||◌, if◌then◌else◌, List, [], ◌∷◌}
 
 abbrev pub is_blank : ℕ → Bool
 is_blank b = (((b == 32 || b == 10) || b == 9) || b == 13) || b == 12

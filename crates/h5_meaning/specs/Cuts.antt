@@ -1,9 +1,9 @@
 -- Lists of tokens that differ in how their texts are cut.
-use Rattle.std.specs.Prelude.{◌≡◌, ◌≢◌, ℕ, Bool, true, false, if◌then◌else◌, List, [], ◌∷◌, ◌++◌}
+use Rattle.std.specs.Prelude.{◌≡◌, ◌≢◌, ℕ, Bool, true, false, List, [], ◌∷◌}
 use Rattle.h5_token.specs.Joins.{join}
 use Rattle.h5_token.specs.Reply.{Reply}
-use Rattle.h5_token.specs.TokenText.{TokenText, DoctypeIs, TagIs, CommentIs, Characters, NullCharacter, EndOfFile, ParseErrorIs}
-use Rattle.h5_interface.specs.SinkRules.{SinkRules}
+use Rattle.h5_token.specs.TokenText.{TokenText, Characters}
+use Rattle.h5_interface.specs.SinkChoices.{SinkChoices}
 use Rattle.h5_meaning.specs.Run.{View, after_all, replies}
 
 -- no text is empty
@@ -30,6 +30,6 @@ spread (t ∷ ts) (r ∷ rs) = r ∷ spread ts rs
 
 -- a list and its join give one view, one reply to each token that is no text, and to each piece of a run
 -- the run's reply
-pub record CutsAgree (rules : SinkRules) (ts : List TokenText) (v : View) : Type 0 where
-  pub views : after_all rules ts v ≡ after_all rules (join ts) v
-  pub replies : replies rules ts v ≡ spread ts (replies rules (join ts) v)
+pub record CutsAgree (choices : SinkChoices) (ts : List TokenText) (v : View) : Type 0 where
+  pub views : after_all choices ts v ≡ after_all choices (join ts) v
+  pub replies : replies choices ts v ≡ spread ts (replies choices (join ts) v)

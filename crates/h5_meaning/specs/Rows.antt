@@ -1,61 +1,72 @@
 -- A rule of tree construction: changes in order, and one ending (HTML standard, section 13.2.6.4).
-use Rattle.std.specs.Prelude.{◌≡◌, ◌≤◌, ℕ, Bool, true, false, if◌then◌else◌, List, [], ◌∷◌}
+use Rattle.std.specs.Prelude.{◌≡◌, ℕ, Bool, true, false, if◌then◌else◌, List, [], ◌∷◌, Option, Some, None}
 use Rattle.h5_names.specs.AttributeText.{AttributeText}
-use Rattle.h5_token.specs.Reply.{Reply}
-use Rattle.h5_interface.specs.SinkRules.{SinkRules}
+use Rattle.h5_token.specs.Reply.{Reply, reply}
+use Rattle.h5_interface.specs.SinkChoices.{SinkChoices}
 use Rattle.h5_interface.specs.declared.marks.QuirksMode.{QuirksMode}
 use Rattle.h5_types.specs.TurnText.{TurnText, turn_text}
 use Rattle.h5_types.specs.declared.modes.InsertionMode.{InsertionMode}
 use Rattle.h5_types.specs.declared.turns.ProcessResult.{ProcessResult}
-use Rattle.h5_types.specs.declared.turns.ProcessResult.TheVariants.{Done, Reprocess}
-use Rattle.h5_meaning.specs.Changes.{add_attributes_to_root, add_attributes_to_second, append, append_comment, append_comment_to_document, append_comment_to_root, cut_at_named, frameset_off, head_is_current, implied_ends_except, in_mode, insert, insert_root, ok_if_text, pop, set_quirks}
+use Rattle.h5_types.specs.declared.turns.ProcessResult.TheVariants as results
+use Rattle.h5_meaning.specs.Changes.{add_attrs_to_html, add_attrs_to_second, append_comment, append_comment_to_doc, append_comment_to_html, append_text, create_root, generate_implied_end_except, insert_element, pop, pop_until_named, set_frameset_not_ok, set_frameset_ok_by_text, set_head_to_current, set_mode, set_quirks_mode}
 use Rattle.h5_meaning.specs.World.{World}
 
 pub data Change : Type 0 where
   SetMode : (mode : InsertionMode) → Change
-  SetQuirks : (mode : QuirksMode) → Change
-  FramesetOff : Change
-  OkIfText : (text : List ℕ) → Change
-  Insert : (local : List ℕ) → (attrs : List AttributeText) → (duplicates : Bool) → Change
-  InsertRoot : (attrs : List AttributeText) → Change
-  HeadIsCurrent : Change
-  Append : (text : List ℕ) → Change
+  SetQuirksMode : (mode : QuirksMode) → Change
+  SetFramesetNotOk : Change
+  SetFramesetOkByText : (text : List ℕ) → Change
+  InsertElement : (local : List ℕ) → (attrs : List AttributeText) → (duplicates : Bool) → Change
+  CreateRoot : (attrs : List AttributeText) → Change
+  SetHeadToCurrent : Change
+  AppendText : (text : List ℕ) → Change
   AppendComment : (text : List ℕ) → Change
-  AppendCommentToDocument : (text : List ℕ) → Change
-  AppendCommentToRoot : (text : List ℕ) → Change
-  AddAttributesToRoot : (attrs : List AttributeText) → Change
-  AddAttributesToSecond : (attrs : List AttributeText) → Change
+  AppendCommentToDoc : (text : List ℕ) → Change
+  AppendCommentToHtml : (text : List ℕ) → Change
+  AddAttrsToHtml : (attrs : List AttributeText) → Change
+  AddAttrsToSecond : (attrs : List AttributeText) → Change
   Pop : Change
-  ImpliedEndsExcept : (local : List ℕ) → Change
-  CutAtNamed : (local : List ℕ) → Change
+  GenerateImpliedEndExcept : (local : List ℕ) → Change
+  PopUntilNamed : (local : List ℕ) → Change
 
-abbrev pub apply : SinkRules → Change → World → World
-apply rules (SetMode mode) w = in_mode mode w
-apply rules (SetQuirks mode) w = set_quirks mode w
-apply rules FramesetOff w = frameset_off w
-apply rules (OkIfText text) w = ok_if_text text w
-apply rules (Insert local attrs duplicates) w = insert rules local attrs duplicates w
-apply rules (InsertRoot attrs) w = insert_root rules attrs w
-apply rules HeadIsCurrent w = head_is_current w
-apply rules (Append text) w = append text w
-apply rules (AppendComment text) w = append_comment rules text w
-apply rules (AppendCommentToDocument text) w = append_comment_to_document rules text w
-apply rules (AppendCommentToRoot text) w = append_comment_to_root rules text w
-apply rules (AddAttributesToRoot attrs) w = add_attributes_to_root attrs w
-apply rules (AddAttributesToSecond attrs) w = add_attributes_to_second attrs w
-apply rules Pop w = pop rules w
-apply rules (ImpliedEndsExcept local) w = implied_ends_except rules local w
-apply rules (CutAtNamed local) w = cut_at_named local w
+abbrev pub apply : SinkChoices → Change → World → World
+apply choices (SetMode mode) w = set_mode mode w
+apply choices (SetQuirksMode mode) w = set_quirks_mode mode w
+apply choices SetFramesetNotOk w = set_frameset_not_ok w
+apply choices (SetFramesetOkByText text) w = set_frameset_ok_by_text text w
+apply choices (InsertElement local attrs duplicates) w = insert_element choices local attrs duplicates w
+apply choices (CreateRoot attrs) w = create_root choices attrs w
+apply choices SetHeadToCurrent w = set_head_to_current w
+apply choices (AppendText text) w = append_text text w
+apply choices (AppendComment text) w = append_comment choices text w
+apply choices (AppendCommentToDoc text) w = append_comment_to_doc choices text w
+apply choices (AppendCommentToHtml text) w = append_comment_to_html choices text w
+apply choices (AddAttrsToHtml attrs) w = add_attrs_to_html attrs w
+apply choices (AddAttrsToSecond attrs) w = add_attrs_to_second attrs w
+apply choices Pop w = pop choices w
+apply choices (GenerateImpliedEndExcept local) w = generate_implied_end_except choices local w
+apply choices (PopUntilNamed local) w = pop_until_named local w
 
-abbrev pub apply_all : SinkRules → List Change → World → World
-apply_all rules [] w = w
-apply_all rules (x ∷ xs) w = apply_all rules xs (apply rules x w)
+abbrev pub apply_all : SinkChoices → List Change → World → World
+apply_all choices [] w = w
+apply_all choices (x ∷ xs) w = apply_all choices xs (apply choices x w)
 
--- how a rule ends: the token is done with, takes another turn, or is answered
+-- how a rule ends: the token is done with, and a self-closing flag may be acknowledged besides; it takes another
+-- turn, in a mode that is named, or that the world tells as it is after the changes; or it is answered
 pub data Ending : Type 0 where
   IsDone : Ending
+  IsAcknowledged : Ending
   Again : (mode : InsertionMode) → Ending
-  Answer : (reply : Reply) → Ending
+  AgainBy : (mode : World → InsertionMode) → Ending
+  Answers : (answer : Reply) → Ending
+
+-- the mode of another turn, where one is taken
+abbrev pub next_mode : Ending → World → Option InsertionMode
+next_mode IsDone w = None
+next_mode IsAcknowledged w = None
+next_mode (Again mode) w = Some mode
+next_mode (AgainBy mode) w = Some (mode w)
+next_mode (Answers answer) w = None
 
 -- in a quiet row no parse error is told
 pub record Row : Type 0 where
@@ -75,13 +86,24 @@ errs changes ending = record { changes = changes; ending = ending; quiet = false
 abbrev pub ignored : Row
 ignored = errs [] IsDone
 
--- what a turn ended with is this ending, and a token that takes another turn is the one that came
-abbrev pub EndsAs : TurnText → ProcessResult → Ending → Type 0
-EndsAs t Done e = e ≡ IsDone
-EndsAs t (Reprocess mode token) e = (e ≡ Again mode) × (turn_text token ≡ t)
+-- one of two rows
+abbrev pub choose : Bool → Row → Row → Row
+choose b chosen other = if b then chosen else other
+
+-- the world after a row's changes
+abbrev pub changed_by : SinkChoices → Row → World → World
+changed_by choices r w = apply_all choices r.changes w
+
+-- what a turn ended with is this ending in the world after it, and a token that takes another turn is the one that
+-- came
+abbrev pub EndsAs : {H : Type 0} → (H → ℕ) → TurnText → ProcessResult H → Ending → World → Type 0
+EndsAs node t results.Done e w = e ≡ IsDone
+EndsAs node t results.DoneAckSelfClosing e w = e ≡ IsAcknowledged
+EndsAs node t (results.Reprocess mode token) e w = (next_mode e w ≡ Some mode) × (turn_text token ≡ t)
+EndsAs node t (results.Answer answer) e w = e ≡ Answers (reply node answer)
 
 -- a turn followed a row: what changed, how it ended, and whether the sink's error mark moved
-pub record Follows (rules : SinkRules) (r : Row) (t : TurnText) (old new : World) (old_errors new_errors : ℕ) (result : ProcessResult) : Type 0 where
-  pub world : new ≡ apply_all rules r.changes old
-  pub ending : EndsAs t result r.ending
+pub record Follows {H : Type 0} (choices : SinkChoices) (node : H → ℕ) (r : Row) (t : TurnText) (old new : World) (old_errors new_errors : ℕ) (result : ProcessResult H) : Type 0 where
+  pub world : new ≡ apply_all choices r.changes old
+  pub ending : EndsAs node t result r.ending new
   pub quiet : r.quiet ≡ true → new_errors ≡ old_errors

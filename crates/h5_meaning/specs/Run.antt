@@ -5,13 +5,13 @@ use Rattle.h5_token.specs.Reply.{Reply, Continues, Refuses}
 use Rattle.h5_token.specs.TokenText.{DoctypeText, TokenText, DoctypeIs, TagIs, CommentIs, Characters, NullCharacter, EndOfFile, ParseErrorIs}
 use Rattle.h5_token.specs.declared.fault.BuildFault.{BuildFault}
 use Rattle.h5_token.specs.declared.fault.BuildFault.TheVariants.{AfterEnd, Failed}
-use Rattle.h5_interface.specs.SinkRules.{SinkRules}
+use Rattle.h5_interface.specs.SinkChoices.{SinkChoices}
 use Rattle.h5_interface.specs.declared.marks.QuirksMode.{QuirksMode}
 use Rattle.h5_interface.specs.declared.marks.QuirksMode.TheVariants.{Quirks, NoQuirks}
-use Rattle.h5_types.specs.TurnText.{TurnText, TagTurn, CommentTurn, TextTurn, NullTurn, EofTurn}
+use Rattle.h5_types.specs.TurnText.{TagTurn, CommentTurn, NullTurn, EofTurn}
 use Rattle.h5_types.specs.declared.modes.InsertionMode.{InsertionMode}
 use Rattle.h5_types.specs.declared.modes.InsertionMode.TheVariants.{Initial, BeforeHtml}
-use Rattle.h5_meaning.specs.Changes.{in_mode, insert_doctype, set_quirks}
+use Rattle.h5_meaning.specs.Changes.{set_mode, insert_doctype, set_quirks_mode}
 use Rattle.h5_meaning.specs.Settle.{Settled, settle}
 use Rattle.h5_meaning.specs.Text.{is_quiet_text, text_rule}
 use Rattle.h5_meaning.specs.World.{World}
@@ -49,74 +49,132 @@ abbrev pub quirks_of : DoctypeText → QuirksMode
 quirks_of d = if is_good_doctype d then NoQuirks else Quirks
 
 -- a doctype at the start (HTML standard, section 13.2.6.4.1, a DOCTYPE token)
-unfoldable pub with_doctype : SinkRules → DoctypeText → World → World
-with_doctype rules d w =
+unfoldable pub with_doctype : SinkChoices → DoctypeText → World → World
+with_doctype choices d w =
     if w.options.drop_doctype then w
-    else insert_doctype rules (unwrap_or d.name []) (unwrap_or d.public_id []) (unwrap_or d.system_id []) w
+    else insert_doctype choices (unwrap_or d.name []) (unwrap_or d.public_id []) (unwrap_or d.system_id []) w
 
-unfoldable pub judged : SinkRules → DoctypeText → World → World
-judged rules d w = in_mode BeforeHtml (set_quirks (quirks_of d) (with_doctype rules d w))
+unfoldable pub judged : SinkChoices → DoctypeText → World → World
+judged choices d w = set_mode BeforeHtml (set_quirks_mode (quirks_of d) (with_doctype choices d w))
 
 -- what is told at once
 abbrev pub at_once : World → Bool → Settled
 at_once w quiet = record { world = w; turns = 0; reply = Continues; quiet = quiet }
 
 -- a doctype elsewhere is an error, and nothing more
-abbrev pub doctype_in : InsertionMode → SinkRules → DoctypeText → World → Settled
-doctype_in Initial rules d w = at_once (judged rules d w) (is_good_doctype d)
-doctype_in _ rules d w = at_once w false
+abbrev pub doctype_in : InsertionMode → SinkChoices → DoctypeText → World → Settled
+doctype_in Initial choices d w = at_once (judged choices d w) (is_good_doctype d)
+doctype_in _ choices d w = at_once w false
 
 -- a text, whose turns aren't told where it isn't empty
-abbrev pub text_step : SinkRules → List ℕ → World → Settled
-text_step rules [] w = at_once w true
-text_step rules (b ∷ t) w = at_once (text_rule rules (b ∷ t) w) (is_quiet_text w.mode)
+abbrev pub text_step : SinkChoices → List ℕ → World → Settled
+text_step choices [] w = at_once w true
+text_step choices (b ∷ t) w = at_once (text_rule choices (b ∷ t) w) (is_quiet_text w.mode)
 
 -- a token that is taken
-unfoldable pub step : SinkRules → TokenText → World → Settled
-step rules (DoctypeIs doctype) w = doctype_in w.mode rules doctype (taken w)
-step rules (TagIs tag) w = settle rules (TagTurn tag) (taken w)
-step rules (CommentIs text) w = settle rules (CommentTurn text) (taken w)
-step rules (Characters text) w = text_step rules (without_lf w.ignore_lf text) (taken w)
-step rules NullCharacter w = settle rules NullTurn (taken w)
-step rules EndOfFile w = settle rules EofTurn (taken w)
-step rules (ParseErrorIs message) w = at_once (taken w) false
+unfoldable pub step : SinkChoices → TokenText → World → Settled
+step choices (DoctypeIs doctype) w = doctype_in w.mode choices doctype (taken w)
+step choices (TagIs tag) w = settle choices (TagTurn tag) (taken w)
+step choices (CommentIs text) w = settle choices (CommentTurn text) (taken w)
+step choices (Characters text) w = text_step choices (without_lf w.ignore_lf text) (taken w)
+step choices NullCharacter w = settle choices NullTurn (taken w)
+step choices EndOfFile w = settle choices EofTurn (taken w)
+step choices (ParseErrorIs message) w = at_once (taken w) false
 
--- refusals, in their order
-abbrev pub refusal : View → Option BuildFault
-refusal v = if v.failed then Some Failed else (if v.ended then Some AfterEnd else None)
+-- refusals, in their order; no mode that is reached yet refuses a token by itself
+abbrev pub refusal : View → TokenText → Option BuildFault
+refusal v t = if v.failed then Some Failed else (if v.ended then Some AfterEnd else None)
 
 -- a refused token changes nothing
-abbrev pub take_or_refuse : SinkRules → TokenText → Option BuildFault → View → View
-take_or_refuse rules t (Some fault) v = v
-take_or_refuse rules t None v = record v { world = (step rules t v.world).world }
+abbrev pub take_or_refuse : SinkChoices → TokenText → Option BuildFault → View → View
+take_or_refuse choices t (Some fault) v = v
+take_or_refuse choices t None v = record v { world = (step choices t v.world).world }
 
-abbrev pub after_token : SinkRules → TokenText → View → View
-after_token rules t v = take_or_refuse rules t (refusal v) v
+abbrev pub after_token : SinkChoices → TokenText → View → View
+after_token choices t v = take_or_refuse choices t (refusal v t) v
 
-abbrev pub reply_or_refusal : SinkRules → TokenText → Option BuildFault → View → Reply
-reply_or_refusal rules t (Some fault) v = Refuses fault
-reply_or_refusal rules t None v = (step rules t v.world).reply
+-- the turns of a text aren't told, unless it is empty: they depend on how it is cut
+abbrev pub is_empty_text : List ℕ → Bool
+is_empty_text [] = true
+is_empty_text (b ∷ t) = false
 
-abbrev pub reply_to : SinkRules → TokenText → View → Reply
-reply_to rules t v = reply_or_refusal rules t (refusal v) v
+abbrev pub is_counted : TokenText → World → Bool
+is_counted (Characters text) w = is_empty_text (without_lf w.ignore_lf text)
+is_counted _ w = true
 
-abbrev pub quiet_or_refused : SinkRules → TokenText → Option BuildFault → View → Bool
-quiet_or_refused rules t (Some fault) v = true
-quiet_or_refused rules t None v = (step rules t v.world).quiet
+-- how many turns a token took: none, where it was refused, or as many as are told
+pub data Turns : Type 0 where
+  WasRefused : Turns
+  Took : (count : ℕ) → Turns
+  Untold : Turns
 
--- whether no parse error is told
-abbrev pub is_quiet : SinkRules → TokenText → View → Bool
-is_quiet rules t v = quiet_or_refused rules t (refusal v) v
+-- what is told of a token: the reply to it, its turns, and whether no parse error was told
+pub record Told : Type 0 where
+  pub reply : Reply
+  pub turns : Turns
+  pub quiet : Bool
 
--- a list of tokens: the view after it, the reply to each, and whether no parse error is told
-unfoldable pub after_all : SinkRules → List TokenText → View → View
-after_all rules [] v = v
-after_all rules (t ∷ ts) v = after_all rules ts (after_token rules t v)
+abbrev pub tell : Bool → Settled → Told
+tell counted s = record { reply = s.reply; turns = if counted then Took s.turns else Untold; quiet = s.quiet }
 
-unfoldable pub replies : SinkRules → List TokenText → View → List Reply
-replies rules [] v = []
-replies rules (t ∷ ts) v = reply_to rules t v ∷ replies rules ts (after_token rules t v)
+abbrev pub tell_or_refuse : SinkChoices → TokenText → Option BuildFault → View → Told
+tell_or_refuse choices t (Some fault) v = record { reply = Refuses fault; turns = WasRefused; quiet = true }
+tell_or_refuse choices t None v = tell (is_counted t v.world) (step choices t v.world)
 
-unfoldable pub all_quiet : SinkRules → List TokenText → View → Bool
-all_quiet rules [] v = true
-all_quiet rules (t ∷ ts) v = is_quiet rules t v && all_quiet rules ts (after_token rules t v)
+abbrev pub told_of : SinkChoices → TokenText → View → Told
+told_of choices t v = tell_or_refuse choices t (refusal v t) v
+
+abbrev pub reply_to : SinkChoices → TokenText → View → Reply
+reply_to choices t v = (told_of choices t v).reply
+
+abbrev pub is_quiet : SinkChoices → TokenText → View → Bool
+is_quiet choices t v = (told_of choices t v).quiet
+
+-- THE RUN of a list of tokens: the view after it, and what is told of each
+pub record Ran : Type 0 where
+  pub view : View
+  pub told : List Told
+
+abbrev pub told_first : Told → Ran → Ran
+told_first told r = record { view = r.view; told = told ∷ r.told }
+
+unfoldable pub run : SinkChoices → List TokenText → View → Ran
+run choices [] v = record { view = v; told = [] }
+run choices (t ∷ ts) v = told_first (told_of choices t v) (run choices ts (after_token choices t v))
+
+abbrev pub after_all : SinkChoices → List TokenText → View → View
+after_all choices ts v = (run choices ts v).view
+
+abbrev pub told_all : SinkChoices → List TokenText → View → List Told
+told_all choices ts v = (run choices ts v).told
+
+-- the replies, and whether no parse error is told at all
+abbrev pub replies_in : List Told → List Reply
+replies_in [] = []
+replies_in (x ∷ xs) = x.reply ∷ replies_in xs
+
+abbrev pub quiet_in : List Told → Bool
+quiet_in [] = true
+quiet_in (x ∷ xs) = x.quiet && quiet_in xs
+
+abbrev pub replies : SinkChoices → List TokenText → View → List Reply
+replies choices ts v = replies_in (told_all choices ts v)
+
+abbrev pub all_quiet : SinkChoices → List TokenText → View → Bool
+all_quiet choices ts v = quiet_in (told_all choices ts v)
+
+-- a count of turns after one that was there before: that of the last token that was taken
+abbrev pub CountsTurns : Turns → (old new : ℕ) → Type 0
+CountsTurns WasRefused old new = new ≡ old
+CountsTurns (Took count) old new = new ≡ count
+CountsTurns Untold old new = Unit {0}
+
+-- the turns of the token of a list that was taken last
+abbrev pub later_turns : Turns → Turns → Turns
+later_turns before WasRefused = before
+later_turns before (Took count) = Took count
+later_turns before Untold = Untold
+
+abbrev pub last_turns : Turns → List Told → Turns
+last_turns before [] = before
+last_turns before (x ∷ xs) = last_turns (later_turns before x.turns) xs

@@ -1,18 +1,13 @@
--- The turns of one token: a chain of rules, each but the last ending in "again".
-use Rattle.std.specs.Prelude.{◌≡◌, ℕ, zero, suc, ◌+◌, ◌<◌, Bool, true, false, not, ◌&&◌, ◌||◌, if◌then◌else◌}
+-- The turns of one token: a chain of rules, each but the last ending in "again" (HTML standard, section 13.2.6, "the
+-- tree construction dispatcher").
+use Rattle.std.specs.Prelude.{◌≡◌, ℕ, zero, suc, ◌+◌, Bool, true, not, ◌&&◌, length, Option, Some, None}
 use Rattle.h5_token.specs.Reply.{Reply, Continues}
-use Rattle.h5_token.specs.declared.tag.TagKind.{TagKind}
-use Rattle.h5_token.specs.declared.tag.TagKind.TheVariants.{StartTag, EndTag}
-use Rattle.h5_interface.specs.SinkRules.{SinkRules}
-use Rattle.h5_tag_sets.specs.KnownNames.{known_name_of}
-use Rattle.h5_tag_sets.specs.declared.known.KnownName.{KnownName}
-use Rattle.h5_tag_sets.specs.declared.known.KnownName.TheVariants.{Html, Head, Body, Br, Other}
-use Rattle.h5_types.specs.TurnText.{TurnText, TagTurn, CommentTurn, TextTurn, NullTurn, EofTurn, is_self_closing}
+use Rattle.h5_interface.specs.SinkChoices.{SinkChoices}
+use Rattle.h5_types.specs.TurnText.{TurnText, is_self_closing}
 use Rattle.h5_types.specs.declared.modes.InsertionMode.{InsertionMode}
-use Rattle.h5_types.specs.declared.modes.InsertionMode.TheVariants.{Initial, BeforeHtml, BeforeHead, InHead, AfterHead, InBody, AfterBody, AfterAfterBody}
-use Rattle.h5_meaning.specs.Changes.{in_mode}
+use Rattle.h5_meaning.specs.Changes.{set_mode}
 use Rattle.h5_meaning.specs.Modes.{rule}
-use Rattle.h5_meaning.specs.Rows.{Row, Ending, IsDone, Again, Answer, apply_all}
+use Rattle.h5_meaning.specs.Rows.{Answers, Ending, IsDone, Row, changed_by, next_mode}
 use Rattle.h5_meaning.specs.World.{World}
 
 -- what a token came to: the world after it, its turns, the answer, and whether no parse error was told
@@ -22,57 +17,50 @@ pub record Settled : Type 0 where
   pub reply : Reply
   pub quiet : Bool
 
--- after a turn that ended so: the token is done with, answered, or goes on in another mode
-abbrev pub after_turn : (World → Settled) → TurnText → Bool → Ending → World → Settled
-after_turn go t quiet IsDone w = record { world = w; turns = 1; reply = Continues; quiet = quiet && not (is_self_closing t) }
-after_turn go t quiet (Answer reply) w = record { world = w; turns = 1; reply = reply; quiet = quiet }
-after_turn go t quiet (Again mode) w = record {
-  world = (go (in_mode mode w)).world;
-  turns = (go (in_mode mode w)).turns + 1;
-  reply = (go (in_mode mode w)).reply;
-  quiet = quiet && (go (in_mode mode w)).quiet;
-}
+-- what is answered where no other turn is taken
+abbrev pub answer_of : Ending → Reply
+answer_of (Answers answer) = answer
+answer_of _ = Continues
 
--- one turn, by a row
-abbrev pub by_row : SinkRules → (World → Settled) → TurnText → Row → World → Settled
-by_row rules go t r w = after_turn go t r.quiet r.ending (apply_all rules r.changes w)
+-- where the token is done with and nobody looked at its self-closing flag, a start tag that has it is a parse error
+abbrev pub is_quiet_end : TurnText → Ending → Bool
+is_quiet_end t IsDone = not (is_self_closing t)
+is_quiet_end t _ = true
 
--- whether a token is an end tag `html`, for which "in body" leads to "after body" and not back
-abbrev pub is_end_html_tag : TagKind → KnownName → Bool
-is_end_html_tag EndTag Html = true
-is_end_html_tag _ _ = false
+-- after the last turn
+abbrev pub ends_with : TurnText → Row → World → Settled
+ends_with t r w = record { world = w; turns = 1; reply = answer_of r.ending; quiet = r.quiet && is_quiet_end t r.ending }
 
-abbrev pub is_end_html : TurnText → Bool
-is_end_html (TagTurn tag) = is_end_html_tag tag.kind (known_name_of tag.name)
-is_end_html (CommentTurn text) = false
-is_end_html (TextTurn status text) = false
-is_end_html NullTurn = false
-is_end_html EofTurn = false
+-- after a turn, and what the token came to then
+abbrev pub goes_on_to : Row → Settled → Settled
+goes_on_to r s = record { world = s.world; turns = s.turns + 1; reply = s.reply; quiet = r.quiet && s.quiet }
 
--- how many turns a token takes at most in a mode
-abbrev pub rank_body : Bool → ℕ
-rank_body true = 2
-rank_body false = 1
+-- THE CHAIN of a token from a world: a turn by the rule of the mode, which is the last, or is followed by the chain from
+-- the mode that its ending leads to
+pub data Chain (choices : SinkChoices) (t : TurnText) : World → Settled → Type 0 where
+  Ends : (w : World) → next_mode (rule w.mode t w).ending (changed_by choices (rule w.mode t w) w) ≡ None
+      → Chain choices t w (ends_with t (rule w.mode t w) (changed_by choices (rule w.mode t w) w))
+  GoesOn : (w : World) (mode : InsertionMode) (s : Settled) → next_mode (rule w.mode t w).ending (changed_by choices (rule w.mode t w) w) ≡ Some mode
+      → Chain choices t (set_mode mode (changed_by choices (rule w.mode t w) w)) s → Chain choices t w (goes_on_to (rule w.mode t w) s)
 
-abbrev pub rank_after : Bool → ℕ
-rank_after true = 1
-rank_after false = 2
+-- one turn by a row, and what follows it
+abbrev pub then_turns : (World → Settled) → TurnText → Row → World → Option InsertionMode → Settled
+then_turns go t r w None = ends_with t r w
+then_turns go t r w (Some mode) = goes_on_to r (go (set_mode mode w))
 
-abbrev pub rank : Bool → InsertionMode → ℕ
-rank e Initial = 7
-rank e BeforeHtml = 6
-rank e BeforeHead = 5
-rank e InHead = 4
-rank e AfterHead = 3
-rank e InBody = rank_body e
-rank e AfterBody = rank_after e
-rank e AfterAfterBody = 3
+abbrev pub by_row : SinkChoices → (World → Settled) → TurnText → Row → World → Settled
+by_row choices go t r w = then_turns go t r (changed_by choices r w) (next_mode r.ending (changed_by choices r w))
 
--- the chain, of so many turns at most
-unfoldable pub settle_within : SinkRules → ℕ → TurnText → World → Settled
-settle_within rules zero t w = record { world = w; turns = 0; reply = Continues; quiet = true }
-settle_within rules (suc n) t w = by_row rules (λ v. settle_within rules n t v) t (rule w.mode t w) w
+-- what a token comes to within so many turns
+unfoldable pub settle_within : SinkChoices → ℕ → TurnText → World → Settled
+settle_within choices zero t w = record { world = w; turns = 0; reply = Continues; quiet = true }
+settle_within choices (suc n) t w = by_row choices (λ v. settle_within choices n t v) t (rule w.mode t w) w
 
--- the chain of a token
-unfoldable pub settle : SinkRules → TurnText → World → Settled
-settle rules t w = settle_within rules (rank (is_end_html t) w.mode) t w
+-- what a token comes to: sixteen turns, and as many as elements are open, are more than enough
+unfoldable pub settle : SinkChoices → TurnText → World → Settled
+settle choices t w = settle_within choices (16 + length w.stack) t w
+
+-- a token has this chain, and no other
+pub record IsOneChain (choices : SinkChoices) (t : TurnText) (w : World) : Type 0 where
+  pub chain : Chain choices t w (settle choices t w)
+  pub no_other : (s : Settled) → Chain choices t w s → s ≡ settle choices t w

@@ -1,14 +1,20 @@
 -- The rule of a text, in one step: by the mode, for its longest front of blanks and for the rest.
-use Rattle.std.specs.Prelude.{◌≡◌, ℕ, slice_index, Bool, true, false, List, [], ◌∷◌}
-use Rattle.h5_interface.specs.SinkRules.{SinkRules}
+use Rattle.std.specs.Prelude.{◌≡◌, ℕ, slice_index, Bool, true, false, List, [], ◌∷◌, Option, Some, None}
+use Rattle.h5_interface.specs.SinkChoices.{SinkChoices}
+use Rattle.h5_types.specs.TurnText.{TextTurn, TurnText}
 use Rattle.h5_types.specs.declared.modes.InsertionMode.{InsertionMode}
-use Rattle.h5_types.specs.declared.modes.InsertionMode.TheVariants.{Initial, BeforeHtml, BeforeHead, InHead, AfterHead, InBody, AfterBody, AfterAfterBody}
+use Rattle.h5_types.specs.declared.modes.InsertionMode.TheVariants.{AfterAfterBody, AfterAfterFrameset, AfterBody, AfterFrameset, AfterHead, BeforeHead, BeforeHtml, InBody, InColumnGroup, InFrameset, InHead, InHeadNoscript, Initial}
 use Rattle.h5_types.specs.declared.modes.SplitStatus.{SplitStatus}
 use Rattle.h5_types.specs.declared.modes.SplitStatus.TheVariants.{NotSplit, Whitespace, NotWhitespace}
+use Rattle.h5_meaning.specs.AfterBody.{back_to_body}
+use Rattle.h5_meaning.specs.AfterHead.{after_head_else}
+use Rattle.h5_meaning.specs.BeforeHead.{before_head_else}
+use Rattle.h5_meaning.specs.BeforeHtml.{before_html_else}
 use Rattle.h5_meaning.specs.Blanks.{is_blank, blanks_of, rest_of}
-use Rattle.h5_meaning.specs.Changes.{append, in_mode, ok_if_text}
-use Rattle.h5_meaning.specs.Modes.{initial_else, before_html_else, before_head_else, in_head_else, after_head_else}
-use Rattle.h5_meaning.specs.Rows.{Row, apply_all}
+use Rattle.h5_meaning.specs.Changes.{append_text, set_frameset_ok_by_text, set_mode}
+use Rattle.h5_meaning.specs.InHead.{in_head_else}
+use Rattle.h5_meaning.specs.InitialMode.{initial_else}
+use Rattle.h5_meaning.specs.Rows.{Row, changed_by, next_mode}
 use Rattle.h5_meaning.specs.World.{World}
 
 -- a rule of a text, and nothing where there is none
@@ -23,62 +29,73 @@ split blanks others t w = if_any others (rest_of t) (if_any blanks (blanks_of t)
 abbrev pub dropped : List ℕ → World → World
 dropped t w = w
 
--- by "else": a row, and then the text in the next mode
-abbrev pub by_else : SinkRules → (World → Row) → InsertionMode → (List ℕ → World → World) → List ℕ → World → World
-by_else rules r mode next t w = next t (in_mode mode (apply_all rules (r w).changes w))
+-- the world in which another turn is taken
+abbrev pub in_next : Option InsertionMode → World → World
+in_next None w = w
+in_next (Some mode) w = set_mode mode w
+
+abbrev pub after_row : SinkChoices → Row → World → World
+after_row choices r w = in_next (next_mode r.ending (changed_by choices r w)) (changed_by choices r w)
+
+-- by "anything else", and then by the rule of the mode that this leads to
+abbrev pub by_else : SinkChoices → (TurnText → World → Row) → (List ℕ → World → World) → List ℕ → World → World
+by_else choices r next t w = next t (after_row choices (r (TextTurn NotWhitespace t) w) w)
 
 -- in the body (HTML standard, section 13.2.6.4.7, a character token)
 unfoldable pub text_in_body : List ℕ → World → World
-text_in_body t w = append t (ok_if_text t w)
+text_in_body t w = append_text t (set_frameset_ok_by_text t w)
 
--- again in the body
-abbrev pub back_in_body : List ℕ → World → World
-back_in_body t w = text_in_body t (in_mode InBody w)
+unfoldable pub text_after_body : SinkChoices → List ℕ → World → World
+text_after_body choices = split text_in_body (by_else choices back_to_body text_in_body)
 
-unfoldable pub text_after_body : List ℕ → World → World
-text_after_body = split text_in_body back_in_body
+unfoldable pub text_after_head : SinkChoices → List ℕ → World → World
+text_after_head choices = split append_text (by_else choices after_head_else text_in_body)
 
-unfoldable pub text_after_head : SinkRules → List ℕ → World → World
-text_after_head rules = split append (by_else rules (λ w. after_head_else) InBody text_in_body)
+unfoldable pub text_in_head : SinkChoices → List ℕ → World → World
+text_in_head choices = split append_text (by_else choices in_head_else (text_after_head choices))
 
-unfoldable pub text_in_head : SinkRules → List ℕ → World → World
-text_in_head rules = split append (by_else rules (λ w. in_head_else) AfterHead (text_after_head rules))
+unfoldable pub text_before_head : SinkChoices → List ℕ → World → World
+text_before_head choices = split dropped (by_else choices before_head_else (text_in_head choices))
 
-unfoldable pub text_before_head : SinkRules → List ℕ → World → World
-text_before_head rules = split dropped (by_else rules (λ w. before_head_else) InHead (text_in_head rules))
+unfoldable pub text_before_html : SinkChoices → List ℕ → World → World
+text_before_html choices = split dropped (by_else choices before_html_else (text_before_head choices))
 
-unfoldable pub text_before_html : SinkRules → List ℕ → World → World
-text_before_html rules = split dropped (by_else rules (λ w. before_html_else) BeforeHead (text_before_head rules))
+unfoldable pub text_initial : SinkChoices → List ℕ → World → World
+text_initial choices = split dropped (by_else choices initial_else (text_before_html choices))
 
-unfoldable pub text_initial : SinkRules → List ℕ → World → World
-text_initial rules = split dropped (by_else rules initial_else BeforeHtml (text_before_html rules))
+-- in each mode; of a mode that isn't reached yet, no rule is written
+abbrev pub text_in : InsertionMode → SinkChoices → List ℕ → World → World
+text_in Initial choices = text_initial choices
+text_in BeforeHtml choices = text_before_html choices
+text_in BeforeHead choices = text_before_head choices
+text_in InHead choices = text_in_head choices
+text_in AfterHead choices = text_after_head choices
+text_in InBody choices = text_in_body
+text_in AfterBody choices = text_after_body choices
+text_in AfterAfterBody choices = text_after_body choices
+text_in _ choices = dropped
 
-abbrev pub text_in : InsertionMode → SinkRules → List ℕ → World → World
-text_in Initial rules = text_initial rules
-text_in BeforeHtml rules = text_before_html rules
-text_in BeforeHead rules = text_before_head rules
-text_in InHead rules = text_in_head rules
-text_in AfterHead rules = text_after_head rules
-text_in InBody rules = text_in_body
-text_in AfterBody rules = text_after_body
-text_in AfterAfterBody rules = text_after_body
+abbrev pub text_rule : SinkChoices → List ℕ → World → World
+text_rule choices t w = text_in w.mode choices t w
 
-abbrev pub text_rule : SinkRules → List ℕ → World → World
-text_rule rules t w = text_in w.mode rules t w
+abbrev pub text_any : SinkChoices → List ℕ → World → World
+text_any choices t w = if_any (text_rule choices) t w
 
-abbrev pub text_any : SinkRules → List ℕ → World → World
-text_any rules t w = if_any (text_rule rules) t w
-
--- a mode that cuts a text into runs
+-- the modes that cut a text into runs
 abbrev pub splits : InsertionMode → Bool
 splits Initial = true
 splits BeforeHtml = true
 splits BeforeHead = true
 splits InHead = true
+splits InHeadNoscript = true
 splits AfterHead = true
-splits InBody = false
+splits InColumnGroup = true
 splits AfterBody = true
+splits InFrameset = true
+splits AfterFrameset = true
 splits AfterAfterBody = true
+splits AfterAfterFrameset = true
+splits _ = false
 
 -- a run is of blanks, or begins with another character; a whole text is for a mode that doesn't split
 abbrev pub IsRun : InsertionMode → SplitStatus → List ℕ → Type 0

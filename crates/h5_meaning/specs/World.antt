@@ -1,17 +1,13 @@
 -- What a tree builder and its sink mean together (HTML standard, section 13.2.4, "Parse state").
-use Rattle.std.specs.Prelude.{ℕ, Bool, if◌then◌else◌, List, [], ◌∷◌, map, unwrap_or, codes, Option, Some, None}
+use Rattle.std.specs.Prelude.{ℕ, Bool, if◌then◌else◌, List, [], map, unwrap_or, Option, Some, None}
 use Rattle.h5_names.specs.declared.qualified.QualName.{QualName}
-use Rattle.h5_token.specs.TokenText.{TagText}
 use Rattle.h5_interface.specs.Forest.{CommentNode, DoctypeNode, DocumentNode, ElementNode, Forest, FragmentNode, InstructionNode, Kind, contents_of, kind_of}
 use Rattle.h5_interface.specs.NewElement.{is_html_template}
 use Rattle.h5_interface.specs.declared.marks.QuirksMode.{QuirksMode}
 use Rattle.h5_types.specs.declared.modes.InsertionMode.{InsertionMode}
 use Rattle.h5_types.specs.declared.options.TreeBuilderOpts.{TreeBuilderOpts}
-
--- an entry of the list of active formatting elements
-pub data Entry : Type 0 where
-  MarkerEntry : Entry
-  ElementEntry : (node : ℕ) → (tag : TagText) → Entry
+use Rattle.h5_stack.specs.FormattingList.{Entry}
+use Rattle.h5_stack.specs.Order.{first_or, last_or}
 
 -- Open elements and formatting list have the newest first. `seen_quirks` is the quirks mode that the sink
 -- was told, `quirks` the builder's own.
@@ -57,32 +53,13 @@ name_in f n = name_of_found (kind_of f n)
 unfoldable pub names_of : World → List QualName
 names_of w = map (name_in w.forest) w.stack
 
-abbrev pub first_or : ℕ → List ℕ → ℕ
-first_or d [] = d
-first_or d (n ∷ ns) = n
-
 -- the current node (HTML standard, section 13.2.4.2); where none is open, the document
 abbrev pub current : World → ℕ
 current w = first_or w.forest.document w.stack
 
-abbrev pub but_first : List ℕ → List ℕ
-but_first [] = []
-but_first (n ∷ ns) = ns
-
 -- the root: the open element that is the oldest
-abbrev pub last_or : ℕ → List ℕ → ℕ
-last_or d [] = d
-last_or d (n ∷ ns) = last_or n ns
-
 abbrev pub root : World → ℕ
 root w = last_or w.forest.document w.stack
-
--- the second open element from the root on
-abbrev pub second_from_last : List ℕ → Option ℕ
-second_from_last [] = None
-second_from_last (n ∷ []) = None
-second_from_last (n ∷ m ∷ []) = Some n
-second_from_last (n ∷ m ∷ k ∷ ns) = second_from_last (m ∷ k ∷ ns)
 
 -- what is put into a node goes into its contents where it is a template
 abbrev pub inside : Forest → ℕ → ℕ
@@ -91,7 +68,3 @@ inside f n = if is_html_template (name_in f n) then unwrap_or (contents_of f n) 
 -- the appropriate place for inserting a node (HTML standard, section 13.2.6.1)
 abbrev pub place : World → ℕ
 place w = inside w.forest (current w)
-
--- an HTML element of this name
-abbrev pub html_name : List ℕ → QualName
-html_name local = record { prefix = None; ns = codes "http://www.w3.org/1999/xhtml"; local = local }

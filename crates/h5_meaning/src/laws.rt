@@ -1,32 +1,47 @@
 //! Laws over the definitions, each the contract of a function that does nothing.
-ghost use Rattle.std.specs.Prelude.{◌≡◌, ◌≤◌, ◌<◌, ℕ, List};
+ghost use Rattle.std.specs.Prelude.{◌≡◌, ◌≤◌, ◌<◌, ℕ, List, ◌++◌};
+ghost use Rattle.h5_token.specs.Joins.{join};
 ghost use Rattle.h5_token.specs.TokenText.{TokenText};
-ghost use Rattle.h5_interface.specs.SinkRules.{SinkRules};
+ghost use Rattle.h5_interface.specs.SinkChoices.{SinkChoices};
 ghost use Rattle.h5_types.specs.TurnText.{EofTurn, TurnText};
 ghost use Rattle.h5_types.specs.declared.modes.InsertionMode.TheVariants.{Initial};
 ghost use Rattle.h5_meaning.specs.Cuts.{CutsAgree};
 ghost use Rattle.h5_meaning.specs.Modes.{rule};
-ghost use Rattle.h5_meaning.specs.Run.{View};
-ghost use Rattle.h5_meaning.specs.Settle.{by_row, settle};
+ghost use Rattle.h5_meaning.specs.Run.{View, after_all, replies, told_all};
+ghost use Rattle.h5_meaning.specs.Settle.{IsOneChain, by_row, settle};
 ghost use Rattle.h5_meaning.specs.World.{World};
 
 /// Over every sink, from every view: a list of tokens and the list with its neighbouring texts joined give
 /// one view, one reply to each token that is no text, and to each piece of a run the run's reply. So it
 /// doesn't matter how a run of text is cut.
 pub fn cuts_agree()
-    ensures { (rules : SinkRules) (tokens : List TokenText) (view : View) → CutsAgree rules tokens view }
+    ensures { (choices : SinkChoices) (tokens : List TokenText) (view : View) → CutsAgree choices tokens view }
 {}
 
-/// The chain of a token is one turn by the rule of the mode and, where that ends in "again", the chain from
-/// there. So a token has exactly one chain.
+/// Two lists of tokens that are the same but for the cuts of their texts give one view from every view.
+pub fn cuts_of_one_list_agree()
+    ensures { (choices : SinkChoices) (tokens others : List TokenText) (view : View) → join tokens ≡ join others → after_all choices tokens view ≡ after_all choices others view }
+{}
+
+/// The run of one list followed by another is the run of the first and then, from the view that it leaves, of
+/// the second; and so are the replies. So the replies to the front of a list are the front of its replies.
+pub fn runs_join()
+    ensures view { (choices : SinkChoices) (tokens more : List TokenText) (view : View) → after_all choices (tokens ++ more) view ≡ after_all choices more (after_all choices tokens view) }
+    ensures told { (choices : SinkChoices) (tokens more : List TokenText) (view : View) → told_all choices (tokens ++ more) view ≡ told_all choices tokens view ++ told_all choices more (after_all choices tokens view) }
+    ensures replies { (choices : SinkChoices) (tokens more : List TokenText) (view : View) → replies choices (tokens ++ more) view ≡ replies choices tokens view ++ replies choices more (after_all choices tokens view) }
+{}
+
+/// A token has exactly one chain of turns, and it comes to what the chain tells: one turn by the rule of the
+/// mode and, where that ends in "again", the chain from there.
 pub fn a_token_has_one_chain()
-    ensures { (rules : SinkRules) (t : TurnText) (w : World) →
-        settle rules t w ≡ by_row rules (settle rules t) t (rule w.mode t w) w }
+    ensures one { (choices : SinkChoices) (t : TurnText) (w : World) → IsOneChain choices t w }
+    ensures turn { (choices : SinkChoices) (t : TurnText) (w : World) →
+        settle choices t w ≡ by_row choices (settle choices t) t (rule w.mode t w) w }
 {}
 
 /// A chain has at least one turn and at most seven; the end of file alone, at the start, takes six.
 pub fn turns_are_few()
-    ensures some { (rules : SinkRules) (t : TurnText) (w : World) → 0 < (settle rules t w).turns }
-    ensures few { (rules : SinkRules) (t : TurnText) (w : World) → (settle rules t w).turns ≤ 7 }
-    ensures end_alone { (rules : SinkRules) (w : World) → w.mode ≡ Initial → (settle rules EofTurn w).turns ≡ 6 }
+    ensures some { (choices : SinkChoices) (t : TurnText) (w : World) → 0 < (settle choices t w).turns }
+    ensures few { (choices : SinkChoices) (t : TurnText) (w : World) → (settle choices t w).turns ≤ 7 }
+    ensures end_alone { (choices : SinkChoices) (w : World) → w.mode ≡ Initial → (settle choices EofTurn w).turns ≡ 6 }
 {}

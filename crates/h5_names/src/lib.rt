@@ -4,6 +4,8 @@
 //! a name is this crate's own.
 #![tactic(auto)]
 
+mod known_name;
+mod known_slots;
 pub mod laws;
 mod local_name;
 mod name_prefix;
@@ -13,6 +15,7 @@ mod qualified;
 #[cfg(test)]
 mod tests;
 
+pub use known_name::KnownName;
 pub use local_name::LocalName;
 pub use name_prefix::Prefix;
 pub use namespace_url::Namespace;

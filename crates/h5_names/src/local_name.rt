@@ -1,63 +1,126 @@
 //! Local names.
-ghost use Rattle.std.specs.Prelude.{◌≡◌, IfOk, Some, nat_eq, refl, string_bytes};
+ghost use Rattle.std.specs.Prelude.{◌≡◌, ◌≢◌, IfOk, IsOk, Some, nat_eq, refl, string_bytes};
 ghost use Rattle.std.specs.Cmp.{partial_equiv_from_equiv};
 ghost use Rattle.std.specs.Cmp.Lexicographic.{pointwise, slice_cmp, nat_list_eq_equiv, nat_list_cmp_total, texts_ties, texts_po};
 ghost use Rattle.std.specs.Cmp.Rules.{hashing};
 ghost use Rattle.std.specs.Hash as fed;
 ghost use Rattle.std.specs.Ordering.{nat_cmp};
 ghost use Rattle.std.proofs.Common.{rules};
+ghost use Rattle.h5_names.specs.AttributeText.{is_same_text};
+ghost use Rattle.h5_names.specs.KnownNames.{known_name_of, name_text};
 
+use super::KnownName;
 use std::alloc::{AllocError, Global};
 use std::cmp::Ordering;
 use std::hash::{Hash, Hasher};
 use std::marker::Model;
 
+// What stands behind a local name: a name that HTML knows, or the text of any other.
+#[derive(Debug, Drop)]
+enum Kept {
+    Known(KnownName),
+    Text(String),
+}
+
 /// The name of an element or an attribute, without its prefix (DOM standard: local name).
+///
+/// A name that HTML knows takes no memory.
 #[derive(Debug, Drop)]
 pub struct LocalName {
-    text: String,
+    kept: Kept,
 }
 
 impl Model for LocalName {
     ghost use Rattle.std.specs.Prelude.{List, ℕ};
-    ghost use Rattle.std.specs.String.{string_bytes};
+    ghost use Rattle.h5_names.specs.Kept.{kept_text, IsKeptWell};
 
     ghost Value = { List ℕ };
 
-    ghost view = { λ name. string_bytes name.text };
+    ghost view = { λ name. kept_text name.kept };
+
+    ghost invariant = { λ name. IsKeptWell name.kept };
 }
 
 impl LocalName {
-    /// The local name with this text, or an `AllocError` where memory is refused.
+    /// The local name with this text, or an `AllocError` where memory is refused. A text that HTML knows
+    /// takes none.
     pub fn new(alloc: Global, text: &str) -> Result<LocalName, AllocError>
-        ensures { IfOk result (λ name. name ≡ text.now) }
+        ensures value { IfOk result (λ name. name ≡ text.now) }
+        ensures free { known_name_of text.now ≢ KnownName.Other → IsOk result }
     {
-        Ok(LocalName {
-            text: String::from_str(alloc, text)?,
-        })
+        match KnownName::from_text(text) {
+            KnownName::Other => Ok(LocalName {
+                kept: Kept::Text(String::from_str(alloc, text)?),
+            }),
+            known => Ok(LocalName::from_known(known)),
+        }
     }
 
     /// The local name with this text, which is moved. It takes no memory.
     pub fn from_string(text: String) -> LocalName
         ensures { result ≡ string_bytes text }
     {
-        LocalName { text }
+        match KnownName::from_text(text.as_str()) {
+            KnownName::Other => LocalName {
+                kept: Kept::Text(text),
+            },
+            known => LocalName::from_known(known),
+        }
+    }
+
+    /// The local name that HTML knows as this, which takes no memory. That of `Other` is empty.
+    pub fn from_known(known: KnownName) -> LocalName
+        ensures { result ≡ name_text known }
+    {
+        LocalName {
+            kept: Kept::Known(known),
+        }
     }
 
     /// The text of the local name.
     pub fn as_str(&self) -> &str
         ensures { result.now ≡ self.now }
     {
-        self.text.as_str()
+        match &self.kept {
+            Kept::Known(known) => known.as_str(),
+            Kept::Text(text) => text.as_str(),
+        }
     }
 
-    /// An equal local name, or an `AllocError` where memory is refused.
-    pub fn clone(&self) -> Result<LocalName, AllocError>
-        ensures { IfOk result (λ name. name ≡ self.now) }
+    /// Which of the names that HTML knows this is, without a look at its text.
+    pub fn known(&self) -> KnownName
+        ensures { result ≡ known_name_of self.now }
     {
-        Ok(LocalName {
-            text: self.text.clone()?,
-        })
+        match &self.kept {
+            Kept::Known(known) => *known,
+            Kept::Text(_) => KnownName::Other,
+        }
+    }
+
+    /// Whether this is the name that HTML knows as this, without a look at its text. The text of `Other` is
+    /// empty.
+    pub fn is(&self, known: KnownName) -> bool
+        ensures { result ≡ is_same_text self.now (name_text known) }
+    {
+        if self.known() != known {
+            return false;
+        }
+        known != KnownName::Other || self.as_str() == known.as_str()
+    }
+
+    /// An equal local name, or an `AllocError` where memory is refused. A name that HTML knows takes none.
+    pub fn clone(&self) -> Result<LocalName, AllocError>
+        ensures value { IfOk result (λ name. name ≡ self.now) }
+        ensures free { known_name_of self.now ≢ KnownName.Other → IsOk result }
+    {
+        match &self.kept {
+            Kept::Known(known) => Ok(LocalName {
+                kept: Kept::Known(*known),
+            }),
+            Kept::Text(text) => Ok(LocalName {
+                kept: Kept::Text(text.clone()?),
+            }),
+        }
     }
 }
 
@@ -67,7 +130,11 @@ impl PartialEq for LocalName {
     ghost laws = { partial_equiv_from_equiv nat_list_eq_equiv };
 
     fn eq(&self, other: &LocalName) -> bool {
-        self.as_str() == other.as_str()
+        let (known, other_known) = (self.known(), other.known());
+        if known != other_known {
+            return false;
+        }
+        known != KnownName::Other || self.as_str() == other.as_str()
     }
 }
 

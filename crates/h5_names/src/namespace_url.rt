@@ -1,12 +1,13 @@
 //! Namespaces.
-ghost use Rattle.std.specs.Prelude.{◌≡◌, IfOk, IfSome, Some, nat_eq, refl};
+ghost use Rattle.std.specs.Prelude.{◌≡◌, [], IfOk, IsOk, IsTrue, Some, is_some, nat_eq, refl};
 ghost use Rattle.std.specs.Cmp.{partial_equiv_from_equiv};
 ghost use Rattle.std.specs.Cmp.Lexicographic.{pointwise, slice_cmp, nat_list_eq_equiv, nat_list_cmp_total, texts_ties, texts_po};
 ghost use Rattle.std.specs.Cmp.Rules.{hashing};
 ghost use Rattle.std.specs.Hash as fed;
 ghost use Rattle.std.specs.Ordering.{nat_cmp};
 ghost use Rattle.std.proofs.Common.{rules};
-ghost use Rattle.h5_names.specs.Urls.{known_text};
+ghost use Rattle.h5_names.specs.AttributeText.{is_same_text};
+ghost use Rattle.h5_names.specs.Urls.{found_url, known_text, html_text, mathml_text, svg_text};
 
 use super::namespaces;
 use std::alloc::{AllocError, Global};
@@ -44,7 +45,7 @@ impl Known {
 
 // The namespace that HTML knows by this text.
 fn find_known(text: &str) -> Option<Known>
-    ensures { IfSome result (λ url. known_text url ≡ text.now) }
+    ensures { result ≡ found_url text.now }
 {
     match text {
         namespaces::NONE => Some(Known::NoNamespace),
@@ -75,17 +76,21 @@ pub struct Namespace {
 
 impl Model for Namespace {
     ghost use Rattle.std.specs.Prelude.{List, ℕ};
-    ghost use Rattle.h5_names.specs.Urls.{url_text};
+    ghost use Rattle.h5_names.specs.Urls.{url_text, IsUrlKeptWell};
 
     ghost Value = { List ℕ };
 
     ghost view = { λ name. url_text name.url };
+
+    ghost invariant = { λ name. IsUrlKeptWell name.url };
 }
 
 impl Namespace {
-    /// The namespace with this text, or an `AllocError` where memory is refused.
+    /// The namespace with this text, or an `AllocError` where memory is refused. One that HTML knows takes
+    /// none.
     pub fn new(alloc: Global, text: &str) -> Result<Namespace, AllocError>
-        ensures { IfOk result (λ name. name ≡ text.now) }
+        ensures value { IfOk result (λ name. name ≡ text.now) }
+        ensures free { IsTrue (is_some (found_url text.now)) → IsOk result }
     {
         match find_known(text) {
             Some(url) => Ok(Namespace {
@@ -94,6 +99,24 @@ impl Namespace {
             None => Ok(Namespace {
                 url: Url::Other(String::from_str(alloc, text)?),
             }),
+        }
+    }
+
+    /// No namespace, which takes no memory.
+    pub fn none() -> Namespace
+        ensures { result ≡ [] }
+    {
+        Namespace {
+            url: Url::Known(Known::NoNamespace),
+        }
+    }
+
+    /// HTML's namespace, which takes no memory.
+    pub fn html() -> Namespace
+        ensures { result ≡ html_text }
+    {
+        Namespace {
+            url: Url::Known(Known::Html),
         }
     }
 
@@ -107,9 +130,31 @@ impl Namespace {
         }
     }
 
-    /// An equal namespace, or an `AllocError` where memory is refused.
+    /// Whether it is HTML's, without a look at its text.
+    pub fn is_html(&self) -> bool
+        ensures { result ≡ is_same_text self.now html_text }
+    {
+        matches!(self.url, Url::Known(Known::Html))
+    }
+
+    /// Whether it is MathML's, without a look at its text.
+    pub fn is_mathml(&self) -> bool
+        ensures { result ≡ is_same_text self.now mathml_text }
+    {
+        matches!(self.url, Url::Known(Known::MathMl))
+    }
+
+    /// Whether it is SVG's, without a look at its text.
+    pub fn is_svg(&self) -> bool
+        ensures { result ≡ is_same_text self.now svg_text }
+    {
+        matches!(self.url, Url::Known(Known::Svg))
+    }
+
+    /// An equal namespace, or an `AllocError` where memory is refused. One that HTML knows takes none.
     pub fn clone(&self) -> Result<Namespace, AllocError>
-        ensures { IfOk result (λ name. name ≡ self.now) }
+        ensures value { IfOk result (λ name. name ≡ self.now) }
+        ensures free { IsTrue (is_some (found_url self.now)) → IsOk result }
     {
         match &self.url {
             Url::Known(url) => Ok(Namespace {

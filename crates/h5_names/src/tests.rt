@@ -88,6 +88,35 @@ fn names_are_their_texts(rt: HostRuntime) -> Result<(), Fail> {
 }
 
 #[test]
+fn known_names_are_told_apart(rt: HostRuntime) -> Result<(), Fail> {
+    let alloc = rt.alloc();
+    assert_eq!(rt;
+        KnownName::from_text("foreignObject"),
+        KnownName::ForeignObject
+    );
+    assert_eq!(rt; KnownName::from_text("blink"), KnownName::Other);
+    assert_eq!(rt; KnownName::AnnotationXml.as_str(), "annotation-xml");
+    assert_eq!(rt; LocalName::new(alloc, "tbody")?.known(), KnownName::Tbody);
+    assert_eq!(rt; LocalName::new(alloc, "tbodies")?.known(), KnownName::Other);
+    assert!(rt; LocalName::new(alloc, "tr")?.is(KnownName::Tr));
+    let read = LocalName::from_string(String::from_str(alloc, "table")?);
+    assert!(rt; read == LocalName::from_known(KnownName::Table));
+    Ok(())
+}
+
+#[test]
+fn namespaces_are_told_apart(rt: HostRuntime) -> Result<(), Fail> {
+    let alloc = rt.alloc();
+    let html = Namespace::html();
+    assert_eq!(rt; html.as_str(), namespaces::HTML);
+    assert_eq!(rt; Namespace::none().as_str(), namespaces::NONE);
+    assert!(rt; html.is_html() && !html.is_mathml() && !html.is_svg());
+    assert!(rt; Namespace::new(alloc, namespaces::MATHML)?.is_mathml());
+    assert!(rt; Namespace::new(alloc, namespaces::SVG)?.is_svg());
+    Ok(())
+}
+
+#[test]
 fn qualified_names_are_their_parts(rt: HostRuntime) -> Result<(), Fail> {
     let alloc = rt.alloc();
     let title = html_name(alloc, "title")?;

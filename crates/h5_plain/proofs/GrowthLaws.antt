@@ -6,10 +6,11 @@ use Rattle.h5_interface.specs.Changes.{append_node, mark}
 use Rattle.h5_interface.specs.Forest.{Child, ChildNode, DoctypeNode, DocumentNode, ElementNode, Forest, IsForest, IsNode, Marks, contents_of, kind_of}
 use Rattle.h5_interface.specs.NewElement.{flags_of, is_html_template}
 use Rattle.h5_interface.specs.Seen.{append_doctype, element, make, make_element, plain, with_contents}
-use Rattle.h5_interface.specs.SinkRules.{SinkRules}
+use Rattle.h5_interface.specs.SinkChoices.{SinkChoices}
 use Rattle.h5_interface.proofs.ForestLaws.{document_is_node}
 use Rattle.h5_interface.proofs.MakingLaws.{append_doctype_rearranges, element_lone, mark_rearranges, plain_lone}
-use Rattle.h5_meaning.specs.World.{html_name, inside, name_in, name_of_found}
+use Rattle.h5_meaning.specs.World.{inside, name_in, name_of_found}
+use Rattle.h5_stack.specs.FormattingNames.{html_name}
 use Rattle.h5_meaning.proofs.SoundLaws.{element_below_rearranges}
 use Rattle.h5_plain.specs.Rebuilding.{HoldsDocument, Looks}
 use Rattle.h5_plain.proofs.LooksLaws.{hung, looks_marked, looks_new, looks_node, looks_other, looks_parent}
@@ -47,29 +48,29 @@ pub inside_plain : (f : Forest) (n : ℕ) (name : QualName) (a : List AttributeT
 inside_plain f n name a cs l e = ap (λ b. cond b (unwrap_or (contents_of f n) n) n) (ap is_html_template (name_of f n name a cs l) ∙ e)
 
 -- an element that is no template is made without contents
-made_plain : (rules : SinkRules) (name : QualName) (attrs : List AttributeText) (duplicates : Bool) (f : Forest) → is_html_template name ≡ false → make_element rules name attrs (flags_of name attrs duplicates) f ≡ make rules (element name attrs (flags_of name attrs duplicates)) f
-made_plain rules name attrs duplicates f e =
-    ap (λ b. with_contents b rules (rules.fresh f) (make rules (element name attrs (flags_of name attrs duplicates)) f)) e
+made_plain : (choices : SinkChoices) (name : QualName) (attrs : List AttributeText) (duplicates : Bool) (f : Forest) → is_html_template name ≡ false → make_element choices name attrs (flags_of name attrs duplicates) f ≡ make choices (element name attrs (flags_of name attrs duplicates)) f
+made_plain choices name attrs duplicates f e =
+    ap (λ b. with_contents b choices (choices.fresh f) (make choices (element name attrs (flags_of name attrs duplicates)) f)) e
 
-abbrev pub with_element : SinkRules → ℕ → QualName → List AttributeText → Forest → Forest
-with_element rules p name attrs f = append_node p (rules.fresh f) (make_element rules name attrs (flags_of name attrs false) f)
+abbrev pub with_element : SinkChoices → ℕ → QualName → List AttributeText → Forest → Forest
+with_element choices p name attrs f = append_node p (choices.fresh f) (make_element choices name attrs (flags_of name attrs false) f)
 
 -- a new element below another: what the forest is then
-pub record Below (rules : SinkRules) (f : Forest) (p : ℕ) (name : QualName) (attrs : List AttributeText) : Type 0 where
-  pub is_forest : IsForest (with_element rules p name attrs f)
-  pub same_document : (with_element rules p name attrs f).document ≡ f.document
-  pub new : Looks (with_element rules p name attrs f) (rules.fresh f) (ElementNode name) attrs []
-  pub parent : (k : _) (a : List AttributeText) (cs : List Child) → Looks f p k a cs → Looks (with_element rules p name attrs f) p k a (cs ++ ChildNode (rules.fresh f) ∷ [])
-  pub other : (m : ℕ) (k : _) (a : List AttributeText) (cs : List Child) → m ≢ p → Looks f m k a cs → Looks (with_element rules p name attrs f) m k a cs
+pub record Below (choices : SinkChoices) (f : Forest) (p : ℕ) (name : QualName) (attrs : List AttributeText) : Type 0 where
+  pub is_forest : IsForest (with_element choices p name attrs f)
+  pub same_document : (with_element choices p name attrs f).document ≡ f.document
+  pub new : Looks (with_element choices p name attrs f) (choices.fresh f) (ElementNode name) attrs []
+  pub parent : (k : _) (a : List AttributeText) (cs : List Child) → Looks f p k a cs → Looks (with_element choices p name attrs f) p k a (cs ++ ChildNode (choices.fresh f) ∷ [])
+  pub other : (m : ℕ) (k : _) (a : List AttributeText) (cs : List Child) → m ≢ p → Looks f m k a cs → Looks (with_element choices p name attrs f) m k a cs
 
-pub element_below : (rules : SinkRules) (f : Forest) (p : ℕ) (name : QualName) (attrs : List AttributeText) → IsForest f → IsNode f p → is_html_template name ≡ false → Below rules f p name attrs
-element_below rules f p name attrs forest there e =
-    let n = rules.fresh f in
+pub element_below : (choices : SinkChoices) (f : Forest) (p : ℕ) (name : QualName) (attrs : List AttributeText) → IsForest f → IsNode f p → is_html_template name ≡ false → Below choices f p name attrs
+element_below choices f p name attrs forest there e =
+    let n = choices.fresh f in
     let d = element name attrs (flags_of name attrs false) in
-    let new = rules.fresh_is_new f forest in
-    let same : hung p n d f ≡ with_element rules p name attrs f = ap (append_node p n) (sym (made_plain rules name attrs false f e)) in
+    let new = choices.fresh_is_new f forest in
+    let same : hung p n d f ≡ with_element choices p name attrs f = ap (append_node p n) (sym (made_plain choices name attrs false f e)) in
     record {
-      is_forest = (element_below_rearranges rules f p name attrs (flags_of name attrs false) forest there).is_forest;
+      is_forest = (element_below_rearranges choices f p name attrs (flags_of name attrs false) forest there).is_forest;
       same_document = sym (ap (λ (g : Forest). g.document) same);
       new = subst (λ g. Looks g n (ElementNode name) attrs []) same (looks_new f p n d new there (element_lone name attrs (flags_of name attrs false)));
       parent = λ k a cs l. subst (λ g. Looks g p k a (cs ++ ChildNode n ∷ [])) same (looks_parent f p n d k a cs forest new l);
@@ -77,21 +78,21 @@ element_below rules f p name attrs forest there e =
     }
 
 -- the doctype comes first
-pub begun_first : (rules : SinkRules) (f : Forest) → HoldsDocument f → Begun (append_doctype rules (codes "html") [] [] f) (rules.fresh f) []
-begun_first rules f h =
-    let n = rules.fresh f in
+pub begun_first : (choices : SinkChoices) (f : Forest) → HoldsDocument f → Begun (append_doctype choices (codes "html") [] [] f) (choices.fresh f) []
+begun_first choices f h =
+    let n = choices.fresh f in
     let d = plain (DoctypeNode (codes "html") [] []) in
-    let new = rules.fresh_is_new f h.is_forest in
+    let new = choices.fresh_is_new f h.is_forest in
     record {
-      is_forest = (append_doctype_rearranges rules f (codes "html") [] [] h.is_forest).is_forest;
+      is_forest = (append_doctype_rearranges choices f (codes "html") [] [] h.is_forest).is_forest;
       document = looks_parent f f.document n d DocumentNode [] [] h.is_forest new h.document;
       is_doctype = looks_new f f.document n d new (document_is_node f h.is_forest) (plain_lone (DoctypeNode (codes "html") [] []));
     }
 
 -- then the root
-pub rooted_first : (rules : SinkRules) (f : Forest) (x : ℕ) (attrs : List AttributeText) → Begun f x [] → Rooted (with_element rules f.document html attrs f) x (rules.fresh f) attrs []
-rooted_first rules f x attrs b =
-    let below = element_below rules f f.document html attrs b.is_forest (document_is_node f b.is_forest) refl in
+pub rooted_first : (choices : SinkChoices) (f : Forest) (x : ℕ) (attrs : List AttributeText) → Begun f x [] → Rooted (with_element choices f.document html attrs f) x (choices.fresh f) attrs []
+rooted_first choices f x attrs b =
+    let below = element_below choices f f.document html attrs b.is_forest (document_is_node f b.is_forest) refl in
     record {
       begun = record {
         is_forest = below.is_forest;
@@ -103,13 +104,13 @@ rooted_first rules f x attrs b =
     }
 
 -- an element below the root
-pub rooted_grown : (rules : SinkRules) (f : Forest) (x h : ℕ) (a : List AttributeText) (cs : List Child) (name : QualName) (attrs : List AttributeText) → Rooted f x h a cs → Below rules f h name attrs → Rooted (with_element rules h name attrs f) x h a (cs ++ ChildNode (rules.fresh f) ∷ [])
-rooted_grown rules f x h a cs name attrs r below =
+pub rooted_grown : (choices : SinkChoices) (f : Forest) (x h : ℕ) (a : List AttributeText) (cs : List Child) (name : QualName) (attrs : List AttributeText) → Rooted f x h a cs → Below choices f h name attrs → Rooted (with_element choices h name attrs f) x h a (cs ++ ChildNode (choices.fresh f) ∷ [])
+rooted_grown choices f x h a cs name attrs r below =
     let b = r.begun in
     record {
       begun = record {
         is_forest = below.is_forest;
-        document = subst (λ n. Looks (with_element rules h name attrs f) n DocumentNode [] (ChildNode x ∷ ChildNode h ∷ [])) (sym below.same_document)
+        document = subst (λ n. Looks (with_element choices h name attrs f) n DocumentNode [] (ChildNode x ∷ ChildNode h ∷ [])) (sym below.same_document)
             (below.other f.document DocumentNode [] (ChildNode x ∷ ChildNode h ∷ [])
             (kinds_apart f f.document h DocumentNode (ElementNode html) [] a (ChildNode x ∷ ChildNode h ∷ []) cs b.document r.is_root (λ e. cc)) b.document);
         is_doctype = below.other x (DoctypeNode (codes "html") [] []) [] []
@@ -118,8 +119,8 @@ rooted_grown rules f x h a cs name attrs r below =
       is_root = below.parent (ElementNode html) a cs r.is_root;
     }
 
-pub root_below : (rules : SinkRules) (f : Forest) (x h : ℕ) (a : List AttributeText) (cs : List Child) (name : QualName) (attrs : List AttributeText) → Rooted f x h a cs → is_html_template name ≡ false → Below rules f h name attrs
-root_below rules f x h a cs name attrs r e = element_below rules f h name attrs r.begun.is_forest (looks_node f h (ElementNode html) a cs r.is_root) e
+pub root_below : (choices : SinkChoices) (f : Forest) (x h : ℕ) (a : List AttributeText) (cs : List Child) (name : QualName) (attrs : List AttributeText) → Rooted f x h a cs → is_html_template name ≡ false → Below choices f h name attrs
+root_below choices f x h a cs name attrs r e = element_below choices f h name attrs r.begun.is_forest (looks_node f h (ElementNode html) a cs r.is_root) e
 
 -- marks change nothing of it
 pub rooted_marked : (f : Forest) (marks : ℕ → Marks) (x h : ℕ) (a : List AttributeText) (cs : List Child) → Rooted f x h a cs → Rooted (mark marks f) x h a cs

@@ -3,28 +3,31 @@ use Rattle.std.proofs.Common.{◌≡◌, ◌≢◌, ◌∙◌, ℕ, true, false,
 use Rattle.h5_names.specs.AttributeText.{AttributeText}
 use Rattle.h5_token.specs.TokenText.{EndOfFile, TokenText}
 use Rattle.h5_interface.specs.Forest.{Child, ChildNode, ElementNode}
-use Rattle.h5_interface.specs.SinkRules.{SinkRules}
+use Rattle.h5_interface.specs.SinkChoices.{SinkChoices}
 use Rattle.h5_interface.specs.declared.marks.QuirksMode.TheVariants.{NoQuirks}
 use Rattle.h5_tag_sets.specs.TagSets.{body_end_names, html_namespace, is_body_end_ok, is_default_scope, is_html_named}
 use Rattle.h5_types.specs.declared.modes.InsertionMode.{InsertionMode}
 use Rattle.h5_types.specs.declared.modes.InsertionMode.TheVariants.{BeforeHtml, BeforeHead, InHead, AfterHead, InBody, AfterBody, AfterAfterBody}
 use Rattle.h5_types.specs.declared.options.TreeBuilderOpts.{TreeBuilderOpts}
-use Rattle.h5_meaning.specs.Changes.{frameset_off, head_is_current, in_mode, insert, insert_doctype, insert_root, pop, set_quirks}
-use Rattle.h5_meaning.specs.Modes.{body_ends, body_in_scope, choose, if_body_in_scope}
-use Rattle.h5_meaning.specs.Rows.{FramesetOff, HeadIsCurrent, Insert, InsertRoot, IsDone, Pop, Row, SetMode, ignored}
+use Rattle.h5_meaning.specs.Changes.{set_frameset_not_ok, set_head_to_current, set_mode, insert_element, insert_doctype, create_root, pop, set_quirks_mode}
+use Rattle.h5_meaning.specs.InBody.{body_ends, body_in_scope, if_body_in_scope}
+use Rattle.h5_meaning.specs.Rows.{SetFramesetNotOk, SetHeadToCurrent, InsertElement, CreateRoot, IsDone, Pop, Row, SetMode, choose, ignored}
 use Rattle.h5_meaning.specs.Run.{doctype_in, judged, step, taken, with_doctype}
-use Rattle.h5_meaning.specs.Scope.{has_unclosed, in_scope}
-use Rattle.h5_meaning.specs.World.{World, but_first, current, first_or, html_name, inside, name_in, names_of, place}
+use Rattle.h5_stack.specs.Scope.{has_unclosed, in_scope}
+use Rattle.h5_meaning.specs.World.{World, current, inside, name_in, names_of, place}
+use Rattle.h5_stack.specs.FormattingNames.{html_name}
+use Rattle.h5_stack.specs.Order.{but_first, first_or}
 use Rattle.h5_plain.specs.Plain.{end_tag, plain_doctype, start_tag}
 use Rattle.h5_plain.specs.Rebuilding.{IsStart, Looks}
 use Rattle.h5_plain.proofs.GoesLaws.{Moves, moves_end, moves_tag}
 use Rattle.h5_plain.proofs.GrowthLaws.{Begun, Rooted, begun_first, body, head, html, inside_plain, name_of, root_below, rooted_first, rooted_grown, rooted_marked, with_element}
 use Rattle.h5_plain.proofs.LooksLaws.{apart_from, looks_marked, looks_node}
+use Rattle.h5_plain.proofs.RuleLaws.{body_end_rule, body_rule, head_end_rule, head_rule, html_end_rule, html_rule}
 
 -- a token leads to a world of which this holds
-pub record Next (rules : SinkRules) (t : TokenText) (w : World) (P : World → Type 0) : Type 0 where
+pub record Next (choices : SinkChoices) (t : TokenText) (w : World) (P : World → Type 0) : Type 0 where
   pub after : World
-  pub moves : Moves rules t w after
+  pub moves : Moves choices t w after
   pub holds : P after
 
 -- after the doctype
@@ -75,35 +78,35 @@ one n = n ∷ []
 abbrev none : ℕ → List ℕ
 none n = []
 
-doctype_moves : (rules : SinkRules) (w : World) → IsStart w → Moves rules plain_doctype w (in_mode BeforeHtml (set_quirks NoQuirks (insert_doctype rules (codes "html") [] [] (taken w))))
+doctype_moves : (choices : SinkChoices) (w : World) → IsStart w → Moves choices plain_doctype w (set_mode BeforeHtml (set_quirks_mode NoQuirks (insert_doctype choices (codes "html") [] [] (taken w))))
 unfolding step judged with_doctype
-doctype_moves rules w s = record {
-  world = ap (λ m. (doctype_in m rules (record { name = Some (codes "html"); public_id = None; system_id = None; force_quirks = false }) (taken w)).world) s.mode
-      ∙ ap (λ (o : TreeBuilderOpts). in_mode BeforeHtml (set_quirks NoQuirks (cond o.drop_doctype (taken w) (insert_doctype rules (codes "html") [] [] (taken w))))) s.options;
-  reply = ap (λ m. (doctype_in m rules (record { name = Some (codes "html"); public_id = None; system_id = None; force_quirks = false }) (taken w)).reply) s.mode;
-  quiet = ap (λ m. (doctype_in m rules (record { name = Some (codes "html"); public_id = None; system_id = None; force_quirks = false }) (taken w)).quiet) s.mode;
+doctype_moves choices w s = record {
+  world = ap (λ m. (doctype_in m choices (record { name = Some (codes "html"); public_id = None; system_id = None; force_quirks = false }) (taken w)).world) s.mode
+      ∙ ap (λ (o : TreeBuilderOpts). set_mode BeforeHtml (set_quirks_mode NoQuirks (cond o.drop_doctype (taken w) (insert_doctype choices (codes "html") [] [] (taken w))))) s.options;
+  reply = ap (λ m. (doctype_in m choices (record { name = Some (codes "html"); public_id = None; system_id = None; force_quirks = false }) (taken w)).reply) s.mode;
+  quiet = ap (λ m. (doctype_in m choices (record { name = Some (codes "html"); public_id = None; system_id = None; force_quirks = false }) (taken w)).quiet) s.mode;
 }
 
-pub doctype_next : (rules : SinkRules) (w : World) → IsStart w → Next rules plain_doctype w AfterDoctype
-unfolding set_quirks insert_doctype
-doctype_next rules w s = record {
-  after = in_mode BeforeHtml (set_quirks NoQuirks (insert_doctype rules (codes "html") [] [] (taken w)));
-  moves = doctype_moves rules w s;
-  holds = record { mode = refl; none_open = s.none_open; quirks = refl; doctype = rules.fresh w.forest; begun = begun_first rules w.forest s.holds };
+pub doctype_next : (choices : SinkChoices) (w : World) → IsStart w → Next choices plain_doctype w AfterDoctype
+unfolding set_quirks_mode insert_doctype
+doctype_next choices w s = record {
+  after = set_mode BeforeHtml (set_quirks_mode NoQuirks (insert_doctype choices (codes "html") [] [] (taken w)));
+  moves = doctype_moves choices w s;
+  holds = record { mode = refl; none_open = s.none_open; quirks = refl; doctype = choices.fresh w.forest; begun = begun_first choices w.forest s.holds };
 }
 
-pub html_next : (rules : SinkRules) (a : List AttributeText) (w : World) → AfterDoctype w → Next rules (start_tag (codes "html") a) w (AfterHtml a)
-unfolding insert_root
-html_next rules a w s = record {
-  after = in_mode BeforeHead (insert_root rules a (taken w));
-  moves = moves_tag rules _ w BeforeHtml (InsertRoot a ∷ SetMode BeforeHead ∷ []) s.mode refl refl;
+pub html_next : (choices : SinkChoices) (a : List AttributeText) (w : World) → AfterDoctype w → Next choices (start_tag (codes "html") a) w (AfterHtml a)
+unfolding create_root
+html_next choices a w s = record {
+  after = set_mode BeforeHead (create_root choices a (taken w));
+  moves = moves_tag choices _ w BeforeHtml (CreateRoot a ∷ SetMode BeforeHead ∷ []) s.mode (html_rule a (taken w)) refl;
   holds = record {
     mode = refl;
-    root = rules.fresh w.forest;
-    is_open = ap (λ r. rules.fresh w.forest ∷ r) s.none_open;
+    root = choices.fresh w.forest;
+    is_open = ap (λ r. choices.fresh w.forest ∷ r) s.none_open;
     quirks = s.quirks;
     doctype = s.doctype;
-    rooted = rooted_first rules w.forest s.doctype a s.begun;
+    rooted = rooted_first choices w.forest s.doctype a s.begun;
   };
 }
 
@@ -111,45 +114,45 @@ html_next rules a w s = record {
 place_is_root : (w : World) (x h : ℕ) (a : List AttributeText) (cs : List Child) → w.stack ≡ h ∷ [] → Rooted w.forest x h a cs → place w ≡ h
 place_is_root w x h a cs e r = ap (λ s. inside w.forest (first_or w.forest.document s)) e ∙ inside_plain w.forest h html a cs r.is_root refl
 
-inserted : (rules : SinkRules) (local : List ℕ) (attrs : List AttributeText) (w : World) (h : ℕ) → place w ≡ h → with_element rules h (html_name local) attrs w.forest ≡ (insert rules local attrs false w).forest
-unfolding insert
-inserted rules local attrs w h e = ap (λ p. with_element rules p (html_name local) attrs w.forest) (sym e)
+inserted : (choices : SinkChoices) (local : List ℕ) (attrs : List AttributeText) (w : World) (h : ℕ) → place w ≡ h → with_element choices h (html_name local) attrs w.forest ≡ (insert_element choices local attrs false w).forest
+unfolding insert_element
+inserted choices local attrs w h e = ap (λ p. with_element choices p (html_name local) attrs w.forest) (sym e)
 
-insert_opens : (rules : SinkRules) (local : List ℕ) (attrs : List AttributeText) (w : World) → (insert rules local attrs false w).stack ≡ rules.fresh w.forest ∷ w.stack
-unfolding insert
-insert_opens rules local attrs w = refl
+insert_opens : (choices : SinkChoices) (local : List ℕ) (attrs : List AttributeText) (w : World) → (insert_element choices local attrs false w).stack ≡ choices.fresh w.forest ∷ w.stack
+unfolding insert_element
+insert_opens choices local attrs w = refl
 
-insert_quirks : (rules : SinkRules) (local : List ℕ) (attrs : List AttributeText) (w : World) → (insert rules local attrs false w).seen_quirks ≡ w.seen_quirks
-unfolding insert
-insert_quirks rules local attrs w = refl
+insert_quirks : (choices : SinkChoices) (local : List ℕ) (attrs : List AttributeText) (w : World) → (insert_element choices local attrs false w).seen_quirks ≡ w.seen_quirks
+unfolding insert_element
+insert_quirks choices local attrs w = refl
 
-pub head_next : (rules : SinkRules) (a b : List AttributeText) (w : World) → AfterHtml a w → Next rules (start_tag (codes "head") b) w (WithHead InHead one a b)
-unfolding head_is_current
-head_next rules a b w s =
-    let n = rules.fresh w.forest in
-    let below = root_below rules w.forest s.doctype s.root a [] head b s.rooted refl in
-    let same = inserted rules (codes "head") b (taken w) s.root (place_is_root (taken w) s.doctype s.root a [] s.is_open s.rooted) in
+pub head_next : (choices : SinkChoices) (a b : List AttributeText) (w : World) → AfterHtml a w → Next choices (start_tag (codes "head") b) w (WithHead InHead one a b)
+unfolding set_head_to_current
+head_next choices a b w s =
+    let n = choices.fresh w.forest in
+    let below = root_below choices w.forest s.doctype s.root a [] head b s.rooted refl in
+    let same = inserted choices (codes "head") b (taken w) s.root (place_is_root (taken w) s.doctype s.root a [] s.is_open s.rooted) in
     record {
-      after = in_mode InHead (head_is_current (insert rules (codes "head") b false (taken w)));
-      moves = moves_tag rules _ w BeforeHead (Insert (codes "head") b false ∷ HeadIsCurrent ∷ SetMode InHead ∷ []) s.mode refl refl;
+      after = set_mode InHead (set_head_to_current (insert_element choices (codes "head") b false (taken w)));
+      moves = moves_tag choices _ w BeforeHead (InsertElement (codes "head") b false ∷ SetHeadToCurrent ∷ SetMode InHead ∷ []) s.mode (head_rule b (taken w)) refl;
       holds = record {
         mode = refl;
         root = s.root;
         header = n;
-        are_open = insert_opens rules (codes "head") b (taken w) ∙ ap (λ r. n ∷ r) s.is_open;
-        quirks = insert_quirks rules (codes "head") b (taken w) ∙ s.quirks;
+        are_open = insert_opens choices (codes "head") b (taken w) ∙ ap (λ r. n ∷ r) s.is_open;
+        quirks = insert_quirks choices (codes "head") b (taken w) ∙ s.quirks;
         doctype = s.doctype;
-        rooted = subst (λ f. Rooted f s.doctype s.root a (ChildNode n ∷ [])) same (rooted_grown rules w.forest s.doctype s.root a [] head b s.rooted below);
+        rooted = subst (λ f. Rooted f s.doctype s.root a (ChildNode n ∷ [])) same (rooted_grown choices w.forest s.doctype s.root a [] head b s.rooted below);
         is_head = subst (λ f. Looks f n (ElementNode head) b []) same below.new;
-        apart = λ e. apart_from w.forest n s.root (rules.fresh_is_new w.forest s.rooted.begun.is_forest) (looks_node w.forest s.root (ElementNode html) a [] s.rooted.is_root) (sym e);
+        apart = λ e. apart_from w.forest n s.root (choices.fresh_is_new w.forest s.rooted.begun.is_forest) (looks_node w.forest s.root (ElementNode html) a [] s.rooted.is_root) (sym e);
       };
     }
 
-pub head_end_next : (rules : SinkRules) (a b : List AttributeText) (w : World) → WithHead InHead one a b w → Next rules (end_tag (codes "head")) w (WithHead AfterHead none a b)
+pub head_end_next : (choices : SinkChoices) (a b : List AttributeText) (w : World) → WithHead InHead one a b w → Next choices (end_tag (codes "head")) w (WithHead AfterHead none a b)
 unfolding pop
-head_end_next rules a b w s = record {
-  after = in_mode AfterHead (pop rules (taken w));
-  moves = moves_tag rules _ w InHead (Pop ∷ SetMode AfterHead ∷ []) s.mode refl refl;
+head_end_next choices a b w s = record {
+  after = set_mode AfterHead (pop choices (taken w));
+  moves = moves_tag choices _ w InHead (Pop ∷ SetMode AfterHead ∷ []) s.mode (head_end_rule (taken w)) refl;
   holds = record {
     mode = refl;
     root = s.root;
@@ -157,36 +160,36 @@ head_end_next rules a b w s = record {
     are_open = ap but_first s.are_open;
     quirks = s.quirks;
     doctype = s.doctype;
-    rooted = rooted_marked w.forest (rules.marks_after_pop w.forest (current w)) s.doctype s.root a (ChildNode s.header ∷ []) s.rooted;
-    is_head = looks_marked w.forest s.header (rules.marks_after_pop w.forest (current w)) (ElementNode head) b [] s.is_head;
+    rooted = rooted_marked w.forest (choices.marks_after_pop w.forest (current w)) s.doctype s.root a (ChildNode s.header ∷ []) s.rooted;
+    is_head = looks_marked w.forest s.header (choices.marks_after_pop w.forest (current w)) (ElementNode head) b [] s.is_head;
     apart = s.apart;
   };
 }
 
-pub body_next : (rules : SinkRules) (a b c : List AttributeText) (w : World) → WithHead AfterHead none a b w → Next rules (start_tag (codes "body") c) w (WithBody InBody a b c)
-body_next rules a b c w s =
-    let n = rules.fresh w.forest in
-    let below = root_below rules w.forest s.doctype s.root a (ChildNode s.header ∷ []) body c s.rooted refl in
-    let same = inserted rules (codes "body") c (taken w) s.root (place_is_root (taken w) s.doctype s.root a (ChildNode s.header ∷ []) s.are_open s.rooted) in
+pub body_next : (choices : SinkChoices) (a b c : List AttributeText) (w : World) → WithHead AfterHead none a b w → Next choices (start_tag (codes "body") c) w (WithBody InBody a b c)
+body_next choices a b c w s =
+    let n = choices.fresh w.forest in
+    let below = root_below choices w.forest s.doctype s.root a (ChildNode s.header ∷ []) body c s.rooted refl in
+    let same = inserted choices (codes "body") c (taken w) s.root (place_is_root (taken w) s.doctype s.root a (ChildNode s.header ∷ []) s.are_open s.rooted) in
     record {
-      after = in_mode InBody (frameset_off (insert rules (codes "body") c false (taken w)));
-      moves = moves_tag rules _ w AfterHead (Insert (codes "body") c false ∷ FramesetOff ∷ SetMode InBody ∷ []) s.mode refl refl;
+      after = set_mode InBody (set_frameset_not_ok (insert_element choices (codes "body") c false (taken w)));
+      moves = moves_tag choices _ w AfterHead (InsertElement (codes "body") c false ∷ SetFramesetNotOk ∷ SetMode InBody ∷ []) s.mode (body_rule c (taken w)) refl;
       holds = record {
         mode = refl;
         root = s.root;
         header = s.header;
         content = n;
-        are_open = insert_opens rules (codes "body") c (taken w) ∙ ap (λ r. n ∷ r) s.are_open;
-        quirks = insert_quirks rules (codes "body") c (taken w) ∙ s.quirks;
+        are_open = insert_opens choices (codes "body") c (taken w) ∙ ap (λ r. n ∷ r) s.are_open;
+        quirks = insert_quirks choices (codes "body") c (taken w) ∙ s.quirks;
         doctype = s.doctype;
-        rooted = subst (λ f. Rooted f s.doctype s.root a (ChildNode s.header ∷ ChildNode n ∷ [])) same (rooted_grown rules w.forest s.doctype s.root a (ChildNode s.header ∷ []) body c s.rooted below);
+        rooted = subst (λ f. Rooted f s.doctype s.root a (ChildNode s.header ∷ ChildNode n ∷ [])) same (rooted_grown choices w.forest s.doctype s.root a (ChildNode s.header ∷ []) body c s.rooted below);
         is_head = subst (λ f. Looks f s.header (ElementNode head) b []) same (below.other s.header (ElementNode head) b [] s.apart s.is_head);
         is_body = subst (λ f. Looks f n (ElementNode body) c []) same below.new;
       };
     }
 
 -- the mode alone changes
-in_other_mode : (m k : InsertionMode) (a b c : List AttributeText) (w : World) → WithBody m a b c w → WithBody k a b c (in_mode k (taken w))
+in_other_mode : (m k : InsertionMode) (a b c : List AttributeText) (w : World) → WithBody m a b c w → WithBody k a b c (set_mode k (taken w))
 in_other_mode m k a b c w s = record {
   mode = refl;
   root = s.root;
@@ -214,26 +217,27 @@ all_is_closed m a b c w s =
     ∙ ap (λ n. not (has_unclosed (n ∷ name_in w.forest s.root ∷ []))) (name_of w.forest s.content body c [] s.is_body)
     ∙ ap (λ n. not (has_unclosed (body ∷ n ∷ []))) (name_of w.forest s.root html a _ s.rooted.is_root)
 
-pub body_end_next : (rules : SinkRules) (a b c : List AttributeText) (w : World) → WithBody InBody a b c w → Next rules (end_tag (codes "body")) w (WithBody AfterBody a b c)
+pub body_end_next : (choices : SinkChoices) (a b c : List AttributeText) (w : World) → WithBody InBody a b c w → Next choices (end_tag (codes "body")) w (WithBody AfterBody a b c)
 unfolding if_body_in_scope
-body_end_next rules a b c w s = record {
-  after = in_mode AfterBody (taken w);
-  moves = moves_tag rules _ w InBody (SetMode AfterBody ∷ []) s.mode (ap (λ v. choose v (body_ends (SetMode AfterBody ∷ []) IsDone (taken w)) ignored) (body_is_in_scope InBody a b c w s)
+body_end_next choices a b c w s = record {
+  after = set_mode AfterBody (taken w);
+  moves = moves_tag choices _ w InBody (SetMode AfterBody ∷ []) s.mode (body_end_rule (taken w)
+      ∙ ap (λ v. choose v (body_ends (SetMode AfterBody ∷ []) IsDone (taken w)) ignored) (body_is_in_scope InBody a b c w s)
       ∙ ap (λ q. let r : Row = record { changes = SetMode AfterBody ∷ []; ending = IsDone; quiet = q } in r) (all_is_closed InBody a b c w s)) refl;
   holds = in_other_mode InBody AfterBody a b c w s;
 }
 
-pub html_end_next : (rules : SinkRules) (a b c : List AttributeText) (w : World) → WithBody AfterBody a b c w → Next rules (end_tag (codes "html")) w (WithBody AfterAfterBody a b c)
-html_end_next rules a b c w s = record {
-  after = in_mode AfterAfterBody (taken w);
-  moves = moves_tag rules _ w AfterBody (SetMode AfterAfterBody ∷ []) s.mode refl refl;
+pub html_end_next : (choices : SinkChoices) (a b c : List AttributeText) (w : World) → WithBody AfterBody a b c w → Next choices (end_tag (codes "html")) w (WithBody AfterAfterBody a b c)
+html_end_next choices a b c w s = record {
+  after = set_mode AfterAfterBody (taken w);
+  moves = moves_tag choices _ w AfterBody (SetMode AfterAfterBody ∷ []) s.mode (html_end_rule (taken w)) refl;
   holds = in_other_mode AfterBody AfterAfterBody a b c w s;
 }
 
-pub file_end_next : (rules : SinkRules) (a b c : List AttributeText) (w : World) → WithBody AfterAfterBody a b c w → Next rules EndOfFile w (WithBody AfterAfterBody a b c)
-file_end_next rules a b c w s = record {
+pub file_end_next : (choices : SinkChoices) (a b c : List AttributeText) (w : World) → WithBody AfterAfterBody a b c w → Next choices EndOfFile w (WithBody AfterAfterBody a b c)
+file_end_next choices a b c w s = record {
   after = taken w;
-  moves = moves_end rules w AfterAfterBody [] s.mode refl;
+  moves = moves_end choices w AfterAfterBody [] s.mode refl;
   holds = record {
     mode = s.mode;
     root = s.root;

@@ -3,7 +3,7 @@ use Rattle.std.proofs.Common.{◌≡◌, ◌∙◌, ℕ, false, List, [], ◌∷
 use Rattle.h5_names.specs.AttributeText.{AttributeText}
 use Rattle.h5_token.specs.TokenText.{EndOfFile, TokenText}
 use Rattle.h5_interface.specs.Forest.{ChildNode, ElementNode, Forest, children_of}
-use Rattle.h5_interface.specs.SinkRules.{SinkRules}
+use Rattle.h5_interface.specs.SinkChoices.{SinkChoices}
 use Rattle.h5_types.specs.declared.modes.InsertionMode.TheVariants.{AfterAfterBody}
 use Rattle.h5_token.specs.Joins.{join}
 use Rattle.h5_meaning.specs.Run.{View}
@@ -33,24 +33,24 @@ are_eight : (d : PlainDocument) → document_tokens d ≡ eight d.html_attrs d.h
 are_eight d = ap (λ nodes. plain_doctype ∷ tokens_before (root_with d nodes) (EndOfFile ∷ [])) (no_nodes d.blocks d.are_blocks)
 
 -- where the eight tokens lead
-record Led (rules : SinkRules) (a b c : List AttributeText) (w : World) : Type 0 where
+record Led (choices : SinkChoices) (a b c : List AttributeText) (w : World) : Type 0 where
   after : World
-  goes : Goes rules (eight a b c) w after
+  goes : Goes choices (eight a b c) w after
   holds : WithBody AfterAfterBody a b c after
 
-led : (rules : SinkRules) (a b c : List AttributeText) (w : World) → IsStart w → Led rules a b c w
-led rules a b c w s =
-    let n1 = doctype_next rules w s in
-    let n2 = html_next rules a n1.after n1.holds in
-    let n3 = head_next rules a b n2.after n2.holds in
-    let n4 = head_end_next rules a b n3.after n3.holds in
-    let n5 = body_next rules a b c n4.after n4.holds in
-    let n6 = body_end_next rules a b c n5.after n5.holds in
-    let n7 = html_end_next rules a b c n6.after n6.holds in
-    let n8 = file_end_next rules a b c n7.after n7.holds in
+led : (choices : SinkChoices) (a b c : List AttributeText) (w : World) → IsStart w → Led choices a b c w
+led choices a b c w s =
+    let n1 = doctype_next choices w s in
+    let n2 = html_next choices a n1.after n1.holds in
+    let n3 = head_next choices a b n2.after n2.holds in
+    let n4 = head_end_next choices a b n3.after n3.holds in
+    let n5 = body_next choices a b c n4.after n4.holds in
+    let n6 = body_end_next choices a b c n5.after n5.holds in
+    let n7 = html_end_next choices a b c n6.after n6.holds in
+    let n8 = file_end_next choices a b c n7.after n7.holds in
     record {
       after = n8.after;
-      goes = (n1.after, (n1.moves, (n2.after, (n2.moves, (n3.after, (n3.moves, (n4.after, (n4.moves, (n5.after, (n5.moves, (n6.after, (n6.moves, (n7.after, (n7.moves, (n8.after, (n8.moves, refl))))))))))))))));
+      goes = (n1.after, (n1.moves, (n2.after, (n2.moves, (n3.after, (n3.moves, (n4.after, (n4.moves, (n5.after, (n5.moves, (n6.after, (n6.moves, (n7.after, (n7.moves, (n8.after, (n8.moves, refl {a = n8.after}))))))))))))))));
       holds = n8.holds;
     }
 
@@ -76,10 +76,10 @@ stands d w s =
       stands = (own f s.root (ElementNode html) d.html_attrs (ChildNode s.header ∷ ChildNode s.content ∷ []) s.rooted.is_root, (inner, tt));
     }
 
-rebuilds_eight : (rules : SinkRules) (d : PlainDocument) (v : View) → IsStart v.world → v.ended ≡ false → v.failed ≡ false → Rebuilds rules (eight d.html_attrs d.head_attrs d.body_attrs) d v
-rebuilds_eight rules d v s e f =
-    let l = led rules d.html_attrs d.head_attrs d.body_attrs v.world s in
-    let r = arrives rules (eight d.html_attrs d.head_attrs d.body_attrs) v l.after f e l.goes in
+rebuilds_eight : (choices : SinkChoices) (d : PlainDocument) (v : View) → IsStart v.world → v.ended ≡ false → v.failed ≡ false → Rebuilds choices (eight d.html_attrs d.head_attrs d.body_attrs) d v
+rebuilds_eight choices d v s e f =
+    let l = led choices d.html_attrs d.head_attrs d.body_attrs v.world s in
+    let r = arrives choices (eight d.html_attrs d.head_attrs d.body_attrs) v l.after f e l.goes in
     record {
       stands = subst (λ (w : World). DocumentStands w.forest d) (sym r.world) (stands d l.after l.holds);
       quirks = ap (λ (w : World). w.seen_quirks) r.world ∙ l.holds.quirks;
@@ -87,8 +87,8 @@ rebuilds_eight rules d v s e f =
       quiet = r.quiet;
     }
 
-pub rebuilds_all : (rules : SinkRules) (ts : List TokenText) (v : View) → RebuildsAll rules ts v
-rebuilds_all rules ts v d s e f j =
+pub rebuilds_all : (choices : SinkChoices) (ts : List TokenText) (v : View) → RebuildsAll choices ts v
+rebuilds_all choices ts v d s e f j =
     let same : join ts ≡ eight d.html_attrs d.head_attrs d.body_attrs = j ∙ are_eight d in
     let whole : ts ≡ eight d.html_attrs d.head_attrs d.body_attrs = sym (uncut ts (subst HasNoText (sym same) tt)) ∙ same in
-    subst (λ x. Rebuilds rules x d v) (sym whole) (rebuilds_eight rules d v s e f)
+    subst (λ x. Rebuilds choices x d v) (sym whole) (rebuilds_eight choices d v s e f)

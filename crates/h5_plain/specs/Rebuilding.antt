@@ -4,13 +4,14 @@ use Rattle.h5_names.specs.AttributeText.{AttributeText}
 use Rattle.h5_token.specs.Reply.{Reply, Continues}
 use Rattle.h5_token.specs.TokenText.{TokenText}
 use Rattle.h5_interface.specs.Forest.{Child, ChildNode, ChildText, DoctypeNode, DocumentNode, ElementNode, Forest, IsForest, Kind, attrs_of, children_of, contents_of, kind_of}
-use Rattle.h5_interface.specs.SinkRules.{SinkRules}
+use Rattle.h5_interface.specs.SinkChoices.{SinkChoices}
 use Rattle.h5_interface.specs.declared.marks.QuirksMode.TheVariants.{NoQuirks}
 use Rattle.h5_types.specs.Options.{default_options}
 use Rattle.h5_types.specs.declared.modes.InsertionMode.TheVariants.{Initial}
 use Rattle.h5_token.specs.Joins.{join}
 use Rattle.h5_meaning.specs.Run.{View, after_all, all_quiet, replies}
-use Rattle.h5_meaning.specs.World.{World, html_name}
+use Rattle.h5_meaning.specs.World.{World}
+use Rattle.h5_stack.specs.FormattingNames.{html_name}
 use Rattle.h5_plain.specs.Plain.{ElementThen, End, Nodes, PlainDocument, TextThen, document_tokens, root_of}
 
 -- a node of this kind, with these attributes and children, and without contents. Its parent and its marks
@@ -58,12 +59,12 @@ AllContinue (r ∷ rs) = (r ≡ Continues) × AllContinue rs
 
 -- tokens, run from a view, rebuild a document: it stands, in no quirks, every answer is "go on", and no
 -- parse error is told
-pub record Rebuilds (rules : SinkRules) (ts : List TokenText) (d : PlainDocument) (v : View) : Type 0 where
-  pub stands : DocumentStands (after_all rules ts v).world.forest d
-  pub quirks : (after_all rules ts v).world.seen_quirks ≡ NoQuirks
-  pub continue : AllContinue (replies rules ts v)
-  pub quiet : all_quiet rules ts v ≡ true
+pub record Rebuilds (choices : SinkChoices) (ts : List TokenText) (d : PlainDocument) (v : View) : Type 0 where
+  pub stands : DocumentStands (after_all choices ts v).world.forest d
+  pub quirks : (after_all choices ts v).world.seen_quirks ≡ NoQuirks
+  pub continue : AllContinue (replies choices ts v)
+  pub quiet : all_quiet choices ts v ≡ true
 
 -- however the texts of a plain document's tokens are cut
-abbrev pub RebuildsAll : SinkRules → List TokenText → View → Type 0
-RebuildsAll rules ts v = (d : PlainDocument) → IsStart v.world → v.ended ≡ false → v.failed ≡ false → join ts ≡ document_tokens d → Rebuilds rules ts d v
+abbrev pub RebuildsAll : SinkChoices → List TokenText → View → Type 0
+RebuildsAll choices ts v = (d : PlainDocument) → IsStart v.world → v.ended ≡ false → v.failed ≡ false → join ts ≡ document_tokens d → Rebuilds choices ts d v

@@ -1,7 +1,7 @@
 //! The law of rebuilding, as the contract of a function that does nothing.
 ghost use Rattle.std.specs.Prelude.{◌≡◌, List};
 ghost use Rattle.h5_token.specs.TokenText.{TokenText};
-ghost use Rattle.h5_interface.specs.SinkRules.{SinkRules};
+ghost use Rattle.h5_interface.specs.SinkChoices.{SinkChoices};
 ghost use Rattle.h5_meaning.specs.Run.{View};
 ghost use Rattle.h5_plain.specs.Rebuilding.{RebuildsAll};
 
@@ -9,5 +9,5 @@ ghost use Rattle.h5_plain.specs.Rebuilding.{RebuildsAll};
 /// that took nothing yet, with the default options, over any sink that holds its document alone, in no
 /// quirks, without a parse error, and with no answer but "go on".
 pub fn documents_are_rebuilt()
-    ensures { (rules : SinkRules) (tokens : List TokenText) (view : View) → RebuildsAll rules tokens view }
+    ensures { (choices : SinkChoices) (tokens : List TokenText) (view : View) → RebuildsAll choices tokens view }
 {}

@@ -1,65 +1,68 @@
 //! The mode "after head" (HTML standard, section 13.2.6.4.6).
-ghost use Rattle.std.specs.Prelude.{◌≡◌, ◌≢◌, ◌<◌, ℕ, [], length, codes, IfOk, string_bytes};
-ghost use Rattle.h5_token.specs.TokenText.{tag_text};
-ghost use Rattle.h5_tag_sets.specs.KnownNames.{known_name_of};
-ghost use Rattle.h5_types.specs.TurnText.{HasText, TagTurn, TextTurn, CommentTurn, NullTurn, turn_text};
-ghost use Rattle.h5_meaning.specs.Modes.{after_head as rows, after_head_else as else_row, after_head_tag as tag_row};
-ghost use Rattle.h5_meaning.specs.Rows.{Follows, row};
-ghost use Rattle.h5_meaning.specs.Sound.{Sound};
-ghost use Rattle.h5_state.specs.View.{world};
+ghost use Rattle.h5_types.specs.TurnText.{HasText, turn_text};
+ghost use Rattle.h5_meaning.specs.AfterHead.{after_head, after_head_else, after_head_start_body, after_head_tag};
+ghost use Rattle.h5_state.specs.Steps.{IsOpen, IsSound};
+ghost use Rattle.h5_state.specs.Turn.{TakesTag, TakesToken};
 
 use h5_interface::TreeSink;
-use h5_rules_body::in_body_start_html;
+use h5_names::KnownName;
+use h5_rules_shared::in_body_start_html;
 use h5_state::{
-    State, append_comment, append_text, insert_element, insert_phantom, set_frameset_not_ok,
+    State, Turn, append_comment, append_text, insert_element, insert_phantom, set_frameset_not_ok,
     set_mode, unexpected_tag,
 };
-use h5_tag_sets::{KnownName, known_name};
 use h5_token::{Tag, TagKind};
 use h5_types::{InsertionMode, ProcessResult, SplitStatus, Token};
-use std::alloc::AllocError;
+
+// A start tag `body`.
+fn after_head_start_body<S: TreeSink>(
+    sink: &mut S,
+    state: &mut State<S::Handle>,
+    tag: Tag,
+) -> Turn<S::Handle>
+    requires { IsSound S.TreeSink sink.old state.old }
+    ensures { TakesTag S.TreeSink after_head_start_body tag sink.old state.old sink.new state.new result }
+{
+    let attrs = tag.attrs;
+    insert_element(sink, state, tag.name, attrs, tag.had_duplicate_attributes)?;
+    set_frameset_not_ok(sink, state);
+    set_mode(sink, state, InsertionMode::InBody);
+    Ok(ProcessResult::Done)
+}
 
 // Whatever else comes: a body without attributes is inserted.
 fn after_head_else<S: TreeSink>(
     sink: &mut S,
     state: &mut State<S::Handle>,
     token: Token,
-) -> Result<ProcessResult, AllocError>
-    requires sound { Sound (world S.sees S.node sink.old state.old) }
-    ensures done { IfOk result (λ r. Follows S.rules (else_row) (turn_text token)
-        (world S.sees S.node sink.old state.old) (world S.sees S.node sink.new state.new) (S.sees sink.old).errors (S.sees sink.new).errors r) }
-    ensures sound { Sound (world S.sees S.node sink.new state.new) }
+) -> Turn<S::Handle>
+    requires { IsSound S.TreeSink sink.old state.old }
+    ensures { TakesToken S.TreeSink after_head_else token sink.old state.old sink.new state.new result }
 {
-    insert_phantom(sink, state, "body")?;
+    insert_phantom(sink, state, KnownName::Body)?;
     Ok(ProcessResult::Reprocess(InsertionMode::InBody, token))
 }
 
+#[tactic(auto, unfolding(h5_meaning::specs::AfterHead::after_head_tag))]
 fn after_head_tag<S: TreeSink>(
     sink: &mut S,
     state: &mut State<S::Handle>,
     tag: Tag,
-) -> Result<ProcessResult, AllocError>
-    requires open { 0 < length (world S.sees S.node sink.old state.old).stack }
-    requires sound { Sound (world S.sees S.node sink.old state.old) }
-    ensures done { IfOk result (λ r. Follows S.rules (tag_row tag.kind (known_name_of tag.name) (tag_text tag) (world S.sees S.node sink.old state.old)) (TagTurn (tag_text tag))
-        (world S.sees S.node sink.old state.old) (world S.sees S.node sink.new state.new) (S.sees sink.old).errors (S.sees sink.new).errors r) }
-    ensures sound { Sound (world S.sees S.node sink.new state.new) }
+) -> Turn<S::Handle>
+    requires { IsOpen S.TreeSink sink.old state.old }
+    ensures { TakesTag S.TreeSink after_head_tag tag sink.old state.old sink.new state.new result }
 {
-    match (tag.kind, known_name(&tag.name)) {
+    match (tag.kind, tag.name.known()) {
         (TagKind::StartTag, KnownName::Html) => in_body_start_html(sink, state, tag),
-        (TagKind::StartTag, KnownName::Body) => {
-            let attrs = tag.attrs;
-            insert_element(sink, state, tag.name, attrs, tag.had_duplicate_attributes)?;
-            set_frameset_not_ok(sink, state);
-            set_mode(sink, state, InsertionMode::InBody);
-            Ok(ProcessResult::Done)
+        (TagKind::StartTag, KnownName::Body) => after_head_start_body(sink, state, tag),
+        (TagKind::EndTag, KnownName::Body | KnownName::Html | KnownName::Br) => {
+            after_head_else(sink, state, Token::Tag(tag))
         }
-        (TagKind::StartTag, KnownName::Head)
-        | (TagKind::EndTag, KnownName::Head | KnownName::Other) => {
+        (TagKind::StartTag, KnownName::Head) | (TagKind::EndTag, _) => {
             unexpected_tag(sink, state, &tag);
             Ok(ProcessResult::Done)
         }
-        _ => after_head_else(sink, state, Token::Tag(tag)),
+        (TagKind::StartTag, _) => after_head_else(sink, state, Token::Tag(tag)),
     }
 }
 
@@ -68,13 +71,10 @@ pub fn step_after_head<S: TreeSink>(
     sink: &mut S,
     state: &mut State<S::Handle>,
     token: Token,
-) -> Result<ProcessResult, AllocError>
-    requires open { 0 < length (world S.sees S.node sink.old state.old).stack }
-    requires sound { Sound (world S.sees S.node sink.old state.old) }
+) -> Turn<S::Handle>
+    requires open { IsOpen S.TreeSink sink.old state.old }
     requires text { HasText (turn_text token) }
-    ensures done { IfOk result (λ r. Follows S.rules (rows (turn_text token) (world S.sees S.node sink.old state.old)) (turn_text token)
-        (world S.sees S.node sink.old state.old) (world S.sees S.node sink.new state.new) (S.sees sink.old).errors (S.sees sink.new).errors r) }
-    ensures sound { Sound (world S.sees S.node sink.new state.new) }
+    ensures { TakesToken S.TreeSink after_head token sink.old state.old sink.new state.new result }
 {
     match token {
         Token::Tag(tag) => after_head_tag(sink, state, tag),

@@ -1,57 +1,51 @@
 //! The mode "before html" (HTML standard, section 13.2.6.4.2).
-ghost use Rattle.std.specs.Prelude.{◌≡◌, ◌≢◌, ◌<◌, ℕ, [], length, codes, IfOk, string_bytes};
-ghost use Rattle.h5_token.specs.TokenText.{tag_text};
-ghost use Rattle.h5_tag_sets.specs.KnownNames.{known_name_of};
-ghost use Rattle.h5_types.specs.TurnText.{HasText, TagTurn, TextTurn, CommentTurn, NullTurn, turn_text};
-ghost use Rattle.h5_meaning.specs.Modes.{before_html as rows, before_html_else as else_row, before_html_tag as tag_row};
-ghost use Rattle.h5_meaning.specs.Rows.{Follows, row};
-ghost use Rattle.h5_meaning.specs.Sound.{Sound};
-ghost use Rattle.h5_state.specs.View.{world};
+ghost use Rattle.h5_types.specs.TurnText.{HasText, turn_text};
+ghost use Rattle.h5_meaning.specs.BeforeHtml.{before_html, before_html_else, before_html_tag};
+ghost use Rattle.h5_state.specs.Steps.{IsSound};
+ghost use Rattle.h5_state.specs.Turn.{TakesTag, TakesToken};
 
 use h5_interface::TreeSink;
-use h5_state::{State, append_comment_to_doc, create_root, set_mode, unexpected_tag};
-use h5_tag_sets::{KnownName, known_name};
+use h5_names::KnownName;
+use h5_state::{State, Turn, append_comment_to_doc, create_root, set_mode, unexpected_tag};
 use h5_token::{Tag, TagKind};
 use h5_types::{InsertionMode, ProcessResult, SplitStatus, Token};
-use std::alloc::AllocError;
 
 // Whatever else comes: a root without attributes is made.
 fn before_html_else<S: TreeSink>(
     sink: &mut S,
     state: &mut State<S::Handle>,
     token: Token,
-) -> Result<ProcessResult, AllocError>
-    requires sound { Sound (world S.sees S.node sink.old state.old) }
-    ensures done { IfOk result (λ r. Follows S.rules (else_row) (turn_text token)
-        (world S.sees S.node sink.old state.old) (world S.sees S.node sink.new state.new) (S.sees sink.old).errors (S.sees sink.new).errors r) }
-    ensures sound { Sound (world S.sees S.node sink.new state.new) }
+) -> Turn<S::Handle>
+    requires { IsSound S.TreeSink sink.old state.old }
+    ensures { TakesToken S.TreeSink before_html_else token sink.old state.old sink.new state.new result }
 {
     let attrs = Vec::new(state.alloc);
     create_root(sink, state, attrs)?;
     Ok(ProcessResult::Reprocess(InsertionMode::BeforeHead, token))
 }
 
+#[tactic(auto, unfolding(h5_meaning::specs::BeforeHtml::before_html_tag))]
 fn before_html_tag<S: TreeSink>(
     sink: &mut S,
     state: &mut State<S::Handle>,
     tag: Tag,
-) -> Result<ProcessResult, AllocError>
-    requires sound { Sound (world S.sees S.node sink.old state.old) }
-    ensures done { IfOk result (λ r. Follows S.rules (tag_row tag.kind (known_name_of tag.name) (tag_text tag)) (TagTurn (tag_text tag))
-        (world S.sees S.node sink.old state.old) (world S.sees S.node sink.new state.new) (S.sees sink.old).errors (S.sees sink.new).errors r) }
-    ensures sound { Sound (world S.sees S.node sink.new state.new) }
+) -> Turn<S::Handle>
+    requires { IsSound S.TreeSink sink.old state.old }
+    ensures { TakesTag S.TreeSink before_html_tag tag sink.old state.old sink.new state.new result }
 {
-    match (tag.kind, known_name(&tag.name)) {
+    match (tag.kind, tag.name.known()) {
         (TagKind::StartTag, KnownName::Html) => {
             create_root(sink, state, tag.attrs)?;
             set_mode(sink, state, InsertionMode::BeforeHead);
             Ok(ProcessResult::Done)
         }
-        (TagKind::EndTag, KnownName::Other) => {
+        (TagKind::StartTag, _)
+        | (TagKind::EndTag, KnownName::Head | KnownName::Body | KnownName::Html | KnownName::Br) =>
+            { before_html_else(sink, state, Token::Tag(tag)) }
+        (TagKind::EndTag, _) => {
             unexpected_tag(sink, state, &tag);
             Ok(ProcessResult::Done)
         }
-        _ => before_html_else(sink, state, Token::Tag(tag)),
     }
 }
 
@@ -60,12 +54,10 @@ pub fn step_before_html<S: TreeSink>(
     sink: &mut S,
     state: &mut State<S::Handle>,
     token: Token,
-) -> Result<ProcessResult, AllocError>
-    requires sound { Sound (world S.sees S.node sink.old state.old) }
+) -> Turn<S::Handle>
+    requires sound { IsSound S.TreeSink sink.old state.old }
     requires text { HasText (turn_text token) }
-    ensures done { IfOk result (λ r. Follows S.rules (rows (turn_text token) (world S.sees S.node sink.old state.old)) (turn_text token)
-        (world S.sees S.node sink.old state.old) (world S.sees S.node sink.new state.new) (S.sees sink.old).errors (S.sees sink.new).errors r) }
-    ensures sound { Sound (world S.sees S.node sink.new state.new) }
+    ensures { TakesToken S.TreeSink before_html token sink.old state.old sink.new state.new result }
 {
     match token {
         Token::Tag(tag) => before_html_tag(sink, state, tag),

@@ -1,60 +1,60 @@
 //! The mode "in head" (HTML standard, section 13.2.6.4.4).
-ghost use Rattle.std.specs.Prelude.{◌≡◌, ◌≢◌, ◌<◌, ℕ, [], length, codes, IfOk, string_bytes};
-ghost use Rattle.h5_token.specs.TokenText.{tag_text};
-ghost use Rattle.h5_tag_sets.specs.KnownNames.{known_name_of};
-ghost use Rattle.h5_types.specs.TurnText.{HasText, TagTurn, TextTurn, CommentTurn, NullTurn, turn_text};
-ghost use Rattle.h5_meaning.specs.Modes.{in_head as rows, in_head_else as else_row, in_head_tag as tag_row};
-ghost use Rattle.h5_meaning.specs.Rows.{Follows, row};
-ghost use Rattle.h5_meaning.specs.Sound.{Sound};
-ghost use Rattle.h5_state.specs.View.{world};
+ghost use Rattle.h5_types.specs.TurnText.{HasText, turn_text};
+ghost use Rattle.h5_meaning.specs.InHead.{in_head, in_head_else, in_head_end_head, in_head_tag};
+ghost use Rattle.h5_state.specs.Steps.{IsOpen};
+ghost use Rattle.h5_state.specs.Turn.{TakesTag, TakesToken};
 
 use h5_interface::TreeSink;
-use h5_rules_body::in_body_start_html;
-use h5_state::{State, append_comment, append_text, pop, set_mode, unexpected_tag};
-use h5_tag_sets::{KnownName, known_name};
+use h5_names::KnownName;
+use h5_rules_shared::in_body_start_html;
+use h5_state::{State, Turn, append_comment, append_text, pop, set_mode, unexpected_tag};
 use h5_token::{Tag, TagKind};
 use h5_types::{InsertionMode, ProcessResult, SplitStatus, Token};
-use std::alloc::AllocError;
+
+// An end tag `head`.
+fn in_head_end_head<S: TreeSink>(
+    sink: &mut S,
+    state: &mut State<S::Handle>,
+    tag: Tag,
+) -> Turn<S::Handle>
+    requires { IsOpen S.TreeSink sink.old state.old }
+    ensures { TakesTag S.TreeSink in_head_end_head tag sink.old state.old sink.new state.new result }
+{
+    let _ = tag;
+    pop(sink, state);
+    set_mode(sink, state, InsertionMode::AfterHead);
+    Ok(ProcessResult::Done)
+}
 
 // Whatever else comes: the head is closed.
 fn in_head_else<S: TreeSink>(
     sink: &mut S,
     state: &mut State<S::Handle>,
     token: Token,
-) -> Result<ProcessResult, AllocError>
-    requires open { 0 < length (world S.sees S.node sink.old state.old).stack }
-    requires sound { Sound (world S.sees S.node sink.old state.old) }
-    ensures done { IfOk result (λ r. Follows S.rules (else_row) (turn_text token)
-        (world S.sees S.node sink.old state.old) (world S.sees S.node sink.new state.new) (S.sees sink.old).errors (S.sees sink.new).errors r) }
-    ensures sound { Sound (world S.sees S.node sink.new state.new) }
+) -> Turn<S::Handle>
+    requires { IsOpen S.TreeSink sink.old state.old }
+    ensures { TakesToken S.TreeSink in_head_else token sink.old state.old sink.new state.new result }
 {
     pop(sink, state);
     Ok(ProcessResult::Reprocess(InsertionMode::AfterHead, token))
 }
 
-fn in_head_tag<S: TreeSink>(
-    sink: &mut S,
-    state: &mut State<S::Handle>,
-    tag: Tag,
-) -> Result<ProcessResult, AllocError>
-    requires open { 0 < length (world S.sees S.node sink.old state.old).stack }
-    requires sound { Sound (world S.sees S.node sink.old state.old) }
-    ensures done { IfOk result (λ r. Follows S.rules (tag_row tag.kind (known_name_of tag.name) (tag_text tag) (world S.sees S.node sink.old state.old)) (TagTurn (tag_text tag))
-        (world S.sees S.node sink.old state.old) (world S.sees S.node sink.new state.new) (S.sees sink.old).errors (S.sees sink.new).errors r) }
-    ensures sound { Sound (world S.sees S.node sink.new state.new) }
+#[tactic(auto, unfolding(h5_meaning::specs::InHead::in_head_tag))]
+fn in_head_tag<S: TreeSink>(sink: &mut S, state: &mut State<S::Handle>, tag: Tag) -> Turn<S::Handle>
+    requires { IsOpen S.TreeSink sink.old state.old }
+    ensures { TakesTag S.TreeSink in_head_tag tag sink.old state.old sink.new state.new result }
 {
-    match (tag.kind, known_name(&tag.name)) {
+    match (tag.kind, tag.name.known()) {
         (TagKind::StartTag, KnownName::Html) => in_body_start_html(sink, state, tag),
-        (TagKind::EndTag, KnownName::Head) => {
-            pop(sink, state);
-            set_mode(sink, state, InsertionMode::AfterHead);
-            Ok(ProcessResult::Done)
+        (TagKind::EndTag, KnownName::Head) => in_head_end_head(sink, state, tag),
+        (TagKind::EndTag, KnownName::Body | KnownName::Html | KnownName::Br) => {
+            in_head_else(sink, state, Token::Tag(tag))
         }
-        (TagKind::StartTag, KnownName::Head) | (TagKind::EndTag, KnownName::Other) => {
+        (TagKind::StartTag, KnownName::Head) | (TagKind::EndTag, _) => {
             unexpected_tag(sink, state, &tag);
             Ok(ProcessResult::Done)
         }
-        _ => in_head_else(sink, state, Token::Tag(tag)),
+        (TagKind::StartTag, _) => in_head_else(sink, state, Token::Tag(tag)),
     }
 }
 
@@ -63,13 +63,10 @@ pub fn step_in_head<S: TreeSink>(
     sink: &mut S,
     state: &mut State<S::Handle>,
     token: Token,
-) -> Result<ProcessResult, AllocError>
-    requires open { 0 < length (world S.sees S.node sink.old state.old).stack }
-    requires sound { Sound (world S.sees S.node sink.old state.old) }
+) -> Turn<S::Handle>
+    requires open { IsOpen S.TreeSink sink.old state.old }
     requires text { HasText (turn_text token) }
-    ensures done { IfOk result (λ r. Follows S.rules (rows (turn_text token) (world S.sees S.node sink.old state.old)) (turn_text token)
-        (world S.sees S.node sink.old state.old) (world S.sees S.node sink.new state.new) (S.sees sink.old).errors (S.sees sink.new).errors r) }
-    ensures sound { Sound (world S.sees S.node sink.new state.new) }
+    ensures { TakesToken S.TreeSink in_head token sink.old state.old sink.new state.new result }
 {
     match token {
         Token::Tag(tag) => in_head_tag(sink, state, tag),

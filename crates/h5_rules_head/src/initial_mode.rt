@@ -1,29 +1,23 @@
 //! The mode "initial" (HTML standard, section 13.2.6.4.1).
-ghost use Rattle.std.specs.Prelude.{◌≡◌, ◌≢◌, ◌<◌, ℕ, [], length, codes, IfOk, string_bytes};
-ghost use Rattle.h5_token.specs.TokenText.{tag_text};
-ghost use Rattle.h5_tag_sets.specs.KnownNames.{known_name_of};
-ghost use Rattle.h5_types.specs.TurnText.{HasText, TagTurn, TextTurn, CommentTurn, NullTurn, turn_text};
-ghost use Rattle.h5_meaning.specs.Modes.{initial, initial_else as else_row};
-ghost use Rattle.h5_meaning.specs.Rows.{Follows, row};
-ghost use Rattle.h5_meaning.specs.Sound.{Sound};
-ghost use Rattle.h5_state.specs.View.{world};
+ghost use Rattle.h5_types.specs.TurnText.{HasText, turn_text};
+ghost use Rattle.h5_meaning.specs.InitialMode.{initial, initial_else};
+ghost use Rattle.h5_state.specs.Steps.{IsSound};
+ghost use Rattle.h5_state.specs.Turn.{TakesToken};
 
 use h5_interface::{QuirksMode, TreeSink};
-use h5_state::{State, append_comment_to_doc, has_srcdoc, set_quirks_mode, unexpected};
+use h5_state::{State, Turn, append_comment_to_doc, has_srcdoc, set_quirks_mode, unexpected};
 use h5_types::{InsertionMode, ProcessResult, SplitStatus, Token};
-use std::alloc::AllocError;
 
-// Whatever else comes first: there is no doctype.
-#[tactic(auto, unfolding(h5_meaning::specs::Modes::initial_else))]
+// Whatever else comes: without a doctype the document is in quirks mode, unless it is that of an `iframe` with
+// `srcdoc`.
+#[tactic(auto, unfolding(h5_meaning::specs::InitialMode::initial_else))]
 fn initial_else<S: TreeSink>(
     sink: &mut S,
     state: &mut State<S::Handle>,
     token: Token,
-) -> Result<ProcessResult, AllocError>
-    requires sound { Sound (world S.sees S.node sink.old state.old) }
-    ensures done { IfOk result (λ r. Follows S.rules (else_row (world S.sees S.node sink.old state.old)) (turn_text token)
-        (world S.sees S.node sink.old state.old) (world S.sees S.node sink.new state.new) (S.sees sink.old).errors (S.sees sink.new).errors r) }
-    ensures sound { Sound (world S.sees S.node sink.new state.new) }
+) -> Turn<S::Handle>
+    requires { IsSound S.TreeSink sink.old state.old }
+    ensures { TakesToken S.TreeSink initial_else token sink.old state.old sink.new state.new result }
 {
     if has_srcdoc(sink, state) {
         Ok(ProcessResult::Reprocess(InsertionMode::BeforeHtml, token))
@@ -39,12 +33,10 @@ pub fn step_initial<S: TreeSink>(
     sink: &mut S,
     state: &mut State<S::Handle>,
     token: Token,
-) -> Result<ProcessResult, AllocError>
-    requires sound { Sound (world S.sees S.node sink.old state.old) }
+) -> Turn<S::Handle>
+    requires sound { IsSound S.TreeSink sink.old state.old }
     requires text { HasText (turn_text token) }
-    ensures done { IfOk result (λ r. Follows S.rules (initial (turn_text token) (world S.sees S.node sink.old state.old)) (turn_text token)
-        (world S.sees S.node sink.old state.old) (world S.sees S.node sink.new state.new) (S.sees sink.old).errors (S.sees sink.new).errors r) }
-    ensures sound { Sound (world S.sees S.node sink.new state.new) }
+    ensures { TakesToken S.TreeSink initial token sink.old state.old sink.new state.new result }
 {
     match token {
         Token::Comment(text) => {

@@ -1,6 +1,5 @@
 pub mod EntryLemmas
 pub mod EscapeLaws
 pub mod Escapes
-pub mod NameLemmas
 pub mod WalkLemmas
 pub mod WalkSteps

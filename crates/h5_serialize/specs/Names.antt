@@ -1,26 +1,9 @@
 -- The elements that are written in a way of their own (HTML standard, section 13.1.2, "Elements", and
 -- section 13.3, "Serializing HTML fragments").
-use Rattle.std.specs.Prelude.{ℕ, Bool, ◌&&◌, ◌||◌, List, [], ◌∷◌, codes}
-use Rattle.std.specs.List.{list_any}
+use Rattle.std.specs.Prelude.{ℕ, Bool, ◌&&◌, ◌||◌, List, codes}
 use Rattle.h5_names.specs.AttributeText.{is_same_text}
 use Rattle.h5_names.specs.declared.qualified.QualName.{QualName}
-
--- whether a text is one of these
-abbrev pub is_one_of : List (List ℕ) → List ℕ → Bool
-is_one_of names text = list_any (λ name. is_same_text name text) names
-
--- elements without content, which get no end tag
-abbrev pub void_names : List (List ℕ)
-void_names =
-    codes "area" ∷ codes "base" ∷ codes "basefont" ∷ codes "bgsound" ∷ codes "br" ∷ codes "col"
-    ∷ codes "embed" ∷ codes "frame" ∷ codes "hr" ∷ codes "img" ∷ codes "input" ∷ codes "keygen"
-    ∷ codes "link" ∷ codes "meta" ∷ codes "param" ∷ codes "source" ∷ codes "track" ∷ codes "wbr" ∷ []
-
--- elements whose text is written as it stands
-abbrev pub raw_names : List (List ℕ)
-raw_names =
-    codes "style" ∷ codes "script" ∷ codes "xmp" ∷ codes "iframe" ∷ codes "noembed" ∷ codes "noframes"
-    ∷ codes "plaintext" ∷ []
+use Rattle.h5_tag_sets.specs.TagSets.{is_one_of, raw_names, void_names}
 
 -- an element of HTML
 abbrev pub is_html : QualName → Bool

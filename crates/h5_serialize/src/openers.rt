@@ -42,9 +42,9 @@ fn is_raw_opener(scripting_enabled: bool, opener: &Opener) -> bool
     ensures { result ≡ is_raw_opener scripting_enabled opener.now }
 {
     match opener {
-        Opener::Base(Some(local)) => is_raw_name(scripting_enabled, local.as_str()),
+        Opener::Base(Some(local)) => is_raw_name(scripting_enabled, local),
         Opener::Base(None) | Opener::Missing => false,
-        Opener::Start(name) => is_html(name) && is_raw_name(scripting_enabled, name.local.as_str()),
+        Opener::Start(name) => is_html(name) && is_raw_name(scripting_enabled, &name.local),
     }
 }
 

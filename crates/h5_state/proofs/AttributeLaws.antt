@@ -6,7 +6,7 @@ use Rattle.h5_interface.specs.Changes.{add_missing_attributes}
 use Rattle.h5_interface.specs.Seen.{Seen, changed}
 use Rattle.h5_interface.proofs.MakingLaws.{add_missing_rearranges}
 use Rattle.h5_meaning.specs.Sound.{Stands}
-use Rattle.h5_meaning.specs.World.{last_or, second_from_last}
+use Rattle.h5_stack.specs.Order.{last_or, second_from_last}
 use Rattle.h5_meaning.proofs.SoundLaws.{rearranged_or_not, stands_rearranged}
 use Rattle.h5_state.proofs.StackLaws.{last_or-append}
 

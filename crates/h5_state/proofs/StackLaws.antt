@@ -4,11 +4,15 @@ use Rattle.std.specs.Prelude.{slice_get, unwrap_or}
 use Rattle.h5_names.specs.declared.qualified.QualName.{QualName}
 use Rattle.h5_tag_sets.specs.TagSets.{html_namespace, is_html_named}
 use Rattle.h5_interface.specs.NewElement.{is_html_template}
-use Rattle.h5_meaning.specs.Order.{IsIn}
-use Rattle.h5_meaning.specs.Scope.{second_is}
-use Rattle.h5_meaning.specs.World.{first_or, inside, last_or, name_in, name_of_found}
+use Rattle.h5_stack.specs.Order.{IsIn}
+use Rattle.h5_stack.specs.Scope.{second_is}
+use Rattle.h5_meaning.specs.World.{World, inside, name_in, name_of_found}
+use Rattle.h5_stack.specs.Order.{first_or, last_or}
 use Rattle.std.proofs.lemmas.List.{length-map, length-reverse, map-append, reverse-append, take_more}
 use Rattle.h5_interface.specs.Changes.{mark}
+use Rattle.h5_interface.specs.Seen.{Seen, after_pop}
+use Rattle.h5_interface.specs.SinkChoices.{SinkChoices}
+use Rattle.h5_meaning.specs.Changes.{pop}
 use Rattle.h5_interface.specs.Forest.{ElementNode, Forest, IsElement, Marks, contents_of, kind_of}
 use Rattle.h5_interface.proofs.MakingLaws.{mark_rearranges}
 use Rattle.h5_meaning.specs.Sound.{Stands}
@@ -31,6 +35,17 @@ last_split (y ∷ z ∷ zs) x e =
     let k : length (y ∷ z ∷ zs) - 1 ≡ suc (length (z ∷ zs) - 1) = omega arith in
     let r = last_split (z ∷ zs) x (e ∙ ap (slice_get (y ∷ z ∷ zs)) k) in
     (y ∷ r.0, ap (λ t. y ∷ t) r.1)
+
+-- a world with another forest and other open elements
+abbrev pub seen_world : World → Seen → List ℕ → World
+seen_world w s stack = record w { forest = s.forest; seen_quirks = s.quirks; stack = stack }
+
+-- the world where the current node was popped, and the sink was told
+pub popped_world : {H : Type 0} (node : H → ℕ) (choices : SinkChoices) (w : World) (old new : Seen) (ys xs : List H) (x : H) → ys ≡ xs ++ x ∷ [] → new ≡ after_pop choices (node x) old
+    → seen_world w new (reverse (map node xs)) ≡ pop choices (seen_world w old (reverse (map node ys)))
+unfolding pop
+popped_world node choices w old new ys xs x e h =
+    ap (λ z. seen_world w z (reverse (map node xs))) h ∙ sym (ap (λ s. pop choices (seen_world w old s)) (seen_pushed node xs ys x e))
 
 -- where it stands as it is seen
 pub record SeenFirst (s : List ℕ) (n : ℕ) : Type 0 where

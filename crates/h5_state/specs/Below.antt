@@ -6,13 +6,13 @@ use Rattle.h5_interface.specs.Changes.{append_node}
 use Rattle.h5_interface.specs.Forest.{CommentNode, Forest}
 use Rattle.h5_interface.specs.NewElement.{flags_of}
 use Rattle.h5_interface.specs.Seen.{Seen, changed, make, make_element, plain}
-use Rattle.h5_interface.specs.SinkRules.{SinkRules}
+use Rattle.h5_interface.specs.SinkChoices.{SinkChoices}
 
 -- a new element as the last child of p
-abbrev pub element_below : SinkRules → ℕ → QualName → List AttributeText → Bool → Forest → Forest
-element_below rules p name attrs duplicates f =
-    append_node p (rules.fresh f) (make_element rules name attrs (flags_of name attrs duplicates) f)
+abbrev pub element_below : SinkChoices → ℕ → QualName → List AttributeText → Bool → Forest → Forest
+element_below choices p name attrs duplicates f =
+    append_node p (choices.fresh f) (make_element choices name attrs (flags_of name attrs duplicates) f)
 
 -- a new comment as the last child of p
-abbrev pub comment_below : SinkRules → ℕ → List ℕ → Forest → Forest
-comment_below rules p t f = append_node p (rules.fresh f) (make rules (plain (CommentNode t)) f)
+abbrev pub comment_below : SinkChoices → ℕ → List ℕ → Forest → Forest
+comment_below choices p t f = append_node p (choices.fresh f) (make choices (plain (CommentNode t)) f)

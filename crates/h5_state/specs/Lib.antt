@@ -1,2 +1,4 @@
 pub mod Below
+pub mod Steps
+pub mod Turn
 pub mod View

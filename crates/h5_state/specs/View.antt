@@ -6,7 +6,8 @@ use Rattle.h5_token.specs.TokenText.{tag_text}
 use Rattle.h5_interface.specs.Seen.{Seen}
 use Rattle.h5_types.specs.declared.entry.FormatEntry.{FormatEntry}
 use Rattle.h5_types.specs.declared.entry.FormatEntry.TheVariants.{Element, Marker}
-use Rattle.h5_meaning.specs.World.{World, Entry, ElementEntry, MarkerEntry, name_in}
+use Rattle.h5_meaning.specs.World.{World, name_in}
+use Rattle.h5_stack.specs.FormattingList.{Entry, ElementEntry, MarkerEntry}
 use Rattle.h5_state.specs.declared.state.State.{State}
 
 abbrev pub entry_of : {H : Type 0} → (H → ℕ) → FormatEntry H → Entry

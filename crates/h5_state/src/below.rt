@@ -5,7 +5,7 @@ ghost use Rattle.h5_names.specs.AttributeText.{attribute_texts};
 ghost use Rattle.h5_interface.specs.Changes.{append_text};
 ghost use Rattle.h5_interface.specs.Forest.{IsForest, IsNode};
 ghost use Rattle.h5_interface.specs.Seen.{changed};
-ghost use Rattle.h5_interface.specs.SinkRules.{Rearranges};
+ghost use Rattle.h5_interface.specs.SinkChoices.{Rearranges};
 ghost use Rattle.h5_state.specs.Below.{comment_below, element_below};
 
 use h5_interface::{NodeOrText, TreeSink, create_element_with_flags};
@@ -22,9 +22,9 @@ pub fn append_element<S: TreeSink>(
 ) -> Result<S::Handle, AllocError>
     requires is_forest { IsForest (S.sees sink.old).forest }
     requires parent { IsNode (S.sees sink.old).forest (S.node parent.now) }
-    ensures handle { IfOk result (λ element. S.node element ≡ S.rules.fresh (S.sees sink.old).forest) }
+    ensures handle { IfOk result (λ element. S.node element ≡ S.choices.fresh (S.sees sink.old).forest) }
     ensures done { OnOk result
-        (S.sees sink.new ≡ changed (element_below S.rules (S.node parent.now) name (attribute_texts attrs.items) had_duplicate_attributes) (S.sees sink.old)) }
+        (S.sees sink.new ≡ changed (element_below S.choices (S.node parent.now) name (attribute_texts attrs.items) had_duplicate_attributes) (S.sees sink.old)) }
     ensures quiet { (S.sees sink.new).errors ≡ (S.sees sink.old).errors }
     ensures rearranged { Rearranges (S.sees sink.old).forest (S.sees sink.new).forest }
 {
@@ -43,7 +43,7 @@ pub fn append_comment_below<S: TreeSink>(
     requires is_forest { IsForest (S.sees sink.old).forest }
     requires parent { IsNode (S.sees sink.old).forest (S.node parent.now) }
     ensures done { OnOk result
-        (S.sees sink.new ≡ changed (comment_below S.rules (S.node parent.now) (string_bytes text)) (S.sees sink.old)) }
+        (S.sees sink.new ≡ changed (comment_below S.choices (S.node parent.now) (string_bytes text)) (S.sees sink.old)) }
     ensures quiet { (S.sees sink.new).errors ≡ (S.sees sink.old).errors }
     ensures rearranged { Rearranges (S.sees sink.old).forest (S.sees sink.new).forest }
 {

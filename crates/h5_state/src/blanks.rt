@@ -1,10 +1,9 @@
 //! Blanks, and the runs of a text (Infra standard: ASCII whitespace).
 ghost use Rattle.std.specs.Prelude.{◌≡◌, ◌≢◌, ◌<◌, ℕ, [], false, take, slice_index, IsCharBoundary};
 ghost use Rattle.h5_meaning.specs.Blanks.{all_blank, is_blank, rest_of};
-ghost use Rattle.h5_meaning.specs.Changes.{ok_if_text};
-ghost use Rattle.h5_meaning.specs.Sound.{Sound};
+ghost use Rattle.h5_meaning.specs.Rows.{SetFramesetOkByText};
 ghost use Rattle.h5_meaning.specs.Text.{IsRun, splits};
-ghost use Rattle.h5_state.specs.View.{world};
+ghost use Rattle.h5_state.specs.Steps.{IsSound, Makes};
 
 use super::state::State;
 use h5_interface::TreeSink;
@@ -29,10 +28,10 @@ pub fn is_blank_text(text: &str) -> bool
 }
 
 /// The frameset flag goes off if the text has a character that is no blank.
-#[tactic(auto, unfolding(crate::specs::View::world, h5_meaning::specs::Changes::ok_if_text))]
+#[tactic(auto, unfolding(crate::specs::View::world, h5_meaning::specs::Changes::set_frameset_ok_by_text))]
 pub fn set_frameset_ok_by_text<S: TreeSink>(sink: &S, state: &mut State<S::Handle>, text: &str)
-    ensures done { world S.sees S.node sink.now state.new ≡ ok_if_text text.now (world S.sees S.node sink.now state.old) }
-    ensures sound { Sound (world S.sees S.node sink.now state.old) → Sound (world S.sees S.node sink.now state.new) }
+    requires { IsSound S.TreeSink sink.now state.old }
+    ensures { Makes S.TreeSink (SetFramesetOkByText text.now) sink.now state.old sink.now state.new }
 {
     state.frameset_ok = state.frameset_ok && is_blank_text(text);
 }
@@ -67,7 +66,21 @@ fn solid_len(text: &str) -> usize
 fn splits_text(mode: InsertionMode) -> bool
     ensures { result ≡ splits mode }
 {
-    mode != InsertionMode::InBody
+    matches!(
+        mode,
+        InsertionMode::Initial
+            | InsertionMode::BeforeHtml
+            | InsertionMode::BeforeHead
+            | InsertionMode::InHead
+            | InsertionMode::InHeadNoscript
+            | InsertionMode::AfterHead
+            | InsertionMode::InColumnGroup
+            | InsertionMode::AfterBody
+            | InsertionMode::InFrameset
+            | InsertionMode::AfterFrameset
+            | InsertionMode::AfterAfterBody
+            | InsertionMode::AfterAfterFrameset
+    )
 }
 
 /// The first run of a text in a mode: whether it is blank, and its length.

@@ -1,6 +1,5 @@
 //! Parse errors (HTML standard, section 13.2.2, "Parse errors"). What a message says is no part of a contract.
-ghost use Rattle.std.specs.Prelude.{◌≡◌};
-ghost use Rattle.h5_state.specs.View.{world};
+ghost use Rattle.h5_state.specs.Steps.{TellsErrors};
 
 use super::state::State;
 use h5_interface::TreeSink;
@@ -11,7 +10,7 @@ use std::alloc::AllocError;
 /// Tells the sink of a parse error. Nothing else changes.
 #[tactic(auto, unfolding(crate::specs::View::world))]
 pub fn tell_error<S: TreeSink>(sink: &mut S, state: &State<S::Handle>, message: &str)
-    ensures { world S.sees S.node sink.new state.now ≡ world S.sees S.node sink.old state.now }
+    ensures { TellsErrors S.TreeSink sink.old sink.new state.now }
 {
     sink.parse_error(message);
 }
@@ -67,7 +66,7 @@ fn exact_token<H>(state: &State<H>, token: &Token) -> Option<String> {
 /// Tells the sink that a tag wasn't expected; with `exact_errors`, which tag, and in which insertion mode, unless
 /// memory is refused for the message. Nothing else changes.
 pub fn unexpected_tag<S: TreeSink>(sink: &mut S, state: &State<S::Handle>, tag: &Tag)
-    ensures { world S.sees S.node sink.new state.now ≡ world S.sees S.node sink.old state.now }
+    ensures { TellsErrors S.TreeSink sink.old sink.new state.now }
 {
     match exact_tag(state, tag) {
         Some(message) => tell_error(sink, state, message.as_str()),
@@ -77,7 +76,7 @@ pub fn unexpected_tag<S: TreeSink>(sink: &mut S, state: &State<S::Handle>, tag: 
 
 /// The same of any token.
 pub fn unexpected<S: TreeSink>(sink: &mut S, state: &State<S::Handle>, token: &Token)
-    ensures { world S.sees S.node sink.new state.now ≡ world S.sees S.node sink.old state.now }
+    ensures { TellsErrors S.TreeSink sink.old sink.new state.now }
 {
     match exact_token(state, token) {
         Some(message) => tell_error(sink, state, message.as_str()),

@@ -7,6 +7,7 @@ mod below;
 mod blanks;
 mod errors;
 mod insert;
+mod name_test;
 mod open_elems;
 mod state;
 mod steps;
@@ -19,10 +20,10 @@ pub use insert::{
     appropriate_place_for_insertion, create_root, insert_element, insert_phantom,
 };
 pub use open_elems::{
-    check_body_end, cut_at, generate_implied_end_except, has_body_second, has_open_template,
-    in_scope_named, is_current_html, is_named_before_special,
+    check_body_end, generate_implied_end_except, has_body_second, has_open_template,
+    in_scope_named, is_current_html, is_named_before_special, pop_until_named,
 };
-pub use state::State;
+pub use state::{State, Turn};
 pub use steps::{
     current_mode, current_node, has_srcdoc, pop, set_frameset_not_ok, set_head_to_current,
     set_mode, set_quirks_mode,

@@ -1,7 +1,10 @@
 //! The state of a tree builder.
 use h5_interface::QuirksMode;
-use h5_types::{FormatEntry, InsertionMode, TreeBuilderOpts};
-use std::alloc::Global;
+use h5_types::{FormatEntry, InsertionMode, ProcessResult, TreeBuilderOpts};
+use std::alloc::{AllocError, Global};
+
+/// How a turn ended, unless memory was refused.
+pub type Turn<Handle> = Result<ProcessResult<Handle>, AllocError>;
 
 /// The state of a tree builder (HTML standard, section 13.2.4, "Parse state").
 #[derive(Drop)]

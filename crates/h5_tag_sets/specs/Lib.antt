@@ -1,2 +1,2 @@
-pub mod KnownNames
+pub mod NameSets
 pub mod TagSets

@@ -1,8 +1,15 @@
-//! Names that the rules of tree construction ask for, and sets of elements.
+//! Sets of elements that the rules of tree construction ask for.
 #![tactic(auto)]
 
-mod known;
+mod name_sets;
 mod sets;
+#[cfg(test)]
+mod tests;
 
-pub use known::{KnownName, known_name};
-pub use sets::{body_end_ok, cursory_implied_end, default_scope, is_html, special_tag};
+pub use name_sets::NameSet;
+pub use sets::{
+    body_end_ok, button_scope, cursory_implied_end, default_scope, formatting_tag,
+    head_content_tag, heading_tag, is_html, is_html_known, is_html_local, list_item_scope,
+    mathml_text_integration_point, special_tag, svg_html_integration_point, table_body_context,
+    table_outer, table_row_context, table_scope, td_th, thorough_implied_end,
+};

@@ -1,121 +1,34 @@
 //! Sets of elements.
-ghost use Rattle.std.specs.Prelude.{◌≡◌, ◌==◌, length, map, filter};
-ghost use Rattle.std.specs.List.{list_any};
-ghost use Rattle.h5_names.specs.AttributeText.{is_same_text};
-ghost use Rattle.h5_tag_sets.specs.TagSets.{implied_names, scope_names, special_names, is_one_of, is_body_end_ok, is_default_scope, is_html_named, is_implied, is_special};
+ghost use Rattle.std.specs.Prelude.{◌≡◌};
+ghost use Rattle.h5_names.specs.KnownNames.{name_text};
+ghost use Rattle.h5_tag_sets.specs.TagSets.{is_body_end_ok, is_button_scope, is_cell, is_default_scope, is_formatting, is_head_content, is_heading, is_html_named, is_implied, is_list_item_scope, is_mathml_text_point, is_special, is_svg_html_point, is_table_body_context, is_table_outer, is_table_row_context, is_table_scope, is_thorough_implied};
 
-use h5_names::{QualName, namespaces};
-
-// The names of special elements, those of this length.
-#[tactic(auto, unfolding(crate::specs::TagSets::special_names))]
-fn special_names_of_length(len: usize) -> &'static [&'static str]
-    ensures { map (λ name. name.now) result.now ≡ filter (λ name. length name == len) special_names }
-{
-    match len {
-        1 => &["p"],
-        2 => &[
-            "br", "dd", "dl", "dt", "h1", "h2", "h3", "h4", "h5", "h6", "hr", "li", "ol", "td",
-            "th", "tr", "ul",
-        ],
-        3 => &["col", "dir", "div", "img", "nav", "pre", "wbr", "xmp"],
-        4 => &[
-            "area", "base", "body", "form", "head", "html", "link", "main", "menu", "meta",
-        ],
-        5 => &[
-            "aside", "embed", "frame", "input", "param", "style", "table", "tbody", "tfoot",
-            "thead", "title", "track",
-        ],
-        6 => &[
-            "applet", "button", "center", "figure", "footer", "header", "hgroup", "iframe",
-            "object", "script", "select", "source",
-        ],
-        7 => &[
-            "address", "article", "bgsound", "caption", "details", "isindex", "listing", "marquee",
-            "noembed", "section", "summary",
-        ],
-        8 => &[
-            "basefont", "colgroup", "fieldset", "frameset", "noframes", "noscript", "template",
-            "textarea",
-        ],
-        9 => &["plaintext"],
-        10 => &["blockquote", "figcaption"],
-        _ => &[],
-    }
-}
-
-// The names of HTML elements that end a scope, those of this length.
-#[tactic(auto, unfolding(crate::specs::TagSets::scope_names))]
-fn scope_names_of_length(len: usize) -> &'static [&'static str]
-    ensures { map (λ name. name.now) result.now ≡ filter (λ name. length name == len) scope_names }
-{
-    match len {
-        2 => &["td", "th"],
-        4 => &["html"],
-        5 => &["table"],
-        6 => &["applet", "object", "select"],
-        7 => &["caption", "marquee"],
-        8 => &["template"],
-        _ => &[],
-    }
-}
-
-const MATHML_TEXT_POINTS: [&str; 5] = ["mi", "mo", "mn", "ms", "mtext"];
-
-const SVG_HTML_POINTS: [&str; 3] = ["foreignObject", "desc", "title"];
-
-// The names of elements whose end tag is implied, those of this length.
-#[tactic(auto, unfolding(crate::specs::TagSets::implied_names))]
-fn implied_names_of_length(len: usize) -> &'static [&'static str]
-    ensures { map (λ name. name.now) result.now ≡ filter (λ name. length name == len) implied_names }
-{
-    match len {
-        1 => &["p"],
-        2 => &["dd", "dt", "li", "rb", "rp", "rt"],
-        3 => &["rtc"],
-        6 => &["option"],
-        8 => &["optgroup"],
-        _ => &[],
-    }
-}
-
-const BODY_END_OK: [&str; 16] = [
-    "dd", "dt", "li", "optgroup", "option", "p", "rp", "rt", "tbody", "td", "tfoot", "th", "thead",
-    "tr", "body", "html",
-];
-
-fn is_among(name: &str, names: &[&str]) -> bool
-    ensures { result ≡ list_any (λ n. is_same_text n.now name.now) names.now }
-{
-    names.iter().any(|known| *known == name)
-}
+use super::NameSet;
+use h5_names::{KnownName, LocalName, QualName};
 
 /// Whether this is an HTML element of this local name.
 #[tactic(auto, unfolding(crate::specs::TagSets::is_html_named, crate::specs::TagSets::html_namespace))]
 pub fn is_html(name: &QualName, local: &str) -> bool
     ensures { result ≡ is_html_named local.now name.now }
 {
-    name.local.as_str() == local && name.ns.as_str() == namespaces::HTML
+    name.local.as_str() == local && name.ns.is_html()
 }
 
-// Whether a special element has this local name.
-fn is_special_name(local: &str) -> bool
-    ensures { result ≡ is_one_of special_names local.now }
+/// Whether this is an HTML element of this local name. Names that HTML knows are compared without a look
+/// at their texts.
+#[tactic(auto, unfolding(crate::specs::TagSets::is_html_named, crate::specs::TagSets::html_namespace))]
+pub fn is_html_local(name: &QualName, local: &LocalName) -> bool
+    ensures { result ≡ is_html_named local.now name.now }
 {
-    is_among(local, special_names_of_length(local.len()))
+    name.local == *local && name.ns.is_html()
 }
 
-// Whether an HTML element that ends a scope has this local name.
-fn is_scope_name(local: &str) -> bool
-    ensures { result ≡ is_one_of scope_names local.now }
+/// Whether this is an HTML element of this known name, without a look at its text.
+#[tactic(auto, unfolding(crate::specs::TagSets::is_html_named, crate::specs::TagSets::html_namespace))]
+pub fn is_html_known(name: &QualName, known: KnownName) -> bool
+    ensures { result ≡ is_html_named (name_text known) name.now }
 {
-    is_among(local, scope_names_of_length(local.len()))
-}
-
-// Whether an element whose end tag is implied has this local name.
-fn is_implied_name(local: &str) -> bool
-    ensures { result ≡ is_one_of implied_names local.now }
-{
-    is_among(local, implied_names_of_length(local.len()))
+    name.local.is(known) && name.ns.is_html()
 }
 
 /// Whether an element is special (HTML standard, section 13.2.4.2, "The stack of open elements").
@@ -123,19 +36,61 @@ fn is_implied_name(local: &str) -> bool
 pub fn special_tag(name: &QualName) -> bool
     ensures { result ≡ is_special name.now }
 {
-    name.ns.as_str() == namespaces::HTML && is_special_name(name.local.as_str())
+    name.ns.is_html() && NameSet::Special.holds(&name.local)
 }
 
 /// Whether an element ends a scope (HTML standard, section 13.2.4.2, "have a particular element in
 /// scope").
-#[tactic(auto, unfolding(crate::specs::TagSets::is_default_scope, crate::specs::TagSets::html_namespace, crate::specs::TagSets::mathml_namespace, crate::specs::TagSets::svg_namespace, crate::specs::TagSets::mathml_text_points, crate::specs::TagSets::svg_html_points))]
+#[tactic(auto, unfolding(crate::specs::TagSets::is_default_scope, crate::specs::TagSets::html_namespace, crate::specs::TagSets::mathml_namespace, crate::specs::TagSets::svg_namespace))]
 pub fn default_scope(name: &QualName) -> bool
     ensures { result ≡ is_default_scope name.now }
 {
-    let (ns, local) = (name.ns.as_str(), name.local.as_str());
-    (ns == namespaces::HTML && is_scope_name(local))
-        || (ns == namespaces::MATHML && is_among(local, &MATHML_TEXT_POINTS))
-        || (ns == namespaces::SVG && is_among(local, &SVG_HTML_POINTS))
+    (name.ns.is_html() && NameSet::DefaultScope.holds(&name.local))
+        || (name.ns.is_mathml() && NameSet::MathMlTextPoint.holds(&name.local))
+        || (name.ns.is_svg() && NameSet::SvgHtmlPoint.holds(&name.local))
+}
+
+/// Whether an element ends a list item scope (HTML standard, section 13.2.4.2, "have a particular element
+/// in list item scope").
+#[tactic(auto, unfolding(crate::specs::TagSets::is_list_item_scope, crate::specs::TagSets::html_namespace))]
+pub fn list_item_scope(name: &QualName) -> bool
+    ensures { result ≡ is_list_item_scope name.now }
+{
+    default_scope(name) || (name.ns.is_html() && NameSet::ListItemScope.holds(&name.local))
+}
+
+/// Whether an element ends a button scope (HTML standard, section 13.2.4.2, "have a particular element in
+/// button scope").
+#[tactic(auto, unfolding(crate::specs::TagSets::is_button_scope, crate::specs::TagSets::html_namespace))]
+pub fn button_scope(name: &QualName) -> bool
+    ensures { result ≡ is_button_scope name.now }
+{
+    default_scope(name) || (name.ns.is_html() && NameSet::ButtonScope.holds(&name.local))
+}
+
+/// Whether an element ends a table scope (HTML standard, section 13.2.4.2, "have a particular element in
+/// table scope").
+#[tactic(auto, unfolding(crate::specs::TagSets::is_table_scope, crate::specs::TagSets::html_namespace))]
+pub fn table_scope(name: &QualName) -> bool
+    ensures { result ≡ is_table_scope name.now }
+{
+    name.ns.is_html() && NameSet::TableScope.holds(&name.local)
+}
+
+/// Whether an element is a table body context (HTML standard, section 13.2.6.4.13, "In table body").
+#[tactic(auto, unfolding(crate::specs::TagSets::is_table_body_context, crate::specs::TagSets::html_namespace))]
+pub fn table_body_context(name: &QualName) -> bool
+    ensures { result ≡ is_table_body_context name.now }
+{
+    name.ns.is_html() && NameSet::TableBodyContext.holds(&name.local)
+}
+
+/// Whether an element is a table row context (HTML standard, section 13.2.6.4.14, "In row").
+#[tactic(auto, unfolding(crate::specs::TagSets::is_table_row_context, crate::specs::TagSets::html_namespace))]
+pub fn table_row_context(name: &QualName) -> bool
+    ensures { result ≡ is_table_row_context name.now }
+{
+    name.ns.is_html() && NameSet::TableRowContext.holds(&name.local)
 }
 
 /// Whether the end tag of an element is implied (HTML standard, section 13.2.6.3, "Closing elements that
@@ -144,13 +99,81 @@ pub fn default_scope(name: &QualName) -> bool
 pub fn cursory_implied_end(name: &QualName) -> bool
     ensures { result ≡ is_implied name.now }
 {
-    name.ns.as_str() == namespaces::HTML && is_implied_name(name.local.as_str())
+    name.ns.is_html() && NameSet::CursoryImpliedEnd.holds(&name.local)
+}
+
+/// Whether the end tag of an element is implied where all are, thoroughly (HTML standard, section
+/// 13.2.6.3, "Closing elements that have implied end tags").
+#[tactic(auto, unfolding(crate::specs::TagSets::is_thorough_implied, crate::specs::TagSets::html_namespace))]
+pub fn thorough_implied_end(name: &QualName) -> bool
+    ensures { result ≡ is_thorough_implied name.now }
+{
+    name.ns.is_html() && NameSet::ThoroughImpliedEnd.holds(&name.local)
+}
+
+/// Whether an element is a heading, `h1` to `h6`.
+#[tactic(auto, unfolding(crate::specs::TagSets::is_heading, crate::specs::TagSets::html_namespace))]
+pub fn heading_tag(name: &QualName) -> bool
+    ensures { result ≡ is_heading name.now }
+{
+    name.ns.is_html() && NameSet::Heading.holds(&name.local)
 }
 
 /// Whether an element may be open where the body ends (HTML standard, section 13.2.6.4.7, an end tag "body").
-#[tactic(auto, unfolding(crate::specs::TagSets::is_body_end_ok, crate::specs::TagSets::html_namespace, crate::specs::TagSets::body_end_names))]
+#[tactic(auto, unfolding(crate::specs::TagSets::is_body_end_ok, crate::specs::TagSets::html_namespace))]
 pub fn body_end_ok(name: &QualName) -> bool
     ensures { result ≡ is_body_end_ok name.now }
 {
-    name.ns.as_str() == namespaces::HTML && is_among(name.local.as_str(), &BODY_END_OK)
+    name.ns.is_html() && NameSet::BodyEndOk.holds(&name.local)
+}
+
+/// Whether an element belongs into a head (HTML standard, section 13.2.6.4.6, "After head").
+#[tactic(auto, unfolding(crate::specs::TagSets::is_head_content, crate::specs::TagSets::html_namespace))]
+pub fn head_content_tag(name: &QualName) -> bool
+    ensures { result ≡ is_head_content name.now }
+{
+    name.ns.is_html() && NameSet::HeadContent.holds(&name.local)
+}
+
+/// Whether an element is a formatting element (HTML standard, section 13.2.4.2, "formatting").
+#[tactic(auto, unfolding(crate::specs::TagSets::is_formatting, crate::specs::TagSets::html_namespace))]
+pub fn formatting_tag(name: &QualName) -> bool
+    ensures { result ≡ is_formatting name.now }
+{
+    name.ns.is_html() && NameSet::Formatting.holds(&name.local)
+}
+
+/// Whether an element is a cell of a table (HTML standard, section 13.2.6.4.15, "In cell").
+#[tactic(auto, unfolding(crate::specs::TagSets::is_cell, crate::specs::TagSets::html_namespace))]
+pub fn td_th(name: &QualName) -> bool
+    ensures { result ≡ is_cell name.now }
+{
+    name.ns.is_html() && NameSet::TdTh.holds(&name.local)
+}
+
+/// Whether what is put into an element is foster-parented, where foster parenting is on (HTML standard,
+/// section 13.2.6.1, "Creating and inserting nodes").
+#[tactic(auto, unfolding(crate::specs::TagSets::is_table_outer, crate::specs::TagSets::html_namespace))]
+pub fn table_outer(name: &QualName) -> bool
+    ensures { result ≡ is_table_outer name.now }
+{
+    name.ns.is_html() && NameSet::TableOuter.holds(&name.local)
+}
+
+/// Whether an element is a MathML text integration point (HTML standard, section 13.2.6, "Tree
+/// construction").
+#[tactic(auto, unfolding(crate::specs::TagSets::is_mathml_text_point, crate::specs::TagSets::mathml_namespace))]
+pub fn mathml_text_integration_point(name: &QualName) -> bool
+    ensures { result ≡ is_mathml_text_point name.now }
+{
+    name.ns.is_mathml() && NameSet::MathMlTextPoint.holds(&name.local)
+}
+
+/// Whether an element of SVG is an HTML integration point (HTML standard, section 13.2.6, "Tree
+/// construction").
+#[tactic(auto, unfolding(crate::specs::TagSets::is_svg_html_point, crate::specs::TagSets::svg_namespace))]
+pub fn svg_html_integration_point(name: &QualName) -> bool
+    ensures { result ≡ is_svg_html_point name.now }
+{
+    name.ns.is_svg() && NameSet::SvgHtmlPoint.holds(&name.local)
 }

@@ -1,1 +1,2 @@
 pub mod Multisets
+pub mod TextEquality

@@ -1,25 +1,46 @@
 -- Turn after turn: what is left of a chain.
-use Rattle.std.proofs.Common.{◌≡◌, ◌+◌, ◌&&◌, not, ℕ, Bool, true, false, refl, ap, sym, ◌∙◌, arith}
-use Rattle.h5_interface.specs.SinkRules.{SinkRules}
+use Rattle.std.proofs.Common.{◌≡◌, ◌≢◌, ◌+◌, ◌&&◌, not, List, ℕ, Bool, true, false, refl, ap, sym, subst, ◌∙◌, arith}
+use Rattle.h5_names.specs.declared.qualified.QualName.{QualName}
+use Rattle.h5_token.specs.Reply.{Reply, reply}
+use Rattle.h5_token.specs.declared.sink.TokenSinkResult.{TokenSinkResult}
+use Rattle.h5_token.specs.declared.sink.TokenSinkResult.TheVariants.{Continue}
+use Rattle.h5_interface.specs.SinkChoices.{SinkChoices}
 use Rattle.h5_types.specs.TurnText.{TurnText, is_self_closing}
-use Rattle.h5_types.specs.declared.turns.ProcessResult.TheVariants.{Done, Reprocess}
-use Rattle.h5_meaning.specs.Changes.{in_mode}
+use Rattle.h5_types.specs.declared.modes.InsertionMode.{InsertionMode}
+use Rattle.h5_types.specs.declared.modes.InsertionMode.TheVariants.{AfterAfterBody, AfterBody, AfterHead, BeforeHead, BeforeHtml, InBody, InHead, Initial}
+use Rattle.h5_types.specs.declared.turns.ProcessResult.TheVariants as results
+use Rattle.h5_fits.specs.Fits.{Situation}
+use Rattle.h5_fits.specs.StageFits.{StageFits}
+use Rattle.h5_meaning.specs.Changes.{set_mode}
 use Rattle.h5_meaning.specs.Modes.{rule}
 use Rattle.h5_meaning.specs.Rows.{Follows}
 use Rattle.h5_meaning.specs.Settle.{Settled, settle}
 use Rattle.h5_meaning.specs.World.{World}
-use Rattle.h5_meaning.proofs.SettleLaws.{ends_here, goes_on}
-use Rattle.h5_tree_builder.specs.Chains.{Ran}
+use Rattle.h5_meaning.proofs.SettleLaws.{acknowledged_here, answered_here, ends_here, goes_on}
+use Rattle.h5_tree_builder.specs.Chains.{CameTo}
+use Rattle.h5_tree_builder.specs.declared.taken.Taken.{Taken}
+
+-- a mode that is reached is one of those whose rules are written
+pub unreached : (s : Situation) (m : InsertionMode) (ns : List QualName) → StageFits s m ns → m ≢ Initial → m ≢ BeforeHtml → m ≢ BeforeHead → m ≢ InHead → m ≢ AfterHead → m ≢ InBody → m ≢ AfterBody → m ≢ AfterAfterBody → ⊥
+unreached s Initial ns h a b c d e f i j = a refl
+unreached s BeforeHtml ns h a b c d e f i j = b refl
+unreached s BeforeHead ns h a b c d e f i j = c refl
+unreached s InHead ns h a b c d e f i j = d refl
+unreached s AfterHead ns h a b c d e f i j = e refl
+unreached s InBody ns h a b c d e f i j = f refl
+unreached s AfterBody ns h a b c d e f i j = i refl
+unreached s AfterAfterBody ns h a b c d e f i j = j refl
+unreached s _ ns h a b c d e f i j = h
 
 -- after so many turns: the chain of the first world ends as that of this one
-pub record Left (rules : SinkRules) (t : TurnText) (first now : World) (first_errors errors count : ℕ) : Type 0 where
-  pub world : (settle rules t first).world ≡ (settle rules t now).world
-  pub turns : (settle rules t first).turns ≡ (settle rules t now).turns + count
-  pub reply : (settle rules t first).reply ≡ (settle rules t now).reply
-  pub quiet : (settle rules t first).quiet ≡ true → ((settle rules t now).quiet ≡ true) × (errors ≡ first_errors)
+pub record Left (choices : SinkChoices) (t : TurnText) (first now : World) (first_errors errors count : ℕ) : Type 0 where
+  pub world : (settle choices t first).world ≡ (settle choices t now).world
+  pub turns : (settle choices t first).turns ≡ (settle choices t now).turns + count
+  pub reply : (settle choices t first).reply ≡ (settle choices t now).reply
+  pub quiet : (settle choices t first).quiet ≡ true → ((settle choices t now).quiet ≡ true) × (errors ≡ first_errors)
 
-pub left_all : (rules : SinkRules) (t : TurnText) (w : World) (a : ℕ) → Left rules t w w a a 0
-left_all rules t w a = record { world = refl; turns = omega arith; reply = refl; quiet = λ h. (h, refl) }
+pub left_all : (choices : SinkChoices) (t : TurnText) (w : World) (a : ℕ) → Left choices t w w a a 0
+left_all choices t w a = record { world = refl; turns = omega arith; reply = refl; quiet = λ h. (h, refl) }
 
 and_left : (a b : Bool) → (a && b) ≡ true → a ≡ true
 and_left true b h = refl
@@ -29,31 +50,42 @@ and_right : (a b : Bool) → (a && b) ≡ true → b ≡ true
 and_right true b h = h
 and_right false b h = absurd (cc)
 
--- one turn more
-pub left_next : (rules : SinkRules) (t : TurnText) (first w v u : World) (a b c n : ℕ) (m : _) (token : _) → Follows rules (rule w.mode t w) t w v b c (Reprocess m token) → u ≡ in_mode m v → Left rules t first w a b n → Left rules t first u a c (n + 1)
-left_next rules t first w v u a b c n m token f i l =
-    let r = rule w.mode t w in
-    let e = goes_on rules t w v u b c m token f i in
-    record {
-      world = l.world ∙ ap (λ (s : Settled). s.world) e;
-      turns = omega (arith, l.turns, ap (λ (s : Settled). s.turns) e);
-      reply = l.reply ∙ ap (λ (s : Settled). s.reply) e;
-      quiet = λ h. let k = l.quiet h in let q = sym (ap (λ (s : Settled). s.quiet) e) ∙ k.0 in
-          (and_right r.quiet (settle rules t u).quiet q, f.quiet (and_left r.quiet (settle rules t u).quiet q) ∙ k.1);
-    }
+module _ {H : Type 0} (choices : SinkChoices) (node : H → ℕ) (t : TurnText) (first w v : World) where
+  -- one turn more
+  pub left_next : (u : World) (a b c n : ℕ) (m : _) (token : _) → Follows choices node (rule w.mode t w) t w v b c (results.Reprocess m token) → u ≡ set_mode m v → Left choices t first w a b n → Left choices t first u a c (n + 1)
+  left_next u a b c n m token f i l =
+      let r = rule w.mode t w in
+      let e = goes_on choices node t w v u b c m token f i in
+      record {
+        world = l.world ∙ ap (λ (s : Settled). s.world) e;
+        turns = omega (arith, l.turns, ap (λ (s : Settled). s.turns) e);
+        reply = l.reply ∙ ap (λ (s : Settled). s.reply) e;
+        quiet = λ h. let k = l.quiet h in let q = sym (ap (λ (s : Settled). s.quiet) e) ∙ k.0 in
+            (and_right r.quiet (settle choices t u).quiet q, f.quiet (and_left r.quiet (settle choices t u).quiet q) ∙ k.1);
+      }
 
--- the last turn
-pub left_last : (rules : SinkRules) (t : TurnText) (first w v : World) (a b c n : ℕ) → Follows rules (rule w.mode t w) t w v b c Done → Left rules t first w a b n → Ran rules t first v a c (n + 1)
-left_last rules t first w v a b c n f l =
-    let r = rule w.mode t w in
-    let e = ends_here rules t w v b c f in
-    let q : (settle rules t w).quiet ≡ (r.quiet && not (is_self_closing t)) = ap (λ (s : Settled). s.quiet) e in
-    record {
-      settles = record {
+  -- the last turn, where no error is told after it but if the chain isn't quiet
+  last : (a b c d n : ℕ) (answer : TokenSinkResult H) (q : Bool) → settle choices t w ≡ record { world = v; turns = 1; reply = reply node answer; quiet = (rule w.mode t w).quiet && q } → ((rule w.mode t w).quiet ≡ true → c ≡ b) → (q ≡ true → d ≡ c)
+      → Left choices t first w a b n → CameTo node (settle choices t first) true v a d (record { turns = n + 1; answer = answer })
+  last a b c d n answer q e quiet flag l =
+      let r = rule w.mode t w in
+      let tells : (settle choices t w).quiet ≡ (r.quiet && q) = ap (λ (s : Settled). s.quiet) e in
+      record {
         world = sym (l.world ∙ ap (λ (s : Settled). s.world) e);
         turns = λ h. omega (arith, l.turns, ap (λ (s : Settled). s.turns) e);
-        reply = l.reply ∙ ap (λ (s : Settled). s.reply) e;
-        quiet = λ h. let k = l.quiet h in f.quiet (and_left r.quiet (not (is_self_closing t)) (sym q ∙ k.0)) ∙ k.1;
-      };
-      flag = λ h. and_right r.quiet (not (is_self_closing t)) (sym q ∙ (l.quiet h).0);
-    }
+        reply = sym (l.reply ∙ ap (λ (s : Settled). s.reply) e);
+        quiet = λ h. let k = l.quiet h in let both = sym tells ∙ k.0 in flag (and_right r.quiet q both) ∙ quiet (and_left r.quiet q both) ∙ k.1;
+      }
+
+  not_true : (b : Bool) → not b ≡ true → b ≡ false
+  not_true true h = absurd (cc)
+  not_true false h = refl
+
+  pub done_last : (a b c d n : ℕ) (flag : Bool) → Follows choices node (rule w.mode t w) t w v b c results.Done → flag ≡ is_self_closing t → (flag ≡ false → d ≡ c) → Left choices t first w a b n → CameTo node (settle choices t first) true v a d (record { turns = n + 1; answer = Continue })
+  done_last a b c d n flag f is told l = last a b c d n Continue (not (is_self_closing t)) (ends_here choices node t w v b c f) f.quiet (λ h. told (is ∙ not_true (is_self_closing t) h)) l
+
+  pub acknowledged_last : (a b c n : ℕ) → Follows choices node (rule w.mode t w) t w v b c results.DoneAckSelfClosing → Left choices t first w a b n → CameTo node (settle choices t first) true v a c (record { turns = n + 1; answer = Continue })
+  acknowledged_last a b c n f l = last a b c c n Continue true (acknowledged_here choices node t w v b c f) f.quiet (λ h. refl) l
+
+  pub answered_last : (a b c n : ℕ) (answer : TokenSinkResult H) → Follows choices node (rule w.mode t w) t w v b c (results.Answer answer) → Left choices t first w a b n → CameTo node (settle choices t first) true v a c (record { turns = n + 1; answer = answer })
+  answered_last a b c n answer f l = last a b c c n answer true (answered_here choices node t w v b c answer f) f.quiet (λ h. refl) l

@@ -1,9 +1,10 @@
 -- Popping all open elements.
 use Rattle.std.proofs.Common.{◌≡◌, ◌<◌, ℕ, List, [], ◌∷◌, length, refl, ap, sym, ◌∙◌, arith}
 use Rattle.h5_interface.specs.Seen.{Seen}
-use Rattle.h5_interface.specs.SinkRules.{SinkRules}
+use Rattle.h5_interface.specs.SinkChoices.{SinkChoices}
 use Rattle.h5_meaning.specs.Changes.{pop}
-use Rattle.h5_meaning.specs.World.{World, but_first}
+use Rattle.h5_meaning.specs.World.{World}
+use Rattle.h5_stack.specs.Order.{but_first}
 use Rattle.h5_state.specs.View.{world}
 use Rattle.h5_state.specs.declared.state.State.{State}
 use Rattle.h5_state.proofs.AttributeLaws.{open_length}
@@ -22,13 +23,13 @@ pub none_open : (w : World) → length w.stack ≡ 0 → w.stack ≡ []
 none_open w e = none_left w.stack e
 
 -- one element less
-pub pop_next : (rules : SinkRules) (w : World) → 0 < length w.stack → all_popped rules (pop rules w) ≡ all_popped rules w
+pub pop_next : (choices : SinkChoices) (w : World) → 0 < length w.stack → all_popped choices (pop choices w) ≡ all_popped choices w
 unfolding pop
-pop_next rules w some = at w.stack refl
+pop_next choices w some = at w.stack refl
   where
-    at : (s : List ℕ) → w.stack ≡ s → pop_each rules (pop rules w).stack (pop rules w) ≡ pop_each rules w.stack w
+    at : (s : List ℕ) → w.stack ≡ s → pop_each choices (pop choices w).stack (pop choices w) ≡ pop_each choices w.stack w
     at [] e = absurd (omega (arith, some, ap length e))
-    at (n ∷ s) e = ap (λ x. pop_each rules (but_first x) (pop rules w)) e ∙ sym (ap (λ x. pop_each rules x w) e)
+    at (n ∷ s) e = ap (λ x. pop_each choices (but_first x) (pop choices w)) e ∙ sym (ap (λ x. pop_each choices x w) e)
 
-pub popped_all : (rules : SinkRules) (w : World) → w.stack ≡ [] → all_popped rules w ≡ w
-popped_all rules w e = ap (λ s. pop_each rules s w) e
+pub popped_all : (choices : SinkChoices) (w : World) → w.stack ≡ [] → all_popped choices w ≡ w
+popped_all choices w e = ap (λ s. pop_each choices s w) e

@@ -1,22 +1,59 @@
 -- A list of tokens, taken one after the other.
-use Rattle.std.proofs.Common.{◌≡◌, ◌&&◌, ◌++◌, Bool, true, false, List, [], ◌∷◌, refl, ap, sym, subst, ◌∙◌, append_assoc}
-use Rattle.h5_token.specs.Reply.{Reply}
+use Rattle.std.proofs.Common.{◌≡◌, ℕ, ◌&&◌, ◌++◌, Bool, true, false, List, [], ◌∷◌, refl, ap, sym, subst, ◌∙◌, append_assoc}
+use Rattle.h5_token.specs.Reply.{Refuses, Reply}
 use Rattle.h5_token.specs.TokenText.{TokenText}
-use Rattle.h5_interface.specs.SinkRules.{SinkRules}
-use Rattle.h5_meaning.specs.Run.{View, after_all, after_token, all_quiet, is_quiet, replies, reply_to}
-use Rattle.h5_meaning.proofs.RunLaws.{cuts_agree}
+use Rattle.h5_token.specs.declared.fault.BuildFault.{BuildFault}
+use Rattle.h5_interface.specs.SinkChoices.{SinkChoices}
+use Rattle.h5_meaning.specs.Run.{CountsTurns, Took, Turns, Untold, View, WasRefused, after_all, after_token, all_quiet, is_counted, is_quiet, last_turns, later_turns, refusal, replies, reply_to, run, step, take_or_refuse, tell, tell_or_refuse, told_all, told_of}
+use Rattle.h5_meaning.specs.Settle.{Settled}
+use Rattle.h5_meaning.proofs.RunLaws.{cuts_agree, is_taken}
 use Rattle.h5_plain.specs.Rebuilding.{AllContinue, DocumentStands, IsStart}
 use Rattle.h5_plain.proofs.WholeLaws.{rebuilds_all}
-use Rattle.h5_tree_builder.specs.Builder.{Building, RanAll, RebuildsPlain, Replied}
+use Rattle.h5_tree_builder.specs.Builder.{Answered, Building, RanAll, Refused, RebuildsPlain, Replied}
+
+-- a token that was answered or refused was replied to
+turns_told : (counted : Bool) (s : Settled) (old new : ℕ) → (counted ≡ true → new ≡ s.turns) → CountsTurns (tell counted s).turns old new
+turns_told true s old new h = h refl
+turns_told false s old new h = tt
+
+pub replied : (choices : SinkChoices) (t : TokenText) (old new : Building) (answer : Reply) → Answered choices t old new answer → Replied choices t old new answer
+replied choices t old new answer a = record {
+  view = a.view;
+  told = a.reply;
+  turns = subst (λ o. CountsTurns (tell_or_refuse choices t o old.view).turns old.turns new.turns) (sym (is_taken old.view t a.working a.unended))
+      (turns_told (is_counted t old.view.world) (step choices t old.view.world) old.turns new.turns a.turns);
+  quiet = a.quiet;
+}
+
+pub refused : (choices : SinkChoices) (t : TokenText) (old new : Building) (fault : BuildFault) → Refused t old new fault → Replied choices t old new (Refuses fault)
+refused choices t old new fault r = record {
+  view = ap (λ (b : Building). b.view) r.same ∙ sym (ap (λ o. take_or_refuse choices t o old.view) r.due);
+  told = sym (ap (λ o. (tell_or_refuse choices t o old.view).reply) r.due);
+  turns = subst (λ o. CountsTurns (tell_or_refuse choices t o old.view).turns old.turns new.turns) (sym r.due) (ap (λ (b : Building). b.turns) r.same);
+  quiet = λ h. ap (λ (b : Building). b.errors) r.same;
+}
+
+-- a count after two tokens
+counts_later : (before next : Turns) (old now new : ℕ) → CountsTurns before old now → CountsTurns next now new → CountsTurns (later_turns before next) old new
+counts_later before WasRefused old now new a b = subst (λ n. CountsTurns before old n) (sym b) a
+counts_later before (Took count) old now new a b = b
+counts_later before Untold old now new a b = tt
+
+-- what was counted so far, and what is still counted, come to what is counted of all
+pub record Counted (choices : SinkChoices) (all left : List TokenText) (old now : Building) : Type 0 where
+  pub before : Turns
+  pub counts : CountsTurns before old.turns now.turns
+  pub whole : last_turns before (told_all choices left now.view) ≡ last_turns WasRefused (told_all choices all old.view)
 
 -- after some tokens: what is still to come gives what was to come at first
-pub record Onward (rules : SinkRules) (all left : List TokenText) (old now : Building) (answers : List Reply) : Type 0 where
-  pub view : after_all rules left now.view ≡ after_all rules all old.view
-  pub told : answers ++ replies rules left now.view ≡ replies rules all old.view
-  pub quiet : all_quiet rules all old.view ≡ true → (all_quiet rules left now.view ≡ true) × (now.errors ≡ old.errors)
+pub record Onward (choices : SinkChoices) (all left : List TokenText) (old now : Building) (answers : List Reply) : Type 0 where
+  pub view : after_all choices left now.view ≡ after_all choices all old.view
+  pub told : answers ++ replies choices left now.view ≡ replies choices all old.view
+  pub turns : Counted choices all left old now
+  pub quiet : all_quiet choices all old.view ≡ true → (all_quiet choices left now.view ≡ true) × (now.errors ≡ old.errors)
 
-pub onward_first : (rules : SinkRules) (all : List TokenText) (old : Building) → Onward rules all all old old []
-onward_first rules all old = record { view = refl; told = refl; quiet = λ h. (h, refl) }
+pub onward_first : (choices : SinkChoices) (all : List TokenText) (old : Building) → Onward choices all all old old []
+onward_first choices all old = record { view = refl; told = refl; turns = record { before = WasRefused; counts = refl; whole = refl }; quiet = λ h. (h, refl) }
 
 both_left : (a b : Bool) → (a && b) ≡ true → a ≡ true
 both_left true b h = refl
@@ -27,19 +64,24 @@ both_right true b h = h
 both_right false b h = absurd (cc)
 
 -- one token more
-pub onward_next : (rules : SinkRules) (all rest : List TokenText) (t : TokenText) (old now new : Building) (answers : List Reply) (answer : Reply) → Replied rules t now new answer → Onward rules all (t ∷ rest) old now answers → Onward rules all rest old new (answers ++ answer ∷ [])
-unfolding after_all replies all_quiet
-onward_next rules all rest t old now new answers answer r o =
+pub onward_next : (choices : SinkChoices) (all rest : List TokenText) (t : TokenText) (old now new : Building) (answers : List Reply) (answer : Reply) → Replied choices t now new answer → Onward choices all (t ∷ rest) old now answers → Onward choices all rest old new (answers ++ answer ∷ [])
+unfolding run
+onward_next choices all rest t old now new answers answer r o =
     let v = now.view in
     record {
-      view = ap (after_all rules rest) r.view ∙ o.view;
-      told = append_assoc answers (answer ∷ []) (replies rules rest new.view)
-          ∙ ap (λ x. answers ++ x ∷ replies rules rest new.view) r.told
-          ∙ ap (λ x. answers ++ reply_to rules t v ∷ replies rules rest x) r.view
+      view = ap (after_all choices rest) r.view ∙ o.view;
+      told = append_assoc answers (answer ∷ []) (replies choices rest new.view)
+          ∙ ap (λ x. answers ++ x ∷ replies choices rest new.view) r.told
+          ∙ ap (λ x. answers ++ reply_to choices t v ∷ replies choices rest x) r.view
           ∙ o.told;
+      turns = record {
+        before = later_turns o.turns.before (told_of choices t v).turns;
+        counts = counts_later o.turns.before (told_of choices t v).turns old.turns now.turns new.turns o.turns.counts r.turns;
+        whole = ap (λ x. last_turns (later_turns o.turns.before (told_of choices t v).turns) (told_all choices rest x)) r.view ∙ o.turns.whole;
+      };
       quiet = λ h. let k = o.quiet h in (
-        ap (all_quiet rules rest) r.view ∙ both_right (is_quiet rules t v) (all_quiet rules rest (after_token rules t v)) k.0,
-        r.quiet (both_left (is_quiet rules t v) (all_quiet rules rest (after_token rules t v)) k.0) ∙ k.1,
+        ap (all_quiet choices rest) r.view ∙ both_right (is_quiet choices t v) (all_quiet choices rest (after_token choices t v)) k.0,
+        r.quiet (both_left (is_quiet choices t v) (all_quiet choices rest (after_token choices t v)) k.0) ∙ k.1,
       );
     }
 
@@ -48,24 +90,25 @@ append_none [] = refl
 append_none (x ∷ xs) = ap (λ z. x ∷ z) (append_none xs)
 
 -- no token is left
-pub onward_last : (rules : SinkRules) (all : List TokenText) (old now : Building) (answers : List Reply) → Onward rules all [] old now answers → RanAll rules all old now answers
-unfolding after_all replies
-onward_last rules all old now answers o =
-    let told : answers ≡ replies rules all old.view = sym (append_none answers) ∙ o.told in
-    let agree = cuts_agree rules all old.view in
+pub onward_last : (choices : SinkChoices) (all : List TokenText) (old now : Building) (answers : List Reply) → Onward choices all [] old now answers → RanAll choices all old now answers
+unfolding run
+onward_last choices all old now answers o =
+    let told : answers ≡ replies choices all old.view = sym (append_none answers) ∙ o.told in
+    let agree = cuts_agree choices all old.view in
     record {
       view = o.view;
       told = told;
+      turns = subst (λ x. CountsTurns x old.turns now.turns) o.turns.whole o.turns.counts;
       quiet = λ h. (o.quiet h).1;
       joined = o.view ∙ agree.views;
       spread = told ∙ agree.replies;
     }
 
 -- a plain document is rebuilt
-pub rebuilds_plain : (rules : SinkRules) (ts : List TokenText) (old new : Building) (answers : List Reply) → RanAll rules ts old new answers → RebuildsPlain ts old new answers
-rebuilds_plain rules ts old new answers r d seen holds same j =
+pub rebuilds_plain : (choices : SinkChoices) (ts : List TokenText) (old new : Building) (answers : List Reply) → RanAll choices ts old new answers → RebuildsPlain ts old new answers
+rebuilds_plain choices ts old new answers r d seen holds same j =
     let start : IsStart old.view.world = subst (λ (b : Building). IsStart b.view.world) (sym same) (record { holds = holds; options = refl; mode = refl; none_open = refl; ignore_lf = refl }) in
-    let all = rebuilds_all rules ts old.view d start (ap (λ (b : Building). b.view.ended) same) (ap (λ (b : Building). b.view.failed) same) j in
+    let all = rebuilds_all choices ts old.view d start (ap (λ (b : Building). b.view.ended) same) (ap (λ (b : Building). b.view.failed) same) j in
     record {
       stands = subst (λ (v : View). DocumentStands v.world.forest d) (sym r.view) all.stands;
       quirks = ap (λ (v : View). v.world.seen_quirks) r.view ∙ all.quirks;

@@ -8,7 +8,7 @@ use Rattle.h5_token.specs.declared.fault.BuildFault.{BuildFault}
 use Rattle.h5_token.specs.declared.fault.BuildFault.TheVariants.{Memory, AfterEnd, NotInText, Failed}
 use Rattle.h5_token.specs.declared.sink.TokenSinkResult.{TokenSinkResult}
 use Rattle.h5_interface.specs.Seen.{Seen}
-use Rattle.h5_interface.specs.SinkRules.{SinkRules}
+use Rattle.h5_interface.specs.SinkChoices.{SinkChoices}
 use Rattle.h5_interface.specs.declared.marks.QuirksMode.TheVariants.{NoQuirks}
 use Rattle.h5_tag_sets.specs.TagSets.{html_namespace}
 use Rattle.h5_types.specs.Options.{default_options}
@@ -17,12 +17,12 @@ use Rattle.h5_types.specs.declared.options.TreeBuilderOpts.{TreeBuilderOpts}
 use Rattle.h5_meaning.specs.Changes.{pop}
 use Rattle.h5_token.specs.Joins.{join}
 use Rattle.h5_meaning.specs.Cuts.{spread}
-use Rattle.h5_meaning.specs.Run.{View, after_all, after_token, all_quiet, is_quiet, refusal, replies, reply_to, step}
+use Rattle.h5_meaning.specs.Run.{CountsTurns, View, WasRefused, after_all, after_token, all_quiet, is_counted, is_quiet, last_turns, refusal, replies, reply_to, step, told_all, told_of}
 use Rattle.h5_meaning.specs.Sound.{Fits, Sound}
 use Rattle.h5_meaning.specs.World.{World, names_of}
 use Rattle.h5_plain.specs.Plain.{PlainDocument, document_tokens}
 use Rattle.h5_plain.specs.Rebuilding.{AllContinue, DocumentStands, HoldsDocument}
-use Rattle.h5_tree_builder.specs.Chains.{is_counted, is_free}
+use Rattle.h5_tree_builder.specs.Chains.{is_free}
 
 -- the view, the turns of the token that came last, and the sink's error mark
 pub record Building : Type 0 where
@@ -65,15 +65,15 @@ first_building seen opts = record {
 }
 
 -- at the end each open element is popped, from the current node on, and the sink is told
-abbrev pub pop_each : SinkRules → List ℕ → World → World
-pop_each rules [] w = w
-pop_each rules (n ∷ s) w = pop_each rules s (pop rules w)
+abbrev pub pop_each : SinkChoices → List ℕ → World → World
+pop_each choices [] w = w
+pop_each choices (n ∷ s) w = pop_each choices s (pop choices w)
 
-abbrev pub all_popped : SinkRules → World → World
-all_popped rules w = pop_each rules w.stack w
+abbrev pub all_popped : SinkChoices → World → World
+all_popped choices w = pop_each choices w.stack w
 
-abbrev pub ended_view : SinkRules → View → View
-ended_view rules v = record v { world = all_popped rules v.world; ended = true }
+abbrev pub ended_view : SinkChoices → View → View
+ended_view choices v = record v { world = all_popped choices v.world; ended = true }
 
 -- whether an element is open, and the current one isn't in the HTML namespace
 abbrev pub is_first_foreign : List QualName → Bool
@@ -84,18 +84,18 @@ abbrev pub is_foreign_in : World → Bool
 is_foreign_in w = is_first_foreign (names_of w)
 
 -- what taking a token did: an answer, want of memory, or a refusal
-pub record Answered (rules : SinkRules) (t : TokenText) (old new : Building) (answer : Reply) : Type 0 where
-  pub view : new.view ≡ after_token rules t old.view
-  pub reply : answer ≡ reply_to rules t old.view
-  pub turns : is_counted t old.view.world ≡ true → new.turns ≡ (step rules t old.view.world).turns
+pub record Answered (choices : SinkChoices) (t : TokenText) (old new : Building) (answer : Reply) : Type 0 where
+  pub view : new.view ≡ after_token choices t old.view
+  pub reply : answer ≡ reply_to choices t old.view
+  pub turns : is_counted t old.view.world ≡ true → new.turns ≡ (step choices t old.view.world).turns
   pub few : is_counted t old.view.world ≡ true → new.turns ≤ 16 + length old.view.world.stack
-  pub quiet : is_quiet rules t old.view ≡ true → new.errors ≡ old.errors
+  pub quiet : is_quiet choices t old.view ≡ true → new.errors ≡ old.errors
   pub working : old.view.failed ≡ false
   pub unended : old.view.ended ≡ false
 
 -- the refusal that is due, and nothing has changed
-pub record Refused (old new : Building) (fault : BuildFault) : Type 0 where
-  pub due : refusal old.view ≡ Some fault
+pub record Refused (t : TokenText) (old new : Building) (fault : BuildFault) : Type 0 where
+  pub due : refusal old.view t ≡ Some fault
   pub same : new ≡ old
 
 -- every later token is refused then
@@ -106,27 +106,29 @@ pub record OutOfMemory (t : TokenText) (old new : Building) : Type 0 where
   pub still_unended : new.view.ended ≡ false
   pub costs : is_free t old.view.world ≡ false
 
-abbrev pub Takes : {H : Type 0} → SinkRules → (H → ℕ) → TokenText → Building → Building → Result (TokenSinkResult H) BuildFault → Type 0
-Takes rules node t old new (Ok answer) = Answered rules t old new (reply node answer)
-Takes rules node t old new (Err Memory) = OutOfMemory t old new
-Takes rules node t old new (Err AfterEnd) = Refused old new AfterEnd
-Takes rules node t old new (Err NotInText) = Refused old new NotInText
-Takes rules node t old new (Err Failed) = Refused old new Failed
+abbrev pub Takes : {H : Type 0} → SinkChoices → (H → ℕ) → TokenText → Building → Building → Result (TokenSinkResult H) BuildFault → Type 0
+Takes choices node t old new (Ok answer) = Answered choices t old new (reply node answer)
+Takes choices node t old new (Err Memory) = OutOfMemory t old new
+Takes choices node t old new (Err AfterEnd) = Refused t old new AfterEnd
+Takes choices node t old new (Err NotInText) = Refused t old new NotInText
+Takes choices node t old new (Err Failed) = Refused t old new Failed
 
 -- a token of a list was taken or refused
-pub record Replied (rules : SinkRules) (t : TokenText) (old new : Building) (answer : Reply) : Type 0 where
-  pub view : new.view ≡ after_token rules t old.view
-  pub told : answer ≡ reply_to rules t old.view
-  pub quiet : is_quiet rules t old.view ≡ true → new.errors ≡ old.errors
+pub record Replied (choices : SinkChoices) (t : TokenText) (old new : Building) (answer : Reply) : Type 0 where
+  pub view : new.view ≡ after_token choices t old.view
+  pub told : answer ≡ reply_to choices t old.view
+  pub turns : CountsTurns (told_of choices t old.view).turns old.turns new.turns
+  pub quiet : is_quiet choices t old.view ≡ true → new.errors ≡ old.errors
 
--- what taking a list did: the run of the whole list, one reply for each token; and however its texts are
--- cut, the run of the list with its neighbouring texts joined, each piece of a text with the text's reply
-pub record RanAll (rules : SinkRules) (ts : List TokenText) (old new : Building) (answers : List Reply) : Type 0 where
-  pub view : new.view ≡ after_all rules ts old.view
-  pub told : answers ≡ replies rules ts old.view
-  pub quiet : all_quiet rules ts old.view ≡ true → new.errors ≡ old.errors
-  pub joined : new.view ≡ after_all rules (join ts) old.view
-  pub spread : answers ≡ spread ts (replies rules (join ts) old.view)
+-- what taking a list did: the run of the whole list, one reply for each token, and the turns of the last that was taken;
+-- and however its texts are cut, the run of the list with its neighbouring texts joined, each piece of a text with the text's reply
+pub record RanAll (choices : SinkChoices) (ts : List TokenText) (old new : Building) (answers : List Reply) : Type 0 where
+  pub view : new.view ≡ after_all choices ts old.view
+  pub told : answers ≡ replies choices ts old.view
+  pub turns : CountsTurns (last_turns WasRefused (told_all choices ts old.view)) old.turns new.turns
+  pub quiet : all_quiet choices ts old.view ≡ true → new.errors ≡ old.errors
+  pub joined : new.view ≡ after_all choices (join ts) old.view
+  pub spread : answers ≡ spread ts (replies choices (join ts) old.view)
 
 -- a plain document was rebuilt: it stands in the forest, in no quirks, every answer was "go on", and no parse
 -- error was told

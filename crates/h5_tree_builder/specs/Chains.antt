@@ -1,44 +1,38 @@
 -- What code that lets turns follow each other did.
-use Rattle.std.specs.Prelude.{◌≡◌, ℕ, Bool, true, false, not, List, [], ◌∷◌}
-use Rattle.h5_token.specs.Reply.{Continues}
-use Rattle.h5_interface.specs.SinkRules.{SinkRules}
-use Rattle.h5_types.specs.TurnText.{TurnText, is_self_closing}
+use Rattle.std.specs.Prelude.{◌≡◌, ℕ, Bool, true, false, List, [], ◌∷◌, Result, IfOk, OnOk}
+use Rattle.std.specs.declared.alloc.AllocError.{AllocError}
+use Rattle.h5_token.specs.Reply.{reply}
 use Rattle.h5_token.specs.TokenText.{TokenText, Characters, ParseErrorIs}
-use Rattle.h5_meaning.specs.Run.{step, without_lf}
-use Rattle.h5_meaning.specs.Settle.{Settled, settle}
+use Rattle.h5_interface.specs.declared.sink.TreeSink.{Ghosts}
+use Rattle.h5_meaning.specs.Run.{is_empty_text, without_lf}
+use Rattle.h5_meaning.specs.Settle.{Settled}
+use Rattle.h5_meaning.specs.Sound.{Fits}
 use Rattle.h5_meaning.specs.World.{World}
+use Rattle.h5_state.specs.Steps.{IsSound, errors_of, world_of}
+use Rattle.h5_state.specs.declared.state.State.{State}
+use Rattle.h5_tree_builder.specs.declared.taken.Taken.{Taken}
 
--- code came to this: the world, the turns where they are told, the answer, and no error where none is told
-pub record Comes (s : Settled) (counted : Bool) (new : World) (old_errors new_errors count : ℕ) : Type 0 where
+-- a token may be taken: what holds at every moment, and what the mode tells
+pub record IsReady {S H O : Type 0} (law : Ghosts S H O) (sink : S) (state : State H) : Type 0 where
+  pub sound : IsSound law sink state
+  pub fits : Fits (world_of law sink state)
+
+-- a token came to what is defined: the world, the turns where they are told, the answer, and no error where none is
+-- told
+pub record CameTo {H : Type 0} (node : H → ℕ) (s : Settled) (counted : Bool) (new : World) (old_errors new_errors : ℕ) (taken : Taken H) : Type 0 where
   pub world : new ≡ s.world
-  pub turns : counted ≡ true → count ≡ s.turns
-  pub reply : s.reply ≡ Continues
+  pub turns : counted ≡ true → taken.turns ≡ s.turns
+  pub reply : reply node taken.answer ≡ s.reply
   pub quiet : s.quiet ≡ true → new_errors ≡ old_errors
 
--- a turn's token settled
-abbrev pub Settles : SinkRules → TurnText → (old new : World) → (old_errors new_errors count : ℕ) → Type 0
-Settles rules t old new old_errors new_errors count = Comes (settle rules t old) true new old_errors new_errors count
-
--- the turns of a text aren't told, unless it is empty: they depend on how it is cut
-abbrev pub is_empty_text : List ℕ → Bool
-is_empty_text [] = true
-is_empty_text (b ∷ t) = false
-
-abbrev pub is_counted : TokenText → World → Bool
-is_counted (Characters text) w = is_empty_text (without_lf w.ignore_lf text)
-is_counted _ w = true
+-- so it did, unless memory was refused; what there is then is sound, too
+pub record Settles {S H O : Type 0} (law : Ghosts S H O) (defined : World → Settled) (counted : Bool) (old_sink : S) (old_state : State H) (new_sink : S) (new_state : State H) (result : Result (Taken H) AllocError) : Type 0 where
+  pub came : IfOk result (λ r. CameTo law.node (defined (world_of law old_sink old_state)) counted (world_of law new_sink new_state) (errors_of law old_sink) (errors_of law new_sink) r)
+  pub sound : IsSound law new_sink new_state
+  pub fits : OnOk result (Fits (world_of law new_sink new_state))
 
 -- a parse error, and a text that is or becomes empty, take no memory
 abbrev pub is_free : TokenText → World → Bool
 is_free (Characters text) w = is_empty_text (without_lf w.ignore_lf text)
 is_free (ParseErrorIs message) w = true
 is_free _ w = false
-
--- a token was taken
-abbrev pub Steps : SinkRules → TokenText → (old new : World) → (old_errors new_errors count : ℕ) → Type 0
-Steps rules t old new old_errors new_errors count = Comes (step rules t old) (is_counted t old) new old_errors new_errors count
-
--- the same before the flag of a self-closing tag is looked at, which the chain tells an error of
-pub record Ran (rules : SinkRules) (t : TurnText) (old new : World) (old_errors new_errors count : ℕ) : Type 0 where
-  pub settles : Settles rules t old new old_errors new_errors count
-  pub flag : (settle rules t old).quiet ≡ true → not (is_self_closing t) ≡ true

@@ -7,7 +7,7 @@ ghost use Rattle.h5_tree_builder.specs.Builder.{Takes, ended_view, first_buildin
 
 use super::end::pop_all;
 use super::first::first_state;
-use super::take::{note_line, take_token};
+use super::process_token::{note_line, take_token};
 use h5_interface::TreeSink;
 use h5_state::State;
 use h5_token::{BuildFault, Token, TokenSinkResult};
@@ -67,7 +67,7 @@ impl<Handle: Drop, Sink: TreeSink<Handle = Handle> + Drop> TreeBuilder<Handle, S
         token: Token,
         line_number: u64,
     ) -> Result<TokenSinkResult<Handle>, BuildFault>
-        ensures takes { Takes Sink.rules Sink.node (token_text token) (building Sink.sees Sink.node self.old) (building Sink.sees Sink.node self.new) result }
+        ensures takes { Takes Sink.choices Sink.node (token_text token) (building Sink.sees Sink.node self.old) (building Sink.sees Sink.node self.new) result }
         ensures sound { Sound (building Sink.sees Sink.node self.new).view.world }
     {
         if self.failed {
@@ -78,15 +78,16 @@ impl<Handle: Drop, Sink: TreeSink<Handle = Handle> + Drop> TreeBuilder<Handle, S
         }
         note_line(&mut self.sink, &self.state, line_number);
         self.failed = true;
-        self.turns = take_token(&mut self.sink, &mut self.state, token)?;
+        let taken = take_token(&mut self.sink, &mut self.state, token)?;
+        self.turns = taken.turns;
         self.failed = false;
-        Ok(TokenSinkResult::Continue)
+        Ok(taken.answer)
     }
 
     /// Takes note that no token comes any more: all open elements are popped, from the current node on,
     /// and the sink is told of each. Where it was called before, nothing is left to do.
     pub fn end(&mut self)
-        ensures view { (building Sink.sees Sink.node self.new).view ≡ ended_view Sink.rules (building Sink.sees Sink.node self.old).view }
+        ensures view { (building Sink.sees Sink.node self.new).view ≡ ended_view Sink.choices (building Sink.sees Sink.node self.old).view }
         ensures turns { self.new.turns ≡ self.old.turns }
         ensures quiet { (building Sink.sees Sink.node self.new).errors ≡ (building Sink.sees Sink.node self.old).errors }
     {

@@ -2,13 +2,13 @@
 ghost use Rattle.std.specs.Prelude.{◌≡◌, ℕ, List, [], Option, Some, None, true, IfOk, OnOk, option_map, string_bytes, unwrap_or};
 ghost use Rattle.h5_token.specs.TokenText.{doctype_text};
 ghost use Rattle.h5_meaning.specs.Run.{doctype_in, is_good_doctype, is_html_text, is_missing, judged, quirks_of, with_doctype};
-ghost use Rattle.h5_meaning.specs.Sound.{Fits, Sound};
-ghost use Rattle.h5_state.specs.View.{world};
-ghost use Rattle.h5_tree_builder.specs.Chains.{Comes};
+ghost use Rattle.h5_state.specs.Steps.{IsSound, TellsErrors, errors_of, world_of};
+ghost use Rattle.h5_tree_builder.specs.Chains.{IsReady, Settles};
 
+use super::taken::Taken;
 use h5_interface::{QuirksMode, TreeSink};
 use h5_state::{State, current_mode, set_mode, set_quirks_mode, tell_error};
-use h5_token::Doctype;
+use h5_token::{Doctype, TokenSinkResult};
 use h5_types::InsertionMode;
 use std::alloc::{AllocError, Global};
 
@@ -47,10 +47,10 @@ fn append_doctype<S: TreeSink>(
     state: &State<S::Handle>,
     doctype: Doctype,
 ) -> Result<(), AllocError>
-    requires sound { Sound (world S.sees S.node sink.old state.now) }
-    ensures done { OnOk result (world S.sees S.node sink.new state.now ≡ with_doctype S.rules (doctype_text doctype) (world S.sees S.node sink.old state.now)) }
-    ensures quiet { (S.sees sink.new).errors ≡ (S.sees sink.old).errors }
-    ensures sound { Sound (world S.sees S.node sink.new state.now) }
+    requires sound { IsSound S.TreeSink sink.old state.now }
+    ensures done { OnOk result (world_of S.TreeSink sink.new state.now ≡ with_doctype S.choices (doctype_text doctype) (world_of S.TreeSink sink.old state.now)) }
+    ensures quiet { errors_of S.TreeSink sink.new ≡ errors_of S.TreeSink sink.old }
+    ensures sound { IsSound S.TreeSink sink.new state.now }
 {
     if state.opts.drop_doctype {
         return Ok(());
@@ -78,7 +78,7 @@ fn exact_bad<H>(state: &State<H>, doctype: &Doctype) -> Option<String> {
 }
 
 fn tell_bad<S: TreeSink>(sink: &mut S, state: &State<S::Handle>, doctype: &Doctype)
-    ensures { world S.sees S.node sink.new state.now ≡ world S.sees S.node sink.old state.now }
+    ensures { TellsErrors S.TreeSink sink.old sink.new state.now }
 {
     match exact_bad(state, doctype) {
         Some(message) => tell_error(sink, state, message.as_str()),
@@ -96,7 +96,7 @@ fn exact_late<H>(state: &State<H>) -> Option<String> {
 }
 
 fn tell_late<S: TreeSink>(sink: &mut S, state: &State<S::Handle>)
-    ensures { world S.sees S.node sink.new state.now ≡ world S.sees S.node sink.old state.now }
+    ensures { TellsErrors S.TreeSink sink.old sink.new state.now }
 {
     match exact_late(state) {
         Some(message) => tell_error(sink, state, message.as_str()),
@@ -111,10 +111,10 @@ fn judge_doctype<S: TreeSink>(
     state: &mut State<S::Handle>,
     doctype: Doctype,
 ) -> Result<(), AllocError>
-    requires sound { Sound (world S.sees S.node sink.old state.old) }
-    ensures done { OnOk result (world S.sees S.node sink.new state.new ≡ judged S.rules (doctype_text doctype) (world S.sees S.node sink.old state.old)) }
-    ensures quiet { OnOk result (is_good_doctype (doctype_text doctype) ≡ true → (S.sees sink.new).errors ≡ (S.sees sink.old).errors) }
-    ensures sound { Sound (world S.sees S.node sink.new state.new) }
+    requires sound { IsSound S.TreeSink sink.old state.old }
+    ensures done { OnOk result (world_of S.TreeSink sink.new state.new ≡ judged S.choices (doctype_text doctype) (world_of S.TreeSink sink.old state.old)) }
+    ensures quiet { OnOk result (is_good_doctype (doctype_text doctype) ≡ true → errors_of S.TreeSink sink.new ≡ errors_of S.TreeSink sink.old) }
+    ensures sound { IsSound S.TreeSink sink.new state.new }
 {
     if is_good(&doctype) {
         append_doctype(sink, state, doctype)?;
@@ -130,27 +130,30 @@ fn judge_doctype<S: TreeSink>(
     }
 }
 
-/// A doctype: at the start it is judged, elsewhere it is an error and nothing more. It takes no turn.
+/// A doctype: at the start it is judged, elsewhere it is an error and nothing more. It takes no turn. It answers an
+/// `AllocError` where memory is refused.
 pub fn take_doctype<S: TreeSink>(
     sink: &mut S,
     state: &mut State<S::Handle>,
     doctype: Doctype,
-) -> Result<u64, AllocError>
-    requires sound { Sound (world S.sees S.node sink.old state.old) }
-    requires fits { Fits (world S.sees S.node sink.old state.old) }
-    ensures done { IfOk result (λ n. Comes (doctype_in (world S.sees S.node sink.old state.old).mode S.rules (doctype_text doctype) (world S.sees S.node sink.old state.old)) true
-        (world S.sees S.node sink.new state.new) (S.sees sink.old).errors (S.sees sink.new).errors n) }
-    ensures sound { Sound (world S.sees S.node sink.new state.new) }
-    ensures fits { OnOk result (Fits (world S.sees S.node sink.new state.new)) }
+) -> Result<Taken<S::Handle>, AllocError>
+    requires { IsReady S.TreeSink sink.old state.old }
+    ensures { Settles S.TreeSink (doctype_in (world_of S.TreeSink sink.old state.old).mode S.choices (doctype_text doctype)) true sink.old state.old sink.new state.new result }
 {
     match current_mode(sink, state) {
         InsertionMode::Initial => {
             judge_doctype(sink, state, doctype)?;
-            Ok(0)
+            Ok(Taken {
+                turns: 0,
+                answer: TokenSinkResult::Continue,
+            })
         }
         _ => {
             tell_late(sink, state);
-            Ok(0)
+            Ok(Taken {
+                turns: 0,
+                answer: TokenSinkResult::Continue,
+            })
         }
     }
 }

@@ -1,22 +1,20 @@
 //! The namespace of the adjusted current node (HTML standard, section 13.2.4.2, "The stack of open
 //! elements"). Until fragments stand that is the current node.
 ghost use Rattle.std.specs.Prelude.{◌≡◌};
-ghost use Rattle.h5_meaning.specs.Sound.{Sound};
-ghost use Rattle.h5_state.specs.View.{world};
+ghost use Rattle.h5_state.specs.Steps.{IsSound, world_of};
 ghost use Rattle.h5_tree_builder.specs.Builder.{is_foreign_in};
 
 use h5_interface::TreeSink;
-use h5_names::namespaces;
 use h5_state::State;
 
 // Whether there is a current node, and it isn't in the HTML namespace.
 #[tactic(auto, unfolding(h5_state::specs::View::world, h5_meaning::specs::World::names_of, h5_tag_sets::specs::TagSets::html_namespace))]
 pub fn is_current_foreign<S: TreeSink>(sink: &S, state: &State<S::Handle>) -> bool
-    requires sound { Sound (world S.sees S.node sink.now state.now) }
-    ensures { result ≡ is_foreign_in (world S.sees S.node sink.now state.now) }
+    requires { IsSound S.TreeSink sink.now state.now }
+    ensures { result ≡ is_foreign_in (world_of S.TreeSink sink.now state.now) }
 {
     match state.open_elems.last() {
-        Some(element) => sink.elem_name(element).ns.as_str() != namespaces::HTML,
+        Some(element) => !sink.elem_name(element).ns.is_html(),
         None => false,
     }
 }

@@ -3,16 +3,16 @@
 
 mod ask;
 mod builder;
-mod chain;
+mod dispatch;
 mod doctype;
 mod end;
 mod first;
 mod foreign;
+mod process_token;
 mod replies;
-mod take;
-mod taker;
+mod taken;
 mod text;
-mod turn;
+mod token_sink;
 mod whole;
 
 pub use builder::TreeBuilder;

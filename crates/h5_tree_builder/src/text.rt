@@ -2,15 +2,17 @@
 //! that a rule takes alike is taken at once).
 ghost use Rattle.std.specs.Prelude.{◌≡◌, ◌≢◌, [], IfOk, IsOk, OnOk, string_bytes};
 ghost use Rattle.h5_types.specs.declared.modes.InsertionMode.TheVariants.{InBody};
-ghost use Rattle.h5_meaning.specs.Run.{text_step, without_lf};
-ghost use Rattle.h5_meaning.specs.Sound.{Fits, Sound};
+ghost use Rattle.h5_meaning.specs.Run.{is_empty_text, text_step, without_lf};
+ghost use Rattle.h5_meaning.specs.Sound.{Fits};
 ghost use Rattle.h5_meaning.specs.Text.{IsRun, text_any};
-ghost use Rattle.h5_state.specs.View.{world};
-ghost use Rattle.h5_tree_builder.specs.Chains.{Comes, is_empty_text};
+ghost use Rattle.h5_state.specs.Steps.{IsSound, errors_of, world_of};
+ghost use Rattle.h5_tree_builder.specs.Chains.{IsReady, Settles};
 
-use super::chain::settle_token;
+use super::dispatch::settle_token;
+use super::taken::Taken;
 use h5_interface::TreeSink;
 use h5_state::{State, current_mode, first_run};
+use h5_token::TokenSinkResult;
 use h5_types::{SplitStatus, Token};
 use std::alloc::AllocError;
 
@@ -21,17 +23,16 @@ fn settle_run<S: TreeSink>(
     status: SplitStatus,
     run: String,
 ) -> Result<u64, AllocError>
-    requires sound { Sound (world S.sees S.node sink.old state.old) }
-    requires fits { Fits (world S.sees S.node sink.old state.old) }
+    requires ready { IsReady S.TreeSink sink.old state.old }
     requires text { string_bytes run ≢ [] }
-    requires run { IsRun (world S.sees S.node sink.old state.old).mode status (string_bytes run) }
-    ensures done { OnOk result (world S.sees S.node sink.new state.new ≡ text_any S.rules (string_bytes run) (world S.sees S.node sink.old state.old)) }
-    ensures quiet { OnOk result ((world S.sees S.node sink.old state.old).mode ≡ InBody → (S.sees sink.new).errors ≡ (S.sees sink.old).errors) }
-    ensures sound { Sound (world S.sees S.node sink.new state.new) }
-    ensures fits { OnOk result (Fits (world S.sees S.node sink.new state.new)) }
+    requires run { IsRun (world_of S.TreeSink sink.old state.old).mode status (string_bytes run) }
+    ensures done { OnOk result (world_of S.TreeSink sink.new state.new ≡ text_any S.choices (string_bytes run) (world_of S.TreeSink sink.old state.old)) }
+    ensures quiet { OnOk result ((world_of S.TreeSink sink.old state.old).mode ≡ InBody → errors_of S.TreeSink sink.new ≡ errors_of S.TreeSink sink.old) }
+    ensures sound { IsSound S.TreeSink sink.new state.new }
+    ensures fits { OnOk result (Fits (world_of S.TreeSink sink.new state.new)) }
 {
-    let turns = settle_token(sink, state, Token::Characters(status, run))?;
-    Ok(turns)
+    let taken = settle_token(sink, state, Token::Characters(status, run))?;
+    Ok(taken.turns)
 }
 
 // A text, cut into its runs.
@@ -41,12 +42,11 @@ fn process_runs<S: TreeSink>(
     state: &mut State<S::Handle>,
     text: &str,
 ) -> Result<u64, AllocError>
-    requires sound { Sound (world S.sees S.node sink.old state.old) }
-    requires fits { Fits (world S.sees S.node sink.old state.old) }
-    ensures done { OnOk result (world S.sees S.node sink.new state.new ≡ text_any S.rules text.now (world S.sees S.node sink.old state.old)) }
-    ensures quiet { OnOk result ((world S.sees S.node sink.old state.old).mode ≡ InBody → (S.sees sink.new).errors ≡ (S.sees sink.old).errors) }
-    ensures sound { Sound (world S.sees S.node sink.new state.new) }
-    ensures fits { OnOk result (Fits (world S.sees S.node sink.new state.new)) }
+    requires ready { IsReady S.TreeSink sink.old state.old }
+    ensures done { OnOk result (world_of S.TreeSink sink.new state.new ≡ text_any S.choices text.now (world_of S.TreeSink sink.old state.old)) }
+    ensures quiet { OnOk result ((world_of S.TreeSink sink.old state.old).mode ≡ InBody → errors_of S.TreeSink sink.new ≡ errors_of S.TreeSink sink.old) }
+    ensures sound { IsSound S.TreeSink sink.new state.new }
+    ensures fits { OnOk result (Fits (world_of S.TreeSink sink.new state.new)) }
 {
     let mut rest = text;
     let mut turns: u64 = 0;
@@ -66,14 +66,13 @@ fn process_text<S: TreeSink>(
     state: &mut State<S::Handle>,
     text: String,
 ) -> Result<u64, AllocError>
-    requires sound { Sound (world S.sees S.node sink.old state.old) }
-    requires fits { Fits (world S.sees S.node sink.old state.old) }
-    ensures done { OnOk result (world S.sees S.node sink.new state.new ≡ text_any S.rules (string_bytes text) (world S.sees S.node sink.old state.old)) }
-    ensures quiet { OnOk result ((world S.sees S.node sink.old state.old).mode ≡ InBody → (S.sees sink.new).errors ≡ (S.sees sink.old).errors) }
+    requires ready { IsReady S.TreeSink sink.old state.old }
+    ensures done { OnOk result (world_of S.TreeSink sink.new state.new ≡ text_any S.choices (string_bytes text) (world_of S.TreeSink sink.old state.old)) }
+    ensures quiet { OnOk result ((world_of S.TreeSink sink.old state.old).mode ≡ InBody → errors_of S.TreeSink sink.new ≡ errors_of S.TreeSink sink.old) }
     ensures free { string_bytes text ≡ [] → IsOk result }
-    ensures empty { IfOk result (λ n. string_bytes text ≡ [] → (n ≡ 0) × ((S.sees sink.new).errors ≡ (S.sees sink.old).errors)) }
-    ensures sound { Sound (world S.sees S.node sink.new state.new) }
-    ensures fits { OnOk result (Fits (world S.sees S.node sink.new state.new)) }
+    ensures empty { IfOk result (λ n. string_bytes text ≡ [] → (n ≡ 0) × (errors_of S.TreeSink sink.new ≡ errors_of S.TreeSink sink.old)) }
+    ensures sound { IsSound S.TreeSink sink.new state.new }
+    ensures fits { OnOk result (Fits (world_of S.TreeSink sink.new state.new)) }
 {
     if text.is_empty() {
         return Ok(0);
@@ -97,22 +96,22 @@ fn drop_lf(ignore_lf: bool, text: String) -> String
     text
 }
 
-/// A text that comes as a token. It gives the turns of all its runs.
+/// A text that comes as a token: it loses one newline where one is to be dropped. It gives the turns of all its
+/// runs, or an `AllocError` where memory is refused.
 pub fn take_text<S: TreeSink>(
     sink: &mut S,
     state: &mut State<S::Handle>,
     ignore_lf: bool,
     text: String,
-) -> Result<u64, AllocError>
-    requires sound { Sound (world S.sees S.node sink.old state.old) }
-    requires fits { Fits (world S.sees S.node sink.old state.old) }
-    ensures done { IfOk result (λ n. Comes (text_step S.rules (without_lf ignore_lf (string_bytes text)) (world S.sees S.node sink.old state.old))
-        (is_empty_text (without_lf ignore_lf (string_bytes text)))
-        (world S.sees S.node sink.new state.new) (S.sees sink.old).errors (S.sees sink.new).errors n) }
+) -> Result<Taken<S::Handle>, AllocError>
+    requires { IsReady S.TreeSink sink.old state.old }
+    ensures settles { Settles S.TreeSink (text_step S.choices (without_lf ignore_lf (string_bytes text))) (is_empty_text (without_lf ignore_lf (string_bytes text))) sink.old state.old sink.new state.new result }
     ensures free { without_lf ignore_lf (string_bytes text) ≡ [] → IsOk result }
-    ensures sound { Sound (world S.sees S.node sink.new state.new) }
-    ensures fits { OnOk result (Fits (world S.sees S.node sink.new state.new)) }
 {
     let text = drop_lf(ignore_lf, text);
-    process_text(sink, state, text)
+    let turns = process_text(sink, state, text)?;
+    Ok(Taken {
+        turns,
+        answer: TokenSinkResult::Continue,
+    })
 }

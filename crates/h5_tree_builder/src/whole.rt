@@ -14,7 +14,7 @@ use h5_token::{BuildFault, Token};
 impl<Handle: Drop, Sink: TreeSink<Handle = Handle> + Drop> TreeBuilder<Handle, Sink> {
     // What is answered to a token, with a refusal as an answer.
     fn reply(&mut self, token: Token, line_number: u64) -> Result<Reply<Handle>, BuildFault>
-        ensures done { IfOk result (λ r. Replied Sink.rules (token_text token) (building Sink.sees Sink.node self.old) (building Sink.sees Sink.node self.new) (reply_text Sink.node r)) }
+        ensures done { IfOk result (λ r. Replied Sink.choices (token_text token) (building Sink.sees Sink.node self.old) (building Sink.sees Sink.node self.new) (reply_text Sink.node r)) }
         ensures memory { OnErr result (result ≡ Err BuildFault.Memory) }
         ensures failed { OnErr result (self.new.failed ≡ true) }
         ensures sound { Sound (building Sink.sees Sink.node self.new).view.world }
@@ -42,7 +42,7 @@ impl<Handle: Drop, Sink: TreeSink<Handle = Handle> + Drop> TreeBuilder<Handle, S
         &mut self,
         tokens: Vec<(Token, u64)>,
     ) -> Result<Vec<Reply<Handle>>, BuildFault>
-        ensures run { IfOk result (λ rs. RanAll Sink.rules (token_texts tokens.items) (building Sink.sees Sink.node self.old) (building Sink.sees Sink.node self.new) (reply_texts Sink.node rs.items)) }
+        ensures run { IfOk result (λ rs. RanAll Sink.choices (token_texts tokens.items) (building Sink.sees Sink.node self.old) (building Sink.sees Sink.node self.new) (reply_texts Sink.node rs.items)) }
         ensures rebuilds { IfOk result (λ rs. RebuildsPlain (token_texts tokens.items) (building Sink.sees Sink.node self.old) (building Sink.sees Sink.node self.new) (reply_texts Sink.node rs.items)) }
         ensures refused { (building Sink.sees Sink.node self.old).view.failed ≡ true → (result ≡ Err BuildFault.Failed) × (self.new ≡ self.old) }
         ensures failed { OnErr result ((building Sink.sees Sink.node self.new).view.failed ≡ true) }

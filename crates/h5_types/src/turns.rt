@@ -1,6 +1,6 @@
 //! What takes turns, and how a turn ends.
 use super::modes::{InsertionMode, SplitStatus};
-use h5_token::Tag;
+use h5_token::{Tag, TokenSinkResult};
 
 /// A token that takes turns: all but doctypes, parse errors and empty texts.
 #[derive(Drop)]
@@ -13,11 +13,15 @@ pub enum Token {
     Eof,
 }
 
-/// How a turn ends.
+/// How a turn ends (HTML standard, section 13.2.6, "Tree construction").
 #[derive(Drop)]
-pub enum ProcessResult {
+pub enum ProcessResult<Handle> {
     /// The token is done with.
     Done,
+    /// The token is done with, and its self-closing flag was acknowledged.
+    DoneAckSelfClosing,
     /// The token takes another turn, in this mode.
     Reprocess(InsertionMode, Token),
+    /// The token is done with, and this is answered to it.
+    Answer(TokenSinkResult<Handle>),
 }

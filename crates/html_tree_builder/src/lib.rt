@@ -5,11 +5,15 @@
 //! ```
 #![tactic(auto)]
 
+pub mod laws;
+
 pub use h5_arena as arena;
 pub use h5_driver as driver;
 pub use h5_interface as interface;
 pub use h5_names as names;
 pub use h5_serialize as serialize;
+pub use h5_tag_sets as tag_sets;
 pub use h5_token as token;
 pub use h5_tokenizer as tokenizer;
 pub use h5_tree_builder as tree_builder;
+pub use h5_types as types;

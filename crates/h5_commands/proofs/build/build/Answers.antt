@@ -1,5 +1,5 @@
 use Rattle.std.proofs.Common.{◌≡◌, ◌++◌, ℕ, Vec, Global, ap, ◌∙◌, rules, string_bytes}
-use Rattle.h5_arena.specs.ArenaModel.{arena_rules, place, seen_of}
+use Rattle.h5_arena.specs.ArenaModel.{arena_choices, place, seen_of}
 use Rattle.h5_lines.specs.Items.{item_texts}
 use Rattle.h5_tree_builder.specs.Builder.{ended_view}
 use Rattle.h5_tree_builder.specs.Held.{building}
@@ -16,7 +16,7 @@ returns-clause-prints c =
     let text = string_bytes c.in_ok-out.out in
     record {
       arena = held.sink;
-      built = sink_is_built held.sink held.state held.ended held.failed (ended_view arena_rules (after_items items first_view)) (c.in_ok-replies.ensures.view ∙ ap (λ v. ended_view arena_rules (after_items items v)) first);
+      built = sink_is_built held.sink held.state held.ended held.failed (ended_view arena_choices (after_items items first_view)) (c.in_ok-replies.ensures.view ∙ ap (λ v. ended_view arena_choices (after_items items v)) first);
       tree = text;
       is_tree = search rules;
       whole = ap (λ (v : Vec ℕ Global). v.items) c.into_bytes.ensures.value

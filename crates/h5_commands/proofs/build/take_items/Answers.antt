@@ -1,7 +1,7 @@
 use Rattle.std.proofs.Common.{◌≡◌, ℕ, Vec, Global, ◌++◌, [], ◌∷◌, ap, sym, subst, ◌∙◌, rules}
 use Rattle.std.proofs.lemmas.List.{map-append}
 use Rattle.std.specs.Vec.Iter.{into_iter_items}
-use Rattle.h5_arena.specs.ArenaModel.{arena_rules, place, seen_of}
+use Rattle.h5_arena.specs.ArenaModel.{arena_choices, place, seen_of}
 use Rattle.h5_meaning.specs.Run.{after_all, replies}
 use Rattle.h5_tree_builder.specs.Builder.{ended_view}
 use Rattle.h5_lines.specs.Items.{item_text, item_texts}
@@ -50,8 +50,8 @@ items-preserved c =
     let none : c.replace-before.new.dest.items ≡ [] = search rules in
     let here : Left items first now told waiting (item_text c.in-Some.item ∷ item_texts rest) = subst (λ z. Left items first now told waiting (item_texts z)) cut c.items.invariant in
     let by_end : Left items first now told waiting (item_text item.End ∷ item_texts rest) = subst (λ z. Left items first now told waiting (item_text z ∷ item_texts rest)) c.in-End.is here in
-    let view : next ≡ ended_view arena_rules (after_all arena_rules waiting now) =
-    c.end.ensures.view ∙ ap (ended_view arena_rules) (c.in_ok-take_tokens-in-End.ensures.view ∙ ap (λ (ts : Vec (Token × ℕ) Global). after_all arena_rules (token_texts ts.items) now) c.replace-before.ensures.value) in
-    let answers : more ≡ told ++ replies arena_rules waiting now =
-    c.in_ok-take_tokens-in-End.ensures.told ∙ ap (λ (ts : Vec (Token × ℕ) Global). told ++ replies arena_rules (token_texts ts.items) now) c.replace-before.ensures.value in
+    let view : next ≡ ended_view arena_choices (after_all arena_choices waiting now) =
+    c.end.ensures.view ∙ ap (ended_view arena_choices) (c.in_ok-take_tokens-in-End.ensures.view ∙ ap (λ (ts : Vec (Token × ℕ) Global). after_all arena_choices (token_texts ts.items) now) c.replace-before.ensures.value) in
+    let answers : more ≡ told ++ replies arena_choices waiting now =
+    c.in_ok-take_tokens-in-End.ensures.told ∙ ap (λ (ts : Vec (Token × ℕ) Global). told ++ replies arena_choices (token_texts ts.items) now) c.replace-before.ensures.value in
     subst (λ ts. Left items first next more (token_texts ts) (item_texts rest)) (sym none) (end_is_told items (item_texts rest) first now next told more waiting by_end view answers)

@@ -9,4 +9,4 @@ returns-clause-memory g c =
     let old = (building g.Sink.TreeSink.sees g.Sink.TreeSink.node c.args.tokenizer.now.sink).view in
     let new = (building g.Sink.TreeSink.sees g.Sink.TreeSink.node c.end.new.self.sink).view in
     let reader = c.args.tokenizer.now.reader in
-    ends_memory g.Sink.TreeSink.rules old new (settle reader.place.mode reader.place.last (foreign old) reader.held) c.end.result c.requires.works (c.end.ensures.closed c.requires.reading)
+    ends_memory g.Sink.TreeSink.choices old new (settle reader.place.mode reader.place.last (foreign old) reader.held) c.end.result c.requires.works (c.end.ensures.closed c.requires.reading)

@@ -13,7 +13,7 @@ pieces-init g c = record { reading = c.requires.reading; works = c.requires.work
 
 pub returns-in-Done-clause-takes : goal.returns-in-Done-clause-takes
 returns-in-Done-clause-takes g c =
-    let k = g.Sink.TreeSink.rules in
+    let k = g.Sink.TreeSink.choices in
     let old = (building g.Sink.TreeSink.sees g.Sink.TreeSink.node c.pieces.tokenizer.sink).view in
     let new = (building g.Sink.TreeSink.sees g.Sink.TreeSink.node c.feed.new.self.sink).view in
     let fed : Feeds (replies k) (after k) foreign g.Sink.TreeSink.node c.pieces.tokenizer.reader.place old (c.pieces.tokenizer.reader.held ++ c.pieces.queue) c.feed.new.self.reader new c.feed.new.input (Ok c.in_ok-feed.field-0) =
@@ -23,7 +23,7 @@ returns-in-Done-clause-takes g c =
 
 pub returns-in-Done-clause-works : goal.returns-in-Done-clause-works
 returns-in-Done-clause-works g c =
-    let k = g.Sink.TreeSink.rules in
+    let k = g.Sink.TreeSink.choices in
     let old = (building g.Sink.TreeSink.sees g.Sink.TreeSink.node c.pieces.tokenizer.sink).view in
     let new = (building g.Sink.TreeSink.sees g.Sink.TreeSink.node c.feed.new.self.sink).view in
     let fed : Feeds (replies k) (after k) foreign g.Sink.TreeSink.node c.pieces.tokenizer.reader.place old (c.pieces.tokenizer.reader.held ++ c.pieces.queue) c.feed.new.self.reader new c.feed.new.input (Ok c.in_ok-feed.field-0) =
@@ -33,7 +33,7 @@ returns-in-Done-clause-works g c =
 
 pub returns-in_err-feed-clause-memory : goal.returns-in_err-feed-clause-memory
 returns-in_err-feed-clause-memory g c =
-    let k = g.Sink.TreeSink.rules in
+    let k = g.Sink.TreeSink.choices in
     let old = (building g.Sink.TreeSink.sees g.Sink.TreeSink.node c.pieces.tokenizer.sink).view in
     let new = (building g.Sink.TreeSink.sees g.Sink.TreeSink.node c.feed.new.self.sink).view in
     let xs = c.pieces.tokenizer.reader.held ++ c.pieces.queue in
@@ -45,7 +45,7 @@ returns-in_err-feed-clause-memory g c =
 
 pub pieces-preserved-in-Script : goal.pieces-preserved-in-Script
 pieces-preserved-in-Script g c =
-    let k = g.Sink.TreeSink.rules in
+    let k = g.Sink.TreeSink.choices in
     let old = (building g.Sink.TreeSink.sees g.Sink.TreeSink.node c.pieces.tokenizer.sink).view in
     let new = (building g.Sink.TreeSink.sees g.Sink.TreeSink.node c.feed.new.self.sink).view in
     let xs = c.pieces.tokenizer.reader.held ++ c.pieces.queue in
@@ -57,7 +57,7 @@ pieces-preserved-in-Script g c =
 
 pub pieces-preserved : goal.pieces-preserved
 pieces-preserved g c =
-    let k = g.Sink.TreeSink.rules in
+    let k = g.Sink.TreeSink.choices in
     let old = (building g.Sink.TreeSink.sees g.Sink.TreeSink.node c.pieces.tokenizer.sink).view in
     let new = (building g.Sink.TreeSink.sees g.Sink.TreeSink.node c.feed.new.self.sink).view in
     let xs = c.pieces.tokenizer.reader.held ++ c.pieces.queue in

@@ -11,7 +11,7 @@ invariant-pieces g l =
     record {
       reading : l.tokenizer.reader.stage ≡ Reading;
       works : IsWorking now;
-      advances : Advances g.Sink.TreeSink.rules l.fn.tokenizer.reader.place first (l.fn.tokenizer.reader.held ++ l.fn.queue) l.tokenizer.reader.place now (l.tokenizer.reader.held ++ l.queue);
+      advances : Advances g.Sink.TreeSink.choices l.fn.tokenizer.reader.place first (l.fn.tokenizer.reader.held ++ l.fn.queue) l.tokenizer.reader.place now (l.tokenizer.reader.held ++ l.queue);
     }
 
 abbrev pub decreases-pieces : goal.decreases-pieces

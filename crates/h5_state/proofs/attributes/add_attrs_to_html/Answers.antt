@@ -2,7 +2,8 @@ use Rattle.std.proofs.Common.{map, reverse, ap, sym, ◌∙◌, arith, refl}
 use Rattle.h5_names.specs.AttributeText.{attribute_texts}
 use Rattle.h5_interface.specs.Changes.{add_missing_attributes}
 use Rattle.h5_interface.specs.Seen.{changed}
-use Rattle.h5_meaning.specs.Changes.{add_attributes_to_root, with_forest}
+use Rattle.h5_meaning.specs.Changes.{add_attrs_to_html, with_forest}
+use Rattle.h5_meaning.proofs.SoundLaws.{errors_or_not}
 use Rattle.h5_state.specs.View.{world}
 use Rattle.h5_state.proofs.AttributeLaws.{on_ok, open_length, root_at, stands_added}
 use Rattle.h5_state.proofs.BelowLaws.{same_world}
@@ -11,23 +12,23 @@ use Rattle.h5_state.proofs.attributes.add_attrs_to_html.Goals as goal
 
 pub add_attrs_if_missing-requires : goal.add_attrs_if_missing-requires
 unfolding world
-add_attrs_if_missing-requires g c = element_at g.S.TreeSink.node c.args.state.now.open_elems.items _ 0 c.index.result.now c.requires.sound c.requires.«open» c.index.ensures
+add_attrs_if_missing-requires g c = element_at g.S.TreeSink.node c.args.state.now.open_elems.items _ 0 c.index.result.now c.requires.sound c.requires.some c.index.ensures
 
-pub returns-clause-done : goal.returns-clause-done
-unfolding world add_attributes_to_root
-returns-clause-done g c =
+pub returns : goal.returns
+unfolding world add_attrs_to_html
+returns g c =
     let node = g.S.TreeSink.node in
     let seen = g.S.TreeSink.sees c.args.sink.now in
     let w = world g.S.TreeSink.sees node c.args.sink.now c.args.state.now in
     let items = c.args.state.now.open_elems.items in
     let attrs = attribute_texts c.args.attrs.items in
-    on_ok c.add_attrs_if_missing.result
-    (λ e. same_world w (g.S.TreeSink.sees c.add_attrs_if_missing.new.self) (changed (add_missing_attributes (node c.index.result.now) attrs) seen) _ _ e refl
-    ∙ ap (λ n. with_forest (add_missing_attributes n attrs seen.forest) w) (sym (root_at node seen.forest.document items c.index.result.now (omega (arith, c.requires.«open», open_length node items)) c.index.ensures)))
-    c.add_attrs_if_missing.ensures.ok
-
-pub returns-clause-sound : goal.returns-clause-sound
-unfolding world
-returns-clause-sound g c =
-    stands_added c.add_attrs_if_missing.result (g.S.TreeSink.sees c.args.sink.now) (g.S.TreeSink.sees c.add_attrs_if_missing.new.self) (g.S.TreeSink.node c.index.result.now) (attribute_texts c.args.attrs.items)
-    (reverse (map g.S.TreeSink.node c.args.state.now.open_elems.items)) c.add_attrs_if_missing.ensures.ok c.add_attrs_if_missing.ensures.err c.requires.sound
+    record {
+      world = on_ok c.add_attrs_if_missing.result
+          (λ e. same_world w (g.S.TreeSink.sees c.add_attrs_if_missing.new.self) (changed (add_missing_attributes (node c.index.result.now) attrs) seen) _ _ e refl
+          ∙ ap (λ n. with_forest (add_missing_attributes n attrs seen.forest) w) (sym (root_at node seen.forest.document items c.index.result.now (omega (arith, c.requires.some, open_length node items)) c.index.ensures)))
+          c.add_attrs_if_missing.ensures.ok;
+      quiet = errors_or_not c.add_attrs_if_missing.result seen (g.S.TreeSink.sees c.add_attrs_if_missing.new.self) (add_missing_attributes (node c.index.result.now) attrs) c.add_attrs_if_missing.ensures.ok c.add_attrs_if_missing.ensures.err;
+      sound =
+          stands_added c.add_attrs_if_missing.result (g.S.TreeSink.sees c.args.sink.now) (g.S.TreeSink.sees c.add_attrs_if_missing.new.self) (g.S.TreeSink.node c.index.result.now) (attribute_texts c.args.attrs.items)
+          (reverse (map g.S.TreeSink.node c.args.state.now.open_elems.items)) c.add_attrs_if_missing.ensures.ok c.add_attrs_if_missing.ensures.err c.requires.sound;
+    }

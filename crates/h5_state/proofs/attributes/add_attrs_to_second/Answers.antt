@@ -2,7 +2,8 @@ use Rattle.std.proofs.Common.{map, reverse, ap, sym, ◌∙◌, arith, refl}
 use Rattle.h5_names.specs.AttributeText.{attribute_texts}
 use Rattle.h5_interface.specs.Changes.{add_missing_attributes}
 use Rattle.h5_interface.specs.Seen.{changed}
-use Rattle.h5_meaning.specs.Changes.{add_attributes_at, add_attributes_to_second}
+use Rattle.h5_meaning.specs.Changes.{add_attrs_at, add_attrs_to_second}
+use Rattle.h5_meaning.proofs.SoundLaws.{errors_or_not}
 use Rattle.h5_state.specs.View.{world}
 use Rattle.h5_state.proofs.AttributeLaws.{on_ok, open_length, second_at, second_missing, stands_added}
 use Rattle.h5_state.proofs.BelowLaws.{same_world}
@@ -13,29 +14,33 @@ pub add_attrs_if_missing-requires : goal.add_attrs_if_missing-requires
 unfolding world
 add_attrs_if_missing-requires g c =
     let items = c.args.state.now.open_elems.items in
-    element_at g.S.TreeSink.node items _ 1 c.index.result.now c.requires.sound (omega (arith, open_length g.S.TreeSink.node items, c.if-len-gt1.true, c.len.ensures)) c.index.ensures
+    element_at g.S.TreeSink.node items _ 1 c.index.result.now c.requires (omega (arith, open_length g.S.TreeSink.node items, c.if-len-gt1.true, c.len.ensures)) c.index.ensures
 
-pub returns-then-len-gt1-clause-done : goal.returns-then-len-gt1-clause-done
-unfolding world add_attributes_to_second
-returns-then-len-gt1-clause-done g c =
+pub returns-then-len-gt1 : goal.returns-then-len-gt1
+unfolding world add_attrs_to_second
+returns-then-len-gt1 g c =
     let node = g.S.TreeSink.node in
     let seen = g.S.TreeSink.sees c.args.sink.now in
     let w = world g.S.TreeSink.sees node c.args.sink.now c.args.state.now in
     let items = c.args.state.now.open_elems.items in
     let attrs = attribute_texts c.args.attrs.items in
-    on_ok c.add_attrs_if_missing.result
-    (λ e. same_world w (g.S.TreeSink.sees c.add_attrs_if_missing.new.self) (changed (add_missing_attributes (node c.index.result.now) attrs) seen) _ _ e refl
-    ∙ ap (λ o. add_attributes_at o attrs w) (sym (second_at node items c.index.result.now (omega (arith, c.if-len-gt1.true, c.len.ensures)) c.index.ensures)))
-    c.add_attrs_if_missing.ensures.ok
+    record {
+      world = on_ok c.add_attrs_if_missing.result
+          (λ e. same_world w (g.S.TreeSink.sees c.add_attrs_if_missing.new.self) (changed (add_missing_attributes (node c.index.result.now) attrs) seen) _ _ e refl
+          ∙ ap (λ o. add_attrs_at o attrs w) (sym (second_at node items c.index.result.now (omega (arith, c.if-len-gt1.true, c.len.ensures)) c.index.ensures)))
+          c.add_attrs_if_missing.ensures.ok;
+      quiet = errors_or_not c.add_attrs_if_missing.result seen (g.S.TreeSink.sees c.add_attrs_if_missing.new.self) (add_missing_attributes (node c.index.result.now) attrs)
+          c.add_attrs_if_missing.ensures.ok c.add_attrs_if_missing.ensures.err;
+      sound = stands_added c.add_attrs_if_missing.result seen (g.S.TreeSink.sees c.add_attrs_if_missing.new.self) (node c.index.result.now) attrs
+          (reverse (map node items)) c.add_attrs_if_missing.ensures.ok c.add_attrs_if_missing.ensures.err c.requires;
+    }
 
-pub returns-then-len-gt1-clause-sound : goal.returns-then-len-gt1-clause-sound
-unfolding world
-returns-then-len-gt1-clause-sound g c =
-    stands_added c.add_attrs_if_missing.result (g.S.TreeSink.sees c.args.sink.now) (g.S.TreeSink.sees c.add_attrs_if_missing.new.self) (g.S.TreeSink.node c.index.result.now) (attribute_texts c.args.attrs.items)
-    (reverse (map g.S.TreeSink.node c.args.state.now.open_elems.items)) c.add_attrs_if_missing.ensures.ok c.add_attrs_if_missing.ensures.err c.requires.sound
-
-pub returns-else-len-gt1-clause-done : goal.returns-else-len-gt1-clause-done
-unfolding world add_attributes_to_second
-returns-else-len-gt1-clause-done g c =
+pub returns-else-len-gt1 : goal.returns-else-len-gt1
+unfolding world add_attrs_to_second
+returns-else-len-gt1 g c =
     let w = world g.S.TreeSink.sees g.S.TreeSink.node c.args.sink.now c.args.state.now in
-    ap (λ o. add_attributes_at o (attribute_texts c.args.attrs.items) w) (sym (second_missing g.S.TreeSink.node c.args.state.now.open_elems.items (omega (arith, c.if-len-gt1.false, c.len.ensures))))
+    record {
+      world = ap (λ o. add_attrs_at o (attribute_texts c.args.attrs.items) w) (sym (second_missing g.S.TreeSink.node c.args.state.now.open_elems.items (omega (arith, c.if-len-gt1.false, c.len.ensures))));
+      quiet = refl;
+      sound = c.requires;
+    }

@@ -1,5 +1,6 @@
-use Rattle.std.proofs.Common.{sym, subst}
+use Rattle.std.proofs.Common.{sym, subst, rules}
 use Rattle.h5_interface.specs.Forest.{IsNode}
+use Rattle.h5_meaning.specs.Changes.{append_comment_to_html}
 use Rattle.h5_meaning.proofs.SoundLaws.{root_is_node, stands_rearranged}
 use Rattle.h5_state.specs.View.{world}
 use Rattle.h5_state.proofs.insert.append_comment_to_html.Goals as goal
@@ -8,8 +9,12 @@ pub append_comment_below-requires-clause-parent : goal.append_comment_below-requ
 unfolding world
 append_comment_below-requires-clause-parent g c =
     subst (IsNode (g.S.TreeSink.sees c.args.sink.now).forest) (sym c.root_node-html.ensures)
-    (root_is_node (world g.S.TreeSink.sees g.S.TreeSink.node c.args.sink.now c.args.state.now) c.requires.sound)
+    (root_is_node (world g.S.TreeSink.sees g.S.TreeSink.node c.args.sink.now c.args.state.now) c.requires)
 
-pub returns-clause-sound : goal.returns-clause-sound
-unfolding world
-returns-clause-sound g c = stands_rearranged _ _ _ c.requires.sound c.append_comment_below.ensures.rearranged
+pub returns : goal.returns
+unfolding world append_comment_to_html
+returns g c = record {
+  world = search rules;
+  quiet = search rules;
+  sound = stands_rearranged _ _ _ c.requires c.append_comment_below.ensures.rearranged;
+}

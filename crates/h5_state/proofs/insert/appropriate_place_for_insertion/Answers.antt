@@ -11,24 +11,24 @@ get_template_contents-requires g c =
     let f = (g.S.TreeSink.sees c.args.sink.now).forest in
     let last = (rw c.deref.ensures.value at c.in-Some.ensures.value) in
     let first = seen_first node c.args.state.now.open_elems.items c.in-Some.element.now last in
-    c.requires.sound.templates (node c.in-Some.element.now) (first_in _ _ first)
-    (template_test f (node c.in-Some.element.now) c.elem_name.result.now c.is_html.result c.elem_name.ensures c.is_html.ensures ∙ c.if-is_html.true)
+    c.requires.templates (node c.in-Some.element.now) (first_in _ _ first)
+    (template_test f (node c.in-Some.element.now) c.elem_name.result.now c.is_html_known.result c.elem_name.ensures c.is_html_known.ensures ∙ c.if-is_html_known.true)
 
-pub returns-then-is_html : goal.returns-then-is_html
+pub returns-then-is_html_known : goal.returns-then-is_html_known
 unfolding world
-returns-then-is_html g c =
+returns-then-is_html_known g c =
     let node = g.S.TreeSink.node in
     let f = (g.S.TreeSink.sees c.args.sink.now).forest in
     let last = (rw c.deref.ensures.value at c.in-Some.ensures.value) in
     let first = seen_first node c.args.state.now.open_elems.items c.in-Some.element.now last in
     sym (ap (inside f) (first_of f.document _ _ first)
     ∙ inside_template f (node c.in-Some.element.now) (node c.get_template_contents.result)
-    (template_test f (node c.in-Some.element.now) c.elem_name.result.now c.is_html.result c.elem_name.ensures c.is_html.ensures ∙ c.if-is_html.true)
+    (template_test f (node c.in-Some.element.now) c.elem_name.result.now c.is_html_known.result c.elem_name.ensures c.is_html_known.ensures ∙ c.if-is_html_known.true)
     c.get_template_contents.ensures)
 
-pub returns-else-is_html : goal.returns-else-is_html
+pub returns-else-is_html_known : goal.returns-else-is_html_known
 unfolding world
-returns-else-is_html g c =
+returns-else-is_html_known g c =
     let node = g.S.TreeSink.node in
     let f = (g.S.TreeSink.sees c.args.sink.now).forest in
     let last = (rw c.deref.ensures.value at c.in-Some.ensures.value) in
@@ -36,4 +36,4 @@ returns-else-is_html g c =
     c.clone_handle.ensures
     ∙ sym (ap (inside f) (first_of f.document _ _ first)
     ∙ inside_other f (node c.in-Some.element.now)
-    (template_test f (node c.in-Some.element.now) c.elem_name.result.now c.is_html.result c.elem_name.ensures c.is_html.ensures ∙ c.if-is_html.false))
+    (template_test f (node c.in-Some.element.now) c.elem_name.result.now c.is_html_known.result c.elem_name.ensures c.is_html_known.ensures ∙ c.if-is_html_known.false))

@@ -2,7 +2,7 @@ use Rattle.std.proofs.Common.{◌∷◌, reverse, map, ap, sym, subst, ◌∙◌
 use Rattle.h5_names.specs.AttributeText.{attribute_texts}
 use Rattle.h5_interface.specs.Seen.{changed}
 use Rattle.h5_meaning.specs.Sound.{Stands}
-use Rattle.h5_meaning.specs.World.{html_name}
+use Rattle.h5_stack.specs.FormattingNames.{html_name}
 use Rattle.h5_meaning.proofs.SoundLaws.{stands_inserted, stands_rearranged}
 use Rattle.h5_state.specs.Below.{element_below}
 use Rattle.h5_state.specs.View.{world}
@@ -29,8 +29,8 @@ returns-clause-done g c =
     let attrs = attribute_texts c.args.attrs.items in
     let flag = c.args.had_duplicate_attributes in
     let p = node c.args.parent.now in
-    same_world w (g.S.TreeSink.sees c.append_element.new.sink) (changed (element_below g.S.TreeSink.rules p (html_name c.args.local) attrs flag) seen) _ _
-    (c.in_ok-element.ensures.done ∙ ap (λ name. changed (element_below g.S.TreeSink.rules p name attrs flag) seen) c.in_ok-name.ensures)
+    same_world w (g.S.TreeSink.sees c.append_element.new.sink) (changed (element_below g.S.TreeSink.choices p (html_name c.args.local) attrs flag) seen) _ _
+    (c.in_ok-element.ensures.done ∙ ap (λ name. changed (element_below g.S.TreeSink.choices p name attrs flag) seen) c.html_qual_name-name.ensures)
     (seen_pushed node _ _ c.in_ok-element.element c.in_ok-push.ensures.items ∙ ap (λ n. n ∷ reverse (map node c.args.state.now.open_elems.items)) c.in_ok-element.ensures.handle)
 
 pub returns-clause-sound : goal.returns-clause-sound
@@ -41,8 +41,8 @@ returns-clause-sound g c =
     let attrs = attribute_texts c.args.attrs.items in
     let flag = c.args.had_duplicate_attributes in
     let p = node c.args.parent.now in
-    same_stands (g.S.TreeSink.sees c.append_element.new.sink) (changed (element_below g.S.TreeSink.rules p c.in_ok-name.name attrs flag) seen) _ _
+    same_stands (g.S.TreeSink.sees c.append_element.new.sink) (changed (element_below g.S.TreeSink.choices p c.html_qual_name-name.result attrs flag) seen) _ _
     c.in_ok-element.ensures.done
     (seen_pushed node _ _ c.in_ok-element.element c.in_ok-push.ensures.items ∙ ap (λ n. n ∷ reverse (map node c.args.state.now.open_elems.items)) c.in_ok-element.ensures.handle)
-    (stands_inserted g.S.TreeSink.rules seen.forest p c.in_ok-name.name attrs flag (reverse (map node c.args.state.now.open_elems.items)) c.requires.sound
+    (stands_inserted g.S.TreeSink.choices seen.forest p c.html_qual_name-name.result attrs flag (reverse (map node c.args.state.now.open_elems.items)) c.requires.sound
     c.requires.parent)

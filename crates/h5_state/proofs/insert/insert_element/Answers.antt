@@ -4,4 +4,4 @@ use Rattle.h5_state.proofs.insert.insert_element.Goals as goal
 
 pub insert_below-requires-clause-parent : goal.insert_below-requires-clause-parent
 insert_below-requires-clause-parent g c =
-    is_place (world g.S.TreeSink.sees g.S.TreeSink.node c.args.sink.now c.args.state.now) _ c.requires.sound c.appropriate_place_for_insertion-place.ensures
+    is_place (world g.S.TreeSink.sees g.S.TreeSink.node c.args.sink.now c.args.state.now) _ c.requires c.appropriate_place_for_insertion-place.ensures

@@ -1,5 +1,5 @@
 use Rattle.std.proofs.Common.{◌≡◌, length}
-use Rattle.h5_meaning.specs.Changes.{implied_ends_except}
+use Rattle.h5_meaning.specs.Changes.{generate_implied_end_except}
 use Rattle.h5_meaning.specs.Sound.{Sound}
 use Rattle.h5_state.specs.View.{world}
 use Rattle.h5_state.proofs.open_elems.generate_implied_end_except.Given as goal
@@ -11,7 +11,7 @@ invariant-implied g l =
     record {
       sound : Sound w;
       quiet : (g.S.TreeSink.sees l.sink).errors ≡ (g.S.TreeSink.sees l.fn.sink).errors;
-      left : implied_ends_except g.S.TreeSink.rules l.local w ≡ implied_ends_except g.S.TreeSink.rules l.local first;
+      left : generate_implied_end_except g.S.TreeSink.choices l.local w ≡ generate_implied_end_except g.S.TreeSink.choices l.local first;
     }
 
 abbrev pub decreases-implied : goal.decreases-implied

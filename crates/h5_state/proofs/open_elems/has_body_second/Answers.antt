@@ -8,13 +8,13 @@ use Rattle.h5_state.proofs.open_elems.has_body_second.Goals as goal
 
 pub elem_name-requires : goal.elem_name-requires
 unfolding world
-elem_name-requires g c = element_at g.S.TreeSink.node c.args.state.now.open_elems.items _ 1 c.index.result.now c.requires.sound (omega (arith, length-reverse (map g.S.TreeSink.node c.args.state.now.open_elems.items), length-map c.args.state.now.open_elems.items g.S.TreeSink.node, c.if-len-gt1.true, c.len.ensures)) c.index.ensures
+elem_name-requires g c = element_at g.S.TreeSink.node c.args.state.now.open_elems.items _ 1 c.index.result.now c.requires (omega (arith, length-reverse (map g.S.TreeSink.node c.args.state.now.open_elems.items), length-map c.args.state.now.open_elems.items g.S.TreeSink.node, c.if-len-gt1.true, c.len.ensures)) c.index.ensures
 
 pub returns-then-len-gt1 : goal.returns-then-len-gt1
 unfolding world names_of
 returns-then-len-gt1 g c =
     let f = (g.S.TreeSink.sees c.args.sink.now).forest in
-    c.is_html.ensures
+    c.is_html_known.ensures
     ∙ ap (is_html_named (codes "body")) (sym (named f (g.S.TreeSink.node c.index.result.now) c.elem_name.result.now c.elem_name.ensures))
     ∙ sym (second_named g.S.TreeSink.node f (codes "body") c.args.state.now.open_elems.items c.index.result.now (omega (arith, c.if-len-gt1.true, c.len.ensures)) c.index.ensures)
 

@@ -1,12 +1,20 @@
-use Rattle.std.proofs.Common.{sym, subst, reverse, map}
+use Rattle.std.proofs.Common.{sym, subst, reverse, map, ap}
 use Rattle.h5_interface.specs.Seen.{Seen}
 use Rattle.h5_meaning.specs.Sound.{Stands}
 use Rattle.h5_state.specs.View.{world}
-use Rattle.h5_state.proofs.StackLaws.{stands_popped}
+use Rattle.h5_state.proofs.StackLaws.{popped_world, stands_popped}
 use Rattle.h5_state.proofs.steps.pop.Goals as goal
 
-pub returns-in-Some-clause-sound : goal.returns-in-Some-clause-sound
+pub returns-in-Some : goal.returns-in-Some
 unfolding world
-returns-in-Some-clause-sound g c =
-    subst (λ (s : Seen). Stands s.forest (reverse (map g.S.TreeSink.node c.pop.new.self.items))) (sym c.pop-in-Some.ensures)
-    (stands_popped g.S.TreeSink.node c.pop.new.self.items c.args.state.now.open_elems.items c.in-Some.element _ _ c.in-Some.ensures.items c.requires.sound)
+returns-in-Some g c =
+    let node = g.S.TreeSink.node in
+    let seen = g.S.TreeSink.sees c.args.sink.now in
+    let w = world g.S.TreeSink.sees node c.args.sink.now c.args.state.now in
+    let items = c.args.state.now.open_elems.items in
+    record {
+      world = popped_world node g.S.TreeSink.choices w seen _ items c.pop.new.self.items c.in-Some.element c.in-Some.ensures.items c.pop-in-Some.ensures;
+      quiet = ap (λ (s : Seen). s.errors) c.pop-in-Some.ensures;
+      sound = subst (λ (s : Seen). Stands s.forest (reverse (map node c.pop.new.self.items))) (sym c.pop-in-Some.ensures)
+          (stands_popped node c.pop.new.self.items items c.in-Some.element _ _ c.in-Some.ensures.items c.requires.sound);
+    }

@@ -8,5 +8,5 @@ pub returns-clause-sound : goal.returns-clause-sound
 unfolding world
 returns-clause-sound g c =
     stands_rearranged _ _ _ c.requires.sound
-    (rearranged_or_not c.append_doctype_to_document.result _ _ (append_doctype g.S.TreeSink.rules _ _ _) c.append_doctype_to_document.ensures.ok c.append_doctype_to_document.ensures.err c.requires.sound.is_forest
-    (append_doctype_rearranges g.S.TreeSink.rules _ _ _ _ c.requires.sound.is_forest))
+    (rearranged_or_not c.append_doctype_to_document.result _ _ (append_doctype g.S.TreeSink.choices _ _ _) c.append_doctype_to_document.ensures.ok c.append_doctype_to_document.ensures.err c.requires.sound.is_forest
+    (append_doctype_rearranges g.S.TreeSink.choices _ _ _ _ c.requires.sound.is_forest))

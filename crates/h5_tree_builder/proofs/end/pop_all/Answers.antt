@@ -8,18 +8,18 @@ use Rattle.h5_tree_builder.proofs.end.pop_all.Goals as goal
 
 pub elements-smaller : goal.elements-smaller
 elements-smaller g c =
-    let k = g.S.TreeSink.rules in
+    let k = g.S.TreeSink.choices in
     let w = world g.S.TreeSink.sees g.S.TreeSink.node c.elements.sink c.elements.state in
     let some : 0 < length w.stack = search rules in
-    subst (λ (v : World). length v.stack < length w.stack) (sym c.pop.ensures.done) (pop_shorter k w some)
+    subst (λ (v : World). length v.stack < length w.stack) (sym c.pop.ensures.world) (pop_shorter k w some)
 
 pub elements-preserved : goal.elements-preserved
 elements-preserved g c =
-    let k = g.S.TreeSink.rules in
+    let k = g.S.TreeSink.choices in
     let w = world g.S.TreeSink.sees g.S.TreeSink.node c.elements.sink c.elements.state in
     let some : 0 < length w.stack = search rules in
     record {
       sound = c.pop.ensures.sound;
-      rest = ap (all_popped k) c.pop.ensures.done ∙ pop_next k w some ∙ c.elements.invariant.rest;
+      rest = ap (all_popped k) c.pop.ensures.world ∙ pop_next k w some ∙ c.elements.invariant.rest;
       quiet = c.pop.ensures.quiet ∙ c.elements.invariant.quiet;
     }

@@ -10,7 +10,7 @@ invariant-elements g l =
     let first = world g.S.TreeSink.sees g.S.TreeSink.node l.fn.sink l.fn.state in
     record {
       sound : Sound w;
-      rest : all_popped g.S.TreeSink.rules w ≡ all_popped g.S.TreeSink.rules first;
+      rest : all_popped g.S.TreeSink.choices w ≡ all_popped g.S.TreeSink.choices first;
       quiet : (g.S.TreeSink.sees l.sink).errors ≡ (g.S.TreeSink.sees l.fn.sink).errors;
     }
 

@@ -1,4 +1,4 @@
-use Rattle.std.proofs.Common.{◌≡◌, not, map, ap, sym, ◌∙◌, rules}
+use Rattle.std.proofs.Common.{◌≡◌, not, map, ap, sym, ◌∙◌}
 use Rattle.h5_names.specs.AttributeText.{is_same_text}
 use Rattle.h5_names.specs.declared.qualified.QualName.{QualName}
 use Rattle.h5_tag_sets.specs.TagSets.{html_namespace}
@@ -19,5 +19,4 @@ returns-in-Some g c =
     let first = seen_first node c.args.state.now.open_elems.items c.in-Some.element.now last in
     let seen : is_foreign_in (world g.S.TreeSink.sees node c.args.sink.now c.args.state.now) ≡ not (is_same_text name.ns html_namespace) =
     ap (λ s. is_first_foreign (map (name_in f) s)) first.is ∙ ap (λ (x : QualName). not (is_same_text x.ns html_namespace)) (named f n name c.elem_name.ensures) in
-    let test : c.ne.result ≡ not (is_same_text name.ns html_namespace) = search rules in
-    test ∙ sym seen
+    ap not c.is_html.ensures ∙ sym seen

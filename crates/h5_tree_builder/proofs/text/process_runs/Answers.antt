@@ -6,7 +6,7 @@ use Rattle.h5_tree_builder.proofs.text.process_runs.Goals as goal
 
 pub runs-preserved : goal.runs-preserved
 runs-preserved g c =
-    let k = g.S.TreeSink.rules in
+    let k = g.S.TreeSink.choices in
     let w = world g.S.TreeSink.sees g.S.TreeSink.node c.runs.sink c.runs.state in
     let v = world g.S.TreeSink.sees g.S.TreeSink.node c.settle_run.new.sink c.settle_run.new.state in
     let text = c.runs.rest.now in

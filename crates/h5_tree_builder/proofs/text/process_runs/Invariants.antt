@@ -15,7 +15,7 @@ invariant-runs g l =
       utf8 : shadow (Utf8 l.rest);
       sound : Sound w;
       fits : Fits w;
-      rest : text_any g.S.TreeSink.rules l.rest w ≡ text_any g.S.TreeSink.rules l.fn.text first;
+      rest : text_any g.S.TreeSink.choices l.rest w ≡ text_any g.S.TreeSink.choices l.fn.text first;
       mode : first.mode ≡ InBody → w.mode ≡ InBody;
       quiet : first.mode ≡ InBody → (g.S.TreeSink.sees l.sink).errors ≡ (g.S.TreeSink.sees l.fn.sink).errors;
     }

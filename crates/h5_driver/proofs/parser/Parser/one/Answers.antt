@@ -5,7 +5,7 @@ use Rattle.h5_driver.proofs.parser.Parser.one.Goals as goal
 
 pub returns-clause-parses : goal.returns-clause-parses
 returns-clause-parses g c =
-    let k = g.Sink.TreeSink.rules in
+    let k = g.Sink.TreeSink.choices in
     let sees = g.Sink.TreeSink.sees in
     let node = g.Sink.TreeSink.node in
     let first = c.args.self in

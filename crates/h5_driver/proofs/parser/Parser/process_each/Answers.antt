@@ -7,11 +7,11 @@ pub pieces-init : goal.pieces-init
 pieces-init g c =
     let first = c.args.self.now in
     let base = first.reader.held ++ first.waiting in
-    record { flag = refl; advances = (base, (nothing_read_yet g.Sink.TreeSink.rules first.reader.place (view_of g.Sink.TreeSink.sees g.Sink.TreeSink.node first) base, refl)) }
+    record { flag = refl; advances = (base, (nothing_read_yet g.Sink.TreeSink.choices first.reader.place (view_of g.Sink.TreeSink.sees g.Sink.TreeSink.node first) base, refl)) }
 
 pub pieces-preserved : goal.pieces-preserved
 pieces-preserved g c =
-    let k = g.Sink.TreeSink.rules in
+    let k = g.Sink.TreeSink.choices in
     let sees = g.Sink.TreeSink.sees in
     let node = g.Sink.TreeSink.node in
     let first = c.args.self.now in

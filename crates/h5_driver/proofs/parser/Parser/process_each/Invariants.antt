@@ -4,7 +4,7 @@ use Rattle.h5_driver.proofs.parser.Parser.process_each.Given as goal
 
 abbrev pub invariant-pieces : goal.invariant-pieces
 invariant-pieces g l =
-    let k = g.Sink.TreeSink.rules in
+    let k = g.Sink.TreeSink.choices in
     let first = l.fn.self in
     let now = l.self in
     record {

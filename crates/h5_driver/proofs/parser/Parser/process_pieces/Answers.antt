@@ -9,5 +9,5 @@ returns-clause-parses g c =
     let node = g.Sink.TreeSink.node in
     let first = c.args.self in
     let now = c.process_each.new.self in
-    told_behind g.Sink.TreeSink.rules g.Sink.TreeSink.told first.reader.place now.reader.place (view_of sees node first) (view_of sees node now)
+    told_behind g.Sink.TreeSink.choices g.Sink.TreeSink.told first.reader.place now.reader.place (view_of sees node first) (view_of sees node now)
     ((first.reader.held ++ first.waiting) ++ joined (map string_bytes c.args.pieces.now)) (now.reader.held ++ now.waiting) c.in_ok-process_each.ensures.takes c.finish.result c.finish.ensures.parses

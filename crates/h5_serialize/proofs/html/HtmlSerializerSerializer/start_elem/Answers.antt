@@ -1,4 +1,4 @@
-use Rattle.std.proofs.Common.{rules, inr}
+use Rattle.std.proofs.Common.{rules, inl, inr}
 use Rattle.h5_serialize.proofs.html.HtmlSerializerSerializer.start_elem.Goals as goal
 
 pub returns-in_err-parent_answer : goal.returns-in_err-parent_answer
@@ -12,3 +12,6 @@ returns-in_err-push g c = inr (λ attrs. search rules)
 
 pub returns-in_err-write_start_tag : goal.returns-in_err-write_start_tag
 returns-in_err-write_start_tag g c = inr (λ attrs. search rules)
+
+pub returns : goal.returns
+returns g c = let written = c.in_ok-write_start_tag.ensures.text in inl (written.0, written.1, search rules)

@@ -10,7 +10,7 @@ use Rattle.h5_tree_builder.proofs.builder.TreeBuilder.process_all.Goals as goal
 
 pub tokens-preserved : goal.tokens-preserved
 tokens-preserved g c =
-    let k = g.Sink.TreeSink.rules in
+    let k = g.Sink.TreeSink.choices in
     let node = g.Sink.TreeSink.node in
     let old = building g.Sink.TreeSink.sees node c.args.self.now in
     let now = building g.Sink.TreeSink.sees node c.tokens.self in
@@ -31,7 +31,7 @@ tokens-preserved g c =
 
 pub returns-clause-run : goal.returns-clause-run
 returns-clause-run g c =
-    let k = g.Sink.TreeSink.rules in
+    let k = g.Sink.TreeSink.choices in
     let node = g.Sink.TreeSink.node in
     let old = building g.Sink.TreeSink.sees node c.args.self.now in
     let now = building g.Sink.TreeSink.sees node c.tokens.self in
@@ -42,4 +42,4 @@ returns-clause-run g c =
     onward_last k all old now told (subst (λ z. Onward k all (token_texts z) old now told) none c.tokens.invariant.onward)
 
 pub returns-clause-rebuilds : goal.returns-clause-rebuilds
-returns-clause-rebuilds g c = rebuilds_plain g.Sink.TreeSink.rules (token_texts c.args.tokens.items) _ _ _ (returns-clause-run g c)
+returns-clause-rebuilds g c = rebuilds_plain g.Sink.TreeSink.choices (token_texts c.args.tokens.items) _ _ _ (returns-clause-run g c)

@@ -11,5 +11,5 @@ invariant-tokens g l =
     let old = building g.Sink.TreeSink.sees g.Sink.TreeSink.node l.fn.self in
     record {
       sound : Sound now.view.world;
-      onward : Onward g.Sink.TreeSink.rules (token_texts l.fn.tokens.items) (token_texts (into_iter_items l.token-iterator)) old now (reply_texts g.Sink.TreeSink.node l.replies.items);
+      onward : Onward g.Sink.TreeSink.choices (token_texts l.fn.tokens.items) (token_texts (into_iter_items l.token-iterator)) old now (reply_texts g.Sink.TreeSink.node l.replies.items);
     }

@@ -1,0 +1,16 @@
+//! The law of who streams, as the contract of a function that does nothing.
+ghost use Rattle.std.specs.Prelude.{ℕ, List, ◌++◌};
+ghost use Rattle.h5_interface.specs.Seen.{Seen};
+ghost use Rattle.h5_driver.specs.Parsing.{Parses, Parsing, ProcessedAll, joined, unread, view_of};
+
+use h5_interface::TreeSink;
+
+/// `process` on each of some pieces, and then `finish`: what the sink tells at the end is what it tells of the whole
+/// text, read from where the first piece found the parser. So it is the forest and the quirks mode of the run of
+/// a list of tokens that reads the whole text, and of any such list.
+pub fn pieces_then_finish<Handle: Drop, Sink: TreeSink<Handle = Handle> + Drop>()
+    ensures { (pieces : List (List ℕ)) (first last : Parsing Sink Handle) (told : Seen) →
+        ProcessedAll Sink.choices Sink.sees Sink.node pieces first last
+        → Parses Sink.choices last.reader.place (view_of Sink.sees Sink.node last) (unread last) told
+        → Parses Sink.choices first.reader.place (view_of Sink.sees Sink.node first) (unread first ++ joined pieces) told }
+{}

@@ -1,0 +1,37 @@
+-- Sets of plain names.
+use Rattle.std.proofs.Common.{◌≡◌, ℕ, true, List, refl}
+use Rattle.h5_names.specs.declared.qualified.QualName.{QualName}
+use Rattle.h5_tag_sets.specs.TagSets.{formatting_names, heading_names, implied_names, is_formatting, is_heading, is_html_named, is_implied, is_one_of}
+use Rattle.h5_stack.specs.Scope.{drop_while, is_implied_but}
+use Rattle.h5_fits.specs.Frames.{Frame}
+use Rattle.h5_fits.specs.Roles.{PlainRole, Role, is_plain, role_of, role_of_local, roles}
+use Rattle.h5_fits.proofs.BoolLaws.{and_not}
+use Rattle.h5_fits.proofs.NameLaws.{frame_while}
+use Rattle.h5_fits.proofs.RoleSetLaws.{all_pass, set_passes}
+
+plain_only : (x : Role) → is_plain x ≡ true → x ≡ PlainRole
+plain_only PlainRole h = refl
+plain_only _ h = absurd (cc)
+
+pub implied_plain : (n : QualName) → is_implied n ≡ true → role_of n ≡ PlainRole
+unfolding role_of_local implied_names is_implied
+implied_plain n h = plain_only (role_of n) (set_passes is_plain implied_names n (refl, (refl, (refl, (refl, (refl, (refl, (refl, (refl, (refl, (refl, tt)))))))))) h)
+
+pub heading_plain : (n : QualName) → is_heading n ≡ true → role_of n ≡ PlainRole
+unfolding role_of_local heading_names is_heading
+heading_plain n h = plain_only (role_of n) (set_passes is_plain heading_names n (refl, (refl, (refl, (refl, (refl, (refl, tt)))))) h)
+
+pub formatting_plain : (n : QualName) → is_formatting n ≡ true → role_of n ≡ PlainRole
+unfolding role_of_local formatting_names is_formatting
+formatting_plain n h =
+    plain_only (role_of n) (set_passes is_plain formatting_names n (refl, (refl, (refl, (refl, (refl, (refl, (refl, (refl, (refl, (refl, (refl, (refl, (refl, (refl, tt)))))))))))))) h)
+
+-- the local name of a formatting element
+pub formatting_local_plain : (local : List ℕ) → is_one_of formatting_names local ≡ true → role_of_local local ≡ PlainRole
+unfolding role_of_local formatting_names
+formatting_local_plain local h =
+    plain_only (role_of_local local) (all_pass is_plain formatting_names local (refl, (refl, (refl, (refl, (refl, (refl, (refl, (refl, (refl, (refl, (refl, (refl, (refl, (refl, tt)))))))))))))) h)
+
+-- implied ends are a frame
+pub frame_implied : (local : List ℕ) (ns : List QualName) → Frame (roles ns) (roles (drop_while (is_implied_but local) ns))
+frame_implied local ns = frame_while (is_implied_but local) (λ n h. implied_plain n (and_not (is_implied n) (is_html_named local n) h).0) ns

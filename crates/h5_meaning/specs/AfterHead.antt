@@ -1,0 +1,44 @@
+-- HTML standard, section 13.2.6.4.6, the "after head" insertion mode.
+use Rattle.std.specs.Prelude.{false, [], ◌∷◌, codes}
+use Rattle.h5_token.specs.TokenText.{TagText}
+use Rattle.h5_token.specs.declared.tag.TagKind.{TagKind}
+use Rattle.h5_token.specs.declared.tag.TagKind.TheVariants.{EndTag, StartTag}
+use Rattle.h5_names.specs.KnownNames.{known_name_of}
+use Rattle.h5_names.specs.declared.known_name.KnownName.{KnownName}
+use Rattle.h5_names.specs.declared.known_name.KnownName.TheVariants.{Body, Br, Head, Html}
+use Rattle.h5_types.specs.TurnText.{CommentTurn, EofTurn, NullTurn, TagTurn, TextTurn, TurnText}
+use Rattle.h5_types.specs.declared.modes.InsertionMode.TheVariants.{InBody}
+use Rattle.h5_types.specs.declared.modes.SplitStatus.TheVariants.{NotSplit, NotWhitespace, Whitespace}
+use Rattle.h5_meaning.specs.Rows.{Again, AppendComment, AppendText, InsertElement, IsDone, Row, SetFramesetNotOk, SetMode, ignored, row}
+use Rattle.h5_meaning.specs.Shared.{in_body_start_html}
+use Rattle.h5_meaning.specs.World.{World}
+
+-- a start tag "body"
+abbrev pub after_head_start_body : TagText → World → Row
+after_head_start_body tag w = row (InsertElement tag.name tag.attrs tag.had_duplicate_attributes ∷ SetFramesetNotOk ∷ SetMode InBody ∷ []) IsDone
+
+-- anything else
+abbrev pub after_head_else : TurnText → World → Row
+after_head_else t w = row (InsertElement (codes "body") [] false ∷ []) (Again InBody)
+
+abbrev pub after_head_named : TagKind → KnownName → TagText → World → Row
+after_head_named StartTag Html tag w = in_body_start_html tag w
+after_head_named StartTag Body tag w = after_head_start_body tag w
+after_head_named EndTag Body tag w = after_head_else (TagTurn tag) w
+after_head_named EndTag Html tag w = after_head_else (TagTurn tag) w
+after_head_named EndTag Br tag w = after_head_else (TagTurn tag) w
+after_head_named StartTag Head tag w = ignored
+after_head_named EndTag _ tag w = ignored
+after_head_named StartTag _ tag w = after_head_else (TagTurn tag) w
+
+unfoldable pub after_head_tag : TagText → World → Row
+after_head_tag tag w = after_head_named tag.kind (known_name_of tag.name) tag w
+
+abbrev pub after_head : TurnText → World → Row
+after_head (TagTurn tag) w = after_head_tag tag w
+after_head (CommentTurn text) w = row (AppendComment text ∷ []) IsDone
+after_head (TextTurn Whitespace text) w = row (AppendText text ∷ []) IsDone
+after_head (TextTurn NotWhitespace text) w = after_head_else (TextTurn NotWhitespace text) w
+after_head (TextTurn NotSplit text) w = after_head_else (TextTurn NotSplit text) w
+after_head NullTurn w = after_head_else NullTurn w
+after_head EofTurn w = after_head_else EofTurn w

@@ -1,0 +1,67 @@
+-- HTML standard, section 13.2.6.4.7, the "in body" insertion mode.
+use Rattle.std.specs.Prelude.{Bool, not, ◌&&◌, List, [], ◌∷◌, codes}
+use Rattle.h5_token.specs.TokenText.{TagText}
+use Rattle.h5_token.specs.declared.tag.TagKind.{TagKind}
+use Rattle.h5_token.specs.declared.tag.TagKind.TheVariants.{EndTag, StartTag}
+use Rattle.h5_names.specs.KnownNames.{known_name_of}
+use Rattle.h5_names.specs.declared.known_name.KnownName.{KnownName}
+use Rattle.h5_names.specs.declared.known_name.KnownName.TheVariants.{Body, Html}
+use Rattle.h5_tag_sets.specs.TagSets.{is_default_scope, is_html_named}
+use Rattle.h5_stack.specs.Scope.{comes_before_special, has_template, has_unclosed, in_scope, second_is}
+use Rattle.h5_types.specs.TurnText.{CommentTurn, EofTurn, NullTurn, TagTurn, TextTurn, TurnText}
+use Rattle.h5_types.specs.declared.modes.InsertionMode.TheVariants.{AfterBody}
+use Rattle.h5_meaning.specs.Rows.{AddAttrsToSecond, Again, AppendComment, Change, Ending, GenerateImpliedEndExcept, InsertElement, IsDone, PopUntilNamed, Row, SetFramesetNotOk, SetMode, choose, errs, ignored, row}
+use Rattle.h5_meaning.specs.Shared.{in_body_start_html, in_body_text}
+use Rattle.h5_meaning.specs.World.{World, names_of}
+
+-- a start tag "body"
+unfoldable pub in_body_start_body : TagText → World → Row
+in_body_start_body tag w =
+    choose (second_is (codes "body") (names_of w) && not (has_template (names_of w)))
+    (errs (SetFramesetNotOk ∷ AddAttrsToSecond tag.attrs ∷ []) IsDone) ignored
+
+-- an HTML `body` is in scope
+abbrev pub body_in_scope : World → Bool
+body_in_scope w = in_scope (is_html_named (codes "body")) is_default_scope (names_of w)
+
+unfoldable pub if_body_in_scope : Row → World → Row
+if_body_in_scope r w = choose (body_in_scope w) r ignored
+
+-- the body ends, and a parse error is told where an element is still open that may not be
+abbrev pub body_ends : List Change → Ending → World → Row
+body_ends changes ending w = record { changes = changes; ending = ending; quiet = not (has_unclosed (names_of w)) }
+
+-- an end tag "body"
+abbrev pub in_body_end_body : TagText → World → Row
+in_body_end_body tag w = if_body_in_scope (body_ends (SetMode AfterBody ∷ []) IsDone w) w
+
+-- an end tag "html"
+abbrev pub in_body_end_html : TagText → World → Row
+in_body_end_html tag w = if_body_in_scope (body_ends [] (Again AfterBody) w) w
+
+-- any other start tag
+abbrev pub in_body_start_other : TagText → World → Row
+in_body_start_other tag w = row (InsertElement tag.name tag.attrs tag.had_duplicate_attributes ∷ []) IsDone
+
+-- any other end tag
+unfoldable pub in_body_end_other : TagText → World → Row
+in_body_end_other tag w =
+    choose (comes_before_special tag.name (names_of w)) (errs (GenerateImpliedEndExcept tag.name ∷ PopUntilNamed tag.name ∷ []) IsDone) ignored
+
+abbrev pub in_body_named : TagKind → KnownName → TagText → World → Row
+in_body_named StartTag Html tag w = in_body_start_html tag w
+in_body_named StartTag Body tag w = in_body_start_body tag w
+in_body_named StartTag _ tag w = in_body_start_other tag w
+in_body_named EndTag Html tag w = in_body_end_html tag w
+in_body_named EndTag Body tag w = in_body_end_body tag w
+in_body_named EndTag _ tag w = in_body_end_other tag w
+
+unfoldable pub in_body_tag : TagText → World → Row
+in_body_tag tag w = in_body_named tag.kind (known_name_of tag.name) tag w
+
+abbrev pub in_body : TurnText → World → Row
+in_body (TagTurn tag) w = in_body_tag tag w
+in_body (CommentTurn text) w = row (AppendComment text ∷ []) IsDone
+in_body (TextTurn status text) w = in_body_text text w
+in_body NullTurn w = ignored
+in_body EofTurn w = body_ends [] IsDone w

@@ -1,0 +1,10 @@
+pub mod Adoption
+pub mod FormattingList
+pub mod FormattingNames
+pub mod Fresh
+pub mod InnerLoop
+pub mod Lists
+pub mod Order
+pub mod Places
+pub mod Scope
+pub mod Splits

@@ -1,0 +1,43 @@
+-- What a step of a rule does, as contracts say it. `law` is the law of the sink: what a sink shows, which node a handle
+-- names, and what the sink chooses.
+use Rattle.std.specs.Prelude.{◌≡◌, ◌<◌, ℕ, length, Result, OnOk}
+use Rattle.h5_interface.specs.declared.sink.TreeSink.{Ghosts}
+use Rattle.h5_meaning.specs.Rows.{Change, apply}
+use Rattle.h5_meaning.specs.Sound.{Sound}
+use Rattle.h5_meaning.specs.World.{World}
+use Rattle.h5_state.specs.View.{world}
+use Rattle.h5_state.specs.declared.state.State.{State}
+
+-- the world that a sink and a state mean
+abbrev pub world_of : {S H O : Type 0} → Ghosts S H O → S → State H → World
+world_of law sink state = world law.sees law.node sink state
+
+-- the mark of the parse errors that were told
+abbrev pub errors_of : {S H O : Type 0} → Ghosts S H O → S → ℕ
+errors_of law sink = (law.sees sink).errors
+
+-- what holds at every moment
+abbrev pub IsSound : {S H O : Type 0} → Ghosts S H O → S → State H → Type 0
+IsSound law sink state = Sound (world_of law sink state)
+
+-- and an element is open
+pub record IsOpen {S H O : Type 0} (law : Ghosts S H O) (sink : S) (state : State H) : Type 0 where
+  pub sound : IsSound law sink state
+  pub some : 0 < length (world_of law sink state).stack
+
+-- this change was made, and no parse error was told
+pub record Makes {S H O : Type 0} (law : Ghosts S H O) (change : Change) (old_sink : S) (old_state : State H) (new_sink : S) (new_state : State H) : Type 0 where
+  pub world : world_of law new_sink new_state ≡ apply law.choices change (world_of law old_sink old_state)
+  pub quiet : errors_of law new_sink ≡ errors_of law old_sink
+  pub sound : IsSound law new_sink new_state
+
+-- the same, unless memory was refused; what there is then is sound, too
+pub record MakesIfOk {S H O T E : Type 0} (law : Ghosts S H O) (change : Change) (old_sink : S) (old_state : State H) (new_sink : S) (new_state : State H) (result : Result T E) : Type 0 where
+  pub world : OnOk result (world_of law new_sink new_state ≡ apply law.choices change (world_of law old_sink old_state))
+  pub quiet : errors_of law new_sink ≡ errors_of law old_sink
+  pub sound : IsSound law new_sink new_state
+
+-- nothing changes but, perhaps, the mark of parse errors
+pub record TellsErrors {S H O : Type 0} (law : Ghosts S H O) (old_sink new_sink : S) (state : State H) : Type 0 where
+  pub world : world_of law new_sink state ≡ world_of law old_sink state
+  pub sound : IsSound law old_sink state → IsSound law new_sink state

@@ -1,0 +1,264 @@
+//! Sets of local names, each a bit of a known name's word.
+ghost use Rattle.std.specs.Prelude.{◌≡◌};
+ghost use Rattle.h5_tag_sets.specs.TagSets.{is_one_of};
+ghost use Rattle.h5_names.specs.KnownNames.{name_text};
+ghost use Rattle.h5_tag_sets.specs.NameSets.{flag_of, has_flag, names_of};
+
+use h5_names::{KnownName, LocalName};
+
+/// A set of local names, of HTML elements if nothing else is said.
+#[derive(Clone, Copy, Debug, PartialEq, Eq)]
+pub enum NameSet {
+    /// Special elements.
+    Special,
+    /// Elements that end a scope.
+    DefaultScope,
+    /// What ends a list item scope besides.
+    ListItemScope,
+    /// What ends a button scope besides.
+    ButtonScope,
+    /// What ends a table scope.
+    TableScope,
+    /// A table body context.
+    TableBodyContext,
+    /// A table row context.
+    TableRowContext,
+    /// Elements whose end tag is implied.
+    CursoryImpliedEnd,
+    /// Elements whose end tag is implied where all are.
+    ThoroughImpliedEnd,
+    /// `h1` to `h6`.
+    Heading,
+    /// What may be open where the body ends.
+    BodyEndOk,
+    /// What a head holds.
+    HeadContent,
+    /// Formatting elements.
+    Formatting,
+    /// Cells of a table.
+    TdTh,
+    /// Where content is foster-parented.
+    TableOuter,
+    /// Text integration points, of MathML.
+    MathMlTextPoint,
+    /// HTML integration points, of SVG.
+    SvgHtmlPoint,
+    /// Elements that are written without content.
+    Void,
+    /// Elements whose text is written as it stands.
+    RawText,
+}
+
+const SPECIAL: u32 = 1 << NameSet::Special as u32;
+
+const DEFAULT_SCOPE: u32 = 1 << NameSet::DefaultScope as u32;
+
+const LIST_ITEM_SCOPE: u32 = 1 << NameSet::ListItemScope as u32;
+
+const BUTTON_SCOPE: u32 = 1 << NameSet::ButtonScope as u32;
+
+const TABLE_SCOPE: u32 = 1 << NameSet::TableScope as u32;
+
+const TABLE_BODY_CONTEXT: u32 = 1 << NameSet::TableBodyContext as u32;
+
+const TABLE_ROW_CONTEXT: u32 = 1 << NameSet::TableRowContext as u32;
+
+const CURSORY_IMPLIED_END: u32 = 1 << NameSet::CursoryImpliedEnd as u32;
+
+const THOROUGH_IMPLIED_END: u32 = 1 << NameSet::ThoroughImpliedEnd as u32;
+
+const HEADING: u32 = 1 << NameSet::Heading as u32;
+
+const BODY_END_OK: u32 = 1 << NameSet::BodyEndOk as u32;
+
+const HEAD_CONTENT: u32 = 1 << NameSet::HeadContent as u32;
+
+const FORMATTING: u32 = 1 << NameSet::Formatting as u32;
+
+const TD_TH: u32 = 1 << NameSet::TdTh as u32;
+
+const TABLE_OUTER: u32 = 1 << NameSet::TableOuter as u32;
+
+const MATHML_TEXT_POINT: u32 = 1 << NameSet::MathMlTextPoint as u32;
+
+const SVG_HTML_POINT: u32 = 1 << NameSet::SvgHtmlPoint as u32;
+
+const VOID: u32 = 1 << NameSet::Void as u32;
+
+const RAW_TEXT: u32 = 1 << NameSet::RawText as u32;
+
+// For each known name, by its number, the sets that hold it.
+static FLAGS: [u32; 149] = [
+    FORMATTING, // a
+    0, // action
+    SPECIAL, // address
+    0, // alt
+    0, // annotation-xml
+    SPECIAL | DEFAULT_SCOPE, // applet
+    SPECIAL | VOID, // area
+    SPECIAL, // article
+    SPECIAL, // aside
+    FORMATTING, // b
+    SPECIAL | HEAD_CONTENT | VOID, // base
+    SPECIAL | HEAD_CONTENT | VOID, // basefont
+    SPECIAL | HEAD_CONTENT | VOID, // bgsound
+    FORMATTING, // big
+    SPECIAL, // blockquote
+    SPECIAL | BODY_END_OK, // body
+    SPECIAL | VOID, // br
+    SPECIAL | BUTTON_SCOPE, // button
+    SPECIAL | DEFAULT_SCOPE | THOROUGH_IMPLIED_END, // caption
+    SPECIAL, // center
+    0, // charset
+    0, // class
+    FORMATTING, // code
+    SPECIAL | VOID, // col
+    SPECIAL | THOROUGH_IMPLIED_END, // colgroup
+    0, // color
+    0, // content
+    SPECIAL | CURSORY_IMPLIED_END | THOROUGH_IMPLIED_END | BODY_END_OK, // dd
+    0, // definitionURL
+    0, // definitionurl
+    SVG_HTML_POINT, // desc
+    SPECIAL, // details
+    0, // dialog
+    SPECIAL, // dir
+    SPECIAL, // div
+    SPECIAL, // dl
+    SPECIAL | CURSORY_IMPLIED_END | THOROUGH_IMPLIED_END | BODY_END_OK, // dt
+    FORMATTING, // em
+    SPECIAL | VOID, // embed
+    0, // encoding
+    0, // face
+    SPECIAL, // fieldset
+    SPECIAL, // figcaption
+    SPECIAL, // figure
+    FORMATTING, // font
+    SPECIAL, // footer
+    SVG_HTML_POINT, // foreignObject
+    0, // foreignobject
+    SPECIAL, // form
+    SPECIAL | VOID, // frame
+    SPECIAL, // frameset
+    SPECIAL | HEADING, // h1
+    SPECIAL | HEADING, // h2
+    SPECIAL | HEADING, // h3
+    SPECIAL | HEADING, // h4
+    SPECIAL | HEADING, // h5
+    SPECIAL | HEADING, // h6
+    SPECIAL, // head
+    SPECIAL, // header
+    0, // height
+    SPECIAL, // hgroup
+    SPECIAL | VOID, // hr
+    0, // href
+    SPECIAL | DEFAULT_SCOPE | TABLE_SCOPE | TABLE_BODY_CONTEXT | TABLE_ROW_CONTEXT | BODY_END_OK, // html
+    0, // http-equiv
+    FORMATTING, // i
+    0, // id
+    SPECIAL | RAW_TEXT, // iframe
+    0, // image
+    SPECIAL | VOID, // img
+    SPECIAL | VOID, // input
+    SPECIAL, // isindex
+    VOID, // keygen
+    0, // lang
+    SPECIAL | CURSORY_IMPLIED_END | THOROUGH_IMPLIED_END | BODY_END_OK, // li
+    SPECIAL | HEAD_CONTENT | VOID, // link
+    SPECIAL, // listing
+    SPECIAL, // main
+    0, // malignmark
+    SPECIAL | DEFAULT_SCOPE, // marquee
+    0, // math
+    SPECIAL, // menu
+    SPECIAL | HEAD_CONTENT | VOID, // meta
+    0, // method
+    0, // mglyph
+    MATHML_TEXT_POINT, // mi
+    MATHML_TEXT_POINT, // mn
+    MATHML_TEXT_POINT, // mo
+    MATHML_TEXT_POINT, // ms
+    MATHML_TEXT_POINT, // mtext
+    0, // name
+    SPECIAL, // nav
+    FORMATTING, // nobr
+    SPECIAL | RAW_TEXT, // noembed
+    SPECIAL | HEAD_CONTENT | RAW_TEXT, // noframes
+    SPECIAL, // noscript
+    SPECIAL | DEFAULT_SCOPE, // object
+    SPECIAL | LIST_ITEM_SCOPE, // ol
+    CURSORY_IMPLIED_END | THOROUGH_IMPLIED_END | BODY_END_OK, // optgroup
+    CURSORY_IMPLIED_END | THOROUGH_IMPLIED_END | BODY_END_OK, // option
+    SPECIAL | CURSORY_IMPLIED_END | THOROUGH_IMPLIED_END | BODY_END_OK, // p
+    SPECIAL | VOID, // param
+    SPECIAL | RAW_TEXT, // plaintext
+    SPECIAL, // pre
+    CURSORY_IMPLIED_END | THOROUGH_IMPLIED_END, // rb
+    0, // rel
+    CURSORY_IMPLIED_END | THOROUGH_IMPLIED_END | BODY_END_OK, // rp
+    CURSORY_IMPLIED_END | THOROUGH_IMPLIED_END | BODY_END_OK, // rt
+    CURSORY_IMPLIED_END | THOROUGH_IMPLIED_END, // rtc
+    0, // ruby
+    FORMATTING, // s
+    SPECIAL | HEAD_CONTENT | RAW_TEXT, // script
+    0, // search
+    SPECIAL, // section
+    SPECIAL | DEFAULT_SCOPE, // select
+    0, // shadowrootmode
+    0, // size
+    FORMATTING, // small
+    SPECIAL | VOID, // source
+    0, // span
+    0, // src
+    FORMATTING, // strike
+    FORMATTING, // strong
+    SPECIAL | HEAD_CONTENT | RAW_TEXT, // style
+    0, // sub
+    SPECIAL, // summary
+    0, // sup
+    0, // svg
+    SPECIAL | DEFAULT_SCOPE | TABLE_SCOPE | TABLE_OUTER, // table
+    SPECIAL | TABLE_BODY_CONTEXT | THOROUGH_IMPLIED_END | BODY_END_OK | TABLE_OUTER, // tbody
+    SPECIAL | DEFAULT_SCOPE | THOROUGH_IMPLIED_END | BODY_END_OK | TD_TH, // td
+    SPECIAL | DEFAULT_SCOPE | TABLE_SCOPE | TABLE_BODY_CONTEXT | TABLE_ROW_CONTEXT | HEAD_CONTENT, // template
+    SPECIAL, // textarea
+    SPECIAL | TABLE_BODY_CONTEXT | THOROUGH_IMPLIED_END | BODY_END_OK | TABLE_OUTER, // tfoot
+    SPECIAL | DEFAULT_SCOPE | THOROUGH_IMPLIED_END | BODY_END_OK | TD_TH, // th
+    SPECIAL | TABLE_BODY_CONTEXT | THOROUGH_IMPLIED_END | BODY_END_OK | TABLE_OUTER, // thead
+    SPECIAL | HEAD_CONTENT | SVG_HTML_POINT, // title
+    SPECIAL | TABLE_ROW_CONTEXT | THOROUGH_IMPLIED_END | BODY_END_OK | TABLE_OUTER, // tr
+    SPECIAL | VOID, // track
+    FORMATTING, // tt
+    0, // type
+    FORMATTING, // u
+    SPECIAL | LIST_ITEM_SCOPE, // ul
+    0, // value
+    0, // var
+    SPECIAL | VOID, // wbr
+    0, // width
+    SPECIAL | RAW_TEXT, // xmp
+    0, // any other
+];
+
+// The sets that hold a known name.
+fn flags(known: KnownName) -> u32
+    ensures { (set : NameSet) → has_flag result set ≡ is_one_of (names_of set) (name_text known) }
+{
+    FLAGS[known as usize]
+}
+
+impl NameSet {
+    // The bit of this set.
+    fn flag(self) -> u32
+        ensures { result ≡ flag_of self }
+    {
+        1 << self as u32
+    }
+
+    /// Whether this set holds a local name, without a look at its text if HTML knows it.
+    pub fn holds(self, name: &LocalName) -> bool
+        ensures { result ≡ is_one_of (names_of self) name.now }
+    {
+        flags(name.known()) & self.flag() != 0
+    }
+}

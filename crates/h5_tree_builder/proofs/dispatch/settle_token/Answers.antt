@@ -1,0 +1,114 @@
+use Rattle.std.proofs.Common.{◌≡◌, ◌-◌, ◌+◌, ℕ, true, sym, subst, ap, ◌∙◌, arith, rules}
+use Rattle.h5_token.specs.declared.sink.TokenSinkResult.TheVariants.{Continue}
+use Rattle.h5_types.specs.TurnText.{HasText, turn_text}
+use Rattle.h5_types.specs.declared.turns.ProcessResult.TheVariants as results
+use Rattle.h5_meaning.specs.Modes.{rule}
+use Rattle.h5_meaning.specs.Rows.{Follows}
+use Rattle.h5_meaning.specs.Settle.{settle}
+use Rattle.h5_meaning.specs.Sound.{Fits, Sound}
+use Rattle.h5_meaning.specs.World.{World}
+use Rattle.h5_meaning.proofs.FitsLaws.{fits_acknowledged, fits_again, fits_answered, fits_done}
+use Rattle.h5_meaning.proofs.SettleLaws.{rank_falls}
+use Rattle.h5_state.specs.View.{world}
+use Rattle.h5_tree_builder.specs.Chains.{CameTo}
+use Rattle.h5_tree_builder.specs.declared.taken.Taken.{Taken}
+use Rattle.h5_tree_builder.proofs.ChainLaws.{Left, acknowledged_last, answered_last, done_last, left_next}
+use Rattle.h5_tree_builder.proofs.dispatch.settle_token.Goals as goal
+
+pub returns-in-Done : goal.returns-in-Done
+returns-in-Done g c =
+    let k = g.S.TreeSink.choices in
+    let node = g.S.TreeSink.node in
+    let t = turn_text c.args.token in
+    let w = world g.S.TreeSink.sees node c.turns.sink c.turns.state in
+    let v = world g.S.TreeSink.sees node c.step.new.sink c.step.new.state in
+    let a = (g.S.TreeSink.sees c.turns.sink).errors in
+    let b = (g.S.TreeSink.sees c.step.new.sink).errors in
+    let e = (g.S.TreeSink.sees c.args.sink.now).errors in
+    let first = world g.S.TreeSink.sees node c.args.sink.now c.args.state.now in
+    let f : Follows k node (rule w.mode t w) t w v a b results.Done = subst (λ x. Follows k node (rule w.mode x w) x w v a b results.Done) c.turns.invariant.same (subst (λ r. Follows k node (rule w.mode (turn_text c.turns.rest) w) (turn_text c.turns.rest) w v a b r) c.in-Done.is c.in_ok-step.ensures.follows) in
+    let u = world g.S.TreeSink.sees node c.check_flag.new.sink c.step.new.state in
+    let d = (g.S.TreeSink.sees c.check_flag.new.sink).errors in
+    record {
+      came = subst (λ x. CameTo node (settle k t first) true x e d (record { turns = c.turns.turns; answer = Continue })) (sym c.check_flag.ensures.told.world)
+          (subst (λ n. CameTo node (settle k t first) true v e d (record { turns = n; answer = Continue })) (omega (arith, c.turns.invariant.some))
+          (done_last k node t first w v e a b d (c.turns.turns - 1) c.is_self_closing-self_closing.result f c.is_self_closing-self_closing.ensures c.check_flag.ensures.quiet c.turns.invariant.left));
+      sound = c.check_flag.ensures.told.sound c.step.ensures.sound;
+      fits = subst Fits (sym c.check_flag.ensures.told.world) (fits_done k node t w v a b f c.turns.invariant.sound c.requires.text c.turns.invariant.fits);
+    }
+
+pub returns-in-DoneAckSelfClosing : goal.returns-in-DoneAckSelfClosing
+returns-in-DoneAckSelfClosing g c =
+    let k = g.S.TreeSink.choices in
+    let node = g.S.TreeSink.node in
+    let t = turn_text c.args.token in
+    let w = world g.S.TreeSink.sees node c.turns.sink c.turns.state in
+    let v = world g.S.TreeSink.sees node c.step.new.sink c.step.new.state in
+    let a = (g.S.TreeSink.sees c.turns.sink).errors in
+    let b = (g.S.TreeSink.sees c.step.new.sink).errors in
+    let e = (g.S.TreeSink.sees c.args.sink.now).errors in
+    let first = world g.S.TreeSink.sees node c.args.sink.now c.args.state.now in
+    let f : Follows k node (rule w.mode t w) t w v a b results.DoneAckSelfClosing = subst (λ x. Follows k node (rule w.mode x w) x w v a b results.DoneAckSelfClosing) c.turns.invariant.same (subst (λ r. Follows k node (rule w.mode (turn_text c.turns.rest) w) (turn_text c.turns.rest) w v a b r) c.in-DoneAckSelfClosing.is c.in_ok-step.ensures.follows) in
+    record {
+      came = subst (λ n. CameTo node (settle k t first) true v e b (record { turns = n; answer = Continue })) (omega (arith, c.turns.invariant.some))
+          (acknowledged_last k node t first w v e a b (c.turns.turns - 1) f c.turns.invariant.left);
+      sound = c.step.ensures.sound;
+      fits = fits_acknowledged k node t w v a b f c.turns.invariant.sound c.requires.text c.turns.invariant.fits;
+    }
+
+pub returns-in-Answer : goal.returns-in-Answer
+returns-in-Answer g c =
+    let k = g.S.TreeSink.choices in
+    let node = g.S.TreeSink.node in
+    let t = turn_text c.args.token in
+    let w = world g.S.TreeSink.sees node c.turns.sink c.turns.state in
+    let v = world g.S.TreeSink.sees node c.step.new.sink c.step.new.state in
+    let a = (g.S.TreeSink.sees c.turns.sink).errors in
+    let b = (g.S.TreeSink.sees c.step.new.sink).errors in
+    let e = (g.S.TreeSink.sees c.args.sink.now).errors in
+    let first = world g.S.TreeSink.sees node c.args.sink.now c.args.state.now in
+    let f : Follows k node (rule w.mode t w) t w v a b (results.Answer c.in-Answer.answer) = subst (λ x. Follows k node (rule w.mode x w) x w v a b (results.Answer c.in-Answer.answer)) c.turns.invariant.same (subst (λ r. Follows k node (rule w.mode (turn_text c.turns.rest) w) (turn_text c.turns.rest) w v a b r) c.in-Answer.is c.in_ok-step.ensures.follows) in
+    record {
+      came = subst (λ n. CameTo node (settle k t first) true v e b (record { turns = n; answer = c.in-Answer.answer })) (omega (arith, c.turns.invariant.some))
+          (answered_last k node t first w v e a b (c.turns.turns - 1) c.in-Answer.answer f c.turns.invariant.left);
+      sound = c.step.ensures.sound;
+      fits = fits_answered k node t w v a b c.in-Answer.answer f c.turns.invariant.sound c.requires.text c.turns.invariant.fits;
+    }
+
+pub turns-smaller : goal.turns-smaller
+turns-smaller g c =
+    let k = g.S.TreeSink.choices in
+    let node = g.S.TreeSink.node in
+    let t = turn_text c.args.token in
+    let w = world g.S.TreeSink.sees node c.turns.sink c.turns.state in
+    let v = world g.S.TreeSink.sees node c.step.new.sink c.step.new.state in
+    let a = (g.S.TreeSink.sees c.turns.sink).errors in
+    let b = (g.S.TreeSink.sees c.step.new.sink).errors in
+    let f : Follows k node (rule w.mode t w) t w v a b (results.Reprocess c.in-Reprocess.mode c.in-Reprocess.again) = subst (λ x. Follows k node (rule w.mode x w) x w v a b (results.Reprocess c.in-Reprocess.mode c.in-Reprocess.again)) c.turns.invariant.same (subst (λ r. Follows k node (rule w.mode (turn_text c.turns.rest) w) (turn_text c.turns.rest) w v a b r) c.in-Reprocess.is c.in_ok-step.ensures.follows) in
+    let u = world g.S.TreeSink.sees node c.step.new.sink c.set_mode.new.state in
+    rank_falls k node t w v u a b c.in-Reprocess.mode c.in-Reprocess.again f c.set_mode.ensures.world
+
+pub turns-preserved : goal.turns-preserved
+turns-preserved g c =
+    let k = g.S.TreeSink.choices in
+    let node = g.S.TreeSink.node in
+    let t = turn_text c.args.token in
+    let w = world g.S.TreeSink.sees node c.turns.sink c.turns.state in
+    let v = world g.S.TreeSink.sees node c.step.new.sink c.step.new.state in
+    let a = (g.S.TreeSink.sees c.turns.sink).errors in
+    let b = (g.S.TreeSink.sees c.step.new.sink).errors in
+    let e = (g.S.TreeSink.sees c.args.sink.now).errors in
+    let first = world g.S.TreeSink.sees node c.args.sink.now c.args.state.now in
+    let f : Follows k node (rule w.mode t w) t w v a b (results.Reprocess c.in-Reprocess.mode c.in-Reprocess.again) = subst (λ x. Follows k node (rule w.mode x w) x w v a b (results.Reprocess c.in-Reprocess.mode c.in-Reprocess.again)) c.turns.invariant.same (subst (λ r. Follows k node (rule w.mode (turn_text c.turns.rest) w) (turn_text c.turns.rest) w v a b r) c.in-Reprocess.is c.in_ok-step.ensures.follows) in
+    let u = world g.S.TreeSink.sees node c.step.new.sink c.set_mode.new.state in
+    let m = c.in-Reprocess.mode in
+    let token = c.in-Reprocess.again in
+    let less = rank_falls k node t w v u a b m token f c.set_mode.ensures.world in
+    record {
+      sound = c.set_mode.ensures.sound;
+      fits = fits_again k node t w v u a b m token f c.set_mode.ensures.world c.turns.invariant.sound c.requires.text c.turns.invariant.fits;
+      same = f.ending.1;
+      some = omega arith;
+      few = omega (arith, less, c.turns.invariant.few);
+      left = subst (λ n. Left k t first u e b n) (omega (arith, c.turns.invariant.some)) (left_next k node t first w v u e a b (c.turns.turns - 1) m token f c.set_mode.ensures.world c.turns.invariant.left);
+    }

@@ -1,0 +1,25 @@
+use Rattle.std.proofs.Common.{◌≡◌, ◌<◌, ◌≤◌, ◌+◌, ◌-◌}
+use Rattle.h5_types.specs.TurnText.{turn_text}
+use Rattle.h5_meaning.specs.Sound.{Fits, Sound}
+use Rattle.h5_meaning.proofs.SettleLaws.{is_end_html, rank}
+use Rattle.h5_state.specs.View.{world}
+use Rattle.h5_tree_builder.proofs.ChainLaws.{Left}
+use Rattle.h5_tree_builder.proofs.dispatch.settle_token.Given as goal
+
+-- what is left of the chain gives what was to come at first
+abbrev pub invariant-turns : goal.invariant-turns
+invariant-turns g l =
+    let w = world g.S.TreeSink.sees g.S.TreeSink.node l.sink l.state in
+    let first = world g.S.TreeSink.sees g.S.TreeSink.node l.fn.sink l.fn.state in
+    let t = turn_text l.fn.token in
+    record {
+      sound : Sound w;
+      fits : Fits w;
+      same : turn_text l.rest ≡ t;
+      some : 0 < l.turns;
+      few : l.turns + rank (is_end_html t) w.mode ≤ 8;
+      left : Left g.S.TreeSink.choices t first w (g.S.TreeSink.sees l.fn.sink).errors (g.S.TreeSink.sees l.sink).errors (l.turns - 1);
+    }
+
+abbrev pub decreases-turns : goal.decreases-turns
+decreases-turns g l = rank (is_end_html (turn_text l.fn.token)) (world g.S.TreeSink.sees g.S.TreeSink.node l.sink l.state).mode

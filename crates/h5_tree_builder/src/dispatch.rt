@@ -1,0 +1,102 @@
+//! The turns of one token (HTML standard, section 13.2.6, "the tree construction dispatcher").
+ghost use Rattle.std.specs.Prelude.{◌≡◌, false, true, IfOk};
+ghost use Rattle.h5_types.specs.TurnText.{HasText, is_self_closing as is_closing_turn, turn_text};
+ghost use Rattle.h5_meaning.specs.Modes.{rule};
+ghost use Rattle.h5_meaning.specs.Settle.{settle};
+ghost use Rattle.h5_state.specs.Steps.{IsSound, TellsErrors, errors_of, world_of};
+ghost use Rattle.h5_state.specs.Turn.{Turns};
+ghost use Rattle.h5_tree_builder.specs.Chains.{IsReady, Settles};
+
+use super::taken::Taken;
+use h5_interface::TreeSink;
+use h5_rules_body::{step_after_after_body, step_after_body, step_in_body};
+use h5_rules_head::{
+    step_after_head, step_before_head, step_before_html, step_in_head, step_initial,
+};
+use h5_state::{State, Turn, current_mode, set_mode, tell_error};
+use h5_token::{TagKind, TokenSinkResult};
+use h5_types::{InsertionMode, ProcessResult, Token};
+use std::alloc::AllocError;
+
+// One turn, by the rule of the mode. A mode of which no rule is written isn't reached.
+fn step<S: TreeSink>(sink: &mut S, state: &mut State<S::Handle>, token: Token) -> Turn<S::Handle>
+    requires ready { IsReady S.TreeSink sink.old state.old }
+    requires text { HasText (turn_text token) }
+    ensures { Turns S.TreeSink (rule (world_of S.TreeSink sink.old state.old).mode (turn_text token)) (turn_text token) sink.old state.old sink.new state.new result }
+{
+    match current_mode(sink, state) {
+        InsertionMode::Initial => step_initial(sink, state, token),
+        InsertionMode::BeforeHtml => step_before_html(sink, state, token),
+        InsertionMode::BeforeHead => step_before_head(sink, state, token),
+        InsertionMode::InHead => step_in_head(sink, state, token),
+        InsertionMode::AfterHead => step_after_head(sink, state, token),
+        InsertionMode::InBody => step_in_body(sink, state, token),
+        InsertionMode::AfterBody => step_after_body(sink, state, token),
+        InsertionMode::AfterAfterBody => step_after_after_body(sink, state, token),
+        _ => unreachable!(),
+    }
+}
+
+// Whether a token is a start tag with the self-closing flag.
+fn is_self_closing(token: &Token) -> bool
+    ensures { result ≡ is_closing_turn (turn_text token.now) }
+{
+    match token {
+        Token::Tag(tag) => tag.kind == TagKind::StartTag && tag.self_closing,
+        _ => false,
+    }
+}
+
+// A self-closing flag that nobody acknowledged is a parse error.
+fn check_flag<S: TreeSink>(sink: &mut S, state: &State<S::Handle>, self_closing: bool)
+    requires { IsSound S.TreeSink sink.old state.now }
+    ensures told { TellsErrors S.TreeSink sink.old sink.new state.now }
+    ensures quiet { self_closing ≡ false → errors_of S.TreeSink sink.new ≡ errors_of S.TreeSink sink.old }
+{
+    if self_closing {
+        tell_error(
+            sink,
+            state,
+            "self-closing start tag of an element that has content",
+        );
+    }
+}
+
+/// The chain of a token: turn after turn, as long as they end in "again". It gives how many turns there were and
+/// what is answered, or an `AllocError` where memory is refused; what was built so far is sound then.
+pub fn settle_token<S: TreeSink>(
+    sink: &mut S,
+    state: &mut State<S::Handle>,
+    token: Token,
+) -> Result<Taken<S::Handle>, AllocError>
+    requires ready { IsReady S.TreeSink sink.old state.old }
+    requires text { HasText (turn_text token) }
+    ensures { Settles S.TreeSink (settle S.choices (turn_text token)) true sink.old state.old sink.new state.new result }
+{
+    let self_closing = is_self_closing(&token);
+    let mut rest = token;
+    let mut turns: u64 = 1;
+    'turns: loop {
+        match step(sink, state, rest)? {
+            ProcessResult::Done => {
+                check_flag(sink, state, self_closing);
+                return Ok(Taken {
+                    turns,
+                    answer: TokenSinkResult::Continue,
+                });
+            }
+            ProcessResult::DoneAckSelfClosing => {
+                return Ok(Taken {
+                    turns,
+                    answer: TokenSinkResult::Continue,
+                });
+            }
+            ProcessResult::Answer(answer) => return Ok(Taken { turns, answer }),
+            ProcessResult::Reprocess(mode, again) => {
+                set_mode(sink, state, mode);
+                rest = again;
+                turns += 1;
+            }
+        }
+    }
+}

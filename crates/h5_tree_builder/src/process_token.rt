@@ -1,0 +1,69 @@
+//! Taking a token, by its kind (HTML standard, section 13.2.6, "Tree construction").
+ghost use Rattle.std.specs.Prelude.{◌≡◌, true, IsOk};
+ghost use Rattle.h5_token.specs.TokenText.{token_text};
+ghost use Rattle.h5_meaning.specs.Run.{is_counted, step, taken};
+ghost use Rattle.h5_state.specs.Steps.{errors_of, world_of};
+ghost use Rattle.h5_tree_builder.specs.Chains.{IsReady, Settles, is_free};
+
+use super::dispatch::settle_token;
+use super::doctype::take_doctype;
+use super::taken::Taken;
+use super::text::take_text;
+use h5_interface::TreeSink;
+use h5_state::{State, tell_error};
+use h5_token::{Token as Input, TokenSinkResult};
+use h5_types::Token;
+use std::alloc::AllocError;
+
+// The newline flag, which is taken.
+#[tactic(auto, unfolding(h5_state::specs::View::world, h5_meaning::specs::World::names_of))]
+fn take_lf<S: TreeSink>(sink: &S, state: &mut State<S::Handle>) -> bool
+    ensures flag { result ≡ (world_of S.TreeSink sink.now state.old).ignore_lf }
+    ensures done { world_of S.TreeSink sink.now state.new ≡ taken (world_of S.TreeSink sink.now state.old) }
+    ensures ready { IsReady S.TreeSink sink.now state.old → IsReady S.TreeSink sink.now state.new }
+{
+    let ignore_lf = state.ignore_lf;
+    state.ignore_lf = false;
+    ignore_lf
+}
+
+// The sink is told of the line of a token that didn't begin in the first.
+#[tactic(auto, unfolding(h5_state::specs::View::world))]
+pub fn note_line<S: TreeSink>(sink: &mut S, state: &State<S::Handle>, line_number: u64)
+    ensures done { world_of S.TreeSink sink.new state.now ≡ world_of S.TreeSink sink.old state.now }
+    ensures quiet { errors_of S.TreeSink sink.new ≡ errors_of S.TreeSink sink.old }
+    ensures ready { IsReady S.TreeSink sink.old state.now → IsReady S.TreeSink sink.new state.now }
+{
+    if line_number != 1 {
+        sink.set_current_line(line_number);
+    }
+}
+
+/// A token that isn't refused. It gives how many turns it took and what is answered, or an `AllocError` where
+/// memory is refused; what was built so far is sound then.
+pub fn take_token<S: TreeSink>(
+    sink: &mut S,
+    state: &mut State<S::Handle>,
+    token: Input,
+) -> Result<Taken<S::Handle>, AllocError>
+    requires { IsReady S.TreeSink sink.old state.old }
+    ensures settles { Settles S.TreeSink (step S.choices (token_text token)) (is_counted (token_text token) (world_of S.TreeSink sink.old state.old)) sink.old state.old sink.new state.new result }
+    ensures free { is_free (token_text token) (world_of S.TreeSink sink.old state.old) ≡ true → IsOk result }
+{
+    let ignore_lf = take_lf(sink, state);
+    match token {
+        Input::DoctypeToken(doctype) => take_doctype(sink, state, doctype),
+        Input::TagToken(tag) => settle_token(sink, state, Token::Tag(tag)),
+        Input::CommentToken(text) => settle_token(sink, state, Token::Comment(text)),
+        Input::CharacterTokens(text) => take_text(sink, state, ignore_lf, text),
+        Input::NullCharacterToken => settle_token(sink, state, Token::NullCharacter),
+        Input::EOFToken => settle_token(sink, state, Token::Eof),
+        Input::ParseError(message) => {
+            tell_error(sink, state, message.as_str());
+            Ok(Taken {
+                turns: 0,
+                answer: TokenSinkResult::Continue,
+            })
+        }
+    }
+}
