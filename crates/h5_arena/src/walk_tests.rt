@@ -1,30 +1,28 @@
 //! Trees as they are written.
-use super::tests::{attribute, name_of, new_element};
+use super::tests::{new_element, put_doctype, small_tree, text_of};
 use super::{calls, *};
 use h5_interface::TreeSink;
-use h5_interface::example::build_small_tree;
-use h5_names::namespaces;
 use h5_serialize::{SerializeFault, SerializeOpts, TraversalScope, serialize};
 use std::alloc::{AllocError, Global};
 use std::process::Abort;
 use std::test::Fail;
 
-// A document: a doctype, a template with a text in its contents, a text, and an element with an attribute, a
-// text and a comment. The element is answered.
-fn build_document(alloc: Global, arena: &mut Arena, rt: &impl Abort) -> Result<NodeId, AllocError> {
-    let text = |s: &str| -> Result<String, AllocError> { String::from_str(alloc, s) };
-    arena.append_doctype_to_document(text("html")?, text("")?, text("")?)?;
-    let inner = text("1 < 2")?;
-    assert!(rt; inner.len() > 0);
-    let name = name_of(alloc, namespaces::HTML, "p")?;
-    let attrs = attribute(alloc, "id", "\"x\"")?;
-    let root = build_small_tree(arena, name, attrs, inner, text("a note")?)?;
+// A template with a text in its contents.
+fn build_template(alloc: Global, arena: &mut Arena, rt: &impl Abort) -> Result<NodeId, AllocError> {
     let template = new_element(arena, alloc, "template")?;
     if let Some(contents) = calls::template_contents(arena, template, rt) {
-        calls::append_text(arena, contents, text("inside")?, rt)?;
+        calls::append_text(arena, contents, text_of(alloc, "inside")?, rt)?;
     }
+    Ok(template)
+}
+
+// A document: a doctype, a template, a text, and an element, which is answered.
+fn build_document(alloc: Global, arena: &mut Arena, rt: &impl Abort) -> Result<NodeId, AllocError> {
+    put_doctype(arena, alloc)?;
+    let root = small_tree(arena, alloc, "\"x\"", "1 < 2", rt)?;
+    let template = build_template(alloc, arena, rt)?;
     calls::put_before(arena, root, template, rt)?;
-    calls::put_text_before(arena, root, text("&")?, rt)?;
+    calls::put_text_before(arena, root, text_of(alloc, "&")?, rt)?;
     Ok(root)
 }
 
@@ -79,16 +77,22 @@ fn trees_are_written(rt: HostRuntime) -> Result<(), Fail> {
     Ok(())
 }
 
+// A hundred thousand elements, each in the next. The outermost is answered.
+fn build_nest(alloc: Global, arena: &mut Arena, rt: &impl Abort) -> Result<NodeId, AllocError> {
+    let mut outer = new_element(arena, alloc, "b")?;
+    for _ in 1..100_000 {
+        let inner = outer;
+        outer = new_element(arena, alloc, "b")?;
+        calls::append(arena, outer, inner, rt)?;
+    }
+    Ok(outer)
+}
+
 #[test]
 fn deep_trees_are_written(rt: HostRuntime) -> Result<(), Fail> {
     let alloc = rt.alloc();
     let mut arena = Arena::new(alloc)?;
-    let mut outer = new_element(&mut arena, alloc, "b")?;
-    for _ in 1..100_000 {
-        let inner = outer;
-        outer = new_element(&mut arena, alloc, "b")?;
-        calls::append(&mut arena, outer, inner, &rt)?;
-    }
+    let outer = build_nest(alloc, &mut arena, &rt)?;
     assert!(rt; arena.holds(outer));
     let opts = SerializeOpts::default();
     let written = serialize(alloc, Vec::new(alloc), &arena.at(outer), opts)?;

@@ -16,10 +16,10 @@ use std::alloc::{AllocError, Global};
 pub fn make_name(alloc: Global, text: &str) -> Result<LocalName, AllocError>
     ensures { IfOk result (λ name. name ≡ t.name_of text.now) }
 {
-    // Most names are known. They take no memory, and all but these two are in lower case.
+    // Most names are known, and take no memory.
     match KnownName::from_text(text) {
-        KnownName::Other | KnownName::ForeignObject | KnownName::DefinitionUrl => {}
-        known => return Ok(LocalName::from_known(known)),
+        KnownName::Other => {}
+        known => return Ok(LocalName::from_known(known.to_ascii_lowercase())),
     }
     let mut lower = text_of(alloc, false, text)?;
     lower.make_ascii_lowercase();

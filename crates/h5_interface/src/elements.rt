@@ -8,7 +8,7 @@ ghost use Rattle.h5_interface.specs.Seen.{after_create_element};
 
 use super::marks::ElementFlags;
 use super::sink::TreeSink;
-use h5_names::{Attribute, QualName, namespaces};
+use h5_names::{Attribute, KnownName, QualName, namespaces};
 use std::alloc::AllocError;
 
 /// A new element without parent. It is made as a template if its name is HTML's `template`, and as an
@@ -64,13 +64,13 @@ fn is_holder_of_html(name: &QualName, attrs: &[Attribute]) -> bool
 fn is_template(name: &QualName) -> bool
     ensures { result ≡ is_html_template name.now }
 {
-    name.ns.as_str() == namespaces::HTML && name.local.as_str() == "template"
+    name.ns.is_html() && name.local.is(KnownName::Template)
 }
 
 fn is_annotation(name: &QualName) -> bool
     ensures { result ≡ is_annotation_xml name.now }
 {
-    name.ns.as_str() == namespaces::MATHML && name.local.as_str() == "annotation-xml"
+    name.ns.is_mathml() && name.local.is(KnownName::AnnotationXml)
 }
 
 fn has_html_encoding(attrs: &[Attribute]) -> bool

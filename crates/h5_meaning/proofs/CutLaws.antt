@@ -1,8 +1,7 @@
 -- A text that is cut in two is the whole text.
 use Rattle.std.proofs.Common.{◌≡◌, ℕ, Bool, true, false, ◌&&◌, List, [], ◌∷◌, ◌++◌, refl, ap, sym, ◌∙◌}
 use Rattle.h5_interface.specs.SinkChoices.{SinkChoices}
-use Rattle.h5_interface.specs.Changes.{append_text as append_text_to}
-use Rattle.h5_interface.specs.Forest.{Forest}
+use Rattle.h5_interface.specs.Forest.{ChildText, Forest}
 use Rattle.h5_types.specs.TurnText.{TextTurn, TurnText}
 use Rattle.h5_types.specs.declared.modes.InsertionMode.{InsertionMode}
 use Rattle.h5_types.specs.declared.modes.SplitStatus.TheVariants.{NotWhitespace}
@@ -17,8 +16,9 @@ use Rattle.h5_meaning.specs.InHead.{in_head_else}
 use Rattle.h5_meaning.specs.InitialMode.{initial_else}
 use Rattle.h5_meaning.specs.Rows.{Row, choose}
 use Rattle.h5_meaning.specs.Text.{after_row, if_any, split, dropped, by_else, text_in_body, text_after_body, text_after_head, text_in_head, text_before_head, text_before_html, text_initial, text_in, text_rule}
-use Rattle.h5_meaning.specs.World.{World, current, place}
-use Rattle.h5_meaning.proofs.TextForestLaws.{append_text_twice, inside_text}
+use Rattle.h5_meaning.specs.Place.{appropriate_place, place, put}
+use Rattle.h5_meaning.specs.World.{World}
+use Rattle.h5_meaning.proofs.TextForestLaws.{place_same, put_text_twice, text_same}
 
 pub append_nil : (t : List ℕ) → t ++ [] ≡ t
 append_nil [] = refl
@@ -50,10 +50,10 @@ drops : Blanks dropped
 drops = record { twice = λ t u w. refl; mode = λ t w. refl }
 
 -- the forest after a text that is put twice
-forest_twice : (t u : List ℕ) (w : World) → append_text_to (place (with_forest (append_text_to (place w) t w.forest) w)) u (append_text_to (place w) t w.forest) ≡ append_text_to (place w) (t ++ u) w.forest
+forest_twice : (t u : List ℕ) (w : World) → put (place (with_forest (put (place w) (ChildText t) w.forest) w)) (ChildText u) (put (place w) (ChildText t) w.forest) ≡ put (place w) (ChildText (t ++ u)) w.forest
 forest_twice t u w =
-    ap (λ p. append_text_to p u (append_text_to (place w) t w.forest)) (inside_text (place w) (current w) t w.forest)
-    ∙ append_text_twice (place w) t u w.forest
+    ap (λ p. put p (ChildText u) (put (place w) (ChildText t) w.forest)) (place_same w.forest (put (place w) (ChildText t) w.forest) (text_same (place w) t w.forest) w refl)
+    ∙ put_text_twice (place w) t u w.forest
 
 appends : Blanks append_text
 unfolding append_text
@@ -74,10 +74,10 @@ abbrev with_text : World → Forest → Bool → World
 with_text w f o = record w { forest = f; frameset_ok = o }
 
 in_body_twice : Blanks text_in_body
-unfolding text_in_body append_text set_frameset_ok_by_text
+unfolding text_in_body append_text set_frameset_ok_by_text appropriate_place
 in_body_twice = record {
   twice = λ t u w. ap (λ f. with_text w f ((w.frameset_ok && all_blank t) && all_blank u)) (forest_twice t u w)
-      ∙ ap (λ o. with_text w (append_text_to (place w) (t ++ u) w.forest) o) (ok_twice w.frameset_ok t u);
+      ∙ ap (λ o. with_text w (put (place w) (ChildText (t ++ u)) w.forest) o) (ok_twice w.frameset_ok t u);
   mode = λ t w. refl;
 }
 

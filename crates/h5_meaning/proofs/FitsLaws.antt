@@ -2,13 +2,13 @@
 use Rattle.std.proofs.Common.{◌≡◌, ◌≢◌, Option, Some, None, is_some, ◌<◌, ℕ, Bool, true, false, cond, not, ◌&&◌, List, [], ◌∷◌, length, codes, refl, ap, sym, subst, ◌∙◌}
 use Rattle.h5_names.specs.declared.qualified.QualName.{QualName}
 use Rattle.h5_names.specs.AttributeText.{AttributeText, is_same_text}
-use Rattle.h5_names.proofs.KnownNameLemmas.{not_text_of, text_of_known}
+use Rattle.h5_names.proofs.KnownNameLemmas.{not_text_of}
 use Rattle.h5_token.specs.TokenText.{TagText}
 use Rattle.h5_token.specs.declared.tag.TagKind.{TagKind}
 use Rattle.h5_token.specs.declared.tag.TagKind.TheVariants.{StartTag, EndTag}
 use Rattle.h5_interface.specs.SinkChoices.{SinkChoices}
 use Rattle.h5_interface.specs.declared.marks.QuirksMode.TheVariants.{Quirks}
-use Rattle.h5_names.specs.KnownNames.{known_name_of, name_text}
+use Rattle.h5_names.specs.KnownNames.{known_name_of}
 use Rattle.h5_tag_sets.specs.TagSets.{is_html_named}
 use Rattle.h5_names.specs.declared.known_name.KnownName.{KnownName}
 use Rattle.h5_names.specs.declared.known_name.KnownName.TheVariants.{Html, Head, Body, Br}
@@ -27,19 +27,19 @@ use Rattle.h5_meaning.specs.AfterBody.{after_body_named, after_body_tag}
 use Rattle.h5_meaning.specs.AfterHead.{after_head_named, after_head_tag}
 use Rattle.h5_meaning.specs.BeforeHead.{before_head_named, before_head_tag}
 use Rattle.h5_meaning.specs.BeforeHtml.{before_html_named, before_html_tag}
-use Rattle.h5_meaning.specs.Changes.{add_attrs_at, add_attrs_to_html, add_attrs_to_second, append_text, append_comment, append_comment_to_doc, append_comment_to_html, pop_until_named, set_frameset_not_ok, set_head_to_current, generate_implied_end_except, set_mode, insert_element, create_root, set_frameset_ok_by_text, pop, pop_while, set_quirks_mode}
+use Rattle.h5_meaning.specs.Changes.{add_attrs_at, add_attrs_to_html, add_attrs_to_second, append_text, append_comment, append_comment_to_doc, append_comment_to_html, pop_until_named, set_frameset_not_ok, generate_implied_end_except, set_mode, insert_element, insert_head, create_root, set_frameset_ok_by_text, pop, pop_while, set_quirks_mode}
 use Rattle.h5_meaning.specs.InBody.{body_ends, body_in_scope, if_body_in_scope, in_body_end_other, in_body_named, in_body_start_body, in_body_tag}
 use Rattle.h5_meaning.specs.InHead.{in_head_named, in_head_tag}
 use Rattle.h5_meaning.specs.InitialMode.{initial_else}
 use Rattle.h5_meaning.specs.Modes.{rule}
-use Rattle.h5_meaning.specs.Rows.{Follows, AddAttrsToHtml, AddAttrsToSecond, Again, AppendText, AppendComment, AppendCommentToDoc, AppendCommentToHtml, Change, PopUntilNamed, Ending, SetFramesetNotOk, SetHeadToCurrent, GenerateImpliedEndExcept, InsertElement, CreateRoot, IsDone, SetFramesetOkByText, Pop, Row, SetMode, SetQuirksMode, apply, apply_all, choose, errs, ignored, next_mode, row}
+use Rattle.h5_meaning.specs.Rows.{Follows, AddAttrsToHtml, AddAttrsToSecond, Again, AppendText, AppendComment, AppendCommentToDoc, AppendCommentToHtml, Change, PopUntilNamed, Ending, SetFramesetNotOk, GenerateImpliedEndExcept, InsertElement, InsertHead, CreateRoot, IsDone, SetFramesetOkByText, Pop, Row, SetMode, SetQuirksMode, apply, apply_all, choose, errs, ignored, next_mode, row}
 use Rattle.h5_meaning.specs.Shared.{in_body_start_html}
 use Rattle.h5_stack.specs.Scope.{comes_before_special, has_template, second_is}
 use Rattle.h5_meaning.specs.Sound.{Fits, Sound, situation_of}
 use Rattle.h5_meaning.specs.World.{World, names_of}
 use Rattle.h5_stack.specs.FormattingNames.{html_name}
 use Rattle.h5_stack.specs.Order.{second_from_last}
-use Rattle.h5_meaning.proofs.NameLaws.{names-add_to_root, names-add_to_second, names-append, names-append_comment, names-append_comment_to_document, names-append_comment_to_root, names-cut, names-implied, names-insert, names-insert_root}
+use Rattle.h5_meaning.proofs.NameLaws.{names-add_to_root, names-add_to_second, names-append, names-append_comment, names-append_comment_to_document, names-append_comment_to_root, names-cut, names-implied, names-insert, names-insert_head, names-insert_root}
 use Rattle.h5_stack.specs.Scope.{cut_names}
 use Rattle.h5_meaning.proofs.PopLaws.{names-pop, names_length}
 
@@ -82,12 +82,12 @@ module _ (choices : SinkChoices) (w : World) (sound : Sound w) where
   root_made attrs h = subst IsRootAlone (sym (names-insert_root choices attrs w sound)) (stage_root_pushed here here (names_of w) h)
 
   -- the head is pushed, and known
-  head_pushed : (local : List ℕ) (attrs : List AttributeText) (duplicates : Bool) → local ≡ codes "head" → FitsAs BeforeHead w → FitsAs InHead (set_head_to_current (insert_element choices local attrs duplicates w))
-  unfolding names_of set_head_to_current
-  head_pushed local attrs duplicates e h =
-      let v = set_head_to_current (insert_element choices local attrs duplicates w) in
-      subst (StageFits (situation_of v) InHead) (sym (names-insert choices local attrs duplicates w sound))
-      (stage_head_pushed here (situation_of v) (html_name local) (names_of w) (subst (λ l. is_html_named l (html_name local) ≡ true) e (made_named local)) refl h)
+  head_pushed : (attrs : List AttributeText) (duplicates : Bool) → FitsAs BeforeHead w → FitsAs InHead (insert_head choices attrs duplicates w)
+  unfolding insert_head insert_element
+  head_pushed attrs duplicates h =
+      let v = insert_head choices attrs duplicates w in
+      subst (StageFits (situation_of v) InHead) (sym (names-insert_head choices attrs duplicates w sound))
+      (stage_head_pushed here (situation_of v) (html_name (codes "head")) (names_of w) (made_named (codes "head")) refl h)
 
   -- the head is popped
   head_popped : FitsAs InHead w → FitsAs AfterHead (pop choices w)
@@ -132,19 +132,19 @@ module _ (choices : SinkChoices) (w : World) (sound : Sound w) where
   kept_before_html EndTag _ tag h = h
   kept_before_html StartTag _ tag h = kept_root h
 
-  kept_head : Kept BeforeHead (row (InsertElement (codes "head") [] false ∷ SetHeadToCurrent ∷ []) (Again InHead))
-  kept_head = head_pushed (codes "head") [] false refl
+  kept_head : Kept BeforeHead (row (InsertHead [] false ∷ []) (Again InHead))
+  kept_head = head_pushed [] false
 
-  kept_before_head : (k : TagKind) (n : KnownName) (tag : TagText) → (n ≡ Head → tag.name ≡ codes "head") → Kept BeforeHead (before_head_named k n tag w)
+  kept_before_head : (k : TagKind) (n : KnownName) (tag : TagText) → Kept BeforeHead (before_head_named k n tag w)
   unfolding names_of
-  kept_before_head StartTag Html tag named h = kept_start_html BeforeHead tag h
-  kept_before_head StartTag Head tag named h = head_pushed tag.name tag.attrs tag.had_duplicate_attributes (named refl) h
-  kept_before_head EndTag Head tag named h = kept_head h
-  kept_before_head EndTag Body tag named h = kept_head h
-  kept_before_head EndTag Html tag named h = kept_head h
-  kept_before_head EndTag Br tag named h = kept_head h
-  kept_before_head EndTag _ tag named h = h
-  kept_before_head StartTag _ tag named h = kept_head h
+  kept_before_head StartTag Html tag h = kept_start_html BeforeHead tag h
+  kept_before_head StartTag Head tag h = head_pushed tag.attrs tag.had_duplicate_attributes h
+  kept_before_head EndTag Head tag h = kept_head h
+  kept_before_head EndTag Body tag h = kept_head h
+  kept_before_head EndTag Html tag h = kept_head h
+  kept_before_head EndTag Br tag h = kept_head h
+  kept_before_head EndTag _ tag h = h
+  kept_before_head StartTag _ tag h = kept_head h
 
   kept_pop : Kept InHead (row (Pop ∷ []) (Again AfterHead))
   kept_pop = head_popped
@@ -240,14 +240,11 @@ module _ (choices : SinkChoices) (w : World) (sound : Sound w) where
   other_name name h = not_text_of name Html h
 
   -- the text of a name that is known as `head`
-  head_name : (name : List ℕ) → known_name_of name ≡ Head → name ≡ codes "head"
-  head_name name e = sym (text_of_known name (λ other. cc)) ∙ ap name_text e
-
   kept_tag : (m : InsertionMode) (tag : TagText) → Kept m (rule m (TagTurn tag) w)
   unfolding before_html_tag before_head_tag in_head_tag after_head_tag in_body_tag after_body_tag after_after_body_tag
   kept_tag Initial tag = kept_initial (TagTurn tag)
   kept_tag BeforeHtml tag = kept_before_html tag.kind (known_name_of tag.name) tag
-  kept_tag BeforeHead tag = kept_before_head tag.kind (known_name_of tag.name) tag (head_name tag.name)
+  kept_tag BeforeHead tag = kept_before_head tag.kind (known_name_of tag.name) tag
   kept_tag InHead tag = kept_in_head tag.kind (known_name_of tag.name) tag
   kept_tag AfterHead tag = kept_after_head tag.kind (known_name_of tag.name) tag
   kept_tag InBody tag = kept_in_body tag.kind (known_name_of tag.name) tag (other_name tag.name)
@@ -318,14 +315,14 @@ while_mode choices p [] w = refl
 while_mode choices p (n ∷ ns) w = elim (p n) as (λ b. (cond b (pop_while choices p ns (pop choices w)) w).mode ≡ w.mode) [ true ↦ while_mode choices p ns (pop choices w) | false ↦ refl ]
 
 change_mode : (choices : SinkChoices) (x : Change) (w : World) → (apply choices x w).mode ≡ mode_after w.mode (x ∷ [])
-unfolding set_frameset_ok_by_text set_quirks_mode insert_element create_root append_comment append_comment_to_doc append_comment_to_html append_text pop set_head_to_current add_attrs_to_html add_attrs_to_second generate_implied_end_except pop_until_named
+unfolding set_frameset_ok_by_text set_quirks_mode insert_element create_root append_comment append_comment_to_doc append_comment_to_html append_text pop insert_head add_attrs_to_html add_attrs_to_second generate_implied_end_except pop_until_named
 change_mode choices (SetMode mode) w = refl
 change_mode choices (SetQuirksMode mode) w = refl
 change_mode choices SetFramesetNotOk w = refl
 change_mode choices (SetFramesetOkByText text) w = refl
 change_mode choices (InsertElement local attrs duplicates) w = refl
+change_mode choices (InsertHead attrs duplicates) w = refl
 change_mode choices (CreateRoot attrs) w = refl
-change_mode choices SetHeadToCurrent w = refl
 change_mode choices (AppendText text) w = refl
 change_mode choices (AppendComment text) w = refl
 change_mode choices (AppendCommentToDoc text) w = refl

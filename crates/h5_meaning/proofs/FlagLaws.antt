@@ -6,7 +6,7 @@ use Rattle.h5_types.specs.declared.modes.InsertionMode.{InsertionMode}
 use Rattle.h5_types.specs.declared.modes.SplitStatus.TheVariants.{NotWhitespace}
 use Rattle.h5_types.specs.declared.modes.InsertionMode.TheVariants.{Initial, BeforeHtml, BeforeHead, InHead, AfterHead, InBody, AfterBody, AfterAfterBody}
 use Rattle.h5_meaning.specs.Blanks.{blanks_of, rest_of}
-use Rattle.h5_meaning.specs.Changes.{append_text, set_head_to_current, insert_element, create_root, set_frameset_ok_by_text, pop, set_quirks_mode}
+use Rattle.h5_meaning.specs.Changes.{append_text, insert_element, insert_head, create_root, set_frameset_ok_by_text, pop, set_quirks_mode}
 use Rattle.h5_meaning.specs.AfterBody.{back_to_body}
 use Rattle.h5_meaning.specs.AfterHead.{after_head_else}
 use Rattle.h5_meaning.specs.BeforeHead.{before_head_else}
@@ -51,7 +51,7 @@ unfolding text_in_head pop
 in_head_keeps choices = split_keeps append_text (by_else choices in_head_else (text_after_head choices)) append_keeps (else_keeps choices in_head_else (text_after_head choices) (after_head_keeps choices) (λ t w. refl))
 
 before_head_keeps : (choices : SinkChoices) → Keeps (text_before_head choices)
-unfolding text_before_head insert_element set_head_to_current
+unfolding text_before_head insert_element insert_head
 before_head_keeps choices = split_keeps dropped (by_else choices before_head_else (text_in_head choices)) (λ t w. refl) (else_keeps choices before_head_else (text_in_head choices) (in_head_keeps choices) (λ t w. refl))
 
 before_html_keeps : (choices : SinkChoices) → Keeps (text_before_html choices)

@@ -3,6 +3,7 @@ pub mod FitsLaws
 pub mod FlagLaws
 pub mod JoinLaws
 pub mod NameLaws
+pub mod PlaceLaws
 pub mod PopLaws
 pub mod RunLaws
 pub mod SettleLaws

@@ -2,24 +2,22 @@
 use Rattle.std.proofs.Common.{◌≡◌, ◌≢◌, inl, inr, ℕ, Bool, true, false, cond, List, [], ◌∷◌, map, Option, Some, None, codes, refl, ap, ◌∙◌}
 use Rattle.h5_names.specs.AttributeText.{AttributeText}
 use Rattle.h5_names.specs.declared.qualified.QualName.{QualName}
-use Rattle.h5_interface.specs.Changes.{append_node, append_text as append_text_to}
-use Rattle.h5_interface.specs.Forest.{Forest, IsElement, IsNode}
-use Rattle.h5_interface.specs.NewElement.{flags_of}
-use Rattle.h5_interface.specs.Seen.{make_element}
+use Rattle.h5_interface.specs.Forest.{ChildText, Forest, IsElement}
 use Rattle.h5_interface.specs.SinkChoices.{Rearranges, SinkChoices}
 use Rattle.h5_interface.proofs.ForestLaws.{document_is_node}
-use Rattle.h5_interface.proofs.HangingLaws.{append_text_rearranges}
-use Rattle.h5_interface.proofs.MakingLaws.{add_missing_rearranges, made_kind}
+use Rattle.h5_interface.proofs.MakingLaws.{add_missing_rearranges}
 use Rattle.h5_tag_sets.specs.TagSets.{is_html_named}
-use Rattle.h5_meaning.specs.Changes.{add_attrs_to_html, add_attrs_to_second, add_attrs_at, append_text, append_comment, append_comment_to_doc, append_comment_to_html, pop_until_named, generate_implied_end_except, insert_element, create_root, pop, pop_while, push_new}
+use Rattle.h5_meaning.specs.Changes.{add_attrs_to_html, add_attrs_to_second, add_attrs_at, append_text, append_comment, append_comment_to_doc, append_comment_to_html, pop_until_named, generate_implied_end_except, insert_element, insert_head, create_root, new_element, pop, pop_while, push_new}
+use Rattle.h5_meaning.specs.Place.{IsPlaceIn, LastChild, Place, place, put}
 use Rattle.h5_stack.specs.Order.{IsIn}
 use Rattle.h5_stack.specs.Scope.{cut_names, cut_through, drop_while, is_implied_but, later_names}
 use Rattle.h5_meaning.specs.Sound.{Sound}
-use Rattle.h5_meaning.specs.World.{World, name_in, name_of_found, names_of, place, root}
+use Rattle.h5_meaning.specs.World.{World, name_in, name_of_found, names_of, root}
 use Rattle.h5_stack.specs.FormattingNames.{html_name}
 use Rattle.h5_stack.specs.Order.{second_from_last}
 use Rattle.h5_meaning.proofs.PopLaws.{names-pop}
-use Rattle.h5_meaning.proofs.SoundLaws.{comment_below_rearranges, element_below_rearranges, element_is_node, name_kept, new_below, place_is_node, root_is_node}
+use Rattle.h5_meaning.proofs.PlaceLaws.{current_place_is_there, new_comment_rearranges, new_element_kind, new_element_rearranges, text_put_rearranges}
+use Rattle.h5_meaning.proofs.SoundLaws.{element_is_node, name_kept, root_is_node}
 
 -- a rearranged forest keeps the names of open elements
 kept : (f g : Forest) (s : List ℕ) → ((n : ℕ) → IsIn n s → IsElement f n) → Rearranges f g → map (name_in g) s ≡ map (name_in f) s
@@ -30,46 +28,48 @@ kept f g (n ∷ s) k r =
 
 pub names_kept : (w : World) (g : Forest) → Sound w → Rearranges w.forest g → map (name_in g) w.stack ≡ names_of w
 unfolding names_of
-names_kept w g k r = kept w.forest g w.stack k.elements r
+names_kept w g k r = kept w.forest g w.stack k.stands.elements r
 
 -- a new element is the first
-names_pushed : (choices : SinkChoices) (p : ℕ) (local : List ℕ) (attrs : List AttributeText) (duplicates : Bool) (w : World) → Sound w → IsNode w.forest p → names_of (push_new choices p local attrs duplicates w) ≡ html_name local ∷ names_of w
+names_pushed : (choices : SinkChoices) (p : Place) (local : List ℕ) (attrs : List AttributeText) (duplicates : Bool) (w : World) → Sound w → IsPlaceIn w.forest p → names_of (push_new choices p local attrs duplicates w) ≡ html_name local ∷ names_of w
 unfolding names_of
 names_pushed choices p local attrs duplicates w k there =
     let name = html_name local in
-    let flags = flags_of name attrs duplicates in
-    let g = append_node p (choices.fresh w.forest) (make_element choices name attrs flags w.forest) in
-    let new = new_below choices w.forest p name attrs flags k.is_forest there in
-    ap (λ x. x ∷ map (name_in g) w.stack) (ap name_of_found (new.kind ∙ made_kind choices w.forest name attrs flags k.is_forest))
-    ∙ ap (λ xs. name ∷ xs) (kept w.forest g w.stack k.elements (element_below_rearranges choices w.forest p name attrs flags k.is_forest there))
+    let g = new_element choices p name attrs duplicates w.forest in
+    ap (λ x. x ∷ map (name_in g) w.stack) (ap name_of_found (new_element_kind choices w.forest p name attrs duplicates k.stands.is_forest there))
+    ∙ ap (λ xs. name ∷ xs) (kept w.forest g w.stack k.stands.elements (new_element_rearranges choices w.forest p name attrs duplicates k.stands.is_forest there))
 
 pub names-insert : (choices : SinkChoices) (local : List ℕ) (attrs : List AttributeText) (duplicates : Bool) (w : World) → Sound w → names_of (insert_element choices local attrs duplicates w) ≡ html_name local ∷ names_of w
 unfolding insert_element
-names-insert choices local attrs duplicates w k = names_pushed choices (place w) local attrs duplicates w k (place_is_node w k)
+names-insert choices local attrs duplicates w k = names_pushed choices (place w) local attrs duplicates w k (current_place_is_there w k)
 
 pub names-insert_root : (choices : SinkChoices) (attrs : List AttributeText) (w : World) → Sound w → names_of (create_root choices attrs w) ≡ html_name (codes "html") ∷ names_of w
 unfolding create_root
-names-insert_root choices attrs w k = names_pushed choices w.forest.document (codes "html") attrs false w k (document_is_node w.forest k.is_forest)
+names-insert_root choices attrs w k = names_pushed choices (LastChild w.forest.document) (codes "html") attrs false w k (document_is_node w.forest k.stands.is_forest)
+
+pub names-insert_head : (choices : SinkChoices) (attrs : List AttributeText) (duplicates : Bool) (w : World) → Sound w → names_of (insert_head choices attrs duplicates w) ≡ html_name (codes "head") ∷ names_of w
+unfolding insert_head names_of insert_element
+names-insert_head choices attrs duplicates w k = names-insert choices (codes "head") attrs duplicates w k
 
 pub names-append : (t : List ℕ) (w : World) → t ≢ [] → Sound w → names_of (append_text t w) ≡ names_of w
 unfolding append_text names_of
-names-append t w some k = kept w.forest (append_text_to (place w) t w.forest) w.stack k.elements (append_text_rearranges w.forest (place w) t k.is_forest (record { is_node = place_is_node w k; child = some }))
+names-append t w some k = kept w.forest (put (place w) (ChildText t) w.forest) w.stack k.stands.elements (text_put_rearranges w.forest (place w) t k.stands.is_forest some (current_place_is_there w k))
 
 pub names-append_comment : (choices : SinkChoices) (t : List ℕ) (w : World) → Sound w → names_of (append_comment choices t w) ≡ names_of w
 unfolding append_comment names_of
-names-append_comment choices t w k = kept w.forest _ w.stack k.elements (comment_below_rearranges choices w.forest (place w) t k.is_forest (place_is_node w k))
+names-append_comment choices t w k = kept w.forest _ w.stack k.stands.elements (new_comment_rearranges choices w.forest (place w) t k.stands.is_forest (current_place_is_there w k))
 
 pub names-append_comment_to_document : (choices : SinkChoices) (t : List ℕ) (w : World) → Sound w → names_of (append_comment_to_doc choices t w) ≡ names_of w
 unfolding append_comment_to_doc names_of
-names-append_comment_to_document choices t w k = kept w.forest _ w.stack k.elements (comment_below_rearranges choices w.forest w.forest.document t k.is_forest (document_is_node w.forest k.is_forest))
+names-append_comment_to_document choices t w k = kept w.forest _ w.stack k.stands.elements (new_comment_rearranges choices w.forest (LastChild w.forest.document) t k.stands.is_forest (document_is_node w.forest k.stands.is_forest))
 
 pub names-append_comment_to_root : (choices : SinkChoices) (t : List ℕ) (w : World) → Sound w → names_of (append_comment_to_html choices t w) ≡ names_of w
 unfolding append_comment_to_html names_of
-names-append_comment_to_root choices t w k = kept w.forest _ w.stack k.elements (comment_below_rearranges choices w.forest (root w) t k.is_forest (root_is_node w k))
+names-append_comment_to_root choices t w k = kept w.forest _ w.stack k.stands.elements (new_comment_rearranges choices w.forest (LastChild (root w)) t k.stands.is_forest (root_is_node w k))
 
 pub names-add_to_root : (attrs : List AttributeText) (w : World) → Sound w → names_of (add_attrs_to_html attrs w) ≡ names_of w
 unfolding add_attrs_to_html names_of
-names-add_to_root attrs w k = kept w.forest _ w.stack k.elements (add_missing_rearranges w.forest (root w) attrs k.is_forest)
+names-add_to_root attrs w k = kept w.forest _ w.stack k.stands.elements (add_missing_rearranges w.forest (root w) attrs k.stands.is_forest)
 
 pub names-add_to_second : (attrs : List AttributeText) (w : World) → Sound w → names_of (add_attrs_to_second attrs w) ≡ names_of w
 unfolding add_attrs_to_second names_of
@@ -77,7 +77,7 @@ names-add_to_second attrs w k = at (second_from_last w.stack)
   where
     at : (o : Option ℕ) → map (name_in (add_attrs_at o attrs w).forest) (add_attrs_at o attrs w).stack ≡ map (name_in w.forest) w.stack
     at None = refl
-    at (Some n) = kept w.forest _ w.stack k.elements (add_missing_rearranges w.forest n attrs k.is_forest)
+    at (Some n) = kept w.forest _ w.stack k.stands.elements (add_missing_rearranges w.forest n attrs k.stands.is_forest)
 
 cut_map : (f : Forest) (is : QualName → Bool) (s : List ℕ) → map (name_in f) (cut_through is (map (name_in f) s) s) ≡ cut_names is (map (name_in f) s)
 cut_map f is [] = refl

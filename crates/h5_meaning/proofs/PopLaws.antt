@@ -1,16 +1,18 @@
 -- What popping and cutting leave.
-use Rattle.std.proofs.Common.{◌≡◌, ◌<◌, ℕ, Bool, true, false, cond, List, [], ◌∷◌, length, map, Option, Some, None, refl, ap, sym, ◌∙◌, arith}
+use Rattle.std.proofs.Common.{◌≡◌, ◌<◌, ℕ, Bool, true, false, ◌&&◌, not, cond, List, [], ◌∷◌, length, map, Option, Some, None, refl, ap, sym, ◌∙◌, arith}
 use Rattle.std.proofs.lemmas.List.{length-map}
 use Rattle.h5_names.specs.declared.qualified.QualName.{QualName}
 use Rattle.h5_interface.specs.Changes.{mark}
 use Rattle.h5_interface.specs.Forest.{Forest, Marks, Node, kind_of}
 use Rattle.h5_interface.specs.SinkChoices.{SinkChoices}
+use Rattle.h5_tag_sets.specs.TagSets.{is_html_named, is_implied}
 use Rattle.h5_meaning.specs.Changes.{generate_implied_end_except, pop, pop_while}
 use Rattle.h5_stack.specs.Scope.{cut_through, first_passes, is_implied_but, later_names}
-use Rattle.h5_meaning.specs.Sound.{Stands}
+use Rattle.h5_meaning.specs.Sound.{AllStand}
 use Rattle.h5_meaning.specs.World.{World, current, name_in, name_of_found, names_of}
+use Rattle.h5_stack.specs.FormattingList.{Entry}
 use Rattle.h5_stack.specs.Order.{but_first}
-use Rattle.h5_meaning.proofs.SoundLaws.{stands_but_first}
+use Rattle.h5_meaning.proofs.SoundLaws.{all_but_first}
 
 -- as many names as open elements
 pub names_length : (w : World) → length w.stack ≡ length (names_of w)
@@ -73,10 +75,37 @@ pop_shorter choices w h = at w.stack h
     at (n ∷ s) k = omega arith
 
 -- a stack that is cut
-pub stands_cut : (f : Forest) (is : QualName → Bool) (ns : List QualName) (s : List ℕ) → Stands f s → Stands f (cut_through is ns s)
-stands_cut f is [] s k = k
-stands_cut f is (n ∷ ns) s k =
-    elim (is n) as (λ b. Stands f (cond b (but_first s) (cut_through is ns (but_first s)))) [
-      | true ↦ stands_but_first f s k
-      | false ↦ stands_cut f is ns (but_first s) (stands_but_first f s k)
+pub all_cut : {l : List Entry} {head form context : Option ℕ} (f : Forest) (is : QualName → Bool) (ns : List QualName) (s : List ℕ) → AllStand f s l head form context → AllStand f (cut_through is ns s) l head form context
+all_cut f is [] s k = k
+all_cut {l} {head} {form} {context} f is (n ∷ ns) s k =
+    elim (is n) as (λ b. AllStand f (cond b (but_first s) (cut_through is ns (but_first s))) l head form context) [
+      | true ↦ all_but_first f s k
+      | false ↦ all_cut f is ns (but_first s) (all_but_first f s k)
     ]
+
+pop_stack : (choices : SinkChoices) (w : World) → (pop choices w).stack ≡ but_first w.stack
+unfolding pop
+pop_stack choices w = refl
+
+-- implied ends don't reach an element that they are not to reach, so cutting at it gives the same
+cut_popped : (choices : SinkChoices) (local : List ℕ) (ns : List QualName) (w : World) → names_of w ≡ ns
+    → let v = pop_while choices (is_implied_but local) ns w in cut_through (is_html_named local) (names_of v) v.stack ≡ cut_through (is_html_named local) ns w.stack
+cut_popped choices local [] w e = ap (λ ns. cut_through (is_html_named local) ns w.stack) e
+cut_popped choices local (n ∷ ns) w e =
+    at (is_implied n) (is_html_named local n) refl
+    (cut_popped choices local ns (pop choices w) (names-pop choices w ∙ ap later_names e) ∙ ap (cut_through (is_html_named local) ns) (pop_stack choices w))
+  where
+    stays : cut_through (is_html_named local) (names_of w) w.stack ≡ cut_through (is_html_named local) (n ∷ ns) w.stack
+    stays = ap (λ ms. cut_through (is_html_named local) ms w.stack) e
+
+    at : (i b : Bool) → is_html_named local n ≡ b
+        → (let v = pop_while choices (is_implied_but local) ns (pop choices w) in cut_through (is_html_named local) (names_of v) v.stack ≡ cut_through (is_html_named local) ns (but_first w.stack))
+        → let v = cond (i && not b) (pop_while choices (is_implied_but local) ns (pop choices w)) w in cut_through (is_html_named local) (names_of v) v.stack ≡ cut_through (is_html_named local) (n ∷ ns) w.stack
+    at true false h later = later ∙ ap (λ c. cond c (but_first w.stack) (cut_through (is_html_named local) ns (but_first w.stack))) (sym h)
+    at true true h later = stays
+    at false b h later = stays
+
+pub cut_behind_implied : (choices : SinkChoices) (local : List ℕ) (w : World) → let v = generate_implied_end_except choices local w in
+    cut_through (is_html_named local) (names_of v) v.stack ≡ cut_through (is_html_named local) (names_of w) w.stack
+unfolding generate_implied_end_except
+cut_behind_implied choices local w = cut_popped choices local (names_of w) w refl

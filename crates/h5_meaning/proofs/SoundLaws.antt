@@ -1,22 +1,16 @@
 -- What changes leave of a forest and its open elements.
-use Rattle.std.proofs.Common.{◌≡◌, inl, inr, ℕ, Bool, true, false, cond, List, [], ◌∷◌, Option, Some, None, Result, Ok, Err, OnOk, OnErr, IsTrue, refl, ap, sym, subst, ◌∙◌}
-use Rattle.std.specs.Prelude.{unwrap_or}
-use Rattle.h5_names.specs.declared.qualified.QualName.{QualName}
-use Rattle.h5_names.specs.AttributeText.{AttributeText}
-use Rattle.h5_interface.specs.declared.marks.ElementFlags.{ElementFlags}
+use Rattle.std.proofs.Common.{◌≡◌, inl, inr, ℕ, List, [], ◌∷◌, codes, Option, Some, None, Result, Ok, Err, OnOk, OnErr, IsTrue, refl, ap, sym, subst, ◌∙◌}
 use Rattle.h5_interface.specs.Ancestors.{AtOrAbove}
-use Rattle.h5_interface.specs.Changes.{append_node}
-use Rattle.h5_interface.specs.Forest.{ChildNode, CommentNode, ElementNode, Forest, HasContents, IsElement, IsForest, IsNode, contents_of, kind_of, parent_of}
-use Rattle.h5_interface.specs.NewElement.{is_html_template, flags_of}
-use Rattle.h5_interface.specs.Seen.{CanAppend, Seen, changed, make, make_element, plain}
-use Rattle.h5_interface.specs.SinkChoices.{Rearranges, SinkChoices}
-use Rattle.h5_interface.proofs.ForestLaws.{ancestor_is_node, contents_are_node, document_is_node, node_of_kind, rearranged_ancestor, rearranged_node, rearranges_refl}
-use Rattle.h5_interface.proofs.HangingLaws.{append_node_keeps, append_node_rehangs}
-use Rattle.h5_interface.proofs.MakingLaws.{hung_fresh_rearranges, made_contents, append_new_rearranges, made_is_free, made_kind, make_element_rearranges, new_is_free, old_is_node}
-use Rattle.h5_stack.specs.Order.{IsIn, Before}
-use Rattle.h5_meaning.specs.Sound.{Stands, Sound}
-use Rattle.h5_meaning.specs.World.{World, current, inside, name_in, name_of_found, place, root}
-use Rattle.h5_stack.specs.Order.{but_first, first_or, last_or}
+use Rattle.h5_interface.specs.Forest.{ElementNode, Forest, HasContents, IsElement, IsForest, IsNode, kind_of, parent_of}
+use Rattle.h5_interface.specs.NewElement.{is_html_template}
+use Rattle.h5_interface.specs.Seen.{Seen, changed}
+use Rattle.h5_interface.specs.SinkChoices.{Rearranges}
+use Rattle.h5_interface.proofs.ForestLaws.{ancestor_is_node, document_is_node, node_of_kind, rearranged_ancestor, rearranges_refl}
+use Rattle.h5_stack.specs.FormattingList.{ElementEntry, Entry, MarkerEntry}
+use Rattle.h5_stack.specs.FormattingNames.{AllOfTags, html_name}
+use Rattle.h5_stack.specs.Order.{Before, IsIn, but_first, first_or, last_or}
+use Rattle.h5_meaning.specs.Sound.{AllStand, IsHtml, RootIsTop, Sound, Stands}
+use Rattle.h5_meaning.specs.World.{World, name_in, name_of_found, root}
 
 -- an element is a node
 pub element_is_node : (f : Forest) (n : ℕ) → IsElement f n → IsNode f n
@@ -78,11 +72,7 @@ stands_tail f n s k = record {
   templates = λ m h. k.templates m (inr h);
 }
 
-pub stands_but_first : (f : Forest) (s : List ℕ) → Stands f s → Stands f (but_first s)
-stands_but_first f [] k = k
-stands_but_first f (n ∷ s) k = stands_tail f n s k
-
--- the current node, the root and the place of insertion are nodes
+-- the current node and the root are nodes
 pub first_is_node : (f : Forest) (s : List ℕ) → Stands f s → IsNode f (first_or f.document s)
 first_is_node f [] k = document_is_node f k.is_forest
 first_is_node f (n ∷ s) k = element_is_node f n (k.elements n (inl refl))
@@ -92,68 +82,89 @@ last_is_node f d [] there k = there
 last_is_node f d (n ∷ s) there k = last_is_node f n s (element_is_node f n (k n (inl refl))) (λ m h. k m (inr h))
 
 pub root_is_node : (w : World) → Sound w → IsNode w.forest (root w)
-root_is_node w k = last_is_node w.forest w.forest.document w.stack (document_is_node w.forest k.is_forest) k.elements
+root_is_node w k = last_is_node w.forest w.forest.document w.stack (document_is_node w.forest k.stands.is_forest) k.stands.elements
 
-pub inside_is_node : (f : Forest) (n : ℕ) → IsForest f → IsNode f n → IsNode f (inside f n)
-inside_is_node f n k there = at (is_html_template (name_in f n)) (contents_of f n) refl
+-- what a forest that was rearranged keeps of a node
+html_kept : (f g : Forest) (local : List ℕ) (n : ℕ) → Rearranges f g → IsHtml f local n → IsHtml g local n
+html_kept f g local n r e = r.same_kind n (node_of_kind f n (ElementNode (html_name local)) e) ∙ e
+
+element_kept : (f g : Forest) (n : ℕ) → Rearranges f g → IsElement f n → IsElement g n
+element_kept f g n r e = (e.0, html_kept_kind e)
   where
-    at : (b : Bool) (o : Option ℕ) → contents_of f n ≡ o → IsNode f (cond b (unwrap_or o n) n)
-    at false o e = there
-    at true None e = there
-    at true (Some c) e = contents_are_node f n c k e
+    html_kept_kind : (e : IsElement f n) → kind_of g n ≡ Some (ElementNode e.0)
+    html_kept_kind e = r.same_kind n (element_is_node f n e) ∙ e.1
 
-pub place_is_node : (w : World) → Sound w → IsNode w.forest (place w)
-place_is_node w k = inside_is_node w.forest (current w) k.is_forest (first_is_node w.forest w.stack k)
+listed_kept : (f g : Forest) (l : List Entry) → Rearranges f g → AllOfTags f l → AllOfTags g l
+listed_kept f g [] r k = tt
+listed_kept f g (MarkerEntry ∷ l) r k = listed_kept f g l r k
+listed_kept f g (ElementEntry n t ∷ l) r k = (html_kept f g t.name n r k.0, listed_kept f g l r k.1)
 
--- a new element below p
-pub element_below_rearranges : (choices : SinkChoices) (f : Forest) (p : ℕ) (name : QualName) (attrs : List AttributeText) (flags : ElementFlags) → IsForest f → IsNode f p → Rearranges f (append_node p (choices.fresh f) (make_element choices name attrs flags f))
-element_below_rearranges choices f p name attrs flags k there =
-    let g = make_element choices name attrs flags f in
-    let r = make_element_rearranges choices f name attrs flags k in
-    let free = made_is_free choices f name attrs flags p k there in
-    let p_there = rearranged_node f g p r there in
-    hung_fresh_rearranges f g (append_node p (choices.fresh f) g) (choices.fresh f) p (choices.fresh_is_new f k) r
-    (append_node_keeps g p (choices.fresh f) r.is_forest (record { is_node = p_there; child = free }))
-    (append_node_rehangs g p (choices.fresh f) r.is_forest p_there free)
+top_kept : (f g : Forest) (s : List ℕ) → Rearranges f g → ((n : ℕ) → IsIn n s → IsElement f n) → RootIsTop f s → RootIsTop g s
+top_kept f g [] r there k = tt
+top_kept f g (n ∷ []) r there k = λ p e. k p (r.parents n p (element_is_node f n (there n (inl refl))) e) ∙ sym r.same_document
+top_kept f g (n ∷ m ∷ s) r there k = top_kept f g (m ∷ s) r (λ x h. there x (inr h)) k
 
-pub element_below_may : (choices : SinkChoices) (f : Forest) (p : ℕ) (name : QualName) (attrs : List AttributeText) (flags : ElementFlags) → IsForest f → IsNode f p → CanAppend (make_element choices name attrs flags f) p (ChildNode (choices.fresh f))
-element_below_may choices f p name attrs flags k there =
-    let r = make_element_rearranges choices f name attrs flags k in
-    record { is_node = rearranged_node f (make_element choices name attrs flags f) p r there; child = made_is_free choices f name attrs flags p k there }
+top_tail : (f : Forest) (n : ℕ) (s : List ℕ) → RootIsTop f (n ∷ s) → RootIsTop f s
+top_tail f n [] k = tt
+top_tail f n (m ∷ s) k = k
 
--- what is known of the new element where it stands
-pub record NewStands (g h : Forest) (n : ℕ) : Type 0 where
-  pub kind : kind_of h n ≡ kind_of g n
-  pub contents : HasContents g n → HasContents h n
+module _ {l : List Entry} {head form context : Option ℕ} where
+  -- all stands after a rearrangement
+  pub all_rearranged : (f g : Forest) (s : List ℕ) → AllStand f s l head form context → Rearranges f g → AllStand g s l head form context
+  all_rearranged f g s k r = record {
+    stands = stands_rearranged f g s k.stands r;
+    root_top = top_kept f g s r k.stands.elements k.root_top;
+    head_node = λ n e. html_kept f g (codes "head") n r (k.head_node n e);
+    form_node = λ n e. element_kept f g n r (k.form_node n e);
+    form_name = λ n e h. html_kept f g (codes "form") n r (k.form_name n e h);
+    apart = k.apart;
+    context_node = λ n e. element_kept f g n r (k.context_node n e);
+    listed = listed_kept f g l r k.listed;
+    formatting = k.formatting;
+  }
 
-pub new_below : (choices : SinkChoices) (f : Forest) (p : ℕ) (name : QualName) (attrs : List AttributeText) (flags : ElementFlags) → IsForest f → IsNode f p → NewStands (make_element choices name attrs flags f) (append_node p (choices.fresh f) (make_element choices name attrs flags f)) (choices.fresh f)
-new_below choices f p name attrs flags k there =
-    let g = make_element choices name attrs flags f in
-    let may = element_below_may choices f p name attrs flags k there in
-    let r = append_node_rehangs g p (choices.fresh f) (make_element_rearranges choices f name attrs flags k).is_forest may.is_node may.child in
-    record { kind = r.kinds (choices.fresh f); contents = r.contents (choices.fresh f) }
+  -- fewer are open
+  pub all_tail : (f : Forest) (n : ℕ) (s : List ℕ) → AllStand f (n ∷ s) l head form context → AllStand f s l head form context
+  all_tail f n s k = record {
+    stands = stands_tail f n s k.stands;
+    root_top = top_tail f n s k.root_top;
+    head_node = k.head_node;
+    form_node = k.form_node;
+    form_name = λ m e h. k.form_name m e (inr h);
+    apart = k.apart;
+    context_node = k.context_node;
+    listed = k.listed;
+    formatting = k.formatting;
+  }
 
--- an element at p is pushed
-pub stands_inserted : (choices : SinkChoices) (f : Forest) (p : ℕ) (name : QualName) (attrs : List AttributeText) (duplicates : Bool) (s : List ℕ) → Stands f s → IsNode f p
-    → Stands (append_node p (choices.fresh f) (make_element choices name attrs (flags_of name attrs duplicates) f)) (choices.fresh f ∷ s)
-stands_inserted choices f p name attrs duplicates s k there =
-    let flags = flags_of name attrs duplicates in
-    let new = new_below choices f p name attrs flags k.is_forest there in
-    let kind = new.kind ∙ made_kind choices f name attrs flags k.is_forest in
-    stands_pushed f _ (choices.fresh f) s k (element_below_rearranges choices f p name attrs flags k.is_forest there) (choices.fresh_is_new f k.is_forest)
-    (name, kind)
-    (λ t. new.contents (made_contents choices f name attrs flags (ap (λ x. is_html_template (name_of_found x)) (sym kind) ∙ t)))
+  pub all_but_first : (f : Forest) (s : List ℕ) → AllStand f s l head form context → AllStand f (but_first s) l head form context
+  all_but_first f [] k = k
+  all_but_first f (n ∷ s) k = all_tail f n s k
 
--- a comment below p
-pub comment_below_rearranges : (choices : SinkChoices) (f : Forest) (p : ℕ) (t : List ℕ) → IsForest f → IsNode f p → Rearranges f (append_node p (choices.fresh f) (make choices (plain (CommentNode t)) f))
-comment_below_rearranges choices f p t k there =
-    append_new_rearranges f (choices.fresh f) p (plain (CommentNode t)) k (choices.fresh_is_new f k) (record { children = refl; contents = refl; parent = refl }) (λ e. cc) there
+  -- a new element is pushed; the first one is below the document
+  pub all_pushed : (f g : Forest) (n : ℕ) (s : List ℕ) → AllStand f s l head form context → Rearranges f g → f.node n ≡ None → IsElement g n → (IsTrue (is_html_template (name_in g n)) → HasContents g n)
+      → (s ≡ [] → (p : ℕ) → parent_of g n ≡ Some p → p ≡ g.document) → AllStand g (n ∷ s) l head form context
+  all_pushed f g n s k r new element template top =
+      let kept = all_rearranged f g s k r in
+      record {
+        stands = stands_pushed f g n s k.stands r new element template;
+        root_top = at s refl kept.root_top;
+        head_node = kept.head_node;
+        form_node = kept.form_node;
+        form_name = λ m e h. named kept m e h;
+        apart = k.apart;
+        context_node = kept.context_node;
+        listed = kept.listed;
+        formatting = k.formatting;
+      }
+    where
+      at : (t : List ℕ) → s ≡ t → RootIsTop g t → RootIsTop g (n ∷ t)
+      at [] e h = top e
+      at (m ∷ t) e h = h
 
-pub comment_below_may : (choices : SinkChoices) (f : Forest) (p : ℕ) (t : List ℕ) → IsForest f → IsNode f p → CanAppend (make choices (plain (CommentNode t)) f) p (ChildNode (choices.fresh f))
-comment_below_may choices f p t k there = record {
-  is_node = old_is_node f (choices.fresh f) p (plain (CommentNode t)) there;
-  child = new_is_free f (choices.fresh f) p (plain (CommentNode t)) k (choices.fresh_is_new f k) (record { children = refl; contents = refl; parent = refl }) (λ e. cc) there;
-}
+      named : AllStand g s l head form context → (m : ℕ) → form ≡ Some m → IsIn m (n ∷ s) → IsHtml g (codes "form") m
+      named kept m e (inl same) = absurd (element_is_node f m (k.form_node m e) (subst (λ x. f.node x ≡ None) (sym same) new))
+      named kept m e (inr h) = kept.form_name m e h
 
 -- a call that may be refused: the forest is rearranged or as it was
 pub rearranged_or_not : {T E : Type 0} (r : Result T E) (old new : Seen) (change : Forest → Forest) → OnOk r (new ≡ changed change old) → OnErr r (new ≡ old) → IsForest old.forest → Rearranges old.forest (change old.forest) → Rearranges old.forest new.forest

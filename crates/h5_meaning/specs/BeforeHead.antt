@@ -1,5 +1,5 @@
 -- HTML standard, section 13.2.6.4.3, the "before head" insertion mode.
-use Rattle.std.specs.Prelude.{false, [], ◌∷◌, codes}
+use Rattle.std.specs.Prelude.{false, [], ◌∷◌}
 use Rattle.h5_token.specs.TokenText.{TagText}
 use Rattle.h5_token.specs.declared.tag.TagKind.{TagKind}
 use Rattle.h5_token.specs.declared.tag.TagKind.TheVariants.{EndTag, StartTag}
@@ -9,17 +9,17 @@ use Rattle.h5_names.specs.declared.known_name.KnownName.TheVariants.{Body, Br, H
 use Rattle.h5_types.specs.TurnText.{CommentTurn, EofTurn, NullTurn, TagTurn, TextTurn, TurnText}
 use Rattle.h5_types.specs.declared.modes.InsertionMode.TheVariants.{InHead}
 use Rattle.h5_types.specs.declared.modes.SplitStatus.TheVariants.{NotSplit, NotWhitespace, Whitespace}
-use Rattle.h5_meaning.specs.Rows.{Again, AppendComment, InsertElement, IsDone, Row, SetHeadToCurrent, SetMode, ignored, row}
+use Rattle.h5_meaning.specs.Rows.{Again, AppendComment, InsertHead, IsDone, Row, SetMode, ignored, row}
 use Rattle.h5_meaning.specs.Shared.{in_body_start_html}
 use Rattle.h5_meaning.specs.World.{World}
 
 -- a start tag "head"
 abbrev pub before_head_start_head : TagText → World → Row
-before_head_start_head tag w = row (InsertElement tag.name tag.attrs tag.had_duplicate_attributes ∷ SetHeadToCurrent ∷ SetMode InHead ∷ []) IsDone
+before_head_start_head tag w = row (InsertHead tag.attrs tag.had_duplicate_attributes ∷ SetMode InHead ∷ []) IsDone
 
 -- anything else
 abbrev pub before_head_else : TurnText → World → Row
-before_head_else t w = row (InsertElement (codes "head") [] false ∷ SetHeadToCurrent ∷ []) (Again InHead)
+before_head_else t w = row (InsertHead [] false ∷ []) (Again InHead)
 
 abbrev pub before_head_named : TagKind → KnownName → TagText → World → Row
 before_head_named StartTag Html tag w = in_body_start_html tag w

@@ -2,8 +2,8 @@
 use Rattle.std.specs.Prelude.{ℕ, Bool, false, ◌&&◌, if◌then◌else◌, List, [], ◌∷◌, codes, Option, Some, None}
 use Rattle.h5_names.specs.declared.qualified.QualName.{QualName}
 use Rattle.h5_names.specs.AttributeText.{AttributeText}
-use Rattle.h5_interface.specs.Changes.{add_missing_attributes, append_node, append_text as append_text_to, mark}
-use Rattle.h5_interface.specs.Forest.{CommentNode, Forest}
+use Rattle.h5_interface.specs.Changes.{add_missing_attributes, mark}
+use Rattle.h5_interface.specs.Forest.{ChildNode, ChildText, CommentNode, Forest}
 use Rattle.h5_interface.specs.NewElement.{flags_of}
 use Rattle.h5_interface.specs.Seen.{append_doctype, make, make_element, plain}
 use Rattle.h5_interface.specs.SinkChoices.{SinkChoices}
@@ -12,7 +12,8 @@ use Rattle.h5_tag_sets.specs.TagSets.{is_html_named}
 use Rattle.h5_types.specs.declared.modes.InsertionMode.{InsertionMode}
 use Rattle.h5_meaning.specs.Blanks.{all_blank}
 use Rattle.h5_stack.specs.Scope.{cut_through, is_implied_but}
-use Rattle.h5_meaning.specs.World.{World, current, names_of, place, root}
+use Rattle.h5_meaning.specs.Place.{LastChild, Place, place, put}
+use Rattle.h5_meaning.specs.World.{World, current, names_of, root}
 use Rattle.h5_stack.specs.FormattingNames.{html_name}
 use Rattle.h5_stack.specs.Order.{but_first, second_from_last}
 
@@ -34,10 +35,14 @@ set_frameset_ok_by_text t w = record w { frameset_ok = w.frameset_ok && all_blan
 unfoldable pub set_quirks_mode : QuirksMode → World → World
 set_quirks_mode q w = record w { quirks = q; seen_quirks = q }
 
--- a new element below p, pushed
-abbrev pub push_new : SinkChoices → ℕ → List ℕ → List AttributeText → Bool → World → World
+-- a new element at a place
+abbrev pub new_element : SinkChoices → Place → QualName → List AttributeText → Bool → Forest → Forest
+new_element choices p name attrs duplicates f = put p (ChildNode (choices.fresh f)) (make_element choices name attrs (flags_of name attrs duplicates) f)
+
+-- a new HTML element at a place, pushed
+abbrev pub push_new : SinkChoices → Place → List ℕ → List AttributeText → Bool → World → World
 push_new choices p local attrs duplicates w = record w {
-  forest = append_node p (choices.fresh w.forest) (make_element choices (html_name local) attrs (flags_of (html_name local) attrs duplicates) w.forest);
+  forest = new_element choices p (html_name local) attrs duplicates w.forest;
   stack = choices.fresh w.forest ∷ w.stack;
 }
 
@@ -48,24 +53,29 @@ insert_element choices local attrs duplicates w = push_new choices (place w) loc
 
 -- the root, as the document's last child, pushed
 unfoldable pub create_root : SinkChoices → List AttributeText → World → World
-create_root choices attrs w = push_new choices w.forest.document (codes "html") attrs false w
+create_root choices attrs w = push_new choices (LastChild w.forest.document) (codes "html") attrs false w
 
--- a comment as the last child of p (HTML standard, section 13.2.6.1, insert a comment)
-abbrev pub comment_below : SinkChoices → ℕ → List ℕ → World → World
-comment_below choices p t w = with_forest (append_node p (choices.fresh w.forest) (make choices (plain (CommentNode t)) w.forest)) w
+-- the head, at the place of insertion, pushed and known
+unfoldable pub insert_head : SinkChoices → List AttributeText → Bool → World → World
+insert_head choices attrs duplicates w =
+    let v = insert_element choices (codes "head") attrs duplicates w in record v { head = Some (current v) }
+
+-- a comment at a place (HTML standard, section 13.2.6.1, insert a comment)
+abbrev pub new_comment : SinkChoices → Place → List ℕ → Forest → Forest
+new_comment choices p t f = put p (ChildNode (choices.fresh f)) (make choices (plain (CommentNode t)) f)
 
 unfoldable pub append_comment : SinkChoices → List ℕ → World → World
-append_comment choices t w = comment_below choices (place w) t w
+append_comment choices t w = with_forest (new_comment choices (place w) t w.forest) w
 
 unfoldable pub append_comment_to_doc : SinkChoices → List ℕ → World → World
-append_comment_to_doc choices t w = comment_below choices w.forest.document t w
+append_comment_to_doc choices t w = with_forest (new_comment choices (LastChild w.forest.document) t w.forest) w
 
 unfoldable pub append_comment_to_html : SinkChoices → List ℕ → World → World
-append_comment_to_html choices t w = comment_below choices (root w) t w
+append_comment_to_html choices t w = with_forest (new_comment choices (LastChild (root w)) t w.forest) w
 
 -- a text at the place of insertion (HTML standard, section 13.2.6.1, insert a character)
 unfoldable pub append_text : List ℕ → World → World
-append_text t w = with_forest (append_text_to (place w) t w.forest) w
+append_text t w = with_forest (put (place w) (ChildText t) w.forest) w
 
 -- a doctype as the document's last child
 unfoldable pub insert_doctype : SinkChoices → (name public_id system_id : List ℕ) → World → World
@@ -74,10 +84,6 @@ insert_doctype choices name public_id system_id w = with_forest (append_doctype 
 -- the current node leaves the stack, and the sink is told
 unfoldable pub pop : SinkChoices → World → World
 pop choices w = record w { forest = mark (choices.marks_after_pop w.forest (current w)) w.forest; stack = but_first w.stack }
-
--- the current node is the head element
-unfoldable pub set_head_to_current : World → World
-set_head_to_current w = record w { head = Some (current w) }
 
 -- an element gets the attributes that it lacks
 unfoldable pub add_attrs_to_html : List AttributeText → World → World

@@ -10,6 +10,7 @@ pub mod InBody
 pub mod InHead
 pub mod InitialMode
 pub mod Modes
+pub mod Place
 pub mod Rows
 pub mod Run
 pub mod Settle

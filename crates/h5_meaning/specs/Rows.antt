@@ -8,7 +8,7 @@ use Rattle.h5_types.specs.TurnText.{TurnText, turn_text}
 use Rattle.h5_types.specs.declared.modes.InsertionMode.{InsertionMode}
 use Rattle.h5_types.specs.declared.turns.ProcessResult.{ProcessResult}
 use Rattle.h5_types.specs.declared.turns.ProcessResult.TheVariants as results
-use Rattle.h5_meaning.specs.Changes.{add_attrs_to_html, add_attrs_to_second, append_comment, append_comment_to_doc, append_comment_to_html, append_text, create_root, generate_implied_end_except, insert_element, pop, pop_until_named, set_frameset_not_ok, set_frameset_ok_by_text, set_head_to_current, set_mode, set_quirks_mode}
+use Rattle.h5_meaning.specs.Changes.{add_attrs_to_html, add_attrs_to_second, append_comment, append_comment_to_doc, append_comment_to_html, append_text, create_root, generate_implied_end_except, insert_element, insert_head, pop, pop_until_named, set_frameset_not_ok, set_frameset_ok_by_text, set_mode, set_quirks_mode}
 use Rattle.h5_meaning.specs.World.{World}
 
 pub data Change : Type 0 where
@@ -17,8 +17,8 @@ pub data Change : Type 0 where
   SetFramesetNotOk : Change
   SetFramesetOkByText : (text : List ℕ) → Change
   InsertElement : (local : List ℕ) → (attrs : List AttributeText) → (duplicates : Bool) → Change
+  InsertHead : (attrs : List AttributeText) → (duplicates : Bool) → Change
   CreateRoot : (attrs : List AttributeText) → Change
-  SetHeadToCurrent : Change
   AppendText : (text : List ℕ) → Change
   AppendComment : (text : List ℕ) → Change
   AppendCommentToDoc : (text : List ℕ) → Change
@@ -35,8 +35,8 @@ apply choices (SetQuirksMode mode) w = set_quirks_mode mode w
 apply choices SetFramesetNotOk w = set_frameset_not_ok w
 apply choices (SetFramesetOkByText text) w = set_frameset_ok_by_text text w
 apply choices (InsertElement local attrs duplicates) w = insert_element choices local attrs duplicates w
+apply choices (InsertHead attrs duplicates) w = insert_head choices attrs duplicates w
 apply choices (CreateRoot attrs) w = create_root choices attrs w
-apply choices SetHeadToCurrent w = set_head_to_current w
 apply choices (AppendText text) w = append_text text w
 apply choices (AppendComment text) w = append_comment choices text w
 apply choices (AppendCommentToDoc text) w = append_comment_to_doc choices text w

@@ -1,8 +1,7 @@
 -- What a tree builder and its sink mean together (HTML standard, section 13.2.4, "Parse state").
-use Rattle.std.specs.Prelude.{ℕ, Bool, if◌then◌else◌, List, [], map, unwrap_or, Option, Some, None}
+use Rattle.std.specs.Prelude.{ℕ, Bool, List, [], map, Option, Some, None}
 use Rattle.h5_names.specs.declared.qualified.QualName.{QualName}
-use Rattle.h5_interface.specs.Forest.{CommentNode, DoctypeNode, DocumentNode, ElementNode, Forest, FragmentNode, InstructionNode, Kind, contents_of, kind_of}
-use Rattle.h5_interface.specs.NewElement.{is_html_template}
+use Rattle.h5_interface.specs.Forest.{CommentNode, DoctypeNode, DocumentNode, ElementNode, Forest, FragmentNode, InstructionNode, Kind, kind_of}
 use Rattle.h5_interface.specs.declared.marks.QuirksMode.{QuirksMode}
 use Rattle.h5_types.specs.declared.modes.InsertionMode.{InsertionMode}
 use Rattle.h5_types.specs.declared.options.TreeBuilderOpts.{TreeBuilderOpts}
@@ -60,11 +59,3 @@ current w = first_or w.forest.document w.stack
 -- the root: the open element that is the oldest
 abbrev pub root : World → ℕ
 root w = last_or w.forest.document w.stack
-
--- what is put into a node goes into its contents where it is a template
-abbrev pub inside : Forest → ℕ → ℕ
-inside f n = if is_html_template (name_in f n) then unwrap_or (contents_of f n) n else n
-
--- the appropriate place for inserting a node (HTML standard, section 13.2.6.1)
-abbrev pub place : World → ℕ
-place w = inside w.forest (current w)

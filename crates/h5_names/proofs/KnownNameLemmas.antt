@@ -10,7 +10,7 @@ use Rattle.std.proofs.lemmas.List.{get_or_past}
 use Rattle.h5_names.specs.declared.known_name.KnownName.{KnownName}
 use Rattle.h5_names.specs.declared.known_name.KnownName.TheVariants.{A, Other}
 use Rattle.h5_names.specs.declared.known_slots.TheConstants.{NUMBERS}
-use Rattle.h5_names.specs.KnownNames.{name_text, known_names, first_named, known_name_of, nth_name, slot_of}
+use Rattle.h5_names.specs.KnownNames.{name_text, known_names, first_named, known_name_of, lowercase_name, nth_name, slot_of}
 
 -- a name that HTML knows is found by its text
 pub known_of_text : (known : KnownName) → known_name_of (name_text known) ≡ known
@@ -32,13 +32,13 @@ pub text_of_known : (text : List ℕ) → known_name_of text ≢ Other → name_
 unfolding known_name_of
 text_of_known text h = first_named_text known_names text h
 
--- the table has each name's number at its slot
-number_at_slot : (known : KnownName) → nth_name (slice_index NUMBERS (slot_of (name_text known))) ≡ known
+-- the table has the number of each name in lower case at its slot
+number_at_slot : (known : KnownName) → nth_name (slice_index NUMBERS (slot_of (name_text known))) ≡ lowercase_name known
 unfolding nth_name known_names slot_of
 number_at_slot A = refl
 number_at_slot _ = refl
 
-pub name_at_slot : (text : List ℕ) (known : KnownName) → text ≡ name_text known → nth_name (slice_index NUMBERS (slot_of text)) ≡ known
+pub name_at_slot : (text : List ℕ) (known : KnownName) → text ≡ name_text known → nth_name (slice_index NUMBERS (slot_of text)) ≡ lowercase_name known
 name_at_slot text known e = ap (λ t. nth_name (slice_index NUMBERS (slot_of t))) e ∙ number_at_slot known
 
 -- whether it is a name and not `Other`
@@ -46,7 +46,7 @@ abbrev pub is_known : KnownName → Bool
 is_known Other = false
 is_known _ = true
 
-known_not_other : (known : KnownName) → is_known known ≡ true → known ≢ Other
+pub known_not_other : (known : KnownName) → is_known known ≡ true → known ≢ Other
 known_not_other known h e = let f : false ≡ true = sym (ap is_known e) ∙ h in cc
 
 -- tests of which each is true where the other is
@@ -81,27 +81,17 @@ pub not_same_known : (x y : List ℕ) → known_name_of x ≢ known_name_of y �
 not_same_known x y h = differ (bytes_eq x y) x y h (bytes_eq-Decides x y).0
 
 -- the search of a name in the table
-pub past_the_names : (n : ℕ) → 148 ≤ n → nth_name n ≡ Other
+pub past_the_names : (n : ℕ) → 220 ≤ n → nth_name n ≡ Other
 unfolding nth_name known_names
 past_the_names n h = get_or_past known_names n Other h
 
 pub found : (text : List ℕ) (known : KnownName) → name_text known ≡ text → known ≡ known_name_of text
 found text known e = sym (known_of_text known) ∙ ap known_name_of e
 
--- the one name that could have the text is not found, so none is
-other_if : (known : KnownName) → is_known known ≡ false → Other ≡ known
+-- what isn't a name is `Other`
+pub other_if : (known : KnownName) → is_known known ≡ false → Other ≡ known
 other_if Other h = refl
 other_if _ h = cc
-
-not_found_if : (b : Bool) (text : List ℕ) (known : KnownName) → is_known (known_name_of text) ≡ b → ((k : KnownName) → text ≡ name_text k → known ≡ k) → bytes_eq (name_text known) text ≡ false → Other ≡ known_name_of text
-not_found_if true text known h only e =
-    let t : name_text (known_name_of text) ≡ text = text_of_known text (known_not_other (known_name_of text) h) in
-    let n : known ≡ known_name_of text = only (known_name_of text) (sym t) in
-    let f : true ≡ false = sym ((bytes_eq-Decides (name_text known) text).1 (ap name_text n ∙ t)) ∙ e in cc
-not_found_if false text known h only e = other_if (known_name_of text) h
-
-pub not_found : (text : List ℕ) (known : KnownName) → ((k : KnownName) → text ≡ name_text k → known ≡ k) → bytes_eq (name_text known) text ≡ false → Other ≡ known_name_of text
-not_found text known only e = not_found_if (is_known (known_name_of text)) text known refl only e
 
 -- what is kept by its number
 pub text_of_name : (text : List ℕ) (known : KnownName) → known ≡ known_name_of text → known ≢ Other → name_text known ≡ text

@@ -1,11 +1,23 @@
 -- The names that HTML knows.
-use Rattle.std.specs.Prelude.{ℕ, ◌+◌, ◌-◌, ◌*◌, ◌/◌, ◌%◌, ◌==◌, ◌||◌, nat_lt, List, [], ◌∷◌, if◌then◌else◌, bytes_eq, codes, get_or, length, slice_index}
+use Rattle.std.specs.Prelude.{ℕ, ◌+◌, ◌-◌, ◌*◌, ◌/◌, ◌%◌, ◌==◌, ◌||◌, nat_lt, bit_or, List, [], ◌∷◌, if◌then◌else◌, bytes_eq, codes, get_or, length, slice_index}
 use Rattle.h5_names.specs.declared.known_name.KnownName.{KnownName}
 use Rattle.h5_names.specs.declared.known_name.KnownName.TheVariants.{
   A,
   Action,
   Address,
   Alt,
+  AltGlyph,
+  AltGlyphLowercase,
+  AltGlyphDef,
+  AltGlyphDefLowercase,
+  AltGlyphItem,
+  AltGlyphItemLowercase,
+  AnimateColor,
+  AnimateColorLowercase,
+  AnimateMotion,
+  AnimateMotionLowercase,
+  AnimateTransform,
+  AnimateTransformLowercase,
   AnnotationXml,
   Applet,
   Area,
@@ -24,6 +36,8 @@ use Rattle.h5_names.specs.declared.known_name.KnownName.TheVariants.{
   Center,
   Charset,
   Class,
+  ClipPath,
+  ClipPathLowercase,
   Code,
   Col,
   Colgroup,
@@ -43,6 +57,56 @@ use Rattle.h5_names.specs.declared.known_name.KnownName.TheVariants.{
   Embed,
   Encoding,
   Face,
+  FeBlend,
+  FeBlendLowercase,
+  FeColorMatrix,
+  FeColorMatrixLowercase,
+  FeComponentTransfer,
+  FeComponentTransferLowercase,
+  FeComposite,
+  FeCompositeLowercase,
+  FeConvolveMatrix,
+  FeConvolveMatrixLowercase,
+  FeDiffuseLighting,
+  FeDiffuseLightingLowercase,
+  FeDisplacementMap,
+  FeDisplacementMapLowercase,
+  FeDistantLight,
+  FeDistantLightLowercase,
+  FeDropShadow,
+  FeDropShadowLowercase,
+  FeFlood,
+  FeFloodLowercase,
+  FeFuncA,
+  FeFuncALowercase,
+  FeFuncB,
+  FeFuncBLowercase,
+  FeFuncG,
+  FeFuncGLowercase,
+  FeFuncR,
+  FeFuncRLowercase,
+  FeGaussianBlur,
+  FeGaussianBlurLowercase,
+  FeImage,
+  FeImageLowercase,
+  FeMerge,
+  FeMergeLowercase,
+  FeMergeNode,
+  FeMergeNodeLowercase,
+  FeMorphology,
+  FeMorphologyLowercase,
+  FeOffset,
+  FeOffsetLowercase,
+  FePointLight,
+  FePointLightLowercase,
+  FeSpecularLighting,
+  FeSpecularLightingLowercase,
+  FeSpotLight,
+  FeSpotLightLowercase,
+  FeTile,
+  FeTileLowercase,
+  FeTurbulence,
+  FeTurbulenceLowercase,
   Fieldset,
   Figcaption,
   Figure,
@@ -53,6 +117,8 @@ use Rattle.h5_names.specs.declared.known_name.KnownName.TheVariants.{
   Form,
   Frame,
   Frameset,
+  GlyphRef,
+  GlyphRefLowercase,
   H1,
   H2,
   H3,
@@ -77,6 +143,8 @@ use Rattle.h5_names.specs.declared.known_name.KnownName.TheVariants.{
   Keygen,
   Lang,
   Li,
+  LinearGradient,
+  LinearGradientLowercase,
   Link,
   Listing,
   Main,
@@ -106,6 +174,8 @@ use Rattle.h5_names.specs.declared.known_name.KnownName.TheVariants.{
   Param,
   Plaintext,
   Pre,
+  RadialGradient,
+  RadialGradientLowercase,
   Rb,
   Rel,
   Rp,
@@ -135,6 +205,8 @@ use Rattle.h5_names.specs.declared.known_name.KnownName.TheVariants.{
   Td,
   Template,
   Textarea,
+  TextPath,
+  TextPathLowercase,
   Tfoot,
   Th,
   Thead,
@@ -159,6 +231,18 @@ name_text A = codes "a"
 name_text Action = codes "action"
 name_text Address = codes "address"
 name_text Alt = codes "alt"
+name_text AltGlyph = codes "altGlyph"
+name_text AltGlyphLowercase = codes "altglyph"
+name_text AltGlyphDef = codes "altGlyphDef"
+name_text AltGlyphDefLowercase = codes "altglyphdef"
+name_text AltGlyphItem = codes "altGlyphItem"
+name_text AltGlyphItemLowercase = codes "altglyphitem"
+name_text AnimateColor = codes "animateColor"
+name_text AnimateColorLowercase = codes "animatecolor"
+name_text AnimateMotion = codes "animateMotion"
+name_text AnimateMotionLowercase = codes "animatemotion"
+name_text AnimateTransform = codes "animateTransform"
+name_text AnimateTransformLowercase = codes "animatetransform"
 name_text AnnotationXml = codes "annotation-xml"
 name_text Applet = codes "applet"
 name_text Area = codes "area"
@@ -177,6 +261,8 @@ name_text Caption = codes "caption"
 name_text Center = codes "center"
 name_text Charset = codes "charset"
 name_text Class = codes "class"
+name_text ClipPath = codes "clipPath"
+name_text ClipPathLowercase = codes "clippath"
 name_text Code = codes "code"
 name_text Col = codes "col"
 name_text Colgroup = codes "colgroup"
@@ -196,6 +282,56 @@ name_text Em = codes "em"
 name_text Embed = codes "embed"
 name_text Encoding = codes "encoding"
 name_text Face = codes "face"
+name_text FeBlend = codes "feBlend"
+name_text FeBlendLowercase = codes "feblend"
+name_text FeColorMatrix = codes "feColorMatrix"
+name_text FeColorMatrixLowercase = codes "fecolormatrix"
+name_text FeComponentTransfer = codes "feComponentTransfer"
+name_text FeComponentTransferLowercase = codes "fecomponenttransfer"
+name_text FeComposite = codes "feComposite"
+name_text FeCompositeLowercase = codes "fecomposite"
+name_text FeConvolveMatrix = codes "feConvolveMatrix"
+name_text FeConvolveMatrixLowercase = codes "feconvolvematrix"
+name_text FeDiffuseLighting = codes "feDiffuseLighting"
+name_text FeDiffuseLightingLowercase = codes "fediffuselighting"
+name_text FeDisplacementMap = codes "feDisplacementMap"
+name_text FeDisplacementMapLowercase = codes "fedisplacementmap"
+name_text FeDistantLight = codes "feDistantLight"
+name_text FeDistantLightLowercase = codes "fedistantlight"
+name_text FeDropShadow = codes "feDropShadow"
+name_text FeDropShadowLowercase = codes "fedropshadow"
+name_text FeFlood = codes "feFlood"
+name_text FeFloodLowercase = codes "feflood"
+name_text FeFuncA = codes "feFuncA"
+name_text FeFuncALowercase = codes "fefunca"
+name_text FeFuncB = codes "feFuncB"
+name_text FeFuncBLowercase = codes "fefuncb"
+name_text FeFuncG = codes "feFuncG"
+name_text FeFuncGLowercase = codes "fefuncg"
+name_text FeFuncR = codes "feFuncR"
+name_text FeFuncRLowercase = codes "fefuncr"
+name_text FeGaussianBlur = codes "feGaussianBlur"
+name_text FeGaussianBlurLowercase = codes "fegaussianblur"
+name_text FeImage = codes "feImage"
+name_text FeImageLowercase = codes "feimage"
+name_text FeMerge = codes "feMerge"
+name_text FeMergeLowercase = codes "femerge"
+name_text FeMergeNode = codes "feMergeNode"
+name_text FeMergeNodeLowercase = codes "femergenode"
+name_text FeMorphology = codes "feMorphology"
+name_text FeMorphologyLowercase = codes "femorphology"
+name_text FeOffset = codes "feOffset"
+name_text FeOffsetLowercase = codes "feoffset"
+name_text FePointLight = codes "fePointLight"
+name_text FePointLightLowercase = codes "fepointlight"
+name_text FeSpecularLighting = codes "feSpecularLighting"
+name_text FeSpecularLightingLowercase = codes "fespecularlighting"
+name_text FeSpotLight = codes "feSpotLight"
+name_text FeSpotLightLowercase = codes "fespotlight"
+name_text FeTile = codes "feTile"
+name_text FeTileLowercase = codes "fetile"
+name_text FeTurbulence = codes "feTurbulence"
+name_text FeTurbulenceLowercase = codes "feturbulence"
 name_text Fieldset = codes "fieldset"
 name_text Figcaption = codes "figcaption"
 name_text Figure = codes "figure"
@@ -206,6 +342,8 @@ name_text ForeignObjectLowercase = codes "foreignobject"
 name_text Form = codes "form"
 name_text Frame = codes "frame"
 name_text Frameset = codes "frameset"
+name_text GlyphRef = codes "glyphRef"
+name_text GlyphRefLowercase = codes "glyphref"
 name_text H1 = codes "h1"
 name_text H2 = codes "h2"
 name_text H3 = codes "h3"
@@ -230,6 +368,8 @@ name_text Isindex = codes "isindex"
 name_text Keygen = codes "keygen"
 name_text Lang = codes "lang"
 name_text Li = codes "li"
+name_text LinearGradient = codes "linearGradient"
+name_text LinearGradientLowercase = codes "lineargradient"
 name_text Link = codes "link"
 name_text Listing = codes "listing"
 name_text Main = codes "main"
@@ -259,6 +399,8 @@ name_text P = codes "p"
 name_text Param = codes "param"
 name_text Plaintext = codes "plaintext"
 name_text Pre = codes "pre"
+name_text RadialGradient = codes "radialGradient"
+name_text RadialGradientLowercase = codes "radialgradient"
 name_text Rb = codes "rb"
 name_text Rel = codes "rel"
 name_text Rp = codes "rp"
@@ -288,6 +430,8 @@ name_text Tbody = codes "tbody"
 name_text Td = codes "td"
 name_text Template = codes "template"
 name_text Textarea = codes "textarea"
+name_text TextPath = codes "textPath"
+name_text TextPathLowercase = codes "textpath"
 name_text Tfoot = codes "tfoot"
 name_text Th = codes "th"
 name_text Thead = codes "thead"
@@ -305,22 +449,121 @@ name_text Width = codes "width"
 name_text Xmp = codes "xmp"
 name_text Other = []
 
+-- the name in ASCII lower case
+abbrev pub lowercase_name : KnownName → KnownName
+lowercase_name AltGlyph = AltGlyphLowercase
+lowercase_name AltGlyphDef = AltGlyphDefLowercase
+lowercase_name AltGlyphItem = AltGlyphItemLowercase
+lowercase_name AnimateColor = AnimateColorLowercase
+lowercase_name AnimateMotion = AnimateMotionLowercase
+lowercase_name AnimateTransform = AnimateTransformLowercase
+lowercase_name ClipPath = ClipPathLowercase
+lowercase_name DefinitionUrl = DefinitionUrlLowercase
+lowercase_name FeBlend = FeBlendLowercase
+lowercase_name FeColorMatrix = FeColorMatrixLowercase
+lowercase_name FeComponentTransfer = FeComponentTransferLowercase
+lowercase_name FeComposite = FeCompositeLowercase
+lowercase_name FeConvolveMatrix = FeConvolveMatrixLowercase
+lowercase_name FeDiffuseLighting = FeDiffuseLightingLowercase
+lowercase_name FeDisplacementMap = FeDisplacementMapLowercase
+lowercase_name FeDistantLight = FeDistantLightLowercase
+lowercase_name FeDropShadow = FeDropShadowLowercase
+lowercase_name FeFlood = FeFloodLowercase
+lowercase_name FeFuncA = FeFuncALowercase
+lowercase_name FeFuncB = FeFuncBLowercase
+lowercase_name FeFuncG = FeFuncGLowercase
+lowercase_name FeFuncR = FeFuncRLowercase
+lowercase_name FeGaussianBlur = FeGaussianBlurLowercase
+lowercase_name FeImage = FeImageLowercase
+lowercase_name FeMerge = FeMergeLowercase
+lowercase_name FeMergeNode = FeMergeNodeLowercase
+lowercase_name FeMorphology = FeMorphologyLowercase
+lowercase_name FeOffset = FeOffsetLowercase
+lowercase_name FePointLight = FePointLightLowercase
+lowercase_name FeSpecularLighting = FeSpecularLightingLowercase
+lowercase_name FeSpotLight = FeSpotLightLowercase
+lowercase_name FeTile = FeTileLowercase
+lowercase_name FeTurbulence = FeTurbulenceLowercase
+lowercase_name ForeignObject = ForeignObjectLowercase
+lowercase_name GlyphRef = GlyphRefLowercase
+lowercase_name LinearGradient = LinearGradientLowercase
+lowercase_name RadialGradient = RadialGradientLowercase
+lowercase_name TextPath = TextPathLowercase
+lowercase_name known = known
+
+-- the name in mixed case that is this one in lower case, or else this one
+abbrev pub mixed_name : KnownName → KnownName
+mixed_name AltGlyphLowercase = AltGlyph
+mixed_name AltGlyphDefLowercase = AltGlyphDef
+mixed_name AltGlyphItemLowercase = AltGlyphItem
+mixed_name AnimateColorLowercase = AnimateColor
+mixed_name AnimateMotionLowercase = AnimateMotion
+mixed_name AnimateTransformLowercase = AnimateTransform
+mixed_name ClipPathLowercase = ClipPath
+mixed_name DefinitionUrlLowercase = DefinitionUrl
+mixed_name FeBlendLowercase = FeBlend
+mixed_name FeColorMatrixLowercase = FeColorMatrix
+mixed_name FeComponentTransferLowercase = FeComponentTransfer
+mixed_name FeCompositeLowercase = FeComposite
+mixed_name FeConvolveMatrixLowercase = FeConvolveMatrix
+mixed_name FeDiffuseLightingLowercase = FeDiffuseLighting
+mixed_name FeDisplacementMapLowercase = FeDisplacementMap
+mixed_name FeDistantLightLowercase = FeDistantLight
+mixed_name FeDropShadowLowercase = FeDropShadow
+mixed_name FeFloodLowercase = FeFlood
+mixed_name FeFuncALowercase = FeFuncA
+mixed_name FeFuncBLowercase = FeFuncB
+mixed_name FeFuncGLowercase = FeFuncG
+mixed_name FeFuncRLowercase = FeFuncR
+mixed_name FeGaussianBlurLowercase = FeGaussianBlur
+mixed_name FeImageLowercase = FeImage
+mixed_name FeMergeLowercase = FeMerge
+mixed_name FeMergeNodeLowercase = FeMergeNode
+mixed_name FeMorphologyLowercase = FeMorphology
+mixed_name FeOffsetLowercase = FeOffset
+mixed_name FePointLightLowercase = FePointLight
+mixed_name FeSpecularLightingLowercase = FeSpecularLighting
+mixed_name FeSpotLightLowercase = FeSpotLight
+mixed_name FeTileLowercase = FeTile
+mixed_name FeTurbulenceLowercase = FeTurbulence
+mixed_name ForeignObjectLowercase = ForeignObject
+mixed_name GlyphRefLowercase = GlyphRef
+mixed_name LinearGradientLowercase = LinearGradient
+mixed_name RadialGradientLowercase = RadialGradient
+mixed_name TextPathLowercase = TextPath
+mixed_name known = known
+
 -- all of them, in the order of `KnownName`
 unfoldable pub known_names : List KnownName
 known_names =
-    A ∷ Action ∷ Address ∷ Alt ∷ AnnotationXml ∷ Applet ∷ Area ∷ Article ∷ Aside ∷ B ∷ Base ∷
-    Basefont ∷ Bgsound ∷ Big ∷ Blockquote ∷ Body ∷ Br ∷ Button ∷ Caption ∷ Center ∷ Charset ∷
-    Class ∷ Code ∷ Col ∷ Colgroup ∷ Color ∷ Content ∷ Dd ∷ DefinitionUrl ∷ DefinitionUrlLowercase ∷
-    Desc ∷ Details ∷ Dialog ∷ Dir ∷ Div ∷ Dl ∷ Dt ∷ Em ∷ Embed ∷ Encoding ∷ Face ∷ Fieldset ∷
-    Figcaption ∷ Figure ∷ Font ∷ Footer ∷ ForeignObject ∷ ForeignObjectLowercase ∷ Form ∷ Frame ∷
-    Frameset ∷ H1 ∷ H2 ∷ H3 ∷ H4 ∷ H5 ∷ H6 ∷ Head ∷ Header ∷ Height ∷ Hgroup ∷ Hr ∷ Href ∷ Html ∷
-    HttpEquiv ∷ I ∷ Id ∷ Iframe ∷ Image ∷ Img ∷ Input ∷ Isindex ∷ Keygen ∷ Lang ∷ Li ∷ Link ∷
-    Listing ∷ Main ∷ Malignmark ∷ Marquee ∷ Math ∷ Menu ∷ Meta ∷ Method ∷ Mglyph ∷ Mi ∷ Mn ∷ Mo ∷
-    Ms ∷ Mtext ∷ Name ∷ Nav ∷ Nobr ∷ Noembed ∷ Noframes ∷ Noscript ∷ Object ∷ Ol ∷ Optgroup ∷
-    Option ∷ P ∷ Param ∷ Plaintext ∷ Pre ∷ Rb ∷ Rel ∷ Rp ∷ Rt ∷ Rtc ∷ Ruby ∷ S ∷ Script ∷ Search ∷
-    Section ∷ Select ∷ Shadowrootmode ∷ Size ∷ Small ∷ Source ∷ Span ∷ Src ∷ Strike ∷ Strong ∷
-    Style ∷ Sub ∷ Summary ∷ Sup ∷ Svg ∷ Table ∷ Tbody ∷ Td ∷ Template ∷ Textarea ∷ Tfoot ∷ Th ∷
-    Thead ∷ Title ∷ Tr ∷ Track ∷ Tt ∷ TypeName ∷ U ∷ Ul ∷ Value ∷ Var ∷ Wbr ∷ Width ∷ Xmp ∷ []
+    A ∷ Action ∷ Address ∷ Alt ∷ AltGlyph ∷ AltGlyphLowercase ∷ AltGlyphDef ∷ AltGlyphDefLowercase ∷
+    AltGlyphItem ∷ AltGlyphItemLowercase ∷ AnimateColor ∷ AnimateColorLowercase ∷ AnimateMotion ∷
+    AnimateMotionLowercase ∷ AnimateTransform ∷ AnimateTransformLowercase ∷ AnnotationXml ∷ Applet ∷
+    Area ∷ Article ∷ Aside ∷ B ∷ Base ∷ Basefont ∷ Bgsound ∷ Big ∷ Blockquote ∷ Body ∷ Br ∷ Button ∷
+    Caption ∷ Center ∷ Charset ∷ Class ∷ ClipPath ∷ ClipPathLowercase ∷ Code ∷ Col ∷ Colgroup ∷
+    Color ∷ Content ∷ Dd ∷ DefinitionUrl ∷ DefinitionUrlLowercase ∷ Desc ∷ Details ∷ Dialog ∷ Dir ∷
+    Div ∷ Dl ∷ Dt ∷ Em ∷ Embed ∷ Encoding ∷ Face ∷ FeBlend ∷ FeBlendLowercase ∷ FeColorMatrix ∷
+    FeColorMatrixLowercase ∷ FeComponentTransfer ∷ FeComponentTransferLowercase ∷ FeComposite ∷
+    FeCompositeLowercase ∷ FeConvolveMatrix ∷ FeConvolveMatrixLowercase ∷ FeDiffuseLighting ∷
+    FeDiffuseLightingLowercase ∷ FeDisplacementMap ∷ FeDisplacementMapLowercase ∷ FeDistantLight ∷
+    FeDistantLightLowercase ∷ FeDropShadow ∷ FeDropShadowLowercase ∷ FeFlood ∷ FeFloodLowercase ∷
+    FeFuncA ∷ FeFuncALowercase ∷ FeFuncB ∷ FeFuncBLowercase ∷ FeFuncG ∷ FeFuncGLowercase ∷ FeFuncR ∷
+    FeFuncRLowercase ∷ FeGaussianBlur ∷ FeGaussianBlurLowercase ∷ FeImage ∷ FeImageLowercase ∷
+    FeMerge ∷ FeMergeLowercase ∷ FeMergeNode ∷ FeMergeNodeLowercase ∷ FeMorphology ∷
+    FeMorphologyLowercase ∷ FeOffset ∷ FeOffsetLowercase ∷ FePointLight ∷ FePointLightLowercase ∷
+    FeSpecularLighting ∷ FeSpecularLightingLowercase ∷ FeSpotLight ∷ FeSpotLightLowercase ∷ FeTile ∷
+    FeTileLowercase ∷ FeTurbulence ∷ FeTurbulenceLowercase ∷ Fieldset ∷ Figcaption ∷ Figure ∷ Font ∷
+    Footer ∷ ForeignObject ∷ ForeignObjectLowercase ∷ Form ∷ Frame ∷ Frameset ∷ GlyphRef ∷
+    GlyphRefLowercase ∷ H1 ∷ H2 ∷ H3 ∷ H4 ∷ H5 ∷ H6 ∷ Head ∷ Header ∷ Height ∷ Hgroup ∷ Hr ∷ Href ∷
+    Html ∷ HttpEquiv ∷ I ∷ Id ∷ Iframe ∷ Image ∷ Img ∷ Input ∷ Isindex ∷ Keygen ∷ Lang ∷ Li ∷
+    LinearGradient ∷ LinearGradientLowercase ∷ Link ∷ Listing ∷ Main ∷ Malignmark ∷ Marquee ∷ Math ∷
+    Menu ∷ Meta ∷ Method ∷ Mglyph ∷ Mi ∷ Mn ∷ Mo ∷ Ms ∷ Mtext ∷ Name ∷ Nav ∷ Nobr ∷ Noembed ∷
+    Noframes ∷ Noscript ∷ Object ∷ Ol ∷ Optgroup ∷ Option ∷ P ∷ Param ∷ Plaintext ∷ Pre ∷
+    RadialGradient ∷ RadialGradientLowercase ∷ Rb ∷ Rel ∷ Rp ∷ Rt ∷ Rtc ∷ Ruby ∷ S ∷ Script ∷
+    Search ∷ Section ∷ Select ∷ Shadowrootmode ∷ Size ∷ Small ∷ Source ∷ Span ∷ Src ∷ Strike ∷
+    Strong ∷ Style ∷ Sub ∷ Summary ∷ Sup ∷ Svg ∷ Table ∷ Tbody ∷ Td ∷ Template ∷ Textarea ∷
+    TextPath ∷ TextPathLowercase ∷ Tfoot ∷ Th ∷ Thead ∷ Title ∷ Tr ∷ Track ∷ Tt ∷ TypeName ∷ U ∷
+    Ul ∷ Value ∷ Var ∷ Wbr ∷ Width ∷ Xmp ∷ []
 
 -- the first of these names that has this text, or `Other`
 abbrev pub first_named : List KnownName → List ℕ → KnownName
@@ -335,8 +578,8 @@ known_name_of text = first_named known_names text
 unfoldable pub nth_name : ℕ → KnownName
 nth_name n = get_or known_names n Other
 
--- where the number of the name with this text stands
+-- where the number of the name in lower case stands, of which this is the text in lower or mixed case
 unfoldable pub slot_of : List ℕ → ℕ
 slot_of text =
-    if length text == 0 || nat_lt 14 (length text) then 0
-    else (322 * length text + 604 * slice_index text 0 + 29 * slice_index text (4 * length text / 7) + 49 * slice_index text (length text - 1)) % 768
+    if length text == 0 || nat_lt 19 (length text) then 0
+    else (992 * length text + 735 * bit_or (slice_index text 0) 32 + 876 * bit_or (slice_index text (2 * length text / 5)) 32 + 1012 * bit_or (slice_index text (length text - 1)) 32) % 1024

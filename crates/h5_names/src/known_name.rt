@@ -1,7 +1,9 @@
 //! The names that HTML knows.
-ghost use Rattle.std.specs.Prelude.{◌≡◌};
+ghost use Rattle.std.specs.Prelude.{◌≡◌, ◌<◌, [], get_or, length, map};
+ghost use Rattle.std.specs.Char.{to_ascii_lowercase};
 ghost use Rattle.h5_names.specs.KnownNames.{known_name_of, name_text};
 
+use super::known_cases::{in_lower_case, in_mixed_case};
 use super::known_slots::candidate;
 
 /// A name that HTML knows, of an element or an attribute, or `Other`.
@@ -13,6 +15,30 @@ pub enum KnownName {
     Action,
     Address,
     Alt,
+    /// `altGlyph`.
+    AltGlyph,
+    /// `altglyph`.
+    AltGlyphLowercase,
+    /// `altGlyphDef`.
+    AltGlyphDef,
+    /// `altglyphdef`.
+    AltGlyphDefLowercase,
+    /// `altGlyphItem`.
+    AltGlyphItem,
+    /// `altglyphitem`.
+    AltGlyphItemLowercase,
+    /// `animateColor`.
+    AnimateColor,
+    /// `animatecolor`.
+    AnimateColorLowercase,
+    /// `animateMotion`.
+    AnimateMotion,
+    /// `animatemotion`.
+    AnimateMotionLowercase,
+    /// `animateTransform`.
+    AnimateTransform,
+    /// `animatetransform`.
+    AnimateTransformLowercase,
     /// `annotation-xml`.
     AnnotationXml,
     Applet,
@@ -32,6 +58,10 @@ pub enum KnownName {
     Center,
     Charset,
     Class,
+    /// `clipPath`.
+    ClipPath,
+    /// `clippath`.
+    ClipPathLowercase,
     Code,
     Col,
     Colgroup,
@@ -53,17 +83,122 @@ pub enum KnownName {
     Embed,
     Encoding,
     Face,
+    /// `feBlend`.
+    FeBlend,
+    /// `feblend`.
+    FeBlendLowercase,
+    /// `feColorMatrix`.
+    FeColorMatrix,
+    /// `fecolormatrix`.
+    FeColorMatrixLowercase,
+    /// `feComponentTransfer`.
+    FeComponentTransfer,
+    /// `fecomponenttransfer`.
+    FeComponentTransferLowercase,
+    /// `feComposite`.
+    FeComposite,
+    /// `fecomposite`.
+    FeCompositeLowercase,
+    /// `feConvolveMatrix`.
+    FeConvolveMatrix,
+    /// `feconvolvematrix`.
+    FeConvolveMatrixLowercase,
+    /// `feDiffuseLighting`.
+    FeDiffuseLighting,
+    /// `fediffuselighting`.
+    FeDiffuseLightingLowercase,
+    /// `feDisplacementMap`.
+    FeDisplacementMap,
+    /// `fedisplacementmap`.
+    FeDisplacementMapLowercase,
+    /// `feDistantLight`.
+    FeDistantLight,
+    /// `fedistantlight`.
+    FeDistantLightLowercase,
+    /// `feDropShadow`.
+    FeDropShadow,
+    /// `fedropshadow`.
+    FeDropShadowLowercase,
+    /// `feFlood`.
+    FeFlood,
+    /// `feflood`.
+    FeFloodLowercase,
+    /// `feFuncA`.
+    FeFuncA,
+    /// `fefunca`.
+    FeFuncALowercase,
+    /// `feFuncB`.
+    FeFuncB,
+    /// `fefuncb`.
+    FeFuncBLowercase,
+    /// `feFuncG`.
+    FeFuncG,
+    /// `fefuncg`.
+    FeFuncGLowercase,
+    /// `feFuncR`.
+    FeFuncR,
+    /// `fefuncr`.
+    FeFuncRLowercase,
+    /// `feGaussianBlur`.
+    FeGaussianBlur,
+    /// `fegaussianblur`.
+    FeGaussianBlurLowercase,
+    /// `feImage`.
+    FeImage,
+    /// `feimage`.
+    FeImageLowercase,
+    /// `feMerge`.
+    FeMerge,
+    /// `femerge`.
+    FeMergeLowercase,
+    /// `feMergeNode`.
+    FeMergeNode,
+    /// `femergenode`.
+    FeMergeNodeLowercase,
+    /// `feMorphology`.
+    FeMorphology,
+    /// `femorphology`.
+    FeMorphologyLowercase,
+    /// `feOffset`.
+    FeOffset,
+    /// `feoffset`.
+    FeOffsetLowercase,
+    /// `fePointLight`.
+    FePointLight,
+    /// `fepointlight`.
+    FePointLightLowercase,
+    /// `feSpecularLighting`.
+    FeSpecularLighting,
+    /// `fespecularlighting`.
+    FeSpecularLightingLowercase,
+    /// `feSpotLight`.
+    FeSpotLight,
+    /// `fespotlight`.
+    FeSpotLightLowercase,
+    /// `feTile`.
+    FeTile,
+    /// `fetile`.
+    FeTileLowercase,
+    /// `feTurbulence`.
+    FeTurbulence,
+    /// `feturbulence`.
+    FeTurbulenceLowercase,
     Fieldset,
     Figcaption,
     Figure,
     Font,
     Footer,
+    /// `foreignObject`.
     ForeignObject,
     /// `foreignobject`.
     ForeignObjectLowercase,
     Form,
     Frame,
     Frameset,
+    /// `glyphRef`.
+    GlyphRef,
+    /// `glyphref`.
+    GlyphRefLowercase,
     H1,
     H2,
     H3,
@@ -89,6 +224,10 @@ pub enum KnownName {
     Keygen,
     Lang,
     Li,
+    /// `linearGradient`.
+    LinearGradient,
+    /// `lineargradient`.
+    LinearGradientLowercase,
     Link,
     Listing,
     Main,
@@ -118,6 +257,10 @@ pub enum KnownName {
     Param,
     Plaintext,
     Pre,
+    /// `radialGradient`.
+    RadialGradient,
+    /// `radialgradient`.
+    RadialGradientLowercase,
     Rb,
     Rel,
     Rp,
@@ -147,6 +290,10 @@ pub enum KnownName {
     Td,
     Template,
     Textarea,
+    /// `textPath`.
+    TextPath,
+    /// `textpath`.
+    TextPathLowercase,
     Tfoot,
     Th,
     Thead,
@@ -167,173 +314,267 @@ pub enum KnownName {
     Other,
 }
 
+// The texts of the names, by their numbers.
+static TEXTS: [&str; 221] = [
+    "a",
+    "action",
+    "address",
+    "alt",
+    "altGlyph",
+    "altglyph",
+    "altGlyphDef",
+    "altglyphdef",
+    "altGlyphItem",
+    "altglyphitem",
+    "animateColor",
+    "animatecolor",
+    "animateMotion",
+    "animatemotion",
+    "animateTransform",
+    "animatetransform",
+    "annotation-xml",
+    "applet",
+    "area",
+    "article",
+    "aside",
+    "b",
+    "base",
+    "basefont",
+    "bgsound",
+    "big",
+    "blockquote",
+    "body",
+    "br",
+    "button",
+    "caption",
+    "center",
+    "charset",
+    "class",
+    "clipPath",
+    "clippath",
+    "code",
+    "col",
+    "colgroup",
+    "color",
+    "content",
+    "dd",
+    "definitionURL",
+    "definitionurl",
+    "desc",
+    "details",
+    "dialog",
+    "dir",
+    "div",
+    "dl",
+    "dt",
+    "em",
+    "embed",
+    "encoding",
+    "face",
+    "feBlend",
+    "feblend",
+    "feColorMatrix",
+    "fecolormatrix",
+    "feComponentTransfer",
+    "fecomponenttransfer",
+    "feComposite",
+    "fecomposite",
+    "feConvolveMatrix",
+    "feconvolvematrix",
+    "feDiffuseLighting",
+    "fediffuselighting",
+    "feDisplacementMap",
+    "fedisplacementmap",
+    "feDistantLight",
+    "fedistantlight",
+    "feDropShadow",
+    "fedropshadow",
+    "feFlood",
+    "feflood",
+    "feFuncA",
+    "fefunca",
+    "feFuncB",
+    "fefuncb",
+    "feFuncG",
+    "fefuncg",
+    "feFuncR",
+    "fefuncr",
+    "feGaussianBlur",
+    "fegaussianblur",
+    "feImage",
+    "feimage",
+    "feMerge",
+    "femerge",
+    "feMergeNode",
+    "femergenode",
+    "feMorphology",
+    "femorphology",
+    "feOffset",
+    "feoffset",
+    "fePointLight",
+    "fepointlight",
+    "feSpecularLighting",
+    "fespecularlighting",
+    "feSpotLight",
+    "fespotlight",
+    "feTile",
+    "fetile",
+    "feTurbulence",
+    "feturbulence",
+    "fieldset",
+    "figcaption",
+    "figure",
+    "font",
+    "footer",
+    "foreignObject",
+    "foreignobject",
+    "form",
+    "frame",
+    "frameset",
+    "glyphRef",
+    "glyphref",
+    "h1",
+    "h2",
+    "h3",
+    "h4",
+    "h5",
+    "h6",
+    "head",
+    "header",
+    "height",
+    "hgroup",
+    "hr",
+    "href",
+    "html",
+    "http-equiv",
+    "i",
+    "id",
+    "iframe",
+    "image",
+    "img",
+    "input",
+    "isindex",
+    "keygen",
+    "lang",
+    "li",
+    "linearGradient",
+    "lineargradient",
+    "link",
+    "listing",
+    "main",
+    "malignmark",
+    "marquee",
+    "math",
+    "menu",
+    "meta",
+    "method",
+    "mglyph",
+    "mi",
+    "mn",
+    "mo",
+    "ms",
+    "mtext",
+    "name",
+    "nav",
+    "nobr",
+    "noembed",
+    "noframes",
+    "noscript",
+    "object",
+    "ol",
+    "optgroup",
+    "option",
+    "p",
+    "param",
+    "plaintext",
+    "pre",
+    "radialGradient",
+    "radialgradient",
+    "rb",
+    "rel",
+    "rp",
+    "rt",
+    "rtc",
+    "ruby",
+    "s",
+    "script",
+    "search",
+    "section",
+    "select",
+    "shadowrootmode",
+    "size",
+    "small",
+    "source",
+    "span",
+    "src",
+    "strike",
+    "strong",
+    "style",
+    "sub",
+    "summary",
+    "sup",
+    "svg",
+    "table",
+    "tbody",
+    "td",
+    "template",
+    "textarea",
+    "textPath",
+    "textpath",
+    "tfoot",
+    "th",
+    "thead",
+    "title",
+    "tr",
+    "track",
+    "tt",
+    "type",
+    "u",
+    "ul",
+    "value",
+    "var",
+    "wbr",
+    "width",
+    "xmp",
+    "",
+];
+
+// The text at this place of a table.
+fn nth_text(texts: &[&'static str], number: usize) -> &'static str
+    requires { number < length texts.now }
+    ensures { result.now ≡ get_or (map (λ text. text.now) texts.now) number [] }
+{
+    texts[number]
+}
+
 impl KnownName {
     /// The text of the name; that of `Other` is empty.
     pub fn as_str(self) -> &'static str
         ensures { result.now ≡ name_text self }
     {
-        match self {
-            KnownName::A => "a",
-            KnownName::Action => "action",
-            KnownName::Address => "address",
-            KnownName::Alt => "alt",
-            KnownName::AnnotationXml => "annotation-xml",
-            KnownName::Applet => "applet",
-            KnownName::Area => "area",
-            KnownName::Article => "article",
-            KnownName::Aside => "aside",
-            KnownName::B => "b",
-            KnownName::Base => "base",
-            KnownName::Basefont => "basefont",
-            KnownName::Bgsound => "bgsound",
-            KnownName::Big => "big",
-            KnownName::Blockquote => "blockquote",
-            KnownName::Body => "body",
-            KnownName::Br => "br",
-            KnownName::Button => "button",
-            KnownName::Caption => "caption",
-            KnownName::Center => "center",
-            KnownName::Charset => "charset",
-            KnownName::Class => "class",
-            KnownName::Code => "code",
-            KnownName::Col => "col",
-            KnownName::Colgroup => "colgroup",
-            KnownName::Color => "color",
-            KnownName::Content => "content",
-            KnownName::Dd => "dd",
-            KnownName::DefinitionUrl => "definitionURL",
-            KnownName::DefinitionUrlLowercase => "definitionurl",
-            KnownName::Desc => "desc",
-            KnownName::Details => "details",
-            KnownName::Dialog => "dialog",
-            KnownName::Dir => "dir",
-            KnownName::Div => "div",
-            KnownName::Dl => "dl",
-            KnownName::Dt => "dt",
-            KnownName::Em => "em",
-            KnownName::Embed => "embed",
-            KnownName::Encoding => "encoding",
-            KnownName::Face => "face",
-            KnownName::Fieldset => "fieldset",
-            KnownName::Figcaption => "figcaption",
-            KnownName::Figure => "figure",
-            KnownName::Font => "font",
-            KnownName::Footer => "footer",
-            KnownName::ForeignObject => "foreignObject",
-            KnownName::ForeignObjectLowercase => "foreignobject",
-            KnownName::Form => "form",
-            KnownName::Frame => "frame",
-            KnownName::Frameset => "frameset",
-            KnownName::H1 => "h1",
-            KnownName::H2 => "h2",
-            KnownName::H3 => "h3",
-            KnownName::H4 => "h4",
-            KnownName::H5 => "h5",
-            KnownName::H6 => "h6",
-            KnownName::Head => "head",
-            KnownName::Header => "header",
-            KnownName::Height => "height",
-            KnownName::Hgroup => "hgroup",
-            KnownName::Hr => "hr",
-            KnownName::Href => "href",
-            KnownName::Html => "html",
-            KnownName::HttpEquiv => "http-equiv",
-            KnownName::I => "i",
-            KnownName::Id => "id",
-            KnownName::Iframe => "iframe",
-            KnownName::Image => "image",
-            KnownName::Img => "img",
-            KnownName::Input => "input",
-            KnownName::Isindex => "isindex",
-            KnownName::Keygen => "keygen",
-            KnownName::Lang => "lang",
-            KnownName::Li => "li",
-            KnownName::Link => "link",
-            KnownName::Listing => "listing",
-            KnownName::Main => "main",
-            KnownName::Malignmark => "malignmark",
-            KnownName::Marquee => "marquee",
-            KnownName::Math => "math",
-            KnownName::Menu => "menu",
-            KnownName::Meta => "meta",
-            KnownName::Method => "method",
-            KnownName::Mglyph => "mglyph",
-            KnownName::Mi => "mi",
-            KnownName::Mn => "mn",
-            KnownName::Mo => "mo",
-            KnownName::Ms => "ms",
-            KnownName::Mtext => "mtext",
-            KnownName::Name => "name",
-            KnownName::Nav => "nav",
-            KnownName::Nobr => "nobr",
-            KnownName::Noembed => "noembed",
-            KnownName::Noframes => "noframes",
-            KnownName::Noscript => "noscript",
-            KnownName::Object => "object",
-            KnownName::Ol => "ol",
-            KnownName::Optgroup => "optgroup",
-            KnownName::Option => "option",
-            KnownName::P => "p",
-            KnownName::Param => "param",
-            KnownName::Plaintext => "plaintext",
-            KnownName::Pre => "pre",
-            KnownName::Rb => "rb",
-            KnownName::Rel => "rel",
-            KnownName::Rp => "rp",
-            KnownName::Rt => "rt",
-            KnownName::Rtc => "rtc",
-            KnownName::Ruby => "ruby",
-            KnownName::S => "s",
-            KnownName::Script => "script",
-            KnownName::Search => "search",
-            KnownName::Section => "section",
-            KnownName::Select => "select",
-            KnownName::Shadowrootmode => "shadowrootmode",
-            KnownName::Size => "size",
-            KnownName::Small => "small",
-            KnownName::Source => "source",
-            KnownName::Span => "span",
-            KnownName::Src => "src",
-            KnownName::Strike => "strike",
-            KnownName::Strong => "strong",
-            KnownName::Style => "style",
-            KnownName::Sub => "sub",
-            KnownName::Summary => "summary",
-            KnownName::Sup => "sup",
-            KnownName::Svg => "svg",
-            KnownName::Table => "table",
-            KnownName::Tbody => "tbody",
-            KnownName::Td => "td",
-            KnownName::Template => "template",
-            KnownName::Textarea => "textarea",
-            KnownName::Tfoot => "tfoot",
-            KnownName::Th => "th",
-            KnownName::Thead => "thead",
-            KnownName::Title => "title",
-            KnownName::Tr => "tr",
-            KnownName::Track => "track",
-            KnownName::Tt => "tt",
-            KnownName::TypeName => "type",
-            KnownName::U => "u",
-            KnownName::Ul => "ul",
-            KnownName::Value => "value",
-            KnownName::Var => "var",
-            KnownName::Wbr => "wbr",
-            KnownName::Width => "width",
-            KnownName::Xmp => "xmp",
-            KnownName::Other => "",
-        }
+        nth_text(&TEXTS, self as usize)
     }
 
     /// The name that HTML knows by this text, or `Other`.
     pub fn from_text(text: &str) -> KnownName
         ensures { result ≡ known_name_of text.now }
     {
-        let known = candidate(text);
-        if known.as_str() == text {
-            known
+        let lower = candidate(text);
+        if lower.as_str() == text {
+            return lower;
+        }
+        let mixed = in_mixed_case(lower);
+        if mixed.as_str() == text {
+            mixed
         } else {
             KnownName::Other
         }
+    }
+
+    /// The name in ASCII lower case.
+    pub fn to_ascii_lowercase(self) -> KnownName
+        ensures { name_text result ≡ map to_ascii_lowercase (name_text self) }
+    {
+        in_lower_case(self)
     }
 }

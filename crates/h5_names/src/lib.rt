@@ -4,6 +4,7 @@
 //! a name is this crate's own.
 #![tactic(auto)]
 
+mod known_cases;
 mod known_name;
 mod known_slots;
 pub mod laws;

@@ -104,6 +104,59 @@ fn known_names_are_told_apart(rt: HostRuntime) -> Result<(), Fail> {
     Ok(())
 }
 
+// The names of SVG that have capitals (HTML standard, section 13.2.6.5, "any other start tag").
+static SVG_NAMES: [(&str, &str); 37] = [
+    ("altglyph", "altGlyph"),
+    ("altglyphdef", "altGlyphDef"),
+    ("altglyphitem", "altGlyphItem"),
+    ("animatecolor", "animateColor"),
+    ("animatemotion", "animateMotion"),
+    ("animatetransform", "animateTransform"),
+    ("clippath", "clipPath"),
+    ("feblend", "feBlend"),
+    ("fecolormatrix", "feColorMatrix"),
+    ("fecomponenttransfer", "feComponentTransfer"),
+    ("fecomposite", "feComposite"),
+    ("feconvolvematrix", "feConvolveMatrix"),
+    ("fediffuselighting", "feDiffuseLighting"),
+    ("fedisplacementmap", "feDisplacementMap"),
+    ("fedistantlight", "feDistantLight"),
+    ("fedropshadow", "feDropShadow"),
+    ("feflood", "feFlood"),
+    ("fefunca", "feFuncA"),
+    ("fefuncb", "feFuncB"),
+    ("fefuncg", "feFuncG"),
+    ("fefuncr", "feFuncR"),
+    ("fegaussianblur", "feGaussianBlur"),
+    ("feimage", "feImage"),
+    ("femerge", "feMerge"),
+    ("femergenode", "feMergeNode"),
+    ("femorphology", "feMorphology"),
+    ("feoffset", "feOffset"),
+    ("fepointlight", "fePointLight"),
+    ("fespecularlighting", "feSpecularLighting"),
+    ("fespotlight", "feSpotLight"),
+    ("fetile", "feTile"),
+    ("feturbulence", "feTurbulence"),
+    ("foreignobject", "foreignObject"),
+    ("glyphref", "glyphRef"),
+    ("lineargradient", "linearGradient"),
+    ("radialgradient", "radialGradient"),
+    ("textpath", "textPath"),
+];
+
+#[test]
+fn names_of_svg_are_known_in_either_case(rt: HostRuntime) {
+    for (lower, mixed) in SVG_NAMES {
+        let known = KnownName::from_text(mixed);
+        assert_eq!(rt; known.as_str(), mixed);
+        assert_eq!(rt; known.to_ascii_lowercase().as_str(), lower);
+        assert_eq!(rt; KnownName::from_text(lower), known.to_ascii_lowercase());
+    }
+    assert_eq!(rt; KnownName::from_text("feblenD"), KnownName::Other);
+    assert_eq!(rt; KnownName::Div.to_ascii_lowercase(), KnownName::Div);
+}
+
 #[test]
 fn namespaces_are_told_apart(rt: HostRuntime) -> Result<(), Fail> {
     let alloc = rt.alloc();

@@ -9,9 +9,10 @@ use Rattle.h5_interface.specs.Seen.{append_doctype, element, make, make_element,
 use Rattle.h5_interface.specs.SinkChoices.{SinkChoices}
 use Rattle.h5_interface.proofs.ForestLaws.{document_is_node}
 use Rattle.h5_interface.proofs.MakingLaws.{append_doctype_rearranges, element_lone, mark_rearranges, plain_lone}
-use Rattle.h5_meaning.specs.World.{inside, name_in, name_of_found}
+use Rattle.h5_meaning.specs.Place.{LastChild, inside}
+use Rattle.h5_meaning.specs.World.{name_in, name_of_found}
 use Rattle.h5_stack.specs.FormattingNames.{html_name}
-use Rattle.h5_meaning.proofs.SoundLaws.{element_below_rearranges}
+use Rattle.h5_meaning.proofs.PlaceLaws.{new_element_rearranges}
 use Rattle.h5_plain.specs.Rebuilding.{HoldsDocument, Looks}
 use Rattle.h5_plain.proofs.LooksLaws.{hung, looks_marked, looks_new, looks_node, looks_other, looks_parent}
 
@@ -70,7 +71,7 @@ element_below choices f p name attrs forest there e =
     let new = choices.fresh_is_new f forest in
     let same : hung p n d f ≡ with_element choices p name attrs f = ap (append_node p n) (sym (made_plain choices name attrs false f e)) in
     record {
-      is_forest = (element_below_rearranges choices f p name attrs (flags_of name attrs false) forest there).is_forest;
+      is_forest = (new_element_rearranges choices f (LastChild p) name attrs false forest there).is_forest;
       same_document = sym (ap (λ (g : Forest). g.document) same);
       new = subst (λ g. Looks g n (ElementNode name) attrs []) same (looks_new f p n d new there (element_lone name attrs (flags_of name attrs false)));
       parent = λ k a cs l. subst (λ g. Looks g p k a (cs ++ ChildNode n ∷ [])) same (looks_parent f p n d k a cs forest new l);

@@ -14,7 +14,7 @@ use Rattle.h5_meaning.specs.BeforeHtml.{before_html_named, before_html_tag}
 use Rattle.h5_meaning.specs.InBody.{body_ends, if_body_in_scope, in_body_named, in_body_tag}
 use Rattle.h5_meaning.specs.InHead.{in_head_named, in_head_tag}
 use Rattle.h5_meaning.specs.Modes.{rule}
-use Rattle.h5_meaning.specs.Rows.{CreateRoot, InsertElement, IsDone, Pop, SetFramesetNotOk, SetHeadToCurrent, SetMode, row}
+use Rattle.h5_meaning.specs.Rows.{CreateRoot, InsertElement, InsertHead, IsDone, Pop, SetFramesetNotOk, SetMode, row}
 use Rattle.h5_meaning.specs.World.{World}
 
 -- the tags of `start_tag` and `end_tag`
@@ -28,7 +28,7 @@ pub html_rule : (a : List AttributeText) (w : World) → rule BeforeHtml (TagTur
 unfolding before_html_tag
 html_rule a w = ap (λ known. before_html_named StartTag known (start (codes "html") a) w) (known_of_text Html)
 
-pub head_rule : (a : List AttributeText) (w : World) → rule BeforeHead (TagTurn (start (codes "head") a)) w ≡ row (InsertElement (codes "head") a false ∷ SetHeadToCurrent ∷ SetMode InHead ∷ []) IsDone
+pub head_rule : (a : List AttributeText) (w : World) → rule BeforeHead (TagTurn (start (codes "head") a)) w ≡ row (InsertHead a false ∷ SetMode InHead ∷ []) IsDone
 unfolding before_head_tag
 head_rule a w = ap (λ known. before_head_named StartTag known (start (codes "head") a) w) (known_of_text Head)
 

@@ -1,20 +1,21 @@
 -- What a builder makes of the tokens of a document, one after the other.
-use Rattle.std.proofs.Common.{◌≡◌, ◌≢◌, ◌∙◌, ℕ, true, false, not, cond, List, [], ◌∷◌, ◌++◌, map, Some, None, codes, refl, ap, sym, subst}
+use Rattle.std.proofs.Common.{◌≡◌, ◌≢◌, ◌∙◌, ℕ, Bool, true, false, ◌&&◌, not, cond, List, [], ◌∷◌, ◌++◌, map, Some, None, codes, refl, ap, sym, subst}
 use Rattle.h5_names.specs.AttributeText.{AttributeText}
 use Rattle.h5_token.specs.TokenText.{EndOfFile, TokenText}
 use Rattle.h5_interface.specs.Forest.{Child, ChildNode, ElementNode}
 use Rattle.h5_interface.specs.SinkChoices.{SinkChoices}
 use Rattle.h5_interface.specs.declared.marks.QuirksMode.TheVariants.{NoQuirks}
-use Rattle.h5_tag_sets.specs.TagSets.{body_end_names, html_namespace, is_body_end_ok, is_default_scope, is_html_named}
+use Rattle.h5_tag_sets.specs.TagSets.{body_end_names, html_namespace, is_body_end_ok, is_default_scope, is_html_named, is_table_outer, table_outer_names}
 use Rattle.h5_types.specs.declared.modes.InsertionMode.{InsertionMode}
 use Rattle.h5_types.specs.declared.modes.InsertionMode.TheVariants.{BeforeHtml, BeforeHead, InHead, AfterHead, InBody, AfterBody, AfterAfterBody}
 use Rattle.h5_types.specs.declared.options.TreeBuilderOpts.{TreeBuilderOpts}
-use Rattle.h5_meaning.specs.Changes.{set_frameset_not_ok, set_head_to_current, set_mode, insert_element, insert_doctype, create_root, pop, set_quirks_mode}
+use Rattle.h5_meaning.specs.Changes.{set_frameset_not_ok, set_mode, insert_element, insert_head, insert_doctype, new_element, create_root, pop, set_quirks_mode}
 use Rattle.h5_meaning.specs.InBody.{body_ends, body_in_scope, if_body_in_scope}
-use Rattle.h5_meaning.specs.Rows.{SetFramesetNotOk, SetHeadToCurrent, InsertElement, CreateRoot, IsDone, Pop, Row, SetMode, choose, ignored}
+use Rattle.h5_meaning.specs.Rows.{SetFramesetNotOk, InsertElement, InsertHead, CreateRoot, IsDone, Pop, Row, SetMode, choose, ignored}
 use Rattle.h5_meaning.specs.Run.{doctype_in, judged, step, taken, with_doctype}
 use Rattle.h5_stack.specs.Scope.{has_unclosed, in_scope}
-use Rattle.h5_meaning.specs.World.{World, current, inside, name_in, names_of, place}
+use Rattle.h5_meaning.specs.Place.{LastChild, appropriate_place, foster_place, from_foster_parent, inside, place}
+use Rattle.h5_meaning.specs.World.{World, current, name_in, names_of, root}
 use Rattle.h5_stack.specs.FormattingNames.{html_name}
 use Rattle.h5_stack.specs.Order.{but_first, first_or}
 use Rattle.h5_plain.specs.Plain.{end_tag, plain_doctype, start_tag}
@@ -110,13 +111,21 @@ html_next choices a w s = record {
   };
 }
 
--- the place of insertion is the root where that alone is open
-place_is_root : (w : World) (x h : ℕ) (a : List AttributeText) (cs : List Child) → w.stack ≡ h ∷ [] → Rooted w.forest x h a cs → place w ≡ h
-place_is_root w x h a cs e r = ap (λ s. inside w.forest (first_or w.forest.document s)) e ∙ inside_plain w.forest h html a cs r.is_root refl
+-- the place of insertion is in the root where that alone is open
+place_is_root : (w : World) (x h : ℕ) (a : List AttributeText) (cs : List Child) → w.stack ≡ h ∷ [] → Rooted w.forest x h a cs → place w ≡ LastChild h
+unfolding appropriate_place is_table_outer html_namespace table_outer_names
+place_is_root w x h a cs e r =
+    ap (λ s. appropriate_place w (first_or w.forest.document s)) e
+    ∙ ap (λ b. cond b (foster_place w.forest (root w) (from_foster_parent w.forest w.stack)) (LastChild (inside w.forest h))) (outside w.foster)
+    ∙ ap LastChild (inside_plain w.forest h html a cs r.is_root refl)
+  where
+    outside : (b : Bool) → (b && is_table_outer (name_in w.forest h)) ≡ false
+    outside true = ap is_table_outer (name_of w.forest h html a cs r.is_root)
+    outside false = refl
 
-inserted : (choices : SinkChoices) (local : List ℕ) (attrs : List AttributeText) (w : World) (h : ℕ) → place w ≡ h → with_element choices h (html_name local) attrs w.forest ≡ (insert_element choices local attrs false w).forest
+inserted : (choices : SinkChoices) (local : List ℕ) (attrs : List AttributeText) (w : World) (h : ℕ) → place w ≡ LastChild h → with_element choices h (html_name local) attrs w.forest ≡ (insert_element choices local attrs false w).forest
 unfolding insert_element
-inserted choices local attrs w h e = ap (λ p. with_element choices p (html_name local) attrs w.forest) (sym e)
+inserted choices local attrs w h e = ap (λ p. new_element choices p (html_name local) attrs false w.forest) (sym e)
 
 insert_opens : (choices : SinkChoices) (local : List ℕ) (attrs : List AttributeText) (w : World) → (insert_element choices local attrs false w).stack ≡ choices.fresh w.forest ∷ w.stack
 unfolding insert_element
@@ -127,14 +136,14 @@ unfolding insert_element
 insert_quirks choices local attrs w = refl
 
 pub head_next : (choices : SinkChoices) (a b : List AttributeText) (w : World) → AfterHtml a w → Next choices (start_tag (codes "head") b) w (WithHead InHead one a b)
-unfolding set_head_to_current
+unfolding insert_head insert_element
 head_next choices a b w s =
     let n = choices.fresh w.forest in
     let below = root_below choices w.forest s.doctype s.root a [] head b s.rooted refl in
     let same = inserted choices (codes "head") b (taken w) s.root (place_is_root (taken w) s.doctype s.root a [] s.is_open s.rooted) in
     record {
-      after = set_mode InHead (set_head_to_current (insert_element choices (codes "head") b false (taken w)));
-      moves = moves_tag choices _ w BeforeHead (InsertElement (codes "head") b false ∷ SetHeadToCurrent ∷ SetMode InHead ∷ []) s.mode (head_rule b (taken w)) refl;
+      after = set_mode InHead (insert_head choices b false (taken w));
+      moves = moves_tag choices _ w BeforeHead (InsertHead b false ∷ SetMode InHead ∷ []) s.mode (head_rule b (taken w)) refl;
       holds = record {
         mode = refl;
         root = s.root;

@@ -8,9 +8,9 @@ use h5_interface::TreeSink;
 use h5_names::KnownName;
 use h5_rules_shared::{in_body_start_html, in_body_text};
 use h5_state::{
-    State, Turn, add_attrs_to_second, append_comment, check_body_end, generate_implied_end_except,
-    has_body_second, has_open_template, in_scope_named, insert_element, is_current_html,
-    is_named_before_special, pop_until_named, set_frameset_not_ok, set_mode, tell_error,
+    State, Turn, add_attrs_to_second, append_comment, check_body_end, find_before_special,
+    generate_implied_end_except, has_body_second, has_open_template, in_scope_named,
+    insert_element, is_current_html, pop_until_named, set_frameset_not_ok, set_mode, tell_error,
     unexpected, unexpected_tag,
 };
 use h5_token::{Tag, TagKind};
@@ -97,14 +97,17 @@ fn in_body_end_other<S: TreeSink>(
     ensures { TakesTag S.TreeSink in_body_end_other tag sink.old state.old sink.new state.new result }
 {
     let local = &tag.name;
-    if is_named_before_special(sink, state, local) {
-        generate_implied_end_except(sink, state, local);
-        check_nesting(sink, state, &tag);
-        pop_until_named(sink, state, local);
-        Ok(ProcessResult::Done)
-    } else {
-        tell_error(sink, state, "special element before the one to close");
-        Ok(ProcessResult::Done)
+    match find_before_special(sink, state, local) {
+        Some(place) => {
+            generate_implied_end_except(sink, state, local);
+            check_nesting(sink, state, &tag);
+            pop_until_named(sink, state, local, place);
+            Ok(ProcessResult::Done)
+        }
+        None => {
+            tell_error(sink, state, "special element before the one to close");
+            Ok(ProcessResult::Done)
+        }
     }
 }
 

@@ -7,10 +7,7 @@ ghost use Rattle.h5_state.specs.Turn.{TakesTag, TakesToken};
 use h5_interface::TreeSink;
 use h5_names::KnownName;
 use h5_rules_shared::in_body_start_html;
-use h5_state::{
-    State, Turn, append_comment, insert_element, insert_phantom, set_head_to_current, set_mode,
-    unexpected_tag,
-};
+use h5_state::{State, Turn, append_comment, insert_head, set_mode, unexpected_tag};
 use h5_token::{Tag, TagKind};
 use h5_types::{InsertionMode, ProcessResult, SplitStatus, Token};
 
@@ -23,9 +20,7 @@ fn before_head_start_head<S: TreeSink>(
     requires { IsSound S.TreeSink sink.old state.old }
     ensures { TakesTag S.TreeSink before_head_start_head tag sink.old state.old sink.new state.new result }
 {
-    let attrs = tag.attrs;
-    insert_element(sink, state, tag.name, attrs, tag.had_duplicate_attributes)?;
-    set_head_to_current(sink, state);
+    insert_head(sink, state, tag.attrs, tag.had_duplicate_attributes)?;
     set_mode(sink, state, InsertionMode::InHead);
     Ok(ProcessResult::Done)
 }
@@ -39,8 +34,8 @@ fn before_head_else<S: TreeSink>(
     requires { IsSound S.TreeSink sink.old state.old }
     ensures { TakesToken S.TreeSink before_head_else token sink.old state.old sink.new state.new result }
 {
-    insert_phantom(sink, state, KnownName::Head)?;
-    set_head_to_current(sink, state);
+    let attrs = Vec::new(state.alloc);
+    insert_head(sink, state, attrs, false)?;
     Ok(ProcessResult::Reprocess(InsertionMode::InHead, token))
 }
 

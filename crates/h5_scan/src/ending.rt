@@ -158,6 +158,7 @@ pub enum Sought<'a> {
 
 /// Looks for the `>` that ends a construct, in what stands behind its opening. The first bytes were
 /// looked at before, and led to the place.
+#[inline(always)]
 pub fn seek_end(text: &str, from: usize, place: Inside) -> Sought<'_>
     requires { from ≤ length text.now }
     ensures { (start : Inside) → walk start (take from text.now) ≡ Some place → EndsAs result start text.now }

@@ -137,6 +137,16 @@ clean_more value xs from j h f g le k lt = ⊎_elim (λ before. h k before) (λ 
 pub clean_next : (value : Bool) (xs : List ℕ) (j : ℕ) → Clean value xs j → begins_reference value (get_or xs j 0) (get_or xs (j + 1) 0) ≡ false → Clean value xs (j + 1)
 clean_next value xs j h here = below_more (λ k. begins_reference value (get_or xs k 0) (get_or xs (k + 1) 0) ≡ false) j h here
 
+neither : (a b : Bool) → (a || b) ≡ false → (a ≡ false) × (b ≡ false)
+neither true b h = absurd (false≢true (sym h))
+neither false b h = (refl, h)
+
+-- and the place j, where the byte begins no character with an escape
+pub clean_past : (value : Bool) (xs : List ℕ) (j : ℕ) → Clean value xs j → (is_byte3 38 60 62 (get_or xs j 0) || is_candidate value (get_or xs j 0)) ≡ false → Clean value xs (j + 1)
+clean_past value xs j h here =
+    let none = neither (is_byte3 38 60 62 (get_or xs j 0)) (is_candidate value (get_or xs j 0)) here in
+    clean_next value xs j h (passed value (get_or xs j 0) (get_or xs (j + 1) 0) none.0 none.1)
+
 not_true : (b : Bool) → (b ≡ true → ⊥) → b ≡ false
 not_true true h = absurd (h refl)
 not_true false h = refl

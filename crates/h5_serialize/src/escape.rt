@@ -2,8 +2,9 @@
 //!
 //! The text is searched for the bytes at which a character with a reference may begin, and what lies
 //! before is written as it stands. It is searched for `&`, `<` and `>` first, and each segment between
-//! these for the others, so that no byte is searched more than twice.
-ghost use Rattle.std.specs.Prelude.{◌≡◌, ℕ, true, false, ◌<◌, ◌≤◌, ◌+◌, ◌++◌, List, length, slice_index, OnOk, IfOk, IsOkUnless, MatchOption};
+//! these for the others, so that no byte is searched more than twice. A short text is looked at byte by
+//! byte before that, since most need no escape.
+ghost use Rattle.std.specs.Prelude.{◌≡◌, ℕ, true, false, ◌<◌, ◌≤◌, ◌+◌, ◌++◌, ◌||◌, List, length, slice_index, OnOk, IfOk, IsOkUnless, MatchOption};
 ghost use Rattle.std.specs.Char.{encode_utf8};
 ghost use Rattle.std.specs.Io.KnownBytes.{Appends};
 ghost use Rattle.memchr.specs.Find.{IsFirstByte, is_byte3};
@@ -200,6 +201,34 @@ fn write_to_mark<'a, Wr: Write>(
     }
 }
 
+// Whether a character with a reference may begin with this byte.
+fn may_begin(attr_mode: bool, b: u8) -> bool
+    ensures { result ≡ (is_byte3 0x26 0x3c 0x3e b || is_candidate attr_mode b) }
+{
+    (b == b'&' || b == b'<' || b == b'>') || ((attr_mode && b == b'"') || b == 0xc2)
+}
+
+// How many bytes at the front begin no character with a reference.
+fn plain_len(attr_mode: bool, bytes: &[u8]) -> usize
+    ensures len { result ≤ length bytes.now }
+    ensures plain { IsPlainBefore attr_mode bytes.now result }
+{
+    for (i, b) in bytes.iter().enumerate() {
+        if may_begin(attr_mode, *b) {
+            return i;
+        }
+    }
+    bytes.len()
+}
+
+// Whether a text is short and stands for itself. Most are and do, and three searches would take longer than a look
+// at each byte.
+fn is_short_and_plain(attr_mode: bool, text: &str) -> bool
+    ensures { result ≡ true → escape attr_mode text.now ≡ text.now }
+{
+    text.len() < 64 && plain_len(attr_mode, text.as_bytes()) == text.len()
+}
+
 /// Writes a text with its escapes. The fault is `Write`, where the writer fails.
 pub fn write_escaped<Wr: Write>(
     writer: &mut Wr,
@@ -210,6 +239,9 @@ pub fn write_escaped<Wr: Write>(
         (Appends (Wr.contents writer.old) (Wr.contents writer.new) (escape attr_mode text.now)) }
     ensures fault { IsOkUnless result SerializeFault.Write }
 {
+    if is_short_and_plain(attr_mode, text) {
+        return write_verbatim(writer, text);
+    }
     let mut rest = text;
     while let Some(after) = write_to_mark(writer, attr_mode, rest)? {
         // No effect when it runs: the proof reads here that what is left is text.

@@ -126,6 +126,7 @@ impl Openers {
     }
 
     /// One more, innermost. Where memory is refused nothing changes.
+    #[inline(always)]
     pub fn push(&mut self, opener: Opener) -> Result<(), AllocError>
         ensures ok { OnOk result (self.new ≡ opener ∷ self.old) }
         ensures err { OnErr result (self.new ≡ self.old) }
@@ -157,6 +158,7 @@ impl Openers {
     }
 
     /// All but the innermost.
+    #[inline(always)]
     pub fn pop(&mut self)
         ensures { self.new ≡ without_last self.old }
     {

@@ -80,12 +80,14 @@ impl Serialize for Document {
     }
 }
 
+fn name_in(alloc: Global, ns: Namespace, local: &str) -> Result<QualName, AllocError> {
+    let local = LocalName::new(alloc, local)?;
+    Ok(QualName::new(None, ns, local))
+}
+
 fn name(alloc: Global, ns: &str, local: &str) -> Result<QualName, AllocError> {
-    Ok(QualName::new(
-        None,
-        Namespace::new(alloc, ns)?,
-        LocalName::new(alloc, local)?,
-    ))
+    let ns = Namespace::new(alloc, ns)?;
+    name_in(alloc, ns, local)
 }
 
 /// One call, its texts lent. Elements are HTML elements, drawn ones SVG elements, without attributes.
@@ -141,6 +143,16 @@ fn check(
     Ok(())
 }
 
+/// Makes one call, and answers what the serializer does.
+fn answer_of<S: Serializer>(
+    alloc: Global,
+    serializer: &mut S,
+    step: Step<'_>,
+) -> Result<Result<(), SerializeFault>, AllocError> {
+    let item = item_of(alloc, step)?;
+    Ok(make(serializer, &item))
+}
+
 /// Makes these calls on a new serializer, and checks each answer and all that is written.
 fn check_answers(
     rt: &impl Abort,
@@ -151,8 +163,8 @@ fn check_answers(
 ) -> Result<(), SerializeFault> {
     let mut serializer = HtmlSerializer::new(alloc, Vec::new(alloc), opts)?;
     for (step, answer) in steps {
-        let item = item_of(alloc, *step)?;
-        assert_eq!(rt; make(&mut serializer, &item), *answer);
+        let given = answer_of(alloc, &mut serializer, *step)?;
+        assert_eq!(rt; given, *answer);
     }
     assert_eq!(rt; serializer.writer.as_slice(), expected.as_bytes());
     Ok(())
@@ -320,18 +332,22 @@ fn attribute(alloc: Global, ns: &str, local: &str, value: &str) -> Result<Attrib
     })
 }
 
-/// The start of an element with attributes, each by its namespace, local name and value.
-fn start_of(
+/// Attributes, each by its namespace, local name and value.
+fn attributes_of(
     alloc: Global,
-    element: QualName,
     attrs: &[(&str, &str, &str)],
-) -> Result<Document, AllocError> {
+) -> Result<Vec<Attribute>, AllocError> {
     let mut list = Vec::new(alloc);
     for (ns, local, value) in attrs {
         list.push(attribute(alloc, ns, local, value)?)?;
     }
+    Ok(list)
+}
+
+/// A document of one call.
+fn document_with(alloc: Global, item: Item) -> Result<Document, AllocError> {
     let mut items = Vec::new(alloc);
-    items.push(Item::Start(element, list))?;
+    items.push(item)?;
     Ok(Document { items })
 }
 
@@ -346,7 +362,9 @@ fn attributes_have_prefixes_by_namespace(rt: HostRuntime) -> Result<(), Fail> {
         ("q", "z", "w"),
         ("", "class", "\u{a0}<&>'"),
     ];
-    let document = start_of(alloc, name(alloc, namespaces::SVG, "a")?, &attrs)?;
+    let list = attributes_of(alloc, &attrs)?;
+    let element = name(alloc, namespaces::SVG, "a")?;
+    let document = document_with(alloc, Item::Start(element, list))?;
     let written = serialize(alloc, Vec::new(alloc), &document, SerializeOpts::default())?;
     let expected =
         "<a xlink:href=\"&quot;\" xml:lang=\"e\" xmlns=\"u\" xmlns:xlink=\"v\" unknown_namespace:z=\"w\" class=\"&nbsp;&lt;&amp;&gt;'\">";
@@ -354,25 +372,54 @@ fn attributes_have_prefixes_by_namespace(rt: HostRuntime) -> Result<(), Fail> {
     Ok(())
 }
 
+/// Starts an element with these pairs on a new serializer, and answers what is written.
+fn write_pairs(
+    alloc: Global,
+    element: QualName,
+    pairs: &[(&QualName, &str)],
+) -> Result<Vec<u8>, SerializeFault> {
+    let mut serializer = HtmlSerializer::new(alloc, Vec::new(alloc), SerializeOpts::default())?;
+    serializer.start_elem(element, pairs.iter().copied())?;
+    Ok(serializer.writer)
+}
+
+fn write_title_after(alloc: Global, id: &QualName) -> Result<Vec<u8>, SerializeFault> {
+    let title = name(alloc, "", "title")?;
+    let pairs = [(id, "1"), (&title, "a\"b")];
+    let element = name(alloc, namespaces::HTML, "p")?;
+    write_pairs(alloc, element, &pairs)
+}
+
 #[test]
 fn attributes_are_lent_as_pairs(rt: HostRuntime) -> Result<(), Fail> {
     let alloc = rt.alloc();
-    let (id, title) = (name(alloc, "", "id")?, name(alloc, "", "title")?);
-    let pairs = [(&id, "1"), (&title, "a\"b")];
-    let mut serializer = HtmlSerializer::new(alloc, Vec::new(alloc), SerializeOpts::default())?;
-    serializer.start_elem(name(alloc, namespaces::HTML, "p")?, pairs.iter().copied())?;
+    let id = name(alloc, "", "id")?;
+    let written = write_title_after(alloc, &id)?;
     assert_eq!(rt;
-        serializer.writer.as_slice(),
+        written.as_slice(),
         "<p id=\"1\" title=\"a&quot;b\">".as_bytes()
     );
     Ok(())
 }
 
+fn has_equal_clone(opts: &SerializeOpts) -> Result<bool, AllocError> {
+    Ok(opts.clone()? == *opts)
+}
+
+fn has_equal_scope(scope: &TraversalScope) -> Result<bool, AllocError> {
+    Ok(scope.clone()? == *scope)
+}
+
 #[test]
 fn options_are_cloned(rt: HostRuntime) -> Result<(), Fail> {
     let opts = children_of(rt.alloc(), namespaces::SVG, "style")?;
-    assert!(rt; opts.clone()? == opts);
-    assert!(rt; opts.traversal_scope.clone()? == opts.traversal_scope);
+    assert!(rt; has_equal_clone(&opts)?);
+    assert!(rt; has_equal_scope(&opts.traversal_scope)?);
+    Ok(())
+}
+
+#[test]
+fn options_have_defaults(rt: HostRuntime) -> Result<(), Fail> {
     let default = SerializeOpts::default();
     assert!(rt; default.scripting_enabled && !default.create_missing_parent);
     assert!(rt; default.traversal_scope == TraversalScope::ChildrenOnly(None));
@@ -422,8 +469,8 @@ fn check_failed(
         Instruction("i", "j"),
     ];
     for step in steps {
-        let item = item_of(alloc, step)?;
-        assert_eq!(rt; make(serializer, &item), Err(SerializeFault::Failed));
+        let given = answer_of(alloc, serializer, step)?;
+        assert_eq!(rt; given, Err(SerializeFault::Failed));
     }
     assert_eq!(rt; serializer.writer.held.len(), held);
     Ok(())
@@ -493,12 +540,18 @@ fn a_broken_writer_fails_the_serializer(rt: HostRuntime) -> Result<(), Fail> {
     Ok(())
 }
 
-/// Writes a text of a million characters, and answers the bytes written.
-fn million(alloc: Global, c: char, attr_mode: bool) -> Result<usize, SerializeFault> {
+/// A text of a million characters.
+fn repeated(alloc: Global, c: char) -> Result<String, AllocError> {
     let mut text = String::new(alloc);
     for _ in 0..1_000_000 {
         text.push(c)?;
     }
+    Ok(text)
+}
+
+/// Writes a text of a million characters, and answers the bytes written.
+fn million(alloc: Global, c: char, attr_mode: bool) -> Result<usize, SerializeFault> {
+    let text = repeated(alloc, c)?;
     let mut written: Vec<u8> = Vec::new(alloc);
     escape::write_escaped(&mut written, text.as_str(), attr_mode)?;
     Ok(written.len())
@@ -520,17 +573,31 @@ fn long_texts_take_no_quadratic_time(rt: HostRuntime) -> Result<(), Fail> {
     Ok(())
 }
 
+/// Makes one call a hundred thousand times.
+fn make_often(serializer: &mut HtmlSerializer<Vec<u8>>, item: &Item) -> Result<(), SerializeFault> {
+    for _ in 0..100_000 {
+        make(serializer, item)?;
+    }
+    Ok(())
+}
+
+/// Makes each call of a document so often.
+fn make_each_often(
+    serializer: &mut HtmlSerializer<Vec<u8>>,
+    document: &Document,
+) -> Result<(), SerializeFault> {
+    for item in &document.items {
+        make_often(serializer, item)?;
+    }
+    Ok(())
+}
+
 #[test]
 fn deep_elements_are_written(rt: HostRuntime) -> Result<(), Fail> {
     let alloc = rt.alloc();
+    let document = document_of(alloc, &[Open("div"), Close("div")])?;
     let mut serializer = HtmlSerializer::new(alloc, Vec::new(alloc), SerializeOpts::default())?;
-    let (open, close) = (item_of(alloc, Open("div"))?, item_of(alloc, Close("div"))?);
-    for _ in 0..100_000 {
-        make(&mut serializer, &open)?;
-    }
-    for _ in 0..100_000 {
-        make(&mut serializer, &close)?;
-    }
+    make_each_often(&mut serializer, &document)?;
     assert_eq!(rt; serializer.writer.len(), 1_100_000);
     Ok(())
 }

@@ -1,5 +1,5 @@
 pub mod AttributeLaws
-pub mod BelowLaws
+pub mod PutLaws
 pub mod StackLaws
 pub mod TextLaws
 pub mod WalkLaws

@@ -1,12 +1,14 @@
 -- The stack as it is kept, and as it is seen.
-use Rattle.std.proofs.Common.{◌≡◌, ◌-◌, ◌+◌, ◌<◌, ◌≤◌, ℕ, zero, suc, get_or, take, length-append, Bool, true, false, cond, List, [], ◌∷◌, ◌++◌, length, map, reverse, Some, inl, inr, codes, refl, ap, sym, subst, ◌∙◌, arith}
+use Rattle.std.proofs.Common.{◌≡◌, ◌-◌, ◌+◌, ◌<◌, ◌≤◌, ℕ, zero, suc, get_or, take, length-append, Bool, true, false, cond, List, [], ◌∷◌, ◌++◌, length, map, reverse, Option, None, Some, inl, inr, codes, refl, ap, sym, subst, ◌∙◌, arith}
 use Rattle.std.specs.Prelude.{slice_get, unwrap_or}
 use Rattle.h5_names.specs.declared.qualified.QualName.{QualName}
 use Rattle.h5_tag_sets.specs.TagSets.{html_namespace, is_html_named}
 use Rattle.h5_interface.specs.NewElement.{is_html_template}
+use Rattle.h5_stack.specs.FormattingList.{Entry}
 use Rattle.h5_stack.specs.Order.{IsIn}
 use Rattle.h5_stack.specs.Scope.{second_is}
-use Rattle.h5_meaning.specs.World.{World, inside, name_in, name_of_found}
+use Rattle.h5_meaning.specs.Place.{inside}
+use Rattle.h5_meaning.specs.World.{World, name_in, name_of_found}
 use Rattle.h5_stack.specs.Order.{first_or, last_or}
 use Rattle.std.proofs.lemmas.List.{length-map, length-reverse, map-append, reverse-append, take_more}
 use Rattle.h5_interface.specs.Changes.{mark}
@@ -15,17 +17,18 @@ use Rattle.h5_interface.specs.SinkChoices.{SinkChoices}
 use Rattle.h5_meaning.specs.Changes.{pop}
 use Rattle.h5_interface.specs.Forest.{ElementNode, Forest, IsElement, Marks, contents_of, kind_of}
 use Rattle.h5_interface.proofs.MakingLaws.{mark_rearranges}
-use Rattle.h5_meaning.specs.Sound.{Stands}
-use Rattle.h5_meaning.proofs.SoundLaws.{stands_rearranged, stands_tail}
+use Rattle.h5_meaning.specs.Sound.{AllStand}
+use Rattle.h5_meaning.proofs.SoundLaws.{all_rearranged, all_tail}
 
 pub seen_pushed : {H : Type 0} (node : H → ℕ) (xs ys : List H) (x : H) → ys ≡ xs ++ x ∷ [] → reverse (map node ys) ≡ node x ∷ reverse (map node xs)
 seen_pushed node xs ys x e = ap (λ z. reverse (map node z)) e ∙ ap reverse (map-append node xs (x ∷ [])) ∙ reverse-append (map node xs) (node x ∷ [])
 
 -- one element less is open, and some marks changed
-pub stands_popped : {H : Type 0} (node : H → ℕ) (xs ys : List H) (x : H) (f : Forest) (marks : ℕ → Marks) → ys ≡ xs ++ x ∷ [] → Stands f (reverse (map node ys)) → Stands (mark marks f) (reverse (map node xs))
-stands_popped node xs ys x f marks e k =
-    let k' = stands_tail f (node x) (reverse (map node xs)) (subst (Stands f) (seen_pushed node xs ys x e) k) in
-    stands_rearranged f (mark marks f) (reverse (map node xs)) k' (mark_rearranges f marks k'.is_forest)
+pub all_popped : {H : Type 0} {l : List Entry} {head form context : Option ℕ} (node : H → ℕ) (xs ys : List H) (x : H) (f : Forest) (marks : ℕ → Marks) → ys ≡ xs ++ x ∷ []
+    → AllStand f (reverse (map node ys)) l head form context → AllStand (mark marks f) (reverse (map node xs)) l head form context
+all_popped {H} {l} {head} {form} {context} node xs ys x f marks e k =
+    let k' = all_tail f (node x) (reverse (map node xs)) (subst (λ s. AllStand f s l head form context) (seen_pushed node xs ys x e) k) in
+    all_rearranged f (mark marks f) (reverse (map node xs)) k' (mark_rearranges f marks k'.stands.is_forest)
 
 -- the last of a list
 pub last_split : {A : Type 0} (xs : List A) (x : A) → Some x ≡ slice_get xs (length xs - 1) → (ys : List A) × (xs ≡ ys ++ x ∷ [])
@@ -35,6 +38,14 @@ last_split (y ∷ z ∷ zs) x e =
     let k : length (y ∷ z ∷ zs) - 1 ≡ suc (length (z ∷ zs) - 1) = omega arith in
     let r = last_split (z ∷ zs) x (e ∙ ap (slice_get (y ∷ z ∷ zs)) k) in
     (y ∷ r.0, ap (λ t. y ∷ t) r.1)
+
+pub last_none : {A : Type 0} (xs : List A) → None ≡ slice_get xs (length xs - 1) → xs ≡ []
+last_none [] e = refl
+last_none (x ∷ []) e = absurd (cc)
+last_none (x ∷ y ∷ ys) e =
+    let more : length (x ∷ y ∷ ys) - 1 ≡ suc (length (y ∷ ys) - 1) = omega arith in
+    let none : y ∷ ys ≡ [] = last_none (y ∷ ys) (e ∙ ap (slice_get (x ∷ y ∷ ys)) more) in
+    absurd (cc)
 
 -- a world with another forest and other open elements
 abbrev pub seen_world : World → Seen → List ℕ → World
@@ -108,13 +119,23 @@ seen_at node (y ∷ ys) zero x h e =
 seen_at node (y ∷ ys) (suc i) x h e =
     subst (IsIn (node x)) (sym (reverse_cons (node y) (map node ys))) (in_left (node x) (reverse (map node ys)) (node y ∷ []) (seen_at node ys i x (omega arith) e))
 
-pub element_at : {H : Type 0} (node : H → ℕ) (xs : List H) (f : Forest) (i : ℕ) (x : H) → Stands f (reverse (map node xs)) → i < length (reverse (map node xs)) → x ≡ get_or xs i x → IsElement f (node x)
+pub element_at : {H : Type 0} (node : H → ℕ) (xs : List H) (f : Forest) (i : ℕ) (x : H) → ((n : ℕ) → IsIn n (reverse (map node xs)) → IsElement f n) → i < length (reverse (map node xs)) → x ≡ get_or xs i x → IsElement f (node x)
 element_at node xs f i x k h e =
-    k.elements (node x) (seen_at node xs i x (omega (arith, h, length-reverse (map node xs), length-map xs node)) e)
+    k (node x) (seen_at node xs i x (omega (arith, h, length-reverse (map node xs), length-map xs node)) e)
 
 -- one element more
 pub stack_step : {H : Type 0} (node : H → ℕ) (xs : List H) (i : ℕ) (x : H) → i < length xs → x ≡ get_or xs i x → reverse (map node (take (i + 1) xs)) ≡ node x ∷ reverse (map node (take i xs))
 stack_step node xs i x h e = seen_pushed node (take i xs) (take (i + 1) xs) x (take_more xs i x h ∙ ap (λ z. take i xs ++ z ∷ []) (sym e))
+
+-- the element below one, which is itself where it is the root
+pub below_first : {H : Type 0} (node : H → ℕ) (xs : List H) (i : ℕ) (x y : H) → i < length xs → x ≡ get_or xs i x → y ≡ get_or xs (i - 1) y → first_or (node x) (reverse (map node (take i xs))) ≡ node y
+below_first node [] i x y h e d = absurd (omega arith)
+below_first node (z ∷ xs) zero x y h e d = ap node (e ∙ sym d)
+below_first node (z ∷ xs) (suc i) x y h e d =
+    let one_more : suc i ≡ i + 1 = omega arith in
+    let one_less : suc i - 1 ≡ i = omega arith in
+    ap (λ k. first_or (node x) (reverse (map node (take k (z ∷ xs))))) one_more
+    ∙ ap (first_or (node x)) (stack_step node (z ∷ xs) i y (omega (arith, h)) (d ∙ ap (λ k. get_or (z ∷ xs) k y) one_less))
 
 -- the second from the root on
 second_more : (local : List ℕ) (n : QualName) (ns : List QualName) → 2 ≤ length ns → second_is local (n ∷ ns) ≡ second_is local ns

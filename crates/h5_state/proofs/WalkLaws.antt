@@ -1,14 +1,17 @@
 -- The walk over the open elements.
-use Rattle.std.proofs.Common.{Option, Some, None, ap, sym, ◌∙◌, ◌≡◌, ℕ, Bool, true, false, ◌||◌, cond, List, [], ◌∷◌, length, refl, arith}
+use Rattle.std.proofs.Common.{ap, sym, subst, ◌∙◌, ◌≡◌, ◌+◌, ◌<◌, ℕ, suc, Bool, true, false, ◌||◌, cond, take, List, [], ◌∷◌, ◌++◌, length, map, reverse, refl, arith}
+use Rattle.std.proofs.lemmas.List.{length-reverse, reverse-append, reverse-reverse, take-append-le, take-map, take_all}
 use Rattle.std.specs.List.{list_any}
-use Rattle.std.specs.Option.{is_some, unwrap_or}
-use Rattle.std.specs.Prelude.{MatchOption}
 use Rattle.h5_names.specs.declared.qualified.QualName.{QualName}
 use Rattle.h5_names.specs.KnownNames.{name_text}
 use Rattle.h5_names.specs.declared.known_name.KnownName.TheVariants.{Template}
+use Rattle.h5_interface.specs.Forest.{Forest}
 use Rattle.h5_interface.specs.NewElement.{is_html_template}
 use Rattle.h5_tag_sets.specs.TagSets.{html_namespace, is_html_named}
+use Rattle.h5_stack.specs.Order.{but_first}
 use Rattle.h5_stack.specs.Scope.{cut_through, has_template, in_scope}
+use Rattle.h5_meaning.specs.Place.{from_foster_parent, is_foster_parent}
+use Rattle.h5_meaning.specs.World.{name_in}
 use Rattle.h5_state.specs.View.{stack_under}
 use Rattle.h5_state.specs.declared.state.State.{State}
 
@@ -24,23 +27,80 @@ template_in_scope [] = refl
 template_in_scope (n ∷ ns) =
     elim (is_html_template n) as (λ b. cond b true (in_scope is_html_template (λ m. false) ns) ≡ (b || has_template ns)) [ true ↦ refl | false ↦ template_in_scope ns ]
 
--- where no name passes, nothing stays open
-pub nothing_left : (is : QualName → Bool) (ns : List QualName) (s : List ℕ) → length s ≡ length ns → in_scope is (λ n. false) ns ≡ false → cut_through is ns s ≡ []
-nothing_left is [] [] e h = refl
-nothing_left is [] (m ∷ s) e h = absurd (omega arith)
-nothing_left is (n ∷ ns) [] e h = absurd (omega arith)
-nothing_left is (n ∷ ns) (m ∷ s) e h =
-    (elim (is n) as (λ b. cond b true (in_scope is (λ k. false) ns) ≡ false → cond b s (cut_through is ns s) ≡ []) [
-      | true ↦ λ k. absurd (cc)
-      | false ↦ λ k. nothing_left is ns s (omega arith) k
+-- the second list is what the first one ends with
+pub record Suffix (s t : List ℕ) : Type 0 where
+  pub front : List ℕ
+  pub cut : s ≡ front ++ t
+
+suffix_more : (n : ℕ) (s t : List ℕ) → Suffix s t → Suffix (n ∷ s) t
+suffix_more n s t x = record { front = n ∷ x.front; cut = ap (λ z. n ∷ z) x.cut }
+
+suffix_here : (s : List ℕ) → Suffix s s
+suffix_here s = record { front = []; cut = refl }
+
+suffix_later : (s t : List ℕ) → Suffix (but_first s) t → Suffix s t
+suffix_later [] t x = x
+suffix_later (n ∷ s) t x = suffix_more n s t x
+
+cut_is_suffix : (is : QualName → Bool) (ns : List QualName) (s : List ℕ) → Suffix s (cut_through is ns s)
+cut_is_suffix is [] s = suffix_here s
+cut_is_suffix is (n ∷ ns) s =
+    elim (is n) as (λ b. Suffix s (cond b (but_first s) (cut_through is ns (but_first s)))) [
+      | true ↦ suffix_later s (but_first s) (suffix_here (but_first s))
+      | false ↦ suffix_later s (cut_through is ns (but_first s)) (cut_is_suffix is ns (but_first s))
+    ]
+
+-- the oldest open elements are what the stack ends with
+suffix_under : {H : Type 0} (node : H → ℕ) (xs : List H) (t : List ℕ) → Suffix (reverse (map node xs)) t → reverse (map node (take (length t) xs)) ≡ t
+suffix_under node xs t x =
+    ap reverse (sym (take-map node (length t) xs) ∙ ap (take (length t)) back ∙ take-append-le (length t) (reverse t) (reverse x.front) (omega (arith, length-reverse t)) ∙ take_all (length t) (reverse t) (omega (arith, length-reverse t)))
+    ∙ reverse-reverse t
+  where
+    back : map node xs ≡ reverse t ++ reverse x.front
+    back = sym (reverse-reverse (map node xs)) ∙ ap reverse x.cut ∙ reverse-append x.front t
+
+-- so many elements are left of a stack that is cut
+pub cut_under : {H : Type 0} (node : H → ℕ) (state : State H) (is : QualName → Bool) (ns : List QualName) (s : List ℕ) (count : ℕ) → s ≡ reverse (map node state.open_elems.items)
+    → count ≡ length (cut_through is ns s) → stack_under node state count ≡ cut_through is ns s
+unfolding stack_under
+cut_under node state is ns s count e c =
+    ap (λ k. reverse (map node (take k state.open_elems.items))) c
+    ∙ suffix_under node state.open_elems.items (cut_through is ns s) (subst (λ z. Suffix z (cut_through is ns s)) e (cut_is_suffix is ns s))
+
+-- the stack from a foster parent on, where one is open
+from_is_cut : (f : Forest) (s : List ℕ) → in_scope is_foster_parent (λ n. false) (map (name_in f) s) ≡ true
+    → Suffix s (from_foster_parent f s) × (length (from_foster_parent f s) ≡ suc (length (cut_through is_foster_parent (map (name_in f) s) s)))
+from_is_cut f [] h = absurd (cc)
+from_is_cut f (n ∷ s) h =
+    (elim (is_foster_parent (name_in f n)) as (λ b. cond b true (in_scope is_foster_parent (λ m. false) (map (name_in f) s)) ≡ true
+    → Suffix (n ∷ s) (cond b (n ∷ s) (from_foster_parent f s))
+    × (length (cond b (n ∷ s) (from_foster_parent f s)) ≡ suc (length (cond b s (cut_through is_foster_parent (map (name_in f) s) s))))) [
+      | true ↦ λ e. (suffix_here (n ∷ s), refl)
+      | false ↦ λ e. let later = from_is_cut f s e in (suffix_more n s (from_foster_parent f s) later.0, later.1)
     ]) h
 
--- so many elements are left of a stack that is cut where the walk found a name, and none where it found none
-pub left_open : (is : QualName → Bool) (ns : List QualName) (s : List ℕ) (under : ℕ → List ℕ) (o : Option ℕ) (count : ℕ) → under 0 ≡ [] → length s ≡ length ns → is_some o ≡ in_scope is (λ n. false) ns
-    → MatchOption o (Unit {0}) (λ place. under place ≡ cut_through is ns s) → count ≡ unwrap_or o 0 → under count ≡ cut_through is ns s
-left_open is ns s under None count none e found at c = ap under c ∙ none ∙ sym (nothing_left is ns s e (sym found))
-left_open is ns s under (Some place) count none e found at c = ap under c ∙ at
-
-pub none_under : {H : Type 0} (node : H → ℕ) (state : State H) → stack_under node state 0 ≡ []
+pub foster_under : {H : Type 0} (node : H → ℕ) (state : State H) (f : Forest) (s : List ℕ) (at : ℕ) → s ≡ reverse (map node state.open_elems.items)
+    → in_scope is_foster_parent (λ n. false) (map (name_in f) s) ≡ true → at ≡ length (cut_through is_foster_parent (map (name_in f) s) s) → stack_under node state (at + 1) ≡ from_foster_parent f s
 unfolding stack_under
-none_under node state = refl
+foster_under node state f s at e h c =
+    let from = from_is_cut f s h in
+    ap (λ k. reverse (map node (take k state.open_elems.items))) (omega (arith, c, from.1))
+    ∙ suffix_under node state.open_elems.items (from_foster_parent f s) (subst (λ z. Suffix z (from_foster_parent f s)) e from.0)
+
+pub cut_inside : (is : QualName → Bool) (ns : List QualName) (s : List ℕ) → length s ≡ length ns → in_scope is (λ n. false) ns ≡ true → length (cut_through is ns s) < length s
+cut_inside is [] s e h = absurd (cc)
+cut_inside is (n ∷ ns) [] e h = absurd (omega arith)
+cut_inside is (n ∷ ns) (m ∷ s) e h =
+    (elim (is n) as (λ b. cond b true (in_scope is (λ k. false) ns) ≡ true → length (cond b s (cut_through is ns s)) < suc (length s)) [
+      | true ↦ λ k. omega arith
+      | false ↦ λ k. let later = cut_inside is ns s (omega arith) k in omega (arith, later)
+    ]) h
+
+-- where no foster parent is open
+pub no_foster : (f : Forest) (s : List ℕ) → in_scope is_foster_parent (λ n. false) (map (name_in f) s) ≡ false → from_foster_parent f s ≡ []
+no_foster f [] h = refl
+no_foster f (n ∷ s) h =
+    (elim (is_foster_parent (name_in f n)) as (λ b. cond b true (in_scope is_foster_parent (λ m. false) (map (name_in f) s)) ≡ false → cond b (n ∷ s) (from_foster_parent f s) ≡ []) [
+      | true ↦ λ e. absurd (cc)
+      | false ↦ λ e. no_foster f s e
+    ]) h

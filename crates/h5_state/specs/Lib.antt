@@ -1,4 +1,4 @@
-pub mod Below
+pub mod Places
 pub mod Steps
 pub mod Turn
 pub mod View

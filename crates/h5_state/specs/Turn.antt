@@ -1,5 +1,5 @@
 -- What a turn did, as contracts of rules say it.
-use Rattle.std.specs.Prelude.{ℕ, Result, IfOk}
+use Rattle.std.specs.Prelude.{Result, IfOk}
 use Rattle.std.specs.declared.alloc.AllocError.{AllocError}
 use Rattle.h5_token.specs.TokenText.{TagText, tag_text}
 use Rattle.h5_token.specs.declared.tag.Tag.{Tag}

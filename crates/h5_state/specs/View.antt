@@ -1,5 +1,5 @@
 -- What a builder's state and its sink mean together.
-use Rattle.std.specs.Prelude.{ℕ, List, map, reverse, take, Option, option_map, string_bytes}
+use Rattle.std.specs.Prelude.{ℕ, List, map, reverse, take, option_map, string_bytes}
 use Rattle.std.specs.List.{flat_map}
 use Rattle.h5_names.specs.declared.qualified.QualName.{QualName}
 use Rattle.h5_token.specs.TokenText.{tag_text}

@@ -2,38 +2,21 @@
 ghost use Rattle.std.specs.Prelude.{◌≡◌, ◌≢◌, [], false, OnOk, string_bytes};
 ghost use Rattle.h5_names.specs.AttributeText.{attribute_texts};
 ghost use Rattle.h5_names.specs.KnownNames.{name_text};
-ghost use Rattle.h5_interface.specs.Forest.{IsNode};
 ghost use Rattle.h5_meaning.specs.Changes.{push_new};
-ghost use Rattle.h5_meaning.specs.Rows.{AppendComment, AppendCommentToDoc, AppendCommentToHtml, AppendText, CreateRoot, InsertElement};
-ghost use Rattle.h5_meaning.specs.World.{place, root};
+ghost use Rattle.h5_meaning.specs.Place.{IsPlaceIn, LastChild};
+ghost use Rattle.h5_meaning.specs.Rows.{AppendComment, AppendCommentToDoc, AppendCommentToHtml, AppendText, CreateRoot, InsertElement, InsertHead};
 ghost use Rattle.h5_stack.specs.FormattingNames.{html_name};
+ghost use Rattle.h5_state.specs.Places.{place_of};
 ghost use Rattle.h5_state.specs.Steps.{IsSound, MakesIfOk, errors_of, world_of};
 
-use super::below::{append_comment_below, append_element, append_text_below};
+use super::open_elems::root_node;
+use super::place::{InsertionPoint, current_place};
+use super::put::{insert_new_comment, insert_new_element, insert_text};
 use super::state::State;
 use super::steps::current_node;
 use h5_interface::TreeSink;
 use h5_names::{Attribute, KnownName, LocalName, Namespace, QualName};
-use h5_tag_sets::is_html_known;
 use std::alloc::AllocError;
-
-/// The appropriate place for inserting a node: the current node, or its contents where it is a template.
-#[tactic(auto, unfolding(crate::specs::View::world))]
-pub fn appropriate_place_for_insertion<S: TreeSink>(sink: &S, state: &State<S::Handle>) -> S::Handle
-    requires { IsSound S.TreeSink sink.now state.now }
-    ensures { S.node result ≡ place (world_of S.TreeSink sink.now state.now) }
-{
-    match state.open_elems.last() {
-        Some(element) => {
-            if is_html_known(sink.elem_name(element), KnownName::Template) {
-                sink.get_template_contents(element)
-            } else {
-                sink.clone_handle(element)
-            }
-        }
-        None => sink.get_document(),
-    }
-}
 
 // The HTML name of this local name.
 fn html_qual_name(local: LocalName) -> QualName
@@ -42,25 +25,27 @@ fn html_qual_name(local: LocalName) -> QualName
     QualName::new(None, Namespace::html(), local)
 }
 
-// An HTML element of this name as the last child of a node; it becomes the current node.
+// An HTML element of this name at a place; it becomes the current node. Where none is open, the place is in the
+// document.
 #[tactic(auto, unfolding(crate::specs::View::world))]
-fn insert_below<S: TreeSink>(
+fn push_at<S: TreeSink>(
     sink: &mut S,
     state: &mut State<S::Handle>,
-    parent: &S::Handle,
+    place: &InsertionPoint<S::Handle>,
     local: LocalName,
     attrs: Vec<Attribute>,
     had_duplicate_attributes: bool,
 ) -> Result<(), AllocError>
     requires sound { IsSound S.TreeSink sink.old state.old }
-    requires parent { IsNode (world_of S.TreeSink sink.old state.old).forest (S.node parent.now) }
+    requires place { IsPlaceIn (world_of S.TreeSink sink.old state.old).forest (place_of S.node place.now) }
+    requires first { (world_of S.TreeSink sink.old state.old).stack ≡ [] → place_of S.node place.now ≡ LastChild (world_of S.TreeSink sink.old state.old).forest.document }
     ensures done { OnOk result
-        (world_of S.TreeSink sink.new state.new ≡ push_new S.choices (S.node parent.now) local (attribute_texts attrs.items) had_duplicate_attributes (world_of S.TreeSink sink.old state.old)) }
+        (world_of S.TreeSink sink.new state.new ≡ push_new S.choices (place_of S.node place.now) local (attribute_texts attrs.items) had_duplicate_attributes (world_of S.TreeSink sink.old state.old)) }
     ensures quiet { errors_of S.TreeSink sink.new ≡ errors_of S.TreeSink sink.old }
     ensures sound { IsSound S.TreeSink sink.new state.new }
 {
     let name = html_qual_name(local);
-    let element = append_element(sink, parent, name, attrs, had_duplicate_attributes)?;
+    let element = insert_new_element(sink, place, name, attrs, had_duplicate_attributes)?;
     state.open_elems.push(element)?;
     Ok(())
 }
@@ -78,8 +63,8 @@ pub fn insert_element<S: TreeSink>(
     requires { IsSound S.TreeSink sink.old state.old }
     ensures { MakesIfOk S.TreeSink (InsertElement local (attribute_texts attrs.items) had_duplicate_attributes) sink.old state.old sink.new state.new result }
 {
-    let place = appropriate_place_for_insertion(sink, state);
-    insert_below(sink, state, &place, local, attrs, had_duplicate_attributes)
+    let place = current_place(sink, state);
+    push_at(sink, state, &place, local, attrs, had_duplicate_attributes)
 }
 
 /// An HTML element of this name, without attributes, at the place of insertion.
@@ -106,15 +91,32 @@ pub fn create_root<S: TreeSink>(
     requires { IsSound S.TreeSink sink.old state.old }
     ensures { MakesIfOk S.TreeSink (CreateRoot (attribute_texts attrs.items)) sink.old state.old sink.new state.new result }
 {
-    let document = sink.get_document();
-    insert_below(
+    let place = InsertionPoint::LastChild(sink.get_document());
+    push_at(
         sink,
         state,
-        &document,
+        &place,
         LocalName::from_known(KnownName::Html),
         attrs,
         false,
     )
+}
+
+/// The head, at the place of insertion; it becomes the current node, and the head element.
+#[tactic(auto, unfolding(crate::specs::View::world, h5_meaning::specs::Changes::insert_head))]
+pub fn insert_head<S: TreeSink>(
+    sink: &mut S,
+    state: &mut State<S::Handle>,
+    attrs: Vec<Attribute>,
+    had_duplicate_attributes: bool,
+) -> Result<(), AllocError>
+    requires { IsSound S.TreeSink sink.old state.old }
+    ensures { MakesIfOk S.TreeSink (InsertHead (attribute_texts attrs.items) had_duplicate_attributes) sink.old state.old sink.new state.new result }
+{
+    let head = LocalName::from_known(KnownName::Head);
+    insert_element(sink, state, head, attrs, had_duplicate_attributes)?;
+    state.head_elem = Some(current_node(sink, state));
+    Ok(())
 }
 
 /// A comment at the place of insertion. An Err leaves open elements.
@@ -127,8 +129,8 @@ pub fn append_comment<S: TreeSink>(
     requires { IsSound S.TreeSink sink.old state.now }
     ensures { MakesIfOk S.TreeSink (AppendComment (string_bytes text)) sink.old state.now sink.new state.now result }
 {
-    let place = appropriate_place_for_insertion(sink, state);
-    append_comment_below(sink, &place, text)
+    let place = current_place(sink, state);
+    insert_new_comment(sink, &place, text)
 }
 
 /// A text, which isn't empty, at the place of insertion. An Err leaves open elements.
@@ -142,8 +144,8 @@ pub fn append_text<S: TreeSink>(
     requires text { string_bytes text ≢ [] }
     ensures { MakesIfOk S.TreeSink (AppendText (string_bytes text)) sink.old state.now sink.new state.now result }
 {
-    let place = appropriate_place_for_insertion(sink, state);
-    append_text_below(sink, &place, text)
+    let place = current_place(sink, state);
+    insert_text(sink, &place, text)
 }
 
 /// A comment as the last child of the document.
@@ -156,8 +158,8 @@ pub fn append_comment_to_doc<S: TreeSink>(
     requires { IsSound S.TreeSink sink.old state.now }
     ensures { MakesIfOk S.TreeSink (AppendCommentToDoc (string_bytes text)) sink.old state.now sink.new state.now result }
 {
-    let document = sink.get_document();
-    append_comment_below(sink, &document, text)
+    let place = InsertionPoint::LastChild(sink.get_document());
+    insert_new_comment(sink, &place, text)
 }
 
 /// A comment as the last child of the root.
@@ -170,17 +172,6 @@ pub fn append_comment_to_html<S: TreeSink>(
     requires { IsSound S.TreeSink sink.old state.now }
     ensures { MakesIfOk S.TreeSink (AppendCommentToHtml (string_bytes text)) sink.old state.now sink.new state.now result }
 {
-    let html = root_node(sink, state);
-    append_comment_below(sink, &html, text)
-}
-
-/// A handle of the root, or of the document where no element is open.
-#[tactic(auto, unfolding(crate::specs::View::world))]
-fn root_node<S: TreeSink>(sink: &S, state: &State<S::Handle>) -> S::Handle
-    ensures { S.node result ≡ root (world_of S.TreeSink sink.now state.now) }
-{
-    match state.open_elems.first() {
-        Some(element) => sink.clone_handle(element),
-        None => sink.get_document(),
-    }
+    let place = InsertionPoint::LastChild(root_node(sink, state));
+    insert_new_comment(sink, &place, text)
 }

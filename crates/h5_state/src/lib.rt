@@ -3,12 +3,13 @@
 #![tactic(auto)]
 
 mod attributes;
-mod below;
 mod blanks;
 mod errors;
 mod insert;
 mod name_test;
 mod open_elems;
+mod place;
+mod put;
 mod state;
 mod steps;
 
@@ -16,15 +17,15 @@ pub use attributes::{add_attrs_to_html, add_attrs_to_second};
 pub use blanks::{first_run, is_blank_text, set_frameset_ok_by_text};
 pub use errors::{tell_error, unexpected, unexpected_tag};
 pub use insert::{
-    append_comment, append_comment_to_doc, append_comment_to_html, append_text,
-    appropriate_place_for_insertion, create_root, insert_element, insert_phantom,
+    append_comment, append_comment_to_doc, append_comment_to_html, append_text, create_root,
+    insert_element, insert_head, insert_phantom,
 };
 pub use open_elems::{
-    check_body_end, generate_implied_end_except, has_body_second, has_open_template,
-    in_scope_named, is_current_html, is_named_before_special, pop_until_named,
+    check_body_end, find_before_special, generate_implied_end_except, has_body_second,
+    has_open_template, in_scope_named, is_current_html, pop_until_named,
 };
+pub use place::{InsertionPoint, appropriate_place_for_insertion, current_place};
 pub use state::{State, Turn};
 pub use steps::{
-    current_mode, current_node, has_srcdoc, pop, set_frameset_not_ok, set_head_to_current,
-    set_mode, set_quirks_mode,
+    current_mode, current_node, has_srcdoc, pop, set_frameset_not_ok, set_mode, set_quirks_mode,
 };

@@ -3,6 +3,7 @@ ghost use Rattle.std.specs.Prelude.{◌≡◌, Bool, false, not};
 ghost use Rattle.h5_names.specs.declared.qualified.QualName.{QualName as NameText};
 ghost use Rattle.h5_names.specs.KnownNames.{name_text};
 ghost use Rattle.h5_tag_sets.specs.TagSets.{is_body_end_ok, is_default_scope, is_html_named, is_special};
+ghost use Rattle.h5_meaning.specs.Place.{is_foster_parent};
 
 use h5_names::{KnownName, LocalName, QualName};
 use h5_tag_sets::{body_end_ok, default_scope, is_html_known, is_html_local, special_tag};
@@ -74,6 +75,18 @@ impl NameTest for Unclosed {
 
     fn test(&self, name: &QualName) -> bool {
         !body_end_ok(name)
+    }
+}
+
+/// Whether an element decides where content is foster-parented.
+#[derive(Clone, Copy)]
+pub struct FosterParent;
+
+impl NameTest for FosterParent {
+    ghost holds = { λ t name. is_foster_parent name };
+
+    fn test(&self, name: &QualName) -> bool {
+        is_html_known(name, KnownName::Template) || is_html_known(name, KnownName::Table)
     }
 }
 

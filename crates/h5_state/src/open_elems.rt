@@ -6,7 +6,7 @@ ghost use Rattle.h5_tag_sets.specs.TagSets.{is_default_scope, is_html_named, is_
 ghost use Rattle.h5_stack.specs.Order.{but_first};
 ghost use Rattle.h5_stack.specs.Scope.{comes_before_special, cut_through, first_passes, has_template, has_unclosed, in_scope, is_implied_but, second_is};
 ghost use Rattle.h5_meaning.specs.Rows.{GenerateImpliedEndExcept, PopUntilNamed};
-ghost use Rattle.h5_meaning.specs.World.{names_of};
+ghost use Rattle.h5_meaning.specs.World.{names_of, root};
 ghost use Rattle.h5_state.specs.Steps.{IsSound, Makes, TellsErrors, errors_of, world_of};
 ghost use Rattle.h5_state.specs.View.{names_under, stack_under, with_stack};
 
@@ -37,13 +37,14 @@ fn name_at<'a, S: TreeSink>(sink: &'a S, state: &'a State<S::Handle>, place: usi
     requires sound { IsSound S.TreeSink sink.now state.now }
     ensures names { names_under S.sees S.node sink.now state.now (place + 1) ≡ result.now ∷ names_under S.sees S.node sink.now state.now place }
     ensures stack { but_first (stack_under S.node state.now (place + 1)) ≡ stack_under S.node state.now place }
+    ensures count { length (stack_under S.node state.now place) ≡ place }
 {
     sink.elem_name(&state.open_elems[place])
 }
 
 // The one walk over the open elements, from the current node on: the place, counted from the root, of the first
 // element whose name passes, where it comes before, or is, the first that ends the scope.
-fn find_in_scope<S: TreeSink, Is: NameTest, Ends: NameTest>(
+pub fn find_in_scope<S: TreeSink, Is: NameTest, Ends: NameTest>(
     sink: &S,
     state: &State<S::Handle>,
     is: &Is,
@@ -51,7 +52,7 @@ fn find_in_scope<S: TreeSink, Is: NameTest, Ends: NameTest>(
 ) -> Option<usize>
     requires { IsSound S.TreeSink sink.now state.now }
     ensures found { is_some result ≡ in_scope (Is.holds is.now) (Ends.holds ends.now) (names_of (world_of S.TreeSink sink.now state.now)) }
-    ensures place { MatchOption result (Unit {0}) (λ place. stack_under S.node state.now place ≡ cut_through (Is.holds is.now) (names_of (world_of S.TreeSink sink.now state.now)) (world_of S.TreeSink sink.now state.now).stack) }
+    ensures place { MatchOption result (Unit {0}) (λ place. place ≡ length (cut_through (Is.holds is.now) (names_of (world_of S.TreeSink sink.now state.now)) (world_of S.TreeSink sink.now state.now).stack)) }
 {
     let mut place = open_count(sink, state);
     'down: while place > 0 {
@@ -75,16 +76,18 @@ pub fn in_scope_named<S: TreeSink>(sink: &S, state: &State<S::Handle>, name: Kno
     find_in_scope(sink, state, &Known(name), &DefaultScope).is_some()
 }
 
-/// Whether an HTML element of this name comes, from the current node on, before any special element.
-pub fn is_named_before_special<S: TreeSink>(
+/// Where the first HTML element of this name stands, from the current node on, if it comes before any special element:
+/// so many elements are older.
+pub fn find_before_special<S: TreeSink>(
     sink: &S,
     state: &State<S::Handle>,
     local: &LocalName,
-) -> bool
+) -> Option<usize>
     requires { IsSound S.TreeSink sink.now state.now }
-    ensures { result ≡ comes_before_special local.now (names_of (world_of S.TreeSink sink.now state.now)) }
+    ensures found { is_some result ≡ comes_before_special local.now (names_of (world_of S.TreeSink sink.now state.now)) }
+    ensures place { MatchOption result (Unit {0}) (λ place. place ≡ length (cut_through (is_html_named local.now) (names_of (world_of S.TreeSink sink.now state.now)) (world_of S.TreeSink sink.now state.now).stack)) }
 {
-    find_in_scope(sink, state, &Named(local), &Special).is_some()
+    find_in_scope(sink, state, &Named(local), &Special)
 }
 
 /// Whether an HTML `template` is open.
@@ -113,6 +116,17 @@ pub fn check_body_end<S: TreeSink>(sink: &mut S, state: &State<S::Handle>)
 {
     if has_unclosed(sink, state) {
         tell_error(sink, state, "unexpected open tag at the end of the body");
+    }
+}
+
+/// A handle of the root, or of the document where no element is open.
+#[tactic(auto, unfolding(crate::specs::View::world))]
+pub fn root_node<S: TreeSink>(sink: &S, state: &State<S::Handle>) -> S::Handle
+    ensures { S.node result ≡ root (world_of S.TreeSink sink.now state.now) }
+{
+    match state.open_elems.first() {
+        Some(element) => sink.clone_handle(element),
+        None => sink.get_document(),
     }
 }
 
@@ -157,28 +171,35 @@ fn is_current_implied<S: TreeSink>(sink: &S, state: &State<S::Handle>, local: &L
 }
 
 /// Pops elements whose end tags are implied, but no HTML element of this name (HTML standard, section
-/// 13.2.6.3, "generate implied end tags").
+/// 13.2.6.3, "generate implied end tags"). What is older than the first of this name stays.
 pub fn generate_implied_end_except<S: TreeSink>(
     sink: &mut S,
     state: &mut State<S::Handle>,
     local: &LocalName,
 )
     requires { IsSound S.TreeSink sink.old state.old }
-    ensures { Makes S.TreeSink (GenerateImpliedEndExcept local.now) sink.old state.old sink.new state.new }
+    ensures made { Makes S.TreeSink (GenerateImpliedEndExcept local.now) sink.old state.old sink.new state.new }
+    ensures older { cut_through (is_html_named local.now) (names_of (world_of S.TreeSink sink.new state.new)) (world_of S.TreeSink sink.new state.new).stack
+        ≡ cut_through (is_html_named local.now) (names_of (world_of S.TreeSink sink.old state.old)) (world_of S.TreeSink sink.old state.old).stack }
 {
     'implied: while is_current_implied(sink, state, local) {
         pop(sink, state);
     }
 }
 
-/// Takes elements off the stack until an HTML element of this name was taken off, all where there is none. The
+/// Takes elements off the stack until the first HTML element of this name was taken off, which stands at this place. The
 /// sink isn't told.
-pub fn pop_until_named<S: TreeSink>(sink: &S, state: &mut State<S::Handle>, local: &LocalName)
-    requires { IsSound S.TreeSink sink.now state.old }
+pub fn pop_until_named<S: TreeSink>(
+    sink: &S,
+    state: &mut State<S::Handle>,
+    local: &LocalName,
+    place: usize,
+)
+    requires sound { IsSound S.TreeSink sink.now state.old }
+    requires place { place ≡ length (cut_through (is_html_named local.now) (names_of (world_of S.TreeSink sink.now state.old)) (world_of S.TreeSink sink.now state.old).stack) }
     ensures { Makes S.TreeSink (PopUntilNamed local.now) sink.now state.old sink.now state.new }
 {
-    let count = find_in_scope(sink, state, &Named(local), &Nothing).unwrap_or(0);
-    truncate(sink, state, count);
+    truncate(sink, state, place);
 }
 
 // So many elements stay open.

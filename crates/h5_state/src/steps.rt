@@ -1,6 +1,6 @@
 //! Steps that change a field, or the current node.
 ghost use Rattle.std.specs.Prelude.{◌≡◌};
-ghost use Rattle.h5_meaning.specs.Rows.{Pop, SetFramesetNotOk, SetHeadToCurrent, SetMode, SetQuirksMode};
+ghost use Rattle.h5_meaning.specs.Rows.{Pop, SetFramesetNotOk, SetMode, SetQuirksMode};
 ghost use Rattle.h5_meaning.specs.World.{current};
 ghost use Rattle.h5_state.specs.Steps.{IsOpen, IsSound, Makes, world_of};
 
@@ -42,16 +42,6 @@ pub fn set_quirks_mode<S: TreeSink>(sink: &mut S, state: &mut State<S::Handle>, 
 {
     state.quirks_mode = mode;
     sink.set_quirks_mode(mode);
-}
-
-/// The current node becomes the head element.
-#[tactic(auto, unfolding(crate::specs::View::world, h5_meaning::specs::Changes::set_head_to_current))]
-pub fn set_head_to_current<S: TreeSink>(sink: &S, state: &mut State<S::Handle>)
-    requires { IsSound S.TreeSink sink.now state.old }
-    ensures { Makes S.TreeSink SetHeadToCurrent sink.now state.old sink.now state.new }
-{
-    let head = current_node(sink, state);
-    state.head_elem = Some(head);
 }
 
 /// A handle of the current node, or of the document where no element is open.

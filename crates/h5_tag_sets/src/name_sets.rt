@@ -88,11 +88,23 @@ const VOID: u32 = 1 << NameSet::Void as u32;
 const RAW_TEXT: u32 = 1 << NameSet::RawText as u32;
 
 // For each known name, by its number, the sets that hold it.
-static FLAGS: [u32; 149] = [
+static FLAGS: [u32; 221] = [
     FORMATTING, // a
     0, // action
     SPECIAL, // address
     0, // alt
+    0, // altGlyph
+    0, // altglyph
+    0, // altGlyphDef
+    0, // altglyphdef
+    0, // altGlyphItem
+    0, // altglyphitem
+    0, // animateColor
+    0, // animatecolor
+    0, // animateMotion
+    0, // animatemotion
+    0, // animateTransform
+    0, // animatetransform
     0, // annotation-xml
     SPECIAL | DEFAULT_SCOPE, // applet
     SPECIAL | VOID, // area
@@ -111,6 +123,8 @@ static FLAGS: [u32; 149] = [
     SPECIAL, // center
     0, // charset
     0, // class
+    0, // clipPath
+    0, // clippath
     FORMATTING, // code
     SPECIAL | VOID, // col
     SPECIAL | THOROUGH_IMPLIED_END, // colgroup
@@ -130,6 +144,56 @@ static FLAGS: [u32; 149] = [
     SPECIAL | VOID, // embed
     0, // encoding
     0, // face
+    0, // feBlend
+    0, // feblend
+    0, // feColorMatrix
+    0, // fecolormatrix
+    0, // feComponentTransfer
+    0, // fecomponenttransfer
+    0, // feComposite
+    0, // fecomposite
+    0, // feConvolveMatrix
+    0, // feconvolvematrix
+    0, // feDiffuseLighting
+    0, // fediffuselighting
+    0, // feDisplacementMap
+    0, // fedisplacementmap
+    0, // feDistantLight
+    0, // fedistantlight
+    0, // feDropShadow
+    0, // fedropshadow
+    0, // feFlood
+    0, // feflood
+    0, // feFuncA
+    0, // fefunca
+    0, // feFuncB
+    0, // fefuncb
+    0, // feFuncG
+    0, // fefuncg
+    0, // feFuncR
+    0, // fefuncr
+    0, // feGaussianBlur
+    0, // fegaussianblur
+    0, // feImage
+    0, // feimage
+    0, // feMerge
+    0, // femerge
+    0, // feMergeNode
+    0, // femergenode
+    0, // feMorphology
+    0, // femorphology
+    0, // feOffset
+    0, // feoffset
+    0, // fePointLight
+    0, // fepointlight
+    0, // feSpecularLighting
+    0, // fespecularlighting
+    0, // feSpotLight
+    0, // fespotlight
+    0, // feTile
+    0, // fetile
+    0, // feTurbulence
+    0, // feturbulence
     SPECIAL, // fieldset
     SPECIAL, // figcaption
     SPECIAL, // figure
@@ -140,6 +204,8 @@ static FLAGS: [u32; 149] = [
     SPECIAL, // form
     SPECIAL | VOID, // frame
     SPECIAL, // frameset
+    0, // glyphRef
+    0, // glyphref
     SPECIAL | HEADING, // h1
     SPECIAL | HEADING, // h2
     SPECIAL | HEADING, // h3
@@ -164,6 +230,8 @@ static FLAGS: [u32; 149] = [
     VOID, // keygen
     0, // lang
     SPECIAL | CURSORY_IMPLIED_END | THOROUGH_IMPLIED_END | BODY_END_OK, // li
+    0, // linearGradient
+    0, // lineargradient
     SPECIAL | HEAD_CONTENT | VOID, // link
     SPECIAL, // listing
     SPECIAL, // main
@@ -193,6 +261,8 @@ static FLAGS: [u32; 149] = [
     SPECIAL | VOID, // param
     SPECIAL | RAW_TEXT, // plaintext
     SPECIAL, // pre
+    0, // radialGradient
+    0, // radialgradient
     CURSORY_IMPLIED_END | THOROUGH_IMPLIED_END, // rb
     0, // rel
     CURSORY_IMPLIED_END | THOROUGH_IMPLIED_END | BODY_END_OK, // rp
@@ -222,6 +292,8 @@ static FLAGS: [u32; 149] = [
     SPECIAL | DEFAULT_SCOPE | THOROUGH_IMPLIED_END | BODY_END_OK | TD_TH, // td
     SPECIAL | DEFAULT_SCOPE | TABLE_SCOPE | TABLE_BODY_CONTEXT | TABLE_ROW_CONTEXT | HEAD_CONTENT, // template
     SPECIAL, // textarea
+    0, // textPath
+    0, // textpath
     SPECIAL | TABLE_BODY_CONTEXT | THOROUGH_IMPLIED_END | BODY_END_OK | TABLE_OUTER, // tfoot
     SPECIAL | DEFAULT_SCOPE | THOROUGH_IMPLIED_END | BODY_END_OK | TD_TH, // th
     SPECIAL | TABLE_BODY_CONTEXT | THOROUGH_IMPLIED_END | BODY_END_OK | TABLE_OUTER, // thead

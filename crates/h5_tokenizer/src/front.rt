@@ -186,6 +186,7 @@ fn in_cdata<'a>(text: &'a str) -> Seen<'a, Opening>
 }
 
 /// What is more than a byte of plain text.
+#[inline(always)]
 pub fn find_opening<'a>(mode: Mode, last: &str, foreign: bool, text: &'a str) -> Seen<'a, Opening>
     ensures { seen opening_of result ≡ f.opening mode last.now foreign text.now }
 {

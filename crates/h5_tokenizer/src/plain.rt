@@ -1,5 +1,5 @@
 //! Text, up to what is more than that.
-ghost use Rattle.std.specs.Prelude.{◌≡◌, Bool, false, IfOk, ◌<◌, length};
+ghost use Rattle.std.specs.Prelude.{◌≡◌, Bool, false, true, IfOk, ◌<◌, length};
 ghost use Rattle.std.specs.String.{string_bytes};
 ghost use Rattle.std.specs.Option.{option_copied};
 ghost use Rattle.h5_scan.specs.Matching as m;
@@ -14,6 +14,7 @@ use h5_scan::Seen;
 use std::alloc::AllocError;
 
 /// Takes text where nothing else stands: all that is plain, or one byte that might have begun something.
+#[inline(always)]
 pub fn take_plain<'a>(text: &'a str, out: &mut String) -> Result<&'a str, AllocError>
     requires { 0 < length text.now }
     ensures { IfOk result (λ rest. (p : Place) (foreign : Bool) → opening p.mode p.last foreign text.now ≡ m.No
@@ -49,7 +50,33 @@ fn take_bit<'a>(
     }
 }
 
+// Whether a tag begins here in the state "data". Most texts end so, and nothing else needs to be looked for then.
+fn is_at_tag(mode: Mode, text: &str) -> bool {
+    match text.as_bytes() {
+        [b'<', b'/', b, ..] | [b'<', b, ..] => mode == Mode::Data && b.is_ascii_alphabetic(),
+        _ => false,
+    }
+}
+
+// Takes text where some stands.
+#[inline(always)]
+fn take_some<'a>(
+    mode: Mode,
+    last: &str,
+    text: &'a str,
+    out: &mut String,
+) -> Result<Option<&'a str>, AllocError>
+    ensures { IfOk result (λ rest. TakesSome (record { at_start = false; mode = mode; last = last.now }) true text.now (option_copied rest)
+        (string_bytes out.old) (string_bytes out.new)) }
+{
+    if is_at_tag(mode, text) {
+        return Ok(None);
+    }
+    take_bit(find_opening(mode, last, true, text), text, out)
+}
+
 /// Takes all the text there is.
+#[inline(always)]
 pub fn take_texts<'a>(
     mode: Mode,
     last: &str,
@@ -60,7 +87,7 @@ pub fn take_texts<'a>(
         (string_bytes out.old) (string_bytes out.new)) }
 {
     let mut rest = text;
-    while let Some(after) = take_bit(find_opening(mode, last, true, rest), rest, out)? {
+    while let Some(after) = take_some(mode, last, rest, out)? {
         // That it is text holds for the loop's next turn.
         let _bytes = after.as_bytes();
         rest = after;

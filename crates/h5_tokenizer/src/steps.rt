@@ -48,6 +48,7 @@ pub fn ask<S: TokenSink>(
 }
 
 // Hands a token on, and goes where it and the answer lead.
+#[inline(always)]
 fn hand_on<S: TokenSink>(
     sink: &mut S,
     state: &mut State,
@@ -107,6 +108,7 @@ ghost use Rattle.h5_tokenizer.specs.Tokens.{start_of};
 ghost use Rattle.h5_tokenizer.specs.Steps.{fresh};
 
 // A whole token stands at the front.
+#[inline(always)]
 fn token_step<'a, S: TokenSink>(
     sink: &mut S,
     state: &mut State,
@@ -127,6 +129,7 @@ fn token_step<'a, S: TokenSink>(
 }
 
 // A text has begun.
+#[inline(always)]
 fn text_step<'a, S: TokenSink>(
     sink: &mut S,
     state: &mut State,

@@ -77,6 +77,7 @@ fn make_comment(alloc: Global, text: &str) -> Result<Token, AllocError>
 }
 
 /// The token, by what stands between its opening and the `>` that ends it, and where in it the `>` stands.
+#[inline(always)]
 pub fn make_token(
     alloc: Global,
     construct: Construct,

@@ -1,5 +1,5 @@
 -- A builder's first world, and what a token did seen as a whole.
-use Rattle.std.proofs.Common.{◌≡◌, ◌≤◌, ℕ, false, List, [], ◌∷◌, refl, ap, sym, ◌∙◌, arith}
+use Rattle.std.proofs.Common.{◌≡◌, ◌≤◌, ℕ, false, List, [], ◌∷◌, None, refl, ap, sym, ◌∙◌, arith}
 use Rattle.h5_token.specs.Reply.{reply}
 use Rattle.h5_token.specs.TokenText.{DoctypeText, TokenText, DoctypeIs, TagIs, CommentIs, Characters, NullCharacter, EndOfFile, ParseErrorIs}
 use Rattle.h5_interface.specs.Forest.{Forest, IsForest}
@@ -7,10 +7,10 @@ use Rattle.h5_interface.specs.Seen.{Seen}
 use Rattle.h5_interface.specs.SinkChoices.{SinkChoices}
 use Rattle.h5_types.specs.TurnText.{TagTurn, CommentTurn, NullTurn, EofTurn}
 use Rattle.h5_types.specs.declared.modes.InsertionMode.{InsertionMode}
-use Rattle.h5_types.specs.declared.modes.InsertionMode.TheVariants.{Initial, BeforeHtml, BeforeHead, InHead, AfterHead, InBody, AfterBody, AfterAfterBody}
+use Rattle.h5_types.specs.declared.modes.InsertionMode.TheVariants.{Initial}
 use Rattle.h5_types.specs.declared.options.TreeBuilderOpts.{TreeBuilderOpts}
 use Rattle.h5_meaning.specs.Run.{doctype_in, is_counted, step, take_or_refuse, taken, tell_or_refuse, text_step, without_lf}
-use Rattle.h5_meaning.specs.Sound.{Stands}
+use Rattle.h5_meaning.specs.Sound.{AllStand, Stands}
 use Rattle.h5_meaning.specs.World.{World, names_of}
 use Rattle.h5_meaning.proofs.TurnLaws.{turns_few}
 use Rattle.h5_meaning.proofs.RunLaws.{is_taken, moved}
@@ -18,7 +18,7 @@ use Rattle.h5_tree_builder.specs.Builder.{Answered, Building, IsKept, first_buil
 use Rattle.h5_tree_builder.specs.Chains.{CameTo}
 use Rattle.h5_tree_builder.specs.declared.taken.Taken.{Taken}
 
-pub stands_none : (f : Forest) → IsForest f → Stands f []
+stands_none : (f : Forest) → IsForest f → Stands f []
 stands_none f k = record {
   is_forest = k;
   elements = λ n h. absurd h;
@@ -26,10 +26,23 @@ stands_none f k = record {
   templates = λ n h. absurd h;
 }
 
+all_none : (f : Forest) → IsForest f → AllStand f [] [] None None None
+all_none f k = record {
+  stands = stands_none f k;
+  root_top = tt;
+  head_node = λ n e. absurd (cc);
+  form_node = λ n e. absurd (cc);
+  form_name = λ n e h. absurd h;
+  apart = λ n e d. cc;
+  context_node = λ n e. absurd (cc);
+  listed = tt;
+  formatting = tt;
+}
+
 pub first_kept : (seen : Seen) (opts : TreeBuilderOpts) → IsForest seen.forest → IsKept (first_building seen opts)
 unfolding names_of
 first_kept seen opts k = record {
-  sound = stands_none seen.forest k;
+  sound = all_none seen.forest k;
   fits = λ a b. refl;
   closed = λ h. refl;
 }

@@ -1,7 +1,7 @@
 -- Turn after turn: what is left of a chain.
-use Rattle.std.proofs.Common.{◌≡◌, ◌≢◌, ◌+◌, ◌&&◌, not, List, ℕ, Bool, true, false, refl, ap, sym, subst, ◌∙◌, arith}
+use Rattle.std.proofs.Common.{◌≡◌, ◌≢◌, ◌+◌, ◌&&◌, not, List, ℕ, Bool, true, false, refl, ap, sym, ◌∙◌, arith}
 use Rattle.h5_names.specs.declared.qualified.QualName.{QualName}
-use Rattle.h5_token.specs.Reply.{Reply, reply}
+use Rattle.h5_token.specs.Reply.{reply}
 use Rattle.h5_token.specs.declared.sink.TokenSinkResult.{TokenSinkResult}
 use Rattle.h5_token.specs.declared.sink.TokenSinkResult.TheVariants.{Continue}
 use Rattle.h5_interface.specs.SinkChoices.{SinkChoices}
@@ -18,7 +18,6 @@ use Rattle.h5_meaning.specs.Settle.{Settled, settle}
 use Rattle.h5_meaning.specs.World.{World}
 use Rattle.h5_meaning.proofs.SettleLaws.{acknowledged_here, answered_here, ends_here, goes_on}
 use Rattle.h5_tree_builder.specs.Chains.{CameTo}
-use Rattle.h5_tree_builder.specs.declared.taken.Taken.{Taken}
 
 -- a mode that is reached is one of those whose rules are written
 pub unreached : (s : Situation) (m : InsertionMode) (ns : List QualName) → StageFits s m ns → m ≢ Initial → m ≢ BeforeHtml → m ≢ BeforeHead → m ≢ InHead → m ≢ AfterHead → m ≢ InBody → m ≢ AfterBody → m ≢ AfterAfterBody → ⊥

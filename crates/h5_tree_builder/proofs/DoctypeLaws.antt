@@ -15,7 +15,7 @@ use Rattle.h5_meaning.proofs.NameLaws.{names_kept}
 
 pub names-insert_doctype : (choices : SinkChoices) (name public_id system_id : List ℕ) (w : World) → Sound w → names_of (insert_doctype choices name public_id system_id w) ≡ names_of w
 unfolding insert_doctype names_of
-names-insert_doctype choices name public_id system_id w k = names_kept w (append_doctype choices name public_id system_id w.forest) k (append_doctype_rearranges choices w.forest name public_id system_id k.is_forest)
+names-insert_doctype choices name public_id system_id w k = names_kept w (append_doctype choices name public_id system_id w.forest) k (append_doctype_rearranges choices w.forest name public_id system_id k.stands.is_forest)
 
 names-with_doctype : (choices : SinkChoices) (d : DoctypeText) (w : World) → Sound w → names_of (with_doctype choices d w) ≡ names_of w
 unfolding with_doctype

@@ -1,5 +1,5 @@
 -- The chain of turns of one run is the text rule on it.
-use Rattle.std.proofs.Common.{◌≡◌, ◌≢◌, ℕ, zero, suc, ◌<◌, Bool, true, false, cond, List, [], ◌∷◌, ◌++◌, Option, Some, None, take, drop, refl, ap, sym, ◌∙◌, arith}
+use Rattle.std.proofs.Common.{◌≡◌, ◌≢◌, ℕ, zero, suc, ◌<◌, true, false, cond, List, [], ◌∷◌, ◌++◌, Some, None, take, drop, refl, ap, sym, ◌∙◌, arith}
 use Rattle.std.proofs.lemmas.List.{take-append-drop}
 use Rattle.h5_token.specs.declared.sink.TokenSinkResult.TheVariants.{Continue}
 use Rattle.h5_interface.specs.SinkChoices.{SinkChoices}
@@ -17,7 +17,7 @@ use Rattle.h5_meaning.specs.BeforeHtml.{before_html_else}
 use Rattle.h5_meaning.specs.InHead.{in_head_else}
 use Rattle.h5_meaning.specs.InitialMode.{initial_else}
 use Rattle.h5_meaning.specs.Modes.{rule}
-use Rattle.h5_meaning.specs.Rows.{AppendText, IsDone, Row, apply_all, changed_by, choose, ignored, next_mode, row}
+use Rattle.h5_meaning.specs.Rows.{AppendText, IsDone, Row, changed_by, choose, ignored, next_mode, row}
 use Rattle.h5_meaning.specs.Settle.{Settled, settle, then_turns}
 use Rattle.h5_meaning.specs.Shared.{in_body_text}
 use Rattle.h5_meaning.specs.Text.{IsRun, by_else, dropped, in_next, if_any, split, text_after_body, text_after_head, text_any, text_before_head, text_before_html, text_in, text_in_body, text_in_head, text_initial, text_rule, is_quiet_text}
@@ -26,7 +26,6 @@ use Rattle.h5_meaning.specs.World.{World}
 use Rattle.h5_meaning.proofs.CutLaws.{append_nil, text_cut}
 use Rattle.h5_meaning.proofs.SettleLaws.{settle-row}
 use Rattle.h5_tree_builder.specs.Chains.{CameTo}
-use Rattle.h5_tree_builder.specs.declared.taken.Taken.{Taken}
 
 blank_all : (t : List ℕ) → rest_of t ≡ [] → blanks_of t ≡ t
 blank_all [] e = refl

@@ -5,14 +5,14 @@ use Rattle.h5_interface.specs.Seen.{changed}
 use Rattle.h5_meaning.specs.Changes.{add_attrs_to_html, with_forest}
 use Rattle.h5_meaning.proofs.SoundLaws.{errors_or_not}
 use Rattle.h5_state.specs.View.{world}
-use Rattle.h5_state.proofs.AttributeLaws.{on_ok, open_length, root_at, stands_added}
-use Rattle.h5_state.proofs.BelowLaws.{same_world}
+use Rattle.h5_state.proofs.AttributeLaws.{on_ok, open_length, root_at, all_added}
+use Rattle.h5_state.proofs.PutLaws.{same_world}
 use Rattle.h5_state.proofs.StackLaws.{element_at}
 use Rattle.h5_state.proofs.attributes.add_attrs_to_html.Goals as goal
 
 pub add_attrs_if_missing-requires : goal.add_attrs_if_missing-requires
 unfolding world
-add_attrs_if_missing-requires g c = element_at g.S.TreeSink.node c.args.state.now.open_elems.items _ 0 c.index.result.now c.requires.sound c.requires.some c.index.ensures
+add_attrs_if_missing-requires g c = element_at g.S.TreeSink.node c.args.state.now.open_elems.items (g.S.TreeSink.sees c.args.sink.now).forest 0 c.index.result.now c.requires.sound.stands.elements c.requires.some c.index.ensures
 
 pub returns : goal.returns
 unfolding world add_attrs_to_html
@@ -29,6 +29,6 @@ returns g c =
           c.add_attrs_if_missing.ensures.ok;
       quiet = errors_or_not c.add_attrs_if_missing.result seen (g.S.TreeSink.sees c.add_attrs_if_missing.new.self) (add_missing_attributes (node c.index.result.now) attrs) c.add_attrs_if_missing.ensures.ok c.add_attrs_if_missing.ensures.err;
       sound =
-          stands_added c.add_attrs_if_missing.result (g.S.TreeSink.sees c.args.sink.now) (g.S.TreeSink.sees c.add_attrs_if_missing.new.self) (g.S.TreeSink.node c.index.result.now) (attribute_texts c.args.attrs.items)
+          all_added c.add_attrs_if_missing.result (g.S.TreeSink.sees c.args.sink.now) (g.S.TreeSink.sees c.add_attrs_if_missing.new.self) (g.S.TreeSink.node c.index.result.now) (attribute_texts c.args.attrs.items)
           (reverse (map g.S.TreeSink.node c.args.state.now.open_elems.items)) c.add_attrs_if_missing.ensures.ok c.add_attrs_if_missing.ensures.err c.requires.sound;
     }

@@ -5,8 +5,8 @@ use Rattle.h5_interface.specs.Seen.{changed}
 use Rattle.h5_meaning.specs.Changes.{add_attrs_at, add_attrs_to_second}
 use Rattle.h5_meaning.proofs.SoundLaws.{errors_or_not}
 use Rattle.h5_state.specs.View.{world}
-use Rattle.h5_state.proofs.AttributeLaws.{on_ok, open_length, second_at, second_missing, stands_added}
-use Rattle.h5_state.proofs.BelowLaws.{same_world}
+use Rattle.h5_state.proofs.AttributeLaws.{on_ok, open_length, second_at, second_missing, all_added}
+use Rattle.h5_state.proofs.PutLaws.{same_world}
 use Rattle.h5_state.proofs.StackLaws.{element_at}
 use Rattle.h5_state.proofs.attributes.add_attrs_to_second.Goals as goal
 
@@ -14,7 +14,7 @@ pub add_attrs_if_missing-requires : goal.add_attrs_if_missing-requires
 unfolding world
 add_attrs_if_missing-requires g c =
     let items = c.args.state.now.open_elems.items in
-    element_at g.S.TreeSink.node items _ 1 c.index.result.now c.requires (omega (arith, open_length g.S.TreeSink.node items, c.if-len-gt1.true, c.len.ensures)) c.index.ensures
+    element_at g.S.TreeSink.node items (g.S.TreeSink.sees c.args.sink.now).forest 1 c.index.result.now c.requires.stands.elements (omega (arith, open_length g.S.TreeSink.node items, c.if-len-gt1.true, c.len.ensures)) c.index.ensures
 
 pub returns-then-len-gt1 : goal.returns-then-len-gt1
 unfolding world add_attrs_to_second
@@ -31,7 +31,7 @@ returns-then-len-gt1 g c =
           c.add_attrs_if_missing.ensures.ok;
       quiet = errors_or_not c.add_attrs_if_missing.result seen (g.S.TreeSink.sees c.add_attrs_if_missing.new.self) (add_missing_attributes (node c.index.result.now) attrs)
           c.add_attrs_if_missing.ensures.ok c.add_attrs_if_missing.ensures.err;
-      sound = stands_added c.add_attrs_if_missing.result seen (g.S.TreeSink.sees c.add_attrs_if_missing.new.self) (node c.index.result.now) attrs
+      sound = all_added c.add_attrs_if_missing.result seen (g.S.TreeSink.sees c.add_attrs_if_missing.new.self) (node c.index.result.now) attrs
           (reverse (map node items)) c.add_attrs_if_missing.ensures.ok c.add_attrs_if_missing.ensures.err c.requires;
     }
 

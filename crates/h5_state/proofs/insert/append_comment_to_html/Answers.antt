@@ -1,14 +1,14 @@
 use Rattle.std.proofs.Common.{sym, subst, rules}
 use Rattle.h5_interface.specs.Forest.{IsNode}
 use Rattle.h5_meaning.specs.Changes.{append_comment_to_html}
-use Rattle.h5_meaning.proofs.SoundLaws.{root_is_node, stands_rearranged}
+use Rattle.h5_meaning.proofs.SoundLaws.{all_rearranged, root_is_node}
 use Rattle.h5_state.specs.View.{world}
 use Rattle.h5_state.proofs.insert.append_comment_to_html.Goals as goal
 
-pub append_comment_below-requires-clause-parent : goal.append_comment_below-requires-clause-parent
+pub insert_new_comment-requires-clause-place : goal.insert_new_comment-requires-clause-place
 unfolding world
-append_comment_below-requires-clause-parent g c =
-    subst (IsNode (g.S.TreeSink.sees c.args.sink.now).forest) (sym c.root_node-html.ensures)
+insert_new_comment-requires-clause-place g c =
+    subst (IsNode (g.S.TreeSink.sees c.args.sink.now).forest) (sym c.root_node.ensures)
     (root_is_node (world g.S.TreeSink.sees g.S.TreeSink.node c.args.sink.now c.args.state.now) c.requires)
 
 pub returns : goal.returns
@@ -16,5 +16,5 @@ unfolding world append_comment_to_html
 returns g c = record {
   world = search rules;
   quiet = search rules;
-  sound = stands_rearranged _ _ _ c.requires c.append_comment_below.ensures.rearranged;
+  sound = all_rearranged _ _ _ c.requires c.insert_new_comment.ensures.rearranged;
 }

@@ -1,19 +1,21 @@
-use Rattle.std.proofs.Common.{rules}
+use Rattle.std.proofs.Common.{rules, subst, sym}
 use Rattle.h5_meaning.specs.Changes.{append_text}
-use Rattle.h5_meaning.proofs.SoundLaws.{stands_rearranged}
+use Rattle.h5_meaning.specs.Place.{IsPlaceIn}
+use Rattle.h5_meaning.proofs.PlaceLaws.{current_place_is_there}
+use Rattle.h5_meaning.proofs.SoundLaws.{all_rearranged}
 use Rattle.h5_state.specs.View.{world}
-use Rattle.h5_state.proofs.BelowLaws.{is_place}
 use Rattle.h5_state.proofs.insert.append_text.Goals as goal
 
-pub append_text_below-requires-clause-parent : goal.append_text_below-requires-clause-parent
+pub insert_text-requires-clause-place : goal.insert_text-requires-clause-place
 unfolding world
-append_text_below-requires-clause-parent g c =
-    is_place (world g.S.TreeSink.sees g.S.TreeSink.node c.args.sink.now c.args.state.now) _ c.requires.sound c.appropriate_place_for_insertion-place.ensures
+insert_text-requires-clause-place g c =
+    let w = world g.S.TreeSink.sees g.S.TreeSink.node c.args.sink.now c.args.state.now in
+    subst (IsPlaceIn w.forest) (sym c.current_place-place.ensures) (current_place_is_there w c.requires.sound)
 
 pub returns : goal.returns
 unfolding world append_text
 returns g c = record {
   world = search rules;
   quiet = search rules;
-  sound = stands_rearranged _ _ _ c.requires.sound c.append_text_below.ensures.rearranged;
+  sound = all_rearranged _ _ _ c.requires.sound c.insert_text.ensures.rearranged;
 }

@@ -1,7 +1,15 @@
+use Rattle.std.proofs.Common.{subst, sym, ◌∙◌}
+use Rattle.h5_meaning.specs.Place.{IsPlaceIn}
+use Rattle.h5_meaning.proofs.PlaceLaws.{current_place_is_there, first_place}
 use Rattle.h5_state.specs.View.{world}
-use Rattle.h5_state.proofs.BelowLaws.{is_place}
 use Rattle.h5_state.proofs.insert.insert_element.Goals as goal
 
-pub insert_below-requires-clause-parent : goal.insert_below-requires-clause-parent
-insert_below-requires-clause-parent g c =
-    is_place (world g.S.TreeSink.sees g.S.TreeSink.node c.args.sink.now c.args.state.now) _ c.requires c.appropriate_place_for_insertion-place.ensures
+pub push_at-requires-clause-place : goal.push_at-requires-clause-place
+push_at-requires-clause-place g c =
+    let w = world g.S.TreeSink.sees g.S.TreeSink.node c.args.sink.now c.args.state.now in
+    subst (IsPlaceIn w.forest) (sym c.current_place-place.ensures) (current_place_is_there w c.requires)
+
+pub push_at-requires-clause-first : goal.push_at-requires-clause-first
+push_at-requires-clause-first g c =
+    let w = world g.S.TreeSink.sees g.S.TreeSink.node c.args.sink.now c.args.state.now in
+    λ e. c.current_place-place.ensures ∙ first_place w c.requires.stands.is_forest e

@@ -1,7 +1,9 @@
 use Rattle.std.proofs.Common.{◌<◌, length, sym, subst, ◌∙◌, ap}
 use Rattle.h5_meaning.specs.Changes.{generate_implied_end_except}
-use Rattle.h5_meaning.specs.World.{World}
-use Rattle.h5_meaning.proofs.PopLaws.{first_is_open, implied_none, implied_step, pop_shorter}
+use Rattle.h5_meaning.specs.World.{World, names_of}
+use Rattle.h5_stack.specs.Scope.{cut_through}
+use Rattle.h5_tag_sets.specs.TagSets.{is_html_named}
+use Rattle.h5_meaning.proofs.PopLaws.{cut_behind_implied, first_is_open, implied_none, implied_step, pop_shorter}
 use Rattle.h5_state.specs.View.{world}
 use Rattle.h5_state.proofs.open_elems.generate_implied_end_except.Goals as goal
 
@@ -23,9 +25,15 @@ implied-preserved g c = record {
       ∙ c.implied.invariant.left;
 }
 
-pub returns : goal.returns
-returns g c = record {
+pub returns-clause-made : goal.returns-clause-made
+returns-clause-made g c = record {
   world = sym (implied_none g.S.TreeSink.choices c.args.local.now _ (sym c.is_current_implied.ensures ∙ c.implied-test.false)) ∙ c.implied.invariant.left;
   quiet = c.implied.invariant.quiet;
   sound = c.implied.invariant.sound;
 }
+
+pub returns-clause-older : goal.returns-clause-older
+returns-clause-older g c =
+    let local = c.args.local.now in
+    let cut : World → _ = λ w. cut_through (is_html_named local) (names_of w) w.stack in
+    ap cut (sym (implied_none g.S.TreeSink.choices local _ (sym c.is_current_implied.ensures ∙ c.implied-test.false)) ∙ c.implied.invariant.left) ∙ cut_behind_implied g.S.TreeSink.choices local _

@@ -8,7 +8,7 @@ use Rattle.h5_state.proofs.open_elems.has_body_second.Goals as goal
 
 pub elem_name-requires : goal.elem_name-requires
 unfolding world
-elem_name-requires g c = element_at g.S.TreeSink.node c.args.state.now.open_elems.items _ 1 c.index.result.now c.requires (omega (arith, length-reverse (map g.S.TreeSink.node c.args.state.now.open_elems.items), length-map c.args.state.now.open_elems.items g.S.TreeSink.node, c.if-len-gt1.true, c.len.ensures)) c.index.ensures
+elem_name-requires g c = element_at g.S.TreeSink.node c.args.state.now.open_elems.items (g.S.TreeSink.sees c.args.sink.now).forest 1 c.index.result.now c.requires.stands.elements (omega (arith, length-reverse (map g.S.TreeSink.node c.args.state.now.open_elems.items), length-map c.args.state.now.open_elems.items g.S.TreeSink.node, c.if-len-gt1.true, c.len.ensures)) c.index.ensures
 
 pub returns-then-len-gt1 : goal.returns-then-len-gt1
 unfolding world names_of

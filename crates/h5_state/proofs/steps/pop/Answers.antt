@@ -1,8 +1,8 @@
 use Rattle.std.proofs.Common.{sym, subst, reverse, map, ap}
 use Rattle.h5_interface.specs.Seen.{Seen}
-use Rattle.h5_meaning.specs.Sound.{Stands}
+use Rattle.h5_meaning.specs.Sound.{AllStand}
 use Rattle.h5_state.specs.View.{world}
-use Rattle.h5_state.proofs.StackLaws.{popped_world, stands_popped}
+use Rattle.h5_state.proofs.StackLaws.{all_popped, popped_world}
 use Rattle.h5_state.proofs.steps.pop.Goals as goal
 
 pub returns-in-Some : goal.returns-in-Some
@@ -15,6 +15,6 @@ returns-in-Some g c =
     record {
       world = popped_world node g.S.TreeSink.choices w seen _ items c.pop.new.self.items c.in-Some.element c.in-Some.ensures.items c.pop-in-Some.ensures;
       quiet = ap (λ (s : Seen). s.errors) c.pop-in-Some.ensures;
-      sound = subst (λ (s : Seen). Stands s.forest (reverse (map node c.pop.new.self.items))) (sym c.pop-in-Some.ensures)
-          (stands_popped node c.pop.new.self.items items c.in-Some.element _ _ c.in-Some.ensures.items c.requires.sound);
+      sound = subst (λ (s : Seen). AllStand s.forest (reverse (map node c.pop.new.self.items)) w.formatting w.head w.form w.context) (sym c.pop-in-Some.ensures)
+          (all_popped node c.pop.new.self.items items c.in-Some.element _ _ c.in-Some.ensures.items c.requires.sound);
     }

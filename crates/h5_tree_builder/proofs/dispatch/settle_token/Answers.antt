@@ -1,17 +1,15 @@
-use Rattle.std.proofs.Common.{◌≡◌, ◌-◌, ◌+◌, ℕ, true, sym, subst, ap, ◌∙◌, arith, rules}
+use Rattle.std.proofs.Common.{◌-◌, true, sym, subst, arith}
 use Rattle.h5_token.specs.declared.sink.TokenSinkResult.TheVariants.{Continue}
-use Rattle.h5_types.specs.TurnText.{HasText, turn_text}
+use Rattle.h5_types.specs.TurnText.{turn_text}
 use Rattle.h5_types.specs.declared.turns.ProcessResult.TheVariants as results
 use Rattle.h5_meaning.specs.Modes.{rule}
 use Rattle.h5_meaning.specs.Rows.{Follows}
 use Rattle.h5_meaning.specs.Settle.{settle}
-use Rattle.h5_meaning.specs.Sound.{Fits, Sound}
-use Rattle.h5_meaning.specs.World.{World}
+use Rattle.h5_meaning.specs.Sound.{Fits}
 use Rattle.h5_meaning.proofs.FitsLaws.{fits_acknowledged, fits_again, fits_answered, fits_done}
 use Rattle.h5_meaning.proofs.SettleLaws.{rank_falls}
 use Rattle.h5_state.specs.View.{world}
 use Rattle.h5_tree_builder.specs.Chains.{CameTo}
-use Rattle.h5_tree_builder.specs.declared.taken.Taken.{Taken}
 use Rattle.h5_tree_builder.proofs.ChainLaws.{Left, acknowledged_last, answered_last, done_last, left_next}
 use Rattle.h5_tree_builder.proofs.dispatch.settle_token.Goals as goal
 

@@ -1,4 +1,4 @@
-use Rattle.std.proofs.Common.{◌≡◌, string_bytes, true, refl, ap, sym, subst, ◌∙◌}
+use Rattle.std.proofs.Common.{string_bytes, refl, ap, sym, subst, ◌∙◌}
 use Rattle.h5_token.specs.TokenText.{doctype_text, tag_text, token_text}
 use Rattle.h5_types.specs.TurnText.{CommentTurn, EofTurn, NullTurn, TagTurn}
 use Rattle.h5_meaning.specs.Run.{doctype_in, is_counted, is_empty_text, step, taken, text_step, without_lf}
