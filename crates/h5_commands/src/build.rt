@@ -10,11 +10,12 @@ ghost use Rattle.h5_tree_builder.specs.Replies.{reply_text, reply_texts, token_t
 ghost use Rattle.h5_commands.specs.Printed.{HtmlPrints, IsParsed, IsTreeOutput, ItemsPrint, TreePrints, after_items, html_of, replies_to_items, reply_lines};
 
 use super::fault::Fault;
+use h5_arena::laws::no_call_lacks_a_parent;
 use h5_arena::{Arena, NodeId};
 use h5_driver::{ParseOpts, parse_document};
 use h5_lines::Item;
 use h5_print::{print_answer, print_quirks, print_refusal, print_tree};
-use h5_serialize::{SerializeOpts, serialize};
+use h5_serialize::{SerializeFault, SerializeOpts, serialize};
 use h5_token::{BuildFault, Token};
 use h5_tree_builder::{Reply, TreeBuilder};
 use h5_types::TreeBuilderOpts;
@@ -164,7 +165,13 @@ fn write_html(alloc: Global, arena: &Arena) -> Result<Vec<u8>, Fault>
     let opts = SerializeOpts::default();
     match serialize(alloc, Vec::new(alloc), &node, opts) {
         Ok(written) => Ok(written),
-        Err(_) => Err(Fault::Memory),
+        Err(SerializeFault::Memory) => Err(Fault::Memory),
+        Err(SerializeFault::Write) => Err(Fault::Memory),
+        Err(SerializeFault::NoParent) => {
+            no_call_lacks_a_parent();
+            unreachable!()
+        }
+        Err(SerializeFault::Failed) => unreachable!(),
     }
 }
 

@@ -78,13 +78,15 @@ impl<Handle: Drop, Sink: TreeSink<Handle = Handle> + Drop> Model for Parser<Hand
     ghost invariant = { λ p. IsParsing Sink.sees Sink.node (record { builder = p.tokenizer.sink; reader = p.tokenizer.reader; waiting = p.input_buffer; failed = p.failed }) };
 }
 
-/// A parser of a document, into a sink, that took nothing yet. It takes no memory.
+/// A parser of a document, into a sink, that took nothing yet. It takes no memory, and the sink stays as it
+/// is.
 pub fn parse_document<Handle: Drop, Sink: TreeSink<Handle = Handle> + Drop>(
     alloc: Global,
     sink: Sink,
     opts: ParseOpts,
 ) -> Parser<Handle, Sink>
     ensures builder { building Sink.sees Sink.node result.builder ≡ first_building (Sink.sees sink) opts.tree_builder }
+    ensures sink { result.builder.sink ≡ sink }
     ensures reader { result.reader ≡ record { place = first_place opts.tokenizer; held = []; stage = Reading } }
     ensures waiting { result.waiting ≡ [] }
     ensures failed { result.failed ≡ false }

@@ -1,5 +1,6 @@
 //! Parse errors (HTML standard, section 13.2.2, "Parse errors"). What a message says is no part of a contract.
-ghost use Rattle.h5_state.specs.Steps.{TellsErrors};
+ghost use Rattle.std.specs.Prelude.{◌<◌};
+ghost use Rattle.h5_state.specs.Steps.{TellsErrors, errors_of};
 
 use super::state::State;
 use h5_interface::TreeSink;
@@ -10,7 +11,8 @@ use std::alloc::AllocError;
 /// Tells the sink of a parse error. Nothing else changes.
 #[tactic(auto, unfolding(crate::specs::View::world))]
 pub fn tell_error<S: TreeSink>(sink: &mut S, state: &State<S::Handle>, message: &str)
-    ensures { TellsErrors S.TreeSink sink.old sink.new state.now }
+    ensures told { TellsErrors S.TreeSink sink.old sink.new state.now }
+    ensures noted { 0 < errors_of S.TreeSink sink.new }
 {
     sink.parse_error(message);
 }

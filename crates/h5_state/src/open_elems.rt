@@ -112,6 +112,7 @@ fn has_unclosed<S: TreeSink>(sink: &S, state: &State<S::Handle>) -> bool
 pub fn check_body_end<S: TreeSink>(sink: &mut S, state: &State<S::Handle>)
     requires { IsSound S.TreeSink sink.old state.now }
     ensures told { TellsErrors S.TreeSink sink.old sink.new state.now }
+    ensures noted { has_unclosed (names_of (world_of S.TreeSink sink.old state.now)) ≡ true → 0 < errors_of S.TreeSink sink.new }
     ensures quiet { has_unclosed (names_of (world_of S.TreeSink sink.old state.now)) ≡ false → errors_of S.TreeSink sink.new ≡ errors_of S.TreeSink sink.old }
 {
     if has_unclosed(sink, state) {

@@ -1,5 +1,5 @@
 -- What contracts see of a tree builder.
-use Rattle.std.specs.Prelude.{◌≡◌, ◌≤◌, ℕ, ◌+◌, Bool, true, false, not, List, [], ◌∷◌, length, None, Some, Result, Ok, Err}
+use Rattle.std.specs.Prelude.{◌≡◌, ◌≤◌, ⊤, ℕ, ◌+◌, Bool, true, false, not, List, [], ◌∷◌, length, None, Some, Result, Ok, Err}
 use Rattle.h5_names.specs.AttributeText.{is_same_text}
 use Rattle.h5_names.specs.declared.qualified.QualName.{QualName}
 use Rattle.h5_token.specs.Reply.{Reply, reply}
@@ -104,6 +104,7 @@ pub record OutOfMemory (t : TokenText) (old new : Building) : Type 0 where
   pub unended : old.view.ended ≡ false
   pub failed : new.view.failed ≡ true
   pub still_unended : new.view.ended ≡ false
+  pub turns : new.turns ≡ old.turns
   pub costs : is_free t old.view.world ≡ false
 
 abbrev pub Takes : {H : Type 0} → SinkChoices → (H → ℕ) → TokenText → Building → Building → Result (TokenSinkResult H) BuildFault → Type 0
@@ -112,6 +113,13 @@ Takes choices node t old new (Err Memory) = OutOfMemory t old new
 Takes choices node t old new (Err AfterEnd) = Refused t old new AfterEnd
 Takes choices node t old new (Err NotInText) = Refused t old new NotInText
 Takes choices node t old new (Err Failed) = Refused t old new Failed
+
+-- a refusal changes nothing at all, in the sink neither
+abbrev pub IsKeptWhole : {A B : Type 0} → A → A → Result B BuildFault → Type 0
+IsKeptWhole old new (Err AfterEnd) = new ≡ old
+IsKeptWhole old new (Err NotInText) = new ≡ old
+IsKeptWhole old new (Err Failed) = new ≡ old
+IsKeptWhole old new _ = ⊤
 
 -- a token of a list was taken or refused
 pub record Replied (choices : SinkChoices) (t : TokenText) (old new : Building) (answer : Reply) : Type 0 where

@@ -1,9 +1,9 @@
 //! The tree builder.
-ghost use Rattle.std.specs.Prelude.{◌≡◌, true};
+ghost use Rattle.std.specs.Prelude.{◌≡◌, [], true};
 ghost use Rattle.h5_token.specs.TokenText.{token_text};
 ghost use Rattle.h5_meaning.specs.Sound.{Sound};
 ghost use Rattle.h5_tree_builder.specs.Held.{building};
-ghost use Rattle.h5_tree_builder.specs.Builder.{Takes, ended_view, first_building};
+ghost use Rattle.h5_tree_builder.specs.Builder.{IsKeptWhole, Takes, ended_view, first_building};
 
 use super::end::pop_all;
 use super::first::first_state;
@@ -45,7 +45,8 @@ impl<Handle: Drop, Sink: TreeSink<Handle = Handle> + Drop> Model for TreeBuilder
 impl<Handle: Drop, Sink: TreeSink<Handle = Handle> + Drop> TreeBuilder<Handle, Sink> {
     /// A builder of a document, that took no token yet. It takes no memory, and the sink stays as it is.
     pub fn new(alloc: Global, sink: Sink, opts: TreeBuilderOpts) -> TreeBuilder<Handle, Sink>
-        ensures { building Sink.sees Sink.node result ≡ first_building (Sink.sees sink) opts }
+        ensures first { building Sink.sees Sink.node result ≡ first_building (Sink.sees sink) opts }
+        ensures sink { result.sink ≡ sink }
     {
         let _document = sink.get_document();
         let state = first_state(&sink, alloc, opts);
@@ -60,14 +61,17 @@ impl<Handle: Drop, Sink: TreeSink<Handle = Handle> + Drop> TreeBuilder<Handle, S
 
     /// Takes a token that began in this line.
     ///
-    /// After want of memory it answers `Failed`, after the end `AfterEnd`, and then nothing has changed.
-    /// Where memory is refused now it answers `Memory`.
+    /// After want of memory it answers `Failed`, after the end `AfterEnd`, and then nothing has changed, in
+    /// the sink neither. Where memory is refused now it answers `Memory`, and the turns stay those of the
+    /// token before.
     pub fn process_token(
         &mut self,
         token: Token,
         line_number: u64,
     ) -> Result<TokenSinkResult<Handle>, BuildFault>
         ensures takes { Takes Sink.choices Sink.node (token_text token) (building Sink.sees Sink.node self.old) (building Sink.sees Sink.node self.new) result }
+        ensures same { IsKeptWhole self.old self.new result }
+        ensures ended { self.new.ended ≡ self.old.ended }
         ensures sound { Sound (building Sink.sees Sink.node self.new).view.world }
     {
         if self.failed {
@@ -85,11 +89,14 @@ impl<Handle: Drop, Sink: TreeSink<Handle = Handle> + Drop> TreeBuilder<Handle, S
     }
 
     /// Takes note that no token comes any more: all open elements are popped, from the current node on,
-    /// and the sink is told of each. Where it was called before, nothing is left to do.
+    /// and the sink is told of each. Then none is open. Where it was called before, nothing changes.
     pub fn end(&mut self)
         ensures view { (building Sink.sees Sink.node self.new).view ≡ ended_view Sink.choices (building Sink.sees Sink.node self.old).view }
+        ensures none { (building Sink.sees Sink.node self.new).view.world.stack ≡ [] }
+        ensures again { self.old.ended ≡ true → self.new ≡ self.old }
         ensures turns { self.new.turns ≡ self.old.turns }
         ensures quiet { (building Sink.sees Sink.node self.new).errors ≡ (building Sink.sees Sink.node self.old).errors }
+        ensures sound { Sound (building Sink.sees Sink.node self.new).view.world }
     {
         pop_all(&mut self.sink, &mut self.state);
         self.ended = true;
@@ -99,6 +106,7 @@ impl<Handle: Drop, Sink: TreeSink<Handle = Handle> + Drop> TreeBuilder<Handle, S
     pub(crate) fn fail(&mut self) -> BuildFault
         ensures memory { result ≡ BuildFault.Memory }
         ensures failed { (building Sink.sees Sink.node self.new).view.failed ≡ true }
+        ensures ended { self.new.ended ≡ self.old.ended }
         ensures sound { Sound (building Sink.sees Sink.node self.new).view.world }
     {
         self.failed = true;

@@ -18,6 +18,7 @@ pub fn pop_all<S: TreeSink>(sink: &mut S, state: &mut State<S::Handle>)
     requires sound { IsSound S.TreeSink sink.old state.old }
     ensures done { world_of S.TreeSink sink.new state.new ≡ all_popped S.choices (world_of S.TreeSink sink.old state.old) }
     ensures none { (world_of S.TreeSink sink.new state.new).stack ≡ [] }
+    ensures still { (world_of S.TreeSink sink.old state.old).stack ≡ [] → (sink.new ≡ sink.old) × (state.new ≡ state.old) }
     ensures quiet { errors_of S.TreeSink sink.new ≡ errors_of S.TreeSink sink.old }
     ensures sound { IsSound S.TreeSink sink.new state.new }
 {

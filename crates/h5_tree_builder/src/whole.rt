@@ -17,6 +17,7 @@ impl<Handle: Drop, Sink: TreeSink<Handle = Handle> + Drop> TreeBuilder<Handle, S
         ensures done { IfOk result (λ r. Replied Sink.choices (token_text token) (building Sink.sees Sink.node self.old) (building Sink.sees Sink.node self.new) (reply_text Sink.node r)) }
         ensures memory { OnErr result (result ≡ Err BuildFault.Memory) }
         ensures failed { OnErr result (self.new.failed ≡ true) }
+        ensures ended { self.new.ended ≡ self.old.ended }
         ensures sound { Sound (building Sink.sees Sink.node self.new).view.world }
     {
         match self.process_token(token, line_number) {
@@ -47,6 +48,7 @@ impl<Handle: Drop, Sink: TreeSink<Handle = Handle> + Drop> TreeBuilder<Handle, S
         ensures refused { (building Sink.sees Sink.node self.old).view.failed ≡ true → (result ≡ Err BuildFault.Failed) × (self.new ≡ self.old) }
         ensures failed { OnErr result ((building Sink.sees Sink.node self.new).view.failed ≡ true) }
         ensures memory { (building Sink.sees Sink.node self.old).view.failed ≡ false → OnErr result (result ≡ Err BuildFault.Memory) }
+        ensures ended { self.new.ended ≡ self.old.ended }
         ensures sound { Sound (building Sink.sees Sink.node self.new).view.world }
     {
         if self.has_failed() {

@@ -1,4 +1,4 @@
-use Rattle.std.proofs.Common.{◌<◌, length, ap, subst, sym, ◌∙◌, rules}
+use Rattle.std.proofs.Common.{◌<◌, length, ap, subst, sym, ◌∙◌, arith, rules}
 use Rattle.h5_meaning.specs.World.{World}
 use Rattle.h5_state.specs.View.{world}
 use Rattle.h5_tree_builder.specs.Builder.{all_popped}
@@ -20,6 +20,9 @@ elements-preserved g c =
     let some : 0 < length w.stack = search rules in
     record {
       sound = c.pop.ensures.sound;
+      still = λ e. let same = c.elements.invariant.still e in
+          let here = ap (λ s. world g.S.TreeSink.sees g.S.TreeSink.node s c.elements.state) same.0 ∙ ap (world g.S.TreeSink.sees g.S.TreeSink.node c.args.sink.now) same.1 in
+          absurd (omega (arith, some, ap (λ (v : World). length v.stack) here, ap length e));
       rest = ap (all_popped k) c.pop.ensures.world ∙ pop_next k w some ∙ c.elements.invariant.rest;
       quiet = c.pop.ensures.quiet ∙ c.elements.invariant.quiet;
     }

@@ -1,4 +1,4 @@
-use Rattle.std.proofs.Common.{◌≡◌, length}
+use Rattle.std.proofs.Common.{◌≡◌, [], length}
 use Rattle.h5_meaning.specs.Sound.{Sound}
 use Rattle.h5_state.specs.View.{world}
 use Rattle.h5_tree_builder.specs.Builder.{all_popped}
@@ -10,6 +10,7 @@ invariant-elements g l =
     let first = world g.S.TreeSink.sees g.S.TreeSink.node l.fn.sink l.fn.state in
     record {
       sound : Sound w;
+      still : first.stack ≡ [] → (l.sink ≡ l.fn.sink) × (l.state ≡ l.fn.state);
       rest : all_popped g.S.TreeSink.choices w ≡ all_popped g.S.TreeSink.choices first;
       quiet : (g.S.TreeSink.sees l.sink).errors ≡ (g.S.TreeSink.sees l.fn.sink).errors;
     }

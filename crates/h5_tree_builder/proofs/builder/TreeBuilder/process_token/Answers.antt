@@ -1,4 +1,4 @@
-use Rattle.std.proofs.Common.{false, ap, sym, subst, refl}
+use Rattle.std.proofs.Common.{false, ap, sym, subst, refl, rules}
 use Rattle.h5_token.specs.Reply.{reply}
 use Rattle.h5_token.specs.TokenText.{token_text}
 use Rattle.h5_meaning.specs.Run.{View, is_counted, step}
@@ -25,3 +25,18 @@ returns-clause-takes g c =
     let came : CameTo node (step k t w) (is_counted t w) new a b taken = subst (λ (u : World). CameTo node (step k t u) (is_counted t u) new a b taken) c.note_line.ensures.done (subst (λ x. CameTo node (step k t noted) (is_counted t noted) new x b taken) c.note_line.ensures.quiet c.in_ok-taken.ensures.settles.came) in
     subst (λ h. Answered k t (building g.Sink.TreeSink.sees node h) after (reply node taken.answer)) c.self.view_is
     (answered k node t (record { view = record { world = w; ended = c.self.inside.ended; failed = c.self.inside.failed }; turns = c.self.inside.turns; errors = a }) after taken c.if-self.false c.if-self-2.false (ap (λ f. let x : View = record { world = new; ended = c.self.inside.ended; failed = f } in x) (sym c.if-self.false)) refl came)
+
+pub invariant_of-self : goal.invariant_of-self
+invariant_of-self g c = search rules
+
+pub returns-then-self-clause-takes : goal.returns-then-self-clause-takes
+returns-then-self-clause-takes g c = search rules
+
+pub returns-then-self-2-clause-takes : goal.returns-then-self-2-clause-takes
+returns-then-self-2-clause-takes g c = search rules
+
+pub returns-then-self-2-clause-same : goal.returns-then-self-2-clause-same
+returns-then-self-2-clause-same g c = search rules
+
+pub returns-then-self-2-clause-sound : goal.returns-then-self-2-clause-sound
+returns-then-self-2-clause-sound g c = search rules

@@ -1,0 +1,7 @@
+use Rattle.std.proofs.Common.{rules}
+use Rattle.h5_state.specs.View.{world}
+use Rattle.h5_state.proofs.steps.set_mode.Goals as goal
+
+pub returns : goal.returns
+unfolding world
+returns g c = record { world = search rules; quiet = search rules; sound = search rules }
