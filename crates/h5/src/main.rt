@@ -4,17 +4,25 @@
 use std::process::ExitCode;
 use std::{env, io};
 
-fn main(rt: HostRuntime) -> io::Result<ExitCode> {
+// The words of the command, without the program's own name.
+fn words_of(rt: &HostRuntime) -> io::Result<Vec<String>> {
     let mut words = Vec::new(rt.alloc());
-    for word in env::args(&rt)?.skip(1) {
+    for word in env::args(rt)?.skip(1) {
         words.push(word)?;
     }
-    let status = h5_commands::run(
-        rt.alloc(),
-        words.as_slice(),
-        rt.reader(),
-        &mut rt.stdout(),
-        &mut rt.stderr(),
-    );
-    Ok(ExitCode::from(status))
+    Ok(words)
+}
+
+fn main(rt: HostRuntime) -> ExitCode {
+    let status = match words_of(&rt) {
+        Ok(words) => h5_commands::run(
+            rt.alloc(),
+            words.as_slice(),
+            rt.reader(),
+            &mut rt.stdout(),
+            &mut rt.stderr(),
+        ),
+        Err(error) => h5_commands::refuse_words(&error, &mut rt.stderr()),
+    };
+    ExitCode::from(status)
 }

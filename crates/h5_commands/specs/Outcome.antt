@@ -81,3 +81,9 @@ Shows (Err fault) out out_new faults faults_new status =
 abbrev pub Ends : List (String Global) → (input out out_new faults faults_new : Option (List ℕ)) → ℕ → Type 0
 Ends words input out out_new faults faults_new status =
     (outcome : Result (Vec ℕ Global) Fault) × Comes words input outcome × Shows outcome out out_new faults faults_new status
+
+-- a run whose words can't be read: they are no command, or memory was refused, and that is said
+abbrev pub EndsUnread : (faults faults_new : Option (List ℕ)) → ℕ → Type 0
+EndsUnread faults faults_new status =
+    ((status ≡ 2) × AppendsFront faults faults_new (message_of Usage))
+    ⊎ ((status ≡ 1) × AppendsFront faults faults_new (message_of Memory))

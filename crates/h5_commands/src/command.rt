@@ -1,7 +1,7 @@
 //! A run of the program.
 ghost use Rattle.std.specs.Prelude.{◌≡◌, None, Some};
 ghost use Rattle.h5_commands.specs.Faults.{message_of, status_of};
-ghost use Rattle.h5_commands.specs.Outcome.{AppendsFront, AreRead, Comes, ComesBy, Ends, IsRead, LinesCome, Puts};
+ghost use Rattle.h5_commands.specs.Outcome.{AppendsFront, AreRead, Comes, ComesBy, Ends, EndsUnread, IsRead, LinesCome, Puts};
 ghost use Rattle.h5_commands.specs.Words.{command_of};
 
 use super::build::{build, html_output, tree_output};
@@ -10,7 +10,7 @@ use super::output::write_bytes;
 use super::words::{Command, command_of};
 use h5_lines::{Item, LineFault, parse};
 use std::alloc::Global;
-use std::io::{Read, Write};
+use std::io::{self, Read, Write};
 
 /// Runs the command of these words, and answers the exit status: 0, or that of a fault, which is said in
 /// `faults`. The output is written to `out` once the whole of it stands; where a fault is met before, nothing
@@ -34,6 +34,17 @@ pub fn run<R: Read + Drop, Out: Write, Note: Write>(
         Ok(output) => put(output.as_slice(), out, faults),
         Err(fault) => say(&fault, faults),
     }
+}
+
+/// Says of words that can't be read what they are, and answers the exit status: 1 where memory is refused, and
+/// else 2, since words that are no text are no command.
+pub fn refuse_words<Note: Write>(error: &io::Error, faults: &mut Note) -> u8
+    ensures { EndsUnread (Note.contents faults.old) (Note.contents faults.new) result }
+{
+    if error.kind() == io::ErrorKind::OutOfMemory {
+        return say(&Fault::Memory, faults);
+    }
+    say(&Fault::Usage, faults)
 }
 
 // What a command prints.

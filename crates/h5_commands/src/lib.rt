@@ -10,5 +10,5 @@ mod output;
 mod tests;
 mod words;
 
-pub use command::run;
+pub use command::{refuse_words, run};
 pub use fault::Fault;
