@@ -1,4 +1,4 @@
-use Rattle.std.proofs.Common.{◌∙◌, ap, false, map, sym}
+use Rattle.std.proofs.Common.{◌∙◌, ap, false, map, rules, sym}
 use Rattle.std.specs.Char.{to_ascii_lowercase}
 use Rattle.h5_names.proofs.KnownNameLemmas.{text_of_name}
 use Rattle.h5_constructs.specs.Text.{name_of, text_of}
@@ -10,3 +10,6 @@ returns-in_default c =
     let stands = ap (map to_ascii_lowercase) (name_stands c.from_text.result) in
     let e = text_of_name c.args.text.now c.from_text.result c.from_text.ensures c.in_default.not-Other in
     c.from_known.ensures ∙ (c.to_ascii_lowercase.ensures ∙ (sym stands ∙ ap name_of e))
+
+pub returns : goal.returns
+returns c = search rules

@@ -1,4 +1,4 @@
-use Rattle.std.proofs.Common.{◌≡◌, ◌<◌, ◌+◌, ◌==◌, ℕ, get_or, length, lit<, sym, ◌∙◌, arith, subst}
+use Rattle.std.proofs.Common.{◌≡◌, ◌<◌, ◌+◌, ◌==◌, ℕ, get_or, length, lit<, sym, ◌∙◌, arith, rules, subst}
 use Rattle.std.specs.List.{slice_split}
 use Rattle.std.proofs.lemmas.Iterator.Consumers.{YieldsList-turn, YieldsList-end}
 use Rattle.std.proofs.lemmas.Iterator.Splits.{YieldsList-from_str_split}
@@ -41,3 +41,6 @@ returns c =
     let n = c.loop-line.number in
     let end = YieldsList-end (YieldsList-from_str_split 10 c.args.text.now (lit< tt) (cc) (cc) (cc)) c.loop-line.yielded _ c.loop-line.yielded_by _ _ c.in-None.is c.next.ensures.steps in
     sym c.loop-line.invariant.read ∙ no_more (n + 1) n (item_texts c.loop-line.items.items) pieces (c.loop-line.invariant.number ∙ end.1)
+
+pub loop-line-init : goal.loop-line-init
+loop-line-init c = search rules

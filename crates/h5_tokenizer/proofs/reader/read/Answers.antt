@@ -1,8 +1,14 @@
-use Rattle.std.proofs.Common.{◌≡◌, ◌++◌, ap, ◌∙◌, string_bytes}
+use Rattle.std.proofs.Common.{◌≡◌, ◌++◌, ap, rules, ◌∙◌, string_bytes}
 use Rattle.h5_tokenizer.specs.ReaderText.{ReaderText}
 use Rattle.h5_tokenizer.specs.Steps.{place_of, stops_as}
 use Rattle.h5_tokenizer.proofs.OutcomeLaws.{pending_on, waits_boundary, halts_boundary, waits_keeps, halts_keeps, reads_all, stops_at, feeds_stop}
 use Rattle.h5_tokenizer.proofs.reader.read.Goals as goal
+
+pub returns-in_err-append : goal.returns-in_err-append
+returns-in_err-append g c = search rules
+
+pub returns-in_err-rest : goal.returns-in_err-rest
+returns-in_err-rest g c = search rules
 
 pub run_from-requires : goal.run_from-requires
 run_from-requires g c =

@@ -1,4 +1,4 @@
-use Rattle.std.proofs.Common.{◌≡◌, ◌∙◌, sym}
+use Rattle.std.proofs.Common.{◌≡◌, ◌∙◌, rules, sym}
 use Rattle.h5_names.specs.declared.known_name.KnownName.TheVariants.{Other}
 use Rattle.h5_names.proofs.KnownNameLemmas.{equal_names, unequal_names, same_known, not_same_known}
 use Rattle.h5_names.proofs.local_name.LocalNamePartialEq.eq.Goals as goal
@@ -17,3 +17,6 @@ returns-then-ne-2 c =
     c.if-ne-2.true
     ∙ sym (same_known c.args.self.now c.args.other.now
     (sym c.known-known.ensures ∙ (e ∙ c.known-other_known.ensures)) (λ k. d (c.known-known.ensures ∙ k)))
+
+pub returns-else-ne-2 : goal.returns-else-ne-2
+returns-else-ne-2 c = search rules
