@@ -6,8 +6,6 @@ mod command;
 mod fault;
 pub mod laws;
 mod output;
-#[cfg(test)]
-mod tests;
 mod words;
 
 pub use command::{refuse_words, run};

@@ -4,8 +4,6 @@
 mod attributes;
 mod doctypes;
 mod plain;
-#[cfg(test)]
-mod tests;
 mod text;
 
 pub use attributes::{Kept, make_name, read_attributes};

@@ -11,8 +11,6 @@ mod items;
 pub mod laws;
 mod line;
 mod parts;
-#[cfg(test)]
-mod tests;
 mod words;
 
 pub use escapes::{read_escapes, write_escapes};

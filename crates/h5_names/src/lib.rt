@@ -13,8 +13,6 @@ mod name_prefix;
 mod namespace_url;
 pub mod namespaces;
 mod qualified;
-#[cfg(test)]
-mod tests;
 
 pub use known_name::KnownName;
 pub use local_name::LocalName;

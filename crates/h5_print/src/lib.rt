@@ -5,8 +5,6 @@ pub mod laws;
 mod names;
 mod nodes;
 mod replies;
-#[cfg(test)]
-mod tests;
 mod tree;
 
 pub use replies::{print_answer, print_quirks, print_refusal};

@@ -3,8 +3,6 @@
 
 mod name_sets;
 mod sets;
-#[cfg(test)]
-mod tests;
 
 pub use name_sets::NameSet;
 pub use sets::{

@@ -7,8 +7,6 @@ pub mod laws;
 mod sink;
 pub mod states;
 mod tag;
-#[cfg(test)]
-mod tests;
 mod tokens;
 
 pub use doctype::Doctype;

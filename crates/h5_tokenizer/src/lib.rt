@@ -13,8 +13,6 @@ mod run;
 mod stage;
 mod state;
 mod steps;
-#[cfg(test)]
-mod tests;
 mod tokenizer;
 mod tokens;
 

@@ -1,23 +1,26 @@
-//! Each public call once, with ample memory.
-use super::*;
+//! Names and attributes.
+use super::parts::attribute;
+use h5_names::{KnownName, LocalName, Namespace, Prefix, QualName, namespaces};
 use std::alloc::{AllocError, Global};
 use std::cmp::Ordering;
 use std::hash::{DefaultHasher, Hash, Hasher};
 use std::process::Abort;
 use std::test::Fail;
 
-fn html_name(alloc: Global, local: &str) -> Result<QualName, AllocError> {
-    Ok(QualName::new(
-        None,
-        Namespace::new(alloc, namespaces::HTML)?,
-        LocalName::new(alloc, local)?,
-    ))
-}
-
 fn hash_of<T: Hash>(value: &T) -> u64 {
     let mut hasher = DefaultHasher::new();
     value.hash(&mut hasher);
     hasher.finish()
+}
+
+fn check_order<T: Ord>(rt: &impl Abort, left: &T, right: &T, order: Ordering) {
+    assert_eq!(rt; left.cmp(right), order);
+    assert_eq!(rt; left == right, order == Ordering::Equal);
+}
+
+fn check_clone<T: Eq + Hash>(rt: &impl Abort, value: &T, clone: &T) {
+    assert!(rt; clone == value);
+    assert_eq!(rt; hash_of(value), hash_of(clone));
 }
 
 fn check_local_names(
@@ -27,12 +30,10 @@ fn check_local_names(
     y: &str,
     order: Ordering,
 ) -> Result<(), AllocError> {
-    let (left, right) = (LocalName::new(alloc, x)?, LocalName::new(alloc, y)?);
+    let left = LocalName::new(alloc, x)?;
     assert_eq!(rt; left.as_str(), x);
-    assert_eq!(rt; left.cmp(&right), order);
-    assert_eq!(rt; left == right, order == Ordering::Equal);
-    assert!(rt; left.clone()? == left);
-    assert_eq!(rt; hash_of(&left), hash_of(&left.clone()?));
+    check_order(rt, &left, &LocalName::new(alloc, y)?, order);
+    check_clone(rt, &left, &left.clone()?);
     Ok(())
 }
 
@@ -43,12 +44,10 @@ fn check_namespaces(
     y: &str,
     order: Ordering,
 ) -> Result<(), AllocError> {
-    let (left, right) = (Namespace::new(alloc, x)?, Namespace::new(alloc, y)?);
+    let left = Namespace::new(alloc, x)?;
     assert_eq!(rt; left.as_str(), x);
-    assert_eq!(rt; left.cmp(&right), order);
-    assert_eq!(rt; left == right, order == Ordering::Equal);
-    assert!(rt; left.clone()? == left);
-    assert_eq!(rt; hash_of(&left), hash_of(&left.clone()?));
+    check_order(rt, &left, &Namespace::new(alloc, y)?, order);
+    check_clone(rt, &left, &left.clone()?);
     Ok(())
 }
 
@@ -59,12 +58,10 @@ fn check_prefixes(
     y: &str,
     order: Ordering,
 ) -> Result<(), AllocError> {
-    let (left, right) = (Prefix::new(alloc, x)?, Prefix::new(alloc, y)?);
+    let left = Prefix::new(alloc, x)?;
     assert_eq!(rt; left.as_str(), x);
-    assert_eq!(rt; left.cmp(&right), order);
-    assert_eq!(rt; left == right, order == Ordering::Equal);
-    assert!(rt; left.clone()? == left);
-    assert_eq!(rt; hash_of(&left), hash_of(&left.clone()?));
+    check_order(rt, &left, &Prefix::new(alloc, y)?, order);
+    check_clone(rt, &left, &left.clone()?);
     Ok(())
 }
 
@@ -88,24 +85,38 @@ fn names_are_their_texts(rt: HostRuntime) -> Result<(), Fail> {
 }
 
 #[test]
-fn known_names_are_told_apart(rt: HostRuntime) -> Result<(), Fail> {
-    let alloc = rt.alloc();
-    assert_eq!(rt;
-        KnownName::from_text("foreignObject"),
-        KnownName::ForeignObject
-    );
+fn known_names_are_told_apart(rt: HostRuntime) {
+    let known = KnownName::from_text("foreignObject");
+    assert_eq!(rt; known, KnownName::ForeignObject);
     assert_eq!(rt; KnownName::from_text("blink"), KnownName::Other);
     assert_eq!(rt; KnownName::AnnotationXml.as_str(), "annotation-xml");
-    assert_eq!(rt; LocalName::new(alloc, "tbody")?.known(), KnownName::Tbody);
-    assert_eq!(rt; LocalName::new(alloc, "tbodies")?.known(), KnownName::Other);
-    assert!(rt; LocalName::new(alloc, "tr")?.is(KnownName::Tr));
-    let read = LocalName::from_string(String::from_str(alloc, "table")?);
+}
+
+#[test]
+fn local_names_may_be_known(rt: HostRuntime) -> Result<(), Fail> {
+    let alloc = rt.alloc();
+    for (text, known) in [("tbody", KnownName::Tbody), ("tbodies", KnownName::Other)] {
+        assert_eq!(rt; LocalName::new(alloc, text)?.known(), known);
+    }
+    Ok(())
+}
+
+#[test]
+fn local_names_are_those_known(rt: HostRuntime) -> Result<(), Fail> {
+    let row = LocalName::new(rt.alloc(), "tr")?;
+    assert!(rt; row.is(KnownName::Tr));
+    Ok(())
+}
+
+#[test]
+fn local_names_are_made_of_texts(rt: HostRuntime) -> Result<(), Fail> {
+    let read = LocalName::from_string(String::from_str(rt.alloc(), "table")?);
     assert!(rt; read == LocalName::from_known(KnownName::Table));
     Ok(())
 }
 
 // The names of SVG that have capitals (HTML standard, section 13.2.6.5, "any other start tag").
-static SVG_NAMES: [(&str, &str); 37] = [
+const SVG_NAMES: [(&str, &str); 37] = [
     ("altglyph", "altGlyph"),
     ("altglyphdef", "altGlyphDef"),
     ("altglyphitem", "altGlyphItem"),
@@ -145,64 +156,89 @@ static SVG_NAMES: [(&str, &str); 37] = [
     ("textpath", "textPath"),
 ];
 
+fn is_known_in_either_case(rt: &impl Abort, lower: &str, mixed: &str) {
+    let known = KnownName::from_text(mixed);
+    assert_eq!(rt; known.as_str(), mixed);
+    assert_eq!(rt; known.to_ascii_lowercase().as_str(), lower);
+    assert_eq!(rt; KnownName::from_text(lower), known.to_ascii_lowercase());
+}
+
 #[test]
 fn names_of_svg_are_known_in_either_case(rt: HostRuntime) {
     for (lower, mixed) in SVG_NAMES {
-        let known = KnownName::from_text(mixed);
-        assert_eq!(rt; known.as_str(), mixed);
-        assert_eq!(rt; known.to_ascii_lowercase().as_str(), lower);
-        assert_eq!(rt; KnownName::from_text(lower), known.to_ascii_lowercase());
+        is_known_in_either_case(&rt, lower, mixed);
     }
+}
+
+#[test]
+fn other_names_are_known_in_one_case(rt: HostRuntime) {
     assert_eq!(rt; KnownName::from_text("feblenD"), KnownName::Other);
     assert_eq!(rt; KnownName::Div.to_ascii_lowercase(), KnownName::Div);
 }
 
+fn is_html_alone(ns: &Namespace) -> bool {
+    ns.is_html() && !ns.is_mathml() && !ns.is_svg()
+}
+
 #[test]
-fn namespaces_are_told_apart(rt: HostRuntime) -> Result<(), Fail> {
-    let alloc = rt.alloc();
+fn namespaces_are_told_apart(rt: HostRuntime) {
     let html = Namespace::html();
     assert_eq!(rt; html.as_str(), namespaces::HTML);
+    assert!(rt; is_html_alone(&html));
     assert_eq!(rt; Namespace::none().as_str(), namespaces::NONE);
-    assert!(rt; html.is_html() && !html.is_mathml() && !html.is_svg());
+}
+
+#[test]
+fn foreign_namespaces_are_told(rt: HostRuntime) -> Result<(), Fail> {
+    let alloc = rt.alloc();
     assert!(rt; Namespace::new(alloc, namespaces::MATHML)?.is_mathml());
     assert!(rt; Namespace::new(alloc, namespaces::SVG)?.is_svg());
     Ok(())
 }
 
-#[test]
-fn qualified_names_are_their_parts(rt: HostRuntime) -> Result<(), Fail> {
-    let alloc = rt.alloc();
-    let title = html_name(alloc, "title")?;
-    let drawn = QualName::new(
-        Some(Prefix::new(alloc, "svg")?),
-        Namespace::new(alloc, namespaces::SVG)?,
-        LocalName::new(alloc, "title")?,
-    );
+// The name of SVG's titles, with a prefix.
+fn drawn_title(alloc: Global) -> Result<QualName, AllocError> {
+    let prefix = Prefix::new(alloc, "svg")?;
+    let ns = Namespace::new(alloc, namespaces::SVG)?;
+    let local = LocalName::from_known(KnownName::Title);
+    Ok(QualName::new(Some(prefix), ns, local))
+}
+
+fn html_title() -> QualName {
+    let local = LocalName::from_known(KnownName::Title);
+    QualName::new(None, Namespace::html(), local)
+}
+
+fn check_titles(rt: &impl Abort, title: &QualName, drawn: &QualName) {
     assert!(rt; title != drawn);
     assert!(rt; title < drawn, "no prefix comes first");
     assert!(rt; title.expanded() != drawn.expanded());
     assert_eq!(rt; title.expanded().ns.as_str(), namespaces::HTML);
     assert_eq!(rt; drawn.expanded().local.as_str(), "title");
-    assert!(rt; drawn.clone()? == drawn);
-    assert_eq!(rt; hash_of(&drawn), hash_of(&drawn.clone()?));
-    assert!(rt; hash_of(&title.expanded()) == hash_of(&title.clone()?.expanded()));
+}
+
+#[test]
+fn qualified_names_are_their_parts(rt: HostRuntime) -> Result<(), Fail> {
+    let drawn = drawn_title(rt.alloc())?;
+    check_titles(&rt, &html_title(), &drawn);
+    check_clone(&rt, &drawn, &drawn.clone()?);
+    Ok(())
+}
+
+#[test]
+fn expanded_names_are_lent(rt: HostRuntime) -> Result<(), Fail> {
+    let title = html_title();
+    check_clone(&rt, &title.expanded(), &title.clone()?.expanded());
     Ok(())
 }
 
 #[test]
 fn attributes_are_names_and_values(rt: HostRuntime) -> Result<(), Fail> {
     let alloc = rt.alloc();
-    let attribute = |value: &str| -> Result<Attribute, AllocError> {
-        Ok(Attribute {
-            name: html_name(alloc, "id")?,
-            value: String::from_str(alloc, value)?,
-        })
-    };
-    let (one, two) = (attribute("1")?, attribute("2")?);
-    assert!(rt; one < two);
-    assert!(rt; one.clone()? == one);
-    assert_eq!(rt; two.clone()?.value.as_str(), "2");
-    assert_eq!(rt; hash_of(&one), hash_of(&one.clone()?));
+    let one = attribute(alloc, "id", "1")?;
+    assert!(rt; one < attribute(alloc, "id", "2")?);
+    check_clone(&rt, &one, &one.clone()?);
+    assert_eq!(rt; one.clone()?.value.as_str(), "1");
     Ok(())
 }
 

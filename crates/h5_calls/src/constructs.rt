@@ -1,29 +1,31 @@
-//! Each public call once.
-use super::*;
+//! The parts of texts, tags and doctypes.
+use h5_constructs::{
+    Kept, cleaned, escape, make_doctype, make_name, newline, plain_len, read_attributes, reference,
+    text_of,
+};
 use h5_scan::Seen;
 use h5_token::Doctype;
 use std::alloc::{AllocError, Global};
 use std::fmt::Write;
+use std::process::Abort;
 use std::test::Fail;
 
-#[test]
-fn bytes_stand_for_others(rt: HostRuntime) -> Result<(), Fail> {
-    let rows = [
-        (reference("&nbsp;b"), "\u{a0}"),
-        (newline("\r\nb"), "\n"),
-        (cleaned("\0b"), "\u{fffd}"),
-        (escape(true, "&lt;b"), "<"),
-    ];
-    for (seen, wanted) in rows {
-        match seen {
-            Seen::Found(text, rest) => {
-                assert_eq!(rt; text, wanted);
-                assert_eq!(rt; rest, "b");
-            }
-            _ => return Err("nothing found".into()),
+fn stands_for(rt: &impl Abort, seen: Seen<'_, &str>, wanted: &str) {
+    match seen {
+        Seen::Found(text, rest) => {
+            assert_eq!(rt; text, wanted);
+            assert_eq!(rt; rest, "b");
         }
+        _ => panic!(rt; "nothing found for {wanted}"),
     }
-    Ok(())
+}
+
+#[test]
+fn bytes_stand_for_others(rt: HostRuntime) {
+    stands_for(&rt, reference("&nbsp;b"), "\u{a0}");
+    stands_for(&rt, newline("\r\nb"), "\n");
+    stands_for(&rt, cleaned("\0b"), "\u{fffd}");
+    stands_for(&rt, escape(true, "&lt;b"), "<");
 }
 
 #[test]
@@ -36,9 +38,18 @@ fn whole_texts_are_read(rt: HostRuntime) -> Result<(), Fail> {
     for (references, text, wanted) in rows {
         assert_eq!(rt; text_of(alloc, references, text)?.as_str(), wanted);
     }
-    assert_eq!(rt; make_name(alloc, "aB\0")?.as_str(), "ab\u{fffd}");
-    assert_eq!(rt; plain_len("ab&c"), 2);
     Ok(())
+}
+
+#[test]
+fn names_are_read(rt: HostRuntime) -> Result<(), Fail> {
+    assert_eq!(rt; make_name(rt.alloc(), "aB\0")?.as_str(), "ab\u{fffd}");
+    Ok(())
+}
+
+#[test]
+fn plain_texts_are_measured(rt: HostRuntime) {
+    assert_eq!(rt; plain_len("ab&c"), 2);
 }
 
 fn listed(alloc: Global, kept: &Kept) -> Result<String, AllocError> {

@@ -1,9 +1,10 @@
 //! What the reader hands on, over a sink that writes it down.
-use super::*;
 use h5_token::states::RawKind;
 use h5_token::{BuildFault, Doctype, Tag, TagKind, Token, TokenSink, TokenSinkResult};
+use h5_tokenizer::{BufferQueue, Tokenizer, TokenizerOpts, TokenizerResult, laws};
 use std::alloc::{AllocError, Global};
 use std::fmt::Write;
+use std::process::Abort;
 use std::test::Fail;
 
 /// Writes down what it is handed. To a start tag it answers as it is told, to all else `Continue`.
@@ -139,135 +140,216 @@ fn make_log(alloc: Global) -> Log {
     }
 }
 
+// Feeds a text at once, or character by character, and then the end.
+fn feed(
+    alloc: Global,
+    reader: &mut Tokenizer<Log>,
+    text: &str,
+    whole: bool,
+) -> Result<(), BuildFault> {
+    let mut queue = BufferQueue::new(alloc);
+    if whole {
+        feed_piece(reader, &mut queue, String::from_str(alloc, text)?)?;
+    } else {
+        for c in text.chars() {
+            feed_piece(reader, &mut queue, c.to_string(alloc)?)?;
+        }
+    }
+    reader.end()
+}
+
+fn feed_piece(
+    reader: &mut Tokenizer<Log>,
+    queue: &mut BufferQueue,
+    piece: String,
+) -> Result<(), BuildFault> {
+    queue.push_back(piece)?;
+    reader.feed(queue)?;
+    Ok(())
+}
+
 // What is written down of a text that is fed at once, or character by character.
 fn read(alloc: Global, sink: Log, text: &str, whole: bool) -> Result<String, BuildFault> {
     let mut reader = Tokenizer::new(alloc, sink, TokenizerOpts::default());
-    let mut queue = BufferQueue::new(alloc);
-    if whole {
-        queue.push_back(String::from_str(alloc, text)?)?;
-        reader.feed(&mut queue)?;
-    } else {
-        for c in text.chars() {
-            let mut piece = String::new(alloc);
-            piece.push(c)?;
-            queue.push_back(piece)?;
-            reader.feed(&mut queue)?;
-        }
-    }
-    reader.end()?;
+    feed(alloc, &mut reader, text, whole)?;
     let Tokenizer { sink, .. } = reader;
     Ok(sink.text)
 }
 
-#[test]
-fn reads_each_construct(rt: HostRuntime) -> Result<(), Fail> {
-    let alloc = rt.alloc();
-    let rows = [
-        ("a<!-- x --><Title>b&amp;c", "aC(1, x )<title>b&c$1"),
-        ("\u{feff}x\r\ny\rz\n<!--\r\n-->&am", "x\ny\nz\nC(4,\n)&am$5"),
-        ("<!DOCTYPE html>", "D(html,-,-,false)$1"),
-        ("<!doctype HTML public 'a' \"b\" >", "D(html,a,b,false)$1"),
-        ("<!doctype x system\t'b'>", "D(x,-,b,false)$1"),
-        ("<!doctype x system>", "D(x,-,-,true)$1"),
-        ("<!doctype  >", "D(-,-,-,true)$1"),
-        ("<a b=/>", "<a b=/>$1"),
-        ("<a b/>", "<a b= />$1"),
-        ("<A c='1' C=2 =d=e f = g h>", "<a c=1 =d=e f=g h= !>$1"),
-        ("<a b='>' c=\"&lt;\r\n\"/>", "<a b=> c=<\n />$2"),
-        ("</p a=b/>x</1>", "</p>x</1>$1"),
-        ("a\0<b \0=\0>", "a[0]<b \u{fffd}=\u{fffd}>$1"),
-        ("<!x><?x><1<", "<!x><?x><1<$1"),
-        ("x<a b", "x$1"),
-        ("x<!doctype a", "x$1"),
-        ("x<!-- y --", "xC(1, y --)$1"),
-        ("<!---->", "C(1,)$1"),
-        ("<!--->-->", "C(1,->)$1"),
-        ("<![CDATA[x]]>", "<![CDATA[x]]>$1"),
-        ("\r", "\n$2"),
-    ];
-    for (text, tokens) in rows {
-        let found = read(alloc, make_log(alloc), text, true)?;
-        assert_eq!(rt; found.as_str(), tokens, "{text}");
-        let found = read(alloc, make_log(alloc), text, false)?;
-        assert_eq!(rt; found.as_str(), tokens, "{text} by characters");
+// What is written down of a text, be it fed at once or character by character.
+fn is_read_as(
+    rt: &impl Abort,
+    alloc: Global,
+    foreign: bool,
+    raw: Option<RawKind>,
+    text: &str,
+    tokens: &str,
+) -> Result<(), BuildFault> {
+    for whole in [true, false] {
+        let mut sink = make_log(alloc);
+        sink.foreign = foreign;
+        sink.raw = raw;
+        let found = read(alloc, sink, text, whole)?;
+        assert_eq!(rt; found.as_str(), tokens, "{text}, at once: {whole}");
     }
     Ok(())
 }
 
-fn raw_log(alloc: Global, kind: RawKind) -> Log {
-    let mut log = make_log(alloc);
-    log.raw = Some(kind);
-    log
+// Texts by what stands in them, and what is written down of them.
+const DOCTYPES: [(&str, &str); 5] = [
+    ("<!DOCTYPE html>", "D(html,-,-,false)$1"),
+    ("<!doctype HTML public 'a' \"b\" >", "D(html,a,b,false)$1"),
+    ("<!doctype x system\t'b'>", "D(x,-,b,false)$1"),
+    ("<!doctype x system>", "D(x,-,-,true)$1"),
+    ("<!doctype  >", "D(-,-,-,true)$1"),
+];
+
+const TAGS: [(&str, &str); 7] = [
+    ("<a b=/>", "<a b=/>$1"),
+    ("<a b/>", "<a b= />$1"),
+    ("<A c='1' C=2 =d=e f = g h>", "<a c=1 =d=e f=g h= !>$1"),
+    ("<a b='>' c=\"&lt;\r\n\"/>", "<a b=> c=<\n />$2"),
+    ("</p a=b/>x</1>", "</p>x</1>$1"),
+    ("a\0<b \0=\0>", "a[0]<b \u{fffd}=\u{fffd}>$1"),
+    ("x<a b", "x$1"),
+];
+
+const TEXTS_AND_COMMENTS: [(&str, &str); 9] = [
+    ("a<!-- x --><Title>b&amp;c", "aC(1, x )<title>b&c$1"),
+    ("\u{feff}x\r\ny\rz\n<!--\r\n-->&am", "x\ny\nz\nC(4,\n)&am$5"),
+    ("<!x><?x><1<", "<!x><?x><1<$1"),
+    ("x<!doctype a", "x$1"),
+    ("x<!-- y --", "xC(1, y --)$1"),
+    ("<!---->", "C(1,)$1"),
+    ("<!--->-->", "C(1,->)$1"),
+    ("<![CDATA[x]]>", "<![CDATA[x]]>$1"),
+    ("\r", "\n$2"),
+];
+
+#[test]
+fn reads_doctypes(rt: HostRuntime) -> Result<(), Fail> {
+    for (text, tokens) in DOCTYPES {
+        is_read_as(&rt, rt.alloc(), false, None, text, tokens)?;
+    }
+    Ok(())
 }
 
 #[test]
+fn reads_tags(rt: HostRuntime) -> Result<(), Fail> {
+    for (text, tokens) in TAGS {
+        is_read_as(&rt, rt.alloc(), false, None, text, tokens)?;
+    }
+    Ok(())
+}
+
+#[test]
+fn reads_texts_and_comments(rt: HostRuntime) -> Result<(), Fail> {
+    for (text, tokens) in TEXTS_AND_COMMENTS {
+        is_read_as(&rt, rt.alloc(), false, None, text, tokens)?;
+    }
+    Ok(())
+}
+
+// Elements whose text is raw, and what is written down of them.
+const RAW_TEXTS: [(RawKind, &str, &str); 4] = [
+    (
+        RawKind::Rcdata,
+        "<t>a</x>&lt;</T b>&gt;",
+        "<t>a</x><</t>>$1",
+    ),
+    (
+        RawKind::Rawtext,
+        "<t>&lt;<!--\0</t/>&gt;",
+        "<t>&lt;<!--\u{fffd}</t>>$1",
+    ),
+    (RawKind::ScriptData, "<t></tt></t", "<t></tt></t$1"),
+    (RawKind::ScriptData, "<t>x</t ", "<t>x$1"),
+];
+
+#[test]
 fn reads_raw_text(rt: HostRuntime) -> Result<(), Fail> {
-    let alloc = rt.alloc();
-    let rows = [
-        (
-            RawKind::Rcdata,
-            "<t>a</x>&lt;</T b>&gt;",
-            "<t>a</x><</t>>$1",
-        ),
-        (
-            RawKind::Rawtext,
-            "<t>&lt;<!--\0</t/>&gt;",
-            "<t>&lt;<!--\u{fffd}</t>>$1",
-        ),
-        (RawKind::ScriptData, "<t></tt></t", "<t></tt></t$1"),
-        (RawKind::ScriptData, "<t>x</t ", "<t>x$1"),
-    ];
-    for (kind, text, tokens) in rows {
-        let found = read(alloc, raw_log(alloc, kind), text, true)?;
-        assert_eq!(rt; found.as_str(), tokens, "{text}");
-        let found = read(alloc, raw_log(alloc, kind), text, false)?;
-        assert_eq!(rt; found.as_str(), tokens, "{text} by characters");
+    for (kind, text, tokens) in RAW_TEXTS {
+        is_read_as(&rt, rt.alloc(), false, Some(kind), text, tokens)?;
     }
     Ok(())
 }
 
 #[test]
 fn reads_cdata_where_the_sink_says_so(rt: HostRuntime) -> Result<(), Fail> {
-    let alloc = rt.alloc();
     let rows = [
         ("a<![CDATA[<b>&amp;\0]]]>c", "a<b>&amp;\u{fffd}]c$1"),
         ("<![CDATA[x]]", "x]]$1"),
         ("<![CDAT", "<![CDAT$1"),
     ];
     for (text, tokens) in rows {
-        for whole in [true, false] {
-            let mut sink = make_log(alloc);
-            sink.foreign = true;
-            let found = read(alloc, sink, text, whole)?;
-            assert_eq!(rt; found.as_str(), tokens, "{text}");
-        }
+        is_read_as(&rt, rt.alloc(), true, None, text, tokens)?;
     }
     Ok(())
 }
 
 #[test]
-fn stops_at_a_script(rt: HostRuntime) -> Result<(), Fail> {
-    let alloc = rt.alloc();
-    let mut sink = make_log(alloc);
-    sink.script = true;
-    let opts = TokenizerOpts::default();
-    assert_eq!(rt; opts.clone()?.discard_bom, true);
-    let mut reader = Tokenizer::new(alloc, sink, opts);
-    let mut queue = BufferQueue::new(alloc);
-    queue.push_back(String::from_str(alloc, "a<s>b</s>")?)?;
-    let stopped = match reader.feed(&mut queue)? {
+fn options_are_cloned(rt: HostRuntime) -> Result<(), Fail> {
+    assert!(rt; TokenizerOpts::default().clone()?.discard_bom);
+    Ok(())
+}
+
+fn stops(
+    rt: &impl Abort,
+    reader: &mut Tokenizer<Log>,
+    queue: &mut BufferQueue,
+) -> Result<(), BuildFault> {
+    let stopped = match reader.feed(queue)? {
         TokenizerResult::Script(handle) => handle == 7,
         _ => false,
     };
     assert!(rt; stopped);
     assert!(rt; !queue.is_empty());
     assert_eq!(rt; reader.sink.text.as_str(), "a<s>");
-    assert!(rt; matches!(reader.feed(&mut queue)?, TokenizerResult::Done));
+    Ok(())
+}
+
+fn goes_on(
+    rt: &impl Abort,
+    reader: &mut Tokenizer<Log>,
+    queue: &mut BufferQueue,
+) -> Result<(), BuildFault> {
+    assert!(rt; matches!(reader.feed(queue)?, TokenizerResult::Done));
     assert!(rt; queue.is_empty());
+    Ok(())
+}
+
+fn ends(rt: &impl Abort, reader: &mut Tokenizer<Log>) -> Result<(), BuildFault> {
     reader.end()?;
     assert_eq!(rt; reader.sink.text.as_str(), "a<s>b</s>$1");
     assert_eq!(rt; reader.end().err(), Some(BuildFault::AfterEnd));
-    assert!(rt; matches!(reader.feed(&mut queue), Err(BuildFault::AfterEnd)));
+    Ok(())
+}
+
+fn script_reader(alloc: Global) -> Tokenizer<Log> {
+    let mut sink = make_log(alloc);
+    sink.script = true;
+    Tokenizer::new(alloc, sink, TokenizerOpts::default())
+}
+
+fn reads_in_two(
+    rt: &impl Abort,
+    reader: &mut Tokenizer<Log>,
+    queue: &mut BufferQueue,
+) -> Result<(), BuildFault> {
+    stops(rt, reader, queue)?;
+    goes_on(rt, reader, queue)?;
+    ends(rt, reader)?;
+    assert!(rt; matches!(reader.feed(queue), Err(BuildFault::AfterEnd)));
+    Ok(())
+}
+
+#[test]
+fn stops_at_a_script(rt: HostRuntime) -> Result<(), Fail> {
+    let alloc = rt.alloc();
+    let mut queue = BufferQueue::new(alloc);
+    queued(alloc, &mut queue, "a<s>b</s>")?;
+    let mut reader = script_reader(alloc);
+    reads_in_two(&rt, &mut reader, &mut queue)?;
     Ok(())
 }
 
@@ -296,17 +378,20 @@ fn first_fault(
     reader.end().err()
 }
 
+fn has_failed(rt: &impl Abort, reader: &mut Tokenizer<Log>, queue: &mut BufferQueue) {
+    assert!(rt; matches!(reader.feed(queue), Err(BuildFault::Failed)));
+    assert_eq!(rt; reader.end().err(), Some(BuildFault::Failed));
+}
+
 #[test]
-fn refused_memory_is_told_and_then_the_reader_has_failed(rt: HostRuntime) -> Result<(), Fail> {
+fn refused_memory_is_told_and_then_the_reader_has_failed(rt: HostRuntime) {
     let alloc = rt.alloc();
     let mut reader = Tokenizer::new(alloc, make_log(alloc), TokenizerOpts::default());
     let mut queue = BufferQueue::new(alloc);
     if let Some(fault) = first_fault(&mut reader, &mut queue, alloc) {
         assert_eq!(rt; fault, BuildFault::Memory);
-        assert!(rt; matches!(reader.feed(&mut queue), Err(BuildFault::Failed)));
-        assert_eq!(rt; reader.end().err(), Some(BuildFault::Failed));
+        has_failed(&rt, &mut reader, &mut queue);
     }
-    Ok(())
 }
 
 /// Sees all that the log means.

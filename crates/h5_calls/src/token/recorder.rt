@@ -1,7 +1,5 @@
 //! A sink that refuses tokens after the end, and one over any sink that counts what it hands on.
-use crate::fault::BuildFault;
-use crate::sink::{TokenSink, TokenSinkResult};
-use crate::tokens::Token;
+use h5_token::{BuildFault, Token, TokenSink, TokenSinkResult};
 
 #[derive(Drop)]
 pub struct Recorder {

@@ -1,5 +1,5 @@
-//! Each outcome of a run once.
-use super::run;
+//! Each outcome of a run of the program.
+use h5_commands::run;
 use std::alloc::{AllocError, Global};
 use std::io::{self, Read, Write};
 use std::process::Abort;
@@ -47,45 +47,56 @@ fn says(
     Ok(())
 }
 
-#[test]
-fn runs_end_with_their_status(rt: HostRuntime) -> Result<(), Fail> {
-    let alloc = rt.alloc();
-    says(&rt, alloc, "tokens", b"S p\n", 0, "")?;
-    says(&rt, alloc, "tree", b"<p>", 0, "")?;
-    says(&rt, alloc, "html", b"<p>", 0, "")?;
-    says(
-        &rt,
-        alloc,
-        "html",
-        b"<p\xff>",
-        1,
-        "h5: input is not UTF-8\n",
-    )?;
-    says(&rt, alloc, "tokens", b"\nS p q\n", 2, "h5: bad line 2\n")?;
-    says(
-        &rt,
-        alloc,
+// Commands and their input, and the status and the message with which they end.
+const RUNS: [(&str, &[u8], u8, &str); 6] = [
+    ("tokens", b"S p\n", 0, ""),
+    ("tree", b"<p>", 0, ""),
+    ("html", b"<p>", 0, ""),
+    ("html", b"<p\xff>", 1, "h5: input is not UTF-8\n"),
+    ("tokens", b"\nS p q\n", 2, "h5: bad line 2\n"),
+    (
         "token",
         b"",
         2,
         "h5: usage: h5 tokens | h5 tree [context] | h5 html\n",
-    )?;
+    ),
+];
+
+#[test]
+fn runs_end_with_their_status(rt: HostRuntime) -> Result<(), Fail> {
+    for (word, input, status, message) in RUNS {
+        says(&rt, rt.alloc(), word, input, status, message)?;
+    }
+    Ok(())
+}
+
+fn fails<R: Read + Drop, W: Write>(
+    alloc: Global,
+    words: &[String],
+    input: R,
+    out: &mut W,
+    faults: &mut Vec<u8>,
+) -> bool {
+    run(alloc, words, input, out, faults) == 1
+}
+
+#[test]
+fn a_broken_reader_is_told(rt: HostRuntime) -> Result<(), Fail> {
+    let alloc = rt.alloc();
+    let words = words_of(alloc, "tokens")?;
+    let (mut out, mut faults) = (Vec::new(alloc), Vec::new(alloc));
+    assert!(rt; fails(alloc, words.as_slice(), Broken, &mut out, &mut faults));
+    assert_eq!(rt; faults.as_slice(), "h5: cannot read\n".as_bytes());
     Ok(())
 }
 
 #[test]
-fn broken_readers_and_writers_are_told(rt: HostRuntime) -> Result<(), Fail> {
+fn a_broken_writer_is_told(rt: HostRuntime) -> Result<(), Fail> {
     let alloc = rt.alloc();
     let words = words_of(alloc, "tokens")?;
-    let mut out: Vec<u8> = Vec::new(alloc);
-    let mut faults: Vec<u8> = Vec::new(alloc);
-    let answer = run(alloc, words.as_slice(), Broken, &mut out, &mut faults);
-    assert_eq!(rt; answer, 1);
-    assert_eq!(rt; faults.as_slice(), "h5: cannot read\n".as_bytes());
-    faults.clear();
     let input: &[u8] = b"Z\n";
-    let answer = run(alloc, words.as_slice(), input, &mut Broken, &mut faults);
-    assert_eq!(rt; answer, 1);
+    let mut faults = Vec::new(alloc);
+    assert!(rt; fails(alloc, words.as_slice(), input, &mut Broken, &mut faults));
     assert_eq!(rt; faults.as_slice(), "h5: cannot write\n".as_bytes());
     Ok(())
 }
