@@ -1,6 +1,6 @@
 mod AttributeLaws
 mod BalanceLaws
-mod CallConditions
+pub mod CallConditions
 mod LevelLaws
 mod NodeCallLaws
 mod ChildTexts

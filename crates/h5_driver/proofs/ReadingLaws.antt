@@ -1,5 +1,6 @@
 -- Readings over a builder that works.
 use Rattle.std.proofs.Common.{◌≡◌, ◌++◌, ℕ, List, [], ◌∷◌, Option, Some, None, Result, Ok, Err, IfOk, OnErr, inl, inr, refl, ap, sym, subst, ◌∙◌, append_assoc}
+use Rattle.std.proofs.lemmas.List.{append-nil}
 use Rattle.h5_token.specs.Reply.{Continues, Refuses, Reply}
 use Rattle.h5_token.specs.TokenText.{TokenText, Characters, EndOfFile}
 use Rattle.h5_token.specs.declared.fault.BuildFault.{BuildFault}
@@ -133,13 +134,9 @@ closes_memory choices m n None f w h = finishes_memory choices m n f w h
 closes_memory choices m n (Some t) f w (inl h) = takes_memory choices m n t f w h
 closes_memory choices m n (Some t) f w (inr h) = finishes_memory choices (after choices m t) n f (works_after choices t m w) h.1
 
-append_none : {A : Type 0} (ts : List A) → ts ++ [] ≡ ts
-append_none [] = refl
-append_none (t ∷ ts) = ap (λ x. t ∷ x) (append_none ts)
-
 -- one list of readings, and then another
 chain : (choices : SinkChoices) {p q r : Place} {m n o : View} {xs ys zs : List ℕ} {ts us : List TokenText} → Readings (replies choices) (after choices) foreign p m xs ts q n ys → Readings (replies choices) (after choices) foreign q n ys us r o zs → Readings (replies choices) (after choices) foreign p m xs (ts ++ us) r o zs
-chain choices {p = p} {q = q} {m = m} {n = n} {xs = xs} {ys = ys} {ts = ts} a no_reading = subst (λ x. Readings (replies choices) (after choices) foreign p m xs x q n ys) (sym (append_none ts)) a
+chain choices {p = p} {q = q} {m = m} {n = n} {xs = xs} {ys = ys} {ts = ts} a no_reading = subst (λ x. Readings (replies choices) (after choices) foreign p m xs x q n ys) (sym (append-nil ts)) a
 chain choices {p = p} {r = r} {m = m} {o = o} {xs = xs} {zs = zs} {ts = ts} a (more_reading {ts = us} {us = vs} b s g) =
     subst (λ x. Readings (replies choices) (after choices) foreign p m xs x r o zs) (append_assoc ts us vs) (more_reading (chain choices a b) s g)
 
@@ -193,7 +190,7 @@ told_behind choices told p q m n xs ys a (Err f) r = r
 -- a piece behind what was read and what waits
 pub piece_taken : (choices : SinkChoices) (p0 p q : Place) (m0 m n : View) (xs held waiting text left queue : List ℕ) → Advances choices p0 m0 xs p m (held ++ waiting) → TakesAll choices p m (held ++ (waiting ++ text)) q n left → queue ≡ [] → Advances choices p0 m0 (xs ++ text) q n (left ++ queue)
 piece_taken choices p0 p q m0 m n xs held waiting text left queue a t e =
-    subst (λ z. Advances choices p0 m0 (xs ++ text) q n z) (sym (ap (λ z. left ++ z) e ∙ append_none left))
+    subst (λ z. Advances choices p0 m0 (xs ++ text) q n z) (sym (ap (λ z. left ++ z) e ∙ append-nil left))
     (piece_joins choices p0 p q m0 m n xs (held ++ waiting) text left a (subst (λ z. Advances choices p m z q n left) (sym (append_assoc held waiting text)) t.advances))
 
 pub nothing_read_yet : (choices : SinkChoices) (p : Place) (m : View) (xs : List ℕ) → Advances choices p m xs p m xs

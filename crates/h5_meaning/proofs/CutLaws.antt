@@ -1,5 +1,6 @@
 -- A text that is cut in two is the whole text.
 use Rattle.std.proofs.Common.{◌≡◌, ℕ, Bool, true, false, ◌&&◌, List, [], ◌∷◌, ◌++◌, refl, ap, sym, ◌∙◌}
+use Rattle.std.proofs.lemmas.List.{append-nil}
 use Rattle.h5_interface.specs.SinkChoices.{SinkChoices}
 use Rattle.h5_interface.specs.Forest.{ChildText, Forest}
 use Rattle.h5_types.specs.TurnText.{TextTurn, TurnText}
@@ -19,10 +20,6 @@ use Rattle.h5_meaning.specs.Text.{after_row, if_any, split, dropped, by_else, te
 use Rattle.h5_meaning.specs.Place.{appropriate_place, place, put}
 use Rattle.h5_meaning.specs.World.{World}
 use Rattle.h5_meaning.proofs.TextForestLaws.{place_same, put_text_twice, text_same}
-
-pub append_nil : (t : List ℕ) → t ++ [] ≡ t
-append_nil [] = refl
-append_nil (b ∷ t) = ap (λ x. b ∷ x) (append_nil t)
 
 -- a text is blank, or has a rest at which its front ends
 pub data Cut (t u : List ℕ) : Type 0 where
@@ -87,7 +84,7 @@ any_mode f b (x ∷ t) w = b.mode (x ∷ t) w
 
 any_twice : (f : List ℕ → World → World) → Blanks f → (t u : List ℕ) (w : World) → if_any f u (if_any f t w) ≡ if_any f (t ++ u) w
 any_twice f b [] u w = refl
-any_twice f b (x ∷ t) [] w = ap (λ z. f z w) (sym (append_nil (x ∷ t)))
+any_twice f b (x ∷ t) [] w = ap (λ z. f z w) (sym (append-nil (x ∷ t)))
 any_twice f b (x ∷ t) (y ∷ u) w = b.twice (x ∷ t) (y ∷ u) w
 
 -- the law of a rule of what is no blank: cut, it goes on by the rule of the view that is reached

@@ -16,8 +16,6 @@ mod openers;
 mod options;
 mod serializer;
 mod tags;
-#[cfg(test)]
-mod tests;
 mod write;
 
 pub use attributes::AttrRef;

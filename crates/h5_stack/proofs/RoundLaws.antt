@@ -1,5 +1,6 @@
 -- What a round of the adoption agency leaves of the stack and the list.
 use Rattle.std.proofs.Common.{◌≡◌, ◌≤◌, ◌⊎◌, inl, inr, ℕ, zero, suc, Bool, true, false, cond, List, [], ◌∷◌, ◌++◌, append_assoc, length, take, filter, Some, None, refl, ap, sym, subst, ◌∙◌, arith}
+use Rattle.std.proofs.lemmas.List.{append-nil}
 use Rattle.std.specs.Prelude.{◌==◌}
 use Rattle.std.proofs.lemmas.Bool.{eqb-true, eq-eqb, ne_eqb}
 use Rattle.h5_token.specs.TokenText.{TagText}
@@ -278,11 +279,7 @@ pub record Spot (a f : ℕ) (t : TagText) (p r : List Entry) : Type 0 where
   pub first : ¬ (IsIn a (nodes_of front))
 
 pub spot_f : (f : ℕ) (t : TagText) (p r : List Entry) → ¬ (IsIn f (nodes_of p)) → Spot f f t p r
-spot_f f t p r out = record { front = p; middle = []; tag = t; rest = r; cut = sym (append_nil p); here = refl; first = out }
-  where
-    append_nil : (l : List Entry) → l ++ [] ≡ l
-    append_nil [] = refl
-    append_nil (e ∷ l) = ap (λ z. e ∷ z) (append_nil l)
+spot_f f t p r out = record { front = p; middle = []; tag = t; rest = r; cut = sym (append-nil p); here = refl; first = out }
 
 pub spot_clone : (a f : ℕ) (t : TagText) (p r : List Entry) → IsIn a (nodes_of p) → Spot a f t p r
 spot_clone a f t p r i =

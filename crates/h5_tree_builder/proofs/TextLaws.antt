@@ -1,6 +1,6 @@
 -- The chain of turns of one run is the text rule on it.
 use Rattle.std.proofs.Common.{◌≡◌, ◌≢◌, ℕ, zero, suc, ◌<◌, true, false, cond, List, [], ◌∷◌, ◌++◌, Some, None, take, drop, refl, ap, sym, ◌∙◌, arith}
-use Rattle.std.proofs.lemmas.List.{take-append-drop}
+use Rattle.std.proofs.lemmas.List.{append-nil, take-append-drop}
 use Rattle.h5_token.specs.declared.sink.TokenSinkResult.TheVariants.{Continue}
 use Rattle.h5_interface.specs.SinkChoices.{SinkChoices}
 use Rattle.h5_types.specs.TurnText.{TextTurn, TurnText}
@@ -23,7 +23,7 @@ use Rattle.h5_meaning.specs.Shared.{in_body_text}
 use Rattle.h5_meaning.specs.Text.{IsRun, by_else, dropped, in_next, if_any, split, text_after_body, text_after_head, text_any, text_before_head, text_before_html, text_in, text_in_body, text_in_head, text_initial, text_rule, is_quiet_text}
 use Rattle.h5_meaning.specs.Run.{is_empty_text, text_step}
 use Rattle.h5_meaning.specs.World.{World}
-use Rattle.h5_meaning.proofs.CutLaws.{append_nil, text_cut}
+use Rattle.h5_meaning.proofs.CutLaws.{text_cut}
 use Rattle.h5_meaning.proofs.SettleLaws.{settle-row}
 use Rattle.h5_tree_builder.specs.Chains.{CameTo}
 
@@ -172,7 +172,7 @@ run_is_quiet choices s [] w some e = absurd (some refl)
 run_is_quiet choices s (b ∷ x) w some e = run_quiet choices b x s w e
 
 then_rest : (choices : SinkChoices) (b : ℕ) (x y : List ℕ) (w v : World) → v ≡ text_rule choices (b ∷ x) w → text_any choices y v ≡ text_rule choices ((b ∷ x) ++ y) w
-then_rest choices b x [] w v e = e ∙ ap (λ z. text_rule choices z w) (sym (append_nil (b ∷ x)))
+then_rest choices b x [] w v e = e ∙ ap (λ z. text_rule choices z w) (sym (append-nil (b ∷ x)))
 then_rest choices b x (d ∷ u) w v e = ap (λ z. text_rule choices (d ∷ u) z) e ∙ sym (text_cut choices b x d u w)
 
 -- after a run, what is left goes on

@@ -1,5 +1,6 @@
 -- A list of tokens, taken one after the other.
 use Rattle.std.proofs.Common.{◌≡◌, ℕ, ◌&&◌, ◌++◌, Bool, true, false, List, [], ◌∷◌, refl, ap, sym, subst, ◌∙◌, append_assoc}
+use Rattle.std.proofs.lemmas.List.{append-nil}
 use Rattle.h5_token.specs.Reply.{Refuses, Reply}
 use Rattle.h5_token.specs.TokenText.{TokenText}
 use Rattle.h5_token.specs.declared.fault.BuildFault.{BuildFault}
@@ -85,15 +86,11 @@ onward_next choices all rest t old now new answers answer r o =
       );
     }
 
-append_none : {A : Type 0} (xs : List A) → xs ++ [] ≡ xs
-append_none [] = refl
-append_none (x ∷ xs) = ap (λ z. x ∷ z) (append_none xs)
-
 -- no token is left
 pub onward_last : (choices : SinkChoices) (all : List TokenText) (old now : Building) (answers : List Reply) → Onward choices all [] old now answers → RanAll choices all old now answers
 unfolding run
 onward_last choices all old now answers o =
-    let told : answers ≡ replies choices all old.view = sym (append_none answers) ∙ o.told in
+    let told : answers ≡ replies choices all old.view = sym (append-nil answers) ∙ o.told in
     let agree = cuts_agree choices all old.view in
     record {
       view = o.view;
