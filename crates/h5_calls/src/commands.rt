@@ -1,5 +1,5 @@
 //! Each outcome of a run of the program.
-use h5_commands::run;
+use h5_commands::{refuse_words, run};
 use std::alloc::{AllocError, Global};
 use std::io::{self, Read, Write};
 use std::process::Abort;
@@ -48,7 +48,7 @@ fn says(
 }
 
 // Commands and their input, and the status and the message with which they end.
-const RUNS: [(&str, &[u8], u8, &str); 6] = [
+const RUNS: &[(&str, &[u8], u8, &str)] = &[
     ("tokens", b"S p\n", 0, ""),
     ("tree", b"<p>", 0, ""),
     ("html", b"<p>", 0, ""),
@@ -64,7 +64,7 @@ const RUNS: [(&str, &[u8], u8, &str); 6] = [
 
 #[test]
 fn runs_end_with_their_status(rt: HostRuntime) -> Result<(), Fail> {
-    for (word, input, status, message) in RUNS {
+    for &(word, input, status, message) in RUNS {
         says(&rt, rt.alloc(), word, input, status, message)?;
     }
     Ok(())
@@ -98,5 +98,17 @@ fn a_broken_writer_is_told(rt: HostRuntime) -> Result<(), Fail> {
     let mut faults = Vec::new(alloc);
     assert!(rt; fails(alloc, words.as_slice(), input, &mut Broken, &mut faults));
     assert_eq!(rt; faults.as_slice(), "h5: cannot write\n".as_bytes());
+    Ok(())
+}
+
+#[test]
+fn words_that_cannot_be_read_are_told(rt: HostRuntime) -> Result<(), Fail> {
+    let mut faults: Vec<u8> = Vec::new(rt.alloc());
+    let no_text = io::Error::from(io::ErrorKind::InvalidData);
+    assert_eq!(rt; refuse_words(&no_text, &mut faults), 2);
+    let no_memory = io::Error::from(io::ErrorKind::OutOfMemory);
+    assert_eq!(rt; refuse_words(&no_memory, &mut faults), 1);
+    let said = "h5: usage: h5 tokens | h5 tree [context] | h5 html\nh5: out of memory\n";
+    assert_eq!(rt; faults.as_slice(), said.as_bytes());
     Ok(())
 }

@@ -35,7 +35,7 @@ fn whole_texts_are_read(rt: HostRuntime) -> Result<(), Fail> {
         (true, "a&gt;\r\n\r\0&x;&am", "a>\n\n\u{fffd}&x;&am"),
         (false, "&gt;\r", "&gt;\n"),
     ];
-    for (references, text, wanted) in rows {
+    for &(references, text, wanted) in &rows {
         assert_eq!(rt; text_of(alloc, references, text)?.as_str(), wanted);
     }
     Ok(())

@@ -22,7 +22,7 @@ fn escapes_are_read(rt: HostRuntime) -> Result<(), Fail> {
 #[test]
 fn bad_escapes_are_refused(rt: HostRuntime) -> Result<(), Fail> {
     let alloc = rt.alloc();
-    for text in ["\\x", "a\\"] {
+    for &text in &["\\x", "a\\"] {
         assert!(rt; read_escapes(alloc, text)?.is_none(), "{text}");
     }
     Ok(())
@@ -62,7 +62,7 @@ fn an_empty_line_is_blank(rt: HostRuntime) -> Result<(), Fail> {
 #[test]
 fn bad_lines_are_refused(rt: HostRuntime) -> Result<(), Fail> {
     let alloc = rt.alloc();
-    for line in ["S ", "S a b", "A", "D ", "N ", "T \\x", "Q x"] {
+    for &line in &["S ", "S a b", "A", "D ", "N ", "T \\x", "Q x"] {
         assert!(rt; parse_line(alloc, line)?.is_none(), "{line}");
     }
     Ok(())

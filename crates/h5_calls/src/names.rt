@@ -95,7 +95,7 @@ fn known_names_are_told_apart(rt: HostRuntime) {
 #[test]
 fn local_names_may_be_known(rt: HostRuntime) -> Result<(), Fail> {
     let alloc = rt.alloc();
-    for (text, known) in [("tbody", KnownName::Tbody), ("tbodies", KnownName::Other)] {
+    for &(text, known) in &[("tbody", KnownName::Tbody), ("tbodies", KnownName::Other)] {
         assert_eq!(rt; LocalName::new(alloc, text)?.known(), known);
     }
     Ok(())
@@ -116,7 +116,7 @@ fn local_names_are_made_of_texts(rt: HostRuntime) -> Result<(), Fail> {
 }
 
 // The names of SVG that have capitals (HTML standard, section 13.2.6.5, "any other start tag").
-const SVG_NAMES: [(&str, &str); 37] = [
+const SVG_NAMES: &[(&str, &str)] = &[
     ("altglyph", "altGlyph"),
     ("altglyphdef", "altGlyphDef"),
     ("altglyphitem", "altGlyphItem"),
@@ -165,7 +165,7 @@ fn is_known_in_either_case(rt: &impl Abort, lower: &str, mixed: &str) {
 
 #[test]
 fn names_of_svg_are_known_in_either_case(rt: HostRuntime) {
-    for (lower, mixed) in SVG_NAMES {
+    for &(lower, mixed) in SVG_NAMES {
         is_known_in_either_case(&rt, lower, mixed);
     }
 }
@@ -253,7 +253,7 @@ fn namespaces_are_those_of_the_standard(rt: HostRuntime) {
         (namespaces::XML, 36),
         (namespaces::XMLNS, 29),
     ];
-    for (text, len) in all {
+    for &(text, len) in &all {
         assert_eq!(rt; text.len(), len, "{text}");
     }
 }

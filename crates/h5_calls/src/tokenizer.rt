@@ -68,7 +68,7 @@ fn put(out: &mut String, token: &Token, line: u64) -> Result<(), AllocError> {
 
 ghost use Rattle.std.specs.Prelude.{◌≡◌};
 ghost use Rattle.h5_token.specs.TokenText.{token_text};
-ghost use Rattle.h5_tokenizer.specs.Logged.{is_start};
+ghost use Rattle.h5_calls.specs.Logged.{is_start};
 
 fn is_start(token: &Token) -> bool
     ensures { result ≡ is_start (token_text token.now) }
@@ -83,7 +83,7 @@ fn is_start(token: &Token) -> bool
 }
 
 impl TokenSink for Log {
-    ghost use Rattle.h5_tokenizer.specs.Logged.{is_start};
+    ghost use Rattle.h5_calls.specs.Logged.{is_start};
     ghost use Rattle.std.specs.Prelude.{Bool, cond, Option, Some, None};
     ghost use Rattle.h5_token.specs.Reply.{Reply, Continues, RunsScript, TurnsRaw};
     ghost use Rattle.h5_token.specs.declared.states.RawKind.{RawKind};
@@ -185,7 +185,7 @@ fn is_read_as(
     text: &str,
     tokens: &str,
 ) -> Result<(), BuildFault> {
-    for whole in [true, false] {
+    for &whole in &[true, false] {
         let mut sink = make_log(alloc);
         sink.foreign = foreign;
         sink.raw = raw;
@@ -196,7 +196,7 @@ fn is_read_as(
 }
 
 // Texts by what stands in them, and what is written down of them.
-const DOCTYPES: [(&str, &str); 5] = [
+const DOCTYPES: &[(&str, &str)] = &[
     ("<!DOCTYPE html>", "D(html,-,-,false)$1"),
     ("<!doctype HTML public 'a' \"b\" >", "D(html,a,b,false)$1"),
     ("<!doctype x system\t'b'>", "D(x,-,b,false)$1"),
@@ -204,7 +204,7 @@ const DOCTYPES: [(&str, &str); 5] = [
     ("<!doctype  >", "D(-,-,-,true)$1"),
 ];
 
-const TAGS: [(&str, &str); 7] = [
+const TAGS: &[(&str, &str)] = &[
     ("<a b=/>", "<a b=/>$1"),
     ("<a b/>", "<a b= />$1"),
     ("<A c='1' C=2 =d=e f = g h>", "<a c=1 =d=e f=g h= !>$1"),
@@ -214,7 +214,7 @@ const TAGS: [(&str, &str); 7] = [
     ("x<a b", "x$1"),
 ];
 
-const TEXTS_AND_COMMENTS: [(&str, &str); 9] = [
+const TEXTS_AND_COMMENTS: &[(&str, &str)] = &[
     ("a<!-- x --><Title>b&amp;c", "aC(1, x )<title>b&c$1"),
     ("\u{feff}x\r\ny\rz\n<!--\r\n-->&am", "x\ny\nz\nC(4,\n)&am$5"),
     ("<!x><?x><1<", "<!x><?x><1<$1"),
@@ -228,7 +228,7 @@ const TEXTS_AND_COMMENTS: [(&str, &str); 9] = [
 
 #[test]
 fn reads_doctypes(rt: HostRuntime) -> Result<(), Fail> {
-    for (text, tokens) in DOCTYPES {
+    for &(text, tokens) in DOCTYPES {
         is_read_as(&rt, rt.alloc(), false, None, text, tokens)?;
     }
     Ok(())
@@ -236,7 +236,7 @@ fn reads_doctypes(rt: HostRuntime) -> Result<(), Fail> {
 
 #[test]
 fn reads_tags(rt: HostRuntime) -> Result<(), Fail> {
-    for (text, tokens) in TAGS {
+    for &(text, tokens) in TAGS {
         is_read_as(&rt, rt.alloc(), false, None, text, tokens)?;
     }
     Ok(())
@@ -244,14 +244,14 @@ fn reads_tags(rt: HostRuntime) -> Result<(), Fail> {
 
 #[test]
 fn reads_texts_and_comments(rt: HostRuntime) -> Result<(), Fail> {
-    for (text, tokens) in TEXTS_AND_COMMENTS {
+    for &(text, tokens) in TEXTS_AND_COMMENTS {
         is_read_as(&rt, rt.alloc(), false, None, text, tokens)?;
     }
     Ok(())
 }
 
 // Elements whose text is raw, and what is written down of them.
-const RAW_TEXTS: [(RawKind, &str, &str); 4] = [
+const RAW_TEXTS: &[(RawKind, &str, &str)] = &[
     (
         RawKind::Rcdata,
         "<t>a</x>&lt;</T b>&gt;",
@@ -268,7 +268,7 @@ const RAW_TEXTS: [(RawKind, &str, &str); 4] = [
 
 #[test]
 fn reads_raw_text(rt: HostRuntime) -> Result<(), Fail> {
-    for (kind, text, tokens) in RAW_TEXTS {
+    for &(kind, text, tokens) in RAW_TEXTS {
         is_read_as(&rt, rt.alloc(), false, Some(kind), text, tokens)?;
     }
     Ok(())
@@ -281,7 +281,7 @@ fn reads_cdata_where_the_sink_says_so(rt: HostRuntime) -> Result<(), Fail> {
         ("<![CDATA[x]]", "x]]$1"),
         ("<![CDAT", "<![CDAT$1"),
     ];
-    for (text, tokens) in rows {
+    for &(text, tokens) in &rows {
         is_read_as(&rt, rt.alloc(), true, None, text, tokens)?;
     }
     Ok(())
@@ -364,7 +364,7 @@ fn first_fault(
     queue: &mut BufferQueue,
     alloc: Global,
 ) -> Option<BuildFault> {
-    for piece in [
+    for &piece in &[
         "a<!-- b",
         " --><c d='e' f>&amp;\r</g><!doctype h public 'i' 'j'>\0k<!-- l",
     ] {

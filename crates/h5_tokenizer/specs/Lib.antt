@@ -7,7 +7,6 @@ pub mod ReaderText
 pub mod Outcome
 pub mod End
 pub mod Options
-pub mod Logged
 pub mod Proper
 pub mod Lines
 pub mod Whole
