@@ -1,9 +1,11 @@
-//! One part of the way from text to text, with a document of its own making: `h5_bench KIND SIZE PART`. With
-//! the word `time` behind these it tells the speed of the part, too.
+//! One part of the way from text to text, with a text of its own making: `h5_bench KIND SIZE PART`. With the word
+//! `time` behind these it tells the time and the speed of the part, too; with a number the reader is fed pieces of so
+//! many bytes.
 #![tactic(auto)]
 
-mod counters;
+mod counter;
 mod parts;
+mod reading;
 mod report;
 mod texts;
 
@@ -17,19 +19,24 @@ fn main(rt: HostRuntime) -> anyhow::Result<()> {
     for word in env::args(&rt)?.skip(1) {
         words.push(word)?;
     }
-    let (kind, size, part, is_timed) = match words.as_slice() {
-        [kind, size, part] => (kind, size, part, false),
-        [kind, size, part, last] if last.as_str() == "time" => (kind, size, part, true),
-        _ => bail!("usage: h5_bench KIND SIZE PART [time]"),
+    let (kind, size, part, last) = match words.as_slice() {
+        [kind, size, part] => (kind, size, part, None),
+        [kind, size, part, last] => (kind, size, part, Some(last.as_str())),
+        _ => bail!("usage: h5_bench KIND SIZE PART [time | BYTES]"),
     };
-    let kind = kind_named(kind.as_str()).context("no such kind of document")?;
+    let (is_timed, piece) = match last {
+        None => (false, usize::MAX),
+        Some("time") => (true, usize::MAX),
+        Some(bytes) => (false, bytes.parse().context("the bytes of a piece")?),
+    };
+    let kind = kind_named(kind.as_str()).context("no such kind of text")?;
     let size: usize = size.as_str().parse().context("the size")?;
-    let part = part_named(part.as_str()).context("no such part")?;
+    let part = part_named(part.as_str(), piece).context("no such part")?;
     let report = run(&rt, kind, size, part)?;
     let (bytes, outcome) = (report.bytes, report.outcome);
     if is_timed {
-        let speed = report.speed();
-        println!(rt; "{bytes} bytes{outcome}, {speed}")?;
+        let (micros, speed) = (report.micros(), report.speed());
+        println!(rt; "{bytes} bytes{outcome}, {micros} us, {speed}")?;
     } else {
         println!(rt; "{bytes} bytes{outcome}")?;
     }

@@ -1,13 +1,14 @@
 //! The parts of the way from text to text, each with the processor time that it took.
-use super::counters::{ByteCounter, TokenCounter};
+use super::counter::ByteCounter;
+use super::reading::count_tokens;
 use super::report::{Outcome, Report};
-use super::texts::{Kind, make_text};
+use super::texts::{Kind, answer_for, make_text};
 use anyhow::ensure;
 use h5_arena::Arena;
 use h5_driver::{ParseOpts, parse_document};
 use h5_serialize::{SerializeFault, SerializeOpts, serialize};
+use h5_takers::Answer;
 use h5_token::BuildFault;
-use h5_tokenizer::{BufferQueue, Tokenizer, TokenizerOpts};
 use std::alloc::Global;
 use std::io;
 use std::time::{CpuClock, Duration};
@@ -17,8 +18,8 @@ use std::time::{CpuClock, Duration};
 pub enum Part {
     /// The text is made and nothing is done with it.
     Make,
-    /// The reader alone, over a sink that counts.
-    Read,
+    /// The reader alone, over a taker that counts, in pieces of so many bytes.
+    Read(usize),
     /// The reader, the tree builder and the arena.
     Build,
     /// Builds the tree, and then writes it; the time is that of the writing.
@@ -27,26 +28,16 @@ pub enum Part {
     Html,
 }
 
-/// The part of this name.
-pub fn part_named(name: &str) -> Option<Part> {
+/// The part of this name; the reader's pieces are of so many bytes.
+pub fn part_named(name: &str, piece: usize) -> Option<Part> {
     match name {
         "make" => Some(Part::Make),
-        "read" => Some(Part::Read),
+        "read" => Some(Part::Read(piece)),
         "build" => Some(Part::Build),
         "serialize" => Some(Part::Serialize),
         "html" => Some(Part::Html),
         _ => None,
     }
-}
-
-fn count_tokens(alloc: Global, text: &str) -> Result<u64, BuildFault> {
-    let sink = TokenCounter { tokens: 0 };
-    let mut reader = Tokenizer::new(alloc, sink, TokenizerOpts::default());
-    let mut queue = BufferQueue::new(alloc);
-    queue.push_back(String::from_str(alloc, text)?)?;
-    let _ = reader.feed(&mut queue)?;
-    reader.end()?;
-    Ok(reader.sink.tokens)
 }
 
 fn build(alloc: Global, text: &str) -> Result<Arena, BuildFault> {
@@ -79,9 +70,14 @@ fn time_since(rt: &impl CpuClock, start: Duration) -> io::Result<Duration> {
     Ok(rt.thread_cpu_time()?.saturating_sub(start))
 }
 
-fn run_read<R: AllocGlobal + CpuClock>(rt: &R, text: &str) -> anyhow::Result<(Outcome, Duration)> {
+fn run_read<R: AllocGlobal + CpuClock>(
+    rt: &R,
+    text: &str,
+    piece: usize,
+    answer: Answer,
+) -> anyhow::Result<(Outcome, Duration)> {
     let start = rt.thread_cpu_time()?;
-    let tokens = count_tokens(rt.alloc(), text)?;
+    let tokens = count_tokens(rt.alloc(), text, piece.max(1), answer)?;
     Ok((Outcome::Read { tokens }, time_since(rt, start)?))
 }
 
@@ -125,7 +121,7 @@ pub fn run<R: AllocGlobal + CpuClock>(
     let made = time_since(rt, start)?;
     let (outcome, took) = match part {
         Part::Make => (Outcome::Made, made),
-        Part::Read => run_read(rt, text.as_str())?,
+        Part::Read(piece) => run_read(rt, text.as_str(), piece, answer_for(kind))?,
         Part::Build => run_build(rt, text.as_str())?,
         Part::Serialize => run_serialize(rt, text.as_str())?,
         Part::Html => run_html(rt, text.as_str())?,

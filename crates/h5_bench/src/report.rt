@@ -50,6 +50,11 @@ impl fmt::Display for Speed {
 }
 
 impl Report {
+    /// The time, in microseconds.
+    pub fn micros(&self) -> u128 {
+        self.took.as_micros()
+    }
+
     pub fn speed(&self) -> Speed {
         Speed {
             tenths: self.bytes as u128 * 10_000 / self.took.as_nanos().max(1),

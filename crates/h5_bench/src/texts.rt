@@ -1,13 +1,41 @@
-//! Documents of two kinds, of a size that is chosen.
+//! Texts of several kinds, of a size that is chosen.
+use h5_takers::Answer;
+use h5_token::states::RawKind;
 use std::alloc::{AllocError, Global};
+use std::fmt::Write;
 
-/// What a document is.
+/// What a text is. Its size is the number of its parts, where this says "so many", and else about the number of its
+/// bytes.
 #[derive(Clone, Copy)]
 pub enum Kind {
-    /// Parts of a page, one after the other, of about so many bytes.
+    /// Parts of a page, one after the other.
     Flat,
     /// So many `div`, each in the next.
     Nest,
+    /// Tags, texts, references and comments, as in a page.
+    Page,
+    /// One long comment.
+    Comment,
+    /// A tag with one long value.
+    Value,
+    /// The long text of one raw element.
+    Raw,
+    /// One long doctype.
+    Doctype,
+    /// `&`s and nothing else.
+    Ampersands,
+    /// Tags behind each of which the reader is to stop.
+    Scripts,
+    /// A raw element of a long name, which half of the text is.
+    Name,
+    /// One tag of so many attributes, each of another name.
+    Attributes,
+    /// So many `<b>`, and then so many `</body>`.
+    BodyEnds,
+    /// So many `<x-x>`, and then so many `</body>z`.
+    BrokenBodyEnds,
+    /// So many `<x-x>`, and then so many `</y-y>`.
+    Strangers,
 }
 
 const FLAT_FRONT: &str = "<!DOCTYPE html>\n<html><head></head><body>\n";
@@ -35,41 +63,117 @@ officia deserunt mollit anim id est laborum.</p>
 
 const FLAT_BACK: &str = "</body></html>\n";
 
+const PARAGRAPH: &str = "<div class=\"row\" id=r7>
+  <p>Lorem ipsum dolor sit amet, <a href='/find?q=1&amp;p=2'>consectetur</a> adipiscing elit &mdash; sed do \
+<b>eiusmod</b> &lt;tempor&gt;.</p>
+  <!-- a note -->
+  <img src=\"x.png\" alt=\"an image\"/>
+</div>
+";
+
 /// The kind of this name.
 pub fn kind_named(name: &str) -> Option<Kind> {
     match name {
         "flat" => Some(Kind::Flat),
         "nest" => Some(Kind::Nest),
+        "page" => Some(Kind::Page),
+        "comment" => Some(Kind::Comment),
+        "value" => Some(Kind::Value),
+        "raw" => Some(Kind::Raw),
+        "doctype" => Some(Kind::Doctype),
+        "ampersands" => Some(Kind::Ampersands),
+        "scripts" => Some(Kind::Scripts),
+        "name" => Some(Kind::Name),
+        "attributes" => Some(Kind::Attributes),
+        "body-ends" => Some(Kind::BodyEnds),
+        "broken-body-ends" => Some(Kind::BrokenBodyEnds),
+        "strangers" => Some(Kind::Strangers),
         _ => None,
     }
 }
 
-// A text, so many times, at the end of another.
-fn push_times(text: &mut String, part: &str, count: usize) -> Result<(), AllocError> {
+/// What the reader, alone, is to be answered to the text's start tags.
+pub fn answer_for(kind: Kind) -> Answer {
+    match kind {
+        Kind::Raw | Kind::Name => Answer::TurnsRaw(RawKind::ScriptData),
+        Kind::Scripts => Answer::Stops,
+        _ => Answer::ReadsOn,
+    }
+}
+
+// A front, a part so many times, and a back.
+fn repeated(
+    alloc: Global,
+    front: &str,
+    part: &str,
+    back: &str,
+    count: usize,
+) -> Result<String, AllocError> {
+    let mut text = String::from_str(alloc, front)?;
     for _ in 0..count {
         text.push_str(part)?;
     }
-    Ok(())
-}
-
-fn make_flat(alloc: Global, length: usize) -> Result<String, AllocError> {
-    let mut text = String::from_str(alloc, FLAT_FRONT)?;
-    push_times(&mut text, FLAT_PART, length / FLAT_PART.len().max(1))?;
-    text.push_str(FLAT_BACK)?;
+    text.push_str(back)?;
     Ok(text)
 }
 
-fn make_nest(alloc: Global, count: usize) -> Result<String, AllocError> {
-    let mut text = String::from_str(alloc, "<!DOCTYPE html>")?;
-    push_times(&mut text, "<div>", count)?;
-    push_times(&mut text, "</div>", count)?;
+// The same, of about so many bytes.
+fn filled(
+    alloc: Global,
+    front: &str,
+    part: &str,
+    back: &str,
+    length: usize,
+) -> Result<String, AllocError> {
+    repeated(alloc, front, part, back, length / part.len().max(1))
+}
+
+// A part, and then another, each so many times.
+fn doubled(
+    alloc: Global,
+    front: &str,
+    part: &str,
+    other: &str,
+    count: usize,
+) -> Result<String, AllocError> {
+    let mut text = repeated(alloc, front, part, "", count)?;
+    let back = repeated(alloc, "", other, "", count)?;
+    text.push_str(back.as_str())?;
     Ok(text)
 }
 
-/// A document of this kind and size.
+fn with_attributes(alloc: Global, count: usize) -> Result<String, AllocError> {
+    let mut text = String::from_str(alloc, "<a")?;
+    for number in 0..count {
+        write!(&mut text, " a{number}=1")?;
+    }
+    text.push_str(">")?;
+    Ok(text)
+}
+
+fn with_name(alloc: Global, length: usize) -> Result<String, AllocError> {
+    let mut text = filled(alloc, "<", "a", ">", length / 2)?;
+    let end = filled(alloc, "</", "a", ">", length / 2)?;
+    text.push_str(end.as_str())?;
+    Ok(text)
+}
+
+/// A text of this kind and size.
 pub fn make_text(alloc: Global, kind: Kind, size: usize) -> Result<String, AllocError> {
     match kind {
-        Kind::Flat => make_flat(alloc, size),
-        Kind::Nest => make_nest(alloc, size),
+        Kind::Flat => filled(alloc, FLAT_FRONT, FLAT_PART, FLAT_BACK, size),
+        Kind::Nest => doubled(alloc, "<!DOCTYPE html>", "<div>", "</div>", size),
+        Kind::Page => filled(alloc, "<!DOCTYPE html>\n", PARAGRAPH, "", size),
+        Kind::Comment => filled(alloc, "<!--", "x", "-->", size),
+        Kind::Value => filled(alloc, "<a b=\"", "x", "\">", size),
+        Kind::Raw => filled(alloc, "<script>", "if (a < b) c();\n", "</script>", size),
+        Kind::Doctype => filled(alloc, "<!DOCTYPE ", "x", ">", size),
+        Kind::Ampersands => filled(alloc, "", "&", "", size),
+        Kind::Scripts => filled(alloc, "", "<script></script>", "", size),
+        Kind::Name => with_name(alloc, size),
+        Kind::Attributes => with_attributes(alloc, size),
+        Kind::BodyEnds => doubled(alloc, "", "<b>", "</body>", size),
+        Kind::BrokenBodyEnds => doubled(alloc, "", "<x-x>", "</body>z", size),
+        Kind::Strangers => doubled(alloc, "", "<x-x>", "</y-y>", size),
     }
 }

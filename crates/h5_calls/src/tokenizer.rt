@@ -1,149 +1,16 @@
 //! What the reader hands on, over a sink that writes it down.
+use h5_takers::{Answer, Recorder};
+use h5_token::BuildFault;
 use h5_token::states::RawKind;
-use h5_token::{BuildFault, Doctype, Tag, TagKind, Token, TokenSink, TokenSinkResult};
 use h5_tokenizer::{BufferQueue, Tokenizer, TokenizerOpts, TokenizerResult, laws};
 use std::alloc::{AllocError, Global};
-use std::fmt::Write;
 use std::process::Abort;
 use std::test::Fail;
-
-/// Writes down what it is handed. To a start tag it answers as it is told, to all else `Continue`.
-#[derive(Drop)]
-struct Log {
-    text: String,
-    foreign: bool,
-    script: bool,
-    raw: Option<RawKind>,
-}
-
-fn part(text: &Option<String>) -> &str {
-    match text {
-        Some(text) => text.as_str(),
-        None => "-",
-    }
-}
-
-fn put_doctype(out: &mut String, doctype: &Doctype) -> Result<(), AllocError> {
-    let name = part(&doctype.name);
-    let public = part(&doctype.public_id);
-    let system = part(&doctype.system_id);
-    let quirks = doctype.force_quirks;
-    write!(out, "D({name},{public},{system},{quirks})")
-}
-
-fn put_tag(out: &mut String, tag: &Tag) -> Result<(), AllocError> {
-    out.push_str(match tag.kind {
-        TagKind::StartTag => "<",
-        TagKind::EndTag => "</",
-    })?;
-    out.push_str(tag.name.as_str())?;
-    for attribute in &tag.attrs {
-        let name = attribute.name.local.as_str();
-        let value = attribute.value.as_str();
-        write!(out, " {name}={value}")?;
-    }
-    if tag.self_closing {
-        out.push_str(" /")?;
-    }
-    if tag.had_duplicate_attributes {
-        out.push_str(" !")?;
-    }
-    out.push_str(">")
-}
-
-fn put(out: &mut String, token: &Token, line: u64) -> Result<(), AllocError> {
-    match token {
-        Token::DoctypeToken(doctype) => put_doctype(out, doctype),
-        Token::TagToken(tag) => put_tag(out, tag),
-        Token::CommentToken(text) => {
-            let text = text.as_str();
-            write!(out, "C({line},{text})")
-        }
-        Token::CharacterTokens(text) => out.push_str(text.as_str()),
-        Token::NullCharacterToken => out.push_str("[0]"),
-        Token::EOFToken => write!(out, "${line}"),
-        Token::ParseError(_) => out.push_str("[error]"),
-    }
-}
-
-ghost use Rattle.std.specs.Prelude.{◌≡◌};
-ghost use Rattle.h5_token.specs.TokenText.{token_text};
-ghost use Rattle.h5_calls.specs.Logged.{is_start};
-
-fn is_start(token: &Token) -> bool
-    ensures { result ≡ is_start (token_text token.now) }
-{
-    match token {
-        Token::TagToken(tag) => match tag.kind {
-            TagKind::StartTag => true,
-            TagKind::EndTag => false,
-        },
-        _ => false,
-    }
-}
-
-impl TokenSink for Log {
-    ghost use Rattle.h5_calls.specs.Logged.{is_start};
-    ghost use Rattle.std.specs.Prelude.{Bool, cond, Option, Some, None};
-    ghost use Rattle.h5_token.specs.Reply.{Reply, Continues, RunsScript, TurnsRaw};
-    ghost use Rattle.h5_token.specs.declared.states.RawKind.{RawKind};
-
-    type Handle = u8;
-
-    ghost Meaning = { Bool × Bool × Option RawKind };
-
-    ghost meaning = { λ log. (log.foreign, log.script, log.raw) };
-
-    ghost node = { λ handle. handle };
-
-    ghost reply_to = { λ m t. cond (is_start t) (elim (m.2) as (λ _. Reply) [ None ↦ cond m.1 (RunsScript 7) Continues | Some kind ↦ TurnsRaw kind ]) Continues };
-
-    ghost after = { λ m t. m };
-
-    ghost ended = { λ m. m };
-
-    ghost is_foreign = { λ m. m.0 };
-
-    fn process_token(
-        &mut self,
-        token: Token,
-        line_number: u64,
-    ) -> Result<TokenSinkResult<u8>, BuildFault> {
-        put(&mut self.text, &token, line_number)?;
-        let is_start = is_start(&token);
-        drop(token);
-        if !is_start {
-            return Ok(TokenSinkResult::Continue);
-        }
-        if let Some(kind) = self.raw {
-            return Ok(TokenSinkResult::RawData(kind));
-        }
-        if self.script {
-            return Ok(TokenSinkResult::Script(7));
-        }
-        Ok(TokenSinkResult::Continue)
-    }
-
-    fn end(&mut self) {}
-
-    fn adjusted_current_node_present_but_not_in_html_namespace(&self) -> bool {
-        self.foreign
-    }
-}
-
-fn make_log(alloc: Global) -> Log {
-    Log {
-        text: String::new(alloc),
-        foreign: false,
-        script: false,
-        raw: None,
-    }
-}
 
 // Feeds a text at once, or character by character, and then the end.
 fn feed(
     alloc: Global,
-    reader: &mut Tokenizer<Log>,
+    reader: &mut Tokenizer<Recorder>,
     text: &str,
     whole: bool,
 ) -> Result<(), BuildFault> {
@@ -159,7 +26,7 @@ fn feed(
 }
 
 fn feed_piece(
-    reader: &mut Tokenizer<Log>,
+    reader: &mut Tokenizer<Recorder>,
     queue: &mut BufferQueue,
     piece: String,
 ) -> Result<(), BuildFault> {
@@ -169,120 +36,126 @@ fn feed_piece(
 }
 
 // What is written down of a text that is fed at once, or character by character.
-fn read(alloc: Global, sink: Log, text: &str, whole: bool) -> Result<String, BuildFault> {
+fn read(alloc: Global, sink: Recorder, text: &str, whole: bool) -> Result<Recorder, BuildFault> {
     let mut reader = Tokenizer::new(alloc, sink, TokenizerOpts::default());
     feed(alloc, &mut reader, text, whole)?;
     let Tokenizer { sink, .. } = reader;
-    Ok(sink.text)
+    Ok(sink)
 }
 
-// What is written down of a text, be it fed at once or character by character.
+/// A text, what is written down of it, and the lines of the tokens in it that are no texts.
+type Row = (&'static str, &'static str, &'static str);
+
+// Whether that is written down of a text, be it fed at once or character by character.
 fn is_read_as(
     rt: &impl Abort,
     alloc: Global,
     foreign: bool,
-    raw: Option<RawKind>,
-    text: &str,
-    tokens: &str,
+    answer: Answer,
+    (text, tokens, lines): Row,
 ) -> Result<(), BuildFault> {
     for &whole in &[true, false] {
-        let mut sink = make_log(alloc);
-        sink.foreign = foreign;
-        sink.raw = raw;
-        let found = read(alloc, sink, text, whole)?;
-        assert_eq!(rt; found.as_str(), tokens, "{text}, at once: {whole}");
+        let found = read(alloc, Recorder::new(alloc, foreign, answer), text, whole)?;
+        assert_eq!(rt; found.text.as_str(), tokens, "{text}, at once: {whole}");
+        assert_eq!(rt; found.lines.as_str(), lines, "{text}, at once: {whole}");
     }
     Ok(())
 }
 
-// Texts by what stands in them, and what is written down of them.
-const DOCTYPES: &[(&str, &str)] = &[
-    ("<!DOCTYPE html>", "D(html,-,-,false)$1"),
-    ("<!doctype HTML public 'a' \"b\" >", "D(html,a,b,false)$1"),
-    ("<!doctype x system\t'b'>", "D(x,-,b,false)$1"),
-    ("<!doctype x system>", "D(x,-,-,true)$1"),
-    ("<!doctype  >", "D(-,-,-,true)$1"),
+const DOCTYPES: &[Row] = &[
+    ("<!DOCTYPE html>", "D(html,-,-,false)$", " 1 1"),
+    ("<!doctype HTML public 'a' \"b\" >", "D(html,a,b,false)$", " 1 1"),
+    ("<!doctype x system\t'b'>", "D(x,-,b,false)$", " 1 1"),
+    ("<!doctype x\n system>\n", "D(x,-,-,true)\n$", " 1 3"),
+    ("<!doctype  >", "D(-,-,-,true)$", " 1 1"),
 ];
 
-const TAGS: &[(&str, &str)] = &[
-    ("<a b=/>", "<a b=/>$1"),
-    ("<a b/>", "<a b= />$1"),
-    ("<A c='1' C=2 =d=e f = g h>", "<a c=1 =d=e f=g h= !>$1"),
-    ("<a b='>' c=\"&lt;\r\n\"/>", "<a b=> c=<\n />$2"),
-    ("</p a=b/>x</1>", "</p>x</1>$1"),
-    ("a\0<b \0=\0>", "a[0]<b \u{fffd}=\u{fffd}>$1"),
-    ("x<a b", "x$1"),
+const TAGS: &[Row] = &[
+    ("<a b=/>", "<a b=/>$", " 1 1"),
+    ("<a b/>", "<a b= />$", " 1 1"),
+    ("<A c='1' C=2 =d=e f = g h>", "<a c=1 =d=e f=g h= !>$", " 1 1"),
+    ("\n<a b='>' c=\"&lt;\r\n\"/>", "\n<a b=> c=<\n />$", " 2 3"),
+    ("</p a=b/>x</1>", "</p>x</1>$", " 1 1"),
+    ("a\0<b \0=\0>", "a[0]<b \u{fffd}=\u{fffd}>$", " 1 1 1"),
+    ("x<a b", "x$", " 1"),
 ];
 
-const TEXTS_AND_COMMENTS: &[(&str, &str)] = &[
-    ("a<!-- x --><Title>b&amp;c", "aC(1, x )<title>b&c$1"),
-    ("\u{feff}x\r\ny\rz\n<!--\r\n-->&am", "x\ny\nz\nC(4,\n)&am$5"),
-    ("<!x><?x><1<", "<!x><?x><1<$1"),
-    ("x<!doctype a", "x$1"),
-    ("x<!-- y --", "xC(1, y --)$1"),
-    ("<!---->", "C(1,)$1"),
-    ("<!--->-->", "C(1,->)$1"),
-    ("<![CDATA[x]]>", "<![CDATA[x]]>$1"),
-    ("\r", "\n$2"),
+const TEXTS_AND_COMMENTS: &[Row] = &[
+    ("a<!-- x --><Title>b&amp;c", "aC( x )<title>b&c$", " 1 1 1"),
+    ("\u{feff}x\r\ny\rz\n<!--\r\n-->&am", "x\ny\nz\nC(\n)&am$", " 4 5"),
+    ("<!x><?x><1<", "<!x><?x><1<$", " 1"),
+    ("x<!doctype a", "x$", " 1"),
+    ("x<!-- y --", "xC( y --)$", " 1 1"),
+    ("<!---->", "C()$", " 1 1"),
+    ("<!--->-->", "C(->)$", " 1 1"),
+    ("<![CDATA[x]]>", "<![CDATA[x]]>$", " 1"),
+    ("\r", "\n$", " 2"),
 ];
 
 #[test]
 fn reads_doctypes(rt: HostRuntime) -> Result<(), Fail> {
-    for &(text, tokens) in DOCTYPES {
-        is_read_as(&rt, rt.alloc(), false, None, text, tokens)?;
+    for &row in DOCTYPES {
+        is_read_as(&rt, rt.alloc(), false, Answer::ReadsOn, row)?;
     }
     Ok(())
 }
 
 #[test]
 fn reads_tags(rt: HostRuntime) -> Result<(), Fail> {
-    for &(text, tokens) in TAGS {
-        is_read_as(&rt, rt.alloc(), false, None, text, tokens)?;
+    for &row in TAGS {
+        is_read_as(&rt, rt.alloc(), false, Answer::ReadsOn, row)?;
     }
     Ok(())
 }
 
 #[test]
 fn reads_texts_and_comments(rt: HostRuntime) -> Result<(), Fail> {
-    for &(text, tokens) in TEXTS_AND_COMMENTS {
-        is_read_as(&rt, rt.alloc(), false, None, text, tokens)?;
+    for &row in TEXTS_AND_COMMENTS {
+        is_read_as(&rt, rt.alloc(), false, Answer::ReadsOn, row)?;
     }
     Ok(())
 }
 
-// Elements whose text is raw, and what is written down of them.
-const RAW_TEXTS: &[(RawKind, &str, &str)] = &[
+// Elements whose text is raw.
+const RAW_TEXTS: &[(RawKind, Row)] = &[
     (
         RawKind::Rcdata,
-        "<t>a</x>&lt;</T b>&gt;",
-        "<t>a</x><</t>>$1",
+        ("<t>a</x>&lt;</T b>&gt;", "<t>a</x><</t>>$", " 1 1 1"),
     ),
     (
         RawKind::Rawtext,
-        "<t>&lt;<!--\0</t/>&gt;",
-        "<t>&lt;<!--\u{fffd}</t>>$1",
+        (
+            "<t>&lt;<!--\0</t/>&gt;",
+            "<t>&lt;<!--\u{fffd}</t>>$",
+            " 1 1 1",
+        ),
     ),
-    (RawKind::ScriptData, "<t></tt></t", "<t></tt></t$1"),
-    (RawKind::ScriptData, "<t>x</t ", "<t>x$1"),
+    (RawKind::ScriptData, ("<t></tt></t", "<t></tt></t$", " 1 1")),
+    (RawKind::ScriptData, ("<t>\rx</t ", "<t>\nx$", " 1 2")),
 ];
 
 #[test]
 fn reads_raw_text(rt: HostRuntime) -> Result<(), Fail> {
-    for &(kind, text, tokens) in RAW_TEXTS {
-        is_read_as(&rt, rt.alloc(), false, Some(kind), text, tokens)?;
+    for &(kind, row) in RAW_TEXTS {
+        is_read_as(&rt, rt.alloc(), false, Answer::TurnsRaw(kind), row)?;
     }
     Ok(())
 }
 
+const CDATA: &[Row] = &[
+    (
+        "a<![CDATA[<b>&amp;\0]]]>c",
+        "a<b>&amp;\u{fffd}]c$",
+        " 1",
+    ),
+    ("<![CDATA[x]]", "x]]$", " 1"),
+    ("<![CDAT", "<![CDAT$", " 1"),
+];
+
 #[test]
 fn reads_cdata_where_the_sink_says_so(rt: HostRuntime) -> Result<(), Fail> {
-    let rows = [
-        ("a<![CDATA[<b>&amp;\0]]]>c", "a<b>&amp;\u{fffd}]c$1"),
-        ("<![CDATA[x]]", "x]]$1"),
-        ("<![CDAT", "<![CDAT$1"),
-    ];
-    for &(text, tokens) in &rows {
-        is_read_as(&rt, rt.alloc(), true, None, text, tokens)?;
+    for &row in CDATA {
+        is_read_as(&rt, rt.alloc(), true, Answer::ReadsOn, row)?;
     }
     Ok(())
 }
@@ -295,7 +168,7 @@ fn options_are_cloned(rt: HostRuntime) -> Result<(), Fail> {
 
 fn stops(
     rt: &impl Abort,
-    reader: &mut Tokenizer<Log>,
+    reader: &mut Tokenizer<Recorder>,
     queue: &mut BufferQueue,
 ) -> Result<(), BuildFault> {
     let stopped = match reader.feed(queue)? {
@@ -310,7 +183,7 @@ fn stops(
 
 fn goes_on(
     rt: &impl Abort,
-    reader: &mut Tokenizer<Log>,
+    reader: &mut Tokenizer<Recorder>,
     queue: &mut BufferQueue,
 ) -> Result<(), BuildFault> {
     assert!(rt; matches!(reader.feed(queue)?, TokenizerResult::Done));
@@ -318,22 +191,21 @@ fn goes_on(
     Ok(())
 }
 
-fn ends(rt: &impl Abort, reader: &mut Tokenizer<Log>) -> Result<(), BuildFault> {
+fn ends(rt: &impl Abort, reader: &mut Tokenizer<Recorder>) -> Result<(), BuildFault> {
     reader.end()?;
-    assert_eq!(rt; reader.sink.text.as_str(), "a<s>b</s>$1");
+    assert_eq!(rt; reader.sink.text.as_str(), "a<s>b</s>$");
     assert_eq!(rt; reader.end().err(), Some(BuildFault::AfterEnd));
     Ok(())
 }
 
-fn script_reader(alloc: Global) -> Tokenizer<Log> {
-    let mut sink = make_log(alloc);
-    sink.script = true;
+fn script_reader(alloc: Global) -> Tokenizer<Recorder> {
+    let sink = Recorder::new(alloc, false, Answer::Stops);
     Tokenizer::new(alloc, sink, TokenizerOpts::default())
 }
 
 fn reads_in_two(
     rt: &impl Abort,
-    reader: &mut Tokenizer<Log>,
+    reader: &mut Tokenizer<Recorder>,
     queue: &mut BufferQueue,
 ) -> Result<(), BuildFault> {
     stops(rt, reader, queue)?;
@@ -360,7 +232,7 @@ fn queued(alloc: Global, queue: &mut BufferQueue, piece: &str) -> Result<(), All
 
 // Feeds both pieces and the end, and gives the first fault of the reader.
 fn first_fault(
-    reader: &mut Tokenizer<Log>,
+    reader: &mut Tokenizer<Recorder>,
     queue: &mut BufferQueue,
     alloc: Global,
 ) -> Option<BuildFault> {
@@ -378,7 +250,7 @@ fn first_fault(
     reader.end().err()
 }
 
-fn has_failed(rt: &impl Abort, reader: &mut Tokenizer<Log>, queue: &mut BufferQueue) {
+fn has_failed(rt: &impl Abort, reader: &mut Tokenizer<Recorder>, queue: &mut BufferQueue) {
     assert!(rt; matches!(reader.feed(queue), Err(BuildFault::Failed)));
     assert_eq!(rt; reader.end().err(), Some(BuildFault::Failed));
 }
@@ -386,7 +258,8 @@ fn has_failed(rt: &impl Abort, reader: &mut Tokenizer<Log>, queue: &mut BufferQu
 #[test]
 fn refused_memory_is_told_and_then_the_reader_has_failed(rt: HostRuntime) {
     let alloc = rt.alloc();
-    let mut reader = Tokenizer::new(alloc, make_log(alloc), TokenizerOpts::default());
+    let sink = Recorder::new(alloc, false, Answer::ReadsOn);
+    let mut reader = Tokenizer::new(alloc, sink, TokenizerOpts::default());
     let mut queue = BufferQueue::new(alloc);
     if let Some(fault) = first_fault(&mut reader, &mut queue, alloc) {
         assert_eq!(rt; fault, BuildFault::Memory);
@@ -394,26 +267,26 @@ fn refused_memory_is_told_and_then_the_reader_has_failed(rt: HostRuntime) {
     }
 }
 
-/// Sees all that the log means.
+/// Sees all that the recorder means.
 struct SeesAll;
 
 impl laws::Likeness for SeesAll {
-    ghost use Rattle.std.specs.Prelude.{◌≡◌, Bool, Option};
-    ghost use Rattle.h5_token.specs.declared.states.RawKind.{RawKind};
+    ghost use Rattle.std.specs.Prelude.{◌≡◌};
+    ghost use Rattle.h5_takers.specs.Answers.{Wishes};
 
-    ghost Seen = { Bool × Bool × Option RawKind };
+    ghost Seen = { Wishes };
 
     ghost alike = { λ m n. m ≡ n };
 }
 
 #[test]
 fn laws_are_of_every_sink() {
-    laws::no_errors_and_no_empty_texts::<Log>();
-    laws::reading_goes_on::<Log>();
-    laws::readings_join::<Log>();
-    laws::pieces_join::<Log>();
-    laws::feeds_join::<Log>();
+    laws::no_errors_and_no_empty_texts::<Recorder>();
+    laws::reading_goes_on::<Recorder>();
+    laws::readings_join::<Recorder>();
+    laws::pieces_join::<Recorder>();
+    laws::feeds_join::<Recorder>();
     laws::nothing_is_undecided();
-    laws::the_end_ends_readings::<Log>();
-    laws::cuts_of_the_input_agree::<Log, SeesAll>();
+    laws::the_end_ends_readings::<Recorder>();
+    laws::cuts_of_the_input_agree::<Recorder, SeesAll>();
 }

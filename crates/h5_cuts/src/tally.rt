@@ -1,6 +1,6 @@
 //! Readings of whole families of texts, and how many there were.
 use super::families::{ALPHABET, Family};
-use super::reading::{Setting, read};
+use super::reading::{Setting, agree, read};
 use h5_token::BuildFault;
 use std::alloc::{AllocError, Global};
 
@@ -56,7 +56,7 @@ impl Tally {
         for cuts in 0..power(2, last) {
             let found = read(alloc, setting, text, cuts.wrapping_mul(first))?;
             self.cuts = self.cuts.saturating_add(1);
-            if found.as_str() != whole.as_str() {
+            if !agree(&found, &whole) {
                 return Ok(false);
             }
         }

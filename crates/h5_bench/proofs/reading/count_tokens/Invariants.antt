@@ -1,7 +1,7 @@
 use Rattle.std.proofs.Common.{length}
 use denote.Text.{Utf8}
 use denote.Shadow.{shadow}
-use Rattle.h5_reader_bench.proofs.reading.count_tokens.Given as goal
+use Rattle.h5_bench.proofs.reading.count_tokens.Given as goal
 
 abbrev pub invariant-loop-rest : goal.invariant-loop-rest
 invariant-loop-rest l = shadow (Utf8 l.rest)

@@ -1,6 +1,6 @@
 //! The texts that are read: a beginning, and behind it every short text over a few characters.
 use super::reading::Setting;
-use super::sink::Answer;
+use h5_takers::Answer;
 use h5_token::states::{RawKind, State};
 
 /// The characters of the texts behind a beginning: those that begin, end or part a construct, and a letter.
@@ -40,7 +40,7 @@ const STOPS: Setting = Setting {
 const TURNS_RAW: Setting = Setting {
     state: None,
     foreign: false,
-    answer: Answer::TurnsRaw,
+    answer: Answer::TurnsRaw(RawKind::Rcdata),
 };
 
 const RCDATA: Setting = Setting {

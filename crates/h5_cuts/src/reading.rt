@@ -1,5 +1,5 @@
 //! Readings of one text, cut at chosen places.
-use super::sink::{Answer, Recorder};
+use h5_takers::{Answer, Recorder};
 use h5_token::states::State;
 use h5_token::{BuildFault, TokenSink};
 use h5_tokenizer::{BufferQueue, Tokenizer, TokenizerOpts, TokenizerResult};
@@ -20,15 +20,6 @@ fn make_options(alloc: Global, setting: Setting) -> Result<TokenizerOpts, AllocE
         initial_state: setting.state,
         last_start_tag_name: Some(String::from_str(alloc, "a")?),
     })
-}
-
-fn make_sink(alloc: Global, setting: Setting) -> Recorder {
-    Recorder {
-        written: String::new(alloc),
-        after_text: false,
-        foreign: setting.foreign,
-        answer: setting.answer,
-    }
 }
 
 // Feeds a piece, and again where the sink's answer stopped the reader.
@@ -53,12 +44,9 @@ pub fn read(
     setting: Setting,
     text: &[char],
     cuts: usize,
-) -> Result<String, BuildFault> {
-    let mut reader = Tokenizer::new(
-        alloc,
-        make_sink(alloc, setting),
-        make_options(alloc, setting)?,
-    );
+) -> Result<Recorder, BuildFault> {
+    let sink = Recorder::new(alloc, setting.foreign, setting.answer);
+    let mut reader = Tokenizer::new(alloc, sink, make_options(alloc, setting)?);
     let mut queue = BufferQueue::new(alloc);
     let mut piece = String::new(alloc);
     let mut bits = cuts;
@@ -73,5 +61,10 @@ pub fn read(
     feed(&mut reader, &mut queue, piece)?;
     reader.end()?;
     let Tokenizer { sink, .. } = reader;
-    Ok(sink.written)
+    Ok(sink)
+}
+
+/// Whether two readings wrote down the same.
+pub fn agree(one: &Recorder, other: &Recorder) -> bool {
+    one.text.as_str() == other.text.as_str() && one.lines.as_str() == other.lines.as_str()
 }

@@ -1,12 +1,12 @@
 //! A reading of a text in pieces of one size.
 ghost use Rattle.std.specs.Prelude.{◌<◌};
 
-use super::sink::{Answer, Counter};
+use h5_takers::{Answer, Counter};
 use h5_token::{BuildFault, TokenSink};
 use h5_tokenizer::{BufferQueue, Tokenizer, TokenizerOpts, TokenizerResult};
 use std::alloc::Global;
 
-// Feeds a piece, and again where the sink's answer stopped the reader.
+// Feeds a piece, and again where the answer stopped the reader.
 fn feed<S: TokenSink>(
     reader: &mut Tokenizer<S>,
     queue: &mut BufferQueue,
@@ -21,7 +21,7 @@ fn feed<S: TokenSink>(
     Ok(())
 }
 
-/// How many tokens a text is, read in pieces of so many bytes. What can't be cut so is left out.
+/// How many tokens a text is, read in pieces of so many bytes. What can't be cut so comes as one piece.
 pub fn count_tokens(
     alloc: Global,
     text: &str,

@@ -1,17 +1,11 @@
--- What the sink that writes tokens down answers, and what it means.
+-- What takers of tokens answer.
 use Rattle.std.specs.Prelude.{Bool, true, false, if◌then◌else◌}
 use Rattle.h5_token.specs.TokenText.{TokenText, DoctypeIs, TagIs, CommentIs, Characters, NullCharacter, EndOfFile, ParseErrorIs}
 use Rattle.h5_token.specs.Reply.{Reply, Continues, RunsScript, TurnsRaw}
-use Rattle.h5_token.specs.declared.states.RawKind.TheVariants.{Rcdata}
 use Rattle.h5_token.specs.declared.tag.TagKind.{TagKind}
 use Rattle.h5_token.specs.declared.tag.TagKind.TheVariants.{StartTag, EndTag}
-use Rattle.h5_reader_cuts.specs.declared.sink.Answer.{Answer}
-use Rattle.h5_reader_cuts.specs.declared.sink.Answer.TheVariants as answer
-
--- it means what it was told to answer, and whether it was told to be foreign
-pub record Wishes : Type 0 where
-  pub foreign : Bool
-  pub answer : Answer
+use Rattle.h5_takers.specs.declared.answer.Answer.{Answer}
+use Rattle.h5_takers.specs.declared.answer.Answer.TheVariants as answer
 
 abbrev pub starts : TagKind → Bool
 starts StartTag = true
@@ -28,9 +22,14 @@ is_start (ParseErrorIs message) = false
 
 abbrev pub reply_of : Answer → Reply
 reply_of answer.ReadsOn = Continues
-reply_of answer.Stops = RunsScript 0
-reply_of answer.TurnsRaw = TurnsRaw Rcdata
+reply_of answer.Stops = RunsScript 7
+reply_of (answer.TurnsRaw kind) = TurnsRaw kind
 
 -- to a start tag it answers as it was told, to all else that reading goes on
-abbrev pub reply_to : Wishes → TokenText → Reply
-reply_to wishes token = if is_start token then reply_of wishes.answer else Continues
+abbrev pub reply_to : Answer → TokenText → Reply
+reply_to told token = if is_start token then reply_of told else Continues
+
+-- what it answers, and whether it says that what is read is foreign
+pub record Wishes : Type 0 where
+  pub foreign : Bool
+  pub answer : Answer
