@@ -68,7 +68,8 @@ fn exact_token<H>(state: &State<H>, token: &Token) -> Option<String> {
 /// Tells the sink that a tag wasn't expected; with `exact_errors`, which tag, and in which insertion mode, unless
 /// memory is refused for the message. Nothing else changes.
 pub fn unexpected_tag<S: TreeSink>(sink: &mut S, state: &State<S::Handle>, tag: &Tag)
-    ensures { TellsErrors S.TreeSink sink.old sink.new state.now }
+    ensures told { TellsErrors S.TreeSink sink.old sink.new state.now }
+    ensures noted { 0 < errors_of S.TreeSink sink.new }
 {
     match exact_tag(state, tag) {
         Some(message) => tell_error(sink, state, message.as_str()),
@@ -78,7 +79,8 @@ pub fn unexpected_tag<S: TreeSink>(sink: &mut S, state: &State<S::Handle>, tag: 
 
 /// The same of any token.
 pub fn unexpected<S: TreeSink>(sink: &mut S, state: &State<S::Handle>, token: &Token)
-    ensures { TellsErrors S.TreeSink sink.old sink.new state.now }
+    ensures told { TellsErrors S.TreeSink sink.old sink.new state.now }
+    ensures noted { 0 < errors_of S.TreeSink sink.new }
 {
     match exact_token(state, token) {
         Some(message) => tell_error(sink, state, message.as_str()),
