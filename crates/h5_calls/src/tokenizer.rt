@@ -64,7 +64,11 @@ fn is_read_as(
 
 const DOCTYPES: &[Row] = &[
     ("<!DOCTYPE html>", "D(html,-,-,false)$", " 1 1"),
-    ("<!doctype HTML public 'a' \"b\" >", "D(html,a,b,false)$", " 1 1"),
+    (
+        "<!doctype HTML public 'a' \"b\" >",
+        "D(html,a,b,false)$",
+        " 1 1",
+    ),
     ("<!doctype x system\t'b'>", "D(x,-,b,false)$", " 1 1"),
     ("<!doctype x\n system>\n", "D(x,-,-,true)\n$", " 1 3"),
     ("<!doctype  >", "D(-,-,-,true)$", " 1 1"),
@@ -73,7 +77,11 @@ const DOCTYPES: &[Row] = &[
 const TAGS: &[Row] = &[
     ("<a b=/>", "<a b=/>$", " 1 1"),
     ("<a b/>", "<a b= />$", " 1 1"),
-    ("<A c='1' C=2 =d=e f = g h>", "<a c=1 =d=e f=g h= !>$", " 1 1"),
+    (
+        "<A c='1' C=2 =d=e f = g h>",
+        "<a c=1 =d=e f=g h= !>$",
+        " 1 1",
+    ),
     ("\n<a b='>' c=\"&lt;\r\n\"/>", "\n<a b=> c=<\n />$", " 2 3"),
     ("</p a=b/>x</1>", "</p>x</1>$", " 1 1"),
     ("a\0<b \0=\0>", "a[0]<b \u{fffd}=\u{fffd}>$", " 1 1 1"),
@@ -82,7 +90,11 @@ const TAGS: &[Row] = &[
 
 const TEXTS_AND_COMMENTS: &[Row] = &[
     ("a<!-- x --><Title>b&amp;c", "aC( x )<title>b&c$", " 1 1 1"),
-    ("\u{feff}x\r\ny\rz\n<!--\r\n-->&am", "x\ny\nz\nC(\n)&am$", " 4 5"),
+    (
+        "\u{feff}x\r\ny\rz\n<!--\r\n-->&am",
+        "x\ny\nz\nC(\n)&am$",
+        " 4 5",
+    ),
     ("<!x><?x><1<", "<!x><?x><1<$", " 1"),
     ("x<!doctype a", "x$", " 1"),
     ("x<!-- y --", "xC( y --)$", " 1 1"),
@@ -143,11 +155,7 @@ fn reads_raw_text(rt: HostRuntime) -> Result<(), Fail> {
 }
 
 const CDATA: &[Row] = &[
-    (
-        "a<![CDATA[<b>&amp;\0]]]>c",
-        "a<b>&amp;\u{fffd}]c$",
-        " 1",
-    ),
+    ("a<![CDATA[<b>&amp;\0]]]>c", "a<b>&amp;\u{fffd}]c$", " 1"),
     ("<![CDATA[x]]", "x]]$", " 1"),
     ("<![CDAT", "<![CDAT$", " 1"),
 ];
