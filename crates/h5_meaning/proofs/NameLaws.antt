@@ -31,7 +31,7 @@ unfolding names_of
 names_kept w g k r = kept w.forest g w.stack k.stands.elements r
 
 -- a new element is the first
-names_pushed : (choices : SinkChoices) (p : Place) (local : List ℕ) (attrs : List AttributeText) (duplicates : Bool) (w : World) → Sound w → IsPlaceIn w.forest p → names_of (push_new choices p local attrs duplicates w) ≡ html_name local ∷ names_of w
+pub names_pushed : (choices : SinkChoices) (p : Place) (local : List ℕ) (attrs : List AttributeText) (duplicates : Bool) (w : World) → Sound w → IsPlaceIn w.forest p → names_of (push_new choices p local attrs duplicates w) ≡ html_name local ∷ names_of w
 unfolding names_of
 names_pushed choices p local attrs duplicates w k there =
     let name = html_name local in

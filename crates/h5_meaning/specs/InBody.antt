@@ -6,8 +6,7 @@ use Rattle.h5_token.specs.declared.tag.TagKind.TheVariants.{EndTag, StartTag}
 use Rattle.h5_names.specs.KnownNames.{known_name_of}
 use Rattle.h5_names.specs.declared.known_name.KnownName.{KnownName}
 use Rattle.h5_names.specs.declared.known_name.KnownName.TheVariants.{Body, Html}
-use Rattle.h5_tag_sets.specs.TagSets.{is_default_scope, is_html_named}
-use Rattle.h5_stack.specs.Scope.{comes_before_special, has_template, has_unclosed, in_scope, second_is}
+use Rattle.h5_stack.specs.Scope.{comes_before_special, has_body_in_scope, has_template, has_unclosed, second_is}
 use Rattle.h5_types.specs.TurnText.{CommentTurn, EofTurn, NullTurn, TagTurn, TextTurn, TurnText}
 use Rattle.h5_types.specs.declared.modes.InsertionMode.TheVariants.{AfterBody}
 use Rattle.h5_meaning.specs.Rows.{AddAttrsToSecond, Again, AppendComment, Change, Ending, GenerateImpliedEndExcept, InsertElement, IsDone, PopUntilNamed, Row, SetFramesetNotOk, SetMode, choose, errs, ignored, row}
@@ -22,7 +21,7 @@ in_body_start_body tag w =
 
 -- an HTML `body` is in scope
 abbrev pub body_in_scope : World → Bool
-body_in_scope w = in_scope (is_html_named (codes "body")) is_default_scope (names_of w)
+body_in_scope w = has_body_in_scope (names_of w)
 
 unfoldable pub if_body_in_scope : Row → World → Row
 if_body_in_scope r w = choose (body_in_scope w) r ignored

@@ -9,7 +9,7 @@ use h5_names::KnownName;
 use h5_rules_shared::{in_body_start_html, in_body_text};
 use h5_state::{
     State, Turn, add_attrs_to_second, append_comment, check_body_end, find_before_special,
-    generate_implied_end_except, has_body_second, has_open_template, in_scope_named,
+    generate_implied_end_except, has_body_in_scope, has_body_second, has_open_template,
     insert_element, is_current_html, pop_until_named, set_frameset_not_ok, set_mode, tell_error,
     unexpected, unexpected_tag,
 };
@@ -47,7 +47,7 @@ fn in_body_end_body<S: TreeSink>(
     ensures { TakesTag S.TreeSink in_body_end_body tag sink.old state.old sink.new state.new result }
 {
     let _ = tag;
-    if in_scope_named(sink, state, KnownName::Body) {
+    if has_body_in_scope(sink, state) {
         check_body_end(sink, state);
         set_mode(sink, state, InsertionMode::AfterBody);
         Ok(ProcessResult::Done)
@@ -67,7 +67,7 @@ fn in_body_end_html<S: TreeSink>(
     requires { IsSound S.TreeSink sink.old state.old }
     ensures { TakesTag S.TreeSink in_body_end_html tag sink.old state.old sink.new state.new result }
 {
-    if in_scope_named(sink, state, KnownName::Body) {
+    if has_body_in_scope(sink, state) {
         check_body_end(sink, state);
         Ok(ProcessResult::Reprocess(InsertionMode::AfterBody, Token::Tag(tag)))
     } else {

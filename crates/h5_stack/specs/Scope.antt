@@ -1,10 +1,10 @@
 -- Questions about the open elements, and ways to close them, by their names, the current node's first (HTML
 -- standard, section 13.2.4.2, "The stack of open elements").
-use Rattle.std.specs.Prelude.{ℕ, Bool, true, false, not, ◌&&◌, if◌then◌else◌, List, [], ◌∷◌}
+use Rattle.std.specs.Prelude.{ℕ, Bool, true, false, not, ◌&&◌, if◌then◌else◌, List, [], ◌∷◌, codes}
 use Rattle.std.specs.List.{list_any}
 use Rattle.h5_names.specs.declared.qualified.QualName.{QualName}
 use Rattle.h5_interface.specs.NewElement.{is_html_template}
-use Rattle.h5_tag_sets.specs.TagSets.{is_body_end_ok, is_html_named, is_implied, is_special}
+use Rattle.h5_tag_sets.specs.TagSets.{is_body_end_ok, is_button_scope, is_default_scope, is_html_named, is_implied, is_special}
 use Rattle.h5_stack.specs.Order.{but_first}
 
 -- one of these comes before, or is, the first that ends the scope ("have a particular element in scope")
@@ -19,6 +19,14 @@ has_template = list_any is_html_template
 -- some open element may not be open where the body ends
 abbrev pub has_unclosed : List QualName → Bool
 has_unclosed = list_any (λ n. not (is_body_end_ok n))
+
+-- an HTML `body` is in scope
+abbrev pub has_body_in_scope : List QualName → Bool
+has_body_in_scope = in_scope (is_html_named (codes "body")) is_default_scope
+
+-- an HTML `p` is in button scope ("have a particular element in button scope")
+abbrev pub has_p_in_button_scope : List QualName → Bool
+has_p_in_button_scope = in_scope (is_html_named (codes "p")) is_button_scope
 
 -- an HTML element of this name comes before any special one
 abbrev pub comes_before_special : List ℕ → List QualName → Bool

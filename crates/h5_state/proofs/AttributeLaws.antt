@@ -1,14 +1,14 @@
 -- The root and the second open element, and what their attributes change.
-use Rattle.std.proofs.Common.{◌≡◌, ◌<◌, ◌≤◌, ℕ, get_or, length-append, List, [], ◌∷◌, ◌++◌, length, map, reverse, Option, Some, None, Result, Ok, Err, OnOk, OnErr, refl, ap, sym, ◌∙◌, arith}
+use Rattle.std.proofs.Common.{◌≡◌, ◌<◌, ◌≤◌, ℕ, get_or, length-append, List, [], ◌∷◌, ◌++◌, length, map, reverse, Some, None, Result, Ok, Err, OnOk, OnErr, refl, ap, sym, ◌∙◌, arith}
 use Rattle.std.proofs.lemmas.List.{length-map, length-reverse, reverse-append}
 use Rattle.h5_names.specs.AttributeText.{AttributeText}
 use Rattle.h5_interface.specs.Changes.{add_missing_attributes}
+use Rattle.h5_interface.specs.Forest.{IsForest}
 use Rattle.h5_interface.specs.Seen.{Seen, changed}
+use Rattle.h5_interface.specs.SinkChoices.{Rearranges}
 use Rattle.h5_interface.proofs.MakingLaws.{add_missing_rearranges}
-use Rattle.h5_meaning.specs.Sound.{AllStand}
-use Rattle.h5_stack.specs.FormattingList.{Entry}
 use Rattle.h5_stack.specs.Order.{last_or, second_from_last}
-use Rattle.h5_meaning.proofs.SoundLaws.{all_rearranged, rearranged_or_not}
+use Rattle.h5_meaning.proofs.SoundLaws.{rearranged_or_not}
 use Rattle.h5_state.proofs.StackLaws.{last_or-append}
 
 pub on_ok : {T E : Type 0} {P Q : Type 0} (r : Result T E) → (P → Q) → OnOk r P → OnOk r Q
@@ -43,7 +43,5 @@ pub open_length : {H : Type 0} (node : H → ℕ) (xs : List H) → length (reve
 open_length node xs = length-reverse (map node xs) ∙ length-map xs node
 
 -- attributes that are added, or not
-pub all_added : {T E : Type 0} {l : List Entry} {head form context : Option ℕ} (r : Result T E) (old new : Seen) (n : ℕ) (attrs : List AttributeText) (s : List ℕ) → OnOk r (new ≡ changed (add_missing_attributes n attrs) old) → OnErr r (new ≡ old)
-    → AllStand old.forest s l head form context → AllStand new.forest s l head form context
-all_added r old new n attrs s ok er k =
-    all_rearranged old.forest new.forest s k (rearranged_or_not r old new (add_missing_attributes n attrs) ok er k.stands.is_forest (add_missing_rearranges old.forest n attrs k.stands.is_forest))
+pub added_rearranges : {T E : Type 0} (r : Result T E) (old new : Seen) (n : ℕ) (attrs : List AttributeText) → OnOk r (new ≡ changed (add_missing_attributes n attrs) old) → OnErr r (new ≡ old) → IsForest old.forest → Rearranges old.forest new.forest
+added_rearranges r old new n attrs ok er k = rearranged_or_not r old new (add_missing_attributes n attrs) ok er k (add_missing_rearranges old.forest n attrs k)

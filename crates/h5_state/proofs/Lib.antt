@@ -1,5 +1,7 @@
 pub mod AttributeLaws
 pub mod PutLaws
 pub mod StackLaws
+pub mod StepLaws
+pub mod SummaryLaws
 pub mod TextLaws
 pub mod WalkLaws

@@ -20,7 +20,7 @@ use Rattle.h5_interface.proofs.MakingLaws.{mark_rearranges}
 use Rattle.h5_meaning.specs.Sound.{AllStand}
 use Rattle.h5_meaning.proofs.SoundLaws.{all_rearranged, all_tail}
 
-pub seen_pushed : {H : Type 0} (node : H → ℕ) (xs ys : List H) (x : H) → ys ≡ xs ++ x ∷ [] → reverse (map node ys) ≡ node x ∷ reverse (map node xs)
+pub seen_pushed : {H A : Type 0} (node : H → A) (xs ys : List H) (x : H) → ys ≡ xs ++ x ∷ [] → reverse (map node ys) ≡ node x ∷ reverse (map node xs)
 seen_pushed node xs ys x e = ap (λ z. reverse (map node z)) e ∙ ap reverse (map-append node xs (x ∷ [])) ∙ reverse-append (map node xs) (node x ∷ [])
 
 -- one element less is open, and some marks changed

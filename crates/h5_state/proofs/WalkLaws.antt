@@ -1,31 +1,14 @@
 -- The walk over the open elements.
-use Rattle.std.proofs.Common.{ap, sym, subst, ◌∙◌, ◌≡◌, ◌+◌, ◌<◌, ℕ, suc, Bool, true, false, ◌||◌, cond, take, List, [], ◌∷◌, ◌++◌, length, map, reverse, refl, arith}
+use Rattle.std.proofs.Common.{ap, sym, subst, ◌∙◌, ◌≡◌, ◌+◌, ◌<◌, ℕ, suc, Bool, true, false, cond, take, List, [], ◌∷◌, ◌++◌, length, map, reverse, refl, arith}
 use Rattle.std.proofs.lemmas.List.{length-reverse, reverse-append, reverse-reverse, take-append-le, take-map, take_all}
-use Rattle.std.specs.List.{list_any}
 use Rattle.h5_names.specs.declared.qualified.QualName.{QualName}
-use Rattle.h5_names.specs.KnownNames.{name_text}
-use Rattle.h5_names.specs.declared.known_name.KnownName.TheVariants.{Template}
 use Rattle.h5_interface.specs.Forest.{Forest}
-use Rattle.h5_interface.specs.NewElement.{is_html_template}
-use Rattle.h5_tag_sets.specs.TagSets.{html_namespace, is_html_named}
 use Rattle.h5_stack.specs.Order.{but_first}
-use Rattle.h5_stack.specs.Scope.{cut_through, has_template, in_scope}
+use Rattle.h5_stack.specs.Scope.{cut_through, in_scope}
 use Rattle.h5_meaning.specs.Place.{from_foster_parent, is_foster_parent}
 use Rattle.h5_meaning.specs.World.{name_in}
-use Rattle.h5_state.specs.View.{stack_under}
+use Rattle.h5_state.specs.View.{open_node, stack_under}
 use Rattle.h5_state.specs.declared.state.State.{State}
-
--- in a scope that nothing ends: whether some name passes
-pub any_in_scope : (is : QualName → Bool) (ns : List QualName) → in_scope is (λ n. false) ns ≡ list_any is ns
-any_in_scope is [] = refl
-any_in_scope is (n ∷ ns) = elim (is n) as (λ b. cond b true (in_scope is (λ m. false) ns) ≡ (b || list_any is ns)) [ true ↦ refl | false ↦ any_in_scope is ns ]
-
--- whether a template is open
-pub template_in_scope : (ns : List QualName) → in_scope (is_html_named (name_text Template)) (λ n. false) ns ≡ has_template ns
-unfolding is_html_named html_namespace
-template_in_scope [] = refl
-template_in_scope (n ∷ ns) =
-    elim (is_html_template n) as (λ b. cond b true (in_scope is_html_template (λ m. false) ns) ≡ (b || has_template ns)) [ true ↦ refl | false ↦ template_in_scope ns ]
 
 -- the second list is what the first one ends with
 pub record Suffix (s t : List ℕ) : Type 0 where
@@ -60,12 +43,12 @@ suffix_under node xs t x =
     back = sym (reverse-reverse (map node xs)) ∙ ap reverse x.cut ∙ reverse-append x.front t
 
 -- so many elements are left of a stack that is cut
-pub cut_under : {H : Type 0} (node : H → ℕ) (state : State H) (is : QualName → Bool) (ns : List QualName) (s : List ℕ) (count : ℕ) → s ≡ reverse (map node state.open_elems.items)
+pub cut_under : {H : Type 0} (node : H → ℕ) (state : State H) (is : QualName → Bool) (ns : List QualName) (s : List ℕ) (count : ℕ) → s ≡ reverse (map (open_node node) state.open_elems.items)
     → count ≡ length (cut_through is ns s) → stack_under node state count ≡ cut_through is ns s
 unfolding stack_under
 cut_under node state is ns s count e c =
-    ap (λ k. reverse (map node (take k state.open_elems.items))) c
-    ∙ suffix_under node state.open_elems.items (cut_through is ns s) (subst (λ z. Suffix z (cut_through is ns s)) e (cut_is_suffix is ns s))
+    ap (λ k. reverse (map (open_node node) (take k state.open_elems.items))) c
+    ∙ suffix_under (open_node node) state.open_elems.items (cut_through is ns s) (subst (λ z. Suffix z (cut_through is ns s)) e (cut_is_suffix is ns s))
 
 -- the stack from a foster parent on, where one is open
 from_is_cut : (f : Forest) (s : List ℕ) → in_scope is_foster_parent (λ n. false) (map (name_in f) s) ≡ true
@@ -79,13 +62,13 @@ from_is_cut f (n ∷ s) h =
       | false ↦ λ e. let later = from_is_cut f s e in (suffix_more n s (from_foster_parent f s) later.0, later.1)
     ]) h
 
-pub foster_under : {H : Type 0} (node : H → ℕ) (state : State H) (f : Forest) (s : List ℕ) (at : ℕ) → s ≡ reverse (map node state.open_elems.items)
+pub foster_under : {H : Type 0} (node : H → ℕ) (state : State H) (f : Forest) (s : List ℕ) (at : ℕ) → s ≡ reverse (map (open_node node) state.open_elems.items)
     → in_scope is_foster_parent (λ n. false) (map (name_in f) s) ≡ true → at ≡ length (cut_through is_foster_parent (map (name_in f) s) s) → stack_under node state (at + 1) ≡ from_foster_parent f s
 unfolding stack_under
 foster_under node state f s at e h c =
     let from = from_is_cut f s h in
-    ap (λ k. reverse (map node (take k state.open_elems.items))) (omega (arith, c, from.1))
-    ∙ suffix_under node state.open_elems.items (from_foster_parent f s) (subst (λ z. Suffix z (from_foster_parent f s)) e from.0)
+    ap (λ k. reverse (map (open_node node) (take k state.open_elems.items))) (omega (arith, c, from.1))
+    ∙ suffix_under (open_node node) state.open_elems.items (from_foster_parent f s) (subst (λ z. Suffix z (from_foster_parent f s)) e from.0)
 
 pub cut_inside : (is : QualName → Bool) (ns : List QualName) (s : List ℕ) → length s ≡ length ns → in_scope is (λ n. false) ns ≡ true → length (cut_through is ns s) < length s
 cut_inside is [] s e h = absurd (cc)

@@ -4,8 +4,9 @@ use Rattle.std.specs.Prelude.{◌≡◌, ◌<◌, ℕ, length, Result, OnOk}
 use Rattle.h5_interface.specs.declared.sink.TreeSink.{Ghosts}
 use Rattle.h5_meaning.specs.Rows.{Change, apply}
 use Rattle.h5_meaning.specs.Sound.{Sound}
-use Rattle.h5_meaning.specs.World.{World}
-use Rattle.h5_state.specs.View.{world}
+use Rattle.h5_meaning.specs.World.{World, names_of}
+use Rattle.h5_state.specs.Summaries.{summaries}
+use Rattle.h5_state.specs.View.{kept_of, world}
 use Rattle.h5_state.specs.declared.state.State.{State}
 
 -- the world that a sink and a state mean
@@ -16,9 +17,10 @@ world_of law sink state = world law.sees law.node sink state
 abbrev pub errors_of : {S H O : Type 0} → Ghosts S H O → S → ℕ
 errors_of law sink = (law.sees sink).errors
 
--- what holds at every moment
-abbrev pub IsSound : {S H O : Type 0} → Ghosts S H O → S → State H → Type 0
-IsSound law sink state = Sound (world_of law sink state)
+-- what holds at every moment: of the world, and that what is kept beside the open elements is what their names say
+pub record IsSound {S H O : Type 0} (law : Ghosts S H O) (sink : S) (state : State H) : Type 0 where
+  pub sound : Sound (world_of law sink state)
+  pub kept : kept_of state ≡ summaries (names_of (world_of law sink state))
 
 -- and an element is open
 pub record IsOpen {S H O : Type 0} (law : Ghosts S H O) (sink : S) (state : State H) : Type 0 where

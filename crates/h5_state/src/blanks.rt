@@ -28,7 +28,7 @@ pub fn is_blank_text(text: &str) -> bool
 }
 
 /// The frameset flag goes off if the text has a character that is no blank.
-#[tactic(auto, unfolding(crate::specs::View::world, h5_meaning::specs::Changes::set_frameset_ok_by_text))]
+#[tactic(auto, unfolding(crate::specs::View::world, h5_meaning::specs::Changes::set_frameset_ok_by_text, h5_meaning::specs::World::names_of))]
 pub fn set_frameset_ok_by_text<S: TreeSink>(sink: &S, state: &mut State<S::Handle>, text: &str)
     requires { IsSound S.TreeSink sink.now state.old }
     ensures { Makes S.TreeSink (SetFramesetOkByText text.now) sink.now state.old sink.now state.new }

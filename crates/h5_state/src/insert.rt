@@ -9,7 +9,8 @@ ghost use Rattle.h5_stack.specs.FormattingNames.{html_name};
 ghost use Rattle.h5_state.specs.Places.{place_of};
 ghost use Rattle.h5_state.specs.Steps.{IsSound, MakesIfOk, errors_of, world_of};
 
-use super::open_elems::root_node;
+use super::open_element::{OpenElement, Summary};
+use super::open_elems::{all_open, root_node};
 use super::place::{InsertionPoint, current_place};
 use super::put::{insert_new_comment, insert_new_element, insert_text};
 use super::state::State;
@@ -45,8 +46,9 @@ fn push_at<S: TreeSink>(
     ensures sound { IsSound S.TreeSink sink.new state.new }
 {
     let name = html_qual_name(local);
-    let element = insert_new_element(sink, place, name, attrs, had_duplicate_attributes)?;
-    state.open_elems.push(element)?;
+    let summary = Summary::new(&name, all_open(sink, state));
+    let handle = insert_new_element(sink, place, name, attrs, had_duplicate_attributes)?;
+    state.open_elems.push(OpenElement { handle, summary })?;
     Ok(())
 }
 

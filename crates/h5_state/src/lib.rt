@@ -7,6 +7,7 @@ mod blanks;
 mod errors;
 mod insert;
 mod name_test;
+mod open_element;
 mod open_elems;
 mod place;
 mod put;
@@ -20,9 +21,11 @@ pub use insert::{
     append_comment, append_comment_to_doc, append_comment_to_html, append_text, create_root,
     insert_element, insert_head, insert_phantom,
 };
+pub use open_element::{AllOpen, OpenElement, Summary};
 pub use open_elems::{
-    check_body_end, find_before_special, generate_implied_end_except, has_body_second,
-    has_open_template, in_scope_named, is_current_html, pop_until_named,
+    check_body_end, find_before_special, generate_implied_end_except, has_body_in_scope,
+    has_body_second, has_open_template, has_p_in_button_scope, in_scope_named, is_current_html,
+    pop_until_named,
 };
 pub use place::{InsertionPoint, appropriate_place_for_insertion, current_place};
 pub use state::{State, Turn};

@@ -1,12 +1,12 @@
 //! Questions about the names of elements.
-ghost use Rattle.std.specs.Prelude.{◌≡◌, Bool, false, not};
+ghost use Rattle.std.specs.Prelude.{◌≡◌, Bool, false};
 ghost use Rattle.h5_names.specs.declared.qualified.QualName.{QualName as NameText};
 ghost use Rattle.h5_names.specs.KnownNames.{name_text};
-ghost use Rattle.h5_tag_sets.specs.TagSets.{is_body_end_ok, is_default_scope, is_html_named, is_special};
+ghost use Rattle.h5_tag_sets.specs.TagSets.{is_default_scope, is_html_named};
 ghost use Rattle.h5_meaning.specs.Place.{is_foster_parent};
 
-use h5_names::{KnownName, LocalName, QualName};
-use h5_tag_sets::{body_end_ok, default_scope, is_html_known, is_html_local, special_tag};
+use h5_names::{KnownName, QualName};
+use h5_tag_sets::{default_scope, is_html_known};
 
 /// A question about the name of an element.
 pub trait NameTest {
@@ -16,18 +16,6 @@ pub trait NameTest {
     /// Whether a name passes.
     fn test(&self, name: &QualName) -> bool
         ensures { result ≡ holds self.now name.now };
-}
-
-/// Whether this is the name of an HTML element of this local name.
-#[derive(Drop)]
-pub struct Named<'a>(pub &'a LocalName);
-
-impl NameTest for Named<'_> {
-    ghost holds = { λ t name. is_html_named t.0.now name };
-
-    fn test(&self, name: &QualName) -> bool {
-        is_html_local(name, self.0)
-    }
 }
 
 /// Whether this is the name of an HTML element of this known name.
@@ -51,30 +39,6 @@ impl NameTest for DefaultScope {
 
     fn test(&self, name: &QualName) -> bool {
         default_scope(name)
-    }
-}
-
-/// Whether an element is special.
-#[derive(Clone, Copy)]
-pub struct Special;
-
-impl NameTest for Special {
-    ghost holds = { λ t name. is_special name };
-
-    fn test(&self, name: &QualName) -> bool {
-        special_tag(name)
-    }
-}
-
-/// Whether an element may not be open where the body ends.
-#[derive(Clone, Copy)]
-pub struct Unclosed;
-
-impl NameTest for Unclosed {
-    ghost holds = { λ t name. not (is_body_end_ok name) };
-
-    fn test(&self, name: &QualName) -> bool {
-        !body_end_ok(name)
     }
 }
 

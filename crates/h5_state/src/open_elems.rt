@@ -2,16 +2,19 @@
 //! elements"), and what closes elements.
 ghost use Rattle.std.specs.Prelude.{◌≡◌, ◌<◌, ◌≤◌, ◌+◌, ◌∷◌, [], ℕ, true, false, length, codes, MatchOption, is_some};
 ghost use Rattle.h5_names.specs.KnownNames.{name_text};
+ghost use Rattle.h5_interface.specs.Forest.{IsElement};
 ghost use Rattle.h5_tag_sets.specs.TagSets.{is_default_scope, is_html_named, is_special};
 ghost use Rattle.h5_stack.specs.Order.{but_first};
-ghost use Rattle.h5_stack.specs.Scope.{comes_before_special, cut_through, first_passes, has_template, has_unclosed, in_scope, is_implied_but, second_is};
+ghost use Rattle.h5_stack.specs.Scope.{comes_before_special, cut_through, first_passes, has_body_in_scope, has_p_in_button_scope, has_template, has_unclosed, in_scope, is_implied_but, second_is};
 ghost use Rattle.h5_meaning.specs.Rows.{GenerateImpliedEndExcept, PopUntilNamed};
-ghost use Rattle.h5_meaning.specs.World.{names_of, root};
+ghost use Rattle.h5_meaning.specs.World.{name_in, names_of, root};
 ghost use Rattle.h5_state.specs.Steps.{IsSound, Makes, TellsErrors, errors_of, world_of};
-ghost use Rattle.h5_state.specs.View.{names_under, stack_under, with_stack};
+ghost use Rattle.h5_state.specs.Summaries.{all_open, name_number, summaries};
+ghost use Rattle.h5_state.specs.View.{kept_of, names_under, stack_under, with_stack};
 
 use super::errors::tell_error;
-use super::name_test::{DefaultScope, Known, NameTest, Named, Nothing, Special, Unclosed};
+use super::name_test::{DefaultScope, Known, NameTest};
+use super::open_element::{AllOpen, OpenElement, name_number};
 use super::state::State;
 use super::steps::pop;
 use h5_interface::TreeSink;
@@ -30,8 +33,26 @@ fn open_count<S: TreeSink>(sink: &S, state: &State<S::Handle>) -> usize
     state.open_elems.len()
 }
 
-// The name of the open element at a place, counted from the root.
+// The open element at a place, counted from the root.
 #[tactic(auto, unfolding(crate::specs::View::world, crate::specs::View::names_under, crate::specs::View::stack_under))]
+fn open_at<'a, S: TreeSink>(
+    sink: &S,
+    state: &'a State<S::Handle>,
+    place: usize,
+) -> &'a OpenElement<S::Handle>
+    requires place { place < length (world_of S.TreeSink sink.now state.now).stack }
+    requires sound { IsSound S.TreeSink sink.now state.now }
+    ensures element { IsElement (S.sees sink.now).forest (S.node result.now.handle) }
+    ensures names { names_under S.sees S.node sink.now state.now (place + 1) ≡ name_in (S.sees sink.now).forest (S.node result.now.handle) ∷ names_under S.sees S.node sink.now state.now place }
+    ensures number { result.now.summary.number ≡ name_number (name_in (S.sees sink.now).forest (S.node result.now.handle)).local }
+    ensures special { result.now.summary.special ≡ is_special (name_in (S.sees sink.now).forest (S.node result.now.handle)) }
+    ensures stack { but_first (stack_under S.node state.now (place + 1)) ≡ stack_under S.node state.now place }
+    ensures count { length (stack_under S.node state.now place) ≡ place }
+{
+    &state.open_elems[place]
+}
+
+// The name of the open element at a place, counted from the root.
 fn name_at<'a, S: TreeSink>(sink: &'a S, state: &'a State<S::Handle>, place: usize) -> &'a QualName
     requires place { place < length (world_of S.TreeSink sink.now state.now).stack }
     requires sound { IsSound S.TreeSink sink.now state.now }
@@ -39,7 +60,23 @@ fn name_at<'a, S: TreeSink>(sink: &'a S, state: &'a State<S::Handle>, place: usi
     ensures stack { but_first (stack_under S.node state.now (place + 1)) ≡ stack_under S.node state.now place }
     ensures count { length (stack_under S.node state.now place) ≡ place }
 {
-    sink.elem_name(&state.open_elems[place])
+    sink.elem_name(&open_at(sink, state, place).handle)
+}
+
+// Whether an open element is an HTML element of this name. The sink is asked for its name only where the names' numbers
+// agree, since names may share a number.
+fn is_named<S: TreeSink>(
+    sink: &S,
+    element: &OpenElement<S::Handle>,
+    local: &LocalName,
+    number: u32,
+) -> bool
+    requires element { IsElement (S.sees sink.now).forest (S.node element.now.handle) }
+    requires own { element.now.summary.number ≡ name_number (name_in (S.sees sink.now).forest (S.node element.now.handle)).local }
+    requires number { number ≡ name_number local.now }
+    ensures { result ≡ is_html_named local.now (name_in (S.sees sink.now).forest (S.node element.now.handle)) }
+{
+    element.summary.number == number && is_html_local(sink.elem_name(&element.handle), local)
 }
 
 // The one walk over the open elements, from the current node on: the place, counted from the root, of the first
@@ -87,7 +124,47 @@ pub fn find_before_special<S: TreeSink>(
     ensures found { is_some result ≡ comes_before_special local.now (names_of (world_of S.TreeSink sink.now state.now)) }
     ensures place { MatchOption result (Unit {0}) (λ place. place ≡ length (cut_through (is_html_named local.now) (names_of (world_of S.TreeSink sink.now state.now)) (world_of S.TreeSink sink.now state.now).stack)) }
 {
-    find_in_scope(sink, state, &Named(local), &Special)
+    let number = name_number(local);
+    let mut place = open_count(sink, state);
+    'down: while place > 0 {
+        place -= 1;
+        let element = open_at(sink, state, place);
+        if is_named(sink, element, local, number) {
+            return Some(place);
+        }
+        if element.summary.special {
+            return None;
+        }
+    }
+    None
+}
+
+/// What is known of all open elements, from the newest of them alone.
+#[tactic(auto, unfolding(crate::specs::View::world, h5_meaning::specs::World::names_of))]
+pub fn all_open<S: TreeSink>(sink: &S, state: &State<S::Handle>) -> AllOpen
+    requires { IsSound S.TreeSink sink.now state.now }
+    ensures { result ≡ all_open (names_of (world_of S.TreeSink sink.now state.now)) }
+{
+    match state.open_elems.last() {
+        Some(newest) => newest.summary.all,
+        None => AllOpen::none(),
+    }
+}
+
+/// Whether an HTML `body` is in scope.
+pub fn has_body_in_scope<S: TreeSink>(sink: &S, state: &State<S::Handle>) -> bool
+    requires { IsSound S.TreeSink sink.now state.now }
+    ensures { result ≡ has_body_in_scope (names_of (world_of S.TreeSink sink.now state.now)) }
+{
+    all_open(sink, state).body_in_scope
+}
+
+/// Whether an HTML `p` is in button scope.
+pub fn has_p_in_button_scope<S: TreeSink>(sink: &S, state: &State<S::Handle>) -> bool
+    requires { IsSound S.TreeSink sink.now state.now }
+    ensures { result ≡ has_p_in_button_scope (names_of (world_of S.TreeSink sink.now state.now)) }
+{
+    all_open(sink, state).p_in_button_scope
 }
 
 /// Whether an HTML `template` is open.
@@ -95,16 +172,15 @@ pub fn has_open_template<S: TreeSink>(sink: &S, state: &State<S::Handle>) -> boo
     requires { IsSound S.TreeSink sink.now state.now }
     ensures { result ≡ has_template (names_of (world_of S.TreeSink sink.now state.now)) }
 {
-    find_in_scope(sink, state, &Known(KnownName::Template), &Nothing).is_some()
+    all_open(sink, state).template
 }
 
 // Whether an element is open that may not be where the body ends.
-#[tactic(auto, using(crate::proofs::WalkLaws::any_in_scope))]
 fn has_unclosed<S: TreeSink>(sink: &S, state: &State<S::Handle>) -> bool
     requires { IsSound S.TreeSink sink.now state.now }
     ensures { result ≡ has_unclosed (names_of (world_of S.TreeSink sink.now state.now)) }
 {
-    find_in_scope(sink, state, &Unclosed, &Nothing).is_some()
+    all_open(sink, state).unclosed
 }
 
 /// Tells a parse error where an element is open that may not be where the body ends (HTML standard, section
@@ -126,7 +202,7 @@ pub fn root_node<S: TreeSink>(sink: &S, state: &State<S::Handle>) -> S::Handle
     ensures { S.node result ≡ root (world_of S.TreeSink sink.now state.now) }
 {
     match state.open_elems.first() {
-        Some(element) => sink.clone_handle(element),
+        Some(element) => sink.clone_handle(&element.handle),
         None => sink.get_document(),
     }
 }
@@ -138,7 +214,7 @@ pub fn has_body_second<S: TreeSink>(sink: &S, state: &State<S::Handle>) -> bool
     ensures { result ≡ second_is (codes "body") (names_of (world_of S.TreeSink sink.now state.now)) }
 {
     if state.open_elems.len() > 1 {
-        is_html_known(sink.elem_name(&state.open_elems[1]), KnownName::Body)
+        is_html_known(sink.elem_name(&state.open_elems[1].handle), KnownName::Body)
     } else {
         false
     }
@@ -151,7 +227,7 @@ pub fn is_current_html<S: TreeSink>(sink: &S, state: &State<S::Handle>, local: &
     ensures { result ≡ first_passes (is_html_named local.now) (names_of (world_of S.TreeSink sink.now state.now)) }
 {
     match state.open_elems.last() {
-        Some(element) => is_html_local(sink.elem_name(element), local),
+        Some(element) => is_html_local(sink.elem_name(&element.handle), local),
         None => false,
     }
 }
@@ -164,7 +240,7 @@ fn is_current_implied<S: TreeSink>(sink: &S, state: &State<S::Handle>, local: &L
 {
     match state.open_elems.last() {
         Some(element) => {
-            let name = sink.elem_name(element);
+            let name = sink.elem_name(&element.handle);
             !is_html_local(name, local) && cursory_implied_end(name)
         }
         None => false,
@@ -206,7 +282,9 @@ pub fn pop_until_named<S: TreeSink>(
 // So many elements stay open.
 #[tactic(auto, unfolding(crate::specs::View::world, crate::specs::View::stack_under))]
 fn truncate<S: TreeSink>(sink: &S, state: &mut State<S::Handle>, count: usize)
-    ensures { world_of S.TreeSink sink.now state.new ≡ with_stack (stack_under S.node state.old count) (world_of S.TreeSink sink.now state.old) }
+    requires { IsSound S.TreeSink sink.now state.old }
+    ensures kept { kept_of state.new ≡ summaries (names_of (world_of S.TreeSink sink.now state.new)) }
+    ensures world { world_of S.TreeSink sink.now state.new ≡ with_stack (stack_under S.node state.old count) (world_of S.TreeSink sink.now state.old) }
 {
     state.open_elems.truncate(count);
 }

@@ -1,4 +1,5 @@
 //! The state of a tree builder.
+use super::open_element::OpenElement;
 use h5_interface::QuirksMode;
 use h5_types::{FormatEntry, InsertionMode, ProcessResult, TreeBuilderOpts};
 use std::alloc::{AllocError, Global};
@@ -17,7 +18,7 @@ pub struct State<Handle> {
     pub pending_table_text: Vec<String>,
     pub quirks_mode: QuirksMode,
     /// The stack of open elements, the root first.
-    pub open_elems: Vec<Handle>,
+    pub open_elems: Vec<OpenElement<Handle>>,
     pub active_formatting: Vec<FormatEntry<Handle>>,
     pub head_elem: Option<Handle>,
     pub form_elem: Option<Handle>,

@@ -26,7 +26,7 @@ pub fn set_mode<S: TreeSink>(sink: &S, state: &mut State<S::Handle>, mode: Inser
 }
 
 /// The frameset flag goes off.
-#[tactic(auto, unfolding(crate::specs::View::world))]
+#[tactic(auto, unfolding(crate::specs::View::world, h5_meaning::specs::World::names_of))]
 pub fn set_frameset_not_ok<S: TreeSink>(sink: &S, state: &mut State<S::Handle>)
     requires { IsSound S.TreeSink sink.now state.old }
     ensures { Makes S.TreeSink SetFramesetNotOk sink.now state.old sink.now state.new }
@@ -35,7 +35,7 @@ pub fn set_frameset_not_ok<S: TreeSink>(sink: &S, state: &mut State<S::Handle>)
 }
 
 /// Builder and sink take a quirks mode.
-#[tactic(auto, unfolding(crate::specs::View::world, h5_meaning::specs::Changes::set_quirks_mode))]
+#[tactic(auto, unfolding(crate::specs::View::world, h5_meaning::specs::Changes::set_quirks_mode, h5_meaning::specs::World::names_of))]
 pub fn set_quirks_mode<S: TreeSink>(sink: &mut S, state: &mut State<S::Handle>, mode: QuirksMode)
     requires { IsSound S.TreeSink sink.old state.old }
     ensures { Makes S.TreeSink (SetQuirksMode mode) sink.old state.old sink.new state.new }
@@ -50,7 +50,7 @@ pub fn current_node<S: TreeSink>(sink: &S, state: &State<S::Handle>) -> S::Handl
     ensures { S.node result ≡ current (world_of S.TreeSink sink.now state.now) }
 {
     match state.open_elems.last() {
-        Some(element) => sink.clone_handle(element),
+        Some(element) => sink.clone_handle(&element.handle),
         None => sink.get_document(),
     }
 }
@@ -62,7 +62,7 @@ pub fn pop<S: TreeSink>(sink: &mut S, state: &mut State<S::Handle>)
     ensures { Makes S.TreeSink Pop sink.old state.old sink.new state.new }
 {
     if let Some(element) = state.open_elems.pop() {
-        sink.pop(&element);
+        sink.pop(&element.handle);
     }
 }
 

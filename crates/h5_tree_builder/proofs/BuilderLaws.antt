@@ -1,5 +1,5 @@
 -- A builder's first world, and what a token did seen as a whole.
-use Rattle.std.proofs.Common.{◌≡◌, ◌≤◌, ℕ, false, List, [], ◌∷◌, None, refl, ap, sym, ◌∙◌, arith}
+use Rattle.std.proofs.Common.{◌≡◌, ◌≤◌, ℕ, false, List, [], ◌∷◌, None, refl, ap, sym, subst, ◌∙◌, arith}
 use Rattle.h5_token.specs.Reply.{reply}
 use Rattle.h5_token.specs.TokenText.{DoctypeText, TokenText, DoctypeIs, TagIs, CommentIs, Characters, NullCharacter, EndOfFile, ParseErrorIs}
 use Rattle.h5_interface.specs.Forest.{Forest, IsForest}
@@ -10,12 +10,18 @@ use Rattle.h5_types.specs.declared.modes.InsertionMode.{InsertionMode}
 use Rattle.h5_types.specs.declared.modes.InsertionMode.TheVariants.{Initial}
 use Rattle.h5_types.specs.declared.options.TreeBuilderOpts.{TreeBuilderOpts}
 use Rattle.h5_meaning.specs.Run.{doctype_in, is_counted, step, take_or_refuse, taken, tell_or_refuse, text_step, without_lf}
-use Rattle.h5_meaning.specs.Sound.{AllStand, Stands}
+use Rattle.h5_interface.specs.declared.sink.TreeSink.{Ghosts}
+use Rattle.h5_meaning.specs.Sound.{AllStand, Fits, Sound, Stands}
 use Rattle.h5_meaning.specs.World.{World, names_of}
 use Rattle.h5_meaning.proofs.TurnLaws.{turns_few}
 use Rattle.h5_meaning.proofs.RunLaws.{is_taken, moved}
-use Rattle.h5_tree_builder.specs.Builder.{Answered, Building, IsKept, first_building}
+use Rattle.h5_state.specs.Steps.{world_of}
+use Rattle.h5_state.specs.Summaries.{summaries}
+use Rattle.h5_state.specs.View.{kept_of}
+use Rattle.h5_state.specs.declared.state.State.{State}
+use Rattle.h5_tree_builder.specs.Builder.{Answered, Building, first_world}
 use Rattle.h5_tree_builder.specs.Chains.{CameTo}
+use Rattle.h5_tree_builder.specs.Held.{IsKept}
 use Rattle.h5_tree_builder.specs.declared.taken.Taken.{Taken}
 
 stands_none : (f : Forest) → IsForest f → Stands f []
@@ -39,12 +45,23 @@ all_none f k = record {
   formatting = tt;
 }
 
-pub first_kept : (seen : Seen) (opts : TreeBuilderOpts) → IsForest seen.forest → IsKept (first_building seen opts)
+fits_first : (seen : Seen) (opts : TreeBuilderOpts) → Fits (first_world seen opts)
 unfolding names_of
-first_kept seen opts k = record {
-  sound = all_none seen.forest k;
-  fits = λ a b. refl;
-  closed = λ h. refl;
+fits_first seen opts = refl
+
+names_first : (seen : Seen) (opts : TreeBuilderOpts) → names_of (first_world seen opts) ≡ []
+unfolding names_of
+names_first seen opts = refl
+
+pub first_kept : {S H O : Type 0} (law : Ghosts S H O) (sink : S) (state : State H) (opts : TreeBuilderOpts) → IsForest (law.sees sink).forest → kept_of state ≡ [] → world_of law sink state ≡ first_world (law.sees sink) opts
+    → IsKept law (record { sink = sink; state = state; ended = false; failed = false; turns = 0 })
+first_kept law sink state opts k none e = record {
+  sound = record {
+    sound = subst Sound (sym e) (all_none (law.sees sink).forest k);
+    kept = none ∙ ap summaries (sym (ap names_of e ∙ names_first (law.sees sink) opts));
+  };
+  fits = λ a b. subst Fits (sym e) (fits_first (law.sees sink) opts);
+  closed = λ h. ap (λ (w : World). w.stack) e;
 }
 
 -- a token takes few turns

@@ -5,7 +5,7 @@ use Rattle.h5_interface.specs.SinkChoices.{SinkChoices}
 use Rattle.h5_meaning.specs.Changes.{pop}
 use Rattle.h5_meaning.specs.World.{World}
 use Rattle.h5_stack.specs.Order.{but_first}
-use Rattle.h5_state.specs.View.{world}
+use Rattle.h5_state.specs.View.{open_node, world}
 use Rattle.h5_state.specs.declared.state.State.{State}
 use Rattle.h5_state.proofs.AttributeLaws.{open_length}
 use Rattle.h5_tree_builder.specs.Builder.{all_popped, pop_each}
@@ -13,7 +13,7 @@ use Rattle.h5_tree_builder.specs.Builder.{all_popped, pop_each}
 -- as many open elements are seen as are kept
 pub seen_length : {S H : Type 0} (sees : S → Seen) (node : H → ℕ) (sink : S) (state : State H) → length (world sees node sink state).stack ≡ length state.open_elems.items
 unfolding world
-seen_length sees node sink state = open_length node state.open_elems.items
+seen_length sees node sink state = open_length (open_node node) state.open_elems.items
 
 pub none_left : {A : Type 0} (s : List A) → length s ≡ 0 → s ≡ []
 none_left [] e = refl

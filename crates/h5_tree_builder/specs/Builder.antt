@@ -18,7 +18,6 @@ use Rattle.h5_meaning.specs.Changes.{pop}
 use Rattle.h5_token.specs.Joins.{join}
 use Rattle.h5_meaning.specs.Cuts.{spread}
 use Rattle.h5_meaning.specs.Run.{CountsTurns, View, WasRefused, after_all, after_token, all_quiet, is_counted, is_quiet, last_turns, refusal, replies, reply_to, step, told_all, told_of}
-use Rattle.h5_meaning.specs.Sound.{Fits, Sound}
 use Rattle.h5_meaning.specs.World.{World, names_of}
 use Rattle.h5_plain.specs.Plain.{PlainDocument, document_tokens}
 use Rattle.h5_plain.specs.Rebuilding.{AllContinue, DocumentStands, HoldsDocument}
@@ -29,12 +28,6 @@ pub record Building : Type 0 where
   pub view : View
   pub turns : ℕ
   pub errors : ℕ
-
--- what holds at every moment, also after want of memory
-pub record IsKept (b : Building) : Type 0 where
-  pub sound : Sound b.view.world
-  pub fits : b.view.failed ≡ false → b.view.ended ≡ false → Fits b.view.world
-  pub closed : b.view.ended ≡ true → b.view.world.stack ≡ []
 
 -- a builder that took nothing yet
 abbrev pub first_world : Seen → TreeBuilderOpts → World

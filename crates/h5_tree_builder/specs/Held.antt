@@ -1,7 +1,10 @@
 -- What a tree builder holds: its sink, its state, whether it has ended or failed, and the turns of the token
 -- that came last.
-use Rattle.std.specs.Prelude.{ℕ, Bool}
+use Rattle.std.specs.Prelude.{◌≡◌, ℕ, Bool, true, false, []}
 use Rattle.h5_interface.specs.Seen.{Seen}
+use Rattle.h5_interface.specs.declared.sink.TreeSink.{Ghosts}
+use Rattle.h5_meaning.specs.Sound.{Fits}
+use Rattle.h5_state.specs.Steps.{IsSound, world_of}
 use Rattle.h5_state.specs.View.{world}
 use Rattle.h5_state.specs.declared.state.State.{State}
 use Rattle.h5_tree_builder.specs.Builder.{Building}
@@ -12,6 +15,12 @@ pub record Held (S H : Type 0) : Type 0 where
   pub ended : Bool
   pub failed : Bool
   pub turns : ℕ
+
+-- what holds at every moment, also after want of memory
+pub record IsKept {S H O : Type 0} (law : Ghosts S H O) (h : Held S H) : Type 0 where
+  pub sound : IsSound law h.sink h.state
+  pub fits : h.failed ≡ false → h.ended ≡ false → Fits (world_of law h.sink h.state)
+  pub closed : h.ended ≡ true → (world_of law h.sink h.state).stack ≡ []
 
 -- what that means
 abbrev pub building : {S H : Type 0} → (S → Seen) → (H → ℕ) → Held S H → Building

@@ -42,7 +42,7 @@ impl<Handle: Drop, Sink: TreeSink<Handle = Handle> + Drop> TreeBuilder<Handle, S
     }
 
     /// Tells the sink of an error that isn't the builder's. Forest and quirks mode stay.
-    #[tactic(auto, unfolding(h5_state::specs::View::world))]
+    #[tactic(auto, unfolding(h5_state::specs::View::world, h5_meaning::specs::World::names_of))]
     pub fn tell_error(&mut self, message: &str)
         ensures noted { 0 < (building Sink.sees Sink.node self.new).errors }
         ensures view { (building Sink.sees Sink.node self.new).view ≡ (building Sink.sees Sink.node self.old).view }

@@ -32,14 +32,13 @@ pub struct TreeBuilder<Handle: Drop, Sink: TreeSink<Handle = Handle> + Drop> {
 }
 
 impl<Handle: Drop, Sink: TreeSink<Handle = Handle> + Drop> Model for TreeBuilder<Handle, Sink> {
-    ghost use Rattle.h5_tree_builder.specs.Builder.{IsKept};
-    ghost use Rattle.h5_tree_builder.specs.Held.{Held, building};
+    ghost use Rattle.h5_tree_builder.specs.Held.{Held, IsKept};
 
     ghost Value = { Held Sink Handle };
 
     ghost view = { λ b. record { sink = b.sink; state = b.state; ended = b.ended; failed = b.failed; turns = b.turns } };
 
-    ghost invariant = { λ b. IsKept (building Sink.sees Sink.node (record { sink = b.sink; state = b.state; ended = b.ended; failed = b.failed; turns = b.turns })) };
+    ghost invariant = { λ b. IsKept Sink.TreeSink (record { sink = b.sink; state = b.state; ended = b.ended; failed = b.failed; turns = b.turns }) };
 }
 
 impl<Handle: Drop, Sink: TreeSink<Handle = Handle> + Drop> TreeBuilder<Handle, Sink> {

@@ -1,6 +1,7 @@
 //! The state of a builder that took nothing yet (HTML standard, section 13.2.4, "Parse state").
-ghost use Rattle.std.specs.Prelude.{◌≡◌};
+ghost use Rattle.std.specs.Prelude.{◌≡◌, []};
 ghost use Rattle.h5_state.specs.Steps.{world_of};
+ghost use Rattle.h5_state.specs.View.{kept_of};
 ghost use Rattle.h5_tree_builder.specs.Builder.{first_world};
 
 use h5_interface::TreeSink;
@@ -11,7 +12,8 @@ use std::alloc::Global;
 // Nothing is open, in the mode "initial".
 #[tactic(auto, unfolding(h5_state::specs::View::world))]
 pub fn first_state<S: TreeSink>(sink: &S, alloc: Global, opts: TreeBuilderOpts) -> State<S::Handle>
-    ensures { world_of S.TreeSink sink.now result ≡ first_world (S.sees sink.now) opts }
+    ensures kept { kept_of result ≡ [] }
+    ensures world { world_of S.TreeSink sink.now result ≡ first_world (S.sees sink.now) opts }
 {
     State {
         opts,

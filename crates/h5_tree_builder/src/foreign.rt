@@ -14,7 +14,7 @@ pub fn is_current_foreign<S: TreeSink>(sink: &S, state: &State<S::Handle>) -> bo
     ensures { result ≡ is_foreign_in (world_of S.TreeSink sink.now state.now) }
 {
     match state.open_elems.last() {
-        Some(element) => !sink.elem_name(element).ns.is_html(),
+        Some(element) => !sink.elem_name(&element.handle).ns.is_html(),
         None => false,
     }
 }

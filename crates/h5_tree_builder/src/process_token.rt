@@ -28,7 +28,7 @@ fn take_lf<S: TreeSink>(sink: &S, state: &mut State<S::Handle>) -> bool
 }
 
 // The sink is told of the line of a token that didn't begin in the first.
-#[tactic(auto, unfolding(h5_state::specs::View::world))]
+#[tactic(auto, unfolding(h5_state::specs::View::world, h5_meaning::specs::World::names_of))]
 pub fn note_line<S: TreeSink>(sink: &mut S, state: &State<S::Handle>, line_number: u64)
     ensures done { world_of S.TreeSink sink.new state.now ≡ world_of S.TreeSink sink.old state.now }
     ensures quiet { errors_of S.TreeSink sink.new ≡ errors_of S.TreeSink sink.old }

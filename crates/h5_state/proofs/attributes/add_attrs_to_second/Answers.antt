@@ -1,27 +1,28 @@
-use Rattle.std.proofs.Common.{map, reverse, ap, sym, ◌∙◌, arith, refl}
+use Rattle.std.proofs.Common.{ap, sym, ◌∙◌, arith, refl}
 use Rattle.h5_names.specs.AttributeText.{attribute_texts}
 use Rattle.h5_interface.specs.Changes.{add_missing_attributes}
 use Rattle.h5_interface.specs.Seen.{changed}
 use Rattle.h5_meaning.specs.Changes.{add_attrs_at, add_attrs_to_second}
 use Rattle.h5_meaning.proofs.SoundLaws.{errors_or_not}
-use Rattle.h5_state.specs.View.{world}
-use Rattle.h5_state.proofs.AttributeLaws.{on_ok, open_length, second_at, second_missing, all_added}
+use Rattle.h5_state.specs.View.{open_node, world}
+use Rattle.h5_state.proofs.AttributeLaws.{on_ok, open_length, second_at, second_missing, added_rearranges}
 use Rattle.h5_state.proofs.PutLaws.{same_world}
 use Rattle.h5_state.proofs.StackLaws.{element_at}
+use Rattle.h5_state.proofs.StepLaws.{sound_rearranged}
 use Rattle.h5_state.proofs.attributes.add_attrs_to_second.Goals as goal
 
 pub add_attrs_if_missing-requires : goal.add_attrs_if_missing-requires
 unfolding world
 add_attrs_if_missing-requires g c =
     let items = c.args.state.now.open_elems.items in
-    element_at g.S.TreeSink.node items (g.S.TreeSink.sees c.args.sink.now).forest 1 c.index.result.now c.requires.stands.elements (omega (arith, open_length g.S.TreeSink.node items, c.if-len-gt1.true, c.len.ensures)) c.index.ensures
+    element_at (open_node g.S.TreeSink.node) items (g.S.TreeSink.sees c.args.sink.now).forest 1 c.index.result.now c.requires.sound.stands.elements (omega (arith, open_length (open_node g.S.TreeSink.node) items, c.if-len-gt1.true, c.len.ensures)) c.index.ensures
 
 pub returns-then-len-gt1 : goal.returns-then-len-gt1
 unfolding world add_attrs_to_second
 returns-then-len-gt1 g c =
-    let node = g.S.TreeSink.node in
+    let node = open_node g.S.TreeSink.node in
     let seen = g.S.TreeSink.sees c.args.sink.now in
-    let w = world g.S.TreeSink.sees node c.args.sink.now c.args.state.now in
+    let w = world g.S.TreeSink.sees g.S.TreeSink.node c.args.sink.now c.args.state.now in
     let items = c.args.state.now.open_elems.items in
     let attrs = attribute_texts c.args.attrs.items in
     record {
@@ -31,8 +32,8 @@ returns-then-len-gt1 g c =
           c.add_attrs_if_missing.ensures.ok;
       quiet = errors_or_not c.add_attrs_if_missing.result seen (g.S.TreeSink.sees c.add_attrs_if_missing.new.self) (add_missing_attributes (node c.index.result.now) attrs)
           c.add_attrs_if_missing.ensures.ok c.add_attrs_if_missing.ensures.err;
-      sound = all_added c.add_attrs_if_missing.result seen (g.S.TreeSink.sees c.add_attrs_if_missing.new.self) (node c.index.result.now) attrs
-          (reverse (map node items)) c.add_attrs_if_missing.ensures.ok c.add_attrs_if_missing.ensures.err c.requires;
+      sound = sound_rearranged g.S.TreeSink c.args.sink.now c.add_attrs_if_missing.new.self c.args.state.now c.requires
+          (added_rearranges c.add_attrs_if_missing.result seen (g.S.TreeSink.sees c.add_attrs_if_missing.new.self) (node c.index.result.now) attrs c.add_attrs_if_missing.ensures.ok c.add_attrs_if_missing.ensures.err c.requires.sound.stands.is_forest);
     }
 
 pub returns-else-len-gt1 : goal.returns-else-len-gt1
@@ -40,7 +41,7 @@ unfolding world add_attrs_to_second
 returns-else-len-gt1 g c =
     let w = world g.S.TreeSink.sees g.S.TreeSink.node c.args.sink.now c.args.state.now in
     record {
-      world = ap (λ o. add_attrs_at o (attribute_texts c.args.attrs.items) w) (sym (second_missing g.S.TreeSink.node c.args.state.now.open_elems.items (omega (arith, c.if-len-gt1.false, c.len.ensures))));
+      world = ap (λ o. add_attrs_at o (attribute_texts c.args.attrs.items) w) (sym (second_missing (open_node g.S.TreeSink.node) c.args.state.now.open_elems.items (omega (arith, c.if-len-gt1.false, c.len.ensures))));
       quiet = refl;
       sound = c.requires;
     }

@@ -1,7 +1,7 @@
 use Rattle.std.proofs.Common.{rules}
 use Rattle.h5_meaning.specs.Changes.{append_comment_to_doc}
-use Rattle.h5_meaning.proofs.SoundLaws.{all_rearranged}
 use Rattle.h5_state.specs.View.{world}
+use Rattle.h5_state.proofs.StepLaws.{sound_rearranged}
 use Rattle.h5_state.proofs.insert.append_comment_to_doc.Goals as goal
 
 pub returns : goal.returns
@@ -9,5 +9,5 @@ unfolding world append_comment_to_doc
 returns g c = record {
   world = search rules;
   quiet = search rules;
-  sound = all_rearranged _ _ _ c.requires c.insert_new_comment.ensures.rearranged;
+  sound = sound_rearranged g.S.TreeSink _ _ _ c.requires c.insert_new_comment.ensures.rearranged;
 }

@@ -2,7 +2,7 @@ use Rattle.std.proofs.Common.{◌≡◌, ℕ, Some, ap, codes, subst, sym, ◌�
 use Rattle.h5_names.specs.AttributeText.{attribute_texts}
 use Rattle.h5_meaning.specs.Changes.{insert_element, insert_head}
 use Rattle.h5_meaning.specs.Sound.{Sound}
-use Rattle.h5_meaning.specs.World.{World, current}
+use Rattle.h5_meaning.specs.World.{World, current, names_of}
 use Rattle.h5_meaning.proofs.PlaceLaws.{head_stands}
 use Rattle.h5_state.specs.View.{world}
 use Rattle.h5_state.proofs.insert.insert_head.Goals as goal
@@ -11,7 +11,7 @@ abbrev with_head : World → ℕ → World
 with_head w n = record w { head = Some n }
 
 pub returns : goal.returns
-unfolding world insert_head
+unfolding world names_of insert_head
 returns g c =
     let choices = g.S.TreeSink.choices in
     let node = g.S.TreeSink.node in
@@ -24,5 +24,8 @@ returns g c =
     record {
       world = same;
       quiet = c.insert_element.ensures.quiet;
-      sound = subst Sound (sym same) (head_stands choices attrs flag w c.requires (subst Sound inserted c.insert_element.ensures.sound));
+      sound = record {
+        sound = subst Sound (sym same) (head_stands choices attrs flag w c.requires.sound (subst Sound inserted c.insert_element.ensures.sound.sound));
+        kept = c.insert_element.ensures.sound.kept;
+      };
     }

@@ -14,9 +14,9 @@ returns g c =
     let w = world g.S.TreeSink.sees g.S.TreeSink.node c.args.sink.now c.args.state.now in
     let is = is_html_named c.args.local.now in
     let left = cut_under g.S.TreeSink.node c.args.state.now is (names_of w) w.stack c.args.place refl c.requires.place in
-    let same : world g.S.TreeSink.sees g.S.TreeSink.node c.args.sink.now c.truncate.new.state ≡ pop_until_named c.args.local.now w = c.truncate.ensures ∙ ap (λ s. with_stack s w) left in
+    let same : world g.S.TreeSink.sees g.S.TreeSink.node c.args.sink.now c.truncate.new.state ≡ pop_until_named c.args.local.now w = c.truncate.ensures.world ∙ ap (λ s. with_stack s w) left in
     record {
       world = same;
       quiet = refl;
-      sound = subst Sound (sym same) (all_cut _ is (names_of w) w.stack c.requires.sound);
+      sound = record { sound = subst Sound (sym same) (all_cut _ is (names_of w) w.stack c.requires.sound.sound); kept = c.truncate.ensures.kept };
     }

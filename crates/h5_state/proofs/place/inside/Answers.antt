@@ -5,13 +5,13 @@ use Rattle.h5_state.proofs.place.inside.Goals as goal
 
 pub elem_name-requires : goal.elem_name-requires
 unfolding world
-elem_name-requires g c = c.requires.sound.stands.elements (g.S.TreeSink.node c.args.target.now) c.requires.open
+elem_name-requires g c = c.requires.sound.sound.stands.elements (g.S.TreeSink.node c.args.target.now) c.requires.open
 
 pub get_template_contents-requires : goal.get_template_contents-requires
 unfolding world
 get_template_contents-requires g c =
     let n = g.S.TreeSink.node c.args.target.now in
-    c.requires.sound.stands.templates n c.requires.open
+    c.requires.sound.sound.stands.templates n c.requires.open
     (template_test (g.S.TreeSink.sees c.args.sink.now).forest n c.elem_name.result.now c.is_html_known.result c.elem_name.ensures c.is_html_known.ensures ∙ c.if-is_html_known.true)
 
 pub returns-then-is_html_known : goal.returns-then-is_html_known

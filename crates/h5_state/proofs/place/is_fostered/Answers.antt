@@ -7,7 +7,7 @@ use Rattle.h5_state.proofs.place.is_fostered.Goals as goal
 
 pub elem_name-requires : goal.elem_name-requires
 unfolding world
-elem_name-requires g c = c.requires.sound.stands.elements (g.S.TreeSink.node c.args.target.now) c.requires.open
+elem_name-requires g c = c.requires.sound.sound.stands.elements (g.S.TreeSink.node c.args.target.now) c.requires.open
 
 pub returns-then-state : goal.returns-then-state
 unfolding world

@@ -32,7 +32,7 @@ returns-in-Done g c =
           (subst (λ n. CameTo node (settle k t first) true v e d (record { turns = n; answer = Continue })) (omega (arith, c.turns.invariant.some))
           (done_last k node t first w v e a b d (c.turns.turns - 1) c.is_self_closing-self_closing.result f c.is_self_closing-self_closing.ensures c.check_flag.ensures.quiet c.turns.invariant.left));
       sound = c.check_flag.ensures.told.sound c.step.ensures.sound;
-      fits = subst Fits (sym c.check_flag.ensures.told.world) (fits_done k node t w v a b f c.turns.invariant.sound c.requires.text c.turns.invariant.fits);
+      fits = subst Fits (sym c.check_flag.ensures.told.world) (fits_done k node t w v a b f c.turns.invariant.sound.sound c.requires.text c.turns.invariant.fits);
     }
 
 pub returns-in-DoneAckSelfClosing : goal.returns-in-DoneAckSelfClosing
@@ -51,7 +51,7 @@ returns-in-DoneAckSelfClosing g c =
       came = subst (λ n. CameTo node (settle k t first) true v e b (record { turns = n; answer = Continue })) (omega (arith, c.turns.invariant.some))
           (acknowledged_last k node t first w v e a b (c.turns.turns - 1) f c.turns.invariant.left);
       sound = c.step.ensures.sound;
-      fits = fits_acknowledged k node t w v a b f c.turns.invariant.sound c.requires.text c.turns.invariant.fits;
+      fits = fits_acknowledged k node t w v a b f c.turns.invariant.sound.sound c.requires.text c.turns.invariant.fits;
     }
 
 pub returns-in-Answer : goal.returns-in-Answer
@@ -70,7 +70,7 @@ returns-in-Answer g c =
       came = subst (λ n. CameTo node (settle k t first) true v e b (record { turns = n; answer = c.in-Answer.answer })) (omega (arith, c.turns.invariant.some))
           (answered_last k node t first w v e a b (c.turns.turns - 1) c.in-Answer.answer f c.turns.invariant.left);
       sound = c.step.ensures.sound;
-      fits = fits_answered k node t w v a b c.in-Answer.answer f c.turns.invariant.sound c.requires.text c.turns.invariant.fits;
+      fits = fits_answered k node t w v a b c.in-Answer.answer f c.turns.invariant.sound.sound c.requires.text c.turns.invariant.fits;
     }
 
 pub turns-smaller : goal.turns-smaller
@@ -104,7 +104,7 @@ turns-preserved g c =
     let less = rank_falls k node t w v u a b m token f c.set_mode.ensures.world in
     record {
       sound = c.set_mode.ensures.sound;
-      fits = fits_again k node t w v u a b m token f c.set_mode.ensures.world c.turns.invariant.sound c.requires.text c.turns.invariant.fits;
+      fits = fits_again k node t w v u a b m token f c.set_mode.ensures.world c.turns.invariant.sound.sound c.requires.text c.turns.invariant.fits;
       same = f.ending.1;
       some = omega arith;
       few = omega (arith, less, c.turns.invariant.few);

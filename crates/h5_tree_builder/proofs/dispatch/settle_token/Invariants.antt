@@ -1,7 +1,8 @@
 use Rattle.std.proofs.Common.{◌≡◌, ◌<◌, ◌≤◌, ◌+◌, ◌-◌}
 use Rattle.h5_types.specs.TurnText.{turn_text}
-use Rattle.h5_meaning.specs.Sound.{Fits, Sound}
+use Rattle.h5_meaning.specs.Sound.{Fits}
 use Rattle.h5_meaning.proofs.SettleLaws.{is_end_html, rank}
+use Rattle.h5_state.specs.Steps.{IsSound}
 use Rattle.h5_state.specs.View.{world}
 use Rattle.h5_tree_builder.proofs.ChainLaws.{Left}
 use Rattle.h5_tree_builder.proofs.dispatch.settle_token.Given as goal
@@ -13,7 +14,7 @@ invariant-turns g l =
     let first = world g.S.TreeSink.sees g.S.TreeSink.node l.fn.sink l.fn.state in
     let t = turn_text l.fn.token in
     record {
-      sound : Sound w;
+      sound : IsSound g.S.TreeSink l.sink l.state;
       fits : Fits w;
       same : turn_text l.rest ≡ t;
       some : 0 < l.turns;

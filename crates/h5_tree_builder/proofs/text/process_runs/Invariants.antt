@@ -1,7 +1,8 @@
 use Rattle.std.proofs.Common.{◌≡◌, length}
 use Rattle.h5_types.specs.declared.modes.InsertionMode.TheVariants.{InBody}
-use Rattle.h5_meaning.specs.Sound.{Fits, Sound}
+use Rattle.h5_meaning.specs.Sound.{Fits}
 use Rattle.h5_meaning.specs.Text.{text_any}
+use Rattle.h5_state.specs.Steps.{IsSound}
 use Rattle.h5_state.specs.View.{world}
 use denote.Shadow.{shadow}
 use denote.Text.{Utf8}
@@ -13,7 +14,7 @@ invariant-runs g l =
     let first = world g.S.TreeSink.sees g.S.TreeSink.node l.fn.sink l.fn.state in
     record {
       utf8 : shadow (Utf8 l.rest);
-      sound : Sound w;
+      sound : IsSound g.S.TreeSink l.sink l.state;
       fits : Fits w;
       rest : text_any g.S.TreeSink.choices l.rest w ≡ text_any g.S.TreeSink.choices l.fn.text first;
       mode : first.mode ≡ InBody → w.mode ≡ InBody;

@@ -1,14 +1,9 @@
-use Rattle.std.proofs.Common.{false, sym, subst, rules}
-use Rattle.h5_meaning.specs.World.{World}
-use Rattle.h5_tree_builder.specs.Builder.{IsKept}
+use Rattle.std.proofs.Common.{rules}
 use Rattle.h5_tree_builder.proofs.BuilderLaws.{first_kept}
 use Rattle.h5_tree_builder.proofs.builder.TreeBuilder.new.Goals as goal
 
 pub invariant_of-result : goal.invariant_of-result
-invariant_of-result g c =
-    let seen = g.Sink.TreeSink.sees c.args.sink in
-    subst (λ (w : World). IsKept (record { view = record { world = w; ended = false; failed = false }; turns = 0; errors = seen.errors })) (sym c.first_state-state.ensures)
-    (first_kept seen c.args.opts c.get_document-document.ensures.is_forest)
+invariant_of-result g c = first_kept g.Sink.TreeSink c.args.sink c.first_state-state.result c.args.opts c.get_document-document.ensures.is_forest c.first_state-state.ensures.kept c.first_state-state.ensures.world
 
 pub returns-clause-first : goal.returns-clause-first
 returns-clause-first g c = search rules

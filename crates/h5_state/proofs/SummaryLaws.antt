@@ -1,0 +1,95 @@
+-- What is kept beside the open elements, where elements come or leave.
+use Rattle.std.proofs.Common.{◌≡◌, ◌≢◌, Bool, true, false, ◌&&◌, ◌<◌, ◌-◌, ◌+◌, ℕ, take, drop, get_or, Some, List, [], ◌∷◌, ◌++◌, length, map, reverse, refl, ap, sym, ◌∙◌, arith}
+use Rattle.std.specs.Prelude.{slice_get}
+use Rattle.std.proofs.lemmas.Slice.Eq.{bytes_eq-Decides}
+use Rattle.std.proofs.lemmas.List.{length-map, length-reverse, map-append, reverse-append, take-append-drop, take_more}
+use Rattle.h5_names.specs.AttributeText.{is_same_text}
+use Rattle.h5_names.specs.declared.qualified.QualName.{QualName}
+use Rattle.h5_interface.specs.Forest.{Forest}
+use Rattle.h5_interface.specs.Seen.{Seen, after_pop}
+use Rattle.h5_interface.specs.SinkChoices.{SinkChoices}
+use Rattle.h5_tag_sets.specs.TagSets.{html_namespace, is_html_named}
+use Rattle.h5_stack.specs.Scope.{later_names}
+use Rattle.h5_meaning.specs.World.{World, name_in, names_of}
+use Rattle.h5_meaning.proofs.PopLaws.{names-pop}
+use Rattle.h5_state.specs.Summaries.{all_open, name_number, summaries, summary_of}
+use Rattle.h5_state.specs.View.{open_node}
+use Rattle.h5_state.specs.declared.open_element.OpenElement.{OpenElement}
+use Rattle.h5_state.specs.declared.open_element.Summary.{Summary}
+use Rattle.h5_state.proofs.StackLaws.{last_split, popped_world, seen_pushed, seen_world}
+
+-- names of other numbers are others
+pub other_number : (local : List ℕ) (name : QualName) → name_number name.local ≢ name_number local → is_html_named local name ≡ false
+unfolding is_html_named
+other_number local name h = at (is_same_text name.ns html_namespace) (is_same_text name.local local) (bytes_eq-Decides name.local local).0
+  where
+    at : (a b : Bool) → (b ≡ true → name.local ≡ local) → (a && b) ≡ false
+    at true true same = absurd (h (ap name_number (same refl)))
+    at true false same = refl
+    at false b same = refl
+
+-- the older ones have the summaries of their names
+summaries_behind : (newer older : List QualName) (kept rest : List Summary) → length kept ≡ length newer → kept ++ rest ≡ summaries (newer ++ older) → rest ≡ summaries older
+summaries_behind [] older [] rest e h = h
+summaries_behind [] older (s ∷ kept) rest e h = absurd (omega (arith, e))
+summaries_behind (n ∷ newer) older [] rest e h = absurd (omega (arith, e))
+summaries_behind (n ∷ newer) older (s ∷ kept) rest e h = let tail : kept ++ rest ≡ summaries (newer ++ older) = cc in summaries_behind newer older kept rest (omega (arith, e)) tail
+
+-- the newest first, cut in two
+cut_in_two : {X Y : Type 0} (f : X → Y) (xs : List X) (count : ℕ) → reverse (map f xs) ≡ reverse (map f (drop count xs)) ++ reverse (map f (take count xs))
+cut_in_two f xs count =
+    ap (λ z. reverse (map f z)) (sym (take-append-drop count xs)) ∙ ap reverse (map-append f (take count xs) (drop count xs)) ∙ reverse-append (map f (take count xs)) (map f (drop count xs))
+
+module _ {H : Type 0} (node : H → ℕ) (f : Forest) where
+  abbrev pub kept : List (OpenElement H) → List Summary
+  kept xs = reverse (map (λ element. element.summary) xs)
+
+  abbrev pub names : List (OpenElement H) → List QualName
+  names xs = map (name_in f) (reverse (map (open_node node) xs))
+
+  -- so many of the oldest
+  pub kept_under : (xs : List (OpenElement H)) (count : ℕ) → kept xs ≡ summaries (names xs) → kept (take count xs) ≡ summaries (names (take count xs))
+  kept_under xs count h =
+      let split_names : names xs ≡ names (drop count xs) ++ names (take count xs) = ap (map (name_in f)) (cut_in_two (open_node node) xs count) ∙ map-append (name_in f) (reverse (map (open_node node) (drop count xs))) (reverse (map (open_node node) (take count xs))) in
+      let same_length : length (kept (drop count xs)) ≡ length (names (drop count xs)) = simp (length-reverse, length-map) in
+      summaries_behind (names (drop count xs)) (names (take count xs)) (kept (drop count xs)) (kept (take count xs)) same_length
+      (sym (cut_in_two (λ element. element.summary) xs count) ∙ h ∙ ap summaries split_names)
+
+  -- the newest of them
+  pub kept_newest : (xs ys : List (OpenElement H)) (x : OpenElement H) → ys ≡ xs ++ x ∷ [] → kept ys ≡ summaries (names ys) → x.summary ≡ summary_of (name_in f (node x.handle)) (names xs)
+  kept_newest xs ys x e h =
+      let first : x.summary ∷ kept xs ≡ summary_of (name_in f (node x.handle)) (names xs) ∷ summaries (names xs) =
+      sym (seen_pushed (λ element. element.summary) xs ys x e) ∙ h ∙ ap (λ s. summaries (map (name_in f) s)) (seen_pushed (open_node node) xs ys x e) in
+      cc
+
+  -- the one at a place
+  pub kept_at : (xs : List (OpenElement H)) (i : ℕ) (x : OpenElement H) → i < length xs → x ≡ get_or xs i x → kept xs ≡ summaries (names xs) → x.summary ≡ summary_of (name_in f (node x.handle)) (names (take i xs))
+  kept_at xs i x h e k = kept_newest (take i xs) (take (i + 1) xs) x (take_more xs i x h ∙ ap (λ z. take i xs ++ z ∷ []) (sym e)) (kept_under xs (i + 1) k)
+
+  -- what is known of all
+  pub all_of_newest : (xs : List (OpenElement H)) (x : OpenElement H) → Some x ≡ slice_get xs (length xs - 1) → kept xs ≡ summaries (names xs) → x.summary.all ≡ all_open (names xs)
+  all_of_newest xs x e k =
+      let r = last_split xs x e in
+      ap (λ (s : Summary). s.all) (kept_newest r.0 xs x r.1 k) ∙ ap (λ s. all_open (map (name_in f) s)) (sym (seen_pushed (open_node node) r.0 xs x r.1))
+
+-- one more
+pub kept_pushed : {H : Type 0} (xs ys : List (OpenElement H)) (x : OpenElement H) (name : QualName) (old new : List QualName) → ys ≡ xs ++ x ∷ [] → x.summary ≡ summary_of name old → new ≡ name ∷ old
+    → reverse (map (λ (element : OpenElement H). element.summary) xs) ≡ summaries old → reverse (map (λ (element : OpenElement H). element.summary) ys) ≡ summaries new
+kept_pushed {H} xs ys x name old new e s n k =
+    seen_pushed (λ (element : OpenElement H). element.summary) xs ys x e
+    ∙ ap (λ a. a ∷ reverse (map (λ (element : OpenElement H). element.summary) xs)) s
+    ∙ ap (λ z. summary_of name old ∷ z) k
+    ∙ ap summaries (sym n)
+
+-- one less
+kept_later : (s : Summary) (rest : List Summary) (names : List QualName) → s ∷ rest ≡ summaries names → rest ≡ summaries (later_names names)
+kept_later s rest [] e = absurd (cc)
+kept_later s rest (n ∷ ns) e = cc
+
+pub kept_popped : {H : Type 0} (node : H → ℕ) (choices : SinkChoices) (w : World) (old new : Seen) (ys xs : List (OpenElement H)) (x : OpenElement H) → ys ≡ xs ++ x ∷ [] → new ≡ after_pop choices (node x.handle) old
+    → reverse (map (λ (element : OpenElement H). element.summary) ys) ≡ summaries (names_of (seen_world w old (reverse (map (open_node node) ys))))
+    → reverse (map (λ (element : OpenElement H). element.summary) xs) ≡ summaries (names_of (seen_world w new (reverse (map (open_node node) xs))))
+kept_popped {H} node choices w old new ys xs x e h k =
+    let before = seen_world w old (reverse (map (open_node node) ys)) in
+    kept_later x.summary _ (names_of before) (sym (seen_pushed (λ (element : OpenElement H). element.summary) xs ys x e) ∙ k)
+    ∙ ap summaries (sym (ap names_of (popped_world (open_node node) choices w old new ys xs x e h) ∙ names-pop choices before))

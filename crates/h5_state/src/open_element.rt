@@ -1,0 +1,112 @@
+//! An open element, and what is kept beside it: what is asked of all open elements is known then without a walk over
+//! them (HTML standard, section 13.2.4.2, "The stack of open elements").
+ghost use Rattle.std.specs.Prelude.{◌≡◌, ◌∷◌, if◌then◌else◌, List, [], false, true};
+ghost use Rattle.h5_names.specs.declared.qualified.QualName.{QualName as NameText};
+ghost use Rattle.h5_state.specs.Summaries.{all_open, name_number, summary_of, text_number};
+
+use h5_names::{KnownName, LocalName, QualName};
+use h5_tag_sets::{body_end_ok, button_scope, default_scope, is_html_known, special_tag};
+
+/// What is known of some open elements, from the root up to one of them.
+#[derive(Clone, Copy)]
+pub struct AllOpen {
+    /// Whether one may not be open where the body ends.
+    pub unclosed: bool,
+    /// Whether one is an HTML `template`.
+    pub template: bool,
+    /// Whether an HTML `body` is in scope.
+    pub body_in_scope: bool,
+    /// Whether an HTML `p` is in button scope.
+    pub p_in_button_scope: bool,
+}
+
+impl AllOpen {
+    /// What is known where none is open.
+    pub fn none() -> AllOpen
+        ensures { result ≡ all_open [] }
+    {
+        AllOpen {
+            unclosed: false,
+            template: false,
+            body_in_scope: false,
+            p_in_button_scope: false,
+        }
+    }
+
+    /// What is known with one more, the newest, of this name.
+    pub fn with_newest(self, name: &QualName) -> AllOpen
+        ensures { (older : List NameText) → self ≡ all_open older → result ≡ all_open (name.now ∷ older) }
+    {
+        let (is_body, ends_scope) = (is_html_known(name, KnownName::Body), default_scope(name));
+        let (is_p, ends_button_scope) = (is_html_known(name, KnownName::P), button_scope(name));
+        AllOpen {
+            unclosed: !body_end_ok(name) | self.unclosed,
+            template: is_html_known(name, KnownName::Template) | self.template,
+            body_in_scope: still_in_scope(is_body, ends_scope, self.body_in_scope),
+            p_in_button_scope: still_in_scope(is_p, ends_button_scope, self.p_in_button_scope),
+        }
+    }
+}
+
+/// What is kept beside an open element.
+#[derive(Clone, Copy)]
+pub struct Summary {
+    /// A number of its local name: equal names have equal numbers.
+    pub number: u32,
+    /// Whether it is special.
+    pub special: bool,
+    /// What is known of it and all older ones.
+    pub all: AllOpen,
+}
+
+impl Summary {
+    /// What is kept of an element of this name, where this is known of all older ones.
+    pub fn new(name: &QualName, older: AllOpen) -> Summary
+        ensures { (names : List NameText) → older ≡ all_open names → result ≡ summary_of name.now names }
+    {
+        Summary {
+            number: name_number(&name.local),
+            special: special_tag(name),
+            all: older.with_newest(name),
+        }
+    }
+}
+
+/// An open element.
+#[derive(Drop)]
+pub struct OpenElement<Handle> {
+    pub handle: Handle,
+    pub summary: Summary,
+}
+
+// Whether something is in scope above an element, which is it or ends the scope, where it is in scope below or not.
+fn still_in_scope(is: bool, ends: bool, below: bool) -> bool
+    ensures { result ≡ (if is then true else (if ends then false else below)) }
+{
+    is || !ends && below
+}
+
+// A number of a text, by which equal texts are found: its bytes are digits, of which as much is left as fits.
+fn text_number(text: &str) -> u32
+    ensures { result ≡ text_number text.now }
+{
+    let mut number: u32 = 0;
+    for byte in text.as_bytes() {
+        number = number.wrapping_mul(31).wrapping_add(*byte as u32);
+    }
+    number
+}
+
+/// A number of a local name: equal names have equal numbers, and most others have others. That of a name that HTML
+/// knows takes no look at its text.
+#[tactic(auto, unfolding(crate::specs::Summaries::name_number))]
+pub fn name_number(local: &LocalName) -> u32
+    ensures { result ≡ name_number local.now }
+{
+    let known = local.known();
+    if known == KnownName::Other {
+        text_number(local.as_str())
+    } else {
+        known as u32
+    }
+}
