@@ -71,6 +71,25 @@ fn attributes_are_kept_once(rt: HostRuntime) -> Result<(), Fail> {
     Ok(())
 }
 
+// Fifty attributes, then the first of them and two of the last again.
+fn many_attributes(alloc: Global) -> Result<String, AllocError> {
+    let mut text = String::new(alloc);
+    for number in 0..50 {
+        write!(text, " a{number}=x")?;
+    }
+    text.push_str(" a0 A40 a49")?;
+    Ok(text)
+}
+
+#[test]
+fn many_attributes_are_kept_once(rt: HostRuntime) -> Result<(), Fail> {
+    let alloc = rt.alloc();
+    let kept = read_attributes(alloc, many_attributes(alloc)?.as_str())?;
+    assert!(rt; kept.duplicates);
+    assert_eq!(rt; kept.attributes.len(), 50);
+    Ok(())
+}
+
 #[test]
 fn doctypes_have_identifiers(rt: HostRuntime) -> Result<(), Fail> {
     let alloc = rt.alloc();

@@ -4,3 +4,4 @@ pub mod TextLaws
 pub mod AttributeLaws
 pub mod DoctypeLaws
 pub mod NameLaws
+pub mod LaterLaws

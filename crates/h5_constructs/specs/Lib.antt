@@ -4,3 +4,4 @@ pub mod Attributes
 pub mod Doctypes
 pub mod Writing
 pub mod Quoting
+pub mod Later

@@ -1,13 +1,14 @@
 //! The attributes of a tag.
-ghost use Rattle.std.specs.Prelude.{◌≡◌, ◌<◌, ◌||◌, ◌∷◌, IfOk, [], true, false, drop, length};
-ghost use Rattle.h5_names.specs.AttributeText.{attribute_text, attribute_texts};
+ghost use Rattle.std.specs.Prelude.{◌≡◌, ◌<◌, IfOk, [], false, drop, length};
+ghost use Rattle.h5_names.specs.AttributeText.{attribute_texts};
 ghost use Rattle.h5_scan.specs.Cuts.{is_in, from};
 ghost use Rattle.h5_constructs.specs.Attributes as a;
 ghost use Rattle.h5_constructs.specs.Writing.{written, WrittenAt};
 ghost use Rattle.h5_constructs.specs.Text as t;
 
+use super::keeping::Keeping;
 use super::text::text_of;
-use h5_names::{Attribute, KnownName, LocalName, Namespace, QualName};
+use h5_names::{Attribute, KnownName, LocalName};
 use h5_scan::{Class, Seen, cut_at, cut_name, cut_past, literal, skip};
 use std::alloc::{AllocError, Global};
 
@@ -91,54 +92,11 @@ fn cut_attribute<'a>(text: &'a str) -> Written<'a>
     cut_rest(name, skip(behind, Class::Blank))
 }
 
-fn make_attribute(alloc: Global, name: LocalName, value: &str) -> Result<Attribute, AllocError>
-    ensures { IfOk result (λ attribute. attribute_text attribute ≡ a.attribute_named name (t.text_of true value.now)) }
-{
-    Ok(Attribute {
-        name: QualName::new(None, Namespace::none(), name),
-        value: text_of(alloc, true, value)?,
-    })
-}
-
-fn is_named_in(name: &LocalName, attributes: &[Attribute]) -> bool
-    ensures { result ≡ a.is_named_in name.now (attribute_texts attributes.now) }
-{
-    for attribute in attributes {
-        if attribute.name.local == *name {
-            return true;
-        }
-    }
-    false
-}
-
 /// The attributes that were kept, each name once, and whether one came twice.
 #[derive(Drop)]
 pub struct Kept {
     pub attributes: Vec<Attribute>,
     pub duplicates: bool,
-}
-
-impl Kept {
-    ghost use Rattle.std.specs.Prelude.{List};
-    ghost use Rattle.h5_names.specs.AttributeText.{AttributeText};
-
-    // Keeps an attribute, unless its name is there.
-    fn keep(&mut self, alloc: Global, name: LocalName, value: &str) -> Result<(), AllocError>
-        ensures attributes { IfOk result (λ _. (others : List AttributeText) →
-            a.distinct (attribute_texts self.new.attributes.items) others
-            ≡ a.distinct (attribute_texts self.old.attributes.items) (a.attribute_named name (t.text_of true value.now) ∷ others)) }
-        ensures duplicates { IfOk result (λ _. (others : List AttributeText) →
-            (self.new.duplicates || a.repeats (attribute_texts self.new.attributes.items) others)
-            ≡ (self.old.duplicates || a.repeats (attribute_texts self.old.attributes.items) (a.attribute_named name (t.text_of true value.now) ∷ others))) }
-    {
-        if is_named_in(&name, &self.attributes) {
-            self.duplicates = true;
-            return Ok(());
-        }
-        let attribute = make_attribute(alloc, name, value)?;
-        self.attributes.push(attribute)?;
-        Ok(())
-    }
 }
 
 /// The attributes of a tag, by what stands between its name and the `>` that ends it, in their order. One
@@ -148,15 +106,15 @@ pub fn read_attributes(alloc: Global, text: &str) -> Result<Kept, AllocError>
     ensures attributes { IfOk result (λ kept. attribute_texts kept.attributes.items ≡ a.distinct [] (a.attributes_of text.now)) }
     ensures duplicates { IfOk result (λ kept. kept.duplicates ≡ a.has_duplicates (a.attributes_of text.now)) }
 {
-    let mut kept = Kept {
-        attributes: Vec::new(alloc),
-        duplicates: false,
-    };
+    let mut kept = Keeping::new(alloc);
     let mut rest = text;
     'attributes: loop {
         let front = skip(rest, Class::BetweenAttributes);
         if front.is_empty() {
-            return Ok(kept);
+            return Ok(Kept {
+                attributes: kept.attributes,
+                duplicates: kept.duplicates,
+            });
         }
         let attribute = cut_attribute(front);
         let name = make_name(alloc, attribute.name)?;

@@ -3,6 +3,7 @@
 
 mod attributes;
 mod doctypes;
+mod keeping;
 mod plain;
 mod text;
 

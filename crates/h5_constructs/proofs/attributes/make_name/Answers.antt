@@ -1,7 +1,7 @@
-use Rattle.std.proofs.Common.{◌∙◌, ap, false, map, rules, sym}
+use Rattle.std.proofs.Common.{◌∙◌, ap, map, rules, sym}
 use Rattle.std.specs.Char.{to_ascii_lowercase}
 use Rattle.h5_names.proofs.KnownNameLemmas.{text_of_name}
-use Rattle.h5_constructs.specs.Text.{name_of, text_of}
+use Rattle.h5_constructs.specs.Text.{name_of}
 use Rattle.h5_constructs.proofs.NameLaws.{name_stands}
 use Rattle.h5_constructs.proofs.attributes.make_name.Goals as goal
 

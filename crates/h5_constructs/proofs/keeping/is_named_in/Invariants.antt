@@ -1,7 +1,7 @@
 use Rattle.std.proofs.Common.{◌≡◌, drop}
 use Rattle.h5_names.specs.AttributeText.{attribute_texts}
 use Rattle.h5_constructs.specs.Attributes.{is_named_in}
-use Rattle.h5_constructs.proofs.attributes.is_named_in.Given as goal
+use Rattle.h5_constructs.proofs.keeping.is_named_in.Given as goal
 
 abbrev pub invariant-loop-attribute : goal.invariant-loop-attribute
 invariant-loop-attribute l =
