@@ -10,13 +10,13 @@ use Rattle.h5_interface.specs.SinkChoices.{SinkChoices}
 use Rattle.h5_meaning.specs.Run.{View, after_all, after_token, refusal, run, take_or_refuse}
 use Rattle.h5_meaning.proofs.JoinLaws.{view_joins}
 use Rattle.h5_meaning.proofs.RunLaws.{token_cut}
-use Rattle.h5_tokenizer.specs.End.{Closes, Finishes, Takes, refuses, settle}
+use Rattle.h5_tokenizer.specs.End.{Closes, ClosesWith, Finishes, Takes, refuses, settle}
 use Rattle.h5_tokenizer.specs.Front.{Place}
 use Rattle.h5_tokenizer.specs.Read.{Read, Step, marked, nothing_read, read_on, switch_step, text_step, token_step, unmarked}
 use Rattle.h5_tokenizer.specs.Outcome.{Feeds, ReadsAll, RefusedAt, StopsAt}
 use Rattle.h5_tokenizer.specs.ReaderText.{ReaderText}
-use Rattle.h5_tokenizer.specs.Whole.{IsBlindToCuts, Readings, ReadsToEnd, closing, more_reading, no_reading}
-use Rattle.h5_tokenizer.specs.Whole as whole
+use Rattle.h5_tokenizer.specs.Lines.{line_behind}
+use Rattle.h5_tokenizer.specs.Whole.{IsBlindToCuts, Readings, ReadsToEnd, after_closing, closing, more_reading, no_reading}
 use Rattle.h5_tokenizer.proofs.CutLaws.{cuts_agree}
 use Rattle.h5_tokenizer.proofs.WholeLaws.{end_ends, readings_go_on}
 use Rattle.h5_driver.specs.Parsing.{Advances, IsWorking, Parses, Reads, TakesAll, after, ended, foreign, replies}
@@ -29,19 +29,19 @@ works_after choices t v w = at (refusal v t)
     at None = record { unfailed = w.unfailed; unended = w.unended }
     at (Some f) = w
 
-step_works : (choices : SinkChoices) {p q : Place} {m n : View} {xs ys : List ℕ} {ts : List TokenText} {reply : Reply} → Step (replies choices) (after choices) foreign p m xs ts reply q n ys → IsWorking m → IsWorking n × (reply ≡ Continues)
+step_works : (choices : SinkChoices) {p : Place} {m : View} {xs : List ℕ} {ts : List TokenText} {reply : Reply} {q : Place} {n : View} {ys : List ℕ} → Step (replies choices) (after choices) foreign p m xs ts reply q n ys → IsWorking m → IsWorking n × (reply ≡ Continues)
 step_works choices (marked e f) w = (w, refl)
 step_works choices (unmarked e f) w = (w, refl)
 step_works choices {m = m} (token_step token e f) w = (works_after choices token m w, continues choices token m w.unfailed w.unended)
 step_works choices (switch_step mode e f) w = (w, refl)
 step_works choices {m = m} (text_step text e l b) w = (works_after choices (Characters text) m w, continues choices (Characters text) m w.unfailed w.unended)
 
-pub read_works : (choices : SinkChoices) {p q : Place} {m n : View} {xs ys : List ℕ} {ts : List TokenText} {reply : Reply} → Read (replies choices) (after choices) foreign p m xs ts reply q n ys → IsWorking m → IsWorking n × (reply ≡ Continues)
+pub read_works : (choices : SinkChoices) {p : Place} {m : View} {xs : List ℕ} {ts : List TokenText} {reply : Reply} {q : Place} {n : View} {ys : List ℕ} → Read (replies choices) (after choices) foreign p m xs ts reply q n ys → IsWorking m → IsWorking n × (reply ≡ Continues)
 read_works choices nothing_read w = (w, refl)
 read_works choices (read_on r g s) w = step_works choices s (read_works choices r w).0
 
 -- what it means then is what the run of the tokens leaves
-step_runs : (choices : SinkChoices) {p q : Place} {m n : View} {xs ys : List ℕ} {ts : List TokenText} {reply : Reply} → Step (replies choices) (after choices) foreign p m xs ts reply q n ys → n ≡ after_all choices ts m
+step_runs : (choices : SinkChoices) {p : Place} {m : View} {xs : List ℕ} {ts : List TokenText} {reply : Reply} {q : Place} {n : View} {ys : List ℕ} → Step (replies choices) (after choices) foreign p m xs ts reply q n ys → n ≡ after_all choices ts m
 unfolding run
 step_runs choices (marked e f) = refl
 step_runs choices (unmarked e f) = refl
@@ -49,7 +49,7 @@ step_runs choices (token_step token e f) = refl
 step_runs choices (switch_step mode e f) = refl
 step_runs choices (text_step text e l b) = refl
 
-read_runs : (choices : SinkChoices) {p q : Place} {m n : View} {xs ys : List ℕ} {ts : List TokenText} {reply : Reply} → Read (replies choices) (after choices) foreign p m xs ts reply q n ys → n ≡ after_all choices ts m
+read_runs : (choices : SinkChoices) {p : Place} {m : View} {xs : List ℕ} {ts : List TokenText} {reply : Reply} {q : Place} {n : View} {ys : List ℕ} → Read (replies choices) (after choices) foreign p m xs ts reply q n ys → n ≡ after_all choices ts m
 unfolding run
 read_runs choices nothing_read = refl
 read_runs choices {m = m} (read_on {ts = ts} {us = us} r g s) = step_runs choices s ∙ ap (after_all choices us) (read_runs choices r) ∙ sym (view_joins choices ts us m)
@@ -59,17 +59,18 @@ unfolding run
 readings_run choices no_reading = refl
 readings_run choices {m = m} (more_reading {ts = ts} {us = us} r s g) = read_runs choices s ∙ ap (after_all choices us) (readings_run choices r) ∙ sym (view_joins choices ts us m)
 
-same_run : (choices : SinkChoices) (ts : List TokenText) (v : View) → whole.after_all (after choices) v ts ≡ after_all choices ts v
+same_run : (choices : SinkChoices) (s : Option TokenText) (line last : ℕ) (v : View) → after_closing (after choices) v s line last ≡ after_all choices (closing s) v
 unfolding run
-same_run choices [] v = refl
-same_run choices (t ∷ ts) v = same_run choices ts (after_token choices t v)
+same_run choices None line last v = refl
+same_run choices (Some t) line last v = refl
 
 -- a reading to the end leaves what the run of its tokens, and then the end, leave
 pub reads_run : (choices : SinkChoices) (p : Place) (m : View) (xs : List ℕ) (ts : List TokenText) (n : View) → Reads choices p m xs ts n → n ≡ ended choices (after_all choices ts m)
 reads_run choices p m xs ts n r =
-    let last = closing (settle r.place.mode r.place.last (foreign r.meaning) r.rest) in
+    let rest = settle r.place.mode r.place.last (foreign r.meaning) r.rest in
+    let last = closing rest in
     r.closed
-    ∙ ap (ended choices) (same_run choices last r.meaning ∙ ap (after_all choices last) (readings_run choices r.readings) ∙ sym (view_joins choices r.handed last m) ∙ ap (λ x. after_all choices x m) (sym r.tokens))
+    ∙ ap (ended choices) (same_run choices rest r.place.line (line_behind r.place.line r.rest []) r.meaning ∙ ap (after_all choices last) (readings_run choices r.readings) ∙ sym (view_joins choices r.handed last m) ∙ ap (λ x. after_all choices x m) (sym r.tokens))
 
 -- it doesn't matter to a builder how a text is cut
 pub blind : (choices : SinkChoices) → IsBlindToCuts (replies choices) (after choices) foreign (ended choices) (λ m n. m ≡ n)
@@ -79,9 +80,9 @@ blind choices = record {
   transitive = λ m n o e f. e ∙ f;
   replies = λ m n t e. ap (λ v. replies choices v t) e;
   spaces = λ m n e. ap foreign e;
-  kept = λ m n t e. ap (λ v. after choices v t) e;
+  kept = λ m n t k l e. ap (after_token choices t) e;
   ends = λ m n e. ap (ended choices) e;
-  cut = λ m x y xs ys. token_cut choices x xs y ys m;
+  cut = λ m x y xs ys j k l. token_cut choices x xs y ys m;
 }
 
 -- what `feed` did after readings
@@ -117,22 +118,22 @@ fault_is_memory choices node p m xs new n queue NotInText w h = absurd (never_re
 fault_is_memory choices node p m xs new n queue Failed w h = absurd (never_refused choices p m xs Failed new n w h)
 
 -- the end of a builder that works: a fault is want of memory
-finishes_memory : (choices : SinkChoices) (m n : View) (f : BuildFault) → IsWorking m → Finishes (replies choices) (after choices) (ended choices) m n (Err f) → f ≡ Memory
-finishes_memory choices m n Memory w h = refl
-finishes_memory choices m n AfterEnd w h = let e : Refuses AfterEnd ≡ Continues = sym h.0 ∙ continues choices EndOfFile m w.unfailed w.unended in absurd (cc)
-finishes_memory choices m n NotInText w h = let e : Refuses NotInText ≡ Continues = sym h.0 ∙ continues choices EndOfFile m w.unfailed w.unended in absurd (cc)
-finishes_memory choices m n Failed w h = let e : Refuses Failed ≡ Continues = sym h.0 ∙ continues choices EndOfFile m w.unfailed w.unended in absurd (cc)
+finishes_memory : (choices : SinkChoices) (m n : View) (line : ℕ) (f : BuildFault) → IsWorking m → Finishes (replies choices) (after choices) (ended choices) m line n (Err f) → f ≡ Memory
+finishes_memory choices m n line Memory w h = refl
+finishes_memory choices m n line AfterEnd w h = let e : Refuses AfterEnd ≡ Continues = sym h.0 ∙ continues choices EndOfFile m w.unfailed w.unended in absurd (cc)
+finishes_memory choices m n line NotInText w h = let e : Refuses NotInText ≡ Continues = sym h.0 ∙ continues choices EndOfFile m w.unfailed w.unended in absurd (cc)
+finishes_memory choices m n line Failed w h = let e : Refuses Failed ≡ Continues = sym h.0 ∙ continues choices EndOfFile m w.unfailed w.unended in absurd (cc)
 
-takes_memory : (choices : SinkChoices) (m n : View) (t : TokenText) (f : BuildFault) → IsWorking m → Takes (replies choices) (after choices) (ended choices) m t n (Err f) → f ≡ Memory
-takes_memory choices m n t Memory w h = refl
-takes_memory choices m n t AfterEnd w h = let e : Refuses AfterEnd ≡ Continues = sym h.0 ∙ continues choices t m w.unfailed w.unended in absurd (cc)
-takes_memory choices m n t NotInText w h = let e : Refuses NotInText ≡ Continues = sym h.0 ∙ continues choices t m w.unfailed w.unended in absurd (cc)
-takes_memory choices m n t Failed w h = let e : Refuses Failed ≡ Continues = sym h.0 ∙ continues choices t m w.unfailed w.unended in absurd (cc)
+takes_memory : (choices : SinkChoices) (m n : View) (t : TokenText) (line : ℕ) (f : BuildFault) → IsWorking m → Takes (replies choices) (after choices) (ended choices) m t line n (Err f) → f ≡ Memory
+takes_memory choices m n t line Memory w h = refl
+takes_memory choices m n t line AfterEnd w h = let e : Refuses AfterEnd ≡ Continues = sym h.0 ∙ continues choices t m w.unfailed w.unended in absurd (cc)
+takes_memory choices m n t line NotInText w h = let e : Refuses NotInText ≡ Continues = sym h.0 ∙ continues choices t m w.unfailed w.unended in absurd (cc)
+takes_memory choices m n t line Failed w h = let e : Refuses Failed ≡ Continues = sym h.0 ∙ continues choices t m w.unfailed w.unended in absurd (cc)
 
-pub closes_memory : (choices : SinkChoices) (m n : View) (o : Option TokenText) (f : BuildFault) → IsWorking m → Closes (replies choices) (after choices) (ended choices) m o n (Err f) → f ≡ Memory
-closes_memory choices m n None f w h = finishes_memory choices m n f w h
-closes_memory choices m n (Some t) f w (inl h) = takes_memory choices m n t f w h
-closes_memory choices m n (Some t) f w (inr h) = finishes_memory choices (after choices m t) n f (works_after choices t m w) h.1
+closes_memory : (choices : SinkChoices) (m n : View) (o : Option TokenText) (line last : ℕ) (f : BuildFault) → IsWorking m → ClosesWith (replies choices) (after choices) (ended choices) m o line last n (Err f) → f ≡ Memory
+closes_memory choices m n None line last f w h = finishes_memory choices m n last f w h
+closes_memory choices m n (Some t) line last f w (inl h) = takes_memory choices m n t line f w h
+closes_memory choices m n (Some t) line last f w (inr h) = finishes_memory choices (after_token choices t m) n last f (works_after choices t m w) h.1
 
 -- one list of readings, and then another
 chain : (choices : SinkChoices) {p q r : Place} {m n o : View} {xs ys zs : List ℕ} {ts us : List TokenText} → Readings (replies choices) (after choices) foreign p m xs ts q n ys → Readings (replies choices) (after choices) foreign q n ys us r o zs → Readings (replies choices) (after choices) foreign p m xs (ts ++ us) r o zs
@@ -158,7 +159,7 @@ parses_of choices p m o xs ts told reads e f = record {
 }
 
 pub parsed : (choices : SinkChoices) (p q : Place) (m n o : View) (xs held : List ℕ) (told : Seen) → TakesAll choices p m xs q n held
-    → Closes (replies choices) (after choices) (ended choices) n (settle q.mode q.last (foreign n) held) o (Ok tt)
+    → Closes (replies choices) (after choices) foreign (ended choices) q n held o (Ok tt)
     → told.forest ≡ o.world.forest → told.quirks ≡ o.world.seen_quirks → Parses choices p m xs told
 parsed choices p q m n o xs held told t c e f =
     let ts = t.advances.tokens ++ closing (settle q.mode q.last (foreign n) held) in
@@ -196,6 +197,6 @@ piece_taken choices p0 p q m0 m n xs held waiting text left queue a t e =
 pub nothing_read_yet : (choices : SinkChoices) (p : Place) (m : View) (xs : List ℕ) → Advances choices p m xs p m xs
 nothing_read_yet choices p m xs = record { tokens = []; readings = no_reading }
 
-pub ends_memory : (choices : SinkChoices) (m n : View) (o : Option TokenText) (result : Result (Unit {0}) BuildFault) → IsWorking m → Closes (replies choices) (after choices) (ended choices) m o n result → OnErr result (result ≡ Err Memory)
-ends_memory choices m n o (Ok done) w c = tt
-ends_memory choices m n o (Err f) w c = ap Err (closes_memory choices m n o f w c)
+pub ends_memory : (choices : SinkChoices) (p : Place) (m n : View) (rest : List ℕ) (result : Result (Unit {0}) BuildFault) → IsWorking m → Closes (replies choices) (after choices) foreign (ended choices) p m rest n result → OnErr result (result ≡ Err Memory)
+ends_memory choices p m n rest (Ok done) w c = tt
+ends_memory choices p m n rest (Err f) w c = ap Err (closes_memory choices m n (settle p.mode p.last (foreign m) rest) p.line (line_behind p.line rest []) f w c)

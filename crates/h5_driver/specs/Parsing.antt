@@ -20,13 +20,13 @@ pub record Parsing (S H : Type 0) : Type 0 where
   pub waiting : List ℕ
   pub failed : Bool
 
--- a builder as what takes the reader's tokens: what it answers, what it means after a token and after the
--- end, and whether its current node isn't HTML
+-- a builder as what takes the reader's tokens: what it answers, what it means after a token, whatever its line, and
+-- after the end, and whether its current node isn't HTML
 abbrev pub replies : SinkChoices → View → TokenText → Reply
 replies choices v t = reply_to choices t v
 
-abbrev pub after : SinkChoices → View → TokenText → View
-after choices v t = after_token choices t v
+abbrev pub after : SinkChoices → View → TokenText → ℕ → View
+after choices v t line = after_token choices t v
 
 abbrev pub ended : SinkChoices → View → View
 ended choices v = ended_view choices v

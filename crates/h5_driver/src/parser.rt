@@ -3,7 +3,7 @@ ghost use Rattle.std.specs.Prelude.{◌≡◌, ◌++◌, ◌<◌, [], map, strin
 ghost use Rattle.h5_meaning.specs.Run.{View};
 ghost use Rattle.h5_tree_builder.specs.Held.{building};
 ghost use Rattle.h5_tokenizer.specs.declared.stage.Stage.TheVariants.{Reading};
-ghost use Rattle.h5_tokenizer.specs.End.{Closes, settle};
+ghost use Rattle.h5_tokenizer.specs.End.{Closes};
 ghost use Rattle.h5_tokenizer.specs.Options.{first_place};
 ghost use Rattle.h5_tree_builder.specs.Builder.{first_building};
 ghost use Rattle.h5_driver.specs.Parsing.{Advances, IsWorking, Parses, Processed, TakesAll, after, ended, foreign, joined, replies, view_of};
@@ -45,8 +45,8 @@ fn close<Handle: Drop, Sink: TreeSink<Handle = Handle> + Drop>(
 ) -> Result<(), BuildFault>
     requires reading { tokenizer.old.reader.stage ≡ Reading }
     requires works { IsWorking (building Sink.sees Sink.node tokenizer.old.sink).view }
-    ensures closed { OnOk result (Closes (replies Sink.choices) (after Sink.choices) (ended Sink.choices) (building Sink.sees Sink.node tokenizer.old.sink).view
-        (settle tokenizer.old.reader.place.mode tokenizer.old.reader.place.last (foreign (building Sink.sees Sink.node tokenizer.old.sink).view) tokenizer.old.reader.held)
+    ensures closed { OnOk result (Closes (replies Sink.choices) (after Sink.choices) foreign (ended Sink.choices) tokenizer.old.reader.place
+        (building Sink.sees Sink.node tokenizer.old.sink).view tokenizer.old.reader.held
         (building Sink.sees Sink.node tokenizer.new.sink).view (Ok tt)) }
     ensures memory { OnErr result (result ≡ Err BuildFault.Memory) }
 {

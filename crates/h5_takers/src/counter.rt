@@ -24,7 +24,7 @@ impl TokenSink for Counter {
 
     ghost reply_to = { reply_to };
 
-    ghost after = { λ told _. told };
+    ghost after = { λ told _ _. told };
 
     ghost ended = { λ told. told };
 

@@ -105,7 +105,7 @@ impl TokenSink for Recorder {
 
     ghost reply_to = { λ wishes token. reply_to wishes.answer token };
 
-    ghost after = { λ wishes _. wishes };
+    ghost after = { λ wishes _ _. wishes };
 
     ghost ended = { λ wishes. wishes };
 

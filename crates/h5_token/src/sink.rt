@@ -24,8 +24,9 @@ pub enum TokenSinkResult<Handle> {
 
 /// A taker of tokens, as a tree builder.
 ///
-/// What it answers, and what it is afterwards, are functions of what it meant before and of the token.
-/// Its line is not looked at. Where memory is refused, nothing is promised of the meaning.
+/// What it answers, and what it is afterwards, are functions of what it meant before and of the token. What it
+/// answers doesn't depend on the line; what it means afterwards may. Where memory is refused, nothing is
+/// promised of the meaning.
 pub trait TokenSink {
     type Handle: Drop;
 
@@ -40,8 +41,8 @@ pub trait TokenSink {
     // What it answers to a token, unless memory is refused.
     ghost reply_to: { Meaning → TokenText → Reply };
 
-    // What it means after a token, unless memory is refused.
-    ghost after: { Meaning → TokenText → Meaning };
+    // What it means after a token that is told with this line, unless memory is refused.
+    ghost after: { Meaning → TokenText → ℕ → Meaning };
 
     // What it means after the end.
     ghost ended: { Meaning → Meaning };
@@ -58,7 +59,7 @@ pub trait TokenSink {
     ) -> Result<TokenSinkResult<Self::Handle>, BuildFault>
         ensures answer { Answers node result (reply_to (meaning self.old) (token_text token)) }
         ensures after { (result ≡ Err BuildFault.Memory)
-            ⊎ (meaning self.new ≡ after (meaning self.old) (token_text token)) };
+            ⊎ (meaning self.new ≡ after (meaning self.old) (token_text token) line_number) };
 
     /// Takes note that no token comes any more.
     fn end(&mut self)

@@ -1,20 +1,21 @@
 -- Readings do what is done bit by bit, up to cuts of texts.
 use Rattle.std.proofs.Common.{◌≡◌, ℕ, ◌<◌, Bool, true, false, List, [], ◌∷◌, ◌++◌, length, refl, sym, ap, ◌∙◌, subst, arith, append-nil}
-use Rattle.h5_token.specs.TokenText.{TokenText, Characters}
+use Rattle.h5_token.specs.TokenText.{TokenText, Characters, EndOfFile}
 use Rattle.h5_token.specs.Reply.{Reply}
 use Rattle.h5_scan.specs.Matching.{Match, Open, No, Found, and_then, or_else, literal}
-use Rattle.std.specs.Prelude.{codes, Option}
+use Rattle.std.specs.Prelude.{codes, Option, Some, None}
 use Rattle.h5_constructs.specs.Text.{reference, newline}
 use Rattle.h5_tokenizer.specs.declared.front.Mode.{Mode}
 use Rattle.h5_tokenizer.specs.declared.front.Mode.TheVariants.{Data, RawData, Plaintext, Cdata}
 use Rattle.h5_tokenizer.specs.Front.{Opening, Turns, says, stands_for, comment, doctype, end_tag, start_tag, null, Piece, Bit, Whole, Switch, finished, other, front, Place}
 use Rattle.h5_token.specs.Joins.{glue, join}
-use Rattle.h5_tokenizer.specs.Read.{Bits, no_bit, more_bits, Step, marked, unmarked, token_step, switch_step, text_step, Read, nothing_read, read_on, started, in_mode, next_place}
-use Rattle.h5_tokenizer.specs.Whole.{IsBlindToCuts, Readings, no_reading, more_reading, ReadsToEnd, closing, after_all}
+use Rattle.h5_tokenizer.specs.Read.{Bits, no_bit, more_bits, Step, marked, unmarked, token_step, switch_step, text_step, Read, nothing_read, read_on, behind, started, in_mode, next_place}
+use Rattle.h5_tokenizer.specs.Whole.{IsBlindToCuts, Readings, no_reading, more_reading, ReadsToEnd, closing, after_closing}
 use Rattle.h5_tokenizer.specs.End.{settle}
+use Rattle.h5_tokenizer.specs.Lines.{line_behind}
 use Rattle.h5_tokenizer.proofs.ProperLaws.{IsFull, bit_full, bits_full}
 use Rattle.h5_tokenizer.proofs.JoinLaws.{joins_append}
-use Rattle.h5_tokenizer.proofs.DeedLaws.{Deed, Begun, Done, behind_mark, done, deed, deed_begins, deed_goes_on, deed_waits, tokens_of, place_behind, meaning_behind, Runs, stays, does, runs_join, same_runs}
+use Rattle.h5_tokenizer.proofs.DeedLaws.{Deed, Begun, Done, behind_mark, done, deed, deed_begins, deed_goes_on, deed_waits, tokens_of, place_behind, meaning_behind, unlined, next_unlined, Runs, stays, does, runs_join, same_runs}
 
 -- what is text where a CDATA part might begin is text where none may
 bit_by : (c d : Match Opening) (m : Match (Unit {0})) (r : Match Opening) (o : Match Piece) (bit rest : List ℕ)
@@ -48,23 +49,23 @@ told_glues [] text full = absurd full
 told_glues (x ∷ bit) [] full = ap (λ l. Characters (x ∷ l) ∷ []) (append-nil bit)
 told_glues (x ∷ bit) (y ∷ text) full = refl
 
-module _ {M : Type 0} (reply_to : M → TokenText → Reply) (after : M → TokenText → M) (foreign : M → Bool) (ended : M → M) (alike : M → M → Type 0) (blind : IsBlindToCuts reply_to after foreign ended alike) where
-  -- what the sink means after a text
+module _ {M : Type 0} (reply_to : M → TokenText → Reply) (after : M → TokenText → ℕ → M) (foreign : M → Bool) (ended : M → M) (alike : M → M → Type 0) (blind : IsBlindToCuts reply_to after foreign ended alike) where
+  -- what the sink means after a text, whatever its line
   abbrev after_text : M → List ℕ → M
   after_text m [] = m
-  after_text m (x ∷ xs) = after m (Characters (x ∷ xs))
+  after_text m (x ∷ xs) = after m (Characters (x ∷ xs)) 0
 
-  after_cut : (m n : M) (bit text : List ℕ) → IsFull bit → alike (after_text (after m (Characters bit)) text) n → alike (after_text m (bit ++ text)) n
+  after_cut : (m n : M) (bit text : List ℕ) → IsFull bit → alike (after_text (after m (Characters bit) 0) text) n → alike (after_text m (bit ++ text)) n
   after_cut m n [] text full h = absurd full
-  after_cut m n (x ∷ bit) [] full h = subst (λ (l : List ℕ). alike (after m (Characters (x ∷ l))) n) (sym (append-nil bit)) h
+  after_cut m n (x ∷ bit) [] full h = subst (λ (l : List ℕ). alike (after m (Characters (x ∷ l)) 0) n) (sym (append-nil bit)) h
   after_cut m n (x ∷ bit) (y ∷ text) full h =
-      blind.transitive (after m (Characters ((x ∷ bit) ++ y ∷ text))) (after (after m (Characters (x ∷ bit))) (Characters (y ∷ text))) n (blind.cut m x y bit text) h
+      blind.transitive (after m (Characters ((x ∷ bit) ++ y ∷ text)) 0) (after (after m (Characters (x ∷ bit)) 0) (Characters (y ∷ text)) 0) n (blind.cut m x y bit text 0 0 0) h
 
-  -- the same was done bit by bit
+  -- the same was done bit by bit, but for the line
   pub record Follows (p : Place) (m : M) (xs : List ℕ) (ts : List TokenText) (q : Place) (n : M) (ys : List ℕ) : Type 0 where
     pub tokens : List TokenText
     pub meaning : M
-    pub run : Runs reply_to after foreign p m xs tokens q meaning ys
+    pub run : Runs reply_to after foreign (unlined p) m xs tokens (unlined q) meaning ys
     pub joined : join ts ≡ join tokens
     pub like : alike n meaning
 
@@ -73,7 +74,7 @@ module _ {M : Type 0} (reply_to : M → TokenText → Reply) (after : M → Toke
 
   one_bit : (p : Place) (m n : M) (xs bit rest text ys : List ℕ) → p.at_start ≡ false → alike m n
       → front p.mode p.last (foreign n) xs ≡ Found (Bit bit) rest
-      → Follows p (after n (Characters bit)) rest (told text) p (after_text (after m (Characters bit)) text) ys
+      → Follows p (after n (Characters bit) 0) rest (told text) p (after_text (after m (Characters bit) 0) text) ys
       → Follows p n xs (told (bit ++ text)) p (after_text m (bit ++ text)) ys
   one_bit p m n xs bit rest text ys begun like h behind =
       let full = bit_full p.mode p.last (foreign n) xs bit rest h in
@@ -85,27 +86,27 @@ module _ {M : Type 0} (reply_to : M → TokenText → Reply) (after : M → Toke
         like = after_cut m behind.meaning bit text full behind.like;
       }
 
-  follow_bits : {p : Place} {xs text ys : List ℕ} (m n : M) → p.at_start ≡ false → alike m n → Bits p true xs text ys → Follows p n xs (told text) p (after_text m text) ys
-  follow_bits m n begun like no_bit = record { tokens = []; meaning = n; run = stays; joined = refl; like = like }
-  follow_bits {p} {xs} {ys} m n begun like (more_bits {rest} {text} bit h bits) =
+  follow_bits : {xs text ys : List ℕ} (p : Place) (m n : M) → p.at_start ≡ false → alike m n → Bits p.mode p.last true xs text ys → Follows p n xs (told text) p (after_text m text) ys
+  follow_bits p m n begun like no_bit = record { tokens = []; meaning = n; run = stays; joined = refl; like = like }
+  follow_bits {xs} {ys} p m n begun like (more_bits {rest} {text} bit h bits) =
       one_bit p m n xs bit rest text ys begun like (bit_anyway p.mode p.last (foreign n) xs bit rest h)
-      (follow_bits (after m (Characters bit)) (after n (Characters bit)) begun (blind.kept m n (Characters bit) like) bits)
+      (follow_bits p (after m (Characters bit) 0) (after n (Characters bit) 0) begun (blind.kept m n (Characters bit) 0 0 like) bits)
 
   -- the first bit is read where the sink's answer counts
-  follow_first : (p : Place) (m n : M) (xs text ys : List ℕ) → p.at_start ≡ false → alike m n → length ys < length xs → Bits p (foreign m) xs text ys → Follows p n xs (told text) p (after_text m text) ys
+  follow_first : (p : Place) (m n : M) (xs text ys : List ℕ) → p.at_start ≡ false → alike m n → length ys < length xs → Bits p.mode p.last (foreign m) xs text ys → Follows p n xs (told text) p (after_text m text) ys
   follow_first p m n xs text ys begun like less no_bit = absurd (omega arith)
   follow_first p m n xs text ys begun like less (more_bits {rest} {text = others} bit h bits) =
       one_bit p m n xs bit rest others ys begun like (ap (λ b. front p.mode p.last b xs) (sym (blind.spaces m n like)) ∙ h)
-      (follow_bits (after m (Characters bit)) (after n (Characters bit)) begun (blind.kept m n (Characters bit) like) bits)
+      (follow_bits p (after m (Characters bit) 0) (after n (Characters bit) 0) begun (blind.kept m n (Characters bit) 0 0 like) bits)
 
   -- one deed, from a meaning that is alike
   one_deed : (p : Place) (n : M) (xs rest : List ℕ) (d : Deed) (ts : List TokenText) (q : Place) (k : M)
-      → deed p (foreign n) xs ≡ Found d rest → place_behind reply_to after foreign p n d ≡ q → ts ≡ tokens_of d
+      → deed p (foreign n) xs ≡ Found d rest → place_behind reply_to after foreign (unlined p) n d ≡ unlined q → ts ≡ tokens_of d
       → alike k (meaning_behind reply_to after foreign n d) → Follows p n xs ts q k rest
   one_deed p n xs rest d ts q k h place told like = record {
     tokens = tokens_of d ++ [];
     meaning = meaning_behind reply_to after foreign n d;
-    run = does d h (subst (λ (x : Place). Runs reply_to after foreign (place_behind reply_to after foreign p n d) (meaning_behind reply_to after foreign n d) rest [] x (meaning_behind reply_to after foreign n d) rest) place stays);
+    run = does d h (subst (λ (x : Place). Runs reply_to after foreign (place_behind reply_to after foreign (unlined p) n d) (meaning_behind reply_to after foreign n d) rest [] x (meaning_behind reply_to after foreign n d) rest) place stays);
     joined = ap join (told ∙ sym (append-nil (tokens_of d)));
     like = like;
   }
@@ -114,15 +115,21 @@ module _ {M : Type 0} (reply_to : M → TokenText → Reply) (after : M → Toke
   told_one [] full = absurd full
   told_one (x ∷ text) full = refl
 
-  after_one : (m : M) (text : List ℕ) → IsFull text → after_text m text ≡ after m (Characters text)
+  after_one : (m : M) (text : List ℕ) → IsFull text → after_text m text ≡ after m (Characters text) 0
   after_one m [] full = absurd full
   after_one m (x ∷ text) full = refl
 
-  follow_text : (p : Place) (m n : M) (xs text ys : List ℕ) → p.at_start ≡ false → alike m n → length ys < length xs → Bits p (foreign m) xs text ys → Follows p n xs (Characters text ∷ []) p (after m (Characters text)) ys
+  follow_text : (p : Place) (m n : M) (xs text ys : List ℕ) → p.at_start ≡ false → alike m n → length ys < length xs → Bits p.mode p.last (foreign m) xs text ys → Follows p n xs (Characters text ∷ []) (behind p xs ys) (after m (Characters text) p.line) ys
   follow_text p m n xs text ys begun like less bits =
       let full = bits_full less bits in
-      subst (λ (l : List TokenText). Follows p n xs l p (after m (Characters text)) ys) (told_one text full)
-      (subst (λ (k : M). Follows p n xs (told text) p k ys) (after_one m text full) (follow_first p m n xs text ys begun like less bits))
+      let first = follow_first p m n xs text ys begun like less bits in
+      record {
+        tokens = first.tokens;
+        meaning = first.meaning;
+        run = first.run;
+        joined = ap join (sym (told_one text full)) ∙ first.joined;
+        like = blind.transitive (after m (Characters text) p.line) (after_text m text) first.meaning (subst (λ (k : M). alike (after m (Characters text) p.line) k) (sym (after_one m text full)) (blind.kept m m (Characters text) p.line 0 (blind.reflexive m))) first.like;
+      }
 
   follow_step : {p : Place} {m : M} {xs : List ℕ} {ts : List TokenText} {reply : Reply} {q : Place} {k : M} {ys : List ℕ} (n : M) → alike m n → Step reply_to after foreign p m xs ts reply q k ys → Follows p n xs ts q k ys
   follow_step {p} {m} n like (marked {xs} {rest} s h) =
@@ -130,11 +137,11 @@ module _ {M : Type 0} (reply_to : M → TokenText → Reply) (after : M → Toke
   follow_step {p} {m} n like (unmarked {xs} s h) =
       one_deed p n xs xs Begun [] (started p) m (deed_begins p (foreign n) xs s ∙ ap (behind_mark xs) h) refl refl like
   follow_step n like (token_step {p} {m} {xs} {rest} t s h) =
-      one_deed p n xs rest (Done (Whole t)) (t ∷ []) (next_place p t (reply_to m t)) (after m t)
+      one_deed p n xs rest (Done (Whole t)) (t ∷ []) (behind (next_place p t (reply_to m t)) xs rest) (after m t p.line)
       (deed_goes_on p (foreign n) xs s ∙ ap (λ b. done (front p.mode p.last b xs)) (sym (blind.spaces m n like)) ∙ ap done h)
-      (ap (next_place p t) (sym (blind.replies m n t like))) refl (blind.kept m n t like)
+      (ap (next_place (unlined p) t) (sym (blind.replies m n t like)) ∙ next_unlined p t (reply_to m t)) refl (blind.kept m n t p.line 0 like)
   follow_step n like (switch_step {p} {m} {xs} {rest} mode s h) =
-      one_deed p n xs rest (Done (Switch mode)) [] (in_mode mode p) m
+      one_deed p n xs rest (Done (Switch mode)) [] (behind (in_mode mode p) xs rest) m
       (deed_goes_on p (foreign n) xs s ∙ ap (λ b. done (front p.mode p.last b xs)) (sym (blind.spaces m n like)) ∙ ap done h)
       refl refl like
   follow_step n like (text_step {p} {m} {xs} {ys} text s less bits) = follow_text p m n xs text ys s like less bits
@@ -164,15 +171,26 @@ module _ {M : Type 0} (reply_to : M → TokenText → Reply) (after : M → Toke
       let first = follow_readings n like readings in
       follow_more p n xs ts q k ys us r o zs first (follow_read first.meaning first.like read)
 
-  all_alike : (ts : List TokenText) (m n : M) → alike m n → alike (after_all after m ts) (after_all after n ts)
-  all_alike [] m n like = like
-  all_alike (t ∷ ts) m n like = all_alike ts (after m t) (after n t) (blind.kept m n t like)
+  closing_alike : (s : Option TokenText) (m n : M) (i j k l : ℕ) → alike m n → alike (after_closing after m s i j) (after_closing after n s k l)
+  closing_alike None m n i j k l like = blind.kept m n EndOfFile j l like
+  closing_alike (Some t) m n i j k l like = blind.kept (after m t i) (after n t k) EndOfFile j l (blind.kept m n t i k like)
 
   -- the end, behind readings that came to alike meanings and the same rest
-  ends_alike : (m n : M) (s t : Option TokenText) → s ≡ t → alike m n → alike (ended (after_all after m (closing s))) (ended (after_all after n (closing t)))
-  ends_alike m n s t e like =
-      subst (λ (o : Option TokenText). alike (ended (after_all after m (closing s))) (ended (after_all after n (closing o)))) e
-      (blind.ends (after_all after m (closing s)) (after_all after n (closing s)) (all_alike (closing s) m n like))
+  ends_alike : (m n : M) (s t : Option TokenText) (i j k l : ℕ) → s ≡ t → alike m n → alike (ended (after_closing after m s i j)) (ended (after_closing after n t k l))
+  ends_alike m n s t i j k l e like =
+      subst (λ (o : Option TokenText). alike (ended (after_closing after m s i j)) (ended (after_closing after n o k l))) e
+      (blind.ends (after_closing after m s i j) (after_closing after n s k l) (closing_alike s m n i j k l like))
+
+  ended_alike : {p q : Place} {m n : M} {xs ys : List ℕ} {ts us : List TokenText} {k l : M} (a : ReadsToEnd reply_to after foreign ended p m xs ts k) (b : ReadsToEnd reply_to after foreign ended q n ys us l)
+      → settle a.place.mode a.place.last (foreign a.meaning) a.rest ≡ settle b.place.mode b.place.last (foreign b.meaning) b.rest → alike a.meaning b.meaning → alike k l
+  ended_alike {k} {l} a b settled meanings =
+      let s = settle a.place.mode a.place.last (foreign a.meaning) a.rest in
+      let t = settle b.place.mode b.place.last (foreign b.meaning) b.rest in
+      let i = line_behind a.place.line a.rest [] in
+      let j = line_behind b.place.line b.rest [] in
+      subst (λ (o : M). alike o l) (sym a.closed)
+      (subst (λ (o : M). alike (ended (after_closing after a.meaning s a.place.line i)) o) (sym b.closed)
+      (ends_alike a.meaning b.meaning s t a.place.line i b.place.line j settled meanings))
 
   -- how an input is cut doesn't matter
   pub cuts_agree : (p : Place) (m n : M) (xs : List ℕ) (ts us : List TokenText) (k l : M) → alike m n
@@ -193,7 +211,5 @@ module _ {M : Type 0} (reply_to : M → TokenText → Reply) (after : M → Toke
         ap join a.tokens
             ∙ joins_append a.handed b.handed (closing (settle a.place.mode a.place.last (foreign a.meaning) a.rest)) (closing (settle b.place.mode b.place.last (foreign b.meaning) b.rest)) handed (ap (λ o. join (closing o)) settled)
             ∙ sym (ap join b.tokens),
-        subst (λ (o : M). alike o l) (sym a.closed)
-            (subst (λ (o : M). alike (ended (after_all after a.meaning (closing (settle a.place.mode a.place.last (foreign a.meaning) a.rest)))) o) (sym b.closed)
-            (ends_alike a.meaning b.meaning (settle a.place.mode a.place.last (foreign a.meaning) a.rest) (settle b.place.mode b.place.last (foreign b.meaning) b.rest) settled meanings)),
+        ended_alike a b settled meanings,
       )

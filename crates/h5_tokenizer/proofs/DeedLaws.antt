@@ -1,11 +1,13 @@
 -- Readings, bit by bit.
 use Rattle.std.proofs.Common.{◌≡◌, ℕ, Bool, true, false, List, [], ◌∷◌, ◌++◌, refl, sym, ap, ◌∙◌, subst, append_assoc}
-use Rattle.h5_token.specs.TokenText.{TokenText, Characters}
+use Rattle.h5_token.specs.TokenText.{TokenText, DoctypeIs, TagIs, CommentIs, Characters, NullCharacter, EndOfFile, ParseErrorIs}
+use Rattle.h5_token.specs.declared.tag.TagKind.{TagKind}
+use Rattle.h5_token.specs.declared.tag.TagKind.TheVariants.{StartTag, EndTag}
 use Rattle.h5_token.specs.Reply.{Reply}
 use Rattle.h5_scan.specs.Matching.{Match, Open, No, Found, and_then}
 use Rattle.h5_tokenizer.specs.declared.front.Mode.{Mode}
 use Rattle.h5_tokenizer.specs.Front.{Place, Piece, Bit, Whole, Switch, front, mark}
-use Rattle.h5_tokenizer.specs.Read.{next_place, in_mode, started, IsUndecided}
+use Rattle.h5_tokenizer.specs.Read.{after_tag, next_place, in_mode, started, IsUndecided}
 use Rattle.h5_tokenizer.specs.Whole.{IsBlindToCuts}
 
 -- what is done first: the place where a mark may come is passed, or a piece is taken
@@ -44,21 +46,39 @@ waits_by : (p : Place) (foreign : Bool) (xs : List ℕ) (b : Bool) → p.at_star
 waits_by p foreign xs true e h = ap (behind_mark xs) (h.0 e)
 waits_by p foreign xs false e h = ap done (h.1 e)
 
+-- a place whose line isn't looked at
+abbrev pub unlined : Place → Place
+unlined p = record { at_start = p.at_start; mode = p.mode; last = p.last; line = 0 }
+
+tag_unlined : (p : Place) (kind : TagKind) (name : List ℕ) (reply : Reply) → after_tag (unlined p) kind name reply ≡ unlined (after_tag p kind name reply)
+tag_unlined p StartTag name reply = refl
+tag_unlined p EndTag name reply = refl
+
+pub next_unlined : (p : Place) (t : TokenText) (reply : Reply) → next_place (unlined p) t reply ≡ unlined (next_place p t reply)
+next_unlined p (DoctypeIs doctype) reply = refl
+next_unlined p (TagIs tag) reply = tag_unlined p tag.kind tag.name reply
+next_unlined p (CommentIs text) reply = refl
+next_unlined p (Characters text) reply = refl
+next_unlined p NullCharacter reply = refl
+next_unlined p EndOfFile reply = refl
+next_unlined p (ParseErrorIs message) reply = refl
+
 -- where nothing is decided nothing is done
 pub deed_waits : (p : Place) (foreign : Bool) (xs : List ℕ) → IsUndecided p foreign xs → deed p foreign xs ≡ Open
 deed_waits p foreign xs h = waits_by p foreign xs p.at_start refl h
 
-module _ {M : Type 0} (reply_to : M → TokenText → Reply) (after : M → TokenText → M) (foreign : M → Bool) where
+module _ {M : Type 0} (reply_to : M → TokenText → Reply) (after : M → TokenText → ℕ → M) (foreign : M → Bool) where
   abbrev pub place_behind : Place → M → Deed → Place
   place_behind p m Begun = started p
   place_behind p m (Done (Bit text)) = p
   place_behind p m (Done (Whole t)) = next_place p t (reply_to m t)
   place_behind p m (Done (Switch mode)) = in_mode mode p
 
+  -- whatever the line, so that is always 0 here
   abbrev pub meaning_behind : M → Deed → M
   meaning_behind m Begun = m
-  meaning_behind m (Done (Bit text)) = after m (Characters text)
-  meaning_behind m (Done (Whole t)) = after m t
+  meaning_behind m (Done (Bit text)) = after m (Characters text) 0
+  meaning_behind m (Done (Whole t)) = after m t 0
   meaning_behind m (Done (Switch mode)) = m
 
   -- deeds, one after another
@@ -73,7 +93,7 @@ module _ {M : Type 0} (reply_to : M → TokenText → Reply) (after : M → Toke
   runs_join stays second = second
   runs_join {us} (does {us = vs} d h run) second = rw append_assoc (does d h (runs_join run second))
 
-module _ {M : Type 0} (reply_to : M → TokenText → Reply) (after : M → TokenText → M) (foreign : M → Bool) (ended : M → M) (alike : M → M → Type 0) (blind : IsBlindToCuts reply_to after foreign ended alike) where
+module _ {M : Type 0} (reply_to : M → TokenText → Reply) (after : M → TokenText → ℕ → M) (foreign : M → Bool) (ended : M → M) (alike : M → M → Type 0) (blind : IsBlindToCuts reply_to after foreign ended alike) where
   pub record IsSame (ts us : List TokenText) (q r : Place) (n o : M) (ys zs : List ℕ) : Type 0 where
     pub tokens : ts ≡ us
     pub place : q ≡ r
@@ -88,8 +108,8 @@ module _ {M : Type 0} (reply_to : M → TokenText → Reply) (after : M → Toke
 
   meaning_alike : (m n : M) (d : Deed) → alike m n → alike (meaning_behind reply_to after foreign m d) (meaning_behind reply_to after foreign n d)
   meaning_alike m n Begun h = h
-  meaning_alike m n (Done (Bit text)) h = blind.kept m n (Characters text) h
-  meaning_alike m n (Done (Whole t)) h = blind.kept m n t h
+  meaning_alike m n (Done (Bit text)) h = blind.kept m n (Characters text) 0 0 h
+  meaning_alike m n (Done (Whole t)) h = blind.kept m n t 0 0 h
   meaning_alike m n (Done (Switch mode)) h = h
 
   -- two runs from one input, each to a front that what follows decides, do the same

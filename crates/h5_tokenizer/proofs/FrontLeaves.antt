@@ -87,11 +87,11 @@ front_leaves mode last foreign = or_else_leaves (and_then_leaves (opening_leaves
 pub found_cut : {A : Type 0} {p : List ℕ → Match A} (a : A) (xs rest : List ℕ) → Leaves p → p xs ≡ Found a rest → Cut xs rest
 found_cut a xs rest h e = subst (Cuts xs) e (h.cuts xs)
 
-pub bits_cut : {p : Place} {foreign : Bool} {xs text ys : List ℕ} → Bits p foreign xs text ys → Cut xs ys
+pub bits_cut : {mode : Mode} {last : List ℕ} {foreign : Bool} {xs text ys : List ℕ} → Bits mode last foreign xs text ys → Cut xs ys
 bits_cut {xs} no_bit = cut_none xs
-bits_cut (more_bits {p} {foreign} {xs} {rest} bit h bits) = cut_twice (found_cut (Bit bit) xs rest (front_leaves p.mode p.last foreign) h) (bits_cut bits)
+bits_cut (more_bits {mode} {last} {foreign} {xs} {rest} bit h bits) = cut_twice (found_cut (Bit bit) xs rest (front_leaves mode last foreign) h) (bits_cut bits)
 
-module _ {M : Type 0} (reply_to : M → TokenText → Reply) (after : M → TokenText → M) (foreign : M → Bool) where
+module _ {M : Type 0} (reply_to : M → TokenText → Reply) (after : M → TokenText → ℕ → M) (foreign : M → Bool) where
   step_cut : {p : Place} {m : M} {xs : List ℕ} {ts : List TokenText} {reply : Reply} {q : Place} {n : M} {ys : List ℕ} → Step reply_to after foreign p m xs ts reply q n ys → Cut xs ys
   step_cut (marked {xs} {rest} s h) = found_cut tt xs rest (literal_leaves (0xef ∷ 0xbb ∷ 0xbf ∷ [])) h
   step_cut (unmarked {xs} s h) = cut_none xs

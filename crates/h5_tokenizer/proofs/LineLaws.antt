@@ -1,7 +1,11 @@
 -- Newlines, counted in parts.
-use Rattle.std.proofs.Common.{◌≡◌, ℕ, zero, suc, ◌<◌, ◌≤◌, ◌+◌, Bool, true, false, not, ◌&&◌, List, [], ◌∷◌, cond, eqb, length, take, drop, get_or, refl, arith}
+use Rattle.std.proofs.Common.{◌≡◌, ℕ, zero, suc, ◌<◌, ◌≤◌, ◌+◌, ◌-◌, Bool, true, false, not, ◌&&◌, List, [], ◌∷◌, ◌++◌, cond, eqb, length, take, drop, get_or, refl, ap, ◌∙◌, arith, length-append}
 use Rattle.std.proofs.lemmas.Bool.{eqb-true}
-use Rattle.h5_tokenizer.specs.Lines.{newlines}
+use Rattle.std.proofs.lemmas.List.{take-append-le}
+use Rattle.std.specs.Io.Iter.{u64_saturate}
+use Rattle.h5_tokenizer.specs.Front.{Place}
+use Rattle.h5_tokenizer.specs.Lines.{line_behind, newlines, passed}
+use Rattle.h5_tokenizer.specs.Read.{behind}
 
 few_by : (a b : Bool) (n m k l : ℕ) → n ≤ k → m ≤ k → l ≤ k → cond a (1 + n) (cond b (1 + m) l) ≤ suc k
 few_by true b n m k l h i j = omega arith
@@ -37,9 +41,21 @@ high_by x false true e f h = let same : x ≡ 10 = eqb-true x 10 f in absurd (om
 high_by x false false e f h = (refl, refl)
 
 -- bytes that are none may be passed, where no CR came before them
-pub passed : (xs : List ℕ) (n : ℕ) → ((k : ℕ) → k < n → 13 < get_or xs k 0) → newlines false xs ≡ newlines false (drop n xs)
-passed xs zero h = refl
-passed [] (suc n) h = refl
-passed (x ∷ xs) (suc n) h =
+pub none_passed : (xs : List ℕ) (n : ℕ) → ((k : ℕ) → k < n → 13 < get_or xs k 0) → newlines false xs ≡ newlines false (drop n xs)
+none_passed xs zero h = refl
+none_passed [] (suc n) h = refl
+none_passed (x ∷ xs) (suc n) h =
     let none = high_by x (eqb x 13) (eqb x 10) refl refl (h 0 (omega arith)) in
-    rw (none.0, none.1) (passed xs n (λ k lt. h (suc k) (omega arith)))
+    rw (none.0, none.1) (none_passed xs n (λ k lt. h (suc k) (omega arith)))
+
+-- the same was passed, whatever follows
+passed_on : (xs ys more : List ℕ) → passed (xs ++ more) (ys ++ more) ≡ passed xs ys
+passed_on xs ys more =
+    let n : length (xs ++ more) - length (ys ++ more) ≡ length xs - length ys = omega (arith, length-append xs more, length-append ys more) in
+    ap (λ k. take k (xs ++ more)) n ∙ take-append-le (length xs - length ys) xs more (omega arith)
+
+line_on : (line : ℕ) (xs ys more : List ℕ) → line_behind line (xs ++ more) (ys ++ more) ≡ line_behind line xs ys
+line_on line xs ys more = ap (λ l. u64_saturate (line + newlines false l)) (passed_on xs ys more)
+
+pub behind_on : (p : Place) (xs ys more : List ℕ) → behind p (xs ++ more) (ys ++ more) ≡ behind p xs ys
+behind_on p xs ys more = ap (λ l. let q : Place = record { at_start = p.at_start; mode = p.mode; last = p.last; line = l } in q) (line_on p.line xs ys more)

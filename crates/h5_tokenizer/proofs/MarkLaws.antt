@@ -45,11 +45,11 @@ pending_more (Some search) mode last xs more h =
       walked = ap (walk (start_of h.construct)) (take-append-le search.at h.inner more h.within) ∙ h.walked;
     }
 
-module _ {M : Type 0} (reply_to : M → TokenText → Reply) (after : M → TokenText → M) (foreign : M → Bool) where
+module _ {M : Type 0} (reply_to : M → TokenText → Reply) (after : M → TokenText → ℕ → M) (foreign : M → Bool) where
   read_behind : (p : Place) (m : M) (xs rest : List ℕ) {ts : List TokenText} {reply : Reply} {q : Place} {n : M} {ys : List ℕ} → IsBehindMark p xs rest → Read reply_to after foreign (started p) m rest ts reply q n ys → Read reply_to after foreign p m xs ts reply q n ys
   read_behind p m xs rest {ts} {reply} {q} {n} {ys} way read =
       ⊎_elim
-      (λ here. let P : Bool → Type 0 = λ b. Read reply_to after foreign (record { at_start = b; mode = p.mode; last = p.last }) m xs ts reply q n ys in
+      (λ here. let P : Bool → Type 0 = λ b. Read reply_to after foreign (record { at_start = b; mode = p.mode; last = p.last; line = p.line }) m xs ts reply q n ys in
       let same : Read reply_to after foreign (started p) m xs ts reply q n ys = subst (λ (l : List ℕ). Read reply_to after foreign (started p) m l ts reply q n ys) here.1 read in
       subst P (sym here.0) same)
       (λ at. ⊎_elim

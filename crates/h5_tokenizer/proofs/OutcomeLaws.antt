@@ -20,7 +20,7 @@ pending_on old search mode last held whole input e f h =
     subst (λ (s : Option Search). Pending s mode last whole) (sym e)
     (subst (λ (l : List ℕ). Pending old mode last l) (sym f) (pending_more old mode last held input h))
 
-module _ {M : Type 0} (reply_to : M → TokenText → Reply) (after : M → TokenText → M) (foreign : M → Bool) where
+module _ {M : Type 0} (reply_to : M → TokenText → Reply) (after : M → TokenText → ℕ → M) (foreign : M → Bool) where
   pub waits_boundary : (p : Place) (m : M) (text whole : List ℕ) (q : Place) (n : M) (ys rest : List ℕ) (search : Option Search) → WaitsAt reply_to after foreign p m text q n ys search → IsUtf8 rest → rest ≡ ys → text ≡ whole → IsCharBoundary whole (length whole - length rest)
   waits_boundary p m text whole q n ys rest search h utf8 e f =
       subst (λ (l : List ℕ). IsCharBoundary l (length l - length rest)) f

@@ -4,7 +4,7 @@ use Rattle.h5_token.specs.declared.states.RawKind.TheVariants.{Rcdata, Rawtext, 
 use Rattle.h5_scan.specs.Matching.{Open, No, Found, or_else, and_then}
 use Rattle.h5_tokenizer.specs.declared.front.Mode.{Mode}
 use Rattle.h5_tokenizer.specs.declared.front.Mode.TheVariants.{Data, RawData, Plaintext, Cdata}
-use Rattle.h5_tokenizer.specs.Front.{Opening, Gives, Bit, Place, in_data, raw_end_tag, opening, finished, other, front}
+use Rattle.h5_tokenizer.specs.Front.{Opening, Gives, Bit, in_data, raw_end_tag, opening, finished, other, front}
 use Rattle.h5_tokenizer.specs.Read.{Bits, no_bit, more_bits}
 use Rattle.h5_tokenizer.specs.Steps.{TakesBits, TakesMany}
 use Rattle.h5_tokenizer.proofs.FrontTakes.{front_eats}
@@ -39,25 +39,25 @@ plain_opening Plaintext last foreign x xs p = simp (p.cr, p.nul)
 plain_opening Cdata last foreign x xs p = simp (p.bracket, p.cr, p.nul)
 
 -- a byte where nothing else is
-one_bit : {p : Place} {foreign : Bool} (x : ℕ) (xs : List ℕ) → opening p.mode p.last foreign (x ∷ xs) ≡ No → Bits p foreign (x ∷ xs) (x ∷ []) xs
-one_bit {p} {foreign} x xs h = more_bits (x ∷ []) (front_no p.mode p.last foreign (x ∷ xs) h) no_bit
+one_bit : {mode : Mode} {last : List ℕ} {foreign : Bool} (x : ℕ) (xs : List ℕ) → opening mode last foreign (x ∷ xs) ≡ No → Bits mode last foreign (x ∷ xs) (x ∷ []) xs
+one_bit {mode} {last} {foreign} x xs h = more_bits (x ∷ []) (front_no mode last foreign (x ∷ xs) h) no_bit
 
-join_behind : {p : Place} {xs t ys u zs : List ℕ} → Bits p true xs t ys → Bits p true ys u zs → Bits p true xs (t ++ u) zs
+join_behind : {mode : Mode} {last : List ℕ} {xs t ys u zs : List ℕ} → Bits mode last true xs t ys → Bits mode last true ys u zs → Bits mode last true xs (t ++ u) zs
 join_behind no_bit second = second
 join_behind {u} (more_bits {text} bit h bits) second = rw append_assoc (more_bits bit h (join_behind bits second))
 
-pub bits_join : {p : Place} {foreign : Bool} {xs t ys u zs : List ℕ} → length ys < length xs → Bits p foreign xs t ys → Bits p true ys u zs → Bits p foreign xs (t ++ u) zs
+pub bits_join : {mode : Mode} {last : List ℕ} {foreign : Bool} {xs t ys u zs : List ℕ} → length ys < length xs → Bits mode last foreign xs t ys → Bits mode last true ys u zs → Bits mode last foreign xs (t ++ u) zs
 bits_join some no_bit second = absurd (omega arith)
 bits_join some (more_bits bit h bits) second = rw append_assoc (more_bits bit h (join_behind bits second))
 
-plain_bits : {p : Place} (foreign : Bool) (xs : List ℕ) (n : ℕ) → n ≤ length xs → ((k : ℕ) → k < n → is_plain (get_or xs k 0) ≡ true) → Bits p foreign xs (take n xs) (drop n xs)
+plain_bits : {mode : Mode} {last : List ℕ} (foreign : Bool) (xs : List ℕ) (n : ℕ) → n ≤ length xs → ((k : ℕ) → k < n → is_plain (get_or xs k 0) ≡ true) → Bits mode last foreign xs (take n xs) (drop n xs)
 plain_bits foreign xs zero le h = no_bit
 plain_bits foreign [] (suc n) le h = absurd (omega arith)
-plain_bits {p} foreign (x ∷ xs) (suc n) le h =
-    more_bits (x ∷ []) (front_no p.mode p.last foreign (x ∷ xs) (plain_opening p.mode p.last foreign x xs (plain x (h 0 (omega arith)))))
+plain_bits {mode} {last} foreign (x ∷ xs) (suc n) le h =
+    more_bits (x ∷ []) (front_no mode last foreign (x ∷ xs) (plain_opening mode last foreign x xs (plain x (h 0 (omega arith)))))
     (plain_bits true xs n (omega arith) (λ k lt. h (suc k) (omega arith)))
 
-some_plain : {p : Place} (foreign : Bool) (xs rest old new : List ℕ) (n : ℕ) → 0 < n → n ≤ length xs → ((k : ℕ) → k < n → is_plain (get_or xs k 0) ≡ true) → new ≡ old ++ take n xs → rest ≡ drop n xs → TakesBits p foreign xs rest old new
+some_plain : {mode : Mode} {last : List ℕ} (foreign : Bool) (xs rest old new : List ℕ) (n : ℕ) → 0 < n → n ≤ length xs → ((k : ℕ) → k < n → is_plain (get_or xs k 0) ≡ true) → new ≡ old ++ take n xs → rest ≡ drop n xs → TakesBits mode last foreign xs rest old new
 some_plain foreign xs rest old new n some le h e f = record {
   text = take n xs;
   bits = rw f (plain_bits foreign xs n le h);
@@ -65,7 +65,7 @@ some_plain foreign xs rest old new n some le h e f = record {
   shorter = omega (arith, ap length f, length-drop n xs);
 }
 
-pub takes_plain : {p : Place} (foreign : Bool) (xs rest old new : List ℕ) (c n : ℕ) → 0 < length xs → c ≤ length xs → ((k : ℕ) → k < c → is_plain (get_or xs k 0) ≡ true) → n ≡ max c 1 → opening p.mode p.last foreign xs ≡ No → new ≡ old ++ take n xs → rest ≡ drop n xs → TakesBits p foreign xs rest old new
+pub takes_plain : {mode : Mode} {last : List ℕ} (foreign : Bool) (xs rest old new : List ℕ) (c n : ℕ) → 0 < length xs → c ≤ length xs → ((k : ℕ) → k < c → is_plain (get_or xs k 0) ≡ true) → n ≡ max c 1 → opening mode last foreign xs ≡ No → new ≡ old ++ take n xs → rest ≡ drop n xs → TakesBits mode last foreign xs rest old new
 takes_plain foreign [] rest old new c n some le h m s e f = absurd (omega arith)
 takes_plain foreign (x ∷ xs) rest old new zero n some le h m s e f = record {
   text = x ∷ [];
@@ -77,17 +77,17 @@ takes_plain foreign (x ∷ xs) rest old new (suc c) n some le h m s e f =
     let same : n ≡ suc c = omega arith in
     some_plain foreign (x ∷ xs) rest old new n (omega arith) (omega arith) (λ k lt. h k (omega arith)) e f
 
-pub takes_bit : {p : Place} (foreign : Bool) (xs rest bit old new : List ℕ) → opening p.mode p.last foreign xs ≡ Found (Gives bit) rest → new ≡ old ++ bit → TakesBits p foreign xs rest old new
-takes_bit {p} foreign xs rest bit old new h e =
-    let here = front_found p.mode p.last foreign xs h in
+pub takes_bit : {mode : Mode} {last : List ℕ} (foreign : Bool) (xs rest bit old new : List ℕ) → opening mode last foreign xs ≡ Found (Gives bit) rest → new ≡ old ++ bit → TakesBits mode last foreign xs rest old new
+takes_bit {mode} {last} foreign xs rest bit old new h e =
+    let here = front_found mode last foreign xs h in
     record {
       text = bit ++ [];
       bits = more_bits bit here no_bit;
       put = rw append-nil e;
-      shorter = found_shorter (Bit bit) xs rest (front_eats p.mode p.last foreign) here;
+      shorter = found_shorter (Bit bit) xs rest (front_eats mode last foreign) here;
     }
 
-pub many_more : {p : Place} (xs ys zs old mid new : List ℕ) → TakesMany p xs ys old mid → TakesBits p true ys zs mid new → TakesMany p xs zs old new
+pub many_more : {mode : Mode} {last : List ℕ} (xs ys zs old mid new : List ℕ) → TakesMany mode last xs ys old mid → TakesBits mode last true ys zs mid new → TakesMany mode last xs zs old new
 many_more xs ys zs old mid new first second =
     let before = first.bits in
     let behind = second.bits in
@@ -98,5 +98,5 @@ many_more xs ys zs old mid new first second =
       no_longer = omega (arith, first.no_longer, second.shorter);
     }
 
-pub many_none : {p : Place} (xs old : List ℕ) → TakesMany p xs xs old old
+pub many_none : {mode : Mode} {last : List ℕ} (xs old : List ℕ) → TakesMany mode last xs xs old old
 many_none xs old = record { text = []; bits = no_bit; put = sym (append-nil old); no_longer = le_refl (length xs) }

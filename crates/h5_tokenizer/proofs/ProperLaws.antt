@@ -149,9 +149,9 @@ full_more : (xs ys : List ℕ) → IsFull xs → IsFull (xs ++ ys)
 full_more [] ys h = absurd h
 full_more (x ∷ xs) ys h = tt
 
-pub bits_full : {p : Place} {foreign : Bool} {xs text ys : List ℕ} → length ys < length xs → Bits p foreign xs text ys → IsFull text
+pub bits_full : {mode : Mode} {last : List ℕ} {foreign : Bool} {xs text ys : List ℕ} → length ys < length xs → Bits mode last foreign xs text ys → IsFull text
 bits_full less no_bit = absurd (omega arith)
-bits_full less (more_bits {p} {foreign} {xs} {rest} {text} bit h bits) = full_more bit text (subst (Holds Fits) h (front_fits p.mode p.last foreign xs))
+bits_full less (more_bits {mode} {last} {foreign} {xs} {rest} {text} bit h bits) = full_more bit text (subst (Holds Fits) h (front_fits mode last foreign xs))
 
 full_proper : (text : List ℕ) → IsFull text → IsProper (Characters text)
 full_proper [] h = h
@@ -161,7 +161,7 @@ proper_append : (ts us : List TokenText) → AreProper ts → AreProper us → A
 proper_append [] us h g = g
 proper_append (t ∷ ts) us h g = (h.0, proper_append ts us h.1 g)
 
-module _ {M : Type 0} (reply_to : M → TokenText → Reply) (after : M → TokenText → M) (foreign : M → Bool) where
+module _ {M : Type 0} (reply_to : M → TokenText → Reply) (after : M → TokenText → ℕ → M) (foreign : M → Bool) where
   step_proper : {p : Place} {m : M} {xs : List ℕ} {ts : List TokenText} {reply : Reply} {q : Place} {n : M} {ys : List ℕ} → Step reply_to after foreign p m xs ts reply q n ys → AreProper ts
   step_proper (marked s h) = tt
   step_proper (unmarked s h) = tt

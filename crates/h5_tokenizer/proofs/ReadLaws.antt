@@ -1,18 +1,20 @@
 -- Laws of Read.
-use Rattle.std.proofs.Common.{◌≡◌, ℕ, Bool, true, false, List, [], ◌∷◌, ◌++◌, length, refl, arith, append_assoc, append-nil, length-append, le_refl}
+use Rattle.std.proofs.Common.{◌≡◌, ℕ, Bool, true, false, List, [], ◌∷◌, ◌++◌, length, refl, arith, append_assoc, append-nil, length-append, le_refl, subst}
 use Rattle.h5_token.specs.TokenText.{TokenText, DoctypeIs, TagIs, CommentIs, Characters, NullCharacter, EndOfFile, ParseErrorIs}
 use Rattle.h5_token.specs.Reply.{Reply, Continues}
 use Rattle.h5_token.specs.declared.tag.TagKind.{TagKind}
 use Rattle.h5_token.specs.declared.tag.TagKind.TheVariants.{StartTag, EndTag}
 use Rattle.h5_scan.proofs.Growth.{literal_stable}
 use Rattle.h5_tokenizer.specs.Front.{Bit, Whole, Switch, Place}
-use Rattle.h5_tokenizer.specs.Read.{Bits, no_bit, more_bits, Step, marked, unmarked, token_step, switch_step, text_step, Read, nothing_read, read_on, Reads, goes_on, next_place, after_tag}
+use Rattle.h5_tokenizer.specs.Read.{Bits, no_bit, more_bits, Step, marked, unmarked, token_step, switch_step, text_step, Read, nothing_read, read_on, Reads, behind, goes_on, in_mode, next_place, after_tag}
+use Rattle.h5_tokenizer.specs.declared.front.Mode.{Mode}
 use Rattle.h5_tokenizer.specs.Steps.{Moves}
 use Rattle.h5_tokenizer.proofs.FrontStays.{front_stable, found_stays, no_stays}
+use Rattle.h5_tokenizer.proofs.LineLaws.{behind_on}
 
-bits_go_on : {p : Place} {foreign : Bool} {xs text ys : List ℕ} (rest : List ℕ) → Bits p foreign xs text ys → Bits p foreign (xs ++ rest) text (ys ++ rest)
+bits_go_on : {mode : Mode} {last : List ℕ} {foreign : Bool} {xs text ys : List ℕ} (rest : List ℕ) → Bits mode last foreign xs text ys → Bits mode last foreign (xs ++ rest) text (ys ++ rest)
 bits_go_on rest no_bit = no_bit
-bits_go_on rest (more_bits {p} {foreign} {xs} {rest = r} bit h bits) = more_bits bit (found_stays (Bit bit) xs r rest (front_stable p.mode p.last foreign) h) (bits_go_on rest bits)
+bits_go_on rest (more_bits {mode} {last} {foreign} {xs} {rest = r} bit h bits) = more_bits bit (found_stays (Bit bit) xs r rest (front_stable mode last foreign) h) (bits_go_on rest bits)
 
 tag_started : (p : Place) (kind : TagKind) (name : List ℕ) (reply : Reply) → p.at_start ≡ false → (after_tag p kind name reply).at_start ≡ false
 tag_started p StartTag name reply h = h
@@ -27,14 +29,25 @@ next_started p NullCharacter reply h = h
 next_started p EndOfFile reply h = h
 next_started p (ParseErrorIs message) reply h = h
 
-module _ {M : Type 0} (reply_to : M → TokenText → Reply) (after : M → TokenText → M) (foreign : M → Bool) where
+module _ {M : Type 0} (reply_to : M → TokenText → Reply) (after : M → TokenText → ℕ → M) (foreign : M → Bool) where
+  -- the line is the same, whatever follows
+  same_line : (p : Place) (m : M) (xs : List ℕ) (ts : List TokenText) (reply : Reply) (q : Place) (n : M) (ys more : List ℕ)
+      → Step reply_to after foreign p m (xs ++ more) ts reply (behind q (xs ++ more) (ys ++ more)) n (ys ++ more) → Step reply_to after foreign p m (xs ++ more) ts reply (behind q xs ys) n (ys ++ more)
+  same_line p m xs ts reply q n ys more step = subst (λ (r : Place). Step reply_to after foreign p m (xs ++ more) ts reply r n (ys ++ more)) (behind_on q xs ys more) step
+
   -- a step behind which more follows
   step_goes_on : {p : Place} {m : M} {xs : List ℕ} {ts : List TokenText} {reply : Reply} {q : Place} {n : M} {ys : List ℕ} (rest : List ℕ) → Step reply_to after foreign p m xs ts reply q n ys → Step reply_to after foreign p m (xs ++ rest) ts reply q n (ys ++ rest)
   step_goes_on rest (marked {xs} {rest = r} s h) = marked s (found_stays tt xs r rest (literal_stable (0xef ∷ 0xbb ∷ 0xbf ∷ [])) h)
   step_goes_on rest (unmarked {xs} s h) = unmarked s (no_stays xs rest (literal_stable (0xef ∷ 0xbb ∷ 0xbf ∷ [])) h)
-  step_goes_on rest (token_step {p} {m} {xs} {rest = r} t s h) = token_step t s (found_stays (Whole t) xs r rest (front_stable p.mode p.last (foreign m)) h)
-  step_goes_on rest (switch_step {p} {m} {xs} {rest = r} mode s h) = switch_step mode s (found_stays (Switch mode) xs r rest (front_stable p.mode p.last (foreign m)) h)
-  step_goes_on rest (text_step {xs} {ys} text s less bits) = text_step text s (omega (arith, length-append xs rest, length-append ys rest)) (bits_go_on rest bits)
+  step_goes_on rest (token_step {p} {m} {xs} {rest = r} t s h) =
+      same_line p m xs (t ∷ []) (reply_to m t) (next_place p t (reply_to m t)) (after m t p.line) r rest
+      (token_step t s (found_stays (Whole t) xs r rest (front_stable p.mode p.last (foreign m)) h))
+  step_goes_on rest (switch_step {p} {m} {xs} {rest = r} mode s h) =
+      same_line p m xs [] Continues (in_mode mode p) m r rest
+      (switch_step mode s (found_stays (Switch mode) xs r rest (front_stable p.mode p.last (foreign m)) h))
+  step_goes_on rest (text_step {p} {m} {xs} {ys} text s less bits) =
+      same_line p m xs (Characters text ∷ []) (reply_to m (Characters text)) p (after m (Characters text) p.line) ys rest
+      (text_step text s (omega (arith, length-append xs rest, length-append ys rest)) (bits_go_on rest bits))
 
   -- what was read is read so, whatever follows
   pub read_goes_on : {p : Place} {m : M} {xs : List ℕ} {ts : List TokenText} {reply : Reply} {q : Place} {n : M} {ys : List ℕ} (rest : List ℕ) → Read reply_to after foreign p m xs ts reply q n ys → Read reply_to after foreign p m (xs ++ rest) ts reply q n (ys ++ rest)

@@ -10,7 +10,7 @@ use Rattle.h5_tokenizer.specs.Steps.{Moves, MovesOn, MovesInto, StandsStill, Com
 use Rattle.h5_tokenizer.specs.declared.state.Search.{Search}
 use Rattle.h5_tokenizer.proofs.ReadLaws.{reads_none, reads_more}
 
-module _ {M : Type 0} (reply_to : M → TokenText → Reply) (after : M → TokenText → M) (foreign : M → Bool) where
+module _ {M : Type 0} (reply_to : M → TokenText → Reply) (after : M → TokenText → ℕ → M) (foreign : M → Bool) where
   -- some steps, after each of which reading goes on
   pub record Went (p : Place) (m : M) (xs : List ℕ) (q : Place) (n : M) (ys : List ℕ) : Type 0 where
     pub reply : Reply

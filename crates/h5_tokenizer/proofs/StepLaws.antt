@@ -9,7 +9,7 @@ use Rattle.h5_scan.specs.Matching.{Match, Open, Found, or_else}
 use Rattle.h5_scan.specs.Ending.{walk, up_to_end}
 use Rattle.h5_tokenizer.specs.Tokens.{start_of, token_of}
 use Rattle.h5_tokenizer.specs.Front.{Opening, Begins, Turns, opening, Whole, Switch, Place, concluded, other, front}
-use Rattle.h5_tokenizer.specs.Read.{Bits, token_step, switch_step, text_step, next_place, in_mode}
+use Rattle.h5_tokenizer.specs.Read.{Bits, behind, token_step, switch_step, text_step, next_place, in_mode}
 use Rattle.h5_tokenizer.specs.Steps.{TakesBits, TakesMany, IsPending, Pending, fresh, turn_of, HandedOn, HandsOn, Moves, MovesOn, MovesInto, Makes}
 use Rattle.h5_tokenizer.specs.declared.front.Mode.{Mode}
 use Rattle.h5_tokenizer.specs.declared.front.Construct.{Construct}
@@ -19,16 +19,16 @@ use Rattle.h5_tokenizer.proofs.FrontTakes.{front_eats}
 use Rattle.h5_constructs.proofs.TextTakes.{found_shorter}
 use Rattle.h5_tokenizer.proofs.PlainLaws.{front_found, bits_join}
 
-module _ {M : Type 0} (reply_to : M → TokenText → Reply) (after : M → TokenText → M) (foreign : M → Bool) where
+module _ {M : Type 0} (reply_to : M → TokenText → Reply) (after : M → TokenText → ℕ → M) (foreign : M → Bool) where
   -- a token's step, wherever it leads
   pub record Leads (p : Place) (m : M) (xs : List ℕ) (t : TokenText) (ys : List ℕ) : Type 0 where
-    pub moves : (q : Place) (n : M) → q ≡ next_place p t (reply_to m t) → n ≡ after m t → Moves reply_to after foreign p m xs (reply_to m t) q n ys
+    pub moves : (q : Place) (n : M) → q ≡ next_place p t (reply_to m t) → n ≡ after m t p.line → Moves reply_to after foreign p m xs (reply_to m t) (behind q xs ys) n ys
 
   pub token_leads : (p : Place) (m : M) (xs ys : List ℕ) (t : TokenText) → p.at_start ≡ false → front p.mode p.last (foreign m) xs ≡ Found (Whole t) ys → Leads p m xs t ys
   token_leads p m xs ys t started here = record {
     moves = λ q n e f.
-        subst (λ (o : M). Moves reply_to after foreign p m xs (reply_to m t) q o ys) (sym f)
-        (subst (λ (r : Place). Moves reply_to after foreign p m xs (reply_to m t) r (after m t) ys) (sym e)
+        subst (λ (o : M). Moves reply_to after foreign p m xs (reply_to m t) (behind q xs ys) o ys) (sym f)
+        (subst (λ (r : Place). Moves reply_to after foreign p m xs (reply_to m t) (behind r xs ys) (after m t p.line) ys) (sym e)
         (record {
           tokens = t ∷ [];
           step = token_step t started here;
@@ -36,21 +36,19 @@ module _ {M : Type 0} (reply_to : M → TokenText → Reply) (after : M → Toke
         }));
   }
 
-  text_goes : (p : Place) (m : M) (xs ys text : List ℕ) → p.at_start ≡ false → length ys < length xs → Bits p (foreign m) xs text ys → Moves reply_to after foreign p m xs (reply_to m (Characters text)) p (after m (Characters text)) ys
+  text_goes : (p : Place) (m : M) (xs ys text : List ℕ) → p.at_start ≡ false → length ys < length xs → Bits p.mode p.last (foreign m) xs text ys → Moves reply_to after foreign p m xs (reply_to m (Characters text)) (behind p xs ys) (after m (Characters text) p.line) ys
   text_goes p m xs ys text started less bits = record { tokens = Characters text ∷ []; step = text_step text started less bits; shorter = less }
 
-  text_leads_by : (p : Place) (m : M) (xs ys text : List ℕ) → p.at_start ≡ false → length ys < length xs → Bits p (foreign m) xs text ys → Leads p m xs (Characters text) ys
+  text_leads_by : (p : Place) (m : M) (xs ys text : List ℕ) → p.at_start ≡ false → length ys < length xs → Bits p.mode p.last (foreign m) xs text ys → Leads p m xs (Characters text) ys
   text_leads_by p m xs ys text started less bits = record {
     moves = λ q n e f.
-        subst (λ (o : M). Moves reply_to after foreign p m xs (reply_to m (Characters text)) q o ys) (sym f)
-        (subst (λ (r : Place). Moves reply_to after foreign p m xs (reply_to m (Characters text)) r (after m (Characters text)) ys) (sym e)
+        subst (λ (o : M). Moves reply_to after foreign p m xs (reply_to m (Characters text)) (behind q xs ys) o ys) (sym f)
+        (subst (λ (r : Place). Moves reply_to after foreign p m xs (reply_to m (Characters text)) (behind r xs ys) (after m (Characters text) p.line) ys) (sym e)
         (text_goes p m xs ys text started less bits));
   }
 
-  pub text_leads : (p : Place) (m : M) (xs mid ys begun out : List ℕ) → p.at_start ≡ false → TakesBits p (foreign m) xs mid [] begun → TakesMany (record { at_start = false; mode = p.mode; last = p.last }) mid ys begun out → Leads p m xs (Characters out) ys
-  text_leads p m xs mid ys begun out started first behind =
-      let P : Bool → Type 0 = λ b. TakesMany (record { at_start = b; mode = p.mode; last = p.last }) mid ys begun out in
-      let second : TakesMany p mid ys begun out = subst P (sym started) behind in
+  pub text_leads : (p : Place) (m : M) (xs mid ys begun out : List ℕ) → p.at_start ≡ false → TakesBits p.mode p.last (foreign m) xs mid [] begun → TakesMany p.mode p.last mid ys begun out → Leads p m xs (Characters out) ys
+  text_leads p m xs mid ys begun out started first second =
       let less : length ys < length xs = omega (arith, first.shorter, second.no_longer) in
       let whole : out ≡ first.text ++ second.text = second.put ∙ ap (λ l. l ++ second.text) first.put in
       subst (λ l. Leads p m xs (Characters l) ys) (sym whole)
@@ -60,14 +58,14 @@ module _ {M : Type 0} (reply_to : M → TokenText → Reply) (after : M → Toke
   pub turned : {H : Type 0} (node : H → ℕ) (p : Place) (m : M) (xs : List ℕ) (ys : Bor (List ℕ)) (t : TokenText) (q : Place) (n : M) (stopped : Option (Stop H)) → Leads p m xs t ys.now → HandedOn reply_to after node p m t q n stopped → Makes reply_to after foreign node p m xs q n (Ok (turn_of stopped ys))
   turned node p m xs ys t q n None leads h = record { reply = reply_to m t; goes_on = h.answer; moves = leads.moves q n h.place h.meaning }
   turned node p m xs ys t q n (Some s) leads h =
-      subst (λ (r : Reply). Moves reply_to after foreign p m xs r q n ys.now) h.answer (leads.moves q n h.place h.meaning)
+      subst (λ (r : Reply). Moves reply_to after foreign p m xs r (behind q xs ys.now) n ys.now) h.answer (leads.moves q n h.place h.meaning)
 
   -- one that was refused
-  refused_by : (p : Place) (m : M) (xs ys : List ℕ) (t : TokenText) (n : M) (f : BuildFault) → Leads p m xs t ys → reply_to m t ≡ Refuses f → n ≡ after m t → MovesInto reply_to after foreign p m xs f n
+  refused_by : (p : Place) (m : M) (xs ys : List ℕ) (t : TokenText) (n : M) (f : BuildFault) → Leads p m xs t ys → reply_to m t ≡ Refuses f → n ≡ after m t p.line → MovesInto reply_to after foreign p m xs f n
   refused_by p m xs ys t n f leads e g = record {
-    place = next_place p t (reply_to m t);
+    place = behind (next_place p t (reply_to m t)) xs ys;
     rest = ys;
-    moves = subst (λ (r : Reply). Moves reply_to after foreign p m xs r (next_place p t (reply_to m t)) n ys) e (leads.moves (next_place p t (reply_to m t)) n refl g);
+    moves = subst (λ (r : Reply). Moves reply_to after foreign p m xs r (behind (next_place p t (reply_to m t)) xs ys) n ys) e (leads.moves (next_place p t (reply_to m t)) n refl g);
   }
 
   pub refused : {H : Type 0} (node : H → ℕ) (p : Place) (m : M) (xs ys : List ℕ) (t : TokenText) (q : Place) (n : M) (f : BuildFault) → Leads p m xs t ys → HandsOn reply_to after {H = H} node p m t q n (Err f) → Makes reply_to after foreign {H = H} node p m xs q n (Err f)
@@ -76,7 +74,7 @@ module _ {M : Type 0} (reply_to : M → TokenText → Reply) (after : M → Toke
   refused node p m xs ys t q n fault.NotInText leads h = refused_by p m xs ys t n fault.NotInText leads h.0 h.1
   refused node p m xs ys t q n fault.Failed leads h = refused_by p m xs ys t n fault.Failed leads h.0 h.1
 
-  pub switch_moves : (p : Place) (m : M) (xs ys : List ℕ) (mode : Mode) → p.at_start ≡ false → opening p.mode p.last (foreign m) xs ≡ Found (Turns mode) ys → MovesOn reply_to after foreign p m xs (in_mode mode p) m ys
+  pub switch_moves : (p : Place) (m : M) (xs ys : List ℕ) (mode : Mode) → p.at_start ≡ false → opening p.mode p.last (foreign m) xs ≡ Found (Turns mode) ys → MovesOn reply_to after foreign p m xs (behind (in_mode mode p) xs ys) m ys
   switch_moves p m xs ys mode started h =
       let here = front_found p.mode p.last (foreign m) xs h in
       record {

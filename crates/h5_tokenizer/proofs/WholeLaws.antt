@@ -7,14 +7,15 @@ use Rattle.h5_token.specs.declared.states.RawKind.TheVariants.{Rcdata, Rawtext, 
 use Rattle.h5_scan.specs.Matching.{Open}
 use Rattle.h5_tokenizer.specs.declared.front.Mode.{Mode}
 use Rattle.h5_tokenizer.specs.declared.front.Mode.TheVariants.{Data, RawData, Plaintext, Cdata}
-use Rattle.h5_tokenizer.specs.End.{refuses, settle, Closes}
+use Rattle.h5_tokenizer.specs.End.{refuses, settle, Closes, ClosesWith}
 use Rattle.h5_tokenizer.specs.Front.{Place, front}
 use Rattle.h5_tokenizer.specs.Outcome.{Feeds}
 use Rattle.h5_tokenizer.specs.Read.{Read, Reads, goes_on, IsUndecided}
 use Rattle.h5_tokenizer.specs.ReaderText.{ReaderText}
 use Rattle.h5_tokenizer.specs.declared.result.TokenizerResult.{TokenizerResult}
 use Rattle.h5_tokenizer.specs.declared.result.TokenizerResult.TheVariants as result
-use Rattle.h5_tokenizer.specs.Whole.{HasRead, Readings, no_reading, more_reading, ReadsToEnd, closing, after_all}
+use Rattle.h5_tokenizer.specs.Lines.{line_behind}
+use Rattle.h5_tokenizer.specs.Whole.{HasRead, Readings, no_reading, more_reading, ReadsToEnd, closing, after_closing}
 use Rattle.h5_tokenizer.proofs.ReadLaws.{read_goes_on}
 
 unrefused : (reply : Reply) → goes_on reply ≡ true → refuses reply ≡ false
@@ -38,7 +39,7 @@ front_nothing Cdata last foreign = refl
 pub undecided_nothing : (p : Place) (foreign : Bool) → IsUndecided p foreign []
 undecided_nothing p foreign = ((λ _. refl), (λ _. front_nothing p.mode p.last foreign))
 
-module _ {M : Type 0} (reply_to : M → TokenText → Reply) (after : M → TokenText → M) (foreign : M → Bool) where
+module _ {M : Type 0} (reply_to : M → TokenText → Reply) (after : M → TokenText → ℕ → M) (foreign : M → Bool) where
   pub readings_go_on : {p : Place} {m : M} {xs : List ℕ} {ts : List TokenText} {q : Place} {n : M} {ys : List ℕ} (more : List ℕ) → Readings reply_to after foreign p m xs ts q n ys → Readings reply_to after foreign p m (xs ++ more) ts q n (ys ++ more)
   readings_go_on more no_reading = no_reading
   readings_go_on more (more_reading readings read goes) = more_reading (readings_go_on more readings) (read_goes_on reply_to after foreign more read) goes
@@ -66,14 +67,14 @@ module _ {M : Type 0} (reply_to : M → TokenText → Reply) (after : M → Toke
   feeds_join node p m xs more q n ys new o queue (result.EncodingIndicator encoding) had fed =
       has_read_more more (new.held ++ queue) had fed.reads refl (ap (λ l. l ++ queue) (sym fed.nothing_held))
 
-module _ {M : Type 0} (reply_to : M → TokenText → Reply) (after : M → TokenText → M) (foreign : M → Bool) (ended : M → M) where
-  closed_by : (n o : M) (s : Option TokenText) → Closes reply_to after ended n s o (Ok tt) → o ≡ ended (after_all after n (closing s))
-  closed_by n o None h = h.1
-  closed_by n o (Some t) h = h.1.1
+module _ {M : Type 0} (reply_to : M → TokenText → Reply) (after : M → TokenText → ℕ → M) (foreign : M → Bool) (ended : M → M) where
+  closed_by : (n o : M) (s : Option TokenText) (line last : ℕ) → ClosesWith reply_to after ended n s line last o (Ok tt) → o ≡ ended (after_closing after n s line last)
+  closed_by n o None line last h = h.1
+  closed_by n o (Some t) line last h = h.1.1
 
   pub end_ends : (p : Place) (m : M) (xs : List ℕ) (ts : List TokenText) (q : Place) (n : M) (ys : List ℕ) (o : M)
       → Readings reply_to after foreign p m xs ts q n ys → IsUndecided q (foreign n) ys
-      → Closes reply_to after ended n (settle q.mode q.last (foreign n) ys) o (Ok tt)
+      → Closes reply_to after foreign ended q n ys o (Ok tt)
       → ReadsToEnd reply_to after foreign ended p m xs (ts ++ closing (settle q.mode q.last (foreign n) ys)) o
   end_ends p m xs ts q n ys o readings waits closes = record {
     handed = ts;
@@ -83,5 +84,5 @@ module _ {M : Type 0} (reply_to : M → TokenText → Reply) (after : M → Toke
     readings = readings;
     undecided = waits;
     tokens = refl;
-    closed = closed_by n o (settle q.mode q.last (foreign n) ys) closes;
+    closed = closed_by n o (settle q.mode q.last (foreign n) ys) q.line (line_behind q.line ys []) closes;
   }

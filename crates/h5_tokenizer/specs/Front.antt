@@ -98,11 +98,13 @@ abbrev pub other : List ℕ → Match Piece
 other [] = Open
 other (x ∷ xs) = Found (Bit (x ∷ [])) xs
 
--- where the reader is: whether a byte order mark may come, its state, and the last start tag's name
+-- where the reader is: whether a byte order mark may come, its state, the last start tag's name, and the line in
+-- which what comes next begins
 pub record Place : Type 0 where
   pub at_start : Bool
   pub mode : Mode
   pub last : List ℕ
+  pub line : ℕ
 
 -- the byte order mark, U+FEFF
 abbrev pub mark : List ℕ → Match (Unit {0})

@@ -1,5 +1,6 @@
 -- Lines of the input.
-use Rattle.std.specs.Prelude.{ℕ, ◌+◌, Bool, true, false, not, ◌&&◌, List, [], ◌∷◌, ◌==◌, if◌then◌else◌}
+use Rattle.std.specs.Prelude.{ℕ, ◌+◌, ◌-◌, Bool, true, false, not, ◌&&◌, List, [], ◌∷◌, ◌==◌, length, take, if◌then◌else◌}
+use Rattle.std.specs.Io.Iter.{u64_saturate}
 
 -- how many newlines there are, where a CR came before them or didn't: CR LF and CR are one each
 abbrev pub newlines : Bool → List ℕ → ℕ
@@ -7,3 +8,11 @@ newlines after_cr [] = 0
 newlines after_cr (x ∷ xs) =
     if x == 13 then 1 + newlines true xs
     else (if x == 10 && not after_cr then 1 + newlines false xs else newlines false xs)
+
+-- what was passed, of an input of which this rest is left
+abbrev pub passed : List ℕ → List ℕ → List ℕ
+passed xs rest = take (length xs - length rest) xs
+
+-- The line behind what was passed of an input that begins in this line. The count stays at the most a u64 holds.
+abbrev pub line_behind : ℕ → List ℕ → List ℕ → ℕ
+line_behind line xs rest = u64_saturate (line + newlines false (passed xs rest))

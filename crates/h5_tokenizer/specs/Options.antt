@@ -36,4 +36,5 @@ first_place o = record {
   at_start = o.discard_bom;
   mode = mode_of o.initial_state;
   last = unwrap_or (option_map string_bytes o.last_start_tag_name) [];
+  line = 1;
 }

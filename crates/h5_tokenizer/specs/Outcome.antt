@@ -18,7 +18,7 @@ abbrev pub result_of : {H : Type 0} → Stop H → TokenizerResult H
 result_of (stop.Script handle) = result.Script handle
 result_of (stop.EncodingIndicator encoding) = result.EncodingIndicator encoding
 
-module _ {M : Type 0} (reply_to : M → TokenText → Reply) (after : M → TokenText → M) (foreign : M → Bool) where
+module _ {M : Type 0} (reply_to : M → TokenText → Reply) (after : M → TokenText → ℕ → M) (foreign : M → Bool) where
   -- all is handed on but an undecided rest
   pub record ReadsAll (p : Place) (m : M) (xs : List ℕ) (new : ReaderText) (n : M) (queue : List ℕ) : Type 0 where
     pub reply : Reply

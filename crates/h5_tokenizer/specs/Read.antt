@@ -6,6 +6,7 @@ use Rattle.h5_token.specs.declared.tag.TagKind.{TagKind}
 use Rattle.h5_token.specs.declared.tag.TagKind.TheVariants.{StartTag, EndTag}
 use Rattle.h5_scan.specs.Matching.{Open, No, Found}
 use Rattle.h5_tokenizer.specs.Front.{Bit, Whole, Switch, Place, front, mark}
+use Rattle.h5_tokenizer.specs.Lines.{line_behind}
 use Rattle.h5_tokenizer.specs.declared.front.Mode.{Mode}
 use Rattle.h5_tokenizer.specs.declared.front.Mode.TheVariants.{Data, RawData, Plaintext}
 
@@ -28,8 +29,8 @@ chosen_mode (Indicates encoding) = Data
 chosen_mode (Refuses fault) = Data
 
 abbrev pub after_tag : Place → TagKind → List ℕ → Reply → Place
-after_tag p StartTag name reply = record { at_start = p.at_start; mode = chosen_mode reply; last = name }
-after_tag p EndTag name reply = record { at_start = p.at_start; mode = Data; last = p.last }
+after_tag p StartTag name reply = record { at_start = p.at_start; mode = chosen_mode reply; last = name; line = p.line }
+after_tag p EndTag name reply = record { at_start = p.at_start; mode = Data; last = p.last; line = p.line }
 
 -- the place behind a token that was answered so
 abbrev pub next_place : Place → TokenText → Reply → Place
@@ -42,25 +43,29 @@ next_place p EndOfFile reply = p
 next_place p (ParseErrorIs message) reply = p
 
 abbrev pub in_mode : Mode → Place → Place
-in_mode mode p = record { at_start = p.at_start; mode = mode; last = p.last }
+in_mode mode p = record { at_start = p.at_start; mode = mode; last = p.last; line = p.line }
 
 abbrev pub started : Place → Place
-started p = record { at_start = false; mode = p.mode; last = p.last }
+started p = record { at_start = false; mode = p.mode; last = p.last; line = p.line }
+
+-- the same place, in the line behind what was passed of an input of which this rest is left
+abbrev pub behind : Place → List ℕ → List ℕ → Place
+behind p xs rest = record { at_start = p.at_start; mode = p.mode; last = p.last; line = line_behind p.line xs rest }
 
 -- The front of the input is this text, bit by bit. Behind its first bit no part of it may begin a CDATA part.
-pub data Bits : Place → Bool → List ℕ → List ℕ → List ℕ → Type 0 where
-  no_bit : {p : Place} {foreign : Bool} {xs : List ℕ} → Bits p foreign xs [] xs
-  more_bits : {p : Place} {foreign : Bool} {xs rest text ys : List ℕ} (bit : List ℕ)
-      → front p.mode p.last foreign xs ≡ Found (Bit bit) rest
-      → Bits p true rest text ys → Bits p foreign xs (bit ++ text) ys
+pub data Bits : Mode → List ℕ → Bool → List ℕ → List ℕ → List ℕ → Type 0 where
+  no_bit : {mode : Mode} {last : List ℕ} {foreign : Bool} {xs : List ℕ} → Bits mode last foreign xs [] xs
+  more_bits : {mode : Mode} {last : List ℕ} {foreign : Bool} {xs rest text ys : List ℕ} (bit : List ℕ)
+      → front mode last foreign xs ≡ Found (Bit bit) rest
+      → Bits mode last true rest text ys → Bits mode last foreign xs (bit ++ text) ys
 
 -- whether a step can't be taken that is right whatever input follows
 abbrev pub IsUndecided : Place → Bool → List ℕ → Type 0
 IsUndecided p foreign xs = (p.at_start ≡ true → mark xs ≡ Open) × (p.at_start ≡ false → front p.mode p.last foreign xs ≡ Open)
 
-module _ {M : Type 0} (reply_to : M → TokenText → Reply) (after : M → TokenText → M) (foreign : M → Bool) where
-  -- One step: from a place, a meaning and an input, these tokens are handed on, the last is answered so, and
-  -- this is left.
+module _ {M : Type 0} (reply_to : M → TokenText → Reply) (after : M → TokenText → ℕ → M) (foreign : M → Bool) where
+  -- One step: from a place, a meaning and an input, these tokens are handed on, each with the line of the place, the
+  -- last is answered so, and this is left.
   pub data Step : Place → M → List ℕ → List TokenText → Reply → Place → M → List ℕ → Type 0 where
     -- a byte order mark, and where there is none
     marked : {p : Place} {m : M} {xs rest : List ℕ}
@@ -69,13 +74,13 @@ module _ {M : Type 0} (reply_to : M → TokenText → Reply) (after : M → Toke
         → p.at_start ≡ true → mark xs ≡ No → Step p m xs [] Continues (started p) m xs
     token_step : {p : Place} {m : M} {xs rest : List ℕ} (token : TokenText)
         → p.at_start ≡ false → front p.mode p.last (foreign m) xs ≡ Found (Whole token) rest
-        → Step p m xs (token ∷ []) (reply_to m token) (next_place p token (reply_to m token)) (after m token) rest
+        → Step p m xs (token ∷ []) (reply_to m token) (behind (next_place p token (reply_to m token)) xs rest) (after m token p.line) rest
     switch_step : {p : Place} {m : M} {xs rest : List ℕ} (mode : Mode)
         → p.at_start ≡ false → front p.mode p.last (foreign m) xs ≡ Found (Switch mode) rest
-        → Step p m xs [] Continues (in_mode mode p) m rest
+        → Step p m xs [] Continues (behind (in_mode mode p) xs rest) m rest
     text_step : {p : Place} {m : M} {xs ys : List ℕ} (text : List ℕ)
-        → p.at_start ≡ false → length ys < length xs → Bits p (foreign m) xs text ys
-        → Step p m xs (Characters text ∷ []) (reply_to m (Characters text)) p (after m (Characters text)) ys
+        → p.at_start ≡ false → length ys < length xs → Bits p.mode p.last (foreign m) xs text ys
+        → Step p m xs (Characters text ∷ []) (reply_to m (Characters text)) (behind p xs ys) (after m (Characters text) p.line) ys
 
   -- Steps, one after another, each after an answer after which reading goes on.
   pub data Read : Place → M → List ℕ → List TokenText → Reply → Place → M → List ℕ → Type 0 where

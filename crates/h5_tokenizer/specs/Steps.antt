@@ -10,7 +10,7 @@ use Rattle.h5_scan.specs.Matching.{Open, No, Found}
 use Rattle.h5_scan.specs.Ending.{walk}
 use Rattle.h5_tokenizer.specs.Front.{Begins, opening, Place, front, mark}
 use Rattle.h5_tokenizer.specs.Tokens.{start_of}
-use Rattle.h5_tokenizer.specs.Read.{Bits, Step, Reads, goes_on, next_place, started, IsUndecided}
+use Rattle.h5_tokenizer.specs.Read.{Bits, Step, Reads, behind, goes_on, next_place, started, IsUndecided}
 use Rattle.h5_tokenizer.specs.declared.front.Mode.{Mode}
 use Rattle.h5_tokenizer.specs.declared.front.Construct.{Construct}
 use Rattle.h5_tokenizer.specs.declared.state.State.{State}
@@ -23,23 +23,23 @@ use Rattle.h5_tokenizer.specs.declared.state.Turn.{Turn}
 use Rattle.h5_tokenizer.specs.declared.state.Turn.TheVariants.{Waits, Goes, Stops}
 
 abbrev pub place_of : State → Place
-place_of state = record { at_start = state.at_start; mode = state.mode; last = string_bytes state.last }
+place_of state = record { at_start = state.at_start; mode = state.mode; last = string_bytes state.last; line = state.line }
 
 -- From xs on, up to ys, there is text, which was put behind what had been there.
-pub record TakesBits (p : Place) (foreign : Bool) (xs ys old new : List ℕ) : Type 0 where
+pub record TakesBits (mode : Mode) (last : List ℕ) (foreign : Bool) (xs ys old new : List ℕ) : Type 0 where
   pub text : List ℕ
-  pub bits : Bits p foreign xs text ys
+  pub bits : Bits mode last foreign xs text ys
   pub put : new ≡ old ++ text
   pub shorter : length ys < length xs
 
-abbrev pub TakesSome : Place → Bool → List ℕ → Option (List ℕ) → List ℕ → List ℕ → Type 0
-TakesSome p foreign xs None old new = new ≡ old
-TakesSome p foreign xs (Some ys) old new = TakesBits p foreign xs ys old new
+abbrev pub TakesSome : Mode → List ℕ → Bool → List ℕ → Option (List ℕ) → List ℕ → List ℕ → Type 0
+TakesSome mode last foreign xs None old new = new ≡ old
+TakesSome mode last foreign xs (Some ys) old new = TakesBits mode last foreign xs ys old new
 
 -- some text, or none
-pub record TakesMany (p : Place) (xs ys old new : List ℕ) : Type 0 where
+pub record TakesMany (mode : Mode) (last xs ys old new : List ℕ) : Type 0 where
   pub text : List ℕ
-  pub bits : Bits p true xs text ys
+  pub bits : Bits mode last true xs text ys
   pub put : new ≡ old ++ text
   pub no_longer : length ys ≤ length xs
 
@@ -87,29 +87,29 @@ abbrev pub AnswersAs : {H : Type 0} → (H → ℕ) → Option (Stop H) → Repl
 AnswersAs node None reply = goes_on reply ≡ true
 AnswersAs node (Some s) reply = reply ≡ stops_as node s
 
-module _ {M : Type 0} (reply_to : M → TokenText → Reply) (after : M → TokenText → M) where
+module _ {M : Type 0} (reply_to : M → TokenText → Reply) (after : M → TokenText → ℕ → M) where
   -- what the sink answered and is then, unless memory was refused
-  abbrev pub Asks : {H : Type 0} → (H → ℕ) → M → TokenText → M → Result (TokenSinkResult H) BuildFault → Type 0
-  Asks node m t n (Ok answer) = (reply_to m t ≡ reply node answer) × (n ≡ after m t)
-  Asks node m t n (Err fault.Memory) = Unit {0}
-  Asks node m t n (Err fault.AfterEnd) = (reply_to m t ≡ Refuses fault.AfterEnd) × (n ≡ after m t)
-  Asks node m t n (Err fault.NotInText) = (reply_to m t ≡ Refuses fault.NotInText) × (n ≡ after m t)
-  Asks node m t n (Err fault.Failed) = (reply_to m t ≡ Refuses fault.Failed) × (n ≡ after m t)
+  abbrev pub Asks : {H : Type 0} → (H → ℕ) → M → TokenText → ℕ → M → Result (TokenSinkResult H) BuildFault → Type 0
+  Asks node m t line n (Ok answer) = (reply_to m t ≡ reply node answer) × (n ≡ after m t line)
+  Asks node m t line n (Err fault.Memory) = Unit {0}
+  Asks node m t line n (Err fault.AfterEnd) = (reply_to m t ≡ Refuses fault.AfterEnd) × (n ≡ after m t line)
+  Asks node m t line n (Err fault.NotInText) = (reply_to m t ≡ Refuses fault.NotInText) × (n ≡ after m t line)
+  Asks node m t line n (Err fault.Failed) = (reply_to m t ≡ Refuses fault.Failed) × (n ≡ after m t line)
 
-  -- a token was handed on: where reading goes on from, whether it stops, and what the sink is then
+  -- a token was handed on: where reading goes on from but for the line, whether it stops, and what the sink is then
   pub record HandedOn {H : Type 0} (node : H → ℕ) (p : Place) (m : M) (t : TokenText) (q : Place) (n : M) (stopped : Option (Stop H)) : Type 0 where
     pub place : q ≡ next_place p t (reply_to m t)
-    pub meaning : n ≡ after m t
+    pub meaning : n ≡ after m t p.line
     pub answer : AnswersAs node stopped (reply_to m t)
 
   abbrev pub HandsOn : {H : Type 0} → (H → ℕ) → Place → M → TokenText → Place → M → Result (Option (Stop H)) BuildFault → Type 0
   HandsOn node p m t q n (Ok stopped) = HandedOn node p m t q n stopped
   HandsOn node p m t q n (Err fault.Memory) = Unit {0}
-  HandsOn node p m t q n (Err fault.AfterEnd) = (reply_to m t ≡ Refuses fault.AfterEnd) × (n ≡ after m t)
-  HandsOn node p m t q n (Err fault.NotInText) = (reply_to m t ≡ Refuses fault.NotInText) × (n ≡ after m t)
-  HandsOn node p m t q n (Err fault.Failed) = (reply_to m t ≡ Refuses fault.Failed) × (n ≡ after m t)
+  HandsOn node p m t q n (Err fault.AfterEnd) = (reply_to m t ≡ Refuses fault.AfterEnd) × (n ≡ after m t p.line)
+  HandsOn node p m t q n (Err fault.NotInText) = (reply_to m t ≡ Refuses fault.NotInText) × (n ≡ after m t p.line)
+  HandsOn node p m t q n (Err fault.Failed) = (reply_to m t ≡ Refuses fault.Failed) × (n ≡ after m t p.line)
 
-module _ {M : Type 0} (reply_to : M → TokenText → Reply) (after : M → TokenText → M) (foreign : M → Bool) where
+module _ {M : Type 0} (reply_to : M → TokenText → Reply) (after : M → TokenText → ℕ → M) (foreign : M → Bool) where
   -- one step was made, up to an answer
   pub record Moves (p : Place) (m : M) (xs : List ℕ) (reply : Reply) (q : Place) (n : M) (ys : List ℕ) : Type 0 where
     pub tokens : List TokenText
@@ -135,10 +135,11 @@ module _ {M : Type 0} (reply_to : M → TokenText → Reply) (after : M → Toke
     pub rest : List ℕ
     pub moves : Moves p m xs (Refuses fault) place n rest
 
+  -- what one step did. The place is still in the line in which the step began
   abbrev pub Makes : {H : Type 0} → (H → ℕ) → Place → M → List ℕ → Place → M → Result (Turn H) BuildFault → Type 0
   Makes node p m xs q n (Ok (Waits search)) = StandsStill p m xs q n search
-  Makes node p m xs q n (Ok (Goes rest)) = MovesOn p m xs q n rest.now
-  Makes node p m xs q n (Ok (Stops s rest)) = Moves p m xs (stops_as node s) q n rest.now
+  Makes node p m xs q n (Ok (Goes rest)) = MovesOn p m xs (behind q xs rest.now) n rest.now
+  Makes node p m xs q n (Ok (Stops s rest)) = Moves p m xs (stops_as node s) (behind q xs rest.now) n rest.now
   Makes node p m xs q n (Err fault.Memory) = Unit {0}
   Makes node p m xs q n (Err fault.AfterEnd) = MovesInto p m xs fault.AfterEnd n
   Makes node p m xs q n (Err fault.NotInText) = MovesInto p m xs fault.NotInText n

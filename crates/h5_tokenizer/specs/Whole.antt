@@ -4,6 +4,7 @@ use Rattle.h5_token.specs.TokenText.{TokenText, Characters, EndOfFile}
 use Rattle.h5_token.specs.Reply.{Reply}
 use Rattle.h5_tokenizer.specs.End.{refuses, settle}
 use Rattle.h5_tokenizer.specs.Front.{Place}
+use Rattle.h5_tokenizer.specs.Lines.{line_behind}
 use Rattle.h5_tokenizer.specs.Read.{Read, IsUndecided}
 
 -- what the end hands on: what it makes of the undecided rest, and the end of the file
@@ -11,13 +12,14 @@ abbrev pub closing : Option TokenText → List TokenText
 closing None = EndOfFile ∷ []
 closing (Some t) = t ∷ EndOfFile ∷ []
 
-module _ {M : Type 0} (after : M → TokenText → M) where
-  -- what the sink means after some tokens
-  abbrev pub after_all : M → List TokenText → M
-  after_all m [] = m
-  after_all m (t ∷ ts) = after_all (after m t) ts
+module _ {M : Type 0} (after : M → TokenText → ℕ → M) where
+  -- what the sink means after these: the token of the rest is told with its line, and the end of the file with the
+  -- last one
+  abbrev pub after_closing : M → Option TokenText → ℕ → ℕ → M
+  after_closing m None line last = after m EndOfFile last
+  after_closing m (Some t) line last = after (after m t line) EndOfFile last
 
-module _ {M : Type 0} (reply_to : M → TokenText → Reply) (after : M → TokenText → M) (foreign : M → Bool) where
+module _ {M : Type 0} (reply_to : M → TokenText → Reply) (after : M → TokenText → ℕ → M) (foreign : M → Bool) where
   -- readings, one after another, where no token is refused
   pub data Readings : Place → M → List ℕ → List TokenText → Place → M → List ℕ → Type 0 where
     no_reading : {p : Place} {m : M} {xs : List ℕ} → Readings p m xs [] p m xs
@@ -30,7 +32,7 @@ module _ {M : Type 0} (reply_to : M → TokenText → Reply) (after : M → Toke
     pub tokens : List TokenText
     pub readings : Readings p m xs tokens q n ys
 
-module _ {M : Type 0} (reply_to : M → TokenText → Reply) (after : M → TokenText → M) (foreign : M → Bool) (ended : M → M) where
+module _ {M : Type 0} (reply_to : M → TokenText → Reply) (after : M → TokenText → ℕ → M) (foreign : M → Bool) (ended : M → M) where
   -- An input was read to its end: up to an undecided rest, and then the end. These tokens were handed on,
   -- and this is what the sink means then.
   pub record ReadsToEnd (p : Place) (m : M) (xs : List ℕ) (ts : List TokenText) (n : M) : Type 0 where
@@ -41,17 +43,17 @@ module _ {M : Type 0} (reply_to : M → TokenText → Reply) (after : M → Toke
     pub readings : Readings reply_to after foreign p m xs handed place meaning rest
     pub undecided : IsUndecided place (foreign meaning) rest
     pub tokens : ts ≡ handed ++ closing (settle place.mode place.last (foreign meaning) rest)
-    pub closed : n ≡ ended (after_all after meaning (closing (settle place.mode place.last (foreign meaning) rest)))
+    pub closed : n ≡ ended (after_closing after meaning (settle place.mode place.last (foreign meaning) rest) place.line (line_behind place.line rest []))
 
-  -- An equivalence of meanings that is kept by equal tokens, and to which it doesn't matter how a text is
-  -- cut. Meanings that are equivalent give the same answers.
+  -- An equivalence of meanings that is kept by equal tokens, whatever lines they are told with, and to which it
+  -- doesn't matter how a text is cut. Meanings that are equivalent give the same answers.
   pub record IsBlindToCuts (alike : M → M → Type 0) : Type 0 where
     pub reflexive : (m : M) → alike m m
     pub symmetric : (m n : M) → alike m n → alike n m
     pub transitive : (m n o : M) → alike m n → alike n o → alike m o
     pub replies : (m n : M) (t : TokenText) → alike m n → reply_to m t ≡ reply_to n t
     pub spaces : (m n : M) → alike m n → foreign m ≡ foreign n
-    pub kept : (m n : M) (t : TokenText) → alike m n → alike (after m t) (after n t)
+    pub kept : (m n : M) (t : TokenText) (k l : ℕ) → alike m n → alike (after m t k) (after n t l)
     pub ends : (m n : M) → alike m n → alike (ended m) (ended n)
-    pub cut : (m : M) (x y : ℕ) (xs ys : List ℕ)
-        → alike (after m (Characters ((x ∷ xs) ++ y ∷ ys))) (after (after m (Characters (x ∷ xs))) (Characters (y ∷ ys)))
+    pub cut : (m : M) (x y : ℕ) (xs ys : List ℕ) (j k l : ℕ)
+        → alike (after m (Characters ((x ∷ xs) ++ y ∷ ys)) j) (after (after m (Characters (x ∷ xs)) k) (Characters (y ∷ ys)) l)

@@ -1,13 +1,13 @@
 //! The end of the input.
 ghost use Rattle.std.specs.Prelude.{◌≡◌, IfOk, Option, false};
-ghost use Rattle.std.specs.String.{string_bytes};
 ghost use Rattle.std.specs.Option.{option_map};
 ghost use Rattle.h5_token.specs.TokenText.{token_text};
 ghost use Rattle.h5_tokenizer.specs.End.{settle, text_token, unfinished, Takes, Finishes, Closes};
+ghost use Rattle.h5_tokenizer.specs.Steps.{place_of};
 ghost use Rattle.h5_constructs.specs.Text.{text_of};
 
 use super::front::{Construct, Mode, Opening, find_opening};
-use super::run::line_after;
+use super::run::line_behind;
 use super::state::State;
 use super::steps::ask;
 use h5_constructs::text_of;
@@ -57,38 +57,37 @@ fn settle(
 }
 
 fn offer<S: TokenSink>(sink: &mut S, token: Token, line: u64) -> Result<(), BuildFault>
-    ensures { Takes S.reply_to S.after S.ended (S.meaning sink.old) (token_text token) (S.meaning sink.new) result }
+    ensures { Takes S.reply_to S.after S.ended (S.meaning sink.old) (token_text token) line (S.meaning sink.new) result }
 {
     ask(sink, token, line)?;
     Ok(())
 }
 
 fn finish<S: TokenSink>(sink: &mut S, line: u64) -> Result<(), BuildFault>
-    ensures { Finishes S.reply_to S.after S.ended (S.meaning sink.old) (S.meaning sink.new) result }
+    ensures { Finishes S.reply_to S.after S.ended (S.meaning sink.old) line (S.meaning sink.new) result }
 {
     offer(sink, Token::EOFToken, line)?;
     sink.end();
     Ok(())
 }
 
-/// Hands on what the end makes of the undecided rest, and the end of the file, and tells the sink.
+/// Hands on what the end makes of the undecided rest, with the line in which that begins, and the end of the file,
+/// with the line behind it, and tells the sink.
 pub fn close<S: TokenSink>(
     sink: &mut S,
     state: &State,
     alloc: Global,
     rest: &str,
-    line: u64,
 ) -> Result<(), BuildFault>
-    ensures { Closes S.reply_to S.after S.ended (S.meaning sink.old)
-        (settle state.now.mode (string_bytes state.now.last) (S.is_foreign (S.meaning sink.old)) rest.now)
+    ensures { Closes S.reply_to S.after S.is_foreign S.ended (place_of state.now) (S.meaning sink.old) rest.now
         (S.meaning sink.new) result }
 {
-    let last_line = line_after(line, rest, rest.len());
+    let last_line = line_behind(state.line, rest, "");
     let foreign = sink.adjusted_current_node_present_but_not_in_html_namespace();
     match settle(alloc, state.mode, state.last.as_str(), foreign, rest)? {
         None => finish(sink, last_line),
         Some(token) => {
-            offer(sink, token, line)?;
+            offer(sink, token, state.line)?;
             finish(sink, last_line)
         }
     }

@@ -72,7 +72,7 @@ pub fn the_end_ends_readings<S: TokenSink>()
     ensures { (p : Place) (m : S.Meaning) (xs : List ℕ) (ts : List TokenText) (q : Place) (n : S.Meaning) (ys : List ℕ) (o : S.Meaning) →
         Readings S.reply_to S.after S.is_foreign p m xs ts q n ys
         → IsUndecided q (S.is_foreign n) ys
-        → Closes S.reply_to S.after S.ended n (settle q.mode q.last (S.is_foreign n) ys) o (Ok tt)
+        → Closes S.reply_to S.after S.is_foreign S.ended q n ys o (Ok tt)
         → ReadsToEnd S.reply_to S.after S.is_foreign S.ended p m xs (ts ++ closing (settle q.mode q.last (S.is_foreign n) ys)) o }
 {}
 
@@ -86,8 +86,8 @@ pub trait Likeness {
 /// How an input is cut doesn't matter: two readings of it to its end, over two meanings of a sink that are
 /// alike, hand on lists of tokens that differ in cuts of texts alone, and leave meanings that are alike.
 ///
-/// That holds for every equivalence of meanings that is kept by equal tokens, gives equal answers, and
-/// doesn't see how a text is cut.
+/// That holds for every equivalence of meanings that is kept by equal tokens, gives equal answers, and sees neither
+/// how a text is cut nor lines.
 pub fn cuts_of_the_input_agree<S: TokenSink, L: Likeness>()
     ensures { (see : S.Meaning → L.Seen) →
         IsBlindToCuts S.reply_to S.after S.is_foreign S.ended (λ m n. L.alike (see m) (see n))

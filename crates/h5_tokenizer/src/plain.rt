@@ -1,12 +1,12 @@
 //! Text, up to what is more than that.
-ghost use Rattle.std.specs.Prelude.{◌≡◌, Bool, false, true, IfOk, ◌<◌, length};
+ghost use Rattle.std.specs.Prelude.{◌≡◌, List, ℕ, Bool, true, IfOk, ◌<◌, length};
 ghost use Rattle.std.specs.String.{string_bytes};
 ghost use Rattle.std.specs.Option.{option_copied};
 ghost use Rattle.h5_scan.specs.Matching as m;
 ghost use Rattle.h5_scan.specs.Seen.{seen};
-ghost use Rattle.h5_tokenizer.specs.Front.{Place, opening};
+ghost use Rattle.h5_tokenizer.specs.Front.{opening};
 ghost use Rattle.h5_tokenizer.specs.Openings.{opening_of};
-ghost use Rattle.h5_tokenizer.specs.Steps.{place_of, TakesBits, TakesSome, TakesMany};
+ghost use Rattle.h5_tokenizer.specs.Steps.{TakesBits, TakesSome, TakesMany};
 
 use super::front::{Mode, Opening, find_opening};
 use h5_constructs::plain_len;
@@ -17,8 +17,8 @@ use std::alloc::AllocError;
 #[inline(always)]
 pub fn take_plain<'a>(text: &'a str, out: &mut String) -> Result<&'a str, AllocError>
     requires { 0 < length text.now }
-    ensures { IfOk result (λ rest. (p : Place) (foreign : Bool) → opening p.mode p.last foreign text.now ≡ m.No
-        → TakesBits p foreign text.now rest.now (string_bytes out.old) (string_bytes out.new)) }
+    ensures { IfOk result (λ rest. (mode : Mode) (last : List ℕ) (foreign : Bool) → opening mode last foreign text.now ≡ m.No
+        → TakesBits mode last foreign text.now rest.now (string_bytes out.old) (string_bytes out.new)) }
 {
     let n = plain_len(text).max(1);
     let (front, rest) = text.split_at(n);
@@ -32,8 +32,8 @@ fn take_bit<'a>(
     text: &'a str,
     out: &mut String,
 ) -> Result<Option<&'a str>, AllocError>
-    ensures { IfOk result (λ rest. (p : Place) (foreign : Bool) → opening p.mode p.last foreign text.now ≡ seen opening_of found.entry
-        → TakesSome p foreign text.now (option_copied rest) (string_bytes out.old) (string_bytes out.new)) }
+    ensures { IfOk result (λ rest. (mode : Mode) (last : List ℕ) (foreign : Bool) → opening mode last foreign text.now ≡ seen opening_of found.entry
+        → TakesSome mode last foreign text.now (option_copied rest) (string_bytes out.old) (string_bytes out.new)) }
 {
     match found {
         Seen::Found(Opening::Gives(bit), rest) => {
@@ -66,7 +66,7 @@ fn take_some<'a>(
     text: &'a str,
     out: &mut String,
 ) -> Result<Option<&'a str>, AllocError>
-    ensures { IfOk result (λ rest. TakesSome (record { at_start = false; mode = mode; last = last.now }) true text.now (option_copied rest)
+    ensures { IfOk result (λ rest. TakesSome mode last.now true text.now (option_copied rest)
         (string_bytes out.old) (string_bytes out.new)) }
 {
     if is_at_tag(mode, text) {
@@ -83,7 +83,7 @@ pub fn take_texts<'a>(
     text: &'a str,
     out: &mut String,
 ) -> Result<&'a str, AllocError>
-    ensures { IfOk result (λ rest. TakesMany (record { at_start = false; mode = mode; last = last.now }) text.now rest.now
+    ensures { IfOk result (λ rest. TakesMany mode last.now text.now rest.now
         (string_bytes out.old) (string_bytes out.new)) }
 {
     let mut rest = text;

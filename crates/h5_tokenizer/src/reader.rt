@@ -19,7 +19,6 @@ pub struct Reader {
     pub held: BufferQueue,
     // How far the end of what stands at the front of it was looked for.
     pub search: Option<Search>,
-    pub line: u64,
     pub phase: Stage,
 }
 
@@ -68,14 +67,7 @@ pub fn read<S: TokenSink>(
     let mut buffer = mem::replace(&mut reader.held, BufferQueue::new(alloc));
     buffer.append(input)?;
     let text = buffer.as_str();
-    match run_from(
-        sink,
-        &mut reader.state,
-        &mut reader.line,
-        alloc,
-        text,
-        search,
-    )? {
+    match run_from(sink, &mut reader.state, alloc, text, search)? {
         Halt::Waits(rest, search) => {
             let left = rest.as_bytes().len();
             buffer.keep(left);

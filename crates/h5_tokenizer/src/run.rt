@@ -1,7 +1,7 @@
 //! Steps, one after another.
-ghost use Rattle.std.specs.Prelude.{◌≡◌, ◌<◌, ◌≤◌, ◌+◌, ℕ, false, length, min, slice_index, take};
+ghost use Rattle.std.specs.Prelude.{◌≡◌, ◌<◌, ◌≤◌, ℕ, false, length, slice_index};
 ghost use Rattle.std.specs.String.{string_bytes};
-ghost use Rattle.h5_tokenizer.specs.Lines.{newlines};
+ghost use Rattle.h5_tokenizer.specs.Lines.{line_behind, newlines};
 ghost use Rattle.h5_tokenizer.specs.Steps.{place_of, Pending, Runs, RunsFrom, Skips};
 
 use super::state::{Halt, Search, State, Turn};
@@ -68,20 +68,19 @@ fn newlines(bytes: &[u8]) -> u64
     count + rare_newlines(rest, after_cr) as u64
 }
 
-/// The line behind the first bytes, of a text that begins in this line.
-pub fn line_after(line: u64, text: &str, len: usize) -> u64
-    requires { len ≤ length text.now }
-    ensures { result ≡ min (line + newlines false (take len text.now)) u64.MAX }
+/// The line behind what was passed of a text that begins in this line, and of which this rest is left.
+pub fn line_behind(line: u64, text: &str, rest: &str) -> u64
+    requires { length rest.now ≤ length text.now }
+    ensures { result ≡ line_behind line text.now rest.now }
 {
-    let (front, _) = text.as_bytes().split_at(len);
-    line.saturating_add(newlines(front))
+    let (passed, _) = text.as_bytes().split_at(text.len() - rest.len());
+    line.saturating_add(newlines(passed))
 }
 
 // Steps up to an answer that stops the reader, or to a front that what follows decides.
 fn run<'a, S: TokenSink>(
     sink: &mut S,
     state: &mut State,
-    line: &mut u64,
     alloc: Global,
     text: &'a str,
     search: Option<Search>,
@@ -94,14 +93,14 @@ fn run<'a, S: TokenSink>(
     let mut rest = text;
     let mut search = search;
     'steps: loop {
-        match step(sink, state, alloc, rest, search, *line)? {
+        match step(sink, state, alloc, rest, search)? {
             Turn::Waits(search) => return Ok(Halt::Waits(rest, search)),
             Turn::Stops(stop, after) => {
-                *line = line_after(*line, rest, rest.len() - after.len());
+                state.line = line_behind(state.line, rest, after);
                 return Ok(Halt::Stops(stop, after));
             }
             Turn::Goes(after) => {
-                *line = line_after(*line, rest, rest.len() - after.len());
+                state.line = line_behind(state.line, rest, after);
                 // That it is text holds for the loop's next turn.
                 let _bytes = after.as_bytes();
                 rest = after;
@@ -141,7 +140,6 @@ fn skip_mark<'a>(
 pub fn run_from<'a, S: TokenSink>(
     sink: &mut S,
     state: &mut State,
-    line: &mut u64,
     alloc: Global,
     text: &'a str,
     search: Option<Search>,
@@ -152,6 +150,6 @@ pub fn run_from<'a, S: TokenSink>(
 {
     match skip_mark(state, text, search) {
         None => Ok(Halt::Waits(text, None)),
-        Some((rest, search)) => run(sink, state, line, alloc, rest, search),
+        Some((rest, search)) => run(sink, state, alloc, rest, search),
     }
 }

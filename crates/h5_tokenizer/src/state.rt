@@ -12,6 +12,8 @@ pub struct State {
     pub mode: Mode,
     /// The last start tag's name, or the empty text.
     pub last: String,
+    /// The line in which what comes next begins. It stays at the most a `u64` holds.
+    pub line: u64,
 }
 
 /// How far the end of the construct at the front was looked for.

@@ -42,7 +42,7 @@ pub fn ask<S: TokenSink>(
     token: Token,
     line: u64,
 ) -> Result<TokenSinkResult<S::Handle>, BuildFault>
-    ensures { Asks S.reply_to S.after S.node (S.meaning sink.old) (token_text token) (S.meaning sink.new) result }
+    ensures { Asks S.reply_to S.after S.node (S.meaning sink.old) (token_text token) line (S.meaning sink.new) result }
 {
     sink.process_token(token, line)
 }
@@ -53,7 +53,6 @@ fn hand_on<S: TokenSink>(
     sink: &mut S,
     state: &mut State,
     token: Token,
-    line: u64,
 ) -> Result<Option<Stop<S::Handle>>, BuildFault>
     ensures { HandsOn S.reply_to S.after S.node (place_of state.old) (S.meaning sink.old) (token_text token)
         (place_of state.new) (S.meaning sink.new) result }
@@ -63,18 +62,18 @@ fn hand_on<S: TokenSink>(
             TagKind::StartTag => {
                 state.last.clear();
                 state.last.push_str(tag.name.as_str())?;
-                let answer = ask(sink, token, line)?;
+                let answer = ask(sink, token, state.line)?;
                 state.mode = chosen_mode(&answer);
                 Ok(stop_of(answer))
             }
             TagKind::EndTag => {
-                let answer = ask(sink, token, line)?;
+                let answer = ask(sink, token, state.line)?;
                 state.mode = Mode::Data;
                 Ok(stop_of(answer))
             }
         },
         _ => {
-            let answer = ask(sink, token, line)?;
+            let answer = ask(sink, token, state.line)?;
             Ok(stop_of(answer))
         }
     }
@@ -83,13 +82,13 @@ fn hand_on<S: TokenSink>(
 // Hands a text on, which leads nowhere else.
 fn hand_on_text<S: TokenSink>(
     sink: &mut S,
+    state: &State,
     text: String,
-    line: u64,
 ) -> Result<Option<Stop<S::Handle>>, BuildFault>
-    ensures { (p : f.Place) → HandsOn S.reply_to S.after S.node p (S.meaning sink.old) (Characters (string_bytes text))
-        p (S.meaning sink.new) result }
+    ensures { HandsOn S.reply_to S.after S.node (place_of state.now) (S.meaning sink.old) (Characters (string_bytes text))
+        (place_of state.now) (S.meaning sink.new) result }
 {
-    let answer = ask(sink, Token::CharacterTokens(text), line)?;
+    let answer = ask(sink, Token::CharacterTokens(text), state.line)?;
     Ok(stop_of(answer))
 }
 
@@ -115,7 +114,6 @@ fn token_step<'a, S: TokenSink>(
     rest: &'a str,
     after: &'a str,
     token: Token,
-    line: u64,
 ) -> Result<Turn<'a, S::Handle>, BuildFault>
     requires started { state.old.at_start ≡ false }
     requires front { f.front state.old.mode (string_bytes state.old.last) (S.is_foreign (S.meaning sink.old)) rest.now
@@ -124,7 +122,7 @@ fn token_step<'a, S: TokenSink>(
         (place_of state.new) (S.meaning sink.new) result }
 {
     let _rest = rest;
-    let stopped = hand_on(sink, state, token, line)?;
+    let stopped = hand_on(sink, state, token)?;
     Ok(turn(stopped, after))
 }
 
@@ -136,16 +134,15 @@ fn text_step<'a, S: TokenSink>(
     rest: &'a str,
     after: &'a str,
     mut text: String,
-    line: u64,
 ) -> Result<Turn<'a, S::Handle>, BuildFault>
     requires started { state.old.at_start ≡ false }
-    requires begun { TakesBits (place_of state.old) (S.is_foreign (S.meaning sink.old)) rest.now after.now [] (string_bytes text) }
+    requires begun { TakesBits state.old.mode (string_bytes state.old.last) (S.is_foreign (S.meaning sink.old)) rest.now after.now [] (string_bytes text) }
     ensures { Makes S.reply_to S.after S.is_foreign S.node (place_of state.old) (S.meaning sink.old) rest.now
         (place_of state.new) (S.meaning sink.new) result }
 {
     let _rest = rest;
     let end = take_texts(state.mode, state.last.as_str(), after, &mut text)?;
-    let stopped = hand_on_text(sink, text, line)?;
+    let stopped = hand_on_text(sink, state, text)?;
     Ok(turn(stopped, end))
 }
 
@@ -158,7 +155,6 @@ fn construct_step<'a, S: TokenSink>(
     inner: &'a str,
     construct: Construct,
     search: Search,
-    line: u64,
 ) -> Result<Turn<'a, S::Handle>, BuildFault>
     requires started { state.old.at_start ≡ false }
     requires foreign { search.foreign ≡ S.is_foreign (S.meaning sink.old) }
@@ -178,7 +174,7 @@ fn construct_step<'a, S: TokenSink>(
         }))),
         Sought::End(text, after, place) => {
             let token = make_token(alloc, construct, text, place)?;
-            token_step(sink, state, rest, after, token, line)
+            token_step(sink, state, rest, after, token)
         }
     }
 }
@@ -211,14 +207,13 @@ fn resumed(search: Option<Search>, foreign: bool, construct: Construct) -> Searc
     }
 }
 
-/// One step, unless what follows decides the front.
+/// One step, unless what follows decides the front. The line stays as it is.
 pub fn step<'a, S: TokenSink>(
     sink: &mut S,
     state: &mut State,
     alloc: Global,
     rest: &'a str,
     search: Option<Search>,
-    line: u64,
 ) -> Result<Turn<'a, S::Handle>, BuildFault>
     requires started { state.old.at_start ≡ false }
     requires pending { Pending search state.old.mode (string_bytes state.old.last) rest.now }
@@ -234,18 +229,18 @@ pub fn step<'a, S: TokenSink>(
         Seen::No => {
             let mut text = String::new(alloc);
             let after = take_plain(rest, &mut text)?;
-            text_step(sink, state, rest, after, text, line)
+            text_step(sink, state, rest, after, text)
         }
         Seen::Found(opening, after) => match opening {
             Opening::Begins(construct) => {
                 let search = resumed(search, foreign, construct);
-                construct_step(sink, state, alloc, rest, after, construct, search, line)
+                construct_step(sink, state, alloc, rest, after, construct, search)
             }
             Opening::Gives(bit) => {
                 let text = String::from_str(alloc, bit)?;
-                text_step(sink, state, rest, after, text, line)
+                text_step(sink, state, rest, after, text)
             }
-            Opening::Null => token_step(sink, state, rest, after, Token::NullCharacterToken, line),
+            Opening::Null => token_step(sink, state, rest, after, Token::NullCharacterToken),
             Opening::Turns(mode) => {
                 state.mode = mode;
                 Ok(Turn::Goes(after))

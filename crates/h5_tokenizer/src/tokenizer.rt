@@ -1,6 +1,6 @@
 //! The reader, over what takes its tokens.
 ghost use Rattle.std.specs.Prelude.{◌≡◌, ◌++◌, [], Err, OnErr};
-ghost use Rattle.h5_tokenizer.specs.End.{Closes, settle, ClosedAs};
+ghost use Rattle.h5_tokenizer.specs.End.{Closes, ClosedAs};
 ghost use Rattle.h5_tokenizer.specs.Outcome.{Feeds};
 ghost use Rattle.h5_tokenizer.specs.Options.{first_place, mode_of};
 
@@ -37,7 +37,7 @@ fn mode_of(state: Option<states::State>) -> Mode
 }
 
 impl<Sink: TokenSink> Tokenizer<Sink> {
-    /// A reader that has read nothing. It takes no memory.
+    /// A reader that has read nothing, and whose first line is 1. It takes no memory.
     pub fn new(alloc: Global, sink: Sink, opts: TokenizerOpts) -> Tokenizer<Sink>
         ensures sink { result.sink ≡ sink }
         ensures reader { result.reader ≡ record { place = first_place opts; held = []; stage = Stage.Reading } }
@@ -59,17 +59,19 @@ impl<Sink: TokenSink> Tokenizer<Sink> {
                     at_start: discard_bom,
                     mode: mode_of(initial_state),
                     last,
+                    line: 1,
                 },
                 held: BufferQueue::new(alloc),
                 search: None,
-                line: 1,
                 phase: Stage::Reading,
             },
             alloc,
         }
     }
 
-    /// Reads what waits in the queue, and hands on each token that is decided.
+    /// Reads what waits in the queue, and hands on each token that is decided, with the line in which it begins:
+    /// 1 and the newlines before its first character in all that was fed. CR LF, CR and LF are one newline each,
+    /// and the count stays at the most a `u64` holds.
     ///
     /// Where it answers `Done` the queue is empty, and all is handed on but an undecided rest: a CR at the
     /// end, or a front off which no step can be taken that is right whatever input follows. Where it
@@ -96,8 +98,8 @@ impl<Sink: TokenSink> Tokenizer<Sink> {
         }
     }
 
-    /// Hands on what the end makes of the undecided rest, and then the end of the file, and tells the sink
-    /// of the end.
+    /// Hands on what the end makes of the undecided rest, with the line in which that begins, and then the end of
+    /// the file, with the line behind all that was fed, and tells the sink of the end.
     ///
     /// An unfinished comment is given, an unfinished tag or doctype is dropped, and any other rest is
     /// text. A fault of the sink is answered as it is; after any fault the reader has failed. After the end
@@ -106,9 +108,8 @@ impl<Sink: TokenSink> Tokenizer<Sink> {
         ensures failed { self.old.reader.stage ≡ Stage.Failed → (result ≡ Err BuildFault.Failed) × (self.new ≡ self.old) }
         ensures after_end { self.old.reader.stage ≡ Stage.Ended → (result ≡ Err BuildFault.AfterEnd) × (self.new ≡ self.old) }
         ensures closed { self.old.reader.stage ≡ Stage.Reading
-            → Closes Sink.reply_to Sink.after Sink.ended (Sink.meaning self.old.sink)
-            (settle self.old.reader.place.mode self.old.reader.place.last (Sink.is_foreign (Sink.meaning self.old.sink)) self.old.reader.held)
-            (Sink.meaning self.new.sink) result }
+            → Closes Sink.reply_to Sink.after Sink.is_foreign Sink.ended self.old.reader.place (Sink.meaning self.old.sink)
+            self.old.reader.held (Sink.meaning self.new.sink) result }
         ensures stage { self.old.reader.stage ≡ Stage.Reading → ClosedAs self.new.reader result }
     {
         match self.reader.stage() {
@@ -121,7 +122,6 @@ impl<Sink: TokenSink> Tokenizer<Sink> {
                     &self.reader.state,
                     self.alloc,
                     self.reader.held.as_str(),
-                    self.reader.line,
                 )?;
                 self.reader.phase = Stage::Ended;
                 Ok(())

@@ -18,7 +18,8 @@ impl<Handle: Drop, Sink: TreeSink<Handle = Handle> + Drop> TokenSink for TreeBui
 
     ghost reply_to = { λ v t. reply_of Sink.choices t v };
 
-    ghost after = { λ v t. after_token Sink.choices t v };
+    // The lines that are told don't change what it means.
+    ghost after = { λ v t line. after_token Sink.choices t v };
 
     ghost ended = { λ v. ended_view Sink.choices v };
 

@@ -27,7 +27,7 @@ impl TokenSink for Recorder {
 
     ghost reply_to = { λ ended token. if ended then Refuses AfterEnd else Continues };
 
-    ghost after = { λ ended token. ended };
+    ghost after = { λ ended token line. ended };
 
     ghost ended = { λ _. true };
 

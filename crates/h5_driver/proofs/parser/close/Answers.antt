@@ -1,6 +1,4 @@
 use Rattle.h5_tree_builder.specs.Held.{building}
-use Rattle.h5_tokenizer.specs.End.{settle}
-use Rattle.h5_driver.specs.Parsing.{foreign}
 use Rattle.h5_driver.proofs.ReadingLaws.{ends_memory}
 use Rattle.h5_driver.proofs.parser.close.Goals as goal
 
@@ -9,4 +7,4 @@ returns-clause-memory g c =
     let old = (building g.Sink.TreeSink.sees g.Sink.TreeSink.node c.args.tokenizer.now.sink).view in
     let new = (building g.Sink.TreeSink.sees g.Sink.TreeSink.node c.end.new.self.sink).view in
     let reader = c.args.tokenizer.now.reader in
-    ends_memory g.Sink.TreeSink.choices old new (settle reader.place.mode reader.place.last (foreign old) reader.held) c.end.result c.requires.works (c.end.ensures.closed c.requires.reading)
+    ends_memory g.Sink.TreeSink.choices reader.place old new reader.held c.end.result c.requires.works (c.end.ensures.closed c.requires.reading)

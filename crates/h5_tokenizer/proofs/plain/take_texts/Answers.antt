@@ -1,10 +1,10 @@
-use Rattle.std.proofs.Common.{true, false, string_bytes, subst, IsUtf8}
+use Rattle.std.proofs.Common.{true, string_bytes, subst, IsUtf8}
 use Rattle.h5_tokenizer.specs.Steps.{TakesBits}
 use Rattle.h5_tokenizer.proofs.PlainLaws.{many_none, many_more}
 use Rattle.h5_tokenizer.proofs.plain.take_texts.Goals as goal
 use Rattle.h5_tokenizer.proofs.plain.take_texts.Goals.{In-Some}
 
-taken : (c : In-Some) → TakesBits (record { at_start = false; mode = c.args.mode; last = c.args.last.now }) true c.loop-after.rest.now c.in-Some.after.now (string_bytes c.loop-after.out) (string_bytes c.take_some.new.out)
+taken : (c : In-Some) → TakesBits c.args.mode c.args.last.now true c.loop-after.rest.now c.in-Some.after.now (string_bytes c.loop-after.out) (string_bytes c.take_some.new.out)
 taken c = rw c.in-Some.is at c.in_ok-after.ensures
 
 pub loop-after-init : goal.loop-after-init

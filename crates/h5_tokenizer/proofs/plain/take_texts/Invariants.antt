@@ -1,4 +1,4 @@
-use Rattle.std.proofs.Common.{length, string_bytes, false}
+use Rattle.std.proofs.Common.{length, string_bytes}
 use denote.Text.{Utf8}
 use denote.Shadow.{shadow}
 use Rattle.h5_tokenizer.specs.Steps.{TakesMany}
@@ -7,7 +7,7 @@ use Rattle.h5_tokenizer.proofs.plain.take_texts.Given as goal
 abbrev pub invariant-loop-after : goal.invariant-loop-after
 invariant-loop-after l = record {
   utf8 : shadow (Utf8 l.rest);
-  bits : TakesMany (record { at_start = false; mode = l.mode; last = l.last }) l.text l.rest (string_bytes l.fn.out) (string_bytes l.out);
+  bits : TakesMany l.mode l.last l.text l.rest (string_bytes l.fn.out) (string_bytes l.out);
 }
 
 abbrev pub decreases-loop-after : goal.decreases-loop-after

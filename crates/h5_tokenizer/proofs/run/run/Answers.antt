@@ -1,5 +1,6 @@
 use Rattle.std.proofs.Common.{subst, IsUtf8}
 use Rattle.std.proofs.lemmas.Result.{err_from_is_err_and}
+use Rattle.h5_tokenizer.specs.Read.{behind}
 use Rattle.h5_tokenizer.specs.Steps.{place_of, stops_as}
 use Rattle.h5_tokenizer.proofs.ReadLaws.{moves_started}
 use Rattle.h5_tokenizer.proofs.RunLaws.{went_none, went_more, halts_at, ran_into}
@@ -22,8 +23,9 @@ pub returns-in-Stops : goal.returns-in-Stops
 returns-in-Stops g c =
     let S = g.S.TokenSink in
     let moved = rw c.in-Stops.is at c.in_ok-search.ensures in
-    halts_at S.reply_to S.after S.is_foreign (place_of c.args.state.now) (S.meaning c.args.sink.now) c.args.text.now (place_of c.steps.state) (S.meaning c.steps.sink) c.steps.rest.now (stops_as S.node c.in-Stops.stop) (place_of c.step.new.state) (S.meaning c.step.new.sink) c.in-Stops.after.now
-    c.steps.invariant.went moved
+    rw c.line_behind-state.ensures
+    (halts_at S.reply_to S.after S.is_foreign (place_of c.args.state.now) (S.meaning c.args.sink.now) c.args.text.now (place_of c.steps.state) (S.meaning c.steps.sink) c.steps.rest.now (stops_as S.node c.in-Stops.stop) (behind (place_of c.step.new.state) c.steps.rest.now c.in-Stops.after.now) (S.meaning c.step.new.sink) c.in-Stops.after.now
+    c.steps.invariant.went moved)
 
 pub steps-preserved : goal.steps-preserved
 steps-preserved g c =
@@ -31,7 +33,8 @@ steps-preserved g c =
     let moved = rw c.in-Goes.is at c.in_ok-search.ensures in
     record {
       utf8 = subst IsUtf8 c.as_bytes-bytes.ensures.value c.as_bytes-bytes.ensures.utf8;
-      started = moves_started S.reply_to S.after S.is_foreign (place_of c.steps.state) (S.meaning c.steps.sink) c.steps.rest.now moved.reply (place_of c.step.new.state) (S.meaning c.step.new.sink) c.in-Goes.after.now c.steps.invariant.started moved.moves;
+      started = moves_started S.reply_to S.after S.is_foreign (place_of c.steps.state) (S.meaning c.steps.sink) c.steps.rest.now moved.reply (behind (place_of c.step.new.state) c.steps.rest.now c.in-Goes.after.now) (S.meaning c.step.new.sink) c.in-Goes.after.now c.steps.invariant.started moved.moves;
       pending = tt;
-      went = went_more S.reply_to S.after S.is_foreign (place_of c.args.state.now) (S.meaning c.args.sink.now) c.args.text.now (place_of c.steps.state) (S.meaning c.steps.sink) c.steps.rest.now (place_of c.step.new.state) (S.meaning c.step.new.sink) c.in-Goes.after.now c.steps.invariant.went moved;
+      went = rw c.line_behind-state-in-Goes.ensures
+          (went_more S.reply_to S.after S.is_foreign (place_of c.args.state.now) (S.meaning c.args.sink.now) c.args.text.now (place_of c.steps.state) (S.meaning c.steps.sink) c.steps.rest.now (behind (place_of c.step.new.state) c.steps.rest.now c.in-Goes.after.now) (S.meaning c.step.new.sink) c.in-Goes.after.now c.steps.invariant.went moved);
     }

@@ -13,7 +13,7 @@ returns-in_err-stopped g c =
     rw (p.1, p.2)
     (refused S.reply_to S.after S.is_foreign S.node (place_of c.args.state.now) (S.meaning c.args.sink.now) c.args.rest.now c.in_ok-end.end.now (Characters (string_bytes c.take_texts.new.out)) (place_of c.args.state.now) (S.meaning c.hand_on_text.new.sink) c.in_err-stopped.field-0.0
     (text_leads S.reply_to S.after S.is_foreign (place_of c.args.state.now) (S.meaning c.args.sink.now) c.args.rest.now c.args.after.now c.in_ok-end.end.now _ _ c.requires.started c.requires.begun all)
-    (c.in_err-stopped.ensures (place_of c.args.state.now)))
+    c.in_err-stopped.ensures)
 
 pub returns : goal.returns
 returns g c =
@@ -22,4 +22,4 @@ returns g c =
     rw c.turn.ensures
     (turned S.reply_to S.after S.is_foreign S.node (place_of c.args.state.now) (S.meaning c.args.sink.now) c.args.rest.now c.in_ok-end.end (Characters (string_bytes c.take_texts.new.out)) (place_of c.args.state.now) (S.meaning c.hand_on_text.new.sink) c.in_ok-stopped.stopped
     (text_leads S.reply_to S.after S.is_foreign (place_of c.args.state.now) (S.meaning c.args.sink.now) c.args.rest.now c.args.after.now c.in_ok-end.end.now _ _ c.requires.started c.requires.begun all)
-    (c.in_ok-stopped.ensures (place_of c.args.state.now)))
+    c.in_ok-stopped.ensures)
