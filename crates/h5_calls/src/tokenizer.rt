@@ -292,6 +292,7 @@ fn laws_are_of_every_sink() {
     laws::no_errors_and_no_empty_texts::<Recorder>();
     laws::reading_goes_on::<Recorder>();
     laws::readings_join::<Recorder>();
+    laws::lines_are_counted::<Recorder>();
     laws::pieces_join::<Recorder>();
     laws::feeds_join::<Recorder>();
     laws::nothing_is_undecided();

@@ -14,14 +14,15 @@ use Rattle.h5_types.specs.declared.modes.InsertionMode.{InsertionMode}
 use Rattle.h5_types.specs.declared.modes.InsertionMode.TheVariants.{Initial, BeforeHtml, BeforeHead, InHead, AfterHead, InBody, AfterBody, AfterAfterBody}
 use Rattle.h5_types.specs.declared.modes.SplitStatus.TheVariants.{NotSplit, Whitespace, NotWhitespace}
 use Rattle.h5_stack.specs.Scope.{comes_before_special, has_template, second_is}
-use Rattle.h5_meaning.specs.AfterAfterBody.{after_after_body_named, after_after_body_tag}
-use Rattle.h5_meaning.specs.AfterBody.{after_body_named, after_body_tag}
-use Rattle.h5_meaning.specs.AfterHead.{after_head_named, after_head_tag}
-use Rattle.h5_meaning.specs.BeforeHead.{before_head_named, before_head_tag}
-use Rattle.h5_meaning.specs.BeforeHtml.{before_html_named, before_html_tag}
+use Rattle.h5_meaning.specs.AfterAfterBody.{after_after_body_start, after_after_body_tag}
+use Rattle.h5_meaning.specs.AfterBody.{after_body_end, after_body_start, after_body_tag, back_to_body}
+use Rattle.h5_meaning.specs.AfterHead.{after_head_else, after_head_end, after_head_start, after_head_tag}
+use Rattle.h5_meaning.specs.BeforeHead.{before_head_else, before_head_end, before_head_start, before_head_tag}
+use Rattle.h5_meaning.specs.ByName.{Rules, by_kind, by_name, ignored_tag, of_tag}
+use Rattle.h5_meaning.specs.BeforeHtml.{before_html_else, before_html_end, before_html_start, before_html_tag}
 use Rattle.h5_meaning.specs.Changes.{set_mode}
-use Rattle.h5_meaning.specs.InBody.{body_ends, body_in_scope, if_body_in_scope, in_body_end_other, in_body_named, in_body_start_body, in_body_tag}
-use Rattle.h5_meaning.specs.InHead.{in_head_named, in_head_tag}
+use Rattle.h5_meaning.specs.InBody.{body_ends, body_in_scope, if_body_in_scope, in_body_end_other, in_body_end, in_body_start, in_body_start_other, in_body_start_body, in_body_tag}
+use Rattle.h5_meaning.specs.InHead.{in_head_else, in_head_end, in_head_start, in_head_tag}
 use Rattle.h5_meaning.specs.InitialMode.{initial_else}
 use Rattle.h5_meaning.specs.Modes.{rule}
 use Rattle.h5_meaning.specs.Rows.{AddAttrsToHtml, AddAttrsToSecond, Again, AgainBy, Answers, Ending, GenerateImpliedEndExcept, IsAcknowledged, IsDone, PopUntilNamed, Row, SetFramesetNotOk, SetMode, SetQuirksMode, changed_by, choose, errs, ignored, next_mode, row}
@@ -51,73 +52,63 @@ initially : (t : TurnText) (w : World) → Silent (initial_else t w).ending
 unfolding initial_else
 initially t w = choose_silent w.options.iframe_srcdoc (row [] (Again BeforeHtml)) (errs (SetQuirksMode Quirks ∷ []) (Again BeforeHtml)) tt tt
 
-before_html : (k : TagKind) (n : KnownName) (tag : TagText) (w : World) → Silent (before_html_named k n tag w).ending
-before_html StartTag Html tag w = tt
-before_html EndTag Head tag w = tt
-before_html EndTag Body tag w = tt
-before_html EndTag Html tag w = tt
-before_html EndTag Br tag w = tt
-before_html EndTag _ tag w = tt
-before_html StartTag _ tag w = tt
+-- by the name of a tag, where no rule answers anything
+abbrev SilentBy : TagText → World → Rules → Type 0
+SilentBy tag w [] = Unit {0}
+SilentBy tag w (x ∷ xs) = Silent (x.1 tag w).ending × SilentBy tag w xs
 
-before_head : (k : TagKind) (n : KnownName) (tag : TagText) (w : World) → Silent (before_head_named k n tag w).ending
-before_head StartTag Html tag w = start_html tag w
-before_head StartTag Head tag w = tt
-before_head EndTag Head tag w = tt
-before_head EndTag Body tag w = tt
-before_head EndTag Html tag w = tt
-before_head EndTag Br tag w = tt
-before_head EndTag _ tag w = tt
-before_head StartTag _ tag w = tt
+silent_by_name : (xs : Rules) (other : TagText → World → Row) (tag : TagText) (w : World) → SilentBy tag w xs → Silent (other tag w).ending → Silent (by_name xs other tag w).ending
+silent_by_name [] other tag w k o = o
+silent_by_name (x ∷ xs) other tag w k o = choose_silent (x.0 tag.name) (x.1 tag w) (by_name xs other tag w) k.0 (silent_by_name xs other tag w k.1 o)
 
-in_head : (k : TagKind) (n : KnownName) (tag : TagText) (w : World) → Silent (in_head_named k n tag w).ending
-in_head StartTag Html tag w = start_html tag w
-in_head EndTag Head tag w = tt
-in_head EndTag Body tag w = tt
-in_head EndTag Html tag w = tt
-in_head EndTag Br tag w = tt
-in_head StartTag Head tag w = tt
-in_head EndTag _ tag w = tt
-in_head StartTag _ tag w = tt
+before_html : (k : TagKind) (tag : TagText) (w : World) → Silent (by_kind k (by_name before_html_start (of_tag before_html_else) tag w) (by_name before_html_end ignored_tag tag w)).ending
+unfolding before_html_start before_html_end
+before_html StartTag tag w = silent_by_name before_html_start (of_tag before_html_else) tag w (tt, tt) tt
+before_html EndTag tag w = silent_by_name before_html_end ignored_tag tag w (tt, tt) tt
 
-after_head : (k : TagKind) (n : KnownName) (tag : TagText) (w : World) → Silent (after_head_named k n tag w).ending
-after_head StartTag Html tag w = start_html tag w
-after_head StartTag Body tag w = tt
-after_head EndTag Body tag w = tt
-after_head EndTag Html tag w = tt
-after_head EndTag Br tag w = tt
-after_head StartTag Head tag w = tt
-after_head EndTag _ tag w = tt
-after_head StartTag _ tag w = tt
+before_head : (k : TagKind) (tag : TagText) (w : World) → Silent (by_kind k (by_name before_head_start (of_tag before_head_else) tag w) (by_name before_head_end ignored_tag tag w)).ending
+unfolding before_head_start before_head_end
+before_head StartTag tag w = silent_by_name before_head_start (of_tag before_head_else) tag w (start_html tag w, (tt, tt)) tt
+before_head EndTag tag w = silent_by_name before_head_end ignored_tag tag w (tt, tt) tt
 
-in_body : (k : TagKind) (n : KnownName) (tag : TagText) (w : World) → Silent (in_body_named k n tag w).ending
-unfolding in_body_start_body if_body_in_scope in_body_end_other
-in_body StartTag Html tag w = start_html tag w
-in_body StartTag Body tag w = choose_silent (second_is (codes "body") (names_of w) && not (has_template (names_of w))) (errs (SetFramesetNotOk ∷ AddAttrsToSecond tag.attrs ∷ []) IsDone) ignored tt tt
-in_body StartTag _ tag w = tt
-in_body EndTag Html tag w = choose_silent (body_in_scope w) (body_ends [] (Again AfterBody) w) ignored tt tt
-in_body EndTag Body tag w = choose_silent (body_in_scope w) (body_ends (SetMode AfterBody ∷ []) IsDone w) ignored tt tt
-in_body EndTag _ tag w = choose_silent (comes_before_special tag.name (names_of w)) (errs (GenerateImpliedEndExcept tag.name ∷ PopUntilNamed tag.name ∷ []) IsDone) ignored tt tt
+in_head : (k : TagKind) (tag : TagText) (w : World) → Silent (by_kind k (by_name in_head_start (of_tag in_head_else) tag w) (by_name in_head_end ignored_tag tag w)).ending
+unfolding in_head_start in_head_end
+in_head StartTag tag w = silent_by_name in_head_start (of_tag in_head_else) tag w (start_html tag w, (tt, tt)) tt
+in_head EndTag tag w = silent_by_name in_head_end ignored_tag tag w (tt, (tt, tt)) tt
 
-after_body : (k : TagKind) (n : KnownName) (tag : TagText) (w : World) → Silent (after_body_named k n tag w).ending
-after_body StartTag Html tag w = start_html tag w
-after_body EndTag Html tag w = tt
-after_body _ _ tag w = tt
+after_head : (k : TagKind) (tag : TagText) (w : World) → Silent (by_kind k (by_name after_head_start (of_tag after_head_else) tag w) (by_name after_head_end ignored_tag tag w)).ending
+unfolding after_head_start after_head_end
+after_head StartTag tag w = silent_by_name after_head_start (of_tag after_head_else) tag w (start_html tag w, (tt, (tt, tt))) tt
+after_head EndTag tag w = silent_by_name after_head_end ignored_tag tag w (tt, (tt, tt)) tt
 
-after_after_body : (k : TagKind) (n : KnownName) (tag : TagText) (w : World) → Silent (after_after_body_named k n tag w).ending
-after_after_body StartTag Html tag w = start_html tag w
-after_after_body _ _ tag w = tt
+in_body : (k : TagKind) (tag : TagText) (w : World) → Silent (by_kind k (by_name in_body_start in_body_start_other tag w) (by_name in_body_end in_body_end_other tag w)).ending
+unfolding in_body_start in_body_end in_body_start_body if_body_in_scope in_body_end_other
+in_body StartTag tag w = silent_by_name in_body_start in_body_start_other tag w
+    (start_html tag w, (choose_silent (second_is (codes "body") (names_of w) && not (has_template (names_of w))) (errs (SetFramesetNotOk ∷ AddAttrsToSecond tag.attrs ∷ []) IsDone) ignored tt tt, tt)) tt
+in_body EndTag tag w = silent_by_name in_body_end in_body_end_other tag w
+    (choose_silent (body_in_scope w) (body_ends [] (Again AfterBody) w) ignored tt tt, (choose_silent (body_in_scope w) (body_ends (SetMode AfterBody ∷ []) IsDone w) ignored tt tt, tt))
+    (choose_silent (comes_before_special tag.name (names_of w)) (errs (GenerateImpliedEndExcept tag.name ∷ PopUntilNamed tag.name ∷ []) IsDone) ignored tt tt)
+
+after_body : (k : TagKind) (tag : TagText) (w : World) → Silent (by_kind k (by_name after_body_start (of_tag back_to_body) tag w) (by_name after_body_end (of_tag back_to_body) tag w)).ending
+unfolding after_body_start after_body_end
+after_body StartTag tag w = silent_by_name after_body_start (of_tag back_to_body) tag w (start_html tag w, tt) tt
+after_body EndTag tag w = silent_by_name after_body_end (of_tag back_to_body) tag w (tt, tt) tt
+
+after_after_body : (k : TagKind) (tag : TagText) (w : World) → Silent (by_kind k (by_name after_after_body_start (of_tag back_to_body) tag w) (back_to_body (TagTurn tag) w)).ending
+unfolding after_after_body_start
+after_after_body StartTag tag w = silent_by_name after_after_body_start (of_tag back_to_body) tag w (start_html tag w, tt) tt
+after_after_body EndTag tag w = tt
 
 silent_tag : (m : InsertionMode) (tag : TagText) (w : World) → Silent (rule m (TagTurn tag) w).ending
 unfolding before_html_tag before_head_tag in_head_tag after_head_tag in_body_tag after_body_tag after_after_body_tag
 silent_tag Initial tag w = initially (TagTurn tag) w
-silent_tag BeforeHtml tag w = before_html tag.kind (known_name_of tag.name) tag w
-silent_tag BeforeHead tag w = before_head tag.kind (known_name_of tag.name) tag w
-silent_tag InHead tag w = in_head tag.kind (known_name_of tag.name) tag w
-silent_tag AfterHead tag w = after_head tag.kind (known_name_of tag.name) tag w
-silent_tag InBody tag w = in_body tag.kind (known_name_of tag.name) tag w
-silent_tag AfterBody tag w = after_body tag.kind (known_name_of tag.name) tag w
-silent_tag AfterAfterBody tag w = after_after_body tag.kind (known_name_of tag.name) tag w
+silent_tag BeforeHtml tag w = before_html tag.kind tag w
+silent_tag BeforeHead tag w = before_head tag.kind tag w
+silent_tag InHead tag w = in_head tag.kind tag w
+silent_tag AfterHead tag w = after_head tag.kind tag w
+silent_tag InBody tag w = in_body tag.kind tag w
+silent_tag AfterBody tag w = after_body tag.kind tag w
+silent_tag AfterAfterBody tag w = after_after_body tag.kind tag w
 silent_tag _ tag w = tt
 
 silent : (m : InsertionMode) (t : TurnText) (w : World) → Silent (rule m t w).ending

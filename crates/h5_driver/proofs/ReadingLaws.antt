@@ -1,5 +1,5 @@
 -- Readings over a builder that works.
-use Rattle.std.proofs.Common.{◌≡◌, ◌++◌, ℕ, List, [], ◌∷◌, Option, Some, None, Result, Ok, Err, IfOk, OnErr, inl, inr, refl, ap, sym, subst, ◌∙◌, append_assoc}
+use Rattle.std.proofs.Common.{◌≡◌, ◌++◌, ℕ, List, [], Option, Some, None, Result, Ok, Err, IfOk, OnErr, inl, inr, refl, ap, sym, subst, ◌∙◌, append_assoc}
 use Rattle.std.proofs.lemmas.List.{append-nil}
 use Rattle.h5_token.specs.Reply.{Continues, Refuses, Reply}
 use Rattle.h5_token.specs.TokenText.{TokenText, Characters, EndOfFile}
@@ -16,7 +16,7 @@ use Rattle.h5_tokenizer.specs.Read.{Read, Step, marked, nothing_read, read_on, s
 use Rattle.h5_tokenizer.specs.Outcome.{Feeds, ReadsAll, RefusedAt, StopsAt}
 use Rattle.h5_tokenizer.specs.ReaderText.{ReaderText}
 use Rattle.h5_tokenizer.specs.Lines.{line_behind}
-use Rattle.h5_tokenizer.specs.Whole.{IsBlindToCuts, Readings, ReadsToEnd, after_closing, closing, more_reading, no_reading}
+use Rattle.h5_tokenizer.specs.Whole.{IsBlindToCuts, Readings, after_closing, closing, more_reading, no_reading}
 use Rattle.h5_tokenizer.proofs.CutLaws.{cuts_agree}
 use Rattle.h5_tokenizer.proofs.WholeLaws.{end_ends, readings_go_on}
 use Rattle.h5_driver.specs.Parsing.{Advances, IsWorking, Parses, Reads, TakesAll, after, ended, foreign, replies}

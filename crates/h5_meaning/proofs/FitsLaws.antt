@@ -22,17 +22,18 @@ use Rattle.h5_fits.specs.Fits.{Situation, is_before_root}
 use Rattle.h5_fits.specs.StageFits.{IsRootAlone, IsRootOpen, StageFits}
 use Rattle.h5_fits.proofs.RoleLaws.{made_named}
 use Rattle.h5_fits.proofs.StageLaws.{stage_body_pushed, stage_ended, stage_head_popped, stage_head_pushed, stage_pushed, stage_root_pushed, stage_situation, stage_some}
-use Rattle.h5_meaning.specs.AfterAfterBody.{after_after_body_named, after_after_body_tag}
-use Rattle.h5_meaning.specs.AfterBody.{after_body_named, after_body_tag}
-use Rattle.h5_meaning.specs.AfterHead.{after_head_named, after_head_tag}
-use Rattle.h5_meaning.specs.BeforeHead.{before_head_named, before_head_tag}
-use Rattle.h5_meaning.specs.BeforeHtml.{before_html_named, before_html_tag}
-use Rattle.h5_meaning.specs.Changes.{add_attrs_at, add_attrs_to_html, add_attrs_to_second, append_text, append_comment, append_comment_to_doc, append_comment_to_html, pop_until_named, set_frameset_not_ok, generate_implied_end_except, set_mode, insert_element, insert_head, create_root, set_frameset_ok_by_text, pop, pop_while, set_quirks_mode}
-use Rattle.h5_meaning.specs.InBody.{body_ends, body_in_scope, if_body_in_scope, in_body_end_other, in_body_named, in_body_start_body, in_body_tag}
-use Rattle.h5_meaning.specs.InHead.{in_head_named, in_head_tag}
+use Rattle.h5_meaning.specs.AfterAfterBody.{after_after_body_start, after_after_body_tag}
+use Rattle.h5_meaning.specs.AfterBody.{after_body_end, after_body_start, after_body_tag, back_to_body}
+use Rattle.h5_meaning.specs.AfterHead.{after_head_else, after_head_end, after_head_start, after_head_tag}
+use Rattle.h5_meaning.specs.BeforeHead.{before_head_else, before_head_end, before_head_start, before_head_tag}
+use Rattle.h5_meaning.specs.ByName.{NonePasses, Rules, by_kind, by_name, ignored_tag, of_tag}
+use Rattle.h5_meaning.specs.BeforeHtml.{before_html_else, before_html_end, before_html_start, before_html_tag}
+use Rattle.h5_meaning.specs.Changes.{add_attrs_at, add_attrs_to_html, add_attrs_to_second, append_text, append_comment, append_comment_to_doc, append_comment_to_html, pop_until_named, set_frameset_not_ok, generate_implied_end_except, set_mode, insert_and_pop_element, insert_element, insert_head, create_root, set_frameset_ok_by_text, pop, set_quirks_mode}
+use Rattle.h5_meaning.specs.InBody.{body_ends, body_in_scope, if_body_in_scope, in_body_end_other, in_body_end, in_body_start, in_body_start_other, in_body_start_body, in_body_tag}
+use Rattle.h5_meaning.specs.InHead.{in_head_else, in_head_end, in_head_start, in_head_tag}
 use Rattle.h5_meaning.specs.InitialMode.{initial_else}
 use Rattle.h5_meaning.specs.Modes.{rule}
-use Rattle.h5_meaning.specs.Rows.{Follows, AddAttrsToHtml, AddAttrsToSecond, Again, AppendText, AppendComment, AppendCommentToDoc, AppendCommentToHtml, Change, PopUntilNamed, Ending, SetFramesetNotOk, GenerateImpliedEndExcept, InsertElement, InsertHead, CreateRoot, IsDone, SetFramesetOkByText, Pop, Row, SetMode, SetQuirksMode, apply, apply_all, choose, errs, ignored, next_mode, row}
+use Rattle.h5_meaning.specs.Rows.{Follows, AddAttrsToHtml, AddAttrsToSecond, AdoptionAgency, Again, ClosePElement, ClosePElementInButtonScope, CreateFormattingElement, GenerateImpliedEnd, HandleMisnestedATags, HandleMisnestedNobrTags, InsertAndPopElement, PopHeading, PopUntilHeading, ReconstructActiveFormattingElements, AppendText, AppendComment, AppendCommentToDoc, AppendCommentToHtml, Change, PopUntilNamed, Ending, SetFramesetNotOk, GenerateImpliedEndExcept, InsertElement, InsertHead, CreateRoot, IsDone, SetFramesetOkByText, Pop, Row, SetMode, SetQuirksMode, apply, apply_all, choose, errs, ignored, next_mode, row}
 use Rattle.h5_meaning.specs.Shared.{in_body_start_html}
 use Rattle.h5_stack.specs.Scope.{comes_before_special, has_template, second_is}
 use Rattle.h5_meaning.specs.Sound.{Fits, Sound, situation_of}
@@ -42,6 +43,7 @@ use Rattle.h5_stack.specs.Order.{second_from_last}
 use Rattle.h5_meaning.proofs.NameLaws.{names-add_to_root, names-add_to_second, names-append, names-append_comment, names-append_comment_to_document, names-append_comment_to_root, names-cut, names-implied, names-insert, names-insert_head, names-insert_root}
 use Rattle.h5_stack.specs.Scope.{cut_names}
 use Rattle.h5_meaning.proofs.PopLaws.{names-pop, names_length}
+use Rattle.h5_meaning.proofs.TreeLaws.{OnlyTree, tree_adoption, tree_close_p, tree_close_p_in_scope, tree_format, tree_implied, tree_implied_except, tree_misnested_a_tags, tree_misnested_nobr_tags, tree_pop_heading, tree_reconstruct, tree_until_heading}
 
 -- the mode that changes and an ending leave
 abbrev mode_after : InsertionMode → List Change → InsertionMode
@@ -122,57 +124,47 @@ module _ (choices : SinkChoices) (w : World) (sound : Sound w) where
   kept_root : Kept BeforeHtml (row (CreateRoot [] ∷ []) (Again BeforeHead))
   kept_root = root_made []
 
-  kept_before_html : (k : TagKind) (n : KnownName) (tag : TagText) → Kept BeforeHtml (before_html_named k n tag w)
-  unfolding names_of
-  kept_before_html StartTag Html tag h = root_made tag.attrs h
-  kept_before_html EndTag Head tag h = kept_root h
-  kept_before_html EndTag Body tag h = kept_root h
-  kept_before_html EndTag Html tag h = kept_root h
-  kept_before_html EndTag Br tag h = kept_root h
-  kept_before_html EndTag _ tag h = h
-  kept_before_html StartTag _ tag h = kept_root h
+  -- by the name of a tag, where each rule keeps it; the last one is met where the name passes no other
+  abbrev KeptBy : InsertionMode → TagText → Rules → Type 0
+  KeptBy m tag [] = Unit {0}
+  KeptBy m tag (x ∷ xs) = Kept m (x.1 tag w) × KeptBy m tag xs
+
+  kept_either : (m : InsertionMode) (b : Bool) (r s : Row) → Kept m r → (b ≡ false → Kept m s) → Kept m (choose b r s)
+  kept_either m true r s x y = x
+  kept_either m false r s x y = y refl
+
+  kept_by_name : (m : InsertionMode) (xs : Rules) (other : TagText → World → Row) (tag : TagText) → KeptBy m tag xs → (NonePasses xs tag.name → Kept m (other tag w)) → Kept m (by_name xs other tag w)
+  kept_by_name m [] other tag k o = o tt
+  kept_by_name m (x ∷ xs) other tag k o = kept_either m (x.0 tag.name) (x.1 tag w) (by_name xs other tag w) k.0 (λ e. kept_by_name m xs other tag k.1 (λ n. o (e, n)))
+
+  kept_before_html : (k : TagKind) (tag : TagText) → Kept BeforeHtml (by_kind k (by_name before_html_start (of_tag before_html_else) tag w) (by_name before_html_end ignored_tag tag w))
+  unfolding before_html_start before_html_end names_of
+  kept_before_html StartTag tag = kept_by_name BeforeHtml before_html_start (of_tag before_html_else) tag (root_made tag.attrs, tt) (λ n. kept_root)
+  kept_before_html EndTag tag = kept_by_name BeforeHtml before_html_end ignored_tag tag (kept_root, tt) (λ n h. h)
 
   kept_head : Kept BeforeHead (row (InsertHead [] false ∷ []) (Again InHead))
   kept_head = head_pushed [] false
 
-  kept_before_head : (k : TagKind) (n : KnownName) (tag : TagText) → Kept BeforeHead (before_head_named k n tag w)
-  unfolding names_of
-  kept_before_head StartTag Html tag h = kept_start_html BeforeHead tag h
-  kept_before_head StartTag Head tag h = head_pushed tag.attrs tag.had_duplicate_attributes h
-  kept_before_head EndTag Head tag h = kept_head h
-  kept_before_head EndTag Body tag h = kept_head h
-  kept_before_head EndTag Html tag h = kept_head h
-  kept_before_head EndTag Br tag h = kept_head h
-  kept_before_head EndTag _ tag h = h
-  kept_before_head StartTag _ tag h = kept_head h
+  kept_before_head : (k : TagKind) (tag : TagText) → Kept BeforeHead (by_kind k (by_name before_head_start (of_tag before_head_else) tag w) (by_name before_head_end ignored_tag tag w))
+  unfolding before_head_start before_head_end names_of
+  kept_before_head StartTag tag = kept_by_name BeforeHead before_head_start (of_tag before_head_else) tag (kept_start_html BeforeHead tag, ((λ h. head_pushed tag.attrs tag.had_duplicate_attributes h), tt)) (λ n. kept_head)
+  kept_before_head EndTag tag = kept_by_name BeforeHead before_head_end ignored_tag tag (kept_head, tt) (λ n h. h)
 
   kept_pop : Kept InHead (row (Pop ∷ []) (Again AfterHead))
   kept_pop = head_popped
 
-  kept_in_head : (k : TagKind) (n : KnownName) (tag : TagText) → Kept InHead (in_head_named k n tag w)
-  unfolding names_of
-  kept_in_head StartTag Html tag h = kept_start_html InHead tag h
-  kept_in_head EndTag Head tag h = head_popped h
-  kept_in_head EndTag Body tag h = kept_pop h
-  kept_in_head EndTag Html tag h = kept_pop h
-  kept_in_head EndTag Br tag h = kept_pop h
-  kept_in_head StartTag Head tag h = h
-  kept_in_head EndTag _ tag h = h
-  kept_in_head StartTag _ tag h = kept_pop h
+  kept_in_head : (k : TagKind) (tag : TagText) → Kept InHead (by_kind k (by_name in_head_start (of_tag in_head_else) tag w) (by_name in_head_end ignored_tag tag w))
+  unfolding in_head_start in_head_end names_of
+  kept_in_head StartTag tag = kept_by_name InHead in_head_start (of_tag in_head_else) tag (kept_start_html InHead tag, ((λ h. h), tt)) (λ n. kept_pop)
+  kept_in_head EndTag tag = kept_by_name InHead in_head_end ignored_tag tag (head_popped, (kept_pop, tt)) (λ n h. h)
 
   kept_body : Kept AfterHead (row (InsertElement (codes "body") [] false ∷ []) (Again InBody))
   kept_body = body_pushed (codes "body") [] false
 
-  kept_after_head : (k : TagKind) (n : KnownName) (tag : TagText) → Kept AfterHead (after_head_named k n tag w)
-  unfolding names_of
-  kept_after_head StartTag Html tag h = kept_start_html AfterHead tag h
-  kept_after_head StartTag Body tag h = body_pushed tag.name tag.attrs tag.had_duplicate_attributes h
-  kept_after_head EndTag Body tag h = kept_body h
-  kept_after_head EndTag Html tag h = kept_body h
-  kept_after_head EndTag Br tag h = kept_body h
-  kept_after_head StartTag Head tag h = h
-  kept_after_head EndTag _ tag h = h
-  kept_after_head StartTag _ tag h = kept_body h
+  kept_after_head : (k : TagKind) (tag : TagText) → Kept AfterHead (by_kind k (by_name after_head_start (of_tag after_head_else) tag w) (by_name after_head_end ignored_tag tag w))
+  unfolding after_head_start after_head_end names_of
+  kept_after_head StartTag tag = kept_by_name AfterHead after_head_start (of_tag after_head_else) tag (kept_start_html AfterHead tag, ((λ h. body_pushed tag.name tag.attrs tag.had_duplicate_attributes h), ((λ h. h), tt))) (λ n. kept_body)
+  kept_after_head EndTag tag = kept_by_name AfterHead after_head_end ignored_tag tag ((λ h. h), (kept_body, tt)) (λ n h. h)
 
   kept_second : (tag : TagText) → Kept InBody (errs (SetFramesetNotOk ∷ AddAttrsToSecond tag.attrs ∷ []) IsDone)
   unfolding names_of
@@ -196,14 +188,11 @@ module _ (choices : SinkChoices) (w : World) (sound : Sound w) where
       (stage_ended here here tag.name (names_of w) other e h))
       (λ h. h)
 
-  kept_in_body : (k : TagKind) (n : KnownName) (tag : TagText) → (n ≢ Html → is_same_text tag.name (codes "html") ≡ false) → Kept InBody (in_body_named k n tag w)
-  unfolding names_of
-  kept_in_body StartTag Html tag other h = kept_start_html InBody tag h
-  kept_in_body StartTag Body tag other h = kept_start_body tag h
-  kept_in_body StartTag _ tag other h = pushed tag.name tag.attrs tag.had_duplicate_attributes h
-  kept_in_body EndTag Html tag other h = kept_if_body InBody (body_ends [] (Again AfterBody) w) (λ k. k) h
-  kept_in_body EndTag Body tag other h = kept_if_body InBody (body_ends (SetMode AfterBody ∷ []) IsDone w) (λ k. k) h
-  kept_in_body EndTag _ tag other h = kept_end_other tag (other (λ e. cc)) h
+  kept_in_body : (k : TagKind) (tag : TagText) → Kept InBody (by_kind k (by_name in_body_start in_body_start_other tag w) (by_name in_body_end in_body_end_other tag w))
+  unfolding in_body_start in_body_end names_of
+  kept_in_body StartTag tag = kept_by_name InBody in_body_start in_body_start_other tag (kept_start_html InBody tag, (kept_start_body tag, tt)) (λ n h. pushed tag.name tag.attrs tag.had_duplicate_attributes h)
+  kept_in_body EndTag tag = kept_by_name InBody in_body_end in_body_end_other tag
+      (kept_if_body InBody (body_ends [] (Again AfterBody) w) (λ k. k), (kept_if_body InBody (body_ends (SetMode AfterBody ∷ []) IsDone w) (λ k. k), tt)) (λ n. kept_end_other tag n.0)
 
   kept_text_in_body : (m : InsertionMode) (t : List ℕ) → t ≢ [] → Kept m (row (SetFramesetOkByText t ∷ AppendText t ∷ []) IsDone)
   unfolding append_text names_of set_frameset_ok_by_text
@@ -225,31 +214,26 @@ module _ (choices : SinkChoices) (w : World) (sound : Sound w) where
   unfolding append_comment_to_html
   kept_comment_to_root m t = as_before m w (append_comment_to_html choices t w) (names-append_comment_to_root choices t w sound) refl
 
-  kept_after_body : (k : TagKind) (n : KnownName) (tag : TagText) → Kept AfterBody (after_body_named k n tag w)
-  unfolding names_of
-  kept_after_body StartTag Html tag h = kept_start_html AfterBody tag h
-  kept_after_body EndTag Html tag h = h
-  kept_after_body _ _ tag h = h
+  kept_after_body : (k : TagKind) (tag : TagText) → Kept AfterBody (by_kind k (by_name after_body_start (of_tag back_to_body) tag w) (by_name after_body_end (of_tag back_to_body) tag w))
+  unfolding after_body_start after_body_end names_of
+  kept_after_body StartTag tag = kept_by_name AfterBody after_body_start (of_tag back_to_body) tag (kept_start_html AfterBody tag, tt) (λ n h. h)
+  kept_after_body EndTag tag = kept_by_name AfterBody after_body_end (of_tag back_to_body) tag ((λ h. h), tt) (λ n h. h)
 
-  kept_after_after_body : (k : TagKind) (n : KnownName) (tag : TagText) → Kept AfterAfterBody (after_after_body_named k n tag w)
-  kept_after_after_body StartTag Html tag h = kept_start_html AfterAfterBody tag h
-  kept_after_after_body _ _ tag h = h
+  kept_after_after_body : (k : TagKind) (tag : TagText) → Kept AfterAfterBody (by_kind k (by_name after_after_body_start (of_tag back_to_body) tag w) (back_to_body (TagTurn tag) w))
+  unfolding after_after_body_start
+  kept_after_after_body StartTag tag = kept_by_name AfterAfterBody after_after_body_start (of_tag back_to_body) tag (kept_start_html AfterAfterBody tag, tt) (λ n h. h)
+  kept_after_after_body EndTag tag = λ h. h
 
-  -- a name that isn't known as `html` isn't `html`
-  other_name : (name : List ℕ) → known_name_of name ≢ Html → is_same_text name (codes "html") ≡ false
-  other_name name h = not_text_of name Html h
-
-  -- the text of a name that is known as `head`
   kept_tag : (m : InsertionMode) (tag : TagText) → Kept m (rule m (TagTurn tag) w)
   unfolding before_html_tag before_head_tag in_head_tag after_head_tag in_body_tag after_body_tag after_after_body_tag
   kept_tag Initial tag = kept_initial (TagTurn tag)
-  kept_tag BeforeHtml tag = kept_before_html tag.kind (known_name_of tag.name) tag
-  kept_tag BeforeHead tag = kept_before_head tag.kind (known_name_of tag.name) tag
-  kept_tag InHead tag = kept_in_head tag.kind (known_name_of tag.name) tag
-  kept_tag AfterHead tag = kept_after_head tag.kind (known_name_of tag.name) tag
-  kept_tag InBody tag = kept_in_body tag.kind (known_name_of tag.name) tag (other_name tag.name)
-  kept_tag AfterBody tag = kept_after_body tag.kind (known_name_of tag.name) tag
-  kept_tag AfterAfterBody tag = kept_after_after_body tag.kind (known_name_of tag.name) tag
+  kept_tag BeforeHtml tag = kept_before_html tag.kind tag
+  kept_tag BeforeHead tag = kept_before_head tag.kind tag
+  kept_tag InHead tag = kept_in_head tag.kind tag
+  kept_tag AfterHead tag = kept_after_head tag.kind tag
+  kept_tag InBody tag = kept_in_body tag.kind tag
+  kept_tag AfterBody tag = kept_after_body tag.kind tag
+  kept_tag AfterAfterBody tag = kept_after_after_body tag.kind tag
   kept_tag _ tag = λ h. h
 
   kept_comments : (m : InsertionMode) (x : List ℕ) → Kept m (rule m (CommentTurn x) w)
@@ -309,18 +293,17 @@ module _ (choices : SinkChoices) (w : World) (sound : Sound w) where
   kept_rule m EofTurn some = kept_end m
 
 -- the mode of a world after changes
-while_mode : (choices : SinkChoices) (p : QualName → Bool) (ns : List QualName) (w : World) → (pop_while choices p ns w).mode ≡ w.mode
-unfolding pop
-while_mode choices p [] w = refl
-while_mode choices p (n ∷ ns) w = elim (p n) as (λ b. (cond b (pop_while choices p ns (pop choices w)) w).mode ≡ w.mode) [ true ↦ while_mode choices p ns (pop choices w) | false ↦ refl ]
+tree_mode : (w v : World) → OnlyTree w v → v.mode ≡ w.mode
+tree_mode w v e = ap (λ (x : World). x.mode) e
 
 change_mode : (choices : SinkChoices) (x : Change) (w : World) → (apply choices x w).mode ≡ mode_after w.mode (x ∷ [])
-unfolding set_frameset_ok_by_text set_quirks_mode insert_element create_root append_comment append_comment_to_doc append_comment_to_html append_text pop insert_head add_attrs_to_html add_attrs_to_second generate_implied_end_except pop_until_named
+unfolding set_frameset_ok_by_text set_quirks_mode insert_element create_root append_comment append_comment_to_doc append_comment_to_html append_text pop insert_and_pop_element insert_head add_attrs_to_html add_attrs_to_second pop_until_named
 change_mode choices (SetMode mode) w = refl
 change_mode choices (SetQuirksMode mode) w = refl
 change_mode choices SetFramesetNotOk w = refl
 change_mode choices (SetFramesetOkByText text) w = refl
 change_mode choices (InsertElement local attrs duplicates) w = refl
+change_mode choices (InsertAndPopElement local attrs duplicates) w = refl
 change_mode choices (InsertHead attrs duplicates) w = refl
 change_mode choices (CreateRoot attrs) w = refl
 change_mode choices (AppendText text) w = refl
@@ -334,8 +317,18 @@ change_mode choices (AddAttrsToSecond attrs) w = at (second_from_last w.stack)
     at None = refl
     at (Some n) = refl
 change_mode choices Pop w = refl
-change_mode choices (GenerateImpliedEndExcept local) w = while_mode choices _ (names_of w) w
+change_mode choices (GenerateImpliedEndExcept local) w = tree_mode w _ (tree_implied_except choices local w)
 change_mode choices (PopUntilNamed local) w = refl
+change_mode choices GenerateImpliedEnd w = tree_mode w _ (tree_implied choices w)
+change_mode choices ClosePElement w = tree_mode w _ (tree_close_p choices w)
+change_mode choices ClosePElementInButtonScope w = tree_mode w _ (tree_close_p_in_scope choices w)
+change_mode choices PopHeading w = tree_mode w _ (tree_pop_heading choices w)
+change_mode choices PopUntilHeading w = tree_mode w _ (tree_until_heading w)
+change_mode choices ReconstructActiveFormattingElements w = tree_mode w _ (tree_reconstruct choices w)
+change_mode choices (CreateFormattingElement tag) w = tree_mode w _ (tree_format choices tag w)
+change_mode choices (AdoptionAgency name) w = tree_mode w _ (tree_adoption choices name w)
+change_mode choices HandleMisnestedATags w = tree_mode w _ (tree_misnested_a_tags choices w)
+change_mode choices HandleMisnestedNobrTags w = tree_mode w _ (tree_misnested_nobr_tags choices w)
 
 mode_in_turn : (m : InsertionMode) (x : Change) (xs : List Change) → mode_after (mode_after m (x ∷ [])) xs ≡ mode_after m (x ∷ xs)
 mode_in_turn m (SetMode k) xs = refl

@@ -9,4 +9,5 @@ pub mod RunLaws
 pub mod SettleLaws
 pub mod SoundLaws
 pub mod TextForestLaws
+pub mod TreeLaws
 pub mod TurnLaws

@@ -6,23 +6,22 @@ use Rattle.h5_token.specs.declared.tag.TagKind.{TagKind}
 use Rattle.h5_token.specs.declared.tag.TagKind.TheVariants.{StartTag, EndTag}
 use Rattle.h5_interface.specs.SinkChoices.{SinkChoices}
 use Rattle.h5_interface.specs.declared.marks.QuirksMode.TheVariants.{Quirks}
-use Rattle.h5_names.specs.KnownNames.{known_name_of}
-use Rattle.h5_names.specs.declared.known_name.KnownName.{KnownName}
-use Rattle.h5_names.specs.declared.known_name.KnownName.TheVariants.{Html, Head, Body, Br}
+use Rattle.h5_names.specs.declared.known_name.KnownName.TheVariants.{Html}
 use Rattle.h5_stack.specs.Scope.{has_template, second_is, comes_before_special}
 use Rattle.h5_types.specs.TurnText.{TurnText, TagTurn, CommentTurn, TextTurn, NullTurn, EofTurn, is_self_closing}
 use Rattle.h5_types.specs.declared.modes.InsertionMode.{InsertionMode}
 use Rattle.h5_types.specs.declared.modes.InsertionMode.TheVariants.{Initial, BeforeHtml, BeforeHead, InHead, AfterHead, InBody, AfterBody, AfterAfterBody}
 use Rattle.h5_types.specs.declared.modes.SplitStatus.TheVariants.{NotSplit, Whitespace, NotWhitespace}
 use Rattle.h5_types.specs.declared.turns.ProcessResult.TheVariants as results
-use Rattle.h5_meaning.specs.AfterAfterBody.{after_after_body_named, after_after_body_tag}
-use Rattle.h5_meaning.specs.AfterBody.{after_body_named, after_body_tag}
-use Rattle.h5_meaning.specs.AfterHead.{after_head_named, after_head_tag}
-use Rattle.h5_meaning.specs.BeforeHead.{before_head_named, before_head_tag}
-use Rattle.h5_meaning.specs.BeforeHtml.{before_html_named, before_html_tag}
+use Rattle.h5_meaning.specs.AfterAfterBody.{after_after_body_start, after_after_body_tag}
+use Rattle.h5_meaning.specs.AfterBody.{after_body_end, after_body_start, after_body_tag, back_to_body}
+use Rattle.h5_meaning.specs.AfterHead.{after_head_else, after_head_end, after_head_start, after_head_tag}
+use Rattle.h5_meaning.specs.BeforeHead.{before_head_else, before_head_end, before_head_start, before_head_tag}
+use Rattle.h5_meaning.specs.ByName.{NonePasses, Rules, by_kind, by_name, ignored_tag, named, of_tag}
+use Rattle.h5_meaning.specs.BeforeHtml.{before_html_else, before_html_end, before_html_start, before_html_tag}
 use Rattle.h5_meaning.specs.Changes.{set_mode}
-use Rattle.h5_meaning.specs.InBody.{body_ends, body_in_scope, if_body_in_scope, in_body_end_other, in_body_named, in_body_start_body, in_body_tag}
-use Rattle.h5_meaning.specs.InHead.{in_head_named, in_head_tag}
+use Rattle.h5_meaning.specs.InBody.{body_ends, body_in_scope, if_body_in_scope, in_body_end_other, in_body_end, in_body_start, in_body_start_other, in_body_start_body, in_body_tag}
+use Rattle.h5_meaning.specs.InHead.{in_head_else, in_head_end, in_head_start, in_head_tag}
 use Rattle.h5_meaning.specs.InitialMode.{initial_else}
 use Rattle.h5_meaning.specs.Modes.{rule}
 use Rattle.h5_meaning.specs.Rows.{AddAttrsToHtml, AddAttrsToSecond, Again, AgainBy, Answers, Ending, Follows, GenerateImpliedEndExcept, IsAcknowledged, IsDone, PopUntilNamed, Row, SetFramesetNotOk, SetMode, SetQuirksMode, changed_by, choose, errs, ignored, next_mode, row}
@@ -31,12 +30,12 @@ use Rattle.h5_meaning.specs.Shared.{in_body_start_html}
 use Rattle.h5_meaning.specs.World.{World, names_of}
 
 -- whether a token is an end tag `html`, for which "in body" leads to "after body" and not back
-abbrev is_end_html_tag : TagKind → KnownName → Bool
-is_end_html_tag EndTag Html = true
-is_end_html_tag _ _ = false
+abbrev is_end_html_tag : TagKind → List ℕ → Bool
+is_end_html_tag EndTag name = named Html name
+is_end_html_tag StartTag name = false
 
 abbrev pub is_end_html : TurnText → Bool
-is_end_html (TagTurn tag) = is_end_html_tag tag.kind (known_name_of tag.name)
+is_end_html (TagTurn tag) = is_end_html_tag tag.kind tag.name
 is_end_html (CommentTurn text) = false
 is_end_html (TextTurn status text) = false
 is_end_html NullTurn = false
@@ -82,74 +81,73 @@ falls_initial_else : (e : Bool) (t : TurnText) (w : World) → Falls e Initial (
 unfolding initial_else
 falls_initial_else e t w = falls_choose e Initial w.options.iframe_srcdoc (row [] (Again BeforeHtml)) (errs (SetQuirksMode Quirks ∷ []) (Again BeforeHtml)) (omega arith) (omega arith)
 
-falls_before_html : (k : TagKind) (n : KnownName) (tag : TagText) (w : World) → Falls (is_end_html_tag k n) BeforeHtml (before_html_named k n tag w).ending
-falls_before_html StartTag Html tag w = tt
-falls_before_html EndTag Head tag w = omega arith
-falls_before_html EndTag Body tag w = omega arith
-falls_before_html EndTag Html tag w = omega arith
-falls_before_html EndTag Br tag w = omega arith
-falls_before_html EndTag _ tag w = tt
-falls_before_html StartTag _ tag w = omega arith
+-- by the name of a tag, where each rule falls that it passes, and the last one where it passes none
+abbrev FallsBy : Bool → InsertionMode → TagText → World → Rules → Type 0
+FallsBy e m tag w [] = Unit {0}
+FallsBy e m tag w (x ∷ xs) = (x.0 tag.name ≡ true → Falls e m (x.1 tag w).ending) × FallsBy e m tag w xs
 
-falls_before_head : (k : TagKind) (n : KnownName) (tag : TagText) (w : World) → Falls (is_end_html_tag k n) BeforeHead (before_head_named k n tag w).ending
-falls_before_head StartTag Html tag w = falls_start_html false BeforeHead tag w
-falls_before_head StartTag Head tag w = tt
-falls_before_head EndTag Head tag w = omega arith
-falls_before_head EndTag Body tag w = omega arith
-falls_before_head EndTag Html tag w = omega arith
-falls_before_head EndTag Br tag w = omega arith
-falls_before_head EndTag _ tag w = tt
-falls_before_head StartTag _ tag w = omega arith
+falls_either : (e : Bool) (m : InsertionMode) (b : Bool) (r s : Row) → (b ≡ true → Falls e m r.ending) → (b ≡ false → Falls e m s.ending) → Falls e m (choose b r s).ending
+falls_either e m true r s x y = x refl
+falls_either e m false r s x y = y refl
 
-falls_in_head : (k : TagKind) (n : KnownName) (tag : TagText) (w : World) → Falls (is_end_html_tag k n) InHead (in_head_named k n tag w).ending
-falls_in_head StartTag Html tag w = falls_start_html false InHead tag w
-falls_in_head EndTag Head tag w = tt
-falls_in_head EndTag Body tag w = omega arith
-falls_in_head EndTag Html tag w = omega arith
-falls_in_head EndTag Br tag w = omega arith
-falls_in_head StartTag Head tag w = tt
-falls_in_head EndTag _ tag w = tt
-falls_in_head StartTag _ tag w = omega arith
+falls_by_name : (e : Bool) (m : InsertionMode) (xs : Rules) (other : TagText → World → Row) (tag : TagText) (w : World) → FallsBy e m tag w xs → (NonePasses xs tag.name → Falls e m (other tag w).ending) → Falls e m (by_name xs other tag w).ending
+falls_by_name e m [] other tag w k o = o tt
+falls_by_name e m (x ∷ xs) other tag w k o = falls_either e m (x.0 tag.name) (x.1 tag w) (by_name xs other tag w) k.0 (λ f. falls_by_name e m xs other tag w k.1 (λ n. o (f, n)))
 
-falls_after_head : (k : TagKind) (n : KnownName) (tag : TagText) (w : World) → Falls (is_end_html_tag k n) AfterHead (after_head_named k n tag w).ending
-falls_after_head StartTag Html tag w = falls_start_html false AfterHead tag w
-falls_after_head StartTag Body tag w = tt
-falls_after_head EndTag Body tag w = omega arith
-falls_after_head EndTag Html tag w = omega arith
-falls_after_head EndTag Br tag w = omega arith
-falls_after_head StartTag Head tag w = tt
-falls_after_head EndTag _ tag w = tt
-falls_after_head StartTag _ tag w = omega arith
+after_head_rank : (e : Bool) → rank e InBody < rank e AfterHead
+after_head_rank true = omega arith
+after_head_rank false = omega arith
 
-falls_in_body : (k : TagKind) (n : KnownName) (tag : TagText) (w : World) → Falls (is_end_html_tag k n) InBody (in_body_named k n tag w).ending
-unfolding in_body_start_body if_body_in_scope in_body_end_other
-falls_in_body StartTag Html tag w = falls_start_html false InBody tag w
-falls_in_body StartTag Body tag w = falls_choose false InBody (second_is (codes "body") (names_of w) && not (has_template (names_of w))) (errs (SetFramesetNotOk ∷ AddAttrsToSecond tag.attrs ∷ []) IsDone) ignored tt tt
-falls_in_body StartTag _ tag w = tt
-falls_in_body EndTag Html tag w = falls_choose true InBody (body_in_scope w) (body_ends [] (Again AfterBody) w) ignored (omega arith) tt
-falls_in_body EndTag Body tag w = falls_choose false InBody (body_in_scope w) (body_ends (SetMode AfterBody ∷ []) IsDone w) ignored tt tt
-falls_in_body EndTag _ tag w = falls_choose false InBody (comes_before_special tag.name (names_of w)) (errs (GenerateImpliedEndExcept tag.name ∷ PopUntilNamed tag.name ∷ []) IsDone) ignored tt tt
+falls_before_html : (e : Bool) (k : TagKind) (tag : TagText) (w : World) → Falls e BeforeHtml (by_kind k (by_name before_html_start (of_tag before_html_else) tag w) (by_name before_html_end ignored_tag tag w)).ending
+unfolding before_html_start before_html_end
+falls_before_html e StartTag tag w = falls_by_name e BeforeHtml before_html_start (of_tag before_html_else) tag w ((λ p. tt), tt) (λ n. omega arith)
+falls_before_html e EndTag tag w = falls_by_name e BeforeHtml before_html_end ignored_tag tag w ((λ p. omega arith), tt) (λ n. tt)
 
-falls_after_body : (k : TagKind) (n : KnownName) (tag : TagText) (w : World) → Falls (is_end_html_tag k n) AfterBody (after_body_named k n tag w).ending
-falls_after_body StartTag Html tag w = falls_start_html false AfterBody tag w
-falls_after_body EndTag Html tag w = tt
-falls_after_body _ _ tag w = omega arith
+falls_before_head : (e : Bool) (k : TagKind) (tag : TagText) (w : World) → Falls e BeforeHead (by_kind k (by_name before_head_start (of_tag before_head_else) tag w) (by_name before_head_end ignored_tag tag w)).ending
+unfolding before_head_start before_head_end
+falls_before_head e StartTag tag w = falls_by_name e BeforeHead before_head_start (of_tag before_head_else) tag w ((λ p. falls_start_html e BeforeHead tag w), ((λ p. tt), tt)) (λ n. omega arith)
+falls_before_head e EndTag tag w = falls_by_name e BeforeHead before_head_end ignored_tag tag w ((λ p. omega arith), tt) (λ n. tt)
 
-falls_after_after_body : (k : TagKind) (n : KnownName) (tag : TagText) (w : World) → Falls (is_end_html_tag k n) AfterAfterBody (after_after_body_named k n tag w).ending
-falls_after_after_body StartTag Html tag w = falls_start_html false AfterAfterBody tag w
-falls_after_after_body EndTag Html tag w = omega arith
-falls_after_after_body _ _ tag w = omega arith
+falls_in_head : (e : Bool) (k : TagKind) (tag : TagText) (w : World) → Falls e InHead (by_kind k (by_name in_head_start (of_tag in_head_else) tag w) (by_name in_head_end ignored_tag tag w)).ending
+unfolding in_head_start in_head_end
+falls_in_head e StartTag tag w = falls_by_name e InHead in_head_start (of_tag in_head_else) tag w ((λ p. falls_start_html e InHead tag w), ((λ p. tt), tt)) (λ n. omega arith)
+falls_in_head e EndTag tag w = falls_by_name e InHead in_head_end ignored_tag tag w ((λ p. tt), ((λ p. omega arith), tt)) (λ n. tt)
+
+falls_after_head : (e : Bool) (k : TagKind) (tag : TagText) (w : World) → Falls e AfterHead (by_kind k (by_name after_head_start (of_tag after_head_else) tag w) (by_name after_head_end ignored_tag tag w)).ending
+unfolding after_head_start after_head_end
+falls_after_head e StartTag tag w = falls_by_name e AfterHead after_head_start (of_tag after_head_else) tag w ((λ p. falls_start_html e AfterHead tag w), ((λ p. tt), ((λ p. tt), tt))) (λ n. after_head_rank e)
+falls_after_head e EndTag tag w = falls_by_name e AfterHead after_head_end ignored_tag tag w ((λ p. tt), ((λ p. after_head_rank e), tt)) (λ n. tt)
+
+falls_in_body : (k : TagKind) (tag : TagText) (w : World) → Falls (is_end_html_tag k tag.name) InBody (by_kind k (by_name in_body_start in_body_start_other tag w) (by_name in_body_end in_body_end_other tag w)).ending
+unfolding in_body_start in_body_end in_body_start_body if_body_in_scope in_body_end_other
+falls_in_body StartTag tag w = falls_by_name false InBody in_body_start in_body_start_other tag w
+    ((λ p. falls_start_html false InBody tag w), ((λ p. falls_choose false InBody (second_is (codes "body") (names_of w) && not (has_template (names_of w))) (errs (SetFramesetNotOk ∷ AddAttrsToSecond tag.attrs ∷ []) IsDone) ignored tt tt), tt)) (λ n. tt)
+falls_in_body EndTag tag w = let e = named Html tag.name in falls_by_name e InBody in_body_end in_body_end_other tag w (
+  (λ p. falls_choose e InBody (body_in_scope w) (body_ends [] (Again AfterBody) w) ignored (subst (λ f. rank_after f < rank_body f) (sym p) (omega arith)) tt),
+  ((λ p. falls_choose e InBody (body_in_scope w) (body_ends (SetMode AfterBody ∷ []) IsDone w) ignored tt tt), tt),
+)
+    (λ n. falls_choose e InBody (comes_before_special tag.name (names_of w)) (errs (GenerateImpliedEndExcept tag.name ∷ PopUntilNamed tag.name ∷ []) IsDone) ignored tt tt)
+
+falls_after_body : (k : TagKind) (tag : TagText) (w : World) → Falls (is_end_html_tag k tag.name) AfterBody (by_kind k (by_name after_body_start (of_tag back_to_body) tag w) (by_name after_body_end (of_tag back_to_body) tag w)).ending
+unfolding after_body_start after_body_end
+falls_after_body StartTag tag w = falls_by_name false AfterBody after_body_start (of_tag back_to_body) tag w ((λ p. falls_start_html false AfterBody tag w), tt) (λ n. omega arith)
+falls_after_body EndTag tag w = falls_by_name (named Html tag.name) AfterBody after_body_end (of_tag back_to_body) tag w ((λ p. tt), tt) (λ n. subst (λ f. rank_body f < rank_after f) (sym n.0) (omega arith))
+
+falls_after_after_body : (e : Bool) (k : TagKind) (tag : TagText) (w : World) → Falls e AfterAfterBody (by_kind k (by_name after_after_body_start (of_tag back_to_body) tag w) (back_to_body (TagTurn tag) w)).ending
+unfolding after_after_body_start
+falls_after_after_body e StartTag tag w = falls_by_name e AfterAfterBody after_after_body_start (of_tag back_to_body) tag w ((λ p. falls_start_html e AfterAfterBody tag w), tt) (λ n. after_head_rank e)
+falls_after_after_body e EndTag tag w = after_head_rank e
 
 falls_tag : (m : InsertionMode) (tag : TagText) (w : World) → Falls (is_end_html (TagTurn tag)) m (rule m (TagTurn tag) w).ending
 unfolding before_html_tag before_head_tag in_head_tag after_head_tag in_body_tag after_body_tag after_after_body_tag
 falls_tag Initial tag w = falls_initial_else (is_end_html (TagTurn tag)) (TagTurn tag) w
-falls_tag BeforeHtml tag w = falls_before_html tag.kind (known_name_of tag.name) tag w
-falls_tag BeforeHead tag w = falls_before_head tag.kind (known_name_of tag.name) tag w
-falls_tag InHead tag w = falls_in_head tag.kind (known_name_of tag.name) tag w
-falls_tag AfterHead tag w = falls_after_head tag.kind (known_name_of tag.name) tag w
-falls_tag InBody tag w = falls_in_body tag.kind (known_name_of tag.name) tag w
-falls_tag AfterBody tag w = falls_after_body tag.kind (known_name_of tag.name) tag w
-falls_tag AfterAfterBody tag w = falls_after_after_body tag.kind (known_name_of tag.name) tag w
+falls_tag BeforeHtml tag w = falls_before_html (is_end_html (TagTurn tag)) tag.kind tag w
+falls_tag BeforeHead tag w = falls_before_head (is_end_html (TagTurn tag)) tag.kind tag w
+falls_tag InHead tag w = falls_in_head (is_end_html (TagTurn tag)) tag.kind tag w
+falls_tag AfterHead tag w = falls_after_head (is_end_html (TagTurn tag)) tag.kind tag w
+falls_tag InBody tag w = falls_in_body tag.kind tag w
+falls_tag AfterBody tag w = falls_after_body tag.kind tag w
+falls_tag AfterAfterBody tag w = falls_after_after_body (is_end_html (TagTurn tag)) tag.kind tag w
 falls_tag _ tag w = tt
 
 falls_comment : (m : InsertionMode) (x : List ℕ) (w : World) → Falls false m (rule m (CommentTurn x) w).ending

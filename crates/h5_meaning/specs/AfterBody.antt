@@ -1,14 +1,11 @@
 -- HTML standard, section 13.2.6.4.19, the "after body" insertion mode.
 use Rattle.std.specs.Prelude.{[], ◌∷◌}
 use Rattle.h5_token.specs.TokenText.{TagText}
-use Rattle.h5_token.specs.declared.tag.TagKind.{TagKind}
-use Rattle.h5_token.specs.declared.tag.TagKind.TheVariants.{EndTag, StartTag}
-use Rattle.h5_names.specs.KnownNames.{known_name_of}
-use Rattle.h5_names.specs.declared.known_name.KnownName.{KnownName}
 use Rattle.h5_names.specs.declared.known_name.KnownName.TheVariants.{Html}
 use Rattle.h5_types.specs.TurnText.{CommentTurn, EofTurn, NullTurn, TagTurn, TextTurn, TurnText}
 use Rattle.h5_types.specs.declared.modes.InsertionMode.TheVariants.{AfterAfterBody, InBody}
 use Rattle.h5_types.specs.declared.modes.SplitStatus.TheVariants.{NotSplit, NotWhitespace, Whitespace}
+use Rattle.h5_meaning.specs.ByName.{Rules, by_kind, by_name, named, of_tag}
 use Rattle.h5_meaning.specs.Rows.{Again, AppendCommentToHtml, IsDone, Row, SetMode, errs, row}
 use Rattle.h5_meaning.specs.Shared.{in_body_start_html, in_body_text}
 use Rattle.h5_meaning.specs.World.{World}
@@ -21,13 +18,15 @@ after_body_end_html tag w = row (SetMode AfterAfterBody ∷ []) IsDone
 abbrev pub back_to_body : TurnText → World → Row
 back_to_body t w = errs [] (Again InBody)
 
-abbrev pub after_body_named : TagKind → KnownName → TagText → World → Row
-after_body_named StartTag Html tag w = in_body_start_html tag w
-after_body_named EndTag Html tag w = after_body_end_html tag w
-after_body_named _ _ tag w = back_to_body (TagTurn tag) w
+-- start tags, and end tags
+unfoldable pub after_body_start : Rules
+after_body_start = (named Html, in_body_start_html) ∷ []
+
+unfoldable pub after_body_end : Rules
+after_body_end = (named Html, after_body_end_html) ∷ []
 
 unfoldable pub after_body_tag : TagText → World → Row
-after_body_tag tag w = after_body_named tag.kind (known_name_of tag.name) tag w
+after_body_tag tag w = by_kind tag.kind (by_name after_body_start (of_tag back_to_body) tag w) (by_name after_body_end (of_tag back_to_body) tag w)
 
 abbrev pub after_body : TurnText → World → Row
 after_body (TagTurn tag) w = after_body_tag tag w

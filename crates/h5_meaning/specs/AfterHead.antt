@@ -1,15 +1,12 @@
 -- HTML standard, section 13.2.6.4.6, the "after head" insertion mode.
 use Rattle.std.specs.Prelude.{false, [], ◌∷◌, codes}
 use Rattle.h5_token.specs.TokenText.{TagText}
-use Rattle.h5_token.specs.declared.tag.TagKind.{TagKind}
-use Rattle.h5_token.specs.declared.tag.TagKind.TheVariants.{EndTag, StartTag}
-use Rattle.h5_names.specs.KnownNames.{known_name_of}
-use Rattle.h5_names.specs.declared.known_name.KnownName.{KnownName}
-use Rattle.h5_names.specs.declared.known_name.KnownName.TheVariants.{Body, Br, Head, Html}
+use Rattle.h5_names.specs.declared.known_name.KnownName.TheVariants.{Body, Head, Html}
 use Rattle.h5_types.specs.TurnText.{CommentTurn, EofTurn, NullTurn, TagTurn, TextTurn, TurnText}
 use Rattle.h5_types.specs.declared.modes.InsertionMode.TheVariants.{InBody}
 use Rattle.h5_types.specs.declared.modes.SplitStatus.TheVariants.{NotSplit, NotWhitespace, Whitespace}
-use Rattle.h5_meaning.specs.Rows.{Again, AppendComment, AppendText, InsertElement, IsDone, Row, SetFramesetNotOk, SetMode, ignored, row}
+use Rattle.h5_meaning.specs.ByName.{Rules, by_kind, by_name, ignored_tag, is_outer, named, of_tag}
+use Rattle.h5_meaning.specs.Rows.{Again, AppendComment, AppendText, InsertElement, IsDone, Row, SetFramesetNotOk, SetMode, row}
 use Rattle.h5_meaning.specs.Shared.{in_body_start_html}
 use Rattle.h5_meaning.specs.World.{World}
 
@@ -21,18 +18,15 @@ after_head_start_body tag w = row (InsertElement tag.name tag.attrs tag.had_dupl
 abbrev pub after_head_else : TurnText → World → Row
 after_head_else t w = row (InsertElement (codes "body") [] false ∷ []) (Again InBody)
 
-abbrev pub after_head_named : TagKind → KnownName → TagText → World → Row
-after_head_named StartTag Html tag w = in_body_start_html tag w
-after_head_named StartTag Body tag w = after_head_start_body tag w
-after_head_named EndTag Body tag w = after_head_else (TagTurn tag) w
-after_head_named EndTag Html tag w = after_head_else (TagTurn tag) w
-after_head_named EndTag Br tag w = after_head_else (TagTurn tag) w
-after_head_named StartTag Head tag w = ignored
-after_head_named EndTag _ tag w = ignored
-after_head_named StartTag _ tag w = after_head_else (TagTurn tag) w
+-- start tags, and end tags
+unfoldable pub after_head_start : Rules
+after_head_start = (named Html, in_body_start_html) ∷ (named Body, after_head_start_body) ∷ (named Head, ignored_tag) ∷ []
+
+unfoldable pub after_head_end : Rules
+after_head_end = (named Head, ignored_tag) ∷ (is_outer, of_tag after_head_else) ∷ []
 
 unfoldable pub after_head_tag : TagText → World → Row
-after_head_tag tag w = after_head_named tag.kind (known_name_of tag.name) tag w
+after_head_tag tag w = by_kind tag.kind (by_name after_head_start (of_tag after_head_else) tag w) (by_name after_head_end ignored_tag tag w)
 
 abbrev pub after_head : TurnText → World → Row
 after_head (TagTurn tag) w = after_head_tag tag w

@@ -51,6 +51,10 @@ push_new choices p local attrs duplicates w = record w {
 unfoldable pub insert_element : SinkChoices → List ℕ → List AttributeText → Bool → World → World
 insert_element choices local attrs duplicates w = push_new choices (place w) local attrs duplicates w
 
+-- an HTML element at the place of insertion, which isn't open
+unfoldable pub insert_and_pop_element : SinkChoices → List ℕ → List AttributeText → Bool → World → World
+insert_and_pop_element choices local attrs duplicates w = with_forest (new_element choices (place w) (html_name local) attrs duplicates w.forest) w
+
 -- the root, as the document's last child, pushed
 unfoldable pub create_root : SinkChoices → List AttributeText → World → World
 create_root choices attrs w = push_new choices (LastChild w.forest.document) (codes "html") attrs false w

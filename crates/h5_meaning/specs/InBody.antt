@@ -1,14 +1,11 @@
 -- HTML standard, section 13.2.6.4.7, the "in body" insertion mode.
 use Rattle.std.specs.Prelude.{Bool, not, ◌&&◌, List, [], ◌∷◌, codes}
 use Rattle.h5_token.specs.TokenText.{TagText}
-use Rattle.h5_token.specs.declared.tag.TagKind.{TagKind}
-use Rattle.h5_token.specs.declared.tag.TagKind.TheVariants.{EndTag, StartTag}
-use Rattle.h5_names.specs.KnownNames.{known_name_of}
-use Rattle.h5_names.specs.declared.known_name.KnownName.{KnownName}
 use Rattle.h5_names.specs.declared.known_name.KnownName.TheVariants.{Body, Html}
 use Rattle.h5_stack.specs.Scope.{comes_before_special, has_body_in_scope, has_template, has_unclosed, second_is}
 use Rattle.h5_types.specs.TurnText.{CommentTurn, EofTurn, NullTurn, TagTurn, TextTurn, TurnText}
 use Rattle.h5_types.specs.declared.modes.InsertionMode.TheVariants.{AfterBody}
+use Rattle.h5_meaning.specs.ByName.{Rules, by_kind, by_name, named}
 use Rattle.h5_meaning.specs.Rows.{AddAttrsToSecond, Again, AppendComment, Change, Ending, GenerateImpliedEndExcept, InsertElement, IsDone, PopUntilNamed, Row, SetFramesetNotOk, SetMode, choose, errs, ignored, row}
 use Rattle.h5_meaning.specs.Shared.{in_body_start_html, in_body_text}
 use Rattle.h5_meaning.specs.World.{World, names_of}
@@ -47,16 +44,15 @@ unfoldable pub in_body_end_other : TagText → World → Row
 in_body_end_other tag w =
     choose (comes_before_special tag.name (names_of w)) (errs (GenerateImpliedEndExcept tag.name ∷ PopUntilNamed tag.name ∷ []) IsDone) ignored
 
-abbrev pub in_body_named : TagKind → KnownName → TagText → World → Row
-in_body_named StartTag Html tag w = in_body_start_html tag w
-in_body_named StartTag Body tag w = in_body_start_body tag w
-in_body_named StartTag _ tag w = in_body_start_other tag w
-in_body_named EndTag Html tag w = in_body_end_html tag w
-in_body_named EndTag Body tag w = in_body_end_body tag w
-in_body_named EndTag _ tag w = in_body_end_other tag w
+-- start tags, and end tags
+unfoldable pub in_body_start : Rules
+in_body_start = (named Html, in_body_start_html) ∷ (named Body, in_body_start_body) ∷ []
+
+unfoldable pub in_body_end : Rules
+in_body_end = (named Html, in_body_end_html) ∷ (named Body, in_body_end_body) ∷ []
 
 unfoldable pub in_body_tag : TagText → World → Row
-in_body_tag tag w = in_body_named tag.kind (known_name_of tag.name) tag w
+in_body_tag tag w = by_kind tag.kind (by_name in_body_start in_body_start_other tag w) (by_name in_body_end in_body_end_other tag w)
 
 abbrev pub in_body : TurnText → World → Row
 in_body (TagTurn tag) w = in_body_tag tag w

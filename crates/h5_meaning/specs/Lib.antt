@@ -4,7 +4,11 @@ pub mod AfterHead
 pub mod BeforeHead
 pub mod BeforeHtml
 pub mod Blanks
+pub mod ByName
 pub mod Changes
+pub mod Closing
+pub mod Formatting
+pub mod AdoptionAgency
 pub mod Cuts
 pub mod InBody
 pub mod InHead

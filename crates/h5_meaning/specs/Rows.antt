@@ -2,13 +2,17 @@
 use Rattle.std.specs.Prelude.{◌≡◌, ℕ, Bool, true, false, if◌then◌else◌, List, [], ◌∷◌, Option, Some, None}
 use Rattle.h5_names.specs.AttributeText.{AttributeText}
 use Rattle.h5_token.specs.Reply.{Reply, reply}
+use Rattle.h5_token.specs.TokenText.{TagText}
 use Rattle.h5_interface.specs.SinkChoices.{SinkChoices}
 use Rattle.h5_interface.specs.declared.marks.QuirksMode.{QuirksMode}
 use Rattle.h5_types.specs.TurnText.{TurnText, turn_text}
 use Rattle.h5_types.specs.declared.modes.InsertionMode.{InsertionMode}
 use Rattle.h5_types.specs.declared.turns.ProcessResult.{ProcessResult}
 use Rattle.h5_types.specs.declared.turns.ProcessResult.TheVariants as results
-use Rattle.h5_meaning.specs.Changes.{add_attrs_to_html, add_attrs_to_second, append_comment, append_comment_to_doc, append_comment_to_html, append_text, create_root, generate_implied_end_except, insert_element, insert_head, pop, pop_until_named, set_frameset_not_ok, set_frameset_ok_by_text, set_mode, set_quirks_mode}
+use Rattle.h5_meaning.specs.AdoptionAgency.{adoption_agency, handle_misnested_a_tags, handle_misnested_nobr_tags}
+use Rattle.h5_meaning.specs.Changes.{add_attrs_to_html, add_attrs_to_second, append_comment, append_comment_to_doc, append_comment_to_html, append_text, create_root, generate_implied_end_except, insert_and_pop_element, insert_element, insert_head, pop, pop_until_named, set_frameset_not_ok, set_frameset_ok_by_text, set_mode, set_quirks_mode}
+use Rattle.h5_meaning.specs.Closing.{close_p_element, close_p_element_in_button_scope, generate_implied_end, pop_heading, pop_until_heading}
+use Rattle.h5_meaning.specs.Formatting.{create_formatting_element, reconstruct_active_formatting_elements}
 use Rattle.h5_meaning.specs.World.{World}
 
 pub data Change : Type 0 where
@@ -17,6 +21,7 @@ pub data Change : Type 0 where
   SetFramesetNotOk : Change
   SetFramesetOkByText : (text : List ℕ) → Change
   InsertElement : (local : List ℕ) → (attrs : List AttributeText) → (duplicates : Bool) → Change
+  InsertAndPopElement : (local : List ℕ) → (attrs : List AttributeText) → (duplicates : Bool) → Change
   InsertHead : (attrs : List AttributeText) → (duplicates : Bool) → Change
   CreateRoot : (attrs : List AttributeText) → Change
   AppendText : (text : List ℕ) → Change
@@ -28,6 +33,16 @@ pub data Change : Type 0 where
   Pop : Change
   GenerateImpliedEndExcept : (local : List ℕ) → Change
   PopUntilNamed : (local : List ℕ) → Change
+  GenerateImpliedEnd : Change
+  ClosePElement : Change
+  ClosePElementInButtonScope : Change
+  PopHeading : Change
+  PopUntilHeading : Change
+  ReconstructActiveFormattingElements : Change
+  CreateFormattingElement : (tag : TagText) → Change
+  AdoptionAgency : (name : List ℕ) → Change
+  HandleMisnestedATags : Change
+  HandleMisnestedNobrTags : Change
 
 abbrev pub apply : SinkChoices → Change → World → World
 apply choices (SetMode mode) w = set_mode mode w
@@ -35,6 +50,7 @@ apply choices (SetQuirksMode mode) w = set_quirks_mode mode w
 apply choices SetFramesetNotOk w = set_frameset_not_ok w
 apply choices (SetFramesetOkByText text) w = set_frameset_ok_by_text text w
 apply choices (InsertElement local attrs duplicates) w = insert_element choices local attrs duplicates w
+apply choices (InsertAndPopElement local attrs duplicates) w = insert_and_pop_element choices local attrs duplicates w
 apply choices (InsertHead attrs duplicates) w = insert_head choices attrs duplicates w
 apply choices (CreateRoot attrs) w = create_root choices attrs w
 apply choices (AppendText text) w = append_text text w
@@ -46,6 +62,16 @@ apply choices (AddAttrsToSecond attrs) w = add_attrs_to_second attrs w
 apply choices Pop w = pop choices w
 apply choices (GenerateImpliedEndExcept local) w = generate_implied_end_except choices local w
 apply choices (PopUntilNamed local) w = pop_until_named local w
+apply choices GenerateImpliedEnd w = generate_implied_end choices w
+apply choices ClosePElement w = close_p_element choices w
+apply choices ClosePElementInButtonScope w = close_p_element_in_button_scope choices w
+apply choices PopHeading w = pop_heading choices w
+apply choices PopUntilHeading w = pop_until_heading w
+apply choices ReconstructActiveFormattingElements w = reconstruct_active_formatting_elements choices w
+apply choices (CreateFormattingElement tag) w = create_formatting_element choices tag w
+apply choices (AdoptionAgency name) w = adoption_agency choices name w
+apply choices HandleMisnestedATags w = handle_misnested_a_tags choices w
+apply choices HandleMisnestedNobrTags w = handle_misnested_nobr_tags choices w
 
 abbrev pub apply_all : SinkChoices → List Change → World → World
 apply_all choices [] w = w
@@ -81,6 +107,10 @@ row changes ending = record { changes = changes; ending = ending; quiet = true }
 -- a row that may tell one
 abbrev pub errs : List Change → Ending → Row
 errs changes ending = record { changes = changes; ending = ending; quiet = false }
+
+-- a row that tells none, where this is so
+abbrev pub row_if : Bool → List Change → Ending → Row
+row_if quiet changes ending = record { changes = changes; ending = ending; quiet = quiet }
 
 -- nothing changes, and a parse error may be told
 abbrev pub ignored : Row

@@ -1,5 +1,5 @@
 -- The rules that the tags of a plain document follow, each in its mode.
-use Rattle.std.proofs.Common.{◌≡◌, ℕ, false, List, [], ◌∷◌, codes, ap}
+use Rattle.std.proofs.Common.{◌≡◌, ℕ, false, List, [], ◌∷◌, codes, ap, refl}
 use Rattle.h5_names.specs.AttributeText.{AttributeText}
 use Rattle.h5_names.specs.declared.known_name.KnownName.TheVariants.{Body, Head, Html}
 use Rattle.h5_names.proofs.KnownNameLemmas.{known_of_text}
@@ -7,12 +7,12 @@ use Rattle.h5_token.specs.TokenText.{TagText}
 use Rattle.h5_token.specs.declared.tag.TagKind.TheVariants.{EndTag, StartTag}
 use Rattle.h5_types.specs.TurnText.{TagTurn}
 use Rattle.h5_types.specs.declared.modes.InsertionMode.TheVariants.{AfterAfterBody, AfterBody, AfterHead, BeforeHead, BeforeHtml, InBody, InHead}
-use Rattle.h5_meaning.specs.AfterBody.{after_body_named, after_body_tag}
-use Rattle.h5_meaning.specs.AfterHead.{after_head_named, after_head_tag}
-use Rattle.h5_meaning.specs.BeforeHead.{before_head_named, before_head_tag}
-use Rattle.h5_meaning.specs.BeforeHtml.{before_html_named, before_html_tag}
-use Rattle.h5_meaning.specs.InBody.{body_ends, if_body_in_scope, in_body_named, in_body_tag}
-use Rattle.h5_meaning.specs.InHead.{in_head_named, in_head_tag}
+use Rattle.h5_meaning.specs.AfterBody.{after_body_end, after_body_tag}
+use Rattle.h5_meaning.specs.AfterHead.{after_head_start, after_head_tag}
+use Rattle.h5_meaning.specs.BeforeHead.{before_head_start, before_head_tag}
+use Rattle.h5_meaning.specs.BeforeHtml.{before_html_start, before_html_tag}
+use Rattle.h5_meaning.specs.InBody.{body_ends, if_body_in_scope, in_body_end, in_body_tag}
+use Rattle.h5_meaning.specs.InHead.{in_head_end, in_head_tag}
 use Rattle.h5_meaning.specs.Modes.{rule}
 use Rattle.h5_meaning.specs.Rows.{CreateRoot, InsertElement, InsertHead, IsDone, Pop, SetFramesetNotOk, SetMode, row}
 use Rattle.h5_meaning.specs.World.{World}
@@ -25,25 +25,25 @@ abbrev pub end : List ℕ → TagText
 end name = record { kind = EndTag; name = name; self_closing = false; attrs = []; had_duplicate_attributes = false }
 
 pub html_rule : (a : List AttributeText) (w : World) → rule BeforeHtml (TagTurn (start (codes "html") a)) w ≡ row (CreateRoot a ∷ SetMode BeforeHead ∷ []) IsDone
-unfolding before_html_tag
-html_rule a w = ap (λ known. before_html_named StartTag known (start (codes "html") a) w) (known_of_text Html)
+unfolding before_html_tag before_html_start
+html_rule a w = refl
 
 pub head_rule : (a : List AttributeText) (w : World) → rule BeforeHead (TagTurn (start (codes "head") a)) w ≡ row (InsertHead a false ∷ SetMode InHead ∷ []) IsDone
-unfolding before_head_tag
-head_rule a w = ap (λ known. before_head_named StartTag known (start (codes "head") a) w) (known_of_text Head)
+unfolding before_head_tag before_head_start
+head_rule a w = refl
 
 pub head_end_rule : (w : World) → rule InHead (TagTurn (end (codes "head"))) w ≡ row (Pop ∷ SetMode AfterHead ∷ []) IsDone
-unfolding in_head_tag
-head_end_rule w = ap (λ known. in_head_named EndTag known (end (codes "head")) w) (known_of_text Head)
+unfolding in_head_tag in_head_end
+head_end_rule w = refl
 
 pub body_rule : (a : List AttributeText) (w : World) → rule AfterHead (TagTurn (start (codes "body") a)) w ≡ row (InsertElement (codes "body") a false ∷ SetFramesetNotOk ∷ SetMode InBody ∷ []) IsDone
-unfolding after_head_tag
-body_rule a w = ap (λ known. after_head_named StartTag known (start (codes "body") a) w) (known_of_text Body)
+unfolding after_head_tag after_head_start
+body_rule a w = refl
 
 pub body_end_rule : (w : World) → rule InBody (TagTurn (end (codes "body"))) w ≡ if_body_in_scope (body_ends (SetMode AfterBody ∷ []) IsDone w) w
-unfolding in_body_tag
-body_end_rule w = ap (λ known. in_body_named EndTag known (end (codes "body")) w) (known_of_text Body)
+unfolding in_body_tag in_body_end
+body_end_rule w = refl
 
 pub html_end_rule : (w : World) → rule AfterBody (TagTurn (end (codes "html"))) w ≡ row (SetMode AfterAfterBody ∷ []) IsDone
-unfolding after_body_tag
-html_end_rule w = ap (λ known. after_body_named EndTag known (end (codes "html")) w) (known_of_text Html)
+unfolding after_body_tag after_body_end
+html_end_rule w = refl

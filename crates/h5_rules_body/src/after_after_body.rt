@@ -12,7 +12,7 @@ use h5_state::{State, Turn, append_comment_to_doc};
 use h5_token::{Tag, TagKind};
 use h5_types::{ProcessResult, SplitStatus, Token};
 
-#[tactic(auto, unfolding(h5_meaning::specs::AfterAfterBody::after_after_body_tag))]
+#[tactic(auto, unfolding(h5_meaning::specs::AfterAfterBody::after_after_body_tag, h5_meaning::specs::AfterAfterBody::after_after_body_start))]
 fn after_after_body_tag<S: TreeSink>(
     sink: &mut S,
     state: &mut State<S::Handle>,
@@ -21,9 +21,15 @@ fn after_after_body_tag<S: TreeSink>(
     requires { IsOpen S.TreeSink sink.old state.old }
     ensures { TakesTag S.TreeSink after_after_body_tag tag sink.old state.old sink.new state.new result }
 {
-    match (tag.kind, tag.name.known()) {
-        (TagKind::StartTag, KnownName::Html) => in_body_start_html(sink, state, tag),
-        _ => back_to_body(sink, state, Token::Tag(tag)),
+    match tag.kind {
+        TagKind::StartTag => {
+            if tag.name.is(KnownName::Html) {
+                in_body_start_html(sink, state, tag)
+            } else {
+                back_to_body(sink, state, Token::Tag(tag))
+            }
+        }
+        TagKind::EndTag => back_to_body(sink, state, Token::Tag(tag)),
     }
 }
 

@@ -38,7 +38,7 @@ pub(crate) fn back_to_body<S: TreeSink>(
     Ok(ProcessResult::Reprocess(InsertionMode::InBody, token))
 }
 
-#[tactic(auto, unfolding(h5_meaning::specs::AfterBody::after_body_tag))]
+#[tactic(auto, unfolding(h5_meaning::specs::AfterBody::after_body_tag, h5_meaning::specs::AfterBody::after_body_start, h5_meaning::specs::AfterBody::after_body_end))]
 fn after_body_tag<S: TreeSink>(
     sink: &mut S,
     state: &mut State<S::Handle>,
@@ -47,10 +47,21 @@ fn after_body_tag<S: TreeSink>(
     requires { IsOpen S.TreeSink sink.old state.old }
     ensures { TakesTag S.TreeSink after_body_tag tag sink.old state.old sink.new state.new result }
 {
-    match (tag.kind, tag.name.known()) {
-        (TagKind::StartTag, KnownName::Html) => in_body_start_html(sink, state, tag),
-        (TagKind::EndTag, KnownName::Html) => after_body_end_html(sink, state, tag),
-        _ => back_to_body(sink, state, Token::Tag(tag)),
+    match tag.kind {
+        TagKind::StartTag => {
+            if tag.name.is(KnownName::Html) {
+                in_body_start_html(sink, state, tag)
+            } else {
+                back_to_body(sink, state, Token::Tag(tag))
+            }
+        }
+        TagKind::EndTag => {
+            if tag.name.is(KnownName::Html) {
+                after_body_end_html(sink, state, tag)
+            } else {
+                back_to_body(sink, state, Token::Tag(tag))
+            }
+        }
     }
 }
 

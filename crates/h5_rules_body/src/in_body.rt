@@ -17,6 +17,7 @@ use h5_token::{Tag, TagKind};
 use h5_types::{InsertionMode, ProcessResult, Token};
 
 // A start tag `body`: the body gets the attributes that it lacks.
+#[cold]
 #[tactic(auto, unfolding(h5_meaning::specs::InBody::in_body_start_body))]
 fn in_body_start_body<S: TreeSink>(
     sink: &mut S,
@@ -37,6 +38,7 @@ fn in_body_start_body<S: TreeSink>(
 }
 
 // An end tag `body`.
+#[cold]
 #[tactic(auto, unfolding(h5_meaning::specs::InBody::if_body_in_scope))]
 fn in_body_end_body<S: TreeSink>(
     sink: &mut S,
@@ -58,6 +60,7 @@ fn in_body_end_body<S: TreeSink>(
 }
 
 // An end tag `html`.
+#[cold]
 #[tactic(auto, unfolding(h5_meaning::specs::InBody::if_body_in_scope))]
 fn in_body_end_html<S: TreeSink>(
     sink: &mut S,
@@ -125,18 +128,30 @@ fn in_body_start_other<S: TreeSink>(
     Ok(ProcessResult::Done)
 }
 
-#[tactic(auto, unfolding(h5_meaning::specs::InBody::in_body_tag))]
+#[tactic(auto, unfolding(h5_meaning::specs::InBody::in_body_tag, h5_meaning::specs::InBody::in_body_start, h5_meaning::specs::InBody::in_body_end))]
 fn in_body_tag<S: TreeSink>(sink: &mut S, state: &mut State<S::Handle>, tag: Tag) -> Turn<S::Handle>
     requires { IsOpen S.TreeSink sink.old state.old }
     ensures { TakesTag S.TreeSink in_body_tag tag sink.old state.old sink.new state.new result }
 {
-    match (tag.kind, tag.name.known()) {
-        (TagKind::StartTag, KnownName::Html) => in_body_start_html(sink, state, tag),
-        (TagKind::StartTag, KnownName::Body) => in_body_start_body(sink, state, tag),
-        (TagKind::StartTag, _) => in_body_start_other(sink, state, tag),
-        (TagKind::EndTag, KnownName::Html) => in_body_end_html(sink, state, tag),
-        (TagKind::EndTag, KnownName::Body) => in_body_end_body(sink, state, tag),
-        (TagKind::EndTag, _) => in_body_end_other(sink, state, tag),
+    match tag.kind {
+        TagKind::StartTag => {
+            if tag.name.is(KnownName::Html) {
+                in_body_start_html(sink, state, tag)
+            } else if tag.name.is(KnownName::Body) {
+                in_body_start_body(sink, state, tag)
+            } else {
+                in_body_start_other(sink, state, tag)
+            }
+        }
+        TagKind::EndTag => {
+            if tag.name.is(KnownName::Html) {
+                in_body_end_html(sink, state, tag)
+            } else if tag.name.is(KnownName::Body) {
+                in_body_end_body(sink, state, tag)
+            } else {
+                in_body_end_other(sink, state, tag)
+            }
+        }
     }
 }
 

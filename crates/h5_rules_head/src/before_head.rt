@@ -6,7 +6,7 @@ ghost use Rattle.h5_state.specs.Turn.{TakesTag, TakesToken};
 
 use h5_interface::TreeSink;
 use h5_names::KnownName;
-use h5_rules_shared::in_body_start_html;
+use h5_rules_shared::{in_body_start_html, is_outer};
 use h5_state::{State, Turn, append_comment, insert_head, set_mode, unexpected_tag};
 use h5_token::{Tag, TagKind};
 use h5_types::{InsertionMode, ProcessResult, SplitStatus, Token};
@@ -39,7 +39,7 @@ fn before_head_else<S: TreeSink>(
     Ok(ProcessResult::Reprocess(InsertionMode::InHead, token))
 }
 
-#[tactic(auto, unfolding(h5_meaning::specs::BeforeHead::before_head_tag))]
+#[tactic(auto, unfolding(h5_meaning::specs::BeforeHead::before_head_tag, h5_meaning::specs::BeforeHead::before_head_start, h5_meaning::specs::BeforeHead::before_head_end))]
 fn before_head_tag<S: TreeSink>(
     sink: &mut S,
     state: &mut State<S::Handle>,
@@ -48,15 +48,23 @@ fn before_head_tag<S: TreeSink>(
     requires { IsOpen S.TreeSink sink.old state.old }
     ensures { TakesTag S.TreeSink before_head_tag tag sink.old state.old sink.new state.new result }
 {
-    match (tag.kind, tag.name.known()) {
-        (TagKind::StartTag, KnownName::Html) => in_body_start_html(sink, state, tag),
-        (TagKind::StartTag, KnownName::Head) => before_head_start_head(sink, state, tag),
-        (TagKind::StartTag, _)
-        | (TagKind::EndTag, KnownName::Head | KnownName::Body | KnownName::Html | KnownName::Br) =>
-            { before_head_else(sink, state, Token::Tag(tag)) }
-        (TagKind::EndTag, _) => {
-            unexpected_tag(sink, state, &tag);
-            Ok(ProcessResult::Done)
+    match tag.kind {
+        TagKind::StartTag => {
+            if tag.name.is(KnownName::Html) {
+                in_body_start_html(sink, state, tag)
+            } else if tag.name.is(KnownName::Head) {
+                before_head_start_head(sink, state, tag)
+            } else {
+                before_head_else(sink, state, Token::Tag(tag))
+            }
+        }
+        TagKind::EndTag => {
+            if is_outer(&tag.name) {
+                before_head_else(sink, state, Token::Tag(tag))
+            } else {
+                unexpected_tag(sink, state, &tag);
+                Ok(ProcessResult::Done)
+            }
         }
     }
 }

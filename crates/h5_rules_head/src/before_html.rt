@@ -1,11 +1,12 @@
 //! The mode "before html" (HTML standard, section 13.2.6.4.2).
 ghost use Rattle.h5_types.specs.TurnText.{HasText, turn_text};
-ghost use Rattle.h5_meaning.specs.BeforeHtml.{before_html, before_html_else, before_html_tag};
+ghost use Rattle.h5_meaning.specs.BeforeHtml.{before_html, before_html_else, before_html_start_html, before_html_tag};
 ghost use Rattle.h5_state.specs.Steps.{IsSound};
 ghost use Rattle.h5_state.specs.Turn.{TakesTag, TakesToken};
 
 use h5_interface::TreeSink;
 use h5_names::KnownName;
+use h5_rules_shared::is_outer;
 use h5_state::{State, Turn, append_comment_to_doc, create_root, set_mode, unexpected_tag};
 use h5_token::{Tag, TagKind};
 use h5_types::{InsertionMode, ProcessResult, SplitStatus, Token};
@@ -24,7 +25,21 @@ fn before_html_else<S: TreeSink>(
     Ok(ProcessResult::Reprocess(InsertionMode::BeforeHead, token))
 }
 
-#[tactic(auto, unfolding(h5_meaning::specs::BeforeHtml::before_html_tag))]
+// A start tag `html`.
+fn before_html_start_html<S: TreeSink>(
+    sink: &mut S,
+    state: &mut State<S::Handle>,
+    tag: Tag,
+) -> Turn<S::Handle>
+    requires { IsSound S.TreeSink sink.old state.old }
+    ensures { TakesTag S.TreeSink before_html_start_html tag sink.old state.old sink.new state.new result }
+{
+    create_root(sink, state, tag.attrs)?;
+    set_mode(sink, state, InsertionMode::BeforeHead);
+    Ok(ProcessResult::Done)
+}
+
+#[tactic(auto, unfolding(h5_meaning::specs::BeforeHtml::before_html_tag, h5_meaning::specs::BeforeHtml::before_html_start, h5_meaning::specs::BeforeHtml::before_html_end))]
 fn before_html_tag<S: TreeSink>(
     sink: &mut S,
     state: &mut State<S::Handle>,
@@ -33,18 +48,21 @@ fn before_html_tag<S: TreeSink>(
     requires { IsSound S.TreeSink sink.old state.old }
     ensures { TakesTag S.TreeSink before_html_tag tag sink.old state.old sink.new state.new result }
 {
-    match (tag.kind, tag.name.known()) {
-        (TagKind::StartTag, KnownName::Html) => {
-            create_root(sink, state, tag.attrs)?;
-            set_mode(sink, state, InsertionMode::BeforeHead);
-            Ok(ProcessResult::Done)
+    match tag.kind {
+        TagKind::StartTag => {
+            if tag.name.is(KnownName::Html) {
+                before_html_start_html(sink, state, tag)
+            } else {
+                before_html_else(sink, state, Token::Tag(tag))
+            }
         }
-        (TagKind::StartTag, _)
-        | (TagKind::EndTag, KnownName::Head | KnownName::Body | KnownName::Html | KnownName::Br) =>
-            { before_html_else(sink, state, Token::Tag(tag)) }
-        (TagKind::EndTag, _) => {
-            unexpected_tag(sink, state, &tag);
-            Ok(ProcessResult::Done)
+        TagKind::EndTag => {
+            if is_outer(&tag.name) {
+                before_html_else(sink, state, Token::Tag(tag))
+            } else {
+                unexpected_tag(sink, state, &tag);
+                Ok(ProcessResult::Done)
+            }
         }
     }
 }

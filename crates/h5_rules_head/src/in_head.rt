@@ -6,7 +6,7 @@ ghost use Rattle.h5_state.specs.Turn.{TakesTag, TakesToken};
 
 use h5_interface::TreeSink;
 use h5_names::KnownName;
-use h5_rules_shared::in_body_start_html;
+use h5_rules_shared::{in_body_start_html, is_outer};
 use h5_state::{State, Turn, append_comment, append_text, pop, set_mode, unexpected_tag};
 use h5_token::{Tag, TagKind};
 use h5_types::{InsertionMode, ProcessResult, SplitStatus, Token};
@@ -39,22 +39,32 @@ fn in_head_else<S: TreeSink>(
     Ok(ProcessResult::Reprocess(InsertionMode::AfterHead, token))
 }
 
-#[tactic(auto, unfolding(h5_meaning::specs::InHead::in_head_tag))]
+#[tactic(auto, unfolding(h5_meaning::specs::InHead::in_head_tag, h5_meaning::specs::InHead::in_head_start, h5_meaning::specs::InHead::in_head_end))]
 fn in_head_tag<S: TreeSink>(sink: &mut S, state: &mut State<S::Handle>, tag: Tag) -> Turn<S::Handle>
     requires { IsOpen S.TreeSink sink.old state.old }
     ensures { TakesTag S.TreeSink in_head_tag tag sink.old state.old sink.new state.new result }
 {
-    match (tag.kind, tag.name.known()) {
-        (TagKind::StartTag, KnownName::Html) => in_body_start_html(sink, state, tag),
-        (TagKind::EndTag, KnownName::Head) => in_head_end_head(sink, state, tag),
-        (TagKind::EndTag, KnownName::Body | KnownName::Html | KnownName::Br) => {
-            in_head_else(sink, state, Token::Tag(tag))
+    match tag.kind {
+        TagKind::StartTag => {
+            if tag.name.is(KnownName::Html) {
+                in_body_start_html(sink, state, tag)
+            } else if tag.name.is(KnownName::Head) {
+                unexpected_tag(sink, state, &tag);
+                Ok(ProcessResult::Done)
+            } else {
+                in_head_else(sink, state, Token::Tag(tag))
+            }
         }
-        (TagKind::StartTag, KnownName::Head) | (TagKind::EndTag, _) => {
-            unexpected_tag(sink, state, &tag);
-            Ok(ProcessResult::Done)
+        TagKind::EndTag => {
+            if tag.name.is(KnownName::Head) {
+                in_head_end_head(sink, state, tag)
+            } else if is_outer(&tag.name) {
+                in_head_else(sink, state, Token::Tag(tag))
+            } else {
+                unexpected_tag(sink, state, &tag);
+                Ok(ProcessResult::Done)
+            }
         }
-        (TagKind::StartTag, _) => in_head_else(sink, state, Token::Tag(tag)),
     }
 }
 

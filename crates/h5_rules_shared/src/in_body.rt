@@ -15,6 +15,7 @@ use h5_types::{ProcessResult, SplitStatus};
 
 /// A start tag `html`: the root gets the attributes that it lacks, unless a template is open. It answers an
 /// `AllocError` where memory is refused.
+#[cold]
 #[tactic(auto, unfolding(h5_meaning::specs::Shared::in_body_start_html))]
 pub fn in_body_start_html<S: TreeSink>(
     sink: &mut S,

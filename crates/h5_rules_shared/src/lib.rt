@@ -2,5 +2,7 @@
 #![tactic(auto)]
 
 mod in_body;
+mod names;
 
 pub use in_body::{in_body_start_html, in_body_text};
+pub use names::is_outer;

@@ -4,5 +4,4 @@ pub mod Finds
 pub mod Endings
 pub mod Cutting
 pub mod Words
-pub mod Leaving
 pub mod Staying

@@ -1,5 +1,11 @@
 -- What is kept beside the open elements, where elements come or leave.
-use Rattle.std.proofs.Common.{◌≡◌, ◌≢◌, Bool, true, false, ◌&&◌, ◌<◌, ◌-◌, ◌+◌, ℕ, take, drop, get_or, Some, List, [], ◌∷◌, ◌++◌, length, map, reverse, refl, ap, sym, ◌∙◌, arith}
+use Rattle.std.proofs.Common.{◌≡◌, ◌≢◌, Bool, true, false, cond, ◌&&◌, ◌<◌, ◌≤◌, ◌-◌, ◌+◌, ℕ, take, drop, get_or, Some, List, [], ◌∷◌, ◌++◌, length, map, reverse, refl, ap, sym, ◌∙◌, arith, rules}
+use denote.Enum.Bare.{sameb, same_false, tag_one}
+use denote.Enum.Declared.{tag_of}
+use Rattle.h5_names.specs.KnownNames.{known_name_of}
+use Rattle.h5_names.specs.contracts.known_name.KnownName.{the_type}
+use Rattle.h5_names.specs.declared.known_name.KnownName.TheVariants.{Other}
+use Rattle.h5_names.proofs.KnownNameLemmas.{same_known}
 use Rattle.std.specs.Prelude.{slice_get}
 use Rattle.std.proofs.lemmas.Slice.Eq.{bytes_eq-Decides}
 use Rattle.std.proofs.lemmas.List.{length-map, length-reverse, map-append, reverse-append, take-append-drop, take_more}
@@ -12,21 +18,46 @@ use Rattle.h5_tag_sets.specs.TagSets.{html_namespace, is_html_named}
 use Rattle.h5_stack.specs.Scope.{later_names}
 use Rattle.h5_meaning.specs.World.{World, name_in, names_of}
 use Rattle.h5_meaning.proofs.PopLaws.{names-pop}
-use Rattle.h5_state.specs.Summaries.{all_open, name_number, summaries, summary_of}
+use Rattle.h5_state.specs.Summaries.{all_open, html_number, name_number, summaries, summary_of, text_number}
 use Rattle.h5_state.specs.View.{open_node}
 use Rattle.h5_state.specs.declared.open_element.OpenElement.{OpenElement}
 use Rattle.h5_state.specs.declared.open_element.Summary.{Summary}
 use Rattle.h5_state.proofs.StackLaws.{last_split, popped_world, seen_pushed, seen_world}
 
--- names of other numbers are others
-pub other_number : (local : List ℕ) (name : QualName) → name_number name.local ≢ name_number local → is_html_named local name ≡ false
-unfolding is_html_named
-other_number local name h = at (is_same_text name.ns html_namespace) (is_same_text name.local local) (bytes_eq-Decides name.local local).0
+-- a name of another number is another
+pub other_number : (local : List ℕ) (name : QualName) → name_number name ≢ html_number local → is_html_named local name ≡ false
+unfolding is_html_named name_number
+other_number local name = at (is_same_text name.ns html_namespace) (is_same_text name.local local) (bytes_eq-Decides name.local local).0
   where
-    at : (a b : Bool) → (b ≡ true → name.local ≡ local) → (a && b) ≡ false
-    at true true same = absurd (h (ap name_number (same refl)))
-    at true false same = refl
-    at false b same = refl
+    at : (a b : Bool) → (b ≡ true → name.local ≡ local) → cond a (html_number name.local) (text_number name.local) ≢ html_number local → (a && b) ≡ false
+    at true true same h = absurd (h (ap html_number (same refl)))
+    at true false same h = refl
+    at false b same h = refl
+
+-- a number of a text is none of a name that HTML knows
+text_number_from : (text : List ℕ) → 256 ≤ text_number text
+unfolding text_number
+text_number_from text = omega arith
+
+-- HTML elements of one number below those of texts have one name
+same_html_number : (x y : List ℕ) → html_number x ≡ html_number y → html_number y < 256 → is_same_text x y ≡ true
+unfolding html_number
+same_html_number x y = at (sameb the_type (known_name_of x) Other) (sameb the_type (known_name_of y) Other) refl
+  where
+    at : (a b : Bool) → sameb the_type (known_name_of x) Other ≡ a → cond a (text_number x) (tag_of the_type (known_name_of x)) ≡ cond b (text_number y) (tag_of the_type (known_name_of y))
+        → cond b (text_number y) (tag_of the_type (known_name_of y)) < 256 → is_same_text x y ≡ true
+    at a true k e h = absurd (omega (arith, h, text_number_from y))
+    at true false k e h = absurd (omega (arith, e, h, text_number_from x))
+    at false false k e h = same_known x y (tag_one the_type (search rules) (known_name_of x) (known_name_of y) e) (same_false the_type (known_name_of x) Other k)
+
+-- a name of the number of a name that HTML knows is that
+pub same_number : (local : List ℕ) (name : QualName) → name_number name ≡ html_number local → html_number local < 256 → is_html_named local name ≡ true
+unfolding is_html_named name_number
+same_number local name = at (is_same_text name.ns html_namespace)
+  where
+    at : (a : Bool) → cond a (html_number name.local) (text_number name.local) ≡ html_number local → html_number local < 256 → (a && is_same_text name.local local) ≡ true
+    at true e h = same_html_number name.local local e h
+    at false e h = absurd (omega (arith, e, h, text_number_from name.local))
 
 -- the older ones have the summaries of their names
 summaries_behind : (newer older : List QualName) (kept rest : List Summary) → length kept ≡ length newer → kept ++ rest ≡ summaries (newer ++ older) → rest ≡ summaries older

@@ -2,10 +2,10 @@
 //! them (HTML standard, section 13.2.4.2, "The stack of open elements").
 ghost use Rattle.std.specs.Prelude.{◌≡◌, ◌∷◌, if◌then◌else◌, List, [], false, true};
 ghost use Rattle.h5_names.specs.declared.qualified.QualName.{QualName as NameText};
-ghost use Rattle.h5_state.specs.Summaries.{all_open, name_number, summary_of, text_number};
+ghost use Rattle.h5_state.specs.Summaries.{all_open, html_number, name_number, summary_of, text_number};
 
 use h5_names::{KnownName, LocalName, QualName};
-use h5_tag_sets::{body_end_ok, button_scope, default_scope, is_html_known, special_tag};
+use h5_tag_sets::{NameSet, default_scope};
 
 /// What is known of some open elements, from the root up to one of them.
 #[derive(Clone, Copy)]
@@ -34,14 +34,20 @@ impl AllOpen {
     }
 
     /// What is known with one more, the newest, of this name.
+    #[inline(always)]
     pub fn with_newest(self, name: &QualName) -> AllOpen
         ensures { (older : List NameText) → self ≡ all_open older → result ≡ all_open (name.now ∷ older) }
     {
-        let (is_body, ends_scope) = (is_html_known(name, KnownName::Body), default_scope(name));
-        let (is_p, ends_button_scope) = (is_html_known(name, KnownName::P), button_scope(name));
+        let (html, local) = (name.ns.is_html(), &name.local);
+        let (is_body, is_p) = (
+            html & local.is(KnownName::Body),
+            html & local.is(KnownName::P),
+        );
+        let ends_scope = default_scope(name);
+        let ends_button_scope = ends_scope | (html & NameSet::ButtonScope.holds(local));
         AllOpen {
-            unclosed: !body_end_ok(name) | self.unclosed,
-            template: is_html_known(name, KnownName::Template) | self.template,
+            unclosed: !(html & NameSet::BodyEndOk.holds(local)) | self.unclosed,
+            template: (html & local.is(KnownName::Template)) | self.template,
             body_in_scope: still_in_scope(is_body, ends_scope, self.body_in_scope),
             p_in_button_scope: still_in_scope(is_p, ends_button_scope, self.p_in_button_scope),
         }
@@ -51,22 +57,28 @@ impl AllOpen {
 /// What is kept beside an open element.
 #[derive(Clone, Copy)]
 pub struct Summary {
-    /// A number of its local name: equal names have equal numbers.
+    /// A number of its name: equal names have equal numbers.
     pub number: u32,
     /// Whether it is special.
     pub special: bool,
+    /// Whether its end tag is implied.
+    pub implied: bool,
     /// What is known of it and all older ones.
     pub all: AllOpen,
 }
 
 impl Summary {
     /// What is kept of an element of this name, where this is known of all older ones.
+    #[inline(always)]
+    #[tactic(auto, unfolding(h5_tag_sets::specs::TagSets::html_namespace, h5_tag_sets::specs::TagSets::is_special, h5_tag_sets::specs::TagSets::is_implied))]
     pub fn new(name: &QualName, older: AllOpen) -> Summary
         ensures { (names : List NameText) → older ≡ all_open names → result ≡ summary_of name.now names }
     {
+        let (html, local) = (name.ns.is_html(), &name.local);
         Summary {
-            number: name_number(&name.local),
-            special: special_tag(name),
+            number: name_number(name),
+            special: html & NameSet::Special.holds(local),
+            implied: html & NameSet::CursoryImpliedEnd.holds(local),
             all: older.with_newest(name),
         }
     }
@@ -86,7 +98,13 @@ fn still_in_scope(is: bool, ends: bool, below: bool) -> bool
     is || !ends && below
 }
 
-// A number of a text, by which equal texts are found: its bytes are digits, of which as much is left as fits.
+/// From here on numbers are those of texts, and names may share one. Each below is the number of the HTML elements of one
+/// name that HTML knows.
+pub const FIRST_TEXT_NUMBER: u32 = 256;
+
+// A number of a text: its bytes are digits, of which as much is left as fits.
+#[cold]
+#[inline(never)]
 fn text_number(text: &str) -> u32
     ensures { result ≡ text_number text.now }
 {
@@ -94,19 +112,30 @@ fn text_number(text: &str) -> u32
     for byte in text.as_bytes() {
         number = number.wrapping_mul(31).wrapping_add(*byte as u32);
     }
-    number
+    number / 2 + FIRST_TEXT_NUMBER
 }
 
-/// A number of a local name: equal names have equal numbers, and most others have others. That of a name that HTML
-/// knows takes no look at its text.
-#[tactic(auto, unfolding(crate::specs::Summaries::name_number))]
-pub fn name_number(local: &LocalName) -> u32
-    ensures { result ≡ name_number local.now }
+/// The number of an HTML element of this local name, without a look at a text that HTML knows.
+#[tactic(auto, unfolding(crate::specs::Summaries::html_number))]
+pub fn html_number(local: &LocalName) -> u32
+    ensures { result ≡ html_number local.now }
 {
     let known = local.known();
     if known == KnownName::Other {
         text_number(local.as_str())
     } else {
         known as u32
+    }
+}
+
+// A number of a name: equal names have equal numbers, and most others have others.
+#[tactic(auto, unfolding(crate::specs::Summaries::name_number, h5_tag_sets::specs::TagSets::html_namespace))]
+fn name_number(name: &QualName) -> u32
+    ensures { result ≡ name_number name.now }
+{
+    if name.ns.is_html() {
+        html_number(&name.local)
+    } else {
+        text_number(name.local.as_str())
     }
 }

@@ -3,23 +3,23 @@
 ghost use Rattle.std.specs.Prelude.{◌≡◌, ◌<◌, ◌≤◌, ◌+◌, ◌∷◌, [], ℕ, true, false, length, codes, MatchOption, is_some};
 ghost use Rattle.h5_names.specs.KnownNames.{name_text};
 ghost use Rattle.h5_interface.specs.Forest.{IsElement};
-ghost use Rattle.h5_tag_sets.specs.TagSets.{is_default_scope, is_html_named, is_special};
+ghost use Rattle.h5_tag_sets.specs.TagSets.{is_default_scope, is_html_named, is_implied, is_special};
 ghost use Rattle.h5_stack.specs.Order.{but_first};
 ghost use Rattle.h5_stack.specs.Scope.{comes_before_special, cut_through, first_passes, has_body_in_scope, has_p_in_button_scope, has_template, has_unclosed, in_scope, is_implied_but, second_is};
 ghost use Rattle.h5_meaning.specs.Rows.{GenerateImpliedEndExcept, PopUntilNamed};
 ghost use Rattle.h5_meaning.specs.World.{name_in, names_of, root};
 ghost use Rattle.h5_state.specs.Steps.{IsSound, Makes, TellsErrors, errors_of, world_of};
-ghost use Rattle.h5_state.specs.Summaries.{all_open, name_number, summaries};
+ghost use Rattle.h5_state.specs.Summaries.{all_open, html_number, name_number, summaries};
 ghost use Rattle.h5_state.specs.View.{kept_of, names_under, stack_under, with_stack};
 
 use super::errors::tell_error;
 use super::name_test::{DefaultScope, Known, NameTest};
-use super::open_element::{AllOpen, OpenElement, name_number};
+use super::open_element::{AllOpen, FIRST_TEXT_NUMBER, OpenElement, html_number};
 use super::state::State;
 use super::steps::pop;
 use h5_interface::TreeSink;
 use h5_names::{KnownName, LocalName, QualName};
-use h5_tag_sets::{cursory_implied_end, is_html_known, is_html_local};
+use h5_tag_sets::{is_html_known, is_html_local};
 
 // How many elements are open.
 #[tactic(auto, unfolding(crate::specs::View::world, crate::specs::View::names_under, crate::specs::View::stack_under, h5_meaning::specs::World::names_of))]
@@ -44,8 +44,9 @@ fn open_at<'a, S: TreeSink>(
     requires sound { IsSound S.TreeSink sink.now state.now }
     ensures element { IsElement (S.sees sink.now).forest (S.node result.now.handle) }
     ensures names { names_under S.sees S.node sink.now state.now (place + 1) ≡ name_in (S.sees sink.now).forest (S.node result.now.handle) ∷ names_under S.sees S.node sink.now state.now place }
-    ensures number { result.now.summary.number ≡ name_number (name_in (S.sees sink.now).forest (S.node result.now.handle)).local }
+    ensures number { result.now.summary.number ≡ name_number (name_in (S.sees sink.now).forest (S.node result.now.handle)) }
     ensures special { result.now.summary.special ≡ is_special (name_in (S.sees sink.now).forest (S.node result.now.handle)) }
+    ensures implied { result.now.summary.implied ≡ is_implied (name_in (S.sees sink.now).forest (S.node result.now.handle)) }
     ensures stack { but_first (stack_under S.node state.now (place + 1)) ≡ stack_under S.node state.now place }
     ensures count { length (stack_under S.node state.now place) ≡ place }
 {
@@ -63,8 +64,8 @@ fn name_at<'a, S: TreeSink>(sink: &'a S, state: &'a State<S::Handle>, place: usi
     sink.elem_name(&open_at(sink, state, place).handle)
 }
 
-// Whether an open element is an HTML element of this name. The sink is asked for its name only where the names' numbers
-// agree, since names may share a number.
+// Whether an open element is an HTML element of this name. The sink is asked for its name only where others may have the
+// same number.
 fn is_named<S: TreeSink>(
     sink: &S,
     element: &OpenElement<S::Handle>,
@@ -72,14 +73,15 @@ fn is_named<S: TreeSink>(
     number: u32,
 ) -> bool
     requires element { IsElement (S.sees sink.now).forest (S.node element.now.handle) }
-    requires own { element.now.summary.number ≡ name_number (name_in (S.sees sink.now).forest (S.node element.now.handle)).local }
-    requires number { number ≡ name_number local.now }
+    requires own { element.now.summary.number ≡ name_number (name_in (S.sees sink.now).forest (S.node element.now.handle)) }
+    requires number { number ≡ html_number local.now }
     ensures { result ≡ is_html_named local.now (name_in (S.sees sink.now).forest (S.node element.now.handle)) }
 {
-    element.summary.number == number && is_html_local(sink.elem_name(&element.handle), local)
+    element.summary.number == number
+        && (number < FIRST_TEXT_NUMBER || is_html_local(sink.elem_name(&element.handle), local))
 }
 
-// The one walk over the open elements, from the current node on: the place, counted from the root, of the first
+// The walk over the names of open elements, from the current node on: the place, counted from the root, of the first
 // element whose name passes, where it comes before, or is, the first that ends the scope.
 pub fn find_in_scope<S: TreeSink, Is: NameTest, Ends: NameTest>(
     sink: &S,
@@ -124,7 +126,7 @@ pub fn find_before_special<S: TreeSink>(
     ensures found { is_some result ≡ comes_before_special local.now (names_of (world_of S.TreeSink sink.now state.now)) }
     ensures place { MatchOption result (Unit {0}) (λ place. place ≡ length (cut_through (is_html_named local.now) (names_of (world_of S.TreeSink sink.now state.now)) (world_of S.TreeSink sink.now state.now).stack)) }
 {
-    let number = name_number(local);
+    let number = html_number(local);
     let mut place = open_count(sink, state);
     'down: while place > 0 {
         place -= 1;
@@ -221,30 +223,33 @@ pub fn has_body_second<S: TreeSink>(sink: &S, state: &State<S::Handle>) -> bool
 }
 
 /// Whether the current node is an HTML element of this name.
-#[tactic(auto, unfolding(crate::specs::View::world, h5_meaning::specs::World::names_of))]
 pub fn is_current_html<S: TreeSink>(sink: &S, state: &State<S::Handle>, local: &LocalName) -> bool
     requires { IsSound S.TreeSink sink.now state.now }
     ensures { result ≡ first_passes (is_html_named local.now) (names_of (world_of S.TreeSink sink.now state.now)) }
 {
-    match state.open_elems.last() {
-        Some(element) => is_html_local(sink.elem_name(&element.handle), local),
-        None => false,
+    let count = open_count(sink, state);
+    if count == 0 {
+        return false;
     }
+    is_named(
+        sink,
+        open_at(sink, state, count - 1),
+        local,
+        html_number(local),
+    )
 }
 
 // Whether the end tag of the current node is implied, and it is no HTML element of this name.
-#[tactic(auto, unfolding(crate::specs::View::world, h5_meaning::specs::World::names_of))]
 fn is_current_implied<S: TreeSink>(sink: &S, state: &State<S::Handle>, local: &LocalName) -> bool
     requires { IsSound S.TreeSink sink.now state.now }
     ensures { result ≡ first_passes (is_implied_but local.now) (names_of (world_of S.TreeSink sink.now state.now)) }
 {
-    match state.open_elems.last() {
-        Some(element) => {
-            let name = sink.elem_name(&element.handle);
-            !is_html_local(name, local) && cursory_implied_end(name)
-        }
-        None => false,
+    let count = open_count(sink, state);
+    if count == 0 {
+        return false;
     }
+    let element = open_at(sink, state, count - 1);
+    element.summary.implied && !is_named(sink, element, local, html_number(local))
 }
 
 /// Pops elements whose end tags are implied, but no HTML element of this name (HTML standard, section

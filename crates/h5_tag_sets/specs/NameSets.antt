@@ -1,8 +1,8 @@
 -- The sets of local names.
 use Rattle.std.specs.Prelude.{ℕ, ◌==◌, ◌^◌, Bool, List, bit_and, not}
 use Rattle.h5_tag_sets.specs.declared.name_sets.NameSet.{NameSet}
-use Rattle.h5_tag_sets.specs.declared.name_sets.NameSet.TheVariants.{Special, DefaultScope, ListItemScope, ButtonScope, TableScope, TableBodyContext, TableRowContext, CursoryImpliedEnd, ThoroughImpliedEnd, Heading, BodyEndOk, HeadContent, Formatting, TdTh, TableOuter, MathMlTextPoint, SvgHtmlPoint, Void, RawText}
-use Rattle.h5_tag_sets.specs.TagSets.{special_names, scope_names, list_item_scope_names, button_scope_names, table_scope_names, table_body_context_names, table_row_context_names, implied_names, thorough_implied_names, heading_names, body_end_names, head_content_names, formatting_names, cell_names, table_outer_names, mathml_text_points, svg_html_points, void_names, raw_names}
+use Rattle.h5_tag_sets.specs.declared.name_sets.NameSet.TheVariants.{Special, DefaultScope, ListItemScope, ButtonScope, TableScope, TableBodyContext, TableRowContext, CursoryImpliedEnd, ThoroughImpliedEnd, Heading, BodyEndOk, HeadContent, Formatting, TdTh, TableOuter, MathMlTextPoint, SvgHtmlPoint, Void, RawText, BlockStart, BlockEnd}
+use Rattle.h5_tag_sets.specs.TagSets.{special_names, scope_names, list_item_scope_names, button_scope_names, table_scope_names, table_body_context_names, table_row_context_names, implied_names, thorough_implied_names, heading_names, body_end_names, head_content_names, formatting_names, cell_names, table_outer_names, mathml_text_points, svg_html_points, void_names, raw_names, block_start_names, block_end_names}
 
 -- the names that a set holds
 abbrev pub names_of : NameSet → List (List ℕ)
@@ -25,6 +25,8 @@ names_of MathMlTextPoint = mathml_text_points
 names_of SvgHtmlPoint = svg_html_points
 names_of Void = void_names
 names_of RawText = raw_names
+names_of BlockStart = block_start_names
+names_of BlockEnd = block_end_names
 
 -- the bit of a set in a name's flags
 abbrev pub flag_of : NameSet → ℕ
@@ -47,6 +49,8 @@ flag_of MathMlTextPoint = 2 ^ 15
 flag_of SvgHtmlPoint = 2 ^ 16
 flag_of Void = 2 ^ 17
 flag_of RawText = 2 ^ 18
+flag_of BlockStart = 2 ^ 19
+flag_of BlockEnd = 2 ^ 20
 
 -- whether the bit of a set is on
 abbrev pub has_flag : ℕ → NameSet → Bool

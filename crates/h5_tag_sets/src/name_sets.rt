@@ -47,6 +47,10 @@ pub enum NameSet {
     Void,
     /// Elements whose text is written as it stands.
     RawText,
+    /// Blocks whose start tags close a `p`.
+    BlockStart,
+    /// Blocks that an end tag closes where they are in scope.
+    BlockEnd,
 }
 
 const SPECIAL: u32 = 1 << NameSet::Special as u32;
@@ -87,11 +91,15 @@ const VOID: u32 = 1 << NameSet::Void as u32;
 
 const RAW_TEXT: u32 = 1 << NameSet::RawText as u32;
 
+const BLOCK_START: u32 = 1 << NameSet::BlockStart as u32;
+
+const BLOCK_END: u32 = 1 << NameSet::BlockEnd as u32;
+
 // For each known name, by its number, the sets that hold it.
 static FLAGS: [u32; 221] = [
     FORMATTING, // a
     0, // action
-    SPECIAL, // address
+    SPECIAL | BLOCK_START | BLOCK_END, // address
     0, // alt
     0, // altGlyph
     0, // altglyph
@@ -108,19 +116,19 @@ static FLAGS: [u32; 221] = [
     0, // annotation-xml
     SPECIAL | DEFAULT_SCOPE, // applet
     SPECIAL | VOID, // area
-    SPECIAL, // article
-    SPECIAL, // aside
+    SPECIAL | BLOCK_START | BLOCK_END, // article
+    SPECIAL | BLOCK_START | BLOCK_END, // aside
     FORMATTING, // b
     SPECIAL | HEAD_CONTENT | VOID, // base
     SPECIAL | HEAD_CONTENT | VOID, // basefont
     SPECIAL | HEAD_CONTENT | VOID, // bgsound
     FORMATTING, // big
-    SPECIAL, // blockquote
+    SPECIAL | BLOCK_START | BLOCK_END, // blockquote
     SPECIAL | BODY_END_OK, // body
     SPECIAL | VOID, // br
-    SPECIAL | BUTTON_SCOPE, // button
+    SPECIAL | BUTTON_SCOPE | BLOCK_END, // button
     SPECIAL | DEFAULT_SCOPE | THOROUGH_IMPLIED_END, // caption
-    SPECIAL, // center
+    SPECIAL | BLOCK_START | BLOCK_END, // center
     0, // charset
     0, // class
     0, // clipPath
@@ -134,11 +142,11 @@ static FLAGS: [u32; 221] = [
     0, // definitionURL
     0, // definitionurl
     SVG_HTML_POINT, // desc
-    SPECIAL, // details
-    0, // dialog
-    SPECIAL, // dir
-    SPECIAL, // div
-    SPECIAL, // dl
+    SPECIAL | BLOCK_START | BLOCK_END, // details
+    BLOCK_START | BLOCK_END, // dialog
+    SPECIAL | BLOCK_START | BLOCK_END, // dir
+    SPECIAL | BLOCK_START | BLOCK_END, // div
+    SPECIAL | BLOCK_START | BLOCK_END, // dl
     SPECIAL | CURSORY_IMPLIED_END | THOROUGH_IMPLIED_END | BODY_END_OK, // dt
     FORMATTING, // em
     SPECIAL | VOID, // embed
@@ -194,11 +202,11 @@ static FLAGS: [u32; 221] = [
     0, // fetile
     0, // feTurbulence
     0, // feturbulence
-    SPECIAL, // fieldset
-    SPECIAL, // figcaption
-    SPECIAL, // figure
+    SPECIAL | BLOCK_START | BLOCK_END, // fieldset
+    SPECIAL | BLOCK_START | BLOCK_END, // figcaption
+    SPECIAL | BLOCK_START | BLOCK_END, // figure
     FORMATTING, // font
-    SPECIAL, // footer
+    SPECIAL | BLOCK_START | BLOCK_END, // footer
     SVG_HTML_POINT, // foreignObject
     0, // foreignobject
     SPECIAL, // form
@@ -213,9 +221,9 @@ static FLAGS: [u32; 221] = [
     SPECIAL | HEADING, // h5
     SPECIAL | HEADING, // h6
     SPECIAL, // head
-    SPECIAL, // header
+    SPECIAL | BLOCK_START | BLOCK_END, // header
     0, // height
-    SPECIAL, // hgroup
+    SPECIAL | BLOCK_START | BLOCK_END, // hgroup
     SPECIAL | VOID, // hr
     0, // href
     SPECIAL | DEFAULT_SCOPE | TABLE_SCOPE | TABLE_BODY_CONTEXT | TABLE_ROW_CONTEXT | BODY_END_OK, // html
@@ -233,12 +241,12 @@ static FLAGS: [u32; 221] = [
     0, // linearGradient
     0, // lineargradient
     SPECIAL | HEAD_CONTENT | VOID, // link
-    SPECIAL, // listing
-    SPECIAL, // main
+    SPECIAL | BLOCK_END, // listing
+    SPECIAL | BLOCK_START | BLOCK_END, // main
     0, // malignmark
     SPECIAL | DEFAULT_SCOPE, // marquee
     0, // math
-    SPECIAL, // menu
+    SPECIAL | BLOCK_START | BLOCK_END, // menu
     SPECIAL | HEAD_CONTENT | VOID, // meta
     0, // method
     0, // mglyph
@@ -248,19 +256,19 @@ static FLAGS: [u32; 221] = [
     MATHML_TEXT_POINT, // ms
     MATHML_TEXT_POINT, // mtext
     0, // name
-    SPECIAL, // nav
+    SPECIAL | BLOCK_START | BLOCK_END, // nav
     FORMATTING, // nobr
     SPECIAL | RAW_TEXT, // noembed
     SPECIAL | HEAD_CONTENT | RAW_TEXT, // noframes
     SPECIAL, // noscript
     SPECIAL | DEFAULT_SCOPE, // object
-    SPECIAL | LIST_ITEM_SCOPE, // ol
+    SPECIAL | LIST_ITEM_SCOPE | BLOCK_START | BLOCK_END, // ol
     CURSORY_IMPLIED_END | THOROUGH_IMPLIED_END | BODY_END_OK, // optgroup
     CURSORY_IMPLIED_END | THOROUGH_IMPLIED_END | BODY_END_OK, // option
-    SPECIAL | CURSORY_IMPLIED_END | THOROUGH_IMPLIED_END | BODY_END_OK, // p
+    SPECIAL | CURSORY_IMPLIED_END | THOROUGH_IMPLIED_END | BODY_END_OK | BLOCK_START, // p
     SPECIAL | VOID, // param
     SPECIAL | RAW_TEXT, // plaintext
-    SPECIAL, // pre
+    SPECIAL | BLOCK_END, // pre
     0, // radialGradient
     0, // radialgradient
     CURSORY_IMPLIED_END | THOROUGH_IMPLIED_END, // rb
@@ -271,9 +279,9 @@ static FLAGS: [u32; 221] = [
     0, // ruby
     FORMATTING, // s
     SPECIAL | HEAD_CONTENT | RAW_TEXT, // script
-    0, // search
-    SPECIAL, // section
-    SPECIAL | DEFAULT_SCOPE, // select
+    BLOCK_START | BLOCK_END, // search
+    SPECIAL | BLOCK_START | BLOCK_END, // section
+    SPECIAL | DEFAULT_SCOPE | BLOCK_END, // select
     0, // shadowrootmode
     0, // size
     FORMATTING, // small
@@ -284,7 +292,7 @@ static FLAGS: [u32; 221] = [
     FORMATTING, // strong
     SPECIAL | HEAD_CONTENT | RAW_TEXT, // style
     0, // sub
-    SPECIAL, // summary
+    SPECIAL | BLOCK_START | BLOCK_END, // summary
     0, // sup
     0, // svg
     SPECIAL | DEFAULT_SCOPE | TABLE_SCOPE | TABLE_OUTER, // table
@@ -303,7 +311,7 @@ static FLAGS: [u32; 221] = [
     FORMATTING, // tt
     0, // type
     FORMATTING, // u
-    SPECIAL | LIST_ITEM_SCOPE, // ul
+    SPECIAL | LIST_ITEM_SCOPE | BLOCK_START | BLOCK_END, // ul
     0, // value
     0, // var
     SPECIAL | VOID, // wbr

@@ -2,7 +2,9 @@ pub mod FrontStays
 pub mod FrontTakes
 pub mod PlainLaws
 pub mod StepLaws
-pub mod FrontLeaves
+pub mod PartLaws
+pub mod FrontKeeps
+pub mod CountLaws
 pub mod ReadLaws
 pub mod LineLaws
 pub mod RunLaws

@@ -10,7 +10,6 @@ use Rattle.h5_token.specs.declared.fault.BuildFault.{BuildFault}
 use Rattle.h5_token.specs.declared.fault.BuildFault.TheVariants as fault
 use Rattle.h5_scan.specs.Matching.{Open, Found}
 use Rattle.h5_scan.proofs.Eating.{literal_eats, eats_less}
-use Rattle.h5_scan.proofs.Leaving.{Cut}
 use Rattle.h5_tokenizer.specs.Front.{Place, Begins, mark}
 use Rattle.h5_tokenizer.specs.Read.{marked, unmarked, Read, Reads, started}
 use Rattle.h5_tokenizer.specs.Steps.{Pending, IsBehindMark, ComesTo, RunsInto, Runs, WaitsAt, RunsFrom, stops_as}
@@ -23,7 +22,8 @@ use Rattle.std.proofs.lemmas.List.{take-append-le}
 use Rattle.h5_tokenizer.specs.Tokens.{start_of}
 use Rattle.h5_tokenizer.proofs.FrontStays.{opening_stable, found_stays}
 use Rattle.h5_constructs.proofs.TextTakes.{found_shorter}
-use Rattle.h5_tokenizer.proofs.FrontLeaves.{read_cut}
+use Rattle.h5_tokenizer.proofs.FrontKeeps.{read_part}
+use Rattle.h5_tokenizer.proofs.PartLaws.{Part}
 use Rattle.h5_tokenizer.proofs.ReadLaws.{reads_none, read_after}
 
 mark_shorter : (xs rest : List ℕ) → mark xs ≡ Found tt rest → length rest < length xs
@@ -101,12 +101,12 @@ module _ {M : Type 0} (reply_to : M → TokenText → Reply) (after : M → Toke
   -- what is left is an end of the text, and may be cut off there
   pub kept : (p : Place) (m : M) (xs : List ℕ) (reply : Reply) (q : Place) (n : M) (ys : List ℕ) → Reads reply_to after foreign p m xs reply q n ys → drop (length xs - length ys) xs ≡ ys
   kept p m xs reply q n ys reads =
-      let cut : Cut xs ys = read_cut reply_to after foreign reads.read in
-      let n : length xs - length ys ≡ length cut.front = omega (arith, ap length cut.split, length-append cut.front ys) in
-      ap (λ k. drop k xs) n ∙ ap (drop (length cut.front)) cut.split ∙ drop-append_seam cut.front ys
+      let part : Part xs ys = read_part reply_to after foreign reads.read in
+      let n : length xs - length ys ≡ length part.front = omega (arith, ap length part.split, length-append part.front ys) in
+      ap (λ k. drop k xs) n ∙ ap (drop (length part.front)) part.split ∙ drop-append_seam part.front ys
 
   pub kept_boundary : (p : Place) (m : M) (xs : List ℕ) (reply : Reply) (q : Place) (n : M) (ys : List ℕ) → IsUtf8 ys → Reads reply_to after foreign p m xs reply q n ys → IsCharBoundary xs (length xs - length ys)
   kept_boundary p m xs reply q n ys utf8 reads =
-      let cut : Cut xs ys = read_cut reply_to after foreign reads.read in
-      let same : length cut.front ≡ length xs - length ys = omega (arith, ap length cut.split, length-append cut.front ys) in
-      subst (IsCharBoundary xs) same (IsCharBoundary-at_seam xs cut.front ys cut.split utf8)
+      let part : Part xs ys = read_part reply_to after foreign reads.read in
+      let same : length part.front ≡ length xs - length ys = omega (arith, ap length part.split, length-append part.front ys) in
+      subst (IsCharBoundary xs) same (IsCharBoundary-at_seam xs part.front ys part.split utf8)

@@ -32,7 +32,8 @@ pub fn readings_join<S: TokenSink>()
         → (last : Reply) × ((goes_on next ≡ true → goes_on last ≡ true) × Read S.reply_to S.after S.is_foreign p m xs (ts ++ us) last r o zs) }
 {}
 
-ghost use Rattle.std.specs.Prelude.{[], Ok, false};
+ghost use Rattle.std.specs.Prelude.{◌≤◌, [], Ok, false};
+ghost use Rattle.h5_tokenizer.specs.Lines.{line_behind};
 ghost use Rattle.h5_tokenizer.specs.End.{Closes, refuses, settle};
 ghost use Rattle.h5_token.specs.Joins.{join};
 ghost use Rattle.h5_tokenizer.specs.Read.{IsUndecided};
@@ -60,6 +61,17 @@ pub fn feeds_join<S: TokenSink>()
         HasRead S.reply_to S.after S.is_foreign p m xs q n ys
         → Feeds S.reply_to S.after S.is_foreign S.node q n (ys ++ more) new o queue (Ok answer)
         → HasRead S.reply_to S.after S.is_foreign p m (xs ++ more) new.place o (new.held ++ queue) }
+{}
+
+/// A reading comes to the line in which it began and the newlines of what it passed, and so do readings. The line behind
+/// what is left is then the line behind the whole input. So where reading begins in line 1, each token is told with 1
+/// and the newlines before its first character, and the end of the file with 1 and all newlines.
+pub fn lines_are_counted<S: TokenSink>()
+    ensures reading { (p : Place) (m : S.Meaning) (xs : List ℕ) (ts : List TokenText) (reply : Reply) (q : Place) (n : S.Meaning) (ys : List ℕ) →
+        p.line ≤ u64.MAX → Read S.reply_to S.after S.is_foreign p m xs ts reply q n ys → q.line ≡ line_behind p.line xs ys }
+    ensures readings { (p : Place) (m : S.Meaning) (xs : List ℕ) (ts : List TokenText) (q : Place) (n : S.Meaning) (ys : List ℕ) →
+        p.line ≤ u64.MAX → Readings S.reply_to S.after S.is_foreign p m xs ts q n ys
+        → (q.line ≡ line_behind p.line xs ys) × (line_behind q.line ys [] ≡ line_behind p.line xs []) }
 {}
 
 /// Nothing is decided where no input is left.

@@ -2,7 +2,7 @@ use Rattle.std.proofs.Common.{◌≡◌, ◌≤◌, length}
 use Rattle.h5_stack.specs.Scope.{comes_before_special, cut_through}
 use Rattle.h5_tag_sets.specs.TagSets.{is_html_named}
 use Rattle.h5_meaning.specs.World.{names_of}
-use Rattle.h5_state.specs.Summaries.{name_number}
+use Rattle.h5_state.specs.Summaries.{html_number}
 use Rattle.h5_state.specs.View.{names_under, stack_under, world}
 use Rattle.h5_state.proofs.open_elems.find_before_special.Given as goal
 
@@ -12,7 +12,7 @@ invariant-down g l =
     let w = world g.S.TreeSink.sees g.S.TreeSink.node l.sink l.state in
     let names = names_under g.S.TreeSink.sees g.S.TreeSink.node l.sink l.state l.place in
     record {
-      number : l.number ≡ name_number l.local;
+      number : l.number ≡ html_number l.local;
       place : l.place ≤ length w.stack;
       left : comes_before_special l.local names ≡ comes_before_special l.local (names_of w);
       cut : cut_through (is_html_named l.local) names (stack_under g.S.TreeSink.node l.state l.place) ≡ cut_through (is_html_named l.local) (names_of w) w.stack;

@@ -24,3 +24,10 @@ returns-clause-special g c =
     let items = c.args.state.now.open_elems.items in
     let inner : c.args.place < length items = omega (arith, c.requires.place, open_length (open_node g.S.TreeSink.node) items) in
     ap (λ (s : Summary). s.special) (kept_at g.S.TreeSink.node (g.S.TreeSink.sees c.args.sink.now).forest items c.args.place c.index.result.now inner c.index.ensures c.requires.sound.kept)
+
+pub returns-clause-implied : goal.returns-clause-implied
+unfolding world names_of
+returns-clause-implied g c =
+    let items = c.args.state.now.open_elems.items in
+    let inner : c.args.place < length items = omega (arith, c.requires.place, open_length (open_node g.S.TreeSink.node) items) in
+    ap (λ (s : Summary). s.implied) (kept_at g.S.TreeSink.node (g.S.TreeSink.sees c.args.sink.now).forest items c.args.place c.index.result.now inner c.index.ensures c.requires.sound.kept)
