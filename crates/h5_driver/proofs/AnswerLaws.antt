@@ -13,7 +13,8 @@ use Rattle.h5_types.specs.TurnText.{TurnText, TagTurn, CommentTurn, TextTurn, Nu
 use Rattle.h5_types.specs.declared.modes.InsertionMode.{InsertionMode}
 use Rattle.h5_types.specs.declared.modes.InsertionMode.TheVariants.{Initial, BeforeHtml, BeforeHead, InHead, AfterHead, InBody, AfterBody, AfterAfterBody}
 use Rattle.h5_types.specs.declared.modes.SplitStatus.TheVariants.{NotSplit, Whitespace, NotWhitespace}
-use Rattle.h5_stack.specs.Scope.{comes_before_special, has_template, second_is}
+use Rattle.h5_tag_sets.specs.TagSets.{is_default_scope, is_heading, is_html_named}
+use Rattle.h5_stack.specs.Scope.{comes_before_special, has_p_in_button_scope, has_template, in_scope, second_is}
 use Rattle.h5_meaning.specs.AfterAfterBody.{after_after_body_start, after_after_body_tag}
 use Rattle.h5_meaning.specs.AfterBody.{after_body_end, after_body_start, after_body_tag, back_to_body}
 use Rattle.h5_meaning.specs.AfterHead.{after_head_else, after_head_end, after_head_start, after_head_tag}
@@ -21,11 +22,11 @@ use Rattle.h5_meaning.specs.BeforeHead.{before_head_else, before_head_end, befor
 use Rattle.h5_meaning.specs.ByName.{Rules, by_kind, by_name, ignored_tag, of_tag}
 use Rattle.h5_meaning.specs.BeforeHtml.{before_html_else, before_html_end, before_html_start, before_html_tag}
 use Rattle.h5_meaning.specs.Changes.{set_mode}
-use Rattle.h5_meaning.specs.InBody.{body_ends, body_in_scope, if_body_in_scope, in_body_end_other, in_body_end, in_body_start, in_body_start_other, in_body_start_body, in_body_tag}
+use Rattle.h5_meaning.specs.InBody.{body_ends, body_in_scope, current_is, if_body_in_scope, in_body_end_block, in_body_end_heading, in_body_end_other, in_body_end_p, in_body_end, in_body_start, in_body_start_other, in_body_start_body, in_body_tag}
 use Rattle.h5_meaning.specs.InHead.{in_head_else, in_head_end, in_head_start, in_head_tag}
 use Rattle.h5_meaning.specs.InitialMode.{initial_else}
 use Rattle.h5_meaning.specs.Modes.{rule}
-use Rattle.h5_meaning.specs.Rows.{AddAttrsToHtml, AddAttrsToSecond, Again, AgainBy, Answers, Ending, GenerateImpliedEndExcept, IsAcknowledged, IsDone, PopUntilNamed, Row, SetFramesetNotOk, SetMode, SetQuirksMode, changed_by, choose, errs, ignored, next_mode, row}
+use Rattle.h5_meaning.specs.Rows.{AddAttrsToHtml, AddAttrsToSecond, Again, AgainBy, Answers, ClosePElement, Ending, GenerateImpliedEnd, GenerateImpliedEndExcept, InsertElement, IsAcknowledged, IsDone, PopUntilHeading, PopUntilNamed, Row, SetFramesetNotOk, SetMode, SetQuirksMode, changed_by, choose, errs, ignored, next_mode, row, row_if}
 use Rattle.h5_meaning.specs.Run.{View, doctype_in, reply_to, step, taken, tell_or_refuse, text_step, without_lf}
 use Rattle.h5_meaning.specs.Settle.{Settled, answer_of, settle, settle_within, then_turns}
 use Rattle.h5_meaning.specs.Shared.{in_body_start_html}
@@ -82,11 +83,27 @@ after_head StartTag tag w = silent_by_name after_head_start (of_tag after_head_e
 after_head EndTag tag w = silent_by_name after_head_end ignored_tag tag w (tt, (tt, tt)) tt
 
 in_body : (k : TagKind) (tag : TagText) (w : World) → Silent (by_kind k (by_name in_body_start in_body_start_other tag w) (by_name in_body_end in_body_end_other tag w)).ending
-unfolding in_body_start in_body_end in_body_start_body if_body_in_scope in_body_end_other
-in_body StartTag tag w = silent_by_name in_body_start in_body_start_other tag w
-    (start_html tag w, (choose_silent (second_is (codes "body") (names_of w) && not (has_template (names_of w))) (errs (SetFramesetNotOk ∷ AddAttrsToSecond tag.attrs ∷ []) IsDone) ignored tt tt, tt)) tt
-in_body EndTag tag w = silent_by_name in_body_end in_body_end_other tag w
-    (choose_silent (body_in_scope w) (body_ends [] (Again AfterBody) w) ignored tt tt, (choose_silent (body_in_scope w) (body_ends (SetMode AfterBody ∷ []) IsDone w) ignored tt tt, tt))
+unfolding in_body_start in_body_end in_body_start_body if_body_in_scope in_body_end_block in_body_end_p in_body_end_heading in_body_end_other
+in_body StartTag tag w = silent_by_name in_body_start in_body_start_other tag w (
+  start_html tag w,
+  (
+    choose_silent (second_is (codes "body") (names_of w) && not (has_template (names_of w))) (errs (SetFramesetNotOk ∷ AddAttrsToSecond tag.attrs ∷ []) IsDone) ignored tt tt,
+    (tt, (tt, tt)),
+  ),
+) tt
+in_body EndTag tag w = silent_by_name in_body_end in_body_end_other tag w (
+  choose_silent (body_in_scope w) (body_ends [] (Again AfterBody) w) ignored tt tt,
+  (
+    choose_silent (body_in_scope w) (body_ends (SetMode AfterBody ∷ []) IsDone w) ignored tt tt,
+    (
+      choose_silent (in_scope (is_html_named tag.name) is_default_scope (names_of w)) (row_if (current_is tag.name w) (GenerateImpliedEnd ∷ PopUntilNamed tag.name ∷ []) IsDone) ignored tt tt,
+      (
+        choose_silent (has_p_in_button_scope (names_of w)) (row_if (current_is (codes "p") w) (ClosePElement ∷ []) IsDone) (errs (InsertElement (codes "p") [] false ∷ ClosePElement ∷ []) IsDone) tt tt,
+        (choose_silent (in_scope is_heading is_default_scope (names_of w)) (row_if (current_is tag.name w) (GenerateImpliedEnd ∷ PopUntilHeading ∷ []) IsDone) ignored tt tt, tt),
+      ),
+    ),
+  ),
+)
     (choose_silent (comes_before_special tag.name (names_of w)) (errs (GenerateImpliedEndExcept tag.name ∷ PopUntilNamed tag.name ∷ []) IsDone) ignored tt tt)
 
 after_body : (k : TagKind) (tag : TagText) (w : World) → Silent (by_kind k (by_name after_body_start (of_tag back_to_body) tag w) (by_name after_body_end (of_tag back_to_body) tag w)).ending

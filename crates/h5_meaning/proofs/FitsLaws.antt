@@ -1,17 +1,12 @@
 -- What a mode tells of open elements stays true, row by row.
-use Rattle.std.proofs.Common.{◌≡◌, ◌≢◌, Option, Some, None, is_some, ◌<◌, ℕ, Bool, true, false, cond, not, ◌&&◌, List, [], ◌∷◌, length, codes, refl, ap, sym, subst, ◌∙◌}
-use Rattle.h5_names.specs.declared.qualified.QualName.{QualName}
+use Rattle.std.proofs.Common.{◌≡◌, ◌≢◌, Option, Some, None, is_some, ◌<◌, ℕ, Bool, true, false, not, ◌&&◌, List, [], ◌∷◌, length, codes, refl, ap, sym, subst, ◌∙◌}
 use Rattle.h5_names.specs.AttributeText.{AttributeText, is_same_text}
-use Rattle.h5_names.proofs.KnownNameLemmas.{not_text_of}
 use Rattle.h5_token.specs.TokenText.{TagText}
 use Rattle.h5_token.specs.declared.tag.TagKind.{TagKind}
 use Rattle.h5_token.specs.declared.tag.TagKind.TheVariants.{StartTag, EndTag}
 use Rattle.h5_interface.specs.SinkChoices.{SinkChoices}
 use Rattle.h5_interface.specs.declared.marks.QuirksMode.TheVariants.{Quirks}
-use Rattle.h5_names.specs.KnownNames.{known_name_of}
-use Rattle.h5_tag_sets.specs.TagSets.{is_html_named}
-use Rattle.h5_names.specs.declared.known_name.KnownName.{KnownName}
-use Rattle.h5_names.specs.declared.known_name.KnownName.TheVariants.{Html, Head, Body, Br}
+use Rattle.h5_tag_sets.specs.TagSets.{is_html_named, block_end_names, is_default_scope, is_heading, is_one_of}
 use Rattle.h5_types.specs.TurnText.{TurnText, TagTurn, CommentTurn, TextTurn, NullTurn, EofTurn, HasText}
 use Rattle.h5_types.specs.declared.modes.InsertionMode.{InsertionMode}
 use Rattle.h5_types.specs.declared.modes.InsertionMode.TheVariants.{Initial, BeforeHtml, BeforeHead, InHead, AfterHead, InBody, AfterBody, AfterAfterBody}
@@ -21,7 +16,7 @@ use Rattle.h5_types.specs.declared.turns.ProcessResult.TheVariants as results
 use Rattle.h5_fits.specs.Fits.{Situation, is_before_root}
 use Rattle.h5_fits.specs.StageFits.{IsRootAlone, IsRootOpen, StageFits}
 use Rattle.h5_fits.proofs.RoleLaws.{made_named}
-use Rattle.h5_fits.proofs.StageLaws.{stage_body_pushed, stage_ended, stage_head_popped, stage_head_pushed, stage_pushed, stage_root_pushed, stage_situation, stage_some}
+use Rattle.h5_fits.proofs.StageLaws.{stage_body_pushed, stage_ended, stage_head_popped, stage_head_pushed, stage_pushed, stage_root_pushed, stage_situation, stage_some, open_push}
 use Rattle.h5_meaning.specs.AfterAfterBody.{after_after_body_start, after_after_body_tag}
 use Rattle.h5_meaning.specs.AfterBody.{after_body_end, after_body_start, after_body_tag, back_to_body}
 use Rattle.h5_meaning.specs.AfterHead.{after_head_else, after_head_end, after_head_start, after_head_tag}
@@ -29,19 +24,20 @@ use Rattle.h5_meaning.specs.BeforeHead.{before_head_else, before_head_end, befor
 use Rattle.h5_meaning.specs.ByName.{NonePasses, Rules, by_kind, by_name, ignored_tag, of_tag}
 use Rattle.h5_meaning.specs.BeforeHtml.{before_html_else, before_html_end, before_html_start, before_html_tag}
 use Rattle.h5_meaning.specs.Changes.{add_attrs_at, add_attrs_to_html, add_attrs_to_second, append_text, append_comment, append_comment_to_doc, append_comment_to_html, pop_until_named, set_frameset_not_ok, generate_implied_end_except, set_mode, insert_and_pop_element, insert_element, insert_head, create_root, set_frameset_ok_by_text, pop, set_quirks_mode}
-use Rattle.h5_meaning.specs.InBody.{body_ends, body_in_scope, if_body_in_scope, in_body_end_other, in_body_end, in_body_start, in_body_start_other, in_body_start_body, in_body_tag}
+use Rattle.h5_meaning.specs.Closing.{close_p_element_in_button_scope, generate_implied_end, pop_heading}
+use Rattle.h5_meaning.specs.InBody.{body_ends, body_in_scope, if_body_in_scope, in_body_end_other, in_body_end, in_body_start, in_body_start_other, in_body_start_body, in_body_tag, current_is, in_body_end_block, in_body_end_heading, in_body_end_p, in_body_start_block, in_body_start_heading}
 use Rattle.h5_meaning.specs.InHead.{in_head_else, in_head_end, in_head_start, in_head_tag}
 use Rattle.h5_meaning.specs.InitialMode.{initial_else}
 use Rattle.h5_meaning.specs.Modes.{rule}
-use Rattle.h5_meaning.specs.Rows.{Follows, AddAttrsToHtml, AddAttrsToSecond, AdoptionAgency, Again, ClosePElement, ClosePElementInButtonScope, CreateFormattingElement, GenerateImpliedEnd, HandleMisnestedATags, HandleMisnestedNobrTags, InsertAndPopElement, PopHeading, PopUntilHeading, ReconstructActiveFormattingElements, AppendText, AppendComment, AppendCommentToDoc, AppendCommentToHtml, Change, PopUntilNamed, Ending, SetFramesetNotOk, GenerateImpliedEndExcept, InsertElement, InsertHead, CreateRoot, IsDone, SetFramesetOkByText, Pop, Row, SetMode, SetQuirksMode, apply, apply_all, choose, errs, ignored, next_mode, row}
+use Rattle.h5_meaning.specs.Rows.{Follows, AddAttrsToHtml, AddAttrsToSecond, AdoptionAgency, Again, ClosePElement, ClosePElementInButtonScope, CreateFormattingElement, GenerateImpliedEnd, HandleMisnestedATags, HandleMisnestedNobrTags, InsertAndPopElement, PopHeading, PopUntilHeading, ReconstructActiveFormattingElements, AppendText, AppendComment, AppendCommentToDoc, AppendCommentToHtml, Change, PopUntilNamed, Ending, SetFramesetNotOk, GenerateImpliedEndExcept, InsertElement, InsertHead, CreateRoot, IsDone, SetFramesetOkByText, Pop, Row, SetMode, SetQuirksMode, apply, apply_all, choose, errs, ignored, next_mode, row, row_if}
 use Rattle.h5_meaning.specs.Shared.{in_body_start_html}
-use Rattle.h5_stack.specs.Scope.{comes_before_special, has_template, second_is}
+use Rattle.h5_stack.specs.Scope.{comes_before_special, cut_names, drop_while, has_p_in_button_scope, has_template, in_scope, is_implied_but, second_is}
 use Rattle.h5_meaning.specs.Sound.{Fits, Sound, situation_of}
 use Rattle.h5_meaning.specs.World.{World, names_of}
 use Rattle.h5_stack.specs.FormattingNames.{html_name}
 use Rattle.h5_stack.specs.Order.{second_from_last}
+use Rattle.h5_meaning.proofs.ClosingLaws.{block_not_html, block_not_implied, close_p_in_scope_sound, heading_not_html, heading_not_implied, names-all_implied, names-close_p, names-close_p_in_scope, names-pop_heading, names-until_heading, new_p_in_scope, open_close, open_close_p, open_close_p_in_scope, open_pop_heading, pop_heading_sound}
 use Rattle.h5_meaning.proofs.NameLaws.{names-add_to_root, names-add_to_second, names-append, names-append_comment, names-append_comment_to_document, names-append_comment_to_root, names-cut, names-implied, names-insert, names-insert_head, names-insert_root}
-use Rattle.h5_stack.specs.Scope.{cut_names}
 use Rattle.h5_meaning.proofs.PopLaws.{names-pop, names_length}
 use Rattle.h5_meaning.proofs.TreeLaws.{OnlyTree, tree_adoption, tree_close_p, tree_close_p_in_scope, tree_format, tree_implied, tree_implied_except, tree_misnested_a_tags, tree_misnested_nobr_tags, tree_pop_heading, tree_reconstruct, tree_until_heading}
 
@@ -124,13 +120,13 @@ module _ (choices : SinkChoices) (w : World) (sound : Sound w) where
   kept_root : Kept BeforeHtml (row (CreateRoot [] ∷ []) (Again BeforeHead))
   kept_root = root_made []
 
-  -- by the name of a tag, where each rule keeps it; the last one is met where the name passes no other
+  -- by the name of a tag, where each rule keeps it that the name passes; the last one is met where it passes no other
   abbrev KeptBy : InsertionMode → TagText → Rules → Type 0
   KeptBy m tag [] = Unit {0}
-  KeptBy m tag (x ∷ xs) = Kept m (x.1 tag w) × KeptBy m tag xs
+  KeptBy m tag (x ∷ xs) = (x.0 tag.name ≡ true → Kept m (x.1 tag w)) × KeptBy m tag xs
 
-  kept_either : (m : InsertionMode) (b : Bool) (r s : Row) → Kept m r → (b ≡ false → Kept m s) → Kept m (choose b r s)
-  kept_either m true r s x y = x
+  kept_either : (m : InsertionMode) (b : Bool) (r s : Row) → (b ≡ true → Kept m r) → (b ≡ false → Kept m s) → Kept m (choose b r s)
+  kept_either m true r s x y = x refl
   kept_either m false r s x y = y refl
 
   kept_by_name : (m : InsertionMode) (xs : Rules) (other : TagText → World → Row) (tag : TagText) → KeptBy m tag xs → (NonePasses xs tag.name → Kept m (other tag w)) → Kept m (by_name xs other tag w)
@@ -139,32 +135,32 @@ module _ (choices : SinkChoices) (w : World) (sound : Sound w) where
 
   kept_before_html : (k : TagKind) (tag : TagText) → Kept BeforeHtml (by_kind k (by_name before_html_start (of_tag before_html_else) tag w) (by_name before_html_end ignored_tag tag w))
   unfolding before_html_start before_html_end names_of
-  kept_before_html StartTag tag = kept_by_name BeforeHtml before_html_start (of_tag before_html_else) tag (root_made tag.attrs, tt) (λ n. kept_root)
-  kept_before_html EndTag tag = kept_by_name BeforeHtml before_html_end ignored_tag tag (kept_root, tt) (λ n h. h)
+  kept_before_html StartTag tag = kept_by_name BeforeHtml before_html_start (of_tag before_html_else) tag ((λ p. root_made tag.attrs), tt) (λ n. kept_root)
+  kept_before_html EndTag tag = kept_by_name BeforeHtml before_html_end ignored_tag tag ((λ p. kept_root), tt) (λ n h. h)
 
   kept_head : Kept BeforeHead (row (InsertHead [] false ∷ []) (Again InHead))
   kept_head = head_pushed [] false
 
   kept_before_head : (k : TagKind) (tag : TagText) → Kept BeforeHead (by_kind k (by_name before_head_start (of_tag before_head_else) tag w) (by_name before_head_end ignored_tag tag w))
   unfolding before_head_start before_head_end names_of
-  kept_before_head StartTag tag = kept_by_name BeforeHead before_head_start (of_tag before_head_else) tag (kept_start_html BeforeHead tag, ((λ h. head_pushed tag.attrs tag.had_duplicate_attributes h), tt)) (λ n. kept_head)
-  kept_before_head EndTag tag = kept_by_name BeforeHead before_head_end ignored_tag tag (kept_head, tt) (λ n h. h)
+  kept_before_head StartTag tag = kept_by_name BeforeHead before_head_start (of_tag before_head_else) tag ((λ p. kept_start_html BeforeHead tag), ((λ p h. head_pushed tag.attrs tag.had_duplicate_attributes h), tt)) (λ n. kept_head)
+  kept_before_head EndTag tag = kept_by_name BeforeHead before_head_end ignored_tag tag ((λ p. kept_head), tt) (λ n h. h)
 
   kept_pop : Kept InHead (row (Pop ∷ []) (Again AfterHead))
   kept_pop = head_popped
 
   kept_in_head : (k : TagKind) (tag : TagText) → Kept InHead (by_kind k (by_name in_head_start (of_tag in_head_else) tag w) (by_name in_head_end ignored_tag tag w))
   unfolding in_head_start in_head_end names_of
-  kept_in_head StartTag tag = kept_by_name InHead in_head_start (of_tag in_head_else) tag (kept_start_html InHead tag, ((λ h. h), tt)) (λ n. kept_pop)
-  kept_in_head EndTag tag = kept_by_name InHead in_head_end ignored_tag tag (head_popped, (kept_pop, tt)) (λ n h. h)
+  kept_in_head StartTag tag = kept_by_name InHead in_head_start (of_tag in_head_else) tag ((λ p. kept_start_html InHead tag), ((λ p h. h), tt)) (λ n. kept_pop)
+  kept_in_head EndTag tag = kept_by_name InHead in_head_end ignored_tag tag ((λ p. head_popped), ((λ p. kept_pop), tt)) (λ n h. h)
 
   kept_body : Kept AfterHead (row (InsertElement (codes "body") [] false ∷ []) (Again InBody))
   kept_body = body_pushed (codes "body") [] false
 
   kept_after_head : (k : TagKind) (tag : TagText) → Kept AfterHead (by_kind k (by_name after_head_start (of_tag after_head_else) tag w) (by_name after_head_end ignored_tag tag w))
   unfolding after_head_start after_head_end names_of
-  kept_after_head StartTag tag = kept_by_name AfterHead after_head_start (of_tag after_head_else) tag (kept_start_html AfterHead tag, ((λ h. body_pushed tag.name tag.attrs tag.had_duplicate_attributes h), ((λ h. h), tt))) (λ n. kept_body)
-  kept_after_head EndTag tag = kept_by_name AfterHead after_head_end ignored_tag tag ((λ h. h), (kept_body, tt)) (λ n h. h)
+  kept_after_head StartTag tag = kept_by_name AfterHead after_head_start (of_tag after_head_else) tag ((λ p. kept_start_html AfterHead tag), ((λ p h. body_pushed tag.name tag.attrs tag.had_duplicate_attributes h), ((λ p h. h), tt))) (λ n. kept_body)
+  kept_after_head EndTag tag = kept_by_name AfterHead after_head_end ignored_tag tag ((λ p h. h), ((λ p. kept_body), tt)) (λ n h. h)
 
   kept_second : (tag : TagText) → Kept InBody (errs (SetFramesetNotOk ∷ AddAttrsToSecond tag.attrs ∷ []) IsDone)
   unfolding names_of
@@ -188,11 +184,64 @@ module _ (choices : SinkChoices) (w : World) (sound : Sound w) where
       (stage_ended here here tag.name (names_of w) other e h))
       (λ h. h)
 
+  -- a `p` is closed, where one is in button scope
+  closed_open : FitsAs InBody w → FitsAs InBody (close_p_element_in_button_scope choices w)
+  closed_open h = subst IsRootOpen (sym (names-close_p_in_scope choices w)) (open_close_p_in_scope (names_of w) h)
+
+  kept_start_block : (tag : TagText) → Kept InBody (in_body_start_block tag w)
+  kept_start_block tag h =
+      let closed = close_p_element_in_button_scope choices w in
+      subst IsRootOpen (sym (names-insert choices tag.name tag.attrs tag.had_duplicate_attributes closed (close_p_in_scope_sound choices w sound)))
+      (open_push (html_name tag.name) (names_of closed) (closed_open h))
+
+  kept_start_heading : (tag : TagText) → Kept InBody (in_body_start_heading tag w)
+  kept_start_heading tag h =
+      let closed = close_p_element_in_button_scope choices w in
+      let popped = pop_heading choices closed in
+      subst IsRootOpen (sym (names-insert choices tag.name tag.attrs tag.had_duplicate_attributes popped (pop_heading_sound choices closed (close_p_in_scope_sound choices w sound))))
+      (open_push (html_name tag.name) (names_of popped) (subst IsRootOpen (sym (names-pop_heading choices closed)) (open_pop_heading (names_of closed) (closed_open h))))
+
+  -- implied end tags, and up to and with what is in scope
+  kept_end_block : (tag : TagText) → is_one_of block_end_names tag.name ≡ true → Kept InBody (in_body_end_block tag w)
+  unfolding in_body_end_block
+  kept_end_block tag is_block = kept_choose InBody (in_scope (is_html_named tag.name) is_default_scope (names_of w)) (row_if (current_is tag.name w) (GenerateImpliedEnd ∷ PopUntilNamed tag.name ∷ []) IsDone) ignored
+      (λ e h. subst IsRootOpen
+      (sym (names-cut tag.name (generate_implied_end choices w) ∙ ap (cut_names (is_html_named tag.name)) (names-all_implied choices w)))
+      (open_close (is_html_named tag.name) (names_of w) (block_not_html tag.name is_block) (block_not_implied tag.name is_block) e h))
+      (λ h. h)
+
+  kept_end_heading : (tag : TagText) → Kept InBody (in_body_end_heading tag w)
+  unfolding in_body_end_heading
+  kept_end_heading tag = kept_choose InBody (in_scope is_heading is_default_scope (names_of w)) (row_if (current_is tag.name w) (GenerateImpliedEnd ∷ PopUntilHeading ∷ []) IsDone) ignored
+      (λ e h. subst IsRootOpen
+      (sym (names-until_heading (generate_implied_end choices w) ∙ ap (cut_names is_heading) (names-all_implied choices w)))
+      (open_close is_heading (names_of w) heading_not_html heading_not_implied e h))
+      (λ h. h)
+
+  -- the `p` that ends is open, or made
+  kept_end_p : (tag : TagText) → Kept InBody (in_body_end_p tag w)
+  unfolding in_body_end_p
+  kept_end_p tag = kept_choose InBody (has_p_in_button_scope (names_of w)) (row_if (current_is (codes "p") w) (ClosePElement ∷ []) IsDone) (errs (InsertElement (codes "p") [] false ∷ ClosePElement ∷ []) IsDone)
+      (λ e h. subst IsRootOpen (sym (names-close_p choices w)) (open_close_p (names_of w) e h))
+      (λ h.
+      let v = insert_element choices (codes "p") [] false w in
+      let first : names_of v ≡ html_name (codes "p") ∷ names_of w = names-insert choices (codes "p") [] false w sound in
+      subst IsRootOpen (sym (names-close_p choices v ∙ ap (λ ns. cut_names (is_html_named (codes "p")) (drop_while (is_implied_but (codes "p")) ns)) first))
+      (open_close_p (html_name (codes "p") ∷ names_of w) (new_p_in_scope (names_of w)) (open_push (html_name (codes "p")) (names_of w) h)))
+
   kept_in_body : (k : TagKind) (tag : TagText) → Kept InBody (by_kind k (by_name in_body_start in_body_start_other tag w) (by_name in_body_end in_body_end_other tag w))
   unfolding in_body_start in_body_end names_of
-  kept_in_body StartTag tag = kept_by_name InBody in_body_start in_body_start_other tag (kept_start_html InBody tag, (kept_start_body tag, tt)) (λ n h. pushed tag.name tag.attrs tag.had_duplicate_attributes h)
-  kept_in_body EndTag tag = kept_by_name InBody in_body_end in_body_end_other tag
-      (kept_if_body InBody (body_ends [] (Again AfterBody) w) (λ k. k), (kept_if_body InBody (body_ends (SetMode AfterBody ∷ []) IsDone w) (λ k. k), tt)) (λ n. kept_end_other tag n.0)
+  kept_in_body StartTag tag = kept_by_name InBody in_body_start in_body_start_other tag
+      ((λ p. kept_start_html InBody tag), ((λ p. kept_start_body tag), ((λ p. kept_start_block tag), ((λ p. kept_start_heading tag), tt))))
+      (λ n h. pushed tag.name tag.attrs tag.had_duplicate_attributes h)
+  kept_in_body EndTag tag = kept_by_name InBody in_body_end in_body_end_other tag (
+    (λ p. kept_if_body InBody (body_ends [] (Again AfterBody) w) (λ k. k)),
+    (
+      (λ p. kept_if_body InBody (body_ends (SetMode AfterBody ∷ []) IsDone w) (λ k. k)),
+      ((λ p. kept_end_block tag p), ((λ p. kept_end_p tag), ((λ p. kept_end_heading tag), tt))),
+    ),
+  )
+      (λ n. kept_end_other tag n.0)
 
   kept_text_in_body : (m : InsertionMode) (t : List ℕ) → t ≢ [] → Kept m (row (SetFramesetOkByText t ∷ AppendText t ∷ []) IsDone)
   unfolding append_text names_of set_frameset_ok_by_text
@@ -216,12 +265,12 @@ module _ (choices : SinkChoices) (w : World) (sound : Sound w) where
 
   kept_after_body : (k : TagKind) (tag : TagText) → Kept AfterBody (by_kind k (by_name after_body_start (of_tag back_to_body) tag w) (by_name after_body_end (of_tag back_to_body) tag w))
   unfolding after_body_start after_body_end names_of
-  kept_after_body StartTag tag = kept_by_name AfterBody after_body_start (of_tag back_to_body) tag (kept_start_html AfterBody tag, tt) (λ n h. h)
-  kept_after_body EndTag tag = kept_by_name AfterBody after_body_end (of_tag back_to_body) tag ((λ h. h), tt) (λ n h. h)
+  kept_after_body StartTag tag = kept_by_name AfterBody after_body_start (of_tag back_to_body) tag ((λ p. kept_start_html AfterBody tag), tt) (λ n h. h)
+  kept_after_body EndTag tag = kept_by_name AfterBody after_body_end (of_tag back_to_body) tag ((λ p h. h), tt) (λ n h. h)
 
   kept_after_after_body : (k : TagKind) (tag : TagText) → Kept AfterAfterBody (by_kind k (by_name after_after_body_start (of_tag back_to_body) tag w) (back_to_body (TagTurn tag) w))
   unfolding after_after_body_start
-  kept_after_after_body StartTag tag = kept_by_name AfterAfterBody after_after_body_start (of_tag back_to_body) tag (kept_start_html AfterAfterBody tag, tt) (λ n h. h)
+  kept_after_after_body StartTag tag = kept_by_name AfterAfterBody after_after_body_start (of_tag back_to_body) tag ((λ p. kept_start_html AfterAfterBody tag), tt) (λ n h. h)
   kept_after_after_body EndTag tag = λ h. h
 
   kept_tag : (m : InsertionMode) (tag : TagText) → Kept m (rule m (TagTurn tag) w)

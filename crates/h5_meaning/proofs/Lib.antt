@@ -1,3 +1,4 @@
+pub mod ClosingLaws
 pub mod CutLaws
 pub mod FitsLaws
 pub mod FlagLaws

@@ -79,7 +79,7 @@ names-add_to_second attrs w k = at (second_from_last w.stack)
     at None = refl
     at (Some n) = kept w.forest _ w.stack k.stands.elements (add_missing_rearranges w.forest n attrs k.stands.is_forest)
 
-cut_map : (f : Forest) (is : QualName → Bool) (s : List ℕ) → map (name_in f) (cut_through is (map (name_in f) s) s) ≡ cut_names is (map (name_in f) s)
+pub cut_map : (f : Forest) (is : QualName → Bool) (s : List ℕ) → map (name_in f) (cut_through is (map (name_in f) s) s) ≡ cut_names is (map (name_in f) s)
 cut_map f is [] = refl
 cut_map f is (n ∷ s) =
     elim (is (name_in f n)) as (λ b. map (name_in f) (cond b s (cut_through is (map (name_in f) s) s)) ≡ cond b (map (name_in f) s) (cut_names is (map (name_in f) s))) [
@@ -91,7 +91,7 @@ pub names-cut : (local : List ℕ) (w : World) → names_of (pop_until_named loc
 unfolding names_of pop_until_named
 names-cut local w = cut_map w.forest (is_html_named local) w.stack
 
-names_while : (choices : SinkChoices) (p : QualName → Bool) (ns : List QualName) (w : World) → names_of w ≡ ns → names_of (pop_while choices p ns w) ≡ drop_while p ns
+pub names_while : (choices : SinkChoices) (p : QualName → Bool) (ns : List QualName) (w : World) → names_of w ≡ ns → names_of (pop_while choices p ns w) ≡ drop_while p ns
 names_while choices p [] w e = e
 names_while choices p (n ∷ ns) w e =
     elim (p n) as (λ b. names_of (cond b (pop_while choices p ns (pop choices w)) w) ≡ cond b (drop_while p ns) (n ∷ ns)) [

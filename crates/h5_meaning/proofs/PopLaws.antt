@@ -1,5 +1,5 @@
 -- What popping and cutting leave.
-use Rattle.std.proofs.Common.{◌≡◌, ◌<◌, ℕ, Bool, true, false, ◌&&◌, not, cond, List, [], ◌∷◌, length, map, Option, Some, None, refl, ap, sym, ◌∙◌, arith}
+use Rattle.std.proofs.Common.{◌≡◌, ◌<◌, ℕ, Bool, true, false, cond, List, [], ◌∷◌, length, map, Option, Some, None, refl, ap, sym, ◌∙◌, arith}
 use Rattle.std.proofs.lemmas.List.{length-map}
 use Rattle.h5_names.specs.declared.qualified.QualName.{QualName}
 use Rattle.h5_interface.specs.Changes.{mark}
@@ -7,11 +7,13 @@ use Rattle.h5_interface.specs.Forest.{Forest, Marks, Node, kind_of}
 use Rattle.h5_interface.specs.SinkChoices.{SinkChoices}
 use Rattle.h5_tag_sets.specs.TagSets.{is_html_named, is_implied}
 use Rattle.h5_meaning.specs.Changes.{generate_implied_end_except, pop, pop_while}
+use Rattle.h5_meaning.specs.Closing.{generate_implied_end}
 use Rattle.h5_stack.specs.Scope.{cut_through, first_passes, is_implied_but, later_names}
 use Rattle.h5_meaning.specs.Sound.{AllStand}
 use Rattle.h5_meaning.specs.World.{World, current, name_in, name_of_found, names_of}
 use Rattle.h5_stack.specs.FormattingList.{Entry}
 use Rattle.h5_stack.specs.Order.{but_first}
+use Rattle.h5_fits.proofs.BoolLaws.{and_not}
 use Rattle.h5_meaning.proofs.SoundLaws.{all_but_first}
 
 -- as many names as open elements
@@ -58,6 +60,16 @@ pub implied_none : (choices : SinkChoices) (local : List ℕ) (w : World) → fi
 unfolding generate_implied_end_except
 implied_none choices local w h = while_none choices (is_implied_but local) (names_of w) w h
 
+pub all_implied_step : (choices : SinkChoices) (w : World) → first_passes is_implied (names_of w) ≡ true → generate_implied_end choices (pop choices w) ≡ generate_implied_end choices w
+unfolding generate_implied_end
+all_implied_step choices w h =
+    ap (λ ns. pop_while choices is_implied ns (pop choices w)) (names-pop choices w)
+    ∙ sym (while_step choices is_implied (names_of w) w h)
+
+pub all_implied_none : (choices : SinkChoices) (w : World) → first_passes is_implied (names_of w) ≡ false → generate_implied_end choices w ≡ w
+unfolding generate_implied_end
+all_implied_none choices w h = while_none choices is_implied (names_of w) w h
+
 pub first_is_open : (p : QualName → Bool) (w : World) → first_passes p (names_of w) ≡ true → 0 < length w.stack
 unfolding names_of
 first_is_open p w h = at w.stack h
@@ -87,25 +99,25 @@ pop_stack : (choices : SinkChoices) (w : World) → (pop choices w).stack ≡ bu
 unfolding pop
 pop_stack choices w = refl
 
--- implied ends don't reach an element that they are not to reach, so cutting at it gives the same
-cut_popped : (choices : SinkChoices) (local : List ℕ) (ns : List QualName) (w : World) → names_of w ≡ ns
-    → let v = pop_while choices (is_implied_but local) ns w in cut_through (is_html_named local) (names_of v) v.stack ≡ cut_through (is_html_named local) ns w.stack
-cut_popped choices local [] w e = ap (λ ns. cut_through (is_html_named local) ns w.stack) e
-cut_popped choices local (n ∷ ns) w e =
-    at (is_implied n) (is_html_named local n) refl
-    (cut_popped choices local ns (pop choices w) (names-pop choices w ∙ ap later_names e) ∙ ap (cut_through (is_html_named local) ns) (pop_stack choices w))
+-- what is popped is no element that a stack is cut at, so cutting at it gives the same
+cut_popped : (choices : SinkChoices) (popped is : QualName → Bool) → ((n : QualName) → popped n ≡ true → is n ≡ false) → (ns : List QualName) (w : World) → names_of w ≡ ns
+    → let v = pop_while choices popped ns w in cut_through is (names_of v) v.stack ≡ cut_through is ns w.stack
+cut_popped choices popped is apart [] w e = ap (λ ns. cut_through is ns w.stack) e
+cut_popped choices popped is apart (n ∷ ns) w e =
+    at (popped n) refl (cut_popped choices popped is apart ns (pop choices w) (names-pop choices w ∙ ap later_names e) ∙ ap (cut_through is ns) (pop_stack choices w))
   where
-    stays : cut_through (is_html_named local) (names_of w) w.stack ≡ cut_through (is_html_named local) (n ∷ ns) w.stack
-    stays = ap (λ ms. cut_through (is_html_named local) ms w.stack) e
-
-    at : (i b : Bool) → is_html_named local n ≡ b
-        → (let v = pop_while choices (is_implied_but local) ns (pop choices w) in cut_through (is_html_named local) (names_of v) v.stack ≡ cut_through (is_html_named local) ns (but_first w.stack))
-        → let v = cond (i && not b) (pop_while choices (is_implied_but local) ns (pop choices w)) w in cut_through (is_html_named local) (names_of v) v.stack ≡ cut_through (is_html_named local) (n ∷ ns) w.stack
-    at true false h later = later ∙ ap (λ c. cond c (but_first w.stack) (cut_through (is_html_named local) ns (but_first w.stack))) (sym h)
-    at true true h later = stays
-    at false b h later = stays
+    at : (b : Bool) → popped n ≡ b
+        → (let v = pop_while choices popped ns (pop choices w) in cut_through is (names_of v) v.stack ≡ cut_through is ns (but_first w.stack))
+        → let v = cond b (pop_while choices popped ns (pop choices w)) w in cut_through is (names_of v) v.stack ≡ cut_through is (n ∷ ns) w.stack
+    at true h later = later ∙ ap (λ c. cond c (but_first w.stack) (cut_through is ns (but_first w.stack))) (sym (apart n h))
+    at false h later = ap (λ ms. cut_through is ms w.stack) e
 
 pub cut_behind_implied : (choices : SinkChoices) (local : List ℕ) (w : World) → let v = generate_implied_end_except choices local w in
     cut_through (is_html_named local) (names_of v) v.stack ≡ cut_through (is_html_named local) (names_of w) w.stack
 unfolding generate_implied_end_except
-cut_behind_implied choices local w = cut_popped choices local (names_of w) w refl
+cut_behind_implied choices local w = cut_popped choices (is_implied_but local) (is_html_named local) (λ n h. (and_not (is_implied n) (is_html_named local n) h).1) (names_of w) w refl
+
+pub cut_behind_all_implied : (choices : SinkChoices) (is : QualName → Bool) (w : World) → ((n : QualName) → is_implied n ≡ true → is n ≡ false) → let v = generate_implied_end choices w in
+    cut_through is (names_of v) v.stack ≡ cut_through is (names_of w) w.stack
+unfolding generate_implied_end
+cut_behind_all_implied choices is w apart = cut_popped choices is_implied is apart (names_of w) w refl

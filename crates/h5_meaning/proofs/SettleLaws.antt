@@ -7,7 +7,8 @@ use Rattle.h5_token.specs.declared.tag.TagKind.TheVariants.{StartTag, EndTag}
 use Rattle.h5_interface.specs.SinkChoices.{SinkChoices}
 use Rattle.h5_interface.specs.declared.marks.QuirksMode.TheVariants.{Quirks}
 use Rattle.h5_names.specs.declared.known_name.KnownName.TheVariants.{Html}
-use Rattle.h5_stack.specs.Scope.{has_template, second_is, comes_before_special}
+use Rattle.h5_tag_sets.specs.TagSets.{is_default_scope, is_heading, is_html_named}
+use Rattle.h5_stack.specs.Scope.{comes_before_special, has_p_in_button_scope, has_template, in_scope, second_is}
 use Rattle.h5_types.specs.TurnText.{TurnText, TagTurn, CommentTurn, TextTurn, NullTurn, EofTurn, is_self_closing}
 use Rattle.h5_types.specs.declared.modes.InsertionMode.{InsertionMode}
 use Rattle.h5_types.specs.declared.modes.InsertionMode.TheVariants.{Initial, BeforeHtml, BeforeHead, InHead, AfterHead, InBody, AfterBody, AfterAfterBody}
@@ -20,11 +21,11 @@ use Rattle.h5_meaning.specs.BeforeHead.{before_head_else, before_head_end, befor
 use Rattle.h5_meaning.specs.ByName.{NonePasses, Rules, by_kind, by_name, ignored_tag, named, of_tag}
 use Rattle.h5_meaning.specs.BeforeHtml.{before_html_else, before_html_end, before_html_start, before_html_tag}
 use Rattle.h5_meaning.specs.Changes.{set_mode}
-use Rattle.h5_meaning.specs.InBody.{body_ends, body_in_scope, if_body_in_scope, in_body_end_other, in_body_end, in_body_start, in_body_start_other, in_body_start_body, in_body_tag}
+use Rattle.h5_meaning.specs.InBody.{body_ends, body_in_scope, current_is, if_body_in_scope, in_body_end_block, in_body_end_heading, in_body_end_other, in_body_end_p, in_body_end, in_body_start, in_body_start_other, in_body_start_body, in_body_tag}
 use Rattle.h5_meaning.specs.InHead.{in_head_else, in_head_end, in_head_start, in_head_tag}
 use Rattle.h5_meaning.specs.InitialMode.{initial_else}
 use Rattle.h5_meaning.specs.Modes.{rule}
-use Rattle.h5_meaning.specs.Rows.{AddAttrsToHtml, AddAttrsToSecond, Again, AgainBy, Answers, Ending, Follows, GenerateImpliedEndExcept, IsAcknowledged, IsDone, PopUntilNamed, Row, SetFramesetNotOk, SetMode, SetQuirksMode, changed_by, choose, errs, ignored, next_mode, row}
+use Rattle.h5_meaning.specs.Rows.{AddAttrsToHtml, AddAttrsToSecond, Again, AgainBy, Answers, ClosePElement, Ending, Follows, GenerateImpliedEnd, GenerateImpliedEndExcept, InsertElement, IsAcknowledged, IsDone, PopUntilHeading, PopUntilNamed, Row, SetFramesetNotOk, SetMode, SetQuirksMode, changed_by, choose, errs, ignored, next_mode, row, row_if}
 use Rattle.h5_meaning.specs.Settle.{Chain, Ends, GoesOn, IsOneChain, Settled, by_row, ends_with, goes_on_to, settle, settle_within, then_turns}
 use Rattle.h5_meaning.specs.Shared.{in_body_start_html}
 use Rattle.h5_meaning.specs.World.{World, names_of}
@@ -119,12 +120,27 @@ falls_after_head e StartTag tag w = falls_by_name e AfterHead after_head_start (
 falls_after_head e EndTag tag w = falls_by_name e AfterHead after_head_end ignored_tag tag w ((λ p. tt), ((λ p. after_head_rank e), tt)) (λ n. tt)
 
 falls_in_body : (k : TagKind) (tag : TagText) (w : World) → Falls (is_end_html_tag k tag.name) InBody (by_kind k (by_name in_body_start in_body_start_other tag w) (by_name in_body_end in_body_end_other tag w)).ending
-unfolding in_body_start in_body_end in_body_start_body if_body_in_scope in_body_end_other
-falls_in_body StartTag tag w = falls_by_name false InBody in_body_start in_body_start_other tag w
-    ((λ p. falls_start_html false InBody tag w), ((λ p. falls_choose false InBody (second_is (codes "body") (names_of w) && not (has_template (names_of w))) (errs (SetFramesetNotOk ∷ AddAttrsToSecond tag.attrs ∷ []) IsDone) ignored tt tt), tt)) (λ n. tt)
+unfolding in_body_start in_body_end in_body_start_body if_body_in_scope in_body_end_block in_body_end_p in_body_end_heading in_body_end_other
+falls_in_body StartTag tag w = falls_by_name false InBody in_body_start in_body_start_other tag w (
+  (λ p. falls_start_html false InBody tag w),
+  (
+    (λ p. falls_choose false InBody (second_is (codes "body") (names_of w) && not (has_template (names_of w))) (errs (SetFramesetNotOk ∷ AddAttrsToSecond tag.attrs ∷ []) IsDone) ignored tt tt),
+    ((λ p. tt), ((λ p. tt), tt)),
+  ),
+)
+    (λ n. tt)
 falls_in_body EndTag tag w = let e = named Html tag.name in falls_by_name e InBody in_body_end in_body_end_other tag w (
   (λ p. falls_choose e InBody (body_in_scope w) (body_ends [] (Again AfterBody) w) ignored (subst (λ f. rank_after f < rank_body f) (sym p) (omega arith)) tt),
-  ((λ p. falls_choose e InBody (body_in_scope w) (body_ends (SetMode AfterBody ∷ []) IsDone w) ignored tt tt), tt),
+  (
+    (λ p. falls_choose e InBody (body_in_scope w) (body_ends (SetMode AfterBody ∷ []) IsDone w) ignored tt tt),
+    (
+      (λ p. falls_choose e InBody (in_scope (is_html_named tag.name) is_default_scope (names_of w)) (row_if (current_is tag.name w) (GenerateImpliedEnd ∷ PopUntilNamed tag.name ∷ []) IsDone) ignored tt tt),
+      (
+        (λ p. falls_choose e InBody (has_p_in_button_scope (names_of w)) (row_if (current_is (codes "p") w) (ClosePElement ∷ []) IsDone) (errs (InsertElement (codes "p") [] false ∷ ClosePElement ∷ []) IsDone) tt tt),
+        ((λ p. falls_choose e InBody (in_scope is_heading is_default_scope (names_of w)) (row_if (current_is tag.name w) (GenerateImpliedEnd ∷ PopUntilHeading ∷ []) IsDone) ignored tt tt), tt),
+      ),
+    ),
+  ),
 )
     (λ n. falls_choose e InBody (comes_before_special tag.name (names_of w)) (errs (GenerateImpliedEndExcept tag.name ∷ PopUntilNamed tag.name ∷ []) IsDone) ignored tt tt)
 

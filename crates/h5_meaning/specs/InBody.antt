@@ -1,14 +1,19 @@
 -- HTML standard, section 13.2.6.4.7, the "in body" insertion mode.
-use Rattle.std.specs.Prelude.{Bool, not, ◌&&◌, List, [], ◌∷◌, codes}
+use Rattle.std.specs.Prelude.{ℕ, Bool, false, not, ◌&&◌, List, [], ◌∷◌, codes}
 use Rattle.h5_token.specs.TokenText.{TagText}
-use Rattle.h5_names.specs.declared.known_name.KnownName.TheVariants.{Body, Html}
-use Rattle.h5_stack.specs.Scope.{comes_before_special, has_body_in_scope, has_template, has_unclosed, second_is}
+use Rattle.h5_names.specs.declared.known_name.KnownName.TheVariants.{Body, Html, P}
+use Rattle.h5_tag_sets.specs.TagSets.{block_end_names, block_start_names, heading_names, is_default_scope, is_heading, is_html_named, is_one_of}
+use Rattle.h5_stack.specs.Scope.{comes_before_special, first_passes, has_body_in_scope, has_p_in_button_scope, has_template, has_unclosed, in_scope, second_is}
 use Rattle.h5_types.specs.TurnText.{CommentTurn, EofTurn, NullTurn, TagTurn, TextTurn, TurnText}
 use Rattle.h5_types.specs.declared.modes.InsertionMode.TheVariants.{AfterBody}
 use Rattle.h5_meaning.specs.ByName.{Rules, by_kind, by_name, named}
-use Rattle.h5_meaning.specs.Rows.{AddAttrsToSecond, Again, AppendComment, Change, Ending, GenerateImpliedEndExcept, InsertElement, IsDone, PopUntilNamed, Row, SetFramesetNotOk, SetMode, choose, errs, ignored, row}
+use Rattle.h5_meaning.specs.Rows.{AddAttrsToSecond, Again, AppendComment, Change, ClosePElement, ClosePElementInButtonScope, Ending, GenerateImpliedEnd, GenerateImpliedEndExcept, InsertElement, IsDone, PopHeading, PopUntilHeading, PopUntilNamed, Row, SetFramesetNotOk, SetMode, choose, errs, ignored, row, row_if}
 use Rattle.h5_meaning.specs.Shared.{in_body_start_html, in_body_text}
 use Rattle.h5_meaning.specs.World.{World, names_of}
+
+-- an element for a tag
+abbrev pub inserts : TagText → Change
+inserts tag = InsertElement tag.name tag.attrs tag.had_duplicate_attributes
 
 -- a start tag "body"
 unfoldable pub in_body_start_body : TagText → World → Row
@@ -25,7 +30,7 @@ if_body_in_scope r w = choose (body_in_scope w) r ignored
 
 -- the body ends, and a parse error is told where an element is still open that may not be
 abbrev pub body_ends : List Change → Ending → World → Row
-body_ends changes ending w = record { changes = changes; ending = ending; quiet = not (has_unclosed (names_of w)) }
+body_ends changes ending w = row_if (not (has_unclosed (names_of w))) changes ending
 
 -- an end tag "body"
 abbrev pub in_body_end_body : TagText → World → Row
@@ -35,9 +40,42 @@ in_body_end_body tag w = if_body_in_scope (body_ends (SetMode AfterBody ∷ []) 
 abbrev pub in_body_end_html : TagText → World → Row
 in_body_end_html tag w = if_body_in_scope (body_ends [] (Again AfterBody) w) w
 
+-- the current node is an HTML element of this name
+abbrev pub current_is : List ℕ → World → Bool
+current_is local w = first_passes (is_html_named local) (names_of w)
+
+-- a start tag "address", "article", .., "ul"
+abbrev pub in_body_start_block : TagText → World → Row
+in_body_start_block tag w = row_if (not (has_p_in_button_scope (names_of w))) (ClosePElementInButtonScope ∷ inserts tag ∷ []) IsDone
+
+-- a start tag "h1" to "h6"
+abbrev pub in_body_start_heading : TagText → World → Row
+in_body_start_heading tag w =
+    row_if (not (has_p_in_button_scope (names_of w)) && not (first_passes is_heading (names_of w)))
+    (ClosePElementInButtonScope ∷ PopHeading ∷ inserts tag ∷ []) IsDone
+
+-- an end tag "address", "article", .., "ul"
+unfoldable pub in_body_end_block : TagText → World → Row
+in_body_end_block tag w =
+    choose (in_scope (is_html_named tag.name) is_default_scope (names_of w))
+    (row_if (current_is tag.name w) (GenerateImpliedEnd ∷ PopUntilNamed tag.name ∷ []) IsDone) ignored
+
+-- an end tag "h1" to "h6"
+unfoldable pub in_body_end_heading : TagText → World → Row
+in_body_end_heading tag w =
+    choose (in_scope is_heading is_default_scope (names_of w))
+    (row_if (current_is tag.name w) (GenerateImpliedEnd ∷ PopUntilHeading ∷ []) IsDone) ignored
+
+-- an end tag "p"
+unfoldable pub in_body_end_p : TagText → World → Row
+in_body_end_p tag w =
+    choose (has_p_in_button_scope (names_of w))
+    (row_if (current_is (codes "p") w) (ClosePElement ∷ []) IsDone)
+    (errs (InsertElement (codes "p") [] false ∷ ClosePElement ∷ []) IsDone)
+
 -- any other start tag
 abbrev pub in_body_start_other : TagText → World → Row
-in_body_start_other tag w = row (InsertElement tag.name tag.attrs tag.had_duplicate_attributes ∷ []) IsDone
+in_body_start_other tag w = row (inserts tag ∷ []) IsDone
 
 -- any other end tag
 unfoldable pub in_body_end_other : TagText → World → Row
@@ -46,10 +84,19 @@ in_body_end_other tag w =
 
 -- start tags, and end tags
 unfoldable pub in_body_start : Rules
-in_body_start = (named Html, in_body_start_html) ∷ (named Body, in_body_start_body) ∷ []
+in_body_start =
+    (named Html, in_body_start_html) ∷
+    (named Body, in_body_start_body) ∷
+    (is_one_of block_start_names, in_body_start_block) ∷
+    (is_one_of heading_names, in_body_start_heading) ∷ []
 
 unfoldable pub in_body_end : Rules
-in_body_end = (named Html, in_body_end_html) ∷ (named Body, in_body_end_body) ∷ []
+in_body_end =
+    (named Html, in_body_end_html) ∷
+    (named Body, in_body_end_body) ∷
+    (is_one_of block_end_names, in_body_end_block) ∷
+    (named P, in_body_end_p) ∷
+    (is_one_of heading_names, in_body_end_heading) ∷ []
 
 unfoldable pub in_body_tag : TagText → World → Row
 in_body_tag tag w = by_kind tag.kind (by_name in_body_start in_body_start_other tag w) (by_name in_body_end in_body_end_other tag w)

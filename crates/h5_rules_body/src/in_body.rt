@@ -4,6 +4,10 @@ ghost use Rattle.h5_meaning.specs.InBody.{in_body, in_body_end_body, in_body_end
 ghost use Rattle.h5_state.specs.Steps.{IsOpen, IsSound, TellsErrors};
 ghost use Rattle.h5_state.specs.Turn.{TakesTag, TakesToken};
 
+use super::blocks::{
+    in_body_end_block, in_body_end_heading, in_body_end_p, in_body_start_block,
+    in_body_start_heading,
+};
 use h5_interface::TreeSink;
 use h5_names::KnownName;
 use h5_rules_shared::{in_body_start_html, in_body_text};
@@ -13,6 +17,7 @@ use h5_state::{
     insert_element, is_current_html, pop_until_named, set_frameset_not_ok, set_mode, tell_error,
     unexpected, unexpected_tag,
 };
+use h5_tag_sets::NameSet;
 use h5_token::{Tag, TagKind};
 use h5_types::{InsertionMode, ProcessResult, Token};
 
@@ -139,6 +144,10 @@ fn in_body_tag<S: TreeSink>(sink: &mut S, state: &mut State<S::Handle>, tag: Tag
                 in_body_start_html(sink, state, tag)
             } else if tag.name.is(KnownName::Body) {
                 in_body_start_body(sink, state, tag)
+            } else if NameSet::BlockStart.holds(&tag.name) {
+                in_body_start_block(sink, state, tag)
+            } else if NameSet::Heading.holds(&tag.name) {
+                in_body_start_heading(sink, state, tag)
             } else {
                 in_body_start_other(sink, state, tag)
             }
@@ -148,6 +157,12 @@ fn in_body_tag<S: TreeSink>(sink: &mut S, state: &mut State<S::Handle>, tag: Tag
                 in_body_end_html(sink, state, tag)
             } else if tag.name.is(KnownName::Body) {
                 in_body_end_body(sink, state, tag)
+            } else if NameSet::BlockEnd.holds(&tag.name) {
+                in_body_end_block(sink, state, tag)
+            } else if tag.name.is(KnownName::P) {
+                in_body_end_p(sink, state, tag)
+            } else if NameSet::Heading.holds(&tag.name) {
+                in_body_end_heading(sink, state, tag)
             } else {
                 in_body_end_other(sink, state, tag)
             }

@@ -4,6 +4,7 @@
 
 mod attributes;
 mod blanks;
+mod closing;
 mod errors;
 mod insert;
 mod name_test;
@@ -16,6 +17,10 @@ mod steps;
 
 pub use attributes::{add_attrs_to_html, add_attrs_to_second};
 pub use blanks::{first_run, is_blank_text, set_frameset_ok_by_text};
+pub use closing::{
+    close_p_element, close_p_element_in_button_scope, find_heading_in_scope, find_in_default_scope,
+    generate_implied_end, is_current_heading, pop_heading, pop_until_heading,
+};
 pub use errors::{tell_error, unexpected, unexpected_tag};
 pub use insert::{
     append_comment, append_comment_to_doc, append_comment_to_html, append_text, create_root,

@@ -2,11 +2,11 @@
 ghost use Rattle.std.specs.Prelude.{◌≡◌, Bool, false};
 ghost use Rattle.h5_names.specs.declared.qualified.QualName.{QualName as NameText};
 ghost use Rattle.h5_names.specs.KnownNames.{name_text};
-ghost use Rattle.h5_tag_sets.specs.TagSets.{is_default_scope, is_html_named};
+ghost use Rattle.h5_tag_sets.specs.TagSets.{is_default_scope, is_heading, is_html_named};
 ghost use Rattle.h5_meaning.specs.Place.{is_foster_parent};
 
-use h5_names::{KnownName, QualName};
-use h5_tag_sets::{default_scope, is_html_known};
+use h5_names::{KnownName, LocalName, QualName};
+use h5_tag_sets::{default_scope, heading_tag, is_html_known, is_html_local};
 
 /// A question about the name of an element.
 pub trait NameTest {
@@ -27,6 +27,30 @@ impl NameTest for Known {
 
     fn test(&self, name: &QualName) -> bool {
         is_html_known(name, self.0)
+    }
+}
+
+/// Whether this is the name of an HTML element of this local name.
+#[derive(Clone, Copy)]
+pub struct Local<'a>(pub &'a LocalName);
+
+impl NameTest for Local<'_> {
+    ghost holds = { λ t name. is_html_named t.0.now name };
+
+    fn test(&self, name: &QualName) -> bool {
+        is_html_local(name, self.0)
+    }
+}
+
+/// Whether an element is a heading.
+#[derive(Clone, Copy)]
+pub struct Heading;
+
+impl NameTest for Heading {
+    ghost holds = { λ t name. is_heading name };
+
+    fn test(&self, name: &QualName) -> bool {
+        heading_tag(name)
     }
 }
 

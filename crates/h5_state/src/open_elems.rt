@@ -141,6 +141,27 @@ pub fn find_before_special<S: TreeSink>(
     None
 }
 
+/// Where the first HTML element of this name stands, from the current node on: so many elements are older, none where none
+/// is open.
+pub(crate) fn find_named<S: TreeSink>(
+    sink: &S,
+    state: &State<S::Handle>,
+    local: &LocalName,
+) -> usize
+    requires { IsSound S.TreeSink sink.now state.now }
+    ensures { result ≡ length (cut_through (is_html_named local.now) (names_of (world_of S.TreeSink sink.now state.now)) (world_of S.TreeSink sink.now state.now).stack) }
+{
+    let number = html_number(local);
+    let mut place = open_count(sink, state);
+    'down: while place > 0 {
+        place -= 1;
+        if is_named(sink, open_at(sink, state, place), local, number) {
+            return place;
+        }
+    }
+    0
+}
+
 /// What is known of all open elements, from the newest of them alone.
 #[tactic(auto, unfolding(crate::specs::View::world, h5_meaning::specs::World::names_of))]
 pub fn all_open<S: TreeSink>(sink: &S, state: &State<S::Handle>) -> AllOpen
@@ -239,8 +260,40 @@ pub fn is_current_html<S: TreeSink>(sink: &S, state: &State<S::Handle>, local: &
     )
 }
 
+/// Whether the name of the current node passes.
+pub(crate) fn is_current<S: TreeSink, Is: NameTest>(
+    sink: &S,
+    state: &State<S::Handle>,
+    is: &Is,
+) -> bool
+    requires { IsSound S.TreeSink sink.now state.now }
+    ensures { result ≡ first_passes (Is.holds is.now) (names_of (world_of S.TreeSink sink.now state.now)) }
+{
+    let count = open_count(sink, state);
+    if count == 0 {
+        return false;
+    }
+    is.test(name_at(sink, state, count - 1))
+}
+
+/// Whether the end tag of the current node is implied.
+pub(crate) fn is_current_implied<S: TreeSink>(sink: &S, state: &State<S::Handle>) -> bool
+    requires { IsSound S.TreeSink sink.now state.now }
+    ensures { result ≡ first_passes is_implied (names_of (world_of S.TreeSink sink.now state.now)) }
+{
+    let count = open_count(sink, state);
+    if count == 0 {
+        return false;
+    }
+    open_at(sink, state, count - 1).summary.implied
+}
+
 // Whether the end tag of the current node is implied, and it is no HTML element of this name.
-fn is_current_implied<S: TreeSink>(sink: &S, state: &State<S::Handle>, local: &LocalName) -> bool
+fn is_current_implied_but<S: TreeSink>(
+    sink: &S,
+    state: &State<S::Handle>,
+    local: &LocalName,
+) -> bool
     requires { IsSound S.TreeSink sink.now state.now }
     ensures { result ≡ first_passes (is_implied_but local.now) (names_of (world_of S.TreeSink sink.now state.now)) }
 {
@@ -264,7 +317,7 @@ pub fn generate_implied_end_except<S: TreeSink>(
     ensures older { cut_through (is_html_named local.now) (names_of (world_of S.TreeSink sink.new state.new)) (world_of S.TreeSink sink.new state.new).stack
         ≡ cut_through (is_html_named local.now) (names_of (world_of S.TreeSink sink.old state.old)) (world_of S.TreeSink sink.old state.old).stack }
 {
-    'implied: while is_current_implied(sink, state, local) {
+    'implied: while is_current_implied_but(sink, state, local) {
         pop(sink, state);
     }
 }
@@ -284,9 +337,9 @@ pub fn pop_until_named<S: TreeSink>(
     truncate(sink, state, place);
 }
 
-// So many elements stay open.
+/// So many elements stay open.
 #[tactic(auto, unfolding(crate::specs::View::world, crate::specs::View::stack_under))]
-fn truncate<S: TreeSink>(sink: &S, state: &mut State<S::Handle>, count: usize)
+pub(crate) fn truncate<S: TreeSink>(sink: &S, state: &mut State<S::Handle>, count: usize)
     requires { IsSound S.TreeSink sink.now state.old }
     ensures kept { kept_of state.new ≡ summaries (names_of (world_of S.TreeSink sink.now state.new)) }
     ensures world { world_of S.TreeSink sink.now state.new ≡ with_stack (stack_under S.node state.old count) (world_of S.TreeSink sink.now state.old) }

@@ -37,7 +37,7 @@ pub const TREES: [(&str, &str); 9] = [
 ];
 
 /// Texts, and the HTML of the trees that they make.
-pub const PAGES: [(&str, &str); 15] = [
+pub const PAGES: [(&str, &str); 20] = [
     (
         "<!DOCTYPE html><p class=a>x &amp; y",
         "<!DOCTYPE html><html><head></head><body><p class=\"a\">x &amp; y</p></body></html>",
@@ -68,6 +68,26 @@ pub const PAGES: [(&str, &str); 15] = [
     ("a</b", "<html><head></head><body>a</body></html>"),
     ("a<p b=\"c>", "<html><head></head><body>a</body></html>"),
     ("a<!DOCTYPE b", "<html><head></head><body>a</body></html>"),
+    (
+        "<p>x<h1>y<h2>z",
+        "<html><head></head><body><p>x</p><h1>y</h1><h2>z</h2></body></html>",
+    ),
+    (
+        "<div></div></p>",
+        "<html><head></head><body><div></div><p></p></body></html>",
+    ),
+    (
+        "<h1>1<h2>2</h3>3",
+        "<html><head></head><body><h1>1</h1><h2>2</h2>3</body></html>",
+    ),
+    (
+        "<p>1<div>2<p>3</div>4",
+        "<html><head></head><body><p>1</p><div>2<p>3</p></div>4</body></html>",
+    ),
+    (
+        "<section>1</article>2</section>3",
+        "<html><head></head><body><section>12</section>3</body></html>",
+    ),
 ];
 
 #[test]

@@ -1,0 +1,26 @@
+use Rattle.std.proofs.Common.{[], ◌∷◌, codes, false, refl, subst, sym, ◌∙◌}
+use Rattle.h5_types.specs.TurnText.{TagTurn}
+use Rattle.h5_types.specs.declared.turns.ProcessResult.TheVariants.{Done}
+use Rattle.h5_token.specs.TokenText.{tag_text}
+use Rattle.h5_meaning.specs.InBody.{current_is, in_body_end_p}
+use Rattle.h5_meaning.specs.Rows.{ClosePElement, Follows, InsertElement, IsDone, choose, errs, row_if}
+use Rattle.h5_meaning.proofs.ClosingLaws.{p_stays_current}
+use Rattle.h5_state.specs.Steps.{errors_of, world_of}
+use Rattle.h5_rules_body.proofs.blocks.in_body_end_p.Goals as goal
+
+pub returns-then-has_p_in_button_scope : goal.returns-then-has_p_in_button_scope
+unfolding in_body_end_p
+returns-then-has_p_in_button_scope g c =
+    let law = g.S.TreeSink in
+    let w = world_of law c.args.sink.now c.args.state.now in
+    let v = world_of law c.expect_to_close.new.sink c.close_p_element-expected.new.state in
+    record {
+      follows = subst (λ b. Follows law.choices law.node (choose b (row_if (current_is (codes "p") w) (ClosePElement ∷ []) IsDone) (errs (InsertElement (codes "p") [] false ∷ ClosePElement ∷ []) IsDone)) (TagTurn (tag_text c.args.tag)) w v (errors_of law c.args.sink.now) (errors_of law c.expect_to_close.new.sink) Done)
+          (sym c.if-has_p_in_button_scope.true ∙ c.has_p_in_button_scope.ensures)
+          (record {
+            world = c.expect_to_close.ensures.told.world ∙ c.close_p_element-expected.ensures.made.world;
+            ending = refl;
+            quiet = λ h. c.expect_to_close.ensures.quiet (c.close_p_element-expected.ensures.expected ∙ p_stays_current law.choices w h) ∙ c.close_p_element-expected.ensures.made.quiet;
+          });
+      sound = c.expect_to_close.ensures.told.sound c.close_p_element-expected.ensures.made.sound;
+    }

@@ -1,0 +1,150 @@
+//! Blocks, paragraphs and headings in the body (HTML standard, section 13.2.6.4.7).
+ghost use Rattle.std.specs.Prelude.{◌≡◌, false, true};
+ghost use Rattle.h5_tag_sets.specs.TagSets.{block_end_names, heading_names, is_heading, is_one_of};
+ghost use Rattle.h5_stack.specs.Scope.{first_passes};
+ghost use Rattle.h5_meaning.specs.InBody.{in_body_end_block, in_body_end_heading, in_body_end_p, in_body_start_block, in_body_start_heading};
+ghost use Rattle.h5_meaning.specs.World.{names_of};
+ghost use Rattle.h5_state.specs.Steps.{IsSound, TellsErrors, errors_of, world_of};
+ghost use Rattle.h5_state.specs.Turn.{TakesTag};
+
+use h5_interface::TreeSink;
+use h5_names::KnownName;
+use h5_state::{
+    State, Turn, close_p_element, close_p_element_in_button_scope, find_heading_in_scope,
+    find_in_default_scope, generate_implied_end, has_p_in_button_scope, insert_element,
+    insert_phantom, is_current_heading, is_current_html, pop_heading, pop_until_heading,
+    pop_until_named, tell_error, unexpected_tag,
+};
+use h5_token::Tag;
+use h5_types::ProcessResult;
+
+// An element that was closed is expected to have been the current node.
+fn expect_to_close<S: TreeSink>(sink: &mut S, state: &State<S::Handle>, expected: bool)
+    ensures told { TellsErrors S.TreeSink sink.old sink.new state.now }
+    ensures quiet { expected ≡ true → errors_of S.TreeSink sink.new ≡ errors_of S.TreeSink sink.old }
+{
+    if !expected {
+        tell_error(sink, state, "unexpected open element");
+    }
+}
+
+// A start tag `address`, `article`, .., `ul`: a block, after which no `p` is in button scope.
+pub(crate) fn in_body_start_block<S: TreeSink>(
+    sink: &mut S,
+    state: &mut State<S::Handle>,
+    tag: Tag,
+) -> Turn<S::Handle>
+    requires { IsSound S.TreeSink sink.old state.old }
+    ensures { TakesTag S.TreeSink in_body_start_block tag sink.old state.old sink.new state.new result }
+{
+    let expected = close_p_element_in_button_scope(sink, state);
+    expect_to_close(sink, state, expected);
+    let attrs = tag.attrs;
+    insert_element(sink, state, tag.name, attrs, tag.had_duplicate_attributes)?;
+    Ok(ProcessResult::Done)
+}
+
+// A heading isn't expected in another.
+fn check_heading<S: TreeSink>(sink: &mut S, state: &State<S::Handle>)
+    requires { IsSound S.TreeSink sink.old state.now }
+    ensures told { TellsErrors S.TreeSink sink.old sink.new state.now }
+    ensures quiet { first_passes is_heading (names_of (world_of S.TreeSink sink.old state.now)) ≡ false → errors_of S.TreeSink sink.new ≡ errors_of S.TreeSink sink.old }
+{
+    if is_current_heading(sink, state) {
+        tell_error(sink, state, "a heading in a heading");
+    }
+}
+
+// A start tag `h1` to `h6`: as a block, and the current node, where it is a heading, is closed.
+pub(crate) fn in_body_start_heading<S: TreeSink>(
+    sink: &mut S,
+    state: &mut State<S::Handle>,
+    tag: Tag,
+) -> Turn<S::Handle>
+    requires { IsSound S.TreeSink sink.old state.old }
+    ensures { TakesTag S.TreeSink in_body_start_heading tag sink.old state.old sink.new state.new result }
+{
+    let expected = close_p_element_in_button_scope(sink, state);
+    expect_to_close(sink, state, expected);
+    check_heading(sink, state);
+    pop_heading(sink, state);
+    let attrs = tag.attrs;
+    insert_element(sink, state, tag.name, attrs, tag.had_duplicate_attributes)?;
+    Ok(ProcessResult::Done)
+}
+
+// An end tag `address`, `article`, .., `ul`: it closes the block of its name, where one is in scope.
+#[tactic(auto, unfolding(h5_meaning::specs::InBody::in_body_end_block))]
+pub(crate) fn in_body_end_block<S: TreeSink>(
+    sink: &mut S,
+    state: &mut State<S::Handle>,
+    tag: Tag,
+) -> Turn<S::Handle>
+    requires sound { IsSound S.TreeSink sink.old state.old }
+    requires name { is_one_of block_end_names tag.name ≡ true }
+    ensures { TakesTag S.TreeSink in_body_end_block tag sink.old state.old sink.new state.new result }
+{
+    let local = &tag.name;
+    match find_in_default_scope(sink, state, local) {
+        Some(place) => {
+            generate_implied_end(sink, state);
+            let expected = is_current_html(sink, state, local);
+            expect_to_close(sink, state, expected);
+            pop_until_named(sink, state, local, place);
+            Ok(ProcessResult::Done)
+        }
+        None => {
+            unexpected_tag(sink, state, &tag);
+            Ok(ProcessResult::Done)
+        }
+    }
+}
+
+// An end tag `p`: it closes the `p` in button scope, or one that is made for it.
+#[tactic(auto, unfolding(h5_meaning::specs::InBody::in_body_end_p))]
+pub(crate) fn in_body_end_p<S: TreeSink>(
+    sink: &mut S,
+    state: &mut State<S::Handle>,
+    tag: Tag,
+) -> Turn<S::Handle>
+    requires { IsSound S.TreeSink sink.old state.old }
+    ensures { TakesTag S.TreeSink in_body_end_p tag sink.old state.old sink.new state.new result }
+{
+    let _ = tag;
+    if has_p_in_button_scope(sink, state) {
+        let expected = close_p_element(sink, state);
+        expect_to_close(sink, state, expected);
+        Ok(ProcessResult::Done)
+    } else {
+        tell_error(sink, state, "no <p> to close");
+        insert_phantom(sink, state, KnownName::P)?;
+        close_p_element(sink, state);
+        Ok(ProcessResult::Done)
+    }
+}
+
+// An end tag `h1` to `h6`: it closes the heading in scope, also one of another name.
+#[tactic(auto, unfolding(h5_meaning::specs::InBody::in_body_end_heading))]
+pub(crate) fn in_body_end_heading<S: TreeSink>(
+    sink: &mut S,
+    state: &mut State<S::Handle>,
+    tag: Tag,
+) -> Turn<S::Handle>
+    requires sound { IsSound S.TreeSink sink.old state.old }
+    requires name { is_one_of heading_names tag.name ≡ true }
+    ensures { TakesTag S.TreeSink in_body_end_heading tag sink.old state.old sink.new state.new result }
+{
+    match find_heading_in_scope(sink, state) {
+        Some(place) => {
+            generate_implied_end(sink, state);
+            let expected = is_current_html(sink, state, &tag.name);
+            expect_to_close(sink, state, expected);
+            pop_until_heading(sink, state, place);
+            Ok(ProcessResult::Done)
+        }
+        None => {
+            tell_error(sink, state, "no heading to close");
+            Ok(ProcessResult::Done)
+        }
+    }
+}
