@@ -36,6 +36,14 @@ pub enum Kind {
     BrokenBodyEnds,
     /// So many `<x-x>`, and then so many `</y-y>`.
     Strangers,
+    /// So many `<b>`, none of them closed.
+    Bolds,
+    /// So many paragraphs, each in a block in the next.
+    Paragraphs,
+    /// Formatting elements that are closed inside paragraphs which begin in them.
+    Misnested,
+    /// Formatting elements that are closed in the order in which they begin.
+    Crossed,
 }
 
 const FLAT_FRONT: &str = "<!DOCTYPE html>\n<html><head></head><body>\n";
@@ -88,6 +96,10 @@ pub fn kind_named(name: &str) -> Option<Kind> {
         "body-ends" => Some(Kind::BodyEnds),
         "broken-body-ends" => Some(Kind::BrokenBodyEnds),
         "strangers" => Some(Kind::Strangers),
+        "bolds" => Some(Kind::Bolds),
+        "paragraphs" => Some(Kind::Paragraphs),
+        "misnested" => Some(Kind::Misnested),
+        "crossed" => Some(Kind::Crossed),
         _ => None,
     }
 }
@@ -175,5 +187,15 @@ pub fn make_text(alloc: Global, kind: Kind, size: usize) -> Result<String, Alloc
         Kind::BodyEnds => doubled(alloc, "", "<b>", "</body>", size),
         Kind::BrokenBodyEnds => doubled(alloc, "", "<x-x>", "</body>z", size),
         Kind::Strangers => doubled(alloc, "", "<x-x>", "</y-y>", size),
+        Kind::Bolds => repeated(alloc, "<!DOCTYPE html>", "<b>", "", size),
+        Kind::Paragraphs => doubled(alloc, "<!DOCTYPE html>", "<div><p>x", "</div>", size),
+        Kind::Misnested => filled(
+            alloc,
+            "<!DOCTYPE html>",
+            "<b>1<i>2<p>3</b>4</i>5</p>",
+            "",
+            size,
+        ),
+        Kind::Crossed => filled(alloc, "<!DOCTYPE html>", "<b>1<i>2</b>3</i>4", "", size),
     }
 }

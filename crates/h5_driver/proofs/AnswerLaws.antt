@@ -1,14 +1,11 @@
 -- A builder that works answers "go on" to every token.
-use Rattle.std.proofs.Common.{◌≡◌, ℕ, zero, suc, ◌+◌, Bool, true, false, not, ◌&&◌, List, [], ◌∷◌, Option, Some, None, length, codes, refl, ap, ◌∙◌, arith}
+use Rattle.std.proofs.Common.{◌≡◌, ℕ, zero, suc, ◌+◌, Bool, true, false, not, ◌&&◌, List, [], ◌∷◌, Option, Some, None, length, codes, refl, ap, ◌∙◌}
 use Rattle.h5_token.specs.Reply.{Continues}
 use Rattle.h5_token.specs.TokenText.{TagText, TokenText, DoctypeIs, TagIs, CommentIs, Characters, NullCharacter, EndOfFile, ParseErrorIs}
 use Rattle.h5_token.specs.declared.tag.TagKind.{TagKind}
 use Rattle.h5_token.specs.declared.tag.TagKind.TheVariants.{StartTag, EndTag}
 use Rattle.h5_interface.specs.SinkChoices.{SinkChoices}
 use Rattle.h5_interface.specs.declared.marks.QuirksMode.TheVariants.{Quirks}
-use Rattle.h5_names.specs.KnownNames.{known_name_of}
-use Rattle.h5_names.specs.declared.known_name.KnownName.{KnownName}
-use Rattle.h5_names.specs.declared.known_name.KnownName.TheVariants.{Html, Head, Body, Br}
 use Rattle.h5_types.specs.TurnText.{TurnText, TagTurn, CommentTurn, TextTurn, NullTurn, EofTurn}
 use Rattle.h5_types.specs.declared.modes.InsertionMode.{InsertionMode}
 use Rattle.h5_types.specs.declared.modes.InsertionMode.TheVariants.{Initial, BeforeHtml, BeforeHead, InHead, AfterHead, InBody, AfterBody, AfterAfterBody}
@@ -88,7 +85,7 @@ in_body StartTag tag w = silent_by_name in_body_start in_body_start_other tag w 
   start_html tag w,
   (
     choose_silent (second_is (codes "body") (names_of w) && not (has_template (names_of w))) (errs (SetFramesetNotOk ∷ AddAttrsToSecond tag.attrs ∷ []) IsDone) ignored tt tt,
-    (tt, (tt, tt)),
+    (tt, (tt, (tt, (tt, (tt, (tt, tt)))))),
   ),
 ) tt
 in_body EndTag tag w = silent_by_name in_body_end in_body_end_other tag w (
@@ -99,7 +96,7 @@ in_body EndTag tag w = silent_by_name in_body_end in_body_end_other tag w (
       choose_silent (in_scope (is_html_named tag.name) is_default_scope (names_of w)) (row_if (current_is tag.name w) (GenerateImpliedEnd ∷ PopUntilNamed tag.name ∷ []) IsDone) ignored tt tt,
       (
         choose_silent (has_p_in_button_scope (names_of w)) (row_if (current_is (codes "p") w) (ClosePElement ∷ []) IsDone) (errs (InsertElement (codes "p") [] false ∷ ClosePElement ∷ []) IsDone) tt tt,
-        (choose_silent (in_scope is_heading is_default_scope (names_of w)) (row_if (current_is tag.name w) (GenerateImpliedEnd ∷ PopUntilHeading ∷ []) IsDone) ignored tt tt, tt),
+        (choose_silent (in_scope is_heading is_default_scope (names_of w)) (row_if (current_is tag.name w) (GenerateImpliedEnd ∷ PopUntilHeading ∷ []) IsDone) ignored tt tt, (tt, (tt, tt))),
       ),
     ),
   ),

@@ -12,11 +12,12 @@ use Rattle.h5_fits.proofs.BoolLaws.{or_first}
 pub in_set : (set : List (List ℕ)) (t : List ℕ) (n : QualName) → is_one_of set t ≡ true → is_html_named t n ≡ true → (is_same_text n.ns html_namespace && is_one_of set n.local) ≡ true
 in_set set t n h e = ap (λ b. b && is_one_of set n.local) (named_ns t n e) ∙ ap (is_one_of set) (named_local t n e) ∙ h
 
-default_named : (t : List ℕ) (n : QualName) → is_one_of scope_names t ≡ true → is_html_named t n ≡ true → is_default_scope n ≡ true
+-- an element of such a name ends the default scope, or is special
+pub default_named : (t : List ℕ) (n : QualName) → is_one_of scope_names t ≡ true → is_html_named t n ≡ true → is_default_scope n ≡ true
 unfolding is_default_scope
 default_named t n h e = or_first (is_same_text n.ns html_namespace && is_one_of scope_names n.local) _ (in_set scope_names t n h e)
 
-special_named : (t : List ℕ) (n : QualName) → is_one_of special_names t ≡ true → is_html_named t n ≡ true → is_special n ≡ true
+pub special_named : (t : List ℕ) (n : QualName) → is_one_of special_names t ≡ true → is_html_named t n ≡ true → is_special n ≡ true
 unfolding is_special
 special_named t n h e = in_set special_names t n h e
 

@@ -73,8 +73,8 @@ open_cut is stop (n ∷ ns) f c h = at (is n) (stop n) refl c (open_cut is stop 
     at false true e k r = absurd (cc)
     at false false e k r = r k (pop_more ns k h)
 
--- an end tag but `html`, where nothing special comes before what it names
-not_html : (local : List ℕ) → is_same_text local (codes "html") ≡ false → (n : QualName) → is_html_named local n ≡ true → is_html_named (codes "html") n ≡ false
+-- an element of another name isn't `html`
+pub not_html : (local : List ℕ) → is_same_text local (codes "html") ≡ false → (n : QualName) → is_html_named local n ≡ true → is_html_named (codes "html") n ≡ false
 not_html local e n h = at (is_html_named (codes "html") n) refl
   where
     at : (b : Bool) → is_html_named (codes "html") n ≡ b → b ≡ false
@@ -84,6 +84,7 @@ not_html local e n h = at (is_html_named (codes "html") n) refl
 pub open_implied : (local : List ℕ) (ns : List QualName) → IsRootOpen ns → IsRootOpen (drop_while (is_implied_but local) ns)
 open_implied local ns h = open_while (is_implied_but local) ns (λ n k. implied_not_html n (and_not (is_implied n) (is_html_named local n) k).0) h
 
+-- an end tag but `html`, where nothing special comes before what it names
 pub open_ended : (local : List ℕ) (ns : List QualName) → is_same_text local (codes "html") ≡ false → comes_before_special local ns ≡ true → IsRootOpen ns
     → IsRootOpen (cut_names (is_html_named local) (drop_while (is_implied_but local) ns))
 open_ended local ns e c h =

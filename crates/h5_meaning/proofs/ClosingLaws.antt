@@ -192,11 +192,12 @@ pop_sound choices w k =
     let marks = choices.marks_after_pop w.forest (current w) in
     all_rearranged w.forest (mark marks w.forest) (but_first w.stack) less (mark_rearranges w.forest marks less.stands.is_forest)
 
-while_sound : (choices : SinkChoices) (popped : QualName → Bool) (ns : List QualName) (w : World) → Sound w → Sound (pop_while choices popped ns w)
-while_sound choices popped [] w k = k
-while_sound choices popped (n ∷ ns) w k =
-    elim (popped n) as (λ b. Sound (cond b (pop_while choices popped ns (pop choices w)) w)) [
-      | true ↦ while_sound choices popped ns (pop choices w) (pop_sound choices w k)
+-- what each pop keeps, all keep
+pub while_holds : (P : World → Type 0) (choices : SinkChoices) (popped : QualName → Bool) → ((v : World) → P v → P (pop choices v)) → (ns : List QualName) (w : World) → P w → P (pop_while choices popped ns w)
+while_holds P choices popped one [] w k = k
+while_holds P choices popped one (n ∷ ns) w k =
+    elim (popped n) as (λ b. P (cond b (pop_while choices popped ns (pop choices w)) w)) [
+      | true ↦ while_holds P choices popped one ns (pop choices w) (one w k)
       | false ↦ k
     ]
 
@@ -204,7 +205,7 @@ pub close_p_sound : (choices : SinkChoices) (w : World) → Sound w → Sound (c
 unfolding close_p_element generate_implied_end_except pop_until_named
 close_p_sound choices w k =
     let v = generate_implied_end_except choices (codes "p") w in
-    all_cut v.forest (is_html_named (codes "p")) (names_of v) v.stack (while_sound choices (is_implied_but (codes "p")) (names_of w) w k)
+    all_cut v.forest (is_html_named (codes "p")) (names_of v) v.stack (while_holds Sound choices (is_implied_but (codes "p")) (pop_sound choices) (names_of w) w k)
 
 pub close_p_in_scope_sound : (choices : SinkChoices) (w : World) → Sound w → Sound (close_p_element_in_button_scope choices w)
 unfolding close_p_element_in_button_scope

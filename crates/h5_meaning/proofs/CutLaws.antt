@@ -9,6 +9,7 @@ use Rattle.h5_types.specs.declared.modes.SplitStatus.TheVariants.{NotWhitespace}
 use Rattle.h5_types.specs.declared.modes.InsertionMode.TheVariants.{Initial, BeforeHtml, BeforeHead, InHead, AfterHead, InBody, AfterBody, AfterAfterBody}
 use Rattle.h5_meaning.specs.Blanks.{is_blank, all_blank, blanks_of, rest_of}
 use Rattle.h5_meaning.specs.Changes.{append_text, set_frameset_ok_by_text, with_forest}
+use Rattle.h5_meaning.specs.Formatting.{reconstruct_active_formatting_elements}
 use Rattle.h5_meaning.specs.AfterBody.{back_to_body}
 use Rattle.h5_meaning.specs.AfterHead.{after_head_else}
 use Rattle.h5_meaning.specs.BeforeHead.{before_head_else}
@@ -19,7 +20,9 @@ use Rattle.h5_meaning.specs.Rows.{Row, choose}
 use Rattle.h5_meaning.specs.Text.{after_row, if_any, split, dropped, by_else, text_in_body, text_after_body, text_after_head, text_in_head, text_before_head, text_before_html, text_initial, text_in, text_rule}
 use Rattle.h5_meaning.specs.Place.{appropriate_place, place, put}
 use Rattle.h5_meaning.specs.World.{World}
+use Rattle.h5_meaning.proofs.FormattingLaws.{reconstruct_after_flag_and_text}
 use Rattle.h5_meaning.proofs.TextForestLaws.{place_same, put_text_twice, text_same}
+use Rattle.h5_meaning.proofs.TreeLaws.{tree_reconstruct}
 
 -- a text is blank, or has a rest at which its front ends
 pub data Cut (t u : List ℕ) : Type 0 where
@@ -70,12 +73,26 @@ ok_twice o t u = and_assoc o (all_blank t) (all_blank u) ∙ ap (λ b. o && b) (
 abbrev with_text : World → Forest → Bool → World
 with_text w f o = record w { forest = f; frameset_ok = o }
 
-in_body_twice : Blanks text_in_body
-unfolding text_in_body append_text set_frameset_ok_by_text appropriate_place
-in_body_twice = record {
-  twice = λ t u w. ap (λ f. with_text w f ((w.frameset_ok && all_blank t) && all_blank u)) (forest_twice t u w)
-      ∙ ap (λ o. with_text w (put (place w) (ChildText (t ++ u)) w.forest) o) (ok_twice w.frameset_ok t u);
-  mode = λ t w. refl;
+-- a text as the body takes it, where all active formatting elements are open
+abbrev plain_text : List ℕ → World → World
+plain_text t w = append_text t (set_frameset_ok_by_text t w)
+
+plain_twice : (t u : List ℕ) (w : World) → plain_text u (plain_text t w) ≡ plain_text (t ++ u) w
+unfolding append_text set_frameset_ok_by_text appropriate_place
+plain_twice t u w =
+    ap (λ f. with_text w f ((w.frameset_ok && all_blank t) && all_blank u)) (forest_twice t u w)
+    ∙ ap (λ o. with_text w (put (place w) (ChildText (t ++ u)) w.forest) o) (ok_twice w.frameset_ok t u)
+
+plain_mode : (t : List ℕ) (w : World) → (plain_text t w).mode ≡ w.mode
+unfolding append_text set_frameset_ok_by_text
+plain_mode t w = refl
+
+-- after a text nothing is reconstructed any more
+in_body_twice : (choices : SinkChoices) → Blanks (text_in_body choices)
+unfolding text_in_body
+in_body_twice choices = record {
+  twice = λ t u w. ap (plain_text u) (reconstruct_after_flag_and_text choices t w) ∙ plain_twice t u (reconstruct_active_formatting_elements choices w);
+  mode = λ t w. plain_mode t (reconstruct_active_formatting_elements choices w) ∙ ap (λ (v : World). v.mode) (tree_reconstruct choices w);
 }
 
 any_mode : (f : List ℕ → World → World) → Blanks f → (t : List ℕ) (w : World) → (if_any f t w).mode ≡ w.mode
@@ -145,23 +162,23 @@ by_mode choices m t w h = ap (λ k. text_in k choices t w) h
 
 in_body_holds : (choices : SinkChoices) → Holds choices InBody
 in_body_holds choices b t d u w h =
-    sym (in_body_twice.twice (b ∷ t) (d ∷ u) w)
-    ∙ sym (by_mode choices InBody (d ∷ u) (text_in_body (b ∷ t) w) (in_body_twice.mode (b ∷ t) w ∙ h))
+    sym ((in_body_twice choices).twice (b ∷ t) (d ∷ u) w)
+    ∙ sym (by_mode choices InBody (d ∷ u) (text_in_body choices (b ∷ t) w) ((in_body_twice choices).mode (b ∷ t) w ∙ h))
 
 after_body_holds : (choices : SinkChoices) → Holds choices AfterBody
 unfolding text_after_body
 after_body_holds choices b t d u w h =
-    split_cut choices AfterBody text_in_body (by_else choices back_to_body text_in_body) in_body_twice (else_law choices back_to_body InBody (leads_back choices) (in_body_holds choices)) (λ s v e. by_mode choices AfterBody s v e) (b ∷ t) d u w h (cut (b ∷ t) (d ∷ u))
+    split_cut choices AfterBody (text_in_body choices) (by_else choices back_to_body (text_in_body choices)) (in_body_twice choices) (else_law choices back_to_body InBody (leads_back choices) (in_body_holds choices)) (λ s v e. by_mode choices AfterBody s v e) (b ∷ t) d u w h (cut (b ∷ t) (d ∷ u))
 
 after_after_body_holds : (choices : SinkChoices) → Holds choices AfterAfterBody
 unfolding text_after_body
 after_after_body_holds choices b t d u w h =
-    split_cut choices AfterAfterBody text_in_body (by_else choices back_to_body text_in_body) in_body_twice (else_law choices back_to_body InBody (leads_back choices) (in_body_holds choices)) (λ s v e. by_mode choices AfterAfterBody s v e) (b ∷ t) d u w h (cut (b ∷ t) (d ∷ u))
+    split_cut choices AfterAfterBody (text_in_body choices) (by_else choices back_to_body (text_in_body choices)) (in_body_twice choices) (else_law choices back_to_body InBody (leads_back choices) (in_body_holds choices)) (λ s v e. by_mode choices AfterAfterBody s v e) (b ∷ t) d u w h (cut (b ∷ t) (d ∷ u))
 
 after_head_holds : (choices : SinkChoices) → Holds choices AfterHead
 unfolding text_after_head
 after_head_holds choices b t d u w h =
-    split_cut choices AfterHead append_text (by_else choices after_head_else text_in_body) appends (else_law choices after_head_else InBody (leads_after_head choices) (in_body_holds choices)) (λ s v e. by_mode choices AfterHead s v e) (b ∷ t) d u w h (cut (b ∷ t) (d ∷ u))
+    split_cut choices AfterHead append_text (by_else choices after_head_else (text_in_body choices)) appends (else_law choices after_head_else InBody (leads_after_head choices) (in_body_holds choices)) (λ s v e. by_mode choices AfterHead s v e) (b ∷ t) d u w h (cut (b ∷ t) (d ∷ u))
 
 in_head_holds : (choices : SinkChoices) → Holds choices InHead
 unfolding text_in_head

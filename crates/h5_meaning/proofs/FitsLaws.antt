@@ -16,12 +16,12 @@ use Rattle.h5_types.specs.declared.turns.ProcessResult.TheVariants as results
 use Rattle.h5_fits.specs.Fits.{Situation, is_before_root}
 use Rattle.h5_fits.specs.StageFits.{IsRootAlone, IsRootOpen, StageFits}
 use Rattle.h5_fits.proofs.RoleLaws.{made_named}
-use Rattle.h5_fits.proofs.StageLaws.{stage_body_pushed, stage_ended, stage_head_popped, stage_head_pushed, stage_pushed, stage_root_pushed, stage_situation, stage_some, open_push}
+use Rattle.h5_fits.proofs.StageLaws.{stage_body_pushed, stage_ended, stage_head_popped, stage_head_pushed, stage_root_pushed, stage_situation, stage_some, open_push}
 use Rattle.h5_meaning.specs.AfterAfterBody.{after_after_body_start, after_after_body_tag}
 use Rattle.h5_meaning.specs.AfterBody.{after_body_end, after_body_start, after_body_tag, back_to_body}
 use Rattle.h5_meaning.specs.AfterHead.{after_head_else, after_head_end, after_head_start, after_head_tag}
 use Rattle.h5_meaning.specs.BeforeHead.{before_head_else, before_head_end, before_head_start, before_head_tag}
-use Rattle.h5_meaning.specs.ByName.{NonePasses, Rules, by_kind, by_name, ignored_tag, of_tag}
+use Rattle.h5_meaning.specs.ByName.{by_kind, by_name, ignored_tag, of_tag}
 use Rattle.h5_meaning.specs.BeforeHtml.{before_html_else, before_html_end, before_html_start, before_html_tag}
 use Rattle.h5_meaning.specs.Changes.{add_attrs_at, add_attrs_to_html, add_attrs_to_second, append_text, append_comment, append_comment_to_doc, append_comment_to_html, pop_until_named, set_frameset_not_ok, generate_implied_end_except, set_mode, insert_and_pop_element, insert_element, insert_head, create_root, set_frameset_ok_by_text, pop, set_quirks_mode}
 use Rattle.h5_meaning.specs.Closing.{close_p_element_in_button_scope, generate_implied_end, pop_heading}
@@ -30,15 +30,20 @@ use Rattle.h5_meaning.specs.InHead.{in_head_else, in_head_end, in_head_start, in
 use Rattle.h5_meaning.specs.InitialMode.{initial_else}
 use Rattle.h5_meaning.specs.Modes.{rule}
 use Rattle.h5_meaning.specs.Rows.{Follows, AddAttrsToHtml, AddAttrsToSecond, AdoptionAgency, Again, ClosePElement, ClosePElementInButtonScope, CreateFormattingElement, GenerateImpliedEnd, HandleMisnestedATags, HandleMisnestedNobrTags, InsertAndPopElement, PopHeading, PopUntilHeading, ReconstructActiveFormattingElements, AppendText, AppendComment, AppendCommentToDoc, AppendCommentToHtml, Change, PopUntilNamed, Ending, SetFramesetNotOk, GenerateImpliedEndExcept, InsertElement, InsertHead, CreateRoot, IsDone, SetFramesetOkByText, Pop, Row, SetMode, SetQuirksMode, apply, apply_all, choose, errs, ignored, next_mode, row, row_if}
-use Rattle.h5_meaning.specs.Shared.{in_body_start_html}
+use Rattle.h5_meaning.specs.Shared.{in_body_start_html, in_body_text}
 use Rattle.h5_stack.specs.Scope.{comes_before_special, cut_names, drop_while, has_p_in_button_scope, has_template, in_scope, is_implied_but, second_is}
-use Rattle.h5_meaning.specs.Sound.{Fits, Sound, situation_of}
+use Rattle.h5_meaning.specs.Sound.{Fits, HasLists, Sound, situation_of}
 use Rattle.h5_meaning.specs.World.{World, names_of}
 use Rattle.h5_stack.specs.FormattingNames.{html_name}
 use Rattle.h5_stack.specs.Order.{second_from_last}
+use Rattle.h5_stack.specs.Lists.{Lists}
+use Rattle.h5_meaning.proofs.ByNameLaws.{holds_by_name, holds_chosen}
 use Rattle.h5_meaning.proofs.ClosingLaws.{block_not_html, block_not_implied, close_p_in_scope_sound, heading_not_html, heading_not_implied, names-all_implied, names-close_p, names-close_p_in_scope, names-pop_heading, names-until_heading, new_p_in_scope, open_close, open_close_p, open_close_p_in_scope, open_pop_heading, pop_heading_sound}
+use Rattle.h5_meaning.proofs.ListsLaws.{IsSteady, steady_ready}
 use Rattle.h5_meaning.proofs.NameLaws.{names-add_to_root, names-add_to_second, names-append, names-append_comment, names-append_comment_to_document, names-append_comment_to_root, names-cut, names-implied, names-insert, names-insert_head, names-insert_root}
 use Rattle.h5_meaning.proofs.PopLaws.{names-pop, names_length}
+use Rattle.h5_meaning.proofs.ReadyLaws.{ready_end_br, ready_end_formatting, ready_start_a, ready_start_br, ready_start_formatting, ready_start_nobr, ready_start_other, ready_text}
+use Rattle.h5_meaning.proofs.RowListsLaws.{rule_lists}
 use Rattle.h5_meaning.proofs.TreeLaws.{OnlyTree, tree_adoption, tree_close_p, tree_close_p_in_scope, tree_format, tree_implied, tree_implied_except, tree_misnested_a_tags, tree_misnested_nobr_tags, tree_pop_heading, tree_reconstruct, tree_until_heading}
 
 -- the mode that changes and an ending leave
@@ -60,7 +65,10 @@ as_before : (m : InsertionMode) (w v : World) → names_of v ≡ names_of w → 
 as_before m w v e d h =
     subst (StageFits (situation_of v) m) (sym e) (stage_situation (situation_of w) (situation_of v) m (names_of w) (λ k. ap is_some d ∙ k) h)
 
-module _ (choices : SinkChoices) (w : World) (sound : Sound w) where
+module _ (choices : SinkChoices) (w : World) (steady : IsSteady w) where
+  sound : Sound w
+  sound = steady.sound
+
   abbrev After : Row → World
   After r = apply_all choices r.changes w
 
@@ -72,8 +80,7 @@ module _ (choices : SinkChoices) (w : World) (sound : Sound w) where
   Kept m r = FitsAs m w → FitsAs (mode_with (mode_after m r.changes) (next_mode r.ending (After r))) (After r)
 
   kept_choose : (m : InsertionMode) (b : Bool) (r s : Row) → (b ≡ true → Kept m r) → Kept m s → Kept m (choose b r s)
-  kept_choose m true r s x y = x refl
-  kept_choose m false r s x y = y
+  kept_choose m b r s x y = holds_chosen (Kept m) b r s x (λ e. y)
 
   -- the root is made
   root_made : (attrs : List AttributeText) → FitsAs BeforeHtml w → FitsAs BeforeHead (create_root choices attrs w)
@@ -97,11 +104,6 @@ module _ (choices : SinkChoices) (w : World) (sound : Sound w) where
   body_pushed local attrs duplicates h =
       subst IsRootOpen (sym (names-insert choices local attrs duplicates w sound)) (stage_body_pushed here here (html_name local) (names_of w) h)
 
-  -- an element is pushed in the body
-  pushed : (local : List ℕ) (attrs : List AttributeText) (duplicates : Bool) → FitsAs InBody w → FitsAs InBody (insert_element choices local attrs duplicates w)
-  pushed local attrs duplicates h =
-      subst IsRootOpen (sym (names-insert choices local attrs duplicates w sound)) (stage_pushed here here (html_name local) (names_of w) h)
-
   kept_start_html : (m : InsertionMode) (tag : TagText) → Kept m (in_body_start_html tag w)
   unfolding in_body_start_html add_attrs_to_html
   kept_start_html m tag = kept_choose m (has_template (names_of w)) ignored (errs (AddAttrsToHtml tag.attrs ∷ []) IsDone)
@@ -120,47 +122,34 @@ module _ (choices : SinkChoices) (w : World) (sound : Sound w) where
   kept_root : Kept BeforeHtml (row (CreateRoot [] ∷ []) (Again BeforeHead))
   kept_root = root_made []
 
-  -- by the name of a tag, where each rule keeps it that the name passes; the last one is met where it passes no other
-  abbrev KeptBy : InsertionMode → TagText → Rules → Type 0
-  KeptBy m tag [] = Unit {0}
-  KeptBy m tag (x ∷ xs) = (x.0 tag.name ≡ true → Kept m (x.1 tag w)) × KeptBy m tag xs
-
-  kept_either : (m : InsertionMode) (b : Bool) (r s : Row) → (b ≡ true → Kept m r) → (b ≡ false → Kept m s) → Kept m (choose b r s)
-  kept_either m true r s x y = x refl
-  kept_either m false r s x y = y refl
-
-  kept_by_name : (m : InsertionMode) (xs : Rules) (other : TagText → World → Row) (tag : TagText) → KeptBy m tag xs → (NonePasses xs tag.name → Kept m (other tag w)) → Kept m (by_name xs other tag w)
-  kept_by_name m [] other tag k o = o tt
-  kept_by_name m (x ∷ xs) other tag k o = kept_either m (x.0 tag.name) (x.1 tag w) (by_name xs other tag w) k.0 (λ e. kept_by_name m xs other tag k.1 (λ n. o (e, n)))
-
   kept_before_html : (k : TagKind) (tag : TagText) → Kept BeforeHtml (by_kind k (by_name before_html_start (of_tag before_html_else) tag w) (by_name before_html_end ignored_tag tag w))
   unfolding before_html_start before_html_end names_of
-  kept_before_html StartTag tag = kept_by_name BeforeHtml before_html_start (of_tag before_html_else) tag ((λ p. root_made tag.attrs), tt) (λ n. kept_root)
-  kept_before_html EndTag tag = kept_by_name BeforeHtml before_html_end ignored_tag tag ((λ p. kept_root), tt) (λ n h. h)
+  kept_before_html StartTag tag = holds_by_name (Kept BeforeHtml) before_html_start (of_tag before_html_else) tag w ((λ p. root_made tag.attrs), tt) (λ n. kept_root)
+  kept_before_html EndTag tag = holds_by_name (Kept BeforeHtml) before_html_end ignored_tag tag w ((λ p. kept_root), tt) (λ n h. h)
 
   kept_head : Kept BeforeHead (row (InsertHead [] false ∷ []) (Again InHead))
   kept_head = head_pushed [] false
 
   kept_before_head : (k : TagKind) (tag : TagText) → Kept BeforeHead (by_kind k (by_name before_head_start (of_tag before_head_else) tag w) (by_name before_head_end ignored_tag tag w))
   unfolding before_head_start before_head_end names_of
-  kept_before_head StartTag tag = kept_by_name BeforeHead before_head_start (of_tag before_head_else) tag ((λ p. kept_start_html BeforeHead tag), ((λ p h. head_pushed tag.attrs tag.had_duplicate_attributes h), tt)) (λ n. kept_head)
-  kept_before_head EndTag tag = kept_by_name BeforeHead before_head_end ignored_tag tag ((λ p. kept_head), tt) (λ n h. h)
+  kept_before_head StartTag tag = holds_by_name (Kept BeforeHead) before_head_start (of_tag before_head_else) tag w ((λ p. kept_start_html BeforeHead tag), ((λ p h. head_pushed tag.attrs tag.had_duplicate_attributes h), tt)) (λ n. kept_head)
+  kept_before_head EndTag tag = holds_by_name (Kept BeforeHead) before_head_end ignored_tag tag w ((λ p. kept_head), tt) (λ n h. h)
 
   kept_pop : Kept InHead (row (Pop ∷ []) (Again AfterHead))
   kept_pop = head_popped
 
   kept_in_head : (k : TagKind) (tag : TagText) → Kept InHead (by_kind k (by_name in_head_start (of_tag in_head_else) tag w) (by_name in_head_end ignored_tag tag w))
   unfolding in_head_start in_head_end names_of
-  kept_in_head StartTag tag = kept_by_name InHead in_head_start (of_tag in_head_else) tag ((λ p. kept_start_html InHead tag), ((λ p h. h), tt)) (λ n. kept_pop)
-  kept_in_head EndTag tag = kept_by_name InHead in_head_end ignored_tag tag ((λ p. head_popped), ((λ p. kept_pop), tt)) (λ n h. h)
+  kept_in_head StartTag tag = holds_by_name (Kept InHead) in_head_start (of_tag in_head_else) tag w ((λ p. kept_start_html InHead tag), ((λ p h. h), tt)) (λ n. kept_pop)
+  kept_in_head EndTag tag = holds_by_name (Kept InHead) in_head_end ignored_tag tag w ((λ p. head_popped), ((λ p. kept_pop), tt)) (λ n h. h)
 
   kept_body : Kept AfterHead (row (InsertElement (codes "body") [] false ∷ []) (Again InBody))
   kept_body = body_pushed (codes "body") [] false
 
   kept_after_head : (k : TagKind) (tag : TagText) → Kept AfterHead (by_kind k (by_name after_head_start (of_tag after_head_else) tag w) (by_name after_head_end ignored_tag tag w))
   unfolding after_head_start after_head_end names_of
-  kept_after_head StartTag tag = kept_by_name AfterHead after_head_start (of_tag after_head_else) tag ((λ p. kept_start_html AfterHead tag), ((λ p h. body_pushed tag.name tag.attrs tag.had_duplicate_attributes h), ((λ p h. h), tt))) (λ n. kept_body)
-  kept_after_head EndTag tag = kept_by_name AfterHead after_head_end ignored_tag tag ((λ p h. h), ((λ p. kept_body), tt)) (λ n h. h)
+  kept_after_head StartTag tag = holds_by_name (Kept AfterHead) after_head_start (of_tag after_head_else) tag w ((λ p. kept_start_html AfterHead tag), ((λ p h. body_pushed tag.name tag.attrs tag.had_duplicate_attributes h), ((λ p h. h), tt))) (λ n. kept_body)
+  kept_after_head EndTag tag = holds_by_name (Kept AfterHead) after_head_end ignored_tag tag w ((λ p h. h), ((λ p. kept_body), tt)) (λ n h. h)
 
   kept_second : (tag : TagText) → Kept InBody (errs (SetFramesetNotOk ∷ AddAttrsToSecond tag.attrs ∷ []) IsDone)
   unfolding names_of
@@ -231,21 +220,47 @@ module _ (choices : SinkChoices) (w : World) (sound : Sound w) where
 
   kept_in_body : (k : TagKind) (tag : TagText) → Kept InBody (by_kind k (by_name in_body_start in_body_start_other tag w) (by_name in_body_end in_body_end_other tag w))
   unfolding in_body_start in_body_end names_of
-  kept_in_body StartTag tag = kept_by_name InBody in_body_start in_body_start_other tag
-      ((λ p. kept_start_html InBody tag), ((λ p. kept_start_body tag), ((λ p. kept_start_block tag), ((λ p. kept_start_heading tag), tt))))
-      (λ n h. pushed tag.name tag.attrs tag.had_duplicate_attributes h)
-  kept_in_body EndTag tag = kept_by_name InBody in_body_end in_body_end_other tag (
+  kept_in_body StartTag tag = holds_by_name (Kept InBody) in_body_start in_body_start_other tag w (
+    (λ p. kept_start_html InBody tag),
+    (
+      (λ p. kept_start_body tag),
+      (
+        (λ p. kept_start_block tag),
+        (
+          (λ p. kept_start_heading tag),
+          (
+            (λ p h. (ready_start_a choices w (steady_ready w steady h) tag p).root),
+            (
+              (λ p h. (ready_start_nobr choices w (steady_ready w steady h) tag p).root),
+              ((λ p h. (ready_start_formatting choices w (steady_ready w steady h) tag p).root), ((λ p h. (ready_start_br choices w (steady_ready w steady h) tag).root), tt)),
+            ),
+          ),
+        ),
+      ),
+    ),
+  )
+      (λ n h. (ready_start_other choices w (steady_ready w steady h) tag).root)
+  kept_in_body EndTag tag = holds_by_name (Kept InBody) in_body_end in_body_end_other tag w (
     (λ p. kept_if_body InBody (body_ends [] (Again AfterBody) w) (λ k. k)),
     (
       (λ p. kept_if_body InBody (body_ends (SetMode AfterBody ∷ []) IsDone w) (λ k. k)),
-      ((λ p. kept_end_block tag p), ((λ p. kept_end_p tag), ((λ p. kept_end_heading tag), tt))),
+      (
+        (λ p. kept_end_block tag p),
+        (
+          (λ p. kept_end_p tag),
+          (
+            (λ p. kept_end_heading tag),
+            ((λ p h. (ready_end_formatting choices w (steady_ready w steady h) tag p).root), ((λ p h. (ready_end_br choices w (steady_ready w steady h) tag).root), tt)),
+          ),
+        ),
+      ),
     ),
   )
       (λ n. kept_end_other tag n.0)
 
-  kept_text_in_body : (m : InsertionMode) (t : List ℕ) → t ≢ [] → Kept m (row (SetFramesetOkByText t ∷ AppendText t ∷ []) IsDone)
-  unfolding append_text names_of set_frameset_ok_by_text
-  kept_text_in_body m t some = as_before m w (append_text t (set_frameset_ok_by_text t w)) (names-append t (set_frameset_ok_by_text t w) some sound) refl
+  -- a text, in the body and after it
+  kept_text_in_body : (t : List ℕ) → t ≢ [] → Kept InBody (in_body_text t w)
+  kept_text_in_body t some h = (ready_text choices w (steady_ready w steady h) t some).root
 
   kept_append : (m : InsertionMode) (t : List ℕ) → t ≢ [] → Kept m (row (AppendText t ∷ []) IsDone)
   unfolding append_text
@@ -265,12 +280,12 @@ module _ (choices : SinkChoices) (w : World) (sound : Sound w) where
 
   kept_after_body : (k : TagKind) (tag : TagText) → Kept AfterBody (by_kind k (by_name after_body_start (of_tag back_to_body) tag w) (by_name after_body_end (of_tag back_to_body) tag w))
   unfolding after_body_start after_body_end names_of
-  kept_after_body StartTag tag = kept_by_name AfterBody after_body_start (of_tag back_to_body) tag ((λ p. kept_start_html AfterBody tag), tt) (λ n h. h)
-  kept_after_body EndTag tag = kept_by_name AfterBody after_body_end (of_tag back_to_body) tag ((λ p h. h), tt) (λ n h. h)
+  kept_after_body StartTag tag = holds_by_name (Kept AfterBody) after_body_start (of_tag back_to_body) tag w ((λ p. kept_start_html AfterBody tag), tt) (λ n h. h)
+  kept_after_body EndTag tag = holds_by_name (Kept AfterBody) after_body_end (of_tag back_to_body) tag w ((λ p h. h), tt) (λ n h. h)
 
   kept_after_after_body : (k : TagKind) (tag : TagText) → Kept AfterAfterBody (by_kind k (by_name after_after_body_start (of_tag back_to_body) tag w) (back_to_body (TagTurn tag) w))
   unfolding after_after_body_start
-  kept_after_after_body StartTag tag = kept_by_name AfterAfterBody after_after_body_start (of_tag back_to_body) tag ((λ p. kept_start_html AfterAfterBody tag), tt) (λ n h. h)
+  kept_after_after_body StartTag tag = holds_by_name (Kept AfterAfterBody) after_after_body_start (of_tag back_to_body) tag w ((λ p. kept_start_html AfterAfterBody tag), tt) (λ n h. h)
   kept_after_after_body EndTag tag = λ h. h
 
   kept_tag : (m : InsertionMode) (tag : TagText) → Kept m (rule m (TagTurn tag) w)
@@ -302,9 +317,9 @@ module _ (choices : SinkChoices) (w : World) (sound : Sound w) where
   kept_blank BeforeHead x some = λ h. h
   kept_blank InHead x some = kept_append InHead x some
   kept_blank AfterHead x some = kept_append AfterHead x some
-  kept_blank InBody x some = kept_text_in_body InBody x some
-  kept_blank AfterBody x some = kept_text_in_body AfterBody x some
-  kept_blank AfterAfterBody x some = kept_text_in_body AfterAfterBody x some
+  kept_blank InBody x some = kept_text_in_body x some
+  kept_blank AfterBody x some = kept_text_in_body x some
+  kept_blank AfterAfterBody x some = kept_text_in_body x some
   kept_blank _ x some = λ h. h
 
   -- a null, in most modes handled as anything else
@@ -318,12 +333,12 @@ module _ (choices : SinkChoices) (w : World) (sound : Sound w) where
 
   kept_solid : (m : InsertionMode) (x : List ℕ) → x ≢ [] → Kept m (rule m (TextTurn NotWhitespace x) w)
   unfolding initial_else
-  kept_solid InBody x some = kept_text_in_body InBody x some
+  kept_solid InBody x some = kept_text_in_body x some
   kept_solid m x some = kept_null m
 
   kept_whole : (m : InsertionMode) (x : List ℕ) → x ≢ [] → Kept m (rule m (TextTurn NotSplit x) w)
   unfolding initial_else
-  kept_whole InBody x some = kept_text_in_body InBody x some
+  kept_whole InBody x some = kept_text_in_body x some
   kept_whole m x some = kept_null m
 
   kept_end : (m : InsertionMode) → Kept m (rule m EofTurn w)
@@ -388,24 +403,34 @@ changes_mode choices [] w = refl
 changes_mode choices (x ∷ xs) w =
     changes_mode choices xs (apply choices x w) ∙ ap (λ m. mode_after m xs) (change_mode choices x w) ∙ mode_in_turn w.mode x xs
 
--- what an ending leaves fits
+-- open elements that fit a mode, and a list that agrees with them, fit where the mode is set
+fits_set : (m : InsertionMode) (w : World) → FitsAs m w → HasLists w → Fits (set_mode m w)
+unfolding names_of
+fits_set m w h lists = record { mode = h; lists = lists }
+
+-- what an ending leaves fits: the world, in the mode of another turn where one is taken
 abbrev pub FitsAfter : Ending → World → Type 0
-FitsAfter e w = FitsAs (mode_with w.mode (next_mode e w)) w
+FitsAfter e w = Fits (set_mode (mode_with w.mode (next_mode e w)) w)
 
 pub rule_fits : (choices : SinkChoices) (t : TurnText) (w : World) → Sound w → HasText t → Fits w → FitsAfter (rule w.mode t w).ending (apply_all choices (rule w.mode t w).changes w)
 rule_fits choices t w k some h =
     let r = rule w.mode t w in
     let v = apply_all choices r.changes w in
-    subst (λ m. FitsAs (mode_with m (next_mode r.ending v)) v) (sym (changes_mode choices r.changes w)) (kept_rule choices w k w.mode t some h)
+    fits_set (mode_with v.mode (next_mode r.ending v)) v
+    (subst (λ m. FitsAs (mode_with m (next_mode r.ending v)) v) (sym (changes_mode choices r.changes w)) (kept_rule choices w (record { sound = k; lists = h.lists }) w.mode t some h.mode))
+    (rule_lists choices t w k some h)
 
--- where neither open elements nor mode nor head change
-pub fits_kept : (w v : World) → v.mode ≡ w.mode → names_of v ≡ names_of w → v.head ≡ w.head → Fits w → Fits v
-fits_kept w v same e d h = subst (λ m. FitsAs m v) (sym same) (as_before w.mode w v e d h)
+-- where neither open elements nor the list nor mode nor head change
+pub fits_kept : (w v : World) → v.mode ≡ w.mode → names_of v ≡ names_of w → v.head ≡ w.head → v.stack ≡ w.stack → v.formatting ≡ w.formatting → Fits w → Fits v
+fits_kept w v same e d stack list h = record {
+  mode = subst (λ m. FitsAs m v) (sym same) (as_before w.mode w v e d h.mode);
+  lists = subst (λ s. Lists s v.formatting) (sym stack) (subst (Lists w.stack) (sym list) h.lists);
+}
 
 -- once the root has been made an element is open
 pub enough_open : (w : World) (m : InsertionMode) → w.mode ≡ m → is_before_root m ≡ false → Fits w → 0 < length w.stack
 enough_open w m e after h =
-    subst (λ n. 0 < n) (sym (names_length w)) (stage_some (situation_of w) m (names_of w) after (subst (λ k. FitsAs k w) e h))
+    subst (λ n. 0 < n) (sym (names_length w)) (stage_some (situation_of w) m (names_of w) after (subst (λ k. FitsAs k w) e h.mode))
 
 follows_fits : {H : Type 0} (choices : SinkChoices) (node : H → ℕ) (t : TurnText) (w v : World) (a b : ℕ) (result : ProcessResult H) → Follows choices node (rule w.mode t w) t w v a b result → Sound w → HasText t → Fits w → FitsAfter (rule w.mode t w).ending v
 follows_fits choices node t w v a b result f k some h = subst (FitsAfter (rule w.mode t w).ending) (sym f.world) (rule_fits choices t w k some h)
@@ -420,6 +445,5 @@ pub fits_answered : {H : Type 0} (choices : SinkChoices) (node : H → ℕ) (t :
 fits_answered choices node t w v a b answer f k some h = subst (λ e. FitsAfter e v) f.ending (follows_fits choices node t w v a b (results.Answer answer) f k some h)
 
 pub fits_again : {H : Type 0} (choices : SinkChoices) (node : H → ℕ) (t : TurnText) (w v u : World) (a b : ℕ) (m : InsertionMode) (token : _) → Follows choices node (rule w.mode t w) t w v a b (results.Reprocess m token) → u ≡ set_mode m v → Sound w → HasText t → Fits w → Fits u
-unfolding names_of
 fits_again choices node t w v u a b m token f i k some h =
-    subst Fits (sym i) (subst (λ o. FitsAs (mode_with v.mode o) v) f.ending.0 (follows_fits choices node t w v a b (results.Reprocess m token) f k some h))
+    subst Fits (sym i) (subst (λ o. Fits (set_mode (mode_with v.mode o) v)) f.ending.0 (follows_fits choices node t w v a b (results.Reprocess m token) f k some h))

@@ -1,5 +1,5 @@
 -- No text sets the newline flag.
-use Rattle.std.proofs.Common.{◌≡◌, ℕ, true, false, List, [], ◌∷◌, refl, ◌∙◌}
+use Rattle.std.proofs.Common.{◌≡◌, ℕ, true, false, List, [], ◌∷◌, refl, ap, ◌∙◌}
 use Rattle.h5_interface.specs.SinkChoices.{SinkChoices}
 use Rattle.h5_types.specs.TurnText.{TextTurn, TurnText}
 use Rattle.h5_types.specs.declared.modes.InsertionMode.{InsertionMode}
@@ -16,6 +16,7 @@ use Rattle.h5_meaning.specs.InitialMode.{initial_else}
 use Rattle.h5_meaning.specs.Rows.{Row, choose}
 use Rattle.h5_meaning.specs.Text.{after_row, if_any, split, dropped, by_else, text_in_body, text_after_body, text_after_head, text_in_head, text_before_head, text_before_html, text_initial, text_in, text_rule}
 use Rattle.h5_meaning.specs.World.{World}
+use Rattle.h5_meaning.proofs.TreeLaws.{tree_reconstruct}
 
 abbrev Keeps : (List ℕ → World → World) → Type 0
 Keeps f = (t : List ℕ) (w : World) → (f t w).ignore_lf ≡ w.ignore_lf
@@ -34,17 +35,17 @@ append_keeps : Keeps append_text
 unfolding append_text
 append_keeps t w = refl
 
-body_keeps : Keeps text_in_body
+body_keeps : (choices : SinkChoices) → Keeps (text_in_body choices)
 unfolding text_in_body append_text set_frameset_ok_by_text
-body_keeps t w = refl
+body_keeps choices t w = ap (λ (v : World). v.ignore_lf) (tree_reconstruct choices w)
 
 after_body_keeps : (choices : SinkChoices) → Keeps (text_after_body choices)
 unfolding text_after_body
-after_body_keeps choices = split_keeps text_in_body (by_else choices back_to_body text_in_body) body_keeps (else_keeps choices back_to_body text_in_body body_keeps (λ t w. refl))
+after_body_keeps choices = split_keeps (text_in_body choices) (by_else choices back_to_body (text_in_body choices)) (body_keeps choices) (else_keeps choices back_to_body (text_in_body choices) (body_keeps choices) (λ t w. refl))
 
 after_head_keeps : (choices : SinkChoices) → Keeps (text_after_head choices)
 unfolding text_after_head insert_element
-after_head_keeps choices = split_keeps append_text (by_else choices after_head_else text_in_body) append_keeps (else_keeps choices after_head_else text_in_body body_keeps (λ t w. refl))
+after_head_keeps choices = split_keeps append_text (by_else choices after_head_else (text_in_body choices)) append_keeps (else_keeps choices after_head_else (text_in_body choices) (body_keeps choices) (λ t w. refl))
 
 in_head_keeps : (choices : SinkChoices) → Keeps (text_in_head choices)
 unfolding text_in_head pop
@@ -72,7 +73,7 @@ in_keeps choices BeforeHtml = before_html_keeps choices
 in_keeps choices BeforeHead = before_head_keeps choices
 in_keeps choices InHead = in_head_keeps choices
 in_keeps choices AfterHead = after_head_keeps choices
-in_keeps choices InBody = body_keeps
+in_keeps choices InBody = body_keeps choices
 in_keeps choices AfterBody = after_body_keeps choices
 in_keeps choices AfterAfterBody = after_body_keeps choices
 in_keeps choices _ = λ t w. refl

@@ -7,7 +7,7 @@ use Rattle.h5_interface.specs.SinkChoices.{Rearranges, SinkChoices}
 use Rattle.h5_interface.proofs.ForestLaws.{document_is_node}
 use Rattle.h5_interface.proofs.MakingLaws.{add_missing_rearranges}
 use Rattle.h5_tag_sets.specs.TagSets.{is_html_named}
-use Rattle.h5_meaning.specs.Changes.{add_attrs_to_html, add_attrs_to_second, add_attrs_at, append_text, append_comment, append_comment_to_doc, append_comment_to_html, pop_until_named, generate_implied_end_except, insert_element, insert_head, create_root, new_element, pop, pop_while, push_new}
+use Rattle.h5_meaning.specs.Changes.{add_attrs_to_html, add_attrs_to_second, add_attrs_at, append_text, append_comment, append_comment_to_doc, append_comment_to_html, pop_until_named, generate_implied_end_except, insert_and_pop_element, insert_element, insert_head, create_root, new_element, pop, pop_while, push_new}
 use Rattle.h5_meaning.specs.Place.{IsPlaceIn, LastChild, Place, place, put}
 use Rattle.h5_stack.specs.Order.{IsIn}
 use Rattle.h5_stack.specs.Scope.{cut_names, cut_through, drop_while, is_implied_but, later_names}
@@ -42,6 +42,12 @@ names_pushed choices p local attrs duplicates w k there =
 pub names-insert : (choices : SinkChoices) (local : List ℕ) (attrs : List AttributeText) (duplicates : Bool) (w : World) → Sound w → names_of (insert_element choices local attrs duplicates w) ≡ html_name local ∷ names_of w
 unfolding insert_element
 names-insert choices local attrs duplicates w k = names_pushed choices (place w) local attrs duplicates w k (current_place_is_there w k)
+
+-- one that isn't open changes none
+pub names-insert_and_pop : (choices : SinkChoices) (local : List ℕ) (attrs : List AttributeText) (duplicates : Bool) (w : World) → Sound w → names_of (insert_and_pop_element choices local attrs duplicates w) ≡ names_of w
+unfolding insert_and_pop_element names_of
+names-insert_and_pop choices local attrs duplicates w k =
+    kept w.forest _ w.stack k.stands.elements (new_element_rearranges choices w.forest (place w) (html_name local) attrs duplicates k.stands.is_forest (current_place_is_there w k))
 
 pub names-insert_root : (choices : SinkChoices) (attrs : List AttributeText) (w : World) → Sound w → names_of (create_root choices attrs w) ≡ html_name (codes "html") ∷ names_of w
 unfolding create_root

@@ -13,7 +13,8 @@ use Rattle.h5_meaning.specs.World.{World}
 use Rattle.h5_meaning.proofs.CutLaws.{text_cut}
 use Rattle.h5_meaning.proofs.FlagLaws.{text_keeps_flag}
 
-without_lf-append : (i : Bool) (b : ℕ) (t u : List ℕ) → without_lf i ((b ∷ t) ++ u) ≡ without_lf i (b ∷ t) ++ u
+-- a newline is taken from the front of a text
+pub without_lf-append : (i : Bool) (b : ℕ) (t u : List ℕ) → without_lf i ((b ∷ t) ++ u) ≡ without_lf i (b ∷ t) ++ u
 without_lf-append false b t u = refl
 without_lf-append true b t u = elim (b == 10) as (λ v. cond v (t ++ u) ((b ∷ t) ++ u) ≡ cond v t (b ∷ t) ++ u) [ true ↦ refl | false ↦ refl ]
 
@@ -26,7 +27,8 @@ step_flag : (choices : SinkChoices) (t : List ℕ) (w : World) → (text_step ch
 step_flag choices [] w = refl
 step_flag choices (b ∷ t) w = text_keeps_flag choices (b ∷ t) w
 
-taken_same : (w : World) → w.ignore_lf ≡ false → taken w ≡ w
+-- where the newline flag is off, taking it changes nothing
+pub taken_same : (w : World) → w.ignore_lf ≡ false → taken w ≡ w
 taken_same w h = ap (λ b. let x : World = record w { ignore_lf = b } in x) (sym h)
 
 -- where the flag is off a text is put as it is
@@ -35,7 +37,8 @@ unfolding step
 step_plain choices d u w h =
     ap (λ b. (text_step choices (without_lf b (d ∷ u)) (taken w)).world) h ∙ ap (text_rule choices (d ∷ u)) (taken_same w h)
 
-step_cut : (choices : SinkChoices) (b : ℕ) (t : List ℕ) (d : ℕ) (u : List ℕ) (w : World) → (step choices (Characters ((b ∷ t) ++ d ∷ u)) w).world ≡ (step choices (Characters (d ∷ u)) (step choices (Characters (b ∷ t)) w).world).world
+-- a text in two pieces leads where the whole does
+pub step_cut : (choices : SinkChoices) (b : ℕ) (t : List ℕ) (d : ℕ) (u : List ℕ) (w : World) → (step choices (Characters ((b ∷ t) ++ d ∷ u)) w).world ≡ (step choices (Characters (d ∷ u)) (step choices (Characters (b ∷ t)) w).world).world
 unfolding step
 step_cut choices b t d u w =
     ap (λ x. (text_step choices x (taken w)).world) (without_lf-append w.ignore_lf b t (d ∷ u))

@@ -18,7 +18,7 @@ use Rattle.h5_meaning.specs.AfterAfterBody.{after_after_body_start, after_after_
 use Rattle.h5_meaning.specs.AfterBody.{after_body_end, after_body_start, after_body_tag, back_to_body}
 use Rattle.h5_meaning.specs.AfterHead.{after_head_else, after_head_end, after_head_start, after_head_tag}
 use Rattle.h5_meaning.specs.BeforeHead.{before_head_else, before_head_end, before_head_start, before_head_tag}
-use Rattle.h5_meaning.specs.ByName.{NonePasses, Rules, by_kind, by_name, ignored_tag, named, of_tag}
+use Rattle.h5_meaning.specs.ByName.{by_kind, by_name, ignored_tag, named, of_tag}
 use Rattle.h5_meaning.specs.BeforeHtml.{before_html_else, before_html_end, before_html_start, before_html_tag}
 use Rattle.h5_meaning.specs.Changes.{set_mode}
 use Rattle.h5_meaning.specs.InBody.{body_ends, body_in_scope, current_is, if_body_in_scope, in_body_end_block, in_body_end_heading, in_body_end_other, in_body_end_p, in_body_end, in_body_start, in_body_start_other, in_body_start_body, in_body_tag}
@@ -29,6 +29,7 @@ use Rattle.h5_meaning.specs.Rows.{AddAttrsToHtml, AddAttrsToSecond, Again, Again
 use Rattle.h5_meaning.specs.Settle.{Chain, Ends, GoesOn, IsOneChain, Settled, by_row, ends_with, goes_on_to, settle, settle_within, then_turns}
 use Rattle.h5_meaning.specs.Shared.{in_body_start_html}
 use Rattle.h5_meaning.specs.World.{World, names_of}
+use Rattle.h5_meaning.proofs.ByNameLaws.{holds_by_name}
 
 -- whether a token is an end tag `html`, for which "in body" leads to "after body" and not back
 abbrev is_end_html_tag : TagKind → List ℕ → Bool
@@ -82,18 +83,9 @@ falls_initial_else : (e : Bool) (t : TurnText) (w : World) → Falls e Initial (
 unfolding initial_else
 falls_initial_else e t w = falls_choose e Initial w.options.iframe_srcdoc (row [] (Again BeforeHtml)) (errs (SetQuirksMode Quirks ∷ []) (Again BeforeHtml)) (omega arith) (omega arith)
 
--- by the name of a tag, where each rule falls that it passes, and the last one where it passes none
-abbrev FallsBy : Bool → InsertionMode → TagText → World → Rules → Type 0
-FallsBy e m tag w [] = Unit {0}
-FallsBy e m tag w (x ∷ xs) = (x.0 tag.name ≡ true → Falls e m (x.1 tag w).ending) × FallsBy e m tag w xs
-
-falls_either : (e : Bool) (m : InsertionMode) (b : Bool) (r s : Row) → (b ≡ true → Falls e m r.ending) → (b ≡ false → Falls e m s.ending) → Falls e m (choose b r s).ending
-falls_either e m true r s x y = x refl
-falls_either e m false r s x y = y refl
-
-falls_by_name : (e : Bool) (m : InsertionMode) (xs : Rules) (other : TagText → World → Row) (tag : TagText) (w : World) → FallsBy e m tag w xs → (NonePasses xs tag.name → Falls e m (other tag w).ending) → Falls e m (by_name xs other tag w).ending
-falls_by_name e m [] other tag w k o = o tt
-falls_by_name e m (x ∷ xs) other tag w k o = falls_either e m (x.0 tag.name) (x.1 tag w) (by_name xs other tag w) k.0 (λ f. falls_by_name e m xs other tag w k.1 (λ n. o (f, n)))
+-- a row takes another turn in a mode of a lower rank only
+abbrev RowFalls : Bool → InsertionMode → Row → Type 0
+RowFalls e m r = Falls e m r.ending
 
 after_head_rank : (e : Bool) → rank e InBody < rank e AfterHead
 after_head_rank true = omega arith
@@ -101,35 +93,35 @@ after_head_rank false = omega arith
 
 falls_before_html : (e : Bool) (k : TagKind) (tag : TagText) (w : World) → Falls e BeforeHtml (by_kind k (by_name before_html_start (of_tag before_html_else) tag w) (by_name before_html_end ignored_tag tag w)).ending
 unfolding before_html_start before_html_end
-falls_before_html e StartTag tag w = falls_by_name e BeforeHtml before_html_start (of_tag before_html_else) tag w ((λ p. tt), tt) (λ n. omega arith)
-falls_before_html e EndTag tag w = falls_by_name e BeforeHtml before_html_end ignored_tag tag w ((λ p. omega arith), tt) (λ n. tt)
+falls_before_html e StartTag tag w = holds_by_name (RowFalls e BeforeHtml) before_html_start (of_tag before_html_else) tag w ((λ p. tt), tt) (λ n. omega arith)
+falls_before_html e EndTag tag w = holds_by_name (RowFalls e BeforeHtml) before_html_end ignored_tag tag w ((λ p. omega arith), tt) (λ n. tt)
 
 falls_before_head : (e : Bool) (k : TagKind) (tag : TagText) (w : World) → Falls e BeforeHead (by_kind k (by_name before_head_start (of_tag before_head_else) tag w) (by_name before_head_end ignored_tag tag w)).ending
 unfolding before_head_start before_head_end
-falls_before_head e StartTag tag w = falls_by_name e BeforeHead before_head_start (of_tag before_head_else) tag w ((λ p. falls_start_html e BeforeHead tag w), ((λ p. tt), tt)) (λ n. omega arith)
-falls_before_head e EndTag tag w = falls_by_name e BeforeHead before_head_end ignored_tag tag w ((λ p. omega arith), tt) (λ n. tt)
+falls_before_head e StartTag tag w = holds_by_name (RowFalls e BeforeHead) before_head_start (of_tag before_head_else) tag w ((λ p. falls_start_html e BeforeHead tag w), ((λ p. tt), tt)) (λ n. omega arith)
+falls_before_head e EndTag tag w = holds_by_name (RowFalls e BeforeHead) before_head_end ignored_tag tag w ((λ p. omega arith), tt) (λ n. tt)
 
 falls_in_head : (e : Bool) (k : TagKind) (tag : TagText) (w : World) → Falls e InHead (by_kind k (by_name in_head_start (of_tag in_head_else) tag w) (by_name in_head_end ignored_tag tag w)).ending
 unfolding in_head_start in_head_end
-falls_in_head e StartTag tag w = falls_by_name e InHead in_head_start (of_tag in_head_else) tag w ((λ p. falls_start_html e InHead tag w), ((λ p. tt), tt)) (λ n. omega arith)
-falls_in_head e EndTag tag w = falls_by_name e InHead in_head_end ignored_tag tag w ((λ p. tt), ((λ p. omega arith), tt)) (λ n. tt)
+falls_in_head e StartTag tag w = holds_by_name (RowFalls e InHead) in_head_start (of_tag in_head_else) tag w ((λ p. falls_start_html e InHead tag w), ((λ p. tt), tt)) (λ n. omega arith)
+falls_in_head e EndTag tag w = holds_by_name (RowFalls e InHead) in_head_end ignored_tag tag w ((λ p. tt), ((λ p. omega arith), tt)) (λ n. tt)
 
 falls_after_head : (e : Bool) (k : TagKind) (tag : TagText) (w : World) → Falls e AfterHead (by_kind k (by_name after_head_start (of_tag after_head_else) tag w) (by_name after_head_end ignored_tag tag w)).ending
 unfolding after_head_start after_head_end
-falls_after_head e StartTag tag w = falls_by_name e AfterHead after_head_start (of_tag after_head_else) tag w ((λ p. falls_start_html e AfterHead tag w), ((λ p. tt), ((λ p. tt), tt))) (λ n. after_head_rank e)
-falls_after_head e EndTag tag w = falls_by_name e AfterHead after_head_end ignored_tag tag w ((λ p. tt), ((λ p. after_head_rank e), tt)) (λ n. tt)
+falls_after_head e StartTag tag w = holds_by_name (RowFalls e AfterHead) after_head_start (of_tag after_head_else) tag w ((λ p. falls_start_html e AfterHead tag w), ((λ p. tt), ((λ p. tt), tt))) (λ n. after_head_rank e)
+falls_after_head e EndTag tag w = holds_by_name (RowFalls e AfterHead) after_head_end ignored_tag tag w ((λ p. tt), ((λ p. after_head_rank e), tt)) (λ n. tt)
 
 falls_in_body : (k : TagKind) (tag : TagText) (w : World) → Falls (is_end_html_tag k tag.name) InBody (by_kind k (by_name in_body_start in_body_start_other tag w) (by_name in_body_end in_body_end_other tag w)).ending
 unfolding in_body_start in_body_end in_body_start_body if_body_in_scope in_body_end_block in_body_end_p in_body_end_heading in_body_end_other
-falls_in_body StartTag tag w = falls_by_name false InBody in_body_start in_body_start_other tag w (
+falls_in_body StartTag tag w = holds_by_name (RowFalls false InBody) in_body_start in_body_start_other tag w (
   (λ p. falls_start_html false InBody tag w),
   (
     (λ p. falls_choose false InBody (second_is (codes "body") (names_of w) && not (has_template (names_of w))) (errs (SetFramesetNotOk ∷ AddAttrsToSecond tag.attrs ∷ []) IsDone) ignored tt tt),
-    ((λ p. tt), ((λ p. tt), tt)),
+    ((λ p. tt), ((λ p. tt), ((λ p. tt), ((λ p. tt), ((λ p. tt), ((λ p. tt), tt)))))),
   ),
 )
     (λ n. tt)
-falls_in_body EndTag tag w = let e = named Html tag.name in falls_by_name e InBody in_body_end in_body_end_other tag w (
+falls_in_body EndTag tag w = let e = named Html tag.name in holds_by_name (RowFalls e InBody) in_body_end in_body_end_other tag w (
   (λ p. falls_choose e InBody (body_in_scope w) (body_ends [] (Again AfterBody) w) ignored (subst (λ f. rank_after f < rank_body f) (sym p) (omega arith)) tt),
   (
     (λ p. falls_choose e InBody (body_in_scope w) (body_ends (SetMode AfterBody ∷ []) IsDone w) ignored tt tt),
@@ -137,7 +129,7 @@ falls_in_body EndTag tag w = let e = named Html tag.name in falls_by_name e InBo
       (λ p. falls_choose e InBody (in_scope (is_html_named tag.name) is_default_scope (names_of w)) (row_if (current_is tag.name w) (GenerateImpliedEnd ∷ PopUntilNamed tag.name ∷ []) IsDone) ignored tt tt),
       (
         (λ p. falls_choose e InBody (has_p_in_button_scope (names_of w)) (row_if (current_is (codes "p") w) (ClosePElement ∷ []) IsDone) (errs (InsertElement (codes "p") [] false ∷ ClosePElement ∷ []) IsDone) tt tt),
-        ((λ p. falls_choose e InBody (in_scope is_heading is_default_scope (names_of w)) (row_if (current_is tag.name w) (GenerateImpliedEnd ∷ PopUntilHeading ∷ []) IsDone) ignored tt tt), tt),
+        ((λ p. falls_choose e InBody (in_scope is_heading is_default_scope (names_of w)) (row_if (current_is tag.name w) (GenerateImpliedEnd ∷ PopUntilHeading ∷ []) IsDone) ignored tt tt), ((λ p. tt), ((λ p. tt), tt))),
       ),
     ),
   ),
@@ -146,12 +138,12 @@ falls_in_body EndTag tag w = let e = named Html tag.name in falls_by_name e InBo
 
 falls_after_body : (k : TagKind) (tag : TagText) (w : World) → Falls (is_end_html_tag k tag.name) AfterBody (by_kind k (by_name after_body_start (of_tag back_to_body) tag w) (by_name after_body_end (of_tag back_to_body) tag w)).ending
 unfolding after_body_start after_body_end
-falls_after_body StartTag tag w = falls_by_name false AfterBody after_body_start (of_tag back_to_body) tag w ((λ p. falls_start_html false AfterBody tag w), tt) (λ n. omega arith)
-falls_after_body EndTag tag w = falls_by_name (named Html tag.name) AfterBody after_body_end (of_tag back_to_body) tag w ((λ p. tt), tt) (λ n. subst (λ f. rank_body f < rank_after f) (sym n.0) (omega arith))
+falls_after_body StartTag tag w = holds_by_name (RowFalls false AfterBody) after_body_start (of_tag back_to_body) tag w ((λ p. falls_start_html false AfterBody tag w), tt) (λ n. omega arith)
+falls_after_body EndTag tag w = holds_by_name (RowFalls (named Html tag.name) AfterBody) after_body_end (of_tag back_to_body) tag w ((λ p. tt), tt) (λ n. subst (λ f. rank_body f < rank_after f) (sym n.0) (omega arith))
 
 falls_after_after_body : (e : Bool) (k : TagKind) (tag : TagText) (w : World) → Falls e AfterAfterBody (by_kind k (by_name after_after_body_start (of_tag back_to_body) tag w) (back_to_body (TagTurn tag) w)).ending
 unfolding after_after_body_start
-falls_after_after_body e StartTag tag w = falls_by_name e AfterAfterBody after_after_body_start (of_tag back_to_body) tag w ((λ p. falls_start_html e AfterAfterBody tag w), tt) (λ n. after_head_rank e)
+falls_after_after_body e StartTag tag w = holds_by_name (RowFalls e AfterAfterBody) after_after_body_start (of_tag back_to_body) tag w ((λ p. falls_start_html e AfterAfterBody tag w), tt) (λ n. after_head_rank e)
 falls_after_after_body e EndTag tag w = after_head_rank e
 
 falls_tag : (m : InsertionMode) (tag : TagText) (w : World) → Falls (is_end_html (TagTurn tag)) m (rule m (TagTurn tag) w).ending

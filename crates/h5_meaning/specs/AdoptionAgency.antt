@@ -1,17 +1,18 @@
 -- The adoption agency in a world, and what calls it (HTML standard, section 13.2.6.4.7, "adoption agency algorithm").
-use Rattle.std.specs.Prelude.{ℕ, zero, suc, ◌==◌, Bool, false, not, ◌&&◌, if◌then◌else◌, List, [], ◌∷◌, codes, Option, Some, None}
+use Rattle.std.specs.Prelude.{◌≡◌, ◌≢◌, ◌⊎◌, ℕ, zero, suc, ◌==◌, Bool, false, not, ◌&&◌, ◌||◌, is_some, if◌then◌else◌, List, [], ◌∷◌, codes, Option, Some, None}
 use Rattle.std.specs.List.{list_any}
 use Rattle.h5_token.specs.TokenText.{TagText}
+use Rattle.h5_interface.specs.Ancestors.{AtOrAbove}
 use Rattle.h5_interface.specs.Changes.{detach, mark, reparent}
-use Rattle.h5_interface.specs.Forest.{ChildNode, Forest}
+use Rattle.h5_interface.specs.Forest.{ChildNode, DocumentNode, Forest, FragmentNode, IsNode, kind_of, parent_of}
 use Rattle.h5_interface.specs.NewElement.{flags_of}
 use Rattle.h5_interface.specs.Seen.{make_element, with_last_child}
 use Rattle.h5_interface.specs.SinkChoices.{SinkChoices}
 use Rattle.h5_tag_sets.specs.TagSets.{is_default_scope, is_html_named, is_special}
-use Rattle.h5_stack.specs.Adoption.{FormattingElement, FurthestBlock, StackAndList, adopted_at, furthest_block, newer_than, newest_named, older_than, to_clone, without_node}
+use Rattle.h5_stack.specs.Adoption.{FormattingElement, FurthestBlock, adopted_at, furthest_block, newer_than, newest_named, older_than, to_clone, without_node}
 use Rattle.h5_stack.specs.FormattingList.{Entry, ElementEntry, MarkerEntry, nodes_of, without_entry}
 use Rattle.h5_stack.specs.FormattingNames.{html_name}
-use Rattle.h5_stack.specs.Order.{first_or, is_in}
+use Rattle.h5_stack.specs.Order.{Before, IsIn, first_or, is_in}
 use Rattle.h5_stack.specs.Scope.{first_passes, in_scope}
 use Rattle.h5_meaning.specs.Changes.{pop, with_forest}
 use Rattle.h5_meaning.specs.Closing.{close_named}
@@ -47,11 +48,14 @@ nest choices l (n ∷ ns) last f =
     let outer = nest choices l ns (choices.fresh f) (wrapped choices (tag_in l n) last f) in
     record { forest = outer.forest; clones = choices.fresh f ∷ outer.clones; outermost = outer.outermost }
 
--- the furthest block with the clones around it, where the element that is older than the formatting element takes it
+-- the element that is next older than the formatting element, in which the furthest block comes to stand
+abbrev pub common_ancestor : FormattingElement → World → ℕ
+common_ancestor f w = first_or (root w) (older_than f.node w.stack)
+
+-- the furthest block with the clones around it, where that element takes it
 abbrev pub placed : FormattingElement → Nest → World → Forest
 placed f n w =
-    let target = first_or (root w) (older_than f.node w.stack) in
-    put (appropriate_place (with_forest n.forest w) target) (ChildNode n.outermost) (detach n.outermost n.forest)
+    put (appropriate_place (with_forest n.forest w) (common_ancestor f w)) (ChildNode n.outermost) (detach n.outermost n.forest)
 
 -- the block's children below a clone of the formatting element, which becomes the block's child; and the sink is told
 -- that the formatting element is popped
@@ -89,11 +93,13 @@ abbrev pub adopt_within : ℕ → SinkChoices → List ℕ → World → World
 adopt_within zero choices name w = w
 adopt_within (suc n) choices name w = adopt_by (adopt_within n choices name) choices name (newest_named name w.formatting) w
 
--- the current node is popped, where it has the name and isn't listed; else eight rounds at most
+-- the current node has the name and isn't listed
+abbrev pub is_current_unlisted : List ℕ → World → Bool
+is_current_unlisted name w = first_passes (is_html_named name) (names_of w) && not (is_in (current w) (nodes_of w.formatting))
+
+-- then it is popped; else eight rounds at most
 unfoldable pub adoption_agency : SinkChoices → List ℕ → World → World
-adoption_agency choices name w =
-    if first_passes (is_html_named name) (names_of w) && not (is_in (current w) (nodes_of w.formatting))
-    then pop choices w else adopt_within 8 choices name w
+adoption_agency choices name w = if is_current_unlisted name w then pop choices w else adopt_within 8 choices name w
 
 -- whether the current node is the formatting element, so that it is closed without a parse error
 abbrev pub is_formatting_element : ℕ → Option FormattingElement → Bool
@@ -102,6 +108,14 @@ is_formatting_element n (Some f) = n == f.node
 
 abbrev pub closes_current : List ℕ → World → Bool
 closes_current name w = is_formatting_element (current w) (newest_named name w.formatting)
+
+-- whether the current node alone is closed
+abbrev pub closes_one : List ℕ → World → Bool
+closes_one name w = is_current_unlisted name w || closes_current name w
+
+-- whether a formatting element of this name is listed after the last marker
+abbrev pub is_named_listed : List ℕ → World → Bool
+is_named_listed name w = is_some (newest_named name w.formatting)
 
 -- an element leaves the stack, and the sink is told, where it is open
 unfoldable pub remove_from_stack : SinkChoices → ℕ → World → World
@@ -125,3 +139,19 @@ unfoldable pub handle_misnested_nobr_tags : SinkChoices → World → World
 handle_misnested_nobr_tags choices w =
     if in_scope (is_html_named (codes "nobr")) is_default_scope (names_of w)
     then reconstruct_active_formatting_elements choices (adoption_agency choices (codes "nobr") w) else w
+
+-- a round with a furthest block may be made: the formatting element is the newest one of the name after the last marker,
+-- it is open and in scope, and this is its furthest block
+pub record MayAdopt (name : List ℕ) (f : FormattingElement) (k : FurthestBlock) (w : World) : Type 0 where
+  pub newest : newest_named name w.formatting ≡ Some f
+  pub is_open : IsIn f.node w.stack
+  pub in_scope : list_any (λ n. is_default_scope (name_in w.forest n)) (newer_than f.node w.stack) ≡ false
+  pub block : furthest_block (λ n. is_special (name_in w.forest n)) (newer_than f.node w.stack) ≡ Some k
+
+-- in the midst of a round: the furthest block, or the outermost of the clones around it, may be hung elsewhere, and of the
+-- open elements only the block and newer ones are it or below it
+pub record IsLoose (g : Forest) (s : List ℕ) (block last : ℕ) : Type 0 where
+  pub is_node : IsNode g last
+  pub no_document : kind_of g last ≢ Some DocumentNode
+  pub no_fragment : kind_of g last ≢ Some FragmentNode
+  pub below : (y : ℕ) → IsIn y s → AtOrAbove (parent_of g) last y → (y ≡ block) ⊎ Before s y block

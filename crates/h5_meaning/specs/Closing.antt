@@ -1,7 +1,7 @@
 -- Closing elements (HTML standard, sections 13.2.6.3 and 13.2.6.4.7).
 use Rattle.std.specs.Prelude.{ℕ, if◌then◌else◌, List, codes}
 use Rattle.h5_interface.specs.SinkChoices.{SinkChoices}
-use Rattle.h5_tag_sets.specs.TagSets.{is_heading, is_html_named, is_implied}
+use Rattle.h5_tag_sets.specs.TagSets.{is_heading, is_implied}
 use Rattle.h5_stack.specs.Scope.{comes_before_special, cut_through, first_passes, has_p_in_button_scope}
 use Rattle.h5_meaning.specs.Changes.{generate_implied_end_except, pop, pop_until_named, pop_while}
 use Rattle.h5_meaning.specs.World.{World, names_of}

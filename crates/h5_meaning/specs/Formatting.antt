@@ -1,5 +1,5 @@
 -- The list of active formatting elements in a world (HTML standard, section 13.2.4.3).
-use Rattle.std.specs.Prelude.{ℕ, List, [], ◌∷◌, length, take}
+use Rattle.std.specs.Prelude.{Bool, true, false, List, [], ◌∷◌, length, take}
 use Rattle.h5_token.specs.TokenText.{TagText}
 use Rattle.h5_interface.specs.SinkChoices.{SinkChoices}
 use Rattle.h5_stack.specs.FormattingList.{Entry, ElementEntry, MarkerEntry, clear_to_marker, closed_front, push_formatting, reconstructed}
@@ -22,12 +22,20 @@ insert_anew choices [] w = w
 insert_anew choices (MarkerEntry ∷ l) w = insert_anew choices l w
 insert_anew choices (ElementEntry n tag ∷ l) w = insert_for choices tag (insert_anew choices l w)
 
+abbrev pub is_empty : List Entry → Bool
+is_empty [] = true
+is_empty (e ∷ l) = false
+
 -- "reconstruct the active formatting elements"
 unfoldable pub reconstruct_active_formatting_elements : SinkChoices → World → World
 reconstruct_active_formatting_elements choices w =
     let front = closed_front w.stack w.formatting in
     let v = insert_anew choices front w in
     record v { formatting = reconstructed (take (length front) v.stack) w.stack w.formatting }
+
+-- whether reconstructing changes nothing
+abbrev pub is_reconstructed : World → Bool
+is_reconstructed w = is_empty (closed_front w.stack w.formatting)
 
 -- "insert a marker"
 unfoldable pub insert_marker : World → World

@@ -1,13 +1,15 @@
 -- HTML standard, section 13.2.6.4.7, the "in body" insertion mode.
 use Rattle.std.specs.Prelude.{ℕ, Bool, false, not, ◌&&◌, List, [], ◌∷◌, codes}
 use Rattle.h5_token.specs.TokenText.{TagText}
-use Rattle.h5_names.specs.declared.known_name.KnownName.TheVariants.{Body, Html, P}
-use Rattle.h5_tag_sets.specs.TagSets.{block_end_names, block_start_names, heading_names, is_default_scope, is_heading, is_html_named, is_one_of}
+use Rattle.h5_names.specs.declared.known_name.KnownName.TheVariants.{A, Body, Br, Html, Nobr, P}
+use Rattle.h5_tag_sets.specs.TagSets.{block_end_names, block_start_names, formatting_names, heading_names, is_default_scope, is_heading, is_html_named, is_one_of}
 use Rattle.h5_stack.specs.Scope.{comes_before_special, first_passes, has_body_in_scope, has_p_in_button_scope, has_template, has_unclosed, in_scope, second_is}
 use Rattle.h5_types.specs.TurnText.{CommentTurn, EofTurn, NullTurn, TagTurn, TextTurn, TurnText}
 use Rattle.h5_types.specs.declared.modes.InsertionMode.TheVariants.{AfterBody}
+use Rattle.h5_meaning.specs.AdoptionAgency.{closes_one, is_named_listed}
 use Rattle.h5_meaning.specs.ByName.{Rules, by_kind, by_name, named}
-use Rattle.h5_meaning.specs.Rows.{AddAttrsToSecond, Again, AppendComment, Change, ClosePElement, ClosePElementInButtonScope, Ending, GenerateImpliedEnd, GenerateImpliedEndExcept, InsertElement, IsDone, PopHeading, PopUntilHeading, PopUntilNamed, Row, SetFramesetNotOk, SetMode, choose, errs, ignored, row, row_if}
+use Rattle.h5_meaning.specs.Formatting.{is_reconstructed}
+use Rattle.h5_meaning.specs.Rows.{AddAttrsToSecond, AdoptionAgency, Again, CreateFormattingElement, HandleMisnestedATags, HandleMisnestedNobrTags, InsertAndPopElement, IsAcknowledged, ReconstructActiveFormattingElements, AppendComment, Change, ClosePElement, ClosePElementInButtonScope, Ending, GenerateImpliedEnd, GenerateImpliedEndExcept, InsertElement, IsDone, PopHeading, PopUntilHeading, PopUntilNamed, Row, SetFramesetNotOk, SetMode, choose, errs, ignored, row, row_if}
 use Rattle.h5_meaning.specs.Shared.{in_body_start_html, in_body_text}
 use Rattle.h5_meaning.specs.World.{World, names_of}
 
@@ -73,9 +75,38 @@ in_body_end_p tag w =
     (row_if (current_is (codes "p") w) (ClosePElement ∷ []) IsDone)
     (errs (InsertElement (codes "p") [] false ∷ ClosePElement ∷ []) IsDone)
 
+-- a start tag "a"
+abbrev pub in_body_start_a : TagText → World → Row
+in_body_start_a tag w =
+    row_if (not (is_named_listed (codes "a") w)) (HandleMisnestedATags ∷ ReconstructActiveFormattingElements ∷ CreateFormattingElement tag ∷ []) IsDone
+
+-- a start tag "b", "big", "code", "em", "font", "i", "s", "small", "strike", "strong", "tt", "u"
+abbrev pub in_body_start_formatting : TagText → World → Row
+in_body_start_formatting tag w = row (ReconstructActiveFormattingElements ∷ CreateFormattingElement tag ∷ []) IsDone
+
+-- a start tag "nobr"
+abbrev pub in_body_start_nobr : TagText → World → Row
+in_body_start_nobr tag w =
+    row_if (is_reconstructed w && not (in_scope (is_html_named (codes "nobr")) is_default_scope (names_of w)))
+    (ReconstructActiveFormattingElements ∷ HandleMisnestedNobrTags ∷ CreateFormattingElement tag ∷ []) IsDone
+
+-- an end tag "a", "b", .., "u"
+abbrev pub in_body_end_formatting : TagText → World → Row
+in_body_end_formatting tag w = row_if (closes_one tag.name w) (AdoptionAgency tag.name ∷ []) IsDone
+
+-- a start tag "br"
+abbrev pub in_body_start_br : TagText → World → Row
+in_body_start_br tag w =
+    row (ReconstructActiveFormattingElements ∷ InsertAndPopElement tag.name tag.attrs tag.had_duplicate_attributes ∷ SetFramesetNotOk ∷ []) IsAcknowledged
+
+-- an end tag "br", which is taken for a start tag without attributes
+abbrev pub in_body_end_br : TagText → World → Row
+in_body_end_br tag w =
+    errs (ReconstructActiveFormattingElements ∷ InsertAndPopElement tag.name [] tag.had_duplicate_attributes ∷ SetFramesetNotOk ∷ []) IsAcknowledged
+
 -- any other start tag
 abbrev pub in_body_start_other : TagText → World → Row
-in_body_start_other tag w = row (inserts tag ∷ []) IsDone
+in_body_start_other tag w = row (ReconstructActiveFormattingElements ∷ inserts tag ∷ []) IsDone
 
 -- any other end tag
 unfoldable pub in_body_end_other : TagText → World → Row
@@ -88,7 +119,11 @@ in_body_start =
     (named Html, in_body_start_html) ∷
     (named Body, in_body_start_body) ∷
     (is_one_of block_start_names, in_body_start_block) ∷
-    (is_one_of heading_names, in_body_start_heading) ∷ []
+    (is_one_of heading_names, in_body_start_heading) ∷
+    (named A, in_body_start_a) ∷
+    (named Nobr, in_body_start_nobr) ∷
+    (is_one_of formatting_names, in_body_start_formatting) ∷
+    (named Br, in_body_start_br) ∷ []
 
 unfoldable pub in_body_end : Rules
 in_body_end =
@@ -96,7 +131,9 @@ in_body_end =
     (named Body, in_body_end_body) ∷
     (is_one_of block_end_names, in_body_end_block) ∷
     (named P, in_body_end_p) ∷
-    (is_one_of heading_names, in_body_end_heading) ∷ []
+    (is_one_of heading_names, in_body_end_heading) ∷
+    (is_one_of formatting_names, in_body_end_formatting) ∷
+    (named Br, in_body_end_br) ∷ []
 
 unfoldable pub in_body_tag : TagText → World → Row
 in_body_tag tag w = by_kind tag.kind (by_name in_body_start in_body_start_other tag w) (by_name in_body_end in_body_end_other tag w)

@@ -2,7 +2,7 @@
 use Rattle.std.specs.Prelude.{ℕ, List, [], ◌∷◌}
 use Rattle.h5_token.specs.TokenText.{TagText}
 use Rattle.h5_stack.specs.Scope.{has_template}
-use Rattle.h5_meaning.specs.Rows.{AddAttrsToHtml, AppendText, IsDone, Row, SetFramesetOkByText, choose, errs, ignored, row}
+use Rattle.h5_meaning.specs.Rows.{AddAttrsToHtml, AppendText, IsDone, ReconstructActiveFormattingElements, Row, SetFramesetOkByText, choose, errs, ignored, row}
 use Rattle.h5_meaning.specs.World.{World, names_of}
 
 -- section 13.2.6.4.7, a start tag "html"
@@ -11,4 +11,4 @@ in_body_start_html tag w = choose (has_template (names_of w)) ignored (errs (Add
 
 -- section 13.2.6.4.7, a text
 abbrev pub in_body_text : List ℕ → World → Row
-in_body_text text w = row (SetFramesetOkByText text ∷ AppendText text ∷ []) IsDone
+in_body_text text w = row (ReconstructActiveFormattingElements ∷ SetFramesetOkByText text ∷ AppendText text ∷ []) IsDone

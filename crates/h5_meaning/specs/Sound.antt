@@ -5,10 +5,11 @@ use Rattle.h5_interface.specs.Forest.{ElementNode, Forest, HasContents, IsElemen
 use Rattle.h5_interface.specs.NewElement.{is_html_template}
 use Rattle.h5_stack.specs.FormattingList.{Entry}
 use Rattle.h5_stack.specs.FormattingNames.{AllFormatting, AllOfTags, html_name}
+use Rattle.h5_stack.specs.Lists.{Lists}
 use Rattle.h5_stack.specs.Order.{IsIn, IsOrdered}
 use Rattle.h5_fits.specs.Fits.{Situation}
 use Rattle.h5_fits.specs.Roles.{Role, role_of}
-use Rattle.h5_fits.specs.StageFits.{StageFits}
+use Rattle.h5_fits.specs.StageFits.{IsRootOpen, StageFits}
 use Rattle.h5_meaning.specs.World.{World, name_in, names_of}
 
 -- the forest is one, open elements are its elements, none is an ancestor of an older one, and templates have contents
@@ -60,6 +61,18 @@ situation_of w = record {
   context = role_at w.forest w.context;
 }
 
--- at every turn, and between tokens: the open elements fit the mode
-abbrev pub Fits : World → Type 0
-Fits w = StageFits (situation_of w) w.mode (names_of w)
+-- the list of active formatting elements agrees with the stack of open elements
+abbrev pub HasLists : World → Type 0
+HasLists w = Lists w.stack w.formatting
+
+-- at every turn, and between tokens: the open elements fit the mode, and the list agrees with them
+pub record Fits (w : World) : Type 0 where
+  pub mode : StageFits (situation_of w) w.mode (names_of w)
+  pub lists : HasLists w
+
+-- in the body, where formatting elements are closed: all stands, the list agrees with the stack, and the root is an
+-- `html`
+pub record IsReady (w : World) : Type 0 where
+  pub sound : Sound w
+  pub lists : HasLists w
+  pub root : IsRootOpen (names_of w)

@@ -12,6 +12,7 @@ use Rattle.h5_meaning.specs.BeforeHead.{before_head_else}
 use Rattle.h5_meaning.specs.BeforeHtml.{before_html_else}
 use Rattle.h5_meaning.specs.Blanks.{is_blank, blanks_of, rest_of}
 use Rattle.h5_meaning.specs.Changes.{append_text, set_frameset_ok_by_text, set_mode}
+use Rattle.h5_meaning.specs.Formatting.{reconstruct_active_formatting_elements}
 use Rattle.h5_meaning.specs.InHead.{in_head_else}
 use Rattle.h5_meaning.specs.InitialMode.{initial_else}
 use Rattle.h5_meaning.specs.Rows.{Row, changed_by, next_mode}
@@ -42,14 +43,14 @@ abbrev pub by_else : SinkChoices → (TurnText → World → Row) → (List ℕ 
 by_else choices r next t w = next t (after_row choices (r (TextTurn NotWhitespace t) w) w)
 
 -- in the body (HTML standard, section 13.2.6.4.7, a character token)
-unfoldable pub text_in_body : List ℕ → World → World
-text_in_body t w = append_text t (set_frameset_ok_by_text t w)
+unfoldable pub text_in_body : SinkChoices → List ℕ → World → World
+text_in_body choices t w = append_text t (set_frameset_ok_by_text t (reconstruct_active_formatting_elements choices w))
 
 unfoldable pub text_after_body : SinkChoices → List ℕ → World → World
-text_after_body choices = split text_in_body (by_else choices back_to_body text_in_body)
+text_after_body choices = split (text_in_body choices) (by_else choices back_to_body (text_in_body choices))
 
 unfoldable pub text_after_head : SinkChoices → List ℕ → World → World
-text_after_head choices = split append_text (by_else choices after_head_else text_in_body)
+text_after_head choices = split append_text (by_else choices after_head_else (text_in_body choices))
 
 unfoldable pub text_in_head : SinkChoices → List ℕ → World → World
 text_in_head choices = split append_text (by_else choices in_head_else (text_after_head choices))
@@ -70,7 +71,7 @@ text_in BeforeHtml choices = text_before_html choices
 text_in BeforeHead choices = text_before_head choices
 text_in InHead choices = text_in_head choices
 text_in AfterHead choices = text_after_head choices
-text_in InBody choices = text_in_body
+text_in InBody choices = text_in_body choices
 text_in AfterBody choices = text_after_body choices
 text_in AfterAfterBody choices = text_after_body choices
 text_in _ choices = dropped

@@ -3,9 +3,13 @@ ghost use Rattle.std.specs.Prelude.{◌≡◌, ◌≤◌, ◌<◌, ℕ, List, �
 ghost use Rattle.h5_token.specs.Joins.{join};
 ghost use Rattle.h5_token.specs.TokenText.{TokenText};
 ghost use Rattle.h5_interface.specs.SinkChoices.{SinkChoices};
+ghost use Rattle.h5_stack.specs.FormattingList.{after_marker, nodes_of};
+ghost use Rattle.h5_stack.specs.Lists.{OpenFirst};
+ghost use Rattle.h5_stack.specs.Order.{IsIn};
 ghost use Rattle.h5_types.specs.TurnText.{EofTurn, TurnText};
 ghost use Rattle.h5_types.specs.declared.modes.InsertionMode.TheVariants.{Initial};
 ghost use Rattle.h5_meaning.specs.Cuts.{CutsAgree};
+ghost use Rattle.h5_meaning.specs.Formatting.{reconstruct_active_formatting_elements};
 ghost use Rattle.h5_meaning.specs.Modes.{rule};
 ghost use Rattle.h5_meaning.specs.Run.{View, after_all, replies, told_all};
 ghost use Rattle.h5_meaning.specs.Settle.{IsOneChain, by_row, settle};
@@ -44,4 +48,10 @@ pub fn turns_are_few()
     ensures some { (choices : SinkChoices) (t : TurnText) (w : World) → 0 < (settle choices t w).turns }
     ensures few { (choices : SinkChoices) (t : TurnText) (w : World) → (settle choices t w).turns ≤ 7 }
     ensures end_alone { (choices : SinkChoices) (w : World) → w.mode ≡ Initial → (settle choices EofTurn w).turns ≡ 6 }
+{}
+
+/// After the active formatting elements are reconstructed, every element that is listed after the last marker is
+/// open, if before that none there that wasn't open was older than one that was.
+pub fn reconstructed_elements_are_open()
+    ensures { (choices : SinkChoices) (w : World) → OpenFirst w.stack (after_marker w.formatting) → (n : ℕ) → IsIn n (nodes_of (after_marker (reconstruct_active_formatting_elements choices w).formatting)) → IsIn n (reconstruct_active_formatting_elements choices w).stack }
 {}

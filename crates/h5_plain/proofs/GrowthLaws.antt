@@ -1,15 +1,15 @@
 -- The forest of a document, as it grows.
-use Rattle.std.proofs.Common.{◌≡◌, ◌≢◌, ◌∙◌, ℕ, Bool, false, cond, List, [], ◌∷◌, ◌++◌, Some, unwrap_or, codes, refl, ap, sym, subst}
+use Rattle.std.proofs.Common.{◌≡◌, ◌≢◌, ◌∙◌, ℕ, Bool, false, List, [], ◌∷◌, ◌++◌, Some, codes, refl, ap, sym, subst}
 use Rattle.h5_names.specs.AttributeText.{AttributeText}
 use Rattle.h5_names.specs.declared.qualified.QualName.{QualName}
 use Rattle.h5_interface.specs.Changes.{append_node, mark}
-use Rattle.h5_interface.specs.Forest.{Child, ChildNode, DoctypeNode, DocumentNode, ElementNode, Forest, IsForest, IsNode, Marks, contents_of, kind_of}
+use Rattle.h5_interface.specs.Forest.{Child, ChildNode, DoctypeNode, DocumentNode, ElementNode, Forest, IsForest, IsNode, Marks, kind_of}
 use Rattle.h5_interface.specs.NewElement.{flags_of, is_html_template}
 use Rattle.h5_interface.specs.Seen.{append_doctype, element, make, make_element, plain, with_contents}
 use Rattle.h5_interface.specs.SinkChoices.{SinkChoices}
 use Rattle.h5_interface.proofs.ForestLaws.{document_is_node}
 use Rattle.h5_interface.proofs.MakingLaws.{append_doctype_rearranges, element_lone, mark_rearranges, plain_lone}
-use Rattle.h5_meaning.specs.Place.{LastChild, inside}
+use Rattle.h5_meaning.specs.Place.{LastChild}
 use Rattle.h5_meaning.specs.World.{name_in, name_of_found}
 use Rattle.h5_stack.specs.FormattingNames.{html_name}
 use Rattle.h5_meaning.proofs.PlaceLaws.{new_element_rearranges}
@@ -37,16 +37,13 @@ pub record Rooted (f : Forest) (doctype root : ℕ) (attrs : List AttributeText)
   pub is_root : Looks f root (ElementNode html) attrs children
 
 -- nodes of different kinds
-kinds_apart : (f : Forest) (n m : ℕ) (k j : _) (a b : List AttributeText) (cs ds : List Child) → Looks f n k a cs → Looks f m j b ds → k ≢ j → n ≢ m
+pub kinds_apart : (f : Forest) (n m : ℕ) (k j : _) (a b : List AttributeText) (cs ds : List Child) → Looks f n k a cs → Looks f m j b ds → k ≢ j → n ≢ m
 kinds_apart f n m k j a b cs ds l r h e =
     let w : Some k ≡ Some j = sym l.is_kind ∙ ap (kind_of f) e ∙ r.is_kind in h (cc)
 
--- the name of an element, and where something is put into one that is no template
+-- the name of an element
 pub name_of : (f : Forest) (n : ℕ) (name : QualName) (a : List AttributeText) (cs : List Child) → Looks f n (ElementNode name) a cs → name_in f n ≡ name
 name_of f n name a cs l = ap name_of_found l.is_kind
-
-pub inside_plain : (f : Forest) (n : ℕ) (name : QualName) (a : List AttributeText) (cs : List Child) → Looks f n (ElementNode name) a cs → is_html_template name ≡ false → inside f n ≡ n
-inside_plain f n name a cs l e = ap (λ b. cond b (unwrap_or (contents_of f n) n) n) (ap is_html_template (name_of f n name a cs l) ∙ e)
 
 -- an element that is no template is made without contents
 made_plain : (choices : SinkChoices) (name : QualName) (attrs : List AttributeText) (duplicates : Bool) (f : Forest) → is_html_template name ≡ false → make_element choices name attrs (flags_of name attrs duplicates) f ≡ make choices (element name attrs (flags_of name attrs duplicates)) f
@@ -60,6 +57,7 @@ with_element choices p name attrs f = append_node p (choices.fresh f) (make_elem
 pub record Below (choices : SinkChoices) (f : Forest) (p : ℕ) (name : QualName) (attrs : List AttributeText) : Type 0 where
   pub is_forest : IsForest (with_element choices p name attrs f)
   pub same_document : (with_element choices p name attrs f).document ≡ f.document
+  pub same_kind : (n : ℕ) → IsNode f n → kind_of (with_element choices p name attrs f) n ≡ kind_of f n
   pub new : Looks (with_element choices p name attrs f) (choices.fresh f) (ElementNode name) attrs []
   pub parent : (k : _) (a : List AttributeText) (cs : List Child) → Looks f p k a cs → Looks (with_element choices p name attrs f) p k a (cs ++ ChildNode (choices.fresh f) ∷ [])
   pub other : (m : ℕ) (k : _) (a : List AttributeText) (cs : List Child) → m ≢ p → Looks f m k a cs → Looks (with_element choices p name attrs f) m k a cs
@@ -73,6 +71,7 @@ element_below choices f p name attrs forest there e =
     record {
       is_forest = (new_element_rearranges choices f (LastChild p) name attrs false forest there).is_forest;
       same_document = sym (ap (λ (g : Forest). g.document) same);
+      same_kind = (new_element_rearranges choices f (LastChild p) name attrs false forest there).same_kind;
       new = subst (λ g. Looks g n (ElementNode name) attrs []) same (looks_new f p n d new there (element_lone name attrs (flags_of name attrs false)));
       parent = λ k a cs l. subst (λ g. Looks g p k a (cs ++ ChildNode n ∷ [])) same (looks_parent f p n d k a cs forest new l);
       other = λ m k a cs h l. subst (λ g. Looks g m k a cs) same (looks_other f p n m d k a cs new h l);

@@ -1,5 +1,12 @@
+mod BodyRuleLaws
+mod BodyStepLaws
+mod BuildsLaws
+mod CalmLaws
+mod CutGoesLaws
+mod FilledLaws
 pub mod GoesLaws
 pub mod GrowthLaws
+mod ListedLaws
 pub mod LooksLaws
 pub mod RuleLaws
 pub mod StageLaws

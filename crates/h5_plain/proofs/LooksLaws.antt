@@ -3,8 +3,8 @@ use Rattle.std.proofs.Common.{◌≡◌, ◌≢◌, ◌∙◌, ℕ, Bool, true, 
 use Rattle.std.specs.Prelude.{◌==◌}
 use Rattle.std.proofs.lemmas.Bool.{eq-eqb, eqb-true}
 use Rattle.h5_names.specs.AttributeText.{AttributeText}
-use Rattle.h5_interface.specs.Changes.{add_node, append_node, mark}
-use Rattle.h5_interface.specs.Forest.{Child, ChildNode, Forest, IsForest, IsNode, Kind, Marks, Node}
+use Rattle.h5_interface.specs.Changes.{add_node, append_node, append_text, joined, mark}
+use Rattle.h5_interface.specs.Forest.{AreParted, Child, ChildNode, ChildText, Forest, IsForest, IsNode, Kind, Marks, Node}
 use Rattle.h5_interface.proofs.ChildLaws.{joined-append_node}
 use Rattle.h5_interface.proofs.ForestLaws.{node_of_kind}
 use Rattle.h5_interface.proofs.MakingLaws.{IsLone}
@@ -81,5 +81,57 @@ looks_marked f n marks k a cs l = at (f.node n) refl
       is_kind = rw w (rw w at l.is_kind);
       has_attrs = rw w (rw w at l.has_attrs);
       has_children = rw w (rw w at l.has_children);
+      no_contents = rw w (rw w at l.no_contents);
+    }
+
+-- whether the last child is a text
+abbrev pub ends_in_text : List Child → Bool
+ends_in_text [] = false
+ends_in_text (ChildNode n ∷ cs) = ends_in_text cs
+ends_in_text (ChildText t ∷ []) = true
+ends_in_text (ChildText t ∷ c ∷ cs) = ends_in_text (c ∷ cs)
+
+-- not where a node comes last
+pub ends_in_node : (n : ℕ) (cs : List Child) → ends_in_text (cs ++ ChildNode n ∷ []) ≡ false
+ends_in_node n [] = refl
+ends_in_node n (ChildNode m ∷ cs) = ends_in_node n cs
+ends_in_node n (ChildText t ∷ []) = refl
+ends_in_node n (ChildText t ∷ ChildNode m ∷ cs) = ends_in_node n (ChildNode m ∷ cs)
+ends_in_node n (ChildText t ∷ ChildText u ∷ cs) = ends_in_node n (ChildText u ∷ cs)
+
+-- a text after children of which the last is none stands by itself
+joined-append_text : (cs : List Child) (t : List ℕ) → AreParted cs → ends_in_text cs ≡ false → joined (cs ++ ChildText t ∷ []) ≡ cs ++ ChildText t ∷ []
+joined-append_text [] t p e = refl
+joined-append_text (ChildNode n ∷ cs) t p e = ap (λ z. ChildNode n ∷ z) (joined-append_text cs t p e)
+joined-append_text (ChildText u ∷ []) t p e = absurd (cc)
+joined-append_text (ChildText u ∷ ChildNode n ∷ cs) t p e = ap (λ z. ChildText u ∷ ChildNode n ∷ z) (joined-append_text cs t p.1 e)
+joined-append_text (ChildText u ∷ ChildText v ∷ cs) t p e = absurd (p)
+
+-- a text becomes the last child
+pub looks_texted : (f : Forest) (p : ℕ) (t : List ℕ) (k : Kind) (a : List AttributeText) (cs : List Child) → IsForest f → ends_in_text cs ≡ false → Looks f p k a cs → Looks (append_text p t f) p k a (cs ++ ChildText t ∷ [])
+looks_texted f p t k a cs forest end l = at (f.node p) refl
+  where
+    at : (o : Option Node) → f.node p ≡ o → Looks (append_text p t f) p k a (cs ++ ChildText t ∷ [])
+    at None w = absurd (looks_node f p k a cs l w)
+    at (Some x) w = record {
+      is_kind = rw w (rw w at l.is_kind);
+      has_attrs = rw w (rw w at l.has_attrs);
+      has_children = rw (eq-eqb p p refl, w) (joined-append_text x.children t (rw w at (forest.parted p)) (ap ends_in_text (rw w at l.has_children) ∙ end) ∙ ap (λ z. z ++ ChildText t ∷ []) (rw w at l.has_children));
+      no_contents = rw w (rw w at l.no_contents);
+    }
+
+-- and no other node changes
+pub looks_beside_text : (f : Forest) (p m : ℕ) (t : List ℕ) (k : Kind) (a : List AttributeText) (cs : List Child) → m ≢ p → Looks f m k a cs → Looks (append_text p t f) m k a cs
+looks_beside_text f p m t k a cs other l = at (f.node m) refl
+  where
+    m_p : (m == p) ≡ false
+    m_p = unlike m p other
+
+    at : (o : Option Node) → f.node m ≡ o → Looks (append_text p t f) m k a cs
+    at None w = absurd (looks_node f m k a cs l w)
+    at (Some x) w = record {
+      is_kind = rw w (rw w at l.is_kind);
+      has_attrs = rw w (rw w at l.has_attrs);
+      has_children = rw (m_p, w) (rw w at l.has_children);
       no_contents = rw w (rw w at l.no_contents);
     }

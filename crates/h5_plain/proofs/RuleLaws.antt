@@ -1,8 +1,6 @@
 -- The rules that the tags of a plain document follow, each in its mode.
-use Rattle.std.proofs.Common.{◌≡◌, ℕ, false, List, [], ◌∷◌, codes, ap, refl}
+use Rattle.std.proofs.Common.{◌≡◌, ℕ, false, List, [], ◌∷◌, codes, refl}
 use Rattle.h5_names.specs.AttributeText.{AttributeText}
-use Rattle.h5_names.specs.declared.known_name.KnownName.TheVariants.{Body, Head, Html}
-use Rattle.h5_names.proofs.KnownNameLemmas.{known_of_text}
 use Rattle.h5_token.specs.TokenText.{TagText}
 use Rattle.h5_token.specs.declared.tag.TagKind.TheVariants.{EndTag, StartTag}
 use Rattle.h5_types.specs.TurnText.{TagTurn}

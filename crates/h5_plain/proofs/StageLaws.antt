@@ -1,8 +1,11 @@
 -- What a builder makes of the tokens of a document, one after the other.
-use Rattle.std.proofs.Common.{◌≡◌, ◌≢◌, ◌∙◌, ℕ, Bool, true, false, ◌&&◌, not, cond, List, [], ◌∷◌, ◌++◌, map, Some, None, codes, refl, ap, sym, subst}
+use Rattle.std.proofs.Common.{◌≡◌, ◌≢◌, ◌∙◌, ℕ, true, false, not, cond, List, [], ◌∷◌, ◌++◌, map, Some, None, codes, refl, ap, sym, subst}
 use Rattle.h5_names.specs.AttributeText.{AttributeText}
 use Rattle.h5_token.specs.TokenText.{EndOfFile, TokenText}
-use Rattle.h5_interface.specs.Forest.{Child, ChildNode, ElementNode}
+use Rattle.h5_interface.specs.Forest.{Child, ChildNode, ElementNode, Kind}
+use Rattle.h5_names.specs.declared.qualified.QualName.{QualName}
+use Rattle.h5_stack.specs.FormattingList.{nodes_of}
+use Rattle.h5_plain.proofs.ListedLaws.{Bottom, Entries, NoEntry}
 use Rattle.h5_interface.specs.SinkChoices.{SinkChoices}
 use Rattle.h5_interface.specs.declared.marks.QuirksMode.TheVariants.{NoQuirks}
 use Rattle.h5_tag_sets.specs.TagSets.{body_end_names, html_namespace, is_body_end_ok, is_default_scope, is_html_named, is_table_outer, table_outer_names}
@@ -14,14 +17,17 @@ use Rattle.h5_meaning.specs.InBody.{body_ends, body_in_scope, if_body_in_scope}
 use Rattle.h5_meaning.specs.Rows.{SetFramesetNotOk, InsertElement, InsertHead, CreateRoot, IsDone, Pop, Row, SetMode, choose, ignored}
 use Rattle.h5_meaning.specs.Run.{doctype_in, judged, step, taken, with_doctype}
 use Rattle.h5_stack.specs.Scope.{has_unclosed, in_scope}
-use Rattle.h5_meaning.specs.Place.{LastChild, appropriate_place, foster_place, from_foster_parent, inside, place}
-use Rattle.h5_meaning.specs.World.{World, current, name_in, names_of, root}
+use Rattle.h5_meaning.specs.Place.{LastChild, place}
+use Rattle.h5_meaning.specs.World.{World, current, name_in, name_of_kind, names_of}
 use Rattle.h5_stack.specs.FormattingNames.{html_name}
-use Rattle.h5_stack.specs.Order.{but_first, first_or}
-use Rattle.h5_plain.specs.Plain.{end_tag, plain_doctype, start_tag}
-use Rattle.h5_plain.specs.Rebuilding.{IsStart, Looks}
-use Rattle.h5_plain.proofs.GoesLaws.{Moves, moves_end, moves_tag}
-use Rattle.h5_plain.proofs.GrowthLaws.{Begun, Rooted, begun_first, body, head, html, inside_plain, name_of, root_below, rooted_first, rooted_grown, rooted_marked, with_element}
+use Rattle.h5_stack.specs.Order.{but_first, first_or, is_in}
+use Rattle.h5_plain.specs.Plain.{Blocks, End, IsPlain, Nodes, end_tag, plain_doctype, start_tag, tokens_before}
+use Rattle.h5_plain.specs.Rebuilding.{IsStart, Looks, Stands}
+use Rattle.h5_plain.proofs.BuildsLaws.{body_fits, builds}
+use Rattle.h5_plain.proofs.CalmLaws.{Calm, Named, NoneOpen, OneOpen, after, nowhere, place_is}
+use Rattle.h5_plain.proofs.FilledLaws.{face, rooted_framed, stands_from_new}
+use Rattle.h5_plain.proofs.GoesLaws.{Goes, Moves, moves_end, moves_tag}
+use Rattle.h5_plain.proofs.GrowthLaws.{Begun, Rooted, begun_first, body, head, html, kinds_apart, name_of, root_below, rooted_first, rooted_grown, rooted_marked, with_element}
 use Rattle.h5_plain.proofs.LooksLaws.{apart_from, looks_marked, looks_node}
 use Rattle.h5_plain.proofs.RuleLaws.{body_end_rule, body_rule, head_end_rule, head_rule, html_end_rule, html_rule}
 
@@ -35,6 +41,7 @@ pub record Next (choices : SinkChoices) (t : TokenText) (w : World) (P : World �
 pub record AfterDoctype (w : World) : Type 0 where
   pub mode : w.mode ≡ BeforeHtml
   pub none_open : w.stack ≡ []
+  pub none_listed : w.formatting ≡ []
   pub quirks : w.seen_quirks ≡ NoQuirks
   pub doctype : ℕ
   pub begun : Begun w.forest doctype []
@@ -44,6 +51,7 @@ pub record AfterHtml (a : List AttributeText) (w : World) : Type 0 where
   pub mode : w.mode ≡ BeforeHead
   pub root : ℕ
   pub is_open : w.stack ≡ root ∷ []
+  pub none_listed : w.formatting ≡ []
   pub quirks : w.seen_quirks ≡ NoQuirks
   pub doctype : ℕ
   pub rooted : Rooted w.forest doctype root a []
@@ -54,14 +62,15 @@ pub record WithHead (m : InsertionMode) (more : ℕ → List ℕ) (a b : List At
   pub root : ℕ
   pub header : ℕ
   pub are_open : w.stack ≡ (more header) ++ root ∷ []
+  pub none_listed : w.formatting ≡ []
   pub quirks : w.seen_quirks ≡ NoQuirks
   pub doctype : ℕ
   pub rooted : Rooted w.forest doctype root a (ChildNode header ∷ [])
   pub is_head : Looks w.forest header (ElementNode head) b []
   pub apart : header ≢ root
 
--- from the start of `body` on
-pub record WithBody (m : InsertionMode) (a b c : List AttributeText) (w : World) : Type 0 where
+-- from the start of `body` on, which holds these children, for which these nodes stand
+pub record WithBody (m : InsertionMode) (a b c : List AttributeText) (inner : List Child) (nodes : Nodes) (w : World) : Type 0 where
   pub mode : w.mode ≡ m
   pub root : ℕ
   pub header : ℕ
@@ -71,7 +80,14 @@ pub record WithBody (m : InsertionMode) (a b c : List AttributeText) (w : World)
   pub doctype : ℕ
   pub rooted : Rooted w.forest doctype root a (ChildNode header ∷ ChildNode content ∷ [])
   pub is_head : Looks w.forest header (ElementNode head) b []
-  pub is_body : Looks w.forest content (ElementNode body) c []
+  pub is_body : Looks w.forest content (ElementNode body) c inner
+  pub stands : Stands w.forest inner nodes
+
+-- right after its start
+pub record AtBody (a b c : List AttributeText) (w : World) : Type 0 where
+  pub with_body : WithBody InBody a b c [] End w
+  pub none_listed : w.formatting ≡ []
+  pub ignore_lf : w.ignore_lf ≡ false
 
 abbrev one : ℕ → List ℕ
 one n = n ∷ []
@@ -93,7 +109,7 @@ unfolding set_quirks_mode insert_doctype
 doctype_next choices w s = record {
   after = set_mode BeforeHtml (set_quirks_mode NoQuirks (insert_doctype choices (codes "html") [] [] (taken w)));
   moves = doctype_moves choices w s;
-  holds = record { mode = refl; none_open = s.none_open; quirks = refl; doctype = choices.fresh w.forest; begun = begun_first choices w.forest s.holds };
+  holds = record { mode = refl; none_open = s.none_open; none_listed = s.none_listed; quirks = refl; doctype = choices.fresh w.forest; begun = begun_first choices w.forest s.holds };
 }
 
 pub html_next : (choices : SinkChoices) (a : List AttributeText) (w : World) → AfterDoctype w → Next choices (start_tag (codes "html") a) w (AfterHtml a)
@@ -105,6 +121,7 @@ html_next choices a w s = record {
     mode = refl;
     root = choices.fresh w.forest;
     is_open = ap (λ r. choices.fresh w.forest ∷ r) s.none_open;
+    none_listed = s.none_listed;
     quirks = s.quirks;
     doctype = s.doctype;
     rooted = rooted_first choices w.forest s.doctype a s.begun;
@@ -113,15 +130,9 @@ html_next choices a w s = record {
 
 -- the place of insertion is in the root where that alone is open
 place_is_root : (w : World) (x h : ℕ) (a : List AttributeText) (cs : List Child) → w.stack ≡ h ∷ [] → Rooted w.forest x h a cs → place w ≡ LastChild h
-unfolding appropriate_place is_table_outer html_namespace table_outer_names
+unfolding is_table_outer html_namespace table_outer_names
 place_is_root w x h a cs e r =
-    ap (λ s. appropriate_place w (first_or w.forest.document s)) e
-    ∙ ap (λ b. cond b (foster_place w.forest (root w) (from_foster_parent w.forest w.stack)) (LastChild (inside w.forest h))) (outside w.foster)
-    ∙ ap LastChild (inside_plain w.forest h html a cs r.is_root refl)
-  where
-    outside : (b : Bool) → (b && is_table_outer (name_in w.forest h)) ≡ false
-    outside true = ap is_table_outer (name_of w.forest h html a cs r.is_root)
-    outside false = refl
+    place_is w h (record { kind = ElementNode html; attrs = a; children = cs }) (ap (first_or w.forest.document) e) r.is_root (nowhere w.foster (is_table_outer html) refl) refl
 
 inserted : (choices : SinkChoices) (local : List ℕ) (attrs : List AttributeText) (w : World) (h : ℕ) → place w ≡ LastChild h → with_element choices h (html_name local) attrs w.forest ≡ (insert_element choices local attrs false w).forest
 unfolding insert_element
@@ -134,6 +145,14 @@ insert_opens choices local attrs w = refl
 insert_quirks : (choices : SinkChoices) (local : List ℕ) (attrs : List AttributeText) (w : World) → (insert_element choices local attrs false w).seen_quirks ≡ w.seen_quirks
 unfolding insert_element
 insert_quirks choices local attrs w = refl
+
+insert_listed : (choices : SinkChoices) (local : List ℕ) (attrs : List AttributeText) (w : World) → (insert_element choices local attrs false w).formatting ≡ w.formatting
+unfolding insert_element
+insert_listed choices local attrs w = refl
+
+insert_flag : (choices : SinkChoices) (local : List ℕ) (attrs : List AttributeText) (w : World) → (insert_element choices local attrs false w).ignore_lf ≡ w.ignore_lf
+unfolding insert_element
+insert_flag choices local attrs w = refl
 
 pub head_next : (choices : SinkChoices) (a b : List AttributeText) (w : World) → AfterHtml a w → Next choices (start_tag (codes "head") b) w (WithHead InHead one a b)
 unfolding insert_head insert_element
@@ -149,6 +168,7 @@ head_next choices a b w s =
         root = s.root;
         header = n;
         are_open = insert_opens choices (codes "head") b (taken w) ∙ ap (λ r. n ∷ r) s.is_open;
+        none_listed = insert_listed choices (codes "head") b (taken w) ∙ s.none_listed;
         quirks = insert_quirks choices (codes "head") b (taken w) ∙ s.quirks;
         doctype = s.doctype;
         rooted = subst (λ f. Rooted f s.doctype s.root a (ChildNode n ∷ [])) same (rooted_grown choices w.forest s.doctype s.root a [] head b s.rooted below);
@@ -167,6 +187,7 @@ head_end_next choices a b w s = record {
     root = s.root;
     header = s.header;
     are_open = ap but_first s.are_open;
+    none_listed = s.none_listed;
     quirks = s.quirks;
     doctype = s.doctype;
     rooted = rooted_marked w.forest (choices.marks_after_pop w.forest (current w)) s.doctype s.root a (ChildNode s.header ∷ []) s.rooted;
@@ -175,7 +196,7 @@ head_end_next choices a b w s = record {
   };
 }
 
-pub body_next : (choices : SinkChoices) (a b c : List AttributeText) (w : World) → WithHead AfterHead none a b w → Next choices (start_tag (codes "body") c) w (WithBody InBody a b c)
+pub body_next : (choices : SinkChoices) (a b c : List AttributeText) (w : World) → WithHead AfterHead none a b w → Next choices (start_tag (codes "body") c) w (AtBody a b c)
 body_next choices a b c w s =
     let n = choices.fresh w.forest in
     let below = root_below choices w.forest s.doctype s.root a (ChildNode s.header ∷ []) body c s.rooted refl in
@@ -184,22 +205,89 @@ body_next choices a b c w s =
       after = set_mode InBody (set_frameset_not_ok (insert_element choices (codes "body") c false (taken w)));
       moves = moves_tag choices _ w AfterHead (InsertElement (codes "body") c false ∷ SetFramesetNotOk ∷ SetMode InBody ∷ []) s.mode (body_rule c (taken w)) refl;
       holds = record {
-        mode = refl;
-        root = s.root;
-        header = s.header;
-        content = n;
-        are_open = insert_opens choices (codes "body") c (taken w) ∙ ap (λ r. n ∷ r) s.are_open;
-        quirks = insert_quirks choices (codes "body") c (taken w) ∙ s.quirks;
-        doctype = s.doctype;
-        rooted = subst (λ f. Rooted f s.doctype s.root a (ChildNode s.header ∷ ChildNode n ∷ [])) same (rooted_grown choices w.forest s.doctype s.root a (ChildNode s.header ∷ []) body c s.rooted below);
-        is_head = subst (λ f. Looks f s.header (ElementNode head) b []) same (below.other s.header (ElementNode head) b [] s.apart s.is_head);
-        is_body = subst (λ f. Looks f n (ElementNode body) c []) same below.new;
+        with_body = record {
+          mode = refl;
+          root = s.root;
+          header = s.header;
+          content = n;
+          are_open = insert_opens choices (codes "body") c (taken w) ∙ ap (λ r. n ∷ r) s.are_open;
+          quirks = insert_quirks choices (codes "body") c (taken w) ∙ s.quirks;
+          doctype = s.doctype;
+          rooted = subst (λ f. Rooted f s.doctype s.root a (ChildNode s.header ∷ ChildNode n ∷ [])) same (rooted_grown choices w.forest s.doctype s.root a (ChildNode s.header ∷ []) body c s.rooted below);
+          is_head = subst (λ f. Looks f s.header (ElementNode head) b []) same (below.other s.header (ElementNode head) b [] s.apart s.is_head);
+          is_body = subst (λ f. Looks f n (ElementNode body) c []) same below.new;
+          stands = tt;
+        };
+        none_listed = insert_listed choices (codes "body") c (taken w) ∙ s.none_listed;
+        ignore_lf = insert_flag choices (codes "body") c (taken w);
+      };
+    }
+
+-- the body is filled
+html_not : (name : List ℕ) (m : QualName) → is_html_named name html ≡ true → is_html_named name m ≡ false → ElementNode html ≢ ElementNode m
+html_not name m h k e = let w : true ≡ false = sym h ∙ ap (λ (x : Kind). is_html_named name (name_of_kind x)) e ∙ k in cc
+
+html_not_body : ElementNode html ≢ ElementNode body
+unfolding is_html_named html_namespace
+html_not_body = html_not (codes "html") body refl refl
+
+head_not_body : ElementNode head ≢ ElementNode body
+unfolding is_html_named html_namespace
+head_not_body e = let w : true ≡ false = ap (λ (x : Kind). is_html_named (codes "head") (name_of_kind x)) e in cc
+
+at_body : (a b c : List AttributeText) (w : World) (s : AtBody a b c w) → Calm w s.with_body.content (face (codes "body") c) (body ∷ html ∷ []) [] w.stack []
+unfolding is_table_outer html_namespace table_outer_names
+at_body a b c w s =
+    let t = s.with_body in
+    record {
+      is_forest = t.rooted.begun.is_forest;
+      ignore_lf = s.ignore_lf;
+      is_current = ap (first_or w.forest.document) t.are_open;
+      shows = t.is_body;
+      named = subst (λ r. Named w.forest r (body ∷ html ∷ [])) (sym t.are_open) (OneOpen t.is_body.is_kind (OneOpen t.rooted.is_root.is_kind NoneOpen));
+      takes_own = nowhere w.foster (is_table_outer body) refl;
+      no_template = refl;
+      are_open = refl;
+      is_base = NoEntry;
+      entries = subst (Entries [] []) (sym s.none_listed) Bottom;
+      unlisted = λ n none. ap (λ l. is_in n (nodes_of l)) s.none_listed;
+    }
+
+-- what it leads to
+pub record BodyFilled (choices : SinkChoices) (a b c : List AttributeText) (nodes : Nodes) (w : World) : Type 0 where
+  pub after : World
+  pub goes : (ts : List TokenText) (u : World) → Goes choices ts after u → Goes choices (tokens_before nodes ts) w u
+  pub inner : List Child
+  pub holds : WithBody InBody a b c inner nodes after
+
+-- the blocks are built in it
+pub body_filled : (choices : SinkChoices) (a b c : List AttributeText) (nodes : Nodes) (w : World) → IsPlain Blocks nodes → AtBody a b c w → BodyFilled choices a b c nodes w
+body_filled choices a b c nodes w plain s =
+    let t = s.with_body in
+    let built = builds choices plain w t.content (face (codes "body") c) (body ∷ html ∷ []) [] w.stack [] (t.mode, body_fits) tt tt (at_body a b c w s) in
+    let r = built.filled.frame in
+    record {
+      after = after w built.forest built.formatting built.ok;
+      goes = built.goes;
+      inner = built.filled.added;
+      holds = record {
+        mode = t.mode;
+        root = t.root;
+        header = t.header;
+        content = t.content;
+        are_open = t.are_open;
+        quirks = t.quirks;
+        doctype = t.doctype;
+        rooted = rooted_framed w.forest built.forest t.doctype t.root t.content a (ChildNode t.header ∷ ChildNode t.content ∷ []) (face (codes "body") c) built.filled.added t.rooted t.is_body (λ e. cc) (λ e. cc) html_not_body r;
+        is_head = r.others t.header (record { kind = ElementNode head; attrs = b; children = [] }) (kinds_apart w.forest t.header t.content (ElementNode head) (ElementNode body) b c [] [] t.is_head t.is_body head_not_body) t.is_head;
+        is_body = r.here;
+        stands = stands_from_new built.filled.stands;
       };
     }
 
 -- the mode alone changes
-in_other_mode : (m k : InsertionMode) (a b c : List AttributeText) (w : World) → WithBody m a b c w → WithBody k a b c (set_mode k (taken w))
-in_other_mode m k a b c w s = record {
+in_other_mode : (m k : InsertionMode) (a b c : List AttributeText) (inner : List Child) (nodes : Nodes) (w : World) → WithBody m a b c inner nodes w → WithBody k a b c inner nodes (set_mode k (taken w))
+in_other_mode m k a b c inner nodes w s = record {
   mode = refl;
   root = s.root;
   header = s.header;
@@ -210,41 +298,42 @@ in_other_mode m k a b c w s = record {
   rooted = s.rooted;
   is_head = s.is_head;
   is_body = s.is_body;
+  stands = s.stands;
 }
 
-body_is_in_scope : (m : InsertionMode) (a b c : List AttributeText) (w : World) → WithBody m a b c w → body_in_scope (taken w) ≡ true
+body_is_in_scope : (m : InsertionMode) (a b c : List AttributeText) (inner : List Child) (nodes : Nodes) (w : World) → WithBody m a b c inner nodes w → body_in_scope (taken w) ≡ true
 unfolding names_of is_html_named html_namespace
-body_is_in_scope m a b c w s =
+body_is_in_scope m a b c inner nodes w s =
     ap (λ r. in_scope (is_html_named (codes "body")) is_default_scope (map (name_in w.forest) r)) s.are_open
-    ∙ ap (λ n. in_scope (is_html_named (codes "body")) is_default_scope (n ∷ name_in w.forest s.root ∷ [])) (name_of w.forest s.content body c [] s.is_body)
+    ∙ ap (λ n. in_scope (is_html_named (codes "body")) is_default_scope (n ∷ name_in w.forest s.root ∷ [])) (name_of w.forest s.content body c inner s.is_body)
 
 -- and nothing else is open but the root
-all_is_closed : (m : InsertionMode) (a b c : List AttributeText) (w : World) → WithBody m a b c w → not (has_unclosed (names_of (taken w))) ≡ true
+all_is_closed : (m : InsertionMode) (a b c : List AttributeText) (inner : List Child) (nodes : Nodes) (w : World) → WithBody m a b c inner nodes w → not (has_unclosed (names_of (taken w))) ≡ true
 unfolding names_of is_body_end_ok body_end_names html_namespace
-all_is_closed m a b c w s =
+all_is_closed m a b c inner nodes w s =
     ap (λ r. not (has_unclosed (map (name_in w.forest) r))) s.are_open
-    ∙ ap (λ n. not (has_unclosed (n ∷ name_in w.forest s.root ∷ []))) (name_of w.forest s.content body c [] s.is_body)
+    ∙ ap (λ n. not (has_unclosed (n ∷ name_in w.forest s.root ∷ []))) (name_of w.forest s.content body c inner s.is_body)
     ∙ ap (λ n. not (has_unclosed (body ∷ n ∷ []))) (name_of w.forest s.root html a _ s.rooted.is_root)
 
-pub body_end_next : (choices : SinkChoices) (a b c : List AttributeText) (w : World) → WithBody InBody a b c w → Next choices (end_tag (codes "body")) w (WithBody AfterBody a b c)
+pub body_end_next : (choices : SinkChoices) (a b c : List AttributeText) (inner : List Child) (nodes : Nodes) (w : World) → WithBody InBody a b c inner nodes w → Next choices (end_tag (codes "body")) w (WithBody AfterBody a b c inner nodes)
 unfolding if_body_in_scope
-body_end_next choices a b c w s = record {
+body_end_next choices a b c inner nodes w s = record {
   after = set_mode AfterBody (taken w);
   moves = moves_tag choices _ w InBody (SetMode AfterBody ∷ []) s.mode (body_end_rule (taken w)
-      ∙ ap (λ v. choose v (body_ends (SetMode AfterBody ∷ []) IsDone (taken w)) ignored) (body_is_in_scope InBody a b c w s)
-      ∙ ap (λ q. let r : Row = record { changes = SetMode AfterBody ∷ []; ending = IsDone; quiet = q } in r) (all_is_closed InBody a b c w s)) refl;
-  holds = in_other_mode InBody AfterBody a b c w s;
+      ∙ ap (λ v. choose v (body_ends (SetMode AfterBody ∷ []) IsDone (taken w)) ignored) (body_is_in_scope InBody a b c inner nodes w s)
+      ∙ ap (λ q. let r : Row = record { changes = SetMode AfterBody ∷ []; ending = IsDone; quiet = q } in r) (all_is_closed InBody a b c inner nodes w s)) refl;
+  holds = in_other_mode InBody AfterBody a b c inner nodes w s;
 }
 
-pub html_end_next : (choices : SinkChoices) (a b c : List AttributeText) (w : World) → WithBody AfterBody a b c w → Next choices (end_tag (codes "html")) w (WithBody AfterAfterBody a b c)
-html_end_next choices a b c w s = record {
+pub html_end_next : (choices : SinkChoices) (a b c : List AttributeText) (inner : List Child) (nodes : Nodes) (w : World) → WithBody AfterBody a b c inner nodes w → Next choices (end_tag (codes "html")) w (WithBody AfterAfterBody a b c inner nodes)
+html_end_next choices a b c inner nodes w s = record {
   after = set_mode AfterAfterBody (taken w);
   moves = moves_tag choices _ w AfterBody (SetMode AfterAfterBody ∷ []) s.mode (html_end_rule (taken w)) refl;
-  holds = in_other_mode AfterBody AfterAfterBody a b c w s;
+  holds = in_other_mode AfterBody AfterAfterBody a b c inner nodes w s;
 }
 
-pub file_end_next : (choices : SinkChoices) (a b c : List AttributeText) (w : World) → WithBody AfterAfterBody a b c w → Next choices EndOfFile w (WithBody AfterAfterBody a b c)
-file_end_next choices a b c w s = record {
+pub file_end_next : (choices : SinkChoices) (a b c : List AttributeText) (inner : List Child) (nodes : Nodes) (w : World) → WithBody AfterAfterBody a b c inner nodes w → Next choices EndOfFile w (WithBody AfterAfterBody a b c inner nodes)
+file_end_next choices a b c inner nodes w s = record {
   after = taken w;
   moves = moves_end choices w AfterAfterBody [] s.mode refl;
   holds = record {
@@ -258,5 +347,6 @@ file_end_next choices a b c w s = record {
     rooted = s.rooted;
     is_head = s.is_head;
     is_body = s.is_body;
+    stands = s.stands;
   };
 }

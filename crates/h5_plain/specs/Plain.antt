@@ -1,9 +1,10 @@
 -- Plain documents, as they are written. No mode of a tree builder is known here.
-use Rattle.std.specs.Prelude.{◌≡◌, ℕ, false, List, [], ◌∷◌, Some, None, codes}
+use Rattle.std.specs.Prelude.{◌≡◌, ◌≢◌, ℕ, Bool, true, false, not, if◌then◌else◌, List, [], ◌∷◌, Some, None, codes}
 use Rattle.h5_names.specs.AttributeText.{AttributeText}
 use Rattle.h5_token.specs.TokenText.{TokenText, DoctypeIs, TagIs, Characters, EndOfFile}
 use Rattle.h5_token.specs.declared.tag.TagKind.TheVariants.{StartTag, EndTag}
 use Rattle.h5_interface.specs.Changes.{has_attribute}
+use Rattle.h5_tag_sets.specs.TagSets.{heading_names, is_one_of, void_names}
 
 -- a list of nodes: texts, and HTML elements with what they hold
 pub data Nodes : Type 0 where
@@ -18,25 +19,56 @@ start_tag name attrs = TagIs (record { kind = StartTag; name = name; self_closin
 abbrev pub end_tag : List ℕ → TokenText
 end_tag name = TagIs (record { kind = EndTag; name = name; self_closing = false; attrs = []; had_duplicate_attributes = false })
 
+-- an element that is written with an end tag
+abbrev pub has_end_tag : List ℕ → Bool
+has_end_tag name = not (is_one_of void_names name)
+
 -- the tokens of a list of nodes, before others
 abbrev pub tokens_before : Nodes → List TokenText → List TokenText
 tokens_before End ts = ts
 tokens_before (TextThen text rest) ts = Characters text ∷ tokens_before rest ts
 tokens_before (ElementThen name attrs inner rest) ts =
-    start_tag name attrs ∷ tokens_before inner (end_tag name ∷ tokens_before rest ts)
-
--- what a list of nodes is for
-pub data Sort : Type 0 where
-  Blocks : Sort
-
--- which lists of nodes are plain: so far the empty one
-pub data IsPlain : Sort → Nodes → Type 0 where
-  Nothing : {s : Sort} → IsPlain s End
+    start_tag name attrs
+    ∷ (if has_end_tag name then tokens_before inner (end_tag name ∷ tokens_before rest ts) else tokens_before rest ts)
 
 -- attributes without prefix and namespace, each name once
 abbrev pub ArePlain : List AttributeText → Type 0
 ArePlain [] = Unit {0}
 ArePlain (a ∷ attrs) = (a.name.prefix ≡ None) × ((a.name.ns ≡ []) × ((has_attribute a.name attrs ≡ false) × ArePlain attrs))
+
+-- no byte of a text is zero
+abbrev pub NoNul : List ℕ → Type 0
+NoNul [] = Unit {0}
+NoNul (b ∷ t) = (b ≢ 0) × NoNul t
+
+-- what a list of nodes is for: what a block holds, text and what stands in it, what a list holds, what a table, its
+-- sections and its rows hold. Of inlines: whether a text stands right before them, and whether they are in a link
+pub data Sort : Type 0 where
+  Blocks : Sort
+  Inlines : (after_text linked : Bool) → Sort
+  Items : Sort
+  Sections : Sort
+  Rows : Sort
+  Cells : Sort
+
+-- which lists of nodes are plain
+pub data IsPlain : Sort → Nodes → Type 0 where
+  Nothing : {s : Sort} → IsPlain s End
+  -- a `div` of blocks
+  Division : {attrs : List AttributeText} {inner rest : Nodes} → ArePlain attrs → IsPlain Blocks inner → IsPlain Blocks rest
+      → IsPlain Blocks (ElementThen (codes "div") attrs inner rest)
+  -- a `p` of inlines
+  Paragraph : {attrs : List AttributeText} {inner rest : Nodes} → ArePlain attrs → IsPlain (Inlines false false) inner → IsPlain Blocks rest
+      → IsPlain Blocks (ElementThen (codes "p") attrs inner rest)
+  -- an `h1` to `h6` of inlines
+  Heading : {name : List ℕ} {attrs : List AttributeText} {inner rest : Nodes} → is_one_of heading_names name ≡ true → ArePlain attrs
+      → IsPlain (Inlines false false) inner → IsPlain Blocks rest → IsPlain Blocks (ElementThen name attrs inner rest)
+  -- a text, which isn't empty, and after which no other comes
+  Words : {linked : Bool} {first : ℕ} {more : List ℕ} {rest : Nodes} → NoNul (first ∷ more) → IsPlain (Inlines true linked) rest
+      → IsPlain (Inlines false linked) (TextThen (first ∷ more) rest)
+  -- a `br`
+  Break : {after_text linked : Bool} {attrs : List AttributeText} {rest : Nodes} → ArePlain attrs → IsPlain (Inlines false linked) rest
+      → IsPlain (Inlines after_text linked) (ElementThen (codes "br") attrs End rest)
 
 -- an `html` of a `head`, empty so far, and a `body` of blocks
 pub record PlainDocument : Type 0 where

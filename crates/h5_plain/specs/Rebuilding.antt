@@ -50,6 +50,7 @@ pub record IsStart (w : World) : Type 0 where
   pub options : w.options ≡ default_options
   pub mode : w.mode ≡ Initial
   pub none_open : w.stack ≡ []
+  pub none_listed : w.formatting ≡ []
   pub ignore_lf : w.ignore_lf ≡ false
 
 -- all answers are "go on"

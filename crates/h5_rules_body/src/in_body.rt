@@ -1,13 +1,19 @@
 //! The mode "in body" (HTML standard, section 13.2.6.4.7, "The 'in body' insertion mode").
 ghost use Rattle.h5_types.specs.TurnText.{HasText, turn_text};
 ghost use Rattle.h5_meaning.specs.InBody.{in_body, in_body_end_body, in_body_end_html, in_body_end_other, in_body_start_body, in_body_start_other, in_body_tag};
-ghost use Rattle.h5_state.specs.Steps.{IsOpen, IsSound, TellsErrors};
+ghost use Rattle.h5_meaning.specs.Sound.{IsReady};
+ghost use Rattle.h5_state.specs.Steps.{IsSound, TellsErrors, world_of};
 ghost use Rattle.h5_state.specs.Turn.{TakesTag, TakesToken};
 
 use super::blocks::{
     in_body_end_block, in_body_end_heading, in_body_end_p, in_body_start_block,
     in_body_start_heading,
 };
+use super::formatting::{
+    in_body_end_br, in_body_end_formatting, in_body_start_a, in_body_start_br,
+    in_body_start_formatting, in_body_start_nobr,
+};
+use h5_formatting::reconstruct_active_formatting_elements;
 use h5_interface::TreeSink;
 use h5_names::KnownName;
 use h5_rules_shared::{in_body_start_html, in_body_text};
@@ -119,7 +125,7 @@ fn in_body_end_other<S: TreeSink>(
     }
 }
 
-// Any other start tag: an element is inserted.
+// Any other start tag: an element is inserted, after formatting elements that were closed were made anew.
 fn in_body_start_other<S: TreeSink>(
     sink: &mut S,
     state: &mut State<S::Handle>,
@@ -128,6 +134,7 @@ fn in_body_start_other<S: TreeSink>(
     requires { IsSound S.TreeSink sink.old state.old }
     ensures { TakesTag S.TreeSink in_body_start_other tag sink.old state.old sink.new state.new result }
 {
+    reconstruct_active_formatting_elements(sink, state)?;
     let attrs = tag.attrs;
     insert_element(sink, state, tag.name, attrs, tag.had_duplicate_attributes)?;
     Ok(ProcessResult::Done)
@@ -135,7 +142,8 @@ fn in_body_start_other<S: TreeSink>(
 
 #[tactic(auto, unfolding(h5_meaning::specs::InBody::in_body_tag, h5_meaning::specs::InBody::in_body_start, h5_meaning::specs::InBody::in_body_end))]
 fn in_body_tag<S: TreeSink>(sink: &mut S, state: &mut State<S::Handle>, tag: Tag) -> Turn<S::Handle>
-    requires { IsOpen S.TreeSink sink.old state.old }
+    requires sound { IsSound S.TreeSink sink.old state.old }
+    requires ready { IsReady (world_of S.TreeSink sink.old state.old) }
     ensures { TakesTag S.TreeSink in_body_tag tag sink.old state.old sink.new state.new result }
 {
     match tag.kind {
@@ -148,6 +156,14 @@ fn in_body_tag<S: TreeSink>(sink: &mut S, state: &mut State<S::Handle>, tag: Tag
                 in_body_start_block(sink, state, tag)
             } else if NameSet::Heading.holds(&tag.name) {
                 in_body_start_heading(sink, state, tag)
+            } else if tag.name.is(KnownName::A) {
+                in_body_start_a(sink, state, tag)
+            } else if tag.name.is(KnownName::Nobr) {
+                in_body_start_nobr(sink, state, tag)
+            } else if NameSet::Formatting.holds(&tag.name) {
+                in_body_start_formatting(sink, state, tag)
+            } else if tag.name.is(KnownName::Br) {
+                in_body_start_br(sink, state, tag)
             } else {
                 in_body_start_other(sink, state, tag)
             }
@@ -163,6 +179,10 @@ fn in_body_tag<S: TreeSink>(sink: &mut S, state: &mut State<S::Handle>, tag: Tag
                 in_body_end_p(sink, state, tag)
             } else if NameSet::Heading.holds(&tag.name) {
                 in_body_end_heading(sink, state, tag)
+            } else if NameSet::Formatting.holds(&tag.name) {
+                in_body_end_formatting(sink, state, tag)
+            } else if tag.name.is(KnownName::Br) {
+                in_body_end_br(sink, state, tag)
             } else {
                 in_body_end_other(sink, state, tag)
             }
@@ -176,7 +196,8 @@ pub fn step_in_body<S: TreeSink>(
     state: &mut State<S::Handle>,
     token: Token,
 ) -> Turn<S::Handle>
-    requires open { IsOpen S.TreeSink sink.old state.old }
+    requires sound { IsSound S.TreeSink sink.old state.old }
+    requires ready { IsReady (world_of S.TreeSink sink.old state.old) }
     requires text { HasText (turn_text token) }
     ensures { TakesToken S.TreeSink in_body token sink.old state.old sink.new state.new result }
 {

@@ -5,6 +5,7 @@ ghost use Rattle.h5_meaning.specs.Shared.{in_body_start_html, in_body_text};
 ghost use Rattle.h5_state.specs.Steps.{IsOpen, IsSound};
 ghost use Rattle.h5_state.specs.Turn.{TakesTag, Turns};
 
+use h5_formatting::reconstruct_active_formatting_elements;
 use h5_interface::TreeSink;
 use h5_state::{
     State, Turn, add_attrs_to_html, append_text, has_open_template, set_frameset_ok_by_text,
@@ -34,8 +35,8 @@ pub fn in_body_start_html<S: TreeSink>(
     }
 }
 
-/// A text: it is appended, and the frameset flag goes off where it isn't blank. It answers an `AllocError` where
-/// memory is refused.
+/// A text: formatting elements that were closed are made anew, it is appended, and the frameset flag goes off where it
+/// isn't blank. It answers an `AllocError` where memory is refused.
 pub fn in_body_text<S: TreeSink>(
     sink: &mut S,
     state: &mut State<S::Handle>,
@@ -47,6 +48,7 @@ pub fn in_body_text<S: TreeSink>(
     ensures { Turns S.TreeSink (in_body_text (string_bytes text)) (TextTurn status (string_bytes text)) sink.old state.old sink.new state.new result }
 {
     let _ = status;
+    reconstruct_active_formatting_elements(sink, state)?;
     set_frameset_ok_by_text(sink, state, text.as_str());
     append_text(sink, state, text)?;
     Ok(ProcessResult::Done)

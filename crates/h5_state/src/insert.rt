@@ -4,7 +4,7 @@ ghost use Rattle.h5_names.specs.AttributeText.{attribute_texts};
 ghost use Rattle.h5_names.specs.KnownNames.{name_text};
 ghost use Rattle.h5_meaning.specs.Changes.{push_new};
 ghost use Rattle.h5_meaning.specs.Place.{IsPlaceIn, LastChild};
-ghost use Rattle.h5_meaning.specs.Rows.{AppendComment, AppendCommentToDoc, AppendCommentToHtml, AppendText, CreateRoot, InsertElement, InsertHead};
+ghost use Rattle.h5_meaning.specs.Rows.{AppendComment, AppendCommentToDoc, AppendCommentToHtml, AppendText, CreateRoot, InsertAndPopElement, InsertElement, InsertHead};
 ghost use Rattle.h5_stack.specs.FormattingNames.{html_name};
 ghost use Rattle.h5_state.specs.Places.{place_of};
 ghost use Rattle.h5_state.specs.Steps.{IsSound, MakesIfOk, errors_of, world_of};
@@ -67,6 +67,24 @@ pub fn insert_element<S: TreeSink>(
 {
     let place = current_place(sink, state);
     push_at(sink, state, &place, local, attrs, had_duplicate_attributes)
+}
+
+/// An HTML element of this name at the place of insertion, which isn't open. An Err leaves open elements.
+#[tactic(auto, unfolding(crate::specs::View::world, h5_meaning::specs::Changes::insert_and_pop_element))]
+pub fn insert_and_pop_element<S: TreeSink>(
+    sink: &mut S,
+    state: &State<S::Handle>,
+    local: LocalName,
+    attrs: Vec<Attribute>,
+    had_duplicate_attributes: bool,
+) -> Result<(), AllocError>
+    requires { IsSound S.TreeSink sink.old state.now }
+    ensures { MakesIfOk S.TreeSink (InsertAndPopElement local (attribute_texts attrs.items) had_duplicate_attributes) sink.old state.now sink.new state.now result }
+{
+    let place = current_place(sink, state);
+    let name = html_qual_name(local);
+    insert_new_element(sink, &place, name, attrs, had_duplicate_attributes)?;
+    Ok(())
 }
 
 /// An HTML element of this name, without attributes, at the place of insertion.

@@ -24,15 +24,16 @@ pub use closing::{
 pub use errors::{tell_error, unexpected, unexpected_tag};
 pub use insert::{
     append_comment, append_comment_to_doc, append_comment_to_html, append_text, create_root,
-    insert_element, insert_head, insert_phantom,
+    insert_and_pop_element, insert_element, insert_head, insert_phantom,
 };
 pub use open_element::{AllOpen, OpenElement, Summary};
 pub use open_elems::{
-    check_body_end, find_before_special, generate_implied_end_except, has_body_in_scope,
+    all_open, check_body_end, find_before_special, generate_implied_end_except, has_body_in_scope,
     has_body_second, has_open_template, has_p_in_button_scope, in_scope_named, is_current_html,
     pop_until_named,
 };
 pub use place::{InsertionPoint, appropriate_place_for_insertion, current_place};
+pub use put::insert_at;
 pub use state::{State, Turn};
 pub use steps::{
     current_mode, current_node, has_srcdoc, pop, set_frameset_not_ok, set_mode, set_quirks_mode,

@@ -11,7 +11,8 @@ use Rattle.h5_types.specs.declared.modes.InsertionMode.TheVariants.{Initial}
 use Rattle.h5_types.specs.declared.options.TreeBuilderOpts.{TreeBuilderOpts}
 use Rattle.h5_meaning.specs.Run.{doctype_in, is_counted, step, take_or_refuse, taken, tell_or_refuse, text_step, without_lf}
 use Rattle.h5_interface.specs.declared.sink.TreeSink.{Ghosts}
-use Rattle.h5_meaning.specs.Sound.{AllStand, Fits, Sound, Stands}
+use Rattle.h5_meaning.specs.Sound.{AllStand, Fits, HasLists, Sound, Stands}
+use Rattle.h5_stack.specs.Lists.{Lists}
 use Rattle.h5_meaning.specs.World.{World, names_of}
 use Rattle.h5_meaning.proofs.TurnLaws.{turns_few}
 use Rattle.h5_meaning.proofs.RunLaws.{is_taken, moved}
@@ -45,9 +46,15 @@ all_none f k = record {
   formatting = tt;
 }
 
+lists_first : Lists [] []
+lists_first = record {
+  agrees = record { once = λ x h. absurd h; order = λ x y h. absurd h; open_first = λ x y h. absurd h };
+  alike = λ t. tt;
+}
+
 fits_first : (seen : Seen) (opts : TreeBuilderOpts) → Fits (first_world seen opts)
 unfolding names_of
-fits_first seen opts = refl
+fits_first seen opts = record { mode = refl; lists = lists_first }
 
 names_first : (seen : Seen) (opts : TreeBuilderOpts) → names_of (first_world seen opts) ≡ []
 unfolding names_of
@@ -61,6 +68,7 @@ first_kept law sink state opts k none e = record {
     kept = none ∙ ap summaries (sym (ap names_of e ∙ names_first (law.sees sink) opts));
   };
   fits = λ a b. subst Fits (sym e) (fits_first (law.sees sink) opts);
+  lists = λ a. subst HasLists (sym e) lists_first;
   closed = λ h. ap (λ (w : World). w.stack) e;
 }
 

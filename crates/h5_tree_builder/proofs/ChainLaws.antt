@@ -1,5 +1,5 @@
 -- Turn after turn: what is left of a chain.
-use Rattle.std.proofs.Common.{◌≡◌, ◌≢◌, ◌+◌, ◌&&◌, not, List, ℕ, Bool, true, false, refl, ap, sym, ◌∙◌, arith}
+use Rattle.std.proofs.Common.{◌≡◌, ◌≢◌, ◌+◌, ◌&&◌, not, List, ℕ, Bool, true, false, refl, ap, sym, subst, ◌∙◌, arith}
 use Rattle.h5_names.specs.declared.qualified.QualName.{QualName}
 use Rattle.h5_token.specs.Reply.{reply}
 use Rattle.h5_token.specs.declared.sink.TokenSinkResult.{TokenSinkResult}
@@ -15,7 +15,8 @@ use Rattle.h5_meaning.specs.Changes.{set_mode}
 use Rattle.h5_meaning.specs.Modes.{rule}
 use Rattle.h5_meaning.specs.Rows.{Follows}
 use Rattle.h5_meaning.specs.Settle.{Settled, settle}
-use Rattle.h5_meaning.specs.World.{World}
+use Rattle.h5_meaning.specs.Sound.{Fits, IsReady, Sound, situation_of}
+use Rattle.h5_meaning.specs.World.{World, names_of}
 use Rattle.h5_meaning.proofs.SettleLaws.{acknowledged_here, answered_here, ends_here, goes_on}
 use Rattle.h5_tree_builder.specs.Chains.{CameTo}
 
@@ -30,6 +31,10 @@ unreached s InBody ns h a b c d e f i j = f refl
 unreached s AfterBody ns h a b c d e f i j = i refl
 unreached s AfterAfterBody ns h a b c d e f i j = j refl
 unreached s _ ns h a b c d e f i j = h
+
+-- in the body builder and sink are ready
+pub ready_in_body : (w : World) → w.mode ≡ InBody → Sound w → Fits w → IsReady w
+ready_in_body w e k h = record { sound = k; lists = h.lists; root = subst (λ m. StageFits (situation_of w) m (names_of w)) e h.mode }
 
 -- after so many turns: the chain of the first world ends as that of this one
 pub record Left (choices : SinkChoices) (t : TurnText) (first now : World) (first_errors errors count : ℕ) : Type 0 where

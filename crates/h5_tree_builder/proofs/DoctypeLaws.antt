@@ -9,7 +9,7 @@ use Rattle.h5_types.specs.declared.modes.InsertionMode.TheVariants.{Initial}
 use Rattle.h5_fits.specs.StageFits.{StageFits}
 use Rattle.h5_meaning.specs.Changes.{insert_doctype, set_quirks_mode}
 use Rattle.h5_meaning.specs.Run.{judged, with_doctype}
-use Rattle.h5_meaning.specs.Sound.{Fits, Sound, situation_of}
+use Rattle.h5_meaning.specs.Sound.{Fits, HasLists, Sound, situation_of}
 use Rattle.h5_meaning.specs.World.{World, names_of}
 use Rattle.h5_meaning.proofs.NameLaws.{names_kept}
 
@@ -25,6 +25,15 @@ names-with_doctype choices d w k =
       | false ↦ names-insert_doctype choices (unwrap_or d.name []) (unwrap_or d.public_id []) (unwrap_or d.system_id []) w k
     ]
 
+-- a doctype changes the forest alone
+keeps-with_doctype : (choices : SinkChoices) (d : DoctypeText) (w : World) → HasLists w → HasLists (with_doctype choices d w)
+unfolding with_doctype insert_doctype
+keeps-with_doctype choices d w h =
+    elim w.options.drop_doctype as (λ b. HasLists (cond b w (insert_doctype choices (unwrap_or d.name []) (unwrap_or d.public_id []) (unwrap_or d.system_id []) w))) [ true ↦ h | false ↦ h ]
+
 pub fits_judged : (choices : SinkChoices) (d : DoctypeText) (w : World) → w.mode ≡ Initial → Sound w → Fits w → Fits (judged choices d w)
 unfolding judged set_quirks_mode names_of
-fits_judged choices d w e k h = names-with_doctype choices d w k ∙ subst (λ m. StageFits (situation_of w) m (names_of w)) e h
+fits_judged choices d w e k h = record {
+  mode = names-with_doctype choices d w k ∙ subst (λ m. StageFits (situation_of w) m (names_of w)) e h.mode;
+  lists = keeps-with_doctype choices d w h.lists;
+}

@@ -1,9 +1,12 @@
 -- Popping all open elements.
-use Rattle.std.proofs.Common.{◌≡◌, ◌<◌, ℕ, List, [], ◌∷◌, length, refl, ap, sym, ◌∙◌, arith}
+use Rattle.std.proofs.Common.{◌≡◌, ◌<◌, ℕ, List, [], ◌∷◌, length, refl, ap, sym, subst, ◌∙◌, arith}
 use Rattle.h5_interface.specs.Seen.{Seen}
 use Rattle.h5_interface.specs.SinkChoices.{SinkChoices}
 use Rattle.h5_meaning.specs.Changes.{pop}
+use Rattle.h5_meaning.specs.Sound.{HasLists}
 use Rattle.h5_meaning.specs.World.{World}
+use Rattle.h5_stack.specs.FormattingList.{Entry}
+use Rattle.h5_stack.specs.Lists.{Lists}
 use Rattle.h5_stack.specs.Order.{but_first}
 use Rattle.h5_state.specs.View.{open_node, world}
 use Rattle.h5_state.specs.declared.state.State.{State}
@@ -33,3 +36,20 @@ pop_next choices w some = at w.stack refl
 
 pub popped_all : (choices : SinkChoices) (w : World) → w.stack ≡ [] → all_popped choices w ≡ w
 popped_all choices w e = ap (λ s. pop_each choices s w) e
+
+-- with no element open any list that agreed with open elements agrees
+lists_none : (s : List ℕ) (l : List Entry) → Lists s l → Lists [] l
+lists_none s l k = record {
+  agrees = record { once = k.agrees.once; order = λ x y h. absurd h; open_first = λ x y b h. absurd h };
+  alike = k.alike;
+}
+
+formatting_popped : (choices : SinkChoices) (s : List ℕ) (w : World) → (pop_each choices s w).formatting ≡ w.formatting
+unfolding pop
+formatting_popped choices [] w = refl
+formatting_popped choices (n ∷ s) w = formatting_popped choices s (pop choices w)
+
+-- after the end the list agrees with the open elements, of which there is none
+pub lists_popped : (choices : SinkChoices) (w v : World) → v ≡ all_popped choices w → v.stack ≡ [] → HasLists w → HasLists v
+lists_popped choices w v e none h =
+    subst (λ s. Lists s v.formatting) (sym none) (subst (Lists []) (sym (ap (λ (u : World). u.formatting) e ∙ formatting_popped choices w.stack w)) (lists_none w.stack w.formatting h))

@@ -1,3 +1,4 @@
+pub mod ActiveFormattingLaws
 pub mod BuilderLaws
 pub mod ChainLaws
 pub mod DoctypeLaws

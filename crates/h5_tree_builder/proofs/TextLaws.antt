@@ -25,6 +25,7 @@ use Rattle.h5_meaning.specs.Run.{is_empty_text, text_step}
 use Rattle.h5_meaning.specs.World.{World}
 use Rattle.h5_meaning.proofs.CutLaws.{text_cut}
 use Rattle.h5_meaning.proofs.SettleLaws.{settle-row}
+use Rattle.h5_meaning.proofs.TreeLaws.{tree_reconstruct}
 use Rattle.h5_tree_builder.specs.Chains.{CameTo}
 
 blank_all : (t : List ℕ) → rest_of t ≡ [] → blanks_of t ≡ t
@@ -37,9 +38,9 @@ split_blank blanks others b t w e = ap (λ x. if_any others x (if_any blanks (bl
 split_solid : (blanks others : List ℕ → World → World) (b : ℕ) (t : List ℕ) (w : World) → is_blank b ≡ false → split blanks others (b ∷ t) w ≡ others (b ∷ t) w
 split_solid blanks others b t w e = ap (λ v. if_any others (cond v (rest_of t) (b ∷ t)) (if_any blanks (cond v (b ∷ blanks_of t) []) w)) e
 
-in_body_mode : (t : List ℕ) (w : World) → (text_in_body t w).mode ≡ w.mode
+in_body_mode : (choices : SinkChoices) (t : List ℕ) (w : World) → (text_in_body choices t w).mode ≡ w.mode
 unfolding text_in_body append_text set_frameset_ok_by_text
-in_body_mode t w = refl
+in_body_mode choices t w = ap (λ (v : World). v.mode) (tree_reconstruct choices w)
 
 module _ (choices : SinkChoices) (s : SplitStatus) (b : ℕ) (t : List ℕ) where
   abbrev Meets : InsertionMode → Type 0
@@ -96,14 +97,14 @@ module _ (choices : SinkChoices) (b : ℕ) (t : List ℕ) where
   blank_run BeforeHtml r = blank_meets choices Whitespace b t BeforeHtml dropped (by_else choices before_html_else (text_before_head choices)) (λ w. row [] IsDone) r (λ w. refl) (λ w. refl) (λ w. refl) (λ w. refl)
   blank_run BeforeHead r = blank_meets choices Whitespace b t BeforeHead dropped (by_else choices before_head_else (text_in_head choices)) (λ w. row [] IsDone) r (λ w. refl) (λ w. refl) (λ w. refl) (λ w. refl)
   blank_run InHead r = blank_meets choices Whitespace b t InHead append_text (by_else choices in_head_else (text_after_head choices)) (λ w. row (AppendText (b ∷ t) ∷ []) IsDone) r (λ w. refl) (λ w. refl) (λ w. refl) (λ w. refl)
-  blank_run AfterHead r = blank_meets choices Whitespace b t AfterHead append_text (by_else choices after_head_else text_in_body) (λ w. row (AppendText (b ∷ t) ∷ []) IsDone) r (λ w. refl) (λ w. refl) (λ w. refl) (λ w. refl)
+  blank_run AfterHead r = blank_meets choices Whitespace b t AfterHead append_text (by_else choices after_head_else (text_in_body choices)) (λ w. row (AppendText (b ∷ t) ∷ []) IsDone) r (λ w. refl) (λ w. refl) (λ w. refl) (λ w. refl)
   blank_run InBody r = whole_in_body choices Whitespace b t (λ w. refl)
-  blank_run AfterBody r = blank_meets choices Whitespace b t AfterBody text_in_body (by_else choices back_to_body text_in_body) (in_body_text (b ∷ t)) r (λ w. refl) (λ w. refl) (λ w. refl) (λ w. refl)
-  blank_run AfterAfterBody r = blank_meets choices Whitespace b t AfterAfterBody text_in_body (by_else choices back_to_body text_in_body) (in_body_text (b ∷ t)) r (λ w. refl) (λ w. refl) (λ w. refl) (λ w. refl)
+  blank_run AfterBody r = blank_meets choices Whitespace b t AfterBody (text_in_body choices) (by_else choices back_to_body (text_in_body choices)) (in_body_text (b ∷ t)) r (λ w. refl) (λ w. refl) (λ w. refl) (λ w. refl)
+  blank_run AfterAfterBody r = blank_meets choices Whitespace b t AfterAfterBody (text_in_body choices) (by_else choices back_to_body (text_in_body choices)) (in_body_text (b ∷ t)) r (λ w. refl) (λ w. refl) (λ w. refl) (λ w. refl)
   blank_run m r = none_meets choices Whitespace b t m (λ w. refl) (λ w. refl)
 
-  solid_back : (m : InsertionMode) → is_blank b ≡ false → ((w : World) → rule m S w ≡ back_to_body S w) → ((w : World) → text_in m choices (b ∷ t) w ≡ split text_in_body (by_else choices back_to_body text_in_body) (b ∷ t) w) → Meets choices NotWhitespace b t m
-  solid_back m n f is = solid_meets choices NotWhitespace b t m InBody text_in_body back_to_body n f (λ w. refl) (whole_in_body choices NotWhitespace b t (λ w. refl)) is
+  solid_back : (m : InsertionMode) → is_blank b ≡ false → ((w : World) → rule m S w ≡ back_to_body S w) → ((w : World) → text_in m choices (b ∷ t) w ≡ split (text_in_body choices) (by_else choices back_to_body (text_in_body choices)) (b ∷ t) w) → Meets choices NotWhitespace b t m
+  solid_back m n f is = solid_meets choices NotWhitespace b t m InBody (text_in_body choices) back_to_body n f (λ w. refl) (whole_in_body choices NotWhitespace b t (λ w. refl)) is
 
   solid_after_head : is_blank b ≡ false → Meets choices NotWhitespace b t AfterHead
   unfolding text_after_head
@@ -186,8 +187,8 @@ pub mode_stays : (choices : SinkChoices) (run : List ℕ) (w v : World) → w.mo
 mode_stays choices [] w v e f = ap (λ (x : World). x.mode) f ∙ e
 mode_stays choices (b ∷ t) w v e f = ap (λ (x : World). x.mode) (f ∙ ap (λ m. text_in m choices (b ∷ t) w) e) ∙ stays
   where
-    stays : (text_in_body (b ∷ t) w).mode ≡ InBody
-    stays = in_body_mode (b ∷ t) w ∙ e
+    stays : (text_in_body choices (b ∷ t) w).mode ≡ InBody
+    stays = in_body_mode choices (b ∷ t) w ∙ e
 
 -- what a text came to
 pub text_came : {H : Type 0} (choices : SinkChoices) (node : H → ℕ) (text : List ℕ) (old new : World) (a b n : ℕ) → new ≡ text_any choices text old → (old.mode ≡ InBody → b ≡ a) → (text ≡ [] → (n ≡ 0) × (b ≡ a))

@@ -3,7 +3,7 @@
 use Rattle.std.specs.Prelude.{◌≡◌, ℕ, Bool, true, false, []}
 use Rattle.h5_interface.specs.Seen.{Seen}
 use Rattle.h5_interface.specs.declared.sink.TreeSink.{Ghosts}
-use Rattle.h5_meaning.specs.Sound.{Fits}
+use Rattle.h5_meaning.specs.Sound.{Fits, HasLists}
 use Rattle.h5_state.specs.Steps.{IsSound, world_of}
 use Rattle.h5_state.specs.View.{world}
 use Rattle.h5_state.specs.declared.state.State.{State}
@@ -16,10 +16,12 @@ pub record Held (S H : Type 0) : Type 0 where
   pub failed : Bool
   pub turns : ℕ
 
--- what holds at every moment, also after want of memory
+-- what holds at every moment, also after want of memory; where none was refused, the list of active formatting elements
+-- agrees with the open elements, also after the end
 pub record IsKept {S H O : Type 0} (law : Ghosts S H O) (h : Held S H) : Type 0 where
   pub sound : IsSound law h.sink h.state
   pub fits : h.failed ≡ false → h.ended ≡ false → Fits (world_of law h.sink h.state)
+  pub lists : h.failed ≡ false → HasLists (world_of law h.sink h.state)
   pub closed : h.ended ≡ true → (world_of law h.sink h.state).stack ≡ []
 
 -- what that means

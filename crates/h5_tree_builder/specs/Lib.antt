@@ -1,3 +1,4 @@
+pub mod ActiveFormatting
 pub mod Builder
 pub mod Chains
 pub mod Held

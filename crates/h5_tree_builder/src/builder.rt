@@ -1,7 +1,7 @@
 //! The tree builder.
-ghost use Rattle.std.specs.Prelude.{◌≡◌, [], true};
+ghost use Rattle.std.specs.Prelude.{◌≡◌, [], false, true};
 ghost use Rattle.h5_token.specs.TokenText.{token_text};
-ghost use Rattle.h5_meaning.specs.Sound.{Sound};
+ghost use Rattle.h5_meaning.specs.Sound.{HasLists, Sound};
 ghost use Rattle.h5_tree_builder.specs.Held.{building};
 ghost use Rattle.h5_tree_builder.specs.Builder.{IsKeptWhole, Takes, ended_view, first_building};
 
@@ -21,6 +21,11 @@ use std::marker::Model;
 /// the turns that the last token took. At every moment, also after want of memory, the sink's forest is a
 /// forest, the open elements are its elements, they are distinct, and none is an ancestor, through
 /// children or contents, of one nearer the root.
+///
+/// Unless memory was refused, the list of active formatting elements agrees with the stack of open
+/// elements: no element is listed twice, listed elements that are open stand in the list in the stack's
+/// order, and in each stretch between two markers no open element's entry is newer than that of one that
+/// isn't open, and at most three entries are alike.
 #[derive(Drop)]
 pub struct TreeBuilder<Handle: Drop, Sink: TreeSink<Handle = Handle> + Drop> {
     /// The sink. It is the builder's as long as tokens come: nobody else changes it.
@@ -60,6 +65,11 @@ impl<Handle: Drop, Sink: TreeSink<Handle = Handle> + Drop> TreeBuilder<Handle, S
 
     /// Takes a token that began in this line.
     ///
+    /// After each token that was taken, the list of active formatting elements agrees with the stack of
+    /// open elements: no element is listed twice, listed elements that are open stand in the list in the
+    /// stack's order, and in each stretch between two markers no open element's entry is newer than that of
+    /// one that isn't open, and at most three entries are alike.
+    ///
     /// After want of memory it answers `Failed`, after the end `AfterEnd`, and then nothing has changed, in
     /// the sink neither. Where memory is refused now it answers `Memory`, and the turns stay those of the
     /// token before.
@@ -72,6 +82,7 @@ impl<Handle: Drop, Sink: TreeSink<Handle = Handle> + Drop> TreeBuilder<Handle, S
         ensures same { IsKeptWhole self.old self.new result }
         ensures ended { self.new.ended ≡ self.old.ended }
         ensures sound { Sound (building Sink.sees Sink.node self.new).view.world }
+        ensures lists { (building Sink.sees Sink.node self.new).view.failed ≡ false → HasLists (building Sink.sees Sink.node self.new).view.world }
     {
         if self.failed {
             return Err(BuildFault::Failed);
@@ -88,7 +99,8 @@ impl<Handle: Drop, Sink: TreeSink<Handle = Handle> + Drop> TreeBuilder<Handle, S
     }
 
     /// Takes note that no token comes any more: all open elements are popped, from the current node on,
-    /// and the sink is told of each. Then none is open. Where it was called before, nothing changes.
+    /// and the sink is told of each. Then none is open; the list of active formatting elements stays. Where
+    /// it was called before, nothing changes.
     pub fn end(&mut self)
         ensures view { (building Sink.sees Sink.node self.new).view ≡ ended_view Sink.choices (building Sink.sees Sink.node self.old).view }
         ensures none { (building Sink.sees Sink.node self.new).view.world.stack ≡ [] }
@@ -96,6 +108,7 @@ impl<Handle: Drop, Sink: TreeSink<Handle = Handle> + Drop> TreeBuilder<Handle, S
         ensures turns { self.new.turns ≡ self.old.turns }
         ensures quiet { (building Sink.sees Sink.node self.new).errors ≡ (building Sink.sees Sink.node self.old).errors }
         ensures sound { Sound (building Sink.sees Sink.node self.new).view.world }
+        ensures lists { (building Sink.sees Sink.node self.new).view.failed ≡ false → HasLists (building Sink.sees Sink.node self.new).view.world }
     {
         pop_all(&mut self.sink, &mut self.state);
         self.ended = true;
@@ -107,6 +120,7 @@ impl<Handle: Drop, Sink: TreeSink<Handle = Handle> + Drop> TreeBuilder<Handle, S
         ensures failed { (building Sink.sees Sink.node self.new).view.failed ≡ true }
         ensures ended { self.new.ended ≡ self.old.ended }
         ensures sound { Sound (building Sink.sees Sink.node self.new).view.world }
+        ensures lists { (building Sink.sees Sink.node self.new).view.failed ≡ false → HasLists (building Sink.sees Sink.node self.new).view.world }
     {
         self.failed = true;
         BuildFault::Memory
@@ -114,6 +128,7 @@ impl<Handle: Drop, Sink: TreeSink<Handle = Handle> + Drop> TreeBuilder<Handle, S
 
     pub(crate) fn has_failed(&self) -> bool
         ensures sound { Sound (building Sink.sees Sink.node self.now).view.world }
+        ensures lists { (building Sink.sees Sink.node self.now).view.failed ≡ false → HasLists (building Sink.sees Sink.node self.now).view.world }
         ensures failed { result ≡ (building Sink.sees Sink.node self.now).view.failed }
     {
         self.failed

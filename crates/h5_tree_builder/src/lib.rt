@@ -1,6 +1,7 @@
 //! The tree builder (HTML standard, section 13.2.6, "Tree construction").
 #![tactic(auto)]
 
+mod active_formatting;
 mod ask;
 mod builder;
 mod dispatch;
@@ -8,6 +9,7 @@ mod doctype;
 mod end;
 mod first;
 mod foreign;
+mod open_elems;
 mod process_token;
 mod replies;
 mod taken;
@@ -15,6 +17,8 @@ mod text;
 mod token_sink;
 mod whole;
 
+pub use active_formatting::ActiveFormattingIter;
 pub use builder::TreeBuilder;
 pub use h5_types::TreeBuilderOpts;
+pub use open_elems::{PushFlag, html_elem};
 pub use replies::Reply;

@@ -1,6 +1,6 @@
 //! Texts that come in pieces: the trees are those of the whole texts.
 use super::parser::new_parser;
-use super::rows::{PAGES, TREES};
+use super::rows::{BODIES, PAGES, TREES, page_of};
 use super::running::prints;
 use h5_arena::Arena;
 use h5_serialize::{SerializeFault, SerializeOpts, serialize};
@@ -21,14 +21,29 @@ fn characters_of(alloc: Global, text: &str) -> Result<Vec<String>, AllocError> {
     Ok(pieces)
 }
 
+// The HTML of a page that comes in single characters.
+fn html_of_characters(alloc: Global, page: &str) -> Result<Vec<u8>, Fail> {
+    let pieces = characters_of(alloc, page)?;
+    let arena = new_parser(alloc)?.process_pieces(pieces.as_slice())?;
+    Ok(html_of(alloc, &arena)?)
+}
+
 #[test]
 fn pages_in_single_characters(rt: HostRuntime) -> Result<(), Fail> {
     let alloc = rt.alloc();
     for (page, html) in PAGES {
-        let pieces = characters_of(alloc, page)?;
-        let arena = new_parser(alloc)?.process_pieces(pieces.as_slice())?;
-        let found = html_of(alloc, &arena)?;
+        let found = html_of_characters(alloc, page)?;
         assert_eq!(rt; found.as_slice(), html.as_bytes());
+    }
+    Ok(())
+}
+
+#[test]
+fn bodies_in_single_characters(rt: HostRuntime) -> Result<(), Fail> {
+    let alloc = rt.alloc();
+    for (page, body) in BODIES {
+        let found = html_of_characters(alloc, page)?;
+        assert_eq!(rt; found.as_slice(), page_of(alloc, body)?.as_bytes());
     }
     Ok(())
 }

@@ -1,5 +1,6 @@
 //! Runs of the program on lines of tokens and on texts: what it prints, and how it ends.
 use super::running::{prints, runs};
+use std::alloc::{AllocError, Global};
 use std::test::Fail;
 
 /// Lines of tokens, and the trees that they make.
@@ -37,7 +38,7 @@ pub const TREES: [(&str, &str); 9] = [
 ];
 
 /// Texts, and the HTML of the trees that they make.
-pub const PAGES: [(&str, &str); 20] = [
+pub const PAGES: [(&str, &str); 15] = [
     (
         "<!DOCTYPE html><p class=a>x &amp; y",
         "<!DOCTYPE html><html><head></head><body><p class=\"a\">x &amp; y</p></body></html>",
@@ -68,27 +69,46 @@ pub const PAGES: [(&str, &str); 20] = [
     ("a</b", "<html><head></head><body>a</body></html>"),
     ("a<p b=\"c>", "<html><head></head><body>a</body></html>"),
     ("a<!DOCTYPE b", "<html><head></head><body>a</body></html>"),
-    (
-        "<p>x<h1>y<h2>z",
-        "<html><head></head><body><p>x</p><h1>y</h1><h2>z</h2></body></html>",
-    ),
-    (
-        "<div></div></p>",
-        "<html><head></head><body><div></div><p></p></body></html>",
-    ),
-    (
-        "<h1>1<h2>2</h3>3",
-        "<html><head></head><body><h1>1</h1><h2>2</h2>3</body></html>",
-    ),
-    (
-        "<p>1<div>2<p>3</div>4",
-        "<html><head></head><body><p>1</p><div>2<p>3</p></div>4</body></html>",
-    ),
-    (
-        "<section>1</article>2</section>3",
-        "<html><head></head><body><section>12</section>3</body></html>",
-    ),
 ];
+
+/// Texts, and what the body of their trees holds.
+pub const BODIES: [(&str, &str); 18] = [
+    ("<p>x<h1>y<h2>z", "<p>x</p><h1>y</h1><h2>z</h2>"),
+    ("<div></div></p>", "<div></div><p></p>"),
+    ("<h1>1<h2>2</h3>3", "<h1>1</h1><h2>2</h2>3"),
+    ("<p>1<div>2<p>3</div>4", "<p>1</p><div>2<p>3</p></div>4"),
+    ("<section>1</article>2</section>3", "<section>12</section>3"),
+    ("<nobr>1<nobr>2", "<nobr>1</nobr><nobr>2</nobr>"),
+    ("<b>1<div>2</b>3</div>4", "<b>1</b><div><b>2</b>3</div>4"),
+    (
+        "<p>1<b>2<i>3</p>4",
+        "<p>1<b>2<i>3</i></b></p><b><i>4</i></b>",
+    ),
+    ("<b>1<i>2</b>3</i>4", "<b>1<i>2</i></b><i>3</i>4"),
+    ("<a>1<a>2", "<a>1</a><a>2</a>"),
+    (
+        "<p><b><b><b><b>x</p>y",
+        "<p><b><b><b><b>x</b></b></b></b></p><b><b><b>y</b></b></b>",
+    ),
+    ("<p>1<b>2</p><p>3</b>4", "<p>1<b>2</b></p><p><b>3</b>4</p>"),
+    (
+        "<b>1<i>2<p>3</b>4",
+        "<b>1<i>2</i></b><i><p><b>3</b>4</p></i>",
+    ),
+    ("<a>1<p>2<a>3", "<a>1</a><p><a>2</a><a>3</a></p>"),
+    (
+        "<p><b class=x>1</p>2",
+        "<p><b class=\"x\">1</b></p><b class=\"x\">2</b>",
+    ),
+    ("1<br>2</br>3", "1<br>2<br>3"),
+    ("1</b>2", "12"),
+    ("<b>1<span>2</b>3", "<b>1<span>2</span></b>3"),
+];
+
+/// The HTML of a page whose body holds this.
+pub fn page_of(alloc: Global, body: &str) -> Result<String, AllocError> {
+    format!(in alloc; "<html><head></head><body>{body}</body></html>")
+}
 
 #[test]
 fn trees_of_few_tokens(rt: HostRuntime) -> Result<(), Fail> {
@@ -128,6 +148,16 @@ fn a_bad_line_is_named(rt: HostRuntime) -> Result<(), Fail> {
 fn html_of_a_text(rt: HostRuntime) -> Result<(), Fail> {
     for (input, output) in PAGES {
         prints(&rt, rt.alloc(), "html", input, output)?;
+    }
+    Ok(())
+}
+
+#[test]
+fn bodies_of_texts(rt: HostRuntime) -> Result<(), Fail> {
+    let alloc = rt.alloc();
+    for (input, body) in BODIES {
+        let page = page_of(alloc, body)?;
+        prints(&rt, alloc, "html", input, page.as_str())?;
     }
     Ok(())
 }

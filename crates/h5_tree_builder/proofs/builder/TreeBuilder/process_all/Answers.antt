@@ -25,6 +25,7 @@ tokens-preserved g c =
     let here : Onward k all (token_text c.in-Some.token ∷ token_texts rest) old now told = subst (λ z. Onward k all (token_texts z) old now told) cut c.tokens.invariant.onward in
     record {
       sound = c.reply.ensures.sound;
+      lists = c.reply.ensures.lists;
       ended = c.reply.ensures.ended ∙ c.tokens.invariant.ended;
       onward = subst (λ x. Onward k all (token_texts rest) old new x) (sym (ap (reply_texts node) pushed ∙ map-append (reply_text node) c.tokens.replies.items (c.in_ok-reply.reply ∷ [])))
           (onward_next k all (token_texts rest) (token_text c.in-Some.token) old now new told answer c.in_ok-reply.ensures.done here);

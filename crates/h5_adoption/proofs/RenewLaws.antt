@@ -1,0 +1,41 @@
+-- What is kept beside open elements, where it is made anew.
+use Rattle.std.proofs.Common.{◌≡◌, ◌≢◌, ◌+◌, ◌-◌, ◌<◌, ◌≤◌, ℕ, List, [], ◌∷◌, ◌++◌, length, map, reverse, take, get_or, ap, sym, ◌∙◌, arith}
+use Rattle.std.proofs.Math.ListN.{set}
+use Rattle.std.proofs.Math.Seq.{map-set_same, take-append_seam}
+use Rattle.std.proofs.lemmas.List.{length-take, take_more, take_more_set}
+use Rattle.h5_interface.specs.Forest.{Forest}
+use Rattle.h5_meaning.specs.World.{name_in}
+use Rattle.h5_state.specs.Summaries.{all_open, summaries, summary_of}
+use Rattle.h5_state.specs.View.{open_node}
+use Rattle.h5_state.specs.declared.open_element.OpenElement.{OpenElement}
+use Rattle.h5_state.specs.declared.open_element.Summary.{Summary}
+use Rattle.h5_state.proofs.StackLaws.{seen_pushed}
+use Rattle.h5_state.proofs.SummaryLaws.{kept, kept_newest, kept_pushed, names}
+
+-- the oldest stay, where one above them is taken out
+pub under_removed : {X : Type 0} (xs ys high : List X) (count : ℕ) → ys ≡ take count xs ++ high → count ≤ length xs → take count ys ≡ take count xs
+under_removed xs ys high count e h =
+    let low : length (take count xs) ≡ count = omega (arith, h, length-take count xs) in
+    ap (take count) e ∙ ap (λ k. take k (take count xs ++ high)) (sym low) ∙ take-append_seam (take count xs) high
+
+module _ {H : Type 0} (node : H → ℕ) (f : Forest) where
+  -- what is known of the oldest ones
+  pub all_of_place : (xs : List (OpenElement H)) (count : ℕ) (x : OpenElement H) → count ≢ 0 → count ≤ length xs → x ≡ get_or xs (count - 1) x → kept node f (take count xs) ≡ summaries (names node f (take count xs))
+      → x.summary.all ≡ all_open (names node f (take count xs))
+  all_of_place xs count x some h e k =
+      let here : count ≡ count - 1 + 1 = omega (arith, some) in
+      let more : take count xs ≡ take (count - 1) xs ++ x ∷ [] =
+      ap (λ n. take n xs) here ∙ take_more xs (count - 1) x (omega (arith, some, h)) ∙ ap (λ z. take (count - 1) xs ++ z ∷ []) (sym e) in
+      ap (λ (s : Summary). s.all) (kept_newest node f (take (count - 1) xs) (take count xs) x more k) ∙ ap (λ s. all_open (map (name_in f) s)) (sym (seen_pushed (open_node node) (take (count - 1) xs) (take count xs) x more))
+
+  -- one more of them is right
+  pub kept_more : (xs : List (OpenElement H)) (place : ℕ) (y : OpenElement H) → place < length xs → y.summary ≡ summary_of (name_in f (node y.handle)) (names node f (take place xs))
+      → kept node f (take place xs) ≡ summaries (names node f (take place xs)) → kept node f (take (place + 1) (set xs place y)) ≡ summaries (names node f (take (place + 1) (set xs place y)))
+  kept_more xs place y h s k =
+      let more = take_more_set xs place y h in
+      kept_pushed (take place xs) (take (place + 1) (set xs place y)) y (name_in f (node y.handle)) (names node f (take place xs)) _ more s
+      (ap (map (name_in f)) (seen_pushed (open_node node) (take place xs) (take (place + 1) (set xs place y)) y more)) k
+
+  -- and the elements are the same
+  pub same_open : (xs : List (OpenElement H)) (place : ℕ) (x y : OpenElement H) → x ≡ get_or xs place x → node y.handle ≡ node x.handle → reverse (map (open_node node) (set xs place y)) ≡ reverse (map (open_node node) xs)
+  same_open xs place x y e h = ap reverse (map-set_same (open_node node) xs place y x (h ∙ ap (open_node node) e))

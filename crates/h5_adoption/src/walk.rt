@@ -1,0 +1,105 @@
+//! Walks over the stack of open elements and the list of active formatting elements: places are counted from the oldest.
+ghost use Rattle.std.specs.Prelude.{◌≡◌, ◌<◌, ◌+◌, ◌∷◌, ◌++◌, [], ℕ, List, length};
+ghost use Rattle.h5_token.specs.TokenText.{TagText};
+ghost use Rattle.h5_stack.specs.FormattingList.{ElementEntry, Entry};
+ghost use Rattle.h5_adoption.specs.Rounds.{IsElementEntry};
+ghost use Rattle.h5_interface.specs.Forest.{IsElement};
+ghost use Rattle.h5_tag_sets.specs.TagSets.{is_default_scope, is_special};
+ghost use Rattle.h5_meaning.specs.World.{name_in};
+ghost use Rattle.h5_state.specs.Steps.{IsSound, world_of};
+ghost use Rattle.h5_state.specs.View.{entry_of, stack_under};
+ghost use Rattle.h5_adoption.specs.View.{list_under};
+
+use h5_interface::TreeSink;
+use h5_state::{OpenElement, State};
+use h5_tag_sets::default_scope;
+use h5_types::FormatEntry;
+
+/// How many elements are open.
+#[tactic(auto, unfolding(h5_state::specs::View::world, h5_state::specs::View::stack_under))]
+pub fn open_count<S: TreeSink>(sink: &S, state: &State<S::Handle>) -> usize
+    ensures count { result ≡ length (world_of S.TreeSink sink.now state.now).stack }
+    ensures all { stack_under S.node state.now result ≡ (world_of S.TreeSink sink.now state.now).stack }
+    ensures none { stack_under S.node state.now 0 ≡ [] }
+{
+    state.open_elems.len()
+}
+
+/// The handle of the open element at a place.
+#[tactic(auto, unfolding(h5_state::specs::View::world, h5_state::specs::View::stack_under))]
+pub fn handle_at<'a, S: TreeSink>(
+    sink: &S,
+    state: &'a State<S::Handle>,
+    place: usize,
+) -> &'a S::Handle
+    requires { place < length (world_of S.TreeSink sink.now state.now).stack }
+    ensures stack { stack_under S.node state.now (place + 1) ≡ S.node result.now ∷ stack_under S.node state.now place }
+    ensures count { length (stack_under S.node state.now place) ≡ place }
+{
+    &state.open_elems[place].handle
+}
+
+/// The open element at a place, and what is kept beside it.
+#[tactic(auto, unfolding(h5_state::specs::View::world, h5_state::specs::View::stack_under))]
+pub fn open_at<'a, S: TreeSink>(
+    sink: &S,
+    state: &'a State<S::Handle>,
+    place: usize,
+) -> &'a OpenElement<S::Handle>
+    requires sound { IsSound S.TreeSink sink.now state.now }
+    requires place { place < length (world_of S.TreeSink sink.now state.now).stack }
+    ensures element { IsElement (S.sees sink.now).forest (S.node result.now.handle) }
+    ensures special { result.now.summary.special ≡ is_special (name_in (S.sees sink.now).forest (S.node result.now.handle)) }
+    ensures stack { stack_under S.node state.now (place + 1) ≡ S.node result.now.handle ∷ stack_under S.node state.now place }
+    ensures count { length (stack_under S.node state.now place) ≡ place }
+{
+    &state.open_elems[place]
+}
+
+/// Whether an element ends a scope.
+pub fn ends_scope<S: TreeSink>(sink: &S, handle: &S::Handle) -> bool
+    requires { IsElement (S.sees sink.now).forest (S.node handle.now) }
+    ensures { result ≡ is_default_scope (name_in (S.sees sink.now).forest (S.node handle.now)) }
+{
+    default_scope(sink.elem_name(handle))
+}
+
+/// How many entries there are.
+#[tactic(auto, unfolding(h5_state::specs::View::world, crate::specs::View::list_under))]
+pub fn entry_count<S: TreeSink>(sink: &S, state: &State<S::Handle>) -> usize
+    ensures count { result ≡ length (world_of S.TreeSink sink.now state.now).formatting }
+    ensures all { list_under S.node state.now result ≡ (world_of S.TreeSink sink.now state.now).formatting }
+    ensures none { list_under S.node state.now 0 ≡ [] }
+{
+    state.active_formatting.len()
+}
+
+/// The entry at a place.
+#[tactic(auto, unfolding(h5_state::specs::View::world, crate::specs::View::list_under))]
+pub fn entry_at<'a, S: TreeSink>(
+    sink: &S,
+    state: &'a State<S::Handle>,
+    place: usize,
+) -> &'a FormatEntry<S::Handle>
+    requires { place < length (world_of S.TreeSink sink.now state.now).formatting }
+    ensures list { list_under S.node state.now (place + 1) ≡ entry_of S.node result.now ∷ list_under S.node state.now place }
+    ensures count { length (list_under S.node state.now place) ≡ place }
+{
+    &state.active_formatting[place]
+}
+
+/// The element that is listed at a place.
+pub fn element_at<'a, S: TreeSink>(
+    sink: &S,
+    state: &'a State<S::Handle>,
+    at: usize,
+) -> &'a S::Handle
+    requires { IsElementEntry at (world_of S.TreeSink sink.now state.now) }
+    ensures { (newer older : List Entry) → (n : ℕ) → (tag : TagText) → (world_of S.TreeSink sink.now state.now).formatting ≡ newer ++ ElementEntry n tag ∷ older → at ≡ length older
+        → S.node result.now ≡ n }
+{
+    match entry_at(sink, state, at) {
+        FormatEntry::Element(element, _) => element,
+        FormatEntry::Marker => unreachable!(),
+    }
+}

@@ -1,0 +1,21 @@
+-- What holds of each rule that a tag's name may choose holds of the one that it does choose.
+use Rattle.std.proofs.Common.{◌≡◌, Bool, true, false, [], ◌∷◌, refl}
+use Rattle.h5_token.specs.TokenText.{TagText}
+use Rattle.h5_meaning.specs.ByName.{NonePasses, Rules, by_name}
+use Rattle.h5_meaning.specs.Rows.{Row, choose}
+use Rattle.h5_meaning.specs.World.{World}
+
+-- of the one of two rows that is chosen
+pub holds_chosen : (P : Row → Type 0) (b : Bool) (r s : Row) → (b ≡ true → P r) → (b ≡ false → P s) → P (choose b r s)
+holds_chosen P true r s x y = x refl
+holds_chosen P false r s x y = y refl
+
+-- of each rule whose names the tag's name is among
+abbrev pub HoldsOfEach : (Row → Type 0) → TagText → World → Rules → Type 0
+HoldsOfEach P tag w [] = Unit {0}
+HoldsOfEach P tag w (x ∷ xs) = (x.0 tag.name ≡ true → P (x.1 tag w)) × HoldsOfEach P tag w xs
+
+-- and of the last one, where it is among none
+pub holds_by_name : (P : Row → Type 0) (xs : Rules) (other : TagText → World → Row) (tag : TagText) (w : World) → HoldsOfEach P tag w xs → (NonePasses xs tag.name → P (other tag w)) → P (by_name xs other tag w)
+holds_by_name P [] other tag w k o = o tt
+holds_by_name P (x ∷ xs) other tag w k o = holds_chosen P (x.0 tag.name) (x.1 tag w) (by_name xs other tag w) k.0 (λ e. holds_by_name P xs other tag w k.1 (λ n. o (e, n)))

@@ -1,0 +1,204 @@
+-- What each change leaves of a world in which all stands, and whose list of active formatting elements agrees with the
+-- stack of open elements.
+use Rattle.std.proofs.Common.{◌≡◌, ◌≢◌, ℕ, Bool, true, false, cond, List, [], ◌∷◌, codes, Option, Some, None, refl}
+use Rattle.h5_names.specs.AttributeText.{AttributeText}
+use Rattle.h5_interface.specs.Forest.{ChildText, Forest}
+use Rattle.h5_interface.specs.SinkChoices.{Rearranges, SinkChoices}
+use Rattle.h5_interface.proofs.ForestLaws.{document_is_node}
+use Rattle.h5_interface.proofs.MakingLaws.{add_missing_rearranges}
+use Rattle.h5_tag_sets.specs.TagSets.{is_heading, is_implied}
+use Rattle.h5_stack.specs.FormattingNames.{html_name}
+use Rattle.h5_stack.specs.Order.{second_from_last}
+use Rattle.h5_stack.specs.Scope.{first_passes, has_p_in_button_scope}
+use Rattle.h5_fits.specs.StageFits.{IsRootOpen}
+use Rattle.h5_stack.proofs.KeptLaws.{lists_pushed}
+use Rattle.h5_meaning.specs.Changes.{add_attrs_at, add_attrs_to_html, add_attrs_to_second, append_comment, append_comment_to_doc, append_comment_to_html, append_text, create_root, generate_implied_end_except, insert_and_pop_element, insert_element, insert_head, new_comment, new_element, pop, pop_until_named, push_new, set_frameset_ok_by_text, set_quirks_mode, with_forest}
+use Rattle.h5_meaning.specs.Closing.{close_p_element, close_p_element_in_button_scope, generate_implied_end, pop_heading, pop_until_heading}
+use Rattle.h5_meaning.specs.Formatting.{reconstruct_active_formatting_elements}
+use Rattle.h5_meaning.specs.Place.{IsPlaceIn, LastChild, Place, place, put}
+use Rattle.h5_meaning.specs.Rows.{AddAttrsToHtml, AddAttrsToSecond, AdoptionAgency, AppendComment, AppendCommentToDoc, AppendCommentToHtml, AppendText, Change, ClosePElement, ClosePElementInButtonScope, CreateFormattingElement, CreateRoot, GenerateImpliedEnd, GenerateImpliedEndExcept, HandleMisnestedATags, HandleMisnestedNobrTags, InsertAndPopElement, InsertElement, InsertHead, Pop, PopHeading, PopUntilHeading, PopUntilNamed, ReconstructActiveFormattingElements, SetFramesetNotOk, SetFramesetOkByText, SetMode, SetQuirksMode, apply, apply_all}
+use Rattle.h5_meaning.specs.Sound.{HasLists, IsReady, Sound}
+use Rattle.h5_meaning.specs.World.{World, names_of, root}
+use Rattle.h5_meaning.proofs.AdoptionAgencyLaws.{Keeps, cut_keeps, implied_keeps, pop_keeps, until_named_keeps, while_keeps}
+use Rattle.h5_meaning.proofs.FormattingLaws.{lists_reconstruct, new_is_unlisted, sound_reconstruct}
+use Rattle.h5_meaning.proofs.PlaceLaws.{all_inserted, current_place_is_there, first_place, head_stands, new_comment_rearranges, new_element_rearranges, text_put_rearranges}
+use Rattle.h5_meaning.proofs.SoundLaws.{all_rearranged, root_is_node}
+
+-- all stands, and the list agrees with the stack
+pub record IsSteady (w : World) : Type 0 where
+  pub sound : Sound w
+  pub lists : HasLists w
+
+-- ready is steady, with the root open
+pub ready_steady : (w : World) → IsReady w → IsSteady w
+ready_steady w k = record { sound = k.sound; lists = k.lists }
+
+pub steady_ready : (w : World) → IsSteady w → IsRootOpen (names_of w) → IsReady w
+steady_ready w k h = record { sound = k.sound; lists = k.lists; root = h }
+
+kept_steady : (w v : World) → Keeps w v → IsSteady v
+kept_steady w v k = record { sound = k.sound; lists = k.lists }
+
+-- one of two worlds
+steady_if : (b : Bool) (v w : World) → IsSteady v → IsSteady w → IsSteady (cond b v w)
+steady_if true v w k h = k
+steady_if false v w k h = h
+
+-- the forest alone changes
+steady_rearranged : (w : World) (g : Forest) → Rearranges w.forest g → IsSteady w → IsSteady (with_forest g w)
+steady_rearranged w g r k = record { sound = all_rearranged w.forest g w.stack k.sound r; lists = k.lists }
+
+module _ (w : World) (k : IsSteady w) where
+  steady_quirks : (q : _) → IsSteady (set_quirks_mode q w)
+  unfolding set_quirks_mode
+  steady_quirks q = record { sound = k.sound; lists = k.lists }
+
+  steady_frameset : (t : List ℕ) → IsSteady (set_frameset_ok_by_text t w)
+  unfolding set_frameset_ok_by_text
+  steady_frameset t = record { sound = k.sound; lists = k.lists }
+
+  -- a text is appended
+  pub steady_text : (t : List ℕ) → t ≢ [] → IsSteady (append_text t w)
+  unfolding append_text
+  steady_text t some = steady_rearranged w (put (place w) (ChildText t) w.forest) (text_put_rearranges w.forest (place w) t k.sound.stands.is_forest some (current_place_is_there w k.sound)) k
+
+  -- attributes
+  steady_root_attrs : (attrs : List AttributeText) → IsSteady (add_attrs_to_html attrs w)
+  unfolding add_attrs_to_html
+  steady_root_attrs attrs = steady_rearranged w _ (add_missing_rearranges w.forest (root w) attrs k.sound.stands.is_forest) k
+
+  steady_second_attrs : (attrs : List AttributeText) → IsSteady (add_attrs_to_second attrs w)
+  unfolding add_attrs_to_second
+  steady_second_attrs attrs = at (second_from_last w.stack)
+    where
+      at : (o : Option ℕ) → IsSteady (add_attrs_at o attrs w)
+      at None = k
+      at (Some n) = steady_rearranged w _ (add_missing_rearranges w.forest n attrs k.sound.stands.is_forest) k
+
+  -- cuts
+  steady_until_named : (local : List ℕ) → IsSteady (pop_until_named local w)
+  steady_until_named local = kept_steady w _ (until_named_keeps local w k.sound k.lists)
+
+  steady_until_heading : IsSteady (pop_until_heading w)
+  unfolding pop_until_heading
+  steady_until_heading = kept_steady w _ (cut_keeps is_heading w k.sound k.lists)
+
+module _ (choices : SinkChoices) (w : World) (k : IsSteady w) where
+  -- a new element is pushed
+  steady_pushed : (p : Place) (local : List ℕ) (attrs : List AttributeText) (duplicates : Bool) → IsPlaceIn w.forest p → (w.stack ≡ [] → p ≡ LastChild w.forest.document) → IsSteady (push_new choices p local attrs duplicates w)
+  steady_pushed p local attrs duplicates there first = record {
+    sound = all_inserted choices p (html_name local) attrs duplicates w k.sound there first;
+    lists = lists_pushed (choices.fresh w.forest) w.stack w.formatting (new_is_unlisted choices w k.sound) k.lists;
+  }
+
+  steady_insert : (local : List ℕ) (attrs : List AttributeText) (duplicates : Bool) → IsSteady (insert_element choices local attrs duplicates w)
+  unfolding insert_element
+  steady_insert local attrs duplicates = steady_pushed (place w) local attrs duplicates (current_place_is_there w k.sound) (λ e. first_place w k.sound.stands.is_forest e)
+
+  steady_head : (attrs : List AttributeText) (duplicates : Bool) → IsSteady (insert_head choices attrs duplicates w)
+  unfolding insert_head
+  steady_head attrs duplicates =
+      let new = steady_insert (codes "head") attrs duplicates in
+      record { sound = head_stands choices attrs duplicates w k.sound new.sound; lists = new.lists }
+
+  steady_root : (attrs : List AttributeText) → IsSteady (create_root choices attrs w)
+  unfolding create_root
+  steady_root attrs = steady_pushed (LastChild w.forest.document) (codes "html") attrs false (document_is_node w.forest k.sound.stands.is_forest) (λ e. refl)
+
+  -- a new one that isn't open
+  pub steady_leaf : (local : List ℕ) (attrs : List AttributeText) (duplicates : Bool) → IsSteady (insert_and_pop_element choices local attrs duplicates w)
+  unfolding insert_and_pop_element
+  steady_leaf local attrs duplicates =
+      steady_rearranged w (new_element choices (place w) (html_name local) attrs duplicates w.forest)
+      (new_element_rearranges choices w.forest (place w) (html_name local) attrs duplicates k.sound.stands.is_forest (current_place_is_there w k.sound)) k
+
+  -- comments
+  steady_comment : (p : Place) (t : List ℕ) → IsPlaceIn w.forest p → IsSteady (with_forest (new_comment choices p t w.forest) w)
+  steady_comment p t there = steady_rearranged w (new_comment choices p t w.forest) (new_comment_rearranges choices w.forest p t k.sound.stands.is_forest there) k
+
+  steady_comment_here : (t : List ℕ) → IsSteady (append_comment choices t w)
+  unfolding append_comment
+  steady_comment_here t = steady_comment (place w) t (current_place_is_there w k.sound)
+
+  steady_comment_to_document : (t : List ℕ) → IsSteady (append_comment_to_doc choices t w)
+  unfolding append_comment_to_doc
+  steady_comment_to_document t = steady_comment (LastChild w.forest.document) t (document_is_node w.forest k.sound.stands.is_forest)
+
+  steady_comment_to_root : (t : List ℕ) → IsSteady (append_comment_to_html choices t w)
+  unfolding append_comment_to_html
+  steady_comment_to_root t = steady_comment (LastChild (root w)) t (root_is_node w k.sound)
+
+  -- pops
+  steady_pop : IsSteady (pop choices w)
+  steady_pop = kept_steady w (pop choices w) (pop_keeps choices w k.sound k.lists)
+
+  steady_implied_except : (local : List ℕ) → IsSteady (generate_implied_end_except choices local w)
+  steady_implied_except local = kept_steady w _ (implied_keeps choices local w k.sound k.lists)
+
+  steady_implied : IsSteady (generate_implied_end choices w)
+  unfolding generate_implied_end
+  steady_implied = kept_steady w _ (while_keeps choices is_implied (names_of w) w k.sound k.lists)
+
+  steady_pop_heading : IsSteady (pop_heading choices w)
+  unfolding pop_heading
+  steady_pop_heading = steady_if (first_passes is_heading (names_of w)) (pop choices w) w steady_pop k
+
+  -- active formatting elements
+  steady_reconstruct : IsSteady (reconstruct_active_formatting_elements choices w)
+  steady_reconstruct = record { sound = sound_reconstruct choices w k.sound; lists = lists_reconstruct choices w k.sound k.lists }
+
+steady_close_p : (choices : SinkChoices) (w : World) → IsSteady w → IsSteady (close_p_element choices w)
+unfolding close_p_element
+steady_close_p choices w k = steady_until_named (generate_implied_end_except choices (codes "p") w) (steady_implied_except choices w k (codes "p")) (codes "p")
+
+steady_close_p_in_scope : (choices : SinkChoices) (w : World) → IsSteady w → IsSteady (close_p_element_in_button_scope choices w)
+unfolding close_p_element_in_button_scope
+steady_close_p_in_scope choices w k = steady_if (has_p_in_button_scope (names_of w)) (close_p_element choices w) w (steady_close_p choices w k) k
+
+-- what a change needs: formatting elements are for the rows that make and close them
+abbrev pub NeedsOf : Change → Type 0
+NeedsOf (AppendText text) = text ≢ []
+NeedsOf (CreateFormattingElement tag) = ⊥
+NeedsOf (AdoptionAgency name) = ⊥
+NeedsOf HandleMisnestedATags = ⊥
+NeedsOf HandleMisnestedNobrTags = ⊥
+NeedsOf _ = Unit {0}
+
+abbrev pub NeedsOfAll : List Change → Type 0
+NeedsOfAll [] = Unit {0}
+NeedsOfAll (x ∷ xs) = NeedsOf x × NeedsOfAll xs
+
+-- so it leaves a steady world
+steady_change : (choices : SinkChoices) (x : Change) (w : World) → NeedsOf x → IsSteady w → IsSteady (apply choices x w)
+steady_change choices (SetMode mode) w needs k = record { sound = k.sound; lists = k.lists }
+steady_change choices (SetQuirksMode mode) w needs k = steady_quirks w k mode
+steady_change choices SetFramesetNotOk w needs k = record { sound = k.sound; lists = k.lists }
+steady_change choices (SetFramesetOkByText text) w needs k = steady_frameset w k text
+steady_change choices (InsertElement local attrs duplicates) w needs k = steady_insert choices w k local attrs duplicates
+steady_change choices (InsertAndPopElement local attrs duplicates) w needs k = steady_leaf choices w k local attrs duplicates
+steady_change choices (InsertHead attrs duplicates) w needs k = steady_head choices w k attrs duplicates
+steady_change choices (CreateRoot attrs) w needs k = steady_root choices w k attrs
+steady_change choices (AppendText text) w needs k = steady_text w k text needs
+steady_change choices (AppendComment text) w needs k = steady_comment_here choices w k text
+steady_change choices (AppendCommentToDoc text) w needs k = steady_comment_to_document choices w k text
+steady_change choices (AppendCommentToHtml text) w needs k = steady_comment_to_root choices w k text
+steady_change choices (AddAttrsToHtml attrs) w needs k = steady_root_attrs w k attrs
+steady_change choices (AddAttrsToSecond attrs) w needs k = steady_second_attrs w k attrs
+steady_change choices Pop w needs k = steady_pop choices w k
+steady_change choices (GenerateImpliedEndExcept local) w needs k = steady_implied_except choices w k local
+steady_change choices (PopUntilNamed local) w needs k = steady_until_named w k local
+steady_change choices GenerateImpliedEnd w needs k = steady_implied choices w k
+steady_change choices ClosePElement w needs k = steady_close_p choices w k
+steady_change choices ClosePElementInButtonScope w needs k = steady_close_p_in_scope choices w k
+steady_change choices PopHeading w needs k = steady_pop_heading choices w k
+steady_change choices PopUntilHeading w needs k = steady_until_heading w k
+steady_change choices ReconstructActiveFormattingElements w needs k = steady_reconstruct choices w k
+steady_change choices (CreateFormattingElement tag) w needs k = absurd needs
+steady_change choices (AdoptionAgency name) w needs k = absurd needs
+steady_change choices HandleMisnestedATags w needs k = absurd needs
+steady_change choices HandleMisnestedNobrTags w needs k = absurd needs
+
+-- one after another
+pub steady_changes : (choices : SinkChoices) (xs : List Change) (w : World) → NeedsOfAll xs → IsSteady w → IsSteady (apply_all choices xs w)
+steady_changes choices [] w needs k = k
+steady_changes choices (x ∷ xs) w needs k = steady_changes choices xs (apply choices x w) needs.1 (steady_change choices x w needs.0 k)

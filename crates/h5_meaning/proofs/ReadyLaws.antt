@@ -1,0 +1,98 @@
+-- In the body: texts, and the rows of formatting elements, leave builder and sink ready.
+use Rattle.std.proofs.Common.{◌≡◌, ◌≢◌, ◌<◌, ℕ, Bool, true, List, [], length, IsTrue, refl, ap, sym, subst, arith, ◌∙◌}
+use Rattle.std.proofs.lemmas.Slice.Eq.{bytes_eq-Decides}
+use Rattle.h5_names.specs.AttributeText.{AttributeText}
+use Rattle.h5_names.specs.KnownNames.{name_text}
+use Rattle.h5_names.specs.declared.known_name.KnownName.{KnownName}
+use Rattle.h5_names.specs.declared.known_name.KnownName.TheVariants.{A, Nobr}
+use Rattle.h5_token.specs.TokenText.{TagText}
+use Rattle.h5_interface.specs.SinkChoices.{SinkChoices}
+use Rattle.h5_tag_sets.specs.TagSets.{formatting_names, is_one_of}
+use Rattle.h5_fits.specs.StageFits.{IsRootOpen}
+use Rattle.h5_fits.proofs.StageLaws.{open_some}
+use Rattle.h5_meaning.specs.ByName.{named}
+use Rattle.h5_meaning.specs.Changes.{append_text, insert_and_pop_element, set_frameset_not_ok, set_frameset_ok_by_text}
+use Rattle.h5_meaning.specs.Formatting.{reconstruct_active_formatting_elements}
+use Rattle.h5_meaning.specs.AdoptionAgency.{handle_misnested_a_tags}
+use Rattle.h5_meaning.specs.InBody.{in_body_end_br, in_body_end_formatting, in_body_start_a, in_body_start_br, in_body_start_formatting, in_body_start_nobr, in_body_start_other}
+use Rattle.h5_meaning.specs.Rows.{Row, apply_all}
+use Rattle.h5_meaning.specs.Shared.{in_body_text}
+use Rattle.h5_meaning.specs.Sound.{IsReady}
+use Rattle.h5_meaning.specs.World.{World, names_of}
+use Rattle.h5_meaning.proofs.AdoptionAgencyLaws.{agency_ready, formatting_not_html, misnested_a_ready, misnested_nobr_open, misnested_nobr_ready}
+use Rattle.h5_meaning.proofs.FormattingLaws.{format_ready, insert_for_ready, reconstruct_format_ready, reconstruct_opens, reconstruct_ready}
+use Rattle.h5_meaning.proofs.ListsLaws.{ready_steady, steady_leaf, steady_ready, steady_text}
+use Rattle.h5_meaning.proofs.NameLaws.{names-append, names-insert_and_pop}
+use Rattle.h5_meaning.proofs.PopLaws.{names_length}
+
+-- some element is open
+pub ready_open : (w : World) → IsReady w → 0 < length w.stack
+ready_open w k = let some = open_some (names_of w) k.root in let same = names_length w in omega (arith, some, same)
+
+-- a text
+text_ready : (t : List ℕ) (w : World) → t ≢ [] → IsReady w → IsReady (append_text t w)
+text_ready t w some k = steady_ready (append_text t w) (steady_text w (ready_steady w k) t some) (subst IsRootOpen (sym (names-append t w some k.sound)) k.root)
+
+frameset_ready : (t : List ℕ) (w : World) → IsReady w → IsReady (set_frameset_ok_by_text t w)
+unfolding set_frameset_ok_by_text names_of
+frameset_ready t w k = record { sound = k.sound; lists = k.lists; root = k.root }
+
+-- an element that isn't open, and the frameset flag is off
+leaf_ready : (choices : SinkChoices) (local : List ℕ) (attrs : List AttributeText) (duplicates : Bool) (w : World) → IsReady w → IsReady (set_frameset_not_ok (insert_and_pop_element choices local attrs duplicates w))
+unfolding names_of
+leaf_ready choices local attrs duplicates w k =
+    let made = steady_leaf choices w (ready_steady w k) local attrs duplicates in
+    record { sound = made.sound; lists = made.lists; root = subst IsRootOpen (sym (names-insert_and_pop choices local attrs duplicates w k.sound)) k.root }
+
+-- a known name that is a formatting element's
+named_formatting : (known : KnownName) (name : List ℕ) → is_one_of formatting_names (name_text known) ≡ true → named known name ≡ true → IsTrue (is_one_of formatting_names name)
+named_formatting known name listed h = ap (is_one_of formatting_names) ((bytes_eq-Decides name (name_text known)).0 h) ∙ listed
+
+pub a_formatting : (name : List ℕ) → named A name ≡ true → IsTrue (is_one_of formatting_names name)
+unfolding formatting_names
+a_formatting name h = named_formatting A name refl h
+
+pub nobr_formatting : (name : List ℕ) → named Nobr name ≡ true → IsTrue (is_one_of formatting_names name)
+unfolding formatting_names
+nobr_formatting name h = named_formatting Nobr name refl h
+
+module _ (choices : SinkChoices) (w : World) (k : IsReady w) where
+  abbrev after : Row → World
+  after r = apply_all choices r.changes w
+
+  abbrev renewed : World
+  renewed = reconstruct_active_formatting_elements choices w
+
+  renewed_ready : IsReady renewed
+  renewed_ready = reconstruct_ready choices w k
+
+  -- a text, in the body and after it
+  pub ready_text : (t : List ℕ) → t ≢ [] → IsReady (after (in_body_text t w))
+  ready_text t some = text_ready t (set_frameset_ok_by_text t renewed) some (frameset_ready t renewed renewed_ready)
+
+  -- start tags of formatting elements
+  pub ready_start_a : (tag : TagText) → named A tag.name ≡ true → IsReady (after (in_body_start_a tag w))
+  ready_start_a tag h = reconstruct_format_ready choices tag (handle_misnested_a_tags choices w) (a_formatting tag.name h) (misnested_a_ready choices w k)
+
+  pub ready_start_formatting : (tag : TagText) → is_one_of formatting_names tag.name ≡ true → IsReady (after (in_body_start_formatting tag w))
+  ready_start_formatting tag h = reconstruct_format_ready choices tag w h k
+
+  pub ready_start_nobr : (tag : TagText) → named Nobr tag.name ≡ true → IsReady (after (in_body_start_nobr tag w))
+  ready_start_nobr tag h =
+      format_ready choices tag _ (nobr_formatting tag.name h)
+      (misnested_nobr_open choices renewed renewed_ready (reconstruct_opens choices w k.lists))
+      (misnested_nobr_ready choices renewed renewed_ready)
+
+  -- their end tags
+  pub ready_end_formatting : (tag : TagText) → is_one_of formatting_names tag.name ≡ true → IsReady (after (in_body_end_formatting tag w))
+  ready_end_formatting tag h = agency_ready choices tag.name w (formatting_not_html tag.name h) k
+
+  -- `br`, and any other start tag
+  pub ready_start_br : (tag : TagText) → IsReady (after (in_body_start_br tag w))
+  ready_start_br tag = leaf_ready choices tag.name tag.attrs tag.had_duplicate_attributes renewed renewed_ready
+
+  pub ready_end_br : (tag : TagText) → IsReady (after (in_body_end_br tag w))
+  ready_end_br tag = leaf_ready choices tag.name [] tag.had_duplicate_attributes renewed renewed_ready
+
+  pub ready_start_other : (tag : TagText) → IsReady (after (in_body_start_other tag w))
+  ready_start_other tag = insert_for_ready choices tag renewed renewed_ready

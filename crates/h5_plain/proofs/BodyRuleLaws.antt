@@ -1,0 +1,96 @@
+-- The rules that the tags of blocks and inlines follow in the body, and what their names are.
+use Rattle.std.proofs.Common.{◌≡◌, ◌||◌, ℕ, Bool, true, false, List, [], ◌∷◌, codes, refl, subst}
+use Rattle.std.proofs.lemmas.Slice.Eq.{bytes_eq-Decides}
+use Rattle.h5_names.specs.AttributeText.{AttributeText, is_same_text}
+use Rattle.h5_interface.specs.NewElement.{is_html_template}
+use Rattle.h5_tag_sets.specs.TagSets.{block_end_names, block_start_names, formatting_names, heading_names, html_namespace, implied_names, is_heading, is_html_named, is_implied, is_one_of, is_table_outer, table_outer_names, void_names}
+use Rattle.h5_types.specs.TurnText.{TagTurn}
+use Rattle.h5_types.specs.declared.modes.InsertionMode.TheVariants.{InBody}
+use Rattle.h5_stack.specs.FormattingNames.{html_name}
+use Rattle.h5_meaning.specs.InBody.{in_body_end, in_body_end_block, in_body_end_heading, in_body_end_p, in_body_start, in_body_start_block, in_body_start_br, in_body_start_heading, in_body_tag}
+use Rattle.h5_meaning.specs.Modes.{rule}
+use Rattle.h5_meaning.specs.World.{World}
+use Rattle.h5_plain.specs.Plain.{has_end_tag}
+use Rattle.h5_plain.proofs.RuleLaws.{end, start}
+
+-- a `div` and its end
+pub div_rule : (a : List AttributeText) (w : World) → rule InBody (TagTurn (start (codes "div") a)) w ≡ in_body_start_block (start (codes "div") a) w
+unfolding in_body_tag in_body_start block_start_names
+div_rule a w = refl
+
+pub div_end_rule : (w : World) → rule InBody (TagTurn (end (codes "div"))) w ≡ in_body_end_block (end (codes "div")) w
+unfolding in_body_tag in_body_end block_end_names
+div_end_rule w = refl
+
+-- a `p` and its end
+pub p_rule : (a : List AttributeText) (w : World) → rule InBody (TagTurn (start (codes "p") a)) w ≡ in_body_start_block (start (codes "p") a) w
+unfolding in_body_tag in_body_start block_start_names
+p_rule a w = refl
+
+pub p_end_rule : (w : World) → rule InBody (TagTurn (end (codes "p"))) w ≡ in_body_end_p (end (codes "p")) w
+unfolding in_body_tag in_body_end block_end_names
+p_end_rule w = refl
+
+-- a `br`
+pub br_rule : (a : List AttributeText) (w : World) → rule InBody (TagTurn (start (codes "br") a)) w ≡ in_body_start_br (start (codes "br") a) w
+unfolding in_body_tag in_body_start block_start_names heading_names formatting_names
+br_rule a w = refl
+
+-- an element of this name takes children itself, and is written with an end tag
+pub record IsHolder (name : List ℕ) : Type 0 where
+  pub has_end : has_end_tag name ≡ true
+  pub not_outer : is_table_outer (html_name name) ≡ false
+  pub no_template : is_html_template (html_name name) ≡ false
+
+-- `div` and `p` do
+pub div_holds : IsHolder (codes "div")
+unfolding void_names is_table_outer html_namespace table_outer_names
+div_holds = record { has_end = refl; not_outer = refl; no_template = refl }
+
+pub p_holds : IsHolder (codes "p")
+unfolding void_names is_table_outer html_namespace table_outer_names
+p_holds = record { has_end = refl; not_outer = refl; no_template = refl }
+
+-- a heading
+pub record IsHeadingName (name : List ℕ) : Type 0 where
+  pub holds : IsHolder name
+  pub starts : (a : List AttributeText) (w : World) → rule InBody (TagTurn (start name a)) w ≡ in_body_start_heading (start name a) w
+  pub ends : (w : World) → rule InBody (TagTurn (end name)) w ≡ in_body_end_heading (end name) w
+  pub itself : is_html_named name (html_name name) ≡ true
+  pub heading : is_heading (html_name name) ≡ true
+  pub not_implied : is_implied (html_name name) ≡ false
+
+abbrev EachOf : (List ℕ → Type 0) → List (List ℕ) → Type 0
+EachOf Of [] = Unit {0}
+EachOf Of (n ∷ ns) = Of n × EachOf Of ns
+
+of_each : (Of : List ℕ → Type 0) (names : List (List ℕ)) → EachOf Of names → (name : List ℕ) → is_one_of names name ≡ true → Of name
+of_each Of [] each name h = absurd (cc)
+of_each Of (n ∷ ns) each name h = at (of_each Of ns each.1 name) (is_same_text n name) refl h
+  where
+    at : (is_one_of ns name ≡ true → Of name) → (b : Bool) → is_same_text n name ≡ b → (b || is_one_of ns name) ≡ true → Of name
+    at others true e k = subst Of ((bytes_eq-Decides n name).0 e) each.0
+    at others false e k = others k
+
+headings : EachOf IsHeadingName heading_names
+unfolding heading_names void_names is_table_outer html_namespace table_outer_names in_body_tag in_body_start in_body_end block_start_names block_end_names is_html_named is_heading is_implied implied_names
+headings = (
+  record { holds = record { has_end = refl; not_outer = refl; no_template = refl }; starts = λ a w. refl; ends = λ w. refl; itself = refl; heading = refl; not_implied = refl },
+  (
+    record { holds = record { has_end = refl; not_outer = refl; no_template = refl }; starts = λ a w. refl; ends = λ w. refl; itself = refl; heading = refl; not_implied = refl },
+    (
+      record { holds = record { has_end = refl; not_outer = refl; no_template = refl }; starts = λ a w. refl; ends = λ w. refl; itself = refl; heading = refl; not_implied = refl },
+      (
+        record { holds = record { has_end = refl; not_outer = refl; no_template = refl }; starts = λ a w. refl; ends = λ w. refl; itself = refl; heading = refl; not_implied = refl },
+        (
+          record { holds = record { has_end = refl; not_outer = refl; no_template = refl }; starts = λ a w. refl; ends = λ w. refl; itself = refl; heading = refl; not_implied = refl },
+          (record { holds = record { has_end = refl; not_outer = refl; no_template = refl }; starts = λ a w. refl; ends = λ w. refl; itself = refl; heading = refl; not_implied = refl }, tt),
+        ),
+      ),
+    ),
+  ),
+)
+
+-- `h1` to `h6` are headings
+pub is_heading_name : (name : List ℕ) → is_one_of heading_names name ≡ true → IsHeadingName name
+is_heading_name name h = of_each IsHeadingName heading_names headings name h

@@ -1,0 +1,167 @@
+-- A plain list of nodes is built below the current node.
+use Rattle.std.proofs.Common.{◌≡◌, ◌∙◌, ℕ, Bool, false, ◌&&◌, List, [], ◌∷◌, codes, refl}
+use Rattle.h5_names.specs.AttributeText.{AttributeText}
+use Rattle.h5_names.specs.declared.qualified.QualName.{QualName}
+use Rattle.h5_interface.specs.Changes.{append_text}
+use Rattle.h5_interface.specs.Forest.{Child, ChildNode, ChildText, Forest}
+use Rattle.h5_interface.specs.SinkChoices.{SinkChoices}
+use Rattle.h5_tag_sets.specs.TagSets.{button_scope_names, heading_names, html_namespace, is_button_scope, is_default_scope, is_heading, is_html_named, is_table_outer, mathml_namespace, scope_names, svg_namespace, void_names}
+use Rattle.h5_types.specs.declared.modes.InsertionMode.{InsertionMode}
+use Rattle.h5_types.specs.declared.modes.InsertionMode.TheVariants.{InBody}
+use Rattle.h5_stack.specs.FormattingNames.{html_name}
+use Rattle.h5_stack.specs.Order.{but_first}
+use Rattle.h5_stack.specs.Scope.{first_passes, has_p_in_button_scope}
+use Rattle.h5_meaning.specs.Blanks.{all_blank}
+use Rattle.h5_meaning.specs.World.{World, names_of}
+use Rattle.h5_plain.specs.Plain.{Blocks, Break, Division, ElementThen, End, Heading, Inlines, IsPlain, Nodes, Nothing, Paragraph, Sort, TextThen, Words, end_tag, start_tag}
+use Rattle.h5_stack.specs.FormattingList.{Entry}
+use Rattle.h5_plain.proofs.ListedLaws.{OpenFormat, has_link}
+use Rattle.h5_plain.proofs.BodyRuleLaws.{IsHolder, div_holds, div_rule, is_heading_name, p_holds, p_rule}
+use Rattle.h5_plain.proofs.BodyStepLaws.{breaks, ends_div, ends_heading, ends_p, starts_block, starts_heading, writes}
+use Rattle.h5_plain.proofs.CalmLaws.{Built, Calm, Opens, after, built_nothing, calm_after, calm_below, element_case, nowhere, opened}
+use Rattle.h5_plain.proofs.FilledLaws.{Face, face, filled_element, filled_nothing, filled_text, frame_element, frame_text, more, same_faces}
+use Rattle.h5_plain.proofs.GoesLaws.{Moves}
+use Rattle.h5_plain.proofs.GrowthLaws.{body, html, with_element}
+use Rattle.h5_plain.proofs.LooksLaws.{ends_in_node, ends_in_text}
+
+-- the mode and the names of the open elements where such nodes may come
+abbrev pub Fits : Sort → InsertionMode → List QualName → Type 0
+Fits Blocks m names = (m ≡ InBody) × ((has_p_in_button_scope names ≡ false) × (first_passes is_heading names ≡ false))
+Fits (Inlines after_text linked) m names = m ≡ InBody
+Fits _ m names = Unit {0}
+
+-- a text may come
+abbrev pub Seam : Sort → List Child → Type 0
+Seam (Inlines false linked) cs = ends_in_text cs ≡ false
+Seam _ cs = Unit {0}
+
+in_division : (m : InsertionMode) (names : List QualName) → Fits Blocks m names → Fits Blocks m (html_name (codes "div") ∷ names)
+unfolding is_html_named is_button_scope is_default_scope is_heading html_namespace mathml_namespace svg_namespace scope_names button_scope_names heading_names
+in_division m names f = (f.0, (f.1.0, refl))
+
+-- blocks may come in the body
+pub body_fits : (has_p_in_button_scope (body ∷ html ∷ []) ≡ false) × (first_passes is_heading (body ∷ html ∷ []) ≡ false)
+unfolding is_html_named is_button_scope is_default_scope is_heading html_namespace mathml_namespace svg_namespace scope_names button_scope_names heading_names
+body_fits = (refl, refl)
+
+-- the open formatting elements that such nodes know of
+abbrev pub open_of : Sort → List OpenFormat → List OpenFormat
+open_of (Inlines after_text linked) path = path
+open_of _ path = []
+
+-- outside of a link none is open
+abbrev pub Unlinked : Sort → List OpenFormat → Type 0
+Unlinked (Inlines after_text false) path = has_link path ≡ false
+Unlinked _ path = Unit {0}
+
+-- a block: the formatting list stays as it is
+module _ (choices : SinkChoices) {w : World} {p : ℕ} {d : Face} {names : List QualName} {under : List ℕ} {base : List Entry} (c : Calm w p d names [] under base) (name : List ℕ) (attrs : List AttributeText) where
+  abbrev in_block : World
+  in_block = opened choices w p name attrs w.mode w.formatting w.frameset_ok
+
+  opens_block : IsHolder name → Moves choices (start_tag name attrs) w in_block → Opens choices w p d name attrs w.mode w.formatting w.frameset_ok [] (choices.fresh w.forest ∷ w.stack) base
+  opens_block h m = record {
+    has_end = h.has_end;
+    takes_own = nowhere w.foster (is_table_outer (html_name name)) h.not_outer;
+    no_template = h.no_template;
+    moves = m;
+    are_open = refl;
+    is_base = c.is_base;
+    entries = c.entries;
+    unlisted = λ n e x. e;
+  }
+
+  block_case : (inner rest : Nodes) → IsHolder name → Moves choices (start_tag name attrs) w in_block
+      → (Calm in_block (choices.fresh w.forest) (face name attrs) (html_name name ∷ names) [] (choices.fresh w.forest ∷ w.stack) base → Built choices in_block (choices.fresh w.forest) (face name attrs) inner [] base)
+      → ((v : World) → v.mode ≡ w.mode → v.ignore_lf ≡ false → names_of v ≡ html_name name ∷ names → Moves choices (end_tag name) v (record v { stack = but_first v.stack }))
+      → ((f : Forest) (k : List Entry) (b : Bool) → Calm (after w f k b) p (more d (ChildNode (choices.fresh w.forest) ∷ [])) names [] under base → Built choices (after w f k b) p (more d (ChildNode (choices.fresh w.forest) ∷ [])) rest [] base)
+      → Built choices w p d (ElementThen name attrs inner rest) [] base
+  block_case inner rest h m fill ends next =
+      element_case choices w p d name attrs w.mode w.formatting w.frameset_ok [] (choices.fresh w.forest ∷ w.stack) base c (opens_block h m) inner rest fill
+      (λ i e. record {
+        forest = i.forest;
+        formatting = i.formatting;
+        moves = ends (after in_block i.forest i.formatting i.ok) refl c.ignore_lf e;
+        same = same_faces i.forest i.filled.frame.is_forest;
+        entries = i.entries;
+        fewer = i.fewer;
+      })
+      next
+
+-- inlines: a text and the rest, a `br` and the rest
+module _ (choices : SinkChoices) {w : World} {p : ℕ} {d : Face} {names : List QualName} {path : List OpenFormat} {under : List ℕ} {base : List Entry} (c : Calm w p d names path under base) (m : w.mode ≡ InBody) where
+  abbrev written : List ℕ → World
+  written t = after w (append_text p t w.forest) w.formatting (w.frameset_ok && all_blank t)
+
+  words_case : (b : ℕ) (t : List ℕ) (rest : Nodes) → ends_in_text d.children ≡ false
+      → (Calm (written (b ∷ t)) p (more d (ChildText (b ∷ t) ∷ [])) names path under base → Built choices (written (b ∷ t)) p (more d (ChildText (b ∷ t) ∷ [])) rest path base)
+      → Built choices w p d (TextThen (b ∷ t) rest) path base
+  words_case b t rest z next =
+      let v = written (b ∷ t) in
+      let x = frame_text w.forest p (b ∷ t) d c.is_forest (λ e. cc) z c.shows in
+      let y = next (calm_after choices c v.forest w.formatting v.frameset_ok x c.entries (λ n h. h)) in
+      record {
+        forest = y.forest;
+        formatting = y.formatting;
+        ok = y.ok;
+        goes = λ ts u g. (v, (writes choices c b t m, y.goes ts u g));
+        filled = filled_text w.forest v.forest y.forest p d (b ∷ t) rest x y.filled;
+        entries = y.entries;
+        fewer = y.fewer;
+      }
+
+  abbrev broken : List AttributeText → World
+  broken attrs = after w (with_element choices p (html_name (codes "br")) attrs w.forest) w.formatting false
+
+  break_case : (attrs : List AttributeText) (rest : Nodes)
+      → (Calm (broken attrs) p (more d (ChildNode (choices.fresh w.forest) ∷ [])) names path under base → Built choices (broken attrs) p (more d (ChildNode (choices.fresh w.forest) ∷ [])) rest path base)
+      → Built choices w p d (ElementThen (codes "br") attrs End rest) path base
+  unfolding void_names
+  break_case attrs rest next =
+      let v = broken attrs in
+      let n = choices.fresh w.forest in
+      let below = calm_below choices c (codes "br") attrs refl in
+      let i = filled_nothing v.forest n (face (codes "br") attrs) below.is_forest below.new in
+      let same = same_faces v.forest below.is_forest in
+      let x = frame_element choices w.forest p d (codes "br") attrs below c.is_forest c.shows v.forest v.forest End i same in
+      let y = next (calm_after choices c v.forest w.formatting false x c.entries (λ k h. h)) in
+      record {
+        forest = y.forest;
+        formatting = y.formatting;
+        ok = y.ok;
+        goes = λ ts u g. (v, (breaks choices c attrs m, y.goes ts u g));
+        filled = filled_element choices w.forest p d (codes "br") attrs below c.is_forest c.shows v.forest v.forest y.forest End rest i same y.filled;
+        entries = y.entries;
+        fewer = y.fewer;
+      }
+
+-- THE INDUCTION: from any calm builder, the tokens of plain nodes lead to it again, but for those nodes below its
+-- current node, the formatting list and the frameset flag
+pub builds : (choices : SinkChoices) {s : Sort} {nodes : Nodes} → IsPlain s nodes → (w : World) (p : ℕ) (d : Face) (names : List QualName) (path : List OpenFormat) (under : List ℕ) (base : List Entry)
+    → Fits s w.mode names → Seam s d.children → Unlinked s path → Calm w p d names (open_of s path) under base → Built choices w p d nodes (open_of s path) base
+builds choices Nothing w p d names path under base f z l c = built_nothing choices c
+builds choices (Division {attrs} {inner} {rest} a i r) w p d names path under base f z l c =
+    let n = choices.fresh w.forest in
+    block_case choices c (codes "div") attrs inner rest div_holds (starts_block choices c (codes "div") attrs f.0 f.1.0 (div_rule attrs w))
+    (λ o. builds choices i (in_block choices c (codes "div") attrs) n (face (codes "div") attrs) (html_name (codes "div") ∷ names) [] (n ∷ w.stack) base (in_division w.mode names f) tt tt o)
+    (λ v m k e. ends_div choices v names (m ∙ f.0) k e)
+    (λ g k b q. builds choices r (after w g k b) p (more d (ChildNode n ∷ [])) names path under base f tt tt q)
+builds choices (Paragraph {attrs} {inner} {rest} a i r) w p d names path under base f z l c =
+    let n = choices.fresh w.forest in
+    block_case choices c (codes "p") attrs inner rest p_holds (starts_block choices c (codes "p") attrs f.0 f.1.0 (p_rule attrs w))
+    (λ o. builds choices i (in_block choices c (codes "p") attrs) n (face (codes "p") attrs) (html_name (codes "p") ∷ names) [] (n ∷ w.stack) base f.0 refl refl o)
+    (λ v m k e. ends_p choices v names (m ∙ f.0) k e)
+    (λ g k b q. builds choices r (after w g k b) p (more d (ChildNode n ∷ [])) names path under base f tt tt q)
+builds choices (Heading {name} {attrs} {inner} {rest} h a i r) w p d names path under base f z l c =
+    let n = choices.fresh w.forest in
+    let x = is_heading_name name h in
+    block_case choices c name attrs inner rest x.holds (starts_heading choices c name attrs x f.0 f.1.0 f.1.1)
+    (λ o. builds choices i (in_block choices c name attrs) n (face name attrs) (html_name name ∷ names) [] (n ∷ w.stack) base f.0 refl refl o)
+    (λ v m k e. ends_heading choices v names (m ∙ f.0) k name x e)
+    (λ g k b q. builds choices r (after w g k b) p (more d (ChildNode n ∷ [])) names path under base f tt tt q)
+builds choices (Words {linked} {first} {more = further} {rest} a r) w p d names path under base f z l c =
+    words_case choices c f first further rest z
+    (λ q. builds choices r (written choices c f (first ∷ further)) p (more d (ChildText (first ∷ further) ∷ [])) names path under base f tt l q)
+builds choices (Break {after_text} {linked} {attrs} {rest} a r) w p d names path under base f z l c =
+    break_case choices c f attrs rest
+    (λ q. builds choices r (broken choices c f attrs) p (more d (ChildNode (choices.fresh w.forest) ∷ [])) names path under base f (ends_in_node (choices.fresh w.forest) d.children) l q)

@@ -1,0 +1,183 @@
+//! Formatting elements and `br` in the body (HTML standard, section 13.2.6.4.7).
+ghost use Rattle.std.specs.Prelude.{◌≡◌, [], ◌∷◌, false, true, OnOk, IsTrue, codes};
+ghost use Rattle.h5_names.specs.AttributeText.{attribute_texts};
+ghost use Rattle.h5_tag_sets.specs.TagSets.{formatting_names, is_default_scope, is_html_named, is_one_of};
+ghost use Rattle.h5_stack.specs.Scope.{in_scope};
+ghost use Rattle.h5_meaning.specs.AdoptionAgency.{closes_one, handle_misnested_nobr_tags, is_named_listed};
+ghost use Rattle.h5_meaning.specs.InBody.{in_body_end_br, in_body_end_formatting, in_body_start_a, in_body_start_br, in_body_start_formatting, in_body_start_nobr};
+ghost use Rattle.h5_meaning.specs.Rows.{InsertAndPopElement, ReconstructActiveFormattingElements, SetFramesetNotOk, apply_all};
+ghost use Rattle.h5_meaning.specs.Sound.{IsReady};
+ghost use Rattle.h5_meaning.specs.World.{names_of};
+ghost use Rattle.h5_state.specs.Steps.{IsSound, TellsErrors, errors_of, world_of};
+ghost use Rattle.h5_state.specs.Turn.{TakesTag};
+
+use h5_adoption::{adoption_agency, closes_one, handle_misnested_a_tags, is_named_listed};
+use h5_formatting::{create_formatting_element, reconstruct_active_formatting_elements};
+use h5_interface::TreeSink;
+use h5_names::{Attribute, KnownName, LocalName};
+use h5_state::{
+    State, Turn, in_scope_named, insert_and_pop_element, set_frameset_not_ok, tell_error,
+    unexpected_tag,
+};
+use h5_token::Tag;
+use h5_types::ProcessResult;
+use std::alloc::AllocError;
+
+// An `a` isn't expected where one is listed.
+fn check_a<S: TreeSink>(sink: &mut S, state: &State<S::Handle>, tag: &Tag)
+    ensures told { TellsErrors S.TreeSink sink.old sink.new state.now }
+    ensures quiet { is_named_listed (codes "a") (world_of S.TreeSink sink.old state.now) ≡ false → errors_of S.TreeSink sink.new ≡ errors_of S.TreeSink sink.old }
+{
+    let a = LocalName::from_known(KnownName::A);
+    if is_named_listed(sink, state, &a) {
+        unexpected_tag(sink, state, tag);
+    }
+}
+
+// A start tag `a`: one that is listed is closed, and a formatting element follows.
+pub(crate) fn in_body_start_a<S: TreeSink>(
+    sink: &mut S,
+    state: &mut State<S::Handle>,
+    tag: Tag,
+) -> Turn<S::Handle>
+    requires sound { IsSound S.TreeSink sink.old state.old }
+    requires ready { IsReady (world_of S.TreeSink sink.old state.old) }
+    requires name { IsTrue (is_one_of formatting_names tag.name) }
+    ensures { TakesTag S.TreeSink in_body_start_a tag sink.old state.old sink.new state.new result }
+{
+    check_a(sink, state, &tag);
+    handle_misnested_a_tags(sink, state)?;
+    reconstruct_active_formatting_elements(sink, state)?;
+    create_formatting_element(sink, state, tag)?;
+    Ok(ProcessResult::Done)
+}
+
+// A `nobr` in scope is closed, and what is closed with it is made anew.
+fn handle_misnested_nobr_tags<S: TreeSink>(
+    sink: &mut S,
+    state: &mut State<S::Handle>,
+) -> Result<(), AllocError>
+    requires sound { IsSound S.TreeSink sink.old state.old }
+    requires ready { IsReady (world_of S.TreeSink sink.old state.old) }
+    ensures done { OnOk result (world_of S.TreeSink sink.new state.new ≡ handle_misnested_nobr_tags S.choices (world_of S.TreeSink sink.old state.old)) }
+    ensures quiet { in_scope (is_html_named (codes "nobr")) is_default_scope (names_of (world_of S.TreeSink sink.old state.old)) ≡ false → errors_of S.TreeSink sink.new ≡ errors_of S.TreeSink sink.old }
+    ensures sound { IsSound S.TreeSink sink.new state.new }
+{
+    if in_scope_named(sink, state, KnownName::Nobr) {
+        tell_error(sink, state, "a <nobr> in a <nobr>");
+        let nobr = LocalName::from_known(KnownName::Nobr);
+        adoption_agency(sink, state, &nobr)?;
+        reconstruct_active_formatting_elements(sink, state)
+    } else {
+        Ok(())
+    }
+}
+
+// A start tag `nobr`: one that is in scope is closed, and a formatting element follows.
+pub(crate) fn in_body_start_nobr<S: TreeSink>(
+    sink: &mut S,
+    state: &mut State<S::Handle>,
+    tag: Tag,
+) -> Turn<S::Handle>
+    requires sound { IsSound S.TreeSink sink.old state.old }
+    requires ready { IsReady (world_of S.TreeSink sink.old state.old) }
+    requires name { IsTrue (is_one_of formatting_names tag.name) }
+    ensures { TakesTag S.TreeSink in_body_start_nobr tag sink.old state.old sink.new state.new result }
+{
+    reconstruct_active_formatting_elements(sink, state)?;
+    handle_misnested_nobr_tags(sink, state)?;
+    create_formatting_element(sink, state, tag)?;
+    Ok(ProcessResult::Done)
+}
+
+// A start tag `b`, `big`, `code`, .., `u`: a formatting element.
+pub(crate) fn in_body_start_formatting<S: TreeSink>(
+    sink: &mut S,
+    state: &mut State<S::Handle>,
+    tag: Tag,
+) -> Turn<S::Handle>
+    requires sound { IsSound S.TreeSink sink.old state.old }
+    requires name { IsTrue (is_one_of formatting_names tag.name) }
+    ensures { TakesTag S.TreeSink in_body_start_formatting tag sink.old state.old sink.new state.new result }
+{
+    reconstruct_active_formatting_elements(sink, state)?;
+    create_formatting_element(sink, state, tag)?;
+    Ok(ProcessResult::Done)
+}
+
+// An end tag isn't expected where it closes more than the current node.
+fn check_closing<S: TreeSink>(sink: &mut S, state: &State<S::Handle>, tag: &Tag)
+    requires { IsSound S.TreeSink sink.old state.now }
+    ensures told { TellsErrors S.TreeSink sink.old sink.new state.now }
+    ensures quiet { closes_one tag.now.name (world_of S.TreeSink sink.old state.now) ≡ true → errors_of S.TreeSink sink.new ≡ errors_of S.TreeSink sink.old }
+{
+    if !closes_one(sink, state, &tag.name) {
+        unexpected_tag(sink, state, tag);
+    }
+}
+
+// An end tag `a`, `b`, .., `u`: the adoption agency closes the formatting element.
+pub(crate) fn in_body_end_formatting<S: TreeSink>(
+    sink: &mut S,
+    state: &mut State<S::Handle>,
+    tag: Tag,
+) -> Turn<S::Handle>
+    requires sound { IsSound S.TreeSink sink.old state.old }
+    requires ready { IsReady (world_of S.TreeSink sink.old state.old) }
+    requires name { IsTrue (is_one_of formatting_names tag.name) }
+    ensures { TakesTag S.TreeSink in_body_end_formatting tag sink.old state.old sink.new state.new result }
+{
+    check_closing(sink, state, &tag);
+    adoption_agency(sink, state, &tag.name)?;
+    Ok(ProcessResult::Done)
+}
+
+// An element that isn't open, after which no frameset may come.
+fn insert_leaf<S: TreeSink>(
+    sink: &mut S,
+    state: &mut State<S::Handle>,
+    local: LocalName,
+    attrs: Vec<Attribute>,
+    had_duplicate_attributes: bool,
+) -> Result<(), AllocError>
+    requires { IsSound S.TreeSink sink.old state.old }
+    ensures done { OnOk result
+        (world_of S.TreeSink sink.new state.new ≡ apply_all S.choices (ReconstructActiveFormattingElements ∷ InsertAndPopElement local (attribute_texts attrs.items) had_duplicate_attributes ∷ SetFramesetNotOk ∷ []) (world_of S.TreeSink sink.old state.old)) }
+    ensures quiet { errors_of S.TreeSink sink.new ≡ errors_of S.TreeSink sink.old }
+    ensures sound { IsSound S.TreeSink sink.new state.new }
+{
+    reconstruct_active_formatting_elements(sink, state)?;
+    insert_and_pop_element(sink, state, local, attrs, had_duplicate_attributes)?;
+    set_frameset_not_ok(sink, state);
+    Ok(())
+}
+
+// A start tag `br`.
+pub(crate) fn in_body_start_br<S: TreeSink>(
+    sink: &mut S,
+    state: &mut State<S::Handle>,
+    tag: Tag,
+) -> Turn<S::Handle>
+    requires { IsSound S.TreeSink sink.old state.old }
+    ensures { TakesTag S.TreeSink in_body_start_br tag sink.old state.old sink.new state.new result }
+{
+    let attrs = tag.attrs;
+    insert_leaf(sink, state, tag.name, attrs, tag.had_duplicate_attributes)?;
+    Ok(ProcessResult::DoneAckSelfClosing)
+}
+
+// An end tag `br`, which is taken for a start tag without attributes.
+#[cold]
+pub(crate) fn in_body_end_br<S: TreeSink>(
+    sink: &mut S,
+    state: &mut State<S::Handle>,
+    tag: Tag,
+) -> Turn<S::Handle>
+    requires { IsSound S.TreeSink sink.old state.old }
+    ensures { TakesTag S.TreeSink in_body_end_br tag sink.old state.old sink.new state.new result }
+{
+    unexpected_tag(sink, state, &tag);
+    let attrs = Vec::new(state.alloc);
+    insert_leaf(sink, state, tag.name, attrs, tag.had_duplicate_attributes)?;
+    Ok(ProcessResult::DoneAckSelfClosing)
+}

@@ -1,0 +1,40 @@
+-- What an iterator over the list of active formatting elements gives.
+use Rattle.std.proofs.Common.{◌≡◌, ℕ, List, [], ◌∷◌, ◌++◌, length, map, reverse, refl, ap, sym, ◌∙◌}
+use Rattle.std.proofs.lemmas.List.{length-map, length-reverse, map-append, reverse-append}
+use Rattle.h5_token.specs.TokenText.{tag_text}
+use Rattle.h5_token.specs.declared.tag.Tag.{Tag}
+use Rattle.h5_types.specs.declared.entry.FormatEntry.{FormatEntry}
+use Rattle.h5_types.specs.declared.entry.FormatEntry.TheVariants.{Element, Marker}
+use Rattle.h5_stack.specs.FormattingList.{ElementEntry, after_marker}
+use Rattle.h5_state.specs.View.{entry_of}
+use Rattle.h5_tree_builder.specs.ActiveFormatting.{falling, given_entry, given_place, placed, still_given}
+
+map-reversed : {A B : Type 0} (f : A → B) (l : List A) → map f (reverse l) ≡ reverse (map f l)
+map-reversed f [] = refl
+map-reversed f (x ∷ l) = ap (map f) (reverse-append (x ∷ []) l) ∙ map-append f (reverse l) (x ∷ []) ∙ ap (λ y. y ++ f x ∷ []) (map-reversed f l) ∙ sym (reverse-append (f x ∷ []) (map f l))
+
+-- the entries of a world's list, and their places
+module _ {H : Type 0} (node : H → ℕ) where
+  placed_entries : (l : List (FormatEntry H)) → map (given_entry node) (placed l) ≡ after_marker (map (entry_of node) l)
+  placed_entries [] = refl
+  placed_entries (Marker ∷ l) = refl
+  placed_entries (Element handle tag ∷ l) = ap (λ x. ElementEntry (node handle) (tag_text tag) ∷ x) (placed_entries l)
+
+  placed_places : (l : List (FormatEntry H)) → map given_place (placed l) ≡ falling (length (map (entry_of node) l)) (after_marker (map (entry_of node) l))
+  placed_places [] = refl
+  placed_places (Marker ∷ l) = refl
+  placed_places (Element handle tag ∷ l) = ap (λ n. n ∷ map given_place (placed l)) (sym (length-map l (entry_of node))) ∙ ap (λ x. length (map (entry_of node) l) ∷ x) (placed_places l)
+
+  pub given_entries : (entries : List (FormatEntry H)) → map (given_entry node) (still_given entries) ≡ after_marker (reverse (map (entry_of node) entries))
+  given_entries entries = placed_entries (reverse entries) ∙ ap after_marker (map-reversed (entry_of node) entries)
+
+  pub given_places : (entries : List (FormatEntry H)) → map given_place (still_given entries) ≡ falling (length (reverse (map (entry_of node) entries))) (after_marker (reverse (map (entry_of node) entries)))
+  given_places entries = placed_places (reverse entries) ∙ ap (λ x. falling (length x) (after_marker x)) (map-reversed (entry_of node) entries)
+
+-- the newest is given first
+pub gives_element : {H : Type 0} (older entries : List (FormatEntry H)) (handle : H) (tag : Tag) → entries ≡ older ++ Element handle tag ∷ [] → still_given entries ≡ (length older, (handle, tag)) ∷ still_given older
+gives_element older entries handle tag e =
+    ap still_given e ∙ ap placed (reverse-append older (Element handle tag ∷ [])) ∙ ap (λ n. (n, (handle, tag)) ∷ still_given older) (length-reverse older)
+
+pub gives_none : {H : Type 0} (older entries : List (FormatEntry H)) → entries ≡ older ++ Marker ∷ [] → still_given entries ≡ []
+gives_none older entries e = ap still_given e ∙ ap placed (reverse-append older (Marker ∷ []))
