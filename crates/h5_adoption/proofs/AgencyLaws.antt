@@ -9,7 +9,7 @@ use Rattle.h5_stack.specs.Order.{Before, is_in}
 use Rattle.h5_stack.proofs.EntryLaws.{nodes_of-append}
 use Rattle.h5_stack.proofs.PairLaws.{distinct_apart}
 use Rattle.h5_names.specs.AttributeText.{is_same_text}
-use Rattle.h5_meaning.specs.AdoptionAgency.{adopt_at, adopt_by, adopt_within, adoption_agency}
+use Rattle.h5_meaning.specs.AdoptionAgency.{adopt_at, adopt_by, adopt_within, adoption_agency, KeepsKinds}
 use Rattle.h5_names.specs.declared.qualified.QualName.{QualName}
 use Rattle.h5_interface.specs.Forest.{ElementNode}
 use Rattle.h5_interface.proofs.ForestLaws.{node_of_kind}
@@ -22,7 +22,6 @@ use Rattle.h5_stack.proofs.PairLaws.{is_in_telling}
 use Rattle.h5_meaning.specs.Sound.{Sound}
 use Rattle.h5_meaning.specs.World.{name_of_found, names_of, root}
 use Rattle.h5_meaning.proofs.AdoptionAgencyLaws.{LeavesReady, agency_leaves, leaves_refl, round_ready}
-use Rattle.h5_meaning.proofs.AdoptionForest.{KeepsKinds}
 use Rattle.h5_meaning.proofs.AdoptionPlace.{newest_is_plain, newest_of_tag, plain_not_html}
 use Rattle.h5_meaning.specs.World.{World, name_in}
 use Rattle.h5_meaning.specs.Sound.{IsReady}

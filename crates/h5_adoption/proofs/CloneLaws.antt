@@ -7,14 +7,14 @@ use Rattle.h5_interface.specs.SinkChoices.{SinkChoices}
 use Rattle.h5_interface.specs.declared.sink.TreeSink.{Ghosts}
 use Rattle.h5_stack.specs.FormattingList.{ElementEntry, Entry, MarkerEntry, nodes_of}
 use Rattle.h5_stack.specs.Order.{IsIn, is_in}
-use Rattle.h5_meaning.specs.AdoptionAgency.{IsLoose, Nest, tag_in, wrapped}
+use Rattle.h5_meaning.specs.AdoptionAgency.{IsLoose, Nest, tag_in, wrapped, KeepsKinds}
 use Rattle.h5_meaning.specs.World.{World}
 use Rattle.h5_meaning.specs.Sound.{AllStand}
 use Rattle.h5_meaning.proofs.AdoptionForest.{wrapped_all, wrapped_kinds, wrapped_loose}
 use Rattle.h5_state.specs.Steps.{IsSound, world_of}
 use Rattle.h5_state.specs.View.{entry_of, world}
 use Rattle.h5_state.specs.declared.state.State.{State}
-use Rattle.h5_adoption.specs.Hanging.{IsLooseOver, KeepsKinds, with_clone, with_clone_by}
+use Rattle.h5_adoption.specs.Hanging.{IsLooseOver, with_clone, with_clone_by}
 use Rattle.h5_adoption.specs.Places.{IsEntryAt}
 use Rattle.h5_adoption.specs.View.{list_under}
 use Rattle.h5_adoption.proofs.EntryLaws.{list_cut}

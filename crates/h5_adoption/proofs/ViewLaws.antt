@@ -1,5 +1,6 @@
 -- What holds at every moment, after a forest whose nodes may have been hung elsewhere.
 use Rattle.std.proofs.Common.{◌≡◌, ℕ, List, [], ◌∷◌, map, inl, inr, refl, ap, sym, subst, ◌∙◌}
+use Rattle.h5_meaning.specs.AdoptionAgency.{KeepsKinds}
 use Rattle.h5_interface.specs.Forest.{Forest, IsElement}
 use Rattle.h5_interface.specs.Seen.{Seen, changed}
 use Rattle.h5_interface.specs.declared.sink.TreeSink.{Ghosts}
@@ -11,7 +12,6 @@ use Rattle.h5_state.specs.Steps.{IsSound, world_of}
 use Rattle.h5_state.specs.Summaries.{summaries}
 use Rattle.h5_state.specs.View.{world}
 use Rattle.h5_state.specs.declared.state.State.{State}
-use Rattle.h5_adoption.specs.Hanging.{KeepsKinds}
 
 -- open elements keep their names
 names_same : (f g : Forest) (s : List ℕ) → ((n : ℕ) → IsIn n s → IsElement f n) → KeepsKinds f g → map (name_in g) s ≡ map (name_in f) s

@@ -19,10 +19,6 @@ pub record MayHang (f : Forest) (n : ℕ) : Type 0 where
   pub no_document : kind_of f n ≢ Some DocumentNode
   pub no_fragment : kind_of f n ≢ Some FragmentNode
 
--- old nodes stay what they are
-abbrev pub KeepsKinds : Forest → Forest → Type 0
-KeepsKinds f g = (n : ℕ) → IsNode f n → kind_of g n ≡ kind_of f n
-
 -- the open elements at these places, of which the second is left out, the newest first
 abbrev pub open_between : {H : Type 0} → (H → ℕ) → State H → (first block : ℕ) → List ℕ
 open_between node state first block = take (block - first) (stack_under node state block)

@@ -2,10 +2,10 @@
 ghost use Rattle.std.specs.Prelude.{◌≡◌, ◌≤◌, ◌<◌, ◌+◌, ◌∷◌, ℕ, List, IfOk, OnOk, length};
 ghost use Rattle.h5_token.specs.TokenText.{tag_text};
 ghost use Rattle.h5_stack.specs.Adoption.{to_clone};
-ghost use Rattle.h5_meaning.specs.AdoptionAgency.{IsLoose, nest, tag_in, wrapped};
+ghost use Rattle.h5_meaning.specs.AdoptionAgency.{IsLoose, nest, tag_in, wrapped, KeepsKinds};
 ghost use Rattle.h5_state.specs.Steps.{IsSound, errors_of, world_of};
 ghost use Rattle.h5_state.specs.View.{stack_under};
-ghost use Rattle.h5_adoption.specs.Hanging.{IsLooseOver, KeepsKinds, nest_of, open_between, with_clone, with_clone_by};
+ghost use Rattle.h5_adoption.specs.Hanging.{IsLooseOver, nest_of, open_between, with_clone, with_clone_by};
 
 use super::find::find_entry;
 use super::hang::wrap;

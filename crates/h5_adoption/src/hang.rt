@@ -5,20 +5,12 @@ ghost use Rattle.h5_interface.specs.Forest.{IsForest};
 ghost use Rattle.h5_interface.specs.Seen.{changed};
 ghost use Rattle.h5_interface.specs.SinkChoices.{Rearranges};
 ghost use Rattle.h5_meaning.specs.AdoptionAgency.{make_for, wrapped};
-ghost use Rattle.h5_stack.specs.FormattingNames.{html_name};
 ghost use Rattle.h5_adoption.specs.Hanging.{MayHang};
 
 use h5_interface::{NodeOrText, TreeSink, create_element_with_flags};
-use h5_names::{LocalName, Namespace, QualName};
+use h5_state::html_qual_name;
 use h5_token::Tag;
 use std::alloc::AllocError;
-
-// The HTML name of this local name.
-fn html_qual_name(local: LocalName) -> QualName
-    ensures { result ≡ html_name local }
-{
-    QualName::new(None, Namespace::html(), local)
-}
 
 /// A new HTML element for a tag, without parent. An Err leaves the forest.
 pub fn make_for<S: TreeSink>(sink: &mut S, tag: &Tag) -> Result<S::Handle, AllocError>
@@ -26,8 +18,8 @@ pub fn make_for<S: TreeSink>(sink: &mut S, tag: &Tag) -> Result<S::Handle, Alloc
     ensures ok { OnOk result (S.sees sink.new ≡ changed (make_for S.choices (tag_text tag.now)) (S.sees sink.old)) }
     ensures err { OnErr result (S.sees sink.new ≡ S.sees sink.old) }
 {
-    let name = html_qual_name(tag.name.clone()?);
     let copy = tag.clone()?;
+    let name = html_qual_name(copy.name);
     create_element_with_flags(sink, name, copy.attrs, copy.had_duplicate_attributes)
 }
 

@@ -4,13 +4,13 @@ ghost use Rattle.h5_token.specs.TokenText.{tag_text};
 ghost use Rattle.h5_interface.specs.Changes.{detach, reparent};
 ghost use Rattle.h5_interface.specs.Forest.{ChildNode};
 ghost use Rattle.h5_interface.specs.Seen.{changed, with_last_child};
-ghost use Rattle.h5_meaning.specs.AdoptionAgency.{make_for};
+ghost use Rattle.h5_meaning.specs.AdoptionAgency.{make_for, KeepsKinds};
 ghost use Rattle.h5_meaning.specs.Place.{appropriate_place, put};
 ghost use Rattle.h5_meaning.specs.World.{root};
 ghost use Rattle.h5_stack.specs.Order.{IsIn, first_or};
 ghost use Rattle.h5_state.specs.Steps.{IsSound, errors_of, world_of};
 ghost use Rattle.h5_state.specs.View.{stack_under};
-ghost use Rattle.h5_adoption.specs.Hanging.{KeepsKinds, MayMove};
+ghost use Rattle.h5_adoption.specs.Hanging.{MayMove};
 
 use super::hang::make_for;
 use super::walk::handle_at;

@@ -4,13 +4,12 @@ ghost use Rattle.h5_token.specs.TokenText.{TagText, tag_text};
 ghost use Rattle.h5_interface.specs.Changes.{reparent};
 ghost use Rattle.h5_interface.specs.Forest.{ChildNode};
 ghost use Rattle.h5_interface.specs.Seen.{after_pop, changed, with_last_child};
-ghost use Rattle.h5_meaning.specs.AdoptionAgency.{adopt, make_for};
+ghost use Rattle.h5_meaning.specs.AdoptionAgency.{adopt, make_for, KeepsKinds};
 ghost use Rattle.h5_stack.specs.Adoption.{FormattingElement, FurthestBlock};
 ghost use Rattle.h5_stack.specs.FormattingList.{ElementEntry, Entry};
 ghost use Rattle.h5_stack.specs.Order.{IsIn};
 ghost use Rattle.h5_state.specs.Steps.{IsSound, errors_of, world_of};
 ghost use Rattle.h5_state.specs.View.{stack_under};
-ghost use Rattle.h5_adoption.specs.Hanging.{KeepsKinds};
 ghost use Rattle.h5_adoption.specs.Rounds.{IsElementEntry, IsRound, SomeRound};
 
 use super::clones::make_clones;

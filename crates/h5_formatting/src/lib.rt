@@ -7,4 +7,4 @@ mod reconstruct;
 
 pub use list::create_formatting_element;
 pub use markers::{clear_active_formatting_to_marker, insert_marker};
-pub use reconstruct::{is_open, reconstruct_active_formatting_elements};
+pub use reconstruct::reconstruct_active_formatting_elements;

@@ -11,9 +11,9 @@ use h5_state::{State, current_node, insert_element};
 use h5_types::FormatEntry;
 use std::alloc::AllocError;
 
-/// Whether an element is open.
+// Whether an element is open.
 #[tactic(auto, unfolding(h5_state::specs::View::world))]
-pub fn is_open<S: TreeSink>(sink: &S, state: &State<S::Handle>, handle: &S::Handle) -> bool
+fn is_open<S: TreeSink>(sink: &S, state: &State<S::Handle>, handle: &S::Handle) -> bool
     ensures { result ≡ is_in (S.node handle.now) (world_of S.TreeSink sink.now state.now).stack }
 {
     let mut place = state.open_elems.len();

@@ -21,13 +21,13 @@ use Rattle.h5_stack.proofs.PairLaws.{before_one_more, in_one_more, is_in_true}
 use Rattle.h5_stack.proofs.PassLaws.{lists_but_first, lists_closed, lists_cut_through, lists_removed, ordered_distinct, stack_split, without_node_split}
 use Rattle.h5_fits.specs.StageFits.{IsRootOpen}
 use Rattle.h5_fits.proofs.StageLaws.{not_html, open_ended, open_pop}
-use Rattle.h5_meaning.specs.AdoptionAgency.{MayAdopt, adopt, adopt_at, adopt_by, adopt_within, adoption_agency, close_misnested_a, handle_misnested_a_tags, handle_misnested_nobr_tags, remove_from_stack, unlist_and_remove}
+use Rattle.h5_meaning.specs.AdoptionAgency.{MayAdopt, adopt, adopt_at, adopt_by, adopt_within, adoption_agency, close_misnested_a, handle_misnested_a_tags, handle_misnested_nobr_tags, remove_from_stack, unlist_and_remove, KeepsKinds}
 use Rattle.h5_meaning.specs.Changes.{generate_implied_end_except, pop, pop_until_named, pop_while}
 use Rattle.h5_meaning.specs.Closing.{close_named}
 use Rattle.h5_meaning.specs.Formatting.{reconstruct_active_formatting_elements}
 use Rattle.h5_meaning.specs.Sound.{AllStand, HasLists, IsReady, Sound}
 use Rattle.h5_meaning.specs.World.{World, current, name_in, name_of_found, names_of}
-use Rattle.h5_meaning.proofs.AdoptionForest.{KeepsKinds, kinds_refl, kinds_trans, marked_all, marked_kind, marked_kinds}
+use Rattle.h5_meaning.proofs.AdoptionForest.{kinds_refl, kinds_trans, marked_all, marked_kind, marked_kinds}
 use Rattle.h5_meaning.proofs.AdoptionPlace.{newest_is_plain, newest_of_tag, not_oldest, plain_not_html}
 use Rattle.h5_meaning.proofs.AdoptionRound.{adopt_ready, map_same, map_some, open_after, open_before, open_behind, round_kinds, top_after, top_before, top_behind}
 use Rattle.h5_meaning.proofs.ClosingLaws.{pop_sound, while_holds}

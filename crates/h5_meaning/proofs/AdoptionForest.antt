@@ -23,7 +23,7 @@ use Rattle.h5_stack.specs.Adoption.{FormattingElement, FurthestBlock, newer_than
 use Rattle.h5_stack.proofs.PairLaws.{before_across, before_first, before_second, in_right}
 use Rattle.h5_stack.proofs.PassLaws.{furthest_block_at, ordered_distinct, stack_split}
 use Rattle.h5_tag_sets.specs.TagSets.{is_special}
-use Rattle.h5_meaning.specs.AdoptionAgency.{IsLoose, MayAdopt, make_for, wrapped}
+use Rattle.h5_meaning.specs.AdoptionAgency.{IsLoose, MayAdopt, make_for, wrapped, KeepsKinds}
 use Rattle.h5_meaning.specs.Sound.{AllStand, RootIsTop, Stands}
 use Rattle.h5_meaning.specs.World.{World, name_in, name_of_found}
 use Rattle.h5_meaning.proofs.SoundLaws.{all_rearranged, element_is_node, stands_rearranged}
@@ -70,9 +70,6 @@ top_of_oldest f (m ∷ []) n p k o e = k p (ap (parent_of f) (sym o) ∙ e)
 top_of_oldest f (m ∷ j ∷ s) n p k o e = top_of_oldest f (j ∷ s) n p k o e
 
 -- Nodes stay what they are.
-
-abbrev pub KeepsKinds : Forest → Forest → Type 0
-KeepsKinds f g = (n : ℕ) → IsNode f n → kind_of g n ≡ kind_of f n
 
 pub kinds_refl : (f : Forest) → KeepsKinds f f
 kinds_refl f = λ n there. refl

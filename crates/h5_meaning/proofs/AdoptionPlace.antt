@@ -28,12 +28,12 @@ use Rattle.h5_stack.proofs.PlainLaws.{listed_is_plain}
 use Rattle.h5_fits.specs.StageFits.{IsRootOpen}
 use Rattle.h5_fits.proofs.BoolLaws.{or_neither}
 use Rattle.h5_fits.proofs.SetLaws.{default_named, special_named}
-use Rattle.h5_meaning.specs.AdoptionAgency.{IsLoose, MayAdopt, common_ancestor}
+use Rattle.h5_meaning.specs.AdoptionAgency.{IsLoose, MayAdopt, common_ancestor, KeepsKinds}
 use Rattle.h5_meaning.specs.Changes.{with_forest}
 use Rattle.h5_meaning.specs.Place.{CanPut, IsPlaceIn, LastChild, Place, TableFosterParenting, appropriate_place, foster_place, from_foster_parent, inside, is_foster_parent, put}
 use Rattle.h5_meaning.specs.Sound.{AllStand, Sound}
 use Rattle.h5_meaning.specs.World.{World, name_in, name_of_found, names_of, root}
-use Rattle.h5_meaning.proofs.AdoptionForest.{KeepsKinds, before_trans, block_is_newer, can_detach, detached_all, detached_loose, detached_parents, loose_hung, loose_not_oldest, all_hung}
+use Rattle.h5_meaning.proofs.AdoptionForest.{before_trans, block_is_newer, can_detach, detached_all, detached_loose, detached_parents, loose_hung, loose_not_oldest, all_hung}
 use Rattle.h5_meaning.proofs.PlaceLaws.{parent_at, place_is_there, put_keeps, put_rehangs}
 use Rattle.h5_meaning.proofs.SoundLaws.{element_is_node}
 

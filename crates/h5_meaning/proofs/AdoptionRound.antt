@@ -23,11 +23,11 @@ use Rattle.h5_stack.proofs.PassLaws.{each_tag_adopted, furthest_block_at, lists_
 use Rattle.h5_stack.proofs.PlainLaws.{listed_is_plain}
 use Rattle.h5_fits.specs.StageFits.{IsRootOpen}
 use Rattle.h5_fits.proofs.StageLaws.{open_push}
-use Rattle.h5_meaning.specs.AdoptionAgency.{IsLoose, MayAdopt, Nest, adopt, common_ancestor, nest, placed, refilled, tag_in, wrapped}
+use Rattle.h5_meaning.specs.AdoptionAgency.{IsLoose, MayAdopt, Nest, adopt, common_ancestor, nest, placed, refilled, tag_in, wrapped, KeepsKinds}
 use Rattle.h5_meaning.specs.Changes.{with_forest}
 use Rattle.h5_meaning.specs.Sound.{AllStand, IsHtml, IsReady, RootIsTop, Sound, Stands}
 use Rattle.h5_meaning.specs.World.{World, name_in, name_of_found, names_of}
-use Rattle.h5_meaning.proofs.AdoptionForest.{KeepsKinds, before_trans, block_is_newer, block_is_open, filled, filled_all, filled_kinds, filled_loose, filled_of_tag, filled_parent, filled_parents, kinds_refl, kinds_trans, loose_block, marked_all, marked_kind, marked_kinds, marked_loose, marked_parent, wrapped_all, wrapped_kinds, wrapped_loose, wrapped_of_tag, wrapped_parent, wrapped_parents}
+use Rattle.h5_meaning.proofs.AdoptionForest.{before_trans, block_is_newer, block_is_open, filled, filled_all, filled_kinds, filled_loose, filled_of_tag, filled_parent, filled_parents, kinds_refl, kinds_trans, loose_block, marked_all, marked_kind, marked_kinds, marked_loose, marked_parent, wrapped_all, wrapped_kinds, wrapped_loose, wrapped_of_tag, wrapped_parent, wrapped_parents}
 use Rattle.h5_meaning.proofs.AdoptionPlace.{ancestor_is_older, formatting_is_plain, formatting_of_tag, may_adopt_kept, older_is_open, older_some, older_than_block, plain_not_template, put_loose_all, put_loose_kinds, put_loose_parents, put_loose_still}
 use Rattle.h5_meaning.proofs.SoundLaws.{element_is_node}
 

@@ -2,6 +2,7 @@ pub mod AdoptionAgencyLaws
 pub mod AdoptionForest
 pub mod AdoptionPlace
 pub mod AdoptionRound
+pub mod AgainLaws
 pub mod ByNameLaws
 pub mod ClosingLaws
 pub mod CutLaws

@@ -1,16 +1,20 @@
 -- How many turns a token takes.
-use Rattle.std.proofs.Common.{◌≡◌, ℕ, zero, suc, ◌+◌, ◌<◌, ◌≤◌, true, false, Option, Some, None, length, refl, ap, sym, subst, ◌∙◌, arith}
+use Rattle.std.proofs.Common.{◌≡◌, ℕ, zero, suc, ◌+◌, ◌<◌, ◌≤◌, true, false, [], Option, Some, None, length, refl, ap, sym, subst, ◌∙◌, arith}
 use Rattle.h5_interface.specs.SinkChoices.{SinkChoices}
 use Rattle.h5_types.specs.TurnText.{TurnText, EofTurn}
 use Rattle.h5_types.specs.declared.modes.InsertionMode.{InsertionMode}
-use Rattle.h5_types.specs.declared.modes.InsertionMode.TheVariants.{Initial, BeforeHtml, BeforeHead, InHead, AfterHead, InBody}
+use Rattle.h5_types.specs.declared.modes.InsertionMode.TheVariants.{Initial, BeforeHtml, BeforeHead, InHead, AfterHead, InBody, InTableText, Text}
+use Rattle.h5_fits.proofs.Ranks.{rank}
+use Rattle.h5_fits.proofs.RankWeightLaws.{is_usual}
 use Rattle.h5_meaning.specs.Changes.{set_mode}
 use Rattle.h5_meaning.specs.InitialMode.{initial_else}
 use Rattle.h5_meaning.specs.Modes.{rule}
-use Rattle.h5_meaning.specs.Rows.{Row, changed_by, choose, next_mode}
+use Rattle.h5_meaning.specs.Rows.{Row, changed_by, choose, ignored, next_mode}
 use Rattle.h5_meaning.specs.Settle.{Settled, settle, settle_within, then_turns}
+use Rattle.h5_meaning.specs.Sound.{situation_of}
 use Rattle.h5_meaning.specs.World.{World}
-use Rattle.h5_meaning.proofs.SettleLaws.{enough, is_end_html, rank_few, settle-row, settle-turn}
+use Rattle.h5_meaning.proofs.AgainLaws.{kind_of_turn}
+use Rattle.h5_meaning.proofs.SettleLaws.{enough, rank_of, rank_usual_few, settle-row, settle-turn}
 
 turn_some : (go : World → Settled) (t : TurnText) (r : Row) (w : World) (o : Option InsertionMode) → 0 < (then_turns go t r w o).turns
 turn_some go t r w None = omega arith
@@ -34,11 +38,23 @@ within_few choices (suc n) t w =
     let v = changed_by choices r w in
     turn_few (λ v. settle_within choices n t v) (suc n) t r v (next_mode r.ending v) (omega arith) (λ u. omega (arith, within_few choices n t u))
 
+-- in a mode of which no rule is written a token takes one turn, in the others seven at most
 pub turns_few : (choices : SinkChoices) (t : TurnText) (w : World) → (settle choices t w).turns ≤ 7
 unfolding settle
-turns_few choices t w =
-    let few = rank_few (is_end_html t) w.mode in
-    subst (λ (s : Settled). s.turns ≤ 7) (enough choices t 7 (16 + length w.stack) w few (omega arith)) (within_few choices 7 t w)
+turns_few choices t w = at w.mode refl
+  where
+    alone : (m : InsertionMode) → w.mode ≡ m → rule m t w ≡ ignored → (settle choices t w).turns ≤ 7
+    alone m e f = subst (λ (s : Settled). s.turns ≤ 7) (sym (settle-row choices t w m ignored e f)) (omega arith)
+
+    usual : (m : InsertionMode) → w.mode ≡ m → is_usual m ≡ true → (settle choices t w).turns ≤ 7
+    usual m e u =
+        let few : rank_of t w ≤ 7 = subst (λ k. rank (kind_of_turn t) (situation_of w) k [] ≤ 7) (sym e) (rank_usual_few (kind_of_turn t) (situation_of w) m u).1 in
+        subst (λ (s : Settled). s.turns ≤ 7) (enough choices t 7 (16 + length w.stack) w few (omega (arith, few))) (within_few choices 7 t w)
+
+    at : (m : InsertionMode) → w.mode ≡ m → (settle choices t w).turns ≤ 7
+    at Text e = alone Text e refl
+    at InTableText e = alone InTableText e refl
+    at m e = usual m e refl
 
 -- one more turn, in another mode
 one_more : (choices : SinkChoices) (w : World) (m k : _) (r : Row) (n : ℕ) → w.mode ≡ m → rule m EofTurn w ≡ r → next_mode r.ending (changed_by choices r w) ≡ Some k → ((v : World) → v.mode ≡ k → (settle choices EofTurn v).turns ≡ n) → (settle choices EofTurn w).turns ≡ n + 1

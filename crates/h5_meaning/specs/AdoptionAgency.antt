@@ -148,6 +148,10 @@ pub record MayAdopt (name : List ℕ) (f : FormattingElement) (k : FurthestBlock
   pub in_scope : list_any (λ n. is_default_scope (name_in w.forest n)) (newer_than f.node w.stack) ≡ false
   pub block : furthest_block (λ n. is_special (name_in w.forest n)) (newer_than f.node w.stack) ≡ Some k
 
+-- nodes that were there stay what they are
+abbrev pub KeepsKinds : Forest → Forest → Type 0
+KeepsKinds f g = (n : ℕ) → IsNode f n → kind_of g n ≡ kind_of f n
+
 -- in the midst of a round: the furthest block, or the outermost of the clones around it, may be hung elsewhere, and of the
 -- open elements only the block and newer ones are it or below it
 pub record IsLoose (g : Forest) (s : List ℕ) (block last : ℕ) : Type 0 where

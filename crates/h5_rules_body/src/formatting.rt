@@ -53,6 +53,7 @@ pub(crate) fn in_body_start_a<S: TreeSink>(
 }
 
 // A `nobr` in scope is closed, and what is closed with it is made anew.
+#[tactic(auto, unfolding(h5_meaning::specs::AdoptionAgency::handle_misnested_nobr_tags))]
 fn handle_misnested_nobr_tags<S: TreeSink>(
     sink: &mut S,
     state: &mut State<S::Handle>,

@@ -1,6 +1,7 @@
 //! The mode "in body" (HTML standard, section 13.2.6.4.7, "The 'in body' insertion mode").
 ghost use Rattle.h5_types.specs.TurnText.{HasText, turn_text};
-ghost use Rattle.h5_meaning.specs.InBody.{in_body, in_body_end_body, in_body_end_html, in_body_end_other, in_body_start_body, in_body_start_other, in_body_tag};
+ghost use Rattle.h5_meaning.specs.ByName.{by_name};
+ghost use Rattle.h5_meaning.specs.InBody.{in_body, in_body_end, in_body_end_body, in_body_end_html, in_body_end_other, in_body_start, in_body_start_body, in_body_start_other, in_body_tag};
 ghost use Rattle.h5_meaning.specs.Sound.{IsReady};
 ghost use Rattle.h5_state.specs.Steps.{IsSound, TellsErrors, world_of};
 ghost use Rattle.h5_state.specs.Turn.{TakesTag, TakesToken};
@@ -140,53 +141,77 @@ fn in_body_start_other<S: TreeSink>(
     Ok(ProcessResult::Done)
 }
 
-#[tactic(auto, unfolding(h5_meaning::specs::InBody::in_body_tag, h5_meaning::specs::InBody::in_body_start, h5_meaning::specs::InBody::in_body_end))]
+// Start tags, by their names.
+#[tactic(auto, unfolding(h5_meaning::specs::InBody::in_body_start))]
+fn in_body_start_tag<S: TreeSink>(
+    sink: &mut S,
+    state: &mut State<S::Handle>,
+    tag: Tag,
+) -> Turn<S::Handle>
+    requires sound { IsSound S.TreeSink sink.old state.old }
+    requires ready { IsReady (world_of S.TreeSink sink.old state.old) }
+    ensures { TakesTag S.TreeSink (by_name in_body_start in_body_start_other) tag sink.old state.old sink.new state.new result }
+{
+    if tag.name.is(KnownName::Html) {
+        in_body_start_html(sink, state, tag)
+    } else if tag.name.is(KnownName::Body) {
+        in_body_start_body(sink, state, tag)
+    } else if NameSet::BlockStart.holds(&tag.name) {
+        in_body_start_block(sink, state, tag)
+    } else if NameSet::Heading.holds(&tag.name) {
+        in_body_start_heading(sink, state, tag)
+    } else if tag.name.is(KnownName::A) {
+        in_body_start_a(sink, state, tag)
+    } else if tag.name.is(KnownName::Nobr) {
+        in_body_start_nobr(sink, state, tag)
+    } else if NameSet::Formatting.holds(&tag.name) {
+        in_body_start_formatting(sink, state, tag)
+    } else if tag.name.is(KnownName::Br) {
+        in_body_start_br(sink, state, tag)
+    } else {
+        in_body_start_other(sink, state, tag)
+    }
+}
+
+// End tags, by their names.
+#[tactic(auto, unfolding(h5_meaning::specs::InBody::in_body_end))]
+fn in_body_end_tag<S: TreeSink>(
+    sink: &mut S,
+    state: &mut State<S::Handle>,
+    tag: Tag,
+) -> Turn<S::Handle>
+    requires sound { IsSound S.TreeSink sink.old state.old }
+    requires ready { IsReady (world_of S.TreeSink sink.old state.old) }
+    ensures { TakesTag S.TreeSink (by_name in_body_end in_body_end_other) tag sink.old state.old sink.new state.new result }
+{
+    if tag.name.is(KnownName::Html) {
+        in_body_end_html(sink, state, tag)
+    } else if tag.name.is(KnownName::Body) {
+        in_body_end_body(sink, state, tag)
+    } else if NameSet::BlockEnd.holds(&tag.name) {
+        in_body_end_block(sink, state, tag)
+    } else if tag.name.is(KnownName::P) {
+        in_body_end_p(sink, state, tag)
+    } else if NameSet::Heading.holds(&tag.name) {
+        in_body_end_heading(sink, state, tag)
+    } else if NameSet::Formatting.holds(&tag.name) {
+        in_body_end_formatting(sink, state, tag)
+    } else if tag.name.is(KnownName::Br) {
+        in_body_end_br(sink, state, tag)
+    } else {
+        in_body_end_other(sink, state, tag)
+    }
+}
+
+#[tactic(auto, unfolding(h5_meaning::specs::InBody::in_body_tag))]
 fn in_body_tag<S: TreeSink>(sink: &mut S, state: &mut State<S::Handle>, tag: Tag) -> Turn<S::Handle>
     requires sound { IsSound S.TreeSink sink.old state.old }
     requires ready { IsReady (world_of S.TreeSink sink.old state.old) }
     ensures { TakesTag S.TreeSink in_body_tag tag sink.old state.old sink.new state.new result }
 {
     match tag.kind {
-        TagKind::StartTag => {
-            if tag.name.is(KnownName::Html) {
-                in_body_start_html(sink, state, tag)
-            } else if tag.name.is(KnownName::Body) {
-                in_body_start_body(sink, state, tag)
-            } else if NameSet::BlockStart.holds(&tag.name) {
-                in_body_start_block(sink, state, tag)
-            } else if NameSet::Heading.holds(&tag.name) {
-                in_body_start_heading(sink, state, tag)
-            } else if tag.name.is(KnownName::A) {
-                in_body_start_a(sink, state, tag)
-            } else if tag.name.is(KnownName::Nobr) {
-                in_body_start_nobr(sink, state, tag)
-            } else if NameSet::Formatting.holds(&tag.name) {
-                in_body_start_formatting(sink, state, tag)
-            } else if tag.name.is(KnownName::Br) {
-                in_body_start_br(sink, state, tag)
-            } else {
-                in_body_start_other(sink, state, tag)
-            }
-        }
-        TagKind::EndTag => {
-            if tag.name.is(KnownName::Html) {
-                in_body_end_html(sink, state, tag)
-            } else if tag.name.is(KnownName::Body) {
-                in_body_end_body(sink, state, tag)
-            } else if NameSet::BlockEnd.holds(&tag.name) {
-                in_body_end_block(sink, state, tag)
-            } else if tag.name.is(KnownName::P) {
-                in_body_end_p(sink, state, tag)
-            } else if NameSet::Heading.holds(&tag.name) {
-                in_body_end_heading(sink, state, tag)
-            } else if NameSet::Formatting.holds(&tag.name) {
-                in_body_end_formatting(sink, state, tag)
-            } else if tag.name.is(KnownName::Br) {
-                in_body_end_br(sink, state, tag)
-            } else {
-                in_body_end_other(sink, state, tag)
-            }
-        }
+        TagKind::StartTag => in_body_start_tag(sink, state, tag),
+        TagKind::EndTag => in_body_end_tag(sink, state, tag),
     }
 }
 

@@ -19,8 +19,8 @@ use h5_interface::TreeSink;
 use h5_names::{Attribute, KnownName, LocalName, Namespace, QualName};
 use std::alloc::AllocError;
 
-// The HTML name of this local name.
-fn html_qual_name(local: LocalName) -> QualName
+/// The HTML name of this local name.
+pub fn html_qual_name(local: LocalName) -> QualName
     ensures { result ≡ html_name local }
 {
     QualName::new(None, Namespace::html(), local)

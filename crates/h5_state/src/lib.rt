@@ -24,11 +24,11 @@ pub use closing::{
 pub use errors::{tell_error, unexpected, unexpected_tag};
 pub use insert::{
     append_comment, append_comment_to_doc, append_comment_to_html, append_text, create_root,
-    insert_and_pop_element, insert_element, insert_head, insert_phantom,
+    html_qual_name, insert_and_pop_element, insert_element, insert_head, insert_phantom,
 };
 pub use open_element::{AllOpen, OpenElement, Summary};
 pub use open_elems::{
-    all_open, check_body_end, find_before_special, generate_implied_end_except, has_body_in_scope,
+    check_body_end, find_before_special, generate_implied_end_except, has_body_in_scope,
     has_body_second, has_open_template, has_p_in_button_scope, in_scope_named, is_current_html,
     pop_until_named,
 };

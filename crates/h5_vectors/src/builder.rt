@@ -3,7 +3,7 @@ use h5_arena::{Arena, Child, NodeId};
 use h5_interface::QuirksMode;
 use h5_names::LocalName;
 use h5_token::{Doctype, Tag, TagKind, Token, TokenSink, TokenSinkResult};
-use h5_tree_builder::{Reply, TreeBuilder};
+use h5_tree_builder::{Reply, TreeBuilder, html_elem};
 use h5_types::TreeBuilderOpts;
 use std::alloc::{AllocError, Global};
 use std::process::Abort;
@@ -80,6 +80,28 @@ fn a_builder_takes_tokens_as_any_sink_of_them(rt: HostRuntime) -> Result<(), Fai
     assert!(rt; !TokenSink::adjusted_current_node_present_but_not_in_html_namespace(&builder));
     TokenSink::end(&mut builder);
     assert!(rt; TokenSink::process_token(&mut builder, Token::EOFToken, 1).is_err());
+    Ok(())
+}
+
+fn is_entry(entry: Option<(usize, &NodeId, &Tag)>, place: usize, name: &str) -> bool {
+    match entry {
+        Some((at, _, tag)) => at == place && tag.name.as_str() == name,
+        None => false,
+    }
+}
+
+#[test]
+fn formatting_elements_come_from_the_newest_on(rt: HostRuntime) -> Result<(), Fail> {
+    let alloc = rt.alloc();
+    let mut builder = new_builder(alloc)?;
+    builder.process_token(start(alloc, "b")?, 1)?;
+    builder.process_token(start(alloc, "i")?, 1)?;
+    let mut entries = builder.active_formatting_end_to_marker();
+    assert!(rt; is_entry(entries.next(), 1, "i"));
+    assert!(rt; is_entry(entries.next(), 0, "b"));
+    assert!(rt; entries.next().is_none());
+    assert!(rt; entries.next().is_none());
+    assert!(rt; *html_elem(&[3u8, 4, 5]) == 3);
     Ok(())
 }
 

@@ -1,10 +1,10 @@
 use Rattle.std.proofs.Common.{◌≡◌, ◌≤◌, ◌+◌, ◌-◌, ◌∷◌, ℕ, List}
 use Rattle.h5_stack.specs.Adoption.{to_clone}
 use Rattle.h5_stack.specs.InnerLoop.{picked}
-use Rattle.h5_meaning.specs.AdoptionAgency.{IsLoose, nest}
+use Rattle.h5_meaning.specs.AdoptionAgency.{IsLoose, nest, KeepsKinds}
 use Rattle.h5_state.specs.Steps.{IsSound, world_of}
 use Rattle.h5_state.specs.View.{stack_under}
-use Rattle.h5_adoption.specs.Hanging.{KeepsKinds, nest_of, open_between}
+use Rattle.h5_adoption.specs.Hanging.{nest_of, open_between}
 use Rattle.h5_adoption.proofs.NestLaws.{grown}
 use Rattle.h5_adoption.proofs.clones.make_clones.Given as goal
 

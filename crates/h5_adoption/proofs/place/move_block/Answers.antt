@@ -1,4 +1,5 @@
 use Rattle.std.proofs.Common.{ap, sym, subst, ◌∙◌, refl, arith}
+use Rattle.h5_meaning.specs.AdoptionAgency.{KeepsKinds}
 use Rattle.h5_interface.specs.Changes.{detach}
 use Rattle.h5_interface.specs.Forest.{ChildNode, Forest}
 use Rattle.h5_interface.specs.Seen.{Seen, changed}
@@ -12,7 +13,6 @@ use Rattle.h5_state.specs.Steps.{world_of}
 use Rattle.h5_state.specs.View.{stack_under, world}
 use Rattle.h5_adoption.proofs.MoveLaws.{next_is_first, next_is_older, next_is_open, not_lowest, place_inside}
 use Rattle.h5_meaning.specs.Sound.{AllStand}
-use Rattle.h5_adoption.specs.Hanging.{KeepsKinds}
 use Rattle.h5_adoption.proofs.HangLaws.{err_then, ok_then, on_either}
 use Rattle.h5_adoption.proofs.ViewLaws.{sound_by, sound_rehung}
 use Rattle.h5_adoption.proofs.place.move_block.Given as given

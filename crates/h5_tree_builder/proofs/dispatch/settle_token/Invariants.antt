@@ -1,7 +1,7 @@
 use Rattle.std.proofs.Common.{◌≡◌, ◌<◌, ◌≤◌, ◌+◌, ◌-◌}
 use Rattle.h5_types.specs.TurnText.{turn_text}
 use Rattle.h5_meaning.specs.Sound.{Fits}
-use Rattle.h5_meaning.proofs.SettleLaws.{is_end_html, rank}
+use Rattle.h5_meaning.proofs.SettleLaws.{rank_of}
 use Rattle.h5_state.specs.Steps.{IsSound}
 use Rattle.h5_state.specs.View.{world}
 use Rattle.h5_tree_builder.proofs.ChainLaws.{Left}
@@ -18,9 +18,9 @@ invariant-turns g l =
       fits : Fits w;
       same : turn_text l.rest ≡ t;
       some : 0 < l.turns;
-      few : l.turns + rank (is_end_html t) w.mode ≤ 8;
+      few : l.turns + rank_of t w ≤ 9;
       left : Left g.S.TreeSink.choices t first w (g.S.TreeSink.sees l.fn.sink).errors (g.S.TreeSink.sees l.sink).errors (l.turns - 1);
     }
 
 abbrev pub decreases-turns : goal.decreases-turns
-decreases-turns g l = rank (is_end_html (turn_text l.fn.token)) (world g.S.TreeSink.sees g.S.TreeSink.node l.sink l.state).mode
+decreases-turns g l = rank_of (turn_text l.fn.token) (world g.S.TreeSink.sees g.S.TreeSink.node l.sink l.state)

@@ -1,7 +1,7 @@
 use Rattle.std.proofs.Common.{sym}
 use Rattle.h5_meaning.proofs.ReadyLaws.{a_formatting, nobr_formatting, ready_open}
 use Rattle.h5_state.specs.Steps.{world_of}
-use Rattle.h5_rules_body.proofs.in_body.in_body_tag.Goals as goal
+use Rattle.h5_rules_body.proofs.in_body.in_body_start_tag.Goals as goal
 
 pub in_body_start_html-requires : goal.in_body_start_html-requires
 in_body_start_html-requires g c = record {
