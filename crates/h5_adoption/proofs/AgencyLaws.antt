@@ -14,7 +14,7 @@ use Rattle.h5_names.specs.declared.qualified.QualName.{QualName}
 use Rattle.h5_interface.specs.Forest.{ElementNode}
 use Rattle.h5_interface.proofs.ForestLaws.{node_of_kind}
 use Rattle.h5_tag_sets.specs.TagSets.{is_html_named}
-use Rattle.h5_fits.specs.StageFits.{IsRootOpen}
+use Rattle.h5_fits.specs.Root.{IsRootOpen}
 use Rattle.h5_stack.specs.FormattingNames.{html_name}
 use Rattle.h5_stack.specs.Order.{last_or}
 use Rattle.h5_stack.proofs.KeptLaws.{without_entry_none}

@@ -44,6 +44,12 @@ pub enum Kind {
     Misnested,
     /// Formatting elements that are closed in the order in which they begin.
     Crossed,
+    /// A table of rows, each a `<tr><td>x`.
+    Rows,
+    /// A table of as many `<i>x</i>`, which are foster-parented.
+    Fostered,
+    /// Tables in cells, each in the next.
+    Tables,
 }
 
 const FLAT_FRONT: &str = "<!DOCTYPE html>\n<html><head></head><body>\n";
@@ -100,6 +106,9 @@ pub fn kind_named(name: &str) -> Option<Kind> {
         "paragraphs" => Some(Kind::Paragraphs),
         "misnested" => Some(Kind::Misnested),
         "crossed" => Some(Kind::Crossed),
+        "rows" => Some(Kind::Rows),
+        "fostered" => Some(Kind::Fostered),
+        "tables" => Some(Kind::Tables),
         _ => None,
     }
 }
@@ -197,5 +206,20 @@ pub fn make_text(alloc: Global, kind: Kind, size: usize) -> Result<String, Alloc
             size,
         ),
         Kind::Crossed => filled(alloc, "<!DOCTYPE html>", "<b>1<i>2</b>3</i>4", "", size),
+        Kind::Rows => filled(
+            alloc,
+            "<!DOCTYPE html><table>",
+            "<tr><td>x",
+            "</table>",
+            size,
+        ),
+        Kind::Fostered => filled(
+            alloc,
+            "<!DOCTYPE html><table>",
+            "<i>x</i>",
+            "</table>",
+            size,
+        ),
+        Kind::Tables => repeated(alloc, "<!DOCTYPE html>", "<table><td>", "", size),
     }
 }

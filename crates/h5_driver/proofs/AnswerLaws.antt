@@ -1,5 +1,5 @@
 -- A builder that works answers "go on" to every token.
-use Rattle.std.proofs.Common.{◌≡◌, ℕ, zero, suc, ◌+◌, Bool, true, false, not, ◌&&◌, List, [], ◌∷◌, Option, Some, None, length, codes, refl, ap, ◌∙◌}
+use Rattle.std.proofs.Common.{◌≡◌, ℕ, zero, suc, ◌+◌, Bool, true, false, not, ◌&&◌, List, [], ◌∷◌, Option, Some, None, length, codes, refl, ap, ◌∙◌, is_some, ◌||◌}
 use Rattle.h5_token.specs.Reply.{Continues}
 use Rattle.h5_token.specs.TokenText.{TagText, TokenText, DoctypeIs, TagIs, CommentIs, Characters, NullCharacter, EndOfFile, ParseErrorIs}
 use Rattle.h5_token.specs.declared.tag.TagKind.{TagKind}
@@ -8,9 +8,9 @@ use Rattle.h5_interface.specs.SinkChoices.{SinkChoices}
 use Rattle.h5_interface.specs.declared.marks.QuirksMode.TheVariants.{Quirks}
 use Rattle.h5_types.specs.TurnText.{TurnText, TagTurn, CommentTurn, TextTurn, NullTurn, EofTurn}
 use Rattle.h5_types.specs.declared.modes.InsertionMode.{InsertionMode}
-use Rattle.h5_types.specs.declared.modes.InsertionMode.TheVariants.{Initial, BeforeHtml, BeforeHead, InHead, AfterHead, InBody, AfterBody, AfterAfterBody}
+use Rattle.h5_types.specs.declared.modes.InsertionMode.TheVariants.{Initial, BeforeHtml, BeforeHead, InHead, AfterHead, InBody, AfterBody, AfterAfterBody, InTable, InTableText, InCaption, InColumnGroup, InTableBody, InRow, InCell}
 use Rattle.h5_types.specs.declared.modes.SplitStatus.TheVariants.{NotSplit, Whitespace, NotWhitespace}
-use Rattle.h5_tag_sets.specs.TagSets.{is_default_scope, is_heading, is_html_named}
+use Rattle.h5_tag_sets.specs.TagSets.{is_default_scope, is_heading, is_html_named, is_cell, is_table_body_context, is_table_row_context}
 use Rattle.h5_stack.specs.Scope.{comes_before_special, has_p_in_button_scope, has_template, in_scope, second_is}
 use Rattle.h5_meaning.specs.AfterAfterBody.{after_after_body_start, after_after_body_tag}
 use Rattle.h5_meaning.specs.AfterBody.{after_body_end, after_body_start, after_body_tag, back_to_body}
@@ -18,17 +18,26 @@ use Rattle.h5_meaning.specs.AfterHead.{after_head_else, after_head_end, after_he
 use Rattle.h5_meaning.specs.BeforeHead.{before_head_else, before_head_end, before_head_start, before_head_tag}
 use Rattle.h5_meaning.specs.ByName.{Rules, by_kind, by_name, ignored_tag, of_tag}
 use Rattle.h5_meaning.specs.BeforeHtml.{before_html_else, before_html_end, before_html_start, before_html_tag}
-use Rattle.h5_meaning.specs.Changes.{set_mode}
-use Rattle.h5_meaning.specs.InBody.{body_ends, body_in_scope, current_is, if_body_in_scope, in_body_end_block, in_body_end_heading, in_body_end_other, in_body_end_p, in_body_end, in_body_start, in_body_start_other, in_body_start_body, in_body_tag}
+use Rattle.h5_meaning.specs.Changes.{set_mode, set_foster}
+use Rattle.h5_meaning.specs.InBody.{body_ends, body_in_scope, current_is, if_body_in_scope, in_body_end_block, in_body_end_heading, in_body_end_other, in_body_end_p, in_body_end, in_body_start, in_body_start_other, in_body_start_body, in_body_tag, inserts, is_quirks, in_body, in_body_start_table}
 use Rattle.h5_meaning.specs.InHead.{in_head_else, in_head_end, in_head_start, in_head_tag}
-use Rattle.h5_meaning.specs.InitialMode.{initial_else}
+use Rattle.h5_meaning.specs.InitialMode.{initial_else, initial}
 use Rattle.h5_meaning.specs.Modes.{rule}
-use Rattle.h5_meaning.specs.Rows.{AddAttrsToHtml, AddAttrsToSecond, Again, AgainBy, Answers, ClosePElement, Ending, GenerateImpliedEnd, GenerateImpliedEndExcept, InsertElement, IsAcknowledged, IsDone, PopUntilHeading, PopUntilNamed, Row, SetFramesetNotOk, SetMode, SetQuirksMode, changed_by, choose, errs, ignored, next_mode, row, row_if}
+use Rattle.h5_meaning.specs.Rows.{AddAttrsToHtml, AddAttrsToSecond, Again, AgainBy, Answers, ClosePElement, Ending, GenerateImpliedEnd, GenerateImpliedEndExcept, InsertElement, IsAcknowledged, IsDone, PopUntilHeading, PopUntilNamed, Row, SetFramesetNotOk, SetMode, SetQuirksMode, changed_by, choose, errs, ignored, next_mode, row, row_if, Change, ClearActiveFormattingToMarker, ClosePElementInButtonScope, InsertAndPopElement, InsertAndPopForm, Pop, PopUntilCurrent, ResetMode, SaveMode}
 use Rattle.h5_meaning.specs.Run.{View, doctype_in, reply_to, step, taken, tell_or_refuse, text_step, without_lf}
 use Rattle.h5_meaning.specs.Settle.{Settled, answer_of, settle, settle_within, then_turns}
 use Rattle.h5_meaning.specs.Shared.{in_body_start_html}
 use Rattle.h5_meaning.specs.World.{World, names_of}
 use Rattle.h5_meaning.proofs.RunLaws.{is_taken}
+use Rattle.h5_meaning.specs.InCaption.{in_caption, close_the_caption, in_caption_end, in_caption_start, in_caption_tag}
+use Rattle.h5_meaning.specs.InCell.{in_cell, close_the_cell, in_cell_end, in_cell_end_cell, in_cell_end_structure, in_cell_start, in_cell_start_structure, in_cell_tag}
+use Rattle.h5_meaning.specs.InColumnGroup.{in_column_group, close_the_column_group, in_column_group_else, in_column_group_end, in_column_group_start, in_column_group_tag}
+use Rattle.h5_meaning.specs.InRow.{in_row, close_the_row, in_row_end, in_row_end_section, in_row_start, in_row_tag}
+use Rattle.h5_meaning.specs.InTable.{in_table, in_table_else, in_table_end, in_table_end_table, in_table_start, in_table_start_form, in_table_start_input, in_table_start_table, in_table_tag, in_table_text_or_null, is_type_hidden, keeps_text}
+use Rattle.h5_meaning.specs.InTableBody.{in_table_body, in_table_body_close, in_table_body_end, in_table_body_end_section, in_table_body_start, in_table_body_tag, is_table_or_section}
+use Rattle.h5_meaning.specs.InTableText.{in_table_text_else, in_table_text}
+use Rattle.h5_meaning.specs.Reset.{reset_mode}
+use Rattle.h5_meaning.specs.Tables.{foster, in_table_scope, named_in_table_scope}
 
 -- a row that answers nothing of its own
 abbrev Silent : Ending → Type 0
@@ -79,16 +88,22 @@ unfolding after_head_start after_head_end
 after_head StartTag tag w = silent_by_name after_head_start (of_tag after_head_else) tag w (start_html tag w, (tt, (tt, tt))) tt
 after_head EndTag tag w = silent_by_name after_head_end ignored_tag tag w (tt, (tt, tt)) tt
 
-in_body : (k : TagKind) (tag : TagText) (w : World) → Silent (by_kind k (by_name in_body_start in_body_start_other tag w) (by_name in_body_end in_body_end_other tag w)).ending
-unfolding in_body_start in_body_end in_body_start_body if_body_in_scope in_body_end_block in_body_end_p in_body_end_heading in_body_end_other
-in_body StartTag tag w = silent_by_name in_body_start in_body_start_other tag w (
+body_start : (tag : TagText) (w : World) → Silent (by_name in_body_start in_body_start_other tag w).ending
+unfolding in_body_start in_body_start_body in_body_start_table
+body_start tag w = silent_by_name in_body_start in_body_start_other tag w (
   start_html tag w,
   (
     choose_silent (second_is (codes "body") (names_of w) && not (has_template (names_of w))) (errs (SetFramesetNotOk ∷ AddAttrsToSecond tag.attrs ∷ []) IsDone) ignored tt tt,
-    (tt, (tt, (tt, (tt, (tt, (tt, tt)))))),
+    (tt, (tt, (tt, (tt, (tt, (tt, (choose_silent (is_quirks w.quirks) (row opens IsDone) (row_if (not (has_p_in_button_scope (names_of w))) (ClosePElementInButtonScope ∷ opens) IsDone) tt tt, (tt, tt)))))))),
   ),
 ) tt
-in_body EndTag tag w = silent_by_name in_body_end in_body_end_other tag w (
+  where
+    opens : List Change
+    opens = inserts tag ∷ SetFramesetNotOk ∷ SetMode InTable ∷ []
+
+body_end : (tag : TagText) (w : World) → Silent (by_name in_body_end in_body_end_other tag w).ending
+unfolding in_body_end if_body_in_scope in_body_end_block in_body_end_p in_body_end_heading in_body_end_other
+body_end tag w = silent_by_name in_body_end in_body_end_other tag w (
   choose_silent (body_in_scope w) (body_ends [] (Again AfterBody) w) ignored tt tt,
   (
     choose_silent (body_in_scope w) (body_ends (SetMode AfterBody ∷ []) IsDone w) ignored tt tt,
@@ -96,12 +111,177 @@ in_body EndTag tag w = silent_by_name in_body_end in_body_end_other tag w (
       choose_silent (in_scope (is_html_named tag.name) is_default_scope (names_of w)) (row_if (current_is tag.name w) (GenerateImpliedEnd ∷ PopUntilNamed tag.name ∷ []) IsDone) ignored tt tt,
       (
         choose_silent (has_p_in_button_scope (names_of w)) (row_if (current_is (codes "p") w) (ClosePElement ∷ []) IsDone) (errs (InsertElement (codes "p") [] false ∷ ClosePElement ∷ []) IsDone) tt tt,
-        (choose_silent (in_scope is_heading is_default_scope (names_of w)) (row_if (current_is tag.name w) (GenerateImpliedEnd ∷ PopUntilHeading ∷ []) IsDone) ignored tt tt, (tt, (tt, tt))),
+        (choose_silent (in_scope is_heading is_default_scope (names_of w)) (row_if (current_is tag.name w) (GenerateImpliedEnd ∷ PopUntilHeading ∷ []) IsDone) ignored tt tt, (tt, (tt, (tt, tt)))),
       ),
     ),
   ),
 )
     (choose_silent (comes_before_special tag.name (names_of w)) (errs (GenerateImpliedEndExcept tag.name ∷ PopUntilNamed tag.name ∷ []) IsDone) ignored tt tt)
+
+body_tag : (tag : TagText) (w : World) → Silent (in_body_tag tag w).ending
+unfolding in_body_tag
+body_tag tag w = at tag.kind
+  where
+    at : (k : TagKind) → Silent (by_kind k (by_name in_body_start in_body_start_other tag w) (by_name in_body_end in_body_end_other tag w)).ending
+    at StartTag = body_start tag w
+    at EndTag = body_end tag w
+
+body : (t : TurnText) (w : World) → Silent (in_body t w).ending
+body (TagTurn tag) w = body_tag tag w
+body (CommentTurn x) w = tt
+body (TextTurn status x) w = tt
+body NullTurn w = tt
+body EofTurn w = tt
+
+-- with foster parenting on
+fostered : (t : TurnText) (w : World) → Silent (foster in_body t w).ending
+fostered t w = body t (set_foster true w)
+
+table_tag : (tag : TagText) (w : World) → Silent (in_table_tag tag w).ending
+unfolding in_table_tag in_table_start in_table_start_table in_table_start_input in_table_start_form in_table_end in_table_end_table
+table_tag tag w = at tag.kind
+  where
+    at : (k : TagKind) → Silent (by_kind k (by_name in_table_start (of_tag in_table_else) tag w) (by_name in_table_end (of_tag in_table_else) tag w)).ending
+    at StartTag = silent_by_name in_table_start (of_tag in_table_else) tag w (
+      tt,
+      (
+        tt,
+        (
+          tt,
+          (
+            tt,
+            (
+              tt,
+              (
+                choose_silent (named_in_table_scope (codes "table") w) (errs (PopUntilNamed (codes "table") ∷ []) (AgainBy reset_mode)) ignored tt tt,
+                (
+                  choose_silent (is_type_hidden tag.attrs) (errs (InsertAndPopElement tag.name tag.attrs tag.had_duplicate_attributes ∷ []) IsAcknowledged) (foster in_body (TagTurn tag) w) tt (fostered (TagTurn tag) w),
+                  (choose_silent (has_template (names_of w) || is_some w.form) ignored (errs (InsertAndPopForm tag.attrs tag.had_duplicate_attributes ∷ []) IsDone) tt tt, tt),
+                ),
+              ),
+            ),
+          ),
+        ),
+      ),
+    )
+        (fostered (TagTurn tag) w)
+    at EndTag =
+        silent_by_name in_table_end (of_tag in_table_else) tag w
+        (choose_silent (named_in_table_scope (codes "table") w) (row (PopUntilNamed (codes "table") ∷ ResetMode ∷ []) IsDone) ignored tt tt, (tt, tt)) (fostered (TagTurn tag) w)
+
+table_text : (t : TurnText) (w : World) → Silent (in_table_text_or_null t w).ending
+unfolding in_table_text_or_null
+table_text t w = choose_silent (keeps_text w) (row (SaveMode ∷ []) (Again InTableText)) (foster in_body t w) tt (fostered t w)
+
+table : (t : TurnText) (w : World) → Silent (in_table t w).ending
+table (TagTurn tag) w = table_tag tag w
+table (CommentTurn x) w = tt
+table (TextTurn status x) w = table_text (TextTurn status x) w
+table NullTurn w = table_text NullTurn w
+table EofTurn w = tt
+
+kept_text : (t : TurnText) (w : World) → Silent (in_table_text_else t w).ending
+unfolding in_table_text_else
+kept_text t w = tt
+
+table_text_mode : (t : TurnText) (w : World) → Silent (in_table_text t w).ending
+table_text_mode (TagTurn tag) w = kept_text (TagTurn tag) w
+table_text_mode (CommentTurn x) w = kept_text (CommentTurn x) w
+table_text_mode (TextTurn status x) w = tt
+table_text_mode NullTurn w = tt
+table_text_mode EofTurn w = kept_text EofTurn w
+
+close_caption : (changes : List Change) (e : Ending) (w : World) → Silent e → Silent (close_the_caption changes e w).ending
+unfolding close_the_caption
+close_caption changes e w h =
+    choose_silent (named_in_table_scope (codes "caption") w) (row_if (current_is (codes "caption") w) (GenerateImpliedEnd ∷ PopUntilNamed (codes "caption") ∷ ClearActiveFormattingToMarker ∷ changes) e) ignored h tt
+
+caption : (t : TurnText) (w : World) → Silent (in_caption t w).ending
+unfolding in_caption_tag in_caption_start in_caption_end
+caption (TagTurn tag) w = at tag.kind
+  where
+    at : (k : TagKind) → Silent (by_kind k (by_name in_caption_start (of_tag in_body) tag w) (by_name in_caption_end (of_tag in_body) tag w)).ending
+    at StartTag = silent_by_name in_caption_start (of_tag in_body) tag w (close_caption [] (Again InTable) w tt, tt) (body_tag tag w)
+    at EndTag = silent_by_name in_caption_end (of_tag in_body) tag w (close_caption (SetMode InTable ∷ []) IsDone w tt, (close_caption [] (Again InTable) w tt, (tt, tt))) (body_tag tag w)
+caption (CommentTurn x) w = tt
+caption (TextTurn status x) w = tt
+caption NullTurn w = tt
+caption EofTurn w = tt
+
+close_column_group : (changes : List Change) (e : Ending) (w : World) → Silent e → Silent (close_the_column_group changes e w).ending
+unfolding close_the_column_group
+close_column_group changes e w h = choose_silent (current_is (codes "colgroup") w) (row (Pop ∷ changes) e) ignored h tt
+
+column_group : (t : TurnText) (w : World) → Silent (in_column_group t w).ending
+unfolding in_column_group_tag in_column_group_start in_column_group_end
+column_group (TagTurn tag) w = at tag.kind
+  where
+    at : (k : TagKind) → Silent (by_kind k (by_name in_column_group_start (of_tag in_column_group_else) tag w) (by_name in_column_group_end (of_tag in_column_group_else) tag w)).ending
+    at StartTag = silent_by_name in_column_group_start (of_tag in_column_group_else) tag w (start_html tag w, (tt, tt)) (close_column_group [] (Again InTable) w tt)
+    at EndTag = silent_by_name in_column_group_end (of_tag in_column_group_else) tag w (close_column_group (SetMode InTable ∷ []) IsDone w tt, (tt, tt)) (close_column_group [] (Again InTable) w tt)
+column_group (CommentTurn x) w = tt
+column_group (TextTurn Whitespace x) w = tt
+column_group (TextTurn NotWhitespace x) w = close_column_group [] (Again InTable) w tt
+column_group (TextTurn NotSplit x) w = close_column_group [] (Again InTable) w tt
+column_group NullTurn w = close_column_group [] (Again InTable) w tt
+column_group EofTurn w = tt
+
+close_section : (tag : TagText) (w : World) → Silent (in_table_body_close tag w).ending
+unfolding in_table_body_close
+close_section tag w = choose_silent (in_table_scope is_table_or_section w) (row (PopUntilCurrent is_table_body_context ∷ Pop ∷ []) (Again InTable)) ignored tt tt
+
+section : (t : TurnText) (w : World) → Silent (in_table_body t w).ending
+unfolding in_table_body_tag in_table_body_start in_table_body_end in_table_body_end_section
+section (TagTurn tag) w = at tag.kind
+  where
+    at : (k : TagKind) → Silent (by_kind k (by_name in_table_body_start (of_tag in_table) tag w) (by_name in_table_body_end (of_tag in_table) tag w)).ending
+    at StartTag = silent_by_name in_table_body_start (of_tag in_table) tag w (tt, (tt, (close_section tag w, tt))) (table_tag tag w)
+    at EndTag =
+        silent_by_name in_table_body_end (of_tag in_table) tag w
+        (choose_silent (named_in_table_scope tag.name w) (row (PopUntilCurrent is_table_body_context ∷ Pop ∷ SetMode InTable ∷ []) IsDone) ignored tt tt, (close_section tag w, (tt, tt))) (table_tag tag w)
+section (CommentTurn x) w = tt
+section (TextTurn status x) w = table_text (TextTurn status x) w
+section NullTurn w = table_text NullTurn w
+section EofTurn w = tt
+
+close_row : (changes : List Change) (e : Ending) (w : World) → Silent e → Silent (close_the_row changes e w).ending
+unfolding close_the_row
+close_row changes e w h = choose_silent (named_in_table_scope (codes "tr") w) (row (PopUntilCurrent is_table_row_context ∷ Pop ∷ changes) e) ignored h tt
+
+in_a_row : (t : TurnText) (w : World) → Silent (in_row t w).ending
+unfolding in_row_tag in_row_start in_row_end in_row_end_section
+in_a_row (TagTurn tag) w = at tag.kind
+  where
+    at : (k : TagKind) → Silent (by_kind k (by_name in_row_start (of_tag in_table) tag w) (by_name in_row_end (of_tag in_table) tag w)).ending
+    at StartTag = silent_by_name in_row_start (of_tag in_table) tag w (tt, (close_row [] (Again InTableBody) w tt, tt)) (table_tag tag w)
+    at EndTag = silent_by_name in_row_end (of_tag in_table) tag w (
+      close_row (SetMode InTableBody ∷ []) IsDone w tt,
+      (
+        close_row [] (Again InTableBody) w tt,
+        (choose_silent (named_in_table_scope tag.name w) (close_the_row [] (Again InTableBody) w) ignored (close_row [] (Again InTableBody) w tt) tt, (tt, tt)),
+      ),
+    )
+        (table_tag tag w)
+in_a_row (CommentTurn x) w = tt
+in_a_row (TextTurn status x) w = table_text (TextTurn status x) w
+in_a_row NullTurn w = table_text NullTurn w
+in_a_row EofTurn w = tt
+
+cell : (t : TurnText) (w : World) → Silent (in_cell t w).ending
+unfolding in_cell_tag in_cell_start in_cell_end in_cell_end_cell in_cell_end_structure in_cell_start_structure
+cell (TagTurn tag) w = at tag.kind
+  where
+    at : (k : TagKind) → Silent (by_kind k (by_name in_cell_start (of_tag in_body) tag w) (by_name in_cell_end (of_tag in_body) tag w)).ending
+    at StartTag = silent_by_name in_cell_start (of_tag in_body) tag w (choose_silent (in_table_scope is_cell w) (close_the_cell w) ignored tt tt, tt) (body_tag tag w)
+    at EndTag = silent_by_name in_cell_end (of_tag in_body) tag w (
+      choose_silent (named_in_table_scope tag.name w) (row_if (current_is tag.name w) (GenerateImpliedEnd ∷ PopUntilNamed tag.name ∷ ClearActiveFormattingToMarker ∷ SetMode InRow ∷ []) IsDone) ignored tt tt,
+      (choose_silent (named_in_table_scope tag.name w) (close_the_cell w) ignored tt tt, (tt, tt)),
+    )
+        (body_tag tag w)
+cell (CommentTurn x) w = tt
+cell (TextTurn status x) w = tt
+cell NullTurn w = tt
+cell EofTurn w = tt
 
 after_body : (k : TagKind) (tag : TagText) (w : World) → Silent (by_kind k (by_name after_body_start (of_tag back_to_body) tag w) (by_name after_body_end (of_tag back_to_body) tag w)).ending
 unfolding after_body_start after_body_end
@@ -113,26 +293,45 @@ unfolding after_after_body_start
 after_after_body StartTag tag w = silent_by_name after_after_body_start (of_tag back_to_body) tag w (start_html tag w, tt) tt
 after_after_body EndTag tag w = tt
 
+initial_mode : (t : TurnText) (w : World) → Silent (initial t w).ending
+initial_mode (TagTurn tag) w = initially (TagTurn tag) w
+initial_mode (CommentTurn x) w = tt
+initial_mode (TextTurn Whitespace x) w = tt
+initial_mode (TextTurn NotWhitespace x) w = initially (TextTurn NotWhitespace x) w
+initial_mode (TextTurn NotSplit x) w = initially (TextTurn NotSplit x) w
+initial_mode NullTurn w = initially NullTurn w
+initial_mode EofTurn w = initially EofTurn w
+
+-- where the rule of a tag answers nothing, and the rules of no other token do
 silent_tag : (m : InsertionMode) (tag : TagText) (w : World) → Silent (rule m (TagTurn tag) w).ending
-unfolding before_html_tag before_head_tag in_head_tag after_head_tag in_body_tag after_body_tag after_after_body_tag
+unfolding before_html_tag before_head_tag in_head_tag after_head_tag after_body_tag after_after_body_tag
 silent_tag Initial tag w = initially (TagTurn tag) w
 silent_tag BeforeHtml tag w = before_html tag.kind tag w
 silent_tag BeforeHead tag w = before_head tag.kind tag w
 silent_tag InHead tag w = in_head tag.kind tag w
 silent_tag AfterHead tag w = after_head tag.kind tag w
-silent_tag InBody tag w = in_body tag.kind tag w
+silent_tag InBody tag w = body_tag tag w
+silent_tag InTable tag w = table_tag tag w
+silent_tag InTableText tag w = kept_text (TagTurn tag) w
+silent_tag InCaption tag w = caption (TagTurn tag) w
+silent_tag InColumnGroup tag w = column_group (TagTurn tag) w
+silent_tag InTableBody tag w = section (TagTurn tag) w
+silent_tag InRow tag w = in_a_row (TagTurn tag) w
+silent_tag InCell tag w = cell (TagTurn tag) w
 silent_tag AfterBody tag w = after_body tag.kind tag w
 silent_tag AfterAfterBody tag w = after_after_body tag.kind tag w
 silent_tag _ tag w = tt
 
 silent : (m : InsertionMode) (t : TurnText) (w : World) → Silent (rule m t w).ending
 silent m (TagTurn tag) w = silent_tag m tag w
-silent Initial (CommentTurn t) w = tt
-silent Initial (TextTurn Whitespace t) w = tt
-silent Initial (TextTurn NotWhitespace t) w = initially (TextTurn NotWhitespace t) w
-silent Initial (TextTurn NotSplit t) w = initially (TextTurn NotSplit t) w
-silent Initial NullTurn w = initially NullTurn w
-silent Initial EofTurn w = initially EofTurn w
+silent Initial t w = initial_mode t w
+silent InTable t w = table t w
+silent InTableText t w = table_text_mode t w
+silent InCaption t w = caption t w
+silent InColumnGroup t w = column_group t w
+silent InTableBody t w = section t w
+silent InRow t w = in_a_row t w
+silent InCell t w = cell t w
 silent _ (CommentTurn t) w = tt
 silent _ (TextTurn Whitespace t) w = tt
 silent _ (TextTurn NotWhitespace t) w = tt

@@ -9,6 +9,8 @@ use Rattle.h5_interface.specs.Seen.{Seen}
 use Rattle.h5_interface.specs.SinkChoices.{SinkChoices}
 use Rattle.h5_meaning.specs.Run.{View, after_all, after_token, refusal, run, take_or_refuse}
 use Rattle.h5_meaning.proofs.JoinLaws.{view_joins}
+use Rattle.h5_meaning.proofs.ListedLaws.{Listed}
+use Rattle.h5_meaning.proofs.ListedRunLaws.{listed_after, listed_step}
 use Rattle.h5_meaning.proofs.RunLaws.{token_cut}
 use Rattle.h5_tokenizer.specs.End.{Closes, ClosesWith, Finishes, Takes, refuses, settle}
 use Rattle.h5_tokenizer.specs.Front.{Place}
@@ -16,8 +18,8 @@ use Rattle.h5_tokenizer.specs.Read.{Read, Step, marked, nothing_read, read_on, s
 use Rattle.h5_tokenizer.specs.Outcome.{Feeds, ReadsAll, RefusedAt, StopsAt}
 use Rattle.h5_tokenizer.specs.ReaderText.{ReaderText}
 use Rattle.h5_tokenizer.specs.Lines.{line_behind}
-use Rattle.h5_tokenizer.specs.Whole.{IsBlindToCuts, Readings, after_closing, closing, more_reading, no_reading}
-use Rattle.h5_tokenizer.proofs.CutLaws.{cuts_agree}
+use Rattle.h5_tokenizer.specs.Whole.{Readings, after_closing, closing, more_reading, no_reading}
+use Rattle.h5_tokenizer.proofs.KeptLaws.{readings_agree}
 use Rattle.h5_tokenizer.proofs.WholeLaws.{end_ends, readings_go_on}
 use Rattle.h5_driver.specs.Parsing.{Advances, IsWorking, Parses, Reads, TakesAll, after, ended, foreign, replies}
 use Rattle.h5_driver.proofs.AnswerLaws.{continues}
@@ -26,7 +28,7 @@ works_after : (choices : SinkChoices) (t : TokenText) (v : View) → IsWorking v
 works_after choices t v w = at (refusal v t)
   where
     at : (o : Option BuildFault) → IsWorking (take_or_refuse choices t o v)
-    at None = record { unfailed = w.unfailed; unended = w.unended }
+    at None = record { unfailed = w.unfailed; unended = w.unended; listed = listed_step choices t v.world w.listed }
     at (Some f) = w
 
 step_works : (choices : SinkChoices) {p : Place} {m : View} {xs : List ℕ} {ts : List TokenText} {reply : Reply} {q : Place} {n : View} {ys : List ℕ} → Step (replies choices) (after choices) foreign p m xs ts reply q n ys → IsWorking m → IsWorking n × (reply ≡ Continues)
@@ -72,18 +74,10 @@ reads_run choices p m xs ts n r =
     r.closed
     ∙ ap (ended choices) (same_run choices rest r.place.line (line_behind r.place.line r.rest []) r.meaning ∙ ap (after_all choices last) (readings_run choices r.readings) ∙ sym (view_joins choices r.handed last m) ∙ ap (λ x. after_all choices x m) (sym r.tokens))
 
--- it doesn't matter to a builder how a text is cut
-pub blind : (choices : SinkChoices) → IsBlindToCuts (replies choices) (after choices) foreign (ended choices) (λ m n. m ≡ n)
-blind choices = record {
-  reflexive = λ m. refl;
-  symmetric = λ m n e. sym e;
-  transitive = λ m n o e f. e ∙ f;
-  replies = λ m n t e. ap (λ v. replies choices v t) e;
-  spaces = λ m n e. ap foreign e;
-  kept = λ m n t k l e. ap (after_token choices t) e;
-  ends = λ m n e. ap (ended choices) e;
-  cut = λ m x y xs ys j k l. token_cut choices x xs y ys m;
-}
+-- however a text is read by a builder that works, it means the same in the end
+same_reads : (choices : SinkChoices) {p : Place} {m : View} {xs : List ℕ} {ts us : List TokenText} {n o : View} → IsWorking m → Reads choices p m xs ts n → Reads choices p m xs us o → n ≡ o
+same_reads choices w a b =
+    readings_agree (replies choices) (after choices) foreign (λ v. Listed v.world) (λ v t line h. listed_after choices t v h) (ended choices) (λ v t k l. refl) (λ v x y xs ys j k l h. token_cut choices x xs y ys v h) w.listed a b
 
 -- what `feed` did after readings
 module _ (choices : SinkChoices) (p0 : Place) (m0 : View) (xs0 : List ℕ) (p : Place) (m : View) (xs : List ℕ) (a : Advances choices p0 m0 xs0 p m xs) (w : IsWorking m) where
@@ -149,21 +143,21 @@ piece_joins choices p0 p q m0 m n xs ys text zs a b = record {
 }
 
 -- a text that is read to its end, and what the sink tells then
-parses_of : (choices : SinkChoices) (p : Place) (m o : View) (xs : List ℕ) (ts : List TokenText) (told : Seen) → Reads choices p m xs ts o → told.forest ≡ o.world.forest → told.quirks ≡ o.world.seen_quirks → Parses choices p m xs told
-parses_of choices p m o xs ts told reads e f = record {
+parses_of : (choices : SinkChoices) (p : Place) (m o : View) (xs : List ℕ) (ts : List TokenText) (told : Seen) → IsWorking m → Reads choices p m xs ts o → told.forest ≡ o.world.forest → told.quirks ≡ o.world.seen_quirks → Parses choices p m xs told
+parses_of choices p m o xs ts told w reads e f = record {
   tokens = ts;
   reads = subst (Reads choices p m xs ts) (reads_run choices p m xs ts o reads) reads;
   any = λ us v r.
-      let same : o ≡ v = (cuts_agree (replies choices) (after choices) foreign (ended choices) (λ x y. x ≡ y) (blind choices) p m m xs ts us o v refl reads r).1 in
+      let same : o ≡ v = same_reads choices w reads r in
       (reads_run choices p m xs us v r, (e ∙ ap (λ (x : View). x.world.forest) same, f ∙ ap (λ (x : View). x.world.seen_quirks) same));
 }
 
-pub parsed : (choices : SinkChoices) (p q : Place) (m n o : View) (xs held : List ℕ) (told : Seen) → TakesAll choices p m xs q n held
+pub parsed : (choices : SinkChoices) (p q : Place) (m n o : View) (xs held : List ℕ) (told : Seen) → IsWorking m → TakesAll choices p m xs q n held
     → Closes (replies choices) (after choices) foreign (ended choices) q n held o (Ok tt)
     → told.forest ≡ o.world.forest → told.quirks ≡ o.world.seen_quirks → Parses choices p m xs told
-parsed choices p q m n o xs held told t c e f =
+parsed choices p q m n o xs held told w t c e f =
     let ts = t.advances.tokens ++ closing (settle q.mode q.last (foreign n) held) in
-    parses_of choices p m o xs ts told (end_ends (replies choices) (after choices) foreign (ended choices) p m xs t.advances.tokens q n held o t.advances.readings t.undecided c) e f
+    parses_of choices p m o xs ts told w (end_ends (replies choices) (after choices) foreign (ended choices) p m xs t.advances.tokens q n held o t.advances.readings t.undecided c) e f
 
 -- what was read before, and then the rest
 reads_behind : (choices : SinkChoices) (p q : Place) (m n o : View) (xs ys : List ℕ) (ts : List TokenText) (a : Advances choices p m xs q n ys) → Reads choices q n ys ts o → Reads choices p m xs (a.tokens ++ ts) o
@@ -178,15 +172,15 @@ reads_behind choices p q m n o xs ys ts a r = record {
   closed = r.closed;
 }
 
-pub parses_behind : (choices : SinkChoices) (p q : Place) (m n : View) (xs ys : List ℕ) (told : Seen) → Advances choices p m xs q n ys → Parses choices q n ys told → Parses choices p m xs told
-parses_behind choices p q m n xs ys told a r =
+pub parses_behind : (choices : SinkChoices) (p q : Place) (m n : View) (xs ys : List ℕ) (told : Seen) → IsWorking m → Advances choices p m xs q n ys → Parses choices q n ys told → Parses choices p m xs told
+parses_behind choices p q m n xs ys told w a r =
     let o = ended choices (after_all choices r.tokens n) in
     let own = r.any r.tokens o r.reads in
-    parses_of choices p m o xs (a.tokens ++ r.tokens) told (reads_behind choices p q m n o xs ys r.tokens a r.reads) own.1.0 own.1.1
+    parses_of choices p m o xs (a.tokens ++ r.tokens) told w (reads_behind choices p q m n o xs ys r.tokens a r.reads) own.1.0 own.1.1
 
-pub told_behind : {O : Type 0} (choices : SinkChoices) (told : O → Seen) (p q : Place) (m n : View) (xs ys : List ℕ) → Advances choices p m xs q n ys → (result : Result O BuildFault) → IfOk result (λ o. Parses choices q n ys (told o)) → IfOk result (λ o. Parses choices p m xs (told o))
-told_behind choices told p q m n xs ys a (Ok o) r = parses_behind choices p q m n xs ys (told o) a r
-told_behind choices told p q m n xs ys a (Err f) r = r
+pub told_behind : {O : Type 0} (choices : SinkChoices) (told : O → Seen) (p q : Place) (m n : View) (xs ys : List ℕ) → IsWorking m → Advances choices p m xs q n ys → (result : Result O BuildFault) → IfOk result (λ o. Parses choices q n ys (told o)) → IfOk result (λ o. Parses choices p m xs (told o))
+told_behind choices told p q m n xs ys w a (Ok o) r = parses_behind choices p q m n xs ys (told o) w a r
+told_behind choices told p q m n xs ys w a (Err f) r = r
 
 -- a piece behind what was read and what waits
 pub piece_taken : (choices : SinkChoices) (p0 p q : Place) (m0 m n : View) (xs held waiting text left queue : List ℕ) → Advances choices p0 m0 xs p m (held ++ waiting) → TakesAll choices p m (held ++ (waiting ++ text)) q n left → queue ≡ [] → Advances choices p0 m0 (xs ++ text) q n (left ++ queue)

@@ -18,6 +18,9 @@ module _ {S H : Type 0} (choices : SinkChoices) (sees : S → Seen) (node : H �
 
   pub streamed : (texts : List (List ℕ)) (first last : Parsing S H) (told : Seen) → ProcessedAll choices sees node texts first last → Parses choices last.reader.place (view_of sees node last) (unread last) told
       → Parses choices first.reader.place (view_of sees node first) (unread first ++ joined texts) told
-  streamed texts first last told took parses =
-      parses_behind choices first.reader.place last.reader.place (view_of sees node first) (view_of sees node last) (unread first ++ joined texts) (unread last) told
-      (advance first.reader.place (view_of sees node first) (unread first) texts first last (nothing_read_yet choices first.reader.place (view_of sees node first) (unread first)) took) parses
+  streamed [] first last told e parses =
+      subst (λ ys. Parses choices first.reader.place (view_of sees node first) ys told) (sym (append-nil (unread first)))
+      (subst (λ (q : Parsing S H). Parses choices q.reader.place (view_of sees node q) (unread q) told) (sym e) parses)
+  streamed (text ∷ texts) first last told (now, (took, rest)) parses =
+      parses_behind choices first.reader.place last.reader.place (view_of sees node first) (view_of sees node last) (unread first ++ joined (text ∷ texts)) (unread last) told took.worked
+      (advance first.reader.place (view_of sees node first) (unread first) (text ∷ texts) first last (nothing_read_yet choices first.reader.place (view_of sees node first) (unread first)) (now, (took, rest))) parses

@@ -4,6 +4,7 @@ use Rattle.h5_token.specs.Reply.{Reply}
 use Rattle.h5_token.specs.TokenText.{TokenText}
 use Rattle.h5_interface.specs.Seen.{Seen}
 use Rattle.h5_interface.specs.SinkChoices.{SinkChoices}
+use Rattle.h5_stack.specs.FormattingNames.{AllFormatting}
 use Rattle.h5_meaning.specs.Run.{View, after_all, after_token, reply_to}
 use Rattle.h5_tree_builder.specs.Builder.{ended_view, is_foreign_in}
 use Rattle.h5_tree_builder.specs.Held.{Held, building}
@@ -34,10 +35,11 @@ ended choices v = ended_view choices v
 abbrev pub foreign : View → Bool
 foreign v = is_foreign_in v.world
 
--- it takes tokens
+-- it takes tokens, and its list of active formatting elements is of formatting elements
 pub record IsWorking (v : View) : Type 0 where
   pub unfailed : v.failed ≡ false
   pub unended : v.ended ≡ false
+  pub listed : AllFormatting v.world.formatting
 
 -- what the builder of a parser means
 abbrev pub view_of : {S H : Type 0} → (S → Seen) → (H → ℕ) → Parsing S H → View
@@ -58,8 +60,10 @@ pub record TakesAll (choices : SinkChoices) (p : Place) (m : View) (xs : List �
   pub advances : Advances choices p m xs q n ys
   pub undecided : IsUndecided q (foreign n) ys
 
--- a piece was taken: what was held, what waited and the piece were read, as far as that is decided
+-- a piece was taken by a parser whose builder took tokens: what was held, what waited and the piece were read, as far
+-- as that is decided
 pub record Processed {S H : Type 0} (choices : SinkChoices) (sees : S → Seen) (node : H → ℕ) (text : List ℕ) (old new : Parsing S H) : Type 0 where
+  pub worked : IsWorking (view_of sees node old)
   pub takes : TakesAll choices old.reader.place (view_of sees node old) (old.reader.held ++ (old.waiting ++ text)) new.reader.place (view_of sees node new) new.reader.held
   pub none_waits : new.waiting ≡ []
 

@@ -174,6 +174,9 @@ impl<Handle: Drop, Sink: TreeSink<Handle = Handle> + Drop> Parser<Handle, Sink> 
         ensures failed { self.failed ≡ true → result ≡ Err BuildFault.Failed }
         ensures memory { self.failed ≡ false → OnErr result (result ≡ Err BuildFault.Memory) }
     {
+        if self.failed {
+            return Err(BuildFault::Failed);
+        }
         let mut parser = self;
         parser.process_each(pieces)?;
         parser.finish()
@@ -185,6 +188,9 @@ impl<Handle: Drop, Sink: TreeSink<Handle = Handle> + Drop> Parser<Handle, Sink> 
         ensures failed { self.failed ≡ true → result ≡ Err BuildFault.Failed }
         ensures memory { self.failed ≡ false → OnErr result (result ≡ Err BuildFault.Memory) }
     {
+        if self.failed {
+            return Err(BuildFault::Failed);
+        }
         let mut parser = self;
         parser.process(text)?;
         parser.finish()

@@ -10,8 +10,10 @@ pub mod FrameLaws
 pub mod HeadLaws
 pub mod NameLaws
 pub mod NamesAdoptionLaws
+pub mod NamesBodyLaws
 pub mod NamesFitLaws
 pub mod NamesTableLaws
+pub mod OpenLaws
 pub mod PlaceLaws
 pub mod PlainLaws
 pub mod RankLaws
@@ -21,7 +23,7 @@ pub mod ResetLaws
 pub mod RoleLaws
 pub mod RoleSetLaws
 pub mod SetLaws
-pub mod StageLaws
+pub mod SituationLaws
 pub mod TableModeLaws
 pub mod TemplateLaws
 pub mod TestLaws

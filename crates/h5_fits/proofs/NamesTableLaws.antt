@@ -12,7 +12,7 @@ use Rattle.h5_fits.specs.Floors.{Left, grounded_left, head_left, root_left}
 use Rattle.h5_fits.specs.Frames.{Cut, here, passes_table_scope, passes_to_template}
 use Rattle.h5_fits.specs.NamesFit.{NamesFit}
 use Rattle.h5_fits.specs.Reset.{reset}
-use Rattle.h5_fits.specs.Roles.{CaptionRole, CellRole, ColgroupRole, FramesetRole, HtmlRole, PlainRole, Role, RowRole, SectionRole, TableRole, TemplateRole, is_cell_role, is_row, is_section, is_template, later_roles, role_of, role_of_local, role_in_scope, roles}
+use Rattle.h5_fits.specs.Roles.{CaptionRole, CellRole, ColgroupRole, FramesetRole, HtmlRole, PlainRole, Role, RowRole, SectionRole, TableRole, TemplateRole, is_cell_role, is_row, is_section, is_table_or_section, is_template, later_roles, role_of, role_of_local, role_in_scope, roles}
 use Rattle.h5_fits.proofs.ChangeLaws.{frameset_fits, table_closed, table_fits, template_closed, template_fits}
 use Rattle.h5_fits.proofs.EdgeLaws.{after_frameset_pushed, frameset_left, frameset_popped, frameset_pushed}
 use Rattle.h5_fits.proofs.FrameLaws.{Rooted}
@@ -22,7 +22,7 @@ use Rattle.h5_fits.proofs.NamesFitLaws.{is_silent, kind_silent, names_fit, reset
 use Rattle.h5_fits.proofs.PlaceLaws.{fits_grounded, grounded_rooted}
 use Rattle.h5_fits.proofs.RoleLaws.{role_named}
 use Rattle.h5_fits.proofs.SetLaws.{template_test}
-use Rattle.h5_fits.proofs.TableModeLaws.{first_row, first_section, in_caption_close, in_cell_close, in_column_group_pop, in_row_cell, in_row_close, in_table_body_close, in_table_body_row, in_table_caption, in_table_colgroup, in_table_section}
+use Rattle.h5_fits.proofs.TableModeLaws.{first_row, first_section, in_caption_close, in_cell_close, in_column_group_pop, in_row_cell, in_row_close, in_table_body_close, in_table_body_row, in_table_caption, in_table_colgroup, in_table_section, section_of_either}
 use Rattle.h5_fits.proofs.TestLaws.{cell_test, table_body_context_test, table_row_context_test, table_scope_test}
 
 -- what has this name is found in table scope, and closed
@@ -55,10 +55,10 @@ cut_after_while is p (n ∷ ns) f = at (p n) refl (cut_after_while is p ns f)
 later_down : (c : StackContext) (is : QualName → Bool) (x : Role) (ns : List QualName) (rest : List Role) → ((n : QualName) → is n ≡ ends c (role_of n)) → down_to c (roles ns) ≡ x ∷ rest → rest ≡ roles (later_names (down_names is ns))
 later_down c is x ns rest f e = sym (ap later_roles (down_roles c is f ns ∙ e)) ∙ roles_later (down_names is ns)
 
--- what table scope has by its name it has by its role
-named_in_scope : (local : List ℕ) (is : Role → Bool) → is (role_of_local local) ≡ true → (ns : List QualName) → in_scope (is_html_named local) is_table_scope ns ≡ true → role_in_scope is (ends TableContext) (roles ns) ≡ true
-named_in_scope local is e [] h = absurd (cc)
-named_in_scope local is e (n ∷ ns) h = at (is_html_named local n) (is_table_scope n) refl (table_scope_test n) h (named_in_scope local is e ns)
+-- what a test finds in table scope its role finds there, where the role passes whenever the test does
+found_in_scope : (test : QualName → Bool) (is : Role → Bool) → ((n : QualName) → test n ≡ true → is (role_of n) ≡ true) → (ns : List QualName) → in_scope test is_table_scope ns ≡ true → role_in_scope is (ends TableContext) (roles ns) ≡ true
+found_in_scope test is e [] h = absurd (cc)
+found_in_scope test is e (n ∷ ns) h = at (test n) (is_table_scope n) refl (table_scope_test n) h (found_in_scope test is e ns)
   where
     first : (a r : Bool) → a ≡ true → cond a true r ≡ true
     first true r k = refl
@@ -69,12 +69,16 @@ named_in_scope local is e (n ∷ ns) h = at (is_html_named local n) (is_table_sc
     later false true r k l = absurd (cc)
     later false false r k l = l
 
-    at : (a b : Bool) → is_html_named local n ≡ a → b ≡ ends TableContext (role_of n) → cond a true (cond b false (in_scope (is_html_named local) is_table_scope ns)) ≡ true
-        → (in_scope (is_html_named local) is_table_scope ns ≡ true → role_in_scope is (ends TableContext) (roles ns) ≡ true)
+    at : (a b : Bool) → test n ≡ a → b ≡ ends TableContext (role_of n) → cond a true (cond b false (in_scope test is_table_scope ns)) ≡ true
+        → (in_scope test is_table_scope ns ≡ true → role_in_scope is (ends TableContext) (roles ns) ≡ true)
         → cond (is (role_of n)) true (cond (ends TableContext (role_of n)) false (role_in_scope is (ends TableContext) (roles ns))) ≡ true
-    at true b k l o f = first (is (role_of n)) _ (ap is (role_named local n k) ∙ e)
+    at true b k l o f = first (is (role_of n)) _ (e n k)
     at false true k l o f = absurd (cc)
     at false false k l o f = later (is (role_of n)) (ends TableContext (role_of n)) (role_in_scope is (ends TableContext) (roles ns)) (sym l) (f o)
+
+-- what table scope has by its name it has by its role
+named_in_scope : (local : List ℕ) (is : Role → Bool) → is (role_of_local local) ≡ true → (ns : List QualName) → in_scope (is_html_named local) is_table_scope ns ≡ true → role_in_scope is (ends TableContext) (roles ns) ≡ true
+named_in_scope local is e ns h = found_in_scope (is_html_named local) is (λ n k. ap is (role_named local n k) ∙ e) ns h
 
 -- the first template is closed, where one is open
 template_passes : (n : QualName) → is_html_named (codes "template") n ≡ false → passes_to_template (role_of n) ≡ true
@@ -151,11 +155,25 @@ module _ (s : Situation) (ns : List QualName) where
       names_fit s InTableBody (later_names (down_names is_table_row_context ns)) refl
       (subst (Fits s InTableBody) (later_down TableRowContext is_table_row_context RowRole ns first.rest table_row_context_test first.down) (in_row_close s (roles ns) first.rest first.cut f.fits))
 
-  pub names_section_closed : (local : List ℕ) → role_of_local local ≡ SectionRole → in_scope (is_html_named local) is_table_scope ns ≡ true → NamesFit s InTableBody ns → NamesFit s InTable (later_names (down_names is_table_body_context ns))
-  names_section_closed local e h f =
-      let first = first_section (roles ns) (named_in_scope local is_section (ap is_section e) ns h) in
+  names_section_found : role_in_scope is_section (ends TableContext) (roles ns) ≡ true → NamesFit s InTableBody ns → NamesFit s InTable (later_names (down_names is_table_body_context ns))
+  names_section_found h f =
+      let first = first_section (roles ns) h in
       names_fit s InTable (later_names (down_names is_table_body_context ns)) refl
       (subst (Fits s InTable) (later_down TableBodyContext is_table_body_context SectionRole ns first.rest table_body_context_test first.down) (in_table_body_close s (roles ns) first.rest first.cut f.fits))
+
+  pub names_section_closed : (local : List ℕ) → role_of_local local ≡ SectionRole → in_scope (is_html_named local) is_table_scope ns ≡ true → NamesFit s InTableBody ns → NamesFit s InTable (later_names (down_names is_table_body_context ns))
+  names_section_closed local e h f = names_section_found (named_in_scope local is_section (ap is_section e) ns h) f
+
+  -- also where a table or a section is found: it is a section
+  pub names_section_left : (test : QualName → Bool) → ((n : QualName) → test n ≡ true → is_table_or_section (role_of n) ≡ true) → in_scope test is_table_scope ns ≡ true → NamesFit s InTableBody ns
+      → NamesFit s InTable (later_names (down_names is_table_body_context ns))
+  names_section_left test e h f = names_section_found (section_of_either (roles ns) f.fits.place.1.1 (found_in_scope test is_table_or_section e ns h)) f
+
+  -- a cell by its name
+  pub names_cell_ended : (local : List ℕ) → role_of_local local ≡ CellRole → in_scope (is_html_named local) is_table_scope ns ≡ true → NamesFit s InCell ns → NamesFit s InRow (cut_names (is_html_named local) ns)
+  names_cell_ended local e h f =
+      let rest = cut_names (is_html_named local) ns in
+      names_fit s InRow rest refl (in_cell_close s (roles ns) (roles rest) (table_cut CellRole local ns e h) f.fits)
 
   pub names_cell_closed : NamesFit s InCell ns → NamesFit s InRow (cut_names is_cell ns)
   names_cell_closed f =

@@ -30,7 +30,7 @@ either l t x rest f g = at (is_same_text l t) refl
     at true e = f ((bytes_eq-Decides l t).0 e)
     at false e = g
 
-origin : (l : List ℕ) → Origin (role_of_local l) l
+pub origin : (l : List ℕ) → Origin (role_of_local l) l
 unfolding role_of_local
 origin l =
     either l (codes "html") HtmlRole _ (λ e. e)

@@ -80,7 +80,7 @@ others_pass is x here = here
 others_pass is x (there n h c) = there n (scope_passes n (neither (is n) (ends TableContext n) h).1) (others_pass is x c)
 
 -- the first cell, in InCell
-cell_only : (n : Role) → is_cell_role n ≡ true → n ≡ CellRole
+pub cell_only : (n : Role) → is_cell_role n ≡ true → n ≡ CellRole
 cell_only CellRole h = refl
 cell_only _ h = absurd (cc)
 
@@ -88,7 +88,7 @@ pub cell_found : (s : Situation) (ns : List Role) → Fits s InCell ns → Found
 cell_found s ns f = found is_cell_role CellRole cell_only ns f.place.1.1
 
 -- a section in table scope is what the context of a body begins with
-section_only : (n : Role) → is_section n ≡ true → n ≡ SectionRole
+pub section_only : (n : Role) → is_section n ≡ true → n ≡ SectionRole
 section_only SectionRole h = refl
 section_only _ h = absurd (cc)
 

@@ -7,4 +7,3 @@ pub mod NamesFit
 pub mod Reset
 pub mod Roles
 pub mod Root
-pub mod StageFits

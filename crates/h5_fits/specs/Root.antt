@@ -8,3 +8,9 @@ abbrev pub RootIsHtml : List QualName → Type 0
 RootIsHtml [] = Unit {0}
 RootIsHtml (n ∷ []) = IsTrue (is_html_named (codes "html") n)
 RootIsHtml (n ∷ m ∷ ns) = RootIsHtml (m ∷ ns)
+
+-- some element is open, and the root is an HTML `html`
+abbrev pub IsRootOpen : List QualName → Type 0
+IsRootOpen [] = ⊥
+IsRootOpen (n ∷ []) = IsTrue (is_html_named (codes "html") n)
+IsRootOpen (n ∷ m ∷ ns) = IsRootOpen (m ∷ ns)

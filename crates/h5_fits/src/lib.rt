@@ -3,4 +3,3 @@
 #![tactic(auto)]
 
 pub mod laws;
-pub mod stage_laws;

@@ -1,9 +1,9 @@
 //! Markers in the list of active formatting elements.
-ghost use Rattle.std.specs.Prelude.{◌≡◌, ℕ, OnErr, OnOk};
+ghost use Rattle.std.specs.Prelude.{◌≡◌, ℕ, OnErr};
 ghost use Rattle.h5_stack.specs.FormattingList.{clear_to_marker};
-ghost use Rattle.h5_meaning.specs.Formatting.{clear_active_formatting_to_marker, insert_marker};
+ghost use Rattle.h5_meaning.specs.Rows.{ClearActiveFormattingToMarker, InsertMarker};
 ghost use Rattle.h5_formatting.specs.Places.{entries_of};
-ghost use Rattle.h5_state.specs.Steps.{IsSound, world_of};
+ghost use Rattle.h5_state.specs.Steps.{IsSound, Makes, MakesIfOk, world_of};
 
 use h5_interface::TreeSink;
 use h5_state::State;
@@ -14,9 +14,8 @@ use std::alloc::AllocError;
 #[tactic(auto, unfolding(h5_state::specs::View::world, h5_meaning::specs::Formatting::insert_marker))]
 pub fn insert_marker<S: TreeSink>(sink: &S, state: &mut State<S::Handle>) -> Result<(), AllocError>
     requires { IsSound S.TreeSink sink.now state.old }
-    ensures ok { OnOk result (world_of S.TreeSink sink.now state.new ≡ insert_marker (world_of S.TreeSink sink.now state.old)) }
+    ensures made { MakesIfOk S.TreeSink InsertMarker sink.now state.old sink.now state.new result }
     ensures err { OnErr result (world_of S.TreeSink sink.now state.new ≡ world_of S.TreeSink sink.now state.old) }
-    ensures sound { IsSound S.TreeSink sink.now state.new }
 {
     state.active_formatting.push(FormatEntry::Marker)?;
     Ok(())
@@ -37,8 +36,7 @@ fn clear_to_marker<Handle: Drop>(entries: &mut Vec<FormatEntry<Handle>>)
 #[tactic(auto, unfolding(h5_state::specs::View::world, h5_meaning::specs::Formatting::clear_active_formatting_to_marker))]
 pub fn clear_active_formatting_to_marker<S: TreeSink>(sink: &S, state: &mut State<S::Handle>)
     requires { IsSound S.TreeSink sink.now state.old }
-    ensures world { world_of S.TreeSink sink.now state.new ≡ clear_active_formatting_to_marker (world_of S.TreeSink sink.now state.old) }
-    ensures sound { IsSound S.TreeSink sink.now state.new }
+    ensures { Makes S.TreeSink ClearActiveFormattingToMarker sink.now state.old sink.now state.new }
 {
     clear_to_marker(&mut state.active_formatting);
 }

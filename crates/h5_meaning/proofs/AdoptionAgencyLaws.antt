@@ -19,8 +19,8 @@ use Rattle.h5_stack.proofs.EachLaws.{each_without_entry}
 use Rattle.h5_stack.proofs.KeptLaws.{lists_without_entry}
 use Rattle.h5_stack.proofs.PairLaws.{before_one_more, in_one_more, is_in_true}
 use Rattle.h5_stack.proofs.PassLaws.{lists_but_first, lists_closed, lists_cut_through, lists_removed, ordered_distinct, stack_split, without_node_split}
-use Rattle.h5_fits.specs.StageFits.{IsRootOpen}
-use Rattle.h5_fits.proofs.StageLaws.{not_html, open_ended, open_pop}
+use Rattle.h5_fits.specs.Root.{IsRootOpen}
+use Rattle.h5_fits.proofs.OpenLaws.{not_html, open_ended, open_pop}
 use Rattle.h5_meaning.specs.AdoptionAgency.{MayAdopt, adopt, adopt_at, adopt_by, adopt_within, adoption_agency, close_misnested_a, handle_misnested_a_tags, handle_misnested_nobr_tags, remove_from_stack, unlist_and_remove, KeepsKinds}
 use Rattle.h5_meaning.specs.Changes.{generate_implied_end_except, pop, pop_until_named, pop_while}
 use Rattle.h5_meaning.specs.Closing.{close_named}

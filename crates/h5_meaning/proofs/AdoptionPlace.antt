@@ -25,7 +25,7 @@ use Rattle.h5_stack.proofs.EachLaws.{each_at}
 use Rattle.h5_stack.proofs.PairLaws.{before_across, before_first, before_second, in_left, in_right}
 use Rattle.h5_stack.proofs.PassLaws.{furthest_block_at, newest_named_at, ordered_distinct, stack_split}
 use Rattle.h5_stack.proofs.PlainLaws.{listed_is_plain}
-use Rattle.h5_fits.specs.StageFits.{IsRootOpen}
+use Rattle.h5_fits.specs.Root.{IsRootOpen}
 use Rattle.h5_fits.proofs.BoolLaws.{or_neither}
 use Rattle.h5_fits.proofs.SetLaws.{default_named, special_named}
 use Rattle.h5_meaning.specs.AdoptionAgency.{IsLoose, MayAdopt, common_ancestor, KeepsKinds}
@@ -75,7 +75,7 @@ block_same : (p q : ℕ → Bool) (s : List ℕ) → ((n : ℕ) → IsIn n s →
 block_same p q [] same = refl
 block_same p q (n ∷ s) same = ap (λ b. block_or n b s (furthest_block p s)) (same n (inl refl)) ∙ ap (block_or n (q n) s) (block_same p q s (λ m i. same m (inr i)))
 
-any_none : (p : ℕ → Bool) (s : List ℕ) (n : ℕ) → list_any p s ≡ false → IsIn n s → p n ≡ false
+pub any_none : (p : ℕ → Bool) (s : List ℕ) (n : ℕ) → list_any p s ≡ false → IsIn n s → p n ≡ false
 any_none p [] n h i = absurd i
 any_none p (m ∷ s) n h (inl e) = ap p e ∙ (or_neither (p m) (list_any p s) h).0
 any_none p (m ∷ s) n h (inr i) = any_none p s n (or_neither (p m) (list_any p s) h).1 i

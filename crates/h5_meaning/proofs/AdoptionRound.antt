@@ -21,8 +21,8 @@ use Rattle.h5_stack.proofs.FreshLaws.{fresh_round, listed_adopted, made_new}
 use Rattle.h5_stack.proofs.PairLaws.{before_left, before_right, before_split, before_across, in_left, in_right, in_split, is_in_true}
 use Rattle.h5_stack.proofs.PassLaws.{each_tag_adopted, furthest_block_at, lists_adopted, ordered_distinct, stack_split}
 use Rattle.h5_stack.proofs.PlainLaws.{listed_is_plain}
-use Rattle.h5_fits.specs.StageFits.{IsRootOpen}
-use Rattle.h5_fits.proofs.StageLaws.{open_push}
+use Rattle.h5_fits.specs.Root.{IsRootOpen}
+use Rattle.h5_fits.proofs.OpenLaws.{open_push}
 use Rattle.h5_meaning.specs.AdoptionAgency.{IsLoose, MayAdopt, Nest, adopt, common_ancestor, nest, placed, refilled, tag_in, wrapped, KeepsKinds}
 use Rattle.h5_meaning.specs.Changes.{with_forest}
 use Rattle.h5_meaning.specs.Sound.{AllStand, IsHtml, IsReady, RootIsTop, Sound, Stands}
@@ -483,7 +483,7 @@ module _ {name : List ℕ} {f : FormattingElement} {k : FurthestBlock} (choices 
   abbrev new_stack : List ℕ
   new_stack = round_stack k.newer own_clone k.block clones_made.clones older_ones
 
-  cut_stack : w.stack ≡ k.newer ++ k.block ∷ (k.between ++ f.node ∷ older_ones)
+  pub cut_stack : w.stack ≡ k.newer ++ k.block ∷ (k.between ++ f.node ∷ older_than f.node w.stack)
   cut_stack =
       let parts = furthest_block_at (λ n. is_special (name_in w.forest n)) (newer_than f.node w.stack) k may.block in
       stack_split f.node w.stack may.is_open ∙ ap (λ z. z ++ f.node ∷ older_ones) parts.cut ∙ append_assoc k.newer (k.block ∷ k.between) (f.node ∷ older_ones)
@@ -529,7 +529,7 @@ module _ {name : List ℕ} {f : FormattingElement} {k : FurthestBlock} (choices 
   original_tag : (y x : ℕ) → IsCloneOf originals clones_made.clones y x → (t : TagText) × (tag_in w.formatting x ≡ Some t)
   original_tag y x h = tagged w.formatting x (to_clone_is_listed w.formatting k.between x (original_in originals clones_made.clones y x h))
 
-  clone_is_plain : (x : ℕ) → IsIn x (own_clone ∷ clones_made.clones) → IsPlain new_forest x
+  pub clone_is_plain : (x : ℕ) → IsIn x (choices.fresh (placed f clones_made w) ∷ clones_made.clones) → IsPlain (refilled choices f k.block (placed f clones_made w)) x
   clone_is_plain x (inl e) = record {
     local = f.tag.name;
     kind = ap (kind_of new_forest) e ∙ clone_of_tag;

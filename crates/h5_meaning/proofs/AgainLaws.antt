@@ -9,21 +9,19 @@ use Rattle.h5_tag_sets.specs.TagSets.{cell_names, is_default_scope, is_heading, 
 use Rattle.h5_stack.specs.Scope.{comes_before_special, has_p_in_button_scope, has_template, in_scope, second_is}
 use Rattle.h5_types.specs.TurnText.{TurnText, TagTurn, CommentTurn, TextTurn, NullTurn, EofTurn}
 use Rattle.h5_types.specs.declared.modes.InsertionMode.{InsertionMode}
-use Rattle.h5_types.specs.declared.modes.InsertionMode.TheVariants.{Initial, BeforeHtml, BeforeHead, InHead, AfterHead, InBody, AfterBody, AfterAfterBody}
-use Rattle.h5_types.specs.declared.modes.SplitStatus.TheVariants.{NotSplit, Whitespace, NotWhitespace}
+use Rattle.h5_types.specs.declared.modes.InsertionMode.TheVariants.{Initial, BeforeHtml, BeforeHead, InHead, AfterHead, InBody, InTable, AfterBody, AfterAfterBody}
 use Rattle.h5_fits.proofs.Ranks as edges
 use Rattle.h5_fits.proofs.Ranks.{CellTurns, ColTurns, EndHtmlTurns, EndPartTurns, EofTurns, OtherTurns, PartTurns, RowTurns, StartTableTurns, TextTurns, TurnKind, is_eof, leaves_body_end}
-use Rattle.h5_meaning.specs.AfterAfterBody.{after_after_body_start, after_after_body_tag}
-use Rattle.h5_meaning.specs.AfterBody.{after_body_end, after_body_start, after_body_tag, back_to_body}
-use Rattle.h5_meaning.specs.AfterHead.{after_head_else, after_head_end, after_head_start, after_head_tag}
-use Rattle.h5_meaning.specs.BeforeHead.{before_head_else, before_head_end, before_head_start, before_head_tag}
+use Rattle.h5_meaning.specs.AfterAfterBody.{after_after_body_start}
+use Rattle.h5_meaning.specs.AfterBody.{after_body_end, after_body_start, back_to_body}
+use Rattle.h5_meaning.specs.AfterHead.{after_head_else, after_head_end, after_head_start}
+use Rattle.h5_meaning.specs.BeforeHead.{before_head_else, before_head_end, before_head_start}
 use Rattle.h5_meaning.specs.ByName.{by_kind, by_name, ignored_tag, named, of_tag}
-use Rattle.h5_meaning.specs.BeforeHtml.{before_html_else, before_html_end, before_html_start, before_html_tag}
-use Rattle.h5_meaning.specs.InBody.{body_ends, body_in_scope, current_is, if_body_in_scope, in_body_end_block, in_body_end_heading, in_body_end_other, in_body_end_p, in_body_end, in_body_start, in_body_start_other, in_body_start_body, in_body_tag}
-use Rattle.h5_meaning.specs.InHead.{in_head_else, in_head_end, in_head_start, in_head_tag}
+use Rattle.h5_meaning.specs.BeforeHtml.{before_html_else, before_html_end, before_html_start}
+use Rattle.h5_meaning.specs.InBody.{body_ends, body_in_scope, current_is, if_body_in_scope, in_body_end_block, in_body_end_br, in_body_end_formatting, in_body_end_heading, in_body_end_html, in_body_end_other, in_body_end_p, in_body_end, in_body_start, in_body_start_other, in_body_start_body, in_body_start_table, in_body_tag, inserts, is_quirks}
+use Rattle.h5_meaning.specs.InHead.{in_head_else, in_head_end, in_head_start}
 use Rattle.h5_meaning.specs.InitialMode.{initial_else}
-use Rattle.h5_meaning.specs.Modes.{rule}
-use Rattle.h5_meaning.specs.Rows.{AddAttrsToHtml, AddAttrsToSecond, Again, AgainBy, Answers, ClosePElement, Ending, GenerateImpliedEnd, GenerateImpliedEndExcept, InsertElement, IsAcknowledged, IsDone, PopUntilHeading, PopUntilNamed, Row, SetFramesetNotOk, SetMode, SetQuirksMode, choose, errs, ignored, next_mode, row, row_if}
+use Rattle.h5_meaning.specs.Rows.{AddAttrsToHtml, AddAttrsToSecond, Again, AgainBy, Answers, Change, ClosePElement, ClosePElementInButtonScope, Ending, GenerateImpliedEnd, GenerateImpliedEndExcept, InsertElement, IsAcknowledged, IsDone, PopUntilHeading, PopUntilNamed, Row, SetFramesetNotOk, SetMode, SetQuirksMode, choose, errs, ignored, next_mode, row, row_if}
 use Rattle.h5_meaning.specs.Shared.{in_body_start_html}
 use Rattle.h5_meaning.specs.World.{World, names_of}
 use Rattle.h5_meaning.proofs.ByNameLaws.{holds_by_name}
@@ -92,10 +90,10 @@ leaves_no_eof : (c : TurnKind) → leaves_body_end c ≡ true → is_eof c ≡ f
 leaves_no_eof EofTurns h = absurd (cc)
 leaves_no_eof _ h = refl
 
-start_no_eof : (name : List ℕ) → is_eof (kind_of_start name) ≡ false
+pub start_no_eof : (name : List ℕ) → is_eof (kind_of_start name) ≡ false
 start_no_eof name = leaves_no_eof (kind_of_start name) (start_leaves name)
 
-end_no_eof : (name : List ℕ) → is_eof (kind_of_end name) ≡ false
+pub end_no_eof : (name : List ℕ) → is_eof (kind_of_end name) ≡ false
 unfolding kind_of_end
 end_no_eof name = at (named Html name) (is_one_of part_end_names name)
   where
@@ -120,135 +118,123 @@ leads_start_html : (c : TurnKind) (m : InsertionMode) (tag : TagText) (w : World
 unfolding in_body_start_html
 leads_start_html c m tag w = leads_choose c m (has_template (names_of w)) ignored (errs (AddAttrsToHtml tag.attrs ∷ []) IsDone) tt tt
 
-leads_initial_else : (c : TurnKind) (t : TurnText) (w : World) → Leads c Initial (initial_else t w).ending
+pub leads_initial_else : (c : TurnKind) (t : TurnText) (w : World) → Leads c Initial (initial_else t w).ending
 unfolding initial_else
 leads_initial_else c t w = leads_choose c Initial w.options.iframe_srcdoc (row [] (Again BeforeHtml)) (errs (SetQuirksMode Quirks ∷ []) (Again BeforeHtml)) (edges.initial c) (edges.initial c)
 
 -- of a row
-abbrev RowLeads : TurnKind → InsertionMode → Row → Type 0
-RowLeads c m r = Leads c m r.ending
+abbrev pub LeadsByEdge : TurnKind → InsertionMode → Row → Type 0
+LeadsByEdge c m r = Leads c m r.ending
 
-leads_before_html : (c : TurnKind) (k : TagKind) (tag : TagText) (w : World) → Leads c BeforeHtml (by_kind k (by_name before_html_start (of_tag before_html_else) tag w) (by_name before_html_end ignored_tag tag w)).ending
+pub leads_before_html : (c : TurnKind) (k : TagKind) (tag : TagText) (w : World) → Leads c BeforeHtml (by_kind k (by_name before_html_start (of_tag before_html_else) tag w) (by_name before_html_end ignored_tag tag w)).ending
 unfolding before_html_start before_html_end
-leads_before_html c StartTag tag w = holds_by_name (RowLeads c BeforeHtml) before_html_start (of_tag before_html_else) tag w ((λ p. tt), tt) (λ n. edges.before_html c)
-leads_before_html c EndTag tag w = holds_by_name (RowLeads c BeforeHtml) before_html_end ignored_tag tag w ((λ p. edges.before_html c), tt) (λ n. tt)
+leads_before_html c StartTag tag w = holds_by_name (LeadsByEdge c BeforeHtml) before_html_start (of_tag before_html_else) tag w ((λ p. tt), tt) (λ n. edges.before_html c)
+leads_before_html c EndTag tag w = holds_by_name (LeadsByEdge c BeforeHtml) before_html_end ignored_tag tag w ((λ p. edges.before_html c), tt) (λ n. tt)
 
-leads_before_head : (c : TurnKind) (k : TagKind) (tag : TagText) (w : World) → Leads c BeforeHead (by_kind k (by_name before_head_start (of_tag before_head_else) tag w) (by_name before_head_end ignored_tag tag w)).ending
+pub leads_before_head : (c : TurnKind) (k : TagKind) (tag : TagText) (w : World) → Leads c BeforeHead (by_kind k (by_name before_head_start (of_tag before_head_else) tag w) (by_name before_head_end ignored_tag tag w)).ending
 unfolding before_head_start before_head_end
-leads_before_head c StartTag tag w = holds_by_name (RowLeads c BeforeHead) before_head_start (of_tag before_head_else) tag w ((λ p. leads_start_html c BeforeHead tag w), ((λ p. tt), tt)) (λ n. edges.before_head c)
-leads_before_head c EndTag tag w = holds_by_name (RowLeads c BeforeHead) before_head_end ignored_tag tag w ((λ p. edges.before_head c), tt) (λ n. tt)
+leads_before_head c StartTag tag w = holds_by_name (LeadsByEdge c BeforeHead) before_head_start (of_tag before_head_else) tag w ((λ p. leads_start_html c BeforeHead tag w), ((λ p. tt), tt)) (λ n. edges.before_head c)
+leads_before_head c EndTag tag w = holds_by_name (LeadsByEdge c BeforeHead) before_head_end ignored_tag tag w ((λ p. edges.before_head c), tt) (λ n. tt)
 
-leads_in_head : (c : TurnKind) (k : TagKind) (tag : TagText) (w : World) → Leads c InHead (by_kind k (by_name in_head_start (of_tag in_head_else) tag w) (by_name in_head_end ignored_tag tag w)).ending
+pub leads_in_head : (c : TurnKind) (k : TagKind) (tag : TagText) (w : World) → Leads c InHead (by_kind k (by_name in_head_start (of_tag in_head_else) tag w) (by_name in_head_end ignored_tag tag w)).ending
 unfolding in_head_start in_head_end
-leads_in_head c StartTag tag w = holds_by_name (RowLeads c InHead) in_head_start (of_tag in_head_else) tag w ((λ p. leads_start_html c InHead tag w), ((λ p. tt), tt)) (λ n. edges.in_head c)
-leads_in_head c EndTag tag w = holds_by_name (RowLeads c InHead) in_head_end ignored_tag tag w ((λ p. tt), ((λ p. edges.in_head c), tt)) (λ n. tt)
+leads_in_head c StartTag tag w = holds_by_name (LeadsByEdge c InHead) in_head_start (of_tag in_head_else) tag w ((λ p. leads_start_html c InHead tag w), ((λ p. tt), tt)) (λ n. edges.in_head c)
+leads_in_head c EndTag tag w = holds_by_name (LeadsByEdge c InHead) in_head_end ignored_tag tag w ((λ p. tt), ((λ p. edges.in_head c), tt)) (λ n. tt)
 
-leads_after_head : (c : TurnKind) (k : TagKind) (tag : TagText) (w : World) → Leads c AfterHead (by_kind k (by_name after_head_start (of_tag after_head_else) tag w) (by_name after_head_end ignored_tag tag w)).ending
+pub leads_after_head : (c : TurnKind) (k : TagKind) (tag : TagText) (w : World) → Leads c AfterHead (by_kind k (by_name after_head_start (of_tag after_head_else) tag w) (by_name after_head_end ignored_tag tag w)).ending
 unfolding after_head_start after_head_end
-leads_after_head c StartTag tag w = holds_by_name (RowLeads c AfterHead) after_head_start (of_tag after_head_else) tag w ((λ p. leads_start_html c AfterHead tag w), ((λ p. tt), ((λ p. tt), tt))) (λ n. edges.after_head c)
-leads_after_head c EndTag tag w = holds_by_name (RowLeads c AfterHead) after_head_end ignored_tag tag w ((λ p. tt), ((λ p. edges.after_head c), tt)) (λ n. tt)
+leads_after_head c StartTag tag w = holds_by_name (LeadsByEdge c AfterHead) after_head_start (of_tag after_head_else) tag w ((λ p. leads_start_html c AfterHead tag w), ((λ p. tt), ((λ p. tt), tt))) (λ n. edges.after_head c)
+leads_after_head c EndTag tag w = holds_by_name (LeadsByEdge c AfterHead) after_head_end ignored_tag tag w ((λ p. tt), ((λ p. edges.after_head c), tt)) (λ n. tt)
 
-leads_in_body : (k : TagKind) (tag : TagText) (w : World) → Leads (kind_of_tag k tag.name) InBody (by_kind k (by_name in_body_start in_body_start_other tag w) (by_name in_body_end in_body_end_other tag w)).ending
-unfolding in_body_start in_body_end in_body_start_body if_body_in_scope in_body_end_block in_body_end_p in_body_end_heading in_body_end_other
-leads_in_body StartTag tag w = holds_by_name (RowLeads (kind_of_start tag.name) InBody) in_body_start in_body_start_other tag w (
-  (λ p. leads_start_html (kind_of_start tag.name) InBody tag w),
+-- an ending after which no other turn is taken
+abbrev pub Stops : Ending → Type 0
+Stops IsDone = Unit {0}
+Stops IsAcknowledged = Unit {0}
+Stops (Answers answer) = Unit {0}
+Stops (Again k) = ⊥
+Stops (AgainBy mode) = ⊥
+
+pub stops_leads : (c : TurnKind) (m : InsertionMode) (x : Ending) → Stops x → Leads c m x
+stops_leads c m IsDone h = tt
+stops_leads c m IsAcknowledged h = tt
+stops_leads c m (Answers answer) h = tt
+stops_leads c m (Again k) h = elim h [ ]
+stops_leads c m (AgainBy mode) h = elim h [ ]
+
+abbrev pub RowStops : Row → Type 0
+RowStops r = Stops r.ending
+
+pub stops_choose : (b : Bool) (r s : Row) → RowStops r → RowStops s → RowStops (choose b r s)
+stops_choose true r s x y = x
+stops_choose false r s x y = y
+
+-- by the rules of the body none is taken, but for an end tag `html`
+stops_body_start : (tag : TagText) (w : World) → RowStops (by_name in_body_start in_body_start_other tag w)
+unfolding in_body_start in_body_start_html in_body_start_body in_body_start_table
+stops_body_start tag w = holds_by_name RowStops in_body_start in_body_start_other tag w (
+  (λ p. stops_choose (has_template (names_of w)) ignored (errs (AddAttrsToHtml tag.attrs ∷ []) IsDone) tt tt),
   (
-    (λ p. leads_choose (kind_of_start tag.name) InBody (second_is (codes "body") (names_of w) && not (has_template (names_of w))) (errs (SetFramesetNotOk ∷ AddAttrsToSecond tag.attrs ∷ []) IsDone) ignored tt tt),
-    ((λ p. tt), ((λ p. tt), ((λ p. tt), ((λ p. tt), ((λ p. tt), ((λ p. tt), tt)))))),
+    (λ p. stops_choose (second_is (codes "body") (names_of w) && not (has_template (names_of w))) (errs (SetFramesetNotOk ∷ AddAttrsToSecond tag.attrs ∷ []) IsDone) ignored tt tt),
+    ((λ p. tt), ((λ p. tt), ((λ p. tt), ((λ p. tt), ((λ p. tt), ((λ p. tt), (table, ((λ p. tt), tt)))))))),
   ),
 )
     (λ n. tt)
-leads_in_body EndTag tag w = let c = kind_of_end tag.name in holds_by_name (RowLeads c InBody) in_body_end in_body_end_other tag w (
-  (λ p. leads_choose c InBody (body_in_scope w) (body_ends [] (Again AfterBody) w) ignored (subst (λ k. edges.Again k InBody AfterBody) (sym (end_html_kind tag.name p)) edges.end_html) tt),
+  where
+    opens : List Change
+    opens = inserts tag ∷ SetFramesetNotOk ∷ SetMode InTable ∷ []
+
+    table : named Table tag.name ≡ true → RowStops (in_body_start_table tag w)
+    table p = stops_choose (is_quirks w.quirks) (row opens IsDone) (row_if (not (has_p_in_button_scope (names_of w))) (ClosePElementInButtonScope ∷ opens) IsDone) tt tt
+
+-- and so of what holds of each row after which none is taken
+body_ends_by : (P : Row → Type 0) (tag : TagText) (w : World) → ((r : Row) → RowStops r → P r) → (named Html tag.name ≡ true → P (in_body_end_html tag w)) → P (by_name in_body_end in_body_end_other tag w)
+unfolding in_body_end if_body_in_scope in_body_end_block in_body_end_p in_body_end_heading in_body_end_other
+body_ends_by P tag w stops html = holds_by_name P in_body_end in_body_end_other tag w (
+  html,
   (
-    (λ p. leads_choose c InBody (body_in_scope w) (body_ends (SetMode AfterBody ∷ []) IsDone w) ignored tt tt),
+    (λ p. one (body_in_scope w) (body_ends (SetMode AfterBody ∷ []) IsDone w) ignored tt tt),
     (
-      (λ p. leads_choose c InBody (in_scope (is_html_named tag.name) is_default_scope (names_of w)) (row_if (current_is tag.name w) (GenerateImpliedEnd ∷ PopUntilNamed tag.name ∷ []) IsDone) ignored tt tt),
+      (λ p. one (in_scope (is_html_named tag.name) is_default_scope (names_of w)) (row_if (current_is tag.name w) (GenerateImpliedEnd ∷ PopUntilNamed tag.name ∷ []) IsDone) ignored tt tt),
       (
-        (λ p. leads_choose c InBody (has_p_in_button_scope (names_of w)) (row_if (current_is (codes "p") w) (ClosePElement ∷ []) IsDone) (errs (InsertElement (codes "p") [] false ∷ ClosePElement ∷ []) IsDone) tt tt),
-        ((λ p. leads_choose c InBody (in_scope is_heading is_default_scope (names_of w)) (row_if (current_is tag.name w) (GenerateImpliedEnd ∷ PopUntilHeading ∷ []) IsDone) ignored tt tt), ((λ p. tt), ((λ p. tt), tt))),
+        (λ p. one (has_p_in_button_scope (names_of w)) (row_if (current_is (codes "p") w) (ClosePElement ∷ []) IsDone) (errs (InsertElement (codes "p") [] false ∷ ClosePElement ∷ []) IsDone) tt tt),
+        (
+          (λ p. one (in_scope is_heading is_default_scope (names_of w)) (row_if (current_is tag.name w) (GenerateImpliedEnd ∷ PopUntilHeading ∷ []) IsDone) ignored tt tt),
+          ((λ p. stops (in_body_end_formatting tag w) tt), ((λ p. stops (in_body_end_br tag w) tt), ((λ p. stops ignored tt), tt))),
+        ),
       ),
     ),
   ),
 )
-    (λ n. leads_choose c InBody (comes_before_special tag.name (names_of w)) (errs (GenerateImpliedEndExcept tag.name ∷ PopUntilNamed tag.name ∷ []) IsDone) ignored tt tt)
+    (λ n. one (comes_before_special tag.name (names_of w)) (errs (GenerateImpliedEndExcept tag.name ∷ PopUntilNamed tag.name ∷ []) IsDone) ignored tt tt)
+  where
+    one : (b : Bool) (r s : Row) → RowStops r → RowStops s → P (choose b r s)
+    one b r s x y = stops (choose b r s) (stops_choose b r s x y)
 
-leads_after_body : (k : TagKind) (tag : TagText) (w : World) → Leads (kind_of_tag k tag.name) AfterBody (by_kind k (by_name after_body_start (of_tag back_to_body) tag w) (by_name after_body_end (of_tag back_to_body) tag w)).ending
+pub stops_body_tag : (tag : TagText) (w : World) → (tag.kind ≡ EndTag → named Html tag.name ≡ false) → RowStops (in_body_tag tag w)
+unfolding in_body_tag
+stops_body_tag tag w f = at tag.kind f
+  where
+    at : (k : TagKind) → (k ≡ EndTag → named Html tag.name ≡ false) → RowStops (by_kind k (by_name in_body_start in_body_start_other tag w) (by_name in_body_end in_body_end_other tag w))
+    at StartTag f = stops_body_start tag w
+    at EndTag f = body_ends_by RowStops tag w (λ r x. x) (λ p. absurd (let q = sym p ∙ f refl in cc))
+
+pub leads_in_body : (k : TagKind) (tag : TagText) (w : World) → Leads (kind_of_tag k tag.name) InBody (by_kind k (by_name in_body_start in_body_start_other tag w) (by_name in_body_end in_body_end_other tag w)).ending
+unfolding if_body_in_scope
+leads_in_body StartTag tag w = stops_leads (kind_of_start tag.name) InBody (by_name in_body_start in_body_start_other tag w).ending (stops_body_start tag w)
+leads_in_body EndTag tag w =
+    let c = kind_of_end tag.name in
+    body_ends_by (LeadsByEdge c InBody) tag w (λ r x. stops_leads c InBody r.ending x)
+    (λ p. leads_choose c InBody (body_in_scope w) (body_ends [] (Again AfterBody) w) ignored (subst (λ k. edges.Again k InBody AfterBody) (sym (end_html_kind tag.name p)) edges.end_html) tt)
+
+pub leads_after_body : (k : TagKind) (tag : TagText) (w : World) → Leads (kind_of_tag k tag.name) AfterBody (by_kind k (by_name after_body_start (of_tag back_to_body) tag w) (by_name after_body_end (of_tag back_to_body) tag w)).ending
 unfolding after_body_start after_body_end
-leads_after_body StartTag tag w = holds_by_name (RowLeads (kind_of_start tag.name) AfterBody) after_body_start (of_tag back_to_body) tag w ((λ p. leads_start_html (kind_of_start tag.name) AfterBody tag w), tt) (λ n. edges.after_body (kind_of_start tag.name) (start_leaves tag.name))
-leads_after_body EndTag tag w = holds_by_name (RowLeads (kind_of_end tag.name) AfterBody) after_body_end (of_tag back_to_body) tag w ((λ p. tt), tt) (λ n. edges.after_body (kind_of_end tag.name) (end_leaves tag.name n.0))
+leads_after_body StartTag tag w = holds_by_name (LeadsByEdge (kind_of_start tag.name) AfterBody) after_body_start (of_tag back_to_body) tag w ((λ p. leads_start_html (kind_of_start tag.name) AfterBody tag w), tt) (λ n. edges.after_body (kind_of_start tag.name) (start_leaves tag.name))
+leads_after_body EndTag tag w = holds_by_name (LeadsByEdge (kind_of_end tag.name) AfterBody) after_body_end (of_tag back_to_body) tag w ((λ p. tt), tt) (λ n. edges.after_body (kind_of_end tag.name) (end_leaves tag.name n.0))
 
-leads_after_after_body : (k : TagKind) (tag : TagText) (w : World) → Leads (kind_of_tag k tag.name) AfterAfterBody (by_kind k (by_name after_after_body_start (of_tag back_to_body) tag w) (back_to_body (TagTurn tag) w)).ending
+pub leads_after_after_body : (k : TagKind) (tag : TagText) (w : World) → Leads (kind_of_tag k tag.name) AfterAfterBody (by_kind k (by_name after_after_body_start (of_tag back_to_body) tag w) (back_to_body (TagTurn tag) w)).ending
 unfolding after_after_body_start
-leads_after_after_body StartTag tag w = let c = kind_of_start tag.name in holds_by_name (RowLeads c AfterAfterBody) after_after_body_start (of_tag back_to_body) tag w ((λ p. leads_start_html c AfterAfterBody tag w), tt) (λ n. edges.after_after_body c (start_no_eof tag.name))
+leads_after_after_body StartTag tag w = let c = kind_of_start tag.name in holds_by_name (LeadsByEdge c AfterAfterBody) after_after_body_start (of_tag back_to_body) tag w ((λ p. leads_start_html c AfterAfterBody tag w), tt) (λ n. edges.after_after_body c (start_no_eof tag.name))
 leads_after_after_body EndTag tag w = edges.after_after_body (kind_of_end tag.name) (end_no_eof tag.name)
-
-leads_tag : (m : InsertionMode) (tag : TagText) (w : World) → Leads (kind_of_tag tag.kind tag.name) m (rule m (TagTurn tag) w).ending
-unfolding before_html_tag before_head_tag in_head_tag after_head_tag in_body_tag after_body_tag after_after_body_tag
-leads_tag Initial tag w = leads_initial_else (kind_of_tag tag.kind tag.name) (TagTurn tag) w
-leads_tag BeforeHtml tag w = leads_before_html (kind_of_tag tag.kind tag.name) tag.kind tag w
-leads_tag BeforeHead tag w = leads_before_head (kind_of_tag tag.kind tag.name) tag.kind tag w
-leads_tag InHead tag w = leads_in_head (kind_of_tag tag.kind tag.name) tag.kind tag w
-leads_tag AfterHead tag w = leads_after_head (kind_of_tag tag.kind tag.name) tag.kind tag w
-leads_tag InBody tag w = leads_in_body tag.kind tag w
-leads_tag AfterBody tag w = leads_after_body tag.kind tag w
-leads_tag AfterAfterBody tag w = leads_after_after_body tag.kind tag w
-leads_tag _ tag w = tt
-
-leads_comment : (m : InsertionMode) (x : List ℕ) (w : World) → Leads OtherTurns m (rule m (CommentTurn x) w).ending
-leads_comment Initial x w = tt
-leads_comment _ x w = tt
-
-leads_blank : (m : InsertionMode) (x : List ℕ) (w : World) → Leads TextTurns m (rule m (TextTurn Whitespace x) w).ending
-leads_blank Initial x w = tt
-leads_blank _ x w = tt
-
-leads_solid : (m : InsertionMode) (x : List ℕ) (w : World) → Leads TextTurns m (rule m (TextTurn NotWhitespace x) w).ending
-leads_solid Initial x w = leads_initial_else TextTurns (TextTurn NotWhitespace x) w
-leads_solid BeforeHtml x w = edges.before_html TextTurns
-leads_solid BeforeHead x w = edges.before_head TextTurns
-leads_solid InHead x w = edges.in_head TextTurns
-leads_solid AfterHead x w = edges.after_head TextTurns
-leads_solid AfterBody x w = edges.after_body TextTurns refl
-leads_solid AfterAfterBody x w = edges.after_after_body TextTurns refl
-leads_solid _ x w = tt
-
-leads_whole : (m : InsertionMode) (x : List ℕ) (w : World) → Leads TextTurns m (rule m (TextTurn NotSplit x) w).ending
-leads_whole Initial x w = leads_initial_else TextTurns (TextTurn NotSplit x) w
-leads_whole BeforeHtml x w = edges.before_html TextTurns
-leads_whole BeforeHead x w = edges.before_head TextTurns
-leads_whole InHead x w = edges.in_head TextTurns
-leads_whole AfterHead x w = edges.after_head TextTurns
-leads_whole AfterBody x w = edges.after_body TextTurns refl
-leads_whole AfterAfterBody x w = edges.after_after_body TextTurns refl
-leads_whole _ x w = tt
-
-leads_null : (m : InsertionMode) (w : World) → Leads TextTurns m (rule m NullTurn w).ending
-leads_null Initial w = leads_initial_else TextTurns NullTurn w
-leads_null BeforeHtml w = edges.before_html TextTurns
-leads_null BeforeHead w = edges.before_head TextTurns
-leads_null InHead w = edges.in_head TextTurns
-leads_null AfterHead w = edges.after_head TextTurns
-leads_null AfterBody w = edges.after_body TextTurns refl
-leads_null AfterAfterBody w = edges.after_after_body TextTurns refl
-leads_null _ w = tt
-
-leads_eof : (m : InsertionMode) (w : World) → Leads EofTurns m (rule m EofTurn w).ending
-leads_eof Initial w = leads_initial_else EofTurns EofTurn w
-leads_eof BeforeHtml w = edges.before_html EofTurns
-leads_eof BeforeHead w = edges.before_head EofTurns
-leads_eof InHead w = edges.in_head EofTurns
-leads_eof AfterHead w = edges.after_head EofTurns
-leads_eof _ w = tt
-
-pub leads : (m : InsertionMode) (t : TurnText) (w : World) → Leads (kind_of_turn t) m (rule m t w).ending
-leads m (TagTurn tag) w = leads_tag m tag w
-leads m (CommentTurn x) w = leads_comment m x w
-leads m (TextTurn Whitespace x) w = leads_blank m x w
-leads m (TextTurn NotWhitespace x) w = leads_solid m x w
-leads m (TextTurn NotSplit x) w = leads_whole m x w
-leads m NullTurn w = leads_null m w
-leads m EofTurn w = leads_eof m w
 
 pub leads_next : (c : TurnKind) (m : InsertionMode) (x : Ending) (w : World) (k : InsertionMode) → Leads c m x → next_mode x w ≡ Some k → edges.Again c m k
 leads_next c m IsDone w k f h = absurd (cc)

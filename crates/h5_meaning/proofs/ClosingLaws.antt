@@ -11,11 +11,11 @@ use Rattle.h5_tag_sets.specs.TagSets.{block_end_names, heading_names, html_names
 use Rattle.h5_stack.specs.FormattingNames.{html_name}
 use Rattle.h5_stack.specs.Order.{but_first}
 use Rattle.h5_stack.specs.Scope.{cut_names, drop_while, first_passes, has_p_in_button_scope, in_scope, is_implied_but, later_names}
-use Rattle.h5_fits.specs.StageFits.{IsRootOpen}
+use Rattle.h5_fits.specs.Root.{IsRootOpen}
 use Rattle.h5_fits.proofs.BoolLaws.{and_both, and_not, or_neither}
 use Rattle.h5_fits.proofs.RoleLaws.{made_named, named_local}
 use Rattle.h5_fits.proofs.SetLaws.{implied_not_html, in_set}
-use Rattle.h5_fits.proofs.StageLaws.{open_cut, open_implied, open_pop, open_while}
+use Rattle.h5_fits.proofs.OpenLaws.{open_cut, open_implied, open_pop, open_while}
 use Rattle.h5_meaning.specs.Changes.{generate_implied_end_except, pop, pop_until_named, pop_while}
 use Rattle.h5_meaning.specs.Closing.{close_p_element, close_p_element_in_button_scope, generate_implied_end, pop_heading, pop_until_heading}
 use Rattle.h5_meaning.specs.Sound.{Sound}
@@ -36,7 +36,7 @@ names_apart (s ∷ set) other l h e =
     at none false k o f = f o
 
 -- so an element of one of them is none of the other
-sets_apart : (set other : List (List ℕ)) (n : QualName) → list_any (is_one_of other) set ≡ false → (is_same_text n.ns html_namespace && is_one_of other n.local) ≡ true → (is_same_text n.ns html_namespace && is_one_of set n.local) ≡ false
+pub sets_apart : (set other : List (List ℕ)) (n : QualName) → list_any (is_one_of other) set ≡ false → (is_same_text n.ns html_namespace && is_one_of other n.local) ≡ true → (is_same_text n.ns html_namespace && is_one_of set n.local) ≡ false
 sets_apart set other n h e = at (is_same_text n.ns html_namespace) (is_one_of set n.local) refl
   where
     at : (a b : Bool) → is_one_of set n.local ≡ b → (a && b) ≡ false
@@ -49,7 +49,7 @@ pub heading_not_implied : (n : QualName) → is_implied n ≡ true → is_headin
 unfolding is_implied is_heading implied_names heading_names
 heading_not_implied n h = sets_apart heading_names implied_names n refl h
 
-named_not_implied : (set : List (List ℕ)) (local : List ℕ) (n : QualName) → list_any (is_one_of implied_names) set ≡ false → is_one_of set local ≡ true → is_implied n ≡ true → is_html_named local n ≡ false
+pub named_not_implied : (set : List (List ℕ)) (local : List ℕ) (n : QualName) → list_any (is_one_of implied_names) set ≡ false → is_one_of set local ≡ true → is_implied n ≡ true → is_html_named local n ≡ false
 unfolding is_implied
 named_not_implied set local n none is_in h = at (is_html_named local n) refl
   where
@@ -65,25 +65,6 @@ heading_named_not_implied : (local : List ℕ) → is_one_of heading_names local
 unfolding implied_names heading_names
 heading_named_not_implied local heading n h = named_not_implied heading_names local n refl heading h
 
--- and none is a root
-set_not_html : (set : List (List ℕ)) (n : QualName) → is_one_of set (codes "html") ≡ false → (is_same_text n.ns html_namespace && is_one_of set n.local) ≡ true → is_html_named (codes "html") n ≡ false
-set_not_html set n none h = at (is_html_named (codes "html") n) refl
-  where
-    at : (b : Bool) → is_html_named (codes "html") n ≡ b → b ≡ false
-    at false e = refl
-    at true e = absurd (let inside = (and_both (is_same_text n.ns html_namespace) (is_one_of set n.local) h).1 in let same = ap (is_one_of set) (named_local (codes "html") n e) in cc)
-
-pub heading_not_html : (n : QualName) → is_heading n ≡ true → is_html_named (codes "html") n ≡ false
-unfolding is_heading heading_names
-heading_not_html n h = set_not_html heading_names n refl h
-
-pub block_not_html : (local : List ℕ) → is_one_of block_end_names local ≡ true → (n : QualName) → is_html_named local n ≡ true → is_html_named (codes "html") n ≡ false
-unfolding block_end_names
-block_not_html local is_block n h = set_not_html block_end_names n refl (in_set block_end_names local n is_block h)
-
-p_not_html : (n : QualName) → is_html_named (codes "p") n ≡ true → is_html_named (codes "html") n ≡ false
-p_not_html n h = set_not_html (codes "p" ∷ []) n refl (in_set (codes "p" ∷ []) (codes "p") n refl h)
-
 -- names after closing
 pub names-all_implied : (choices : SinkChoices) (w : World) → names_of (generate_implied_end choices w) ≡ drop_while is_implied (names_of w)
 unfolding generate_implied_end
@@ -97,15 +78,6 @@ pub names-close_p : (choices : SinkChoices) (w : World) → names_of (close_p_el
 unfolding close_p_element
 names-close_p choices w =
     names-cut (codes "p") (generate_implied_end_except choices (codes "p") w) ∙ ap (cut_names (is_html_named (codes "p"))) (names-implied choices (codes "p") w)
-
-pub names-close_p_in_scope : (choices : SinkChoices) (w : World)
-    → names_of (close_p_element_in_button_scope choices w) ≡ cond (has_p_in_button_scope (names_of w)) (cut_names (is_html_named (codes "p")) (drop_while (is_implied_but (codes "p")) (names_of w))) (names_of w)
-unfolding close_p_element_in_button_scope
-names-close_p_in_scope choices w = at (has_p_in_button_scope (names_of w))
-  where
-    at : (b : Bool) → names_of (cond b (close_p_element choices w) w) ≡ cond b (cut_names (is_html_named (codes "p")) (drop_while (is_implied_but (codes "p")) (names_of w))) (names_of w)
-    at true = names-close_p choices w
-    at false = refl
 
 pub names-pop_heading : (choices : SinkChoices) (w : World) → names_of (pop_heading choices w) ≡ cond (first_passes is_heading (names_of w)) (later_names (names_of w)) (names_of w)
 unfolding pop_heading
@@ -151,35 +123,6 @@ pub heading_stays_current : (choices : SinkChoices) (local : List ℕ) (w : Worl
 heading_stays_current choices local w heading h =
     ap (first_passes (is_html_named local)) (names-all_implied choices w) ∙ stays_current (is_html_named local) is_implied (heading_named_not_implied local heading) (names_of w) h
 
--- the root stays open
-pub open_close_p : (ns : List QualName) → in_scope (is_html_named (codes "p")) is_button_scope ns ≡ true → IsRootOpen ns → IsRootOpen (cut_names (is_html_named (codes "p")) (drop_while (is_implied_but (codes "p")) ns))
-open_close_p ns c h =
-    let low = drop_while (is_implied_but (codes "p")) ns in
-    open_cut (is_html_named (codes "p")) is_button_scope low p_not_html
-    (still_in_scope (is_html_named (codes "p")) is_button_scope (is_implied_but (codes "p")) (λ n e. (and_not (is_implied n) (is_html_named (codes "p") n) e).1) ns c)
-    (open_implied (codes "p") ns h)
-
-pub open_close_p_in_scope : (ns : List QualName) → IsRootOpen ns → IsRootOpen (cond (has_p_in_button_scope ns) (cut_names (is_html_named (codes "p")) (drop_while (is_implied_but (codes "p")) ns)) ns)
-open_close_p_in_scope ns h = at (has_p_in_button_scope ns) refl
-  where
-    at : (b : Bool) → has_p_in_button_scope ns ≡ b → IsRootOpen (cond b (cut_names (is_html_named (codes "p")) (drop_while (is_implied_but (codes "p")) ns)) ns)
-    at true e = open_close_p ns e h
-    at false e = h
-
-pub open_pop_heading : (ns : List QualName) → IsRootOpen ns → IsRootOpen (cond (first_passes is_heading ns) (later_names ns) ns)
-open_pop_heading [] h = h
-open_pop_heading (n ∷ ns) h = at (is_heading n) refl
-  where
-    at : (b : Bool) → is_heading n ≡ b → IsRootOpen (cond b ns (n ∷ ns))
-    at true e = open_pop n ns (heading_not_html n e) h
-    at false e = h
-
--- up to and with one in default scope, which isn't `html` and whose end tag isn't implied
-pub open_close : (is : QualName → Bool) (ns : List QualName) → ((n : QualName) → is n ≡ true → is_html_named (codes "html") n ≡ false) → ((n : QualName) → is_implied n ≡ true → is n ≡ false) → in_scope is is_default_scope ns ≡ true → IsRootOpen ns
-    → IsRootOpen (cut_names is (drop_while is_implied ns))
-open_close is ns other apart c h =
-    open_cut is is_default_scope (drop_while is_implied ns) other (still_in_scope is is_default_scope is_implied apart ns c) (open_while is_implied ns implied_not_html h)
-
 -- a `p` that was just made is in scope
 pub new_p_in_scope : (ns : List QualName) → in_scope (is_html_named (codes "p")) is_button_scope (html_name (codes "p") ∷ ns) ≡ true
 new_p_in_scope ns = ap (λ b. cond b true (cond (is_button_scope (html_name (codes "p"))) false (in_scope (is_html_named (codes "p")) is_button_scope ns))) (made_named (codes "p"))
@@ -200,18 +143,3 @@ while_holds P choices popped one (n ∷ ns) w k =
       | true ↦ while_holds P choices popped one ns (pop choices w) (one w k)
       | false ↦ k
     ]
-
-pub close_p_sound : (choices : SinkChoices) (w : World) → Sound w → Sound (close_p_element choices w)
-unfolding close_p_element generate_implied_end_except pop_until_named
-close_p_sound choices w k =
-    let v = generate_implied_end_except choices (codes "p") w in
-    all_cut v.forest (is_html_named (codes "p")) (names_of v) v.stack (while_holds Sound choices (is_implied_but (codes "p")) (pop_sound choices) (names_of w) w k)
-
-pub close_p_in_scope_sound : (choices : SinkChoices) (w : World) → Sound w → Sound (close_p_element_in_button_scope choices w)
-unfolding close_p_element_in_button_scope
-close_p_in_scope_sound choices w k =
-    elim (has_p_in_button_scope (names_of w)) as (λ b. Sound (cond b (close_p_element choices w) w)) [ true ↦ close_p_sound choices w k | false ↦ k ]
-
-pub pop_heading_sound : (choices : SinkChoices) (w : World) → Sound w → Sound (pop_heading choices w)
-unfolding pop_heading
-pop_heading_sound choices w k = elim (first_passes is_heading (names_of w)) as (λ b. Sound (cond b (pop choices w) w)) [ true ↦ pop_sound choices w k | false ↦ k ]

@@ -1,26 +1,32 @@
 -- A text that is cut in two is the whole text.
-use Rattle.std.proofs.Common.{◌≡◌, ℕ, Bool, true, false, ◌&&◌, List, [], ◌∷◌, ◌++◌, refl, ap, sym, ◌∙◌}
+use Rattle.std.proofs.Common.{◌≡◌, ℕ, Bool, true, false, cond, ◌&&◌, List, [], ◌∷◌, ◌++◌, codes, refl, ap, sym, ◌∙◌, append_assoc}
 use Rattle.std.proofs.lemmas.List.{append-nil}
 use Rattle.h5_interface.specs.SinkChoices.{SinkChoices}
 use Rattle.h5_interface.specs.Forest.{ChildText, Forest}
+use Rattle.h5_tag_sets.specs.TagSets.{is_html_named}
+use Rattle.h5_stack.specs.FormattingNames.{AllFormatting}
 use Rattle.h5_types.specs.TurnText.{TextTurn, TurnText}
 use Rattle.h5_types.specs.declared.modes.InsertionMode.{InsertionMode}
 use Rattle.h5_types.specs.declared.modes.SplitStatus.TheVariants.{NotWhitespace}
-use Rattle.h5_types.specs.declared.modes.InsertionMode.TheVariants.{Initial, BeforeHtml, BeforeHead, InHead, AfterHead, InBody, AfterBody, AfterAfterBody}
+use Rattle.h5_types.specs.declared.modes.InsertionMode.TheVariants.{Initial, BeforeHtml, BeforeHead, InHead, AfterHead, InBody, InTable, InTableText, InCaption, InColumnGroup, InTableBody, InRow, InCell, AfterBody, AfterAfterBody}
 use Rattle.h5_meaning.specs.Blanks.{is_blank, all_blank, blanks_of, rest_of}
-use Rattle.h5_meaning.specs.Changes.{append_text, set_frameset_ok_by_text, with_forest}
+use Rattle.h5_meaning.specs.Changes.{append_pending_text, append_text, pop, save_mode, set_foster, set_frameset_ok_by_text, set_mode, with_forest}
 use Rattle.h5_meaning.specs.Formatting.{reconstruct_active_formatting_elements}
 use Rattle.h5_meaning.specs.AfterBody.{back_to_body}
 use Rattle.h5_meaning.specs.AfterHead.{after_head_else}
 use Rattle.h5_meaning.specs.BeforeHead.{before_head_else}
 use Rattle.h5_meaning.specs.BeforeHtml.{before_html_else}
+use Rattle.h5_meaning.specs.InBody.{current_is}
+use Rattle.h5_meaning.specs.InColumnGroup.{close_the_column_group, in_column_group_else}
 use Rattle.h5_meaning.specs.InHead.{in_head_else}
+use Rattle.h5_meaning.specs.InTable.{keeps_text}
 use Rattle.h5_meaning.specs.InitialMode.{initial_else}
-use Rattle.h5_meaning.specs.Rows.{Row, choose}
-use Rattle.h5_meaning.specs.Text.{after_row, if_any, split, dropped, by_else, text_in_body, text_after_body, text_after_head, text_in_head, text_before_head, text_before_html, text_initial, text_in, text_rule}
+use Rattle.h5_meaning.specs.Rows.{Again, Pop, Row, choose, ignored, row}
+use Rattle.h5_meaning.specs.Text.{after_row, all_blanks, closes_column_group, fostered_text, if_any, split, dropped, by_else, text_in_body, text_in_column_group, text_in_table, text_in_table_text, text_after_body, text_after_head, text_in_head, text_before_head, text_before_html, text_initial, text_in, text_rule}
 use Rattle.h5_meaning.specs.Place.{appropriate_place, place, put}
 use Rattle.h5_meaning.specs.World.{World}
 use Rattle.h5_meaning.proofs.FormattingLaws.{reconstruct_after_flag_and_text}
+use Rattle.h5_meaning.proofs.TableTextLaws.{current_name_kept, fostered_keeps}
 use Rattle.h5_meaning.proofs.TextForestLaws.{place_same, put_text_twice, text_same}
 use Rattle.h5_meaning.proofs.TreeLaws.{tree_reconstruct}
 
@@ -104,22 +110,35 @@ any_twice f b [] u w = refl
 any_twice f b (x ∷ t) [] w = ap (λ z. f z w) (sym (append-nil (x ∷ t)))
 any_twice f b (x ∷ t) (y ∷ u) w = b.twice (x ∷ t) (y ∷ u) w
 
+any_kept : (P : World → Type 0) (f : List ℕ → World → World) → ((t : List ℕ) (w : World) → P w → P (f t w)) → (t : List ℕ) (w : World) → P w → P (if_any f t w)
+any_kept P f keeps [] w h = h
+any_kept P f keeps (x ∷ t) w h = keeps (x ∷ t) w h
+
 -- the law of a rule of what is no blank: cut, it goes on by the rule of the view that is reached
 abbrev Law : SinkChoices → (List ℕ → World → World) → Type 0
 Law choices f = (b : ℕ) (t : List ℕ) (d : ℕ) (u : List ℕ) (w : World) → f ((b ∷ t) ++ d ∷ u) w ≡ text_rule choices (d ∷ u) (f (b ∷ t) w)
 
-split_cut : (choices : SinkChoices) (m : InsertionMode) (blanks others : List ℕ → World → World) → Blanks blanks → Law choices others → ((t : List ℕ) (w : World) → w.mode ≡ m → text_rule choices t w ≡ split blanks others t w)
-    → (t : List ℕ) (d : ℕ) (u : List ℕ) (w : World) → w.mode ≡ m → Cut t (d ∷ u) → split blanks others (t ++ d ∷ u) w ≡ text_rule choices (d ∷ u) (split blanks others t w)
-split_cut choices m blanks others bs law is t d u w h (AllBlank e f g i) =
+abbrev LawWhere : SinkChoices → (World → Type 0) → (List ℕ → World → World) → Type 0
+LawWhere choices P f = (b : ℕ) (t : List ℕ) (d : ℕ) (u : List ℕ) (w : World) → P w → f ((b ∷ t) ++ d ∷ u) w ≡ text_rule choices (d ∷ u) (f (b ∷ t) w)
+
+-- a split where something holds that its rule of blanks keeps
+split_cut_where : (choices : SinkChoices) (P : World → Type 0) (blanks others : List ℕ → World → World) → Blanks blanks → ((t : List ℕ) (w : World) → P w → P (blanks t w)) → LawWhere choices P others → ((t : List ℕ) (w : World) → P w → text_rule choices t w ≡ split blanks others t w)
+    → (t : List ℕ) (d : ℕ) (u : List ℕ) (w : World) → P w → Cut t (d ∷ u) → split blanks others (t ++ d ∷ u) w ≡ text_rule choices (d ∷ u) (split blanks others t w)
+split_cut_where choices P blanks others bs keeps law is t d u w h (AllBlank e f g i) =
     let v = if_any blanks t w in
     let left : split blanks others (t ++ d ∷ u) w ≡ split blanks others (d ∷ u) v = rw (g, i) (ap (λ x. if_any others (rest_of (d ∷ u)) x) (sym (any_twice blanks bs t (blanks_of (d ∷ u)) w))) in
     let right : split blanks others t w ≡ v = rw (e, f) refl in
-    left ∙ sym (is (d ∷ u) v (any_mode blanks bs t w ∙ h)) ∙ ap (λ x. text_rule choices (d ∷ u) x) (sym right)
-split_cut choices m blanks others bs law is t d u w h (HasRest b r e f g) =
+    left ∙ sym (is (d ∷ u) v (any_kept P blanks keeps t w h)) ∙ ap (λ x. text_rule choices (d ∷ u) x) (sym right)
+split_cut_where choices P blanks others bs keeps law is t d u w h (HasRest b r e f g) =
     let v = if_any blanks (blanks_of t) w in
     let left : split blanks others (t ++ d ∷ u) w ≡ others ((b ∷ r) ++ d ∷ u) v = rw (f, g) refl in
     let right : split blanks others t w ≡ others (b ∷ r) v = rw e refl in
-    left ∙ law b r d u v ∙ ap (λ x. text_rule choices (d ∷ u) x) (sym right)
+    left ∙ law b r d u v (any_kept P blanks keeps (blanks_of t) w h) ∙ ap (λ x. text_rule choices (d ∷ u) x) (sym right)
+
+split_cut : (choices : SinkChoices) (m : InsertionMode) (blanks others : List ℕ → World → World) → Blanks blanks → Law choices others → ((t : List ℕ) (w : World) → w.mode ≡ m → text_rule choices t w ≡ split blanks others t w)
+    → (t : List ℕ) (d : ℕ) (u : List ℕ) (w : World) → w.mode ≡ m → Cut t (d ∷ u) → split blanks others (t ++ d ∷ u) w ≡ text_rule choices (d ∷ u) (split blanks others t w)
+split_cut choices m blanks others bs law is t d u w h c =
+    split_cut_where choices (λ (v : World). v.mode ≡ m) blanks others bs (λ s v e. bs.mode s v ∙ e) (λ x y z q v e. law x y z q v) is t d u w h c
 
 -- the law of a mode
 abbrev Holds : SinkChoices → InsertionMode → Type 0
@@ -160,10 +179,27 @@ leads_initial choices = record {
 pub by_mode : (choices : SinkChoices) (m : InsertionMode) (t : List ℕ) (w : World) → w.mode ≡ m → text_rule choices t w ≡ text_in m choices t w
 by_mode choices m t w h = ap (λ k. text_in k choices t w) h
 
+-- a rule that keeps the mode, and of which two are one
+stays_holds : (choices : SinkChoices) (m : InsertionMode) (f : List ℕ → World → World) → Blanks f → ((t : List ℕ) (w : World) → w.mode ≡ m → text_rule choices t w ≡ f t w)
+    → (b : ℕ) (t : List ℕ) (d : ℕ) (u : List ℕ) (w : World) → w.mode ≡ m → f ((b ∷ t) ++ d ∷ u) w ≡ text_rule choices (d ∷ u) (f (b ∷ t) w)
+stays_holds choices m f bs is b t d u w h = sym (bs.twice (b ∷ t) (d ∷ u) w) ∙ sym (is (d ∷ u) (f (b ∷ t) w) (bs.mode (b ∷ t) w ∙ h))
+
 in_body_holds : (choices : SinkChoices) → Holds choices InBody
-in_body_holds choices b t d u w h =
-    sym ((in_body_twice choices).twice (b ∷ t) (d ∷ u) w)
-    ∙ sym (by_mode choices InBody (d ∷ u) (text_in_body choices (b ∷ t) w) ((in_body_twice choices).mode (b ∷ t) w ∙ h))
+in_body_holds choices = stays_holds choices InBody (text_in_body choices) (in_body_twice choices) (λ s v e. by_mode choices InBody s v e)
+
+in_caption_holds : (choices : SinkChoices) → Holds choices InCaption
+in_caption_holds choices = stays_holds choices InCaption (text_in_body choices) (in_body_twice choices) (λ s v e. by_mode choices InCaption s v e)
+
+in_cell_holds : (choices : SinkChoices) → Holds choices InCell
+in_cell_holds choices = stays_holds choices InCell (text_in_body choices) (in_body_twice choices) (λ s v e. by_mode choices InCell s v e)
+
+-- a text that is kept back is appended to what is kept back already
+kept_twice : Blanks text_in_table_text
+unfolding append_pending_text
+kept_twice = record { twice = λ t u w. ap (λ p. let x : World = record w { pending = p } in x) (append_assoc w.pending t u); mode = λ t w. refl }
+
+in_table_text_holds : (choices : SinkChoices) → Holds choices InTableText
+in_table_text_holds choices = stays_holds choices InTableText text_in_table_text kept_twice (λ s v e. by_mode choices InTableText s v e)
 
 after_body_holds : (choices : SinkChoices) → Holds choices AfterBody
 unfolding text_after_body
@@ -200,23 +236,144 @@ unfolding text_initial
 initial_holds choices b t d u w h =
     split_cut choices Initial dropped (by_else choices initial_else (text_before_html choices)) drops (else_law choices initial_else BeforeHtml (leads_initial choices) (before_html_holds choices)) (λ s v e. by_mode choices Initial s v e) (b ∷ t) d u w h (cut (b ∷ t) (d ∷ u))
 
+-- what is fostered twice is fostered once: the flag goes off and on again
+body_foster : (choices : SinkChoices) (t : List ℕ) (w : World) → (text_in_body choices t w).foster ≡ w.foster
+unfolding text_in_body append_text set_frameset_ok_by_text
+body_foster choices t w = ap (λ (v : World). v.foster) (tree_reconstruct choices w)
+
+fostered_twice : (choices : SinkChoices) (t u : List ℕ) (w : World) → fostered_text choices u (fostered_text choices t w) ≡ fostered_text choices (t ++ u) w
+fostered_twice choices t u w =
+    let v = text_in_body choices t (set_foster true w) in
+    let on : set_foster true (set_foster false v) ≡ v = ap (λ b. set_foster b v) (sym (body_foster choices t (set_foster true w))) in
+    ap (λ x. set_foster false (text_in_body choices u x)) on ∙ ap (set_foster false) ((in_body_twice choices).twice t u (set_foster true w))
+
+fostered_mode : (choices : SinkChoices) (t : List ℕ) (w : World) → (fostered_text choices t w).mode ≡ w.mode
+fostered_mode choices t w = (in_body_twice choices).mode t (set_foster true w)
+
+-- in a table, a row group and a row: either way
+kept_back : (choices : SinkChoices) (t : List ℕ) (w : World) → keeps_text w ≡ true → text_in_table choices t w ≡ text_in_table_text t (set_mode InTableText (save_mode w))
+unfolding text_in_table
+kept_back choices t w e = ap (λ b. cond b (text_in_table_text t (set_mode InTableText (save_mode w))) (fostered_text choices t w)) e
+
+fosters : (choices : SinkChoices) (t : List ℕ) (w : World) → keeps_text w ≡ false → text_in_table choices t w ≡ fostered_text choices t w
+unfolding text_in_table
+fosters choices t w e = ap (λ b. cond b (text_in_table_text t (set_mode InTableText (save_mode w))) (fostered_text choices t w)) e
+
+-- the law of a mode, where the list of active formatting elements is of their names
+abbrev HoldsListed : SinkChoices → InsertionMode → Type 0
+HoldsListed choices m = (b : ℕ) (t : List ℕ) (d : ℕ) (u : List ℕ) (w : World) → w.mode ≡ m → AllFormatting w.formatting → text_in m choices ((b ∷ t) ++ d ∷ u) w ≡ text_rule choices (d ∷ u) (text_in m choices (b ∷ t) w)
+
+table_holds : (choices : SinkChoices) (m : InsertionMode) → ((t : List ℕ) (w : World) → w.mode ≡ m → text_rule choices t w ≡ text_in_table choices t w)
+    → (b : ℕ) (t : List ℕ) (d : ℕ) (u : List ℕ) (w : World) → w.mode ≡ m → AllFormatting w.formatting → text_in_table choices ((b ∷ t) ++ d ∷ u) w ≡ text_rule choices (d ∷ u) (text_in_table choices (b ∷ t) w)
+table_holds choices m is b t d u w h k = at (keeps_text w) refl
+  where
+    at : (o : Bool) → keeps_text w ≡ o → text_in_table choices ((b ∷ t) ++ d ∷ u) w ≡ text_rule choices (d ∷ u) (text_in_table choices (b ∷ t) w)
+    at true e =
+        let v = set_mode InTableText (save_mode w) in
+        kept_back choices ((b ∷ t) ++ d ∷ u) w e
+        ∙ in_table_text_holds choices b t d u v refl
+        ∙ ap (text_rule choices (d ∷ u)) (sym (kept_back choices (b ∷ t) w e))
+    at false e =
+        let v = fostered_text choices (b ∷ t) w in
+        fosters choices ((b ∷ t) ++ d ∷ u) w e
+        ∙ sym (fostered_twice choices (b ∷ t) (d ∷ u) w)
+        ∙ sym (fosters choices (d ∷ u) v (fostered_keeps choices (b ∷ t) w k e))
+        ∙ sym (is (d ∷ u) v (fostered_mode choices (b ∷ t) w ∙ h))
+        ∙ ap (text_rule choices (d ∷ u)) (sym (fosters choices (b ∷ t) w e))
+
+in_table_holds : (choices : SinkChoices) → HoldsListed choices InTable
+in_table_holds choices = table_holds choices InTable (λ s v e. by_mode choices InTable s v e)
+
+in_table_body_holds : (choices : SinkChoices) → HoldsListed choices InTableBody
+in_table_body_holds choices = table_holds choices InTableBody (λ s v e. by_mode choices InTableBody s v e)
+
+in_row_holds : (choices : SinkChoices) → HoldsListed choices InRow
+in_row_holds choices = table_holds choices InRow (λ s v e. by_mode choices InRow s v e)
+
+-- in a column group that is the current node
+record Closes (w : World) : Type 0 where
+  mode : w.mode ≡ InColumnGroup
+  current : current_is (codes "colgroup") w ≡ true
+  listed : AllFormatting w.formatting
+
+blanks_close : (t : List ℕ) (w : World) → Closes w → Closes (append_text t w)
+unfolding append_text
+blanks_close t w c = record { mode = appends.mode t w ∙ c.mode; current = current_name_kept (is_html_named (codes "colgroup")) t w ∙ c.current; listed = c.listed }
+
+closes_next : (choices : SinkChoices) (t : List ℕ) (w : World) → current_is (codes "colgroup") w ≡ true → by_else choices in_column_group_else (text_in_table choices) t w ≡ text_in_table choices t (set_mode InTable (pop choices w))
+unfolding close_the_column_group
+closes_next choices t w e = ap (λ b. text_in_table choices t (after_row choices (choose b (row (Pop ∷ []) (Again InTable)) ignored) w)) e
+
+closes_law : (choices : SinkChoices) → LawWhere choices Closes (by_else choices in_column_group_else (text_in_table choices))
+unfolding pop
+closes_law choices b t d u w c =
+    closes_next choices ((b ∷ t) ++ d ∷ u) w c.current
+    ∙ in_table_holds choices b t d u (set_mode InTable (pop choices w)) refl c.listed
+    ∙ ap (text_rule choices (d ∷ u)) (sym (closes_next choices (b ∷ t) w c.current))
+
+-- and in any other, blanks alone
+all_blanks-append : (t u : List ℕ) → all_blanks (t ++ u) ≡ all_blanks t ++ all_blanks u
+all_blanks-append [] u = refl
+all_blanks-append (b ∷ t) u = elim (is_blank b) as (λ v. cond v (b ∷ all_blanks (t ++ u)) (all_blanks (t ++ u)) ≡ cond v (b ∷ all_blanks t) (all_blanks t) ++ all_blanks u) [
+  | true ↦ ap (λ x. b ∷ x) (all_blanks-append t u)
+  | false ↦ all_blanks-append t u
+]
+
+column_closes : (choices : SinkChoices) (t : List ℕ) (w : World) → current_is (codes "colgroup") w ≡ true → text_in_column_group choices t w ≡ closes_column_group choices t w
+unfolding text_in_column_group
+column_closes choices t w e = ap (λ b. cond b (closes_column_group choices t w) (if_any append_text (all_blanks t) w)) e
+
+column_stays : (choices : SinkChoices) (t : List ℕ) (w : World) → current_is (codes "colgroup") w ≡ false → text_in_column_group choices t w ≡ if_any append_text (all_blanks t) w
+unfolding text_in_column_group
+column_stays choices t w e = ap (λ b. cond b (closes_column_group choices t w) (if_any append_text (all_blanks t) w)) e
+
+column_group_holds : (choices : SinkChoices) → HoldsListed choices InColumnGroup
+column_group_holds choices b t d u w h k = at (current_is (codes "colgroup") w) refl
+  where
+    is : (s : List ℕ) (v : World) → v.mode ≡ InColumnGroup → text_rule choices s v ≡ text_in_column_group choices s v
+    is s v e = by_mode choices InColumnGroup s v e
+
+    at : (o : Bool) → current_is (codes "colgroup") w ≡ o → text_in_column_group choices ((b ∷ t) ++ d ∷ u) w ≡ text_rule choices (d ∷ u) (text_in_column_group choices (b ∷ t) w)
+    at true e =
+        column_closes choices ((b ∷ t) ++ d ∷ u) w e
+        ∙ split_cut_where choices Closes append_text (by_else choices in_column_group_else (text_in_table choices)) appends blanks_close (closes_law choices) (λ s v c. is s v c.mode ∙ column_closes choices s v c.current) (b ∷ t) d u w
+        (record { mode = h; current = e; listed = k }) (cut (b ∷ t) (d ∷ u))
+        ∙ ap (text_rule choices (d ∷ u)) (sym (column_closes choices (b ∷ t) w e))
+    at false e =
+        let v = if_any append_text (all_blanks (b ∷ t)) w in
+        let stays : current_is (codes "colgroup") v ≡ false = any_kept (λ x. current_is (codes "colgroup") x ≡ false) append_text (λ s x i. current_name_kept (is_html_named (codes "colgroup")) s x ∙ i) (all_blanks (b ∷ t)) w e in
+        column_stays choices ((b ∷ t) ++ d ∷ u) w e
+        ∙ ap (λ x. if_any append_text x w) (all_blanks-append (b ∷ t) (d ∷ u))
+        ∙ sym (any_twice append_text appends (all_blanks (b ∷ t)) (all_blanks (d ∷ u)) w)
+        ∙ sym (column_stays choices (d ∷ u) v stays)
+        ∙ sym (is (d ∷ u) v (any_mode append_text appends (all_blanks (b ∷ t)) w ∙ h))
+        ∙ ap (text_rule choices (d ∷ u)) (sym (column_stays choices (b ∷ t) w e))
+
 -- a mode that isn't reached yet, whose rule of texts does nothing
 unreached_holds : (choices : SinkChoices) (m : InsertionMode) → ((t : List ℕ) (w : World) → text_in m choices t w ≡ w) → Holds choices m
 unreached_holds choices m none b t d u w h =
     none ((b ∷ t) ++ d ∷ u) w ∙ sym (none (d ∷ u) w) ∙ sym (by_mode choices m (d ∷ u) w h) ∙ ap (text_rule choices (d ∷ u)) (sym (none (b ∷ t) w))
 
-holds : (choices : SinkChoices) (m : InsertionMode) → Holds choices m
-holds choices Initial = initial_holds choices
-holds choices BeforeHtml = before_html_holds choices
-holds choices BeforeHead = before_head_holds choices
-holds choices InHead = in_head_holds choices
-holds choices AfterHead = after_head_holds choices
-holds choices InBody = in_body_holds choices
-holds choices AfterBody = after_body_holds choices
-holds choices AfterAfterBody = after_after_body_holds choices
-holds choices m = unreached_holds choices m (λ t w. refl)
+holds : (choices : SinkChoices) (m : InsertionMode) → HoldsListed choices m
+holds choices Initial = λ b t d u w h k. initial_holds choices b t d u w h
+holds choices BeforeHtml = λ b t d u w h k. before_html_holds choices b t d u w h
+holds choices BeforeHead = λ b t d u w h k. before_head_holds choices b t d u w h
+holds choices InHead = λ b t d u w h k. in_head_holds choices b t d u w h
+holds choices AfterHead = λ b t d u w h k. after_head_holds choices b t d u w h
+holds choices InBody = λ b t d u w h k. in_body_holds choices b t d u w h
+holds choices InTable = in_table_holds choices
+holds choices InTableText = λ b t d u w h k. in_table_text_holds choices b t d u w h
+holds choices InCaption = λ b t d u w h k. in_caption_holds choices b t d u w h
+holds choices InColumnGroup = column_group_holds choices
+holds choices InTableBody = in_table_body_holds choices
+holds choices InRow = in_row_holds choices
+holds choices InCell = λ b t d u w h k. in_cell_holds choices b t d u w h
+holds choices AfterBody = λ b t d u w h k. after_body_holds choices b t d u w h
+holds choices AfterAfterBody = λ b t d u w h k. after_after_body_holds choices b t d u w h
+holds choices m = λ b t d u w h k. unreached_holds choices m (λ s v. refl) b t d u w h
 
--- The rule on a text and another is the rule on the first, and then the text rule of the view that is
--- reached on the second.
-pub text_cut : (choices : SinkChoices) (b : ℕ) (t : List ℕ) (d : ℕ) (u : List ℕ) (w : World) → text_rule choices ((b ∷ t) ++ d ∷ u) w ≡ text_rule choices (d ∷ u) (text_rule choices (b ∷ t) w)
-text_cut choices b t d u w = holds choices w.mode b t d u w refl
+-- The rule on a text and another is the rule on the first, and then the text rule of the view that is reached on the
+-- second. The list of active formatting elements is of their names: were a `table` listed, it could be made anew where a
+-- text of a table is fostered, and what follows would be kept back.
+pub text_cut : (choices : SinkChoices) (b : ℕ) (t : List ℕ) (d : ℕ) (u : List ℕ) (w : World) → AllFormatting w.formatting → text_rule choices ((b ∷ t) ++ d ∷ u) w ≡ text_rule choices (d ∷ u) (text_rule choices (b ∷ t) w)
+text_cut choices b t d u w k = holds choices w.mode b t d u w refl k

@@ -1,20 +1,23 @@
 -- No text sets the newline flag.
-use Rattle.std.proofs.Common.{◌≡◌, ℕ, true, false, List, [], ◌∷◌, refl, ap, ◌∙◌}
+use Rattle.std.proofs.Common.{◌≡◌, ℕ, Bool, true, false, cond, List, [], ◌∷◌, codes, refl, ap, ◌∙◌}
 use Rattle.h5_interface.specs.SinkChoices.{SinkChoices}
 use Rattle.h5_types.specs.TurnText.{TextTurn, TurnText}
 use Rattle.h5_types.specs.declared.modes.InsertionMode.{InsertionMode}
 use Rattle.h5_types.specs.declared.modes.SplitStatus.TheVariants.{NotWhitespace}
-use Rattle.h5_types.specs.declared.modes.InsertionMode.TheVariants.{Initial, BeforeHtml, BeforeHead, InHead, AfterHead, InBody, AfterBody, AfterAfterBody}
+use Rattle.h5_types.specs.declared.modes.InsertionMode.TheVariants.{Initial, BeforeHtml, BeforeHead, InHead, AfterHead, InBody, InTable, InTableText, InCaption, InColumnGroup, InTableBody, InRow, InCell, AfterBody, AfterAfterBody}
 use Rattle.h5_meaning.specs.Blanks.{blanks_of, rest_of}
-use Rattle.h5_meaning.specs.Changes.{append_text, insert_element, insert_head, create_root, set_frameset_ok_by_text, pop, set_quirks_mode}
+use Rattle.h5_meaning.specs.Changes.{append_pending_text, append_text, insert_element, insert_head, create_root, save_mode, set_foster, set_frameset_ok_by_text, set_mode, pop, set_quirks_mode}
 use Rattle.h5_meaning.specs.AfterBody.{back_to_body}
 use Rattle.h5_meaning.specs.AfterHead.{after_head_else}
 use Rattle.h5_meaning.specs.BeforeHead.{before_head_else}
 use Rattle.h5_meaning.specs.BeforeHtml.{before_html_else}
+use Rattle.h5_meaning.specs.InBody.{current_is}
+use Rattle.h5_meaning.specs.InColumnGroup.{close_the_column_group, in_column_group_else}
 use Rattle.h5_meaning.specs.InHead.{in_head_else}
+use Rattle.h5_meaning.specs.InTable.{keeps_text}
 use Rattle.h5_meaning.specs.InitialMode.{initial_else}
-use Rattle.h5_meaning.specs.Rows.{Row, choose}
-use Rattle.h5_meaning.specs.Text.{after_row, if_any, split, dropped, by_else, text_in_body, text_after_body, text_after_head, text_in_head, text_before_head, text_before_html, text_initial, text_in, text_rule}
+use Rattle.h5_meaning.specs.Rows.{Again, Pop, Row, choose, ignored, row}
+use Rattle.h5_meaning.specs.Text.{after_row, all_blanks, closes_column_group, fostered_text, if_any, split, dropped, by_else, text_in_body, text_in_column_group, text_in_table, text_in_table_text, text_after_body, text_after_head, text_in_head, text_before_head, text_before_html, text_initial, text_in, text_rule}
 use Rattle.h5_meaning.specs.World.{World}
 use Rattle.h5_meaning.proofs.TreeLaws.{tree_reconstruct}
 
@@ -67,6 +70,31 @@ initial_keeps : (choices : SinkChoices) → Keeps (text_initial choices)
 unfolding text_initial
 initial_keeps choices = split_keeps dropped (by_else choices initial_else (text_before_html choices)) (λ t w. refl) (else_keeps choices initial_else (text_before_html choices) (before_html_keeps choices) (initial_row_keeps choices))
 
+-- in a table, a row group and a row, and in a column group
+table_keeps : (choices : SinkChoices) → Keeps (text_in_table choices)
+unfolding text_in_table append_pending_text
+table_keeps choices t w = at (keeps_text w)
+  where
+    at : (b : Bool) → (cond b (text_in_table_text t (set_mode InTableText (save_mode w))) (fostered_text choices t w)).ignore_lf ≡ w.ignore_lf
+    at true = refl
+    at false = body_keeps choices t (set_foster true w)
+
+column_row_keeps : (choices : SinkChoices) (t : List ℕ) (w : World) → (after_row choices (in_column_group_else (TextTurn NotWhitespace t) w) w).ignore_lf ≡ w.ignore_lf
+unfolding close_the_column_group pop
+column_row_keeps choices t w = elim (current_is (codes "colgroup") w) as (λ b. (after_row choices (choose b (row (Pop ∷ []) (Again InTable)) ignored) w).ignore_lf ≡ w.ignore_lf) [ true ↦ refl | false ↦ refl ]
+
+column_group_keeps : (choices : SinkChoices) → Keeps (text_in_column_group choices)
+unfolding text_in_column_group
+column_group_keeps choices t w = at (current_is (codes "colgroup") w)
+  where
+    at : (b : Bool) → (cond b (closes_column_group choices t w) (if_any append_text (all_blanks t) w)).ignore_lf ≡ w.ignore_lf
+    at true = split_keeps append_text (by_else choices in_column_group_else (text_in_table choices)) append_keeps (else_keeps choices in_column_group_else (text_in_table choices) (table_keeps choices) (column_row_keeps choices)) t w
+    at false = any_keeps append_text append_keeps (all_blanks t) w
+
+kept_keeps : Keeps text_in_table_text
+unfolding append_pending_text
+kept_keeps t w = refl
+
 in_keeps : (choices : SinkChoices) (m : InsertionMode) → Keeps (text_in m choices)
 in_keeps choices Initial = initial_keeps choices
 in_keeps choices BeforeHtml = before_html_keeps choices
@@ -74,6 +102,13 @@ in_keeps choices BeforeHead = before_head_keeps choices
 in_keeps choices InHead = in_head_keeps choices
 in_keeps choices AfterHead = after_head_keeps choices
 in_keeps choices InBody = body_keeps choices
+in_keeps choices InTable = table_keeps choices
+in_keeps choices InTableText = kept_keeps
+in_keeps choices InCaption = body_keeps choices
+in_keeps choices InColumnGroup = column_group_keeps choices
+in_keeps choices InTableBody = table_keeps choices
+in_keeps choices InRow = table_keeps choices
+in_keeps choices InCell = body_keeps choices
 in_keeps choices AfterBody = after_body_keeps choices
 in_keeps choices AfterAfterBody = after_body_keeps choices
 in_keeps choices _ = λ t w. refl

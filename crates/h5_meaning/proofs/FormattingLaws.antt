@@ -16,8 +16,8 @@ use Rattle.h5_stack.proofs.FreshLaws.{each_listed, listed_rearranged}
 use Rattle.h5_stack.proofs.KeptLaws.{lists_pushed}
 use Rattle.h5_stack.proofs.PushLaws.{lists_push_formatting}
 use Rattle.h5_stack.proofs.ReconstructLaws.{front_reconstructed, lists_reconstructed, open_after, reconstructed_is_open, reconstructed_none}
-use Rattle.h5_fits.specs.StageFits.{IsRootOpen}
-use Rattle.h5_fits.proofs.StageLaws.{open_push}
+use Rattle.h5_fits.specs.Root.{IsRootOpen}
+use Rattle.h5_fits.proofs.OpenLaws.{open_push}
 use Rattle.h5_meaning.specs.Changes.{append_text, insert_element, set_frameset_ok_by_text}
 use Rattle.h5_meaning.specs.Formatting.{create_formatting_element, insert_anew, insert_for, reconstruct_active_formatting_elements}
 use Rattle.h5_meaning.specs.Place.{place}

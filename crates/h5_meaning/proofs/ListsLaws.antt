@@ -2,26 +2,31 @@
 -- stack of open elements.
 use Rattle.std.proofs.Common.{◌≡◌, ◌≢◌, ℕ, Bool, true, false, cond, List, [], ◌∷◌, codes, Option, Some, None, refl}
 use Rattle.h5_names.specs.AttributeText.{AttributeText}
-use Rattle.h5_interface.specs.Forest.{ChildText, Forest}
+use Rattle.h5_names.specs.declared.qualified.QualName.{QualName}
+use Rattle.h5_interface.specs.Forest.{ChildText, Forest, parent_of}
 use Rattle.h5_interface.specs.SinkChoices.{Rearranges, SinkChoices}
 use Rattle.h5_interface.proofs.ForestLaws.{document_is_node}
 use Rattle.h5_interface.proofs.MakingLaws.{add_missing_rearranges}
-use Rattle.h5_tag_sets.specs.TagSets.{is_heading, is_implied}
+use Rattle.h5_tag_sets.specs.TagSets.{is_cell, is_heading, is_implied}
+use Rattle.h5_stack.specs.FormattingList.{MarkerEntry, clear_to_marker}
 use Rattle.h5_stack.specs.FormattingNames.{html_name}
 use Rattle.h5_stack.specs.Order.{second_from_last}
 use Rattle.h5_stack.specs.Scope.{first_passes, has_p_in_button_scope}
-use Rattle.h5_fits.specs.StageFits.{IsRootOpen}
-use Rattle.h5_stack.proofs.KeptLaws.{lists_pushed}
-use Rattle.h5_meaning.specs.Changes.{add_attrs_at, add_attrs_to_html, add_attrs_to_second, append_comment, append_comment_to_doc, append_comment_to_html, append_text, create_root, generate_implied_end_except, insert_and_pop_element, insert_element, insert_head, new_comment, new_element, pop, pop_until_named, push_new, set_frameset_ok_by_text, set_quirks_mode, with_forest}
-use Rattle.h5_meaning.specs.Closing.{close_p_element, close_p_element_in_button_scope, generate_implied_end, pop_heading, pop_until_heading}
-use Rattle.h5_meaning.specs.Formatting.{reconstruct_active_formatting_elements}
+use Rattle.h5_fits.specs.Root.{IsRootOpen}
+use Rattle.h5_stack.proofs.EachLaws.{each_cleared}
+use Rattle.h5_stack.proofs.KeptLaws.{lists_cleared, lists_marked, lists_pushed}
+use Rattle.h5_stack.proofs.PassLaws.{lists_cut_above, ordered_distinct}
+use Rattle.h5_meaning.specs.Changes.{add_attrs_at, add_attrs_to_html, add_attrs_to_second, append_comment, append_comment_to_doc, append_comment_to_html, append_pending_text, append_text, create_root, generate_implied_end_except, insert_and_pop_element, insert_and_pop_form, insert_element, insert_head, new_comment, new_element, pop, pop_until_current, pop_until_named, push_new, set_frameset_ok_by_text, set_quirks_mode, with_forest}
+use Rattle.h5_meaning.specs.Closing.{close_p_element, close_p_element_in_button_scope, generate_implied_end, pop_heading, pop_until_cell, pop_until_heading}
+use Rattle.h5_meaning.specs.Formatting.{clear_active_formatting_to_marker, insert_marker, reconstruct_active_formatting_elements}
 use Rattle.h5_meaning.specs.Place.{IsPlaceIn, LastChild, Place, place, put}
-use Rattle.h5_meaning.specs.Rows.{AddAttrsToHtml, AddAttrsToSecond, AdoptionAgency, AppendComment, AppendCommentToDoc, AppendCommentToHtml, AppendText, Change, ClosePElement, ClosePElementInButtonScope, CreateFormattingElement, CreateRoot, GenerateImpliedEnd, GenerateImpliedEndExcept, HandleMisnestedATags, HandleMisnestedNobrTags, InsertAndPopElement, InsertElement, InsertHead, Pop, PopHeading, PopUntilHeading, PopUntilNamed, ReconstructActiveFormattingElements, SetFramesetNotOk, SetFramesetOkByText, SetMode, SetQuirksMode, apply, apply_all}
+use Rattle.h5_meaning.specs.Rows.{AddAttrsToHtml, AddAttrsToSecond, AdoptionAgency, AppendComment, AppendCommentToDoc, AppendCommentToHtml, AppendPendingText, AppendText, Change, ClearActiveFormattingToMarker, ClosePElement, ClosePElementInButtonScope, CreateFormattingElement, CreateRoot, GenerateImpliedEnd, GenerateImpliedEndExcept, HandleMisnestedATags, HandleMisnestedNobrTags, InsertAndPopElement, InsertAndPopForm, InsertElement, InsertHead, InsertMarker, Pop, PopHeading, PopUntilCell, PopUntilCurrent, PopUntilHeading, PopUntilNamed, ReconstructActiveFormattingElements, ResetMode, SaveMode, SetFoster, SetFramesetNotOk, SetFramesetOkByText, SetMode, SetQuirksMode, TakePendingText, apply, apply_all}
 use Rattle.h5_meaning.specs.Sound.{HasLists, IsReady, Sound}
 use Rattle.h5_meaning.specs.World.{World, names_of, root}
 use Rattle.h5_meaning.proofs.AdoptionAgencyLaws.{Keeps, cut_keeps, implied_keeps, pop_keeps, until_named_keeps, while_keeps}
-use Rattle.h5_meaning.proofs.FormattingLaws.{lists_reconstruct, new_is_unlisted, sound_reconstruct}
-use Rattle.h5_meaning.proofs.PlaceLaws.{all_inserted, current_place_is_there, first_place, head_stands, new_comment_rearranges, new_element_rearranges, text_put_rearranges}
+use Rattle.h5_meaning.proofs.FormattingLaws.{all_listed, lists_reconstruct, new_is_unlisted, sound_reconstruct}
+use Rattle.h5_meaning.proofs.PlaceLaws.{all_inserted, current_place_is_there, first_place, form_stands, head_stands, new_comment_rearranges, new_element_rearranges, text_put_rearranges}
+use Rattle.h5_meaning.proofs.PopLaws.{all_cut_above}
 use Rattle.h5_meaning.proofs.SoundLaws.{all_rearranged, root_is_node}
 
 -- all stands, and the list agrees with the stack
@@ -83,6 +88,37 @@ module _ (w : World) (k : IsSteady w) where
   unfolding pop_until_heading
   steady_until_heading = kept_steady w _ (cut_keeps is_heading w k.sound k.lists)
 
+  steady_until_cell : IsSteady (pop_until_cell w)
+  unfolding pop_until_cell
+  steady_until_cell = kept_steady w _ (cut_keeps is_cell w k.sound k.lists)
+
+  steady_until_current : (is : QualName → Bool) → IsSteady (pop_until_current is w)
+  unfolding pop_until_current
+  steady_until_current is = record {
+    sound = all_cut_above w.forest is (names_of w) w.stack k.sound;
+    lists = lists_cut_above is (names_of w) w.stack w.formatting (ordered_distinct (parent_of w.forest) w.stack k.sound.stands.ordered) k.lists;
+  }
+
+  -- markers
+  steady_marker : IsSteady (insert_marker w)
+  unfolding insert_marker
+  steady_marker = record {
+    sound = all_listed w.forest w.stack w.formatting (MarkerEntry ∷ w.formatting) k.sound k.sound.listed k.sound.formatting;
+    lists = lists_marked w.stack w.formatting k.lists;
+  }
+
+  steady_cleared : IsSteady (clear_active_formatting_to_marker w)
+  unfolding clear_active_formatting_to_marker
+  steady_cleared = record {
+    sound = all_listed w.forest w.stack w.formatting (clear_to_marker w.formatting) k.sound (each_cleared _ w.formatting k.sound.listed) (each_cleared _ w.formatting k.sound.formatting);
+    lists = lists_cleared w.stack w.formatting k.lists;
+  }
+
+  -- text of a table
+  steady_pending : (t : List ℕ) → IsSteady (append_pending_text t w)
+  unfolding append_pending_text
+  steady_pending t = record { sound = k.sound; lists = k.lists }
+
 module _ (choices : SinkChoices) (w : World) (k : IsSteady w) where
   -- a new element is pushed
   steady_pushed : (p : Place) (local : List ℕ) (attrs : List AttributeText) (duplicates : Bool) → IsPlaceIn w.forest p → (w.stack ≡ [] → p ≡ LastChild w.forest.document) → IsSteady (push_new choices p local attrs duplicates w)
@@ -111,6 +147,12 @@ module _ (choices : SinkChoices) (w : World) (k : IsSteady w) where
   steady_leaf local attrs duplicates =
       steady_rearranged w (new_element choices (place w) (html_name local) attrs duplicates w.forest)
       (new_element_rearranges choices w.forest (place w) (html_name local) attrs duplicates k.sound.stands.is_forest (current_place_is_there w k.sound)) k
+
+  steady_form : (attrs : List AttributeText) (duplicates : Bool) → IsSteady (insert_and_pop_form choices attrs duplicates w)
+  unfolding insert_and_pop_form
+  steady_form attrs duplicates =
+      let new = steady_leaf (codes "form") attrs duplicates in
+      record { sound = form_stands choices attrs duplicates w k.sound new.sound; lists = new.lists }
 
   -- comments
   steady_comment : (p : Place) (t : List ℕ) → IsPlaceIn w.forest p → IsSteady (with_forest (new_comment choices p t w.forest) w)
@@ -197,6 +239,16 @@ steady_change choices (CreateFormattingElement tag) w needs k = absurd needs
 steady_change choices (AdoptionAgency name) w needs k = absurd needs
 steady_change choices HandleMisnestedATags w needs k = absurd needs
 steady_change choices HandleMisnestedNobrTags w needs k = absurd needs
+steady_change choices InsertMarker w needs k = steady_marker w k
+steady_change choices ClearActiveFormattingToMarker w needs k = steady_cleared w k
+steady_change choices (PopUntilCurrent is) w needs k = steady_until_current w k is
+steady_change choices PopUntilCell w needs k = steady_until_cell w k
+steady_change choices (InsertAndPopForm attrs duplicates) w needs k = steady_form choices w k attrs duplicates
+steady_change choices SaveMode w needs k = record { sound = k.sound; lists = k.lists }
+steady_change choices ResetMode w needs k = record { sound = k.sound; lists = k.lists }
+steady_change choices (SetFoster on) w needs k = record { sound = k.sound; lists = k.lists }
+steady_change choices (AppendPendingText text) w needs k = steady_pending w k text
+steady_change choices TakePendingText w needs k = record { sound = k.sound; lists = k.lists }
 
 -- one after another
 pub steady_changes : (choices : SinkChoices) (xs : List Change) (w : World) → NeedsOfAll xs → IsSteady w → IsSteady (apply_all choices xs w)

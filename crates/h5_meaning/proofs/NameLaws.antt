@@ -6,11 +6,12 @@ use Rattle.h5_interface.specs.Forest.{ChildText, Forest, IsElement}
 use Rattle.h5_interface.specs.SinkChoices.{Rearranges, SinkChoices}
 use Rattle.h5_interface.proofs.ForestLaws.{document_is_node}
 use Rattle.h5_interface.proofs.MakingLaws.{add_missing_rearranges}
-use Rattle.h5_tag_sets.specs.TagSets.{is_html_named}
-use Rattle.h5_meaning.specs.Changes.{add_attrs_to_html, add_attrs_to_second, add_attrs_at, append_text, append_comment, append_comment_to_doc, append_comment_to_html, pop_until_named, generate_implied_end_except, insert_and_pop_element, insert_element, insert_head, create_root, new_element, pop, pop_while, push_new}
+use Rattle.h5_tag_sets.specs.TagSets.{is_cell, is_html_named}
+use Rattle.h5_meaning.specs.Changes.{add_attrs_to_html, add_attrs_to_second, add_attrs_at, append_text, append_comment, append_comment_to_doc, append_comment_to_html, pop_until_named, generate_implied_end_except, insert_and_pop_element, insert_and_pop_form, insert_element, insert_head, create_root, new_element, pop, pop_until_current, pop_while, push_new}
+use Rattle.h5_meaning.specs.Closing.{pop_until_cell}
 use Rattle.h5_meaning.specs.Place.{IsPlaceIn, LastChild, Place, place, put}
 use Rattle.h5_stack.specs.Order.{IsIn}
-use Rattle.h5_stack.specs.Scope.{cut_names, cut_through, drop_while, is_implied_but, later_names}
+use Rattle.h5_stack.specs.Scope.{cut_above, cut_names, cut_through, down_names, drop_while, is_implied_but, later_names}
 use Rattle.h5_meaning.specs.Sound.{Sound}
 use Rattle.h5_meaning.specs.World.{World, name_in, name_of_found, names_of, root}
 use Rattle.h5_stack.specs.FormattingNames.{html_name}
@@ -48,6 +49,10 @@ pub names-insert_and_pop : (choices : SinkChoices) (local : List ℕ) (attrs : L
 unfolding insert_and_pop_element names_of
 names-insert_and_pop choices local attrs duplicates w k =
     kept w.forest _ w.stack k.stands.elements (new_element_rearranges choices w.forest (place w) (html_name local) attrs duplicates k.stands.is_forest (current_place_is_there w k))
+
+pub names-form : (choices : SinkChoices) (attrs : List AttributeText) (duplicates : Bool) (w : World) → Sound w → names_of (insert_and_pop_form choices attrs duplicates w) ≡ names_of w
+unfolding insert_and_pop_form names_of
+names-form choices attrs duplicates w k = names-insert_and_pop choices (codes "form") attrs duplicates w k
 
 pub names-insert_root : (choices : SinkChoices) (attrs : List AttributeText) (w : World) → Sound w → names_of (create_root choices attrs w) ≡ html_name (codes "html") ∷ names_of w
 unfolding create_root
@@ -96,6 +101,22 @@ cut_map f is (n ∷ s) =
 pub names-cut : (local : List ℕ) (w : World) → names_of (pop_until_named local w) ≡ cut_names (is_html_named local) (names_of w)
 unfolding names_of pop_until_named
 names-cut local w = cut_map w.forest (is_html_named local) w.stack
+
+down_map : (f : Forest) (is : QualName → Bool) (s : List ℕ) → map (name_in f) (cut_above is (map (name_in f) s) s) ≡ down_names is (map (name_in f) s)
+down_map f is [] = refl
+down_map f is (n ∷ s) =
+    elim (is (name_in f n)) as (λ b. map (name_in f) (cond b (n ∷ s) (cut_above is (map (name_in f) s) s)) ≡ cond b (map (name_in f) (n ∷ s)) (down_names is (map (name_in f) s))) [
+      | true ↦ refl
+      | false ↦ down_map f is s
+    ]
+
+pub names-until_current : (is : QualName → Bool) (w : World) → names_of (pop_until_current is w) ≡ down_names is (names_of w)
+unfolding names_of pop_until_current
+names-until_current is w = down_map w.forest is w.stack
+
+pub names-until_cell : (w : World) → names_of (pop_until_cell w) ≡ cut_names is_cell (names_of w)
+unfolding names_of pop_until_cell
+names-until_cell w = cut_map w.forest is_cell w.stack
 
 pub names_while : (choices : SinkChoices) (p : QualName → Bool) (ns : List QualName) (w : World) → names_of w ≡ ns → names_of (pop_while choices p ns w) ≡ drop_while p ns
 names_while choices p [] w e = e

@@ -9,14 +9,14 @@ use Rattle.h5_interface.specs.NewElement.{flags_of, is_html_template}
 use Rattle.h5_interface.specs.Seen.{CanStandBy, IsFreeFor, make, make_element, plain, with_child_by}
 use Rattle.h5_interface.specs.SinkChoices.{Rearranges, SinkChoices}
 use Rattle.h5_interface.proofs.CallLaws.{child_by_keeps, child_by_rehangs, last_child_keeps, last_child_rehangs}
-use Rattle.h5_interface.proofs.ForestLaws.{contents_are_node, rearranged_node}
+use Rattle.h5_interface.proofs.ForestLaws.{contents_are_node, node_of_kind, rearranged_node}
 use Rattle.h5_interface.proofs.HangingLaws.{append_text_rearranges, insert_text_rearranges}
 use Rattle.h5_interface.proofs.MakingLaws.{hung_fresh_rearranges, make_element_rearranges, make_rearranges, made_contents, made_is_free, made_kind, new_is_free}
 use Rattle.h5_interface.proofs.RehangLaws.{Rehangs}
 use Rattle.h5_interface.proofs.CallLaws.{is_child}
 use Rattle.h5_tag_sets.specs.TagSets.{html_namespace, is_table_outer}
 use Rattle.h5_stack.specs.Order.{IsIn, first_or}
-use Rattle.h5_meaning.specs.Changes.{insert_element, insert_head, new_comment, new_element}
+use Rattle.h5_meaning.specs.Changes.{insert_and_pop_element, insert_and_pop_form, insert_element, insert_head, new_comment, new_element}
 use Rattle.h5_meaning.specs.Place.{CanPut, IsPlaceIn, LastChild, Place, TableFosterParenting, appropriate_place, foster_place, from_foster_parent, inside, is_foster_parent, place, put}
 use Rattle.h5_stack.specs.FormattingNames.{html_name}
 use Rattle.h5_meaning.specs.Sound.{AllStand, IsHtml, Sound}
@@ -197,6 +197,30 @@ head_stands choices attrs duplicates w k new = record {
 
     same : (n : ℕ) → Some (choices.fresh w.forest) ≡ Some n → choices.fresh w.forest ≡ n
     same n e = cc
+
+-- the element that was made last is the form element, where it is a `form`, open or not
+pub form_stands : (choices : SinkChoices) (attrs : List AttributeText) (duplicates : Bool) (w : World) → Sound w → Sound (insert_and_pop_element choices (codes "form") attrs duplicates w) → Sound (insert_and_pop_form choices attrs duplicates w)
+unfolding insert_and_pop_element insert_and_pop_form
+form_stands choices attrs duplicates w k new = record {
+  stands = new.stands;
+  root_top = new.root_top;
+  head_node = new.head_node;
+  form_node = λ n e. (html_name (codes "form"), is_form n e);
+  form_name = λ n e i. is_form n e;
+  apart = λ n e d. node_of_kind w.forest n (ElementNode (html_name (codes "head"))) (k.head_node n e) (subst (λ m. w.forest.node m ≡ None) (same n d) (choices.fresh_is_new w.forest k.stands.is_forest));
+  context_node = new.context_node;
+  listed = new.listed;
+  formatting = new.formatting;
+}
+  where
+    v : World
+    v = insert_and_pop_element choices (codes "form") attrs duplicates w
+
+    same : (n : ℕ) → Some (choices.fresh w.forest) ≡ Some n → choices.fresh w.forest ≡ n
+    same n e = cc
+
+    is_form : (n : ℕ) → Some (choices.fresh w.forest) ≡ Some n → IsHtml v.forest (codes "form") n
+    is_form n e = subst (IsHtml v.forest (codes "form")) (same n e) (new_element_kind choices w.forest (place w) (html_name (codes "form")) attrs duplicates k.stands.is_forest (current_place_is_there w k))
 
 -- where nothing is open, the place of insertion is the document
 pub first_place : (w : World) → IsForest w.forest → w.stack ≡ [] → place w ≡ LastChild w.forest.document

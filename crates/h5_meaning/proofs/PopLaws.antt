@@ -8,7 +8,7 @@ use Rattle.h5_interface.specs.SinkChoices.{SinkChoices}
 use Rattle.h5_tag_sets.specs.TagSets.{is_html_named, is_implied}
 use Rattle.h5_meaning.specs.Changes.{generate_implied_end_except, pop, pop_while}
 use Rattle.h5_meaning.specs.Closing.{generate_implied_end}
-use Rattle.h5_stack.specs.Scope.{cut_through, first_passes, is_implied_but, later_names}
+use Rattle.h5_stack.specs.Scope.{cut_above, cut_through, first_passes, is_implied_but, later_names}
 use Rattle.h5_meaning.specs.Sound.{AllStand}
 use Rattle.h5_meaning.specs.World.{World, current, name_in, name_of_found, names_of}
 use Rattle.h5_stack.specs.FormattingList.{Entry}
@@ -93,6 +93,15 @@ all_cut {l} {head} {form} {context} f is (n ∷ ns) s k =
     elim (is n) as (λ b. AllStand f (cond b (but_first s) (cut_through is ns (but_first s))) l head form context) [
       | true ↦ all_but_first f s k
       | false ↦ all_cut f is ns (but_first s) (all_but_first f s k)
+    ]
+
+-- down to an element
+pub all_cut_above : {l : List Entry} {head form context : Option ℕ} (f : Forest) (is : QualName → Bool) (ns : List QualName) (s : List ℕ) → AllStand f s l head form context → AllStand f (cut_above is ns s) l head form context
+all_cut_above f is [] s k = k
+all_cut_above {l} {head} {form} {context} f is (n ∷ ns) s k =
+    elim (is n) as (λ b. AllStand f (cond b s (cut_above is ns (but_first s))) l head form context) [
+      | true ↦ k
+      | false ↦ all_cut_above f is ns (but_first s) (all_but_first f s k)
     ]
 
 pop_stack : (choices : SinkChoices) (w : World) → (pop choices w).stack ≡ but_first w.stack

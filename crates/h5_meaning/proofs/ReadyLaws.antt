@@ -8,8 +8,8 @@ use Rattle.h5_names.specs.declared.known_name.KnownName.TheVariants.{A, Nobr}
 use Rattle.h5_token.specs.TokenText.{TagText}
 use Rattle.h5_interface.specs.SinkChoices.{SinkChoices}
 use Rattle.h5_tag_sets.specs.TagSets.{formatting_names, is_one_of}
-use Rattle.h5_fits.specs.StageFits.{IsRootOpen}
-use Rattle.h5_fits.proofs.StageLaws.{open_some}
+use Rattle.h5_fits.specs.Root.{IsRootOpen}
+use Rattle.h5_fits.proofs.OpenLaws.{open_some}
 use Rattle.h5_meaning.specs.ByName.{named}
 use Rattle.h5_meaning.specs.Changes.{append_text, insert_and_pop_element, set_frameset_not_ok, set_frameset_ok_by_text}
 use Rattle.h5_meaning.specs.Formatting.{reconstruct_active_formatting_elements}
@@ -28,21 +28,6 @@ use Rattle.h5_meaning.proofs.PopLaws.{names_length}
 -- some element is open
 pub ready_open : (w : World) → IsReady w → 0 < length w.stack
 ready_open w k = let some = open_some (names_of w) k.root in let same = names_length w in omega (arith, some, same)
-
--- a text
-text_ready : (t : List ℕ) (w : World) → t ≢ [] → IsReady w → IsReady (append_text t w)
-text_ready t w some k = steady_ready (append_text t w) (steady_text w (ready_steady w k) t some) (subst IsRootOpen (sym (names-append t w some k.sound)) k.root)
-
-frameset_ready : (t : List ℕ) (w : World) → IsReady w → IsReady (set_frameset_ok_by_text t w)
-unfolding set_frameset_ok_by_text names_of
-frameset_ready t w k = record { sound = k.sound; lists = k.lists; root = k.root }
-
--- an element that isn't open, and the frameset flag is off
-leaf_ready : (choices : SinkChoices) (local : List ℕ) (attrs : List AttributeText) (duplicates : Bool) (w : World) → IsReady w → IsReady (set_frameset_not_ok (insert_and_pop_element choices local attrs duplicates w))
-unfolding names_of
-leaf_ready choices local attrs duplicates w k =
-    let made = steady_leaf choices w (ready_steady w k) local attrs duplicates in
-    record { sound = made.sound; lists = made.lists; root = subst IsRootOpen (sym (names-insert_and_pop choices local attrs duplicates w k.sound)) k.root }
 
 -- a known name that is a formatting element's
 named_formatting : (known : KnownName) (name : List ℕ) → is_one_of formatting_names (name_text known) ≡ true → named known name ≡ true → IsTrue (is_one_of formatting_names name)
@@ -66,10 +51,6 @@ module _ (choices : SinkChoices) (w : World) (k : IsReady w) where
   renewed_ready : IsReady renewed
   renewed_ready = reconstruct_ready choices w k
 
-  -- a text, in the body and after it
-  pub ready_text : (t : List ℕ) → t ≢ [] → IsReady (after (in_body_text t w))
-  ready_text t some = text_ready t (set_frameset_ok_by_text t renewed) some (frameset_ready t renewed renewed_ready)
-
   -- start tags of formatting elements
   pub ready_start_a : (tag : TagText) → named A tag.name ≡ true → IsReady (after (in_body_start_a tag w))
   ready_start_a tag h = reconstruct_format_ready choices tag (handle_misnested_a_tags choices w) (a_formatting tag.name h) (misnested_a_ready choices w k)
@@ -86,13 +67,3 @@ module _ (choices : SinkChoices) (w : World) (k : IsReady w) where
   -- their end tags
   pub ready_end_formatting : (tag : TagText) → is_one_of formatting_names tag.name ≡ true → IsReady (after (in_body_end_formatting tag w))
   ready_end_formatting tag h = agency_ready choices tag.name w (formatting_not_html tag.name h) k
-
-  -- `br`, and any other start tag
-  pub ready_start_br : (tag : TagText) → IsReady (after (in_body_start_br tag w))
-  ready_start_br tag = leaf_ready choices tag.name tag.attrs tag.had_duplicate_attributes renewed renewed_ready
-
-  pub ready_end_br : (tag : TagText) → IsReady (after (in_body_end_br tag w))
-  ready_end_br tag = leaf_ready choices tag.name [] tag.had_duplicate_attributes renewed renewed_ready
-
-  pub ready_start_other : (tag : TagText) → IsReady (after (in_body_start_other tag w))
-  ready_start_other tag = insert_for_ready choices tag renewed renewed_ready

@@ -11,9 +11,9 @@ use Rattle.h5_stack.specs.FormattingList.{ElementEntry, Entry, MarkerEntry, clos
 use Rattle.h5_stack.specs.Order.{is_in}
 use Rattle.h5_stack.specs.Scope.{comes_before_special, first_passes, has_p_in_button_scope, in_scope, is_implied_but}
 use Rattle.h5_meaning.specs.AdoptionAgency.{adopt, adopt_at, adopt_by, adopt_within, adoption_agency, close_misnested_a, handle_misnested_a_tags, handle_misnested_nobr_tags, remove_from_stack, unlist_and_remove}
-use Rattle.h5_meaning.specs.Changes.{generate_implied_end_except, insert_element, pop, pop_until_named, pop_while}
-use Rattle.h5_meaning.specs.Closing.{close_named, close_p_element, close_p_element_in_button_scope, generate_implied_end, pop_heading, pop_until_heading}
-use Rattle.h5_meaning.specs.Formatting.{create_formatting_element, insert_anew, insert_for, reconstruct_active_formatting_elements}
+use Rattle.h5_meaning.specs.Changes.{generate_implied_end_except, insert_element, pop, pop_until_current, pop_until_named, pop_while}
+use Rattle.h5_meaning.specs.Closing.{close_named, close_p_element, close_p_element_in_button_scope, generate_implied_end, pop_heading, pop_until_cell, pop_until_heading}
+use Rattle.h5_meaning.specs.Formatting.{clear_active_formatting_to_marker, create_formatting_element, insert_anew, insert_for, insert_marker, reconstruct_active_formatting_elements}
 use Rattle.h5_meaning.specs.World.{World, current, name_in, names_of}
 
 -- v is w but for these three
@@ -66,6 +66,23 @@ tree_pop_heading choices w = tree_if w (pop choices w) (first_passes is_heading 
 pub tree_until_heading : (w : World) → OnlyTree w (pop_until_heading w)
 unfolding pop_until_heading
 tree_until_heading w = refl
+
+pub tree_until_cell : (w : World) → OnlyTree w (pop_until_cell w)
+unfolding pop_until_cell
+tree_until_cell w = refl
+
+pub tree_until_current : (is : QualName → Bool) (w : World) → OnlyTree w (pop_until_current is w)
+unfolding pop_until_current
+tree_until_current is w = refl
+
+-- markers
+pub tree_marker : (w : World) → OnlyTree w (insert_marker w)
+unfolding insert_marker
+tree_marker w = refl
+
+pub tree_cleared : (w : World) → OnlyTree w (clear_active_formatting_to_marker w)
+unfolding clear_active_formatting_to_marker
+tree_cleared w = refl
 
 pub tree_close_named : (choices : SinkChoices) (local : List ℕ) (w : World) → OnlyTree w (close_named choices local w)
 unfolding close_named

@@ -1,5 +1,5 @@
 -- The changes that rules are made of.
-use Rattle.std.specs.Prelude.{ℕ, Bool, false, ◌&&◌, if◌then◌else◌, List, [], ◌∷◌, codes, Option, Some, None}
+use Rattle.std.specs.Prelude.{ℕ, Bool, false, ◌&&◌, if◌then◌else◌, List, [], ◌∷◌, codes, Option, Some, None, ◌++◌}
 use Rattle.h5_names.specs.declared.qualified.QualName.{QualName}
 use Rattle.h5_names.specs.AttributeText.{AttributeText}
 use Rattle.h5_interface.specs.Changes.{add_missing_attributes, mark}
@@ -11,7 +11,7 @@ use Rattle.h5_interface.specs.declared.marks.QuirksMode.{QuirksMode}
 use Rattle.h5_tag_sets.specs.TagSets.{is_html_named}
 use Rattle.h5_types.specs.declared.modes.InsertionMode.{InsertionMode}
 use Rattle.h5_meaning.specs.Blanks.{all_blank}
-use Rattle.h5_stack.specs.Scope.{cut_through, is_implied_but}
+use Rattle.h5_stack.specs.Scope.{cut_through, is_implied_but, cut_above}
 use Rattle.h5_meaning.specs.Place.{LastChild, Place, place, put}
 use Rattle.h5_meaning.specs.World.{World, current, names_of, root}
 use Rattle.h5_stack.specs.FormattingNames.{html_name}
@@ -113,3 +113,28 @@ generate_implied_end_except choices local w = pop_while choices (is_implied_but 
 -- the sink isn't told
 unfoldable pub pop_until_named : List ℕ → World → World
 pop_until_named local w = record w { stack = cut_through (is_html_named local) (names_of w) w.stack }
+
+-- an HTML `form` at the place of insertion, which isn't open, and is the form element
+unfoldable pub insert_and_pop_form : SinkChoices → List AttributeText → Bool → World → World
+insert_and_pop_form choices attrs duplicates w =
+    let n = choices.fresh w.forest in record (insert_and_pop_element choices (codes "form") attrs duplicates w) { form = Some n }
+
+-- "clear the stack back to" a context: the stack is cut above the first of these elements from the current node on; the
+-- sink isn't told
+unfoldable pub pop_until_current : (QualName → Bool) → World → World
+pop_until_current is w = record w { stack = cut_above is (names_of w) w.stack }
+
+-- foster parenting is turned on or off
+abbrev pub set_foster : Bool → World → World
+set_foster on w = record w { foster = on }
+
+-- the mode is kept, to go back to
+abbrev pub save_mode : World → World
+save_mode w = record w { saved_mode = Some w.mode }
+
+-- a text of a table is kept back, behind what is kept back already; and all of it is taken
+unfoldable pub append_pending_text : List ℕ → World → World
+append_pending_text t w = record w { pending = w.pending ++ t }
+
+abbrev pub take_pending_text : World → World
+take_pending_text w = record w { pending = [] }

@@ -1,7 +1,7 @@
 -- Closing elements (HTML standard, sections 13.2.6.3 and 13.2.6.4.7).
 use Rattle.std.specs.Prelude.{ℕ, if◌then◌else◌, List, codes}
 use Rattle.h5_interface.specs.SinkChoices.{SinkChoices}
-use Rattle.h5_tag_sets.specs.TagSets.{is_heading, is_implied}
+use Rattle.h5_tag_sets.specs.TagSets.{is_heading, is_implied, is_cell}
 use Rattle.h5_stack.specs.Scope.{comes_before_special, cut_through, first_passes, has_p_in_button_scope}
 use Rattle.h5_meaning.specs.Changes.{generate_implied_end_except, pop, pop_until_named, pop_while}
 use Rattle.h5_meaning.specs.World.{World, names_of}
@@ -25,6 +25,10 @@ pop_heading choices w = if first_passes is_heading (names_of w) then pop choices
 -- the stack is cut at the first heading from the current node on, that element included; the sink isn't told
 unfoldable pub pop_until_heading : World → World
 pop_until_heading w = record w { stack = cut_through is_heading (names_of w) w.stack }
+
+-- the stack is cut at the first cell from the current node on, that element included; the sink isn't told
+unfoldable pub pop_until_cell : World → World
+pop_until_cell w = record w { stack = cut_through is_cell (names_of w) w.stack }
 
 -- "any other end tag": implied ends but for the name, and up to and with the first element of the name, where it comes
 -- before any special one

@@ -1,16 +1,18 @@
 -- HTML standard, section 13.2.6.4.7, the "in body" insertion mode.
-use Rattle.std.specs.Prelude.{ℕ, Bool, false, not, ◌&&◌, List, [], ◌∷◌, codes}
+use Rattle.std.specs.Prelude.{ℕ, Bool, true, false, not, ◌&&◌, List, [], ◌∷◌, ◌++◌, codes}
 use Rattle.h5_token.specs.TokenText.{TagText}
-use Rattle.h5_names.specs.declared.known_name.KnownName.TheVariants.{A, Body, Br, Html, Nobr, P}
+use Rattle.h5_names.specs.declared.known_name.KnownName.TheVariants.{A, Body, Br, Html, Nobr, P, Table, Template}
 use Rattle.h5_tag_sets.specs.TagSets.{block_end_names, block_start_names, formatting_names, heading_names, is_default_scope, is_heading, is_html_named, is_one_of}
 use Rattle.h5_stack.specs.Scope.{comes_before_special, first_passes, has_body_in_scope, has_p_in_button_scope, has_template, has_unclosed, in_scope, second_is}
+use Rattle.h5_interface.specs.declared.marks.QuirksMode.{QuirksMode}
+use Rattle.h5_interface.specs.declared.marks.QuirksMode.TheVariants.{Quirks}
 use Rattle.h5_types.specs.TurnText.{CommentTurn, EofTurn, NullTurn, TagTurn, TextTurn, TurnText}
-use Rattle.h5_types.specs.declared.modes.InsertionMode.TheVariants.{AfterBody}
+use Rattle.h5_types.specs.declared.modes.InsertionMode.TheVariants.{AfterBody, InTable}
 use Rattle.h5_meaning.specs.AdoptionAgency.{closes_one, is_named_listed}
-use Rattle.h5_meaning.specs.ByName.{Rules, by_kind, by_name, named}
+use Rattle.h5_meaning.specs.ByName.{Rules, by_kind, by_name, ignored_tag, named}
 use Rattle.h5_meaning.specs.Formatting.{is_reconstructed}
 use Rattle.h5_meaning.specs.Rows.{AddAttrsToSecond, AdoptionAgency, Again, CreateFormattingElement, HandleMisnestedATags, HandleMisnestedNobrTags, InsertAndPopElement, IsAcknowledged, ReconstructActiveFormattingElements, AppendComment, Change, ClosePElement, ClosePElementInButtonScope, Ending, GenerateImpliedEnd, GenerateImpliedEndExcept, InsertElement, IsDone, PopHeading, PopUntilHeading, PopUntilNamed, Row, SetFramesetNotOk, SetMode, choose, errs, ignored, row, row_if}
-use Rattle.h5_meaning.specs.Shared.{in_body_start_html, in_body_text}
+use Rattle.h5_meaning.specs.Shared.{in_body_start_html, in_body_text, table_structure_names}
 use Rattle.h5_meaning.specs.World.{World, names_of}
 
 -- an element for a tag
@@ -104,6 +106,23 @@ abbrev pub in_body_end_br : TagText → World → Row
 in_body_end_br tag w =
     errs (ReconstructActiveFormattingElements ∷ InsertAndPopElement tag.name [] tag.had_duplicate_attributes ∷ SetFramesetNotOk ∷ []) IsAcknowledged
 
+-- a start tag "table", which closes a `p` but in quirks mode
+abbrev pub is_quirks : QuirksMode → Bool
+is_quirks Quirks = true
+is_quirks _ = false
+
+unfoldable pub in_body_start_table : TagText → World → Row
+in_body_start_table tag w =
+    let opens : List Change = inserts tag ∷ SetFramesetNotOk ∷ SetMode InTable ∷ [] in
+    choose (is_quirks w.quirks) (row opens IsDone) (row_if (not (has_p_in_button_scope (names_of w))) (ClosePElementInButtonScope ∷ opens) IsDone)
+
+-- start tags of what stands in tables, or before the body, are ignored; those of templates and framesets are, so far
+unfoldable pub outside_names : List (List ℕ)
+outside_names = codes "frame" ∷ codes "frameset" ∷ codes "head" ∷ codes "template" ∷ []
+
+unfoldable pub in_body_ignored_starts : List (List ℕ)
+in_body_ignored_starts = table_structure_names ++ outside_names
+
 -- any other start tag
 abbrev pub in_body_start_other : TagText → World → Row
 in_body_start_other tag w = row (ReconstructActiveFormattingElements ∷ inserts tag ∷ []) IsDone
@@ -123,7 +142,9 @@ in_body_start =
     (named A, in_body_start_a) ∷
     (named Nobr, in_body_start_nobr) ∷
     (is_one_of formatting_names, in_body_start_formatting) ∷
-    (named Br, in_body_start_br) ∷ []
+    (named Br, in_body_start_br) ∷
+    (named Table, in_body_start_table) ∷
+    (is_one_of in_body_ignored_starts, ignored_tag) ∷ []
 
 unfoldable pub in_body_end : Rules
 in_body_end =
@@ -133,7 +154,8 @@ in_body_end =
     (named P, in_body_end_p) ∷
     (is_one_of heading_names, in_body_end_heading) ∷
     (is_one_of formatting_names, in_body_end_formatting) ∷
-    (named Br, in_body_end_br) ∷ []
+    (named Br, in_body_end_br) ∷
+    (named Template, ignored_tag) ∷ []
 
 unfoldable pub in_body_tag : TagText → World → Row
 in_body_tag tag w = by_kind tag.kind (by_name in_body_start in_body_start_other tag w) (by_name in_body_end in_body_end_other tag w)

@@ -2,14 +2,21 @@
 -- Of a mode that isn't reached yet, no rule is written.
 use Rattle.h5_types.specs.TurnText.{TurnText}
 use Rattle.h5_types.specs.declared.modes.InsertionMode.{InsertionMode}
-use Rattle.h5_types.specs.declared.modes.InsertionMode.TheVariants.{AfterAfterBody, AfterBody, AfterHead, BeforeHead, BeforeHtml, InBody, InHead, Initial}
+use Rattle.h5_types.specs.declared.modes.InsertionMode.TheVariants.{AfterAfterBody, AfterBody, AfterHead, BeforeHead, BeforeHtml, InBody, InCaption, InCell, InColumnGroup, InHead, InRow, InTable, InTableBody, InTableText, Initial}
 use Rattle.h5_meaning.specs.AfterAfterBody.{after_after_body}
 use Rattle.h5_meaning.specs.AfterBody.{after_body}
 use Rattle.h5_meaning.specs.AfterHead.{after_head}
 use Rattle.h5_meaning.specs.BeforeHead.{before_head}
 use Rattle.h5_meaning.specs.BeforeHtml.{before_html}
 use Rattle.h5_meaning.specs.InBody.{in_body}
+use Rattle.h5_meaning.specs.InCaption.{in_caption}
+use Rattle.h5_meaning.specs.InCell.{in_cell}
+use Rattle.h5_meaning.specs.InColumnGroup.{in_column_group}
 use Rattle.h5_meaning.specs.InHead.{in_head}
+use Rattle.h5_meaning.specs.InRow.{in_row}
+use Rattle.h5_meaning.specs.InTable.{in_table}
+use Rattle.h5_meaning.specs.InTableBody.{in_table_body}
+use Rattle.h5_meaning.specs.InTableText.{in_table_text}
 use Rattle.h5_meaning.specs.InitialMode.{initial}
 use Rattle.h5_meaning.specs.Rows.{Row, ignored}
 use Rattle.h5_meaning.specs.World.{World}
@@ -21,6 +28,13 @@ rule BeforeHead t w = before_head t w
 rule InHead t w = in_head t w
 rule AfterHead t w = after_head t w
 rule InBody t w = in_body t w
+rule InTable t w = in_table t w
+rule InTableText t w = in_table_text t w
+rule InCaption t w = in_caption t w
+rule InColumnGroup t w = in_column_group t w
+rule InTableBody t w = in_table_body t w
+rule InRow t w = in_row t w
+rule InCell t w = in_cell t w
 rule AfterBody t w = after_body t w
 rule AfterAfterBody t w = after_after_body t w
 rule _ t w = ignored

@@ -1,6 +1,7 @@
 -- A rule of tree construction: changes in order, and one ending (HTML standard, section 13.2.6.4).
 use Rattle.std.specs.Prelude.{◌≡◌, ℕ, Bool, true, false, if◌then◌else◌, List, [], ◌∷◌, Option, Some, None}
 use Rattle.h5_names.specs.AttributeText.{AttributeText}
+use Rattle.h5_names.specs.declared.qualified.QualName.{QualName}
 use Rattle.h5_token.specs.Reply.{Reply, reply}
 use Rattle.h5_token.specs.TokenText.{TagText}
 use Rattle.h5_interface.specs.SinkChoices.{SinkChoices}
@@ -10,9 +11,10 @@ use Rattle.h5_types.specs.declared.modes.InsertionMode.{InsertionMode}
 use Rattle.h5_types.specs.declared.turns.ProcessResult.{ProcessResult}
 use Rattle.h5_types.specs.declared.turns.ProcessResult.TheVariants as results
 use Rattle.h5_meaning.specs.AdoptionAgency.{adoption_agency, handle_misnested_a_tags, handle_misnested_nobr_tags}
-use Rattle.h5_meaning.specs.Changes.{add_attrs_to_html, add_attrs_to_second, append_comment, append_comment_to_doc, append_comment_to_html, append_text, create_root, generate_implied_end_except, insert_and_pop_element, insert_element, insert_head, pop, pop_until_named, set_frameset_not_ok, set_frameset_ok_by_text, set_mode, set_quirks_mode}
-use Rattle.h5_meaning.specs.Closing.{close_p_element, close_p_element_in_button_scope, generate_implied_end, pop_heading, pop_until_heading}
-use Rattle.h5_meaning.specs.Formatting.{create_formatting_element, reconstruct_active_formatting_elements}
+use Rattle.h5_meaning.specs.Changes.{add_attrs_to_html, add_attrs_to_second, append_comment, append_comment_to_doc, append_comment_to_html, append_pending_text, append_text, create_root, generate_implied_end_except, insert_and_pop_element, insert_and_pop_form, insert_element, insert_head, pop, pop_until_current, pop_until_named, save_mode, set_foster, set_frameset_not_ok, set_frameset_ok_by_text, set_mode, set_quirks_mode, take_pending_text}
+use Rattle.h5_meaning.specs.Closing.{close_p_element, close_p_element_in_button_scope, generate_implied_end, pop_heading, pop_until_cell, pop_until_heading}
+use Rattle.h5_meaning.specs.Formatting.{clear_active_formatting_to_marker, create_formatting_element, insert_marker, reconstruct_active_formatting_elements}
+use Rattle.h5_meaning.specs.Reset.{reset_mode}
 use Rattle.h5_meaning.specs.World.{World}
 
 pub data Change : Type 0 where
@@ -43,6 +45,16 @@ pub data Change : Type 0 where
   AdoptionAgency : (name : List ℕ) → Change
   HandleMisnestedATags : Change
   HandleMisnestedNobrTags : Change
+  InsertMarker : Change
+  ClearActiveFormattingToMarker : Change
+  PopUntilCurrent : (is : QualName → Bool) → Change
+  PopUntilCell : Change
+  InsertAndPopForm : (attrs : List AttributeText) → (duplicates : Bool) → Change
+  SaveMode : Change
+  ResetMode : Change
+  SetFoster : (on : Bool) → Change
+  AppendPendingText : (text : List ℕ) → Change
+  TakePendingText : Change
 
 abbrev pub apply : SinkChoices → Change → World → World
 apply choices (SetMode mode) w = set_mode mode w
@@ -72,6 +84,16 @@ apply choices (CreateFormattingElement tag) w = create_formatting_element choice
 apply choices (AdoptionAgency name) w = adoption_agency choices name w
 apply choices HandleMisnestedATags w = handle_misnested_a_tags choices w
 apply choices HandleMisnestedNobrTags w = handle_misnested_nobr_tags choices w
+apply choices InsertMarker w = insert_marker w
+apply choices ClearActiveFormattingToMarker w = clear_active_formatting_to_marker w
+apply choices (PopUntilCurrent is) w = pop_until_current is w
+apply choices PopUntilCell w = pop_until_cell w
+apply choices (InsertAndPopForm attrs duplicates) w = insert_and_pop_form choices attrs duplicates w
+apply choices SaveMode w = save_mode w
+apply choices ResetMode w = set_mode (reset_mode w) w
+apply choices (SetFoster on) w = set_foster on w
+apply choices (AppendPendingText text) w = append_pending_text text w
+apply choices TakePendingText w = take_pending_text w
 
 abbrev pub apply_all : SinkChoices → List Change → World → World
 apply_all choices [] w = w

@@ -9,7 +9,8 @@ use Rattle.h5_stack.specs.Lists.{Lists}
 use Rattle.h5_stack.specs.Order.{IsIn, IsOrdered}
 use Rattle.h5_fits.specs.Fits.{Situation}
 use Rattle.h5_fits.specs.Roles.{Role, role_of}
-use Rattle.h5_fits.specs.StageFits.{IsRootOpen, StageFits}
+use Rattle.h5_fits.specs.NamesFit.{NamesFit}
+use Rattle.h5_fits.specs.Root.{IsRootOpen}
 use Rattle.h5_meaning.specs.World.{World, name_in, names_of}
 
 -- the forest is one, open elements are its elements, none is an ancestor of an older one, and templates have contents
@@ -67,7 +68,7 @@ HasLists w = Lists w.stack w.formatting
 
 -- at every turn, and between tokens: the open elements fit the mode, and the list agrees with them
 pub record Fits (w : World) : Type 0 where
-  pub mode : StageFits (situation_of w) w.mode (names_of w)
+  pub mode : NamesFit (situation_of w) w.mode (names_of w)
   pub lists : HasLists w
 
 -- in the body, where formatting elements are closed: all stands, the list agrees with the stack, and the root is an

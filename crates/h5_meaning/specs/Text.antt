@@ -1,9 +1,9 @@
 -- The rule of a text, in one step: by the mode, for its longest front of blanks and for the rest.
-use Rattle.std.specs.Prelude.{◌≡◌, ℕ, slice_index, Bool, true, false, List, [], ◌∷◌, Option, Some, None}
+use Rattle.std.specs.Prelude.{◌≡◌, ℕ, Bool, true, false, List, [], ◌∷◌, codes, filter, Option, Some, None, if◌then◌else◌}
 use Rattle.h5_interface.specs.SinkChoices.{SinkChoices}
 use Rattle.h5_types.specs.TurnText.{TextTurn, TurnText}
 use Rattle.h5_types.specs.declared.modes.InsertionMode.{InsertionMode}
-use Rattle.h5_types.specs.declared.modes.InsertionMode.TheVariants.{AfterAfterBody, AfterAfterFrameset, AfterBody, AfterFrameset, AfterHead, BeforeHead, BeforeHtml, InBody, InColumnGroup, InFrameset, InHead, InHeadNoscript, Initial}
+use Rattle.h5_types.specs.declared.modes.InsertionMode.TheVariants.{AfterAfterBody, AfterAfterFrameset, AfterBody, AfterFrameset, AfterHead, BeforeHead, BeforeHtml, InBody, InCaption, InCell, InColumnGroup, InFrameset, InHead, InHeadNoscript, InRow, InTable, InTableBody, InTableText, Initial}
 use Rattle.h5_types.specs.declared.modes.SplitStatus.{SplitStatus}
 use Rattle.h5_types.specs.declared.modes.SplitStatus.TheVariants.{NotSplit, Whitespace, NotWhitespace}
 use Rattle.h5_meaning.specs.AfterBody.{back_to_body}
@@ -11,9 +11,12 @@ use Rattle.h5_meaning.specs.AfterHead.{after_head_else}
 use Rattle.h5_meaning.specs.BeforeHead.{before_head_else}
 use Rattle.h5_meaning.specs.BeforeHtml.{before_html_else}
 use Rattle.h5_meaning.specs.Blanks.{is_blank, blanks_of, rest_of}
-use Rattle.h5_meaning.specs.Changes.{append_text, set_frameset_ok_by_text, set_mode}
+use Rattle.h5_meaning.specs.Changes.{append_pending_text, append_text, save_mode, set_foster, set_frameset_ok_by_text, set_mode}
 use Rattle.h5_meaning.specs.Formatting.{reconstruct_active_formatting_elements}
+use Rattle.h5_meaning.specs.InBody.{current_is}
+use Rattle.h5_meaning.specs.InColumnGroup.{in_column_group_else}
 use Rattle.h5_meaning.specs.InHead.{in_head_else}
+use Rattle.h5_meaning.specs.InTable.{keeps_text}
 use Rattle.h5_meaning.specs.InitialMode.{initial_else}
 use Rattle.h5_meaning.specs.Rows.{Row, changed_by, next_mode}
 use Rattle.h5_meaning.specs.World.{World}
@@ -46,6 +49,28 @@ by_else choices r next t w = next t (after_row choices (r (TextTurn NotWhitespac
 unfoldable pub text_in_body : SinkChoices → List ℕ → World → World
 text_in_body choices t w = append_text t (set_frameset_ok_by_text t (reconstruct_active_formatting_elements choices w))
 
+-- with foster parenting on
+abbrev pub fostered_text : SinkChoices → List ℕ → World → World
+fostered_text choices t w = set_foster false (text_in_body choices t (set_foster true w))
+
+-- kept back
+abbrev pub text_in_table_text : List ℕ → World → World
+text_in_table_text t w = append_pending_text t w
+
+-- in a table, a row group and a row: where the current node keeps it back, the mode is left for it
+unfoldable pub text_in_table : SinkChoices → List ℕ → World → World
+text_in_table choices t w = if keeps_text w then text_in_table_text t (set_mode InTableText (save_mode w)) else fostered_text choices t w
+
+-- in a column group that is the current node, which what isn't blank closes; and in any other, blanks alone
+abbrev pub closes_column_group : SinkChoices → List ℕ → World → World
+closes_column_group choices = split append_text (by_else choices in_column_group_else (text_in_table choices))
+
+abbrev pub all_blanks : List ℕ → List ℕ
+all_blanks t = filter is_blank t
+
+unfoldable pub text_in_column_group : SinkChoices → List ℕ → World → World
+text_in_column_group choices t w = if current_is (codes "colgroup") w then closes_column_group choices t w else if_any append_text (all_blanks t) w
+
 unfoldable pub text_after_body : SinkChoices → List ℕ → World → World
 text_after_body choices = split (text_in_body choices) (by_else choices back_to_body (text_in_body choices))
 
@@ -72,6 +97,13 @@ text_in BeforeHead choices = text_before_head choices
 text_in InHead choices = text_in_head choices
 text_in AfterHead choices = text_after_head choices
 text_in InBody choices = text_in_body choices
+text_in InTable choices = text_in_table choices
+text_in InTableText choices = text_in_table_text
+text_in InCaption choices = text_in_body choices
+text_in InColumnGroup choices = text_in_column_group choices
+text_in InTableBody choices = text_in_table choices
+text_in InRow choices = text_in_table choices
+text_in InCell choices = text_in_body choices
 text_in AfterBody choices = text_after_body choices
 text_in AfterAfterBody choices = text_after_body choices
 text_in _ choices = dropped
@@ -98,13 +130,15 @@ splits AfterAfterBody = true
 splits AfterAfterFrameset = true
 splits _ = false
 
--- a run is of blanks, or begins with another character; a whole text is for a mode that doesn't split
+-- a run is of blanks, or has none; a whole text is for a mode that doesn't split
 abbrev pub IsRun : InsertionMode → SplitStatus → List ℕ → Type 0
 IsRun mode Whitespace t = rest_of t ≡ []
-IsRun mode NotWhitespace t = is_blank (slice_index t 0) ≡ false
+IsRun mode NotWhitespace t = all_blanks t ≡ []
 IsRun mode NotSplit t = splits mode ≡ false
 
--- in the body no text is a parse error; elsewhere one may be
+-- in the body, a caption and a cell no text is a parse error; elsewhere one may be
 abbrev pub is_quiet_text : InsertionMode → Bool
 is_quiet_text InBody = true
+is_quiet_text InCaption = true
+is_quiet_text InCell = true
 is_quiet_text _ = false

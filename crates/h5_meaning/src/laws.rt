@@ -1,30 +1,32 @@
 //! Laws over the definitions, each the contract of a function that does nothing.
-ghost use Rattle.std.specs.Prelude.{◌≡◌, ◌≤◌, ◌<◌, ℕ, List, ◌++◌};
+ghost use Rattle.std.specs.Prelude.{◌≡◌, ◌≤◌, ◌<◌, ◌+◌, ℕ, List, ◌++◌, length};
 ghost use Rattle.h5_token.specs.Joins.{join};
 ghost use Rattle.h5_token.specs.TokenText.{TokenText};
 ghost use Rattle.h5_interface.specs.SinkChoices.{SinkChoices};
 ghost use Rattle.h5_stack.specs.FormattingList.{after_marker, nodes_of};
+ghost use Rattle.h5_stack.specs.FormattingNames.{AllFormatting};
 ghost use Rattle.h5_stack.specs.Lists.{OpenFirst};
 ghost use Rattle.h5_stack.specs.Order.{IsIn};
-ghost use Rattle.h5_types.specs.TurnText.{EofTurn, TurnText};
+ghost use Rattle.h5_types.specs.TurnText.{EofTurn, HasText, TurnText};
 ghost use Rattle.h5_types.specs.declared.modes.InsertionMode.TheVariants.{Initial};
 ghost use Rattle.h5_meaning.specs.Cuts.{CutsAgree};
 ghost use Rattle.h5_meaning.specs.Formatting.{reconstruct_active_formatting_elements};
 ghost use Rattle.h5_meaning.specs.Modes.{rule};
 ghost use Rattle.h5_meaning.specs.Run.{View, after_all, replies, told_all};
 ghost use Rattle.h5_meaning.specs.Settle.{IsOneChain, by_row, settle};
+ghost use Rattle.h5_meaning.specs.Sound.{Fits, Sound};
 ghost use Rattle.h5_meaning.specs.World.{World};
 
-/// Over every sink, from every view: a list of tokens and the list with its neighbouring texts joined give
-/// one view, one reply to each token that is no text, and to each piece of a run the run's reply. So it
-/// doesn't matter how a run of text is cut.
+/// Over every sink, from every view in which each active formatting element is listed for a tag of a formatting element:
+/// a list of tokens and the list with its neighbouring texts joined give one view, one reply to each token that is no
+/// text, and to each piece of a run the run's reply. So it doesn't matter how a run of text is cut.
 pub fn cuts_agree()
-    ensures { (choices : SinkChoices) (tokens : List TokenText) (view : View) → CutsAgree choices tokens view }
+    ensures { (choices : SinkChoices) (tokens : List TokenText) (view : View) → AllFormatting view.world.formatting → CutsAgree choices tokens view }
 {}
 
-/// Two lists of tokens that are the same but for the cuts of their texts give one view from every view.
+/// Two lists of tokens that are the same but for the cuts of their texts give one view from every such view.
 pub fn cuts_of_one_list_agree()
-    ensures { (choices : SinkChoices) (tokens others : List TokenText) (view : View) → join tokens ≡ join others → after_all choices tokens view ≡ after_all choices others view }
+    ensures { (choices : SinkChoices) (tokens others : List TokenText) (view : View) → AllFormatting view.world.formatting → join tokens ≡ join others → after_all choices tokens view ≡ after_all choices others view }
 {}
 
 /// The run of one list followed by another is the run of the first and then, from the view that it leaves, of
@@ -35,18 +37,20 @@ pub fn runs_join()
     ensures replies { (choices : SinkChoices) (tokens more : List TokenText) (view : View) → replies choices (tokens ++ more) view ≡ replies choices tokens view ++ replies choices more (after_all choices tokens view) }
 {}
 
-/// A token has exactly one chain of turns, and it comes to what the chain tells: one turn by the rule of the
-/// mode and, where that ends in "again", the chain from there.
+/// From a builder that is sound, and whose open elements fit its mode, as it is between tokens, a token has exactly one
+/// chain of turns, and it comes to what the chain tells: one turn by the rule of the mode and, where that ends in
+/// "again", the chain from there.
 pub fn a_token_has_one_chain()
-    ensures one { (choices : SinkChoices) (t : TurnText) (w : World) → IsOneChain choices t w }
-    ensures turn { (choices : SinkChoices) (t : TurnText) (w : World) →
+    ensures one { (choices : SinkChoices) (t : TurnText) (w : World) → Sound w → HasText t → Fits w → IsOneChain choices t w }
+    ensures turn { (choices : SinkChoices) (t : TurnText) (w : World) → Sound w → HasText t → Fits w →
         settle choices t w ≡ by_row choices (settle choices t) t (rule w.mode t w) w }
 {}
 
-/// A chain has at least one turn and at most seven; the end of file alone, at the start, takes six.
+/// A token takes at least one turn, and at most sixteen and as many as elements are open; the end of file alone, at the
+/// start, takes six.
 pub fn turns_are_few()
     ensures some { (choices : SinkChoices) (t : TurnText) (w : World) → 0 < (settle choices t w).turns }
-    ensures few { (choices : SinkChoices) (t : TurnText) (w : World) → (settle choices t w).turns ≤ 7 }
+    ensures few { (choices : SinkChoices) (t : TurnText) (w : World) → (settle choices t w).turns ≤ 16 + length w.stack }
     ensures end_alone { (choices : SinkChoices) (w : World) → w.mode ≡ Initial → (settle choices EofTurn w).turns ≡ 6 }
 {}
 

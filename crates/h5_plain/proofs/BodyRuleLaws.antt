@@ -3,14 +3,17 @@ use Rattle.std.proofs.Common.{◌≡◌, ◌||◌, ℕ, Bool, true, false, List,
 use Rattle.std.proofs.lemmas.Slice.Eq.{bytes_eq-Decides}
 use Rattle.h5_names.specs.AttributeText.{AttributeText, is_same_text}
 use Rattle.h5_interface.specs.NewElement.{is_html_template}
-use Rattle.h5_tag_sets.specs.TagSets.{block_end_names, block_start_names, formatting_names, heading_names, html_namespace, implied_names, is_heading, is_html_named, is_implied, is_one_of, is_table_outer, table_outer_names, void_names}
+use Rattle.h5_tag_sets.specs.TagSets.{block_end_names, block_start_names, cell_names, formatting_names, heading_names, html_namespace, implied_names, is_heading, is_html_named, is_implied, is_one_of, void_names}
 use Rattle.h5_types.specs.TurnText.{TagTurn}
 use Rattle.h5_types.specs.declared.modes.InsertionMode.TheVariants.{InBody}
 use Rattle.h5_stack.specs.FormattingNames.{html_name}
 use Rattle.h5_meaning.specs.InBody.{in_body_end, in_body_end_block, in_body_end_heading, in_body_end_p, in_body_start, in_body_start_block, in_body_start_br, in_body_start_heading, in_body_tag}
+use Rattle.h5_meaning.specs.InCell.{in_cell_closing_ends, in_cell_ignored_ends}
 use Rattle.h5_meaning.specs.Modes.{rule}
+use Rattle.h5_meaning.specs.Shared.{table_structure_names}
 use Rattle.h5_meaning.specs.World.{World}
 use Rattle.h5_plain.specs.Plain.{has_end_tag}
+use Rattle.h5_plain.proofs.ModeLaws.{IsOutside}
 use Rattle.h5_plain.proofs.RuleLaws.{end, start}
 
 -- a `div` and its end
@@ -36,20 +39,32 @@ pub br_rule : (a : List AttributeText) (w : World) → rule InBody (TagTurn (sta
 unfolding in_body_tag in_body_start block_start_names heading_names formatting_names
 br_rule a w = refl
 
--- an element of this name takes children itself, and is written with an end tag
+-- an element of this name is written with an end tag, and takes children itself
 pub record IsHolder (name : List ℕ) : Type 0 where
   pub has_end : has_end_tag name ≡ true
-  pub not_outer : is_table_outer (html_name name) ≡ false
   pub no_template : is_html_template (html_name name) ≡ false
 
 -- `div` and `p` do
 pub div_holds : IsHolder (codes "div")
-unfolding void_names is_table_outer html_namespace table_outer_names
-div_holds = record { has_end = refl; not_outer = refl; no_template = refl }
+unfolding void_names
+div_holds = record { has_end = refl; no_template = refl }
 
 pub p_holds : IsHolder (codes "p")
-unfolding void_names is_table_outer html_namespace table_outer_names
-p_holds = record { has_end = refl; not_outer = refl; no_template = refl }
+unfolding void_names
+p_holds = record { has_end = refl; no_template = refl }
+
+-- and a cell leaves them, and `br`, to the body
+pub div_outside : IsOutside (codes "div")
+unfolding table_structure_names cell_names in_cell_closing_ends in_cell_ignored_ends
+div_outside = record { no_structure = refl; no_cell = refl; closes_none = refl; not_ignored = refl }
+
+pub p_outside : IsOutside (codes "p")
+unfolding table_structure_names cell_names in_cell_closing_ends in_cell_ignored_ends
+p_outside = record { no_structure = refl; no_cell = refl; closes_none = refl; not_ignored = refl }
+
+pub br_outside : IsOutside (codes "br")
+unfolding table_structure_names cell_names in_cell_closing_ends in_cell_ignored_ends
+br_outside = record { no_structure = refl; no_cell = refl; closes_none = refl; not_ignored = refl }
 
 -- a heading
 pub record IsHeadingName (name : List ℕ) : Type 0 where
@@ -59,12 +74,14 @@ pub record IsHeadingName (name : List ℕ) : Type 0 where
   pub itself : is_html_named name (html_name name) ≡ true
   pub heading : is_heading (html_name name) ≡ true
   pub not_implied : is_implied (html_name name) ≡ false
+  pub outside : IsOutside name
 
-abbrev EachOf : (List ℕ → Type 0) → List (List ℕ) → Type 0
+abbrev pub EachOf : (List ℕ → Type 0) → List (List ℕ) → Type 0
 EachOf Of [] = Unit {0}
 EachOf Of (n ∷ ns) = Of n × EachOf Of ns
 
-of_each : (Of : List ℕ → Type 0) (names : List (List ℕ)) → EachOf Of names → (name : List ℕ) → is_one_of names name ≡ true → Of name
+-- what holds of each name holds of any one of them
+pub of_each : (Of : List ℕ → Type 0) (names : List (List ℕ)) → EachOf Of names → (name : List ℕ) → is_one_of names name ≡ true → Of name
 of_each Of [] each name h = absurd (cc)
 of_each Of (n ∷ ns) each name h = at (of_each Of ns each.1 name) (is_same_text n name) refl h
   where
@@ -73,18 +90,18 @@ of_each Of (n ∷ ns) each name h = at (of_each Of ns each.1 name) (is_same_text
     at others false e k = others k
 
 headings : EachOf IsHeadingName heading_names
-unfolding heading_names void_names is_table_outer html_namespace table_outer_names in_body_tag in_body_start in_body_end block_start_names block_end_names is_html_named is_heading is_implied implied_names
+unfolding heading_names void_names html_namespace in_body_tag in_body_start in_body_end block_start_names block_end_names is_html_named is_heading is_implied implied_names table_structure_names cell_names in_cell_closing_ends in_cell_ignored_ends
 headings = (
-  record { holds = record { has_end = refl; not_outer = refl; no_template = refl }; starts = λ a w. refl; ends = λ w. refl; itself = refl; heading = refl; not_implied = refl },
+  record { holds = record { has_end = refl; no_template = refl }; starts = λ a w. refl; ends = λ w. refl; itself = refl; heading = refl; not_implied = refl; outside = record { no_structure = refl; no_cell = refl; closes_none = refl; not_ignored = refl } },
   (
-    record { holds = record { has_end = refl; not_outer = refl; no_template = refl }; starts = λ a w. refl; ends = λ w. refl; itself = refl; heading = refl; not_implied = refl },
+    record { holds = record { has_end = refl; no_template = refl }; starts = λ a w. refl; ends = λ w. refl; itself = refl; heading = refl; not_implied = refl; outside = record { no_structure = refl; no_cell = refl; closes_none = refl; not_ignored = refl } },
     (
-      record { holds = record { has_end = refl; not_outer = refl; no_template = refl }; starts = λ a w. refl; ends = λ w. refl; itself = refl; heading = refl; not_implied = refl },
+      record { holds = record { has_end = refl; no_template = refl }; starts = λ a w. refl; ends = λ w. refl; itself = refl; heading = refl; not_implied = refl; outside = record { no_structure = refl; no_cell = refl; closes_none = refl; not_ignored = refl } },
       (
-        record { holds = record { has_end = refl; not_outer = refl; no_template = refl }; starts = λ a w. refl; ends = λ w. refl; itself = refl; heading = refl; not_implied = refl },
+        record { holds = record { has_end = refl; no_template = refl }; starts = λ a w. refl; ends = λ w. refl; itself = refl; heading = refl; not_implied = refl; outside = record { no_structure = refl; no_cell = refl; closes_none = refl; not_ignored = refl } },
         (
-          record { holds = record { has_end = refl; not_outer = refl; no_template = refl }; starts = λ a w. refl; ends = λ w. refl; itself = refl; heading = refl; not_implied = refl },
-          (record { holds = record { has_end = refl; not_outer = refl; no_template = refl }; starts = λ a w. refl; ends = λ w. refl; itself = refl; heading = refl; not_implied = refl }, tt),
+          record { holds = record { has_end = refl; no_template = refl }; starts = λ a w. refl; ends = λ w. refl; itself = refl; heading = refl; not_implied = refl; outside = record { no_structure = refl; no_cell = refl; closes_none = refl; not_ignored = refl } },
+          (record { holds = record { has_end = refl; no_template = refl }; starts = λ a w. refl; ends = λ w. refl; itself = refl; heading = refl; not_implied = refl; outside = record { no_structure = refl; no_cell = refl; closes_none = refl; not_ignored = refl } }, tt),
         ),
       ),
     ),

@@ -1,4 +1,4 @@
--- What a tag or a text of a plain document does in the body.
+-- What a tag or a text of a plain document does in the body, or in a cell, which goes by the body for it.
 use Rattle.std.proofs.Common.{◌≡◌, ◌∙◌, ℕ, Bool, true, false, ◌&&◌, not, cond, List, [], ◌∷◌, codes, refl, ap, subst}
 use Rattle.h5_names.specs.AttributeText.{AttributeText}
 use Rattle.h5_names.specs.declared.qualified.QualName.{QualName}
@@ -23,33 +23,35 @@ use Rattle.h5_meaning.specs.World.{World, names_of}
 use Rattle.h5_meaning.proofs.FormattingLaws.{reconstruct_none}
 use Rattle.h5_meaning.proofs.PopLaws.{all_implied_none, implied_none}
 use Rattle.h5_plain.specs.Plain.{end_tag, start_tag}
-use Rattle.h5_plain.proofs.BodyRuleLaws.{IsHeadingName, br_rule, div_end_rule, p_end_rule}
+use Rattle.h5_plain.proofs.BodyRuleLaws.{IsHeadingName, br_outside, br_rule, div_end_rule, div_outside, p_end_rule, p_outside}
 use Rattle.h5_stack.specs.FormattingList.{Entry}
 use Rattle.h5_plain.proofs.ListedLaws.{OpenFormat}
 use Rattle.h5_plain.proofs.CalmLaws.{Calm, after, calm_closed, names_are, opened, place_is}
 use Rattle.h5_plain.proofs.FilledLaws.{Face}
 use Rattle.h5_plain.proofs.GoesLaws.{Moves, moves_acknowledged, moves_row, moves_text}
 use Rattle.h5_plain.proofs.GrowthLaws.{with_element}
+use Rattle.h5_plain.proofs.ModeLaws.{GoesByBody, IsOutside, end_by_body, start_by_body}
 use Rattle.h5_plain.proofs.RuleLaws.{end, start}
 
 module _ (choices : SinkChoices) {w : World} {p : ℕ} {d : Face} {names : List QualName} {path : List OpenFormat} {under : List ℕ} {base : List Entry} (c : Calm w p d names path under base) where
-  insert_is : (name : List ℕ) (attrs : List AttributeText) → insert_element choices name attrs false w ≡ opened choices w p name attrs w.mode w.formatting w.frameset_ok
+  -- a new element is put below the current node
+  pub insert_is : (name : List ℕ) (attrs : List AttributeText) → insert_element choices name attrs false w ≡ opened choices w p name attrs w.mode w.formatting w.frameset_ok
   unfolding insert_element
-  insert_is name attrs = ap (λ q. push_new choices q name attrs false w) (place_is w p d c.is_current c.shows c.takes_own c.no_template)
+  insert_is name attrs = ap (λ q. push_new choices q name attrs false w) (place_is w p d c.is_current c.shows c.no_foster c.no_template)
 
-  no_p : has_p_in_button_scope names ≡ false → has_p_in_button_scope (names_of w) ≡ false
+  pub no_p : has_p_in_button_scope names ≡ false → has_p_in_button_scope (names_of w) ≡ false
   no_p h = ap has_p_in_button_scope (names_are w c.named) ∙ h
 
-  none_closed : has_p_in_button_scope names ≡ false → close_p_element_in_button_scope choices w ≡ w
+  pub none_closed : has_p_in_button_scope names ≡ false → close_p_element_in_button_scope choices w ≡ w
   unfolding close_p_element_in_button_scope
   none_closed h = ap (λ b. cond b (close_p_element choices w) w) (no_p h)
 
   -- the start tag of a block
-  pub starts_block : (name : List ℕ) (attrs : List AttributeText) → w.mode ≡ InBody → has_p_in_button_scope names ≡ false → rule InBody (TagTurn (start name attrs)) w ≡ in_body_start_block (start name attrs) w
+  pub starts_block : (name : List ℕ) (attrs : List AttributeText) → GoesByBody w.mode → IsOutside name → has_p_in_button_scope names ≡ false → rule InBody (TagTurn (start name attrs)) w ≡ in_body_start_block (start name attrs) w
       → Moves choices (start_tag name attrs) w (opened choices w p name attrs w.mode w.formatting w.frameset_ok)
-  starts_block name attrs m h e =
-      moves_row choices (start name attrs) w (opened choices w p name attrs w.mode w.formatting w.frameset_ok) InBody (ClosePElementInButtonScope ∷ InsertElement name attrs false ∷ []) m c.ignore_lf
-      (e ∙ ap (λ b. row_if (not b) (ClosePElementInButtonScope ∷ InsertElement name attrs false ∷ []) IsDone) (no_p h)) refl
+  starts_block name attrs m o h e =
+      moves_row choices (start name attrs) w (opened choices w p name attrs w.mode w.formatting w.frameset_ok) w.mode (ClosePElementInButtonScope ∷ InsertElement name attrs false ∷ []) refl c.ignore_lf
+      (start_by_body m name attrs w o.no_structure ∙ e ∙ ap (λ b. row_if (not b) (ClosePElementInButtonScope ∷ InsertElement name attrs false ∷ []) IsDone) (no_p h)) refl
       (ap (insert_element choices name attrs false) (none_closed h) ∙ insert_is name attrs)
 
   -- the start tag of a heading
@@ -58,12 +60,13 @@ module _ (choices : SinkChoices) {w : World} {p : ℕ} {d : Face} {names : List 
   none_popped h = ap (λ b. cond b (pop choices w) w) (ap (first_passes is_heading) (names_are w c.named) ∙ h)
 
   -- what it does
-  pub starts_heading : (name : List ℕ) (attrs : List AttributeText) → IsHeadingName name → w.mode ≡ InBody → has_p_in_button_scope names ≡ false → first_passes is_heading names ≡ false
+  pub starts_heading : (name : List ℕ) (attrs : List AttributeText) → IsHeadingName name → GoesByBody w.mode → has_p_in_button_scope names ≡ false → first_passes is_heading names ≡ false
       → Moves choices (start_tag name attrs) w (opened choices w p name attrs w.mode w.formatting w.frameset_ok)
   starts_heading name attrs k m h i =
       let changes = ClosePElementInButtonScope ∷ PopHeading ∷ InsertElement name attrs false ∷ [] in
-      moves_row choices (start name attrs) w (opened choices w p name attrs w.mode w.formatting w.frameset_ok) InBody changes m c.ignore_lf
-      (k.starts attrs w
+      moves_row choices (start name attrs) w (opened choices w p name attrs w.mode w.formatting w.frameset_ok) w.mode changes refl c.ignore_lf
+      (start_by_body m name attrs w k.outside.no_structure
+      ∙ k.starts attrs w
       ∙ ap (λ b. row_if (not b && not (first_passes is_heading (names_of w))) changes IsDone) (no_p h)
       ∙ ap (λ b. row_if (not b) changes IsDone) (ap (first_passes is_heading) (names_are w c.named) ∙ i)) refl
       (ap (λ v. insert_element choices name attrs false (pop_heading choices v)) (none_closed h)
@@ -73,12 +76,13 @@ module _ (choices : SinkChoices) {w : World} {p : ℕ} {d : Face} {names : List 
   -- a `br`
   break_is : (attrs : List AttributeText) → set_frameset_not_ok (insert_and_pop_element choices (codes "br") attrs false w) ≡ after w (with_element choices p (html_name (codes "br")) attrs w.forest) w.formatting false
   unfolding insert_and_pop_element
-  break_is attrs = ap (λ q. after w (new_element choices q (html_name (codes "br")) attrs false w.forest) w.formatting false) (place_is w p d c.is_current c.shows c.takes_own c.no_template)
+  break_is attrs = ap (λ q. after w (new_element choices q (html_name (codes "br")) attrs false w.forest) w.formatting false) (place_is w p d c.is_current c.shows c.no_foster c.no_template)
 
   -- what it does
-  pub breaks : (attrs : List AttributeText) → w.mode ≡ InBody → Moves choices (start_tag (codes "br") attrs) w (after w (with_element choices p (html_name (codes "br")) attrs w.forest) w.formatting false)
+  pub breaks : (attrs : List AttributeText) → GoesByBody w.mode → Moves choices (start_tag (codes "br") attrs) w (after w (with_element choices p (html_name (codes "br")) attrs w.forest) w.formatting false)
   breaks attrs m =
-      moves_acknowledged choices (start (codes "br") attrs) w _ InBody (ReconstructActiveFormattingElements ∷ InsertAndPopElement (codes "br") attrs false ∷ SetFramesetNotOk ∷ []) m c.ignore_lf (br_rule attrs w)
+      moves_acknowledged choices (start (codes "br") attrs) w _ w.mode (ReconstructActiveFormattingElements ∷ InsertAndPopElement (codes "br") attrs false ∷ SetFramesetNotOk ∷ []) refl c.ignore_lf
+      (start_by_body m (codes "br") attrs w br_outside.no_structure ∙ br_rule attrs w)
       (ap (λ v. set_frameset_not_ok (insert_and_pop_element choices (codes "br") attrs false v)) (reconstruct_none choices w (calm_closed c)) ∙ break_is attrs)
 
   -- a text
@@ -86,51 +90,56 @@ module _ (choices : SinkChoices) {w : World} {p : ℕ} {d : Face} {names : List 
   unfolding append_text set_frameset_ok_by_text
   text_is t =
       let v = after w w.forest w.formatting (w.frameset_ok && all_blank t) in
-      ap (λ q. after w (put q (ChildText t) w.forest) w.formatting (w.frameset_ok && all_blank t)) (place_is v p d c.is_current c.shows c.takes_own c.no_template)
+      ap (λ q. after w (put q (ChildText t) w.forest) w.formatting (w.frameset_ok && all_blank t)) (place_is v p d c.is_current c.shows c.no_foster c.no_template)
 
   -- what it does
-  pub writes : (b : ℕ) (t : List ℕ) → w.mode ≡ InBody → Moves choices (Characters (b ∷ t)) w (after w (append_text_to p (b ∷ t) w.forest) w.formatting (w.frameset_ok && all_blank (b ∷ t)))
+  pub writes : (b : ℕ) (t : List ℕ) → GoesByBody w.mode → Moves choices (Characters (b ∷ t)) w (after w (append_text_to p (b ∷ t) w.forest) w.formatting (w.frameset_ok && all_blank (b ∷ t)))
   writes b t m = subst (Moves choices (Characters (b ∷ t)) w) (text_is (b ∷ t)) (moves_text choices b t w m c.ignore_lf (calm_closed c))
 
+-- a cut at the current node leaves the others
+pub cut_at : (w : World) (names : List QualName) (is : QualName → Bool) (name : QualName) → names_of w ≡ name ∷ names → is name ≡ true
+    → ◌≡◌ {A = World} (record w { stack = cut_through is (names_of w) w.stack }) (record w { stack = but_first w.stack })
+cut_at w names is name e h =
+    ap (λ ns. let v : World = record w { stack = cut_through is ns w.stack } in v) e
+    ∙ ap (λ b. let v : World = record w { stack = cond b (but_first w.stack) (cut_through is names (but_first w.stack)) } in v) h
+
 -- end tags: the current node leaves the stack, and nothing else changes
-module _ (choices : SinkChoices) (w : World) (names : List QualName) (m : w.mode ≡ InBody) (i : w.ignore_lf ≡ false) where
+module _ (choices : SinkChoices) (w : World) (names : List QualName) (m : GoesByBody w.mode) (i : w.ignore_lf ≡ false) where
   abbrev pub left : World
   left = record w { stack = but_first w.stack }
-
-  cut_at : (is : QualName → Bool) (name : QualName) → names_of w ≡ name ∷ names → is name ≡ true → ◌≡◌ {A = World} (record w { stack = cut_through is (names_of w) w.stack }) left
-  cut_at is name e h =
-      ap (λ ns. let v : World = record w { stack = cut_through is ns w.stack } in v) e
-      ∙ ap (λ b. let v : World = record w { stack = cond b (but_first w.stack) (cut_through is names (but_first w.stack)) } in v) h
 
   -- of a `div`
   pub ends_div : names_of w ≡ html_name (codes "div") ∷ names → Moves choices (end_tag (codes "div")) w left
   unfolding in_body_end_block is_html_named html_namespace is_implied implied_names pop_until_named
   ends_div e =
-      moves_row choices (end (codes "div")) w left InBody (GenerateImpliedEnd ∷ PopUntilNamed (codes "div") ∷ []) m i
-      (div_end_rule w
+      moves_row choices (end (codes "div")) w left w.mode (GenerateImpliedEnd ∷ PopUntilNamed (codes "div") ∷ []) refl i
+      (end_by_body m (codes "div") w div_outside
+      ∙ div_end_rule w
       ∙ ap (λ ns. choose (in_scope (is_html_named (codes "div")) is_default_scope ns) (row_if (first_passes (is_html_named (codes "div")) ns) (GenerateImpliedEnd ∷ PopUntilNamed (codes "div") ∷ []) IsDone) ignored) e) refl
       (ap (pop_until_named (codes "div")) (all_implied_none choices w (ap (first_passes is_implied) e))
-      ∙ cut_at (is_html_named (codes "div")) (html_name (codes "div")) e refl)
+      ∙ cut_at w names (is_html_named (codes "div")) (html_name (codes "div")) e refl)
 
   -- of a `p`
   pub ends_p : names_of w ≡ html_name (codes "p") ∷ names → Moves choices (end_tag (codes "p")) w left
   unfolding in_body_end_p is_html_named html_namespace is_implied implied_names pop_until_named close_p_element
   ends_p e =
-      moves_row choices (end (codes "p")) w left InBody (ClosePElement ∷ []) m i
-      (p_end_rule w
+      moves_row choices (end (codes "p")) w left w.mode (ClosePElement ∷ []) refl i
+      (end_by_body m (codes "p") w p_outside
+      ∙ p_end_rule w
       ∙ ap (λ ns. choose (has_p_in_button_scope ns) (row_if (first_passes (is_html_named (codes "p")) ns) (ClosePElement ∷ []) IsDone) (errs (InsertElement (codes "p") [] false ∷ ClosePElement ∷ []) IsDone)) e) refl
       (ap (pop_until_named (codes "p")) (implied_none choices (codes "p") w (ap (first_passes (is_implied_but (codes "p"))) e))
-      ∙ cut_at (is_html_named (codes "p")) (html_name (codes "p")) e refl)
+      ∙ cut_at w names (is_html_named (codes "p")) (html_name (codes "p")) e refl)
 
   -- of a heading
   pub ends_heading : (name : List ℕ) → IsHeadingName name → names_of w ≡ html_name name ∷ names → Moves choices (end_tag name) w left
   unfolding in_body_end_heading pop_until_heading
   ends_heading name k e =
       let changes = GenerateImpliedEnd ∷ PopUntilHeading ∷ [] in
-      moves_row choices (end name) w left InBody changes m i
-      (k.ends w
+      moves_row choices (end name) w left w.mode changes refl i
+      (end_by_body m name w k.outside
+      ∙ k.ends w
       ∙ ap (λ ns. choose (in_scope is_heading is_default_scope ns) (row_if (first_passes (is_html_named name) ns) changes IsDone) ignored) e
       ∙ ap (λ b. choose (cond b true (cond (is_default_scope (html_name name)) false (in_scope is_heading is_default_scope names))) (row_if (is_html_named name (html_name name)) changes IsDone) ignored) k.heading
       ∙ ap (λ b. row_if b changes IsDone) k.itself) refl
       (ap pop_until_heading (all_implied_none choices w (ap (first_passes is_implied) e ∙ k.not_implied))
-      ∙ cut_at is_heading (html_name name) e k.heading)
+      ∙ cut_at w names is_heading (html_name name) e k.heading)

@@ -1,34 +1,42 @@
 -- A plain list of nodes is built below the current node.
-use Rattle.std.proofs.Common.{◌≡◌, ◌∙◌, ℕ, Bool, false, ◌&&◌, List, [], ◌∷◌, codes, refl}
+use Rattle.std.proofs.Common.{◌≡◌, ℕ, Bool, true, false, ◌&&◌, List, [], ◌∷◌, codes, refl, ap, cond, subst, sym, ◌∙◌}
 use Rattle.h5_names.specs.AttributeText.{AttributeText}
 use Rattle.h5_names.specs.declared.qualified.QualName.{QualName}
 use Rattle.h5_interface.specs.Changes.{append_text}
 use Rattle.h5_interface.specs.Forest.{Child, ChildNode, ChildText, Forest}
 use Rattle.h5_interface.specs.SinkChoices.{SinkChoices}
-use Rattle.h5_tag_sets.specs.TagSets.{button_scope_names, heading_names, html_namespace, is_button_scope, is_default_scope, is_heading, is_html_named, is_table_outer, mathml_namespace, scope_names, svg_namespace, void_names}
+use Rattle.h5_fits.specs.Roles.{role_of, role_of_local}
+use Rattle.h5_tag_sets.specs.TagSets.{button_scope_names, heading_names, html_namespace, is_button_scope, is_default_scope, is_heading, is_html_named, is_table_body_context, is_table_row_context, is_table_scope, mathml_namespace, scope_names, svg_namespace, table_body_context_names, table_row_context_names, table_scope_names, void_names}
 use Rattle.h5_types.specs.declared.modes.InsertionMode.{InsertionMode}
-use Rattle.h5_types.specs.declared.modes.InsertionMode.TheVariants.{InBody}
+use Rattle.h5_types.specs.declared.modes.InsertionMode.TheVariants.{InBody, InCell, InRow, InTable, InTableBody}
 use Rattle.h5_stack.specs.FormattingNames.{html_name}
 use Rattle.h5_stack.specs.Order.{but_first}
 use Rattle.h5_stack.specs.Scope.{first_passes, has_p_in_button_scope}
 use Rattle.h5_meaning.specs.Blanks.{all_blank}
 use Rattle.h5_meaning.specs.World.{World, names_of}
-use Rattle.h5_plain.specs.Plain.{Blocks, Break, Division, ElementThen, End, Heading, Inlines, IsPlain, Nodes, Nothing, Paragraph, Sort, TextThen, Words, end_tag, start_tag}
-use Rattle.h5_stack.specs.FormattingList.{Entry}
+use Rattle.h5_plain.specs.Plain.{Blocks, Break, Cell, Cells, Division, ElementThen, End, Heading, Inlines, IsPlain, Items, Nodes, Nothing, Paragraph, Rows, Section, Sections, Sort, Table, TableRow, TextThen, Words, end_tag, start_tag}
+use Rattle.h5_stack.specs.FormattingList.{Entry, MarkerEntry}
 use Rattle.h5_plain.proofs.ListedLaws.{OpenFormat, has_link}
-use Rattle.h5_plain.proofs.BodyRuleLaws.{IsHolder, div_holds, div_rule, is_heading_name, p_holds, p_rule}
+use Rattle.h5_plain.proofs.BodyRuleLaws.{IsHolder, div_holds, div_outside, div_rule, is_heading_name, p_holds, p_outside, p_rule}
 use Rattle.h5_plain.proofs.BodyStepLaws.{breaks, ends_div, ends_heading, ends_p, starts_block, starts_heading, writes}
-use Rattle.h5_plain.proofs.CalmLaws.{Built, Calm, Opens, after, built_nothing, calm_after, calm_below, element_case, nowhere, opened}
+use Rattle.h5_plain.proofs.CalmLaws.{Built, Calm, Opens, after, built_nothing, calm_after, calm_below, element_case, opened}
 use Rattle.h5_plain.proofs.FilledLaws.{Face, face, filled_element, filled_nothing, filled_text, frame_element, frame_text, more, same_faces}
 use Rattle.h5_plain.proofs.GoesLaws.{Moves}
 use Rattle.h5_plain.proofs.GrowthLaws.{body, html, with_element}
 use Rattle.h5_plain.proofs.LooksLaws.{ends_in_node, ends_in_text}
+use Rattle.h5_plain.proofs.ModeLaws.{GoesByBody, ResetsTo, TheBody, TheCell, resets_below, resets_to_cell}
+use Rattle.h5_plain.proofs.TableBuildsLaws.{cell_case, in_cell, in_part, part_case}
+use Rattle.h5_plain.proofs.TableRuleLaws.{IsCellName, is_cell_name, row_holds, row_rule, section_holds, section_rule, table_holds}
+use Rattle.h5_plain.proofs.TableStepLaws.{Ends, ends_row, ends_section, ends_table, starts_part, starts_table}
 
 -- the mode and the names of the open elements where such nodes may come
 abbrev pub Fits : Sort → InsertionMode → List QualName → Type 0
-Fits Blocks m names = (m ≡ InBody) × ((has_p_in_button_scope names ≡ false) × (first_passes is_heading names ≡ false))
-Fits (Inlines after_text linked) m names = m ≡ InBody
-Fits _ m names = Unit {0}
+Fits Blocks m names = GoesByBody m × ((has_p_in_button_scope names ≡ false) × ((first_passes is_heading names ≡ false) × ResetsTo names m))
+Fits (Inlines after_text linked) m names = GoesByBody m
+Fits Items m names = Unit {0}
+Fits Sections m names = (m ≡ InTable) × (first_passes is_table_scope names ≡ true)
+Fits Rows m names = (m ≡ InTableBody) × (first_passes is_table_body_context names ≡ true)
+Fits Cells m names = (m ≡ InRow) × (first_passes is_table_row_context names ≡ true)
 
 -- a text may come
 abbrev pub Seam : Sort → List Child → Type 0
@@ -36,13 +44,37 @@ Seam (Inlines false linked) cs = ends_in_text cs ≡ false
 Seam _ cs = Unit {0}
 
 in_division : (m : InsertionMode) (names : List QualName) → Fits Blocks m names → Fits Blocks m (html_name (codes "div") ∷ names)
-unfolding is_html_named is_button_scope is_default_scope is_heading html_namespace mathml_namespace svg_namespace scope_names button_scope_names heading_names
-in_division m names f = (f.0, (f.1.0, refl))
+unfolding is_html_named is_button_scope is_default_scope is_heading html_namespace mathml_namespace svg_namespace scope_names button_scope_names heading_names role_of role_of_local
+in_division m names f = (f.0, (f.1.0, (refl, resets_below (html_name (codes "div")) names refl f.1.1.1)))
 
 -- blocks may come in the body
-pub body_fits : (has_p_in_button_scope (body ∷ html ∷ []) ≡ false) × (first_passes is_heading (body ∷ html ∷ []) ≡ false)
-unfolding is_html_named is_button_scope is_default_scope is_heading html_namespace mathml_namespace svg_namespace scope_names button_scope_names heading_names
-body_fits = (refl, refl)
+pub body_fits : (m : InsertionMode) → m ≡ InBody → Fits Blocks m (body ∷ html ∷ [])
+unfolding is_html_named is_button_scope is_default_scope is_heading html_namespace mathml_namespace svg_namespace scope_names button_scope_names heading_names role_of role_of_local
+body_fits m e = subst (λ k. Fits Blocks k (body ∷ html ∷ [])) (sym e) (TheBody, (refl, (refl, λ s. refl)))
+
+-- what a table and its parts hold may come in them
+in_table : (names : List QualName) → Fits Sections InTable (html_name (codes "table") ∷ names)
+unfolding is_table_scope html_namespace table_scope_names
+in_table names = (refl, refl)
+
+in_section : (names : List QualName) → Fits Rows InTableBody (html_name (codes "tbody") ∷ names)
+unfolding is_table_body_context html_namespace table_body_context_names
+in_section names = (refl, refl)
+
+in_row : (names : List QualName) → Fits Cells InRow (html_name (codes "tr") ∷ names)
+unfolding is_table_row_context html_namespace table_row_context_names
+in_row names = (refl, refl)
+
+-- blocks may come in a cell, which ends the scope of a `p`
+in_a_cell : (name : List ℕ) (names : List QualName) → IsCellName name → first_passes is_table_row_context names ≡ true → Fits Blocks InCell (html_name name ∷ names)
+in_a_cell name names k h = (
+  TheCell,
+  (
+    ap (λ b. cond b true (cond (is_button_scope (html_name name)) false (has_p_in_button_scope names))) k.no_p
+        ∙ ap (λ b. cond b false (has_p_in_button_scope names)) k.ends_scope,
+    (k.no_heading, resets_to_cell (html_name name) is_table_row_context names k.role h),
+  ),
+)
 
 -- the open formatting elements that such nodes know of
 abbrev pub open_of : Sort → List OpenFormat → List OpenFormat
@@ -62,7 +94,6 @@ module _ (choices : SinkChoices) {w : World} {p : ℕ} {d : Face} {names : List 
   opens_block : IsHolder name → Moves choices (start_tag name attrs) w in_block → Opens choices w p d name attrs w.mode w.formatting w.frameset_ok [] (choices.fresh w.forest ∷ w.stack) base
   opens_block h m = record {
     has_end = h.has_end;
-    takes_own = nowhere w.foster (is_table_outer (html_name name)) h.not_outer;
     no_template = h.no_template;
     moves = m;
     are_open = refl;
@@ -89,7 +120,7 @@ module _ (choices : SinkChoices) {w : World} {p : ℕ} {d : Face} {names : List 
       next
 
 -- inlines: a text and the rest, a `br` and the rest
-module _ (choices : SinkChoices) {w : World} {p : ℕ} {d : Face} {names : List QualName} {path : List OpenFormat} {under : List ℕ} {base : List Entry} (c : Calm w p d names path under base) (m : w.mode ≡ InBody) where
+module _ (choices : SinkChoices) {w : World} {p : ℕ} {d : Face} {names : List QualName} {path : List OpenFormat} {under : List ℕ} {base : List Entry} (c : Calm w p d names path under base) (m : GoesByBody w.mode) where
   abbrev written : List ℕ → World
   written t = after w (append_text p t w.forest) w.formatting (w.frameset_ok && all_blank t)
 
@@ -142,22 +173,48 @@ pub builds : (choices : SinkChoices) {s : Sort} {nodes : Nodes} → IsPlain s no
 builds choices Nothing w p d names path under base f z l c = built_nothing choices c
 builds choices (Division {attrs} {inner} {rest} a i r) w p d names path under base f z l c =
     let n = choices.fresh w.forest in
-    block_case choices c (codes "div") attrs inner rest div_holds (starts_block choices c (codes "div") attrs f.0 f.1.0 (div_rule attrs w))
+    block_case choices c (codes "div") attrs inner rest div_holds (starts_block choices c (codes "div") attrs f.0 div_outside f.1.0 (div_rule attrs w))
     (λ o. builds choices i (in_block choices c (codes "div") attrs) n (face (codes "div") attrs) (html_name (codes "div") ∷ names) [] (n ∷ w.stack) base (in_division w.mode names f) tt tt o)
-    (λ v m k e. ends_div choices v names (m ∙ f.0) k e)
+    (λ v m k e. ends_div choices v names (subst GoesByBody (sym m) f.0) k e)
     (λ g k b q. builds choices r (after w g k b) p (more d (ChildNode n ∷ [])) names path under base f tt tt q)
 builds choices (Paragraph {attrs} {inner} {rest} a i r) w p d names path under base f z l c =
     let n = choices.fresh w.forest in
-    block_case choices c (codes "p") attrs inner rest p_holds (starts_block choices c (codes "p") attrs f.0 f.1.0 (p_rule attrs w))
+    block_case choices c (codes "p") attrs inner rest p_holds (starts_block choices c (codes "p") attrs f.0 p_outside f.1.0 (p_rule attrs w))
     (λ o. builds choices i (in_block choices c (codes "p") attrs) n (face (codes "p") attrs) (html_name (codes "p") ∷ names) [] (n ∷ w.stack) base f.0 refl refl o)
-    (λ v m k e. ends_p choices v names (m ∙ f.0) k e)
+    (λ v m k e. ends_p choices v names (subst GoesByBody (sym m) f.0) k e)
     (λ g k b q. builds choices r (after w g k b) p (more d (ChildNode n ∷ [])) names path under base f tt tt q)
 builds choices (Heading {name} {attrs} {inner} {rest} h a i r) w p d names path under base f z l c =
     let n = choices.fresh w.forest in
     let x = is_heading_name name h in
-    block_case choices c name attrs inner rest x.holds (starts_heading choices c name attrs x f.0 f.1.0 f.1.1)
+    block_case choices c name attrs inner rest x.holds (starts_heading choices c name attrs x f.0 f.1.0 f.1.1.0)
     (λ o. builds choices i (in_block choices c name attrs) n (face name attrs) (html_name name ∷ names) [] (n ∷ w.stack) base f.0 refl refl o)
-    (λ v m k e. ends_heading choices v names (m ∙ f.0) k name x e)
+    (λ v m k e. ends_heading choices v names (subst GoesByBody (sym m) f.0) k name x e)
+    (λ g k b q. builds choices r (after w g k b) p (more d (ChildNode n ∷ [])) names path under base f tt tt q)
+builds choices (Table {attrs} {inner} {rest} a i r) w p d names path under base f z l c =
+    let n = choices.fresh w.forest in
+    part_case choices c (codes "table") attrs InTable false inner rest table_holds (starts_table choices c attrs f.0 f.1.0)
+    (λ o. builds choices i (in_part choices c (codes "table") attrs InTable false) n (face (codes "table") attrs) (html_name (codes "table") ∷ names) [] (n ∷ w.stack) base (in_table names) tt tt o)
+    (λ v g k m e. ends_table choices v names g k w.mode m e f.1.1.1)
+    (λ g k b q. builds choices r (after w g k b) p (more d (ChildNode n ∷ [])) names path under base f tt tt q)
+builds choices (Section {attrs} {inner} {rest} a i r) w p d names path under base f z l c =
+    let n = choices.fresh w.forest in
+    part_case choices c (codes "tbody") attrs InTableBody w.frameset_ok inner rest section_holds
+    (starts_part choices c (codes "tbody") attrs InTable InTableBody is_table_scope f.0 f.1 (section_rule attrs w))
+    (λ o. builds choices i (in_part choices c (codes "tbody") attrs InTableBody w.frameset_ok) n (face (codes "tbody") attrs) (html_name (codes "tbody") ∷ names) [] (n ∷ w.stack) base (in_section names) tt tt o)
+    (λ v g k m e. subst (Ends choices (codes "tbody") v) (sym f.0) (ends_section choices v names g k m e))
+    (λ g k b q. builds choices r (after w g k b) p (more d (ChildNode n ∷ [])) names path under base f tt tt q)
+builds choices (TableRow {attrs} {inner} {rest} a i r) w p d names path under base f z l c =
+    let n = choices.fresh w.forest in
+    part_case choices c (codes "tr") attrs InRow w.frameset_ok inner rest row_holds
+    (starts_part choices c (codes "tr") attrs InTableBody InRow is_table_body_context f.0 f.1 (row_rule attrs w))
+    (λ o. builds choices i (in_part choices c (codes "tr") attrs InRow w.frameset_ok) n (face (codes "tr") attrs) (html_name (codes "tr") ∷ names) [] (n ∷ w.stack) base (in_row names) tt tt o)
+    (λ v g k m e. subst (Ends choices (codes "tr") v) (sym f.0) (ends_row choices v names g k m e))
+    (λ g k b q. builds choices r (after w g k b) p (more d (ChildNode n ∷ [])) names path under base f tt tt q)
+builds choices (Cell {name} {attrs} {inner} {rest} h a i r) w p d names path under base f z l c =
+    let n = choices.fresh w.forest in
+    let x = is_cell_name name h in
+    cell_case choices c name attrs inner rest x f.0 f.1
+    (λ o. builds choices i (in_cell choices c name attrs) n (face name attrs) (html_name name ∷ names) [] (n ∷ w.stack) (MarkerEntry ∷ w.formatting) (in_a_cell name names x f.1) tt tt o)
     (λ g k b q. builds choices r (after w g k b) p (more d (ChildNode n ∷ [])) names path under base f tt tt q)
 builds choices (Words {linked} {first} {more = further} {rest} a r) w p d names path under base f z l c =
     words_case choices c f first further rest z

@@ -40,7 +40,7 @@ pub named_kept : {f : Forest} (g : Forest) {s : List ℕ} {names : List QualName
 named_kept g k NoneOpen = NoneOpen
 named_kept {f} g k (OneOpen {n} {name} e r) = OneOpen (k n (node_of_kind f n (ElementNode name) e) ∙ e) (named_kept g k r)
 
--- the builder is at the node p, which is `d` and takes children itself. `path` are the open formatting elements of
+-- the builder is at the node p, which is `d` and, foster parenting being off, takes children itself. `path` are the open formatting elements of
 -- the inlines that the builder is in, `under` the open elements below them, `base` the formatting list before them
 pub record Calm (w : World) (p : ℕ) (d : Face) (names : List QualName) (path : List OpenFormat) (under : List ℕ) (base : List Entry) : Type 0 where
   pub is_forest : IsForest w.forest
@@ -48,7 +48,7 @@ pub record Calm (w : World) (p : ℕ) (d : Face) (names : List QualName) (path :
   pub is_current : current w ≡ p
   pub shows : Shows w.forest p d
   pub named : Named w.forest w.stack names
-  pub takes_own : (w.foster && is_table_outer (name_of_kind d.kind)) ≡ false
+  pub no_foster : w.foster ≡ false
   pub no_template : is_html_template (name_of_kind d.kind) ≡ false
   pub are_open : w.stack ≡ open_nodes path ++ under
   pub is_base : IsBase base
@@ -60,13 +60,13 @@ pub calm_closed : {w : World} {p : ℕ} {d : Face} {names : List QualName} {path
 calm_closed {w} {under = under} c = ap (λ s. closed_front s w.formatting) c.are_open ∙ entries_closed under c.is_base c.entries
 
 -- so what is inserted becomes its last child
-pub place_is : (w : World) (p : ℕ) (d : Face) → current w ≡ p → Shows w.forest p d → (w.foster && is_table_outer (name_of_kind d.kind)) ≡ false → is_html_template (name_of_kind d.kind) ≡ false → place w ≡ LastChild p
+pub place_is : (w : World) (p : ℕ) (d : Face) → current w ≡ p → Shows w.forest p d → w.foster ≡ false → is_html_template (name_of_kind d.kind) ≡ false → place w ≡ LastChild p
 unfolding appropriate_place
-place_is w p d e l own untemplated =
+place_is w p d e l off untemplated =
     let name : name_in w.forest p ≡ name_of_kind d.kind = ap name_of_found l.is_kind in
     ap (appropriate_place w) e
     ∙ ap (λ b. cond b (foster_place w.forest (root w) (from_foster_parent w.forest w.stack)) (LastChild (cond (is_html_template (name_in w.forest p)) (unwrap_or (contents_of w.forest p) p) p)))
-    (ap (λ n. w.foster && is_table_outer n) name ∙ own)
+    (ap (λ b. b && is_table_outer (name_in w.forest p)) off)
     ∙ ap (λ b. LastChild (cond b (unwrap_or (contents_of w.forest p) p) p)) (ap is_html_template name ∙ untemplated)
 
 -- the world after: what isn't named here is as before
@@ -82,11 +82,6 @@ opened choices w p name attrs m l ok = record w {
   formatting = l;
   frameset_ok = ok;
 }
-
--- a product with nothing is nothing
-pub nowhere : (b c : Bool) → c ≡ false → (b && c) ≡ false
-nowhere true c e = e
-nowhere false c e = refl
 
 -- what the tokens of a list of nodes lead to
 pub record Built (choices : SinkChoices) (w : World) (p : ℕ) (d : Face) (nodes : Nodes) (path : List OpenFormat) (base : List Entry) : Type 0 where
@@ -120,7 +115,7 @@ module _ (choices : SinkChoices) {w : World} {p : ℕ} {d : Face} {names : List 
     is_current = ap (λ n. first_or n w.stack) r.document ∙ c.is_current;
     shows = r.here;
     named = named_kept g r.kinds c.named;
-    takes_own = c.takes_own;
+    no_foster = c.no_foster;
     no_template = c.no_template;
     are_open = c.are_open;
     is_base = c.is_base;
@@ -151,7 +146,6 @@ module _ (choices : SinkChoices) (w : World) (p : ℕ) (d : Face) (name : List �
   -- what must hold for it
   pub record Opens : Type 0 where
     pub has_end : has_end_tag name ≡ true
-    pub takes_own : (w.foster && is_table_outer (html_name name)) ≡ false
     pub no_template : is_html_template (html_name name) ≡ false
     pub moves : Moves choices (start_tag name attrs) w inside
     pub are_open : new ∷ w.stack ≡ open_nodes path1 ++ under1
@@ -169,7 +163,7 @@ module _ (choices : SinkChoices) (w : World) (p : ℕ) (d : Face) (name : List �
           is_current = refl;
           shows = below.new;
           named = OneOpen below.new.is_kind (named_kept inside.forest below.same_kind c.named);
-          takes_own = o.takes_own;
+          no_foster = c.no_foster;
           no_template = o.no_template;
           are_open = o.are_open;
           is_base = o.is_base;

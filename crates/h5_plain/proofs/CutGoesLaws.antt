@@ -1,16 +1,18 @@
 -- However the texts of a list of tokens are cut, it leads where it leads uncut.
-use Rattle.std.proofs.Common.{◌≡◌, ℕ, true, List, [], ◌∷◌, ◌++◌, refl, ap, sym, ◌∙◌}
+use Rattle.std.proofs.Common.{◌≡◌, ℕ, true, List, [], ◌∷◌, ◌++◌, refl, ap, sym, subst, ◌∙◌}
 use Rattle.h5_token.specs.Reply.{Continues}
 use Rattle.h5_token.specs.TokenText.{TokenText, DoctypeIs, TagIs, CommentIs, Characters, NullCharacter, EndOfFile, ParseErrorIs}
 use Rattle.h5_interface.specs.SinkChoices.{SinkChoices}
 use Rattle.h5_types.specs.declared.modes.InsertionMode.{InsertionMode}
-use Rattle.h5_types.specs.declared.modes.InsertionMode.TheVariants.{InBody}
+use Rattle.h5_types.specs.declared.modes.InsertionMode.TheVariants.{InBody, InCaption, InCell}
 use Rattle.h5_token.specs.Joins.{glue, join}
 use Rattle.h5_meaning.specs.Changes.{append_text, set_frameset_ok_by_text}
 use Rattle.h5_meaning.specs.Run.{step, taken, text_step, without_lf}
 use Rattle.h5_meaning.specs.Text.{is_quiet_text, text_in_body, text_rule}
 use Rattle.h5_meaning.specs.World.{World}
 use Rattle.h5_meaning.proofs.CutLaws.{by_mode}
+use Rattle.h5_meaning.proofs.ListedLaws.{Listed}
+use Rattle.h5_meaning.proofs.ListedRunLaws.{listed_step}
 use Rattle.h5_meaning.proofs.RunLaws.{step_cut, without_lf-append}
 use Rattle.h5_meaning.proofs.TreeLaws.{tree_reconstruct}
 use Rattle.h5_plain.proofs.GoesLaws.{Goes, Moves}
@@ -36,6 +38,8 @@ body_mode choices t w = ap (λ (v : World). v.mode) (tree_reconstruct choices w)
 
 quiet_after : (choices : SinkChoices) (m : InsertionMode) (b : ℕ) (t : List ℕ) (w : World) → w.mode ≡ m → is_quiet_text m ≡ true → is_quiet_text (text_rule choices (b ∷ t) w).mode ≡ true
 quiet_after choices InBody b t w e q = ap (λ (v : World). is_quiet_text v.mode) (by_mode choices InBody (b ∷ t) w e) ∙ ap is_quiet_text (body_mode choices (b ∷ t) w ∙ e)
+quiet_after choices InCaption b t w e q = ap (λ (v : World). is_quiet_text v.mode) (by_mode choices InCaption (b ∷ t) w e) ∙ ap is_quiet_text (body_mode choices (b ∷ t) w ∙ e)
+quiet_after choices InCell b t w e q = ap (λ (v : World). is_quiet_text v.mode) (by_mode choices InCell (b ∷ t) w e) ∙ ap is_quiet_text (body_mode choices (b ∷ t) w ∙ e)
 quiet_after choices m b t w e q = absurd (cc)
 
 still_quiet : (choices : SinkChoices) (t : List ℕ) (w : World) → is_quiet_text w.mode ≡ true → is_quiet_text (text_step choices t w).world.mode ≡ true
@@ -53,9 +57,9 @@ module _ (choices : SinkChoices) (b : ℕ) (t : List ℕ) (d : ℕ) (u : List �
       quiet_mode choices (without_lf w.ignore_lf (b ∷ t)) u d (taken w)
       (ap (λ x. (text_step choices x (taken w)).quiet) (sym (without_lf-append w.ignore_lf b t (d ∷ u))) ∙ q)
 
-  cut_moves : (v : World) → Moves choices (Characters ((b ∷ t) ++ d ∷ u)) w v → Moves choices (Characters (b ∷ t)) w middle × Moves choices (Characters (d ∷ u)) middle v
+  cut_moves : (v : World) → Listed w → Moves choices (Characters ((b ∷ t) ++ d ∷ u)) w v → Moves choices (Characters (b ∷ t)) w middle × Moves choices (Characters (d ∷ u)) middle v
   unfolding step
-  cut_moves v m =
+  cut_moves v k m =
       let q = mode_is_quiet m.quiet in (
         record {
           world = refl;
@@ -63,30 +67,34 @@ module _ (choices : SinkChoices) (b : ℕ) (t : List ℕ) (d : ℕ) (u : List �
           quiet = text_quiet choices (without_lf w.ignore_lf (b ∷ t)) (taken w) q;
         },
         record {
-          world = sym (step_cut choices b t d u w) ∙ m.world;
+          world = sym (step_cut choices b t d u w k) ∙ m.world;
           reply = text_continues choices (without_lf middle.ignore_lf (d ∷ u)) (taken middle);
           quiet = text_quiet choices (without_lf middle.ignore_lf (d ∷ u)) (taken middle) (still_quiet choices (without_lf w.ignore_lf (b ∷ t)) (taken w) q);
         },
       )
 
-unglued : (choices : SinkChoices) (t : List ℕ) (ts : List TokenText) (w u : World) → Goes choices (glue t ts) w u → Goes choices (Characters t ∷ ts) w u
-unglued choices [] ts w u g = g
-unglued choices (b ∷ t) [] w u g = g
-unglued choices (b ∷ t) (Characters [] ∷ ts) w u g = g
-unglued choices (b ∷ t) (Characters (d ∷ r) ∷ ts) w u (v, (m, g)) =
-    let both = cut_moves choices b t d r w v m in
+unglued : (choices : SinkChoices) (t : List ℕ) (ts : List TokenText) (w u : World) → Listed w → Goes choices (glue t ts) w u → Goes choices (Characters t ∷ ts) w u
+unglued choices [] ts w u k g = g
+unglued choices (b ∷ t) [] w u k g = g
+unglued choices (b ∷ t) (Characters [] ∷ ts) w u k g = g
+unglued choices (b ∷ t) (Characters (d ∷ r) ∷ ts) w u k (v, (m, g)) =
+    let both = cut_moves choices b t d r w v k m in
     ((step choices (Characters (b ∷ t)) w).world, (both.0, (v, (both.1, g))))
-unglued choices (b ∷ t) (_ ∷ ts) w u g = g
+unglued choices (b ∷ t) (_ ∷ ts) w u k g = g
 
--- the whole list
-pub goes_cut : (choices : SinkChoices) (ts : List TokenText) (w u : World) → Goes choices (join ts) w u → Goes choices ts w u
-goes_cut choices [] w u g = g
-goes_cut choices (Characters t ∷ ts) w u g =
-    let h = unglued choices t (join ts) w u g in
-    (h.0, (h.1.0, goes_cut choices ts h.0 u h.1.1))
-goes_cut choices (DoctypeIs x ∷ ts) w u (v, (m, g)) = (v, (m, goes_cut choices ts v u g))
-goes_cut choices (TagIs x ∷ ts) w u (v, (m, g)) = (v, (m, goes_cut choices ts v u g))
-goes_cut choices (CommentIs x ∷ ts) w u (v, (m, g)) = (v, (m, goes_cut choices ts v u g))
-goes_cut choices (NullCharacter ∷ ts) w u (v, (m, g)) = (v, (m, goes_cut choices ts v u g))
-goes_cut choices (EndOfFile ∷ ts) w u (v, (m, g)) = (v, (m, goes_cut choices ts v u g))
-goes_cut choices (ParseErrorIs x ∷ ts) w u (v, (m, g)) = (v, (m, goes_cut choices ts v u g))
+-- a token that is taken leaves the list of active formatting elements of their names
+listed_moves : (choices : SinkChoices) (t : TokenText) (w v : World) → Listed w → Moves choices t w v → Listed v
+listed_moves choices t w v k m = subst Listed m.world (listed_step choices t w k)
+
+-- the whole list, where the list of active formatting elements is of their names
+pub goes_cut : (choices : SinkChoices) (ts : List TokenText) (w u : World) → Listed w → Goes choices (join ts) w u → Goes choices ts w u
+goes_cut choices [] w u k g = g
+goes_cut choices (Characters t ∷ ts) w u k g =
+    let h = unglued choices t (join ts) w u k g in
+    (h.0, (h.1.0, goes_cut choices ts h.0 u (listed_moves choices (Characters t) w h.0 k h.1.0) h.1.1))
+goes_cut choices (DoctypeIs x ∷ ts) w u k (v, (m, g)) = (v, (m, goes_cut choices ts v u (listed_moves choices (DoctypeIs x) w v k m) g))
+goes_cut choices (TagIs x ∷ ts) w u k (v, (m, g)) = (v, (m, goes_cut choices ts v u (listed_moves choices (TagIs x) w v k m) g))
+goes_cut choices (CommentIs x ∷ ts) w u k (v, (m, g)) = (v, (m, goes_cut choices ts v u (listed_moves choices (CommentIs x) w v k m) g))
+goes_cut choices (NullCharacter ∷ ts) w u k (v, (m, g)) = (v, (m, goes_cut choices ts v u (listed_moves choices NullCharacter w v k m) g))
+goes_cut choices (EndOfFile ∷ ts) w u k (v, (m, g)) = (v, (m, goes_cut choices ts v u (listed_moves choices EndOfFile w v k m) g))
+goes_cut choices (ParseErrorIs x ∷ ts) w u k (v, (m, g)) = (v, (m, goes_cut choices ts v u (listed_moves choices (ParseErrorIs x) w v k m) g))

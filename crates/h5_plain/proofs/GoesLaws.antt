@@ -5,20 +5,19 @@ use Rattle.h5_token.specs.TokenText.{TagText, TokenText, TagIs, Characters, EndO
 use Rattle.h5_interface.specs.SinkChoices.{SinkChoices}
 use Rattle.h5_types.specs.TurnText.{EofTurn, TagTurn, TurnText, is_self_closing}
 use Rattle.h5_types.specs.declared.modes.InsertionMode.{InsertionMode}
-use Rattle.h5_types.specs.declared.modes.InsertionMode.TheVariants.{InBody}
 use Rattle.h5_stack.specs.FormattingList.{closed_front}
 use Rattle.h5_meaning.specs.Changes.{append_text, set_frameset_ok_by_text}
 use Rattle.h5_meaning.specs.Modes.{rule}
 use Rattle.h5_meaning.specs.Rows.{Change, IsAcknowledged, IsDone, Row, apply_all, row}
 use Rattle.h5_meaning.specs.Run.{View, after_all, after_token, all_quiet, is_quiet, replies, run, step, take_or_refuse, taken, tell_or_refuse, text_step, without_lf}
 use Rattle.h5_meaning.specs.Settle.{Settled, settle}
-use Rattle.h5_meaning.specs.Text.{is_quiet_text, text_in_body, text_rule}
+use Rattle.h5_meaning.specs.Text.{text_in_body, text_rule}
 use Rattle.h5_meaning.specs.World.{World}
-use Rattle.h5_meaning.proofs.CutLaws.{by_mode}
 use Rattle.h5_meaning.proofs.FormattingLaws.{reconstruct_none}
 use Rattle.h5_meaning.proofs.RunLaws.{is_taken, moved, taken_same}
-use Rattle.h5_meaning.proofs.SettleLaws.{settle-row}
+use Rattle.h5_meaning.proofs.SettleLaws.{settle-done}
 use Rattle.h5_plain.specs.Rebuilding.{AllContinue}
+use Rattle.h5_plain.proofs.ModeLaws.{GoesByBody, quiet_by_body, text_by_body}
 
 -- a token that is taken leads to this world, with the answer "go on" and no parse error
 pub record Moves (choices : SinkChoices) (t : TokenText) (w v : World) : Type 0 where
@@ -29,7 +28,7 @@ pub record Moves (choices : SinkChoices) (t : TokenText) (w v : World) : Type 0 
 one_turn : (choices : SinkChoices) (t : TurnText) (w : World) (m : InsertionMode) (changes : List Change) → w.mode ≡ m → rule m t w ≡ row changes IsDone → not (is_self_closing t) ≡ true
     → settle choices t w ≡ record { world = apply_all choices changes w; turns = 1; reply = Continues; quiet = true }
 one_turn choices t w m changes e f s =
-    settle-row choices t w m (row changes IsDone) e f
+    settle-done choices t w m (row changes IsDone) e f refl
     ∙ ap (λ b. let x : Settled = record { world = apply_all choices changes w; turns = 1; reply = Continues; quiet = b } in x) s
 
 -- such is a tag that is done with in one turn, without a parse error
@@ -91,23 +90,23 @@ pub moves_acknowledged : (choices : SinkChoices) (tag : TagText) (w v : World) (
     → apply_all choices changes w ≡ v → Moves choices (TagIs tag) w v
 unfolding step
 moves_acknowledged choices tag w v m changes e i f a =
-    let one = settle-row choices (TagTurn tag) (taken w) m (row changes IsAcknowledged) e (in_row m (TagTurn tag) w (row changes IsAcknowledged) i f) in
+    let one = settle-done choices (TagTurn tag) (taken w) m (row changes IsAcknowledged) e (in_row m (TagTurn tag) w (row changes IsAcknowledged) i f) refl in
     record {
       world = ap (λ (x : Settled). x.world) one ∙ ap (apply_all choices changes) (taken_same w i) ∙ a;
       reply = ap (λ (x : Settled). x.reply) one;
       quiet = ap (λ (x : Settled). x.quiet) one;
     }
 
--- a text in the body, where nothing is to be reconstructed
-pub moves_text : (choices : SinkChoices) (b : ℕ) (t : List ℕ) (w : World) → w.mode ≡ InBody → w.ignore_lf ≡ false → closed_front w.stack w.formatting ≡ []
+-- a text in a mode that goes by the body, where nothing is to be reconstructed
+pub moves_text : (choices : SinkChoices) (b : ℕ) (t : List ℕ) (w : World) → GoesByBody w.mode → w.ignore_lf ≡ false → closed_front w.stack w.formatting ≡ []
     → Moves choices (Characters (b ∷ t)) w (append_text (b ∷ t) (set_frameset_ok_by_text (b ∷ t) w))
 unfolding step text_in_body
 moves_text choices b t w m e c = record {
   world =
       ap (λ l. (text_step choices (without_lf l (b ∷ t)) (taken w)).world) e
       ∙ ap (text_rule choices (b ∷ t)) (taken_same w e)
-      ∙ by_mode choices InBody (b ∷ t) w m
+      ∙ text_by_body choices (b ∷ t) w m
       ∙ ap (λ v. append_text (b ∷ t) (set_frameset_ok_by_text (b ∷ t) v)) (reconstruct_none choices w c);
   reply = ap (λ l. (text_step choices (without_lf l (b ∷ t)) (taken w)).reply) e;
-  quiet = ap (λ l. (text_step choices (without_lf l (b ∷ t)) (taken w)).quiet) e ∙ ap is_quiet_text m;
+  quiet = ap (λ l. (text_step choices (without_lf l (b ∷ t)) (taken w)).quiet) e ∙ quiet_by_body m;
 }

@@ -8,6 +8,10 @@ pub mod GoesLaws
 pub mod GrowthLaws
 mod ListedLaws
 pub mod LooksLaws
+mod ModeLaws
+mod TableBuildsLaws
+mod TableRuleLaws
+mod TableStepLaws
 pub mod RuleLaws
 pub mod StageLaws
 pub mod WholeLaws

@@ -8,7 +8,7 @@ use Rattle.h5_stack.specs.FormattingList.{nodes_of}
 use Rattle.h5_plain.proofs.ListedLaws.{Bottom, Entries, NoEntry}
 use Rattle.h5_interface.specs.SinkChoices.{SinkChoices}
 use Rattle.h5_interface.specs.declared.marks.QuirksMode.TheVariants.{NoQuirks}
-use Rattle.h5_tag_sets.specs.TagSets.{body_end_names, html_namespace, is_body_end_ok, is_default_scope, is_html_named, is_table_outer, table_outer_names}
+use Rattle.h5_tag_sets.specs.TagSets.{body_end_names, html_namespace, is_body_end_ok, is_default_scope, is_html_named}
 use Rattle.h5_types.specs.declared.modes.InsertionMode.{InsertionMode}
 use Rattle.h5_types.specs.declared.modes.InsertionMode.TheVariants.{BeforeHtml, BeforeHead, InHead, AfterHead, InBody, AfterBody, AfterAfterBody}
 use Rattle.h5_types.specs.declared.options.TreeBuilderOpts.{TreeBuilderOpts}
@@ -24,7 +24,7 @@ use Rattle.h5_stack.specs.Order.{but_first, first_or, is_in}
 use Rattle.h5_plain.specs.Plain.{Blocks, End, IsPlain, Nodes, end_tag, plain_doctype, start_tag, tokens_before}
 use Rattle.h5_plain.specs.Rebuilding.{IsStart, Looks, Stands}
 use Rattle.h5_plain.proofs.BuildsLaws.{body_fits, builds}
-use Rattle.h5_plain.proofs.CalmLaws.{Calm, Named, NoneOpen, OneOpen, after, nowhere, place_is}
+use Rattle.h5_plain.proofs.CalmLaws.{Calm, Named, NoneOpen, OneOpen, after, place_is}
 use Rattle.h5_plain.proofs.FilledLaws.{face, rooted_framed, stands_from_new}
 use Rattle.h5_plain.proofs.GoesLaws.{Goes, Moves, moves_end, moves_tag}
 use Rattle.h5_plain.proofs.GrowthLaws.{Begun, Rooted, begun_first, body, head, html, kinds_apart, name_of, root_below, rooted_first, rooted_grown, rooted_marked, with_element}
@@ -42,6 +42,7 @@ pub record AfterDoctype (w : World) : Type 0 where
   pub mode : w.mode ≡ BeforeHtml
   pub none_open : w.stack ≡ []
   pub none_listed : w.formatting ≡ []
+  pub no_foster : w.foster ≡ false
   pub quirks : w.seen_quirks ≡ NoQuirks
   pub doctype : ℕ
   pub begun : Begun w.forest doctype []
@@ -52,6 +53,7 @@ pub record AfterHtml (a : List AttributeText) (w : World) : Type 0 where
   pub root : ℕ
   pub is_open : w.stack ≡ root ∷ []
   pub none_listed : w.formatting ≡ []
+  pub no_foster : w.foster ≡ false
   pub quirks : w.seen_quirks ≡ NoQuirks
   pub doctype : ℕ
   pub rooted : Rooted w.forest doctype root a []
@@ -63,6 +65,7 @@ pub record WithHead (m : InsertionMode) (more : ℕ → List ℕ) (a b : List At
   pub header : ℕ
   pub are_open : w.stack ≡ (more header) ++ root ∷ []
   pub none_listed : w.formatting ≡ []
+  pub no_foster : w.foster ≡ false
   pub quirks : w.seen_quirks ≡ NoQuirks
   pub doctype : ℕ
   pub rooted : Rooted w.forest doctype root a (ChildNode header ∷ [])
@@ -87,6 +90,7 @@ pub record WithBody (m : InsertionMode) (a b c : List AttributeText) (inner : Li
 pub record AtBody (a b c : List AttributeText) (w : World) : Type 0 where
   pub with_body : WithBody InBody a b c [] End w
   pub none_listed : w.formatting ≡ []
+  pub no_foster : w.foster ≡ false
   pub ignore_lf : w.ignore_lf ≡ false
 
 abbrev one : ℕ → List ℕ
@@ -109,7 +113,7 @@ unfolding set_quirks_mode insert_doctype
 doctype_next choices w s = record {
   after = set_mode BeforeHtml (set_quirks_mode NoQuirks (insert_doctype choices (codes "html") [] [] (taken w)));
   moves = doctype_moves choices w s;
-  holds = record { mode = refl; none_open = s.none_open; none_listed = s.none_listed; quirks = refl; doctype = choices.fresh w.forest; begun = begun_first choices w.forest s.holds };
+  holds = record { mode = refl; none_open = s.none_open; none_listed = s.none_listed; no_foster = s.no_foster; quirks = refl; doctype = choices.fresh w.forest; begun = begun_first choices w.forest s.holds };
 }
 
 pub html_next : (choices : SinkChoices) (a : List AttributeText) (w : World) → AfterDoctype w → Next choices (start_tag (codes "html") a) w (AfterHtml a)
@@ -122,6 +126,7 @@ html_next choices a w s = record {
     root = choices.fresh w.forest;
     is_open = ap (λ r. choices.fresh w.forest ∷ r) s.none_open;
     none_listed = s.none_listed;
+    no_foster = s.no_foster;
     quirks = s.quirks;
     doctype = s.doctype;
     rooted = rooted_first choices w.forest s.doctype a s.begun;
@@ -129,10 +134,9 @@ html_next choices a w s = record {
 }
 
 -- the place of insertion is in the root where that alone is open
-place_is_root : (w : World) (x h : ℕ) (a : List AttributeText) (cs : List Child) → w.stack ≡ h ∷ [] → Rooted w.forest x h a cs → place w ≡ LastChild h
-unfolding is_table_outer html_namespace table_outer_names
-place_is_root w x h a cs e r =
-    place_is w h (record { kind = ElementNode html; attrs = a; children = cs }) (ap (first_or w.forest.document) e) r.is_root (nowhere w.foster (is_table_outer html) refl) refl
+place_is_root : (w : World) (x h : ℕ) (a : List AttributeText) (cs : List Child) → w.stack ≡ h ∷ [] → w.foster ≡ false → Rooted w.forest x h a cs → place w ≡ LastChild h
+place_is_root w x h a cs e off r =
+    place_is w h (record { kind = ElementNode html; attrs = a; children = cs }) (ap (first_or w.forest.document) e) r.is_root off refl
 
 inserted : (choices : SinkChoices) (local : List ℕ) (attrs : List AttributeText) (w : World) (h : ℕ) → place w ≡ LastChild h → with_element choices h (html_name local) attrs w.forest ≡ (insert_element choices local attrs false w).forest
 unfolding insert_element
@@ -150,6 +154,10 @@ insert_listed : (choices : SinkChoices) (local : List ℕ) (attrs : List Attribu
 unfolding insert_element
 insert_listed choices local attrs w = refl
 
+insert_foster : (choices : SinkChoices) (local : List ℕ) (attrs : List AttributeText) (w : World) → (insert_element choices local attrs false w).foster ≡ w.foster
+unfolding insert_element
+insert_foster choices local attrs w = refl
+
 insert_flag : (choices : SinkChoices) (local : List ℕ) (attrs : List AttributeText) (w : World) → (insert_element choices local attrs false w).ignore_lf ≡ w.ignore_lf
 unfolding insert_element
 insert_flag choices local attrs w = refl
@@ -159,7 +167,7 @@ unfolding insert_head insert_element
 head_next choices a b w s =
     let n = choices.fresh w.forest in
     let below = root_below choices w.forest s.doctype s.root a [] head b s.rooted refl in
-    let same = inserted choices (codes "head") b (taken w) s.root (place_is_root (taken w) s.doctype s.root a [] s.is_open s.rooted) in
+    let same = inserted choices (codes "head") b (taken w) s.root (place_is_root (taken w) s.doctype s.root a [] s.is_open s.no_foster s.rooted) in
     record {
       after = set_mode InHead (insert_head choices b false (taken w));
       moves = moves_tag choices _ w BeforeHead (InsertHead b false ∷ SetMode InHead ∷ []) s.mode (head_rule b (taken w)) refl;
@@ -169,6 +177,7 @@ head_next choices a b w s =
         header = n;
         are_open = insert_opens choices (codes "head") b (taken w) ∙ ap (λ r. n ∷ r) s.is_open;
         none_listed = insert_listed choices (codes "head") b (taken w) ∙ s.none_listed;
+        no_foster = insert_foster choices (codes "head") b (taken w) ∙ s.no_foster;
         quirks = insert_quirks choices (codes "head") b (taken w) ∙ s.quirks;
         doctype = s.doctype;
         rooted = subst (λ f. Rooted f s.doctype s.root a (ChildNode n ∷ [])) same (rooted_grown choices w.forest s.doctype s.root a [] head b s.rooted below);
@@ -188,6 +197,7 @@ head_end_next choices a b w s = record {
     header = s.header;
     are_open = ap but_first s.are_open;
     none_listed = s.none_listed;
+    no_foster = s.no_foster;
     quirks = s.quirks;
     doctype = s.doctype;
     rooted = rooted_marked w.forest (choices.marks_after_pop w.forest (current w)) s.doctype s.root a (ChildNode s.header ∷ []) s.rooted;
@@ -200,7 +210,7 @@ pub body_next : (choices : SinkChoices) (a b c : List AttributeText) (w : World)
 body_next choices a b c w s =
     let n = choices.fresh w.forest in
     let below = root_below choices w.forest s.doctype s.root a (ChildNode s.header ∷ []) body c s.rooted refl in
-    let same = inserted choices (codes "body") c (taken w) s.root (place_is_root (taken w) s.doctype s.root a (ChildNode s.header ∷ []) s.are_open s.rooted) in
+    let same = inserted choices (codes "body") c (taken w) s.root (place_is_root (taken w) s.doctype s.root a (ChildNode s.header ∷ []) s.are_open s.no_foster s.rooted) in
     record {
       after = set_mode InBody (set_frameset_not_ok (insert_element choices (codes "body") c false (taken w)));
       moves = moves_tag choices _ w AfterHead (InsertElement (codes "body") c false ∷ SetFramesetNotOk ∷ SetMode InBody ∷ []) s.mode (body_rule c (taken w)) refl;
@@ -219,6 +229,7 @@ body_next choices a b c w s =
           stands = tt;
         };
         none_listed = insert_listed choices (codes "body") c (taken w) ∙ s.none_listed;
+        no_foster = insert_foster choices (codes "body") c (taken w) ∙ s.no_foster;
         ignore_lf = insert_flag choices (codes "body") c (taken w);
       };
     }
@@ -236,7 +247,6 @@ unfolding is_html_named html_namespace
 head_not_body e = let w : true ≡ false = ap (λ (x : Kind). is_html_named (codes "head") (name_of_kind x)) e in cc
 
 at_body : (a b c : List AttributeText) (w : World) (s : AtBody a b c w) → Calm w s.with_body.content (face (codes "body") c) (body ∷ html ∷ []) [] w.stack []
-unfolding is_table_outer html_namespace table_outer_names
 at_body a b c w s =
     let t = s.with_body in
     record {
@@ -245,7 +255,7 @@ at_body a b c w s =
       is_current = ap (first_or w.forest.document) t.are_open;
       shows = t.is_body;
       named = subst (λ r. Named w.forest r (body ∷ html ∷ [])) (sym t.are_open) (OneOpen t.is_body.is_kind (OneOpen t.rooted.is_root.is_kind NoneOpen));
-      takes_own = nowhere w.foster (is_table_outer body) refl;
+      no_foster = s.no_foster;
       no_template = refl;
       are_open = refl;
       is_base = NoEntry;
@@ -264,7 +274,7 @@ pub record BodyFilled (choices : SinkChoices) (a b c : List AttributeText) (node
 pub body_filled : (choices : SinkChoices) (a b c : List AttributeText) (nodes : Nodes) (w : World) → IsPlain Blocks nodes → AtBody a b c w → BodyFilled choices a b c nodes w
 body_filled choices a b c nodes w plain s =
     let t = s.with_body in
-    let built = builds choices plain w t.content (face (codes "body") c) (body ∷ html ∷ []) [] w.stack [] (t.mode, body_fits) tt tt (at_body a b c w s) in
+    let built = builds choices plain w t.content (face (codes "body") c) (body ∷ html ∷ []) [] w.stack [] (body_fits w.mode t.mode) tt tt (at_body a b c w s) in
     let r = built.filled.frame in
     record {
       after = after w built.forest built.formatting built.ok;

@@ -4,7 +4,7 @@ use Rattle.h5_names.specs.AttributeText.{AttributeText}
 use Rattle.h5_token.specs.TokenText.{TokenText, DoctypeIs, TagIs, Characters, EndOfFile}
 use Rattle.h5_token.specs.declared.tag.TagKind.TheVariants.{StartTag, EndTag}
 use Rattle.h5_interface.specs.Changes.{has_attribute}
-use Rattle.h5_tag_sets.specs.TagSets.{heading_names, is_one_of, void_names}
+use Rattle.h5_tag_sets.specs.TagSets.{cell_names, heading_names, is_one_of, void_names}
 
 -- a list of nodes: texts, and HTML elements with what they hold
 pub data Nodes : Type 0 where
@@ -63,6 +63,15 @@ pub data IsPlain : Sort → Nodes → Type 0 where
   -- an `h1` to `h6` of inlines
   Heading : {name : List ℕ} {attrs : List AttributeText} {inner rest : Nodes} → is_one_of heading_names name ≡ true → ArePlain attrs
       → IsPlain (Inlines false false) inner → IsPlain Blocks rest → IsPlain Blocks (ElementThen name attrs inner rest)
+  -- a `table` of sections, each a `tbody` of rows, each a `tr` of cells, each a `td` or `th` of blocks
+  Table : {attrs : List AttributeText} {inner rest : Nodes} → ArePlain attrs → IsPlain Sections inner → IsPlain Blocks rest
+      → IsPlain Blocks (ElementThen (codes "table") attrs inner rest)
+  Section : {attrs : List AttributeText} {inner rest : Nodes} → ArePlain attrs → IsPlain Rows inner → IsPlain Sections rest
+      → IsPlain Sections (ElementThen (codes "tbody") attrs inner rest)
+  TableRow : {attrs : List AttributeText} {inner rest : Nodes} → ArePlain attrs → IsPlain Cells inner → IsPlain Rows rest
+      → IsPlain Rows (ElementThen (codes "tr") attrs inner rest)
+  Cell : {name : List ℕ} {attrs : List AttributeText} {inner rest : Nodes} → is_one_of cell_names name ≡ true → ArePlain attrs
+      → IsPlain Blocks inner → IsPlain Cells rest → IsPlain Cells (ElementThen name attrs inner rest)
   -- a text, which isn't empty, and after which no other comes
   Words : {linked : Bool} {first : ℕ} {more : List ℕ} {rest : Nodes} → NoNul (first ∷ more) → IsPlain (Inlines true linked) rest
       → IsPlain (Inlines false linked) (TextThen (first ∷ more) rest)

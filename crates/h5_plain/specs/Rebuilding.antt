@@ -52,6 +52,7 @@ pub record IsStart (w : World) : Type 0 where
   pub none_open : w.stack ≡ []
   pub none_listed : w.formatting ≡ []
   pub ignore_lf : w.ignore_lf ≡ false
+  pub no_foster : w.foster ≡ false
 
 -- all answers are "go on"
 abbrev pub AllContinue : List Reply → Type 0

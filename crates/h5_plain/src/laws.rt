@@ -9,8 +9,9 @@ ghost use Rattle.h5_plain.specs.Rebuilding.{RebuildsAll};
 /// that took nothing yet, with the default options, over any sink that holds its document alone, in no
 /// quirks, without a parse error, and with no answer but "go on".
 ///
-/// So far a plain document has an empty head, and a body of blocks: `div`, which holds blocks, and `p` and
-/// `h1` to `h6`, which hold texts and `br`, no two texts beside each other.
+/// So far a plain document has an empty head, and a body of blocks: `div`, which holds blocks, `p` and `h1` to
+/// `h6`, which hold texts and `br`, no two texts beside each other, and `table`, which holds `tbody` of `tr` of
+/// `td` and `th`, which hold blocks.
 pub fn documents_are_rebuilt()
     ensures { (choices : SinkChoices) (tokens : List TokenText) (view : View) → RebuildsAll choices tokens view }
 {}

@@ -9,6 +9,7 @@ ghost use Rattle.h5_state.specs.Turn.{TakesTag};
 
 use h5_interface::TreeSink;
 use h5_names::KnownName;
+use h5_rules_shared::expect_to_close;
 use h5_state::{
     State, Turn, close_p_element, close_p_element_in_button_scope, find_heading_in_scope,
     find_in_default_scope, generate_implied_end, has_p_in_button_scope, insert_element,
@@ -17,16 +18,6 @@ use h5_state::{
 };
 use h5_token::Tag;
 use h5_types::ProcessResult;
-
-// An element that was closed is expected to have been the current node.
-fn expect_to_close<S: TreeSink>(sink: &mut S, state: &State<S::Handle>, expected: bool)
-    ensures told { TellsErrors S.TreeSink sink.old sink.new state.now }
-    ensures quiet { expected ≡ true → errors_of S.TreeSink sink.new ≡ errors_of S.TreeSink sink.old }
-{
-    if !expected {
-        tell_error(sink, state, "unexpected open element");
-    }
-}
 
 // A start tag `address`, `article`, .., `ul`: a block, after which no `p` is in button scope.
 pub(crate) fn in_body_start_block<S: TreeSink>(

@@ -1,7 +1,9 @@
 //! The mode "in body" (HTML standard, section 13.2.6.4.7, "The 'in body' insertion mode").
+ghost use Rattle.std.specs.Prelude.{◌≡◌};
+ghost use Rattle.h5_tag_sets.specs.TagSets.{is_one_of};
 ghost use Rattle.h5_types.specs.TurnText.{HasText, turn_text};
 ghost use Rattle.h5_meaning.specs.ByName.{by_name};
-ghost use Rattle.h5_meaning.specs.InBody.{in_body, in_body_end, in_body_end_body, in_body_end_html, in_body_end_other, in_body_start, in_body_start_body, in_body_start_other, in_body_tag};
+ghost use Rattle.h5_meaning.specs.InBody.{in_body, in_body_end, in_body_end_body, in_body_end_html, in_body_end_other, in_body_start, in_body_ignored_starts, in_body_start_body, in_body_start_other, in_body_start_table, in_body_tag};
 ghost use Rattle.h5_meaning.specs.Sound.{IsReady};
 ghost use Rattle.h5_state.specs.Steps.{IsSound, TellsErrors, world_of};
 ghost use Rattle.h5_state.specs.Turn.{TakesTag, TakesToken};
@@ -16,13 +18,14 @@ use super::formatting::{
 };
 use h5_formatting::reconstruct_active_formatting_elements;
 use h5_interface::TreeSink;
-use h5_names::KnownName;
-use h5_rules_shared::{in_body_start_html, in_body_text};
+use h5_names::{KnownName, LocalName};
+use h5_rules_shared::{expect_to_close, in_body_start_html, in_body_text, is_any_of};
 use h5_state::{
-    State, Turn, add_attrs_to_second, append_comment, check_body_end, find_before_special,
-    generate_implied_end_except, has_body_in_scope, has_body_second, has_open_template,
-    insert_element, is_current_html, pop_until_named, set_frameset_not_ok, set_mode, tell_error,
-    unexpected, unexpected_tag,
+    State, Turn, add_attrs_to_second, append_comment, check_body_end,
+    close_p_element_in_button_scope, find_before_special, generate_implied_end_except,
+    has_body_in_scope, has_body_second, has_open_template, insert_element, is_current_html,
+    is_in_quirks, pop_until_named, set_frameset_not_ok, set_mode, tell_error, unexpected,
+    unexpected_tag,
 };
 use h5_tag_sets::NameSet;
 use h5_token::{Tag, TagKind};
@@ -141,6 +144,52 @@ fn in_body_start_other<S: TreeSink>(
     Ok(ProcessResult::Done)
 }
 
+// A start tag `table`: it closes a `p` but in quirks mode.
+#[tactic(auto, unfolding(h5_meaning::specs::InBody::in_body_start_table))]
+fn in_body_start_table<S: TreeSink>(
+    sink: &mut S,
+    state: &mut State<S::Handle>,
+    tag: Tag,
+) -> Turn<S::Handle>
+    requires { IsSound S.TreeSink sink.old state.old }
+    ensures { TakesTag S.TreeSink in_body_start_table tag sink.old state.old sink.new state.new result }
+{
+    if !is_in_quirks(sink, state) {
+        let expected = close_p_element_in_button_scope(sink, state);
+        expect_to_close(sink, state, expected);
+    }
+    let attrs = tag.attrs;
+    insert_element(sink, state, tag.name, attrs, tag.had_duplicate_attributes)?;
+    set_frameset_not_ok(sink, state);
+    set_mode(sink, state, InsertionMode::InTable);
+    Ok(ProcessResult::Done)
+}
+
+// Whether a start tag of this name is ignored.
+#[tactic(auto, unfolding(h5_meaning::specs::InBody::in_body_ignored_starts, h5_meaning::specs::InBody::outside_names, h5_meaning::specs::Shared::table_structure_names))]
+fn is_ignored_start(name: &LocalName) -> bool
+    ensures { result ≡ is_one_of in_body_ignored_starts name.now }
+{
+    is_any_of(
+        name,
+        &[
+            KnownName::Caption,
+            KnownName::Col,
+            KnownName::Colgroup,
+            KnownName::Tbody,
+            KnownName::Td,
+            KnownName::Tfoot,
+            KnownName::Th,
+            KnownName::Thead,
+            KnownName::Tr,
+            KnownName::Frame,
+            KnownName::Frameset,
+            KnownName::Head,
+            KnownName::Template,
+        ],
+    )
+}
+
 // Start tags, by their names.
 #[tactic(auto, unfolding(h5_meaning::specs::InBody::in_body_start))]
 fn in_body_start_tag<S: TreeSink>(
@@ -168,6 +217,11 @@ fn in_body_start_tag<S: TreeSink>(
         in_body_start_formatting(sink, state, tag)
     } else if tag.name.is(KnownName::Br) {
         in_body_start_br(sink, state, tag)
+    } else if tag.name.is(KnownName::Table) {
+        in_body_start_table(sink, state, tag)
+    } else if is_ignored_start(&tag.name) {
+        unexpected_tag(sink, state, &tag);
+        Ok(ProcessResult::Done)
     } else {
         in_body_start_other(sink, state, tag)
     }
@@ -198,6 +252,9 @@ fn in_body_end_tag<S: TreeSink>(
         in_body_end_formatting(sink, state, tag)
     } else if tag.name.is(KnownName::Br) {
         in_body_end_br(sink, state, tag)
+    } else if tag.name.is(KnownName::Template) {
+        unexpected_tag(sink, state, &tag);
+        Ok(ProcessResult::Done)
     } else {
         in_body_end_other(sink, state, tag)
     }

@@ -1,15 +1,15 @@
 //! Rules of "in body" by which other modes go (HTML standard, section 13.2.6.4.7).
-ghost use Rattle.std.specs.Prelude.{◌≢◌, [], string_bytes};
+ghost use Rattle.std.specs.Prelude.{◌≡◌, ◌≢◌, [], true, string_bytes};
 ghost use Rattle.h5_types.specs.TurnText.{TextTurn};
 ghost use Rattle.h5_meaning.specs.Shared.{in_body_start_html, in_body_text};
-ghost use Rattle.h5_state.specs.Steps.{IsOpen, IsSound};
+ghost use Rattle.h5_state.specs.Steps.{IsOpen, IsSound, TellsErrors, errors_of};
 ghost use Rattle.h5_state.specs.Turn.{TakesTag, Turns};
 
 use h5_formatting::reconstruct_active_formatting_elements;
 use h5_interface::TreeSink;
 use h5_state::{
     State, Turn, add_attrs_to_html, append_text, has_open_template, set_frameset_ok_by_text,
-    unexpected_tag,
+    tell_error, unexpected_tag,
 };
 use h5_token::Tag;
 use h5_types::{ProcessResult, SplitStatus};
@@ -52,4 +52,14 @@ pub fn in_body_text<S: TreeSink>(
     set_frameset_ok_by_text(sink, state, text.as_str());
     append_text(sink, state, text)?;
     Ok(ProcessResult::Done)
+}
+
+/// An element that was closed is expected to have been the current node: where it wasn't, this is a parse error.
+pub fn expect_to_close<S: TreeSink>(sink: &mut S, state: &State<S::Handle>, expected: bool)
+    ensures told { TellsErrors S.TreeSink sink.old sink.new state.now }
+    ensures quiet { expected ≡ true → errors_of S.TreeSink sink.new ≡ errors_of S.TreeSink sink.old }
+{
+    if !expected {
+        tell_error(sink, state, "unexpected open element");
+    }
 }

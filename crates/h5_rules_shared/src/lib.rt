@@ -4,5 +4,5 @@
 mod in_body;
 mod names;
 
-pub use in_body::{in_body_start_html, in_body_text};
-pub use names::is_outer;
+pub use in_body::{expect_to_close, in_body_start_html, in_body_text};
+pub use names::{is_any_of, is_outer, is_table_structure};

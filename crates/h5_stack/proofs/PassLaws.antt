@@ -10,7 +10,7 @@ use Rattle.h5_stack.specs.FormattingList.{EachEntry, ElementEntry, Entry, Marker
 use Rattle.h5_stack.specs.Fresh.{AreFresh}
 use Rattle.h5_stack.specs.Lists.{Lists}
 use Rattle.h5_stack.specs.Order.{Distinct, IsIn, IsOrdered, but_first}
-use Rattle.h5_stack.specs.Scope.{cut_through}
+use Rattle.h5_stack.specs.Scope.{cut_above, cut_through}
 use Rattle.h5_stack.specs.Places.{FurthestBlockAt, NewestNamedAt}
 use Rattle.h5_token.specs.TokenText.{TagText}
 use Rattle.h5_stack.proofs.EachLaws.{each_at, each_more, each_round, each_without_entry}
@@ -38,6 +38,14 @@ lists_cut_through is (n ∷ ns) s l d k = at (is n) (lists_but_first s l d k) (l
     at : (b : Bool) → Lists (but_first s) l → Lists (cut_through is ns (but_first s)) l → Lists (cond b (but_first s) (cut_through is ns (but_first s))) l
     at true h v = h
     at false h v = v
+
+pub lists_cut_above : (is : QualName → Bool) (ns : List QualName) (s : List ℕ) (l : List Entry) → Distinct s → Lists s l → Lists (cut_above is ns s) l
+lists_cut_above is [] s l d k = k
+lists_cut_above is (n ∷ ns) s l d k = at (is n) (lists_cut_above is ns (but_first s) l (distinct_but_first s d) (lists_but_first s l d k))
+  where
+    at : (b : Bool) → Lists (cut_above is ns (but_first s)) l → Lists (cond b s (cut_above is ns (but_first s))) l
+    at true v = k
+    at false v = v
 
 -- where an element stands
 pub stack_split : (f : ℕ) (s : List ℕ) → IsIn f s → s ≡ newer_than f s ++ f ∷ older_than f s

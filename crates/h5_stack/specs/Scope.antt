@@ -72,3 +72,8 @@ cut_through is (n ∷ ns) s = if is n then but_first s else cut_through is ns (b
 abbrev pub down_names : (QualName → Bool) → List QualName → List QualName
 down_names is [] = []
 down_names is (n ∷ ns) = if is n then n ∷ ns else down_names is ns
+
+-- and the elements, by the names of all
+abbrev pub cut_above : (QualName → Bool) → List QualName → List ℕ → List ℕ
+cut_above is [] s = s
+cut_above is (n ∷ ns) s = if is n then s else cut_above is ns (but_first s)

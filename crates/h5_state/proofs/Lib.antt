@@ -1,5 +1,6 @@
 pub mod AttributeLaws
 pub mod PutLaws
+pub mod ResetLaws
 pub mod StackLaws
 pub mod StepLaws
 pub mod SummaryLaws

@@ -1,7 +1,8 @@
--- A run of blanks that grows.
+-- A run of blanks that grows, and one that has none.
 use Rattle.std.proofs.Common.{◌≡◌, ℕ, ◌+◌, ◌<◌, true, false, cond, List, [], ◌∷◌, ◌++◌, length, take, get_or, refl, arith}
 use Rattle.std.proofs.lemmas.List.{take_more}
 use Rattle.h5_meaning.specs.Blanks.{is_blank, rest_of}
+use Rattle.h5_meaning.specs.Text.{all_blanks}
 
 rest_of-push : (t : List ℕ) (b : ℕ) → rest_of t ≡ [] → is_blank b ≡ true → rest_of (t ++ b ∷ []) ≡ []
 rest_of-push [] b h k = rw k refl
@@ -10,6 +11,14 @@ rest_of-push (a ∷ t) b h k =
 
 pub rest_of-more : (t : List ℕ) (i : ℕ) → i < length t → rest_of (take i t) ≡ [] → is_blank (get_or t i 0) ≡ true → rest_of (take (i + 1) t) ≡ []
 rest_of-more t i l h k = rw (take_more t i 0 l) (rest_of-push (take i t) (get_or t i 0) h k)
+
+all_blanks-push : (t : List ℕ) (b : ℕ) → all_blanks t ≡ [] → is_blank b ≡ false → all_blanks (t ++ b ∷ []) ≡ []
+all_blanks-push [] b h k = rw k refl
+all_blanks-push (a ∷ t) b h k =
+    (elim (is_blank a) as (λ v. cond v (a ∷ all_blanks t) (all_blanks t) ≡ [] → cond v (a ∷ all_blanks (t ++ b ∷ [])) (all_blanks (t ++ b ∷ [])) ≡ []) [ true ↦ λ e. absurd (cc) | false ↦ λ e. all_blanks-push t b e k ]) h
+
+pub all_blanks-more : (t : List ℕ) (i : ℕ) → i < length t → all_blanks (take i t) ≡ [] → is_blank (get_or t i 0) ≡ false → all_blanks (take (i + 1) t) ≡ []
+all_blanks-more t i l h k = rw (take_more t i 0 l) (all_blanks-push (take i t) (get_or t i 0) h k)
 
 pub blank_small : (b : ℕ) → is_blank b ≡ true → b < 128
 blank_small b h = grind arith

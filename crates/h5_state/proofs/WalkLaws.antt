@@ -4,7 +4,7 @@ use Rattle.std.proofs.lemmas.List.{length-reverse, reverse-append, reverse-rever
 use Rattle.h5_names.specs.declared.qualified.QualName.{QualName}
 use Rattle.h5_interface.specs.Forest.{Forest}
 use Rattle.h5_stack.specs.Order.{but_first}
-use Rattle.h5_stack.specs.Scope.{cut_through, in_scope}
+use Rattle.h5_stack.specs.Scope.{cut_above, cut_through, in_scope}
 use Rattle.h5_meaning.specs.Place.{from_foster_parent, is_foster_parent}
 use Rattle.h5_meaning.specs.World.{name_in}
 use Rattle.h5_state.specs.View.{open_node, stack_under}
@@ -42,13 +42,28 @@ suffix_under node xs t x =
     back : map node xs ≡ reverse t ++ reverse x.front
     back = sym (reverse-reverse (map node xs)) ∙ ap reverse x.cut ∙ reverse-append x.front t
 
+above_is_suffix : (is : QualName → Bool) (ns : List QualName) (s : List ℕ) → Suffix s (cut_above is ns s)
+above_is_suffix is [] s = suffix_here s
+above_is_suffix is (n ∷ ns) s =
+    elim (is n) as (λ b. Suffix s (cond b s (cut_above is ns (but_first s)))) [
+      | true ↦ suffix_here s
+      | false ↦ suffix_later s (cut_above is ns (but_first s)) (above_is_suffix is ns (but_first s))
+    ]
+
+left_under : {H : Type 0} (node : H → ℕ) (state : State H) (s t : List ℕ) (count : ℕ) → s ≡ reverse (map (open_node node) state.open_elems.items) → Suffix s t → count ≡ length t → stack_under node state count ≡ t
+unfolding stack_under
+left_under node state s t count e x c =
+    ap (λ k. reverse (map (open_node node) (take k state.open_elems.items))) c
+    ∙ suffix_under (open_node node) state.open_elems.items t (subst (λ z. Suffix z t) e x)
+
 -- so many elements are left of a stack that is cut
 pub cut_under : {H : Type 0} (node : H → ℕ) (state : State H) (is : QualName → Bool) (ns : List QualName) (s : List ℕ) (count : ℕ) → s ≡ reverse (map (open_node node) state.open_elems.items)
     → count ≡ length (cut_through is ns s) → stack_under node state count ≡ cut_through is ns s
-unfolding stack_under
-cut_under node state is ns s count e c =
-    ap (λ k. reverse (map (open_node node) (take k state.open_elems.items))) c
-    ∙ suffix_under (open_node node) state.open_elems.items (cut_through is ns s) (subst (λ z. Suffix z (cut_through is ns s)) e (cut_is_suffix is ns s))
+cut_under node state is ns s count e c = left_under node state s (cut_through is ns s) count e (cut_is_suffix is ns s) c
+
+pub above_under : {H : Type 0} (node : H → ℕ) (state : State H) (is : QualName → Bool) (ns : List QualName) (s : List ℕ) (count : ℕ) → s ≡ reverse (map (open_node node) state.open_elems.items)
+    → count ≡ length (cut_above is ns s) → stack_under node state count ≡ cut_above is ns s
+above_under node state is ns s count e c = left_under node state s (cut_above is ns s) count e (above_is_suffix is ns s) c
 
 -- the stack from a foster parent on, where one is open
 from_is_cut : (f : Forest) (s : List ℕ) → in_scope is_foster_parent (λ n. false) (map (name_in f) s) ≡ true

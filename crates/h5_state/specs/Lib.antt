@@ -1,4 +1,5 @@
 pub mod Places
+pub mod Reset
 pub mod Steps
 pub mod Summaries
 pub mod Turn

@@ -1,6 +1,5 @@
 -- What a builder's state and its sink mean together.
-use Rattle.std.specs.Prelude.{ℕ, List, map, reverse, take, option_map, string_bytes}
-use Rattle.std.specs.List.{flat_map}
+use Rattle.std.specs.Prelude.{ℕ, List, map, reverse, take, option_map}
 use Rattle.h5_names.specs.declared.qualified.QualName.{QualName}
 use Rattle.h5_token.specs.TokenText.{tag_text}
 use Rattle.h5_interface.specs.Seen.{Seen}
@@ -29,7 +28,7 @@ world sees node sink state = record {
   mode = state.mode;
   saved_mode = state.orig_mode;
   template_modes = reverse state.template_modes.items;
-  pending = flat_map string_bytes state.pending_table_text.items;
+  pending = state.pending_table_text;
   quirks = state.quirks_mode;
   stack = reverse (map (open_node node) state.open_elems.items);
   formatting = reverse (map (entry_of node) state.active_formatting.items);

@@ -2,7 +2,7 @@
 ghost use Rattle.std.specs.Prelude.{◌≡◌, ◌≢◌, ◌<◌, ℕ, [], false, take, slice_index, IsCharBoundary};
 ghost use Rattle.h5_meaning.specs.Blanks.{all_blank, is_blank, rest_of};
 ghost use Rattle.h5_meaning.specs.Rows.{SetFramesetOkByText};
-ghost use Rattle.h5_meaning.specs.Text.{IsRun, splits};
+ghost use Rattle.h5_meaning.specs.Text.{IsRun, all_blanks, splits};
 ghost use Rattle.h5_state.specs.Steps.{IsSound, Makes};
 
 use super::state::State;
@@ -50,13 +50,14 @@ fn blank_len(text: &str) -> usize
     text.len()
 }
 
-// How long the run is that a text begins with that doesn't begin with a blank.
+// How much of a text there is before its first blank.
 fn solid_len(text: &str) -> usize
     ensures boundary { IsCharBoundary text.now result }
-    ensures some { text.now ≢ [] → 0 < result }
+    ensures solid { all_blanks (take result text.now) ≡ [] }
+    ensures some { text.now ≢ [] → is_blank (slice_index text.now 0) ≡ false → 0 < result }
 {
     for (i, b) in text.as_bytes().iter().enumerate() {
-        if i > 0 && is_blank_byte(*b) {
+        if is_blank_byte(*b) {
             return i;
         }
     }

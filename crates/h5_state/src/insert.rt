@@ -4,7 +4,7 @@ ghost use Rattle.h5_names.specs.AttributeText.{attribute_texts};
 ghost use Rattle.h5_names.specs.KnownNames.{name_text};
 ghost use Rattle.h5_meaning.specs.Changes.{push_new};
 ghost use Rattle.h5_meaning.specs.Place.{IsPlaceIn, LastChild};
-ghost use Rattle.h5_meaning.specs.Rows.{AppendComment, AppendCommentToDoc, AppendCommentToHtml, AppendText, CreateRoot, InsertAndPopElement, InsertElement, InsertHead};
+ghost use Rattle.h5_meaning.specs.Rows.{AppendComment, AppendCommentToDoc, AppendCommentToHtml, AppendText, CreateRoot, InsertAndPopElement, InsertAndPopForm, InsertElement, InsertHead};
 ghost use Rattle.h5_stack.specs.FormattingNames.{html_name};
 ghost use Rattle.h5_state.specs.Places.{place_of};
 ghost use Rattle.h5_state.specs.Steps.{IsSound, MakesIfOk, errors_of, world_of};
@@ -84,6 +84,24 @@ pub fn insert_and_pop_element<S: TreeSink>(
     let place = current_place(sink, state);
     let name = html_qual_name(local);
     insert_new_element(sink, &place, name, attrs, had_duplicate_attributes)?;
+    Ok(())
+}
+
+/// An HTML `form` at the place of insertion, which isn't open, and is the form element. An Err leaves the form element.
+#[tactic(auto, unfolding(crate::specs::View::world, h5_meaning::specs::Changes::insert_and_pop_element, h5_meaning::specs::Changes::insert_and_pop_form))]
+pub fn insert_and_pop_form<S: TreeSink>(
+    sink: &mut S,
+    state: &mut State<S::Handle>,
+    attrs: Vec<Attribute>,
+    had_duplicate_attributes: bool,
+) -> Result<(), AllocError>
+    requires { IsSound S.TreeSink sink.old state.old }
+    ensures { MakesIfOk S.TreeSink (InsertAndPopForm (attribute_texts attrs.items) had_duplicate_attributes) sink.old state.old sink.new state.new result }
+{
+    let place = current_place(sink, state);
+    let name = html_qual_name(LocalName::from_known(KnownName::Form));
+    let form = insert_new_element(sink, &place, name, attrs, had_duplicate_attributes)?;
+    state.form_elem = Some(form);
     Ok(())
 }
 

@@ -10,10 +10,14 @@ mod insert;
 mod name_test;
 mod open_element;
 mod open_elems;
+mod pending_text;
 mod place;
 mod put;
+mod reset;
 mod state;
 mod steps;
+mod table_text;
+mod tables;
 
 pub use attributes::{add_attrs_to_html, add_attrs_to_second};
 pub use blanks::{first_run, is_blank_text, set_frameset_ok_by_text};
@@ -24,7 +28,12 @@ pub use closing::{
 pub use errors::{tell_error, unexpected, unexpected_tag};
 pub use insert::{
     append_comment, append_comment_to_doc, append_comment_to_html, append_text, create_root,
-    html_qual_name, insert_and_pop_element, insert_element, insert_head, insert_phantom,
+    html_qual_name, insert_and_pop_element, insert_and_pop_form, insert_element, insert_head,
+    insert_phantom,
+};
+pub use name_test::{
+    Cell, DefaultScope, Heading, Known, Local, NameTest, TableBodyContext, TableOuter,
+    TableRowContext, TableScope,
 };
 pub use open_element::{AllOpen, OpenElement, Summary};
 pub use open_elems::{
@@ -32,9 +41,17 @@ pub use open_elems::{
     has_body_second, has_open_template, has_p_in_button_scope, in_scope_named, is_current_html,
     pop_until_named,
 };
+pub use pending_text::PendingText;
 pub use place::{InsertionPoint, appropriate_place_for_insertion, current_place};
 pub use put::insert_at;
+pub use reset::reset_insertion_mode;
 pub use state::{State, Turn};
 pub use steps::{
-    current_mode, current_node, has_srcdoc, pop, set_frameset_not_ok, set_mode, set_quirks_mode,
+    current_mode, current_node, has_form, has_srcdoc, is_in_quirks, pop, save_mode, saved_mode,
+    set_foster, set_frameset_not_ok, set_mode, set_quirks_mode,
+};
+pub use table_text::{append_pending_text, take_pending_text};
+pub use tables::{
+    find_cell, find_in_table_scope, is_current_cell, is_current_table_outer, pop_until_cell,
+    pop_until_current,
 };

@@ -2,11 +2,14 @@
 ghost use Rattle.std.specs.Prelude.{◌≡◌, Bool, false};
 ghost use Rattle.h5_names.specs.declared.qualified.QualName.{QualName as NameText};
 ghost use Rattle.h5_names.specs.KnownNames.{name_text};
-ghost use Rattle.h5_tag_sets.specs.TagSets.{is_default_scope, is_heading, is_html_named};
+ghost use Rattle.h5_tag_sets.specs.TagSets.{is_cell, is_default_scope, is_heading, is_html_named, is_table_body_context, is_table_outer, is_table_row_context, is_table_scope};
 ghost use Rattle.h5_meaning.specs.Place.{is_foster_parent};
 
 use h5_names::{KnownName, LocalName, QualName};
-use h5_tag_sets::{default_scope, heading_tag, is_html_known, is_html_local};
+use h5_tag_sets::{
+    default_scope, heading_tag, is_html_known, is_html_local, table_body_context, table_outer,
+    table_row_context, table_scope, td_th,
+};
 
 /// A question about the name of an element.
 pub trait NameTest {
@@ -63,6 +66,66 @@ impl NameTest for DefaultScope {
 
     fn test(&self, name: &QualName) -> bool {
         default_scope(name)
+    }
+}
+
+/// Whether an element ends a table scope. It is a table context, too.
+#[derive(Clone, Copy)]
+pub struct TableScope;
+
+impl NameTest for TableScope {
+    ghost holds = { λ t name. is_table_scope name };
+
+    fn test(&self, name: &QualName) -> bool {
+        table_scope(name)
+    }
+}
+
+/// Whether an element is a table body context.
+#[derive(Clone, Copy)]
+pub struct TableBodyContext;
+
+impl NameTest for TableBodyContext {
+    ghost holds = { λ t name. is_table_body_context name };
+
+    fn test(&self, name: &QualName) -> bool {
+        table_body_context(name)
+    }
+}
+
+/// Whether an element is a table row context.
+#[derive(Clone, Copy)]
+pub struct TableRowContext;
+
+impl NameTest for TableRowContext {
+    ghost holds = { λ t name. is_table_row_context name };
+
+    fn test(&self, name: &QualName) -> bool {
+        table_row_context(name)
+    }
+}
+
+/// Whether what is put into an element is foster-parented, where foster parenting is on.
+#[derive(Clone, Copy)]
+pub struct TableOuter;
+
+impl NameTest for TableOuter {
+    ghost holds = { λ t name. is_table_outer name };
+
+    fn test(&self, name: &QualName) -> bool {
+        table_outer(name)
+    }
+}
+
+/// Whether an element is a cell of a table.
+#[derive(Clone, Copy)]
+pub struct Cell;
+
+impl NameTest for Cell {
+    ghost holds = { λ t name. is_cell name };
+
+    fn test(&self, name: &QualName) -> bool {
+        td_th(name)
     }
 }
 

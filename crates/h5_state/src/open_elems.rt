@@ -21,9 +21,9 @@ use h5_interface::TreeSink;
 use h5_names::{KnownName, LocalName, QualName};
 use h5_tag_sets::{is_html_known, is_html_local};
 
-// How many elements are open.
+/// How many elements are open.
 #[tactic(auto, unfolding(crate::specs::View::world, crate::specs::View::names_under, crate::specs::View::stack_under, h5_meaning::specs::World::names_of))]
-fn open_count<S: TreeSink>(sink: &S, state: &State<S::Handle>) -> usize
+pub(crate) fn open_count<S: TreeSink>(sink: &S, state: &State<S::Handle>) -> usize
     ensures count { result ≡ length (world_of S.TreeSink sink.now state.now).stack }
     ensures all { names_under S.sees S.node sink.now state.now result ≡ names_of (world_of S.TreeSink sink.now state.now) }
     ensures none { names_under S.sees S.node sink.now state.now 0 ≡ [] }
@@ -53,8 +53,12 @@ fn open_at<'a, S: TreeSink>(
     &state.open_elems[place]
 }
 
-// The name of the open element at a place, counted from the root.
-fn name_at<'a, S: TreeSink>(sink: &'a S, state: &'a State<S::Handle>, place: usize) -> &'a QualName
+/// The name of the open element at a place, counted from the root.
+pub(crate) fn name_at<'a, S: TreeSink>(
+    sink: &'a S,
+    state: &'a State<S::Handle>,
+    place: usize,
+) -> &'a QualName
     requires place { place < length (world_of S.TreeSink sink.now state.now).stack }
     requires sound { IsSound S.TreeSink sink.now state.now }
     ensures names { names_under S.sees S.node sink.now state.now (place + 1) ≡ result.now ∷ names_under S.sees S.node sink.now state.now place }

@@ -1,5 +1,6 @@
 //! The state of a tree builder.
 use super::open_element::OpenElement;
+use super::pending_text::PendingText;
 use h5_interface::QuirksMode;
 use h5_types::{FormatEntry, InsertionMode, ProcessResult, TreeBuilderOpts};
 use std::alloc::{AllocError, Global};
@@ -15,7 +16,8 @@ pub struct State<Handle> {
     /// The mode to which "text" and "in table text" go back.
     pub orig_mode: Option<InsertionMode>,
     pub template_modes: Vec<InsertionMode>,
-    pub pending_table_text: Vec<String>,
+    /// The text of a table that is kept back.
+    pub pending_table_text: PendingText,
     pub quirks_mode: QuirksMode,
     /// The stack of open elements, the root first.
     pub open_elems: Vec<OpenElement<Handle>>,

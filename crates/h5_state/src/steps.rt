@@ -1,6 +1,8 @@
 //! Steps that change a field, or the current node.
-ghost use Rattle.std.specs.Prelude.{◌≡◌};
-ghost use Rattle.h5_meaning.specs.Rows.{Pop, SetFramesetNotOk, SetMode, SetQuirksMode};
+ghost use Rattle.std.specs.Prelude.{◌≡◌, is_some};
+ghost use Rattle.h5_meaning.specs.InBody.{is_quirks};
+ghost use Rattle.h5_meaning.specs.InTableText.{saved_mode};
+ghost use Rattle.h5_meaning.specs.Rows.{Pop, SaveMode, SetFoster, SetFramesetNotOk, SetMode, SetQuirksMode};
 ghost use Rattle.h5_meaning.specs.World.{current};
 ghost use Rattle.h5_state.specs.Steps.{IsOpen, IsSound, Makes, world_of};
 
@@ -23,6 +25,24 @@ pub fn set_mode<S: TreeSink>(sink: &S, state: &mut State<S::Handle>, mode: Inser
     ensures { Makes S.TreeSink (SetMode mode) sink.now state.old sink.now state.new }
 {
     state.mode = mode;
+}
+
+/// Keeps the insertion mode, to go back to it.
+#[tactic(auto, unfolding(crate::specs::View::world, h5_meaning::specs::World::names_of))]
+pub fn save_mode<S: TreeSink>(sink: &S, state: &mut State<S::Handle>)
+    requires { IsSound S.TreeSink sink.now state.old }
+    ensures { Makes S.TreeSink SaveMode sink.now state.old sink.now state.new }
+{
+    state.orig_mode = Some(state.mode);
+}
+
+/// Turns foster parenting on or off.
+#[tactic(auto, unfolding(crate::specs::View::world, h5_meaning::specs::World::names_of))]
+pub fn set_foster<S: TreeSink>(sink: &S, state: &mut State<S::Handle>, on: bool)
+    requires { IsSound S.TreeSink sink.now state.old }
+    ensures { Makes S.TreeSink (SetFoster on) sink.now state.old sink.now state.new }
+{
+    state.foster_parenting = on;
 }
 
 /// The frameset flag goes off.
@@ -66,10 +86,37 @@ pub fn pop<S: TreeSink>(sink: &mut S, state: &mut State<S::Handle>)
     }
 }
 
+/// Whether there is a form element.
+#[tactic(auto, unfolding(crate::specs::View::world))]
+pub fn has_form<S: TreeSink>(sink: &S, state: &State<S::Handle>) -> bool
+    ensures { result ≡ is_some (world_of S.TreeSink sink.now state.now).form }
+{
+    state.form_elem.is_some()
+}
+
 /// Whether the document is that of an `iframe` with `srcdoc`.
 #[tactic(auto, unfolding(crate::specs::View::world))]
 pub fn has_srcdoc<S: TreeSink>(sink: &S, state: &State<S::Handle>) -> bool
     ensures { result ≡ (world_of S.TreeSink sink.now state.now).options.iframe_srcdoc }
 {
     state.opts.iframe_srcdoc
+}
+
+/// The mode that was left for a text of a table.
+#[tactic(auto, unfolding(crate::specs::View::world))]
+pub fn saved_mode<S: TreeSink>(sink: &S, state: &State<S::Handle>) -> InsertionMode
+    ensures { result ≡ saved_mode (world_of S.TreeSink sink.now state.now) }
+{
+    state.orig_mode.unwrap_or(InsertionMode::InTable)
+}
+
+/// Whether the builder is in quirks mode.
+#[tactic(auto, unfolding(crate::specs::View::world))]
+pub fn is_in_quirks<S: TreeSink>(sink: &S, state: &State<S::Handle>) -> bool
+    ensures { result ≡ is_quirks (world_of S.TreeSink sink.now state.now).quirks }
+{
+    match state.quirks_mode {
+        QuirksMode::Quirks => true,
+        QuirksMode::LimitedQuirks | QuirksMode::NoQuirks => false,
+    }
 }

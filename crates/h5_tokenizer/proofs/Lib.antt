@@ -16,3 +16,4 @@ pub mod JoinLaws
 pub mod DeedLaws
 pub mod CutLaws
 pub mod WholeLaws
+pub mod KeptLaws

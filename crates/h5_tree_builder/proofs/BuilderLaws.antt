@@ -1,5 +1,5 @@
 -- A builder's first world, and what a token did seen as a whole.
-use Rattle.std.proofs.Common.{◌≡◌, ◌≤◌, ℕ, false, List, [], ◌∷◌, None, refl, ap, sym, subst, ◌∙◌, arith}
+use Rattle.std.proofs.Common.{◌≡◌, ◌≤◌, ◌+◌, ℕ, length, false, List, [], ◌∷◌, None, refl, ap, sym, subst, ◌∙◌, arith}
 use Rattle.h5_token.specs.Reply.{reply}
 use Rattle.h5_token.specs.TokenText.{DoctypeText, TokenText, DoctypeIs, TagIs, CommentIs, Characters, NullCharacter, EndOfFile, ParseErrorIs}
 use Rattle.h5_interface.specs.Forest.{Forest, IsForest}
@@ -54,7 +54,16 @@ lists_first = record {
 
 fits_first : (seen : Seen) (opts : TreeBuilderOpts) → Fits (first_world seen opts)
 unfolding names_of
-fits_first seen opts = record { mode = refl; lists = lists_first }
+fits_first seen opts = record {
+  mode = record {
+    fits = record {
+      known = record { root = tt; modes = refl; kinds = tt; opened = λ h. absurd (cc); ok = λ h. refl; under = tt };
+      place = (refl, (refl, refl));
+    };
+    named = tt;
+  };
+  lists = lists_first;
+}
 
 names_first : (seen : Seen) (opts : TreeBuilderOpts) → names_of (first_world seen opts) ≡ []
 unfolding names_of
@@ -81,7 +90,7 @@ text_few : (choices : SinkChoices) (t : List ℕ) (w : World) → (text_step cho
 text_few choices [] w = refl
 text_few choices (b ∷ t) w = refl
 
-pub step_few : (choices : SinkChoices) (t : TokenText) (w : World) → (step choices t w).turns ≤ 7
+pub step_few : (choices : SinkChoices) (t : TokenText) (w : World) → (step choices t w).turns ≤ 16 + length w.stack
 unfolding step
 step_few choices (DoctypeIs d) w = omega (arith, doctype_few w.mode choices d (taken w))
 step_few choices (TagIs t) w = turns_few choices (TagTurn t) (taken w)

@@ -1,16 +1,15 @@
 -- Turn after turn: what is left of a chain.
-use Rattle.std.proofs.Common.{◌≡◌, ◌≢◌, ◌+◌, ◌&&◌, not, List, ℕ, Bool, true, false, refl, ap, sym, subst, ◌∙◌, arith}
-use Rattle.h5_names.specs.declared.qualified.QualName.{QualName}
+use Rattle.std.proofs.Common.{◌≡◌, ◌+◌, ◌<◌, ◌^◌, ◌&&◌, not, ℕ, length, map, reverse, Bool, true, false, refl, ap, sym, subst, ◌∙◌, arith}
 use Rattle.h5_token.specs.Reply.{reply}
 use Rattle.h5_token.specs.declared.sink.TokenSinkResult.{TokenSinkResult}
 use Rattle.h5_token.specs.declared.sink.TokenSinkResult.TheVariants.{Continue}
 use Rattle.h5_interface.specs.SinkChoices.{SinkChoices}
-use Rattle.h5_types.specs.TurnText.{TurnText, is_self_closing}
+use Rattle.h5_types.specs.TurnText.{HasText, TurnText, is_self_closing}
 use Rattle.h5_types.specs.declared.modes.InsertionMode.{InsertionMode}
-use Rattle.h5_types.specs.declared.modes.InsertionMode.TheVariants.{AfterAfterBody, AfterBody, AfterHead, BeforeHead, BeforeHtml, InBody, InHead, Initial}
 use Rattle.h5_types.specs.declared.turns.ProcessResult.TheVariants as results
-use Rattle.h5_fits.specs.Fits.{Situation}
-use Rattle.h5_fits.specs.StageFits.{StageFits}
+use Rattle.h5_fits.specs.Fits.{is_before_root}
+use Rattle.h5_fits.specs.NamesFit.{NamesFit}
+use Rattle.h5_fits.proofs.OpenLaws.{names_root_open}
 use Rattle.h5_meaning.specs.Changes.{set_mode}
 use Rattle.h5_meaning.specs.Modes.{rule}
 use Rattle.h5_meaning.specs.Rows.{Follows}
@@ -18,23 +17,22 @@ use Rattle.h5_meaning.specs.Settle.{Settled, settle}
 use Rattle.h5_meaning.specs.Sound.{Fits, IsReady, Sound, situation_of}
 use Rattle.h5_meaning.specs.World.{World, names_of}
 use Rattle.h5_meaning.proofs.SettleLaws.{acknowledged_here, answered_here, ends_here, goes_on}
+use Rattle.h5_state.specs.View.{open_node, world}
+use Rattle.h5_state.specs.declared.state.State.{State}
+use Rattle.h5_interface.specs.Seen.{Seen}
+use Rattle.std.proofs.lemmas.List.{length-map, length-reverse}
 use Rattle.h5_tree_builder.specs.Chains.{CameTo}
 
--- a mode that is reached is one of those whose rules are written
-pub unreached : (s : Situation) (m : InsertionMode) (ns : List QualName) → StageFits s m ns → m ≢ Initial → m ≢ BeforeHtml → m ≢ BeforeHead → m ≢ InHead → m ≢ AfterHead → m ≢ InBody → m ≢ AfterBody → m ≢ AfterAfterBody → ⊥
-unreached s Initial ns h a b c d e f i j = a refl
-unreached s BeforeHtml ns h a b c d e f i j = b refl
-unreached s BeforeHead ns h a b c d e f i j = c refl
-unreached s InHead ns h a b c d e f i j = d refl
-unreached s AfterHead ns h a b c d e f i j = e refl
-unreached s InBody ns h a b c d e f i j = f refl
-unreached s AfterBody ns h a b c d e f i j = i refl
-unreached s AfterAfterBody ns h a b c d e f i j = j refl
-unreached s _ ns h a b c d e f i j = h
+-- once the root has been made builder and sink are ready
+pub ready_in_mode : (w : World) (m : InsertionMode) → w.mode ≡ m → is_before_root m ≡ false → Sound w → Fits w → IsReady w
+ready_in_mode w m e after k h = record { sound = k; lists = h.lists; root = names_root_open (situation_of w) m (names_of w) after (subst (λ x. NamesFit (situation_of w) x (names_of w)) e h.mode) }
 
--- in the body builder and sink are ready
-pub ready_in_body : (w : World) → w.mode ≡ InBody → Sound w → Fits w → IsReady w
-ready_in_body w e k h = record { sound = k; lists = h.lists; root = subst (λ m. StageFits (situation_of w) m (names_of w)) e h.mode }
+-- fewer elements are open than a vector has room for
+pub few_open : {S H : Type 0} (sees : S → Seen) (node : H → ℕ) (sink : S) (state : State H) → length (world sees node sink state).stack < 2 ^ 63
+unfolding world
+few_open sees node sink state =
+    let v = state.open_elems in
+    omega (arith, length-reverse (map (open_node node) v.items), length-map v.items (open_node node), v.ok.0, v.ok.1, v.small)
 
 -- after so many turns: the chain of the first world ends as that of this one
 pub record Left (choices : SinkChoices) (t : TurnText) (first now : World) (first_errors errors count : ℕ) : Type 0 where
@@ -56,16 +54,16 @@ and_right false b h = absurd (cc)
 
 module _ {H : Type 0} (choices : SinkChoices) (node : H → ℕ) (t : TurnText) (first w v : World) where
   -- one turn more
-  pub left_next : (u : World) (a b c n : ℕ) (m : _) (token : _) → Follows choices node (rule w.mode t w) t w v b c (results.Reprocess m token) → u ≡ set_mode m v → Left choices t first w a b n → Left choices t first u a c (n + 1)
-  left_next u a b c n m token f i l =
+  pub left_next : (u : World) (a b c n : ℕ) (m : _) (token : _) → Follows choices node (rule w.mode t w) t w v b c (results.Reprocess m token) → u ≡ set_mode m v → Sound w → HasText t → Fits w → Left choices t first w a b n → Left choices t first u a c (n + 1)
+  left_next u a b c n m token f i k some h l =
       let r = rule w.mode t w in
-      let e = goes_on choices node t w v u b c m token f i in
+      let e = goes_on choices node t w v u b c m token f i k some h in
       record {
         world = l.world ∙ ap (λ (s : Settled). s.world) e;
         turns = omega (arith, l.turns, ap (λ (s : Settled). s.turns) e);
         reply = l.reply ∙ ap (λ (s : Settled). s.reply) e;
-        quiet = λ h. let k = l.quiet h in let q = sym (ap (λ (s : Settled). s.quiet) e) ∙ k.0 in
-            (and_right r.quiet (settle choices t u).quiet q, f.quiet (and_left r.quiet (settle choices t u).quiet q) ∙ k.1);
+        quiet = λ all. let before = l.quiet all in let q = sym (ap (λ (s : Settled). s.quiet) e) ∙ before.0 in
+            (and_right r.quiet (settle choices t u).quiet q, f.quiet (and_left r.quiet (settle choices t u).quiet q) ∙ before.1);
       }
 
   -- the last turn, where no error is told after it but if the chain isn't quiet

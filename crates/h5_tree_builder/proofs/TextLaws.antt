@@ -1,36 +1,48 @@
 -- The chain of turns of one run is the text rule on it.
-use Rattle.std.proofs.Common.{◌≡◌, ◌≢◌, ℕ, zero, suc, ◌<◌, true, false, cond, List, [], ◌∷◌, ◌++◌, Some, None, take, drop, refl, ap, sym, ◌∙◌, arith}
+use Rattle.std.proofs.Common.{◌≡◌, ◌≢◌, ℕ, zero, suc, ◌<◌, Bool, true, false, cond, codes, List, [], ◌∷◌, ◌++◌, Some, None, take, drop, refl, ap, sym, ◌∙◌, arith}
 use Rattle.std.proofs.lemmas.List.{append-nil, take-append-drop}
 use Rattle.h5_token.specs.declared.sink.TokenSinkResult.TheVariants.{Continue}
 use Rattle.h5_interface.specs.SinkChoices.{SinkChoices}
+use Rattle.h5_stack.specs.FormattingNames.{AllFormatting}
 use Rattle.h5_types.specs.TurnText.{TextTurn, TurnText}
 use Rattle.h5_types.specs.declared.modes.InsertionMode.{InsertionMode}
-use Rattle.h5_types.specs.declared.modes.InsertionMode.TheVariants.{Initial, BeforeHtml, BeforeHead, InHead, AfterHead, InBody, AfterBody, AfterAfterBody}
+use Rattle.h5_types.specs.declared.modes.InsertionMode.TheVariants.{Initial, BeforeHtml, BeforeHead, InHead, AfterHead, InBody, InTable, InTableText, InCaption, InColumnGroup, InTableBody, InRow, InCell, AfterBody, AfterAfterBody}
 use Rattle.h5_types.specs.declared.modes.SplitStatus.{SplitStatus}
 use Rattle.h5_types.specs.declared.modes.SplitStatus.TheVariants.{NotSplit, Whitespace, NotWhitespace}
 use Rattle.h5_meaning.specs.Blanks.{blanks_of, is_blank, rest_of}
-use Rattle.h5_meaning.specs.Changes.{append_text, set_mode, set_frameset_ok_by_text}
+use Rattle.h5_meaning.specs.Changes.{append_text, pop, save_mode, set_mode, set_frameset_ok_by_text}
 use Rattle.h5_meaning.specs.AfterBody.{back_to_body}
 use Rattle.h5_meaning.specs.AfterHead.{after_head_else}
 use Rattle.h5_meaning.specs.BeforeHead.{before_head_else}
 use Rattle.h5_meaning.specs.BeforeHtml.{before_html_else}
+use Rattle.h5_meaning.specs.InBody.{current_is, in_body}
+use Rattle.h5_meaning.specs.InColumnGroup.{close_the_column_group, in_column_group_else}
 use Rattle.h5_meaning.specs.InHead.{in_head_else}
+use Rattle.h5_meaning.specs.InTable.{in_table_text_or_null, keeps_text}
 use Rattle.h5_meaning.specs.InitialMode.{initial_else}
 use Rattle.h5_meaning.specs.Modes.{rule}
-use Rattle.h5_meaning.specs.Rows.{AppendText, IsDone, Row, changed_by, choose, ignored, next_mode, row}
+use Rattle.h5_meaning.specs.Rows.{Again, AppendPendingText, AppendText, IsDone, Pop, Row, SaveMode, changed_by, choose, ignored, next_mode, row}
 use Rattle.h5_meaning.specs.Settle.{Settled, settle, then_turns}
 use Rattle.h5_meaning.specs.Shared.{in_body_text}
-use Rattle.h5_meaning.specs.Text.{IsRun, by_else, dropped, in_next, if_any, split, text_after_body, text_after_head, text_any, text_before_head, text_before_html, text_in, text_in_body, text_in_head, text_initial, text_rule, is_quiet_text}
+use Rattle.h5_meaning.specs.Text.{IsRun, after_row, all_blanks, by_else, closes_column_group, fostered_text, text_in_column_group, text_in_table, text_in_table_text, dropped, in_next, if_any, split, text_after_body, text_after_head, text_any, text_before_head, text_before_html, text_in, text_in_body, text_in_head, text_initial, text_rule, is_quiet_text}
 use Rattle.h5_meaning.specs.Run.{is_empty_text, text_step}
+use Rattle.h5_meaning.specs.Tables.{foster}
 use Rattle.h5_meaning.specs.World.{World}
-use Rattle.h5_meaning.proofs.CutLaws.{text_cut}
-use Rattle.h5_meaning.proofs.SettleLaws.{settle-row}
+use Rattle.h5_meaning.proofs.CutLaws.{by_mode, text_cut}
+use Rattle.h5_meaning.proofs.SettleLaws.{settle-text-row}
 use Rattle.h5_meaning.proofs.TreeLaws.{tree_reconstruct}
 use Rattle.h5_tree_builder.specs.Chains.{CameTo}
 
 blank_all : (t : List ℕ) → rest_of t ≡ [] → blanks_of t ≡ t
 blank_all [] e = refl
 blank_all (b ∷ t) e = (elim (is_blank b) as (λ v. cond v (rest_of t) (b ∷ t) ≡ [] → cond v (b ∷ blanks_of t) [] ≡ b ∷ t) [ true ↦ λ h. ap (λ x. b ∷ x) (blank_all t h) | false ↦ λ h. cc ]) e
+
+blanks_all : (t : List ℕ) → rest_of t ≡ [] → all_blanks t ≡ t
+blanks_all [] e = refl
+blanks_all (b ∷ t) e = (elim (is_blank b) as (λ v. cond v (rest_of t) (b ∷ t) ≡ [] → cond v (b ∷ all_blanks t) (all_blanks t) ≡ b ∷ t) [ true ↦ λ h. ap (λ x. b ∷ x) (blanks_all t h) | false ↦ λ h. absurd (cc) ]) e
+
+starts_solid : (b : ℕ) (t : List ℕ) → all_blanks (b ∷ t) ≡ [] → is_blank b ≡ false
+starts_solid b t e = (elim (is_blank b) as (λ v. cond v (b ∷ all_blanks t) (all_blanks t) ≡ [] → v ≡ false) [ true ↦ λ h. absurd (cc) | false ↦ λ h. refl ]) e
 
 split_blank : (blanks others : List ℕ → World → World) (b : ℕ) (t : List ℕ) (w : World) → rest_of (b ∷ t) ≡ [] → split blanks others (b ∷ t) w ≡ blanks (b ∷ t) w
 split_blank blanks others b t w e = ap (λ x. if_any others x (if_any blanks (blanks_of (b ∷ t)) w)) e ∙ ap (λ x. if_any blanks x w) (blank_all (b ∷ t) e)
@@ -52,12 +64,12 @@ module _ (choices : SinkChoices) (s : SplitStatus) (b : ℕ) (t : List ℕ) wher
   -- a turn that is the last, and one that isn't
   ends : (m : InsertionMode) (w : World) (r : Row) → w.mode ≡ m → rule m T w ≡ r → next_mode r.ending (changed_by choices r w) ≡ None → (settle choices T w).world ≡ changed_by choices r w
   ends m w r e f d =
-      ap (λ (x : Settled). x.world) (settle-row choices T w m r e f)
+      ap (λ (x : Settled). x.world) (settle-text-row choices T w m r refl e f)
       ∙ ap (λ o. (then_turns (settle choices T) T r (changed_by choices r w) o).world) d
 
   goes_on : (m k : InsertionMode) (w : World) (r : Row) → w.mode ≡ m → rule m T w ≡ r → next_mode r.ending (changed_by choices r w) ≡ Some k → (settle choices T w).world ≡ (settle choices T (set_mode k (changed_by choices r w))).world
   goes_on m k w r e f d =
-      ap (λ (x : Settled). x.world) (settle-row choices T w m r e f)
+      ap (λ (x : Settled). x.world) (settle-text-row choices T w m r refl e f)
       ∙ ap (λ o. (then_turns (settle choices T) T r (changed_by choices r w) o).world) d
 
   blank_meets : (m : InsertionMode) (blanks others : List ℕ → World → World) (r : World → Row) → rest_of (b ∷ t) ≡ [] → ((w : World) → rule m T w ≡ r w) → ((w : World) → next_mode (r w).ending (changed_by choices (r w) w) ≡ None)
@@ -74,21 +86,64 @@ module _ (choices : SinkChoices) (s : SplitStatus) (b : ℕ) (t : List ℕ) wher
       goes_on m k w x e (f w) (d w) ∙ next (set_mode k v) refl
       ∙ sym (is w ∙ split_solid blanks (by_else choices r (text_in k choices)) b t w solid ∙ ap (λ o. text_in k choices (b ∷ t) (in_next o v)) (d w))
 
-  whole_in_body : ((w : World) → rule InBody T w ≡ in_body_text (b ∷ t) w) → Meets InBody
+  -- by the rule of the body
+  by_body_meets : (m : InsertionMode) → ((w : World) → rule m T w ≡ in_body_text (b ∷ t) w) → ((w : World) → text_in m choices (b ∷ t) w ≡ text_in_body choices (b ∷ t) w) → Meets m
   unfolding text_in_body
-  whole_in_body f w e = ends InBody w (in_body_text (b ∷ t) w) e (f w) refl
+  by_body_meets m f is w e = ends m w (in_body_text (b ∷ t) w) e (f w) refl ∙ sym (is w)
+
+  whole_in_body : ((w : World) → rule InBody T w ≡ in_body_text (b ∷ t) w) → Meets InBody
+  whole_in_body f = by_body_meets InBody f (λ w. refl)
+
+  -- kept back, where texts of a table are
+  kept_meets : Meets InTableText
+  kept_meets w e = ends InTableText w (row (AppendPendingText (b ∷ t) ∷ []) IsDone) e refl refl
+
+  -- in a table, a row group and a row: kept back in two turns, or fostered in one
+  table_meets : (m : InsertionMode) → ((w : World) → rule m T w ≡ in_table_text_or_null T w) → ((w : World) → text_in m choices (b ∷ t) w ≡ text_in_table choices (b ∷ t) w) → Meets m
+  unfolding in_table_text_or_null text_in_table text_in_body
+  table_meets m f is w e = at (keeps_text w) (f w) (is w)
+    where
+      at : (o : Bool) → rule m T w ≡ choose o (row (SaveMode ∷ []) (Again InTableText)) (foster in_body T w)
+          → text_in m choices (b ∷ t) w ≡ cond o (text_in_table_text (b ∷ t) (set_mode InTableText (save_mode w))) (fostered_text choices (b ∷ t) w)
+          → (settle choices T w).world ≡ text_in m choices (b ∷ t) w
+      at true g i = goes_on m InTableText w (row (SaveMode ∷ []) (Again InTableText)) e g refl ∙ kept_meets (set_mode InTableText (save_mode w)) refl ∙ sym i
+      at false g i = ends m w (foster in_body T w) e g refl ∙ sym i
 
   -- in a mode that isn't reached yet nothing is done
   none_meets : (m : InsertionMode) → ((w : World) → rule m T w ≡ ignored) → ((w : World) → text_in m choices (b ∷ t) w ≡ w) → Meets m
   none_meets m f is w e = ends m w ignored e (f w) refl ∙ sym (is w)
 
-  -- in the body no error is told
-  quiet_in_body : ((w : World) → rule InBody T w ≡ in_body_text (b ∷ t) w) → (w : World) → w.mode ≡ InBody → (settle choices T w).quiet ≡ true
-  quiet_in_body f w e = ap (λ (x : Settled). x.quiet) (settle-row choices T w InBody (in_body_text (b ∷ t) w) e (f w))
+  -- in the body, a caption and a cell no error is told
+  by_body_quiet : (m : InsertionMode) → ((w : World) → rule m T w ≡ in_body_text (b ∷ t) w) → (w : World) → w.mode ≡ m → (settle choices T w).quiet ≡ true
+  by_body_quiet m f w e = ap (λ (x : Settled). x.quiet) (settle-text-row choices T w m (in_body_text (b ∷ t) w) refl e (f w))
+
+  run_quiet : (m : InsertionMode) → is_quiet_text m ≡ true → (w : World) → w.mode ≡ m → (settle choices T w).quiet ≡ true
+  run_quiet InBody q = by_body_quiet InBody (λ v. refl)
+  run_quiet InCaption q = by_body_quiet InCaption (λ v. refl)
+  run_quiet InCell q = by_body_quiet InCell (λ v. refl)
+  run_quiet _ q = absurd (cc)
 
 module _ (choices : SinkChoices) (b : ℕ) (t : List ℕ) where
   abbrev S : TurnText
   S = TextTurn NotWhitespace (b ∷ t)
+
+  -- in a column group blanks are appended
+  blank_column_group : rest_of (b ∷ t) ≡ [] → Meets choices Whitespace b t InColumnGroup
+  unfolding text_in_column_group
+  blank_column_group r w e = at (current_is (codes "colgroup") w) refl
+    where
+      done : (settle choices (TextTurn Whitespace (b ∷ t)) w).world ≡ append_text (b ∷ t) w
+      done = ends choices Whitespace b t InColumnGroup w (row (AppendText (b ∷ t) ∷ []) IsDone) e refl refl
+
+      at : (o : Bool) → current_is (codes "colgroup") w ≡ o → (settle choices (TextTurn Whitespace (b ∷ t)) w).world ≡ text_in_column_group choices (b ∷ t) w
+      at true h =
+          done
+          ∙ sym (ap (λ v. cond v (closes_column_group choices (b ∷ t) w) (if_any append_text (all_blanks (b ∷ t)) w)) h
+          ∙ split_blank append_text (by_else choices in_column_group_else (text_in_table choices)) b t w r)
+      at false h =
+          done
+          ∙ sym (ap (λ v. cond v (closes_column_group choices (b ∷ t) w) (if_any append_text (all_blanks (b ∷ t)) w)) h
+          ∙ ap (λ x. if_any append_text x w) (blanks_all (b ∷ t) r))
 
   -- blanks that are dropped, appended, and put into the body
   blank_run : (m : InsertionMode) → rest_of (b ∷ t) ≡ [] → Meets choices Whitespace b t m
@@ -99,6 +154,13 @@ module _ (choices : SinkChoices) (b : ℕ) (t : List ℕ) where
   blank_run InHead r = blank_meets choices Whitespace b t InHead append_text (by_else choices in_head_else (text_after_head choices)) (λ w. row (AppendText (b ∷ t) ∷ []) IsDone) r (λ w. refl) (λ w. refl) (λ w. refl) (λ w. refl)
   blank_run AfterHead r = blank_meets choices Whitespace b t AfterHead append_text (by_else choices after_head_else (text_in_body choices)) (λ w. row (AppendText (b ∷ t) ∷ []) IsDone) r (λ w. refl) (λ w. refl) (λ w. refl) (λ w. refl)
   blank_run InBody r = whole_in_body choices Whitespace b t (λ w. refl)
+  blank_run InTable r = table_meets choices Whitespace b t InTable (λ w. refl) (λ w. refl)
+  blank_run InTableText r = kept_meets choices Whitespace b t
+  blank_run InCaption r = by_body_meets choices Whitespace b t InCaption (λ w. refl) (λ w. refl)
+  blank_run InColumnGroup r = blank_column_group r
+  blank_run InTableBody r = table_meets choices Whitespace b t InTableBody (λ w. refl) (λ w. refl)
+  blank_run InRow r = table_meets choices Whitespace b t InRow (λ w. refl) (λ w. refl)
+  blank_run InCell r = by_body_meets choices Whitespace b t InCell (λ w. refl) (λ w. refl)
   blank_run AfterBody r = blank_meets choices Whitespace b t AfterBody (text_in_body choices) (by_else choices back_to_body (text_in_body choices)) (in_body_text (b ∷ t)) r (λ w. refl) (λ w. refl) (λ w. refl) (λ w. refl)
   blank_run AfterAfterBody r = blank_meets choices Whitespace b t AfterAfterBody (text_in_body choices) (by_else choices back_to_body (text_in_body choices)) (in_body_text (b ∷ t)) r (λ w. refl) (λ w. refl) (λ w. refl) (λ w. refl)
   blank_run m r = none_meets choices Whitespace b t m (λ w. refl) (λ w. refl)
@@ -130,17 +192,44 @@ module _ (choices : SinkChoices) (b : ℕ) (t : List ℕ) where
   unfolding text_initial
   solid_initial n = solid_meets choices NotWhitespace b t Initial BeforeHtml dropped initial_else n (λ w. refl) initial_again (solid_before_html n) (λ w. refl)
 
-  solid_run : (m : InsertionMode) → is_blank b ≡ false → Meets choices NotWhitespace b t m
+  -- what isn't blank closes the column group that is the current node, and is dropped in any other
+  solid_column_group : is_blank b ≡ false → all_blanks (b ∷ t) ≡ [] → Meets choices NotWhitespace b t InColumnGroup
+  unfolding text_in_column_group close_the_column_group
+  solid_column_group n s w e = at (current_is (codes "colgroup") w) refl
+    where
+      by_colgroup : (o : Bool) → current_is (codes "colgroup") w ≡ o → rule InColumnGroup S w ≡ choose o (row (Pop ∷ []) (Again InTable)) ignored
+      by_colgroup o h = ap (λ v. choose v (row (Pop ∷ []) (Again InTable)) ignored) h
+
+      at : (o : Bool) → current_is (codes "colgroup") w ≡ o → (settle choices S w).world ≡ text_in_column_group choices (b ∷ t) w
+      at true h =
+          goes_on choices NotWhitespace b t InColumnGroup InTable w (row (Pop ∷ []) (Again InTable)) e (by_colgroup true h) refl
+          ∙ table_meets choices NotWhitespace b t InTable (λ v. refl) (λ v. refl) (set_mode InTable (pop choices w)) refl
+          ∙ sym (ap (λ v. cond v (closes_column_group choices (b ∷ t) w) (if_any append_text (all_blanks (b ∷ t)) w)) h
+          ∙ split_solid append_text (by_else choices in_column_group_else (text_in_table choices)) b t w n
+          ∙ ap (λ v. text_in_table choices (b ∷ t) (after_row choices (choose v (row (Pop ∷ []) (Again InTable)) ignored) w)) h)
+      at false h =
+          ends choices NotWhitespace b t InColumnGroup w ignored e (by_colgroup false h) refl
+          ∙ sym (ap (λ v. cond v (closes_column_group choices (b ∷ t) w) (if_any append_text (all_blanks (b ∷ t)) w)) h
+          ∙ ap (λ x. if_any append_text x w) s)
+
+  solid_run : (m : InsertionMode) → is_blank b ≡ false → all_blanks (b ∷ t) ≡ [] → Meets choices NotWhitespace b t m
   unfolding text_after_body
-  solid_run Initial n = solid_initial n
-  solid_run BeforeHtml n = solid_before_html n
-  solid_run BeforeHead n = solid_before_head n
-  solid_run InHead n = solid_in_head n
-  solid_run AfterHead n = solid_after_head n
-  solid_run InBody n = whole_in_body choices NotWhitespace b t (λ w. refl)
-  solid_run AfterBody n = solid_back AfterBody n (λ w. refl) (λ w. refl)
-  solid_run AfterAfterBody n = solid_back AfterAfterBody n (λ w. refl) (λ w. refl)
-  solid_run m n = none_meets choices NotWhitespace b t m (λ w. refl) (λ w. refl)
+  solid_run Initial n s = solid_initial n
+  solid_run BeforeHtml n s = solid_before_html n
+  solid_run BeforeHead n s = solid_before_head n
+  solid_run InHead n s = solid_in_head n
+  solid_run AfterHead n s = solid_after_head n
+  solid_run InBody n s = whole_in_body choices NotWhitespace b t (λ w. refl)
+  solid_run InTable n s = table_meets choices NotWhitespace b t InTable (λ w. refl) (λ w. refl)
+  solid_run InTableText n s = kept_meets choices NotWhitespace b t
+  solid_run InCaption n s = by_body_meets choices NotWhitespace b t InCaption (λ w. refl) (λ w. refl)
+  solid_run InColumnGroup n s = solid_column_group n s
+  solid_run InTableBody n s = table_meets choices NotWhitespace b t InTableBody (λ w. refl) (λ w. refl)
+  solid_run InRow n s = table_meets choices NotWhitespace b t InRow (λ w. refl) (λ w. refl)
+  solid_run InCell n s = by_body_meets choices NotWhitespace b t InCell (λ w. refl) (λ w. refl)
+  solid_run AfterBody n s = solid_back AfterBody n (λ w. refl) (λ w. refl)
+  solid_run AfterAfterBody n s = solid_back AfterAfterBody n (λ w. refl) (λ w. refl)
+  solid_run m n s = none_meets choices NotWhitespace b t m (λ w. refl) (λ w. refl)
 
   whole_run : (m : InsertionMode) → IsRun m NotSplit (b ∷ t) → Meets choices NotSplit b t m
   whole_run Initial n = absurd (cc)
@@ -149,53 +238,57 @@ module _ (choices : SinkChoices) (b : ℕ) (t : List ℕ) where
   whole_run InHead n = absurd (cc)
   whole_run AfterHead n = absurd (cc)
   whole_run InBody n = whole_in_body choices NotSplit b t (λ w. refl)
+  whole_run InTable n = table_meets choices NotSplit b t InTable (λ w. refl) (λ w. refl)
+  whole_run InTableText n = kept_meets choices NotSplit b t
+  whole_run InCaption n = by_body_meets choices NotSplit b t InCaption (λ w. refl) (λ w. refl)
+  whole_run InColumnGroup n = absurd (cc)
+  whole_run InTableBody n = table_meets choices NotSplit b t InTableBody (λ w. refl) (λ w. refl)
+  whole_run InRow n = table_meets choices NotSplit b t InRow (λ w. refl) (λ w. refl)
+  whole_run InCell n = by_body_meets choices NotSplit b t InCell (λ w. refl) (λ w. refl)
   whole_run AfterBody n = absurd (cc)
   whole_run AfterAfterBody n = absurd (cc)
   whole_run m n = none_meets choices NotSplit b t m (λ w. refl) (λ w. refl)
 
   run_meets : (s : SplitStatus) (w : World) → IsRun w.mode s (b ∷ t) → (settle choices (TextTurn s (b ∷ t)) w).world ≡ text_rule choices (b ∷ t) w
   run_meets Whitespace w h = blank_run w.mode h w refl
-  run_meets NotWhitespace w h = solid_run w.mode h w refl
+  run_meets NotWhitespace w h = solid_run w.mode (starts_solid b t h) h w refl
   run_meets NotSplit w h = whole_run w.mode h w refl
-
-  run_quiet : (s : SplitStatus) (w : World) → w.mode ≡ InBody → (settle choices (TextTurn s (b ∷ t)) w).quiet ≡ true
-  run_quiet Whitespace w h = quiet_in_body choices Whitespace b t (λ v. refl) w h
-  run_quiet NotWhitespace w h = quiet_in_body choices NotWhitespace b t (λ v. refl) w h
-  run_quiet NotSplit w h = quiet_in_body choices NotSplit b t (λ v. refl) w h
 
 -- the chain of a run
 pub run_is : (choices : SinkChoices) (s : SplitStatus) (run : List ℕ) (w v : World) → run ≢ [] → IsRun w.mode s run → v ≡ (settle choices (TextTurn s run) w).world → v ≡ text_any choices run w
 run_is choices s [] w v some r f = absurd (some refl)
 run_is choices s (b ∷ x) w v some r f = f ∙ run_meets choices b x s w r
 
-pub run_is_quiet : (choices : SinkChoices) (s : SplitStatus) (run : List ℕ) (w : World) → run ≢ [] → w.mode ≡ InBody → (settle choices (TextTurn s run) w).quiet ≡ true
-run_is_quiet choices s [] w some e = absurd (some refl)
-run_is_quiet choices s (b ∷ x) w some e = run_quiet choices b x s w e
+pub run_is_quiet : (choices : SinkChoices) (s : SplitStatus) (run : List ℕ) (w : World) → run ≢ [] → is_quiet_text w.mode ≡ true → (settle choices (TextTurn s run) w).quiet ≡ true
+run_is_quiet choices s [] w some q = absurd (some refl)
+run_is_quiet choices s (b ∷ x) w some q = run_quiet choices s b x w.mode q w refl
 
-then_rest : (choices : SinkChoices) (b : ℕ) (x y : List ℕ) (w v : World) → v ≡ text_rule choices (b ∷ x) w → text_any choices y v ≡ text_rule choices ((b ∷ x) ++ y) w
-then_rest choices b x [] w v e = e ∙ ap (λ z. text_rule choices z w) (sym (append-nil (b ∷ x)))
-then_rest choices b x (d ∷ u) w v e = ap (λ z. text_rule choices (d ∷ u) z) e ∙ sym (text_cut choices b x d u w)
+then_rest : (choices : SinkChoices) (b : ℕ) (x y : List ℕ) (w v : World) → AllFormatting w.formatting → v ≡ text_rule choices (b ∷ x) w → text_any choices y v ≡ text_rule choices ((b ∷ x) ++ y) w
+then_rest choices b x [] w v k e = e ∙ ap (λ z. text_rule choices z w) (sym (append-nil (b ∷ x)))
+then_rest choices b x (d ∷ u) w v k e = ap (λ z. text_rule choices (d ∷ u) z) e ∙ sym (text_cut choices b x d u w k)
 
--- after a run, what is left goes on
-pub run_then_rest : (choices : SinkChoices) (text : List ℕ) (n : ℕ) (w v : World) → 0 < n → text ≢ [] → v ≡ text_any choices (take n text) w → text_any choices (drop n text) v ≡ text_any choices text w
-run_then_rest choices [] n w v p some f = absurd (some refl)
-run_then_rest choices (b ∷ t) zero w v p some f = absurd (omega arith)
-run_then_rest choices (b ∷ t) (suc n) w v p some f = then_rest choices b (take n t) (drop n t) w v f ∙ ap (λ z. text_rule choices (b ∷ z) w) (take-append-drop n t)
+-- after a run, what is left goes on, where the list of active formatting elements is of their names
+pub run_then_rest : (choices : SinkChoices) (text : List ℕ) (n : ℕ) (w v : World) → AllFormatting w.formatting → 0 < n → text ≢ [] → v ≡ text_any choices (take n text) w → text_any choices (drop n text) v ≡ text_any choices text w
+run_then_rest choices [] n w v k p some f = absurd (some refl)
+run_then_rest choices (b ∷ t) zero w v k p some f = absurd (omega arith)
+run_then_rest choices (b ∷ t) (suc n) w v k p some f = then_rest choices b (take n t) (drop n t) w v k f ∙ ap (λ z. text_rule choices (b ∷ z) w) (take-append-drop n t)
 
--- a text in the body leaves the mode
-pub mode_stays : (choices : SinkChoices) (run : List ℕ) (w v : World) → w.mode ≡ InBody → v ≡ text_any choices run w → v.mode ≡ InBody
-mode_stays choices [] w v e f = ap (λ (x : World). x.mode) f ∙ e
-mode_stays choices (b ∷ t) w v e f = ap (λ (x : World). x.mode) (f ∙ ap (λ m. text_in m choices (b ∷ t) w) e) ∙ stays
+-- a text in the body, a caption and a cell leaves the mode
+pub mode_stays : (choices : SinkChoices) (run : List ℕ) (w v : World) → is_quiet_text w.mode ≡ true → v ≡ text_any choices run w → is_quiet_text v.mode ≡ true
+mode_stays choices [] w v q f = ap (λ (x : World). is_quiet_text x.mode) f ∙ q
+mode_stays choices (b ∷ t) w v q f = ap (λ (x : World). is_quiet_text x.mode) f ∙ stays w.mode refl q
   where
-    stays : (text_in_body choices (b ∷ t) w).mode ≡ InBody
-    stays = in_body_mode choices (b ∷ t) w ∙ e
+    by_body : text_rule choices (b ∷ t) w ≡ text_in_body choices (b ∷ t) w → is_quiet_text (text_rule choices (b ∷ t) w).mode ≡ true
+    by_body h = ap (λ (x : World). is_quiet_text x.mode) h ∙ ap is_quiet_text (in_body_mode choices (b ∷ t) w) ∙ q
+
+    stays : (m : InsertionMode) → w.mode ≡ m → is_quiet_text m ≡ true → is_quiet_text (text_rule choices (b ∷ t) w).mode ≡ true
+    stays InBody e k = by_body (by_mode choices InBody (b ∷ t) w e)
+    stays InCaption e k = by_body (by_mode choices InCaption (b ∷ t) w e)
+    stays InCell e k = by_body (by_mode choices InCell (b ∷ t) w e)
+    stays _ e k = absurd (cc)
 
 -- what a text came to
-pub text_came : {H : Type 0} (choices : SinkChoices) (node : H → ℕ) (text : List ℕ) (old new : World) (a b n : ℕ) → new ≡ text_any choices text old → (old.mode ≡ InBody → b ≡ a) → (text ≡ [] → (n ≡ 0) × (b ≡ a))
+pub text_came : {H : Type 0} (choices : SinkChoices) (node : H → ℕ) (text : List ℕ) (old new : World) (a b n : ℕ) → new ≡ text_any choices text old → (is_quiet_text old.mode ≡ true → b ≡ a) → (text ≡ [] → (n ≡ 0) × (b ≡ a))
     → CameTo node (text_step choices text old) (is_empty_text text) new a b (record { turns = n; answer = Continue })
 text_came choices node [] old new a b n e quiet empty = record { world = e; turns = λ h. (empty refl).0; reply = refl; quiet = λ h. (empty refl).1 }
-text_came choices node (d ∷ t) old new a b n e quiet empty = record { world = e; turns = λ h. absurd (cc); reply = refl; quiet = λ h. quiet (in_body old.mode h) }
-  where
-    in_body : (m : InsertionMode) → is_quiet_text m ≡ true → m ≡ InBody
-    in_body InBody h = refl
-    in_body _ h = absurd (cc)
+text_came choices node (d ∷ t) old new a b n e quiet empty = record { world = e; turns = λ h. absurd (cc); reply = refl; quiet = quiet }

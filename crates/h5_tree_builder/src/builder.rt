@@ -1,7 +1,7 @@
 //! The tree builder.
 ghost use Rattle.std.specs.Prelude.{◌≡◌, [], false, true};
 ghost use Rattle.h5_token.specs.TokenText.{token_text};
-ghost use Rattle.h5_meaning.specs.Sound.{HasLists, Sound};
+ghost use Rattle.h5_meaning.specs.Sound.{Fits, HasLists, Sound};
 ghost use Rattle.h5_tree_builder.specs.Held.{building};
 ghost use Rattle.h5_tree_builder.specs.Builder.{IsKeptWhole, Takes, ended_view, first_building};
 
@@ -68,7 +68,8 @@ impl<Handle: Drop, Sink: TreeSink<Handle = Handle> + Drop> TreeBuilder<Handle, S
     /// After each token that was taken, the list of active formatting elements agrees with the stack of
     /// open elements: no element is listed twice, listed elements that are open stand in the list in the
     /// stack's order, and in each stretch between two markers no open element's entry is newer than that of
-    /// one that isn't open, and at most three entries are alike.
+    /// one that isn't open, and at most three entries are alike. The open elements fit the insertion mode:
+    /// in a row a `tr` is open, in a cell a `td` or a `th`, and what else each mode tells of them.
     ///
     /// After want of memory it answers `Failed`, after the end `AfterEnd`, and then nothing has changed, in
     /// the sink neither. Where memory is refused now it answers `Memory`, and the turns stay those of the
@@ -83,6 +84,7 @@ impl<Handle: Drop, Sink: TreeSink<Handle = Handle> + Drop> TreeBuilder<Handle, S
         ensures ended { self.new.ended ≡ self.old.ended }
         ensures sound { Sound (building Sink.sees Sink.node self.new).view.world }
         ensures lists { (building Sink.sees Sink.node self.new).view.failed ≡ false → HasLists (building Sink.sees Sink.node self.new).view.world }
+        ensures fits { (building Sink.sees Sink.node self.new).view.failed ≡ false → (building Sink.sees Sink.node self.new).view.ended ≡ false → Fits (building Sink.sees Sink.node self.new).view.world }
     {
         if self.failed {
             return Err(BuildFault::Failed);
@@ -129,6 +131,7 @@ impl<Handle: Drop, Sink: TreeSink<Handle = Handle> + Drop> TreeBuilder<Handle, S
     pub(crate) fn has_failed(&self) -> bool
         ensures sound { Sound (building Sink.sees Sink.node self.now).view.world }
         ensures lists { (building Sink.sees Sink.node self.now).view.failed ≡ false → HasLists (building Sink.sees Sink.node self.now).view.world }
+        ensures fits { (building Sink.sees Sink.node self.now).view.failed ≡ false → (building Sink.sees Sink.node self.now).view.ended ≡ false → Fits (building Sink.sees Sink.node self.now).view.world }
         ensures failed { result ≡ (building Sink.sees Sink.node self.now).view.failed }
     {
         self.failed

@@ -13,12 +13,16 @@ use h5_rules_body::{step_after_after_body, step_after_body, step_in_body};
 use h5_rules_head::{
     step_after_head, step_before_head, step_before_html, step_in_head, step_initial,
 };
-use h5_state::{State, Turn, current_mode, set_mode, tell_error};
+use h5_rules_tables::{
+    step_in_caption, step_in_cell, step_in_column_group, step_in_row, step_in_table,
+    step_in_table_body, step_in_table_text,
+};
+use h5_state::{State, Turn, current_mode, set_mode, tell_error, unexpected};
 use h5_token::{TagKind, TokenSinkResult};
 use h5_types::{InsertionMode, ProcessResult, Token};
 use std::alloc::AllocError;
 
-// One turn, by the rule of the mode. A mode of which no rule is written isn't reached.
+// One turn, by the rule of the mode. In a mode of which no rule is written so far, a token is ignored.
 fn step<S: TreeSink>(sink: &mut S, state: &mut State<S::Handle>, token: Token) -> Turn<S::Handle>
     requires ready { IsReady S.TreeSink sink.old state.old }
     requires text { HasText (turn_text token) }
@@ -31,9 +35,19 @@ fn step<S: TreeSink>(sink: &mut S, state: &mut State<S::Handle>, token: Token) -
         InsertionMode::InHead => step_in_head(sink, state, token),
         InsertionMode::AfterHead => step_after_head(sink, state, token),
         InsertionMode::InBody => step_in_body(sink, state, token),
+        InsertionMode::InTable => step_in_table(sink, state, token),
+        InsertionMode::InTableText => step_in_table_text(sink, state, token),
+        InsertionMode::InCaption => step_in_caption(sink, state, token),
+        InsertionMode::InColumnGroup => step_in_column_group(sink, state, token),
+        InsertionMode::InTableBody => step_in_table_body(sink, state, token),
+        InsertionMode::InRow => step_in_row(sink, state, token),
+        InsertionMode::InCell => step_in_cell(sink, state, token),
         InsertionMode::AfterBody => step_after_body(sink, state, token),
         InsertionMode::AfterAfterBody => step_after_after_body(sink, state, token),
-        _ => unreachable!(),
+        _ => {
+            unexpected(sink, state, &token);
+            Ok(ProcessResult::Done)
+        }
     }
 }
 

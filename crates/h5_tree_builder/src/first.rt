@@ -5,7 +5,7 @@ ghost use Rattle.h5_state.specs.View.{kept_of};
 ghost use Rattle.h5_tree_builder.specs.Builder.{first_world};
 
 use h5_interface::TreeSink;
-use h5_state::State;
+use h5_state::{PendingText, State};
 use h5_types::{InsertionMode, TreeBuilderOpts};
 use std::alloc::Global;
 
@@ -20,7 +20,7 @@ pub fn first_state<S: TreeSink>(sink: &S, alloc: Global, opts: TreeBuilderOpts) 
         mode: InsertionMode::Initial,
         orig_mode: None,
         template_modes: Vec::new(alloc),
-        pending_table_text: Vec::new(alloc),
+        pending_table_text: PendingText::new(alloc),
         quirks_mode: opts.quirks_mode,
         open_elems: Vec::new(alloc),
         active_formatting: Vec::new(alloc),

@@ -1,10 +1,9 @@
 //! A text, run by run (HTML standard, section 13.2.6.1: characters are taken one by one, and a run of them
 //! that a rule takes alike is taken at once).
-ghost use Rattle.std.specs.Prelude.{◌≡◌, ◌≢◌, [], IfOk, IsOk, OnOk, string_bytes};
-ghost use Rattle.h5_types.specs.declared.modes.InsertionMode.TheVariants.{InBody};
+ghost use Rattle.std.specs.Prelude.{◌≡◌, ◌≢◌, [], true, IfOk, IsOk, OnOk, string_bytes};
 ghost use Rattle.h5_meaning.specs.Run.{is_empty_text, text_step, without_lf};
 ghost use Rattle.h5_meaning.specs.Sound.{Fits};
-ghost use Rattle.h5_meaning.specs.Text.{IsRun, text_any};
+ghost use Rattle.h5_meaning.specs.Text.{IsRun, is_quiet_text, text_any};
 ghost use Rattle.h5_state.specs.Steps.{IsSound, errors_of, world_of};
 ghost use Rattle.h5_tree_builder.specs.Chains.{IsReady, Settles};
 
@@ -27,7 +26,7 @@ fn settle_run<S: TreeSink>(
     requires text { string_bytes run ≢ [] }
     requires run { IsRun (world_of S.TreeSink sink.old state.old).mode status (string_bytes run) }
     ensures done { OnOk result (world_of S.TreeSink sink.new state.new ≡ text_any S.choices (string_bytes run) (world_of S.TreeSink sink.old state.old)) }
-    ensures quiet { OnOk result ((world_of S.TreeSink sink.old state.old).mode ≡ InBody → errors_of S.TreeSink sink.new ≡ errors_of S.TreeSink sink.old) }
+    ensures quiet { OnOk result (is_quiet_text (world_of S.TreeSink sink.old state.old).mode ≡ true → errors_of S.TreeSink sink.new ≡ errors_of S.TreeSink sink.old) }
     ensures sound { IsSound S.TreeSink sink.new state.new }
     ensures fits { OnOk result (Fits (world_of S.TreeSink sink.new state.new)) }
 {
@@ -44,7 +43,7 @@ fn process_runs<S: TreeSink>(
 ) -> Result<u64, AllocError>
     requires ready { IsReady S.TreeSink sink.old state.old }
     ensures done { OnOk result (world_of S.TreeSink sink.new state.new ≡ text_any S.choices text.now (world_of S.TreeSink sink.old state.old)) }
-    ensures quiet { OnOk result ((world_of S.TreeSink sink.old state.old).mode ≡ InBody → errors_of S.TreeSink sink.new ≡ errors_of S.TreeSink sink.old) }
+    ensures quiet { OnOk result (is_quiet_text (world_of S.TreeSink sink.old state.old).mode ≡ true → errors_of S.TreeSink sink.new ≡ errors_of S.TreeSink sink.old) }
     ensures sound { IsSound S.TreeSink sink.new state.new }
     ensures fits { OnOk result (Fits (world_of S.TreeSink sink.new state.new)) }
 {
@@ -68,7 +67,7 @@ fn process_text<S: TreeSink>(
 ) -> Result<u64, AllocError>
     requires ready { IsReady S.TreeSink sink.old state.old }
     ensures done { OnOk result (world_of S.TreeSink sink.new state.new ≡ text_any S.choices (string_bytes text) (world_of S.TreeSink sink.old state.old)) }
-    ensures quiet { OnOk result ((world_of S.TreeSink sink.old state.old).mode ≡ InBody → errors_of S.TreeSink sink.new ≡ errors_of S.TreeSink sink.old) }
+    ensures quiet { OnOk result (is_quiet_text (world_of S.TreeSink sink.old state.old).mode ≡ true → errors_of S.TreeSink sink.new ≡ errors_of S.TreeSink sink.old) }
     ensures free { string_bytes text ≡ [] → IsOk result }
     ensures empty { IfOk result (λ n. string_bytes text ≡ [] → (n ≡ 0) × (errors_of S.TreeSink sink.new ≡ errors_of S.TreeSink sink.old)) }
     ensures sound { IsSound S.TreeSink sink.new state.new }

@@ -1,7 +1,7 @@
 //! A list of tokens.
 ghost use Rattle.std.specs.Prelude.{◌≡◌, true, false, IfOk, OnErr, Err, Result};
 ghost use Rattle.h5_token.specs.TokenText.{token_text};
-ghost use Rattle.h5_meaning.specs.Sound.{HasLists, Sound};
+ghost use Rattle.h5_meaning.specs.Sound.{Fits, HasLists, Sound};
 ghost use Rattle.h5_tree_builder.specs.Builder.{RanAll, RebuildsPlain, Replied};
 ghost use Rattle.h5_tree_builder.specs.Held.{building};
 ghost use Rattle.h5_tree_builder.specs.Replies.{reply_text, reply_texts, token_texts};
@@ -20,6 +20,7 @@ impl<Handle: Drop, Sink: TreeSink<Handle = Handle> + Drop> TreeBuilder<Handle, S
         ensures ended { self.new.ended ≡ self.old.ended }
         ensures sound { Sound (building Sink.sees Sink.node self.new).view.world }
         ensures lists { (building Sink.sees Sink.node self.new).view.failed ≡ false → HasLists (building Sink.sees Sink.node self.new).view.world }
+        ensures fits { (building Sink.sees Sink.node self.new).view.failed ≡ false → (building Sink.sees Sink.node self.new).view.ended ≡ false → Fits (building Sink.sees Sink.node self.new).view.world }
     {
         match self.process_token(token, line_number) {
             Ok(answer) => Ok(Reply::Answer(answer)),
@@ -37,7 +38,7 @@ impl<Handle: Drop, Sink: TreeSink<Handle = Handle> + Drop> TreeBuilder<Handle, S
     /// The tokens of a plain document rebuild exactly that document, in a new builder with the default
     /// options over a sink that holds its document alone: in no quirks, without a parse error, and with no
     /// answer but `Continue`. So far the plain documents are those with an empty head and a body of `div`,
-    /// `p`, headings, texts and `br`.
+    /// `p`, headings, tables with row groups, rows and cells, texts and `br`.
     ///
     /// It answers `Failed` after want of memory, and then nothing has changed. Where memory is refused now
     /// it answers `Memory`, and the tokens before that have been taken.
@@ -53,6 +54,7 @@ impl<Handle: Drop, Sink: TreeSink<Handle = Handle> + Drop> TreeBuilder<Handle, S
         ensures ended { self.new.ended ≡ self.old.ended }
         ensures sound { Sound (building Sink.sees Sink.node self.new).view.world }
         ensures lists { (building Sink.sees Sink.node self.new).view.failed ≡ false → HasLists (building Sink.sees Sink.node self.new).view.world }
+        ensures fits { (building Sink.sees Sink.node self.new).view.failed ≡ false → (building Sink.sees Sink.node self.new).view.ended ≡ false → Fits (building Sink.sees Sink.node self.new).view.world }
     {
         if self.has_failed() {
             return Err(BuildFault::Failed);

@@ -83,6 +83,18 @@ fn a_builder_takes_tokens_as_any_sink_of_them(rt: HostRuntime) -> Result<(), Fai
     Ok(())
 }
 
+#[test]
+fn the_end_of_a_table_is_found_from_a_cell(rt: HostRuntime) -> Result<(), Fail> {
+    let alloc = rt.alloc();
+    let mut builder = new_builder(alloc)?;
+    for name in ["table", "tr", "td"] {
+        builder.process_token(start(alloc, name)?, 1)?;
+    }
+    builder.process_token(end(alloc, "table")?, 1)?;
+    assert_eq!(rt; builder.turns(), 4);
+    Ok(())
+}
+
 fn is_entry(entry: Option<(usize, &NodeId, &Tag)>, place: usize, name: &str) -> bool {
     match entry {
         Some((at, _, tag)) => at == place && tag.name.as_str() == name,

@@ -1,6 +1,6 @@
 //! Texts that come in pieces: the trees are those of the whole texts.
 use super::parser::new_parser;
-use super::rows::{BODIES, PAGES, TREES, page_of};
+use super::rows::{BODIES, PAGES, TABLES, TREES, page_of};
 use super::running::prints;
 use h5_arena::Arena;
 use h5_serialize::{SerializeFault, SerializeOpts, serialize};
@@ -42,6 +42,16 @@ fn pages_in_single_characters(rt: HostRuntime) -> Result<(), Fail> {
 fn bodies_in_single_characters(rt: HostRuntime) -> Result<(), Fail> {
     let alloc = rt.alloc();
     for (page, body) in BODIES {
+        let found = html_of_characters(alloc, page)?;
+        assert_eq!(rt; found.as_slice(), page_of(alloc, body)?.as_bytes());
+    }
+    Ok(())
+}
+
+#[test]
+fn tables_in_single_characters(rt: HostRuntime) -> Result<(), Fail> {
+    let alloc = rt.alloc();
+    for (page, body) in TABLES {
         let found = html_of_characters(alloc, page)?;
         assert_eq!(rt; found.as_slice(), page_of(alloc, body)?.as_bytes());
     }

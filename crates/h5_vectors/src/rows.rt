@@ -105,6 +105,78 @@ pub const BODIES: [(&str, &str); 18] = [
     ("<b>1<span>2</b>3", "<b>1<span>2</span></b>3"),
 ];
 
+/// The same with tables.
+pub const TABLES: [(&str, &str); 20] = [
+    (
+        "<table><tr><td>1<td>2</table>",
+        "<table><tbody><tr><td>1</td><td>2</td></tr></tbody></table>",
+    ),
+    (
+        "<table><b>x<tr>y",
+        "<b>x</b><b>y</b><table><tbody><tr></tr></tbody></table>",
+    ),
+    (
+        "<table><caption><b>a</caption>b",
+        "b<table><caption><b>a</b></caption></table>",
+    ),
+    (
+        "<table><colgroup> x y</table>",
+        "x y<table><colgroup> </colgroup></table>",
+    ),
+    ("<table> a</table>", " a<table></table>"),
+    ("<table> </table>", "<table> </table>"),
+    ("<p><table>", "<p><table></table></p>"),
+    (
+        "<table><col><col></table>",
+        "<table><colgroup><col><col></colgroup></table>",
+    ),
+    (
+        "<table><thead><tr><th>1</thead><tfoot><tr><td>2</tfoot></table>3",
+        "<table><thead><tr><th>1</th></tr></thead><tfoot><tr><td>2</td></tr></tfoot></table>3",
+    ),
+    (
+        "<table><td><table><td>1</table>2</table>3",
+        "<table><tbody><tr><td><table><tbody><tr><td>1</td></tr></tbody></table>2</td></tr></tbody></table>3",
+    ),
+    (
+        "<table><tr><table>1",
+        "<table><tbody><tr></tr></tbody></table>1<table></table>",
+    ),
+    (
+        "<table><td><b>1</td><td>2",
+        "<table><tbody><tr><td><b>1</b></td><td>2</td></tr></tbody></table>",
+    ),
+    (
+        "<b><table><td>1</b>2",
+        "<b><table><tbody><tr><td>12</td></tr></tbody></table></b>",
+    ),
+    (
+        "<table><div>1<td>2",
+        "<div>1</div><table><tbody><tr><td>2</td></tr></tbody></table>",
+    ),
+    (
+        "<table><input type=Hidden><input type=text>",
+        "<input type=\"text\"><table><input type=\"Hidden\"></table>",
+    ),
+    (
+        "<table><form a=1></form><form>1</table>",
+        "1<table><form a=\"1\"></form></table>",
+    ),
+    (
+        "<table><caption>1<td>2",
+        "<table><caption>1</caption><tbody><tr><td>2</td></tr></tbody></table>",
+    ),
+    (
+        "<table><tr></td></tbody><td>1",
+        "<table><tbody><tr></tr></tbody><tbody><tr><td>1</td></tr></tbody></table>",
+    ),
+    ("<td>1</table>2</tr>", "12"),
+    (
+        "<a>1<table><a>2</table>3",
+        "<a>1<a>2</a><table></table></a><a>3</a>",
+    ),
+];
+
 /// The HTML of a page whose body holds this.
 pub fn page_of(alloc: Global, body: &str) -> Result<String, AllocError> {
     format!(in alloc; "<html><head></head><body>{body}</body></html>")
@@ -156,6 +228,16 @@ fn html_of_a_text(rt: HostRuntime) -> Result<(), Fail> {
 fn bodies_of_texts(rt: HostRuntime) -> Result<(), Fail> {
     let alloc = rt.alloc();
     for (input, body) in BODIES {
+        let page = page_of(alloc, body)?;
+        prints(&rt, alloc, "html", input, page.as_str())?;
+    }
+    Ok(())
+}
+
+#[test]
+fn bodies_of_texts_with_tables(rt: HostRuntime) -> Result<(), Fail> {
+    let alloc = rt.alloc();
+    for (input, body) in TABLES {
         let page = page_of(alloc, body)?;
         prints(&rt, alloc, "html", input, page.as_str())?;
     }

@@ -8,19 +8,16 @@ use Rattle.h5_state.specs.View.{world}
 use Rattle.h5_formatting.proofs.RenewLaws.{sound_with_list, with_list}
 use Rattle.h5_formatting.proofs.markers.clear_active_formatting_to_marker.Goals as goal
 
-pub returns-clause-world : goal.returns-clause-world
+pub returns : goal.returns
 unfolding world clear_active_formatting_to_marker
-returns-clause-world g c =
+returns g c =
     let w = world g.S.TreeSink.sees g.S.TreeSink.node c.args.sink.now c.args.state.now in
-    ap (λ l. with_list l w) (c.clear_to_marker.ensures g.S.TreeSink.node)
-
-pub returns-clause-sound : goal.returns-clause-sound
-unfolding world
-returns-clause-sound g c =
-    let w = world g.S.TreeSink.sees g.S.TreeSink.node c.args.sink.now c.args.state.now in
-    sound_with_list g.S.TreeSink c.args.sink.now c.args.state.now _ (clear_to_marker w.formatting)
-    (ap (λ l. with_list l w) (c.clear_to_marker.ensures g.S.TreeSink.node))
-    refl
-    (each_cleared (IsOfTag w.forest) w.formatting c.requires.sound.listed)
-    (each_cleared (λ n t. IsTrue (is_one_of formatting_names t.name)) w.formatting c.requires.sound.formatting)
-    c.requires
+    let cleared = ap (λ l. with_list l w) (c.clear_to_marker.ensures g.S.TreeSink.node) in
+    record {
+      world = cleared;
+      quiet = refl;
+      sound = sound_with_list g.S.TreeSink c.args.sink.now c.args.state.now _ (clear_to_marker w.formatting) cleared refl
+          (each_cleared (IsOfTag w.forest) w.formatting c.requires.sound.listed)
+          (each_cleared (λ n t. IsTrue (is_one_of formatting_names t.name)) w.formatting c.requires.sound.formatting)
+          c.requires;
+    }

@@ -1,4 +1,4 @@
-use Rattle.std.proofs.Common.{◌-◌, true, sym, subst, arith}
+use Rattle.std.proofs.Common.{◌-◌, true, refl, sym, subst, arith}
 use Rattle.h5_token.specs.declared.sink.TokenSinkResult.TheVariants.{Continue}
 use Rattle.h5_types.specs.TurnText.{turn_text}
 use Rattle.h5_types.specs.declared.turns.ProcessResult.TheVariants as results
@@ -7,10 +7,11 @@ use Rattle.h5_meaning.specs.Rows.{Follows}
 use Rattle.h5_meaning.specs.Settle.{settle}
 use Rattle.h5_meaning.specs.Sound.{Fits}
 use Rattle.h5_meaning.proofs.FitsLaws.{fits_acknowledged, fits_again, fits_answered, fits_done}
+use Rattle.h5_meaning.proofs.FallsLaws.{rank_few}
 use Rattle.h5_meaning.proofs.SettleLaws.{rank_falls}
 use Rattle.h5_state.specs.View.{world}
 use Rattle.h5_tree_builder.specs.Chains.{CameTo}
-use Rattle.h5_tree_builder.proofs.ChainLaws.{Left, acknowledged_last, answered_last, done_last, left_next}
+use Rattle.h5_tree_builder.proofs.ChainLaws.{Left, acknowledged_last, answered_last, done_last, few_open, left_all, left_next}
 use Rattle.h5_tree_builder.proofs.dispatch.settle_token.Goals as goal
 
 pub returns-in-Done : goal.returns-in-Done
@@ -73,6 +74,23 @@ returns-in-Answer g c =
       fits = fits_answered k node t w v a b c.in-Answer.answer f c.turns.invariant.sound.sound c.requires.text c.turns.invariant.fits;
     }
 
+pub turns-init : goal.turns-init
+turns-init g c =
+    let k = g.S.TreeSink.choices in
+    let t = turn_text c.args.token in
+    let w = world g.S.TreeSink.sees g.S.TreeSink.node c.args.sink.now c.args.state.now in
+    record {
+      sound = c.requires.ready.sound;
+      fits = c.requires.ready.fits;
+      same = refl;
+      some = omega arith;
+      few = omega (arith, rank_few t w c.requires.ready.fits);
+      left = left_all k t w (g.S.TreeSink.sees c.args.sink.now).errors;
+    }
+
+pub overflow_add-turns : goal.overflow_add-turns
+overflow_add-turns g c = omega (arith, c.turns.invariant.few, few_open g.S.TreeSink.sees g.S.TreeSink.node c.args.sink.now c.args.state.now)
+
 pub turns-smaller : goal.turns-smaller
 turns-smaller g c =
     let k = g.S.TreeSink.choices in
@@ -84,7 +102,7 @@ turns-smaller g c =
     let b = (g.S.TreeSink.sees c.step.new.sink).errors in
     let f : Follows k node (rule w.mode t w) t w v a b (results.Reprocess c.in-Reprocess.mode c.in-Reprocess.again) = subst (λ x. Follows k node (rule w.mode x w) x w v a b (results.Reprocess c.in-Reprocess.mode c.in-Reprocess.again)) c.turns.invariant.same (subst (λ r. Follows k node (rule w.mode (turn_text c.turns.rest) w) (turn_text c.turns.rest) w v a b r) c.in-Reprocess.is c.in_ok-step.ensures.follows) in
     let u = world g.S.TreeSink.sees node c.step.new.sink c.set_mode.new.state in
-    rank_falls k node t w v u a b c.in-Reprocess.mode c.in-Reprocess.again f c.set_mode.ensures.world
+    rank_falls k node t w v u a b c.in-Reprocess.mode c.in-Reprocess.again f c.set_mode.ensures.world c.turns.invariant.sound.sound c.requires.text c.turns.invariant.fits
 
 pub turns-preserved : goal.turns-preserved
 turns-preserved g c =
@@ -101,12 +119,12 @@ turns-preserved g c =
     let u = world g.S.TreeSink.sees node c.step.new.sink c.set_mode.new.state in
     let m = c.in-Reprocess.mode in
     let token = c.in-Reprocess.again in
-    let less = rank_falls k node t w v u a b m token f c.set_mode.ensures.world in
+    let less = rank_falls k node t w v u a b m token f c.set_mode.ensures.world c.turns.invariant.sound.sound c.requires.text c.turns.invariant.fits in
     record {
       sound = c.set_mode.ensures.sound;
       fits = fits_again k node t w v u a b m token f c.set_mode.ensures.world c.turns.invariant.sound.sound c.requires.text c.turns.invariant.fits;
       same = f.ending.1;
       some = omega arith;
       few = omega (arith, less, c.turns.invariant.few);
-      left = subst (λ n. Left k t first u e b n) (omega (arith, c.turns.invariant.some)) (left_next k node t first w v u e a b (c.turns.turns - 1) m token f c.set_mode.ensures.world c.turns.invariant.left);
+      left = subst (λ n. Left k t first u e b n) (omega (arith, c.turns.invariant.some)) (left_next k node t first w v u e a b (c.turns.turns - 1) m token f c.set_mode.ensures.world c.turns.invariant.sound.sound c.requires.text c.turns.invariant.fits c.turns.invariant.left);
     }

@@ -1,7 +1,7 @@
-use Rattle.std.proofs.Common.{◌≡◌, ◌<◌, ◌≤◌, ◌+◌, ◌-◌}
+use Rattle.std.proofs.Common.{◌≡◌, ◌<◌, ◌≤◌, ◌+◌, ◌-◌, length}
 use Rattle.h5_types.specs.TurnText.{turn_text}
 use Rattle.h5_meaning.specs.Sound.{Fits}
-use Rattle.h5_meaning.proofs.SettleLaws.{rank_of}
+use Rattle.h5_meaning.proofs.FallsLaws.{rank_of}
 use Rattle.h5_state.specs.Steps.{IsSound}
 use Rattle.h5_state.specs.View.{world}
 use Rattle.h5_tree_builder.proofs.ChainLaws.{Left}
@@ -18,7 +18,7 @@ invariant-turns g l =
       fits : Fits w;
       same : turn_text l.rest ≡ t;
       some : 0 < l.turns;
-      few : l.turns + rank_of t w ≤ 9;
+      few : l.turns + rank_of t w ≤ 17 + length first.stack;
       left : Left g.S.TreeSink.choices t first w (g.S.TreeSink.sees l.fn.sink).errors (g.S.TreeSink.sees l.sink).errors (l.turns - 1);
     }
 

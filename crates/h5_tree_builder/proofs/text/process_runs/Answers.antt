@@ -19,7 +19,7 @@ runs-preserved g c =
       utf8 = search rules;
       sound = c.settle_run.ensures.sound;
       fits = c.in_ok-settle_run.ensures.fits;
-      rest = ap (λ x. text_any k x v) tail ∙ run_then_rest k text n w v c.first_run-status.ensures.some some done ∙ c.runs.invariant.rest;
+      rest = ap (λ x. text_any k x v) tail ∙ run_then_rest k text n w v c.runs.invariant.sound.sound.formatting c.first_run-status.ensures.some some done ∙ c.runs.invariant.rest;
       mode = λ e. mode_stays k (take n text) w v (c.runs.invariant.mode e) done;
       quiet = λ e. c.in_ok-settle_run.ensures.quiet (c.runs.invariant.mode e) ∙ c.runs.invariant.quiet e;
     }

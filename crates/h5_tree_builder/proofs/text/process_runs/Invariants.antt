@@ -1,7 +1,6 @@
-use Rattle.std.proofs.Common.{◌≡◌, length}
-use Rattle.h5_types.specs.declared.modes.InsertionMode.TheVariants.{InBody}
+use Rattle.std.proofs.Common.{◌≡◌, length, true}
 use Rattle.h5_meaning.specs.Sound.{Fits}
-use Rattle.h5_meaning.specs.Text.{text_any}
+use Rattle.h5_meaning.specs.Text.{is_quiet_text, text_any}
 use Rattle.h5_state.specs.Steps.{IsSound}
 use Rattle.h5_state.specs.View.{world}
 use denote.Shadow.{shadow}
@@ -17,8 +16,8 @@ invariant-runs g l =
       sound : IsSound g.S.TreeSink l.sink l.state;
       fits : Fits w;
       rest : text_any g.S.TreeSink.choices l.rest w ≡ text_any g.S.TreeSink.choices l.fn.text first;
-      mode : first.mode ≡ InBody → w.mode ≡ InBody;
-      quiet : first.mode ≡ InBody → (g.S.TreeSink.sees l.sink).errors ≡ (g.S.TreeSink.sees l.fn.sink).errors;
+      mode : is_quiet_text first.mode ≡ true → is_quiet_text w.mode ≡ true;
+      quiet : is_quiet_text first.mode ≡ true → (g.S.TreeSink.sees l.sink).errors ≡ (g.S.TreeSink.sees l.fn.sink).errors;
     }
 
 abbrev pub decreases-runs : goal.decreases-runs

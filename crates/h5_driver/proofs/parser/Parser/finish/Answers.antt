@@ -1,8 +1,8 @@
-use Rattle.std.proofs.Common.{◌≡◌, ◌++◌, ap, subst, ◌∙◌}
+use Rattle.std.proofs.Common.{◌≡◌, ◌++◌, ap, subst, ◌∙◌, rules}
 use Rattle.h5_interface.specs.Seen.{Seen}
 use Rattle.h5_state.specs.View.{world}
 use Rattle.h5_tree_builder.specs.Held.{building}
-use Rattle.h5_driver.specs.Parsing.{Parses, view_of}
+use Rattle.h5_driver.specs.Parsing.{IsWorking, Parses, view_of}
 use Rattle.h5_driver.proofs.ReadingLaws.{parsed}
 use Rattle.h5_driver.proofs.parser.Parser.finish.Goals as goal
 
@@ -16,8 +16,9 @@ returns-clause-parses g c =
     let fed = c.feed_all.new.tokenizer in
     let closed = c.close.new.tokenizer in
     let told = g.Sink.TreeSink.told c.finish.result in
+    let works : IsWorking (building sees node first.sink).view = search rules in
     let same : told ≡ sees closed.sink.sink = c.finish.ensures ∙ ap sees c.into_sink.ensures in
     subst (λ v. Parses k v.reader.place (view_of sees node v) (v.reader.held ++ v.waiting) told) c.self.view_is
     (parsed k first.reader.place fed.reader.place (building sees node first.sink).view (building sees node fed.sink).view (building sees node closed.sink).view
-    (first.reader.held ++ c.self.inside.input_buffer) fed.reader.held told c.in_ok-feed_all.ensures.takes c.in_ok-close.ensures.closed
+    (first.reader.held ++ c.self.inside.input_buffer) fed.reader.held told works c.in_ok-feed_all.ensures.takes c.in_ok-close.ensures.closed
     (ap (λ (s : Seen). s.forest) same) (ap (λ (s : Seen). s.quirks) same))

@@ -12,7 +12,7 @@ returns-clause-parses g c =
     let now = c.process.new.self in
     let base = first.reader.held ++ first.waiting in
     let took = c.in_ok-process.ensures.takes in
-    told_behind k g.Sink.TreeSink.told first.reader.place now.reader.place (view_of sees node first) (view_of sees node now) (base ++ c.args.text.now) (now.reader.held ++ now.waiting)
+    told_behind k g.Sink.TreeSink.told first.reader.place now.reader.place (view_of sees node first) (view_of sees node now) (base ++ c.args.text.now) (now.reader.held ++ now.waiting) took.worked
     (piece_taken k first.reader.place first.reader.place now.reader.place (view_of sees node first) (view_of sees node first) (view_of sees node now) base first.reader.held first.waiting c.args.text.now now.reader.held now.waiting
     (nothing_read_yet k first.reader.place (view_of sees node first) base) took.takes took.none_waits)
     c.finish.result c.finish.ensures.parses

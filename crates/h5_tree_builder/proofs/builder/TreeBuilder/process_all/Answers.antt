@@ -26,6 +26,7 @@ tokens-preserved g c =
     record {
       sound = c.reply.ensures.sound;
       lists = c.reply.ensures.lists;
+      fits = c.reply.ensures.fits;
       ended = c.reply.ensures.ended ∙ c.tokens.invariant.ended;
       onward = subst (λ x. Onward k all (token_texts rest) old new x) (sym (ap (reply_texts node) pushed ∙ map-append (reply_text node) c.tokens.replies.items (c.in_ok-reply.reply ∷ [])))
           (onward_next k all (token_texts rest) (token_text c.in-Some.token) old now new told answer c.in_ok-reply.ensures.done here);
@@ -41,7 +42,7 @@ returns-clause-run g c =
     let left = into_iter_items c.tokens.token-iterator in
     let told = reply_texts node c.tokens.replies.items in
     let none : left ≡ [] = none_left left (omega (arith, c.tokens.token-iterator.rest.ok.0, c.in-None.ensures.steps.0)) in
-    onward_last k all old now told (subst (λ z. Onward k all (token_texts z) old now told) none c.tokens.invariant.onward)
+    onward_last k all old now told c.has_failed.ensures.sound.formatting (subst (λ z. Onward k all (token_texts z) old now told) none c.tokens.invariant.onward)
 
 pub returns-clause-rebuilds : goal.returns-clause-rebuilds
 returns-clause-rebuilds g c = rebuilds_plain g.Sink.TreeSink.choices (token_texts c.args.tokens.items) _ _ _ (returns-clause-run g c)

@@ -1,0 +1,365 @@
+-- The rules of the body, in each mode that goes by them: after each row the open elements fit the mode that it leaves.
+use Rattle.std.proofs.Common.{◌≡◌, ◌≢◌, ◌⊎◌, inl, inr, ℕ, Bool, true, false, not, ◌&&◌, List, [], ◌∷◌, codes, refl, ap, sym, subst, ◌∙◌}
+use Rattle.h5_names.specs.declared.qualified.QualName.{QualName}
+use Rattle.h5_names.specs.declared.known_name.KnownName.TheVariants.{A, Body, Html, Nobr, Table, Template}
+use Rattle.h5_token.specs.TokenText.{TagText}
+use Rattle.h5_token.specs.declared.tag.TagKind.{TagKind}
+use Rattle.h5_token.specs.declared.tag.TagKind.TheVariants.{StartTag, EndTag}
+use Rattle.h5_interface.specs.SinkChoices.{SinkChoices}
+use Rattle.h5_tag_sets.specs.TagSets.{block_end_names, block_start_names, formatting_names, heading_names, is_default_scope, is_heading, is_html_named, is_one_of}
+use Rattle.h5_types.specs.TurnText.{CommentTurn, EofTurn, HasText, NullTurn, TagTurn, TextTurn, TurnText}
+use Rattle.h5_types.specs.declared.modes.InsertionMode.{InsertionMode}
+use Rattle.h5_types.specs.declared.modes.InsertionMode.TheVariants.{AfterBody, InBody, InTable}
+use Rattle.h5_stack.specs.FormattingNames.{html_name}
+use Rattle.h5_stack.specs.Scope.{comes_before_special, cut_names, drop_while, first_passes, has_p_in_button_scope, has_template, in_scope, is_implied_but, second_is}
+use Rattle.h5_fits.specs.Fits.{goes_by_body}
+use Rattle.h5_fits.specs.NamesFit.{NamesFit}
+use Rattle.h5_fits.specs.Roles.{BodyRole, CaptionRole, CellRole, ColgroupRole, FramesetRole, HeadRole, HtmlRole, PlainRole, Role, RowRole, SectionRole, TableRole, TemplateRole, is_table, is_table_part, role_of, role_of_local}
+use Rattle.h5_fits.specs.Root.{IsRootOpen}
+use Rattle.h5_fits.proofs.NamesBodyLaws.{MayEnd, names_after_body, names_in_body, names_other_end}
+use Rattle.h5_fits.proofs.NamesTableLaws.{names_table_put}
+use Rattle.h5_fits.proofs.PlainLaws.{block_end_plain, block_start_plain, heading_local_plain}
+use Rattle.h5_fits.proofs.RoleLaws.{Origin, local_p, origin, role_made}
+use Rattle.h5_meaning.specs.ByName.{NonePasses, by_kind, by_name, ignored_tag, named}
+use Rattle.h5_meaning.specs.Changes.{generate_implied_end_except, insert_element, pop_until_named, set_frameset_not_ok, set_frameset_ok_by_text}
+use Rattle.h5_meaning.specs.Closing.{close_p_element_in_button_scope, pop_heading}
+use Rattle.h5_meaning.specs.AdoptionAgency.{handle_misnested_a_tags, handle_misnested_nobr_tags}
+use Rattle.h5_meaning.specs.Formatting.{reconstruct_active_formatting_elements}
+use Rattle.h5_meaning.specs.InBody.{body_ends, body_in_scope, current_is, if_body_in_scope, in_body, in_body_end, in_body_end_block, in_body_end_br, in_body_end_formatting, in_body_end_heading, in_body_end_other, in_body_end_p, in_body_ignored_starts, in_body_start, in_body_start_a, in_body_start_block, in_body_start_body, in_body_start_br, in_body_start_formatting, in_body_start_heading, in_body_start_nobr, in_body_start_other, in_body_start_table, in_body_tag, inserts, is_quirks, outside_names}
+use Rattle.h5_meaning.specs.Rows.{AddAttrsToHtml, AddAttrsToSecond, Again, Change, ClosePElement, ClosePElementInButtonScope, GenerateImpliedEnd, GenerateImpliedEndExcept, InsertElement, IsDone, PopUntilHeading, PopUntilNamed, Row, SetFramesetNotOk, SetMode, choose, errs, ignored, row, row_if}
+use Rattle.h5_meaning.specs.Shared.{in_body_start_html, in_body_text, table_structure_names}
+use Rattle.h5_meaning.specs.Sound.{situation_of}
+use Rattle.h5_meaning.specs.World.{World, names_of}
+use Rattle.h5_meaning.proofs.AdoptionAgencyLaws.{implied_keeps, misnested_nobr_open, until_named_keeps}
+use Rattle.h5_meaning.proofs.AdoptionForest.{kinds_trans}
+use Rattle.h5_meaning.proofs.ByNameLaws.{holds_by_name, holds_chosen}
+use Rattle.h5_meaning.proofs.ClosingLaws.{block_not_implied, heading_not_implied, new_p_in_scope}
+use Rattle.h5_meaning.proofs.FormattingLaws.{reconstruct_opens}
+use Rattle.h5_meaning.proofs.HeadFitsLaws.{role_known}
+use Rattle.h5_meaning.proofs.KeptLaws.{FitsAs, IsBlind, Kept, fits_at, fits_frameset_off, kept_comment, kept_start_html}
+use Rattle.h5_meaning.proofs.ListsLaws.{IsSteady}
+use Rattle.h5_meaning.proofs.NameLaws.{names-cut, names-implied, names-insert}
+use Rattle.h5_meaning.proofs.ReadyInLaws.{ReadyIn, in_agency, in_close_heading, in_close_named, in_close_p, in_close_p_in_scope, in_format, in_frameset_off, in_frameset_text, in_insert, in_leaf, in_misnested_a, in_misnested_nobr, in_pop_heading, in_reconstruct, in_second_attrs, in_text, ready_in}
+use Rattle.h5_meaning.proofs.ReadyLaws.{a_formatting, nobr_formatting}
+use Rattle.h5_meaning.proofs.SituationLaws.{KeepsSituation, situation_insert, situation_same, situation_then, situation_tree}
+use Rattle.h5_meaning.proofs.TreeLaws.{tree_implied_except, tree_until, tree_then}
+
+-- NAMES
+
+-- a name that a test passes isn't one that fails it
+pub apart : (p : List ℕ → Bool) (t l : List ℕ) → p t ≡ true → l ≡ t → p l ≡ false → ⊥
+apart p t l h e n = let clash : true ≡ false = sym h ∙ ap p (sym e) ∙ n in cc
+
+-- any other start tag is of a plain name
+other_start_plain : (l : List ℕ) → NonePasses in_body_start l → role_of_local l ≡ PlainRole
+unfolding in_body_start in_body_ignored_starts table_structure_names outside_names
+other_start_plain l n = at (role_of_local l) (origin l)
+  where
+    listed : is_one_of in_body_ignored_starts l ≡ false
+    listed = n.1.1.1.1.1.1.1.1.1.0
+
+    starts : List ℕ → Bool
+    starts = is_one_of in_body_ignored_starts
+
+    at : (x : Role) → Origin x l → x ≡ PlainRole
+    at PlainRole o = refl
+    at HtmlRole o = absurd (apart (named Html) (codes "html") l refl o n.0)
+    at BodyRole o = absurd (apart (named Body) (codes "body") l refl o n.1.0)
+    at TableRole o = absurd (apart (named Table) (codes "table") l refl o n.1.1.1.1.1.1.1.1.0)
+    at HeadRole o = absurd (apart starts (codes "head") l refl o listed)
+    at FramesetRole o = absurd (apart starts (codes "frameset") l refl o listed)
+    at TemplateRole o = absurd (apart starts (codes "template") l refl o listed)
+    at CaptionRole o = absurd (apart starts (codes "caption") l refl o listed)
+    at ColgroupRole o = absurd (apart starts (codes "colgroup") l refl o listed)
+    at SectionRole (inl o) = absurd (apart starts (codes "tbody") l refl o listed)
+    at SectionRole (inr (inl o)) = absurd (apart starts (codes "tfoot") l refl o listed)
+    at SectionRole (inr (inr o)) = absurd (apart starts (codes "thead") l refl o listed)
+    at RowRole o = absurd (apart starts (codes "tr") l refl o listed)
+    at CellRole (inl o) = absurd (apart starts (codes "td") l refl o listed)
+    at CellRole (inr o) = absurd (apart starts (codes "th") l refl o listed)
+
+-- tables and their parts, which the modes of tables name in end tags themselves
+abbrev pub is_of_table : Role → Bool
+is_of_table TableRole = true
+is_of_table n = is_table_part n
+
+-- an end tag may name them in the body alone
+abbrev pub NoPartOf : TagKind → List ℕ → Type 0
+NoPartOf StartTag name = Unit {0}
+NoPartOf EndTag name = is_of_table (role_of_local name) ≡ false
+
+abbrev pub NoPart : InsertionMode → TurnText → Type 0
+NoPart m (TagTurn tag) = (m ≡ InBody) ⊎ NoPartOf tag.kind tag.name
+NoPart m t = Unit {0}
+
+other_end : (m : InsertionMode) (l : List ℕ) → NonePasses in_body_end l → (m ≡ InBody) ⊎ (is_of_table (role_of_local l) ≡ false) → MayEnd m (role_of_local l)
+unfolding in_body_end
+other_end m l n part = at (role_of_local l) (origin l) part
+  where
+    at : (x : Role) → Origin x l → (m ≡ InBody) ⊎ (is_of_table x ≡ false) → MayEnd m x
+    at PlainRole o p = tt
+    at HeadRole o p = tt
+    at FramesetRole o p = tt
+    at HtmlRole o p = apart (named Html) (codes "html") l refl o n.0
+    at BodyRole o p = apart (named Body) (codes "body") l refl o n.1.0
+    at TemplateRole o p = apart (named Template) (codes "template") l refl o n.1.1.1.1.1.1.1.0
+    at _ o (inl e) = e
+    at _ o (inr e) = absurd (cc)
+
+is_table_name : (name : List ℕ) → named Table name ≡ true → role_of_local name ≡ TableRole
+unfolding role_of_local
+is_table_name name h = role_known Table name h ∙ refl
+
+-- ROWS
+
+module _ (choices : SinkChoices) (w : World) (steady : IsSteady w) (m : InsertionMode) (goes : goes_by_body m ≡ true) where
+  abbrev KeptIn : Row → Type 0
+  KeptIn r = Kept choices w m r
+
+  ready : FitsAs m w → ReadyIn m w
+  ready h = ready_in m goes w steady h
+
+  abbrev renewed : World
+  renewed = reconstruct_active_formatting_elements choices w
+
+  renewed_ready : FitsAs m w → ReadyIn m renewed
+  renewed_ready h = in_reconstruct choices m goes w (ready h)
+
+  abbrev closed : World
+  closed = close_p_element_in_button_scope choices w
+
+  closed_ready : FitsAs m w → ReadyIn m closed
+  closed_ready h = in_close_p_in_scope choices m goes w (ready h)
+
+  kept_start_body : (tag : TagText) → KeptIn (in_body_start_body tag w)
+  unfolding in_body_start_body
+  kept_start_body tag = holds_chosen KeptIn (second_is (codes "body") (names_of w) && not (has_template (names_of w)))
+      (errs (SetFramesetNotOk ∷ AddAttrsToSecond tag.attrs ∷ []) IsDone) ignored
+      (λ e h. (in_second_attrs choices m goes (set_frameset_not_ok w) (in_frameset_off m goes w (ready h)) tag.attrs).fit) (λ e h. h)
+
+  kept_start_block : (tag : TagText) → is_one_of block_start_names tag.name ≡ true → KeptIn (in_body_start_block tag w)
+  kept_start_block tag p h = (in_insert choices m goes closed (closed_ready h) tag.name tag.attrs tag.had_duplicate_attributes (block_start_plain tag.name p)).fit
+
+  kept_start_heading : (tag : TagText) → is_one_of heading_names tag.name ≡ true → KeptIn (in_body_start_heading tag w)
+  kept_start_heading tag p h =
+      (in_insert choices m goes (pop_heading choices closed) (in_pop_heading choices m goes closed (closed_ready h)) tag.name tag.attrs tag.had_duplicate_attributes (heading_local_plain tag.name p)).fit
+
+  -- formatting elements
+  kept_start_a : (tag : TagText) → named A tag.name ≡ true → KeptIn (in_body_start_a tag w)
+  kept_start_a tag p h =
+      let v = handle_misnested_a_tags choices w in
+      let r = in_misnested_a choices m goes w (ready h) in
+      (in_format choices m goes (reconstruct_active_formatting_elements choices v) (in_reconstruct choices m goes v r) tag (a_formatting tag.name p) (reconstruct_opens choices v r.ready.lists)).fit
+
+  kept_start_formatting : (tag : TagText) → is_one_of formatting_names tag.name ≡ true → KeptIn (in_body_start_formatting tag w)
+  kept_start_formatting tag p h = (in_format choices m goes renewed (renewed_ready h) tag p (reconstruct_opens choices w steady.lists)).fit
+
+  kept_start_nobr : (tag : TagText) → named Nobr tag.name ≡ true → KeptIn (in_body_start_nobr tag w)
+  kept_start_nobr tag p h =
+      let r = renewed_ready h in
+      (in_format choices m goes (handle_misnested_nobr_tags choices renewed) (in_misnested_nobr choices m goes renewed r) tag (nobr_formatting tag.name p)
+      (misnested_nobr_open choices renewed r.ready (reconstruct_opens choices w steady.lists))).fit
+
+  kept_start_br : (tag : TagText) → KeptIn (in_body_start_br tag w)
+  kept_start_br tag h =
+      let r = in_leaf choices m goes renewed (renewed_ready h) tag.name tag.attrs tag.had_duplicate_attributes in (in_frameset_off m goes _ r).fit
+
+  kept_end_br : (tag : TagText) → KeptIn (in_body_end_br tag w)
+  kept_end_br tag h =
+      let r = in_leaf choices m goes renewed (renewed_ready h) tag.name [] tag.had_duplicate_attributes in (in_frameset_off m goes _ r).fit
+
+  kept_end_formatting : (tag : TagText) → is_one_of formatting_names tag.name ≡ true → KeptIn (in_body_end_formatting tag w)
+  kept_end_formatting tag p h = (in_agency choices m goes w (ready h) tag.name p).fit
+
+  kept_start_other : (tag : TagText) → NonePasses in_body_start tag.name → KeptIn (in_body_start_other tag w)
+  kept_start_other tag n h = (in_insert choices m goes renewed (renewed_ready h) tag.name tag.attrs tag.had_duplicate_attributes (other_start_plain tag.name n)).fit
+
+  -- a table, in any world of the mode
+  table_put : (v : World) (tag : TagText) → named Table tag.name ≡ true → ReadyIn m v → FitsAs InTable (set_frameset_not_ok (insert_element choices tag.name tag.attrs tag.had_duplicate_attributes v))
+  table_put v tag p r =
+      let u = insert_element choices tag.name tag.attrs tag.had_duplicate_attributes v in
+      fits_frameset_off InTable u
+      (fits_at InTable v u r.ready.sound (situation_insert choices v tag.name tag.attrs tag.had_duplicate_attributes r.ready.sound)
+      (subst (NamesFit (situation_of v) InTable) (sym (names-insert choices tag.name tag.attrs tag.had_duplicate_attributes v r.ready.sound)) (put (names_of v) r.ready.root r.fit)))
+    where
+      put : (ns : List QualName) → IsRootOpen ns → NamesFit (situation_of v) m ns → NamesFit (situation_of v) InTable (html_name tag.name ∷ ns)
+      put [] o f = absurd o
+      put (n ∷ ns) o f = names_table_put (situation_of v) ns m (html_name tag.name) n goes (role_made tag.name ∙ is_table_name tag.name p) f
+
+  kept_start_table : (tag : TagText) → named Table tag.name ≡ true → KeptIn (in_body_start_table tag w)
+  unfolding in_body_start_table names_of
+  kept_start_table tag p =
+      let opens : List Change = inserts tag ∷ SetFramesetNotOk ∷ SetMode InTable ∷ [] in
+      holds_chosen KeptIn (is_quirks w.quirks) (row opens IsDone) (row_if (not (has_p_in_button_scope (names_of w))) (ClosePElementInButtonScope ∷ opens) IsDone)
+      (λ e h. table_put w tag p (ready h)) (λ e h. table_put closed tag p (closed_ready h))
+
+  -- the body ends
+  after_body : FitsAs m w → FitsAs AfterBody w
+  after_body h = names_after_body (situation_of w) (names_of w) (names_in_body (situation_of w) (names_of w) m goes h)
+
+  kept_if_body : (r : Row) → KeptIn r → KeptIn (if_body_in_scope r w)
+  unfolding if_body_in_scope
+  kept_if_body r k = holds_chosen KeptIn (body_in_scope w) r ignored (λ e. k) (λ e h. h)
+
+  kept_end_html : KeptIn (body_ends [] (Again AfterBody) w)
+  kept_end_html h = after_body h
+
+  kept_end_body : KeptIn (body_ends (SetMode AfterBody ∷ []) IsDone w)
+  unfolding names_of
+  kept_end_body h = after_body h
+
+  -- elements are closed
+  kept_end_block : (tag : TagText) → is_one_of block_end_names tag.name ≡ true → KeptIn (in_body_end_block tag w)
+  unfolding in_body_end_block
+  kept_end_block tag p = holds_chosen KeptIn (in_scope (is_html_named tag.name) is_default_scope (names_of w)) (row_if (current_is tag.name w) (GenerateImpliedEnd ∷ PopUntilNamed tag.name ∷ []) IsDone) ignored
+      (λ e h. (in_close_named choices m goes w (ready h) tag.name (block_end_plain tag.name p) (block_not_implied tag.name p) e).fit) (λ e h. h)
+
+  kept_end_heading : (tag : TagText) → KeptIn (in_body_end_heading tag w)
+  unfolding in_body_end_heading
+  kept_end_heading tag = holds_chosen KeptIn (in_scope is_heading is_default_scope (names_of w)) (row_if (current_is tag.name w) (GenerateImpliedEnd ∷ PopUntilHeading ∷ []) IsDone) ignored
+      (λ e h. (in_close_heading choices m goes w (ready h) heading_not_implied e).fit) (λ e h. h)
+
+  -- the `p` that ends is open, or made
+  kept_end_p : (tag : TagText) → KeptIn (in_body_end_p tag w)
+  unfolding in_body_end_p
+  kept_end_p tag = holds_chosen KeptIn (has_p_in_button_scope (names_of w)) (row_if (current_is (codes "p") w) (ClosePElement ∷ []) IsDone) (errs (InsertElement (codes "p") [] false ∷ ClosePElement ∷ []) IsDone)
+      (λ e h. (in_close_p choices m goes w (ready h) e).fit)
+      (λ e h.
+      let v = insert_element choices (codes "p") [] false w in
+      (in_close_p choices m goes v (in_insert choices m goes w (ready h) (codes "p") [] false local_p) (ap has_p_in_button_scope (names-insert choices (codes "p") [] false w steady.sound) ∙ new_p_in_scope (names_of w))).fit)
+
+  end_situation : (local : List ℕ) → KeepsSituation w (pop_until_named local (generate_implied_end_except choices local w))
+  end_situation local =
+      let v = generate_implied_end_except choices local w in
+      let one = implied_keeps choices local w steady.sound steady.lists in
+      situation_tree w (pop_until_named local v) (tree_then w v (pop_until_named local v) (tree_implied_except choices local w) (tree_until local v))
+      (kinds_trans w.forest v.forest (pop_until_named local v).forest one.kinds (until_named_keeps local v one.sound one.lists).kinds)
+
+  kept_end_other : (tag : TagText) → MayEnd m (role_of_local tag.name) → KeptIn (in_body_end_other tag w)
+  unfolding in_body_end_other
+  kept_end_other tag may = holds_chosen KeptIn (comes_before_special tag.name (names_of w)) (errs (GenerateImpliedEndExcept tag.name ∷ PopUntilNamed tag.name ∷ []) IsDone) ignored
+      (λ e h.
+      let v = pop_until_named tag.name (generate_implied_end_except choices tag.name w) in
+      fits_at m w v steady.sound (end_situation tag.name)
+      (subst (NamesFit (situation_of w) m) (sym (names-cut tag.name (generate_implied_end_except choices tag.name w) ∙ ap (cut_names (is_html_named tag.name)) (names-implied choices tag.name w)))
+      (names_other_end (situation_of w) m tag.name (names_of w) goes may e h)))
+      (λ e h. h)
+
+  kept_tag : (kind : TagKind) (tag : TagText) → (m ≡ InBody) ⊎ NoPartOf kind tag.name → KeptIn (by_kind kind (by_name in_body_start in_body_start_other tag w) (by_name in_body_end in_body_end_other tag w))
+  unfolding in_body_start in_body_end
+  kept_tag StartTag tag part = holds_by_name KeptIn in_body_start in_body_start_other tag w (
+    (λ p. kept_start_html choices w steady.sound m tag),
+    (
+      (λ p. kept_start_body tag),
+      (
+        (λ p. kept_start_block tag p),
+        (
+          (λ p. kept_start_heading tag p),
+          (
+            (λ p. kept_start_a tag p),
+            (
+              (λ p. kept_start_nobr tag p),
+              ((λ p. kept_start_formatting tag p), ((λ p. kept_start_br tag), ((λ p. kept_start_table tag p), ((λ p h. h), tt)))),
+            ),
+          ),
+        ),
+      ),
+    ),
+  )
+      (λ n. kept_start_other tag n)
+  kept_tag EndTag tag part = holds_by_name KeptIn in_body_end in_body_end_other tag w (
+    (λ p. kept_if_body (body_ends [] (Again AfterBody) w) kept_end_html),
+    (
+      (λ p. kept_if_body (body_ends (SetMode AfterBody ∷ []) IsDone w) kept_end_body),
+      (
+        (λ p. kept_end_block tag p),
+        (
+          (λ p. kept_end_p tag),
+          (
+            (λ p. kept_end_heading tag),
+            ((λ p. kept_end_formatting tag p), ((λ p. kept_end_br tag), ((λ p h. h), tt))),
+          ),
+        ),
+      ),
+    ),
+  )
+      (λ n. kept_end_other tag (other_end m tag.name n part))
+
+  -- a text, in the body and after it
+  pub kept_text_in_body : (t : List ℕ) → t ≢ [] → KeptIn (in_body_text t w)
+  kept_text_in_body t some h = (in_text m goes t (set_frameset_ok_by_text t renewed) some (in_frameset_text m goes t renewed (renewed_ready h))).fit
+
+  -- any token by the rules of the body
+  pub kept_in_body : (t : TurnText) → HasText t → NoPart m t → Kept choices w m (in_body t w)
+  unfolding in_body_tag
+  kept_in_body (TagTurn tag) some part = kept_tag tag.kind tag part
+  kept_in_body (CommentTurn x) some part = kept_comment choices w steady.sound m x
+  kept_in_body (TextTurn status x) some part = kept_text_in_body x some
+  kept_in_body NullTurn some part = λ h. h
+  kept_in_body EofTurn some part = λ h. h
+
+-- no ending of the body looks at foster parenting
+
+blind_chosen : (b : Bool) (r s : Row) → IsBlind r → IsBlind s → IsBlind (choose b r s)
+blind_chosen b r s x y = holds_chosen IsBlind b r s (λ e. x) (λ e. y)
+
+module _ (w : World) where
+  blind_start : (tag : TagText) → IsBlind (by_name in_body_start in_body_start_other tag w)
+  unfolding in_body_start in_body_start_html in_body_start_body in_body_start_table
+  blind_start tag = holds_by_name IsBlind in_body_start in_body_start_other tag w (
+    (λ p. blind_chosen (has_template (names_of w)) ignored (errs (AddAttrsToHtml tag.attrs ∷ []) IsDone) (λ on v. refl) (λ on v. refl)),
+    (
+      (λ p. blind_chosen (second_is (codes "body") (names_of w) && not (has_template (names_of w))) (errs (SetFramesetNotOk ∷ AddAttrsToSecond tag.attrs ∷ []) IsDone) ignored (λ on v. refl) (λ on v. refl)),
+      (
+        (λ p on v. refl),
+        (
+          (λ p on v. refl),
+          (
+            (λ p on v. refl),
+            (
+              (λ p on v. refl),
+              ((λ p on v. refl), ((λ p on v. refl), ((λ p. blind_table tag), ((λ p on v. refl), tt)))),
+            ),
+          ),
+        ),
+      ),
+    ),
+  )
+      (λ n on v. refl)
+    where
+      blind_table : (tag : TagText) → IsBlind (in_body_start_table tag w)
+      blind_table tag =
+          let opens : List Change = inserts tag ∷ SetFramesetNotOk ∷ SetMode InTable ∷ [] in
+          blind_chosen (is_quirks w.quirks) (row opens IsDone) (row_if (not (has_p_in_button_scope (names_of w))) (ClosePElementInButtonScope ∷ opens) IsDone) (λ on v. refl) (λ on v. refl)
+
+  blind_end : (tag : TagText) → IsBlind (by_name in_body_end in_body_end_other tag w)
+  unfolding in_body_end if_body_in_scope in_body_end_block in_body_end_p in_body_end_heading in_body_end_other
+  blind_end tag = holds_by_name IsBlind in_body_end in_body_end_other tag w (
+    (λ p. blind_chosen (body_in_scope w) (body_ends [] (Again AfterBody) w) ignored (λ on v. refl) (λ on v. refl)),
+    (
+      (λ p. blind_chosen (body_in_scope w) (body_ends (SetMode AfterBody ∷ []) IsDone w) ignored (λ on v. refl) (λ on v. refl)),
+      (
+        (λ p. blind_chosen (in_scope (is_html_named tag.name) is_default_scope (names_of w)) (row_if (current_is tag.name w) (GenerateImpliedEnd ∷ PopUntilNamed tag.name ∷ []) IsDone) ignored (λ on v. refl) (λ on v. refl)),
+        (
+          (λ p. blind_chosen (has_p_in_button_scope (names_of w)) (row_if (current_is (codes "p") w) (ClosePElement ∷ []) IsDone) (errs (InsertElement (codes "p") [] false ∷ ClosePElement ∷ []) IsDone) (λ on v. refl) (λ on v. refl)),
+          (
+            (λ p. blind_chosen (in_scope is_heading is_default_scope (names_of w)) (row_if (current_is tag.name w) (GenerateImpliedEnd ∷ PopUntilHeading ∷ []) IsDone) ignored (λ on v. refl) (λ on v. refl)),
+            ((λ p on v. refl), ((λ p on v. refl), ((λ p on v. refl), tt))),
+          ),
+        ),
+      ),
+    ),
+  )
+      (λ n. blind_chosen (comes_before_special tag.name (names_of w)) (errs (GenerateImpliedEndExcept tag.name ∷ PopUntilNamed tag.name ∷ []) IsDone) ignored (λ on v. refl) (λ on v. refl))
+
+  blind_tag : (kind : TagKind) (tag : TagText) → IsBlind (by_kind kind (by_name in_body_start in_body_start_other tag w) (by_name in_body_end in_body_end_other tag w))
+  blind_tag StartTag tag = blind_start tag
+  blind_tag EndTag tag = blind_end tag
+
+  pub blind_in_body : (t : TurnText) → IsBlind (in_body t w)
+  unfolding in_body_tag
+  blind_in_body (TagTurn tag) = blind_tag tag.kind tag
+  blind_in_body (CommentTurn x) = λ on v. refl
+  blind_in_body (TextTurn status x) = λ on v. refl
+  blind_in_body NullTurn = λ on v. refl
+  blind_in_body EofTurn = λ on v. refl

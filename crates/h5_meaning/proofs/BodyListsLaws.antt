@@ -1,0 +1,125 @@
+-- After each row of the body, in each mode that goes by it, all stands, and the list of active formatting elements agrees
+-- with the stack of open elements.
+use Rattle.std.proofs.Common.{◌≡◌, ◌≢◌, ℕ, Bool, true, false, not, ◌&&◌, ◌||◌, List, [], ◌∷◌, codes, is_some, sym, subst}
+use Rattle.h5_token.specs.TokenText.{TagText}
+use Rattle.h5_token.specs.declared.tag.TagKind.{TagKind}
+use Rattle.h5_token.specs.declared.tag.TagKind.TheVariants.{StartTag, EndTag}
+use Rattle.h5_interface.specs.SinkChoices.{SinkChoices}
+use Rattle.h5_types.specs.TurnText.{TurnText, TagTurn, CommentTurn, TextTurn, NullTurn, EofTurn, HasText}
+use Rattle.h5_types.specs.declared.modes.InsertionMode.{InsertionMode}
+use Rattle.h5_tag_sets.specs.TagSets.{is_default_scope, is_heading, is_html_named}
+use Rattle.h5_types.specs.declared.modes.InsertionMode.TheVariants.{AfterBody, InTable}
+use Rattle.h5_fits.specs.Fits.{goes_by_body}
+use Rattle.h5_fits.proofs.OpenLaws.{goes_after_root, names_root_open}
+use Rattle.h5_stack.specs.Scope.{comes_before_special, has_p_in_button_scope, has_template, in_scope, second_is}
+use Rattle.h5_meaning.specs.ByName.{by_kind, by_name}
+use Rattle.h5_meaning.specs.InBody.{body_ends, body_in_scope, current_is, if_body_in_scope, in_body, in_body_end, in_body_end_block, in_body_end_br, in_body_end_heading, in_body_end_other, in_body_end_p, in_body_start, in_body_start_block, in_body_start_body, in_body_start_br, in_body_start_heading, in_body_start_other, in_body_start_table, in_body_tag, inserts, is_quirks}
+use Rattle.h5_meaning.specs.Rows.{AddAttrsToHtml, AddAttrsToSecond, Again, AppendComment, Change, ClosePElement, ClosePElementInButtonScope, GenerateImpliedEnd, GenerateImpliedEndExcept, InsertElement, IsDone, PopUntilHeading, PopUntilNamed, Row, SetFramesetNotOk, SetMode, apply_all, choose, errs, ignored, row, row_if}
+use Rattle.h5_meaning.specs.Shared.{in_body_start_html, in_body_text}
+use Rattle.h5_meaning.specs.Sound.{IsReady, situation_of}
+use Rattle.h5_meaning.specs.World.{World, names_of}
+use Rattle.h5_meaning.proofs.ByNameLaws.{holds_by_name, holds_chosen}
+use Rattle.h5_meaning.proofs.KeptLaws.{FitsAs}
+use Rattle.h5_meaning.proofs.ListsLaws.{IsSteady, NeedsOfAll, ready_steady, steady_changes, steady_ready}
+use Rattle.h5_meaning.proofs.ReadyLaws.{ready_end_formatting, ready_start_a, ready_start_formatting, ready_start_nobr}
+
+module _ (choices : SinkChoices) (w : World) (k : IsSteady w) where
+  -- after a row in a mode, where the open elements fit the mode
+  abbrev pub Stays : InsertionMode → Row → Type 0
+  Stays m r = FitsAs m w → IsSteady (apply_all choices r.changes w)
+
+  -- by its changes alone
+  pub stays : (m : InsertionMode) (r : Row) → NeedsOfAll r.changes → Stays m r
+  stays m r needs h = steady_changes choices r.changes w needs k
+
+  pub stays_chosen : (m : InsertionMode) (b : Bool) (r s : Row) → NeedsOfAll r.changes → NeedsOfAll s.changes → Stays m (choose b r s)
+  stays_chosen m b r s needs others = holds_chosen (Stays m) b r s (λ e. stays m r needs) (λ e. stays m s others)
+
+  pub stays_start_html : (m : InsertionMode) (tag : TagText) → Stays m (in_body_start_html tag w)
+  unfolding in_body_start_html
+  stays_start_html m tag = stays_chosen m (has_template (names_of w)) ignored (errs (AddAttrsToHtml tag.attrs ∷ []) IsDone) tt (tt, tt)
+
+  -- in the body, and where other modes go by it
+  is_ready : (m : InsertionMode) → goes_by_body m ≡ true → FitsAs m w → IsReady w
+  is_ready m goes h = steady_ready w k (names_root_open (situation_of w) m (names_of w) (goes_after_root m goes) h)
+
+  stays_start_body : (m : InsertionMode) (tag : TagText) → Stays m (in_body_start_body tag w)
+  unfolding in_body_start_body
+  stays_start_body m tag = stays_chosen m (second_is (codes "body") (names_of w) && not (has_template (names_of w))) (errs (SetFramesetNotOk ∷ AddAttrsToSecond tag.attrs ∷ []) IsDone) ignored (tt, (tt, tt)) tt
+
+  stays_if_body : (m : InsertionMode) (r : Row) → NeedsOfAll r.changes → Stays m (if_body_in_scope r w)
+  unfolding if_body_in_scope
+  stays_if_body m r needs = stays_chosen m (body_in_scope w) r ignored needs tt
+
+  stays_end_block : (m : InsertionMode) (tag : TagText) → Stays m (in_body_end_block tag w)
+  unfolding in_body_end_block
+  stays_end_block m tag = stays_chosen m (in_scope (is_html_named tag.name) is_default_scope (names_of w)) (row_if (current_is tag.name w) (GenerateImpliedEnd ∷ PopUntilNamed tag.name ∷ []) IsDone) ignored (tt, (tt, tt)) tt
+
+  stays_end_heading : (m : InsertionMode) (tag : TagText) → Stays m (in_body_end_heading tag w)
+  unfolding in_body_end_heading
+  stays_end_heading m tag = stays_chosen m (in_scope is_heading is_default_scope (names_of w)) (row_if (current_is tag.name w) (GenerateImpliedEnd ∷ PopUntilHeading ∷ []) IsDone) ignored (tt, (tt, tt)) tt
+
+  stays_end_p : (m : InsertionMode) (tag : TagText) → Stays m (in_body_end_p tag w)
+  unfolding in_body_end_p
+  stays_end_p m tag = stays_chosen m (has_p_in_button_scope (names_of w)) (row_if (current_is (codes "p") w) (ClosePElement ∷ []) IsDone) (errs (InsertElement (codes "p") [] false ∷ ClosePElement ∷ []) IsDone) (tt, tt) (tt, (tt, tt))
+
+  stays_end_other : (m : InsertionMode) (tag : TagText) → Stays m (in_body_end_other tag w)
+  unfolding in_body_end_other
+  stays_end_other m tag = stays_chosen m (comes_before_special tag.name (names_of w)) (errs (GenerateImpliedEndExcept tag.name ∷ PopUntilNamed tag.name ∷ []) IsDone) ignored (tt, (tt, tt)) tt
+
+  stays_start_table : (m : InsertionMode) (tag : TagText) → Stays m (in_body_start_table tag w)
+  unfolding in_body_start_table
+  stays_start_table m tag =
+      let opens : List Change = inserts tag ∷ SetFramesetNotOk ∷ SetMode InTable ∷ [] in
+      stays_chosen m (is_quirks w.quirks) (row opens IsDone) (row_if (not (has_p_in_button_scope (names_of w))) (ClosePElementInButtonScope ∷ opens) IsDone) (tt, (tt, (tt, tt))) (tt, (tt, (tt, (tt, tt))))
+
+  stays_body_tag : (m : InsertionMode) → goes_by_body m ≡ true → (kind : TagKind) (tag : TagText) → Stays m (by_kind kind (by_name in_body_start in_body_start_other tag w) (by_name in_body_end in_body_end_other tag w))
+  unfolding in_body_start in_body_end
+  stays_body_tag m goes StartTag tag = holds_by_name (Stays m) in_body_start in_body_start_other tag w (
+    (λ p. stays_start_html m tag),
+    (
+      (λ p. stays_start_body m tag),
+      (
+        (λ p. stays m (in_body_start_block tag w) (tt, (tt, tt))),
+        (
+          (λ p. stays m (in_body_start_heading tag w) (tt, (tt, (tt, tt)))),
+          (
+            (λ p h. ready_steady _ (ready_start_a choices w (is_ready m goes h) tag p)),
+            (
+              (λ p h. ready_steady _ (ready_start_nobr choices w (is_ready m goes h) tag p)),
+              ((λ p h. ready_steady _ (ready_start_formatting choices w (is_ready m goes h) tag p)), ((λ p. stays m (in_body_start_br tag w) (tt, (tt, (tt, tt)))), ((λ p. stays_start_table m tag), ((λ p h. k), tt)))),
+            ),
+          ),
+        ),
+      ),
+    ),
+  )
+      (λ n. stays m (in_body_start_other tag w) (tt, (tt, tt)))
+  stays_body_tag m goes EndTag tag = holds_by_name (Stays m) in_body_end in_body_end_other tag w (
+    (λ p. stays_if_body m (body_ends [] (Again AfterBody) w) tt),
+    (
+      (λ p. stays_if_body m (body_ends (SetMode AfterBody ∷ []) IsDone w) (tt, tt)),
+      (
+        (λ p. stays_end_block m tag),
+        (
+          (λ p. stays_end_p m tag),
+          (
+            (λ p. stays_end_heading m tag),
+            ((λ p h. ready_steady _ (ready_end_formatting choices w (is_ready m goes h) tag p)), ((λ p. stays m (in_body_end_br tag w) (tt, (tt, (tt, tt)))), ((λ p h. k), tt))),
+          ),
+        ),
+      ),
+    ),
+  )
+      (λ n. stays_end_other m tag)
+
+  pub stays_text : (m : InsertionMode) (x : List ℕ) → x ≢ [] → Stays m (in_body_text x w)
+  stays_text m x some = stays m (in_body_text x w) (tt, (tt, (some, tt)))
+
+  pub stays_in_body : (m : InsertionMode) → goes_by_body m ≡ true → (t : TurnText) → HasText t → Stays m (in_body t w)
+  unfolding in_body_tag
+  stays_in_body m goes (TagTurn tag) some = stays_body_tag m goes tag.kind tag
+  stays_in_body m goes (CommentTurn x) some = stays m (row (AppendComment x ∷ []) IsDone) (tt, tt)
+  stays_in_body m goes (TextTurn status x) some = stays_text m x some
+  stays_in_body m goes NullTurn some = λ h. k
+  stays_in_body m goes EofTurn some = λ h. k

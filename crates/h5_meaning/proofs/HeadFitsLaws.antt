@@ -1,0 +1,128 @@
+-- The modes before the body: after each row the open elements fit the mode that it leaves.
+use Rattle.std.proofs.Common.{◌≡◌, ◌≢◌, ℕ, Bool, true, false, List, [], ◌∷◌, codes, refl, ap, sym, subst, ◌∙◌}
+use Rattle.std.proofs.lemmas.Slice.Eq.{bytes_eq-Decides}
+use Rattle.h5_names.specs.AttributeText.{AttributeText}
+use Rattle.h5_names.specs.KnownNames.{name_text}
+use Rattle.h5_names.specs.declared.known_name.KnownName.{KnownName}
+use Rattle.h5_names.specs.declared.known_name.KnownName.TheVariants.{Body}
+use Rattle.h5_token.specs.TokenText.{TagText}
+use Rattle.h5_token.specs.declared.tag.TagKind.{TagKind}
+use Rattle.h5_token.specs.declared.tag.TagKind.TheVariants.{StartTag, EndTag}
+use Rattle.h5_interface.specs.SinkChoices.{SinkChoices}
+use Rattle.h5_interface.specs.declared.marks.QuirksMode.TheVariants.{Quirks}
+use Rattle.h5_types.specs.TurnText.{TurnText}
+use Rattle.h5_types.specs.declared.modes.InsertionMode.TheVariants.{AfterHead, BeforeHead, BeforeHtml, InBody, InHead, Initial}
+use Rattle.h5_stack.specs.FormattingNames.{html_name}
+use Rattle.h5_fits.specs.NamesFit.{NamesFit}
+use Rattle.h5_fits.specs.Roles.{BodyRole, HeadRole, role_of, role_of_local}
+use Rattle.h5_fits.proofs.NamesFitLaws.{names_body_pushed, names_head_popped, names_head_pushed, names_root_pushed}
+use Rattle.h5_fits.proofs.RoleLaws.{role_made}
+use Rattle.h5_fits.proofs.SituationLaws.{names_later}
+use Rattle.h5_fits.specs.Changes.{with_head}
+use Rattle.h5_meaning.specs.AfterHead.{after_head_else, after_head_end, after_head_start}
+use Rattle.h5_meaning.specs.BeforeHead.{before_head_else, before_head_end, before_head_start}
+use Rattle.h5_meaning.specs.BeforeHtml.{before_html_else, before_html_end, before_html_start}
+use Rattle.h5_meaning.specs.ByName.{by_kind, by_name, ignored_tag, named, of_tag}
+use Rattle.h5_meaning.specs.Changes.{create_root, insert_element, insert_head, pop, set_quirks_mode}
+use Rattle.h5_meaning.specs.InHead.{in_head_else, in_head_end, in_head_start}
+use Rattle.h5_meaning.specs.InitialMode.{initial_else}
+use Rattle.h5_meaning.specs.Rows.{Again, CreateRoot, InsertElement, InsertHead, Pop, Row, SetQuirksMode, errs, row}
+use Rattle.h5_meaning.specs.Sound.{Sound, situation_of}
+use Rattle.h5_meaning.specs.World.{World, names_of}
+use Rattle.h5_meaning.proofs.ByNameLaws.{holds_by_name, holds_chosen}
+use Rattle.h5_meaning.proofs.KeptLaws.{FitsAs, Kept, fits_at, fits_frameset_off, kept_start_html}
+use Rattle.h5_meaning.proofs.NameLaws.{names-insert, names-insert_head, names-insert_root}
+use Rattle.h5_meaning.proofs.PopLaws.{names-pop}
+use Rattle.h5_meaning.proofs.SituationLaws.{situation_head, situation_insert, situation_later, situation_pop, situation_root}
+
+-- a known name's role
+pub role_known : (known : KnownName) (name : List ℕ) → named known name ≡ true → role_of_local name ≡ role_of_local (name_text known)
+role_known known name h = ap role_of_local ((bytes_eq-Decides name (name_text known)).0 h)
+
+module _ (choices : SinkChoices) (w : World) (sound : Sound w) where
+  -- the root is made
+  root_made : (attrs : List AttributeText) → FitsAs BeforeHtml w → FitsAs BeforeHead (create_root choices attrs w)
+  root_made attrs h =
+      fits_at BeforeHead w (create_root choices attrs w) sound (situation_root choices w attrs sound)
+      (subst (NamesFit (situation_of w) BeforeHead) (sym (names-insert_root choices attrs w sound)) (names_root_pushed (situation_of w) (names_of w) h))
+
+  -- the head is pushed, and known
+  head_pushed : (attrs : List AttributeText) (duplicates : Bool) → FitsAs BeforeHead w → FitsAs InHead (insert_head choices attrs duplicates w)
+  unfolding insert_head insert_element role_of_local
+  head_pushed attrs duplicates h =
+      let v = insert_head choices attrs duplicates w in
+      let l = situation_later w v sound (situation_head choices w attrs duplicates sound) in
+      names_later (with_head (situation_of w)) (situation_of v) (record { modes = l.modes; saved = l.saved; context = l.context; head = λ e. refl; ok = l.ok }) InHead (names_of v)
+      (subst (NamesFit (with_head (situation_of w)) InHead) (sym (names-insert_head choices attrs duplicates w sound))
+      (names_head_pushed (situation_of w) (html_name (codes "head")) (names_of w) (role_made (codes "head") ∙ is_head) h))
+    where
+      is_head : role_of_local (codes "head") ≡ HeadRole
+      is_head = refl
+
+  -- the head is popped
+  head_popped : FitsAs InHead w → FitsAs AfterHead (pop choices w)
+  head_popped h =
+      fits_at AfterHead w (pop choices w) sound (situation_pop choices w)
+      (subst (NamesFit (situation_of w) AfterHead) (sym (names-pop choices w)) (names_head_popped (situation_of w) (names_of w) h))
+
+  -- the body is pushed
+  body_pushed : (local : List ℕ) (attrs : List AttributeText) (duplicates : Bool) → role_of_local local ≡ BodyRole → FitsAs AfterHead w → FitsAs InBody (insert_element choices local attrs duplicates w)
+  body_pushed local attrs duplicates e h =
+      fits_at InBody w (insert_element choices local attrs duplicates w) sound (situation_insert choices w local attrs duplicates sound)
+      (subst (NamesFit (situation_of w) InBody) (sym (names-insert choices local attrs duplicates w sound)) (names_body_pushed (situation_of w) (html_name local) (names_of w) (role_made local ∙ e) h))
+
+  is_body : role_of_local (codes "body") ≡ BodyRole
+  unfolding role_of_local
+  is_body = refl
+
+  named_body : (name : List ℕ) → named Body name ≡ true → role_of_local name ≡ BodyRole
+  named_body name h = role_known Body name h ∙ is_body
+
+  kept_quirks : Kept choices w Initial (errs (SetQuirksMode Quirks ∷ []) (Again BeforeHtml))
+  unfolding set_quirks_mode names_of
+  kept_quirks h = record { fits = record { known = h.fits.known; place = h.fits.place }; named = tt }
+
+  pub kept_initial : (t : TurnText) → Kept choices w Initial (initial_else t w)
+  unfolding initial_else
+  kept_initial t = holds_chosen (Kept choices w Initial) w.options.iframe_srcdoc (row [] (Again BeforeHtml)) (errs (SetQuirksMode Quirks ∷ []) (Again BeforeHtml))
+      (λ e h. record { fits = record { known = h.fits.known; place = h.fits.place }; named = tt }) (λ e. kept_quirks)
+
+  pub kept_root : Kept choices w BeforeHtml (row (CreateRoot [] ∷ []) (Again BeforeHead))
+  kept_root = root_made []
+
+  pub kept_before_html : (k : TagKind) (tag : TagText) → Kept choices w BeforeHtml (by_kind k (by_name before_html_start (of_tag before_html_else) tag w) (by_name before_html_end ignored_tag tag w))
+  unfolding before_html_start before_html_end names_of
+  kept_before_html StartTag tag = holds_by_name (Kept choices w BeforeHtml) before_html_start (of_tag before_html_else) tag w ((λ p. root_made tag.attrs), tt) (λ n. kept_root)
+  kept_before_html EndTag tag = holds_by_name (Kept choices w BeforeHtml) before_html_end ignored_tag tag w ((λ p. kept_root), tt) (λ n h. h)
+
+  pub kept_head : Kept choices w BeforeHead (row (InsertHead [] false ∷ []) (Again InHead))
+  kept_head = head_pushed [] false
+
+  pub kept_before_head : (k : TagKind) (tag : TagText) → Kept choices w BeforeHead (by_kind k (by_name before_head_start (of_tag before_head_else) tag w) (by_name before_head_end ignored_tag tag w))
+  unfolding before_head_start before_head_end names_of
+  kept_before_head StartTag tag = holds_by_name (Kept choices w BeforeHead) before_head_start (of_tag before_head_else) tag w
+      ((λ p. kept_start_html choices w sound BeforeHead tag), ((λ p h. head_pushed tag.attrs tag.had_duplicate_attributes h), tt)) (λ n. kept_head)
+  kept_before_head EndTag tag = holds_by_name (Kept choices w BeforeHead) before_head_end ignored_tag tag w ((λ p. kept_head), tt) (λ n h. h)
+
+  pub kept_pop : Kept choices w InHead (row (Pop ∷ []) (Again AfterHead))
+  kept_pop = head_popped
+
+  pub kept_in_head : (k : TagKind) (tag : TagText) → Kept choices w InHead (by_kind k (by_name in_head_start (of_tag in_head_else) tag w) (by_name in_head_end ignored_tag tag w))
+  unfolding in_head_start in_head_end names_of
+  kept_in_head StartTag tag = holds_by_name (Kept choices w InHead) in_head_start (of_tag in_head_else) tag w ((λ p. kept_start_html choices w sound InHead tag), ((λ p h. h), tt)) (λ n. kept_pop)
+  kept_in_head EndTag tag = holds_by_name (Kept choices w InHead) in_head_end ignored_tag tag w ((λ p. head_popped), ((λ p. kept_pop), tt)) (λ n h. h)
+
+  pub kept_body : Kept choices w AfterHead (row (InsertElement (codes "body") [] false ∷ []) (Again InBody))
+  kept_body = body_pushed (codes "body") [] false is_body
+
+  pub kept_after_head : (k : TagKind) (tag : TagText) → Kept choices w AfterHead (by_kind k (by_name after_head_start (of_tag after_head_else) tag w) (by_name after_head_end ignored_tag tag w))
+  unfolding after_head_start after_head_end names_of
+  kept_after_head StartTag tag = holds_by_name (Kept choices w AfterHead) after_head_start (of_tag after_head_else) tag w (
+    (λ p. kept_start_html choices w sound AfterHead tag),
+    (
+      (λ p h. fits_frameset_off InBody (insert_element choices tag.name tag.attrs tag.had_duplicate_attributes w) (body_pushed tag.name tag.attrs tag.had_duplicate_attributes (named_body tag.name p) h)),
+      ((λ p h. h), tt),
+    ),
+  )
+      (λ n. kept_body)
+  kept_after_head EndTag tag = holds_by_name (Kept choices w AfterHead) after_head_end ignored_tag tag w ((λ p h. h), ((λ p. kept_body), tt)) (λ n h. h)

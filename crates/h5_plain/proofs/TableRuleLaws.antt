@@ -1,0 +1,87 @@
+-- The rules that the tags of tables follow, each in its mode, and what their names are.
+use Rattle.std.proofs.Common.{◌≡◌, ℕ, true, false, List, [], ◌∷◌, codes, refl}
+use Rattle.h5_names.specs.AttributeText.{AttributeText}
+use Rattle.h5_fits.specs.Roles.{CellRole, role_of, role_of_local}
+use Rattle.h5_tag_sets.specs.TagSets.{button_scope_names, cell_names, formatting_names, block_start_names, heading_names, html_namespace, implied_names, is_button_scope, is_default_scope, is_heading, is_html_named, is_implied, is_one_of, is_table_body_context, is_table_row_context, is_table_scope, mathml_namespace, scope_names, svg_namespace, void_names}
+use Rattle.h5_types.specs.TurnText.{TagTurn}
+use Rattle.h5_types.specs.declared.modes.InsertionMode.TheVariants.{InBody, InCell, InRow, InTable, InTableBody}
+use Rattle.h5_stack.specs.FormattingNames.{html_name}
+use Rattle.h5_meaning.specs.InBody.{in_body_start, in_body_start_table, in_body_tag}
+use Rattle.h5_meaning.specs.InCell.{in_cell_end, in_cell_end_cell, in_cell_tag}
+use Rattle.h5_meaning.specs.InRow.{close_the_row, in_row_end, in_row_start, in_row_tag}
+use Rattle.h5_meaning.specs.InTable.{in_table_end, in_table_end_table, in_table_start, in_table_tag}
+use Rattle.h5_meaning.specs.InTableBody.{in_table_body_end, in_table_body_end_section, in_table_body_start, in_table_body_tag}
+use Rattle.h5_meaning.specs.Modes.{rule}
+use Rattle.h5_meaning.specs.Rows.{InsertElement, InsertMarker, IsDone, PopUntilCurrent, SetMode, row}
+use Rattle.h5_meaning.specs.Shared.{table_structure_names}
+use Rattle.h5_meaning.specs.Tables.{table_section_names}
+use Rattle.h5_meaning.specs.World.{World}
+use Rattle.h5_plain.proofs.BodyRuleLaws.{EachOf, IsHolder, of_each}
+use Rattle.h5_plain.proofs.RuleLaws.{end, start}
+
+-- a `table` and its end
+pub table_rule : (a : List AttributeText) (w : World) → rule InBody (TagTurn (start (codes "table") a)) w ≡ in_body_start_table (start (codes "table") a) w
+unfolding in_body_tag in_body_start block_start_names heading_names formatting_names
+table_rule a w = refl
+
+pub table_end_rule : (w : World) → rule InTable (TagTurn (end (codes "table"))) w ≡ in_table_end_table (end (codes "table")) w
+unfolding in_table_tag in_table_end
+table_end_rule w = refl
+
+pub table_holds : IsHolder (codes "table")
+unfolding void_names
+table_holds = record { has_end = refl; no_template = refl }
+
+-- in a cell, too, it follows the body's rule
+pub table_is_no_part : is_one_of table_structure_names (codes "table") ≡ false
+unfolding table_structure_names
+table_is_no_part = refl
+
+-- a `tbody` and its end
+pub section_rule : (a : List AttributeText) (w : World) → rule InTable (TagTurn (start (codes "tbody") a)) w ≡ row (PopUntilCurrent is_table_scope ∷ InsertElement (codes "tbody") a false ∷ SetMode InTableBody ∷ []) IsDone
+unfolding in_table_tag in_table_start table_section_names
+section_rule a w = refl
+
+pub section_end_rule : (w : World) → rule InTableBody (TagTurn (end (codes "tbody"))) w ≡ in_table_body_end_section (end (codes "tbody")) w
+unfolding in_table_body_tag in_table_body_end table_section_names
+section_end_rule w = refl
+
+pub section_holds : IsHolder (codes "tbody")
+unfolding void_names
+section_holds = record { has_end = refl; no_template = refl }
+
+-- a `tr` and its end
+pub row_rule : (a : List AttributeText) (w : World) → rule InTableBody (TagTurn (start (codes "tr") a)) w ≡ row (PopUntilCurrent is_table_body_context ∷ InsertElement (codes "tr") a false ∷ SetMode InRow ∷ []) IsDone
+unfolding in_table_body_tag in_table_body_start
+row_rule a w = refl
+
+pub row_end_rule : (w : World) → rule InRow (TagTurn (end (codes "tr"))) w ≡ close_the_row (SetMode InTableBody ∷ []) IsDone w
+unfolding in_row_tag in_row_end
+row_end_rule w = refl
+
+pub row_holds : IsHolder (codes "tr")
+unfolding void_names
+row_holds = record { has_end = refl; no_template = refl }
+
+-- a cell
+pub record IsCellName (name : List ℕ) : Type 0 where
+  pub holds : IsHolder name
+  pub starts : (a : List AttributeText) (w : World) → rule InRow (TagTurn (start name a)) w ≡ row (PopUntilCurrent is_table_row_context ∷ InsertElement name a false ∷ SetMode InCell ∷ InsertMarker ∷ []) IsDone
+  pub ends : (w : World) → rule InCell (TagTurn (end name)) w ≡ in_cell_end_cell (end name) w
+  pub itself : is_html_named name (html_name name) ≡ true
+  pub not_implied : is_implied (html_name name) ≡ false
+  pub no_p : is_html_named (codes "p") (html_name name) ≡ false
+  pub ends_scope : is_button_scope (html_name name) ≡ true
+  pub no_heading : is_heading (html_name name) ≡ false
+  pub role : role_of (html_name name) ≡ CellRole
+
+cells : EachOf IsCellName cell_names
+unfolding cell_names void_names html_namespace mathml_namespace svg_namespace in_row_tag in_row_start in_cell_tag in_cell_end is_html_named is_implied implied_names is_button_scope is_default_scope scope_names button_scope_names is_heading heading_names role_of role_of_local
+cells = (
+  record { holds = record { has_end = refl; no_template = refl }; starts = λ a w. refl; ends = λ w. refl; itself = refl; not_implied = refl; no_p = refl; ends_scope = refl; no_heading = refl; role = refl },
+  (record { holds = record { has_end = refl; no_template = refl }; starts = λ a w. refl; ends = λ w. refl; itself = refl; not_implied = refl; no_p = refl; ends_scope = refl; no_heading = refl; role = refl }, tt),
+)
+
+-- `td` and `th` are cells
+pub is_cell_name : (name : List ℕ) → is_one_of cell_names name ≡ true → IsCellName name
+is_cell_name name h = of_each IsCellName cell_names cells name h

@@ -1,0 +1,5 @@
+pub mod ClosingLaws
+pub mod ContextLaws
+pub mod FosterLaws
+pub mod HiddenLaws
+pub mod PendingLaws

@@ -1,0 +1,17 @@
+-- A text that was kept back, and is taken.
+use Rattle.std.proofs.Common.{◌≡◌, ℕ, List, [], ◌∷◌, refl}
+use Rattle.h5_meaning.specs.Changes.{take_pending_text}
+use Rattle.h5_meaning.specs.InTableText.{pending_text}
+use Rattle.h5_meaning.specs.Sound.{IsReady}
+use Rattle.h5_meaning.specs.World.{World, names_of}
+
+-- it is no part of what the body needs
+pub ready_taken : (w : World) → IsReady w → IsReady (take_pending_text w)
+unfolding names_of
+ready_taken w k = record { sound = k.sound; lists = k.lists; root = k.root }
+
+-- nor of what decides where it goes
+pub same_pending : (text : List ℕ) (w : World) → pending_text text (take_pending_text w) ≡ pending_text text w
+unfolding pending_text
+same_pending [] w = refl
+same_pending (b ∷ t) w = refl

@@ -1,0 +1,27 @@
+use Rattle.std.proofs.Common.{ap, codes, length, sym, ◌∙◌}
+use Rattle.h5_tag_sets.specs.TagSets.{is_html_named}
+use Rattle.h5_stack.specs.Scope.{cut_through, first_passes}
+use Rattle.h5_meaning.specs.World.{World, names_of}
+use Rattle.h5_state.specs.Steps.{world_of}
+use Rattle.h5_rules_tables.proofs.ClosingLaws.{caption_not_implied, stays_current}
+use Rattle.h5_rules_tables.proofs.in_caption.close_the_caption.Goals as goal
+
+pub pop_until_named-requires-clause-place : goal.pop_until_named-requires-clause-place
+pop_until_named-requires-clause-place g c =
+    let v = world_of g.S.TreeSink c.expect_to_close.new.sink c.generate_implied_end.new.state in
+    c.requires.place
+    ∙ ap length (sym (c.generate_implied_end.ensures.older (is_html_named (codes "caption")) caption_not_implied))
+    ∙ ap (λ (w : World). length (cut_through (is_html_named (codes "caption")) (names_of w) w.stack)) (sym c.expect_to_close.ensures.told.world)
+    ∙ ap (λ local. length (cut_through (is_html_named local) (names_of v) v.stack)) (sym c.from_known-caption.ensures)
+
+pub returns-clause-quiet : goal.returns-clause-quiet
+returns-clause-quiet g c = λ h.
+    let law = g.S.TreeSink in
+    let w = world_of law c.args.sink.now c.args.state.now in
+    let v = world_of law c.generate_implied_end.new.sink c.generate_implied_end.new.state in
+    c.expect_to_close.ensures.quiet
+    (c.is_current_html-expected.ensures
+    ∙ ap (λ local. first_passes (is_html_named local) (names_of v)) c.from_known-caption.ensures
+    ∙ ap (λ (x : World). first_passes (is_html_named (codes "caption")) (names_of x)) c.generate_implied_end.ensures.made.world
+    ∙ stays_current law.choices (is_html_named (codes "caption")) w caption_not_implied h)
+    ∙ c.generate_implied_end.ensures.made.quiet

@@ -1,0 +1,35 @@
+use Rattle.std.proofs.Common.{[], ◌∷◌, Some, ap, codes, refl, subst, sym, ◌∙◌}
+use Rattle.h5_tag_sets.specs.TagSets.{is_html_named, is_table_scope}
+use Rattle.h5_stack.specs.Scope.{in_scope}
+use Rattle.h5_types.specs.TurnText.{TagTurn}
+use Rattle.h5_types.specs.declared.turns.ProcessResult.TheVariants.{Reprocess}
+use Rattle.h5_types.specs.declared.turns.Token.TheVariants.{Tag}
+use Rattle.h5_token.specs.TokenText.{tag_text}
+use Rattle.h5_meaning.specs.Changes.{pop_until_named}
+use Rattle.h5_meaning.specs.InTable.{in_table_start_table}
+use Rattle.h5_meaning.specs.Reset.{reset_mode}
+use Rattle.h5_meaning.specs.Rows.{AgainBy, Follows, PopUntilNamed, choose, errs, ignored}
+use Rattle.h5_meaning.specs.World.{World, names_of}
+use Rattle.h5_state.specs.Steps.{errors_of, world_of}
+use Rattle.h5_rules_tables.proofs.in_table.in_table_start_table.Goals as goal
+
+pub returns-in-Some : goal.returns-in-Some
+unfolding in_table_start_table
+returns-in-Some g c =
+    let law = g.S.TreeSink in
+    let tag = tag_text c.args.tag in
+    let w = world_of law c.args.sink.now c.args.state.now in
+    let u = world_of law c.unexpected_tag.new.sink c.args.state.now in
+    let v = world_of law c.unexpected_tag.new.sink c.pop_until_named.new.state in
+    record {
+      follows = subst (λ b. Follows law.choices law.node (choose b (errs (PopUntilNamed (codes "table") ∷ []) (AgainBy reset_mode)) ignored) (TagTurn tag) w v (errors_of law c.args.sink.now) (errors_of law c.unexpected_tag.new.sink) (Reprocess c.reset_insertion_mode-mode.result (Tag c.args.tag)))
+          (c.in-Some.ensures.found
+          ∙ ap (λ local. in_scope (is_html_named local) is_table_scope (names_of u)) c.from_known-table.ensures
+          ∙ ap (λ (x : World). in_scope (is_html_named (codes "table")) is_table_scope (names_of x)) c.unexpected_tag.ensures.told.world)
+          (record {
+            world = c.pop_until_named.ensures.world ∙ ap (λ local. pop_until_named local u) c.from_known-table.ensures ∙ ap (pop_until_named (codes "table")) c.unexpected_tag.ensures.told.world;
+            ending = (ap Some (sym c.reset_insertion_mode-mode.ensures), refl);
+            quiet = λ h. absurd (cc);
+          });
+      sound = c.pop_until_named.ensures.sound;
+    }

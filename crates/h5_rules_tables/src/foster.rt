@@ -1,0 +1,30 @@
+//! Foster parenting (HTML standard, section 13.2.6.1).
+ghost use Rattle.h5_types.specs.TurnText.{HasText, turn_text};
+ghost use Rattle.h5_meaning.specs.InBody.{in_body};
+ghost use Rattle.h5_meaning.specs.Sound.{IsReady};
+ghost use Rattle.h5_meaning.specs.Tables.{foster};
+ghost use Rattle.h5_state.specs.Steps.{IsSound, world_of};
+ghost use Rattle.h5_state.specs.Turn.{TakesToken};
+
+use h5_interface::TreeSink;
+use h5_rules_body::step_in_body;
+use h5_state::{State, Turn, set_foster, unexpected};
+use h5_types::Token;
+
+/// A token that doesn't belong into a table goes by the body, and what it puts into the table goes before it.
+pub(crate) fn foster_parent_in_body<S: TreeSink>(
+    sink: &mut S,
+    state: &mut State<S::Handle>,
+    token: Token,
+) -> Turn<S::Handle>
+    requires sound { IsSound S.TreeSink sink.old state.old }
+    requires ready { IsReady (world_of S.TreeSink sink.old state.old) }
+    requires text { HasText (turn_text token) }
+    ensures { TakesToken S.TreeSink (foster in_body) token sink.old state.old sink.new state.new result }
+{
+    unexpected(sink, state, &token);
+    set_foster(sink, state, true);
+    let turn = step_in_body(sink, state, token);
+    set_foster(sink, state, false);
+    turn
+}

@@ -1,0 +1,165 @@
+//! The mode "in caption" (HTML standard, section 13.2.6.4.11).
+ghost use Rattle.std.specs.Prelude.{◌≡◌, [], ◌∷◌, true, codes, length};
+ghost use Rattle.h5_types.specs.TurnText.{HasText, turn_text};
+ghost use Rattle.h5_tag_sets.specs.TagSets.{is_html_named, is_one_of};
+ghost use Rattle.h5_stack.specs.Scope.{cut_through};
+ghost use Rattle.h5_meaning.specs.ByName.{by_name, of_tag};
+ghost use Rattle.h5_meaning.specs.InBody.{current_is, in_body};
+ghost use Rattle.h5_meaning.specs.InCaption.{in_caption, in_caption_close, in_caption_end, in_caption_end_caption, in_caption_ignored_ends, in_caption_start, in_caption_tag};
+ghost use Rattle.h5_meaning.specs.Rows.{ClearActiveFormattingToMarker, GenerateImpliedEnd, PopUntilNamed, apply_all};
+ghost use Rattle.h5_meaning.specs.Sound.{IsReady};
+ghost use Rattle.h5_meaning.specs.World.{names_of};
+ghost use Rattle.h5_state.specs.Steps.{IsSound, errors_of, world_of};
+ghost use Rattle.h5_state.specs.Turn.{TakesTag, TakesToken};
+
+use h5_formatting::clear_active_formatting_to_marker;
+use h5_interface::TreeSink;
+use h5_names::{KnownName, LocalName};
+use h5_rules_body::step_in_body;
+use h5_rules_shared::{expect_to_close, is_any_of, is_table_structure};
+use h5_state::{
+    Known, State, Turn, find_in_table_scope, generate_implied_end, is_current_html,
+    pop_until_named, set_mode, unexpected_tag,
+};
+use h5_token::{Tag, TagKind};
+use h5_types::{InsertionMode, ProcessResult, Token};
+
+// The caption that stands at this place is closed.
+fn close_the_caption<S: TreeSink>(sink: &mut S, state: &mut State<S::Handle>, place: usize)
+    requires sound { IsSound S.TreeSink sink.old state.old }
+    requires place { place ≡ length (cut_through (is_html_named (codes "caption")) (names_of (world_of S.TreeSink sink.old state.old)) (world_of S.TreeSink sink.old state.old).stack) }
+    ensures world { world_of S.TreeSink sink.new state.new ≡ apply_all S.choices (GenerateImpliedEnd ∷ PopUntilNamed (codes "caption") ∷ ClearActiveFormattingToMarker ∷ []) (world_of S.TreeSink sink.old state.old) }
+    ensures quiet { current_is (codes "caption") (world_of S.TreeSink sink.old state.old) ≡ true → errors_of S.TreeSink sink.new ≡ errors_of S.TreeSink sink.old }
+    ensures sound { IsSound S.TreeSink sink.new state.new }
+{
+    let caption = LocalName::from_known(KnownName::Caption);
+    generate_implied_end(sink, state);
+    let expected = is_current_html(sink, state, &caption);
+    expect_to_close(sink, state, expected);
+    pop_until_named(sink, state, &caption, place);
+    clear_active_formatting_to_marker(sink, state);
+}
+
+// An end tag `caption`.
+#[tactic(auto, unfolding(h5_meaning::specs::InCaption::close_the_caption))]
+fn in_caption_end_caption<S: TreeSink>(
+    sink: &mut S,
+    state: &mut State<S::Handle>,
+    tag: Tag,
+) -> Turn<S::Handle>
+    requires { IsSound S.TreeSink sink.old state.old }
+    ensures { TakesTag S.TreeSink in_caption_end_caption tag sink.old state.old sink.new state.new result }
+{
+    match find_in_table_scope(sink, state, &Known(KnownName::Caption)) {
+        Some(place) => {
+            close_the_caption(sink, state, place);
+            set_mode(sink, state, InsertionMode::InTable);
+            Ok(ProcessResult::Done)
+        }
+        None => {
+            unexpected_tag(sink, state, &tag);
+            Ok(ProcessResult::Done)
+        }
+    }
+}
+
+// What closes the caption goes by the table then.
+#[tactic(auto, unfolding(h5_meaning::specs::InCaption::close_the_caption))]
+fn in_caption_close<S: TreeSink>(
+    sink: &mut S,
+    state: &mut State<S::Handle>,
+    tag: Tag,
+) -> Turn<S::Handle>
+    requires { IsSound S.TreeSink sink.old state.old }
+    ensures { TakesTag S.TreeSink in_caption_close tag sink.old state.old sink.new state.new result }
+{
+    match find_in_table_scope(sink, state, &Known(KnownName::Caption)) {
+        Some(place) => {
+            close_the_caption(sink, state, place);
+            Ok(ProcessResult::Reprocess(InsertionMode::InTable, Token::Tag(tag)))
+        }
+        None => {
+            unexpected_tag(sink, state, &tag);
+            Ok(ProcessResult::Done)
+        }
+    }
+}
+
+// Whether an end tag of this name is ignored.
+#[tactic(auto, unfolding(h5_meaning::specs::InCaption::in_caption_ignored_ends))]
+fn is_ignored_end(name: &LocalName) -> bool
+    ensures { result ≡ is_one_of in_caption_ignored_ends name.now }
+{
+    is_any_of(
+        name,
+        &[
+            KnownName::Body,
+            KnownName::Col,
+            KnownName::Colgroup,
+            KnownName::Html,
+            KnownName::Tbody,
+            KnownName::Td,
+            KnownName::Tfoot,
+            KnownName::Th,
+            KnownName::Thead,
+            KnownName::Tr,
+        ],
+    )
+}
+
+// End tags, by their names.
+#[tactic(auto, unfolding(h5_meaning::specs::InCaption::in_caption_end))]
+fn in_caption_end_tag<S: TreeSink>(
+    sink: &mut S,
+    state: &mut State<S::Handle>,
+    tag: Tag,
+) -> Turn<S::Handle>
+    requires sound { IsSound S.TreeSink sink.old state.old }
+    requires ready { IsReady (world_of S.TreeSink sink.old state.old) }
+    ensures { TakesTag S.TreeSink (by_name in_caption_end (of_tag in_body)) tag sink.old state.old sink.new state.new result }
+{
+    if tag.name.is(KnownName::Caption) {
+        in_caption_end_caption(sink, state, tag)
+    } else if tag.name.is(KnownName::Table) {
+        in_caption_close(sink, state, tag)
+    } else if is_ignored_end(&tag.name) {
+        unexpected_tag(sink, state, &tag);
+        Ok(ProcessResult::Done)
+    } else {
+        step_in_body(sink, state, Token::Tag(tag))
+    }
+}
+
+#[tactic(auto, unfolding(h5_meaning::specs::InCaption::in_caption_tag, h5_meaning::specs::InCaption::in_caption_start))]
+fn in_caption_tag<S: TreeSink>(
+    sink: &mut S,
+    state: &mut State<S::Handle>,
+    tag: Tag,
+) -> Turn<S::Handle>
+    requires sound { IsSound S.TreeSink sink.old state.old }
+    requires ready { IsReady (world_of S.TreeSink sink.old state.old) }
+    ensures { TakesTag S.TreeSink in_caption_tag tag sink.old state.old sink.new state.new result }
+{
+    match tag.kind {
+        TagKind::StartTag if is_table_structure(&tag.name) => in_caption_close(sink, state, tag),
+        TagKind::StartTag => step_in_body(sink, state, Token::Tag(tag)),
+        TagKind::EndTag => in_caption_end_tag(sink, state, tag),
+    }
+}
+
+/// A turn in a caption.
+pub fn step_in_caption<S: TreeSink>(
+    sink: &mut S,
+    state: &mut State<S::Handle>,
+    token: Token,
+) -> Turn<S::Handle>
+    requires sound { IsSound S.TreeSink sink.old state.old }
+    requires ready { IsReady (world_of S.TreeSink sink.old state.old) }
+    requires text { HasText (turn_text token) }
+    ensures { TakesToken S.TreeSink in_caption token sink.old state.old sink.new state.new result }
+{
+    match token {
+        Token::Tag(tag) => in_caption_tag(sink, state, tag),
+        token => step_in_body(sink, state, token),
+    }
+}

@@ -1,0 +1,196 @@
+//! The mode "in cell" (HTML standard, section 13.2.6.4.15).
+ghost use Rattle.std.specs.Prelude.{◌≡◌, true};
+ghost use Rattle.h5_types.specs.TurnText.{HasText, turn_text};
+ghost use Rattle.h5_tag_sets.specs.TagSets.{cell_names, is_one_of};
+ghost use Rattle.h5_meaning.specs.ByName.{by_name, of_tag};
+ghost use Rattle.h5_meaning.specs.InBody.{in_body};
+ghost use Rattle.h5_meaning.specs.InCell.{close_the_cell, in_cell, in_cell_closing_ends, in_cell_end, in_cell_end_cell, in_cell_end_structure, in_cell_ignored_ends, in_cell_start, in_cell_start_structure, in_cell_tag};
+ghost use Rattle.h5_meaning.specs.Sound.{IsReady};
+ghost use Rattle.h5_state.specs.Steps.{IsSound, world_of};
+ghost use Rattle.h5_state.specs.Turn.{TakesTag, TakesToken};
+
+use super::parts::has_in_table_scope;
+use h5_formatting::clear_active_formatting_to_marker;
+use h5_interface::TreeSink;
+use h5_names::{KnownName, LocalName};
+use h5_rules_body::step_in_body;
+use h5_rules_shared::{expect_to_close, is_any_of, is_table_structure};
+use h5_state::{
+    Cell, Local, State, Turn, find_cell, find_in_table_scope, generate_implied_end,
+    is_current_cell, is_current_html, pop_until_cell, pop_until_named, set_mode, unexpected_tag,
+};
+use h5_tag_sets::NameSet;
+use h5_token::{Tag, TagKind};
+use h5_types::{InsertionMode, ProcessResult, Token};
+
+// An end tag `td` or `th`.
+#[tactic(auto, unfolding(h5_meaning::specs::InCell::in_cell_end_cell))]
+fn in_cell_end_cell<S: TreeSink>(
+    sink: &mut S,
+    state: &mut State<S::Handle>,
+    tag: Tag,
+) -> Turn<S::Handle>
+    requires sound { IsSound S.TreeSink sink.old state.old }
+    requires name { is_one_of cell_names tag.name ≡ true }
+    ensures { TakesTag S.TreeSink in_cell_end_cell tag sink.old state.old sink.new state.new result }
+{
+    let local = &tag.name;
+    match find_in_table_scope(sink, state, &Local(local)) {
+        Some(place) => {
+            generate_implied_end(sink, state);
+            let expected = is_current_html(sink, state, local);
+            expect_to_close(sink, state, expected);
+            pop_until_named(sink, state, local, place);
+            clear_active_formatting_to_marker(sink, state);
+            set_mode(sink, state, InsertionMode::InRow);
+            Ok(ProcessResult::Done)
+        }
+        None => {
+            unexpected_tag(sink, state, &tag);
+            Ok(ProcessResult::Done)
+        }
+    }
+}
+
+// "Close the cell": the first cell, from the current node on, is closed, and the tag goes by the row.
+fn close_the_cell<S: TreeSink>(
+    sink: &mut S,
+    state: &mut State<S::Handle>,
+    tag: Tag,
+) -> Turn<S::Handle>
+    requires { IsSound S.TreeSink sink.old state.old }
+    ensures { TakesTag S.TreeSink (λ t. close_the_cell) tag sink.old state.old sink.new state.new result }
+{
+    generate_implied_end(sink, state);
+    let expected = is_current_cell(sink, state);
+    expect_to_close(sink, state, expected);
+    let place = find_cell(sink, state);
+    pop_until_cell(sink, state, place);
+    clear_active_formatting_to_marker(sink, state);
+    Ok(ProcessResult::Reprocess(InsertionMode::InRow, Token::Tag(tag)))
+}
+
+// A start tag `caption`, `col`, .., `tr`: it closes the cell.
+#[tactic(auto, unfolding(h5_meaning::specs::InCell::in_cell_start_structure))]
+fn in_cell_start_structure<S: TreeSink>(
+    sink: &mut S,
+    state: &mut State<S::Handle>,
+    tag: Tag,
+) -> Turn<S::Handle>
+    requires { IsSound S.TreeSink sink.old state.old }
+    ensures { TakesTag S.TreeSink in_cell_start_structure tag sink.old state.old sink.new state.new result }
+{
+    if has_in_table_scope(sink, state, &Cell) {
+        close_the_cell(sink, state, tag)
+    } else {
+        unexpected_tag(sink, state, &tag);
+        Ok(ProcessResult::Done)
+    }
+}
+
+// An end tag `table`, `tbody`, `tfoot`, `thead` or `tr`: it closes the cell where table scope has what it names.
+#[tactic(auto, unfolding(h5_meaning::specs::InCell::in_cell_end_structure))]
+fn in_cell_end_structure<S: TreeSink>(
+    sink: &mut S,
+    state: &mut State<S::Handle>,
+    tag: Tag,
+) -> Turn<S::Handle>
+    requires { IsSound S.TreeSink sink.old state.old }
+    ensures { TakesTag S.TreeSink in_cell_end_structure tag sink.old state.old sink.new state.new result }
+{
+    if has_in_table_scope(sink, state, &Local(&tag.name)) {
+        close_the_cell(sink, state, tag)
+    } else {
+        unexpected_tag(sink, state, &tag);
+        Ok(ProcessResult::Done)
+    }
+}
+
+// Whether an end tag of this name closes the cell.
+#[tactic(auto, unfolding(h5_meaning::specs::InCell::in_cell_closing_ends))]
+fn is_closing_end(name: &LocalName) -> bool
+    ensures { result ≡ is_one_of in_cell_closing_ends name.now }
+{
+    is_any_of(
+        name,
+        &[
+            KnownName::Table,
+            KnownName::Tbody,
+            KnownName::Tfoot,
+            KnownName::Thead,
+            KnownName::Tr,
+        ],
+    )
+}
+
+// Whether an end tag of this name is ignored.
+#[tactic(auto, unfolding(h5_meaning::specs::InCell::in_cell_ignored_ends))]
+fn is_ignored_end(name: &LocalName) -> bool
+    ensures { result ≡ is_one_of in_cell_ignored_ends name.now }
+{
+    is_any_of(
+        name,
+        &[
+            KnownName::Body,
+            KnownName::Caption,
+            KnownName::Col,
+            KnownName::Colgroup,
+            KnownName::Html,
+        ],
+    )
+}
+
+// End tags, by their names.
+#[tactic(auto, unfolding(h5_meaning::specs::InCell::in_cell_end))]
+fn in_cell_end_tag<S: TreeSink>(
+    sink: &mut S,
+    state: &mut State<S::Handle>,
+    tag: Tag,
+) -> Turn<S::Handle>
+    requires sound { IsSound S.TreeSink sink.old state.old }
+    requires ready { IsReady (world_of S.TreeSink sink.old state.old) }
+    ensures { TakesTag S.TreeSink (by_name in_cell_end (of_tag in_body)) tag sink.old state.old sink.new state.new result }
+{
+    if NameSet::TdTh.holds(&tag.name) {
+        in_cell_end_cell(sink, state, tag)
+    } else if is_closing_end(&tag.name) {
+        in_cell_end_structure(sink, state, tag)
+    } else if is_ignored_end(&tag.name) {
+        unexpected_tag(sink, state, &tag);
+        Ok(ProcessResult::Done)
+    } else {
+        step_in_body(sink, state, Token::Tag(tag))
+    }
+}
+
+#[tactic(auto, unfolding(h5_meaning::specs::InCell::in_cell_tag, h5_meaning::specs::InCell::in_cell_start))]
+fn in_cell_tag<S: TreeSink>(sink: &mut S, state: &mut State<S::Handle>, tag: Tag) -> Turn<S::Handle>
+    requires sound { IsSound S.TreeSink sink.old state.old }
+    requires ready { IsReady (world_of S.TreeSink sink.old state.old) }
+    ensures { TakesTag S.TreeSink in_cell_tag tag sink.old state.old sink.new state.new result }
+{
+    match tag.kind {
+        TagKind::StartTag if is_table_structure(&tag.name) => in_cell_start_structure(
+            sink, state, tag,
+        ),
+        TagKind::StartTag => step_in_body(sink, state, Token::Tag(tag)),
+        TagKind::EndTag => in_cell_end_tag(sink, state, tag),
+    }
+}
+
+/// A turn in a cell.
+pub fn step_in_cell<S: TreeSink>(
+    sink: &mut S,
+    state: &mut State<S::Handle>,
+    token: Token,
+) -> Turn<S::Handle>
+    requires sound { IsSound S.TreeSink sink.old state.old }
+    requires ready { IsReady (world_of S.TreeSink sink.old state.old) }
+    requires text { HasText (turn_text token) }
+    ensures { TakesToken S.TreeSink in_cell token sink.old state.old sink.new state.new result }
+{
+    match token {
+        Token::Tag(tag) => in_cell_tag(sink, state, tag),
+        token => step_in_body(sink, state, token),
+    }
+}

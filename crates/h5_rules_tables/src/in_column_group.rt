@@ -1,0 +1,153 @@
+//! The mode "in column group" (HTML standard, section 13.2.6.4.12).
+ghost use Rattle.h5_types.specs.TurnText.{HasText, turn_text};
+ghost use Rattle.h5_meaning.specs.ByName.{by_name, of_tag};
+ghost use Rattle.h5_meaning.specs.InColumnGroup.{in_column_group, in_column_group_else, in_column_group_end, in_column_group_end_colgroup, in_column_group_start, in_column_group_start_col, in_column_group_tag};
+ghost use Rattle.h5_meaning.specs.Sound.{IsReady};
+ghost use Rattle.h5_state.specs.Steps.{IsSound, world_of};
+ghost use Rattle.h5_state.specs.Turn.{TakesTag, TakesToken};
+
+use h5_interface::TreeSink;
+use h5_names::{KnownName, LocalName};
+use h5_rules_body::step_in_body;
+use h5_rules_shared::in_body_start_html;
+use h5_state::{
+    State, Turn, append_comment, append_text, insert_and_pop_element, is_current_html, pop,
+    set_mode, unexpected, unexpected_tag,
+};
+use h5_token::{Tag, TagKind};
+use h5_types::{InsertionMode, ProcessResult, SplitStatus, Token};
+
+// A start tag `col`.
+fn in_column_group_start_col<S: TreeSink>(
+    sink: &mut S,
+    state: &mut State<S::Handle>,
+    tag: Tag,
+) -> Turn<S::Handle>
+    requires { IsSound S.TreeSink sink.old state.old }
+    ensures { TakesTag S.TreeSink in_column_group_start_col tag sink.old state.old sink.new state.new result }
+{
+    let attrs = tag.attrs;
+    insert_and_pop_element(sink, state, tag.name, attrs, tag.had_duplicate_attributes)?;
+    Ok(ProcessResult::DoneAckSelfClosing)
+}
+
+// An end tag `colgroup`.
+#[tactic(auto, unfolding(h5_meaning::specs::InColumnGroup::close_the_column_group))]
+fn in_column_group_end_colgroup<S: TreeSink>(
+    sink: &mut S,
+    state: &mut State<S::Handle>,
+    tag: Tag,
+) -> Turn<S::Handle>
+    requires { IsSound S.TreeSink sink.old state.old }
+    ensures { TakesTag S.TreeSink in_column_group_end_colgroup tag sink.old state.old sink.new state.new result }
+{
+    if is_current_html(sink, state, &LocalName::from_known(KnownName::Colgroup)) {
+        pop(sink, state);
+        set_mode(sink, state, InsertionMode::InTable);
+        Ok(ProcessResult::Done)
+    } else {
+        unexpected_tag(sink, state, &tag);
+        Ok(ProcessResult::Done)
+    }
+}
+
+// Anything else: the column group is closed, and the token goes by the table.
+#[tactic(auto, unfolding(h5_meaning::specs::InColumnGroup::close_the_column_group))]
+fn in_column_group_else<S: TreeSink>(
+    sink: &mut S,
+    state: &mut State<S::Handle>,
+    token: Token,
+) -> Turn<S::Handle>
+    requires { IsSound S.TreeSink sink.old state.old }
+    ensures { TakesToken S.TreeSink in_column_group_else token sink.old state.old sink.new state.new result }
+{
+    if is_current_html(sink, state, &LocalName::from_known(KnownName::Colgroup)) {
+        pop(sink, state);
+        Ok(ProcessResult::Reprocess(InsertionMode::InTable, token))
+    } else {
+        unexpected(sink, state, &token);
+        Ok(ProcessResult::Done)
+    }
+}
+
+// Start tags, by their names.
+#[tactic(auto, unfolding(h5_meaning::specs::InColumnGroup::in_column_group_start))]
+fn in_column_group_start_tag<S: TreeSink>(
+    sink: &mut S,
+    state: &mut State<S::Handle>,
+    tag: Tag,
+) -> Turn<S::Handle>
+    requires sound { IsSound S.TreeSink sink.old state.old }
+    requires ready { IsReady (world_of S.TreeSink sink.old state.old) }
+    ensures { TakesTag S.TreeSink (by_name in_column_group_start (of_tag in_column_group_else)) tag sink.old state.old sink.new state.new result }
+{
+    if tag.name.is(KnownName::Html) {
+        in_body_start_html(sink, state, tag)
+    } else if tag.name.is(KnownName::Col) {
+        in_column_group_start_col(sink, state, tag)
+    } else {
+        in_column_group_else(sink, state, Token::Tag(tag))
+    }
+}
+
+// End tags, by their names.
+#[tactic(auto, unfolding(h5_meaning::specs::InColumnGroup::in_column_group_end))]
+fn in_column_group_end_tag<S: TreeSink>(
+    sink: &mut S,
+    state: &mut State<S::Handle>,
+    tag: Tag,
+) -> Turn<S::Handle>
+    requires { IsSound S.TreeSink sink.old state.old }
+    ensures { TakesTag S.TreeSink (by_name in_column_group_end (of_tag in_column_group_else)) tag sink.old state.old sink.new state.new result }
+{
+    if tag.name.is(KnownName::Colgroup) {
+        in_column_group_end_colgroup(sink, state, tag)
+    } else if tag.name.is(KnownName::Col) {
+        unexpected_tag(sink, state, &tag);
+        Ok(ProcessResult::Done)
+    } else {
+        in_column_group_else(sink, state, Token::Tag(tag))
+    }
+}
+
+#[tactic(auto, unfolding(h5_meaning::specs::InColumnGroup::in_column_group_tag))]
+fn in_column_group_tag<S: TreeSink>(
+    sink: &mut S,
+    state: &mut State<S::Handle>,
+    tag: Tag,
+) -> Turn<S::Handle>
+    requires sound { IsSound S.TreeSink sink.old state.old }
+    requires ready { IsReady (world_of S.TreeSink sink.old state.old) }
+    ensures { TakesTag S.TreeSink in_column_group_tag tag sink.old state.old sink.new state.new result }
+{
+    match tag.kind {
+        TagKind::StartTag => in_column_group_start_tag(sink, state, tag),
+        TagKind::EndTag => in_column_group_end_tag(sink, state, tag),
+    }
+}
+
+/// A turn in a column group.
+pub fn step_in_column_group<S: TreeSink>(
+    sink: &mut S,
+    state: &mut State<S::Handle>,
+    token: Token,
+) -> Turn<S::Handle>
+    requires sound { IsSound S.TreeSink sink.old state.old }
+    requires ready { IsReady (world_of S.TreeSink sink.old state.old) }
+    requires text { HasText (turn_text token) }
+    ensures { TakesToken S.TreeSink in_column_group token sink.old state.old sink.new state.new result }
+{
+    match token {
+        Token::Tag(tag) => in_column_group_tag(sink, state, tag),
+        Token::Comment(text) => {
+            append_comment(sink, state, text)?;
+            Ok(ProcessResult::Done)
+        }
+        Token::Characters(SplitStatus::Whitespace, text) => {
+            append_text(sink, state, text)?;
+            Ok(ProcessResult::Done)
+        }
+        Token::Eof => step_in_body(sink, state, Token::Eof),
+        token => in_column_group_else(sink, state, token),
+    }
+}

@@ -1,0 +1,212 @@
+//! The mode "in row" (HTML standard, section 13.2.6.4.14).
+ghost use Rattle.std.specs.Prelude.{◌≡◌};
+ghost use Rattle.h5_types.specs.TurnText.{HasText, turn_text};
+ghost use Rattle.h5_tag_sets.specs.TagSets.{is_one_of};
+ghost use Rattle.h5_meaning.specs.ByName.{by_name, of_tag};
+ghost use Rattle.h5_meaning.specs.InTable.{in_table};
+ghost use Rattle.h5_meaning.specs.InRow.{in_row, in_row_close, in_row_end, in_row_end_row, in_row_end_section, in_row_ignored_ends, in_row_start, in_row_start_cell, in_row_tag, row_closing_names};
+ghost use Rattle.h5_meaning.specs.Sound.{IsReady};
+ghost use Rattle.h5_state.specs.Steps.{IsSound, world_of};
+ghost use Rattle.h5_state.specs.Turn.{TakesTag, TakesToken};
+
+use super::in_table::step_in_table;
+use super::parts::{clear_to_table_row_context, has_in_table_scope, is_section};
+use h5_formatting::insert_marker;
+use h5_interface::TreeSink;
+use h5_names::{KnownName, LocalName};
+use h5_rules_shared::is_any_of;
+use h5_state::{Known, Local, State, Turn, insert_element, pop, set_mode, unexpected_tag};
+use h5_tag_sets::NameSet;
+use h5_token::{Tag, TagKind};
+use h5_types::{InsertionMode, ProcessResult, Token};
+
+// A start tag `td` or `th`.
+fn in_row_start_cell<S: TreeSink>(
+    sink: &mut S,
+    state: &mut State<S::Handle>,
+    tag: Tag,
+) -> Turn<S::Handle>
+    requires { IsSound S.TreeSink sink.old state.old }
+    ensures { TakesTag S.TreeSink in_row_start_cell tag sink.old state.old sink.new state.new result }
+{
+    clear_to_table_row_context(sink, state);
+    let attrs = tag.attrs;
+    insert_element(sink, state, tag.name, attrs, tag.had_duplicate_attributes)?;
+    set_mode(sink, state, InsertionMode::InCell);
+    insert_marker(sink, state)?;
+    Ok(ProcessResult::Done)
+}
+
+// An end tag `tr`.
+#[tactic(auto, unfolding(h5_meaning::specs::InRow::close_the_row))]
+fn in_row_end_row<S: TreeSink>(
+    sink: &mut S,
+    state: &mut State<S::Handle>,
+    tag: Tag,
+) -> Turn<S::Handle>
+    requires sound { IsSound S.TreeSink sink.old state.old }
+    requires ready { IsReady (world_of S.TreeSink sink.old state.old) }
+    ensures { TakesTag S.TreeSink in_row_end_row tag sink.old state.old sink.new state.new result }
+{
+    if has_in_table_scope(sink, state, &Known(KnownName::Tr)) {
+        clear_to_table_row_context(sink, state);
+        pop(sink, state);
+        set_mode(sink, state, InsertionMode::InTableBody);
+        Ok(ProcessResult::Done)
+    } else {
+        unexpected_tag(sink, state, &tag);
+        Ok(ProcessResult::Done)
+    }
+}
+
+// What closes the row goes by the row group then.
+#[tactic(auto, unfolding(h5_meaning::specs::InRow::close_the_row))]
+fn in_row_close<S: TreeSink>(
+    sink: &mut S,
+    state: &mut State<S::Handle>,
+    tag: Tag,
+) -> Turn<S::Handle>
+    requires sound { IsSound S.TreeSink sink.old state.old }
+    requires ready { IsReady (world_of S.TreeSink sink.old state.old) }
+    ensures { TakesTag S.TreeSink in_row_close tag sink.old state.old sink.new state.new result }
+{
+    if has_in_table_scope(sink, state, &Known(KnownName::Tr)) {
+        clear_to_table_row_context(sink, state);
+        pop(sink, state);
+        Ok(ProcessResult::Reprocess(InsertionMode::InTableBody, Token::Tag(tag)))
+    } else {
+        unexpected_tag(sink, state, &tag);
+        Ok(ProcessResult::Done)
+    }
+}
+
+// An end tag `tbody`, `tfoot` or `thead`: it closes the row where table scope has what it names.
+#[tactic(auto, unfolding(h5_meaning::specs::InRow::in_row_end_section))]
+fn in_row_end_section<S: TreeSink>(
+    sink: &mut S,
+    state: &mut State<S::Handle>,
+    tag: Tag,
+) -> Turn<S::Handle>
+    requires sound { IsSound S.TreeSink sink.old state.old }
+    requires ready { IsReady (world_of S.TreeSink sink.old state.old) }
+    ensures { TakesTag S.TreeSink in_row_end_section tag sink.old state.old sink.new state.new result }
+{
+    if has_in_table_scope(sink, state, &Local(&tag.name)) {
+        in_row_close(sink, state, tag)
+    } else {
+        unexpected_tag(sink, state, &tag);
+        Ok(ProcessResult::Done)
+    }
+}
+
+// Whether a start tag of this name closes a row.
+#[tactic(auto, unfolding(h5_meaning::specs::InRow::row_closing_names))]
+fn closes_row(name: &LocalName) -> bool
+    ensures { result ≡ is_one_of row_closing_names name.now }
+{
+    is_any_of(
+        name,
+        &[
+            KnownName::Caption,
+            KnownName::Col,
+            KnownName::Colgroup,
+            KnownName::Tbody,
+            KnownName::Tfoot,
+            KnownName::Thead,
+            KnownName::Tr,
+        ],
+    )
+}
+
+// Whether an end tag of this name is ignored.
+#[tactic(auto, unfolding(h5_meaning::specs::InRow::in_row_ignored_ends))]
+fn is_ignored_end(name: &LocalName) -> bool
+    ensures { result ≡ is_one_of in_row_ignored_ends name.now }
+{
+    is_any_of(
+        name,
+        &[
+            KnownName::Body,
+            KnownName::Caption,
+            KnownName::Col,
+            KnownName::Colgroup,
+            KnownName::Html,
+            KnownName::Td,
+            KnownName::Th,
+        ],
+    )
+}
+
+// Start tags, by their names.
+#[tactic(auto, unfolding(h5_meaning::specs::InRow::in_row_start))]
+fn in_row_start_tag<S: TreeSink>(
+    sink: &mut S,
+    state: &mut State<S::Handle>,
+    tag: Tag,
+) -> Turn<S::Handle>
+    requires sound { IsSound S.TreeSink sink.old state.old }
+    requires ready { IsReady (world_of S.TreeSink sink.old state.old) }
+    ensures { TakesTag S.TreeSink (by_name in_row_start (of_tag in_table)) tag sink.old state.old sink.new state.new result }
+{
+    if NameSet::TdTh.holds(&tag.name) {
+        in_row_start_cell(sink, state, tag)
+    } else if closes_row(&tag.name) {
+        in_row_close(sink, state, tag)
+    } else {
+        step_in_table(sink, state, Token::Tag(tag))
+    }
+}
+
+// End tags, by their names.
+#[tactic(auto, unfolding(h5_meaning::specs::InRow::in_row_end))]
+fn in_row_end_tag<S: TreeSink>(
+    sink: &mut S,
+    state: &mut State<S::Handle>,
+    tag: Tag,
+) -> Turn<S::Handle>
+    requires sound { IsSound S.TreeSink sink.old state.old }
+    requires ready { IsReady (world_of S.TreeSink sink.old state.old) }
+    ensures { TakesTag S.TreeSink (by_name in_row_end (of_tag in_table)) tag sink.old state.old sink.new state.new result }
+{
+    if tag.name.is(KnownName::Tr) {
+        in_row_end_row(sink, state, tag)
+    } else if tag.name.is(KnownName::Table) {
+        in_row_close(sink, state, tag)
+    } else if is_section(&tag.name) {
+        in_row_end_section(sink, state, tag)
+    } else if is_ignored_end(&tag.name) {
+        unexpected_tag(sink, state, &tag);
+        Ok(ProcessResult::Done)
+    } else {
+        step_in_table(sink, state, Token::Tag(tag))
+    }
+}
+
+#[tactic(auto, unfolding(h5_meaning::specs::InRow::in_row_tag))]
+fn in_row_tag<S: TreeSink>(sink: &mut S, state: &mut State<S::Handle>, tag: Tag) -> Turn<S::Handle>
+    requires sound { IsSound S.TreeSink sink.old state.old }
+    requires ready { IsReady (world_of S.TreeSink sink.old state.old) }
+    ensures { TakesTag S.TreeSink in_row_tag tag sink.old state.old sink.new state.new result }
+{
+    match tag.kind {
+        TagKind::StartTag => in_row_start_tag(sink, state, tag),
+        TagKind::EndTag => in_row_end_tag(sink, state, tag),
+    }
+}
+
+/// A turn in a row.
+pub fn step_in_row<S: TreeSink>(
+    sink: &mut S,
+    state: &mut State<S::Handle>,
+    token: Token,
+) -> Turn<S::Handle>
+    requires sound { IsSound S.TreeSink sink.old state.old }
+    requires ready { IsReady (world_of S.TreeSink sink.old state.old) }
+    requires text { HasText (turn_text token) }
+    ensures { TakesToken S.TreeSink in_row token sink.old state.old sink.new state.new result }
+{
+    match token {
+        Token::Tag(tag) => in_row_tag(sink, state, tag),
+        token => step_in_table(sink, state, token),
+    }
+}

@@ -1,0 +1,354 @@
+//! The mode "in table" (HTML standard, section 13.2.6.4.9).
+ghost use Rattle.std.specs.Prelude.{◌≡◌};
+ghost use Rattle.h5_names.specs.AttributeText.{attribute_text, attribute_texts};
+ghost use Rattle.h5_types.specs.TurnText.{HasText, turn_text};
+ghost use Rattle.h5_tag_sets.specs.TagSets.{is_one_of};
+ghost use Rattle.h5_meaning.specs.ByName.{by_name, of_tag};
+ghost use Rattle.h5_meaning.specs.InTable.{in_table, in_table_else, in_table_end, in_table_end_table, in_table_ignored_ends, in_table_start, in_table_start_caption, in_table_start_col, in_table_start_colgroup, in_table_start_form, in_table_start_input, in_table_start_row_part, in_table_start_section, in_table_start_table, in_table_tag, in_table_text_or_null, is_type, is_type_hidden, row_part_names};
+ghost use Rattle.h5_meaning.specs.Sound.{IsReady};
+ghost use Rattle.h5_state.specs.Steps.{IsSound, world_of};
+ghost use Rattle.h5_state.specs.Turn.{TakesTag, TakesToken};
+
+use super::foster::foster_parent_in_body;
+use super::parts::{clear_to_table_context, is_section};
+use h5_formatting::insert_marker;
+use h5_interface::TreeSink;
+use h5_names::{Attribute, KnownName, LocalName};
+use h5_rules_body::step_in_body;
+use h5_rules_shared::is_any_of;
+use h5_state::{
+    Local, State, Turn, append_comment, find_in_table_scope, has_form, has_open_template,
+    insert_and_pop_element, insert_and_pop_form, insert_element, insert_phantom,
+    is_current_table_outer, pop_until_named, reset_insertion_mode, save_mode, set_mode,
+    unexpected_tag,
+};
+use h5_token::{Tag, TagKind};
+use h5_types::{InsertionMode, ProcessResult, Token};
+
+// A text, or a null: it is kept back until the next token, where the current node is a part of the table.
+#[tactic(auto, unfolding(h5_meaning::specs::InTable::in_table_text_or_null))]
+fn process_chars_in_table<S: TreeSink>(
+    sink: &mut S,
+    state: &mut State<S::Handle>,
+    token: Token,
+) -> Turn<S::Handle>
+    requires sound { IsSound S.TreeSink sink.old state.old }
+    requires ready { IsReady (world_of S.TreeSink sink.old state.old) }
+    requires text { HasText (turn_text token) }
+    ensures { TakesToken S.TreeSink in_table_text_or_null token sink.old state.old sink.new state.new result }
+{
+    if is_current_table_outer(sink, state) {
+        save_mode(sink, state);
+        Ok(ProcessResult::Reprocess(InsertionMode::InTableText, token))
+    } else {
+        foster_parent_in_body(sink, state, token)
+    }
+}
+
+// A start tag `caption`.
+fn in_table_start_caption<S: TreeSink>(
+    sink: &mut S,
+    state: &mut State<S::Handle>,
+    tag: Tag,
+) -> Turn<S::Handle>
+    requires { IsSound S.TreeSink sink.old state.old }
+    ensures { TakesTag S.TreeSink in_table_start_caption tag sink.old state.old sink.new state.new result }
+{
+    clear_to_table_context(sink, state);
+    insert_marker(sink, state)?;
+    let attrs = tag.attrs;
+    insert_element(sink, state, tag.name, attrs, tag.had_duplicate_attributes)?;
+    set_mode(sink, state, InsertionMode::InCaption);
+    Ok(ProcessResult::Done)
+}
+
+// A start tag `colgroup`.
+fn in_table_start_colgroup<S: TreeSink>(
+    sink: &mut S,
+    state: &mut State<S::Handle>,
+    tag: Tag,
+) -> Turn<S::Handle>
+    requires { IsSound S.TreeSink sink.old state.old }
+    ensures { TakesTag S.TreeSink in_table_start_colgroup tag sink.old state.old sink.new state.new result }
+{
+    clear_to_table_context(sink, state);
+    let attrs = tag.attrs;
+    insert_element(sink, state, tag.name, attrs, tag.had_duplicate_attributes)?;
+    set_mode(sink, state, InsertionMode::InColumnGroup);
+    Ok(ProcessResult::Done)
+}
+
+// A start tag `col`: a column group is made for it.
+fn in_table_start_col<S: TreeSink>(
+    sink: &mut S,
+    state: &mut State<S::Handle>,
+    tag: Tag,
+) -> Turn<S::Handle>
+    requires { IsSound S.TreeSink sink.old state.old }
+    ensures { TakesTag S.TreeSink in_table_start_col tag sink.old state.old sink.new state.new result }
+{
+    clear_to_table_context(sink, state);
+    insert_phantom(sink, state, KnownName::Colgroup)?;
+    Ok(ProcessResult::Reprocess(InsertionMode::InColumnGroup, Token::Tag(tag)))
+}
+
+// A start tag `tbody`, `tfoot` or `thead`.
+fn in_table_start_section<S: TreeSink>(
+    sink: &mut S,
+    state: &mut State<S::Handle>,
+    tag: Tag,
+) -> Turn<S::Handle>
+    requires { IsSound S.TreeSink sink.old state.old }
+    ensures { TakesTag S.TreeSink in_table_start_section tag sink.old state.old sink.new state.new result }
+{
+    clear_to_table_context(sink, state);
+    let attrs = tag.attrs;
+    insert_element(sink, state, tag.name, attrs, tag.had_duplicate_attributes)?;
+    set_mode(sink, state, InsertionMode::InTableBody);
+    Ok(ProcessResult::Done)
+}
+
+// A start tag `td`, `th` or `tr`: a row group is made for it.
+fn in_table_start_row_part<S: TreeSink>(
+    sink: &mut S,
+    state: &mut State<S::Handle>,
+    tag: Tag,
+) -> Turn<S::Handle>
+    requires { IsSound S.TreeSink sink.old state.old }
+    ensures { TakesTag S.TreeSink in_table_start_row_part tag sink.old state.old sink.new state.new result }
+{
+    clear_to_table_context(sink, state);
+    insert_phantom(sink, state, KnownName::Tbody)?;
+    Ok(ProcessResult::Reprocess(InsertionMode::InTableBody, Token::Tag(tag)))
+}
+
+// A start tag `table`: the table ends, and the mode is that of what it stands in.
+#[tactic(auto, unfolding(h5_meaning::specs::InTable::in_table_start_table))]
+fn in_table_start_table<S: TreeSink>(
+    sink: &mut S,
+    state: &mut State<S::Handle>,
+    tag: Tag,
+) -> Turn<S::Handle>
+    requires { IsSound S.TreeSink sink.old state.old }
+    ensures { TakesTag S.TreeSink in_table_start_table tag sink.old state.old sink.new state.new result }
+{
+    unexpected_tag(sink, state, &tag);
+    let table = LocalName::from_known(KnownName::Table);
+    match find_in_table_scope(sink, state, &Local(&table)) {
+        Some(place) => {
+            pop_until_named(sink, state, &table, place);
+            let mode = reset_insertion_mode(sink, state);
+            Ok(ProcessResult::Reprocess(mode, Token::Tag(tag)))
+        }
+        None => Ok(ProcessResult::Done),
+    }
+}
+
+// Whether an attribute is `type`, in no namespace.
+fn is_type(attribute: &Attribute) -> bool
+    ensures { result ≡ is_type (attribute_text attribute.now) }
+{
+    attribute.name.ns.as_str().is_empty() && attribute.name.local.is(KnownName::TypeName)
+}
+
+// Whether the first of these attributes is `hidden`, in any case of ASCII letters.
+fn is_type_hidden(attrs: &[Attribute]) -> bool
+    ensures { result ≡ is_type_hidden (attribute_texts attrs.now) }
+{
+    for attribute in attrs {
+        if is_type(attribute) {
+            return attribute.value.as_str().eq_ignore_ascii_case("hidden");
+        }
+    }
+    false
+}
+
+// A start tag `input`: one that isn't seen stays in the table.
+#[tactic(auto, unfolding(h5_meaning::specs::InTable::in_table_start_input))]
+fn in_table_start_input<S: TreeSink>(
+    sink: &mut S,
+    state: &mut State<S::Handle>,
+    tag: Tag,
+) -> Turn<S::Handle>
+    requires sound { IsSound S.TreeSink sink.old state.old }
+    requires ready { IsReady (world_of S.TreeSink sink.old state.old) }
+    ensures { TakesTag S.TreeSink in_table_start_input tag sink.old state.old sink.new state.new result }
+{
+    if is_type_hidden(tag.attrs.as_slice()) {
+        unexpected_tag(sink, state, &tag);
+        let attrs = tag.attrs;
+        insert_and_pop_element(sink, state, tag.name, attrs, tag.had_duplicate_attributes)?;
+        Ok(ProcessResult::DoneAckSelfClosing)
+    } else {
+        foster_parent_in_body(sink, state, Token::Tag(tag))
+    }
+}
+
+// A start tag `form`: the form element, without content.
+#[tactic(auto, unfolding(h5_meaning::specs::InTable::in_table_start_form))]
+fn in_table_start_form<S: TreeSink>(
+    sink: &mut S,
+    state: &mut State<S::Handle>,
+    tag: Tag,
+) -> Turn<S::Handle>
+    requires { IsSound S.TreeSink sink.old state.old }
+    ensures { TakesTag S.TreeSink in_table_start_form tag sink.old state.old sink.new state.new result }
+{
+    unexpected_tag(sink, state, &tag);
+    if has_open_template(sink, state) || has_form(sink, state) {
+        Ok(ProcessResult::Done)
+    } else {
+        insert_and_pop_form(sink, state, tag.attrs, tag.had_duplicate_attributes)?;
+        Ok(ProcessResult::Done)
+    }
+}
+
+// An end tag `table`.
+#[tactic(auto, unfolding(h5_meaning::specs::InTable::in_table_end_table))]
+fn in_table_end_table<S: TreeSink>(
+    sink: &mut S,
+    state: &mut State<S::Handle>,
+    tag: Tag,
+) -> Turn<S::Handle>
+    requires { IsSound S.TreeSink sink.old state.old }
+    ensures { TakesTag S.TreeSink in_table_end_table tag sink.old state.old sink.new state.new result }
+{
+    let table = LocalName::from_known(KnownName::Table);
+    match find_in_table_scope(sink, state, &Local(&table)) {
+        Some(place) => {
+            pop_until_named(sink, state, &table, place);
+            let mode = reset_insertion_mode(sink, state);
+            set_mode(sink, state, mode);
+            Ok(ProcessResult::Done)
+        }
+        None => {
+            unexpected_tag(sink, state, &tag);
+            Ok(ProcessResult::Done)
+        }
+    }
+}
+
+// Whether a start tag of this name needs a row group.
+#[tactic(auto, unfolding(h5_meaning::specs::InTable::row_part_names))]
+fn is_row_part(name: &LocalName) -> bool
+    ensures { result ≡ is_one_of row_part_names name.now }
+{
+    is_any_of(name, &[KnownName::Td, KnownName::Th, KnownName::Tr])
+}
+
+// Whether an end tag of this name is ignored.
+#[tactic(auto, unfolding(h5_meaning::specs::InTable::in_table_ignored_ends))]
+fn is_ignored_end(name: &LocalName) -> bool
+    ensures { result ≡ is_one_of in_table_ignored_ends name.now }
+{
+    is_any_of(
+        name,
+        &[
+            KnownName::Body,
+            KnownName::Caption,
+            KnownName::Col,
+            KnownName::Colgroup,
+            KnownName::Html,
+            KnownName::Tbody,
+            KnownName::Td,
+            KnownName::Tfoot,
+            KnownName::Th,
+            KnownName::Thead,
+            KnownName::Tr,
+        ],
+    )
+}
+
+// Start tags, by their names.
+#[tactic(auto, unfolding(h5_meaning::specs::InTable::in_table_start))]
+fn in_table_start_tag<S: TreeSink>(
+    sink: &mut S,
+    state: &mut State<S::Handle>,
+    tag: Tag,
+) -> Turn<S::Handle>
+    requires sound { IsSound S.TreeSink sink.old state.old }
+    requires ready { IsReady (world_of S.TreeSink sink.old state.old) }
+    ensures { TakesTag S.TreeSink (by_name in_table_start (of_tag in_table_else)) tag sink.old state.old sink.new state.new result }
+{
+    if tag.name.is(KnownName::Caption) {
+        in_table_start_caption(sink, state, tag)
+    } else if tag.name.is(KnownName::Colgroup) {
+        in_table_start_colgroup(sink, state, tag)
+    } else if tag.name.is(KnownName::Col) {
+        in_table_start_col(sink, state, tag)
+    } else if is_section(&tag.name) {
+        in_table_start_section(sink, state, tag)
+    } else if is_row_part(&tag.name) {
+        in_table_start_row_part(sink, state, tag)
+    } else if tag.name.is(KnownName::Table) {
+        in_table_start_table(sink, state, tag)
+    } else if tag.name.is(KnownName::Input) {
+        in_table_start_input(sink, state, tag)
+    } else if tag.name.is(KnownName::Form) {
+        in_table_start_form(sink, state, tag)
+    } else {
+        foster_parent_in_body(sink, state, Token::Tag(tag))
+    }
+}
+
+// End tags, by their names.
+#[tactic(auto, unfolding(h5_meaning::specs::InTable::in_table_end))]
+fn in_table_end_tag<S: TreeSink>(
+    sink: &mut S,
+    state: &mut State<S::Handle>,
+    tag: Tag,
+) -> Turn<S::Handle>
+    requires sound { IsSound S.TreeSink sink.old state.old }
+    requires ready { IsReady (world_of S.TreeSink sink.old state.old) }
+    ensures { TakesTag S.TreeSink (by_name in_table_end (of_tag in_table_else)) tag sink.old state.old sink.new state.new result }
+{
+    if tag.name.is(KnownName::Table) {
+        in_table_end_table(sink, state, tag)
+    } else if is_ignored_end(&tag.name) {
+        unexpected_tag(sink, state, &tag);
+        Ok(ProcessResult::Done)
+    } else {
+        foster_parent_in_body(sink, state, Token::Tag(tag))
+    }
+}
+
+#[tactic(auto, unfolding(h5_meaning::specs::InTable::in_table_tag))]
+fn in_table_tag<S: TreeSink>(
+    sink: &mut S,
+    state: &mut State<S::Handle>,
+    tag: Tag,
+) -> Turn<S::Handle>
+    requires sound { IsSound S.TreeSink sink.old state.old }
+    requires ready { IsReady (world_of S.TreeSink sink.old state.old) }
+    ensures { TakesTag S.TreeSink in_table_tag tag sink.old state.old sink.new state.new result }
+{
+    match tag.kind {
+        TagKind::StartTag => in_table_start_tag(sink, state, tag),
+        TagKind::EndTag => in_table_end_tag(sink, state, tag),
+    }
+}
+
+/// A turn in a table.
+pub fn step_in_table<S: TreeSink>(
+    sink: &mut S,
+    state: &mut State<S::Handle>,
+    token: Token,
+) -> Turn<S::Handle>
+    requires sound { IsSound S.TreeSink sink.old state.old }
+    requires ready { IsReady (world_of S.TreeSink sink.old state.old) }
+    requires text { HasText (turn_text token) }
+    ensures { TakesToken S.TreeSink in_table token sink.old state.old sink.new state.new result }
+{
+    match token {
+        Token::Tag(tag) => in_table_tag(sink, state, tag),
+        Token::Comment(text) => {
+            append_comment(sink, state, text)?;
+            Ok(ProcessResult::Done)
+        }
+        Token::Characters(status, text) => {
+            process_chars_in_table(sink, state, Token::Characters(status, text))
+        }
+        Token::NullCharacter => process_chars_in_table(sink, state, Token::NullCharacter),
+        Token::Eof => step_in_body(sink, state, Token::Eof),
+    }
+}

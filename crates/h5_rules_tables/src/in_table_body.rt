@@ -1,0 +1,228 @@
+//! The mode "in table body" (HTML standard, section 13.2.6.4.13).
+ghost use Rattle.std.specs.Prelude.{◌≡◌};
+ghost use Rattle.h5_types.specs.TurnText.{HasText, turn_text};
+ghost use Rattle.h5_tag_sets.specs.TagSets.{is_one_of};
+ghost use Rattle.h5_meaning.specs.ByName.{by_name, of_tag};
+ghost use Rattle.h5_meaning.specs.InTable.{in_table};
+ghost use Rattle.h5_meaning.specs.InTableBody.{in_table_body, in_table_body_close, in_table_body_end, in_table_body_end_section, in_table_body_ignored_ends, in_table_body_start, in_table_body_start_cell, in_table_body_start_row, in_table_body_tag, section_closing_names};
+ghost use Rattle.h5_meaning.specs.Sound.{IsReady};
+ghost use Rattle.h5_state.specs.Steps.{IsSound, world_of};
+ghost use Rattle.h5_state.specs.Turn.{TakesTag, TakesToken};
+
+use super::in_table::step_in_table;
+use super::parts::{clear_to_table_body_context, has_in_table_scope, is_section};
+use h5_interface::TreeSink;
+use h5_names::{KnownName, LocalName, QualName};
+use h5_rules_shared::is_any_of;
+use h5_state::{
+    Local, NameTest, State, Turn, insert_element, insert_phantom, pop, set_mode, unexpected_tag,
+};
+use h5_tag_sets::{NameSet, is_html_known};
+use h5_token::{Tag, TagKind};
+use h5_types::{InsertionMode, ProcessResult, Token};
+
+// A start tag `tr`.
+fn in_table_body_start_row<S: TreeSink>(
+    sink: &mut S,
+    state: &mut State<S::Handle>,
+    tag: Tag,
+) -> Turn<S::Handle>
+    requires { IsSound S.TreeSink sink.old state.old }
+    ensures { TakesTag S.TreeSink in_table_body_start_row tag sink.old state.old sink.new state.new result }
+{
+    clear_to_table_body_context(sink, state);
+    let attrs = tag.attrs;
+    insert_element(sink, state, tag.name, attrs, tag.had_duplicate_attributes)?;
+    set_mode(sink, state, InsertionMode::InRow);
+    Ok(ProcessResult::Done)
+}
+
+// A start tag `td` or `th`: a row is made for it.
+fn in_table_body_start_cell<S: TreeSink>(
+    sink: &mut S,
+    state: &mut State<S::Handle>,
+    tag: Tag,
+) -> Turn<S::Handle>
+    requires { IsSound S.TreeSink sink.old state.old }
+    ensures { TakesTag S.TreeSink in_table_body_start_cell tag sink.old state.old sink.new state.new result }
+{
+    unexpected_tag(sink, state, &tag);
+    clear_to_table_body_context(sink, state);
+    insert_phantom(sink, state, KnownName::Tr)?;
+    Ok(ProcessResult::Reprocess(InsertionMode::InRow, Token::Tag(tag)))
+}
+
+// An end tag `tbody`, `tfoot` or `thead`.
+#[tactic(auto, unfolding(h5_meaning::specs::InTableBody::in_table_body_end_section))]
+fn in_table_body_end_section<S: TreeSink>(
+    sink: &mut S,
+    state: &mut State<S::Handle>,
+    tag: Tag,
+) -> Turn<S::Handle>
+    requires sound { IsSound S.TreeSink sink.old state.old }
+    requires ready { IsReady (world_of S.TreeSink sink.old state.old) }
+    ensures { TakesTag S.TreeSink in_table_body_end_section tag sink.old state.old sink.new state.new result }
+{
+    if has_in_table_scope(sink, state, &Local(&tag.name)) {
+        clear_to_table_body_context(sink, state);
+        pop(sink, state);
+        set_mode(sink, state, InsertionMode::InTable);
+        Ok(ProcessResult::Done)
+    } else {
+        unexpected_tag(sink, state, &tag);
+        Ok(ProcessResult::Done)
+    }
+}
+
+/// Whether this is what closes a row group in table scope: a `table`, `tbody` or `tfoot`.
+#[derive(Clone, Copy)]
+struct TableOrSection;
+
+impl NameTest for TableOrSection {
+    ghost use Rattle.h5_meaning.specs.InTableBody.{is_table_or_section};
+
+    ghost holds = { λ t name. is_table_or_section name };
+
+    fn test(&self, name: &QualName) -> bool {
+        is_html_known(name, KnownName::Table)
+            || is_html_known(name, KnownName::Tbody)
+            || is_html_known(name, KnownName::Tfoot)
+    }
+}
+
+// What closes the row group goes by the table then.
+#[tactic(auto, unfolding(h5_meaning::specs::InTableBody::in_table_body_close))]
+fn in_table_body_close<S: TreeSink>(
+    sink: &mut S,
+    state: &mut State<S::Handle>,
+    tag: Tag,
+) -> Turn<S::Handle>
+    requires sound { IsSound S.TreeSink sink.old state.old }
+    requires ready { IsReady (world_of S.TreeSink sink.old state.old) }
+    ensures { TakesTag S.TreeSink in_table_body_close tag sink.old state.old sink.new state.new result }
+{
+    if has_in_table_scope(sink, state, &TableOrSection) {
+        clear_to_table_body_context(sink, state);
+        pop(sink, state);
+        Ok(ProcessResult::Reprocess(InsertionMode::InTable, Token::Tag(tag)))
+    } else {
+        unexpected_tag(sink, state, &tag);
+        Ok(ProcessResult::Done)
+    }
+}
+
+// Whether a start tag of this name closes a row group.
+#[tactic(auto, unfolding(h5_meaning::specs::InTableBody::section_closing_names))]
+fn closes_section(name: &LocalName) -> bool
+    ensures { result ≡ is_one_of section_closing_names name.now }
+{
+    is_any_of(
+        name,
+        &[
+            KnownName::Caption,
+            KnownName::Col,
+            KnownName::Colgroup,
+            KnownName::Tbody,
+            KnownName::Tfoot,
+            KnownName::Thead,
+        ],
+    )
+}
+
+// Whether an end tag of this name is ignored.
+#[tactic(auto, unfolding(h5_meaning::specs::InTableBody::in_table_body_ignored_ends))]
+fn is_ignored_end(name: &LocalName) -> bool
+    ensures { result ≡ is_one_of in_table_body_ignored_ends name.now }
+{
+    is_any_of(
+        name,
+        &[
+            KnownName::Body,
+            KnownName::Caption,
+            KnownName::Col,
+            KnownName::Colgroup,
+            KnownName::Html,
+            KnownName::Td,
+            KnownName::Th,
+            KnownName::Tr,
+        ],
+    )
+}
+
+// Start tags, by their names.
+#[tactic(auto, unfolding(h5_meaning::specs::InTableBody::in_table_body_start))]
+fn in_table_body_start_tag<S: TreeSink>(
+    sink: &mut S,
+    state: &mut State<S::Handle>,
+    tag: Tag,
+) -> Turn<S::Handle>
+    requires sound { IsSound S.TreeSink sink.old state.old }
+    requires ready { IsReady (world_of S.TreeSink sink.old state.old) }
+    ensures { TakesTag S.TreeSink (by_name in_table_body_start (of_tag in_table)) tag sink.old state.old sink.new state.new result }
+{
+    if tag.name.is(KnownName::Tr) {
+        in_table_body_start_row(sink, state, tag)
+    } else if NameSet::TdTh.holds(&tag.name) {
+        in_table_body_start_cell(sink, state, tag)
+    } else if closes_section(&tag.name) {
+        in_table_body_close(sink, state, tag)
+    } else {
+        step_in_table(sink, state, Token::Tag(tag))
+    }
+}
+
+// End tags, by their names.
+#[tactic(auto, unfolding(h5_meaning::specs::InTableBody::in_table_body_end))]
+fn in_table_body_end_tag<S: TreeSink>(
+    sink: &mut S,
+    state: &mut State<S::Handle>,
+    tag: Tag,
+) -> Turn<S::Handle>
+    requires sound { IsSound S.TreeSink sink.old state.old }
+    requires ready { IsReady (world_of S.TreeSink sink.old state.old) }
+    ensures { TakesTag S.TreeSink (by_name in_table_body_end (of_tag in_table)) tag sink.old state.old sink.new state.new result }
+{
+    if is_section(&tag.name) {
+        in_table_body_end_section(sink, state, tag)
+    } else if tag.name.is(KnownName::Table) {
+        in_table_body_close(sink, state, tag)
+    } else if is_ignored_end(&tag.name) {
+        unexpected_tag(sink, state, &tag);
+        Ok(ProcessResult::Done)
+    } else {
+        step_in_table(sink, state, Token::Tag(tag))
+    }
+}
+
+#[tactic(auto, unfolding(h5_meaning::specs::InTableBody::in_table_body_tag))]
+fn in_table_body_tag<S: TreeSink>(
+    sink: &mut S,
+    state: &mut State<S::Handle>,
+    tag: Tag,
+) -> Turn<S::Handle>
+    requires sound { IsSound S.TreeSink sink.old state.old }
+    requires ready { IsReady (world_of S.TreeSink sink.old state.old) }
+    ensures { TakesTag S.TreeSink in_table_body_tag tag sink.old state.old sink.new state.new result }
+{
+    match tag.kind {
+        TagKind::StartTag => in_table_body_start_tag(sink, state, tag),
+        TagKind::EndTag => in_table_body_end_tag(sink, state, tag),
+    }
+}
+
+/// A turn in a row group.
+pub fn step_in_table_body<S: TreeSink>(
+    sink: &mut S,
+    state: &mut State<S::Handle>,
+    token: Token,
+) -> Turn<S::Handle>
+    requires sound { IsSound S.TreeSink sink.old state.old }
+    requires ready { IsReady (world_of S.TreeSink sink.old state.old) }
+    requires text { HasText (turn_text token) }
+    ensures { TakesToken S.TreeSink in_table_body token sink.old state.old sink.new state.new result }
+{
+    match token {
+        Token::Tag(tag) => in_table_body_tag(sink, state, tag),
+        token => step_in_table(sink, state, token),
+    }
+}
