@@ -1,9 +1,9 @@
 -- A plain list of nodes is built below the current node.
-use Rattle.std.proofs.Common.{◌≡◌, ℕ, Bool, true, false, ◌&&◌, List, [], ◌∷◌, codes, refl, ap, cond, subst, sym, ◌∙◌}
-use Rattle.h5_names.specs.AttributeText.{AttributeText}
+use Rattle.std.proofs.Common.{◌≡◌, ℕ, Bool, true, false, ◌&&◌, ◌||◌, List, [], ◌∷◌, codes, refl, ap, cond, subst, sym, ◌∙◌}
+use Rattle.h5_names.specs.AttributeText.{AttributeText, is_same_text}
 use Rattle.h5_names.specs.declared.qualified.QualName.{QualName}
-use Rattle.h5_interface.specs.Changes.{append_text}
-use Rattle.h5_interface.specs.Forest.{Child, ChildNode, ChildText, Forest}
+use Rattle.h5_interface.specs.Changes.{append_text, mark}
+use Rattle.h5_interface.specs.Forest.{Child, ChildNode, ChildText, Forest, IsForest}
 use Rattle.h5_interface.specs.SinkChoices.{SinkChoices}
 use Rattle.h5_fits.specs.Roles.{role_of, role_of_local}
 use Rattle.h5_tag_sets.specs.TagSets.{button_scope_names, heading_names, html_namespace, is_button_scope, is_default_scope, is_heading, is_html_named, is_table_body_context, is_table_row_context, is_table_scope, mathml_namespace, scope_names, svg_namespace, table_body_context_names, table_row_context_names, table_scope_names, void_names}
@@ -14,20 +14,24 @@ use Rattle.h5_stack.specs.Order.{but_first}
 use Rattle.h5_stack.specs.Scope.{first_passes, has_p_in_button_scope}
 use Rattle.h5_meaning.specs.Blanks.{all_blank}
 use Rattle.h5_meaning.specs.World.{World, names_of}
-use Rattle.h5_plain.specs.Plain.{Blocks, Break, Cell, Cells, Division, ElementThen, End, Heading, Inlines, IsPlain, Items, Nodes, Nothing, Paragraph, Rows, Section, Sections, Sort, Table, TableRow, TextThen, Words, end_tag, start_tag}
-use Rattle.h5_stack.specs.FormattingList.{Entry, MarkerEntry}
-use Rattle.h5_plain.proofs.ListedLaws.{OpenFormat, has_link}
+use Rattle.h5_plain.specs.Plain.{Blocks, Break, Cell, Cells, Division, ElementThen, End, Formatted, Heading, Inlines, IsPlain, Items, Link, Nodes, Nothing, Paragraph, Rows, Section, Sections, Sort, Table, TableRow, TextThen, Words, end_tag, start_tag}
+use Rattle.h5_stack.specs.FormattingList.{Entry, MarkerEntry, push_formatting}
+use Rattle.h5_plain.proofs.ListedLaws.{Entries, Fewer, Formats, Kept, Lost, OpenFormat, has_link}
 use Rattle.h5_plain.proofs.BodyRuleLaws.{IsHolder, div_holds, div_outside, div_rule, is_heading_name, p_holds, p_outside, p_rule}
 use Rattle.h5_plain.proofs.BodyStepLaws.{breaks, ends_div, ends_heading, ends_p, starts_block, starts_heading, writes}
-use Rattle.h5_plain.proofs.CalmLaws.{Built, Calm, Opens, after, built_nothing, calm_after, calm_below, element_case, opened}
+use Rattle.h5_plain.proofs.CalmLaws.{Built, Calm, Closed, Opens, after, built_nothing, calm_after, calm_below, element_case, opened}
 use Rattle.h5_plain.proofs.FilledLaws.{Face, face, filled_element, filled_nothing, filled_text, frame_element, frame_text, more, same_faces}
+use Rattle.h5_plain.proofs.FormatListLaws.{closed_fewer, entries_pushed, pushed_fewer, rest_fewer}
+use Rattle.h5_plain.proofs.FormatRuleLaws.{IsFormatName, a_formats, is_inline_name}
+use Rattle.h5_plain.proofs.FormatStepLaws.{ends_kept, ends_lost, formatted, starts_formatting, starts_link}
 use Rattle.h5_plain.proofs.GoesLaws.{Moves}
 use Rattle.h5_plain.proofs.GrowthLaws.{body, html, with_element}
-use Rattle.h5_plain.proofs.LooksLaws.{ends_in_node, ends_in_text}
+use Rattle.h5_plain.proofs.LooksLaws.{ends_in_node, ends_in_text, unlike}
 use Rattle.h5_plain.proofs.ModeLaws.{GoesByBody, ResetsTo, TheBody, TheCell, resets_below, resets_to_cell}
+use Rattle.h5_plain.proofs.RuleLaws.{start}
 use Rattle.h5_plain.proofs.TableBuildsLaws.{cell_case, in_cell, in_part, part_case}
 use Rattle.h5_plain.proofs.TableRuleLaws.{IsCellName, is_cell_name, row_holds, row_rule, section_holds, section_rule, table_holds}
-use Rattle.h5_plain.proofs.TableStepLaws.{Ends, ends_row, ends_section, ends_table, starts_part, starts_table}
+use Rattle.h5_plain.proofs.TableStepLaws.{Ends, ends_row, ends_section, ends_table, same_marked, starts_part, starts_table}
 
 -- the mode and the names of the open elements where such nodes may come
 abbrev pub Fits : Sort → InsertionMode → List QualName → Type 0
@@ -85,6 +89,10 @@ open_of _ path = []
 abbrev pub Unlinked : Sort → List OpenFormat → Type 0
 Unlinked (Inlines after_text false) path = has_link path ≡ false
 Unlinked _ path = Unit {0}
+
+unlinked_in : (after_text linked : Bool) (n : ℕ) (name : List ℕ) (path : List OpenFormat) → is_same_text name (codes "a") ≡ false → Unlinked (Inlines after_text linked) path → Unlinked (Inlines false linked) (Formats n name ∷ path)
+unlinked_in after_text true n name path h u = tt
+unlinked_in after_text false n name path h u = ap (λ b. b || has_link path) h ∙ u
 
 -- a block: the formatting list stays as it is
 module _ (choices : SinkChoices) {w : World} {p : ℕ} {d : Face} {names : List QualName} {under : List ℕ} {base : List Entry} (c : Calm w p d names [] under base) (name : List ℕ) (attrs : List AttributeText) where
@@ -166,6 +174,55 @@ module _ (choices : SinkChoices) {w : World} {p : ℕ} {d : Face} {names : List 
         fewer = y.fewer;
       }
 
+-- a formatting element and the rest: it is listed while it is open, unless a fourth alike comes inside it
+module _ (choices : SinkChoices) {w : World} {p : ℕ} {d : Face} {names : List QualName} {path : List OpenFormat} {under : List ℕ} {base : List Entry} (c : Calm w p d names path under base) (name : List ℕ) (attrs : List AttributeText) where
+  abbrev in_format : World
+  in_format = formatted choices c name attrs
+
+  abbrev its_node : ℕ
+  its_node = choices.fresh w.forest
+
+  opens_format : IsHolder name → Moves choices (start_tag name attrs) w in_format
+      → Opens choices w p d name attrs w.mode (push_formatting its_node (start name attrs) w.formatting) w.frameset_ok (Formats its_node name ∷ path) under base
+  opens_format h m = record {
+    has_end = h.has_end;
+    no_template = h.no_template;
+    moves = m;
+    are_open = ap (λ s. its_node ∷ s) c.are_open;
+    is_base = c.is_base;
+    entries = entries_pushed its_node name attrs c.is_base (c.unlisted its_node (choices.fresh_is_new w.forest c.is_forest)) c.entries;
+    unlisted = λ n e x. pushed_fewer its_node (start name attrs) w.formatting n e (unlike n its_node x);
+  }
+
+  -- its end tag
+  closes_format : (f : Forest) (l : List Entry) (ok : Bool) → IsFormatName name → GoesByBody w.mode → IsForest f → names_of (after in_format f l ok) ≡ html_name name ∷ names
+      → Entries base (Formats its_node name ∷ path) l → Fewer l (push_formatting its_node (start name attrs) w.formatting) → Closed choices name (after in_format f l ok) w path base
+  closes_format f l ok k m i e (Kept {attrs = a} {l = older} o r) x = record {
+    forest = f;
+    formatting = older;
+    moves = ends_kept choices (after in_format f l ok) its_node w.stack names name k m c.ignore_lf refl e (start name a) older k.same refl;
+    same = same_faces f i;
+    entries = r;
+    fewer = closed_fewer its_node (start name attrs) w.formatting older o (rest_fewer its_node (start name a) older (push_formatting its_node (start name attrs) w.formatting) x);
+  }
+  closes_format f l ok k m i e (Lost o r) x = record {
+    forest = mark (choices.marks_after_pop f its_node) f;
+    formatting = l;
+    moves = ends_lost choices (after in_format f l ok) its_node w.stack names name k m c.ignore_lf refl e o;
+    same = same_marked f (choices.marks_after_pop f its_node) i;
+    entries = r;
+    fewer = closed_fewer its_node (start name attrs) w.formatting l o x;
+  }
+
+  format_case : (inner rest : Nodes) → IsFormatName name → GoesByBody w.mode → Moves choices (start_tag name attrs) w in_format
+      → (Calm in_format its_node (face name attrs) (html_name name ∷ names) (Formats its_node name ∷ path) under base → Built choices in_format its_node (face name attrs) inner (Formats its_node name ∷ path) base)
+      → ((f : Forest) (k : List Entry) (b : Bool) → Calm (after w f k b) p (more d (ChildNode its_node ∷ [])) names path under base → Built choices (after w f k b) p (more d (ChildNode its_node ∷ [])) rest path base)
+      → Built choices w p d (ElementThen name attrs inner rest) path base
+  format_case inner rest k m moves fill next =
+      element_case choices w p d name attrs w.mode (push_formatting its_node (start name attrs) w.formatting) w.frameset_ok (Formats its_node name ∷ path) under base c (opens_format k.holds moves) inner rest fill
+      (λ i e. closes_format i.forest i.formatting i.ok k m i.filled.frame.is_forest e i.entries i.fewer)
+      next
+
 -- THE INDUCTION: from any calm builder, the tokens of plain nodes lead to it again, but for those nodes below its
 -- current node, the formatting list and the frameset flag
 pub builds : (choices : SinkChoices) {s : Sort} {nodes : Nodes} → IsPlain s nodes → (w : World) (p : ℕ) (d : Face) (names : List QualName) (path : List OpenFormat) (under : List ℕ) (base : List Entry)
@@ -222,3 +279,14 @@ builds choices (Words {linked} {first} {more = further} {rest} a r) w p d names 
 builds choices (Break {after_text} {linked} {attrs} {rest} a r) w p d names path under base f z l c =
     break_case choices c f attrs rest
     (λ q. builds choices r (broken choices c f attrs) p (more d (ChildNode (choices.fresh w.forest) ∷ [])) names path under base f (ends_in_node (choices.fresh w.forest) d.children) l q)
+builds choices (Formatted {after_text} {linked} {name} {attrs} {inner} {rest} h a i r) w p d names path under base f z l c =
+    let n = choices.fresh w.forest in
+    let x = is_inline_name name h in
+    format_case choices c name attrs inner rest x.formats f (starts_formatting choices c name attrs x f)
+    (λ o. builds choices i (in_format choices c name attrs) n (face name attrs) (html_name name ∷ names) (Formats n name ∷ path) under base f refl (unlinked_in after_text linked n name path x.no_link l) o)
+    (λ g k b q. builds choices r (after w g k b) p (more d (ChildNode n ∷ [])) names path under base f (ends_in_node n d.children) l q)
+builds choices (Link {after_text} {attrs} {inner} {rest} a i r) w p d names path under base f z l c =
+    let n = choices.fresh w.forest in
+    format_case choices c (codes "a") attrs inner rest a_formats f (starts_link choices c attrs f l)
+    (λ o. builds choices i (in_format choices c (codes "a") attrs) n (face (codes "a") attrs) (html_name (codes "a") ∷ names) (Formats n (codes "a") ∷ path) under base f refl tt o)
+    (λ g k b q. builds choices r (after w g k b) p (more d (ChildNode n ∷ [])) names path under base f (ends_in_node n d.children) l q)

@@ -4,6 +4,9 @@ mod BuildsLaws
 mod CalmLaws
 mod CutGoesLaws
 mod FilledLaws
+mod FormatListLaws
+mod FormatRuleLaws
+mod FormatStepLaws
 pub mod GoesLaws
 pub mod GrowthLaws
 mod ListedLaws

@@ -17,7 +17,7 @@ looks_node f n k a cs l = node_of_kind f n k l.is_kind
 pub apart_from : (f : Forest) (n m : ℕ) → f.node n ≡ None → IsNode f m → m ≢ n
 apart_from f n m new there e = there (ap f.node e ∙ new)
 
-unlike : (n m : ℕ) → n ≢ m → (n == m) ≡ false
+pub unlike : (n m : ℕ) → n ≢ m → (n == m) ≡ false
 unlike n m h = at (n == m) refl
   where
     at : (b : Bool) → (n == m) ≡ b → (n == m) ≡ false

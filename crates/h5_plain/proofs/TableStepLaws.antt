@@ -105,7 +105,7 @@ pub record Ends (choices : SinkChoices) (name : List ℕ) (w : World) (m : Inser
   pub moves : Moves choices (end_tag name) w (record w { forest = forest; mode = m; stack = but_first w.stack })
 
 -- marks alone are others
-same_marked : (f : Forest) (marks : ℕ → Marks) → IsForest f → SameFaces f (mark marks f)
+pub same_marked : (f : Forest) (marks : ℕ → Marks) → IsForest f → SameFaces f (mark marks f)
 same_marked f marks k =
     let r = mark_rearranges f marks k in
     record { is_forest = r.is_forest; document = r.same_document; kinds = r.same_kind; all = λ n e l. looks_marked f n marks e.kind e.attrs e.children l }

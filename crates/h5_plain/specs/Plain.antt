@@ -41,6 +41,10 @@ abbrev pub NoNul : List ℕ → Type 0
 NoNul [] = Unit {0}
 NoNul (b ∷ t) = (b ≢ 0) × NoNul t
 
+-- the formatting elements that may be nested in each other, and each in itself
+unfoldable pub inline_names : List (List ℕ)
+inline_names = codes "b" ∷ codes "i" ∷ codes "em" ∷ codes "code" ∷ []
+
 -- what a list of nodes is for: what a block holds, text and what stands in it, what a list holds, what a table, its
 -- sections and its rows hold. Of inlines: whether a text stands right before them, and whether they are in a link
 pub data Sort : Type 0 where
@@ -78,6 +82,12 @@ pub data IsPlain : Sort → Nodes → Type 0 where
   -- a `br`
   Break : {after_text linked : Bool} {attrs : List AttributeText} {rest : Nodes} → ArePlain attrs → IsPlain (Inlines false linked) rest
       → IsPlain (Inlines after_text linked) (ElementThen (codes "br") attrs End rest)
+  -- a `b`, `i`, `em` or `code` of inlines
+  Formatted : {after_text linked : Bool} {name : List ℕ} {attrs : List AttributeText} {inner rest : Nodes} → is_one_of inline_names name ≡ true → ArePlain attrs
+      → IsPlain (Inlines false linked) inner → IsPlain (Inlines false linked) rest → IsPlain (Inlines after_text linked) (ElementThen name attrs inner rest)
+  -- a link, which is an `a` of inlines, outside of any other
+  Link : {after_text : Bool} {attrs : List AttributeText} {inner rest : Nodes} → ArePlain attrs
+      → IsPlain (Inlines false true) inner → IsPlain (Inlines false false) rest → IsPlain (Inlines after_text false) (ElementThen (codes "a") attrs inner rest)
 
 -- an `html` of a `head`, empty so far, and a `body` of blocks
 pub record PlainDocument : Type 0 where
