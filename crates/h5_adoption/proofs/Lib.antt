@@ -8,8 +8,6 @@ pub mod NestLaws
 pub mod OpenLaws
 pub mod RelistLaws
 pub mod RelistsLaws
-pub mod RenewLaws
 pub mod RoundLaws
-pub mod SeenLaws
 pub mod StackPushLaws
 pub mod ViewLaws

@@ -2,19 +2,19 @@
 use Rattle.std.proofs.Common.{◌≡◌, ◌+◌, ◌<◌, ◌≤◌, ℕ, get_or, Bool, true, false, cond, ◌||◌, Some, None, List, [], ◌∷◌, ◌++◌, length, length-append, map, reverse, take, drop, inl, inr, refl, ap, sym, subst, ◌∙◌, arith}
 use Rattle.std.specs.List.{list_any}
 use Rattle.std.specs.Prelude.{◌==◌}
-use Rattle.std.proofs.lemmas.Bool.{eqb-true, eqb-false}
+use Rattle.std.proofs.lemmas.Bool.{eqb-false}
 use Rattle.std.proofs.lemmas.List.{length-map, length-reverse, length-take, map-append, reverse-append, take-append-drop, take_more}
 use Rattle.h5_tag_sets.specs.TagSets.{is_special}
-use Rattle.h5_stack.specs.Adoption.{block_or, furthest_block, newer_than, older_than, without_node}
+use Rattle.h5_stack.specs.Adoption.{block_or, furthest_block, newer_than, older_than}
 use Rattle.h5_stack.specs.Order.{IsIn}
-use Rattle.h5_stack.proofs.PassLaws.{stack_split, without_node_split}
+use Rattle.h5_stack.proofs.PassLaws.{stack_split}
 use Rattle.h5_meaning.specs.World.{World, name_in}
 use Rattle.h5_state.specs.View.{open_node, stack_under}
 use Rattle.h5_state.specs.declared.open_element.OpenElement.{OpenElement}
 use Rattle.h5_state.specs.declared.state.State.{State}
 use Rattle.h5_state.proofs.StackLaws.{seen_pushed}
-use Rattle.h5_adoption.specs.Places.{IsBlockAt, IsOpenAt}
-use Rattle.h5_adoption.proofs.SeenLaws.{seen_removed}
+use Rattle.h5_state.specs.Places.{IsOpenAt}
+use Rattle.h5_adoption.specs.Places.{IsBlockAt}
 
 -- an element stands at this place, counted from the oldest
 pub record StandsAt (n place : ℕ) (s : List ℕ) : Type 0 where
@@ -35,10 +35,6 @@ stands_left n place m s k h = at (m == n) refl k.is_in k.here
     at true e i c = absurd (omega (arith, c, h))
     at false e (inl i) c = absurd (eqb-false m n e (sym i))
     at false e (inr i) c = (record { is_in = i; here = c }, refl)
-
--- the first of those that are left is it
-pub found_first : (n m : ℕ) (s left : List ℕ) → left ≡ m ∷ s → (m == n) ≡ true → IsIn n left × (older_than n left ≡ s)
-found_first n m s left e h = (subst (IsIn n) (sym e) (inl (sym (eqb-true m n h))), ap (older_than n) e ∙ ap (λ b. cond b s (older_than n s)) h)
 
 pub one_left : (p : ℕ → Bool) (n place m : ℕ) (s left : List ℕ) → left ≡ m ∷ s → StandsAt n place left → place < length s → StandsAt n place s × (list_any p (newer_than n left) ≡ (p m || list_any p (newer_than n s)))
 one_left p n place m s left e k h =
@@ -116,10 +112,6 @@ block_at n place at m newer left w k cut e above is none =
       found = ap (furthest_block special) same ∙ furthest_cut special newer m (newer_than n left) is none;
       here = omega (arith, e, two.0.here, length_split n left two.0.is_in);
     }
-
--- the stack without the element at a place
-pub left_out : {X : Type 0} (f : X → ℕ) (xs ys : List X) (n place : ℕ) (s : List ℕ) → s ≡ reverse (map f xs) → IsIn n s → place ≡ length (older_than n s) → ys ≡ take place xs ++ drop (place + 1) xs → reverse (map f ys) ≡ without_node n s
-left_out f xs ys n place s e i h is = seen_removed f xs ys place (newer_than n s) (older_than n s) n is (sym e ∙ stack_split n s i) h ∙ sym (without_node_split n s i)
 
 -- one more of the oldest
 pub under_more : {H : Type 0} (node : H → ℕ) (state : State H) (place : ℕ) → place < length (reverse (map (open_node node) state.open_elems.items)) → (n : ℕ) × (stack_under node state (place + 1) ≡ n ∷ stack_under node state place)

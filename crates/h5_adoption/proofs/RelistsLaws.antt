@@ -23,7 +23,7 @@ use Rattle.h5_state.specs.View.{open_node, stack_under}
 use Rattle.h5_state.specs.declared.state.State.{State}
 use Rattle.h5_adoption.specs.Relists.{Relists}
 use Rattle.h5_adoption.proofs.RelistLaws.{first_walked, list_walked, round_above, round_alone}
-use Rattle.h5_adoption.proofs.SeenLaws.{seen_at}
+use Rattle.h5_state.proofs.SeenLaws.{seen_at}
 
 -- what holds, holds where there is a value
 pub on_ok : {T E P : Type 0} (r : Result T E) → P → OnOk r P

@@ -3,7 +3,7 @@ use Rattle.std.proofs.Common.{◌≡◌, ℕ, List, [], ◌∷◌, ◌++◌, app
 use Rattle.std.proofs.lemmas.List.{append_cancel_right}
 use Rattle.h5_meaning.specs.World.{World}
 use Rattle.h5_state.specs.View.{with_stack}
-use Rattle.h5_adoption.proofs.SeenLaws.{seen-cons}
+use Rattle.h5_state.proofs.SeenLaws.{seen-cons}
 
 -- what a stack has more than it had was put on top of a list, too
 pub record Carried (low high old new : List ℕ) : Type 0 where

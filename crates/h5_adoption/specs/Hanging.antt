@@ -1,5 +1,5 @@
 -- What may be hung elsewhere, and clones that were made.
-use Rattle.std.specs.Prelude.{◌≡◌, ◌≢◌, ℕ, ◌-◌, List, [], ◌∷◌, ◌++◌, map, take, Option, Some, None}
+use Rattle.std.specs.Prelude.{◌≢◌, ℕ, ◌-◌, List, [], ◌∷◌, ◌++◌, map, take, Option, Some, None}
 use Rattle.h5_token.specs.TokenText.{TagText}
 use Rattle.h5_interface.specs.Forest.{DocumentNode, Forest, FragmentNode, IsNode, kind_of}
 use Rattle.h5_interface.specs.SinkChoices.{SinkChoices}
@@ -10,7 +10,7 @@ use Rattle.h5_meaning.specs.AdoptionAgency.{IsLoose, MayAdopt, Nest, wrapped}
 use Rattle.h5_meaning.specs.World.{World, names_of}
 use Rattle.h5_state.specs.View.{stack_under}
 use Rattle.h5_state.specs.declared.state.State.{State}
-use Rattle.h5_adoption.specs.Places.{IsOpenAt}
+use Rattle.h5_state.specs.Places.{IsOpenAt}
 use Rattle.h5_adoption.specs.declared.clones.Clones.{Clones}
 
 -- a node that may be hung elsewhere

@@ -2,13 +2,8 @@
 use Rattle.std.specs.Prelude.{ℕ, List, map, reverse, take}
 use Rattle.h5_stack.specs.FormattingList.{Entry}
 use Rattle.h5_state.specs.View.{entry_of}
-use Rattle.h5_state.specs.declared.open_element.Summary.{Summary}
 use Rattle.h5_state.specs.declared.state.State.{State}
 
 -- the oldest entries, so many of them, the newest first
 unfoldable pub list_under : {H : Type 0} → (H → ℕ) → State H → ℕ → List Entry
 list_under node state count = reverse (map (entry_of node) (take count state.active_formatting.items))
-
--- what is kept beside the oldest open elements, so many of them, the newest first
-unfoldable pub kept_under : {H : Type 0} → State H → ℕ → List Summary
-kept_under state count = reverse (map (λ element. element.summary) (take count state.open_elems.items))

@@ -10,16 +10,16 @@ ghost use Rattle.h5_meaning.specs.World.{World};
 ghost use Rattle.h5_state.specs.Steps.{IsSound, MakesIfOk, errors_of, world_of};
 ghost use Rattle.h5_adoption.specs.Becomes.{Becomes, BecomesIfOk};
 ghost use Rattle.h5_adoption.specs.Rounds.{IsFound, SomeFound, SomeOpen, adopt_open, then_again};
-ghost use Rattle.h5_adoption.specs.Places.{IsOpenAt};
+ghost use Rattle.h5_state.specs.Places.{IsOpenAt};
 
 use super::ask::is_current_unlisted;
-use super::ends::{close_named, close_through, remove_from_stack, unlist};
-use super::find::{find_block, find_entry, find_formatting_element, find_open, scope_ends_above};
+use super::ends::{close_named, close_through, unlist};
+use super::find::{find_block, find_entry, find_formatting_element, scope_ends_above};
 use super::round::adopt;
 use super::walk::element_at;
 use h5_interface::TreeSink;
 use h5_names::{KnownName, LocalName};
-use h5_state::{State, pop};
+use h5_state::{State, find_open, pop, remove_from_stack};
 use std::alloc::AllocError;
 
 // Where the formatting element has no furthest block, the elements up to and with it are popped, and its entry goes.

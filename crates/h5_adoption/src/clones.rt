@@ -9,9 +9,9 @@ ghost use Rattle.h5_adoption.specs.Hanging.{IsLooseOver, nest_of, open_between, 
 
 use super::find::find_entry;
 use super::hang::wrap;
-use super::walk::{entry_at, handle_at};
+use super::walk::entry_at;
 use h5_interface::TreeSink;
-use h5_state::State;
+use h5_state::{State, handle_at};
 use h5_token::Tag;
 use h5_types::FormatEntry;
 use std::alloc::AllocError;

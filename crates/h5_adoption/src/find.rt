@@ -7,33 +7,14 @@ ghost use Rattle.h5_stack.specs.FormattingList.{nodes_of};
 ghost use Rattle.h5_stack.specs.Order.{is_in};
 ghost use Rattle.h5_meaning.specs.World.{name_in};
 ghost use Rattle.h5_state.specs.Steps.{IsSound, world_of};
-ghost use Rattle.h5_adoption.specs.Places.{IsBlockAt, IsEntryAt, IsListedAt, IsOpenAt};
+ghost use Rattle.h5_state.specs.Places.{IsOpenAt};
+ghost use Rattle.h5_adoption.specs.Places.{IsBlockAt, IsEntryAt, IsListedAt};
 
-use super::walk::{ends_scope, entry_at, entry_count, handle_at, open_at, open_count};
+use super::walk::{ends_scope, entry_at, entry_count, open_at, open_count};
 use h5_interface::TreeSink;
 use h5_names::LocalName;
 use h5_state::State;
 use h5_types::FormatEntry;
-
-/// Where an element is open, counted from the root; the walk begins at the current node.
-pub fn find_open<S: TreeSink>(
-    sink: &S,
-    state: &State<S::Handle>,
-    handle: &S::Handle,
-) -> Option<usize>
-    ensures found { is_some result ≡ is_in (S.node handle.now) (world_of S.TreeSink sink.now state.now).stack }
-    ensures place { MatchOption result (Unit {0}) (λ place. IsOpenAt (S.node handle.now) place (world_of S.TreeSink sink.now state.now)) }
-    ensures inside { MatchOption result (Unit {0}) (λ place. place < length (world_of S.TreeSink sink.now state.now).stack) }
-{
-    let mut place = open_count(sink, state);
-    'down: while place > 0 {
-        place -= 1;
-        if sink.same_node(handle_at(sink, state, place), handle) {
-            return Some(place);
-        }
-    }
-    None
-}
 
 /// Where the formatting element of a name is listed: the newest entry of the name after the last marker.
 pub fn find_formatting_element<S: TreeSink>(

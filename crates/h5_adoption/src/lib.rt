@@ -9,7 +9,6 @@ mod find;
 mod hang;
 mod list;
 mod place;
-mod renew;
 mod round;
 mod stack;
 mod walk;

@@ -11,9 +11,8 @@ ghost use Rattle.h5_adoption.specs.Becomes.{BecomesIfOk};
 ghost use Rattle.h5_adoption.specs.Relists.{Relists};
 
 use super::find::find_entry;
-use super::walk::handle_at;
 use h5_interface::TreeSink;
-use h5_state::State;
+use h5_state::{State, handle_at};
 use h5_types::FormatEntry;
 use std::alloc::AllocError;
 

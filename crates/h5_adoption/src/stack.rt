@@ -5,10 +5,9 @@ ghost use Rattle.h5_state.specs.Steps.{IsSound, world_of};
 ghost use Rattle.h5_state.specs.View.{stack_under};
 ghost use Rattle.h5_adoption.specs.Becomes.{Becomes, BecomesIfOk};
 
-use super::renew::all_under;
-use super::walk::{handle_at, open_count};
+use super::walk::open_count;
 use h5_interface::TreeSink;
-use h5_state::{OpenElement, State, Summary};
+use h5_state::{OpenElement, State, Summary, all_under, handle_at};
 use std::alloc::AllocError;
 
 // Clones are pushed, the last of them first.

@@ -25,20 +25,6 @@ pub fn open_count<S: TreeSink>(sink: &S, state: &State<S::Handle>) -> usize
     state.open_elems.len()
 }
 
-/// The handle of the open element at a place.
-#[tactic(auto, unfolding(h5_state::specs::View::world, h5_state::specs::View::stack_under))]
-pub fn handle_at<'a, S: TreeSink>(
-    sink: &S,
-    state: &'a State<S::Handle>,
-    place: usize,
-) -> &'a S::Handle
-    requires { place < length (world_of S.TreeSink sink.now state.now).stack }
-    ensures stack { stack_under S.node state.now (place + 1) ≡ S.node result.now ∷ stack_under S.node state.now place }
-    ensures count { length (stack_under S.node state.now place) ≡ place }
-{
-    &state.open_elems[place].handle
-}
-
 /// The open element at a place, and what is kept beside it.
 #[tactic(auto, unfolding(h5_state::specs::View::world, h5_state::specs::View::stack_under))]
 pub fn open_at<'a, S: TreeSink>(

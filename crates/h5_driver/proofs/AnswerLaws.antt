@@ -19,25 +19,26 @@ use Rattle.h5_meaning.specs.BeforeHead.{before_head_else, before_head_end, befor
 use Rattle.h5_meaning.specs.ByName.{Rules, by_kind, by_name, ignored_tag, of_tag}
 use Rattle.h5_meaning.specs.BeforeHtml.{before_html_else, before_html_end, before_html_start, before_html_tag}
 use Rattle.h5_meaning.specs.Changes.{set_mode, set_foster}
-use Rattle.h5_meaning.specs.InBody.{body_ends, body_in_scope, current_is, if_body_in_scope, in_body_end_block, in_body_end_heading, in_body_end_other, in_body_end_p, in_body_end, in_body_start, in_body_start_other, in_body_start_body, in_body_tag, inserts, is_quirks, in_body, in_body_start_table}
+use Rattle.h5_meaning.specs.InBody.{body_ends, body_in_scope, if_body_in_scope, in_body_end_block, in_body_end_heading, in_body_end_other, in_body_end_p, in_body_end, in_body_start, in_body_start_other, in_body_start_body, in_body_tag, is_quirks, in_body, in_body_start_table}
 use Rattle.h5_meaning.specs.InHead.{in_head_else, in_head_end, in_head_start, in_head_tag}
 use Rattle.h5_meaning.specs.InitialMode.{initial_else, initial}
 use Rattle.h5_meaning.specs.Modes.{rule}
 use Rattle.h5_meaning.specs.Rows.{AddAttrsToHtml, AddAttrsToSecond, Again, AgainBy, Answers, ClosePElement, Ending, GenerateImpliedEnd, GenerateImpliedEndExcept, InsertElement, IsAcknowledged, IsDone, PopUntilHeading, PopUntilNamed, Row, SetFramesetNotOk, SetMode, SetQuirksMode, changed_by, choose, errs, ignored, next_mode, row, row_if, Change, ClearActiveFormattingToMarker, ClosePElementInButtonScope, InsertAndPopElement, InsertAndPopForm, Pop, PopUntilCurrent, ResetMode, SaveMode}
 use Rattle.h5_meaning.specs.Run.{View, doctype_in, reply_to, step, taken, tell_or_refuse, text_step, without_lf}
 use Rattle.h5_meaning.specs.Settle.{Settled, answer_of, settle, settle_within, then_turns}
-use Rattle.h5_meaning.specs.Shared.{in_body_start_html}
+use Rattle.h5_meaning.specs.Shared.{current_is, in_body_start_html, inserts, is_type_hidden}
 use Rattle.h5_meaning.specs.World.{World, names_of}
 use Rattle.h5_meaning.proofs.RunLaws.{is_taken}
 use Rattle.h5_meaning.specs.InCaption.{in_caption, close_the_caption, in_caption_end, in_caption_start, in_caption_tag}
 use Rattle.h5_meaning.specs.InCell.{in_cell, close_the_cell, in_cell_end, in_cell_end_cell, in_cell_end_structure, in_cell_start, in_cell_start_structure, in_cell_tag}
 use Rattle.h5_meaning.specs.InColumnGroup.{in_column_group, close_the_column_group, in_column_group_else, in_column_group_end, in_column_group_start, in_column_group_tag}
 use Rattle.h5_meaning.specs.InRow.{in_row, close_the_row, in_row_end, in_row_end_section, in_row_start, in_row_tag}
-use Rattle.h5_meaning.specs.InTable.{in_table, in_table_else, in_table_end, in_table_end_table, in_table_start, in_table_start_form, in_table_start_input, in_table_start_table, in_table_tag, in_table_text_or_null, is_type_hidden, keeps_text}
+use Rattle.h5_meaning.specs.InTable.{in_table, in_table_else, in_table_end, in_table_end_table, in_table_start, in_table_start_form, in_table_start_input, in_table_start_table, in_table_tag, in_table_text_or_null, keeps_text}
 use Rattle.h5_meaning.specs.InTableBody.{in_table_body, in_table_body_close, in_table_body_end, in_table_body_end_section, in_table_body_start, in_table_body_tag, is_table_or_section}
 use Rattle.h5_meaning.specs.InTableText.{in_table_text_else, in_table_text}
 use Rattle.h5_meaning.specs.Reset.{reset_mode}
 use Rattle.h5_meaning.specs.Tables.{foster, in_table_scope, named_in_table_scope}
+use Rattle.h5_meaning.proofs.BodyRowLaws.{EndsAtOnce, IsBodyRow, row_end_by, row_start}
 
 -- a row that answers nothing of its own
 abbrev Silent : Ending → Type 0
@@ -88,43 +89,30 @@ unfolding after_head_start after_head_end
 after_head StartTag tag w = silent_by_name after_head_start (of_tag after_head_else) tag w (start_html tag w, (tt, (tt, tt))) tt
 after_head EndTag tag w = silent_by_name after_head_end ignored_tag tag w (tt, (tt, tt)) tt
 
-body_start : (tag : TagText) (w : World) → Silent (by_name in_body_start in_body_start_other tag w).ending
-unfolding in_body_start in_body_start_body in_body_start_table
-body_start tag w = silent_by_name in_body_start in_body_start_other tag w (
-  start_html tag w,
-  (
-    choose_silent (second_is (codes "body") (names_of w) && not (has_template (names_of w))) (errs (SetFramesetNotOk ∷ AddAttrsToSecond tag.attrs ∷ []) IsDone) ignored tt tt,
-    (tt, (tt, (tt, (tt, (tt, (tt, (choose_silent (is_quirks w.quirks) (row opens IsDone) (row_if (not (has_p_in_button_scope (names_of w))) (ClosePElementInButtonScope ∷ opens) IsDone) tt tt, (tt, tt)))))))),
-  ),
-) tt
-  where
-    opens : List Change
-    opens = inserts tag ∷ SetFramesetNotOk ∷ SetMode InTable ∷ []
+ends_silent : (x : Ending) → EndsAtOnce x → Silent x
+ends_silent IsDone h = tt
+ends_silent IsAcknowledged h = tt
+ends_silent (Again m) h = tt
+ends_silent (AgainBy m) h = tt
+ends_silent (Answers r) h = h
 
-body_end : (tag : TagText) (w : World) → Silent (by_name in_body_end in_body_end_other tag w).ending
-unfolding in_body_end if_body_in_scope in_body_end_block in_body_end_p in_body_end_heading in_body_end_other
-body_end tag w = silent_by_name in_body_end in_body_end_other tag w (
-  choose_silent (body_in_scope w) (body_ends [] (Again AfterBody) w) ignored tt tt,
-  (
-    choose_silent (body_in_scope w) (body_ends (SetMode AfterBody ∷ []) IsDone w) ignored tt tt,
-    (
-      choose_silent (in_scope (is_html_named tag.name) is_default_scope (names_of w)) (row_if (current_is tag.name w) (GenerateImpliedEnd ∷ PopUntilNamed tag.name ∷ []) IsDone) ignored tt tt,
-      (
-        choose_silent (has_p_in_button_scope (names_of w)) (row_if (current_is (codes "p") w) (ClosePElement ∷ []) IsDone) (errs (InsertElement (codes "p") [] false ∷ ClosePElement ∷ []) IsDone) tt tt,
-        (choose_silent (in_scope is_heading is_default_scope (names_of w)) (row_if (current_is tag.name w) (GenerateImpliedEnd ∷ PopUntilHeading ∷ []) IsDone) ignored tt tt, (tt, (tt, (tt, tt)))),
-      ),
-    ),
-  ),
-)
-    (choose_silent (comes_before_special tag.name (names_of w)) (errs (GenerateImpliedEndExcept tag.name ∷ PopUntilNamed tag.name ∷ []) IsDone) ignored tt tt)
+abbrev RowIsSilent : Row → Type 0
+RowIsSilent r = Silent r.ending
+
+row_silent : (r : Row) → IsBodyRow r → RowIsSilent r
+row_silent r b = ends_silent r.ending b.ends
+
+end_html : (w : World) → RowIsSilent (if_body_in_scope (body_ends [] (Again AfterBody) w) w)
+unfolding if_body_in_scope
+end_html w = choose_silent (body_in_scope w) (body_ends [] (Again AfterBody) w) ignored tt tt
 
 body_tag : (tag : TagText) (w : World) → Silent (in_body_tag tag w).ending
 unfolding in_body_tag
 body_tag tag w = at tag.kind
   where
     at : (k : TagKind) → Silent (by_kind k (by_name in_body_start in_body_start_other tag w) (by_name in_body_end in_body_end_other tag w)).ending
-    at StartTag = body_start tag w
-    at EndTag = body_end tag w
+    at StartTag = row_silent _ (row_start tag w)
+    at EndTag = row_end_by tag w RowIsSilent row_silent (λ p. end_html w)
 
 body : (t : TurnText) (w : World) → Silent (in_body t w).ending
 body (TagTurn tag) w = body_tag tag w

@@ -12,7 +12,7 @@ use Rattle.h5_fits.proofs.BoolLaws.{and_not, or_neither}
 use Rattle.h5_fits.proofs.NameLaws.{frame_while}
 use Rattle.h5_fits.proofs.RoleSetLaws.{all_pass, set_passes}
 
-plain_only : (x : Role) → is_plain x ≡ true → x ≡ PlainRole
+pub plain_only : (x : Role) → is_plain x ≡ true → x ≡ PlainRole
 plain_only PlainRole h = refl
 plain_only _ h = absurd (cc)
 

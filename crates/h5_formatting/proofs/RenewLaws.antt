@@ -10,6 +10,7 @@ use Rattle.h5_stack.specs.FormattingNames.{AllFormatting, AllOfTags, IsOfTag}
 use Rattle.h5_stack.specs.Places.{NoMarker}
 use Rattle.h5_stack.proofs.ReconstructLaws.{front_split, rewinds_to}
 use Rattle.h5_meaning.specs.Changes.{insert_element}
+use Rattle.h5_meaning.specs.FormOwner.{form_owner}
 use Rattle.h5_meaning.specs.Formatting.{insert_anew, insert_for, reconstruct_active_formatting_elements}
 use Rattle.h5_meaning.specs.Place.{appropriate_place}
 use Rattle.h5_meaning.specs.Sound.{Sound}
@@ -145,7 +146,7 @@ module _ (choices : SinkChoices) (w : World) (todo : List Entry) (n : ℕ) (t : 
   cut = append_assoc todo (entry ∷ []) older
 
   renewed_partly : renewed choices here before ≡ partly choices todo (entry ∷ done) w
-  unfolding insert_element appropriate_place
+  unfolding insert_element appropriate_place form_owner names_of
   renewed_partly =
       let m = choices.fresh (insert_anew choices done w).forest in
       ap (λ e. renewed_by choices here e before) (ap (entry_at here) cut ∙ entry_at_cut here todo entry older older_many)

@@ -35,6 +35,7 @@ use Rattle.h5_meaning.proofs.FormattingLaws.{AllListedOpen, reconstruct_opens, r
 use Rattle.h5_meaning.proofs.NameLaws.{names-cut, names-implied}
 use Rattle.h5_meaning.proofs.PopLaws.{all_cut, names-pop}
 use Rattle.h5_meaning.proofs.SoundLaws.{all_tail}
+use Rattle.h5_stack.specs.Lists.{Lists}
 
 -- all stands, the list agrees with the stack, and nodes stayed what they were
 pub record Keeps (w v : World) : Type 0 where
@@ -201,28 +202,22 @@ all_left f a r n some k = record {
   formatting = k.formatting;
 }
 
--- one that isn't the root leaves list and stack
-pub removed_ready : (choices : SinkChoices) (n : ℕ) (w : World) → IsReady w → is_html_named (codes "html") (name_in w.forest n) ≡ false → LeavesReady w (unlist_and_remove choices n w)
+-- and the sink is told
+pub taken_ready : (choices : SinkChoices) (n : ℕ) (w : World) → IsReady w → is_html_named (codes "html") (name_in w.forest n) ≡ false → Lists (without_node n w.stack) w.formatting → LeavesReady w (remove_from_stack choices n w)
 unfolding remove_from_stack names_of
-removed_ready choices n w ready other = at (is_in n w.stack) refl
+taken_ready choices n w ready other lists = at (is_in n w.stack) refl
   where
-    left : World
-    left = record w { formatting = without_entry n w.formatting }
-
     marked : Forest
     marked = mark (choices.marks_after_pop w.forest n) w.forest
 
-    gone : LeavesReady w left
-    gone = entry_gone_ready n w ready
-
-    out : IsIn n w.stack → LeavesReady w (record left { forest = marked; stack = without_node n w.stack })
+    out : IsIn n w.stack → LeavesReady w (record w { forest = marked; stack = without_node n w.stack })
     out i = record {
       ready = record {
         sound = marked_all (choices.marks_after_pop w.forest n) w.forest (without_node n w.stack)
-            (subst (λ s. AllStand w.forest s (without_entry n w.formatting) w.head w.form w.context) (sym (without_node_split n w.stack i))
+            (subst (λ s. AllStand w.forest s w.formatting w.head w.form w.context) (sym (without_node_split n w.stack i))
             (all_left w.forest (newer_than n w.stack) (older_than n w.stack) n (not_oldest w n i other ready.root)
-            (subst (λ s. AllStand w.forest s (without_entry n w.formatting) w.head w.form w.context) (stack_split n w.stack i) gone.ready.sound)));
-        lists = lists_removed n w.stack w.formatting ready.lists;
+            (subst (λ s. AllStand w.forest s w.formatting w.head w.form w.context) (stack_split n w.stack i) ready.sound)));
+        lists = lists;
         root = subst (λ s. IsRootOpen (map (name_in marked) s)) (sym (without_node_split n w.stack i))
             (open_before (name_in marked) (newer_than n w.stack) (older_than n w.stack) (older_open i));
       };
@@ -236,9 +231,16 @@ removed_ready choices n w ready other = at (is_in n w.stack) refl
             (open_after (name_in w.forest n) (map (name_in w.forest) (older_than n w.stack)) (map_some (name_in w.forest) (older_than n w.stack) some)
             (open_behind (name_in w.forest) (newer_than n w.stack) (n ∷ older_than n w.stack) (λ e. cc) (subst (λ s. IsRootOpen (map (name_in w.forest) s)) (stack_split n w.stack i) ready.root)))
 
-    at : (b : Bool) → is_in n w.stack ≡ b → LeavesReady w (cond b (record left { forest = marked; stack = without_node n w.stack }) left)
+    at : (b : Bool) → is_in n w.stack ≡ b → LeavesReady w (cond b (record w { forest = marked; stack = without_node n w.stack }) w)
     at true e = out (is_in_true n w.stack e)
-    at false e = gone
+    at false e = leaves_refl w ready
+
+-- one that isn't the root leaves list and stack
+pub removed_ready : (choices : SinkChoices) (n : ℕ) (w : World) → IsReady w → is_html_named (codes "html") (name_in w.forest n) ≡ false → LeavesReady w (unlist_and_remove choices n w)
+removed_ready choices n w ready other =
+    let gone = (entry_gone_ready n w ready).ready in
+    let taken = taken_ready choices n (record w { formatting = without_entry n w.formatting }) gone other (lists_removed n w.stack w.formatting ready.lists) in
+    record { ready = taken.ready; kinds = taken.kinds }
 
 -- Rounds.
 

@@ -175,14 +175,11 @@ entry_gone_framed : (n : ℕ) (w : World) → Framed w (record w { formatting = 
 unfolding names_of
 entry_gone_framed n w = frame_refl (roles (names_of w))
 
--- an element leaves list and stack
-removed_framed : (choices : SinkChoices) (n : ℕ) (w : World) → role_of (name_in w.forest n) ≡ PlainRole → Framed w (unlist_and_remove choices n w)
+-- an element leaves the stack
+pub taken_framed : (choices : SinkChoices) (n : ℕ) (w : World) → role_of (name_in w.forest n) ≡ PlainRole → Framed w (remove_from_stack choices n w)
 unfolding remove_from_stack names_of
-removed_framed choices n w plain = at (is_in n w.stack) refl
+taken_framed choices n w plain = at (is_in n w.stack) refl
   where
-    left : World
-    left = record w { formatting = without_entry n w.formatting }
-
     marked : Forest
     marked = mark (choices.marks_after_pop w.forest n) w.forest
 
@@ -200,9 +197,14 @@ removed_framed choices n w plain = at (is_in n w.stack) refl
     same_names : map (name_in marked) (without_node n w.stack) ≡ map named (without_node n w.stack)
     same_names = map_same (name_in marked) named (without_node n w.stack) (λ m j. ap name_of_found (marked_kind (choices.marks_after_pop w.forest n) w.forest m))
 
-    at : (b : Bool) → is_in n w.stack ≡ b → Framed w (cond b (record left { forest = marked; stack = without_node n w.stack }) left)
+    at : (b : Bool) → is_in n w.stack ≡ b → Framed w (cond b (record w { forest = marked; stack = without_node n w.stack }) w)
     at true e = subst (λ ns. Frame (roles (map named w.stack)) (roles ns)) (sym same_names) (taken (is_in_true n w.stack e))
     at false e = frame_refl (roles (names_of w))
+
+-- and the list
+removed_framed : (choices : SinkChoices) (n : ℕ) (w : World) → role_of (name_in w.forest n) ≡ PlainRole → Framed w (unlist_and_remove choices n w)
+unfolding names_of
+removed_framed choices n w plain = taken_framed choices n (record w { formatting = without_entry n w.formatting }) plain
 
 -- "any other end tag" for a plain name
 close_named_framed : (choices : SinkChoices) (name : List ℕ) (w : World) → role_of_local name ≡ PlainRole → Framed w (close_named choices name w)

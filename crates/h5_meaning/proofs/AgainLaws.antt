@@ -18,13 +18,14 @@ use Rattle.h5_meaning.specs.AfterHead.{after_head_else, after_head_end, after_he
 use Rattle.h5_meaning.specs.BeforeHead.{before_head_else, before_head_end, before_head_start}
 use Rattle.h5_meaning.specs.ByName.{by_kind, by_name, ignored_tag, named, of_tag}
 use Rattle.h5_meaning.specs.BeforeHtml.{before_html_else, before_html_end, before_html_start}
-use Rattle.h5_meaning.specs.InBody.{body_ends, body_in_scope, current_is, if_body_in_scope, in_body_end_block, in_body_end_br, in_body_end_formatting, in_body_end_heading, in_body_end_html, in_body_end_other, in_body_end_p, in_body_end, in_body_start, in_body_start_other, in_body_start_body, in_body_start_table, in_body_tag, inserts, is_quirks}
+use Rattle.h5_meaning.specs.InBody.{body_ends, body_in_scope, if_body_in_scope, in_body_end_block, in_body_end_br, in_body_end_formatting, in_body_end_heading, in_body_end_html, in_body_end_other, in_body_end_p, in_body_end, in_body_start, in_body_start_other, in_body_start_body, in_body_start_table, in_body_tag, is_quirks}
 use Rattle.h5_meaning.specs.InHead.{in_head_else, in_head_end, in_head_start}
 use Rattle.h5_meaning.specs.InitialMode.{initial_else}
 use Rattle.h5_meaning.specs.Rows.{AddAttrsToHtml, AddAttrsToSecond, Again, AgainBy, Answers, Change, ClosePElement, ClosePElementInButtonScope, Ending, GenerateImpliedEnd, GenerateImpliedEndExcept, InsertElement, IsAcknowledged, IsDone, PopUntilHeading, PopUntilNamed, Row, SetFramesetNotOk, SetMode, SetQuirksMode, choose, errs, ignored, next_mode, row, row_if}
-use Rattle.h5_meaning.specs.Shared.{in_body_start_html}
+use Rattle.h5_meaning.specs.Shared.{current_is, in_body_start_html, inserts}
 use Rattle.h5_meaning.specs.World.{World, names_of}
 use Rattle.h5_meaning.proofs.ByNameLaws.{holds_by_name}
+use Rattle.h5_meaning.proofs.BodyRowLaws.{EndsAtOnce, IsBodyRow, row_end_by, row_start}
 
 -- the names of parts of a table in start tags, and of all that a cell or a row ends with in end tags
 unfoldable pub part_names : List (List ℕ)
@@ -169,61 +170,30 @@ stops_choose true r s x y = x
 stops_choose false r s x y = y
 
 -- by the rules of the body none is taken, but for an end tag `html`
-stops_body_start : (tag : TagText) (w : World) → RowStops (by_name in_body_start in_body_start_other tag w)
-unfolding in_body_start in_body_start_html in_body_start_body in_body_start_table
-stops_body_start tag w = holds_by_name RowStops in_body_start in_body_start_other tag w (
-  (λ p. stops_choose (has_template (names_of w)) ignored (errs (AddAttrsToHtml tag.attrs ∷ []) IsDone) tt tt),
-  (
-    (λ p. stops_choose (second_is (codes "body") (names_of w) && not (has_template (names_of w))) (errs (SetFramesetNotOk ∷ AddAttrsToSecond tag.attrs ∷ []) IsDone) ignored tt tt),
-    ((λ p. tt), ((λ p. tt), ((λ p. tt), ((λ p. tt), ((λ p. tt), ((λ p. tt), (table, ((λ p. tt), tt)))))))),
-  ),
-)
-    (λ n. tt)
-  where
-    opens : List Change
-    opens = inserts tag ∷ SetFramesetNotOk ∷ SetMode InTable ∷ []
+ends_stop : (x : Ending) → EndsAtOnce x → Stops x
+ends_stop IsDone h = tt
+ends_stop IsAcknowledged h = tt
+ends_stop (Answers answer) h = tt
+ends_stop (Again k) h = h
+ends_stop (AgainBy mode) h = h
 
-    table : named Table tag.name ≡ true → RowStops (in_body_start_table tag w)
-    table p = stops_choose (is_quirks w.quirks) (row opens IsDone) (row_if (not (has_p_in_button_scope (names_of w))) (ClosePElementInButtonScope ∷ opens) IsDone) tt tt
-
--- and so of what holds of each row after which none is taken
-body_ends_by : (P : Row → Type 0) (tag : TagText) (w : World) → ((r : Row) → RowStops r → P r) → (named Html tag.name ≡ true → P (in_body_end_html tag w)) → P (by_name in_body_end in_body_end_other tag w)
-unfolding in_body_end if_body_in_scope in_body_end_block in_body_end_p in_body_end_heading in_body_end_other
-body_ends_by P tag w stops html = holds_by_name P in_body_end in_body_end_other tag w (
-  html,
-  (
-    (λ p. one (body_in_scope w) (body_ends (SetMode AfterBody ∷ []) IsDone w) ignored tt tt),
-    (
-      (λ p. one (in_scope (is_html_named tag.name) is_default_scope (names_of w)) (row_if (current_is tag.name w) (GenerateImpliedEnd ∷ PopUntilNamed tag.name ∷ []) IsDone) ignored tt tt),
-      (
-        (λ p. one (has_p_in_button_scope (names_of w)) (row_if (current_is (codes "p") w) (ClosePElement ∷ []) IsDone) (errs (InsertElement (codes "p") [] false ∷ ClosePElement ∷ []) IsDone) tt tt),
-        (
-          (λ p. one (in_scope is_heading is_default_scope (names_of w)) (row_if (current_is tag.name w) (GenerateImpliedEnd ∷ PopUntilHeading ∷ []) IsDone) ignored tt tt),
-          ((λ p. stops (in_body_end_formatting tag w) tt), ((λ p. stops (in_body_end_br tag w) tt), ((λ p. stops ignored tt), tt))),
-        ),
-      ),
-    ),
-  ),
-)
-    (λ n. one (comes_before_special tag.name (names_of w)) (errs (GenerateImpliedEndExcept tag.name ∷ PopUntilNamed tag.name ∷ []) IsDone) ignored tt tt)
-  where
-    one : (b : Bool) (r s : Row) → RowStops r → RowStops s → P (choose b r s)
-    one b r s x y = stops (choose b r s) (stops_choose b r s x y)
+row_stops : (r : Row) → IsBodyRow r → RowStops r
+row_stops r b = ends_stop r.ending b.ends
 
 pub stops_body_tag : (tag : TagText) (w : World) → (tag.kind ≡ EndTag → named Html tag.name ≡ false) → RowStops (in_body_tag tag w)
 unfolding in_body_tag
 stops_body_tag tag w f = at tag.kind f
   where
     at : (k : TagKind) → (k ≡ EndTag → named Html tag.name ≡ false) → RowStops (by_kind k (by_name in_body_start in_body_start_other tag w) (by_name in_body_end in_body_end_other tag w))
-    at StartTag f = stops_body_start tag w
-    at EndTag f = body_ends_by RowStops tag w (λ r x. x) (λ p. absurd (let q = sym p ∙ f refl in cc))
+    at StartTag f = row_stops _ (row_start tag w)
+    at EndTag f = row_end_by tag w RowStops row_stops (λ p. absurd (let q = sym p ∙ f refl in cc))
 
 pub leads_in_body : (k : TagKind) (tag : TagText) (w : World) → Leads (kind_of_tag k tag.name) InBody (by_kind k (by_name in_body_start in_body_start_other tag w) (by_name in_body_end in_body_end_other tag w)).ending
 unfolding if_body_in_scope
-leads_in_body StartTag tag w = stops_leads (kind_of_start tag.name) InBody (by_name in_body_start in_body_start_other tag w).ending (stops_body_start tag w)
+leads_in_body StartTag tag w = stops_leads (kind_of_start tag.name) InBody (by_name in_body_start in_body_start_other tag w).ending (row_stops _ (row_start tag w))
 leads_in_body EndTag tag w =
     let c = kind_of_end tag.name in
-    body_ends_by (LeadsByEdge c InBody) tag w (λ r x. stops_leads c InBody r.ending x)
+    row_end_by tag w (LeadsByEdge c InBody) (λ r x. stops_leads c InBody r.ending (row_stops r x))
     (λ p. leads_choose c InBody (body_in_scope w) (body_ends [] (Again AfterBody) w) ignored (subst (λ k. edges.Again k InBody AfterBody) (sym (end_html_kind tag.name p)) edges.end_html) tt)
 
 pub leads_after_body : (k : TagKind) (tag : TagText) (w : World) → Leads (kind_of_tag k tag.name) AfterBody (by_kind k (by_name after_body_start (of_tag back_to_body) tag w) (by_name after_body_end (of_tag back_to_body) tag w)).ending

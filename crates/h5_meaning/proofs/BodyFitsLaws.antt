@@ -1,12 +1,13 @@
 -- The rules of the body, in each mode that goes by them: after each row the open elements fit the mode that it leaves.
-use Rattle.std.proofs.Common.{◌≡◌, ◌≢◌, ◌⊎◌, inl, inr, ℕ, Bool, true, false, not, ◌&&◌, List, [], ◌∷◌, codes, refl, ap, sym, subst, ◌∙◌}
+use Rattle.std.proofs.Common.{◌≡◌, ◌≢◌, ◌⊎◌, inl, inr, ℕ, Bool, true, false, cond, not, ◌&&◌, is_some, Option, None, Some, List, [], ◌∷◌, codes, refl, ap, sym, subst, ◌∙◌}
 use Rattle.h5_names.specs.declared.qualified.QualName.{QualName}
-use Rattle.h5_names.specs.declared.known_name.KnownName.TheVariants.{A, Body, Html, Nobr, Table, Template}
+use Rattle.h5_names.specs.declared.known_name.KnownName.TheVariants.{A, Body, Button, Html, Nobr, Optgroup, Select, Table, Template}
+use Rattle.h5_names.specs.declared.known_name.KnownName.TheVariants as known
 use Rattle.h5_token.specs.TokenText.{TagText}
 use Rattle.h5_token.specs.declared.tag.TagKind.{TagKind}
 use Rattle.h5_token.specs.declared.tag.TagKind.TheVariants.{StartTag, EndTag}
 use Rattle.h5_interface.specs.SinkChoices.{SinkChoices}
-use Rattle.h5_tag_sets.specs.TagSets.{block_end_names, block_start_names, formatting_names, heading_names, is_default_scope, is_heading, is_html_named, is_one_of}
+use Rattle.h5_tag_sets.specs.TagSets.{block_end_names, block_start_names, formatting_names, heading_names, is_default_scope, is_heading, is_html_named, is_list_item_scope, is_one_of}
 use Rattle.h5_types.specs.TurnText.{CommentTurn, EofTurn, HasText, NullTurn, TagTurn, TextTurn, TurnText}
 use Rattle.h5_types.specs.declared.modes.InsertionMode.{InsertionMode}
 use Rattle.h5_types.specs.declared.modes.InsertionMode.TheVariants.{AfterBody, InBody, InTable}
@@ -21,13 +22,13 @@ use Rattle.h5_fits.proofs.NamesTableLaws.{names_table_put}
 use Rattle.h5_fits.proofs.PlainLaws.{block_end_plain, block_start_plain, heading_local_plain}
 use Rattle.h5_fits.proofs.RoleLaws.{Origin, local_p, origin, role_made}
 use Rattle.h5_meaning.specs.ByName.{NonePasses, by_kind, by_name, ignored_tag, named}
-use Rattle.h5_meaning.specs.Changes.{generate_implied_end_except, insert_element, pop_until_named, set_frameset_not_ok, set_frameset_ok_by_text}
+use Rattle.h5_meaning.specs.Changes.{generate_implied_end_except, insert_element, pop_until_named, set_foster, set_frameset_not_ok, set_frameset_ok_by_text}
 use Rattle.h5_meaning.specs.Closing.{close_p_element_in_button_scope, pop_heading}
 use Rattle.h5_meaning.specs.AdoptionAgency.{handle_misnested_a_tags, handle_misnested_nobr_tags}
 use Rattle.h5_meaning.specs.Formatting.{reconstruct_active_formatting_elements}
-use Rattle.h5_meaning.specs.InBody.{body_ends, body_in_scope, current_is, if_body_in_scope, in_body, in_body_end, in_body_end_block, in_body_end_br, in_body_end_formatting, in_body_end_heading, in_body_end_other, in_body_end_p, in_body_ignored_starts, in_body_start, in_body_start_a, in_body_start_block, in_body_start_body, in_body_start_br, in_body_start_formatting, in_body_start_heading, in_body_start_nobr, in_body_start_other, in_body_start_table, in_body_tag, inserts, is_quirks, outside_names}
-use Rattle.h5_meaning.specs.Rows.{AddAttrsToHtml, AddAttrsToSecond, Again, Change, ClosePElement, ClosePElementInButtonScope, GenerateImpliedEnd, GenerateImpliedEndExcept, InsertElement, IsDone, PopUntilHeading, PopUntilNamed, Row, SetFramesetNotOk, SetMode, choose, errs, ignored, row, row_if}
-use Rattle.h5_meaning.specs.Shared.{in_body_start_html, in_body_text, table_structure_names}
+use Rattle.h5_meaning.specs.InBody.{body_ends, body_in_scope, close_the_form, copies_option, description_names, form_in_scope, if_body_in_scope, in_body, in_body_end, in_body_end_block, in_body_end_br, in_body_end_description, in_body_end_form, in_body_end_formatting, in_body_end_heading, in_body_end_li, in_body_end_marked, in_body_end_option, in_body_end_other, in_body_end_p, in_body_ignored_starts, in_body_marked, in_body_ruby_bases, in_body_ruby_texts, in_body_start, in_body_start_a, in_body_start_block, in_body_start_body, in_body_start_button, in_body_start_form, in_body_start_formatting, in_body_start_heading, in_body_start_input, in_body_start_nobr, in_body_start_optgroup, in_body_start_option, in_body_start_other, in_body_start_ruby, in_body_start_select, in_body_start_table, in_body_start_void, in_body_tag, is_quirks, named_in_scope, oldest_option, outside_names, unless_hidden}
+use Rattle.h5_meaning.specs.Rows.{AddAttrsToHtml, AddAttrsToSecond, Again, AgainBy, Answers, Change, ClosePElement, ClosePElementInButtonScope, Ending, GenerateImpliedEnd, GenerateImpliedEndExcept, InsertElement, IsAcknowledged, IsDone, PopUntilHeading, PopUntilNamed, Row, SetFramesetNotOk, SetMode, apply_all, choose, errs, ignored, next_mode, row, row_if}
+use Rattle.h5_meaning.specs.Shared.{current_is, in_body_start_html, in_body_text, inserts, is_context, is_type_hidden, table_structure_names}
 use Rattle.h5_meaning.specs.Sound.{situation_of}
 use Rattle.h5_meaning.specs.World.{World, names_of}
 use Rattle.h5_meaning.proofs.AdoptionAgencyLaws.{implied_keeps, misnested_nobr_open, until_named_keeps}
@@ -36,13 +37,16 @@ use Rattle.h5_meaning.proofs.ByNameLaws.{holds_by_name, holds_chosen}
 use Rattle.h5_meaning.proofs.ClosingLaws.{block_not_implied, heading_not_implied, new_p_in_scope}
 use Rattle.h5_meaning.proofs.FormattingLaws.{reconstruct_opens}
 use Rattle.h5_meaning.proofs.HeadFitsLaws.{role_known}
-use Rattle.h5_meaning.proofs.KeptLaws.{FitsAs, IsBlind, Kept, fits_at, fits_frameset_off, kept_comment, kept_start_html}
+use Rattle.h5_meaning.proofs.KeptLaws.{FitsAs, IsBlind, Kept, fits_at, fits_frameset_off, kept_comment, kept_start_html, mode_after, mode_with}
 use Rattle.h5_meaning.proofs.ListsLaws.{IsSteady}
 use Rattle.h5_meaning.proofs.NameLaws.{names-cut, names-implied, names-insert}
 use Rattle.h5_meaning.proofs.ReadyInLaws.{ReadyIn, in_agency, in_close_heading, in_close_named, in_close_p, in_close_p_in_scope, in_format, in_frameset_off, in_frameset_text, in_insert, in_leaf, in_misnested_a, in_misnested_nobr, in_pop_heading, in_reconstruct, in_second_attrs, in_text, ready_in}
 use Rattle.h5_meaning.proofs.ReadyLaws.{a_formatting, nobr_formatting}
 use Rattle.h5_meaning.proofs.SituationLaws.{KeepsSituation, situation_insert, situation_same, situation_then, situation_tree}
 use Rattle.h5_meaning.proofs.TreeLaws.{tree_implied_except, tree_until, tree_then}
+use Rattle.h5_meaning.proofs.BodyRowLaws.{EndsAtOnce, IsBodyRow, row_end_by, row_start}
+use Rattle.h5_meaning.proofs.BodyInLaws.{in_end_description, in_end_form, in_end_li, in_end_marked, in_end_option, in_start_button, in_start_description, in_start_form, in_start_hr, in_start_image, in_start_input, in_start_item, in_start_marked, in_start_optgroup, in_start_option, in_start_preformatted, in_start_ruby_base, in_start_ruby_text, in_start_select}
+use Rattle.h5_names.specs.AttributeText.{AttributeText}
 
 -- NAMES
 
@@ -56,7 +60,7 @@ unfolding in_body_start in_body_ignored_starts table_structure_names outside_nam
 other_start_plain l n = at (role_of_local l) (origin l)
   where
     listed : is_one_of in_body_ignored_starts l ≡ false
-    listed = n.1.1.1.1.1.1.1.1.1.0
+    listed = n.1.1.1.1.1.1.1.1.1.1.1.1.1.1.1.1.1.1.1.1.1.1.1.1.0
 
     starts : List ℕ → Bool
     starts = is_one_of in_body_ignored_starts
@@ -65,7 +69,7 @@ other_start_plain l n = at (role_of_local l) (origin l)
     at PlainRole o = refl
     at HtmlRole o = absurd (apart (named Html) (codes "html") l refl o n.0)
     at BodyRole o = absurd (apart (named Body) (codes "body") l refl o n.1.0)
-    at TableRole o = absurd (apart (named Table) (codes "table") l refl o n.1.1.1.1.1.1.1.1.0)
+    at TableRole o = absurd (apart (named Table) (codes "table") l refl o n.1.1.1.1.1.1.1.1.1.1.1.1.1.0)
     at HeadRole o = absurd (apart starts (codes "head") l refl o listed)
     at FramesetRole o = absurd (apart starts (codes "frameset") l refl o listed)
     at TemplateRole o = absurd (apart starts (codes "template") l refl o listed)
@@ -102,7 +106,7 @@ other_end m l n part = at (role_of_local l) (origin l) part
     at FramesetRole o p = tt
     at HtmlRole o p = apart (named Html) (codes "html") l refl o n.0
     at BodyRole o p = apart (named Body) (codes "body") l refl o n.1.0
-    at TemplateRole o p = apart (named Template) (codes "template") l refl o n.1.1.1.1.1.1.1.0
+    at TemplateRole o p = apart (named Template) (codes "template") l refl o n.1.1.1.1.1.1.1.1.1.1.1.1.0
     at _ o (inl e) = e
     at _ o (inr e) = absurd (cc)
 
@@ -160,8 +164,8 @@ module _ (choices : SinkChoices) (w : World) (steady : IsSteady w) (m : Insertio
       (in_format choices m goes (handle_misnested_nobr_tags choices renewed) (in_misnested_nobr choices m goes renewed r) tag (nobr_formatting tag.name p)
       (misnested_nobr_open choices renewed r.ready (reconstruct_opens choices w steady.lists))).fit
 
-  kept_start_br : (tag : TagText) → KeptIn (in_body_start_br tag w)
-  kept_start_br tag h =
+  kept_start_void : (tag : TagText) → KeptIn (in_body_start_void tag w)
+  kept_start_void tag h =
       let r = in_leaf choices m goes renewed (renewed_ready h) tag.name tag.attrs tag.had_duplicate_attributes in (in_frameset_off m goes _ r).fit
 
   kept_end_br : (tag : TagText) → KeptIn (in_body_end_br tag w)
@@ -245,6 +249,119 @@ module _ (choices : SinkChoices) (w : World) (steady : IsSteady w) (m : Insertio
       (names_other_end (situation_of w) m tag.name (names_of w) goes may e h)))
       (λ e h. h)
 
+  -- a row that leaves the mode as it is
+  abbrev Still : Row → Type 0
+  Still x = (v : World) → mode_with (mode_after choices w m x.changes) (next_mode x.ending v) ≡ m
+
+  still : (b : Bool) (x y : Row) → Still x → Still y → Still (choose b x y)
+  still b x y f g = holds_chosen Still b x y (λ e. f) (λ e. g)
+
+  none : Still ignored
+  none v = refl
+
+  in_mode : (x : Row) → Still x → (ReadyIn m w → ReadyIn m (apply_all choices x.changes w)) → KeptIn x
+  in_mode x s k h = subst (λ j. FitsAs j (apply_all choices x.changes w)) (sym (s (apply_all choices x.changes w))) (k (ready h)).fit
+
+  still_hidden : (attrs : List AttributeText) (u : World) → mode_after choices u m (unless_hidden attrs) ≡ m
+  still_hidden attrs u = at (is_type_hidden attrs)
+    where
+      at : (b : Bool) → mode_after choices u m (cond b [] (SetFramesetNotOk ∷ [])) ≡ m
+      at true = refl
+      at false = refl
+
+  still_copies : (o : Option ℕ) (u : World) → mode_after choices u m (copies_option o) ≡ m
+  still_copies None u = refl
+  still_copies (Some n) u = refl
+
+  kept_start_form : (tag : TagText) → KeptIn (in_body_start_form tag w)
+  unfolding in_body_start_form
+  kept_start_form tag = in_mode (in_body_start_form tag w) one (λ r. in_start_form choices m goes w r tag)
+    where
+      one : Still (in_body_start_form tag w)
+      one = still (is_some w.form && not (has_template (names_of w))) ignored _ none (λ v. refl)
+
+  kept_start_button : (tag : TagText) → named Button tag.name ≡ true → KeptIn (in_body_start_button tag w)
+  unfolding in_body_start_button
+  kept_start_button tag p = in_mode (in_body_start_button tag w) one (λ r. in_start_button choices m goes w r tag p)
+    where
+      one : Still (in_body_start_button tag w)
+      one = still (named_in_scope (codes "button") w) _ _ (λ v. refl) (λ v. refl)
+
+  kept_start_input : (tag : TagText) → KeptIn (in_body_start_input tag w)
+  unfolding in_body_start_input
+  kept_start_input tag = in_mode (in_body_start_input tag w) one (λ r. in_start_input choices m goes w r tag)
+    where
+      one : Still (in_body_start_input tag w)
+      one = still (named_in_scope (codes "select") w) _ _ (λ v. still_hidden tag.attrs _) (λ v. still_hidden tag.attrs _)
+
+  kept_start_select : (tag : TagText) → named Select tag.name ≡ true → KeptIn (in_body_start_select tag w)
+  unfolding in_body_start_select
+  kept_start_select tag p = in_mode (in_body_start_select tag w) one (λ r. in_start_select choices m goes w r tag p)
+    where
+      one : Still (in_body_start_select tag w)
+      one = still (is_context (is_html_named (codes "select")) w) ignored _ none (still (named_in_scope (codes "select") w) _ _ (λ v. refl) (λ v. refl))
+
+  kept_start_option : (tag : TagText) → named known.Option tag.name ≡ true → KeptIn (in_body_start_option tag w)
+  unfolding in_body_start_option
+  kept_start_option tag p = in_mode (in_body_start_option tag w) one (λ r. in_start_option choices m goes w r tag p)
+    where
+      one : Still (in_body_start_option tag w)
+      one = still (named_in_scope (codes "select") w) _ _ (λ v. refl) (still (current_is (codes "option") w) _ _ (λ v. refl) (λ v. refl))
+
+  kept_start_optgroup : (tag : TagText) → named Optgroup tag.name ≡ true → KeptIn (in_body_start_optgroup tag w)
+  unfolding in_body_start_optgroup
+  kept_start_optgroup tag p = in_mode (in_body_start_optgroup tag w) one (λ r. in_start_optgroup choices m goes w r tag p)
+    where
+      one : Still (in_body_start_optgroup tag w)
+      one = still (named_in_scope (codes "select") w) _ _ (λ v. refl) (still (current_is (codes "option") w) _ _ (λ v. refl) (λ v. refl))
+
+  kept_start_ruby_base : (tag : TagText) → is_one_of in_body_ruby_bases tag.name ≡ true → KeptIn (in_body_start_ruby GenerateImpliedEnd tag w)
+  kept_start_ruby_base tag p =
+      in_mode (in_body_start_ruby GenerateImpliedEnd tag w) (still (named_in_scope (codes "ruby") w) _ _ (λ v. refl) (λ v. refl)) (λ r. in_start_ruby_base choices m goes w r tag p)
+
+  kept_start_ruby_text : (tag : TagText) → is_one_of in_body_ruby_texts tag.name ≡ true → KeptIn (in_body_start_ruby (GenerateImpliedEndExcept (codes "rtc")) tag w)
+  kept_start_ruby_text tag p =
+      in_mode (in_body_start_ruby (GenerateImpliedEndExcept (codes "rtc")) tag w) (still (named_in_scope (codes "ruby") w) _ _ (λ v. refl) (λ v. refl)) (λ r. in_start_ruby_text choices m goes w r tag p)
+
+  kept_end_form : (tag : TagText) → KeptIn (in_body_end_form tag w)
+  unfolding in_body_end_form close_the_form
+  kept_end_form tag = in_mode (in_body_end_form tag w) one (λ r. in_end_form choices m goes w r tag)
+    where
+      closing : (o : Option ℕ) → Still (close_the_form o w)
+      closing None = none
+      closing (Some form) = still (form_in_scope form w) _ _ (λ v. refl) (λ v. refl)
+
+      one : Still (in_body_end_form tag w)
+      one = still (has_template (names_of w)) _ _ (still (named_in_scope (codes "form") w) _ ignored (λ v. refl) none) (closing w.form)
+
+  kept_end_option : (tag : TagText) → named known.Option tag.name ≡ true → KeptIn (in_body_end_option tag w)
+  unfolding in_body_end_option
+  kept_end_option tag p = in_mode (in_body_end_option tag w) one (λ r. in_end_option choices m goes w r tag p)
+    where
+      one : Still (in_body_end_option tag w)
+      one = still (comes_before_special tag.name (names_of w)) _ ignored (λ v. still_copies (oldest_option w) _) none
+
+  kept_end_li : (tag : TagText) → KeptIn (in_body_end_li tag w)
+  unfolding in_body_end_li
+  kept_end_li tag = in_mode (in_body_end_li tag w) one (λ r. in_end_li choices m goes w r tag)
+    where
+      one : Still (in_body_end_li tag w)
+      one = still (in_scope (is_html_named (codes "li")) is_list_item_scope (names_of w)) _ ignored (λ v. refl) none
+
+  kept_end_description : (tag : TagText) → is_one_of description_names tag.name ≡ true → KeptIn (in_body_end_description tag w)
+  unfolding in_body_end_description
+  kept_end_description tag p = in_mode (in_body_end_description tag w) one (λ r. in_end_description choices m goes w r tag p)
+    where
+      one : Still (in_body_end_description tag w)
+      one = still (named_in_scope tag.name w) _ ignored (λ v. refl) none
+
+  kept_end_marked : (tag : TagText) → is_one_of in_body_marked tag.name ≡ true → KeptIn (in_body_end_marked tag w)
+  unfolding in_body_end_marked
+  kept_end_marked tag p = in_mode (in_body_end_marked tag w) one (λ r. in_end_marked choices m goes w r tag p)
+    where
+      one : Still (in_body_end_marked tag w)
+      one = still (named_in_scope tag.name w) _ ignored (λ v. refl) none
+
   kept_tag : (kind : TagKind) (tag : TagText) → (m ≡ InBody) ⊎ NoPartOf kind tag.name → KeptIn (by_kind kind (by_name in_body_start in_body_start_other tag w) (by_name in_body_end in_body_end_other tag w))
   unfolding in_body_start in_body_end
   kept_tag StartTag tag part = holds_by_name KeptIn in_body_start in_body_start_other tag w (
@@ -256,10 +373,64 @@ module _ (choices : SinkChoices) (w : World) (steady : IsSteady w) (m : Insertio
         (
           (λ p. kept_start_heading tag p),
           (
-            (λ p. kept_start_a tag p),
+            (λ p h. (in_start_preformatted choices m goes w (ready h) tag p).fit),
             (
-              (λ p. kept_start_nobr tag p),
-              ((λ p. kept_start_formatting tag p), ((λ p. kept_start_br tag), ((λ p. kept_start_table tag p), ((λ p h. h), tt)))),
+              (λ p. kept_start_form tag),
+              (
+                (λ p h. (in_start_item choices m goes w (ready h) tag p).fit),
+                (
+                  (λ p h. (in_start_description choices m goes w (ready h) tag p).fit),
+                  (
+                    (λ p. kept_start_button tag p),
+                    (
+                      (λ p. kept_start_a tag p),
+                      (
+                        (λ p. kept_start_nobr tag p),
+                        (
+                          (λ p. kept_start_formatting tag p),
+                          (
+                            (λ p h. (in_start_marked choices m goes w (ready h) tag p).fit),
+                            (
+                              (λ p. kept_start_table tag p),
+                              (
+                                (λ p. kept_start_void tag),
+                                (
+                                  (λ p h. (in_start_image choices m goes w (ready h) tag).fit),
+                                  (
+                                    (λ p. kept_start_input tag),
+                                    (
+                                      (λ p h. (in_leaf choices m goes w (ready h) tag.name tag.attrs tag.had_duplicate_attributes).fit),
+                                      (
+                                        (λ p h. (in_start_hr choices m goes w (ready h) tag).fit),
+                                        (
+                                          (λ p. kept_start_select tag p),
+                                          (
+                                            (λ p. kept_start_option tag p),
+                                            (
+                                              (λ p. kept_start_optgroup tag p),
+                                              (
+                                                (λ p. kept_start_ruby_base tag p),
+                                                (
+                                                  (λ p. kept_start_ruby_text tag p),
+                                                  ((λ p h. h), tt),
+                                                ),
+                                              ),
+                                            ),
+                                          ),
+                                        ),
+                                      ),
+                                    ),
+                                  ),
+                                ),
+                              ),
+                            ),
+                          ),
+                        ),
+                      ),
+                    ),
+                  ),
+                ),
+              ),
             ),
           ),
         ),
@@ -274,10 +445,31 @@ module _ (choices : SinkChoices) (w : World) (steady : IsSteady w) (m : Insertio
       (
         (λ p. kept_end_block tag p),
         (
-          (λ p. kept_end_p tag),
+          (λ p. kept_end_form tag),
           (
-            (λ p. kept_end_heading tag),
-            ((λ p. kept_end_formatting tag p), ((λ p. kept_end_br tag), ((λ p h. h), tt))),
+            (λ p. kept_end_option tag p),
+            (
+              (λ p. kept_end_p tag),
+              (
+                (λ p. kept_end_li tag),
+                (
+                  (λ p. kept_end_description tag p),
+                  (
+                    (λ p. kept_end_heading tag),
+                    (
+                      (λ p. kept_end_formatting tag p),
+                      (
+                        (λ p. kept_end_marked tag p),
+                        (
+                          (λ p. kept_end_br tag),
+                          ((λ p h. h), tt),
+                        ),
+                      ),
+                    ),
+                  ),
+                ),
+              ),
+            ),
           ),
         ),
       ),
@@ -303,58 +495,24 @@ module _ (choices : SinkChoices) (w : World) (steady : IsSteady w) (m : Insertio
 blind_chosen : (b : Bool) (r s : Row) → IsBlind r → IsBlind s → IsBlind (choose b r s)
 blind_chosen b r s x y = holds_chosen IsBlind b r s (λ e. x) (λ e. y)
 
-module _ (w : World) where
-  blind_start : (tag : TagText) → IsBlind (by_name in_body_start in_body_start_other tag w)
-  unfolding in_body_start in_body_start_html in_body_start_body in_body_start_table
-  blind_start tag = holds_by_name IsBlind in_body_start in_body_start_other tag w (
-    (λ p. blind_chosen (has_template (names_of w)) ignored (errs (AddAttrsToHtml tag.attrs ∷ []) IsDone) (λ on v. refl) (λ on v. refl)),
-    (
-      (λ p. blind_chosen (second_is (codes "body") (names_of w) && not (has_template (names_of w))) (errs (SetFramesetNotOk ∷ AddAttrsToSecond tag.attrs ∷ []) IsDone) ignored (λ on v. refl) (λ on v. refl)),
-      (
-        (λ p on v. refl),
-        (
-          (λ p on v. refl),
-          (
-            (λ p on v. refl),
-            (
-              (λ p on v. refl),
-              ((λ p on v. refl), ((λ p on v. refl), ((λ p. blind_table tag), ((λ p on v. refl), tt)))),
-            ),
-          ),
-        ),
-      ),
-    ),
-  )
-      (λ n on v. refl)
-    where
-      blind_table : (tag : TagText) → IsBlind (in_body_start_table tag w)
-      blind_table tag =
-          let opens : List Change = inserts tag ∷ SetFramesetNotOk ∷ SetMode InTable ∷ [] in
-          blind_chosen (is_quirks w.quirks) (row opens IsDone) (row_if (not (has_p_in_button_scope (names_of w))) (ClosePElementInButtonScope ∷ opens) IsDone) (λ on v. refl) (λ on v. refl)
+ends_blind : (x : Ending) → EndsAtOnce x → (on : Bool) (v : World) → next_mode x (set_foster on v) ≡ next_mode x v
+ends_blind IsDone h on v = refl
+ends_blind IsAcknowledged h on v = refl
+ends_blind (Answers answer) h on v = refl
+ends_blind (Again k) h on v = absurd h
+ends_blind (AgainBy mode) h on v = absurd h
 
-  blind_end : (tag : TagText) → IsBlind (by_name in_body_end in_body_end_other tag w)
-  unfolding in_body_end if_body_in_scope in_body_end_block in_body_end_p in_body_end_heading in_body_end_other
-  blind_end tag = holds_by_name IsBlind in_body_end in_body_end_other tag w (
-    (λ p. blind_chosen (body_in_scope w) (body_ends [] (Again AfterBody) w) ignored (λ on v. refl) (λ on v. refl)),
-    (
-      (λ p. blind_chosen (body_in_scope w) (body_ends (SetMode AfterBody ∷ []) IsDone w) ignored (λ on v. refl) (λ on v. refl)),
-      (
-        (λ p. blind_chosen (in_scope (is_html_named tag.name) is_default_scope (names_of w)) (row_if (current_is tag.name w) (GenerateImpliedEnd ∷ PopUntilNamed tag.name ∷ []) IsDone) ignored (λ on v. refl) (λ on v. refl)),
-        (
-          (λ p. blind_chosen (has_p_in_button_scope (names_of w)) (row_if (current_is (codes "p") w) (ClosePElement ∷ []) IsDone) (errs (InsertElement (codes "p") [] false ∷ ClosePElement ∷ []) IsDone) (λ on v. refl) (λ on v. refl)),
-          (
-            (λ p. blind_chosen (in_scope is_heading is_default_scope (names_of w)) (row_if (current_is tag.name w) (GenerateImpliedEnd ∷ PopUntilHeading ∷ []) IsDone) ignored (λ on v. refl) (λ on v. refl)),
-            ((λ p on v. refl), ((λ p on v. refl), ((λ p on v. refl), tt))),
-          ),
-        ),
-      ),
-    ),
-  )
-      (λ n. blind_chosen (comes_before_special tag.name (names_of w)) (errs (GenerateImpliedEndExcept tag.name ∷ PopUntilNamed tag.name ∷ []) IsDone) ignored (λ on v. refl) (λ on v. refl))
+row_blind : (r : Row) → IsBodyRow r → IsBlind r
+row_blind r b = ends_blind r.ending b.ends
+
+module _ (w : World) where
+  blind_end_html : IsBlind (if_body_in_scope (body_ends [] (Again AfterBody) w) w)
+  unfolding if_body_in_scope
+  blind_end_html = blind_chosen (body_in_scope w) (body_ends [] (Again AfterBody) w) ignored (λ on v. refl) (λ on v. refl)
 
   blind_tag : (kind : TagKind) (tag : TagText) → IsBlind (by_kind kind (by_name in_body_start in_body_start_other tag w) (by_name in_body_end in_body_end_other tag w))
-  blind_tag StartTag tag = blind_start tag
-  blind_tag EndTag tag = blind_end tag
+  blind_tag StartTag tag = row_blind _ (row_start tag w)
+  blind_tag EndTag tag = row_end_by tag w IsBlind row_blind (λ p. blind_end_html)
 
   pub blind_in_body : (t : TurnText) → IsBlind (in_body t w)
   unfolding in_body_tag

@@ -13,15 +13,17 @@ use Rattle.h5_fits.specs.Fits.{goes_by_body}
 use Rattle.h5_fits.proofs.OpenLaws.{goes_after_root, names_root_open}
 use Rattle.h5_stack.specs.Scope.{comes_before_special, has_p_in_button_scope, has_template, in_scope, second_is}
 use Rattle.h5_meaning.specs.ByName.{by_kind, by_name}
-use Rattle.h5_meaning.specs.InBody.{body_ends, body_in_scope, current_is, if_body_in_scope, in_body, in_body_end, in_body_end_block, in_body_end_br, in_body_end_heading, in_body_end_other, in_body_end_p, in_body_start, in_body_start_block, in_body_start_body, in_body_start_br, in_body_start_heading, in_body_start_other, in_body_start_table, in_body_tag, inserts, is_quirks}
+use Rattle.h5_meaning.specs.InBody.{body_ends, body_in_scope, if_body_in_scope, in_body, in_body_end, in_body_end_block, in_body_end_br, in_body_end_heading, in_body_end_other, in_body_end_p, in_body_start, in_body_start_block, in_body_start_body, in_body_start_heading, in_body_start_other, in_body_start_part, in_body_start_table, in_body_start_void, in_body_tag, is_quirks}
 use Rattle.h5_meaning.specs.Rows.{AddAttrsToHtml, AddAttrsToSecond, Again, AppendComment, Change, ClosePElement, ClosePElementInButtonScope, GenerateImpliedEnd, GenerateImpliedEndExcept, InsertElement, IsDone, PopUntilHeading, PopUntilNamed, Row, SetFramesetNotOk, SetMode, apply_all, choose, errs, ignored, row, row_if}
-use Rattle.h5_meaning.specs.Shared.{in_body_start_html, in_body_text}
+use Rattle.h5_meaning.specs.Shared.{current_is, in_body_start_html, in_body_text, inserts}
 use Rattle.h5_meaning.specs.Sound.{IsReady, situation_of}
 use Rattle.h5_meaning.specs.World.{World, names_of}
 use Rattle.h5_meaning.proofs.ByNameLaws.{holds_by_name, holds_chosen}
 use Rattle.h5_meaning.proofs.KeptLaws.{FitsAs}
 use Rattle.h5_meaning.proofs.ListsLaws.{IsSteady, NeedsOfAll, ready_steady, steady_changes, steady_ready}
 use Rattle.h5_meaning.proofs.ReadyLaws.{ready_end_formatting, ready_start_a, ready_start_formatting, ready_start_nobr}
+use Rattle.h5_meaning.proofs.BodyInLaws.{in_end_description, in_end_form, in_end_li, in_end_marked, in_end_option, in_start_button, in_start_description, in_start_form, in_start_hr, in_start_image, in_start_input, in_start_item, in_start_marked, in_start_optgroup, in_start_option, in_start_preformatted, in_start_ruby_base, in_start_ruby_text, in_start_select}
+use Rattle.h5_meaning.proofs.ReadyInLaws.{ReadyIn, ready_in}
 
 module _ (choices : SinkChoices) (w : World) (k : IsSteady w) where
   -- after a row in a mode, where the open elements fit the mode
@@ -42,6 +44,9 @@ module _ (choices : SinkChoices) (w : World) (k : IsSteady w) where
   -- in the body, and where other modes go by it
   is_ready : (m : InsertionMode) → goes_by_body m ≡ true → FitsAs m w → IsReady w
   is_ready m goes h = steady_ready w k (names_root_open (situation_of w) m (names_of w) (goes_after_root m goes) h)
+
+  in_ready : (m : InsertionMode) {v : World} → ReadyIn m v → IsSteady v
+  in_ready m {v} r = ready_steady v r.ready
 
   stays_start_body : (m : InsertionMode) (tag : TagText) → Stays m (in_body_start_body tag w)
   unfolding in_body_start_body
@@ -84,10 +89,64 @@ module _ (choices : SinkChoices) (w : World) (k : IsSteady w) where
         (
           (λ p. stays m (in_body_start_heading tag w) (tt, (tt, (tt, tt)))),
           (
-            (λ p h. ready_steady _ (ready_start_a choices w (is_ready m goes h) tag p)),
+            (λ p h. in_ready m (in_start_preformatted choices m goes w (ready_in m goes w k h) tag p)),
             (
-              (λ p h. ready_steady _ (ready_start_nobr choices w (is_ready m goes h) tag p)),
-              ((λ p h. ready_steady _ (ready_start_formatting choices w (is_ready m goes h) tag p)), ((λ p. stays m (in_body_start_br tag w) (tt, (tt, (tt, tt)))), ((λ p. stays_start_table m tag), ((λ p h. k), tt)))),
+              (λ p h. in_ready m (in_start_form choices m goes w (ready_in m goes w k h) tag)),
+              (
+                (λ p h. in_ready m (in_start_item choices m goes w (ready_in m goes w k h) tag p)),
+                (
+                  (λ p h. in_ready m (in_start_description choices m goes w (ready_in m goes w k h) tag p)),
+                  (
+                    (λ p h. in_ready m (in_start_button choices m goes w (ready_in m goes w k h) tag p)),
+                    (
+                      (λ p h. ready_steady _ (ready_start_a choices w (is_ready m goes h) tag p)),
+                      (
+                        (λ p h. ready_steady _ (ready_start_nobr choices w (is_ready m goes h) tag p)),
+                        (
+                          (λ p h. ready_steady _ (ready_start_formatting choices w (is_ready m goes h) tag p)),
+                          (
+                            (λ p h. in_ready m (in_start_marked choices m goes w (ready_in m goes w k h) tag p)),
+                            (
+                              (λ p. stays_start_table m tag),
+                              (
+                                (λ p. stays m (in_body_start_void tag w) (tt, (tt, (tt, tt)))),
+                                (
+                                  (λ p h. in_ready m (in_start_image choices m goes w (ready_in m goes w k h) tag)),
+                                  (
+                                    (λ p h. in_ready m (in_start_input choices m goes w (ready_in m goes w k h) tag)),
+                                    (
+                                      (λ p. stays m (in_body_start_part tag w) (tt, tt)),
+                                      (
+                                        (λ p h. in_ready m (in_start_hr choices m goes w (ready_in m goes w k h) tag)),
+                                        (
+                                          (λ p h. in_ready m (in_start_select choices m goes w (ready_in m goes w k h) tag p)),
+                                          (
+                                            (λ p h. in_ready m (in_start_option choices m goes w (ready_in m goes w k h) tag p)),
+                                            (
+                                              (λ p h. in_ready m (in_start_optgroup choices m goes w (ready_in m goes w k h) tag p)),
+                                              (
+                                                (λ p h. in_ready m (in_start_ruby_base choices m goes w (ready_in m goes w k h) tag p)),
+                                                (
+                                                  (λ p h. in_ready m (in_start_ruby_text choices m goes w (ready_in m goes w k h) tag p)),
+                                                  ((λ p h. k), tt),
+                                                ),
+                                              ),
+                                            ),
+                                          ),
+                                        ),
+                                      ),
+                                    ),
+                                  ),
+                                ),
+                              ),
+                            ),
+                          ),
+                        ),
+                      ),
+                    ),
+                  ),
+                ),
+              ),
             ),
           ),
         ),
@@ -102,10 +161,31 @@ module _ (choices : SinkChoices) (w : World) (k : IsSteady w) where
       (
         (λ p. stays_end_block m tag),
         (
-          (λ p. stays_end_p m tag),
+          (λ p h. in_ready m (in_end_form choices m goes w (ready_in m goes w k h) tag)),
           (
-            (λ p. stays_end_heading m tag),
-            ((λ p h. ready_steady _ (ready_end_formatting choices w (is_ready m goes h) tag p)), ((λ p. stays m (in_body_end_br tag w) (tt, (tt, (tt, tt)))), ((λ p h. k), tt))),
+            (λ p h. in_ready m (in_end_option choices m goes w (ready_in m goes w k h) tag p)),
+            (
+              (λ p. stays_end_p m tag),
+              (
+                (λ p h. in_ready m (in_end_li choices m goes w (ready_in m goes w k h) tag)),
+                (
+                  (λ p h. in_ready m (in_end_description choices m goes w (ready_in m goes w k h) tag p)),
+                  (
+                    (λ p. stays_end_heading m tag),
+                    (
+                      (λ p h. ready_steady _ (ready_end_formatting choices w (is_ready m goes h) tag p)),
+                      (
+                        (λ p h. in_ready m (in_end_marked choices m goes w (ready_in m goes w k h) tag p)),
+                        (
+                          (λ p. stays m (in_body_end_br tag w) (tt, (tt, (tt, tt)))),
+                          ((λ p h. k), tt),
+                        ),
+                      ),
+                    ),
+                  ),
+                ),
+              ),
+            ),
           ),
         ),
       ),

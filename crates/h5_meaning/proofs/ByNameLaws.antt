@@ -1,9 +1,12 @@
 -- What holds of each rule that a tag's name may choose holds of the one that it does choose.
-use Rattle.std.proofs.Common.{◌≡◌, Bool, true, false, [], ◌∷◌, refl}
+use Rattle.std.proofs.Common.{◌≡◌, ℕ, Bool, true, false, List, [], ◌∷◌, refl, sym, subst}
+use Rattle.std.proofs.lemmas.Slice.Eq.{bytes_eq-Decides}
+use Rattle.h5_names.specs.declared.known_name.KnownName.{KnownName}
 use Rattle.h5_token.specs.TokenText.{TagText}
-use Rattle.h5_meaning.specs.ByName.{NonePasses, Rules, by_name}
+use Rattle.h5_meaning.specs.ByName.{NonePasses, Rules, by_name, named}
 use Rattle.h5_meaning.specs.Rows.{Row, choose}
 use Rattle.h5_meaning.specs.World.{World}
+use Rattle.h5_names.specs.KnownNames.{name_text}
 
 -- of the one of two rows that is chosen
 pub holds_chosen : (P : Row → Type 0) (b : Bool) (r s : Row) → (b ≡ true → P r) → (b ≡ false → P s) → P (choose b r s)
@@ -19,3 +22,7 @@ HoldsOfEach P tag w (x ∷ xs) = (x.0 tag.name ≡ true → P (x.1 tag w)) × Ho
 pub holds_by_name : (P : Row → Type 0) (xs : Rules) (other : TagText → World → Row) (tag : TagText) (w : World) → HoldsOfEach P tag w xs → (NonePasses xs tag.name → P (other tag w)) → P (by_name xs other tag w)
 holds_by_name P [] other tag w k o = o tt
 holds_by_name P (x ∷ xs) other tag w k o = holds_chosen P (x.0 tag.name) (x.1 tag w) (by_name xs other tag w) k.0 (λ e. holds_by_name P xs other tag w k.1 (λ n. o (e, n)))
+
+-- what holds of a known name holds of a name that is it
+pub of_named : (P : List ℕ → Type 0) (known : KnownName) (l : List ℕ) → P (name_text known) → named known l ≡ true → P l
+of_named P known l a h = subst P (sym ((bytes_eq-Decides l (name_text known)).0 h)) a

@@ -20,7 +20,8 @@ use Rattle.h5_meaning.specs.ByName.{NonePasses, by_kind, by_name, named, of_tag}
 use Rattle.h5_meaning.specs.Changes.{insert_and_pop_element, pop, pop_until_named}
 use Rattle.h5_meaning.specs.Closing.{generate_implied_end, pop_until_cell}
 use Rattle.h5_meaning.specs.Formatting.{clear_active_formatting_to_marker}
-use Rattle.h5_meaning.specs.InBody.{current_is, in_body}
+use Rattle.h5_meaning.specs.InBody.{in_body}
+use Rattle.h5_meaning.specs.Shared.{current_is}
 use Rattle.h5_meaning.specs.InCaption.{close_the_caption, in_caption, in_caption_end, in_caption_ignored_ends, in_caption_start, in_caption_tag}
 use Rattle.h5_meaning.specs.InCell.{close_the_cell, in_cell, in_cell_closing_ends, in_cell_end, in_cell_end_cell, in_cell_end_structure, in_cell_ignored_ends, in_cell_start, in_cell_start_structure, in_cell_tag}
 use Rattle.h5_meaning.specs.InColumnGroup.{close_the_column_group, in_column_group, in_column_group_else, in_column_group_end, in_column_group_start, in_column_group_start_col, in_column_group_tag}

@@ -16,7 +16,7 @@ use Rattle.h5_meaning.specs.AfterBody.{back_to_body}
 use Rattle.h5_meaning.specs.AfterHead.{after_head_else}
 use Rattle.h5_meaning.specs.BeforeHead.{before_head_else}
 use Rattle.h5_meaning.specs.BeforeHtml.{before_html_else}
-use Rattle.h5_meaning.specs.InBody.{current_is}
+use Rattle.h5_meaning.specs.Shared.{current_is}
 use Rattle.h5_meaning.specs.InColumnGroup.{close_the_column_group, in_column_group_else}
 use Rattle.h5_meaning.specs.InHead.{in_head_else}
 use Rattle.h5_meaning.specs.InTable.{keeps_text}

@@ -29,7 +29,8 @@ use Rattle.h5_fits.proofs.RoleLaws.{role_named}
 use Rattle.h5_meaning.specs.Changes.{append_text, create_root, insert_element, insert_head, pop, pop_until_named, set_foster, set_frameset_ok_by_text, set_mode, set_quirks_mode, take_pending_text}
 use Rattle.h5_meaning.specs.Blanks.{all_blank}
 use Rattle.h5_meaning.specs.Formatting.{insert_anew, reconstruct_active_formatting_elements}
-use Rattle.h5_meaning.specs.InBody.{current_is, in_body}
+use Rattle.h5_meaning.specs.InBody.{in_body}
+use Rattle.h5_meaning.specs.Shared.{current_is}
 use Rattle.h5_meaning.specs.InTableText.{pending_text, saved_mode}
 use Rattle.h5_meaning.specs.InitialMode.{initial_else}
 use Rattle.h5_meaning.specs.Modes.{rule}

@@ -18,7 +18,7 @@ use Rattle.h5_stack.proofs.PushLaws.{lists_push_formatting}
 use Rattle.h5_stack.proofs.ReconstructLaws.{front_reconstructed, lists_reconstructed, open_after, reconstructed_is_open, reconstructed_none}
 use Rattle.h5_fits.specs.Root.{IsRootOpen}
 use Rattle.h5_fits.proofs.OpenLaws.{open_push}
-use Rattle.h5_meaning.specs.Changes.{append_text, insert_element, set_frameset_ok_by_text}
+use Rattle.h5_meaning.specs.Changes.{owned, append_text, insert_element, set_frameset_ok_by_text}
 use Rattle.h5_meaning.specs.Formatting.{create_formatting_element, insert_anew, insert_for, reconstruct_active_formatting_elements}
 use Rattle.h5_meaning.specs.Place.{place}
 use Rattle.h5_meaning.specs.Sound.{AllStand, HasLists, IsReady, Sound}
@@ -50,7 +50,7 @@ module _ (choices : SinkChoices) (tag : TagText) (w : World) where
   pub sound_insert_for : Sound w → Sound (insert_for choices tag w)
   unfolding insert_element
   sound_insert_for k =
-      all_inserted choices (place w) (html_name tag.name) tag.attrs tag.had_duplicate_attributes w k (current_place_is_there w k) (λ e. first_place w k.stands.is_forest e)
+      all_inserted choices (place w) (html_name tag.name) tag.attrs tag.had_duplicate_attributes (owned choices tag.name tag.attrs w) w k (current_place_is_there w k) (λ e. first_place w k.stands.is_forest e)
 
   pub stack-insert_for : (insert_for choices tag w).stack ≡ choices.fresh w.forest ∷ w.stack
   unfolding insert_element
@@ -62,12 +62,12 @@ module _ (choices : SinkChoices) (tag : TagText) (w : World) where
 
   pub insert_for_rearranges : Sound w → Rearranges w.forest (insert_for choices tag w).forest
   unfolding insert_element
-  insert_for_rearranges k = new_element_rearranges choices w.forest (place w) (html_name tag.name) tag.attrs tag.had_duplicate_attributes k.stands.is_forest (current_place_is_there w k)
+  insert_for_rearranges k = new_element_rearranges choices w.forest (place w) (html_name tag.name) tag.attrs tag.had_duplicate_attributes (owned choices tag.name tag.attrs w) k.stands.is_forest (current_place_is_there w k)
 
   -- the new element is one of the tag's name
   pub kind-insert_for : Sound w → IsOfTag (insert_for choices tag w).forest (choices.fresh w.forest) tag
   unfolding insert_element
-  kind-insert_for k = new_element_kind choices w.forest (place w) (html_name tag.name) tag.attrs tag.had_duplicate_attributes k.stands.is_forest (current_place_is_there w k)
+  kind-insert_for k = new_element_kind choices w.forest (place w) (html_name tag.name) tag.attrs tag.had_duplicate_attributes (owned choices tag.name tag.attrs w) k.stands.is_forest (current_place_is_there w k)
 
   new_is_there : Sound w → IsNode (insert_for choices tag w).forest (choices.fresh w.forest)
   new_is_there k =

@@ -1,13 +1,13 @@
 -- A token that goes by the rule of the body, with foster parenting on.
 use Rattle.std.proofs.Common.{◌≡◌, ℕ, Bool, true, false, List, [], ◌∷◌, ◌++◌, refl, sym, ap, ◌∙◌, codes, not, ◌&&◌}
 use Rattle.h5_interface.specs.SinkChoices.{SinkChoices}
-use Rattle.h5_meaning.proofs.ByNameLaws.{holds_by_name}
+use Rattle.h5_meaning.proofs.ByNameLaws.{holds_by_name, holds_chosen}
 use Rattle.h5_meaning.proofs.KeptLaws.{apply_append}
 use Rattle.h5_meaning.specs.ByName.{by_kind, by_name}
 use Rattle.h5_meaning.specs.Changes.{set_foster}
-use Rattle.h5_meaning.specs.InBody.{body_ends, body_in_scope, current_is, if_body_in_scope, in_body, in_body_end, in_body_end_block, in_body_end_heading, in_body_end_other, in_body_end_p, in_body_start, in_body_start_body, in_body_start_other, in_body_start_table, in_body_tag, inserts, is_quirks}
+use Rattle.h5_meaning.specs.InBody.{body_ends, body_in_scope, if_body_in_scope, in_body, in_body_end, in_body_end_block, in_body_end_heading, in_body_end_other, in_body_end_p, in_body_start, in_body_start_body, in_body_start_other, in_body_start_table, in_body_tag, is_quirks}
 use Rattle.h5_meaning.specs.Rows.{EndsAs, AddAttrsToHtml, AddAttrsToSecond, Again, AgainBy, Answers, Change, ClosePElement, ClosePElementInButtonScope, Ending, Follows, GenerateImpliedEnd, GenerateImpliedEndExcept, InsertElement, IsAcknowledged, IsDone, PopUntilHeading, PopUntilNamed, Row, SetFoster, SetFramesetNotOk, SetMode, apply, apply_all, choose, errs, ignored, next_mode, row, row_if}
-use Rattle.h5_meaning.specs.Shared.{in_body_start_html}
+use Rattle.h5_meaning.specs.Shared.{current_is, in_body_start_html, inserts}
 use Rattle.h5_meaning.specs.Tables.{foster}
 use Rattle.h5_meaning.specs.World.{World, names_of}
 use Rattle.h5_stack.specs.Scope.{comes_before_special, has_p_in_button_scope, has_template, in_scope, second_is}
@@ -19,6 +19,7 @@ use Rattle.h5_types.specs.TurnText.{CommentTurn, EofTurn, NullTurn, TagTurn, Tex
 use Rattle.h5_types.specs.declared.modes.InsertionMode.TheVariants.{AfterBody, InTable}
 use Rattle.h5_types.specs.declared.turns.ProcessResult.{ProcessResult}
 use Rattle.h5_types.specs.declared.turns.ProcessResult.TheVariants as results
+use Rattle.h5_meaning.proofs.BodyRowLaws.{EndsAtOnce, IsBodyRow, row_end_by, row_start}
 
 -- an ending that names the mode of another turn outright
 abbrev IsOutright : Ending → Type 0
@@ -28,48 +29,23 @@ IsOutright _ = Unit {0}
 abbrev RowIsOutright : Row → Type 0
 RowIsOutright r = IsOutright r.ending
 
-outright_chosen : (b : Bool) (r s : Row) → IsOutright r.ending → IsOutright s.ending → IsOutright (choose b r s).ending
-outright_chosen true r s x y = x
-outright_chosen false r s x y = y
+ends_outright : (x : Ending) → EndsAtOnce x → IsOutright x
+ends_outright IsDone h = tt
+ends_outright IsAcknowledged h = tt
+ends_outright (Answers answer) h = tt
+ends_outright (Again k) h = tt
+ends_outright (AgainBy mode) h = h
 
-outright_start_html : (tag : TagText) (w : World) → IsOutright (in_body_start_html tag w).ending
-unfolding in_body_start_html
-outright_start_html tag w = outright_chosen (has_template (names_of w)) ignored (errs (AddAttrsToHtml tag.attrs ∷ []) IsDone) tt tt
+row_outright : (r : Row) → IsBodyRow r → RowIsOutright r
+row_outright r b = ends_outright r.ending b.ends
 
-outright_start_body : (tag : TagText) (w : World) → IsOutright (in_body_start_body tag w).ending
-unfolding in_body_start_body
-outright_start_body tag w = outright_chosen (second_is (codes "body") (names_of w) && not (has_template (names_of w))) (errs (SetFramesetNotOk ∷ AddAttrsToSecond tag.attrs ∷ []) IsDone) ignored tt tt
-
-outright_start_table : (tag : TagText) (w : World) → IsOutright (in_body_start_table tag w).ending
-unfolding in_body_start_table
-outright_start_table tag w =
-    let opens : List Change = inserts tag ∷ SetFramesetNotOk ∷ SetMode InTable ∷ [] in
-    outright_chosen (is_quirks w.quirks) (row opens IsDone) (row_if (not (has_p_in_button_scope (names_of w))) (ClosePElementInButtonScope ∷ opens) IsDone) tt tt
+outright_end_html : (w : World) → RowIsOutright (if_body_in_scope (body_ends [] (Again AfterBody) w) w)
+unfolding if_body_in_scope
+outright_end_html w = holds_chosen RowIsOutright (body_in_scope w) (body_ends [] (Again AfterBody) w) ignored (λ e. tt) (λ e. tt)
 
 outright_in_body : (k : TagKind) (tag : TagText) (w : World) → IsOutright (by_kind k (by_name in_body_start in_body_start_other tag w) (by_name in_body_end in_body_end_other tag w)).ending
-unfolding in_body_start in_body_end if_body_in_scope in_body_end_block in_body_end_p in_body_end_heading in_body_end_other
-outright_in_body StartTag tag w = holds_by_name RowIsOutright in_body_start in_body_start_other tag w (
-  (λ p. outright_start_html tag w),
-  ((λ p. outright_start_body tag w), ((λ p. tt), ((λ p. tt), ((λ p. tt), ((λ p. tt), ((λ p. tt), ((λ p. tt), ((λ p. outright_start_table tag w), ((λ p. tt), tt))))))))),
-)
-    (λ n. tt)
-outright_in_body EndTag tag w = holds_by_name RowIsOutright in_body_end in_body_end_other tag w (
-  (λ p. outright_chosen (body_in_scope w) (body_ends [] (Again AfterBody) w) ignored tt tt),
-  (
-    (λ p. outright_chosen (body_in_scope w) (body_ends (SetMode AfterBody ∷ []) IsDone w) ignored tt tt),
-    (
-      (λ p. outright_chosen (in_scope (is_html_named tag.name) is_default_scope (names_of w)) (row_if (current_is tag.name w) (GenerateImpliedEnd ∷ PopUntilNamed tag.name ∷ []) IsDone) ignored tt tt),
-      (
-        (λ p. outright_chosen (has_p_in_button_scope (names_of w)) (row_if (current_is (codes "p") w) (ClosePElement ∷ []) IsDone) (errs (InsertElement (codes "p") [] false ∷ ClosePElement ∷ []) IsDone) tt tt),
-        (
-          (λ p. outright_chosen (in_scope is_heading is_default_scope (names_of w)) (row_if (current_is tag.name w) (GenerateImpliedEnd ∷ PopUntilHeading ∷ []) IsDone) ignored tt tt),
-          ((λ p. tt), ((λ p. tt), ((λ p. tt), tt))),
-        ),
-      ),
-    ),
-  ),
-)
-    (λ n. outright_chosen (comes_before_special tag.name (names_of w)) (errs (GenerateImpliedEndExcept tag.name ∷ PopUntilNamed tag.name ∷ []) IsDone) ignored tt tt)
+outright_in_body StartTag tag w = row_outright _ (row_start tag w)
+outright_in_body EndTag tag w = row_end_by tag w RowIsOutright row_outright (λ p. outright_end_html w)
 
 -- so does each rule of the body
 body_is_outright : (t : TurnText) (w : World) → IsOutright (in_body t w).ending

@@ -8,11 +8,11 @@ use Rattle.h5_stack.specs.Order.{second_from_last}
 use Rattle.h5_stack.specs.Scope.{has_template}
 use Rattle.h5_fits.specs.NamesFit.{NamesFit}
 use Rattle.h5_fits.proofs.SituationLaws.{names_later}
-use Rattle.h5_meaning.specs.Changes.{add_attrs_at, add_attrs_to_html, add_attrs_to_second, append_comment, append_comment_to_doc, append_comment_to_html, append_pending_text, append_text, create_root, insert_and_pop_element, insert_and_pop_form, insert_element, insert_head, pop, pop_until_current, pop_until_named, set_foster, set_frameset_not_ok, set_frameset_ok_by_text, set_mode, set_quirks_mode}
-use Rattle.h5_meaning.specs.Closing.{pop_until_cell}
+use Rattle.h5_meaning.specs.Changes.{add_attrs_at, add_attrs_to_html, add_attrs_to_second, append_comment, append_comment_to_doc, append_comment_to_html, append_pending_text, append_text, create_root, insert_and_pop_element, insert_and_pop_form, insert_element, insert_form, insert_head, pop, pop_until_current, pop_until_named, set_foster, set_frameset_not_ok, set_frameset_ok_by_text, set_mode, set_quirks_mode}
+use Rattle.h5_meaning.specs.Closing.{copy_closed_option, pop_until_cell}
 use Rattle.h5_meaning.specs.Formatting.{clear_active_formatting_to_marker, insert_marker}
 use Rattle.h5_meaning.specs.Reset.{reset_mode}
-use Rattle.h5_meaning.specs.Rows.{AddAttrsToHtml, AddAttrsToSecond, AdoptionAgency, AppendComment, AppendCommentToDoc, AppendCommentToHtml, AppendPendingText, AppendText, Change, ClearActiveFormattingToMarker, ClosePElement, ClosePElementInButtonScope, CreateFormattingElement, CreateRoot, Ending, GenerateImpliedEnd, GenerateImpliedEndExcept, HandleMisnestedATags, HandleMisnestedNobrTags, InsertAndPopElement, InsertAndPopForm, InsertElement, InsertHead, InsertMarker, IsDone, Pop, PopHeading, PopUntilCell, PopUntilCurrent, PopUntilHeading, PopUntilNamed, ReconstructActiveFormattingElements, ResetMode, Row, SaveMode, SetFoster, SetFramesetNotOk, SetFramesetOkByText, SetMode, SetQuirksMode, TakePendingText, apply, apply_all, errs, ignored, next_mode, row}
+use Rattle.h5_meaning.specs.Rows.{AddAttrsToHtml, AddAttrsToSecond, AdoptionAgency, AppendComment, AppendCommentToDoc, AppendCommentToHtml, AppendPendingText, AppendText, Change, ClearActiveFormattingToMarker, ClearForm, CloseListItem, ClosePElement, ClosePElementInButtonScope, CopyClosedOption, CreateFormattingElement, CreateRoot, Ending, GenerateImpliedEnd, GenerateImpliedEndExcept, GenerateImpliedEndInSelect, HandleMisnestedATags, HandleMisnestedNobrTags, InsertAndPopElement, InsertAndPopForm, InsertElement, InsertForm, InsertHead, InsertMarker, IsDone, Pop, PopHeading, PopUntilCell, PopUntilCurrent, PopUntilHeading, PopUntilNamed, ReconstructActiveFormattingElements, RemoveFromStack, ResetMode, Row, SaveMode, SetFoster, SetFramesetNotOk, SetFramesetOkByText, SetIgnoreLf, SetMode, SetQuirksMode, TakePendingText, apply, apply_all, errs, ignored, next_mode, row}
 use Rattle.h5_meaning.specs.Shared.{in_body_start_html}
 use Rattle.h5_meaning.specs.Sound.{Sound, situation_of}
 use Rattle.h5_meaning.specs.Tables.{foster}
@@ -20,7 +20,7 @@ use Rattle.h5_meaning.specs.World.{World, names_of}
 use Rattle.h5_meaning.proofs.ByNameLaws.{holds_chosen}
 use Rattle.h5_meaning.proofs.NameLaws.{names-add_to_root, names-append, names-append_comment, names-append_comment_to_document, names-append_comment_to_root, names-insert_and_pop}
 use Rattle.h5_meaning.proofs.SituationLaws.{KeepsSituation, situation_add_to_root, situation_comment, situation_comment_to_document, situation_comment_to_root, situation_later, situation_leaf, situation_text}
-use Rattle.h5_meaning.proofs.TreeLaws.{OnlyTree, tree_adoption, tree_cleared, tree_close_p, tree_close_p_in_scope, tree_format, tree_implied, tree_implied_except, tree_marker, tree_misnested_a_tags, tree_misnested_nobr_tags, tree_pop_heading, tree_reconstruct, tree_until_cell, tree_until_current, tree_until_heading}
+use Rattle.h5_meaning.proofs.TreeLaws.{OnlyTree, tree_adoption, tree_cleared, tree_close_p, tree_close_p_in_scope, tree_format, tree_implied, tree_implied_except, tree_in_select, tree_list_item, tree_marker, tree_misnested_a_tags, tree_misnested_nobr_tags, tree_pop_heading, tree_reconstruct, tree_remove, tree_until_cell, tree_until_current, tree_until_heading}
 
 -- the mode that changes of a world leave, where another mode than its own may count as the one before
 abbrev pub mode_after : SinkChoices → World → InsertionMode → List Change → InsertionMode
@@ -82,7 +82,7 @@ tree_mode : (w v : World) → OnlyTree w v → v.mode ≡ w.mode
 tree_mode w v e = ap (λ (x : World). x.mode) e
 
 change_mode : (choices : SinkChoices) (x : Change) (w : World) → (apply choices x w).mode ≡ mode_after choices w w.mode (x ∷ [])
-unfolding set_frameset_ok_by_text set_quirks_mode insert_element create_root append_comment append_comment_to_doc append_comment_to_html append_text pop insert_and_pop_element insert_and_pop_form insert_head add_attrs_to_html add_attrs_to_second pop_until_named append_pending_text
+unfolding set_frameset_ok_by_text set_quirks_mode insert_element create_root append_comment append_comment_to_doc append_comment_to_html append_text pop insert_and_pop_element insert_and_pop_form insert_head add_attrs_to_html add_attrs_to_second pop_until_named append_pending_text insert_form copy_closed_option
 change_mode choices (SetMode mode) w = refl
 change_mode choices (SetQuirksMode mode) w = refl
 change_mode choices SetFramesetNotOk w = refl
@@ -124,6 +124,13 @@ change_mode choices ResetMode w = refl
 change_mode choices (SetFoster on) w = refl
 change_mode choices (AppendPendingText text) w = refl
 change_mode choices TakePendingText w = refl
+change_mode choices SetIgnoreLf w = refl
+change_mode choices (InsertForm attrs duplicates) w = refl
+change_mode choices ClearForm w = refl
+change_mode choices (CloseListItem locals) w = tree_mode w _ (tree_list_item choices locals w)
+change_mode choices GenerateImpliedEndInSelect w = tree_mode w _ (tree_in_select choices w)
+change_mode choices (CopyClosedOption option) w = refl
+change_mode choices (RemoveFromStack element) w = tree_mode w _ (tree_remove choices element w)
 
 mode_in_turn : (choices : SinkChoices) (w : World) (m : InsertionMode) (x : Change) (xs : List Change) → mode_after choices (apply choices x w) (mode_after choices w m (x ∷ [])) xs ≡ mode_after choices w m (x ∷ xs)
 mode_in_turn choices w m (SetMode k) xs = refl

@@ -6,9 +6,12 @@ pub mod AdoptionRound
 pub mod AgainLaws
 pub mod BlankLaws
 pub mod BodyFitsLaws
+pub mod BodyRowLaws
+pub mod BodyInLaws
 pub mod BodyListsLaws
 pub mod ByNameLaws
 pub mod CellFitsLaws
+pub mod CloseInLaws
 pub mod ClosingLaws
 pub mod CutLaws
 pub mod FallsLaws

@@ -19,25 +19,25 @@ use Rattle.h5_meaning.specs.BeforeHtml.{before_html_else, before_html_end, befor
 use Rattle.h5_meaning.specs.Blanks.{all_blank}
 use Rattle.h5_meaning.specs.ByName.{by_kind, by_name, ignored_tag, named, of_tag}
 use Rattle.h5_meaning.specs.Changes.{set_foster}
-use Rattle.h5_meaning.specs.InBody.{body_ends, body_in_scope, current_is, if_body_in_scope, inserts, is_quirks, in_body, in_body_end, in_body_end_block, in_body_end_heading, in_body_end_other, in_body_end_p, in_body_start, in_body_start_body, in_body_start_other, in_body_start_table, in_body_tag}
+use Rattle.h5_meaning.specs.InBody.{body_ends, body_in_scope, if_body_in_scope, is_quirks, in_body, in_body_end, in_body_end_block, in_body_end_heading, in_body_end_other, in_body_end_p, in_body_start, in_body_start_body, in_body_start_other, in_body_start_table, in_body_tag}
 use Rattle.h5_meaning.specs.InCaption.{close_the_caption, in_caption_end, in_caption_start, in_caption_tag}
 use Rattle.h5_meaning.specs.InCell.{close_the_cell, in_cell_end, in_cell_end_cell, in_cell_end_structure, in_cell_start, in_cell_start_structure, in_cell_tag}
 use Rattle.h5_meaning.specs.InColumnGroup.{close_the_column_group, in_column_group_else, in_column_group_end, in_column_group_start, in_column_group_tag}
 use Rattle.h5_meaning.specs.InHead.{in_head_else, in_head_end, in_head_start, in_head_tag}
 use Rattle.h5_meaning.specs.InRow.{close_the_row, in_row_end, in_row_end_section, in_row_start, in_row_tag}
-use Rattle.h5_meaning.specs.InTable.{in_table, in_table_else, in_table_end, in_table_end_table, in_table_start, in_table_start_form, in_table_start_input, in_table_start_table, in_table_tag, in_table_text_or_null, is_type_hidden, keeps_text}
+use Rattle.h5_meaning.specs.InTable.{in_table, in_table_else, in_table_end, in_table_end_table, in_table_start, in_table_start_form, in_table_start_input, in_table_start_table, in_table_tag, in_table_text_or_null, keeps_text}
 use Rattle.h5_meaning.specs.InTableBody.{in_table_body_close, in_table_body_end, in_table_body_end_section, in_table_body_start, in_table_body_tag, is_table_or_section}
 use Rattle.h5_meaning.specs.InTableText.{in_table_text_else, pending_text}
 use Rattle.h5_meaning.specs.InitialMode.{initial_else}
 use Rattle.h5_meaning.specs.Modes.{rule}
 use Rattle.h5_meaning.specs.Rows.{AddAttrsToHtml, AddAttrsToSecond, Again, AgainBy, AppendText, Change, ClearActiveFormattingToMarker, ClosePElement, ClosePElementInButtonScope, Ending, GenerateImpliedEnd, GenerateImpliedEndExcept, InsertAndPopElement, InsertAndPopForm, InsertElement, IsAcknowledged, IsDone, Pop, PopUntilCurrent, PopUntilHeading, PopUntilNamed, ResetMode, Row, SaveMode, SetFoster, SetFramesetNotOk, SetMode, SetQuirksMode, choose, errs, ignored, row, row_if}
 use Rattle.h5_meaning.specs.Reset.{reset_mode}
-use Rattle.h5_meaning.specs.Shared.{in_body_start_html}
+use Rattle.h5_meaning.specs.Shared.{current_is, in_body_start_html, inserts, is_type_hidden}
 use Rattle.h5_meaning.specs.Tables.{foster, in_table_scope, named_in_table_scope}
 use Rattle.h5_meaning.specs.World.{World, names_of}
-use Rattle.h5_meaning.proofs.ByNameLaws.{holds_by_name}
+use Rattle.h5_meaning.proofs.ByNameLaws.{holds_by_name, of_named}
 use Rattle.h5_meaning.proofs.ListedLaws.{AllListable, listable_append}
-use Rattle.h5_meaning.proofs.TableAgainLaws.{of_named}
+use Rattle.h5_meaning.proofs.BodyRowLaws.{row_end_by, row_start}
 
 abbrev Listable : Row → Type 0
 Listable r = AllListable r.changes
@@ -85,63 +85,18 @@ unfolding after_after_body_start
 after_after_body_rows StartTag tag w = holds_by_name Listable after_after_body_start (of_tag back_to_body) tag w ((λ p. listable_html tag w), tt) (λ n. tt)
 after_after_body_rows EndTag tag w = tt
 
--- IN THE BODY: formatting elements alone are created as such
-abbrev IsFormattingName : List ℕ → Type 0
-IsFormattingName name = IsTrue (is_one_of formatting_names name)
-
-formatting_a : (name : List ℕ) → named A name ≡ true → IsFormattingName name
-unfolding formatting_names
-formatting_a name h = of_named IsFormattingName A name refl h
-
-formatting_nobr : (name : List ℕ) → named Nobr name ≡ true → IsFormattingName name
-unfolding formatting_names
-formatting_nobr name h = of_named IsFormattingName Nobr name refl h
-
-module _ (tag : TagText) (w : World) where
-  body_start_rows : Listable (by_name in_body_start in_body_start_other tag w)
-  unfolding in_body_start in_body_start_body in_body_start_table
-  body_start_rows = holds_by_name Listable in_body_start in_body_start_other tag w (
-    (λ p. listable_html tag w),
-    (
-      (λ p. either (second_is (codes "body") (names_of w) && not (has_template (names_of w))) (errs (SetFramesetNotOk ∷ AddAttrsToSecond tag.attrs ∷ []) IsDone) ignored tt tt),
-      ((λ p. tt), ((λ p. tt), ((λ p. (formatting_a tag.name p, tt)), ((λ p. (formatting_nobr tag.name p, tt)), ((λ p. (p, tt)), ((λ p. tt), (table, ((λ p. tt), tt)))))))),
-    ),
-  )
-      (λ n. tt)
-    where
-      opens : List Change
-      opens = inserts tag ∷ SetFramesetNotOk ∷ SetMode InTable ∷ []
-
-      table : named Table tag.name ≡ true → Listable (in_body_start_table tag w)
-      table p = either (is_quirks w.quirks) (row opens IsDone) (row_if (not (has_p_in_button_scope (names_of w))) (ClosePElementInButtonScope ∷ opens) IsDone) tt tt
-
-  body_end_rows : Listable (by_name in_body_end in_body_end_other tag w)
-  unfolding in_body_end if_body_in_scope in_body_end_block in_body_end_p in_body_end_heading in_body_end_other
-  body_end_rows = holds_by_name Listable in_body_end in_body_end_other tag w (
-    (λ p. either (body_in_scope w) (body_ends [] (Again AfterBody) w) ignored tt tt),
-    (
-      (λ p. either (body_in_scope w) (body_ends (SetMode AfterBody ∷ []) IsDone w) ignored tt tt),
-      (
-        (λ p. either (in_scope (is_html_named tag.name) is_default_scope (names_of w)) (row_if (current_is tag.name w) (GenerateImpliedEnd ∷ PopUntilNamed tag.name ∷ []) IsDone) ignored tt tt),
-        (
-          (λ p. either (has_p_in_button_scope (names_of w)) (row_if (current_is (codes "p") w) (ClosePElement ∷ []) IsDone) (errs (InsertElement (codes "p") [] false ∷ ClosePElement ∷ []) IsDone) tt tt),
-          (
-            (λ p. either (in_scope is_heading is_default_scope (names_of w)) (row_if (current_is tag.name w) (GenerateImpliedEnd ∷ PopUntilHeading ∷ []) IsDone) ignored tt tt),
-            ((λ p. tt), ((λ p. tt), ((λ p. tt), tt))),
-          ),
-        ),
-      ),
-    ),
-  )
-      (λ n. either (comes_before_special tag.name (names_of w)) (errs (GenerateImpliedEndExcept tag.name ∷ PopUntilNamed tag.name ∷ []) IsDone) ignored tt tt)
+-- IN THE BODY
+body_end_html : (w : World) → Listable (if_body_in_scope (body_ends [] (Again AfterBody) w) w)
+unfolding if_body_in_scope
+body_end_html w = either (body_in_scope w) (body_ends [] (Again AfterBody) w) ignored tt tt
 
 body_tag_rows : (tag : TagText) (w : World) → Listable (in_body_tag tag w)
 unfolding in_body_tag
 body_tag_rows tag w = at tag.kind
   where
     at : (k : TagKind) → Listable (by_kind k (by_name in_body_start in_body_start_other tag w) (by_name in_body_end in_body_end_other tag w))
-    at StartTag = body_start_rows tag w
-    at EndTag = body_end_rows tag w
+    at StartTag = (row_start tag w).listable
+    at EndTag = row_end_by tag w Listable (λ r b. b.listable) (λ p. body_end_html w)
 
 body_rows : (t : TurnText) (w : World) → Listable (in_body t w)
 body_rows (TagTurn tag) w = body_tag_rows tag w

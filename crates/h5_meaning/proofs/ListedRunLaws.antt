@@ -14,7 +14,7 @@ use Rattle.h5_meaning.specs.BeforeHead.{before_head_else}
 use Rattle.h5_meaning.specs.BeforeHtml.{before_html_else}
 use Rattle.h5_meaning.specs.Blanks.{blanks_of, rest_of}
 use Rattle.h5_meaning.specs.Changes.{append_pending_text, append_text, insert_doctype, save_mode, set_foster, set_frameset_ok_by_text, set_mode, set_quirks_mode}
-use Rattle.h5_meaning.specs.InBody.{current_is}
+use Rattle.h5_meaning.specs.Shared.{current_is}
 use Rattle.h5_meaning.specs.InColumnGroup.{in_column_group_else}
 use Rattle.h5_meaning.specs.InHead.{in_head_else}
 use Rattle.h5_meaning.specs.InTable.{keeps_text}

@@ -7,25 +7,26 @@ use Rattle.h5_interface.specs.Forest.{ChildText, Forest, parent_of}
 use Rattle.h5_interface.specs.SinkChoices.{Rearranges, SinkChoices}
 use Rattle.h5_interface.proofs.ForestLaws.{document_is_node}
 use Rattle.h5_interface.proofs.MakingLaws.{add_missing_rearranges}
-use Rattle.h5_tag_sets.specs.TagSets.{is_cell, is_heading, is_implied}
+use Rattle.h5_tag_sets.specs.TagSets.{is_cell, is_default_scope, is_heading, is_html_named, is_implied}
 use Rattle.h5_stack.specs.FormattingList.{MarkerEntry, clear_to_marker}
 use Rattle.h5_stack.specs.FormattingNames.{html_name}
 use Rattle.h5_stack.specs.Order.{second_from_last}
-use Rattle.h5_stack.specs.Scope.{first_passes, has_p_in_button_scope}
+use Rattle.h5_stack.specs.Scope.{first_passes, has_p_in_button_scope, in_scope}
 use Rattle.h5_fits.specs.Root.{IsRootOpen}
 use Rattle.h5_stack.proofs.EachLaws.{each_cleared}
 use Rattle.h5_stack.proofs.KeptLaws.{lists_cleared, lists_marked, lists_pushed}
 use Rattle.h5_stack.proofs.PassLaws.{lists_cut_above, ordered_distinct}
-use Rattle.h5_meaning.specs.Changes.{add_attrs_at, add_attrs_to_html, add_attrs_to_second, append_comment, append_comment_to_doc, append_comment_to_html, append_pending_text, append_text, create_root, generate_implied_end_except, insert_and_pop_element, insert_and_pop_form, insert_element, insert_head, new_comment, new_element, pop, pop_until_current, pop_until_named, push_new, set_frameset_ok_by_text, set_quirks_mode, with_forest}
-use Rattle.h5_meaning.specs.Closing.{close_p_element, close_p_element_in_button_scope, generate_implied_end, pop_heading, pop_until_cell, pop_until_heading}
+use Rattle.h5_meaning.specs.FormOwner.{Marking}
+use Rattle.h5_meaning.specs.Changes.{add_attrs_at, add_attrs_to_html, add_attrs_to_second, append_comment, append_comment_to_doc, append_comment_to_html, append_pending_text, append_text, create_root, generate_implied_end_except, insert_and_pop_element, insert_and_pop_form, insert_element, insert_form, insert_head, new_comment, new_element, owned, pop, pop_until_current, pop_until_named, push_new, set_frameset_ok_by_text, set_quirks_mode, with_forest}
+use Rattle.h5_meaning.specs.Closing.{close_item, close_list_item, close_p_element, close_p_element_in_button_scope, generate_implied_end, generate_implied_end_in_select, newest_item, pop_heading, pop_until_cell, pop_until_heading}
 use Rattle.h5_meaning.specs.Formatting.{clear_active_formatting_to_marker, insert_marker, reconstruct_active_formatting_elements}
 use Rattle.h5_meaning.specs.Place.{IsPlaceIn, LastChild, Place, place, put}
-use Rattle.h5_meaning.specs.Rows.{AddAttrsToHtml, AddAttrsToSecond, AdoptionAgency, AppendComment, AppendCommentToDoc, AppendCommentToHtml, AppendPendingText, AppendText, Change, ClearActiveFormattingToMarker, ClosePElement, ClosePElementInButtonScope, CreateFormattingElement, CreateRoot, GenerateImpliedEnd, GenerateImpliedEndExcept, HandleMisnestedATags, HandleMisnestedNobrTags, InsertAndPopElement, InsertAndPopForm, InsertElement, InsertHead, InsertMarker, Pop, PopHeading, PopUntilCell, PopUntilCurrent, PopUntilHeading, PopUntilNamed, ReconstructActiveFormattingElements, ResetMode, SaveMode, SetFoster, SetFramesetNotOk, SetFramesetOkByText, SetMode, SetQuirksMode, TakePendingText, apply, apply_all}
+use Rattle.h5_meaning.specs.Rows.{AddAttrsToHtml, AddAttrsToSecond, AdoptionAgency, AppendComment, AppendCommentToDoc, AppendCommentToHtml, AppendPendingText, AppendText, Change, ClearActiveFormattingToMarker, ClearForm, CloseListItem, ClosePElement, ClosePElementInButtonScope, CopyClosedOption, CreateFormattingElement, CreateRoot, GenerateImpliedEnd, GenerateImpliedEndExcept, GenerateImpliedEndInSelect, HandleMisnestedATags, HandleMisnestedNobrTags, InsertAndPopElement, InsertAndPopForm, InsertElement, InsertForm, InsertHead, InsertMarker, Pop, PopHeading, PopUntilCell, PopUntilCurrent, PopUntilHeading, PopUntilNamed, ReconstructActiveFormattingElements, RemoveFromStack, ResetMode, SaveMode, SetFoster, SetFramesetNotOk, SetFramesetOkByText, SetIgnoreLf, SetMode, SetQuirksMode, TakePendingText, apply, apply_all}
 use Rattle.h5_meaning.specs.Sound.{HasLists, IsReady, Sound}
 use Rattle.h5_meaning.specs.World.{World, names_of, root}
 use Rattle.h5_meaning.proofs.AdoptionAgencyLaws.{Keeps, cut_keeps, implied_keeps, pop_keeps, until_named_keeps, while_keeps}
 use Rattle.h5_meaning.proofs.FormattingLaws.{all_listed, lists_reconstruct, new_is_unlisted, sound_reconstruct}
-use Rattle.h5_meaning.proofs.PlaceLaws.{all_inserted, current_place_is_there, first_place, form_stands, head_stands, new_comment_rearranges, new_element_rearranges, text_put_rearranges}
+use Rattle.h5_meaning.proofs.PlaceLaws.{all_inserted, current_place_is_there, first_place, form_open_stands, form_stands, head_stands, new_comment_rearranges, new_element_rearranges, no_form_stands, text_put_rearranges}
 use Rattle.h5_meaning.proofs.PopLaws.{all_cut_above}
 use Rattle.h5_meaning.proofs.SoundLaws.{all_rearranged, root_is_node}
 
@@ -50,7 +51,7 @@ steady_if true v w k h = k
 steady_if false v w k h = h
 
 -- the forest alone changes
-steady_rearranged : (w : World) (g : Forest) → Rearranges w.forest g → IsSteady w → IsSteady (with_forest g w)
+pub steady_rearranged : (w : World) (g : Forest) → Rearranges w.forest g → IsSteady w → IsSteady (with_forest g w)
 steady_rearranged w g r k = record { sound = all_rearranged w.forest g w.stack k.sound r; lists = k.lists }
 
 module _ (w : World) (k : IsSteady w) where
@@ -100,14 +101,14 @@ module _ (w : World) (k : IsSteady w) where
   }
 
   -- markers
-  steady_marker : IsSteady (insert_marker w)
+  pub steady_marker : IsSteady (insert_marker w)
   unfolding insert_marker
   steady_marker = record {
     sound = all_listed w.forest w.stack w.formatting (MarkerEntry ∷ w.formatting) k.sound k.sound.listed k.sound.formatting;
     lists = lists_marked w.stack w.formatting k.lists;
   }
 
-  steady_cleared : IsSteady (clear_active_formatting_to_marker w)
+  pub steady_cleared : IsSteady (clear_active_formatting_to_marker w)
   unfolding clear_active_formatting_to_marker
   steady_cleared = record {
     sound = all_listed w.forest w.stack w.formatting (clear_to_marker w.formatting) k.sound (each_cleared _ w.formatting k.sound.listed) (each_cleared _ w.formatting k.sound.formatting);
@@ -121,15 +122,15 @@ module _ (w : World) (k : IsSteady w) where
 
 module _ (choices : SinkChoices) (w : World) (k : IsSteady w) where
   -- a new element is pushed
-  steady_pushed : (p : Place) (local : List ℕ) (attrs : List AttributeText) (duplicates : Bool) → IsPlaceIn w.forest p → (w.stack ≡ [] → p ≡ LastChild w.forest.document) → IsSteady (push_new choices p local attrs duplicates w)
-  steady_pushed p local attrs duplicates there first = record {
-    sound = all_inserted choices p (html_name local) attrs duplicates w k.sound there first;
+  steady_pushed : (p : Place) (local : List ℕ) (attrs : List AttributeText) (duplicates : Bool) (marks : Marking) → IsPlaceIn w.forest p → (w.stack ≡ [] → p ≡ LastChild w.forest.document) → IsSteady (push_new choices p local attrs duplicates marks w)
+  steady_pushed p local attrs duplicates marks there first = record {
+    sound = all_inserted choices p (html_name local) attrs duplicates marks w k.sound there first;
     lists = lists_pushed (choices.fresh w.forest) w.stack w.formatting (new_is_unlisted choices w k.sound) k.lists;
   }
 
   steady_insert : (local : List ℕ) (attrs : List AttributeText) (duplicates : Bool) → IsSteady (insert_element choices local attrs duplicates w)
   unfolding insert_element
-  steady_insert local attrs duplicates = steady_pushed (place w) local attrs duplicates (current_place_is_there w k.sound) (λ e. first_place w k.sound.stands.is_forest e)
+  steady_insert local attrs duplicates = steady_pushed (place w) local attrs duplicates (owned choices local attrs w) (current_place_is_there w k.sound) (λ e. first_place w k.sound.stands.is_forest e)
 
   steady_head : (attrs : List AttributeText) (duplicates : Bool) → IsSteady (insert_head choices attrs duplicates w)
   unfolding insert_head
@@ -139,20 +140,26 @@ module _ (choices : SinkChoices) (w : World) (k : IsSteady w) where
 
   steady_root : (attrs : List AttributeText) → IsSteady (create_root choices attrs w)
   unfolding create_root
-  steady_root attrs = steady_pushed (LastChild w.forest.document) (codes "html") attrs false (document_is_node w.forest k.sound.stands.is_forest) (λ e. refl)
+  steady_root attrs = steady_pushed (LastChild w.forest.document) (codes "html") attrs false None (document_is_node w.forest k.sound.stands.is_forest) (λ e. refl)
 
   -- a new one that isn't open
   pub steady_leaf : (local : List ℕ) (attrs : List AttributeText) (duplicates : Bool) → IsSteady (insert_and_pop_element choices local attrs duplicates w)
   unfolding insert_and_pop_element
   steady_leaf local attrs duplicates =
-      steady_rearranged w (new_element choices (place w) (html_name local) attrs duplicates w.forest)
-      (new_element_rearranges choices w.forest (place w) (html_name local) attrs duplicates k.sound.stands.is_forest (current_place_is_there w k.sound)) k
+      steady_rearranged w (new_element choices (place w) (html_name local) attrs duplicates (owned choices local attrs w) w.forest)
+      (new_element_rearranges choices w.forest (place w) (html_name local) attrs duplicates (owned choices local attrs w) k.sound.stands.is_forest (current_place_is_there w k.sound)) k
 
   steady_form : (attrs : List AttributeText) (duplicates : Bool) → IsSteady (insert_and_pop_form choices attrs duplicates w)
   unfolding insert_and_pop_form
   steady_form attrs duplicates =
       let new = steady_leaf (codes "form") attrs duplicates in
       record { sound = form_stands choices attrs duplicates w k.sound new.sound; lists = new.lists }
+
+  steady_form_open : (attrs : List AttributeText) (duplicates : Bool) → IsSteady (insert_form choices attrs duplicates w)
+  unfolding insert_form
+  steady_form_open attrs duplicates =
+      let new = steady_insert (codes "form") attrs duplicates in
+      record { sound = form_open_stands choices attrs duplicates w k.sound new.sound; lists = new.lists }
 
   -- comments
   steady_comment : (p : Place) (t : List ℕ) → IsPlaceIn w.forest p → IsSteady (with_forest (new_comment choices p t w.forest) w)
@@ -185,6 +192,10 @@ module _ (choices : SinkChoices) (w : World) (k : IsSteady w) where
   unfolding pop_heading
   steady_pop_heading = steady_if (first_passes is_heading (names_of w)) (pop choices w) w steady_pop k
 
+  steady_in_select : IsSteady (generate_implied_end_in_select choices w)
+  unfolding generate_implied_end_in_select
+  steady_in_select = steady_if (in_scope (is_html_named (codes "select")) is_default_scope (names_of w)) (generate_implied_end choices w) w steady_implied k
+
   -- active formatting elements
   steady_reconstruct : IsSteady (reconstruct_active_formatting_elements choices w)
   steady_reconstruct = record { sound = sound_reconstruct choices w k.sound; lists = lists_reconstruct choices w k.sound k.lists }
@@ -197,13 +208,24 @@ steady_close_p_in_scope : (choices : SinkChoices) (w : World) → IsSteady w →
 unfolding close_p_element_in_button_scope
 steady_close_p_in_scope choices w k = steady_if (has_p_in_button_scope (names_of w)) (close_p_element choices w) w (steady_close_p choices w k) k
 
--- what a change needs: formatting elements are for the rows that make and close them
+steady_item : (choices : SinkChoices) (o : Option (List ℕ)) (w : World) → IsSteady w → IsSteady (close_item choices o w)
+steady_item choices None w k = k
+steady_item choices (Some local) w k = steady_until_named (generate_implied_end_except choices local w) (steady_implied_except choices w k local) local
+
+steady_list_item : (choices : SinkChoices) (locals : List (List ℕ)) (w : World) → IsSteady w → IsSteady (close_list_item choices locals w)
+unfolding close_list_item
+steady_list_item choices locals w k = steady_item choices (newest_item locals (names_of w)) w k
+
+-- what a change needs: formatting elements are for the rows that make and close them, and what takes an element that the
+-- row knows of is for that row
 abbrev pub NeedsOf : Change → Type 0
 NeedsOf (AppendText text) = text ≢ []
 NeedsOf (CreateFormattingElement tag) = ⊥
 NeedsOf (AdoptionAgency name) = ⊥
 NeedsOf HandleMisnestedATags = ⊥
 NeedsOf HandleMisnestedNobrTags = ⊥
+NeedsOf (CopyClosedOption option) = ⊥
+NeedsOf (RemoveFromStack element) = ⊥
 NeedsOf _ = Unit {0}
 
 abbrev pub NeedsOfAll : List Change → Type 0
@@ -249,6 +271,13 @@ steady_change choices ResetMode w needs k = record { sound = k.sound; lists = k.
 steady_change choices (SetFoster on) w needs k = record { sound = k.sound; lists = k.lists }
 steady_change choices (AppendPendingText text) w needs k = steady_pending w k text
 steady_change choices TakePendingText w needs k = record { sound = k.sound; lists = k.lists }
+steady_change choices SetIgnoreLf w needs k = record { sound = k.sound; lists = k.lists }
+steady_change choices (InsertForm attrs duplicates) w needs k = steady_form_open choices w k attrs duplicates
+steady_change choices ClearForm w needs k = record { sound = no_form_stands w k.sound; lists = k.lists }
+steady_change choices (CloseListItem locals) w needs k = steady_list_item choices locals w k
+steady_change choices GenerateImpliedEndInSelect w needs k = steady_in_select choices w k
+steady_change choices (CopyClosedOption option) w needs k = absurd needs
+steady_change choices (RemoveFromStack element) w needs k = absurd needs
 
 -- one after another
 pub steady_changes : (choices : SinkChoices) (xs : List Change) (w : World) → NeedsOfAll xs → IsSteady w → IsSteady (apply_all choices xs w)

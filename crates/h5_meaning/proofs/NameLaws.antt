@@ -7,7 +7,8 @@ use Rattle.h5_interface.specs.SinkChoices.{Rearranges, SinkChoices}
 use Rattle.h5_interface.proofs.ForestLaws.{document_is_node}
 use Rattle.h5_interface.proofs.MakingLaws.{add_missing_rearranges}
 use Rattle.h5_tag_sets.specs.TagSets.{is_cell, is_html_named}
-use Rattle.h5_meaning.specs.Changes.{add_attrs_to_html, add_attrs_to_second, add_attrs_at, append_text, append_comment, append_comment_to_doc, append_comment_to_html, pop_until_named, generate_implied_end_except, insert_and_pop_element, insert_and_pop_form, insert_element, insert_head, create_root, new_element, pop, pop_until_current, pop_while, push_new}
+use Rattle.h5_meaning.specs.FormOwner.{Marking}
+use Rattle.h5_meaning.specs.Changes.{owned, add_attrs_to_html, add_attrs_to_second, add_attrs_at, append_text, append_comment, append_comment_to_doc, append_comment_to_html, pop_until_named, generate_implied_end_except, insert_and_pop_element, insert_and_pop_form, insert_element, insert_head, create_root, new_element, pop, pop_until_current, pop_while, push_new}
 use Rattle.h5_meaning.specs.Closing.{pop_until_cell}
 use Rattle.h5_meaning.specs.Place.{IsPlaceIn, LastChild, Place, place, put}
 use Rattle.h5_stack.specs.Order.{IsIn}
@@ -32,23 +33,23 @@ unfolding names_of
 names_kept w g k r = kept w.forest g w.stack k.stands.elements r
 
 -- a new element is the first
-pub names_pushed : (choices : SinkChoices) (p : Place) (local : List ℕ) (attrs : List AttributeText) (duplicates : Bool) (w : World) → Sound w → IsPlaceIn w.forest p → names_of (push_new choices p local attrs duplicates w) ≡ html_name local ∷ names_of w
+pub names_pushed : (choices : SinkChoices) (p : Place) (local : List ℕ) (attrs : List AttributeText) (duplicates : Bool) (marks : Marking) (w : World) → Sound w → IsPlaceIn w.forest p → names_of (push_new choices p local attrs duplicates marks w) ≡ html_name local ∷ names_of w
 unfolding names_of
-names_pushed choices p local attrs duplicates w k there =
+names_pushed choices p local attrs duplicates marks w k there =
     let name = html_name local in
-    let g = new_element choices p name attrs duplicates w.forest in
-    ap (λ x. x ∷ map (name_in g) w.stack) (ap name_of_found (new_element_kind choices w.forest p name attrs duplicates k.stands.is_forest there))
-    ∙ ap (λ xs. name ∷ xs) (kept w.forest g w.stack k.stands.elements (new_element_rearranges choices w.forest p name attrs duplicates k.stands.is_forest there))
+    let g = new_element choices p name attrs duplicates marks w.forest in
+    ap (λ x. x ∷ map (name_in g) w.stack) (ap name_of_found (new_element_kind choices w.forest p name attrs duplicates marks k.stands.is_forest there))
+    ∙ ap (λ xs. name ∷ xs) (kept w.forest g w.stack k.stands.elements (new_element_rearranges choices w.forest p name attrs duplicates marks k.stands.is_forest there))
 
 pub names-insert : (choices : SinkChoices) (local : List ℕ) (attrs : List AttributeText) (duplicates : Bool) (w : World) → Sound w → names_of (insert_element choices local attrs duplicates w) ≡ html_name local ∷ names_of w
 unfolding insert_element
-names-insert choices local attrs duplicates w k = names_pushed choices (place w) local attrs duplicates w k (current_place_is_there w k)
+names-insert choices local attrs duplicates w k = names_pushed choices (place w) local attrs duplicates (owned choices local attrs w) w k (current_place_is_there w k)
 
 -- one that isn't open changes none
 pub names-insert_and_pop : (choices : SinkChoices) (local : List ℕ) (attrs : List AttributeText) (duplicates : Bool) (w : World) → Sound w → names_of (insert_and_pop_element choices local attrs duplicates w) ≡ names_of w
 unfolding insert_and_pop_element names_of
 names-insert_and_pop choices local attrs duplicates w k =
-    kept w.forest _ w.stack k.stands.elements (new_element_rearranges choices w.forest (place w) (html_name local) attrs duplicates k.stands.is_forest (current_place_is_there w k))
+    kept w.forest _ w.stack k.stands.elements (new_element_rearranges choices w.forest (place w) (html_name local) attrs duplicates (owned choices local attrs w) k.stands.is_forest (current_place_is_there w k))
 
 pub names-form : (choices : SinkChoices) (attrs : List AttributeText) (duplicates : Bool) (w : World) → Sound w → names_of (insert_and_pop_form choices attrs duplicates w) ≡ names_of w
 unfolding insert_and_pop_form names_of
@@ -56,7 +57,7 @@ names-form choices attrs duplicates w k = names-insert_and_pop choices (codes "f
 
 pub names-insert_root : (choices : SinkChoices) (attrs : List AttributeText) (w : World) → Sound w → names_of (create_root choices attrs w) ≡ html_name (codes "html") ∷ names_of w
 unfolding create_root
-names-insert_root choices attrs w k = names_pushed choices (LastChild w.forest.document) (codes "html") attrs false w k (document_is_node w.forest k.stands.is_forest)
+names-insert_root choices attrs w k = names_pushed choices (LastChild w.forest.document) (codes "html") attrs false None w k (document_is_node w.forest k.stands.is_forest)
 
 pub names-insert_head : (choices : SinkChoices) (attrs : List AttributeText) (duplicates : Bool) (w : World) → Sound w → names_of (insert_head choices attrs duplicates w) ≡ html_name (codes "head") ∷ names_of w
 unfolding insert_head names_of insert_element

@@ -1,27 +1,30 @@
 -- The place of insertion is there, and what putting something there leaves.
-use Rattle.std.proofs.Common.{◌≡◌, ◌≢◌, inl, inr, ℕ, Bool, true, false, ◌==◌, cond, List, [], ◌∷◌, ◌&&◌, codes, Option, Some, None, IsTrue, refl, ap, sym, subst, ◌∙◌}
+use Rattle.std.proofs.Common.{◌≡◌, ◌≢◌, inl, inr, ℕ, Bool, true, false, ◌==◌, cond, List, [], ◌∷◌, ◌&&◌, codes, Option, Some, None, IsTrue, option_map, option_and_then, refl, ap, sym, subst, ◌∙◌}
 use Rattle.std.proofs.lemmas.Bool.{eq-eqb}
 use Rattle.std.specs.Prelude.{unwrap_or}
 use Rattle.h5_names.specs.AttributeText.{AttributeText}
 use Rattle.h5_names.specs.declared.qualified.QualName.{QualName}
-use Rattle.h5_interface.specs.Forest.{Child, ChildNode, ChildText, CommentNode, ElementNode, Forest, FragmentNode, HasContents, IsElement, IsForest, IsNode, contents_of, kind_of, parent_of}
+use Rattle.h5_interface.specs.Forest.{Child, ChildNode, ChildText, CommentNode, DocumentNode, ElementNode, Forest, FragmentNode, HasContents, IsElement, IsForest, IsNode, Node, contents_of, kind_of, parent_of}
+use Rattle.h5_interface.specs.Ancestors.{AtOrAbove}
 use Rattle.h5_interface.specs.NewElement.{flags_of, is_html_template}
 use Rattle.h5_interface.specs.Seen.{CanStandBy, IsFreeFor, make, make_element, plain, with_child_by}
 use Rattle.h5_interface.specs.SinkChoices.{Rearranges, SinkChoices}
 use Rattle.h5_interface.proofs.CallLaws.{child_by_keeps, child_by_rehangs, last_child_keeps, last_child_rehangs}
-use Rattle.h5_interface.proofs.ForestLaws.{contents_are_node, node_of_kind, rearranged_node}
+use Rattle.h5_interface.proofs.ForestLaws.{contents_are_node, node_of_kind, rearranged_node, rearranges_refl, rearranges_trans}
 use Rattle.h5_interface.proofs.HangingLaws.{append_text_rearranges, insert_text_rearranges}
-use Rattle.h5_interface.proofs.MakingLaws.{hung_fresh_rearranges, make_element_rearranges, make_rearranges, made_contents, made_is_free, made_kind, new_is_free}
+use Rattle.h5_interface.proofs.MakingLaws.{hung_fresh_rearranges, make_element_rearranges, make_rearranges, mark_rearranges, made_contents, made_is_free, made_kind, new_is_free}
 use Rattle.h5_interface.proofs.RehangLaws.{Rehangs}
 use Rattle.h5_interface.proofs.CallLaws.{is_child}
 use Rattle.h5_tag_sets.specs.TagSets.{html_namespace, is_table_outer}
 use Rattle.h5_stack.specs.Order.{IsIn, first_or}
-use Rattle.h5_meaning.specs.Changes.{insert_and_pop_element, insert_and_pop_form, insert_element, insert_head, new_comment, new_element}
+use Rattle.h5_meaning.specs.Changes.{clear_form, insert_and_pop_element, insert_and_pop_form, insert_element, insert_form, insert_head, new_comment, new_element, owned}
+use Rattle.h5_meaning.specs.FormOwner.{Marking, marked_by}
 use Rattle.h5_meaning.specs.Place.{CanPut, IsPlaceIn, LastChild, Place, TableFosterParenting, appropriate_place, foster_place, from_foster_parent, inside, is_foster_parent, place, put}
 use Rattle.h5_stack.specs.FormattingNames.{html_name}
 use Rattle.h5_meaning.specs.Sound.{AllStand, IsHtml, Sound}
-use Rattle.h5_meaning.specs.World.{World, current, name_in, name_of_found, no_name, root}
+use Rattle.h5_meaning.specs.World.{World, current, name_in, name_of_found, names_of, no_name, root}
 use Rattle.h5_meaning.proofs.SoundLaws.{all_pushed, element_is_node, first_is_node, root_is_node}
+use Rattle.h5_stack.specs.Scope.{has_template}
 
 -- the parent of what is put there
 abbrev pub parent_at : Forest → Place → ℕ
@@ -99,31 +102,76 @@ fresh_put_rearranges choices f g p k r may =
     (put_keeps g p (ChildNode (choices.fresh f)) r.is_forest may)
     (put_rehangs g p (ChildNode (choices.fresh f)) r.is_forest may)
 
+-- what is done to a new element before it is put in its place leaves all but marks
+marked_rearranges : (marks : Marking) (f : Forest) → IsForest f → Rearranges f (marked_by marks f)
+marked_rearranges None f k = rearranges_refl f k
+marked_rearranges (Some marks) f k = mark_rearranges f (marks f) k
+
+marked_parent : (marks : Marking) (f : Forest) (n : ℕ) → parent_of (marked_by marks f) n ≡ parent_of f n
+marked_parent None f n = refl
+marked_parent (Some marks) f n = at (f.node n)
+  where
+    at : (o : Option Node) → option_and_then (λ (d : Node). d.parent) (option_map (λ (d : Node). record d { marks = marks f n }) o) ≡ option_and_then (λ (d : Node). d.parent) o
+    at None = refl
+    at (Some d) = refl
+
+pub marked_kind : (marks : Marking) (f : Forest) (n : ℕ) → kind_of (marked_by marks f) n ≡ kind_of f n
+marked_kind None f n = refl
+marked_kind (Some marks) f n = at (f.node n)
+  where
+    at : (o : Option Node) → option_map (λ (d : Node). d.kind) (option_map (λ (d : Node). record d { marks = marks f n }) o) ≡ option_map (λ (d : Node). d.kind) o
+    at None = refl
+    at (Some d) = refl
+
+marked_free : (marks : Marking) (f : Forest) (q n : ℕ) → IsForest f → IsFreeFor f q n → IsFreeFor (marked_by marks f) q n
+marked_free marks f q n k free =
+    let r = marked_rearranges marks f k in
+    record {
+      is_node = rearranged_node f (marked_by marks f) n r free.is_node;
+      no_document = subst (λ o. o ≢ Some DocumentNode) (sym (r.same_kind n free.is_node)) free.no_document;
+      no_parent = marked_parent marks f n ∙ free.no_parent;
+      not_above = subst (λ parents. ¬ (AtOrAbove parents n q)) (λ i m. sym (marked_parent marks f m) i) free.not_above;
+    }
+
 -- a new element at a place
-module _ (choices : SinkChoices) (f : Forest) (p : Place) (name : QualName) (attrs : List AttributeText) (duplicates : Bool) (k : IsForest f) (there : IsPlaceIn f p) where
+module _ (choices : SinkChoices) (f : Forest) (p : Place) (name : QualName) (attrs : List AttributeText) (duplicates : Bool) (marks : Marking) (k : IsForest f) (there : IsPlaceIn f p) where
   abbrev pub made : Forest
-  made = make_element choices name attrs (flags_of name attrs duplicates) f
+  made = marked_by marks (make_element choices name attrs (flags_of name attrs duplicates) f)
+
+  raw_rearranges : Rearranges f (make_element choices name attrs (flags_of name attrs duplicates) f)
+  raw_rearranges = make_element_rearranges choices f name attrs (flags_of name attrs duplicates) k
+
+  marking : Rearranges (make_element choices name attrs (flags_of name attrs duplicates) f) made
+  marking = marked_rearranges marks (make_element choices name attrs (flags_of name attrs duplicates) f) raw_rearranges.is_forest
+
+  pub made_rearranges : Rearranges f made
+  made_rearranges = rearranges_trans f (make_element choices name attrs (flags_of name attrs duplicates) f) made raw_rearranges marking
 
   pub element_can_be_put : CanPut made p (ChildNode (choices.fresh f))
   element_can_be_put =
-      free_can_be_put f made p (choices.fresh f) k (make_element_rearranges choices f name attrs (flags_of name attrs duplicates) k) there
-      (λ q h. made_is_free choices f name attrs (flags_of name attrs duplicates) q k h)
+      free_can_be_put f made p (choices.fresh f) k made_rearranges there
+      (λ q h.
+      marked_free marks (make_element choices name attrs (flags_of name attrs duplicates) f) q (choices.fresh f) raw_rearranges.is_forest
+      (made_is_free choices f name attrs (flags_of name attrs duplicates) q k h))
 
-  pub new_element_rearranges : Rearranges f (new_element choices p name attrs duplicates f)
-  new_element_rearranges = fresh_put_rearranges choices f made p k (make_element_rearranges choices f name attrs (flags_of name attrs duplicates) k) element_can_be_put
+  pub new_element_rearranges : Rearranges f (new_element choices p name attrs duplicates marks f)
+  new_element_rearranges = fresh_put_rearranges choices f made p k made_rearranges element_can_be_put
 
-  rehangs : Rehangs made (new_element choices p name attrs duplicates f) (λ n. n == choices.fresh f) (Some (parent_at made p))
-  rehangs = put_rehangs made p (ChildNode (choices.fresh f)) (make_element_rearranges choices f name attrs (flags_of name attrs duplicates) k).is_forest element_can_be_put
+  rehangs : Rehangs made (new_element choices p name attrs duplicates marks f) (λ n. n == choices.fresh f) (Some (parent_at made p))
+  rehangs = put_rehangs made p (ChildNode (choices.fresh f)) made_rearranges.is_forest element_can_be_put
 
-  pub new_element_kind : kind_of (new_element choices p name attrs duplicates f) (choices.fresh f) ≡ Some (ElementNode name)
-  new_element_kind = rehangs.kinds (choices.fresh f) ∙ made_kind choices f name attrs (flags_of name attrs duplicates) k
+  pub new_element_kind : kind_of (new_element choices p name attrs duplicates marks f) (choices.fresh f) ≡ Some (ElementNode name)
+  new_element_kind =
+      let kind = made_kind choices f name attrs (flags_of name attrs duplicates) k in
+      rehangs.kinds (choices.fresh f) ∙ marking.same_kind (choices.fresh f) (node_of_kind (make_element choices name attrs (flags_of name attrs duplicates) f) (choices.fresh f) (ElementNode name) kind) ∙ kind
 
-  pub new_element_parent : parent_of (new_element choices p name attrs duplicates f) (choices.fresh f) ≡ Some (parent_at made p)
+  pub new_element_parent : parent_of (new_element choices p name attrs duplicates marks f) (choices.fresh f) ≡ Some (parent_at made p)
   new_element_parent = rehangs.parents (choices.fresh f) ∙ ap (λ b. cond b (Some (parent_at made p)) (parent_of made (choices.fresh f))) (eq-eqb (choices.fresh f) (choices.fresh f) refl)
 
-  pub new_element_contents : IsTrue (is_html_template (name_in (new_element choices p name attrs duplicates f) (choices.fresh f))) → HasContents (new_element choices p name attrs duplicates f) (choices.fresh f)
+  pub new_element_contents : IsTrue (is_html_template (name_in (new_element choices p name attrs duplicates marks f) (choices.fresh f))) → HasContents (new_element choices p name attrs duplicates marks f) (choices.fresh f)
   new_element_contents t =
-      rehangs.contents (choices.fresh f) (made_contents choices f name attrs (flags_of name attrs duplicates) (ap (λ x. is_html_template (name_of_found x)) (sym new_element_kind) ∙ t))
+      rehangs.contents (choices.fresh f)
+      (marking.contents (choices.fresh f) (made_contents choices f name attrs (flags_of name attrs duplicates) (ap (λ x. is_html_template (name_of_found x)) (sym new_element_kind) ∙ t)))
 
 -- a new comment at a place
 pub comment_can_be_put : (choices : SinkChoices) (f : Forest) (p : Place) (t : List ℕ) → IsForest f → IsPlaceIn f p → CanPut (make choices (plain (CommentNode t)) f) p (ChildNode (choices.fresh f))
@@ -163,17 +211,17 @@ text_put_rearranges f (TableFosterParenting element prev) t k some there = at (p
     at (Some q) may = insert_text_rearranges f element t k may
 
 -- an element at a place is pushed, and all stands
-pub all_inserted : (choices : SinkChoices) (p : Place) (name : QualName) (attrs : List AttributeText) (duplicates : Bool) (w : World) → Sound w → IsPlaceIn w.forest p → (w.stack ≡ [] → p ≡ LastChild w.forest.document)
-    → AllStand (new_element choices p name attrs duplicates w.forest) (choices.fresh w.forest ∷ w.stack) w.formatting w.head w.form w.context
-all_inserted choices p name attrs duplicates w k there first =
+pub all_inserted : (choices : SinkChoices) (p : Place) (name : QualName) (attrs : List AttributeText) (duplicates : Bool) (marks : Marking) (w : World) → Sound w → IsPlaceIn w.forest p → (w.stack ≡ [] → p ≡ LastChild w.forest.document)
+    → AllStand (new_element choices p name attrs duplicates marks w.forest) (choices.fresh w.forest ∷ w.stack) w.formatting w.head w.form w.context
+all_inserted choices p name attrs duplicates marks w k there first =
     let f = w.forest in
-    let r = new_element_rearranges choices f p name attrs duplicates k.stands.is_forest there in
-    let made = make_element choices name attrs (flags_of name attrs duplicates) f in
-    all_pushed f (new_element choices p name attrs duplicates f) (choices.fresh f) w.stack k r (choices.fresh_is_new f k.stands.is_forest)
-    (name, new_element_kind choices f p name attrs duplicates k.stands.is_forest there)
-    (new_element_contents choices f p name attrs duplicates k.stands.is_forest there)
+    let r = new_element_rearranges choices f p name attrs duplicates marks k.stands.is_forest there in
+    let made = marked_by marks (make_element choices name attrs (flags_of name attrs duplicates) f) in
+    all_pushed f (new_element choices p name attrs duplicates marks f) (choices.fresh f) w.stack k r (choices.fresh_is_new f k.stands.is_forest)
+    (name, new_element_kind choices f p name attrs duplicates marks k.stands.is_forest there)
+    (new_element_contents choices f p name attrs duplicates marks k.stands.is_forest there)
     (λ e q h.
-    let same : Some (parent_at made p) ≡ Some q = sym (new_element_parent choices f p name attrs duplicates k.stands.is_forest there) ∙ h in
+    let same : Some (parent_at made p) ≡ Some q = sym (new_element_parent choices f p name attrs duplicates marks k.stands.is_forest there) ∙ h in
     let up : parent_at made p ≡ q = cc in
     sym up ∙ ap (parent_at made) (first e) ∙ sym r.same_document)
 
@@ -183,7 +231,7 @@ unfolding insert_element insert_head
 head_stands choices attrs duplicates w k new = record {
   stands = new.stands;
   root_top = new.root_top;
-  head_node = λ n e. subst (IsHtml v.forest (codes "head")) (same n e) (new_element_kind choices w.forest (place w) (html_name (codes "head")) attrs duplicates k.stands.is_forest (current_place_is_there w k));
+  head_node = λ n e. subst (IsHtml v.forest (codes "head")) (same n e) (new_element_kind choices w.forest (place w) (html_name (codes "head")) attrs duplicates (owned choices (codes "head") attrs w) k.stands.is_forest (current_place_is_there w k));
   form_node = new.form_node;
   form_name = new.form_name;
   apart = λ n e d. element_is_node w.forest n (k.form_node n d) (subst (λ m. w.forest.node m ≡ None) (same n e) (choices.fresh_is_new w.forest k.stands.is_forest));
@@ -220,7 +268,49 @@ form_stands choices attrs duplicates w k new = record {
     same n e = cc
 
     is_form : (n : ℕ) → Some (choices.fresh w.forest) ≡ Some n → IsHtml v.forest (codes "form") n
-    is_form n e = subst (IsHtml v.forest (codes "form")) (same n e) (new_element_kind choices w.forest (place w) (html_name (codes "form")) attrs duplicates k.stands.is_forest (current_place_is_there w k))
+    is_form n e = subst (IsHtml v.forest (codes "form")) (same n e) (new_element_kind choices w.forest (place w) (html_name (codes "form")) attrs duplicates (owned choices (codes "form") attrs w) k.stands.is_forest (current_place_is_there w k))
+
+-- one that is pushed
+pub form_open_stands : (choices : SinkChoices) (attrs : List AttributeText) (duplicates : Bool) (w : World) → Sound w → Sound (insert_element choices (codes "form") attrs duplicates w) → Sound (insert_form choices attrs duplicates w)
+unfolding insert_element insert_form
+form_open_stands choices attrs duplicates w k new = at (has_template (names_of w))
+  where
+    v : World
+    v = insert_element choices (codes "form") attrs duplicates w
+
+    same : (n : ℕ) → Some (choices.fresh w.forest) ≡ Some n → choices.fresh w.forest ≡ n
+    same n e = cc
+
+    is_form : (n : ℕ) → Some (choices.fresh w.forest) ≡ Some n → IsHtml v.forest (codes "form") n
+    is_form n e = subst (IsHtml v.forest (codes "form")) (same n e) (new_element_kind choices w.forest (place w) (html_name (codes "form")) attrs duplicates (owned choices (codes "form") attrs w) k.stands.is_forest (current_place_is_there w k))
+
+    at : (b : Bool) → Sound (record v { form = cond b w.form (Some (choices.fresh w.forest)) })
+    at true = new
+    at false = record {
+      stands = new.stands;
+      root_top = new.root_top;
+      head_node = new.head_node;
+      form_node = λ n e. (html_name (codes "form"), is_form n e);
+      form_name = λ n e i. is_form n e;
+      apart = λ n e d. node_of_kind w.forest n (ElementNode (html_name (codes "head"))) (k.head_node n e) (subst (λ m. w.forest.node m ≡ None) (same n d) (choices.fresh_is_new w.forest k.stands.is_forest));
+      context_node = new.context_node;
+      listed = new.listed;
+      formatting = new.formatting;
+    }
+
+-- there is no form element any more
+pub no_form_stands : (w : World) → Sound w → Sound (clear_form w)
+no_form_stands w k = record {
+  stands = k.stands;
+  root_top = k.root_top;
+  head_node = k.head_node;
+  form_node = λ n e. absurd (cc);
+  form_name = λ n e i. absurd (cc);
+  apart = λ n e d. cc;
+  context_node = k.context_node;
+  listed = k.listed;
+  formatting = k.formatting;
+}
 
 -- where nothing is open, the place of insertion is the document
 pub first_place : (w : World) → IsForest w.forest → w.stack ≡ [] → place w ≡ LastChild w.forest.document

@@ -64,7 +64,7 @@ pub frame_all_implied : (ns : List QualName) → Frame (roles ns) (roles (drop_w
 frame_all_implied ns = frame_while is_implied implied_plain ns
 
 -- and up to and with a plain one in default scope
-frame_close : (is : QualName → Bool) (ns : List QualName) → ((n : QualName) → is n ≡ true → role_of n ≡ PlainRole) → ((n : QualName) → is_implied n ≡ true → is n ≡ false) → in_scope is is_default_scope ns ≡ true
+pub frame_close : (is : QualName → Bool) (ns : List QualName) → ((n : QualName) → is n ≡ true → role_of n ≡ PlainRole) → ((n : QualName) → is_implied n ≡ true → is n ≡ false) → in_scope is is_default_scope ns ≡ true
     → Frame (roles ns) (roles (cut_names is (drop_while is_implied ns)))
 frame_close is ns plain apart h =
     let low = drop_while is_implied ns in
@@ -129,7 +129,7 @@ module _ (m : InsertionMode) (goes : goes_by_body m ≡ true) where
   standing : (w : World) → ReadyIn m w → Standing (is_whole (situation_of w).context) w
   standing w r = record { grounded = fits_grounded (situation_of w) m (roles (names_of w)) goes r.fit.fits; under = r.fit.fits.known.under }
 
-  steady : (w : World) → ReadyIn m w → IsSteady w
+  pub steady : (w : World) → ReadyIn m w → IsSteady w
   steady w r = ready_steady w r.ready
 
   -- no open element changes

@@ -14,7 +14,7 @@ use Rattle.h5_meaning.specs.ByName.{named}
 use Rattle.h5_meaning.specs.Changes.{append_text, insert_and_pop_element, set_frameset_not_ok, set_frameset_ok_by_text}
 use Rattle.h5_meaning.specs.Formatting.{reconstruct_active_formatting_elements}
 use Rattle.h5_meaning.specs.AdoptionAgency.{handle_misnested_a_tags}
-use Rattle.h5_meaning.specs.InBody.{in_body_end_br, in_body_end_formatting, in_body_start_a, in_body_start_br, in_body_start_formatting, in_body_start_nobr, in_body_start_other}
+use Rattle.h5_meaning.specs.InBody.{in_body_end_br, in_body_end_formatting, in_body_start_a, in_body_start_void, in_body_start_formatting, in_body_start_nobr, in_body_start_other}
 use Rattle.h5_meaning.specs.Rows.{Row, apply_all}
 use Rattle.h5_meaning.specs.Shared.{in_body_text}
 use Rattle.h5_meaning.specs.Sound.{IsReady}
@@ -24,22 +24,20 @@ use Rattle.h5_meaning.proofs.FormattingLaws.{format_ready, insert_for_ready, rec
 use Rattle.h5_meaning.proofs.ListsLaws.{ready_steady, steady_leaf, steady_ready, steady_text}
 use Rattle.h5_meaning.proofs.NameLaws.{names-append, names-insert_and_pop}
 use Rattle.h5_meaning.proofs.PopLaws.{names_length}
+use Rattle.h5_meaning.proofs.ByNameLaws.{of_named}
 
 -- some element is open
 pub ready_open : (w : World) → IsReady w → 0 < length w.stack
 ready_open w k = let some = open_some (names_of w) k.root in let same = names_length w in omega (arith, some, same)
 
--- a known name that is a formatting element's
-named_formatting : (known : KnownName) (name : List ℕ) → is_one_of formatting_names (name_text known) ≡ true → named known name ≡ true → IsTrue (is_one_of formatting_names name)
-named_formatting known name listed h = ap (is_one_of formatting_names) ((bytes_eq-Decides name (name_text known)).0 h) ∙ listed
-
+-- names of formatting elements
 pub a_formatting : (name : List ℕ) → named A name ≡ true → IsTrue (is_one_of formatting_names name)
 unfolding formatting_names
-a_formatting name h = named_formatting A name refl h
+a_formatting name h = of_named (λ n. IsTrue (is_one_of formatting_names n)) A name refl h
 
 pub nobr_formatting : (name : List ℕ) → named Nobr name ≡ true → IsTrue (is_one_of formatting_names name)
 unfolding formatting_names
-nobr_formatting name h = named_formatting Nobr name refl h
+nobr_formatting name h = of_named (λ n. IsTrue (is_one_of formatting_names n)) Nobr name refl h
 
 module _ (choices : SinkChoices) (w : World) (k : IsReady w) where
   abbrev after : Row → World

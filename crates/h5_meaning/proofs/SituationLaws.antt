@@ -15,7 +15,7 @@ use Rattle.h5_fits.proofs.BoolLaws.{and_both}
 use Rattle.h5_fits.proofs.SituationLaws.{Later}
 use Rattle.h5_meaning.specs.AdoptionAgency.{KeepsKinds}
 use Rattle.h5_meaning.specs.Blanks.{all_blank}
-use Rattle.h5_meaning.specs.Changes.{add_attrs_at, add_attrs_to_html, add_attrs_to_second, append_comment, append_comment_to_doc, append_comment_to_html, append_text, create_root, insert_and_pop_element, insert_element, insert_head, pop, set_frameset_ok_by_text, with_forest}
+use Rattle.h5_meaning.specs.Changes.{owned, add_attrs_at, add_attrs_to_html, add_attrs_to_second, append_comment, append_comment_to_doc, append_comment_to_html, append_text, create_root, insert_and_pop_element, insert_element, insert_head, pop, set_frameset_ok_by_text, with_forest}
 use Rattle.h5_meaning.specs.Formatting.{create_formatting_element, insert_anew, insert_for, reconstruct_active_formatting_elements}
 use Rattle.h5_meaning.specs.Place.{LastChild, place, put}
 use Rattle.h5_meaning.specs.Sound.{Sound, role_at, situation_of}
@@ -105,7 +105,7 @@ module _ (choices : SinkChoices) (w : World) where
   pub situation_insert : (local : List ℕ) (attrs : List AttributeText) (duplicates : Bool) → Sound w → KeepsSituation w (insert_element choices local attrs duplicates w)
   unfolding insert_element
   situation_insert local attrs duplicates k = record {
-    kinds = (new_element_rearranges choices w.forest (place w) (html_name local) attrs duplicates k.stands.is_forest (current_place_is_there w k)).same_kind;
+    kinds = (new_element_rearranges choices w.forest (place w) (html_name local) attrs duplicates (owned choices local attrs w) k.stands.is_forest (current_place_is_there w k)).same_kind;
     modes = refl;
     saved = refl;
     context = refl;
@@ -122,7 +122,7 @@ module _ (choices : SinkChoices) (w : World) where
   pub situation_root : (attrs : List AttributeText) → Sound w → KeepsSituation w (create_root choices attrs w)
   unfolding create_root
   situation_root attrs k = record {
-    kinds = (new_element_rearranges choices w.forest (LastChild w.forest.document) (html_name (codes "html")) attrs false k.stands.is_forest (document_is_node w.forest k.stands.is_forest)).same_kind;
+    kinds = (new_element_rearranges choices w.forest (LastChild w.forest.document) (html_name (codes "html")) attrs false None k.stands.is_forest (document_is_node w.forest k.stands.is_forest)).same_kind;
     modes = refl;
     saved = refl;
     context = refl;
@@ -133,7 +133,7 @@ module _ (choices : SinkChoices) (w : World) where
   pub situation_leaf : (local : List ℕ) (attrs : List AttributeText) (duplicates : Bool) → Sound w → KeepsSituation w (insert_and_pop_element choices local attrs duplicates w)
   unfolding insert_and_pop_element
   situation_leaf local attrs duplicates k =
-      situation_forest w _ (new_element_rearranges choices w.forest (place w) (html_name local) attrs duplicates k.stands.is_forest (current_place_is_there w k))
+      situation_forest w _ (new_element_rearranges choices w.forest (place w) (html_name local) attrs duplicates (owned choices local attrs w) k.stands.is_forest (current_place_is_there w k))
 
   pub situation_comment : (t : List ℕ) → Sound w → KeepsSituation w (append_comment choices t w)
   unfolding append_comment

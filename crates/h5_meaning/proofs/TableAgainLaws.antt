@@ -25,23 +25,23 @@ use Rattle.h5_meaning.specs.BeforeHead.{before_head_tag}
 use Rattle.h5_meaning.specs.BeforeHtml.{before_html_tag}
 use Rattle.h5_meaning.specs.ByName.{by_kind, by_name, named, of_tag}
 use Rattle.h5_meaning.specs.Changes.{set_foster}
-use Rattle.h5_meaning.specs.InBody.{current_is, in_body, in_body_tag}
+use Rattle.h5_meaning.specs.InBody.{in_body, in_body_tag}
 use Rattle.h5_meaning.specs.InCaption.{close_the_caption, in_caption_end, in_caption_ignored_ends, in_caption_start, in_caption_tag}
 use Rattle.h5_meaning.specs.InCell.{close_the_cell, in_cell_closing_ends, in_cell_end, in_cell_end_cell, in_cell_end_structure, in_cell_ignored_ends, in_cell_start, in_cell_start_structure, in_cell_tag}
 use Rattle.h5_meaning.specs.InColumnGroup.{close_the_column_group, in_column_group_else, in_column_group_end, in_column_group_start, in_column_group_tag}
 use Rattle.h5_meaning.specs.InHead.{in_head_tag}
 use Rattle.h5_meaning.specs.InRow.{close_the_row, in_row_end, in_row_end_section, in_row_start, in_row_tag, row_closing_names}
-use Rattle.h5_meaning.specs.InTable.{in_table, in_table_else, in_table_end, in_table_end_table, in_table_ignored_ends, in_table_start, in_table_start_form, in_table_start_input, in_table_start_table, in_table_tag, in_table_text_or_null, is_type_hidden, keeps_text, row_part_names}
+use Rattle.h5_meaning.specs.InTable.{in_table, in_table_else, in_table_end, in_table_end_table, in_table_ignored_ends, in_table_start, in_table_start_form, in_table_start_input, in_table_start_table, in_table_tag, in_table_text_or_null, keeps_text, row_part_names}
 use Rattle.h5_meaning.specs.InTableBody.{in_table_body_close, in_table_body_end, in_table_body_end_section, in_table_body_start, in_table_body_tag, is_table_or_section, section_closing_names}
 use Rattle.h5_meaning.specs.InTableText.{in_table_text_else, pending_text, saved_mode}
 use Rattle.h5_meaning.specs.Modes.{rule}
 use Rattle.h5_meaning.specs.Reset.{reset_mode}
 use Rattle.h5_meaning.specs.Rows.{AddAttrsToHtml, Again, AgainBy, Change, ClearActiveFormattingToMarker, Ending, GenerateImpliedEnd, InsertAndPopForm, IsDone, Pop, PopUntilCurrent, PopUntilNamed, Row, SaveMode, SetMode, TakePendingText, choose, errs, ignored, row, row_if}
-use Rattle.h5_meaning.specs.Shared.{in_body_start_html, table_structure_names}
+use Rattle.h5_meaning.specs.Shared.{current_is, in_body_start_html, is_type_hidden, table_structure_names}
 use Rattle.h5_meaning.specs.Tables.{foster, in_table_scope, named_in_table_scope, table_section_names}
 use Rattle.h5_meaning.specs.World.{World, names_of}
 use Rattle.h5_meaning.proofs.AgainLaws.{Leads, RowStops, kind_of_end, kind_of_start, kind_of_tag, kind_of_turn, leads_after_after_body, leads_after_body, leads_after_head, leads_before_head, leads_before_html, leads_in_body, leads_in_head, leads_initial_else, part_end_names, part_names, stops_body_tag, stops_choose, stops_leads}
-use Rattle.h5_meaning.proofs.ByNameLaws.{holds_by_name, holds_chosen}
+use Rattle.h5_meaning.proofs.ByNameLaws.{holds_by_name, holds_chosen, of_named}
 
 -- what is so of each name of a set is so of a name among them
 abbrev EachName : (List ℕ → Type 0) → List (List ℕ) → Type 0
@@ -55,9 +55,6 @@ of_set P (t ∷ set) l a h = at (is_same_text t l) refl h (of_set P set l a.1)
     at : (b : Bool) → is_same_text t l ≡ b → (b || is_one_of set l) ≡ true → (is_one_of set l ≡ true → P l) → P l
     at true e k f = subst P ((bytes_eq-Decides t l).0 e) a.0
     at false e k f = f k
-
-pub of_named : (P : List ℕ → Type 0) (known : KnownName) (l : List ℕ) → P (name_text known) → named known l ≡ true → P l
-of_named P known l a h = subst P (sym ((bytes_eq-Decides l (name_text known)).0 h)) a
 
 -- a name that is in no set isn't any of its names
 not_named : (known : KnownName) (set : List (List ℕ)) (l : List ℕ) → is_one_of set (name_text known) ≡ true → is_one_of set l ≡ false → named known l ≡ false

@@ -34,7 +34,8 @@ use Rattle.h5_meaning.specs.Changes.{append_pending_text, append_text, insert_an
 use Rattle.h5_meaning.specs.Formatting.{insert_marker, reconstruct_active_formatting_elements}
 use Rattle.h5_meaning.specs.InBody.{in_body}
 use Rattle.h5_meaning.specs.InRow.{close_the_row, in_row, in_row_close, in_row_end, in_row_end_section, in_row_start, in_row_start_cell, in_row_tag}
-use Rattle.h5_meaning.specs.InTable.{in_table, in_table_else, in_table_end, in_table_end_table, in_table_ignored_ends, in_table_start, in_table_start_caption, in_table_start_col, in_table_start_colgroup, in_table_start_form, in_table_start_input, in_table_start_row_part, in_table_start_section, in_table_start_table, in_table_tag, in_table_text_or_null, is_type_hidden, keeps_text}
+use Rattle.h5_meaning.specs.InTable.{in_table, in_table_else, in_table_end, in_table_end_table, in_table_ignored_ends, in_table_start, in_table_start_caption, in_table_start_col, in_table_start_colgroup, in_table_start_form, in_table_start_input, in_table_start_row_part, in_table_start_section, in_table_start_table, in_table_tag, in_table_text_or_null, keeps_text}
+use Rattle.h5_meaning.specs.Shared.{is_type_hidden}
 use Rattle.h5_meaning.specs.InTableBody.{in_table_body, in_table_body_close, in_table_body_end, in_table_body_end_section, in_table_body_start, in_table_body_start_cell, in_table_body_start_row, in_table_body_tag, is_table_or_section}
 use Rattle.h5_meaning.specs.InTableText.{in_table_text, in_table_text_else, pending_text, saved_mode}
 use Rattle.h5_meaning.specs.Reset.{reset_mode}

@@ -16,12 +16,13 @@ use Rattle.h5_stack.specs.Scope.{has_template}
 use Rattle.h5_meaning.specs.Blanks.{all_blank}
 use Rattle.h5_meaning.specs.ByName.{by_kind, by_name, of_tag}
 use Rattle.h5_meaning.specs.Changes.{set_foster, take_pending_text}
-use Rattle.h5_meaning.specs.InBody.{current_is, in_body}
+use Rattle.h5_meaning.specs.InBody.{in_body}
+use Rattle.h5_meaning.specs.Shared.{current_is, is_type_hidden}
 use Rattle.h5_meaning.specs.InCaption.{close_the_caption, in_caption, in_caption_end, in_caption_start, in_caption_tag}
 use Rattle.h5_meaning.specs.InCell.{close_the_cell, in_cell, in_cell_end, in_cell_end_cell, in_cell_end_structure, in_cell_start, in_cell_start_structure, in_cell_tag}
 use Rattle.h5_meaning.specs.InColumnGroup.{close_the_column_group, in_column_group, in_column_group_else, in_column_group_end, in_column_group_start, in_column_group_start_col, in_column_group_tag}
 use Rattle.h5_meaning.specs.InRow.{close_the_row, in_row, in_row_end, in_row_end_section, in_row_start, in_row_start_cell, in_row_tag}
-use Rattle.h5_meaning.specs.InTable.{in_table, in_table_else, in_table_end, in_table_end_table, in_table_start, in_table_start_caption, in_table_start_col, in_table_start_colgroup, in_table_start_form, in_table_start_input, in_table_start_row_part, in_table_start_section, in_table_start_table, in_table_tag, in_table_text_or_null, is_type_hidden, keeps_text}
+use Rattle.h5_meaning.specs.InTable.{in_table, in_table_else, in_table_end, in_table_end_table, in_table_start, in_table_start_caption, in_table_start_col, in_table_start_colgroup, in_table_start_form, in_table_start_input, in_table_start_row_part, in_table_start_section, in_table_start_table, in_table_tag, in_table_text_or_null, keeps_text}
 use Rattle.h5_meaning.specs.InTableBody.{in_table_body, in_table_body_close, in_table_body_end, in_table_body_end_section, in_table_body_start, in_table_body_start_cell, in_table_body_start_row, in_table_body_tag, is_table_or_section}
 use Rattle.h5_meaning.specs.InTableText.{in_table_text, in_table_text_else, pending_text}
 use Rattle.h5_meaning.specs.Reset.{reset_mode}

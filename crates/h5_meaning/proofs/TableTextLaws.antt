@@ -19,12 +19,14 @@ use Rattle.h5_fits.proofs.PlainLaws.{formatting_local_plain}
 use Rattle.h5_fits.proofs.RoleLaws.{role_made}
 use Rattle.h5_fits.proofs.RoleSetLaws.{set_passes}
 use Rattle.h5_fits.proofs.SetLaws.{template_test}
-use Rattle.h5_meaning.specs.Changes.{append_text, insert_element, new_element, set_foster, set_frameset_ok_by_text}
+use Rattle.h5_meaning.specs.FormOwner.{Marking, marked_by}
+use Rattle.h5_meaning.specs.Changes.{owned, append_text, insert_element, new_element, set_foster, set_frameset_ok_by_text}
 use Rattle.h5_meaning.specs.Formatting.{insert_anew, insert_for, reconstruct_active_formatting_elements}
 use Rattle.h5_meaning.specs.InTable.{keeps_text}
 use Rattle.h5_meaning.specs.Place.{LastChild, Place, TableFosterParenting, place, put}
 use Rattle.h5_meaning.specs.Text.{fostered_text, text_in_body}
 use Rattle.h5_meaning.specs.World.{World, name_in, name_of_found, names_of}
+use Rattle.h5_meaning.proofs.PlaceLaws.{marked_kind}
 use Rattle.h5_meaning.proofs.TextForestLaws.{edit_kind, text_same}
 
 -- a child that is put changes no kinds
@@ -55,13 +57,14 @@ put_kind (LastChild p) c n f = last_kind p c n f
 put_kind (TableFosterParenting table prev) c n f = beside_kind (parent_of f table) table prev c n f
 
 -- what is made is of its name, where that is no template's
-fresh_name : (choices : SinkChoices) (p : Place) (name : QualName) (attrs : List AttributeText) (duplicates : Bool) (f : Forest) → is_html_template name ≡ false
-    → name_in (new_element choices p name attrs duplicates f) (choices.fresh f) ≡ name
-fresh_name choices p name attrs duplicates f h =
+fresh_name : (choices : SinkChoices) (p : Place) (name : QualName) (attrs : List AttributeText) (duplicates : Bool) (marks : Marking) (f : Forest) → is_html_template name ≡ false
+    → name_in (new_element choices p name attrs duplicates marks f) (choices.fresh f) ≡ name
+fresh_name choices p name attrs duplicates marks f h =
     let n = choices.fresh f in
     let flags = flags_of name attrs duplicates in
     let d : Node = element name attrs flags in
-    ap name_of_found (put_kind p n n (make_element choices name attrs flags f)
+    ap name_of_found (put_kind p n n (marked_by marks (make_element choices name attrs flags f))
+    ∙ marked_kind marks (make_element choices name attrs flags f) n
     ∙ ap (λ b. kind_of (with_contents b choices n (make choices d f)) n) h
     ∙ new_kind f n d)
 
@@ -92,7 +95,7 @@ keeps_insert : (choices : SinkChoices) (tag : TagText) (w : World) → IsTrue (i
 unfolding names_of insert_element
 keeps_insert choices tag w h =
     let r = formatting_role tag.name h in
-    ap is_table_outer (fresh_name choices (place w) (html_name tag.name) tag.attrs tag.had_duplicate_attributes w.forest (plain_no_template (html_name tag.name) r))
+    ap is_table_outer (fresh_name choices (place w) (html_name tag.name) tag.attrs tag.had_duplicate_attributes (owned choices tag.name tag.attrs w) w.forest (plain_no_template (html_name tag.name) r))
     ∙ plain_keeps_none (html_name tag.name) r
 
 keeps_anew : (choices : SinkChoices) (l : List Entry) (w : World) → AllFormatting l → keeps_text w ≡ false → keeps_text (insert_anew choices l w) ≡ false

@@ -12,7 +12,7 @@ use Rattle.h5_stack.specs.Order.{is_in}
 use Rattle.h5_stack.specs.Scope.{comes_before_special, first_passes, has_p_in_button_scope, in_scope, is_implied_but}
 use Rattle.h5_meaning.specs.AdoptionAgency.{adopt, adopt_at, adopt_by, adopt_within, adoption_agency, close_misnested_a, handle_misnested_a_tags, handle_misnested_nobr_tags, remove_from_stack, unlist_and_remove}
 use Rattle.h5_meaning.specs.Changes.{generate_implied_end_except, insert_element, pop, pop_until_current, pop_until_named, pop_while}
-use Rattle.h5_meaning.specs.Closing.{close_named, close_p_element, close_p_element_in_button_scope, generate_implied_end, pop_heading, pop_until_cell, pop_until_heading}
+use Rattle.h5_meaning.specs.Closing.{close_item, close_list_item, close_named, close_p_element, close_p_element_in_button_scope, generate_implied_end, generate_implied_end_in_select, newest_item, pop_heading, pop_until_cell, pop_until_heading}
 use Rattle.h5_meaning.specs.Formatting.{clear_active_formatting_to_marker, create_formatting_element, insert_anew, insert_for, insert_marker, reconstruct_active_formatting_elements}
 use Rattle.h5_meaning.specs.World.{World, current, name_in, names_of}
 
@@ -143,7 +143,7 @@ tree_adoption choices name w =
     at true = tree_pop choices w
     at false = tree_adopt_within 8 choices name w
 
-tree_remove : (choices : SinkChoices) (n : ℕ) (w : World) → OnlyTree w (remove_from_stack choices n w)
+pub tree_remove : (choices : SinkChoices) (n : ℕ) (w : World) → OnlyTree w (remove_from_stack choices n w)
 unfolding remove_from_stack
 tree_remove choices n w =
     tree_if w (record w { forest = mark (choices.marks_after_pop w.forest n) w.forest; stack = without_node n w.stack }) (is_in n w.stack) refl
@@ -165,3 +165,16 @@ tree_misnested_nobr_tags choices w =
     let v = adoption_agency choices (codes "nobr") w in
     let u = reconstruct_active_formatting_elements choices v in
     tree_if w u (in_scope (is_html_named (codes "nobr")) is_default_scope (names_of w)) (tree_then w v u (tree_adoption choices (codes "nobr") w) (tree_reconstruct choices v))
+
+pub tree_in_select : (choices : SinkChoices) (w : World) → OnlyTree w (generate_implied_end_in_select choices w)
+unfolding generate_implied_end_in_select
+tree_in_select choices w = tree_if w (generate_implied_end choices w) (in_scope (is_html_named (codes "select")) is_default_scope (names_of w)) (tree_implied choices w)
+
+tree_item : (choices : SinkChoices) (o : Option (List ℕ)) (w : World) → OnlyTree w (close_item choices o w)
+tree_item choices None w = refl
+tree_item choices (Some local) w =
+    let v = generate_implied_end_except choices local w in tree_then w v (pop_until_named local v) (tree_implied_except choices local w) (tree_until local v)
+
+pub tree_list_item : (choices : SinkChoices) (locals : List (List ℕ)) (w : World) → OnlyTree w (close_list_item choices locals w)
+unfolding close_list_item
+tree_list_item choices locals w = tree_item choices (newest_item locals (names_of w)) w

@@ -1,5 +1,5 @@
 -- The changes that rules are made of.
-use Rattle.std.specs.Prelude.{ℕ, Bool, false, ◌&&◌, if◌then◌else◌, List, [], ◌∷◌, codes, Option, Some, None, ◌++◌}
+use Rattle.std.specs.Prelude.{ℕ, Bool, true, false, ◌&&◌, if◌then◌else◌, List, [], ◌∷◌, codes, Option, Some, None, ◌++◌}
 use Rattle.h5_names.specs.declared.qualified.QualName.{QualName}
 use Rattle.h5_names.specs.AttributeText.{AttributeText}
 use Rattle.h5_interface.specs.Changes.{add_missing_attributes, mark}
@@ -11,7 +11,8 @@ use Rattle.h5_interface.specs.declared.marks.QuirksMode.{QuirksMode}
 use Rattle.h5_tag_sets.specs.TagSets.{is_html_named}
 use Rattle.h5_types.specs.declared.modes.InsertionMode.{InsertionMode}
 use Rattle.h5_meaning.specs.Blanks.{all_blank}
-use Rattle.h5_stack.specs.Scope.{cut_through, is_implied_but, cut_above}
+use Rattle.h5_stack.specs.Scope.{cut_above, cut_through, has_template, is_implied_but}
+use Rattle.h5_meaning.specs.FormOwner.{Marking, associates, form_owner, marked_by}
 use Rattle.h5_meaning.specs.Place.{LastChild, Place, place, put}
 use Rattle.h5_meaning.specs.World.{World, current, names_of, root}
 use Rattle.h5_stack.specs.FormattingNames.{html_name}
@@ -35,29 +36,34 @@ set_frameset_ok_by_text t w = record w { frameset_ok = w.frameset_ok && all_blan
 unfoldable pub set_quirks_mode : QuirksMode → World → World
 set_quirks_mode q w = record w { quirks = q; seen_quirks = q }
 
--- a new element at a place
-abbrev pub new_element : SinkChoices → Place → QualName → List AttributeText → Bool → Forest → Forest
-new_element choices p name attrs duplicates f = put p (ChildNode (choices.fresh f)) (make_element choices name attrs (flags_of name attrs duplicates) f)
+-- a new element at a place, after what is done to it before
+abbrev pub new_element : SinkChoices → Place → QualName → List AttributeText → Bool → Marking → Forest → Forest
+new_element choices p name attrs duplicates marks f =
+    put p (ChildNode (choices.fresh f)) (marked_by marks (make_element choices name attrs (flags_of name attrs duplicates) f))
 
 -- a new HTML element at a place, pushed
-abbrev pub push_new : SinkChoices → Place → List ℕ → List AttributeText → Bool → World → World
-push_new choices p local attrs duplicates w = record w {
-  forest = new_element choices p (html_name local) attrs duplicates w.forest;
+abbrev pub push_new : SinkChoices → Place → List ℕ → List AttributeText → Bool → Marking → World → World
+push_new choices p local attrs duplicates marks w = record w {
+  forest = new_element choices p (html_name local) attrs duplicates marks w.forest;
   stack = choices.fresh w.forest ∷ w.stack;
 }
+
+-- a new HTML element is associated with its form owner, where it has one
+abbrev pub owned : SinkChoices → List ℕ → List AttributeText → World → Marking
+owned choices local attrs w = associates choices (choices.fresh w.forest) (place w) (form_owner local attrs w)
 
 -- an HTML element at the place of insertion, pushed (HTML standard, section 13.2.6.1, insert an HTML
 -- element)
 unfoldable pub insert_element : SinkChoices → List ℕ → List AttributeText → Bool → World → World
-insert_element choices local attrs duplicates w = push_new choices (place w) local attrs duplicates w
+insert_element choices local attrs duplicates w = push_new choices (place w) local attrs duplicates (owned choices local attrs w) w
 
 -- an HTML element at the place of insertion, which isn't open
 unfoldable pub insert_and_pop_element : SinkChoices → List ℕ → List AttributeText → Bool → World → World
-insert_and_pop_element choices local attrs duplicates w = with_forest (new_element choices (place w) (html_name local) attrs duplicates w.forest) w
+insert_and_pop_element choices local attrs duplicates w = with_forest (new_element choices (place w) (html_name local) attrs duplicates (owned choices local attrs w) w.forest) w
 
 -- the root, as the document's last child, pushed
 unfoldable pub create_root : SinkChoices → List AttributeText → World → World
-create_root choices attrs w = push_new choices (LastChild w.forest.document) (codes "html") attrs false w
+create_root choices attrs w = push_new choices (LastChild w.forest.document) (codes "html") attrs false None w
 
 -- the head, at the place of insertion, pushed and known
 unfoldable pub insert_head : SinkChoices → List AttributeText → Bool → World → World
@@ -138,3 +144,17 @@ append_pending_text t w = record w { pending = w.pending ++ t }
 
 abbrev pub take_pending_text : World → World
 take_pending_text w = record w { pending = [] }
+
+-- the next token, if it is a text, loses a newline at its front
+abbrev pub set_ignore_lf : World → World
+set_ignore_lf w = record w { ignore_lf = true }
+
+-- an HTML `form` at the place of insertion, pushed; unless a template is open, it is the form element
+unfoldable pub insert_form : SinkChoices → List AttributeText → Bool → World → World
+insert_form choices attrs duplicates w =
+    let n = choices.fresh w.forest in
+    record (insert_element choices (codes "form") attrs duplicates w) { form = if has_template (names_of w) then w.form else Some n }
+
+-- no element is the form element any more
+abbrev pub clear_form : World → World
+clear_form w = record w { form = None }

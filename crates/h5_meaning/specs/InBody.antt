@@ -1,9 +1,10 @@
 -- HTML standard, section 13.2.6.4.7, the "in body" insertion mode.
-use Rattle.std.specs.Prelude.{ℕ, Bool, true, false, not, ◌&&◌, List, [], ◌∷◌, ◌++◌, codes}
+use Rattle.std.specs.Prelude.{ℕ, Bool, true, false, not, ◌&&◌, if◌then◌else◌, is_none, is_some, List, [], ◌∷◌, ◌++◌, Option, None, Some, codes}
 use Rattle.h5_token.specs.TokenText.{TagText}
-use Rattle.h5_names.specs.declared.known_name.KnownName.TheVariants.{A, Body, Br, Html, Nobr, P, Table, Template}
-use Rattle.h5_tag_sets.specs.TagSets.{block_end_names, block_start_names, formatting_names, heading_names, is_default_scope, is_heading, is_html_named, is_one_of}
-use Rattle.h5_stack.specs.Scope.{comes_before_special, first_passes, has_body_in_scope, has_p_in_button_scope, has_template, has_unclosed, in_scope, second_is}
+use Rattle.h5_names.specs.declared.known_name.KnownName.TheVariants.{A, Body, Br, Button, Form, Hr, Html, Image, Input, Nobr, Optgroup, P, Select, Table, Template}
+use Rattle.h5_names.specs.declared.known_name.KnownName.TheVariants as known
+use Rattle.h5_tag_sets.specs.TagSets.{block_end_names, block_start_names, formatting_names, heading_names, is_default_scope, is_heading, is_html_named, is_list_item_scope, is_one_of}
+use Rattle.h5_stack.specs.Scope.{comes_before_special, first_passes, has_body_in_scope, has_p_in_button_scope, has_template, has_unclosed, in_scope, node_in_scope, oldest_passing, second_is}
 use Rattle.h5_interface.specs.declared.marks.QuirksMode.{QuirksMode}
 use Rattle.h5_interface.specs.declared.marks.QuirksMode.TheVariants.{Quirks}
 use Rattle.h5_types.specs.TurnText.{CommentTurn, EofTurn, NullTurn, TagTurn, TextTurn, TurnText}
@@ -11,13 +12,11 @@ use Rattle.h5_types.specs.declared.modes.InsertionMode.TheVariants.{AfterBody, I
 use Rattle.h5_meaning.specs.AdoptionAgency.{closes_one, is_named_listed}
 use Rattle.h5_meaning.specs.ByName.{Rules, by_kind, by_name, ignored_tag, named}
 use Rattle.h5_meaning.specs.Formatting.{is_reconstructed}
-use Rattle.h5_meaning.specs.Rows.{AddAttrsToSecond, AdoptionAgency, Again, CreateFormattingElement, HandleMisnestedATags, HandleMisnestedNobrTags, InsertAndPopElement, IsAcknowledged, ReconstructActiveFormattingElements, AppendComment, Change, ClosePElement, ClosePElementInButtonScope, Ending, GenerateImpliedEnd, GenerateImpliedEndExcept, InsertElement, IsDone, PopHeading, PopUntilHeading, PopUntilNamed, Row, SetFramesetNotOk, SetMode, choose, errs, ignored, row, row_if}
-use Rattle.h5_meaning.specs.Shared.{in_body_start_html, in_body_text, table_structure_names}
+use Rattle.h5_meaning.specs.Rows.{AddAttrsToSecond, AdoptionAgency, Again, AppendComment, Change, ClearActiveFormattingToMarker, ClearForm, CloseListItem, ClosePElement, ClosePElementInButtonScope, CopyClosedOption, CreateFormattingElement, Ending, GenerateImpliedEnd, GenerateImpliedEndExcept, GenerateImpliedEndInSelect, HandleMisnestedATags, HandleMisnestedNobrTags, InsertAndPopElement, InsertElement, InsertForm, InsertMarker, IsAcknowledged, IsDone, Pop, PopHeading, PopUntilHeading, PopUntilNamed, ReconstructActiveFormattingElements, RemoveFromStack, Row, SetFramesetNotOk, SetIgnoreLf, SetMode, choose, errs, ignored, row, row_if}
+use Rattle.h5_meaning.specs.Shared.{current_is, in_body_start_html, in_body_text, inserts, is_context, is_type_hidden, table_structure_names}
 use Rattle.h5_meaning.specs.World.{World, names_of}
-
--- an element for a tag
-abbrev pub inserts : TagText → Change
-inserts tag = InsertElement tag.name tag.attrs tag.had_duplicate_attributes
+use Rattle.h5_names.specs.AttributeText.{AttributeText}
+use Rattle.h5_meaning.specs.Closing.{newest_item}
 
 -- a start tag "body"
 unfoldable pub in_body_start_body : TagText → World → Row
@@ -43,10 +42,6 @@ in_body_end_body tag w = if_body_in_scope (body_ends (SetMode AfterBody ∷ []) 
 -- an end tag "html"
 abbrev pub in_body_end_html : TagText → World → Row
 in_body_end_html tag w = if_body_in_scope (body_ends [] (Again AfterBody) w) w
-
--- the current node is an HTML element of this name
-abbrev pub current_is : List ℕ → World → Bool
-current_is local w = first_passes (is_html_named local) (names_of w)
 
 -- a start tag "address", "article", .., "ul"
 abbrev pub in_body_start_block : TagText → World → Row
@@ -96,9 +91,12 @@ in_body_start_nobr tag w =
 abbrev pub in_body_end_formatting : TagText → World → Row
 in_body_end_formatting tag w = row_if (closes_one tag.name w) (AdoptionAgency tag.name ∷ []) IsDone
 
--- a start tag "br"
-abbrev pub in_body_start_br : TagText → World → Row
-in_body_start_br tag w =
+-- a start tag "area", "br", "embed", "img", "keygen", "wbr"
+unfoldable pub in_body_void : List (List ℕ)
+in_body_void = codes "area" ∷ codes "br" ∷ codes "embed" ∷ codes "img" ∷ codes "keygen" ∷ codes "wbr" ∷ []
+
+abbrev pub in_body_start_void : TagText → World → Row
+in_body_start_void tag w =
     row (ReconstructActiveFormattingElements ∷ InsertAndPopElement tag.name tag.attrs tag.had_duplicate_attributes ∷ SetFramesetNotOk ∷ []) IsAcknowledged
 
 -- an end tag "br", which is taken for a start tag without attributes
@@ -123,6 +121,151 @@ outside_names = codes "frame" ∷ codes "frameset" ∷ codes "head" ∷ codes "t
 unfoldable pub in_body_ignored_starts : List (List ℕ)
 in_body_ignored_starts = table_structure_names ++ outside_names
 
+-- an HTML element of this name is in scope
+abbrev pub named_in_scope : List ℕ → World → Bool
+named_in_scope local w = in_scope (is_html_named local) is_default_scope (names_of w)
+
+-- a start tag "pre", "listing"
+unfoldable pub in_body_preformatted : List (List ℕ)
+in_body_preformatted = codes "pre" ∷ codes "listing" ∷ []
+
+abbrev pub in_body_start_preformatted : TagText → World → Row
+in_body_start_preformatted tag w =
+    row_if (not (has_p_in_button_scope (names_of w))) (ClosePElementInButtonScope ∷ inserts tag ∷ SetIgnoreLf ∷ SetFramesetNotOk ∷ []) IsDone
+
+-- a start tag "form"
+unfoldable pub in_body_start_form : TagText → World → Row
+in_body_start_form tag w =
+    choose (is_some w.form && not (has_template (names_of w))) ignored
+    (row_if (not (has_p_in_button_scope (names_of w))) (ClosePElementInButtonScope ∷ InsertForm tag.attrs tag.had_duplicate_attributes ∷ []) IsDone)
+
+-- a start tag "li", and a start tag "dd", "dt"
+unfoldable pub list_item_names : List (List ℕ)
+list_item_names = codes "li" ∷ []
+
+unfoldable pub description_names : List (List ℕ)
+description_names = codes "dd" ∷ codes "dt" ∷ []
+
+abbrev pub in_body_start_item : List (List ℕ) → TagText → World → Row
+in_body_start_item locals tag w =
+    row_if (is_none (newest_item locals (names_of w)) && not (has_p_in_button_scope (names_of w)))
+    (SetFramesetNotOk ∷ CloseListItem locals ∷ ClosePElementInButtonScope ∷ inserts tag ∷ []) IsDone
+
+-- an end tag "li"
+unfoldable pub in_body_end_li : TagText → World → Row
+in_body_end_li tag w =
+    choose (in_scope (is_html_named (codes "li")) is_list_item_scope (names_of w))
+    (row_if (current_is (codes "li") w) (GenerateImpliedEndExcept (codes "li") ∷ PopUntilNamed (codes "li") ∷ []) IsDone) ignored
+
+-- an end tag "dd", "dt"
+unfoldable pub in_body_end_description : TagText → World → Row
+in_body_end_description tag w =
+    choose (named_in_scope tag.name w) (row_if (current_is tag.name w) (GenerateImpliedEndExcept tag.name ∷ PopUntilNamed tag.name ∷ []) IsDone) ignored
+
+-- a start tag "button"
+unfoldable pub in_body_start_button : TagText → World → Row
+in_body_start_button tag w =
+    let opens : List Change = ReconstructActiveFormattingElements ∷ inserts tag ∷ SetFramesetNotOk ∷ [] in
+    choose (named_in_scope (codes "button") w) (errs (GenerateImpliedEnd ∷ PopUntilNamed (codes "button") ∷ opens) IsDone) (row opens IsDone)
+
+-- an end tag "form": the form element, which isn't one any more, leaves the stack from wherever it stands
+abbrev pub form_in_scope : ℕ → World → Bool
+form_in_scope form w = node_in_scope form is_default_scope (names_of w) w.stack
+
+unfoldable pub close_the_form : Option ℕ → World → Row
+close_the_form None w = ignored
+close_the_form (Some form) w =
+    choose (form_in_scope form w) (errs (ClearForm ∷ GenerateImpliedEnd ∷ RemoveFromStack form ∷ []) IsDone) (errs (ClearForm ∷ []) IsDone)
+
+unfoldable pub in_body_end_form : TagText → World → Row
+in_body_end_form tag w =
+    choose (has_template (names_of w))
+    (choose (named_in_scope (codes "form") w) (errs (GenerateImpliedEnd ∷ PopUntilNamed (codes "form") ∷ []) IsDone) ignored)
+    (close_the_form w.form w)
+
+-- a start tag "applet", "marquee", "object", and their end tags
+unfoldable pub in_body_marked : List (List ℕ)
+in_body_marked = codes "applet" ∷ codes "marquee" ∷ codes "object" ∷ []
+
+abbrev pub in_body_start_marked : TagText → World → Row
+in_body_start_marked tag w = row (ReconstructActiveFormattingElements ∷ inserts tag ∷ InsertMarker ∷ SetFramesetNotOk ∷ []) IsDone
+
+unfoldable pub in_body_end_marked : TagText → World → Row
+in_body_end_marked tag w =
+    choose (named_in_scope tag.name w) (row_if (current_is tag.name w) (GenerateImpliedEnd ∷ PopUntilNamed tag.name ∷ ClearActiveFormattingToMarker ∷ []) IsDone) ignored
+
+-- a start tag "image", which is taken for "img"
+abbrev pub in_body_start_image : TagText → World → Row
+in_body_start_image tag w =
+    errs (ReconstructActiveFormattingElements ∷ InsertAndPopElement (codes "img") tag.attrs tag.had_duplicate_attributes ∷ SetFramesetNotOk ∷ []) IsAcknowledged
+
+-- a start tag "input"
+abbrev pub unless_hidden : List AttributeText → List Change
+unless_hidden attrs = if is_type_hidden attrs then [] else SetFramesetNotOk ∷ []
+
+unfoldable pub in_body_start_input : TagText → World → Row
+in_body_start_input tag w =
+    let puts : List Change = ReconstructActiveFormattingElements ∷ InsertAndPopElement tag.name tag.attrs tag.had_duplicate_attributes ∷ unless_hidden tag.attrs in
+    choose (named_in_scope (codes "select") w) (errs (PopUntilNamed (codes "select") ∷ puts) IsAcknowledged) (row puts IsAcknowledged)
+
+-- a start tag "param", "source", "track"
+unfoldable pub in_body_parts : List (List ℕ)
+in_body_parts = codes "param" ∷ codes "source" ∷ codes "track" ∷ []
+
+abbrev pub in_body_start_part : TagText → World → Row
+in_body_start_part tag w = row (InsertAndPopElement tag.name tag.attrs tag.had_duplicate_attributes ∷ []) IsAcknowledged
+
+-- a start tag "hr"
+abbrev pub in_body_start_hr : TagText → World → Row
+in_body_start_hr tag w =
+    row_if (not (has_p_in_button_scope (names_of w)) && not (named_in_scope (codes "select") w))
+    (ClosePElementInButtonScope ∷ GenerateImpliedEndInSelect ∷ InsertAndPopElement tag.name tag.attrs tag.had_duplicate_attributes ∷ SetFramesetNotOk ∷ []) IsAcknowledged
+
+-- a start tag "select"
+unfoldable pub in_body_start_select : TagText → World → Row
+in_body_start_select tag w =
+    choose (is_context (is_html_named (codes "select")) w) ignored
+    (choose (named_in_scope (codes "select") w) (errs (PopUntilNamed (codes "select") ∷ []) IsDone)
+    (row (ReconstructActiveFormattingElements ∷ inserts tag ∷ SetFramesetNotOk ∷ []) IsDone))
+
+-- a start tag "option", and a start tag "optgroup"
+abbrev pub in_body_opens : TagText → List Change
+in_body_opens tag = ReconstructActiveFormattingElements ∷ inserts tag ∷ []
+
+abbrev pub in_body_start_in_select : List Change → TagText → World → Row
+in_body_start_in_select implied tag w =
+    choose (named_in_scope (codes "select") w) (errs (implied ++ in_body_opens tag) IsDone)
+    (choose (current_is (codes "option") w) (row (Pop ∷ in_body_opens tag) IsDone) (row (in_body_opens tag) IsDone))
+
+unfoldable pub in_body_start_option : TagText → World → Row
+in_body_start_option = in_body_start_in_select (GenerateImpliedEndExcept (codes "optgroup") ∷ [])
+
+unfoldable pub in_body_start_optgroup : TagText → World → Row
+in_body_start_optgroup = in_body_start_in_select (GenerateImpliedEnd ∷ [])
+
+-- an end tag "option": where the option that is nearest the root was closed, it is copied
+abbrev pub copies_option : Option ℕ → List Change
+copies_option None = []
+copies_option (Some option) = CopyClosedOption option ∷ []
+
+abbrev pub oldest_option : World → Option ℕ
+oldest_option w = oldest_passing (is_html_named (codes "option")) (names_of w) w.stack
+
+unfoldable pub in_body_end_option : TagText → World → Row
+in_body_end_option tag w =
+    choose (comes_before_special tag.name (names_of w))
+    (errs (GenerateImpliedEndExcept tag.name ∷ PopUntilNamed tag.name ∷ copies_option (oldest_option w)) IsDone) ignored
+
+-- a start tag "rb", "rtc", and a start tag "rp", "rt"
+unfoldable pub in_body_ruby_bases : List (List ℕ)
+in_body_ruby_bases = codes "rb" ∷ codes "rtc" ∷ []
+
+unfoldable pub in_body_ruby_texts : List (List ℕ)
+in_body_ruby_texts = codes "rp" ∷ codes "rt" ∷ []
+
+abbrev pub in_body_start_ruby : Change → TagText → World → Row
+in_body_start_ruby implied tag w = choose (named_in_scope (codes "ruby") w) (errs (implied ∷ inserts tag ∷ []) IsDone) (errs (inserts tag ∷ []) IsDone)
+
 -- any other start tag
 abbrev pub in_body_start_other : TagText → World → Row
 in_body_start_other tag w = row (ReconstructActiveFormattingElements ∷ inserts tag ∷ []) IsDone
@@ -139,11 +282,26 @@ in_body_start =
     (named Body, in_body_start_body) ∷
     (is_one_of block_start_names, in_body_start_block) ∷
     (is_one_of heading_names, in_body_start_heading) ∷
+    (is_one_of in_body_preformatted, in_body_start_preformatted) ∷
+    (named Form, in_body_start_form) ∷
+    (is_one_of list_item_names, in_body_start_item list_item_names) ∷
+    (is_one_of description_names, in_body_start_item description_names) ∷
+    (named Button, in_body_start_button) ∷
     (named A, in_body_start_a) ∷
     (named Nobr, in_body_start_nobr) ∷
     (is_one_of formatting_names, in_body_start_formatting) ∷
-    (named Br, in_body_start_br) ∷
+    (is_one_of in_body_marked, in_body_start_marked) ∷
     (named Table, in_body_start_table) ∷
+    (is_one_of in_body_void, in_body_start_void) ∷
+    (named Image, in_body_start_image) ∷
+    (named Input, in_body_start_input) ∷
+    (is_one_of in_body_parts, in_body_start_part) ∷
+    (named Hr, in_body_start_hr) ∷
+    (named Select, in_body_start_select) ∷
+    (named known.Option, in_body_start_option) ∷
+    (named Optgroup, in_body_start_optgroup) ∷
+    (is_one_of in_body_ruby_bases, in_body_start_ruby GenerateImpliedEnd) ∷
+    (is_one_of in_body_ruby_texts, in_body_start_ruby (GenerateImpliedEndExcept (codes "rtc"))) ∷
     (is_one_of in_body_ignored_starts, ignored_tag) ∷ []
 
 unfoldable pub in_body_end : Rules
@@ -151,9 +309,14 @@ in_body_end =
     (named Html, in_body_end_html) ∷
     (named Body, in_body_end_body) ∷
     (is_one_of block_end_names, in_body_end_block) ∷
+    (named Form, in_body_end_form) ∷
+    (named known.Option, in_body_end_option) ∷
     (named P, in_body_end_p) ∷
+    (is_one_of list_item_names, in_body_end_li) ∷
+    (is_one_of description_names, in_body_end_description) ∷
     (is_one_of heading_names, in_body_end_heading) ∷
     (is_one_of formatting_names, in_body_end_formatting) ∷
+    (is_one_of in_body_marked, in_body_end_marked) ∷
     (named Br, in_body_end_br) ∷
     (named Template, ignored_tag) ∷ []
 

@@ -6,9 +6,9 @@ use Rattle.h5_tag_sets.specs.TagSets.{is_one_of}
 use Rattle.h5_types.specs.TurnText.{CommentTurn, EofTurn, NullTurn, TagTurn, TextTurn, TurnText}
 use Rattle.h5_types.specs.declared.modes.InsertionMode.TheVariants.{InTable}
 use Rattle.h5_meaning.specs.ByName.{Rules, by_kind, by_name, ignored_tag, named, of_tag}
-use Rattle.h5_meaning.specs.InBody.{current_is, in_body}
+use Rattle.h5_meaning.specs.InBody.{in_body}
 use Rattle.h5_meaning.specs.Rows.{Again, Change, ClearActiveFormattingToMarker, Ending, GenerateImpliedEnd, IsDone, PopUntilNamed, Row, SetMode, choose, ignored, row_if}
-use Rattle.h5_meaning.specs.Shared.{table_structure_names}
+use Rattle.h5_meaning.specs.Shared.{current_is, table_structure_names}
 use Rattle.h5_meaning.specs.Tables.{named_in_table_scope}
 use Rattle.h5_meaning.specs.World.{World}
 

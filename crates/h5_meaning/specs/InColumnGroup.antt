@@ -6,9 +6,9 @@ use Rattle.h5_types.specs.TurnText.{CommentTurn, EofTurn, NullTurn, TagTurn, Tex
 use Rattle.h5_types.specs.declared.modes.InsertionMode.TheVariants.{InTable}
 use Rattle.h5_types.specs.declared.modes.SplitStatus.TheVariants.{NotSplit, NotWhitespace, Whitespace}
 use Rattle.h5_meaning.specs.ByName.{Rules, by_kind, by_name, ignored_tag, named, of_tag}
-use Rattle.h5_meaning.specs.InBody.{current_is, in_body}
+use Rattle.h5_meaning.specs.InBody.{in_body}
 use Rattle.h5_meaning.specs.Rows.{Again, AppendComment, AppendText, Ending, InsertAndPopElement, IsAcknowledged, IsDone, Pop, Change, Row, SetMode, choose, ignored, row}
-use Rattle.h5_meaning.specs.Shared.{in_body_start_html}
+use Rattle.h5_meaning.specs.Shared.{current_is, in_body_start_html}
 use Rattle.h5_meaning.specs.World.{World}
 
 -- the column group is closed, where it is the current node

@@ -9,11 +9,12 @@ use Rattle.h5_stack.specs.Scope.{first_passes, has_template}
 use Rattle.h5_types.specs.TurnText.{CommentTurn, EofTurn, NullTurn, TagTurn, TextTurn, TurnText}
 use Rattle.h5_types.specs.declared.modes.InsertionMode.TheVariants.{InCaption, InColumnGroup, InTableBody, InTableText}
 use Rattle.h5_meaning.specs.ByName.{Rules, by_kind, by_name, ignored_tag, named, of_tag}
-use Rattle.h5_meaning.specs.InBody.{in_body, inserts}
+use Rattle.h5_meaning.specs.InBody.{in_body}
 use Rattle.h5_meaning.specs.Reset.{reset_mode}
 use Rattle.h5_meaning.specs.Rows.{Again, AgainBy, AppendComment, InsertAndPopElement, InsertAndPopForm, InsertElement, InsertMarker, IsAcknowledged, IsDone, PopUntilCurrent, PopUntilNamed, ResetMode, Row, SaveMode, SetMode, choose, errs, ignored, row}
 use Rattle.h5_meaning.specs.Tables.{foster, named_in_table_scope, table_section_names}
 use Rattle.h5_meaning.specs.World.{World, names_of}
+use Rattle.h5_meaning.specs.Shared.{inserts, is_type_hidden}
 
 -- the current node is one in which text of a table is kept back
 abbrev pub keeps_text : World → Bool
@@ -50,14 +51,6 @@ in_table_start_row_part tag w = row (PopUntilCurrent is_table_scope ∷ InsertEl
 unfoldable pub in_table_start_table : TagText → World → Row
 in_table_start_table tag w =
     choose (named_in_table_scope (codes "table") w) (errs (PopUntilNamed (codes "table") ∷ []) (AgainBy reset_mode)) ignored
-
--- whether the first attribute `type`, in no namespace, is `hidden`, in any case of ASCII letters
-abbrev pub is_type : AttributeText → Bool
-is_type a = is_same_text a.name.ns [] && is_same_text a.name.local (codes "type")
-
-abbrev pub is_type_hidden : List AttributeText → Bool
-is_type_hidden [] = false
-is_type_hidden (a ∷ attrs) = if is_type a then str_eq_ignore_ascii_case a.value (codes "hidden") else is_type_hidden attrs
 
 -- a start tag "input"
 unfoldable pub in_table_start_input : TagText → World → Row

@@ -7,7 +7,7 @@ use Rattle.h5_tag_sets.specs.TagSets.{cell_names, is_html_named, is_one_of, is_t
 use Rattle.h5_types.specs.TurnText.{CommentTurn, EofTurn, NullTurn, TagTurn, TextTurn, TurnText}
 use Rattle.h5_types.specs.declared.modes.InsertionMode.TheVariants.{InRow, InTable}
 use Rattle.h5_meaning.specs.ByName.{Rules, by_kind, by_name, ignored_tag, named, of_tag}
-use Rattle.h5_meaning.specs.InBody.{inserts}
+use Rattle.h5_meaning.specs.Shared.{inserts}
 use Rattle.h5_meaning.specs.InTable.{in_table}
 use Rattle.h5_meaning.specs.Rows.{Again, InsertElement, IsDone, Pop, PopUntilCurrent, Row, SetMode, choose, errs, ignored, row}
 use Rattle.h5_meaning.specs.Tables.{in_table_scope, named_in_table_scope, table_section_names}

@@ -22,6 +22,7 @@ pub mod InTableText
 pub mod InitialMode
 pub mod Modes
 pub mod Place
+pub mod FormOwner
 pub mod Reset
 pub mod Rows
 pub mod Run

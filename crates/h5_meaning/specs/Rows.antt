@@ -10,9 +10,9 @@ use Rattle.h5_types.specs.TurnText.{TurnText, turn_text}
 use Rattle.h5_types.specs.declared.modes.InsertionMode.{InsertionMode}
 use Rattle.h5_types.specs.declared.turns.ProcessResult.{ProcessResult}
 use Rattle.h5_types.specs.declared.turns.ProcessResult.TheVariants as results
-use Rattle.h5_meaning.specs.AdoptionAgency.{adoption_agency, handle_misnested_a_tags, handle_misnested_nobr_tags}
-use Rattle.h5_meaning.specs.Changes.{add_attrs_to_html, add_attrs_to_second, append_comment, append_comment_to_doc, append_comment_to_html, append_pending_text, append_text, create_root, generate_implied_end_except, insert_and_pop_element, insert_and_pop_form, insert_element, insert_head, pop, pop_until_current, pop_until_named, save_mode, set_foster, set_frameset_not_ok, set_frameset_ok_by_text, set_mode, set_quirks_mode, take_pending_text}
-use Rattle.h5_meaning.specs.Closing.{close_p_element, close_p_element_in_button_scope, generate_implied_end, pop_heading, pop_until_cell, pop_until_heading}
+use Rattle.h5_meaning.specs.AdoptionAgency.{adoption_agency, handle_misnested_a_tags, handle_misnested_nobr_tags, remove_from_stack}
+use Rattle.h5_meaning.specs.Changes.{add_attrs_to_html, add_attrs_to_second, append_comment, append_comment_to_doc, append_comment_to_html, append_pending_text, append_text, clear_form, create_root, generate_implied_end_except, insert_and_pop_element, insert_and_pop_form, insert_element, insert_form, insert_head, pop, pop_until_current, pop_until_named, save_mode, set_foster, set_frameset_not_ok, set_frameset_ok_by_text, set_ignore_lf, set_mode, set_quirks_mode, take_pending_text}
+use Rattle.h5_meaning.specs.Closing.{close_list_item, close_p_element, close_p_element_in_button_scope, copy_closed_option, generate_implied_end, generate_implied_end_in_select, pop_heading, pop_until_cell, pop_until_heading}
 use Rattle.h5_meaning.specs.Formatting.{clear_active_formatting_to_marker, create_formatting_element, insert_marker, reconstruct_active_formatting_elements}
 use Rattle.h5_meaning.specs.Reset.{reset_mode}
 use Rattle.h5_meaning.specs.World.{World}
@@ -55,6 +55,13 @@ pub data Change : Type 0 where
   SetFoster : (on : Bool) → Change
   AppendPendingText : (text : List ℕ) → Change
   TakePendingText : Change
+  SetIgnoreLf : Change
+  InsertForm : (attrs : List AttributeText) → (duplicates : Bool) → Change
+  ClearForm : Change
+  CloseListItem : (locals : List (List ℕ)) → Change
+  GenerateImpliedEndInSelect : Change
+  CopyClosedOption : (option : ℕ) → Change
+  RemoveFromStack : (element : ℕ) → Change
 
 abbrev pub apply : SinkChoices → Change → World → World
 apply choices (SetMode mode) w = set_mode mode w
@@ -94,6 +101,13 @@ apply choices ResetMode w = set_mode (reset_mode w) w
 apply choices (SetFoster on) w = set_foster on w
 apply choices (AppendPendingText text) w = append_pending_text text w
 apply choices TakePendingText w = take_pending_text w
+apply choices SetIgnoreLf w = set_ignore_lf w
+apply choices (InsertForm attrs duplicates) w = insert_form choices attrs duplicates w
+apply choices ClearForm w = clear_form w
+apply choices (CloseListItem locals) w = close_list_item choices locals w
+apply choices GenerateImpliedEndInSelect w = generate_implied_end_in_select choices w
+apply choices (CopyClosedOption option) w = copy_closed_option choices option w
+apply choices (RemoveFromStack element) w = remove_from_stack choices element w
 
 abbrev pub apply_all : SinkChoices → List Change → World → World
 apply_all choices [] w = w

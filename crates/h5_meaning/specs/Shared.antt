@@ -1,9 +1,14 @@
 -- Rules that several insertion modes share (HTML standard, section 13.2.6.4).
-use Rattle.std.specs.Prelude.{ℕ, List, [], ◌∷◌, codes}
+use Rattle.std.specs.Prelude.{ℕ, Bool, false, ◌&&◌, if◌then◌else◌, List, [], ◌∷◌, Option, None, Some, codes}
+use Rattle.std.specs.Str.{str_eq_ignore_ascii_case}
+use Rattle.h5_names.specs.declared.qualified.QualName.{QualName}
 use Rattle.h5_token.specs.TokenText.{TagText}
-use Rattle.h5_stack.specs.Scope.{has_template}
-use Rattle.h5_meaning.specs.Rows.{AddAttrsToHtml, AppendText, IsDone, ReconstructActiveFormattingElements, Row, SetFramesetOkByText, choose, errs, ignored, row}
-use Rattle.h5_meaning.specs.World.{World, names_of}
+use Rattle.h5_stack.specs.Scope.{first_passes, has_template}
+use Rattle.h5_meaning.specs.Rows.{AddAttrsToHtml, AppendText, Change, InsertElement, IsDone, ReconstructActiveFormattingElements, Row, SetFramesetOkByText, choose, errs, ignored, row}
+use Rattle.h5_meaning.specs.World.{World, name_in, names_of}
+use Rattle.h5_tag_sets.specs.TagSets.{is_html_named}
+use Rattle.h5_names.specs.AttributeText.{AttributeText, is_same_text}
+use Rattle.h5_interface.specs.Forest.{Forest}
 
 -- section 13.2.6.4.7, a start tag "html"
 unfoldable pub in_body_start_html : TagText → World → Row
@@ -18,3 +23,27 @@ unfoldable pub table_structure_names : List (List ℕ)
 table_structure_names =
     codes "caption" ∷ codes "col" ∷ codes "colgroup" ∷ codes "tbody" ∷ codes "td" ∷ codes "tfoot" ∷
     codes "th" ∷ codes "thead" ∷ codes "tr" ∷ []
+
+-- an element for a tag
+abbrev pub inserts : TagText → Change
+inserts tag = InsertElement tag.name tag.attrs tag.had_duplicate_attributes
+
+-- the current node is an HTML element of this name
+abbrev pub current_is : List ℕ → World → Bool
+current_is local w = first_passes (is_html_named local) (names_of w)
+
+-- whether the first attribute `type`, in no namespace, is `hidden`, in any case of ASCII letters
+abbrev pub is_type : AttributeText → Bool
+is_type a = is_same_text a.name.ns [] && is_same_text a.name.local (codes "type")
+
+abbrev pub is_type_hidden : List AttributeText → Bool
+is_type_hidden [] = false
+is_type_hidden (a ∷ attrs) = if is_type a then str_eq_ignore_ascii_case a.value (codes "hidden") else is_type_hidden attrs
+
+-- the context element, where a fragment is parsed, passes (section 13.4)
+abbrev pub context_passes : (QualName → Bool) → Forest → Option ℕ → Bool
+context_passes is f None = false
+context_passes is f (Some n) = is (name_in f n)
+
+abbrev pub is_context : (QualName → Bool) → World → Bool
+is_context is w = context_passes is w.forest w.context

@@ -13,7 +13,7 @@ use Rattle.h5_meaning.specs.BeforeHtml.{before_html_else}
 use Rattle.h5_meaning.specs.Blanks.{is_blank, blanks_of, rest_of}
 use Rattle.h5_meaning.specs.Changes.{append_pending_text, append_text, save_mode, set_foster, set_frameset_ok_by_text, set_mode}
 use Rattle.h5_meaning.specs.Formatting.{reconstruct_active_formatting_elements}
-use Rattle.h5_meaning.specs.InBody.{current_is}
+use Rattle.h5_meaning.specs.Shared.{current_is}
 use Rattle.h5_meaning.specs.InColumnGroup.{in_column_group_else}
 use Rattle.h5_meaning.specs.InHead.{in_head_else}
 use Rattle.h5_meaning.specs.InTable.{keeps_text}

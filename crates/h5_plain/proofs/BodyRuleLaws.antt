@@ -7,7 +7,7 @@ use Rattle.h5_tag_sets.specs.TagSets.{block_end_names, block_start_names, cell_n
 use Rattle.h5_types.specs.TurnText.{TagTurn}
 use Rattle.h5_types.specs.declared.modes.InsertionMode.TheVariants.{InBody}
 use Rattle.h5_stack.specs.FormattingNames.{html_name}
-use Rattle.h5_meaning.specs.InBody.{in_body_end, in_body_end_block, in_body_end_heading, in_body_end_p, in_body_start, in_body_start_block, in_body_start_br, in_body_start_heading, in_body_tag}
+use Rattle.h5_meaning.specs.InBody.{description_names, in_body_end, in_body_end_block, in_body_end_heading, in_body_end_p, in_body_marked, in_body_preformatted, in_body_start, in_body_start_block, in_body_start_heading, in_body_start_void, in_body_tag, in_body_void, list_item_names}
 use Rattle.h5_meaning.specs.InCell.{in_cell_closing_ends, in_cell_ignored_ends}
 use Rattle.h5_meaning.specs.Modes.{rule}
 use Rattle.h5_meaning.specs.Shared.{table_structure_names}
@@ -35,8 +35,8 @@ unfolding in_body_tag in_body_end block_end_names
 p_end_rule w = refl
 
 -- a `br`
-pub br_rule : (a : List AttributeText) (w : World) → rule InBody (TagTurn (start (codes "br") a)) w ≡ in_body_start_br (start (codes "br") a) w
-unfolding in_body_tag in_body_start block_start_names heading_names formatting_names
+pub br_rule : (a : List AttributeText) (w : World) → rule InBody (TagTurn (start (codes "br") a)) w ≡ in_body_start_void (start (codes "br") a) w
+unfolding in_body_tag in_body_start block_start_names heading_names formatting_names in_body_preformatted list_item_names description_names in_body_marked in_body_void
 br_rule a w = refl
 
 -- an element of this name is written with an end tag, and takes children itself
@@ -90,7 +90,7 @@ of_each Of (n ∷ ns) each name h = at (of_each Of ns each.1 name) (is_same_text
     at others false e k = others k
 
 headings : EachOf IsHeadingName heading_names
-unfolding heading_names void_names html_namespace in_body_tag in_body_start in_body_end block_start_names block_end_names is_html_named is_heading is_implied implied_names table_structure_names cell_names in_cell_closing_ends in_cell_ignored_ends
+unfolding heading_names void_names html_namespace in_body_tag in_body_start in_body_end block_start_names block_end_names is_html_named is_heading is_implied implied_names table_structure_names cell_names in_cell_closing_ends in_cell_ignored_ends list_item_names description_names
 headings = (
   record { holds = record { has_end = refl; no_template = refl }; starts = λ a w. refl; ends = λ w. refl; itself = refl; heading = refl; not_implied = refl; outside = record { no_structure = refl; no_cell = refl; closes_none = refl; not_ignored = refl } },
   (

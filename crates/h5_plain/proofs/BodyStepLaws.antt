@@ -1,5 +1,5 @@
 -- What a tag or a text of a plain document does in the body, or in a cell, which goes by the body for it.
-use Rattle.std.proofs.Common.{◌≡◌, ◌∙◌, ℕ, Bool, true, false, ◌&&◌, not, cond, List, [], ◌∷◌, codes, refl, ap, subst}
+use Rattle.std.proofs.Common.{◌≡◌, ◌∙◌, ℕ, Bool, true, false, ◌&&◌, not, cond, List, [], ◌∷◌, codes, None, refl, ap, subst}
 use Rattle.h5_names.specs.AttributeText.{AttributeText}
 use Rattle.h5_names.specs.declared.qualified.QualName.{QualName}
 use Rattle.h5_token.specs.TokenText.{Characters}
@@ -17,7 +17,7 @@ use Rattle.h5_meaning.specs.Changes.{append_text, insert_and_pop_element, insert
 use Rattle.h5_meaning.specs.Closing.{close_p_element, close_p_element_in_button_scope, pop_heading, pop_until_heading}
 use Rattle.h5_meaning.specs.InBody.{in_body_end_block, in_body_end_heading, in_body_end_p, in_body_start_block}
 use Rattle.h5_meaning.specs.Modes.{rule}
-use Rattle.h5_meaning.specs.Place.{put}
+use Rattle.h5_meaning.specs.Place.{place, put}
 use Rattle.h5_meaning.specs.Rows.{ClosePElement, ClosePElementInButtonScope, GenerateImpliedEnd, InsertAndPopElement, InsertElement, IsDone, PopHeading, PopUntilHeading, PopUntilNamed, ReconstructActiveFormattingElements, SetFramesetNotOk, choose, errs, ignored, row_if}
 use Rattle.h5_meaning.specs.World.{World, names_of}
 use Rattle.h5_meaning.proofs.FormattingLaws.{reconstruct_none}
@@ -26,7 +26,7 @@ use Rattle.h5_plain.specs.Plain.{end_tag, start_tag}
 use Rattle.h5_plain.proofs.BodyRuleLaws.{IsHeadingName, br_outside, br_rule, div_end_rule, div_outside, p_end_rule, p_outside}
 use Rattle.h5_stack.specs.FormattingList.{Entry}
 use Rattle.h5_plain.proofs.ListedLaws.{OpenFormat}
-use Rattle.h5_plain.proofs.CalmLaws.{Calm, after, calm_closed, names_are, opened, place_is}
+use Rattle.h5_plain.proofs.CalmLaws.{Calm, after, calm_closed, names_are, opened, place_is, unowned}
 use Rattle.h5_plain.proofs.FilledLaws.{Face}
 use Rattle.h5_plain.proofs.GoesLaws.{Moves, moves_acknowledged, moves_row, moves_text}
 use Rattle.h5_plain.proofs.GrowthLaws.{with_element}
@@ -37,7 +37,9 @@ module _ (choices : SinkChoices) {w : World} {p : ℕ} {d : Face} {names : List 
   -- a new element is put below the current node
   pub insert_is : (name : List ℕ) (attrs : List AttributeText) → insert_element choices name attrs false w ≡ opened choices w p name attrs w.mode w.formatting w.frameset_ok
   unfolding insert_element
-  insert_is name attrs = ap (λ q. push_new choices q name attrs false w) (place_is w p d c.is_current c.shows c.no_foster c.no_template)
+  insert_is name attrs =
+      ap (λ m. push_new choices (place w) name attrs false m w) (unowned choices name attrs w c.no_form)
+      ∙ ap (λ q. push_new choices q name attrs false None w) (place_is w p d c.is_current c.shows c.no_foster c.no_template)
 
   pub no_p : has_p_in_button_scope names ≡ false → has_p_in_button_scope (names_of w) ≡ false
   no_p h = ap has_p_in_button_scope (names_are w c.named) ∙ h
@@ -76,7 +78,9 @@ module _ (choices : SinkChoices) {w : World} {p : ℕ} {d : Face} {names : List 
   -- a `br`
   break_is : (attrs : List AttributeText) → set_frameset_not_ok (insert_and_pop_element choices (codes "br") attrs false w) ≡ after w (with_element choices p (html_name (codes "br")) attrs w.forest) w.formatting false
   unfolding insert_and_pop_element
-  break_is attrs = ap (λ q. after w (new_element choices q (html_name (codes "br")) attrs false w.forest) w.formatting false) (place_is w p d c.is_current c.shows c.no_foster c.no_template)
+  break_is attrs =
+      ap (λ m. after w (new_element choices (place w) (html_name (codes "br")) attrs false m w.forest) w.formatting false) (unowned choices (codes "br") attrs w c.no_form)
+      ∙ ap (λ q. after w (new_element choices q (html_name (codes "br")) attrs false None w.forest) w.formatting false) (place_is w p d c.is_current c.shows c.no_foster c.no_template)
 
   -- what it does
   pub breaks : (attrs : List AttributeText) → GoesByBody w.mode → Moves choices (start_tag (codes "br") attrs) w (after w (with_element choices p (html_name (codes "br")) attrs w.forest) w.formatting false)

@@ -1,5 +1,5 @@
 -- A plain list of nodes is built below the current node.
-use Rattle.std.proofs.Common.{◌≡◌, ℕ, Bool, true, false, ◌&&◌, ◌||◌, List, [], ◌∷◌, codes, refl, ap, cond, subst, sym, ◌∙◌}
+use Rattle.std.proofs.Common.{◌≡◌, ℕ, Bool, true, false, ◌&&◌, ◌||◌, List, [], ◌∷◌, None, Some, codes, refl, ap, cond, subst, sym, ◌∙◌}
 use Rattle.h5_names.specs.AttributeText.{AttributeText, is_same_text}
 use Rattle.h5_names.specs.declared.qualified.QualName.{QualName}
 use Rattle.h5_interface.specs.Changes.{append_text, mark}
@@ -13,8 +13,10 @@ use Rattle.h5_stack.specs.FormattingNames.{html_name}
 use Rattle.h5_stack.specs.Order.{but_first}
 use Rattle.h5_stack.specs.Scope.{first_passes, has_p_in_button_scope}
 use Rattle.h5_meaning.specs.Blanks.{all_blank}
+use Rattle.h5_meaning.specs.Closing.{ends_item_search, newest_item}
+use Rattle.h5_meaning.specs.InBody.{list_item_names}
 use Rattle.h5_meaning.specs.World.{World, names_of}
-use Rattle.h5_plain.specs.Plain.{Blocks, Break, Cell, Cells, Division, ElementThen, End, Formatted, Heading, Inlines, IsPlain, Items, Link, Nodes, Nothing, Paragraph, Rows, Section, Sections, Sort, Table, TableRow, TextThen, Words, end_tag, start_tag}
+use Rattle.h5_plain.specs.Plain.{Blocks, Break, Cell, Cells, Division, ElementThen, End, Formatted, Heading, Inlines, IsPlain, Item, ItemList, Items, Link, Nodes, Nothing, Paragraph, Rows, Section, Sections, Sort, Table, TableRow, TextThen, Words, end_tag, start_tag}
 use Rattle.h5_stack.specs.FormattingList.{Entry, MarkerEntry, push_formatting}
 use Rattle.h5_plain.proofs.ListedLaws.{Entries, Fewer, Formats, Kept, Lost, OpenFormat, has_link}
 use Rattle.h5_plain.proofs.BodyRuleLaws.{IsHolder, div_holds, div_outside, div_rule, is_heading_name, p_holds, p_outside, p_rule}
@@ -26,6 +28,8 @@ use Rattle.h5_plain.proofs.FormatRuleLaws.{IsFormatName, a_formats, is_inline_na
 use Rattle.h5_plain.proofs.FormatStepLaws.{ends_kept, ends_lost, formatted, starts_formatting, starts_link}
 use Rattle.h5_plain.proofs.GoesLaws.{Moves}
 use Rattle.h5_plain.proofs.GrowthLaws.{body, html, with_element}
+use Rattle.h5_plain.proofs.ListRuleLaws.{IsListName, is_list_name, item_holds}
+use Rattle.h5_plain.proofs.ListStepLaws.{ends_item, ends_list, starts_item}
 use Rattle.h5_plain.proofs.LooksLaws.{ends_in_node, ends_in_text, unlike}
 use Rattle.h5_plain.proofs.ModeLaws.{GoesByBody, ResetsTo, TheBody, TheCell, resets_below, resets_to_cell}
 use Rattle.h5_plain.proofs.RuleLaws.{start}
@@ -37,7 +41,7 @@ use Rattle.h5_plain.proofs.TableStepLaws.{Ends, ends_row, ends_section, ends_tab
 abbrev pub Fits : Sort → InsertionMode → List QualName → Type 0
 Fits Blocks m names = GoesByBody m × ((has_p_in_button_scope names ≡ false) × ((first_passes is_heading names ≡ false) × ResetsTo names m))
 Fits (Inlines after_text linked) m names = GoesByBody m
-Fits Items m names = Unit {0}
+Fits Items m names = GoesByBody m × ((has_p_in_button_scope names ≡ false) × ((newest_item list_item_names names ≡ None) × ResetsTo names m))
 Fits Sections m names = (m ≡ InTable) × (first_passes is_table_scope names ≡ true)
 Fits Rows m names = (m ≡ InTableBody) × (first_passes is_table_body_context names ≡ true)
 Fits Cells m names = (m ≡ InRow) × (first_passes is_table_row_context names ≡ true)
@@ -50,6 +54,26 @@ Seam _ cs = Unit {0}
 in_division : (m : InsertionMode) (names : List QualName) → Fits Blocks m names → Fits Blocks m (html_name (codes "div") ∷ names)
 unfolding is_html_named is_button_scope is_default_scope is_heading html_namespace mathml_namespace svg_namespace scope_names button_scope_names heading_names role_of role_of_local
 in_division m names f = (f.0, (f.1.0, (refl, resets_below (html_name (codes "div")) names refl f.1.1.1)))
+
+-- items may come in a list, which ends the search for an item, and blocks in an item
+in_list : (m : InsertionMode) (name : List ℕ) (names : List QualName) → IsListName name → Fits Blocks m names → Fits Items m (html_name name ∷ names)
+in_list m name names k f = (
+  f.0,
+  (
+    ap (λ b. cond b true (cond (is_button_scope (html_name name)) false (has_p_in_button_scope names))) k.no_p
+        ∙ ap (λ b. cond b false (has_p_in_button_scope names)) k.no_scope
+        ∙ f.1.0,
+    (
+      ap (λ b. cond b (Some name) (cond (ends_item_search (html_name name)) None (newest_item list_item_names names))) k.no_item
+          ∙ ap (λ b. cond b None (newest_item list_item_names names)) k.ends_search,
+      resets_below (html_name name) names k.role f.1.1.1,
+    ),
+  ),
+)
+
+in_item : (m : InsertionMode) (names : List QualName) → Fits Items m names → Fits Blocks m (html_name (codes "li") ∷ names)
+unfolding is_html_named is_button_scope is_default_scope is_heading html_namespace mathml_namespace svg_namespace scope_names button_scope_names heading_names role_of role_of_local
+in_item m names f = (f.0, (f.1.0, (refl, resets_below (html_name (codes "li")) names refl f.1.1.1)))
 
 -- blocks may come in the body
 pub body_fits : (m : InsertionMode) → m ≡ InBody → Fits Blocks m (body ∷ html ∷ [])
@@ -246,6 +270,19 @@ builds choices (Heading {name} {attrs} {inner} {rest} h a i r) w p d names path 
     block_case choices c name attrs inner rest x.holds (starts_heading choices c name attrs x f.0 f.1.0 f.1.1.0)
     (λ o. builds choices i (in_block choices c name attrs) n (face name attrs) (html_name name ∷ names) [] (n ∷ w.stack) base f.0 refl refl o)
     (λ v m k e. ends_heading choices v names (subst GoesByBody (sym m) f.0) k name x e)
+    (λ g k b q. builds choices r (after w g k b) p (more d (ChildNode n ∷ [])) names path under base f tt tt q)
+builds choices (ItemList {name} {attrs} {inner} {rest} h a i r) w p d names path under base f z l c =
+    let n = choices.fresh w.forest in
+    let x = is_list_name name h in
+    block_case choices c name attrs inner rest x.holds (starts_block choices c name attrs f.0 x.outside f.1.0 (x.starts attrs w))
+    (λ o. builds choices i (in_block choices c name attrs) n (face name attrs) (html_name name ∷ names) [] (n ∷ w.stack) base (in_list w.mode name names x f) tt tt o)
+    (λ v m k e. ends_list choices v names (subst GoesByBody (sym m) f.0) k name x e)
+    (λ g k b q. builds choices r (after w g k b) p (more d (ChildNode n ∷ [])) names path under base f tt tt q)
+builds choices (Item {attrs} {inner} {rest} a i r) w p d names path under base f z l c =
+    let n = choices.fresh w.forest in
+    part_case choices c (codes "li") attrs w.mode false inner rest item_holds (starts_item choices c attrs f.0 f.1.0 f.1.1.0)
+    (λ o. builds choices i (in_part choices c (codes "li") attrs w.mode false) n (face (codes "li") attrs) (html_name (codes "li") ∷ names) [] (n ∷ w.stack) base (in_item w.mode names f) tt tt o)
+    (λ v g k m e. subst (Ends choices (codes "li") v) m (ends_item choices v names (subst GoesByBody (sym m) f.0) k g e))
     (λ g k b q. builds choices r (after w g k b) p (more d (ChildNode n ∷ [])) names path under base f tt tt q)
 builds choices (Table {attrs} {inner} {rest} a i r) w p d names path under base f z l c =
     let n = choices.fresh w.forest in

@@ -1,5 +1,5 @@
 -- A builder in the middle of a list of nodes, and what it makes of them.
-use Rattle.std.proofs.Common.{◌≡◌, ◌≢◌, ◌∙◌, ℕ, Bool, true, false, ◌&&◌, cond, List, [], ◌∷◌, ◌++◌, map, None, Some, unwrap_or, refl, ap, sym, subst}
+use Rattle.std.proofs.Common.{◌≡◌, ◌≢◌, ◌∙◌, ℕ, Bool, true, false, ◌&&◌, not, cond, List, [], ◌∷◌, ◌++◌, map, None, Some, unwrap_or, refl, ap, sym, subst}
 use Rattle.h5_names.specs.AttributeText.{AttributeText}
 use Rattle.h5_names.specs.declared.qualified.QualName.{QualName}
 use Rattle.h5_token.specs.TokenText.{TokenText}
@@ -12,6 +12,9 @@ use Rattle.h5_stack.specs.FormattingList.{Entry, closed_front, nodes_of}
 use Rattle.h5_stack.specs.FormattingNames.{html_name}
 use Rattle.h5_stack.specs.Order.{first_or, is_in}
 use Rattle.h5_meaning.specs.Place.{LastChild, appropriate_place, foster_place, from_foster_parent, place}
+use Rattle.h5_stack.specs.Scope.{has_template}
+use Rattle.h5_meaning.specs.Changes.{owned}
+use Rattle.h5_meaning.specs.FormOwner.{associates, form_owner, may_have_owner}
 use Rattle.h5_meaning.specs.World.{World, current, name_in, name_of_found, name_of_kind, names_of, root}
 use Rattle.h5_plain.specs.Plain.{ElementThen, End, Nodes, end_tag, has_end_tag, start_tag, tokens_before}
 use Rattle.h5_plain.proofs.FilledLaws.{Face, Filled, Frame, SameFaces, Shows, face, filled_element, filled_nothing, frame_element, gone_before, more}
@@ -49,6 +52,7 @@ pub record Calm (w : World) (p : ℕ) (d : Face) (names : List QualName) (path :
   pub shows : Shows w.forest p d
   pub named : Named w.forest w.stack names
   pub no_foster : w.foster ≡ false
+  pub no_form : w.form ≡ None
   pub no_template : is_html_template (name_of_kind d.kind) ≡ false
   pub are_open : w.stack ≡ open_nodes path ++ under
   pub is_base : IsBase base
@@ -68,6 +72,15 @@ place_is w p d e l off untemplated =
     ∙ ap (λ b. cond b (foster_place w.forest (root w) (from_foster_parent w.forest w.stack)) (LastChild (cond (is_html_template (name_in w.forest p)) (unwrap_or (contents_of w.forest p) p) p)))
     (ap (λ b. b && is_table_outer (name_in w.forest p)) off)
     ∙ ap (λ b. LastChild (cond b (unwrap_or (contents_of w.forest p) p) p)) (ap is_html_template name ∙ untemplated)
+
+-- and where no form is known, nothing has a form owner
+pub unowned : (choices : SinkChoices) (local : List ℕ) (attrs : List AttributeText) (w : World) → w.form ≡ None → owned choices local attrs w ≡ None
+unfolding form_owner
+unowned choices local attrs w k = ap (associates choices (choices.fresh w.forest) (place w)) (at (may_have_owner local attrs && not (has_template (names_of w))))
+  where
+    at : (b : Bool) → cond b w.form None ≡ None
+    at true = k
+    at false = refl
 
 -- the world after: what isn't named here is as before
 abbrev pub after : World → Forest → List Entry → Bool → World
@@ -116,6 +129,7 @@ module _ (choices : SinkChoices) {w : World} {p : ℕ} {d : Face} {names : List 
     shows = r.here;
     named = named_kept g r.kinds c.named;
     no_foster = c.no_foster;
+    no_form = c.no_form;
     no_template = c.no_template;
     are_open = c.are_open;
     is_base = c.is_base;
@@ -164,6 +178,7 @@ module _ (choices : SinkChoices) (w : World) (p : ℕ) (d : Face) (name : List �
           shows = below.new;
           named = OneOpen below.new.is_kind (named_kept inside.forest below.same_kind c.named);
           no_foster = c.no_foster;
+          no_form = c.no_form;
           no_template = o.no_template;
           are_open = o.are_open;
           is_base = o.is_base;

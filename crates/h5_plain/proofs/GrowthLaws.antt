@@ -1,5 +1,5 @@
 -- The forest of a document, as it grows.
-use Rattle.std.proofs.Common.{◌≡◌, ◌≢◌, ◌∙◌, ℕ, Bool, false, List, [], ◌∷◌, ◌++◌, Some, codes, refl, ap, sym, subst}
+use Rattle.std.proofs.Common.{◌≡◌, ◌≢◌, ◌∙◌, ℕ, Bool, false, List, [], ◌∷◌, ◌++◌, None, Some, codes, refl, ap, sym, subst}
 use Rattle.h5_names.specs.AttributeText.{AttributeText}
 use Rattle.h5_names.specs.declared.qualified.QualName.{QualName}
 use Rattle.h5_interface.specs.Changes.{append_node, mark}
@@ -69,9 +69,9 @@ element_below choices f p name attrs forest there e =
     let new = choices.fresh_is_new f forest in
     let same : hung p n d f ≡ with_element choices p name attrs f = ap (append_node p n) (sym (made_plain choices name attrs false f e)) in
     record {
-      is_forest = (new_element_rearranges choices f (LastChild p) name attrs false forest there).is_forest;
+      is_forest = (new_element_rearranges choices f (LastChild p) name attrs false None forest there).is_forest;
       same_document = sym (ap (λ (g : Forest). g.document) same);
-      same_kind = (new_element_rearranges choices f (LastChild p) name attrs false forest there).same_kind;
+      same_kind = (new_element_rearranges choices f (LastChild p) name attrs false None forest there).same_kind;
       new = subst (λ g. Looks g n (ElementNode name) attrs []) same (looks_new f p n d new there (element_lone name attrs (flags_of name attrs false)));
       parent = λ k a cs l. subst (λ g. Looks g p k a (cs ++ ChildNode n ∷ [])) same (looks_parent f p n d k a cs forest new l);
       other = λ m k a cs h l. subst (λ g. Looks g m k a cs) same (looks_other f p n m d k a cs new h l);

@@ -9,6 +9,8 @@ mod FormatRuleLaws
 mod FormatStepLaws
 pub mod GoesLaws
 pub mod GrowthLaws
+mod ListRuleLaws
+mod ListStepLaws
 mod ListedLaws
 pub mod LooksLaws
 mod ModeLaws

@@ -24,7 +24,7 @@ use Rattle.h5_stack.specs.Order.{but_first, first_or, is_in}
 use Rattle.h5_plain.specs.Plain.{Blocks, End, IsPlain, Nodes, end_tag, plain_doctype, start_tag, tokens_before}
 use Rattle.h5_plain.specs.Rebuilding.{IsStart, Looks, Stands}
 use Rattle.h5_plain.proofs.BuildsLaws.{body_fits, builds}
-use Rattle.h5_plain.proofs.CalmLaws.{Calm, Named, NoneOpen, OneOpen, after, place_is}
+use Rattle.h5_plain.proofs.CalmLaws.{Calm, Named, NoneOpen, OneOpen, after, unowned, place_is}
 use Rattle.h5_plain.proofs.FilledLaws.{face, rooted_framed, stands_from_new}
 use Rattle.h5_plain.proofs.GoesLaws.{Goes, Moves, moves_end, moves_tag}
 use Rattle.h5_plain.proofs.GrowthLaws.{Begun, Rooted, begun_first, body, head, html, kinds_apart, name_of, root_below, rooted_first, rooted_grown, rooted_marked, with_element}
@@ -43,6 +43,7 @@ pub record AfterDoctype (w : World) : Type 0 where
   pub none_open : w.stack ≡ []
   pub none_listed : w.formatting ≡ []
   pub no_foster : w.foster ≡ false
+  pub no_form : w.form ≡ None
   pub quirks : w.seen_quirks ≡ NoQuirks
   pub doctype : ℕ
   pub begun : Begun w.forest doctype []
@@ -54,6 +55,7 @@ pub record AfterHtml (a : List AttributeText) (w : World) : Type 0 where
   pub is_open : w.stack ≡ root ∷ []
   pub none_listed : w.formatting ≡ []
   pub no_foster : w.foster ≡ false
+  pub no_form : w.form ≡ None
   pub quirks : w.seen_quirks ≡ NoQuirks
   pub doctype : ℕ
   pub rooted : Rooted w.forest doctype root a []
@@ -66,6 +68,7 @@ pub record WithHead (m : InsertionMode) (more : ℕ → List ℕ) (a b : List At
   pub are_open : w.stack ≡ (more header) ++ root ∷ []
   pub none_listed : w.formatting ≡ []
   pub no_foster : w.foster ≡ false
+  pub no_form : w.form ≡ None
   pub quirks : w.seen_quirks ≡ NoQuirks
   pub doctype : ℕ
   pub rooted : Rooted w.forest doctype root a (ChildNode header ∷ [])
@@ -91,6 +94,7 @@ pub record AtBody (a b c : List AttributeText) (w : World) : Type 0 where
   pub with_body : WithBody InBody a b c [] End w
   pub none_listed : w.formatting ≡ []
   pub no_foster : w.foster ≡ false
+  pub no_form : w.form ≡ None
   pub ignore_lf : w.ignore_lf ≡ false
 
 abbrev one : ℕ → List ℕ
@@ -113,7 +117,7 @@ unfolding set_quirks_mode insert_doctype
 doctype_next choices w s = record {
   after = set_mode BeforeHtml (set_quirks_mode NoQuirks (insert_doctype choices (codes "html") [] [] (taken w)));
   moves = doctype_moves choices w s;
-  holds = record { mode = refl; none_open = s.none_open; none_listed = s.none_listed; no_foster = s.no_foster; quirks = refl; doctype = choices.fresh w.forest; begun = begun_first choices w.forest s.holds };
+  holds = record { mode = refl; none_open = s.none_open; none_listed = s.none_listed; no_foster = s.no_foster; no_form = s.no_form; quirks = refl; doctype = choices.fresh w.forest; begun = begun_first choices w.forest s.holds };
 }
 
 pub html_next : (choices : SinkChoices) (a : List AttributeText) (w : World) → AfterDoctype w → Next choices (start_tag (codes "html") a) w (AfterHtml a)
@@ -127,6 +131,7 @@ html_next choices a w s = record {
     is_open = ap (λ r. choices.fresh w.forest ∷ r) s.none_open;
     none_listed = s.none_listed;
     no_foster = s.no_foster;
+    no_form = s.no_form;
     quirks = s.quirks;
     doctype = s.doctype;
     rooted = rooted_first choices w.forest s.doctype a s.begun;
@@ -138,9 +143,11 @@ place_is_root : (w : World) (x h : ℕ) (a : List AttributeText) (cs : List Chil
 place_is_root w x h a cs e off r =
     place_is w h (record { kind = ElementNode html; attrs = a; children = cs }) (ap (first_or w.forest.document) e) r.is_root off refl
 
-inserted : (choices : SinkChoices) (local : List ℕ) (attrs : List AttributeText) (w : World) (h : ℕ) → place w ≡ LastChild h → with_element choices h (html_name local) attrs w.forest ≡ (insert_element choices local attrs false w).forest
+inserted : (choices : SinkChoices) (local : List ℕ) (attrs : List AttributeText) (w : World) (h : ℕ) → place w ≡ LastChild h → w.form ≡ None → with_element choices h (html_name local) attrs w.forest ≡ (insert_element choices local attrs false w).forest
 unfolding insert_element
-inserted choices local attrs w h e = ap (λ p. new_element choices p (html_name local) attrs false w.forest) (sym e)
+inserted choices local attrs w h e k =
+    ap (λ p. new_element choices p (html_name local) attrs false None w.forest) (sym e)
+    ∙ ap (λ m. new_element choices (place w) (html_name local) attrs false m w.forest) (sym (unowned choices local attrs w k))
 
 insert_opens : (choices : SinkChoices) (local : List ℕ) (attrs : List AttributeText) (w : World) → (insert_element choices local attrs false w).stack ≡ choices.fresh w.forest ∷ w.stack
 unfolding insert_element
@@ -158,6 +165,10 @@ insert_foster : (choices : SinkChoices) (local : List ℕ) (attrs : List Attribu
 unfolding insert_element
 insert_foster choices local attrs w = refl
 
+insert_form : (choices : SinkChoices) (local : List ℕ) (attrs : List AttributeText) (w : World) → (insert_element choices local attrs false w).form ≡ w.form
+unfolding insert_element
+insert_form choices local attrs w = refl
+
 insert_flag : (choices : SinkChoices) (local : List ℕ) (attrs : List AttributeText) (w : World) → (insert_element choices local attrs false w).ignore_lf ≡ w.ignore_lf
 unfolding insert_element
 insert_flag choices local attrs w = refl
@@ -167,7 +178,7 @@ unfolding insert_head insert_element
 head_next choices a b w s =
     let n = choices.fresh w.forest in
     let below = root_below choices w.forest s.doctype s.root a [] head b s.rooted refl in
-    let same = inserted choices (codes "head") b (taken w) s.root (place_is_root (taken w) s.doctype s.root a [] s.is_open s.no_foster s.rooted) in
+    let same = inserted choices (codes "head") b (taken w) s.root (place_is_root (taken w) s.doctype s.root a [] s.is_open s.no_foster s.rooted) s.no_form in
     record {
       after = set_mode InHead (insert_head choices b false (taken w));
       moves = moves_tag choices _ w BeforeHead (InsertHead b false ∷ SetMode InHead ∷ []) s.mode (head_rule b (taken w)) refl;
@@ -178,6 +189,7 @@ head_next choices a b w s =
         are_open = insert_opens choices (codes "head") b (taken w) ∙ ap (λ r. n ∷ r) s.is_open;
         none_listed = insert_listed choices (codes "head") b (taken w) ∙ s.none_listed;
         no_foster = insert_foster choices (codes "head") b (taken w) ∙ s.no_foster;
+        no_form = insert_form choices (codes "head") b (taken w) ∙ s.no_form;
         quirks = insert_quirks choices (codes "head") b (taken w) ∙ s.quirks;
         doctype = s.doctype;
         rooted = subst (λ f. Rooted f s.doctype s.root a (ChildNode n ∷ [])) same (rooted_grown choices w.forest s.doctype s.root a [] head b s.rooted below);
@@ -198,6 +210,7 @@ head_end_next choices a b w s = record {
     are_open = ap but_first s.are_open;
     none_listed = s.none_listed;
     no_foster = s.no_foster;
+    no_form = s.no_form;
     quirks = s.quirks;
     doctype = s.doctype;
     rooted = rooted_marked w.forest (choices.marks_after_pop w.forest (current w)) s.doctype s.root a (ChildNode s.header ∷ []) s.rooted;
@@ -210,7 +223,7 @@ pub body_next : (choices : SinkChoices) (a b c : List AttributeText) (w : World)
 body_next choices a b c w s =
     let n = choices.fresh w.forest in
     let below = root_below choices w.forest s.doctype s.root a (ChildNode s.header ∷ []) body c s.rooted refl in
-    let same = inserted choices (codes "body") c (taken w) s.root (place_is_root (taken w) s.doctype s.root a (ChildNode s.header ∷ []) s.are_open s.no_foster s.rooted) in
+    let same = inserted choices (codes "body") c (taken w) s.root (place_is_root (taken w) s.doctype s.root a (ChildNode s.header ∷ []) s.are_open s.no_foster s.rooted) s.no_form in
     record {
       after = set_mode InBody (set_frameset_not_ok (insert_element choices (codes "body") c false (taken w)));
       moves = moves_tag choices _ w AfterHead (InsertElement (codes "body") c false ∷ SetFramesetNotOk ∷ SetMode InBody ∷ []) s.mode (body_rule c (taken w)) refl;
@@ -230,6 +243,7 @@ body_next choices a b c w s =
         };
         none_listed = insert_listed choices (codes "body") c (taken w) ∙ s.none_listed;
         no_foster = insert_foster choices (codes "body") c (taken w) ∙ s.no_foster;
+        no_form = insert_form choices (codes "body") c (taken w) ∙ s.no_form;
         ignore_lf = insert_flag choices (codes "body") c (taken w);
       };
     }
@@ -256,6 +270,7 @@ at_body a b c w s =
       shows = t.is_body;
       named = subst (λ r. Named w.forest r (body ∷ html ∷ [])) (sym t.are_open) (OneOpen t.is_body.is_kind (OneOpen t.rooted.is_root.is_kind NoneOpen));
       no_foster = s.no_foster;
+      no_form = s.no_form;
       no_template = refl;
       are_open = refl;
       is_base = NoEntry;

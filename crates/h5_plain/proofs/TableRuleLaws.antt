@@ -6,7 +6,7 @@ use Rattle.h5_tag_sets.specs.TagSets.{button_scope_names, cell_names, formatting
 use Rattle.h5_types.specs.TurnText.{TagTurn}
 use Rattle.h5_types.specs.declared.modes.InsertionMode.TheVariants.{InBody, InCell, InRow, InTable, InTableBody}
 use Rattle.h5_stack.specs.FormattingNames.{html_name}
-use Rattle.h5_meaning.specs.InBody.{in_body_start, in_body_start_table, in_body_tag}
+use Rattle.h5_meaning.specs.InBody.{description_names, in_body_marked, in_body_preformatted, in_body_start, in_body_start_table, in_body_tag, list_item_names}
 use Rattle.h5_meaning.specs.InCell.{in_cell_end, in_cell_end_cell, in_cell_tag}
 use Rattle.h5_meaning.specs.InRow.{close_the_row, in_row_end, in_row_start, in_row_tag}
 use Rattle.h5_meaning.specs.InTable.{in_table_end, in_table_end_table, in_table_start, in_table_tag}
@@ -21,7 +21,7 @@ use Rattle.h5_plain.proofs.RuleLaws.{end, start}
 
 -- a `table` and its end
 pub table_rule : (a : List AttributeText) (w : World) → rule InBody (TagTurn (start (codes "table") a)) w ≡ in_body_start_table (start (codes "table") a) w
-unfolding in_body_tag in_body_start block_start_names heading_names formatting_names
+unfolding in_body_tag in_body_start block_start_names heading_names formatting_names in_body_preformatted list_item_names description_names in_body_marked
 table_rule a w = refl
 
 pub table_end_rule : (w : World) → rule InTable (TagTurn (end (codes "table"))) w ≡ in_table_end_table (end (codes "table")) w

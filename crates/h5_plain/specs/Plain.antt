@@ -45,6 +45,10 @@ NoNul (b ∷ t) = (b ≢ 0) × NoNul t
 unfoldable pub inline_names : List (List ℕ)
 inline_names = codes "b" ∷ codes "i" ∷ codes "em" ∷ codes "code" ∷ []
 
+-- lists of items
+unfoldable pub list_names : List (List ℕ)
+list_names = codes "ul" ∷ codes "ol" ∷ []
+
 -- what a list of nodes is for: what a block holds, text and what stands in it, what a list holds, what a table, its
 -- sections and its rows hold. Of inlines: whether a text stands right before them, and whether they are in a link
 pub data Sort : Type 0 where
@@ -67,6 +71,11 @@ pub data IsPlain : Sort → Nodes → Type 0 where
   -- an `h1` to `h6` of inlines
   Heading : {name : List ℕ} {attrs : List AttributeText} {inner rest : Nodes} → is_one_of heading_names name ≡ true → ArePlain attrs
       → IsPlain (Inlines false false) inner → IsPlain Blocks rest → IsPlain Blocks (ElementThen name attrs inner rest)
+  -- a `ul` or `ol` of items, each a `li` of blocks
+  ItemList : {name : List ℕ} {attrs : List AttributeText} {inner rest : Nodes} → is_one_of list_names name ≡ true → ArePlain attrs
+      → IsPlain Items inner → IsPlain Blocks rest → IsPlain Blocks (ElementThen name attrs inner rest)
+  Item : {attrs : List AttributeText} {inner rest : Nodes} → ArePlain attrs → IsPlain Blocks inner → IsPlain Items rest
+      → IsPlain Items (ElementThen (codes "li") attrs inner rest)
   -- a `table` of sections, each a `tbody` of rows, each a `tr` of cells, each a `td` or `th` of blocks
   Table : {attrs : List AttributeText} {inner rest : Nodes} → ArePlain attrs → IsPlain Sections inner → IsPlain Blocks rest
       → IsPlain Blocks (ElementThen (codes "table") attrs inner rest)

@@ -53,6 +53,7 @@ pub record IsStart (w : World) : Type 0 where
   pub none_listed : w.formatting ≡ []
   pub ignore_lf : w.ignore_lf ≡ false
   pub no_foster : w.foster ≡ false
+  pub no_form : w.form ≡ None
 
 -- all answers are "go on"
 abbrev pub AllContinue : List Reply → Type 0

@@ -10,9 +10,9 @@ ghost use Rattle.h5_plain.specs.Rebuilding.{RebuildsAll};
 /// quirks, without a parse error, and with no answer but "go on".
 ///
 /// So far a plain document has an empty head, and a body of blocks: `div`, which holds blocks, `p` and `h1` to
-/// `h6`, which hold inlines, and `table`, which holds `tbody` of `tr` of `td` and `th`, which hold blocks. Inlines
-/// are texts, no two beside each other, `br`, and `b`, `i`, `em`, `code` and `a`, which hold inlines, to any depth,
-/// but no `a` stands in an `a`. Any number of them may be alike.
+/// `h6`, which hold inlines, `ul` and `ol`, which hold `li` of blocks, and `table`, which holds `tbody` of `tr` of
+/// `td` and `th`, which hold blocks. Inlines are texts, no two beside each other, `br`, and `b`, `i`, `em`, `code`
+/// and `a`, which hold inlines, to any depth, but no `a` stands in an `a`. Any number of them may be alike.
 pub fn documents_are_rebuilt()
     ensures { (choices : SinkChoices) (tokens : List TokenText) (view : View) → RebuildsAll choices tokens view }
 {}

@@ -1,2 +1,3 @@
 pub mod BlockLaws
 pub mod FormatLaws
+pub mod ItemLaws

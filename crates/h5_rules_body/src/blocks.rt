@@ -2,7 +2,7 @@
 ghost use Rattle.std.specs.Prelude.{◌≡◌, false, true};
 ghost use Rattle.h5_tag_sets.specs.TagSets.{block_end_names, heading_names, is_heading, is_one_of};
 ghost use Rattle.h5_stack.specs.Scope.{first_passes};
-ghost use Rattle.h5_meaning.specs.InBody.{in_body_end_block, in_body_end_heading, in_body_end_p, in_body_start_block, in_body_start_heading};
+ghost use Rattle.h5_meaning.specs.InBody.{in_body_end_block, in_body_end_heading, in_body_end_p, in_body_start_block, in_body_start_heading, in_body_start_preformatted};
 ghost use Rattle.h5_meaning.specs.World.{names_of};
 ghost use Rattle.h5_state.specs.Steps.{IsSound, TellsErrors, errors_of, world_of};
 ghost use Rattle.h5_state.specs.Turn.{TakesTag};
@@ -14,7 +14,7 @@ use h5_state::{
     State, Turn, close_p_element, close_p_element_in_button_scope, find_heading_in_scope,
     find_in_default_scope, generate_implied_end, has_p_in_button_scope, insert_element,
     insert_phantom, is_current_heading, is_current_html, pop_heading, pop_until_heading,
-    pop_until_named, tell_error, unexpected_tag,
+    pop_until_named, set_frameset_not_ok, set_ignore_lf, tell_error, unexpected_tag,
 };
 use h5_token::Tag;
 use h5_types::ProcessResult;
@@ -32,6 +32,24 @@ pub(crate) fn in_body_start_block<S: TreeSink>(
     expect_to_close(sink, state, expected);
     let attrs = tag.attrs;
     insert_element(sink, state, tag.name, attrs, tag.had_duplicate_attributes)?;
+    Ok(ProcessResult::Done)
+}
+
+// A start tag `pre` or `listing`: a block, in which a newline that comes first is dropped.
+pub(crate) fn in_body_start_preformatted<S: TreeSink>(
+    sink: &mut S,
+    state: &mut State<S::Handle>,
+    tag: Tag,
+) -> Turn<S::Handle>
+    requires { IsSound S.TreeSink sink.old state.old }
+    ensures { TakesTag S.TreeSink in_body_start_preformatted tag sink.old state.old sink.new state.new result }
+{
+    let expected = close_p_element_in_button_scope(sink, state);
+    expect_to_close(sink, state, expected);
+    let attrs = tag.attrs;
+    insert_element(sink, state, tag.name, attrs, tag.had_duplicate_attributes)?;
+    set_ignore_lf(sink, state);
+    set_frameset_not_ok(sink, state);
     Ok(ProcessResult::Done)
 }
 

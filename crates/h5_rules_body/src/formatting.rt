@@ -1,10 +1,10 @@
-//! Formatting elements and `br` in the body (HTML standard, section 13.2.6.4.7).
+//! Formatting elements and elements without contents in the body (HTML standard, section 13.2.6.4.7).
 ghost use Rattle.std.specs.Prelude.{◌≡◌, [], ◌∷◌, false, true, OnOk, IsTrue, codes};
 ghost use Rattle.h5_names.specs.AttributeText.{attribute_texts};
 ghost use Rattle.h5_tag_sets.specs.TagSets.{formatting_names, is_default_scope, is_html_named, is_one_of};
 ghost use Rattle.h5_stack.specs.Scope.{in_scope};
 ghost use Rattle.h5_meaning.specs.AdoptionAgency.{closes_one, handle_misnested_nobr_tags, is_named_listed};
-ghost use Rattle.h5_meaning.specs.InBody.{in_body_end_br, in_body_end_formatting, in_body_start_a, in_body_start_br, in_body_start_formatting, in_body_start_nobr};
+ghost use Rattle.h5_meaning.specs.InBody.{in_body_end_br, in_body_end_formatting, in_body_start_a, in_body_start_formatting, in_body_start_nobr, in_body_start_void};
 ghost use Rattle.h5_meaning.specs.Rows.{InsertAndPopElement, ReconstructActiveFormattingElements, SetFramesetNotOk, apply_all};
 ghost use Rattle.h5_meaning.specs.Sound.{IsReady};
 ghost use Rattle.h5_meaning.specs.World.{names_of};
@@ -153,14 +153,14 @@ fn insert_leaf<S: TreeSink>(
     Ok(())
 }
 
-// A start tag `br`.
-pub(crate) fn in_body_start_br<S: TreeSink>(
+// A start tag `area`, `br`, `embed`, `img`, `keygen` or `wbr`: an element that isn't open.
+pub(crate) fn in_body_start_void<S: TreeSink>(
     sink: &mut S,
     state: &mut State<S::Handle>,
     tag: Tag,
 ) -> Turn<S::Handle>
     requires { IsSound S.TreeSink sink.old state.old }
-    ensures { TakesTag S.TreeSink in_body_start_br tag sink.old state.old sink.new state.new result }
+    ensures { TakesTag S.TreeSink in_body_start_void tag sink.old state.old sink.new state.new result }
 {
     let attrs = tag.attrs;
     insert_leaf(sink, state, tag.name, attrs, tag.had_duplicate_attributes)?;

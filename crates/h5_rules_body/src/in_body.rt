@@ -1,27 +1,38 @@
 //! The mode "in body" (HTML standard, section 13.2.6.4.7, "The 'in body' insertion mode").
-ghost use Rattle.std.specs.Prelude.{◌≡◌};
-ghost use Rattle.h5_tag_sets.specs.TagSets.{is_one_of};
+ghost use Rattle.std.specs.Prelude.{drop};
 ghost use Rattle.h5_types.specs.TurnText.{HasText, turn_text};
 ghost use Rattle.h5_meaning.specs.ByName.{by_name};
-ghost use Rattle.h5_meaning.specs.InBody.{in_body, in_body_end, in_body_end_body, in_body_end_html, in_body_end_other, in_body_start, in_body_ignored_starts, in_body_start_body, in_body_start_other, in_body_start_table, in_body_tag};
+ghost use Rattle.h5_meaning.specs.InBody.{in_body, in_body_end, in_body_end_body, in_body_end_html, in_body_end_other, in_body_start, in_body_start_body, in_body_start_other, in_body_start_table, in_body_tag};
 ghost use Rattle.h5_meaning.specs.Sound.{IsReady};
 ghost use Rattle.h5_state.specs.Steps.{IsSound, TellsErrors, world_of};
 ghost use Rattle.h5_state.specs.Turn.{TakesTag, TakesToken};
 
 use super::blocks::{
     in_body_end_block, in_body_end_heading, in_body_end_p, in_body_start_block,
-    in_body_start_heading,
+    in_body_start_heading, in_body_start_preformatted,
 };
 use super::formatting::{
-    in_body_end_br, in_body_end_formatting, in_body_start_a, in_body_start_br,
-    in_body_start_formatting, in_body_start_nobr,
+    in_body_end_br, in_body_end_formatting, in_body_start_a, in_body_start_formatting,
+    in_body_start_nobr, in_body_start_void,
 };
+use super::lists::{in_body_end_description, in_body_end_li, in_body_start_item};
+use super::marked::{in_body_end_marked, in_body_start_marked};
+use super::names::{
+    is_description, is_ignored_start, is_list_item, is_marked, is_part, is_preformatted,
+    is_ruby_base, is_ruby_text, is_void,
+};
+use super::ruby::{in_body_start_ruby_base, in_body_start_ruby_text};
 use h5_formatting::reconstruct_active_formatting_elements;
 use h5_interface::TreeSink;
-use h5_names::{KnownName, LocalName};
-use h5_rules_shared::{expect_to_close, in_body_start_html, in_body_text, is_any_of};
+use h5_names::KnownName;
+use h5_rules_forms::{
+    in_body_end_form, in_body_end_option, in_body_start_button, in_body_start_form,
+    in_body_start_hr, in_body_start_image, in_body_start_input, in_body_start_optgroup,
+    in_body_start_option, in_body_start_part, in_body_start_select,
+};
+use h5_rules_shared::{expect_to_close, in_body_start_html, in_body_text};
 use h5_state::{
-    State, Turn, add_attrs_to_second, append_comment, check_body_end,
+    ItemKind, State, Turn, add_attrs_to_second, append_comment, check_body_end,
     close_p_element_in_button_scope, find_before_special, generate_implied_end_except,
     has_body_in_scope, has_body_second, has_open_template, insert_element, is_current_html,
     is_in_quirks, pop_until_named, set_frameset_not_ok, set_mode, tell_error, unexpected,
@@ -165,32 +176,74 @@ fn in_body_start_table<S: TreeSink>(
     Ok(ProcessResult::Done)
 }
 
-// Whether a start tag of this name is ignored.
-#[tactic(auto, unfolding(h5_meaning::specs::InBody::in_body_ignored_starts, h5_meaning::specs::InBody::outside_names, h5_meaning::specs::Shared::table_structure_names))]
-fn is_ignored_start(name: &LocalName) -> bool
-    ensures { result ≡ is_one_of in_body_ignored_starts name.now }
+// Of parts of forms and of ruby annotations, and any other.
+#[tactic(auto, unfolding(h5_meaning::specs::InBody::in_body_start))]
+fn in_body_start_control<S: TreeSink>(
+    sink: &mut S,
+    state: &mut State<S::Handle>,
+    tag: Tag,
+) -> Turn<S::Handle>
+    requires sound { IsSound S.TreeSink sink.old state.old }
+    requires ready { IsReady (world_of S.TreeSink sink.old state.old) }
+    ensures { TakesTag S.TreeSink (by_name (drop 15 in_body_start) in_body_start_other) tag sink.old state.old sink.new state.new result }
 {
-    is_any_of(
-        name,
-        &[
-            KnownName::Caption,
-            KnownName::Col,
-            KnownName::Colgroup,
-            KnownName::Tbody,
-            KnownName::Td,
-            KnownName::Tfoot,
-            KnownName::Th,
-            KnownName::Thead,
-            KnownName::Tr,
-            KnownName::Frame,
-            KnownName::Frameset,
-            KnownName::Head,
-            KnownName::Template,
-        ],
-    )
+    if tag.name.is(KnownName::Image) {
+        in_body_start_image(sink, state, tag)
+    } else if tag.name.is(KnownName::Input) {
+        in_body_start_input(sink, state, tag)
+    } else if is_part(&tag.name) {
+        in_body_start_part(sink, state, tag)
+    } else if tag.name.is(KnownName::Hr) {
+        in_body_start_hr(sink, state, tag)
+    } else if tag.name.is(KnownName::Select) {
+        in_body_start_select(sink, state, tag)
+    } else if tag.name.is(KnownName::Option) {
+        in_body_start_option(sink, state, tag)
+    } else if tag.name.is(KnownName::Optgroup) {
+        in_body_start_optgroup(sink, state, tag)
+    } else if is_ruby_base(&tag.name) {
+        in_body_start_ruby_base(sink, state, tag)
+    } else if is_ruby_text(&tag.name) {
+        in_body_start_ruby_text(sink, state, tag)
+    } else if is_ignored_start(&tag.name) {
+        unexpected_tag(sink, state, &tag);
+        Ok(ProcessResult::Done)
+    } else {
+        in_body_start_other(sink, state, tag)
+    }
 }
 
-// Start tags, by their names.
+// Of formatting elements, and others that stand in a text.
+#[tactic(auto, unfolding(h5_meaning::specs::InBody::in_body_start))]
+fn in_body_start_inline<S: TreeSink>(
+    sink: &mut S,
+    state: &mut State<S::Handle>,
+    tag: Tag,
+) -> Turn<S::Handle>
+    requires sound { IsSound S.TreeSink sink.old state.old }
+    requires ready { IsReady (world_of S.TreeSink sink.old state.old) }
+    ensures { TakesTag S.TreeSink (by_name (drop 8 in_body_start) in_body_start_other) tag sink.old state.old sink.new state.new result }
+{
+    if tag.name.is(KnownName::Button) {
+        in_body_start_button(sink, state, tag)
+    } else if tag.name.is(KnownName::A) {
+        in_body_start_a(sink, state, tag)
+    } else if tag.name.is(KnownName::Nobr) {
+        in_body_start_nobr(sink, state, tag)
+    } else if NameSet::Formatting.holds(&tag.name) {
+        in_body_start_formatting(sink, state, tag)
+    } else if is_marked(&tag.name) {
+        in_body_start_marked(sink, state, tag)
+    } else if tag.name.is(KnownName::Table) {
+        in_body_start_table(sink, state, tag)
+    } else if is_void(&tag.name) {
+        in_body_start_void(sink, state, tag)
+    } else {
+        in_body_start_control(sink, state, tag)
+    }
+}
+
+// Start tags, by their names: of blocks.
 #[tactic(auto, unfolding(h5_meaning::specs::InBody::in_body_start))]
 fn in_body_start_tag<S: TreeSink>(
     sink: &mut S,
@@ -209,25 +262,47 @@ fn in_body_start_tag<S: TreeSink>(
         in_body_start_block(sink, state, tag)
     } else if NameSet::Heading.holds(&tag.name) {
         in_body_start_heading(sink, state, tag)
-    } else if tag.name.is(KnownName::A) {
-        in_body_start_a(sink, state, tag)
-    } else if tag.name.is(KnownName::Nobr) {
-        in_body_start_nobr(sink, state, tag)
-    } else if NameSet::Formatting.holds(&tag.name) {
-        in_body_start_formatting(sink, state, tag)
-    } else if tag.name.is(KnownName::Br) {
-        in_body_start_br(sink, state, tag)
-    } else if tag.name.is(KnownName::Table) {
-        in_body_start_table(sink, state, tag)
-    } else if is_ignored_start(&tag.name) {
-        unexpected_tag(sink, state, &tag);
-        Ok(ProcessResult::Done)
+    } else if is_preformatted(&tag.name) {
+        in_body_start_preformatted(sink, state, tag)
+    } else if tag.name.is(KnownName::Form) {
+        in_body_start_form(sink, state, tag)
+    } else if is_list_item(&tag.name) {
+        in_body_start_item(sink, state, tag, ItemKind::ListItem)
+    } else if is_description(&tag.name) {
+        in_body_start_item(sink, state, tag, ItemKind::Description)
     } else {
-        in_body_start_other(sink, state, tag)
+        in_body_start_inline(sink, state, tag)
     }
 }
 
-// End tags, by their names.
+// Of headings, formatting elements, and any other.
+#[tactic(auto, unfolding(h5_meaning::specs::InBody::in_body_end))]
+fn in_body_end_inline<S: TreeSink>(
+    sink: &mut S,
+    state: &mut State<S::Handle>,
+    tag: Tag,
+) -> Turn<S::Handle>
+    requires sound { IsSound S.TreeSink sink.old state.old }
+    requires ready { IsReady (world_of S.TreeSink sink.old state.old) }
+    ensures { TakesTag S.TreeSink (by_name (drop 8 in_body_end) in_body_end_other) tag sink.old state.old sink.new state.new result }
+{
+    if NameSet::Heading.holds(&tag.name) {
+        in_body_end_heading(sink, state, tag)
+    } else if NameSet::Formatting.holds(&tag.name) {
+        in_body_end_formatting(sink, state, tag)
+    } else if is_marked(&tag.name) {
+        in_body_end_marked(sink, state, tag)
+    } else if tag.name.is(KnownName::Br) {
+        in_body_end_br(sink, state, tag)
+    } else if tag.name.is(KnownName::Template) {
+        unexpected_tag(sink, state, &tag);
+        Ok(ProcessResult::Done)
+    } else {
+        in_body_end_other(sink, state, tag)
+    }
+}
+
+// End tags, by their names: of blocks.
 #[tactic(auto, unfolding(h5_meaning::specs::InBody::in_body_end))]
 fn in_body_end_tag<S: TreeSink>(
     sink: &mut S,
@@ -244,19 +319,18 @@ fn in_body_end_tag<S: TreeSink>(
         in_body_end_body(sink, state, tag)
     } else if NameSet::BlockEnd.holds(&tag.name) {
         in_body_end_block(sink, state, tag)
+    } else if tag.name.is(KnownName::Form) {
+        in_body_end_form(sink, state, tag)
+    } else if tag.name.is(KnownName::Option) {
+        in_body_end_option(sink, state, tag)
     } else if tag.name.is(KnownName::P) {
         in_body_end_p(sink, state, tag)
-    } else if NameSet::Heading.holds(&tag.name) {
-        in_body_end_heading(sink, state, tag)
-    } else if NameSet::Formatting.holds(&tag.name) {
-        in_body_end_formatting(sink, state, tag)
-    } else if tag.name.is(KnownName::Br) {
-        in_body_end_br(sink, state, tag)
-    } else if tag.name.is(KnownName::Template) {
-        unexpected_tag(sink, state, &tag);
-        Ok(ProcessResult::Done)
+    } else if is_list_item(&tag.name) {
+        in_body_end_li(sink, state, tag)
+    } else if is_description(&tag.name) {
+        in_body_end_description(sink, state, tag)
     } else {
-        in_body_end_other(sink, state, tag)
+        in_body_end_inline(sink, state, tag)
     }
 }
 

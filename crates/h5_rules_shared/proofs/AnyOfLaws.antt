@@ -1,5 +1,5 @@
 -- A name is looked for among known names, one after the other.
-use Rattle.std.proofs.Common.{◌∷◌, suc, arith, ◌≡◌, ◌<◌, ◌+◌, ℕ, Bool, true, false, List, ◌||◌, map, drop, length, refl, sym, ap, ◌∙◌, subst, slice_index_or}
+use Rattle.std.proofs.Common.{◌∷◌, suc, arith, ◌≡◌, ◌<◌, ◌+◌, ℕ, true, false, List, ◌||◌, map, drop, length, sym, ap, ◌∙◌, subst, slice_index_or}
 use Rattle.std.proofs.Math.Seq.{drop-cons}
 use Rattle.h5_names.specs.AttributeText.{is_same_text}
 use Rattle.h5_names.specs.KnownNames.{name_text}

@@ -1,1 +1,2 @@
 pub mod AnyOfLaws
+pub mod HiddenLaws

@@ -1,5 +1,4 @@
 pub mod ClosingLaws
 pub mod ContextLaws
 pub mod FosterLaws
-pub mod HiddenLaws
 pub mod PendingLaws

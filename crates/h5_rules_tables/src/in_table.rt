@@ -1,10 +1,9 @@
 //! The mode "in table" (HTML standard, section 13.2.6.4.9).
 ghost use Rattle.std.specs.Prelude.{◌≡◌};
-ghost use Rattle.h5_names.specs.AttributeText.{attribute_text, attribute_texts};
 ghost use Rattle.h5_types.specs.TurnText.{HasText, turn_text};
 ghost use Rattle.h5_tag_sets.specs.TagSets.{is_one_of};
 ghost use Rattle.h5_meaning.specs.ByName.{by_name, of_tag};
-ghost use Rattle.h5_meaning.specs.InTable.{in_table, in_table_else, in_table_end, in_table_end_table, in_table_ignored_ends, in_table_start, in_table_start_caption, in_table_start_col, in_table_start_colgroup, in_table_start_form, in_table_start_input, in_table_start_row_part, in_table_start_section, in_table_start_table, in_table_tag, in_table_text_or_null, is_type, is_type_hidden, row_part_names};
+ghost use Rattle.h5_meaning.specs.InTable.{in_table, in_table_else, in_table_end, in_table_end_table, in_table_ignored_ends, in_table_start, in_table_start_caption, in_table_start_col, in_table_start_colgroup, in_table_start_form, in_table_start_input, in_table_start_row_part, in_table_start_section, in_table_start_table, in_table_tag, in_table_text_or_null, row_part_names};
 ghost use Rattle.h5_meaning.specs.Sound.{IsReady};
 ghost use Rattle.h5_state.specs.Steps.{IsSound, world_of};
 ghost use Rattle.h5_state.specs.Turn.{TakesTag, TakesToken};
@@ -13,9 +12,9 @@ use super::foster::foster_parent_in_body;
 use super::parts::{clear_to_table_context, is_section};
 use h5_formatting::insert_marker;
 use h5_interface::TreeSink;
-use h5_names::{Attribute, KnownName, LocalName};
+use h5_names::{KnownName, LocalName};
 use h5_rules_body::step_in_body;
-use h5_rules_shared::is_any_of;
+use h5_rules_shared::{is_any_of, is_type_hidden};
 use h5_state::{
     Local, State, Turn, append_comment, find_in_table_scope, has_form, has_open_template,
     insert_and_pop_element, insert_and_pop_form, insert_element, insert_phantom,
@@ -142,25 +141,6 @@ fn in_table_start_table<S: TreeSink>(
         }
         None => Ok(ProcessResult::Done),
     }
-}
-
-// Whether an attribute is `type`, in no namespace.
-fn is_type(attribute: &Attribute) -> bool
-    ensures { result ≡ is_type (attribute_text attribute.now) }
-{
-    attribute.name.ns.as_str().is_empty() && attribute.name.local.is(KnownName::TypeName)
-}
-
-// Whether the first of these attributes is `hidden`, in any case of ASCII letters.
-fn is_type_hidden(attrs: &[Attribute]) -> bool
-    ensures { result ≡ is_type_hidden (attribute_texts attrs.now) }
-{
-    for attribute in attrs {
-        if is_type(attribute) {
-            return attribute.value.as_str().eq_ignore_ascii_case("hidden");
-        }
-    }
-    false
 }
 
 // A start tag `input`: one that isn't seen stays in the table.

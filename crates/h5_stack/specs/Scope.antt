@@ -1,6 +1,6 @@
 -- Questions about the open elements, and ways to close them, by their names, the current node's first (HTML
 -- standard, section 13.2.4.2, "The stack of open elements").
-use Rattle.std.specs.Prelude.{ℕ, Bool, true, false, not, ◌&&◌, if◌then◌else◌, List, [], ◌∷◌, codes}
+use Rattle.std.specs.Prelude.{ℕ, ◌==◌, Bool, true, false, not, ◌&&◌, if◌then◌else◌, List, [], ◌∷◌, Option, None, Some, codes}
 use Rattle.std.specs.List.{list_any}
 use Rattle.h5_names.specs.declared.qualified.QualName.{QualName}
 use Rattle.h5_interface.specs.NewElement.{is_html_template}
@@ -11,6 +11,22 @@ use Rattle.h5_stack.specs.Order.{but_first}
 abbrev pub in_scope : (QualName → Bool) → (QualName → Bool) → List QualName → Bool
 in_scope is ends [] = false
 in_scope is ends (n ∷ ns) = if is n then true else (if ends n then false else in_scope is ends ns)
+
+-- this open element comes before, or is, the first that ends the scope
+abbrev pub node_in_scope : ℕ → (QualName → Bool) → List QualName → List ℕ → Bool
+node_in_scope x ends [] s = false
+node_in_scope x ends (n ∷ ns) [] = false
+node_in_scope x ends (n ∷ ns) (m ∷ s) = if x == m then true else (if ends n then false else node_in_scope x ends ns s)
+
+-- the open element that passes and is the nearest to the root
+abbrev pub oldest_of : Option ℕ → Option ℕ → Option ℕ
+oldest_of None newer = newer
+oldest_of (Some older) newer = Some older
+
+abbrev pub oldest_passing : (QualName → Bool) → List QualName → List ℕ → Option ℕ
+oldest_passing is [] s = None
+oldest_passing is (n ∷ ns) [] = None
+oldest_passing is (n ∷ ns) (m ∷ s) = oldest_of (oldest_passing is ns s) (if is n then Some m else None)
 
 -- some open element is an HTML `template`
 abbrev pub has_template : List QualName → Bool

@@ -1,6 +1,11 @@
 pub mod AttributeLaws
+pub mod FormLaws
+pub mod FoundLaws
+pub mod ItemLaws
 pub mod PutLaws
+pub mod RenewLaws
 pub mod ResetLaws
+pub mod SeenLaws
 pub mod StackLaws
 pub mod StepLaws
 pub mod SummaryLaws

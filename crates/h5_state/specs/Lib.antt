@@ -1,3 +1,4 @@
+pub mod Items
 pub mod Places
 pub mod Reset
 pub mod Steps

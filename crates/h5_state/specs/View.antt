@@ -53,5 +53,9 @@ stack_under node state count = reverse (map (open_node node) (take count state.o
 abbrev pub kept_of : {H : Type 0} → State H → List Summary
 kept_of state = reverse (map (λ element. element.summary) state.open_elems.items)
 
+-- of the oldest ones, so many of them
+unfoldable pub kept_under : {H : Type 0} → State H → ℕ → List Summary
+kept_under state count = reverse (map (λ element. element.summary) (take count state.open_elems.items))
+
 abbrev pub with_stack : List ℕ → World → World
 with_stack s w = record w { stack = s }

@@ -5,14 +5,14 @@ ghost use Rattle.h5_names.specs.declared.qualified.QualName.{QualName as NameTex
 ghost use Rattle.h5_tag_sets.specs.TagSets.{is_default_scope, is_heading, is_html_named, is_implied};
 ghost use Rattle.h5_stack.specs.Scope.{cut_through, first_passes, has_p_in_button_scope, in_scope};
 ghost use Rattle.h5_meaning.specs.Changes.{generate_implied_end_except};
-ghost use Rattle.h5_meaning.specs.Rows.{ClosePElement, ClosePElementInButtonScope, GenerateImpliedEnd, PopHeading, PopUntilHeading};
+ghost use Rattle.h5_meaning.specs.Rows.{ClosePElement, ClosePElementInButtonScope, GenerateImpliedEnd, GenerateImpliedEndInSelect, PopHeading, PopUntilHeading};
 ghost use Rattle.h5_meaning.specs.World.{names_of};
 ghost use Rattle.h5_state.specs.Steps.{IsSound, Makes, world_of};
 
 use super::name_test::{DefaultScope, Heading, Local, NameTest};
 use super::open_elems::{
-    find_in_scope, find_named, generate_implied_end_except, has_p_in_button_scope, is_current,
-    is_current_html, is_current_implied, pop_until_named, truncate,
+    find_in_scope, find_named, generate_implied_end_except, has_p_in_button_scope, in_scope_named,
+    is_current, is_current_html, is_current_implied, pop_until_named, truncate,
 };
 use super::state::State;
 use super::steps::pop;
@@ -61,6 +61,17 @@ pub fn generate_implied_end<S: TreeSink>(sink: &mut S, state: &mut State<S::Hand
 {
     'implied: while is_current_implied(sink, state) {
         pop(sink, state);
+    }
+}
+
+/// The same, where an HTML `select` is in scope.
+#[tactic(auto, unfolding(h5_meaning::specs::Closing::generate_implied_end_in_select))]
+pub fn generate_implied_end_in_select<S: TreeSink>(sink: &mut S, state: &mut State<S::Handle>)
+    requires { IsSound S.TreeSink sink.old state.old }
+    ensures { Makes S.TreeSink GenerateImpliedEndInSelect sink.old state.old sink.new state.new }
+{
+    if in_scope_named(sink, state, KnownName::Select) {
+        generate_implied_end(sink, state);
     }
 }
 

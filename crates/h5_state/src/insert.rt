@@ -1,16 +1,19 @@
 //! What is put at the place of insertion (HTML standard, section 13.2.6.1, "Creating and inserting nodes").
-ghost use Rattle.std.specs.Prelude.{◌≡◌, ◌≢◌, [], false, OnOk, string_bytes};
+ghost use Rattle.std.specs.Prelude.{◌≡◌, ◌≢◌, [], false, MatchOption, OnOk, option_map, string_bytes};
 ghost use Rattle.h5_names.specs.AttributeText.{attribute_texts};
 ghost use Rattle.h5_names.specs.KnownNames.{name_text};
+ghost use Rattle.h5_interface.specs.Forest.{IsNode};
 ghost use Rattle.h5_meaning.specs.Changes.{push_new};
+ghost use Rattle.h5_meaning.specs.FormOwner.{associates};
 ghost use Rattle.h5_meaning.specs.Place.{IsPlaceIn, LastChild};
-ghost use Rattle.h5_meaning.specs.Rows.{AppendComment, AppendCommentToDoc, AppendCommentToHtml, AppendText, CreateRoot, InsertAndPopElement, InsertAndPopForm, InsertElement, InsertHead};
+ghost use Rattle.h5_meaning.specs.Rows.{AppendComment, AppendCommentToDoc, AppendCommentToHtml, AppendText, CreateRoot, InsertAndPopElement, InsertAndPopForm, InsertElement, InsertForm, InsertHead};
 ghost use Rattle.h5_stack.specs.FormattingNames.{html_name};
 ghost use Rattle.h5_state.specs.Places.{place_of};
 ghost use Rattle.h5_state.specs.Steps.{IsSound, MakesIfOk, errors_of, world_of};
 
+use super::form_owner::form_owner;
 use super::open_element::{OpenElement, Summary};
-use super::open_elems::{all_open, root_node};
+use super::open_elems::{all_open, has_open_template, root_node};
 use super::place::{InsertionPoint, current_place};
 use super::put::{insert_new_comment, insert_new_element, insert_text};
 use super::state::State;
@@ -26,8 +29,8 @@ pub fn html_qual_name(local: LocalName) -> QualName
     QualName::new(None, Namespace::html(), local)
 }
 
-// An HTML element of this name at a place; it becomes the current node. Where none is open, the place is in the
-// document.
+// An HTML element of this name at a place, associated with its form owner, where it has one; it becomes the current
+// node. Where none is open, the place is in the document.
 #[tactic(auto, unfolding(crate::specs::View::world))]
 fn push_at<S: TreeSink>(
     sink: &mut S,
@@ -36,18 +39,21 @@ fn push_at<S: TreeSink>(
     local: LocalName,
     attrs: Vec<Attribute>,
     had_duplicate_attributes: bool,
+    owner: Option<S::Handle>,
 ) -> Result<(), AllocError>
     requires sound { IsSound S.TreeSink sink.old state.old }
     requires place { IsPlaceIn (world_of S.TreeSink sink.old state.old).forest (place_of S.node place.now) }
     requires first { (world_of S.TreeSink sink.old state.old).stack ≡ [] → place_of S.node place.now ≡ LastChild (world_of S.TreeSink sink.old state.old).forest.document }
+    requires owner { MatchOption owner (Unit {0}) (λ form. IsNode (world_of S.TreeSink sink.old state.old).forest (S.node form)) }
     ensures done { OnOk result
-        (world_of S.TreeSink sink.new state.new ≡ push_new S.choices (place_of S.node place.now) local (attribute_texts attrs.items) had_duplicate_attributes (world_of S.TreeSink sink.old state.old)) }
+        (world_of S.TreeSink sink.new state.new ≡ push_new S.choices (place_of S.node place.now) local (attribute_texts attrs.items) had_duplicate_attributes
+        (associates S.choices (S.choices.fresh (world_of S.TreeSink sink.old state.old).forest) (place_of S.node place.now) (option_map S.node owner)) (world_of S.TreeSink sink.old state.old)) }
     ensures quiet { errors_of S.TreeSink sink.new ≡ errors_of S.TreeSink sink.old }
     ensures sound { IsSound S.TreeSink sink.new state.new }
 {
     let name = html_qual_name(local);
     let summary = Summary::new(&name, all_open(sink, state));
-    let handle = insert_new_element(sink, place, name, attrs, had_duplicate_attributes)?;
+    let handle = insert_new_element(sink, place, name, attrs, had_duplicate_attributes, owner)?;
     state.open_elems.push(OpenElement { handle, summary })?;
     Ok(())
 }
@@ -66,7 +72,16 @@ pub fn insert_element<S: TreeSink>(
     ensures { MakesIfOk S.TreeSink (InsertElement local (attribute_texts attrs.items) had_duplicate_attributes) sink.old state.old sink.new state.new result }
 {
     let place = current_place(sink, state);
-    push_at(sink, state, &place, local, attrs, had_duplicate_attributes)
+    let owner = form_owner(sink, state, &local, attrs.as_slice());
+    push_at(
+        sink,
+        state,
+        &place,
+        local,
+        attrs,
+        had_duplicate_attributes,
+        owner,
+    )
 }
 
 /// An HTML element of this name at the place of insertion, which isn't open. An Err leaves open elements.
@@ -82,8 +97,9 @@ pub fn insert_and_pop_element<S: TreeSink>(
     ensures { MakesIfOk S.TreeSink (InsertAndPopElement local (attribute_texts attrs.items) had_duplicate_attributes) sink.old state.now sink.new state.now result }
 {
     let place = current_place(sink, state);
+    let owner = form_owner(sink, state, &local, attrs.as_slice());
     let name = html_qual_name(local);
-    insert_new_element(sink, &place, name, attrs, had_duplicate_attributes)?;
+    insert_new_element(sink, &place, name, attrs, had_duplicate_attributes, owner)?;
     Ok(())
 }
 
@@ -100,8 +116,29 @@ pub fn insert_and_pop_form<S: TreeSink>(
 {
     let place = current_place(sink, state);
     let name = html_qual_name(LocalName::from_known(KnownName::Form));
-    let form = insert_new_element(sink, &place, name, attrs, had_duplicate_attributes)?;
+    let form = insert_new_element(sink, &place, name, attrs, had_duplicate_attributes, None)?;
     state.form_elem = Some(form);
+    Ok(())
+}
+
+/// An HTML `form` at the place of insertion; it becomes the current node, and, unless a template is open, the form
+/// element. An Err leaves the form element.
+#[tactic(auto, unfolding(crate::specs::View::world, h5_meaning::specs::Changes::insert_form))]
+pub fn insert_form<S: TreeSink>(
+    sink: &mut S,
+    state: &mut State<S::Handle>,
+    attrs: Vec<Attribute>,
+    had_duplicate_attributes: bool,
+) -> Result<(), AllocError>
+    requires { IsSound S.TreeSink sink.old state.old }
+    ensures { MakesIfOk S.TreeSink (InsertForm (attribute_texts attrs.items) had_duplicate_attributes) sink.old state.old sink.new state.new result }
+{
+    let in_template = has_open_template(sink, state);
+    let form = LocalName::from_known(KnownName::Form);
+    insert_element(sink, state, form, attrs, had_duplicate_attributes)?;
+    if !in_template {
+        state.form_elem = Some(current_node(sink, state));
+    }
     Ok(())
 }
 
@@ -137,6 +174,7 @@ pub fn create_root<S: TreeSink>(
         LocalName::from_known(KnownName::Html),
         attrs,
         false,
+        None,
     )
 }
 

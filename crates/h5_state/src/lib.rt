@@ -6,13 +6,19 @@ mod attributes;
 mod blanks;
 mod closing;
 mod errors;
+mod find;
+mod form_owner;
 mod insert;
+mod list_items;
 mod name_test;
 mod open_element;
 mod open_elems;
+mod options;
 mod pending_text;
 mod place;
 mod put;
+mod removal;
+mod renew;
 mod reset;
 mod state;
 mod steps;
@@ -23,17 +29,20 @@ pub use attributes::{add_attrs_to_html, add_attrs_to_second};
 pub use blanks::{first_run, is_blank_text, set_frameset_ok_by_text};
 pub use closing::{
     close_p_element, close_p_element_in_button_scope, find_heading_in_scope, find_in_default_scope,
-    generate_implied_end, is_current_heading, pop_heading, pop_until_heading,
+    generate_implied_end, generate_implied_end_in_select, is_current_heading, pop_heading,
+    pop_until_heading,
 };
 pub use errors::{tell_error, unexpected, unexpected_tag};
+pub use find::{find_open, handle_at, is_node_in_scope};
 pub use insert::{
     append_comment, append_comment_to_doc, append_comment_to_html, append_text, create_root,
-    html_qual_name, insert_and_pop_element, insert_and_pop_form, insert_element, insert_head,
-    insert_phantom,
+    html_qual_name, insert_and_pop_element, insert_and_pop_form, insert_element, insert_form,
+    insert_head, insert_phantom,
 };
+pub use list_items::{ItemKind, close_list_item, find_li_in_list_item_scope};
 pub use name_test::{
-    Cell, DefaultScope, Heading, Known, Local, NameTest, TableBodyContext, TableOuter,
-    TableRowContext, TableScope,
+    Cell, DefaultScope, Heading, Known, ListItemScope, Local, NameTest, TableBodyContext,
+    TableOuter, TableRowContext, TableScope,
 };
 pub use open_element::{AllOpen, OpenElement, Summary};
 pub use open_elems::{
@@ -41,14 +50,18 @@ pub use open_elems::{
     has_body_second, has_open_template, has_p_in_button_scope, in_scope_named, is_current_html,
     pop_until_named,
 };
+pub use options::{copy_closed_option, oldest_option};
 pub use pending_text::PendingText;
 pub use place::{InsertionPoint, appropriate_place_for_insertion, current_place};
 pub use put::insert_at;
+pub use removal::remove_from_stack;
+pub use renew::all_under;
 pub use reset::reset_insertion_mode;
 pub use state::{State, Turn};
 pub use steps::{
-    current_mode, current_node, has_form, has_srcdoc, is_in_quirks, pop, save_mode, saved_mode,
-    set_foster, set_frameset_not_ok, set_mode, set_quirks_mode,
+    current_mode, current_node, has_form, has_srcdoc, is_in_quirks, is_select_context, pop,
+    save_mode, saved_mode, set_foster, set_frameset_not_ok, set_ignore_lf, set_mode,
+    set_quirks_mode, take_form,
 };
 pub use table_text::{append_pending_text, take_pending_text};
 pub use tables::{

@@ -2,13 +2,13 @@
 ghost use Rattle.std.specs.Prelude.{◌≡◌, Bool, false};
 ghost use Rattle.h5_names.specs.declared.qualified.QualName.{QualName as NameText};
 ghost use Rattle.h5_names.specs.KnownNames.{name_text};
-ghost use Rattle.h5_tag_sets.specs.TagSets.{is_cell, is_default_scope, is_heading, is_html_named, is_table_body_context, is_table_outer, is_table_row_context, is_table_scope};
+ghost use Rattle.h5_tag_sets.specs.TagSets.{is_cell, is_default_scope, is_heading, is_html_named, is_list_item_scope, is_table_body_context, is_table_outer, is_table_row_context, is_table_scope};
 ghost use Rattle.h5_meaning.specs.Place.{is_foster_parent};
 
 use h5_names::{KnownName, LocalName, QualName};
 use h5_tag_sets::{
-    default_scope, heading_tag, is_html_known, is_html_local, table_body_context, table_outer,
-    table_row_context, table_scope, td_th,
+    default_scope, heading_tag, is_html_known, is_html_local, list_item_scope, table_body_context,
+    table_outer, table_row_context, table_scope, td_th,
 };
 
 /// A question about the name of an element.
@@ -66,6 +66,18 @@ impl NameTest for DefaultScope {
 
     fn test(&self, name: &QualName) -> bool {
         default_scope(name)
+    }
+}
+
+/// Whether an element ends a list item scope.
+#[derive(Clone, Copy)]
+pub struct ListItemScope;
+
+impl NameTest for ListItemScope {
+    ghost holds = { λ t name. is_list_item_scope name };
+
+    fn test(&self, name: &QualName) -> bool {
+        list_item_scope(name)
     }
 }
 

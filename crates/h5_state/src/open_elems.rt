@@ -33,9 +33,9 @@ pub(crate) fn open_count<S: TreeSink>(sink: &S, state: &State<S::Handle>) -> usi
     state.open_elems.len()
 }
 
-// The open element at a place, counted from the root.
+/// The open element at a place, counted from the root.
 #[tactic(auto, unfolding(crate::specs::View::world, crate::specs::View::names_under, crate::specs::View::stack_under))]
-fn open_at<'a, S: TreeSink>(
+pub(crate) fn open_at<'a, S: TreeSink>(
     sink: &S,
     state: &'a State<S::Handle>,
     place: usize,
@@ -48,6 +48,7 @@ fn open_at<'a, S: TreeSink>(
     ensures special { result.now.summary.special ≡ is_special (name_in (S.sees sink.now).forest (S.node result.now.handle)) }
     ensures implied { result.now.summary.implied ≡ is_implied (name_in (S.sees sink.now).forest (S.node result.now.handle)) }
     ensures stack { but_first (stack_under S.node state.now (place + 1)) ≡ stack_under S.node state.now place }
+    ensures here { stack_under S.node state.now (place + 1) ≡ S.node result.now.handle ∷ stack_under S.node state.now place }
     ensures count { length (stack_under S.node state.now place) ≡ place }
 {
     &state.open_elems[place]
@@ -68,9 +69,9 @@ pub(crate) fn name_at<'a, S: TreeSink>(
     sink.elem_name(&open_at(sink, state, place).handle)
 }
 
-// Whether an open element is an HTML element of this name. The sink is asked for its name only where others may have the
-// same number.
-fn is_named<S: TreeSink>(
+/// Whether an open element is an HTML element of this name. The sink is asked for its name only where others may have the
+/// same number.
+pub(crate) fn is_named<S: TreeSink>(
     sink: &S,
     element: &OpenElement<S::Handle>,
     local: &LocalName,

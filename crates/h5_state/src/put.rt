@@ -1,11 +1,12 @@
 //! What is put at a place. Open elements are none of its business: whatever the sink answers, its forest is what it
 //! was, or has one more.
-ghost use Rattle.std.specs.Prelude.{◌≡◌, ◌≢◌, [], IfOk, OnErr, OnOk, string_bytes};
+ghost use Rattle.std.specs.Prelude.{◌≡◌, ◌≢◌, [], IfOk, MatchOption, OnErr, OnOk, option_map, string_bytes};
 ghost use Rattle.h5_names.specs.AttributeText.{attribute_texts};
-ghost use Rattle.h5_interface.specs.Forest.{ChildText, IsForest};
+ghost use Rattle.h5_interface.specs.Forest.{ChildText, IsElement, IsForest, IsNode};
 ghost use Rattle.h5_interface.specs.Seen.{changed, child_of};
 ghost use Rattle.h5_interface.specs.SinkChoices.{Rearranges};
 ghost use Rattle.h5_meaning.specs.Changes.{new_comment, new_element};
+ghost use Rattle.h5_meaning.specs.FormOwner.{associates, marked_by, stands_by, stands_else_in};
 ghost use Rattle.h5_meaning.specs.Place.{CanPut, IsPlaceIn, put};
 ghost use Rattle.h5_state.specs.Places.{place_of};
 
@@ -32,23 +33,58 @@ pub fn insert_at<S: TreeSink>(
     }
 }
 
-/// A new element at a place.
+// Where a place is: in this node, or beside it, and then, where it has no parent, in the other.
+fn nodes_of<S: TreeSink>(place: &InsertionPoint<S::Handle>) -> (&S::Handle, Option<&S::Handle>)
+    ensures first { S.node result.0.now ≡ stands_by (place_of S.node place.now) }
+    ensures other { option_map (λ outer. S.node outer.now) result.1 ≡ stands_else_in (place_of S.node place.now) }
+{
+    match place {
+        InsertionPoint::LastChild(parent) => (parent, None),
+        InsertionPoint::TableFosterParenting(element, prev_element) => {
+            (element, Some(prev_element))
+        }
+    }
+}
+
+// A new element is associated with its form owner, where it has one. The sink is told where it is to stand.
+fn associate_with_form<S: TreeSink>(
+    sink: &mut S,
+    element: &S::Handle,
+    place: &InsertionPoint<S::Handle>,
+    owner: &Option<S::Handle>,
+)
+    requires element { IsElement (S.sees sink.old).forest (S.node element.now) }
+    requires place { IsPlaceIn (S.sees sink.old).forest (place_of S.node place.now) }
+    requires owner { MatchOption owner.now (Unit {0}) (λ form. IsNode (S.sees sink.old).forest (S.node form)) }
+    ensures { S.sees sink.new ≡ changed (marked_by (associates S.choices (S.node element.now) (place_of S.node place.now) (option_map S.node owner.now))) (S.sees sink.old) }
+{
+    if let Some(form) = owner {
+        let nodes = nodes_of::<S>(place);
+        sink.associate_with_form(element, form, nodes);
+    }
+}
+
+/// A new element at a place, associated with its form owner, where it has one.
 pub fn insert_new_element<S: TreeSink>(
     sink: &mut S,
     place: &InsertionPoint<S::Handle>,
     name: QualName,
     attrs: Vec<Attribute>,
     had_duplicate_attributes: bool,
+    owner: Option<S::Handle>,
 ) -> Result<S::Handle, AllocError>
     requires is_forest { IsForest (S.sees sink.old).forest }
     requires place { IsPlaceIn (S.sees sink.old).forest (place_of S.node place.now) }
+    requires owner { MatchOption owner (Unit {0}) (λ form. IsNode (S.sees sink.old).forest (S.node form)) }
     ensures handle { IfOk result (λ element. S.node element ≡ S.choices.fresh (S.sees sink.old).forest) }
     ensures done { OnOk result
-        (S.sees sink.new ≡ changed (new_element S.choices (place_of S.node place.now) name (attribute_texts attrs.items) had_duplicate_attributes) (S.sees sink.old)) }
+        (S.sees sink.new ≡ changed (new_element S.choices (place_of S.node place.now) name (attribute_texts attrs.items) had_duplicate_attributes
+        (associates S.choices (S.choices.fresh (S.sees sink.old).forest) (place_of S.node place.now) (option_map S.node owner))) (S.sees sink.old)) }
     ensures quiet { (S.sees sink.new).errors ≡ (S.sees sink.old).errors }
     ensures rearranged { Rearranges (S.sees sink.old).forest (S.sees sink.new).forest }
 {
     let element = create_element_with_flags(sink, name, attrs, had_duplicate_attributes)?;
+    associate_with_form(sink, &element, place, &owner);
     let child = sink.clone_handle(&element);
     insert_at(sink, place, NodeOrText::AppendNode(child))?;
     Ok(element)

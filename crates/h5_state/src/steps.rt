@@ -1,13 +1,18 @@
 //! Steps that change a field, or the current node.
-ghost use Rattle.std.specs.Prelude.{◌≡◌, is_some};
+ghost use Rattle.std.specs.Prelude.{◌≡◌, codes, is_some};
+ghost use Rattle.std.specs.Option.{option_map};
+ghost use Rattle.h5_tag_sets.specs.TagSets.{is_html_named};
 ghost use Rattle.h5_meaning.specs.InBody.{is_quirks};
 ghost use Rattle.h5_meaning.specs.InTableText.{saved_mode};
-ghost use Rattle.h5_meaning.specs.Rows.{Pop, SaveMode, SetFoster, SetFramesetNotOk, SetMode, SetQuirksMode};
+ghost use Rattle.h5_meaning.specs.Rows.{ClearForm, Pop, SaveMode, SetFoster, SetFramesetNotOk, SetIgnoreLf, SetMode, SetQuirksMode};
+ghost use Rattle.h5_meaning.specs.Shared.{is_context};
 ghost use Rattle.h5_meaning.specs.World.{current};
 ghost use Rattle.h5_state.specs.Steps.{IsOpen, IsSound, Makes, world_of};
 
 use super::state::State;
 use h5_interface::{QuirksMode, TreeSink};
+use h5_names::KnownName;
+use h5_tag_sets::is_html_known;
 use h5_types::InsertionMode;
 
 /// The insertion mode.
@@ -54,6 +59,15 @@ pub fn set_frameset_not_ok<S: TreeSink>(sink: &S, state: &mut State<S::Handle>)
     state.frameset_ok = false;
 }
 
+/// A newline that comes next is dropped.
+#[tactic(auto, unfolding(crate::specs::View::world, h5_meaning::specs::World::names_of))]
+pub fn set_ignore_lf<S: TreeSink>(sink: &S, state: &mut State<S::Handle>)
+    requires { IsSound S.TreeSink sink.now state.old }
+    ensures { Makes S.TreeSink SetIgnoreLf sink.now state.old sink.now state.new }
+{
+    state.ignore_lf = true;
+}
+
 /// Builder and sink take a quirks mode.
 #[tactic(auto, unfolding(crate::specs::View::world, h5_meaning::specs::Changes::set_quirks_mode, h5_meaning::specs::World::names_of))]
 pub fn set_quirks_mode<S: TreeSink>(sink: &mut S, state: &mut State<S::Handle>, mode: QuirksMode)
@@ -92,6 +106,28 @@ pub fn has_form<S: TreeSink>(sink: &S, state: &State<S::Handle>) -> bool
     ensures { result ≡ is_some (world_of S.TreeSink sink.now state.now).form }
 {
     state.form_elem.is_some()
+}
+
+/// The form element, which isn't one any more.
+#[tactic(auto, unfolding(crate::specs::View::world, h5_meaning::specs::World::names_of))]
+pub fn take_form<S: TreeSink>(sink: &S, state: &mut State<S::Handle>) -> Option<S::Handle>
+    requires { IsSound S.TreeSink sink.now state.old }
+    ensures made { Makes S.TreeSink ClearForm sink.now state.old sink.now state.new }
+    ensures form { option_map S.node result ≡ (world_of S.TreeSink sink.now state.old).form }
+{
+    state.form_elem.take()
+}
+
+/// Whether the context of a fragment is an HTML `select`.
+#[tactic(auto, unfolding(crate::specs::View::world))]
+pub fn is_select_context<S: TreeSink>(sink: &S, state: &State<S::Handle>) -> bool
+    requires { IsSound S.TreeSink sink.now state.now }
+    ensures { result ≡ is_context (is_html_named (codes "select")) (world_of S.TreeSink sink.now state.now) }
+{
+    match &state.context_elem {
+        Some(context) => is_html_known(sink.elem_name(context), KnownName::Select),
+        None => false,
+    }
 }
 
 /// Whether the document is that of an `iframe` with `srcdoc`.

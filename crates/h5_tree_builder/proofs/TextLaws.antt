@@ -15,7 +15,7 @@ use Rattle.h5_meaning.specs.AfterBody.{back_to_body}
 use Rattle.h5_meaning.specs.AfterHead.{after_head_else}
 use Rattle.h5_meaning.specs.BeforeHead.{before_head_else}
 use Rattle.h5_meaning.specs.BeforeHtml.{before_html_else}
-use Rattle.h5_meaning.specs.InBody.{current_is, in_body}
+use Rattle.h5_meaning.specs.InBody.{in_body}
 use Rattle.h5_meaning.specs.InColumnGroup.{close_the_column_group, in_column_group_else}
 use Rattle.h5_meaning.specs.InHead.{in_head_else}
 use Rattle.h5_meaning.specs.InTable.{in_table_text_or_null, keeps_text}
@@ -23,7 +23,7 @@ use Rattle.h5_meaning.specs.InitialMode.{initial_else}
 use Rattle.h5_meaning.specs.Modes.{rule}
 use Rattle.h5_meaning.specs.Rows.{Again, AppendPendingText, AppendText, IsDone, Pop, Row, SaveMode, changed_by, choose, ignored, next_mode, row}
 use Rattle.h5_meaning.specs.Settle.{Settled, settle, then_turns}
-use Rattle.h5_meaning.specs.Shared.{in_body_text}
+use Rattle.h5_meaning.specs.Shared.{current_is, in_body_text}
 use Rattle.h5_meaning.specs.Text.{IsRun, after_row, all_blanks, by_else, closes_column_group, fostered_text, text_in_column_group, text_in_table, text_in_table_text, dropped, in_next, if_any, split, text_after_body, text_after_head, text_any, text_before_head, text_before_html, text_in, text_in_body, text_in_head, text_initial, text_rule, is_quiet_text}
 use Rattle.h5_meaning.specs.Run.{is_empty_text, text_step}
 use Rattle.h5_meaning.specs.Tables.{foster}

@@ -38,7 +38,8 @@ impl<Handle: Drop, Sink: TreeSink<Handle = Handle> + Drop> TreeBuilder<Handle, S
     /// The tokens of a plain document rebuild exactly that document, in a new builder with the default
     /// options over a sink that holds its document alone: in no quirks, without a parse error, and with no
     /// answer but `Continue`. So far the plain documents are those with an empty head and a body of `div`,
-    /// `p`, headings, tables with row groups, rows and cells, texts, `br`, `b`, `i`, `em`, `code` and `a`.
+    /// `p`, headings, lists, tables with row groups, rows and cells, texts, `br`, `b`, `i`, `em`,
+    /// `code` and `a`.
     ///
     /// It answers `Failed` after want of memory, and then nothing has changed. Where memory is refused now
     /// it answers `Memory`, and the tokens before that have been taken.

@@ -1,4 +1,5 @@
-//! A second lawful sink: an arena that answers true to every attach of a shadow root, and changes nothing.
+//! A second lawful sink, for tests: an arena that answers true to every attach of a shadow root, and changes nothing,
+//! beside the number of options that it was told to copy.
 ghost use Rattle.std.specs.Prelude.{◌≡◌, OnOk, OnErr};
 ghost use Rattle.h5_interface.specs.Seen.{CanAppend, CanAppendBasedOnParent, CanInsertBefore, after_append, after_append_before, after_append_by, child_of};
 ghost use Rattle.h5_arena.specs.ArenaModel.{attaching_choices, place, seen_of};
@@ -8,15 +9,19 @@ use h5_interface::{ElementFlags, NodeOrText, QuirksMode, TreeSink};
 use h5_names::{Attribute, QualName};
 use std::alloc::{AllocError, Global};
 
+/// An arena that attaches nothing and says that it did, and how many options it was told to copy.
 #[derive(Drop)]
-pub(crate) struct Attaching {
+pub struct Attaching {
     arena: Arena,
+    pub copies: usize,
 }
 
 impl Attaching {
-    pub(crate) fn new(alloc: Global) -> Result<Attaching, AllocError> {
+    /// Over an empty arena. An `AllocError` where memory is refused.
+    pub fn new(alloc: Global) -> Result<Attaching, AllocError> {
         Ok(Attaching {
             arena: Arena::new(alloc)?,
+            copies: 0,
         })
     }
 }
@@ -191,6 +196,7 @@ impl TreeSink for Attaching {
         &mut self,
         option: &NodeId,
     ) -> Result<(), AllocError> {
+        self.copies = self.copies.saturating_add(1);
         self.arena
             .maybe_clone_an_option_into_selectedcontent(option)
     }

@@ -3,7 +3,6 @@
 
 #[cfg(test)]
 mod arena;
-#[cfg(test)]
 mod attaching;
 #[cfg(test)]
 mod calls;
@@ -11,3 +10,5 @@ mod calls;
 mod serialize;
 #[cfg(test)]
 mod walk;
+
+pub use attaching::Attaching;

@@ -4,6 +4,7 @@ use h5_interface::QuirksMode;
 use h5_names::LocalName;
 use h5_token::{Doctype, Tag, TagKind, Token, TokenSink, TokenSinkResult};
 use h5_tree_builder::{Reply, TreeBuilder, html_elem};
+use h5_tree_calls::Attaching;
 use h5_types::TreeBuilderOpts;
 use std::alloc::{AllocError, Global};
 use std::process::Abort;
@@ -169,5 +170,30 @@ fn exact_errors_name_the_token_and_the_mode(rt: HostRuntime) -> Result<(), Fail>
     for (error, text) in errors.iter().zip(exact) {
         assert_eq!(rt; error.as_str(), text);
     }
+    Ok(())
+}
+
+// How many options a builder copies where these options come, each begun, or ended.
+fn copies_of(alloc: Global, begins: &[bool]) -> Result<usize, Fail> {
+    let sink = Attaching::new(alloc)?;
+    let mut builder = TreeBuilder::new(alloc, sink, TreeBuilderOpts::default());
+    for &is_start in begins {
+        let token = if is_start {
+            start(alloc, "option")?
+        } else {
+            end(alloc, "option")?
+        };
+        builder.process_token(token, 1)?;
+    }
+    Ok(builder.sink.copies)
+}
+
+#[test]
+fn an_option_is_copied_where_it_was_closed(rt: HostRuntime) -> Result<(), Fail> {
+    let alloc = rt.alloc();
+    assert_eq!(rt; copies_of(alloc, &[true, false])?, 1);
+    assert_eq!(rt; copies_of(alloc, &[true, true])?, 0);
+    assert_eq!(rt; copies_of(alloc, &[true, true, false])?, 1);
+    assert_eq!(rt; copies_of(alloc, &[false])?, 0);
     Ok(())
 }

@@ -106,7 +106,7 @@ pub const BODIES: [(&str, &str); 18] = [
 ];
 
 /// The same with tables.
-pub const TABLES: [(&str, &str); 20] = [
+pub const TABLES: [(&str, &str); 21] = [
     (
         "<table><tr><td>1<td>2</table>",
         "<table><tbody><tr><td>1</td><td>2</td></tr></tbody></table>",
@@ -160,6 +160,10 @@ pub const TABLES: [(&str, &str); 20] = [
     ),
     (
         "<table><form a=1></form><form>1</table>",
+        "1<table><form a=\"1\"></form><form></form></table>",
+    ),
+    (
+        "<table><form a=1><form>1</table>",
         "1<table><form a=\"1\"></form></table>",
     ),
     (
@@ -175,6 +179,61 @@ pub const TABLES: [(&str, &str); 20] = [
         "<a>1<table><a>2</table>3",
         "<a>1<a>2</a><table></table></a><a>3</a>",
     ),
+];
+
+/// The same with forms, lists, and what stands in them.
+pub const FORMS: [(&str, &str); 24] = [
+    ("<form><div><form>x</form>y", "<form><div>xy</div></form>"),
+    (
+        "<form>1</form><form>2</form></form>3",
+        "<form>1</form><form>2</form>3",
+    ),
+    ("<p>1<form>2<p>3</form>4", "<p>1</p><form>2<p>3</p></form>4"),
+    (
+        "<select><option>a<option>b<hr></select>",
+        "<select><option>a</option><option>b</option><hr></select>",
+    ),
+    (
+        "<select><optgroup><option>1<optgroup>2",
+        "<select><optgroup><option>1</option></optgroup><optgroup>2</optgroup></select>",
+    ),
+    (
+        "<select><optgroup><option>1<option>2</optgroup>3",
+        "<select><optgroup><option>1</option><option>2</option></optgroup>3</select>",
+    ),
+    ("<select><select>x", "<select></select>x"),
+    ("<select><input>x", "<select></select><input>x"),
+    ("<option>1<option>2", "<option>1</option><option>2</option>"),
+    (
+        "<ul><li>a<div><li>b</ul>",
+        "<ul><li>a<div></div></li><li>b</li></ul>",
+    ),
+    (
+        "<ul><li>1<ul><li>2</ul>3</ul>",
+        "<ul><li>1<ul><li>2</li></ul>3</li></ul>",
+    ),
+    ("<ul><li>1</li>2</li></ul>", "<ul><li>1</li>2</ul>"),
+    (
+        "<dl><dt>1<dd>2<p>3<dt>4</dl>",
+        "<dl><dt>1</dt><dd>2<p>3</p></dd><dt>4</dt></dl>",
+    ),
+    ("<ruby>a<rt>b<rp>c", "<ruby>a<rt>b</rt><rp>c</rp></ruby>"),
+    (
+        "<ruby>1<rb>2<rtc>3<rt>4</ruby>",
+        "<ruby>1<rb>2</rb><rtc>3<rt>4</rt></rtc></ruby>",
+    ),
+    (
+        "<button><p>a<button>b",
+        "<button><p>a</p></button><button>b</button>",
+    ),
+    ("<object><b>1</object>2", "<object><b>1</b></object>2"),
+    ("<b>1<marquee>2</b>3", "<b>1<marquee>23</marquee></b>"),
+    ("<p>1<pre>\nx", "<p>1</p><pre>x</pre>"),
+    ("<pre><b>\nx", "<pre><b>\nx</b></pre>"),
+    ("<image a=1>x", "<img a=\"1\">x"),
+    ("<p>1<hr>2", "<p>1</p><hr>2"),
+    ("<p><param><source>x", "<p><param><source>x</p>"),
+    ("<input type=hidden><img>x", "<input type=\"hidden\"><img>x"),
 ];
 
 /// The HTML of a page whose body holds this.
@@ -238,6 +297,16 @@ fn bodies_of_texts(rt: HostRuntime) -> Result<(), Fail> {
 fn bodies_of_texts_with_tables(rt: HostRuntime) -> Result<(), Fail> {
     let alloc = rt.alloc();
     for (input, body) in TABLES {
+        let page = page_of(alloc, body)?;
+        prints(&rt, alloc, "html", input, page.as_str())?;
+    }
+    Ok(())
+}
+
+#[test]
+fn bodies_of_texts_with_forms_and_lists(rt: HostRuntime) -> Result<(), Fail> {
+    let alloc = rt.alloc();
+    for (input, body) in FORMS {
         let page = page_of(alloc, body)?;
         prints(&rt, alloc, "html", input, page.as_str())?;
     }

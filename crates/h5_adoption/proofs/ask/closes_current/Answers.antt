@@ -7,7 +7,7 @@ use Rattle.h5_state.specs.Steps.{world_of}
 use Rattle.h5_state.specs.View.{entry_of, world}
 use Rattle.h5_adoption.specs.View.{list_under}
 use Rattle.h5_adoption.proofs.EntryLaws.{list_cut}
-use Rattle.h5_adoption.proofs.SeenLaws.{same_tail}
+use Rattle.h5_state.proofs.SeenLaws.{same_tail}
 use Rattle.h5_adoption.proofs.ask.closes_current.Goals as goal
 
 pub returns-in-Some : goal.returns-in-Some

@@ -7,7 +7,7 @@ use Rattle.h5_state.specs.Summaries.{summaries}
 use Rattle.h5_state.specs.View.{open_node, world}
 use Rattle.h5_state.proofs.SummaryLaws.{kept_under}
 use Rattle.h5_meaning.proofs.RemovalLaws.{all_older}
-use Rattle.h5_adoption.proofs.SeenLaws.{seen_at}
+use Rattle.h5_state.proofs.SeenLaws.{seen_at}
 use Rattle.h5_adoption.proofs.ends.close_through.Goals as goal
 
 pub returns : goal.returns

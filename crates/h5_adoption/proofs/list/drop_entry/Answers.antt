@@ -1,7 +1,7 @@
 use Rattle.std.proofs.Common.{ap, arith, map}
 use Rattle.std.proofs.lemmas.List.{length-map, length-reverse}
 use Rattle.h5_state.specs.View.{entry_of, world}
-use Rattle.h5_adoption.proofs.SeenLaws.{seen_removed}
+use Rattle.h5_state.proofs.SeenLaws.{seen_removed}
 use Rattle.h5_adoption.proofs.list.drop_entry.Goals as goal
 
 pub remove-requires : goal.remove-requires

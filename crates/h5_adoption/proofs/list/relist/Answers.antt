@@ -8,7 +8,7 @@ use Rattle.h5_stack.specs.FormattingList.{ElementEntry}
 use Rattle.h5_state.specs.Steps.{world_of}
 use Rattle.h5_state.specs.View.{stack_under, world}
 use Rattle.h5_adoption.proofs.RelistsLaws as laws
-use Rattle.h5_adoption.proofs.SeenLaws.{drop_more}
+use Rattle.h5_state.proofs.SeenLaws.{drop_more}
 use Rattle.h5_adoption.proofs.list.relist.Goals as goal
 
 pub relist_between-requires : goal.relist_between-requires

@@ -5,7 +5,7 @@ use Rattle.h5_stack.specs.InnerLoop.{swapped, walked}
 use Rattle.h5_stack.specs.Order.{is_in}
 use Rattle.h5_state.specs.Steps.{world_of}
 use Rattle.h5_adoption.proofs.RelistLaws.{swapped_at, walked_onto}
-use Rattle.h5_adoption.proofs.SeenLaws.{drop_more}
+use Rattle.h5_state.proofs.SeenLaws.{drop_more}
 use Rattle.h5_adoption.proofs.list.relist_near.Goals as goal
 
 pub returns-in-Some-clause-walked : goal.returns-in-Some-clause-walked

@@ -4,7 +4,7 @@ use Rattle.h5_token.specs.TokenText.{TagText, tag_text}
 use Rattle.h5_types.specs.declared.entry.FormatEntry.TheVariants.{Element}
 use Rattle.h5_stack.specs.FormattingList.{ElementEntry, MarkerEntry}
 use Rattle.h5_state.specs.View.{entry_of, world}
-use Rattle.h5_adoption.proofs.SeenLaws.{seen_replaced, seen_value, set_cut}
+use Rattle.h5_state.proofs.SeenLaws.{seen_replaced, seen_value, set_cut}
 use Rattle.h5_adoption.proofs.list.swap_entry.Goals as goal
 
 no_marker : (n : ℕ) (tag : TagText) → MarkerEntry ≡ ElementEntry n tag → ⊥

@@ -8,7 +8,7 @@ use Rattle.h5_state.specs.View.{names_under, open_node, world}
 use Rattle.h5_state.proofs.AttributeLaws.{open_length}
 use Rattle.h5_state.proofs.StackLaws.{named, seen_pushed}
 use Rattle.h5_state.proofs.SummaryLaws.{kept_pushed}
-use Rattle.h5_adoption.specs.View.{kept_under}
+use Rattle.h5_state.specs.View.{kept_under}
 use Rattle.h5_adoption.proofs.stack.push_open.Goals as goal
 
 pub all_under-all-requires-clause-kept : goal.all_under-all-requires-clause-kept

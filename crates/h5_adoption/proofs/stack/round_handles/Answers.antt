@@ -2,7 +2,7 @@ use Rattle.std.proofs.Common.{[], ap, arith, map, reverse, sym, ◌++◌, ◌+�
 use Rattle.std.proofs.lemmas.List.{append-nil}
 use Rattle.h5_state.specs.View.{open_node, stack_under, world}
 use Rattle.h5_state.proofs.StackLaws.{seen_pushed}
-use Rattle.h5_adoption.proofs.SeenLaws.{seen_at}
+use Rattle.h5_state.proofs.SeenLaws.{seen_at}
 use Rattle.h5_adoption.proofs.stack.round_handles.Goals as goal
 
 pub returns : goal.returns

@@ -5,7 +5,8 @@ use Rattle.h5_types.specs.TurnText.{TagTurn}
 use Rattle.h5_types.specs.declared.turns.ProcessResult.TheVariants.{Done}
 use Rattle.h5_token.specs.TokenText.{tag_text}
 use Rattle.h5_meaning.specs.Changes.{pop_until_named}
-use Rattle.h5_meaning.specs.InBody.{current_is, in_body_end_block}
+use Rattle.h5_meaning.specs.InBody.{in_body_end_block}
+use Rattle.h5_meaning.specs.Shared.{current_is}
 use Rattle.h5_meaning.specs.Rows.{Follows, GenerateImpliedEnd, IsDone, PopUntilNamed, choose, ignored, row_if}
 use Rattle.h5_meaning.specs.World.{World, names_of}
 use Rattle.h5_meaning.proofs.ClosingLaws.{block_not_implied, block_stays_current}

@@ -2,7 +2,8 @@ use Rattle.std.proofs.Common.{[], ◌∷◌, codes, false, refl, subst, sym, ◌
 use Rattle.h5_types.specs.TurnText.{TagTurn}
 use Rattle.h5_types.specs.declared.turns.ProcessResult.TheVariants.{Done}
 use Rattle.h5_token.specs.TokenText.{tag_text}
-use Rattle.h5_meaning.specs.InBody.{current_is, in_body_end_p}
+use Rattle.h5_meaning.specs.InBody.{in_body_end_p}
+use Rattle.h5_meaning.specs.Shared.{current_is}
 use Rattle.h5_meaning.specs.Rows.{ClosePElement, Follows, InsertElement, IsDone, choose, errs, row_if}
 use Rattle.h5_meaning.proofs.ClosingLaws.{p_stays_current}
 use Rattle.h5_state.specs.Steps.{errors_of, world_of}

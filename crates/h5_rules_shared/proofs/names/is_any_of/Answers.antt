@@ -1,4 +1,4 @@
-use Rattle.std.proofs.Common.{◌≡◌, sym, ◌∙◌}
+use Rattle.std.proofs.Common.{sym, ◌∙◌}
 use Rattle.h5_rules_shared.proofs.AnyOfLaws.{found_here, found_later}
 use Rattle.h5_rules_shared.proofs.names.is_any_of.Goals as goal
 

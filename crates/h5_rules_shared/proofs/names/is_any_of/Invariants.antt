@@ -1,4 +1,4 @@
-use Rattle.std.proofs.Common.{◌≡◌, map, drop, ◌≤◌, length}
+use Rattle.std.proofs.Common.{◌≡◌, map, drop}
 use Rattle.h5_names.specs.KnownNames.{name_text}
 use Rattle.h5_tag_sets.specs.TagSets.{is_one_of}
 use Rattle.h5_rules_shared.proofs.names.is_any_of.Given as goal

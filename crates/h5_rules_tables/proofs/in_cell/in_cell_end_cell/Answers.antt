@@ -7,7 +7,7 @@ use Rattle.h5_types.specs.declared.turns.ProcessResult.TheVariants.{Done}
 use Rattle.h5_token.specs.TokenText.{tag_text}
 use Rattle.h5_meaning.specs.Changes.{pop_until_named, set_mode}
 use Rattle.h5_meaning.specs.Formatting.{clear_active_formatting_to_marker}
-use Rattle.h5_meaning.specs.InBody.{current_is}
+use Rattle.h5_meaning.specs.Shared.{current_is}
 use Rattle.h5_meaning.specs.InCell.{in_cell_end_cell}
 use Rattle.h5_meaning.specs.Rows.{ClearActiveFormattingToMarker, Follows, GenerateImpliedEnd, IsDone, PopUntilNamed, SetMode, choose, ignored, row_if}
 use Rattle.h5_meaning.specs.World.{World, names_of}

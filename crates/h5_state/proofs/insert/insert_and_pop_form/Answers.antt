@@ -1,13 +1,15 @@
-use Rattle.std.proofs.Common.{◌≡◌, ℕ, Some, ap, codes, rules, subst, sym, ◌∙◌}
+use Rattle.std.proofs.Common.{◌≡◌, ℕ, None, Some, ap, codes, rules, subst, sym, ◌∙◌}
 use Rattle.h5_names.specs.AttributeText.{attribute_texts}
 use Rattle.h5_interface.specs.Seen.{changed}
 use Rattle.h5_meaning.specs.Changes.{insert_and_pop_element, insert_and_pop_form, new_element}
+use Rattle.h5_meaning.specs.FormOwner.{associates}
 use Rattle.h5_meaning.specs.Place.{IsPlaceIn, place}
 use Rattle.h5_meaning.specs.Sound.{Sound}
 use Rattle.h5_meaning.specs.World.{World, names_of}
 use Rattle.h5_meaning.proofs.PlaceLaws.{current_place_is_there, form_stands}
 use Rattle.h5_stack.specs.FormattingNames.{html_name}
 use Rattle.h5_state.specs.View.{world}
+use Rattle.h5_state.proofs.FormLaws.{form_unowned}
 use Rattle.h5_state.proofs.StackLaws.{seen_world}
 use Rattle.h5_state.proofs.StepLaws.{sound_rearranged}
 use Rattle.h5_state.proofs.insert.insert_and_pop_form.Goals as goal
@@ -36,8 +38,9 @@ returns g c =
     let inserted : u ≡ insert_and_pop_element choices (codes "form") attrs flag w =
     ap (λ s. seen_world w s w.stack)
     (c.in_ok-form.ensures.done
-    ∙ ap (λ p. changed (new_element choices p name attrs flag) seen) c.current_place-place.ensures
-    ∙ ap (λ n. changed (new_element choices (place w) n attrs flag) seen) (c.html_qual_name-name.ensures ∙ ap html_name c.from_known.ensures)) in
+    ∙ ap (λ p. changed (new_element choices p name attrs flag None) seen) c.current_place-place.ensures
+    ∙ ap (λ n. changed (new_element choices (place w) n attrs flag None) seen) (c.html_qual_name-name.ensures ∙ ap html_name c.from_known.ensures)
+    ∙ ap (λ o. changed (new_element choices (place w) (html_name (codes "form")) attrs flag (associates choices (choices.fresh w.forest) (place w) o)) seen) (sym (form_unowned attrs w))) in
     let same : with_form u (node c.in_ok-form.form) ≡ insert_and_pop_form choices attrs flag w =
     ap (λ v. with_form v (node c.in_ok-form.form)) inserted ∙ ap (with_form (insert_and_pop_element choices (codes "form") attrs flag w)) c.in_ok-form.ensures.handle in
     record {

@@ -1,7 +1,8 @@
-use Rattle.std.proofs.Common.{◌≡◌, ◌∷◌, reverse, map, ap, sym, subst, ◌∙◌}
+use Rattle.std.proofs.Common.{◌≡◌, ◌∷◌, reverse, map, option_map, ap, sym, subst, ◌∙◌}
 use Rattle.h5_names.specs.AttributeText.{attribute_texts}
 use Rattle.h5_interface.specs.Seen.{Seen, changed}
 use Rattle.h5_meaning.specs.Changes.{new_element, push_new}
+use Rattle.h5_meaning.specs.FormOwner.{associates}
 use Rattle.h5_meaning.specs.Sound.{AllStand}
 use Rattle.h5_meaning.specs.World.{name_in, names_of}
 use Rattle.h5_stack.specs.FormattingNames.{html_name}
@@ -40,8 +41,9 @@ returns-clause-done g c =
     let attrs = attribute_texts c.args.attrs.items in
     let flag = c.args.had_duplicate_attributes in
     let p = place_of g.S.TreeSink.node c.args.place.now in
-    same_world w (g.S.TreeSink.sees c.insert_new_element.new.sink) (changed (new_element g.S.TreeSink.choices p (html_name c.args.local) attrs flag) seen) _ _
-    (c.in_ok-handle.ensures.done ∙ ap (λ name. changed (new_element g.S.TreeSink.choices p name attrs flag) seen) c.html_qual_name-name.ensures)
+    let marks = associates g.S.TreeSink.choices (g.S.TreeSink.choices.fresh seen.forest) p (option_map g.S.TreeSink.node c.args.owner) in
+    same_world w (g.S.TreeSink.sees c.insert_new_element.new.sink) (changed (new_element g.S.TreeSink.choices p (html_name c.args.local) attrs flag marks) seen) _ _
+    (c.in_ok-handle.ensures.done ∙ ap (λ name. changed (new_element g.S.TreeSink.choices p name attrs flag marks) seen) c.html_qual_name-name.ensures)
     (seen_pushed node _ _ _ c.in_ok-push.ensures.items ∙ ap (λ n. n ∷ reverse (map node c.args.state.now.open_elems.items)) c.in_ok-handle.ensures.handle)
 
 pub returns-clause-sound : goal.returns-clause-sound
@@ -54,16 +56,17 @@ returns-clause-sound g c =
     let attrs = attribute_texts c.args.attrs.items in
     let flag = c.args.had_duplicate_attributes in
     let p = place_of g.S.TreeSink.node c.args.place.now in
+    let marks = associates g.S.TreeSink.choices (g.S.TreeSink.choices.fresh seen.forest) p (option_map g.S.TreeSink.node c.args.owner) in
     let name = c.html_qual_name-name.result in
     let stack = seen_pushed node _ _ _ c.in_ok-push.ensures.items ∙ ap (λ n. n ∷ reverse (map node c.args.state.now.open_elems.items)) c.in_ok-handle.ensures.handle in
-    let done : seen_world w new_seen (reverse (map node c.push.new.self.items)) ≡ push_new g.S.TreeSink.choices p c.args.local attrs flag w =
-    same_world w new_seen (changed (new_element g.S.TreeSink.choices p (html_name c.args.local) attrs flag) seen) _ _
-    (c.in_ok-handle.ensures.done ∙ ap (λ name. changed (new_element g.S.TreeSink.choices p name attrs flag) seen) c.html_qual_name-name.ensures) stack in
+    let done : seen_world w new_seen (reverse (map node c.push.new.self.items)) ≡ push_new g.S.TreeSink.choices p c.args.local attrs flag marks w =
+    same_world w new_seen (changed (new_element g.S.TreeSink.choices p (html_name c.args.local) attrs flag marks) seen) _ _
+    (c.in_ok-handle.ensures.done ∙ ap (λ name. changed (new_element g.S.TreeSink.choices p name attrs flag marks) seen) c.html_qual_name-name.ensures) stack in
     record {
       sound = subst (λ (s : Seen). AllStand s.forest (reverse (map node c.push.new.self.items)) w.formatting w.head w.form w.context) (sym c.in_ok-handle.ensures.done)
-          (subst (λ s. AllStand (new_element g.S.TreeSink.choices p name attrs flag seen.forest) s w.formatting w.head w.form w.context) (sym stack)
-          (all_inserted g.S.TreeSink.choices p name attrs flag w c.requires.sound.sound c.requires.place c.requires.first));
+          (subst (λ s. AllStand (new_element g.S.TreeSink.choices p name attrs flag marks seen.forest) s w.formatting w.head w.form w.context) (sym stack)
+          (all_inserted g.S.TreeSink.choices p name attrs flag marks w c.requires.sound.sound c.requires.place c.requires.first));
       kept = kept_pushed c.args.state.now.open_elems.items c.push.new.self.items _ (html_name c.args.local) (names_of w) _ c.in_ok-push.ensures.items
           (c.new-summary.ensures (names_of w) c.all_open.ensures ∙ ap (λ n. summary_of n (names_of w)) c.html_qual_name-name.ensures)
-          (ap names_of done ∙ names_pushed g.S.TreeSink.choices p c.args.local attrs flag w c.requires.sound.sound c.requires.place) c.requires.sound.kept;
+          (ap names_of done ∙ names_pushed g.S.TreeSink.choices p c.args.local attrs flag marks w c.requires.sound.sound c.requires.place) c.requires.sound.kept;
     }

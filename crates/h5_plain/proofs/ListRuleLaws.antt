@@ -1,0 +1,61 @@
+-- The rules that the tags of lists and their items follow in the body, and what their names are.
+use Rattle.std.proofs.Common.{◌≡◌, ℕ, true, false, List, codes, refl}
+use Rattle.h5_names.specs.AttributeText.{AttributeText}
+use Rattle.h5_fits.specs.Roles.{PlainRole, role_of, role_of_local}
+use Rattle.h5_tag_sets.specs.TagSets.{block_end_names, block_start_names, button_scope_names, cell_names, heading_names, html_namespace, implied_names, is_button_scope, is_default_scope, is_html_named, is_implied, is_one_of, is_special, mathml_namespace, scope_names, special_names, svg_namespace, void_names}
+use Rattle.h5_types.specs.TurnText.{TagTurn}
+use Rattle.h5_types.specs.declared.modes.InsertionMode.TheVariants.{InBody}
+use Rattle.h5_stack.specs.FormattingNames.{html_name}
+use Rattle.h5_meaning.specs.Closing.{ends_item_search, is_html_among, passed_names}
+use Rattle.h5_meaning.specs.InBody.{in_body_end, in_body_end_block, in_body_end_li, in_body_preformatted, in_body_start, in_body_start_block, in_body_start_item, in_body_tag, list_item_names}
+use Rattle.h5_meaning.specs.InCell.{in_cell_closing_ends, in_cell_ignored_ends}
+use Rattle.h5_meaning.specs.Modes.{rule}
+use Rattle.h5_meaning.specs.Shared.{table_structure_names}
+use Rattle.h5_meaning.specs.World.{World}
+use Rattle.h5_plain.specs.Plain.{list_names}
+use Rattle.h5_plain.proofs.BodyRuleLaws.{EachOf, IsHolder, of_each}
+use Rattle.h5_plain.proofs.ModeLaws.{IsOutside}
+use Rattle.h5_plain.proofs.RuleLaws.{end, start}
+
+-- a `li` and its end
+pub item_rule : (a : List AttributeText) (w : World) → rule InBody (TagTurn (start (codes "li") a)) w ≡ in_body_start_item list_item_names (start (codes "li") a) w
+unfolding in_body_tag in_body_start block_start_names heading_names in_body_preformatted list_item_names
+item_rule a w = refl
+
+pub item_end_rule : (w : World) → rule InBody (TagTurn (end (codes "li"))) w ≡ in_body_end_li (end (codes "li")) w
+unfolding in_body_tag in_body_end block_end_names list_item_names
+item_end_rule w = refl
+
+pub item_holds : IsHolder (codes "li")
+unfolding void_names
+item_holds = record { has_end = refl; no_template = refl }
+
+-- a cell leaves it to the body
+pub item_outside : IsOutside (codes "li")
+unfolding table_structure_names cell_names in_cell_closing_ends in_cell_ignored_ends
+item_outside = record { no_structure = refl; no_cell = refl; closes_none = refl; not_ignored = refl }
+
+-- a list: it ends the search for an item; it is no `p`, and doesn't end the scope of one
+pub record IsListName (name : List ℕ) : Type 0 where
+  pub holds : IsHolder name
+  pub starts : (a : List AttributeText) (w : World) → rule InBody (TagTurn (start name a)) w ≡ in_body_start_block (start name a) w
+  pub ends : (w : World) → rule InBody (TagTurn (end name)) w ≡ in_body_end_block (end name) w
+  pub itself : is_html_named name (html_name name) ≡ true
+  pub not_implied : is_implied (html_name name) ≡ false
+  pub no_p : is_html_named (codes "p") (html_name name) ≡ false
+  pub no_scope : is_button_scope (html_name name) ≡ false
+  pub no_item : is_html_among list_item_names (html_name name) ≡ false
+  pub ends_search : ends_item_search (html_name name) ≡ true
+  pub role : role_of (html_name name) ≡ PlainRole
+  pub outside : IsOutside name
+
+lists : EachOf IsListName list_names
+unfolding list_names void_names html_namespace mathml_namespace svg_namespace in_body_tag in_body_start in_body_end block_start_names block_end_names is_html_named is_implied implied_names is_button_scope is_default_scope scope_names button_scope_names list_item_names is_special special_names passed_names role_of role_of_local table_structure_names cell_names in_cell_closing_ends in_cell_ignored_ends
+lists = (
+  record { holds = record { has_end = refl; no_template = refl }; starts = λ a w. refl; ends = λ w. refl; itself = refl; not_implied = refl; no_p = refl; no_scope = refl; no_item = refl; ends_search = refl; role = refl; outside = record { no_structure = refl; no_cell = refl; closes_none = refl; not_ignored = refl } },
+  (record { holds = record { has_end = refl; no_template = refl }; starts = λ a w. refl; ends = λ w. refl; itself = refl; not_implied = refl; no_p = refl; no_scope = refl; no_item = refl; ends_search = refl; role = refl; outside = record { no_structure = refl; no_cell = refl; closes_none = refl; not_ignored = refl } }, tt),
+)
+
+-- `ul` and `ol` are lists
+pub is_list_name : (name : List ℕ) → is_one_of list_names name ≡ true → IsListName name
+is_list_name name h = of_each IsListName list_names lists name h

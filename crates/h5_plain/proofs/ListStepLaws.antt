@@ -1,0 +1,98 @@
+-- What a tag of a list, or of an item of one, does in the body, or in a cell, which goes by the body for it.
+use Rattle.std.proofs.Common.{◌≡◌, ◌∙◌, ℕ, true, false, ◌&&◌, not, is_none, cond, List, [], ◌∷◌, None, codes, refl, ap}
+use Rattle.h5_names.specs.AttributeText.{AttributeText}
+use Rattle.h5_names.specs.declared.qualified.QualName.{QualName}
+use Rattle.h5_interface.specs.Forest.{IsForest}
+use Rattle.h5_interface.specs.SinkChoices.{SinkChoices}
+use Rattle.h5_tag_sets.specs.TagSets.{html_namespace, implied_names, is_default_scope, is_html_named, is_implied, is_list_item_scope}
+use Rattle.h5_stack.specs.FormattingList.{Entry}
+use Rattle.h5_stack.specs.FormattingNames.{html_name}
+use Rattle.h5_stack.specs.Scope.{first_passes, has_p_in_button_scope, in_scope, is_implied_but}
+use Rattle.h5_meaning.specs.Changes.{insert_element, pop_until_named, set_frameset_not_ok}
+use Rattle.h5_meaning.specs.Closing.{close_item, close_list_item, close_p_element_in_button_scope, newest_item}
+use Rattle.h5_meaning.specs.InBody.{in_body_end_block, in_body_end_li, list_item_names}
+use Rattle.h5_meaning.specs.Rows.{Change, CloseListItem, ClosePElementInButtonScope, GenerateImpliedEnd, GenerateImpliedEndExcept, InsertElement, IsDone, PopUntilNamed, SetFramesetNotOk, choose, ignored, row_if}
+use Rattle.h5_meaning.specs.World.{World, names_of}
+use Rattle.h5_meaning.proofs.PopLaws.{all_implied_none, implied_none}
+use Rattle.h5_plain.specs.Plain.{end_tag, start_tag}
+use Rattle.h5_plain.proofs.BodyStepLaws.{cut_at, insert_is, left, no_p, none_closed}
+use Rattle.h5_plain.proofs.CalmLaws.{Calm, names_are, opened}
+use Rattle.h5_plain.proofs.FilledLaws.{Face, same_faces}
+use Rattle.h5_plain.proofs.GoesLaws.{Moves, moves_row}
+use Rattle.h5_plain.proofs.ListRuleLaws.{IsListName, item_end_rule, item_outside, item_rule}
+use Rattle.h5_plain.proofs.ListedLaws.{OpenFormat}
+use Rattle.h5_plain.proofs.ModeLaws.{GoesByBody, end_by_body, start_by_body}
+use Rattle.h5_plain.proofs.RuleLaws.{end, start}
+use Rattle.h5_plain.proofs.TableStepLaws.{Ends}
+
+module _ (choices : SinkChoices) {w : World} {p : ℕ} {d : Face} {names : List QualName} {path : List OpenFormat} {under : List ℕ} {base : List Entry} (c : Calm w p d names path under base) where
+  -- the frameset flag plays no part
+  calm_flagged : Calm (set_frameset_not_ok w) p d names path under base
+  calm_flagged = record {
+    is_forest = c.is_forest;
+    ignore_lf = c.ignore_lf;
+    is_current = c.is_current;
+    shows = c.shows;
+    named = c.named;
+    no_foster = c.no_foster;
+    no_form = c.no_form;
+    no_template = c.no_template;
+    are_open = c.are_open;
+    is_base = c.is_base;
+    entries = c.entries;
+    unlisted = c.unlisted;
+  }
+
+  -- no item is open in this list
+  no_item_closed : newest_item list_item_names names ≡ None → close_list_item choices list_item_names w ≡ w
+  unfolding close_list_item
+  no_item_closed h =
+      ap (λ ns. close_item choices (newest_item list_item_names ns) w) (names_are w c.named)
+      ∙ ap (λ o. close_item choices o w) h
+
+-- the start tag of a `li`: a new element below the current node
+pub starts_item : (choices : SinkChoices) {w : World} {p : ℕ} {d : Face} {names : List QualName} {path : List OpenFormat} {under : List ℕ} {base : List Entry} (c : Calm w p d names path under base)
+    (attrs : List AttributeText) → GoesByBody w.mode → has_p_in_button_scope names ≡ false → newest_item list_item_names names ≡ None
+    → Moves choices (start_tag (codes "li") attrs) w (opened choices w p (codes "li") attrs w.mode w.formatting false)
+starts_item choices {w} {p} {d} {names} c attrs m h i =
+    let changes : List Change = SetFramesetNotOk ∷ CloseListItem list_item_names ∷ ClosePElementInButtonScope ∷ InsertElement (codes "li") attrs false ∷ [] in
+    let flagged = calm_flagged choices c in
+    moves_row choices (start (codes "li") attrs) w (opened choices w p (codes "li") attrs w.mode w.formatting false) w.mode changes refl c.ignore_lf
+    (start_by_body m (codes "li") attrs w item_outside.no_structure
+    ∙ item_rule attrs w
+    ∙ ap (λ b. row_if (is_none (newest_item list_item_names (names_of w)) && not b) changes IsDone) (no_p choices c h)
+    ∙ ap (λ ns. row_if (is_none (newest_item list_item_names ns) && true) changes IsDone) (names_are w c.named)
+    ∙ ap (λ o. row_if (is_none o && true) changes IsDone) i) refl
+    (ap (λ v. insert_element choices (codes "li") attrs false (close_p_element_in_button_scope choices v)) (no_item_closed choices flagged i)
+    ∙ ap (insert_element choices (codes "li") attrs false) (none_closed choices flagged h)
+    ∙ insert_is choices flagged (codes "li") attrs)
+
+-- end tags: the current node leaves the stack, and nothing else changes
+module _ (choices : SinkChoices) (w : World) (names : List QualName) (m : GoesByBody w.mode) (i : w.ignore_lf ≡ false) where
+  -- of a list
+  pub ends_list : (name : List ℕ) → IsListName name → names_of w ≡ html_name name ∷ names → Moves choices (end_tag name) w (left choices w names m i)
+  unfolding in_body_end_block pop_until_named
+  ends_list name k e =
+      let changes : List Change = GenerateImpliedEnd ∷ PopUntilNamed name ∷ [] in
+      moves_row choices (end name) w (left choices w names m i) w.mode changes refl i
+      (end_by_body m name w k.outside
+      ∙ k.ends w
+      ∙ ap (λ ns. choose (in_scope (is_html_named name) is_default_scope ns) (row_if (first_passes (is_html_named name) ns) changes IsDone) ignored) e
+      ∙ ap (λ b. choose (cond b true (cond (is_default_scope (html_name name)) false (in_scope (is_html_named name) is_default_scope names))) (row_if b changes IsDone) ignored) k.itself) refl
+      (ap (pop_until_named name) (all_implied_none choices w (ap (first_passes is_implied) e ∙ k.not_implied))
+      ∙ cut_at w names (is_html_named name) (html_name name) e k.itself)
+
+  -- of a `li`
+  item_ends : names_of w ≡ html_name (codes "li") ∷ names → Moves choices (end_tag (codes "li")) w (left choices w names m i)
+  unfolding in_body_end_li is_html_named html_namespace is_implied implied_names pop_until_named
+  item_ends e =
+      let changes : List Change = GenerateImpliedEndExcept (codes "li") ∷ PopUntilNamed (codes "li") ∷ [] in
+      moves_row choices (end (codes "li")) w (left choices w names m i) w.mode changes refl i
+      (end_by_body m (codes "li") w item_outside
+      ∙ item_end_rule w
+      ∙ ap (λ ns. choose (in_scope (is_html_named (codes "li")) is_list_item_scope ns) (row_if (first_passes (is_html_named (codes "li")) ns) changes IsDone) ignored) e) refl
+      (ap (pop_until_named (codes "li")) (implied_none choices (codes "li") w (ap (first_passes (is_implied_but (codes "li"))) e))
+      ∙ cut_at w names (is_html_named (codes "li")) (html_name (codes "li")) e refl)
+
+  pub ends_item : IsForest w.forest → names_of w ≡ html_name (codes "li") ∷ names → Ends choices (codes "li") w w.mode
+  ends_item k e = record { forest = w.forest; same = same_faces w.forest k; moves = item_ends e }

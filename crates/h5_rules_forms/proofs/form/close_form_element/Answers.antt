@@ -1,0 +1,63 @@
+use Rattle.std.proofs.Common.{◌≡◌, Some, ap, false, refl, subst, sym, true, ◌∙◌}
+use Rattle.h5_token.specs.TokenText.{tag_text}
+use Rattle.h5_types.specs.TurnText.{TagTurn}
+use Rattle.h5_types.specs.declared.turns.ProcessResult.TheVariants.{Done}
+use Rattle.h5_tag_sets.specs.TagSets.{is_default_scope}
+use Rattle.h5_stack.specs.Scope.{node_in_scope}
+use Rattle.h5_meaning.specs.AdoptionAgency.{remove_from_stack}
+use Rattle.h5_meaning.specs.Changes.{clear_form}
+use Rattle.h5_meaning.specs.Closing.{generate_implied_end}
+use Rattle.h5_meaning.specs.InBody.{form_in_scope}
+use Rattle.h5_meaning.specs.Rows.{Follows}
+use Rattle.h5_meaning.specs.World.{World, names_of, root}
+use Rattle.h5_state.specs.Steps.{errors_of, world_of}
+use Rattle.h5_rules_forms.proofs.EndLaws.{closes_scoped, closes_unscoped, form_not_root}
+use Rattle.h5_rules_forms.proofs.form.close_form_element.Goals as goal
+
+pub returns-then-not-is_node_in_scope : goal.returns-then-not-is_node_in_scope
+unfolding names_of
+returns-then-not-is_node_in_scope g c =
+    let law = g.S.TreeSink in
+    let w = world_of law c.args.sink.now c.args.state.now in
+    let v = world_of law c.tell_error-then-not-is_node_in_scope.new.sink c.take_form.new.state in
+    let form = law.node c.in-Some.form in
+    let scope : form_in_scope form w ≡ false = ap (λ (x : World). form_in_scope form x) (sym c.take_form.ensures.made.world) ∙ sym c.is_node_in_scope.ensures ∙ c.if-not-is_node_in_scope.true in
+    record {
+      follows = subst (λ r. Follows law.choices law.node r (TagTurn (tag_text c.args.tag)) w v (errors_of law c.args.sink.now) (errors_of law c.tell_error-then-not-is_node_in_scope.new.sink) Done)
+          (sym (closes_unscoped form w (sym c.in-Some.ensures.form) scope))
+          (record {
+            world = c.tell_error-then-not-is_node_in_scope.ensures.told.world ∙ c.take_form.ensures.made.world;
+            ending = refl;
+            quiet = λ h. absurd (cc);
+          });
+      sound = c.tell_error-then-not-is_node_in_scope.ensures.told.sound c.take_form.ensures.made.sound;
+    }
+
+pub remove_from_stack-requires-clause-root : goal.remove_from_stack-requires-clause-root
+unfolding names_of
+remove_from_stack-requires-clause-root g c =
+    let law = g.S.TreeSink in
+    let w = world_of law c.args.sink.now c.args.state.now in
+    let form = law.node c.in-Some.form in
+    let scope : form_in_scope form w ≡ true = ap (λ (x : World). form_in_scope form x) (sym c.take_form.ensures.made.world) ∙ sym c.is_node_in_scope.ensures ∙ c.if-not-is_node_in_scope.false in
+    λ e. form_not_root law.choices w form c.requires.ready.sound c.requires.ready.root (sym c.in-Some.ensures.form) scope
+    (e ∙ ap root (c.expect_to_close.ensures.told.world ∙ c.generate_implied_end.ensures.made.world ∙ ap (generate_implied_end law.choices) c.take_form.ensures.made.world))
+
+pub returns : goal.returns
+unfolding names_of
+returns g c =
+    let law = g.S.TreeSink in
+    let w = world_of law c.args.sink.now c.args.state.now in
+    let v = world_of law c.remove_from_stack.new.sink c.remove_from_stack.new.state in
+    let form = law.node c.in-Some.form in
+    let scope : form_in_scope form w ≡ true = ap (λ (x : World). form_in_scope form x) (sym c.take_form.ensures.made.world) ∙ sym c.is_node_in_scope.ensures ∙ c.if-not-is_node_in_scope.false in
+    record {
+      follows = subst (λ r. Follows law.choices law.node r (TagTurn (tag_text c.args.tag)) w v (errors_of law c.args.sink.now) (errors_of law c.remove_from_stack.new.sink) Done)
+          (sym (closes_scoped form w (sym c.in-Some.ensures.form) scope))
+          (record {
+            world = c.remove_from_stack.ensures.world ∙ ap (remove_from_stack law.choices form) (c.expect_to_close.ensures.told.world ∙ c.generate_implied_end.ensures.made.world ∙ ap (generate_implied_end law.choices) c.take_form.ensures.made.world);
+            ending = refl;
+            quiet = λ h. absurd (cc);
+          });
+      sound = c.remove_from_stack.ensures.sound;
+    }

@@ -1,0 +1,48 @@
+//! What the start tags of elements in forms do last.
+ghost use Rattle.std.specs.Prelude.{◌≡◌, OnOk};
+ghost use Rattle.h5_token.specs.TokenText.{tag_text};
+ghost use Rattle.h5_meaning.specs.Changes.{set_frameset_not_ok};
+ghost use Rattle.h5_meaning.specs.InBody.{in_body_opens};
+ghost use Rattle.h5_meaning.specs.Rows.{apply_all};
+ghost use Rattle.h5_state.specs.Steps.{IsSound, errors_of, world_of};
+
+use h5_formatting::reconstruct_active_formatting_elements;
+use h5_interface::TreeSink;
+use h5_state::{State, insert_element, set_frameset_not_ok};
+use h5_token::Tag;
+use std::alloc::AllocError;
+
+/// An element for a tag is inserted, after formatting elements that were closed were made anew. After an Err those that
+/// were made stay.
+pub(crate) fn open_element<S: TreeSink>(
+    sink: &mut S,
+    state: &mut State<S::Handle>,
+    tag: Tag,
+) -> Result<(), AllocError>
+    requires { IsSound S.TreeSink sink.old state.old }
+    ensures done { OnOk result
+        (world_of S.TreeSink sink.new state.new ≡ apply_all S.choices (in_body_opens (tag_text tag)) (world_of S.TreeSink sink.old state.old)) }
+    ensures quiet { errors_of S.TreeSink sink.new ≡ errors_of S.TreeSink sink.old }
+    ensures sound { IsSound S.TreeSink sink.new state.new }
+{
+    reconstruct_active_formatting_elements(sink, state)?;
+    let attrs = tag.attrs;
+    insert_element(sink, state, tag.name, attrs, tag.had_duplicate_attributes)
+}
+
+/// The same, after which no frameset may come.
+pub(crate) fn open_control<S: TreeSink>(
+    sink: &mut S,
+    state: &mut State<S::Handle>,
+    tag: Tag,
+) -> Result<(), AllocError>
+    requires { IsSound S.TreeSink sink.old state.old }
+    ensures done { OnOk result
+        (world_of S.TreeSink sink.new state.new ≡ set_frameset_not_ok (apply_all S.choices (in_body_opens (tag_text tag)) (world_of S.TreeSink sink.old state.old))) }
+    ensures quiet { errors_of S.TreeSink sink.new ≡ errors_of S.TreeSink sink.old }
+    ensures sound { IsSound S.TreeSink sink.new state.new }
+{
+    open_element(sink, state, tag)?;
+    set_frameset_not_ok(sink, state);
+    Ok(())
+}

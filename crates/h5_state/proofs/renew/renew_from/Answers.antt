@@ -1,0 +1,35 @@
+use Rattle.std.proofs.Common.{ap, arith, length, map, reverse, subst, sym, ◌<◌, ◌≤◌, ◌∙◌, ◌≡◌}
+use Rattle.std.proofs.lemmas.List.{take_all}
+use Rattle.h5_meaning.specs.Sound.{Sound}
+use Rattle.h5_meaning.specs.World.{World, name_in, names_of}
+use Rattle.h5_state.specs.Summaries.{summaries}
+use Rattle.h5_state.specs.View.{names_under, open_node, world}
+use Rattle.h5_state.proofs.AttributeLaws.{open_length}
+use Rattle.h5_state.specs.View.{kept_under}
+use Rattle.h5_state.proofs.renew.renew_from.Goals as goal
+
+pub renew_at-requires-clause-sound : goal.renew_at-requires-clause-sound
+renew_at-requires-clause-sound g c = subst Sound (sym c.up.invariant.world) c.requires.sound
+
+pub renew_at-requires-clause-place : goal.renew_at-requires-clause-place
+renew_at-requires-clause-place g c = subst (λ (w : World). c.up.place < length w.stack) (sym c.up.invariant.world) (omega (arith, c.up-test.true, c.up.invariant.count))
+
+pub up-preserved : goal.up-preserved
+up-preserved g c = record {
+  count = c.up.invariant.count;
+  place = omega (arith, c.up-test.true);
+  world = c.renew_at.ensures.world ∙ c.up.invariant.world;
+  kept = c.renew_at.ensures.kept;
+}
+
+pub returns-clause-sound : goal.returns-clause-sound
+unfolding world names_of names_under kept_under
+returns-clause-sound g c =
+    let node = g.S.TreeSink.node in
+    let f = (g.S.TreeSink.sees c.args.sink.now).forest in
+    let items = c.up.state.open_elems.items in
+    let count : length items ≤ c.up.place = omega (arith, c.up-test.false, c.up.invariant.count, ap (λ (w : World). length w.stack) c.up.invariant.world, open_length (open_node node) items) in
+    record {
+      sound = subst Sound (sym c.up.invariant.world) c.requires.sound;
+      kept = subst (λ xs. reverse (map (λ element. element.summary) xs) ≡ summaries (map (name_in f) (reverse (map (open_node node) xs)))) (take_all c.up.place items count) c.up.invariant.kept;
+    }

@@ -1,0 +1,67 @@
+//! An open element is looked for in the stack by its handle.
+ghost use Rattle.std.specs.Prelude.{◌≡◌, ◌<◌, ◌+◌, ◌∷◌, MatchOption, is_some, length};
+ghost use Rattle.h5_tag_sets.specs.TagSets.{is_default_scope};
+ghost use Rattle.h5_stack.specs.Order.{is_in};
+ghost use Rattle.h5_stack.specs.Scope.{node_in_scope};
+ghost use Rattle.h5_meaning.specs.World.{names_of};
+ghost use Rattle.h5_state.specs.Places.{IsOpenAt};
+ghost use Rattle.h5_state.specs.Steps.{IsSound, world_of};
+ghost use Rattle.h5_state.specs.View.{stack_under};
+
+use super::open_elems::{open_at, open_count};
+use super::state::State;
+use h5_interface::TreeSink;
+use h5_tag_sets::default_scope;
+
+/// The handle of the open element at a place.
+#[tactic(auto, unfolding(crate::specs::View::world, crate::specs::View::stack_under))]
+pub fn handle_at<'a, S: TreeSink>(
+    sink: &S,
+    state: &'a State<S::Handle>,
+    place: usize,
+) -> &'a S::Handle
+    requires { place < length (world_of S.TreeSink sink.now state.now).stack }
+    ensures stack { stack_under S.node state.now (place + 1) ≡ S.node result.now ∷ stack_under S.node state.now place }
+    ensures count { length (stack_under S.node state.now place) ≡ place }
+{
+    &state.open_elems[place].handle
+}
+
+/// Where an element is open, counted from the root; the walk begins at the current node.
+pub fn find_open<S: TreeSink>(
+    sink: &S,
+    state: &State<S::Handle>,
+    handle: &S::Handle,
+) -> Option<usize>
+    ensures found { is_some result ≡ is_in (S.node handle.now) (world_of S.TreeSink sink.now state.now).stack }
+    ensures place { MatchOption result (Unit {0}) (λ place. IsOpenAt (S.node handle.now) place (world_of S.TreeSink sink.now state.now)) }
+    ensures inside { MatchOption result (Unit {0}) (λ place. place < length (world_of S.TreeSink sink.now state.now).stack) }
+{
+    let mut place = open_count(sink, state);
+    'down: while place > 0 {
+        place -= 1;
+        if sink.same_node(handle_at(sink, state, place), handle) {
+            return Some(place);
+        }
+    }
+    None
+}
+
+/// Whether this element is open and in scope.
+pub fn is_node_in_scope<S: TreeSink>(sink: &S, state: &State<S::Handle>, handle: &S::Handle) -> bool
+    requires { IsSound S.TreeSink sink.now state.now }
+    ensures { result ≡ node_in_scope (S.node handle.now) is_default_scope (names_of (world_of S.TreeSink sink.now state.now)) (world_of S.TreeSink sink.now state.now).stack }
+{
+    let mut place = open_count(sink, state);
+    'down: while place > 0 {
+        place -= 1;
+        let element = open_at(sink, state, place);
+        if sink.same_node(handle, &element.handle) {
+            return true;
+        }
+        if default_scope(sink.elem_name(&element.handle)) {
+            return false;
+        }
+    }
+    false
+}

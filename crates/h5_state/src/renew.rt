@@ -1,0 +1,54 @@
+//! What is kept beside open elements is made anew, where the elements below them changed.
+ghost use Rattle.std.specs.Prelude.{◌≡◌, ◌<◌, ◌≤◌, ◌+◌, length};
+ghost use Rattle.h5_meaning.specs.Sound.{Sound};
+ghost use Rattle.h5_state.specs.Steps.{IsSound, world_of};
+ghost use Rattle.h5_state.specs.Summaries.{all_open, summaries};
+ghost use Rattle.h5_state.specs.View.{kept_under, names_under};
+
+use super::open_element::{AllOpen, Summary};
+use super::open_elems::open_count;
+use super::state::State;
+use h5_interface::TreeSink;
+
+/// What is known of the oldest open elements, so many of them.
+#[tactic(auto, unfolding(crate::specs::View::world, crate::specs::View::names_under))]
+pub fn all_under<S: TreeSink>(sink: &S, state: &State<S::Handle>, count: usize) -> AllOpen
+    requires count { count ≤ length (world_of S.TreeSink sink.now state.now).stack }
+    requires kept { kept_under state.now count ≡ summaries (names_under S.sees S.node sink.now state.now count) }
+    ensures { result ≡ all_open (names_under S.sees S.node sink.now state.now count) }
+{
+    if count == 0 {
+        AllOpen::none()
+    } else {
+        state.open_elems[count - 1].summary.all
+    }
+}
+
+// The summary of the open element at a place is made anew, where those of all older ones are right.
+fn renew_at<S: TreeSink>(sink: &S, state: &mut State<S::Handle>, place: usize)
+    requires sound { Sound (world_of S.TreeSink sink.now state.old) }
+    requires place { place < length (world_of S.TreeSink sink.now state.old).stack }
+    requires kept { kept_under state.old place ≡ summaries (names_under S.sees S.node sink.now state.old place) }
+    ensures world { world_of S.TreeSink sink.now state.new ≡ world_of S.TreeSink sink.now state.old }
+    ensures kept { kept_under state.new (place + 1) ≡ summaries (names_under S.sees S.node sink.now state.new (place + 1)) }
+{
+    let all = all_under(sink, state, place);
+    let summary = Summary::new(sink.elem_name(&state.open_elems[place].handle), all);
+    state.open_elems[place].summary = summary;
+}
+
+/// The summaries of the open elements from a place on are made anew, where those of all older ones are right.
+pub fn renew_from<S: TreeSink>(sink: &S, state: &mut State<S::Handle>, first: usize)
+    requires sound { Sound (world_of S.TreeSink sink.now state.old) }
+    requires first { first ≤ length (world_of S.TreeSink sink.now state.old).stack }
+    requires kept { kept_under state.old first ≡ summaries (names_under S.sees S.node sink.now state.old first) }
+    ensures world { world_of S.TreeSink sink.now state.new ≡ world_of S.TreeSink sink.now state.old }
+    ensures sound { IsSound S.TreeSink sink.now state.new }
+{
+    let count = open_count(sink, state);
+    let mut place = first;
+    'up: while place < count {
+        renew_at(sink, state, place);
+        place += 1;
+    }
+}
