@@ -123,7 +123,12 @@ def nested_list(n, depth):
     parts = [(f"<ul class=depth{depth}>\n", f'<ul class="depth{depth}">\n')]
     for k in range(2):
         parts += item(n, depth * 2 + k)
-    parts += [same("<li>below this:\n"), *nested_list(n, depth - 1), ("</li/>\n", "</li>\n")]
+    parts += [same("<li>below this:\n")]
+    if depth == 1:
+        # An item right in an item closes it, and the end tag behind has nothing to close.
+        parts += [("", "</li>"), *nested_list(n, 0), ("</li/>\n", "\n")]
+    else:
+        parts += [*nested_list(n, depth - 1), ("</li/>\n", "</li>\n")]
     return parts + [("</UL >\n", "</ul>\n")]
 
 
