@@ -3,7 +3,7 @@
 
 Each part of the page stands here twice: as it is written, and as its HTML is to be. The HTML is thought out by
 hand, from what the reader and the tree builder are to do; nothing here reads the page. Each element that is
-opened is closed, so that the tree is meant to stay as it is once tables, forms and formatting have their rules.
+opened is closed, or the rules close it.
 """
 
 import os
@@ -228,6 +228,53 @@ def quotation(n):
     ]
 
 
+def raw_texts(n):
+    """Texts in which no tags stand, and of which some know no references either."""
+    return [
+        (f"<style media=all>\np > b {{ width: {n}px }} /* &lt; <p> */\n</style>\n", f'<style media="all">\np > b {{ width: {n}px }} /* &lt; <p> */\n</style>\n'),
+        (f"<script>if (a < {n} && b) s = '<b>\0</b></scrip>';</SCRIPT\n>\n", f"<script>if (a < {n} && b) s = '<b>\ufffd</b></scrip>';</script>\n"),
+        (
+            f"<p><textarea name=note>\n{n} &lt; <b> & &quot;a&quot;\n</textarea >",
+            f'<p><textarea name="note">{n} &lt; &lt;b&gt; &amp; "a"\n</textarea>',
+        ),
+        (f"<iframe src=/{n}><p>&amp;</iframe>", f'<iframe src="/{n}"><p>&amp;</iframe>'),
+        same("<noembed><b>&lt;</noembed>"),
+        same("<noscript><i>&nbsp;</noscript>"),
+        (f"<xmp>\n{n} &lt; <b></xmp>", f"</p><xmp>\n{n} &lt; <b></xmp>"),
+        (f"<listing>\n\n{n}</listing>\n", f"<listing>\n{n}</listing>\n"),
+        (f"<pre>\n<b>{n}</b>\n</pre><pre> \n</pre>\n", f"<pre><b>{n}</b>\n</pre><pre> \n</pre>\n"),
+    ]
+
+
+def choices(n):
+    name = pick(NAMES, n)
+    return [
+        (
+            f"<form><p><select name=s{n}><option>{name}<option selected>b<optgroup label=g><option>c<hr><option>d</select>",
+            f'<form><p><select name="s{n}"><option>{name}</option><option selected="">b</option>'
+            '<optgroup label="g"><option>c</option></optgroup><hr><option>d</option></select>',
+        ),
+        ("<input type=hidden name=h><image src=a>", '<input type="hidden" name="h"><img src="a">'),
+        (
+            "<button>a<p>b</button><button>c<button>d</button></p>",
+            "<button>a<p>b</p></button><button>c</button><button>d</button></p>",
+        ),
+        ("<form></form>\n", "</form>\n"),
+    ]
+
+
+def embedded(n):
+    return [
+        (
+            f"<p><ruby>灯台<rp>(<rt>tōdai<rp>)</ruby> <b>x<applet code={n}><i>y</applet>z</b>",
+            f'<p><ruby>灯台<rp>(</rp><rt>tōdai</rt><rp>)</rp></ruby> <b>x<applet code="{n}"><i>y</i></applet>z</b>',
+        ),
+        (f"<object data=x><param name=a>{n}</object>", f'<object data="x"><param name="a">{n}</object>'),
+        ("<dl><dt>a<dd>b<dt>c</dl>", "</p><dl><dt>a</dt><dd>b</dd><dt>c</dt></dl>"),
+        ("<ul><li>a<div><li>b</ul>\n", "<ul><li>a<div></div></li><li>b</li></ul>\n"),
+    ]
+
+
 def story(n):
     return [same(f"<p>{prose(n + 5, 4 + n % 4)}</p>\n")]
 
@@ -240,6 +287,7 @@ def section(n):
     parts = heading(n) + references(n) + story(n) + links(n)
     parts += pick([images, table, quotation], n)(n) + lists(n) + comments(n) + marks(n)
     parts += pick([odd_tags, form], n)(n) + story(n + 1) + pick([table, images], n)(n)
+    parts += pick([raw_texts, choices, embedded], n)(n)
     return with_line_ends(parts + [("</Section>\n", "</section>\n")], pick(LINE_ENDS, n))
 
 
@@ -248,7 +296,9 @@ def front():
         ("\ufeff<!-- Lights - a page made by hand -->\r\n", "<!-- Lights - a page made by hand -->"),
         ("<!doctype HTML>\r\n", "<!DOCTYPE html>"),
         (" <html LANG=en>\n ", '<html lang="en">'),
-        ("<head id=h>\r<!-- no title yet -->\r\n</head >\r", '<head id="h">\n<!-- no title yet -->\n</head>\n'),
+        ("<head id=h>\r<title>Lights &amp; <b>towers</b>\r\n</title>", '<head id="h">\n<title>Lights &amp; &lt;b&gt;towers&lt;/b&gt;\n</title>'),
+        ("<style>b > i {}</style><noscript>no <b></noscript>\r\n", "<style>b > i {}</style><noscript>no <b></noscript>\n"),
+        ("<base href=/><bgsound></head >\r<link rel=home href=/>\r\n", '<base href="/"><bgsound><link rel="home" href="/"></head>\n\n'),
         ("<body CLASS='page wide'>\n<h1>Lights</h1>\n", '<body class="page wide">\n<h1>Lights</h1>\n'),
     ]
 

@@ -8,4 +8,5 @@ mod ChildViews
 mod MakeLaws
 mod MoveLaws
 mod NodeWrites
+mod PlaceLaws
 mod WalkLaws

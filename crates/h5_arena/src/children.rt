@@ -29,16 +29,20 @@ fn is_text(child: &Child) -> bool
     }
 }
 
-// Where a node stands among children.
+// Where a node stands among children. It is looked for from the last on, since what is put before a sibling is mostly
+// put near the end.
 pub(crate) fn place_of(children: &[Child], index: usize) -> usize
     requires { 0 < count index (nodes (child_views children.now)) }
     ensures bound { result < length children.now }
     ensures found { slice_get (child_views children.now) result ≡ Some (ChildNode index) }
 {
-    for i in 0..children.len() {
-        if is_node(&children[i], index) {
-            return i;
+    let mut behind = children.len();
+    'places: while behind > 0 {
+        let at = behind - 1;
+        if is_node(&children[at], index) {
+            return at;
         }
+        behind = at;
     }
     unreachable!()
 }

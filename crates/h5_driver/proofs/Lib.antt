@@ -1,3 +1,4 @@
 pub mod AnswerLaws
+pub mod RawLaws
 pub mod ReadingLaws
 pub mod StreamLaws

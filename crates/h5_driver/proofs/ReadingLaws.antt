@@ -1,20 +1,20 @@
 -- Readings over a builder that works.
-use Rattle.std.proofs.Common.{◌≡◌, ◌++◌, ℕ, List, [], Option, Some, None, Result, Ok, Err, IfOk, OnErr, inl, inr, refl, ap, sym, subst, ◌∙◌, append_assoc}
+use Rattle.std.proofs.Common.{◌≡◌, ◌++◌, ℕ, true, false, List, [], Option, Some, None, Result, Ok, Err, IfOk, OnErr, inl, inr, refl, ap, sym, subst, ◌∙◌, append_assoc}
 use Rattle.std.proofs.lemmas.List.{append-nil}
-use Rattle.h5_token.specs.Reply.{Continues, Refuses, Reply}
+use Rattle.h5_token.specs.Reply.{Refuses, Reply}
 use Rattle.h5_token.specs.TokenText.{TokenText, Characters, EndOfFile}
 use Rattle.h5_token.specs.declared.fault.BuildFault.{BuildFault}
 use Rattle.h5_token.specs.declared.fault.BuildFault.TheVariants.{AfterEnd, Failed, Memory, NotInText}
 use Rattle.h5_interface.specs.Seen.{Seen}
 use Rattle.h5_interface.specs.SinkChoices.{SinkChoices}
-use Rattle.h5_meaning.specs.Run.{View, after_all, after_token, refusal, run, take_or_refuse}
+use Rattle.h5_meaning.specs.Run.{View, after_all, after_token, refuses_in, reply_to, run}
 use Rattle.h5_meaning.proofs.JoinLaws.{view_joins}
 use Rattle.h5_meaning.proofs.ListedLaws.{Listed}
-use Rattle.h5_meaning.proofs.ListedRunLaws.{listed_after, listed_step}
-use Rattle.h5_meaning.proofs.RunLaws.{token_cut}
+use Rattle.h5_meaning.proofs.ListedRunLaws.{listed_after}
+use Rattle.h5_meaning.proofs.RunLaws.{takes_text, token_cut}
 use Rattle.h5_tokenizer.specs.End.{Closes, ClosesWith, Finishes, Takes, refuses, settle}
 use Rattle.h5_tokenizer.specs.Front.{Place}
-use Rattle.h5_tokenizer.specs.Read.{Read, Step, marked, nothing_read, read_on, switch_step, text_step, token_step, unmarked}
+use Rattle.h5_tokenizer.specs.Read.{Read, Step, behind, marked, next_place, nothing_read, read_on, started, switch_step, text_step, token_step, unmarked}
 use Rattle.h5_tokenizer.specs.Outcome.{Feeds, ReadsAll, RefusedAt, StopsAt}
 use Rattle.h5_tokenizer.specs.ReaderText.{ReaderText}
 use Rattle.h5_tokenizer.specs.Lines.{line_behind}
@@ -22,23 +22,32 @@ use Rattle.h5_tokenizer.specs.Whole.{Readings, after_closing, closing, more_read
 use Rattle.h5_tokenizer.proofs.KeptLaws.{readings_agree}
 use Rattle.h5_tokenizer.proofs.WholeLaws.{end_ends, readings_go_on}
 use Rattle.h5_driver.specs.Parsing.{Advances, IsWorking, Parses, Reads, TakesAll, after, ended, foreign, replies}
-use Rattle.h5_driver.proofs.AnswerLaws.{continues}
+use Rattle.h5_driver.proofs.AnswerLaws.{comes, token_works, works_at}
+use Rattle.h5_driver.proofs.RawLaws.{raw_rest, raw_stays, raw_token}
 
-works_after : (choices : SinkChoices) (t : TokenText) (v : View) → IsWorking v → IsWorking (after_token choices t v)
-works_after choices t v w = at (refusal v t)
-  where
-    at : (o : Option BuildFault) → IsWorking (take_or_refuse choices t o v)
-    at None = record { unfailed = w.unfailed; unended = w.unended; listed = listed_step choices t v.world w.listed }
-    at (Some f) = w
+step_works : (choices : SinkChoices) {p : Place} {m : View} {xs : List ℕ} {ts : List TokenText} {reply : Reply} {q : Place} {n : View} {ys : List ℕ} → Step (replies choices) (after choices) foreign p m xs ts reply q n ys → IsWorking p m → IsWorking q n × (refuses reply ≡ false)
+step_works choices {p = p} {m = m} (marked e f) w = (works_at p (started p) m refl w, refl)
+step_works choices {p = p} {m = m} (unmarked e f) w = (works_at p (started p) m refl w, refl)
+step_works choices {p = p} {m = m} {xs = xs} {ys = rest} (token_step token e f) w =
+    let k = token_works choices p token m w (comes m.world.mode token (λ i. raw_token p.mode p.last (foreign m) xs rest token f (w.text i))) in
+    let q = next_place p token (reply_to choices token m) in
+    (works_at q (behind q xs rest) (after_token choices token m) refl k.works, k.takes)
+step_works choices {p = p} {m = m} {xs = xs} {ys = rest} (switch_step mode e f) w = (
+  record {
+    unfailed = w.unfailed;
+    unended = w.unended;
+    listed = w.listed;
+    saved = w.saved;
+    kinds = w.kinds;
+    text = λ i. absurd (raw_stays p.mode p.last (foreign m) xs rest mode f (w.text i));
+  },
+  refl,
+)
+step_works choices {p = p} {m = m} {xs = xs} {ys = ys} (text_step text e l b) w =
+    let k = token_works choices p (Characters text) m w (takes_text m.world.mode text) in
+    (works_at p (behind p xs ys) (after_token choices (Characters text) m) refl k.works, k.takes)
 
-step_works : (choices : SinkChoices) {p : Place} {m : View} {xs : List ℕ} {ts : List TokenText} {reply : Reply} {q : Place} {n : View} {ys : List ℕ} → Step (replies choices) (after choices) foreign p m xs ts reply q n ys → IsWorking m → IsWorking n × (reply ≡ Continues)
-step_works choices (marked e f) w = (w, refl)
-step_works choices (unmarked e f) w = (w, refl)
-step_works choices {m = m} (token_step token e f) w = (works_after choices token m w, continues choices token m w.unfailed w.unended)
-step_works choices (switch_step mode e f) w = (w, refl)
-step_works choices {m = m} (text_step text e l b) w = (works_after choices (Characters text) m w, continues choices (Characters text) m w.unfailed w.unended)
-
-pub read_works : (choices : SinkChoices) {p : Place} {m : View} {xs : List ℕ} {ts : List TokenText} {reply : Reply} {q : Place} {n : View} {ys : List ℕ} → Read (replies choices) (after choices) foreign p m xs ts reply q n ys → IsWorking m → IsWorking n × (reply ≡ Continues)
+pub read_works : (choices : SinkChoices) {p : Place} {m : View} {xs : List ℕ} {ts : List TokenText} {reply : Reply} {q : Place} {n : View} {ys : List ℕ} → Read (replies choices) (after choices) foreign p m xs ts reply q n ys → IsWorking p m → IsWorking q n × (refuses reply ≡ false)
 read_works choices nothing_read w = (w, refl)
 read_works choices (read_on r g s) w = step_works choices s (read_works choices r w).0
 
@@ -75,59 +84,67 @@ reads_run choices p m xs ts n r =
     ∙ ap (ended choices) (same_run choices rest r.place.line (line_behind r.place.line r.rest []) r.meaning ∙ ap (after_all choices last) (readings_run choices r.readings) ∙ sym (view_joins choices r.handed last m) ∙ ap (λ x. after_all choices x m) (sym r.tokens))
 
 -- however a text is read by a builder that works, it means the same in the end
-same_reads : (choices : SinkChoices) {p : Place} {m : View} {xs : List ℕ} {ts us : List TokenText} {n o : View} → IsWorking m → Reads choices p m xs ts n → Reads choices p m xs us o → n ≡ o
+same_reads : (choices : SinkChoices) {p : Place} {m : View} {xs : List ℕ} {ts us : List TokenText} {n o : View} → IsWorking p m → Reads choices p m xs ts n → Reads choices p m xs us o → n ≡ o
 same_reads choices w a b =
     readings_agree (replies choices) (after choices) foreign (λ v. Listed v.world) (λ v t line h. listed_after choices t v h) (ended choices) (λ v t k l. refl) (λ v x y xs ys j k l h. token_cut choices x xs y ys v h) w.listed a b
 
 -- what `feed` did after readings
-module _ (choices : SinkChoices) (p0 : Place) (m0 : View) (xs0 : List ℕ) (p : Place) (m : View) (xs : List ℕ) (a : Advances choices p0 m0 xs0 p m xs) (w : IsWorking m) where
-  pub all_read : (new : ReaderText) (n : View) (queue : List ℕ) → ReadsAll (replies choices) (after choices) foreign p m xs new n queue → TakesAll choices p0 m0 xs0 new.place n new.held × IsWorking n
+module _ (choices : SinkChoices) (p0 : Place) (m0 : View) (xs0 : List ℕ) (p : Place) (m : View) (xs : List ℕ) (a : Advances choices p0 m0 xs0 p m xs) (w : IsWorking p m) where
+  pub all_read : (new : ReaderText) (n : View) (queue : List ℕ) → ReadsAll (replies choices) (after choices) foreign p m xs new n queue → TakesAll choices p0 m0 xs0 new.place n new.held × IsWorking new.place n
   all_read new n queue r =
       let k = read_works choices r.reads.read w in (
         record {
-          advances = record { tokens = a.tokens ++ r.reads.tokens; readings = more_reading a.readings r.reads.read (ap refuses k.1) };
+          advances = record { tokens = a.tokens ++ r.reads.tokens; readings = more_reading a.readings r.reads.read k.1 };
           undecided = r.undecided;
         },
         k.0,
       )
 
-  pub stopped : (reply : Reply) (new : ReaderText) (n : View) (queue : List ℕ) → StopsAt (replies choices) (after choices) foreign p m xs reply new n queue → Advances choices p0 m0 xs0 new.place n (new.held ++ queue) × IsWorking n
+  pub stopped : (reply : Reply) (new : ReaderText) (n : View) (queue : List ℕ) → StopsAt (replies choices) (after choices) foreign p m xs reply new n queue → Advances choices p0 m0 xs0 new.place n (new.held ++ queue) × IsWorking new.place n
   stopped reply new n queue s =
       let k = read_works choices s.reads.read w in (
         record {
           tokens = a.tokens ++ s.reads.tokens;
-          readings = subst (λ h. Readings (replies choices) (after choices) foreign p0 m0 xs0 (a.tokens ++ s.reads.tokens) new.place n (h ++ queue)) (sym s.nothing_held) (more_reading a.readings s.reads.read (ap refuses k.1));
+          readings = subst (λ h. Readings (replies choices) (after choices) foreign p0 m0 xs0 (a.tokens ++ s.reads.tokens) new.place n (h ++ queue)) (sym s.nothing_held) (more_reading a.readings s.reads.read k.1);
         },
         k.0,
       )
 
 -- a builder that works refuses nothing
-pub never_refused : (choices : SinkChoices) (p : Place) (m : View) (xs : List ℕ) (fault : BuildFault) (new : ReaderText) (n : View) → IsWorking m → ¬ (RefusedAt (replies choices) (after choices) foreign p m xs fault new n)
-never_refused choices p m xs fault new n w r = let e : Refuses fault ≡ Continues = (read_works choices r.reads.read w).1 in cc
+pub never_refused : (choices : SinkChoices) (p : Place) (m : View) (xs : List ℕ) (fault : BuildFault) (new : ReaderText) (n : View) → IsWorking p m → ¬ (RefusedAt (replies choices) (after choices) foreign p m xs fault new n)
+never_refused choices p m xs fault new n w r = let e : true ≡ false = (read_works choices r.reads.read w).1 in cc
 
-pub fault_is_memory : {H : Type 0} (choices : SinkChoices) (node : H → ℕ) (p : Place) (m : View) (xs : List ℕ) (new : ReaderText) (n : View) (queue : List ℕ) (f : BuildFault) → IsWorking m → Feeds (replies choices) (after choices) foreign node p m xs new n queue (Err f) → f ≡ Memory
+pub fault_is_memory : {H : Type 0} (choices : SinkChoices) (node : H → ℕ) (p : Place) (m : View) (xs : List ℕ) (new : ReaderText) (n : View) (queue : List ℕ) (f : BuildFault) → IsWorking p m → Feeds (replies choices) (after choices) foreign node p m xs new n queue (Err f) → f ≡ Memory
 fault_is_memory choices node p m xs new n queue Memory w h = refl
 fault_is_memory choices node p m xs new n queue AfterEnd w h = absurd (never_refused choices p m xs AfterEnd new n w h)
 fault_is_memory choices node p m xs new n queue NotInText w h = absurd (never_refused choices p m xs NotInText new n w h)
 fault_is_memory choices node p m xs new n queue Failed w h = absurd (never_refused choices p m xs Failed new n w h)
 
 -- the end of a builder that works: a fault is want of memory
-finishes_memory : (choices : SinkChoices) (m n : View) (line : ℕ) (f : BuildFault) → IsWorking m → Finishes (replies choices) (after choices) (ended choices) m line n (Err f) → f ≡ Memory
-finishes_memory choices m n line Memory w h = refl
-finishes_memory choices m n line AfterEnd w h = let e : Refuses AfterEnd ≡ Continues = sym h.0 ∙ continues choices EndOfFile m w.unfailed w.unended in absurd (cc)
-finishes_memory choices m n line NotInText w h = let e : Refuses NotInText ≡ Continues = sym h.0 ∙ continues choices EndOfFile m w.unfailed w.unended in absurd (cc)
-finishes_memory choices m n line Failed w h = let e : Refuses Failed ≡ Continues = sym h.0 ∙ continues choices EndOfFile m w.unfailed w.unended in absurd (cc)
+no_refusal : (r : Reply) (f : BuildFault) → refuses r ≡ false → r ≡ Refuses f → ⊥
+no_refusal r f h e = let i : refuses r ≡ true = ap refuses e in cc
 
-takes_memory : (choices : SinkChoices) (m n : View) (t : TokenText) (line : ℕ) (f : BuildFault) → IsWorking m → Takes (replies choices) (after choices) (ended choices) m t line n (Err f) → f ≡ Memory
+takes_memory : (choices : SinkChoices) (m n : View) (t : TokenText) (line : ℕ) (f : BuildFault) → refuses (reply_to choices t m) ≡ false → Takes (replies choices) (after choices) (ended choices) m t line n (Err f) → f ≡ Memory
 takes_memory choices m n t line Memory w h = refl
-takes_memory choices m n t line AfterEnd w h = let e : Refuses AfterEnd ≡ Continues = sym h.0 ∙ continues choices t m w.unfailed w.unended in absurd (cc)
-takes_memory choices m n t line NotInText w h = let e : Refuses NotInText ≡ Continues = sym h.0 ∙ continues choices t m w.unfailed w.unended in absurd (cc)
-takes_memory choices m n t line Failed w h = let e : Refuses Failed ≡ Continues = sym h.0 ∙ continues choices t m w.unfailed w.unended in absurd (cc)
+takes_memory choices m n t line AfterEnd w h = absurd (no_refusal (reply_to choices t m) AfterEnd w h.0)
+takes_memory choices m n t line NotInText w h = absurd (no_refusal (reply_to choices t m) NotInText w h.0)
+takes_memory choices m n t line Failed w h = absurd (no_refusal (reply_to choices t m) Failed w h.0)
 
-closes_memory : (choices : SinkChoices) (m n : View) (o : Option TokenText) (line last : ℕ) (f : BuildFault) → IsWorking m → ClosesWith (replies choices) (after choices) (ended choices) m o line last n (Err f) → f ≡ Memory
-closes_memory choices m n None line last f w h = finishes_memory choices m n last f w h
-closes_memory choices m n (Some t) line last f w (inl h) = takes_memory choices m n t line f w h
-closes_memory choices m n (Some t) line last f w (inr h) = finishes_memory choices (after_token choices t m) n last f (works_after choices t m w) h.1
+finishes_memory : (choices : SinkChoices) (p : Place) (m n : View) (line : ℕ) (f : BuildFault) → IsWorking p m → Finishes (replies choices) (after choices) (ended choices) m line n (Err f) → f ≡ Memory
+finishes_memory choices p m n line f w h = at f (token_works choices p EndOfFile m w (comes m.world.mode EndOfFile (λ i. refl))).takes h
+  where
+    at : (x : BuildFault) → refuses (reply_to choices EndOfFile m) ≡ false → Finishes (replies choices) (after choices) (ended choices) m line n (Err x) → x ≡ Memory
+    at Memory k i = refl
+    at AfterEnd k i = absurd (no_refusal (reply_to choices EndOfFile m) AfterEnd k i.0)
+    at NotInText k i = absurd (no_refusal (reply_to choices EndOfFile m) NotInText k i.0)
+    at Failed k i = absurd (no_refusal (reply_to choices EndOfFile m) Failed k i.0)
+
+closes_memory : (choices : SinkChoices) (p : Place) (m n : View) (o : Option TokenText) (line last : ℕ) (f : BuildFault) → IsWorking p m → ((t : TokenText) → o ≡ Some t → refuses_in m.world.mode t ≡ false)
+    → ClosesWith (replies choices) (after choices) (ended choices) m o line last n (Err f) → f ≡ Memory
+closes_memory choices p m n None line last f w c h = finishes_memory choices p m n last f w h
+closes_memory choices p m n (Some t) line last f w c (inl h) = takes_memory choices m n t line f (token_works choices p t m w (c t refl)).takes h
+closes_memory choices p m n (Some t) line last f w c (inr h) =
+    finishes_memory choices (next_place p t (reply_to choices t m)) (after_token choices t m) n last f (token_works choices p t m w (c t refl)).works h.1
 
 -- one list of readings, and then another
 chain : (choices : SinkChoices) {p q r : Place} {m n o : View} {xs ys zs : List ℕ} {ts us : List TokenText} → Readings (replies choices) (after choices) foreign p m xs ts q n ys → Readings (replies choices) (after choices) foreign q n ys us r o zs → Readings (replies choices) (after choices) foreign p m xs (ts ++ us) r o zs
@@ -143,7 +160,7 @@ piece_joins choices p0 p q m0 m n xs ys text zs a b = record {
 }
 
 -- a text that is read to its end, and what the sink tells then
-parses_of : (choices : SinkChoices) (p : Place) (m o : View) (xs : List ℕ) (ts : List TokenText) (told : Seen) → IsWorking m → Reads choices p m xs ts o → told.forest ≡ o.world.forest → told.quirks ≡ o.world.seen_quirks → Parses choices p m xs told
+parses_of : (choices : SinkChoices) (p : Place) (m o : View) (xs : List ℕ) (ts : List TokenText) (told : Seen) → IsWorking p m → Reads choices p m xs ts o → told.forest ≡ o.world.forest → told.quirks ≡ o.world.seen_quirks → Parses choices p m xs told
 parses_of choices p m o xs ts told w reads e f = record {
   tokens = ts;
   reads = subst (Reads choices p m xs ts) (reads_run choices p m xs ts o reads) reads;
@@ -152,7 +169,7 @@ parses_of choices p m o xs ts told w reads e f = record {
       (reads_run choices p m xs us v r, (e ∙ ap (λ (x : View). x.world.forest) same, f ∙ ap (λ (x : View). x.world.seen_quirks) same));
 }
 
-pub parsed : (choices : SinkChoices) (p q : Place) (m n o : View) (xs held : List ℕ) (told : Seen) → IsWorking m → TakesAll choices p m xs q n held
+pub parsed : (choices : SinkChoices) (p q : Place) (m n o : View) (xs held : List ℕ) (told : Seen) → IsWorking p m → TakesAll choices p m xs q n held
     → Closes (replies choices) (after choices) foreign (ended choices) q n held o (Ok tt)
     → told.forest ≡ o.world.forest → told.quirks ≡ o.world.seen_quirks → Parses choices p m xs told
 parsed choices p q m n o xs held told w t c e f =
@@ -172,13 +189,13 @@ reads_behind choices p q m n o xs ys ts a r = record {
   closed = r.closed;
 }
 
-pub parses_behind : (choices : SinkChoices) (p q : Place) (m n : View) (xs ys : List ℕ) (told : Seen) → IsWorking m → Advances choices p m xs q n ys → Parses choices q n ys told → Parses choices p m xs told
+pub parses_behind : (choices : SinkChoices) (p q : Place) (m n : View) (xs ys : List ℕ) (told : Seen) → IsWorking p m → Advances choices p m xs q n ys → Parses choices q n ys told → Parses choices p m xs told
 parses_behind choices p q m n xs ys told w a r =
     let o = ended choices (after_all choices r.tokens n) in
     let own = r.any r.tokens o r.reads in
     parses_of choices p m o xs (a.tokens ++ r.tokens) told w (reads_behind choices p q m n o xs ys r.tokens a r.reads) own.1.0 own.1.1
 
-pub told_behind : {O : Type 0} (choices : SinkChoices) (told : O → Seen) (p q : Place) (m n : View) (xs ys : List ℕ) → IsWorking m → Advances choices p m xs q n ys → (result : Result O BuildFault) → IfOk result (λ o. Parses choices q n ys (told o)) → IfOk result (λ o. Parses choices p m xs (told o))
+pub told_behind : {O : Type 0} (choices : SinkChoices) (told : O → Seen) (p q : Place) (m n : View) (xs ys : List ℕ) → IsWorking p m → Advances choices p m xs q n ys → (result : Result O BuildFault) → IfOk result (λ o. Parses choices q n ys (told o)) → IfOk result (λ o. Parses choices p m xs (told o))
 told_behind choices told p q m n xs ys w a (Ok o) r = parses_behind choices p q m n xs ys (told o) w a r
 told_behind choices told p q m n xs ys w a (Err f) r = r
 
@@ -191,6 +208,7 @@ piece_taken choices p0 p q m0 m n xs held waiting text left queue a t e =
 pub nothing_read_yet : (choices : SinkChoices) (p : Place) (m : View) (xs : List ℕ) → Advances choices p m xs p m xs
 nothing_read_yet choices p m xs = record { tokens = []; readings = no_reading }
 
-pub ends_memory : (choices : SinkChoices) (p : Place) (m n : View) (rest : List ℕ) (result : Result (Unit {0}) BuildFault) → IsWorking m → Closes (replies choices) (after choices) foreign (ended choices) p m rest n result → OnErr result (result ≡ Err Memory)
+pub ends_memory : (choices : SinkChoices) (p : Place) (m n : View) (rest : List ℕ) (result : Result (Unit {0}) BuildFault) → IsWorking p m → Closes (replies choices) (after choices) foreign (ended choices) p m rest n result → OnErr result (result ≡ Err Memory)
 ends_memory choices p m n rest (Ok done) w c = tt
-ends_memory choices p m n rest (Err f) w c = ap Err (closes_memory choices m n (settle p.mode p.last (foreign m) rest) p.line (line_behind p.line rest []) f w c)
+ends_memory choices p m n rest (Err f) w c =
+    ap Err (closes_memory choices p m n (settle p.mode p.last (foreign m) rest) p.line (line_behind p.line rest []) f w (λ t e. comes m.world.mode t (λ i. raw_rest p.mode p.last (foreign m) rest t e (w.text i))) c)

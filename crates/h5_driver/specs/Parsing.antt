@@ -1,10 +1,13 @@
 -- What contracts see of a parser, and what its calls do.
-use Rattle.std.specs.Prelude.{◌≡◌, ℕ, Bool, false, List, [], ◌∷◌, ◌++◌}
+use Rattle.std.specs.Prelude.{◌≡◌, ◌≢◌, ℕ, Bool, false, List, [], ◌∷◌, ◌++◌}
 use Rattle.h5_token.specs.Reply.{Reply}
 use Rattle.h5_token.specs.TokenText.{TokenText}
 use Rattle.h5_interface.specs.Seen.{Seen}
 use Rattle.h5_interface.specs.SinkChoices.{SinkChoices}
+use Rattle.h5_types.specs.declared.modes.InsertionMode.TheVariants.{Text}
 use Rattle.h5_stack.specs.FormattingNames.{AllFormatting}
+use Rattle.h5_fits.specs.Fits.{AllKinds}
+use Rattle.h5_meaning.specs.InTableText.{saved_mode}
 use Rattle.h5_meaning.specs.Run.{View, after_all, after_token, reply_to}
 use Rattle.h5_tree_builder.specs.Builder.{ended_view, is_foreign_in}
 use Rattle.h5_tree_builder.specs.Held.{Held, building}
@@ -12,6 +15,8 @@ use Rattle.h5_tokenizer.specs.Front.{Place}
 use Rattle.h5_tokenizer.specs.Read.{IsUndecided}
 use Rattle.h5_tokenizer.specs.ReaderText.{ReaderText}
 use Rattle.h5_tokenizer.specs.Whole.{Readings, ReadsToEnd}
+use Rattle.h5_tokenizer.specs.declared.front.Mode.{Mode}
+use Rattle.h5_tokenizer.specs.declared.front.Mode.TheVariants.{RawData}
 use Rattle.h5_tokenizer.specs.declared.stage.Stage.TheVariants.{Reading}
 
 -- its builder, its reader, the text that waits, and whether it has failed
@@ -35,20 +40,31 @@ ended choices v = ended_view choices v
 abbrev pub foreign : View → Bool
 foreign v = is_foreign_in v.world
 
--- it takes tokens, and its list of active formatting elements is of formatting elements
-pub record IsWorking (v : View) : Type 0 where
+-- a reader in one of these states takes all for text but the end tag of the element that it reads: it hands on texts, and
+-- then that end tag
+abbrev pub IsRaw : Mode → Type 0
+IsRaw (RawData kind) = Unit {0}
+IsRaw mode = ⊥
+
+-- it takes the tokens that a reader hands on at this place. Its list of active formatting elements is of formatting
+-- elements. It is in the mode "text", which refuses start tags, comments and nulls, only while the reader hands on none of
+-- them; and no mode that it keeps to go back to is "text": neither the one that it left, nor one of a template
+pub record IsWorking (p : Place) (v : View) : Type 0 where
   pub unfailed : v.failed ≡ false
   pub unended : v.ended ≡ false
   pub listed : AllFormatting v.world.formatting
+  pub saved : saved_mode v.world ≢ Text
+  pub kinds : AllKinds v.world.template_modes
+  pub text : v.world.mode ≡ Text → IsRaw p.mode
 
 -- what the builder of a parser means
 abbrev pub view_of : {S H : Type 0} → (S → Seen) → (H → ℕ) → Parsing S H → View
 view_of sees node p = (building sees node p.builder).view
 
--- what holds of a parser at every moment: unless it has failed it reads, and its builder takes tokens
+-- what holds of a parser at every moment: unless it has failed it reads, and its builder takes what is read
 pub record IsParsing {S H : Type 0} (sees : S → Seen) (node : H → ℕ) (p : Parsing S H) : Type 0 where
   pub reading : p.failed ≡ false → p.reader.stage ≡ Reading
-  pub works : p.failed ≡ false → IsWorking (view_of sees node p)
+  pub works : p.failed ≡ false → IsWorking p.reader.place (view_of sees node p)
 
 -- from a place, a view and an input some tokens were read, up to a place, a view and the rest of the input
 pub record Advances (choices : SinkChoices) (p : Place) (m : View) (xs : List ℕ) (q : Place) (n : View) (ys : List ℕ) : Type 0 where
@@ -63,7 +79,7 @@ pub record TakesAll (choices : SinkChoices) (p : Place) (m : View) (xs : List �
 -- a piece was taken by a parser whose builder took tokens: what was held, what waited and the piece were read, as far
 -- as that is decided
 pub record Processed {S H : Type 0} (choices : SinkChoices) (sees : S → Seen) (node : H → ℕ) (text : List ℕ) (old new : Parsing S H) : Type 0 where
-  pub worked : IsWorking (view_of sees node old)
+  pub worked : IsWorking old.reader.place (view_of sees node old)
   pub takes : TakesAll choices old.reader.place (view_of sees node old) (old.reader.held ++ (old.waiting ++ text)) new.reader.place (view_of sees node new) new.reader.held
   pub none_waits : new.waiting ≡ []
 

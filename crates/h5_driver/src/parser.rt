@@ -22,12 +22,12 @@ fn feed_all<Handle: Drop, Sink: TreeSink<Handle = Handle> + Drop>(
     queue: &mut BufferQueue,
 ) -> Result<(), BuildFault>
     requires reading { tokenizer.old.reader.stage ≡ Reading }
-    requires works { IsWorking (building Sink.sees Sink.node tokenizer.old.sink).view }
+    requires works { IsWorking tokenizer.old.reader.place (building Sink.sees Sink.node tokenizer.old.sink).view }
     ensures takes { OnOk result (TakesAll Sink.choices tokenizer.old.reader.place (building Sink.sees Sink.node tokenizer.old.sink).view (tokenizer.old.reader.held ++ queue.old)
         tokenizer.new.reader.place (building Sink.sees Sink.node tokenizer.new.sink).view tokenizer.new.reader.held) }
     ensures none_waits { OnOk result (queue.new ≡ []) }
     ensures reading { OnOk result (tokenizer.new.reader.stage ≡ Reading) }
-    ensures works { OnOk result (IsWorking (building Sink.sees Sink.node tokenizer.new.sink).view) }
+    ensures works { OnOk result (IsWorking tokenizer.new.reader.place (building Sink.sees Sink.node tokenizer.new.sink).view) }
     ensures memory { OnErr result (result ≡ Err BuildFault.Memory) }
 {
     'pieces: loop {
@@ -44,7 +44,7 @@ fn close<Handle: Drop, Sink: TreeSink<Handle = Handle> + Drop>(
     tokenizer: &mut Tokenizer<TreeBuilder<Handle, Sink>>,
 ) -> Result<(), BuildFault>
     requires reading { tokenizer.old.reader.stage ≡ Reading }
-    requires works { IsWorking (building Sink.sees Sink.node tokenizer.old.sink).view }
+    requires works { IsWorking tokenizer.old.reader.place (building Sink.sees Sink.node tokenizer.old.sink).view }
     ensures closed { OnOk result (Closes (replies Sink.choices) (after Sink.choices) foreign (ended Sink.choices) tokenizer.old.reader.place
         (building Sink.sees Sink.node tokenizer.old.sink).view tokenizer.old.reader.held
         (building Sink.sees Sink.node tokenizer.new.sink).view (Ok tt)) }

@@ -6,7 +6,7 @@ use Rattle.std.proofs.lemmas.Bool.{eq-eqb, eqb-true}
 use Rattle.std.proofs.lemmas.Bool.Decides.{nat_tests}
 use Rattle.h5_interface.specs.Ancestors.{AtOrAbove, Parent}
 use Rattle.h5_interface.specs.Changes.{append_node, append_text, detach, detach_from, has_child, insert_before, insert_node_before, insert_node_below, insert_text_before, insert_text_below, reparent, without}
-use Rattle.h5_interface.specs.Forest.{AreParted, Child, ChildNode, ChildText, Forest, IsForest, IsNode, Node, below, below_of, children_of, contents_of, count, is_at, kind_of, nodes, parent_of}
+use Rattle.h5_interface.specs.Forest.{AreParted, Child, ChildNode, ChildText, DocumentNode, Forest, IsForest, IsNode, Node, below, below_of, children_of, contents_of, count, is_at, kind_of, nodes, parent_of}
 use Rattle.h5_interface.specs.Seen.{CanAppend, CanDetach, CanInsertBefore, CanReparent, IsFreeFor}
 use Rattle.h5_interface.specs.SinkChoices.{Rearranges}
 use Rattle.h5_interface.proofs.AncestorLaws.{ancestor_trans}
@@ -38,9 +38,17 @@ append_node_rehangs f p c k there free = case_p (f.node p) refl
         (λ x. rw (self_at p) (one_more c x _ (x == c) (count x (below d)) (λ w. rw w (none_below_node f p c d k e free.no_parent)) refl (append_count c x d.children (option_to_list d.contents))))
         (λ n x w v. rw (eqb-true x c v, free.no_parent) (sym w))
 
+-- the document is not free
+pub free_not_document : (f : Forest) (c p : ℕ) → IsForest f → IsFreeFor f p c → (f.document == c) ≡ false
+free_not_document f c p k free = at (f.document == c) refl
+  where
+    at : (b : Bool) → (f.document == c) ≡ b → (f.document == c) ≡ false
+    at true w = absurd (free.no_document (subst (λ n. kind_of f n ≡ Some DocumentNode) (eqb-true f.document c w) k.root))
+    at false w = w
+
 -- a node that is hung alone keeps a forest
 hung_one_keeps : (f g : Forest) (p c : ℕ) → IsForest f → IsNode f p → IsFreeFor f p c → Rehangs f g (λ n. n == c) (Some p) → IsForest g
-hung_one_keeps f g p c k there free r = hung_keeps f g (λ n. n == c) p k r there (λ x w. rw (eqb-true x c w) free.not_above)
+hung_one_keeps f g p c k there free r = hung_keeps f g (λ n. n == c) p k r there (λ x w. rw (eqb-true x c w) free.not_above) (free_not_document f c p k free)
 
 pub append_node_keeps : (f : Forest) (p c : ℕ) → IsForest f → CanAppend f p (ChildNode c) → IsForest (append_node p c f)
 append_node_keeps f p c k may = hung_one_keeps f (append_node p c f) p c k may.is_node may.child (append_node_rehangs f p c k may.is_node may.child)
@@ -222,3 +230,8 @@ pub reparent_keeps : (f : Forest) (from to : ℕ) → IsForest f → CanReparent
 reparent_keeps f from to k may =
     hung_keeps f (reparent from to f) (has_child (children_of f from)) to k (reparent_rehangs f from to k may) may.to_is_node
     (λ c w. moved_apart f from to c may (moved_child f from c k w))
+    (not_moved (has_child (children_of f from) f.document) refl)
+  where
+    not_moved : (b : Bool) → has_child (children_of f from) f.document ≡ b → has_child (children_of f from) f.document ≡ false
+    not_moved true w = let e : None ≡ Some from = sym k.top ∙ moved_child f from f.document k w in cc
+    not_moved false w = w

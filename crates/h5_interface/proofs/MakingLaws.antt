@@ -13,7 +13,7 @@ use Rattle.h5_interface.specs.SinkChoices.{Rearranges, SinkChoices}
 use Rattle.h5_interface.proofs.AncestorLaws.{ancestor_fewer}
 use Rattle.h5_interface.proofs.ChildLaws.{count-append}
 use Rattle.h5_interface.proofs.ForestLaws.{ancestor_is_node, document_is_node, node_of_kind, rearranged_ancestor, rearranges_trans}
-use Rattle.h5_interface.proofs.HangingLaws.{append_node_keeps, append_node_rehangs}
+use Rattle.h5_interface.proofs.HangingLaws.{append_node_keeps, append_node_rehangs, free_not_document}
 use Rattle.h5_interface.proofs.RehangLaws.{Rehangs, hung_keeps, loosened_rearranges, none_chosen, shape_rehangs}
 
 -- marks alone change
@@ -79,6 +79,7 @@ add_keeps f n d k new lone = record {
   acyclic = λ m h. k.acyclic m (ancestor_fewer (parent_of f) (parent_of (add_node n d f)) (λ c p e. sym (added_parent f n d new lone c) ∙ e) m m h);
   parted = λ m. rw (children_same m (m == n) refl) (k.parted m);
   hosted = λ m c e. let w = k.hosted m c (sym (added_contents f n d new lone m) ∙ e) in added_kind f n d new c (λ z. let v = (rw z at w) in cc) ∙ w;
+  top = added_parent f n d new lone f.document ∙ k.top;
 }
   where
     far : (m : ℕ) (b : Bool) → (m == n) ≡ b → max f.bound (n + 1) ≤ m → (add_node n d f).node m ≡ None
@@ -230,7 +231,7 @@ make_contents_rearranges choices f t k there none =
     let hangs : Rehangs g (host t c g) (λ n. n == c) (Some t) =
     host_rehangs g t c kept there' (added_contents f c (plain FragmentNode) new lone t ∙ none) (new_kind f c (plain FragmentNode)) free in
     hung_fresh_rearranges f g (host t c g) c t new (add_rearranges f c (plain FragmentNode) k new lone)
-    (hung_keeps g (host t c g) (λ n. n == c) t kept hangs there' (λ x w. rw (eqb-true x c w) free.not_above)) hangs
+    (hung_keeps g (host t c g) (λ n. n == c) t kept hangs there' (λ x w. rw (eqb-true x c w) free.not_above) (free_not_document g c t kept free)) hangs
 
 -- an element is made, and its contents where it is a template
 pub make_element_rearranges : (choices : SinkChoices) (f : Forest) (name : QualName) (attrs : List AttributeText) (flags : ElementFlags) → IsForest f → Rearranges f (make_element choices name attrs flags f)

@@ -34,13 +34,17 @@ loosened_edge : (b : Bool) (o : Option ℕ) (p : ℕ) → cond b None o ≡ Some
 loosened_edge true o p e = cc
 loosened_edge false o p e = e
 
+loosened_top : (b : Bool) (o : Option ℕ) → o ≡ None → cond b None o ≡ None
+loosened_top true o e = refl
+loosened_top false o e = e
+
 hung_edge : (f : Forest) (p c q : ℕ) (b : Bool) → IsForest f → IsNode f p → cond b (Some p) (parent_of f c) ≡ Some q → IsNode f q
 hung_edge f p c q true k there e = let w : p ≡ q = cc in rw (← w) there
 hung_edge f p c q false k there e = k.inside q c e
 
--- the chosen nodes may be hung below a node that is not at or below any of them
-pub hung_keeps : (f g : Forest) (chosen : ℕ → Bool) (p : ℕ) → IsForest f → Rehangs f g chosen (Some p) → IsNode f p → ((c : ℕ) → chosen c ≡ true → ¬ (AtOrAbove (parent_of f) c p)) → IsForest g
-hung_keeps f g chosen p k r there apart = record {
+-- the chosen nodes may be hung below a node that is not at or below any of them, where the document is none of them
+pub hung_keeps : (f g : Forest) (chosen : ℕ → Bool) (p : ℕ) → IsForest f → Rehangs f g chosen (Some p) → IsNode f p → ((c : ℕ) → chosen c ≡ true → ¬ (AtOrAbove (parent_of f) c p)) → chosen f.document ≡ false → IsForest g
+hung_keeps f g chosen p k r there apart not_document = record {
   bounded = λ n h. gone_alike f g n (r.kinds n) (k.bounded n (rw (← r.bound) h));
   root = rw r.document (r.kinds f.document ∙ k.root);
   one_parent = one_parent_after f g chosen (Some p) k r;
@@ -48,6 +52,7 @@ hung_keeps f g chosen p k r there apart = record {
   acyclic = λ n h. acyclic_after (parent_of f) chosen p k.acyclic apart n (ancestor_fewer (hung (parent_of f) chosen p) (parent_of g) (λ c q e. sym (r.parents c) ∙ e) n n h);
   parted = r.texts;
   hosted = λ n c e. r.kinds c ∙ r.hosts n c e;
+  top = rw r.document (r.parents f.document ∙ rw not_document k.top);
 }
 
 -- any nodes may lose their parent
@@ -60,6 +65,7 @@ loosened_keeps f g chosen k r = record {
   acyclic = λ n h. k.acyclic n (ancestor_fewer (parent_of f) (parent_of g) (λ c q e. loosened_edge (chosen c) (parent_of f c) q (sym (r.parents c) ∙ e)) n n h);
   parted = r.texts;
   hosted = λ n c e. r.kinds c ∙ r.hosts n c e;
+  top = rw r.document (r.parents f.document ∙ loosened_top (chosen f.document) (parent_of f f.document) k.top);
 }
 
 pub loosened_rearranges : (f g : Forest) (chosen : ℕ → Bool) → IsForest f → Rehangs f g chosen None → Rearranges f g

@@ -121,3 +121,5 @@ pub record IsForest (f : Forest) : Type 0 where
   pub parted : (n : ℕ) → AreParted (children_of f n)
   -- contents are fragments
   pub hosted : (n c : ℕ) → contents_of f n ≡ Some c → kind_of f c ≡ Some FragmentNode
+  -- the document is below none
+  pub top : parent_of f f.document ≡ None

@@ -9,23 +9,25 @@ use Rattle.h5_tag_sets.specs.TagSets.{cell_names, is_default_scope, is_heading, 
 use Rattle.h5_stack.specs.Scope.{comes_before_special, has_p_in_button_scope, has_template, in_scope, second_is}
 use Rattle.h5_types.specs.TurnText.{TurnText, TagTurn, CommentTurn, TextTurn, NullTurn, EofTurn}
 use Rattle.h5_types.specs.declared.modes.InsertionMode.{InsertionMode}
-use Rattle.h5_types.specs.declared.modes.InsertionMode.TheVariants.{Initial, BeforeHtml, BeforeHead, InHead, AfterHead, InBody, InTable, AfterBody, AfterAfterBody}
+use Rattle.h5_types.specs.declared.modes.InsertionMode.TheVariants.{Initial, BeforeHtml, BeforeHead, InHead, InHeadNoscript, AfterHead, InBody, InTable, AfterBody, AfterAfterBody}
 use Rattle.h5_fits.proofs.Ranks as edges
 use Rattle.h5_fits.proofs.Ranks.{CellTurns, ColTurns, EndHtmlTurns, EndPartTurns, EofTurns, OtherTurns, PartTurns, RowTurns, StartTableTurns, TextTurns, TurnKind, is_eof, leaves_body_end}
 use Rattle.h5_meaning.specs.AfterAfterBody.{after_after_body_start}
 use Rattle.h5_meaning.specs.AfterBody.{after_body_end, after_body_start, back_to_body}
-use Rattle.h5_meaning.specs.AfterHead.{after_head_else, after_head_end, after_head_start}
+use Rattle.h5_meaning.specs.AfterHead.{after_head_else, after_head_end, after_head_start, with_head}
 use Rattle.h5_meaning.specs.BeforeHead.{before_head_else, before_head_end, before_head_start}
 use Rattle.h5_meaning.specs.ByName.{by_kind, by_name, ignored_tag, named, of_tag}
 use Rattle.h5_meaning.specs.BeforeHtml.{before_html_else, before_html_end, before_html_start}
 use Rattle.h5_meaning.specs.InBody.{body_ends, body_in_scope, if_body_in_scope, in_body_end_block, in_body_end_br, in_body_end_formatting, in_body_end_heading, in_body_end_html, in_body_end_other, in_body_end_p, in_body_end, in_body_start, in_body_start_other, in_body_start_body, in_body_start_table, in_body_tag, is_quirks}
-use Rattle.h5_meaning.specs.InHead.{in_head_else, in_head_end, in_head_start}
+use Rattle.h5_meaning.specs.InHead.{in_head_else, in_head_end, in_head_start, in_head_start_tag}
 use Rattle.h5_meaning.specs.InitialMode.{initial_else}
 use Rattle.h5_meaning.specs.Rows.{AddAttrsToHtml, AddAttrsToSecond, Again, AgainBy, Answers, Change, ClosePElement, ClosePElementInButtonScope, Ending, GenerateImpliedEnd, GenerateImpliedEndExcept, InsertElement, IsAcknowledged, IsDone, PopUntilHeading, PopUntilNamed, Row, SetFramesetNotOk, SetMode, SetQuirksMode, choose, errs, ignored, next_mode, row, row_if}
-use Rattle.h5_meaning.specs.Shared.{current_is, in_body_start_html, inserts}
+use Rattle.h5_meaning.specs.Shared.{current_is, head_start_names, in_body_start_html, inserts}
 use Rattle.h5_meaning.specs.World.{World, names_of}
 use Rattle.h5_meaning.proofs.ByNameLaws.{holds_by_name}
-use Rattle.h5_meaning.proofs.BodyRowLaws.{EndsAtOnce, IsBodyRow, row_end_by, row_start}
+use Rattle.h5_meaning.proofs.BodyRowLaws.{EndsAtOnce, IsBodyRow, head_start_passes, noscript_content_passes, row_end_by, row_head_start, row_head_start_by, row_start}
+use Rattle.h5_meaning.specs.Changes.{push_head}
+use Rattle.h5_meaning.specs.InHeadNoscript.{in_head_noscript_else, in_head_noscript_end, in_head_noscript_start}
 
 -- the names of parts of a table in start tags, and of all that a cell or a row ends with in end tags
 unfoldable pub part_names : List (List ℕ)
@@ -137,16 +139,6 @@ unfolding before_head_start before_head_end
 leads_before_head c StartTag tag w = holds_by_name (LeadsByEdge c BeforeHead) before_head_start (of_tag before_head_else) tag w ((λ p. leads_start_html c BeforeHead tag w), ((λ p. tt), tt)) (λ n. edges.before_head c)
 leads_before_head c EndTag tag w = holds_by_name (LeadsByEdge c BeforeHead) before_head_end ignored_tag tag w ((λ p. edges.before_head c), tt) (λ n. tt)
 
-pub leads_in_head : (c : TurnKind) (k : TagKind) (tag : TagText) (w : World) → Leads c InHead (by_kind k (by_name in_head_start (of_tag in_head_else) tag w) (by_name in_head_end ignored_tag tag w)).ending
-unfolding in_head_start in_head_end
-leads_in_head c StartTag tag w = holds_by_name (LeadsByEdge c InHead) in_head_start (of_tag in_head_else) tag w ((λ p. leads_start_html c InHead tag w), ((λ p. tt), tt)) (λ n. edges.in_head c)
-leads_in_head c EndTag tag w = holds_by_name (LeadsByEdge c InHead) in_head_end ignored_tag tag w ((λ p. tt), ((λ p. edges.in_head c), tt)) (λ n. tt)
-
-pub leads_after_head : (c : TurnKind) (k : TagKind) (tag : TagText) (w : World) → Leads c AfterHead (by_kind k (by_name after_head_start (of_tag after_head_else) tag w) (by_name after_head_end ignored_tag tag w)).ending
-unfolding after_head_start after_head_end
-leads_after_head c StartTag tag w = holds_by_name (LeadsByEdge c AfterHead) after_head_start (of_tag after_head_else) tag w ((λ p. leads_start_html c AfterHead tag w), ((λ p. tt), ((λ p. tt), tt))) (λ n. edges.after_head c)
-leads_after_head c EndTag tag w = holds_by_name (LeadsByEdge c AfterHead) after_head_end ignored_tag tag w ((λ p. tt), ((λ p. edges.after_head c), tt)) (λ n. tt)
-
 -- an ending after which no other turn is taken
 abbrev pub Stops : Ending → Type 0
 Stops IsDone = Unit {0}
@@ -177,8 +169,36 @@ ends_stop (Answers answer) h = tt
 ends_stop (Again k) h = h
 ends_stop (AgainBy mode) h = h
 
-row_stops : (r : Row) → IsBodyRow r → RowStops r
+pub row_stops : (r : Row) → IsBodyRow r → RowStops r
 row_stops r b = ends_stop r.ending b.ends
+
+pub leads_in_head : (c : TurnKind) (k : TagKind) (tag : TagText) (w : World) → Leads c InHead (by_kind k (in_head_start_tag tag w) (by_name in_head_end ignored_tag tag w)).ending
+unfolding in_head_end
+leads_in_head c StartTag tag w = row_head_start_by tag w (LeadsByEdge c InHead) (λ r b. stops_leads c InHead r.ending (row_stops r b)) (λ n. edges.in_head c)
+leads_in_head c EndTag tag w = holds_by_name (LeadsByEdge c InHead) in_head_end ignored_tag tag w ((λ p. tt), ((λ p. edges.in_head c), tt)) (λ n. tt)
+
+pub leads_in_head_noscript : (c : TurnKind) (k : TagKind) (tag : TagText) (w : World)
+    → Leads c InHeadNoscript (by_kind k (by_name in_head_noscript_start (of_tag in_head_noscript_else) tag w) (by_name in_head_noscript_end ignored_tag tag w)).ending
+unfolding in_head_noscript_start in_head_noscript_end
+leads_in_head_noscript c StartTag tag w =
+    holds_by_name (LeadsByEdge c InHeadNoscript) in_head_noscript_start (of_tag in_head_noscript_else) tag w (
+      (λ p. leads_start_html c InHeadNoscript tag w),
+      ((λ p. let b = row_head_start tag w (noscript_content_passes tag.name p) in stops_leads c InHeadNoscript (in_head_start_tag tag w).ending (row_stops (in_head_start_tag tag w) b)), ((λ p. tt), tt)),
+    )
+    (λ n. edges.in_head_noscript c)
+leads_in_head_noscript c EndTag tag w = holds_by_name (LeadsByEdge c InHeadNoscript) in_head_noscript_end ignored_tag tag w ((λ p. tt), ((λ p. edges.in_head_noscript c), tt)) (λ n. tt)
+
+-- a start tag by the rules of the head, with the head as the current node
+with_head_stops : (tag : TagText) (w : World) → is_one_of head_start_names tag.name ≡ true → RowStops (with_head in_head_start_tag tag w)
+unfolding with_head
+with_head_stops tag w p = row_stops (in_head_start_tag tag (push_head w)) (row_head_start tag (push_head w) (head_start_passes tag.name p))
+
+pub leads_after_head : (c : TurnKind) (k : TagKind) (tag : TagText) (w : World) → Leads c AfterHead (by_kind k (by_name after_head_start (of_tag after_head_else) tag w) (by_name after_head_end ignored_tag tag w)).ending
+unfolding after_head_start after_head_end
+leads_after_head c StartTag tag w =
+    holds_by_name (LeadsByEdge c AfterHead) after_head_start (of_tag after_head_else) tag w
+    ((λ p. leads_start_html c AfterHead tag w), ((λ p. tt), ((λ p. stops_leads c AfterHead (with_head in_head_start_tag tag w).ending (with_head_stops tag w p)), ((λ p. tt), tt)))) (λ n. edges.after_head c)
+leads_after_head c EndTag tag w = holds_by_name (LeadsByEdge c AfterHead) after_head_end ignored_tag tag w ((λ p. tt), ((λ p. edges.after_head c), tt)) (λ n. tt)
 
 pub stops_body_tag : (tag : TagText) (w : World) → (tag.kind ≡ EndTag → named Html tag.name ≡ false) → RowStops (in_body_tag tag w)
 unfolding in_body_tag

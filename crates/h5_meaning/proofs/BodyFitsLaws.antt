@@ -1,7 +1,7 @@
 -- The rules of the body, in each mode that goes by them: after each row the open elements fit the mode that it leaves.
 use Rattle.std.proofs.Common.{◌≡◌, ◌≢◌, ◌⊎◌, inl, inr, ℕ, Bool, true, false, cond, not, ◌&&◌, is_some, Option, None, Some, List, [], ◌∷◌, codes, refl, ap, sym, subst, ◌∙◌}
 use Rattle.h5_names.specs.declared.qualified.QualName.{QualName}
-use Rattle.h5_names.specs.declared.known_name.KnownName.TheVariants.{A, Body, Button, Html, Nobr, Optgroup, Select, Table, Template}
+use Rattle.h5_names.specs.declared.known_name.KnownName.TheVariants.{A, Body, Button, Html, Iframe, Nobr, Noembed, Noscript, Optgroup, Plaintext, Select, Table, Template, Textarea, Xmp}
 use Rattle.h5_names.specs.declared.known_name.KnownName.TheVariants as known
 use Rattle.h5_token.specs.TokenText.{TagText}
 use Rattle.h5_token.specs.declared.tag.TagKind.{TagKind}
@@ -10,7 +10,7 @@ use Rattle.h5_interface.specs.SinkChoices.{SinkChoices}
 use Rattle.h5_tag_sets.specs.TagSets.{block_end_names, block_start_names, formatting_names, heading_names, is_default_scope, is_heading, is_html_named, is_list_item_scope, is_one_of}
 use Rattle.h5_types.specs.TurnText.{CommentTurn, EofTurn, HasText, NullTurn, TagTurn, TextTurn, TurnText}
 use Rattle.h5_types.specs.declared.modes.InsertionMode.{InsertionMode}
-use Rattle.h5_types.specs.declared.modes.InsertionMode.TheVariants.{AfterBody, InBody, InTable}
+use Rattle.h5_types.specs.declared.modes.InsertionMode.TheVariants.{AfterBody, InBody, InTable, Text}
 use Rattle.h5_stack.specs.FormattingNames.{html_name}
 use Rattle.h5_stack.specs.Scope.{comes_before_special, cut_names, drop_while, first_passes, has_p_in_button_scope, has_template, in_scope, is_implied_but, second_is}
 use Rattle.h5_fits.specs.Fits.{goes_by_body}
@@ -19,34 +19,37 @@ use Rattle.h5_fits.specs.Roles.{BodyRole, CaptionRole, CellRole, ColgroupRole, F
 use Rattle.h5_fits.specs.Root.{IsRootOpen}
 use Rattle.h5_fits.proofs.NamesBodyLaws.{MayEnd, names_after_body, names_in_body, names_other_end}
 use Rattle.h5_fits.proofs.NamesTableLaws.{names_table_put}
-use Rattle.h5_fits.proofs.PlainLaws.{block_end_plain, block_start_plain, heading_local_plain}
+use Rattle.h5_fits.proofs.PlainLaws.{block_end_plain, block_start_plain, heading_local_plain, set_plain}
 use Rattle.h5_fits.proofs.RoleLaws.{Origin, local_p, origin, role_made}
 use Rattle.h5_meaning.specs.ByName.{NonePasses, by_kind, by_name, ignored_tag, named}
-use Rattle.h5_meaning.specs.Changes.{generate_implied_end_except, insert_element, pop_until_named, set_foster, set_frameset_not_ok, set_frameset_ok_by_text}
+use Rattle.h5_meaning.specs.Changes.{generate_implied_end_except, insert_element, pop_until_named, save_mode, set_foster, set_frameset_not_ok, set_frameset_ok_by_text, set_ignore_lf, set_mode}
 use Rattle.h5_meaning.specs.Closing.{close_p_element_in_button_scope, pop_heading}
 use Rattle.h5_meaning.specs.AdoptionAgency.{handle_misnested_a_tags, handle_misnested_nobr_tags}
 use Rattle.h5_meaning.specs.Formatting.{reconstruct_active_formatting_elements}
-use Rattle.h5_meaning.specs.InBody.{body_ends, body_in_scope, close_the_form, copies_option, description_names, form_in_scope, if_body_in_scope, in_body, in_body_end, in_body_end_block, in_body_end_br, in_body_end_description, in_body_end_form, in_body_end_formatting, in_body_end_heading, in_body_end_li, in_body_end_marked, in_body_end_option, in_body_end_other, in_body_end_p, in_body_ignored_starts, in_body_marked, in_body_ruby_bases, in_body_ruby_texts, in_body_start, in_body_start_a, in_body_start_block, in_body_start_body, in_body_start_button, in_body_start_form, in_body_start_formatting, in_body_start_heading, in_body_start_input, in_body_start_nobr, in_body_start_optgroup, in_body_start_option, in_body_start_other, in_body_start_ruby, in_body_start_select, in_body_start_table, in_body_start_void, in_body_tag, is_quirks, named_in_scope, oldest_option, outside_names, unless_hidden}
-use Rattle.h5_meaning.specs.Rows.{AddAttrsToHtml, AddAttrsToSecond, Again, AgainBy, Answers, Change, ClosePElement, ClosePElementInButtonScope, Ending, GenerateImpliedEnd, GenerateImpliedEndExcept, InsertElement, IsAcknowledged, IsDone, PopUntilHeading, PopUntilNamed, Row, SetFramesetNotOk, SetMode, apply_all, choose, errs, ignored, next_mode, row, row_if}
+use Rattle.h5_meaning.specs.InBody.{body_ends, body_in_scope, close_the_form, copies_option, description_names, form_in_scope, if_body_in_scope, in_body, in_body_end, in_body_end_block, in_body_end_br, in_body_end_description, in_body_end_form, in_body_end_formatting, in_body_end_heading, in_body_end_li, in_body_end_marked, in_body_end_option, in_body_end_other, in_body_end_p, in_body_ignored_starts, in_body_marked, in_body_ruby_bases, in_body_ruby_texts, in_body_start, in_body_start_a, in_body_start_block, in_body_start_body, in_body_start_button, in_body_start_form, in_body_start_formatting, in_body_start_heading, in_body_start_iframe, in_body_start_input, in_body_start_nobr, in_body_start_noembed, in_body_start_noscript, in_body_start_optgroup, in_body_start_option, in_body_start_other, in_body_start_plaintext, in_body_start_ruby, in_body_start_select, in_body_start_table, in_body_start_textarea, in_body_start_void, in_body_start_xmp, in_body_tag, is_quirks, named_in_scope, oldest_option, outside_names, unless_hidden}
+use Rattle.h5_meaning.specs.Rows.{AddAttrsToHtml, AddAttrsToSecond, Again, AgainBy, Answers, Change, ClosePElement, ClosePElementInButtonScope, Ending, GenerateImpliedEnd, GenerateImpliedEndExcept, InsertElement, IsAcknowledged, IsDone, PopUntilHeading, PopUntilNamed, ReconstructActiveFormattingElements, Row, SetFramesetNotOk, SetMode, apply_all, choose, errs, ignored, next_mode, row, row_if}
 use Rattle.h5_meaning.specs.Shared.{current_is, in_body_start_html, in_body_text, inserts, is_context, is_type_hidden, table_structure_names}
 use Rattle.h5_meaning.specs.Sound.{situation_of}
 use Rattle.h5_meaning.specs.World.{World, names_of}
 use Rattle.h5_meaning.proofs.AdoptionAgencyLaws.{implied_keeps, misnested_nobr_open, until_named_keeps}
 use Rattle.h5_meaning.proofs.AdoptionForest.{kinds_trans}
-use Rattle.h5_meaning.proofs.ByNameLaws.{holds_by_name, holds_chosen}
+use Rattle.h5_meaning.proofs.ByNameLaws.{holds_by_name, holds_chosen, of_named}
 use Rattle.h5_meaning.proofs.ClosingLaws.{block_not_implied, heading_not_implied, new_p_in_scope}
 use Rattle.h5_meaning.proofs.FormattingLaws.{reconstruct_opens}
 use Rattle.h5_meaning.proofs.HeadFitsLaws.{role_known}
-use Rattle.h5_meaning.proofs.KeptLaws.{FitsAs, IsBlind, Kept, fits_at, fits_frameset_off, kept_comment, kept_start_html, mode_after, mode_with}
+use Rattle.h5_meaning.proofs.KeptLaws.{FitsAs, IsBlind, Kept, changes_mode, fits_at, fits_frameset_off, kept_comment, kept_start_html, mode_after, mode_with}
 use Rattle.h5_meaning.proofs.ListsLaws.{IsSteady}
 use Rattle.h5_meaning.proofs.NameLaws.{names-cut, names-implied, names-insert}
-use Rattle.h5_meaning.proofs.ReadyInLaws.{ReadyIn, in_agency, in_close_heading, in_close_named, in_close_p, in_close_p_in_scope, in_format, in_frameset_off, in_frameset_text, in_insert, in_leaf, in_misnested_a, in_misnested_nobr, in_pop_heading, in_reconstruct, in_second_attrs, in_text, ready_in}
+use Rattle.h5_meaning.proofs.ReadyInLaws.{ReadyIn, in_agency, in_close_heading, in_close_named, in_close_p, in_close_p_in_scope, in_format, in_frameset_off, in_frameset_text, in_insert, in_leaf, in_misnested_a, in_misnested_nobr, in_pop_heading, in_reconstruct, in_second_attrs, in_text, ready_in, steady}
 use Rattle.h5_meaning.proofs.ReadyLaws.{a_formatting, nobr_formatting}
 use Rattle.h5_meaning.proofs.SituationLaws.{KeepsSituation, situation_insert, situation_same, situation_then, situation_tree}
 use Rattle.h5_meaning.proofs.TreeLaws.{tree_implied_except, tree_until, tree_then}
 use Rattle.h5_meaning.proofs.BodyRowLaws.{EndsAtOnce, IsBodyRow, row_end_by, row_start}
 use Rattle.h5_meaning.proofs.BodyInLaws.{in_end_description, in_end_form, in_end_li, in_end_marked, in_end_option, in_start_button, in_start_description, in_start_form, in_start_hr, in_start_image, in_start_input, in_start_item, in_start_marked, in_start_optgroup, in_start_option, in_start_preformatted, in_start_ruby_base, in_start_ruby_text, in_start_select}
 use Rattle.h5_names.specs.AttributeText.{AttributeText}
+use Rattle.h5_meaning.proofs.HeadContentLaws.{body_left, kept_head_content, noscript_plain}
+use Rattle.h5_meaning.proofs.TextBeginsLaws.{text_begins}
+use Rattle.h5_meaning.proofs.CloseInLaws.{in_ignore_lf}
 
 -- NAMES
 
@@ -60,7 +63,7 @@ unfolding in_body_start in_body_ignored_starts table_structure_names outside_nam
 other_start_plain l n = at (role_of_local l) (origin l)
   where
     listed : is_one_of in_body_ignored_starts l ≡ false
-    listed = n.1.1.1.1.1.1.1.1.1.1.1.1.1.1.1.1.1.1.1.1.1.1.1.1.0
+    listed = n.1.1.1.1.1.1.1.1.1.1.1.1.1.1.1.1.1.1.1.1.1.1.1.1.1.1.1.1.1.1.1.0
 
     starts : List ℕ → Bool
     starts = is_one_of in_body_ignored_starts
@@ -68,8 +71,8 @@ other_start_plain l n = at (role_of_local l) (origin l)
     at : (x : Role) → Origin x l → x ≡ PlainRole
     at PlainRole o = refl
     at HtmlRole o = absurd (apart (named Html) (codes "html") l refl o n.0)
-    at BodyRole o = absurd (apart (named Body) (codes "body") l refl o n.1.0)
-    at TableRole o = absurd (apart (named Table) (codes "table") l refl o n.1.1.1.1.1.1.1.1.1.1.1.1.1.0)
+    at BodyRole o = absurd (apart (named Body) (codes "body") l refl o n.1.1.0)
+    at TableRole o = absurd (apart (named Table) (codes "table") l refl o n.1.1.1.1.1.1.1.1.1.1.1.1.1.1.1.0)
     at HeadRole o = absurd (apart starts (codes "head") l refl o listed)
     at FramesetRole o = absurd (apart starts (codes "frameset") l refl o listed)
     at TemplateRole o = absurd (apart starts (codes "template") l refl o listed)
@@ -81,6 +84,34 @@ other_start_plain l n = at (role_of_local l) (origin l)
     at RowRole o = absurd (apart starts (codes "tr") l refl o listed)
     at CellRole (inl o) = absurd (apart starts (codes "td") l refl o listed)
     at CellRole (inr o) = absurd (apart starts (codes "th") l refl o listed)
+
+-- names of elements of raw text
+raw_text_names : List (List ℕ)
+raw_text_names = codes "iframe" ∷ codes "noembed" ∷ codes "plaintext" ∷ codes "textarea" ∷ codes "xmp" ∷ []
+
+raw_text_plain : (l : List ℕ) → is_one_of raw_text_names l ≡ true → role_of_local l ≡ PlainRole
+unfolding raw_text_names role_of_local
+raw_text_plain l h = set_plain raw_text_names l refl h
+
+plaintext_named : (l : List ℕ) → named Plaintext l ≡ true → role_of_local l ≡ PlainRole
+unfolding raw_text_names
+plaintext_named l h = of_named (λ n. role_of_local n ≡ PlainRole) Plaintext l (raw_text_plain (codes "plaintext") refl) h
+
+textarea_named : (l : List ℕ) → named Textarea l ≡ true → role_of_local l ≡ PlainRole
+unfolding raw_text_names
+textarea_named l h = of_named (λ n. role_of_local n ≡ PlainRole) Textarea l (raw_text_plain (codes "textarea") refl) h
+
+xmp_named : (l : List ℕ) → named Xmp l ≡ true → role_of_local l ≡ PlainRole
+unfolding raw_text_names
+xmp_named l h = of_named (λ n. role_of_local n ≡ PlainRole) Xmp l (raw_text_plain (codes "xmp") refl) h
+
+iframe_named : (l : List ℕ) → named Iframe l ≡ true → role_of_local l ≡ PlainRole
+unfolding raw_text_names
+iframe_named l h = of_named (λ n. role_of_local n ≡ PlainRole) Iframe l (raw_text_plain (codes "iframe") refl) h
+
+noembed_named : (l : List ℕ) → named Noembed l ≡ true → role_of_local l ≡ PlainRole
+unfolding raw_text_names
+noembed_named l h = of_named (λ n. role_of_local n ≡ PlainRole) Noembed l (raw_text_plain (codes "noembed") refl) h
 
 -- tables and their parts, which the modes of tables name in end tags themselves
 abbrev pub is_of_table : Role → Bool
@@ -116,7 +147,7 @@ is_table_name name h = role_known Table name h ∙ refl
 
 -- ROWS
 
-module _ (choices : SinkChoices) (w : World) (steady : IsSteady w) (m : InsertionMode) (goes : goes_by_body m ≡ true) where
+module _ (choices : SinkChoices) (w : World) (steady : IsSteady w) (m : InsertionMode) (goes : goes_by_body m ≡ true) (is : w.mode ≡ m) where
   abbrev KeptIn : Row → Type 0
   KeptIn r = Kept choices w m r
 
@@ -362,57 +393,106 @@ module _ (choices : SinkChoices) (w : World) (steady : IsSteady w) (m : Insertio
       one : Still (in_body_end_marked tag w)
       one = still (named_in_scope tag.name w) _ ignored (λ v. refl) none
 
+  -- elements of raw text
+  kept_start_plaintext : (tag : TagText) → named Plaintext tag.name ≡ true → KeptIn (in_body_start_plaintext tag w)
+  kept_start_plaintext tag p h = (in_insert choices m goes closed (closed_ready h) tag.name tag.attrs tag.had_duplicate_attributes (plaintext_named tag.name p)).fit
+
+  -- an element for the tag, in any world of the mode, and its text
+  raw_begins : (v : World) → v.mode ≡ w.mode → ReadyIn m v → (tag : TagText) → role_of_local tag.name ≡ PlainRole → FitsAs Text (set_mode Text (save_mode (insert_element choices tag.name tag.attrs tag.had_duplicate_attributes v)))
+  raw_begins v e r tag plain = text_begins choices v m (e ∙ is) (body_left m goes) r.ready.sound r.ready.root tag.name tag.attrs tag.had_duplicate_attributes plain r.fit
+
+  kept_start_textarea : (tag : TagText) → named Textarea tag.name ≡ true → KeptIn (in_body_start_textarea tag w)
+  kept_start_textarea tag p h = raw_begins (set_frameset_not_ok (set_ignore_lf w)) refl (in_frameset_off m goes _ (in_ignore_lf m goes w (ready h))) tag (textarea_named tag.name p)
+
+  kept_start_xmp : (tag : TagText) → named Xmp tag.name ≡ true → KeptIn (in_body_start_xmp tag w)
+  kept_start_xmp tag p h =
+      let xs : List Change = ClosePElementInButtonScope ∷ ReconstructActiveFormattingElements ∷ SetFramesetNotOk ∷ [] in
+      raw_begins (apply_all choices xs w) (changes_mode choices xs w) (in_frameset_off m goes _ (in_reconstruct choices m goes closed (closed_ready h))) tag (xmp_named tag.name p)
+
+  kept_start_iframe : (tag : TagText) → named Iframe tag.name ≡ true → KeptIn (in_body_start_iframe tag w)
+  kept_start_iframe tag p h = raw_begins (set_frameset_not_ok w) refl (in_frameset_off m goes w (ready h)) tag (iframe_named tag.name p)
+
+  kept_start_noembed : (tag : TagText) → named Noembed tag.name ≡ true → KeptIn (in_body_start_noembed tag w)
+  kept_start_noembed tag p h = raw_begins w refl (ready h) tag (noembed_named tag.name p)
+
+  kept_start_noscript : (tag : TagText) → named Noscript tag.name ≡ true → KeptIn (in_body_start_noscript tag w)
+  unfolding in_body_start_noscript
+  kept_start_noscript tag p = holds_chosen KeptIn w.options.scripting_enabled _ _
+      (λ e h. raw_begins w refl (ready h) tag (noscript_plain tag.name p))
+      (λ e h. (in_insert choices m goes renewed (renewed_ready h) tag.name tag.attrs tag.had_duplicate_attributes (noscript_plain tag.name p)).fit)
+
   kept_tag : (kind : TagKind) (tag : TagText) → (m ≡ InBody) ⊎ NoPartOf kind tag.name → KeptIn (by_kind kind (by_name in_body_start in_body_start_other tag w) (by_name in_body_end in_body_end_other tag w))
   unfolding in_body_start in_body_end
   kept_tag StartTag tag part = holds_by_name KeptIn in_body_start in_body_start_other tag w (
     (λ p. kept_start_html choices w steady.sound m tag),
     (
-      (λ p. kept_start_body tag),
+      (λ p. kept_head_content choices w steady.sound m is (body_left m goes) tag p),
       (
-        (λ p. kept_start_block tag p),
+        (λ p. kept_start_body tag),
         (
-          (λ p. kept_start_heading tag p),
+          (λ p. kept_start_block tag p),
           (
-            (λ p h. (in_start_preformatted choices m goes w (ready h) tag p).fit),
+            (λ p. kept_start_heading tag p),
             (
-              (λ p. kept_start_form tag),
+              (λ p h. (in_start_preformatted choices m goes w (ready h) tag p).fit),
               (
-                (λ p h. (in_start_item choices m goes w (ready h) tag p).fit),
+                (λ p. kept_start_form tag),
                 (
-                  (λ p h. (in_start_description choices m goes w (ready h) tag p).fit),
+                  (λ p h. (in_start_item choices m goes w (ready h) tag p).fit),
                   (
-                    (λ p. kept_start_button tag p),
+                    (λ p h. (in_start_description choices m goes w (ready h) tag p).fit),
                     (
-                      (λ p. kept_start_a tag p),
+                      (λ p. kept_start_plaintext tag p),
                       (
-                        (λ p. kept_start_nobr tag p),
+                        (λ p. kept_start_button tag p),
                         (
-                          (λ p. kept_start_formatting tag p),
+                          (λ p. kept_start_a tag p),
                           (
-                            (λ p h. (in_start_marked choices m goes w (ready h) tag p).fit),
+                            (λ p. kept_start_nobr tag p),
                             (
-                              (λ p. kept_start_table tag p),
+                              (λ p. kept_start_formatting tag p),
                               (
-                                (λ p. kept_start_void tag),
+                                (λ p h. (in_start_marked choices m goes w (ready h) tag p).fit),
                                 (
-                                  (λ p h. (in_start_image choices m goes w (ready h) tag).fit),
+                                  (λ p. kept_start_table tag p),
                                   (
-                                    (λ p. kept_start_input tag),
+                                    (λ p. kept_start_void tag),
                                     (
-                                      (λ p h. (in_leaf choices m goes w (ready h) tag.name tag.attrs tag.had_duplicate_attributes).fit),
+                                      (λ p h. (in_start_image choices m goes w (ready h) tag).fit),
                                       (
-                                        (λ p h. (in_start_hr choices m goes w (ready h) tag).fit),
+                                        (λ p. kept_start_input tag),
                                         (
-                                          (λ p. kept_start_select tag p),
+                                          (λ p h. (in_leaf choices m goes w (ready h) tag.name tag.attrs tag.had_duplicate_attributes).fit),
                                           (
-                                            (λ p. kept_start_option tag p),
+                                            (λ p h. (in_start_hr choices m goes w (ready h) tag).fit),
                                             (
-                                              (λ p. kept_start_optgroup tag p),
+                                              (λ p. kept_start_textarea tag p),
                                               (
-                                                (λ p. kept_start_ruby_base tag p),
+                                                (λ p. kept_start_xmp tag p),
                                                 (
-                                                  (λ p. kept_start_ruby_text tag p),
-                                                  ((λ p h. h), tt),
+                                                  (λ p. kept_start_iframe tag p),
+                                                  (
+                                                    (λ p. kept_start_noembed tag p),
+                                                    (
+                                                      (λ p. kept_start_noscript tag p),
+                                                      (
+                                                        (λ p. kept_start_select tag p),
+                                                        (
+                                                          (λ p. kept_start_option tag p),
+                                                          (
+                                                            (λ p. kept_start_optgroup tag p),
+                                                            (
+                                                              (λ p. kept_start_ruby_base tag p),
+                                                              (
+                                                                (λ p. kept_start_ruby_text tag p),
+                                                                ((λ p h. h), tt),
+                                                              ),
+                                                            ),
+                                                          ),
+                                                        ),
+                                                      ),
+                                                    ),
+                                                  ),
                                                 ),
                                               ),
                                             ),

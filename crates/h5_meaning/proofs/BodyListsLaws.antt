@@ -12,8 +12,8 @@ use Rattle.h5_types.specs.declared.modes.InsertionMode.TheVariants.{AfterBody, I
 use Rattle.h5_fits.specs.Fits.{goes_by_body}
 use Rattle.h5_fits.proofs.OpenLaws.{goes_after_root, names_root_open}
 use Rattle.h5_stack.specs.Scope.{comes_before_special, has_p_in_button_scope, has_template, in_scope, second_is}
-use Rattle.h5_meaning.specs.ByName.{by_kind, by_name}
-use Rattle.h5_meaning.specs.InBody.{body_ends, body_in_scope, if_body_in_scope, in_body, in_body_end, in_body_end_block, in_body_end_br, in_body_end_heading, in_body_end_other, in_body_end_p, in_body_start, in_body_start_block, in_body_start_body, in_body_start_heading, in_body_start_other, in_body_start_part, in_body_start_table, in_body_start_void, in_body_tag, is_quirks}
+use Rattle.h5_meaning.specs.ByName.{NonePasses, by_kind, by_name, of_tag}
+use Rattle.h5_meaning.specs.InBody.{body_ends, body_in_scope, if_body_in_scope, in_body, in_body_end, in_body_end_block, in_body_end_br, in_body_end_heading, in_body_end_other, in_body_end_p, in_body_start, in_body_start_block, in_body_start_body, in_body_start_heading, in_body_start_iframe, in_body_start_noembed, in_body_start_noscript, in_body_start_other, in_body_start_part, in_body_start_plaintext, in_body_start_table, in_body_start_textarea, in_body_start_void, in_body_start_xmp, in_body_tag, is_quirks}
 use Rattle.h5_meaning.specs.Rows.{AddAttrsToHtml, AddAttrsToSecond, Again, AppendComment, Change, ClosePElement, ClosePElementInButtonScope, GenerateImpliedEnd, GenerateImpliedEndExcept, InsertElement, IsDone, PopUntilHeading, PopUntilNamed, Row, SetFramesetNotOk, SetMode, apply_all, choose, errs, ignored, row, row_if}
 use Rattle.h5_meaning.specs.Shared.{current_is, in_body_start_html, in_body_text, inserts}
 use Rattle.h5_meaning.specs.Sound.{IsReady, situation_of}
@@ -24,6 +24,8 @@ use Rattle.h5_meaning.proofs.ListsLaws.{IsSteady, NeedsOfAll, ready_steady, stea
 use Rattle.h5_meaning.proofs.ReadyLaws.{ready_end_formatting, ready_start_a, ready_start_formatting, ready_start_nobr}
 use Rattle.h5_meaning.proofs.BodyInLaws.{in_end_description, in_end_form, in_end_li, in_end_marked, in_end_option, in_start_button, in_start_description, in_start_form, in_start_hr, in_start_image, in_start_input, in_start_item, in_start_marked, in_start_optgroup, in_start_option, in_start_preformatted, in_start_ruby_base, in_start_ruby_text, in_start_select}
 use Rattle.h5_meaning.proofs.ReadyInLaws.{ReadyIn, ready_in}
+use Rattle.h5_meaning.specs.InHead.{in_head_else, in_head_start, in_head_start_link, in_head_start_noscript, in_head_start_raw, in_head_start_script, in_head_start_tag, in_head_start_title}
+use Rattle.h5_meaning.proofs.BodyRowLaws.{head_start_passes}
 
 module _ (choices : SinkChoices) (w : World) (k : IsSteady w) where
   -- after a row in a mode, where the open elements fit the mode
@@ -78,57 +80,113 @@ module _ (choices : SinkChoices) (w : World) (k : IsSteady w) where
       let opens : List Change = inserts tag ∷ SetFramesetNotOk ∷ SetMode InTable ∷ [] in
       stays_chosen m (is_quirks w.quirks) (row opens IsDone) (row_if (not (has_p_in_button_scope (names_of w))) (ClosePElementInButtonScope ∷ opens) IsDone) (tt, (tt, (tt, tt))) (tt, (tt, (tt, (tt, tt))))
 
+  stays_noscript : (m : InsertionMode) (tag : TagText) → Stays m (in_body_start_noscript tag w)
+  unfolding in_body_start_noscript
+  stays_noscript m tag = stays_chosen m w.options.scripting_enabled _ _ (tt, (tt, (tt, tt))) (tt, (tt, tt))
+
+  -- by the rules of the head
+  stays_head_noscript : (m : InsertionMode) (tag : TagText) → Stays m (in_head_start_noscript tag w)
+  unfolding in_head_start_noscript
+  stays_head_noscript m tag = stays_chosen m w.options.scripting_enabled _ _ (tt, (tt, (tt, tt))) (tt, (tt, tt))
+
+  pub stays_head_start_by : (m : InsertionMode) (tag : TagText) → (NonePasses in_head_start tag.name → Stays m (in_head_else (TagTurn tag) w)) → Stays m (in_head_start_tag tag w)
+  unfolding in_head_start in_head_start_tag
+  stays_head_start_by m tag other = holds_by_name (Stays m) in_head_start (of_tag in_head_else) tag w (
+    (λ p. stays_start_html m tag),
+    (
+      (λ p. stays m (in_head_start_link tag w) (tt, tt)),
+      (
+        (λ p. stays m (in_head_start_title tag w) (tt, (tt, (tt, tt)))),
+        (
+          (λ p. stays m (in_head_start_raw tag w) (tt, (tt, (tt, tt)))),
+          (
+            (λ p. stays_head_noscript m tag),
+            (
+              (λ p. stays m (in_head_start_script tag w) (tt, (tt, (tt, tt)))),
+              ((λ p h. k), tt),
+            ),
+          ),
+        ),
+      ),
+    ),
+  )
+      other
+
+  pub stays_head_start : (m : InsertionMode) (tag : TagText) → (NonePasses in_head_start tag.name → ⊥) → Stays m (in_head_start_tag tag w)
+  stays_head_start m tag some = stays_head_start_by m tag (λ n. absurd (some n))
+
   stays_body_tag : (m : InsertionMode) → goes_by_body m ≡ true → (kind : TagKind) (tag : TagText) → Stays m (by_kind kind (by_name in_body_start in_body_start_other tag w) (by_name in_body_end in_body_end_other tag w))
   unfolding in_body_start in_body_end
   stays_body_tag m goes StartTag tag = holds_by_name (Stays m) in_body_start in_body_start_other tag w (
     (λ p. stays_start_html m tag),
     (
-      (λ p. stays_start_body m tag),
+      (λ p. stays_head_start m tag (head_start_passes tag.name p)),
       (
-        (λ p. stays m (in_body_start_block tag w) (tt, (tt, tt))),
+        (λ p. stays_start_body m tag),
         (
-          (λ p. stays m (in_body_start_heading tag w) (tt, (tt, (tt, tt)))),
+          (λ p. stays m (in_body_start_block tag w) (tt, (tt, tt))),
           (
-            (λ p h. in_ready m (in_start_preformatted choices m goes w (ready_in m goes w k h) tag p)),
+            (λ p. stays m (in_body_start_heading tag w) (tt, (tt, (tt, tt)))),
             (
-              (λ p h. in_ready m (in_start_form choices m goes w (ready_in m goes w k h) tag)),
+              (λ p h. in_ready m (in_start_preformatted choices m goes w (ready_in m goes w k h) tag p)),
               (
-                (λ p h. in_ready m (in_start_item choices m goes w (ready_in m goes w k h) tag p)),
+                (λ p h. in_ready m (in_start_form choices m goes w (ready_in m goes w k h) tag)),
                 (
-                  (λ p h. in_ready m (in_start_description choices m goes w (ready_in m goes w k h) tag p)),
+                  (λ p h. in_ready m (in_start_item choices m goes w (ready_in m goes w k h) tag p)),
                   (
-                    (λ p h. in_ready m (in_start_button choices m goes w (ready_in m goes w k h) tag p)),
+                    (λ p h. in_ready m (in_start_description choices m goes w (ready_in m goes w k h) tag p)),
                     (
-                      (λ p h. ready_steady _ (ready_start_a choices w (is_ready m goes h) tag p)),
+                      (λ p. stays m (in_body_start_plaintext tag w) (tt, (tt, tt))),
                       (
-                        (λ p h. ready_steady _ (ready_start_nobr choices w (is_ready m goes h) tag p)),
+                        (λ p h. in_ready m (in_start_button choices m goes w (ready_in m goes w k h) tag p)),
                         (
-                          (λ p h. ready_steady _ (ready_start_formatting choices w (is_ready m goes h) tag p)),
+                          (λ p h. ready_steady _ (ready_start_a choices w (is_ready m goes h) tag p)),
                           (
-                            (λ p h. in_ready m (in_start_marked choices m goes w (ready_in m goes w k h) tag p)),
+                            (λ p h. ready_steady _ (ready_start_nobr choices w (is_ready m goes h) tag p)),
                             (
-                              (λ p. stays_start_table m tag),
+                              (λ p h. ready_steady _ (ready_start_formatting choices w (is_ready m goes h) tag p)),
                               (
-                                (λ p. stays m (in_body_start_void tag w) (tt, (tt, (tt, tt)))),
+                                (λ p h. in_ready m (in_start_marked choices m goes w (ready_in m goes w k h) tag p)),
                                 (
-                                  (λ p h. in_ready m (in_start_image choices m goes w (ready_in m goes w k h) tag)),
+                                  (λ p. stays_start_table m tag),
                                   (
-                                    (λ p h. in_ready m (in_start_input choices m goes w (ready_in m goes w k h) tag)),
+                                    (λ p. stays m (in_body_start_void tag w) (tt, (tt, (tt, tt)))),
                                     (
-                                      (λ p. stays m (in_body_start_part tag w) (tt, tt)),
+                                      (λ p h. in_ready m (in_start_image choices m goes w (ready_in m goes w k h) tag)),
                                       (
-                                        (λ p h. in_ready m (in_start_hr choices m goes w (ready_in m goes w k h) tag)),
+                                        (λ p h. in_ready m (in_start_input choices m goes w (ready_in m goes w k h) tag)),
                                         (
-                                          (λ p h. in_ready m (in_start_select choices m goes w (ready_in m goes w k h) tag p)),
+                                          (λ p. stays m (in_body_start_part tag w) (tt, tt)),
                                           (
-                                            (λ p h. in_ready m (in_start_option choices m goes w (ready_in m goes w k h) tag p)),
+                                            (λ p h. in_ready m (in_start_hr choices m goes w (ready_in m goes w k h) tag)),
                                             (
-                                              (λ p h. in_ready m (in_start_optgroup choices m goes w (ready_in m goes w k h) tag p)),
+                                              (λ p. stays m (in_body_start_textarea tag w) (tt, (tt, (tt, (tt, (tt, tt)))))),
                                               (
-                                                (λ p h. in_ready m (in_start_ruby_base choices m goes w (ready_in m goes w k h) tag p)),
+                                                (λ p. stays m (in_body_start_xmp tag w) (tt, (tt, (tt, (tt, (tt, (tt, tt))))))),
                                                 (
-                                                  (λ p h. in_ready m (in_start_ruby_text choices m goes w (ready_in m goes w k h) tag p)),
-                                                  ((λ p h. k), tt),
+                                                  (λ p. stays m (in_body_start_iframe tag w) (tt, (tt, (tt, (tt, tt))))),
+                                                  (
+                                                    (λ p. stays m (in_body_start_noembed tag w) (tt, (tt, (tt, tt)))),
+                                                    (
+                                                      (λ p. stays_noscript m tag),
+                                                      (
+                                                        (λ p h. in_ready m (in_start_select choices m goes w (ready_in m goes w k h) tag p)),
+                                                        (
+                                                          (λ p h. in_ready m (in_start_option choices m goes w (ready_in m goes w k h) tag p)),
+                                                          (
+                                                            (λ p h. in_ready m (in_start_optgroup choices m goes w (ready_in m goes w k h) tag p)),
+                                                            (
+                                                              (λ p h. in_ready m (in_start_ruby_base choices m goes w (ready_in m goes w k h) tag p)),
+                                                              (
+                                                                (λ p h. in_ready m (in_start_ruby_text choices m goes w (ready_in m goes w k h) tag p)),
+                                                                ((λ p h. k), tt),
+                                                              ),
+                                                            ),
+                                                          ),
+                                                        ),
+                                                      ),
+                                                    ),
+                                                  ),
                                                 ),
                                               ),
                                             ),

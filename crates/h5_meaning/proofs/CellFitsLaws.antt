@@ -1,5 +1,5 @@
 -- The modes of captions, column groups and cells: after each row the open elements fit the mode that it leaves.
-use Rattle.std.proofs.Common.{◌≡◌, ◌≢◌, inl, inr, ℕ, Bool, true, false, List, [], ◌∷◌, codes, refl, ap, sym, subst, ◌∙◌}
+use Rattle.std.proofs.Common.{◌≡◌, inl, inr, ℕ, Bool, true, false, List, [], ◌∷◌, codes, refl, ap, sym, subst, ◌∙◌}
 use Rattle.h5_names.specs.declared.qualified.QualName.{QualName}
 use Rattle.h5_names.specs.declared.known_name.KnownName.TheVariants.{Caption, Table}
 use Rattle.h5_token.specs.TokenText.{TagText}
@@ -11,9 +11,9 @@ use Rattle.h5_types.specs.TurnText.{CommentTurn, EofTurn, HasText, NullTurn, Tag
 use Rattle.h5_types.specs.declared.modes.InsertionMode.{InsertionMode}
 use Rattle.h5_types.specs.declared.modes.InsertionMode.TheVariants.{InCaption, InCell, InColumnGroup, InRow, InTable}
 use Rattle.h5_types.specs.declared.modes.SplitStatus.TheVariants.{NotSplit, NotWhitespace, Whitespace}
-use Rattle.h5_stack.specs.Scope.{cut_names, first_passes, in_scope, later_names}
+use Rattle.h5_stack.specs.Scope.{first_passes, in_scope, later_names}
 use Rattle.h5_fits.specs.NamesFit.{NamesFit}
-use Rattle.h5_fits.specs.Roles.{CaptionRole, CellRole, ColgroupRole, Role, RowRole, SectionRole, TableRole, role_of, role_of_local}
+use Rattle.h5_fits.specs.Roles.{CaptionRole, CellRole, ColgroupRole, Role, RowRole, SectionRole, TableRole, role_of_local}
 use Rattle.h5_fits.proofs.NamesTableLaws.{names_caption_closed, names_cell_closed, names_cell_ended, names_colgroup_popped}
 use Rattle.h5_fits.proofs.RoleLaws.{Origin, origin, role_named}
 use Rattle.h5_meaning.specs.ByName.{NonePasses, by_kind, by_name, named, of_tag}
@@ -25,18 +25,18 @@ use Rattle.h5_meaning.specs.Shared.{current_is}
 use Rattle.h5_meaning.specs.InCaption.{close_the_caption, in_caption, in_caption_end, in_caption_ignored_ends, in_caption_start, in_caption_tag}
 use Rattle.h5_meaning.specs.InCell.{close_the_cell, in_cell, in_cell_closing_ends, in_cell_end, in_cell_end_cell, in_cell_end_structure, in_cell_ignored_ends, in_cell_start, in_cell_start_structure, in_cell_tag}
 use Rattle.h5_meaning.specs.InColumnGroup.{close_the_column_group, in_column_group, in_column_group_else, in_column_group_end, in_column_group_start, in_column_group_start_col, in_column_group_tag}
-use Rattle.h5_meaning.specs.Rows.{Again, ClearActiveFormattingToMarker, GenerateImpliedEnd, IsDone, Pop, PopUntilNamed, Row, SetMode, ignored, row, row_if}
+use Rattle.h5_meaning.specs.Rows.{Again, ClearActiveFormattingToMarker, GenerateImpliedEnd, IsDone, Pop, PopUntilNamed, SetMode, ignored, row, row_if}
 use Rattle.h5_meaning.specs.Sound.{situation_of}
 use Rattle.h5_meaning.specs.Tables.{in_table_scope, named_in_table_scope}
 use Rattle.h5_meaning.specs.World.{World, names_of}
-use Rattle.h5_meaning.proofs.BodyFitsLaws.{NoPart, NoPartOf, apart, is_of_table, kept_in_body}
+use Rattle.h5_meaning.proofs.BodyFitsLaws.{NoPartOf, apart, is_of_table, kept_in_body}
 use Rattle.h5_meaning.proofs.ByNameLaws.{holds_by_name, holds_chosen}
-use Rattle.h5_meaning.proofs.ClosingLaws.{named_not_implied, names-all_implied, sets_apart, still_in_scope}
+use Rattle.h5_meaning.proofs.ClosingLaws.{named_not_implied, names-all_implied, still_in_scope}
 use Rattle.h5_meaning.proofs.KeptLaws.{FitsAs, Kept, as_before, fits_at, kept_append, kept_comment, kept_start_html}
 use Rattle.h5_meaning.proofs.ListsLaws.{IsSteady}
 use Rattle.h5_meaning.proofs.NameLaws.{names-cut, names-insert_and_pop, names-until_cell}
 use Rattle.h5_meaning.proofs.PopLaws.{names-pop}
-use Rattle.h5_meaning.proofs.ReadyInLaws.{ReadyIn, in_implied, ready_in}
+use Rattle.h5_meaning.proofs.ReadyInLaws.{in_implied, ready_in, steady}
 use Rattle.h5_meaning.proofs.SituationLaws.{situation_leaf, situation_pop}
 use Rattle.h5_meaning.proofs.TableFitsLaws.{cell_local}
 
@@ -131,20 +131,20 @@ module _ (choices : SinkChoices) (w : World) (steady : IsSteady w) where
   kept_end_caption = holds_chosen (Kept choices w InCaption) (named_in_table_scope (codes "caption") w)
       (row_if (current_is (codes "caption") w) (GenerateImpliedEnd ∷ PopUntilNamed (codes "caption") ∷ ClearActiveFormattingToMarker ∷ SetMode InTable ∷ []) IsDone) ignored caption_closed (λ e h. h)
 
-  kept_caption_tag : (kind : TagKind) (tag : TagText) → tag.kind ≡ kind → Kept choices w InCaption (by_kind kind (by_name in_caption_start (of_tag in_body) tag w) (by_name in_caption_end (of_tag in_body) tag w))
+  kept_caption_tag : w.mode ≡ InCaption → (kind : TagKind) (tag : TagText) → tag.kind ≡ kind → Kept choices w InCaption (by_kind kind (by_name in_caption_start (of_tag in_body) tag w) (by_name in_caption_end (of_tag in_body) tag w))
   unfolding in_caption_start in_caption_end
-  kept_caption_tag StartTag tag e = holds_by_name (Kept choices w InCaption) in_caption_start (of_tag in_body) tag w ((λ p. kept_close_caption), tt)
-      (λ n. kept_in_body choices w steady InCaption refl (TagTurn tag) tt (inr (subst (λ k. NoPartOf k tag.name) (sym e) tt)))
-  kept_caption_tag EndTag tag e = holds_by_name (Kept choices w InCaption) in_caption_end (of_tag in_body) tag w ((λ p. kept_end_caption), ((λ p. kept_close_caption), ((λ p h. h), tt)))
-      (λ n. kept_in_body choices w steady InCaption refl (TagTurn tag) tt (inr (subst (λ k. NoPartOf k tag.name) (sym e) (no_part_in_caption tag.name n))))
+  kept_caption_tag same StartTag tag e = holds_by_name (Kept choices w InCaption) in_caption_start (of_tag in_body) tag w ((λ p. kept_close_caption), tt)
+      (λ n. kept_in_body choices w steady InCaption refl same (TagTurn tag) tt (inr (subst (λ k. NoPartOf k tag.name) (sym e) tt)))
+  kept_caption_tag same EndTag tag e = holds_by_name (Kept choices w InCaption) in_caption_end (of_tag in_body) tag w ((λ p. kept_end_caption), ((λ p. kept_close_caption), ((λ p h. h), tt)))
+      (λ n. kept_in_body choices w steady InCaption refl same (TagTurn tag) tt (inr (subst (λ k. NoPartOf k tag.name) (sym e) (no_part_in_caption tag.name n))))
 
-  pub kept_in_caption : (t : TurnText) → HasText t → Kept choices w InCaption (in_caption t w)
+  pub kept_in_caption : w.mode ≡ InCaption → (t : TurnText) → HasText t → Kept choices w InCaption (in_caption t w)
   unfolding in_caption_tag
-  kept_in_caption (TagTurn tag) some = kept_caption_tag tag.kind tag refl
-  kept_in_caption (CommentTurn x) some = kept_in_body choices w steady InCaption refl (CommentTurn x) some tt
-  kept_in_caption (TextTurn status x) some = kept_in_body choices w steady InCaption refl (TextTurn status x) some tt
-  kept_in_caption NullTurn some = kept_in_body choices w steady InCaption refl NullTurn some tt
-  kept_in_caption EofTurn some = kept_in_body choices w steady InCaption refl EofTurn some tt
+  kept_in_caption same (TagTurn tag) some = kept_caption_tag same tag.kind tag refl
+  kept_in_caption same (CommentTurn x) some = kept_in_body choices w steady InCaption refl same (CommentTurn x) some tt
+  kept_in_caption same (TextTurn status x) some = kept_in_body choices w steady InCaption refl same (TextTurn status x) some tt
+  kept_in_caption same NullTurn some = kept_in_body choices w steady InCaption refl same NullTurn some tt
+  kept_in_caption same EofTurn some = kept_in_body choices w steady InCaption refl same EofTurn some tt
 
   -- IN A COLUMN GROUP
 
@@ -218,17 +218,17 @@ module _ (choices : SinkChoices) (w : World) (steady : IsSteady w) where
   unfolding in_cell_end_structure
   kept_end_structure tag = holds_chosen (Kept choices w InCell) (named_in_table_scope tag.name w) (close_the_cell w) ignored (λ e. kept_close_cell) (λ e h. h)
 
-  kept_cell_tag : (kind : TagKind) (tag : TagText) → tag.kind ≡ kind → Kept choices w InCell (by_kind kind (by_name in_cell_start (of_tag in_body) tag w) (by_name in_cell_end (of_tag in_body) tag w))
+  kept_cell_tag : w.mode ≡ InCell → (kind : TagKind) (tag : TagText) → tag.kind ≡ kind → Kept choices w InCell (by_kind kind (by_name in_cell_start (of_tag in_body) tag w) (by_name in_cell_end (of_tag in_body) tag w))
   unfolding in_cell_start in_cell_end
-  kept_cell_tag StartTag tag e = holds_by_name (Kept choices w InCell) in_cell_start (of_tag in_body) tag w ((λ p. kept_start_structure tag), tt)
-      (λ n. kept_in_body choices w steady InCell refl (TagTurn tag) tt (inr (subst (λ k. NoPartOf k tag.name) (sym e) tt)))
-  kept_cell_tag EndTag tag e = holds_by_name (Kept choices w InCell) in_cell_end (of_tag in_body) tag w ((λ p. kept_end_cell tag p), ((λ p. kept_end_structure tag), ((λ p h. h), tt)))
-      (λ n. kept_in_body choices w steady InCell refl (TagTurn tag) tt (inr (subst (λ k. NoPartOf k tag.name) (sym e) (no_part_in_cell tag.name n))))
+  kept_cell_tag same StartTag tag e = holds_by_name (Kept choices w InCell) in_cell_start (of_tag in_body) tag w ((λ p. kept_start_structure tag), tt)
+      (λ n. kept_in_body choices w steady InCell refl same (TagTurn tag) tt (inr (subst (λ k. NoPartOf k tag.name) (sym e) tt)))
+  kept_cell_tag same EndTag tag e = holds_by_name (Kept choices w InCell) in_cell_end (of_tag in_body) tag w ((λ p. kept_end_cell tag p), ((λ p. kept_end_structure tag), ((λ p h. h), tt)))
+      (λ n. kept_in_body choices w steady InCell refl same (TagTurn tag) tt (inr (subst (λ k. NoPartOf k tag.name) (sym e) (no_part_in_cell tag.name n))))
 
-  pub kept_in_cell : (t : TurnText) → HasText t → Kept choices w InCell (in_cell t w)
+  pub kept_in_cell : w.mode ≡ InCell → (t : TurnText) → HasText t → Kept choices w InCell (in_cell t w)
   unfolding in_cell_tag
-  kept_in_cell (TagTurn tag) some = kept_cell_tag tag.kind tag refl
-  kept_in_cell (CommentTurn x) some = kept_in_body choices w steady InCell refl (CommentTurn x) some tt
-  kept_in_cell (TextTurn status x) some = kept_in_body choices w steady InCell refl (TextTurn status x) some tt
-  kept_in_cell NullTurn some = kept_in_body choices w steady InCell refl NullTurn some tt
-  kept_in_cell EofTurn some = kept_in_body choices w steady InCell refl EofTurn some tt
+  kept_in_cell same (TagTurn tag) some = kept_cell_tag same tag.kind tag refl
+  kept_in_cell same (CommentTurn x) some = kept_in_body choices w steady InCell refl same (CommentTurn x) some tt
+  kept_in_cell same (TextTurn status x) some = kept_in_body choices w steady InCell refl same (TextTurn status x) some tt
+  kept_in_cell same NullTurn some = kept_in_body choices w steady InCell refl same NullTurn some tt
+  kept_in_cell same EofTurn some = kept_in_body choices w steady InCell refl same EofTurn some tt

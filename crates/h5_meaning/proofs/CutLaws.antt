@@ -8,7 +8,7 @@ use Rattle.h5_stack.specs.FormattingNames.{AllFormatting}
 use Rattle.h5_types.specs.TurnText.{TextTurn, TurnText}
 use Rattle.h5_types.specs.declared.modes.InsertionMode.{InsertionMode}
 use Rattle.h5_types.specs.declared.modes.SplitStatus.TheVariants.{NotWhitespace}
-use Rattle.h5_types.specs.declared.modes.InsertionMode.TheVariants.{Initial, BeforeHtml, BeforeHead, InHead, AfterHead, InBody, InTable, InTableText, InCaption, InColumnGroup, InTableBody, InRow, InCell, AfterBody, AfterAfterBody}
+use Rattle.h5_types.specs.declared.modes.InsertionMode.TheVariants.{Initial, BeforeHtml, BeforeHead, InHead, InHeadNoscript, AfterHead, InBody, Text, InTable, InTableText, InCaption, InColumnGroup, InTableBody, InRow, InCell, AfterBody, AfterAfterBody}
 use Rattle.h5_meaning.specs.Blanks.{is_blank, all_blank, blanks_of, rest_of}
 use Rattle.h5_meaning.specs.Changes.{append_pending_text, append_text, pop, save_mode, set_foster, set_frameset_ok_by_text, set_mode, with_forest}
 use Rattle.h5_meaning.specs.Formatting.{reconstruct_active_formatting_elements}
@@ -19,10 +19,11 @@ use Rattle.h5_meaning.specs.BeforeHtml.{before_html_else}
 use Rattle.h5_meaning.specs.Shared.{current_is}
 use Rattle.h5_meaning.specs.InColumnGroup.{close_the_column_group, in_column_group_else}
 use Rattle.h5_meaning.specs.InHead.{in_head_else}
+use Rattle.h5_meaning.specs.InHeadNoscript.{in_head_noscript_else}
 use Rattle.h5_meaning.specs.InTable.{keeps_text}
 use Rattle.h5_meaning.specs.InitialMode.{initial_else}
 use Rattle.h5_meaning.specs.Rows.{Again, Pop, Row, choose, ignored, row}
-use Rattle.h5_meaning.specs.Text.{after_row, all_blanks, closes_column_group, fostered_text, if_any, split, dropped, by_else, text_in_body, text_in_column_group, text_in_table, text_in_table_text, text_after_body, text_after_head, text_in_head, text_before_head, text_before_html, text_initial, text_in, text_rule}
+use Rattle.h5_meaning.specs.Text.{after_row, all_blanks, closes_column_group, fostered_text, if_any, split, dropped, by_else, text_in_body, text_in_column_group, text_in_table, text_in_table_text, text_after_body, text_after_head, text_in_head, text_in_head_noscript, text_before_head, text_before_html, text_initial, text_in, text_rule}
 use Rattle.h5_meaning.specs.Place.{appropriate_place, place, put}
 use Rattle.h5_meaning.specs.World.{World}
 use Rattle.h5_meaning.proofs.FormattingLaws.{reconstruct_after_flag_and_text}
@@ -163,6 +164,9 @@ leads_after_head choices = record { same = λ t u w. refl; mode = λ t w. refl }
 pub leads_in_head : (choices : SinkChoices) → Leads choices in_head_else AfterHead
 leads_in_head choices = record { same = λ t u w. refl; mode = λ t w. refl }
 
+pub leads_in_head_noscript : (choices : SinkChoices) → Leads choices in_head_noscript_else InHead
+leads_in_head_noscript choices = record { same = λ t u w. refl; mode = λ t w. refl }
+
 pub leads_before_head : (choices : SinkChoices) → Leads choices before_head_else InHead
 leads_before_head choices = record { same = λ t u w. refl; mode = λ t w. refl }
 
@@ -193,6 +197,10 @@ in_caption_holds choices = stays_holds choices InCaption (text_in_body choices) 
 in_cell_holds : (choices : SinkChoices) → Holds choices InCell
 in_cell_holds choices = stays_holds choices InCell (text_in_body choices) (in_body_twice choices) (λ s v e. by_mode choices InCell s v e)
 
+-- in a text it is put as it is
+in_text_holds : (choices : SinkChoices) → Holds choices Text
+in_text_holds choices = stays_holds choices Text append_text appends (λ s v e. by_mode choices Text s v e)
+
 -- a text that is kept back is appended to what is kept back already
 kept_twice : Blanks text_in_table_text
 unfolding append_pending_text
@@ -220,6 +228,11 @@ in_head_holds : (choices : SinkChoices) → Holds choices InHead
 unfolding text_in_head
 in_head_holds choices b t d u w h =
     split_cut choices InHead append_text (by_else choices in_head_else (text_after_head choices)) appends (else_law choices in_head_else AfterHead (leads_in_head choices) (after_head_holds choices)) (λ s v e. by_mode choices InHead s v e) (b ∷ t) d u w h (cut (b ∷ t) (d ∷ u))
+
+in_head_noscript_holds : (choices : SinkChoices) → Holds choices InHeadNoscript
+unfolding text_in_head_noscript
+in_head_noscript_holds choices b t d u w h =
+    split_cut choices InHeadNoscript append_text (by_else choices in_head_noscript_else (text_in_head choices)) appends (else_law choices in_head_noscript_else InHead (leads_in_head_noscript choices) (in_head_holds choices)) (λ s v e. by_mode choices InHeadNoscript s v e) (b ∷ t) d u w h (cut (b ∷ t) (d ∷ u))
 
 before_head_holds : (choices : SinkChoices) → Holds choices BeforeHead
 unfolding text_before_head
@@ -359,8 +372,10 @@ holds choices Initial = λ b t d u w h k. initial_holds choices b t d u w h
 holds choices BeforeHtml = λ b t d u w h k. before_html_holds choices b t d u w h
 holds choices BeforeHead = λ b t d u w h k. before_head_holds choices b t d u w h
 holds choices InHead = λ b t d u w h k. in_head_holds choices b t d u w h
+holds choices InHeadNoscript = λ b t d u w h k. in_head_noscript_holds choices b t d u w h
 holds choices AfterHead = λ b t d u w h k. after_head_holds choices b t d u w h
 holds choices InBody = λ b t d u w h k. in_body_holds choices b t d u w h
+holds choices Text = λ b t d u w h k. in_text_holds choices b t d u w h
 holds choices InTable = in_table_holds choices
 holds choices InTableText = λ b t d u w h k. in_table_text_holds choices b t d u w h
 holds choices InCaption = λ b t d u w h k. in_caption_holds choices b t d u w h

@@ -1,5 +1,5 @@
 -- How many turns a token can still take: the rank falls where it takes another.
-use Rattle.std.proofs.Common.{◌≡◌, ◌≢◌, inl, inr, ◌⊎◌, ℕ, ◌+◌, ◌*◌, ◌<◌, ◌≤◌, Bool, true, false, cond, List, [], ◌∷◌, length, map, Option, Some, None, codes, refl, ap, sym, subst, ◌∙◌, arith}
+use Rattle.std.proofs.Common.{◌≡◌, ◌≢◌, inl, inr, ◌⊎◌, ℕ, ◌+◌, ◌*◌, ◌<◌, ◌≤◌, Bool, true, false, cond, if◌then◌else◌, ◌++◌, List, [], ◌∷◌, length, map, Option, Some, None, codes, refl, ap, sym, subst, ◌∙◌, arith}
 use Rattle.h5_names.specs.declared.qualified.QualName.{QualName}
 use Rattle.h5_token.specs.declared.tag.TagKind.{TagKind}
 use Rattle.h5_token.specs.declared.tag.TagKind.TheVariants.{StartTag, EndTag}
@@ -12,21 +12,23 @@ use Rattle.h5_stack.specs.FormattingNames.{AllFormatting, html_name}
 use Rattle.h5_stack.specs.Scope.{first_passes, later_names}
 use Rattle.h5_types.specs.TurnText.{CommentTurn, EofTurn, NullTurn, TagTurn, TextTurn, TurnText}
 use Rattle.h5_types.specs.declared.modes.InsertionMode.{InsertionMode}
-use Rattle.h5_types.specs.declared.modes.InsertionMode.TheVariants.{AfterAfterBody, AfterAfterFrameset, AfterBody, AfterFrameset, BeforeHtml, InCell, InColumnGroup, InFrameset, InTable, InTableText, Text}
+use Rattle.h5_types.specs.declared.modes.InsertionMode.TheVariants.{AfterAfterBody, AfterAfterFrameset, AfterBody, AfterFrameset, BeforeHtml, InCell, InColumnGroup, InFrameset, InTable, InTableText, Initial, Text}
 use Rattle.h5_types.specs.declared.modes.SplitStatus.TheVariants.{NotSplit}
-use Rattle.h5_fits.specs.Fits.{Situation, is_table_mode}
+use Rattle.h5_fits.specs.Fits.{Placed, Situation, is_table_mode, is_whole, may_be_left}
 use Rattle.h5_fits.specs.NamesFit.{NamesFit}
 use Rattle.h5_fits.specs.Reset.{reset}
 use Rattle.h5_fits.specs.Roles.{PlainRole, Role, TableRole, count_roles, has_role, is_template, later_roles, role_of, role_of_local, roles}
 use Rattle.h5_fits.proofs.CutLaws.{cut_root}
-use Rattle.h5_fits.proofs.NamesFitLaws.{names_table_text_ended}
+use Rattle.h5_fits.proofs.HeadLaws.{text_pop}
+use Rattle.h5_fits.proofs.NamesFitLaws.{names_table_text_ended, roles_later}
 use Rattle.h5_fits.proofs.NamesTableLaws.{table_cut}
 use Rattle.h5_fits.proofs.RankLaws.{again_falls}
 use Rattle.h5_fits.proofs.RankWeightLaws.{colgroup_falls, eof_falls, is_text, names_rank_bound, rank_usual, table_falls, table_text_falls, weight_pop, weight_push}
+use Rattle.h5_fits.proofs.RankWeightLaws as weights
 use Rattle.h5_fits.proofs.Ranks as edges
 use Rattle.h5_fits.proofs.Ranks.{CellTurns, ColTurns, EndHtmlTurns, EndPartTurns, EofTurns, OtherTurns, PartTurns, RowTurns, StartTableTurns, TextTurns, TurnKind, early_below, eof_weight, is_eof, is_table_like, rank, rank_in, rank_saved}
 use Rattle.h5_fits.proofs.RoleLaws.{role_named}
-use Rattle.h5_meaning.specs.Changes.{append_text, create_root, insert_element, insert_head, pop, pop_until_named, set_foster, set_frameset_ok_by_text, set_mode, set_quirks_mode, take_pending_text}
+use Rattle.h5_meaning.specs.Changes.{append_text, create_root, insert_element, insert_head, mark_started, pop, pop_until_named, set_foster, set_frameset_ok_by_text, set_mode, set_quirks_mode, take_pending_text}
 use Rattle.h5_meaning.specs.Blanks.{all_blank}
 use Rattle.h5_meaning.specs.Formatting.{insert_anew, reconstruct_active_formatting_elements}
 use Rattle.h5_meaning.specs.InBody.{in_body}
@@ -35,15 +37,16 @@ use Rattle.h5_meaning.specs.InTableText.{pending_text, saved_mode}
 use Rattle.h5_meaning.specs.InitialMode.{initial_else}
 use Rattle.h5_meaning.specs.Modes.{rule}
 use Rattle.h5_meaning.specs.Reset.{reset_mode}
-use Rattle.h5_meaning.specs.Rows.{Again, AgainBy, AppendText, Change, Ending, IsDone, Pop, PopUntilNamed, Row, SetQuirksMode, TakePendingText, apply_all, changed_by, choose, errs, next_mode, row}
+use Rattle.h5_meaning.specs.Rows.{Again, AgainBy, AppendText, Change, Ending, IsDone, MarkStarted, Pop, PopUntilNamed, Row, SetQuirksMode, TakePendingText, apply_all, changed_by, choose, errs, next_mode, row}
 use Rattle.h5_meaning.specs.Sound.{Fits, Sound, situation_of}
 use Rattle.h5_meaning.specs.Tables.{foster, named_in_table_scope}
+use Rattle.h5_meaning.specs.TextMode.{marks_script}
 use Rattle.h5_meaning.specs.World.{World, name_in, names_of}
 use Rattle.h5_meaning.proofs.AgainLaws.{end_no_eof, kind_of_tag, kind_of_turn, leads_next, start_no_eof}
 use Rattle.h5_meaning.proofs.FormattingLaws.{sound_anew, sound_reconstruct}
 use Rattle.h5_meaning.proofs.NameLaws.{names-append, names-cut, names-insert, names-insert_head, names-insert_root}
-use Rattle.h5_meaning.proofs.PopLaws.{names-pop, names_length}
-use Rattle.h5_meaning.proofs.TableAgainLaws.{ByEdge, ClosesColumnGroup, ClosesTable, RowLeads, TakesPending, leads}
+use Rattle.h5_meaning.proofs.PopLaws.{names-mark_started, names-pop, names_length}
+use Rattle.h5_meaning.proofs.TableAgainLaws.{ByEdge, ClosesColumnGroup, ClosesTable, EndsText, RowLeads, TakesPending, leads}
 use Rattle.h5_meaning.proofs.TableTextLaws.{formatting_role, front_formatting}
 use Rattle.h5_meaning.proofs.TreeLaws.{tree_reconstruct}
 
@@ -144,6 +147,13 @@ falling_column choices w i h k e =
     (subst (λ ns. rank StartTableTurns (situation_of u) InTable (roles ns) < rank StartTableTurns (situation_of w) InColumnGroup (roles (names_of w))) (sym (names-pop choices w))
     (column_falls (situation_of w) (situation_of u) (names_of w) h)))
 
+-- the mode that was left is taken up again
+back_to : (w v : World) (m k : InsertionMode) → v.saved_mode ≡ w.saved_mode → w.saved_mode ≡ Some m → Some (saved_mode v) ≡ Some k → m ≡ k
+back_to w v m k s t e = ap (λ o. unwrap_or o InTable) (sym (s ∙ t)) ∙ some_is (saved_mode v) k e
+  where
+    some_is : (a b : InsertionMode) → Some a ≡ Some b → a ≡ b
+    some_is a b e = cc
+
 -- a text that was kept back is put, and the mode is the one that was left
 falling_pending : (c : TurnKind) (choices : SinkChoices) (w : World) → Sound w → Fits w → w.mode ≡ InTableText → is_text c ≡ false → Falling c choices w (TakePendingText ∷ (pending_text w.pending w).changes) (AgainBy saved_mode)
 unfolding names_of
@@ -151,13 +161,44 @@ falling_pending c choices w s f i h k e =
     let p = put_pending choices w.pending w (take_pending_text w) s in
     let v = apply_all choices (pending_text w.pending w).changes (take_pending_text w) in
     let left = names_table_text_ended (situation_of w) (names_of w) (subst (λ m. NamesFit (situation_of w) m (names_of w)) i f.mode) in
-    let same : left.mode ≡ k = ap (λ o. unwrap_or o InTable) (sym (p.saved ∙ left.saved)) ∙ some_is (saved_mode v) k e in
+    let same : left.mode ≡ k = back_to w v left.mode k p.saved left.saved e in
     subst (λ j. rank c (situation_of v) j (roles (names_of v)) < rank c (situation_of w) w.mode (roles (names_of w))) same
     (subst (λ m. rank c (situation_of v) left.mode (roles (names_of v)) < rank c (situation_of w) m (roles (names_of w))) (sym i)
     (table_text_falls c (situation_of w) (situation_of v) left.mode (roles (names_of w)) (roles (names_of v)) h left.is_table left.saved p.lighter.weight p.lighter.tables))
+
+-- the element of a text is popped at the end of the file
+record TextEnds (w v : World) : Type 0 where
+  names : names_of v ≡ later_names (names_of w)
+  saved : v.saved_mode ≡ w.saved_mode
+
+text_ended : (choices : SinkChoices) (w : World) → TextEnds w (apply_all choices (marks_script w ++ Pop ∷ []) w)
+unfolding pop mark_started
+text_ended choices w = at (current_is (codes "script") w)
   where
-    some_is : (a b : InsertionMode) → Some a ≡ Some b → a ≡ b
-    some_is a b e = cc
+    at : (b : Bool) → TextEnds w (apply_all choices ((if b then MarkStarted ∷ [] else []) ++ Pop ∷ []) w)
+    at true = record { names = names-pop choices (mark_started choices w) ∙ ap later_names (names-mark_started choices w); saved = refl }
+    at false = record { names = names-pop choices w; saved = refl }
+
+placed_left : (b : Bool) (s : Situation) (m : InsertionMode) (ns : List Role) → Placed b s m ns → may_be_left m ≡ true
+placed_left b s Initial ns p = elim p [ ]
+placed_left b s BeforeHtml ns p = elim p [ ]
+placed_left b s Text ns p = elim p [ ]
+placed_left b s InTableText ns p = elim p [ ]
+placed_left b s _ ns p = refl
+
+-- and the mode is the one that was left for it
+falling_text : (choices : SinkChoices) (w : World) → Fits w → w.mode ≡ Text → Falling EofTurns choices w (marks_script w ++ Pop ∷ []) (AgainBy saved_mode)
+falling_text choices w f i k e =
+    let v = apply_all choices (marks_script w ++ Pop ∷ []) w in
+    let d = text_ended choices w in
+    let s = situation_of w in
+    let left = text_pop s (roles (names_of w)) (subst (λ m. NamesFit s m (names_of w)) i f.mode).fits in
+    let same : left.mode ≡ k = back_to w v left.mode k d.saved left.saved e in
+    let below : later_roles (roles (names_of w)) ≡ roles (names_of v) = roles_later (names_of w) ∙ ap roles (sym d.names) in
+    subst (λ j. rank EofTurns (situation_of v) j (roles (names_of v)) < rank EofTurns s w.mode (roles (names_of w))) same
+    (subst (λ m. rank EofTurns (situation_of v) left.mode (roles (names_of v)) < rank EofTurns s m (roles (names_of w))) (sym i)
+    (subst (λ ns. rank EofTurns (situation_of v) left.mode ns < rank EofTurns s Text (roles (names_of w))) below
+    (weights.text_falls s (situation_of v) left.mode (roles (names_of w)) (placed_left (is_whole s.context) s left.mode (later_roles (roles (names_of w))) left.placed) left.saved)))
 
 -- at the end of the file, from mode to mode before the body
 weight_of : (old new : List QualName) → new ≡ old → eof_weight (roles new) ≤ eof_weight (roles old)
@@ -183,7 +224,7 @@ unfolding role_of role_of_local html_namespace
 eof_lighter choices m k w (edges.initial _) s = weight_of (names_of w) (names_of (changed_by choices (initial_else EofTurn w) w)) (initial_names choices w)
 eof_lighter choices m k w (edges.before_html _) s = weight_pushed (html_name (codes "html")) (names_of w) (names_of (create_root choices [] w)) refl (names-insert_root choices [] w s)
 eof_lighter choices m k w (edges.before_head _) s = weight_pushed (html_name (codes "head")) (names_of w) (names_of (insert_head choices [] false w)) refl (names-insert_head choices [] false w s)
-eof_lighter choices m k w (edges.in_head_noscript _) s = weight_of (names_of w) (names_of w) refl
+eof_lighter choices m k w (edges.in_head_noscript _) s = weight_popped (names_of w) (names_of (pop choices w)) (names-pop choices w)
 eof_lighter choices m k w (edges.in_head _) s = weight_popped (names_of w) (names_of (pop choices w)) (names-pop choices w)
 eof_lighter choices m k w (edges.after_head _) s = weight_pushed (html_name (codes "body")) (names_of w) (names_of (insert_element choices (codes "body") [] false w)) refl (names-insert choices (codes "body") [] false w s)
 eof_lighter choices m k w (edges.after_body _ l) s = absurd (cc)
@@ -227,6 +268,9 @@ falling_row t choices w s f (ClosesColumnGroup i q h e x) =
     subst (λ y. Falling y choices w r.changes r.ending) (sym q) (falling_as StartTableTurns choices w r (Pop ∷ []) (Again InTable) e x (falling_column choices w i h))
 falling_row t choices w s f (TakesPending i h e x) =
     falling_as (kind_of_turn t) choices w (rule w.mode t w) (TakePendingText ∷ (pending_text w.pending w).changes) (AgainBy saved_mode) e x (falling_pending (kind_of_turn t) choices w s f i h)
+falling_row t choices w s f (EndsText i q e x) =
+    let r = rule w.mode t w in
+    subst (λ y. Falling y choices w r.changes r.ending) (sym q) (falling_as EofTurns choices w r (marks_script w ++ Pop ∷ []) (AgainBy saved_mode) e x (falling_text choices w f i))
 
 -- another turn is taken in a world of a lower rank
 pub falls : (choices : SinkChoices) (t : TurnText) (w : World) (k : InsertionMode) → Sound w → Fits w → let v = changed_by choices (rule w.mode t w) w in
@@ -247,6 +291,7 @@ text_falls choices t w k i e = at (leads w.mode t w)
     at (ClosesTable j q h d x) = absurd (let n = sym i ∙ q in cc)
     at (ClosesColumnGroup j q h d x) = absurd (let n = sym i ∙ q in cc)
     at (TakesPending j h d x) = absurd (let n = ap is_text (sym i) ∙ h in cc)
+    at (EndsText j q d x) = absurd (let n = sym i ∙ q in cc)
 
 -- THE RANK is some
 weight_some : (ns : List Role) → 0 < eof_weight ns

@@ -1,13 +1,13 @@
 -- What a mode tells of open elements stays true, row by row.
-use Rattle.std.proofs.Common.{◌≡◌, ◌≢◌, ◌<◌, inl, ℕ, Bool, true, false, Option, Some, None, is_some, List, [], ◌∷◌, length, refl, ap, sym, subst, ◌∙◌}
+use Rattle.std.proofs.Common.{◌≡◌, ◌<◌, inl, ℕ, true, false, [], length, refl, sym, subst}
 use Rattle.h5_token.specs.TokenText.{TagText}
 use Rattle.h5_token.specs.declared.tag.TagKind.{TagKind}
 use Rattle.h5_token.specs.declared.tag.TagKind.TheVariants.{StartTag, EndTag}
 use Rattle.h5_interface.specs.SinkChoices.{SinkChoices}
-use Rattle.h5_types.specs.TurnText.{TurnText, TagTurn, CommentTurn, TextTurn, NullTurn, EofTurn, HasText}
+use Rattle.h5_types.specs.TurnText.{TurnText, TagTurn, CommentTurn, TextTurn, EofTurn, HasText}
 use Rattle.h5_types.specs.declared.modes.InsertionMode.{InsertionMode}
-use Rattle.h5_types.specs.declared.modes.InsertionMode.TheVariants.{AfterAfterBody, AfterBody, AfterHead, BeforeHead, BeforeHtml, InBody, InCaption, InCell, InColumnGroup, InHead, InRow, InTable, InTableBody, InTableText, Initial}
-use Rattle.h5_types.specs.declared.modes.SplitStatus.TheVariants.{NotSplit, Whitespace, NotWhitespace}
+use Rattle.h5_types.specs.declared.modes.InsertionMode.TheVariants.{AfterAfterBody, AfterBody, AfterHead, BeforeHead, BeforeHtml, InBody, InCaption, InCell, InColumnGroup, InHead, InHeadNoscript, InRow, InTable, InTableBody, InTableText, Initial, Text}
+use Rattle.h5_types.specs.declared.modes.SplitStatus.TheVariants.{Whitespace}
 use Rattle.h5_types.specs.declared.turns.ProcessResult.{ProcessResult}
 use Rattle.h5_types.specs.declared.turns.ProcessResult.TheVariants as results
 use Rattle.h5_stack.specs.Lists.{Lists}
@@ -23,20 +23,23 @@ use Rattle.h5_meaning.specs.BeforeHtml.{before_html, before_html_tag}
 use Rattle.h5_meaning.specs.ByName.{by_kind, by_name, of_tag}
 use Rattle.h5_meaning.specs.Changes.{set_mode}
 use Rattle.h5_meaning.specs.InHead.{in_head, in_head_tag}
+use Rattle.h5_meaning.specs.InHeadNoscript.{in_head_noscript, in_head_noscript_tag}
 use Rattle.h5_meaning.specs.InitialMode.{initial}
 use Rattle.h5_meaning.specs.Modes.{rule}
-use Rattle.h5_meaning.specs.Rows.{Again, Ending, Follows, Row, apply_all, errs, next_mode}
+use Rattle.h5_meaning.specs.Rows.{Again, Ending, Follows, apply_all, errs, next_mode}
 use Rattle.h5_meaning.specs.Sound.{Fits, HasLists, Sound, situation_of}
 use Rattle.h5_meaning.specs.World.{World, names_of}
 use Rattle.h5_meaning.proofs.BodyFitsLaws.{NoPart, kept_in_body, kept_text_in_body}
 use Rattle.h5_meaning.proofs.ByNameLaws.{holds_by_name}
 use Rattle.h5_meaning.proofs.CellFitsLaws.{kept_in_caption, kept_in_cell, kept_in_column_group}
-use Rattle.h5_meaning.proofs.HeadFitsLaws.{kept_after_head, kept_before_head, kept_before_html, kept_body, kept_head, kept_in_head, kept_initial, kept_pop, kept_root}
-use Rattle.h5_meaning.proofs.KeptLaws.{FitsAs, Kept, as_before, changes_mode, kept_append, kept_comment, kept_comment_to_document, kept_comment_to_root, kept_start_html, mode_with}
+use Rattle.h5_meaning.proofs.HeadFitsLaws.{kept_after_head, kept_before_head, kept_before_html, kept_body, kept_head, kept_in_head, kept_in_head_noscript, kept_initial, kept_noscript_pop, kept_pop, kept_root}
+use Rattle.h5_meaning.proofs.KeptLaws.{FitsAs, Kept, changes_mode, kept_append, kept_comment, kept_comment_to_document, kept_comment_to_root, kept_start_html, mode_with}
 use Rattle.h5_meaning.proofs.ListsLaws.{IsSteady}
 use Rattle.h5_meaning.proofs.PopLaws.{names_length}
 use Rattle.h5_meaning.proofs.RowListsLaws.{rule_lists}
 use Rattle.h5_meaning.proofs.TableFitsLaws.{kept_in_row, kept_in_table, kept_in_table_body, kept_in_table_text}
+use Rattle.h5_meaning.proofs.TextFitsLaws.{kept_text_mode}
+use Rattle.h5_meaning.proofs.ReadyInLaws.{steady}
 
 module _ (choices : SinkChoices) (w : World) (steady : IsSteady w) where
   -- the modes before the body
@@ -59,19 +62,26 @@ module _ (choices : SinkChoices) (w : World) (steady : IsSteady w) where
   kept_mode_before_head (TextTurn Whitespace x) = λ h. h
   kept_mode_before_head t = kept_head choices w steady.sound
 
-  kept_mode_in_head : (t : TurnText) → HasText t → Kept choices w InHead (in_head t w)
+  kept_mode_in_head : w.mode ≡ InHead → (t : TurnText) → HasText t → Kept choices w InHead (in_head t w)
   unfolding in_head_tag
-  kept_mode_in_head (TagTurn tag) some = kept_in_head choices w steady.sound tag.kind tag
-  kept_mode_in_head (CommentTurn x) some = kept_comment choices w steady.sound InHead x
-  kept_mode_in_head (TextTurn Whitespace x) some = kept_append choices w steady.sound InHead x some
-  kept_mode_in_head t some = kept_pop choices w steady.sound
+  kept_mode_in_head same (TagTurn tag) some = kept_in_head choices w steady.sound same tag.kind tag
+  kept_mode_in_head same (CommentTurn x) some = kept_comment choices w steady.sound InHead x
+  kept_mode_in_head same (TextTurn Whitespace x) some = kept_append choices w steady.sound InHead x some
+  kept_mode_in_head same t some = kept_pop choices w steady.sound
 
-  kept_mode_after_head : (t : TurnText) → HasText t → Kept choices w AfterHead (after_head t w)
+  kept_mode_in_head_noscript : w.mode ≡ InHeadNoscript → (t : TurnText) → HasText t → Kept choices w InHeadNoscript (in_head_noscript t w)
+  unfolding in_head_noscript_tag
+  kept_mode_in_head_noscript same (TagTurn tag) some = kept_in_head_noscript choices w steady.sound same tag.kind tag
+  kept_mode_in_head_noscript same (CommentTurn x) some = kept_comment choices w steady.sound InHeadNoscript x
+  kept_mode_in_head_noscript same (TextTurn Whitespace x) some = kept_append choices w steady.sound InHeadNoscript x some
+  kept_mode_in_head_noscript same t some = kept_noscript_pop choices w steady.sound
+
+  kept_mode_after_head : w.mode ≡ AfterHead → (t : TurnText) → HasText t → Kept choices w AfterHead (after_head t w)
   unfolding after_head_tag
-  kept_mode_after_head (TagTurn tag) some = kept_after_head choices w steady.sound tag.kind tag
-  kept_mode_after_head (CommentTurn x) some = kept_comment choices w steady.sound AfterHead x
-  kept_mode_after_head (TextTurn Whitespace x) some = kept_append choices w steady.sound AfterHead x some
-  kept_mode_after_head t some = kept_body choices w steady.sound
+  kept_mode_after_head same (TagTurn tag) some = kept_after_head choices w steady.sound same tag.kind tag
+  kept_mode_after_head same (CommentTurn x) some = kept_comment choices w steady.sound AfterHead x
+  kept_mode_after_head same (TextTurn Whitespace x) some = kept_append choices w steady.sound AfterHead x some
+  kept_mode_after_head same t some = kept_body choices w steady.sound
 
   -- and after it
   in_body_again : (m : InsertionMode) → goes_by_body m ≡ true → Kept choices w m (errs [] (Again InBody))
@@ -90,21 +100,21 @@ module _ (choices : SinkChoices) (w : World) (steady : IsSteady w) where
   kept_after_after_body_tag StartTag tag = holds_by_name (Kept choices w AfterAfterBody) after_after_body_start (of_tag back_to_body) tag w ((λ p. kept_start_html choices w steady.sound AfterAfterBody tag), tt) (λ n. in_body_again AfterAfterBody refl)
   kept_after_after_body_tag EndTag tag = in_body_again AfterAfterBody refl
 
-  kept_mode_after_body : (t : TurnText) → HasText t → Kept choices w AfterBody (after_body t w)
+  kept_mode_after_body : w.mode ≡ AfterBody → (t : TurnText) → HasText t → Kept choices w AfterBody (after_body t w)
   unfolding after_body_tag
-  kept_mode_after_body (TagTurn tag) some = kept_after_body_tag tag.kind tag
-  kept_mode_after_body (CommentTurn x) some = kept_comment_to_root choices w steady.sound AfterBody x
-  kept_mode_after_body (TextTurn Whitespace x) some = kept_text_in_body choices w steady AfterBody refl x some
-  kept_mode_after_body EofTurn some = λ h. h
-  kept_mode_after_body t some = in_body_again AfterBody refl
+  kept_mode_after_body same (TagTurn tag) some = kept_after_body_tag tag.kind tag
+  kept_mode_after_body same (CommentTurn x) some = kept_comment_to_root choices w steady.sound AfterBody x
+  kept_mode_after_body same (TextTurn Whitespace x) some = kept_text_in_body choices w steady AfterBody refl same x some
+  kept_mode_after_body same EofTurn some = λ h. h
+  kept_mode_after_body same t some = in_body_again AfterBody refl
 
-  kept_mode_after_after_body : (t : TurnText) → HasText t → Kept choices w AfterAfterBody (after_after_body t w)
+  kept_mode_after_after_body : w.mode ≡ AfterAfterBody → (t : TurnText) → HasText t → Kept choices w AfterAfterBody (after_after_body t w)
   unfolding after_after_body_tag
-  kept_mode_after_after_body (TagTurn tag) some = kept_after_after_body_tag tag.kind tag
-  kept_mode_after_after_body (CommentTurn x) some = kept_comment_to_document choices w steady.sound AfterAfterBody x
-  kept_mode_after_after_body (TextTurn Whitespace x) some = kept_text_in_body choices w steady AfterAfterBody refl x some
-  kept_mode_after_after_body EofTurn some = λ h. h
-  kept_mode_after_after_body t some = in_body_again AfterAfterBody refl
+  kept_mode_after_after_body same (TagTurn tag) some = kept_after_after_body_tag tag.kind tag
+  kept_mode_after_after_body same (CommentTurn x) some = kept_comment_to_document choices w steady.sound AfterAfterBody x
+  kept_mode_after_after_body same (TextTurn Whitespace x) some = kept_text_in_body choices w steady AfterAfterBody refl same x some
+  kept_mode_after_after_body same EofTurn some = λ h. h
+  kept_mode_after_after_body same t some = in_body_again AfterAfterBody refl
 
   in_body_itself : (t : TurnText) → NoPart InBody t
   in_body_itself (TagTurn tag) = inl refl
@@ -115,18 +125,20 @@ module _ (choices : SinkChoices) (w : World) (steady : IsSteady w) where
   kept_rule Initial same t some = kept_mode_initial t
   kept_rule BeforeHtml same t some = kept_mode_before_html t
   kept_rule BeforeHead same t some = kept_mode_before_head t
-  kept_rule InHead same t some = kept_mode_in_head t some
-  kept_rule AfterHead same t some = kept_mode_after_head t some
-  kept_rule InBody same t some = kept_in_body choices w steady InBody refl t some (in_body_itself t)
+  kept_rule InHead same t some = kept_mode_in_head same t some
+  kept_rule InHeadNoscript same t some = kept_mode_in_head_noscript same t some
+  kept_rule AfterHead same t some = kept_mode_after_head same t some
+  kept_rule InBody same t some = kept_in_body choices w steady InBody refl same t some (in_body_itself t)
+  kept_rule Text same t some = kept_text_mode choices w steady.sound t some
   kept_rule InTable same t some = kept_in_table choices w steady InTable refl same t some
   kept_rule InTableText same t some = kept_in_table_text choices w steady t
-  kept_rule InCaption same t some = kept_in_caption choices w steady t some
+  kept_rule InCaption same t some = kept_in_caption choices w steady same t some
   kept_rule InColumnGroup same t some = kept_in_column_group choices w steady t some
   kept_rule InTableBody same t some = kept_in_table_body choices w steady same t some
   kept_rule InRow same t some = kept_in_row choices w steady same t some
-  kept_rule InCell same t some = kept_in_cell choices w steady t some
-  kept_rule AfterBody same t some = kept_mode_after_body t some
-  kept_rule AfterAfterBody same t some = kept_mode_after_after_body t some
+  kept_rule InCell same t some = kept_in_cell choices w steady same t some
+  kept_rule AfterBody same t some = kept_mode_after_body same t some
+  kept_rule AfterAfterBody same t some = kept_mode_after_after_body same t some
   kept_rule _ same t some = λ h. h
 
 -- open elements that fit a mode, and a list that agrees with them, fit where the mode is set

@@ -4,7 +4,7 @@ use Rattle.h5_interface.specs.SinkChoices.{SinkChoices}
 use Rattle.h5_types.specs.TurnText.{TextTurn, TurnText}
 use Rattle.h5_types.specs.declared.modes.InsertionMode.{InsertionMode}
 use Rattle.h5_types.specs.declared.modes.SplitStatus.TheVariants.{NotWhitespace}
-use Rattle.h5_types.specs.declared.modes.InsertionMode.TheVariants.{Initial, BeforeHtml, BeforeHead, InHead, AfterHead, InBody, InTable, InTableText, InCaption, InColumnGroup, InTableBody, InRow, InCell, AfterBody, AfterAfterBody}
+use Rattle.h5_types.specs.declared.modes.InsertionMode.TheVariants.{Initial, BeforeHtml, BeforeHead, InHead, InHeadNoscript, AfterHead, InBody, Text, InTable, InTableText, InCaption, InColumnGroup, InTableBody, InRow, InCell, AfterBody, AfterAfterBody}
 use Rattle.h5_meaning.specs.Blanks.{blanks_of, rest_of}
 use Rattle.h5_meaning.specs.Changes.{append_pending_text, append_text, insert_element, insert_head, create_root, save_mode, set_foster, set_frameset_ok_by_text, set_mode, pop, set_quirks_mode}
 use Rattle.h5_meaning.specs.AfterBody.{back_to_body}
@@ -14,10 +14,11 @@ use Rattle.h5_meaning.specs.BeforeHtml.{before_html_else}
 use Rattle.h5_meaning.specs.Shared.{current_is}
 use Rattle.h5_meaning.specs.InColumnGroup.{close_the_column_group, in_column_group_else}
 use Rattle.h5_meaning.specs.InHead.{in_head_else}
+use Rattle.h5_meaning.specs.InHeadNoscript.{in_head_noscript_else}
 use Rattle.h5_meaning.specs.InTable.{keeps_text}
 use Rattle.h5_meaning.specs.InitialMode.{initial_else}
 use Rattle.h5_meaning.specs.Rows.{Again, Pop, Row, choose, ignored, row}
-use Rattle.h5_meaning.specs.Text.{after_row, all_blanks, closes_column_group, fostered_text, if_any, split, dropped, by_else, text_in_body, text_in_column_group, text_in_table, text_in_table_text, text_after_body, text_after_head, text_in_head, text_before_head, text_before_html, text_initial, text_in, text_rule}
+use Rattle.h5_meaning.specs.Text.{after_row, all_blanks, closes_column_group, fostered_text, if_any, split, dropped, by_else, text_in_body, text_in_column_group, text_in_table, text_in_table_text, text_after_body, text_after_head, text_in_head, text_in_head_noscript, text_before_head, text_before_html, text_initial, text_in, text_rule}
 use Rattle.h5_meaning.specs.World.{World}
 use Rattle.h5_meaning.proofs.TreeLaws.{tree_reconstruct}
 
@@ -53,6 +54,10 @@ after_head_keeps choices = split_keeps append_text (by_else choices after_head_e
 in_head_keeps : (choices : SinkChoices) → Keeps (text_in_head choices)
 unfolding text_in_head pop
 in_head_keeps choices = split_keeps append_text (by_else choices in_head_else (text_after_head choices)) append_keeps (else_keeps choices in_head_else (text_after_head choices) (after_head_keeps choices) (λ t w. refl))
+
+in_head_noscript_keeps : (choices : SinkChoices) → Keeps (text_in_head_noscript choices)
+unfolding text_in_head_noscript pop
+in_head_noscript_keeps choices = split_keeps append_text (by_else choices in_head_noscript_else (text_in_head choices)) append_keeps (else_keeps choices in_head_noscript_else (text_in_head choices) (in_head_keeps choices) (λ t w. refl))
 
 before_head_keeps : (choices : SinkChoices) → Keeps (text_before_head choices)
 unfolding text_before_head insert_element insert_head
@@ -100,8 +105,10 @@ in_keeps choices Initial = initial_keeps choices
 in_keeps choices BeforeHtml = before_html_keeps choices
 in_keeps choices BeforeHead = before_head_keeps choices
 in_keeps choices InHead = in_head_keeps choices
+in_keeps choices InHeadNoscript = in_head_noscript_keeps choices
 in_keeps choices AfterHead = after_head_keeps choices
 in_keeps choices InBody = body_keeps choices
+in_keeps choices Text = append_keeps
 in_keeps choices InTable = table_keeps choices
 in_keeps choices InTableText = kept_keeps
 in_keeps choices InCaption = body_keeps choices

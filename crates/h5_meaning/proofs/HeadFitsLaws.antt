@@ -1,22 +1,24 @@
 -- The modes before the body: after each row the open elements fit the mode that it leaves.
-use Rattle.std.proofs.Common.{◌≡◌, ◌≢◌, ℕ, Bool, true, false, List, [], ◌∷◌, codes, refl, ap, sym, subst, ◌∙◌}
+use Rattle.std.proofs.Common.{◌≡◌, ℕ, Bool, true, false, List, [], ◌∷◌, codes, refl, ap, sym, subst, ◌∙◌}
 use Rattle.std.proofs.lemmas.Slice.Eq.{bytes_eq-Decides}
 use Rattle.h5_names.specs.AttributeText.{AttributeText}
 use Rattle.h5_names.specs.KnownNames.{name_text}
 use Rattle.h5_names.specs.declared.known_name.KnownName.{KnownName}
-use Rattle.h5_names.specs.declared.known_name.KnownName.TheVariants.{Body}
+use Rattle.h5_names.specs.declared.known_name.KnownName.TheVariants.{Body, Noscript}
 use Rattle.h5_token.specs.TokenText.{TagText}
+use Rattle.h5_token.specs.declared.states.RawKind.TheVariants.{Rawtext}
 use Rattle.h5_token.specs.declared.tag.TagKind.{TagKind}
 use Rattle.h5_token.specs.declared.tag.TagKind.TheVariants.{StartTag, EndTag}
 use Rattle.h5_interface.specs.SinkChoices.{SinkChoices}
 use Rattle.h5_interface.specs.declared.marks.QuirksMode.TheVariants.{Quirks}
+use Rattle.h5_tag_sets.specs.TagSets.{is_html_named, is_one_of}
 use Rattle.h5_types.specs.TurnText.{TurnText}
-use Rattle.h5_types.specs.declared.modes.InsertionMode.TheVariants.{AfterHead, BeforeHead, BeforeHtml, InBody, InHead, Initial}
+use Rattle.h5_types.specs.declared.modes.InsertionMode.TheVariants.{AfterHead, BeforeHead, BeforeHtml, InBody, InHead, InHeadNoscript, Initial}
 use Rattle.h5_stack.specs.FormattingNames.{html_name}
 use Rattle.h5_fits.specs.NamesFit.{NamesFit}
-use Rattle.h5_fits.specs.Roles.{BodyRole, HeadRole, role_of, role_of_local}
-use Rattle.h5_fits.proofs.NamesFitLaws.{names_body_pushed, names_head_popped, names_head_pushed, names_root_pushed}
-use Rattle.h5_fits.proofs.RoleLaws.{role_made}
+use Rattle.h5_fits.specs.Roles.{BodyRole, HeadRole, role_of_local}
+use Rattle.h5_fits.proofs.NamesFitLaws.{names_body_pushed, names_head_popped, names_head_pushed, names_noscript_popped, names_noscript_pushed, names_root_pushed}
+use Rattle.h5_fits.proofs.RoleLaws.{made_named, role_made}
 use Rattle.h5_fits.proofs.SituationLaws.{names_later}
 use Rattle.h5_fits.specs.Changes.{with_head}
 use Rattle.h5_meaning.specs.AfterHead.{after_head_else, after_head_end, after_head_start}
@@ -24,12 +26,16 @@ use Rattle.h5_meaning.specs.BeforeHead.{before_head_else, before_head_end, befor
 use Rattle.h5_meaning.specs.BeforeHtml.{before_html_else, before_html_end, before_html_start}
 use Rattle.h5_meaning.specs.ByName.{by_kind, by_name, ignored_tag, named, of_tag}
 use Rattle.h5_meaning.specs.Changes.{create_root, insert_element, insert_head, pop, set_quirks_mode}
-use Rattle.h5_meaning.specs.InHead.{in_head_else, in_head_end, in_head_start}
+use Rattle.h5_meaning.specs.InHead.{in_head_end, in_head_start_noscript, in_head_start_tag}
+use Rattle.h5_meaning.specs.InHeadNoscript.{in_head_noscript_else, in_head_noscript_end, in_head_noscript_start, noscript_content_names}
 use Rattle.h5_meaning.specs.InitialMode.{initial_else}
-use Rattle.h5_meaning.specs.Rows.{Again, CreateRoot, InsertElement, InsertHead, Pop, Row, SetQuirksMode, errs, row}
+use Rattle.h5_meaning.specs.Rows.{Again, CreateRoot, InsertElement, InsertHead, Pop, SetQuirksMode, errs, row}
+use Rattle.h5_meaning.specs.Shared.{head_start_names}
 use Rattle.h5_meaning.specs.Sound.{Sound, situation_of}
 use Rattle.h5_meaning.specs.World.{World, names_of}
-use Rattle.h5_meaning.proofs.ByNameLaws.{holds_by_name, holds_chosen}
+use Rattle.h5_meaning.proofs.AfterHeadLaws.{kept_with_head}
+use Rattle.h5_meaning.proofs.ByNameLaws.{holds_by_name, holds_chosen, of_named, of_one}
+use Rattle.h5_meaning.proofs.HeadContentLaws.{kept_head_content, kept_head_start, kept_raw, noscript_plain}
 use Rattle.h5_meaning.proofs.KeptLaws.{FitsAs, Kept, fits_at, fits_frameset_off, kept_start_html}
 use Rattle.h5_meaning.proofs.NameLaws.{names-insert, names-insert_head, names-insert_root}
 use Rattle.h5_meaning.proofs.PopLaws.{names-pop}
@@ -38,6 +44,11 @@ use Rattle.h5_meaning.proofs.SituationLaws.{situation_head, situation_insert, si
 -- a known name's role
 pub role_known : (known : KnownName) (name : List ℕ) → named known name ≡ true → role_of_local name ≡ role_of_local (name_text known)
 role_known known name h = ap role_of_local ((bytes_eq-Decides name (name_text known)).0 h)
+
+-- each name that goes by the rules of the head in a `noscript` goes so elsewhere, too
+noscript_content : (l : List ℕ) → is_one_of noscript_content_names l ≡ true → is_one_of head_start_names l ≡ true
+unfolding noscript_content_names head_start_names
+noscript_content l h = of_one (λ n. is_one_of head_start_names n ≡ true) noscript_content_names l (refl, (refl, (refl, (refl, (refl, (refl, tt)))))) h
 
 module _ (choices : SinkChoices) (w : World) (sound : Sound w) where
   -- the root is made
@@ -70,6 +81,21 @@ module _ (choices : SinkChoices) (w : World) (sound : Sound w) where
   body_pushed local attrs duplicates e h =
       fits_at InBody w (insert_element choices local attrs duplicates w) sound (situation_insert choices w local attrs duplicates sound)
       (subst (NamesFit (situation_of w) InBody) (sym (names-insert choices local attrs duplicates w sound)) (names_body_pushed (situation_of w) (html_name local) (names_of w) (role_made local ∙ e) h))
+
+  -- a `noscript` is pushed, and popped
+  noscript_pushed : (tag : TagText) → named Noscript tag.name ≡ true → FitsAs InHead w → FitsAs InHeadNoscript (insert_element choices tag.name tag.attrs tag.had_duplicate_attributes w)
+  noscript_pushed tag p h =
+      fits_at InHeadNoscript w (insert_element choices tag.name tag.attrs tag.had_duplicate_attributes w) sound (situation_insert choices w tag.name tag.attrs tag.had_duplicate_attributes sound)
+      (subst (NamesFit (situation_of w) InHeadNoscript) (sym (names-insert choices tag.name tag.attrs tag.had_duplicate_attributes w sound))
+      (names_noscript_pushed (situation_of w) (html_name tag.name) (names_of w) is_noscript h))
+    where
+      is_noscript : is_html_named (codes "noscript") (html_name tag.name) ≡ true
+      is_noscript = of_named (λ n. is_html_named (codes "noscript") (html_name n) ≡ true) Noscript tag.name (made_named (codes "noscript")) p
+
+  noscript_popped : FitsAs InHeadNoscript w → FitsAs InHead (pop choices w)
+  noscript_popped h =
+      fits_at InHead w (pop choices w) sound (situation_pop choices w)
+      (subst (NamesFit (situation_of w) InHead) (sym (names-pop choices w)) (names_noscript_popped (situation_of w) (names_of w) h))
 
   is_body : role_of_local (codes "body") ≡ BodyRole
   unfolding role_of_local
@@ -107,22 +133,47 @@ module _ (choices : SinkChoices) (w : World) (sound : Sound w) where
   pub kept_pop : Kept choices w InHead (row (Pop ∷ []) (Again AfterHead))
   kept_pop = head_popped
 
-  pub kept_in_head : (k : TagKind) (tag : TagText) → Kept choices w InHead (by_kind k (by_name in_head_start (of_tag in_head_else) tag w) (by_name in_head_end ignored_tag tag w))
-  unfolding in_head_start in_head_end names_of
-  kept_in_head StartTag tag = holds_by_name (Kept choices w InHead) in_head_start (of_tag in_head_else) tag w ((λ p. kept_start_html choices w sound InHead tag), ((λ p h. h), tt)) (λ n. kept_pop)
-  kept_in_head EndTag tag = holds_by_name (Kept choices w InHead) in_head_end ignored_tag tag w ((λ p. head_popped), ((λ p. kept_pop), tt)) (λ n h. h)
+  -- a `noscript`, whose text is raw where scripts run
+  kept_noscript : w.mode ≡ InHead → (tag : TagText) → named Noscript tag.name ≡ true → Kept choices w InHead (in_head_start_noscript tag w)
+  unfolding in_head_start_noscript names_of
+  kept_noscript same tag p = holds_chosen (Kept choices w InHead) w.options.scripting_enabled _ _
+      (λ e. kept_raw choices w sound InHead same refl Rawtext tag (noscript_plain tag.name p)) (λ e. noscript_pushed tag p)
+
+  pub kept_in_head : w.mode ≡ InHead → (k : TagKind) (tag : TagText) → Kept choices w InHead (by_kind k (in_head_start_tag tag w) (by_name in_head_end ignored_tag tag w))
+  unfolding in_head_end names_of
+  kept_in_head same StartTag tag = kept_head_start choices w sound InHead same refl tag (λ p. kept_noscript same tag p) (λ n. kept_pop)
+  kept_in_head same EndTag tag = holds_by_name (Kept choices w InHead) in_head_end ignored_tag tag w ((λ p. head_popped), ((λ p. kept_pop), tt)) (λ n h. h)
+
+  pub kept_noscript_pop : Kept choices w InHeadNoscript (errs (Pop ∷ []) (Again InHead))
+  kept_noscript_pop = noscript_popped
+
+  pub kept_in_head_noscript : w.mode ≡ InHeadNoscript → (k : TagKind) (tag : TagText)
+      → Kept choices w InHeadNoscript (by_kind k (by_name in_head_noscript_start (of_tag in_head_noscript_else) tag w) (by_name in_head_noscript_end ignored_tag tag w))
+  unfolding in_head_noscript_start in_head_noscript_end names_of
+  kept_in_head_noscript same StartTag tag = holds_by_name (Kept choices w InHeadNoscript) in_head_noscript_start (of_tag in_head_noscript_else) tag w (
+    (λ p. kept_start_html choices w sound InHeadNoscript tag),
+    (
+      (λ p. kept_head_content choices w sound InHeadNoscript same refl tag (noscript_content tag.name p)),
+      ((λ p h. h), tt),
+    ),
+  )
+      (λ n. kept_noscript_pop)
+  kept_in_head_noscript same EndTag tag = holds_by_name (Kept choices w InHeadNoscript) in_head_noscript_end ignored_tag tag w ((λ p. noscript_popped), ((λ p. kept_noscript_pop), tt)) (λ n h. h)
 
   pub kept_body : Kept choices w AfterHead (row (InsertElement (codes "body") [] false ∷ []) (Again InBody))
   kept_body = body_pushed (codes "body") [] false is_body
 
-  pub kept_after_head : (k : TagKind) (tag : TagText) → Kept choices w AfterHead (by_kind k (by_name after_head_start (of_tag after_head_else) tag w) (by_name after_head_end ignored_tag tag w))
+  pub kept_after_head : w.mode ≡ AfterHead → (k : TagKind) (tag : TagText) → Kept choices w AfterHead (by_kind k (by_name after_head_start (of_tag after_head_else) tag w) (by_name after_head_end ignored_tag tag w))
   unfolding after_head_start after_head_end names_of
-  kept_after_head StartTag tag = holds_by_name (Kept choices w AfterHead) after_head_start (of_tag after_head_else) tag w (
+  kept_after_head same StartTag tag = holds_by_name (Kept choices w AfterHead) after_head_start (of_tag after_head_else) tag w (
     (λ p. kept_start_html choices w sound AfterHead tag),
     (
       (λ p h. fits_frameset_off InBody (insert_element choices tag.name tag.attrs tag.had_duplicate_attributes w) (body_pushed tag.name tag.attrs tag.had_duplicate_attributes (named_body tag.name p) h)),
-      ((λ p h. h), tt),
+      (
+        (λ p. kept_with_head choices w sound same tag p),
+        ((λ p h. h), tt),
+      ),
     ),
   )
       (λ n. kept_body)
-  kept_after_head EndTag tag = holds_by_name (Kept choices w AfterHead) after_head_end ignored_tag tag w ((λ p h. h), ((λ p. kept_body), tt)) (λ n h. h)
+  kept_after_head same EndTag tag = holds_by_name (Kept choices w AfterHead) after_head_end ignored_tag tag w ((λ p h. h), ((λ p. kept_body), tt)) (λ n h. h)

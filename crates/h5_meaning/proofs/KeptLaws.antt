@@ -8,11 +8,11 @@ use Rattle.h5_stack.specs.Order.{second_from_last}
 use Rattle.h5_stack.specs.Scope.{has_template}
 use Rattle.h5_fits.specs.NamesFit.{NamesFit}
 use Rattle.h5_fits.proofs.SituationLaws.{names_later}
-use Rattle.h5_meaning.specs.Changes.{add_attrs_at, add_attrs_to_html, add_attrs_to_second, append_comment, append_comment_to_doc, append_comment_to_html, append_pending_text, append_text, create_root, insert_and_pop_element, insert_and_pop_form, insert_element, insert_form, insert_head, pop, pop_until_current, pop_until_named, set_foster, set_frameset_not_ok, set_frameset_ok_by_text, set_mode, set_quirks_mode}
+use Rattle.h5_meaning.specs.Changes.{add_attrs_at, add_attrs_to_html, add_attrs_to_second, append_comment, append_comment_to_doc, append_comment_to_html, append_pending_text, append_text, create_root, insert_and_pop_element, insert_and_pop_form, insert_element, insert_form, insert_head, insert_script, mark_started, pop, pop_until_current, pop_until_named, set_foster, set_frameset_not_ok, set_frameset_ok_by_text, set_mode, set_quirks_mode}
 use Rattle.h5_meaning.specs.Closing.{copy_closed_option, pop_until_cell}
 use Rattle.h5_meaning.specs.Formatting.{clear_active_formatting_to_marker, insert_marker}
 use Rattle.h5_meaning.specs.Reset.{reset_mode}
-use Rattle.h5_meaning.specs.Rows.{AddAttrsToHtml, AddAttrsToSecond, AdoptionAgency, AppendComment, AppendCommentToDoc, AppendCommentToHtml, AppendPendingText, AppendText, Change, ClearActiveFormattingToMarker, ClearForm, CloseListItem, ClosePElement, ClosePElementInButtonScope, CopyClosedOption, CreateFormattingElement, CreateRoot, Ending, GenerateImpliedEnd, GenerateImpliedEndExcept, GenerateImpliedEndInSelect, HandleMisnestedATags, HandleMisnestedNobrTags, InsertAndPopElement, InsertAndPopForm, InsertElement, InsertForm, InsertHead, InsertMarker, IsDone, Pop, PopHeading, PopUntilCell, PopUntilCurrent, PopUntilHeading, PopUntilNamed, ReconstructActiveFormattingElements, RemoveFromStack, ResetMode, Row, SaveMode, SetFoster, SetFramesetNotOk, SetFramesetOkByText, SetIgnoreLf, SetMode, SetQuirksMode, TakePendingText, apply, apply_all, errs, ignored, next_mode, row}
+use Rattle.h5_meaning.specs.Rows.{AddAttrsToHtml, AddAttrsToSecond, AdoptionAgency, AppendComment, AppendCommentToDoc, AppendCommentToHtml, AppendPendingText, AppendText, Change, ClearActiveFormattingToMarker, ClearForm, CloseListItem, ClosePElement, ClosePElementInButtonScope, CopyClosedOption, CreateFormattingElement, CreateRoot, Ending, GenerateImpliedEnd, GenerateImpliedEndExcept, GenerateImpliedEndInSelect, HandleMisnestedATags, HandleMisnestedNobrTags, InsertAndPopElement, InsertAndPopForm, InsertElement, InsertForm, InsertHead, InsertMarker, InsertScript, IsDone, MarkStarted, Pop, PopHeading, PopUntilCell, PopUntilCurrent, PopUntilHeading, PopUntilNamed, PushHead, ReconstructActiveFormattingElements, RemoveFromStack, ResetMode, Row, SaveMode, SetFoster, SetFramesetNotOk, SetFramesetOkByText, SetIgnoreLf, SetMode, SetQuirksMode, TakePendingText, apply, apply_all, errs, ignored, next_mode, row}
 use Rattle.h5_meaning.specs.Shared.{in_body_start_html}
 use Rattle.h5_meaning.specs.Sound.{Sound, situation_of}
 use Rattle.h5_meaning.specs.Tables.{foster}
@@ -82,7 +82,7 @@ tree_mode : (w v : World) → OnlyTree w v → v.mode ≡ w.mode
 tree_mode w v e = ap (λ (x : World). x.mode) e
 
 change_mode : (choices : SinkChoices) (x : Change) (w : World) → (apply choices x w).mode ≡ mode_after choices w w.mode (x ∷ [])
-unfolding set_frameset_ok_by_text set_quirks_mode insert_element create_root append_comment append_comment_to_doc append_comment_to_html append_text pop insert_and_pop_element insert_and_pop_form insert_head add_attrs_to_html add_attrs_to_second pop_until_named append_pending_text insert_form copy_closed_option
+unfolding set_frameset_ok_by_text set_quirks_mode insert_element create_root append_comment append_comment_to_doc append_comment_to_html append_text pop insert_and_pop_element insert_and_pop_form insert_head add_attrs_to_html add_attrs_to_second pop_until_named append_pending_text insert_form copy_closed_option insert_script mark_started
 change_mode choices (SetMode mode) w = refl
 change_mode choices (SetQuirksMode mode) w = refl
 change_mode choices SetFramesetNotOk w = refl
@@ -131,6 +131,9 @@ change_mode choices (CloseListItem locals) w = tree_mode w _ (tree_list_item cho
 change_mode choices GenerateImpliedEndInSelect w = tree_mode w _ (tree_in_select choices w)
 change_mode choices (CopyClosedOption option) w = refl
 change_mode choices (RemoveFromStack element) w = tree_mode w _ (tree_remove choices element w)
+change_mode choices (InsertScript attrs duplicates) w = refl
+change_mode choices MarkStarted w = refl
+change_mode choices PushHead w = refl
 
 mode_in_turn : (choices : SinkChoices) (w : World) (m : InsertionMode) (x : Change) (xs : List Change) → mode_after choices (apply choices x w) (mode_after choices w m (x ∷ [])) xs ≡ mode_after choices w m (x ∷ xs)
 mode_in_turn choices w m (SetMode k) xs = refl

@@ -1,133 +1,178 @@
 -- Each rule creates formatting elements of their names alone.
-use Rattle.std.proofs.Common.{◌≡◌, ℕ, Bool, true, false, not, ◌&&◌, ◌||◌, is_some, List, [], ◌∷◌, codes, IsTrue, refl}
-use Rattle.h5_names.specs.declared.known_name.KnownName.TheVariants.{A, Nobr, Table}
+use Rattle.std.proofs.Common.{◌≡◌, ℕ, Bool, true, false, ◌||◌, if◌then◌else◌, is_some, List, [], ◌∷◌, ◌++◌, Option, Some, None, codes, refl}
 use Rattle.h5_token.specs.TokenText.{TagText}
 use Rattle.h5_token.specs.declared.tag.TagKind.{TagKind}
 use Rattle.h5_token.specs.declared.tag.TagKind.TheVariants.{StartTag, EndTag}
 use Rattle.h5_interface.specs.declared.marks.QuirksMode.TheVariants.{Quirks}
-use Rattle.h5_tag_sets.specs.TagSets.{formatting_names, is_cell, is_default_scope, is_heading, is_html_named, is_one_of, is_table_body_context, is_table_row_context}
-use Rattle.h5_stack.specs.Scope.{comes_before_special, has_p_in_button_scope, has_template, in_scope, second_is}
+use Rattle.h5_tag_sets.specs.TagSets.{is_cell, is_one_of, is_table_body_context, is_table_row_context}
+use Rattle.h5_stack.specs.Scope.{has_template}
 use Rattle.h5_types.specs.TurnText.{TurnText, TagTurn, CommentTurn, TextTurn, NullTurn, EofTurn}
 use Rattle.h5_types.specs.declared.modes.InsertionMode.{InsertionMode}
-use Rattle.h5_types.specs.declared.modes.InsertionMode.TheVariants.{Initial, BeforeHtml, BeforeHead, InHead, AfterHead, InBody, InTable, InTableText, InCaption, InColumnGroup, InTableBody, InRow, InCell, AfterBody, AfterAfterBody}
+use Rattle.h5_types.specs.declared.modes.InsertionMode.TheVariants.{Initial, BeforeHtml, BeforeHead, InHead, InHeadNoscript, AfterHead, InBody, Text, InTable, InTableText, InCaption, InColumnGroup, InTableBody, InRow, InCell, AfterBody, AfterAfterBody}
 use Rattle.h5_types.specs.declared.modes.SplitStatus.TheVariants.{NotSplit, Whitespace, NotWhitespace}
 use Rattle.h5_meaning.specs.AfterAfterBody.{after_after_body_start, after_after_body_tag}
 use Rattle.h5_meaning.specs.AfterBody.{after_body_end, after_body_start, after_body_tag, back_to_body}
-use Rattle.h5_meaning.specs.AfterHead.{after_head_else, after_head_end, after_head_start, after_head_tag}
+use Rattle.h5_meaning.specs.AfterHead.{after_head_else, after_head_end, after_head_start, after_head_tag, removes_known, with_head}
 use Rattle.h5_meaning.specs.BeforeHead.{before_head_else, before_head_end, before_head_start, before_head_tag}
 use Rattle.h5_meaning.specs.BeforeHtml.{before_html_else, before_html_end, before_html_start, before_html_tag}
 use Rattle.h5_meaning.specs.Blanks.{all_blank}
-use Rattle.h5_meaning.specs.ByName.{by_kind, by_name, ignored_tag, named, of_tag}
-use Rattle.h5_meaning.specs.Changes.{set_foster}
-use Rattle.h5_meaning.specs.InBody.{body_ends, body_in_scope, if_body_in_scope, is_quirks, in_body, in_body_end, in_body_end_block, in_body_end_heading, in_body_end_other, in_body_end_p, in_body_start, in_body_start_body, in_body_start_other, in_body_start_table, in_body_tag}
+use Rattle.h5_meaning.specs.ByName.{by_kind, by_name, ignored_tag, of_tag}
+use Rattle.h5_meaning.specs.Changes.{push_head, set_foster}
+use Rattle.h5_meaning.specs.InBody.{body_ends, body_in_scope, if_body_in_scope, in_body, in_body_end, in_body_end_other, in_body_start, in_body_start_other, in_body_tag}
 use Rattle.h5_meaning.specs.InCaption.{close_the_caption, in_caption_end, in_caption_start, in_caption_tag}
 use Rattle.h5_meaning.specs.InCell.{close_the_cell, in_cell_end, in_cell_end_cell, in_cell_end_structure, in_cell_start, in_cell_start_structure, in_cell_tag}
 use Rattle.h5_meaning.specs.InColumnGroup.{close_the_column_group, in_column_group_else, in_column_group_end, in_column_group_start, in_column_group_tag}
-use Rattle.h5_meaning.specs.InHead.{in_head_else, in_head_end, in_head_start, in_head_tag}
+use Rattle.h5_meaning.specs.InHead.{in_head_end, in_head_start_tag, in_head_tag}
 use Rattle.h5_meaning.specs.InRow.{close_the_row, in_row_end, in_row_end_section, in_row_start, in_row_tag}
 use Rattle.h5_meaning.specs.InTable.{in_table, in_table_else, in_table_end, in_table_end_table, in_table_start, in_table_start_form, in_table_start_input, in_table_start_table, in_table_tag, in_table_text_or_null, keeps_text}
 use Rattle.h5_meaning.specs.InTableBody.{in_table_body_close, in_table_body_end, in_table_body_end_section, in_table_body_start, in_table_body_tag, is_table_or_section}
 use Rattle.h5_meaning.specs.InTableText.{in_table_text_else, pending_text}
 use Rattle.h5_meaning.specs.InitialMode.{initial_else}
 use Rattle.h5_meaning.specs.Modes.{rule}
-use Rattle.h5_meaning.specs.Rows.{AddAttrsToHtml, AddAttrsToSecond, Again, AgainBy, AppendText, Change, ClearActiveFormattingToMarker, ClosePElement, ClosePElementInButtonScope, Ending, GenerateImpliedEnd, GenerateImpliedEndExcept, InsertAndPopElement, InsertAndPopForm, InsertElement, IsAcknowledged, IsDone, Pop, PopUntilCurrent, PopUntilHeading, PopUntilNamed, ResetMode, Row, SaveMode, SetFoster, SetFramesetNotOk, SetMode, SetQuirksMode, choose, errs, ignored, row, row_if}
+use Rattle.h5_meaning.specs.Rows.{AddAttrsToHtml, Again, AgainBy, Answers, AppendText, Change, ClearActiveFormattingToMarker, Ending, GenerateImpliedEnd, InsertAndPopElement, InsertAndPopForm, IsAcknowledged, IsDone, MarkStarted, Pop, PopUntilCurrent, PopUntilNamed, PushHead, ResetMode, Row, SaveMode, SetFoster, SetMode, SetQuirksMode, choose, errs, ignored, row, row_if}
 use Rattle.h5_meaning.specs.Reset.{reset_mode}
-use Rattle.h5_meaning.specs.Shared.{current_is, in_body_start_html, inserts, is_type_hidden}
+use Rattle.h5_meaning.specs.Shared.{current_is, head_start_names, in_body_start_html, is_type_hidden}
 use Rattle.h5_meaning.specs.Tables.{foster, in_table_scope, named_in_table_scope}
 use Rattle.h5_meaning.specs.World.{World, names_of}
-use Rattle.h5_meaning.proofs.ByNameLaws.{holds_by_name, of_named}
-use Rattle.h5_meaning.proofs.ListedLaws.{AllListable, listable_append}
-use Rattle.h5_meaning.proofs.BodyRowLaws.{row_end_by, row_start}
+use Rattle.h5_meaning.proofs.ByNameLaws.{holds_by_name}
+use Rattle.h5_meaning.proofs.ListedLaws.{AllListable}
+use Rattle.h5_meaning.proofs.BodyRowLaws.{head_start_passes, noscript_content_passes, row_end_by, row_head_start, row_head_start_by, row_start, table_text_passes}
+use Rattle.h5_token.specs.Reply.{RunsScript, TurnsPlain, TurnsRaw}
+use Rattle.h5_meaning.proofs.ToldLaws.{IsTold, NoMode, NoText, Tells, is_text, reset_no_text, told_append, told_chosen}
+use Rattle.h5_meaning.specs.TextMode.{marks_script, text_end, text_mode}
+use Rattle.h5_meaning.specs.InHeadNoscript.{in_head_noscript_else, in_head_noscript_end, in_head_noscript_start, in_head_noscript_tag}
 
-abbrev Listable : Row → Type 0
-Listable r = AllListable r.changes
-
-either : (b : Bool) (r s : Row) → Listable r → Listable s → Listable (choose b r s)
-either true r s x y = x
-either false r s x y = y
+either : (b : Bool) (r s : Row) → IsTold r → IsTold s → IsTold (choose b r s)
+either b r s x y = told_chosen b r s x y
 
 -- BEFORE the body, and after it
-listable_html : (tag : TagText) (w : World) → Listable (in_body_start_html tag w)
+told_html : (tag : TagText) (w : World) → IsTold (in_body_start_html tag w)
 unfolding in_body_start_html
-listable_html tag w = either (has_template (names_of w)) ignored (errs (AddAttrsToHtml tag.attrs ∷ []) IsDone) tt tt
+told_html tag w = either (has_template (names_of w)) ignored (errs (AddAttrsToHtml tag.attrs ∷ []) IsDone) (tt, tt) (tt, tt)
 
-initial_row : (t : TurnText) (w : World) → Listable (initial_else t w)
+initial_row : (t : TurnText) (w : World) → IsTold (initial_else t w)
 unfolding initial_else
-initial_row t w = either w.options.iframe_srcdoc (row [] (Again BeforeHtml)) (errs (SetQuirksMode Quirks ∷ []) (Again BeforeHtml)) tt tt
+initial_row t w = either w.options.iframe_srcdoc (row [] (Again BeforeHtml)) (errs (SetQuirksMode Quirks ∷ []) (Again BeforeHtml)) (tt, (refl, tt)) (tt, (refl, tt))
 
-before_html_rows : (k : TagKind) (tag : TagText) (w : World) → Listable (by_kind k (by_name before_html_start (of_tag before_html_else) tag w) (by_name before_html_end ignored_tag tag w))
+before_html_rows : (k : TagKind) (tag : TagText) (w : World) → IsTold (by_kind k (by_name before_html_start (of_tag before_html_else) tag w) (by_name before_html_end ignored_tag tag w))
 unfolding before_html_start before_html_end
-before_html_rows StartTag tag w = holds_by_name Listable before_html_start (of_tag before_html_else) tag w ((λ p. tt), tt) (λ n. tt)
-before_html_rows EndTag tag w = holds_by_name Listable before_html_end ignored_tag tag w ((λ p. tt), tt) (λ n. tt)
+before_html_rows StartTag tag w = holds_by_name IsTold before_html_start (of_tag before_html_else) tag w ((λ p. (tt, (refl, tt))), tt) (λ n. (tt, (refl, tt)))
+before_html_rows EndTag tag w = holds_by_name IsTold before_html_end ignored_tag tag w ((λ p. (tt, (refl, tt))), tt) (λ n. (tt, tt))
 
-before_head_rows : (k : TagKind) (tag : TagText) (w : World) → Listable (by_kind k (by_name before_head_start (of_tag before_head_else) tag w) (by_name before_head_end ignored_tag tag w))
+before_head_rows : (k : TagKind) (tag : TagText) (w : World) → IsTold (by_kind k (by_name before_head_start (of_tag before_head_else) tag w) (by_name before_head_end ignored_tag tag w))
 unfolding before_head_start before_head_end
-before_head_rows StartTag tag w = holds_by_name Listable before_head_start (of_tag before_head_else) tag w ((λ p. listable_html tag w), ((λ p. tt), tt)) (λ n. tt)
-before_head_rows EndTag tag w = holds_by_name Listable before_head_end ignored_tag tag w ((λ p. tt), tt) (λ n. tt)
+before_head_rows StartTag tag w = holds_by_name IsTold before_head_start (of_tag before_head_else) tag w ((λ p. told_html tag w), ((λ p. (tt, (refl, tt))), tt)) (λ n. (tt, (refl, tt)))
+before_head_rows EndTag tag w = holds_by_name IsTold before_head_end ignored_tag tag w ((λ p. (tt, (refl, tt))), tt) (λ n. (tt, tt))
 
-in_head_rows : (k : TagKind) (tag : TagText) (w : World) → Listable (by_kind k (by_name in_head_start (of_tag in_head_else) tag w) (by_name in_head_end ignored_tag tag w))
-unfolding in_head_start in_head_end
-in_head_rows StartTag tag w = holds_by_name Listable in_head_start (of_tag in_head_else) tag w ((λ p. listable_html tag w), ((λ p. tt), tt)) (λ n. tt)
-in_head_rows EndTag tag w = holds_by_name Listable in_head_end ignored_tag tag w ((λ p. tt), ((λ p. tt), tt)) (λ n. tt)
+in_head_rows : (k : TagKind) (tag : TagText) (w : World) → IsTold (by_kind k (in_head_start_tag tag w) (by_name in_head_end ignored_tag tag w))
+unfolding in_head_end
+in_head_rows StartTag tag w = (row_head_start_by tag w IsTold (λ r b. b.told)) (λ n. (tt, (refl, tt)))
+in_head_rows EndTag tag w = holds_by_name IsTold in_head_end ignored_tag tag w ((λ p. (tt, (refl, tt))), ((λ p. (tt, (refl, tt))), tt)) (λ n. (tt, tt))
 
-after_head_rows : (k : TagKind) (tag : TagText) (w : World) → Listable (by_kind k (by_name after_head_start (of_tag after_head_else) tag w) (by_name after_head_end ignored_tag tag w))
+in_head_noscript_rows : (k : TagKind) (tag : TagText) (w : World)
+    → IsTold (by_kind k (by_name in_head_noscript_start (of_tag in_head_noscript_else) tag w) (by_name in_head_noscript_end ignored_tag tag w))
+unfolding in_head_noscript_start in_head_noscript_end
+in_head_noscript_rows StartTag tag w =
+    holds_by_name IsTold in_head_noscript_start (of_tag in_head_noscript_else) tag w
+    ((λ p. told_html tag w), ((λ p. (row_head_start tag w (noscript_content_passes tag.name p)).told), ((λ p. (tt, tt)), tt))) (λ n. (tt, (refl, tt)))
+in_head_noscript_rows EndTag tag w = holds_by_name IsTold in_head_noscript_end ignored_tag tag w ((λ p. (tt, (refl, tt))), ((λ p. (tt, (refl, tt))), tt)) (λ n. (tt, tt))
+
+-- with the head as the current node
+removes_told : (o : Option ℕ) → AllListable (removes_known o) × NoMode (removes_known o)
+removes_told None = (tt, tt)
+removes_told (Some n) = (tt, tt)
+
+pushed : (x : Ending) (xs : List Change) → AllListable xs × Tells x xs → AllListable (PushHead ∷ xs) × Tells x (PushHead ∷ xs)
+pushed IsDone xs h = h
+pushed IsAcknowledged xs h = h
+pushed (Again m) xs h = h
+pushed (AgainBy mode) xs h = h
+pushed (Answers (RunsScript node)) xs h = h
+pushed (Answers TurnsPlain) xs h = h
+pushed (Answers (TurnsRaw kind)) xs h = h
+pushed (Answers _) xs h = h
+
+with_head_row : (tag : TagText) (w : World) → is_one_of head_start_names tag.name ≡ true → IsTold (with_head in_head_start_tag tag w)
+unfolding with_head
+with_head_row tag w p =
+    let r = in_head_start_tag tag (push_head w) in
+    let gone = removes_told w.head in
+    pushed r.ending (r.changes ++ removes_known w.head) (told_append r.ending r.changes (removes_known w.head) (row_head_start tag (push_head w) (head_start_passes tag.name p)).told gone.0 gone.1)
+
+after_head_rows : (k : TagKind) (tag : TagText) (w : World) → IsTold (by_kind k (by_name after_head_start (of_tag after_head_else) tag w) (by_name after_head_end ignored_tag tag w))
 unfolding after_head_start after_head_end
-after_head_rows StartTag tag w = holds_by_name Listable after_head_start (of_tag after_head_else) tag w ((λ p. listable_html tag w), ((λ p. tt), ((λ p. tt), tt))) (λ n. tt)
-after_head_rows EndTag tag w = holds_by_name Listable after_head_end ignored_tag tag w ((λ p. tt), ((λ p. tt), tt)) (λ n. tt)
+after_head_rows StartTag tag w =
+    holds_by_name IsTold after_head_start (of_tag after_head_else) tag w ((λ p. told_html tag w), ((λ p. (tt, (refl, tt))), ((λ p. with_head_row tag w p), ((λ p. (tt, tt)), tt)))) (λ n. (tt, (refl, tt)))
+after_head_rows EndTag tag w = holds_by_name IsTold after_head_end ignored_tag tag w ((λ p. (tt, tt)), ((λ p. (tt, (refl, tt))), tt)) (λ n. (tt, tt))
 
-after_body_rows : (k : TagKind) (tag : TagText) (w : World) → Listable (by_kind k (by_name after_body_start (of_tag back_to_body) tag w) (by_name after_body_end (of_tag back_to_body) tag w))
+after_body_rows : (k : TagKind) (tag : TagText) (w : World) → IsTold (by_kind k (by_name after_body_start (of_tag back_to_body) tag w) (by_name after_body_end (of_tag back_to_body) tag w))
 unfolding after_body_start after_body_end
-after_body_rows StartTag tag w = holds_by_name Listable after_body_start (of_tag back_to_body) tag w ((λ p. listable_html tag w), tt) (λ n. tt)
-after_body_rows EndTag tag w = holds_by_name Listable after_body_end (of_tag back_to_body) tag w ((λ p. tt), tt) (λ n. tt)
+after_body_rows StartTag tag w = holds_by_name IsTold after_body_start (of_tag back_to_body) tag w ((λ p. told_html tag w), tt) (λ n. (tt, (refl, tt)))
+after_body_rows EndTag tag w = holds_by_name IsTold after_body_end (of_tag back_to_body) tag w ((λ p. (tt, (refl, tt))), tt) (λ n. (tt, (refl, tt)))
 
-after_after_body_rows : (k : TagKind) (tag : TagText) (w : World) → Listable (by_kind k (by_name after_after_body_start (of_tag back_to_body) tag w) (back_to_body (TagTurn tag) w))
+after_after_body_rows : (k : TagKind) (tag : TagText) (w : World) → IsTold (by_kind k (by_name after_after_body_start (of_tag back_to_body) tag w) (back_to_body (TagTurn tag) w))
 unfolding after_after_body_start
-after_after_body_rows StartTag tag w = holds_by_name Listable after_after_body_start (of_tag back_to_body) tag w ((λ p. listable_html tag w), tt) (λ n. tt)
-after_after_body_rows EndTag tag w = tt
+after_after_body_rows StartTag tag w = holds_by_name IsTold after_after_body_start (of_tag back_to_body) tag w ((λ p. told_html tag w), tt) (λ n. (tt, (refl, tt)))
+after_after_body_rows EndTag tag w = (tt, (refl, tt))
 
 -- IN THE BODY
-body_end_html : (w : World) → Listable (if_body_in_scope (body_ends [] (Again AfterBody) w) w)
+body_end_html : (w : World) → IsTold (if_body_in_scope (body_ends [] (Again AfterBody) w) w)
 unfolding if_body_in_scope
-body_end_html w = either (body_in_scope w) (body_ends [] (Again AfterBody) w) ignored tt tt
+body_end_html w = either (body_in_scope w) (body_ends [] (Again AfterBody) w) ignored (tt, (refl, tt)) (tt, tt)
 
-body_tag_rows : (tag : TagText) (w : World) → Listable (in_body_tag tag w)
+body_tag_rows : (tag : TagText) (w : World) → IsTold (in_body_tag tag w)
 unfolding in_body_tag
 body_tag_rows tag w = at tag.kind
   where
-    at : (k : TagKind) → Listable (by_kind k (by_name in_body_start in_body_start_other tag w) (by_name in_body_end in_body_end_other tag w))
-    at StartTag = (row_start tag w).listable
-    at EndTag = row_end_by tag w Listable (λ r b. b.listable) (λ p. body_end_html w)
+    at : (k : TagKind) → IsTold (by_kind k (by_name in_body_start in_body_start_other tag w) (by_name in_body_end in_body_end_other tag w))
+    at StartTag = (row_start tag w).told
+    at EndTag = row_end_by tag w IsTold (λ r b. b.told) (λ p. body_end_html w)
 
-body_rows : (t : TurnText) (w : World) → Listable (in_body t w)
+body_rows : (t : TurnText) (w : World) → IsTold (in_body t w)
 body_rows (TagTurn tag) w = body_tag_rows tag w
-body_rows (CommentTurn text) w = tt
-body_rows (TextTurn status text) w = tt
-body_rows NullTurn w = tt
-body_rows EofTurn w = tt
+body_rows (CommentTurn text) w = (tt, tt)
+body_rows (TextTurn status text) w = (tt, tt)
+body_rows NullTurn w = (tt, tt)
+body_rows EofTurn w = (tt, tt)
 
 -- IN TABLES
-fostered_rows : (t : TurnText) (w : World) → Listable (foster in_body t w)
-fostered_rows t w = listable_append (in_body t (set_foster true w)).changes (SetFoster false ∷ []) (body_rows t (set_foster true w)) tt
+fosters : (on : Bool) (x : Ending) (xs : List Change) → AllListable xs × Tells x xs → AllListable (SetFoster on ∷ xs) × Tells x (SetFoster on ∷ xs)
+fosters on IsDone xs h = h
+fosters on IsAcknowledged xs h = h
+fosters on (Again m) xs h = h
+fosters on (AgainBy mode) xs h = h
+fosters on (Answers (RunsScript node)) xs h = h
+fosters on (Answers TurnsPlain) xs h = h
+fosters on (Answers (TurnsRaw kind)) xs h = h
+fosters on (Answers _) xs h = h
+
+fostered_rows : (t : TurnText) (w : World) → IsTold (foster in_body t w)
+fostered_rows t w =
+    let r = in_body t (set_foster true w) in
+    fosters true r.ending (r.changes ++ SetFoster false ∷ []) (told_append r.ending r.changes (SetFoster false ∷ []) (body_rows t (set_foster true w)) tt tt)
 
 module _ (tag : TagText) (w : World) where
-  table_start_rows : Listable (by_name in_table_start (of_tag in_table_else) tag w)
+  table_start_rows : IsTold (by_name in_table_start (of_tag in_table_else) tag w)
   unfolding in_table_start in_table_start_table in_table_start_input in_table_start_form
   table_start_rows =
-      holds_by_name Listable in_table_start (of_tag in_table_else) tag w (
-        (λ p. tt),
+      holds_by_name IsTold in_table_start (of_tag in_table_else) tag w (
+        (λ p. (tt, (refl, tt))),
         (
-          (λ p. tt),
+          (λ p. (tt, (refl, tt))),
           (
-            (λ p. tt),
+            (λ p. (tt, (refl, tt))),
             (
-              (λ p. tt),
+              (λ p. (tt, (refl, tt))),
               (
-                (λ p. tt),
+                (λ p. (tt, (refl, tt))),
                 (
-                  (λ p. either (named_in_table_scope (codes "table") w) (errs (PopUntilNamed (codes "table") ∷ []) (AgainBy reset_mode)) ignored tt tt),
+                  (λ p. either (named_in_table_scope (codes "table") w) (errs (PopUntilNamed (codes "table") ∷ []) (AgainBy reset_mode)) ignored (tt, (tt, reset_no_text)) (tt, tt)),
                   (
-                    (λ p. either (is_type_hidden tag.attrs) (errs (InsertAndPopElement tag.name tag.attrs tag.had_duplicate_attributes ∷ []) IsAcknowledged) (foster in_body (TagTurn tag) w) tt (fostered_rows (TagTurn tag) w)),
-                    ((λ p. either (has_template (names_of w) || is_some w.form) ignored (errs (InsertAndPopForm tag.attrs tag.had_duplicate_attributes ∷ []) IsDone) tt tt), tt),
+                    (λ p. (row_head_start tag w (table_text_passes tag.name p)).told),
+                    (
+                      (λ p. either (is_type_hidden tag.attrs) (errs (InsertAndPopElement tag.name tag.attrs tag.had_duplicate_attributes ∷ []) IsAcknowledged) (foster in_body (TagTurn tag) w) (tt, tt) (fostered_rows (TagTurn tag) w)),
+                      ((λ p. either (has_template (names_of w) || is_some w.form) ignored (errs (InsertAndPopForm tag.attrs tag.had_duplicate_attributes ∷ []) IsDone) (tt, tt) (tt, tt)), tt),
+                    ),
                   ),
                 ),
               ),
@@ -137,166 +182,249 @@ module _ (tag : TagText) (w : World) where
       )
       (λ n. fostered_rows (TagTurn tag) w)
 
-  table_end_rows : Listable (by_name in_table_end (of_tag in_table_else) tag w)
+  table_end_rows : IsTold (by_name in_table_end (of_tag in_table_else) tag w)
   unfolding in_table_end in_table_end_table
   table_end_rows =
-      holds_by_name Listable in_table_end (of_tag in_table_else) tag w
-      ((λ p. either (named_in_table_scope (codes "table") w) (row (PopUntilNamed (codes "table") ∷ ResetMode ∷ []) IsDone) ignored tt tt), ((λ p. tt), tt))
+      holds_by_name IsTold in_table_end (of_tag in_table_else) tag w
+      ((λ p. either (named_in_table_scope (codes "table") w) (row (PopUntilNamed (codes "table") ∷ ResetMode ∷ []) IsDone) ignored (tt, tt) (tt, tt)), ((λ p. (tt, tt)), tt))
       (λ n. fostered_rows (TagTurn tag) w)
 
-table_tag_rows : (tag : TagText) (w : World) → Listable (in_table_tag tag w)
+table_tag_rows : (tag : TagText) (w : World) → IsTold (in_table_tag tag w)
 unfolding in_table_tag
 table_tag_rows tag w = at tag.kind
   where
-    at : (k : TagKind) → Listable (by_kind k (by_name in_table_start (of_tag in_table_else) tag w) (by_name in_table_end (of_tag in_table_else) tag w))
+    at : (k : TagKind) → IsTold (by_kind k (by_name in_table_start (of_tag in_table_else) tag w) (by_name in_table_end (of_tag in_table_else) tag w))
     at StartTag = table_start_rows tag w
     at EndTag = table_end_rows tag w
 
-table_text_rows : (t : TurnText) (w : World) → Listable (in_table_text_or_null t w)
+table_text_rows : (t : TurnText) (w : World) → IsTold (in_table_text_or_null t w)
 unfolding in_table_text_or_null
-table_text_rows t w = either (keeps_text w) (row (SaveMode ∷ []) (Again InTableText)) (foster in_body t w) tt (fostered_rows t w)
+table_text_rows t w = either (keeps_text w) (row (SaveMode ∷ []) (Again InTableText)) (foster in_body t w) (tt, (refl, tt)) (fostered_rows t w)
 
-table_rows : (t : TurnText) (w : World) → Listable (in_table t w)
+table_rows : (t : TurnText) (w : World) → IsTold (in_table t w)
 table_rows (TagTurn tag) w = table_tag_rows tag w
-table_rows (CommentTurn text) w = tt
+table_rows (CommentTurn text) w = (tt, tt)
 table_rows (TextTurn status text) w = table_text_rows (TextTurn status text) w
 table_rows NullTurn w = table_text_rows NullTurn w
-table_rows EofTurn w = tt
+table_rows EofTurn w = (tt, tt)
 
-pending_rows : (p : List ℕ) (w : World) → Listable (pending_text p w)
+-- what is kept back leads to no text
+pending_rows : (p : List ℕ) (w : World) → AllListable (pending_text p w).changes × NoText (pending_text p w).changes
 unfolding pending_text
-pending_rows [] w = tt
-pending_rows (b ∷ t) w = either (all_blank (b ∷ t)) (row (AppendText (b ∷ t) ∷ []) IsDone) (foster in_body (TextTurn NotSplit (b ∷ t)) w) tt (fostered_rows (TextTurn NotSplit (b ∷ t)) w)
+pending_rows [] w = (tt, tt)
+pending_rows (b ∷ t) w = at (all_blank (b ∷ t))
+  where
+    at : (c : Bool) → AllListable (choose c (row (AppendText (b ∷ t) ∷ []) IsDone) (foster in_body (TextTurn NotSplit (b ∷ t)) w)).changes × NoText (choose c (row (AppendText (b ∷ t) ∷ []) IsDone) (foster in_body (TextTurn NotSplit (b ∷ t)) w)).changes
+    at true = (tt, tt)
+    at false = fostered_rows (TextTurn NotSplit (b ∷ t)) w
 
-table_text_else_rows : (t : TurnText) (w : World) → Listable (in_table_text_else t w)
+table_text_else_rows : (t : TurnText) (w : World) → IsTold (in_table_text_else t w)
 unfolding in_table_text_else
-table_text_else_rows t w = pending_rows w.pending w
+table_text_else_rows t w = let p = pending_rows w.pending w in (p.0, (p.1, (λ v h. h.0)))
 
 module _ (tag : TagText) (w : World) where
-  row_close : (changes : List Change) (x : Ending) → AllListable changes → Listable (close_the_row changes x w)
+  row_close : (changes : List Change) (x : Ending) → AllListable changes × Tells x changes → IsTold (close_the_row changes x w)
   unfolding close_the_row
-  row_close changes x h = either (named_in_table_scope (codes "tr") w) (row (PopUntilCurrent is_table_row_context ∷ Pop ∷ changes) x) ignored h tt
+  row_close changes x h = either (named_in_table_scope (codes "tr") w) (row (PopUntilCurrent is_table_row_context ∷ Pop ∷ changes) x) ignored (closes x changes h) (tt, tt)
+    where
+      closes : (y : Ending) (xs : List Change) → AllListable xs × Tells y xs → AllListable (PopUntilCurrent is_table_row_context ∷ Pop ∷ xs) × Tells y (PopUntilCurrent is_table_row_context ∷ Pop ∷ xs)
+      closes IsDone xs k = k
+      closes IsAcknowledged xs k = k
+      closes (Again m) xs k = k
+      closes (AgainBy mode) xs k = k
+      closes (Answers (RunsScript node)) xs k = k
+      closes (Answers TurnsPlain) xs k = k
+      closes (Answers (TurnsRaw kind)) xs k = k
+      closes (Answers _) xs k = k
 
-  caption_close : (changes : List Change) (x : Ending) → AllListable changes → Listable (close_the_caption changes x w)
+  caption_close : (changes : List Change) (x : Ending) → AllListable changes × Tells x changes → IsTold (close_the_caption changes x w)
   unfolding close_the_caption
   caption_close changes x h =
       either (named_in_table_scope (codes "caption") w)
-      (row_if (current_is (codes "caption") w) (GenerateImpliedEnd ∷ PopUntilNamed (codes "caption") ∷ ClearActiveFormattingToMarker ∷ changes) x) ignored h tt
+      (row_if (current_is (codes "caption") w) (GenerateImpliedEnd ∷ PopUntilNamed (codes "caption") ∷ ClearActiveFormattingToMarker ∷ changes) x) ignored (closes x changes h) (tt, tt)
+    where
+      closes : (y : Ending) (xs : List Change) → AllListable xs × Tells y xs
+          → AllListable (GenerateImpliedEnd ∷ PopUntilNamed (codes "caption") ∷ ClearActiveFormattingToMarker ∷ xs) × Tells y (GenerateImpliedEnd ∷ PopUntilNamed (codes "caption") ∷ ClearActiveFormattingToMarker ∷ xs)
+      closes IsDone xs k = k
+      closes IsAcknowledged xs k = k
+      closes (Again m) xs k = k
+      closes (AgainBy mode) xs k = k
+      closes (Answers (RunsScript node)) xs k = k
+      closes (Answers TurnsPlain) xs k = k
+      closes (Answers (TurnsRaw kind)) xs k = k
+      closes (Answers _) xs k = k
 
-  section_close : Listable (in_table_body_close tag w)
+  section_close : IsTold (in_table_body_close tag w)
   unfolding in_table_body_close
-  section_close = either (in_table_scope is_table_or_section w) (row (PopUntilCurrent is_table_body_context ∷ Pop ∷ []) (Again InTable)) ignored tt tt
+  section_close = either (in_table_scope is_table_or_section w) (row (PopUntilCurrent is_table_body_context ∷ Pop ∷ []) (Again InTable)) ignored (tt, (refl, tt)) (tt, tt)
 
-  caption_rows : (k : TagKind) → Listable (by_kind k (by_name in_caption_start (of_tag in_body) tag w) (by_name in_caption_end (of_tag in_body) tag w))
+  caption_rows : (k : TagKind) → IsTold (by_kind k (by_name in_caption_start (of_tag in_body) tag w) (by_name in_caption_end (of_tag in_body) tag w))
   unfolding in_caption_start in_caption_end
-  caption_rows StartTag = holds_by_name Listable in_caption_start (of_tag in_body) tag w ((λ p. caption_close [] (Again InTable) tt), tt) (λ n. body_tag_rows tag w)
+  caption_rows StartTag = holds_by_name IsTold in_caption_start (of_tag in_body) tag w ((λ p. caption_close [] (Again InTable) (tt, (refl, tt))), tt) (λ n. body_tag_rows tag w)
   caption_rows EndTag =
-      holds_by_name Listable in_caption_end (of_tag in_body) tag w
-      ((λ p. caption_close (SetMode InTable ∷ []) IsDone tt), ((λ p. caption_close [] (Again InTable) tt), ((λ p. tt), tt))) (λ n. body_tag_rows tag w)
+      holds_by_name IsTold in_caption_end (of_tag in_body) tag w
+      ((λ p. caption_close (SetMode InTable ∷ []) IsDone (tt, (refl, tt))), ((λ p. caption_close [] (Again InTable) (tt, (refl, tt))), ((λ p. (tt, tt)), tt))) (λ n. body_tag_rows tag w)
 
-  section_rows : (k : TagKind) → Listable (by_kind k (by_name in_table_body_start (of_tag in_table) tag w) (by_name in_table_body_end (of_tag in_table) tag w))
+  section_rows : (k : TagKind) → IsTold (by_kind k (by_name in_table_body_start (of_tag in_table) tag w) (by_name in_table_body_end (of_tag in_table) tag w))
   unfolding in_table_body_start in_table_body_end in_table_body_end_section
-  section_rows StartTag = holds_by_name Listable in_table_body_start (of_tag in_table) tag w ((λ p. tt), ((λ p. tt), ((λ p. section_close), tt))) (λ n. table_tag_rows tag w)
+  section_rows StartTag = holds_by_name IsTold in_table_body_start (of_tag in_table) tag w ((λ p. (tt, (refl, tt))), ((λ p. (tt, (refl, tt))), ((λ p. section_close), tt))) (λ n. table_tag_rows tag w)
   section_rows EndTag =
-      holds_by_name Listable in_table_body_end (of_tag in_table) tag w
-      ((λ p. either (named_in_table_scope tag.name w) (row (PopUntilCurrent is_table_body_context ∷ Pop ∷ SetMode InTable ∷ []) IsDone) ignored tt tt), ((λ p. section_close), ((λ p. tt), tt)))
+      holds_by_name IsTold in_table_body_end (of_tag in_table) tag w
+      ((λ p. either (named_in_table_scope tag.name w) (row (PopUntilCurrent is_table_body_context ∷ Pop ∷ SetMode InTable ∷ []) IsDone) ignored (tt, (refl, tt)) (tt, tt)), ((λ p. section_close), ((λ p. (tt, tt)), tt)))
       (λ n. table_tag_rows tag w)
 
-  row_rows : (k : TagKind) → Listable (by_kind k (by_name in_row_start (of_tag in_table) tag w) (by_name in_row_end (of_tag in_table) tag w))
+  row_rows : (k : TagKind) → IsTold (by_kind k (by_name in_row_start (of_tag in_table) tag w) (by_name in_row_end (of_tag in_table) tag w))
   unfolding in_row_start in_row_end in_row_end_section
-  row_rows StartTag = holds_by_name Listable in_row_start (of_tag in_table) tag w ((λ p. tt), ((λ p. row_close [] (Again InTableBody) tt), tt)) (λ n. table_tag_rows tag w)
+  row_rows StartTag = holds_by_name IsTold in_row_start (of_tag in_table) tag w ((λ p. (tt, (refl, tt))), ((λ p. row_close [] (Again InTableBody) (tt, (refl, tt))), tt)) (λ n. table_tag_rows tag w)
   row_rows EndTag =
-      holds_by_name Listable in_row_end (of_tag in_table) tag w (
-        (λ p. row_close (SetMode InTableBody ∷ []) IsDone tt),
-        ((λ p. row_close [] (Again InTableBody) tt), ((λ p. either (named_in_table_scope tag.name w) (close_the_row [] (Again InTableBody) w) ignored (row_close [] (Again InTableBody) tt) tt), ((λ p. tt), tt))),
+      holds_by_name IsTold in_row_end (of_tag in_table) tag w (
+        (λ p. row_close (SetMode InTableBody ∷ []) IsDone (tt, (refl, tt))),
+        ((λ p. row_close [] (Again InTableBody) (tt, (refl, tt))), ((λ p. either (named_in_table_scope tag.name w) (close_the_row [] (Again InTableBody) w) ignored (row_close [] (Again InTableBody) (tt, (refl, tt))) (tt, tt)), ((λ p. (tt, tt)), tt))),
       )
       (λ n. table_tag_rows tag w)
 
-  cell_rows : (k : TagKind) → Listable (by_kind k (by_name in_cell_start (of_tag in_body) tag w) (by_name in_cell_end (of_tag in_body) tag w))
+  cell_rows : (k : TagKind) → IsTold (by_kind k (by_name in_cell_start (of_tag in_body) tag w) (by_name in_cell_end (of_tag in_body) tag w))
   unfolding in_cell_start in_cell_end in_cell_end_cell in_cell_end_structure in_cell_start_structure
-  cell_rows StartTag = holds_by_name Listable in_cell_start (of_tag in_body) tag w ((λ p. either (in_table_scope is_cell w) (close_the_cell w) ignored tt tt), tt) (λ n. body_tag_rows tag w)
+  cell_rows StartTag = holds_by_name IsTold in_cell_start (of_tag in_body) tag w ((λ p. either (in_table_scope is_cell w) (close_the_cell w) ignored (tt, (refl, tt)) (tt, tt)), tt) (λ n. body_tag_rows tag w)
   cell_rows EndTag =
-      holds_by_name Listable in_cell_end (of_tag in_body) tag w (
-        (λ p. either (named_in_table_scope tag.name w) (row_if (current_is tag.name w) (GenerateImpliedEnd ∷ PopUntilNamed tag.name ∷ ClearActiveFormattingToMarker ∷ SetMode InRow ∷ []) IsDone) ignored tt tt),
-        ((λ p. either (named_in_table_scope tag.name w) (close_the_cell w) ignored tt tt), ((λ p. tt), tt)),
+      holds_by_name IsTold in_cell_end (of_tag in_body) tag w (
+        (λ p. either (named_in_table_scope tag.name w) (row_if (current_is tag.name w) (GenerateImpliedEnd ∷ PopUntilNamed tag.name ∷ ClearActiveFormattingToMarker ∷ SetMode InRow ∷ []) IsDone) ignored (tt, (refl, tt)) (tt, tt)),
+        ((λ p. either (named_in_table_scope tag.name w) (close_the_cell w) ignored (tt, (refl, tt)) (tt, tt)), ((λ p. (tt, tt)), tt)),
       )
       (λ n. body_tag_rows tag w)
 
-column_close : (changes : List Change) (x : Ending) (w : World) → AllListable changes → Listable (close_the_column_group changes x w)
+column_close : (changes : List Change) (x : Ending) (w : World) → AllListable (Pop ∷ changes) × Tells x (Pop ∷ changes) → IsTold (close_the_column_group changes x w)
 unfolding close_the_column_group
-column_close changes x w h = either (current_is (codes "colgroup") w) (row (Pop ∷ changes) x) ignored h tt
+column_close changes x w h = either (current_is (codes "colgroup") w) (row (Pop ∷ changes) x) ignored h (tt, tt)
 
 column_rows : (k : TagKind) (tag : TagText) (w : World)
-    → Listable (by_kind k (by_name in_column_group_start (of_tag in_column_group_else) tag w) (by_name in_column_group_end (of_tag in_column_group_else) tag w))
+    → IsTold (by_kind k (by_name in_column_group_start (of_tag in_column_group_else) tag w) (by_name in_column_group_end (of_tag in_column_group_else) tag w))
 unfolding in_column_group_start in_column_group_end
-column_rows StartTag tag w = holds_by_name Listable in_column_group_start (of_tag in_column_group_else) tag w ((λ p. listable_html tag w), ((λ p. tt), tt)) (λ n. column_close [] (Again InTable) w tt)
+column_rows StartTag tag w = holds_by_name IsTold in_column_group_start (of_tag in_column_group_else) tag w ((λ p. told_html tag w), ((λ p. (tt, tt)), tt)) (λ n. column_close [] (Again InTable) w (tt, (refl, tt)))
 column_rows EndTag tag w =
-    holds_by_name Listable in_column_group_end (of_tag in_column_group_else) tag w ((λ p. column_close (SetMode InTable ∷ []) IsDone w tt), ((λ p. tt), tt)) (λ n. column_close [] (Again InTable) w tt)
+    holds_by_name IsTold in_column_group_end (of_tag in_column_group_else) tag w ((λ p. column_close (SetMode InTable ∷ []) IsDone w (tt, (refl, tt))), ((λ p. (tt, tt)), tt)) (λ n. column_close [] (Again InTable) w (tt, (refl, tt)))
 
--- ALL RULES
-tag_rows : (m : InsertionMode) (tag : TagText) (w : World) → Listable (rule m (TagTurn tag) w)
-unfolding before_html_tag before_head_tag in_head_tag after_head_tag after_body_tag after_after_body_tag in_caption_tag in_column_group_tag in_table_body_tag in_row_tag in_cell_tag
-tag_rows Initial tag w = initial_row (TagTurn tag) w
-tag_rows BeforeHtml tag w = before_html_rows tag.kind tag w
-tag_rows BeforeHead tag w = before_head_rows tag.kind tag w
-tag_rows InHead tag w = in_head_rows tag.kind tag w
-tag_rows AfterHead tag w = after_head_rows tag.kind tag w
-tag_rows InBody tag w = body_tag_rows tag w
-tag_rows InTable tag w = table_tag_rows tag w
-tag_rows InTableText tag w = table_text_else_rows (TagTurn tag) w
-tag_rows InCaption tag w = caption_rows tag w tag.kind
-tag_rows InColumnGroup tag w = column_rows tag.kind tag w
-tag_rows InTableBody tag w = section_rows tag w tag.kind
-tag_rows InRow tag w = row_rows tag w tag.kind
-tag_rows InCell tag w = cell_rows tag w tag.kind
-tag_rows AfterBody tag w = after_body_rows tag.kind tag w
-tag_rows AfterAfterBody tag w = after_after_body_rows tag.kind tag w
-tag_rows _ tag w = tt
+-- ALL RULES but those in a text
+tag_rows : (m : InsertionMode) (tag : TagText) (w : World) → is_text m ≡ false → IsTold (rule m (TagTurn tag) w)
+unfolding before_html_tag before_head_tag in_head_tag in_head_noscript_tag after_head_tag after_body_tag after_after_body_tag in_caption_tag in_column_group_tag in_table_body_tag in_row_tag in_cell_tag
+tag_rows Initial tag w h = initial_row (TagTurn tag) w
+tag_rows BeforeHtml tag w h = before_html_rows tag.kind tag w
+tag_rows BeforeHead tag w h = before_head_rows tag.kind tag w
+tag_rows InHead tag w h = in_head_rows tag.kind tag w
+tag_rows InHeadNoscript tag w h = in_head_noscript_rows tag.kind tag w
+tag_rows AfterHead tag w h = after_head_rows tag.kind tag w
+tag_rows InBody tag w h = body_tag_rows tag w
+tag_rows Text tag w h = absurd (cc)
+tag_rows InTable tag w h = table_tag_rows tag w
+tag_rows InTableText tag w h = table_text_else_rows (TagTurn tag) w
+tag_rows InCaption tag w h = caption_rows tag w tag.kind
+tag_rows InColumnGroup tag w h = column_rows tag.kind tag w
+tag_rows InTableBody tag w h = section_rows tag w tag.kind
+tag_rows InRow tag w h = row_rows tag w tag.kind
+tag_rows InCell tag w h = cell_rows tag w tag.kind
+tag_rows AfterBody tag w h = after_body_rows tag.kind tag w
+tag_rows AfterAfterBody tag w h = after_after_body_rows tag.kind tag w
+tag_rows _ tag w h = (tt, tt)
 
-comment_rows : (m : InsertionMode) (x : List ℕ) (w : World) → Listable (rule m (CommentTurn x) w)
-comment_rows InTableText x w = table_text_else_rows (CommentTurn x) w
-comment_rows _ x w = tt
+comment_rows : (m : InsertionMode) (x : List ℕ) (w : World) → is_text m ≡ false → IsTold (rule m (CommentTurn x) w)
+comment_rows InTableText x w h = table_text_else_rows (CommentTurn x) w
+comment_rows Text x w h = absurd (cc)
+comment_rows _ x w h = (tt, tt)
 
-blank_rows : (m : InsertionMode) (x : List ℕ) (w : World) → Listable (rule m (TextTurn Whitespace x) w)
-blank_rows InTable x w = table_text_rows (TextTurn Whitespace x) w
-blank_rows InTableBody x w = table_text_rows (TextTurn Whitespace x) w
-blank_rows InRow x w = table_text_rows (TextTurn Whitespace x) w
-blank_rows _ x w = tt
+blank_rows : (m : InsertionMode) (x : List ℕ) (w : World) → is_text m ≡ false → IsTold (rule m (TextTurn Whitespace x) w)
+blank_rows InTable x w h = table_text_rows (TextTurn Whitespace x) w
+blank_rows InTableBody x w h = table_text_rows (TextTurn Whitespace x) w
+blank_rows InRow x w h = table_text_rows (TextTurn Whitespace x) w
+blank_rows Text x w h = absurd (cc)
+blank_rows _ x w h = (tt, tt)
 
-solid_rows : (m : InsertionMode) (x : List ℕ) (w : World) → Listable (rule m (TextTurn NotWhitespace x) w)
-solid_rows Initial x w = initial_row (TextTurn NotWhitespace x) w
-solid_rows InTable x w = table_text_rows (TextTurn NotWhitespace x) w
-solid_rows InTableBody x w = table_text_rows (TextTurn NotWhitespace x) w
-solid_rows InRow x w = table_text_rows (TextTurn NotWhitespace x) w
-solid_rows InColumnGroup x w = column_close [] (Again InTable) w tt
-solid_rows _ x w = tt
+solid_rows : (m : InsertionMode) (x : List ℕ) (w : World) → is_text m ≡ false → IsTold (rule m (TextTurn NotWhitespace x) w)
+solid_rows Initial x w h = initial_row (TextTurn NotWhitespace x) w
+solid_rows BeforeHtml x w h = (tt, (refl, tt))
+solid_rows BeforeHead x w h = (tt, (refl, tt))
+solid_rows InHead x w h = (tt, (refl, tt))
+solid_rows InHeadNoscript x w h = (tt, (refl, tt))
+solid_rows AfterHead x w h = (tt, (refl, tt))
+solid_rows InTable x w h = table_text_rows (TextTurn NotWhitespace x) w
+solid_rows InTableBody x w h = table_text_rows (TextTurn NotWhitespace x) w
+solid_rows InRow x w h = table_text_rows (TextTurn NotWhitespace x) w
+solid_rows InColumnGroup x w h = column_close [] (Again InTable) w (tt, (refl, tt))
+solid_rows AfterBody x w h = (tt, (refl, tt))
+solid_rows AfterAfterBody x w h = (tt, (refl, tt))
+solid_rows Text x w h = absurd (cc)
+solid_rows _ x w h = (tt, tt)
 
-whole_rows : (m : InsertionMode) (x : List ℕ) (w : World) → Listable (rule m (TextTurn NotSplit x) w)
-whole_rows Initial x w = initial_row (TextTurn NotSplit x) w
-whole_rows InTable x w = table_text_rows (TextTurn NotSplit x) w
-whole_rows InTableBody x w = table_text_rows (TextTurn NotSplit x) w
-whole_rows InRow x w = table_text_rows (TextTurn NotSplit x) w
-whole_rows InColumnGroup x w = column_close [] (Again InTable) w tt
-whole_rows _ x w = tt
+whole_rows : (m : InsertionMode) (x : List ℕ) (w : World) → is_text m ≡ false → IsTold (rule m (TextTurn NotSplit x) w)
+whole_rows Initial x w h = initial_row (TextTurn NotSplit x) w
+whole_rows BeforeHtml x w h = (tt, (refl, tt))
+whole_rows BeforeHead x w h = (tt, (refl, tt))
+whole_rows InHead x w h = (tt, (refl, tt))
+whole_rows InHeadNoscript x w h = (tt, (refl, tt))
+whole_rows AfterHead x w h = (tt, (refl, tt))
+whole_rows InTable x w h = table_text_rows (TextTurn NotSplit x) w
+whole_rows InTableBody x w h = table_text_rows (TextTurn NotSplit x) w
+whole_rows InRow x w h = table_text_rows (TextTurn NotSplit x) w
+whole_rows InColumnGroup x w h = column_close [] (Again InTable) w (tt, (refl, tt))
+whole_rows AfterBody x w h = (tt, (refl, tt))
+whole_rows AfterAfterBody x w h = (tt, (refl, tt))
+whole_rows Text x w h = absurd (cc)
+whole_rows _ x w h = (tt, tt)
 
-null_rows : (m : InsertionMode) (w : World) → Listable (rule m NullTurn w)
-null_rows Initial w = initial_row NullTurn w
-null_rows InTable w = table_text_rows NullTurn w
-null_rows InTableBody w = table_text_rows NullTurn w
-null_rows InRow w = table_text_rows NullTurn w
-null_rows InColumnGroup w = column_close [] (Again InTable) w tt
-null_rows _ w = tt
+null_rows : (m : InsertionMode) (w : World) → is_text m ≡ false → IsTold (rule m NullTurn w)
+null_rows Initial w h = initial_row NullTurn w
+null_rows BeforeHtml w h = (tt, (refl, tt))
+null_rows BeforeHead w h = (tt, (refl, tt))
+null_rows InHead w h = (tt, (refl, tt))
+null_rows InHeadNoscript w h = (tt, (refl, tt))
+null_rows AfterHead w h = (tt, (refl, tt))
+null_rows InTable w h = table_text_rows NullTurn w
+null_rows InTableBody w h = table_text_rows NullTurn w
+null_rows InRow w h = table_text_rows NullTurn w
+null_rows InColumnGroup w h = column_close [] (Again InTable) w (tt, (refl, tt))
+null_rows AfterBody w h = (tt, (refl, tt))
+null_rows AfterAfterBody w h = (tt, (refl, tt))
+null_rows Text w h = absurd (cc)
+null_rows _ w h = (tt, tt)
 
-eof_rows : (m : InsertionMode) (w : World) → Listable (rule m EofTurn w)
-eof_rows Initial w = initial_row EofTurn w
-eof_rows InTableText w = table_text_else_rows EofTurn w
-eof_rows _ w = tt
+eof_rows : (m : InsertionMode) (w : World) → is_text m ≡ false → IsTold (rule m EofTurn w)
+eof_rows Initial w h = initial_row EofTurn w
+eof_rows BeforeHtml w h = (tt, (refl, tt))
+eof_rows BeforeHead w h = (tt, (refl, tt))
+eof_rows InHead w h = (tt, (refl, tt))
+eof_rows InHeadNoscript w h = (tt, (refl, tt))
+eof_rows AfterHead w h = (tt, (refl, tt))
+eof_rows InTableText w h = table_text_else_rows EofTurn w
+eof_rows Text w h = absurd (cc)
+eof_rows _ w h = (tt, tt)
+
+pub rule_told : (m : InsertionMode) (t : TurnText) (w : World) → is_text m ≡ false → IsTold (rule m t w)
+rule_told m (TagTurn tag) w h = tag_rows m tag w h
+rule_told m (CommentTurn x) w h = comment_rows m x w h
+rule_told m (TextTurn Whitespace x) w h = blank_rows m x w h
+rule_told m (TextTurn NotWhitespace x) w h = solid_rows m x w h
+rule_told m (TextTurn NotSplit x) w h = whole_rows m x w h
+rule_told m NullTurn w h = null_rows m w h
+rule_told m EofTurn w h = eof_rows m w h
+
+-- and in one
+marks_listable : (w : World) → AllListable (marks_script w ++ Pop ∷ [])
+marks_listable w = at (current_is (codes "script") w)
+  where
+    at : (b : Bool) → AllListable ((if b then MarkStarted ∷ [] else []) ++ Pop ∷ [])
+    at true = tt
+    at false = tt
+
+text_listable : (t : TurnText) (w : World) → AllListable (text_mode t w).changes
+text_listable (TagTurn tag) w = at tag.kind
+  where
+    at : (k : TagKind) → AllListable (by_kind k ignored (text_end tag w)).changes
+    at StartTag = tt
+    at EndTag = tt
+text_listable (CommentTurn x) w = tt
+text_listable (TextTurn status x) w = tt
+text_listable NullTurn w = tt
+text_listable EofTurn w = marks_listable w
 
 pub rule_listable : (m : InsertionMode) (t : TurnText) (w : World) → AllListable (rule m t w).changes
-rule_listable m (TagTurn tag) w = tag_rows m tag w
-rule_listable m (CommentTurn x) w = comment_rows m x w
-rule_listable m (TextTurn Whitespace x) w = blank_rows m x w
-rule_listable m (TextTurn NotWhitespace x) w = solid_rows m x w
-rule_listable m (TextTurn NotSplit x) w = whole_rows m x w
-rule_listable m NullTurn w = null_rows m w
-rule_listable m EofTurn w = eof_rows m w
+rule_listable Text t w = text_listable t w
+rule_listable m t w = (rule_told m t w refl).0

@@ -6,7 +6,7 @@ use Rattle.h5_names.specs.declared.qualified.QualName.{QualName}
 use Rattle.h5_interface.specs.Forest.{ChildText, Forest, parent_of}
 use Rattle.h5_interface.specs.SinkChoices.{Rearranges, SinkChoices}
 use Rattle.h5_interface.proofs.ForestLaws.{document_is_node}
-use Rattle.h5_interface.proofs.MakingLaws.{add_missing_rearranges}
+use Rattle.h5_interface.proofs.MakingLaws.{add_missing_rearranges, mark_rearranges}
 use Rattle.h5_tag_sets.specs.TagSets.{is_cell, is_default_scope, is_heading, is_html_named, is_implied}
 use Rattle.h5_stack.specs.FormattingList.{MarkerEntry, clear_to_marker}
 use Rattle.h5_stack.specs.FormattingNames.{html_name}
@@ -17,13 +17,13 @@ use Rattle.h5_stack.proofs.EachLaws.{each_cleared}
 use Rattle.h5_stack.proofs.KeptLaws.{lists_cleared, lists_marked, lists_pushed}
 use Rattle.h5_stack.proofs.PassLaws.{lists_cut_above, ordered_distinct}
 use Rattle.h5_meaning.specs.FormOwner.{Marking}
-use Rattle.h5_meaning.specs.Changes.{add_attrs_at, add_attrs_to_html, add_attrs_to_second, append_comment, append_comment_to_doc, append_comment_to_html, append_pending_text, append_text, create_root, generate_implied_end_except, insert_and_pop_element, insert_and_pop_form, insert_element, insert_form, insert_head, new_comment, new_element, owned, pop, pop_until_current, pop_until_named, push_new, set_frameset_ok_by_text, set_quirks_mode, with_forest}
+use Rattle.h5_meaning.specs.Changes.{add_attrs_at, add_attrs_to_html, add_attrs_to_second, append_comment, append_comment_to_doc, append_comment_to_html, append_pending_text, append_text, create_root, generate_implied_end_except, insert_and_pop_element, insert_and_pop_form, insert_element, insert_form, insert_head, insert_script, mark_started, new_comment, new_element, owned, pop, pop_until_current, pop_until_named, push_new, set_frameset_ok_by_text, set_quirks_mode, starts_marked, with_forest}
 use Rattle.h5_meaning.specs.Closing.{close_item, close_list_item, close_p_element, close_p_element_in_button_scope, generate_implied_end, generate_implied_end_in_select, newest_item, pop_heading, pop_until_cell, pop_until_heading}
 use Rattle.h5_meaning.specs.Formatting.{clear_active_formatting_to_marker, insert_marker, reconstruct_active_formatting_elements}
 use Rattle.h5_meaning.specs.Place.{IsPlaceIn, LastChild, Place, place, put}
-use Rattle.h5_meaning.specs.Rows.{AddAttrsToHtml, AddAttrsToSecond, AdoptionAgency, AppendComment, AppendCommentToDoc, AppendCommentToHtml, AppendPendingText, AppendText, Change, ClearActiveFormattingToMarker, ClearForm, CloseListItem, ClosePElement, ClosePElementInButtonScope, CopyClosedOption, CreateFormattingElement, CreateRoot, GenerateImpliedEnd, GenerateImpliedEndExcept, GenerateImpliedEndInSelect, HandleMisnestedATags, HandleMisnestedNobrTags, InsertAndPopElement, InsertAndPopForm, InsertElement, InsertForm, InsertHead, InsertMarker, Pop, PopHeading, PopUntilCell, PopUntilCurrent, PopUntilHeading, PopUntilNamed, ReconstructActiveFormattingElements, RemoveFromStack, ResetMode, SaveMode, SetFoster, SetFramesetNotOk, SetFramesetOkByText, SetIgnoreLf, SetMode, SetQuirksMode, TakePendingText, apply, apply_all}
+use Rattle.h5_meaning.specs.Rows.{AddAttrsToHtml, AddAttrsToSecond, AdoptionAgency, AppendComment, AppendCommentToDoc, AppendCommentToHtml, AppendPendingText, AppendText, Change, ClearActiveFormattingToMarker, ClearForm, CloseListItem, ClosePElement, ClosePElementInButtonScope, CopyClosedOption, CreateFormattingElement, CreateRoot, GenerateImpliedEnd, GenerateImpliedEndExcept, GenerateImpliedEndInSelect, HandleMisnestedATags, HandleMisnestedNobrTags, InsertAndPopElement, InsertAndPopForm, InsertElement, InsertForm, InsertHead, InsertMarker, InsertScript, MarkStarted, Pop, PopHeading, PopUntilCell, PopUntilCurrent, PopUntilHeading, PopUntilNamed, PushHead, ReconstructActiveFormattingElements, RemoveFromStack, ResetMode, SaveMode, SetFoster, SetFramesetNotOk, SetFramesetOkByText, SetIgnoreLf, SetMode, SetQuirksMode, TakePendingText, apply, apply_all}
 use Rattle.h5_meaning.specs.Sound.{HasLists, IsReady, Sound}
-use Rattle.h5_meaning.specs.World.{World, names_of, root}
+use Rattle.h5_meaning.specs.World.{World, current, names_of, root}
 use Rattle.h5_meaning.proofs.AdoptionAgencyLaws.{Keeps, cut_keeps, implied_keeps, pop_keeps, until_named_keeps, while_keeps}
 use Rattle.h5_meaning.proofs.FormattingLaws.{all_listed, lists_reconstruct, new_is_unlisted, sound_reconstruct}
 use Rattle.h5_meaning.proofs.PlaceLaws.{all_inserted, current_place_is_there, first_place, form_open_stands, form_stands, head_stands, new_comment_rearranges, new_element_rearranges, no_form_stands, text_put_rearranges}
@@ -161,6 +161,15 @@ module _ (choices : SinkChoices) (w : World) (k : IsSteady w) where
       let new = steady_insert (codes "form") attrs duplicates in
       record { sound = form_open_stands choices attrs duplicates w k.sound new.sound; lists = new.lists }
 
+  steady_script : (attrs : List AttributeText) (duplicates : Bool) → IsSteady (insert_script choices attrs duplicates w)
+  unfolding insert_script
+  steady_script attrs duplicates = steady_pushed (place w) (codes "script") attrs duplicates (starts_marked choices w) (current_place_is_there w k.sound) (λ e. first_place w k.sound.stands.is_forest e)
+
+  -- the current node is marked
+  steady_started : IsSteady (mark_started choices w)
+  unfolding mark_started
+  steady_started = steady_rearranged w _ (mark_rearranges w.forest (choices.marks_after_started w.forest (current w)) k.sound.stands.is_forest) k
+
   -- comments
   steady_comment : (p : Place) (t : List ℕ) → IsPlaceIn w.forest p → IsSteady (with_forest (new_comment choices p t w.forest) w)
   steady_comment p t there = steady_rearranged w (new_comment choices p t w.forest) (new_comment_rearranges choices w.forest p t k.sound.stands.is_forest there) k
@@ -226,6 +235,7 @@ NeedsOf HandleMisnestedATags = ⊥
 NeedsOf HandleMisnestedNobrTags = ⊥
 NeedsOf (CopyClosedOption option) = ⊥
 NeedsOf (RemoveFromStack element) = ⊥
+NeedsOf PushHead = ⊥
 NeedsOf _ = Unit {0}
 
 abbrev pub NeedsOfAll : List Change → Type 0
@@ -278,6 +288,9 @@ steady_change choices (CloseListItem locals) w needs k = steady_list_item choice
 steady_change choices GenerateImpliedEndInSelect w needs k = steady_in_select choices w k
 steady_change choices (CopyClosedOption option) w needs k = absurd needs
 steady_change choices (RemoveFromStack element) w needs k = absurd needs
+steady_change choices (InsertScript attrs duplicates) w needs k = steady_script choices w k attrs duplicates
+steady_change choices MarkStarted w needs k = steady_started choices w k
+steady_change choices PushHead w needs k = absurd needs
 
 -- one after another
 pub steady_changes : (choices : SinkChoices) (xs : List Change) (w : World) → NeedsOfAll xs → IsSteady w → IsSteady (apply_all choices xs w)

@@ -6,7 +6,7 @@ use Rattle.h5_interface.specs.Changes.{mark}
 use Rattle.h5_interface.specs.Forest.{Forest, Marks, Node, kind_of}
 use Rattle.h5_interface.specs.SinkChoices.{SinkChoices}
 use Rattle.h5_tag_sets.specs.TagSets.{is_html_named, is_implied}
-use Rattle.h5_meaning.specs.Changes.{generate_implied_end_except, pop, pop_while}
+use Rattle.h5_meaning.specs.Changes.{generate_implied_end_except, mark_started, pop, pop_while}
 use Rattle.h5_meaning.specs.Closing.{generate_implied_end}
 use Rattle.h5_stack.specs.Scope.{cut_above, cut_through, first_passes, is_implied_but, later_names}
 use Rattle.h5_meaning.specs.Sound.{AllStand}
@@ -40,6 +40,10 @@ names-pop choices w = at w.stack refl
     at : (s : List ℕ) → w.stack ≡ s → map (name_in (mark (choices.marks_after_pop w.forest (current w)) w.forest)) (but_first s) ≡ later_names (map (name_in w.forest) s)
     at [] e = refl
     at (n ∷ s) e = marked_names (choices.marks_after_pop w.forest (current w)) w.forest s
+
+pub names-mark_started : (choices : SinkChoices) (w : World) → names_of (mark_started choices w) ≡ names_of w
+unfolding names_of mark_started
+names-mark_started choices w = marked_names (choices.marks_after_started w.forest (current w)) w.forest w.stack
 
 while_step : (choices : SinkChoices) (p : QualName → Bool) (ns : List QualName) (w : World) → first_passes p ns ≡ true → pop_while choices p ns w ≡ pop_while choices p (later_names ns) (pop choices w)
 while_step choices p [] w h = absurd (cc)

@@ -1,5 +1,5 @@
 -- After each row all stands, and the list of active formatting elements agrees with the stack of open elements.
-use Rattle.std.proofs.Common.{◌≡◌, ◌≢◌, ℕ, Bool, true, false, not, ◌&&◌, ◌||◌, List, [], ◌∷◌, codes, refl}
+use Rattle.std.proofs.Common.{◌≡◌, Bool, true, false, [], ◌∷◌, codes, refl, sym, subst, if◌then◌else◌, ◌++◌}
 use Rattle.h5_token.specs.TokenText.{TagText}
 use Rattle.h5_token.specs.declared.tag.TagKind.{TagKind}
 use Rattle.h5_token.specs.declared.tag.TagKind.TheVariants.{StartTag, EndTag}
@@ -7,24 +7,31 @@ use Rattle.h5_interface.specs.SinkChoices.{SinkChoices}
 use Rattle.h5_types.specs.TurnText.{TurnText, TagTurn, CommentTurn, TextTurn, NullTurn, EofTurn, HasText}
 use Rattle.h5_types.specs.declared.modes.InsertionMode.{InsertionMode}
 use Rattle.h5_interface.specs.declared.marks.QuirksMode.TheVariants.{Quirks}
-use Rattle.h5_types.specs.declared.modes.InsertionMode.TheVariants.{AfterAfterBody, AfterBody, AfterHead, BeforeHead, BeforeHtml, InBody, InCaption, InCell, InColumnGroup, InHead, InRow, InTable, InTableBody, InTableText, Initial}
-use Rattle.h5_types.specs.declared.modes.SplitStatus.TheVariants.{NotSplit, Whitespace, NotWhitespace}
+use Rattle.h5_types.specs.declared.modes.InsertionMode.TheVariants.{AfterAfterBody, AfterBody, AfterHead, BeforeHead, BeforeHtml, InBody, InCaption, InCell, InColumnGroup, InHead, InHeadNoscript, InRow, InTable, InTableBody, InTableText, Initial, Text}
+use Rattle.h5_types.specs.declared.modes.SplitStatus.TheVariants.{Whitespace}
+use Rattle.h5_tag_sets.specs.TagSets.{is_one_of}
 use Rattle.h5_meaning.specs.AfterAfterBody.{after_after_body, after_after_body_start, after_after_body_tag}
 use Rattle.h5_meaning.specs.AfterBody.{after_body, after_body_end, after_body_end_html, after_body_start, after_body_tag, back_to_body}
-use Rattle.h5_meaning.specs.AfterHead.{after_head, after_head_else, after_head_end, after_head_start, after_head_start_body, after_head_tag}
+use Rattle.h5_meaning.specs.AfterHead.{after_head, after_head_else, after_head_end, after_head_start, after_head_start_body, after_head_tag, with_head}
 use Rattle.h5_meaning.specs.BeforeHead.{before_head, before_head_else, before_head_end, before_head_start, before_head_start_head, before_head_tag}
 use Rattle.h5_meaning.specs.BeforeHtml.{before_html, before_html_else, before_html_end, before_html_start, before_html_start_html, before_html_tag}
 use Rattle.h5_meaning.specs.ByName.{by_kind, by_name, ignored_tag, of_tag}
-use Rattle.h5_meaning.specs.InHead.{in_head, in_head_else, in_head_end, in_head_end_head, in_head_start, in_head_tag}
+use Rattle.h5_meaning.specs.InHead.{in_head, in_head_else, in_head_end, in_head_end_head, in_head_start_tag, in_head_tag}
+use Rattle.h5_meaning.specs.InHeadNoscript.{in_head_noscript, in_head_noscript_else, in_head_noscript_end, in_head_noscript_end_noscript, in_head_noscript_start, in_head_noscript_tag}
 use Rattle.h5_meaning.specs.InitialMode.{initial, initial_else}
 use Rattle.h5_meaning.specs.Modes.{rule}
-use Rattle.h5_meaning.specs.Rows.{Again, AppendComment, AppendCommentToDoc, AppendCommentToHtml, AppendText, IsDone, Row, SetQuirksMode, apply_all, errs, row}
+use Rattle.h5_meaning.specs.Rows.{Again, AppendComment, AppendCommentToDoc, AppendCommentToHtml, AppendText, IsDone, MarkStarted, Pop, Row, SetQuirksMode, apply_all, errs, ignored, row}
+use Rattle.h5_meaning.specs.Shared.{current_is, head_start_names}
 use Rattle.h5_meaning.specs.Sound.{Fits, HasLists, Sound}
+use Rattle.h5_meaning.specs.TextMode.{text_end, text_mode}
 use Rattle.h5_meaning.specs.World.{World}
-use Rattle.h5_meaning.proofs.BodyListsLaws.{Stays, stays, stays_chosen, stays_in_body, stays_start_html, stays_text}
+use Rattle.h5_meaning.proofs.BodyListsLaws.{Stays, stays, stays_chosen, stays_head_start, stays_head_start_by, stays_in_body, stays_start_html, stays_text}
+use Rattle.h5_meaning.proofs.BodyRowLaws.{noscript_content_passes}
 use Rattle.h5_meaning.proofs.ByNameLaws.{holds_by_name}
+use Rattle.h5_meaning.proofs.KeptLaws.{FitsAs}
 use Rattle.h5_meaning.proofs.ListsLaws.{IsSteady, NeedsOfAll}
 use Rattle.h5_meaning.proofs.TableListsLaws.{stays_in_caption, stays_in_cell, stays_in_column_group, stays_in_row, stays_in_table, stays_in_table_body, stays_in_table_text}
+use Rattle.h5_meaning.proofs.AfterHeadLaws.{lists_with_head, sound_with_head}
 
 module _ (choices : SinkChoices) (w : World) (k : IsSteady w) where
   abbrev StaysIn : InsertionMode → Row → Type 0
@@ -56,19 +63,34 @@ module _ (choices : SinkChoices) (w : World) (k : IsSteady w) where
   stays_popped : (t : TurnText) → StaysIn InHead (in_head_else t w)
   stays_popped t = by_changes InHead (in_head_else t w) (tt, tt)
 
-  stays_in_head : (kind : TagKind) (tag : TagText) → StaysIn InHead (by_kind kind (by_name in_head_start (of_tag in_head_else) tag w) (by_name in_head_end ignored_tag tag w))
-  unfolding in_head_start in_head_end
-  stays_in_head StartTag tag = holds_by_name (StaysIn InHead) in_head_start (of_tag in_head_else) tag w ((λ p. stays_start_html choices w k InHead tag), ((λ p h. k), tt)) (λ n. stays_popped (TagTurn tag))
+  stays_in_head : (kind : TagKind) (tag : TagText) → StaysIn InHead (by_kind kind (in_head_start_tag tag w) (by_name in_head_end ignored_tag tag w))
+  unfolding in_head_end
+  stays_in_head StartTag tag = stays_head_start_by choices w k InHead tag (λ n. stays_popped (TagTurn tag))
   stays_in_head EndTag tag = holds_by_name (StaysIn InHead) in_head_end ignored_tag tag w ((λ p. by_changes InHead (in_head_end_head tag w) (tt, (tt, tt))), ((λ p. stays_popped (TagTurn tag)), tt)) (λ n h. k)
+
+  stays_noscript_popped : (t : TurnText) → StaysIn InHeadNoscript (in_head_noscript_else t w)
+  stays_noscript_popped t = by_changes InHeadNoscript (in_head_noscript_else t w) (tt, tt)
+
+  stays_in_head_noscript : (kind : TagKind) (tag : TagText) → StaysIn InHeadNoscript (by_kind kind (by_name in_head_noscript_start (of_tag in_head_noscript_else) tag w) (by_name in_head_noscript_end ignored_tag tag w))
+  unfolding in_head_noscript_start in_head_noscript_end
+  stays_in_head_noscript StartTag tag = holds_by_name (StaysIn InHeadNoscript) in_head_noscript_start (of_tag in_head_noscript_else) tag w
+      ((λ p. stays_start_html choices w k InHeadNoscript tag), ((λ p. stays_head_start choices w k InHeadNoscript tag (noscript_content_passes tag.name p)), ((λ p h. k), tt))) (λ n. stays_noscript_popped (TagTurn tag))
+  stays_in_head_noscript EndTag tag = holds_by_name (StaysIn InHeadNoscript) in_head_noscript_end ignored_tag tag w
+      ((λ p. by_changes InHeadNoscript (in_head_noscript_end_noscript tag w) (tt, (tt, tt))), ((λ p. stays_noscript_popped (TagTurn tag)), tt)) (λ n h. k)
 
   stays_body : (t : TurnText) → StaysIn AfterHead (after_head_else t w)
   stays_body t = by_changes AfterHead (after_head_else t w) (tt, tt)
 
-  stays_after_head : (kind : TagKind) (tag : TagText) → StaysIn AfterHead (by_kind kind (by_name after_head_start (of_tag after_head_else) tag w) (by_name after_head_end ignored_tag tag w))
+  stays_with_head : w.mode ≡ AfterHead → (tag : TagText) → is_one_of head_start_names tag.name ≡ true → StaysIn AfterHead (with_head in_head_start_tag tag w)
+  stays_with_head is tag p h =
+      let f : Fits w = record { mode = subst (λ m. FitsAs m w) (sym is) h; lists = k.lists } in
+      record { sound = sound_with_head choices tag w k.sound f is p; lists = lists_with_head choices tag w k.sound f is p }
+
+  stays_after_head : w.mode ≡ AfterHead → (kind : TagKind) (tag : TagText) → StaysIn AfterHead (by_kind kind (by_name after_head_start (of_tag after_head_else) tag w) (by_name after_head_end ignored_tag tag w))
   unfolding after_head_start after_head_end
-  stays_after_head StartTag tag = holds_by_name (StaysIn AfterHead) after_head_start (of_tag after_head_else) tag w
-      ((λ p. stays_start_html choices w k AfterHead tag), ((λ p. by_changes AfterHead (after_head_start_body tag w) (tt, (tt, (tt, tt)))), ((λ p h. k), tt))) (λ n. stays_body (TagTurn tag))
-  stays_after_head EndTag tag = holds_by_name (StaysIn AfterHead) after_head_end ignored_tag tag w ((λ p h. k), ((λ p. stays_body (TagTurn tag)), tt)) (λ n h. k)
+  stays_after_head is StartTag tag = holds_by_name (StaysIn AfterHead) after_head_start (of_tag after_head_else) tag w
+      ((λ p. stays_start_html choices w k AfterHead tag), ((λ p. by_changes AfterHead (after_head_start_body tag w) (tt, (tt, (tt, tt)))), ((λ p. stays_with_head is tag p), ((λ p h. k), tt)))) (λ n. stays_body (TagTurn tag))
+  stays_after_head is EndTag tag = holds_by_name (StaysIn AfterHead) after_head_end ignored_tag tag w ((λ p h. k), ((λ p. stays_body (TagTurn tag)), tt)) (λ n h. k)
 
   stays_after_body : (kind : TagKind) (tag : TagText) → StaysIn AfterBody (by_kind kind (by_name after_body_start (of_tag back_to_body) tag w) (by_name after_body_end (of_tag back_to_body) tag w))
   unfolding after_body_start after_body_end
@@ -107,12 +129,38 @@ module _ (choices : SinkChoices) (w : World) (k : IsSteady w) where
   stays_mode_in_head (TextTurn Whitespace x) some = by_changes InHead (row (AppendText x ∷ []) IsDone) (some, tt)
   stays_mode_in_head t some = stays_popped t
 
-  stays_mode_after_head : (t : TurnText) → HasText t → StaysIn AfterHead (after_head t w)
+  stays_mode_in_head_noscript : (t : TurnText) → HasText t → StaysIn InHeadNoscript (in_head_noscript t w)
+  unfolding in_head_noscript_tag
+  stays_mode_in_head_noscript (TagTurn tag) some = stays_in_head_noscript tag.kind tag
+  stays_mode_in_head_noscript (CommentTurn x) some = by_changes InHeadNoscript (row (AppendComment x ∷ []) IsDone) (tt, tt)
+  stays_mode_in_head_noscript (TextTurn Whitespace x) some = by_changes InHeadNoscript (row (AppendText x ∷ []) IsDone) (some, tt)
+  stays_mode_in_head_noscript t some = stays_noscript_popped t
+
+  stays_mode_after_head : w.mode ≡ AfterHead → (t : TurnText) → HasText t → StaysIn AfterHead (after_head t w)
   unfolding after_head_tag
-  stays_mode_after_head (TagTurn tag) some = stays_after_head tag.kind tag
-  stays_mode_after_head (CommentTurn x) some = by_changes AfterHead (row (AppendComment x ∷ []) IsDone) (tt, tt)
-  stays_mode_after_head (TextTurn Whitespace x) some = by_changes AfterHead (row (AppendText x ∷ []) IsDone) (some, tt)
-  stays_mode_after_head t some = stays_body t
+  stays_mode_after_head is (TagTurn tag) some = stays_after_head is tag.kind tag
+  stays_mode_after_head is (CommentTurn x) some = by_changes AfterHead (row (AppendComment x ∷ []) IsDone) (tt, tt)
+  stays_mode_after_head is (TextTurn Whitespace x) some = by_changes AfterHead (row (AppendText x ∷ []) IsDone) (some, tt)
+  stays_mode_after_head is t some = stays_body t
+
+  -- in a text
+  stays_text_tag : (kind : TagKind) (tag : TagText) → StaysIn Text (by_kind kind ignored (text_end tag w))
+  stays_text_tag StartTag tag = λ h. k
+  stays_text_tag EndTag tag = by_changes Text (text_end tag w) (tt, (tt, tt))
+
+  stays_text_end : StaysIn Text (text_mode EofTurn w)
+  stays_text_end = by_changes Text (text_mode EofTurn w) (at (current_is (codes "script") w))
+    where
+      at : (b : Bool) → NeedsOfAll ((if b then MarkStarted ∷ [] else []) ++ Pop ∷ [])
+      at true = (tt, (tt, tt))
+      at false = (tt, tt)
+
+  stays_mode_text : (t : TurnText) → HasText t → StaysIn Text (text_mode t w)
+  stays_mode_text (TagTurn tag) some = stays_text_tag tag.kind tag
+  stays_mode_text (CommentTurn x) some = λ h. k
+  stays_mode_text (TextTurn status x) some = by_changes Text (row (AppendText x ∷ []) IsDone) (some, tt)
+  stays_mode_text NullTurn some = λ h. k
+  stays_mode_text EofTurn some = stays_text_end
 
   stays_mode_after_body : (t : TurnText) → HasText t → StaysIn AfterBody (after_body t w)
   unfolding after_body_tag
@@ -128,26 +176,28 @@ module _ (choices : SinkChoices) (w : World) (k : IsSteady w) where
   stays_mode_after_after_body (TextTurn Whitespace x) some = stays_text choices w k AfterAfterBody x some
   stays_mode_after_after_body t some = λ h. k
 
-  stays_rule : (m : InsertionMode) (t : TurnText) → HasText t → StaysIn m (rule m t w)
-  stays_rule Initial t some = stays_mode_initial t
-  stays_rule BeforeHtml t some = stays_mode_before_html t
-  stays_rule BeforeHead t some = stays_mode_before_head t
-  stays_rule InHead t some = stays_mode_in_head t some
-  stays_rule AfterHead t some = stays_mode_after_head t some
-  stays_rule InBody t some = stays_in_body choices w k InBody refl t some
-  stays_rule InTable t some = stays_in_table choices w k InTable refl t some
-  stays_rule InTableText t some = stays_in_table_text choices w k t
-  stays_rule InCaption t some = stays_in_caption choices w k t some
-  stays_rule InColumnGroup t some = stays_in_column_group choices w k t some
-  stays_rule InTableBody t some = stays_in_table_body choices w k t some
-  stays_rule InRow t some = stays_in_row choices w k t some
-  stays_rule InCell t some = stays_in_cell choices w k t some
-  stays_rule AfterBody t some = stays_mode_after_body t some
-  stays_rule AfterAfterBody t some = stays_mode_after_after_body t some
-  stays_rule _ t some = λ h. k
+  stays_rule : (m : InsertionMode) → w.mode ≡ m → (t : TurnText) → HasText t → StaysIn m (rule m t w)
+  stays_rule Initial is t some = stays_mode_initial t
+  stays_rule BeforeHtml is t some = stays_mode_before_html t
+  stays_rule BeforeHead is t some = stays_mode_before_head t
+  stays_rule InHead is t some = stays_mode_in_head t some
+  stays_rule InHeadNoscript is t some = stays_mode_in_head_noscript t some
+  stays_rule AfterHead is t some = stays_mode_after_head is t some
+  stays_rule InBody is t some = stays_in_body choices w k InBody refl t some
+  stays_rule Text is t some = stays_mode_text t some
+  stays_rule InTable is t some = stays_in_table choices w k InTable refl t some
+  stays_rule InTableText is t some = stays_in_table_text choices w k t
+  stays_rule InCaption is t some = stays_in_caption choices w k t some
+  stays_rule InColumnGroup is t some = stays_in_column_group choices w k t some
+  stays_rule InTableBody is t some = stays_in_table_body choices w k t some
+  stays_rule InRow is t some = stays_in_row choices w k t some
+  stays_rule InCell is t some = stays_in_cell choices w k t some
+  stays_rule AfterBody is t some = stays_mode_after_body t some
+  stays_rule AfterAfterBody is t some = stays_mode_after_after_body t some
+  stays_rule _ is t some = λ h. k
 
 rule_steady : (choices : SinkChoices) (t : TurnText) (w : World) → Sound w → HasText t → Fits w → IsSteady (apply_all choices (rule w.mode t w).changes w)
-rule_steady choices t w sound some h = stays_rule choices w (record { sound = sound; lists = h.lists }) w.mode t some h.mode
+rule_steady choices t w sound some h = stays_rule choices w (record { sound = sound; lists = h.lists }) w.mode refl t some h.mode
 
 -- what holds at every moment holds after a row
 pub rule_sound : (choices : SinkChoices) (t : TurnText) (w : World) → Sound w → HasText t → Fits w → Sound (apply_all choices (rule w.mode t w).changes w)

@@ -3,11 +3,13 @@ use Rattle.std.proofs.Common.{◌≡◌, ℕ, ◌==◌, Bool, true, false, cond,
 use Rattle.h5_token.specs.Reply.{Reply, Continues, Refuses}
 use Rattle.h5_token.specs.TokenText.{TokenText, DoctypeIs, TagIs, CommentIs, Characters, NullCharacter, EndOfFile, ParseErrorIs}
 use Rattle.h5_token.specs.declared.fault.BuildFault.{BuildFault}
-use Rattle.h5_token.specs.declared.fault.BuildFault.TheVariants.{AfterEnd, Failed}
+use Rattle.h5_token.specs.declared.fault.BuildFault.TheVariants.{AfterEnd, Failed, NotInText}
 use Rattle.h5_interface.specs.SinkChoices.{SinkChoices}
 use Rattle.h5_token.specs.Joins.{glue, join}
+use Rattle.h5_types.specs.declared.modes.InsertionMode.{InsertionMode}
+use Rattle.h5_types.specs.declared.modes.InsertionMode.TheVariants.{Text}
 use Rattle.h5_meaning.specs.Cuts.{goes_on, spread_next, spread, CutsAgree}
-use Rattle.h5_meaning.specs.Run.{View, refusal, taken, text_step, without_lf, step, take_or_refuse, tell_or_refuse, after_token, reply_to, run, after_all, replies}
+use Rattle.h5_meaning.specs.Run.{View, refusal, refuses_in, taken, text_step, without_lf, step, take_or_refuse, tell_or_refuse, after_token, reply_to, run, after_all, replies}
 use Rattle.h5_meaning.specs.Text.{text_rule}
 use Rattle.h5_meaning.specs.World.{World}
 use Rattle.h5_meaning.proofs.CutLaws.{text_cut}
@@ -47,9 +49,23 @@ step_cut choices b t d u w k =
     ∙ step_pieces choices (without_lf w.ignore_lf (b ∷ t)) d u (taken w) k
     ∙ sym (step_plain choices d u (text_step choices (without_lf w.ignore_lf (b ∷ t)) (taken w)).world (step_flag choices (without_lf w.ignore_lf (b ∷ t)) (taken w)))
 
--- a view that has neither failed nor ended refuses nothing
-pub is_taken : (v : View) (t : TokenText) → v.failed ≡ false → v.ended ≡ false → refusal v t ≡ None
-is_taken v t f e = ap (λ b. cond b (Some Failed) (cond v.ended (Some AfterEnd) None)) f ∙ ap (λ b. cond b (Some AfterEnd) None) e
+-- a view that has neither failed nor ended refuses nothing but what its mode does
+pub is_taken : (v : View) (t : TokenText) → v.failed ≡ false → v.ended ≡ false → refuses_in v.world.mode t ≡ false → refusal v t ≡ None
+is_taken v t f e n =
+    ap (λ b. cond b (Some Failed) (cond v.ended (Some AfterEnd) (cond (refuses_in v.world.mode t) (Some NotInText) None))) f
+    ∙ ap (λ b. cond b (Some AfterEnd) (cond (refuses_in v.world.mode t) (Some NotInText) None)) e
+    ∙ ap (λ b. cond b (Some NotInText) None) n
+
+-- no mode refuses a text, so it is refused only after a failure or the end
+pub takes_text : (m : InsertionMode) (t : List ℕ) → refuses_in m (Characters t) ≡ false
+takes_text Text t = refl
+takes_text _ t = refl
+
+abbrev text_refusal : View → Option BuildFault
+text_refusal v = cond v.failed (Some Failed) (cond v.ended (Some AfterEnd) None)
+
+text_refused : (v : View) (t : List ℕ) → refusal v (Characters t) ≡ text_refusal v
+text_refused v t = ap (λ b. cond v.failed (Some Failed) (cond v.ended (Some AfterEnd) (cond b (Some NotInText) None))) (takes_text v.world.mode t)
 
 after_refused : (choices : SinkChoices) (t : TokenText) (v : View) (f : BuildFault) → refusal v t ≡ Some f → after_token choices t v ≡ v
 after_refused choices t v f e = ap (λ o. take_or_refuse choices t o v) e
@@ -62,17 +78,18 @@ after_taken choices t v e = ap (λ o. take_or_refuse choices t o v) e
 
 -- a text in two pieces, refused or taken
 pub token_cut : (choices : SinkChoices) (b : ℕ) (t : List ℕ) (d : ℕ) (u : List ℕ) (v : View) → Listed v.world → after_token choices (Characters ((b ∷ t) ++ d ∷ u)) v ≡ after_token choices (Characters (d ∷ u)) (after_token choices (Characters (b ∷ t)) v)
-token_cut choices b t d u v k = at (refusal v (Characters (b ∷ t))) refl
+token_cut choices b t d u v k = at (text_refusal v) refl
   where
-    at : (o : Option BuildFault) → refusal v (Characters (b ∷ t)) ≡ o → after_token choices (Characters ((b ∷ t) ++ d ∷ u)) v ≡ after_token choices (Characters (d ∷ u)) (after_token choices (Characters (b ∷ t)) v)
+    at : (o : Option BuildFault) → text_refusal v ≡ o → after_token choices (Characters ((b ∷ t) ++ d ∷ u)) v ≡ after_token choices (Characters (d ∷ u)) (after_token choices (Characters (b ∷ t)) v)
     at (Some f) e =
-        after_refused choices (Characters ((b ∷ t) ++ d ∷ u)) v f e
-        ∙ sym (ap (after_token choices (Characters (d ∷ u))) (after_refused choices (Characters (b ∷ t)) v f e) ∙ after_refused choices (Characters (d ∷ u)) v f e)
+        after_refused choices (Characters ((b ∷ t) ++ d ∷ u)) v f (text_refused v ((b ∷ t) ++ d ∷ u) ∙ e)
+        ∙ sym (ap (after_token choices (Characters (d ∷ u))) (after_refused choices (Characters (b ∷ t)) v f (text_refused v (b ∷ t) ∙ e)) ∙ after_refused choices (Characters (d ∷ u)) v f (text_refused v (d ∷ u) ∙ e))
     at None e =
-        after_taken choices (Characters ((b ∷ t) ++ d ∷ u)) v e
+        let v1 = moved v (step choices (Characters (b ∷ t)) v.world).world in
+        after_taken choices (Characters ((b ∷ t) ++ d ∷ u)) v (text_refused v ((b ∷ t) ++ d ∷ u) ∙ e)
         ∙ ap (moved v) (step_cut choices b t d u v.world k)
-        ∙ sym (ap (after_token choices (Characters (d ∷ u))) (after_taken choices (Characters (b ∷ t)) v e)
-        ∙ after_taken choices (Characters (d ∷ u)) (moved v (step choices (Characters (b ∷ t)) v.world).world) e)
+        ∙ sym (ap (after_token choices (Characters (d ∷ u))) (after_taken choices (Characters (b ∷ t)) v (text_refused v (b ∷ t) ∙ e))
+        ∙ after_taken choices (Characters (d ∷ u)) v1 (text_refused v1 (d ∷ u) ∙ e))
 
 -- views
 glue_view : (choices : SinkChoices) (t : List ℕ) (ts : List TokenText) (v : View) → Listed v.world → after_all choices (glue t ts) v ≡ after_all choices (Characters t ∷ ts) v
@@ -103,18 +120,18 @@ step_reply : (choices : SinkChoices) (t : List ℕ) (w : World) → (text_step c
 step_reply choices [] w = refl
 step_reply choices (b ∷ t) w = refl
 
-reply_of_text : (choices : SinkChoices) (t : List ℕ) (v : View) → reply_to choices (Characters t) v ≡ text_reply (refusal v (Characters t))
+reply_of_text : (choices : SinkChoices) (t : List ℕ) (v : View) → reply_to choices (Characters t) v ≡ text_reply (text_refusal v)
 unfolding step
-reply_of_text choices t v = at (refusal v (Characters t))
+reply_of_text choices t v = at (refusal v (Characters t)) ∙ ap text_reply (text_refused v t)
   where
     at : (o : Option BuildFault) → (tell_or_refuse choices (Characters t) o v).reply ≡ text_reply o
     at (Some f) = refl
     at None = step_reply choices (without_lf v.world.ignore_lf t) (taken v.world)
 
-same_refusal : (choices : SinkChoices) (t u : TokenText) (v : View) → refusal (after_token choices t v) u ≡ refusal v u
-same_refusal choices t u v = at (refusal v t)
+same_refusal : (choices : SinkChoices) (t : TokenText) (v : View) → text_refusal (after_token choices t v) ≡ text_refusal v
+same_refusal choices t v = at (refusal v t)
   where
-    at : (o : Option BuildFault) → refusal (take_or_refuse choices t o v) u ≡ refusal v u
+    at : (o : Option BuildFault) → text_refusal (take_or_refuse choices t o v) ≡ text_refusal v
     at (Some f) = refl
     at None = refl
 
@@ -143,16 +160,16 @@ unfolding run
 piece choices b t d ts js v k g on h =
     let v1 = after_token choices (Characters (b ∷ t)) v in
     let whole = Characters ((b ∷ t) ++ d ∷ g.u) in
-    let left : replies choices ts v1 ≡ spread ts (text_reply (refusal v (Characters (b ∷ t))) ∷ replies choices g.rest (after_token choices (Characters (d ∷ g.u)) v1)) =
+    let left : replies choices ts v1 ≡ spread ts (text_reply (text_refusal v) ∷ replies choices g.rest (after_token choices (Characters (d ∷ g.u)) v1)) =
     h ∙ ap (λ x. spread ts (replies choices x v1)) g.is
-    ∙ ap (λ r. spread ts (r ∷ replies choices g.rest (after_token choices (Characters (d ∷ g.u)) v1))) (reply_of_text choices (d ∷ g.u) v1 ∙ ap text_reply (same_refusal choices (Characters (b ∷ t)) (Characters (d ∷ g.u)) v)) in
-    let joined : replies choices (glue (b ∷ t) js) v ≡ text_reply (refusal v (Characters (b ∷ t))) ∷ replies choices g.rest (after_token choices (Characters (d ∷ g.u)) v1) =
+    ∙ ap (λ r. spread ts (r ∷ replies choices g.rest (after_token choices (Characters (d ∷ g.u)) v1))) (reply_of_text choices (d ∷ g.u) v1 ∙ ap text_reply (same_refusal choices (Characters (b ∷ t)) v)) in
+    let joined : replies choices (glue (b ∷ t) js) v ≡ text_reply (text_refusal v) ∷ replies choices g.rest (after_token choices (Characters (d ∷ g.u)) v1) =
     ap (λ x. replies choices (glue (b ∷ t) x) v) g.is
     ∙ ap (λ r. r ∷ replies choices g.rest (after_token choices whole v)) (reply_of_text choices ((b ∷ t) ++ d ∷ g.u) v)
-    ∙ ap (λ x. text_reply (refusal v (Characters (b ∷ t))) ∷ replies choices g.rest x) (token_cut choices b t d g.u v k) in
+    ∙ ap (λ x. text_reply (text_refusal v) ∷ replies choices g.rest x) (token_cut choices b t d g.u v k) in
     ap (λ r. r ∷ replies choices ts v1) (reply_of_text choices (b ∷ t) v)
-    ∙ ap (λ rs. text_reply (refusal v (Characters (b ∷ t))) ∷ rs) left
-    ∙ ap (λ x. text_reply (refusal v (Characters (b ∷ t))) ∷ spread ts (spread_next x (text_reply (refusal v (Characters (b ∷ t)))) (replies choices g.rest (after_token choices (Characters (d ∷ g.u)) v1)))) (sym on)
+    ∙ ap (λ rs. text_reply (text_refusal v) ∷ rs) left
+    ∙ ap (λ x. text_reply (text_refusal v) ∷ spread ts (spread_next x (text_reply (text_refusal v)) (replies choices g.rest (after_token choices (Characters (d ∷ g.u)) v1)))) (sym on)
     ∙ ap (spread (Characters (b ∷ t) ∷ ts)) (sym joined)
 
 replies_agree : (choices : SinkChoices) (ts : List TokenText) (v : View) → Listed v.world → replies choices ts v ≡ spread ts (replies choices (join ts) v)

@@ -1,10 +1,11 @@
 -- To which modes the rules of tables lead, and all rules, by the kind of the token.
-use Rattle.std.proofs.Common.{◌≡◌, ℕ, Bool, true, false, if◌then◌else◌, ◌||◌, is_some, List, [], ◌∷◌, codes, refl, ap, sym, subst, ◌∙◌}
+use Rattle.std.proofs.Common.{◌≡◌, ℕ, Bool, true, false, if◌then◌else◌, ◌||◌, is_some, List, [], ◌∷◌, ◌++◌, codes, refl, ap, sym, subst, ◌∙◌}
 use Rattle.std.proofs.lemmas.Slice.Eq.{bytes_eq-Decides}
 use Rattle.h5_names.specs.AttributeText.{is_same_text}
 use Rattle.h5_names.specs.KnownNames.{name_text}
 use Rattle.h5_names.specs.declared.known_name.KnownName.{KnownName}
 use Rattle.h5_names.specs.declared.known_name.KnownName.TheVariants.{Col, Html, Table, Tr}
+use Rattle.h5_token.specs.Reply.{RunsScript}
 use Rattle.h5_token.specs.TokenText.{TagText}
 use Rattle.h5_token.specs.declared.tag.TagKind.{TagKind}
 use Rattle.h5_token.specs.declared.tag.TagKind.TheVariants.{StartTag, EndTag}
@@ -12,7 +13,7 @@ use Rattle.h5_tag_sets.specs.TagSets.{cell_names, is_cell, is_one_of, is_table_b
 use Rattle.h5_stack.specs.Scope.{has_template}
 use Rattle.h5_types.specs.TurnText.{TurnText, TagTurn, CommentTurn, TextTurn, NullTurn, EofTurn}
 use Rattle.h5_types.specs.declared.modes.InsertionMode.{InsertionMode}
-use Rattle.h5_types.specs.declared.modes.InsertionMode.TheVariants.{Initial, BeforeHtml, BeforeHead, InHead, AfterHead, InBody, InTable, InTableText, InCaption, InColumnGroup, InTableBody, InRow, InCell, AfterBody, AfterAfterBody}
+use Rattle.h5_types.specs.declared.modes.InsertionMode.TheVariants.{Initial, BeforeHtml, BeforeHead, InHead, InHeadNoscript, AfterHead, InBody, Text, InTable, InTableText, InCaption, InColumnGroup, InTableBody, InRow, InCell, AfterBody, AfterAfterBody}
 use Rattle.h5_types.specs.declared.modes.SplitStatus.TheVariants.{NotSplit, Whitespace, NotWhitespace}
 use Rattle.h5_fits.specs.Fits.{is_table_mode}
 use Rattle.h5_fits.proofs.Ranks as edges
@@ -29,18 +30,21 @@ use Rattle.h5_meaning.specs.InBody.{in_body, in_body_tag}
 use Rattle.h5_meaning.specs.InCaption.{close_the_caption, in_caption_end, in_caption_ignored_ends, in_caption_start, in_caption_tag}
 use Rattle.h5_meaning.specs.InCell.{close_the_cell, in_cell_closing_ends, in_cell_end, in_cell_end_cell, in_cell_end_structure, in_cell_ignored_ends, in_cell_start, in_cell_start_structure, in_cell_tag}
 use Rattle.h5_meaning.specs.InColumnGroup.{close_the_column_group, in_column_group_else, in_column_group_end, in_column_group_start, in_column_group_tag}
-use Rattle.h5_meaning.specs.InHead.{in_head_tag}
+use Rattle.h5_meaning.specs.InHead.{in_head_start_tag, in_head_tag}
+use Rattle.h5_meaning.specs.InHeadNoscript.{in_head_noscript_tag}
 use Rattle.h5_meaning.specs.InRow.{close_the_row, in_row_end, in_row_end_section, in_row_start, in_row_tag, row_closing_names}
-use Rattle.h5_meaning.specs.InTable.{in_table, in_table_else, in_table_end, in_table_end_table, in_table_ignored_ends, in_table_start, in_table_start_form, in_table_start_input, in_table_start_table, in_table_tag, in_table_text_or_null, keeps_text, row_part_names}
+use Rattle.h5_meaning.specs.InTable.{in_table, in_table_else, in_table_end, in_table_end_table, in_table_ignored_ends, in_table_start, in_table_start_form, in_table_start_input, in_table_start_table, in_table_tag, in_table_text_or_null, keeps_text, row_part_names, table_text_names}
 use Rattle.h5_meaning.specs.InTableBody.{in_table_body_close, in_table_body_end, in_table_body_end_section, in_table_body_start, in_table_body_tag, is_table_or_section, section_closing_names}
 use Rattle.h5_meaning.specs.InTableText.{in_table_text_else, pending_text, saved_mode}
 use Rattle.h5_meaning.specs.Modes.{rule}
 use Rattle.h5_meaning.specs.Reset.{reset_mode}
-use Rattle.h5_meaning.specs.Rows.{AddAttrsToHtml, Again, AgainBy, Change, ClearActiveFormattingToMarker, Ending, GenerateImpliedEnd, InsertAndPopForm, IsDone, Pop, PopUntilCurrent, PopUntilNamed, Row, SaveMode, SetMode, TakePendingText, choose, errs, ignored, row, row_if}
+use Rattle.h5_meaning.specs.Rows.{AddAttrsToHtml, Again, AgainBy, Answers, Change, ClearActiveFormattingToMarker, Ending, GenerateImpliedEnd, InsertAndPopForm, IsDone, Pop, PopUntilCurrent, PopUntilNamed, Row, SaveMode, SetMode, TakePendingText, choose, errs, ignored, row, row_if}
 use Rattle.h5_meaning.specs.Shared.{current_is, in_body_start_html, is_type_hidden, table_structure_names}
 use Rattle.h5_meaning.specs.Tables.{foster, in_table_scope, named_in_table_scope, table_section_names}
-use Rattle.h5_meaning.specs.World.{World, names_of}
-use Rattle.h5_meaning.proofs.AgainLaws.{Leads, RowStops, kind_of_end, kind_of_start, kind_of_tag, kind_of_turn, leads_after_after_body, leads_after_body, leads_after_head, leads_before_head, leads_before_html, leads_in_body, leads_in_head, leads_initial_else, part_end_names, part_names, stops_body_tag, stops_choose, stops_leads}
+use Rattle.h5_meaning.specs.TextMode.{marks_script, text_end}
+use Rattle.h5_meaning.specs.World.{World, current, names_of}
+use Rattle.h5_meaning.proofs.AgainLaws.{Leads, RowStops, Stops, kind_of_end, kind_of_start, kind_of_tag, kind_of_turn, leads_after_after_body, leads_after_body, leads_after_head, leads_before_head, leads_before_html, leads_in_body, leads_in_head, leads_in_head_noscript, leads_initial_else, part_end_names, part_names, row_stops, stops_body_tag, stops_choose, stops_leads}
+use Rattle.h5_meaning.proofs.BodyRowLaws.{row_head_start, table_text_passes}
 use Rattle.h5_meaning.proofs.ByNameLaws.{holds_by_name, holds_chosen, of_named}
 
 -- what is so of each name of a set is so of a name among them
@@ -65,12 +69,13 @@ not_named known set l a h = at (named known l) refl
     at true e = absurd (let k = of_named (λ n. is_one_of set n ≡ true) known l a e in cc)
 
 -- what a row leads to: by an edge, or not: it closes a table, or a column group for a start tag `table`, or takes the
--- text that was kept back
+-- text that was kept back, or closes the element of a text at the end of the file
 pub data RowLeads (c : TurnKind) (m : InsertionMode) (w : World) (r : Row) : Type 0 where
   ByEdge : Leads c m r.ending → RowLeads c m w r
   ClosesTable : is_table_mode m ≡ true → c ≡ StartTableTurns → named_in_table_scope (codes "table") w ≡ true → r.changes ≡ PopUntilNamed (codes "table") ∷ [] → r.ending ≡ AgainBy reset_mode → RowLeads c m w r
   ClosesColumnGroup : m ≡ InColumnGroup → c ≡ StartTableTurns → current_is (codes "colgroup") w ≡ true → r.changes ≡ Pop ∷ [] → r.ending ≡ Again InTable → RowLeads c m w r
   TakesPending : m ≡ InTableText → is_text c ≡ false → r.changes ≡ TakePendingText ∷ (pending_text w.pending w).changes → r.ending ≡ AgainBy saved_mode → RowLeads c m w r
+  EndsText : m ≡ Text → c ≡ EofTurns → r.changes ≡ marks_script w ++ Pop ∷ [] → r.ending ≡ AgainBy saved_mode → RowLeads c m w r
 
 stops : (c : TurnKind) (m : InsertionMode) (w : World) (r : Row) → RowStops r → RowLeads c m w r
 stops c m w r h = ByEdge (stops_leads c m r.ending h)
@@ -110,12 +115,15 @@ module _ (m : InsertionMode) (tag : TagText) (w : World) where
       stops c m w (in_table_start_form tag w)
       (stops_choose (has_template (names_of w) || is_some w.form) ignored (errs (InsertAndPopForm tag.attrs tag.had_duplicate_attributes ∷ []) IsDone) tt tt)
 
+  starts_text : is_one_of table_text_names tag.name ≡ true → P (in_head_start_tag tag w)
+  starts_text p = stops c m w (in_head_start_tag tag w) (row_stops (in_head_start_tag tag w) (row_head_start tag w (table_text_passes tag.name p)))
+
   leads_table_start : is_table_mode m ≡ true → tag.kind ≡ StartTag → (named Col tag.name ≡ true → edges.Again c m InColumnGroup) → (is_one_of row_part_names tag.name ≡ true → edges.Again c m InTableBody)
       → P (by_name in_table_start (of_tag in_table_else) tag w)
   unfolding in_table_start
   leads_table_start i e col part =
       holds_by_name P in_table_start (of_tag in_table_else) tag w
-      ((λ p. ByEdge tt), ((λ p. ByEdge tt), ((λ p. ByEdge (col p)), ((λ p. ByEdge tt), ((λ p. ByEdge (part p)), ((λ p. closes_table i p), ((λ p. starts_input e), ((λ p. starts_form), tt))))))))
+      ((λ p. ByEdge tt), ((λ p. ByEdge tt), ((λ p. ByEdge (col p)), ((λ p. ByEdge tt), ((λ p. ByEdge (part p)), ((λ p. closes_table i p), ((λ p. starts_text p), ((λ p. starts_input e), ((λ p. starts_form), tt)))))))))
       (λ n. stops c m w (foster in_body (TagTurn tag) w) (fostered tag w (λ f. no_end tag.kind (named Html tag.name ≡ false) e f)))
 
   pub leads_table_tag_start : is_table_mode m ≡ true → tag.kind ≡ StartTag → (named Col tag.name ≡ true → edges.Again c m InColumnGroup) → (is_one_of row_part_names tag.name ≡ true → edges.Again c m InTableBody)
@@ -400,15 +408,29 @@ module _ (tag : TagText) (w : World) where
       ((λ p. column_close e (SetMode InTable ∷ []) IsDone tt), ((λ p. ByEdge tt), tt))
       (λ n. column_close e [] (Again InTable) (column_end name))
 
+-- IN A TEXT no tag is taken again
+ends_text : (tag : TagText) (w : World) → RowStops (text_end tag w)
+ends_text tag w = at (is_same_text tag.name (codes "script"))
+  where
+    at : (b : Bool) → Stops (if b then Answers (RunsScript (current w)) else IsDone)
+    at true = tt
+    at false = tt
+
+leads_text : (k : TagKind) (tag : TagText) (w : World) → RowLeads (kind_of_tag k tag.name) Text w (by_kind k ignored (text_end tag w))
+leads_text StartTag tag w = ByEdge tt
+leads_text EndTag tag w = stops (kind_of_end tag.name) Text w (text_end tag w) (ends_text tag w)
+
 -- ALL RULES
 leads_tag : (m : InsertionMode) (tag : TagText) (w : World) → RowLeads (kind_of_tag tag.kind tag.name) m w (rule m (TagTurn tag) w)
-unfolding before_html_tag before_head_tag in_head_tag after_head_tag in_body_tag after_body_tag after_after_body_tag in_table_text_else in_caption_tag in_column_group_tag in_table_body_tag in_row_tag in_cell_tag
+unfolding before_html_tag before_head_tag in_head_tag in_head_noscript_tag after_head_tag in_body_tag after_body_tag after_after_body_tag in_table_text_else in_caption_tag in_column_group_tag in_table_body_tag in_row_tag in_cell_tag
 leads_tag Initial tag w = ByEdge (leads_initial_else (kind_of_tag tag.kind tag.name) (TagTurn tag) w)
 leads_tag BeforeHtml tag w = ByEdge (leads_before_html (kind_of_tag tag.kind tag.name) tag.kind tag w)
 leads_tag BeforeHead tag w = ByEdge (leads_before_head (kind_of_tag tag.kind tag.name) tag.kind tag w)
 leads_tag InHead tag w = ByEdge (leads_in_head (kind_of_tag tag.kind tag.name) tag.kind tag w)
+leads_tag InHeadNoscript tag w = ByEdge (leads_in_head_noscript (kind_of_tag tag.kind tag.name) tag.kind tag w)
 leads_tag AfterHead tag w = ByEdge (leads_after_head (kind_of_tag tag.kind tag.name) tag.kind tag w)
 leads_tag InBody tag w = ByEdge (leads_in_body tag.kind tag w)
+leads_tag Text tag w = leads_text tag.kind tag w
 leads_tag InTable tag w = leads_in_table tag w tag.kind refl
 leads_tag InTableText tag w = TakesPending refl (tag_no_text tag.kind tag.name) refl refl
 leads_tag InCaption tag w = leads_in_caption tag w tag.kind refl
@@ -448,6 +470,7 @@ leads_solid Initial x w = ByEdge (leads_initial_else TextTurns (TextTurn NotWhit
 leads_solid BeforeHtml x w = ByEdge (edges.before_html TextTurns)
 leads_solid BeforeHead x w = ByEdge (edges.before_head TextTurns)
 leads_solid InHead x w = ByEdge (edges.in_head TextTurns)
+leads_solid InHeadNoscript x w = ByEdge (edges.in_head_noscript TextTurns)
 leads_solid AfterHead x w = ByEdge (edges.after_head TextTurns)
 leads_solid InTable x w = table_text InTable (TextTurn NotWhitespace x) w edges.text_of_table tt
 leads_solid InColumnGroup x w = column_text (TextTurn NotWhitespace x) w
@@ -462,6 +485,7 @@ leads_whole Initial x w = ByEdge (leads_initial_else TextTurns (TextTurn NotSpli
 leads_whole BeforeHtml x w = ByEdge (edges.before_html TextTurns)
 leads_whole BeforeHead x w = ByEdge (edges.before_head TextTurns)
 leads_whole InHead x w = ByEdge (edges.in_head TextTurns)
+leads_whole InHeadNoscript x w = ByEdge (edges.in_head_noscript TextTurns)
 leads_whole AfterHead x w = ByEdge (edges.after_head TextTurns)
 leads_whole InTable x w = table_text InTable (TextTurn NotSplit x) w edges.text_of_table tt
 leads_whole InColumnGroup x w = column_text (TextTurn NotSplit x) w
@@ -476,6 +500,7 @@ leads_null Initial w = ByEdge (leads_initial_else TextTurns NullTurn w)
 leads_null BeforeHtml w = ByEdge (edges.before_html TextTurns)
 leads_null BeforeHead w = ByEdge (edges.before_head TextTurns)
 leads_null InHead w = ByEdge (edges.in_head TextTurns)
+leads_null InHeadNoscript w = ByEdge (edges.in_head_noscript TextTurns)
 leads_null AfterHead w = ByEdge (edges.after_head TextTurns)
 leads_null InTable w = table_text InTable NullTurn w edges.text_of_table tt
 leads_null InColumnGroup w = column_text NullTurn w
@@ -491,7 +516,9 @@ leads_eof Initial w = ByEdge (leads_initial_else EofTurns EofTurn w)
 leads_eof BeforeHtml w = ByEdge (edges.before_html EofTurns)
 leads_eof BeforeHead w = ByEdge (edges.before_head EofTurns)
 leads_eof InHead w = ByEdge (edges.in_head EofTurns)
+leads_eof InHeadNoscript w = ByEdge (edges.in_head_noscript EofTurns)
 leads_eof AfterHead w = ByEdge (edges.after_head EofTurns)
+leads_eof Text w = EndsText refl refl refl refl
 leads_eof InTableText w = TakesPending refl refl refl refl
 leads_eof _ w = ByEdge tt
 

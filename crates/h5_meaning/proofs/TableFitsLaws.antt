@@ -1,9 +1,9 @@
 -- The modes of tables, sections and rows, and of a text in them: after each row the open elements fit the mode that it
 -- leaves.
-use Rattle.std.proofs.Common.{◌≡◌, ◌≢◌, inl, inr, ℕ, Bool, true, false, cond, ◌||◌, List, [], ◌∷◌, codes, Option, Some, None, is_some, unwrap_or, refl, ap, sym, subst, ◌∙◌}
+use Rattle.std.proofs.Common.{◌≡◌, ◌≢◌, inl, inr, ℕ, Bool, true, false, ◌||◌, List, [], ◌∷◌, codes, Some, is_some, unwrap_or, refl, ap, sym, subst, ◌∙◌}
 use Rattle.h5_names.specs.AttributeText.{AttributeText}
 use Rattle.h5_names.specs.declared.qualified.QualName.{QualName}
-use Rattle.h5_names.specs.declared.known_name.KnownName.TheVariants.{Caption, Colgroup, Table, Tr}
+use Rattle.h5_names.specs.declared.known_name.KnownName.TheVariants.{Caption, Colgroup, Noscript, Table, Tr}
 use Rattle.h5_token.specs.TokenText.{TagText}
 use Rattle.h5_token.specs.declared.tag.TagKind.{TagKind}
 use Rattle.h5_token.specs.declared.tag.TagKind.TheVariants.{StartTag, EndTag}
@@ -12,15 +12,14 @@ use Rattle.h5_tag_sets.specs.TagSets.{cell_names, is_html_named, is_one_of, is_t
 use Rattle.h5_types.specs.TurnText.{CommentTurn, EofTurn, HasText, NullTurn, TagTurn, TextTurn, TurnText}
 use Rattle.h5_types.specs.declared.modes.InsertionMode.{InsertionMode}
 use Rattle.h5_types.specs.declared.modes.InsertionMode.TheVariants.{InCaption, InCell, InColumnGroup, InRow, InTable, InTableBody, InTableText}
-use Rattle.h5_types.specs.declared.modes.SplitStatus.{SplitStatus}
 use Rattle.h5_types.specs.declared.modes.SplitStatus.TheVariants.{NotSplit}
 use Rattle.h5_stack.specs.FormattingNames.{html_name}
-use Rattle.h5_stack.specs.Scope.{down_names, has_template, in_scope, later_names}
+use Rattle.h5_stack.specs.Scope.{down_names, has_template, later_names}
 use Rattle.h5_fits.specs.Changes.{with_saved}
 use Rattle.h5_fits.specs.Fits.{goes_by_body, is_table_mode}
 use Rattle.h5_fits.specs.NamesFit.{NamesFit}
 use Rattle.h5_fits.specs.Reset.{reset}
-use Rattle.h5_fits.specs.Roles.{BodyRole, CaptionRole, CellRole, ColgroupRole, FramesetRole, HeadRole, HtmlRole, PlainRole, Role, RowRole, SectionRole, TableRole, TemplateRole, is_cell_role, is_section, role_of, role_of_local, roles}
+use Rattle.h5_fits.specs.Roles.{CaptionRole, CellRole, ColgroupRole, Role, RowRole, SectionRole, TableRole, is_cell_role, is_section, role_of, role_of_local, roles}
 use Rattle.h5_fits.specs.Roles as fits_roles
 use Rattle.h5_fits.proofs.NamesBodyLaws.{names_in_table, table_goes}
 use Rattle.h5_fits.proofs.NamesFitLaws.{names_table_text_begun, names_table_text_ended}
@@ -29,31 +28,33 @@ use Rattle.h5_fits.proofs.RoleLaws.{Origin, origin, role_made, role_named}
 use Rattle.h5_fits.proofs.RoleSetLaws.{all_pass}
 use Rattle.h5_fits.proofs.TableModeLaws.{cell_only, section_only}
 use Rattle.h5_meaning.specs.Blanks.{all_blank}
-use Rattle.h5_meaning.specs.ByName.{NonePasses, by_kind, by_name, ignored_tag, named, of_tag}
+use Rattle.h5_meaning.specs.ByName.{NonePasses, by_kind, by_name, named, of_tag}
 use Rattle.h5_meaning.specs.Changes.{append_pending_text, append_text, insert_and_pop_element, insert_and_pop_form, insert_element, pop, pop_until_current, pop_until_named, save_mode, set_foster, set_frameset_ok_by_text, take_pending_text}
 use Rattle.h5_meaning.specs.Formatting.{insert_marker, reconstruct_active_formatting_elements}
 use Rattle.h5_meaning.specs.InBody.{in_body}
-use Rattle.h5_meaning.specs.InRow.{close_the_row, in_row, in_row_close, in_row_end, in_row_end_section, in_row_start, in_row_start_cell, in_row_tag}
-use Rattle.h5_meaning.specs.InTable.{in_table, in_table_else, in_table_end, in_table_end_table, in_table_ignored_ends, in_table_start, in_table_start_caption, in_table_start_col, in_table_start_colgroup, in_table_start_form, in_table_start_input, in_table_start_row_part, in_table_start_section, in_table_start_table, in_table_tag, in_table_text_or_null, keeps_text}
+use Rattle.h5_meaning.specs.InRow.{close_the_row, in_row, in_row_end, in_row_end_section, in_row_start, in_row_start_cell, in_row_tag}
+use Rattle.h5_meaning.specs.InTable.{in_table, in_table_else, in_table_end, in_table_end_table, in_table_ignored_ends, in_table_start, in_table_start_caption, in_table_start_col, in_table_start_colgroup, in_table_start_form, in_table_start_input, in_table_start_row_part, in_table_start_section, in_table_start_table, in_table_tag, in_table_text_or_null, keeps_text, table_text_names}
 use Rattle.h5_meaning.specs.Shared.{is_type_hidden}
 use Rattle.h5_meaning.specs.InTableBody.{in_table_body, in_table_body_close, in_table_body_end, in_table_body_end_section, in_table_body_start, in_table_body_start_cell, in_table_body_start_row, in_table_body_tag, is_table_or_section}
 use Rattle.h5_meaning.specs.InTableText.{in_table_text, in_table_text_else, pending_text, saved_mode}
 use Rattle.h5_meaning.specs.Reset.{reset_mode}
-use Rattle.h5_meaning.specs.Rows.{Again, AgainBy, AppendText, Change, Ending, InsertAndPopElement, InsertAndPopForm, InsertMarker, IsAcknowledged, IsDone, Pop, PopUntilCurrent, PopUntilNamed, ResetMode, Row, SaveMode, SetMode, apply_all, errs, ignored, row}
+use Rattle.h5_meaning.specs.Rows.{Again, AgainBy, AppendText, InsertAndPopElement, InsertAndPopForm, InsertMarker, IsAcknowledged, IsDone, Pop, PopUntilCurrent, PopUntilNamed, ResetMode, Row, SaveMode, SetMode, apply_all, errs, ignored, row}
 use Rattle.h5_meaning.specs.Sound.{Sound, situation_of}
 use Rattle.h5_meaning.specs.Tables.{foster, in_table_scope, named_in_table_scope, table_section_names}
 use Rattle.h5_meaning.specs.World.{World, names_of}
 use Rattle.h5_meaning.proofs.AdoptionForest.{kinds_refl}
 use Rattle.h5_meaning.proofs.BodyFitsLaws.{NoPart, NoPartOf, apart, blind_in_body, is_of_table, kept_in_body}
-use Rattle.h5_meaning.proofs.ByNameLaws.{holds_by_name, holds_chosen}
+use Rattle.h5_meaning.proofs.ByNameLaws.{holds_by_name, holds_chosen, of_named}
 use Rattle.h5_meaning.proofs.HeadFitsLaws.{role_known}
 use Rattle.h5_meaning.proofs.KeptLaws.{FitsAs, Kept, as_before, fits_at, kept_comment, kept_foster}
 use Rattle.h5_meaning.proofs.ListsLaws.{IsSteady, steady_changes}
 use Rattle.h5_meaning.proofs.NameLaws.{names-append, names-cut, names-form, names-insert, names-insert_and_pop, names-until_current}
 use Rattle.h5_meaning.proofs.PopLaws.{names-pop}
-use Rattle.h5_meaning.proofs.ReadyInLaws.{ReadyIn, in_foster, in_frameset_text, in_reconstruct, in_text, ready_in}
+use Rattle.h5_meaning.proofs.ReadyInLaws.{ReadyIn, in_foster, in_frameset_text, in_reconstruct, in_text, ready_in, steady}
 use Rattle.h5_meaning.proofs.SituationLaws.{KeepsSituation, situation_frameset, situation_insert, situation_leaf, situation_pop, situation_reconstruct, situation_text, situation_then, situation_tree}
-use Rattle.h5_meaning.proofs.TreeLaws.{tree_marker, tree_until_current}
+use Rattle.h5_meaning.proofs.BodyRowLaws.{table_text_passes}
+use Rattle.h5_meaning.proofs.HeadContentLaws.{body_left, kept_head_start}
+use Rattle.h5_meaning.specs.InHead.{in_head_start_tag}
 
 -- NAMES
 
@@ -145,9 +146,9 @@ module _ (choices : SinkChoices) (w : World) (steady : IsSteady w) where
       (subst (NamesFit (situation_of w) k) (sym (names-pop choices v ∙ ap later_names (names-until_current test w))) f)
 
   -- a row of the body, with foster parenting on
-  pub kept_fostered : (m : InsertionMode) (t : TurnText) → goes_by_body m ≡ true → HasText t → NoPart m t → Kept choices w m (foster in_body t w)
-  kept_fostered m t goes some part =
-      kept_foster choices w m in_body t (blind_in_body (set_foster true w) t) (kept_in_body choices (set_foster true w) (record { sound = steady.sound; lists = steady.lists }) m goes t some part)
+  pub kept_fostered : (m : InsertionMode) (t : TurnText) → goes_by_body m ≡ true → w.mode ≡ m → HasText t → NoPart m t → Kept choices w m (foster in_body t w)
+  kept_fostered m t goes same some part =
+      kept_foster choices w m in_body t (blind_in_body (set_foster true w) t) (kept_in_body choices (set_foster true w) (record { sound = steady.sound; lists = steady.lists }) m goes same t some part)
 
   -- IN A TABLE, also in a section or a row
 
@@ -205,7 +206,7 @@ module _ (choices : SinkChoices) (w : World) (steady : IsSteady w) where
     kept_start_input tag part = holds_chosen (Kept choices w m) (is_type_hidden tag.attrs) (errs (InsertAndPopElement tag.name tag.attrs tag.had_duplicate_attributes ∷ []) IsAcknowledged) (foster in_body (TagTurn tag) w)
         (λ e. as_before m w (insert_and_pop_element choices tag.name tag.attrs tag.had_duplicate_attributes w) steady.sound (situation_leaf choices w tag.name tag.attrs tag.had_duplicate_attributes steady.sound)
         (names-insert_and_pop choices tag.name tag.attrs tag.had_duplicate_attributes w steady.sound))
-        (λ e. kept_fostered m (TagTurn tag) (table_goes m table) tt part)
+        (λ e. kept_fostered m (TagTurn tag) (table_goes m table) same tt part)
 
     kept_start_form : (tag : TagText) → Kept choices w m (in_table_start_form tag w)
     unfolding in_table_start_form
@@ -221,7 +222,14 @@ module _ (choices : SinkChoices) (w : World) (steady : IsSteady w) where
 
     kept_text_or_null : (t : TurnText) → HasText t → NoPart m t → Kept choices w m (in_table_text_or_null t w)
     unfolding in_table_text_or_null
-    kept_text_or_null t some part = holds_chosen (Kept choices w m) (keeps_text w) (row (SaveMode ∷ []) (Again InTableText)) (foster in_body t w) (λ e. text_begun) (λ e. kept_fostered m t (table_goes m table) some part)
+    kept_text_or_null t some part = holds_chosen (Kept choices w m) (keeps_text w) (row (SaveMode ∷ []) (Again InTableText)) (foster in_body t w) (λ e. text_begun) (λ e. kept_fostered m t (table_goes m table) same some part)
+
+    -- a start tag "style", "script"
+    kept_text_start : (tag : TagText) → is_one_of table_text_names tag.name ≡ true → Kept choices w m (in_head_start_tag tag w)
+    unfolding table_text_names
+    kept_text_start tag p =
+        kept_head_start choices w steady.sound m same (body_left m (table_goes m table)) tag
+        (λ q. let out = of_named (λ n. is_one_of table_text_names n ≡ false) Noscript tag.name refl q in absurd (cc)) (λ n. absurd (table_text_passes tag.name p n))
 
     kept_table_tag : (kind : TagKind) (tag : TagText) → tag.kind ≡ kind → Kept choices w m (by_kind kind (by_name in_table_start (of_tag in_table_else) tag w) (by_name in_table_end (of_tag in_table_else) tag w))
     unfolding in_table_start in_table_end
@@ -235,18 +243,18 @@ module _ (choices : SinkChoices) (w : World) (steady : IsSteady w) where
             (λ p. kept_start_section tag p),
             (
               (λ p. kept_start_row_part tag),
-              ((λ p. kept_start_table tag), ((λ p. kept_start_input tag start), ((λ p. kept_start_form tag), tt))),
+              ((λ p. kept_start_table tag), ((λ p. kept_text_start tag p), ((λ p. kept_start_input tag start), ((λ p. kept_start_form tag), tt)))),
             ),
           ),
         ),
       ),
     )
-        (λ n. kept_fostered m (TagTurn tag) (table_goes m table) tt start)
+        (λ n. kept_fostered m (TagTurn tag) (table_goes m table) same tt start)
       where
         start : NoPart m (TagTurn tag)
         start = inr (subst (λ k. NoPartOf k tag.name) (sym e) tt)
     kept_table_tag EndTag tag e = holds_by_name (Kept choices w m) in_table_end (of_tag in_table_else) tag w ((λ p. kept_end_table tag), ((λ p h. h), tt))
-        (λ n. kept_fostered m (TagTurn tag) (table_goes m table) tt (inr (subst (λ k. NoPartOf k tag.name) (sym e) (no_part_in_table tag.name n))))
+        (λ n. kept_fostered m (TagTurn tag) (table_goes m table) same tt (inr (subst (λ k. NoPartOf k tag.name) (sym e) (no_part_in_table tag.name n))))
 
     pub kept_in_table : (t : TurnText) → HasText t → Kept choices w m (in_table t w)
     unfolding in_table_tag

@@ -1,6 +1,6 @@
 -- After each row of the modes of tables all stands, and the list of active formatting elements agrees with the stack of
 -- open elements.
-use Rattle.std.proofs.Common.{◌≡◌, ◌≢◌, ℕ, Bool, true, false, not, ◌&&◌, ◌||◌, List, [], ◌∷◌, codes, is_some, refl, sym, subst}
+use Rattle.std.proofs.Common.{◌≡◌, ◌≢◌, ℕ, Bool, true, false, ◌||◌, List, [], ◌∷◌, codes, is_some, refl, sym, subst}
 use Rattle.h5_token.specs.TokenText.{TagText}
 use Rattle.h5_token.specs.declared.tag.TagKind.{TagKind}
 use Rattle.h5_token.specs.declared.tag.TagKind.TheVariants.{StartTag, EndTag}
@@ -29,7 +29,8 @@ use Rattle.h5_meaning.specs.Reset.{reset_mode}
 use Rattle.h5_meaning.specs.Rows.{Again, AgainBy, AppendComment, AppendPendingText, AppendText, Change, ClearActiveFormattingToMarker, Ending, GenerateImpliedEnd, InsertAndPopElement, InsertAndPopForm, IsAcknowledged, IsDone, Pop, PopUntilCurrent, PopUntilNamed, ReconstructActiveFormattingElements, ResetMode, Row, SaveMode, SetFoster, SetFramesetOkByText, SetMode, apply_all, choose, errs, ignored, row, row_if}
 use Rattle.h5_meaning.specs.Tables.{foster, in_table_scope, named_in_table_scope}
 use Rattle.h5_meaning.specs.World.{World, names_of}
-use Rattle.h5_meaning.proofs.BodyListsLaws.{Stays, stays, stays_chosen, stays_in_body, stays_start_html}
+use Rattle.h5_meaning.proofs.BodyListsLaws.{Stays, stays, stays_chosen, stays_head_start, stays_in_body, stays_start_html}
+use Rattle.h5_meaning.proofs.BodyRowLaws.{table_text_passes}
 use Rattle.h5_meaning.proofs.ByNameLaws.{holds_by_name, holds_chosen}
 use Rattle.h5_meaning.proofs.KeptLaws.{FitsAs, apply_append}
 use Rattle.h5_meaning.proofs.ListsLaws.{IsSteady, NeedsOfAll, steady_changes}
@@ -89,7 +90,7 @@ module _ (choices : SinkChoices) (w : World) (k : IsSteady w) where
             (λ p. by_changes m (in_table_start_section tag w) (tt, (tt, (tt, tt)))),
             (
               (λ p. by_changes m (in_table_start_row_part tag w) (tt, (tt, tt))),
-              ((λ p. stays_start_table_again tag), ((λ p. stays_start_input tag), ((λ p. stays_start_form tag), tt))),
+              ((λ p. stays_start_table_again tag), ((λ p. stays_head_start choices w k m tag (table_text_passes tag.name p)), ((λ p. stays_start_input tag), ((λ p. stays_start_form tag), tt)))),
             ),
           ),
         ),

@@ -1,18 +1,32 @@
 -- HTML standard, section 13.2.6.4.6, the "after head" insertion mode.
-use Rattle.std.specs.Prelude.{false, [], ◌∷◌, codes}
+use Rattle.std.specs.Prelude.{ℕ, false, List, [], ◌∷◌, ◌++◌, Option, Some, None, codes}
 use Rattle.h5_token.specs.TokenText.{TagText}
 use Rattle.h5_names.specs.declared.known_name.KnownName.TheVariants.{Body, Head, Html}
 use Rattle.h5_types.specs.TurnText.{CommentTurn, EofTurn, NullTurn, TagTurn, TextTurn, TurnText}
 use Rattle.h5_types.specs.declared.modes.InsertionMode.TheVariants.{InBody}
 use Rattle.h5_types.specs.declared.modes.SplitStatus.TheVariants.{NotSplit, NotWhitespace, Whitespace}
 use Rattle.h5_meaning.specs.ByName.{Rules, by_kind, by_name, ignored_tag, is_outer, named, of_tag}
-use Rattle.h5_meaning.specs.Rows.{Again, AppendComment, AppendText, InsertElement, IsDone, Row, SetFramesetNotOk, SetMode, row}
-use Rattle.h5_meaning.specs.Shared.{in_body_start_html}
+use Rattle.h5_meaning.specs.Rows.{Again, AppendComment, AppendText, Change, InsertElement, IsDone, PushHead, RemoveFromStack, Row, SetFramesetNotOk, SetMode, errs, row}
+use Rattle.h5_meaning.specs.Shared.{head_start_names, in_body_start_html}
 use Rattle.h5_meaning.specs.World.{World}
+use Rattle.h5_tag_sets.specs.TagSets.{is_one_of}
+use Rattle.h5_meaning.specs.Changes.{push_head}
+use Rattle.h5_meaning.specs.InHead.{in_head_start_tag}
 
 -- a start tag "body"
 abbrev pub after_head_start_body : TagText → World → Row
 after_head_start_body tag w = row (InsertElement tag.name tag.attrs tag.had_duplicate_attributes ∷ SetFramesetNotOk ∷ SetMode InBody ∷ []) IsDone
+
+-- the element is no more open
+abbrev pub removes_known : Option ℕ → List Change
+removes_known None = []
+removes_known (Some n) = RemoveFromStack n ∷ []
+
+-- a start tag of what stands in the head: the head element is current for it, by the rules of the head, and leaves the
+-- stack then, from wherever it stands
+unfoldable pub with_head : (TagText → World → Row) → TagText → World → Row
+with_head rule tag w =
+    let r = rule tag (push_head w) in errs (PushHead ∷ (r.changes ++ removes_known w.head)) r.ending
 
 -- anything else
 abbrev pub after_head_else : TurnText → World → Row
@@ -20,7 +34,7 @@ after_head_else t w = row (InsertElement (codes "body") [] false ∷ []) (Again 
 
 -- start tags, and end tags
 unfoldable pub after_head_start : Rules
-after_head_start = (named Html, in_body_start_html) ∷ (named Body, after_head_start_body) ∷ (named Head, ignored_tag) ∷ []
+after_head_start = (named Html, in_body_start_html) ∷ (named Body, after_head_start_body) ∷ (is_one_of head_start_names, with_head in_head_start_tag) ∷ (named Head, ignored_tag) ∷ []
 
 unfoldable pub after_head_end : Rules
 after_head_end = (named Head, ignored_tag) ∷ (is_outer, of_tag after_head_else) ∷ []

@@ -1,5 +1,5 @@
 -- The changes that rules are made of.
-use Rattle.std.specs.Prelude.{ℕ, Bool, true, false, ◌&&◌, if◌then◌else◌, List, [], ◌∷◌, codes, Option, Some, None, ◌++◌}
+use Rattle.std.specs.Prelude.{ℕ, Bool, true, false, ◌&&◌, if◌then◌else◌, List, [], ◌∷◌, codes, Option, Some, None, option_map, ◌++◌}
 use Rattle.h5_names.specs.declared.qualified.QualName.{QualName}
 use Rattle.h5_names.specs.AttributeText.{AttributeText}
 use Rattle.h5_interface.specs.Changes.{add_missing_attributes, mark}
@@ -158,3 +158,22 @@ insert_form choices attrs duplicates w =
 -- no element is the form element any more
 abbrev pub clear_form : World → World
 clear_form w = record w { form = None }
+
+-- an HTML `script` at the place of insertion, pushed; in a fragment it is marked as started before it is put there
+abbrev pub starts_marked : SinkChoices → World → Marking
+starts_marked choices w = option_map (λ context f. choices.marks_after_started f (choices.fresh w.forest)) w.context
+
+unfoldable pub insert_script : SinkChoices → List AttributeText → Bool → World → World
+insert_script choices attrs duplicates w = push_new choices (place w) (codes "script") attrs duplicates (starts_marked choices w) w
+
+-- the current node is marked as a script that started
+unfoldable pub mark_started : SinkChoices → World → World
+mark_started choices w = with_forest (mark (choices.marks_after_started w.forest (current w)) w.forest) w
+
+-- the head element is open again, as the current node
+abbrev pub with_known : Option ℕ → List ℕ → List ℕ
+with_known None s = s
+with_known (Some n) s = n ∷ s
+
+abbrev pub push_head : World → World
+push_head w = record w { stack = with_known w.head w.stack }

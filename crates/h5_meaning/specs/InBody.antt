@@ -1,7 +1,8 @@
 -- HTML standard, section 13.2.6.4.7, the "in body" insertion mode.
 use Rattle.std.specs.Prelude.{ℕ, Bool, true, false, not, ◌&&◌, if◌then◌else◌, is_none, is_some, List, [], ◌∷◌, ◌++◌, Option, None, Some, codes}
 use Rattle.h5_token.specs.TokenText.{TagText}
-use Rattle.h5_names.specs.declared.known_name.KnownName.TheVariants.{A, Body, Br, Button, Form, Hr, Html, Image, Input, Nobr, Optgroup, P, Select, Table, Template}
+use Rattle.h5_token.specs.declared.states.RawKind.TheVariants.{Rawtext, Rcdata}
+use Rattle.h5_names.specs.declared.known_name.KnownName.TheVariants.{A, Body, Br, Button, Form, Hr, Html, Iframe, Image, Input, Nobr, Noembed, Noscript, Optgroup, P, Plaintext, Select, Table, Template, Textarea, Xmp}
 use Rattle.h5_names.specs.declared.known_name.KnownName.TheVariants as known
 use Rattle.h5_tag_sets.specs.TagSets.{block_end_names, block_start_names, formatting_names, heading_names, is_default_scope, is_heading, is_html_named, is_list_item_scope, is_one_of}
 use Rattle.h5_stack.specs.Scope.{comes_before_special, first_passes, has_body_in_scope, has_p_in_button_scope, has_template, has_unclosed, in_scope, node_in_scope, oldest_passing, second_is}
@@ -12,11 +13,13 @@ use Rattle.h5_types.specs.declared.modes.InsertionMode.TheVariants.{AfterBody, I
 use Rattle.h5_meaning.specs.AdoptionAgency.{closes_one, is_named_listed}
 use Rattle.h5_meaning.specs.ByName.{Rules, by_kind, by_name, ignored_tag, named}
 use Rattle.h5_meaning.specs.Formatting.{is_reconstructed}
-use Rattle.h5_meaning.specs.Rows.{AddAttrsToSecond, AdoptionAgency, Again, AppendComment, Change, ClearActiveFormattingToMarker, ClearForm, CloseListItem, ClosePElement, ClosePElementInButtonScope, CopyClosedOption, CreateFormattingElement, Ending, GenerateImpliedEnd, GenerateImpliedEndExcept, GenerateImpliedEndInSelect, HandleMisnestedATags, HandleMisnestedNobrTags, InsertAndPopElement, InsertElement, InsertForm, InsertMarker, IsAcknowledged, IsDone, Pop, PopHeading, PopUntilHeading, PopUntilNamed, ReconstructActiveFormattingElements, RemoveFromStack, Row, SetFramesetNotOk, SetIgnoreLf, SetMode, choose, errs, ignored, row, row_if}
-use Rattle.h5_meaning.specs.Shared.{current_is, in_body_start_html, in_body_text, inserts, is_context, is_type_hidden, table_structure_names}
+use Rattle.h5_meaning.specs.Rows.{AddAttrsToSecond, AdoptionAgency, Again, Answers, AppendComment, Change, ClearActiveFormattingToMarker, ClearForm, CloseListItem, ClosePElement, ClosePElementInButtonScope, CopyClosedOption, CreateFormattingElement, Ending, GenerateImpliedEnd, GenerateImpliedEndExcept, GenerateImpliedEndInSelect, HandleMisnestedATags, HandleMisnestedNobrTags, InsertAndPopElement, InsertElement, InsertForm, InsertMarker, IsAcknowledged, IsDone, Pop, PopHeading, PopUntilHeading, PopUntilNamed, ReconstructActiveFormattingElements, RemoveFromStack, Row, SetFramesetNotOk, SetIgnoreLf, SetMode, choose, errs, ignored, row, row_if}
+use Rattle.h5_meaning.specs.Shared.{current_is, head_start_names, in_body_start_html, in_body_text, inserts, is_context, is_type_hidden, raw_text, table_structure_names}
 use Rattle.h5_meaning.specs.World.{World, names_of}
 use Rattle.h5_names.specs.AttributeText.{AttributeText}
 use Rattle.h5_meaning.specs.Closing.{newest_item}
+use Rattle.h5_meaning.specs.InHead.{in_head_start_tag}
+use Rattle.h5_token.specs.Reply.{TurnsPlain, TurnsRaw}
 
 -- a start tag "body"
 unfoldable pub in_body_start_body : TagText → World → Row
@@ -266,6 +269,28 @@ in_body_ruby_texts = codes "rp" ∷ codes "rt" ∷ []
 abbrev pub in_body_start_ruby : Change → TagText → World → Row
 in_body_start_ruby implied tag w = choose (named_in_scope (codes "ruby") w) (errs (implied ∷ inserts tag ∷ []) IsDone) (errs (inserts tag ∷ []) IsDone)
 
+-- a start tag "plaintext": the reader takes all that follows for text
+abbrev pub in_body_start_plaintext : TagText → World → Row
+in_body_start_plaintext tag w = row_if (not (has_p_in_button_scope (names_of w))) (ClosePElementInButtonScope ∷ inserts tag ∷ []) (Answers TurnsPlain)
+
+-- a start tag "textarea", and a start tag "xmp", "iframe", "noembed"
+abbrev pub in_body_start_textarea : TagText → World → Row
+in_body_start_textarea tag w = raw_text Rcdata (SetIgnoreLf ∷ SetFramesetNotOk ∷ inserts tag ∷ [])
+
+abbrev pub in_body_start_xmp : TagText → World → Row
+in_body_start_xmp tag w = row_if (not (has_p_in_button_scope (names_of w))) (ClosePElementInButtonScope ∷ ReconstructActiveFormattingElements ∷ SetFramesetNotOk ∷ (raw_text Rawtext (inserts tag ∷ [])).changes) (Answers (TurnsRaw Rawtext))
+
+abbrev pub in_body_start_iframe : TagText → World → Row
+in_body_start_iframe tag w = raw_text Rawtext (SetFramesetNotOk ∷ inserts tag ∷ [])
+
+abbrev pub in_body_start_noembed : TagText → World → Row
+in_body_start_noembed tag w = raw_text Rawtext (inserts tag ∷ [])
+
+-- a start tag "noscript": where scripts run, a text
+unfoldable pub in_body_start_noscript : TagText → World → Row
+in_body_start_noscript tag w =
+    choose w.options.scripting_enabled (raw_text Rawtext (inserts tag ∷ [])) (row (ReconstructActiveFormattingElements ∷ inserts tag ∷ []) IsDone)
+
 -- any other start tag
 abbrev pub in_body_start_other : TagText → World → Row
 in_body_start_other tag w = row (ReconstructActiveFormattingElements ∷ inserts tag ∷ []) IsDone
@@ -279,6 +304,7 @@ in_body_end_other tag w =
 unfoldable pub in_body_start : Rules
 in_body_start =
     (named Html, in_body_start_html) ∷
+    (is_one_of head_start_names, in_head_start_tag) ∷
     (named Body, in_body_start_body) ∷
     (is_one_of block_start_names, in_body_start_block) ∷
     (is_one_of heading_names, in_body_start_heading) ∷
@@ -286,6 +312,7 @@ in_body_start =
     (named Form, in_body_start_form) ∷
     (is_one_of list_item_names, in_body_start_item list_item_names) ∷
     (is_one_of description_names, in_body_start_item description_names) ∷
+    (named Plaintext, in_body_start_plaintext) ∷
     (named Button, in_body_start_button) ∷
     (named A, in_body_start_a) ∷
     (named Nobr, in_body_start_nobr) ∷
@@ -297,6 +324,11 @@ in_body_start =
     (named Input, in_body_start_input) ∷
     (is_one_of in_body_parts, in_body_start_part) ∷
     (named Hr, in_body_start_hr) ∷
+    (named Textarea, in_body_start_textarea) ∷
+    (named Xmp, in_body_start_xmp) ∷
+    (named Iframe, in_body_start_iframe) ∷
+    (named Noembed, in_body_start_noembed) ∷
+    (named Noscript, in_body_start_noscript) ∷
     (named Select, in_body_start_select) ∷
     (named known.Option, in_body_start_option) ∷
     (named Optgroup, in_body_start_optgroup) ∷

@@ -1,18 +1,47 @@
 -- HTML standard, section 13.2.6.4.4, the "in head" insertion mode.
-use Rattle.std.specs.Prelude.{[], ◌∷◌}
+use Rattle.std.specs.Prelude.{ℕ, List, [], ◌∷◌, codes}
 use Rattle.h5_token.specs.TokenText.{TagText}
-use Rattle.h5_names.specs.declared.known_name.KnownName.TheVariants.{Head, Html}
+use Rattle.h5_token.specs.declared.states.RawKind.TheVariants.{Rawtext, Rcdata, ScriptData}
+use Rattle.h5_names.specs.declared.known_name.KnownName.TheVariants.{Head, Html, Noscript, Script, Title}
 use Rattle.h5_types.specs.TurnText.{CommentTurn, EofTurn, NullTurn, TagTurn, TextTurn, TurnText}
-use Rattle.h5_types.specs.declared.modes.InsertionMode.TheVariants.{AfterHead}
+use Rattle.h5_types.specs.declared.modes.InsertionMode.TheVariants.{AfterHead, InHeadNoscript}
 use Rattle.h5_types.specs.declared.modes.SplitStatus.TheVariants.{NotSplit, NotWhitespace, Whitespace}
 use Rattle.h5_meaning.specs.ByName.{Rules, by_kind, by_name, ignored_tag, is_outer, named, of_tag}
-use Rattle.h5_meaning.specs.Rows.{Again, AppendComment, AppendText, IsDone, Pop, Row, SetMode, row}
-use Rattle.h5_meaning.specs.Shared.{in_body_start_html}
+use Rattle.h5_meaning.specs.Rows.{Again, AppendComment, AppendText, InsertAndPopElement, InsertScript, IsAcknowledged, IsDone, Pop, Row, SetMode, choose, row}
+use Rattle.h5_meaning.specs.Shared.{in_body_start_html, inserts, raw_text}
 use Rattle.h5_meaning.specs.World.{World}
+use Rattle.h5_tag_sets.specs.TagSets.{is_one_of}
 
 -- an end tag "head"
 abbrev pub in_head_end_head : TagText → World → Row
 in_head_end_head tag w = row (Pop ∷ SetMode AfterHead ∷ []) IsDone
+
+-- a start tag "base", "basefont", "bgsound", "link", "meta"
+unfoldable pub in_head_links : List (List ℕ)
+in_head_links = codes "base" ∷ codes "basefont" ∷ codes "bgsound" ∷ codes "link" ∷ codes "meta" ∷ []
+
+abbrev pub in_head_start_link : TagText → World → Row
+in_head_start_link tag w = row (InsertAndPopElement tag.name tag.attrs tag.had_duplicate_attributes ∷ []) IsAcknowledged
+
+-- a start tag "title"
+abbrev pub in_head_start_title : TagText → World → Row
+in_head_start_title tag w = raw_text Rcdata (inserts tag ∷ [])
+
+-- a start tag "noframes", "style"
+unfoldable pub in_head_raw : List (List ℕ)
+in_head_raw = codes "noframes" ∷ codes "style" ∷ []
+
+abbrev pub in_head_start_raw : TagText → World → Row
+in_head_start_raw tag w = raw_text Rawtext (inserts tag ∷ [])
+
+-- a start tag "noscript"
+unfoldable pub in_head_start_noscript : TagText → World → Row
+in_head_start_noscript tag w =
+    choose w.options.scripting_enabled (raw_text Rawtext (inserts tag ∷ [])) (row (inserts tag ∷ SetMode InHeadNoscript ∷ []) IsDone)
+
+-- a start tag "script"
+abbrev pub in_head_start_script : TagText → World → Row
+in_head_start_script tag w = raw_text ScriptData (InsertScript tag.attrs tag.had_duplicate_attributes ∷ [])
 
 -- anything else
 abbrev pub in_head_else : TurnText → World → Row
@@ -20,13 +49,24 @@ in_head_else t w = row (Pop ∷ []) (Again AfterHead)
 
 -- start tags, and end tags
 unfoldable pub in_head_start : Rules
-in_head_start = (named Html, in_body_start_html) ∷ (named Head, ignored_tag) ∷ []
+in_head_start =
+    (named Html, in_body_start_html) ∷
+    (is_one_of in_head_links, in_head_start_link) ∷
+    (named Title, in_head_start_title) ∷
+    (is_one_of in_head_raw, in_head_start_raw) ∷
+    (named Noscript, in_head_start_noscript) ∷
+    (named Script, in_head_start_script) ∷
+    (named Head, ignored_tag) ∷ []
 
 unfoldable pub in_head_end : Rules
 in_head_end = (named Head, in_head_end_head) ∷ (is_outer, of_tag in_head_else) ∷ []
 
+-- a start tag, also where other modes go by the rules of the head
+unfoldable pub in_head_start_tag : TagText → World → Row
+in_head_start_tag tag w = by_name in_head_start (of_tag in_head_else) tag w
+
 unfoldable pub in_head_tag : TagText → World → Row
-in_head_tag tag w = by_kind tag.kind (by_name in_head_start (of_tag in_head_else) tag w) (by_name in_head_end ignored_tag tag w)
+in_head_tag tag w = by_kind tag.kind (in_head_start_tag tag w) (by_name in_head_end ignored_tag tag w)
 
 abbrev pub in_head : TurnText → World → Row
 in_head (TagTurn tag) w = in_head_tag tag w

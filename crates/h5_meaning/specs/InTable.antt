@@ -15,6 +15,7 @@ use Rattle.h5_meaning.specs.Rows.{Again, AgainBy, AppendComment, InsertAndPopEle
 use Rattle.h5_meaning.specs.Tables.{foster, named_in_table_scope, table_section_names}
 use Rattle.h5_meaning.specs.World.{World, names_of}
 use Rattle.h5_meaning.specs.Shared.{inserts, is_type_hidden}
+use Rattle.h5_meaning.specs.InHead.{in_head_start_tag}
 
 -- the current node is one in which text of a table is kept back
 abbrev pub keeps_text : World → Bool
@@ -52,6 +53,10 @@ unfoldable pub in_table_start_table : TagText → World → Row
 in_table_start_table tag w =
     choose (named_in_table_scope (codes "table") w) (errs (PopUntilNamed (codes "table") ∷ []) (AgainBy reset_mode)) ignored
 
+-- a start tag "style", "script"
+unfoldable pub table_text_names : List (List ℕ)
+table_text_names = codes "style" ∷ codes "script" ∷ []
+
 -- a start tag "input"
 unfoldable pub in_table_start_input : TagText → World → Row
 in_table_start_input tag w =
@@ -86,6 +91,7 @@ in_table_start =
     (is_one_of table_section_names, in_table_start_section) ∷
     (is_one_of row_part_names, in_table_start_row_part) ∷
     (named Table, in_table_start_table) ∷
+    (is_one_of table_text_names, in_head_start_tag) ∷
     (named Input, in_table_start_input) ∷
     (named Form, in_table_start_form) ∷ []
 

@@ -15,6 +15,7 @@ pub mod InCaption
 pub mod InCell
 pub mod InColumnGroup
 pub mod InHead
+pub mod InHeadNoscript
 pub mod InRow
 pub mod InTable
 pub mod InTableBody
@@ -31,4 +32,5 @@ pub mod Shared
 pub mod Sound
 pub mod Tables
 pub mod Text
+pub mod TextMode
 pub mod World

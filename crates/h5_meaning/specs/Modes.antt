@@ -2,7 +2,7 @@
 -- Of a mode that isn't reached yet, no rule is written.
 use Rattle.h5_types.specs.TurnText.{TurnText}
 use Rattle.h5_types.specs.declared.modes.InsertionMode.{InsertionMode}
-use Rattle.h5_types.specs.declared.modes.InsertionMode.TheVariants.{AfterAfterBody, AfterBody, AfterHead, BeforeHead, BeforeHtml, InBody, InCaption, InCell, InColumnGroup, InHead, InRow, InTable, InTableBody, InTableText, Initial}
+use Rattle.h5_types.specs.declared.modes.InsertionMode.TheVariants.{AfterAfterBody, AfterBody, AfterHead, BeforeHead, BeforeHtml, InBody, InCaption, InCell, InColumnGroup, InHead, InHeadNoscript, InRow, InTable, InTableBody, InTableText, Initial, Text}
 use Rattle.h5_meaning.specs.AfterAfterBody.{after_after_body}
 use Rattle.h5_meaning.specs.AfterBody.{after_body}
 use Rattle.h5_meaning.specs.AfterHead.{after_head}
@@ -20,14 +20,18 @@ use Rattle.h5_meaning.specs.InTableText.{in_table_text}
 use Rattle.h5_meaning.specs.InitialMode.{initial}
 use Rattle.h5_meaning.specs.Rows.{Row, ignored}
 use Rattle.h5_meaning.specs.World.{World}
+use Rattle.h5_meaning.specs.TextMode.{text_mode}
+use Rattle.h5_meaning.specs.InHeadNoscript.{in_head_noscript}
 
 abbrev pub rule : InsertionMode → TurnText → World → Row
 rule Initial t w = initial t w
 rule BeforeHtml t w = before_html t w
 rule BeforeHead t w = before_head t w
 rule InHead t w = in_head t w
+rule InHeadNoscript t w = in_head_noscript t w
 rule AfterHead t w = after_head t w
 rule InBody t w = in_body t w
+rule Text t w = text_mode t w
 rule InTable t w = in_table t w
 rule InTableText t w = in_table_text t w
 rule InCaption t w = in_caption t w

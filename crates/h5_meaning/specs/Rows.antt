@@ -11,7 +11,7 @@ use Rattle.h5_types.specs.declared.modes.InsertionMode.{InsertionMode}
 use Rattle.h5_types.specs.declared.turns.ProcessResult.{ProcessResult}
 use Rattle.h5_types.specs.declared.turns.ProcessResult.TheVariants as results
 use Rattle.h5_meaning.specs.AdoptionAgency.{adoption_agency, handle_misnested_a_tags, handle_misnested_nobr_tags, remove_from_stack}
-use Rattle.h5_meaning.specs.Changes.{add_attrs_to_html, add_attrs_to_second, append_comment, append_comment_to_doc, append_comment_to_html, append_pending_text, append_text, clear_form, create_root, generate_implied_end_except, insert_and_pop_element, insert_and_pop_form, insert_element, insert_form, insert_head, pop, pop_until_current, pop_until_named, save_mode, set_foster, set_frameset_not_ok, set_frameset_ok_by_text, set_ignore_lf, set_mode, set_quirks_mode, take_pending_text}
+use Rattle.h5_meaning.specs.Changes.{add_attrs_to_html, add_attrs_to_second, append_comment, append_comment_to_doc, append_comment_to_html, append_pending_text, append_text, clear_form, create_root, generate_implied_end_except, insert_and_pop_element, insert_and_pop_form, insert_element, insert_form, insert_head, insert_script, mark_started, pop, pop_until_current, pop_until_named, push_head, save_mode, set_foster, set_frameset_not_ok, set_frameset_ok_by_text, set_ignore_lf, set_mode, set_quirks_mode, take_pending_text}
 use Rattle.h5_meaning.specs.Closing.{close_list_item, close_p_element, close_p_element_in_button_scope, copy_closed_option, generate_implied_end, generate_implied_end_in_select, pop_heading, pop_until_cell, pop_until_heading}
 use Rattle.h5_meaning.specs.Formatting.{clear_active_formatting_to_marker, create_formatting_element, insert_marker, reconstruct_active_formatting_elements}
 use Rattle.h5_meaning.specs.Reset.{reset_mode}
@@ -62,6 +62,9 @@ pub data Change : Type 0 where
   GenerateImpliedEndInSelect : Change
   CopyClosedOption : (option : ℕ) → Change
   RemoveFromStack : (element : ℕ) → Change
+  InsertScript : (attrs : List AttributeText) → (duplicates : Bool) → Change
+  MarkStarted : Change
+  PushHead : Change
 
 abbrev pub apply : SinkChoices → Change → World → World
 apply choices (SetMode mode) w = set_mode mode w
@@ -108,6 +111,9 @@ apply choices (CloseListItem locals) w = close_list_item choices locals w
 apply choices GenerateImpliedEndInSelect w = generate_implied_end_in_select choices w
 apply choices (CopyClosedOption option) w = copy_closed_option choices option w
 apply choices (RemoveFromStack element) w = remove_from_stack choices element w
+apply choices (InsertScript attrs duplicates) w = insert_script choices attrs duplicates w
+apply choices MarkStarted w = mark_started choices w
+apply choices PushHead w = push_head w
 
 abbrev pub apply_all : SinkChoices → List Change → World → World
 apply_all choices [] w = w

@@ -4,13 +4,15 @@ use Rattle.h5_names.specs.AttributeText.{is_same_text}
 use Rattle.h5_token.specs.Reply.{Reply, Continues, Refuses}
 use Rattle.h5_token.specs.TokenText.{DoctypeText, TokenText, DoctypeIs, TagIs, CommentIs, Characters, NullCharacter, EndOfFile, ParseErrorIs}
 use Rattle.h5_token.specs.declared.fault.BuildFault.{BuildFault}
-use Rattle.h5_token.specs.declared.fault.BuildFault.TheVariants.{AfterEnd, Failed}
+use Rattle.h5_token.specs.declared.fault.BuildFault.TheVariants.{AfterEnd, Failed, NotInText}
+use Rattle.h5_token.specs.declared.tag.TagKind.{TagKind}
+use Rattle.h5_token.specs.declared.tag.TagKind.TheVariants.{EndTag, StartTag}
 use Rattle.h5_interface.specs.SinkChoices.{SinkChoices}
 use Rattle.h5_interface.specs.declared.marks.QuirksMode.{QuirksMode}
 use Rattle.h5_interface.specs.declared.marks.QuirksMode.TheVariants.{Quirks, NoQuirks}
 use Rattle.h5_types.specs.TurnText.{TagTurn, CommentTurn, NullTurn, EofTurn}
 use Rattle.h5_types.specs.declared.modes.InsertionMode.{InsertionMode}
-use Rattle.h5_types.specs.declared.modes.InsertionMode.TheVariants.{Initial, BeforeHtml}
+use Rattle.h5_types.specs.declared.modes.InsertionMode.TheVariants.{Initial, BeforeHtml, Text}
 use Rattle.h5_meaning.specs.Changes.{set_mode, insert_doctype, set_quirks_mode}
 use Rattle.h5_meaning.specs.Settle.{Settled, settle}
 use Rattle.h5_meaning.specs.Text.{is_quiet_text, text_rule}
@@ -81,9 +83,27 @@ step choices NullCharacter w = settle choices NullTurn (taken w)
 step choices EndOfFile w = settle choices EofTurn (taken w)
 step choices (ParseErrorIs message) w = at_once (taken w) false
 
--- refusals, in their order; no mode that is reached yet refuses a token by itself
+-- in a text no start tag, comment and null can come from a reader
+abbrev pub is_start : TagKind → Bool
+is_start StartTag = true
+is_start EndTag = false
+
+abbrev pub is_refused_in_text : TokenText → Bool
+is_refused_in_text (TagIs tag) = is_start tag.kind
+is_refused_in_text (CommentIs text) = true
+is_refused_in_text NullCharacter = true
+is_refused_in_text _ = false
+
+abbrev pub refuses_in : InsertionMode → TokenText → Bool
+refuses_in Text t = is_refused_in_text t
+refuses_in _ t = false
+
+-- refusals, in their order
 abbrev pub refusal : View → TokenText → Option BuildFault
-refusal v t = if v.failed then Some Failed else (if v.ended then Some AfterEnd else None)
+refusal v t =
+    if v.failed then Some Failed
+    else (if v.ended then Some AfterEnd
+    else (if refuses_in v.world.mode t then Some NotInText else None))
 
 -- a refused token changes nothing
 abbrev pub take_or_refuse : SinkChoices → TokenText → Option BuildFault → View → View

@@ -1,14 +1,17 @@
 -- Rules that several insertion modes share (HTML standard, section 13.2.6.4).
-use Rattle.std.specs.Prelude.{ℕ, Bool, false, ◌&&◌, if◌then◌else◌, List, [], ◌∷◌, Option, None, Some, codes}
+use Rattle.std.specs.Prelude.{ℕ, Bool, false, ◌&&◌, if◌then◌else◌, List, [], ◌∷◌, ◌++◌, Option, None, Some, codes}
 use Rattle.std.specs.Str.{str_eq_ignore_ascii_case}
 use Rattle.h5_names.specs.declared.qualified.QualName.{QualName}
 use Rattle.h5_token.specs.TokenText.{TagText}
+use Rattle.h5_types.specs.declared.modes.InsertionMode.TheVariants.{Text}
+use Rattle.h5_token.specs.declared.states.RawKind.{RawKind}
 use Rattle.h5_stack.specs.Scope.{first_passes, has_template}
-use Rattle.h5_meaning.specs.Rows.{AddAttrsToHtml, AppendText, Change, InsertElement, IsDone, ReconstructActiveFormattingElements, Row, SetFramesetOkByText, choose, errs, ignored, row}
+use Rattle.h5_meaning.specs.Rows.{AddAttrsToHtml, Answers, AppendText, Change, InsertElement, IsDone, ReconstructActiveFormattingElements, Row, SaveMode, SetFramesetOkByText, SetMode, choose, errs, ignored, row}
 use Rattle.h5_meaning.specs.World.{World, name_in, names_of}
 use Rattle.h5_tag_sets.specs.TagSets.{is_html_named}
 use Rattle.h5_names.specs.AttributeText.{AttributeText, is_same_text}
 use Rattle.h5_interface.specs.Forest.{Forest}
+use Rattle.h5_token.specs.Reply.{TurnsRaw}
 
 -- section 13.2.6.4.7, a start tag "html"
 unfoldable pub in_body_start_html : TagText → World → Row
@@ -23,6 +26,16 @@ unfoldable pub table_structure_names : List (List ℕ)
 table_structure_names =
     codes "caption" ∷ codes "col" ∷ codes "colgroup" ∷ codes "tbody" ∷ codes "td" ∷ codes "tfoot" ∷
     codes "th" ∷ codes "thead" ∷ codes "tr" ∷ []
+
+-- section 13.2.6.2, elements that contain only text: the mode is kept, to go back to, and the reader is told
+abbrev pub raw_text : RawKind → List Change → Row
+raw_text kind changes = row (changes ++ SaveMode ∷ SetMode Text ∷ []) (Answers (TurnsRaw kind))
+
+-- start tags that go by the rules of the head elsewhere, too; that of a template is ignored, so far
+unfoldable pub head_start_names : List (List ℕ)
+head_start_names =
+    codes "base" ∷ codes "basefont" ∷ codes "bgsound" ∷ codes "link" ∷ codes "meta" ∷ codes "noframes" ∷
+    codes "script" ∷ codes "style" ∷ codes "title" ∷ []
 
 -- an element for a tag
 abbrev pub inserts : TagText → Change

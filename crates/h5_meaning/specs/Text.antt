@@ -3,7 +3,7 @@ use Rattle.std.specs.Prelude.{◌≡◌, ℕ, Bool, true, false, List, [], ◌�
 use Rattle.h5_interface.specs.SinkChoices.{SinkChoices}
 use Rattle.h5_types.specs.TurnText.{TextTurn, TurnText}
 use Rattle.h5_types.specs.declared.modes.InsertionMode.{InsertionMode}
-use Rattle.h5_types.specs.declared.modes.InsertionMode.TheVariants.{AfterAfterBody, AfterAfterFrameset, AfterBody, AfterFrameset, AfterHead, BeforeHead, BeforeHtml, InBody, InCaption, InCell, InColumnGroup, InFrameset, InHead, InHeadNoscript, InRow, InTable, InTableBody, InTableText, Initial}
+use Rattle.h5_types.specs.declared.modes.InsertionMode.TheVariants.{AfterAfterBody, AfterAfterFrameset, AfterBody, AfterFrameset, AfterHead, BeforeHead, BeforeHtml, InBody, InCaption, InCell, InColumnGroup, InFrameset, InHead, InHeadNoscript, InRow, InTable, InTableBody, InTableText, Initial, Text}
 use Rattle.h5_types.specs.declared.modes.SplitStatus.{SplitStatus}
 use Rattle.h5_types.specs.declared.modes.SplitStatus.TheVariants.{NotSplit, Whitespace, NotWhitespace}
 use Rattle.h5_meaning.specs.AfterBody.{back_to_body}
@@ -20,6 +20,7 @@ use Rattle.h5_meaning.specs.InTable.{keeps_text}
 use Rattle.h5_meaning.specs.InitialMode.{initial_else}
 use Rattle.h5_meaning.specs.Rows.{Row, changed_by, next_mode}
 use Rattle.h5_meaning.specs.World.{World}
+use Rattle.h5_meaning.specs.InHeadNoscript.{in_head_noscript_else}
 
 -- a rule of a text, and nothing where there is none
 abbrev pub if_any : (List ℕ → World → World) → List ℕ → World → World
@@ -80,6 +81,9 @@ text_after_head choices = split append_text (by_else choices after_head_else (te
 unfoldable pub text_in_head : SinkChoices → List ℕ → World → World
 text_in_head choices = split append_text (by_else choices in_head_else (text_after_head choices))
 
+unfoldable pub text_in_head_noscript : SinkChoices → List ℕ → World → World
+text_in_head_noscript choices = split append_text (by_else choices in_head_noscript_else (text_in_head choices))
+
 unfoldable pub text_before_head : SinkChoices → List ℕ → World → World
 text_before_head choices = split dropped (by_else choices before_head_else (text_in_head choices))
 
@@ -95,8 +99,10 @@ text_in Initial choices = text_initial choices
 text_in BeforeHtml choices = text_before_html choices
 text_in BeforeHead choices = text_before_head choices
 text_in InHead choices = text_in_head choices
+text_in InHeadNoscript choices = text_in_head_noscript choices
 text_in AfterHead choices = text_after_head choices
 text_in InBody choices = text_in_body choices
+text_in Text choices = append_text
 text_in InTable choices = text_in_table choices
 text_in InTableText choices = text_in_table_text
 text_in InCaption choices = text_in_body choices
@@ -136,9 +142,10 @@ IsRun mode Whitespace t = rest_of t ≡ []
 IsRun mode NotWhitespace t = all_blanks t ≡ []
 IsRun mode NotSplit t = splits mode ≡ false
 
--- in the body, a caption and a cell no text is a parse error; elsewhere one may be
+-- in the body, a caption, a cell and a text no text is a parse error; elsewhere one may be
 abbrev pub is_quiet_text : InsertionMode → Bool
 is_quiet_text InBody = true
 is_quiet_text InCaption = true
 is_quiet_text InCell = true
+is_quiet_text Text = true
 is_quiet_text _ = false

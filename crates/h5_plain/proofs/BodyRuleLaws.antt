@@ -10,7 +10,7 @@ use Rattle.h5_stack.specs.FormattingNames.{html_name}
 use Rattle.h5_meaning.specs.InBody.{description_names, in_body_end, in_body_end_block, in_body_end_heading, in_body_end_p, in_body_marked, in_body_preformatted, in_body_start, in_body_start_block, in_body_start_heading, in_body_start_void, in_body_tag, in_body_void, list_item_names}
 use Rattle.h5_meaning.specs.InCell.{in_cell_closing_ends, in_cell_ignored_ends}
 use Rattle.h5_meaning.specs.Modes.{rule}
-use Rattle.h5_meaning.specs.Shared.{table_structure_names}
+use Rattle.h5_meaning.specs.Shared.{head_start_names, table_structure_names}
 use Rattle.h5_meaning.specs.World.{World}
 use Rattle.h5_plain.specs.Plain.{has_end_tag}
 use Rattle.h5_plain.proofs.ModeLaws.{IsOutside}
@@ -18,7 +18,7 @@ use Rattle.h5_plain.proofs.RuleLaws.{end, start}
 
 -- a `div` and its end
 pub div_rule : (a : List AttributeText) (w : World) → rule InBody (TagTurn (start (codes "div") a)) w ≡ in_body_start_block (start (codes "div") a) w
-unfolding in_body_tag in_body_start block_start_names
+unfolding in_body_tag in_body_start head_start_names block_start_names
 div_rule a w = refl
 
 pub div_end_rule : (w : World) → rule InBody (TagTurn (end (codes "div"))) w ≡ in_body_end_block (end (codes "div")) w
@@ -27,7 +27,7 @@ div_end_rule w = refl
 
 -- a `p` and its end
 pub p_rule : (a : List AttributeText) (w : World) → rule InBody (TagTurn (start (codes "p") a)) w ≡ in_body_start_block (start (codes "p") a) w
-unfolding in_body_tag in_body_start block_start_names
+unfolding in_body_tag in_body_start head_start_names block_start_names
 p_rule a w = refl
 
 pub p_end_rule : (w : World) → rule InBody (TagTurn (end (codes "p"))) w ≡ in_body_end_p (end (codes "p")) w
@@ -36,22 +36,23 @@ p_end_rule w = refl
 
 -- a `br`
 pub br_rule : (a : List AttributeText) (w : World) → rule InBody (TagTurn (start (codes "br") a)) w ≡ in_body_start_void (start (codes "br") a) w
-unfolding in_body_tag in_body_start block_start_names heading_names formatting_names in_body_preformatted list_item_names description_names in_body_marked in_body_void
+unfolding in_body_tag in_body_start head_start_names block_start_names heading_names formatting_names in_body_preformatted list_item_names description_names in_body_marked in_body_void
 br_rule a w = refl
 
--- an element of this name is written with an end tag, and takes children itself
+-- an element of this name is written with an end tag, and takes children itself; it is no `title`
 pub record IsHolder (name : List ℕ) : Type 0 where
   pub has_end : has_end_tag name ≡ true
   pub no_template : is_html_template (html_name name) ≡ false
+  pub no_title : is_same_text name (codes "title") ≡ false
 
 -- `div` and `p` do
 pub div_holds : IsHolder (codes "div")
 unfolding void_names
-div_holds = record { has_end = refl; no_template = refl }
+div_holds = record { has_end = refl; no_template = refl; no_title = refl }
 
 pub p_holds : IsHolder (codes "p")
 unfolding void_names
-p_holds = record { has_end = refl; no_template = refl }
+p_holds = record { has_end = refl; no_template = refl; no_title = refl }
 
 -- and a cell leaves them, and `br`, to the body
 pub div_outside : IsOutside (codes "div")
@@ -90,18 +91,18 @@ of_each Of (n ∷ ns) each name h = at (of_each Of ns each.1 name) (is_same_text
     at others false e k = others k
 
 headings : EachOf IsHeadingName heading_names
-unfolding heading_names void_names html_namespace in_body_tag in_body_start in_body_end block_start_names block_end_names is_html_named is_heading is_implied implied_names table_structure_names cell_names in_cell_closing_ends in_cell_ignored_ends list_item_names description_names
+unfolding heading_names void_names html_namespace in_body_tag in_body_start head_start_names in_body_end block_start_names block_end_names is_html_named is_heading is_implied implied_names table_structure_names cell_names in_cell_closing_ends in_cell_ignored_ends list_item_names description_names
 headings = (
-  record { holds = record { has_end = refl; no_template = refl }; starts = λ a w. refl; ends = λ w. refl; itself = refl; heading = refl; not_implied = refl; outside = record { no_structure = refl; no_cell = refl; closes_none = refl; not_ignored = refl } },
+  record { holds = record { has_end = refl; no_template = refl; no_title = refl }; starts = λ a w. refl; ends = λ w. refl; itself = refl; heading = refl; not_implied = refl; outside = record { no_structure = refl; no_cell = refl; closes_none = refl; not_ignored = refl } },
   (
-    record { holds = record { has_end = refl; no_template = refl }; starts = λ a w. refl; ends = λ w. refl; itself = refl; heading = refl; not_implied = refl; outside = record { no_structure = refl; no_cell = refl; closes_none = refl; not_ignored = refl } },
+    record { holds = record { has_end = refl; no_template = refl; no_title = refl }; starts = λ a w. refl; ends = λ w. refl; itself = refl; heading = refl; not_implied = refl; outside = record { no_structure = refl; no_cell = refl; closes_none = refl; not_ignored = refl } },
     (
-      record { holds = record { has_end = refl; no_template = refl }; starts = λ a w. refl; ends = λ w. refl; itself = refl; heading = refl; not_implied = refl; outside = record { no_structure = refl; no_cell = refl; closes_none = refl; not_ignored = refl } },
+      record { holds = record { has_end = refl; no_template = refl; no_title = refl }; starts = λ a w. refl; ends = λ w. refl; itself = refl; heading = refl; not_implied = refl; outside = record { no_structure = refl; no_cell = refl; closes_none = refl; not_ignored = refl } },
       (
-        record { holds = record { has_end = refl; no_template = refl }; starts = λ a w. refl; ends = λ w. refl; itself = refl; heading = refl; not_implied = refl; outside = record { no_structure = refl; no_cell = refl; closes_none = refl; not_ignored = refl } },
+        record { holds = record { has_end = refl; no_template = refl; no_title = refl }; starts = λ a w. refl; ends = λ w. refl; itself = refl; heading = refl; not_implied = refl; outside = record { no_structure = refl; no_cell = refl; closes_none = refl; not_ignored = refl } },
         (
-          record { holds = record { has_end = refl; no_template = refl }; starts = λ a w. refl; ends = λ w. refl; itself = refl; heading = refl; not_implied = refl; outside = record { no_structure = refl; no_cell = refl; closes_none = refl; not_ignored = refl } },
-          (record { holds = record { has_end = refl; no_template = refl }; starts = λ a w. refl; ends = λ w. refl; itself = refl; heading = refl; not_implied = refl; outside = record { no_structure = refl; no_cell = refl; closes_none = refl; not_ignored = refl } }, tt),
+          record { holds = record { has_end = refl; no_template = refl; no_title = refl }; starts = λ a w. refl; ends = λ w. refl; itself = refl; heading = refl; not_implied = refl; outside = record { no_structure = refl; no_cell = refl; closes_none = refl; not_ignored = refl } },
+          (record { holds = record { has_end = refl; no_template = refl; no_title = refl }; starts = λ a w. refl; ends = λ w. refl; itself = refl; heading = refl; not_implied = refl; outside = record { no_structure = refl; no_cell = refl; closes_none = refl; not_ignored = refl } }, tt),
         ),
       ),
     ),

@@ -23,7 +23,7 @@ use Rattle.h5_meaning.specs.World.{World, names_of}
 use Rattle.h5_meaning.proofs.FormattingLaws.{reconstruct_none}
 use Rattle.h5_meaning.proofs.PopLaws.{all_implied_none, implied_none}
 use Rattle.h5_plain.specs.Plain.{end_tag, start_tag}
-use Rattle.h5_plain.proofs.BodyRuleLaws.{IsHeadingName, br_outside, br_rule, div_end_rule, div_outside, p_end_rule, p_outside}
+use Rattle.h5_plain.proofs.BodyRuleLaws.{IsHeadingName, IsHolder, br_outside, br_rule, div_end_rule, div_outside, p_end_rule, p_outside}
 use Rattle.h5_stack.specs.FormattingList.{Entry}
 use Rattle.h5_plain.proofs.ListedLaws.{OpenFormat}
 use Rattle.h5_plain.proofs.CalmLaws.{Calm, after, calm_closed, names_are, opened, place_is, unowned}
@@ -49,11 +49,11 @@ module _ (choices : SinkChoices) {w : World} {p : ℕ} {d : Face} {names : List 
   none_closed h = ap (λ b. cond b (close_p_element choices w) w) (no_p h)
 
   -- the start tag of a block
-  pub starts_block : (name : List ℕ) (attrs : List AttributeText) → GoesByBody w.mode → IsOutside name → has_p_in_button_scope names ≡ false → rule InBody (TagTurn (start name attrs)) w ≡ in_body_start_block (start name attrs) w
+  pub starts_block : (name : List ℕ) (attrs : List AttributeText) → GoesByBody w.mode → IsHolder name → IsOutside name → has_p_in_button_scope names ≡ false → rule InBody (TagTurn (start name attrs)) w ≡ in_body_start_block (start name attrs) w
       → Moves choices (start_tag name attrs) w (opened choices w p name attrs w.mode w.formatting w.frameset_ok)
-  starts_block name attrs m o h e =
+  starts_block name attrs m k o h e =
       moves_row choices (start name attrs) w (opened choices w p name attrs w.mode w.formatting w.frameset_ok) w.mode (ClosePElementInButtonScope ∷ InsertElement name attrs false ∷ []) refl c.ignore_lf
-      (start_by_body m name attrs w o.no_structure ∙ e ∙ ap (λ b. row_if (not b) (ClosePElementInButtonScope ∷ InsertElement name attrs false ∷ []) IsDone) (no_p h)) refl
+      (start_by_body m name attrs w o.no_structure ∙ e ∙ ap (λ b. row_if (not b) (ClosePElementInButtonScope ∷ InsertElement name attrs false ∷ []) IsDone) (no_p h)) refl k.no_title
       (ap (insert_element choices name attrs false) (none_closed h) ∙ insert_is name attrs)
 
   -- the start tag of a heading
@@ -70,7 +70,7 @@ module _ (choices : SinkChoices) {w : World} {p : ℕ} {d : Face} {names : List 
       (start_by_body m name attrs w k.outside.no_structure
       ∙ k.starts attrs w
       ∙ ap (λ b. row_if (not b && not (first_passes is_heading (names_of w))) changes IsDone) (no_p h)
-      ∙ ap (λ b. row_if (not b) changes IsDone) (ap (first_passes is_heading) (names_are w c.named) ∙ i)) refl
+      ∙ ap (λ b. row_if (not b) changes IsDone) (ap (first_passes is_heading) (names_are w c.named) ∙ i)) refl k.holds.no_title
       (ap (λ v. insert_element choices name attrs false (pop_heading choices v)) (none_closed h)
       ∙ ap (insert_element choices name attrs false) (none_popped i)
       ∙ insert_is name attrs)
@@ -86,7 +86,7 @@ module _ (choices : SinkChoices) {w : World} {p : ℕ} {d : Face} {names : List 
   pub breaks : (attrs : List AttributeText) → GoesByBody w.mode → Moves choices (start_tag (codes "br") attrs) w (after w (with_element choices p (html_name (codes "br")) attrs w.forest) w.formatting false)
   breaks attrs m =
       moves_acknowledged choices (start (codes "br") attrs) w _ w.mode (ReconstructActiveFormattingElements ∷ InsertAndPopElement (codes "br") attrs false ∷ SetFramesetNotOk ∷ []) refl c.ignore_lf
-      (start_by_body m (codes "br") attrs w br_outside.no_structure ∙ br_rule attrs w)
+      (start_by_body m (codes "br") attrs w br_outside.no_structure ∙ br_rule attrs w) refl
       (ap (λ v. set_frameset_not_ok (insert_and_pop_element choices (codes "br") attrs false v)) (reconstruct_none choices w (calm_closed c)) ∙ break_is attrs)
 
   -- a text
@@ -119,7 +119,7 @@ module _ (choices : SinkChoices) (w : World) (names : List QualName) (m : GoesBy
       moves_row choices (end (codes "div")) w left w.mode (GenerateImpliedEnd ∷ PopUntilNamed (codes "div") ∷ []) refl i
       (end_by_body m (codes "div") w div_outside
       ∙ div_end_rule w
-      ∙ ap (λ ns. choose (in_scope (is_html_named (codes "div")) is_default_scope ns) (row_if (first_passes (is_html_named (codes "div")) ns) (GenerateImpliedEnd ∷ PopUntilNamed (codes "div") ∷ []) IsDone) ignored) e) refl
+      ∙ ap (λ ns. choose (in_scope (is_html_named (codes "div")) is_default_scope ns) (row_if (first_passes (is_html_named (codes "div")) ns) (GenerateImpliedEnd ∷ PopUntilNamed (codes "div") ∷ []) IsDone) ignored) e) refl refl
       (ap (pop_until_named (codes "div")) (all_implied_none choices w (ap (first_passes is_implied) e))
       ∙ cut_at w names (is_html_named (codes "div")) (html_name (codes "div")) e refl)
 
@@ -130,7 +130,7 @@ module _ (choices : SinkChoices) (w : World) (names : List QualName) (m : GoesBy
       moves_row choices (end (codes "p")) w left w.mode (ClosePElement ∷ []) refl i
       (end_by_body m (codes "p") w p_outside
       ∙ p_end_rule w
-      ∙ ap (λ ns. choose (has_p_in_button_scope ns) (row_if (first_passes (is_html_named (codes "p")) ns) (ClosePElement ∷ []) IsDone) (errs (InsertElement (codes "p") [] false ∷ ClosePElement ∷ []) IsDone)) e) refl
+      ∙ ap (λ ns. choose (has_p_in_button_scope ns) (row_if (first_passes (is_html_named (codes "p")) ns) (ClosePElement ∷ []) IsDone) (errs (InsertElement (codes "p") [] false ∷ ClosePElement ∷ []) IsDone)) e) refl refl
       (ap (pop_until_named (codes "p")) (implied_none choices (codes "p") w (ap (first_passes (is_implied_but (codes "p"))) e))
       ∙ cut_at w names (is_html_named (codes "p")) (html_name (codes "p")) e refl)
 
@@ -144,6 +144,6 @@ module _ (choices : SinkChoices) (w : World) (names : List QualName) (m : GoesBy
       ∙ k.ends w
       ∙ ap (λ ns. choose (in_scope is_heading is_default_scope ns) (row_if (first_passes (is_html_named name) ns) changes IsDone) ignored) e
       ∙ ap (λ b. choose (cond b true (cond (is_default_scope (html_name name)) false (in_scope is_heading is_default_scope names))) (row_if (is_html_named name (html_name name)) changes IsDone) ignored) k.heading
-      ∙ ap (λ b. row_if b changes IsDone) k.itself) refl
+      ∙ ap (λ b. row_if b changes IsDone) k.itself) refl refl
       (ap pop_until_heading (all_implied_none choices w (ap (first_passes is_implied) e ∙ k.not_implied))
       ∙ cut_at w names is_heading (html_name name) e k.heading)

@@ -254,13 +254,13 @@ pub builds : (choices : SinkChoices) {s : Sort} {nodes : Nodes} → IsPlain s no
 builds choices Nothing w p d names path under base f z l c = built_nothing choices c
 builds choices (Division {attrs} {inner} {rest} a i r) w p d names path under base f z l c =
     let n = choices.fresh w.forest in
-    block_case choices c (codes "div") attrs inner rest div_holds (starts_block choices c (codes "div") attrs f.0 div_outside f.1.0 (div_rule attrs w))
+    block_case choices c (codes "div") attrs inner rest div_holds (starts_block choices c (codes "div") attrs f.0 div_holds div_outside f.1.0 (div_rule attrs w))
     (λ o. builds choices i (in_block choices c (codes "div") attrs) n (face (codes "div") attrs) (html_name (codes "div") ∷ names) [] (n ∷ w.stack) base (in_division w.mode names f) tt tt o)
     (λ v m k e. ends_div choices v names (subst GoesByBody (sym m) f.0) k e)
     (λ g k b q. builds choices r (after w g k b) p (more d (ChildNode n ∷ [])) names path under base f tt tt q)
 builds choices (Paragraph {attrs} {inner} {rest} a i r) w p d names path under base f z l c =
     let n = choices.fresh w.forest in
-    block_case choices c (codes "p") attrs inner rest p_holds (starts_block choices c (codes "p") attrs f.0 p_outside f.1.0 (p_rule attrs w))
+    block_case choices c (codes "p") attrs inner rest p_holds (starts_block choices c (codes "p") attrs f.0 p_holds p_outside f.1.0 (p_rule attrs w))
     (λ o. builds choices i (in_block choices c (codes "p") attrs) n (face (codes "p") attrs) (html_name (codes "p") ∷ names) [] (n ∷ w.stack) base f.0 refl refl o)
     (λ v m k e. ends_p choices v names (subst GoesByBody (sym m) f.0) k e)
     (λ g k b q. builds choices r (after w g k b) p (more d (ChildNode n ∷ [])) names path under base f tt tt q)
@@ -274,7 +274,7 @@ builds choices (Heading {name} {attrs} {inner} {rest} h a i r) w p d names path 
 builds choices (ItemList {name} {attrs} {inner} {rest} h a i r) w p d names path under base f z l c =
     let n = choices.fresh w.forest in
     let x = is_list_name name h in
-    block_case choices c name attrs inner rest x.holds (starts_block choices c name attrs f.0 x.outside f.1.0 (x.starts attrs w))
+    block_case choices c name attrs inner rest x.holds (starts_block choices c name attrs f.0 x.holds x.outside f.1.0 (x.starts attrs w))
     (λ o. builds choices i (in_block choices c name attrs) n (face name attrs) (html_name name ∷ names) [] (n ∷ w.stack) base (in_list w.mode name names x f) tt tt o)
     (λ v m k e. ends_list choices v names (subst GoesByBody (sym m) f.0) k name x e)
     (λ g k b q. builds choices r (after w g k b) p (more d (ChildNode n ∷ [])) names path under base f tt tt q)
@@ -293,14 +293,14 @@ builds choices (Table {attrs} {inner} {rest} a i r) w p d names path under base 
 builds choices (Section {attrs} {inner} {rest} a i r) w p d names path under base f z l c =
     let n = choices.fresh w.forest in
     part_case choices c (codes "tbody") attrs InTableBody w.frameset_ok inner rest section_holds
-    (starts_part choices c (codes "tbody") attrs InTable InTableBody is_table_scope f.0 f.1 (section_rule attrs w))
+    (starts_part choices c (codes "tbody") attrs InTable InTableBody is_table_scope section_holds f.0 f.1 (section_rule attrs w))
     (λ o. builds choices i (in_part choices c (codes "tbody") attrs InTableBody w.frameset_ok) n (face (codes "tbody") attrs) (html_name (codes "tbody") ∷ names) [] (n ∷ w.stack) base (in_section names) tt tt o)
     (λ v g k m e. subst (Ends choices (codes "tbody") v) (sym f.0) (ends_section choices v names g k m e))
     (λ g k b q. builds choices r (after w g k b) p (more d (ChildNode n ∷ [])) names path under base f tt tt q)
 builds choices (TableRow {attrs} {inner} {rest} a i r) w p d names path under base f z l c =
     let n = choices.fresh w.forest in
     part_case choices c (codes "tr") attrs InRow w.frameset_ok inner rest row_holds
-    (starts_part choices c (codes "tr") attrs InTableBody InRow is_table_body_context f.0 f.1 (row_rule attrs w))
+    (starts_part choices c (codes "tr") attrs InTableBody InRow is_table_body_context row_holds f.0 f.1 (row_rule attrs w))
     (λ o. builds choices i (in_part choices c (codes "tr") attrs InRow w.frameset_ok) n (face (codes "tr") attrs) (html_name (codes "tr") ∷ names) [] (n ∷ w.stack) base (in_row names) tt tt o)
     (λ v g k m e. subst (Ends choices (codes "tr") v) (sym f.0) (ends_row choices v names g k m e))
     (λ g k b q. builds choices r (after w g k b) p (more d (ChildNode n ∷ [])) names path under base f tt tt q)

@@ -8,7 +8,7 @@ use Rattle.h5_stack.specs.FormattingNames.{html_name}
 use Rattle.h5_meaning.specs.InBody.{description_names, in_body_end, in_body_end_formatting, in_body_preformatted, in_body_start, in_body_start_a, in_body_start_formatting, in_body_tag, list_item_names}
 use Rattle.h5_meaning.specs.InCell.{in_cell_closing_ends, in_cell_ignored_ends}
 use Rattle.h5_meaning.specs.Modes.{rule}
-use Rattle.h5_meaning.specs.Shared.{table_structure_names}
+use Rattle.h5_meaning.specs.Shared.{head_start_names, table_structure_names}
 use Rattle.h5_meaning.specs.World.{World}
 use Rattle.h5_plain.specs.Plain.{inline_names}
 use Rattle.h5_plain.proofs.BodyRuleLaws.{EachOf, IsHolder, of_each}
@@ -25,13 +25,13 @@ pub record IsFormatName (name : List ℕ) : Type 0 where
 
 -- an `a`
 pub a_rule : (a : List AttributeText) (w : World) → rule InBody (TagTurn (start (codes "a") a)) w ≡ in_body_start_a (start (codes "a") a) w
-unfolding in_body_tag in_body_start block_start_names heading_names in_body_preformatted list_item_names description_names
+unfolding in_body_tag in_body_start head_start_names block_start_names heading_names in_body_preformatted list_item_names description_names
 a_rule a w = refl
 
 pub a_formats : IsFormatName (codes "a")
 unfolding void_names html_namespace in_body_tag in_body_end block_end_names heading_names formatting_names is_html_named table_structure_names cell_names in_cell_closing_ends in_cell_ignored_ends list_item_names description_names
 a_formats = record {
-  holds = record { has_end = refl; no_template = refl };
+  holds = record { has_end = refl; no_template = refl; no_title = refl };
   ends = λ w. refl;
   itself = refl;
   same = refl;
@@ -45,15 +45,15 @@ pub record IsInlineName (name : List ℕ) : Type 0 where
   pub no_link : is_same_text name (codes "a") ≡ false
 
 inlines : EachOf IsInlineName inline_names
-unfolding inline_names void_names html_namespace in_body_tag in_body_start in_body_end block_start_names block_end_names heading_names formatting_names is_html_named table_structure_names cell_names in_cell_closing_ends in_cell_ignored_ends in_body_preformatted list_item_names description_names
+unfolding inline_names void_names html_namespace in_body_tag in_body_start head_start_names in_body_end block_start_names block_end_names heading_names formatting_names is_html_named table_structure_names cell_names in_cell_closing_ends in_cell_ignored_ends in_body_preformatted list_item_names description_names
 inlines = (
-  record { formats = record { holds = record { has_end = refl; no_template = refl }; ends = λ w. refl; itself = refl; same = refl; outside = record { no_structure = refl; no_cell = refl; closes_none = refl; not_ignored = refl } }; starts = λ a w. refl; no_link = refl },
+  record { formats = record { holds = record { has_end = refl; no_template = refl; no_title = refl }; ends = λ w. refl; itself = refl; same = refl; outside = record { no_structure = refl; no_cell = refl; closes_none = refl; not_ignored = refl } }; starts = λ a w. refl; no_link = refl },
   (
-    record { formats = record { holds = record { has_end = refl; no_template = refl }; ends = λ w. refl; itself = refl; same = refl; outside = record { no_structure = refl; no_cell = refl; closes_none = refl; not_ignored = refl } }; starts = λ a w. refl; no_link = refl },
+    record { formats = record { holds = record { has_end = refl; no_template = refl; no_title = refl }; ends = λ w. refl; itself = refl; same = refl; outside = record { no_structure = refl; no_cell = refl; closes_none = refl; not_ignored = refl } }; starts = λ a w. refl; no_link = refl },
     (
-      record { formats = record { holds = record { has_end = refl; no_template = refl }; ends = λ w. refl; itself = refl; same = refl; outside = record { no_structure = refl; no_cell = refl; closes_none = refl; not_ignored = refl } }; starts = λ a w. refl; no_link = refl },
+      record { formats = record { holds = record { has_end = refl; no_template = refl; no_title = refl }; ends = λ w. refl; itself = refl; same = refl; outside = record { no_structure = refl; no_cell = refl; closes_none = refl; not_ignored = refl } }; starts = λ a w. refl; no_link = refl },
       (
-        record { formats = record { holds = record { has_end = refl; no_template = refl }; ends = λ w. refl; itself = refl; same = refl; outside = record { no_structure = refl; no_cell = refl; closes_none = refl; not_ignored = refl } }; starts = λ a w. refl; no_link = refl },
+        record { formats = record { holds = record { has_end = refl; no_template = refl; no_title = refl }; ends = λ w. refl; itself = refl; same = refl; outside = record { no_structure = refl; no_cell = refl; closes_none = refl; not_ignored = refl } }; starts = λ a w. refl; no_link = refl },
         tt,
       ),
     ),

@@ -46,7 +46,7 @@ module _ (choices : SinkChoices) {w : World} {p : ℕ} {d : Face} {names : List 
   pub starts_formatting : (name : List ℕ) (attrs : List AttributeText) → IsInlineName name → GoesByBody w.mode → Moves choices (start_tag name attrs) w (formatted name attrs)
   starts_formatting name attrs k m =
       moves_row choices (start name attrs) w (formatted name attrs) w.mode (ReconstructActiveFormattingElements ∷ CreateFormattingElement (start name attrs) ∷ []) refl c.ignore_lf
-      (start_by_body m name attrs w k.formats.outside.no_structure ∙ k.starts attrs w) refl (create_is name attrs)
+      (start_by_body m name attrs w k.formats.outside.no_structure ∙ k.starts attrs w) refl k.formats.holds.no_title (create_is name attrs)
 
   -- of an `a`, while none is listed
   pub starts_link : (attrs : List AttributeText) → GoesByBody w.mode → has_link path ≡ false → Moves choices (start_tag (codes "a") attrs) w (formatted (codes "a") attrs)
@@ -55,7 +55,7 @@ module _ (choices : SinkChoices) {w : World} {p : ℕ} {d : Face} {names : List 
       let none = no_link_listed c.is_base c.entries h in
       let changes = HandleMisnestedATags ∷ ReconstructActiveFormattingElements ∷ CreateFormattingElement (start (codes "a") attrs) ∷ [] in
       moves_row choices (start (codes "a") attrs) w (formatted (codes "a") attrs) w.mode changes refl c.ignore_lf
-      (start_by_body m (codes "a") attrs w a_formats.outside.no_structure ∙ a_rule attrs w ∙ ap (λ o. row_if (not (is_some o)) changes IsDone) none) refl
+      (start_by_body m (codes "a") attrs w a_formats.outside.no_structure ∙ a_rule attrs w ∙ ap (λ o. row_if (not (is_some o)) changes IsDone) none) refl refl
       (ap (λ o. create_formatting_element choices (start (codes "a") attrs) (reconstruct_active_formatting_elements choices (close_misnested_a choices o w))) none ∙ create_is (codes "a") attrs)
 
 -- end tags of the current node: it leaves the stack
@@ -78,7 +78,7 @@ module _ (choices : SinkChoices) (v : World) (n : ℕ) (s : List ℕ) (names : L
   by_rule : closes_one name v ≡ true → (u : World) → adoption_agency choices name v ≡ u → Moves choices (end_tag name) v u
   by_rule one u a =
       moves_row choices (end name) v u v.mode (AdoptionAgency name ∷ []) refl i
-      (end_by_body m name v k.outside ∙ k.ends v ∙ ap (λ b. row_if b (AdoptionAgency name ∷ []) IsDone) one) refl a
+      (end_by_body m name v k.outside ∙ k.ends v ∙ ap (λ b. row_if b (AdoptionAgency name ∷ []) IsDone) one) refl refl a
 
   -- where it is listed no more, it is popped, and marks may change
   pub ends_lost : is_in n (nodes_of v.formatting) ≡ false → Moves choices (end_tag name) v (record v { forest = mark (choices.marks_after_pop v.forest (current v)) v.forest; stack = s })

@@ -9,6 +9,7 @@ mod FormatRuleLaws
 mod FormatStepLaws
 pub mod GoesLaws
 pub mod GrowthLaws
+mod HeadLaws
 mod ListRuleLaws
 mod ListStepLaws
 mod ListedLaws
@@ -17,6 +18,7 @@ mod ModeLaws
 mod TableBuildsLaws
 mod TableRuleLaws
 mod TableStepLaws
+mod TitleLaws
 pub mod RuleLaws
 pub mod StageLaws
 pub mod WholeLaws

@@ -10,7 +10,7 @@ use Rattle.h5_meaning.specs.Closing.{ends_item_search, is_html_among, passed_nam
 use Rattle.h5_meaning.specs.InBody.{in_body_end, in_body_end_block, in_body_end_li, in_body_preformatted, in_body_start, in_body_start_block, in_body_start_item, in_body_tag, list_item_names}
 use Rattle.h5_meaning.specs.InCell.{in_cell_closing_ends, in_cell_ignored_ends}
 use Rattle.h5_meaning.specs.Modes.{rule}
-use Rattle.h5_meaning.specs.Shared.{table_structure_names}
+use Rattle.h5_meaning.specs.Shared.{head_start_names, table_structure_names}
 use Rattle.h5_meaning.specs.World.{World}
 use Rattle.h5_plain.specs.Plain.{list_names}
 use Rattle.h5_plain.proofs.BodyRuleLaws.{EachOf, IsHolder, of_each}
@@ -19,7 +19,7 @@ use Rattle.h5_plain.proofs.RuleLaws.{end, start}
 
 -- a `li` and its end
 pub item_rule : (a : List AttributeText) (w : World) → rule InBody (TagTurn (start (codes "li") a)) w ≡ in_body_start_item list_item_names (start (codes "li") a) w
-unfolding in_body_tag in_body_start block_start_names heading_names in_body_preformatted list_item_names
+unfolding in_body_tag in_body_start head_start_names block_start_names heading_names in_body_preformatted list_item_names
 item_rule a w = refl
 
 pub item_end_rule : (w : World) → rule InBody (TagTurn (end (codes "li"))) w ≡ in_body_end_li (end (codes "li")) w
@@ -28,7 +28,7 @@ item_end_rule w = refl
 
 pub item_holds : IsHolder (codes "li")
 unfolding void_names
-item_holds = record { has_end = refl; no_template = refl }
+item_holds = record { has_end = refl; no_template = refl; no_title = refl }
 
 -- a cell leaves it to the body
 pub item_outside : IsOutside (codes "li")
@@ -50,10 +50,10 @@ pub record IsListName (name : List ℕ) : Type 0 where
   pub outside : IsOutside name
 
 lists : EachOf IsListName list_names
-unfolding list_names void_names html_namespace mathml_namespace svg_namespace in_body_tag in_body_start in_body_end block_start_names block_end_names is_html_named is_implied implied_names is_button_scope is_default_scope scope_names button_scope_names list_item_names is_special special_names passed_names role_of role_of_local table_structure_names cell_names in_cell_closing_ends in_cell_ignored_ends
+unfolding list_names void_names html_namespace mathml_namespace svg_namespace in_body_tag in_body_start head_start_names in_body_end block_start_names block_end_names is_html_named is_implied implied_names is_button_scope is_default_scope scope_names button_scope_names list_item_names is_special special_names passed_names role_of role_of_local table_structure_names cell_names in_cell_closing_ends in_cell_ignored_ends
 lists = (
-  record { holds = record { has_end = refl; no_template = refl }; starts = λ a w. refl; ends = λ w. refl; itself = refl; not_implied = refl; no_p = refl; no_scope = refl; no_item = refl; ends_search = refl; role = refl; outside = record { no_structure = refl; no_cell = refl; closes_none = refl; not_ignored = refl } },
-  (record { holds = record { has_end = refl; no_template = refl }; starts = λ a w. refl; ends = λ w. refl; itself = refl; not_implied = refl; no_p = refl; no_scope = refl; no_item = refl; ends_search = refl; role = refl; outside = record { no_structure = refl; no_cell = refl; closes_none = refl; not_ignored = refl } }, tt),
+  record { holds = record { has_end = refl; no_template = refl; no_title = refl }; starts = λ a w. refl; ends = λ w. refl; itself = refl; not_implied = refl; no_p = refl; no_scope = refl; no_item = refl; ends_search = refl; role = refl; outside = record { no_structure = refl; no_cell = refl; closes_none = refl; not_ignored = refl } },
+  (record { holds = record { has_end = refl; no_template = refl; no_title = refl }; starts = λ a w. refl; ends = λ w. refl; itself = refl; not_implied = refl; no_p = refl; no_scope = refl; no_item = refl; ends_search = refl; role = refl; outside = record { no_structure = refl; no_cell = refl; closes_none = refl; not_ignored = refl } }, tt),
 )
 
 -- `ul` and `ol` are lists

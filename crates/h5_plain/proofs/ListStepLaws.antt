@@ -62,7 +62,7 @@ starts_item choices {w} {p} {d} {names} c attrs m h i =
     ∙ item_rule attrs w
     ∙ ap (λ b. row_if (is_none (newest_item list_item_names (names_of w)) && not b) changes IsDone) (no_p choices c h)
     ∙ ap (λ ns. row_if (is_none (newest_item list_item_names ns) && true) changes IsDone) (names_are w c.named)
-    ∙ ap (λ o. row_if (is_none o && true) changes IsDone) i) refl
+    ∙ ap (λ o. row_if (is_none o && true) changes IsDone) i) refl refl
     (ap (λ v. insert_element choices (codes "li") attrs false (close_p_element_in_button_scope choices v)) (no_item_closed choices flagged i)
     ∙ ap (insert_element choices (codes "li") attrs false) (none_closed choices flagged h)
     ∙ insert_is choices flagged (codes "li") attrs)
@@ -78,7 +78,7 @@ module _ (choices : SinkChoices) (w : World) (names : List QualName) (m : GoesBy
       (end_by_body m name w k.outside
       ∙ k.ends w
       ∙ ap (λ ns. choose (in_scope (is_html_named name) is_default_scope ns) (row_if (first_passes (is_html_named name) ns) changes IsDone) ignored) e
-      ∙ ap (λ b. choose (cond b true (cond (is_default_scope (html_name name)) false (in_scope (is_html_named name) is_default_scope names))) (row_if b changes IsDone) ignored) k.itself) refl
+      ∙ ap (λ b. choose (cond b true (cond (is_default_scope (html_name name)) false (in_scope (is_html_named name) is_default_scope names))) (row_if b changes IsDone) ignored) k.itself) refl refl
       (ap (pop_until_named name) (all_implied_none choices w (ap (first_passes is_implied) e ∙ k.not_implied))
       ∙ cut_at w names (is_html_named name) (html_name name) e k.itself)
 
@@ -90,7 +90,7 @@ module _ (choices : SinkChoices) (w : World) (names : List QualName) (m : GoesBy
       moves_row choices (end (codes "li")) w (left choices w names m i) w.mode changes refl i
       (end_by_body m (codes "li") w item_outside
       ∙ item_end_rule w
-      ∙ ap (λ ns. choose (in_scope (is_html_named (codes "li")) is_list_item_scope ns) (row_if (first_passes (is_html_named (codes "li")) ns) changes IsDone) ignored) e) refl
+      ∙ ap (λ ns. choose (in_scope (is_html_named (codes "li")) is_list_item_scope ns) (row_if (first_passes (is_html_named (codes "li")) ns) changes IsDone) ignored) e) refl refl
       (ap (pop_until_named (codes "li")) (implied_none choices (codes "li") w (ap (first_passes (is_implied_but (codes "li"))) e))
       ∙ cut_at w names (is_html_named (codes "li")) (html_name (codes "li")) e refl)
 

@@ -1,18 +1,21 @@
 -- The rules that the tags of a plain document follow, each in its mode.
 use Rattle.std.proofs.Common.{◌≡◌, ℕ, false, List, [], ◌∷◌, codes, refl}
 use Rattle.h5_names.specs.AttributeText.{AttributeText}
+use Rattle.h5_token.specs.Reply.{TurnsRaw}
 use Rattle.h5_token.specs.TokenText.{TagText}
+use Rattle.h5_token.specs.declared.states.RawKind.TheVariants.{Rcdata}
 use Rattle.h5_token.specs.declared.tag.TagKind.TheVariants.{EndTag, StartTag}
 use Rattle.h5_types.specs.TurnText.{TagTurn}
-use Rattle.h5_types.specs.declared.modes.InsertionMode.TheVariants.{AfterAfterBody, AfterBody, AfterHead, BeforeHead, BeforeHtml, InBody, InHead}
+use Rattle.h5_types.specs.declared.modes.InsertionMode.TheVariants.{AfterAfterBody, AfterBody, AfterHead, BeforeHead, BeforeHtml, InBody, InHead, Text}
 use Rattle.h5_meaning.specs.AfterBody.{after_body_end, after_body_tag}
 use Rattle.h5_meaning.specs.AfterHead.{after_head_start, after_head_tag}
 use Rattle.h5_meaning.specs.BeforeHead.{before_head_start, before_head_tag}
 use Rattle.h5_meaning.specs.BeforeHtml.{before_html_start, before_html_tag}
 use Rattle.h5_meaning.specs.InBody.{body_ends, if_body_in_scope, in_body_end, in_body_tag}
-use Rattle.h5_meaning.specs.InHead.{in_head_end, in_head_tag}
+use Rattle.h5_meaning.specs.InHead.{in_head_end, in_head_links, in_head_start, in_head_start_tag, in_head_tag}
+use Rattle.h5_meaning.specs.InTableText.{saved_mode}
 use Rattle.h5_meaning.specs.Modes.{rule}
-use Rattle.h5_meaning.specs.Rows.{CreateRoot, InsertElement, InsertHead, IsDone, Pop, SetFramesetNotOk, SetMode, row}
+use Rattle.h5_meaning.specs.Rows.{Answers, CreateRoot, InsertElement, InsertHead, IsDone, Pop, SaveMode, SetFramesetNotOk, SetMode, row}
 use Rattle.h5_meaning.specs.World.{World}
 
 -- the tags of `start_tag` and `end_tag`
@@ -29,6 +32,13 @@ html_rule a w = refl
 pub head_rule : (a : List AttributeText) (w : World) → rule BeforeHead (TagTurn (start (codes "head") a)) w ≡ row (InsertHead a false ∷ SetMode InHead ∷ []) IsDone
 unfolding before_head_tag before_head_start
 head_rule a w = refl
+
+pub title_rule : (a : List AttributeText) (w : World) → rule InHead (TagTurn (start (codes "title") a)) w ≡ row (InsertElement (codes "title") a false ∷ SaveMode ∷ SetMode Text ∷ []) (Answers (TurnsRaw Rcdata))
+unfolding in_head_tag in_head_start_tag in_head_start in_head_links
+title_rule a w = refl
+
+pub title_end_rule : (w : World) → rule Text (TagTurn (end (codes "title"))) w ≡ row (Pop ∷ SetMode (saved_mode w) ∷ []) IsDone
+title_end_rule w = refl
 
 pub head_end_rule : (w : World) → rule InHead (TagTurn (end (codes "head"))) w ≡ row (Pop ∷ SetMode AfterHead ∷ []) IsDone
 unfolding in_head_tag in_head_end

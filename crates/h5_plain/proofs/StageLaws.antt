@@ -2,7 +2,7 @@
 use Rattle.std.proofs.Common.{◌≡◌, ◌≢◌, ◌∙◌, ℕ, true, false, not, cond, List, [], ◌∷◌, ◌++◌, map, Some, None, codes, refl, ap, sym, subst}
 use Rattle.h5_names.specs.AttributeText.{AttributeText}
 use Rattle.h5_token.specs.TokenText.{EndOfFile, TokenText}
-use Rattle.h5_interface.specs.Forest.{Child, ChildNode, ElementNode, Kind}
+use Rattle.h5_interface.specs.Forest.{Child, ChildNode, ElementNode}
 use Rattle.h5_names.specs.declared.qualified.QualName.{QualName}
 use Rattle.h5_stack.specs.FormattingList.{nodes_of}
 use Rattle.h5_plain.proofs.ListedLaws.{Bottom, Entries, NoEntry}
@@ -18,7 +18,7 @@ use Rattle.h5_meaning.specs.Rows.{SetFramesetNotOk, InsertElement, InsertHead, C
 use Rattle.h5_meaning.specs.Run.{doctype_in, judged, step, taken, with_doctype}
 use Rattle.h5_stack.specs.Scope.{has_unclosed, in_scope}
 use Rattle.h5_meaning.specs.Place.{LastChild, place}
-use Rattle.h5_meaning.specs.World.{World, current, name_in, name_of_kind, names_of}
+use Rattle.h5_meaning.specs.World.{World, current, name_in, names_of}
 use Rattle.h5_stack.specs.FormattingNames.{html_name}
 use Rattle.h5_stack.specs.Order.{but_first, first_or, is_in}
 use Rattle.h5_plain.specs.Plain.{Blocks, End, IsPlain, Nodes, end_tag, plain_doctype, start_tag, tokens_before}
@@ -28,7 +28,8 @@ use Rattle.h5_plain.proofs.CalmLaws.{Calm, Named, NoneOpen, OneOpen, after, unow
 use Rattle.h5_plain.proofs.FilledLaws.{face, rooted_framed, stands_from_new}
 use Rattle.h5_plain.proofs.GoesLaws.{Goes, Moves, moves_end, moves_tag}
 use Rattle.h5_plain.proofs.GrowthLaws.{Begun, Rooted, begun_first, body, head, html, kinds_apart, name_of, root_below, rooted_first, rooted_grown, rooted_marked, with_element}
-use Rattle.h5_plain.proofs.LooksLaws.{apart_from, looks_marked, looks_node}
+use Rattle.h5_plain.proofs.HeadLaws.{HeadHolds, HoldsNothing, head_kept, head_not_body, head_not_html, html_not_body, title, title_not_body, title_not_html}
+use Rattle.h5_plain.proofs.LooksLaws.{looks_marked}
 use Rattle.h5_plain.proofs.RuleLaws.{body_end_rule, body_rule, head_end_rule, head_rule, html_end_rule, html_rule}
 
 -- a token leads to a world of which this holds
@@ -60,8 +61,8 @@ pub record AfterHtml (a : List AttributeText) (w : World) : Type 0 where
   pub doctype : ℕ
   pub rooted : Rooted w.forest doctype root a []
 
--- after the start or the end of `head`
-pub record WithHead (m : InsertionMode) (more : ℕ → List ℕ) (a b : List AttributeText) (w : World) : Type 0 where
+-- after the start or the end of `head`, which holds these nodes
+pub record WithHead (m : InsertionMode) (more : ℕ → List ℕ) (a b : List AttributeText) (h : Nodes) (w : World) : Type 0 where
   pub mode : w.mode ≡ m
   pub root : ℕ
   pub header : ℕ
@@ -72,11 +73,12 @@ pub record WithHead (m : InsertionMode) (more : ℕ → List ℕ) (a b : List At
   pub quirks : w.seen_quirks ≡ NoQuirks
   pub doctype : ℕ
   pub rooted : Rooted w.forest doctype root a (ChildNode header ∷ [])
-  pub is_head : Looks w.forest header (ElementNode head) b []
-  pub apart : header ≢ root
+  pub held : List Child
+  pub is_head : Looks w.forest header (ElementNode head) b held
+  pub holds : HeadHolds w.forest held h
 
--- from the start of `body` on, which holds these children, for which these nodes stand
-pub record WithBody (m : InsertionMode) (a b c : List AttributeText) (inner : List Child) (nodes : Nodes) (w : World) : Type 0 where
+-- from the start of `body` on, which holds these children, for which these nodes stand; h stands in the head
+pub record WithBody (m : InsertionMode) (a b c : List AttributeText) (h : Nodes) (inner : List Child) (nodes : Nodes) (w : World) : Type 0 where
   pub mode : w.mode ≡ m
   pub root : ℕ
   pub header : ℕ
@@ -85,19 +87,21 @@ pub record WithBody (m : InsertionMode) (a b c : List AttributeText) (inner : Li
   pub quirks : w.seen_quirks ≡ NoQuirks
   pub doctype : ℕ
   pub rooted : Rooted w.forest doctype root a (ChildNode header ∷ ChildNode content ∷ [])
-  pub is_head : Looks w.forest header (ElementNode head) b []
+  pub held : List Child
+  pub is_head : Looks w.forest header (ElementNode head) b held
+  pub holds : HeadHolds w.forest held h
   pub is_body : Looks w.forest content (ElementNode body) c inner
   pub stands : Stands w.forest inner nodes
 
 -- right after its start
-pub record AtBody (a b c : List AttributeText) (w : World) : Type 0 where
-  pub with_body : WithBody InBody a b c [] End w
+pub record AtBody (a b c : List AttributeText) (h : Nodes) (w : World) : Type 0 where
+  pub with_body : WithBody InBody a b c h [] End w
   pub none_listed : w.formatting ≡ []
   pub no_foster : w.foster ≡ false
   pub no_form : w.form ≡ None
   pub ignore_lf : w.ignore_lf ≡ false
 
-abbrev one : ℕ → List ℕ
+abbrev pub one : ℕ → List ℕ
 one n = n ∷ []
 
 abbrev none : ℕ → List ℕ
@@ -124,7 +128,7 @@ pub html_next : (choices : SinkChoices) (a : List AttributeText) (w : World) →
 unfolding create_root
 html_next choices a w s = record {
   after = set_mode BeforeHead (create_root choices a (taken w));
-  moves = moves_tag choices _ w BeforeHtml (CreateRoot a ∷ SetMode BeforeHead ∷ []) s.mode (html_rule a (taken w)) refl;
+  moves = moves_tag choices _ w BeforeHtml (CreateRoot a ∷ SetMode BeforeHead ∷ []) s.mode (html_rule a (taken w)) refl refl;
   holds = record {
     mode = refl;
     root = choices.fresh w.forest;
@@ -143,37 +147,41 @@ place_is_root : (w : World) (x h : ℕ) (a : List AttributeText) (cs : List Chil
 place_is_root w x h a cs e off r =
     place_is w h (record { kind = ElementNode html; attrs = a; children = cs }) (ap (first_or w.forest.document) e) r.is_root off refl
 
-inserted : (choices : SinkChoices) (local : List ℕ) (attrs : List AttributeText) (w : World) (h : ℕ) → place w ≡ LastChild h → w.form ≡ None → with_element choices h (html_name local) attrs w.forest ≡ (insert_element choices local attrs false w).forest
+pub inserted : (choices : SinkChoices) (local : List ℕ) (attrs : List AttributeText) (w : World) (h : ℕ) → place w ≡ LastChild h → w.form ≡ None → with_element choices h (html_name local) attrs w.forest ≡ (insert_element choices local attrs false w).forest
 unfolding insert_element
 inserted choices local attrs w h e k =
     ap (λ p. new_element choices p (html_name local) attrs false None w.forest) (sym e)
     ∙ ap (λ m. new_element choices (place w) (html_name local) attrs false m w.forest) (sym (unowned choices local attrs w k))
 
-insert_opens : (choices : SinkChoices) (local : List ℕ) (attrs : List AttributeText) (w : World) → (insert_element choices local attrs false w).stack ≡ choices.fresh w.forest ∷ w.stack
+pub insert_opens : (choices : SinkChoices) (local : List ℕ) (attrs : List AttributeText) (w : World) → (insert_element choices local attrs false w).stack ≡ choices.fresh w.forest ∷ w.stack
 unfolding insert_element
 insert_opens choices local attrs w = refl
 
-insert_quirks : (choices : SinkChoices) (local : List ℕ) (attrs : List AttributeText) (w : World) → (insert_element choices local attrs false w).seen_quirks ≡ w.seen_quirks
+pub insert_quirks : (choices : SinkChoices) (local : List ℕ) (attrs : List AttributeText) (w : World) → (insert_element choices local attrs false w).seen_quirks ≡ w.seen_quirks
 unfolding insert_element
 insert_quirks choices local attrs w = refl
 
-insert_listed : (choices : SinkChoices) (local : List ℕ) (attrs : List AttributeText) (w : World) → (insert_element choices local attrs false w).formatting ≡ w.formatting
+pub insert_listed : (choices : SinkChoices) (local : List ℕ) (attrs : List AttributeText) (w : World) → (insert_element choices local attrs false w).formatting ≡ w.formatting
 unfolding insert_element
 insert_listed choices local attrs w = refl
 
-insert_foster : (choices : SinkChoices) (local : List ℕ) (attrs : List AttributeText) (w : World) → (insert_element choices local attrs false w).foster ≡ w.foster
+pub insert_foster : (choices : SinkChoices) (local : List ℕ) (attrs : List AttributeText) (w : World) → (insert_element choices local attrs false w).foster ≡ w.foster
 unfolding insert_element
 insert_foster choices local attrs w = refl
 
-insert_form : (choices : SinkChoices) (local : List ℕ) (attrs : List AttributeText) (w : World) → (insert_element choices local attrs false w).form ≡ w.form
+pub insert_form : (choices : SinkChoices) (local : List ℕ) (attrs : List AttributeText) (w : World) → (insert_element choices local attrs false w).form ≡ w.form
 unfolding insert_element
 insert_form choices local attrs w = refl
 
-insert_flag : (choices : SinkChoices) (local : List ℕ) (attrs : List AttributeText) (w : World) → (insert_element choices local attrs false w).ignore_lf ≡ w.ignore_lf
+pub insert_flag : (choices : SinkChoices) (local : List ℕ) (attrs : List AttributeText) (w : World) → (insert_element choices local attrs false w).ignore_lf ≡ w.ignore_lf
 unfolding insert_element
 insert_flag choices local attrs w = refl
 
-pub head_next : (choices : SinkChoices) (a b : List AttributeText) (w : World) → AfterHtml a w → Next choices (start_tag (codes "head") b) w (WithHead InHead one a b)
+pub insert_mode : (choices : SinkChoices) (local : List ℕ) (attrs : List AttributeText) (w : World) → (insert_element choices local attrs false w).mode ≡ w.mode
+unfolding insert_element
+insert_mode choices local attrs w = refl
+
+pub head_next : (choices : SinkChoices) (a b : List AttributeText) (w : World) → AfterHtml a w → Next choices (start_tag (codes "head") b) w (WithHead InHead one a b End)
 unfolding insert_head insert_element
 head_next choices a b w s =
     let n = choices.fresh w.forest in
@@ -181,7 +189,7 @@ head_next choices a b w s =
     let same = inserted choices (codes "head") b (taken w) s.root (place_is_root (taken w) s.doctype s.root a [] s.is_open s.no_foster s.rooted) s.no_form in
     record {
       after = set_mode InHead (insert_head choices b false (taken w));
-      moves = moves_tag choices _ w BeforeHead (InsertHead b false ∷ SetMode InHead ∷ []) s.mode (head_rule b (taken w)) refl;
+      moves = moves_tag choices _ w BeforeHead (InsertHead b false ∷ SetMode InHead ∷ []) s.mode (head_rule b (taken w)) refl refl;
       holds = record {
         mode = refl;
         root = s.root;
@@ -193,16 +201,17 @@ head_next choices a b w s =
         quirks = insert_quirks choices (codes "head") b (taken w) ∙ s.quirks;
         doctype = s.doctype;
         rooted = subst (λ f. Rooted f s.doctype s.root a (ChildNode n ∷ [])) same (rooted_grown choices w.forest s.doctype s.root a [] head b s.rooted below);
+        held = [];
         is_head = subst (λ f. Looks f n (ElementNode head) b []) same below.new;
-        apart = λ e. apart_from w.forest n s.root (choices.fresh_is_new w.forest s.rooted.begun.is_forest) (looks_node w.forest s.root (ElementNode html) a [] s.rooted.is_root) (sym e);
+        holds = HoldsNothing;
       };
     }
 
-pub head_end_next : (choices : SinkChoices) (a b : List AttributeText) (w : World) → WithHead InHead one a b w → Next choices (end_tag (codes "head")) w (WithHead AfterHead none a b)
+pub head_end_next : (choices : SinkChoices) (a b : List AttributeText) (h : Nodes) (w : World) → WithHead InHead one a b h w → Next choices (end_tag (codes "head")) w (WithHead AfterHead none a b h)
 unfolding pop
-head_end_next choices a b w s = record {
+head_end_next choices a b h w s = record {
   after = set_mode AfterHead (pop choices (taken w));
-  moves = moves_tag choices _ w InHead (Pop ∷ SetMode AfterHead ∷ []) s.mode (head_end_rule (taken w)) refl;
+  moves = moves_tag choices _ w InHead (Pop ∷ SetMode AfterHead ∷ []) s.mode (head_end_rule (taken w)) refl refl;
   holds = record {
     mode = refl;
     root = s.root;
@@ -214,19 +223,22 @@ head_end_next choices a b w s = record {
     quirks = s.quirks;
     doctype = s.doctype;
     rooted = rooted_marked w.forest (choices.marks_after_pop w.forest (current w)) s.doctype s.root a (ChildNode s.header ∷ []) s.rooted;
-    is_head = looks_marked w.forest s.header (choices.marks_after_pop w.forest (current w)) (ElementNode head) b [] s.is_head;
-    apart = s.apart;
+    held = s.held;
+    is_head = looks_marked w.forest s.header (choices.marks_after_pop w.forest (current w)) (ElementNode head) b s.held s.is_head;
+    holds = head_kept _ (λ n c cs l. looks_marked w.forest n (choices.marks_after_pop w.forest (current w)) (ElementNode title) c cs l) s.holds;
   };
 }
 
-pub body_next : (choices : SinkChoices) (a b c : List AttributeText) (w : World) → WithHead AfterHead none a b w → Next choices (start_tag (codes "body") c) w (AtBody a b c)
-body_next choices a b c w s =
+pub body_next : (choices : SinkChoices) (a b c : List AttributeText) (h : Nodes) (w : World) → WithHead AfterHead none a b h w → Next choices (start_tag (codes "body") c) w (AtBody a b c h)
+body_next choices a b c h w s =
     let n = choices.fresh w.forest in
     let below = root_below choices w.forest s.doctype s.root a (ChildNode s.header ∷ []) body c s.rooted refl in
     let same = inserted choices (codes "body") c (taken w) s.root (place_is_root (taken w) s.doctype s.root a (ChildNode s.header ∷ []) s.are_open s.no_foster s.rooted) s.no_form in
+    let beside_root : (x : ℕ) (name : QualName) (d : List AttributeText) (cs : List Child) → ElementNode name ≢ ElementNode html → Looks w.forest x (ElementNode name) d cs → x ≢ s.root =
+    λ x name d cs other l. kinds_apart w.forest x s.root (ElementNode name) (ElementNode html) d a cs (ChildNode s.header ∷ []) l s.rooted.is_root other in
     record {
       after = set_mode InBody (set_frameset_not_ok (insert_element choices (codes "body") c false (taken w)));
-      moves = moves_tag choices _ w AfterHead (InsertElement (codes "body") c false ∷ SetFramesetNotOk ∷ SetMode InBody ∷ []) s.mode (body_rule c (taken w)) refl;
+      moves = moves_tag choices _ w AfterHead (InsertElement (codes "body") c false ∷ SetFramesetNotOk ∷ SetMode InBody ∷ []) s.mode (body_rule c (taken w)) refl refl;
       holds = record {
         with_body = record {
           mode = refl;
@@ -237,7 +249,10 @@ body_next choices a b c w s =
           quirks = insert_quirks choices (codes "body") c (taken w) ∙ s.quirks;
           doctype = s.doctype;
           rooted = subst (λ f. Rooted f s.doctype s.root a (ChildNode s.header ∷ ChildNode n ∷ [])) same (rooted_grown choices w.forest s.doctype s.root a (ChildNode s.header ∷ []) body c s.rooted below);
-          is_head = subst (λ f. Looks f s.header (ElementNode head) b []) same (below.other s.header (ElementNode head) b [] s.apart s.is_head);
+          held = s.held;
+          is_head = subst (λ f. Looks f s.header (ElementNode head) b s.held) same
+              (below.other s.header (ElementNode head) b s.held (beside_root s.header head b s.held head_not_html s.is_head) s.is_head);
+          holds = subst (λ f. HeadHolds f s.held h) same (head_kept _ (λ x d cs l. below.other x (ElementNode title) d cs (beside_root x title d cs title_not_html l) l) s.holds);
           is_body = subst (λ f. Looks f n (ElementNode body) c []) same below.new;
           stands = tt;
         };
@@ -249,19 +264,8 @@ body_next choices a b c w s =
     }
 
 -- the body is filled
-html_not : (name : List ℕ) (m : QualName) → is_html_named name html ≡ true → is_html_named name m ≡ false → ElementNode html ≢ ElementNode m
-html_not name m h k e = let w : true ≡ false = sym h ∙ ap (λ (x : Kind). is_html_named name (name_of_kind x)) e ∙ k in cc
-
-html_not_body : ElementNode html ≢ ElementNode body
-unfolding is_html_named html_namespace
-html_not_body = html_not (codes "html") body refl refl
-
-head_not_body : ElementNode head ≢ ElementNode body
-unfolding is_html_named html_namespace
-head_not_body e = let w : true ≡ false = ap (λ (x : Kind). is_html_named (codes "head") (name_of_kind x)) e in cc
-
-at_body : (a b c : List AttributeText) (w : World) (s : AtBody a b c w) → Calm w s.with_body.content (face (codes "body") c) (body ∷ html ∷ []) [] w.stack []
-at_body a b c w s =
+at_body : (a b c : List AttributeText) (h : Nodes) (w : World) (s : AtBody a b c h w) → Calm w s.with_body.content (face (codes "body") c) (body ∷ html ∷ []) [] w.stack []
+at_body a b c h w s =
     let t = s.with_body in
     record {
       is_forest = t.rooted.begun.is_forest;
@@ -279,17 +283,17 @@ at_body a b c w s =
     }
 
 -- what it leads to
-pub record BodyFilled (choices : SinkChoices) (a b c : List AttributeText) (nodes : Nodes) (w : World) : Type 0 where
+pub record BodyFilled (choices : SinkChoices) (a b c : List AttributeText) (h nodes : Nodes) (w : World) : Type 0 where
   pub after : World
   pub goes : (ts : List TokenText) (u : World) → Goes choices ts after u → Goes choices (tokens_before nodes ts) w u
   pub inner : List Child
-  pub holds : WithBody InBody a b c inner nodes after
+  pub holds : WithBody InBody a b c h inner nodes after
 
 -- the blocks are built in it
-pub body_filled : (choices : SinkChoices) (a b c : List AttributeText) (nodes : Nodes) (w : World) → IsPlain Blocks nodes → AtBody a b c w → BodyFilled choices a b c nodes w
-body_filled choices a b c nodes w plain s =
+pub body_filled : (choices : SinkChoices) (a b c : List AttributeText) (h nodes : Nodes) (w : World) → IsPlain Blocks nodes → AtBody a b c h w → BodyFilled choices a b c h nodes w
+body_filled choices a b c h nodes w plain s =
     let t = s.with_body in
-    let built = builds choices plain w t.content (face (codes "body") c) (body ∷ html ∷ []) [] w.stack [] (body_fits w.mode t.mode) tt tt (at_body a b c w s) in
+    let built = builds choices plain w t.content (face (codes "body") c) (body ∷ html ∷ []) [] w.stack [] (body_fits w.mode t.mode) tt tt (at_body a b c h w s) in
     let r = built.filled.frame in
     record {
       after = after w built.forest built.formatting built.ok;
@@ -304,15 +308,19 @@ body_filled choices a b c nodes w plain s =
         quirks = t.quirks;
         doctype = t.doctype;
         rooted = rooted_framed w.forest built.forest t.doctype t.root t.content a (ChildNode t.header ∷ ChildNode t.content ∷ []) (face (codes "body") c) built.filled.added t.rooted t.is_body (λ e. cc) (λ e. cc) html_not_body r;
-        is_head = r.others t.header (record { kind = ElementNode head; attrs = b; children = [] }) (kinds_apart w.forest t.header t.content (ElementNode head) (ElementNode body) b c [] [] t.is_head t.is_body head_not_body) t.is_head;
+        held = t.held;
+        is_head = r.others t.header (record { kind = ElementNode head; attrs = b; children = t.held })
+            (kinds_apart w.forest t.header t.content (ElementNode head) (ElementNode body) b c t.held [] t.is_head t.is_body head_not_body) t.is_head;
+        holds = head_kept built.forest
+            (λ n d cs l. r.others n (record { kind = ElementNode title; attrs = d; children = cs }) (kinds_apart w.forest n t.content (ElementNode title) (ElementNode body) d c cs [] l t.is_body title_not_body) l) t.holds;
         is_body = r.here;
         stands = stands_from_new built.filled.stands;
       };
     }
 
 -- the mode alone changes
-in_other_mode : (m k : InsertionMode) (a b c : List AttributeText) (inner : List Child) (nodes : Nodes) (w : World) → WithBody m a b c inner nodes w → WithBody k a b c inner nodes (set_mode k (taken w))
-in_other_mode m k a b c inner nodes w s = record {
+in_other_mode : (m k : InsertionMode) (a b c : List AttributeText) (h : Nodes) (inner : List Child) (nodes : Nodes) (w : World) → WithBody m a b c h inner nodes w → WithBody k a b c h inner nodes (set_mode k (taken w))
+in_other_mode m k a b c h inner nodes w s = record {
   mode = refl;
   root = s.root;
   header = s.header;
@@ -321,44 +329,46 @@ in_other_mode m k a b c inner nodes w s = record {
   quirks = s.quirks;
   doctype = s.doctype;
   rooted = s.rooted;
+  held = s.held;
   is_head = s.is_head;
+  holds = s.holds;
   is_body = s.is_body;
   stands = s.stands;
 }
 
-body_is_in_scope : (m : InsertionMode) (a b c : List AttributeText) (inner : List Child) (nodes : Nodes) (w : World) → WithBody m a b c inner nodes w → body_in_scope (taken w) ≡ true
+body_is_in_scope : (m : InsertionMode) (a b c : List AttributeText) (h : Nodes) (inner : List Child) (nodes : Nodes) (w : World) → WithBody m a b c h inner nodes w → body_in_scope (taken w) ≡ true
 unfolding names_of is_html_named html_namespace
-body_is_in_scope m a b c inner nodes w s =
+body_is_in_scope m a b c h inner nodes w s =
     ap (λ r. in_scope (is_html_named (codes "body")) is_default_scope (map (name_in w.forest) r)) s.are_open
     ∙ ap (λ n. in_scope (is_html_named (codes "body")) is_default_scope (n ∷ name_in w.forest s.root ∷ [])) (name_of w.forest s.content body c inner s.is_body)
 
 -- and nothing else is open but the root
-all_is_closed : (m : InsertionMode) (a b c : List AttributeText) (inner : List Child) (nodes : Nodes) (w : World) → WithBody m a b c inner nodes w → not (has_unclosed (names_of (taken w))) ≡ true
+all_is_closed : (m : InsertionMode) (a b c : List AttributeText) (h : Nodes) (inner : List Child) (nodes : Nodes) (w : World) → WithBody m a b c h inner nodes w → not (has_unclosed (names_of (taken w))) ≡ true
 unfolding names_of is_body_end_ok body_end_names html_namespace
-all_is_closed m a b c inner nodes w s =
+all_is_closed m a b c h inner nodes w s =
     ap (λ r. not (has_unclosed (map (name_in w.forest) r))) s.are_open
     ∙ ap (λ n. not (has_unclosed (n ∷ name_in w.forest s.root ∷ []))) (name_of w.forest s.content body c inner s.is_body)
     ∙ ap (λ n. not (has_unclosed (body ∷ n ∷ []))) (name_of w.forest s.root html a _ s.rooted.is_root)
 
-pub body_end_next : (choices : SinkChoices) (a b c : List AttributeText) (inner : List Child) (nodes : Nodes) (w : World) → WithBody InBody a b c inner nodes w → Next choices (end_tag (codes "body")) w (WithBody AfterBody a b c inner nodes)
+pub body_end_next : (choices : SinkChoices) (a b c : List AttributeText) (h : Nodes) (inner : List Child) (nodes : Nodes) (w : World) → WithBody InBody a b c h inner nodes w → Next choices (end_tag (codes "body")) w (WithBody AfterBody a b c h inner nodes)
 unfolding if_body_in_scope
-body_end_next choices a b c inner nodes w s = record {
+body_end_next choices a b c h inner nodes w s = record {
   after = set_mode AfterBody (taken w);
   moves = moves_tag choices _ w InBody (SetMode AfterBody ∷ []) s.mode (body_end_rule (taken w)
-      ∙ ap (λ v. choose v (body_ends (SetMode AfterBody ∷ []) IsDone (taken w)) ignored) (body_is_in_scope InBody a b c inner nodes w s)
-      ∙ ap (λ q. let r : Row = record { changes = SetMode AfterBody ∷ []; ending = IsDone; quiet = q } in r) (all_is_closed InBody a b c inner nodes w s)) refl;
-  holds = in_other_mode InBody AfterBody a b c inner nodes w s;
+      ∙ ap (λ v. choose v (body_ends (SetMode AfterBody ∷ []) IsDone (taken w)) ignored) (body_is_in_scope InBody a b c h inner nodes w s)
+      ∙ ap (λ q. let r : Row = record { changes = SetMode AfterBody ∷ []; ending = IsDone; quiet = q } in r) (all_is_closed InBody a b c h inner nodes w s)) refl refl;
+  holds = in_other_mode InBody AfterBody a b c h inner nodes w s;
 }
 
-pub html_end_next : (choices : SinkChoices) (a b c : List AttributeText) (inner : List Child) (nodes : Nodes) (w : World) → WithBody AfterBody a b c inner nodes w → Next choices (end_tag (codes "html")) w (WithBody AfterAfterBody a b c inner nodes)
-html_end_next choices a b c inner nodes w s = record {
+pub html_end_next : (choices : SinkChoices) (a b c : List AttributeText) (h : Nodes) (inner : List Child) (nodes : Nodes) (w : World) → WithBody AfterBody a b c h inner nodes w → Next choices (end_tag (codes "html")) w (WithBody AfterAfterBody a b c h inner nodes)
+html_end_next choices a b c h inner nodes w s = record {
   after = set_mode AfterAfterBody (taken w);
-  moves = moves_tag choices _ w AfterBody (SetMode AfterAfterBody ∷ []) s.mode (html_end_rule (taken w)) refl;
-  holds = in_other_mode AfterBody AfterAfterBody a b c inner nodes w s;
+  moves = moves_tag choices _ w AfterBody (SetMode AfterAfterBody ∷ []) s.mode (html_end_rule (taken w)) refl refl;
+  holds = in_other_mode AfterBody AfterAfterBody a b c h inner nodes w s;
 }
 
-pub file_end_next : (choices : SinkChoices) (a b c : List AttributeText) (inner : List Child) (nodes : Nodes) (w : World) → WithBody AfterAfterBody a b c inner nodes w → Next choices EndOfFile w (WithBody AfterAfterBody a b c inner nodes)
-file_end_next choices a b c inner nodes w s = record {
+pub file_end_next : (choices : SinkChoices) (a b c : List AttributeText) (h : Nodes) (inner : List Child) (nodes : Nodes) (w : World) → WithBody AfterAfterBody a b c h inner nodes w → Next choices EndOfFile w (WithBody AfterAfterBody a b c h inner nodes)
+file_end_next choices a b c h inner nodes w s = record {
   after = taken w;
   moves = moves_end choices w AfterAfterBody [] s.mode refl;
   holds = record {
@@ -370,7 +380,9 @@ file_end_next choices a b c inner nodes w s = record {
     quirks = s.quirks;
     doctype = s.doctype;
     rooted = s.rooted;
+    held = s.held;
     is_head = s.is_head;
+    holds = s.holds;
     is_body = s.is_body;
     stands = s.stands;
   };

@@ -13,7 +13,7 @@ use Rattle.h5_meaning.specs.InTable.{in_table_end, in_table_end_table, in_table_
 use Rattle.h5_meaning.specs.InTableBody.{in_table_body_end, in_table_body_end_section, in_table_body_start, in_table_body_tag}
 use Rattle.h5_meaning.specs.Modes.{rule}
 use Rattle.h5_meaning.specs.Rows.{InsertElement, InsertMarker, IsDone, PopUntilCurrent, SetMode, row}
-use Rattle.h5_meaning.specs.Shared.{table_structure_names}
+use Rattle.h5_meaning.specs.Shared.{head_start_names, table_structure_names}
 use Rattle.h5_meaning.specs.Tables.{table_section_names}
 use Rattle.h5_meaning.specs.World.{World}
 use Rattle.h5_plain.proofs.BodyRuleLaws.{EachOf, IsHolder, of_each}
@@ -21,7 +21,7 @@ use Rattle.h5_plain.proofs.RuleLaws.{end, start}
 
 -- a `table` and its end
 pub table_rule : (a : List AttributeText) (w : World) → rule InBody (TagTurn (start (codes "table") a)) w ≡ in_body_start_table (start (codes "table") a) w
-unfolding in_body_tag in_body_start block_start_names heading_names formatting_names in_body_preformatted list_item_names description_names in_body_marked
+unfolding in_body_tag in_body_start head_start_names block_start_names heading_names formatting_names in_body_preformatted list_item_names description_names in_body_marked
 table_rule a w = refl
 
 pub table_end_rule : (w : World) → rule InTable (TagTurn (end (codes "table"))) w ≡ in_table_end_table (end (codes "table")) w
@@ -30,7 +30,7 @@ table_end_rule w = refl
 
 pub table_holds : IsHolder (codes "table")
 unfolding void_names
-table_holds = record { has_end = refl; no_template = refl }
+table_holds = record { has_end = refl; no_template = refl; no_title = refl }
 
 -- in a cell, too, it follows the body's rule
 pub table_is_no_part : is_one_of table_structure_names (codes "table") ≡ false
@@ -48,7 +48,7 @@ section_end_rule w = refl
 
 pub section_holds : IsHolder (codes "tbody")
 unfolding void_names
-section_holds = record { has_end = refl; no_template = refl }
+section_holds = record { has_end = refl; no_template = refl; no_title = refl }
 
 -- a `tr` and its end
 pub row_rule : (a : List AttributeText) (w : World) → rule InTableBody (TagTurn (start (codes "tr") a)) w ≡ row (PopUntilCurrent is_table_body_context ∷ InsertElement (codes "tr") a false ∷ SetMode InRow ∷ []) IsDone
@@ -61,7 +61,7 @@ row_end_rule w = refl
 
 pub row_holds : IsHolder (codes "tr")
 unfolding void_names
-row_holds = record { has_end = refl; no_template = refl }
+row_holds = record { has_end = refl; no_template = refl; no_title = refl }
 
 -- a cell
 pub record IsCellName (name : List ℕ) : Type 0 where
@@ -78,8 +78,8 @@ pub record IsCellName (name : List ℕ) : Type 0 where
 cells : EachOf IsCellName cell_names
 unfolding cell_names void_names html_namespace mathml_namespace svg_namespace in_row_tag in_row_start in_cell_tag in_cell_end is_html_named is_implied implied_names is_button_scope is_default_scope scope_names button_scope_names is_heading heading_names role_of role_of_local
 cells = (
-  record { holds = record { has_end = refl; no_template = refl }; starts = λ a w. refl; ends = λ w. refl; itself = refl; not_implied = refl; no_p = refl; ends_scope = refl; no_heading = refl; role = refl },
-  (record { holds = record { has_end = refl; no_template = refl }; starts = λ a w. refl; ends = λ w. refl; itself = refl; not_implied = refl; no_p = refl; ends_scope = refl; no_heading = refl; role = refl }, tt),
+  record { holds = record { has_end = refl; no_template = refl; no_title = refl }; starts = λ a w. refl; ends = λ w. refl; itself = refl; not_implied = refl; no_p = refl; ends_scope = refl; no_heading = refl; role = refl },
+  (record { holds = record { has_end = refl; no_template = refl; no_title = refl }; starts = λ a w. refl; ends = λ w. refl; itself = refl; not_implied = refl; no_p = refl; ends_scope = refl; no_heading = refl; role = refl }, tt),
 )
 
 -- `td` and `th` are cells

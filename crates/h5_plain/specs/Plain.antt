@@ -1,7 +1,10 @@
 -- Plain documents, as they are written. No mode of a tree builder is known here.
-use Rattle.std.specs.Prelude.{◌≡◌, ◌≢◌, ℕ, Bool, true, false, not, if◌then◌else◌, List, [], ◌∷◌, Some, None, codes}
-use Rattle.h5_names.specs.AttributeText.{AttributeText}
-use Rattle.h5_token.specs.TokenText.{TokenText, DoctypeIs, TagIs, Characters, EndOfFile}
+use Rattle.std.specs.Prelude.{◌≡◌, ◌≢◌, ℕ, Bool, true, false, not, ◌&&◌, if◌then◌else◌, List, [], ◌∷◌, Some, None, codes}
+use Rattle.h5_names.specs.AttributeText.{AttributeText, is_same_text}
+use Rattle.h5_token.specs.Reply.{Continues, Reply, TurnsRaw}
+use Rattle.h5_token.specs.TokenText.{TagText, TokenText, DoctypeIs, TagIs, Characters, EndOfFile}
+use Rattle.h5_token.specs.declared.states.RawKind.TheVariants.{Rcdata}
+use Rattle.h5_token.specs.declared.tag.TagKind.{TagKind}
 use Rattle.h5_token.specs.declared.tag.TagKind.TheVariants.{StartTag, EndTag}
 use Rattle.h5_interface.specs.Changes.{has_attribute}
 use Rattle.h5_tag_sets.specs.TagSets.{cell_names, heading_names, is_one_of, void_names}
@@ -98,25 +101,45 @@ pub data IsPlain : Sort → Nodes → Type 0 where
   Link : {after_text : Bool} {attrs : List AttributeText} {inner rest : Nodes} → ArePlain attrs
       → IsPlain (Inlines false true) inner → IsPlain (Inlines false false) rest → IsPlain (Inlines after_text false) (ElementThen (codes "a") attrs inner rest)
 
--- an `html` of a `head`, empty so far, and a `body` of blocks
+-- what a head holds: nothing, or a `title` of one text, which isn't empty
+pub data IsHead : Nodes → Type 0 where
+  Untitled : IsHead End
+  Titled : {attrs : List AttributeText} {first : ℕ} {more : List ℕ} → ArePlain attrs → NoNul (first ∷ more)
+      → IsHead (ElementThen (codes "title") attrs (TextThen (first ∷ more) End) End)
+
+-- an `html` of a `head` and a `body` of blocks
 pub record PlainDocument : Type 0 where
   pub html_attrs : List AttributeText
   pub head_attrs : List AttributeText
   pub body_attrs : List AttributeText
+  pub head : Nodes
   pub blocks : Nodes
   pub html_is_plain : ArePlain html_attrs
   pub head_is_plain : ArePlain head_attrs
   pub body_is_plain : ArePlain body_attrs
+  pub is_head : IsHead head
   pub are_blocks : IsPlain Blocks blocks
 
 abbrev pub root_of : PlainDocument → Nodes
 root_of d =
     ElementThen (codes "html") d.html_attrs
-    (ElementThen (codes "head") d.head_attrs End (ElementThen (codes "body") d.body_attrs d.blocks End)) End
+    (ElementThen (codes "head") d.head_attrs d.head (ElementThen (codes "body") d.body_attrs d.blocks End)) End
 
 -- the doctype `html`, without identifiers
 abbrev pub plain_doctype : TokenText
 plain_doctype = DoctypeIs (record { name = Some (codes "html"); public_id = None; system_id = None; force_quirks = false })
+
+abbrev pub is_start : TagKind → Bool
+is_start StartTag = true
+is_start EndTag = false
+
+abbrev pub is_start_of_title : TagText → Bool
+is_start_of_title tag = is_start tag.kind && is_same_text tag.name (codes "title")
+
+-- the answer to each: the start tag of a title turns the reader to its text, and to any other token it is "go on"
+abbrev pub plain_reply : TokenText → Reply
+plain_reply (TagIs tag) = if is_start_of_title tag then TurnsRaw Rcdata else Continues
+plain_reply _ = Continues
 
 abbrev pub document_tokens : PlainDocument → List TokenText
 document_tokens d = plain_doctype ∷ tokens_before (root_of d) (EndOfFile ∷ [])

@@ -1,7 +1,6 @@
 -- A forest in which a plain document stands, and what it is that its tokens rebuild it.
-use Rattle.std.specs.Prelude.{◌≡◌, ℕ, true, false, List, [], ◌∷◌, Some, None, codes}
+use Rattle.std.specs.Prelude.{◌≡◌, ℕ, true, false, List, [], ◌∷◌, Some, None, map, codes}
 use Rattle.h5_names.specs.AttributeText.{AttributeText}
-use Rattle.h5_token.specs.Reply.{Reply, Continues}
 use Rattle.h5_token.specs.TokenText.{TokenText}
 use Rattle.h5_interface.specs.Forest.{Child, ChildNode, ChildText, DoctypeNode, DocumentNode, ElementNode, Forest, IsForest, Kind, attrs_of, children_of, contents_of, kind_of}
 use Rattle.h5_interface.specs.SinkChoices.{SinkChoices}
@@ -12,7 +11,7 @@ use Rattle.h5_token.specs.Joins.{join}
 use Rattle.h5_meaning.specs.Run.{View, after_all, all_quiet, replies}
 use Rattle.h5_meaning.specs.World.{World}
 use Rattle.h5_stack.specs.FormattingNames.{html_name}
-use Rattle.h5_plain.specs.Plain.{ElementThen, End, Nodes, PlainDocument, TextThen, document_tokens, root_of}
+use Rattle.h5_plain.specs.Plain.{ElementThen, End, Nodes, PlainDocument, TextThen, document_tokens, plain_reply, root_of}
 
 -- a node of this kind, with these attributes and children, and without contents. Its parent and its marks
 -- aren't looked at
@@ -55,17 +54,12 @@ pub record IsStart (w : World) : Type 0 where
   pub no_foster : w.foster ≡ false
   pub no_form : w.form ≡ None
 
--- all answers are "go on"
-abbrev pub AllContinue : List Reply → Type 0
-AllContinue [] = Unit {0}
-AllContinue (r ∷ rs) = (r ≡ Continues) × AllContinue rs
-
--- tokens, run from a view, rebuild a document: it stands, in no quirks, every answer is "go on", and no
--- parse error is told
+-- tokens, run from a view, rebuild a document: it stands, in no quirks, the answers are those to a plain document's
+-- tokens, and no parse error is told
 pub record Rebuilds (choices : SinkChoices) (ts : List TokenText) (d : PlainDocument) (v : View) : Type 0 where
   pub stands : DocumentStands (after_all choices ts v).world.forest d
   pub quirks : (after_all choices ts v).world.seen_quirks ≡ NoQuirks
-  pub continue : AllContinue (replies choices ts v)
+  pub answers : replies choices ts v ≡ map plain_reply ts
   pub quiet : all_quiet choices ts v ≡ true
 
 -- however the texts of a plain document's tokens are cut

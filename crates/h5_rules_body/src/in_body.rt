@@ -31,6 +31,10 @@ use h5_rules_forms::{
     in_body_start_option, in_body_start_part, in_body_start_select,
 };
 use h5_rules_shared::{expect_to_close, in_body_start_html, in_body_text};
+use h5_rules_text::{
+    in_body_start_iframe, in_body_start_noembed, in_body_start_noscript, in_body_start_plaintext,
+    in_body_start_textarea, in_body_start_xmp, in_head_start_tag, is_head_start,
+};
 use h5_state::{
     ItemKind, State, Turn, add_attrs_to_second, append_comment, check_body_end,
     close_p_element_in_button_scope, find_before_special, generate_implied_end_except,
@@ -176,26 +180,18 @@ fn in_body_start_table<S: TreeSink>(
     Ok(ProcessResult::Done)
 }
 
-// Of parts of forms and of ruby annotations, and any other.
+// Of `select` and what stands in it, of ruby annotations, and any other.
 #[tactic(auto, unfolding(h5_meaning::specs::InBody::in_body_start))]
-fn in_body_start_control<S: TreeSink>(
+fn in_body_start_choice<S: TreeSink>(
     sink: &mut S,
     state: &mut State<S::Handle>,
     tag: Tag,
 ) -> Turn<S::Handle>
     requires sound { IsSound S.TreeSink sink.old state.old }
     requires ready { IsReady (world_of S.TreeSink sink.old state.old) }
-    ensures { TakesTag S.TreeSink (by_name (drop 15 in_body_start) in_body_start_other) tag sink.old state.old sink.new state.new result }
+    ensures { TakesTag S.TreeSink (by_name (drop 26 in_body_start) in_body_start_other) tag sink.old state.old sink.new state.new result }
 {
-    if tag.name.is(KnownName::Image) {
-        in_body_start_image(sink, state, tag)
-    } else if tag.name.is(KnownName::Input) {
-        in_body_start_input(sink, state, tag)
-    } else if is_part(&tag.name) {
-        in_body_start_part(sink, state, tag)
-    } else if tag.name.is(KnownName::Hr) {
-        in_body_start_hr(sink, state, tag)
-    } else if tag.name.is(KnownName::Select) {
+    if tag.name.is(KnownName::Select) {
         in_body_start_select(sink, state, tag)
     } else if tag.name.is(KnownName::Option) {
         in_body_start_option(sink, state, tag)
@@ -213,6 +209,56 @@ fn in_body_start_control<S: TreeSink>(
     }
 }
 
+// Of elements whose content is text.
+#[tactic(auto, unfolding(h5_meaning::specs::InBody::in_body_start))]
+fn in_body_start_raw_text<S: TreeSink>(
+    sink: &mut S,
+    state: &mut State<S::Handle>,
+    tag: Tag,
+) -> Turn<S::Handle>
+    requires sound { IsSound S.TreeSink sink.old state.old }
+    requires ready { IsReady (world_of S.TreeSink sink.old state.old) }
+    ensures { TakesTag S.TreeSink (by_name (drop 21 in_body_start) in_body_start_other) tag sink.old state.old sink.new state.new result }
+{
+    if tag.name.is(KnownName::Textarea) {
+        in_body_start_textarea(sink, state, tag)
+    } else if tag.name.is(KnownName::Xmp) {
+        in_body_start_xmp(sink, state, tag)
+    } else if tag.name.is(KnownName::Iframe) {
+        in_body_start_iframe(sink, state, tag)
+    } else if tag.name.is(KnownName::Noembed) {
+        in_body_start_noembed(sink, state, tag)
+    } else if tag.name.is(KnownName::Noscript) {
+        in_body_start_noscript(sink, state, tag)
+    } else {
+        in_body_start_choice(sink, state, tag)
+    }
+}
+
+// Of images, and of parts of forms that have no content.
+#[tactic(auto, unfolding(h5_meaning::specs::InBody::in_body_start))]
+fn in_body_start_control<S: TreeSink>(
+    sink: &mut S,
+    state: &mut State<S::Handle>,
+    tag: Tag,
+) -> Turn<S::Handle>
+    requires sound { IsSound S.TreeSink sink.old state.old }
+    requires ready { IsReady (world_of S.TreeSink sink.old state.old) }
+    ensures { TakesTag S.TreeSink (by_name (drop 17 in_body_start) in_body_start_other) tag sink.old state.old sink.new state.new result }
+{
+    if tag.name.is(KnownName::Image) {
+        in_body_start_image(sink, state, tag)
+    } else if tag.name.is(KnownName::Input) {
+        in_body_start_input(sink, state, tag)
+    } else if is_part(&tag.name) {
+        in_body_start_part(sink, state, tag)
+    } else if tag.name.is(KnownName::Hr) {
+        in_body_start_hr(sink, state, tag)
+    } else {
+        in_body_start_raw_text(sink, state, tag)
+    }
+}
+
 // Of formatting elements, and others that stand in a text.
 #[tactic(auto, unfolding(h5_meaning::specs::InBody::in_body_start))]
 fn in_body_start_inline<S: TreeSink>(
@@ -222,7 +268,7 @@ fn in_body_start_inline<S: TreeSink>(
 ) -> Turn<S::Handle>
     requires sound { IsSound S.TreeSink sink.old state.old }
     requires ready { IsReady (world_of S.TreeSink sink.old state.old) }
-    ensures { TakesTag S.TreeSink (by_name (drop 8 in_body_start) in_body_start_other) tag sink.old state.old sink.new state.new result }
+    ensures { TakesTag S.TreeSink (by_name (drop 10 in_body_start) in_body_start_other) tag sink.old state.old sink.new state.new result }
 {
     if tag.name.is(KnownName::Button) {
         in_body_start_button(sink, state, tag)
@@ -256,6 +302,8 @@ fn in_body_start_tag<S: TreeSink>(
 {
     if tag.name.is(KnownName::Html) {
         in_body_start_html(sink, state, tag)
+    } else if is_head_start(&tag.name) {
+        in_head_start_tag(sink, state, tag)
     } else if tag.name.is(KnownName::Body) {
         in_body_start_body(sink, state, tag)
     } else if NameSet::BlockStart.holds(&tag.name) {
@@ -270,6 +318,8 @@ fn in_body_start_tag<S: TreeSink>(
         in_body_start_item(sink, state, tag, ItemKind::ListItem)
     } else if is_description(&tag.name) {
         in_body_start_item(sink, state, tag, ItemKind::Description)
+    } else if tag.name.is(KnownName::Plaintext) {
+        in_body_start_plaintext(sink, state, tag)
     } else {
         in_body_start_inline(sink, state, tag)
     }

@@ -1,15 +1,23 @@
 //! The mode "after head" (HTML standard, section 13.2.6.4.6).
+ghost use Rattle.std.specs.Prelude.{◌≡◌, ◌≢◌, MatchOption, option_map, true};
 ghost use Rattle.h5_types.specs.TurnText.{HasText, turn_text};
-ghost use Rattle.h5_meaning.specs.AfterHead.{after_head, after_head_else, after_head_start_body, after_head_tag};
-ghost use Rattle.h5_state.specs.Steps.{IsOpen, IsSound};
+ghost use Rattle.h5_tag_sets.specs.TagSets.{is_one_of};
+ghost use Rattle.h5_meaning.specs.AfterHead.{after_head, after_head_else, after_head_start_body, after_head_tag, removes_known, with_head};
+ghost use Rattle.h5_meaning.specs.InHead.{in_head_start_tag};
+ghost use Rattle.h5_meaning.specs.Rows.{apply_all};
+ghost use Rattle.h5_meaning.specs.Shared.{head_start_names};
+ghost use Rattle.h5_meaning.specs.World.{root};
+ghost use Rattle.h5_rules_head.specs.Fits.{FitsAfterHead};
+ghost use Rattle.h5_state.specs.Steps.{IsOpen, IsSound, world_of};
 ghost use Rattle.h5_state.specs.Turn.{TakesTag, TakesToken};
 
 use h5_interface::TreeSink;
 use h5_names::KnownName;
 use h5_rules_shared::{in_body_start_html, is_outer};
+use h5_rules_text::{in_head_start_tag, is_head_start};
 use h5_state::{
-    State, Turn, append_comment, append_text, insert_element, insert_phantom, set_frameset_not_ok,
-    set_mode, unexpected_tag,
+    State, Turn, append_comment, append_text, insert_element, insert_phantom, known_head,
+    push_head, remove_from_stack, set_frameset_not_ok, set_mode, unexpected_tag,
 };
 use h5_token::{Tag, TagKind};
 use h5_types::{InsertionMode, ProcessResult, SplitStatus, Token};
@@ -28,6 +36,35 @@ fn after_head_start_body<S: TreeSink>(
     set_frameset_not_ok(sink, state);
     set_mode(sink, state, InsertionMode::InBody);
     Ok(ProcessResult::Done)
+}
+
+// The head element, where there is one, leaves the stack, from wherever it stands.
+fn leave_head<S: TreeSink>(sink: &mut S, state: &mut State<S::Handle>, head: &Option<S::Handle>)
+    requires sound { IsSound S.TreeSink sink.old state.old }
+    requires root { MatchOption head.now (Unit {0}) (λ element. S.node element ≢ root (world_of S.TreeSink sink.old state.old)) }
+    ensures world { world_of S.TreeSink sink.new state.new ≡ apply_all S.choices (removes_known (option_map S.node head.now)) (world_of S.TreeSink sink.old state.old) }
+    ensures sound { IsSound S.TreeSink sink.new state.new }
+{
+    if let Some(element) = head {
+        remove_from_stack(sink, state, element);
+    }
+}
+
+// A start tag that goes by the rules of the head: the head element is the current node for it, and then it leaves the
+// stack, from wherever it stands.
+#[tactic(auto, unfolding(h5_meaning::specs::AfterHead::with_head))]
+fn with_head<S: TreeSink>(sink: &mut S, state: &mut State<S::Handle>, tag: Tag) -> Turn<S::Handle>
+    requires sound { IsSound S.TreeSink sink.old state.old }
+    requires fits { FitsAfterHead (world_of S.TreeSink sink.old state.old) }
+    requires name { is_one_of head_start_names tag.name ≡ true }
+    ensures { TakesTag S.TreeSink (with_head in_head_start_tag) tag sink.old state.old sink.new state.new result }
+{
+    unexpected_tag(sink, state, &tag);
+    let head = known_head(sink, state);
+    push_head(sink, state)?;
+    let result = in_head_start_tag(sink, state, tag)?;
+    leave_head(sink, state, &head);
+    Ok(result)
 }
 
 // Whatever else comes: a body without attributes is inserted.
@@ -49,7 +86,8 @@ fn after_head_tag<S: TreeSink>(
     state: &mut State<S::Handle>,
     tag: Tag,
 ) -> Turn<S::Handle>
-    requires { IsOpen S.TreeSink sink.old state.old }
+    requires open { IsOpen S.TreeSink sink.old state.old }
+    requires fits { FitsAfterHead (world_of S.TreeSink sink.old state.old) }
     ensures { TakesTag S.TreeSink after_head_tag tag sink.old state.old sink.new state.new result }
 {
     match tag.kind {
@@ -58,6 +96,8 @@ fn after_head_tag<S: TreeSink>(
                 in_body_start_html(sink, state, tag)
             } else if tag.name.is(KnownName::Body) {
                 after_head_start_body(sink, state, tag)
+            } else if is_head_start(&tag.name) {
+                with_head(sink, state, tag)
             } else if tag.name.is(KnownName::Head) {
                 unexpected_tag(sink, state, &tag);
                 Ok(ProcessResult::Done)
@@ -79,13 +119,14 @@ fn after_head_tag<S: TreeSink>(
     }
 }
 
-/// A turn after the head.
+/// A turn after the head, where the root alone is open, and the head element is known.
 pub fn step_after_head<S: TreeSink>(
     sink: &mut S,
     state: &mut State<S::Handle>,
     token: Token,
 ) -> Turn<S::Handle>
     requires open { IsOpen S.TreeSink sink.old state.old }
+    requires fits { FitsAfterHead (world_of S.TreeSink sink.old state.old) }
     requires text { HasText (turn_text token) }
     ensures { TakesToken S.TreeSink after_head token sink.old state.old sink.new state.new result }
 {

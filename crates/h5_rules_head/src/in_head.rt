@@ -1,12 +1,13 @@
 //! The mode "in head" (HTML standard, section 13.2.6.4.4).
 ghost use Rattle.h5_types.specs.TurnText.{HasText, turn_text};
-ghost use Rattle.h5_meaning.specs.InHead.{in_head, in_head_else, in_head_end_head, in_head_tag};
+ghost use Rattle.h5_meaning.specs.InHead.{in_head, in_head_end_head, in_head_tag};
 ghost use Rattle.h5_state.specs.Steps.{IsOpen};
 ghost use Rattle.h5_state.specs.Turn.{TakesTag, TakesToken};
 
 use h5_interface::TreeSink;
 use h5_names::KnownName;
-use h5_rules_shared::{in_body_start_html, is_outer};
+use h5_rules_shared::is_outer;
+use h5_rules_text::{in_head_else, in_head_start_tag};
 use h5_state::{State, Turn, append_comment, append_text, pop, set_mode, unexpected_tag};
 use h5_token::{Tag, TagKind};
 use h5_types::{InsertionMode, ProcessResult, SplitStatus, Token};
@@ -26,35 +27,13 @@ fn in_head_end_head<S: TreeSink>(
     Ok(ProcessResult::Done)
 }
 
-// Whatever else comes: the head is closed.
-fn in_head_else<S: TreeSink>(
-    sink: &mut S,
-    state: &mut State<S::Handle>,
-    token: Token,
-) -> Turn<S::Handle>
-    requires { IsOpen S.TreeSink sink.old state.old }
-    ensures { TakesToken S.TreeSink in_head_else token sink.old state.old sink.new state.new result }
-{
-    pop(sink, state);
-    Ok(ProcessResult::Reprocess(InsertionMode::AfterHead, token))
-}
-
-#[tactic(auto, unfolding(h5_meaning::specs::InHead::in_head_tag, h5_meaning::specs::InHead::in_head_start, h5_meaning::specs::InHead::in_head_end))]
+#[tactic(auto, unfolding(h5_meaning::specs::InHead::in_head_tag, h5_meaning::specs::InHead::in_head_end))]
 fn in_head_tag<S: TreeSink>(sink: &mut S, state: &mut State<S::Handle>, tag: Tag) -> Turn<S::Handle>
     requires { IsOpen S.TreeSink sink.old state.old }
     ensures { TakesTag S.TreeSink in_head_tag tag sink.old state.old sink.new state.new result }
 {
     match tag.kind {
-        TagKind::StartTag => {
-            if tag.name.is(KnownName::Html) {
-                in_body_start_html(sink, state, tag)
-            } else if tag.name.is(KnownName::Head) {
-                unexpected_tag(sink, state, &tag);
-                Ok(ProcessResult::Done)
-            } else {
-                in_head_else(sink, state, Token::Tag(tag))
-            }
-        }
+        TagKind::StartTag => in_head_start_tag(sink, state, tag),
         TagKind::EndTag => {
             if tag.name.is(KnownName::Head) {
                 in_head_end_head(sink, state, tag)

@@ -15,6 +15,7 @@ use h5_interface::TreeSink;
 use h5_names::{KnownName, LocalName};
 use h5_rules_body::step_in_body;
 use h5_rules_shared::{is_any_of, is_type_hidden};
+use h5_rules_text::{in_head_start_tag, is_table_text};
 use h5_state::{
     Local, State, Turn, append_comment, find_in_table_scope, has_form, has_open_template,
     insert_and_pop_element, insert_and_pop_form, insert_element, insert_phantom,
@@ -262,6 +263,8 @@ fn in_table_start_tag<S: TreeSink>(
         in_table_start_row_part(sink, state, tag)
     } else if tag.name.is(KnownName::Table) {
         in_table_start_table(sink, state, tag)
+    } else if is_table_text(&tag.name) {
+        in_head_start_tag(sink, state, tag)
     } else if tag.name.is(KnownName::Input) {
         in_table_start_input(sink, state, tag)
     } else if tag.name.is(KnownName::Form) {

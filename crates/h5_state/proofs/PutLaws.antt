@@ -1,5 +1,5 @@
 -- What is put at a place, as it is seen.
-use Rattle.std.proofs.Common.{◌≡◌, ℕ, Bool, List, MatchOption, None, Option, Some, Result, Ok, Err, OnOk, OnErr, refl, ap, sym, subst, ◌∙◌}
+use Rattle.std.proofs.Common.{◌≡◌, ℕ, Bool, List, Result, Ok, Err, OnOk, OnErr, refl, ap, sym, subst, ◌∙◌}
 use Rattle.h5_names.specs.declared.qualified.QualName.{QualName}
 use Rattle.h5_names.specs.AttributeText.{AttributeText}
 use Rattle.h5_interface.specs.Forest.{ChildNode, CommentNode, Forest, IsElement, IsForest, IsNode, kind_of}
@@ -12,7 +12,10 @@ use Rattle.h5_meaning.specs.World.{World}
 use Rattle.h5_meaning.proofs.PlaceLaws.{comment_can_be_put, element_can_be_put, made_rearranges, new_comment_rearranges}
 use Rattle.h5_state.proofs.StackLaws.{seen_world}
 use Rattle.h5_meaning.specs.Changes.{new_element}
-use Rattle.h5_meaning.specs.FormOwner.{Marking, associates, marked_by}
+use Rattle.h5_meaning.specs.FormOwner.{Marking, marked_by}
+use Rattle.h5_state.specs.Notices.{IsNodeIfTold}
+use Rattle.h5_state.specs.declared.put.Notice.{Notice}
+use Rattle.h5_state.specs.declared.put.Notice.TheVariants.{AlreadyStarted, FormOwner, Nothing}
 use Rattle.h5_interface.proofs.ForestLaws.{rearranged_node}
 use Rattle.h5_meaning.proofs.SoundLaws.{element_is_node}
 
@@ -28,10 +31,10 @@ place_rearranged f g (LastChild n) r there = rearranged_node f g n r there
 place_rearranged f g (TableFosterParenting element prev) r there = (element_rearranged f g element r there.0, rearranged_node f g prev r there.1)
 
 -- a new element, as it was made, marked and put at a place
-module _ (choices : SinkChoices) (old mid : Seen) (p : Place) (n : ℕ) (name : QualName) (attrs : List AttributeText) (duplicates : Bool) (owner : Option ℕ)
+module _ (choices : SinkChoices) (old mid : Seen) (p : Place) (n : ℕ) (name : QualName) (attrs : List AttributeText) (duplicates : Bool) (marking : ℕ → Place → Marking)
     (made : mid ≡ changed (make_element choices name attrs (flags_of name attrs duplicates)) old) (is : n ≡ choices.fresh old.forest) where
   abbrev pub marks : Marking
-  marks = associates choices (choices.fresh old.forest) p owner
+  marks = marking (choices.fresh old.forest) p
 
   module _ (k : IsForest old.forest) where
     pub mid_rearranged : Rearranges old.forest mid.forest
@@ -43,13 +46,14 @@ module _ (choices : SinkChoices) (old mid : Seen) (p : Place) (n : ℕ) (name : 
   pub place_in_mid : IsForest old.forest → IsPlaceIn old.forest p → IsPlaceIn mid.forest p
   place_in_mid k there = place_rearranged old.forest mid.forest p (mid_rearranged k) there
 
-  pub owner_in_mid : {H : Type 0} (node : H → ℕ) (form : Option H) → IsForest old.forest → MatchOption form (Unit {0}) (λ h. IsNode old.forest (node h)) → MatchOption form (Unit {0}) (λ h. IsNode mid.forest (node h))
-  owner_in_mid node None k there = tt
-  owner_in_mid node (Some h) k there = rearranged_node old.forest mid.forest (node h) (mid_rearranged k) there
+  pub told_in_mid : {H : Type 0} (node : H → ℕ) (notice : Notice H) → IsForest old.forest → IsNodeIfTold node old.forest notice → IsNodeIfTold node mid.forest notice
+  told_in_mid node Nothing k there = tt
+  told_in_mid node (FormOwner form) k there = rearranged_node old.forest mid.forest (node form) (mid_rearranged k) there
+  told_in_mid node AlreadyStarted k there = tt
 
-  module _ (marked : Seen) (e : marked ≡ changed (marked_by (associates choices n p owner)) mid) where
+  module _ (marked : Seen) (e : marked ≡ changed (marked_by (marking n p)) mid) where
     pub marked_seen : marked ≡ changed (λ f. marked_by marks (make_element choices name attrs (flags_of name attrs duplicates) f)) old
-    marked_seen = e ∙ ap (λ m. changed (marked_by (associates choices m p owner)) mid) is ∙ ap (λ s. changed (marked_by marks) s) made
+    marked_seen = e ∙ ap (λ m. changed (marked_by (marking m p)) mid) is ∙ ap (λ s. changed (marked_by marks) s) made
 
     pub element_may : (m : ℕ) → m ≡ n → IsForest old.forest → IsPlaceIn old.forest p → CanPut marked.forest p (ChildNode m)
     element_may m same k there =

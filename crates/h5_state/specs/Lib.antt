@@ -1,4 +1,5 @@
 pub mod Items
+pub mod Notices
 pub mod Places
 pub mod Reset
 pub mod Steps

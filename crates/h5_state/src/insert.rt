@@ -1,13 +1,15 @@
 //! What is put at the place of insertion (HTML standard, section 13.2.6.1, "Creating and inserting nodes").
-ghost use Rattle.std.specs.Prelude.{◌≡◌, ◌≢◌, [], false, MatchOption, OnOk, option_map, string_bytes};
+ghost use Rattle.std.specs.Prelude.{◌≡◌, ◌≢◌, ℕ, [], false, MatchOption, OnOk, option_map, string_bytes};
 ghost use Rattle.h5_names.specs.AttributeText.{attribute_texts};
 ghost use Rattle.h5_names.specs.KnownNames.{name_text};
-ghost use Rattle.h5_interface.specs.Forest.{IsNode};
-ghost use Rattle.h5_meaning.specs.Changes.{push_new};
+ghost use Rattle.h5_interface.specs.Forest.{Forest, IsNode};
+ghost use Rattle.h5_interface.specs.SinkChoices.{SinkChoices};
+ghost use Rattle.h5_meaning.specs.Changes.{push_new, starts_marked};
 ghost use Rattle.h5_meaning.specs.FormOwner.{associates};
-ghost use Rattle.h5_meaning.specs.Place.{IsPlaceIn, LastChild};
-ghost use Rattle.h5_meaning.specs.Rows.{AppendComment, AppendCommentToDoc, AppendCommentToHtml, AppendText, CreateRoot, InsertAndPopElement, InsertAndPopForm, InsertElement, InsertForm, InsertHead};
+ghost use Rattle.h5_meaning.specs.Place.{IsPlaceIn, LastChild, Place};
+ghost use Rattle.h5_meaning.specs.Rows.{AppendComment, AppendCommentToDoc, AppendCommentToHtml, AppendText, CreateRoot, InsertAndPopElement, InsertAndPopForm, InsertElement, InsertForm, InsertHead, InsertScript};
 ghost use Rattle.h5_stack.specs.FormattingNames.{html_name};
+ghost use Rattle.h5_state.specs.Notices.{IsNodeIfTold, marking_of};
 ghost use Rattle.h5_state.specs.Places.{place_of};
 ghost use Rattle.h5_state.specs.Steps.{IsSound, MakesIfOk, errors_of, world_of};
 
@@ -15,7 +17,7 @@ use super::form_owner::form_owner;
 use super::open_element::{OpenElement, Summary};
 use super::open_elems::{all_open, has_open_template, root_node};
 use super::place::{InsertionPoint, current_place};
-use super::put::{insert_new_comment, insert_new_element, insert_text};
+use super::put::{Notice, insert_new_comment, insert_new_element, insert_text};
 use super::state::State;
 use super::steps::current_node;
 use h5_interface::TreeSink;
@@ -29,7 +31,18 @@ pub fn html_qual_name(local: LocalName) -> QualName
     QualName::new(None, Namespace::html(), local)
 }
 
-// An HTML element of this name at a place, associated with its form owner, where it has one; it becomes the current
+// A form owner is told, where there is one.
+fn of_owner<Handle>(owner: Option<Handle>) -> Notice<Handle>
+    ensures marking { (node : Handle → ℕ) (choices : SinkChoices) (element : ℕ) (p : Place) → marking_of node choices result element p ≡ associates choices element p (option_map node owner) }
+    ensures form { (node : Handle → ℕ) (f : Forest) → MatchOption owner (Unit {0}) (λ form. IsNode f (node form)) → IsNodeIfTold node f result }
+{
+    match owner {
+        Some(form) => Notice::FormOwner(form),
+        None => Notice::Nothing,
+    }
+}
+
+// An HTML element of this name at a place, of which the sink is told before it is put there; it becomes the current
 // node. Where none is open, the place is in the document.
 #[tactic(auto, unfolding(crate::specs::View::world))]
 fn push_at<S: TreeSink>(
@@ -39,21 +52,21 @@ fn push_at<S: TreeSink>(
     local: LocalName,
     attrs: Vec<Attribute>,
     had_duplicate_attributes: bool,
-    owner: Option<S::Handle>,
+    notice: Notice<S::Handle>,
 ) -> Result<(), AllocError>
     requires sound { IsSound S.TreeSink sink.old state.old }
     requires place { IsPlaceIn (world_of S.TreeSink sink.old state.old).forest (place_of S.node place.now) }
     requires first { (world_of S.TreeSink sink.old state.old).stack ≡ [] → place_of S.node place.now ≡ LastChild (world_of S.TreeSink sink.old state.old).forest.document }
-    requires owner { MatchOption owner (Unit {0}) (λ form. IsNode (world_of S.TreeSink sink.old state.old).forest (S.node form)) }
+    requires form { IsNodeIfTold S.node (world_of S.TreeSink sink.old state.old).forest notice }
     ensures done { OnOk result
         (world_of S.TreeSink sink.new state.new ≡ push_new S.choices (place_of S.node place.now) local (attribute_texts attrs.items) had_duplicate_attributes
-        (associates S.choices (S.choices.fresh (world_of S.TreeSink sink.old state.old).forest) (place_of S.node place.now) (option_map S.node owner)) (world_of S.TreeSink sink.old state.old)) }
+        (marking_of S.node S.choices notice (S.choices.fresh (world_of S.TreeSink sink.old state.old).forest) (place_of S.node place.now)) (world_of S.TreeSink sink.old state.old)) }
     ensures quiet { errors_of S.TreeSink sink.new ≡ errors_of S.TreeSink sink.old }
     ensures sound { IsSound S.TreeSink sink.new state.new }
 {
     let name = html_qual_name(local);
     let summary = Summary::new(&name, all_open(sink, state));
-    let handle = insert_new_element(sink, place, name, attrs, had_duplicate_attributes, owner)?;
+    let handle = insert_new_element(sink, place, name, attrs, had_duplicate_attributes, notice)?;
     state.open_elems.push(OpenElement { handle, summary })?;
     Ok(())
 }
@@ -72,7 +85,7 @@ pub fn insert_element<S: TreeSink>(
     ensures { MakesIfOk S.TreeSink (InsertElement local (attribute_texts attrs.items) had_duplicate_attributes) sink.old state.old sink.new state.new result }
 {
     let place = current_place(sink, state);
-    let owner = form_owner(sink, state, &local, attrs.as_slice());
+    let notice = of_owner(form_owner(sink, state, &local, attrs.as_slice()));
     push_at(
         sink,
         state,
@@ -80,7 +93,7 @@ pub fn insert_element<S: TreeSink>(
         local,
         attrs,
         had_duplicate_attributes,
-        owner,
+        notice,
     )
 }
 
@@ -97,9 +110,9 @@ pub fn insert_and_pop_element<S: TreeSink>(
     ensures { MakesIfOk S.TreeSink (InsertAndPopElement local (attribute_texts attrs.items) had_duplicate_attributes) sink.old state.now sink.new state.now result }
 {
     let place = current_place(sink, state);
-    let owner = form_owner(sink, state, &local, attrs.as_slice());
+    let notice = of_owner(form_owner(sink, state, &local, attrs.as_slice()));
     let name = html_qual_name(local);
-    insert_new_element(sink, &place, name, attrs, had_duplicate_attributes, owner)?;
+    insert_new_element(sink, &place, name, attrs, had_duplicate_attributes, notice)?;
     Ok(())
 }
 
@@ -116,7 +129,14 @@ pub fn insert_and_pop_form<S: TreeSink>(
 {
     let place = current_place(sink, state);
     let name = html_qual_name(LocalName::from_known(KnownName::Form));
-    let form = insert_new_element(sink, &place, name, attrs, had_duplicate_attributes, None)?;
+    let form = insert_new_element(
+        sink,
+        &place,
+        name,
+        attrs,
+        had_duplicate_attributes,
+        Notice::Nothing,
+    )?;
     state.form_elem = Some(form);
     Ok(())
 }
@@ -174,7 +194,7 @@ pub fn create_root<S: TreeSink>(
         LocalName::from_known(KnownName::Html),
         attrs,
         false,
-        None,
+        Notice::Nothing,
     )
 }
 
@@ -193,6 +213,43 @@ pub fn insert_head<S: TreeSink>(
     insert_element(sink, state, head, attrs, had_duplicate_attributes)?;
     state.head_elem = Some(current_node(sink, state));
     Ok(())
+}
+
+// In a fragment a script is told to have started.
+#[tactic(auto, unfolding(crate::specs::View::world))]
+fn script_notice<S: TreeSink>(sink: &S, state: &State<S::Handle>) -> Notice<S::Handle>
+    ensures marking { (p : Place) → marking_of S.node S.choices result (S.choices.fresh (world_of S.TreeSink sink.now state.now).forest) p ≡ starts_marked S.choices (world_of S.TreeSink sink.now state.now) }
+    ensures form { IsNodeIfTold S.node (world_of S.TreeSink sink.now state.now).forest result }
+{
+    match &state.context_elem {
+        Some(_) => Notice::AlreadyStarted,
+        None => Notice::Nothing,
+    }
+}
+
+/// An HTML `script` at the place of insertion; it becomes the current node. In a fragment the sink is told that it has
+/// started before it is put there. After an Err it isn't open, and open elements are what they were.
+#[tactic(auto, unfolding(crate::specs::View::world, h5_meaning::specs::Changes::insert_script))]
+pub fn insert_script<S: TreeSink>(
+    sink: &mut S,
+    state: &mut State<S::Handle>,
+    attrs: Vec<Attribute>,
+    had_duplicate_attributes: bool,
+) -> Result<(), AllocError>
+    requires { IsSound S.TreeSink sink.old state.old }
+    ensures { MakesIfOk S.TreeSink (InsertScript (attribute_texts attrs.items) had_duplicate_attributes) sink.old state.old sink.new state.new result }
+{
+    let place = current_place(sink, state);
+    let notice = script_notice(sink, state);
+    push_at(
+        sink,
+        state,
+        &place,
+        LocalName::from_known(KnownName::Script),
+        attrs,
+        had_duplicate_attributes,
+        notice,
+    )
 }
 
 /// A comment at the place of insertion. An Err leaves open elements.

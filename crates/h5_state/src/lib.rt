@@ -8,6 +8,7 @@ mod closing;
 mod errors;
 mod find;
 mod form_owner;
+mod head;
 mod insert;
 mod list_items;
 mod name_test;
@@ -34,10 +35,11 @@ pub use closing::{
 };
 pub use errors::{tell_error, unexpected, unexpected_tag};
 pub use find::{find_open, handle_at, is_node_in_scope};
+pub use head::{known_head, push_head};
 pub use insert::{
     append_comment, append_comment_to_doc, append_comment_to_html, append_text, create_root,
     html_qual_name, insert_and_pop_element, insert_and_pop_form, insert_element, insert_form,
-    insert_head, insert_phantom,
+    insert_head, insert_phantom, insert_script,
 };
 pub use list_items::{ItemKind, close_list_item, find_li_in_list_item_scope};
 pub use name_test::{
@@ -59,9 +61,9 @@ pub use renew::all_under;
 pub use reset::reset_insertion_mode;
 pub use state::{State, Turn};
 pub use steps::{
-    current_mode, current_node, has_form, has_srcdoc, is_in_quirks, is_select_context, pop,
-    save_mode, saved_mode, set_foster, set_frameset_not_ok, set_ignore_lf, set_mode,
-    set_quirks_mode, take_form,
+    current_mode, current_node, has_form, has_srcdoc, is_in_quirks, is_scripting,
+    is_select_context, mark_started, pop, save_mode, saved_mode, set_foster, set_frameset_not_ok,
+    set_ignore_lf, set_mode, set_quirks_mode, take_form,
 };
 pub use table_text::{append_pending_text, take_pending_text};
 pub use tables::{

@@ -1,13 +1,14 @@
 //! What is put at a place. Open elements are none of its business: whatever the sink answers, its forest is what it
 //! was, or has one more.
-ghost use Rattle.std.specs.Prelude.{◌≡◌, ◌≢◌, [], IfOk, MatchOption, OnErr, OnOk, option_map, string_bytes};
+ghost use Rattle.std.specs.Prelude.{◌≡◌, ◌≢◌, [], IfOk, OnErr, OnOk, option_map, string_bytes};
 ghost use Rattle.h5_names.specs.AttributeText.{attribute_texts};
-ghost use Rattle.h5_interface.specs.Forest.{ChildText, IsElement, IsForest, IsNode};
+ghost use Rattle.h5_interface.specs.Forest.{ChildText, IsElement, IsForest};
 ghost use Rattle.h5_interface.specs.Seen.{changed, child_of};
 ghost use Rattle.h5_interface.specs.SinkChoices.{Rearranges};
 ghost use Rattle.h5_meaning.specs.Changes.{new_comment, new_element};
-ghost use Rattle.h5_meaning.specs.FormOwner.{associates, marked_by, stands_by, stands_else_in};
+ghost use Rattle.h5_meaning.specs.FormOwner.{marked_by, stands_by, stands_else_in};
 ghost use Rattle.h5_meaning.specs.Place.{CanPut, IsPlaceIn, put};
+ghost use Rattle.h5_state.specs.Notices.{IsNodeIfTold, marking_of};
 ghost use Rattle.h5_state.specs.Places.{place_of};
 
 use super::place::InsertionPoint;
@@ -46,45 +47,60 @@ fn nodes_of<S: TreeSink>(place: &InsertionPoint<S::Handle>) -> (&S::Handle, Opti
     }
 }
 
-// A new element is associated with its form owner, where it has one. The sink is told where it is to stand.
-fn associate_with_form<S: TreeSink>(
+/// What a sink is told of a new element before it is put in its place.
+#[derive(Drop)]
+pub enum Notice<Handle> {
+    /// Nothing.
+    Nothing,
+    /// The form that owns it (HTML standard, section 4.10.18, form owner).
+    FormOwner(Handle),
+    /// It is a script that has started (HTML standard, section 4.12.1, already started).
+    AlreadyStarted,
+}
+
+// The sink is told of a new element, and, with its form owner, where it is to stand.
+fn notify<S: TreeSink>(
     sink: &mut S,
     element: &S::Handle,
     place: &InsertionPoint<S::Handle>,
-    owner: &Option<S::Handle>,
+    notice: &Notice<S::Handle>,
 )
     requires element { IsElement (S.sees sink.old).forest (S.node element.now) }
     requires place { IsPlaceIn (S.sees sink.old).forest (place_of S.node place.now) }
-    requires owner { MatchOption owner.now (Unit {0}) (λ form. IsNode (S.sees sink.old).forest (S.node form)) }
-    ensures { S.sees sink.new ≡ changed (marked_by (associates S.choices (S.node element.now) (place_of S.node place.now) (option_map S.node owner.now))) (S.sees sink.old) }
+    requires form { IsNodeIfTold S.node (S.sees sink.old).forest notice.now }
+    ensures { S.sees sink.new ≡ changed (marked_by (marking_of S.node S.choices notice.now (S.node element.now) (place_of S.node place.now))) (S.sees sink.old) }
 {
-    if let Some(form) = owner {
-        let nodes = nodes_of::<S>(place);
-        sink.associate_with_form(element, form, nodes);
+    match notice {
+        Notice::Nothing => {}
+        Notice::FormOwner(form) => {
+            let nodes = nodes_of::<S>(place);
+            sink.associate_with_form(element, form, nodes);
+        }
+        Notice::AlreadyStarted => sink.mark_script_already_started(element),
     }
 }
 
-/// A new element at a place, associated with its form owner, where it has one.
+/// A new element at a place. The sink is told what there is to tell of it before it is put there.
 pub fn insert_new_element<S: TreeSink>(
     sink: &mut S,
     place: &InsertionPoint<S::Handle>,
     name: QualName,
     attrs: Vec<Attribute>,
     had_duplicate_attributes: bool,
-    owner: Option<S::Handle>,
+    notice: Notice<S::Handle>,
 ) -> Result<S::Handle, AllocError>
     requires is_forest { IsForest (S.sees sink.old).forest }
     requires place { IsPlaceIn (S.sees sink.old).forest (place_of S.node place.now) }
-    requires owner { MatchOption owner (Unit {0}) (λ form. IsNode (S.sees sink.old).forest (S.node form)) }
+    requires form { IsNodeIfTold S.node (S.sees sink.old).forest notice }
     ensures handle { IfOk result (λ element. S.node element ≡ S.choices.fresh (S.sees sink.old).forest) }
     ensures done { OnOk result
         (S.sees sink.new ≡ changed (new_element S.choices (place_of S.node place.now) name (attribute_texts attrs.items) had_duplicate_attributes
-        (associates S.choices (S.choices.fresh (S.sees sink.old).forest) (place_of S.node place.now) (option_map S.node owner))) (S.sees sink.old)) }
+        (marking_of S.node S.choices notice (S.choices.fresh (S.sees sink.old).forest) (place_of S.node place.now))) (S.sees sink.old)) }
     ensures quiet { (S.sees sink.new).errors ≡ (S.sees sink.old).errors }
     ensures rearranged { Rearranges (S.sees sink.old).forest (S.sees sink.new).forest }
 {
     let element = create_element_with_flags(sink, name, attrs, had_duplicate_attributes)?;
-    associate_with_form(sink, &element, place, &owner);
+    notify(sink, &element, place, &notice);
     let child = sink.clone_handle(&element);
     insert_at(sink, place, NodeOrText::AppendNode(child))?;
     Ok(element)

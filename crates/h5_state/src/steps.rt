@@ -4,7 +4,7 @@ ghost use Rattle.std.specs.Option.{option_map};
 ghost use Rattle.h5_tag_sets.specs.TagSets.{is_html_named};
 ghost use Rattle.h5_meaning.specs.InBody.{is_quirks};
 ghost use Rattle.h5_meaning.specs.InTableText.{saved_mode};
-ghost use Rattle.h5_meaning.specs.Rows.{ClearForm, Pop, SaveMode, SetFoster, SetFramesetNotOk, SetIgnoreLf, SetMode, SetQuirksMode};
+ghost use Rattle.h5_meaning.specs.Rows.{ClearForm, MarkStarted, Pop, SaveMode, SetFoster, SetFramesetNotOk, SetIgnoreLf, SetMode, SetQuirksMode};
 ghost use Rattle.h5_meaning.specs.Shared.{is_context};
 ghost use Rattle.h5_meaning.specs.World.{current};
 ghost use Rattle.h5_state.specs.Steps.{IsOpen, IsSound, Makes, world_of};
@@ -100,6 +100,16 @@ pub fn pop<S: TreeSink>(sink: &mut S, state: &mut State<S::Handle>)
     }
 }
 
+/// The current node is noted as a script that has started.
+#[tactic(auto, unfolding(crate::specs::View::world, h5_meaning::specs::Changes::mark_started))]
+pub fn mark_started<S: TreeSink>(sink: &mut S, state: &State<S::Handle>)
+    requires { IsOpen S.TreeSink sink.old state.now }
+    ensures { Makes S.TreeSink MarkStarted sink.old state.now sink.new state.now }
+{
+    let script = current_node(sink, state);
+    sink.mark_script_already_started(&script);
+}
+
 /// Whether there is a form element.
 #[tactic(auto, unfolding(crate::specs::View::world))]
 pub fn has_form<S: TreeSink>(sink: &S, state: &State<S::Handle>) -> bool
@@ -138,7 +148,15 @@ pub fn has_srcdoc<S: TreeSink>(sink: &S, state: &State<S::Handle>) -> bool
     state.opts.iframe_srcdoc
 }
 
-/// The mode that was left for a text of a table.
+/// Whether scripts run.
+#[tactic(auto, unfolding(crate::specs::View::world))]
+pub fn is_scripting<S: TreeSink>(sink: &S, state: &State<S::Handle>) -> bool
+    ensures { result ≡ (world_of S.TreeSink sink.now state.now).options.scripting_enabled }
+{
+    state.opts.scripting_enabled
+}
+
+/// The mode that was left for a text.
 #[tactic(auto, unfolding(crate::specs::View::world))]
 pub fn saved_mode<S: TreeSink>(sink: &S, state: &State<S::Handle>) -> InsertionMode
     ensures { result ≡ saved_mode (world_of S.TreeSink sink.now state.now) }

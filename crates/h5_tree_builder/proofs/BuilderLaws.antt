@@ -9,7 +9,7 @@ use Rattle.h5_types.specs.TurnText.{TagTurn, CommentTurn, NullTurn, EofTurn}
 use Rattle.h5_types.specs.declared.modes.InsertionMode.{InsertionMode}
 use Rattle.h5_types.specs.declared.modes.InsertionMode.TheVariants.{Initial}
 use Rattle.h5_types.specs.declared.options.TreeBuilderOpts.{TreeBuilderOpts}
-use Rattle.h5_meaning.specs.Run.{doctype_in, is_counted, step, take_or_refuse, taken, tell_or_refuse, text_step, without_lf}
+use Rattle.h5_meaning.specs.Run.{doctype_in, is_counted, refuses_in, step, take_or_refuse, taken, tell_or_refuse, text_step, without_lf}
 use Rattle.h5_interface.specs.declared.sink.TreeSink.{Ghosts}
 use Rattle.h5_meaning.specs.Sound.{AllStand, Fits, HasLists, Sound, Stands}
 use Rattle.h5_stack.specs.Lists.{Lists}
@@ -100,11 +100,11 @@ step_few choices NullCharacter w = turns_few choices NullTurn (taken w)
 step_few choices EndOfFile w = turns_few choices EofTurn (taken w)
 step_few choices (ParseErrorIs m) w = omega arith
 
-pub answered : {H : Type 0} (choices : SinkChoices) (node : H → ℕ) (t : TokenText) (old new : Building) (taken : Taken H) → old.view.failed ≡ false → old.view.ended ≡ false → new.view ≡ moved old.view new.view.world → new.turns ≡ taken.turns
+pub answered : {H : Type 0} (choices : SinkChoices) (node : H → ℕ) (t : TokenText) (old new : Building) (taken : Taken H) → old.view.failed ≡ false → old.view.ended ≡ false → refuses_in old.view.world.mode t ≡ false → new.view ≡ moved old.view new.view.world → new.turns ≡ taken.turns
     → CameTo node (step choices t old.view.world) (is_counted t old.view.world) new.view.world old.errors new.errors taken → Answered choices t old new (reply node taken.answer)
-answered choices node t old new taken f e same n s =
+answered choices node t old new taken f e comes same n s =
     let v = old.view in
-    let r = is_taken v t f e in
+    let r = is_taken v t f e comes in
     record {
       view = same ∙ ap (moved v) s.world ∙ sym (ap (λ o. take_or_refuse choices t o v) r);
       reply = s.reply ∙ sym (ap (λ o. (tell_or_refuse choices t o v).reply) r);
@@ -113,4 +113,5 @@ answered choices node t old new taken f e same n s =
       quiet = λ h. s.quiet (sym (ap (λ o. (tell_or_refuse choices t o v).quiet) r) ∙ h);
       working = f;
       unended = e;
+      comes = comes;
     }

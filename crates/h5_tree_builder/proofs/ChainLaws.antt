@@ -27,6 +27,10 @@ use Rattle.h5_tree_builder.specs.Chains.{CameTo}
 pub ready_in_mode : (w : World) (m : InsertionMode) → w.mode ≡ m → is_before_root m ≡ false → Sound w → Fits w → IsReady w
 ready_in_mode w m e after k h = record { sound = k; lists = h.lists; root = names_root_open (situation_of w) m (names_of w) after (subst (λ x. NamesFit (situation_of w) x (names_of w)) e h.mode) }
 
+-- what a mode tells, where it is the world's
+pub fits_in_mode : (w : World) (m : InsertionMode) → w.mode ≡ m → Fits w → NamesFit (situation_of w) m (names_of w)
+fits_in_mode w m e h = subst (λ x. NamesFit (situation_of w) x (names_of w)) e h.mode
+
 -- fewer elements are open than a vector has room for
 pub few_open : {S H : Type 0} (sees : S → Seen) (node : H → ℕ) (sink : S) (state : State H) → length (world sees node sink state).stack < 2 ^ 63
 unfolding world

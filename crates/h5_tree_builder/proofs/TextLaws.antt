@@ -6,7 +6,7 @@ use Rattle.h5_interface.specs.SinkChoices.{SinkChoices}
 use Rattle.h5_stack.specs.FormattingNames.{AllFormatting}
 use Rattle.h5_types.specs.TurnText.{TextTurn, TurnText}
 use Rattle.h5_types.specs.declared.modes.InsertionMode.{InsertionMode}
-use Rattle.h5_types.specs.declared.modes.InsertionMode.TheVariants.{Initial, BeforeHtml, BeforeHead, InHead, AfterHead, InBody, InTable, InTableText, InCaption, InColumnGroup, InTableBody, InRow, InCell, AfterBody, AfterAfterBody}
+use Rattle.h5_types.specs.declared.modes.InsertionMode.TheVariants.{Initial, BeforeHtml, BeforeHead, InHead, InHeadNoscript, AfterHead, InBody, Text, InTable, InTableText, InCaption, InColumnGroup, InTableBody, InRow, InCell, AfterBody, AfterAfterBody}
 use Rattle.h5_types.specs.declared.modes.SplitStatus.{SplitStatus}
 use Rattle.h5_types.specs.declared.modes.SplitStatus.TheVariants.{NotSplit, Whitespace, NotWhitespace}
 use Rattle.h5_meaning.specs.Blanks.{blanks_of, is_blank, rest_of}
@@ -18,13 +18,14 @@ use Rattle.h5_meaning.specs.BeforeHtml.{before_html_else}
 use Rattle.h5_meaning.specs.InBody.{in_body}
 use Rattle.h5_meaning.specs.InColumnGroup.{close_the_column_group, in_column_group_else}
 use Rattle.h5_meaning.specs.InHead.{in_head_else}
+use Rattle.h5_meaning.specs.InHeadNoscript.{in_head_noscript_else}
 use Rattle.h5_meaning.specs.InTable.{in_table_text_or_null, keeps_text}
 use Rattle.h5_meaning.specs.InitialMode.{initial_else}
 use Rattle.h5_meaning.specs.Modes.{rule}
 use Rattle.h5_meaning.specs.Rows.{Again, AppendPendingText, AppendText, IsDone, Pop, Row, SaveMode, changed_by, choose, ignored, next_mode, row}
 use Rattle.h5_meaning.specs.Settle.{Settled, settle, then_turns}
 use Rattle.h5_meaning.specs.Shared.{current_is, in_body_text}
-use Rattle.h5_meaning.specs.Text.{IsRun, after_row, all_blanks, by_else, closes_column_group, fostered_text, text_in_column_group, text_in_table, text_in_table_text, dropped, in_next, if_any, split, text_after_body, text_after_head, text_any, text_before_head, text_before_html, text_in, text_in_body, text_in_head, text_initial, text_rule, is_quiet_text}
+use Rattle.h5_meaning.specs.Text.{IsRun, after_row, all_blanks, by_else, closes_column_group, fostered_text, text_in_column_group, text_in_table, text_in_table_text, dropped, in_next, if_any, split, text_after_body, text_after_head, text_any, text_before_head, text_before_html, text_in, text_in_body, text_in_head, text_in_head_noscript, text_initial, text_rule, is_quiet_text}
 use Rattle.h5_meaning.specs.Run.{is_empty_text, text_step}
 use Rattle.h5_meaning.specs.Tables.{foster}
 use Rattle.h5_meaning.specs.World.{World}
@@ -98,6 +99,13 @@ module _ (choices : SinkChoices) (s : SplitStatus) (b : ℕ) (t : List ℕ) wher
   kept_meets : Meets InTableText
   kept_meets w e = ends InTableText w (row (AppendPendingText (b ∷ t) ∷ []) IsDone) e refl refl
 
+  -- in a text it is appended
+  text_meets : Meets Text
+  text_meets w e = ends Text w (row (AppendText (b ∷ t) ∷ []) IsDone) e refl refl
+
+  text_quiet : (w : World) → w.mode ≡ Text → (settle choices T w).quiet ≡ true
+  text_quiet w e = ap (λ (x : Settled). x.quiet) (settle-text-row choices T w Text (row (AppendText (b ∷ t) ∷ []) IsDone) refl e refl)
+
   -- in a table, a row group and a row: kept back in two turns, or fostered in one
   table_meets : (m : InsertionMode) → ((w : World) → rule m T w ≡ in_table_text_or_null T w) → ((w : World) → text_in m choices (b ∷ t) w ≡ text_in_table choices (b ∷ t) w) → Meets m
   unfolding in_table_text_or_null text_in_table text_in_body
@@ -121,6 +129,7 @@ module _ (choices : SinkChoices) (s : SplitStatus) (b : ℕ) (t : List ℕ) wher
   run_quiet InBody q = by_body_quiet InBody (λ v. refl)
   run_quiet InCaption q = by_body_quiet InCaption (λ v. refl)
   run_quiet InCell q = by_body_quiet InCell (λ v. refl)
+  run_quiet Text q = text_quiet
   run_quiet _ q = absurd (cc)
 
 module _ (choices : SinkChoices) (b : ℕ) (t : List ℕ) where
@@ -147,11 +156,13 @@ module _ (choices : SinkChoices) (b : ℕ) (t : List ℕ) where
 
   -- blanks that are dropped, appended, and put into the body
   blank_run : (m : InsertionMode) → rest_of (b ∷ t) ≡ [] → Meets choices Whitespace b t m
-  unfolding text_initial text_before_html text_before_head text_in_head text_after_head text_after_body text_in_body
+  unfolding text_initial text_before_html text_before_head text_in_head text_in_head_noscript text_after_head text_after_body text_in_body
   blank_run Initial r = blank_meets choices Whitespace b t Initial dropped (by_else choices initial_else (text_before_html choices)) (λ w. row [] IsDone) r (λ w. refl) (λ w. refl) (λ w. refl) (λ w. refl)
   blank_run BeforeHtml r = blank_meets choices Whitespace b t BeforeHtml dropped (by_else choices before_html_else (text_before_head choices)) (λ w. row [] IsDone) r (λ w. refl) (λ w. refl) (λ w. refl) (λ w. refl)
   blank_run BeforeHead r = blank_meets choices Whitespace b t BeforeHead dropped (by_else choices before_head_else (text_in_head choices)) (λ w. row [] IsDone) r (λ w. refl) (λ w. refl) (λ w. refl) (λ w. refl)
   blank_run InHead r = blank_meets choices Whitespace b t InHead append_text (by_else choices in_head_else (text_after_head choices)) (λ w. row (AppendText (b ∷ t) ∷ []) IsDone) r (λ w. refl) (λ w. refl) (λ w. refl) (λ w. refl)
+  blank_run InHeadNoscript r = blank_meets choices Whitespace b t InHeadNoscript append_text (by_else choices in_head_noscript_else (text_in_head choices)) (λ w. row (AppendText (b ∷ t) ∷ []) IsDone) r (λ w. refl) (λ w. refl) (λ w. refl) (λ w. refl)
+  blank_run Text r = text_meets choices Whitespace b t
   blank_run AfterHead r = blank_meets choices Whitespace b t AfterHead append_text (by_else choices after_head_else (text_in_body choices)) (λ w. row (AppendText (b ∷ t) ∷ []) IsDone) r (λ w. refl) (λ w. refl) (λ w. refl) (λ w. refl)
   blank_run InBody r = whole_in_body choices Whitespace b t (λ w. refl)
   blank_run InTable r = table_meets choices Whitespace b t InTable (λ w. refl) (λ w. refl)
@@ -175,6 +186,10 @@ module _ (choices : SinkChoices) (b : ℕ) (t : List ℕ) where
   solid_in_head : is_blank b ≡ false → Meets choices NotWhitespace b t InHead
   unfolding text_in_head
   solid_in_head n = solid_meets choices NotWhitespace b t InHead AfterHead append_text in_head_else n (λ w. refl) (λ w. refl) (solid_after_head n) (λ w. refl)
+
+  solid_in_head_noscript : is_blank b ≡ false → Meets choices NotWhitespace b t InHeadNoscript
+  unfolding text_in_head_noscript
+  solid_in_head_noscript n = solid_meets choices NotWhitespace b t InHeadNoscript InHead append_text in_head_noscript_else n (λ w. refl) (λ w. refl) (solid_in_head n) (λ w. refl)
 
   solid_before_head : is_blank b ≡ false → Meets choices NotWhitespace b t BeforeHead
   unfolding text_before_head
@@ -218,6 +233,8 @@ module _ (choices : SinkChoices) (b : ℕ) (t : List ℕ) where
   solid_run BeforeHtml n s = solid_before_html n
   solid_run BeforeHead n s = solid_before_head n
   solid_run InHead n s = solid_in_head n
+  solid_run InHeadNoscript n s = solid_in_head_noscript n
+  solid_run Text n s = text_meets choices NotWhitespace b t
   solid_run AfterHead n s = solid_after_head n
   solid_run InBody n s = whole_in_body choices NotWhitespace b t (λ w. refl)
   solid_run InTable n s = table_meets choices NotWhitespace b t InTable (λ w. refl) (λ w. refl)
@@ -236,6 +253,8 @@ module _ (choices : SinkChoices) (b : ℕ) (t : List ℕ) where
   whole_run BeforeHtml n = absurd (cc)
   whole_run BeforeHead n = absurd (cc)
   whole_run InHead n = absurd (cc)
+  whole_run InHeadNoscript n = absurd (cc)
+  whole_run Text n = text_meets choices NotSplit b t
   whole_run AfterHead n = absurd (cc)
   whole_run InBody n = whole_in_body choices NotSplit b t (λ w. refl)
   whole_run InTable n = table_meets choices NotSplit b t InTable (λ w. refl) (λ w. refl)
@@ -273,8 +292,9 @@ run_then_rest choices [] n w v k p some f = absurd (some refl)
 run_then_rest choices (b ∷ t) zero w v k p some f = absurd (omega arith)
 run_then_rest choices (b ∷ t) (suc n) w v k p some f = then_rest choices b (take n t) (drop n t) w v k f ∙ ap (λ z. text_rule choices (b ∷ z) w) (take-append-drop n t)
 
--- a text in the body, a caption and a cell leaves the mode
+-- a text in the body, a caption, a cell and a text leaves the mode
 pub mode_stays : (choices : SinkChoices) (run : List ℕ) (w v : World) → is_quiet_text w.mode ≡ true → v ≡ text_any choices run w → is_quiet_text v.mode ≡ true
+unfolding append_text
 mode_stays choices [] w v q f = ap (λ (x : World). is_quiet_text x.mode) f ∙ q
 mode_stays choices (b ∷ t) w v q f = ap (λ (x : World). is_quiet_text x.mode) f ∙ stays w.mode refl q
   where
@@ -285,6 +305,7 @@ mode_stays choices (b ∷ t) w v q f = ap (λ (x : World). is_quiet_text x.mode)
     stays InBody e k = by_body (by_mode choices InBody (b ∷ t) w e)
     stays InCaption e k = by_body (by_mode choices InCaption (b ∷ t) w e)
     stays InCell e k = by_body (by_mode choices InCell (b ∷ t) w e)
+    stays Text e k = ap (λ (x : World). is_quiet_text x.mode) (by_mode choices Text (b ∷ t) w e) ∙ q
     stays _ e k = absurd (cc)
 
 -- what a text came to

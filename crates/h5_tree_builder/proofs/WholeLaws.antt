@@ -9,7 +9,7 @@ use Rattle.h5_stack.specs.FormattingNames.{AllFormatting}
 use Rattle.h5_meaning.specs.Run.{CountsTurns, Took, Turns, Untold, View, WasRefused, after_all, after_token, all_quiet, is_counted, is_quiet, last_turns, later_turns, replies, reply_to, run, step, take_or_refuse, tell, tell_or_refuse, told_all, told_of}
 use Rattle.h5_meaning.specs.Settle.{Settled}
 use Rattle.h5_meaning.proofs.RunLaws.{cuts_agree, is_taken}
-use Rattle.h5_plain.specs.Rebuilding.{AllContinue, DocumentStands, IsStart}
+use Rattle.h5_plain.specs.Rebuilding.{DocumentStands, IsStart}
 use Rattle.h5_plain.proofs.WholeLaws.{rebuilds_all}
 use Rattle.h5_tree_builder.specs.Builder.{Answered, Building, RanAll, Refused, RebuildsPlain, Replied}
 
@@ -22,7 +22,7 @@ pub replied : (choices : SinkChoices) (t : TokenText) (old new : Building) (answ
 replied choices t old new answer a = record {
   view = a.view;
   told = a.reply;
-  turns = subst (λ o. CountsTurns (tell_or_refuse choices t o old.view).turns old.turns new.turns) (sym (is_taken old.view t a.working a.unended))
+  turns = subst (λ o. CountsTurns (tell_or_refuse choices t o old.view).turns old.turns new.turns) (sym (is_taken old.view t a.working a.unended a.comes))
       (turns_told (is_counted t old.view.world) (step choices t old.view.world) old.turns new.turns a.turns);
   quiet = a.quiet;
 }
@@ -110,6 +110,6 @@ rebuilds_plain choices ts old new answers r d seen holds same j =
     record {
       stands = subst (λ (v : View). DocumentStands v.world.forest d) (sym r.view) all.stands;
       quirks = ap (λ (v : View). v.world.seen_quirks) r.view ∙ all.quirks;
-      continue = subst AllContinue (sym r.told) all.continue;
+      told = r.told ∙ all.answers;
       quiet = r.quiet all.quiet;
     }

@@ -1,5 +1,5 @@
 -- What contracts see of a tree builder.
-use Rattle.std.specs.Prelude.{◌≡◌, ◌≤◌, ⊤, ℕ, ◌+◌, Bool, true, false, not, List, [], ◌∷◌, length, None, Some, Result, Ok, Err}
+use Rattle.std.specs.Prelude.{◌≡◌, ◌≤◌, ⊤, ℕ, ◌+◌, Bool, true, false, not, List, [], ◌∷◌, length, map, None, Some, Result, Ok, Err}
 use Rattle.h5_names.specs.AttributeText.{is_same_text}
 use Rattle.h5_names.specs.declared.qualified.QualName.{QualName}
 use Rattle.h5_token.specs.Reply.{Reply, reply}
@@ -17,10 +17,10 @@ use Rattle.h5_types.specs.declared.options.TreeBuilderOpts.{TreeBuilderOpts}
 use Rattle.h5_meaning.specs.Changes.{pop}
 use Rattle.h5_token.specs.Joins.{join}
 use Rattle.h5_meaning.specs.Cuts.{spread}
-use Rattle.h5_meaning.specs.Run.{CountsTurns, View, WasRefused, after_all, after_token, all_quiet, is_counted, is_quiet, last_turns, refusal, replies, reply_to, step, told_all, told_of}
+use Rattle.h5_meaning.specs.Run.{CountsTurns, View, WasRefused, after_all, after_token, all_quiet, is_counted, is_quiet, last_turns, refusal, refuses_in, replies, reply_to, step, told_all, told_of}
 use Rattle.h5_meaning.specs.World.{World, names_of}
-use Rattle.h5_plain.specs.Plain.{PlainDocument, document_tokens}
-use Rattle.h5_plain.specs.Rebuilding.{AllContinue, DocumentStands, HoldsDocument}
+use Rattle.h5_plain.specs.Plain.{PlainDocument, document_tokens, plain_reply}
+use Rattle.h5_plain.specs.Rebuilding.{DocumentStands, HoldsDocument}
 use Rattle.h5_tree_builder.specs.Chains.{is_free}
 
 -- the view, the turns of the token that came last, and the sink's error mark
@@ -85,6 +85,7 @@ pub record Answered (choices : SinkChoices) (t : TokenText) (old new : Building)
   pub quiet : is_quiet choices t old.view ≡ true → new.errors ≡ old.errors
   pub working : old.view.failed ≡ false
   pub unended : old.view.ended ≡ false
+  pub comes : refuses_in old.view.world.mode t ≡ false
 
 -- the refusal that is due, and nothing has changed
 pub record Refused (t : TokenText) (old new : Building) (fault : BuildFault) : Type 0 where
@@ -95,6 +96,7 @@ pub record Refused (t : TokenText) (old new : Building) (fault : BuildFault) : T
 pub record OutOfMemory (t : TokenText) (old new : Building) : Type 0 where
   pub working : old.view.failed ≡ false
   pub unended : old.view.ended ≡ false
+  pub comes : refuses_in old.view.world.mode t ≡ false
   pub failed : new.view.failed ≡ true
   pub still_unended : new.view.ended ≡ false
   pub turns : new.turns ≡ old.turns
@@ -131,16 +133,16 @@ pub record RanAll (choices : SinkChoices) (ts : List TokenText) (old new : Build
   pub joined : new.view ≡ after_all choices (join ts) old.view
   pub spread : answers ≡ spread ts (replies choices (join ts) old.view)
 
--- a plain document was rebuilt: it stands in the forest, in no quirks, every answer was "go on", and no parse
--- error was told
-pub record Rebuilt (d : PlainDocument) (old new : Building) (answers : List Reply) : Type 0 where
+-- a plain document was rebuilt: it stands in the forest, in no quirks, the answers were those to a plain document's
+-- tokens, and no parse error was told
+pub record Rebuilt (ts : List TokenText) (d : PlainDocument) (old new : Building) (answers : List Reply) : Type 0 where
   pub stands : DocumentStands new.view.world.forest d
   pub quirks : new.view.world.seen_quirks ≡ NoQuirks
-  pub continue : AllContinue answers
+  pub told : answers ≡ map plain_reply ts
   pub quiet : new.errors ≡ old.errors
 
 -- so it is where the tokens of a plain document, however its texts are cut, come to a builder that took
 -- nothing yet, with the default options, over a sink that holds its document alone
 abbrev pub RebuildsPlain : List TokenText → (old new : Building) → List Reply → Type 0
 RebuildsPlain ts old new answers =
-    (d : PlainDocument) (seen : Seen) → HoldsDocument seen.forest → old ≡ first_building seen default_options → join ts ≡ document_tokens d → Rebuilt d old new answers
+    (d : PlainDocument) (seen : Seen) → HoldsDocument seen.forest → old ≡ first_building seen default_options → join ts ≡ document_tokens d → Rebuilt ts d old new answers

@@ -8,8 +8,9 @@ ghost use Rattle.h5_tree_builder.specs.Builder.{IsKeptWhole, Takes, ended_view, 
 use super::end::pop_all;
 use super::first::first_state;
 use super::process_token::{note_line, take_token};
+use super::refusal::refuses_in;
 use h5_interface::TreeSink;
-use h5_state::State;
+use h5_state::{State, current_mode};
 use h5_token::{BuildFault, Token, TokenSinkResult};
 use h5_types::TreeBuilderOpts;
 use std::alloc::Global;
@@ -71,8 +72,8 @@ impl<Handle: Drop, Sink: TreeSink<Handle = Handle> + Drop> TreeBuilder<Handle, S
     /// one that isn't open, and at most three entries are alike. The open elements fit the insertion mode:
     /// in a row a `tr` is open, in a cell a `td` or a `th`, and what else each mode tells of them.
     ///
-    /// After want of memory it answers `Failed`, after the end `AfterEnd`, and then nothing has changed, in
-    /// the sink neither. Where memory is refused now it answers `Memory`, and the turns stay those of the
+    /// After want of memory it answers `Failed`, after the end `AfterEnd`, and to a start tag, a comment or a null in the
+    /// mode "text" `NotInText`; and then nothing has changed, in the sink neither. Where memory is refused now it answers `Memory`, and the turns stay those of the
     /// token before.
     pub fn process_token(
         &mut self,
@@ -91,6 +92,9 @@ impl<Handle: Drop, Sink: TreeSink<Handle = Handle> + Drop> TreeBuilder<Handle, S
         }
         if self.ended {
             return Err(BuildFault::AfterEnd);
+        }
+        if refuses_in(current_mode(&self.sink, &self.state), &token) {
+            return Err(BuildFault::NotInText);
         }
         note_line(&mut self.sink, &self.state, line_number);
         self.failed = true;

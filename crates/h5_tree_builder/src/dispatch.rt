@@ -11,12 +11,14 @@ use super::taken::Taken;
 use h5_interface::TreeSink;
 use h5_rules_body::{step_after_after_body, step_after_body, step_in_body};
 use h5_rules_head::{
-    step_after_head, step_before_head, step_before_html, step_in_head, step_initial,
+    step_after_head, step_before_head, step_before_html, step_in_head, step_in_head_noscript,
+    step_initial,
 };
 use h5_rules_tables::{
     step_in_caption, step_in_cell, step_in_column_group, step_in_row, step_in_table,
     step_in_table_body, step_in_table_text,
 };
+use h5_rules_text::step_text_mode;
 use h5_state::{State, Turn, current_mode, set_mode, tell_error, unexpected};
 use h5_token::{TagKind, TokenSinkResult};
 use h5_types::{InsertionMode, ProcessResult, Token};
@@ -33,8 +35,10 @@ fn step<S: TreeSink>(sink: &mut S, state: &mut State<S::Handle>, token: Token) -
         InsertionMode::BeforeHtml => step_before_html(sink, state, token),
         InsertionMode::BeforeHead => step_before_head(sink, state, token),
         InsertionMode::InHead => step_in_head(sink, state, token),
+        InsertionMode::InHeadNoscript => step_in_head_noscript(sink, state, token),
         InsertionMode::AfterHead => step_after_head(sink, state, token),
         InsertionMode::InBody => step_in_body(sink, state, token),
+        InsertionMode::Text => step_text_mode(sink, state, token),
         InsertionMode::InTable => step_in_table(sink, state, token),
         InsertionMode::InTableText => step_in_table_text(sink, state, token),
         InsertionMode::InCaption => step_in_caption(sink, state, token),

@@ -11,6 +11,7 @@ mod first;
 mod foreign;
 mod open_elems;
 mod process_token;
+mod refusal;
 mod replies;
 mod taken;
 mod text;

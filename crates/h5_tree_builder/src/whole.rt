@@ -30,16 +30,16 @@ impl<Handle: Drop, Sink: TreeSink<Handle = Handle> + Drop> TreeBuilder<Handle, S
     }
 
     /// Takes the tokens of a list in turn, each with the line in which it began. It gives one reply for
-    /// each: an answer, or the refusal of a token after the end.
+    /// each: an answer, or the refusal of a token after the end, or of one that does not come in a text.
     ///
     /// However a run of text is cut into tokens, forest, quirks mode and the replies to all that is no text
     /// are the same, and each piece of the run has the run's reply.
     ///
     /// The tokens of a plain document rebuild exactly that document, in a new builder with the default
     /// options over a sink that holds its document alone: in no quirks, without a parse error, and with no
-    /// answer but `Continue`. So far the plain documents are those with an empty head and a body of `div`,
-    /// `p`, headings, lists, tables with row groups, rows and cells, texts, `br`, `b`, `i`, `em`,
-    /// `code` and `a`.
+    /// answer but `Continue`, and `RawData` to the start tag of the title. A plain document has a head, which is empty
+    /// or holds a title, and a body of `div`, `p`, headings, lists, tables with row groups, rows and cells, texts,
+    /// `br`, `b`, `i`, `em`, `code` and `a`.
     ///
     /// It answers `Failed` after want of memory, and then nothing has changed. Where memory is refused now
     /// it answers `Memory`, and the tokens before that have been taken.

@@ -1,6 +1,6 @@
 //! Texts that come in pieces: the trees are those of the whole texts.
 use super::parser::new_parser;
-use super::rows::{BODIES, PAGES, TABLES, TREES, page_of};
+use super::rows::{BODIES, FORMS, PAGES, TABLES, TEXTS, TREES, page_of};
 use super::running::prints;
 use h5_arena::Arena;
 use h5_serialize::{SerializeFault, SerializeOpts, serialize};
@@ -8,7 +8,8 @@ use std::alloc::{AllocError, Global};
 use std::fmt::Write;
 use std::test::Fail;
 
-fn html_of(alloc: Global, arena: &Arena) -> Result<Vec<u8>, SerializeFault> {
+/// The HTML of what an arena holds.
+pub fn html_of(alloc: Global, arena: &Arena) -> Result<Vec<u8>, SerializeFault> {
     let node = arena.at(arena.document());
     serialize(alloc, Vec::new(alloc), &node, SerializeOpts::default())
 }
@@ -54,6 +55,26 @@ fn tables_in_single_characters(rt: HostRuntime) -> Result<(), Fail> {
     for (page, body) in TABLES {
         let found = html_of_characters(alloc, page)?;
         assert_eq!(rt; found.as_slice(), page_of(alloc, body)?.as_bytes());
+    }
+    Ok(())
+}
+
+#[test]
+fn forms_in_single_characters(rt: HostRuntime) -> Result<(), Fail> {
+    let alloc = rt.alloc();
+    for (page, body) in FORMS {
+        let found = html_of_characters(alloc, page)?;
+        assert_eq!(rt; found.as_slice(), page_of(alloc, body)?.as_bytes());
+    }
+    Ok(())
+}
+
+#[test]
+fn raw_texts_in_single_characters(rt: HostRuntime) -> Result<(), Fail> {
+    let alloc = rt.alloc();
+    for (page, html) in TEXTS {
+        let found = html_of_characters(alloc, page)?;
+        assert_eq!(rt; found.as_slice(), html.as_bytes());
     }
     Ok(())
 }

@@ -13,3 +13,5 @@ mod parser;
 mod rows;
 #[cfg(test)]
 mod running;
+#[cfg(test)]
+mod scripting;

@@ -236,6 +236,98 @@ pub const FORMS: [(&str, &str); 24] = [
     ("<input type=hidden><img>x", "<input type=\"hidden\"><img>x"),
 ];
 
+/// Texts with elements whose content is text, and with what stands in the head, and their pages.
+pub const TEXTS: [(&str, &str); 22] = [
+    (
+        "<title>a<b>&amp;</title>x",
+        "<html><head><title>a&lt;b&gt;&amp;</title></head><body>x</body></html>",
+    ),
+    (
+        "<noscript><title>t</title>x",
+        "<html><head><noscript><title>t</title>x</noscript></head><body></body></html>",
+    ),
+    (
+        "</head><title>t</title>x",
+        "<html><head><title>t</title></head><body>x</body></html>",
+    ),
+    (
+        "<head></head><script>1</script> <style>2</style>x",
+        "<html><head><script>1</script><style>2</style></head> <body>x</body></html>",
+    ),
+    (
+        "<head></head><link>x",
+        "<html><head><link></head><body>x</body></html>",
+    ),
+    (
+        "<head><meta a><link/><base>x",
+        "<html><head><meta a=\"\"><link><base></head><body>x</body></html>",
+    ),
+    (
+        "<style><p></style>x",
+        "<html><head><style><p></style></head><body>x</body></html>",
+    ),
+    (
+        "<noframes><p></noframes>x",
+        "<html><head><noframes><p></noframes></head><body>x</body></html>",
+    ),
+    (
+        "<noscript> <link><!--a--></noscript>x",
+        "<html><head><noscript> <link><!--a--></noscript></head><body>x</body></html>",
+    ),
+    (
+        "<noscript><p>x",
+        "<html><head><noscript><p>x</noscript></head><body></body></html>",
+    ),
+    (
+        "<script>1<2</p></script>x",
+        "<html><head><script>1<2</p></script></head><body>x</body></html>",
+    ),
+    (
+        "<script>a",
+        "<html><head><script>a</script></head><body></body></html>",
+    ),
+    (
+        "<p><script>a</script>b",
+        "<html><head></head><body><p><script>a</script>b</p></body></html>",
+    ),
+    (
+        "<p><noscript>a</noscript>b",
+        "<html><head></head><body><p><noscript>a</noscript>b</p></body></html>",
+    ),
+    (
+        "<p><title>a</title>b",
+        "<html><head></head><body><p><title>a</title>b</p></body></html>",
+    ),
+    (
+        "<b><textarea>\nx<i></textarea>y",
+        "<html><head></head><body><b><textarea>x&lt;i&gt;</textarea>y</b></body></html>",
+    ),
+    (
+        "<p>a<xmp><i></xmp>b",
+        "<html><head></head><body><p>a</p><xmp><i></xmp>b</body></html>",
+    ),
+    (
+        "<p><iframe><i></iframe><noembed><i></noembed>b",
+        "<html><head></head><body><p><iframe><i></iframe><noembed><i></noembed>b</p></body></html>",
+    ),
+    (
+        "<p>a<plaintext><i></plaintext>b",
+        "<html><head></head><body><p>a</p><plaintext><i></plaintext>b</plaintext></body></html>",
+    ),
+    (
+        "<table><style>a</style><tr><script>b</script><td>c",
+        "<html><head></head><body><table><style>a</style><tbody><tr><script>b</script><td>c</td></tr></tbody></table></body></html>",
+    ),
+    (
+        "<table><title>a</title><tr>",
+        "<html><head></head><body><title>a</title><table><tbody><tr></tr></tbody></table></body></html>",
+    ),
+    (
+        "<select><textarea>a</textarea><script>b</script>",
+        "<html><head></head><body><select><textarea>a</textarea><script>b</script></select></body></html>",
+    ),
+];
+
 /// The HTML of a page whose body holds this.
 pub fn page_of(alloc: Global, body: &str) -> Result<String, AllocError> {
     format!(in alloc; "<html><head></head><body>{body}</body></html>")
@@ -309,6 +401,14 @@ fn bodies_of_texts_with_forms_and_lists(rt: HostRuntime) -> Result<(), Fail> {
     for (input, body) in FORMS {
         let page = page_of(alloc, body)?;
         prints(&rt, alloc, "html", input, page.as_str())?;
+    }
+    Ok(())
+}
+
+#[test]
+fn pages_of_texts_with_raw_texts(rt: HostRuntime) -> Result<(), Fail> {
+    for (input, output) in TEXTS {
+        prints(&rt, rt.alloc(), "html", input, output)?;
     }
     Ok(())
 }

@@ -10,7 +10,7 @@ invariant-pieces g l =
     let first = (building g.Sink.TreeSink.sees g.Sink.TreeSink.node l.fn.tokenizer.sink).view in
     record {
       reading : l.tokenizer.reader.stage ≡ Reading;
-      works : IsWorking now;
+      works : IsWorking l.tokenizer.reader.place now;
       advances : Advances g.Sink.TreeSink.choices l.fn.tokenizer.reader.place first (l.fn.tokenizer.reader.held ++ l.fn.queue) l.tokenizer.reader.place now (l.tokenizer.reader.held ++ l.queue);
     }
 

@@ -5,6 +5,7 @@ use Rattle.h5_meaning.specs.Changes.{insert_and_pop_element, new_element, owned}
 use Rattle.h5_meaning.specs.FormOwner.{associates, form_owner}
 use Rattle.h5_meaning.specs.Place.{IsPlaceIn, place}
 use Rattle.h5_meaning.proofs.PlaceLaws.{current_place_is_there}
+use Rattle.h5_state.specs.Places.{place_of}
 use Rattle.h5_state.specs.View.{world}
 use Rattle.h5_state.proofs.StackLaws.{seen_world}
 use Rattle.h5_state.proofs.StepLaws.{sound_rearranged}
@@ -30,8 +31,9 @@ returns g c =
     record {
       world = ap (λ s. seen_world w s w.stack)
           (c.in_ok-insert_new_element.ensures.done
-          ∙ ap (λ p. changed (new_element choices p name attrs flag (associates choices fresh p (option_map node c.form_owner-owner.result))) seen) c.current_place-place.ensures
-          ∙ ap (λ o. changed (new_element choices (place w) name attrs flag (associates choices fresh (place w) o)) seen) (c.form_owner-owner.ensures.owner ∙ ap (λ xs. form_owner c.args.local (attribute_texts xs) w) c.as_slice.ensures.value)
+          ∙ ap (λ m. changed (new_element choices (place_of node c.current_place-place.result) name attrs flag m) seen) (c.of_owner-notice.ensures.marking node choices fresh (place_of node c.current_place-place.result))
+          ∙ ap (λ p. changed (new_element choices p name attrs flag (associates choices fresh p (option_map node c.form_owner.result))) seen) c.current_place-place.ensures
+          ∙ ap (λ o. changed (new_element choices (place w) name attrs flag (associates choices fresh (place w) o)) seen) (c.form_owner.ensures.owner ∙ ap (λ xs. form_owner c.args.local (attribute_texts xs) w) c.as_slice.ensures.value)
           ∙ ap (λ n. changed (new_element choices (place w) n attrs flag (owned choices c.args.local attrs w)) seen) c.html_qual_name-name.ensures);
       quiet = c.insert_new_element.ensures.quiet;
       sound = sound_rearranged g.S.TreeSink _ _ _ c.requires c.insert_new_element.ensures.rearranged;

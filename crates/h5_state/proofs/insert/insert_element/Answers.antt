@@ -4,6 +4,7 @@ use Rattle.h5_meaning.specs.Changes.{insert_element, push_new}
 use Rattle.h5_meaning.specs.FormOwner.{associates, form_owner}
 use Rattle.h5_meaning.specs.Place.{IsPlaceIn, place}
 use Rattle.h5_meaning.proofs.PlaceLaws.{current_place_is_there, first_place}
+use Rattle.h5_state.specs.Notices.{marking_of}
 use Rattle.h5_state.specs.Places.{place_of}
 use Rattle.h5_state.specs.View.{world}
 use Rattle.h5_state.proofs.PutLaws.{onok_then}
@@ -28,12 +29,14 @@ returns g c =
     let flag = c.args.had_duplicate_attributes in
     let fresh = choices.fresh w.forest in
     let p = place_of g.S.TreeSink.node c.current_place-place.result in
-    let owner = option_map g.S.TreeSink.node c.form_owner-owner.result in
+    let node = g.S.TreeSink.node in
+    let owner = option_map node c.form_owner.result in
     record {
-      world = onok_then c.push_at.result (world g.S.TreeSink.sees g.S.TreeSink.node c.push_at.new.sink c.push_at.new.state) (push_new choices p c.args.local attrs flag (associates choices fresh p owner) w) (insert_element choices c.args.local attrs flag w) c.push_at.ensures.done
-          (ap (λ p. push_new choices p c.args.local attrs flag (associates choices fresh p owner) w) c.current_place-place.ensures
+      world = onok_then c.push_at.result (world g.S.TreeSink.sees node c.push_at.new.sink c.push_at.new.state) (push_new choices p c.args.local attrs flag (marking_of node choices c.of_owner-notice.result fresh p) w) (insert_element choices c.args.local attrs flag w) c.push_at.ensures.done
+          (ap (λ m. push_new choices p c.args.local attrs flag m w) (c.of_owner-notice.ensures.marking node choices fresh p)
+          ∙ ap (λ p. push_new choices p c.args.local attrs flag (associates choices fresh p owner) w) c.current_place-place.ensures
           ∙ ap (λ o. push_new choices (place w) c.args.local attrs flag (associates choices fresh (place w) o) w)
-          (c.form_owner-owner.ensures.owner ∙ ap (λ xs. form_owner c.args.local (attribute_texts xs) w) c.as_slice.ensures.value));
+          (c.form_owner.ensures.owner ∙ ap (λ xs. form_owner c.args.local (attribute_texts xs) w) c.as_slice.ensures.value));
       quiet = c.push_at.ensures.quiet;
       sound = c.push_at.ensures.sound;
     }

@@ -1,13 +1,13 @@
-use Rattle.std.proofs.Common.{◌≡◌, ◌∷◌, reverse, map, option_map, ap, sym, subst, ◌∙◌}
+use Rattle.std.proofs.Common.{◌≡◌, ◌∷◌, reverse, map, ap, sym, subst, ◌∙◌}
 use Rattle.h5_names.specs.AttributeText.{attribute_texts}
 use Rattle.h5_interface.specs.Seen.{Seen, changed}
 use Rattle.h5_meaning.specs.Changes.{new_element, push_new}
-use Rattle.h5_meaning.specs.FormOwner.{associates}
 use Rattle.h5_meaning.specs.Sound.{AllStand}
 use Rattle.h5_meaning.specs.World.{name_in, names_of}
 use Rattle.h5_stack.specs.FormattingNames.{html_name}
 use Rattle.h5_meaning.proofs.NameLaws.{names_pushed}
 use Rattle.h5_meaning.proofs.PlaceLaws.{all_inserted}
+use Rattle.h5_state.specs.Notices.{marking_of}
 use Rattle.h5_state.specs.Places.{place_of}
 use Rattle.h5_state.specs.Summaries.{summaries, summary_of}
 use Rattle.h5_state.specs.View.{open_node, world}
@@ -41,7 +41,7 @@ returns-clause-done g c =
     let attrs = attribute_texts c.args.attrs.items in
     let flag = c.args.had_duplicate_attributes in
     let p = place_of g.S.TreeSink.node c.args.place.now in
-    let marks = associates g.S.TreeSink.choices (g.S.TreeSink.choices.fresh seen.forest) p (option_map g.S.TreeSink.node c.args.owner) in
+    let marks = marking_of g.S.TreeSink.node g.S.TreeSink.choices c.args.notice (g.S.TreeSink.choices.fresh seen.forest) p in
     same_world w (g.S.TreeSink.sees c.insert_new_element.new.sink) (changed (new_element g.S.TreeSink.choices p (html_name c.args.local) attrs flag marks) seen) _ _
     (c.in_ok-handle.ensures.done ∙ ap (λ name. changed (new_element g.S.TreeSink.choices p name attrs flag marks) seen) c.html_qual_name-name.ensures)
     (seen_pushed node _ _ _ c.in_ok-push.ensures.items ∙ ap (λ n. n ∷ reverse (map node c.args.state.now.open_elems.items)) c.in_ok-handle.ensures.handle)
@@ -56,7 +56,7 @@ returns-clause-sound g c =
     let attrs = attribute_texts c.args.attrs.items in
     let flag = c.args.had_duplicate_attributes in
     let p = place_of g.S.TreeSink.node c.args.place.now in
-    let marks = associates g.S.TreeSink.choices (g.S.TreeSink.choices.fresh seen.forest) p (option_map g.S.TreeSink.node c.args.owner) in
+    let marks = marking_of g.S.TreeSink.node g.S.TreeSink.choices c.args.notice (g.S.TreeSink.choices.fresh seen.forest) p in
     let name = c.html_qual_name-name.result in
     let stack = seen_pushed node _ _ _ c.in_ok-push.ensures.items ∙ ap (λ n. n ∷ reverse (map node c.args.state.now.open_elems.items)) c.in_ok-handle.ensures.handle in
     let done : seen_world w new_seen (reverse (map node c.push.new.self.items)) ≡ push_new g.S.TreeSink.choices p c.args.local attrs flag marks w =

@@ -1,7 +1,7 @@
 use Rattle.std.proofs.Common.{refl, sym, ◌∙◌}
-use Rattle.h5_types.specs.declared.modes.InsertionMode.TheVariants.{AfterAfterBody, AfterBody, AfterHead, BeforeHead, InBody, InCaption, InCell, InColumnGroup, InHead, InRow, InTable, InTableBody, InTableText}
+use Rattle.h5_types.specs.declared.modes.InsertionMode.TheVariants.{AfterAfterBody, AfterBody, AfterHead, BeforeHead, InBody, InCaption, InCell, InColumnGroup, InHead, InHeadNoscript, InRow, InTable, InTableBody, InTableText, Text}
 use Rattle.h5_meaning.proofs.FitsLaws.{enough_open}
-use Rattle.h5_tree_builder.proofs.ChainLaws.{ready_in_mode}
+use Rattle.h5_tree_builder.proofs.ChainLaws.{fits_in_mode, ready_in_mode}
 use Rattle.h5_tree_builder.proofs.dispatch.step.Goals as goal
 
 pub step_before_head-requires-clause-open : goal.step_before_head-requires-clause-open
@@ -12,6 +12,15 @@ step_in_head-requires-clause-open g c = record { sound = c.requires.ready.sound;
 
 pub step_after_head-requires-clause-open : goal.step_after_head-requires-clause-open
 step_after_head-requires-clause-open g c = record { sound = c.requires.ready.sound; some = enough_open _ AfterHead (sym c.current_mode.ensures ∙ c.in-AfterHead.is) refl c.requires.ready.fits }
+
+pub step_after_head-requires-clause-fits : goal.step_after_head-requires-clause-fits
+step_after_head-requires-clause-fits g c = fits_in_mode _ AfterHead (sym c.current_mode.ensures ∙ c.in-AfterHead.is) c.requires.ready.fits
+
+pub step_in_head_noscript-requires-clause-open : goal.step_in_head_noscript-requires-clause-open
+step_in_head_noscript-requires-clause-open g c = record { sound = c.requires.ready.sound; some = enough_open _ InHeadNoscript (sym c.current_mode.ensures ∙ c.in-InHeadNoscript.is) refl c.requires.ready.fits }
+
+pub step_text_mode-requires-clause-open : goal.step_text_mode-requires-clause-open
+step_text_mode-requires-clause-open g c = record { sound = c.requires.ready.sound; some = enough_open _ Text (sym c.current_mode.ensures ∙ c.in-Text.is) refl c.requires.ready.fits }
 
 pub step_in_body-requires-clause-ready : goal.step_in_body-requires-clause-ready
 step_in_body-requires-clause-ready g c = ready_in_mode _ InBody (sym c.current_mode.ensures ∙ c.in-InBody.is) refl c.requires.ready.sound.sound c.requires.ready.fits

@@ -16,7 +16,7 @@ returns-clause-parses g c =
     let fed = c.feed_all.new.tokenizer in
     let closed = c.close.new.tokenizer in
     let told = g.Sink.TreeSink.told c.finish.result in
-    let works : IsWorking (building sees node first.sink).view = search rules in
+    let works : IsWorking first.reader.place (building sees node first.sink).view = search rules in
     let same : told ≡ sees closed.sink.sink = c.finish.ensures ∙ ap sees c.into_sink.ensures in
     subst (λ v. Parses k v.reader.place (view_of sees node v) (v.reader.held ++ v.waiting) told) c.self.view_is
     (parsed k first.reader.place fed.reader.place (building sees node first.sink).view (building sees node fed.sink).view (building sees node closed.sink).view

@@ -9,6 +9,6 @@ returns-clause-parses g c =
     let node = g.Sink.TreeSink.node in
     let first = c.args.self in
     let now = c.process_each.new.self in
-    let works : IsWorking (view_of sees node first) = search rules in
+    let works : IsWorking first.reader.place (view_of sees node first) = search rules in
     told_behind g.Sink.TreeSink.choices g.Sink.TreeSink.told first.reader.place now.reader.place (view_of sees node first) (view_of sees node now)
     ((first.reader.held ++ first.waiting) ++ joined (map string_bytes c.args.pieces.now)) (now.reader.held ++ now.waiting) works c.in_ok-process_each.ensures.takes c.finish.result c.finish.ensures.parses

@@ -1,0 +1,39 @@
+-- Head content after the head: what its row comes to, once the head element has left the stack again.
+use Rattle.std.proofs.Common.{◌≡◌, ◌≢◌, ◌<◌, ℕ, MatchOption, None, Option, Some, option_map, true, ap, length, refl, subst, sym, ◌∙◌, arith}
+use Rattle.h5_token.specs.TokenText.{TagText}
+use Rattle.h5_interface.specs.SinkChoices.{SinkChoices}
+use Rattle.h5_types.specs.TurnText.{TagTurn}
+use Rattle.h5_types.specs.declared.turns.ProcessResult.{ProcessResult}
+use Rattle.h5_tag_sets.specs.TagSets.{is_one_of}
+use Rattle.h5_meaning.specs.AfterHead.{removes_known, with_head}
+use Rattle.h5_meaning.specs.Changes.{push_head}
+use Rattle.h5_meaning.specs.InHead.{in_head_start_tag}
+use Rattle.h5_meaning.specs.Rows.{EndsAs, Follows, apply_all}
+use Rattle.h5_meaning.specs.Shared.{head_start_names}
+use Rattle.h5_meaning.specs.World.{World, root}
+use Rattle.h5_meaning.proofs.AfterHeadLaws.{content_row, ends_anywhere}
+use Rattle.h5_meaning.proofs.KeptLaws.{apply_append}
+use Rattle.h5_meaning.proofs.PushHeadLaws.{OnlyRoot, stack_push_head}
+
+-- where it is pushed, an element is open
+pub pushed_open : (w : World) → OnlyRoot w → 0 < length (push_head w).stack
+pushed_open w o = subst (λ s. 0 < length s) (sym (stack_push_head w o.head o.known)) (omega arith)
+
+-- the row of the head, and then the head element leaves the stack, where there is one
+pub followed : {H : Type 0} (choices : SinkChoices) (node : H → ℕ) (tag : TagText) (w u v : World) (a b : ℕ) (result : ProcessResult H) (known : Option ℕ) → is_one_of head_start_names tag.name ≡ true
+    → known ≡ w.head → u ≡ apply_all choices (in_head_start_tag tag (push_head w)).changes (push_head w) → EndsAs node (TagTurn tag) result (in_head_start_tag tag (push_head w)).ending u
+    → v ≡ apply_all choices (removes_known known) u → Follows choices node (with_head in_head_start_tag tag w) (TagTurn tag) w v a b result
+unfolding with_head
+followed choices node tag w u v a b result known name is done ends left =
+    let x = push_head w in
+    let r = in_head_start_tag tag x in
+    record {
+      world = left ∙ ap (λ o. apply_all choices (removes_known o) u) is ∙ ap (apply_all choices (removes_known w.head)) done ∙ sym (apply_append choices r.changes (removes_known w.head) x);
+      ending = ends_anywhere node (TagTurn tag) result r.ending u v (content_row tag x name).ends ends;
+      quiet = λ h. absurd (cc);
+    }
+
+-- the head element isn't the root, where there is one
+pub apart_if_known : {H : Type 0} (node : H → ℕ) (o : Option H) (w u : World) → option_map node o ≡ w.head → ((h : ℕ) → w.head ≡ Some h → h ≢ root u) → MatchOption o (Unit {0}) (λ h. node h ≢ root u)
+apart_if_known node None w u e apart = tt
+apart_if_known node (Some h) w u e apart = apart (node h) (sym e)

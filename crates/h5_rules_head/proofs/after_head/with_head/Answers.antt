@@ -1,0 +1,47 @@
+use Rattle.std.proofs.Common.{◌≡◌, ap, option_map, subst, sym, ◌∙◌}
+use Rattle.h5_token.specs.TokenText.{tag_text}
+use Rattle.h5_types.specs.TurnText.{TagTurn}
+use Rattle.h5_meaning.specs.Changes.{push_head}
+use Rattle.h5_meaning.specs.InHead.{in_head_start_tag}
+use Rattle.h5_meaning.specs.Rows.{Follows}
+use Rattle.h5_meaning.specs.Sound.{Sound}
+use Rattle.h5_meaning.specs.World.{World, root}
+use Rattle.h5_meaning.proofs.AfterHeadLaws.{head_stays_above}
+use Rattle.h5_meaning.proofs.PushHeadLaws.{only_root, sound_push_head}
+use Rattle.h5_state.specs.Steps.{errors_of, world_of}
+use Rattle.h5_rules_head.proofs.HeadLaws.{apart_if_known, followed}
+use Rattle.h5_rules_head.proofs.after_head.with_head.Goals as goal
+
+pub push_head-requires-clause-ready : goal.push_head-requires-clause-ready
+push_head-requires-clause-ready g c =
+    let w = world_of g.S.TreeSink c.args.sink.now c.args.state.now in
+    subst (λ (x : World). Sound (push_head x)) (sym c.unexpected_tag.ensures.told.world) (sound_push_head w c.requires.sound.sound (only_root w c.requires.fits))
+
+pub leave_head-requires-clause-root : goal.leave_head-requires-clause-root
+leave_head-requires-clause-root g c =
+    let law = g.S.TreeSink in
+    let tag = tag_text c.args.tag in
+    let w = world_of law c.args.sink.now c.args.state.now in
+    let x = world_of law c.unexpected_tag.new.sink c.push_head.new.state in
+    let u = world_of law c.in_head_start_tag.new.sink c.in_head_start_tag.new.state in
+    let known = c.known_head-head.ensures ∙ ap (λ (v : World). v.head) c.unexpected_tag.ensures.told.world in
+    let pushed : x ≡ push_head w = c.in_ok-push_head.ensures.world ∙ ap push_head c.unexpected_tag.ensures.told.world in
+    let f = subst (λ y. Follows law.choices law.node (in_head_start_tag tag y) (TagTurn tag) y u (errors_of law c.unexpected_tag.new.sink) (errors_of law c.in_head_start_tag.new.sink) c.in_ok-result.result) pushed c.in_ok-result.ensures.follows in
+    apart_if_known law.node c.known_head-head.result w u known
+    (λ h e. subst (λ (v : World). h ≡ root v → ⊥) (sym f.world) (head_stays_above law.choices tag w c.requires.sound.sound c.requires.fits c.requires.name h e))
+
+pub returns : goal.returns
+returns g c =
+    let law = g.S.TreeSink in
+    let tag = tag_text c.args.tag in
+    let w = world_of law c.args.sink.now c.args.state.now in
+    let x = world_of law c.unexpected_tag.new.sink c.push_head.new.state in
+    let u = world_of law c.in_head_start_tag.new.sink c.in_head_start_tag.new.state in
+    let v = world_of law c.leave_head.new.sink c.leave_head.new.state in
+    let known = c.known_head-head.ensures ∙ ap (λ (y : World). y.head) c.unexpected_tag.ensures.told.world in
+    let pushed : x ≡ push_head w = c.in_ok-push_head.ensures.world ∙ ap push_head c.unexpected_tag.ensures.told.world in
+    let f = subst (λ y. Follows law.choices law.node (in_head_start_tag tag y) (TagTurn tag) y u (errors_of law c.unexpected_tag.new.sink) (errors_of law c.in_head_start_tag.new.sink) c.in_ok-result.result) pushed c.in_ok-result.ensures.follows in
+    record {
+      follows = followed law.choices law.node tag w u v (errors_of law c.args.sink.now) (errors_of law c.leave_head.new.sink) c.in_ok-result.result (option_map law.node c.known_head-head.result) c.requires.name known f.world f.ending c.leave_head.ensures.world;
+      sound = c.leave_head.ensures.sound;
+    }

@@ -1,0 +1,106 @@
+//! Start tags by the rules of the head, also where other modes go by them (HTML standard, section 13.2.6.4.4).
+ghost use Rattle.h5_meaning.specs.InHead.{in_head_else, in_head_start_link, in_head_start_noscript, in_head_start_script, in_head_start_tag};
+ghost use Rattle.h5_state.specs.Steps.{IsOpen, IsSound};
+ghost use Rattle.h5_state.specs.Turn.{TakesTag, TakesToken};
+
+use super::names::{is_head_link, is_head_raw};
+use super::raw_text::{parse_raw_data, to_raw_text_mode};
+use h5_interface::TreeSink;
+use h5_names::KnownName;
+use h5_rules_shared::in_body_start_html;
+use h5_state::{
+    State, Turn, insert_and_pop_element, insert_element, insert_script, is_scripting, pop,
+    set_mode, unexpected_tag,
+};
+use h5_token::Tag;
+use h5_token::states::RawKind;
+use h5_types::{InsertionMode, ProcessResult, Token};
+
+// A start tag `base`, `basefont`, `bgsound`, `link` or `meta`: the element is empty.
+fn in_head_start_link<S: TreeSink>(
+    sink: &mut S,
+    state: &mut State<S::Handle>,
+    tag: Tag,
+) -> Turn<S::Handle>
+    requires { IsSound S.TreeSink sink.old state.old }
+    ensures { TakesTag S.TreeSink in_head_start_link tag sink.old state.old sink.new state.new result }
+{
+    let attrs = tag.attrs;
+    insert_and_pop_element(sink, state, tag.name, attrs, tag.had_duplicate_attributes)?;
+    Ok(ProcessResult::DoneAckSelfClosing)
+}
+
+// A start tag `noscript`: where scripts run its content is text.
+#[tactic(auto, unfolding(h5_meaning::specs::InHead::in_head_start_noscript))]
+fn in_head_start_noscript<S: TreeSink>(
+    sink: &mut S,
+    state: &mut State<S::Handle>,
+    tag: Tag,
+) -> Turn<S::Handle>
+    requires { IsSound S.TreeSink sink.old state.old }
+    ensures { TakesTag S.TreeSink in_head_start_noscript tag sink.old state.old sink.new state.new result }
+{
+    if is_scripting(sink, state) {
+        return parse_raw_data(sink, state, tag, RawKind::Rawtext);
+    }
+    let attrs = tag.attrs;
+    insert_element(sink, state, tag.name, attrs, tag.had_duplicate_attributes)?;
+    set_mode(sink, state, InsertionMode::InHeadNoscript);
+    Ok(ProcessResult::Done)
+}
+
+// A start tag `script`.
+fn in_head_start_script<S: TreeSink>(
+    sink: &mut S,
+    state: &mut State<S::Handle>,
+    tag: Tag,
+) -> Turn<S::Handle>
+    requires { IsSound S.TreeSink sink.old state.old }
+    ensures { TakesTag S.TreeSink in_head_start_script tag sink.old state.old sink.new state.new result }
+{
+    insert_script(sink, state, tag.attrs, tag.had_duplicate_attributes)?;
+    Ok(to_raw_text_mode(sink, state, RawKind::ScriptData))
+}
+
+/// Whatever else comes in the head: it is closed, and the token taken after it.
+pub fn in_head_else<S: TreeSink>(
+    sink: &mut S,
+    state: &mut State<S::Handle>,
+    token: Token,
+) -> Turn<S::Handle>
+    requires { IsOpen S.TreeSink sink.old state.old }
+    ensures { TakesToken S.TreeSink in_head_else token sink.old state.old sink.new state.new result }
+{
+    pop(sink, state);
+    Ok(ProcessResult::Reprocess(InsertionMode::AfterHead, token))
+}
+
+/// A start tag, by the rules of the head. It answers an `AllocError` where memory is refused.
+#[tactic(auto, unfolding(h5_meaning::specs::InHead::in_head_start_tag, h5_meaning::specs::InHead::in_head_start))]
+pub fn in_head_start_tag<S: TreeSink>(
+    sink: &mut S,
+    state: &mut State<S::Handle>,
+    tag: Tag,
+) -> Turn<S::Handle>
+    requires { IsOpen S.TreeSink sink.old state.old }
+    ensures { TakesTag S.TreeSink in_head_start_tag tag sink.old state.old sink.new state.new result }
+{
+    if tag.name.is(KnownName::Html) {
+        in_body_start_html(sink, state, tag)
+    } else if is_head_link(&tag.name) {
+        in_head_start_link(sink, state, tag)
+    } else if tag.name.is(KnownName::Title) {
+        parse_raw_data(sink, state, tag, RawKind::Rcdata)
+    } else if is_head_raw(&tag.name) {
+        parse_raw_data(sink, state, tag, RawKind::Rawtext)
+    } else if tag.name.is(KnownName::Noscript) {
+        in_head_start_noscript(sink, state, tag)
+    } else if tag.name.is(KnownName::Script) {
+        in_head_start_script(sink, state, tag)
+    } else if tag.name.is(KnownName::Head) {
+        unexpected_tag(sink, state, &tag);
+        Ok(ProcessResult::Done)
+    } else {
+        in_head_else(sink, state, Token::Tag(tag))
+    }
+}

@@ -1,0 +1,28 @@
+//! Tokens that don't come in a text (HTML standard, section 13.2.6.4.8): its reader gives no tags but the end tag, no
+//! comments and no nulls.
+ghost use Rattle.std.specs.Prelude.{◌≡◌};
+ghost use Rattle.h5_token.specs.TokenText.{token_text};
+ghost use Rattle.h5_meaning.specs.Run.{is_refused_in_text, refuses_in};
+
+use h5_token::{TagKind, Token};
+use h5_types::InsertionMode;
+
+fn is_refused_in_text(token: &Token) -> bool
+    ensures { result ≡ is_refused_in_text (token_text token.now) }
+{
+    match token {
+        Token::TagToken(tag) => tag.kind == TagKind::StartTag,
+        Token::CommentToken(_) | Token::NullCharacterToken => true,
+        _ => false,
+    }
+}
+
+/// Whether a token is refused in a mode: in a text a start tag, a comment and a null are.
+pub fn refuses_in(mode: InsertionMode, token: &Token) -> bool
+    ensures { result ≡ refuses_in mode (token_text token.now) }
+{
+    match mode {
+        InsertionMode::Text => is_refused_in_text(token),
+        _ => false,
+    }
+}
