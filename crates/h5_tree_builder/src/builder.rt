@@ -72,9 +72,9 @@ impl<Handle: Drop, Sink: TreeSink<Handle = Handle> + Drop> TreeBuilder<Handle, S
     /// one that isn't open, and at most three entries are alike. The open elements fit the insertion mode:
     /// in a row a `tr` is open, in a cell a `td` or a `th`, and what else each mode tells of them.
     ///
-    /// After want of memory it answers `Failed`, after the end `AfterEnd`, and to a start tag, a comment or a null in the
-    /// mode "text" `NotInText`; and then nothing has changed, in the sink neither. Where memory is refused now it answers `Memory`, and the turns stay those of the
-    /// token before.
+    /// After want of memory it answers `Failed`, after the end `AfterEnd`, and to a start tag, a comment or a
+    /// null in the mode "text" `NotInText`; and then nothing has changed, in the sink neither. Where memory is
+    /// refused now it answers `Memory`, and the turns stay those of the token before.
     pub fn process_token(
         &mut self,
         token: Token,
