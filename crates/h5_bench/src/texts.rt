@@ -50,6 +50,8 @@ pub enum Kind {
     Fostered,
     /// Tables in cells, each in the next.
     Tables,
+    /// So many templates, each in the next, none of them closed.
+    Templates,
 }
 
 const FLAT_FRONT: &str = "<!DOCTYPE html>\n<html><head></head><body>\n";
@@ -109,6 +111,7 @@ pub fn kind_named(name: &str) -> Option<Kind> {
         "rows" => Some(Kind::Rows),
         "fostered" => Some(Kind::Fostered),
         "tables" => Some(Kind::Tables),
+        "templates" => Some(Kind::Templates),
         _ => None,
     }
 }
@@ -221,5 +224,6 @@ pub fn make_text(alloc: Global, kind: Kind, size: usize) -> Result<String, Alloc
             size,
         ),
         Kind::Tables => repeated(alloc, "<!DOCTYPE html>", "<table><td>", "", size),
+        Kind::Templates => repeated(alloc, "<!DOCTYPE html>", "<template>", "", size),
     }
 }

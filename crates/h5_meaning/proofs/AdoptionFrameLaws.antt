@@ -1,9 +1,8 @@
 -- What the adoption agency, and what calls it, keep of what modes tell: by roles it takes plain names out, and puts
 -- them on plain ones.
-use Rattle.std.proofs.Common.{◌≡◌, ◌≤◌, inl, inr, ℕ, zero, suc, Bool, true, false, cond, not, ◌&&◌, ◌||◌, List, [], ◌∷◌, ◌++◌, length, filter, take, map, codes, Option, Some, None, IsTrue, refl, ap, sym, subst, ◌∙◌, arith}
+use Rattle.std.proofs.Common.{◌≡◌, ◌≤◌, inl, inr, ℕ, zero, suc, Bool, true, false, cond, not, ◌&&◌, ◌||◌, List, [], ◌∷◌, ◌++◌, length, filter, take, map, codes, Option, Some, None, refl, ap, sym, subst, ◌∙◌, arith}
 use Rattle.std.specs.List.{list_any}
 use Rattle.std.proofs.lemmas.List.{map-append}
-use Rattle.h5_names.specs.AttributeText.{is_same_text}
 use Rattle.h5_names.specs.declared.qualified.QualName.{QualName}
 use Rattle.h5_interface.specs.Changes.{mark}
 use Rattle.h5_interface.specs.Forest.{ElementNode, Forest}
@@ -14,7 +13,7 @@ use Rattle.h5_stack.specs.Adoption.{FormattingElement, FurthestBlock, furthest_b
 use Rattle.h5_stack.specs.FormattingList.{Entry, nodes_of, without_entry}
 use Rattle.h5_stack.specs.FormattingNames.{html_name}
 use Rattle.h5_stack.specs.Order.{IsIn, is_in}
-use Rattle.h5_stack.specs.Scope.{comes_before_special, cut_names, drop_while, first_passes, is_implied_but, later_names}
+use Rattle.h5_stack.specs.Scope.{comes_before_special, cut_names, first_passes, later_names}
 use Rattle.h5_stack.proofs.PairLaws.{in_left, in_right, is_in_true}
 use Rattle.h5_stack.proofs.PassLaws.{furthest_block_at, stack_split, without_node_split}
 use Rattle.h5_fits.specs.Contexts.{Under}
@@ -32,7 +31,7 @@ use Rattle.h5_fits.proofs.SetLaws.{default_passes, ordinary_plain}
 use Rattle.h5_meaning.specs.AdoptionAgency.{MayAdopt, Nest, adopt, adopt_at, adopt_by, adopt_within, adoption_agency, close_misnested_a, handle_misnested_a_tags, nest, placed, refilled, remove_from_stack, unlist_and_remove}
 use Rattle.h5_meaning.specs.Changes.{generate_implied_end_except, pop, pop_until_named}
 use Rattle.h5_meaning.specs.Closing.{close_named}
-use Rattle.h5_meaning.specs.Sound.{IsReady, Sound}
+use Rattle.h5_meaning.specs.Sound.{IsReady}
 use Rattle.h5_meaning.specs.World.{World, current, name_in, name_of_found, names_of}
 use Rattle.h5_meaning.proofs.AdoptionAgencyLaws.{agency_leaves}
 use Rattle.h5_meaning.proofs.AdoptionForest.{marked_kind}

@@ -1,15 +1,15 @@
 -- Which modes a rule leads to, by the kind of the token.
-use Rattle.std.proofs.Common.{◌≡◌, ℕ, Bool, true, false, not, if◌then◌else◌, ◌&&◌, List, [], ◌∷◌, Some, codes, refl, ap, sym, subst, ◌∙◌}
+use Rattle.std.proofs.Common.{◌≡◌, ℕ, Bool, true, false, if◌then◌else◌, List, [], ◌∷◌, Some, codes, is_some, refl, ap, sym, subst, ◌∙◌}
 use Rattle.h5_token.specs.TokenText.{TagText}
 use Rattle.h5_token.specs.declared.tag.TagKind.{TagKind}
 use Rattle.h5_token.specs.declared.tag.TagKind.TheVariants.{StartTag, EndTag}
 use Rattle.h5_interface.specs.declared.marks.QuirksMode.TheVariants.{Quirks}
 use Rattle.h5_names.specs.declared.known_name.KnownName.TheVariants.{Col, Html, Table, Tr}
-use Rattle.h5_tag_sets.specs.TagSets.{cell_names, is_default_scope, is_heading, is_html_named, is_one_of}
-use Rattle.h5_stack.specs.Scope.{comes_before_special, has_p_in_button_scope, has_template, in_scope, second_is}
+use Rattle.h5_tag_sets.specs.TagSets.{cell_names, is_one_of}
+use Rattle.h5_stack.specs.Scope.{has_template}
 use Rattle.h5_types.specs.TurnText.{TurnText, TagTurn, CommentTurn, TextTurn, NullTurn, EofTurn}
 use Rattle.h5_types.specs.declared.modes.InsertionMode.{InsertionMode}
-use Rattle.h5_types.specs.declared.modes.InsertionMode.TheVariants.{Initial, BeforeHtml, BeforeHead, InHead, InHeadNoscript, AfterHead, InBody, InTable, AfterBody, AfterAfterBody}
+use Rattle.h5_types.specs.declared.modes.InsertionMode.TheVariants.{Initial, BeforeHtml, BeforeHead, InHead, InHeadNoscript, AfterHead, InBody, AfterBody, AfterAfterBody}
 use Rattle.h5_fits.proofs.Ranks as edges
 use Rattle.h5_fits.proofs.Ranks.{CellTurns, ColTurns, EndHtmlTurns, EndPartTurns, EofTurns, OtherTurns, PartTurns, RowTurns, StartTableTurns, TextTurns, TurnKind, is_eof, leaves_body_end}
 use Rattle.h5_meaning.specs.AfterAfterBody.{after_after_body_start}
@@ -18,14 +18,14 @@ use Rattle.h5_meaning.specs.AfterHead.{after_head_else, after_head_end, after_he
 use Rattle.h5_meaning.specs.BeforeHead.{before_head_else, before_head_end, before_head_start}
 use Rattle.h5_meaning.specs.ByName.{by_kind, by_name, ignored_tag, named, of_tag}
 use Rattle.h5_meaning.specs.BeforeHtml.{before_html_else, before_html_end, before_html_start}
-use Rattle.h5_meaning.specs.InBody.{body_ends, body_in_scope, if_body_in_scope, in_body_end_block, in_body_end_br, in_body_end_formatting, in_body_end_heading, in_body_end_html, in_body_end_other, in_body_end_p, in_body_end, in_body_start, in_body_start_other, in_body_start_body, in_body_start_table, in_body_tag, is_quirks}
-use Rattle.h5_meaning.specs.InHead.{in_head_else, in_head_end, in_head_start, in_head_start_tag}
+use Rattle.h5_meaning.specs.InBody.{body_ends, body_in_scope, if_body_in_scope, in_body_end_other, in_body_end, in_body_start, in_body_start_other, in_body_tag}
+use Rattle.h5_meaning.specs.InHead.{in_head_end, in_head_end_template, in_head_start_tag}
 use Rattle.h5_meaning.specs.InitialMode.{initial_else}
-use Rattle.h5_meaning.specs.Rows.{AddAttrsToHtml, AddAttrsToSecond, Again, AgainBy, Answers, Change, ClosePElement, ClosePElementInButtonScope, Ending, GenerateImpliedEnd, GenerateImpliedEndExcept, InsertElement, IsAcknowledged, IsDone, PopUntilHeading, PopUntilNamed, Row, SetFramesetNotOk, SetMode, SetQuirksMode, choose, errs, ignored, next_mode, row, row_if}
-use Rattle.h5_meaning.specs.Shared.{current_is, head_start_names, in_body_start_html, inserts}
+use Rattle.h5_meaning.specs.Rows.{AddAttrsToHtml, Again, AgainBy, Answers, Ending, IsAcknowledged, IsDone, Row, SetMode, SetQuirksMode, choose, errs, ignored, next_mode, row}
+use Rattle.h5_meaning.specs.Shared.{head_start_names, in_body_start_html}
 use Rattle.h5_meaning.specs.World.{World, names_of}
 use Rattle.h5_meaning.proofs.ByNameLaws.{holds_by_name}
-use Rattle.h5_meaning.proofs.BodyRowLaws.{EndsAtOnce, IsBodyRow, head_start_passes, noscript_content_passes, row_end_by, row_head_start, row_head_start_by, row_start}
+use Rattle.h5_meaning.proofs.BodyRowLaws.{EndsAtOnce, IsBodyRow, head_start_passes, noscript_content_passes, row_end_by, row_end_template, row_head_start, row_head_start_by, row_start}
 use Rattle.h5_meaning.specs.Changes.{push_head}
 use Rattle.h5_meaning.specs.InHeadNoscript.{in_head_noscript_else, in_head_noscript_end, in_head_noscript_start}
 
@@ -172,10 +172,13 @@ ends_stop (AgainBy mode) h = h
 pub row_stops : (r : Row) → IsBodyRow r → RowStops r
 row_stops r b = ends_stop r.ending b.ends
 
+leads_end_template : (c : TurnKind) (m : InsertionMode) (tag : TagText) (w : World) → Leads c m (in_head_end_template tag w).ending
+leads_end_template c m tag w = stops_leads c m (in_head_end_template tag w).ending (row_stops (in_head_end_template tag w) (row_end_template tag w))
+
 pub leads_in_head : (c : TurnKind) (k : TagKind) (tag : TagText) (w : World) → Leads c InHead (by_kind k (in_head_start_tag tag w) (by_name in_head_end ignored_tag tag w)).ending
 unfolding in_head_end
 leads_in_head c StartTag tag w = row_head_start_by tag w (LeadsByEdge c InHead) (λ r b. stops_leads c InHead r.ending (row_stops r b)) (λ n. edges.in_head c)
-leads_in_head c EndTag tag w = holds_by_name (LeadsByEdge c InHead) in_head_end ignored_tag tag w ((λ p. tt), ((λ p. edges.in_head c), tt)) (λ n. tt)
+leads_in_head c EndTag tag w = holds_by_name (LeadsByEdge c InHead) in_head_end ignored_tag tag w ((λ p. tt), ((λ p. edges.in_head c), ((λ p. leads_end_template c InHead tag w), tt))) (λ n. tt)
 
 pub leads_in_head_noscript : (c : TurnKind) (k : TagKind) (tag : TagText) (w : World)
     → Leads c InHeadNoscript (by_kind k (by_name in_head_noscript_start (of_tag in_head_noscript_else) tag w) (by_name in_head_noscript_end ignored_tag tag w)).ending
@@ -197,8 +200,8 @@ pub leads_after_head : (c : TurnKind) (k : TagKind) (tag : TagText) (w : World) 
 unfolding after_head_start after_head_end
 leads_after_head c StartTag tag w =
     holds_by_name (LeadsByEdge c AfterHead) after_head_start (of_tag after_head_else) tag w
-    ((λ p. leads_start_html c AfterHead tag w), ((λ p. tt), ((λ p. stops_leads c AfterHead (with_head in_head_start_tag tag w).ending (with_head_stops tag w p)), ((λ p. tt), tt)))) (λ n. edges.after_head c)
-leads_after_head c EndTag tag w = holds_by_name (LeadsByEdge c AfterHead) after_head_end ignored_tag tag w ((λ p. tt), ((λ p. edges.after_head c), tt)) (λ n. tt)
+    ((λ p. leads_start_html c AfterHead tag w), ((λ p. tt), ((λ p. tt), ((λ p. stops_leads c AfterHead (with_head in_head_start_tag tag w).ending (with_head_stops tag w p)), ((λ p. tt), tt))))) (λ n. edges.after_head c)
+leads_after_head c EndTag tag w = holds_by_name (LeadsByEdge c AfterHead) after_head_end ignored_tag tag w ((λ p. tt), ((λ p. leads_end_template c AfterHead tag w), ((λ p. edges.after_head c), tt))) (λ n. tt)
 
 pub stops_body_tag : (tag : TagText) (w : World) → (tag.kind ≡ EndTag → named Html tag.name ≡ false) → RowStops (in_body_tag tag w)
 unfolding in_body_tag
@@ -219,7 +222,7 @@ leads_in_body EndTag tag w =
 pub leads_after_body : (k : TagKind) (tag : TagText) (w : World) → Leads (kind_of_tag k tag.name) AfterBody (by_kind k (by_name after_body_start (of_tag back_to_body) tag w) (by_name after_body_end (of_tag back_to_body) tag w)).ending
 unfolding after_body_start after_body_end
 leads_after_body StartTag tag w = holds_by_name (LeadsByEdge (kind_of_start tag.name) AfterBody) after_body_start (of_tag back_to_body) tag w ((λ p. leads_start_html (kind_of_start tag.name) AfterBody tag w), tt) (λ n. edges.after_body (kind_of_start tag.name) (start_leaves tag.name))
-leads_after_body EndTag tag w = holds_by_name (LeadsByEdge (kind_of_end tag.name) AfterBody) after_body_end (of_tag back_to_body) tag w ((λ p. tt), tt) (λ n. edges.after_body (kind_of_end tag.name) (end_leaves tag.name n.0))
+leads_after_body EndTag tag w = holds_by_name (LeadsByEdge (kind_of_end tag.name) AfterBody) after_body_end (of_tag back_to_body) tag w ((λ p. leads_choose (kind_of_end tag.name) AfterBody (is_some w.context) ignored (row (SetMode AfterAfterBody ∷ []) IsDone) tt tt), tt) (λ n. edges.after_body (kind_of_end tag.name) (end_leaves tag.name n.0))
 
 pub leads_after_after_body : (k : TagKind) (tag : TagText) (w : World) → Leads (kind_of_tag k tag.name) AfterAfterBody (by_kind k (by_name after_after_body_start (of_tag back_to_body) tag w) (back_to_body (TagTurn tag) w)).ending
 unfolding after_after_body_start

@@ -1,7 +1,7 @@
 -- The rules of the body, in each mode that goes by them: after each row the open elements fit the mode that it leaves.
 use Rattle.std.proofs.Common.{◌≡◌, ◌≢◌, ◌⊎◌, inl, inr, ℕ, Bool, true, false, cond, not, ◌&&◌, is_some, Option, None, Some, List, [], ◌∷◌, codes, refl, ap, sym, subst, ◌∙◌}
 use Rattle.h5_names.specs.declared.qualified.QualName.{QualName}
-use Rattle.h5_names.specs.declared.known_name.KnownName.TheVariants.{A, Body, Button, Html, Iframe, Nobr, Noembed, Noscript, Optgroup, Plaintext, Select, Table, Template, Textarea, Xmp}
+use Rattle.h5_names.specs.declared.known_name.KnownName.TheVariants.{A, Body, Button, Html, Iframe, Nobr, Noembed, Noscript, Optgroup, Plaintext, Select, Table, Template, Textarea, Xmp, Frameset}
 use Rattle.h5_names.specs.declared.known_name.KnownName.TheVariants as known
 use Rattle.h5_token.specs.TokenText.{TagText}
 use Rattle.h5_token.specs.declared.tag.TagKind.{TagKind}
@@ -12,23 +12,23 @@ use Rattle.h5_types.specs.TurnText.{CommentTurn, EofTurn, HasText, NullTurn, Tag
 use Rattle.h5_types.specs.declared.modes.InsertionMode.{InsertionMode}
 use Rattle.h5_types.specs.declared.modes.InsertionMode.TheVariants.{AfterBody, InBody, InTable, Text}
 use Rattle.h5_stack.specs.FormattingNames.{html_name}
-use Rattle.h5_stack.specs.Scope.{comes_before_special, cut_names, drop_while, first_passes, has_p_in_button_scope, has_template, in_scope, is_implied_but, second_is}
+use Rattle.h5_stack.specs.Scope.{comes_before_special, cut_names, has_p_in_button_scope, has_template, in_scope, second_is}
 use Rattle.h5_fits.specs.Fits.{goes_by_body}
 use Rattle.h5_fits.specs.NamesFit.{NamesFit}
-use Rattle.h5_fits.specs.Roles.{BodyRole, CaptionRole, CellRole, ColgroupRole, FramesetRole, HeadRole, HtmlRole, PlainRole, Role, RowRole, SectionRole, TableRole, TemplateRole, is_table, is_table_part, role_of, role_of_local}
+use Rattle.h5_fits.specs.Roles.{BodyRole, CaptionRole, CellRole, ColgroupRole, FramesetRole, HeadRole, HtmlRole, PlainRole, Role, RowRole, SectionRole, TableRole, TemplateRole, is_table_part, role_of_local}
 use Rattle.h5_fits.specs.Root.{IsRootOpen}
 use Rattle.h5_fits.proofs.NamesBodyLaws.{MayEnd, names_after_body, names_in_body, names_other_end}
 use Rattle.h5_fits.proofs.NamesTableLaws.{names_table_put}
 use Rattle.h5_fits.proofs.PlainLaws.{block_end_plain, block_start_plain, heading_local_plain, set_plain}
 use Rattle.h5_fits.proofs.RoleLaws.{Origin, local_p, origin, role_made}
-use Rattle.h5_meaning.specs.ByName.{NonePasses, by_kind, by_name, ignored_tag, named}
+use Rattle.h5_meaning.specs.ByName.{NonePasses, by_kind, by_name, named}
 use Rattle.h5_meaning.specs.Changes.{generate_implied_end_except, insert_element, pop_until_named, save_mode, set_foster, set_frameset_not_ok, set_frameset_ok_by_text, set_ignore_lf, set_mode}
 use Rattle.h5_meaning.specs.Closing.{close_p_element_in_button_scope, pop_heading}
 use Rattle.h5_meaning.specs.AdoptionAgency.{handle_misnested_a_tags, handle_misnested_nobr_tags}
 use Rattle.h5_meaning.specs.Formatting.{reconstruct_active_formatting_elements}
-use Rattle.h5_meaning.specs.InBody.{body_ends, body_in_scope, close_the_form, copies_option, description_names, form_in_scope, if_body_in_scope, in_body, in_body_end, in_body_end_block, in_body_end_br, in_body_end_description, in_body_end_form, in_body_end_formatting, in_body_end_heading, in_body_end_li, in_body_end_marked, in_body_end_option, in_body_end_other, in_body_end_p, in_body_ignored_starts, in_body_marked, in_body_ruby_bases, in_body_ruby_texts, in_body_start, in_body_start_a, in_body_start_block, in_body_start_body, in_body_start_button, in_body_start_form, in_body_start_formatting, in_body_start_heading, in_body_start_iframe, in_body_start_input, in_body_start_nobr, in_body_start_noembed, in_body_start_noscript, in_body_start_optgroup, in_body_start_option, in_body_start_other, in_body_start_plaintext, in_body_start_ruby, in_body_start_select, in_body_start_table, in_body_start_textarea, in_body_start_void, in_body_start_xmp, in_body_tag, is_quirks, named_in_scope, oldest_option, outside_names, unless_hidden}
-use Rattle.h5_meaning.specs.Rows.{AddAttrsToHtml, AddAttrsToSecond, Again, AgainBy, Answers, Change, ClosePElement, ClosePElementInButtonScope, Ending, GenerateImpliedEnd, GenerateImpliedEndExcept, InsertElement, IsAcknowledged, IsDone, PopUntilHeading, PopUntilNamed, ReconstructActiveFormattingElements, Row, SetFramesetNotOk, SetMode, apply_all, choose, errs, ignored, next_mode, row, row_if}
-use Rattle.h5_meaning.specs.Shared.{current_is, in_body_start_html, in_body_text, inserts, is_context, is_type_hidden, table_structure_names}
+use Rattle.h5_meaning.specs.InBody.{no_template_mode, body_ends, body_in_scope, close_the_form, copies_option, description_names, form_in_scope, if_body_in_scope, in_body, in_body_end, in_body_end_block, in_body_end_br, in_body_end_description, in_body_end_form, in_body_end_formatting, in_body_end_heading, in_body_end_li, in_body_end_marked, in_body_end_option, in_body_end_other, in_body_end_p, in_body_ignored_starts, in_body_marked, in_body_ruby_bases, in_body_ruby_texts, in_body_start, in_body_start_a, in_body_start_block, in_body_start_body, in_body_start_button, in_body_start_form, in_body_start_formatting, in_body_start_heading, in_body_start_iframe, in_body_start_input, in_body_start_nobr, in_body_start_noembed, in_body_start_noscript, in_body_start_optgroup, in_body_start_option, in_body_start_other, in_body_start_plaintext, in_body_start_ruby, in_body_start_select, in_body_start_table, in_body_start_textarea, in_body_start_void, in_body_start_xmp, in_body_tag, is_quirks, named_in_scope, oldest_option, outside_names, unless_hidden}
+use Rattle.h5_meaning.specs.Rows.{AddAttrsToSecond, Again, AgainBy, Answers, Change, ClosePElement, ClosePElementInButtonScope, Ending, GenerateImpliedEnd, GenerateImpliedEndExcept, InsertElement, IsAcknowledged, IsDone, PopUntilHeading, PopUntilNamed, ReconstructActiveFormattingElements, Row, SetFramesetNotOk, SetMode, apply_all, choose, errs, ignored, next_mode, row, row_if}
+use Rattle.h5_meaning.specs.Shared.{current_is, in_body_text, inserts, is_context, is_type_hidden, table_structure_names, head_start_names}
 use Rattle.h5_meaning.specs.Sound.{situation_of}
 use Rattle.h5_meaning.specs.World.{World, names_of}
 use Rattle.h5_meaning.proofs.AdoptionAgencyLaws.{implied_keeps, misnested_nobr_open, until_named_keeps}
@@ -40,16 +40,20 @@ use Rattle.h5_meaning.proofs.HeadFitsLaws.{role_known}
 use Rattle.h5_meaning.proofs.KeptLaws.{FitsAs, IsBlind, Kept, changes_mode, fits_at, fits_frameset_off, kept_comment, kept_start_html, mode_after, mode_with}
 use Rattle.h5_meaning.proofs.ListsLaws.{IsSteady}
 use Rattle.h5_meaning.proofs.NameLaws.{names-cut, names-implied, names-insert}
-use Rattle.h5_meaning.proofs.ReadyInLaws.{ReadyIn, in_agency, in_close_heading, in_close_named, in_close_p, in_close_p_in_scope, in_format, in_frameset_off, in_frameset_text, in_insert, in_leaf, in_misnested_a, in_misnested_nobr, in_pop_heading, in_reconstruct, in_second_attrs, in_text, ready_in, steady}
+use Rattle.h5_meaning.proofs.ReadyInLaws.{ReadyIn, in_agency, in_close_heading, in_close_named, in_close_p, in_close_p_in_scope, in_format, in_frameset_off, in_frameset_text, in_insert, in_leaf, in_misnested_a, in_misnested_nobr, in_pop_heading, in_reconstruct, in_second_attrs, in_text, ready_in}
 use Rattle.h5_meaning.proofs.ReadyLaws.{a_formatting, nobr_formatting}
-use Rattle.h5_meaning.proofs.SituationLaws.{KeepsSituation, situation_insert, situation_same, situation_then, situation_tree}
+use Rattle.h5_meaning.proofs.SituationLaws.{KeepsSituation, situation_insert, situation_tree}
 use Rattle.h5_meaning.proofs.TreeLaws.{tree_implied_except, tree_until, tree_then}
 use Rattle.h5_meaning.proofs.BodyRowLaws.{EndsAtOnce, IsBodyRow, row_end_by, row_start}
 use Rattle.h5_meaning.proofs.BodyInLaws.{in_end_description, in_end_form, in_end_li, in_end_marked, in_end_option, in_start_button, in_start_description, in_start_form, in_start_hr, in_start_image, in_start_input, in_start_item, in_start_marked, in_start_optgroup, in_start_option, in_start_preformatted, in_start_ruby_base, in_start_ruby_text, in_start_select}
 use Rattle.h5_names.specs.AttributeText.{AttributeText}
-use Rattle.h5_meaning.proofs.HeadContentLaws.{body_left, kept_head_content, noscript_plain}
+use Rattle.h5_meaning.specs.InHead.{template_eof}
+use Rattle.h5_meaning.proofs.FramesetRowLaws.{kept_body_frameset}
+use Rattle.h5_meaning.proofs.HeadContentLaws.{body_left, body_takes, kept_head_content, noscript_plain}
+use Rattle.h5_meaning.proofs.TemplateRowLaws.{kept_end_template, kept_template_eof}
 use Rattle.h5_meaning.proofs.TextBeginsLaws.{text_begins}
 use Rattle.h5_meaning.proofs.CloseInLaws.{in_ignore_lf}
+use Rattle.h5_meaning.specs.Reset.{reset_mode}
 
 -- NAMES
 
@@ -59,11 +63,11 @@ apart p t l h e n = let clash : true ≡ false = sym h ∙ ap p (sym e) ∙ n in
 
 -- any other start tag is of a plain name
 other_start_plain : (l : List ℕ) → NonePasses in_body_start l → role_of_local l ≡ PlainRole
-unfolding in_body_start in_body_ignored_starts table_structure_names outside_names
+unfolding in_body_start in_body_ignored_starts table_structure_names outside_names head_start_names
 other_start_plain l n = at (role_of_local l) (origin l)
   where
     listed : is_one_of in_body_ignored_starts l ≡ false
-    listed = n.1.1.1.1.1.1.1.1.1.1.1.1.1.1.1.1.1.1.1.1.1.1.1.1.1.1.1.1.1.1.1.0
+    listed = n.1.1.1.1.1.1.1.1.1.1.1.1.1.1.1.1.1.1.1.1.1.1.1.1.1.1.1.1.1.1.1.1.0
 
     starts : List ℕ → Bool
     starts = is_one_of in_body_ignored_starts
@@ -72,10 +76,10 @@ other_start_plain l n = at (role_of_local l) (origin l)
     at PlainRole o = refl
     at HtmlRole o = absurd (apart (named Html) (codes "html") l refl o n.0)
     at BodyRole o = absurd (apart (named Body) (codes "body") l refl o n.1.1.0)
-    at TableRole o = absurd (apart (named Table) (codes "table") l refl o n.1.1.1.1.1.1.1.1.1.1.1.1.1.1.1.0)
+    at TableRole o = absurd (apart (named Table) (codes "table") l refl o n.1.1.1.1.1.1.1.1.1.1.1.1.1.1.1.1.0)
     at HeadRole o = absurd (apart starts (codes "head") l refl o listed)
-    at FramesetRole o = absurd (apart starts (codes "frameset") l refl o listed)
-    at TemplateRole o = absurd (apart starts (codes "template") l refl o listed)
+    at FramesetRole o = absurd (apart (named Frameset) (codes "frameset") l refl o n.1.1.1.0)
+    at TemplateRole o = absurd (apart (is_one_of head_start_names) (codes "template") l refl o n.1.0)
     at CaptionRole o = absurd (apart starts (codes "caption") l refl o listed)
     at ColgroupRole o = absurd (apart starts (codes "colgroup") l refl o listed)
     at SectionRole (inl o) = absurd (apart starts (codes "tbody") l refl o listed)
@@ -426,66 +430,69 @@ module _ (choices : SinkChoices) (w : World) (steady : IsSteady w) (m : Insertio
   kept_tag StartTag tag part = holds_by_name KeptIn in_body_start in_body_start_other tag w (
     (λ p. kept_start_html choices w steady.sound m tag),
     (
-      (λ p. kept_head_content choices w steady.sound m is (body_left m goes) tag p),
+      (λ p. kept_head_content choices w steady.sound m is (body_left m goes) tag p (λ q. body_takes m goes)),
       (
         (λ p. kept_start_body tag),
         (
-          (λ p. kept_start_block tag p),
+          (λ p. kept_body_frameset choices w steady.sound m (body_left m goes) tag p),
           (
-            (λ p. kept_start_heading tag p),
+            (λ p. kept_start_block tag p),
             (
-              (λ p h. (in_start_preformatted choices m goes w (ready h) tag p).fit),
+              (λ p. kept_start_heading tag p),
               (
-                (λ p. kept_start_form tag),
+                (λ p h. (in_start_preformatted choices m goes w (ready h) tag p).fit),
                 (
-                  (λ p h. (in_start_item choices m goes w (ready h) tag p).fit),
+                  (λ p. kept_start_form tag),
                   (
-                    (λ p h. (in_start_description choices m goes w (ready h) tag p).fit),
+                    (λ p h. (in_start_item choices m goes w (ready h) tag p).fit),
                     (
-                      (λ p. kept_start_plaintext tag p),
+                      (λ p h. (in_start_description choices m goes w (ready h) tag p).fit),
                       (
-                        (λ p. kept_start_button tag p),
+                        (λ p. kept_start_plaintext tag p),
                         (
-                          (λ p. kept_start_a tag p),
+                          (λ p. kept_start_button tag p),
                           (
-                            (λ p. kept_start_nobr tag p),
+                            (λ p. kept_start_a tag p),
                             (
-                              (λ p. kept_start_formatting tag p),
+                              (λ p. kept_start_nobr tag p),
                               (
-                                (λ p h. (in_start_marked choices m goes w (ready h) tag p).fit),
+                                (λ p. kept_start_formatting tag p),
                                 (
-                                  (λ p. kept_start_table tag p),
+                                  (λ p h. (in_start_marked choices m goes w (ready h) tag p).fit),
                                   (
-                                    (λ p. kept_start_void tag),
+                                    (λ p. kept_start_table tag p),
                                     (
-                                      (λ p h. (in_start_image choices m goes w (ready h) tag).fit),
+                                      (λ p. kept_start_void tag),
                                       (
-                                        (λ p. kept_start_input tag),
+                                        (λ p h. (in_start_image choices m goes w (ready h) tag).fit),
                                         (
-                                          (λ p h. (in_leaf choices m goes w (ready h) tag.name tag.attrs tag.had_duplicate_attributes).fit),
+                                          (λ p. kept_start_input tag),
                                           (
-                                            (λ p h. (in_start_hr choices m goes w (ready h) tag).fit),
+                                            (λ p h. (in_leaf choices m goes w (ready h) tag.name tag.attrs tag.had_duplicate_attributes).fit),
                                             (
-                                              (λ p. kept_start_textarea tag p),
+                                              (λ p h. (in_start_hr choices m goes w (ready h) tag).fit),
                                               (
-                                                (λ p. kept_start_xmp tag p),
+                                                (λ p. kept_start_textarea tag p),
                                                 (
-                                                  (λ p. kept_start_iframe tag p),
+                                                  (λ p. kept_start_xmp tag p),
                                                   (
-                                                    (λ p. kept_start_noembed tag p),
+                                                    (λ p. kept_start_iframe tag p),
                                                     (
-                                                      (λ p. kept_start_noscript tag p),
+                                                      (λ p. kept_start_noembed tag p),
                                                       (
-                                                        (λ p. kept_start_select tag p),
+                                                        (λ p. kept_start_noscript tag p),
                                                         (
-                                                          (λ p. kept_start_option tag p),
+                                                          (λ p. kept_start_select tag p),
                                                           (
-                                                            (λ p. kept_start_optgroup tag p),
+                                                            (λ p. kept_start_option tag p),
                                                             (
-                                                              (λ p. kept_start_ruby_base tag p),
+                                                              (λ p. kept_start_optgroup tag p),
                                                               (
-                                                                (λ p. kept_start_ruby_text tag p),
-                                                                ((λ p h. h), tt),
+                                                                (λ p. kept_start_ruby_base tag p),
+                                                                (
+                                                                  (λ p. kept_start_ruby_text tag p),
+                                                                  ((λ p h. h), tt),
+                                                                ),
                                                               ),
                                                             ),
                                                           ),
@@ -542,7 +549,7 @@ module _ (choices : SinkChoices) (w : World) (steady : IsSteady w) (m : Insertio
                         (λ p. kept_end_marked tag p),
                         (
                           (λ p. kept_end_br tag),
-                          ((λ p h. h), tt),
+                          ((λ p. kept_end_template choices w steady.sound m goes tag), tt),
                         ),
                       ),
                     ),
@@ -568,7 +575,7 @@ module _ (choices : SinkChoices) (w : World) (steady : IsSteady w) (m : Insertio
   kept_in_body (CommentTurn x) some part = kept_comment choices w steady.sound m x
   kept_in_body (TextTurn status x) some part = kept_text_in_body x some
   kept_in_body NullTurn some part = λ h. h
-  kept_in_body EofTurn some part = λ h. h
+  kept_in_body EofTurn some part = holds_chosen KeptIn (no_template_mode w.template_modes) (body_ends [] IsDone w) (template_eof w) (λ e h. h) (λ e. kept_template_eof choices w steady.sound m goes)
 
 -- no ending of the body looks at foster parenting
 
@@ -594,10 +601,14 @@ module _ (w : World) where
   blind_tag StartTag tag = row_blind _ (row_start tag w)
   blind_tag EndTag tag = row_end_by tag w IsBlind row_blind (λ p. blind_end_html)
 
+  blind_template_eof : IsBlind (template_eof w)
+  unfolding template_eof reset_mode names_of
+  blind_template_eof = blind_chosen (has_template (names_of w)) _ (row [] IsDone) (λ on v. refl) (λ on v. refl)
+
   pub blind_in_body : (t : TurnText) → IsBlind (in_body t w)
   unfolding in_body_tag
   blind_in_body (TagTurn tag) = blind_tag tag.kind tag
   blind_in_body (CommentTurn x) = λ on v. refl
   blind_in_body (TextTurn status x) = λ on v. refl
   blind_in_body NullTurn = λ on v. refl
-  blind_in_body EofTurn = λ on v. refl
+  blind_in_body EofTurn = blind_chosen (no_template_mode w.template_modes) (body_ends [] IsDone w) (template_eof w) (λ on v. refl) blind_template_eof

@@ -1,6 +1,5 @@
 -- Rows of the body after which builder and sink are ready, and the open elements fit the mode that goes by the body.
-use Rattle.std.proofs.Common.{◌≡◌, ℕ, Bool, true, false, cond, not, ◌&&◌, List, [], ◌∷◌, Option, Some, None, codes, is_some, refl, ap, sym, ◌∙◌}
-use Rattle.h5_names.specs.AttributeText.{AttributeText}
+use Rattle.std.proofs.Common.{◌≡◌, ℕ, Bool, true, false, cond, not, ◌&&◌, List, [], ◌∷◌, Option, Some, None, codes, is_some, refl, ◌∙◌}
 use Rattle.h5_names.specs.declared.qualified.QualName.{QualName}
 use Rattle.h5_names.specs.declared.known_name.KnownName.TheVariants.{Button, Optgroup, Select}
 use Rattle.h5_names.specs.declared.known_name.KnownName.TheVariants as known

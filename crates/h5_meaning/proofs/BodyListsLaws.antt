@@ -1,6 +1,6 @@
 -- After each row of the body, in each mode that goes by it, all stands, and the list of active formatting elements agrees
 -- with the stack of open elements.
-use Rattle.std.proofs.Common.{◌≡◌, ◌≢◌, ℕ, Bool, true, false, not, ◌&&◌, ◌||◌, List, [], ◌∷◌, codes, is_some, sym, subst}
+use Rattle.std.proofs.Common.{◌≡◌, ◌≢◌, ℕ, Bool, true, false, not, ◌&&◌, List, [], ◌∷◌, codes}
 use Rattle.h5_token.specs.TokenText.{TagText}
 use Rattle.h5_token.specs.declared.tag.TagKind.{TagKind}
 use Rattle.h5_token.specs.declared.tag.TagKind.TheVariants.{StartTag, EndTag}
@@ -8,13 +8,13 @@ use Rattle.h5_interface.specs.SinkChoices.{SinkChoices}
 use Rattle.h5_types.specs.TurnText.{TurnText, TagTurn, CommentTurn, TextTurn, NullTurn, EofTurn, HasText}
 use Rattle.h5_types.specs.declared.modes.InsertionMode.{InsertionMode}
 use Rattle.h5_tag_sets.specs.TagSets.{is_default_scope, is_heading, is_html_named}
-use Rattle.h5_types.specs.declared.modes.InsertionMode.TheVariants.{AfterBody, InTable}
+use Rattle.h5_types.specs.declared.modes.InsertionMode.TheVariants.{AfterBody, InTable, InFrameset}
 use Rattle.h5_fits.specs.Fits.{goes_by_body}
 use Rattle.h5_fits.proofs.OpenLaws.{goes_after_root, names_root_open}
 use Rattle.h5_stack.specs.Scope.{comes_before_special, has_p_in_button_scope, has_template, in_scope, second_is}
 use Rattle.h5_meaning.specs.ByName.{NonePasses, by_kind, by_name, of_tag}
-use Rattle.h5_meaning.specs.InBody.{body_ends, body_in_scope, if_body_in_scope, in_body, in_body_end, in_body_end_block, in_body_end_br, in_body_end_heading, in_body_end_other, in_body_end_p, in_body_start, in_body_start_block, in_body_start_body, in_body_start_heading, in_body_start_iframe, in_body_start_noembed, in_body_start_noscript, in_body_start_other, in_body_start_part, in_body_start_plaintext, in_body_start_table, in_body_start_textarea, in_body_start_void, in_body_start_xmp, in_body_tag, is_quirks}
-use Rattle.h5_meaning.specs.Rows.{AddAttrsToHtml, AddAttrsToSecond, Again, AppendComment, Change, ClosePElement, ClosePElementInButtonScope, GenerateImpliedEnd, GenerateImpliedEndExcept, InsertElement, IsDone, PopUntilHeading, PopUntilNamed, Row, SetFramesetNotOk, SetMode, apply_all, choose, errs, ignored, row, row_if}
+use Rattle.h5_meaning.specs.InBody.{body_ends, body_in_scope, if_body_in_scope, in_body, in_body_end, in_body_end_block, in_body_end_br, in_body_end_heading, in_body_end_other, in_body_end_p, in_body_start, in_body_start_block, in_body_start_body, in_body_start_heading, in_body_start_iframe, in_body_start_noembed, in_body_start_noscript, in_body_start_other, in_body_start_part, in_body_start_plaintext, in_body_start_table, in_body_start_textarea, in_body_start_void, in_body_start_xmp, in_body_tag, is_quirks, in_body_start_frameset, no_template_mode}
+use Rattle.h5_meaning.specs.Rows.{AddAttrsToHtml, AddAttrsToSecond, Again, AppendComment, Change, ClosePElement, ClosePElementInButtonScope, GenerateImpliedEnd, GenerateImpliedEndExcept, InsertElement, IsDone, PopUntilHeading, PopUntilNamed, Row, SetFramesetNotOk, SetMode, apply_all, choose, errs, ignored, row, row_if, RemoveBody}
 use Rattle.h5_meaning.specs.Shared.{current_is, in_body_start_html, in_body_text, inserts}
 use Rattle.h5_meaning.specs.Sound.{IsReady, situation_of}
 use Rattle.h5_meaning.specs.World.{World, names_of}
@@ -24,7 +24,7 @@ use Rattle.h5_meaning.proofs.ListsLaws.{IsSteady, NeedsOfAll, ready_steady, stea
 use Rattle.h5_meaning.proofs.ReadyLaws.{ready_end_formatting, ready_start_a, ready_start_formatting, ready_start_nobr}
 use Rattle.h5_meaning.proofs.BodyInLaws.{in_end_description, in_end_form, in_end_li, in_end_marked, in_end_option, in_start_button, in_start_description, in_start_form, in_start_hr, in_start_image, in_start_input, in_start_item, in_start_marked, in_start_optgroup, in_start_option, in_start_preformatted, in_start_ruby_base, in_start_ruby_text, in_start_select}
 use Rattle.h5_meaning.proofs.ReadyInLaws.{ReadyIn, ready_in}
-use Rattle.h5_meaning.specs.InHead.{in_head_else, in_head_start, in_head_start_link, in_head_start_noscript, in_head_start_raw, in_head_start_script, in_head_start_tag, in_head_start_title}
+use Rattle.h5_meaning.specs.InHead.{in_head_else, in_head_start, in_head_start_link, in_head_start_noscript, in_head_start_raw, in_head_start_script, in_head_start_tag, in_head_start_title, in_head_start_template, in_head_end_template, template_eof}
 use Rattle.h5_meaning.proofs.BodyRowLaws.{head_start_passes}
 
 module _ (choices : SinkChoices) (w : World) (k : IsSteady w) where
@@ -53,6 +53,19 @@ module _ (choices : SinkChoices) (w : World) (k : IsSteady w) where
   stays_start_body : (m : InsertionMode) (tag : TagText) → Stays m (in_body_start_body tag w)
   unfolding in_body_start_body
   stays_start_body m tag = stays_chosen m (second_is (codes "body") (names_of w) && not (has_template (names_of w))) (errs (SetFramesetNotOk ∷ AddAttrsToSecond tag.attrs ∷ []) IsDone) ignored (tt, (tt, tt)) tt
+
+  stays_start_frameset : (m : InsertionMode) (tag : TagText) → Stays m (in_body_start_frameset tag w)
+  unfolding in_body_start_frameset
+  stays_start_frameset m tag = stays_chosen m (w.frameset_ok && second_is (codes "body") (names_of w)) (errs (RemoveBody ∷ inserts tag ∷ SetMode InFrameset ∷ []) IsDone) ignored (tt, (tt, (tt, tt))) tt
+
+  -- a template is closed
+  pub stays_end_template : (m : InsertionMode) (tag : TagText) → Stays m (in_head_end_template tag w)
+  unfolding in_head_end_template
+  stays_end_template m tag = stays_chosen m (has_template (names_of w)) _ ignored (tt, (tt, (tt, (tt, (tt, tt))))) tt
+
+  pub stays_template_eof : (m : InsertionMode) → Stays m (template_eof w)
+  unfolding template_eof
+  stays_template_eof m = stays_chosen m (has_template (names_of w)) _ (row [] IsDone) (tt, (tt, (tt, (tt, tt)))) tt
 
   stays_if_body : (m : InsertionMode) (r : Row) → NeedsOfAll r.changes → Stays m (if_body_in_scope r w)
   unfolding if_body_in_scope
@@ -103,7 +116,10 @@ module _ (choices : SinkChoices) (w : World) (k : IsSteady w) where
             (λ p. stays_head_noscript m tag),
             (
               (λ p. stays m (in_head_start_script tag w) (tt, (tt, (tt, tt)))),
-              ((λ p h. k), tt),
+              (
+                (λ p. stays m (in_head_start_template tag w) (tt, (tt, (tt, (tt, (tt, tt)))))),
+                ((λ p h. k), tt),
+              ),
             ),
           ),
         ),
@@ -124,62 +140,65 @@ module _ (choices : SinkChoices) (w : World) (k : IsSteady w) where
       (
         (λ p. stays_start_body m tag),
         (
-          (λ p. stays m (in_body_start_block tag w) (tt, (tt, tt))),
+          (λ p. stays_start_frameset m tag),
           (
-            (λ p. stays m (in_body_start_heading tag w) (tt, (tt, (tt, tt)))),
+            (λ p. stays m (in_body_start_block tag w) (tt, (tt, tt))),
             (
-              (λ p h. in_ready m (in_start_preformatted choices m goes w (ready_in m goes w k h) tag p)),
+              (λ p. stays m (in_body_start_heading tag w) (tt, (tt, (tt, tt)))),
               (
-                (λ p h. in_ready m (in_start_form choices m goes w (ready_in m goes w k h) tag)),
+                (λ p h. in_ready m (in_start_preformatted choices m goes w (ready_in m goes w k h) tag p)),
                 (
-                  (λ p h. in_ready m (in_start_item choices m goes w (ready_in m goes w k h) tag p)),
+                  (λ p h. in_ready m (in_start_form choices m goes w (ready_in m goes w k h) tag)),
                   (
-                    (λ p h. in_ready m (in_start_description choices m goes w (ready_in m goes w k h) tag p)),
+                    (λ p h. in_ready m (in_start_item choices m goes w (ready_in m goes w k h) tag p)),
                     (
-                      (λ p. stays m (in_body_start_plaintext tag w) (tt, (tt, tt))),
+                      (λ p h. in_ready m (in_start_description choices m goes w (ready_in m goes w k h) tag p)),
                       (
-                        (λ p h. in_ready m (in_start_button choices m goes w (ready_in m goes w k h) tag p)),
+                        (λ p. stays m (in_body_start_plaintext tag w) (tt, (tt, tt))),
                         (
-                          (λ p h. ready_steady _ (ready_start_a choices w (is_ready m goes h) tag p)),
+                          (λ p h. in_ready m (in_start_button choices m goes w (ready_in m goes w k h) tag p)),
                           (
-                            (λ p h. ready_steady _ (ready_start_nobr choices w (is_ready m goes h) tag p)),
+                            (λ p h. ready_steady _ (ready_start_a choices w (is_ready m goes h) tag p)),
                             (
-                              (λ p h. ready_steady _ (ready_start_formatting choices w (is_ready m goes h) tag p)),
+                              (λ p h. ready_steady _ (ready_start_nobr choices w (is_ready m goes h) tag p)),
                               (
-                                (λ p h. in_ready m (in_start_marked choices m goes w (ready_in m goes w k h) tag p)),
+                                (λ p h. ready_steady _ (ready_start_formatting choices w (is_ready m goes h) tag p)),
                                 (
-                                  (λ p. stays_start_table m tag),
+                                  (λ p h. in_ready m (in_start_marked choices m goes w (ready_in m goes w k h) tag p)),
                                   (
-                                    (λ p. stays m (in_body_start_void tag w) (tt, (tt, (tt, tt)))),
+                                    (λ p. stays_start_table m tag),
                                     (
-                                      (λ p h. in_ready m (in_start_image choices m goes w (ready_in m goes w k h) tag)),
+                                      (λ p. stays m (in_body_start_void tag w) (tt, (tt, (tt, tt)))),
                                       (
-                                        (λ p h. in_ready m (in_start_input choices m goes w (ready_in m goes w k h) tag)),
+                                        (λ p h. in_ready m (in_start_image choices m goes w (ready_in m goes w k h) tag)),
                                         (
-                                          (λ p. stays m (in_body_start_part tag w) (tt, tt)),
+                                          (λ p h. in_ready m (in_start_input choices m goes w (ready_in m goes w k h) tag)),
                                           (
-                                            (λ p h. in_ready m (in_start_hr choices m goes w (ready_in m goes w k h) tag)),
+                                            (λ p. stays m (in_body_start_part tag w) (tt, tt)),
                                             (
-                                              (λ p. stays m (in_body_start_textarea tag w) (tt, (tt, (tt, (tt, (tt, tt)))))),
+                                              (λ p h. in_ready m (in_start_hr choices m goes w (ready_in m goes w k h) tag)),
                                               (
-                                                (λ p. stays m (in_body_start_xmp tag w) (tt, (tt, (tt, (tt, (tt, (tt, tt))))))),
+                                                (λ p. stays m (in_body_start_textarea tag w) (tt, (tt, (tt, (tt, (tt, tt)))))),
                                                 (
-                                                  (λ p. stays m (in_body_start_iframe tag w) (tt, (tt, (tt, (tt, tt))))),
+                                                  (λ p. stays m (in_body_start_xmp tag w) (tt, (tt, (tt, (tt, (tt, (tt, tt))))))),
                                                   (
-                                                    (λ p. stays m (in_body_start_noembed tag w) (tt, (tt, (tt, tt)))),
+                                                    (λ p. stays m (in_body_start_iframe tag w) (tt, (tt, (tt, (tt, tt))))),
                                                     (
-                                                      (λ p. stays_noscript m tag),
+                                                      (λ p. stays m (in_body_start_noembed tag w) (tt, (tt, (tt, tt)))),
                                                       (
-                                                        (λ p h. in_ready m (in_start_select choices m goes w (ready_in m goes w k h) tag p)),
+                                                        (λ p. stays_noscript m tag),
                                                         (
-                                                          (λ p h. in_ready m (in_start_option choices m goes w (ready_in m goes w k h) tag p)),
+                                                          (λ p h. in_ready m (in_start_select choices m goes w (ready_in m goes w k h) tag p)),
                                                           (
-                                                            (λ p h. in_ready m (in_start_optgroup choices m goes w (ready_in m goes w k h) tag p)),
+                                                            (λ p h. in_ready m (in_start_option choices m goes w (ready_in m goes w k h) tag p)),
                                                             (
-                                                              (λ p h. in_ready m (in_start_ruby_base choices m goes w (ready_in m goes w k h) tag p)),
+                                                              (λ p h. in_ready m (in_start_optgroup choices m goes w (ready_in m goes w k h) tag p)),
                                                               (
-                                                                (λ p h. in_ready m (in_start_ruby_text choices m goes w (ready_in m goes w k h) tag p)),
-                                                                ((λ p h. k), tt),
+                                                                (λ p h. in_ready m (in_start_ruby_base choices m goes w (ready_in m goes w k h) tag p)),
+                                                                (
+                                                                  (λ p h. in_ready m (in_start_ruby_text choices m goes w (ready_in m goes w k h) tag p)),
+                                                                  ((λ p h. k), tt),
+                                                                ),
                                                               ),
                                                             ),
                                                           ),
@@ -236,7 +255,7 @@ module _ (choices : SinkChoices) (w : World) (k : IsSteady w) where
                         (λ p h. in_ready m (in_end_marked choices m goes w (ready_in m goes w k h) tag p)),
                         (
                           (λ p. stays m (in_body_end_br tag w) (tt, (tt, (tt, tt)))),
-                          ((λ p h. k), tt),
+                          ((λ p. stays_end_template m tag), tt),
                         ),
                       ),
                     ),
@@ -260,4 +279,4 @@ module _ (choices : SinkChoices) (w : World) (k : IsSteady w) where
   stays_in_body m goes (CommentTurn x) some = stays m (row (AppendComment x ∷ []) IsDone) (tt, tt)
   stays_in_body m goes (TextTurn status x) some = stays_text m x some
   stays_in_body m goes NullTurn some = λ h. k
-  stays_in_body m goes EofTurn some = λ h. k
+  stays_in_body m goes EofTurn some = holds_chosen (Stays m) (no_template_mode w.template_modes) (body_ends [] IsDone w) (template_eof w) (λ e h. k) (λ e. stays_template_eof m)

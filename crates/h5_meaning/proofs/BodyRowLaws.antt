@@ -1,12 +1,12 @@
 -- The rows of the body: after each but that of an end tag `html` no other turn is taken and nothing is answered, and only
 -- formatting elements are listed.
-use Rattle.std.proofs.Common.{◌≡◌, ℕ, Bool, true, false, not, ◌&&◌, if◌then◌else◌, List, [], ◌∷◌, ◌++◌, Option, Some, None, codes, is_none, is_some, IsTrue, refl, ap, sym, subst, ◌∙◌}
+use Rattle.std.proofs.Common.{◌≡◌, ℕ, Bool, true, false, not, ◌&&◌, if◌then◌else◌, List, [], ◌∷◌, Option, Some, None, codes, is_some, refl}
 use Rattle.h5_names.specs.AttributeText.{AttributeText}
-use Rattle.h5_names.specs.declared.known_name.KnownName.TheVariants.{A, Html, Nobr}
+use Rattle.h5_names.specs.declared.known_name.KnownName.TheVariants.{Html, Noframes, Template}
 use Rattle.h5_types.specs.declared.modes.InsertionMode.TheVariants.{AfterBody}
 use Rattle.h5_token.specs.TokenText.{TagText}
-use Rattle.h5_tag_sets.specs.TagSets.{formatting_names, is_default_scope, is_heading, is_html_named, is_list_item_scope, is_one_of}
-use Rattle.h5_meaning.specs.InBody.{body_ends, body_in_scope, close_the_form, copies_option, form_in_scope, if_body_in_scope, in_body_end, in_body_end_block, in_body_end_body, in_body_end_br, in_body_end_description, in_body_end_form, in_body_end_formatting, in_body_end_heading, in_body_end_html, in_body_end_li, in_body_end_marked, in_body_end_option, in_body_end_other, in_body_end_p, in_body_start, in_body_start_body, in_body_start_button, in_body_start_form, in_body_start_input, in_body_start_noscript, in_body_start_optgroup, in_body_start_option, in_body_start_other, in_body_start_ruby, in_body_start_select, in_body_start_table, is_quirks, named_in_scope, oldest_option, unless_hidden}
+use Rattle.h5_tag_sets.specs.TagSets.{is_default_scope, is_heading, is_html_named, is_list_item_scope, is_one_of}
+use Rattle.h5_meaning.specs.InBody.{body_ends, body_in_scope, close_the_form, copies_option, form_in_scope, if_body_in_scope, in_body_end, in_body_end_block, in_body_end_body, in_body_end_br, in_body_end_description, in_body_end_form, in_body_end_formatting, in_body_end_heading, in_body_end_html, in_body_end_li, in_body_end_marked, in_body_end_option, in_body_end_other, in_body_end_p, in_body_start, in_body_start_body, in_body_start_button, in_body_start_form, in_body_start_frameset, in_body_start_input, in_body_start_noscript, in_body_start_optgroup, in_body_start_option, in_body_start_other, in_body_start_ruby, in_body_start_select, in_body_start_table, is_quirks, named_in_scope, oldest_option, unless_hidden}
 use Rattle.h5_stack.specs.Scope.{comes_before_special, has_p_in_button_scope, has_template, in_scope, second_is}
 use Rattle.h5_meaning.specs.Rows.{AddAttrsToHtml, AddAttrsToSecond, Answers, Change, Ending, GenerateImpliedEnd, GenerateImpliedEndExcept, IsAcknowledged, IsDone, Row, SetFramesetNotOk, SetMode, choose, errs, ignored}
 use Rattle.h5_meaning.specs.Shared.{current_is, head_start_names, in_body_start_html, inserts, is_context, is_type_hidden}
@@ -15,7 +15,7 @@ use Rattle.h5_meaning.proofs.ListedLaws.{AllListable}
 use Rattle.h5_meaning.specs.ByName.{NonePasses, by_name, named, of_tag}
 use Rattle.h5_meaning.proofs.ByNameLaws.{holds_by_name, of_named, of_one}
 use Rattle.h5_meaning.proofs.ReadyLaws.{a_formatting, nobr_formatting}
-use Rattle.h5_meaning.specs.InHead.{in_head_else, in_head_links, in_head_raw, in_head_start, in_head_start_link, in_head_start_noscript, in_head_start_raw, in_head_start_script, in_head_start_tag, in_head_start_title}
+use Rattle.h5_meaning.specs.InHead.{in_head_else, in_head_links, in_head_raw, in_head_start, in_head_start_link, in_head_start_noscript, in_head_start_raw, in_head_start_script, in_head_end_template, in_head_start_tag, in_head_start_template, in_head_start_title}
 use Rattle.h5_meaning.proofs.ToldLaws.{IsTold, NoText}
 use Rattle.h5_types.specs.TurnText.{TagTurn}
 use Rattle.h5_meaning.specs.InHeadNoscript.{noscript_content_names}
@@ -44,7 +44,7 @@ ignored_row = is_row ignored tt (tt, tt)
 -- each start tag that goes by the rules of the head has a rule there
 pub head_start_passes : (l : List ℕ) → is_one_of head_start_names l ≡ true → NonePasses in_head_start l → ⊥
 unfolding head_start_names in_head_start in_head_links in_head_raw
-head_start_passes l h = of_one (λ s. NonePasses in_head_start s → ⊥) head_start_names l ((λ n. cc), ((λ n. cc), ((λ n. cc), ((λ n. cc), ((λ n. cc), ((λ n. cc), ((λ n. cc), ((λ n. cc), ((λ n. cc), tt))))))))) h
+head_start_passes l h = of_one (λ s. NonePasses in_head_start s → ⊥) head_start_names l ((λ n. cc), ((λ n. cc), ((λ n. cc), ((λ n. cc), ((λ n. cc), ((λ n. cc), ((λ n. cc), ((λ n. cc), ((λ n. cc), ((λ n. cc), tt)))))))))) h
 
 pub noscript_content_passes : (l : List ℕ) → is_one_of noscript_content_names l ≡ true → NonePasses in_head_start l → ⊥
 unfolding noscript_content_names in_head_start in_head_links in_head_raw
@@ -52,7 +52,15 @@ noscript_content_passes l h = of_one (λ s. NonePasses in_head_start s → ⊥) 
 
 pub table_text_passes : (l : List ℕ) → is_one_of table_text_names l ≡ true → NonePasses in_head_start l → ⊥
 unfolding table_text_names in_head_start in_head_links in_head_raw
-table_text_passes l h = of_one (λ s. NonePasses in_head_start s → ⊥) table_text_names l ((λ n. cc), ((λ n. cc), tt)) h
+table_text_passes l h = of_one (λ s. NonePasses in_head_start s → ⊥) table_text_names l ((λ n. cc), ((λ n. cc), ((λ n. cc), tt))) h
+
+pub noframes_passes : (l : List ℕ) → named Noframes l ≡ true → NonePasses in_head_start l → ⊥
+unfolding in_head_start in_head_links in_head_raw
+noframes_passes l h = of_named (λ s. NonePasses in_head_start s → ⊥) Noframes l (λ n. cc) h
+
+pub template_passes : (l : List ℕ) → named Template l ≡ true → NonePasses in_head_start l → ⊥
+unfolding in_head_start in_head_links in_head_raw
+template_passes l h = of_named (λ s. NonePasses in_head_start s → ⊥) Template l (λ n. cc) h
 
 module _ (tag : TagText) (w : World) where
   row_start_html : IsBodyRow (in_body_start_html tag w)
@@ -62,6 +70,10 @@ module _ (tag : TagText) (w : World) where
   row_start_body : IsBodyRow (in_body_start_body tag w)
   unfolding in_body_start_body
   row_start_body = chosen_row (second_is (codes "body") (names_of w) && not (has_template (names_of w))) (errs (SetFramesetNotOk ∷ AddAttrsToSecond tag.attrs ∷ []) IsDone) ignored (is_row _ tt (tt, tt)) ignored_row
+
+  row_start_frameset : IsBodyRow (in_body_start_frameset tag w)
+  unfolding in_body_start_frameset
+  row_start_frameset = chosen_row (w.frameset_ok && second_is (codes "body") (names_of w)) _ ignored (is_row _ tt (tt, (refl, tt))) ignored_row
 
   row_start_form : IsBodyRow (in_body_start_form tag w)
   unfolding in_body_start_form
@@ -124,7 +136,10 @@ module _ (tag : TagText) (w : World) where
             (λ p. of _ head_noscript),
             (
               (λ p. of _ (is_row (in_head_start_script tag w) tt (tt, (refl, tt)))),
-              ((λ p. of _ ignored_row), tt),
+              (
+                (λ p. of _ (is_row (in_head_start_template tag w) tt (tt, (refl, (refl, tt))))),
+                ((λ p. of _ ignored_row), tt),
+              ),
             ),
           ),
         ),
@@ -145,43 +160,43 @@ module _ (tag : TagText) (w : World) where
       (
         (λ p. row_start_body),
         (
-          (λ p. is_row _ tt (tt, tt)),
+          (λ p. row_start_frameset),
           (
             (λ p. is_row _ tt (tt, tt)),
             (
               (λ p. is_row _ tt (tt, tt)),
               (
-                (λ p. row_start_form),
+                (λ p. is_row _ tt (tt, tt)),
                 (
-                  (λ p. is_row _ tt (tt, tt)),
+                  (λ p. row_start_form),
                   (
                     (λ p. is_row _ tt (tt, tt)),
                     (
                       (λ p. is_row _ tt (tt, tt)),
                       (
-                        (λ p. row_start_button),
+                        (λ p. is_row _ tt (tt, tt)),
                         (
-                          (λ p. is_row _ tt ((a_formatting tag.name p, tt), tt)),
+                          (λ p. row_start_button),
                           (
-                            (λ p. is_row _ tt ((nobr_formatting tag.name p, tt), tt)),
+                            (λ p. is_row _ tt ((a_formatting tag.name p, tt), tt)),
                             (
-                              (λ p. is_row _ tt ((p, tt), tt)),
+                              (λ p. is_row _ tt ((nobr_formatting tag.name p, tt), tt)),
                               (
-                                (λ p. is_row _ tt (tt, tt)),
+                                (λ p. is_row _ tt ((p, tt), tt)),
                                 (
-                                  (λ p. row_start_table),
+                                  (λ p. is_row _ tt (tt, tt)),
                                   (
-                                    (λ p. is_row _ tt (tt, tt)),
+                                    (λ p. row_start_table),
                                     (
                                       (λ p. is_row _ tt (tt, tt)),
                                       (
-                                        (λ p. row_start_input),
+                                        (λ p. is_row _ tt (tt, tt)),
                                         (
-                                          (λ p. is_row _ tt (tt, tt)),
+                                          (λ p. row_start_input),
                                           (
                                             (λ p. is_row _ tt (tt, tt)),
                                             (
-                                              (λ p. is_row _ tt (tt, (refl, tt))),
+                                              (λ p. is_row _ tt (tt, tt)),
                                               (
                                                 (λ p. is_row _ tt (tt, (refl, tt))),
                                                 (
@@ -189,18 +204,21 @@ module _ (tag : TagText) (w : World) where
                                                   (
                                                     (λ p. is_row _ tt (tt, (refl, tt))),
                                                     (
-                                                      (λ p. row_start_noscript),
+                                                      (λ p. is_row _ tt (tt, (refl, tt))),
                                                       (
-                                                        (λ p. row_start_select),
+                                                        (λ p. row_start_noscript),
                                                         (
-                                                          (λ p. row_start_option),
+                                                          (λ p. row_start_select),
                                                           (
-                                                            (λ p. row_start_optgroup),
+                                                            (λ p. row_start_option),
                                                             (
-                                                              (λ p. row_start_ruby GenerateImpliedEnd (tt, tt)),
+                                                              (λ p. row_start_optgroup),
                                                               (
-                                                                (λ p. row_start_ruby (GenerateImpliedEndExcept (codes "rtc")) (tt, tt)),
-                                                                ((λ p. ignored_row), tt),
+                                                                (λ p. row_start_ruby GenerateImpliedEnd (tt, tt)),
+                                                                (
+                                                                  (λ p. row_start_ruby (GenerateImpliedEndExcept (codes "rtc")) (tt, tt)),
+                                                                  ((λ p. ignored_row), tt),
+                                                                ),
                                                               ),
                                                             ),
                                                           ),
@@ -279,6 +297,10 @@ module _ (tag : TagText) (w : World) where
   unfolding in_body_end_marked
   row_end_marked = chosen_row (named_in_scope tag.name w) _ ignored (is_row _ tt (tt, tt)) ignored_row
 
+  pub row_end_template : IsBodyRow (in_head_end_template tag w)
+  unfolding in_head_end_template
+  row_end_template = chosen_row (has_template (names_of w)) _ ignored (is_row _ tt (tt, tt)) ignored_row
+
   row_end_other : IsBodyRow (in_body_end_other tag w)
   unfolding in_body_end_other
   row_end_other = chosen_row (comes_before_special tag.name (names_of w)) _ ignored (is_row _ tt (tt, tt)) ignored_row
@@ -310,7 +332,7 @@ module _ (tag : TagText) (w : World) where
                         (λ p. of _ row_end_marked),
                         (
                           (λ p. of _ (is_row (in_body_end_br tag w) tt (tt, tt))),
-                          ((λ p. of _ ignored_row), tt),
+                          ((λ p. of _ row_end_template), tt),
                         ),
                       ),
                     ),

@@ -1,7 +1,7 @@
 -- The modes of captions, column groups and cells: after each row the open elements fit the mode that it leaves.
 use Rattle.std.proofs.Common.{◌≡◌, inl, inr, ℕ, Bool, true, false, List, [], ◌∷◌, codes, refl, ap, sym, subst, ◌∙◌}
 use Rattle.h5_names.specs.declared.qualified.QualName.{QualName}
-use Rattle.h5_names.specs.declared.known_name.KnownName.TheVariants.{Caption, Table}
+use Rattle.h5_names.specs.declared.known_name.KnownName.TheVariants.{Caption, Table, Template}
 use Rattle.h5_token.specs.TokenText.{TagText}
 use Rattle.h5_token.specs.declared.tag.TagKind.{TagKind}
 use Rattle.h5_token.specs.declared.tag.TagKind.TheVariants.{StartTag, EndTag}
@@ -21,24 +21,27 @@ use Rattle.h5_meaning.specs.Changes.{insert_and_pop_element, pop, pop_until_name
 use Rattle.h5_meaning.specs.Closing.{generate_implied_end, pop_until_cell}
 use Rattle.h5_meaning.specs.Formatting.{clear_active_formatting_to_marker}
 use Rattle.h5_meaning.specs.InBody.{in_body}
-use Rattle.h5_meaning.specs.Shared.{current_is}
+use Rattle.h5_meaning.specs.Shared.{current_is, head_start_names}
 use Rattle.h5_meaning.specs.InCaption.{close_the_caption, in_caption, in_caption_end, in_caption_ignored_ends, in_caption_start, in_caption_tag}
 use Rattle.h5_meaning.specs.InCell.{close_the_cell, in_cell, in_cell_closing_ends, in_cell_end, in_cell_end_cell, in_cell_end_structure, in_cell_ignored_ends, in_cell_start, in_cell_start_structure, in_cell_tag}
 use Rattle.h5_meaning.specs.InColumnGroup.{close_the_column_group, in_column_group, in_column_group_else, in_column_group_end, in_column_group_start, in_column_group_start_col, in_column_group_tag}
+use Rattle.h5_meaning.specs.InHead.{in_head_start_tag}
 use Rattle.h5_meaning.specs.Rows.{Again, ClearActiveFormattingToMarker, GenerateImpliedEnd, IsDone, Pop, PopUntilNamed, SetMode, ignored, row, row_if}
 use Rattle.h5_meaning.specs.Sound.{situation_of}
 use Rattle.h5_meaning.specs.Tables.{in_table_scope, named_in_table_scope}
 use Rattle.h5_meaning.specs.World.{World, names_of}
 use Rattle.h5_meaning.proofs.BodyFitsLaws.{NoPartOf, apart, is_of_table, kept_in_body}
-use Rattle.h5_meaning.proofs.ByNameLaws.{holds_by_name, holds_chosen}
+use Rattle.h5_meaning.proofs.ByNameLaws.{holds_by_name, holds_chosen, of_named}
 use Rattle.h5_meaning.proofs.ClosingLaws.{named_not_implied, names-all_implied, still_in_scope}
+use Rattle.h5_meaning.proofs.HeadContentLaws.{kept_head_content}
 use Rattle.h5_meaning.proofs.KeptLaws.{FitsAs, Kept, as_before, fits_at, kept_append, kept_comment, kept_start_html}
 use Rattle.h5_meaning.proofs.ListsLaws.{IsSteady}
 use Rattle.h5_meaning.proofs.NameLaws.{names-cut, names-insert_and_pop, names-until_cell}
 use Rattle.h5_meaning.proofs.PopLaws.{names-pop}
-use Rattle.h5_meaning.proofs.ReadyInLaws.{in_implied, ready_in, steady}
+use Rattle.h5_meaning.proofs.ReadyInLaws.{in_implied, ready_in}
 use Rattle.h5_meaning.proofs.SituationLaws.{situation_leaf, situation_pop}
 use Rattle.h5_meaning.proofs.TableFitsLaws.{cell_local}
+use Rattle.h5_meaning.proofs.TemplateRowLaws.{kept_end_template}
 
 -- NAMES
 
@@ -174,21 +177,25 @@ module _ (choices : SinkChoices) (w : World) (steady : IsSteady w) where
       as_before InColumnGroup w (insert_and_pop_element choices tag.name tag.attrs tag.had_duplicate_attributes w) steady.sound (situation_leaf choices w tag.name tag.attrs tag.had_duplicate_attributes steady.sound)
       (names-insert_and_pop choices tag.name tag.attrs tag.had_duplicate_attributes w steady.sound)
 
-  kept_colgroup_tag : (kind : TagKind) (tag : TagText) → Kept choices w InColumnGroup (by_kind kind (by_name in_column_group_start (of_tag in_column_group_else) tag w) (by_name in_column_group_end (of_tag in_column_group_else) tag w))
-  unfolding in_column_group_start in_column_group_end
-  kept_colgroup_tag StartTag tag = holds_by_name (Kept choices w InColumnGroup) in_column_group_start (of_tag in_column_group_else) tag w ((λ p. kept_start_html choices w steady.sound InColumnGroup tag), ((λ p. kept_start_col tag), tt))
-      (λ n. kept_close_colgroup)
-  kept_colgroup_tag EndTag tag = holds_by_name (Kept choices w InColumnGroup) in_column_group_end (of_tag in_column_group_else) tag w ((λ p. kept_end_colgroup), ((λ p h. h), tt)) (λ n. kept_close_colgroup)
+  kept_column_template : w.mode ≡ InColumnGroup → (tag : TagText) → named Template tag.name ≡ true → Kept choices w InColumnGroup (in_head_start_tag tag w)
+  unfolding head_start_names
+  kept_column_template same tag p = kept_head_content choices w steady.sound InColumnGroup same refl tag (of_named (λ n. is_one_of head_start_names n ≡ true) Template tag.name refl p) (λ q. refl)
 
-  pub kept_in_column_group : (t : TurnText) → HasText t → Kept choices w InColumnGroup (in_column_group t w)
+  kept_colgroup_tag : w.mode ≡ InColumnGroup → (kind : TagKind) (tag : TagText) → Kept choices w InColumnGroup (by_kind kind (by_name in_column_group_start (of_tag in_column_group_else) tag w) (by_name in_column_group_end (of_tag in_column_group_else) tag w))
+  unfolding in_column_group_start in_column_group_end
+  kept_colgroup_tag same StartTag tag = holds_by_name (Kept choices w InColumnGroup) in_column_group_start (of_tag in_column_group_else) tag w ((λ p. kept_start_html choices w steady.sound InColumnGroup tag), ((λ p. kept_start_col tag), ((λ p. kept_column_template same tag p), tt)))
+      (λ n. kept_close_colgroup)
+  kept_colgroup_tag same EndTag tag = holds_by_name (Kept choices w InColumnGroup) in_column_group_end (of_tag in_column_group_else) tag w ((λ p. kept_end_colgroup), ((λ p h. h), ((λ p. kept_end_template choices w steady.sound InColumnGroup refl tag), tt))) (λ n. kept_close_colgroup)
+
+  pub kept_in_column_group : w.mode ≡ InColumnGroup → (t : TurnText) → HasText t → Kept choices w InColumnGroup (in_column_group t w)
   unfolding in_column_group_tag
-  kept_in_column_group (TagTurn tag) some = kept_colgroup_tag tag.kind tag
-  kept_in_column_group (CommentTurn x) some = kept_comment choices w steady.sound InColumnGroup x
-  kept_in_column_group (TextTurn Whitespace x) some = kept_append choices w steady.sound InColumnGroup x some
-  kept_in_column_group (TextTurn NotWhitespace x) some = kept_close_colgroup
-  kept_in_column_group (TextTurn NotSplit x) some = kept_close_colgroup
-  kept_in_column_group NullTurn some = kept_close_colgroup
-  kept_in_column_group EofTurn some = λ h. h
+  kept_in_column_group same (TagTurn tag) some = kept_colgroup_tag same tag.kind tag
+  kept_in_column_group same (CommentTurn x) some = kept_comment choices w steady.sound InColumnGroup x
+  kept_in_column_group same (TextTurn Whitespace x) some = kept_append choices w steady.sound InColumnGroup x some
+  kept_in_column_group same (TextTurn NotWhitespace x) some = kept_close_colgroup
+  kept_in_column_group same (TextTurn NotSplit x) some = kept_close_colgroup
+  kept_in_column_group same NullTurn some = kept_close_colgroup
+  kept_in_column_group same EofTurn some = kept_in_body choices w steady InColumnGroup refl same EofTurn tt tt
 
   -- IN A CELL
 

@@ -2,10 +2,10 @@
 -- are ready after it, and the open elements fit the mode.
 use Rattle.std.proofs.lemmas.Bool.{eqb-true}
 use Rattle.std.proofs.lemmas.Slice.Eq.{bytes_eq-Decides}
-use Rattle.std.proofs.Common.{◌≡◌, ◌≢◌, ℕ, ◌==◌, Bool, true, false, cond, not, ◌&&◌, List, [], ◌∷◌, Option, Some, None, codes, IsTrue, inl, inr, refl, ap, sym, subst, ◌∙◌}
+use Rattle.std.proofs.Common.{◌≡◌, ℕ, ◌==◌, Bool, true, false, cond, not, ◌&&◌, List, [], ◌∷◌, Option, Some, None, codes, IsTrue, inl, inr, refl, ap, sym, subst, ◌∙◌}
 use Rattle.h5_names.specs.AttributeText.{AttributeText, is_same_text}
 use Rattle.h5_names.specs.declared.qualified.QualName.{QualName}
-use Rattle.h5_interface.specs.Forest.{ElementNode, Forest, IsElement, kind_of}
+use Rattle.h5_interface.specs.Forest.{Forest, IsElement, kind_of}
 use Rattle.h5_interface.specs.SinkChoices.{Rearranges, SinkChoices}
 use Rattle.h5_tag_sets.specs.TagSets.{html_namespace, formatting_names, is_default_scope, is_html_named, is_implied, is_one_of, is_special}
 use Rattle.h5_types.specs.declared.modes.InsertionMode.{InsertionMode}
@@ -14,7 +14,7 @@ use Rattle.h5_stack.specs.Order.{IsIn, is_in}
 use Rattle.h5_fits.specs.Frames.{Frame, passes_table_scope}
 use Rattle.h5_fits.specs.Roles.{PlainRole, is_plain, role_of, role_of_local, roles}
 use Rattle.h5_fits.proofs.BoolLaws.{and_both, and_not}
-use Rattle.h5_fits.proofs.FrameLaws.{frame_refl, frame_trans}
+use Rattle.h5_fits.proofs.FrameLaws.{frame_trans}
 use Rattle.h5_fits.proofs.SetLaws.{ordinary_plain}
 use Rattle.h5_meaning.proofs.TreeLaws.{OnlyTree, tree_implied_except, tree_pop, tree_remove, tree_then, tree_until}
 use Rattle.h5_meaning.specs.Closing.{close_item, close_list_item, copy_closed_option, ends_item_search, generate_implied_end, generate_implied_end_in_select, is_html_among, newest_item, passed_names}

@@ -1,5 +1,5 @@
 -- Closing elements (HTML standard, sections 13.2.6.3 and 13.2.6.4.7): which names are left, and that the root stays.
-use Rattle.std.proofs.Common.{◌≡◌, ℕ, Bool, true, false, cond, ◌&&◌, ◌||◌, List, [], ◌∷◌, codes, refl, ap, sym, ◌∙◌}
+use Rattle.std.proofs.Common.{◌≡◌, ℕ, Bool, true, false, cond, ◌&&◌, ◌||◌, List, [], ◌∷◌, codes, refl, ap, sym, subst, ◌∙◌}
 use Rattle.std.specs.List.{list_any}
 use Rattle.std.proofs.lemmas.Slice.Eq.{bytes_eq-Decides}
 use Rattle.h5_names.specs.AttributeText.{is_same_text}
@@ -7,21 +7,21 @@ use Rattle.h5_names.specs.declared.qualified.QualName.{QualName}
 use Rattle.h5_interface.specs.Changes.{mark}
 use Rattle.h5_interface.specs.SinkChoices.{SinkChoices}
 use Rattle.h5_interface.proofs.MakingLaws.{mark_rearranges}
-use Rattle.h5_tag_sets.specs.TagSets.{block_end_names, heading_names, html_namespace, implied_names, is_button_scope, is_default_scope, is_heading, is_html_named, is_implied, is_one_of}
+use Rattle.h5_tag_sets.specs.TagSets.{block_end_names, heading_names, html_namespace, implied_names, is_button_scope, is_heading, is_html_named, is_implied, is_one_of, is_thorough_implied, thorough_implied_names}
 use Rattle.h5_stack.specs.FormattingNames.{html_name}
 use Rattle.h5_stack.specs.Order.{but_first}
-use Rattle.h5_stack.specs.Scope.{cut_names, drop_while, first_passes, has_p_in_button_scope, in_scope, is_implied_but, later_names}
+use Rattle.h5_stack.specs.Scope.{cut_names, drop_while, first_passes, in_scope, is_implied_but, later_names}
 use Rattle.h5_fits.specs.Root.{IsRootOpen}
 use Rattle.h5_fits.proofs.BoolLaws.{and_both, and_not, or_neither}
-use Rattle.h5_fits.proofs.RoleLaws.{made_named, named_local}
-use Rattle.h5_fits.proofs.SetLaws.{implied_not_html, in_set}
-use Rattle.h5_fits.proofs.OpenLaws.{open_cut, open_implied, open_pop, open_while}
-use Rattle.h5_meaning.specs.Changes.{generate_implied_end_except, pop, pop_until_named, pop_while}
-use Rattle.h5_meaning.specs.Closing.{close_p_element, close_p_element_in_button_scope, generate_implied_end, pop_heading, pop_until_heading}
+use Rattle.h5_fits.proofs.RoleLaws.{made_named}
+use Rattle.h5_fits.proofs.SetLaws.{in_set}
+use Rattle.h5_fits.proofs.OpenLaws.{open_while}
+use Rattle.h5_meaning.specs.Changes.{generate_implied_end_except, pop, pop_while}
+use Rattle.h5_meaning.specs.Closing.{close_p_element, generate_implied_end, generate_implied_end_thoroughly, pop_heading, pop_until_heading}
 use Rattle.h5_meaning.specs.Sound.{Sound}
 use Rattle.h5_meaning.specs.World.{World, current, names_of}
 use Rattle.h5_meaning.proofs.NameLaws.{cut_map, names-cut, names-implied, names_while}
-use Rattle.h5_meaning.proofs.PopLaws.{all_cut, names-pop}
+use Rattle.h5_meaning.proofs.PopLaws.{names-pop}
 use Rattle.h5_meaning.proofs.SoundLaws.{all_but_first, all_rearranged}
 
 -- lists of names with none in common
@@ -65,10 +65,42 @@ heading_named_not_implied : (local : List ℕ) → is_one_of heading_names local
 unfolding implied_names heading_names
 heading_named_not_implied local heading n h = named_not_implied heading_names local n refl heading h
 
+-- neither a template nor the root has an implied end tag, however thoroughly they are generated
+named_not_thorough : (local : List ℕ) (n : QualName) → list_any (is_one_of thorough_implied_names) (local ∷ []) ≡ false → is_thorough_implied n ≡ true → is_html_named local n ≡ false
+unfolding is_thorough_implied
+named_not_thorough local n none h = at (is_html_named local n) refl
+  where
+    at : (b : Bool) → is_html_named local n ≡ b → b ≡ false
+    at false e = refl
+    at true e =
+        absurd (let out = sets_apart (local ∷ []) thorough_implied_names n none h in
+        let inside = in_set (local ∷ []) local n (ap (λ b. b || false) ((bytes_eq-Decides local local).1 refl)) e in cc)
+
+pub template_not_thorough : (n : QualName) → is_thorough_implied n ≡ true → is_html_named (codes "template") n ≡ false
+unfolding thorough_implied_names implied_names
+template_not_thorough n h = named_not_thorough (codes "template") n refl h
+
+pub html_not_thorough : (n : QualName) → is_thorough_implied n ≡ true → is_html_named (codes "html") n ≡ false
+unfolding thorough_implied_names implied_names
+html_not_thorough n h = named_not_thorough (codes "html") n refl h
+
+-- what is popped is no element that names are cut at, so cutting there leaves the same
+pub cut_dropped : (is popped : QualName → Bool) → ((n : QualName) → popped n ≡ true → is n ≡ false) → (ns : List QualName) → cut_names is (drop_while popped ns) ≡ cut_names is ns
+cut_dropped is popped apart [] = refl
+cut_dropped is popped apart (n ∷ ns) = at (popped n) refl (cut_dropped is popped apart ns)
+  where
+    at : (b : Bool) → popped n ≡ b → cut_names is (drop_while popped ns) ≡ cut_names is ns → cut_names is (cond b (drop_while popped ns) (n ∷ ns)) ≡ cut_names is (n ∷ ns)
+    at true e later = later ∙ ap (λ b. cond b ns (cut_names is ns)) (sym (apart n e))
+    at false e later = refl
+
 -- names after closing
 pub names-all_implied : (choices : SinkChoices) (w : World) → names_of (generate_implied_end choices w) ≡ drop_while is_implied (names_of w)
 unfolding generate_implied_end
 names-all_implied choices w = names_while choices is_implied (names_of w) w refl
+
+pub names-thorough_implied : (choices : SinkChoices) (w : World) → names_of (generate_implied_end_thoroughly choices w) ≡ drop_while is_thorough_implied (names_of w)
+unfolding generate_implied_end_thoroughly
+names-thorough_implied choices w = names_while choices is_thorough_implied (names_of w) w refl
 
 pub names-until_heading : (w : World) → names_of (pop_until_heading w) ≡ cut_names is_heading (names_of w)
 unfolding names_of pop_until_heading
@@ -143,3 +175,11 @@ while_holds P choices popped one (n ∷ ns) w k =
       | true ↦ while_holds P choices popped one ns (pop choices w) (one w k)
       | false ↦ k
     ]
+
+-- thorough implied ends leave all standing, and the root open
+pub thorough_sound : (choices : SinkChoices) (w : World) → Sound w → Sound (generate_implied_end_thoroughly choices w)
+unfolding generate_implied_end_thoroughly
+thorough_sound choices w k = while_holds Sound choices is_thorough_implied (pop_sound choices) (names_of w) w k
+
+pub thorough_root_open : (choices : SinkChoices) (w : World) → IsRootOpen (names_of w) → IsRootOpen (names_of (generate_implied_end_thoroughly choices w))
+thorough_root_open choices w h = subst IsRootOpen (sym (names-thorough_implied choices w)) (open_while is_thorough_implied (names_of w) html_not_thorough h)

@@ -8,7 +8,7 @@ use Rattle.h5_stack.specs.FormattingNames.{AllFormatting}
 use Rattle.h5_types.specs.TurnText.{TextTurn, TurnText}
 use Rattle.h5_types.specs.declared.modes.InsertionMode.{InsertionMode}
 use Rattle.h5_types.specs.declared.modes.SplitStatus.TheVariants.{NotWhitespace}
-use Rattle.h5_types.specs.declared.modes.InsertionMode.TheVariants.{Initial, BeforeHtml, BeforeHead, InHead, InHeadNoscript, AfterHead, InBody, Text, InTable, InTableText, InCaption, InColumnGroup, InTableBody, InRow, InCell, AfterBody, AfterAfterBody}
+use Rattle.h5_types.specs.declared.modes.InsertionMode.TheVariants.{Initial, BeforeHtml, BeforeHead, InHead, InHeadNoscript, AfterHead, InBody, Text, InTable, InTableText, InCaption, InColumnGroup, InTableBody, InRow, InCell, AfterBody, AfterAfterBody, InTemplate, InFrameset, AfterFrameset, AfterAfterFrameset}
 use Rattle.h5_meaning.specs.Blanks.{is_blank, all_blank, blanks_of, rest_of}
 use Rattle.h5_meaning.specs.Changes.{append_pending_text, append_text, pop, save_mode, set_foster, set_frameset_ok_by_text, set_mode, with_forest}
 use Rattle.h5_meaning.specs.Formatting.{reconstruct_active_formatting_elements}
@@ -362,10 +362,20 @@ column_group_holds choices b t d u w h k = at (current_is (codes "colgroup") w) 
         ∙ sym (is (d ∷ u) v (any_mode append_text appends (all_blanks (b ∷ t)) w ∙ h))
         ∙ ap (text_rule choices (d ∷ u)) (sym (column_stays choices (b ∷ t) w e))
 
--- a mode that isn't reached yet, whose rule of texts does nothing
-unreached_holds : (choices : SinkChoices) (m : InsertionMode) → ((t : List ℕ) (w : World) → text_in m choices t w ≡ w) → Holds choices m
-unreached_holds choices m none b t d u w h =
-    none ((b ∷ t) ++ d ∷ u) w ∙ sym (none (d ∷ u) w) ∙ sym (by_mode choices m (d ∷ u) w h) ∙ ap (text_rule choices (d ∷ u)) (sym (none (b ∷ t) w))
+-- in a template as in the body
+in_template_holds : (choices : SinkChoices) → Holds choices InTemplate
+in_template_holds choices = stays_holds choices InTemplate (text_in_body choices) (in_body_twice choices) (λ s v e. by_mode choices InTemplate s v e)
+
+-- in and after framesets blanks alone
+blanks_alone : (choices : SinkChoices) (m : InsertionMode) (f : List ℕ → World → World) → Blanks f → ((t : List ℕ) (w : World) → text_in m choices t w ≡ if_any f (all_blanks t) w) → Holds choices m
+blanks_alone choices m f bs is b t d u w h =
+    let v = if_any f (all_blanks (b ∷ t)) w in
+    is ((b ∷ t) ++ d ∷ u) w
+    ∙ ap (λ x. if_any f x w) (all_blanks-append (b ∷ t) (d ∷ u))
+    ∙ sym (any_twice f bs (all_blanks (b ∷ t)) (all_blanks (d ∷ u)) w)
+    ∙ sym (is (d ∷ u) v)
+    ∙ sym (by_mode choices m (d ∷ u) v (any_mode f bs (all_blanks (b ∷ t)) w ∙ h))
+    ∙ ap (text_rule choices (d ∷ u)) (sym (is (b ∷ t) w))
 
 holds : (choices : SinkChoices) (m : InsertionMode) → HoldsListed choices m
 holds choices Initial = λ b t d u w h k. initial_holds choices b t d u w h
@@ -385,7 +395,10 @@ holds choices InRow = in_row_holds choices
 holds choices InCell = λ b t d u w h k. in_cell_holds choices b t d u w h
 holds choices AfterBody = λ b t d u w h k. after_body_holds choices b t d u w h
 holds choices AfterAfterBody = λ b t d u w h k. after_after_body_holds choices b t d u w h
-holds choices m = λ b t d u w h k. unreached_holds choices m (λ s v. refl) b t d u w h
+holds choices InTemplate = λ b t d u w h k. in_template_holds choices b t d u w h
+holds choices InFrameset = λ b t d u w h k. blanks_alone choices InFrameset append_text appends (λ s v. refl) b t d u w h
+holds choices AfterFrameset = λ b t d u w h k. blanks_alone choices AfterFrameset append_text appends (λ s v. refl) b t d u w h
+holds choices AfterAfterFrameset = λ b t d u w h k. blanks_alone choices AfterAfterFrameset (text_in_body choices) (in_body_twice choices) (λ s v. refl) b t d u w h
 
 -- The rule on a text and another is the rule on the first, and then the text rule of the view that is reached on the
 -- second. The list of active formatting elements is of their names: were a `table` listed, it could be made anew where a

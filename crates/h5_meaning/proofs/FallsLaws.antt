@@ -9,7 +9,7 @@ use Rattle.h5_interface.specs.declared.marks.QuirksMode.TheVariants.{Quirks}
 use Rattle.h5_tag_sets.specs.TagSets.{html_namespace, is_html_named}
 use Rattle.h5_stack.specs.FormattingList.{ElementEntry, Entry, MarkerEntry, closed_front}
 use Rattle.h5_stack.specs.FormattingNames.{AllFormatting, html_name}
-use Rattle.h5_stack.specs.Scope.{first_passes, later_names}
+use Rattle.h5_stack.specs.Scope.{first_passes, has_template, later_names}
 use Rattle.h5_types.specs.TurnText.{CommentTurn, EofTurn, NullTurn, TagTurn, TextTurn, TurnText}
 use Rattle.h5_types.specs.declared.modes.InsertionMode.{InsertionMode}
 use Rattle.h5_types.specs.declared.modes.InsertionMode.TheVariants.{AfterAfterBody, AfterAfterFrameset, AfterBody, AfterFrameset, BeforeHtml, InCell, InColumnGroup, InFrameset, InTable, InTableText, Initial, Text}
@@ -18,35 +18,37 @@ use Rattle.h5_fits.specs.Fits.{Placed, Situation, is_table_mode, is_whole, may_b
 use Rattle.h5_fits.specs.NamesFit.{NamesFit}
 use Rattle.h5_fits.specs.Reset.{reset}
 use Rattle.h5_fits.specs.Roles.{PlainRole, Role, TableRole, count_roles, has_role, is_template, later_roles, role_of, role_of_local, roles}
+use Rattle.h5_fits.proofs.ChangeLaws.{later_kinds}
 use Rattle.h5_fits.proofs.CutLaws.{cut_root}
 use Rattle.h5_fits.proofs.HeadLaws.{text_pop}
 use Rattle.h5_fits.proofs.NamesFitLaws.{names_table_text_ended, roles_later}
-use Rattle.h5_fits.proofs.NamesTableLaws.{table_cut}
+use Rattle.h5_fits.proofs.NamesTableLaws.{table_cut, template_cut}
 use Rattle.h5_fits.proofs.RankLaws.{again_falls}
-use Rattle.h5_fits.proofs.RankWeightLaws.{colgroup_falls, eof_falls, is_text, names_rank_bound, rank_usual, table_falls, table_text_falls, weight_pop, weight_push}
+use Rattle.h5_fits.proofs.RankWeightLaws.{closes_templates, colgroup_falls, eof_falls, is_text, names_rank_bound, rank_usual, table_falls, table_text_falls, template_again_falls, weight_pop, weight_push}
 use Rattle.h5_fits.proofs.RankWeightLaws as weights
 use Rattle.h5_fits.proofs.Ranks as edges
 use Rattle.h5_fits.proofs.Ranks.{CellTurns, ColTurns, EndHtmlTurns, EndPartTurns, EofTurns, OtherTurns, PartTurns, RowTurns, StartTableTurns, TextTurns, TurnKind, early_below, eof_weight, is_eof, is_table_like, rank, rank_in, rank_saved}
 use Rattle.h5_fits.proofs.RoleLaws.{role_named}
 use Rattle.h5_meaning.specs.Changes.{append_text, create_root, insert_element, insert_head, mark_started, pop, pop_until_named, set_foster, set_frameset_ok_by_text, set_mode, set_quirks_mode, take_pending_text}
 use Rattle.h5_meaning.specs.Blanks.{all_blank}
-use Rattle.h5_meaning.specs.Formatting.{insert_anew, reconstruct_active_formatting_elements}
+use Rattle.h5_meaning.specs.Formatting.{clear_active_formatting_to_marker, insert_anew, reconstruct_active_formatting_elements}
 use Rattle.h5_meaning.specs.InBody.{in_body}
 use Rattle.h5_meaning.specs.Shared.{current_is}
 use Rattle.h5_meaning.specs.InTableText.{pending_text, saved_mode}
 use Rattle.h5_meaning.specs.InitialMode.{initial_else}
 use Rattle.h5_meaning.specs.Modes.{rule}
 use Rattle.h5_meaning.specs.Reset.{reset_mode}
-use Rattle.h5_meaning.specs.Rows.{Again, AgainBy, AppendText, Change, Ending, IsDone, MarkStarted, Pop, PopUntilNamed, Row, SetQuirksMode, TakePendingText, apply_all, changed_by, choose, errs, next_mode, row}
+use Rattle.h5_meaning.specs.Rows.{Again, AgainBy, AppendText, Change, ClearActiveFormattingToMarker, Ending, IsDone, MarkStarted, Pop, PopTemplateMode, PopUntilNamed, ResetMode, Row, SetQuirksMode, TakePendingText, apply_all, changed_by, choose, errs, next_mode, row}
 use Rattle.h5_meaning.specs.Sound.{Fits, Sound, situation_of}
 use Rattle.h5_meaning.specs.Tables.{foster, named_in_table_scope}
+use Rattle.h5_meaning.specs.Templates.{pop_template_mode}
 use Rattle.h5_meaning.specs.TextMode.{marks_script}
 use Rattle.h5_meaning.specs.World.{World, name_in, names_of}
 use Rattle.h5_meaning.proofs.AgainLaws.{end_no_eof, kind_of_tag, kind_of_turn, leads_next, start_no_eof}
 use Rattle.h5_meaning.proofs.FormattingLaws.{sound_anew, sound_reconstruct}
 use Rattle.h5_meaning.proofs.NameLaws.{names-append, names-cut, names-insert, names-insert_head, names-insert_root}
 use Rattle.h5_meaning.proofs.PopLaws.{names-mark_started, names-pop, names_length}
-use Rattle.h5_meaning.proofs.TableAgainLaws.{ByEdge, ClosesColumnGroup, ClosesTable, EndsText, RowLeads, TakesPending, leads}
+use Rattle.h5_meaning.proofs.TableAgainLaws.{ByEdge, ClosesColumnGroup, ClosesTable, ClosesTemplate, EndsText, RowLeads, TakesPending, leads}
 use Rattle.h5_meaning.proofs.TableTextLaws.{formatting_role, front_formatting}
 use Rattle.h5_meaning.proofs.TreeLaws.{tree_reconstruct}
 
@@ -146,6 +148,20 @@ falling_column choices w i h k e =
     (subst (λ m. rank StartTableTurns (situation_of u) InTable (roles (names_of u)) < rank StartTableTurns (situation_of w) m (roles (names_of w))) (sym i)
     (subst (λ ns. rank StartTableTurns (situation_of u) InTable (roles ns) < rank StartTableTurns (situation_of w) InColumnGroup (roles (names_of w))) (sym (names-pop choices w))
     (column_falls (situation_of w) (situation_of u) (names_of w) h)))
+
+-- the end of the file closes a template
+falling_template : (choices : SinkChoices) (w : World) → Fits w → closes_templates w.mode ≡ true → has_template (names_of w) ≡ true
+    → Falling EofTurns choices w (PopUntilNamed (codes "template") ∷ ClearActiveFormattingToMarker ∷ PopTemplateMode ∷ ResetMode ∷ []) (AgainBy reset_mode)
+unfolding reset_mode pop_until_named clear_active_formatting_to_marker names_of
+falling_template choices w f i h k e =
+    let u = pop_template_mode (clear_active_formatting_to_marker (pop_until_named (codes "template") w)) in
+    let v = set_mode (reset_mode u) u in
+    let s = situation_of v in
+    let same : reset s (roles (names_of v)) ≡ k = cc in
+    let cut = template_cut (names_of w) h in
+    subst (λ j. rank EofTurns s j (roles (names_of v)) < rank EofTurns (situation_of w) w.mode (roles (names_of w))) same
+    (subst (λ ns. rank EofTurns s (reset s (roles ns)) (roles ns) < rank EofTurns (situation_of w) w.mode (roles (names_of w))) (sym (names-cut (codes "template") w))
+    (template_again_falls s s (situation_of w) w.mode cut (later_kinds w.template_modes f.mode.fits.known.kinds) (cut_root cut f.mode.fits.known.root) i))
 
 -- the mode that was left is taken up again
 back_to : (w v : World) (m k : InsertionMode) → v.saved_mode ≡ w.saved_mode → w.saved_mode ≡ Some m → Some (saved_mode v) ≡ Some k → m ≡ k
@@ -268,6 +284,10 @@ falling_row t choices w s f (ClosesColumnGroup i q h e x) =
     subst (λ y. Falling y choices w r.changes r.ending) (sym q) (falling_as StartTableTurns choices w r (Pop ∷ []) (Again InTable) e x (falling_column choices w i h))
 falling_row t choices w s f (TakesPending i h e x) =
     falling_as (kind_of_turn t) choices w (rule w.mode t w) (TakePendingText ∷ (pending_text w.pending w).changes) (AgainBy saved_mode) e x (falling_pending (kind_of_turn t) choices w s f i h)
+falling_row t choices w s f (ClosesTemplate i q h e x) =
+    let r = rule w.mode t w in
+    subst (λ y. Falling y choices w r.changes r.ending) (sym q)
+    (falling_as EofTurns choices w r (PopUntilNamed (codes "template") ∷ ClearActiveFormattingToMarker ∷ PopTemplateMode ∷ ResetMode ∷ []) (AgainBy reset_mode) e x (falling_template choices w f i h))
 falling_row t choices w s f (EndsText i q e x) =
     let r = rule w.mode t w in
     subst (λ y. Falling y choices w r.changes r.ending) (sym q) (falling_as EofTurns choices w r (marks_script w ++ Pop ∷ []) (AgainBy saved_mode) e x (falling_text choices w f i))
@@ -291,6 +311,7 @@ text_falls choices t w k i e = at (leads w.mode t w)
     at (ClosesTable j q h d x) = absurd (let n = sym i ∙ q in cc)
     at (ClosesColumnGroup j q h d x) = absurd (let n = sym i ∙ q in cc)
     at (TakesPending j h d x) = absurd (let n = ap is_text (sym i) ∙ h in cc)
+    at (ClosesTemplate j q h d x) = absurd (let n = sym i ∙ q in cc)
     at (EndsText j q d x) = absurd (let n = sym i ∙ q in cc)
 
 -- THE RANK is some

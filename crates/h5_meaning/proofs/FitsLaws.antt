@@ -1,12 +1,12 @@
 -- What a mode tells of open elements stays true, row by row.
-use Rattle.std.proofs.Common.{◌≡◌, ◌<◌, inl, ℕ, true, false, [], length, refl, sym, subst}
+use Rattle.std.proofs.Common.{◌≡◌, ◌<◌, inl, ℕ, true, false, [], ◌∷◌, is_some, length, refl, sym, subst}
 use Rattle.h5_token.specs.TokenText.{TagText}
 use Rattle.h5_token.specs.declared.tag.TagKind.{TagKind}
 use Rattle.h5_token.specs.declared.tag.TagKind.TheVariants.{StartTag, EndTag}
 use Rattle.h5_interface.specs.SinkChoices.{SinkChoices}
-use Rattle.h5_types.specs.TurnText.{TurnText, TagTurn, CommentTurn, TextTurn, EofTurn, HasText}
+use Rattle.h5_types.specs.TurnText.{TurnText, TagTurn, CommentTurn, TextTurn, EofTurn, HasText, NullTurn}
 use Rattle.h5_types.specs.declared.modes.InsertionMode.{InsertionMode}
-use Rattle.h5_types.specs.declared.modes.InsertionMode.TheVariants.{AfterAfterBody, AfterBody, AfterHead, BeforeHead, BeforeHtml, InBody, InCaption, InCell, InColumnGroup, InHead, InHeadNoscript, InRow, InTable, InTableBody, InTableText, Initial, Text}
+use Rattle.h5_types.specs.declared.modes.InsertionMode.TheVariants.{AfterAfterBody, AfterBody, AfterHead, BeforeHead, BeforeHtml, InBody, InCaption, InCell, InColumnGroup, InHead, InHeadNoscript, InRow, InTable, InTableBody, InTableText, InTemplate, InFrameset, AfterFrameset, AfterAfterFrameset, Initial, Text}
 use Rattle.h5_types.specs.declared.modes.SplitStatus.TheVariants.{Whitespace}
 use Rattle.h5_types.specs.declared.turns.ProcessResult.{ProcessResult}
 use Rattle.h5_types.specs.declared.turns.ProcessResult.TheVariants as results
@@ -20,26 +20,29 @@ use Rattle.h5_meaning.specs.AfterBody.{after_body, after_body_end, after_body_st
 use Rattle.h5_meaning.specs.AfterHead.{after_head, after_head_tag}
 use Rattle.h5_meaning.specs.BeforeHead.{before_head, before_head_tag}
 use Rattle.h5_meaning.specs.BeforeHtml.{before_html, before_html_tag}
-use Rattle.h5_meaning.specs.ByName.{by_kind, by_name, of_tag}
+use Rattle.h5_meaning.specs.ByName.{by_kind, by_name, ignored_tag, of_tag}
 use Rattle.h5_meaning.specs.Changes.{set_mode}
 use Rattle.h5_meaning.specs.InHead.{in_head, in_head_tag}
 use Rattle.h5_meaning.specs.InHeadNoscript.{in_head_noscript, in_head_noscript_tag}
+use Rattle.h5_meaning.specs.InTemplate.{in_template, in_template_as, in_template_end, in_template_start, in_template_tag}
 use Rattle.h5_meaning.specs.InitialMode.{initial}
 use Rattle.h5_meaning.specs.Modes.{rule}
-use Rattle.h5_meaning.specs.Rows.{Again, Ending, Follows, apply_all, errs, next_mode}
+use Rattle.h5_meaning.specs.Rows.{Again, Ending, Follows, IsDone, SetMode, apply_all, errs, ignored, next_mode, row}
 use Rattle.h5_meaning.specs.Sound.{Fits, HasLists, Sound, situation_of}
 use Rattle.h5_meaning.specs.World.{World, names_of}
 use Rattle.h5_meaning.proofs.BodyFitsLaws.{NoPart, kept_in_body, kept_text_in_body}
-use Rattle.h5_meaning.proofs.ByNameLaws.{holds_by_name}
+use Rattle.h5_meaning.proofs.ByNameLaws.{holds_by_name, holds_chosen}
 use Rattle.h5_meaning.proofs.CellFitsLaws.{kept_in_caption, kept_in_cell, kept_in_column_group}
+use Rattle.h5_meaning.proofs.FramesetRowLaws.{kept_after_after_frameset, kept_after_frameset, kept_in_frameset}
+use Rattle.h5_meaning.proofs.HeadContentLaws.{kept_head_content}
 use Rattle.h5_meaning.proofs.HeadFitsLaws.{kept_after_head, kept_before_head, kept_before_html, kept_body, kept_head, kept_in_head, kept_in_head_noscript, kept_initial, kept_noscript_pop, kept_pop, kept_root}
 use Rattle.h5_meaning.proofs.KeptLaws.{FitsAs, Kept, changes_mode, kept_append, kept_comment, kept_comment_to_document, kept_comment_to_root, kept_start_html, mode_with}
 use Rattle.h5_meaning.proofs.ListsLaws.{IsSteady}
 use Rattle.h5_meaning.proofs.PopLaws.{names_length}
 use Rattle.h5_meaning.proofs.RowListsLaws.{rule_lists}
 use Rattle.h5_meaning.proofs.TableFitsLaws.{kept_in_row, kept_in_table, kept_in_table_body, kept_in_table_text}
+use Rattle.h5_meaning.proofs.TemplateRowLaws.{kept_end_template, kept_template_eof, kept_template_mode}
 use Rattle.h5_meaning.proofs.TextFitsLaws.{kept_text_mode}
-use Rattle.h5_meaning.proofs.ReadyInLaws.{steady}
 
 module _ (choices : SinkChoices) (w : World) (steady : IsSteady w) where
   -- the modes before the body
@@ -93,7 +96,7 @@ module _ (choices : SinkChoices) (w : World) (steady : IsSteady w) where
   kept_after_body_tag : (k : TagKind) (tag : TagText) → Kept choices w AfterBody (by_kind k (by_name after_body_start (of_tag back_to_body) tag w) (by_name after_body_end (of_tag back_to_body) tag w))
   unfolding after_body_start after_body_end names_of
   kept_after_body_tag StartTag tag = holds_by_name (Kept choices w AfterBody) after_body_start (of_tag back_to_body) tag w ((λ p. kept_start_html choices w steady.sound AfterBody tag), tt) (λ n. in_body_again AfterBody refl)
-  kept_after_body_tag EndTag tag = holds_by_name (Kept choices w AfterBody) after_body_end (of_tag back_to_body) tag w ((λ p. after_after_body_fits), tt) (λ n. in_body_again AfterBody refl)
+  kept_after_body_tag EndTag tag = holds_by_name (Kept choices w AfterBody) after_body_end (of_tag back_to_body) tag w ((λ p. holds_chosen (Kept choices w AfterBody) (is_some w.context) ignored (row (SetMode AfterAfterBody ∷ []) IsDone) (λ e h. h) (λ e. after_after_body_fits)), tt) (λ n. in_body_again AfterBody refl)
 
   kept_after_after_body_tag : (k : TagKind) (tag : TagText) → Kept choices w AfterAfterBody (by_kind k (by_name after_after_body_start (of_tag back_to_body) tag w) (back_to_body (TagTurn tag) w))
   unfolding after_after_body_start
@@ -116,6 +119,27 @@ module _ (choices : SinkChoices) (w : World) (steady : IsSteady w) where
   kept_mode_after_after_body same EofTurn some = λ h. h
   kept_mode_after_after_body same t some = in_body_again AfterAfterBody refl
 
+  -- in a template
+  kept_template_tag : w.mode ≡ InTemplate → (k : TagKind) (tag : TagText) → Kept choices w InTemplate (by_kind k (by_name in_template_start (in_template_as InBody) tag w) (by_name in_template_end ignored_tag tag w))
+  unfolding in_template_start in_template_end
+  kept_template_tag same StartTag tag = holds_by_name (Kept choices w InTemplate) in_template_start (in_template_as InBody) tag w (
+    (λ p. kept_head_content choices w steady.sound InTemplate same refl tag p (λ q. refl)),
+    (
+      (λ p. kept_template_mode choices w tag InTable refl),
+      ((λ p. kept_template_mode choices w tag InColumnGroup refl), ((λ p. kept_template_mode choices w tag InTableBody refl), ((λ p. kept_template_mode choices w tag InRow refl), tt))),
+    ),
+  )
+      (λ n. kept_template_mode choices w tag InBody refl)
+  kept_template_tag same EndTag tag = holds_by_name (Kept choices w InTemplate) in_template_end ignored_tag tag w ((λ p. kept_end_template choices w steady.sound InTemplate refl tag), tt) (λ n h. h)
+
+  kept_mode_in_template : w.mode ≡ InTemplate → (t : TurnText) → HasText t → Kept choices w InTemplate (in_template t w)
+  unfolding in_template_tag
+  kept_mode_in_template same (TagTurn tag) some = kept_template_tag same tag.kind tag
+  kept_mode_in_template same (CommentTurn x) some = kept_in_body choices w steady InTemplate refl same (CommentTurn x) some tt
+  kept_mode_in_template same (TextTurn status x) some = kept_in_body choices w steady InTemplate refl same (TextTurn status x) some tt
+  kept_mode_in_template same NullTurn some = λ h. h
+  kept_mode_in_template same EofTurn some = kept_template_eof choices w steady.sound InTemplate refl
+
   in_body_itself : (t : TurnText) → NoPart InBody t
   in_body_itself (TagTurn tag) = inl refl
   in_body_itself _ = tt
@@ -133,13 +157,16 @@ module _ (choices : SinkChoices) (w : World) (steady : IsSteady w) where
   kept_rule InTable same t some = kept_in_table choices w steady InTable refl same t some
   kept_rule InTableText same t some = kept_in_table_text choices w steady t
   kept_rule InCaption same t some = kept_in_caption choices w steady same t some
-  kept_rule InColumnGroup same t some = kept_in_column_group choices w steady t some
+  kept_rule InColumnGroup same t some = kept_in_column_group choices w steady same t some
   kept_rule InTableBody same t some = kept_in_table_body choices w steady same t some
   kept_rule InRow same t some = kept_in_row choices w steady same t some
   kept_rule InCell same t some = kept_in_cell choices w steady same t some
   kept_rule AfterBody same t some = kept_mode_after_body same t some
   kept_rule AfterAfterBody same t some = kept_mode_after_after_body same t some
-  kept_rule _ same t some = λ h. h
+  kept_rule InTemplate same t some = kept_mode_in_template same t some
+  kept_rule InFrameset same t some = kept_in_frameset choices w steady.sound same t some
+  kept_rule AfterFrameset same t some = kept_after_frameset choices w steady.sound same t some
+  kept_rule AfterAfterFrameset same t some = kept_after_after_frameset choices w steady.sound same t some
 
 -- open elements that fit a mode, and a list that agrees with them, fit where the mode is set
 fits_set : (m : InsertionMode) (w : World) → FitsAs m w → HasLists w → Fits (set_mode m w)

@@ -4,7 +4,7 @@ use Rattle.h5_interface.specs.SinkChoices.{SinkChoices}
 use Rattle.h5_types.specs.TurnText.{TextTurn, TurnText}
 use Rattle.h5_types.specs.declared.modes.InsertionMode.{InsertionMode}
 use Rattle.h5_types.specs.declared.modes.SplitStatus.TheVariants.{NotWhitespace}
-use Rattle.h5_types.specs.declared.modes.InsertionMode.TheVariants.{Initial, BeforeHtml, BeforeHead, InHead, InHeadNoscript, AfterHead, InBody, Text, InTable, InTableText, InCaption, InColumnGroup, InTableBody, InRow, InCell, AfterBody, AfterAfterBody}
+use Rattle.h5_types.specs.declared.modes.InsertionMode.TheVariants.{Initial, BeforeHtml, BeforeHead, InHead, InHeadNoscript, AfterHead, InBody, Text, InTable, InTableText, InCaption, InColumnGroup, InTableBody, InRow, InCell, AfterBody, AfterAfterBody, InTemplate, InFrameset, AfterFrameset, AfterAfterFrameset}
 use Rattle.h5_meaning.specs.Blanks.{blanks_of, rest_of}
 use Rattle.h5_meaning.specs.Changes.{append_pending_text, append_text, insert_element, insert_head, create_root, save_mode, set_foster, set_frameset_ok_by_text, set_mode, pop, set_quirks_mode}
 use Rattle.h5_meaning.specs.AfterBody.{back_to_body}
@@ -118,7 +118,10 @@ in_keeps choices InRow = table_keeps choices
 in_keeps choices InCell = body_keeps choices
 in_keeps choices AfterBody = after_body_keeps choices
 in_keeps choices AfterAfterBody = after_body_keeps choices
-in_keeps choices _ = λ t w. refl
+in_keeps choices InTemplate = body_keeps choices
+in_keeps choices InFrameset = λ t w. any_keeps append_text append_keeps (all_blanks t) w
+in_keeps choices AfterFrameset = λ t w. any_keeps append_text append_keeps (all_blanks t) w
+in_keeps choices AfterAfterFrameset = λ t w. any_keeps (text_in_body choices) (body_keeps choices) (all_blanks t) w
 
 pub text_keeps_flag : (choices : SinkChoices) (t : List ℕ) (w : World) → (text_rule choices t w).ignore_lf ≡ w.ignore_lf
 text_keeps_flag choices t w = in_keeps choices w.mode t w

@@ -1,22 +1,23 @@
 -- Start tags that go by the rules of the head, in each mode that may be left for a text: after the row the open elements
 -- fit the mode that it leaves.
-use Rattle.std.proofs.Common.{◌≡◌, ◌≢◌, ℕ, Bool, true, false, List, [], ◌∷◌, ◌++◌, codes, refl, ap, sym, subst, ◌∙◌}
-use Rattle.h5_names.specs.declared.known_name.KnownName.TheVariants.{Noscript, Script, Title}
+use Rattle.std.proofs.Common.{◌≡◌, ℕ, true, false, List, [], ◌∷◌, codes, refl}
+use Rattle.h5_names.specs.declared.known_name.KnownName.TheVariants.{Noscript, Template, Title}
 use Rattle.h5_token.specs.TokenText.{TagText}
 use Rattle.h5_token.specs.declared.states.RawKind.{RawKind}
 use Rattle.h5_token.specs.declared.states.RawKind.TheVariants.{Rawtext, Rcdata}
 use Rattle.h5_interface.specs.SinkChoices.{SinkChoices}
 use Rattle.h5_types.specs.declared.modes.InsertionMode.{InsertionMode}
-use Rattle.h5_types.specs.declared.modes.InsertionMode.TheVariants.{BeforeHtml, InHeadNoscript, InTableText, Initial, Text}
+use Rattle.h5_types.specs.declared.modes.InsertionMode.TheVariants.{AfterHead, BeforeHtml, InHead, InTableText, Initial, Text}
 use Rattle.h5_meaning.specs.Shared.{head_start_names, inserts, raw_text}
-use Rattle.h5_fits.specs.Fits.{goes_by_body, is_before_root, may_be_left}
+use Rattle.h5_fits.specs.Fits.{goes_by_body, is_before_root, may_be_left, takes_template}
 use Rattle.h5_meaning.proofs.KeptLaws.{FitsAs, Kept, as_before, kept_start_html}
 use Rattle.h5_meaning.specs.World.{World, names_of}
 use Rattle.h5_meaning.specs.Sound.{Sound, situation_of}
 use Rattle.h5_meaning.specs.ByName.{NonePasses, named, of_tag}
-use Rattle.h5_meaning.specs.InHead.{in_head_else, in_head_raw, in_head_start, in_head_start_link, in_head_start_noscript, in_head_start_script, in_head_start_tag}
+use Rattle.h5_meaning.specs.InHead.{in_head_else, in_head_raw, in_head_start, in_head_start_link, in_head_start_noscript, in_head_start_script, in_head_start_tag, in_head_start_template}
 use Rattle.h5_fits.specs.Root.{IsRootOpen}
 use Rattle.h5_meaning.proofs.ByNameLaws.{holds_by_name, of_named}
+use Rattle.h5_meaning.proofs.TemplateRowLaws.{kept_start_template}
 use Rattle.h5_meaning.proofs.TextBeginsLaws.{script_begins, text_begins}
 use Rattle.h5_fits.proofs.PlainLaws.{set_plain}
 use Rattle.h5_fits.specs.Roles.{PlainRole, role_of_local}
@@ -42,12 +43,14 @@ body_left Text h = absurd (cc)
 body_left InTableText h = absurd (cc)
 body_left _ h = refl
 
--- names
-pub head_start_plain : (l : List ℕ) → is_one_of head_start_names l ≡ true → role_of_local l ≡ PlainRole
-unfolding head_start_names role_of_local
-head_start_plain l h = set_plain head_start_names l refl h
+-- and these take a template
+pub body_takes : (m : InsertionMode) → goes_by_body m ≡ true → takes_template m ≡ true
+body_takes InHead h = refl
+body_takes AfterHead h = refl
+body_takes _ h = h
 
-head_raw_plain : (l : List ℕ) → is_one_of in_head_raw l ≡ true → role_of_local l ≡ PlainRole
+-- names
+pub head_raw_plain : (l : List ℕ) → is_one_of in_head_raw l ≡ true → role_of_local l ≡ PlainRole
 unfolding in_head_raw role_of_local
 head_raw_plain l h = set_plain in_head_raw l refl h
 
@@ -58,7 +61,7 @@ head_text_plain : (l : List ℕ) → is_one_of head_text_names l ≡ true → ro
 unfolding head_text_names role_of_local
 head_text_plain l h = set_plain head_text_names l refl h
 
-title_plain : (l : List ℕ) → named Title l ≡ true → role_of_local l ≡ PlainRole
+pub title_plain : (l : List ℕ) → named Title l ≡ true → role_of_local l ≡ PlainRole
 unfolding head_text_names
 title_plain l h = of_named (λ n. role_of_local n ≡ PlainRole) Title l (head_text_plain (codes "title") refl) h
 
@@ -66,7 +69,7 @@ pub noscript_plain : (l : List ℕ) → named Noscript l ≡ true → role_of_lo
 unfolding head_text_names
 noscript_plain l h = of_named (λ n. role_of_local n ≡ PlainRole) Noscript l (head_text_plain (codes "noscript") refl) h
 
-script_plain : role_of_local (codes "script") ≡ PlainRole
+pub script_plain : role_of_local (codes "script") ≡ PlainRole
 unfolding head_text_names
 script_plain = head_text_plain (codes "script") refl
 
@@ -90,9 +93,9 @@ module _ (choices : SinkChoices) (w : World) (sound : Sound w) (m : InsertionMod
       (names-insert_and_pop choices tag.name tag.attrs tag.had_duplicate_attributes w sound) h
 
   -- by the rules of the head, where something is known of what isn't the same in all modes
-  pub kept_head_start : (tag : TagText) → (named Noscript tag.name ≡ true → KeptHere (in_head_start_noscript tag w)) → (NonePasses in_head_start tag.name → KeptHere (in_head_else (TagTurn tag) w)) → KeptHere (in_head_start_tag tag w)
+  pub kept_head_start : (tag : TagText) → (named Noscript tag.name ≡ true → KeptHere (in_head_start_noscript tag w)) → (named Template tag.name ≡ true → KeptHere (in_head_start_template tag w)) → (NonePasses in_head_start tag.name → KeptHere (in_head_else (TagTurn tag) w)) → KeptHere (in_head_start_tag tag w)
   unfolding in_head_start in_head_start_tag
-  kept_head_start tag noscript other = holds_by_name KeptHere in_head_start (of_tag in_head_else) tag w (
+  kept_head_start tag noscript template other = holds_by_name KeptHere in_head_start (of_tag in_head_else) tag w (
     (λ p. kept_start_html choices w sound m tag),
     (
       (λ p. kept_link tag),
@@ -104,7 +107,10 @@ module _ (choices : SinkChoices) (w : World) (sound : Sound w) (m : InsertionMod
             noscript,
             (
               (λ p. kept_script tag),
-              ((λ p h. h), tt),
+              (
+                template,
+                ((λ p h. h), tt),
+              ),
             ),
           ),
         ),
@@ -118,6 +124,7 @@ apart_noscript : (l : List ℕ) → is_one_of head_start_names l ≡ true → na
 unfolding head_start_names
 apart_noscript l h p = let out = of_named (λ n. is_one_of head_start_names n ≡ false) Noscript l refl p in cc
 
-pub kept_head_content : (choices : SinkChoices) (w : World) (sound : Sound w) (m : InsertionMode) (is : w.mode ≡ m) (left : may_be_left m ≡ true) (tag : TagText) → is_one_of head_start_names tag.name ≡ true → Kept choices w m (in_head_start_tag tag w)
-kept_head_content choices w sound m is left tag p =
-    kept_head_start choices w sound m is left tag (λ q. absurd (apart_noscript tag.name p q)) (λ n. absurd (head_start_passes tag.name p n))
+pub kept_head_content : (choices : SinkChoices) (w : World) (sound : Sound w) (m : InsertionMode) (is : w.mode ≡ m) (left : may_be_left m ≡ true) (tag : TagText) → is_one_of head_start_names tag.name ≡ true → (named Template tag.name ≡ true → takes_template m ≡ true)
+    → Kept choices w m (in_head_start_tag tag w)
+kept_head_content choices w sound m is left tag p takes =
+    kept_head_start choices w sound m is left tag (λ q. absurd (apart_noscript tag.name p q)) (λ q. kept_start_template choices w sound m tag (takes q)) (λ n. absurd (head_start_passes tag.name p n))

@@ -4,7 +4,7 @@ use Rattle.std.proofs.lemmas.Slice.Eq.{bytes_eq-Decides}
 use Rattle.h5_names.specs.AttributeText.{AttributeText}
 use Rattle.h5_names.specs.KnownNames.{name_text}
 use Rattle.h5_names.specs.declared.known_name.KnownName.{KnownName}
-use Rattle.h5_names.specs.declared.known_name.KnownName.TheVariants.{Body, Noscript}
+use Rattle.h5_names.specs.declared.known_name.KnownName.TheVariants.{Body, Noscript, Template}
 use Rattle.h5_token.specs.TokenText.{TagText}
 use Rattle.h5_token.specs.declared.states.RawKind.TheVariants.{Rawtext}
 use Rattle.h5_token.specs.declared.tag.TagKind.{TagKind}
@@ -15,6 +15,7 @@ use Rattle.h5_tag_sets.specs.TagSets.{is_html_named, is_one_of}
 use Rattle.h5_types.specs.TurnText.{TurnText}
 use Rattle.h5_types.specs.declared.modes.InsertionMode.TheVariants.{AfterHead, BeforeHead, BeforeHtml, InBody, InHead, InHeadNoscript, Initial}
 use Rattle.h5_stack.specs.FormattingNames.{html_name}
+use Rattle.h5_fits.specs.Fits.{takes_template}
 use Rattle.h5_fits.specs.NamesFit.{NamesFit}
 use Rattle.h5_fits.specs.Roles.{BodyRole, HeadRole, role_of_local}
 use Rattle.h5_fits.proofs.NamesFitLaws.{names_body_pushed, names_head_popped, names_head_pushed, names_noscript_popped, names_noscript_pushed, names_root_pushed}
@@ -35,11 +36,13 @@ use Rattle.h5_meaning.specs.Sound.{Sound, situation_of}
 use Rattle.h5_meaning.specs.World.{World, names_of}
 use Rattle.h5_meaning.proofs.AfterHeadLaws.{kept_with_head}
 use Rattle.h5_meaning.proofs.ByNameLaws.{holds_by_name, holds_chosen, of_named, of_one}
+use Rattle.h5_meaning.proofs.FramesetRowLaws.{kept_after_head_frameset}
 use Rattle.h5_meaning.proofs.HeadContentLaws.{kept_head_content, kept_head_start, kept_raw, noscript_plain}
 use Rattle.h5_meaning.proofs.KeptLaws.{FitsAs, Kept, fits_at, fits_frameset_off, kept_start_html}
 use Rattle.h5_meaning.proofs.NameLaws.{names-insert, names-insert_head, names-insert_root}
 use Rattle.h5_meaning.proofs.PopLaws.{names-pop}
 use Rattle.h5_meaning.proofs.SituationLaws.{situation_head, situation_insert, situation_later, situation_pop, situation_root}
+use Rattle.h5_meaning.proofs.TemplateRowLaws.{kept_end_after_head, kept_end_in_head, kept_start_template}
 
 -- a known name's role
 pub role_known : (known : KnownName) (name : List ℕ) → named known name ≡ true → role_of_local name ≡ role_of_local (name_text known)
@@ -49,6 +52,11 @@ role_known known name h = ap role_of_local ((bytes_eq-Decides name (name_text kn
 noscript_content : (l : List ℕ) → is_one_of noscript_content_names l ≡ true → is_one_of head_start_names l ≡ true
 unfolding noscript_content_names head_start_names
 noscript_content l h = of_one (λ n. is_one_of head_start_names n ≡ true) noscript_content_names l (refl, (refl, (refl, (refl, (refl, (refl, tt)))))) h
+
+-- and none is a template
+noscript_apart : (l : List ℕ) → is_one_of noscript_content_names l ≡ true → named Template l ≡ true → takes_template InHeadNoscript ≡ true
+unfolding noscript_content_names
+noscript_apart l h p = absurd (let out = of_named (λ n. is_one_of noscript_content_names n ≡ false) Template l refl p in let clash = sym h ∙ out in cc)
 
 module _ (choices : SinkChoices) (w : World) (sound : Sound w) where
   -- the root is made
@@ -141,8 +149,8 @@ module _ (choices : SinkChoices) (w : World) (sound : Sound w) where
 
   pub kept_in_head : w.mode ≡ InHead → (k : TagKind) (tag : TagText) → Kept choices w InHead (by_kind k (in_head_start_tag tag w) (by_name in_head_end ignored_tag tag w))
   unfolding in_head_end names_of
-  kept_in_head same StartTag tag = kept_head_start choices w sound InHead same refl tag (λ p. kept_noscript same tag p) (λ n. kept_pop)
-  kept_in_head same EndTag tag = holds_by_name (Kept choices w InHead) in_head_end ignored_tag tag w ((λ p. head_popped), ((λ p. kept_pop), tt)) (λ n h. h)
+  kept_in_head same StartTag tag = kept_head_start choices w sound InHead same refl tag (λ p. kept_noscript same tag p) (λ p. kept_start_template choices w sound InHead tag refl) (λ n. kept_pop)
+  kept_in_head same EndTag tag = holds_by_name (Kept choices w InHead) in_head_end ignored_tag tag w ((λ p. head_popped), ((λ p. kept_pop), ((λ p. kept_end_in_head choices w tag), tt))) (λ n h. h)
 
   pub kept_noscript_pop : Kept choices w InHeadNoscript (errs (Pop ∷ []) (Again InHead))
   kept_noscript_pop = noscript_popped
@@ -153,7 +161,7 @@ module _ (choices : SinkChoices) (w : World) (sound : Sound w) where
   kept_in_head_noscript same StartTag tag = holds_by_name (Kept choices w InHeadNoscript) in_head_noscript_start (of_tag in_head_noscript_else) tag w (
     (λ p. kept_start_html choices w sound InHeadNoscript tag),
     (
-      (λ p. kept_head_content choices w sound InHeadNoscript same refl tag (noscript_content tag.name p)),
+      (λ p. kept_head_content choices w sound InHeadNoscript same refl tag (noscript_content tag.name p) (λ q. noscript_apart tag.name p q)),
       ((λ p h. h), tt),
     ),
   )
@@ -170,10 +178,10 @@ module _ (choices : SinkChoices) (w : World) (sound : Sound w) where
     (
       (λ p h. fits_frameset_off InBody (insert_element choices tag.name tag.attrs tag.had_duplicate_attributes w) (body_pushed tag.name tag.attrs tag.had_duplicate_attributes (named_body tag.name p) h)),
       (
-        (λ p. kept_with_head choices w sound same tag p),
-        ((λ p h. h), tt),
+        (λ p. kept_after_head_frameset choices w sound tag p),
+        ((λ p. kept_with_head choices w sound same tag p), ((λ p h. h), tt)),
       ),
     ),
   )
       (λ n. kept_body)
-  kept_after_head same EndTag tag = holds_by_name (Kept choices w AfterHead) after_head_end ignored_tag tag w ((λ p h. h), ((λ p. kept_body), tt)) (λ n h. h)
+  kept_after_head same EndTag tag = holds_by_name (Kept choices w AfterHead) after_head_end ignored_tag tag w ((λ p h. h), ((λ p. kept_end_after_head choices w tag), ((λ p. kept_body), tt))) (λ n h. h)

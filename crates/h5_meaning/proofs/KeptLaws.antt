@@ -8,19 +8,19 @@ use Rattle.h5_stack.specs.Order.{second_from_last}
 use Rattle.h5_stack.specs.Scope.{has_template}
 use Rattle.h5_fits.specs.NamesFit.{NamesFit}
 use Rattle.h5_fits.proofs.SituationLaws.{names_later}
-use Rattle.h5_meaning.specs.Changes.{add_attrs_at, add_attrs_to_html, add_attrs_to_second, append_comment, append_comment_to_doc, append_comment_to_html, append_pending_text, append_text, create_root, insert_and_pop_element, insert_and_pop_form, insert_element, insert_form, insert_head, insert_script, mark_started, pop, pop_until_current, pop_until_named, set_foster, set_frameset_not_ok, set_frameset_ok_by_text, set_mode, set_quirks_mode}
-use Rattle.h5_meaning.specs.Closing.{copy_closed_option, pop_until_cell}
-use Rattle.h5_meaning.specs.Formatting.{clear_active_formatting_to_marker, insert_marker}
+use Rattle.h5_meaning.specs.Changes.{add_attrs_at, add_attrs_to_html, add_attrs_to_second, append_comment, append_comment_to_doc, append_comment_to_html, append_pending_text, append_text, create_root, insert_and_pop_element, insert_and_pop_form, insert_element, insert_form, insert_head, insert_script, mark_started, pop, pop_until_named, set_foster, set_frameset_not_ok, set_frameset_ok_by_text, set_mode, set_quirks_mode}
+use Rattle.h5_meaning.specs.Closing.{copy_closed_option}
 use Rattle.h5_meaning.specs.Reset.{reset_mode}
-use Rattle.h5_meaning.specs.Rows.{AddAttrsToHtml, AddAttrsToSecond, AdoptionAgency, AppendComment, AppendCommentToDoc, AppendCommentToHtml, AppendPendingText, AppendText, Change, ClearActiveFormattingToMarker, ClearForm, CloseListItem, ClosePElement, ClosePElementInButtonScope, CopyClosedOption, CreateFormattingElement, CreateRoot, Ending, GenerateImpliedEnd, GenerateImpliedEndExcept, GenerateImpliedEndInSelect, HandleMisnestedATags, HandleMisnestedNobrTags, InsertAndPopElement, InsertAndPopForm, InsertElement, InsertForm, InsertHead, InsertMarker, InsertScript, IsDone, MarkStarted, Pop, PopHeading, PopUntilCell, PopUntilCurrent, PopUntilHeading, PopUntilNamed, PushHead, ReconstructActiveFormattingElements, RemoveFromStack, ResetMode, Row, SaveMode, SetFoster, SetFramesetNotOk, SetFramesetOkByText, SetIgnoreLf, SetMode, SetQuirksMode, TakePendingText, apply, apply_all, errs, ignored, next_mode, row}
+use Rattle.h5_meaning.specs.Rows.{AddAttrsToHtml, AddAttrsToSecond, AdoptionAgency, AppendComment, AppendCommentToDoc, AppendCommentToHtml, AppendPendingText, AppendText, Change, ClearActiveFormattingToMarker, ClearForm, CloseListItem, ClosePElement, ClosePElementInButtonScope, CopyClosedOption, CreateFormattingElement, CreateRoot, GenerateImpliedEnd, GenerateImpliedEndExcept, GenerateImpliedEndInSelect, GenerateImpliedEndThoroughly, HandleMisnestedATags, HandleMisnestedNobrTags, InsertAndPopElement, InsertAndPopForm, InsertElement, InsertForm, InsertHead, InsertMarker, InsertScript, InsertTemplate, IsDone, MarkStarted, Pop, PopHeading, PopTemplateMode, PopUntilCell, PopUntilCurrent, PopUntilHeading, PopUntilNamed, PushHead, PushTemplateMode, ReconstructActiveFormattingElements, RemoveBody, RemoveFromStack, ResetMode, Row, SaveMode, SetFoster, SetFramesetNotOk, SetFramesetOkByText, SetIgnoreLf, SetMode, SetQuirksMode, SwitchTemplateMode, TakePendingText, apply, apply_all, errs, ignored, next_mode, row}
 use Rattle.h5_meaning.specs.Shared.{in_body_start_html}
 use Rattle.h5_meaning.specs.Sound.{Sound, situation_of}
 use Rattle.h5_meaning.specs.Tables.{foster}
 use Rattle.h5_meaning.specs.World.{World, names_of}
 use Rattle.h5_meaning.proofs.ByNameLaws.{holds_chosen}
-use Rattle.h5_meaning.proofs.NameLaws.{names-add_to_root, names-append, names-append_comment, names-append_comment_to_document, names-append_comment_to_root, names-insert_and_pop}
-use Rattle.h5_meaning.proofs.SituationLaws.{KeepsSituation, situation_add_to_root, situation_comment, situation_comment_to_document, situation_comment_to_root, situation_later, situation_leaf, situation_text}
-use Rattle.h5_meaning.proofs.TreeLaws.{OnlyTree, tree_adoption, tree_cleared, tree_close_p, tree_close_p_in_scope, tree_format, tree_implied, tree_implied_except, tree_in_select, tree_list_item, tree_marker, tree_misnested_a_tags, tree_misnested_nobr_tags, tree_pop_heading, tree_reconstruct, tree_remove, tree_until_cell, tree_until_current, tree_until_heading}
+use Rattle.h5_meaning.proofs.NameLaws.{names-add_to_root, names-append, names-append_comment, names-append_comment_to_document, names-append_comment_to_root}
+use Rattle.h5_meaning.proofs.SituationLaws.{KeepsSituation, situation_add_to_root, situation_comment, situation_comment_to_document, situation_comment_to_root, situation_later, situation_text}
+use Rattle.h5_meaning.proofs.TemplateLaws.{tree_insert_template}
+use Rattle.h5_meaning.proofs.TreeLaws.{OnlyTree, tree_adoption, tree_cleared, tree_close_p, tree_close_p_in_scope, tree_format, tree_implied, tree_implied_except, tree_implied_thoroughly, tree_in_select, tree_list_item, tree_marker, tree_misnested_a_tags, tree_misnested_nobr_tags, tree_pop_heading, tree_reconstruct, tree_remove, tree_remove_body, tree_until_cell, tree_until_current, tree_until_heading}
 
 -- the mode that changes of a world leave, where another mode than its own may count as the one before
 abbrev pub mode_after : SinkChoices → World → InsertionMode → List Change → InsertionMode
@@ -134,6 +134,12 @@ change_mode choices (RemoveFromStack element) w = tree_mode w _ (tree_remove cho
 change_mode choices (InsertScript attrs duplicates) w = refl
 change_mode choices MarkStarted w = refl
 change_mode choices PushHead w = refl
+change_mode choices GenerateImpliedEndThoroughly w = tree_mode w _ (tree_implied_thoroughly choices w)
+change_mode choices (PushTemplateMode mode) w = refl
+change_mode choices PopTemplateMode w = refl
+change_mode choices (SwitchTemplateMode mode) w = refl
+change_mode choices (InsertTemplate attrs duplicates) w = tree_mode w _ (tree_insert_template choices attrs duplicates w)
+change_mode choices RemoveBody w = tree_mode w _ (tree_remove_body w)
 
 mode_in_turn : (choices : SinkChoices) (w : World) (m : InsertionMode) (x : Change) (xs : List Change) → mode_after choices (apply choices x w) (mode_after choices w m (x ∷ [])) xs ≡ mode_after choices w m (x ∷ xs)
 mode_in_turn choices w m (SetMode k) xs = refl

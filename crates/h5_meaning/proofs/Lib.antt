@@ -20,6 +20,8 @@ pub mod FitsLaws
 pub mod FlagLaws
 pub mod FormattingLaws
 pub mod FosterLaws
+pub mod FramesetLaws
+pub mod FramesetRowLaws
 pub mod HeadContentLaws
 pub mod HeadFitsLaws
 pub mod JoinLaws
@@ -45,10 +47,12 @@ pub mod TableAgainLaws
 pub mod TableFitsLaws
 pub mod TableListsLaws
 pub mod TableTextLaws
+pub mod TemplateLaws
+pub mod TemplateRowLaws
 pub mod TextBeginsLaws
 pub mod TextFitsLaws
-pub mod TextKeptLaws
 pub mod TextForestLaws
+pub mod TextKeptLaws
 pub mod TextReadLaws
 pub mod ToldLaws
 pub mod TreeLaws

@@ -1,5 +1,5 @@
 -- Each rule creates formatting elements of their names alone.
-use Rattle.std.proofs.Common.{◌≡◌, ℕ, Bool, true, false, ◌||◌, if◌then◌else◌, is_some, List, [], ◌∷◌, ◌++◌, Option, Some, None, codes, refl}
+use Rattle.std.proofs.Common.{◌≡◌, ℕ, Bool, true, false, ◌||◌, if◌then◌else◌, is_some, List, [], ◌∷◌, ◌++◌, Option, Some, None, codes, refl, not, ◌&&◌}
 use Rattle.h5_token.specs.TokenText.{TagText}
 use Rattle.h5_token.specs.declared.tag.TagKind.{TagKind}
 use Rattle.h5_token.specs.declared.tag.TagKind.TheVariants.{StartTag, EndTag}
@@ -8,7 +8,7 @@ use Rattle.h5_tag_sets.specs.TagSets.{is_cell, is_one_of, is_table_body_context,
 use Rattle.h5_stack.specs.Scope.{has_template}
 use Rattle.h5_types.specs.TurnText.{TurnText, TagTurn, CommentTurn, TextTurn, NullTurn, EofTurn}
 use Rattle.h5_types.specs.declared.modes.InsertionMode.{InsertionMode}
-use Rattle.h5_types.specs.declared.modes.InsertionMode.TheVariants.{Initial, BeforeHtml, BeforeHead, InHead, InHeadNoscript, AfterHead, InBody, Text, InTable, InTableText, InCaption, InColumnGroup, InTableBody, InRow, InCell, AfterBody, AfterAfterBody}
+use Rattle.h5_types.specs.declared.modes.InsertionMode.TheVariants.{Initial, BeforeHtml, BeforeHead, InHead, InHeadNoscript, AfterHead, InBody, Text, InTable, InTableText, InCaption, InColumnGroup, InTableBody, InRow, InCell, AfterBody, AfterAfterBody, InTemplate, InFrameset, AfterFrameset, AfterAfterFrameset}
 use Rattle.h5_types.specs.declared.modes.SplitStatus.TheVariants.{NotSplit, Whitespace, NotWhitespace}
 use Rattle.h5_meaning.specs.AfterAfterBody.{after_after_body_start, after_after_body_tag}
 use Rattle.h5_meaning.specs.AfterBody.{after_body_end, after_body_start, after_body_tag, back_to_body}
@@ -18,11 +18,11 @@ use Rattle.h5_meaning.specs.BeforeHtml.{before_html_else, before_html_end, befor
 use Rattle.h5_meaning.specs.Blanks.{all_blank}
 use Rattle.h5_meaning.specs.ByName.{by_kind, by_name, ignored_tag, of_tag}
 use Rattle.h5_meaning.specs.Changes.{push_head, set_foster}
-use Rattle.h5_meaning.specs.InBody.{body_ends, body_in_scope, if_body_in_scope, in_body, in_body_end, in_body_end_other, in_body_start, in_body_start_other, in_body_tag}
+use Rattle.h5_meaning.specs.InBody.{body_ends, body_in_scope, if_body_in_scope, in_body, in_body_end, in_body_end_other, in_body_start, in_body_start_other, in_body_tag, no_template_mode}
 use Rattle.h5_meaning.specs.InCaption.{close_the_caption, in_caption_end, in_caption_start, in_caption_tag}
 use Rattle.h5_meaning.specs.InCell.{close_the_cell, in_cell_end, in_cell_end_cell, in_cell_end_structure, in_cell_start, in_cell_start_structure, in_cell_tag}
 use Rattle.h5_meaning.specs.InColumnGroup.{close_the_column_group, in_column_group_else, in_column_group_end, in_column_group_start, in_column_group_tag}
-use Rattle.h5_meaning.specs.InHead.{in_head_end, in_head_start_tag, in_head_tag}
+use Rattle.h5_meaning.specs.InHead.{in_head_end, in_head_start_tag, in_head_tag, template_eof}
 use Rattle.h5_meaning.specs.InRow.{close_the_row, in_row_end, in_row_end_section, in_row_start, in_row_tag}
 use Rattle.h5_meaning.specs.InTable.{in_table, in_table_else, in_table_end, in_table_end_table, in_table_start, in_table_start_form, in_table_start_input, in_table_start_table, in_table_tag, in_table_text_or_null, keeps_text}
 use Rattle.h5_meaning.specs.InTableBody.{in_table_body_close, in_table_body_end, in_table_body_end_section, in_table_body_start, in_table_body_tag, is_table_or_section}
@@ -36,11 +36,15 @@ use Rattle.h5_meaning.specs.Tables.{foster, in_table_scope, named_in_table_scope
 use Rattle.h5_meaning.specs.World.{World, names_of}
 use Rattle.h5_meaning.proofs.ByNameLaws.{holds_by_name}
 use Rattle.h5_meaning.proofs.ListedLaws.{AllListable}
-use Rattle.h5_meaning.proofs.BodyRowLaws.{head_start_passes, noscript_content_passes, row_end_by, row_head_start, row_head_start_by, row_start, table_text_passes}
+use Rattle.h5_meaning.proofs.BodyRowLaws.{head_start_passes, noscript_content_passes, row_end_by, row_head_start, row_head_start_by, row_start, table_text_passes, row_end_template, noframes_passes, template_passes}
 use Rattle.h5_token.specs.Reply.{RunsScript, TurnsPlain, TurnsRaw}
 use Rattle.h5_meaning.proofs.ToldLaws.{IsTold, NoMode, NoText, Tells, is_text, reset_no_text, told_append, told_chosen}
 use Rattle.h5_meaning.specs.TextMode.{marks_script, text_end, text_mode}
 use Rattle.h5_meaning.specs.InHeadNoscript.{in_head_noscript_else, in_head_noscript_end, in_head_noscript_start, in_head_noscript_tag}
+use Rattle.h5_meaning.specs.InTemplate.{in_template_as, in_template_end, in_template_start, in_template_tag}
+use Rattle.h5_meaning.specs.InFrameset.{in_frameset_end, in_frameset_end_frameset, in_frameset_start, in_frameset_tag, is_in_frameset, is_root_alone}
+use Rattle.h5_meaning.specs.AfterFrameset.{after_frameset_end, after_frameset_start, after_frameset_tag}
+use Rattle.h5_meaning.specs.AfterAfterFrameset.{after_after_frameset_tag}
 
 either : (b : Bool) (r s : Row) → IsTold r → IsTold s → IsTold (choose b r s)
 either b r s x y = told_chosen b r s x y
@@ -67,7 +71,7 @@ before_head_rows EndTag tag w = holds_by_name IsTold before_head_end ignored_tag
 in_head_rows : (k : TagKind) (tag : TagText) (w : World) → IsTold (by_kind k (in_head_start_tag tag w) (by_name in_head_end ignored_tag tag w))
 unfolding in_head_end
 in_head_rows StartTag tag w = (row_head_start_by tag w IsTold (λ r b. b.told)) (λ n. (tt, (refl, tt)))
-in_head_rows EndTag tag w = holds_by_name IsTold in_head_end ignored_tag tag w ((λ p. (tt, (refl, tt))), ((λ p. (tt, (refl, tt))), tt)) (λ n. (tt, tt))
+in_head_rows EndTag tag w = holds_by_name IsTold in_head_end ignored_tag tag w ((λ p. (tt, (refl, tt))), ((λ p. (tt, (refl, tt))), ((λ p. (row_end_template tag w).told), tt))) (λ n. (tt, tt))
 
 in_head_noscript_rows : (k : TagKind) (tag : TagText) (w : World)
     → IsTold (by_kind k (by_name in_head_noscript_start (of_tag in_head_noscript_else) tag w) (by_name in_head_noscript_end ignored_tag tag w))
@@ -102,13 +106,13 @@ with_head_row tag w p =
 after_head_rows : (k : TagKind) (tag : TagText) (w : World) → IsTold (by_kind k (by_name after_head_start (of_tag after_head_else) tag w) (by_name after_head_end ignored_tag tag w))
 unfolding after_head_start after_head_end
 after_head_rows StartTag tag w =
-    holds_by_name IsTold after_head_start (of_tag after_head_else) tag w ((λ p. told_html tag w), ((λ p. (tt, (refl, tt))), ((λ p. with_head_row tag w p), ((λ p. (tt, tt)), tt)))) (λ n. (tt, (refl, tt)))
-after_head_rows EndTag tag w = holds_by_name IsTold after_head_end ignored_tag tag w ((λ p. (tt, tt)), ((λ p. (tt, (refl, tt))), tt)) (λ n. (tt, tt))
+    holds_by_name IsTold after_head_start (of_tag after_head_else) tag w ((λ p. told_html tag w), ((λ p. (tt, (refl, tt))), ((λ p. (tt, (refl, tt))), ((λ p. with_head_row tag w p), ((λ p. (tt, tt)), tt))))) (λ n. (tt, (refl, tt)))
+after_head_rows EndTag tag w = holds_by_name IsTold after_head_end ignored_tag tag w ((λ p. (tt, tt)), ((λ p. (row_end_template tag w).told), ((λ p. (tt, (refl, tt))), tt))) (λ n. (tt, tt))
 
 after_body_rows : (k : TagKind) (tag : TagText) (w : World) → IsTold (by_kind k (by_name after_body_start (of_tag back_to_body) tag w) (by_name after_body_end (of_tag back_to_body) tag w))
 unfolding after_body_start after_body_end
 after_body_rows StartTag tag w = holds_by_name IsTold after_body_start (of_tag back_to_body) tag w ((λ p. told_html tag w), tt) (λ n. (tt, (refl, tt)))
-after_body_rows EndTag tag w = holds_by_name IsTold after_body_end (of_tag back_to_body) tag w ((λ p. (tt, (refl, tt))), tt) (λ n. (tt, (refl, tt)))
+after_body_rows EndTag tag w = holds_by_name IsTold after_body_end (of_tag back_to_body) tag w ((λ p. either (is_some w.context) ignored (row (SetMode AfterAfterBody ∷ []) IsDone) (tt, tt) (tt, (refl, tt))), tt) (λ n. (tt, (refl, tt)))
 
 after_after_body_rows : (k : TagKind) (tag : TagText) (w : World) → IsTold (by_kind k (by_name after_after_body_start (of_tag back_to_body) tag w) (back_to_body (TagTurn tag) w))
 unfolding after_after_body_start
@@ -128,12 +132,16 @@ body_tag_rows tag w = at tag.kind
     at StartTag = (row_start tag w).told
     at EndTag = row_end_by tag w IsTold (λ r b. b.told) (λ p. body_end_html w)
 
+told_template_eof : (w : World) → IsTold (template_eof w)
+unfolding template_eof
+told_template_eof w = either (has_template (names_of w)) _ (row [] IsDone) (tt, (tt, reset_no_text)) (tt, tt)
+
 body_rows : (t : TurnText) (w : World) → IsTold (in_body t w)
 body_rows (TagTurn tag) w = body_tag_rows tag w
 body_rows (CommentTurn text) w = (tt, tt)
 body_rows (TextTurn status text) w = (tt, tt)
 body_rows NullTurn w = (tt, tt)
-body_rows EofTurn w = (tt, tt)
+body_rows EofTurn w = either (no_template_mode w.template_modes) (body_ends [] IsDone w) (template_eof w) (tt, tt) (told_template_eof w)
 
 -- IN TABLES
 fosters : (on : Bool) (x : Ending) (xs : List Change) → AllListable xs × Tells x xs → AllListable (SetFoster on ∷ xs) × Tells x (SetFoster on ∷ xs)
@@ -186,7 +194,7 @@ module _ (tag : TagText) (w : World) where
   unfolding in_table_end in_table_end_table
   table_end_rows =
       holds_by_name IsTold in_table_end (of_tag in_table_else) tag w
-      ((λ p. either (named_in_table_scope (codes "table") w) (row (PopUntilNamed (codes "table") ∷ ResetMode ∷ []) IsDone) ignored (tt, tt) (tt, tt)), ((λ p. (tt, tt)), tt))
+      ((λ p. either (named_in_table_scope (codes "table") w) (row (PopUntilNamed (codes "table") ∷ ResetMode ∷ []) IsDone) ignored (tt, tt) (tt, tt)), ((λ p. (tt, tt)), ((λ p. (row_end_template tag w).told), tt)))
       (λ n. fostered_rows (TagTurn tag) w)
 
 table_tag_rows : (tag : TagText) (w : World) → IsTold (in_table_tag tag w)
@@ -206,7 +214,7 @@ table_rows (TagTurn tag) w = table_tag_rows tag w
 table_rows (CommentTurn text) w = (tt, tt)
 table_rows (TextTurn status text) w = table_text_rows (TextTurn status text) w
 table_rows NullTurn w = table_text_rows NullTurn w
-table_rows EofTurn w = (tt, tt)
+table_rows EofTurn w = body_rows EofTurn w
 
 -- what is kept back leads to no text
 pending_rows : (p : List ℕ) (w : World) → AllListable (pending_text p w).changes × NoText (pending_text p w).changes
@@ -300,13 +308,44 @@ column_close changes x w h = either (current_is (codes "colgroup") w) (row (Pop 
 column_rows : (k : TagKind) (tag : TagText) (w : World)
     → IsTold (by_kind k (by_name in_column_group_start (of_tag in_column_group_else) tag w) (by_name in_column_group_end (of_tag in_column_group_else) tag w))
 unfolding in_column_group_start in_column_group_end
-column_rows StartTag tag w = holds_by_name IsTold in_column_group_start (of_tag in_column_group_else) tag w ((λ p. told_html tag w), ((λ p. (tt, tt)), tt)) (λ n. column_close [] (Again InTable) w (tt, (refl, tt)))
+column_rows StartTag tag w = holds_by_name IsTold in_column_group_start (of_tag in_column_group_else) tag w ((λ p. told_html tag w), ((λ p. (tt, tt)), ((λ p. (row_head_start tag w (template_passes tag.name p)).told), tt))) (λ n. column_close [] (Again InTable) w (tt, (refl, tt)))
 column_rows EndTag tag w =
-    holds_by_name IsTold in_column_group_end (of_tag in_column_group_else) tag w ((λ p. column_close (SetMode InTable ∷ []) IsDone w (tt, (refl, tt))), ((λ p. (tt, tt)), tt)) (λ n. column_close [] (Again InTable) w (tt, (refl, tt)))
+    holds_by_name IsTold in_column_group_end (of_tag in_column_group_else) tag w ((λ p. column_close (SetMode InTable ∷ []) IsDone w (tt, (refl, tt))), ((λ p. (tt, tt)), ((λ p. (row_end_template tag w).told), tt))) (λ n. column_close [] (Again InTable) w (tt, (refl, tt)))
+
+-- IN TEMPLATES AND FRAMESETS
+template_rows : (k : TagKind) (tag : TagText) (w : World) → IsTold (by_kind k (by_name in_template_start (in_template_as InBody) tag w) (by_name in_template_end ignored_tag tag w))
+unfolding in_template_start in_template_end
+template_rows StartTag tag w =
+    holds_by_name IsTold in_template_start (in_template_as InBody) tag w
+    ((λ p. (row_head_start tag w (head_start_passes tag.name p)).told), ((λ p. (tt, (refl, (refl, tt)))), ((λ p. (tt, (refl, (refl, tt)))), ((λ p. (tt, (refl, (refl, tt)))), ((λ p. (tt, (refl, (refl, tt)))), tt))))) (λ n. (tt, (refl, (refl, tt))))
+template_rows EndTag tag w = holds_by_name IsTold in_template_end ignored_tag tag w ((λ p. (row_end_template tag w).told), tt) (λ n. (tt, tt))
+
+frameset_rows : (k : TagKind) (tag : TagText) (w : World) → IsTold (by_kind k (by_name in_frameset_start ignored_tag tag w) (by_name in_frameset_end ignored_tag tag w))
+unfolding in_frameset_start in_frameset_end in_frameset_end_frameset
+frameset_rows StartTag tag w =
+    holds_by_name IsTold in_frameset_start ignored_tag tag w
+    ((λ p. told_html tag w), ((λ p. (tt, tt)), ((λ p. (tt, tt)), ((λ p. (row_head_start tag w (noframes_passes tag.name p)).told), tt)))) (λ n. (tt, tt))
+frameset_rows EndTag tag w =
+    holds_by_name IsTold in_frameset_end ignored_tag tag w
+    ((λ p. either (is_root_alone (names_of w)) ignored _ (tt, tt) (either (not (is_some w.context) && not (is_in_frameset (names_of w))) (row (Pop ∷ SetMode AfterFrameset ∷ []) IsDone) (row (Pop ∷ []) IsDone) (tt, (refl, tt)) (tt, tt))), tt)
+    (λ n. (tt, tt))
+
+after_frameset_starts : (tag : TagText) (w : World) → IsTold (by_name after_frameset_start ignored_tag tag w)
+unfolding after_frameset_start
+after_frameset_starts tag w = holds_by_name IsTold after_frameset_start ignored_tag tag w ((λ p. told_html tag w), ((λ p. (row_head_start tag w (noframes_passes tag.name p)).told), tt)) (λ n. (tt, tt))
+
+after_frameset_rows : (k : TagKind) (tag : TagText) (w : World) → IsTold (by_kind k (by_name after_frameset_start ignored_tag tag w) (by_name after_frameset_end ignored_tag tag w))
+unfolding after_frameset_end
+after_frameset_rows StartTag tag w = after_frameset_starts tag w
+after_frameset_rows EndTag tag w = holds_by_name IsTold after_frameset_end ignored_tag tag w ((λ p. (tt, (refl, tt))), tt) (λ n. (tt, tt))
+
+after_after_frameset_rows : (k : TagKind) (tag : TagText) (w : World) → IsTold (by_kind k (by_name after_frameset_start ignored_tag tag w) ignored)
+after_after_frameset_rows StartTag tag w = after_frameset_starts tag w
+after_after_frameset_rows EndTag tag w = (tt, tt)
 
 -- ALL RULES but those in a text
 tag_rows : (m : InsertionMode) (tag : TagText) (w : World) → is_text m ≡ false → IsTold (rule m (TagTurn tag) w)
-unfolding before_html_tag before_head_tag in_head_tag in_head_noscript_tag after_head_tag after_body_tag after_after_body_tag in_caption_tag in_column_group_tag in_table_body_tag in_row_tag in_cell_tag
+unfolding before_html_tag before_head_tag in_head_tag in_head_noscript_tag after_head_tag after_body_tag after_after_body_tag in_caption_tag in_column_group_tag in_table_body_tag in_row_tag in_cell_tag in_template_tag in_frameset_tag after_frameset_tag after_after_frameset_tag
 tag_rows Initial tag w h = initial_row (TagTurn tag) w
 tag_rows BeforeHtml tag w h = before_html_rows tag.kind tag w
 tag_rows BeforeHead tag w h = before_head_rows tag.kind tag w
@@ -324,7 +363,10 @@ tag_rows InRow tag w h = row_rows tag w tag.kind
 tag_rows InCell tag w h = cell_rows tag w tag.kind
 tag_rows AfterBody tag w h = after_body_rows tag.kind tag w
 tag_rows AfterAfterBody tag w h = after_after_body_rows tag.kind tag w
-tag_rows _ tag w h = (tt, tt)
+tag_rows InTemplate tag w h = template_rows tag.kind tag w
+tag_rows InFrameset tag w h = frameset_rows tag.kind tag w
+tag_rows AfterFrameset tag w h = after_frameset_rows tag.kind tag w
+tag_rows AfterAfterFrameset tag w h = after_after_frameset_rows tag.kind tag w
 
 comment_rows : (m : InsertionMode) (x : List ℕ) (w : World) → is_text m ≡ false → IsTold (rule m (CommentTurn x) w)
 comment_rows InTableText x w h = table_text_else_rows (CommentTurn x) w
@@ -395,6 +437,14 @@ eof_rows InHeadNoscript w h = (tt, (refl, tt))
 eof_rows AfterHead w h = (tt, (refl, tt))
 eof_rows InTableText w h = table_text_else_rows EofTurn w
 eof_rows Text w h = absurd (cc)
+eof_rows InBody w h = body_rows EofTurn w
+eof_rows InTable w h = body_rows EofTurn w
+eof_rows InCaption w h = body_rows EofTurn w
+eof_rows InColumnGroup w h = body_rows EofTurn w
+eof_rows InTableBody w h = body_rows EofTurn w
+eof_rows InRow w h = body_rows EofTurn w
+eof_rows InCell w h = body_rows EofTurn w
+eof_rows InTemplate w h = told_template_eof w
 eof_rows _ w h = (tt, tt)
 
 pub rule_told : (m : InsertionMode) (t : TurnText) (w : World) → is_text m ≡ false → IsTold (rule m t w)

@@ -7,7 +7,7 @@ use Rattle.h5_interface.specs.Forest.{ChildText, Forest, parent_of}
 use Rattle.h5_interface.specs.SinkChoices.{Rearranges, SinkChoices}
 use Rattle.h5_interface.proofs.ForestLaws.{document_is_node}
 use Rattle.h5_interface.proofs.MakingLaws.{add_missing_rearranges, mark_rearranges}
-use Rattle.h5_tag_sets.specs.TagSets.{is_cell, is_default_scope, is_heading, is_html_named, is_implied}
+use Rattle.h5_tag_sets.specs.TagSets.{is_cell, is_default_scope, is_heading, is_html_named, is_implied, is_thorough_implied}
 use Rattle.h5_stack.specs.FormattingList.{MarkerEntry, clear_to_marker}
 use Rattle.h5_stack.specs.FormattingNames.{html_name}
 use Rattle.h5_stack.specs.Order.{second_from_last}
@@ -17,18 +17,21 @@ use Rattle.h5_stack.proofs.EachLaws.{each_cleared}
 use Rattle.h5_stack.proofs.KeptLaws.{lists_cleared, lists_marked, lists_pushed}
 use Rattle.h5_stack.proofs.PassLaws.{lists_cut_above, ordered_distinct}
 use Rattle.h5_meaning.specs.FormOwner.{Marking}
-use Rattle.h5_meaning.specs.Changes.{add_attrs_at, add_attrs_to_html, add_attrs_to_second, append_comment, append_comment_to_doc, append_comment_to_html, append_pending_text, append_text, create_root, generate_implied_end_except, insert_and_pop_element, insert_and_pop_form, insert_element, insert_form, insert_head, insert_script, mark_started, new_comment, new_element, owned, pop, pop_until_current, pop_until_named, push_new, set_frameset_ok_by_text, set_quirks_mode, starts_marked, with_forest}
-use Rattle.h5_meaning.specs.Closing.{close_item, close_list_item, close_p_element, close_p_element_in_button_scope, generate_implied_end, generate_implied_end_in_select, newest_item, pop_heading, pop_until_cell, pop_until_heading}
+use Rattle.h5_meaning.specs.Changes.{add_attrs_at, add_attrs_to_html, add_attrs_to_second, append_comment, append_comment_to_doc, append_comment_to_html, append_pending_text, append_text, create_root, generate_implied_end_except, insert_and_pop_element, insert_and_pop_form, insert_element, insert_form, insert_head, insert_script, mark_started, new_comment, new_element, owned, pop, pop_until_current, pop_until_named, push_new, remove_body, set_frameset_ok_by_text, set_quirks_mode, starts_marked, with_forest}
+use Rattle.h5_meaning.specs.Closing.{close_item, close_list_item, close_p_element, close_p_element_in_button_scope, generate_implied_end, generate_implied_end_in_select, generate_implied_end_thoroughly, newest_item, pop_heading, pop_until_cell, pop_until_heading}
 use Rattle.h5_meaning.specs.Formatting.{clear_active_formatting_to_marker, insert_marker, reconstruct_active_formatting_elements}
 use Rattle.h5_meaning.specs.Place.{IsPlaceIn, LastChild, Place, place, put}
-use Rattle.h5_meaning.specs.Rows.{AddAttrsToHtml, AddAttrsToSecond, AdoptionAgency, AppendComment, AppendCommentToDoc, AppendCommentToHtml, AppendPendingText, AppendText, Change, ClearActiveFormattingToMarker, ClearForm, CloseListItem, ClosePElement, ClosePElementInButtonScope, CopyClosedOption, CreateFormattingElement, CreateRoot, GenerateImpliedEnd, GenerateImpliedEndExcept, GenerateImpliedEndInSelect, HandleMisnestedATags, HandleMisnestedNobrTags, InsertAndPopElement, InsertAndPopForm, InsertElement, InsertForm, InsertHead, InsertMarker, InsertScript, MarkStarted, Pop, PopHeading, PopUntilCell, PopUntilCurrent, PopUntilHeading, PopUntilNamed, PushHead, ReconstructActiveFormattingElements, RemoveFromStack, ResetMode, SaveMode, SetFoster, SetFramesetNotOk, SetFramesetOkByText, SetIgnoreLf, SetMode, SetQuirksMode, TakePendingText, apply, apply_all}
+use Rattle.h5_meaning.specs.Rows.{AddAttrsToHtml, AddAttrsToSecond, AdoptionAgency, AppendComment, AppendCommentToDoc, AppendCommentToHtml, AppendPendingText, AppendText, Change, ClearActiveFormattingToMarker, ClearForm, CloseListItem, ClosePElement, ClosePElementInButtonScope, CopyClosedOption, CreateFormattingElement, CreateRoot, GenerateImpliedEnd, GenerateImpliedEndExcept, GenerateImpliedEndInSelect, GenerateImpliedEndThoroughly, HandleMisnestedATags, HandleMisnestedNobrTags, InsertAndPopElement, InsertAndPopForm, InsertElement, InsertForm, InsertHead, InsertMarker, InsertScript, InsertTemplate, MarkStarted, Pop, PopHeading, PopTemplateMode, PopUntilCell, PopUntilCurrent, PopUntilHeading, PopUntilNamed, PushHead, PushTemplateMode, ReconstructActiveFormattingElements, RemoveBody, RemoveFromStack, ResetMode, SaveMode, SetFoster, SetFramesetNotOk, SetFramesetOkByText, SetIgnoreLf, SetMode, SetQuirksMode, SwitchTemplateMode, TakePendingText, apply, apply_all}
 use Rattle.h5_meaning.specs.Sound.{HasLists, IsReady, Sound}
+use Rattle.h5_meaning.specs.Templates.{insert_template}
 use Rattle.h5_meaning.specs.World.{World, current, names_of, root}
 use Rattle.h5_meaning.proofs.AdoptionAgencyLaws.{Keeps, cut_keeps, implied_keeps, pop_keeps, until_named_keeps, while_keeps}
 use Rattle.h5_meaning.proofs.FormattingLaws.{all_listed, lists_reconstruct, new_is_unlisted, sound_reconstruct}
+use Rattle.h5_meaning.proofs.FramesetLaws.{remove_body_lists, remove_body_stands}
 use Rattle.h5_meaning.proofs.PlaceLaws.{all_inserted, current_place_is_there, first_place, form_open_stands, form_stands, head_stands, new_comment_rearranges, new_element_rearranges, no_form_stands, text_put_rearranges}
 use Rattle.h5_meaning.proofs.PopLaws.{all_cut_above}
 use Rattle.h5_meaning.proofs.SoundLaws.{all_rearranged, root_is_node}
+use Rattle.h5_meaning.proofs.TemplateLaws.{insert_template_lists, insert_template_stands}
 
 -- all stands, and the list agrees with the stack
 pub record IsSteady (w : World) : Type 0 where
@@ -115,6 +118,10 @@ module _ (w : World) (k : IsSteady w) where
     lists = lists_cleared w.stack w.formatting k.lists;
   }
 
+  -- the body is taken away, and all but the root are closed
+  pub steady_remove_body : IsSteady (remove_body w)
+  steady_remove_body = record { sound = remove_body_stands w k.sound; lists = remove_body_lists w k.sound k.lists }
+
   -- text of a table
   steady_pending : (t : List ℕ) → IsSteady (append_pending_text t w)
   unfolding append_pending_text
@@ -165,6 +172,13 @@ module _ (choices : SinkChoices) (w : World) (k : IsSteady w) where
   unfolding insert_script
   steady_script attrs duplicates = steady_pushed (place w) (codes "script") attrs duplicates (starts_marked choices w) (current_place_is_there w k.sound) (λ e. first_place w k.sound.stands.is_forest e)
 
+  -- a template, with a shadow root or without
+  pub steady_template : (attrs : List AttributeText) (duplicates : Bool) → IsSteady (insert_template choices attrs duplicates w)
+  steady_template attrs duplicates = record {
+    sound = insert_template_stands choices attrs duplicates w k.sound;
+    lists = insert_template_lists choices attrs duplicates w k.sound k.lists;
+  }
+
   -- the current node is marked
   steady_started : IsSteady (mark_started choices w)
   unfolding mark_started
@@ -196,6 +210,10 @@ module _ (choices : SinkChoices) (w : World) (k : IsSteady w) where
   steady_implied : IsSteady (generate_implied_end choices w)
   unfolding generate_implied_end
   steady_implied = kept_steady w _ (while_keeps choices is_implied (names_of w) w k.sound k.lists)
+
+  pub steady_implied_thoroughly : IsSteady (generate_implied_end_thoroughly choices w)
+  unfolding generate_implied_end_thoroughly
+  steady_implied_thoroughly = kept_steady w _ (while_keeps choices is_thorough_implied (names_of w) w k.sound k.lists)
 
   steady_pop_heading : IsSteady (pop_heading choices w)
   unfolding pop_heading
@@ -291,6 +309,12 @@ steady_change choices (RemoveFromStack element) w needs k = absurd needs
 steady_change choices (InsertScript attrs duplicates) w needs k = steady_script choices w k attrs duplicates
 steady_change choices MarkStarted w needs k = steady_started choices w k
 steady_change choices PushHead w needs k = absurd needs
+steady_change choices GenerateImpliedEndThoroughly w needs k = steady_implied_thoroughly choices w k
+steady_change choices (PushTemplateMode mode) w needs k = record { sound = k.sound; lists = k.lists }
+steady_change choices PopTemplateMode w needs k = record { sound = k.sound; lists = k.lists }
+steady_change choices (SwitchTemplateMode mode) w needs k = record { sound = k.sound; lists = k.lists }
+steady_change choices (InsertTemplate attrs duplicates) w needs k = steady_template choices w k attrs duplicates
+steady_change choices RemoveBody w needs k = steady_remove_body w k
 
 -- one after another
 pub steady_changes : (choices : SinkChoices) (xs : List Change) (w : World) → NeedsOfAll xs → IsSteady w → IsSteady (apply_all choices xs w)

@@ -5,9 +5,9 @@ use Rattle.h5_names.specs.declared.qualified.QualName.{QualName}
 use Rattle.h5_interface.specs.Changes.{mark}
 use Rattle.h5_interface.specs.Forest.{Forest, Marks, Node, kind_of}
 use Rattle.h5_interface.specs.SinkChoices.{SinkChoices}
-use Rattle.h5_tag_sets.specs.TagSets.{is_html_named, is_implied}
+use Rattle.h5_tag_sets.specs.TagSets.{is_html_named, is_implied, is_thorough_implied}
 use Rattle.h5_meaning.specs.Changes.{generate_implied_end_except, mark_started, pop, pop_while}
-use Rattle.h5_meaning.specs.Closing.{generate_implied_end}
+use Rattle.h5_meaning.specs.Closing.{generate_implied_end, generate_implied_end_thoroughly}
 use Rattle.h5_stack.specs.Scope.{cut_above, cut_through, first_passes, is_implied_but, later_names}
 use Rattle.h5_meaning.specs.Sound.{AllStand}
 use Rattle.h5_meaning.specs.World.{World, current, name_in, name_of_found, names_of}
@@ -74,6 +74,16 @@ pub all_implied_none : (choices : SinkChoices) (w : World) → first_passes is_i
 unfolding generate_implied_end
 all_implied_none choices w h = while_none choices is_implied (names_of w) w h
 
+pub thorough_implied_step : (choices : SinkChoices) (w : World) → first_passes is_thorough_implied (names_of w) ≡ true → generate_implied_end_thoroughly choices (pop choices w) ≡ generate_implied_end_thoroughly choices w
+unfolding generate_implied_end_thoroughly
+thorough_implied_step choices w h =
+    ap (λ ns. pop_while choices is_thorough_implied ns (pop choices w)) (names-pop choices w)
+    ∙ sym (while_step choices is_thorough_implied (names_of w) w h)
+
+pub thorough_implied_none : (choices : SinkChoices) (w : World) → first_passes is_thorough_implied (names_of w) ≡ false → generate_implied_end_thoroughly choices w ≡ w
+unfolding generate_implied_end_thoroughly
+thorough_implied_none choices w h = while_none choices is_thorough_implied (names_of w) w h
+
 pub first_is_open : (p : QualName → Bool) (w : World) → first_passes p (names_of w) ≡ true → 0 < length w.stack
 unfolding names_of
 first_is_open p w h = at w.stack h
@@ -134,3 +144,8 @@ pub cut_behind_all_implied : (choices : SinkChoices) (is : QualName → Bool) (w
     cut_through is (names_of v) v.stack ≡ cut_through is (names_of w) w.stack
 unfolding generate_implied_end
 cut_behind_all_implied choices is w apart = cut_popped choices is_implied is apart (names_of w) w refl
+
+pub cut_behind_thorough_implied : (choices : SinkChoices) (is : QualName → Bool) (w : World) → ((n : QualName) → is_thorough_implied n ≡ true → is n ≡ false) → let v = generate_implied_end_thoroughly choices w in
+    cut_through is (names_of v) v.stack ≡ cut_through is (names_of w) w.stack
+unfolding generate_implied_end_thoroughly
+cut_behind_thorough_implied choices is w apart = cut_popped choices is_thorough_implied is apart (names_of w) w refl

@@ -7,7 +7,7 @@ use Rattle.h5_token.specs.TokenText.{TagText}
 use Rattle.h5_interface.specs.SinkChoices.{SinkChoices}
 use Rattle.h5_tag_sets.specs.TagSets.{formatting_names, is_button_scope, is_default_scope, is_heading, is_html_named, is_implied, is_one_of}
 use Rattle.h5_types.specs.declared.modes.InsertionMode.{InsertionMode}
-use Rattle.h5_stack.specs.FormattingList.{EachEntry, ElementEntry, Entry, MarkerEntry, closed_front}
+use Rattle.h5_stack.specs.FormattingList.{ElementEntry, Entry, MarkerEntry, closed_front}
 use Rattle.h5_stack.specs.FormattingNames.{AllFormatting, html_name}
 use Rattle.h5_stack.specs.Order.{is_in}
 use Rattle.h5_stack.specs.Scope.{cut_names, drop_while, first_passes, has_p_in_button_scope, in_scope, is_implied_but, later_names}
@@ -27,22 +27,21 @@ use Rattle.h5_fits.proofs.RoleLaws.{local_p, role_made, role_named}
 use Rattle.h5_fits.proofs.SituationLaws.{names_later}
 use Rattle.h5_fits.proofs.TestLaws.{button_default, frame_closed, frame_found}
 use Rattle.h5_meaning.specs.AdoptionAgency.{adoption_agency, handle_misnested_a_tags, handle_misnested_nobr_tags}
-use Rattle.h5_meaning.specs.Changes.{add_attrs_to_second, append_comment, append_text, generate_implied_end_except, insert_and_pop_element, insert_element, pop, pop_until_named, pop_while, set_foster, set_frameset_not_ok, set_frameset_ok_by_text}
+use Rattle.h5_meaning.specs.Changes.{add_attrs_to_second, append_comment, append_text, generate_implied_end_except, insert_and_pop_element, insert_element, pop, pop_until_named, set_foster, set_frameset_not_ok, set_frameset_ok_by_text}
 use Rattle.h5_meaning.specs.Closing.{close_p_element, close_p_element_in_button_scope, generate_implied_end, pop_heading, pop_until_heading}
 use Rattle.h5_meaning.specs.Formatting.{create_formatting_element, insert_anew, insert_for, reconstruct_active_formatting_elements}
-use Rattle.h5_meaning.specs.Rows.{AddAttrsToSecond, AppendComment, AppendText, ClosePElement, ClosePElementInButtonScope, GenerateImpliedEnd, InsertAndPopElement, InsertElement, PopHeading, PopUntilHeading, PopUntilNamed}
+use Rattle.h5_meaning.specs.Rows.{AddAttrsToSecond, AppendComment, ClosePElement, GenerateImpliedEnd, InsertElement, PopHeading, PopUntilHeading, PopUntilNamed}
 use Rattle.h5_meaning.specs.Sound.{IsReady, Sound, situation_of}
 use Rattle.h5_meaning.specs.World.{World, names_of}
-use Rattle.h5_meaning.proofs.AdoptionAgencyLaws.{agency_leaves, formatting_not_html, implied_keeps, misnested_a_leaves, pop_keeps, until_named_keeps, while_keeps}
+use Rattle.h5_meaning.proofs.AdoptionAgencyLaws.{agency_leaves, formatting_not_html, implied_keeps, misnested_a_leaves, until_named_keeps, while_keeps}
 use Rattle.h5_meaning.proofs.AdoptionForest.{kinds_trans}
 use Rattle.h5_meaning.proofs.AdoptionFrameLaws.{Framed, Standing, agency_framed, framed_same, framed_then, misnested_a_framed}
 use Rattle.h5_meaning.proofs.ClosingLaws.{names-all_implied, names-close_p, names-pop_heading, names-until_heading, still_in_scope}
-use Rattle.h5_meaning.proofs.FormattingLaws.{AllListedOpen, format_ready, reconstruct_opens, reconstruct_ready, sound_anew, root_anew}
+use Rattle.h5_meaning.proofs.FormattingLaws.{AllListedOpen, format_ready, reconstruct_ready, sound_anew, root_anew}
 use Rattle.h5_meaning.proofs.ListsLaws.{IsSteady, ready_steady, steady_changes, steady_leaf, steady_ready, steady_text}
-use Rattle.h5_meaning.proofs.NameLaws.{names-add_to_second, names-append, names-append_comment, names-cut, names-implied, names-insert, names-insert_and_pop}
-use Rattle.h5_meaning.proofs.PopLaws.{names-pop}
+use Rattle.h5_meaning.proofs.NameLaws.{names-add_to_second, names-append, names-append_comment, names-cut, names-insert, names-insert_and_pop}
 use Rattle.h5_meaning.proofs.SituationLaws.{KeepsSituation, situation_add_to_second, situation_comment, situation_format, situation_frameset, situation_insert, situation_later, situation_leaf, situation_pop, situation_reconstruct, situation_same, situation_text, situation_then, situation_tree}
-use Rattle.h5_meaning.proofs.TreeLaws.{OnlyTree, tree_adoption, tree_close_p, tree_implied, tree_misnested_a_tags, tree_until, tree_until_heading, tree_while}
+use Rattle.h5_meaning.proofs.TreeLaws.{tree_adoption, tree_close_p, tree_implied, tree_misnested_a_tags}
 
 -- FRAMES of names
 

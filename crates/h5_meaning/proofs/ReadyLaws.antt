@@ -1,28 +1,19 @@
 -- In the body: texts, and the rows of formatting elements, leave builder and sink ready.
-use Rattle.std.proofs.Common.{◌≡◌, ◌≢◌, ◌<◌, ℕ, Bool, true, List, [], length, IsTrue, refl, ap, sym, subst, arith, ◌∙◌}
-use Rattle.std.proofs.lemmas.Slice.Eq.{bytes_eq-Decides}
-use Rattle.h5_names.specs.AttributeText.{AttributeText}
-use Rattle.h5_names.specs.KnownNames.{name_text}
-use Rattle.h5_names.specs.declared.known_name.KnownName.{KnownName}
+use Rattle.std.proofs.Common.{◌≡◌, ◌<◌, ℕ, true, List, length, IsTrue, refl, arith}
 use Rattle.h5_names.specs.declared.known_name.KnownName.TheVariants.{A, Nobr}
 use Rattle.h5_token.specs.TokenText.{TagText}
 use Rattle.h5_interface.specs.SinkChoices.{SinkChoices}
 use Rattle.h5_tag_sets.specs.TagSets.{formatting_names, is_one_of}
-use Rattle.h5_fits.specs.Root.{IsRootOpen}
 use Rattle.h5_fits.proofs.OpenLaws.{open_some}
 use Rattle.h5_meaning.specs.ByName.{named}
-use Rattle.h5_meaning.specs.Changes.{append_text, insert_and_pop_element, set_frameset_not_ok, set_frameset_ok_by_text}
 use Rattle.h5_meaning.specs.Formatting.{reconstruct_active_formatting_elements}
 use Rattle.h5_meaning.specs.AdoptionAgency.{handle_misnested_a_tags}
-use Rattle.h5_meaning.specs.InBody.{in_body_end_br, in_body_end_formatting, in_body_start_a, in_body_start_void, in_body_start_formatting, in_body_start_nobr, in_body_start_other}
+use Rattle.h5_meaning.specs.InBody.{in_body_end_formatting, in_body_start_a, in_body_start_formatting, in_body_start_nobr}
 use Rattle.h5_meaning.specs.Rows.{Row, apply_all}
-use Rattle.h5_meaning.specs.Shared.{in_body_text}
 use Rattle.h5_meaning.specs.Sound.{IsReady}
 use Rattle.h5_meaning.specs.World.{World, names_of}
 use Rattle.h5_meaning.proofs.AdoptionAgencyLaws.{agency_ready, formatting_not_html, misnested_a_ready, misnested_nobr_open, misnested_nobr_ready}
-use Rattle.h5_meaning.proofs.FormattingLaws.{format_ready, insert_for_ready, reconstruct_format_ready, reconstruct_opens, reconstruct_ready}
-use Rattle.h5_meaning.proofs.ListsLaws.{ready_steady, steady_leaf, steady_ready, steady_text}
-use Rattle.h5_meaning.proofs.NameLaws.{names-append, names-insert_and_pop}
+use Rattle.h5_meaning.proofs.FormattingLaws.{format_ready, reconstruct_format_ready, reconstruct_opens, reconstruct_ready}
 use Rattle.h5_meaning.proofs.PopLaws.{names_length}
 use Rattle.h5_meaning.proofs.ByNameLaws.{of_named}
 

@@ -1,5 +1,5 @@
 -- After each row all stands, and the list of active formatting elements agrees with the stack of open elements.
-use Rattle.std.proofs.Common.{◌≡◌, Bool, true, false, [], ◌∷◌, codes, refl, sym, subst, if◌then◌else◌, ◌++◌}
+use Rattle.std.proofs.Common.{◌≡◌, Bool, true, false, [], ◌∷◌, codes, refl, sym, subst, if◌then◌else◌, ◌++◌, not, ◌&&◌, is_some}
 use Rattle.h5_token.specs.TokenText.{TagText}
 use Rattle.h5_token.specs.declared.tag.TagKind.{TagKind}
 use Rattle.h5_token.specs.declared.tag.TagKind.TheVariants.{StartTag, EndTag}
@@ -7,12 +7,12 @@ use Rattle.h5_interface.specs.SinkChoices.{SinkChoices}
 use Rattle.h5_types.specs.TurnText.{TurnText, TagTurn, CommentTurn, TextTurn, NullTurn, EofTurn, HasText}
 use Rattle.h5_types.specs.declared.modes.InsertionMode.{InsertionMode}
 use Rattle.h5_interface.specs.declared.marks.QuirksMode.TheVariants.{Quirks}
-use Rattle.h5_types.specs.declared.modes.InsertionMode.TheVariants.{AfterAfterBody, AfterBody, AfterHead, BeforeHead, BeforeHtml, InBody, InCaption, InCell, InColumnGroup, InHead, InHeadNoscript, InRow, InTable, InTableBody, InTableText, Initial, Text}
+use Rattle.h5_types.specs.declared.modes.InsertionMode.TheVariants.{AfterAfterBody, AfterBody, AfterHead, BeforeHead, BeforeHtml, InBody, InCaption, InCell, InColumnGroup, InHead, InHeadNoscript, InRow, InTable, InTableBody, InTableText, Initial, Text, InTemplate, InFrameset, AfterFrameset, AfterAfterFrameset}
 use Rattle.h5_types.specs.declared.modes.SplitStatus.TheVariants.{Whitespace}
 use Rattle.h5_tag_sets.specs.TagSets.{is_one_of}
 use Rattle.h5_meaning.specs.AfterAfterBody.{after_after_body, after_after_body_start, after_after_body_tag}
-use Rattle.h5_meaning.specs.AfterBody.{after_body, after_body_end, after_body_end_html, after_body_start, after_body_tag, back_to_body}
-use Rattle.h5_meaning.specs.AfterHead.{after_head, after_head_else, after_head_end, after_head_start, after_head_start_body, after_head_tag, with_head}
+use Rattle.h5_meaning.specs.AfterBody.{after_body, after_body_end, after_body_start, after_body_tag, back_to_body}
+use Rattle.h5_meaning.specs.AfterHead.{after_head, after_head_else, after_head_end, after_head_start, after_head_start_body, after_head_tag, with_head, after_head_start_frameset}
 use Rattle.h5_meaning.specs.BeforeHead.{before_head, before_head_else, before_head_end, before_head_start, before_head_start_head, before_head_tag}
 use Rattle.h5_meaning.specs.BeforeHtml.{before_html, before_html_else, before_html_end, before_html_start, before_html_start_html, before_html_tag}
 use Rattle.h5_meaning.specs.ByName.{by_kind, by_name, ignored_tag, of_tag}
@@ -20,18 +20,22 @@ use Rattle.h5_meaning.specs.InHead.{in_head, in_head_else, in_head_end, in_head_
 use Rattle.h5_meaning.specs.InHeadNoscript.{in_head_noscript, in_head_noscript_else, in_head_noscript_end, in_head_noscript_end_noscript, in_head_noscript_start, in_head_noscript_tag}
 use Rattle.h5_meaning.specs.InitialMode.{initial, initial_else}
 use Rattle.h5_meaning.specs.Modes.{rule}
-use Rattle.h5_meaning.specs.Rows.{Again, AppendComment, AppendCommentToDoc, AppendCommentToHtml, AppendText, IsDone, MarkStarted, Pop, Row, SetQuirksMode, apply_all, errs, ignored, row}
+use Rattle.h5_meaning.specs.Rows.{Again, AppendComment, AppendCommentToDoc, AppendCommentToHtml, AppendText, IsDone, MarkStarted, Pop, Row, SetQuirksMode, apply_all, errs, ignored, row, SetMode}
 use Rattle.h5_meaning.specs.Shared.{current_is, head_start_names}
 use Rattle.h5_meaning.specs.Sound.{Fits, HasLists, Sound}
 use Rattle.h5_meaning.specs.TextMode.{text_end, text_mode}
-use Rattle.h5_meaning.specs.World.{World}
-use Rattle.h5_meaning.proofs.BodyListsLaws.{Stays, stays, stays_chosen, stays_head_start, stays_head_start_by, stays_in_body, stays_start_html, stays_text}
-use Rattle.h5_meaning.proofs.BodyRowLaws.{noscript_content_passes}
-use Rattle.h5_meaning.proofs.ByNameLaws.{holds_by_name}
+use Rattle.h5_meaning.specs.World.{World, names_of}
+use Rattle.h5_meaning.proofs.BodyListsLaws.{Stays, stays, stays_chosen, stays_head_start, stays_head_start_by, stays_in_body, stays_start_html, stays_text, stays_end_template, stays_template_eof}
+use Rattle.h5_meaning.proofs.BodyRowLaws.{noscript_content_passes, head_start_passes, noframes_passes}
+use Rattle.h5_meaning.proofs.ByNameLaws.{holds_by_name, holds_chosen}
 use Rattle.h5_meaning.proofs.KeptLaws.{FitsAs}
 use Rattle.h5_meaning.proofs.ListsLaws.{IsSteady, NeedsOfAll}
 use Rattle.h5_meaning.proofs.TableListsLaws.{stays_in_caption, stays_in_cell, stays_in_column_group, stays_in_row, stays_in_table, stays_in_table_body, stays_in_table_text}
 use Rattle.h5_meaning.proofs.AfterHeadLaws.{lists_with_head, sound_with_head}
+use Rattle.h5_meaning.specs.InTemplate.{in_template, in_template_as, in_template_end, in_template_start, in_template_tag}
+use Rattle.h5_meaning.specs.InFrameset.{in_frameset, in_frameset_end, in_frameset_end_frameset, in_frameset_start, in_frameset_start_frame, in_frameset_start_frameset, in_frameset_tag, is_in_frameset, is_root_alone}
+use Rattle.h5_meaning.specs.AfterFrameset.{after_frameset, after_frameset_end, after_frameset_end_html, after_frameset_start, after_frameset_tag}
+use Rattle.h5_meaning.specs.AfterAfterFrameset.{after_after_frameset, after_after_frameset_tag}
 
 module _ (choices : SinkChoices) (w : World) (k : IsSteady w) where
   abbrev StaysIn : InsertionMode → Row → Type 0
@@ -66,7 +70,7 @@ module _ (choices : SinkChoices) (w : World) (k : IsSteady w) where
   stays_in_head : (kind : TagKind) (tag : TagText) → StaysIn InHead (by_kind kind (in_head_start_tag tag w) (by_name in_head_end ignored_tag tag w))
   unfolding in_head_end
   stays_in_head StartTag tag = stays_head_start_by choices w k InHead tag (λ n. stays_popped (TagTurn tag))
-  stays_in_head EndTag tag = holds_by_name (StaysIn InHead) in_head_end ignored_tag tag w ((λ p. by_changes InHead (in_head_end_head tag w) (tt, (tt, tt))), ((λ p. stays_popped (TagTurn tag)), tt)) (λ n h. k)
+  stays_in_head EndTag tag = holds_by_name (StaysIn InHead) in_head_end ignored_tag tag w ((λ p. by_changes InHead (in_head_end_head tag w) (tt, (tt, tt))), ((λ p. stays_popped (TagTurn tag)), ((λ p. stays_end_template choices w k InHead tag), tt))) (λ n h. k)
 
   stays_noscript_popped : (t : TurnText) → StaysIn InHeadNoscript (in_head_noscript_else t w)
   stays_noscript_popped t = by_changes InHeadNoscript (in_head_noscript_else t w) (tt, tt)
@@ -89,13 +93,13 @@ module _ (choices : SinkChoices) (w : World) (k : IsSteady w) where
   stays_after_head : w.mode ≡ AfterHead → (kind : TagKind) (tag : TagText) → StaysIn AfterHead (by_kind kind (by_name after_head_start (of_tag after_head_else) tag w) (by_name after_head_end ignored_tag tag w))
   unfolding after_head_start after_head_end
   stays_after_head is StartTag tag = holds_by_name (StaysIn AfterHead) after_head_start (of_tag after_head_else) tag w
-      ((λ p. stays_start_html choices w k AfterHead tag), ((λ p. by_changes AfterHead (after_head_start_body tag w) (tt, (tt, (tt, tt)))), ((λ p. stays_with_head is tag p), ((λ p h. k), tt)))) (λ n. stays_body (TagTurn tag))
-  stays_after_head is EndTag tag = holds_by_name (StaysIn AfterHead) after_head_end ignored_tag tag w ((λ p h. k), ((λ p. stays_body (TagTurn tag)), tt)) (λ n h. k)
+      ((λ p. stays_start_html choices w k AfterHead tag), ((λ p. by_changes AfterHead (after_head_start_body tag w) (tt, (tt, (tt, tt)))), ((λ p. by_changes AfterHead (after_head_start_frameset tag w) (tt, (tt, tt))), ((λ p. stays_with_head is tag p), ((λ p h. k), tt))))) (λ n. stays_body (TagTurn tag))
+  stays_after_head is EndTag tag = holds_by_name (StaysIn AfterHead) after_head_end ignored_tag tag w ((λ p h. k), ((λ p. stays_end_template choices w k AfterHead tag), ((λ p. stays_body (TagTurn tag)), tt))) (λ n h. k)
 
   stays_after_body : (kind : TagKind) (tag : TagText) → StaysIn AfterBody (by_kind kind (by_name after_body_start (of_tag back_to_body) tag w) (by_name after_body_end (of_tag back_to_body) tag w))
   unfolding after_body_start after_body_end
   stays_after_body StartTag tag = holds_by_name (StaysIn AfterBody) after_body_start (of_tag back_to_body) tag w ((λ p. stays_start_html choices w k AfterBody tag), tt) (λ n h. k)
-  stays_after_body EndTag tag = holds_by_name (StaysIn AfterBody) after_body_end (of_tag back_to_body) tag w ((λ p. by_changes AfterBody (after_body_end_html tag w) (tt, tt)), tt) (λ n h. k)
+  stays_after_body EndTag tag = holds_by_name (StaysIn AfterBody) after_body_end (of_tag back_to_body) tag w ((λ p. stays_chosen choices w k AfterBody (is_some w.context) ignored (row (SetMode AfterAfterBody ∷ []) IsDone) tt (tt, tt)), tt) (λ n h. k)
 
   stays_after_after_body : (kind : TagKind) (tag : TagText) → StaysIn AfterAfterBody (by_kind kind (by_name after_after_body_start (of_tag back_to_body) tag w) (back_to_body (TagTurn tag) w))
   unfolding after_after_body_start
@@ -176,6 +180,81 @@ module _ (choices : SinkChoices) (w : World) (k : IsSteady w) where
   stays_mode_after_after_body (TextTurn Whitespace x) some = stays_text choices w k AfterAfterBody x some
   stays_mode_after_after_body t some = λ h. k
 
+  -- in templates and framesets
+  stays_template_tag : (kind : TagKind) (tag : TagText) → StaysIn InTemplate (by_kind kind (by_name in_template_start (in_template_as InBody) tag w) (by_name in_template_end ignored_tag tag w))
+  unfolding in_template_start in_template_end
+  stays_template_tag StartTag tag = holds_by_name (StaysIn InTemplate) in_template_start (in_template_as InBody) tag w (
+    (λ p. stays_head_start choices w k InTemplate tag (head_start_passes tag.name p)),
+    (
+      (λ p. by_changes InTemplate (in_template_as InTable tag w) (tt, tt)),
+      (
+        (λ p. by_changes InTemplate (in_template_as InColumnGroup tag w) (tt, tt)),
+        ((λ p. by_changes InTemplate (in_template_as InTableBody tag w) (tt, tt)), ((λ p. by_changes InTemplate (in_template_as InRow tag w) (tt, tt)), tt)),
+      ),
+    ),
+  )
+      (λ n. by_changes InTemplate (in_template_as InBody tag w) (tt, tt))
+  stays_template_tag EndTag tag = holds_by_name (StaysIn InTemplate) in_template_end ignored_tag tag w ((λ p. stays_end_template choices w k InTemplate tag), tt) (λ n h. k)
+
+  stays_mode_in_template : (t : TurnText) → HasText t → StaysIn InTemplate (in_template t w)
+  unfolding in_template_tag
+  stays_mode_in_template (TagTurn tag) some = stays_template_tag tag.kind tag
+  stays_mode_in_template (CommentTurn x) some = stays_in_body choices w k InTemplate refl (CommentTurn x) some
+  stays_mode_in_template (TextTurn status x) some = stays_in_body choices w k InTemplate refl (TextTurn status x) some
+  stays_mode_in_template NullTurn some = λ h. k
+  stays_mode_in_template EofTurn some = stays_template_eof choices w k InTemplate
+
+  stays_frameset_ended : (tag : TagText) → StaysIn InFrameset (in_frameset_end_frameset tag w)
+  unfolding in_frameset_end_frameset
+  stays_frameset_ended tag = holds_chosen (StaysIn InFrameset) (is_root_alone (names_of w)) ignored _ (λ e h. k)
+      (λ e. stays_chosen choices w k InFrameset (not (is_some w.context) && not (is_in_frameset (names_of w))) (row (Pop ∷ SetMode AfterFrameset ∷ []) IsDone) (row (Pop ∷ []) IsDone) (tt, (tt, tt)) (tt, tt))
+
+  stays_frameset_tag : (kind : TagKind) (tag : TagText) → StaysIn InFrameset (by_kind kind (by_name in_frameset_start ignored_tag tag w) (by_name in_frameset_end ignored_tag tag w))
+  unfolding in_frameset_start in_frameset_end
+  stays_frameset_tag StartTag tag = holds_by_name (StaysIn InFrameset) in_frameset_start ignored_tag tag w (
+    (λ p. stays_start_html choices w k InFrameset tag),
+    (
+      (λ p. by_changes InFrameset (in_frameset_start_frameset tag w) (tt, tt)),
+      ((λ p. by_changes InFrameset (in_frameset_start_frame tag w) (tt, tt)), ((λ p. stays_head_start choices w k InFrameset tag (noframes_passes tag.name p)), tt)),
+    ),
+  )
+      (λ n h. k)
+  stays_frameset_tag EndTag tag = holds_by_name (StaysIn InFrameset) in_frameset_end ignored_tag tag w ((λ p. stays_frameset_ended tag), tt) (λ n h. k)
+
+  stays_mode_in_frameset : (t : TurnText) → HasText t → StaysIn InFrameset (in_frameset t w)
+  unfolding in_frameset_tag
+  stays_mode_in_frameset (TagTurn tag) some = stays_frameset_tag tag.kind tag
+  stays_mode_in_frameset (CommentTurn x) some = by_changes InFrameset (row (AppendComment x ∷ []) IsDone) (tt, tt)
+  stays_mode_in_frameset (TextTurn Whitespace x) some = by_changes InFrameset (row (AppendText x ∷ []) IsDone) (some, tt)
+  stays_mode_in_frameset t some = λ h. k
+
+  stays_after_frameset_start : (m : InsertionMode) (tag : TagText) → StaysIn m (by_name after_frameset_start ignored_tag tag w)
+  unfolding after_frameset_start
+  stays_after_frameset_start m tag = holds_by_name (StaysIn m) after_frameset_start ignored_tag tag w ((λ p. stays_start_html choices w k m tag), ((λ p. stays_head_start choices w k m tag (noframes_passes tag.name p)), tt)) (λ n h. k)
+
+  stays_after_frameset_tag : (kind : TagKind) (tag : TagText) → StaysIn AfterFrameset (by_kind kind (by_name after_frameset_start ignored_tag tag w) (by_name after_frameset_end ignored_tag tag w))
+  unfolding after_frameset_end
+  stays_after_frameset_tag StartTag tag = stays_after_frameset_start AfterFrameset tag
+  stays_after_frameset_tag EndTag tag = holds_by_name (StaysIn AfterFrameset) after_frameset_end ignored_tag tag w ((λ p. by_changes AfterFrameset (after_frameset_end_html tag w) (tt, tt)), tt) (λ n h. k)
+
+  stays_mode_after_frameset : (t : TurnText) → HasText t → StaysIn AfterFrameset (after_frameset t w)
+  unfolding after_frameset_tag
+  stays_mode_after_frameset (TagTurn tag) some = stays_after_frameset_tag tag.kind tag
+  stays_mode_after_frameset (CommentTurn x) some = by_changes AfterFrameset (row (AppendComment x ∷ []) IsDone) (tt, tt)
+  stays_mode_after_frameset (TextTurn Whitespace x) some = by_changes AfterFrameset (row (AppendText x ∷ []) IsDone) (some, tt)
+  stays_mode_after_frameset t some = λ h. k
+
+  stays_after_after_frameset_tag : (kind : TagKind) (tag : TagText) → StaysIn AfterAfterFrameset (by_kind kind (by_name after_frameset_start ignored_tag tag w) ignored)
+  stays_after_after_frameset_tag StartTag tag = stays_after_frameset_start AfterAfterFrameset tag
+  stays_after_after_frameset_tag EndTag tag = λ h. k
+
+  stays_mode_after_after_frameset : (t : TurnText) → HasText t → StaysIn AfterAfterFrameset (after_after_frameset t w)
+  unfolding after_after_frameset_tag
+  stays_mode_after_after_frameset (TagTurn tag) some = stays_after_after_frameset_tag tag.kind tag
+  stays_mode_after_after_frameset (CommentTurn x) some = by_changes AfterAfterFrameset (row (AppendCommentToDoc x ∷ []) IsDone) (tt, tt)
+  stays_mode_after_after_frameset (TextTurn Whitespace x) some = stays_text choices w k AfterAfterFrameset x some
+  stays_mode_after_after_frameset t some = λ h. k
+
   stays_rule : (m : InsertionMode) → w.mode ≡ m → (t : TurnText) → HasText t → StaysIn m (rule m t w)
   stays_rule Initial is t some = stays_mode_initial t
   stays_rule BeforeHtml is t some = stays_mode_before_html t
@@ -194,7 +273,10 @@ module _ (choices : SinkChoices) (w : World) (k : IsSteady w) where
   stays_rule InCell is t some = stays_in_cell choices w k t some
   stays_rule AfterBody is t some = stays_mode_after_body t some
   stays_rule AfterAfterBody is t some = stays_mode_after_after_body t some
-  stays_rule _ is t some = λ h. k
+  stays_rule InTemplate is t some = stays_mode_in_template t some
+  stays_rule InFrameset is t some = stays_mode_in_frameset t some
+  stays_rule AfterFrameset is t some = stays_mode_after_frameset t some
+  stays_rule AfterAfterFrameset is t some = stays_mode_after_after_frameset t some
 
 rule_steady : (choices : SinkChoices) (t : TurnText) (w : World) → Sound w → HasText t → Fits w → IsSteady (apply_all choices (rule w.mode t w).changes w)
 rule_steady choices t w sound some h = stays_rule choices w (record { sound = sound; lists = h.lists }) w.mode refl t some h.mode

@@ -1,5 +1,5 @@
 -- Only a start tag is answered, but for an end tag in a text.
-use Rattle.std.proofs.Common.{◌≡◌, ℕ, Bool, true, false, List, [], ◌∷◌, Option, Some, None, codes, refl}
+use Rattle.std.proofs.Common.{◌≡◌, ℕ, Bool, true, false, List, [], ◌∷◌, Option, Some, None, codes, refl, not, ◌&&◌, is_some}
 use Rattle.h5_token.specs.TokenText.{TagText}
 use Rattle.h5_token.specs.declared.tag.TagKind.{TagKind}
 use Rattle.h5_token.specs.declared.tag.TagKind.TheVariants.{StartTag, EndTag}
@@ -8,7 +8,7 @@ use Rattle.h5_tag_sets.specs.TagSets.{is_default_scope, is_heading, is_html_name
 use Rattle.h5_stack.specs.Scope.{comes_before_special, has_p_in_button_scope, has_template, in_scope}
 use Rattle.h5_types.specs.TurnText.{TurnText, TagTurn, CommentTurn, TextTurn, NullTurn, EofTurn}
 use Rattle.h5_types.specs.declared.modes.InsertionMode.{InsertionMode}
-use Rattle.h5_types.specs.declared.modes.InsertionMode.TheVariants.{Initial, BeforeHtml, BeforeHead, InHead, InHeadNoscript, AfterHead, InBody, Text, InTable, InTableText, InCaption, InColumnGroup, InTableBody, InRow, InCell, AfterBody, AfterAfterBody}
+use Rattle.h5_types.specs.declared.modes.InsertionMode.TheVariants.{Initial, BeforeHtml, BeforeHead, InHead, InHeadNoscript, AfterHead, InBody, Text, InTable, InTableText, InCaption, InColumnGroup, InTableBody, InRow, InCell, AfterBody, AfterAfterBody, InTemplate, InFrameset, AfterFrameset, AfterAfterFrameset}
 use Rattle.h5_types.specs.declared.modes.SplitStatus.TheVariants.{NotSplit, Whitespace, NotWhitespace}
 use Rattle.h5_meaning.specs.AfterAfterBody.{after_after_body_tag}
 use Rattle.h5_meaning.specs.AfterBody.{after_body_end, after_body_tag, back_to_body}
@@ -17,11 +17,11 @@ use Rattle.h5_meaning.specs.BeforeHead.{before_head_end, before_head_tag}
 use Rattle.h5_meaning.specs.BeforeHtml.{before_html_end, before_html_tag}
 use Rattle.h5_meaning.specs.ByName.{Rules, by_kind, by_name, ignored_tag, of_tag}
 use Rattle.h5_meaning.specs.Changes.{set_foster}
-use Rattle.h5_meaning.specs.InBody.{body_ends, body_in_scope, close_the_form, form_in_scope, if_body_in_scope, in_body, in_body_end, in_body_end_block, in_body_end_description, in_body_end_form, in_body_end_heading, in_body_end_li, in_body_end_marked, in_body_end_option, in_body_end_other, in_body_end_p, in_body_tag, named_in_scope}
+use Rattle.h5_meaning.specs.InBody.{body_ends, body_in_scope, close_the_form, form_in_scope, if_body_in_scope, in_body, in_body_end, in_body_end_block, in_body_end_description, in_body_end_form, in_body_end_heading, in_body_end_li, in_body_end_marked, in_body_end_option, in_body_end_other, in_body_end_p, in_body_tag, named_in_scope, no_template_mode}
 use Rattle.h5_meaning.specs.InCaption.{close_the_caption, in_caption_end, in_caption_tag}
 use Rattle.h5_meaning.specs.InCell.{close_the_cell, in_cell_end, in_cell_end_cell, in_cell_end_structure, in_cell_tag}
 use Rattle.h5_meaning.specs.InColumnGroup.{close_the_column_group, in_column_group_else, in_column_group_end, in_column_group_tag}
-use Rattle.h5_meaning.specs.InHead.{in_head_end, in_head_tag}
+use Rattle.h5_meaning.specs.InHead.{in_head_end, in_head_tag, in_head_end_template, template_eof}
 use Rattle.h5_meaning.specs.InHeadNoscript.{in_head_noscript_end, in_head_noscript_tag}
 use Rattle.h5_meaning.specs.InRow.{close_the_row, in_row_end, in_row_end_section, in_row_tag}
 use Rattle.h5_meaning.specs.InTable.{in_table, in_table_else, in_table_end, in_table_end_table, in_table_tag, in_table_text_or_null, keeps_text}
@@ -35,6 +35,10 @@ use Rattle.h5_meaning.specs.Shared.{current_is}
 use Rattle.h5_meaning.specs.Tables.{foster, in_table_scope, named_in_table_scope}
 use Rattle.h5_meaning.specs.World.{World, names_of}
 use Rattle.h5_meaning.proofs.ToldLaws.{is_text}
+use Rattle.h5_meaning.specs.InTemplate.{in_template_end, in_template_tag}
+use Rattle.h5_meaning.specs.InFrameset.{in_frameset_end, in_frameset_end_frameset, in_frameset_tag, is_in_frameset, is_root_alone}
+use Rattle.h5_meaning.specs.AfterFrameset.{after_frameset_end, after_frameset_tag}
+use Rattle.h5_meaning.specs.AfterAfterFrameset.{after_after_frameset_tag}
 
 -- an ending that answers nothing of its own
 abbrev pub Silent : Ending → Type 0
@@ -65,6 +69,15 @@ named_silent (x ∷ xs) other tag w k o = chosen (x.0 tag.name) (x.1 tag w) (by_
 initially : (t : TurnText) (w : World) → Silent (initial_else t w).ending
 unfolding initial_else
 initially t w = chosen w.options.iframe_srcdoc (row [] (Again BeforeHtml)) (errs (SetQuirksMode Quirks ∷ []) (Again BeforeHtml)) tt tt
+
+-- of templates
+ends_template : (tag : TagText) (w : World) → Silent (in_head_end_template tag w).ending
+unfolding in_head_end_template
+ends_template tag w = chosen (has_template (names_of w)) _ ignored tt tt
+
+ends_file : (w : World) → Silent (template_eof w).ending
+unfolding template_eof
+ends_file w = chosen (has_template (names_of w)) _ (row [] IsDone) tt tt
 
 -- IN THE BODY
 if_in_scope : (r : Row) (w : World) → Silent r.ending → Silent (if_body_in_scope r w).ending
@@ -103,7 +116,7 @@ body_end tag w =
                           chosen (named_in_scope tag.name w) _ _ tt tt,
                           (
                             tt,
-                            (tt, tt),
+                            (ends_template tag w, tt),
                           ),
                         ),
                       ),
@@ -124,7 +137,7 @@ body (TagTurn tag) w h = by_end tag.kind _ _ h (body_end tag w)
 body (CommentTurn x) w h = tt
 body (TextTurn status x) w h = tt
 body NullTurn w h = tt
-body EofTurn w h = tt
+body EofTurn w h = chosen (no_template_mode w.template_modes) (body_ends [] IsDone w) (template_eof w) tt (ends_file w)
 
 -- IN TABLES
 fostered : (t : TurnText) (w : World) → is_start_turn t ≡ false → Silent (foster in_body t w).ending
@@ -139,11 +152,11 @@ unfolding in_table_tag in_table_end in_table_end_table
 table (TagTurn tag) w h =
     by_end tag.kind _ _ h
     (named_silent in_table_end (of_tag in_table_else) tag w
-    (chosen (named_in_table_scope (codes "table") w) (row (PopUntilNamed (codes "table") ∷ ResetMode ∷ []) IsDone) ignored tt tt, (tt, tt)) (fostered (TagTurn tag) w h))
+    (chosen (named_in_table_scope (codes "table") w) (row (PopUntilNamed (codes "table") ∷ ResetMode ∷ []) IsDone) ignored tt tt, (tt, (ends_template tag w, tt))) (fostered (TagTurn tag) w h))
 table (CommentTurn x) w h = tt
 table (TextTurn status x) w h = table_text (TextTurn status x) w h
 table NullTurn w h = table_text NullTurn w h
-table EofTurn w h = tt
+table EofTurn w h = body EofTurn w h
 
 kept_text : (t : TurnText) (w : World) → Silent (in_table_text_else t w).ending
 unfolding in_table_text_else
@@ -175,7 +188,7 @@ column_end : (tag : TagText) (w : World) → is_start tag.kind ≡ false → Sil
 unfolding in_column_group_tag in_column_group_end
 column_end tag w h =
     by_end tag.kind _ _ h
-    (named_silent in_column_group_end (of_tag in_column_group_else) tag w (close_column_group (SetMode InTable ∷ []) IsDone w tt, (tt, tt)) (close_column_group [] (Again InTable) w tt))
+    (named_silent in_column_group_end (of_tag in_column_group_else) tag w (close_column_group (SetMode InTable ∷ []) IsDone w tt, (tt, (ends_template tag w, tt))) (close_column_group [] (Again InTable) w tt))
 
 section_end : (tag : TagText) (w : World) → is_start tag.kind ≡ false → Silent (in_table_body_tag tag w).ending
 unfolding in_table_body_tag in_table_body_end in_table_body_end_section
@@ -206,15 +219,22 @@ cell_end tag w h =
     )
     (body (TagTurn tag) w h))
 
+-- IN FRAMESETS
+ends_frameset : (tag : TagText) (w : World) → Silent (in_frameset_end_frameset tag w).ending
+unfolding in_frameset_end_frameset
+ends_frameset tag w =
+    chosen (is_root_alone (names_of w)) ignored _ tt
+    (chosen (not (is_some w.context) && not (is_in_frameset (names_of w))) (row (Pop ∷ SetMode AfterFrameset ∷ []) IsDone) (row (Pop ∷ []) IsDone) tt tt)
+
 -- ALL RULES but those in a text
 end_silent : (m : InsertionMode) (tag : TagText) (w : World) → is_text m ≡ false → is_start tag.kind ≡ false → Silent (rule m (TagTurn tag) w).ending
-unfolding before_html_tag before_html_end before_head_tag before_head_end in_head_tag in_head_end in_head_noscript_tag in_head_noscript_end after_head_tag after_head_end after_body_tag after_body_end after_after_body_tag
+unfolding before_html_tag before_html_end before_head_tag before_head_end in_head_tag in_head_end in_head_noscript_tag in_head_noscript_end after_head_tag after_head_end after_body_tag after_body_end after_after_body_tag in_template_tag in_template_end in_frameset_tag in_frameset_end after_frameset_tag after_frameset_end after_after_frameset_tag
 end_silent Initial tag w n h = initially (TagTurn tag) w
 end_silent BeforeHtml tag w n h = by_end tag.kind _ _ h (named_silent before_html_end ignored_tag tag w (tt, tt) tt)
 end_silent BeforeHead tag w n h = by_end tag.kind _ _ h (named_silent before_head_end ignored_tag tag w (tt, tt) tt)
-end_silent InHead tag w n h = by_end tag.kind _ _ h (named_silent in_head_end ignored_tag tag w (tt, (tt, tt)) tt)
+end_silent InHead tag w n h = by_end tag.kind _ _ h (named_silent in_head_end ignored_tag tag w (tt, (tt, (ends_template tag w, tt))) tt)
 end_silent InHeadNoscript tag w n h = by_end tag.kind _ _ h (named_silent in_head_noscript_end ignored_tag tag w (tt, (tt, tt)) tt)
-end_silent AfterHead tag w n h = by_end tag.kind _ _ h (named_silent after_head_end ignored_tag tag w (tt, (tt, tt)) tt)
+end_silent AfterHead tag w n h = by_end tag.kind _ _ h (named_silent after_head_end ignored_tag tag w (tt, (ends_template tag w, (tt, tt))) tt)
 end_silent InBody tag w n h = body (TagTurn tag) w h
 end_silent Text tag w n h = absurd (cc)
 end_silent InTable tag w n h = table (TagTurn tag) w h
@@ -224,9 +244,12 @@ end_silent InColumnGroup tag w n h = column_end tag w h
 end_silent InTableBody tag w n h = section_end tag w h
 end_silent InRow tag w n h = row_end tag w h
 end_silent InCell tag w n h = cell_end tag w h
-end_silent AfterBody tag w n h = by_end tag.kind _ _ h (named_silent after_body_end (of_tag back_to_body) tag w (tt, tt) tt)
+end_silent AfterBody tag w n h = by_end tag.kind _ _ h (named_silent after_body_end (of_tag back_to_body) tag w (chosen (is_some w.context) ignored (row (SetMode AfterAfterBody ∷ []) IsDone) tt tt, tt) tt)
 end_silent AfterAfterBody tag w n h = by_end tag.kind _ _ h tt
-end_silent _ tag w n h = tt
+end_silent InTemplate tag w n h = by_end tag.kind _ _ h (named_silent in_template_end ignored_tag tag w (ends_template tag w, tt) tt)
+end_silent InFrameset tag w n h = by_end tag.kind _ _ h (named_silent in_frameset_end ignored_tag tag w (ends_frameset tag w, tt) tt)
+end_silent AfterFrameset tag w n h = by_end tag.kind _ _ h (named_silent after_frameset_end ignored_tag tag w (tt, tt) tt)
+end_silent AfterAfterFrameset tag w n h = by_end tag.kind _ _ h tt
 
 comment_silent : (m : InsertionMode) (x : List ℕ) (w : World) → Silent (rule m (CommentTurn x) w).ending
 comment_silent InTableText x w = kept_text (CommentTurn x) w
@@ -265,6 +288,14 @@ null_silent _ w = tt
 eof_silent : (m : InsertionMode) (w : World) → Silent (rule m EofTurn w).ending
 eof_silent Initial w = initially EofTurn w
 eof_silent InTableText w = kept_text EofTurn w
+eof_silent InBody w = body EofTurn w refl
+eof_silent InTable w = body EofTurn w refl
+eof_silent InCaption w = body EofTurn w refl
+eof_silent InColumnGroup w = body EofTurn w refl
+eof_silent InTableBody w = body EofTurn w refl
+eof_silent InRow w = body EofTurn w refl
+eof_silent InCell w = body EofTurn w refl
+eof_silent InTemplate w = ends_file w
 eof_silent _ w = tt
 
 pub rule_silent : (m : InsertionMode) (t : TurnText) (w : World) → is_text m ≡ false → is_start_turn t ≡ false → Silent (rule m t w).ending

@@ -1,26 +1,35 @@
 -- Changes that leave all that modes see of a world besides the names of open elements: only the frameset-ok flag may go
 -- off, and a head become known.
-use Rattle.std.proofs.Common.{◌≡◌, ◌≢◌, ℕ, Bool, true, false, cond, List, [], ◌∷◌, codes, Option, Some, None, is_some, refl, ap, sym, subst, ◌∙◌}
+use Rattle.std.proofs.Common.{◌≡◌, ◌≢◌, ℕ, Bool, true, false, List, [], ◌∷◌, codes, Option, Some, None, is_some, refl, ap, sym, ◌∙◌}
 use Rattle.h5_names.specs.AttributeText.{AttributeText}
+use Rattle.h5_names.specs.declared.qualified.QualName.{QualName}
 use Rattle.h5_token.specs.TokenText.{TagText}
 use Rattle.h5_interface.specs.Forest.{ChildText, Forest}
 use Rattle.h5_interface.specs.SinkChoices.{Rearranges, SinkChoices}
 use Rattle.h5_interface.proofs.ForestLaws.{document_is_node}
 use Rattle.h5_interface.proofs.MakingLaws.{add_missing_rearranges}
+use Rattle.h5_tag_sets.specs.TagSets.{is_thorough_implied}
+use Rattle.h5_types.specs.declared.modes.InsertionMode.{InsertionMode}
+use Rattle.h5_types.specs.declared.modes.InsertionMode.TheVariants.{InTemplate}
 use Rattle.h5_stack.specs.FormattingList.{ElementEntry, Entry, MarkerEntry, closed_front}
 use Rattle.h5_stack.specs.FormattingNames.{html_name}
 use Rattle.h5_stack.specs.Order.{second_from_last}
+use Rattle.h5_fits.specs.Changes.{later_modes, with_last_mode, with_template, without_template}
+use Rattle.h5_fits.specs.Fits.{Situation}
 use Rattle.h5_fits.specs.Roles.{role_of}
 use Rattle.h5_fits.proofs.BoolLaws.{and_both}
 use Rattle.h5_fits.proofs.SituationLaws.{Later}
 use Rattle.h5_meaning.specs.AdoptionAgency.{KeepsKinds}
 use Rattle.h5_meaning.specs.Blanks.{all_blank}
-use Rattle.h5_meaning.specs.Changes.{owned, add_attrs_at, add_attrs_to_html, add_attrs_to_second, append_comment, append_comment_to_doc, append_comment_to_html, append_text, create_root, insert_and_pop_element, insert_element, insert_head, pop, set_frameset_ok_by_text, with_forest}
+use Rattle.h5_meaning.specs.Changes.{owned, pop_while, set_frameset_not_ok, add_attrs_at, add_attrs_to_html, add_attrs_to_second, append_comment, append_comment_to_doc, append_comment_to_html, append_text, create_root, insert_and_pop_element, insert_element, insert_head, pop, set_frameset_ok_by_text, with_forest}
+use Rattle.h5_meaning.specs.Closing.{generate_implied_end_thoroughly}
 use Rattle.h5_meaning.specs.Formatting.{create_formatting_element, insert_anew, insert_for, reconstruct_active_formatting_elements}
 use Rattle.h5_meaning.specs.Place.{LastChild, place, put}
 use Rattle.h5_meaning.specs.Sound.{Sound, role_at, situation_of}
-use Rattle.h5_meaning.specs.World.{World, name_of_found, root}
+use Rattle.h5_meaning.specs.Templates.{pop_template_mode, push_template_mode, switch_template_mode}
+use Rattle.h5_meaning.specs.World.{World, name_of_found, names_of, root}
 use Rattle.h5_meaning.proofs.AdoptionForest.{kinds_refl, kinds_trans, marked_kinds}
+use Rattle.h5_meaning.proofs.ClosingLaws.{while_holds}
 use Rattle.h5_meaning.proofs.FormattingLaws.{insert_for_rearranges, sound_anew}
 use Rattle.h5_meaning.proofs.PlaceLaws.{current_place_is_there, new_comment_rearranges, new_element_rearranges, text_put_rearranges}
 use Rattle.h5_meaning.proofs.SoundLaws.{element_is_node, root_is_node}
@@ -168,3 +177,34 @@ unfolding create_formatting_element insert_element
 situation_format choices tag w k =
     let s = situation_insert choices w tag.name tag.attrs tag.had_duplicate_attributes k in
     record { kinds = s.kinds; modes = refl; saved = refl; context = refl; head = λ h. h; ok = λ h. h }
+
+-- Changes of template modes, and what modes see after them: a mode is pushed for a template that is opened, with the
+-- frameset-ok flag off; it leaves with one that is closed; and it gives way to another.
+
+later_template : (s t : Situation) → Later s t → Later (with_template s) (with_template t)
+later_template s t l = record { modes = ap (λ ms. InTemplate ∷ ms) l.modes; saved = l.saved; context = l.context; head = l.head; ok = λ h. h }
+
+later_closed : (s t : Situation) → Later s t → Later (without_template s) (without_template t)
+later_closed s t l = record { modes = ap later_modes l.modes; saved = l.saved; context = l.context; head = l.head; ok = l.ok }
+
+later_switched : (m : InsertionMode) (s t : Situation) → Later s t → Later (with_last_mode m s) (with_last_mode m t)
+later_switched m s t l = record { modes = ap (λ ms. m ∷ later_modes ms) l.modes; saved = l.saved; context = l.context; head = l.head; ok = l.ok }
+
+module _ (w v : World) (k : Sound w) (kept : KeepsSituation w v) where
+  pub situation_push_template : Later (with_template (situation_of w)) (situation_of (push_template_mode InTemplate (set_frameset_not_ok v)))
+  situation_push_template = later_template (situation_of w) (situation_of v) (situation_later w v k kept)
+
+  pub situation_pop_template : Later (without_template (situation_of w)) (situation_of (pop_template_mode v))
+  situation_pop_template = later_closed (situation_of w) (situation_of v) (situation_later w v k kept)
+
+  pub situation_switch_template : (m : InsertionMode) → Later (with_last_mode m (situation_of w)) (situation_of (switch_template_mode m v))
+  situation_switch_template m = later_switched m (situation_of w) (situation_of v) (situation_later w v k kept)
+
+-- implied ends, however thorough
+pub situation_while : (choices : SinkChoices) (popped : QualName → Bool) (ns : List QualName) (w : World) → KeepsSituation w (pop_while choices popped ns w)
+situation_while choices popped ns w =
+    while_holds (KeepsSituation w) choices popped (λ v k. situation_then w v (pop choices v) k (situation_pop choices v)) ns w (situation_same w)
+
+pub situation_thorough : (choices : SinkChoices) (w : World) → KeepsSituation w (generate_implied_end_thoroughly choices w)
+unfolding generate_implied_end_thoroughly
+situation_thorough choices w = situation_while choices is_thorough_implied (names_of w) w

@@ -1,5 +1,5 @@
 -- To which modes the rules of tables lead, and all rules, by the kind of the token.
-use Rattle.std.proofs.Common.{◌≡◌, ℕ, Bool, true, false, if◌then◌else◌, ◌||◌, is_some, List, [], ◌∷◌, ◌++◌, codes, refl, ap, sym, subst, ◌∙◌}
+use Rattle.std.proofs.Common.{◌≡◌, ℕ, Bool, true, false, not, ◌&&◌, if◌then◌else◌, ◌||◌, is_some, List, [], ◌∷◌, ◌++◌, codes, refl, ap, sym, subst, ◌∙◌}
 use Rattle.std.proofs.lemmas.Slice.Eq.{bytes_eq-Decides}
 use Rattle.h5_names.specs.AttributeText.{is_same_text}
 use Rattle.h5_names.specs.KnownNames.{name_text}
@@ -13,24 +13,28 @@ use Rattle.h5_tag_sets.specs.TagSets.{cell_names, is_cell, is_one_of, is_table_b
 use Rattle.h5_stack.specs.Scope.{has_template}
 use Rattle.h5_types.specs.TurnText.{TurnText, TagTurn, CommentTurn, TextTurn, NullTurn, EofTurn}
 use Rattle.h5_types.specs.declared.modes.InsertionMode.{InsertionMode}
-use Rattle.h5_types.specs.declared.modes.InsertionMode.TheVariants.{Initial, BeforeHtml, BeforeHead, InHead, InHeadNoscript, AfterHead, InBody, Text, InTable, InTableText, InCaption, InColumnGroup, InTableBody, InRow, InCell, AfterBody, AfterAfterBody}
+use Rattle.h5_types.specs.declared.modes.InsertionMode.TheVariants.{Initial, BeforeHtml, BeforeHead, InHead, InHeadNoscript, AfterHead, InBody, Text, InTable, InTableText, InCaption, InColumnGroup, InTableBody, InRow, InCell, InTemplate, AfterBody, InFrameset, AfterFrameset, AfterAfterBody, AfterAfterFrameset}
 use Rattle.h5_types.specs.declared.modes.SplitStatus.TheVariants.{NotSplit, Whitespace, NotWhitespace}
 use Rattle.h5_fits.specs.Fits.{is_table_mode}
 use Rattle.h5_fits.proofs.Ranks as edges
 use Rattle.h5_fits.proofs.Ranks.{CellTurns, ColTurns, EndHtmlTurns, EndPartTurns, EofTurns, OtherTurns, PartTurns, RowTurns, StartTableTurns, TextTurns, TurnKind}
-use Rattle.h5_fits.proofs.RankWeightLaws.{is_text}
+use Rattle.h5_fits.proofs.RankWeightLaws.{closes_templates, is_text}
 use Rattle.h5_meaning.specs.AfterAfterBody.{after_after_body_tag}
 use Rattle.h5_meaning.specs.AfterBody.{after_body_tag}
 use Rattle.h5_meaning.specs.AfterHead.{after_head_tag}
 use Rattle.h5_meaning.specs.BeforeHead.{before_head_tag}
 use Rattle.h5_meaning.specs.BeforeHtml.{before_html_tag}
-use Rattle.h5_meaning.specs.ByName.{by_kind, by_name, named, of_tag}
+use Rattle.h5_meaning.specs.AfterAfterFrameset.{after_after_frameset_tag}
+use Rattle.h5_meaning.specs.AfterFrameset.{after_frameset_end, after_frameset_start, after_frameset_tag}
+use Rattle.h5_meaning.specs.ByName.{NonePasses, by_kind, by_name, ignored_tag, named, of_tag}
+use Rattle.h5_meaning.specs.InFrameset.{in_frameset_end, in_frameset_end_frameset, in_frameset_start, in_frameset_tag, is_in_frameset, is_root_alone}
+use Rattle.h5_meaning.specs.InTemplate.{in_template_as, in_template_end, in_template_part_names, in_template_start, in_template_tag}
 use Rattle.h5_meaning.specs.Changes.{set_foster}
-use Rattle.h5_meaning.specs.InBody.{in_body, in_body_tag}
+use Rattle.h5_meaning.specs.InBody.{body_ends, in_body, in_body_tag, no_template_mode}
 use Rattle.h5_meaning.specs.InCaption.{close_the_caption, in_caption_end, in_caption_ignored_ends, in_caption_start, in_caption_tag}
 use Rattle.h5_meaning.specs.InCell.{close_the_cell, in_cell_closing_ends, in_cell_end, in_cell_end_cell, in_cell_end_structure, in_cell_ignored_ends, in_cell_start, in_cell_start_structure, in_cell_tag}
 use Rattle.h5_meaning.specs.InColumnGroup.{close_the_column_group, in_column_group_else, in_column_group_end, in_column_group_start, in_column_group_tag}
-use Rattle.h5_meaning.specs.InHead.{in_head_start_tag, in_head_tag}
+use Rattle.h5_meaning.specs.InHead.{in_head_end_template, in_head_start, in_head_start_tag, in_head_tag, template_eof}
 use Rattle.h5_meaning.specs.InHeadNoscript.{in_head_noscript_tag}
 use Rattle.h5_meaning.specs.InRow.{close_the_row, in_row_end, in_row_end_section, in_row_start, in_row_tag, row_closing_names}
 use Rattle.h5_meaning.specs.InTable.{in_table, in_table_else, in_table_end, in_table_end_table, in_table_ignored_ends, in_table_start, in_table_start_form, in_table_start_input, in_table_start_table, in_table_tag, in_table_text_or_null, keeps_text, row_part_names, table_text_names}
@@ -38,13 +42,13 @@ use Rattle.h5_meaning.specs.InTableBody.{in_table_body_close, in_table_body_end,
 use Rattle.h5_meaning.specs.InTableText.{in_table_text_else, pending_text, saved_mode}
 use Rattle.h5_meaning.specs.Modes.{rule}
 use Rattle.h5_meaning.specs.Reset.{reset_mode}
-use Rattle.h5_meaning.specs.Rows.{AddAttrsToHtml, Again, AgainBy, Answers, Change, ClearActiveFormattingToMarker, Ending, GenerateImpliedEnd, InsertAndPopForm, IsDone, Pop, PopUntilCurrent, PopUntilNamed, Row, SaveMode, SetMode, TakePendingText, choose, errs, ignored, row, row_if}
+use Rattle.h5_meaning.specs.Rows.{AddAttrsToHtml, Again, AgainBy, Answers, Change, ClearActiveFormattingToMarker, Ending, GenerateImpliedEnd, InsertAndPopForm, IsDone, Pop, PopTemplateMode, PopUntilCurrent, PopUntilNamed, ResetMode, Row, SaveMode, SetMode, TakePendingText, choose, errs, ignored, row, row_if}
 use Rattle.h5_meaning.specs.Shared.{current_is, in_body_start_html, is_type_hidden, table_structure_names}
 use Rattle.h5_meaning.specs.Tables.{foster, in_table_scope, named_in_table_scope, table_section_names}
 use Rattle.h5_meaning.specs.TextMode.{marks_script, text_end}
 use Rattle.h5_meaning.specs.World.{World, current, names_of}
 use Rattle.h5_meaning.proofs.AgainLaws.{Leads, RowStops, Stops, kind_of_end, kind_of_start, kind_of_tag, kind_of_turn, leads_after_after_body, leads_after_body, leads_after_head, leads_before_head, leads_before_html, leads_in_body, leads_in_head, leads_in_head_noscript, leads_initial_else, part_end_names, part_names, row_stops, stops_body_tag, stops_choose, stops_leads}
-use Rattle.h5_meaning.proofs.BodyRowLaws.{row_head_start, table_text_passes}
+use Rattle.h5_meaning.proofs.BodyRowLaws.{head_start_passes, noframes_passes, row_end_template, row_head_start, table_text_passes, template_passes}
 use Rattle.h5_meaning.proofs.ByNameLaws.{holds_by_name, holds_chosen, of_named}
 
 -- what is so of each name of a set is so of a name among them
@@ -69,12 +73,13 @@ not_named known set l a h = at (named known l) refl
     at true e = absurd (let k = of_named (λ n. is_one_of set n ≡ true) known l a e in cc)
 
 -- what a row leads to: by an edge, or not: it closes a table, or a column group for a start tag `table`, or takes the
--- text that was kept back, or closes the element of a text at the end of the file
+-- text that was kept back, or closes a template, or the element of a text, at the end of the file
 pub data RowLeads (c : TurnKind) (m : InsertionMode) (w : World) (r : Row) : Type 0 where
   ByEdge : Leads c m r.ending → RowLeads c m w r
   ClosesTable : is_table_mode m ≡ true → c ≡ StartTableTurns → named_in_table_scope (codes "table") w ≡ true → r.changes ≡ PopUntilNamed (codes "table") ∷ [] → r.ending ≡ AgainBy reset_mode → RowLeads c m w r
   ClosesColumnGroup : m ≡ InColumnGroup → c ≡ StartTableTurns → current_is (codes "colgroup") w ≡ true → r.changes ≡ Pop ∷ [] → r.ending ≡ Again InTable → RowLeads c m w r
   TakesPending : m ≡ InTableText → is_text c ≡ false → r.changes ≡ TakePendingText ∷ (pending_text w.pending w).changes → r.ending ≡ AgainBy saved_mode → RowLeads c m w r
+  ClosesTemplate : closes_templates m ≡ true → c ≡ EofTurns → has_template (names_of w) ≡ true → r.changes ≡ PopUntilNamed (codes "template") ∷ ClearActiveFormattingToMarker ∷ PopTemplateMode ∷ ResetMode ∷ [] → r.ending ≡ AgainBy reset_mode → RowLeads c m w r
   EndsText : m ≡ Text → c ≡ EofTurns → r.changes ≡ marks_script w ++ Pop ∷ [] → r.ending ≡ AgainBy saved_mode → RowLeads c m w r
 
 stops : (c : TurnKind) (m : InsertionMode) (w : World) (r : Row) → RowStops r → RowLeads c m w r
@@ -83,6 +88,13 @@ stops c m w r h = ByEdge (stops_leads c m r.ending h)
 -- IN A TABLE, and where its rules are taken
 fostered : (tag : TagText) (w : World) → (tag.kind ≡ EndTag → named Html tag.name ≡ false) → RowStops (foster in_body (TagTurn tag) w)
 fostered tag w f = stops_body_tag tag (set_foster true w) f
+
+ends_template : (c : TurnKind) (m : InsertionMode) (tag : TagText) (w : World) → RowLeads c m w (in_head_end_template tag w)
+ends_template c m tag w = stops c m w (in_head_end_template tag w) (row_stops (in_head_end_template tag w) (row_end_template tag w))
+
+-- by the rules of the head, a start tag that has one there
+starts_by_head : (c : TurnKind) (m : InsertionMode) (tag : TagText) (w : World) → (NonePasses in_head_start tag.name → ⊥) → RowLeads c m w (in_head_start_tag tag w)
+starts_by_head c m tag w some = stops c m w (in_head_start_tag tag w) (row_stops (in_head_start_tag tag w) (row_head_start tag w some))
 
 no_end : (k : TagKind) (A : Type 0) → k ≡ StartTag → k ≡ EndTag → A
 no_end StartTag A e f = absurd (cc)
@@ -116,7 +128,7 @@ module _ (m : InsertionMode) (tag : TagText) (w : World) where
       (stops_choose (has_template (names_of w) || is_some w.form) ignored (errs (InsertAndPopForm tag.attrs tag.had_duplicate_attributes ∷ []) IsDone) tt tt)
 
   starts_text : is_one_of table_text_names tag.name ≡ true → P (in_head_start_tag tag w)
-  starts_text p = stops c m w (in_head_start_tag tag w) (row_stops (in_head_start_tag tag w) (row_head_start tag w (table_text_passes tag.name p)))
+  starts_text p = starts_by_head c m tag w (table_text_passes tag.name p)
 
   leads_table_start : is_table_mode m ≡ true → tag.kind ≡ StartTag → (named Col tag.name ≡ true → edges.Again c m InColumnGroup) → (is_one_of row_part_names tag.name ≡ true → edges.Again c m InTableBody)
       → P (by_name in_table_start (of_tag in_table_else) tag w)
@@ -136,7 +148,7 @@ module _ (m : InsertionMode) (tag : TagText) (w : World) where
   unfolding in_table_end in_table_end_table in_table_ignored_ends
   leads_table_end c =
       holds_by_name (RowLeads c m w) in_table_end (of_tag in_table_else) tag w
-      ((λ p. stops c m w (in_table_end_table tag w) (stops_choose (named_in_table_scope (codes "table") w) _ ignored tt tt)), ((λ p. ByEdge tt), tt))
+      ((λ p. stops c m w (in_table_end_table tag w) (stops_choose (named_in_table_scope (codes "table") w) _ ignored tt tt)), ((λ p. ByEdge tt), ((λ p. ends_template c m tag w), tt)))
       (λ n. stops c m w (foster in_body (TagTurn tag) w) (fostered tag w (λ f. not_named Html in_table_ignored_ends tag.name refl n.1.0)))
 
   pub leads_table_tag_end : (c : TurnKind) → tag.kind ≡ EndTag → RowLeads c m w (in_table_tag tag w)
@@ -401,12 +413,88 @@ module _ (tag : TagText) (w : World) where
   unfolding in_column_group_start in_column_group_end in_body_start_html
   leads_in_column_group StartTag =
       holds_by_name (RowLeads s InColumnGroup w) in_column_group_start (of_tag in_column_group_else) tag w
-      ((λ p. stops s InColumnGroup w (in_body_start_html tag w) (stops_choose (has_template (names_of w)) ignored (errs (AddAttrsToHtml tag.attrs ∷ []) IsDone) tt tt)), ((λ p. ByEdge tt), tt))
+      ((λ p. stops s InColumnGroup w (in_body_start_html tag w) (stops_choose (has_template (names_of w)) ignored (errs (AddAttrsToHtml tag.attrs ∷ []) IsDone) tt tt)), ((λ p. ByEdge tt), ((λ p. starts_by_head s InColumnGroup tag w (template_passes name p)), tt)))
       (λ n. column_else n.1.0)
   leads_in_column_group EndTag =
       holds_by_name (RowLeads e InColumnGroup w) in_column_group_end (of_tag in_column_group_else) tag w
-      ((λ p. column_close e (SetMode InTable ∷ []) IsDone tt), ((λ p. ByEdge tt), tt))
+      ((λ p. column_close e (SetMode InTable ∷ []) IsDone tt), ((λ p. ByEdge tt), ((λ p. ends_template e InColumnGroup tag w), tt)))
       (λ n. column_close e [] (Again InTable) (column_end name))
+
+-- IN A TEMPLATE
+template_part : (name : List ℕ) → is_one_of in_template_part_names name ≡ true → edges.Again (kind_of_start name) InTemplate InTable
+unfolding kind_of_start part_names cell_names in_template_part_names
+template_part name h = of_set (λ n. edges.Again (kind_of_start n) InTemplate InTable) in_template_part_names name (edges.part_of_template, (edges.part_of_template, (edges.part_of_template, (edges.part_of_template, (edges.part_of_template, tt))))) h
+
+template_cell : (name : List ℕ) → is_one_of cell_names name ≡ true → edges.Again (kind_of_start name) InTemplate InRow
+unfolding kind_of_start cell_names
+template_cell name h = of_set (λ n. edges.Again (kind_of_start n) InTemplate InRow) cell_names name (edges.cell_of_template, (edges.cell_of_template, tt)) h
+
+template_col : (name : List ℕ) → named Col name ≡ true → edges.Again (kind_of_start name) InTemplate InColumnGroup
+unfolding kind_of_start cell_names
+template_col name h = of_named (λ n. edges.Again (kind_of_start n) InTemplate InColumnGroup) Col name edges.col_of_template h
+
+template_tr : (name : List ℕ) → named Tr name ≡ true → edges.Again (kind_of_start name) InTemplate InTableBody
+unfolding kind_of_start cell_names
+template_tr name h = of_named (λ n. edges.Again (kind_of_start n) InTemplate InTableBody) Tr name edges.row_of_template h
+
+template_other : (name : List ℕ) → is_one_of in_template_part_names name ≡ false → named Col name ≡ false → named Tr name ≡ false → is_one_of cell_names name ≡ false → edges.Again (kind_of_start name) InTemplate InBody
+unfolding kind_of_start part_names in_template_part_names
+template_other name p c t d = at (named Table name) (is_one_of cell_names name) (named Tr name) (named Col name) (is_one_of in_template_part_names name) d t c p
+  where
+    at : (a d t c p : Bool) → d ≡ false → t ≡ false → c ≡ false → p ≡ false
+        → edges.Again (if a then StartTableTurns else (if d then CellTurns else (if t then RowTurns else (if c then ColTurns else (if p then PartTurns else OtherTurns))))) InTemplate InBody
+    at true d t c p f g h i = edges.start_table_of_template
+    at false false false false false f g h i = edges.other_of_template
+    at false true t c p f g h i = absurd (cc)
+    at false false true c p f g h i = absurd (cc)
+    at false false false true p f g h i = absurd (cc)
+    at false false false false true f g h i = absurd (cc)
+
+leads_in_template : (k : TagKind) (tag : TagText) (w : World) → RowLeads (kind_of_tag k tag.name) InTemplate w (by_kind k (by_name in_template_start (in_template_as InBody) tag w) (by_name in_template_end ignored_tag tag w))
+unfolding in_template_start in_template_end
+leads_in_template StartTag tag w =
+    let s = kind_of_start tag.name in
+    holds_by_name (RowLeads s InTemplate w) in_template_start (in_template_as InBody) tag w (
+      (λ p. starts_by_head s InTemplate tag w (head_start_passes tag.name p)),
+      ((λ p. ByEdge (template_part tag.name p)), ((λ p. ByEdge (template_col tag.name p)), ((λ p. ByEdge (template_tr tag.name p)), ((λ p. ByEdge (template_cell tag.name p)), tt)))),
+    )
+    (λ n. ByEdge (template_other tag.name n.1.0 n.1.1.0 n.1.1.1.0 n.1.1.1.1.0))
+leads_in_template EndTag tag w = holds_by_name (RowLeads (kind_of_end tag.name) InTemplate w) in_template_end ignored_tag tag w ((λ p. ends_template (kind_of_end tag.name) InTemplate tag w), tt) (λ n. ByEdge tt)
+
+-- IN FRAMESETS no tag is taken again
+starts_html : (c : TurnKind) (m : InsertionMode) (tag : TagText) (w : World) → RowLeads c m w (in_body_start_html tag w)
+unfolding in_body_start_html
+starts_html c m tag w = stops c m w (in_body_start_html tag w) (stops_choose (has_template (names_of w)) ignored (errs (AddAttrsToHtml tag.attrs ∷ []) IsDone) tt tt)
+
+ends_frameset : (c : TurnKind) (tag : TagText) (w : World) → RowLeads c InFrameset w (in_frameset_end_frameset tag w)
+unfolding in_frameset_end_frameset
+ends_frameset c tag w =
+    stops c InFrameset w (in_frameset_end_frameset tag w)
+    (stops_choose (is_root_alone (names_of w)) ignored _ tt (stops_choose (not (is_some w.context) && not (is_in_frameset (names_of w))) _ (row (Pop ∷ []) IsDone) tt tt))
+
+leads_in_frameset : (k : TagKind) (tag : TagText) (w : World) → RowLeads (kind_of_tag k tag.name) InFrameset w (by_kind k (by_name in_frameset_start ignored_tag tag w) (by_name in_frameset_end ignored_tag tag w))
+unfolding in_frameset_start in_frameset_end
+leads_in_frameset StartTag tag w =
+    let s = kind_of_start tag.name in
+    holds_by_name (RowLeads s InFrameset w) in_frameset_start ignored_tag tag w
+    ((λ p. starts_html s InFrameset tag w), ((λ p. ByEdge tt), ((λ p. ByEdge tt), ((λ p. starts_by_head s InFrameset tag w (noframes_passes tag.name p)), tt))))
+    (λ n. ByEdge tt)
+leads_in_frameset EndTag tag w = holds_by_name (RowLeads (kind_of_end tag.name) InFrameset w) in_frameset_end ignored_tag tag w ((λ p. ends_frameset (kind_of_end tag.name) tag w), tt) (λ n. ByEdge tt)
+
+starts_after_frameset : (m : InsertionMode) (tag : TagText) (w : World) → RowLeads (kind_of_start tag.name) m w (by_name after_frameset_start ignored_tag tag w)
+unfolding after_frameset_start
+starts_after_frameset m tag w =
+    let s = kind_of_start tag.name in
+    holds_by_name (RowLeads s m w) after_frameset_start ignored_tag tag w ((λ p. starts_html s m tag w), ((λ p. starts_by_head s m tag w (noframes_passes tag.name p)), tt)) (λ n. ByEdge tt)
+
+leads_after_frameset : (k : TagKind) (tag : TagText) (w : World) → RowLeads (kind_of_tag k tag.name) AfterFrameset w (by_kind k (by_name after_frameset_start ignored_tag tag w) (by_name after_frameset_end ignored_tag tag w))
+unfolding after_frameset_end
+leads_after_frameset StartTag tag w = starts_after_frameset AfterFrameset tag w
+leads_after_frameset EndTag tag w = holds_by_name (RowLeads (kind_of_end tag.name) AfterFrameset w) after_frameset_end ignored_tag tag w ((λ p. ByEdge tt), tt) (λ n. ByEdge tt)
+
+leads_after_after_frameset : (k : TagKind) (tag : TagText) (w : World) → RowLeads (kind_of_tag k tag.name) AfterAfterFrameset w (by_kind k (by_name after_frameset_start ignored_tag tag w) ignored)
+leads_after_after_frameset StartTag tag w = starts_after_frameset AfterAfterFrameset tag w
+leads_after_after_frameset EndTag tag w = ByEdge tt
 
 -- IN A TEXT no tag is taken again
 ends_text : (tag : TagText) (w : World) → RowStops (text_end tag w)
@@ -422,7 +510,7 @@ leads_text EndTag tag w = stops (kind_of_end tag.name) Text w (text_end tag w) (
 
 -- ALL RULES
 leads_tag : (m : InsertionMode) (tag : TagText) (w : World) → RowLeads (kind_of_tag tag.kind tag.name) m w (rule m (TagTurn tag) w)
-unfolding before_html_tag before_head_tag in_head_tag in_head_noscript_tag after_head_tag in_body_tag after_body_tag after_after_body_tag in_table_text_else in_caption_tag in_column_group_tag in_table_body_tag in_row_tag in_cell_tag
+unfolding before_html_tag before_head_tag in_head_tag in_head_noscript_tag after_head_tag in_body_tag after_body_tag after_after_body_tag in_table_text_else in_caption_tag in_column_group_tag in_table_body_tag in_row_tag in_cell_tag in_template_tag in_frameset_tag after_frameset_tag after_after_frameset_tag
 leads_tag Initial tag w = ByEdge (leads_initial_else (kind_of_tag tag.kind tag.name) (TagTurn tag) w)
 leads_tag BeforeHtml tag w = ByEdge (leads_before_html (kind_of_tag tag.kind tag.name) tag.kind tag w)
 leads_tag BeforeHead tag w = ByEdge (leads_before_head (kind_of_tag tag.kind tag.name) tag.kind tag w)
@@ -440,7 +528,10 @@ leads_tag InRow tag w = leads_in_row tag w tag.kind refl
 leads_tag InCell tag w = leads_in_cell tag w tag.kind refl
 leads_tag AfterBody tag w = ByEdge (leads_after_body tag.kind tag w)
 leads_tag AfterAfterBody tag w = ByEdge (leads_after_after_body tag.kind tag w)
-leads_tag _ tag w = ByEdge tt
+leads_tag InTemplate tag w = leads_in_template tag.kind tag w
+leads_tag InFrameset tag w = leads_in_frameset tag.kind tag w
+leads_tag AfterFrameset tag w = leads_after_frameset tag.kind tag w
+leads_tag AfterAfterFrameset tag w = leads_after_after_frameset tag.kind tag w
 
 leads_comment : (m : InsertionMode) (x : List ℕ) (w : World) → RowLeads OtherTurns m w (rule m (CommentTurn x) w)
 unfolding in_table_text_else
@@ -510,6 +601,17 @@ leads_null AfterBody w = ByEdge (edges.after_body TextTurns refl)
 leads_null AfterAfterBody w = ByEdge (edges.after_after_body TextTurns refl)
 leads_null _ w = ByEdge tt
 
+-- where a template is open, it is closed
+eof_template : (m : InsertionMode) (w : World) → closes_templates m ≡ true → RowLeads EofTurns m w (template_eof w)
+unfolding template_eof
+eof_template m w h =
+    holds_chosen (RowLeads EofTurns m w) (has_template (names_of w)) _ (row [] IsDone)
+    (λ e. ClosesTemplate h refl e refl refl)
+    (λ e. ByEdge tt)
+
+eof_body : (m : InsertionMode) (w : World) → closes_templates m ≡ true → RowLeads EofTurns m w (in_body EofTurn w)
+eof_body m w h = holds_chosen (RowLeads EofTurns m w) (no_template_mode w.template_modes) (body_ends [] IsDone w) (template_eof w) (λ e. ByEdge tt) (λ e. eof_template m w h)
+
 leads_eof : (m : InsertionMode) (w : World) → RowLeads EofTurns m w (rule m EofTurn w)
 unfolding in_table_text_else
 leads_eof Initial w = ByEdge (leads_initial_else EofTurns EofTurn w)
@@ -520,6 +622,14 @@ leads_eof InHeadNoscript w = ByEdge (edges.in_head_noscript EofTurns)
 leads_eof AfterHead w = ByEdge (edges.after_head EofTurns)
 leads_eof Text w = EndsText refl refl refl refl
 leads_eof InTableText w = TakesPending refl refl refl refl
+leads_eof InBody w = eof_body InBody w refl
+leads_eof InTable w = eof_body InTable w refl
+leads_eof InCaption w = eof_body InCaption w refl
+leads_eof InColumnGroup w = eof_body InColumnGroup w refl
+leads_eof InTableBody w = eof_body InTableBody w refl
+leads_eof InRow w = eof_body InRow w refl
+leads_eof InCell w = eof_body InCell w refl
+leads_eof InTemplate w = eof_template InTemplate w refl
 leads_eof _ w = ByEdge tt
 
 pub leads : (m : InsertionMode) (t : TurnText) (w : World) → RowLeads (kind_of_turn t) m w (rule m t w)

@@ -50,10 +50,11 @@ use Rattle.h5_meaning.proofs.KeptLaws.{FitsAs, Kept, as_before, fits_at, kept_co
 use Rattle.h5_meaning.proofs.ListsLaws.{IsSteady, steady_changes}
 use Rattle.h5_meaning.proofs.NameLaws.{names-append, names-cut, names-form, names-insert, names-insert_and_pop, names-until_current}
 use Rattle.h5_meaning.proofs.PopLaws.{names-pop}
-use Rattle.h5_meaning.proofs.ReadyInLaws.{ReadyIn, in_foster, in_frameset_text, in_reconstruct, in_text, ready_in, steady}
+use Rattle.h5_meaning.proofs.ReadyInLaws.{ReadyIn, in_foster, in_frameset_text, in_reconstruct, in_text, ready_in}
 use Rattle.h5_meaning.proofs.SituationLaws.{KeepsSituation, situation_frameset, situation_insert, situation_leaf, situation_pop, situation_reconstruct, situation_text, situation_then, situation_tree}
 use Rattle.h5_meaning.proofs.BodyRowLaws.{table_text_passes}
-use Rattle.h5_meaning.proofs.HeadContentLaws.{body_left, kept_head_start}
+use Rattle.h5_meaning.proofs.TemplateRowLaws.{kept_end_template, kept_start_template}
+use Rattle.h5_meaning.proofs.HeadContentLaws.{body_left, body_takes, kept_head_start}
 use Rattle.h5_meaning.specs.InHead.{in_head_start_tag}
 
 -- NAMES
@@ -224,12 +225,12 @@ module _ (choices : SinkChoices) (w : World) (steady : IsSteady w) where
     unfolding in_table_text_or_null
     kept_text_or_null t some part = holds_chosen (Kept choices w m) (keeps_text w) (row (SaveMode ∷ []) (Again InTableText)) (foster in_body t w) (λ e. text_begun) (λ e. kept_fostered m t (table_goes m table) same some part)
 
-    -- a start tag "style", "script"
+    -- a start tag "style", "script", "template"
     kept_text_start : (tag : TagText) → is_one_of table_text_names tag.name ≡ true → Kept choices w m (in_head_start_tag tag w)
     unfolding table_text_names
     kept_text_start tag p =
         kept_head_start choices w steady.sound m same (body_left m (table_goes m table)) tag
-        (λ q. let out = of_named (λ n. is_one_of table_text_names n ≡ false) Noscript tag.name refl q in absurd (cc)) (λ n. absurd (table_text_passes tag.name p n))
+        (λ q. let out = of_named (λ n. is_one_of table_text_names n ≡ false) Noscript tag.name refl q in absurd (cc)) (λ q. kept_start_template choices w steady.sound m tag (body_takes m (table_goes m table))) (λ n. absurd (table_text_passes tag.name p n))
 
     kept_table_tag : (kind : TagKind) (tag : TagText) → tag.kind ≡ kind → Kept choices w m (by_kind kind (by_name in_table_start (of_tag in_table_else) tag w) (by_name in_table_end (of_tag in_table_else) tag w))
     unfolding in_table_start in_table_end
@@ -253,7 +254,7 @@ module _ (choices : SinkChoices) (w : World) (steady : IsSteady w) where
       where
         start : NoPart m (TagTurn tag)
         start = inr (subst (λ k. NoPartOf k tag.name) (sym e) tt)
-    kept_table_tag EndTag tag e = holds_by_name (Kept choices w m) in_table_end (of_tag in_table_else) tag w ((λ p. kept_end_table tag), ((λ p h. h), tt))
+    kept_table_tag EndTag tag e = holds_by_name (Kept choices w m) in_table_end (of_tag in_table_else) tag w ((λ p. kept_end_table tag), ((λ p h. h), ((λ p. kept_end_template choices w steady.sound m (table_goes m table) tag), tt)))
         (λ n. kept_fostered m (TagTurn tag) (table_goes m table) same tt (inr (subst (λ k. NoPartOf k tag.name) (sym e) (no_part_in_table tag.name n))))
 
     pub kept_in_table : (t : TurnText) → HasText t → Kept choices w m (in_table t w)
@@ -262,7 +263,7 @@ module _ (choices : SinkChoices) (w : World) (steady : IsSteady w) where
     kept_in_table (CommentTurn x) some = kept_comment choices w steady.sound m x
     kept_in_table (TextTurn status x) some = kept_text_or_null (TextTurn status x) some tt
     kept_in_table NullTurn some = kept_text_or_null NullTurn tt tt
-    kept_in_table EofTurn some = λ h. h
+    kept_in_table EofTurn some = kept_in_body choices w steady m (table_goes m table) same EofTurn tt tt
 
   -- IN A TEXT IN A TABLE
 

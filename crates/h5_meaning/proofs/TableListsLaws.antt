@@ -29,8 +29,8 @@ use Rattle.h5_meaning.specs.Reset.{reset_mode}
 use Rattle.h5_meaning.specs.Rows.{Again, AgainBy, AppendComment, AppendPendingText, AppendText, Change, ClearActiveFormattingToMarker, Ending, GenerateImpliedEnd, InsertAndPopElement, InsertAndPopForm, IsAcknowledged, IsDone, Pop, PopUntilCurrent, PopUntilNamed, ReconstructActiveFormattingElements, ResetMode, Row, SaveMode, SetFoster, SetFramesetOkByText, SetMode, apply_all, choose, errs, ignored, row, row_if}
 use Rattle.h5_meaning.specs.Tables.{foster, in_table_scope, named_in_table_scope}
 use Rattle.h5_meaning.specs.World.{World, names_of}
-use Rattle.h5_meaning.proofs.BodyListsLaws.{Stays, stays, stays_chosen, stays_head_start, stays_in_body, stays_start_html}
-use Rattle.h5_meaning.proofs.BodyRowLaws.{table_text_passes}
+use Rattle.h5_meaning.proofs.BodyListsLaws.{Stays, stays, stays_chosen, stays_head_start, stays_in_body, stays_start_html, stays_end_template}
+use Rattle.h5_meaning.proofs.BodyRowLaws.{table_text_passes, template_passes}
 use Rattle.h5_meaning.proofs.ByNameLaws.{holds_by_name, holds_chosen}
 use Rattle.h5_meaning.proofs.KeptLaws.{FitsAs, apply_append}
 use Rattle.h5_meaning.proofs.ListsLaws.{IsSteady, NeedsOfAll, steady_changes}
@@ -97,7 +97,7 @@ module _ (choices : SinkChoices) (w : World) (k : IsSteady w) where
       ),
     )
         (λ n. fostered (TagTurn tag) tt)
-    stays_table_tag EndTag tag = holds_by_name (Stays choices w k m) in_table_end (of_tag in_table_else) tag w ((λ p. stays_end_table tag), ((λ p h. k), tt)) (λ n. fostered (TagTurn tag) tt)
+    stays_table_tag EndTag tag = holds_by_name (Stays choices w k m) in_table_end (of_tag in_table_else) tag w ((λ p. stays_end_table tag), ((λ p h. k), ((λ p. stays_end_template choices w k m tag), tt))) (λ n. fostered (TagTurn tag) tt)
 
     pub stays_in_table : (t : TurnText) → HasText t → Stays choices w k m (in_table t w)
     unfolding in_table_tag
@@ -105,7 +105,7 @@ module _ (choices : SinkChoices) (w : World) (k : IsSteady w) where
     stays_in_table (CommentTurn x) some = by_changes m (row (AppendComment x ∷ []) IsDone) (tt, tt)
     stays_in_table (TextTurn status x) some = stays_text_or_null (TextTurn status x) some
     stays_in_table NullTurn some = stays_text_or_null NullTurn tt
-    stays_in_table EofTurn some = λ h. k
+    stays_in_table EofTurn some = stays_in_body choices w k m (table_goes m table) EofTurn tt
 
   -- in a text in a table
   pending : (p : List ℕ) → FitsAs InTableText w → IsSteady (apply_all choices (pending_text p w).changes (take_pending_text w))
@@ -149,7 +149,7 @@ module _ (choices : SinkChoices) (w : World) (k : IsSteady w) where
   stays_in_caption (CommentTurn x) some = stays_in_body choices w k InCaption refl (CommentTurn x) some
   stays_in_caption (TextTurn status x) some = stays_in_body choices w k InCaption refl (TextTurn status x) some
   stays_in_caption NullTurn some = λ h. k
-  stays_in_caption EofTurn some = λ h. k
+  stays_in_caption EofTurn some = stays_in_body choices w k InCaption refl EofTurn tt
 
   -- in a column group
   stays_close_colgroup : (changes : List Change) (ending : Ending) → NeedsOfAll changes → Stays choices w k InColumnGroup (close_the_column_group changes ending w)
@@ -162,8 +162,8 @@ module _ (choices : SinkChoices) (w : World) (k : IsSteady w) where
   stays_colgroup_tag : (kind : TagKind) (tag : TagText) → Stays choices w k InColumnGroup (by_kind kind (by_name in_column_group_start (of_tag in_column_group_else) tag w) (by_name in_column_group_end (of_tag in_column_group_else) tag w))
   unfolding in_column_group_start in_column_group_end
   stays_colgroup_tag StartTag tag = holds_by_name (Stays choices w k InColumnGroup) in_column_group_start (of_tag in_column_group_else) tag w
-      ((λ p. stays_start_html choices w k InColumnGroup tag), ((λ p. by_changes InColumnGroup (in_column_group_start_col tag w) (tt, tt)), tt)) (λ n. stays_colgroup_else)
-  stays_colgroup_tag EndTag tag = holds_by_name (Stays choices w k InColumnGroup) in_column_group_end (of_tag in_column_group_else) tag w ((λ p. stays_close_colgroup (SetMode InTable ∷ []) IsDone (tt, tt)), ((λ p h. k), tt)) (λ n. stays_colgroup_else)
+      ((λ p. stays_start_html choices w k InColumnGroup tag), ((λ p. by_changes InColumnGroup (in_column_group_start_col tag w) (tt, tt)), ((λ p. stays_head_start choices w k InColumnGroup tag (template_passes tag.name p)), tt))) (λ n. stays_colgroup_else)
+  stays_colgroup_tag EndTag tag = holds_by_name (Stays choices w k InColumnGroup) in_column_group_end (of_tag in_column_group_else) tag w ((λ p. stays_close_colgroup (SetMode InTable ∷ []) IsDone (tt, tt)), ((λ p h. k), ((λ p. stays_end_template choices w k InColumnGroup tag), tt))) (λ n. stays_colgroup_else)
 
   pub stays_in_column_group : (t : TurnText) → HasText t → Stays choices w k InColumnGroup (in_column_group t w)
   unfolding in_column_group_tag
@@ -173,7 +173,7 @@ module _ (choices : SinkChoices) (w : World) (k : IsSteady w) where
   stays_in_column_group (TextTurn NotWhitespace x) some = stays_colgroup_else
   stays_in_column_group (TextTurn NotSplit x) some = stays_colgroup_else
   stays_in_column_group NullTurn some = stays_colgroup_else
-  stays_in_column_group EofTurn some = λ h. k
+  stays_in_column_group EofTurn some = stays_in_body choices w k InColumnGroup refl EofTurn tt
 
   -- in a section
   stays_end_section : (tag : TagText) → Stays choices w k InTableBody (in_table_body_end_section tag w)
@@ -198,7 +198,7 @@ module _ (choices : SinkChoices) (w : World) (k : IsSteady w) where
   stays_in_table_body (CommentTurn x) some = stays_in_table InTableBody refl (CommentTurn x) some
   stays_in_table_body (TextTurn status x) some = stays_in_table InTableBody refl (TextTurn status x) some
   stays_in_table_body NullTurn some = stays_in_table InTableBody refl NullTurn some
-  stays_in_table_body EofTurn some = λ h. k
+  stays_in_table_body EofTurn some = stays_in_table InTableBody refl EofTurn tt
 
   -- in a row
   stays_close_row : (changes : List Change) (ending : Ending) → NeedsOfAll changes → Stays choices w k InRow (close_the_row changes ending w)
@@ -222,7 +222,7 @@ module _ (choices : SinkChoices) (w : World) (k : IsSteady w) where
   stays_in_row (CommentTurn x) some = stays_in_table InRow refl (CommentTurn x) some
   stays_in_row (TextTurn status x) some = stays_in_table InRow refl (TextTurn status x) some
   stays_in_row NullTurn some = stays_in_table InRow refl NullTurn some
-  stays_in_row EofTurn some = λ h. k
+  stays_in_row EofTurn some = stays_in_table InRow refl EofTurn tt
 
   -- in a cell
   stays_end_cell : (tag : TagText) → Stays choices w k InCell (in_cell_end_cell tag w)
@@ -248,4 +248,4 @@ module _ (choices : SinkChoices) (w : World) (k : IsSteady w) where
   stays_in_cell (CommentTurn x) some = stays_in_body choices w k InCell refl (CommentTurn x) some
   stays_in_cell (TextTurn status x) some = stays_in_body choices w k InCell refl (TextTurn status x) some
   stays_in_cell NullTurn some = λ h. k
-  stays_in_cell EofTurn some = λ h. k
+  stays_in_cell EofTurn some = stays_in_body choices w k InCell refl EofTurn tt

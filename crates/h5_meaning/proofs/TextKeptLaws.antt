@@ -3,7 +3,7 @@ use Rattle.std.proofs.Common.{◌≡◌, ℕ, Bool, true, false, cond, List, [],
 use Rattle.h5_interface.specs.SinkChoices.{SinkChoices}
 use Rattle.h5_types.specs.TurnText.{TextTurn}
 use Rattle.h5_types.specs.declared.modes.InsertionMode.{InsertionMode}
-use Rattle.h5_types.specs.declared.modes.InsertionMode.TheVariants.{Initial, BeforeHtml, BeforeHead, InHead, InHeadNoscript, AfterHead, InBody, Text, InTable, InTableText, InCaption, InColumnGroup, InTableBody, InRow, InCell, AfterBody, AfterAfterBody}
+use Rattle.h5_types.specs.declared.modes.InsertionMode.TheVariants.{Initial, BeforeHtml, BeforeHead, InHead, InHeadNoscript, AfterHead, InBody, Text, InTable, InTableText, InCaption, InColumnGroup, InTableBody, InRow, InCell, AfterBody, AfterAfterBody, InTemplate, InFrameset, AfterFrameset, AfterAfterFrameset}
 use Rattle.h5_types.specs.declared.modes.SplitStatus.TheVariants.{NotWhitespace}
 use Rattle.h5_meaning.specs.AfterBody.{back_to_body}
 use Rattle.h5_meaning.specs.AfterHead.{after_head_else}
@@ -112,7 +112,10 @@ module _ (choices : SinkChoices) (P : World → Type 0) (kept : IsKept choices P
   in_keeps InCell = kept.body
   in_keeps AfterBody = after_body_keeps
   in_keeps AfterAfterBody = after_body_keeps
-  in_keeps _ = dropped_keeps
+  in_keeps InTemplate = kept.body
+  in_keeps InFrameset = λ t. any_keeps append_text kept.append (all_blanks t)
+  in_keeps AfterFrameset = λ t. any_keeps append_text kept.append (all_blanks t)
+  in_keeps AfterAfterFrameset = λ t. any_keeps (text_in_body choices) kept.body (all_blanks t)
 
   pub text_kept : (t : List ℕ) (w : World) → P w → P (text_rule choices t w)
   text_kept t w h = in_keeps w.mode t w h

@@ -20,7 +20,7 @@ use Rattle.h5_meaning.specs.Closing.{copy_closed_option}
 use Rattle.h5_meaning.specs.Formatting.{reconstruct_active_formatting_elements}
 use Rattle.h5_meaning.specs.InTableText.{saved_mode}
 use Rattle.h5_meaning.specs.Modes.{rule}
-use Rattle.h5_meaning.specs.Rows.{AddAttrsToSecond, AdoptionAgency, Again, AgainBy, Answers, Change, ClearActiveFormattingToMarker, CloseListItem, ClosePElement, ClosePElementInButtonScope, CreateFormattingElement, Ending, GenerateImpliedEnd, GenerateImpliedEndExcept, GenerateImpliedEndInSelect, HandleMisnestedATags, HandleMisnestedNobrTags, InsertMarker, IsAcknowledged, IsDone, MarkStarted, Pop, PopHeading, PopUntilCell, PopUntilCurrent, PopUntilHeading, ReconstructActiveFormattingElements, RemoveFromStack, ResetMode, SaveMode, SetMode, apply, apply_all, ignored, row}
+use Rattle.h5_meaning.specs.Rows.{AddAttrsToSecond, AdoptionAgency, Again, AgainBy, Answers, Change, ClearActiveFormattingToMarker, CloseListItem, ClosePElement, ClosePElementInButtonScope, CreateFormattingElement, Ending, GenerateImpliedEnd, GenerateImpliedEndExcept, GenerateImpliedEndInSelect, HandleMisnestedATags, HandleMisnestedNobrTags, InsertMarker, IsAcknowledged, IsDone, MarkStarted, Pop, PopHeading, PopUntilCell, PopUntilCurrent, PopUntilHeading, ReconstructActiveFormattingElements, RemoveFromStack, ResetMode, SaveMode, SetMode, apply, apply_all, ignored, row, PushTemplateMode, PopTemplateMode, SwitchTemplateMode, GenerateImpliedEndThoroughly, InsertTemplate, RemoveBody}
 use Rattle.h5_meaning.specs.Run.{at_once, doctype_in, is_good_doctype, is_refused_in_text, is_start, judged, quirks_of, refuses_in, step, taken, text_step, with_doctype, without_lf}
 use Rattle.h5_meaning.specs.Settle.{Settled, by_row, settle, settle_within}
 use Rattle.h5_meaning.specs.Shared.{current_is}
@@ -33,7 +33,9 @@ use Rattle.h5_meaning.proofs.SettleLaws.{settle-first}
 use Rattle.h5_meaning.proofs.SilentLaws.{Silent, is_start_turn, rule_silent}
 use Rattle.h5_meaning.proofs.TextKeptLaws.{IsKept, text_kept}
 use Rattle.h5_meaning.proofs.ToldLaws.{NoMode, NoText, NoTextBehind, Tells, TurnsToText, is_text, reset_no_text}
-use Rattle.h5_meaning.proofs.TreeLaws.{OnlyTree, tree_adoption, tree_cleared, tree_close_p, tree_close_p_in_scope, tree_format, tree_implied, tree_implied_except, tree_in_select, tree_list_item, tree_marker, tree_misnested_a_tags, tree_misnested_nobr_tags, tree_pop_heading, tree_reconstruct, tree_remove, tree_until_cell, tree_until_current, tree_until_heading}
+use Rattle.h5_meaning.proofs.TreeLaws.{OnlyTree, tree_adoption, tree_cleared, tree_close_p, tree_close_p_in_scope, tree_format, tree_implied, tree_implied_except, tree_in_select, tree_list_item, tree_marker, tree_misnested_a_tags, tree_misnested_nobr_tags, tree_pop_heading, tree_reconstruct, tree_remove, tree_until_cell, tree_until_current, tree_until_heading, tree_implied_thoroughly, tree_remove_body}
+use Rattle.h5_meaning.proofs.TemplateLaws.{tree_insert_template}
+use Rattle.h5_fits.proofs.ChangeLaws.{later_kinds}
 
 -- ONE CHANGE, and the modes to go back to
 abbrev saved_after : Change → World → Option InsertionMode
@@ -50,28 +52,41 @@ second_saved : (o : Option ℕ) (attrs : _) (w : World) → SavesAs w.saved_mode
 second_saved None attrs w = (refl, refl)
 second_saved (Some n) attrs w = (refl, refl)
 
-change_saved : (choices : SinkChoices) (x : Change) (w : World) → SavesAs (saved_after x w) w (apply choices x w)
+-- those of templates are apart
+abbrev KeepsModes : Change → Type 0
+KeepsModes (PushTemplateMode m) = ⊥
+KeepsModes PopTemplateMode = ⊥
+KeepsModes (SwitchTemplateMode m) = ⊥
+KeepsModes _ = Unit {0}
+
+change_saved : (choices : SinkChoices) (x : Change) (w : World) → KeepsModes x → SavesAs (saved_after x w) w (apply choices x w)
 unfolding set_frameset_ok_by_text set_quirks_mode insert_element create_root append_comment append_comment_to_doc append_comment_to_html append_text pop insert_and_pop_element insert_and_pop_form insert_head add_attrs_to_html add_attrs_to_second pop_until_named append_pending_text insert_form copy_closed_option insert_script mark_started
-change_saved choices (AddAttrsToSecond attrs) w = second_saved (second_from_last w.stack) attrs w
-change_saved choices (GenerateImpliedEndExcept local) w = tree_saved w _ (tree_implied_except choices local w)
-change_saved choices GenerateImpliedEnd w = tree_saved w _ (tree_implied choices w)
-change_saved choices ClosePElement w = tree_saved w _ (tree_close_p choices w)
-change_saved choices ClosePElementInButtonScope w = tree_saved w _ (tree_close_p_in_scope choices w)
-change_saved choices PopHeading w = tree_saved w _ (tree_pop_heading choices w)
-change_saved choices PopUntilHeading w = tree_saved w _ (tree_until_heading w)
-change_saved choices ReconstructActiveFormattingElements w = tree_saved w _ (tree_reconstruct choices w)
-change_saved choices (CreateFormattingElement tag) w = tree_saved w _ (tree_format choices tag w)
-change_saved choices (AdoptionAgency name) w = tree_saved w _ (tree_adoption choices name w)
-change_saved choices HandleMisnestedATags w = tree_saved w _ (tree_misnested_a_tags choices w)
-change_saved choices HandleMisnestedNobrTags w = tree_saved w _ (tree_misnested_nobr_tags choices w)
-change_saved choices InsertMarker w = tree_saved w _ (tree_marker w)
-change_saved choices ClearActiveFormattingToMarker w = tree_saved w _ (tree_cleared w)
-change_saved choices (PopUntilCurrent is) w = tree_saved w _ (tree_until_current is w)
-change_saved choices PopUntilCell w = tree_saved w _ (tree_until_cell w)
-change_saved choices (CloseListItem locals) w = tree_saved w _ (tree_list_item choices locals w)
-change_saved choices GenerateImpliedEndInSelect w = tree_saved w _ (tree_in_select choices w)
-change_saved choices (RemoveFromStack element) w = tree_saved w _ (tree_remove choices element w)
-change_saved choices _ w = (refl, refl)
+change_saved choices (AddAttrsToSecond attrs) w h = second_saved (second_from_last w.stack) attrs w
+change_saved choices (GenerateImpliedEndExcept local) w h = tree_saved w _ (tree_implied_except choices local w)
+change_saved choices GenerateImpliedEnd w h = tree_saved w _ (tree_implied choices w)
+change_saved choices ClosePElement w h = tree_saved w _ (tree_close_p choices w)
+change_saved choices ClosePElementInButtonScope w h = tree_saved w _ (tree_close_p_in_scope choices w)
+change_saved choices PopHeading w h = tree_saved w _ (tree_pop_heading choices w)
+change_saved choices PopUntilHeading w h = tree_saved w _ (tree_until_heading w)
+change_saved choices ReconstructActiveFormattingElements w h = tree_saved w _ (tree_reconstruct choices w)
+change_saved choices (CreateFormattingElement tag) w h = tree_saved w _ (tree_format choices tag w)
+change_saved choices (AdoptionAgency name) w h = tree_saved w _ (tree_adoption choices name w)
+change_saved choices HandleMisnestedATags w h = tree_saved w _ (tree_misnested_a_tags choices w)
+change_saved choices HandleMisnestedNobrTags w h = tree_saved w _ (tree_misnested_nobr_tags choices w)
+change_saved choices InsertMarker w h = tree_saved w _ (tree_marker w)
+change_saved choices ClearActiveFormattingToMarker w h = tree_saved w _ (tree_cleared w)
+change_saved choices (PopUntilCurrent is) w h = tree_saved w _ (tree_until_current is w)
+change_saved choices PopUntilCell w h = tree_saved w _ (tree_until_cell w)
+change_saved choices (CloseListItem locals) w h = tree_saved w _ (tree_list_item choices locals w)
+change_saved choices GenerateImpliedEndInSelect w h = tree_saved w _ (tree_in_select choices w)
+change_saved choices (RemoveFromStack element) w h = tree_saved w _ (tree_remove choices element w)
+change_saved choices GenerateImpliedEndThoroughly w h = tree_saved w _ (tree_implied_thoroughly choices w)
+change_saved choices (InsertTemplate attrs duplicates) w h = tree_saved w _ (tree_insert_template choices attrs duplicates w)
+change_saved choices RemoveBody w h = tree_saved w _ (tree_remove_body w)
+change_saved choices (PushTemplateMode m) w h = absurd h
+change_saved choices PopTemplateMode w h = absurd h
+change_saved choices (SwitchTemplateMode m) w h = absurd h
+change_saved choices _ w h = (refl, refl)
 
 -- no mode is "text": neither the world's, nor one to go back to
 abbrev NoTextIn : World → Type 0
@@ -87,10 +102,15 @@ change_no_text : (choices : SinkChoices) (x : Change) (w : World) → NoText (x 
 change_no_text choices (SetMode m) w n h = (n.0, h.1)
 change_no_text choices ResetMode w n h = (reset_no_text w h.1, h.1)
 change_no_text choices SaveMode w n h = (h.0, (h.0, h.1.1))
-change_no_text choices x w n h = same_no_text w (apply choices x w) (changes_mode choices (x ∷ []) w) (change_saved choices x w) h
+change_no_text choices (PushTemplateMode m) w n h = (h.0, (h.1.0, (n.0, h.1.1)))
+change_no_text choices PopTemplateMode w n h = (h.0, (h.1.0, later_kinds w.template_modes h.1.1))
+change_no_text choices (SwitchTemplateMode m) w n h = (h.0, (h.1.0, (n.0, later_kinds w.template_modes h.1.1)))
+change_no_text choices x w n h = same_no_text w (apply choices x w) (changes_mode choices (x ∷ []) w) (change_saved choices x w tt) h
 
 no_text_parts : (x : Change) (xs : List Change) → NoText (x ∷ xs) → NoText (x ∷ []) × NoText xs
 no_text_parts (SetMode m) xs h = ((h.0, tt), h.1)
+no_text_parts (PushTemplateMode m) xs h = ((h.0, tt), h.1)
+no_text_parts (SwitchTemplateMode m) xs h = ((h.0, tt), h.1)
 no_text_parts _ xs h = (tt, h)
 
 -- CHANGES
@@ -103,11 +123,17 @@ changes_behind choices [] w n h = h
 changes_behind choices (SetMode m ∷ xs) w n h = absurd n
 changes_behind choices (ResetMode ∷ xs) w n h = absurd n
 changes_behind choices (SaveMode ∷ xs) w n h = absurd n
-changes_behind choices (x ∷ xs) w n h = changes_behind choices xs (apply choices x w) n (saved_no_text w (apply choices x w) (change_saved choices x w) h)
+changes_behind choices (PushTemplateMode m ∷ xs) w n h = absurd n
+changes_behind choices (PopTemplateMode ∷ xs) w n h = absurd n
+changes_behind choices (SwitchTemplateMode m ∷ xs) w n h = absurd n
+changes_behind choices (x ∷ xs) w n h = changes_behind choices xs (apply choices x w) n (saved_no_text w (apply choices x w) (change_saved choices x w tt) h)
 
 changes_to_text : (choices : SinkChoices) (xs : List Change) (w : World) → TurnsToText xs → NoTextIn w → NoTextBehind (apply_all choices xs w)
 changes_to_text choices [] w n h = absurd n
 changes_to_text choices (SetMode m ∷ xs) w n h = changes_behind choices xs (set_mode m w) n.1 h.1
+changes_to_text choices (PushTemplateMode m ∷ xs) w n h = absurd n
+changes_to_text choices (PopTemplateMode ∷ xs) w n h = absurd n
+changes_to_text choices (SwitchTemplateMode m ∷ xs) w n h = absurd n
 changes_to_text choices (x ∷ xs) w n h = changes_to_text choices xs (apply choices x w) n (change_no_text choices x w tt h)
 
 -- THE TURNS of a token that doesn't come in a text: where they lead to one, the reader turns to raw text

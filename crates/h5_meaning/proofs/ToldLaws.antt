@@ -1,16 +1,14 @@
 -- What a row tells of texts: one that turns the reader to raw text sets the mode to "text" last, and no other does.
-use Rattle.std.proofs.Common.{◌≡◌, ◌≢◌, ℕ, Bool, true, false, List, [], ◌∷◌, ◌++◌, refl, ap, sym, subst}
-use Rattle.h5_names.specs.AttributeText.{is_same_text}
-use Rattle.h5_token.specs.Reply.{Reply, RunsScript, TurnsPlain, TurnsRaw}
-use Rattle.h5_tag_sets.specs.TagSets.{is_one_of}
+use Rattle.std.proofs.Common.{◌≡◌, Bool, true, false, List, [], ◌∷◌, ◌++◌, refl}
+use Rattle.h5_token.specs.Reply.{RunsScript, TurnsPlain, TurnsRaw}
 use Rattle.h5_types.specs.declared.modes.InsertionMode.{InsertionMode}
 use Rattle.h5_types.specs.declared.modes.InsertionMode.TheVariants.{Text}
-use Rattle.h5_fits.specs.Fits.{AllKinds}
+use Rattle.h5_fits.specs.Fits.{AllKinds, is_template_mode}
 use Rattle.h5_fits.specs.Roles.{roles}
 use Rattle.h5_fits.proofs.NamesFitLaws.{is_silent, reset_silent}
 use Rattle.h5_meaning.specs.InTableText.{saved_mode}
 use Rattle.h5_meaning.specs.Reset.{reset_mode}
-use Rattle.h5_meaning.specs.Rows.{Again, AgainBy, Answers, Change, Ending, IsAcknowledged, IsDone, ResetMode, Row, SaveMode, SetMode, choose}
+use Rattle.h5_meaning.specs.Rows.{Again, AgainBy, Answers, Change, Ending, IsAcknowledged, IsDone, ResetMode, Row, SaveMode, SetMode, choose, PushTemplateMode, PopTemplateMode, SwitchTemplateMode}
 use Rattle.h5_meaning.specs.Sound.{situation_of}
 use Rattle.h5_meaning.specs.World.{World, names_of}
 use Rattle.h5_meaning.proofs.ListedLaws.{AllListable, listable_append}
@@ -21,6 +19,9 @@ NoMode [] = Unit {0}
 NoMode (SetMode m ∷ xs) = ⊥
 NoMode (ResetMode ∷ xs) = ⊥
 NoMode (SaveMode ∷ xs) = ⊥
+NoMode (PushTemplateMode m ∷ xs) = ⊥
+NoMode (PopTemplateMode ∷ xs) = ⊥
+NoMode (SwitchTemplateMode m ∷ xs) = ⊥
 NoMode (x ∷ xs) = NoMode xs
 
 abbrev pub is_text : InsertionMode → Bool
@@ -44,12 +45,17 @@ reset_no_text w h = silent_no_text (reset_mode w) (reset_silent (situation_of w)
 abbrev pub TurnsToText : List Change → Type 0
 TurnsToText [] = ⊥
 TurnsToText (SetMode m ∷ xs) = (m ≡ Text) × NoMode xs
+TurnsToText (PushTemplateMode m ∷ xs) = ⊥
+TurnsToText (PopTemplateMode ∷ xs) = ⊥
+TurnsToText (SwitchTemplateMode m ∷ xs) = ⊥
 TurnsToText (x ∷ xs) = TurnsToText xs
 
--- none that is set is "text"
+-- none that is set is "text", and those of templates are of their kind
 abbrev pub NoText : List Change → Type 0
 NoText [] = Unit {0}
 NoText (SetMode m ∷ xs) = (is_text m ≡ false) × NoText xs
+NoText (PushTemplateMode m ∷ xs) = (is_template_mode m ≡ true) × NoText xs
+NoText (SwitchTemplateMode m ∷ xs) = (is_template_mode m ≡ true) × NoText xs
 NoText (x ∷ xs) = NoText xs
 
 -- by the ending of a row
@@ -76,11 +82,17 @@ no_mode_append [] ys h k = k
 no_mode_append (SetMode m ∷ xs) ys h k = absurd h
 no_mode_append (ResetMode ∷ xs) ys h k = absurd h
 no_mode_append (SaveMode ∷ xs) ys h k = absurd h
+no_mode_append (PushTemplateMode m ∷ xs) ys h k = absurd h
+no_mode_append (PopTemplateMode ∷ xs) ys h k = absurd h
+no_mode_append (SwitchTemplateMode m ∷ xs) ys h k = absurd h
 no_mode_append (_ ∷ xs) ys h k = no_mode_append xs ys h k
 
 text_append : (xs ys : List Change) → TurnsToText xs → NoMode ys → TurnsToText (xs ++ ys)
 text_append [] ys h k = absurd h
 text_append (SetMode m ∷ xs) ys h k = (h.0, no_mode_append xs ys h.1 k)
+text_append (PushTemplateMode m ∷ xs) ys h k = absurd h
+text_append (PopTemplateMode ∷ xs) ys h k = absurd h
+text_append (SwitchTemplateMode m ∷ xs) ys h k = absurd h
 text_append (_ ∷ xs) ys h k = text_append xs ys h k
 
 no_mode_no_text : (xs : List Change) → NoMode xs → NoText xs
@@ -88,11 +100,16 @@ no_mode_no_text [] h = tt
 no_mode_no_text (SetMode m ∷ xs) h = absurd h
 no_mode_no_text (ResetMode ∷ xs) h = absurd h
 no_mode_no_text (SaveMode ∷ xs) h = absurd h
+no_mode_no_text (PushTemplateMode m ∷ xs) h = absurd h
+no_mode_no_text (PopTemplateMode ∷ xs) h = absurd h
+no_mode_no_text (SwitchTemplateMode m ∷ xs) h = absurd h
 no_mode_no_text (_ ∷ xs) h = no_mode_no_text xs h
 
 no_text_append : (xs ys : List Change) → NoText xs → NoText ys → NoText (xs ++ ys)
 no_text_append [] ys h k = k
 no_text_append (SetMode m ∷ xs) ys h k = (h.0, no_text_append xs ys h.1 k)
+no_text_append (PushTemplateMode m ∷ xs) ys h k = (h.0, no_text_append xs ys h.1 k)
+no_text_append (SwitchTemplateMode m ∷ xs) ys h k = (h.0, no_text_append xs ys h.1 k)
 no_text_append (_ ∷ xs) ys h k = no_text_append xs ys h k
 
 -- with changes behind it that set no mode

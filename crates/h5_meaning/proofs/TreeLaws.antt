@@ -1,18 +1,19 @@
 -- Changes that leave all but the forest, the stack of open elements and the list of active formatting elements.
 use Rattle.std.proofs.Common.{◌≡◌, ℕ, zero, suc, Bool, true, false, cond, not, ◌&&◌, List, [], ◌∷◌, codes, Option, Some, None, refl, ap, ◌∙◌}
 use Rattle.std.specs.List.{list_any}
+use Rattle.h5_names.specs.AttributeText.{AttributeText}
 use Rattle.h5_names.specs.declared.qualified.QualName.{QualName}
 use Rattle.h5_token.specs.TokenText.{TagText}
 use Rattle.h5_interface.specs.Changes.{mark}
 use Rattle.h5_interface.specs.SinkChoices.{SinkChoices}
-use Rattle.h5_tag_sets.specs.TagSets.{is_default_scope, is_heading, is_html_named, is_implied, is_special}
+use Rattle.h5_tag_sets.specs.TagSets.{is_default_scope, is_heading, is_html_named, is_implied, is_special, is_thorough_implied}
 use Rattle.h5_stack.specs.Adoption.{FormattingElement, FurthestBlock, furthest_block, newer_than, newest_named, without_node}
 use Rattle.h5_stack.specs.FormattingList.{ElementEntry, Entry, MarkerEntry, closed_front, nodes_of, without_entry}
 use Rattle.h5_stack.specs.Order.{is_in}
 use Rattle.h5_stack.specs.Scope.{comes_before_special, first_passes, has_p_in_button_scope, in_scope, is_implied_but}
 use Rattle.h5_meaning.specs.AdoptionAgency.{adopt, adopt_at, adopt_by, adopt_within, adoption_agency, close_misnested_a, handle_misnested_a_tags, handle_misnested_nobr_tags, remove_from_stack, unlist_and_remove}
-use Rattle.h5_meaning.specs.Changes.{generate_implied_end_except, insert_element, pop, pop_until_current, pop_until_named, pop_while}
-use Rattle.h5_meaning.specs.Closing.{close_item, close_list_item, close_named, close_p_element, close_p_element_in_button_scope, generate_implied_end, generate_implied_end_in_select, newest_item, pop_heading, pop_until_cell, pop_until_heading}
+use Rattle.h5_meaning.specs.Changes.{generate_implied_end_except, insert_element, pop, pop_until_current, pop_until_named, pop_while, remove_body}
+use Rattle.h5_meaning.specs.Closing.{close_item, close_list_item, close_named, close_p_element, close_p_element_in_button_scope, generate_implied_end, generate_implied_end_in_select, generate_implied_end_thoroughly, newest_item, pop_heading, pop_until_cell, pop_until_heading}
 use Rattle.h5_meaning.specs.Formatting.{clear_active_formatting_to_marker, create_formatting_element, insert_anew, insert_for, insert_marker, reconstruct_active_formatting_elements}
 use Rattle.h5_meaning.specs.World.{World, current, name_in, names_of}
 
@@ -49,6 +50,10 @@ pub tree_implied : (choices : SinkChoices) (w : World) → OnlyTree w (generate_
 unfolding generate_implied_end
 tree_implied choices w = tree_while choices is_implied (names_of w) w
 
+pub tree_implied_thoroughly : (choices : SinkChoices) (w : World) → OnlyTree w (generate_implied_end_thoroughly choices w)
+unfolding generate_implied_end_thoroughly
+tree_implied_thoroughly choices w = tree_while choices is_thorough_implied (names_of w) w
+
 pub tree_close_p : (choices : SinkChoices) (w : World) → OnlyTree w (close_p_element choices w)
 unfolding close_p_element
 tree_close_p choices w =
@@ -84,11 +89,20 @@ pub tree_cleared : (w : World) → OnlyTree w (clear_active_formatting_to_marker
 unfolding clear_active_formatting_to_marker
 tree_cleared w = refl
 
+-- the body is taken away
+pub tree_remove_body : (w : World) → OnlyTree w (remove_body w)
+unfolding remove_body
+tree_remove_body w = refl
+
 pub tree_close_named : (choices : SinkChoices) (local : List ℕ) (w : World) → OnlyTree w (close_named choices local w)
 unfolding close_named
 tree_close_named choices local w =
     let v = generate_implied_end_except choices local w in
     tree_if w (pop_until_named local v) (comes_before_special local (names_of w)) (tree_then w v (pop_until_named local v) (tree_implied_except choices local w) (tree_until local v))
+
+pub tree_insert : (choices : SinkChoices) (local : List ℕ) (attrs : List AttributeText) (duplicates : Bool) (w : World) → OnlyTree w (insert_element choices local attrs duplicates w)
+unfolding insert_element
+tree_insert choices local attrs duplicates w = refl
 
 pub tree_insert_for : (choices : SinkChoices) (tag : TagText) (w : World) → OnlyTree w (insert_for choices tag w)
 unfolding insert_element

@@ -1,13 +1,15 @@
 -- How many turns a token takes.
-use Rattle.std.proofs.Common.{◌≡◌, ℕ, zero, suc, ◌+◌, ◌<◌, ◌≤◌, true, false, Option, Some, None, length, refl, ap, sym, subst, ◌∙◌, arith}
+use Rattle.std.proofs.Common.{◌≡◌, [], ℕ, zero, suc, ◌+◌, ◌<◌, ◌≤◌, true, false, Option, Some, None, length, refl, ap, sym, subst, ◌∙◌, arith}
 use Rattle.h5_interface.specs.SinkChoices.{SinkChoices}
 use Rattle.h5_types.specs.TurnText.{TurnText, EofTurn}
 use Rattle.h5_types.specs.declared.modes.InsertionMode.{InsertionMode}
 use Rattle.h5_types.specs.declared.modes.InsertionMode.TheVariants.{Initial, BeforeHtml, BeforeHead, InHead, AfterHead, InBody}
-use Rattle.h5_meaning.specs.Changes.{set_mode}
+use Rattle.h5_meaning.specs.Changes.{create_root, insert_element, insert_head, pop, set_mode, set_quirks_mode}
+use Rattle.h5_meaning.specs.InBody.{body_ends, no_template_mode}
+use Rattle.h5_meaning.specs.InHead.{template_eof}
 use Rattle.h5_meaning.specs.InitialMode.{initial_else}
 use Rattle.h5_meaning.specs.Modes.{rule}
-use Rattle.h5_meaning.specs.Rows.{Row, changed_by, choose, next_mode}
+use Rattle.h5_meaning.specs.Rows.{IsDone, Row, changed_by, choose, next_mode}
 use Rattle.h5_meaning.specs.Settle.{Settled, by_row, settle, settle_within, then_turns}
 use Rattle.h5_meaning.specs.World.{World}
 use Rattle.h5_meaning.proofs.SettleLaws.{settle-first}
@@ -43,37 +45,47 @@ within_row : (choices : SinkChoices) (j : ℕ) (w : World) (m : InsertionMode) (
 unfolding settle_within
 within_row choices j w m r e f = ap (λ x. by_row choices (λ v. settle_within choices j EofTurn v) EofTurn x w) (ap (λ k. rule k EofTurn w) e ∙ f)
 
-one_more : (choices : SinkChoices) (j : ℕ) (w : World) (m k : InsertionMode) (r : Row) (n : ℕ) → w.mode ≡ m → rule m EofTurn w ≡ r → next_mode r.ending (changed_by choices r w) ≡ Some k → ((v : World) → v.mode ≡ k → (settle_within choices j EofTurn v).turns ≡ n)
+one_more : (choices : SinkChoices) (j : ℕ) (w : World) (m k : InsertionMode) (r : Row) (n : ℕ) → w.mode ≡ m → rule m EofTurn w ≡ r → next_mode r.ending (changed_by choices r w) ≡ Some k → (changed_by choices r w).template_modes ≡ []
+    → ((v : World) → v.mode ≡ k → v.template_modes ≡ [] → (settle_within choices j EofTurn v).turns ≡ n)
     → (settle_within choices (suc j) EofTurn w).turns ≡ n + 1
-one_more choices j w m k r n e f a next =
+one_more choices j w m k r n e f a none next =
     ap (λ (s : Settled). s.turns) (within_row choices j w m r e f)
     ∙ ap (λ o. (then_turns (λ v. settle_within choices j EofTurn v) EofTurn r (changed_by choices r w) o).turns) a
-    ∙ ap (λ x. x + 1) (next (set_mode k (changed_by choices r w)) refl)
+    ∙ ap (λ x. x + 1) (next (set_mode k (changed_by choices r w)) refl none)
 
-body_end : (choices : SinkChoices) (j : ℕ) (w : World) → w.mode ≡ InBody → (settle_within choices (suc j) EofTurn w).turns ≡ 1
-body_end choices j w e = ap (λ (s : Settled). s.turns) (within_row choices j w InBody _ e refl)
+body_end : (choices : SinkChoices) (j : ℕ) (w : World) → w.mode ≡ InBody → w.template_modes ≡ [] → (settle_within choices (suc j) EofTurn w).turns ≡ 1
+body_end choices j w e none =
+    ap (λ (s : Settled). s.turns) (within_row choices j w InBody (body_ends [] IsDone w) e (ap (λ ms. choose (no_template_mode ms) (body_ends [] IsDone w) (template_eof w)) none))
 
-after_head_end : (choices : SinkChoices) (j : ℕ) (w : World) → w.mode ≡ AfterHead → (settle_within choices (suc (suc j)) EofTurn w).turns ≡ 2
-after_head_end choices j w e = one_more choices (suc j) w AfterHead InBody _ 1 e refl refl (body_end choices j)
+after_head_end : (choices : SinkChoices) (j : ℕ) (w : World) → w.mode ≡ AfterHead → w.template_modes ≡ [] → (settle_within choices (suc (suc j)) EofTurn w).turns ≡ 2
+unfolding insert_element
+after_head_end choices j w e none = one_more choices (suc j) w AfterHead InBody _ 1 e refl refl none (body_end choices j)
 
-in_head_end : (choices : SinkChoices) (j : ℕ) (w : World) → w.mode ≡ InHead → (settle_within choices (suc (suc (suc j))) EofTurn w).turns ≡ 3
-in_head_end choices j w e = one_more choices (suc (suc j)) w InHead AfterHead _ 2 e refl refl (after_head_end choices j)
+in_head_end : (choices : SinkChoices) (j : ℕ) (w : World) → w.mode ≡ InHead → w.template_modes ≡ [] → (settle_within choices (suc (suc (suc j))) EofTurn w).turns ≡ 3
+unfolding pop
+in_head_end choices j w e none = one_more choices (suc (suc j)) w InHead AfterHead _ 2 e refl refl none (after_head_end choices j)
 
-before_head_end : (choices : SinkChoices) (j : ℕ) (w : World) → w.mode ≡ BeforeHead → (settle_within choices (suc (suc (suc (suc j)))) EofTurn w).turns ≡ 4
-before_head_end choices j w e = one_more choices (suc (suc (suc j))) w BeforeHead InHead _ 3 e refl refl (in_head_end choices j)
+before_head_end : (choices : SinkChoices) (j : ℕ) (w : World) → w.mode ≡ BeforeHead → w.template_modes ≡ [] → (settle_within choices (suc (suc (suc (suc j)))) EofTurn w).turns ≡ 4
+unfolding insert_head insert_element
+before_head_end choices j w e none = one_more choices (suc (suc (suc j))) w BeforeHead InHead _ 3 e refl refl none (in_head_end choices j)
 
-before_html_end : (choices : SinkChoices) (j : ℕ) (w : World) → w.mode ≡ BeforeHtml → (settle_within choices (suc (suc (suc (suc (suc j))))) EofTurn w).turns ≡ 5
-before_html_end choices j w e = one_more choices (suc (suc (suc (suc j)))) w BeforeHtml BeforeHead _ 4 e refl refl (before_head_end choices j)
+before_html_end : (choices : SinkChoices) (j : ℕ) (w : World) → w.mode ≡ BeforeHtml → w.template_modes ≡ [] → (settle_within choices (suc (suc (suc (suc (suc j))))) EofTurn w).turns ≡ 5
+unfolding create_root
+before_html_end choices j w e none = one_more choices (suc (suc (suc (suc j)))) w BeforeHtml BeforeHead _ 4 e refl refl none (before_head_end choices j)
 
 initial_next : (choices : SinkChoices) (w : World) → next_mode (initial_else EofTurn w).ending (changed_by choices (initial_else EofTurn w) w) ≡ Some BeforeHtml
 unfolding initial_else
 initial_next choices w = elim w.options.iframe_srcdoc as (λ b. next_mode (choose b _ _).ending (changed_by choices (choose b _ _) w) ≡ Some BeforeHtml) [ true ↦ refl | false ↦ refl ]
 
+initial_modes : (choices : SinkChoices) (w : World) → (changed_by choices (initial_else EofTurn w) w).template_modes ≡ w.template_modes
+unfolding initial_else set_quirks_mode
+initial_modes choices w = elim w.options.iframe_srcdoc as (λ b. (changed_by choices (choose b _ _) w).template_modes ≡ w.template_modes) [ true ↦ refl | false ↦ refl ]
+
 -- the end of the file alone, at the start
-pub end_alone : (choices : SinkChoices) (w : World) → w.mode ≡ Initial → (settle choices EofTurn w).turns ≡ 6
+pub end_alone : (choices : SinkChoices) (w : World) → w.mode ≡ Initial → w.template_modes ≡ [] → (settle choices EofTurn w).turns ≡ 6
 unfolding settle
-end_alone choices w e =
+end_alone choices w e none =
     let j = 10 + length w.stack in
     let six : 16 + length w.stack ≡ suc (suc (suc (suc (suc (suc j))))) = omega arith in
     ap (λ n. (settle_within choices n EofTurn w).turns) six
-    ∙ one_more choices (suc (suc (suc (suc (suc j))))) w Initial BeforeHtml (initial_else EofTurn w) 5 e refl (initial_next choices w) (before_html_end choices j)
+    ∙ one_more choices (suc (suc (suc (suc (suc j))))) w Initial BeforeHtml (initial_else EofTurn w) 5 e refl (initial_next choices w) (initial_modes choices w ∙ none) (before_html_end choices j)

@@ -1,18 +1,18 @@
 -- HTML standard, section 13.2.6.4.19, the "after body" insertion mode.
-use Rattle.std.specs.Prelude.{[], ◌∷◌}
+use Rattle.std.specs.Prelude.{[], ◌∷◌, is_some}
 use Rattle.h5_token.specs.TokenText.{TagText}
 use Rattle.h5_names.specs.declared.known_name.KnownName.TheVariants.{Html}
 use Rattle.h5_types.specs.TurnText.{CommentTurn, EofTurn, NullTurn, TagTurn, TextTurn, TurnText}
 use Rattle.h5_types.specs.declared.modes.InsertionMode.TheVariants.{AfterAfterBody, InBody}
 use Rattle.h5_types.specs.declared.modes.SplitStatus.TheVariants.{NotSplit, NotWhitespace, Whitespace}
 use Rattle.h5_meaning.specs.ByName.{Rules, by_kind, by_name, named, of_tag}
-use Rattle.h5_meaning.specs.Rows.{Again, AppendCommentToHtml, IsDone, Row, SetMode, errs, row}
+use Rattle.h5_meaning.specs.Rows.{Again, AppendCommentToHtml, IsDone, Row, SetMode, choose, errs, ignored, row}
 use Rattle.h5_meaning.specs.Shared.{in_body_start_html, in_body_text}
 use Rattle.h5_meaning.specs.World.{World}
 
 -- an end tag "html"
 abbrev pub after_body_end_html : TagText → World → Row
-after_body_end_html tag w = row (SetMode AfterAfterBody ∷ []) IsDone
+after_body_end_html tag w = choose (is_some w.context) ignored (row (SetMode AfterAfterBody ∷ []) IsDone)
 
 -- anything else, here and in "after after body"
 abbrev pub back_to_body : TurnText → World → Row

@@ -1,21 +1,25 @@
 -- HTML standard, section 13.2.6.4.6, the "after head" insertion mode.
 use Rattle.std.specs.Prelude.{ℕ, false, List, [], ◌∷◌, ◌++◌, Option, Some, None, codes}
 use Rattle.h5_token.specs.TokenText.{TagText}
-use Rattle.h5_names.specs.declared.known_name.KnownName.TheVariants.{Body, Head, Html}
+use Rattle.h5_names.specs.declared.known_name.KnownName.TheVariants.{Body, Frameset, Head, Html, Template}
 use Rattle.h5_types.specs.TurnText.{CommentTurn, EofTurn, NullTurn, TagTurn, TextTurn, TurnText}
-use Rattle.h5_types.specs.declared.modes.InsertionMode.TheVariants.{InBody}
+use Rattle.h5_types.specs.declared.modes.InsertionMode.TheVariants.{InBody, InFrameset}
 use Rattle.h5_types.specs.declared.modes.SplitStatus.TheVariants.{NotSplit, NotWhitespace, Whitespace}
 use Rattle.h5_meaning.specs.ByName.{Rules, by_kind, by_name, ignored_tag, is_outer, named, of_tag}
 use Rattle.h5_meaning.specs.Rows.{Again, AppendComment, AppendText, Change, InsertElement, IsDone, PushHead, RemoveFromStack, Row, SetFramesetNotOk, SetMode, errs, row}
-use Rattle.h5_meaning.specs.Shared.{head_start_names, in_body_start_html}
+use Rattle.h5_meaning.specs.Shared.{head_start_names, in_body_start_html, inserts}
 use Rattle.h5_meaning.specs.World.{World}
 use Rattle.h5_tag_sets.specs.TagSets.{is_one_of}
 use Rattle.h5_meaning.specs.Changes.{push_head}
-use Rattle.h5_meaning.specs.InHead.{in_head_start_tag}
+use Rattle.h5_meaning.specs.InHead.{in_head_end_template, in_head_start_tag}
 
 -- a start tag "body"
 abbrev pub after_head_start_body : TagText → World → Row
 after_head_start_body tag w = row (InsertElement tag.name tag.attrs tag.had_duplicate_attributes ∷ SetFramesetNotOk ∷ SetMode InBody ∷ []) IsDone
+
+-- a start tag "frameset"
+abbrev pub after_head_start_frameset : TagText → World → Row
+after_head_start_frameset tag w = row (inserts tag ∷ SetMode InFrameset ∷ []) IsDone
 
 -- the element is no more open
 abbrev pub removes_known : Option ℕ → List Change
@@ -34,10 +38,10 @@ after_head_else t w = row (InsertElement (codes "body") [] false ∷ []) (Again 
 
 -- start tags, and end tags
 unfoldable pub after_head_start : Rules
-after_head_start = (named Html, in_body_start_html) ∷ (named Body, after_head_start_body) ∷ (is_one_of head_start_names, with_head in_head_start_tag) ∷ (named Head, ignored_tag) ∷ []
+after_head_start = (named Html, in_body_start_html) ∷ (named Body, after_head_start_body) ∷ (named Frameset, after_head_start_frameset) ∷ (is_one_of head_start_names, with_head in_head_start_tag) ∷ (named Head, ignored_tag) ∷ []
 
 unfoldable pub after_head_end : Rules
-after_head_end = (named Head, ignored_tag) ∷ (is_outer, of_tag after_head_else) ∷ []
+after_head_end = (named Head, ignored_tag) ∷ (named Template, in_head_end_template) ∷ (is_outer, of_tag after_head_else) ∷ []
 
 unfoldable pub after_head_tag : TagText → World → Row
 after_head_tag tag w = by_kind tag.kind (by_name after_head_start (of_tag after_head_else) tag w) (by_name after_head_end ignored_tag tag w)

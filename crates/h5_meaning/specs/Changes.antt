@@ -2,7 +2,7 @@
 use Rattle.std.specs.Prelude.{ℕ, Bool, true, false, ◌&&◌, if◌then◌else◌, List, [], ◌∷◌, codes, Option, Some, None, option_map, ◌++◌}
 use Rattle.h5_names.specs.declared.qualified.QualName.{QualName}
 use Rattle.h5_names.specs.AttributeText.{AttributeText}
-use Rattle.h5_interface.specs.Changes.{add_missing_attributes, mark}
+use Rattle.h5_interface.specs.Changes.{add_missing_attributes, detach, mark}
 use Rattle.h5_interface.specs.Forest.{ChildNode, ChildText, CommentNode, Forest}
 use Rattle.h5_interface.specs.NewElement.{flags_of}
 use Rattle.h5_interface.specs.Seen.{append_doctype, make, make_element, plain}
@@ -165,6 +165,20 @@ starts_marked choices w = option_map (λ context f. choices.marks_after_started 
 
 unfoldable pub insert_script : SinkChoices → List AttributeText → Bool → World → World
 insert_script choices attrs duplicates w = push_new choices (place w) (codes "script") attrs duplicates (starts_marked choices w) w
+
+-- the body, which is the second element on the stack, leaves its parent, and only the root stays open; the sink isn't
+-- told (section 13.2.6.4.7, a start tag whose tag name is "frameset")
+abbrev pub detach_known : Option ℕ → Forest → Forest
+detach_known None f = f
+detach_known (Some n) f = detach n f
+
+abbrev pub only_last : List ℕ → List ℕ
+only_last [] = []
+only_last (n ∷ []) = n ∷ []
+only_last (n ∷ m ∷ s) = only_last (m ∷ s)
+
+unfoldable pub remove_body : World → World
+remove_body w = record w { forest = detach_known (second_from_last w.stack) w.forest; stack = only_last w.stack }
 
 -- the current node is marked as a script that started
 unfoldable pub mark_started : SinkChoices → World → World

@@ -2,24 +2,25 @@
 use Rattle.std.specs.Prelude.{ℕ, Bool, true, false, not, ◌&&◌, if◌then◌else◌, is_none, is_some, List, [], ◌∷◌, ◌++◌, Option, None, Some, codes}
 use Rattle.h5_token.specs.TokenText.{TagText}
 use Rattle.h5_token.specs.declared.states.RawKind.TheVariants.{Rawtext, Rcdata}
-use Rattle.h5_names.specs.declared.known_name.KnownName.TheVariants.{A, Body, Br, Button, Form, Hr, Html, Iframe, Image, Input, Nobr, Noembed, Noscript, Optgroup, P, Plaintext, Select, Table, Template, Textarea, Xmp}
+use Rattle.h5_names.specs.declared.known_name.KnownName.TheVariants.{A, Body, Br, Button, Form, Frameset, Hr, Html, Iframe, Image, Input, Nobr, Noembed, Noscript, Optgroup, P, Plaintext, Select, Table, Template, Textarea, Xmp}
 use Rattle.h5_names.specs.declared.known_name.KnownName.TheVariants as known
 use Rattle.h5_tag_sets.specs.TagSets.{block_end_names, block_start_names, formatting_names, heading_names, is_default_scope, is_heading, is_html_named, is_list_item_scope, is_one_of}
 use Rattle.h5_stack.specs.Scope.{comes_before_special, first_passes, has_body_in_scope, has_p_in_button_scope, has_template, has_unclosed, in_scope, node_in_scope, oldest_passing, second_is}
 use Rattle.h5_interface.specs.declared.marks.QuirksMode.{QuirksMode}
 use Rattle.h5_interface.specs.declared.marks.QuirksMode.TheVariants.{Quirks}
 use Rattle.h5_types.specs.TurnText.{CommentTurn, EofTurn, NullTurn, TagTurn, TextTurn, TurnText}
-use Rattle.h5_types.specs.declared.modes.InsertionMode.TheVariants.{AfterBody, InTable}
+use Rattle.h5_types.specs.declared.modes.InsertionMode.TheVariants.{AfterBody, InTable, InFrameset}
 use Rattle.h5_meaning.specs.AdoptionAgency.{closes_one, is_named_listed}
 use Rattle.h5_meaning.specs.ByName.{Rules, by_kind, by_name, ignored_tag, named}
 use Rattle.h5_meaning.specs.Formatting.{is_reconstructed}
-use Rattle.h5_meaning.specs.Rows.{AddAttrsToSecond, AdoptionAgency, Again, Answers, AppendComment, Change, ClearActiveFormattingToMarker, ClearForm, CloseListItem, ClosePElement, ClosePElementInButtonScope, CopyClosedOption, CreateFormattingElement, Ending, GenerateImpliedEnd, GenerateImpliedEndExcept, GenerateImpliedEndInSelect, HandleMisnestedATags, HandleMisnestedNobrTags, InsertAndPopElement, InsertElement, InsertForm, InsertMarker, IsAcknowledged, IsDone, Pop, PopHeading, PopUntilHeading, PopUntilNamed, ReconstructActiveFormattingElements, RemoveFromStack, Row, SetFramesetNotOk, SetIgnoreLf, SetMode, choose, errs, ignored, row, row_if}
+use Rattle.h5_meaning.specs.Rows.{AddAttrsToSecond, AdoptionAgency, Again, Answers, AppendComment, Change, ClearActiveFormattingToMarker, ClearForm, CloseListItem, ClosePElement, ClosePElementInButtonScope, CopyClosedOption, CreateFormattingElement, Ending, GenerateImpliedEnd, GenerateImpliedEndExcept, GenerateImpliedEndInSelect, HandleMisnestedATags, HandleMisnestedNobrTags, InsertAndPopElement, InsertElement, InsertForm, InsertMarker, IsAcknowledged, IsDone, Pop, PopHeading, PopUntilHeading, PopUntilNamed, ReconstructActiveFormattingElements, RemoveBody, RemoveFromStack, Row, SetFramesetNotOk, SetIgnoreLf, SetMode, choose, errs, ignored, row, row_if}
 use Rattle.h5_meaning.specs.Shared.{current_is, head_start_names, in_body_start_html, in_body_text, inserts, is_context, is_type_hidden, raw_text, table_structure_names}
 use Rattle.h5_meaning.specs.World.{World, names_of}
 use Rattle.h5_names.specs.AttributeText.{AttributeText}
 use Rattle.h5_meaning.specs.Closing.{newest_item}
-use Rattle.h5_meaning.specs.InHead.{in_head_start_tag}
+use Rattle.h5_meaning.specs.InHead.{in_head_end_template, in_head_start_tag, template_eof}
 use Rattle.h5_token.specs.Reply.{TurnsPlain, TurnsRaw}
+use Rattle.h5_types.specs.declared.modes.InsertionMode.{InsertionMode}
 
 -- a start tag "body"
 unfoldable pub in_body_start_body : TagText → World → Row
@@ -117,9 +118,14 @@ in_body_start_table tag w =
     let opens : List Change = inserts tag ∷ SetFramesetNotOk ∷ SetMode InTable ∷ [] in
     choose (is_quirks w.quirks) (row opens IsDone) (row_if (not (has_p_in_button_scope (names_of w))) (ClosePElementInButtonScope ∷ opens) IsDone)
 
--- start tags of what stands in tables, or before the body, are ignored; those of templates and framesets are, so far
+-- start tags of what stands in tables, or before the body, are ignored
 unfoldable pub outside_names : List (List ℕ)
-outside_names = codes "frame" ∷ codes "frameset" ∷ codes "head" ∷ codes "template" ∷ []
+outside_names = codes "frame" ∷ codes "head" ∷ []
+
+-- a start tag "frameset": it takes the place of the body, where that is still to be had
+unfoldable pub in_body_start_frameset : TagText → World → Row
+in_body_start_frameset tag w =
+    choose (w.frameset_ok && second_is (codes "body") (names_of w)) (errs (RemoveBody ∷ inserts tag ∷ SetMode InFrameset ∷ []) IsDone) ignored
 
 unfoldable pub in_body_ignored_starts : List (List ℕ)
 in_body_ignored_starts = table_structure_names ++ outside_names
@@ -306,6 +312,7 @@ in_body_start =
     (named Html, in_body_start_html) ∷
     (is_one_of head_start_names, in_head_start_tag) ∷
     (named Body, in_body_start_body) ∷
+    (named Frameset, in_body_start_frameset) ∷
     (is_one_of block_start_names, in_body_start_block) ∷
     (is_one_of heading_names, in_body_start_heading) ∷
     (is_one_of in_body_preformatted, in_body_start_preformatted) ∷
@@ -350,14 +357,19 @@ in_body_end =
     (is_one_of formatting_names, in_body_end_formatting) ∷
     (is_one_of in_body_marked, in_body_end_marked) ∷
     (named Br, in_body_end_br) ∷
-    (named Template, ignored_tag) ∷ []
+    (named Template, in_head_end_template) ∷ []
 
 unfoldable pub in_body_tag : TagText → World → Row
 in_body_tag tag w = by_kind tag.kind (by_name in_body_start in_body_start_other tag w) (by_name in_body_end in_body_end_other tag w)
+
+-- no template insertion mode is there
+abbrev pub no_template_mode : List InsertionMode → Bool
+no_template_mode [] = true
+no_template_mode (m ∷ ms) = false
 
 abbrev pub in_body : TurnText → World → Row
 in_body (TagTurn tag) w = in_body_tag tag w
 in_body (CommentTurn text) w = row (AppendComment text ∷ []) IsDone
 in_body (TextTurn status text) w = in_body_text text w
 in_body NullTurn w = ignored
-in_body EofTurn w = body_ends [] IsDone w
+in_body EofTurn w = choose (no_template_mode w.template_modes) (body_ends [] IsDone w) (template_eof w)

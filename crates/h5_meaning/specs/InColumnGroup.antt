@@ -1,12 +1,13 @@
 -- HTML standard, section 13.2.6.4.12, the "in column group" insertion mode.
 use Rattle.std.specs.Prelude.{List, [], ◌∷◌, codes}
 use Rattle.h5_token.specs.TokenText.{TagText}
-use Rattle.h5_names.specs.declared.known_name.KnownName.TheVariants.{Col, Colgroup, Html}
+use Rattle.h5_names.specs.declared.known_name.KnownName.TheVariants.{Col, Colgroup, Html, Template}
 use Rattle.h5_types.specs.TurnText.{CommentTurn, EofTurn, NullTurn, TagTurn, TextTurn, TurnText}
 use Rattle.h5_types.specs.declared.modes.InsertionMode.TheVariants.{InTable}
 use Rattle.h5_types.specs.declared.modes.SplitStatus.TheVariants.{NotSplit, NotWhitespace, Whitespace}
 use Rattle.h5_meaning.specs.ByName.{Rules, by_kind, by_name, ignored_tag, named, of_tag}
 use Rattle.h5_meaning.specs.InBody.{in_body}
+use Rattle.h5_meaning.specs.InHead.{in_head_end_template, in_head_start_tag}
 use Rattle.h5_meaning.specs.Rows.{Again, AppendComment, AppendText, Ending, InsertAndPopElement, IsAcknowledged, IsDone, Pop, Change, Row, SetMode, choose, ignored, row}
 use Rattle.h5_meaning.specs.Shared.{current_is, in_body_start_html}
 use Rattle.h5_meaning.specs.World.{World}
@@ -29,10 +30,10 @@ in_column_group_else t w = close_the_column_group [] (Again InTable) w
 
 -- start tags, and end tags
 unfoldable pub in_column_group_start : Rules
-in_column_group_start = (named Html, in_body_start_html) ∷ (named Col, in_column_group_start_col) ∷ []
+in_column_group_start = (named Html, in_body_start_html) ∷ (named Col, in_column_group_start_col) ∷ (named Template, in_head_start_tag) ∷ []
 
 unfoldable pub in_column_group_end : Rules
-in_column_group_end = (named Colgroup, in_column_group_end_colgroup) ∷ (named Col, ignored_tag) ∷ []
+in_column_group_end = (named Colgroup, in_column_group_end_colgroup) ∷ (named Col, ignored_tag) ∷ (named Template, in_head_end_template) ∷ []
 
 unfoldable pub in_column_group_tag : TagText → World → Row
 in_column_group_tag tag w =

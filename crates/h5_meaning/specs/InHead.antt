@@ -2,14 +2,16 @@
 use Rattle.std.specs.Prelude.{ℕ, List, [], ◌∷◌, codes}
 use Rattle.h5_token.specs.TokenText.{TagText}
 use Rattle.h5_token.specs.declared.states.RawKind.TheVariants.{Rawtext, Rcdata, ScriptData}
-use Rattle.h5_names.specs.declared.known_name.KnownName.TheVariants.{Head, Html, Noscript, Script, Title}
+use Rattle.h5_names.specs.declared.known_name.KnownName.TheVariants.{Head, Html, Noscript, Script, Template, Title}
 use Rattle.h5_types.specs.TurnText.{CommentTurn, EofTurn, NullTurn, TagTurn, TextTurn, TurnText}
-use Rattle.h5_types.specs.declared.modes.InsertionMode.TheVariants.{AfterHead, InHeadNoscript}
+use Rattle.h5_types.specs.declared.modes.InsertionMode.TheVariants.{AfterHead, InHeadNoscript, InTemplate}
 use Rattle.h5_types.specs.declared.modes.SplitStatus.TheVariants.{NotSplit, NotWhitespace, Whitespace}
 use Rattle.h5_meaning.specs.ByName.{Rules, by_kind, by_name, ignored_tag, is_outer, named, of_tag}
-use Rattle.h5_meaning.specs.Rows.{Again, AppendComment, AppendText, InsertAndPopElement, InsertScript, IsAcknowledged, IsDone, Pop, Row, SetMode, choose, row}
-use Rattle.h5_meaning.specs.Shared.{in_body_start_html, inserts, raw_text}
-use Rattle.h5_meaning.specs.World.{World}
+use Rattle.h5_meaning.specs.Rows.{Again, AgainBy, AppendComment, AppendText, ClearActiveFormattingToMarker, GenerateImpliedEndThoroughly, InsertAndPopElement, InsertMarker, InsertScript, InsertTemplate, IsAcknowledged, IsDone, Pop, PopTemplateMode, PopUntilNamed, PushTemplateMode, ResetMode, Row, SetFramesetNotOk, SetMode, choose, errs, ignored, row, row_if}
+use Rattle.h5_meaning.specs.Shared.{current_is, in_body_start_html, inserts, raw_text}
+use Rattle.h5_meaning.specs.Reset.{reset_mode}
+use Rattle.h5_meaning.specs.World.{World, names_of}
+use Rattle.h5_stack.specs.Scope.{has_template}
 use Rattle.h5_tag_sets.specs.TagSets.{is_one_of}
 
 -- an end tag "head"
@@ -43,6 +45,26 @@ in_head_start_noscript tag w =
 abbrev pub in_head_start_script : TagText → World → Row
 in_head_start_script tag w = raw_text ScriptData (InsertScript tag.attrs tag.had_duplicate_attributes ∷ [])
 
+-- a start tag "template"
+abbrev pub in_head_start_template : TagText → World → Row
+in_head_start_template tag w =
+    row (InsertMarker ∷ SetFramesetNotOk ∷ SetMode InTemplate ∷ PushTemplateMode InTemplate ∷ InsertTemplate tag.attrs tag.had_duplicate_attributes ∷ []) IsDone
+
+-- an end tag "template"
+unfoldable pub in_head_end_template : TagText → World → Row
+in_head_end_template tag w =
+    choose (has_template (names_of w))
+    (row_if (current_is (codes "template") w)
+    (GenerateImpliedEndThoroughly ∷ PopUntilNamed (codes "template") ∷ ClearActiveFormattingToMarker ∷ PopTemplateMode ∷ ResetMode ∷ []) IsDone)
+    ignored
+
+-- the end of the input, where a template may be open: it is closed, and the token goes by the mode that is reset to
+unfoldable pub template_eof : World → Row
+template_eof w =
+    choose (has_template (names_of w))
+    (errs (PopUntilNamed (codes "template") ∷ ClearActiveFormattingToMarker ∷ PopTemplateMode ∷ ResetMode ∷ []) (AgainBy reset_mode))
+    (row [] IsDone)
+
 -- anything else
 abbrev pub in_head_else : TurnText → World → Row
 in_head_else t w = row (Pop ∷ []) (Again AfterHead)
@@ -56,10 +78,11 @@ in_head_start =
     (is_one_of in_head_raw, in_head_start_raw) ∷
     (named Noscript, in_head_start_noscript) ∷
     (named Script, in_head_start_script) ∷
+    (named Template, in_head_start_template) ∷
     (named Head, ignored_tag) ∷ []
 
 unfoldable pub in_head_end : Rules
-in_head_end = (named Head, in_head_end_head) ∷ (is_outer, of_tag in_head_else) ∷ []
+in_head_end = (named Head, in_head_end_head) ∷ (is_outer, of_tag in_head_else) ∷ (named Template, in_head_end_template) ∷ []
 
 -- a start tag, also where other modes go by the rules of the head
 unfoldable pub in_head_start_tag : TagText → World → Row

@@ -3,7 +3,7 @@ use Rattle.std.specs.Prelude.{Bool, false, ◌||◌, ◌&&◌, List, [], ◌∷�
 use Rattle.std.specs.Str.{str_eq_ignore_ascii_case}
 use Rattle.h5_names.specs.AttributeText.{AttributeText, is_same_text}
 use Rattle.h5_token.specs.TokenText.{TagText}
-use Rattle.h5_names.specs.declared.known_name.KnownName.TheVariants.{Caption, Col, Colgroup, Form, Input, Table}
+use Rattle.h5_names.specs.declared.known_name.KnownName.TheVariants.{Caption, Col, Colgroup, Form, Input, Table, Template}
 use Rattle.h5_tag_sets.specs.TagSets.{is_one_of, is_table_outer, is_table_scope}
 use Rattle.h5_stack.specs.Scope.{first_passes, has_template}
 use Rattle.h5_types.specs.TurnText.{CommentTurn, EofTurn, NullTurn, TagTurn, TextTurn, TurnText}
@@ -15,7 +15,7 @@ use Rattle.h5_meaning.specs.Rows.{Again, AgainBy, AppendComment, InsertAndPopEle
 use Rattle.h5_meaning.specs.Tables.{foster, named_in_table_scope, table_section_names}
 use Rattle.h5_meaning.specs.World.{World, names_of}
 use Rattle.h5_meaning.specs.Shared.{inserts, is_type_hidden}
-use Rattle.h5_meaning.specs.InHead.{in_head_start_tag}
+use Rattle.h5_meaning.specs.InHead.{in_head_end_template, in_head_start_tag}
 
 -- the current node is one in which text of a table is kept back
 abbrev pub keeps_text : World → Bool
@@ -53,9 +53,9 @@ unfoldable pub in_table_start_table : TagText → World → Row
 in_table_start_table tag w =
     choose (named_in_table_scope (codes "table") w) (errs (PopUntilNamed (codes "table") ∷ []) (AgainBy reset_mode)) ignored
 
--- a start tag "style", "script"
+-- a start tag "style", "script", "template"
 unfoldable pub table_text_names : List (List ℕ)
-table_text_names = codes "style" ∷ codes "script" ∷ []
+table_text_names = codes "style" ∷ codes "script" ∷ codes "template" ∷ []
 
 -- a start tag "input"
 unfoldable pub in_table_start_input : TagText → World → Row
@@ -96,7 +96,7 @@ in_table_start =
     (named Form, in_table_start_form) ∷ []
 
 unfoldable pub in_table_end : Rules
-in_table_end = (named Table, in_table_end_table) ∷ (is_one_of in_table_ignored_ends, ignored_tag) ∷ []
+in_table_end = (named Table, in_table_end_table) ∷ (is_one_of in_table_ignored_ends, ignored_tag) ∷ (named Template, in_head_end_template) ∷ []
 
 unfoldable pub in_table_tag : TagText → World → Row
 in_table_tag tag w = by_kind tag.kind (by_name in_table_start (of_tag in_table_else) tag w) (by_name in_table_end (of_tag in_table_else) tag w)

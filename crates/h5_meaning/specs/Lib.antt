@@ -1,5 +1,7 @@
 pub mod AfterAfterBody
 pub mod AfterBody
+pub mod AfterAfterFrameset
+pub mod AfterFrameset
 pub mod AfterHead
 pub mod BeforeHead
 pub mod BeforeHtml
@@ -14,12 +16,14 @@ pub mod InBody
 pub mod InCaption
 pub mod InCell
 pub mod InColumnGroup
+pub mod InFrameset
 pub mod InHead
 pub mod InHeadNoscript
 pub mod InRow
 pub mod InTable
 pub mod InTableBody
 pub mod InTableText
+pub mod InTemplate
 pub mod InitialMode
 pub mod Modes
 pub mod Place
@@ -31,6 +35,7 @@ pub mod Settle
 pub mod Shared
 pub mod Sound
 pub mod Tables
+pub mod Templates
 pub mod Text
 pub mod TextMode
 pub mod World

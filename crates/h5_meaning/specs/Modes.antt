@@ -1,8 +1,7 @@
 -- The rule of each insertion mode (HTML standard, section 13.2.6.4, "The rules for parsing tokens in HTML content").
--- Of a mode that isn't reached yet, no rule is written.
 use Rattle.h5_types.specs.TurnText.{TurnText}
 use Rattle.h5_types.specs.declared.modes.InsertionMode.{InsertionMode}
-use Rattle.h5_types.specs.declared.modes.InsertionMode.TheVariants.{AfterAfterBody, AfterBody, AfterHead, BeforeHead, BeforeHtml, InBody, InCaption, InCell, InColumnGroup, InHead, InHeadNoscript, InRow, InTable, InTableBody, InTableText, Initial, Text}
+use Rattle.h5_types.specs.declared.modes.InsertionMode.TheVariants.{AfterAfterBody, AfterAfterFrameset, AfterBody, AfterFrameset, AfterHead, BeforeHead, BeforeHtml, InBody, InCaption, InCell, InColumnGroup, InFrameset, InHead, InHeadNoscript, InRow, InTable, InTableBody, InTableText, InTemplate, Initial, Text}
 use Rattle.h5_meaning.specs.AfterAfterBody.{after_after_body}
 use Rattle.h5_meaning.specs.AfterBody.{after_body}
 use Rattle.h5_meaning.specs.AfterHead.{after_head}
@@ -18,7 +17,11 @@ use Rattle.h5_meaning.specs.InTable.{in_table}
 use Rattle.h5_meaning.specs.InTableBody.{in_table_body}
 use Rattle.h5_meaning.specs.InTableText.{in_table_text}
 use Rattle.h5_meaning.specs.InitialMode.{initial}
-use Rattle.h5_meaning.specs.Rows.{Row, ignored}
+use Rattle.h5_meaning.specs.Rows.{Row}
+use Rattle.h5_meaning.specs.InTemplate.{in_template}
+use Rattle.h5_meaning.specs.InFrameset.{in_frameset}
+use Rattle.h5_meaning.specs.AfterFrameset.{after_frameset}
+use Rattle.h5_meaning.specs.AfterAfterFrameset.{after_after_frameset}
 use Rattle.h5_meaning.specs.World.{World}
 use Rattle.h5_meaning.specs.TextMode.{text_mode}
 use Rattle.h5_meaning.specs.InHeadNoscript.{in_head_noscript}
@@ -39,6 +42,9 @@ rule InColumnGroup t w = in_column_group t w
 rule InTableBody t w = in_table_body t w
 rule InRow t w = in_row t w
 rule InCell t w = in_cell t w
+rule InTemplate t w = in_template t w
 rule AfterBody t w = after_body t w
 rule AfterAfterBody t w = after_after_body t w
-rule _ t w = ignored
+rule InFrameset t w = in_frameset t w
+rule AfterFrameset t w = after_frameset t w
+rule AfterAfterFrameset t w = after_after_frameset t w

@@ -31,11 +31,11 @@ table_structure_names =
 abbrev pub raw_text : RawKind → List Change → Row
 raw_text kind changes = row (changes ++ SaveMode ∷ SetMode Text ∷ []) (Answers (TurnsRaw kind))
 
--- start tags that go by the rules of the head elsewhere, too; that of a template is ignored, so far
+-- start tags that go by the rules of the head elsewhere, too
 unfoldable pub head_start_names : List (List ℕ)
 head_start_names =
     codes "base" ∷ codes "basefont" ∷ codes "bgsound" ∷ codes "link" ∷ codes "meta" ∷ codes "noframes" ∷
-    codes "script" ∷ codes "style" ∷ codes "title" ∷ []
+    codes "script" ∷ codes "style" ∷ codes "template" ∷ codes "title" ∷ []
 
 -- an element for a tag
 abbrev pub inserts : TagText → Change

@@ -3,7 +3,7 @@ use Rattle.std.specs.Prelude.{◌≡◌, ℕ, Bool, true, false, List, [], ◌�
 use Rattle.h5_interface.specs.SinkChoices.{SinkChoices}
 use Rattle.h5_types.specs.TurnText.{TextTurn, TurnText}
 use Rattle.h5_types.specs.declared.modes.InsertionMode.{InsertionMode}
-use Rattle.h5_types.specs.declared.modes.InsertionMode.TheVariants.{AfterAfterBody, AfterAfterFrameset, AfterBody, AfterFrameset, AfterHead, BeforeHead, BeforeHtml, InBody, InCaption, InCell, InColumnGroup, InFrameset, InHead, InHeadNoscript, InRow, InTable, InTableBody, InTableText, Initial, Text}
+use Rattle.h5_types.specs.declared.modes.InsertionMode.TheVariants.{AfterAfterBody, AfterAfterFrameset, AfterBody, AfterFrameset, AfterHead, BeforeHead, BeforeHtml, InBody, InCaption, InCell, InColumnGroup, InFrameset, InHead, InHeadNoscript, InRow, InTable, InTableBody, InTableText, InTemplate, Initial, Text}
 use Rattle.h5_types.specs.declared.modes.SplitStatus.{SplitStatus}
 use Rattle.h5_types.specs.declared.modes.SplitStatus.TheVariants.{NotSplit, Whitespace, NotWhitespace}
 use Rattle.h5_meaning.specs.AfterBody.{back_to_body}
@@ -93,7 +93,14 @@ text_before_html choices = split dropped (by_else choices before_html_else (text
 unfoldable pub text_initial : SinkChoices → List ℕ → World → World
 text_initial choices = split dropped (by_else choices initial_else (text_before_html choices))
 
--- in each mode; of a mode that isn't reached yet, no rule is written
+-- in and after framesets blanks alone, in the place of insertion or by the body
+abbrev pub text_in_frameset : List ℕ → World → World
+text_in_frameset t w = if_any append_text (all_blanks t) w
+
+abbrev pub text_after_after_frameset : SinkChoices → List ℕ → World → World
+text_after_after_frameset choices t w = if_any (text_in_body choices) (all_blanks t) w
+
+-- in each mode
 abbrev pub text_in : InsertionMode → SinkChoices → List ℕ → World → World
 text_in Initial choices = text_initial choices
 text_in BeforeHtml choices = text_before_html choices
@@ -110,9 +117,12 @@ text_in InColumnGroup choices = text_in_column_group choices
 text_in InTableBody choices = text_in_table choices
 text_in InRow choices = text_in_table choices
 text_in InCell choices = text_in_body choices
+text_in InTemplate choices = text_in_body choices
 text_in AfterBody choices = text_after_body choices
 text_in AfterAfterBody choices = text_after_body choices
-text_in _ choices = dropped
+text_in InFrameset choices = text_in_frameset
+text_in AfterFrameset choices = text_in_frameset
+text_in AfterAfterFrameset choices = text_after_after_frameset choices
 
 abbrev pub text_rule : SinkChoices → List ℕ → World → World
 text_rule choices t w = text_in w.mode choices t w
@@ -142,10 +152,11 @@ IsRun mode Whitespace t = rest_of t ≡ []
 IsRun mode NotWhitespace t = all_blanks t ≡ []
 IsRun mode NotSplit t = splits mode ≡ false
 
--- in the body, a caption, a cell and a text no text is a parse error; elsewhere one may be
+-- in the body, a caption, a cell, a template and a text no text is a parse error; elsewhere one may be
 abbrev pub is_quiet_text : InsertionMode → Bool
 is_quiet_text InBody = true
 is_quiet_text InCaption = true
 is_quiet_text InCell = true
+is_quiet_text InTemplate = true
 is_quiet_text Text = true
 is_quiet_text _ = false

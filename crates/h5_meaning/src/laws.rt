@@ -1,5 +1,5 @@
 //! Laws over the definitions, each the contract of a function that does nothing.
-ghost use Rattle.std.specs.Prelude.{◌≡◌, ◌≤◌, ◌<◌, ◌+◌, ℕ, List, ◌++◌, length};
+ghost use Rattle.std.specs.Prelude.{◌≡◌, ◌≤◌, ◌<◌, ◌+◌, ℕ, List, [], ◌++◌, length};
 ghost use Rattle.h5_token.specs.Joins.{join};
 ghost use Rattle.h5_token.specs.TokenText.{TokenText};
 ghost use Rattle.h5_interface.specs.SinkChoices.{SinkChoices};
@@ -47,11 +47,11 @@ pub fn a_token_has_one_chain()
 {}
 
 /// A token takes at least one turn, and at most sixteen and as many as elements are open; the end of file alone, at the
-/// start, takes six.
+/// start and where no template mode is kept, takes six.
 pub fn turns_are_few()
     ensures some { (choices : SinkChoices) (t : TurnText) (w : World) → 0 < (settle choices t w).turns }
     ensures few { (choices : SinkChoices) (t : TurnText) (w : World) → (settle choices t w).turns ≤ 16 + length w.stack }
-    ensures end_alone { (choices : SinkChoices) (w : World) → w.mode ≡ Initial → (settle choices EofTurn w).turns ≡ 6 }
+    ensures end_alone { (choices : SinkChoices) (w : World) → w.mode ≡ Initial → w.template_modes ≡ [] → (settle choices EofTurn w).turns ≡ 6 }
 {}
 
 /// After the active formatting elements are reconstructed, every element that is listed after the last marker is

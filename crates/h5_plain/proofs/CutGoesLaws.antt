@@ -4,7 +4,7 @@ use Rattle.h5_token.specs.Reply.{Continues}
 use Rattle.h5_token.specs.TokenText.{TokenText, DoctypeIs, TagIs, CommentIs, Characters, NullCharacter, EndOfFile, ParseErrorIs}
 use Rattle.h5_interface.specs.SinkChoices.{SinkChoices}
 use Rattle.h5_types.specs.declared.modes.InsertionMode.{InsertionMode}
-use Rattle.h5_types.specs.declared.modes.InsertionMode.TheVariants.{InBody, InCaption, InCell, Text}
+use Rattle.h5_types.specs.declared.modes.InsertionMode.TheVariants.{InBody, InCaption, InCell, InTemplate, Text}
 use Rattle.h5_token.specs.Joins.{glue, join}
 use Rattle.h5_meaning.specs.Changes.{append_text, set_frameset_ok_by_text}
 use Rattle.h5_meaning.specs.Run.{step, taken, text_step, without_lf}
@@ -44,6 +44,7 @@ quiet_after : (choices : SinkChoices) (m : InsertionMode) (b : ℕ) (t : List �
 quiet_after choices InBody b t w e q = ap (λ (v : World). is_quiet_text v.mode) (by_mode choices InBody (b ∷ t) w e) ∙ ap is_quiet_text (body_mode choices (b ∷ t) w ∙ e)
 quiet_after choices InCaption b t w e q = ap (λ (v : World). is_quiet_text v.mode) (by_mode choices InCaption (b ∷ t) w e) ∙ ap is_quiet_text (body_mode choices (b ∷ t) w ∙ e)
 quiet_after choices InCell b t w e q = ap (λ (v : World). is_quiet_text v.mode) (by_mode choices InCell (b ∷ t) w e) ∙ ap is_quiet_text (body_mode choices (b ∷ t) w ∙ e)
+quiet_after choices InTemplate b t w e q = ap (λ (v : World). is_quiet_text v.mode) (by_mode choices InTemplate (b ∷ t) w e) ∙ ap is_quiet_text (body_mode choices (b ∷ t) w ∙ e)
 quiet_after choices Text b t w e q = ap (λ (v : World). is_quiet_text v.mode) (by_mode choices Text (b ∷ t) w e) ∙ ap is_quiet_text (put_mode (b ∷ t) w ∙ e)
 quiet_after choices m b t w e q = absurd (cc)
 

@@ -1,5 +1,5 @@
 -- The rules that the tags of a plain document follow, each in its mode.
-use Rattle.std.proofs.Common.{◌≡◌, ℕ, false, List, [], ◌∷◌, codes, refl}
+use Rattle.std.proofs.Common.{◌≡◌, ℕ, false, List, [], ◌∷◌, Option, None, is_some, codes, refl, ap}
 use Rattle.h5_names.specs.AttributeText.{AttributeText}
 use Rattle.h5_token.specs.Reply.{TurnsRaw}
 use Rattle.h5_token.specs.TokenText.{TagText}
@@ -15,7 +15,7 @@ use Rattle.h5_meaning.specs.InBody.{body_ends, if_body_in_scope, in_body_end, in
 use Rattle.h5_meaning.specs.InHead.{in_head_end, in_head_links, in_head_start, in_head_start_tag, in_head_tag}
 use Rattle.h5_meaning.specs.InTableText.{saved_mode}
 use Rattle.h5_meaning.specs.Modes.{rule}
-use Rattle.h5_meaning.specs.Rows.{Answers, CreateRoot, InsertElement, InsertHead, IsDone, Pop, SaveMode, SetFramesetNotOk, SetMode, row}
+use Rattle.h5_meaning.specs.Rows.{Answers, CreateRoot, InsertElement, InsertHead, IsDone, Pop, SaveMode, SetFramesetNotOk, SetMode, choose, ignored, row}
 use Rattle.h5_meaning.specs.World.{World}
 
 -- the tags of `start_tag` and `end_tag`
@@ -52,6 +52,6 @@ pub body_end_rule : (w : World) → rule InBody (TagTurn (end (codes "body"))) w
 unfolding in_body_tag in_body_end
 body_end_rule w = refl
 
-pub html_end_rule : (w : World) → rule AfterBody (TagTurn (end (codes "html"))) w ≡ row (SetMode AfterAfterBody ∷ []) IsDone
+pub html_end_rule : (w : World) → w.context ≡ None → rule AfterBody (TagTurn (end (codes "html"))) w ≡ row (SetMode AfterAfterBody ∷ []) IsDone
 unfolding after_body_tag after_body_end
-html_end_rule w = refl
+html_end_rule w none = ap (λ (o : Option ℕ). choose (is_some o) ignored (row (SetMode AfterAfterBody ∷ []) IsDone)) none

@@ -45,6 +45,7 @@ pub record AfterDoctype (w : World) : Type 0 where
   pub none_listed : w.formatting ≡ []
   pub no_foster : w.foster ≡ false
   pub no_form : w.form ≡ None
+  pub no_context : w.context ≡ None
   pub quirks : w.seen_quirks ≡ NoQuirks
   pub doctype : ℕ
   pub begun : Begun w.forest doctype []
@@ -57,6 +58,7 @@ pub record AfterHtml (a : List AttributeText) (w : World) : Type 0 where
   pub none_listed : w.formatting ≡ []
   pub no_foster : w.foster ≡ false
   pub no_form : w.form ≡ None
+  pub no_context : w.context ≡ None
   pub quirks : w.seen_quirks ≡ NoQuirks
   pub doctype : ℕ
   pub rooted : Rooted w.forest doctype root a []
@@ -70,6 +72,7 @@ pub record WithHead (m : InsertionMode) (more : ℕ → List ℕ) (a b : List At
   pub none_listed : w.formatting ≡ []
   pub no_foster : w.foster ≡ false
   pub no_form : w.form ≡ None
+  pub no_context : w.context ≡ None
   pub quirks : w.seen_quirks ≡ NoQuirks
   pub doctype : ℕ
   pub rooted : Rooted w.forest doctype root a (ChildNode header ∷ [])
@@ -84,6 +87,7 @@ pub record WithBody (m : InsertionMode) (a b c : List AttributeText) (h : Nodes)
   pub header : ℕ
   pub content : ℕ
   pub are_open : w.stack ≡ content ∷ root ∷ []
+  pub no_context : w.context ≡ None
   pub quirks : w.seen_quirks ≡ NoQuirks
   pub doctype : ℕ
   pub rooted : Rooted w.forest doctype root a (ChildNode header ∷ ChildNode content ∷ [])
@@ -121,7 +125,7 @@ unfolding set_quirks_mode insert_doctype
 doctype_next choices w s = record {
   after = set_mode BeforeHtml (set_quirks_mode NoQuirks (insert_doctype choices (codes "html") [] [] (taken w)));
   moves = doctype_moves choices w s;
-  holds = record { mode = refl; none_open = s.none_open; none_listed = s.none_listed; no_foster = s.no_foster; no_form = s.no_form; quirks = refl; doctype = choices.fresh w.forest; begun = begun_first choices w.forest s.holds };
+  holds = record { mode = refl; none_open = s.none_open; none_listed = s.none_listed; no_foster = s.no_foster; no_form = s.no_form; no_context = s.no_context; quirks = refl; doctype = choices.fresh w.forest; begun = begun_first choices w.forest s.holds };
 }
 
 pub html_next : (choices : SinkChoices) (a : List AttributeText) (w : World) → AfterDoctype w → Next choices (start_tag (codes "html") a) w (AfterHtml a)
@@ -136,6 +140,7 @@ html_next choices a w s = record {
     none_listed = s.none_listed;
     no_foster = s.no_foster;
     no_form = s.no_form;
+    no_context = s.no_context;
     quirks = s.quirks;
     doctype = s.doctype;
     rooted = rooted_first choices w.forest s.doctype a s.begun;
@@ -173,6 +178,10 @@ pub insert_form : (choices : SinkChoices) (local : List ℕ) (attrs : List Attri
 unfolding insert_element
 insert_form choices local attrs w = refl
 
+pub insert_context : (choices : SinkChoices) (local : List ℕ) (attrs : List AttributeText) (w : World) → (insert_element choices local attrs false w).context ≡ w.context
+unfolding insert_element
+insert_context choices local attrs w = refl
+
 pub insert_flag : (choices : SinkChoices) (local : List ℕ) (attrs : List AttributeText) (w : World) → (insert_element choices local attrs false w).ignore_lf ≡ w.ignore_lf
 unfolding insert_element
 insert_flag choices local attrs w = refl
@@ -198,6 +207,7 @@ head_next choices a b w s =
         none_listed = insert_listed choices (codes "head") b (taken w) ∙ s.none_listed;
         no_foster = insert_foster choices (codes "head") b (taken w) ∙ s.no_foster;
         no_form = insert_form choices (codes "head") b (taken w) ∙ s.no_form;
+        no_context = insert_context choices (codes "head") b (taken w) ∙ s.no_context;
         quirks = insert_quirks choices (codes "head") b (taken w) ∙ s.quirks;
         doctype = s.doctype;
         rooted = subst (λ f. Rooted f s.doctype s.root a (ChildNode n ∷ [])) same (rooted_grown choices w.forest s.doctype s.root a [] head b s.rooted below);
@@ -220,6 +230,7 @@ head_end_next choices a b h w s = record {
     none_listed = s.none_listed;
     no_foster = s.no_foster;
     no_form = s.no_form;
+    no_context = s.no_context;
     quirks = s.quirks;
     doctype = s.doctype;
     rooted = rooted_marked w.forest (choices.marks_after_pop w.forest (current w)) s.doctype s.root a (ChildNode s.header ∷ []) s.rooted;
@@ -246,6 +257,7 @@ body_next choices a b c h w s =
           header = s.header;
           content = n;
           are_open = insert_opens choices (codes "body") c (taken w) ∙ ap (λ r. n ∷ r) s.are_open;
+          no_context = insert_context choices (codes "body") c (taken w) ∙ s.no_context;
           quirks = insert_quirks choices (codes "body") c (taken w) ∙ s.quirks;
           doctype = s.doctype;
           rooted = subst (λ f. Rooted f s.doctype s.root a (ChildNode s.header ∷ ChildNode n ∷ [])) same (rooted_grown choices w.forest s.doctype s.root a (ChildNode s.header ∷ []) body c s.rooted below);
@@ -305,6 +317,7 @@ body_filled choices a b c h nodes w plain s =
         header = t.header;
         content = t.content;
         are_open = t.are_open;
+        no_context = t.no_context;
         quirks = t.quirks;
         doctype = t.doctype;
         rooted = rooted_framed w.forest built.forest t.doctype t.root t.content a (ChildNode t.header ∷ ChildNode t.content ∷ []) (face (codes "body") c) built.filled.added t.rooted t.is_body (λ e. cc) (λ e. cc) html_not_body r;
@@ -326,6 +339,7 @@ in_other_mode m k a b c h inner nodes w s = record {
   header = s.header;
   content = s.content;
   are_open = s.are_open;
+  no_context = s.no_context;
   quirks = s.quirks;
   doctype = s.doctype;
   rooted = s.rooted;
@@ -363,7 +377,7 @@ body_end_next choices a b c h inner nodes w s = record {
 pub html_end_next : (choices : SinkChoices) (a b c : List AttributeText) (h : Nodes) (inner : List Child) (nodes : Nodes) (w : World) → WithBody AfterBody a b c h inner nodes w → Next choices (end_tag (codes "html")) w (WithBody AfterAfterBody a b c h inner nodes)
 html_end_next choices a b c h inner nodes w s = record {
   after = set_mode AfterAfterBody (taken w);
-  moves = moves_tag choices _ w AfterBody (SetMode AfterAfterBody ∷ []) s.mode (html_end_rule (taken w)) refl refl;
+  moves = moves_tag choices _ w AfterBody (SetMode AfterAfterBody ∷ []) s.mode (html_end_rule (taken w) s.no_context) refl refl;
   holds = in_other_mode AfterBody AfterAfterBody a b c h inner nodes w s;
 }
 
@@ -377,6 +391,7 @@ file_end_next choices a b c h inner nodes w s = record {
     header = s.header;
     content = s.content;
     are_open = s.are_open;
+    no_context = s.no_context;
     quirks = s.quirks;
     doctype = s.doctype;
     rooted = s.rooted;

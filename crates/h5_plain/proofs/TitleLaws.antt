@@ -23,7 +23,7 @@ use Rattle.h5_plain.proofs.GrowthLaws.{Rooted, element_below, head, kinds_apart,
 use Rattle.h5_plain.proofs.HeadLaws.{HoldsTitle, head_not_title, html_not_head, html_not_title, nothing_held, title}
 use Rattle.h5_plain.proofs.LooksLaws.{looks_marked, looks_node}
 use Rattle.h5_plain.proofs.RuleLaws.{end, start, title_end_rule, title_rule}
-use Rattle.h5_plain.proofs.StageLaws.{Next, WithHead, insert_flag, insert_foster, insert_form, insert_listed, insert_mode, insert_opens, insert_quirks, inserted, one}
+use Rattle.h5_plain.proofs.StageLaws.{Next, WithHead, insert_flag, insert_context, insert_foster, insert_form, insert_listed, insert_mode, insert_opens, insert_quirks, inserted, one}
 
 -- in the title, which holds these children
 record InTitle (a b c : List AttributeText) (inner : List Child) (w : World) : Type 0 where
@@ -37,6 +37,7 @@ record InTitle (a b c : List AttributeText) (inner : List Child) (w : World) : T
   none_listed : w.formatting ≡ []
   no_foster : w.foster ≡ false
   no_form : w.form ≡ None
+  no_context : w.context ≡ None
   quirks : w.seen_quirks ≡ NoQuirks
   doctype : ℕ
   rooted : Rooted w.forest doctype root a (ChildNode header ∷ [])
@@ -66,6 +67,7 @@ title_next choices a b c w s =
         none_listed = insert_listed choices (codes "title") c (taken w) ∙ s.none_listed;
         no_foster = insert_foster choices (codes "title") c (taken w) ∙ s.no_foster;
         no_form = insert_form choices (codes "title") c (taken w) ∙ s.no_form;
+        no_context = insert_context choices (codes "title") c (taken w) ∙ s.no_context;
         quirks = insert_quirks choices (codes "title") c (taken w) ∙ s.quirks;
         doctype = s.doctype;
         rooted = subst (λ f. Rooted f s.doctype s.root a (ChildNode s.header ∷ [])) same
@@ -100,6 +102,7 @@ text_next choices a b c x t w s =
         none_listed = s.none_listed;
         no_foster = s.no_foster;
         no_form = s.no_form;
+        no_context = s.no_context;
         quirks = s.quirks;
         doctype = s.doctype;
         rooted = rooted_framed f (append_text_to s.element (x ∷ t) f) s.doctype s.root s.element a (ChildNode s.header ∷ []) (face (codes "title") c) (ChildText (x ∷ t) ∷ []) s.rooted s.is_title (λ e. cc) (λ e. cc) html_not_title frame;
@@ -127,6 +130,7 @@ title_end_next choices a b c t w s =
         none_listed = s.none_listed;
         no_foster = s.no_foster;
         no_form = s.no_form;
+        no_context = s.no_context;
         quirks = s.quirks;
         doctype = s.doctype;
         rooted = rooted_marked w.forest marks s.doctype s.root a (ChildNode s.header ∷ []) s.rooted;

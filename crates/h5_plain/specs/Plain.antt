@@ -4,10 +4,10 @@ use Rattle.h5_names.specs.AttributeText.{AttributeText, is_same_text}
 use Rattle.h5_token.specs.Reply.{Continues, Reply, TurnsRaw}
 use Rattle.h5_token.specs.TokenText.{TagText, TokenText, DoctypeIs, TagIs, Characters, EndOfFile}
 use Rattle.h5_token.specs.declared.states.RawKind.TheVariants.{Rcdata}
-use Rattle.h5_token.specs.declared.tag.TagKind.{TagKind}
 use Rattle.h5_token.specs.declared.tag.TagKind.TheVariants.{StartTag, EndTag}
 use Rattle.h5_interface.specs.Changes.{has_attribute}
 use Rattle.h5_tag_sets.specs.TagSets.{cell_names, heading_names, is_one_of, void_names}
+use Rattle.h5_meaning.specs.Run.{is_start}
 
 -- a list of nodes: texts, and HTML elements with what they hold
 pub data Nodes : Type 0 where
@@ -128,10 +128,6 @@ root_of d =
 -- the doctype `html`, without identifiers
 abbrev pub plain_doctype : TokenText
 plain_doctype = DoctypeIs (record { name = Some (codes "html"); public_id = None; system_id = None; force_quirks = false })
-
-abbrev pub is_start : TagKind → Bool
-is_start StartTag = true
-is_start EndTag = false
 
 abbrev pub is_start_of_title : TagText → Bool
 is_start_of_title tag = is_start tag.kind && is_same_text tag.name (codes "title")

@@ -53,6 +53,7 @@ pub record IsStart (w : World) : Type 0 where
   pub ignore_lf : w.ignore_lf ≡ false
   pub no_foster : w.foster ≡ false
   pub no_form : w.form ≡ None
+  pub no_context : w.context ≡ None
 
 -- tokens, run from a view, rebuild a document: it stands, in no quirks, the answers are those to a plain document's
 -- tokens, and no parse error is told

@@ -7,7 +7,9 @@ ghost use Rattle.h5_state.specs.Turn.{TakesTag, TakesToken};
 use h5_interface::TreeSink;
 use h5_names::KnownName;
 use h5_rules_shared::{in_body_start_html, in_body_text};
-use h5_state::{State, Turn, append_comment_to_html, set_mode, unexpected};
+use h5_state::{
+    State, Turn, append_comment_to_html, is_fragment, set_mode, unexpected, unexpected_tag,
+};
 use h5_token::{Tag, TagKind};
 use h5_types::{InsertionMode, ProcessResult, SplitStatus, Token};
 
@@ -20,8 +22,11 @@ fn after_body_end_html<S: TreeSink>(
     requires { IsSound S.TreeSink sink.old state.old }
     ensures { TakesTag S.TreeSink after_body_end_html tag sink.old state.old sink.new state.new result }
 {
-    let _ = tag;
-    set_mode(sink, state, InsertionMode::AfterAfterBody);
+    if is_fragment(sink, state) {
+        unexpected_tag(sink, state, &tag);
+    } else {
+        set_mode(sink, state, InsertionMode::AfterAfterBody);
+    }
     Ok(ProcessResult::Done)
 }
 

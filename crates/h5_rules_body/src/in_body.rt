@@ -2,7 +2,7 @@
 ghost use Rattle.std.specs.Prelude.{drop};
 ghost use Rattle.h5_types.specs.TurnText.{HasText, turn_text};
 ghost use Rattle.h5_meaning.specs.ByName.{by_name};
-ghost use Rattle.h5_meaning.specs.InBody.{in_body, in_body_end, in_body_end_body, in_body_end_html, in_body_end_other, in_body_start, in_body_start_body, in_body_start_other, in_body_start_table, in_body_tag};
+ghost use Rattle.h5_meaning.specs.InBody.{in_body, in_body_end, in_body_end_body, in_body_end_html, in_body_end_other, in_body_start, in_body_start_body, in_body_start_frameset, in_body_start_other, in_body_start_table, in_body_tag};
 ghost use Rattle.h5_meaning.specs.Sound.{IsReady};
 ghost use Rattle.h5_state.specs.Steps.{IsSound, TellsErrors, world_of};
 ghost use Rattle.h5_state.specs.Turn.{TakesTag, TakesToken};
@@ -33,16 +33,18 @@ use h5_rules_forms::{
 use h5_rules_shared::{expect_to_close, in_body_start_html, in_body_text};
 use h5_rules_text::{
     in_body_start_iframe, in_body_start_noembed, in_body_start_noscript, in_body_start_plaintext,
-    in_body_start_textarea, in_body_start_xmp, in_head_start_tag, is_head_start,
+    in_body_start_textarea, in_body_start_xmp, in_head_end_template, in_head_start_tag,
+    is_head_start, template_eof,
 };
 use h5_state::{
     ItemKind, State, Turn, add_attrs_to_second, append_comment, check_body_end,
     close_p_element_in_button_scope, find_before_special, generate_implied_end_except,
     has_body_in_scope, has_body_second, has_open_template, insert_element, is_current_html,
-    is_in_quirks, pop_until_named, set_frameset_not_ok, set_mode, tell_error, unexpected,
-    unexpected_tag,
+    is_frameset_ok, is_in_quirks, pop_until_named, set_frameset_not_ok, set_mode, tell_error,
+    unexpected, unexpected_tag,
 };
 use h5_tag_sets::NameSet;
+use h5_templates::{has_template_mode, remove_body};
 use h5_token::{Tag, TagKind};
 use h5_types::{InsertionMode, ProcessResult, Token};
 
@@ -61,6 +63,29 @@ fn in_body_start_body<S: TreeSink>(
     if has_body_second(sink, state) && !has_open_template(sink, state) {
         set_frameset_not_ok(sink, state);
         add_attrs_to_second(sink, state, tag.attrs)?;
+        Ok(ProcessResult::Done)
+    } else {
+        Ok(ProcessResult::Done)
+    }
+}
+
+// A start tag `frameset`: where the body may still be taken back, it takes the place of the body.
+#[cold]
+#[tactic(auto, unfolding(h5_meaning::specs::InBody::in_body_start_frameset))]
+fn in_body_start_frameset<S: TreeSink>(
+    sink: &mut S,
+    state: &mut State<S::Handle>,
+    tag: Tag,
+) -> Turn<S::Handle>
+    requires { IsSound S.TreeSink sink.old state.old }
+    ensures { TakesTag S.TreeSink in_body_start_frameset tag sink.old state.old sink.new state.new result }
+{
+    unexpected_tag(sink, state, &tag);
+    if is_frameset_ok(sink, state) && has_body_second(sink, state) {
+        remove_body(sink, state)?;
+        let attrs = tag.attrs;
+        insert_element(sink, state, tag.name, attrs, tag.had_duplicate_attributes)?;
+        set_mode(sink, state, InsertionMode::InFrameset);
         Ok(ProcessResult::Done)
     } else {
         Ok(ProcessResult::Done)
@@ -189,7 +214,7 @@ fn in_body_start_choice<S: TreeSink>(
 ) -> Turn<S::Handle>
     requires sound { IsSound S.TreeSink sink.old state.old }
     requires ready { IsReady (world_of S.TreeSink sink.old state.old) }
-    ensures { TakesTag S.TreeSink (by_name (drop 26 in_body_start) in_body_start_other) tag sink.old state.old sink.new state.new result }
+    ensures { TakesTag S.TreeSink (by_name (drop 27 in_body_start) in_body_start_other) tag sink.old state.old sink.new state.new result }
 {
     if tag.name.is(KnownName::Select) {
         in_body_start_select(sink, state, tag)
@@ -218,7 +243,7 @@ fn in_body_start_raw_text<S: TreeSink>(
 ) -> Turn<S::Handle>
     requires sound { IsSound S.TreeSink sink.old state.old }
     requires ready { IsReady (world_of S.TreeSink sink.old state.old) }
-    ensures { TakesTag S.TreeSink (by_name (drop 21 in_body_start) in_body_start_other) tag sink.old state.old sink.new state.new result }
+    ensures { TakesTag S.TreeSink (by_name (drop 22 in_body_start) in_body_start_other) tag sink.old state.old sink.new state.new result }
 {
     if tag.name.is(KnownName::Textarea) {
         in_body_start_textarea(sink, state, tag)
@@ -244,7 +269,7 @@ fn in_body_start_control<S: TreeSink>(
 ) -> Turn<S::Handle>
     requires sound { IsSound S.TreeSink sink.old state.old }
     requires ready { IsReady (world_of S.TreeSink sink.old state.old) }
-    ensures { TakesTag S.TreeSink (by_name (drop 17 in_body_start) in_body_start_other) tag sink.old state.old sink.new state.new result }
+    ensures { TakesTag S.TreeSink (by_name (drop 18 in_body_start) in_body_start_other) tag sink.old state.old sink.new state.new result }
 {
     if tag.name.is(KnownName::Image) {
         in_body_start_image(sink, state, tag)
@@ -268,7 +293,7 @@ fn in_body_start_inline<S: TreeSink>(
 ) -> Turn<S::Handle>
     requires sound { IsSound S.TreeSink sink.old state.old }
     requires ready { IsReady (world_of S.TreeSink sink.old state.old) }
-    ensures { TakesTag S.TreeSink (by_name (drop 10 in_body_start) in_body_start_other) tag sink.old state.old sink.new state.new result }
+    ensures { TakesTag S.TreeSink (by_name (drop 11 in_body_start) in_body_start_other) tag sink.old state.old sink.new state.new result }
 {
     if tag.name.is(KnownName::Button) {
         in_body_start_button(sink, state, tag)
@@ -306,6 +331,8 @@ fn in_body_start_tag<S: TreeSink>(
         in_head_start_tag(sink, state, tag)
     } else if tag.name.is(KnownName::Body) {
         in_body_start_body(sink, state, tag)
+    } else if tag.name.is(KnownName::Frameset) {
+        in_body_start_frameset(sink, state, tag)
     } else if NameSet::BlockStart.holds(&tag.name) {
         in_body_start_block(sink, state, tag)
     } else if NameSet::Heading.holds(&tag.name) {
@@ -345,8 +372,7 @@ fn in_body_end_inline<S: TreeSink>(
     } else if tag.name.is(KnownName::Br) {
         in_body_end_br(sink, state, tag)
     } else if tag.name.is(KnownName::Template) {
-        unexpected_tag(sink, state, &tag);
-        Ok(ProcessResult::Done)
+        in_head_end_template(sink, state, tag)
     } else {
         in_body_end_other(sink, state, tag)
     }
@@ -396,6 +422,18 @@ fn in_body_tag<S: TreeSink>(sink: &mut S, state: &mut State<S::Handle>, tag: Tag
     }
 }
 
+// The end of the file: where template insertion modes are kept, by the rules of templates.
+fn in_body_eof<S: TreeSink>(sink: &mut S, state: &mut State<S::Handle>) -> Turn<S::Handle>
+    requires { IsSound S.TreeSink sink.old state.old }
+    ensures { TakesToken S.TreeSink in_body Token.Eof sink.old state.old sink.new state.new result }
+{
+    if has_template_mode(sink, state) {
+        return template_eof(sink, state, Token::Eof);
+    }
+    check_body_end(sink, state);
+    Ok(ProcessResult::Done)
+}
+
 /// A turn in the body.
 pub fn step_in_body<S: TreeSink>(
     sink: &mut S,
@@ -418,9 +456,6 @@ pub fn step_in_body<S: TreeSink>(
             unexpected(sink, state, &Token::NullCharacter);
             Ok(ProcessResult::Done)
         }
-        Token::Eof => {
-            check_body_end(sink, state);
-            Ok(ProcessResult::Done)
-        }
+        Token::Eof => in_body_eof(sink, state),
     }
 }

@@ -104,9 +104,7 @@ pub(crate) fn is_ignored_start(name: &LocalName) -> bool
             KnownName::Thead,
             KnownName::Tr,
             KnownName::Frame,
-            KnownName::Frameset,
             KnownName::Head,
-            KnownName::Template,
         ],
     )
 }

@@ -2,7 +2,7 @@
 ghost use Rattle.std.specs.Prelude.{◌≡◌, ◌≢◌, MatchOption, option_map, true};
 ghost use Rattle.h5_types.specs.TurnText.{HasText, turn_text};
 ghost use Rattle.h5_tag_sets.specs.TagSets.{is_one_of};
-ghost use Rattle.h5_meaning.specs.AfterHead.{after_head, after_head_else, after_head_start_body, after_head_tag, removes_known, with_head};
+ghost use Rattle.h5_meaning.specs.AfterHead.{after_head, after_head_else, after_head_start_body, after_head_start_frameset, after_head_tag, removes_known, with_head};
 ghost use Rattle.h5_meaning.specs.InHead.{in_head_start_tag};
 ghost use Rattle.h5_meaning.specs.Rows.{apply_all};
 ghost use Rattle.h5_meaning.specs.Shared.{head_start_names};
@@ -14,7 +14,7 @@ ghost use Rattle.h5_state.specs.Turn.{TakesTag, TakesToken};
 use h5_interface::TreeSink;
 use h5_names::KnownName;
 use h5_rules_shared::{in_body_start_html, is_outer};
-use h5_rules_text::{in_head_start_tag, is_head_start};
+use h5_rules_text::{in_head_end_template, in_head_start_tag, is_head_start};
 use h5_state::{
     State, Turn, append_comment, append_text, insert_element, insert_phantom, known_head,
     push_head, remove_from_stack, set_frameset_not_ok, set_mode, unexpected_tag,
@@ -35,6 +35,21 @@ fn after_head_start_body<S: TreeSink>(
     insert_element(sink, state, tag.name, attrs, tag.had_duplicate_attributes)?;
     set_frameset_not_ok(sink, state);
     set_mode(sink, state, InsertionMode::InBody);
+    Ok(ProcessResult::Done)
+}
+
+// A start tag `frameset`.
+fn after_head_start_frameset<S: TreeSink>(
+    sink: &mut S,
+    state: &mut State<S::Handle>,
+    tag: Tag,
+) -> Turn<S::Handle>
+    requires { IsSound S.TreeSink sink.old state.old }
+    ensures { TakesTag S.TreeSink after_head_start_frameset tag sink.old state.old sink.new state.new result }
+{
+    let attrs = tag.attrs;
+    insert_element(sink, state, tag.name, attrs, tag.had_duplicate_attributes)?;
+    set_mode(sink, state, InsertionMode::InFrameset);
     Ok(ProcessResult::Done)
 }
 
@@ -96,6 +111,8 @@ fn after_head_tag<S: TreeSink>(
                 in_body_start_html(sink, state, tag)
             } else if tag.name.is(KnownName::Body) {
                 after_head_start_body(sink, state, tag)
+            } else if tag.name.is(KnownName::Frameset) {
+                after_head_start_frameset(sink, state, tag)
             } else if is_head_start(&tag.name) {
                 with_head(sink, state, tag)
             } else if tag.name.is(KnownName::Head) {
@@ -109,6 +126,8 @@ fn after_head_tag<S: TreeSink>(
             if tag.name.is(KnownName::Head) {
                 unexpected_tag(sink, state, &tag);
                 Ok(ProcessResult::Done)
+            } else if tag.name.is(KnownName::Template) {
+                in_head_end_template(sink, state, tag)
             } else if is_outer(&tag.name) {
                 after_head_else(sink, state, Token::Tag(tag))
             } else {

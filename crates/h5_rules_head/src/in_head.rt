@@ -7,7 +7,7 @@ ghost use Rattle.h5_state.specs.Turn.{TakesTag, TakesToken};
 use h5_interface::TreeSink;
 use h5_names::KnownName;
 use h5_rules_shared::is_outer;
-use h5_rules_text::{in_head_else, in_head_start_tag};
+use h5_rules_text::{in_head_else, in_head_end_template, in_head_start_tag};
 use h5_state::{State, Turn, append_comment, append_text, pop, set_mode, unexpected_tag};
 use h5_token::{Tag, TagKind};
 use h5_types::{InsertionMode, ProcessResult, SplitStatus, Token};
@@ -39,6 +39,8 @@ fn in_head_tag<S: TreeSink>(sink: &mut S, state: &mut State<S::Handle>, tag: Tag
                 in_head_end_head(sink, state, tag)
             } else if is_outer(&tag.name) {
                 in_head_else(sink, state, Token::Tag(tag))
+            } else if tag.name.is(KnownName::Template) {
+                in_head_end_template(sink, state, tag)
             } else {
                 unexpected_tag(sink, state, &tag);
                 Ok(ProcessResult::Done)

@@ -10,6 +10,7 @@ use h5_interface::TreeSink;
 use h5_names::{KnownName, LocalName};
 use h5_rules_body::step_in_body;
 use h5_rules_shared::in_body_start_html;
+use h5_rules_text::{in_head_end_template, in_head_start_tag};
 use h5_state::{
     State, Turn, append_comment, append_text, insert_and_pop_element, is_current_html, pop,
     set_mode, unexpected, unexpected_tag,
@@ -85,6 +86,8 @@ fn in_column_group_start_tag<S: TreeSink>(
         in_body_start_html(sink, state, tag)
     } else if tag.name.is(KnownName::Col) {
         in_column_group_start_col(sink, state, tag)
+    } else if tag.name.is(KnownName::Template) {
+        in_head_start_tag(sink, state, tag)
     } else {
         in_column_group_else(sink, state, Token::Tag(tag))
     }
@@ -105,6 +108,8 @@ fn in_column_group_end_tag<S: TreeSink>(
     } else if tag.name.is(KnownName::Col) {
         unexpected_tag(sink, state, &tag);
         Ok(ProcessResult::Done)
+    } else if tag.name.is(KnownName::Template) {
+        in_head_end_template(sink, state, tag)
     } else {
         in_column_group_else(sink, state, Token::Tag(tag))
     }

@@ -15,7 +15,7 @@ use h5_interface::TreeSink;
 use h5_names::{KnownName, LocalName};
 use h5_rules_body::step_in_body;
 use h5_rules_shared::{is_any_of, is_type_hidden};
-use h5_rules_text::{in_head_start_tag, is_table_text};
+use h5_rules_text::{in_head_end_template, in_head_start_tag, is_table_text};
 use h5_state::{
     Local, State, Turn, append_comment, find_in_table_scope, has_form, has_open_template,
     insert_and_pop_element, insert_and_pop_form, insert_element, insert_phantom,
@@ -290,6 +290,8 @@ fn in_table_end_tag<S: TreeSink>(
     } else if is_ignored_end(&tag.name) {
         unexpected_tag(sink, state, &tag);
         Ok(ProcessResult::Done)
+    } else if tag.name.is(KnownName::Template) {
+        in_head_end_template(sink, state, tag)
     } else {
         foster_parent_in_body(sink, state, Token::Tag(tag))
     }

@@ -5,6 +5,7 @@ ghost use Rattle.h5_state.specs.Turn.{TakesTag, TakesToken};
 
 use super::names::{is_head_link, is_head_raw};
 use super::raw_text::{parse_raw_data, to_raw_text_mode};
+use super::template::in_head_start_template;
 use h5_interface::TreeSink;
 use h5_names::KnownName;
 use h5_rules_shared::in_body_start_html;
@@ -97,6 +98,8 @@ pub fn in_head_start_tag<S: TreeSink>(
         in_head_start_noscript(sink, state, tag)
     } else if tag.name.is(KnownName::Script) {
         in_head_start_script(sink, state, tag)
+    } else if tag.name.is(KnownName::Template) {
+        in_head_start_template(sink, state, tag)
     } else if tag.name.is(KnownName::Head) {
         unexpected_tag(sink, state, &tag);
         Ok(ProcessResult::Done)

@@ -1,11 +1,12 @@
-//! Rules of what stands in the head, of elements whose content is text, and of the mode "text" (HTML standard,
-//! sections 13.2.6.2, 13.2.6.4.4 and 13.2.6.4.8).
+//! Rules of what stands in the head, of templates, of elements whose content is text, and of the mode "text" (HTML
+//! standard, sections 13.2.6.2, 13.2.6.4.4, 13.2.6.4.8 and 13.2.6.4.18).
 #![tactic(auto)]
 
 mod in_body;
 mod in_head;
 mod names;
 mod raw_text;
+mod template;
 mod text_mode;
 
 pub use in_body::{
@@ -15,4 +16,5 @@ pub use in_body::{
 pub use in_head::{in_head_else, in_head_start_tag};
 pub use names::{is_head_start, is_noscript_content, is_table_text};
 pub use raw_text::{parse_raw_data, to_raw_text_mode};
+pub use template::{in_head_end_template, template_eof};
 pub use text_mode::step_text_mode;

@@ -50,6 +50,7 @@ pub fn is_head_start(name: &LocalName) -> bool
             KnownName::Noframes,
             KnownName::Script,
             KnownName::Style,
+            KnownName::Template,
             KnownName::Title,
         ],
     )
@@ -78,5 +79,8 @@ pub fn is_noscript_content(name: &LocalName) -> bool
 pub fn is_table_text(name: &LocalName) -> bool
     ensures { result ≡ is_one_of table_text_names name.now }
 {
-    is_any_of(name, &[KnownName::Style, KnownName::Script])
+    is_any_of(
+        name,
+        &[KnownName::Style, KnownName::Script, KnownName::Template],
+    )
 }

@@ -148,11 +148,7 @@ pub fn find_before_special<S: TreeSink>(
 
 /// Where the first HTML element of this name stands, from the current node on: so many elements are older, none where none
 /// is open.
-pub(crate) fn find_named<S: TreeSink>(
-    sink: &S,
-    state: &State<S::Handle>,
-    local: &LocalName,
-) -> usize
+pub fn find_named<S: TreeSink>(sink: &S, state: &State<S::Handle>, local: &LocalName) -> usize
     requires { IsSound S.TreeSink sink.now state.now }
     ensures { result ≡ length (cut_through (is_html_named local.now) (names_of (world_of S.TreeSink sink.now state.now)) (world_of S.TreeSink sink.now state.now).stack) }
 {
@@ -266,11 +262,7 @@ pub fn is_current_html<S: TreeSink>(sink: &S, state: &State<S::Handle>, local: &
 }
 
 /// Whether the name of the current node passes.
-pub(crate) fn is_current<S: TreeSink, Is: NameTest>(
-    sink: &S,
-    state: &State<S::Handle>,
-    is: &Is,
-) -> bool
+pub fn is_current<S: TreeSink, Is: NameTest>(sink: &S, state: &State<S::Handle>, is: &Is) -> bool
     requires { IsSound S.TreeSink sink.now state.now }
     ensures { result ≡ first_passes (Is.holds is.now) (names_of (world_of S.TreeSink sink.now state.now)) }
 {
@@ -344,7 +336,7 @@ pub fn pop_until_named<S: TreeSink>(
 
 /// So many elements stay open.
 #[tactic(auto, unfolding(crate::specs::View::world, crate::specs::View::stack_under))]
-pub(crate) fn truncate<S: TreeSink>(sink: &S, state: &mut State<S::Handle>, count: usize)
+pub fn truncate<S: TreeSink>(sink: &S, state: &mut State<S::Handle>, count: usize)
     requires { IsSound S.TreeSink sink.now state.old }
     ensures kept { kept_of state.new ≡ summaries (names_of (world_of S.TreeSink sink.now state.new)) }
     ensures world { world_of S.TreeSink sink.now state.new ≡ with_stack (stack_under S.node state.old count) (world_of S.TreeSink sink.now state.old) }

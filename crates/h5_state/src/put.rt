@@ -34,8 +34,8 @@ pub fn insert_at<S: TreeSink>(
     }
 }
 
-// Where a place is: in this node, or beside it, and then, where it has no parent, in the other.
-fn nodes_of<S: TreeSink>(place: &InsertionPoint<S::Handle>) -> (&S::Handle, Option<&S::Handle>)
+/// Where a place is: in this node, or beside it, and then, where it has no parent, in the other.
+pub fn nodes_of<S: TreeSink>(place: &InsertionPoint<S::Handle>) -> (&S::Handle, Option<&S::Handle>)
     ensures first { S.node result.0.now ≡ stands_by (place_of S.node place.now) }
     ensures other { option_map (λ outer. S.node outer.now) result.1 ≡ stands_else_in (place_of S.node place.now) }
 {

@@ -128,6 +128,22 @@ pub fn take_form<S: TreeSink>(sink: &S, state: &mut State<S::Handle>) -> Option<
     state.form_elem.take()
 }
 
+/// Whether a fragment is built.
+#[tactic(auto, unfolding(crate::specs::View::world))]
+pub fn is_fragment<S: TreeSink>(sink: &S, state: &State<S::Handle>) -> bool
+    ensures { result ≡ is_some (world_of S.TreeSink sink.now state.now).context }
+{
+    state.context_elem.is_some()
+}
+
+/// Whether a frameset may still take the place of the body.
+#[tactic(auto, unfolding(crate::specs::View::world))]
+pub fn is_frameset_ok<S: TreeSink>(sink: &S, state: &State<S::Handle>) -> bool
+    ensures { result ≡ (world_of S.TreeSink sink.now state.now).frameset_ok }
+{
+    state.frameset_ok
+}
+
 /// Whether the context of a fragment is an HTML `select`.
 #[tactic(auto, unfolding(crate::specs::View::world))]
 pub fn is_select_context<S: TreeSink>(sink: &S, state: &State<S::Handle>) -> bool

@@ -25,7 +25,7 @@ use Rattle.h5_tree_builder.specs.Chains.{CameTo}
 use Rattle.h5_tree_builder.specs.Held.{IsKept}
 use Rattle.h5_tree_builder.specs.declared.taken.Taken.{Taken}
 
-stands_none : (f : Forest) → IsForest f → Stands f []
+pub stands_none : (f : Forest) → IsForest f → Stands f []
 stands_none f k = record {
   is_forest = k;
   elements = λ n h. absurd h;
@@ -46,7 +46,7 @@ all_none f k = record {
   formatting = tt;
 }
 
-lists_first : Lists [] []
+pub lists_first : Lists [] []
 lists_first = record {
   agrees = record { once = λ x h. absurd h; order = λ x y h. absurd h; open_first = λ x y h. absurd h };
   alike = λ t. tt;

@@ -3,6 +3,8 @@ pub mod BuilderLaws
 pub mod ChainLaws
 pub mod DoctypeLaws
 pub mod EndLaws
+pub mod FragmentLaws
+pub mod RootLaws
 pub mod SettledLaws
 pub mod TextLaws
 pub mod WholeLaws

@@ -6,7 +6,7 @@ use Rattle.h5_interface.specs.SinkChoices.{SinkChoices}
 use Rattle.h5_stack.specs.FormattingNames.{AllFormatting}
 use Rattle.h5_types.specs.TurnText.{TextTurn, TurnText}
 use Rattle.h5_types.specs.declared.modes.InsertionMode.{InsertionMode}
-use Rattle.h5_types.specs.declared.modes.InsertionMode.TheVariants.{Initial, BeforeHtml, BeforeHead, InHead, InHeadNoscript, AfterHead, InBody, Text, InTable, InTableText, InCaption, InColumnGroup, InTableBody, InRow, InCell, AfterBody, AfterAfterBody}
+use Rattle.h5_types.specs.declared.modes.InsertionMode.TheVariants.{Initial, BeforeHtml, BeforeHead, InHead, InHeadNoscript, AfterHead, InBody, Text, InTable, InTableText, InCaption, InColumnGroup, InTableBody, InRow, InCell, AfterBody, AfterAfterBody, InTemplate, InFrameset, AfterFrameset, AfterAfterFrameset}
 use Rattle.h5_types.specs.declared.modes.SplitStatus.{SplitStatus}
 use Rattle.h5_types.specs.declared.modes.SplitStatus.TheVariants.{NotSplit, Whitespace, NotWhitespace}
 use Rattle.h5_meaning.specs.Blanks.{blanks_of, is_blank, rest_of}
@@ -117,9 +117,13 @@ module _ (choices : SinkChoices) (s : SplitStatus) (b : ℕ) (t : List ℕ) wher
       at true g i = goes_on m InTableText w (row (SaveMode ∷ []) (Again InTableText)) e g refl ∙ kept_meets (set_mode InTableText (save_mode w)) refl ∙ sym i
       at false g i = ends m w (foster in_body T w) e g refl ∙ sym i
 
-  -- in a mode that isn't reached yet nothing is done
-  none_meets : (m : InsertionMode) → ((w : World) → rule m T w ≡ ignored) → ((w : World) → text_in m choices (b ∷ t) w ≡ w) → Meets m
-  none_meets m f is w e = ends m w ignored e (f w) refl ∙ sym (is w)
+  -- in and after framesets blanks alone
+  blanks_meet : (m : InsertionMode) (f : List ℕ → World → World) (r : World → Row) → all_blanks (b ∷ t) ≡ b ∷ t → ((w : World) → rule m T w ≡ r w) → ((w : World) → next_mode (r w).ending (changed_by choices (r w) w) ≡ None)
+      → ((w : World) → changed_by choices (r w) w ≡ f (b ∷ t) w) → ((w : World) → text_in m choices (b ∷ t) w ≡ if_any f (all_blanks (b ∷ t)) w) → Meets m
+  blanks_meet m f r blank g d does is w e = ends m w (r w) e (g w) (d w) ∙ does w ∙ sym (is w ∙ ap (λ x. if_any f x w) blank)
+
+  others_meet : (m : InsertionMode) (f : List ℕ → World → World) → all_blanks (b ∷ t) ≡ [] → ((w : World) → rule m T w ≡ ignored) → ((w : World) → text_in m choices (b ∷ t) w ≡ if_any f (all_blanks (b ∷ t)) w) → Meets m
+  others_meet m f none g is w e = ends m w ignored e (g w) refl ∙ sym (is w ∙ ap (λ x. if_any f x w) none)
 
   -- in the body, a caption and a cell no error is told
   by_body_quiet : (m : InsertionMode) → ((w : World) → rule m T w ≡ in_body_text (b ∷ t) w) → (w : World) → w.mode ≡ m → (settle choices T w).quiet ≡ true
@@ -129,6 +133,7 @@ module _ (choices : SinkChoices) (s : SplitStatus) (b : ℕ) (t : List ℕ) wher
   run_quiet InBody q = by_body_quiet InBody (λ v. refl)
   run_quiet InCaption q = by_body_quiet InCaption (λ v. refl)
   run_quiet InCell q = by_body_quiet InCell (λ v. refl)
+  run_quiet InTemplate q = by_body_quiet InTemplate (λ v. refl)
   run_quiet Text q = text_quiet
   run_quiet _ q = absurd (cc)
 
@@ -174,7 +179,10 @@ module _ (choices : SinkChoices) (b : ℕ) (t : List ℕ) where
   blank_run InCell r = by_body_meets choices Whitespace b t InCell (λ w. refl) (λ w. refl)
   blank_run AfterBody r = blank_meets choices Whitespace b t AfterBody (text_in_body choices) (by_else choices back_to_body (text_in_body choices)) (in_body_text (b ∷ t)) r (λ w. refl) (λ w. refl) (λ w. refl) (λ w. refl)
   blank_run AfterAfterBody r = blank_meets choices Whitespace b t AfterAfterBody (text_in_body choices) (by_else choices back_to_body (text_in_body choices)) (in_body_text (b ∷ t)) r (λ w. refl) (λ w. refl) (λ w. refl) (λ w. refl)
-  blank_run m r = none_meets choices Whitespace b t m (λ w. refl) (λ w. refl)
+  blank_run InTemplate r = by_body_meets choices Whitespace b t InTemplate (λ w. refl) (λ w. refl)
+  blank_run InFrameset r = blanks_meet choices Whitespace b t InFrameset append_text (λ w. row (AppendText (b ∷ t) ∷ []) IsDone) (blanks_all (b ∷ t) r) (λ w. refl) (λ w. refl) (λ w. refl) (λ w. refl)
+  blank_run AfterFrameset r = blanks_meet choices Whitespace b t AfterFrameset append_text (λ w. row (AppendText (b ∷ t) ∷ []) IsDone) (blanks_all (b ∷ t) r) (λ w. refl) (λ w. refl) (λ w. refl) (λ w. refl)
+  blank_run AfterAfterFrameset r = blanks_meet choices Whitespace b t AfterAfterFrameset (text_in_body choices) (in_body_text (b ∷ t)) (blanks_all (b ∷ t) r) (λ w. refl) (λ w. refl) (λ w. refl) (λ w. refl)
 
   solid_back : (m : InsertionMode) → is_blank b ≡ false → ((w : World) → rule m S w ≡ back_to_body S w) → ((w : World) → text_in m choices (b ∷ t) w ≡ split (text_in_body choices) (by_else choices back_to_body (text_in_body choices)) (b ∷ t) w) → Meets choices NotWhitespace b t m
   solid_back m n f is = solid_meets choices NotWhitespace b t m InBody (text_in_body choices) back_to_body n f (λ w. refl) (whole_in_body choices NotWhitespace b t (λ w. refl)) is
@@ -246,7 +254,10 @@ module _ (choices : SinkChoices) (b : ℕ) (t : List ℕ) where
   solid_run InCell n s = by_body_meets choices NotWhitespace b t InCell (λ w. refl) (λ w. refl)
   solid_run AfterBody n s = solid_back AfterBody n (λ w. refl) (λ w. refl)
   solid_run AfterAfterBody n s = solid_back AfterAfterBody n (λ w. refl) (λ w. refl)
-  solid_run m n s = none_meets choices NotWhitespace b t m (λ w. refl) (λ w. refl)
+  solid_run InTemplate n s = by_body_meets choices NotWhitespace b t InTemplate (λ w. refl) (λ w. refl)
+  solid_run InFrameset n s = others_meet choices NotWhitespace b t InFrameset append_text s (λ w. refl) (λ w. refl)
+  solid_run AfterFrameset n s = others_meet choices NotWhitespace b t AfterFrameset append_text s (λ w. refl) (λ w. refl)
+  solid_run AfterAfterFrameset n s = others_meet choices NotWhitespace b t AfterAfterFrameset (text_in_body choices) s (λ w. refl) (λ w. refl)
 
   whole_run : (m : InsertionMode) → IsRun m NotSplit (b ∷ t) → Meets choices NotSplit b t m
   whole_run Initial n = absurd (cc)
@@ -266,7 +277,10 @@ module _ (choices : SinkChoices) (b : ℕ) (t : List ℕ) where
   whole_run InCell n = by_body_meets choices NotSplit b t InCell (λ w. refl) (λ w. refl)
   whole_run AfterBody n = absurd (cc)
   whole_run AfterAfterBody n = absurd (cc)
-  whole_run m n = none_meets choices NotSplit b t m (λ w. refl) (λ w. refl)
+  whole_run InTemplate n = by_body_meets choices NotSplit b t InTemplate (λ w. refl) (λ w. refl)
+  whole_run InFrameset n = absurd (cc)
+  whole_run AfterFrameset n = absurd (cc)
+  whole_run AfterAfterFrameset n = absurd (cc)
 
   run_meets : (s : SplitStatus) (w : World) → IsRun w.mode s (b ∷ t) → (settle choices (TextTurn s (b ∷ t)) w).world ≡ text_rule choices (b ∷ t) w
   run_meets Whitespace w h = blank_run w.mode h w refl
@@ -305,6 +319,7 @@ mode_stays choices (b ∷ t) w v q f = ap (λ (x : World). is_quiet_text x.mode)
     stays InBody e k = by_body (by_mode choices InBody (b ∷ t) w e)
     stays InCaption e k = by_body (by_mode choices InCaption (b ∷ t) w e)
     stays InCell e k = by_body (by_mode choices InCell (b ∷ t) w e)
+    stays InTemplate e k = by_body (by_mode choices InTemplate (b ∷ t) w e)
     stays Text e k = ap (λ (x : World). is_quiet_text x.mode) (by_mode choices Text (b ∷ t) w e) ∙ q
     stays _ e k = absurd (cc)
 

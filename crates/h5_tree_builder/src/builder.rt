@@ -1,12 +1,15 @@
 //! The tree builder.
-ghost use Rattle.std.specs.Prelude.{◌≡◌, [], false, true};
+ghost use Rattle.std.specs.Prelude.{◌≡◌, ◌++◌, [], ◌∷◌, false, true, IfErr, IfOk, MatchOption, option_map};
+ghost use Rattle.h5_interface.specs.Forest.{ChildNode, IsElement, children_of};
 ghost use Rattle.h5_token.specs.TokenText.{token_text};
 ghost use Rattle.h5_meaning.specs.Sound.{Fits, HasLists, Sound};
 ghost use Rattle.h5_tree_builder.specs.Held.{building};
 ghost use Rattle.h5_tree_builder.specs.Builder.{IsKeptWhole, Takes, ended_view, first_building};
+ghost use Rattle.h5_tree_builder.specs.Fragment.{first_fragment};
 
 use super::end::pop_all;
 use super::first::first_state;
+use super::fragment::fragment_state;
 use super::process_token::{note_line, take_token};
 use super::refusal::refuses_in;
 use h5_interface::TreeSink;
@@ -62,6 +65,37 @@ impl<Handle: Drop, Sink: TreeSink<Handle = Handle> + Drop> TreeBuilder<Handle, S
             failed: false,
             turns: 0,
         }
+    }
+
+    /// A builder of a fragment in this context, that took no token yet (HTML standard, section 13.4, "Parsing HTML
+    /// fragments"). The form, where there is one, is the form element. The root is made: an `html` without
+    /// attributes, the document's last child and the one open element; and the insertion mode is reset by the
+    /// context.
+    ///
+    /// Where memory is refused it answers `Memory`, and the sink is let go.
+    pub fn new_for_fragment(
+        alloc: Global,
+        sink: Sink,
+        context_elem: Handle,
+        form_elem: Option<Handle>,
+        opts: TreeBuilderOpts,
+    ) -> Result<TreeBuilder<Handle, Sink>, BuildFault>
+        requires context { IsElement (Sink.sees sink).forest (Sink.node context_elem) }
+        requires form { MatchOption form_elem (Unit {0}) (λ form. IsElement (Sink.sees sink).forest (Sink.node form)) }
+        ensures first { IfOk result (λ builder. building Sink.sees Sink.node builder ≡ first_fragment Sink.choices (Sink.sees sink) (Sink.node context_elem) (option_map (λ form. Sink.node form) form_elem) opts) }
+        ensures last { IfOk result (λ builder. children_of (building Sink.sees Sink.node builder).view.world.forest (Sink.sees sink).forest.document ≡ children_of (Sink.sees sink).forest (Sink.sees sink).forest.document ++ ChildNode (Sink.choices.fresh (Sink.sees sink).forest) ∷ []) }
+        ensures memory { IfErr result (λ fault. fault ≡ BuildFault.Memory) }
+    {
+        let _document = sink.get_document();
+        let mut sink = sink;
+        let state = fragment_state(&mut sink, alloc, context_elem, form_elem, opts)?;
+        Ok(TreeBuilder {
+            sink,
+            state,
+            ended: false,
+            failed: false,
+            turns: 0,
+        })
     }
 
     /// Takes a token that began in this line.

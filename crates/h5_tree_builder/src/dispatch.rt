@@ -18,13 +18,16 @@ use h5_rules_tables::{
     step_in_caption, step_in_cell, step_in_column_group, step_in_row, step_in_table,
     step_in_table_body, step_in_table_text,
 };
+use h5_rules_templates::{
+    step_after_after_frameset, step_after_frameset, step_in_frameset, step_in_template,
+};
 use h5_rules_text::step_text_mode;
 use h5_state::{State, Turn, current_mode, set_mode, tell_error, unexpected};
 use h5_token::{TagKind, TokenSinkResult};
 use h5_types::{InsertionMode, ProcessResult, Token};
 use std::alloc::AllocError;
 
-// One turn, by the rule of the mode. In a mode of which no rule is written so far, a token is ignored.
+// One turn, by the rule of the mode.
 fn step<S: TreeSink>(sink: &mut S, state: &mut State<S::Handle>, token: Token) -> Turn<S::Handle>
     requires ready { IsReady S.TreeSink sink.old state.old }
     requires text { HasText (turn_text token) }
@@ -48,10 +51,10 @@ fn step<S: TreeSink>(sink: &mut S, state: &mut State<S::Handle>, token: Token) -
         InsertionMode::InCell => step_in_cell(sink, state, token),
         InsertionMode::AfterBody => step_after_body(sink, state, token),
         InsertionMode::AfterAfterBody => step_after_after_body(sink, state, token),
-        _ => {
-            unexpected(sink, state, &token);
-            Ok(ProcessResult::Done)
-        }
+        InsertionMode::InTemplate => step_in_template(sink, state, token),
+        InsertionMode::InFrameset => step_in_frameset(sink, state, token),
+        InsertionMode::AfterFrameset => step_after_frameset(sink, state, token),
+        InsertionMode::AfterAfterFrameset => step_after_after_frameset(sink, state, token),
     }
 }
 

@@ -9,6 +9,7 @@ mod doctype;
 mod end;
 mod first;
 mod foreign;
+mod fragment;
 mod open_elems;
 mod process_token;
 mod refusal;

@@ -7,3 +7,9 @@ in_body_start_html-requires g c = record {
   sound = c.requires.sound;
   some = ready_open (world_of g.S.TreeSink c.args.sink.now c.args.state.now) c.requires.ready;
 }
+
+pub in_head_start_tag-requires : goal.in_head_start_tag-requires
+in_head_start_tag-requires g c = record {
+  sound = c.requires.sound;
+  some = ready_open (world_of g.S.TreeSink c.args.sink.now c.args.state.now) c.requires.ready;
+}

@@ -1,5 +1,5 @@
 use Rattle.std.proofs.Common.{refl, sym, ◌∙◌}
-use Rattle.h5_types.specs.declared.modes.InsertionMode.TheVariants.{AfterAfterBody, AfterBody, AfterHead, BeforeHead, InBody, InCaption, InCell, InColumnGroup, InHead, InHeadNoscript, InRow, InTable, InTableBody, InTableText, Text}
+use Rattle.h5_types.specs.declared.modes.InsertionMode.TheVariants.{AfterAfterBody, AfterBody, AfterHead, BeforeHead, InBody, InCaption, InCell, InColumnGroup, InHead, InHeadNoscript, InRow, InTable, InTableBody, InTableText, InTemplate, InFrameset, AfterFrameset, AfterAfterFrameset, Text}
 use Rattle.h5_meaning.proofs.FitsLaws.{enough_open}
 use Rattle.h5_tree_builder.proofs.ChainLaws.{fits_in_mode, ready_in_mode}
 use Rattle.h5_tree_builder.proofs.dispatch.step.Goals as goal
@@ -51,3 +51,15 @@ step_after_body-requires-clause-open g c = record { sound = c.requires.ready.sou
 
 pub step_after_after_body-requires-clause-open : goal.step_after_after_body-requires-clause-open
 step_after_after_body-requires-clause-open g c = record { sound = c.requires.ready.sound; some = enough_open _ AfterAfterBody (sym c.current_mode.ensures ∙ c.in-AfterAfterBody.is) refl c.requires.ready.fits }
+
+pub step_in_template-requires-clause-ready : goal.step_in_template-requires-clause-ready
+step_in_template-requires-clause-ready g c = ready_in_mode _ InTemplate (sym c.current_mode.ensures ∙ c.in-InTemplate.is) refl c.requires.ready.sound.sound c.requires.ready.fits
+
+pub step_in_frameset-requires-clause-open : goal.step_in_frameset-requires-clause-open
+step_in_frameset-requires-clause-open g c = record { sound = c.requires.ready.sound; some = enough_open _ InFrameset (sym c.current_mode.ensures ∙ c.in-InFrameset.is) refl c.requires.ready.fits }
+
+pub step_after_frameset-requires-clause-open : goal.step_after_frameset-requires-clause-open
+step_after_frameset-requires-clause-open g c = record { sound = c.requires.ready.sound; some = enough_open _ AfterFrameset (sym c.current_mode.ensures ∙ c.in-AfterFrameset.is) refl c.requires.ready.fits }
+
+pub step_after_after_frameset-requires-clause-open : goal.step_after_after_frameset-requires-clause-open
+step_after_after_frameset-requires-clause-open g c = record { sound = c.requires.ready.sound; some = enough_open _ AfterAfterFrameset (sym c.current_mode.ensures ∙ c.in-AfterAfterFrameset.is) refl c.requires.ready.fits }

@@ -1,0 +1,98 @@
+//! The mode "after frameset" (HTML standard, section 13.2.6.4.21).
+ghost use Rattle.h5_types.specs.TurnText.{HasText, turn_text};
+ghost use Rattle.h5_meaning.specs.AfterFrameset.{after_frameset, after_frameset_end_html, after_frameset_start, after_frameset_tag};
+ghost use Rattle.h5_meaning.specs.ByName.{by_name, ignored_tag};
+ghost use Rattle.h5_state.specs.Steps.{IsOpen, IsSound};
+ghost use Rattle.h5_state.specs.Turn.{TakesTag, TakesToken};
+
+use h5_interface::TreeSink;
+use h5_names::KnownName;
+use h5_rules_shared::in_body_start_html;
+use h5_rules_text::in_head_start_tag;
+use h5_state::{State, Turn, append_comment, append_text, set_mode, unexpected, unexpected_tag};
+use h5_token::{Tag, TagKind};
+use h5_types::{InsertionMode, ProcessResult, SplitStatus, Token};
+
+/// Start tags, by their names, here and in the mode after this one.
+#[tactic(auto, unfolding(h5_meaning::specs::AfterFrameset::after_frameset_start))]
+pub(crate) fn after_frameset_start_tag<S: TreeSink>(
+    sink: &mut S,
+    state: &mut State<S::Handle>,
+    tag: Tag,
+) -> Turn<S::Handle>
+    requires { IsOpen S.TreeSink sink.old state.old }
+    ensures { TakesTag S.TreeSink (by_name after_frameset_start ignored_tag) tag sink.old state.old sink.new state.new result }
+{
+    if tag.name.is(KnownName::Html) {
+        in_body_start_html(sink, state, tag)
+    } else if tag.name.is(KnownName::Noframes) {
+        in_head_start_tag(sink, state, tag)
+    } else {
+        unexpected_tag(sink, state, &tag);
+        Ok(ProcessResult::Done)
+    }
+}
+
+// An end tag `html`.
+fn after_frameset_end_html<S: TreeSink>(
+    sink: &mut S,
+    state: &mut State<S::Handle>,
+    tag: Tag,
+) -> Turn<S::Handle>
+    requires { IsSound S.TreeSink sink.old state.old }
+    ensures { TakesTag S.TreeSink after_frameset_end_html tag sink.old state.old sink.new state.new result }
+{
+    let _ = tag;
+    set_mode(sink, state, InsertionMode::AfterAfterFrameset);
+    Ok(ProcessResult::Done)
+}
+
+#[tactic(auto, unfolding(h5_meaning::specs::AfterFrameset::after_frameset_tag, h5_meaning::specs::AfterFrameset::after_frameset_end))]
+fn after_frameset_tag<S: TreeSink>(
+    sink: &mut S,
+    state: &mut State<S::Handle>,
+    tag: Tag,
+) -> Turn<S::Handle>
+    requires { IsOpen S.TreeSink sink.old state.old }
+    ensures { TakesTag S.TreeSink after_frameset_tag tag sink.old state.old sink.new state.new result }
+{
+    match tag.kind {
+        TagKind::StartTag => after_frameset_start_tag(sink, state, tag),
+        TagKind::EndTag => {
+            if tag.name.is(KnownName::Html) {
+                after_frameset_end_html(sink, state, tag)
+            } else {
+                unexpected_tag(sink, state, &tag);
+                Ok(ProcessResult::Done)
+            }
+        }
+    }
+}
+
+/// A turn after a frameset.
+pub fn step_after_frameset<S: TreeSink>(
+    sink: &mut S,
+    state: &mut State<S::Handle>,
+    token: Token,
+) -> Turn<S::Handle>
+    requires open { IsOpen S.TreeSink sink.old state.old }
+    requires text { HasText (turn_text token) }
+    ensures { TakesToken S.TreeSink after_frameset token sink.old state.old sink.new state.new result }
+{
+    match token {
+        Token::Tag(tag) => after_frameset_tag(sink, state, tag),
+        Token::Comment(text) => {
+            append_comment(sink, state, text)?;
+            Ok(ProcessResult::Done)
+        }
+        Token::Characters(SplitStatus::Whitespace, text) => {
+            append_text(sink, state, text)?;
+            Ok(ProcessResult::Done)
+        }
+        Token::Eof => Ok(ProcessResult::Done),
+        other => {
+            unexpected(sink, state, &other);
+            Ok(ProcessResult::Done)
+        }
+    }
+}

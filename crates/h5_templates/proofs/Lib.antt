@@ -1,0 +1,3 @@
+pub mod FramesetLaws
+pub mod PlaceLaws
+pub mod ShadowLaws

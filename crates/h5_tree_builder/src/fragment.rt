@@ -1,0 +1,127 @@
+//! The state of a builder of a fragment that took nothing yet, and how its text is read (HTML standard, section 13.4,
+//! "Parsing HTML fragments").
+ghost use Rattle.std.specs.Prelude.{◌≡◌, IfOk, MatchOption, option_map, reverse};
+ghost use Rattle.h5_interface.specs.Forest.{IsElement, IsForest};
+ghost use Rattle.h5_tag_sets.specs.TagSets.{is_one_of};
+ghost use Rattle.h5_state.specs.Steps.{IsSound, errors_of, world_of};
+ghost use Rattle.h5_tree_builder.specs.Fragment.{context_modes, context_world, fragment_world, rawtext_context_names, rcdata_context_names, state_in_context, state_of_local};
+
+use super::first::first_state;
+use h5_interface::TreeSink;
+use h5_names::{KnownName, LocalName, QualName};
+use h5_rules_shared::is_any_of;
+use h5_state::{State, create_root, reset_insertion_mode, set_mode};
+use h5_tag_sets::is_html_known;
+use h5_token::states::{RawKind, State as ReaderState};
+use h5_types::{InsertionMode, TreeBuilderOpts};
+use std::alloc::{AllocError, Global};
+
+fn context_modes(alloc: Global, name: &QualName) -> Result<Vec<InsertionMode>, AllocError>
+    ensures { IfOk result (λ modes. reverse modes.items ≡ context_modes name.now) }
+{
+    let mut modes = Vec::new(alloc);
+    if is_html_known(name, KnownName::Template) {
+        modes.push(InsertionMode::InTemplate)?;
+    }
+    Ok(modes)
+}
+
+// Nothing is open, in this context; where it is a template, "in template" is its template insertion mode.
+#[tactic(auto, unfolding(h5_state::specs::View::world))]
+fn context_state<S: TreeSink>(
+    sink: &S,
+    alloc: Global,
+    context: S::Handle,
+    form: Option<S::Handle>,
+    opts: TreeBuilderOpts,
+) -> Result<State<S::Handle>, AllocError>
+    requires is_forest { IsForest (S.sees sink.now).forest }
+    requires context { IsElement (S.sees sink.now).forest (S.node context) }
+    requires form { MatchOption form (Unit {0}) (λ form. IsElement (S.sees sink.now).forest (S.node form)) }
+    ensures world { IfOk result (λ state. world_of S.TreeSink sink.now state ≡ context_world (S.sees sink.now) (S.node context) (option_map (λ handle. S.node handle) form) opts) }
+    ensures sound { IfOk result (λ state. IsSound S.TreeSink sink.now state) }
+{
+    let template_modes = context_modes(alloc, sink.elem_name(&context))?;
+    let mut state = first_state(sink, alloc, opts);
+    state.template_modes = template_modes;
+    state.form_elem = form;
+    state.context_elem = Some(context);
+    Ok(state)
+}
+
+/// The state of a builder of a fragment: the root is made, the document's last child, and is the one open element, and
+/// the insertion mode is reset.
+pub fn fragment_state<S: TreeSink>(
+    sink: &mut S,
+    alloc: Global,
+    context: S::Handle,
+    form: Option<S::Handle>,
+    opts: TreeBuilderOpts,
+) -> Result<State<S::Handle>, AllocError>
+    requires is_forest { IsForest (S.sees sink.old).forest }
+    requires context { IsElement (S.sees sink.old).forest (S.node context) }
+    requires form { MatchOption form (Unit {0}) (λ form. IsElement (S.sees sink.old).forest (S.node form)) }
+    ensures world { IfOk result (λ state. world_of S.TreeSink sink.new state ≡ fragment_world S.choices (S.sees sink.old) (S.node context) (option_map (λ handle. S.node handle) form) opts) }
+    ensures quiet { errors_of S.TreeSink sink.new ≡ errors_of S.TreeSink sink.old }
+    ensures sound { IfOk result (λ state. IsSound S.TreeSink sink.new state) }
+{
+    let mut state = context_state(sink, alloc, context, form, opts)?;
+    create_root(sink, &mut state, Vec::new(alloc))?;
+    let mode = reset_insertion_mode(sink, &state);
+    set_mode(sink, &mut state, mode);
+    Ok(state)
+}
+
+#[tactic(auto, unfolding(crate::specs::Fragment::rcdata_context_names))]
+fn is_rcdata_context(name: &LocalName) -> bool
+    ensures { result ≡ is_one_of rcdata_context_names name.now }
+{
+    is_any_of(name, &[KnownName::Title, KnownName::Textarea])
+}
+
+#[tactic(auto, unfolding(crate::specs::Fragment::rawtext_context_names))]
+fn is_rawtext_context(name: &LocalName) -> bool
+    ensures { result ≡ is_one_of rawtext_context_names name.now }
+{
+    is_any_of(
+        name,
+        &[
+            KnownName::Style,
+            KnownName::Xmp,
+            KnownName::Iframe,
+            KnownName::Noembed,
+            KnownName::Noframes,
+        ],
+    )
+}
+
+#[tactic(auto, unfolding(crate::specs::Fragment::state_of_local))]
+fn state_of_local(name: &LocalName, scripting: bool) -> ReaderState
+    ensures { result ≡ state_of_local scripting name.now }
+{
+    if is_rcdata_context(name) {
+        ReaderState::RawData(RawKind::Rcdata)
+    } else if is_rawtext_context(name) {
+        ReaderState::RawData(RawKind::Rawtext)
+    } else if name.is(KnownName::Script) {
+        ReaderState::RawData(RawKind::ScriptData)
+    } else if name.is(KnownName::Noscript) && scripting {
+        ReaderState::RawData(RawKind::Rawtext)
+    } else if name.is(KnownName::Plaintext) {
+        ReaderState::Plaintext
+    } else {
+        ReaderState::Data
+    }
+}
+
+/// How the text of a fragment is read, by the name of its context.
+#[tactic(auto, unfolding(h5_tag_sets::specs::TagSets::html_namespace))]
+pub fn state_in_context(name: &QualName, scripting: bool) -> ReaderState
+    ensures { result ≡ state_in_context scripting name.now }
+{
+    if name.ns.is_html() {
+        state_of_local(&name.local, scripting)
+    } else {
+        ReaderState::Data
+    }
+}
