@@ -2,6 +2,7 @@
 use super::parser::new_parser;
 use super::rows::{BODIES, FORMS, PAGES, TABLES, TEXTS, TREES, page_of};
 use super::running::prints;
+use super::templates::TEMPLATES;
 use h5_arena::Arena;
 use h5_serialize::{SerializeFault, SerializeOpts, serialize};
 use std::alloc::{AllocError, Global};
@@ -73,6 +74,16 @@ fn forms_in_single_characters(rt: HostRuntime) -> Result<(), Fail> {
 fn raw_texts_in_single_characters(rt: HostRuntime) -> Result<(), Fail> {
     let alloc = rt.alloc();
     for (page, html) in TEXTS {
+        let found = html_of_characters(alloc, page)?;
+        assert_eq!(rt; found.as_slice(), html.as_bytes());
+    }
+    Ok(())
+}
+
+#[test]
+fn templates_in_single_characters(rt: HostRuntime) -> Result<(), Fail> {
+    let alloc = rt.alloc();
+    for (page, html) in TEMPLATES {
         let found = html_of_characters(alloc, page)?;
         assert_eq!(rt; found.as_slice(), html.as_bytes());
     }

@@ -8,6 +8,8 @@ mod cuts;
 #[cfg(test)]
 mod deep;
 #[cfg(test)]
+mod fragments;
+#[cfg(test)]
 mod parser;
 #[cfg(test)]
 mod rows;
@@ -15,3 +17,5 @@ mod rows;
 mod running;
 #[cfg(test)]
 mod scripting;
+#[cfg(test)]
+mod templates;

@@ -1,0 +1,96 @@
+//! Fragments, in their contexts.
+use super::templates::start_with;
+use h5_arena::{Arena, Child, NodeId};
+use h5_interface::create_element;
+use h5_names::{LocalName, Namespace, QualName};
+use h5_token::Token;
+use h5_token::states::{RawKind, State};
+use h5_tree_builder::TreeBuilder;
+use h5_types::TreeBuilderOpts;
+use std::alloc::Global;
+use std::process::Abort;
+use std::test::Fail;
+
+type ArenaBuilder = TreeBuilder<NodeId, Arena>;
+
+// A builder of a fragment in this element of an arena.
+fn in_element(
+    alloc: Global,
+    arena: Arena,
+    element: NodeId,
+    rt: &impl Abort,
+) -> Result<ArenaBuilder, Fail> {
+    assert!(rt; arena.holds(element));
+    match arena.name(element) {
+        Some(_) => {
+            let opts = TreeBuilderOpts::default();
+            let builder = TreeBuilder::new_for_fragment(alloc, arena, element, None, opts)?;
+            Ok(builder)
+        }
+        None => Err("an element was made".into()),
+    }
+}
+
+// The same in an HTML element of this name.
+fn in_context(alloc: Global, context: &str, rt: &impl Abort) -> Result<ArenaBuilder, Fail> {
+    let mut arena = Arena::new(alloc)?;
+    let name = QualName::new(None, Namespace::html(), LocalName::new(alloc, context)?);
+    let element = create_element(&mut arena, name, Vec::new(alloc))?;
+    in_element(alloc, arena, element, rt)
+}
+
+// The children of the root, which is made after the document, the context, and its contents if it is a template.
+fn children_of_root(arena: &Arena, rt: &impl Abort) -> usize {
+    match arena.children(arena.document()) {
+        [Child::Node(root)] => {
+            assert!(rt; arena.holds(*root));
+            arena.children(*root).len()
+        }
+        _ => 0,
+    }
+}
+
+#[test]
+fn a_context_stands_for_the_root(rt: HostRuntime) -> Result<(), Fail> {
+    let alloc = rt.alloc();
+    let mut builder = in_context(alloc, "tr", &rt)?;
+    assert!(rt; builder.is_fragment());
+    let tokens = vec![in alloc;
+        (start_with(alloc, "td", Vec::new(alloc))?, 1),
+        (Token::CharacterTokens(String::from_str(alloc, "1")?), 1),
+    ]?;
+    builder.process_all(tokens)?;
+    assert_eq!(rt; children_of_root(&builder.sink, &rt), 1);
+    let mut builder = in_context(alloc, "td", &rt)?;
+    builder.process_token(start_with(alloc, "tr", Vec::new(alloc))?, 1)?;
+    assert_eq!(rt; children_of_root(&builder.sink, &rt), 0);
+    Ok(())
+}
+
+// Contexts, and how their text is read where scripts run.
+const STATES: [(&str, State); 8] = [
+    ("div", State::Data),
+    ("textarea", State::RawData(RawKind::Rcdata)),
+    ("title", State::RawData(RawKind::Rcdata)),
+    ("style", State::RawData(RawKind::Rawtext)),
+    ("noframes", State::RawData(RawKind::Rawtext)),
+    ("script", State::RawData(RawKind::ScriptData)),
+    ("noscript", State::RawData(RawKind::Rawtext)),
+    ("plaintext", State::Plaintext),
+];
+
+#[test]
+fn a_context_tells_how_its_text_is_read(rt: HostRuntime) -> Result<(), Fail> {
+    let alloc = rt.alloc();
+    for (context, state) in STATES {
+        let builder = in_context(alloc, context, &rt)?;
+        if builder.is_fragment() {
+            assert!(rt; builder.tokenizer_state_for_context_elem(true) == state);
+        }
+    }
+    let builder = in_context(alloc, "noscript", &rt)?;
+    if builder.is_fragment() {
+        assert!(rt; builder.tokenizer_state_for_context_elem(false) == State::Data);
+    }
+    Ok(())
+}

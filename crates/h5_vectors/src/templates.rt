@@ -1,0 +1,197 @@
+//! Templates, shadow roots and framesets.
+use super::cuts::html_of;
+use super::running::prints;
+use h5_arena::{Arena, NodeId};
+use h5_interface::TreeSink;
+use h5_names::{Attribute, LocalName, Namespace, QualName};
+use h5_token::{Tag, TagKind, Token};
+use h5_tree_builder::TreeBuilder;
+use h5_tree_calls::Attaching;
+use h5_types::TreeBuilderOpts;
+use std::alloc::{AllocError, Global};
+use std::test::Fail;
+
+/// Texts with templates and framesets, and the HTML of their pages.
+pub const TEMPLATES: [(&str, &str); 19] = [
+    (
+        "<template><tr><td>x</template>y",
+        "<html><head><template><tr><td>x</td></tr></template></head><body>y</body></html>",
+    ),
+    (
+        "<template><thead><tbody>",
+        "<html><head><template><thead></thead></template></head><body></body></html>",
+    ),
+    (
+        "<template><template></template><form><form>",
+        "<html><head><template><template></template><form><form></form></form></template></head><body></body></html>",
+    ),
+    (
+        "<div><template>a</div>b</template>c",
+        "<html><head></head><body><div><template>ab</template>c</div></body></html>",
+    ),
+    (
+        "<b><template><i>1</b>2</template>3",
+        "<html><head></head><body><b><template><i>12</i></template>3</b></body></html>",
+    ),
+    (
+        "<template><p>1<td>2</template>3",
+        "<html><head><template><p>12</p></template></head><body>3</body></html>",
+    ),
+    (
+        "<table><template>a</template><tr>",
+        "<html><head></head><body><table><template>a</template><tbody><tr></tr></tbody></table></body></html>",
+    ),
+    (
+        "<table><colgroup><template><col></template></table>",
+        "<html><head></head><body><table><colgroup><template><col></template></colgroup></table></body></html>",
+    ),
+    (
+        "<table><tr><td><template><td>1<tr></template>2",
+        "<html><head></head><body><table><tbody><tr><td><template><td>1</td></template>2</td></tr></tbody></table></body></html>",
+    ),
+    (
+        "<head></head><template>a</template><p>b",
+        "<html><head><template>a</template></head><body><p>b</p></body></html>",
+    ),
+    (
+        "</template>a</template>",
+        "<html><head></head><body>a</body></html>",
+    ),
+    (
+        "<div><template shadowrootmode=open>",
+        "<html><head></head><body><div><template shadowrootmode=\"open\"></template></div></body></html>",
+    ),
+    (
+        "<p><frameset><frame></frameset>",
+        "<html><head></head><frameset><frame></frameset></html>",
+    ),
+    (
+        "<p>x<frameset>",
+        "<html><head></head><body><p>x</p></body></html>",
+    ),
+    (
+        "<frameset> a<frame/><frameset></frameset><p></frameset> b</html> c<!--d-->",
+        "<html><head></head><frameset> <frame><frameset></frameset></frameset>  </html><!--d-->",
+    ),
+    (
+        "<frameset></frameset><noframes><p></noframes>",
+        "<html><head></head><frameset></frameset><noframes><p></noframes></html>",
+    ),
+    (
+        "<head></head><frameset><html a=b>",
+        "<html a=\"b\"><head></head><frameset></frameset></html>",
+    ),
+    (
+        "<template><frameset><frame></template>a",
+        "<html><head><template></template></head><body>a</body></html>",
+    ),
+    (
+        "<template><template><p>1</template><b>2</template><i>3",
+        "<html><head><template><template><p>1</p></template><b>2</b></template></head><body><i>3</i></body></html>",
+    ),
+];
+
+#[test]
+fn pages_of_texts_with_templates(rt: HostRuntime) -> Result<(), Fail> {
+    for (input, output) in TEMPLATES {
+        prints(&rt, rt.alloc(), "html", input, output)?;
+    }
+    Ok(())
+}
+
+#[test]
+fn a_template_is_printed_with_its_contents(rt: HostRuntime) -> Result<(), Fail> {
+    prints(
+        &rt,
+        rt.alloc(),
+        "tree",
+        "<template><b id=x>y</template>",
+        "<html>\n  <head>\n    <template>\n      content\n        <b>\n          id=\"x\"\n          \"y\"\n  <body>\nquirks: Quirks\n",
+    )?;
+    prints(
+        &rt,
+        rt.alloc(),
+        "tokens",
+        "S frameset\nZ\n",
+        "<html>\n  <head>\n  <frameset>\nquirks: Quirks\n",
+    )?;
+    Ok(())
+}
+
+/// A start tag of this name, with these attributes.
+pub fn start_with(alloc: Global, name: &str, attrs: Vec<Attribute>) -> Result<Token, AllocError> {
+    Ok(Token::TagToken(Tag {
+        kind: TagKind::StartTag,
+        name: LocalName::new(alloc, name)?,
+        self_closing: false,
+        attrs,
+        had_duplicate_attributes: false,
+    }))
+}
+
+#[test]
+fn templates_in_each_other_are_closed_one_a_turn(rt: HostRuntime) -> Result<(), Fail> {
+    let alloc = rt.alloc();
+    let mut builder: TreeBuilder<NodeId, Arena> = TreeBuilder::new(
+        alloc,
+        Arena::new(alloc)?,
+        TreeBuilderOpts::default(),
+    );
+    for _ in 0..1_000 {
+        builder.process_token(start_with(alloc, "template", Vec::new(alloc))?, 1)?;
+    }
+    builder.process_token(Token::EOFToken, 1)?;
+    assert_eq!(rt; builder.turns(), 1_003);
+    Ok(())
+}
+
+fn open_shadow_mode(alloc: Global) -> Result<Vec<Attribute>, AllocError> {
+    let local = LocalName::new(alloc, "shadowrootmode")?;
+    let name = QualName::new(None, Namespace::none(), local);
+    let value = String::from_str(alloc, "open")?;
+    let mut attrs = Vec::new(alloc);
+    attrs.push(Attribute { name, value })?;
+    Ok(attrs)
+}
+
+fn end_of(alloc: Global, name: &str) -> Result<Token, AllocError> {
+    Ok(Token::TagToken(Tag {
+        kind: TagKind::EndTag,
+        name: LocalName::new(alloc, name)?,
+        self_closing: false,
+        attrs: Vec::new(alloc),
+        had_duplicate_attributes: false,
+    }))
+}
+
+// The first template of an arena, by the order in which nodes were made.
+fn first_template(arena: &Arena) -> Option<NodeId> {
+    for place in 0..arena.len() {
+        let node = arena.id(place)?;
+        if arena.contents(node).is_some() {
+            return Some(node);
+        }
+    }
+    None
+}
+
+#[test]
+fn a_sink_may_say_that_it_attached_a_shadow_root(rt: HostRuntime) -> Result<(), Fail> {
+    let alloc = rt.alloc();
+    let sink = Attaching::new(alloc)?;
+    let mut builder = TreeBuilder::new(alloc, sink, TreeBuilderOpts::default());
+    builder.process_token(start_with(alloc, "div", Vec::new(alloc))?, 1)?;
+    let template = start_with(alloc, "template", open_shadow_mode(alloc)?)?;
+    builder.process_token(template, 1)?;
+    builder.process_token(Token::CharacterTokens(String::from_str(alloc, "x")?), 1)?;
+    builder.process_token(end_of(alloc, "template")?, 1)?;
+    builder.process_token(Token::CharacterTokens(String::from_str(alloc, "y")?), 1)?;
+    let arena = builder.into_sink().finish();
+    let html = html_of(alloc, &arena)?;
+    let page = "<html><head></head><body><div>y</div></body></html>";
+    assert_eq!(rt; html.as_slice(), page.as_bytes());
+    let template = first_template(&arena).ok_or("a template was made")?;
+    assert!(rt; arena.holds(template));
+    assert!(rt; arena.parent(template).is_none());
+    Ok(())
+}
