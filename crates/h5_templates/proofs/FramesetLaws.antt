@@ -1,9 +1,8 @@
--- The element below the current node, and the body, as they are kept and as they are seen.
-use Rattle.std.proofs.Common.{◌≡◌, ℕ, ◌+◌, ◌-◌, ◌<◌, ◌≤◌, suc, false, List, [], ◌∷◌, ◌++◌, length, map, reverse, take, get_or, Option, None, Some, codes, refl, ap, sym, ◌∙◌, arith, length-append}
+-- The element below the current node, and the root alone, as they are kept and as they are seen.
+use Rattle.std.proofs.Common.{◌≡◌, ℕ, ◌-◌, ◌<◌, ◌≤◌, suc, false, List, [], ◌∷◌, ◌++◌, length, map, reverse, take, get_or, codes, refl, ap, sym, ◌∙◌, arith}
 use Rattle.std.proofs.lemmas.List.{length-map, length-reverse, map-append, reverse-append}
 use Rattle.h5_names.specs.declared.qualified.QualName.{QualName}
 use Rattle.h5_interface.specs.Forest.{Forest}
-use Rattle.h5_stack.specs.Order.{second_from_last}
 use Rattle.h5_tag_sets.specs.TagSets.{is_html_named}
 use Rattle.h5_meaning.specs.Changes.{only_last}
 use Rattle.h5_meaning.specs.InFrameset.{is_in_frameset}
@@ -33,27 +32,6 @@ pub below_none : {H : Type 0} (node : H → ℕ) (f : Forest) (xs : List H) → 
 below_none node f [] h = refl
 below_none node f (a ∷ []) h = refl
 below_none node f (a ∷ b ∷ cs) h = absurd (omega arith)
-
--- the second from the root on
-second_more : (n : ℕ) (s : List ℕ) → 2 ≤ length s → second_from_last (n ∷ s) ≡ second_from_last s
-second_more n [] h = absurd (omega arith)
-second_more n (m ∷ []) h = absurd (omega arith)
-second_more n (m ∷ k ∷ s) h = refl
-
-second-append : (s : List ℕ) (m k : ℕ) → second_from_last (s ++ m ∷ k ∷ []) ≡ Some m
-second-append [] m k = refl
-second-append (n ∷ s) m k = second_more n (s ++ m ∷ k ∷ []) (omega (arith, length-append s (m ∷ k ∷ []))) ∙ second-append s m k
-
-pub second_at : {H : Type 0} (node : H → ℕ) (xs : List H) (x : H) → 1 < length xs → x ≡ get_or xs 1 x → second_from_last (reverse (map node xs)) ≡ Some (node x)
-second_at node [] x h e = absurd (omega arith)
-second_at node (a ∷ []) x h e = absurd (omega arith)
-second_at node (a ∷ b ∷ cs) x h e =
-    ap second_from_last (reverse-append (node a ∷ node b ∷ []) (map node cs)) ∙ second-append (reverse (map node cs)) (node b) (node a) ∙ ap (λ z. Some (node z)) (sym e)
-
-pub second_none : {H : Type 0} (node : H → ℕ) (xs : List H) → length xs ≤ 1 → second_from_last (reverse (map node xs)) ≡ None
-second_none node [] h = refl
-second_none node (a ∷ []) h = refl
-second_none node (a ∷ b ∷ cs) h = absurd (omega arith)
 
 -- the root alone
 only_last-append : (s : List ℕ) (n : ℕ) → only_last (s ++ n ∷ []) ≡ n ∷ []

@@ -1,6 +1,6 @@
 -- Where a template would stand, and what is open.
-use Rattle.std.proofs.Common.{◌≡◌, ℕ, Bool, nat_eq, nat_lt, List, [], ◌∷◌, length, map, reverse, refl, ap, sym, ◌∙◌, rules}
-use Rattle.std.proofs.lemmas.List.{length-map, length-reverse}
+use Rattle.std.proofs.Common.{◌≡◌, ℕ, nat_eq, nat_lt, List, [], ◌∷◌, length, map, reverse, refl, ap, sym, ◌∙◌, rules}
+use Rattle.std.proofs.lemmas.List.{length-map}
 use Rattle.h5_names.specs.declared.qualified.QualName.{QualName}
 use Rattle.h5_interface.specs.Forest.{Forest, IsNode}
 use Rattle.h5_meaning.specs.FormOwner.{stands_by}
@@ -8,6 +8,7 @@ use Rattle.h5_meaning.specs.InFrameset.{is_root_alone}
 use Rattle.h5_meaning.specs.Place.{IsPlaceIn, LastChild, Place, TableFosterParenting}
 use Rattle.h5_meaning.specs.Templates.{is_more_open}
 use Rattle.h5_meaning.proofs.SoundLaws.{element_is_node}
+use Rattle.h5_state.proofs.AttributeLaws.{open_length}
 
 -- it stands in a node, or beside one
 pub stands_by_node : (f : Forest) (p : Place) → IsPlaceIn f p → IsNode f (stands_by p)
@@ -22,7 +23,7 @@ alone (n ∷ m ∷ ns) = search rules
 
 pub alone_by_length : {H : Type 0} (name : ℕ → QualName) (node : H → ℕ) (xs : List H) → nat_eq (length xs) 1 ≡ is_root_alone (map name (reverse (map node xs)))
 alone_by_length name node xs =
-    ap (λ n. nat_eq n 1) (sym (length-map (reverse (map node xs)) name ∙ length-reverse (map node xs) ∙ length-map xs node)) ∙ alone (map name (reverse (map node xs)))
+    ap (λ n. nat_eq n 1) (sym (length-map (reverse (map node xs)) name ∙ open_length node xs)) ∙ alone (map name (reverse (map node xs)))
 
 -- more than one node
 pub more : (s : List ℕ) → nat_lt 1 (length s) ≡ is_more_open s
@@ -31,4 +32,4 @@ more (n ∷ []) = refl
 more (n ∷ m ∷ s) = search rules
 
 pub more_by_length : {H : Type 0} (node : H → ℕ) (xs : List H) → nat_lt 1 (length xs) ≡ is_more_open (reverse (map node xs))
-more_by_length node xs = ap (λ n. nat_lt 1 n) (sym (length-reverse (map node xs) ∙ length-map xs node)) ∙ more (reverse (map node xs))
+more_by_length node xs = ap (λ n. nat_lt 1 n) (sym (open_length node xs)) ∙ more (reverse (map node xs))

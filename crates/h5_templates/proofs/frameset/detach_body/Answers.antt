@@ -1,18 +1,16 @@
-use Rattle.std.proofs.Common.{◌≡◌, ◌<◌, ◌≤◌, length, Some, map, ap, sym, subst, refl, ◌∙◌, arith}
+use Rattle.std.proofs.Common.{◌≡◌, ℕ, Some, map, ap, sym, ◌∙◌, arith}
 use Rattle.std.proofs.lemmas.List.{length-map, length-reverse}
-use Rattle.h5_interface.specs.Forest.{ElementNode, FragmentNode, IsElement}
+use Rattle.h5_interface.specs.Forest.{ElementNode, Forest, FragmentNode, IsElement}
 use Rattle.h5_interface.specs.Seen.{CanDetach, changed}
 use Rattle.h5_interface.proofs.HangingLaws.{detach_rearranges}
 use Rattle.h5_interface.specs.Changes.{detach}
 use Rattle.h5_meaning.specs.Changes.{detach_known}
-use Rattle.h5_meaning.proofs.SoundLaws.{element_is_node, errors_or_not, rearranged_or_not}
-use Rattle.h5_interface.specs.Forest.{Forest}
-use Rattle.std.proofs.Common.{ℕ}
+use Rattle.h5_meaning.proofs.SoundLaws.{element_is_node, rearranged_or_not}
 use Rattle.h5_state.specs.View.{open_node, world}
 use Rattle.h5_state.proofs.PutLaws.{onok_then}
 use Rattle.h5_state.proofs.StackLaws.{element_at}
 use Rattle.h5_state.proofs.StepLaws.{sound_rearranged}
-use Rattle.h5_templates.proofs.FramesetLaws.{second_at, second_none}
+use Rattle.h5_state.proofs.AttributeLaws.{second_at, second_missing}
 use Rattle.h5_templates.proofs.frameset.detach_body.Goals as goal
 
 -- an element may be detached
@@ -55,4 +53,4 @@ pub returns-else-len-gt1-clause-done : goal.returns-else-len-gt1-clause-done
 unfolding world
 returns-else-len-gt1-clause-done g c =
     let old = g.S.TreeSink.sees c.args.sink.now in
-    ap (λ o. changed (detach_known o) old) (sym (second_none (open_node g.S.TreeSink.node) c.args.state.now.open_elems.items (omega (arith, c.if-len-gt1.false, c.len.ensures))))
+    ap (λ o. changed (detach_known o) old) (sym (second_missing (open_node g.S.TreeSink.node) c.args.state.now.open_elems.items (omega (arith, c.if-len-gt1.false, c.len.ensures))))

@@ -1,4 +1,4 @@
-use Rattle.std.proofs.Common.{◌≡◌, ◌<◌, length, codes, ap, sym, subst, ◌∙◌}
+use Rattle.std.proofs.Common.{◌<◌, length, codes, ap, sym, subst, ◌∙◌}
 use Rattle.h5_names.specs.AttributeText.{attribute_texts}
 use Rattle.h5_interface.specs.Seen.{attach}
 use Rattle.h5_meaning.specs.Changes.{insert_element, pop, with_forest}
