@@ -85,6 +85,8 @@ module _ (f : FormattingElement) (between clones : List ℕ) (clone at first blo
     form_name = k.form_name;
     apart = k.apart;
     context_node = k.context_node;
+    context_out = k.context_out;
+    context_no_head = k.context_no_head;
     listed = each_round (IsOfTag w.forest) (IsOfTag w.forest) f.node f.tag between clones clone w.formatting gives
         (r.own ∙ each_at (IsOfTag w.forest) r.newer r.older w.formatting f.node f.tag r.cut k.listed) k.listed;
     formatting = each_round _ _ f.node f.tag between clones clone w.formatting (λ n m t p e. p) (each_at _ r.newer r.older w.formatting f.node f.tag r.cut k.formatting) k.formatting;

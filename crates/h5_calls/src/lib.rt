@@ -6,6 +6,10 @@ mod commands;
 #[cfg(test)]
 mod constructs;
 #[cfg(test)]
+mod data;
+#[cfg(test)]
+mod encoding;
+#[cfg(test)]
 mod lines;
 #[cfg(test)]
 mod names;

@@ -1,17 +1,17 @@
 -- A builder that works takes what isn't refused in a text where it is in one, and works at the place behind it.
 use Rattle.std.proofs.Common.{◌≡◌, ◌≢◌, ℕ, true, false, List, refl, ap, sym, subst}
-use Rattle.h5_token.specs.Reply.{Continues, Reply, RunsScript, TurnsPlain, TurnsRaw}
+use Rattle.h5_token.specs.Reply.{Continues, Indicates, Reply, RunsScript, TurnsPlain, TurnsRaw}
 use Rattle.h5_token.specs.TokenText.{CommentIs, Characters, DoctypeIs, EndOfFile, NullCharacter, ParseErrorIs, TagIs, TokenText}
 use Rattle.h5_token.specs.declared.tag.TagKind.{TagKind}
 use Rattle.h5_token.specs.declared.tag.TagKind.TheVariants.{EndTag, StartTag}
 use Rattle.h5_interface.specs.SinkChoices.{SinkChoices}
 use Rattle.h5_types.specs.declared.modes.InsertionMode.{InsertionMode}
 use Rattle.h5_types.specs.declared.modes.InsertionMode.TheVariants.{Text}
-use Rattle.h5_stack.specs.FormattingNames.{AllFormatting}
 use Rattle.h5_meaning.specs.InTableText.{saved_mode}
 use Rattle.h5_meaning.specs.Run.{View, after_token, is_refused_in_text, refuses_in, reply_to, step, take_or_refuse, tell_or_refuse}
 use Rattle.h5_meaning.specs.Settle.{Settled}
-use Rattle.h5_meaning.proofs.ListedRunLaws.{listed_step}
+use Rattle.h5_meaning.specs.Sound.{Fitting}
+use Rattle.h5_meaning.proofs.FittingLaws.{step_fitting}
 use Rattle.h5_meaning.proofs.RunLaws.{is_taken}
 use Rattle.h5_meaning.proofs.TextReadLaws.{IsCalm, Leads, StepLeads, TagLeads, TokenLeads, mode_is_text, step_leads}
 use Rattle.h5_meaning.proofs.ToldLaws.{NoTextBehind, is_text}
@@ -25,7 +25,7 @@ pub works_at : (p q : Place) (v : View) → q.mode ≡ p.mode → IsWorking p v 
 works_at p q v e w = record {
   unfailed = w.unfailed;
   unended = w.unended;
-  listed = w.listed;
+  fitting = w.fitting;
   saved = w.saved;
   kinds = w.kinds;
   text = λ i. subst IsRaw (sym e) (w.text i);
@@ -57,6 +57,7 @@ leads_takes : (r : Reply) (m : InsertionMode) → Leads r m → refuses r ≡ fa
 leads_takes Continues m h = refl
 leads_takes (RunsScript node) m h = refl
 leads_takes TurnsPlain m h = refl
+leads_takes (Indicates encoding) m h = refl
 leads_takes (TurnsRaw kind) m h = refl
 leads_takes _ m h = absurd h
 
@@ -74,6 +75,7 @@ start_raw : (p : Place) (name : List ℕ) (r : Reply) (m : InsertionMode) → Le
 start_raw p name Continues m h e = absurd (text_no_text m h e)
 start_raw p name (RunsScript node) m h e = absurd (text_no_text m h e)
 start_raw p name TurnsPlain m h e = absurd (text_no_text m h e)
+start_raw p name (Indicates encoding) m h e = absurd (text_no_text m h e)
 start_raw p name (TurnsRaw kind) m h e = tt
 start_raw p name _ m h e = absurd h
 
@@ -101,12 +103,12 @@ pub record IsTaken (choices : SinkChoices) (p : Place) (t : TokenText) (v : View
 abbrev Works : Place → TokenText → Reply → View → Type 0
 Works p t r v = IsWorking (next_place p t r) v × (refuses r ≡ false)
 
-step_works : (p : Place) (t : TokenText) (v : View) (s : Settled) → IsWorking p v → AllFormatting s.world.formatting → StepLeads t v.world s → Works p t s.reply (record v { world = s.world })
+step_works : (p : Place) (t : TokenText) (v : View) (s : Settled) → IsWorking p v → Fitting s.world → StepLeads t v.world s → Works p t s.reply (record v { world = s.world })
 step_works p t v s w f l = (
   record {
     unfailed = w.unfailed;
     unended = w.unended;
-    listed = f;
+    fitting = f;
     saved = text_no_text (saved_mode s.world) l.behind.0;
     kinds = l.behind.1;
     text = token_raw p t v.world.mode s.world.mode s.reply l.leads w.text;
@@ -118,7 +120,7 @@ pub token_works : (choices : SinkChoices) (p : Place) (t : TokenText) (v : View)
 token_works choices p t v w n =
     let s = step choices t v.world in
     let taken = is_taken v t w.unfailed w.unended n in
-    let k = step_works p t v s w (listed_step choices t v.world w.listed) (step_leads choices t v.world (none_behind p v w) n) in
+    let k = step_works p t v s w (step_fitting choices t v.world w.fitting) (step_leads choices t v.world w.fitting.fits (none_behind p v w) n) in
     let all : Works p t (reply_to choices t v) (after_token choices t v) =
     subst (λ o. Works p t (tell_or_refuse choices t o v).reply (take_or_refuse choices t o v)) (sym taken) k in
     record { works = all.0; takes = all.1 }

@@ -7,10 +7,9 @@ use Rattle.h5_token.specs.declared.fault.BuildFault.{BuildFault}
 use Rattle.h5_token.specs.declared.fault.BuildFault.TheVariants.{AfterEnd, Failed, Memory, NotInText}
 use Rattle.h5_interface.specs.Seen.{Seen}
 use Rattle.h5_interface.specs.SinkChoices.{SinkChoices}
-use Rattle.h5_meaning.specs.Run.{View, after_all, after_token, refuses_in, reply_to, run}
+use Rattle.h5_meaning.specs.Run.{IsFitting, View, after_all, after_token, refuses_in, reply_to, run}
 use Rattle.h5_meaning.proofs.JoinLaws.{view_joins}
-use Rattle.h5_meaning.proofs.ListedLaws.{Listed}
-use Rattle.h5_meaning.proofs.ListedRunLaws.{listed_after}
+use Rattle.h5_meaning.proofs.FittingLaws.{token_fitting}
 use Rattle.h5_meaning.proofs.RunLaws.{takes_text, token_cut}
 use Rattle.h5_tokenizer.specs.End.{Closes, ClosesWith, Finishes, Takes, refuses, settle}
 use Rattle.h5_tokenizer.specs.Front.{Place}
@@ -36,7 +35,7 @@ step_works choices {p = p} {m = m} {xs = xs} {ys = rest} (switch_step mode e f) 
   record {
     unfailed = w.unfailed;
     unended = w.unended;
-    listed = w.listed;
+    fitting = w.fitting;
     saved = w.saved;
     kinds = w.kinds;
     text = λ i. absurd (raw_stays p.mode p.last (foreign m) xs rest mode f (w.text i));
@@ -86,7 +85,7 @@ reads_run choices p m xs ts n r =
 -- however a text is read by a builder that works, it means the same in the end
 same_reads : (choices : SinkChoices) {p : Place} {m : View} {xs : List ℕ} {ts us : List TokenText} {n o : View} → IsWorking p m → Reads choices p m xs ts n → Reads choices p m xs us o → n ≡ o
 same_reads choices w a b =
-    readings_agree (replies choices) (after choices) foreign (λ v. Listed v.world) (λ v t line h. listed_after choices t v h) (ended choices) (λ v t k l. refl) (λ v x y xs ys j k l h. token_cut choices x xs y ys v h) w.listed a b
+    readings_agree (replies choices) (after choices) foreign IsFitting (λ v t line h. token_fitting choices t v h) (ended choices) (λ v t k l. refl) (λ v x y xs ys j k l h. token_cut choices x xs y ys v h) (record { fitting = λ f e. w.fitting }) a b
 
 -- what `feed` did after readings
 module _ (choices : SinkChoices) (p0 : Place) (m0 : View) (xs0 : List ℕ) (p : Place) (m : View) (xs : List ℕ) (a : Advances choices p0 m0 xs0 p m xs) (w : IsWorking p m) where

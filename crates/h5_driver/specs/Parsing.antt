@@ -5,10 +5,10 @@ use Rattle.h5_token.specs.TokenText.{TokenText}
 use Rattle.h5_interface.specs.Seen.{Seen}
 use Rattle.h5_interface.specs.SinkChoices.{SinkChoices}
 use Rattle.h5_types.specs.declared.modes.InsertionMode.TheVariants.{Text}
-use Rattle.h5_stack.specs.FormattingNames.{AllFormatting}
 use Rattle.h5_fits.specs.Fits.{AllKinds}
 use Rattle.h5_meaning.specs.InTableText.{saved_mode}
 use Rattle.h5_meaning.specs.Run.{View, after_all, after_token, reply_to}
+use Rattle.h5_meaning.specs.Sound.{Fitting}
 use Rattle.h5_tree_builder.specs.Builder.{ended_view, is_foreign_in}
 use Rattle.h5_tree_builder.specs.Held.{Held, building}
 use Rattle.h5_tokenizer.specs.Front.{Place}
@@ -46,13 +46,13 @@ abbrev pub IsRaw : Mode → Type 0
 IsRaw (RawData kind) = Unit {0}
 IsRaw mode = ⊥
 
--- it takes the tokens that a reader hands on at this place. Its list of active formatting elements is of formatting
--- elements. It is in the mode "text", which refuses start tags, comments and nulls, only while the reader hands on none of
--- them; and no mode that it keeps to go back to is "text": neither the one that it left, nor one of a template
+-- it takes the tokens that a reader hands on at this place, and has what a builder keeps between tokens. It is in the mode
+-- "text", which refuses start tags, comments and nulls, only while the reader hands on none of them; and no mode that it
+-- keeps to go back to is "text": neither the one that it left, nor one of a template
 pub record IsWorking (p : Place) (v : View) : Type 0 where
   pub unfailed : v.failed ≡ false
   pub unended : v.ended ≡ false
-  pub listed : AllFormatting v.world.formatting
+  pub fitting : Fitting v.world
   pub saved : saved_mode v.world ≢ Text
   pub kinds : AllKinds v.world.template_modes
   pub text : v.world.mode ≡ Text → IsRaw p.mode

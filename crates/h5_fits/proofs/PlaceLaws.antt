@@ -53,7 +53,7 @@ body_place s InTableText ns h = absurd (cc)
 body_place s _ ns h = refl
 
 -- so a frame keeps all facts
-known_frame : (s : Situation) {old new : List Role} → Frame old new → Known s old → Known s new
+pub known_frame : (s : Situation) {old new : List Role} → Frame old new → Known s old → Known s new
 known_frame s {old = old} {new = new} f k = record {
   root = f.root k.root;
   modes = k.modes ∙ ap (λ c. c + context_templates s.context) (sym f.templates);

@@ -150,6 +150,8 @@ all_unlisted f s l n k = record {
   form_name = k.form_name;
   apart = k.apart;
   context_node = k.context_node;
+  context_out = k.context_out;
+  context_no_head = k.context_no_head;
   listed = each_without_entry (IsOfTag f) n l k.listed;
   formatting = each_without_entry (λ m t. IsTrue (is_one_of formatting_names t.name)) n l k.formatting;
 }
@@ -198,6 +200,8 @@ all_left f a r n some k = record {
   form_name = λ m e i. k.form_name m e (in_one_more m n a r i);
   apart = k.apart;
   context_node = k.context_node;
+  context_out = λ m e i. k.context_out m e (in_one_more m n a r i);
+  context_no_head = k.context_no_head;
   listed = k.listed;
   formatting = k.formatting;
 }

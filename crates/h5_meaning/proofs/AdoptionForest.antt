@@ -114,6 +114,8 @@ module _ {l : List Entry} {head form context : Option ℕ} where
     form_name = λ n e h. r.kinds n ∙ k.form_name n e h;
     apart = k.apart;
     context_node = λ n e. let h = k.context_node n e in (h.0, r.kinds n ∙ h.1);
+    context_out = k.context_out;
+    context_no_head = k.context_no_head;
     listed = each_more (IsOfTag f) (IsOfTag g) l (λ n t e. r.kinds n ∙ e) k.listed;
     formatting = k.formatting;
   }

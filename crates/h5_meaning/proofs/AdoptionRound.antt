@@ -630,6 +630,8 @@ module _ {name : List ℕ} {f : FormattingElement} {k : FurthestBlock} (choices 
       form_name = λ n e i. form_name n e (member n i);
       apart = round_refilled.apart;
       context_node = round_refilled.context_node;
+      context_out = λ n e i. context_out n e (member n i);
+      context_no_head = round_refilled.context_no_head;
       listed = new_listed;
       formatting = new_formatting;
     };
@@ -640,3 +642,7 @@ module _ {name : List ℕ} {f : FormattingElement} {k : FurthestBlock} (choices 
       form_name : (n : ℕ) → w.form ≡ Some n → IsIn n w.stack ⊎ IsIn n (own_clone ∷ clones_made.clones) → IsHtml new_forest (codes "form") n
       form_name n e (inl i) = round_refilled.form_name n e i
       form_name n e (inr i) = absurd (clone_not_there n i (element_is_node w.forest n (sound.form_node n e)))
+
+      context_out : (n : ℕ) → w.context ≡ Some n → ¬ (IsIn n w.stack ⊎ IsIn n (own_clone ∷ clones_made.clones))
+      context_out n e (inl i) = round_refilled.context_out n e i
+      context_out n e (inr i) = clone_not_there n i (element_is_node w.forest n (sound.context_node n e))

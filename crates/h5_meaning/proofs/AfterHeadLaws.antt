@@ -31,6 +31,7 @@ use Rattle.h5_meaning.specs.Changes.{insert_and_pop_element, insert_element, ins
 use Rattle.h5_meaning.specs.Formatting.{insert_marker}
 use Rattle.h5_meaning.specs.InHead.{in_head_else, in_head_start, in_head_start_tag}
 use Rattle.h5_meaning.specs.Place.{place}
+use Rattle.h5_meaning.specs.NamedEncoding.{named_encoding}
 use Rattle.h5_meaning.specs.Rows.{Change, Ending, EndsAs, InsertAndPopElement, InsertElement, InsertMarker, InsertScript, InsertTemplate, PushTemplateMode, Row, SaveMode, SetFramesetNotOk, SetMode, apply_all, next_mode}
 use Rattle.h5_meaning.specs.Shared.{head_start_names}
 use Rattle.h5_meaning.specs.Sound.{Fits, HasLists, IsReady, Sound, situation_of}
@@ -39,7 +40,7 @@ use Rattle.h5_meaning.specs.World.{World, names_of, root}
 use Rattle.h5_meaning.proofs.BodyRowLaws.{head_start_passes}
 use Rattle.h5_meaning.proofs.ByNameLaws.{holds_by_name, of_named}
 use Rattle.h5_meaning.proofs.FormattingLaws.{all_listed}
-use Rattle.h5_meaning.proofs.HeadContentLaws.{head_raw_plain, script_plain, title_plain}
+use Rattle.h5_meaning.proofs.HeadContentLaws.{head_raw_plain, script_plain, title_plain, indicates_next}
 use Rattle.h5_meaning.proofs.KeptLaws.{FitsAs, Kept, apply_append, as_before, fits_at, mode_after, mode_with}
 use Rattle.h5_meaning.proofs.ListsLaws.{NeedsOfAll, steady_changes}
 use Rattle.h5_meaning.proofs.NameLaws.{names-insert, names-insert_and_pop, names_pushed}
@@ -71,7 +72,7 @@ content_row tag w p =
     holds_by_name IsContentRow in_head_start (of_tag in_head_else) tag w (
       (λ q. absurd (apart_known Html tag.name refl p q)),
       (
-        (λ q. record { changes = puts_leaf tag.name tag.attrs tag.had_duplicate_attributes; ends = λ v. refl }),
+        (λ q. record { changes = puts_leaf tag.name tag.attrs tag.had_duplicate_attributes; ends = λ v. indicates_next (named_encoding tag.attrs) v }),
         (
           (λ q. record { changes = text (title_plain tag.name q); ends = λ v. refl }),
           (

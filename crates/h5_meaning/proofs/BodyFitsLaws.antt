@@ -7,14 +7,14 @@ use Rattle.h5_token.specs.TokenText.{TagText}
 use Rattle.h5_token.specs.declared.tag.TagKind.{TagKind}
 use Rattle.h5_token.specs.declared.tag.TagKind.TheVariants.{StartTag, EndTag}
 use Rattle.h5_interface.specs.SinkChoices.{SinkChoices}
-use Rattle.h5_tag_sets.specs.TagSets.{block_end_names, block_start_names, formatting_names, heading_names, is_default_scope, is_heading, is_html_named, is_list_item_scope, is_one_of}
+use Rattle.h5_tag_sets.specs.TagSets.{block_end_names, block_start_names, formatting_names, heading_names, is_default_scope, is_heading, is_html_named, is_list_item_scope, is_one_of, mathml_namespace, svg_namespace}
 use Rattle.h5_types.specs.TurnText.{CommentTurn, EofTurn, HasText, NullTurn, TagTurn, TextTurn, TurnText}
 use Rattle.h5_types.specs.declared.modes.InsertionMode.{InsertionMode}
 use Rattle.h5_types.specs.declared.modes.InsertionMode.TheVariants.{AfterBody, InBody, InTable, Text}
 use Rattle.h5_stack.specs.FormattingNames.{html_name}
 use Rattle.h5_stack.specs.Scope.{comes_before_special, cut_names, has_p_in_button_scope, has_template, in_scope, second_is}
 use Rattle.h5_fits.specs.Fits.{goes_by_body}
-use Rattle.h5_fits.specs.NamesFit.{NamesFit}
+use Rattle.h5_fits.specs.NamesFit.{NamesFit, is_html_element}
 use Rattle.h5_fits.specs.Roles.{BodyRole, CaptionRole, CellRole, ColgroupRole, FramesetRole, HeadRole, HtmlRole, PlainRole, Role, RowRole, SectionRole, TableRole, TemplateRole, is_table_part, role_of_local}
 use Rattle.h5_fits.specs.Root.{IsRootOpen}
 use Rattle.h5_fits.proofs.NamesBodyLaws.{MayEnd, names_after_body, names_in_body, names_other_end}
@@ -26,7 +26,7 @@ use Rattle.h5_meaning.specs.Changes.{generate_implied_end_except, insert_element
 use Rattle.h5_meaning.specs.Closing.{close_p_element_in_button_scope, pop_heading}
 use Rattle.h5_meaning.specs.AdoptionAgency.{handle_misnested_a_tags, handle_misnested_nobr_tags}
 use Rattle.h5_meaning.specs.Formatting.{reconstruct_active_formatting_elements}
-use Rattle.h5_meaning.specs.InBody.{no_template_mode, body_ends, body_in_scope, close_the_form, copies_option, description_names, form_in_scope, if_body_in_scope, in_body, in_body_end, in_body_end_block, in_body_end_br, in_body_end_description, in_body_end_form, in_body_end_formatting, in_body_end_heading, in_body_end_li, in_body_end_marked, in_body_end_option, in_body_end_other, in_body_end_p, in_body_ignored_starts, in_body_marked, in_body_ruby_bases, in_body_ruby_texts, in_body_start, in_body_start_a, in_body_start_block, in_body_start_body, in_body_start_button, in_body_start_form, in_body_start_formatting, in_body_start_heading, in_body_start_iframe, in_body_start_input, in_body_start_nobr, in_body_start_noembed, in_body_start_noscript, in_body_start_optgroup, in_body_start_option, in_body_start_other, in_body_start_plaintext, in_body_start_ruby, in_body_start_select, in_body_start_table, in_body_start_textarea, in_body_start_void, in_body_start_xmp, in_body_tag, is_quirks, named_in_scope, oldest_option, outside_names, unless_hidden}
+use Rattle.h5_meaning.specs.InBody.{body_ends, body_in_scope, close_the_form, copies_option, description_names, form_in_scope, if_body_in_scope, in_body, in_body_end, in_body_end_block, in_body_end_br, in_body_end_description, in_body_end_form, in_body_end_formatting, in_body_end_heading, in_body_end_li, in_body_end_marked, in_body_end_option, in_body_end_other, in_body_end_p, in_body_ignored_starts, in_body_marked, in_body_ruby_bases, in_body_ruby_texts, in_body_start, in_body_start_a, in_body_start_block, in_body_start_body, in_body_start_button, in_body_start_foreign, in_body_start_form, in_body_start_formatting, in_body_start_heading, in_body_start_iframe, in_body_start_input, in_body_start_nobr, in_body_start_noembed, in_body_start_noscript, in_body_start_optgroup, in_body_start_option, in_body_start_other, in_body_start_plaintext, in_body_start_ruby, in_body_start_select, in_body_start_table, in_body_start_textarea, in_body_start_void, in_body_start_xmp, in_body_tag, is_quirks, named_in_scope, no_template_mode, oldest_option, outside_names, unless_hidden}
 use Rattle.h5_meaning.specs.Rows.{AddAttrsToSecond, Again, AgainBy, Answers, Change, ClosePElement, ClosePElementInButtonScope, Ending, GenerateImpliedEnd, GenerateImpliedEndExcept, InsertElement, IsAcknowledged, IsDone, PopUntilHeading, PopUntilNamed, ReconstructActiveFormattingElements, Row, SetFramesetNotOk, SetMode, apply_all, choose, errs, ignored, next_mode, row, row_if}
 use Rattle.h5_meaning.specs.Shared.{current_is, in_body_text, inserts, is_context, is_type_hidden, table_structure_names, head_start_names}
 use Rattle.h5_meaning.specs.Sound.{situation_of}
@@ -45,7 +45,7 @@ use Rattle.h5_meaning.proofs.ReadyLaws.{a_formatting, nobr_formatting}
 use Rattle.h5_meaning.proofs.SituationLaws.{KeepsSituation, situation_insert, situation_tree}
 use Rattle.h5_meaning.proofs.TreeLaws.{tree_implied_except, tree_until, tree_then}
 use Rattle.h5_meaning.proofs.BodyRowLaws.{EndsAtOnce, IsBodyRow, row_end_by, row_start}
-use Rattle.h5_meaning.proofs.BodyInLaws.{in_end_description, in_end_form, in_end_li, in_end_marked, in_end_option, in_start_button, in_start_description, in_start_form, in_start_hr, in_start_image, in_start_input, in_start_item, in_start_marked, in_start_optgroup, in_start_option, in_start_preformatted, in_start_ruby_base, in_start_ruby_text, in_start_select}
+use Rattle.h5_meaning.proofs.BodyInLaws.{in_end_description, in_end_form, in_end_li, in_end_marked, in_end_option, in_start_button, in_start_description, in_start_foreign, in_start_form, in_start_hr, in_start_image, in_start_input, in_start_item, in_start_marked, in_start_optgroup, in_start_option, in_start_preformatted, in_start_ruby_base, in_start_ruby_text, in_start_select}
 use Rattle.h5_names.specs.AttributeText.{AttributeText}
 use Rattle.h5_meaning.specs.InHead.{template_eof}
 use Rattle.h5_meaning.proofs.FramesetRowLaws.{kept_body_frameset}
@@ -54,6 +54,8 @@ use Rattle.h5_meaning.proofs.TemplateRowLaws.{kept_end_template, kept_template_e
 use Rattle.h5_meaning.proofs.TextBeginsLaws.{text_begins}
 use Rattle.h5_meaning.proofs.CloseInLaws.{in_ignore_lf}
 use Rattle.h5_meaning.specs.Reset.{reset_mode}
+use Rattle.h5_meaning.specs.Foreign.{foreign_name}
+use Rattle.h5_meaning.proofs.ForeignLaws.{mathml_no_html, svg_no_html}
 
 -- NAMES
 
@@ -67,7 +69,7 @@ unfolding in_body_start in_body_ignored_starts table_structure_names outside_nam
 other_start_plain l n = at (role_of_local l) (origin l)
   where
     listed : is_one_of in_body_ignored_starts l ≡ false
-    listed = n.1.1.1.1.1.1.1.1.1.1.1.1.1.1.1.1.1.1.1.1.1.1.1.1.1.1.1.1.1.1.1.1.0
+    listed = n.1.1.1.1.1.1.1.1.1.1.1.1.1.1.1.1.1.1.1.1.1.1.1.1.1.1.1.1.1.1.1.1.1.1.0
 
     starts : List ℕ → Bool
     starts = is_one_of in_body_ignored_starts
@@ -358,6 +360,10 @@ module _ (choices : SinkChoices) (w : World) (steady : IsSteady w) (m : Insertio
   kept_start_ruby_text tag p =
       in_mode (in_body_start_ruby (GenerateImpliedEndExcept (codes "rtc")) tag w) (still (named_in_scope (codes "ruby") w) _ _ (λ v. refl) (λ v. refl)) (λ r. in_start_ruby_text choices m goes w r tag p)
 
+  kept_start_foreign : (namespace : List ℕ) (tag : TagText) → is_html_element (foreign_name namespace tag.name) ≡ false → KeptIn (in_body_start_foreign namespace tag w)
+  kept_start_foreign namespace tag foreign =
+      in_mode (in_body_start_foreign namespace tag w) (still tag.self_closing _ _ (λ v. refl) (λ v. refl)) (λ r. in_start_foreign choices m goes w r tag namespace foreign)
+
   kept_end_form : (tag : TagText) → KeptIn (in_body_end_form tag w)
   unfolding in_body_end_form close_the_form
   kept_end_form tag = in_mode (in_body_end_form tag w) one (λ r. in_end_form choices m goes w r tag)
@@ -491,7 +497,7 @@ module _ (choices : SinkChoices) (w : World) (steady : IsSteady w) (m : Insertio
                                                                 (λ p. kept_start_ruby_base tag p),
                                                                 (
                                                                   (λ p. kept_start_ruby_text tag p),
-                                                                  ((λ p h. h), tt),
+                                                                  ((λ p. kept_start_foreign mathml_namespace tag (mathml_no_html tag.name)), ((λ p. kept_start_foreign svg_namespace tag (svg_no_html tag.name)), ((λ p h. h), tt))),
                                                                 ),
                                                               ),
                                                             ),

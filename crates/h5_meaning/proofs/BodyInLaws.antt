@@ -8,8 +8,8 @@ use Rattle.h5_interface.specs.SinkChoices.{SinkChoices}
 use Rattle.h5_tag_sets.specs.TagSets.{implied_names, is_default_scope, is_html_named, is_implied, is_list_item_scope, is_one_of}
 use Rattle.h5_types.specs.declared.modes.InsertionMode.{InsertionMode}
 use Rattle.h5_meaning.specs.Closing.{close_list_item, close_p_element_in_button_scope, generate_implied_end, generate_implied_end_in_select}
-use Rattle.h5_meaning.proofs.ReadyInLaws.{ReadyIn, in_close_named, in_close_p_in_scope, in_frameset_off, in_implied, in_insert, in_leaf, in_reconstruct}
-use Rattle.h5_meaning.specs.InBody.{close_the_form, copies_option, description_names, form_in_scope, in_body_end_description, in_body_end_form, in_body_end_li, in_body_end_marked, in_body_end_option, in_body_marked, in_body_opens, in_body_preformatted, in_body_ruby_bases, in_body_ruby_texts, in_body_start_button, in_body_start_form, in_body_start_hr, in_body_start_image, in_body_start_input, in_body_start_item, in_body_start_marked, in_body_start_optgroup, in_body_start_option, in_body_start_preformatted, in_body_start_ruby, in_body_start_select, list_item_names, named_in_scope, oldest_option, unless_hidden}
+use Rattle.h5_meaning.proofs.ReadyInLaws.{ReadyIn, in_close_named, in_close_p_in_scope, in_frameset_off, in_implied, in_insert, in_insert_foreign, in_leaf, in_leaf_foreign, in_reconstruct}
+use Rattle.h5_meaning.specs.InBody.{close_the_form, copies_option, description_names, form_in_scope, in_body_end_description, in_body_end_form, in_body_end_li, in_body_end_marked, in_body_end_option, in_body_marked, in_body_opens, in_body_preformatted, in_body_ruby_bases, in_body_ruby_texts, in_body_start_button, in_body_start_foreign, in_body_start_form, in_body_start_hr, in_body_start_image, in_body_start_input, in_body_start_item, in_body_start_marked, in_body_start_optgroup, in_body_start_option, in_body_start_preformatted, in_body_start_ruby, in_body_start_select, list_item_names, named_in_scope, oldest_option, unless_hidden}
 use Rattle.h5_meaning.proofs.CloseInLaws.{all_implied_keeps, in_cleared, in_close_except, in_close_other, in_copy, in_ignore_lf, in_implied_except, in_insert_form, in_list_item, in_marker, in_no_form, in_pop, in_remove_form, in_select, in_until, node_in_stack, oldest_is_open}
 use Rattle.h5_meaning.specs.ByName.{named}
 use Rattle.h5_fits.specs.Fits.{goes_by_body}
@@ -30,6 +30,8 @@ use Rattle.h5_stack.specs.Scope.{comes_before_special, has_template, in_scope}
 use Rattle.h5_meaning.proofs.AdoptionForest.{kinds_trans}
 use Rattle.h5_meaning.proofs.ClosingLaws.{named_not_implied}
 use Rattle.h5_fits.proofs.PlainLaws.{set_plain}
+use Rattle.h5_meaning.specs.Foreign.{foreign_name}
+use Rattle.h5_fits.specs.NamesFit.{is_html_element}
 
 -- NAMES
 
@@ -218,6 +220,10 @@ module _ (choices : SinkChoices) (m : InsertionMode) (goes : goes_by_body m ≡ 
   in_start_optgroup p =
       let plain = optgroup_named tag.name p in
       chosen (named_in_scope (codes "select") w) _ _ (λ e. opens (generate_implied_end choices w) (in_implied choices m goes w r) plain) (λ e. outside_select plain)
+
+  pub in_start_foreign : (namespace : List ℕ) → is_html_element (foreign_name namespace tag.name) ≡ false → After (in_body_start_foreign namespace tag w)
+  in_start_foreign namespace foreign =
+      chosen tag.self_closing _ _ (λ e. in_leaf_foreign choices m goes renewed renewed_ready _ _ _) (λ e. in_insert_foreign choices m goes renewed renewed_ready _ _ _ foreign)
 
   pub in_start_ruby_base : is_one_of in_body_ruby_bases tag.name ≡ true → After (in_body_start_ruby GenerateImpliedEnd tag w)
   in_start_ruby_base p =

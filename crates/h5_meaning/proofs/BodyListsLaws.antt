@@ -7,7 +7,7 @@ use Rattle.h5_token.specs.declared.tag.TagKind.TheVariants.{StartTag, EndTag}
 use Rattle.h5_interface.specs.SinkChoices.{SinkChoices}
 use Rattle.h5_types.specs.TurnText.{TurnText, TagTurn, CommentTurn, TextTurn, NullTurn, EofTurn, HasText}
 use Rattle.h5_types.specs.declared.modes.InsertionMode.{InsertionMode}
-use Rattle.h5_tag_sets.specs.TagSets.{is_default_scope, is_heading, is_html_named}
+use Rattle.h5_tag_sets.specs.TagSets.{is_default_scope, is_heading, is_html_named, mathml_namespace, svg_namespace}
 use Rattle.h5_types.specs.declared.modes.InsertionMode.TheVariants.{AfterBody, InTable, InFrameset}
 use Rattle.h5_fits.specs.Fits.{goes_by_body}
 use Rattle.h5_fits.proofs.OpenLaws.{goes_after_root, names_root_open}
@@ -22,10 +22,11 @@ use Rattle.h5_meaning.proofs.ByNameLaws.{holds_by_name, holds_chosen}
 use Rattle.h5_meaning.proofs.KeptLaws.{FitsAs}
 use Rattle.h5_meaning.proofs.ListsLaws.{IsSteady, NeedsOfAll, ready_steady, steady_changes, steady_ready}
 use Rattle.h5_meaning.proofs.ReadyLaws.{ready_end_formatting, ready_start_a, ready_start_formatting, ready_start_nobr}
-use Rattle.h5_meaning.proofs.BodyInLaws.{in_end_description, in_end_form, in_end_li, in_end_marked, in_end_option, in_start_button, in_start_description, in_start_form, in_start_hr, in_start_image, in_start_input, in_start_item, in_start_marked, in_start_optgroup, in_start_option, in_start_preformatted, in_start_ruby_base, in_start_ruby_text, in_start_select}
+use Rattle.h5_meaning.proofs.BodyInLaws.{in_end_description, in_end_form, in_end_li, in_end_marked, in_end_option, in_start_button, in_start_description, in_start_foreign, in_start_form, in_start_hr, in_start_image, in_start_input, in_start_item, in_start_marked, in_start_optgroup, in_start_option, in_start_preformatted, in_start_ruby_base, in_start_ruby_text, in_start_select}
 use Rattle.h5_meaning.proofs.ReadyInLaws.{ReadyIn, ready_in}
 use Rattle.h5_meaning.specs.InHead.{in_head_else, in_head_start, in_head_start_link, in_head_start_noscript, in_head_start_raw, in_head_start_script, in_head_start_tag, in_head_start_title, in_head_start_template, in_head_end_template, template_eof}
 use Rattle.h5_meaning.proofs.BodyRowLaws.{head_start_passes}
+use Rattle.h5_meaning.proofs.ForeignLaws.{mathml_no_html, svg_no_html}
 
 module _ (choices : SinkChoices) (w : World) (k : IsSteady w) where
   -- after a row in a mode, where the open elements fit the mode
@@ -197,7 +198,7 @@ module _ (choices : SinkChoices) (w : World) (k : IsSteady w) where
                                                                 (λ p h. in_ready m (in_start_ruby_base choices m goes w (ready_in m goes w k h) tag p)),
                                                                 (
                                                                   (λ p h. in_ready m (in_start_ruby_text choices m goes w (ready_in m goes w k h) tag p)),
-                                                                  ((λ p h. k), tt),
+                                                                  ((λ p h. in_ready m (in_start_foreign choices m goes w (ready_in m goes w k h) tag mathml_namespace (mathml_no_html tag.name))), ((λ p h. in_ready m (in_start_foreign choices m goes w (ready_in m goes w k h) tag svg_namespace (svg_no_html tag.name))), ((λ p h. k), tt))),
                                                                 ),
                                                               ),
                                                             ),

@@ -5,10 +5,10 @@ use Rattle.h5_names.specs.AttributeText.{AttributeText}
 use Rattle.h5_names.specs.declared.known_name.KnownName.TheVariants.{Html, Noframes, Template}
 use Rattle.h5_types.specs.declared.modes.InsertionMode.TheVariants.{AfterBody}
 use Rattle.h5_token.specs.TokenText.{TagText}
-use Rattle.h5_tag_sets.specs.TagSets.{is_default_scope, is_heading, is_html_named, is_list_item_scope, is_one_of}
-use Rattle.h5_meaning.specs.InBody.{body_ends, body_in_scope, close_the_form, copies_option, form_in_scope, if_body_in_scope, in_body_end, in_body_end_block, in_body_end_body, in_body_end_br, in_body_end_description, in_body_end_form, in_body_end_formatting, in_body_end_heading, in_body_end_html, in_body_end_li, in_body_end_marked, in_body_end_option, in_body_end_other, in_body_end_p, in_body_start, in_body_start_body, in_body_start_button, in_body_start_form, in_body_start_frameset, in_body_start_input, in_body_start_noscript, in_body_start_optgroup, in_body_start_option, in_body_start_other, in_body_start_ruby, in_body_start_select, in_body_start_table, is_quirks, named_in_scope, oldest_option, unless_hidden}
+use Rattle.h5_tag_sets.specs.TagSets.{is_default_scope, is_heading, is_html_named, is_list_item_scope, is_one_of, mathml_namespace, svg_namespace}
+use Rattle.h5_meaning.specs.InBody.{body_ends, body_in_scope, close_the_form, copies_option, form_in_scope, if_body_in_scope, in_body_end, in_body_end_block, in_body_end_body, in_body_end_br, in_body_end_description, in_body_end_form, in_body_end_formatting, in_body_end_heading, in_body_end_html, in_body_end_li, in_body_end_marked, in_body_end_option, in_body_end_other, in_body_end_p, in_body_start, in_body_start_body, in_body_start_button, in_body_start_foreign, in_body_start_form, in_body_start_frameset, in_body_start_input, in_body_start_noscript, in_body_start_optgroup, in_body_start_option, in_body_start_other, in_body_start_ruby, in_body_start_select, in_body_start_table, is_quirks, named_in_scope, oldest_option, unless_hidden}
 use Rattle.h5_stack.specs.Scope.{comes_before_special, has_p_in_button_scope, has_template, in_scope, second_is}
-use Rattle.h5_meaning.specs.Rows.{AddAttrsToHtml, AddAttrsToSecond, Answers, Change, Ending, GenerateImpliedEnd, GenerateImpliedEndExcept, IsAcknowledged, IsDone, Row, SetFramesetNotOk, SetMode, choose, errs, ignored}
+use Rattle.h5_meaning.specs.Rows.{AddAttrsToHtml, AddAttrsToSecond, Answers, Change, Ending, GenerateImpliedEnd, GenerateImpliedEndExcept, InsertAndPopElement, IsAcknowledged, IsDone, Row, SetFramesetNotOk, SetMode, choose, errs, ignored, row}
 use Rattle.h5_meaning.specs.Shared.{current_is, head_start_names, in_body_start_html, inserts, is_context, is_type_hidden}
 use Rattle.h5_meaning.specs.World.{World, names_of}
 use Rattle.h5_meaning.proofs.ListedLaws.{AllListable}
@@ -20,6 +20,7 @@ use Rattle.h5_meaning.proofs.ToldLaws.{IsTold, NoText}
 use Rattle.h5_types.specs.TurnText.{TagTurn}
 use Rattle.h5_meaning.specs.InHeadNoscript.{noscript_content_names}
 use Rattle.h5_meaning.specs.InTable.{table_text_names}
+use Rattle.h5_meaning.specs.NamedEncoding.{indicates, named_encoding}
 
 abbrev pub EndsAtOnce : Ending → Type 0
 EndsAtOnce IsDone = Unit {0}
@@ -110,12 +111,19 @@ module _ (tag : TagText) (w : World) where
   unfolding in_body_start_optgroup
   row_start_optgroup = chosen_row (named_in_scope (codes "select") w) _ _ (is_row _ tt (tt, tt)) (chosen_row (current_is (codes "option") w) _ _ (is_row _ tt (tt, tt)) (is_row _ tt (tt, tt)))
 
+  row_start_foreign : (namespace : List ℕ) → IsBodyRow (in_body_start_foreign namespace tag w)
+  row_start_foreign namespace = chosen_row tag.self_closing _ _ (is_row _ tt (tt, tt)) (is_row _ tt (tt, tt))
+
   row_start_ruby : (implied : Change) → AllListable (implied ∷ inserts tag ∷ []) × NoText (implied ∷ inserts tag ∷ []) → IsBodyRow (in_body_start_ruby implied tag w)
   row_start_ruby implied l = chosen_row (named_in_scope (codes "ruby") w) _ _ (is_row _ tt l) (is_row _ tt (tt, tt))
 
   row_start_noscript : IsBodyRow (in_body_start_noscript tag w)
   unfolding in_body_start_noscript
   row_start_noscript = chosen_row w.options.scripting_enabled _ _ (is_row _ tt (tt, (refl, tt))) (is_row _ tt (tt, tt))
+
+  head_link : (o : Option (List ℕ)) → IsBodyRow (row (InsertAndPopElement tag.name tag.attrs tag.had_duplicate_attributes ∷ []) (indicates o))
+  head_link None = is_row _ tt (tt, tt)
+  head_link (Some encoding) = is_row _ tt (tt, tt)
 
   head_noscript : IsBodyRow (in_head_start_noscript tag w)
   unfolding in_head_start_noscript
@@ -127,7 +135,7 @@ module _ (tag : TagText) (w : World) where
   row_head_start_by P of other = holds_by_name P in_head_start (of_tag in_head_else) tag w (
     (λ p. of _ row_start_html),
     (
-      (λ p. of _ (is_row (in_head_start_link tag w) tt (tt, tt))),
+      (λ p. of _ (head_link (named_encoding tag.attrs))),
       (
         (λ p. of _ (is_row (in_head_start_title tag w) tt (tt, (refl, tt)))),
         (
@@ -217,7 +225,7 @@ module _ (tag : TagText) (w : World) where
                                                                 (λ p. row_start_ruby GenerateImpliedEnd (tt, tt)),
                                                                 (
                                                                   (λ p. row_start_ruby (GenerateImpliedEndExcept (codes "rtc")) (tt, tt)),
-                                                                  ((λ p. ignored_row), tt),
+                                                                  ((λ p. row_start_foreign mathml_namespace), ((λ p. row_start_foreign svg_namespace), ((λ p. ignored_row), tt))),
                                                                 ),
                                                               ),
                                                             ),

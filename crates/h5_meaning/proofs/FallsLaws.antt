@@ -247,7 +247,7 @@ eof_lighter choices m k w (edges.after_body _ l) s = absurd (cc)
 eof_lighter choices m k w (edges.after_after_body _ l) s = absurd (cc)
 
 -- only the end of the file is of its kind
-turn_eof : (t : TurnText) → (is_eof (kind_of_turn t) ≡ false) ⊎ (t ≡ EofTurn)
+pub turn_eof : (t : TurnText) → (is_eof (kind_of_turn t) ≡ false) ⊎ (t ≡ EofTurn)
 turn_eof (TagTurn tag) = inl (at tag.kind)
   where
     at : (k : TagKind) → is_eof (kind_of_tag k tag.name) ≡ false

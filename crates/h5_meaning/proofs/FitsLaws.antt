@@ -195,19 +195,3 @@ fits_kept w v same e situation stack list h = record {
 -- once the root has been made an element is open
 pub enough_open : (w : World) (m : InsertionMode) → w.mode ≡ m → is_before_root m ≡ false → Fits w → 0 < length w.stack
 enough_open w m e after h = subst (λ n. 0 < n) (sym (names_length w)) (names_open (situation_of w) m (names_of w) after (subst (λ k. FitsAs k w) e h.mode))
-
-follows_fits : {H : Type 0} (choices : SinkChoices) (node : H → ℕ) (t : TurnText) (w v : World) (a b : ℕ) (result : ProcessResult H) → Follows choices node (rule w.mode t w) t w v a b result → Sound w → HasText t → Fits w → FitsAfter (rule w.mode t w).ending v
-follows_fits choices node t w v a b result f k some h = subst (FitsAfter (rule w.mode t w).ending) (sym f.world) (rule_fits choices t w k some h)
-
-pub fits_done : {H : Type 0} (choices : SinkChoices) (node : H → ℕ) (t : TurnText) (w v : World) (a b : ℕ) → Follows choices node (rule w.mode t w) t w v a b results.Done → Sound w → HasText t → Fits w → Fits v
-fits_done choices node t w v a b f k some h = subst (λ e. FitsAfter e v) f.ending (follows_fits choices node t w v a b results.Done f k some h)
-
-pub fits_acknowledged : {H : Type 0} (choices : SinkChoices) (node : H → ℕ) (t : TurnText) (w v : World) (a b : ℕ) → Follows choices node (rule w.mode t w) t w v a b results.DoneAckSelfClosing → Sound w → HasText t → Fits w → Fits v
-fits_acknowledged choices node t w v a b f k some h = subst (λ e. FitsAfter e v) f.ending (follows_fits choices node t w v a b results.DoneAckSelfClosing f k some h)
-
-pub fits_answered : {H : Type 0} (choices : SinkChoices) (node : H → ℕ) (t : TurnText) (w v : World) (a b : ℕ) (answer : _) → Follows choices node (rule w.mode t w) t w v a b (results.Answer answer) → Sound w → HasText t → Fits w → Fits v
-fits_answered choices node t w v a b answer f k some h = subst (λ e. FitsAfter e v) f.ending (follows_fits choices node t w v a b (results.Answer answer) f k some h)
-
-pub fits_again : {H : Type 0} (choices : SinkChoices) (node : H → ℕ) (t : TurnText) (w v u : World) (a b : ℕ) (m : InsertionMode) (token : _) → Follows choices node (rule w.mode t w) t w v a b (results.Reprocess m token) → u ≡ set_mode m v → Sound w → HasText t → Fits w → Fits u
-fits_again choices node t w v u a b m token f i k some h =
-    subst Fits (sym i) (subst (λ o. Fits (set_mode (mode_with v.mode o) v)) f.ending.0 (follows_fits choices node t w v a b (results.Reprocess m token) f k some h))

@@ -18,7 +18,8 @@ use Rattle.h5_meaning.specs.InHeadNoscript.{in_head_noscript_else}
 use Rattle.h5_meaning.specs.InTable.{keeps_text}
 use Rattle.h5_meaning.specs.InitialMode.{initial_else}
 use Rattle.h5_meaning.specs.Rows.{Again, Pop, Row, choose, ignored, row}
-use Rattle.h5_meaning.specs.Text.{after_row, all_blanks, closes_column_group, fostered_text, if_any, split, dropped, by_else, text_in_body, text_in_column_group, text_in_table, text_in_table_text, text_after_body, text_after_head, text_in_head, text_in_head_noscript, text_before_head, text_before_html, text_initial, text_in, text_rule}
+use Rattle.h5_meaning.specs.Foreign.{is_foreign_text}
+use Rattle.h5_meaning.specs.Text.{after_row, all_blanks, closes_column_group, foreign_text, fostered_text, if_any, unless_foreign, split, dropped, by_else, text_in_body, text_in_column_group, text_in_table, text_in_table_text, text_after_body, text_after_head, text_in_head, text_in_head_noscript, text_before_head, text_before_html, text_initial, text_in, text_rule}
 use Rattle.h5_meaning.specs.World.{World}
 use Rattle.h5_meaning.proofs.TreeLaws.{tree_reconstruct}
 
@@ -32,12 +33,23 @@ any_keeps f h (b ∷ t) w = h (b ∷ t) w
 split_keeps : (blanks others : List ℕ → World → World) → Keeps blanks → Keeps others → Keeps (split blanks others)
 split_keeps blanks others h k t w = any_keeps others k (rest_of t) (if_any blanks (blanks_of t) w) ∙ any_keeps blanks h (blanks_of t) w
 
-else_keeps : (choices : SinkChoices) (r : TurnText → World → Row) (next : List ℕ → World → World) → Keeps next → ((t : List ℕ) (w : World) → (after_row choices (r (TextTurn NotWhitespace t) w) w).ignore_lf ≡ w.ignore_lf) → Keeps (by_else choices r next)
-else_keeps choices r next h k t w = h t (after_row choices (r (TextTurn NotWhitespace t) w) w) ∙ k t w
-
 append_keeps : Keeps append_text
 unfolding append_text
 append_keeps t w = refl
+
+foreign_keeps : Keeps foreign_text
+unfolding append_text set_frameset_ok_by_text
+foreign_keeps t w = refl
+
+unless_keeps : (choices : SinkChoices) (f : List ℕ → World → World) → Keeps f → Keeps (unless_foreign choices f)
+unless_keeps choices f h t w = at (is_foreign_text choices w)
+  where
+    at : (b : Bool) → (cond b (foreign_text t w) (f t w)).ignore_lf ≡ w.ignore_lf
+    at true = foreign_keeps t w
+    at false = h t w
+
+else_keeps : (choices : SinkChoices) (r : TurnText → World → Row) (next : List ℕ → World → World) → Keeps next → ((t : List ℕ) (w : World) → (after_row choices (r (TextTurn NotWhitespace t) w) w).ignore_lf ≡ w.ignore_lf) → Keeps (by_else choices r next)
+else_keeps choices r next h k t w = unless_keeps choices next h t (after_row choices (r (TextTurn NotWhitespace t) w) w) ∙ k t w
 
 body_keeps : (choices : SinkChoices) → Keeps (text_in_body choices)
 unfolding text_in_body append_text set_frameset_ok_by_text
@@ -124,4 +136,4 @@ in_keeps choices AfterFrameset = λ t w. any_keeps append_text append_keeps (all
 in_keeps choices AfterAfterFrameset = λ t w. any_keeps (text_in_body choices) (body_keeps choices) (all_blanks t) w
 
 pub text_keeps_flag : (choices : SinkChoices) (t : List ℕ) (w : World) → (text_rule choices t w).ignore_lf ≡ w.ignore_lf
-text_keeps_flag choices t w = in_keeps choices w.mode t w
+text_keeps_flag choices t w = unless_keeps choices (text_in w.mode choices) (in_keeps choices w.mode) t w

@@ -37,6 +37,8 @@ all_listed f s l m k listed formatting = record {
   form_name = k.form_name;
   apart = k.apart;
   context_node = k.context_node;
+  context_out = k.context_out;
+  context_no_head = k.context_no_head;
   listed = listed;
   formatting = formatting;
 }

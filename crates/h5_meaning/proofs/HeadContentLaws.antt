@@ -1,6 +1,6 @@
 -- Start tags that go by the rules of the head, in each mode that may be left for a text: after the row the open elements
 -- fit the mode that it leaves.
-use Rattle.std.proofs.Common.{◌≡◌, ℕ, true, false, List, [], ◌∷◌, codes, refl}
+use Rattle.std.proofs.Common.{◌≡◌, ℕ, true, false, List, [], ◌∷◌, Option, Some, None, codes, refl, subst, sym}
 use Rattle.h5_names.specs.declared.known_name.KnownName.TheVariants.{Noscript, Template, Title}
 use Rattle.h5_token.specs.TokenText.{TagText}
 use Rattle.h5_token.specs.declared.states.RawKind.{RawKind}
@@ -10,7 +10,7 @@ use Rattle.h5_types.specs.declared.modes.InsertionMode.{InsertionMode}
 use Rattle.h5_types.specs.declared.modes.InsertionMode.TheVariants.{AfterHead, BeforeHtml, InHead, InTableText, Initial, Text}
 use Rattle.h5_meaning.specs.Shared.{head_start_names, inserts, raw_text}
 use Rattle.h5_fits.specs.Fits.{goes_by_body, is_before_root, may_be_left, takes_template}
-use Rattle.h5_meaning.proofs.KeptLaws.{FitsAs, Kept, as_before, kept_start_html}
+use Rattle.h5_meaning.proofs.KeptLaws.{FitsAs, Kept, as_before, kept_start_html, mode_with}
 use Rattle.h5_meaning.specs.World.{World, names_of}
 use Rattle.h5_meaning.specs.Sound.{Sound, situation_of}
 use Rattle.h5_meaning.specs.ByName.{NonePasses, named, of_tag}
@@ -23,12 +23,13 @@ use Rattle.h5_fits.proofs.PlainLaws.{set_plain}
 use Rattle.h5_fits.specs.Roles.{PlainRole, role_of_local}
 use Rattle.h5_meaning.proofs.NameLaws.{names-insert_and_pop}
 use Rattle.h5_fits.proofs.OpenLaws.{names_root_open}
-use Rattle.h5_meaning.specs.Rows.{Row}
+use Rattle.h5_meaning.specs.Rows.{Row, next_mode}
 use Rattle.h5_meaning.proofs.SituationLaws.{situation_leaf}
 use Rattle.h5_meaning.proofs.BodyRowLaws.{head_start_passes}
 use Rattle.h5_types.specs.TurnText.{TagTurn}
 use Rattle.h5_meaning.specs.Changes.{insert_and_pop_element}
 use Rattle.h5_tag_sets.specs.TagSets.{is_one_of}
+use Rattle.h5_meaning.specs.NamedEncoding.{indicates, named_encoding}
 
 -- such a mode comes after the root was made, and those that go by the body are some
 pub left_after_root : (m : InsertionMode) → may_be_left m ≡ true → is_before_root m ≡ false
@@ -48,6 +49,11 @@ pub body_takes : (m : InsertionMode) → goes_by_body m ≡ true → takes_templ
 body_takes InHead h = refl
 body_takes AfterHead h = refl
 body_takes _ h = h
+
+-- no other turn is taken where an encoding is named
+pub indicates_next : (o : Option (List ℕ)) (v : World) → next_mode (indicates o) v ≡ None
+indicates_next None v = refl
+indicates_next (Some encoding) v = refl
 
 -- names
 pub head_raw_plain : (l : List ℕ) → is_one_of in_head_raw l ≡ true → role_of_local l ≡ PlainRole
@@ -89,8 +95,9 @@ module _ (choices : SinkChoices) (w : World) (sound : Sound w) (m : InsertionMod
 
   kept_link : (tag : TagText) → KeptHere (in_head_start_link tag w)
   kept_link tag h =
-      as_before m w (insert_and_pop_element choices tag.name tag.attrs tag.had_duplicate_attributes w) sound (situation_leaf choices w tag.name tag.attrs tag.had_duplicate_attributes sound)
-      (names-insert_and_pop choices tag.name tag.attrs tag.had_duplicate_attributes w sound) h
+      subst (λ o. FitsAs (mode_with m o) (insert_and_pop_element choices tag.name tag.attrs tag.had_duplicate_attributes w)) (sym (indicates_next (named_encoding tag.attrs) (insert_and_pop_element choices tag.name tag.attrs tag.had_duplicate_attributes w)))
+      (as_before m w (insert_and_pop_element choices tag.name tag.attrs tag.had_duplicate_attributes w) sound (situation_leaf choices w tag.name tag.attrs tag.had_duplicate_attributes sound)
+      (names-insert_and_pop choices tag.name tag.attrs tag.had_duplicate_attributes w sound) h)
 
   -- by the rules of the head, where something is known of what isn't the same in all modes
   pub kept_head_start : (tag : TagText) → (named Noscript tag.name ≡ true → KeptHere (in_head_start_noscript tag w)) → (named Template tag.name ≡ true → KeptHere (in_head_start_template tag w)) → (NonePasses in_head_start tag.name → KeptHere (in_head_else (TagTurn tag) w)) → KeptHere (in_head_start_tag tag w)

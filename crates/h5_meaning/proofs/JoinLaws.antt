@@ -3,8 +3,7 @@ use Rattle.std.proofs.Common.{◌≡◌, List, [], ◌∷◌, ◌++◌, refl, ap
 use Rattle.h5_token.specs.Joins.{join}
 use Rattle.h5_token.specs.TokenText.{TokenText}
 use Rattle.h5_interface.specs.SinkChoices.{SinkChoices}
-use Rattle.h5_meaning.specs.Run.{Told, View, after_all, after_token, replies, replies_in, run, told_all, told_of}
-use Rattle.h5_meaning.proofs.ListedLaws.{Listed}
+use Rattle.h5_meaning.specs.Run.{IsFitting, Told, View, after_all, after_token, replies, replies_in, run, told_all, told_of}
 use Rattle.h5_meaning.proofs.RunLaws.{cuts_agree}
 
 pub view_joins : (choices : SinkChoices) (ts us : List TokenText) (v : View) → after_all choices (ts ++ us) v ≡ after_all choices us (after_all choices ts v)
@@ -24,5 +23,5 @@ replies_append (x ∷ xs) ys = ap (λ rs. x.reply ∷ rs) (replies_append xs ys)
 pub replies_join : (choices : SinkChoices) (ts us : List TokenText) (v : View) → replies choices (ts ++ us) v ≡ replies choices ts v ++ replies choices us (after_all choices ts v)
 replies_join choices ts us v = ap replies_in (told_joins choices ts us v) ∙ replies_append (told_all choices ts v) (told_all choices us (after_all choices ts v))
 
-pub equal_joins : (choices : SinkChoices) (ts us : List TokenText) (v : View) → Listed v.world → join ts ≡ join us → after_all choices ts v ≡ after_all choices us v
+pub equal_joins : (choices : SinkChoices) (ts us : List TokenText) (v : View) → IsFitting v → join ts ≡ join us → after_all choices ts v ≡ after_all choices us v
 equal_joins choices ts us v k e = (cuts_agree choices ts v k).views ∙ ap (λ xs. after_all choices xs v) e ∙ sym (cuts_agree choices us v k).views

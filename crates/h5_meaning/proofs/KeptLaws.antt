@@ -11,12 +11,13 @@ use Rattle.h5_fits.proofs.SituationLaws.{names_later}
 use Rattle.h5_meaning.specs.Changes.{add_attrs_at, add_attrs_to_html, add_attrs_to_second, append_comment, append_comment_to_doc, append_comment_to_html, append_pending_text, append_text, create_root, insert_and_pop_element, insert_and_pop_form, insert_element, insert_form, insert_head, insert_script, mark_started, pop, pop_until_named, set_foster, set_frameset_not_ok, set_frameset_ok_by_text, set_mode, set_quirks_mode}
 use Rattle.h5_meaning.specs.Closing.{copy_closed_option}
 use Rattle.h5_meaning.specs.Reset.{reset_mode}
-use Rattle.h5_meaning.specs.Rows.{AddAttrsToHtml, AddAttrsToSecond, AdoptionAgency, AppendComment, AppendCommentToDoc, AppendCommentToHtml, AppendPendingText, AppendText, Change, ClearActiveFormattingToMarker, ClearForm, CloseListItem, ClosePElement, ClosePElementInButtonScope, CopyClosedOption, CreateFormattingElement, CreateRoot, GenerateImpliedEnd, GenerateImpliedEndExcept, GenerateImpliedEndInSelect, GenerateImpliedEndThoroughly, HandleMisnestedATags, HandleMisnestedNobrTags, InsertAndPopElement, InsertAndPopForm, InsertElement, InsertForm, InsertHead, InsertMarker, InsertScript, InsertTemplate, IsDone, MarkStarted, Pop, PopHeading, PopTemplateMode, PopUntilCell, PopUntilCurrent, PopUntilHeading, PopUntilNamed, PushHead, PushTemplateMode, ReconstructActiveFormattingElements, RemoveBody, RemoveFromStack, ResetMode, Row, SaveMode, SetFoster, SetFramesetNotOk, SetFramesetOkByText, SetIgnoreLf, SetMode, SetQuirksMode, SwitchTemplateMode, TakePendingText, apply, apply_all, errs, ignored, next_mode, row}
+use Rattle.h5_meaning.specs.Rows.{AddAttrsToHtml, AddAttrsToSecond, AdoptionAgency, AppendComment, AppendCommentToDoc, AppendCommentToHtml, AppendPendingText, AppendText, Change, ClearActiveFormattingToMarker, ClearForm, CloseListItem, ClosePElement, ClosePElementInButtonScope, CopyClosedOption, CreateFormattingElement, CreateRoot, GenerateImpliedEnd, GenerateImpliedEndExcept, GenerateImpliedEndInSelect, GenerateImpliedEndThoroughly, HandleMisnestedATags, HandleMisnestedNobrTags, InsertAndPopElement, InsertAndPopForeignElement, InsertAndPopForm, InsertElement, InsertForeignElement, InsertForm, InsertHead, InsertMarker, InsertScript, InsertTemplate, IsDone, LeaveForeignContent, MarkStarted, Pop, PopHeading, PopTemplateMode, PopUntilCell, PopUntilCurrent, PopUntilHeading, PopUntilNamed, PopUntilNamedInAnyCase, PushHead, PushTemplateMode, ReconstructActiveFormattingElements, RemoveBody, RemoveFromStack, ResetMode, Row, SaveMode, SetFoster, SetFramesetNotOk, SetFramesetOkByText, SetIgnoreLf, SetMode, SetQuirksMode, SwitchTemplateMode, TakePendingText, apply, apply_all, errs, ignored, next_mode, row}
 use Rattle.h5_meaning.specs.Shared.{in_body_start_html}
 use Rattle.h5_meaning.specs.Sound.{Sound, situation_of}
 use Rattle.h5_meaning.specs.Tables.{foster}
 use Rattle.h5_meaning.specs.World.{World, names_of}
 use Rattle.h5_meaning.proofs.ByNameLaws.{holds_chosen}
+use Rattle.h5_meaning.proofs.ForeignLaws.{tree_insert_and_pop_foreign, tree_insert_foreign, tree_leave, tree_until_in_any_case}
 use Rattle.h5_meaning.proofs.NameLaws.{names-add_to_root, names-append, names-append_comment, names-append_comment_to_document, names-append_comment_to_root}
 use Rattle.h5_meaning.proofs.SituationLaws.{KeepsSituation, situation_add_to_root, situation_comment, situation_comment_to_document, situation_comment_to_root, situation_later, situation_text}
 use Rattle.h5_meaning.proofs.TemplateLaws.{tree_insert_template}
@@ -140,6 +141,10 @@ change_mode choices PopTemplateMode w = refl
 change_mode choices (SwitchTemplateMode mode) w = refl
 change_mode choices (InsertTemplate attrs duplicates) w = tree_mode w _ (tree_insert_template choices attrs duplicates w)
 change_mode choices RemoveBody w = tree_mode w _ (tree_remove_body w)
+change_mode choices (InsertForeignElement name attrs duplicates) w = tree_mode w _ (tree_insert_foreign choices name attrs duplicates w)
+change_mode choices (InsertAndPopForeignElement name attrs duplicates) w = tree_mode w _ (tree_insert_and_pop_foreign choices name attrs duplicates w)
+change_mode choices LeaveForeignContent w = tree_mode w _ (tree_leave choices w)
+change_mode choices (PopUntilNamedInAnyCase local) w = tree_mode w _ (tree_until_in_any_case local w)
 
 mode_in_turn : (choices : SinkChoices) (w : World) (m : InsertionMode) (x : Change) (xs : List Change) → mode_after choices (apply choices x w) (mode_after choices w m (x ∷ [])) xs ≡ mode_after choices w m (x ∷ xs)
 mode_in_turn choices w m (SetMode k) xs = refl

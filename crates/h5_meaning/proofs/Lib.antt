@@ -15,9 +15,17 @@ pub mod CellFitsLaws
 pub mod CloseInLaws
 pub mod ClosingLaws
 pub mod CutLaws
+pub mod DoctypeLaws
 pub mod FallsLaws
 pub mod FitsLaws
+pub mod FittingLaws
 pub mod FlagLaws
+pub mod ForeignLaws
+pub mod ForeignModeLaws
+pub mod ForeignRowLaws
+pub mod ForeignFitLaws
+pub mod ForeignTurnLaws
+pub mod ForeignTextLaws
 pub mod FormattingLaws
 pub mod FosterLaws
 pub mod FramesetLaws

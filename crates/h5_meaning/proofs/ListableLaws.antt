@@ -37,7 +37,7 @@ use Rattle.h5_meaning.specs.World.{World, names_of}
 use Rattle.h5_meaning.proofs.ByNameLaws.{holds_by_name}
 use Rattle.h5_meaning.proofs.ListedLaws.{AllListable}
 use Rattle.h5_meaning.proofs.BodyRowLaws.{head_start_passes, noscript_content_passes, row_end_by, row_head_start, row_head_start_by, row_start, table_text_passes, row_end_template, noframes_passes, template_passes}
-use Rattle.h5_token.specs.Reply.{RunsScript, TurnsPlain, TurnsRaw}
+use Rattle.h5_token.specs.Reply.{Indicates, RunsScript, TurnsPlain, TurnsRaw}
 use Rattle.h5_meaning.proofs.ToldLaws.{IsTold, NoMode, NoText, Tells, is_text, reset_no_text, told_append, told_chosen}
 use Rattle.h5_meaning.specs.TextMode.{marks_script, text_end, text_mode}
 use Rattle.h5_meaning.specs.InHeadNoscript.{in_head_noscript_else, in_head_noscript_end, in_head_noscript_start, in_head_noscript_tag}
@@ -93,6 +93,7 @@ pushed (Again m) xs h = h
 pushed (AgainBy mode) xs h = h
 pushed (Answers (RunsScript node)) xs h = h
 pushed (Answers TurnsPlain) xs h = h
+pushed (Answers (Indicates encoding)) xs h = h
 pushed (Answers (TurnsRaw kind)) xs h = h
 pushed (Answers _) xs h = h
 
@@ -151,6 +152,7 @@ fosters on (Again m) xs h = h
 fosters on (AgainBy mode) xs h = h
 fosters on (Answers (RunsScript node)) xs h = h
 fosters on (Answers TurnsPlain) xs h = h
+fosters on (Answers (Indicates encoding)) xs h = h
 fosters on (Answers (TurnsRaw kind)) xs h = h
 fosters on (Answers _) xs h = h
 
@@ -242,6 +244,7 @@ module _ (tag : TagText) (w : World) where
       closes (AgainBy mode) xs k = k
       closes (Answers (RunsScript node)) xs k = k
       closes (Answers TurnsPlain) xs k = k
+      closes (Answers (Indicates encoding)) xs k = k
       closes (Answers (TurnsRaw kind)) xs k = k
       closes (Answers _) xs k = k
 
@@ -259,6 +262,7 @@ module _ (tag : TagText) (w : World) where
       closes (AgainBy mode) xs k = k
       closes (Answers (RunsScript node)) xs k = k
       closes (Answers TurnsPlain) xs k = k
+      closes (Answers (Indicates encoding)) xs k = k
       closes (Answers (TurnsRaw kind)) xs k = k
       closes (Answers _) xs k = k
 

@@ -15,8 +15,9 @@ use Rattle.h5_stack.proofs.EachLaws.{each_cleared, each_push_formatting, each_ro
 use Rattle.h5_meaning.specs.AdoptionAgency.{adopt, adopt_at, adopt_by, adopt_within, adoption_agency, close_misnested_a, handle_misnested_a_tags, handle_misnested_nobr_tags, is_current_unlisted, nest, placed, remove_from_stack}
 use Rattle.h5_meaning.specs.Changes.{add_attrs_at, add_attrs_to_html, add_attrs_to_second, append_comment, append_comment_to_doc, append_comment_to_html, append_pending_text, append_text, create_root, generate_implied_end_except, insert_and_pop_element, insert_and_pop_form, insert_element, insert_form, insert_head, insert_script, mark_started, pop, pop_until_current, pop_until_named, pop_while, remove_body, set_frameset_ok_by_text, set_quirks_mode}
 use Rattle.h5_meaning.specs.Closing.{close_item, close_list_item, close_named, close_p_element, close_p_element_in_button_scope, copy_closed_option, generate_implied_end, generate_implied_end_in_select, generate_implied_end_thoroughly, newest_item, pop_heading, pop_until_cell, pop_until_heading}
+use Rattle.h5_meaning.specs.Foreign.{insert_and_pop_foreign_element, insert_foreign_element, leave_foreign_content, pop_until_named_in_any_case}
 use Rattle.h5_meaning.specs.Formatting.{clear_active_formatting_to_marker, create_formatting_element, insert_anew, insert_marker, reconstruct_active_formatting_elements}
-use Rattle.h5_meaning.specs.Rows.{AddAttrsToSecond, AdoptionAgency, Change, ClearActiveFormattingToMarker, CloseListItem, ClosePElement, ClosePElementInButtonScope, CreateFormattingElement, GenerateImpliedEnd, GenerateImpliedEndExcept, GenerateImpliedEndInSelect, GenerateImpliedEndThoroughly, HandleMisnestedATags, HandleMisnestedNobrTags, InsertTemplate, PopHeading, ReconstructActiveFormattingElements, RemoveFromStack, apply, apply_all}
+use Rattle.h5_meaning.specs.Rows.{AddAttrsToSecond, AdoptionAgency, Change, ClearActiveFormattingToMarker, CloseListItem, ClosePElement, ClosePElementInButtonScope, CreateFormattingElement, GenerateImpliedEnd, GenerateImpliedEndExcept, GenerateImpliedEndInSelect, GenerateImpliedEndThoroughly, HandleMisnestedATags, HandleMisnestedNobrTags, InsertTemplate, PopHeading, ReconstructActiveFormattingElements, RemoveFromStack, apply, apply_all, LeaveForeignContent}
 use Rattle.h5_meaning.specs.World.{World, name_in, names_of}
 use Rattle.h5_meaning.proofs.TemplateLaws.{formatting-insert_template}
 
@@ -159,7 +160,7 @@ AllListable (CreateFormattingElement tag ∷ xs) = IsFormattingTag tag × AllLis
 AllListable (x ∷ xs) = AllListable xs
 
 listed_apply : (choices : SinkChoices) (x : Change) (w : World) → AllListable (x ∷ []) → Listed w → Listed (apply choices x w)
-unfolding set_quirks_mode set_frameset_ok_by_text insert_element insert_and_pop_element insert_head create_root append_text append_comment append_comment_to_doc append_comment_to_html add_attrs_to_html add_attrs_to_second pop pop_until_named pop_until_heading insert_marker clear_active_formatting_to_marker pop_until_current pop_until_cell insert_and_pop_form insert_form append_pending_text close_list_item copy_closed_option insert_script mark_started generate_implied_end_thoroughly remove_body
+unfolding set_quirks_mode set_frameset_ok_by_text insert_element insert_and_pop_element insert_head create_root append_text append_comment append_comment_to_doc append_comment_to_html add_attrs_to_html add_attrs_to_second pop pop_until_named pop_until_heading insert_marker clear_active_formatting_to_marker pop_until_current pop_until_cell insert_and_pop_form insert_form append_pending_text close_list_item copy_closed_option insert_script mark_started generate_implied_end_thoroughly remove_body insert_foreign_element insert_and_pop_foreign_element leave_foreign_content pop_until_named_in_any_case
 listed_apply choices (AddAttrsToSecond attrs) w n h = listed_second (second_from_last w.stack) attrs w h
 listed_apply choices (GenerateImpliedEndExcept local) w n h = listed_implied_except choices local w h
 listed_apply choices GenerateImpliedEnd w n h = listed_implied choices w h
@@ -175,6 +176,7 @@ listed_apply choices (CloseListItem locals) w n h = listed_item choices (newest_
 listed_apply choices GenerateImpliedEndInSelect w n h = listed_in_select choices w h
 listed_apply choices (RemoveFromStack element) w n h = listed_remove choices element w h
 listed_apply choices GenerateImpliedEndThoroughly w n h = listed_while choices _ (names_of w) w h
+listed_apply choices LeaveForeignContent w n h = listed_while choices _ (names_of w) w h
 listed_apply choices (InsertTemplate attrs duplicates) w n h = subst AllFormatting (sym (formatting-insert_template choices attrs duplicates w)) h
 listed_apply choices ClearActiveFormattingToMarker w n h = each_cleared (λ m t. IsFormattingTag t) w.formatting h
 listed_apply choices _ w n h = h

@@ -9,12 +9,14 @@ use Rattle.h5_types.specs.declared.modes.InsertionMode.{InsertionMode}
 use Rattle.h5_types.specs.declared.modes.InsertionMode.TheVariants.{Initial}
 use Rattle.h5_types.specs.declared.modes.SplitStatus.TheVariants.{NotWhitespace}
 use Rattle.h5_meaning.specs.Changes.{append_pending_text, append_text, insert_doctype, set_frameset_ok_by_text, set_mode, set_quirks_mode}
+use Rattle.h5_meaning.specs.ForeignContent.{dispatch}
 use Rattle.h5_meaning.specs.Modes.{rule}
 use Rattle.h5_meaning.specs.Rows.{Row, changed_by, next_mode}
 use Rattle.h5_meaning.specs.Run.{View, after_token, doctype_in, judged, refusal, step, take_or_refuse, taken, text_step, with_doctype, without_lf}
 use Rattle.h5_meaning.specs.Settle.{Settled, settle, settle_within, then_turns}
 use Rattle.h5_meaning.specs.Text.{in_next, text_in_body, text_rule}
 use Rattle.h5_meaning.specs.World.{World}
+use Rattle.h5_meaning.proofs.ForeignTurnLaws.{dispatch_listable}
 use Rattle.h5_meaning.proofs.ListableLaws.{rule_listable}
 use Rattle.h5_meaning.proofs.ListedLaws.{Listed, listed_all, listed_reconstruct}
 use Rattle.h5_meaning.proofs.TextKeptLaws.{IsKept, text_kept}
@@ -28,9 +30,9 @@ listed_within : (choices : SinkChoices) (n : ℕ) (t : TurnText) (w : World) →
 unfolding settle_within
 listed_within choices zero t w h = h
 listed_within choices (suc n) t w h =
-    let r = rule w.mode t w in
+    let r = dispatch choices t w in
     let v = changed_by choices r w in
-    listed_turns (λ u. settle_within choices n t u) t r v (next_mode r.ending v) (λ u k. listed_within choices n t u k) (listed_all choices r.changes w (rule_listable w.mode t w) h)
+    listed_turns (λ u. settle_within choices n t u) t r v (next_mode r.ending v) (λ u k. listed_within choices n t u k) (listed_all choices r.changes w (dispatch_listable choices t w) h)
 
 pub listed_settle : (choices : SinkChoices) (t : TurnText) (w : World) → Listed w → Listed (settle choices t w).world
 unfolding settle
@@ -45,6 +47,7 @@ listed_kept : (choices : SinkChoices) → IsKept choices Listed
 unfolding append_text append_pending_text text_in_body set_frameset_ok_by_text
 listed_kept choices = record {
   append = λ t w h. h;
+  foreign = λ t w h. h;
   body = λ t w h. listed_reconstruct choices w h;
   pending = λ t w h. h;
   fostered = λ on w h. h;

@@ -21,11 +21,12 @@ use Rattle.h5_meaning.specs.Changes.{add_attrs_at, add_attrs_to_html, add_attrs_
 use Rattle.h5_meaning.specs.Closing.{close_item, close_list_item, close_p_element, close_p_element_in_button_scope, generate_implied_end, generate_implied_end_in_select, generate_implied_end_thoroughly, newest_item, pop_heading, pop_until_cell, pop_until_heading}
 use Rattle.h5_meaning.specs.Formatting.{clear_active_formatting_to_marker, insert_marker, reconstruct_active_formatting_elements}
 use Rattle.h5_meaning.specs.Place.{IsPlaceIn, LastChild, Place, place, put}
-use Rattle.h5_meaning.specs.Rows.{AddAttrsToHtml, AddAttrsToSecond, AdoptionAgency, AppendComment, AppendCommentToDoc, AppendCommentToHtml, AppendPendingText, AppendText, Change, ClearActiveFormattingToMarker, ClearForm, CloseListItem, ClosePElement, ClosePElementInButtonScope, CopyClosedOption, CreateFormattingElement, CreateRoot, GenerateImpliedEnd, GenerateImpliedEndExcept, GenerateImpliedEndInSelect, GenerateImpliedEndThoroughly, HandleMisnestedATags, HandleMisnestedNobrTags, InsertAndPopElement, InsertAndPopForm, InsertElement, InsertForm, InsertHead, InsertMarker, InsertScript, InsertTemplate, MarkStarted, Pop, PopHeading, PopTemplateMode, PopUntilCell, PopUntilCurrent, PopUntilHeading, PopUntilNamed, PushHead, PushTemplateMode, ReconstructActiveFormattingElements, RemoveBody, RemoveFromStack, ResetMode, SaveMode, SetFoster, SetFramesetNotOk, SetFramesetOkByText, SetIgnoreLf, SetMode, SetQuirksMode, SwitchTemplateMode, TakePendingText, apply, apply_all}
+use Rattle.h5_meaning.specs.Rows.{AddAttrsToHtml, AddAttrsToSecond, AdoptionAgency, AppendComment, AppendCommentToDoc, AppendCommentToHtml, AppendPendingText, AppendText, Change, ClearActiveFormattingToMarker, ClearForm, CloseListItem, ClosePElement, ClosePElementInButtonScope, CopyClosedOption, CreateFormattingElement, CreateRoot, GenerateImpliedEnd, GenerateImpliedEndExcept, GenerateImpliedEndInSelect, GenerateImpliedEndThoroughly, HandleMisnestedATags, HandleMisnestedNobrTags, InsertAndPopElement, InsertAndPopForeignElement, InsertAndPopForm, InsertElement, InsertForeignElement, InsertForm, InsertHead, InsertMarker, InsertScript, InsertTemplate, LeaveForeignContent, MarkStarted, Pop, PopHeading, PopTemplateMode, PopUntilCell, PopUntilCurrent, PopUntilHeading, PopUntilNamed, PopUntilNamedInAnyCase, PushHead, PushTemplateMode, ReconstructActiveFormattingElements, RemoveBody, RemoveFromStack, ResetMode, SaveMode, SetFoster, SetFramesetNotOk, SetFramesetOkByText, SetIgnoreLf, SetMode, SetQuirksMode, SwitchTemplateMode, TakePendingText, apply, apply_all}
 use Rattle.h5_meaning.specs.Sound.{HasLists, IsReady, Sound}
 use Rattle.h5_meaning.specs.Templates.{insert_template}
 use Rattle.h5_meaning.specs.World.{World, current, names_of, root}
 use Rattle.h5_meaning.proofs.AdoptionAgencyLaws.{Keeps, cut_keeps, implied_keeps, pop_keeps, until_named_keeps, while_keeps}
+use Rattle.h5_meaning.proofs.ForeignLaws.{insert_and_pop_foreign_lists, insert_and_pop_foreign_stands, insert_foreign_lists, insert_foreign_stands, leave_keeps, until_in_any_case_keeps}
 use Rattle.h5_meaning.proofs.FormattingLaws.{all_listed, lists_reconstruct, new_is_unlisted, sound_reconstruct}
 use Rattle.h5_meaning.proofs.FramesetLaws.{remove_body_lists, remove_body_stands}
 use Rattle.h5_meaning.proofs.PlaceLaws.{all_inserted, current_place_is_there, first_place, form_open_stands, form_stands, head_stands, new_comment_rearranges, new_element_rearranges, no_form_stands, text_put_rearranges}
@@ -315,6 +316,16 @@ steady_change choices PopTemplateMode w needs k = record { sound = k.sound; list
 steady_change choices (SwitchTemplateMode mode) w needs k = record { sound = k.sound; lists = k.lists }
 steady_change choices (InsertTemplate attrs duplicates) w needs k = steady_template choices w k attrs duplicates
 steady_change choices RemoveBody w needs k = steady_remove_body w k
+steady_change choices (InsertForeignElement name attrs duplicates) w needs k = record {
+  sound = insert_foreign_stands choices name attrs duplicates w k.sound;
+  lists = insert_foreign_lists choices name attrs duplicates w k.sound k.lists;
+}
+steady_change choices (InsertAndPopForeignElement name attrs duplicates) w needs k = record {
+  sound = insert_and_pop_foreign_stands choices name attrs duplicates w k.sound;
+  lists = insert_and_pop_foreign_lists choices name attrs duplicates w k.lists;
+}
+steady_change choices LeaveForeignContent w needs k = kept_steady w _ (leave_keeps choices w k.sound k.lists)
+steady_change choices (PopUntilNamedInAnyCase local) w needs k = kept_steady w _ (until_in_any_case_keeps local w k.sound k.lists)
 
 -- one after another
 pub steady_changes : (choices : SinkChoices) (xs : List Change) (w : World) → NeedsOfAll xs → IsSteady w → IsSteady (apply_all choices xs w)

@@ -236,6 +236,8 @@ head_stands choices attrs duplicates w k new = record {
   form_name = new.form_name;
   apart = λ n e d. element_is_node w.forest n (k.form_node n d) (subst (λ m. w.forest.node m ≡ None) (same n e) (choices.fresh_is_new w.forest k.stands.is_forest));
   context_node = new.context_node;
+  context_out = new.context_out;
+  context_no_head = λ n e d. element_is_node w.forest n (k.context_node n d) (subst (λ m. w.forest.node m ≡ None) (same n e) (choices.fresh_is_new w.forest k.stands.is_forest));
   listed = new.listed;
   formatting = new.formatting;
 }
@@ -257,6 +259,8 @@ form_stands choices attrs duplicates w k new = record {
   form_name = λ n e i. is_form n e;
   apart = λ n e d. node_of_kind w.forest n (ElementNode (html_name (codes "head"))) (k.head_node n e) (subst (λ m. w.forest.node m ≡ None) (same n d) (choices.fresh_is_new w.forest k.stands.is_forest));
   context_node = new.context_node;
+  context_out = new.context_out;
+  context_no_head = new.context_no_head;
   listed = new.listed;
   formatting = new.formatting;
 }
@@ -294,6 +298,8 @@ form_open_stands choices attrs duplicates w k new = at (has_template (names_of w
       form_name = λ n e i. is_form n e;
       apart = λ n e d. node_of_kind w.forest n (ElementNode (html_name (codes "head"))) (k.head_node n e) (subst (λ m. w.forest.node m ≡ None) (same n d) (choices.fresh_is_new w.forest k.stands.is_forest));
       context_node = new.context_node;
+      context_out = new.context_out;
+      context_no_head = new.context_no_head;
       listed = new.listed;
       formatting = new.formatting;
     }
@@ -308,6 +314,8 @@ no_form_stands w k = record {
   form_name = λ n e i. absurd (cc);
   apart = λ n e d. cc;
   context_node = k.context_node;
+  context_out = k.context_out;
+  context_no_head = k.context_no_head;
   listed = k.listed;
   formatting = k.formatting;
 }

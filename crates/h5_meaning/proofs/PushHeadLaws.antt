@@ -94,6 +94,8 @@ module _ {l : List Entry} {form context : Option ℕ} (f : Forest) (h r : ℕ) (
     form_name = named;
     apart = k.apart;
     context_node = k.context_node;
+    context_out = out;
+    context_no_head = k.context_no_head;
     listed = k.listed;
     formatting = k.formatting;
   }
@@ -117,6 +119,10 @@ module _ {l : List Entry} {form context : Option ℕ} (f : Forest) (h r : ℕ) (
       named : (n : ℕ) → form ≡ Some n → IsIn n (h ∷ r ∷ []) → IsHtml f (codes "form") n
       named n e (inl d) = absurd (k.apart n (ap (λ m. Some m) (sym d)) e)
       named n e (inr i) = k.form_name n e i
+
+      out : (n : ℕ) → context ≡ Some n → ¬ (IsIn n (h ∷ r ∷ []))
+      out n e (inl d) = k.context_no_head n (ap (λ m. Some m) (sym d)) e
+      out n e (inr i) = k.context_out n e i
 
 -- the head element isn't the root
 pub head_not_root : (w : World) → Sound w → (o : OnlyRoot w) → o.head ≢ o.root

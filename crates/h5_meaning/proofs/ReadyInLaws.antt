@@ -13,7 +13,7 @@ use Rattle.h5_stack.specs.Order.{is_in}
 use Rattle.h5_stack.specs.Scope.{cut_names, drop_while, first_passes, has_p_in_button_scope, in_scope, is_implied_but, later_names}
 use Rattle.h5_fits.specs.Fits.{goes_by_body, is_whole}
 use Rattle.h5_fits.specs.Frames.{Frame}
-use Rattle.h5_fits.specs.NamesFit.{NamesFit}
+use Rattle.h5_fits.specs.NamesFit.{NamesFit, is_html_element}
 use Rattle.h5_fits.specs.Roles.{PlainRole, role_of, role_of_local, roles}
 use Rattle.h5_fits.specs.Root.{IsRootOpen}
 use Rattle.h5_fits.proofs.BoolLaws.{and_not}
@@ -25,12 +25,12 @@ use Rattle.h5_fits.proofs.PlaceLaws.{fits_grounded}
 use Rattle.h5_fits.proofs.PlainLaws.{formatting_local_plain, frame_implied, heading_plain, implied_plain}
 use Rattle.h5_fits.proofs.RoleLaws.{local_p, role_made, role_named}
 use Rattle.h5_fits.proofs.SituationLaws.{names_later}
-use Rattle.h5_fits.proofs.TestLaws.{button_default, frame_closed, frame_found}
+use Rattle.h5_fits.proofs.TestLaws.{button_default, foreign_plain, frame_closed, frame_found}
 use Rattle.h5_meaning.specs.AdoptionAgency.{adoption_agency, handle_misnested_a_tags, handle_misnested_nobr_tags}
 use Rattle.h5_meaning.specs.Changes.{add_attrs_to_second, append_comment, append_text, generate_implied_end_except, insert_and_pop_element, insert_element, pop, pop_until_named, set_foster, set_frameset_not_ok, set_frameset_ok_by_text}
 use Rattle.h5_meaning.specs.Closing.{close_p_element, close_p_element_in_button_scope, generate_implied_end, pop_heading, pop_until_heading}
 use Rattle.h5_meaning.specs.Formatting.{create_formatting_element, insert_anew, insert_for, reconstruct_active_formatting_elements}
-use Rattle.h5_meaning.specs.Rows.{AddAttrsToSecond, AppendComment, ClosePElement, GenerateImpliedEnd, InsertElement, PopHeading, PopUntilHeading, PopUntilNamed}
+use Rattle.h5_meaning.specs.Rows.{AddAttrsToSecond, AppendComment, ClosePElement, GenerateImpliedEnd, InsertAndPopForeignElement, InsertElement, InsertForeignElement, PopHeading, PopUntilHeading, PopUntilNamed}
 use Rattle.h5_meaning.specs.Sound.{IsReady, Sound, situation_of}
 use Rattle.h5_meaning.specs.World.{World, names_of}
 use Rattle.h5_meaning.proofs.AdoptionAgencyLaws.{agency_leaves, formatting_not_html, implied_keeps, misnested_a_leaves, until_named_keeps, while_keeps}
@@ -42,6 +42,8 @@ use Rattle.h5_meaning.proofs.ListsLaws.{IsSteady, ready_steady, steady_changes, 
 use Rattle.h5_meaning.proofs.NameLaws.{names-add_to_second, names-append, names-append_comment, names-cut, names-insert, names-insert_and_pop}
 use Rattle.h5_meaning.proofs.SituationLaws.{KeepsSituation, situation_add_to_second, situation_comment, situation_format, situation_frameset, situation_insert, situation_later, situation_leaf, situation_pop, situation_reconstruct, situation_same, situation_text, situation_then, situation_tree}
 use Rattle.h5_meaning.proofs.TreeLaws.{tree_adoption, tree_close_p, tree_implied, tree_misnested_a_tags}
+use Rattle.h5_meaning.specs.Foreign.{insert_and_pop_foreign_element, insert_foreign_element}
+use Rattle.h5_meaning.proofs.ForeignLaws.{names-insert_and_pop_foreign, names-insert_foreign, situation_insert_and_pop_foreign, situation_insert_foreign}
 
 -- FRAMES of names
 
@@ -173,6 +175,19 @@ module _ (choices : SinkChoices) (m : InsertionMode) (goes : goes_by_body m ≡ 
       in_step m goes w (insert_element choices local attrs duplicates w) r (steady_changes choices (InsertElement local attrs duplicates ∷ []) w (tt, tt) (steady m goes w r))
       (situation_insert choices w local attrs duplicates r.ready.sound)
       (subst (λ ns. Frame (roles (names_of w)) (roles ns)) (sym (names-insert choices local attrs duplicates w r.ready.sound)) (frame_onto (html_name local) (names_of w) r.ready.root (role_made local ∙ plain)))
+
+  -- an element of SVG or MathML
+  pub in_leaf_foreign : (name : QualName) (attrs : List AttributeText) (duplicates : Bool) → ReadyIn m (insert_and_pop_foreign_element choices name attrs duplicates w)
+  in_leaf_foreign name attrs duplicates =
+      let v = insert_and_pop_foreign_element choices name attrs duplicates w in
+      in_step m goes w v r (steady_changes choices (InsertAndPopForeignElement name attrs duplicates ∷ []) w (tt, tt) (steady m goes w r))
+      (situation_insert_and_pop_foreign choices name attrs duplicates w r.ready.sound) (framed_same w v (names-insert_and_pop_foreign choices name attrs duplicates w r.ready.sound))
+
+  pub in_insert_foreign : (name : QualName) (attrs : List AttributeText) (duplicates : Bool) → is_html_element name ≡ false → ReadyIn m (insert_foreign_element choices name attrs duplicates w)
+  in_insert_foreign name attrs duplicates foreign =
+      in_step m goes w (insert_foreign_element choices name attrs duplicates w) r (steady_changes choices (InsertForeignElement name attrs duplicates ∷ []) w (tt, tt) (steady m goes w r))
+      (situation_insert_foreign choices name attrs duplicates w r.ready.sound)
+      (subst (λ ns. Frame (roles (names_of w)) (roles ns)) (sym (names-insert_foreign choices name attrs duplicates w r.ready.sound)) (frame_onto name (names_of w) r.ready.root (foreign_plain name foreign)))
 
   -- elements are closed
   implied_situation : KeepsSituation w (generate_implied_end choices w)

@@ -44,6 +44,8 @@ module _ {l : List Entry} {head form context : Option ℕ} where
     form_name = λ x e h. k.form_name x e (in_one_more x n newer (m ∷ older) h);
     apart = k.apart;
     context_node = k.context_node;
+    context_out = λ x e h. k.context_out x e (in_one_more x n newer (m ∷ older) h);
+    context_no_head = k.context_no_head;
     listed = k.listed;
     formatting = k.formatting;
   }
@@ -64,6 +66,8 @@ module _ {l : List Entry} {head form context : Option ℕ} where
     form_name = k.form_name;
     apart = k.apart;
     context_node = k.context_node;
+    context_out = k.context_out;
+    context_no_head = k.context_no_head;
     listed = each_without_entry _ n l k.listed;
     formatting = each_without_entry _ n l k.formatting;
   }

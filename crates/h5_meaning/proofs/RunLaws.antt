@@ -9,13 +9,13 @@ use Rattle.h5_token.specs.Joins.{glue, join}
 use Rattle.h5_types.specs.declared.modes.InsertionMode.{InsertionMode}
 use Rattle.h5_types.specs.declared.modes.InsertionMode.TheVariants.{Text}
 use Rattle.h5_meaning.specs.Cuts.{goes_on, spread_next, spread, CutsAgree}
-use Rattle.h5_meaning.specs.Run.{View, refusal, refuses_in, taken, text_step, without_lf, step, take_or_refuse, tell_or_refuse, after_token, reply_to, run, after_all, replies}
+use Rattle.h5_meaning.specs.Run.{IsFitting, View, refusal, refuses_in, taken, text_step, without_lf, step, take_or_refuse, tell_or_refuse, after_token, reply_to, run, after_all, replies}
 use Rattle.h5_meaning.specs.Text.{text_rule}
+use Rattle.h5_meaning.specs.Sound.{Fitting}
 use Rattle.h5_meaning.specs.World.{World}
 use Rattle.h5_meaning.proofs.CutLaws.{text_cut}
 use Rattle.h5_meaning.proofs.FlagLaws.{text_keeps_flag}
-use Rattle.h5_meaning.proofs.ListedLaws.{Listed}
-use Rattle.h5_meaning.proofs.ListedRunLaws.{listed_after}
+use Rattle.h5_meaning.proofs.FittingLaws.{taken_fitting, token_fitting}
 
 -- a newline is taken from the front of a text
 pub without_lf-append : (i : Bool) (b : ℕ) (t u : List ℕ) → without_lf i ((b ∷ t) ++ u) ≡ without_lf i (b ∷ t) ++ u
@@ -23,7 +23,7 @@ without_lf-append false b t u = refl
 without_lf-append true b t u = elim (b == 10) as (λ v. cond v (t ++ u) ((b ∷ t) ++ u) ≡ cond v t (b ∷ t) ++ u) [ true ↦ refl | false ↦ refl ]
 
 -- a text that may be empty, and one more
-step_pieces : (choices : SinkChoices) (t : List ℕ) (d : ℕ) (u : List ℕ) (w : World) → Listed w → (text_step choices (t ++ d ∷ u) w).world ≡ text_rule choices (d ∷ u) (text_step choices t w).world
+step_pieces : (choices : SinkChoices) (t : List ℕ) (d : ℕ) (u : List ℕ) (w : World) → Fitting w → (text_step choices (t ++ d ∷ u) w).world ≡ text_rule choices (d ∷ u) (text_step choices t w).world
 step_pieces choices [] d u w k = refl
 step_pieces choices (b ∷ t) d u w k = text_cut choices b t d u w k
 
@@ -41,12 +41,12 @@ unfolding step
 step_plain choices d u w h =
     ap (λ b. (text_step choices (without_lf b (d ∷ u)) (taken w)).world) h ∙ ap (text_rule choices (d ∷ u)) (taken_same w h)
 
--- a text in two pieces leads where the whole does, where the list of active formatting elements is of their names
-pub step_cut : (choices : SinkChoices) (b : ℕ) (t : List ℕ) (d : ℕ) (u : List ℕ) (w : World) → Listed w → (step choices (Characters ((b ∷ t) ++ d ∷ u)) w).world ≡ (step choices (Characters (d ∷ u)) (step choices (Characters (b ∷ t)) w).world).world
+-- a text in two pieces leads where the whole does, where a builder keeps what it keeps
+pub step_cut : (choices : SinkChoices) (b : ℕ) (t : List ℕ) (d : ℕ) (u : List ℕ) (w : World) → Fitting w → (step choices (Characters ((b ∷ t) ++ d ∷ u)) w).world ≡ (step choices (Characters (d ∷ u)) (step choices (Characters (b ∷ t)) w).world).world
 unfolding step
 step_cut choices b t d u w k =
     ap (λ x. (text_step choices x (taken w)).world) (without_lf-append w.ignore_lf b t (d ∷ u))
-    ∙ step_pieces choices (without_lf w.ignore_lf (b ∷ t)) d u (taken w) k
+    ∙ step_pieces choices (without_lf w.ignore_lf (b ∷ t)) d u (taken w) (taken_fitting w k)
     ∙ sym (step_plain choices d u (text_step choices (without_lf w.ignore_lf (b ∷ t)) (taken w)).world (step_flag choices (without_lf w.ignore_lf (b ∷ t)) (taken w)))
 
 -- a view that has neither failed nor ended refuses nothing but what its mode does
@@ -76,8 +76,16 @@ moved v w = record v { world = w }
 after_taken : (choices : SinkChoices) (t : TokenText) (v : View) → refusal v t ≡ None → after_token choices t v ≡ moved v (step choices t v.world).world
 after_taken choices t v e = ap (λ o. take_or_refuse choices t o v) e
 
+neither : (v : View) → text_refusal v ≡ None → (v.failed ≡ false) × (v.ended ≡ false)
+neither v = at v.failed v.ended
+  where
+    at : (f e : Bool) → cond f (Some Failed) (cond e (Some AfterEnd) None) ≡ None → (f ≡ false) × (e ≡ false)
+    at true e h = absurd (cc)
+    at false true h = absurd (cc)
+    at false false h = (refl, refl)
+
 -- a text in two pieces, refused or taken
-pub token_cut : (choices : SinkChoices) (b : ℕ) (t : List ℕ) (d : ℕ) (u : List ℕ) (v : View) → Listed v.world → after_token choices (Characters ((b ∷ t) ++ d ∷ u)) v ≡ after_token choices (Characters (d ∷ u)) (after_token choices (Characters (b ∷ t)) v)
+pub token_cut : (choices : SinkChoices) (b : ℕ) (t : List ℕ) (d : ℕ) (u : List ℕ) (v : View) → IsFitting v → after_token choices (Characters ((b ∷ t) ++ d ∷ u)) v ≡ after_token choices (Characters (d ∷ u)) (after_token choices (Characters (b ∷ t)) v)
 token_cut choices b t d u v k = at (text_refusal v) refl
   where
     at : (o : Option BuildFault) → text_refusal v ≡ o → after_token choices (Characters ((b ∷ t) ++ d ∷ u)) v ≡ after_token choices (Characters (d ∷ u)) (after_token choices (Characters (b ∷ t)) v)
@@ -87,12 +95,12 @@ token_cut choices b t d u v k = at (text_refusal v) refl
     at None e =
         let v1 = moved v (step choices (Characters (b ∷ t)) v.world).world in
         after_taken choices (Characters ((b ∷ t) ++ d ∷ u)) v (text_refused v ((b ∷ t) ++ d ∷ u) ∙ e)
-        ∙ ap (moved v) (step_cut choices b t d u v.world k)
+        ∙ ap (moved v) (step_cut choices b t d u v.world (k.fitting (neither v e).0 (neither v e).1))
         ∙ sym (ap (after_token choices (Characters (d ∷ u))) (after_taken choices (Characters (b ∷ t)) v (text_refused v (b ∷ t) ∙ e))
         ∙ after_taken choices (Characters (d ∷ u)) v1 (text_refused v1 (d ∷ u) ∙ e))
 
 -- views
-glue_view : (choices : SinkChoices) (t : List ℕ) (ts : List TokenText) (v : View) → Listed v.world → after_all choices (glue t ts) v ≡ after_all choices (Characters t ∷ ts) v
+glue_view : (choices : SinkChoices) (t : List ℕ) (ts : List TokenText) (v : View) → IsFitting v → after_all choices (glue t ts) v ≡ after_all choices (Characters t ∷ ts) v
 unfolding run
 glue_view choices [] ts v k = refl
 glue_view choices (b ∷ t) [] v k = refl
@@ -100,16 +108,16 @@ glue_view choices (b ∷ t) (Characters [] ∷ ts) v k = refl
 glue_view choices (b ∷ t) (Characters (d ∷ u) ∷ ts) v k = ap (after_all choices ts) (token_cut choices b t d u v k)
 glue_view choices (b ∷ t) (_ ∷ ts) v k = refl
 
-views_agree : (choices : SinkChoices) (ts : List TokenText) (v : View) → Listed v.world → after_all choices ts v ≡ after_all choices (join ts) v
+views_agree : (choices : SinkChoices) (ts : List TokenText) (v : View) → IsFitting v → after_all choices ts v ≡ after_all choices (join ts) v
 unfolding run
 views_agree choices [] v k = refl
-views_agree choices (Characters t ∷ ts) v k = views_agree choices ts (after_token choices (Characters t) v) (listed_after choices (Characters t) v k) ∙ sym (glue_view choices t (join ts) v k)
-views_agree choices (DoctypeIs d ∷ ts) v k = views_agree choices ts (after_token choices (DoctypeIs d) v) (listed_after choices (DoctypeIs d) v k)
-views_agree choices (TagIs d ∷ ts) v k = views_agree choices ts (after_token choices (TagIs d) v) (listed_after choices (TagIs d) v k)
-views_agree choices (CommentIs d ∷ ts) v k = views_agree choices ts (after_token choices (CommentIs d) v) (listed_after choices (CommentIs d) v k)
-views_agree choices (NullCharacter ∷ ts) v k = views_agree choices ts (after_token choices NullCharacter v) (listed_after choices NullCharacter v k)
-views_agree choices (EndOfFile ∷ ts) v k = views_agree choices ts (after_token choices EndOfFile v) (listed_after choices EndOfFile v k)
-views_agree choices (ParseErrorIs d ∷ ts) v k = views_agree choices ts (after_token choices (ParseErrorIs d) v) (listed_after choices (ParseErrorIs d) v k)
+views_agree choices (Characters t ∷ ts) v k = views_agree choices ts (after_token choices (Characters t) v) (token_fitting choices (Characters t) v k) ∙ sym (glue_view choices t (join ts) v k)
+views_agree choices (DoctypeIs d ∷ ts) v k = views_agree choices ts (after_token choices (DoctypeIs d) v) (token_fitting choices (DoctypeIs d) v k)
+views_agree choices (TagIs d ∷ ts) v k = views_agree choices ts (after_token choices (TagIs d) v) (token_fitting choices (TagIs d) v k)
+views_agree choices (CommentIs d ∷ ts) v k = views_agree choices ts (after_token choices (CommentIs d) v) (token_fitting choices (CommentIs d) v k)
+views_agree choices (NullCharacter ∷ ts) v k = views_agree choices ts (after_token choices NullCharacter v) (token_fitting choices NullCharacter v k)
+views_agree choices (EndOfFile ∷ ts) v k = views_agree choices ts (after_token choices EndOfFile v) (token_fitting choices EndOfFile v k)
+views_agree choices (ParseErrorIs d ∷ ts) v k = views_agree choices ts (after_token choices (ParseErrorIs d) v) (token_fitting choices (ParseErrorIs d) v k)
 
 -- replies: a text's reply tells only whether it was refused
 abbrev text_reply : Option BuildFault → Reply
@@ -153,7 +161,7 @@ begins d u (EndOfFile ∷ ts) = record { u = u; rest = EndOfFile ∷ ts; is = re
 begins d u (ParseErrorIs x ∷ ts) = record { u = u; rest = ParseErrorIs x ∷ ts; is = refl }
 
 -- a piece, and what follows it in its run
-piece : (choices : SinkChoices) (b : ℕ) (t : List ℕ) (d : ℕ) (ts js : List TokenText) (v : View) → Listed v.world → Begins d js → goes_on (b ∷ t) ts ≡ true
+piece : (choices : SinkChoices) (b : ℕ) (t : List ℕ) (d : ℕ) (ts js : List TokenText) (v : View) → IsFitting v → Begins d js → goes_on (b ∷ t) ts ≡ true
     → replies choices ts (after_token choices (Characters (b ∷ t)) v) ≡ spread ts (replies choices js (after_token choices (Characters (b ∷ t)) v))
     → replies choices (Characters (b ∷ t) ∷ ts) v ≡ spread (Characters (b ∷ t) ∷ ts) (replies choices (glue (b ∷ t) js) v)
 unfolding run
@@ -172,26 +180,26 @@ piece choices b t d ts js v k g on h =
     ∙ ap (λ x. text_reply (text_refusal v) ∷ spread ts (spread_next x (text_reply (text_refusal v)) (replies choices g.rest (after_token choices (Characters (d ∷ g.u)) v1)))) (sym on)
     ∙ ap (spread (Characters (b ∷ t) ∷ ts)) (sym joined)
 
-replies_agree : (choices : SinkChoices) (ts : List TokenText) (v : View) → Listed v.world → replies choices ts v ≡ spread ts (replies choices (join ts) v)
+replies_agree : (choices : SinkChoices) (ts : List TokenText) (v : View) → IsFitting v → replies choices ts v ≡ spread ts (replies choices (join ts) v)
 unfolding run
 replies_agree choices [] v k = refl
-replies_agree choices (Characters [] ∷ ts) v k = ap (λ rs. reply_to choices (Characters []) v ∷ rs) (replies_agree choices ts (after_token choices (Characters []) v) (listed_after choices (Characters []) v k))
+replies_agree choices (Characters [] ∷ ts) v k = ap (λ rs. reply_to choices (Characters []) v ∷ rs) (replies_agree choices ts (after_token choices (Characters []) v) (token_fitting choices (Characters []) v k))
 replies_agree choices (Characters (b ∷ t) ∷ []) v k = refl
-replies_agree choices (Characters (b ∷ t) ∷ Characters [] ∷ ts) v k = ap (λ rs. reply_to choices (Characters (b ∷ t)) v ∷ rs) (replies_agree choices (Characters [] ∷ ts) (after_token choices (Characters (b ∷ t)) v) (listed_after choices (Characters (b ∷ t)) v k))
+replies_agree choices (Characters (b ∷ t) ∷ Characters [] ∷ ts) v k = ap (λ rs. reply_to choices (Characters (b ∷ t)) v ∷ rs) (replies_agree choices (Characters [] ∷ ts) (after_token choices (Characters (b ∷ t)) v) (token_fitting choices (Characters (b ∷ t)) v k))
 replies_agree choices (Characters (b ∷ t) ∷ Characters (d ∷ u) ∷ ts) v k =
-    piece choices b t d (Characters (d ∷ u) ∷ ts) (glue (d ∷ u) (join ts)) v k (begins d u (join ts)) refl (replies_agree choices (Characters (d ∷ u) ∷ ts) (after_token choices (Characters (b ∷ t)) v) (listed_after choices (Characters (b ∷ t)) v k))
-replies_agree choices (Characters (b ∷ t) ∷ DoctypeIs x ∷ ts) v k = ap (λ rs. reply_to choices (Characters (b ∷ t)) v ∷ rs) (replies_agree choices (DoctypeIs x ∷ ts) (after_token choices (Characters (b ∷ t)) v) (listed_after choices (Characters (b ∷ t)) v k))
-replies_agree choices (Characters (b ∷ t) ∷ TagIs x ∷ ts) v k = ap (λ rs. reply_to choices (Characters (b ∷ t)) v ∷ rs) (replies_agree choices (TagIs x ∷ ts) (after_token choices (Characters (b ∷ t)) v) (listed_after choices (Characters (b ∷ t)) v k))
-replies_agree choices (Characters (b ∷ t) ∷ CommentIs x ∷ ts) v k = ap (λ rs. reply_to choices (Characters (b ∷ t)) v ∷ rs) (replies_agree choices (CommentIs x ∷ ts) (after_token choices (Characters (b ∷ t)) v) (listed_after choices (Characters (b ∷ t)) v k))
-replies_agree choices (Characters (b ∷ t) ∷ NullCharacter ∷ ts) v k = ap (λ rs. reply_to choices (Characters (b ∷ t)) v ∷ rs) (replies_agree choices (NullCharacter ∷ ts) (after_token choices (Characters (b ∷ t)) v) (listed_after choices (Characters (b ∷ t)) v k))
-replies_agree choices (Characters (b ∷ t) ∷ EndOfFile ∷ ts) v k = ap (λ rs. reply_to choices (Characters (b ∷ t)) v ∷ rs) (replies_agree choices (EndOfFile ∷ ts) (after_token choices (Characters (b ∷ t)) v) (listed_after choices (Characters (b ∷ t)) v k))
-replies_agree choices (Characters (b ∷ t) ∷ ParseErrorIs x ∷ ts) v k = ap (λ rs. reply_to choices (Characters (b ∷ t)) v ∷ rs) (replies_agree choices (ParseErrorIs x ∷ ts) (after_token choices (Characters (b ∷ t)) v) (listed_after choices (Characters (b ∷ t)) v k))
-replies_agree choices (DoctypeIs x ∷ ts) v k = ap (λ rs. reply_to choices (DoctypeIs x) v ∷ rs) (replies_agree choices ts (after_token choices (DoctypeIs x) v) (listed_after choices (DoctypeIs x) v k))
-replies_agree choices (TagIs x ∷ ts) v k = ap (λ rs. reply_to choices (TagIs x) v ∷ rs) (replies_agree choices ts (after_token choices (TagIs x) v) (listed_after choices (TagIs x) v k))
-replies_agree choices (CommentIs x ∷ ts) v k = ap (λ rs. reply_to choices (CommentIs x) v ∷ rs) (replies_agree choices ts (after_token choices (CommentIs x) v) (listed_after choices (CommentIs x) v k))
-replies_agree choices (NullCharacter ∷ ts) v k = ap (λ rs. reply_to choices NullCharacter v ∷ rs) (replies_agree choices ts (after_token choices NullCharacter v) (listed_after choices NullCharacter v k))
-replies_agree choices (EndOfFile ∷ ts) v k = ap (λ rs. reply_to choices EndOfFile v ∷ rs) (replies_agree choices ts (after_token choices EndOfFile v) (listed_after choices EndOfFile v k))
-replies_agree choices (ParseErrorIs x ∷ ts) v k = ap (λ rs. reply_to choices (ParseErrorIs x) v ∷ rs) (replies_agree choices ts (after_token choices (ParseErrorIs x) v) (listed_after choices (ParseErrorIs x) v k))
+    piece choices b t d (Characters (d ∷ u) ∷ ts) (glue (d ∷ u) (join ts)) v k (begins d u (join ts)) refl (replies_agree choices (Characters (d ∷ u) ∷ ts) (after_token choices (Characters (b ∷ t)) v) (token_fitting choices (Characters (b ∷ t)) v k))
+replies_agree choices (Characters (b ∷ t) ∷ DoctypeIs x ∷ ts) v k = ap (λ rs. reply_to choices (Characters (b ∷ t)) v ∷ rs) (replies_agree choices (DoctypeIs x ∷ ts) (after_token choices (Characters (b ∷ t)) v) (token_fitting choices (Characters (b ∷ t)) v k))
+replies_agree choices (Characters (b ∷ t) ∷ TagIs x ∷ ts) v k = ap (λ rs. reply_to choices (Characters (b ∷ t)) v ∷ rs) (replies_agree choices (TagIs x ∷ ts) (after_token choices (Characters (b ∷ t)) v) (token_fitting choices (Characters (b ∷ t)) v k))
+replies_agree choices (Characters (b ∷ t) ∷ CommentIs x ∷ ts) v k = ap (λ rs. reply_to choices (Characters (b ∷ t)) v ∷ rs) (replies_agree choices (CommentIs x ∷ ts) (after_token choices (Characters (b ∷ t)) v) (token_fitting choices (Characters (b ∷ t)) v k))
+replies_agree choices (Characters (b ∷ t) ∷ NullCharacter ∷ ts) v k = ap (λ rs. reply_to choices (Characters (b ∷ t)) v ∷ rs) (replies_agree choices (NullCharacter ∷ ts) (after_token choices (Characters (b ∷ t)) v) (token_fitting choices (Characters (b ∷ t)) v k))
+replies_agree choices (Characters (b ∷ t) ∷ EndOfFile ∷ ts) v k = ap (λ rs. reply_to choices (Characters (b ∷ t)) v ∷ rs) (replies_agree choices (EndOfFile ∷ ts) (after_token choices (Characters (b ∷ t)) v) (token_fitting choices (Characters (b ∷ t)) v k))
+replies_agree choices (Characters (b ∷ t) ∷ ParseErrorIs x ∷ ts) v k = ap (λ rs. reply_to choices (Characters (b ∷ t)) v ∷ rs) (replies_agree choices (ParseErrorIs x ∷ ts) (after_token choices (Characters (b ∷ t)) v) (token_fitting choices (Characters (b ∷ t)) v k))
+replies_agree choices (DoctypeIs x ∷ ts) v k = ap (λ rs. reply_to choices (DoctypeIs x) v ∷ rs) (replies_agree choices ts (after_token choices (DoctypeIs x) v) (token_fitting choices (DoctypeIs x) v k))
+replies_agree choices (TagIs x ∷ ts) v k = ap (λ rs. reply_to choices (TagIs x) v ∷ rs) (replies_agree choices ts (after_token choices (TagIs x) v) (token_fitting choices (TagIs x) v k))
+replies_agree choices (CommentIs x ∷ ts) v k = ap (λ rs. reply_to choices (CommentIs x) v ∷ rs) (replies_agree choices ts (after_token choices (CommentIs x) v) (token_fitting choices (CommentIs x) v k))
+replies_agree choices (NullCharacter ∷ ts) v k = ap (λ rs. reply_to choices NullCharacter v ∷ rs) (replies_agree choices ts (after_token choices NullCharacter v) (token_fitting choices NullCharacter v k))
+replies_agree choices (EndOfFile ∷ ts) v k = ap (λ rs. reply_to choices EndOfFile v ∷ rs) (replies_agree choices ts (after_token choices EndOfFile v) (token_fitting choices EndOfFile v k))
+replies_agree choices (ParseErrorIs x ∷ ts) v k = ap (λ rs. reply_to choices (ParseErrorIs x) v ∷ rs) (replies_agree choices ts (after_token choices (ParseErrorIs x) v) (token_fitting choices (ParseErrorIs x) v k))
 
-pub cuts_agree : (choices : SinkChoices) (ts : List TokenText) (v : View) → Listed v.world → CutsAgree choices ts v
+pub cuts_agree : (choices : SinkChoices) (ts : List TokenText) (v : View) → IsFitting v → CutsAgree choices ts v
 cuts_agree choices ts v k = record { views = views_agree choices ts v k; replies = replies_agree choices ts v k }

@@ -30,7 +30,7 @@ use Rattle.h5_meaning.specs.InTableText.{in_table_text_else}
 use Rattle.h5_meaning.specs.InitialMode.{initial_else}
 use Rattle.h5_meaning.specs.Modes.{rule}
 use Rattle.h5_meaning.specs.Rows.{Again, Answers, Change, Ending, IsDone, Pop, PopUntilCurrent, PopUntilNamed, ResetMode, Row, SaveMode, SetMode, SetQuirksMode, choose, errs, ignored, row}
-use Rattle.h5_meaning.specs.Run.{is_start}
+use Rattle.h5_meaning.specs.Kinds.{is_start}
 use Rattle.h5_meaning.specs.Shared.{current_is}
 use Rattle.h5_meaning.specs.Tables.{foster, in_table_scope, named_in_table_scope}
 use Rattle.h5_meaning.specs.World.{World, names_of}

@@ -119,6 +119,8 @@ module _ {l : List Entry} {head form context : Option ℕ} where
     form_name = λ n e h. html_kept f g (codes "form") n r (k.form_name n e h);
     apart = k.apart;
     context_node = λ n e. element_kept f g n r (k.context_node n e);
+    context_out = k.context_out;
+    context_no_head = k.context_no_head;
     listed = listed_kept f g l r k.listed;
     formatting = k.formatting;
   }
@@ -133,6 +135,8 @@ module _ {l : List Entry} {head form context : Option ℕ} where
     form_name = λ m e h. k.form_name m e (inr h);
     apart = k.apart;
     context_node = k.context_node;
+    context_out = λ m e h. k.context_out m e (inr h);
+    context_no_head = k.context_no_head;
     listed = k.listed;
     formatting = k.formatting;
   }
@@ -154,6 +158,8 @@ module _ {l : List Entry} {head form context : Option ℕ} where
         form_name = λ m e h. named kept m e h;
         apart = k.apart;
         context_node = kept.context_node;
+        context_out = λ m e h. out kept m e h;
+        context_no_head = kept.context_no_head;
         listed = kept.listed;
         formatting = k.formatting;
       }
@@ -165,6 +171,10 @@ module _ {l : List Entry} {head form context : Option ℕ} where
       named : AllStand g s l head form context → (m : ℕ) → form ≡ Some m → IsIn m (n ∷ s) → IsHtml g (codes "form") m
       named kept m e (inl same) = absurd (element_is_node f m (k.form_node m e) (subst (λ x. f.node x ≡ None) (sym same) new))
       named kept m e (inr h) = kept.form_name m e h
+
+      out : AllStand g s l head form context → (m : ℕ) → context ≡ Some m → ¬ (IsIn m (n ∷ s))
+      out kept m e (inl same) = element_is_node f m (k.context_node m e) (subst (λ x. f.node x ≡ None) (sym same) new)
+      out kept m e (inr h) = kept.context_out m e h
 
 -- a call that may be refused: the forest is rearranged or as it was
 pub rearranged_or_not : {T E : Type 0} (r : Result T E) (old new : Seen) (change : Forest → Forest) → OnOk r (new ≡ changed change old) → OnErr r (new ≡ old) → IsForest old.forest → Rearranges old.forest (change old.forest) → Rearranges old.forest new.forest

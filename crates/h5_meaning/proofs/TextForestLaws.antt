@@ -5,7 +5,8 @@ use Rattle.std.proofs.lemmas.List.{append-nil}
 use Rattle.h5_interface.specs.Changes.{append_text as append_text_to, edit_children, insert_before, insert_text_before, insert_text_below, join, joined}
 use Rattle.h5_interface.specs.Forest.{Child, ChildNode, ChildText, Forest, Node, contents_of, kind_of, parent_of}
 use Rattle.h5_interface.specs.NewElement.{is_html_template}
-use Rattle.h5_interface.specs.Seen.{with_child_by}
+use Rattle.h5_interface.specs.Seen.{is_integration_point, with_child_by}
+use Rattle.h5_interface.specs.SinkChoices.{SinkChoices}
 use Rattle.h5_interface.proofs.ForestLaws.{same_forest}
 use Rattle.h5_tag_sets.specs.TagSets.{is_table_outer}
 use Rattle.h5_stack.specs.Order.{first_or, last_or}
@@ -140,12 +141,20 @@ pub record SameButChildren (f g : Forest) : Type 0 where
   pub document : g.document ≡ f.document
   pub kinds : (n : ℕ) → kind_of g n ≡ kind_of f n
   pub contents : (n : ℕ) → contents_of g n ≡ contents_of f n
+  pub points : (choices : SinkChoices) (n : ℕ) → is_integration_point choices g n ≡ is_integration_point choices f n
+
+edit_point : (p n : ℕ) (edit : List Child → List Child) (f : Forest) (choices : SinkChoices) → is_integration_point choices (edit_children p edit f) n ≡ is_integration_point choices f n
+edit_point p n edit f choices = at (f.node n) refl
+  where
+    at : (o : Option Node) → f.node n ≡ o → is_integration_point choices (edit_children p edit f) n ≡ is_integration_point choices f n
+    at None e = rw e refl
+    at (Some d) e = rw e refl
 
 edited_same : (p : ℕ) (edit : List Child → List Child) (f : Forest) → SameButChildren f (edit_children p edit f)
-edited_same p edit f = record { document = refl; kinds = λ n. edit_kind p n edit f; contents = λ n. edit_contents p n edit f }
+edited_same p edit f = record { document = refl; kinds = λ n. edit_kind p n edit f; contents = λ n. edit_contents p n edit f; points = λ choices n. edit_point p n edit f choices }
 
 inserted_same : (o : Option ℕ) (s : ℕ) (t : List ℕ) (f : Forest) → SameButChildren f (insert_text_below o s t f)
-inserted_same None s t f = record { document = refl; kinds = λ n. refl; contents = λ n. refl }
+inserted_same None s t f = record { document = refl; kinds = λ n. refl; contents = λ n. refl; points = λ choices n. refl }
 inserted_same (Some p) s t f = edited_same p (insert_before s (ChildText t)) f
 
 by_same : (o : Option ℕ) (element prev : ℕ) (t : List ℕ) (f : Forest) → SameButChildren f (with_child_by o element prev (ChildText t) f)

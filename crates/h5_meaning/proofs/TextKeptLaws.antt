@@ -18,13 +18,15 @@ use Rattle.h5_meaning.specs.InTable.{keeps_text}
 use Rattle.h5_meaning.specs.InitialMode.{initial_else}
 use Rattle.h5_meaning.specs.Modes.{rule}
 use Rattle.h5_meaning.specs.Shared.{current_is}
-use Rattle.h5_meaning.specs.Text.{after_row, all_blanks, by_else, closes_column_group, dropped, fostered_text, if_any, split, text_after_body, text_after_head, text_before_head, text_before_html, text_in, text_in_body, text_in_column_group, text_in_head, text_in_head_noscript, text_in_table, text_in_table_text, text_initial, text_rule}
+use Rattle.h5_meaning.specs.Foreign.{is_foreign_text}
+use Rattle.h5_meaning.specs.Text.{after_row, all_blanks, by_else, closes_column_group, dropped, foreign_text, fostered_text, if_any, split, unless_foreign, text_after_body, text_after_head, text_before_head, text_before_html, text_in, text_in_body, text_in_column_group, text_in_head, text_in_head_noscript, text_in_table, text_in_table_text, text_initial, text_rule}
 use Rattle.h5_meaning.specs.World.{World}
 use Rattle.h5_meaning.proofs.ToldLaws.{is_text}
 
 -- what is true of a world stays true
 pub record IsKept (choices : SinkChoices) (P : World → Type 0) : Type 0 where
   pub append : (t : List ℕ) (w : World) → P w → P (append_text t w)
+  pub foreign : (t : List ℕ) (w : World) → P w → P (foreign_text t w)
   pub body : (t : List ℕ) (w : World) → P w → P (text_in_body choices t w)
   pub pending : (t : List ℕ) (w : World) → P w → P (append_pending_text t w)
   pub fostered : (on : Bool) (w : World) → P w → P (set_foster on w)
@@ -45,9 +47,16 @@ module _ (choices : SinkChoices) (P : World → Type 0) (kept : IsKept choices P
   dropped_keeps : Keeps dropped
   dropped_keeps t w h = h
 
+  unless_keeps : (f : List ℕ → World → World) → Keeps f → Keeps (unless_foreign choices f)
+  unless_keeps f k t w h = at (is_foreign_text choices w)
+    where
+      at : (b : Bool) → P (cond b (foreign_text t w) (f t w))
+      at true = kept.foreign t w h
+      at false = k t w h
+
   -- by the row of a mode, and then as the next does
   else_keeps : (m : InsertionMode) (next : List ℕ → World → World) → is_text m ≡ false → Keeps next → Keeps (by_else choices (rule m) next)
-  else_keeps m next e k t w h = k t (after_row choices (rule m (TextTurn NotWhitespace t) w) w) (kept.row m t w e h)
+  else_keeps m next e k t w h = unless_keeps next k t (after_row choices (rule m (TextTurn NotWhitespace t) w) w) (kept.row m t w e h)
 
   after_body_keeps : Keeps (text_after_body choices)
   unfolding text_after_body
@@ -118,4 +127,4 @@ module _ (choices : SinkChoices) (P : World → Type 0) (kept : IsKept choices P
   in_keeps AfterAfterFrameset = λ t. any_keeps (text_in_body choices) kept.body (all_blanks t)
 
   pub text_kept : (t : List ℕ) (w : World) → P w → P (text_rule choices t w)
-  text_kept t w h = in_keeps w.mode t w h
+  text_kept t w h = unless_keeps (text_in w.mode choices) (in_keeps w.mode) t w h

@@ -3,7 +3,7 @@
 use Rattle.std.proofs.Common.{◌≡◌, ℕ, zero, suc, ◌+◌, Bool, true, false, cond, List, [], ◌∷◌, ◌++◌, length, Option, Some, None, codes, refl, ap, sym, subst, ◌∙◌}
 use Rattle.std.specs.Prelude.{unwrap_or}
 use Rattle.h5_names.specs.AttributeText.{is_same_text}
-use Rattle.h5_token.specs.Reply.{Continues, Reply, RunsScript, TurnsPlain, TurnsRaw}
+use Rattle.h5_token.specs.Reply.{Continues, Indicates, Reply, RunsScript, TurnsPlain, TurnsRaw}
 use Rattle.h5_token.specs.TokenText.{TagText, TokenText, DoctypeIs, DoctypeText, TagIs, CommentIs, Characters, NullCharacter, EndOfFile, ParseErrorIs}
 use Rattle.h5_token.specs.declared.tag.TagKind.{TagKind}
 use Rattle.h5_token.specs.declared.tag.TagKind.TheVariants.{StartTag, EndTag}
@@ -20,14 +20,16 @@ use Rattle.h5_meaning.specs.Closing.{copy_closed_option}
 use Rattle.h5_meaning.specs.Formatting.{reconstruct_active_formatting_elements}
 use Rattle.h5_meaning.specs.InTableText.{saved_mode}
 use Rattle.h5_meaning.specs.Modes.{rule}
-use Rattle.h5_meaning.specs.Rows.{AddAttrsToSecond, AdoptionAgency, Again, AgainBy, Answers, Change, ClearActiveFormattingToMarker, CloseListItem, ClosePElement, ClosePElementInButtonScope, CreateFormattingElement, Ending, GenerateImpliedEnd, GenerateImpliedEndExcept, GenerateImpliedEndInSelect, HandleMisnestedATags, HandleMisnestedNobrTags, InsertMarker, IsAcknowledged, IsDone, MarkStarted, Pop, PopHeading, PopUntilCell, PopUntilCurrent, PopUntilHeading, ReconstructActiveFormattingElements, RemoveFromStack, ResetMode, SaveMode, SetMode, apply, apply_all, ignored, row, PushTemplateMode, PopTemplateMode, SwitchTemplateMode, GenerateImpliedEndThoroughly, InsertTemplate, RemoveBody}
-use Rattle.h5_meaning.specs.Run.{at_once, doctype_in, is_good_doctype, is_refused_in_text, is_start, judged, quirks_of, refuses_in, step, taken, text_step, with_doctype, without_lf}
+use Rattle.h5_meaning.specs.Rows.{AddAttrsToSecond, AdoptionAgency, Again, AgainBy, Answers, Change, ClearActiveFormattingToMarker, CloseListItem, ClosePElement, ClosePElementInButtonScope, CreateFormattingElement, Ending, GenerateImpliedEnd, GenerateImpliedEndExcept, GenerateImpliedEndInSelect, GenerateImpliedEndThoroughly, HandleMisnestedATags, HandleMisnestedNobrTags, InsertAndPopForeignElement, InsertForeignElement, InsertMarker, InsertTemplate, IsAcknowledged, IsDone, LeaveForeignContent, MarkStarted, Pop, PopHeading, PopTemplateMode, PopUntilCell, PopUntilCurrent, PopUntilHeading, PopUntilNamedInAnyCase, PushTemplateMode, ReconstructActiveFormattingElements, RemoveBody, RemoveFromStack, ResetMode, SaveMode, SetMode, SwitchTemplateMode, apply, apply_all, ignored, row}
+use Rattle.h5_meaning.specs.Kinds.{is_start}
+use Rattle.h5_meaning.specs.Run.{at_once, doctype_in, is_refused_in_text, judged, refuses_in, step, taken, text_step, with_doctype, without_lf}
 use Rattle.h5_meaning.specs.Settle.{Settled, by_row, settle, settle_within}
 use Rattle.h5_meaning.specs.Shared.{current_is}
-use Rattle.h5_meaning.specs.Text.{after_row, is_quiet_text, text_in, text_in_body, text_rule}
+use Rattle.h5_meaning.specs.Text.{after_row, foreign_text, is_quiet_text, text_in, text_in_body, text_rule}
 use Rattle.h5_meaning.specs.TextMode.{marks_script, text_end, text_mode}
-use Rattle.h5_meaning.specs.World.{World, current}
-use Rattle.h5_meaning.proofs.KeptLaws.{changes_mode}
+use Rattle.h5_meaning.specs.World.{World, current, names_of}
+use Rattle.h5_meaning.proofs.ForeignLaws.{tree_insert_and_pop_foreign, tree_insert_foreign, tree_leave, tree_until_in_any_case}
+use Rattle.h5_meaning.proofs.KeptLaws.{FitsAs, changes_mode}
 use Rattle.h5_meaning.proofs.ListableLaws.{rule_told}
 use Rattle.h5_meaning.proofs.SettleLaws.{settle-first}
 use Rattle.h5_meaning.proofs.SilentLaws.{Silent, is_start_turn, rule_silent}
@@ -36,6 +38,13 @@ use Rattle.h5_meaning.proofs.ToldLaws.{NoMode, NoText, NoTextBehind, Tells, Turn
 use Rattle.h5_meaning.proofs.TreeLaws.{OnlyTree, tree_adoption, tree_cleared, tree_close_p, tree_close_p_in_scope, tree_format, tree_implied, tree_implied_except, tree_in_select, tree_list_item, tree_marker, tree_misnested_a_tags, tree_misnested_nobr_tags, tree_pop_heading, tree_reconstruct, tree_remove, tree_until_cell, tree_until_current, tree_until_heading, tree_implied_thoroughly, tree_remove_body}
 use Rattle.h5_meaning.proofs.TemplateLaws.{tree_insert_template}
 use Rattle.h5_fits.proofs.ChangeLaws.{later_kinds}
+use Rattle.h5_data.specs.Doctypes.{is_good_doctype, quirks_of}
+use Rattle.h5_meaning.specs.ForeignContent.{dispatch}
+use Rattle.h5_meaning.specs.Foreign.{is_foreign, is_foreign_text}
+use Rattle.h5_meaning.specs.Sound.{Fits}
+use Rattle.h5_meaning.proofs.ForeignRowLaws.{dispatch_html, eof_html}
+use Rattle.h5_meaning.proofs.ForeignTurnLaws.{dispatch_told, dispatch_silent}
+use Rattle.h5_meaning.proofs.ForeignModeLaws.{exact_html, html_not_foreign}
 
 -- ONE CHANGE, and the modes to go back to
 abbrev saved_after : Change → World → Option InsertionMode
@@ -83,6 +92,10 @@ change_saved choices (RemoveFromStack element) w h = tree_saved w _ (tree_remove
 change_saved choices GenerateImpliedEndThoroughly w h = tree_saved w _ (tree_implied_thoroughly choices w)
 change_saved choices (InsertTemplate attrs duplicates) w h = tree_saved w _ (tree_insert_template choices attrs duplicates w)
 change_saved choices RemoveBody w h = tree_saved w _ (tree_remove_body w)
+change_saved choices (InsertForeignElement name attrs duplicates) w h = tree_saved w _ (tree_insert_foreign choices name attrs duplicates w)
+change_saved choices (InsertAndPopForeignElement name attrs duplicates) w h = tree_saved w _ (tree_insert_and_pop_foreign choices name attrs duplicates w)
+change_saved choices LeaveForeignContent w h = tree_saved w _ (tree_leave choices w)
+change_saved choices (PopUntilNamedInAnyCase local) w h = tree_saved w _ (tree_until_in_any_case local w)
 change_saved choices (PushTemplateMode m) w h = absurd h
 change_saved choices PopTemplateMode w h = absurd h
 change_saved choices (SwitchTemplateMode m) w h = absurd h
@@ -141,6 +154,7 @@ abbrev pub Leads : Reply → InsertionMode → Type 0
 Leads Continues m = is_text m ≡ false
 Leads (RunsScript node) m = is_text m ≡ false
 Leads TurnsPlain m = is_text m ≡ false
+Leads (Indicates encoding) m = is_text m ≡ false
 Leads (TurnsRaw kind) m = Unit {0}
 Leads _ m = ⊥
 
@@ -160,6 +174,7 @@ turn_leads choices go t xs (AgainBy mode) quiet w n h g =
     let k = g (set_mode (mode v) v) (n.1 v b, b) in record { behind = k.behind; leads = k.leads }
 turn_leads choices go t xs (Answers (RunsScript node)) quiet w n h g = let k = changes_no_text choices xs w n h in record { behind = k.1; leads = k.0 }
 turn_leads choices go t xs (Answers TurnsPlain) quiet w n h g = let k = changes_no_text choices xs w n h in record { behind = k.1; leads = k.0 }
+turn_leads choices go t xs (Answers (Indicates encoding)) quiet w n h g = let k = changes_no_text choices xs w n h in record { behind = k.1; leads = k.0 }
 turn_leads choices go t xs (Answers (TurnsRaw kind)) quiet w n h g = record { behind = changes_to_text choices xs w n h; leads = tt }
 turn_leads choices go t xs (Answers _) quiet w n h g = absurd n
 
@@ -167,8 +182,8 @@ within_leads : (choices : SinkChoices) (n : ℕ) (t : TurnText) (w : World) → 
 unfolding settle_within
 within_leads choices zero t w h = record { behind = h.1; leads = h.0 }
 within_leads choices (suc n) t w h =
-    let r = rule w.mode t w in
-    turn_leads choices (λ v. settle_within choices n t v) t r.changes r.ending r.quiet w (rule_told w.mode t w h.0).1 h (λ v k. within_leads choices n t v k)
+    let r = dispatch choices t w in
+    turn_leads choices (λ v. settle_within choices n t v) t r.changes r.ending r.quiet w (dispatch_told choices t w h.0).1 h (λ v k. within_leads choices n t v k)
 
 -- and of one that is no start tag: nothing is answered, so they lead to none
 record LeadsOut (s : Settled) : Type 0 where
@@ -191,8 +206,8 @@ within_out : (choices : SinkChoices) (n : ℕ) (t : TurnText) (w : World) → is
 unfolding settle_within
 within_out choices zero t w e h = record { no_text = h; reply = refl }
 within_out choices (suc n) t w e h =
-    let r = rule w.mode t w in
-    turn_out choices (λ v. settle_within choices n t v) t r.changes r.ending r.quiet w (rule_told w.mode t w h.0).1 (rule_silent w.mode t w h.0 e) h (λ v k. within_out choices n t v e k)
+    let r = dispatch choices t w in
+    turn_out choices (λ v. settle_within choices n t v) t r.changes r.ending r.quiet w (dispatch_told choices t w h.0).1 (dispatch_silent choices t w h.0 e) h (λ v k. within_out choices n t v e k)
 
 settle_leads : (choices : SinkChoices) (t : TurnText) (w : World) → NoTextIn w → LeadsOn (settle choices t w)
 unfolding settle
@@ -216,11 +231,11 @@ out_leaves : (s : Settled) → LeadsOut s → Leaves s
 out_leaves s o = record { no_text = o.no_text; calm = subst IsCalm (sym o.reply) tt }
 
 -- the turn of a mode, and what follows it
-settle_in : (choices : SinkChoices) (t : TurnText) (w : World) (m : InsertionMode) (P : Settled → Type 0) → w.mode ≡ m
+settle_in : (choices : SinkChoices) (t : TurnText) (w : World) (m : InsertionMode) (P : Settled → Type 0) → is_foreign choices t w ≡ false → w.mode ≡ m
     → P (by_row choices (λ v. settle_within choices (15 + length w.stack) t v) t (rule m t w) w) → P (settle choices t w)
-settle_in choices t w m P e p =
+settle_in choices t w m P html e p =
     let go : World → Settled = λ v. settle_within choices (15 + length w.stack) t v in
-    subst P (sym (settle-first choices t w ∙ ap (λ k. by_row choices go t (rule k t w) w) e)) p
+    subst P (sym (settle-first choices t w ∙ ap (λ r. by_row choices go t r w) (dispatch_html choices t w html) ∙ ap (λ k. by_row choices go t (rule k t w) w) e)) p
 
 end_in_text : (choices : SinkChoices) (go : World → Settled) (tag : TagText) (w : World) → NoTextBehind w → Leaves (by_row choices go (TagTurn tag) (text_end tag w) w)
 unfolding pop
@@ -252,15 +267,19 @@ pub mode_is_text : (m : InsertionMode) → is_text m ≡ true → m ≡ Text
 mode_is_text Text e = refl
 mode_is_text _ e = absurd (cc)
 
-tag_leaves : (choices : SinkChoices) (tag : TagText) (w : World) (b : Bool) → is_text w.mode ≡ b → is_start tag.kind ≡ false → NoTextBehind w → Leaves (settle choices (TagTurn tag) w)
-tag_leaves choices tag w true e k h =
-    settle_in choices (TagTurn tag) w Text Leaves (mode_is_text w.mode e) (tag_in_text choices (λ v. settle_within choices (15 + length w.stack) (TagTurn tag) v) tag.kind tag w k h)
-tag_leaves choices tag w false e k h = out_leaves (settle choices (TagTurn tag) w) (settle_out choices (TagTurn tag) w k (e, h))
+-- in a text no token is foreign: its element is of HTML, and isn't the root
+in_text_html : (choices : SinkChoices) (t : TurnText) (w : World) → w.mode ≡ Text → Fits w → is_foreign choices t w ≡ false
+in_text_html choices t w e f = html_not_foreign choices t w (exact_html w Text refl (subst (λ m. FitsAs m w) e f.mode))
+
+tag_leaves : (choices : SinkChoices) (tag : TagText) (w : World) (b : Bool) → is_text w.mode ≡ b → is_start tag.kind ≡ false → Fits w → NoTextBehind w → Leaves (settle choices (TagTurn tag) w)
+tag_leaves choices tag w true e k f h =
+    settle_in choices (TagTurn tag) w Text Leaves (in_text_html choices (TagTurn tag) w (mode_is_text w.mode e) f) (mode_is_text w.mode e) (tag_in_text choices (λ v. settle_within choices (15 + length w.stack) (TagTurn tag) v) tag.kind tag w k h)
+tag_leaves choices tag w false e k f h = out_leaves (settle choices (TagTurn tag) w) (settle_out choices (TagTurn tag) w k (e, h))
 
 file_leaves : (choices : SinkChoices) (w : World) (b : Bool) → is_text w.mode ≡ b → NoTextBehind w → Leaves (settle choices EofTurn w)
 file_leaves choices w true e h =
     let n = 15 + length w.stack in
-    settle_in choices EofTurn w Text Leaves (mode_is_text w.mode e) (file_in_text choices (λ v. settle_within choices n EofTurn v) w (λ v k. within_out choices n EofTurn v refl k) h)
+    settle_in choices EofTurn w Text Leaves (eof_html choices w) (mode_is_text w.mode e) (file_in_text choices (λ v. settle_within choices n EofTurn v) w (λ v k. within_out choices n EofTurn v refl k) h)
 file_leaves choices w false e h = out_leaves (settle choices EofTurn w) (settle_out choices EofTurn w refl (e, h))
 
 -- A TEXT leads into none
@@ -276,9 +295,10 @@ unfolding text_in_body append_text set_frameset_ok_by_text
 body_no_text choices t w h = let e = tree_reconstruct choices w in same_no_text w (text_in_body choices t w) (ap (λ (x : World). x.mode) e) (tree_saved w (reconstruct_active_formatting_elements choices w) e) h
 
 no_text_kept : (choices : SinkChoices) → IsKept choices NoTextIn
-unfolding append_text append_pending_text
+unfolding append_text append_pending_text set_frameset_ok_by_text
 no_text_kept choices = record {
   append = λ t w h. h;
+  foreign = λ t w h. h;
   body = λ t w h. body_no_text choices t w h;
   pending = λ t w h. h;
   fostered = λ on w h. h;
@@ -315,9 +335,13 @@ at_once_stays : (w v : World) (quiet : Bool) → NoTextIn v → Stays w (at_once
 at_once_stays w v quiet h = record { behind = h.1; calm = tt; stays = λ e. let out = h.0 in absurd (cc) }
 
 text_stays : (choices : SinkChoices) (t : List ℕ) (w : World) (quiet : Bool) (b : Bool) → is_text w.mode ≡ b → NoTextBehind w → Stays w (at_once (text_rule choices t w) quiet)
-unfolding append_text
+unfolding append_text set_frameset_ok_by_text
 text_stays choices t w quiet false e h = at_once_stays w (text_rule choices t w) quiet (text_kept choices NoTextIn (no_text_kept choices) t w (e, h))
-text_stays choices t w quiet true e h = subst (λ m. Stays w (at_once (text_in m choices t w) quiet)) (sym (mode_is_text w.mode e)) (record { behind = h; calm = tt; stays = λ k. k })
+text_stays choices t w quiet true e h = at (is_foreign_text choices w)
+  where
+    at : (c : Bool) → Stays w (at_once (cond c (foreign_text t w) (text_in w.mode choices t w)) quiet)
+    at true = record { behind = h; calm = tt; stays = λ k. k }
+    at false = subst (λ m. Stays w (at_once (text_in m choices t w) quiet)) (sym (mode_is_text w.mode e)) (record { behind = h; calm = tt; stays = λ k. k })
 
 text_step_stays : (choices : SinkChoices) (t : List ℕ) (w : World) → NoTextBehind w → Stays w (text_step choices t w)
 text_step_stays choices [] w h = record { behind = h; calm = tt; stays = λ k. k }
@@ -327,7 +351,7 @@ doctype_stays : (choices : SinkChoices) (m : InsertionMode) (d : DoctypeText) (w
 unfolding judged with_doctype insert_doctype set_quirks_mode
 doctype_stays choices Initial d w h = at w.options.drop_doctype
   where
-    at : (b : Bool) → Stays w (at_once (set_mode BeforeHtml (set_quirks_mode (quirks_of d) (cond b w (insert_doctype choices (unwrap_or d.name []) (unwrap_or d.public_id []) (unwrap_or d.system_id []) w)))) (is_good_doctype d))
+    at : (b : Bool) → Stays w (at_once (set_mode BeforeHtml (set_quirks_mode (quirks_of w.options.iframe_srcdoc d) (cond b w (insert_doctype choices (unwrap_or d.name []) (unwrap_or d.public_id []) (unwrap_or d.system_id []) w)))) (is_good_doctype d))
     at true = at_once_stays w _ _ (refl, h)
     at false = at_once_stays w _ _ (refl, h)
 doctype_stays choices _ d w h = record { behind = h; calm = tt; stays = λ k. k }
@@ -341,22 +365,26 @@ not_in_text _ t r n = refl
 turn_stays : (choices : SinkChoices) (t : TokenText) (x : TurnText) (w : World) → is_refused_in_text t ≡ true → is_start_turn x ≡ false → NoTextBehind w → refuses_in w.mode t ≡ false → Stays w (settle choices x w)
 turn_stays choices t x w r s h n = leaves_stays w (settle choices x w) (out_leaves (settle choices x w) (settle_out choices x w s (not_in_text w.mode t r n, h)))
 
-tag_leads : (choices : SinkChoices) (tag : TagText) (w : World) (k : TagKind) → tag.kind ≡ k → NoTextBehind w → refuses_in w.mode (TagIs tag) ≡ false → StepLeads (TagIs tag) w (settle choices (TagTurn tag) w)
-tag_leads choices tag w StartTag e h n =
+tag_leads : (choices : SinkChoices) (tag : TagText) (w : World) (k : TagKind) → tag.kind ≡ k → Fits w → NoTextBehind w → refuses_in w.mode (TagIs tag) ≡ false → StepLeads (TagIs tag) w (settle choices (TagTurn tag) w)
+tag_leads choices tag w StartTag e f h n =
     let s = settle choices (TagTurn tag) w in
     let l = settle_leads choices (TagTurn tag) w (not_in_text w.mode (TagIs tag) (ap is_start e) n, h) in
     record { behind = l.behind; leads = subst (λ j. TagLeads j s.reply s.world.mode) (sym e) l.leads }
-tag_leads choices tag w EndTag e h n =
+tag_leads choices tag w EndTag e f h n =
     let s = settle choices (TagTurn tag) w in
-    let l = tag_leaves choices tag w (is_text w.mode) refl (ap is_start e) h in
+    let l = tag_leaves choices tag w (is_text w.mode) refl (ap is_start e) f h in
     record { behind = l.no_text.1; leads = subst (λ j. TagLeads j s.reply s.world.mode) (sym e) (l.calm, l.no_text.0) }
 
-pub step_leads : (choices : SinkChoices) (t : TokenText) (w : World) → NoTextBehind w → refuses_in w.mode t ≡ false → StepLeads t w (step choices t w)
+taken_fits : (w : World) → Fits w → Fits (taken w)
+unfolding names_of
+taken_fits w f = record { mode = f.mode; lists = f.lists }
+
+pub step_leads : (choices : SinkChoices) (t : TokenText) (w : World) → Fits w → NoTextBehind w → refuses_in w.mode t ≡ false → StepLeads t w (step choices t w)
 unfolding step
-step_leads choices (DoctypeIs d) w h n = let k = doctype_stays choices w.mode d (taken w) h in record { behind = k.behind; leads = (k.calm, k.stays) }
-step_leads choices (TagIs tag) w h n = let k = tag_leads choices tag (taken w) tag.kind refl h n in record { behind = k.behind; leads = k.leads }
-step_leads choices (CommentIs x) w h n = let k = turn_stays choices (CommentIs x) (CommentTurn x) (taken w) refl refl h n in record { behind = k.behind; leads = (k.calm, k.stays) }
-step_leads choices (Characters t) w h n = let k = text_step_stays choices (without_lf w.ignore_lf t) (taken w) h in record { behind = k.behind; leads = (k.calm, k.stays) }
-step_leads choices NullCharacter w h n = let k = turn_stays choices NullCharacter NullTurn (taken w) refl refl h n in record { behind = k.behind; leads = (k.calm, k.stays) }
-step_leads choices EndOfFile w h n = let k = file_leaves choices (taken w) (is_text w.mode) refl h in record { behind = k.no_text.1; leads = (k.calm, k.no_text.0) }
-step_leads choices (ParseErrorIs x) w h n = record { behind = h; leads = (tt, λ k. k) }
+step_leads choices (DoctypeIs d) w f h n = let k = doctype_stays choices w.mode d (taken w) h in record { behind = k.behind; leads = (k.calm, k.stays) }
+step_leads choices (TagIs tag) w f h n = let k = tag_leads choices tag (taken w) tag.kind refl (taken_fits w f) h n in record { behind = k.behind; leads = k.leads }
+step_leads choices (CommentIs x) w f h n = let k = turn_stays choices (CommentIs x) (CommentTurn x) (taken w) refl refl h n in record { behind = k.behind; leads = (k.calm, k.stays) }
+step_leads choices (Characters t) w f h n = let k = text_step_stays choices (without_lf w.ignore_lf t) (taken w) h in record { behind = k.behind; leads = (k.calm, k.stays) }
+step_leads choices NullCharacter w f h n = let k = turn_stays choices NullCharacter NullTurn (taken w) refl refl h n in record { behind = k.behind; leads = (k.calm, k.stays) }
+step_leads choices EndOfFile w f h n = let k = file_leaves choices (taken w) (is_text w.mode) refl h in record { behind = k.no_text.1; leads = (k.calm, k.no_text.0) }
+step_leads choices (ParseErrorIs x) w f h n = record { behind = h; leads = (tt, λ k. k) }

@@ -1,6 +1,6 @@
 -- What a row tells of texts: one that turns the reader to raw text sets the mode to "text" last, and no other does.
 use Rattle.std.proofs.Common.{◌≡◌, Bool, true, false, List, [], ◌∷◌, ◌++◌, refl}
-use Rattle.h5_token.specs.Reply.{RunsScript, TurnsPlain, TurnsRaw}
+use Rattle.h5_token.specs.Reply.{Indicates, RunsScript, TurnsPlain, TurnsRaw}
 use Rattle.h5_types.specs.declared.modes.InsertionMode.{InsertionMode}
 use Rattle.h5_types.specs.declared.modes.InsertionMode.TheVariants.{Text}
 use Rattle.h5_fits.specs.Fits.{AllKinds, is_template_mode}
@@ -66,6 +66,7 @@ Tells (Again m) xs = (is_text m ≡ false) × NoText xs
 Tells (AgainBy mode) xs = NoText xs × ((v : World) → NoTextBehind v → is_text (mode v) ≡ false)
 Tells (Answers (RunsScript node)) xs = NoText xs
 Tells (Answers TurnsPlain) xs = NoText xs
+Tells (Answers (Indicates encoding)) xs = NoText xs
 Tells (Answers (TurnsRaw kind)) xs = TurnsToText xs
 Tells (Answers _) xs = ⊥
 
@@ -120,6 +121,7 @@ tells_append (Again m) xs ys h k = (h.0, no_text_append xs ys h.1 (no_mode_no_te
 tells_append (AgainBy mode) xs ys h k = (no_text_append xs ys h.0 (no_mode_no_text ys k), h.1)
 tells_append (Answers (RunsScript node)) xs ys h k = no_text_append xs ys h (no_mode_no_text ys k)
 tells_append (Answers TurnsPlain) xs ys h k = no_text_append xs ys h (no_mode_no_text ys k)
+tells_append (Answers (Indicates encoding)) xs ys h k = no_text_append xs ys h (no_mode_no_text ys k)
 tells_append (Answers (TurnsRaw kind)) xs ys h k = text_append xs ys h k
 tells_append (Answers _) xs ys h k = absurd h
 

@@ -8,10 +8,12 @@ use Rattle.h5_meaning.specs.Changes.{create_root, insert_element, insert_head, p
 use Rattle.h5_meaning.specs.InBody.{body_ends, no_template_mode}
 use Rattle.h5_meaning.specs.InHead.{template_eof}
 use Rattle.h5_meaning.specs.InitialMode.{initial_else}
+use Rattle.h5_meaning.specs.ForeignContent.{dispatch}
 use Rattle.h5_meaning.specs.Modes.{rule}
 use Rattle.h5_meaning.specs.Rows.{IsDone, Row, changed_by, choose, next_mode}
 use Rattle.h5_meaning.specs.Settle.{Settled, by_row, settle, settle_within, then_turns}
 use Rattle.h5_meaning.specs.World.{World}
+use Rattle.h5_meaning.proofs.ForeignRowLaws.{dispatch_html, eof_html}
 use Rattle.h5_meaning.proofs.SettleLaws.{settle-first}
 
 turn_some : (go : World → Settled) (t : TurnText) (r : Row) (w : World) (o : Option InsertionMode) → 0 < (then_turns go t r w o).turns
@@ -20,7 +22,7 @@ turn_some go t r w (Some m) = omega arith
 
 pub turns_some : (choices : SinkChoices) (t : TurnText) (w : World) → 0 < (settle choices t w).turns
 turns_some choices t w =
-    let r = rule w.mode t w in
+    let r = dispatch choices t w in
     let v = changed_by choices r w in
     subst (λ (s : Settled). 0 < s.turns) (sym (settle-first choices t w)) (turn_some (λ u. settle_within choices (15 + length w.stack) t u) t r v (next_mode r.ending v))
 
@@ -32,7 +34,7 @@ within_few : (choices : SinkChoices) (n : ℕ) (t : TurnText) (w : World) → (s
 unfolding settle_within
 within_few choices zero t w = omega arith
 within_few choices (suc n) t w =
-    let r = rule w.mode t w in
+    let r = dispatch choices t w in
     let v = changed_by choices r w in
     turn_few (λ v. settle_within choices n t v) (suc n) t r v (next_mode r.ending v) (omega arith) (λ u. omega (arith, within_few choices n t u))
 
@@ -43,7 +45,7 @@ turns_few choices t w = within_few choices (16 + length w.stack) t w
 -- one more turn, in another mode
 within_row : (choices : SinkChoices) (j : ℕ) (w : World) (m : InsertionMode) (r : Row) → w.mode ≡ m → rule m EofTurn w ≡ r → settle_within choices (suc j) EofTurn w ≡ by_row choices (λ v. settle_within choices j EofTurn v) EofTurn r w
 unfolding settle_within
-within_row choices j w m r e f = ap (λ x. by_row choices (λ v. settle_within choices j EofTurn v) EofTurn x w) (ap (λ k. rule k EofTurn w) e ∙ f)
+within_row choices j w m r e f = ap (λ x. by_row choices (λ v. settle_within choices j EofTurn v) EofTurn x w) (dispatch_html choices EofTurn w (eof_html choices w) ∙ ap (λ k. rule k EofTurn w) e ∙ f)
 
 one_more : (choices : SinkChoices) (j : ℕ) (w : World) (m k : InsertionMode) (r : Row) (n : ℕ) → w.mode ≡ m → rule m EofTurn w ≡ r → next_mode r.ending (changed_by choices r w) ≡ Some k → (changed_by choices r w).template_modes ≡ []
     → ((v : World) → v.mode ≡ k → v.template_modes ≡ [] → (settle_within choices j EofTurn v).turns ≡ n)

@@ -2,9 +2,9 @@
 use Rattle.std.specs.Prelude.{ℕ, Bool, true, false, not, ◌&&◌, if◌then◌else◌, is_none, is_some, List, [], ◌∷◌, ◌++◌, Option, None, Some, codes}
 use Rattle.h5_token.specs.TokenText.{TagText}
 use Rattle.h5_token.specs.declared.states.RawKind.TheVariants.{Rawtext, Rcdata}
-use Rattle.h5_names.specs.declared.known_name.KnownName.TheVariants.{A, Body, Br, Button, Form, Frameset, Hr, Html, Iframe, Image, Input, Nobr, Noembed, Noscript, Optgroup, P, Plaintext, Select, Table, Template, Textarea, Xmp}
+use Rattle.h5_names.specs.declared.known_name.KnownName.TheVariants.{A, Body, Br, Button, Form, Frameset, Hr, Html, Iframe, Image, Input, Math, Nobr, Noembed, Noscript, Optgroup, P, Plaintext, Select, Svg, Table, Template, Textarea, Xmp}
 use Rattle.h5_names.specs.declared.known_name.KnownName.TheVariants as known
-use Rattle.h5_tag_sets.specs.TagSets.{block_end_names, block_start_names, formatting_names, heading_names, is_default_scope, is_heading, is_html_named, is_list_item_scope, is_one_of}
+use Rattle.h5_tag_sets.specs.TagSets.{block_end_names, block_start_names, formatting_names, heading_names, is_default_scope, is_heading, is_html_named, is_list_item_scope, is_one_of, mathml_namespace, svg_namespace}
 use Rattle.h5_stack.specs.Scope.{comes_before_special, first_passes, has_body_in_scope, has_p_in_button_scope, has_template, has_unclosed, in_scope, node_in_scope, oldest_passing, second_is}
 use Rattle.h5_interface.specs.declared.marks.QuirksMode.{QuirksMode}
 use Rattle.h5_interface.specs.declared.marks.QuirksMode.TheVariants.{Quirks}
@@ -12,9 +12,10 @@ use Rattle.h5_types.specs.TurnText.{CommentTurn, EofTurn, NullTurn, TagTurn, Tex
 use Rattle.h5_types.specs.declared.modes.InsertionMode.TheVariants.{AfterBody, InTable, InFrameset}
 use Rattle.h5_meaning.specs.AdoptionAgency.{closes_one, is_named_listed}
 use Rattle.h5_meaning.specs.ByName.{Rules, by_kind, by_name, ignored_tag, named}
+use Rattle.h5_meaning.specs.Foreign.{adjusted_attributes, foreign_name}
 use Rattle.h5_meaning.specs.Formatting.{is_reconstructed}
 use Rattle.h5_meaning.specs.Rows.{AddAttrsToSecond, AdoptionAgency, Again, Answers, AppendComment, Change, ClearActiveFormattingToMarker, ClearForm, CloseListItem, ClosePElement, ClosePElementInButtonScope, CopyClosedOption, CreateFormattingElement, Ending, GenerateImpliedEnd, GenerateImpliedEndExcept, GenerateImpliedEndInSelect, HandleMisnestedATags, HandleMisnestedNobrTags, InsertAndPopElement, InsertElement, InsertForm, InsertMarker, IsAcknowledged, IsDone, Pop, PopHeading, PopUntilHeading, PopUntilNamed, ReconstructActiveFormattingElements, RemoveBody, RemoveFromStack, Row, SetFramesetNotOk, SetIgnoreLf, SetMode, choose, errs, ignored, row, row_if}
-use Rattle.h5_meaning.specs.Shared.{current_is, head_start_names, in_body_start_html, in_body_text, inserts, is_context, is_type_hidden, raw_text, table_structure_names}
+use Rattle.h5_meaning.specs.Shared.{current_is, head_start_names, in_body_start_html, in_body_text, inserts, inserts_foreign, is_context, is_type_hidden, raw_text, table_structure_names}
 use Rattle.h5_meaning.specs.World.{World, names_of}
 use Rattle.h5_names.specs.AttributeText.{AttributeText}
 use Rattle.h5_meaning.specs.Closing.{newest_item}
@@ -275,6 +276,11 @@ in_body_ruby_texts = codes "rp" ∷ codes "rt" ∷ []
 abbrev pub in_body_start_ruby : Change → TagText → World → Row
 in_body_start_ruby implied tag w = choose (named_in_scope (codes "ruby") w) (errs (implied ∷ inserts tag ∷ []) IsDone) (errs (inserts tag ∷ []) IsDone)
 
+-- a start tag "math", and a start tag "svg"
+abbrev pub in_body_start_foreign : (namespace : List ℕ) → TagText → World → Row
+in_body_start_foreign namespace tag w =
+    inserts_foreign (foreign_name namespace tag.name) (adjusted_attributes namespace tag.attrs) (ReconstructActiveFormattingElements ∷ []) tag
+
 -- a start tag "plaintext": the reader takes all that follows for text
 abbrev pub in_body_start_plaintext : TagText → World → Row
 in_body_start_plaintext tag w = row_if (not (has_p_in_button_scope (names_of w))) (ClosePElementInButtonScope ∷ inserts tag ∷ []) (Answers TurnsPlain)
@@ -341,6 +347,8 @@ in_body_start =
     (named Optgroup, in_body_start_optgroup) ∷
     (is_one_of in_body_ruby_bases, in_body_start_ruby GenerateImpliedEnd) ∷
     (is_one_of in_body_ruby_texts, in_body_start_ruby (GenerateImpliedEndExcept (codes "rtc"))) ∷
+    (named Math, in_body_start_foreign mathml_namespace) ∷
+    (named Svg, in_body_start_foreign svg_namespace) ∷
     (is_one_of in_body_ignored_starts, ignored_tag) ∷ []
 
 unfoldable pub in_body_end : Rules

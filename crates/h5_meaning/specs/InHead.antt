@@ -7,7 +7,8 @@ use Rattle.h5_types.specs.TurnText.{CommentTurn, EofTurn, NullTurn, TagTurn, Tex
 use Rattle.h5_types.specs.declared.modes.InsertionMode.TheVariants.{AfterHead, InHeadNoscript, InTemplate}
 use Rattle.h5_types.specs.declared.modes.SplitStatus.TheVariants.{NotSplit, NotWhitespace, Whitespace}
 use Rattle.h5_meaning.specs.ByName.{Rules, by_kind, by_name, ignored_tag, is_outer, named, of_tag}
-use Rattle.h5_meaning.specs.Rows.{Again, AgainBy, AppendComment, AppendText, ClearActiveFormattingToMarker, GenerateImpliedEndThoroughly, InsertAndPopElement, InsertMarker, InsertScript, InsertTemplate, IsAcknowledged, IsDone, Pop, PopTemplateMode, PopUntilNamed, PushTemplateMode, ResetMode, Row, SetFramesetNotOk, SetMode, choose, errs, ignored, row, row_if}
+use Rattle.h5_meaning.specs.NamedEncoding.{indicates, named_encoding}
+use Rattle.h5_meaning.specs.Rows.{Again, AgainBy, AppendComment, AppendText, ClearActiveFormattingToMarker, GenerateImpliedEndThoroughly, InsertAndPopElement, InsertMarker, InsertScript, InsertTemplate, IsDone, Pop, PopTemplateMode, PopUntilNamed, PushTemplateMode, ResetMode, Row, SetFramesetNotOk, SetMode, choose, errs, ignored, row, row_if}
 use Rattle.h5_meaning.specs.Shared.{current_is, in_body_start_html, inserts, raw_text}
 use Rattle.h5_meaning.specs.Reset.{reset_mode}
 use Rattle.h5_meaning.specs.World.{World, names_of}
@@ -23,7 +24,7 @@ unfoldable pub in_head_links : List (List ℕ)
 in_head_links = codes "base" ∷ codes "basefont" ∷ codes "bgsound" ∷ codes "link" ∷ codes "meta" ∷ []
 
 abbrev pub in_head_start_link : TagText → World → Row
-in_head_start_link tag w = row (InsertAndPopElement tag.name tag.attrs tag.had_duplicate_attributes ∷ []) IsAcknowledged
+in_head_start_link tag w = row (InsertAndPopElement tag.name tag.attrs tag.had_duplicate_attributes ∷ []) (indicates (named_encoding tag.attrs))
 
 -- a start tag "title"
 abbrev pub in_head_start_title : TagText → World → Row

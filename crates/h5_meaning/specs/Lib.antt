@@ -9,6 +9,8 @@ pub mod Blanks
 pub mod ByName
 pub mod Changes
 pub mod Closing
+pub mod Foreign
+pub mod ForeignContent
 pub mod Formatting
 pub mod AdoptionAgency
 pub mod Cuts
@@ -25,7 +27,9 @@ pub mod InTableBody
 pub mod InTableText
 pub mod InTemplate
 pub mod InitialMode
+pub mod Kinds
 pub mod Modes
+pub mod NamedEncoding
 pub mod Place
 pub mod FormOwner
 pub mod Reset

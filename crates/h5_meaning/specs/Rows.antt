@@ -13,6 +13,7 @@ use Rattle.h5_types.specs.declared.turns.ProcessResult.TheVariants as results
 use Rattle.h5_meaning.specs.AdoptionAgency.{adoption_agency, handle_misnested_a_tags, handle_misnested_nobr_tags, remove_from_stack}
 use Rattle.h5_meaning.specs.Changes.{add_attrs_to_html, add_attrs_to_second, append_comment, append_comment_to_doc, append_comment_to_html, append_pending_text, append_text, clear_form, create_root, generate_implied_end_except, insert_and_pop_element, insert_and_pop_form, insert_element, insert_form, insert_head, insert_script, mark_started, pop, pop_until_current, pop_until_named, push_head, remove_body, save_mode, set_foster, set_frameset_not_ok, set_frameset_ok_by_text, set_ignore_lf, set_mode, set_quirks_mode, take_pending_text}
 use Rattle.h5_meaning.specs.Closing.{close_list_item, close_p_element, close_p_element_in_button_scope, copy_closed_option, generate_implied_end, generate_implied_end_in_select, generate_implied_end_thoroughly, pop_heading, pop_until_cell, pop_until_heading}
+use Rattle.h5_meaning.specs.Foreign.{insert_and_pop_foreign_element, insert_foreign_element, leave_foreign_content, pop_until_named_in_any_case}
 use Rattle.h5_meaning.specs.Formatting.{clear_active_formatting_to_marker, create_formatting_element, insert_marker, reconstruct_active_formatting_elements}
 use Rattle.h5_meaning.specs.Reset.{reset_mode}
 use Rattle.h5_meaning.specs.Templates.{insert_template, pop_template_mode, push_template_mode, switch_template_mode}
@@ -72,6 +73,10 @@ pub data Change : Type 0 where
   SwitchTemplateMode : (mode : InsertionMode) → Change
   InsertTemplate : (attrs : List AttributeText) → (duplicates : Bool) → Change
   RemoveBody : Change
+  InsertForeignElement : (name : QualName) → (attrs : List AttributeText) → (duplicates : Bool) → Change
+  InsertAndPopForeignElement : (name : QualName) → (attrs : List AttributeText) → (duplicates : Bool) → Change
+  LeaveForeignContent : Change
+  PopUntilNamedInAnyCase : (local : List ℕ) → Change
 
 abbrev pub apply : SinkChoices → Change → World → World
 apply choices (SetMode mode) w = set_mode mode w
@@ -127,6 +132,10 @@ apply choices PopTemplateMode w = pop_template_mode w
 apply choices (SwitchTemplateMode mode) w = switch_template_mode mode w
 apply choices (InsertTemplate attrs duplicates) w = insert_template choices attrs duplicates w
 apply choices RemoveBody w = remove_body w
+apply choices (InsertForeignElement name attrs duplicates) w = insert_foreign_element choices name attrs duplicates w
+apply choices (InsertAndPopForeignElement name attrs duplicates) w = insert_and_pop_foreign_element choices name attrs duplicates w
+apply choices LeaveForeignContent w = leave_foreign_content choices w
+apply choices (PopUntilNamedInAnyCase local) w = pop_until_named_in_any_case local w
 
 abbrev pub apply_all : SinkChoices → List Change → World → World
 apply_all choices [] w = w

@@ -1,20 +1,18 @@
 -- The run of a list of tokens.
 use Rattle.std.specs.Prelude.{◌≡◌, ℕ, ◌==◌, Bool, true, false, ◌&&◌, if◌then◌else◌, List, [], ◌∷◌, Option, Some, None, codes, unwrap_or}
-use Rattle.h5_names.specs.AttributeText.{is_same_text}
 use Rattle.h5_token.specs.Reply.{Reply, Continues, Refuses}
 use Rattle.h5_token.specs.TokenText.{DoctypeText, TokenText, DoctypeIs, TagIs, CommentIs, Characters, NullCharacter, EndOfFile, ParseErrorIs}
 use Rattle.h5_token.specs.declared.fault.BuildFault.{BuildFault}
 use Rattle.h5_token.specs.declared.fault.BuildFault.TheVariants.{AfterEnd, Failed, NotInText}
-use Rattle.h5_token.specs.declared.tag.TagKind.{TagKind}
-use Rattle.h5_token.specs.declared.tag.TagKind.TheVariants.{EndTag, StartTag}
 use Rattle.h5_interface.specs.SinkChoices.{SinkChoices}
-use Rattle.h5_interface.specs.declared.marks.QuirksMode.{QuirksMode}
-use Rattle.h5_interface.specs.declared.marks.QuirksMode.TheVariants.{Quirks, NoQuirks}
+use Rattle.h5_data.specs.Doctypes.{is_good_doctype, quirks_of}
 use Rattle.h5_types.specs.TurnText.{TagTurn, CommentTurn, NullTurn, EofTurn}
 use Rattle.h5_types.specs.declared.modes.InsertionMode.{InsertionMode}
 use Rattle.h5_types.specs.declared.modes.InsertionMode.TheVariants.{Initial, BeforeHtml, Text}
 use Rattle.h5_meaning.specs.Changes.{set_mode, insert_doctype, set_quirks_mode}
+use Rattle.h5_meaning.specs.Kinds.{is_start}
 use Rattle.h5_meaning.specs.Settle.{Settled, settle}
+use Rattle.h5_meaning.specs.Sound.{Fitting}
 use Rattle.h5_meaning.specs.Text.{is_quiet_text, text_rule}
 use Rattle.h5_meaning.specs.World.{World}
 
@@ -23,6 +21,10 @@ pub record View : Type 0 where
   pub world : World
   pub ended : Bool
   pub failed : Bool
+
+-- what a builder keeps, until it has ended or failed
+pub record IsFitting (v : View) : Type 0 where
+  pub fitting : v.failed ≡ false → v.ended ≡ false → Fitting v.world
 
 -- the newline flag is taken
 abbrev pub taken : World → World
@@ -34,22 +36,6 @@ without_lf true [] = []
 without_lf true (b ∷ t) = if b == 10 then t else b ∷ t
 without_lf false t = t
 
--- a doctype that is no error: `html`, without identifiers, not forced
-abbrev pub is_missing : Option (List ℕ) → Bool
-is_missing None = true
-is_missing (Some text) = false
-
-abbrev pub is_html_text : Option (List ℕ) → Bool
-is_html_text None = false
-is_html_text (Some text) = is_same_text text (codes "html")
-
-abbrev pub is_good_doctype : DoctypeText → Bool
-is_good_doctype d =
-    ((is_html_text d.name && is_missing d.public_id) && is_missing d.system_id) && (if d.force_quirks then false else true)
-
-abbrev pub quirks_of : DoctypeText → QuirksMode
-quirks_of d = if is_good_doctype d then NoQuirks else Quirks
-
 -- a doctype at the start (HTML standard, section 13.2.6.4.1, a DOCTYPE token)
 unfoldable pub with_doctype : SinkChoices → DoctypeText → World → World
 with_doctype choices d w =
@@ -57,7 +43,7 @@ with_doctype choices d w =
     else insert_doctype choices (unwrap_or d.name []) (unwrap_or d.public_id []) (unwrap_or d.system_id []) w
 
 unfoldable pub judged : SinkChoices → DoctypeText → World → World
-judged choices d w = set_mode BeforeHtml (set_quirks_mode (quirks_of d) (with_doctype choices d w))
+judged choices d w = set_mode BeforeHtml (set_quirks_mode (quirks_of w.options.iframe_srcdoc d) (with_doctype choices d w))
 
 -- what is told at once
 abbrev pub at_once : World → Bool → Settled
@@ -84,10 +70,6 @@ step choices EndOfFile w = settle choices EofTurn (taken w)
 step choices (ParseErrorIs message) w = at_once (taken w) false
 
 -- in a text no start tag, comment and null can come from a reader
-abbrev pub is_start : TagKind → Bool
-is_start StartTag = true
-is_start EndTag = false
-
 abbrev pub is_refused_in_text : TokenText → Bool
 is_refused_in_text (TagIs tag) = is_start tag.kind
 is_refused_in_text (CommentIs text) = true

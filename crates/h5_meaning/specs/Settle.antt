@@ -6,7 +6,7 @@ use Rattle.h5_interface.specs.SinkChoices.{SinkChoices}
 use Rattle.h5_types.specs.TurnText.{TurnText, is_self_closing}
 use Rattle.h5_types.specs.declared.modes.InsertionMode.{InsertionMode}
 use Rattle.h5_meaning.specs.Changes.{set_mode}
-use Rattle.h5_meaning.specs.Modes.{rule}
+use Rattle.h5_meaning.specs.ForeignContent.{dispatch}
 use Rattle.h5_meaning.specs.Rows.{Answers, Ending, IsDone, Row, changed_by, next_mode}
 use Rattle.h5_meaning.specs.World.{World}
 
@@ -35,13 +35,13 @@ ends_with t r w = record { world = w; turns = 1; reply = answer_of r.ending; qui
 abbrev pub goes_on_to : Row → Settled → Settled
 goes_on_to r s = record { world = s.world; turns = s.turns + 1; reply = s.reply; quiet = r.quiet && s.quiet }
 
--- THE CHAIN of a token from a world: a turn by the rule of the mode, which is the last, or is followed by the chain from
+-- THE CHAIN of a token from a world: a turn by its rule there, which is the last, or is followed by the chain from
 -- the mode that its ending leads to
 pub data Chain (choices : SinkChoices) (t : TurnText) : World → Settled → Type 0 where
-  Ends : (w : World) → next_mode (rule w.mode t w).ending (changed_by choices (rule w.mode t w) w) ≡ None
-      → Chain choices t w (ends_with t (rule w.mode t w) (changed_by choices (rule w.mode t w) w))
-  GoesOn : (w : World) (mode : InsertionMode) (s : Settled) → next_mode (rule w.mode t w).ending (changed_by choices (rule w.mode t w) w) ≡ Some mode
-      → Chain choices t (set_mode mode (changed_by choices (rule w.mode t w) w)) s → Chain choices t w (goes_on_to (rule w.mode t w) s)
+  Ends : (w : World) → next_mode (dispatch choices t w).ending (changed_by choices (dispatch choices t w) w) ≡ None
+      → Chain choices t w (ends_with t (dispatch choices t w) (changed_by choices (dispatch choices t w) w))
+  GoesOn : (w : World) (mode : InsertionMode) (s : Settled) → next_mode (dispatch choices t w).ending (changed_by choices (dispatch choices t w) w) ≡ Some mode
+      → Chain choices t (set_mode mode (changed_by choices (dispatch choices t w) w)) s → Chain choices t w (goes_on_to (dispatch choices t w) s)
 
 -- one turn by a row, and what follows it
 abbrev pub then_turns : (World → Settled) → TurnText → Row → World → Option InsertionMode → Settled
@@ -54,7 +54,7 @@ by_row choices go t r w = then_turns go t r (changed_by choices r w) (next_mode 
 -- what a token comes to within so many turns
 unfoldable pub settle_within : SinkChoices → ℕ → TurnText → World → Settled
 settle_within choices zero t w = record { world = w; turns = 0; reply = Continues; quiet = true }
-settle_within choices (suc n) t w = by_row choices (λ v. settle_within choices n t v) t (rule w.mode t w) w
+settle_within choices (suc n) t w = by_row choices (λ v. settle_within choices n t v) t (dispatch choices t w) w
 
 -- what a token comes to: sixteen turns, and as many as elements are open, are more than enough
 unfoldable pub settle : SinkChoices → TurnText → World → Settled

@@ -6,7 +6,7 @@ use Rattle.h5_token.specs.TokenText.{TagText}
 use Rattle.h5_types.specs.declared.modes.InsertionMode.TheVariants.{Text}
 use Rattle.h5_token.specs.declared.states.RawKind.{RawKind}
 use Rattle.h5_stack.specs.Scope.{first_passes, has_template}
-use Rattle.h5_meaning.specs.Rows.{AddAttrsToHtml, Answers, AppendText, Change, InsertElement, IsDone, ReconstructActiveFormattingElements, Row, SaveMode, SetFramesetOkByText, SetMode, choose, errs, ignored, row}
+use Rattle.h5_meaning.specs.Rows.{AddAttrsToHtml, Answers, AppendText, Change, InsertAndPopForeignElement, InsertElement, InsertForeignElement, IsAcknowledged, IsDone, ReconstructActiveFormattingElements, Row, SaveMode, SetFramesetOkByText, SetMode, choose, errs, ignored, row}
 use Rattle.h5_meaning.specs.World.{World, name_in, names_of}
 use Rattle.h5_tag_sets.specs.TagSets.{is_html_named}
 use Rattle.h5_names.specs.AttributeText.{AttributeText, is_same_text}
@@ -40,6 +40,13 @@ head_start_names =
 -- an element for a tag
 abbrev pub inserts : TagText → Change
 inserts tag = InsertElement tag.name tag.attrs tag.had_duplicate_attributes
+
+-- an element of this name for a tag, in SVG or MathML, after some changes; it stays open unless the tag closes itself
+abbrev pub inserts_foreign : QualName → List AttributeText → List Change → TagText → Row
+inserts_foreign name attrs before tag =
+    choose tag.self_closing
+    (row (before ++ InsertAndPopForeignElement name attrs tag.had_duplicate_attributes ∷ []) IsAcknowledged)
+    (row (before ++ InsertForeignElement name attrs tag.had_duplicate_attributes ∷ []) IsDone)
 
 -- the current node is an HTML element of this name
 abbrev pub current_is : List ℕ → World → Bool

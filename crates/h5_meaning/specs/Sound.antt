@@ -31,8 +31,9 @@ abbrev pub IsHtml : Forest → List ℕ → ℕ → Type 0
 IsHtml f local n = kind_of f n ≡ Some (ElementNode (html_name local))
 
 -- at every moment, also where memory ran out: so they stand, and what the builder points at is there. The head
--- element is a `head`; the form element is another, and a `form` where it is open; an element in the list of active
--- formatting elements, open or not, is of its tag's name, one of the formatting elements'
+-- element is a `head`; the form element is another, and a `form` where it is open; the context of a fragment is another
+-- than the head element, and is never open; an element in the list of active formatting elements, open or not, is of its
+-- tag's name, one of the formatting elements'
 pub record AllStand (f : Forest) (s : List ℕ) (l : List Entry) (head form context : Option ℕ) : Type 0 where
   pub stands : Stands f s
   pub root_top : RootIsTop f s
@@ -41,6 +42,8 @@ pub record AllStand (f : Forest) (s : List ℕ) (l : List Entry) (head form cont
   pub form_name : (n : ℕ) → form ≡ Some n → IsIn n s → IsHtml f (codes "form") n
   pub apart : (n : ℕ) → head ≡ Some n → form ≡ Some n → ⊥
   pub context_node : (n : ℕ) → context ≡ Some n → IsElement f n
+  pub context_out : (n : ℕ) → context ≡ Some n → ¬ (IsIn n s)
+  pub context_no_head : (n : ℕ) → head ≡ Some n → context ≡ Some n → ⊥
   pub listed : AllOfTags f l
   pub formatting : AllFormatting l
 
@@ -70,6 +73,11 @@ HasLists w = Lists w.stack w.formatting
 pub record Fits (w : World) : Type 0 where
   pub mode : NamesFit (situation_of w) w.mode (names_of w)
   pub lists : HasLists w
+
+-- WHAT A BUILDER KEEPS at every turn, and between tokens
+pub record Fitting (w : World) : Type 0 where
+  pub sound : Sound w
+  pub fits : Fits w
 
 -- in the body, where formatting elements are closed: all stands, the list agrees with the stack, and the root is an
 -- `html`

@@ -1,4 +1,4 @@
--- The rule of a text, in one step: by the mode, for its longest front of blanks and for the rest.
+-- The rule of a text, in one step: in foreign content, or by the mode, for its longest front of blanks and for the rest.
 use Rattle.std.specs.Prelude.{◌≡◌, ℕ, Bool, true, false, List, [], ◌∷◌, codes, filter, Option, Some, None, if◌then◌else◌}
 use Rattle.h5_interface.specs.SinkChoices.{SinkChoices}
 use Rattle.h5_types.specs.TurnText.{TextTurn, TurnText}
@@ -12,6 +12,7 @@ use Rattle.h5_meaning.specs.BeforeHead.{before_head_else}
 use Rattle.h5_meaning.specs.BeforeHtml.{before_html_else}
 use Rattle.h5_meaning.specs.Blanks.{is_blank, blanks_of, rest_of}
 use Rattle.h5_meaning.specs.Changes.{append_pending_text, append_text, save_mode, set_foster, set_frameset_ok_by_text, set_mode}
+use Rattle.h5_meaning.specs.Foreign.{is_foreign_text}
 use Rattle.h5_meaning.specs.Formatting.{reconstruct_active_formatting_elements}
 use Rattle.h5_meaning.specs.Shared.{current_is}
 use Rattle.h5_meaning.specs.InColumnGroup.{in_column_group_else}
@@ -42,9 +43,17 @@ in_next (Some mode) w = set_mode mode w
 abbrev pub after_row : SinkChoices → Row → World → World
 after_row choices r w = in_next (next_mode r.ending (changed_by choices r w)) (changed_by choices r w)
 
--- by "anything else", and then by the rule of the mode that this leads to
+-- in foreign content
+abbrev pub foreign_text : List ℕ → World → World
+foreign_text t w = append_text t (set_frameset_ok_by_text t w)
+
+-- there, or else by another rule
+abbrev pub unless_foreign : SinkChoices → (List ℕ → World → World) → List ℕ → World → World
+unless_foreign choices f t w = if is_foreign_text choices w then foreign_text t w else f t w
+
+-- by "anything else", and then by the rule of the mode that this leads to, unless that leads to foreign content
 abbrev pub by_else : SinkChoices → (TurnText → World → Row) → (List ℕ → World → World) → List ℕ → World → World
-by_else choices r next t w = next t (after_row choices (r (TextTurn NotWhitespace t) w) w)
+by_else choices r next t w = unless_foreign choices next t (after_row choices (r (TextTurn NotWhitespace t) w) w)
 
 -- in the body (HTML standard, section 13.2.6.4.7, a character token)
 unfoldable pub text_in_body : SinkChoices → List ℕ → World → World
@@ -125,7 +134,7 @@ text_in AfterFrameset choices = text_in_frameset
 text_in AfterAfterFrameset choices = text_after_after_frameset choices
 
 abbrev pub text_rule : SinkChoices → List ℕ → World → World
-text_rule choices t w = text_in w.mode choices t w
+text_rule choices t w = unless_foreign choices (text_in w.mode choices) t w
 
 abbrev pub text_any : SinkChoices → List ℕ → World → World
 text_any choices t w = if_any (text_rule choices) t w
@@ -146,13 +155,15 @@ splits AfterAfterBody = true
 splits AfterAfterFrameset = true
 splits _ = false
 
--- a run is of blanks, or has none; a whole text is for a mode that doesn't split
-abbrev pub IsRun : InsertionMode → SplitStatus → List ℕ → Type 0
-IsRun mode Whitespace t = rest_of t ≡ []
-IsRun mode NotWhitespace t = all_blanks t ≡ []
-IsRun mode NotSplit t = splits mode ≡ false
+-- a run is of blanks, or has none; a whole text is for a mode that doesn't split, or for foreign content
+abbrev pub IsRun : InsertionMode → (foreign : Bool) → SplitStatus → List ℕ → Type 0
+IsRun mode foreign Whitespace t = rest_of t ≡ []
+IsRun mode foreign NotWhitespace t = all_blanks t ≡ []
+IsRun mode true NotSplit t = Unit {0}
+IsRun mode false NotSplit t = splits mode ≡ false
 
--- in the body, a caption, a cell, a template and a text no text is a parse error; elsewhere one may be
+-- in the body, a caption, a cell, a template and a text no text is a parse error, nor in foreign content there; elsewhere
+-- one may be
 abbrev pub is_quiet_text : InsertionMode → Bool
 is_quiet_text InBody = true
 is_quiet_text InCaption = true

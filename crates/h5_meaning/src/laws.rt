@@ -4,29 +4,34 @@ ghost use Rattle.h5_token.specs.Joins.{join};
 ghost use Rattle.h5_token.specs.TokenText.{TokenText};
 ghost use Rattle.h5_interface.specs.SinkChoices.{SinkChoices};
 ghost use Rattle.h5_stack.specs.FormattingList.{after_marker, nodes_of};
-ghost use Rattle.h5_stack.specs.FormattingNames.{AllFormatting};
 ghost use Rattle.h5_stack.specs.Lists.{OpenFirst};
 ghost use Rattle.h5_stack.specs.Order.{IsIn};
 ghost use Rattle.h5_types.specs.TurnText.{EofTurn, HasText, TurnText};
 ghost use Rattle.h5_types.specs.declared.modes.InsertionMode.TheVariants.{Initial};
 ghost use Rattle.h5_meaning.specs.Cuts.{CutsAgree};
+ghost use Rattle.h5_meaning.specs.ForeignContent.{dispatch};
 ghost use Rattle.h5_meaning.specs.Formatting.{reconstruct_active_formatting_elements};
-ghost use Rattle.h5_meaning.specs.Modes.{rule};
-ghost use Rattle.h5_meaning.specs.Run.{View, after_all, replies, told_all};
+ghost use Rattle.h5_meaning.specs.Run.{IsFitting, View, after_all, after_token, replies, told_all};
 ghost use Rattle.h5_meaning.specs.Settle.{IsOneChain, by_row, settle};
 ghost use Rattle.h5_meaning.specs.Sound.{Fits, Sound};
 ghost use Rattle.h5_meaning.specs.World.{World};
 
-/// Over every sink, from every view in which each active formatting element is listed for a tag of a formatting element:
-/// a list of tokens and the list with its neighbouring texts joined give one view, one reply to each token that is no
-/// text, and to each piece of a run the run's reply. So it doesn't matter how a run of text is cut.
+/// Over every sink, from every view of a builder, also of one that has ended or failed: a list of tokens and the list with
+/// its neighbouring texts joined give one view, one reply to each token that is no text, and to each piece of a run the
+/// run's reply. So it doesn't matter how a run of text is cut.
 pub fn cuts_agree()
-    ensures { (choices : SinkChoices) (tokens : List TokenText) (view : View) → AllFormatting view.world.formatting → CutsAgree choices tokens view }
+    ensures { (choices : SinkChoices) (tokens : List TokenText) (view : View) → IsFitting view → CutsAgree choices tokens view }
 {}
 
 /// Two lists of tokens that are the same but for the cuts of their texts give one view from every such view.
 pub fn cuts_of_one_list_agree()
-    ensures { (choices : SinkChoices) (tokens others : List TokenText) (view : View) → AllFormatting view.world.formatting → join tokens ≡ join others → after_all choices tokens view ≡ after_all choices others view }
+    ensures { (choices : SinkChoices) (tokens others : List TokenText) (view : View) → IsFitting view → join tokens ≡ join others → after_all choices tokens view ≡ after_all choices others view }
+{}
+
+/// What a builder keeps between tokens (that all stands, and that the open elements fit the insertion mode), it keeps
+/// through every token.
+pub fn what_is_kept_stays()
+    ensures { (choices : SinkChoices) (token : TokenText) (view : View) → IsFitting view → IsFitting (after_token choices token view) }
 {}
 
 /// The run of one list followed by another is the run of the first and then, from the view that it leaves, of
@@ -38,12 +43,12 @@ pub fn runs_join()
 {}
 
 /// From a builder that is sound, and whose open elements fit its mode, as it is between tokens, a token has exactly one
-/// chain of turns, and it comes to what the chain tells: one turn by the rule of the mode and, where that ends in
+/// chain of turns, and it comes to what the chain tells: one turn by its rule there and, where that ends in
 /// "again", the chain from there.
 pub fn a_token_has_one_chain()
     ensures one { (choices : SinkChoices) (t : TurnText) (w : World) → Sound w → HasText t → Fits w → IsOneChain choices t w }
     ensures turn { (choices : SinkChoices) (t : TurnText) (w : World) → Sound w → HasText t → Fits w →
-        settle choices t w ≡ by_row choices (settle choices t) t (rule w.mode t w) w }
+        settle choices t w ≡ by_row choices (settle choices t) t (dispatch choices t w) w }
 {}
 
 /// A token takes at least one turn, and at most sixteen and as many as elements are open; the end of file alone, at the

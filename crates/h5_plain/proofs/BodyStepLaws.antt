@@ -26,9 +26,10 @@ use Rattle.h5_plain.specs.Plain.{end_tag, start_tag}
 use Rattle.h5_plain.proofs.BodyRuleLaws.{IsHeadingName, IsHolder, br_outside, br_rule, div_end_rule, div_outside, p_end_rule, p_outside}
 use Rattle.h5_stack.specs.FormattingList.{Entry}
 use Rattle.h5_plain.proofs.ListedLaws.{OpenFormat}
-use Rattle.h5_plain.proofs.CalmLaws.{Calm, after, calm_closed, names_are, opened, place_is, unowned}
+use Rattle.h5_plain.proofs.CalmLaws.{Calm, calm_html, after, calm_closed, names_are, opened, place_is, unowned}
 use Rattle.h5_plain.proofs.FilledLaws.{Face}
 use Rattle.h5_plain.proofs.GoesLaws.{Moves, moves_acknowledged, moves_row, moves_text}
+use Rattle.h5_plain.proofs.HtmlLaws.{AtHtml}
 use Rattle.h5_plain.proofs.GrowthLaws.{with_element}
 use Rattle.h5_plain.proofs.ModeLaws.{GoesByBody, IsOutside, end_by_body, start_by_body}
 use Rattle.h5_plain.proofs.RuleLaws.{end, start}
@@ -52,7 +53,7 @@ module _ (choices : SinkChoices) {w : World} {p : ℕ} {d : Face} {names : List 
   pub starts_block : (name : List ℕ) (attrs : List AttributeText) → GoesByBody w.mode → IsHolder name → IsOutside name → has_p_in_button_scope names ≡ false → rule InBody (TagTurn (start name attrs)) w ≡ in_body_start_block (start name attrs) w
       → Moves choices (start_tag name attrs) w (opened choices w p name attrs w.mode w.formatting w.frameset_ok)
   starts_block name attrs m k o h e =
-      moves_row choices (start name attrs) w (opened choices w p name attrs w.mode w.formatting w.frameset_ok) w.mode (ClosePElementInButtonScope ∷ InsertElement name attrs false ∷ []) refl c.ignore_lf
+      moves_row choices (start name attrs) w (opened choices w p name attrs w.mode w.formatting w.frameset_ok) w.mode (ClosePElementInButtonScope ∷ InsertElement name attrs false ∷ []) refl c.ignore_lf (calm_html c)
       (start_by_body m name attrs w o.no_structure ∙ e ∙ ap (λ b. row_if (not b) (ClosePElementInButtonScope ∷ InsertElement name attrs false ∷ []) IsDone) (no_p h)) refl k.no_title
       (ap (insert_element choices name attrs false) (none_closed h) ∙ insert_is name attrs)
 
@@ -66,7 +67,7 @@ module _ (choices : SinkChoices) {w : World} {p : ℕ} {d : Face} {names : List 
       → Moves choices (start_tag name attrs) w (opened choices w p name attrs w.mode w.formatting w.frameset_ok)
   starts_heading name attrs k m h i =
       let changes = ClosePElementInButtonScope ∷ PopHeading ∷ InsertElement name attrs false ∷ [] in
-      moves_row choices (start name attrs) w (opened choices w p name attrs w.mode w.formatting w.frameset_ok) w.mode changes refl c.ignore_lf
+      moves_row choices (start name attrs) w (opened choices w p name attrs w.mode w.formatting w.frameset_ok) w.mode changes refl c.ignore_lf (calm_html c)
       (start_by_body m name attrs w k.outside.no_structure
       ∙ k.starts attrs w
       ∙ ap (λ b. row_if (not b && not (first_passes is_heading (names_of w))) changes IsDone) (no_p h)
@@ -85,7 +86,7 @@ module _ (choices : SinkChoices) {w : World} {p : ℕ} {d : Face} {names : List 
   -- what it does
   pub breaks : (attrs : List AttributeText) → GoesByBody w.mode → Moves choices (start_tag (codes "br") attrs) w (after w (with_element choices p (html_name (codes "br")) attrs w.forest) w.formatting false)
   breaks attrs m =
-      moves_acknowledged choices (start (codes "br") attrs) w _ w.mode (ReconstructActiveFormattingElements ∷ InsertAndPopElement (codes "br") attrs false ∷ SetFramesetNotOk ∷ []) refl c.ignore_lf
+      moves_acknowledged choices (start (codes "br") attrs) w _ w.mode (ReconstructActiveFormattingElements ∷ InsertAndPopElement (codes "br") attrs false ∷ SetFramesetNotOk ∷ []) refl c.ignore_lf (calm_html c)
       (start_by_body m (codes "br") attrs w br_outside.no_structure ∙ br_rule attrs w) refl
       (ap (λ v. set_frameset_not_ok (insert_and_pop_element choices (codes "br") attrs false v)) (reconstruct_none choices w (calm_closed c)) ∙ break_is attrs)
 
@@ -98,7 +99,7 @@ module _ (choices : SinkChoices) {w : World} {p : ℕ} {d : Face} {names : List 
 
   -- what it does
   pub writes : (b : ℕ) (t : List ℕ) → GoesByBody w.mode → Moves choices (Characters (b ∷ t)) w (after w (append_text_to p (b ∷ t) w.forest) w.formatting (w.frameset_ok && all_blank (b ∷ t)))
-  writes b t m = subst (Moves choices (Characters (b ∷ t)) w) (text_is (b ∷ t)) (moves_text choices b t w m c.ignore_lf (calm_closed c))
+  writes b t m = subst (Moves choices (Characters (b ∷ t)) w) (text_is (b ∷ t)) (moves_text choices b t w m c.ignore_lf (calm_html c) (calm_closed c))
 
 -- a cut at the current node leaves the others
 pub cut_at : (w : World) (names : List QualName) (is : QualName → Bool) (name : QualName) → names_of w ≡ name ∷ names → is name ≡ true
@@ -108,7 +109,7 @@ cut_at w names is name e h =
     ∙ ap (λ b. let v : World = record w { stack = cond b (but_first w.stack) (cut_through is names (but_first w.stack)) } in v) h
 
 -- end tags: the current node leaves the stack, and nothing else changes
-module _ (choices : SinkChoices) (w : World) (names : List QualName) (m : GoesByBody w.mode) (i : w.ignore_lf ≡ false) where
+module _ (choices : SinkChoices) (w : World) (names : List QualName) (m : GoesByBody w.mode) (i : w.ignore_lf ≡ false) (j : AtHtml w) where
   abbrev pub left : World
   left = record w { stack = but_first w.stack }
 
@@ -116,7 +117,7 @@ module _ (choices : SinkChoices) (w : World) (names : List QualName) (m : GoesBy
   pub ends_div : names_of w ≡ html_name (codes "div") ∷ names → Moves choices (end_tag (codes "div")) w left
   unfolding in_body_end_block is_html_named html_namespace is_implied implied_names pop_until_named
   ends_div e =
-      moves_row choices (end (codes "div")) w left w.mode (GenerateImpliedEnd ∷ PopUntilNamed (codes "div") ∷ []) refl i
+      moves_row choices (end (codes "div")) w left w.mode (GenerateImpliedEnd ∷ PopUntilNamed (codes "div") ∷ []) refl i j
       (end_by_body m (codes "div") w div_outside
       ∙ div_end_rule w
       ∙ ap (λ ns. choose (in_scope (is_html_named (codes "div")) is_default_scope ns) (row_if (first_passes (is_html_named (codes "div")) ns) (GenerateImpliedEnd ∷ PopUntilNamed (codes "div") ∷ []) IsDone) ignored) e) refl refl
@@ -127,7 +128,7 @@ module _ (choices : SinkChoices) (w : World) (names : List QualName) (m : GoesBy
   pub ends_p : names_of w ≡ html_name (codes "p") ∷ names → Moves choices (end_tag (codes "p")) w left
   unfolding in_body_end_p is_html_named html_namespace is_implied implied_names pop_until_named close_p_element
   ends_p e =
-      moves_row choices (end (codes "p")) w left w.mode (ClosePElement ∷ []) refl i
+      moves_row choices (end (codes "p")) w left w.mode (ClosePElement ∷ []) refl i j
       (end_by_body m (codes "p") w p_outside
       ∙ p_end_rule w
       ∙ ap (λ ns. choose (has_p_in_button_scope ns) (row_if (first_passes (is_html_named (codes "p")) ns) (ClosePElement ∷ []) IsDone) (errs (InsertElement (codes "p") [] false ∷ ClosePElement ∷ []) IsDone)) e) refl refl
@@ -139,7 +140,7 @@ module _ (choices : SinkChoices) (w : World) (names : List QualName) (m : GoesBy
   unfolding in_body_end_heading pop_until_heading
   ends_heading name k e =
       let changes = GenerateImpliedEnd ∷ PopUntilHeading ∷ [] in
-      moves_row choices (end name) w left w.mode changes refl i
+      moves_row choices (end name) w left w.mode changes refl i j
       (end_by_body m name w k.outside
       ∙ k.ends w
       ∙ ap (λ ns. choose (in_scope is_heading is_default_scope ns) (row_if (first_passes (is_html_named name) ns) changes IsDone) ignored) e

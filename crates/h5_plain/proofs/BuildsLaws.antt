@@ -28,6 +28,7 @@ use Rattle.h5_plain.proofs.FormatRuleLaws.{IsFormatName, a_formats, is_inline_na
 use Rattle.h5_plain.proofs.FormatStepLaws.{ends_kept, ends_lost, formatted, starts_formatting, starts_link}
 use Rattle.h5_plain.proofs.GoesLaws.{Moves}
 use Rattle.h5_plain.proofs.GrowthLaws.{body, html, with_element}
+use Rattle.h5_plain.proofs.HtmlLaws.{AtHtml}
 use Rattle.h5_plain.proofs.ListRuleLaws.{IsListName, is_list_name, item_holds}
 use Rattle.h5_plain.proofs.ListStepLaws.{ends_item, ends_list, starts_item}
 use Rattle.h5_plain.proofs.LooksLaws.{ends_in_node, ends_in_text, unlike}
@@ -136,15 +137,15 @@ module _ (choices : SinkChoices) {w : World} {p : ℕ} {d : Face} {names : List 
 
   block_case : (inner rest : Nodes) → IsHolder name → Moves choices (start_tag name attrs) w in_block
       → (Calm in_block (choices.fresh w.forest) (face name attrs) (html_name name ∷ names) [] (choices.fresh w.forest ∷ w.stack) base → Built choices in_block (choices.fresh w.forest) (face name attrs) inner [] base)
-      → ((v : World) → v.mode ≡ w.mode → v.ignore_lf ≡ false → names_of v ≡ html_name name ∷ names → Moves choices (end_tag name) v (record v { stack = but_first v.stack }))
+      → ((v : World) → v.mode ≡ w.mode → v.ignore_lf ≡ false → AtHtml v → names_of v ≡ html_name name ∷ names → Moves choices (end_tag name) v (record v { stack = but_first v.stack }))
       → ((f : Forest) (k : List Entry) (b : Bool) → Calm (after w f k b) p (more d (ChildNode (choices.fresh w.forest) ∷ [])) names [] under base → Built choices (after w f k b) p (more d (ChildNode (choices.fresh w.forest) ∷ [])) rest [] base)
       → Built choices w p d (ElementThen name attrs inner rest) [] base
   block_case inner rest h m fill ends next =
       element_case choices w p d name attrs w.mode w.formatting w.frameset_ok [] (choices.fresh w.forest ∷ w.stack) base c (opens_block h m) inner rest fill
-      (λ i e. record {
+      (λ i e j. record {
         forest = i.forest;
         formatting = i.formatting;
-        moves = ends (after in_block i.forest i.formatting i.ok) refl c.ignore_lf e;
+        moves = ends (after in_block i.forest i.formatting i.ok) refl c.ignore_lf j e;
         same = same_faces i.forest i.filled.frame.is_forest;
         entries = i.entries;
         fewer = i.fewer;
@@ -219,20 +220,20 @@ module _ (choices : SinkChoices) {w : World} {p : ℕ} {d : Face} {names : List 
   }
 
   -- its end tag
-  closes_format : (f : Forest) (l : List Entry) (ok : Bool) → IsFormatName name → GoesByBody w.mode → IsForest f → names_of (after in_format f l ok) ≡ html_name name ∷ names
+  closes_format : (f : Forest) (l : List Entry) (ok : Bool) → IsFormatName name → GoesByBody w.mode → IsForest f → names_of (after in_format f l ok) ≡ html_name name ∷ names → AtHtml (after in_format f l ok)
       → Entries base (Formats its_node name ∷ path) l → Fewer l (push_formatting its_node (start name attrs) w.formatting) → Closed choices name (after in_format f l ok) w path base
-  closes_format f l ok k m i e (Kept {attrs = a} {l = older} o r) x = record {
+  closes_format f l ok k m i e j (Kept {attrs = a} {l = older} o r) x = record {
     forest = f;
     formatting = older;
-    moves = ends_kept choices (after in_format f l ok) its_node w.stack names name k m c.ignore_lf refl e (start name a) older k.same refl;
+    moves = ends_kept choices (after in_format f l ok) its_node w.stack names name k m c.ignore_lf j refl e (start name a) older k.same refl;
     same = same_faces f i;
     entries = r;
     fewer = closed_fewer its_node (start name attrs) w.formatting older o (rest_fewer its_node (start name a) older (push_formatting its_node (start name attrs) w.formatting) x);
   }
-  closes_format f l ok k m i e (Lost o r) x = record {
+  closes_format f l ok k m i e j (Lost o r) x = record {
     forest = mark (choices.marks_after_pop f its_node) f;
     formatting = l;
-    moves = ends_lost choices (after in_format f l ok) its_node w.stack names name k m c.ignore_lf refl e o;
+    moves = ends_lost choices (after in_format f l ok) its_node w.stack names name k m c.ignore_lf j refl e o;
     same = same_marked f (choices.marks_after_pop f its_node) i;
     entries = r;
     fewer = closed_fewer its_node (start name attrs) w.formatting l o x;
@@ -244,7 +245,7 @@ module _ (choices : SinkChoices) {w : World} {p : ℕ} {d : Face} {names : List 
       → Built choices w p d (ElementThen name attrs inner rest) path base
   format_case inner rest k m moves fill next =
       element_case choices w p d name attrs w.mode (push_formatting its_node (start name attrs) w.formatting) w.frameset_ok (Formats its_node name ∷ path) under base c (opens_format k.holds moves) inner rest fill
-      (λ i e. closes_format i.forest i.formatting i.ok k m i.filled.frame.is_forest e i.entries i.fewer)
+      (λ i e j. closes_format i.forest i.formatting i.ok k m i.filled.frame.is_forest e j i.entries i.fewer)
       next
 
 -- THE INDUCTION: from any calm builder, the tokens of plain nodes lead to it again, but for those nodes below its
@@ -256,53 +257,53 @@ builds choices (Division {attrs} {inner} {rest} a i r) w p d names path under ba
     let n = choices.fresh w.forest in
     block_case choices c (codes "div") attrs inner rest div_holds (starts_block choices c (codes "div") attrs f.0 div_holds div_outside f.1.0 (div_rule attrs w))
     (λ o. builds choices i (in_block choices c (codes "div") attrs) n (face (codes "div") attrs) (html_name (codes "div") ∷ names) [] (n ∷ w.stack) base (in_division w.mode names f) tt tt o)
-    (λ v m k e. ends_div choices v names (subst GoesByBody (sym m) f.0) k e)
+    (λ v m k j e. ends_div choices v names (subst GoesByBody (sym m) f.0) k j e)
     (λ g k b q. builds choices r (after w g k b) p (more d (ChildNode n ∷ [])) names path under base f tt tt q)
 builds choices (Paragraph {attrs} {inner} {rest} a i r) w p d names path under base f z l c =
     let n = choices.fresh w.forest in
     block_case choices c (codes "p") attrs inner rest p_holds (starts_block choices c (codes "p") attrs f.0 p_holds p_outside f.1.0 (p_rule attrs w))
     (λ o. builds choices i (in_block choices c (codes "p") attrs) n (face (codes "p") attrs) (html_name (codes "p") ∷ names) [] (n ∷ w.stack) base f.0 refl refl o)
-    (λ v m k e. ends_p choices v names (subst GoesByBody (sym m) f.0) k e)
+    (λ v m k j e. ends_p choices v names (subst GoesByBody (sym m) f.0) k j e)
     (λ g k b q. builds choices r (after w g k b) p (more d (ChildNode n ∷ [])) names path under base f tt tt q)
 builds choices (Heading {name} {attrs} {inner} {rest} h a i r) w p d names path under base f z l c =
     let n = choices.fresh w.forest in
     let x = is_heading_name name h in
     block_case choices c name attrs inner rest x.holds (starts_heading choices c name attrs x f.0 f.1.0 f.1.1.0)
     (λ o. builds choices i (in_block choices c name attrs) n (face name attrs) (html_name name ∷ names) [] (n ∷ w.stack) base f.0 refl refl o)
-    (λ v m k e. ends_heading choices v names (subst GoesByBody (sym m) f.0) k name x e)
+    (λ v m k j e. ends_heading choices v names (subst GoesByBody (sym m) f.0) k j name x e)
     (λ g k b q. builds choices r (after w g k b) p (more d (ChildNode n ∷ [])) names path under base f tt tt q)
 builds choices (ItemList {name} {attrs} {inner} {rest} h a i r) w p d names path under base f z l c =
     let n = choices.fresh w.forest in
     let x = is_list_name name h in
     block_case choices c name attrs inner rest x.holds (starts_block choices c name attrs f.0 x.holds x.outside f.1.0 (x.starts attrs w))
     (λ o. builds choices i (in_block choices c name attrs) n (face name attrs) (html_name name ∷ names) [] (n ∷ w.stack) base (in_list w.mode name names x f) tt tt o)
-    (λ v m k e. ends_list choices v names (subst GoesByBody (sym m) f.0) k name x e)
+    (λ v m k j e. ends_list choices v names (subst GoesByBody (sym m) f.0) k j name x e)
     (λ g k b q. builds choices r (after w g k b) p (more d (ChildNode n ∷ [])) names path under base f tt tt q)
 builds choices (Item {attrs} {inner} {rest} a i r) w p d names path under base f z l c =
     let n = choices.fresh w.forest in
     part_case choices c (codes "li") attrs w.mode false inner rest item_holds (starts_item choices c attrs f.0 f.1.0 f.1.1.0)
     (λ o. builds choices i (in_part choices c (codes "li") attrs w.mode false) n (face (codes "li") attrs) (html_name (codes "li") ∷ names) [] (n ∷ w.stack) base (in_item w.mode names f) tt tt o)
-    (λ v g k m e. subst (Ends choices (codes "li") v) m (ends_item choices v names (subst GoesByBody (sym m) f.0) k g e))
+    (λ v g k j m e. subst (Ends choices (codes "li") v) m (ends_item choices v names (subst GoesByBody (sym m) f.0) k j g e))
     (λ g k b q. builds choices r (after w g k b) p (more d (ChildNode n ∷ [])) names path under base f tt tt q)
 builds choices (Table {attrs} {inner} {rest} a i r) w p d names path under base f z l c =
     let n = choices.fresh w.forest in
     part_case choices c (codes "table") attrs InTable false inner rest table_holds (starts_table choices c attrs f.0 f.1.0)
     (λ o. builds choices i (in_part choices c (codes "table") attrs InTable false) n (face (codes "table") attrs) (html_name (codes "table") ∷ names) [] (n ∷ w.stack) base (in_table names) tt tt o)
-    (λ v g k m e. ends_table choices v names g k w.mode m e f.1.1.1)
+    (λ v g k j m e. ends_table choices v names g k j w.mode m e f.1.1.1)
     (λ g k b q. builds choices r (after w g k b) p (more d (ChildNode n ∷ [])) names path under base f tt tt q)
 builds choices (Section {attrs} {inner} {rest} a i r) w p d names path under base f z l c =
     let n = choices.fresh w.forest in
     part_case choices c (codes "tbody") attrs InTableBody w.frameset_ok inner rest section_holds
     (starts_part choices c (codes "tbody") attrs InTable InTableBody is_table_scope section_holds f.0 f.1 (section_rule attrs w))
     (λ o. builds choices i (in_part choices c (codes "tbody") attrs InTableBody w.frameset_ok) n (face (codes "tbody") attrs) (html_name (codes "tbody") ∷ names) [] (n ∷ w.stack) base (in_section names) tt tt o)
-    (λ v g k m e. subst (Ends choices (codes "tbody") v) (sym f.0) (ends_section choices v names g k m e))
+    (λ v g k j m e. subst (Ends choices (codes "tbody") v) (sym f.0) (ends_section choices v names g k j m e))
     (λ g k b q. builds choices r (after w g k b) p (more d (ChildNode n ∷ [])) names path under base f tt tt q)
 builds choices (TableRow {attrs} {inner} {rest} a i r) w p d names path under base f z l c =
     let n = choices.fresh w.forest in
     part_case choices c (codes "tr") attrs InRow w.frameset_ok inner rest row_holds
     (starts_part choices c (codes "tr") attrs InTableBody InRow is_table_body_context row_holds f.0 f.1 (row_rule attrs w))
     (λ o. builds choices i (in_part choices c (codes "tr") attrs InRow w.frameset_ok) n (face (codes "tr") attrs) (html_name (codes "tr") ∷ names) [] (n ∷ w.stack) base (in_row names) tt tt o)
-    (λ v g k m e. subst (Ends choices (codes "tr") v) (sym f.0) (ends_row choices v names g k m e))
+    (λ v g k j m e. subst (Ends choices (codes "tr") v) (sym f.0) (ends_row choices v names g k j m e))
     (λ g k b q. builds choices r (after w g k b) p (more d (ChildNode n ∷ [])) names path under base f tt tt q)
 builds choices (Cell {name} {attrs} {inner} {rest} h a i r) w p d names path under base f z l c =
     let n = choices.fresh w.forest in

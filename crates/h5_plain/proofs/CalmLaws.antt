@@ -11,6 +11,7 @@ use Rattle.h5_tag_sets.specs.TagSets.{is_table_outer}
 use Rattle.h5_stack.specs.FormattingList.{Entry, closed_front, nodes_of}
 use Rattle.h5_stack.specs.FormattingNames.{html_name}
 use Rattle.h5_stack.specs.Order.{first_or, is_in}
+use Rattle.h5_fits.specs.NamesFit.{is_html_element}
 use Rattle.h5_meaning.specs.Place.{LastChild, appropriate_place, foster_place, from_foster_parent, place}
 use Rattle.h5_stack.specs.Scope.{has_template}
 use Rattle.h5_meaning.specs.Changes.{owned}
@@ -22,6 +23,7 @@ use Rattle.h5_types.specs.declared.modes.InsertionMode.{InsertionMode}
 use Rattle.h5_plain.proofs.GoesLaws.{Goes, Moves}
 use Rattle.h5_plain.proofs.ListedLaws.{Entries, Fewer, IsBase, OpenFormat, entries_closed, open_nodes}
 use Rattle.h5_plain.proofs.GrowthLaws.{Below, element_below, with_element}
+use Rattle.h5_plain.proofs.HtmlLaws.{AtHtml, at_current, at_named, html_is}
 use Rattle.h5_plain.proofs.LooksLaws.{looks_node}
 
 -- the open elements stand in the forest, by these names
@@ -43,7 +45,7 @@ pub named_kept : {f : Forest} (g : Forest) {s : List ℕ} {names : List QualName
 named_kept g k NoneOpen = NoneOpen
 named_kept {f} g k (OneOpen {n} {name} e r) = OneOpen (k n (node_of_kind f n (ElementNode name) e) ∙ e) (named_kept g k r)
 
--- the builder is at the node p, which is `d` and, foster parenting being off, takes children itself. `path` are the open formatting elements of
+-- the builder is at the node p, which is `d`, of HTML, and, foster parenting being off, takes children itself. `path` are the open formatting elements of
 -- the inlines that the builder is in, `under` the open elements below them, `base` the formatting list before them
 pub record Calm (w : World) (p : ℕ) (d : Face) (names : List QualName) (path : List OpenFormat) (under : List ℕ) (base : List Entry) : Type 0 where
   pub is_forest : IsForest w.forest
@@ -53,7 +55,9 @@ pub record Calm (w : World) (p : ℕ) (d : Face) (names : List QualName) (path :
   pub named : Named w.forest w.stack names
   pub no_foster : w.foster ≡ false
   pub no_form : w.form ≡ None
+  pub no_context : w.context ≡ None
   pub no_template : is_html_template (name_of_kind d.kind) ≡ false
+  pub is_html : is_html_element (name_of_kind d.kind) ≡ true
   pub are_open : w.stack ≡ open_nodes path ++ under
   pub is_base : IsBase base
   pub entries : Entries base path w.formatting
@@ -63,7 +67,12 @@ pub record Calm (w : World) (p : ℕ) (d : Face) (names : List QualName) (path :
 pub calm_closed : {w : World} {p : ℕ} {d : Face} {names : List QualName} {path : List OpenFormat} {under : List ℕ} {base : List Entry} → Calm w p d names path under base → closed_front w.stack w.formatting ≡ []
 calm_closed {w} {under = under} c = ap (λ s. closed_front s w.formatting) c.are_open ∙ entries_closed under c.is_base c.entries
 
--- so what is inserted becomes its last child
+-- no token is for foreign content
+pub calm_html : {w : World} {p : ℕ} {d : Face} {names : List QualName} {path : List OpenFormat} {under : List ℕ} {base : List Entry} → Calm w p d names path under base → AtHtml w
+calm_html {w} c =
+    at_current w c.no_context (ap (λ n. is_html_element (name_in w.forest n)) c.is_current ∙ ap (λ o. is_html_element (name_of_found o)) c.shows.is_kind ∙ c.is_html)
+
+-- what is inserted becomes its last child
 pub place_is : (w : World) (p : ℕ) (d : Face) → current w ≡ p → Shows w.forest p d → w.foster ≡ false → is_html_template (name_of_kind d.kind) ≡ false → place w ≡ LastChild p
 unfolding appropriate_place
 place_is w p d e l off untemplated =
@@ -130,7 +139,9 @@ module _ (choices : SinkChoices) {w : World} {p : ℕ} {d : Face} {names : List 
     named = named_kept g r.kinds c.named;
     no_foster = c.no_foster;
     no_form = c.no_form;
+    no_context = c.no_context;
     no_template = c.no_template;
+    is_html = c.is_html;
     are_open = c.are_open;
     is_base = c.is_base;
     entries = entries;
@@ -179,7 +190,9 @@ module _ (choices : SinkChoices) (w : World) (p : ℕ) (d : Face) (name : List �
           named = OneOpen below.new.is_kind (named_kept inside.forest below.same_kind c.named);
           no_foster = c.no_foster;
           no_form = c.no_form;
+          no_context = c.no_context;
           no_template = o.no_template;
+          is_html = html_is name;
           are_open = o.are_open;
           is_base = o.is_base;
           entries = o.entries;
@@ -190,14 +203,15 @@ module _ (choices : SinkChoices) (w : World) (p : ℕ) (d : Face) (name : List �
     -- an element: its start tag, what it holds, its end tag, and the rest
     pub element_case : (inner rest : Nodes)
         → (Calm inside new (face name attrs) (html_name name ∷ names) path1 under1 base1 → Built choices inside new (face name attrs) inner path1 base1)
-        → ((i : Built choices inside new (face name attrs) inner path1 base1) → names_of (after inside i.forest i.formatting i.ok) ≡ html_name name ∷ names → Closed choices name (after inside i.forest i.formatting i.ok) w path base)
+        → ((i : Built choices inside new (face name attrs) inner path1 base1) → names_of (after inside i.forest i.formatting i.ok) ≡ html_name name ∷ names → AtHtml (after inside i.forest i.formatting i.ok) → Closed choices name (after inside i.forest i.formatting i.ok) w path base)
         → ((f : Forest) (k : List Entry) (b : Bool) → Calm (after w f k b) p (more d (ChildNode new ∷ [])) names path under base → Built choices (after w f k b) p (more d (ChildNode new ∷ [])) rest path base)
         → Built choices w p d (ElementThen name attrs inner rest) path base
     element_case inner rest fill close next =
         let below = calm_below choices c name attrs o.no_template in
         let i = fill calm_inside in
         let v = after inside i.forest i.formatting i.ok in
-        let k = close i (names_are v (named_kept i.forest i.filled.frame.kinds calm_inside.named)) in
+        let e = names_are v (named_kept i.forest i.filled.frame.kinds calm_inside.named) in
+        let k = close i e (at_named v name names c.no_context e) in
         let r = next k.forest k.formatting i.ok
         (calm_after choices c k.forest k.formatting i.ok (frame_element choices w.forest p d name attrs below c.is_forest c.shows i.forest k.forest inner i.filled k.same) k.entries k.fewer) in
         record {

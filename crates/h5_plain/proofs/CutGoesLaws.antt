@@ -1,5 +1,5 @@
 -- However the texts of a list of tokens are cut, it leads where it leads uncut.
-use Rattle.std.proofs.Common.{◌≡◌, ℕ, true, List, [], ◌∷◌, ◌++◌, refl, ap, sym, subst, ◌∙◌}
+use Rattle.std.proofs.Common.{◌≡◌, ℕ, Bool, false, true, List, [], ◌∷◌, ◌++◌, refl, ap, sym, subst, ◌∙◌}
 use Rattle.h5_token.specs.Reply.{Continues}
 use Rattle.h5_token.specs.TokenText.{TokenText, DoctypeIs, TagIs, CommentIs, Characters, NullCharacter, EndOfFile, ParseErrorIs}
 use Rattle.h5_interface.specs.SinkChoices.{SinkChoices}
@@ -7,13 +7,14 @@ use Rattle.h5_types.specs.declared.modes.InsertionMode.{InsertionMode}
 use Rattle.h5_types.specs.declared.modes.InsertionMode.TheVariants.{InBody, InCaption, InCell, InTemplate, Text}
 use Rattle.h5_token.specs.Joins.{glue, join}
 use Rattle.h5_meaning.specs.Changes.{append_text, set_frameset_ok_by_text}
+use Rattle.h5_meaning.specs.Foreign.{is_foreign_text}
 use Rattle.h5_meaning.specs.Run.{step, taken, text_step, without_lf}
-use Rattle.h5_meaning.specs.Text.{is_quiet_text, text_in_body, text_rule}
+use Rattle.h5_meaning.specs.Sound.{Fitting}
+use Rattle.h5_meaning.specs.Text.{foreign_text, is_quiet_text, text_in_body, text_rule}
 use Rattle.h5_meaning.specs.World.{World}
-use Rattle.h5_meaning.proofs.CutLaws.{by_mode}
-use Rattle.h5_meaning.proofs.ListedLaws.{Listed}
-use Rattle.h5_meaning.proofs.ListedRunLaws.{listed_step}
-use Rattle.h5_meaning.proofs.RunLaws.{step_cut, without_lf-append}
+use Rattle.h5_meaning.proofs.CutLaws.{by_foreign, by_mode}
+use Rattle.h5_meaning.proofs.FittingLaws.{step_fitting}
+use Rattle.h5_meaning.proofs.RunLaws.{step_cut, takes_text, without_lf-append}
 use Rattle.h5_meaning.proofs.TreeLaws.{tree_reconstruct}
 use Rattle.h5_plain.proofs.GoesLaws.{Goes, Moves}
 
@@ -40,13 +41,25 @@ put_mode : (t : List ℕ) (w : World) → (append_text t w).mode ≡ w.mode
 unfolding append_text
 put_mode t w = refl
 
+-- by the mode, and in foreign content
+quiet_by_mode : (choices : SinkChoices) (m : InsertionMode) (b : ℕ) (t : List ℕ) (w : World) → is_foreign_text choices w ≡ false → w.mode ≡ m → is_quiet_text m ≡ true → is_quiet_text (text_rule choices (b ∷ t) w).mode ≡ true
+quiet_by_mode choices InBody b t w h e q = ap (λ (v : World). is_quiet_text v.mode) (by_mode choices InBody (b ∷ t) w h e) ∙ ap is_quiet_text (body_mode choices (b ∷ t) w ∙ e)
+quiet_by_mode choices InCaption b t w h e q = ap (λ (v : World). is_quiet_text v.mode) (by_mode choices InCaption (b ∷ t) w h e) ∙ ap is_quiet_text (body_mode choices (b ∷ t) w ∙ e)
+quiet_by_mode choices InCell b t w h e q = ap (λ (v : World). is_quiet_text v.mode) (by_mode choices InCell (b ∷ t) w h e) ∙ ap is_quiet_text (body_mode choices (b ∷ t) w ∙ e)
+quiet_by_mode choices InTemplate b t w h e q = ap (λ (v : World). is_quiet_text v.mode) (by_mode choices InTemplate (b ∷ t) w h e) ∙ ap is_quiet_text (body_mode choices (b ∷ t) w ∙ e)
+quiet_by_mode choices Text b t w h e q = ap (λ (v : World). is_quiet_text v.mode) (by_mode choices Text (b ∷ t) w h e) ∙ ap is_quiet_text (put_mode (b ∷ t) w ∙ e)
+quiet_by_mode choices m b t w h e q = absurd (cc)
+
+foreign_mode : (t : List ℕ) (w : World) → (foreign_text t w).mode ≡ w.mode
+unfolding append_text set_frameset_ok_by_text
+foreign_mode t w = refl
+
 quiet_after : (choices : SinkChoices) (m : InsertionMode) (b : ℕ) (t : List ℕ) (w : World) → w.mode ≡ m → is_quiet_text m ≡ true → is_quiet_text (text_rule choices (b ∷ t) w).mode ≡ true
-quiet_after choices InBody b t w e q = ap (λ (v : World). is_quiet_text v.mode) (by_mode choices InBody (b ∷ t) w e) ∙ ap is_quiet_text (body_mode choices (b ∷ t) w ∙ e)
-quiet_after choices InCaption b t w e q = ap (λ (v : World). is_quiet_text v.mode) (by_mode choices InCaption (b ∷ t) w e) ∙ ap is_quiet_text (body_mode choices (b ∷ t) w ∙ e)
-quiet_after choices InCell b t w e q = ap (λ (v : World). is_quiet_text v.mode) (by_mode choices InCell (b ∷ t) w e) ∙ ap is_quiet_text (body_mode choices (b ∷ t) w ∙ e)
-quiet_after choices InTemplate b t w e q = ap (λ (v : World). is_quiet_text v.mode) (by_mode choices InTemplate (b ∷ t) w e) ∙ ap is_quiet_text (body_mode choices (b ∷ t) w ∙ e)
-quiet_after choices Text b t w e q = ap (λ (v : World). is_quiet_text v.mode) (by_mode choices Text (b ∷ t) w e) ∙ ap is_quiet_text (put_mode (b ∷ t) w ∙ e)
-quiet_after choices m b t w e q = absurd (cc)
+quiet_after choices m b t w e q = at (is_foreign_text choices w) refl
+  where
+    at : (c : Bool) → is_foreign_text choices w ≡ c → is_quiet_text (text_rule choices (b ∷ t) w).mode ≡ true
+    at true h = ap (λ (v : World). is_quiet_text v.mode) (by_foreign choices (b ∷ t) w h) ∙ ap is_quiet_text (foreign_mode (b ∷ t) w ∙ e) ∙ q
+    at false h = quiet_by_mode choices m b t w h e q
 
 still_quiet : (choices : SinkChoices) (t : List ℕ) (w : World) → is_quiet_text w.mode ≡ true → is_quiet_text (text_step choices t w).world.mode ≡ true
 still_quiet choices [] w q = q
@@ -63,7 +76,7 @@ module _ (choices : SinkChoices) (b : ℕ) (t : List ℕ) (d : ℕ) (u : List �
       quiet_mode choices (without_lf w.ignore_lf (b ∷ t)) u d (taken w)
       (ap (λ x. (text_step choices x (taken w)).quiet) (sym (without_lf-append w.ignore_lf b t (d ∷ u))) ∙ q)
 
-  cut_moves : (v : World) → Listed w → Moves choices (Characters ((b ∷ t) ++ d ∷ u)) w v → Moves choices (Characters (b ∷ t)) w middle × Moves choices (Characters (d ∷ u)) middle v
+  cut_moves : (v : World) → Fitting w → Moves choices (Characters ((b ∷ t) ++ d ∷ u)) w v → Moves choices (Characters (b ∷ t)) w middle × Moves choices (Characters (d ∷ u)) middle v
   unfolding step
   cut_moves v k m =
       let q = mode_is_quiet m.quiet in (
@@ -71,15 +84,17 @@ module _ (choices : SinkChoices) (b : ℕ) (t : List ℕ) (d : ℕ) (u : List �
           world = refl;
           reply = text_continues choices (without_lf w.ignore_lf (b ∷ t)) (taken w);
           quiet = text_quiet choices (without_lf w.ignore_lf (b ∷ t)) (taken w) q;
+          accepted = takes_text w.mode (b ∷ t);
         },
         record {
           world = sym (step_cut choices b t d u w k) ∙ m.world;
           reply = text_continues choices (without_lf middle.ignore_lf (d ∷ u)) (taken middle);
           quiet = text_quiet choices (without_lf middle.ignore_lf (d ∷ u)) (taken middle) (still_quiet choices (without_lf w.ignore_lf (b ∷ t)) (taken w) q);
+          accepted = takes_text middle.mode (d ∷ u);
         },
       )
 
-unglued : (choices : SinkChoices) (t : List ℕ) (ts : List TokenText) (w u : World) → Listed w → Goes choices (glue t ts) w u → Goes choices (Characters t ∷ ts) w u
+unglued : (choices : SinkChoices) (t : List ℕ) (ts : List TokenText) (w u : World) → Fitting w → Goes choices (glue t ts) w u → Goes choices (Characters t ∷ ts) w u
 unglued choices [] ts w u k g = g
 unglued choices (b ∷ t) [] w u k g = g
 unglued choices (b ∷ t) (Characters [] ∷ ts) w u k g = g
@@ -88,19 +103,19 @@ unglued choices (b ∷ t) (Characters (d ∷ r) ∷ ts) w u k (v, (m, g)) =
     ((step choices (Characters (b ∷ t)) w).world, (both.0, (v, (both.1, g))))
 unglued choices (b ∷ t) (_ ∷ ts) w u k g = g
 
--- a token that is taken leaves the list of active formatting elements of their names
-listed_moves : (choices : SinkChoices) (t : TokenText) (w v : World) → Listed w → Moves choices t w v → Listed v
-listed_moves choices t w v k m = subst Listed m.world (listed_step choices t w k)
+-- a token that is taken leaves what a builder keeps
+fitting_moves : (choices : SinkChoices) (t : TokenText) (w v : World) → Fitting w → Moves choices t w v → Fitting v
+fitting_moves choices t w v k m = subst Fitting m.world (step_fitting choices t w k)
 
--- the whole list, where the list of active formatting elements is of their names
-pub goes_cut : (choices : SinkChoices) (ts : List TokenText) (w u : World) → Listed w → Goes choices (join ts) w u → Goes choices ts w u
+-- the whole list, where a builder has what it keeps
+pub goes_cut : (choices : SinkChoices) (ts : List TokenText) (w u : World) → Fitting w → Goes choices (join ts) w u → Goes choices ts w u
 goes_cut choices [] w u k g = g
 goes_cut choices (Characters t ∷ ts) w u k g =
     let h = unglued choices t (join ts) w u k g in
-    (h.0, (h.1.0, goes_cut choices ts h.0 u (listed_moves choices (Characters t) w h.0 k h.1.0) h.1.1))
-goes_cut choices (DoctypeIs x ∷ ts) w u k (v, (m, g)) = (v, (m, goes_cut choices ts v u (listed_moves choices (DoctypeIs x) w v k m) g))
-goes_cut choices (TagIs x ∷ ts) w u k (v, (m, g)) = (v, (m, goes_cut choices ts v u (listed_moves choices (TagIs x) w v k m) g))
-goes_cut choices (CommentIs x ∷ ts) w u k (v, (m, g)) = (v, (m, goes_cut choices ts v u (listed_moves choices (CommentIs x) w v k m) g))
-goes_cut choices (NullCharacter ∷ ts) w u k (v, (m, g)) = (v, (m, goes_cut choices ts v u (listed_moves choices NullCharacter w v k m) g))
-goes_cut choices (EndOfFile ∷ ts) w u k (v, (m, g)) = (v, (m, goes_cut choices ts v u (listed_moves choices EndOfFile w v k m) g))
-goes_cut choices (ParseErrorIs x ∷ ts) w u k (v, (m, g)) = (v, (m, goes_cut choices ts v u (listed_moves choices (ParseErrorIs x) w v k m) g))
+    (h.0, (h.1.0, goes_cut choices ts h.0 u (fitting_moves choices (Characters t) w h.0 k h.1.0) h.1.1))
+goes_cut choices (DoctypeIs x ∷ ts) w u k (v, (m, g)) = (v, (m, goes_cut choices ts v u (fitting_moves choices (DoctypeIs x) w v k m) g))
+goes_cut choices (TagIs x ∷ ts) w u k (v, (m, g)) = (v, (m, goes_cut choices ts v u (fitting_moves choices (TagIs x) w v k m) g))
+goes_cut choices (CommentIs x ∷ ts) w u k (v, (m, g)) = (v, (m, goes_cut choices ts v u (fitting_moves choices (CommentIs x) w v k m) g))
+goes_cut choices (NullCharacter ∷ ts) w u k (v, (m, g)) = (v, (m, goes_cut choices ts v u (fitting_moves choices NullCharacter w v k m) g))
+goes_cut choices (EndOfFile ∷ ts) w u k (v, (m, g)) = (v, (m, goes_cut choices ts v u (fitting_moves choices EndOfFile w v k m) g))
+goes_cut choices (ParseErrorIs x ∷ ts) w u k (v, (m, g)) = (v, (m, goes_cut choices ts v u (fitting_moves choices (ParseErrorIs x) w v k m) g))

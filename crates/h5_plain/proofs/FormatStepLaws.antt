@@ -21,11 +21,12 @@ use Rattle.h5_meaning.specs.World.{World, current, name_in, names_of}
 use Rattle.h5_meaning.proofs.FormattingLaws.{reconstruct_none}
 use Rattle.h5_plain.specs.Plain.{end_tag, start_tag}
 use Rattle.h5_plain.proofs.BodyStepLaws.{insert_is}
-use Rattle.h5_plain.proofs.CalmLaws.{Calm, calm_closed, opened}
+use Rattle.h5_plain.proofs.CalmLaws.{Calm, calm_html, calm_closed, opened}
 use Rattle.h5_plain.proofs.FilledLaws.{Face}
 use Rattle.h5_plain.proofs.FormatListLaws.{no_link_listed}
 use Rattle.h5_plain.proofs.FormatRuleLaws.{IsFormatName, IsInlineName, a_formats, a_rule}
 use Rattle.h5_plain.proofs.GoesLaws.{Moves, moves_row}
+use Rattle.h5_plain.proofs.HtmlLaws.{AtHtml}
 use Rattle.h5_plain.proofs.ListedLaws.{OpenFormat, has_link}
 use Rattle.h5_plain.proofs.ModeLaws.{GoesByBody, end_by_body, start_by_body}
 use Rattle.h5_plain.proofs.RuleLaws.{end, start}
@@ -45,7 +46,7 @@ module _ (choices : SinkChoices) {w : World} {p : ℕ} {d : Face} {names : List 
   -- of a `b`, `i`, `em` or `code`
   pub starts_formatting : (name : List ℕ) (attrs : List AttributeText) → IsInlineName name → GoesByBody w.mode → Moves choices (start_tag name attrs) w (formatted name attrs)
   starts_formatting name attrs k m =
-      moves_row choices (start name attrs) w (formatted name attrs) w.mode (ReconstructActiveFormattingElements ∷ CreateFormattingElement (start name attrs) ∷ []) refl c.ignore_lf
+      moves_row choices (start name attrs) w (formatted name attrs) w.mode (ReconstructActiveFormattingElements ∷ CreateFormattingElement (start name attrs) ∷ []) refl c.ignore_lf (calm_html c)
       (start_by_body m name attrs w k.formats.outside.no_structure ∙ k.starts attrs w) refl k.formats.holds.no_title (create_is name attrs)
 
   -- of an `a`, while none is listed
@@ -54,12 +55,12 @@ module _ (choices : SinkChoices) {w : World} {p : ℕ} {d : Face} {names : List 
   starts_link attrs m h =
       let none = no_link_listed c.is_base c.entries h in
       let changes = HandleMisnestedATags ∷ ReconstructActiveFormattingElements ∷ CreateFormattingElement (start (codes "a") attrs) ∷ [] in
-      moves_row choices (start (codes "a") attrs) w (formatted (codes "a") attrs) w.mode changes refl c.ignore_lf
+      moves_row choices (start (codes "a") attrs) w (formatted (codes "a") attrs) w.mode changes refl c.ignore_lf (calm_html c)
       (start_by_body m (codes "a") attrs w a_formats.outside.no_structure ∙ a_rule attrs w ∙ ap (λ o. row_if (not (is_some o)) changes IsDone) none) refl refl
       (ap (λ o. create_formatting_element choices (start (codes "a") attrs) (reconstruct_active_formatting_elements choices (close_misnested_a choices o w))) none ∙ create_is (codes "a") attrs)
 
 -- end tags of the current node: it leaves the stack
-module _ (choices : SinkChoices) (v : World) (n : ℕ) (s : List ℕ) (names : List QualName) (name : List ℕ) (k : IsFormatName name) (m : GoesByBody v.mode) (i : v.ignore_lf ≡ false)
+module _ (choices : SinkChoices) (v : World) (n : ℕ) (s : List ℕ) (names : List QualName) (name : List ℕ) (k : IsFormatName name) (m : GoesByBody v.mode) (i : v.ignore_lf ≡ false) (j : AtHtml v)
     (open_is : v.stack ≡ n ∷ s) (e : names_of v ≡ html_name name ∷ names) where
   named_so : first_passes (is_html_named name) (names_of v) ≡ true
   named_so = ap (first_passes (is_html_named name)) e ∙ k.itself
@@ -77,7 +78,7 @@ module _ (choices : SinkChoices) (v : World) (n : ℕ) (s : List ℕ) (names : L
 
   by_rule : closes_one name v ≡ true → (u : World) → adoption_agency choices name v ≡ u → Moves choices (end_tag name) v u
   by_rule one u a =
-      moves_row choices (end name) v u v.mode (AdoptionAgency name ∷ []) refl i
+      moves_row choices (end name) v u v.mode (AdoptionAgency name ∷ []) refl i j
       (end_by_body m name v k.outside ∙ k.ends v ∙ ap (λ b. row_if b (AdoptionAgency name ∷ []) IsDone) one) refl refl a
 
   -- where it is listed no more, it is popped, and marks may change

@@ -1,91 +1,98 @@
 -- Tokens that are taken one after the other, each in one turn.
 use Rattle.std.proofs.Common.{◌≡◌, ◌&&◌, not, ℕ, Bool, true, false, cond, List, [], ◌∷◌, map, refl, ap, sym, subst, ◌∙◌}
 use Rattle.h5_token.specs.Reply.{Continues, TurnsRaw}
-use Rattle.h5_token.specs.TokenText.{TagText, TokenText, DoctypeIs, TagIs, CommentIs, Characters, NullCharacter, EndOfFile, ParseErrorIs}
+use Rattle.h5_token.specs.TokenText.{TagText, TokenText, TagIs, Characters, EndOfFile}
 use Rattle.h5_token.specs.declared.states.RawKind.TheVariants.{Rcdata}
 use Rattle.h5_token.specs.declared.tag.TagKind.{TagKind}
 use Rattle.h5_token.specs.declared.tag.TagKind.TheVariants.{StartTag, EndTag}
 use Rattle.h5_interface.specs.SinkChoices.{SinkChoices}
-use Rattle.h5_types.specs.TurnText.{CommentTurn, EofTurn, NullTurn, TagTurn, TurnText, is_self_closing}
+use Rattle.h5_types.specs.TurnText.{EofTurn, TagTurn, TextTurn, TurnText, is_self_closing}
 use Rattle.h5_types.specs.declared.modes.InsertionMode.{InsertionMode}
 use Rattle.h5_types.specs.declared.modes.InsertionMode.TheVariants.{Text}
+use Rattle.h5_types.specs.declared.modes.SplitStatus.TheVariants.{NotSplit}
 use Rattle.h5_stack.specs.FormattingList.{closed_front}
 use Rattle.h5_meaning.specs.ByName.{by_kind}
 use Rattle.h5_meaning.specs.Changes.{append_text, set_frameset_ok_by_text}
+use Rattle.h5_meaning.specs.Foreign.{is_foreign}
 use Rattle.h5_meaning.specs.Modes.{rule}
 use Rattle.h5_meaning.specs.Rows.{Answers, Change, IsAcknowledged, IsDone, Row, apply_all, ignored, row}
-use Rattle.h5_meaning.specs.Run.{View, after_all, after_token, all_quiet, is_quiet, is_refused_in_text, is_start, refuses_in, replies, run, step, take_or_refuse, taken, tell_or_refuse, text_step, without_lf}
+use Rattle.h5_meaning.specs.Kinds.{is_start}
+use Rattle.h5_meaning.specs.Run.{View, after_all, after_token, all_quiet, is_quiet, refuses_in, replies, run, step, take_or_refuse, taken, tell_or_refuse, text_step, without_lf}
 use Rattle.h5_meaning.specs.Settle.{Settled, settle}
-use Rattle.h5_meaning.specs.Text.{is_quiet_text, text_in, text_in_body, text_rule}
+use Rattle.h5_meaning.specs.Text.{is_quiet_text, text_in_body, text_rule}
 use Rattle.h5_meaning.specs.TextMode.{text_end}
 use Rattle.h5_meaning.specs.World.{World}
+use Rattle.h5_meaning.proofs.CutLaws.{by_mode}
+use Rattle.h5_meaning.proofs.ForeignModeLaws.{html_not_foreign}
+use Rattle.h5_meaning.proofs.ForeignRowLaws.{eof_html}
 use Rattle.h5_meaning.proofs.FormattingLaws.{reconstruct_none}
-use Rattle.h5_meaning.proofs.RunLaws.{is_taken, moved, taken_same}
+use Rattle.h5_meaning.proofs.RunLaws.{is_taken, moved, taken_same, takes_text}
 use Rattle.h5_meaning.proofs.SettleLaws.{settle-done}
 use Rattle.h5_plain.specs.Plain.{is_start_of_title, plain_reply}
+use Rattle.h5_plain.proofs.HtmlLaws.{AtHtml, taken_html}
 use Rattle.h5_plain.proofs.ModeLaws.{GoesByBody, quiet_by_body, text_by_body}
 
--- a token that is taken leads to this world, with the answer to it in a plain document and no parse error
+-- a token that is taken, and that the mode doesn't refuse, leads to this world, with the answer to it in a plain document
+-- and no parse error
 pub record Moves (choices : SinkChoices) (t : TokenText) (w v : World) : Type 0 where
   pub world : (step choices t w).world ≡ v
   pub reply : (step choices t w).reply ≡ plain_reply t
   pub quiet : (step choices t w).quiet ≡ true
+  pub accepted : refuses_in w.mode t ≡ false
 
-one_turn : (choices : SinkChoices) (t : TurnText) (w : World) (m : InsertionMode) (changes : List Change) → w.mode ≡ m → rule m t w ≡ row changes IsDone → not (is_self_closing t) ≡ true
+one_turn : (choices : SinkChoices) (t : TurnText) (w : World) (m : InsertionMode) (changes : List Change) → w.mode ≡ m → is_foreign choices t w ≡ false → rule m t w ≡ row changes IsDone → not (is_self_closing t) ≡ true
     → settle choices t w ≡ record { world = apply_all choices changes w; turns = 1; reply = Continues; quiet = true }
-one_turn choices t w m changes e f s =
-    settle-done choices t w m (row changes IsDone) e f refl
+one_turn choices t w m changes e h f s =
+    settle-done choices t w m (row changes IsDone) h e f refl
     ∙ ap (λ b. let x : Settled = record { world = apply_all choices changes w; turns = 1; reply = Continues; quiet = b } in x) s
 
 -- any tag but the start of a title is answered with "go on"
 goes_on : (tag : TagText) → is_start_of_title tag ≡ false → Continues ≡ plain_reply (TagIs tag)
 goes_on tag n = sym (ap (λ b. cond b (TurnsRaw Rcdata) Continues) n)
 
+-- a token that is ignored in a text tells a parse error
+ignored_is_told : (choices : SinkChoices) (t : TurnText) (w : World) → w.mode ≡ Text → is_foreign choices t w ≡ false → rule Text t w ≡ ignored → (settle choices t w).quiet ≡ false
+ignored_is_told choices t w e h f = ap (λ (s : Settled). s.quiet) (settle-done choices t w Text ignored h e f refl)
+
+-- so a mode refuses no tag that is taken without one
+not_refused : (choices : SinkChoices) (tag : TagText) (w : World) (m : InsertionMode) → w.mode ≡ m → AtHtml w → (step choices (TagIs tag) w).quiet ≡ true → refuses_in m (TagIs tag) ≡ false
+unfolding step
+not_refused choices tag w Text e h q = at tag.kind refl
+  where
+    at : (k : TagKind) → tag.kind ≡ k → is_start tag.kind ≡ false
+    at StartTag k = absurd (let told = ignored_is_told choices (TagTurn tag) (taken w) e (taken_html choices (TagTurn tag) w h) (ap (λ x. by_kind x ignored (text_end tag (taken w))) k) in cc)
+    at EndTag k = ap is_start k
+not_refused choices tag w _ e h q = refl
+
+-- and none refuses the end of the file
+takes_end : (m : InsertionMode) → refuses_in m EndOfFile ≡ false
+takes_end Text = refl
+takes_end _ = refl
+
 -- such is a tag that is done with in one turn, without a parse error
-pub moves_tag : (choices : SinkChoices) (tag : TagText) (w : World) (m : InsertionMode) (changes : List Change) → w.mode ≡ m → rule m (TagTurn tag) (taken w) ≡ row changes IsDone → not (is_self_closing (TagTurn tag)) ≡ true → is_start_of_title tag ≡ false
+pub moves_tag : (choices : SinkChoices) (tag : TagText) (w : World) (m : InsertionMode) (changes : List Change) → w.mode ≡ m → AtHtml w → rule m (TagTurn tag) (taken w) ≡ row changes IsDone → not (is_self_closing (TagTurn tag)) ≡ true → is_start_of_title tag ≡ false
     → Moves choices (TagIs tag) w (apply_all choices changes (taken w))
 unfolding step
-moves_tag choices tag w m changes e f s n =
-    let one = one_turn choices (TagTurn tag) (taken w) m changes e f s in
-    record { world = ap (λ (x : Settled). x.world) one; reply = ap (λ (x : Settled). x.reply) one ∙ goes_on tag n; quiet = ap (λ (x : Settled). x.quiet) one }
+moves_tag choices tag w m changes e h f s n =
+    let one = one_turn choices (TagTurn tag) (taken w) m changes e (taken_html choices (TagTurn tag) w h) f s in
+    let quiet = ap (λ (x : Settled). x.quiet) one in
+    record { world = ap (λ (x : Settled). x.world) one; reply = ap (λ (x : Settled). x.reply) one ∙ goes_on tag n; quiet = quiet; accepted = not_refused choices tag w w.mode refl h quiet }
 
 -- or one that is answered as in a plain document
-pub moves_answered : (choices : SinkChoices) (tag : TagText) (w : World) (m : InsertionMode) (changes : List Change) → w.mode ≡ m → rule m (TagTurn tag) (taken w) ≡ row changes (Answers (plain_reply (TagIs tag)))
+pub moves_answered : (choices : SinkChoices) (tag : TagText) (w : World) (m : InsertionMode) (changes : List Change) → w.mode ≡ m → AtHtml w → rule m (TagTurn tag) (taken w) ≡ row changes (Answers (plain_reply (TagIs tag)))
     → Moves choices (TagIs tag) w (apply_all choices changes (taken w))
 unfolding step
-moves_answered choices tag w m changes e f =
-    let one = settle-done choices (TagTurn tag) (taken w) m (row changes (Answers (plain_reply (TagIs tag)))) e f refl in
-    record { world = ap (λ (x : Settled). x.world) one; reply = ap (λ (x : Settled). x.reply) one; quiet = ap (λ (x : Settled). x.quiet) one }
+moves_answered choices tag w m changes e h f =
+    let one = settle-done choices (TagTurn tag) (taken w) m (row changes (Answers (plain_reply (TagIs tag)))) (taken_html choices (TagTurn tag) w h) e f refl in
+    let quiet = ap (λ (x : Settled). x.quiet) one in
+    record { world = ap (λ (x : Settled). x.world) one; reply = ap (λ (x : Settled). x.reply) one; quiet = quiet; accepted = not_refused choices tag w w.mode refl h quiet }
 
 -- and the end of the file
 pub moves_end : (choices : SinkChoices) (w : World) (m : InsertionMode) (changes : List Change) → w.mode ≡ m → rule m EofTurn (taken w) ≡ row changes IsDone → Moves choices EndOfFile w (apply_all choices changes (taken w))
 unfolding step
 moves_end choices w m changes e f =
-    let one = one_turn choices EofTurn (taken w) m changes e f refl in
-    record { world = ap (λ (x : Settled). x.world) one; reply = ap (λ (x : Settled). x.reply) one; quiet = ap (λ (x : Settled). x.quiet) one }
-
--- a token that is ignored in a text tells a parse error
-ignored_is_told : (choices : SinkChoices) (t : TurnText) (w : World) → w.mode ≡ Text → rule Text t w ≡ ignored → (settle choices t w).quiet ≡ false
-ignored_is_told choices t w e f = ap (λ (s : Settled). s.quiet) (settle-done choices t w Text ignored e f refl)
-
-quiet_in_text : (choices : SinkChoices) (t : TokenText) (w : World) → w.mode ≡ Text → (step choices t w).quiet ≡ true → is_refused_in_text t ≡ false
-unfolding step
-quiet_in_text choices (TagIs tag) w e q = at tag.kind refl
-  where
-    at : (k : TagKind) → tag.kind ≡ k → is_start tag.kind ≡ false
-    at StartTag k = absurd (let told = ignored_is_told choices (TagTurn tag) (taken w) e (ap (λ x. by_kind x ignored (text_end tag (taken w))) k) in cc)
-    at EndTag k = ap is_start k
-quiet_in_text choices (CommentIs text) w e q = absurd (let told = ignored_is_told choices (CommentTurn text) (taken w) e refl in cc)
-quiet_in_text choices NullCharacter w e q = absurd (let told = ignored_is_told choices NullTurn (taken w) e refl in cc)
-quiet_in_text choices (DoctypeIs x) w e q = refl
-quiet_in_text choices (Characters x) w e q = refl
-quiet_in_text choices EndOfFile w e q = refl
-quiet_in_text choices (ParseErrorIs x) w e q = refl
-
--- so a mode refuses no token that is taken without one
-not_refused : (choices : SinkChoices) (t : TokenText) (w : World) (m : InsertionMode) → w.mode ≡ m → (step choices t w).quiet ≡ true → refuses_in m t ≡ false
-not_refused choices t w Text e q = quiet_in_text choices t w e q
-not_refused choices t w _ e q = refl
+    let one = one_turn choices EofTurn (taken w) m changes e (eof_html choices (taken w)) f refl in
+    record { world = ap (λ (x : Settled). x.world) one; reply = ap (λ (x : Settled). x.reply) one; quiet = ap (λ (x : Settled). x.quiet) one; accepted = takes_end w.mode }
 
 -- so does a list
 abbrev pub Goes : SinkChoices → List TokenText → World → World → Type 0
@@ -107,7 +114,7 @@ pub arrives : (choices : SinkChoices) (ts : List TokenText) (v : View) (u : Worl
 unfolding run
 arrives choices [] v u f e g = record { world = g; answers = refl; quiet = refl }
 arrives choices (t ∷ ts) v u f e (w, (m, g)) =
-    let r = is_taken v t f e (not_refused choices t v.world v.world.mode refl m.quiet) in
+    let r = is_taken v t f e m.accepted in
     let next : after_token choices t v ≡ moved v w = ap (λ o. take_or_refuse choices t o v) r ∙ ap (moved v) m.world in
     let rest = arrives choices ts (moved v w) u f e g in
     record {
@@ -122,46 +129,51 @@ arrives choices (t ∷ ts) v u f e (w, (m, g)) =
 in_row : (m : InsertionMode) (t : TurnText) (w : World) (r : Row) → w.ignore_lf ≡ false → rule m t w ≡ r → rule m t (taken w) ≡ r
 in_row m t w r e f = subst (λ x. rule m t x ≡ r) (sym (taken_same w e)) f
 
-pub moves_row : (choices : SinkChoices) (tag : TagText) (w v : World) (m : InsertionMode) (changes : List Change) → w.mode ≡ m → w.ignore_lf ≡ false → rule m (TagTurn tag) w ≡ row changes IsDone → not (is_self_closing (TagTurn tag)) ≡ true → is_start_of_title tag ≡ false
+pub moves_row : (choices : SinkChoices) (tag : TagText) (w v : World) (m : InsertionMode) (changes : List Change) → w.mode ≡ m → w.ignore_lf ≡ false → AtHtml w → rule m (TagTurn tag) w ≡ row changes IsDone → not (is_self_closing (TagTurn tag)) ≡ true → is_start_of_title tag ≡ false
     → apply_all choices changes w ≡ v → Moves choices (TagIs tag) w v
-moves_row choices tag w v m changes e i f s n a =
+moves_row choices tag w v m changes e i h f s n a =
     subst (Moves choices (TagIs tag) w) (ap (apply_all choices changes) (taken_same w i) ∙ a)
-    (moves_tag choices tag w m changes e (in_row m (TagTurn tag) w (row changes IsDone) i f) s n)
+    (moves_tag choices tag w m changes e h (in_row m (TagTurn tag) w (row changes IsDone) i f) s n)
 
 -- also where a self-closing flag would be acknowledged
-pub moves_acknowledged : (choices : SinkChoices) (tag : TagText) (w v : World) (m : InsertionMode) (changes : List Change) → w.mode ≡ m → w.ignore_lf ≡ false → rule m (TagTurn tag) w ≡ row changes IsAcknowledged → is_start_of_title tag ≡ false
+pub moves_acknowledged : (choices : SinkChoices) (tag : TagText) (w v : World) (m : InsertionMode) (changes : List Change) → w.mode ≡ m → w.ignore_lf ≡ false → AtHtml w → rule m (TagTurn tag) w ≡ row changes IsAcknowledged → is_start_of_title tag ≡ false
     → apply_all choices changes w ≡ v → Moves choices (TagIs tag) w v
 unfolding step
-moves_acknowledged choices tag w v m changes e i f n a =
-    let one = settle-done choices (TagTurn tag) (taken w) m (row changes IsAcknowledged) e (in_row m (TagTurn tag) w (row changes IsAcknowledged) i f) refl in
+moves_acknowledged choices tag w v m changes e i h f n a =
+    let one = settle-done choices (TagTurn tag) (taken w) m (row changes IsAcknowledged) (taken_html choices (TagTurn tag) w h) e (in_row m (TagTurn tag) w (row changes IsAcknowledged) i f) refl in
+    let quiet = ap (λ (x : Settled). x.quiet) one in
     record {
       world = ap (λ (x : Settled). x.world) one ∙ ap (apply_all choices changes) (taken_same w i) ∙ a;
       reply = ap (λ (x : Settled). x.reply) one ∙ goes_on tag n;
-      quiet = ap (λ (x : Settled). x.quiet) one;
+      quiet = quiet;
+      accepted = not_refused choices tag w w.mode refl h quiet;
     }
 
 -- a text in a mode that goes by the body, where nothing is to be reconstructed
-pub moves_text : (choices : SinkChoices) (b : ℕ) (t : List ℕ) (w : World) → GoesByBody w.mode → w.ignore_lf ≡ false → closed_front w.stack w.formatting ≡ []
+pub moves_text : (choices : SinkChoices) (b : ℕ) (t : List ℕ) (w : World) → GoesByBody w.mode → w.ignore_lf ≡ false → AtHtml w → closed_front w.stack w.formatting ≡ []
     → Moves choices (Characters (b ∷ t)) w (append_text (b ∷ t) (set_frameset_ok_by_text (b ∷ t) w))
 unfolding step text_in_body
-moves_text choices b t w m e c = record {
+moves_text choices b t w m e h c = record {
   world =
       ap (λ l. (text_step choices (without_lf l (b ∷ t)) (taken w)).world) e
       ∙ ap (text_rule choices (b ∷ t)) (taken_same w e)
+      ∙ by_mode choices w.mode (b ∷ t) w (html_not_foreign choices (TextTurn NotSplit []) w h) refl
       ∙ text_by_body choices (b ∷ t) w m
       ∙ ap (λ v. append_text (b ∷ t) (set_frameset_ok_by_text (b ∷ t) v)) (reconstruct_none choices w c);
   reply = ap (λ l. (text_step choices (without_lf l (b ∷ t)) (taken w)).reply) e;
   quiet = ap (λ l. (text_step choices (without_lf l (b ∷ t)) (taken w)).quiet) e ∙ quiet_by_body m;
+  accepted = takes_text w.mode (b ∷ t);
 }
 
 -- and a text in a text
-pub moves_raw_text : (choices : SinkChoices) (b : ℕ) (t : List ℕ) (w : World) → w.mode ≡ Text → w.ignore_lf ≡ false → Moves choices (Characters (b ∷ t)) w (append_text (b ∷ t) w)
+pub moves_raw_text : (choices : SinkChoices) (b : ℕ) (t : List ℕ) (w : World) → w.mode ≡ Text → w.ignore_lf ≡ false → AtHtml w → Moves choices (Characters (b ∷ t)) w (append_text (b ∷ t) w)
 unfolding step
-moves_raw_text choices b t w m e = record {
+moves_raw_text choices b t w m e h = record {
   world =
       ap (λ l. (text_step choices (without_lf l (b ∷ t)) (taken w)).world) e
       ∙ ap (text_rule choices (b ∷ t)) (taken_same w e)
-      ∙ ap (λ k. text_in k choices (b ∷ t) w) m;
+      ∙ by_mode choices Text (b ∷ t) w (html_not_foreign choices (TextTurn NotSplit []) w h) m;
   reply = ap (λ l. (text_step choices (without_lf l (b ∷ t)) (taken w)).reply) e;
   quiet = ap (λ l. (text_step choices (without_lf l (b ∷ t)) (taken w)).quiet) e ∙ ap is_quiet_text m;
+  accepted = takes_text w.mode (b ∷ t);
 }

@@ -10,6 +10,7 @@ mod FormatStepLaws
 pub mod GoesLaws
 pub mod GrowthLaws
 mod HeadLaws
+pub mod HtmlLaws
 mod ListRuleLaws
 mod ListStepLaws
 mod ListedLaws
@@ -21,4 +22,5 @@ mod TableStepLaws
 mod TitleLaws
 pub mod RuleLaws
 pub mod StageLaws
+pub mod StartLaws
 pub mod WholeLaws

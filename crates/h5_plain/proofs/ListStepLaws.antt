@@ -16,9 +16,10 @@ use Rattle.h5_meaning.specs.World.{World, names_of}
 use Rattle.h5_meaning.proofs.PopLaws.{all_implied_none, implied_none}
 use Rattle.h5_plain.specs.Plain.{end_tag, start_tag}
 use Rattle.h5_plain.proofs.BodyStepLaws.{cut_at, insert_is, left, no_p, none_closed}
-use Rattle.h5_plain.proofs.CalmLaws.{Calm, names_are, opened}
+use Rattle.h5_plain.proofs.CalmLaws.{Calm, calm_html, names_are, opened}
 use Rattle.h5_plain.proofs.FilledLaws.{Face, same_faces}
 use Rattle.h5_plain.proofs.GoesLaws.{Moves, moves_row}
+use Rattle.h5_plain.proofs.HtmlLaws.{AtHtml}
 use Rattle.h5_plain.proofs.ListRuleLaws.{IsListName, item_end_rule, item_outside, item_rule}
 use Rattle.h5_plain.proofs.ListedLaws.{OpenFormat}
 use Rattle.h5_plain.proofs.ModeLaws.{GoesByBody, end_by_body, start_by_body}
@@ -36,7 +37,9 @@ module _ (choices : SinkChoices) {w : World} {p : ℕ} {d : Face} {names : List 
     named = c.named;
     no_foster = c.no_foster;
     no_form = c.no_form;
+    no_context = c.no_context;
     no_template = c.no_template;
+    is_html = c.is_html;
     are_open = c.are_open;
     is_base = c.is_base;
     entries = c.entries;
@@ -57,7 +60,7 @@ pub starts_item : (choices : SinkChoices) {w : World} {p : ℕ} {d : Face} {name
 starts_item choices {w} {p} {d} {names} c attrs m h i =
     let changes : List Change = SetFramesetNotOk ∷ CloseListItem list_item_names ∷ ClosePElementInButtonScope ∷ InsertElement (codes "li") attrs false ∷ [] in
     let flagged = calm_flagged choices c in
-    moves_row choices (start (codes "li") attrs) w (opened choices w p (codes "li") attrs w.mode w.formatting false) w.mode changes refl c.ignore_lf
+    moves_row choices (start (codes "li") attrs) w (opened choices w p (codes "li") attrs w.mode w.formatting false) w.mode changes refl c.ignore_lf (calm_html c)
     (start_by_body m (codes "li") attrs w item_outside.no_structure
     ∙ item_rule attrs w
     ∙ ap (λ b. row_if (is_none (newest_item list_item_names (names_of w)) && not b) changes IsDone) (no_p choices c h)
@@ -68,13 +71,13 @@ starts_item choices {w} {p} {d} {names} c attrs m h i =
     ∙ insert_is choices flagged (codes "li") attrs)
 
 -- end tags: the current node leaves the stack, and nothing else changes
-module _ (choices : SinkChoices) (w : World) (names : List QualName) (m : GoesByBody w.mode) (i : w.ignore_lf ≡ false) where
+module _ (choices : SinkChoices) (w : World) (names : List QualName) (m : GoesByBody w.mode) (i : w.ignore_lf ≡ false) (j : AtHtml w) where
   -- of a list
-  pub ends_list : (name : List ℕ) → IsListName name → names_of w ≡ html_name name ∷ names → Moves choices (end_tag name) w (left choices w names m i)
+  pub ends_list : (name : List ℕ) → IsListName name → names_of w ≡ html_name name ∷ names → Moves choices (end_tag name) w (left choices w names m i j)
   unfolding in_body_end_block pop_until_named
   ends_list name k e =
       let changes : List Change = GenerateImpliedEnd ∷ PopUntilNamed name ∷ [] in
-      moves_row choices (end name) w (left choices w names m i) w.mode changes refl i
+      moves_row choices (end name) w (left choices w names m i j) w.mode changes refl i j
       (end_by_body m name w k.outside
       ∙ k.ends w
       ∙ ap (λ ns. choose (in_scope (is_html_named name) is_default_scope ns) (row_if (first_passes (is_html_named name) ns) changes IsDone) ignored) e
@@ -83,11 +86,11 @@ module _ (choices : SinkChoices) (w : World) (names : List QualName) (m : GoesBy
       ∙ cut_at w names (is_html_named name) (html_name name) e k.itself)
 
   -- of a `li`
-  item_ends : names_of w ≡ html_name (codes "li") ∷ names → Moves choices (end_tag (codes "li")) w (left choices w names m i)
+  item_ends : names_of w ≡ html_name (codes "li") ∷ names → Moves choices (end_tag (codes "li")) w (left choices w names m i j)
   unfolding in_body_end_li is_html_named html_namespace is_implied implied_names pop_until_named
   item_ends e =
       let changes : List Change = GenerateImpliedEndExcept (codes "li") ∷ PopUntilNamed (codes "li") ∷ [] in
-      moves_row choices (end (codes "li")) w (left choices w names m i) w.mode changes refl i
+      moves_row choices (end (codes "li")) w (left choices w names m i j) w.mode changes refl i j
       (end_by_body m (codes "li") w item_outside
       ∙ item_end_rule w
       ∙ ap (λ ns. choose (in_scope (is_html_named (codes "li")) is_list_item_scope ns) (row_if (first_passes (is_html_named (codes "li")) ns) changes IsDone) ignored) e) refl refl

@@ -1,7 +1,7 @@
 -- What a builder makes of the tokens of a document, one after the other.
 use Rattle.std.proofs.Common.{◌≡◌, ◌≢◌, ◌∙◌, ℕ, true, false, not, cond, List, [], ◌∷◌, ◌++◌, map, Some, None, codes, refl, ap, sym, subst}
 use Rattle.h5_names.specs.AttributeText.{AttributeText}
-use Rattle.h5_token.specs.TokenText.{EndOfFile, TokenText}
+use Rattle.h5_token.specs.TokenText.{DoctypeText, EndOfFile, TokenText}
 use Rattle.h5_interface.specs.Forest.{Child, ChildNode, ElementNode}
 use Rattle.h5_names.specs.declared.qualified.QualName.{QualName}
 use Rattle.h5_stack.specs.FormattingList.{nodes_of}
@@ -9,13 +9,14 @@ use Rattle.h5_plain.proofs.ListedLaws.{Bottom, Entries, NoEntry}
 use Rattle.h5_interface.specs.SinkChoices.{SinkChoices}
 use Rattle.h5_interface.specs.declared.marks.QuirksMode.TheVariants.{NoQuirks}
 use Rattle.h5_tag_sets.specs.TagSets.{body_end_names, html_namespace, is_body_end_ok, is_default_scope, is_html_named}
+use Rattle.h5_data.specs.Doctypes.{good_identifiers, quirks_of}
 use Rattle.h5_types.specs.declared.modes.InsertionMode.{InsertionMode}
 use Rattle.h5_types.specs.declared.modes.InsertionMode.TheVariants.{BeforeHtml, BeforeHead, InHead, AfterHead, InBody, AfterBody, AfterAfterBody}
 use Rattle.h5_types.specs.declared.options.TreeBuilderOpts.{TreeBuilderOpts}
 use Rattle.h5_meaning.specs.Changes.{set_frameset_not_ok, set_mode, insert_element, insert_head, insert_doctype, new_element, create_root, pop, set_quirks_mode}
 use Rattle.h5_meaning.specs.InBody.{body_ends, body_in_scope, if_body_in_scope}
 use Rattle.h5_meaning.specs.Rows.{SetFramesetNotOk, InsertElement, InsertHead, CreateRoot, IsDone, Pop, Row, SetMode, choose, ignored}
-use Rattle.h5_meaning.specs.Run.{doctype_in, judged, step, taken, with_doctype}
+use Rattle.h5_meaning.specs.Run.{doctype_in, judged, refuses_in, step, taken, with_doctype}
 use Rattle.h5_stack.specs.Scope.{has_unclosed, in_scope}
 use Rattle.h5_meaning.specs.Place.{LastChild, place}
 use Rattle.h5_meaning.specs.World.{World, current, name_in, names_of}
@@ -29,6 +30,7 @@ use Rattle.h5_plain.proofs.FilledLaws.{face, rooted_framed, stands_from_new}
 use Rattle.h5_plain.proofs.GoesLaws.{Goes, Moves, moves_end, moves_tag}
 use Rattle.h5_plain.proofs.GrowthLaws.{Begun, Rooted, begun_first, body, head, html, kinds_apart, name_of, root_below, rooted_first, rooted_grown, rooted_marked, with_element}
 use Rattle.h5_plain.proofs.HeadLaws.{HeadHolds, HoldsNothing, head_kept, head_not_body, head_not_html, html_not_body, title, title_not_body, title_not_html}
+use Rattle.h5_plain.proofs.HtmlLaws.{AtHtml, at_element, at_none, html_is}
 use Rattle.h5_plain.proofs.LooksLaws.{looks_marked}
 use Rattle.h5_plain.proofs.RuleLaws.{body_end_rule, body_rule, head_end_rule, head_rule, html_end_rule, html_rule}
 
@@ -112,13 +114,16 @@ abbrev none : ℕ → List ℕ
 none n = []
 
 doctype_moves : (choices : SinkChoices) (w : World) → IsStart w → Moves choices plain_doctype w (set_mode BeforeHtml (set_quirks_mode NoQuirks (insert_doctype choices (codes "html") [] [] (taken w))))
-unfolding step judged with_doctype
-doctype_moves choices w s = record {
-  world = ap (λ m. (doctype_in m choices (record { name = Some (codes "html"); public_id = None; system_id = None; force_quirks = false }) (taken w)).world) s.mode
-      ∙ ap (λ (o : TreeBuilderOpts). set_mode BeforeHtml (set_quirks_mode NoQuirks (cond o.drop_doctype (taken w) (insert_doctype choices (codes "html") [] [] (taken w))))) s.options;
-  reply = ap (λ m. (doctype_in m choices (record { name = Some (codes "html"); public_id = None; system_id = None; force_quirks = false }) (taken w)).reply) s.mode;
-  quiet = ap (λ m. (doctype_in m choices (record { name = Some (codes "html"); public_id = None; system_id = None; force_quirks = false }) (taken w)).quiet) s.mode;
-}
+unfolding step judged with_doctype good_identifiers
+doctype_moves choices w s =
+    let d : DoctypeText = record { name = Some (codes "html"); public_id = None; system_id = None; force_quirks = false } in
+    record {
+      world = ap (λ m. (doctype_in m choices d (taken w)).world) s.mode
+          ∙ ap (λ (o : TreeBuilderOpts). set_mode BeforeHtml (set_quirks_mode (quirks_of o.iframe_srcdoc d) (cond o.drop_doctype (taken w) (insert_doctype choices (codes "html") [] [] (taken w))))) s.options;
+      reply = ap (λ m. (doctype_in m choices d (taken w)).reply) s.mode;
+      quiet = ap (λ m. (doctype_in m choices d (taken w)).quiet) s.mode;
+      accepted = ap (λ m. refuses_in m plain_doctype) s.mode;
+    }
 
 pub doctype_next : (choices : SinkChoices) (w : World) → IsStart w → Next choices plain_doctype w AfterDoctype
 unfolding set_quirks_mode insert_doctype
@@ -132,7 +137,7 @@ pub html_next : (choices : SinkChoices) (a : List AttributeText) (w : World) →
 unfolding create_root
 html_next choices a w s = record {
   after = set_mode BeforeHead (create_root choices a (taken w));
-  moves = moves_tag choices _ w BeforeHtml (CreateRoot a ∷ SetMode BeforeHead ∷ []) s.mode (html_rule a (taken w)) refl refl;
+  moves = moves_tag choices _ w BeforeHtml (CreateRoot a ∷ SetMode BeforeHead ∷ []) s.mode (at_none w s.none_open) (html_rule a (taken w)) refl refl;
   holds = record {
     mode = refl;
     root = choices.fresh w.forest;
@@ -198,7 +203,7 @@ head_next choices a b w s =
     let same = inserted choices (codes "head") b (taken w) s.root (place_is_root (taken w) s.doctype s.root a [] s.is_open s.no_foster s.rooted) s.no_form in
     record {
       after = set_mode InHead (insert_head choices b false (taken w));
-      moves = moves_tag choices _ w BeforeHead (InsertHead b false ∷ SetMode InHead ∷ []) s.mode (head_rule b (taken w)) refl refl;
+      moves = moves_tag choices _ w BeforeHead (InsertHead b false ∷ SetMode InHead ∷ []) s.mode (at_element w s.root (codes "html") s.no_context (ap (first_or w.forest.document) s.is_open) s.rooted.is_root.is_kind) (head_rule b (taken w)) refl refl;
       holds = record {
         mode = refl;
         root = s.root;
@@ -217,11 +222,18 @@ head_next choices a b w s =
       };
     }
 
+-- in the head, and in the body, no token is for foreign content
+pub in_head : {m : InsertionMode} {a b : List AttributeText} {h : Nodes} (w : World) → WithHead m one a b h w → AtHtml w
+in_head w s = at_element w s.header (codes "head") s.no_context (ap (first_or w.forest.document) s.are_open) s.is_head.is_kind
+
+in_body : {m : InsertionMode} {a b c : List AttributeText} {h : Nodes} {inner : List Child} {nodes : Nodes} (w : World) → WithBody m a b c h inner nodes w → AtHtml w
+in_body w s = at_element w s.content (codes "body") s.no_context (ap (first_or w.forest.document) s.are_open) s.is_body.is_kind
+
 pub head_end_next : (choices : SinkChoices) (a b : List AttributeText) (h : Nodes) (w : World) → WithHead InHead one a b h w → Next choices (end_tag (codes "head")) w (WithHead AfterHead none a b h)
 unfolding pop
 head_end_next choices a b h w s = record {
   after = set_mode AfterHead (pop choices (taken w));
-  moves = moves_tag choices _ w InHead (Pop ∷ SetMode AfterHead ∷ []) s.mode (head_end_rule (taken w)) refl refl;
+  moves = moves_tag choices _ w InHead (Pop ∷ SetMode AfterHead ∷ []) s.mode (in_head w s) (head_end_rule (taken w)) refl refl;
   holds = record {
     mode = refl;
     root = s.root;
@@ -249,7 +261,7 @@ body_next choices a b c h w s =
     λ x name d cs other l. kinds_apart w.forest x s.root (ElementNode name) (ElementNode html) d a cs (ChildNode s.header ∷ []) l s.rooted.is_root other in
     record {
       after = set_mode InBody (set_frameset_not_ok (insert_element choices (codes "body") c false (taken w)));
-      moves = moves_tag choices _ w AfterHead (InsertElement (codes "body") c false ∷ SetFramesetNotOk ∷ SetMode InBody ∷ []) s.mode (body_rule c (taken w)) refl refl;
+      moves = moves_tag choices _ w AfterHead (InsertElement (codes "body") c false ∷ SetFramesetNotOk ∷ SetMode InBody ∷ []) s.mode (at_element w s.root (codes "html") s.no_context (ap (first_or w.forest.document) s.are_open) s.rooted.is_root.is_kind) (body_rule c (taken w)) refl refl;
       holds = record {
         with_body = record {
           mode = refl;
@@ -287,7 +299,9 @@ at_body a b c h w s =
       named = subst (λ r. Named w.forest r (body ∷ html ∷ [])) (sym t.are_open) (OneOpen t.is_body.is_kind (OneOpen t.rooted.is_root.is_kind NoneOpen));
       no_foster = s.no_foster;
       no_form = s.no_form;
+      no_context = t.no_context;
       no_template = refl;
+      is_html = html_is (codes "body");
       are_open = refl;
       is_base = NoEntry;
       entries = subst (Entries [] []) (sym s.none_listed) Bottom;
@@ -368,7 +382,7 @@ pub body_end_next : (choices : SinkChoices) (a b c : List AttributeText) (h : No
 unfolding if_body_in_scope
 body_end_next choices a b c h inner nodes w s = record {
   after = set_mode AfterBody (taken w);
-  moves = moves_tag choices _ w InBody (SetMode AfterBody ∷ []) s.mode (body_end_rule (taken w)
+  moves = moves_tag choices _ w InBody (SetMode AfterBody ∷ []) s.mode (in_body w s) (body_end_rule (taken w)
       ∙ ap (λ v. choose v (body_ends (SetMode AfterBody ∷ []) IsDone (taken w)) ignored) (body_is_in_scope InBody a b c h inner nodes w s)
       ∙ ap (λ q. let r : Row = record { changes = SetMode AfterBody ∷ []; ending = IsDone; quiet = q } in r) (all_is_closed InBody a b c h inner nodes w s)) refl refl;
   holds = in_other_mode InBody AfterBody a b c h inner nodes w s;
@@ -377,7 +391,7 @@ body_end_next choices a b c h inner nodes w s = record {
 pub html_end_next : (choices : SinkChoices) (a b c : List AttributeText) (h : Nodes) (inner : List Child) (nodes : Nodes) (w : World) → WithBody AfterBody a b c h inner nodes w → Next choices (end_tag (codes "html")) w (WithBody AfterAfterBody a b c h inner nodes)
 html_end_next choices a b c h inner nodes w s = record {
   after = set_mode AfterAfterBody (taken w);
-  moves = moves_tag choices _ w AfterBody (SetMode AfterAfterBody ∷ []) s.mode (html_end_rule (taken w) s.no_context) refl refl;
+  moves = moves_tag choices _ w AfterBody (SetMode AfterAfterBody ∷ []) s.mode (in_body w s) (html_end_rule (taken w) s.no_context) refl refl;
   holds = in_other_mode AfterBody AfterAfterBody a b c h inner nodes w s;
 }
 

@@ -16,6 +16,7 @@ use Rattle.h5_plain.proofs.BodyRuleLaws.{IsHolder}
 use Rattle.h5_plain.proofs.CalmLaws.{Built, Calm, Opens, after, element_case, opened}
 use Rattle.h5_plain.proofs.FilledLaws.{Face, face, more, same_faces}
 use Rattle.h5_plain.proofs.GoesLaws.{Moves}
+use Rattle.h5_plain.proofs.HtmlLaws.{AtHtml}
 use Rattle.h5_plain.proofs.ListedLaws.{AtMarker, Bottom, Entries}
 use Rattle.h5_plain.proofs.TableRuleLaws.{IsCellName}
 use Rattle.h5_plain.proofs.TableStepLaws.{Ends, ends_cell, starts_cell}
@@ -31,7 +32,7 @@ module _ (choices : SinkChoices) {w : World} {p : ℕ} {d : Face} {names : List 
   -- the formatting list stays as it is
   pub part_case : (m : InsertionMode) (ok : Bool) (inner rest : Nodes) → IsHolder name → Moves choices (start_tag name attrs) w (in_part m ok)
       → (Calm (in_part m ok) new (face name attrs) (html_name name ∷ names) [] (new ∷ w.stack) base → Built choices (in_part m ok) new (face name attrs) inner [] base)
-      → ((v : World) → IsForest v.forest → v.ignore_lf ≡ false → v.mode ≡ m → names_of v ≡ html_name name ∷ names → Ends choices name v w.mode)
+      → ((v : World) → IsForest v.forest → v.ignore_lf ≡ false → AtHtml v → v.mode ≡ m → names_of v ≡ html_name name ∷ names → Ends choices name v w.mode)
       → ((f : Forest) (l : List Entry) (b : Bool) → Calm (after w f l b) p (more d (ChildNode new ∷ [])) names [] under base → Built choices (after w f l b) p (more d (ChildNode new ∷ [])) rest [] base)
       → Built choices w p d (ElementThen name attrs inner rest) [] base
   part_case m ok inner rest h moves fill ends next =
@@ -45,8 +46,8 @@ module _ (choices : SinkChoices) {w : World} {p : ℕ} {d : Face} {names : List 
         unlisted = λ n e x. e;
       } in
       element_case choices w p d name attrs m w.formatting ok [] (new ∷ w.stack) base c o inner rest fill
-      (λ i e.
-      let k = ends (after (in_part m ok) i.forest i.formatting i.ok) i.filled.frame.is_forest c.ignore_lf refl e in
+      (λ i e j.
+      let k = ends (after (in_part m ok) i.forest i.formatting i.ok) i.filled.frame.is_forest c.ignore_lf j refl e in
       record { forest = k.forest; formatting = i.formatting; moves = k.moves; same = k.same; entries = i.entries; fewer = i.fewer })
       next
 
@@ -73,7 +74,7 @@ module _ (choices : SinkChoices) {w : World} {p : ℕ} {d : Face} {names : List 
         unlisted = λ n e x. e;
       } in
       element_case choices w p d name attrs InCell (MarkerEntry ∷ w.formatting) w.frameset_ok [] (new ∷ w.stack) (MarkerEntry ∷ w.formatting) c o inner rest fill
-      (λ i e.
+      (λ i e j.
       let v = after in_cell i.forest i.formatting i.ok in
       let left : List Entry → InsertionMode → World = λ l x. record v { formatting = l; mode = x; stack = w.stack } in
       record {
@@ -81,7 +82,7 @@ module _ (choices : SinkChoices) {w : World} {p : ℕ} {d : Face} {names : List 
         formatting = w.formatting;
         moves = subst (λ l. Moves choices (end_tag name) v (left l w.mode)) (unmarked i.formatting i.entries)
             (subst (λ x. Moves choices (end_tag name) v (left (clear_to_marker i.formatting) x)) (sym m)
-            (ends_cell choices v names i.filled.frame.is_forest c.ignore_lf name k refl e));
+            (ends_cell choices v names i.filled.frame.is_forest c.ignore_lf j name k refl e));
         same = same_faces i.forest i.filled.frame.is_forest;
         entries = c.entries;
         fewer = λ n x. x;

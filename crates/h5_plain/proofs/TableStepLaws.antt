@@ -29,9 +29,10 @@ use Rattle.h5_meaning.proofs.PopLaws.{all_implied_none}
 use Rattle.h5_plain.specs.Plain.{end_tag, start_tag}
 use Rattle.h5_plain.proofs.BodyRuleLaws.{IsHolder}
 use Rattle.h5_plain.proofs.BodyStepLaws.{cut_at, insert_is, no_p, none_closed}
-use Rattle.h5_plain.proofs.CalmLaws.{Calm, names_are, opened}
+use Rattle.h5_plain.proofs.CalmLaws.{Calm, calm_html, names_are, opened}
 use Rattle.h5_plain.proofs.FilledLaws.{Face, SameFaces, same_faces}
 use Rattle.h5_plain.proofs.GoesLaws.{Moves, moves_row}
+use Rattle.h5_plain.proofs.HtmlLaws.{AtHtml}
 use Rattle.h5_plain.proofs.ListedLaws.{OpenFormat}
 use Rattle.h5_plain.proofs.LooksLaws.{looks_marked}
 use Rattle.h5_plain.proofs.ModeLaws.{GoesByBody, ResetsTo, resets_in, start_by_body}
@@ -72,10 +73,10 @@ module _ (choices : SinkChoices) {w : World} {p : ℕ} {d : Face} {names : List 
 
       at : (b : Bool) → is_quirks w.quirks ≡ b → Moves choices (start_tag (codes "table") attrs) w inside
       at true e =
-          moves_row choices (start (codes "table") attrs) w inside w.mode opens refl c.ignore_lf
+          moves_row choices (start (codes "table") attrs) w inside w.mode opens refl c.ignore_lf (calm_html c)
           (by_rule ∙ ap (λ b. choose b (row opens IsDone) (row_if (not (has_p_in_button_scope (names_of w))) (ClosePElementInButtonScope ∷ opens) IsDone)) e) refl refl done
       at false e =
-          moves_row choices (start (codes "table") attrs) w inside w.mode (ClosePElementInButtonScope ∷ opens) refl c.ignore_lf
+          moves_row choices (start (codes "table") attrs) w inside w.mode (ClosePElementInButtonScope ∷ opens) refl c.ignore_lf (calm_html c)
           (by_rule
           ∙ ap (λ b. choose b (row opens IsDone) (row_if (not (has_p_in_button_scope (names_of w))) (ClosePElementInButtonScope ∷ opens) IsDone)) e
           ∙ ap (λ b. row_if (not b) (ClosePElementInButtonScope ∷ opens) IsDone) (no_p choices c h)) refl refl
@@ -86,7 +87,7 @@ module _ (choices : SinkChoices) {w : World} {p : ℕ} {d : Face} {names : List 
       → rule m (TagTurn (start name attrs)) w ≡ row (PopUntilCurrent is ∷ InsertElement name attrs false ∷ SetMode k ∷ []) IsDone
       → Moves choices (start_tag name attrs) w (opened choices w p name attrs k w.formatting w.frameset_ok)
   starts_part name attrs m k is x e h r =
-      moves_row choices (start name attrs) w (opened choices w p name attrs k w.formatting w.frameset_ok) m (PopUntilCurrent is ∷ InsertElement name attrs false ∷ SetMode k ∷ []) e c.ignore_lf r refl x.no_title
+      moves_row choices (start name attrs) w (opened choices w p name attrs k w.formatting w.frameset_ok) m (PopUntilCurrent is ∷ InsertElement name attrs false ∷ SetMode k ∷ []) e c.ignore_lf (calm_html c) r refl x.no_title
       (ap (λ v. set_mode k (insert_element choices name attrs false v)) (here is h) ∙ ap (set_mode k) (insert_is choices c name attrs))
 
   -- of a cell, before which a marker is listed
@@ -95,7 +96,7 @@ module _ (choices : SinkChoices) {w : World} {p : ℕ} {d : Face} {names : List 
   unfolding insert_marker
   starts_cell name attrs k e h =
       moves_row choices (start name attrs) w (opened choices w p name attrs InCell (MarkerEntry ∷ w.formatting) w.frameset_ok) InRow
-      (PopUntilCurrent is_table_row_context ∷ InsertElement name attrs false ∷ SetMode InCell ∷ InsertMarker ∷ []) e c.ignore_lf (k.starts attrs w) refl k.holds.no_title
+      (PopUntilCurrent is_table_row_context ∷ InsertElement name attrs false ∷ SetMode InCell ∷ InsertMarker ∷ []) e c.ignore_lf (calm_html c) (k.starts attrs w) refl k.holds.no_title
       (ap (λ v. insert_marker (set_mode InCell (insert_element choices name attrs false v))) (here is_table_row_context h)
       ∙ ap (λ v. insert_marker (set_mode InCell v)) (insert_is choices c name attrs))
 
@@ -120,7 +121,7 @@ names_below w {name} {names} e = at w.stack e
     at [] h = absurd (cc)
     at (n ∷ s) h = ap later_names h
 
-module _ (choices : SinkChoices) (w : World) (names : List QualName) (k : IsForest w.forest) (i : w.ignore_lf ≡ false) where
+module _ (choices : SinkChoices) (w : World) (names : List QualName) (k : IsForest w.forest) (i : w.ignore_lf ≡ false) (j : AtHtml w) where
   abbrev left : InsertionMode → World
   left m = record w { mode = m; stack = but_first w.stack }
 
@@ -132,7 +133,7 @@ module _ (choices : SinkChoices) (w : World) (names : List QualName) (k : IsFore
       record {
         forest = w.forest;
         same = same_faces w.forest k;
-        moves = moves_row choices (end (codes "table")) w (left m) InTable changes t i
+        moves = moves_row choices (end (codes "table")) w (left m) InTable changes t i j
             (table_end_rule w ∙ ap (λ ns. choose (in_scope (is_html_named (codes "table")) is_table_scope ns) (row changes IsDone) ignored) e) refl refl
             (ap (λ v. set_mode (reset_mode v) v) (cut_at w names (is_html_named (codes "table")) (html_name (codes "table")) e refl)
             ∙ ap left (resets_in (record w { stack = but_first w.stack }) names (names_below w e) r));
@@ -147,7 +148,7 @@ module _ (choices : SinkChoices) (w : World) (names : List QualName) (k : IsFore
       record {
         forest = f;
         same = same_marked w.forest marks k;
-        moves = moves_row choices (end name) w (record w { forest = f; mode = l; stack = but_first w.stack }) m (PopUntilCurrent is ∷ Pop ∷ SetMode l ∷ []) t i r refl refl
+        moves = moves_row choices (end name) w (record w { forest = f; mode = l; stack = but_first w.stack }) m (PopUntilCurrent is ∷ Pop ∷ SetMode l ∷ []) t i j r refl refl
             (ap (λ v. set_mode l (pop choices v)) (at_context is w h));
       }
 
@@ -169,7 +170,7 @@ module _ (choices : SinkChoices) (w : World) (names : List QualName) (k : IsFore
   unfolding in_cell_end_cell pop_until_named clear_active_formatting_to_marker
   ends_cell name c t e =
       let changes : List Change = GenerateImpliedEnd ∷ PopUntilNamed name ∷ ClearActiveFormattingToMarker ∷ SetMode InRow ∷ [] in
-      moves_row choices (end name) w (record w { formatting = clear_to_marker w.formatting; mode = InRow; stack = but_first w.stack }) InCell changes t i
+      moves_row choices (end name) w (record w { formatting = clear_to_marker w.formatting; mode = InRow; stack = but_first w.stack }) InCell changes t i j
       (c.ends w
       ∙ ap (λ ns. choose (in_scope (is_html_named name) is_table_scope ns) (row_if (first_passes (is_html_named name) ns) changes IsDone) ignored) e
       ∙ ap (λ b. choose (cond b true (cond (is_table_scope (html_name name)) false (in_scope (is_html_named name) is_table_scope names))) (row_if b changes IsDone) ignored) c.itself) refl refl

@@ -21,9 +21,10 @@ use Rattle.h5_plain.proofs.FilledLaws.{face, frame_inserted, frame_text, more, r
 use Rattle.h5_plain.proofs.GoesLaws.{Goes, Moves, moves_answered, moves_raw_text, moves_tag}
 use Rattle.h5_plain.proofs.GrowthLaws.{Rooted, element_below, head, kinds_apart, rooted_marked, with_element}
 use Rattle.h5_plain.proofs.HeadLaws.{HoldsTitle, head_not_title, html_not_head, html_not_title, nothing_held, title}
+use Rattle.h5_plain.proofs.HtmlLaws.{AtHtml, at_element}
 use Rattle.h5_plain.proofs.LooksLaws.{looks_marked, looks_node}
 use Rattle.h5_plain.proofs.RuleLaws.{end, start, title_end_rule, title_rule}
-use Rattle.h5_plain.proofs.StageLaws.{Next, WithHead, insert_flag, insert_context, insert_foster, insert_form, insert_listed, insert_mode, insert_opens, insert_quirks, inserted, one}
+use Rattle.h5_plain.proofs.StageLaws.{Next, WithHead, in_head, insert_flag, insert_context, insert_foster, insert_form, insert_listed, insert_mode, insert_opens, insert_quirks, inserted, one}
 
 -- in the title, which holds these children
 record InTitle (a b c : List AttributeText) (inner : List Child) (w : World) : Type 0 where
@@ -44,6 +45,10 @@ record InTitle (a b c : List AttributeText) (inner : List Child) (w : World) : T
   is_head : Looks w.forest header (ElementNode head) b (ChildNode element ∷ [])
   is_title : Looks w.forest element (ElementNode title) c inner
 
+-- where no token is for foreign content
+in_title : {a b c : List AttributeText} {inner : List Child} (w : World) → InTitle a b c inner w → AtHtml w
+in_title w s = at_element w s.element (codes "title") s.no_context (ap (first_or w.forest.document) s.are_open) s.is_title.is_kind
+
 title_next : (choices : SinkChoices) (a b c : List AttributeText) (w : World) → WithHead InHead one a b End w → Next choices (start_tag (codes "title") c) w (InTitle a b c [])
 title_next choices a b c w s =
     let n = choices.fresh w.forest in
@@ -55,7 +60,7 @@ title_next choices a b c w s =
     let same = inserted choices (codes "title") c (taken w) s.header at_head s.no_form in
     record {
       after = set_mode Text (save_mode v);
-      moves = moves_answered choices (start (codes "title") c) w InHead (InsertElement (codes "title") c false ∷ SaveMode ∷ SetMode Text ∷ []) s.mode (title_rule c (taken w));
+      moves = moves_answered choices (start (codes "title") c) w InHead (InsertElement (codes "title") c false ∷ SaveMode ∷ SetMode Text ∷ []) s.mode (in_head w s) (title_rule c (taken w));
       holds = record {
         mode = refl;
         saved = ap Some (insert_mode choices (codes "title") c (taken w) ∙ s.mode);
@@ -90,7 +95,7 @@ text_next choices a b c x t w s =
     let frame = frame_text f s.element (x ∷ t) (face (codes "title") c) s.rooted.begun.is_forest (λ e. cc) refl s.is_title in
     record {
       after = with_forest (append_text_to s.element (x ∷ t) f) w;
-      moves = subst (Moves choices (Characters (x ∷ t)) w) (written_is a b c (x ∷ t) w s) (moves_raw_text choices x t w s.mode s.ignore_lf);
+      moves = subst (Moves choices (Characters (x ∷ t)) w) (written_is a b c (x ∷ t) w s) (moves_raw_text choices x t w s.mode s.ignore_lf (in_title w s));
       holds = record {
         mode = s.mode;
         saved = s.saved;
@@ -120,7 +125,7 @@ title_end_next choices a b c t w s =
     let marks : ℕ → Marks = choices.marks_after_pop w.forest (current w) in
     record {
       after = set_mode InHead (pop choices (taken w));
-      moves = moves_tag choices (end (codes "title")) w Text (Pop ∷ SetMode InHead ∷ []) s.mode
+      moves = moves_tag choices (end (codes "title")) w Text (Pop ∷ SetMode InHead ∷ []) s.mode (in_title w s)
           (title_end_rule (taken w) ∙ ap (λ m. row (Pop ∷ SetMode (unwrap_or m InTable) ∷ []) IsDone) s.saved) refl refl;
       holds = record {
         mode = refl;

@@ -4,7 +4,6 @@ use Rattle.h5_token.specs.TokenText.{EndOfFile, TokenText}
 use Rattle.h5_interface.specs.Forest.{Child, ChildNode, children_of}
 use Rattle.h5_interface.specs.SinkChoices.{SinkChoices}
 use Rattle.h5_tag_sets.specs.TagSets.{void_names}
-use Rattle.h5_stack.specs.FormattingNames.{AllFormatting}
 use Rattle.h5_types.specs.declared.modes.InsertionMode.TheVariants.{AfterAfterBody}
 use Rattle.h5_meaning.specs.Run.{View}
 use Rattle.h5_meaning.specs.World.{World}
@@ -15,6 +14,7 @@ use Rattle.h5_plain.proofs.FilledLaws.{own}
 use Rattle.h5_plain.proofs.GoesLaws.{Goes, arrives}
 use Rattle.h5_plain.proofs.HeadLaws.{head_stands}
 use Rattle.h5_plain.proofs.StageLaws.{WithBody, body_end_next, body_filled, body_next, doctype_next, file_end_next, head_end_next, head_next, html_end_next, html_next}
+use Rattle.h5_plain.proofs.StartLaws.{start_fitting}
 use Rattle.h5_plain.proofs.TitleLaws.{head_filled}
 
 -- where the tokens of a document lead
@@ -71,7 +71,7 @@ stands d w inner s =
 pub rebuilds_all : (choices : SinkChoices) (ts : List TokenText) (v : View) → RebuildsAll choices ts v
 rebuilds_all choices ts v d s e f j =
     let l = led choices d v.world s in
-    let r = arrives choices ts v l.after f e (goes_cut choices ts v.world l.after (subst AllFormatting (sym s.none_listed) tt) (subst (λ x. Goes choices x v.world l.after) (sym j) l.goes)) in
+    let r = arrives choices ts v l.after f e (goes_cut choices ts v.world l.after (start_fitting v.world s) (subst (λ x. Goes choices x v.world l.after) (sym j) l.goes)) in
     record {
       stands = subst (λ (w : World). DocumentStands w.forest d) (sym r.world) (stands d l.after l.inner l.holds);
       quirks = ap (λ (w : World). w.seen_quirks) r.world ∙ l.holds.quirks;

@@ -52,6 +52,8 @@ pub record IsStart (w : World) : Type 0 where
   pub none_listed : w.formatting ≡ []
   pub ignore_lf : w.ignore_lf ≡ false
   pub no_foster : w.foster ≡ false
+  pub no_template_modes : w.template_modes ≡ []
+  pub no_head : w.head ≡ None
   pub no_form : w.form ≡ None
   pub no_context : w.context ≡ None
 

@@ -11,6 +11,7 @@ use super::blocks::{
     in_body_end_block, in_body_end_heading, in_body_end_p, in_body_start_block,
     in_body_start_heading, in_body_start_preformatted,
 };
+use super::foreign::{in_body_start_math, in_body_start_svg};
 use super::formatting::{
     in_body_end_br, in_body_end_formatting, in_body_start_a, in_body_start_formatting,
     in_body_start_nobr, in_body_start_void,
@@ -205,7 +206,34 @@ fn in_body_start_table<S: TreeSink>(
     Ok(ProcessResult::Done)
 }
 
-// Of `select` and what stands in it, of ruby annotations, and any other.
+// Of ruby annotations, of MathML and SVG, and any other.
+#[tactic(auto, unfolding(h5_meaning::specs::InBody::in_body_start))]
+fn in_body_start_embedded<S: TreeSink>(
+    sink: &mut S,
+    state: &mut State<S::Handle>,
+    tag: Tag,
+) -> Turn<S::Handle>
+    requires sound { IsSound S.TreeSink sink.old state.old }
+    requires ready { IsReady (world_of S.TreeSink sink.old state.old) }
+    ensures { TakesTag S.TreeSink (by_name (drop 30 in_body_start) in_body_start_other) tag sink.old state.old sink.new state.new result }
+{
+    if is_ruby_base(&tag.name) {
+        in_body_start_ruby_base(sink, state, tag)
+    } else if is_ruby_text(&tag.name) {
+        in_body_start_ruby_text(sink, state, tag)
+    } else if tag.name.is(KnownName::Math) {
+        in_body_start_math(sink, state, tag)
+    } else if tag.name.is(KnownName::Svg) {
+        in_body_start_svg(sink, state, tag)
+    } else if is_ignored_start(&tag.name) {
+        unexpected_tag(sink, state, &tag);
+        Ok(ProcessResult::Done)
+    } else {
+        in_body_start_other(sink, state, tag)
+    }
+}
+
+// Of `select` and what stands in it.
 #[tactic(auto, unfolding(h5_meaning::specs::InBody::in_body_start))]
 fn in_body_start_choice<S: TreeSink>(
     sink: &mut S,
@@ -222,15 +250,8 @@ fn in_body_start_choice<S: TreeSink>(
         in_body_start_option(sink, state, tag)
     } else if tag.name.is(KnownName::Optgroup) {
         in_body_start_optgroup(sink, state, tag)
-    } else if is_ruby_base(&tag.name) {
-        in_body_start_ruby_base(sink, state, tag)
-    } else if is_ruby_text(&tag.name) {
-        in_body_start_ruby_text(sink, state, tag)
-    } else if is_ignored_start(&tag.name) {
-        unexpected_tag(sink, state, &tag);
-        Ok(ProcessResult::Done)
     } else {
-        in_body_start_other(sink, state, tag)
+        in_body_start_embedded(sink, state, tag)
     }
 }
 

@@ -3,6 +3,7 @@ ghost use Rattle.h5_meaning.specs.InHead.{in_head_else, in_head_start_link, in_h
 ghost use Rattle.h5_state.specs.Steps.{IsOpen, IsSound};
 ghost use Rattle.h5_state.specs.Turn.{TakesTag, TakesToken};
 
+use super::encoding::copy_named_encoding;
 use super::names::{is_head_link, is_head_raw};
 use super::raw_text::{parse_raw_data, to_raw_text_mode};
 use super::template::in_head_start_template;
@@ -13,11 +14,12 @@ use h5_state::{
     State, Turn, insert_and_pop_element, insert_element, insert_script, is_scripting, pop,
     set_mode, unexpected_tag,
 };
-use h5_token::Tag;
 use h5_token::states::RawKind;
+use h5_token::{Tag, TokenSinkResult};
 use h5_types::{InsertionMode, ProcessResult, Token};
 
-// A start tag `base`, `basefont`, `bgsound`, `link` or `meta`: the element is empty.
+// A start tag `base`, `basefont`, `bgsound`, `link` or `meta`: the element is empty, and an encoding that the tag names is
+// answered.
 fn in_head_start_link<S: TreeSink>(
     sink: &mut S,
     state: &mut State<S::Handle>,
@@ -26,9 +28,13 @@ fn in_head_start_link<S: TreeSink>(
     requires { IsSound S.TreeSink sink.old state.old }
     ensures { TakesTag S.TreeSink in_head_start_link tag sink.old state.old sink.new state.new result }
 {
+    let encoding = copy_named_encoding(state.alloc, &tag)?;
     let attrs = tag.attrs;
     insert_and_pop_element(sink, state, tag.name, attrs, tag.had_duplicate_attributes)?;
-    Ok(ProcessResult::DoneAckSelfClosing)
+    match encoding {
+        None => Ok(ProcessResult::DoneAckSelfClosing),
+        Some(encoding) => Ok(ProcessResult::Answer(TokenSinkResult::EncodingIndicator(encoding))),
+    }
 }
 
 // A start tag `noscript`: where scripts run its content is text.

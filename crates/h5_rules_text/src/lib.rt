@@ -2,6 +2,7 @@
 //! standard, sections 13.2.6.2, 13.2.6.4.4, 13.2.6.4.8 and 13.2.6.4.18).
 #![tactic(auto)]
 
+mod encoding;
 mod in_body;
 mod in_head;
 mod names;

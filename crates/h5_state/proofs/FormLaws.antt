@@ -53,6 +53,8 @@ module _ (choices : SinkChoices) (attrs : List AttributeText) (duplicates : Bool
     form_name = λ n e i. is_form n e;
     apart = λ n e d. node_of_kind w.forest n (ElementNode (html_name (codes "head"))) (k.head_node n e) (subst (λ m. w.forest.node m ≡ None) (same n d) (choices.fresh_is_new w.forest k.stands.is_forest));
     context_node = new.context_node;
+    context_out = new.context_out;
+    context_no_head = new.context_no_head;
     listed = new.listed;
     formatting = new.formatting;
   }

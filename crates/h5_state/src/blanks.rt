@@ -84,12 +84,12 @@ fn splits_text(mode: InsertionMode) -> bool
     )
 }
 
-/// The first run of a text in a mode: whether it is blank, and its length.
+/// The first run of a text in a mode, outside foreign content: whether it is blank, and its length.
 pub fn first_run(mode: InsertionMode, text: &str) -> (SplitStatus, usize)
     requires { text.now ≢ [] }
     ensures boundary { IsCharBoundary text.now result.1 }
     ensures some { 0 < result.1 }
-    ensures run { IsRun mode result.0 (take result.1 text.now) }
+    ensures run { IsRun mode false result.0 (take result.1 text.now) }
 {
     if !splits_text(mode) {
         return (SplitStatus::NotSplit, text.len());

@@ -23,7 +23,7 @@ use h5_tag_sets::{is_html_known, is_html_local};
 
 /// How many elements are open.
 #[tactic(auto, unfolding(crate::specs::View::world, crate::specs::View::names_under, crate::specs::View::stack_under, h5_meaning::specs::World::names_of))]
-pub(crate) fn open_count<S: TreeSink>(sink: &S, state: &State<S::Handle>) -> usize
+pub fn open_count<S: TreeSink>(sink: &S, state: &State<S::Handle>) -> usize
     ensures count { result ≡ length (world_of S.TreeSink sink.now state.now).stack }
     ensures all { names_under S.sees S.node sink.now state.now result ≡ names_of (world_of S.TreeSink sink.now state.now) }
     ensures none { names_under S.sees S.node sink.now state.now 0 ≡ [] }
@@ -35,7 +35,7 @@ pub(crate) fn open_count<S: TreeSink>(sink: &S, state: &State<S::Handle>) -> usi
 
 /// The open element at a place, counted from the root.
 #[tactic(auto, unfolding(crate::specs::View::world, crate::specs::View::names_under, crate::specs::View::stack_under))]
-pub(crate) fn open_at<'a, S: TreeSink>(
+pub fn open_at<'a, S: TreeSink>(
     sink: &S,
     state: &'a State<S::Handle>,
     place: usize,
@@ -55,7 +55,7 @@ pub(crate) fn open_at<'a, S: TreeSink>(
 }
 
 /// The name of the open element at a place, counted from the root.
-pub(crate) fn name_at<'a, S: TreeSink>(
+pub fn name_at<'a, S: TreeSink>(
     sink: &'a S,
     state: &'a State<S::Handle>,
     place: usize,

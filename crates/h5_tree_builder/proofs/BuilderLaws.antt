@@ -2,7 +2,7 @@
 use Rattle.std.proofs.Common.{◌≡◌, ◌≤◌, ◌+◌, ℕ, length, false, List, [], ◌∷◌, None, refl, ap, sym, subst, ◌∙◌, arith}
 use Rattle.h5_token.specs.Reply.{reply}
 use Rattle.h5_token.specs.TokenText.{DoctypeText, TokenText, DoctypeIs, TagIs, CommentIs, Characters, NullCharacter, EndOfFile, ParseErrorIs}
-use Rattle.h5_interface.specs.Forest.{Forest, IsForest}
+use Rattle.h5_interface.specs.Forest.{IsForest}
 use Rattle.h5_interface.specs.Seen.{Seen}
 use Rattle.h5_interface.specs.SinkChoices.{SinkChoices}
 use Rattle.h5_types.specs.TurnText.{TagTurn, CommentTurn, NullTurn, EofTurn}
@@ -11,11 +11,11 @@ use Rattle.h5_types.specs.declared.modes.InsertionMode.TheVariants.{Initial}
 use Rattle.h5_types.specs.declared.options.TreeBuilderOpts.{TreeBuilderOpts}
 use Rattle.h5_meaning.specs.Run.{doctype_in, is_counted, refuses_in, step, take_or_refuse, taken, tell_or_refuse, text_step, without_lf}
 use Rattle.h5_interface.specs.declared.sink.TreeSink.{Ghosts}
-use Rattle.h5_meaning.specs.Sound.{AllStand, Fits, HasLists, Sound, Stands}
-use Rattle.h5_stack.specs.Lists.{Lists}
+use Rattle.h5_meaning.specs.Sound.{Fits, HasLists, Sound}
 use Rattle.h5_meaning.specs.World.{World, names_of}
 use Rattle.h5_meaning.proofs.TurnLaws.{turns_few}
 use Rattle.h5_meaning.proofs.RunLaws.{is_taken, moved}
+use Rattle.h5_plain.proofs.StartLaws.{all_none, fits_none, lists_none}
 use Rattle.h5_state.specs.Steps.{world_of}
 use Rattle.h5_state.specs.Summaries.{summaries}
 use Rattle.h5_state.specs.View.{kept_of}
@@ -25,45 +25,9 @@ use Rattle.h5_tree_builder.specs.Chains.{CameTo}
 use Rattle.h5_tree_builder.specs.Held.{IsKept}
 use Rattle.h5_tree_builder.specs.declared.taken.Taken.{Taken}
 
-pub stands_none : (f : Forest) → IsForest f → Stands f []
-stands_none f k = record {
-  is_forest = k;
-  elements = λ n h. absurd h;
-  ordered = record { newer = λ x y h. absurd h };
-  templates = λ n h. absurd h;
-}
-
-all_none : (f : Forest) → IsForest f → AllStand f [] [] None None None
-all_none f k = record {
-  stands = stands_none f k;
-  root_top = tt;
-  head_node = λ n e. absurd (cc);
-  form_node = λ n e. absurd (cc);
-  form_name = λ n e h. absurd h;
-  apart = λ n e d. cc;
-  context_node = λ n e. absurd (cc);
-  listed = tt;
-  formatting = tt;
-}
-
-pub lists_first : Lists [] []
-lists_first = record {
-  agrees = record { once = λ x h. absurd h; order = λ x y h. absurd h; open_first = λ x y h. absurd h };
-  alike = λ t. tt;
-}
-
 fits_first : (seen : Seen) (opts : TreeBuilderOpts) → Fits (first_world seen opts)
 unfolding names_of
-fits_first seen opts = record {
-  mode = record {
-    fits = record {
-      known = record { root = tt; modes = refl; kinds = tt; opened = λ h. absurd (cc); ok = λ h. refl; under = tt };
-      place = (refl, (refl, refl));
-    };
-    named = tt;
-  };
-  lists = lists_first;
-}
+fits_first seen opts = record { mode = fits_none (first_world seen opts) refl refl; lists = lists_none }
 
 names_first : (seen : Seen) (opts : TreeBuilderOpts) → names_of (first_world seen opts) ≡ []
 unfolding names_of
@@ -77,7 +41,7 @@ first_kept law sink state opts k none e = record {
     kept = none ∙ ap summaries (sym (ap names_of e ∙ names_first (law.sees sink) opts));
   };
   fits = λ a b. subst Fits (sym e) (fits_first (law.sees sink) opts);
-  lists = λ a. subst HasLists (sym e) lists_first;
+  lists = λ a. subst HasLists (sym e) lists_none;
   closed = λ h. ap (λ (w : World). w.stack) e;
 }
 

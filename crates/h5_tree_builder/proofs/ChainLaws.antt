@@ -11,7 +11,7 @@ use Rattle.h5_fits.specs.Fits.{is_before_root}
 use Rattle.h5_fits.specs.NamesFit.{NamesFit}
 use Rattle.h5_fits.proofs.OpenLaws.{names_root_open}
 use Rattle.h5_meaning.specs.Changes.{set_mode}
-use Rattle.h5_meaning.specs.Modes.{rule}
+use Rattle.h5_meaning.specs.ForeignContent.{dispatch}
 use Rattle.h5_meaning.specs.Rows.{Follows}
 use Rattle.h5_meaning.specs.Settle.{Settled, settle}
 use Rattle.h5_meaning.specs.Sound.{Fits, IsReady, Sound, situation_of}
@@ -58,9 +58,9 @@ and_right false b h = absurd (cc)
 
 module _ {H : Type 0} (choices : SinkChoices) (node : H → ℕ) (t : TurnText) (first w v : World) where
   -- one turn more
-  pub left_next : (u : World) (a b c n : ℕ) (m : _) (token : _) → Follows choices node (rule w.mode t w) t w v b c (results.Reprocess m token) → u ≡ set_mode m v → Sound w → HasText t → Fits w → Left choices t first w a b n → Left choices t first u a c (n + 1)
+  pub left_next : (u : World) (a b c n : ℕ) (m : _) (token : _) → Follows choices node (dispatch choices t w) t w v b c (results.Reprocess m token) → u ≡ set_mode m v → Sound w → HasText t → Fits w → Left choices t first w a b n → Left choices t first u a c (n + 1)
   left_next u a b c n m token f i k some h l =
-      let r = rule w.mode t w in
+      let r = dispatch choices t w in
       let e = goes_on choices node t w v u b c m token f i k some h in
       record {
         world = l.world ∙ ap (λ (s : Settled). s.world) e;
@@ -71,10 +71,10 @@ module _ {H : Type 0} (choices : SinkChoices) (node : H → ℕ) (t : TurnText) 
       }
 
   -- the last turn, where no error is told after it but if the chain isn't quiet
-  last : (a b c d n : ℕ) (answer : TokenSinkResult H) (q : Bool) → settle choices t w ≡ record { world = v; turns = 1; reply = reply node answer; quiet = (rule w.mode t w).quiet && q } → ((rule w.mode t w).quiet ≡ true → c ≡ b) → (q ≡ true → d ≡ c)
+  last : (a b c d n : ℕ) (answer : TokenSinkResult H) (q : Bool) → settle choices t w ≡ record { world = v; turns = 1; reply = reply node answer; quiet = (dispatch choices t w).quiet && q } → ((dispatch choices t w).quiet ≡ true → c ≡ b) → (q ≡ true → d ≡ c)
       → Left choices t first w a b n → CameTo node (settle choices t first) true v a d (record { turns = n + 1; answer = answer })
   last a b c d n answer q e quiet flag l =
-      let r = rule w.mode t w in
+      let r = dispatch choices t w in
       let tells : (settle choices t w).quiet ≡ (r.quiet && q) = ap (λ (s : Settled). s.quiet) e in
       record {
         world = sym (l.world ∙ ap (λ (s : Settled). s.world) e);
@@ -87,11 +87,11 @@ module _ {H : Type 0} (choices : SinkChoices) (node : H → ℕ) (t : TurnText) 
   not_true true h = absurd (cc)
   not_true false h = refl
 
-  pub done_last : (a b c d n : ℕ) (flag : Bool) → Follows choices node (rule w.mode t w) t w v b c results.Done → flag ≡ is_self_closing t → (flag ≡ false → d ≡ c) → Left choices t first w a b n → CameTo node (settle choices t first) true v a d (record { turns = n + 1; answer = Continue })
+  pub done_last : (a b c d n : ℕ) (flag : Bool) → Follows choices node (dispatch choices t w) t w v b c results.Done → flag ≡ is_self_closing t → (flag ≡ false → d ≡ c) → Left choices t first w a b n → CameTo node (settle choices t first) true v a d (record { turns = n + 1; answer = Continue })
   done_last a b c d n flag f is told l = last a b c d n Continue (not (is_self_closing t)) (ends_here choices node t w v b c f) f.quiet (λ h. told (is ∙ not_true (is_self_closing t) h)) l
 
-  pub acknowledged_last : (a b c n : ℕ) → Follows choices node (rule w.mode t w) t w v b c results.DoneAckSelfClosing → Left choices t first w a b n → CameTo node (settle choices t first) true v a c (record { turns = n + 1; answer = Continue })
+  pub acknowledged_last : (a b c n : ℕ) → Follows choices node (dispatch choices t w) t w v b c results.DoneAckSelfClosing → Left choices t first w a b n → CameTo node (settle choices t first) true v a c (record { turns = n + 1; answer = Continue })
   acknowledged_last a b c n f l = last a b c c n Continue true (acknowledged_here choices node t w v b c f) f.quiet (λ h. refl) l
 
-  pub answered_last : (a b c n : ℕ) (answer : TokenSinkResult H) → Follows choices node (rule w.mode t w) t w v b c (results.Answer answer) → Left choices t first w a b n → CameTo node (settle choices t first) true v a c (record { turns = n + 1; answer = answer })
+  pub answered_last : (a b c n : ℕ) (answer : TokenSinkResult H) → Follows choices node (dispatch choices t w) t w v b c (results.Answer answer) → Left choices t first w a b n → CameTo node (settle choices t first) true v a c (record { turns = n + 1; answer = answer })
   answered_last a b c n answer f l = last a b c c n answer true (answered_here choices node t w v b c answer f) f.quiet (λ h. refl) l

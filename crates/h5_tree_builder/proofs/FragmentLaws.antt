@@ -31,7 +31,7 @@ use Rattle.h5_state.specs.Steps.{IsSound, world_of}
 use Rattle.h5_state.specs.declared.state.State.{State}
 use Rattle.h5_tree_builder.specs.Fragment.{context_modes, context_world, fragment_world, rooted_world}
 use Rattle.h5_tree_builder.specs.Held.{IsKept}
-use Rattle.h5_tree_builder.proofs.BuilderLaws.{lists_first, stands_none}
+use Rattle.h5_plain.proofs.StartLaws.{lists_none, stands_none}
 
 -- the form that is handed in is an element
 pub form_is_there : {H : Type 0} (node : H → ℕ) (f : Forest) (o : Option H) → MatchOption o (Unit {0}) (λ h. IsElement f (node h)) → (n : ℕ) → option_map node o ≡ Some n → IsElement f n
@@ -66,6 +66,8 @@ module _ (seen : Seen) (context : ℕ) (form : Option ℕ) (opts : TreeBuilderOp
     form_name = λ n e h. absurd h;
     apart = λ n e d. cc;
     context_node = λ n e. let same : context ≡ n = cc in subst (IsElement seen.forest) same c;
+    context_out = λ n e h. h;
+    context_no_head = λ n e d. cc;
     listed = tt;
     formatting = tt;
   }
@@ -79,7 +81,7 @@ module _ (seen : Seen) (context : ℕ) (form : Option ℕ) (opts : TreeBuilderOp
     rooted = rooted_world choices seen context form opts
 
     rooted_steady : IsSteady rooted
-    rooted_steady = steady_changes choices (CreateRoot [] ∷ []) start (tt, tt) (record { sound = context_stands; lists = lists_first })
+    rooted_steady = steady_changes choices (CreateRoot [] ∷ []) start (tt, tt) (record { sound = context_stands; lists = lists_none })
 
     rooted_names : names_of rooted ≡ html_name (codes "html") ∷ []
     rooted_names = names-insert_root choices [] start context_stands ∙ ap (λ ns. html_name (codes "html") ∷ ns) names_before_root

@@ -1,7 +1,7 @@
 pub mod ActiveFormattingLaws
 pub mod BuilderLaws
 pub mod ChainLaws
-pub mod DoctypeLaws
+pub mod DispatchLaws
 pub mod EndLaws
 pub mod FragmentLaws
 pub mod RootLaws

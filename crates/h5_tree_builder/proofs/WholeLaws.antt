@@ -5,8 +5,7 @@ use Rattle.h5_token.specs.Reply.{Refuses, Reply}
 use Rattle.h5_token.specs.TokenText.{TokenText}
 use Rattle.h5_token.specs.declared.fault.BuildFault.{BuildFault}
 use Rattle.h5_interface.specs.SinkChoices.{SinkChoices}
-use Rattle.h5_stack.specs.FormattingNames.{AllFormatting}
-use Rattle.h5_meaning.specs.Run.{CountsTurns, Took, Turns, Untold, View, WasRefused, after_all, after_token, all_quiet, is_counted, is_quiet, last_turns, later_turns, replies, reply_to, run, step, take_or_refuse, tell, tell_or_refuse, told_all, told_of}
+use Rattle.h5_meaning.specs.Run.{CountsTurns, IsFitting, Took, Turns, Untold, View, WasRefused, after_all, after_token, all_quiet, is_counted, is_quiet, last_turns, later_turns, replies, reply_to, run, step, take_or_refuse, tell, tell_or_refuse, told_all, told_of}
 use Rattle.h5_meaning.specs.Settle.{Settled}
 use Rattle.h5_meaning.proofs.RunLaws.{cuts_agree, is_taken}
 use Rattle.h5_plain.specs.Rebuilding.{DocumentStands, IsStart}
@@ -87,8 +86,8 @@ onward_next choices all rest t old now new answers answer r o =
       );
     }
 
--- no token is left, and at first the list of active formatting elements was of their names
-pub onward_last : (choices : SinkChoices) (all : List TokenText) (old now : Building) (answers : List Reply) → AllFormatting old.view.world.formatting → Onward choices all [] old now answers → RanAll choices all old now answers
+-- no token is left, and at first there was what a builder keeps
+pub onward_last : (choices : SinkChoices) (all : List TokenText) (old now : Building) (answers : List Reply) → IsFitting old.view → Onward choices all [] old now answers → RanAll choices all old now answers
 unfolding run
 onward_last choices all old now answers k o =
     let told : answers ≡ replies choices all old.view = sym (append-nil answers) ∙ o.told in
@@ -105,7 +104,7 @@ onward_last choices all old now answers k o =
 -- a plain document is rebuilt
 pub rebuilds_plain : (choices : SinkChoices) (ts : List TokenText) (old new : Building) (answers : List Reply) → RanAll choices ts old new answers → RebuildsPlain ts old new answers
 rebuilds_plain choices ts old new answers r d seen holds same j =
-    let start : IsStart old.view.world = subst (λ (b : Building). IsStart b.view.world) (sym same) (record { holds = holds; options = refl; mode = refl; none_open = refl; none_listed = refl; ignore_lf = refl; no_foster = refl; no_form = refl; no_context = refl }) in
+    let start : IsStart old.view.world = subst (λ (b : Building). IsStart b.view.world) (sym same) (record { holds = holds; options = refl; mode = refl; none_open = refl; none_listed = refl; no_template_modes = refl; no_head = refl; ignore_lf = refl; no_foster = refl; no_form = refl; no_context = refl }) in
     let all = rebuilds_all choices ts old.view d start (ap (λ (b : Building). b.view.ended) same) (ap (λ (b : Building). b.view.failed) same) j in
     record {
       stands = subst (λ (v : View). DocumentStands v.world.forest d) (sym r.view) all.stands;

@@ -1,12 +1,12 @@
 -- What contracts see of a tree builder.
-use Rattle.std.specs.Prelude.{◌≡◌, ◌≤◌, ⊤, ℕ, ◌+◌, Bool, true, false, not, List, [], ◌∷◌, length, map, None, Some, Result, Ok, Err}
+use Rattle.std.specs.Prelude.{◌≡◌, ◌≤◌, ⊤, ℕ, ◌+◌, Bool, true, false, not, List, [], ◌∷◌, length, map, Option, None, Some, Result, Ok, Err}
 use Rattle.h5_names.specs.AttributeText.{is_same_text}
-use Rattle.h5_names.specs.declared.qualified.QualName.{QualName}
 use Rattle.h5_token.specs.Reply.{Reply, reply}
 use Rattle.h5_token.specs.TokenText.{TokenText}
 use Rattle.h5_token.specs.declared.fault.BuildFault.{BuildFault}
 use Rattle.h5_token.specs.declared.fault.BuildFault.TheVariants.{Memory, AfterEnd, NotInText, Failed}
 use Rattle.h5_token.specs.declared.sink.TokenSinkResult.{TokenSinkResult}
+use Rattle.h5_interface.specs.Forest.{Forest}
 use Rattle.h5_interface.specs.Seen.{Seen}
 use Rattle.h5_interface.specs.SinkChoices.{SinkChoices}
 use Rattle.h5_interface.specs.declared.marks.QuirksMode.TheVariants.{NoQuirks}
@@ -18,7 +18,8 @@ use Rattle.h5_meaning.specs.Changes.{pop}
 use Rattle.h5_token.specs.Joins.{join}
 use Rattle.h5_meaning.specs.Cuts.{spread}
 use Rattle.h5_meaning.specs.Run.{CountsTurns, View, WasRefused, after_all, after_token, all_quiet, is_counted, is_quiet, last_turns, refusal, refuses_in, replies, reply_to, step, told_all, told_of}
-use Rattle.h5_meaning.specs.World.{World, names_of}
+use Rattle.h5_meaning.specs.Foreign.{adjusted_current_node}
+use Rattle.h5_meaning.specs.World.{World, name_in}
 use Rattle.h5_plain.specs.Plain.{PlainDocument, document_tokens, plain_reply}
 use Rattle.h5_plain.specs.Rebuilding.{DocumentStands, HoldsDocument}
 use Rattle.h5_tree_builder.specs.Chains.{is_free}
@@ -68,13 +69,13 @@ all_popped choices w = pop_each choices w.stack w
 abbrev pub ended_view : SinkChoices → View → View
 ended_view choices v = record v { world = all_popped choices v.world; ended = true }
 
--- whether an element is open, and the current one isn't in the HTML namespace
-abbrev pub is_first_foreign : List QualName → Bool
-is_first_foreign [] = false
-is_first_foreign (n ∷ ns) = not (is_same_text n.ns html_namespace)
+-- whether an element is open, and the adjusted current node isn't in the HTML namespace
+abbrev pub is_foreign_node : Forest → Option ℕ → Bool
+is_foreign_node f None = false
+is_foreign_node f (Some n) = not (is_same_text (name_in f n).ns html_namespace)
 
 abbrev pub is_foreign_in : World → Bool
-is_foreign_in w = is_first_foreign (names_of w)
+is_foreign_in w = is_foreign_node w.forest (adjusted_current_node w)
 
 -- what taking a token did: an answer, want of memory, or a refusal
 pub record Answered (choices : SinkChoices) (t : TokenText) (old new : Building) (answer : Reply) : Type 0 where

@@ -2,7 +2,7 @@
 ghost use Rattle.std.specs.Prelude.{◌≡◌, ◌++◌, [], ◌∷◌, false, true, IfErr, IfOk, MatchOption, option_map};
 ghost use Rattle.h5_interface.specs.Forest.{ChildNode, IsElement, children_of};
 ghost use Rattle.h5_token.specs.TokenText.{token_text};
-ghost use Rattle.h5_meaning.specs.Sound.{Fits, HasLists, Sound};
+ghost use Rattle.h5_meaning.specs.Sound.{Fits, Fitting, HasLists, Sound};
 ghost use Rattle.h5_tree_builder.specs.Held.{building};
 ghost use Rattle.h5_tree_builder.specs.Builder.{IsKeptWhole, Takes, ended_view, first_building};
 ghost use Rattle.h5_tree_builder.specs.Fragment.{first_fragment};
@@ -55,6 +55,7 @@ impl<Handle: Drop, Sink: TreeSink<Handle = Handle> + Drop> TreeBuilder<Handle, S
     pub fn new(alloc: Global, sink: Sink, opts: TreeBuilderOpts) -> TreeBuilder<Handle, Sink>
         ensures first { building Sink.sees Sink.node result ≡ first_building (Sink.sees sink) opts }
         ensures sink { result.sink ≡ sink }
+        ensures fitting { Fitting (building Sink.sees Sink.node result).view.world }
     {
         let _document = sink.get_document();
         let state = first_state(&sink, alloc, opts);
@@ -84,6 +85,7 @@ impl<Handle: Drop, Sink: TreeSink<Handle = Handle> + Drop> TreeBuilder<Handle, S
         requires form { MatchOption form_elem (Unit {0}) (λ form. IsElement (Sink.sees sink).forest (Sink.node form)) }
         ensures first { IfOk result (λ builder. building Sink.sees Sink.node builder ≡ first_fragment Sink.choices (Sink.sees sink) (Sink.node context_elem) (option_map (λ form. Sink.node form) form_elem) opts) }
         ensures last { IfOk result (λ builder. children_of (building Sink.sees Sink.node builder).view.world.forest (Sink.sees sink).forest.document ≡ children_of (Sink.sees sink).forest (Sink.sees sink).forest.document ++ ChildNode (Sink.choices.fresh (Sink.sees sink).forest) ∷ []) }
+        ensures fitting { IfOk result (λ builder. Fitting (building Sink.sees Sink.node builder).view.world) }
         ensures memory { IfErr result (λ fault. fault ≡ BuildFault.Memory) }
     {
         let _document = sink.get_document();

@@ -1,6 +1,7 @@
 //! The turns of one token (HTML standard, section 13.2.6, "the tree construction dispatcher").
 ghost use Rattle.std.specs.Prelude.{◌≡◌, false, true, IfOk};
 ghost use Rattle.h5_types.specs.TurnText.{HasText, is_self_closing as is_closing_turn, turn_text};
+ghost use Rattle.h5_meaning.specs.ForeignContent.{dispatch};
 ghost use Rattle.h5_meaning.specs.Modes.{rule};
 ghost use Rattle.h5_meaning.specs.Settle.{settle};
 ghost use Rattle.h5_state.specs.Steps.{IsSound, TellsErrors, errors_of, world_of};
@@ -8,8 +9,10 @@ ghost use Rattle.h5_state.specs.Turn.{Turns};
 ghost use Rattle.h5_tree_builder.specs.Chains.{IsReady, Settles};
 
 use super::taken::Taken;
+use h5_foreign::is_foreign;
 use h5_interface::TreeSink;
 use h5_rules_body::{step_after_after_body, step_after_body, step_in_body};
+use h5_rules_foreign::{ForeignStep, step_foreign};
 use h5_rules_head::{
     step_after_head, step_before_head, step_before_html, step_in_head, step_in_head_noscript,
     step_initial,
@@ -28,7 +31,11 @@ use h5_types::{InsertionMode, ProcessResult, Token};
 use std::alloc::AllocError;
 
 // One turn, by the rule of the mode.
-fn step<S: TreeSink>(sink: &mut S, state: &mut State<S::Handle>, token: Token) -> Turn<S::Handle>
+fn step_by_mode<S: TreeSink>(
+    sink: &mut S,
+    state: &mut State<S::Handle>,
+    token: Token,
+) -> Turn<S::Handle>
     requires ready { IsReady S.TreeSink sink.old state.old }
     requires text { HasText (turn_text token) }
     ensures { Turns S.TreeSink (rule (world_of S.TreeSink sink.old state.old).mode (turn_text token)) (turn_text token) sink.old state.old sink.new state.new result }
@@ -55,6 +62,21 @@ fn step<S: TreeSink>(sink: &mut S, state: &mut State<S::Handle>, token: Token) -
         InsertionMode::InFrameset => step_in_frameset(sink, state, token),
         InsertionMode::AfterFrameset => step_after_frameset(sink, state, token),
         InsertionMode::AfterAfterFrameset => step_after_after_frameset(sink, state, token),
+    }
+}
+
+// One turn: by the rules of foreign content, or by the rule of the mode.
+fn step<S: TreeSink>(sink: &mut S, state: &mut State<S::Handle>, token: Token) -> Turn<S::Handle>
+    requires ready { IsReady S.TreeSink sink.old state.old }
+    requires text { HasText (turn_text token) }
+    ensures { Turns S.TreeSink (dispatch S.choices (turn_text token)) (turn_text token) sink.old state.old sink.new state.new result }
+{
+    if !is_foreign(sink, state, &token) {
+        return step_by_mode(sink, state, token);
+    }
+    match step_foreign(sink, state, token)? {
+        ForeignStep::Ended(result) => Ok(result),
+        ForeignStep::ByMode(again) => step_by_mode(sink, state, again),
     }
 }
 

@@ -1,35 +1,18 @@
 //! Doctypes (HTML standard, section 13.2.6.4.1, "The 'initial' insertion mode").
 ghost use Rattle.std.specs.Prelude.{◌≡◌, ℕ, List, [], Option, Some, None, true, IfOk, OnOk, option_map, string_bytes, unwrap_or};
 ghost use Rattle.h5_token.specs.TokenText.{doctype_text};
-ghost use Rattle.h5_meaning.specs.Run.{doctype_in, is_good_doctype, is_html_text, is_missing, judged, quirks_of, with_doctype};
+ghost use Rattle.h5_data.specs.Doctypes.{is_good_doctype, quirks_of};
+ghost use Rattle.h5_meaning.specs.Run.{doctype_in, judged, with_doctype};
 ghost use Rattle.h5_state.specs.Steps.{IsSound, TellsErrors, errors_of, world_of};
 ghost use Rattle.h5_tree_builder.specs.Chains.{IsReady, Settles};
 
 use super::taken::Taken;
-use h5_interface::{QuirksMode, TreeSink};
+use h5_data::doctype_error_and_quirks;
+use h5_interface::TreeSink;
 use h5_state::{State, current_mode, set_mode, set_quirks_mode, tell_error};
 use h5_token::{Doctype, TokenSinkResult};
 use h5_types::InsertionMode;
 use std::alloc::{AllocError, Global};
-
-fn is_html_name(name: &Option<String>) -> bool
-    ensures { result ≡ is_html_text (option_map string_bytes name.now) }
-{
-    match name {
-        Some(text) => text.as_str() == "html",
-        None => false,
-    }
-}
-
-// Whether a doctype is no error: `html`, without identifiers, not forced.
-fn is_good(doctype: &Doctype) -> bool
-    ensures { result ≡ is_good_doctype (doctype_text doctype.now) }
-{
-    is_html_name(&doctype.name)
-        && doctype.public_id.is_none()
-        && doctype.system_id.is_none()
-        && !doctype.force_quirks
-}
 
 fn text_or_empty(alloc: Global, text: Option<String>) -> String
     ensures { string_bytes result ≡ unwrap_or (option_map string_bytes text) [] }
@@ -116,18 +99,14 @@ fn judge_doctype<S: TreeSink>(
     ensures quiet { OnOk result (is_good_doctype (doctype_text doctype) ≡ true → errors_of S.TreeSink sink.new ≡ errors_of S.TreeSink sink.old) }
     ensures sound { IsSound S.TreeSink sink.new state.new }
 {
-    if is_good(&doctype) {
-        append_doctype(sink, state, doctype)?;
-        set_quirks_mode(sink, state, QuirksMode::NoQuirks);
-        set_mode(sink, state, InsertionMode::BeforeHtml);
-        Ok(())
-    } else {
+    let (is_error, quirks) = doctype_error_and_quirks(&doctype, state.opts.iframe_srcdoc);
+    if is_error {
         tell_bad(sink, state, &doctype);
-        append_doctype(sink, state, doctype)?;
-        set_quirks_mode(sink, state, QuirksMode::Quirks);
-        set_mode(sink, state, InsertionMode::BeforeHtml);
-        Ok(())
     }
+    append_doctype(sink, state, doctype)?;
+    set_quirks_mode(sink, state, quirks);
+    set_mode(sink, state, InsertionMode::BeforeHtml);
+    Ok(())
 }
 
 /// A doctype: at the start it is judged, elsewhere it is an error and nothing more. It takes no turn. It answers an

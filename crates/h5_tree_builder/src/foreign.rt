@@ -1,20 +1,21 @@
 //! The namespace of the adjusted current node (HTML standard, section 13.2.4.2, "The stack of open
-//! elements"). Until fragments stand that is the current node.
+//! elements").
 ghost use Rattle.std.specs.Prelude.{◌≡◌};
 ghost use Rattle.h5_state.specs.Steps.{IsSound, world_of};
 ghost use Rattle.h5_tree_builder.specs.Builder.{is_foreign_in};
 
+use h5_foreign::adjusted_current_node;
 use h5_interface::TreeSink;
 use h5_state::State;
 
-// Whether there is a current node, and it isn't in the HTML namespace.
-#[tactic(auto, unfolding(h5_state::specs::View::world, h5_meaning::specs::World::names_of, h5_tag_sets::specs::TagSets::html_namespace))]
+// Whether an element is open, and the adjusted current node isn't in the HTML namespace.
+#[tactic(auto, unfolding(h5_state::specs::View::world, h5_tag_sets::specs::TagSets::html_namespace))]
 pub fn is_current_foreign<S: TreeSink>(sink: &S, state: &State<S::Handle>) -> bool
     requires { IsSound S.TreeSink sink.now state.now }
     ensures { result ≡ is_foreign_in (world_of S.TreeSink sink.now state.now) }
 {
-    match state.open_elems.last() {
-        Some(element) => !sink.elem_name(&element.handle).ns.is_html(),
+    match adjusted_current_node(sink, state) {
+        Some(node) => !sink.elem_name(node).ns.is_html(),
         None => false,
     }
 }

@@ -1,19 +1,39 @@
 //! A text, run by run (HTML standard, section 13.2.6.1: characters are taken one by one, and a run of them
 //! that a rule takes alike is taken at once).
-ghost use Rattle.std.specs.Prelude.{◌≡◌, ◌≢◌, [], true, IfOk, IsOk, OnOk, string_bytes};
+ghost use Rattle.std.specs.Prelude.{◌≡◌, ◌≢◌, ◌<◌, [], length, take, true, IfOk, IsOk, OnOk, string_bytes};
+ghost use Rattle.std.specs.Str.{IsCharBoundary};
+ghost use Rattle.h5_meaning.specs.Foreign.{is_foreign_text};
 ghost use Rattle.h5_meaning.specs.Run.{is_empty_text, text_step, without_lf};
 ghost use Rattle.h5_meaning.specs.Sound.{Fits};
 ghost use Rattle.h5_meaning.specs.Text.{IsRun, is_quiet_text, text_any};
+ghost use Rattle.h5_types.specs.declared.modes.SplitStatus.TheVariants.{NotSplit};
 ghost use Rattle.h5_state.specs.Steps.{IsSound, errors_of, world_of};
 ghost use Rattle.h5_tree_builder.specs.Chains.{IsReady, Settles};
 
 use super::dispatch::settle_token;
 use super::taken::Taken;
+use h5_foreign::is_foreign_text;
 use h5_interface::TreeSink;
 use h5_state::{State, current_mode, first_run};
 use h5_token::TokenSinkResult;
 use h5_types::{SplitStatus, Token};
 use std::alloc::AllocError;
+
+// The first run of a text: whole in foreign content, where a text isn't split.
+fn next_run<S: TreeSink>(sink: &S, state: &State<S::Handle>, text: &str) -> (SplitStatus, usize)
+    requires sound { IsSound S.TreeSink sink.now state.now }
+    requires text { text.now ≢ [] }
+    ensures boundary { IsCharBoundary text.now result.1 }
+    ensures some { 0 < result.1 }
+    ensures run { IsRun (world_of S.TreeSink sink.now state.now).mode (is_foreign_text S.choices (world_of S.TreeSink sink.now state.now)) result.0 (take result.1 text.now) }
+    ensures whole { is_foreign_text S.choices (world_of S.TreeSink sink.now state.now) ≡ true → (result.0 ≡ NotSplit) × (result.1 ≡ length text.now) }
+{
+    if is_foreign_text(sink, state) {
+        (SplitStatus::NotSplit, text.len())
+    } else {
+        first_run(current_mode(sink, state), text)
+    }
+}
 
 // The chain of a run.
 fn settle_run<S: TreeSink>(
@@ -24,7 +44,7 @@ fn settle_run<S: TreeSink>(
 ) -> Result<u64, AllocError>
     requires ready { IsReady S.TreeSink sink.old state.old }
     requires text { string_bytes run ≢ [] }
-    requires run { IsRun (world_of S.TreeSink sink.old state.old).mode status (string_bytes run) }
+    requires run { IsRun (world_of S.TreeSink sink.old state.old).mode (is_foreign_text S.choices (world_of S.TreeSink sink.old state.old)) status (string_bytes run) }
     ensures done { OnOk result (world_of S.TreeSink sink.new state.new ≡ text_any S.choices (string_bytes run) (world_of S.TreeSink sink.old state.old)) }
     ensures quiet { OnOk result (is_quiet_text (world_of S.TreeSink sink.old state.old).mode ≡ true → errors_of S.TreeSink sink.new ≡ errors_of S.TreeSink sink.old) }
     ensures sound { IsSound S.TreeSink sink.new state.new }
@@ -50,7 +70,7 @@ fn process_runs<S: TreeSink>(
     let mut rest = text;
     let mut turns: u64 = 0;
     'runs: while !rest.is_empty() {
-        let (status, length) = first_run(current_mode(sink, state), rest);
+        let (status, length) = next_run(sink, state, rest);
         let (run, tail) = rest.split_at(length);
         let run = String::from_str(state.alloc, run)?;
         turns = turns.saturating_add(settle_run(sink, state, status, run)?);
@@ -76,7 +96,7 @@ fn process_text<S: TreeSink>(
     if text.is_empty() {
         return Ok(0);
     }
-    let (status, length) = first_run(current_mode(sink, state), text.as_str());
+    let (status, length) = next_run(sink, state, text.as_str());
     if length == text.len() {
         settle_run(sink, state, status, text)
     } else {

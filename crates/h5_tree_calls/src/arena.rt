@@ -1,6 +1,7 @@
-//! The arena on its happy path, and a second lawful sink.
+//! The arena on its happy path, and two more lawful sinks.
 use super::attaching::Attaching;
 use super::calls;
+use super::detaching::Detaching;
 use h5_arena::{Arena, Child, Kind, NodeId};
 use h5_interface::example::build_small_tree;
 use h5_interface::{ElementFlags, QuirksMode, TreeSink, create_element, create_element_with_flags};
@@ -158,6 +159,25 @@ fn a_small_tree_stands_in_another_sink(rt: HostRuntime) -> Result<(), Fail> {
     let document = sink.get_document();
     assert!(rt; sink.attach_declarative_shadow(&document, &root, &[])?);
     assert_eq!(rt; sink.finish().len(), 3);
+    Ok(())
+}
+
+#[test]
+fn a_template_leaves_its_parent_in_a_third_sink(rt: HostRuntime) -> Result<(), Fail> {
+    let alloc = rt.alloc();
+    let mut sink = Detaching::new(alloc)?;
+    let name = name_of(alloc, namespaces::HTML, "div")?;
+    let text = text_of(alloc, "some text")?;
+    assert!(rt; text.len() > 0);
+    let note = text_of(alloc, "a note")?;
+    let root = build_small_tree(&mut sink, name, Vec::new(alloc), text, note)?;
+    let document = sink.get_document();
+    assert!(rt; sink.attach_declarative_shadow(&document, &root, &[])?);
+    let arena = sink.finish();
+    assert!(rt; arena.holds(root));
+    assert_eq!(rt; arena.parent(root), None);
+    assert!(rt; arena.holds(document));
+    assert_eq!(rt; arena.children(document).len(), 0);
     Ok(())
 }
 

@@ -6,9 +6,11 @@ mod arena;
 mod attaching;
 #[cfg(test)]
 mod calls;
+mod detaching;
 #[cfg(test)]
 mod serialize;
 #[cfg(test)]
 mod walk;
 
 pub use attaching::Attaching;
+pub use detaching::Detaching;

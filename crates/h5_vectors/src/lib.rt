@@ -8,6 +8,10 @@ mod cuts;
 #[cfg(test)]
 mod deep;
 #[cfg(test)]
+mod doctypes;
+#[cfg(test)]
+mod foreign;
+#[cfg(test)]
 mod fragments;
 #[cfg(test)]
 mod parser;

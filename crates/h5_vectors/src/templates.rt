@@ -6,9 +6,10 @@ use h5_interface::TreeSink;
 use h5_names::{Attribute, LocalName, Namespace, QualName};
 use h5_token::{Tag, TagKind, Token};
 use h5_tree_builder::TreeBuilder;
-use h5_tree_calls::Attaching;
+use h5_tree_calls::{Attaching, Detaching};
 use h5_types::TreeBuilderOpts;
 use std::alloc::{AllocError, Global};
+use std::process::Abort;
 use std::test::Fail;
 
 /// Texts with templates and framesets, and the HTML of their pages.
@@ -175,6 +176,17 @@ fn first_template(arena: &Arena) -> Option<NodeId> {
     None
 }
 
+// The template stands loose, and the page has the text after it alone.
+fn check_loose_template(arena: &Arena, alloc: Global, rt: &impl Abort) -> Result<(), Fail> {
+    let html = html_of(alloc, arena)?;
+    let page = "<html><head></head><body><div>y</div></body></html>";
+    assert_eq!(rt; html.as_slice(), page.as_bytes());
+    let template = first_template(arena).ok_or("a template was made")?;
+    assert!(rt; arena.holds(template));
+    assert!(rt; arena.parent(template).is_none());
+    Ok(())
+}
+
 #[test]
 fn a_sink_may_say_that_it_attached_a_shadow_root(rt: HostRuntime) -> Result<(), Fail> {
     let alloc = rt.alloc();
@@ -186,12 +198,19 @@ fn a_sink_may_say_that_it_attached_a_shadow_root(rt: HostRuntime) -> Result<(), 
     builder.process_token(Token::CharacterTokens(String::from_str(alloc, "x")?), 1)?;
     builder.process_token(end_of(alloc, "template")?, 1)?;
     builder.process_token(Token::CharacterTokens(String::from_str(alloc, "y")?), 1)?;
-    let arena = builder.into_sink().finish();
-    let html = html_of(alloc, &arena)?;
-    let page = "<html><head></head><body><div>y</div></body></html>";
-    assert_eq!(rt; html.as_slice(), page.as_bytes());
-    let template = first_template(&arena).ok_or("a template was made")?;
-    assert!(rt; arena.holds(template));
-    assert!(rt; arena.parent(template).is_none());
-    Ok(())
+    check_loose_template(&builder.into_sink().finish(), alloc, &rt)
+}
+
+#[test]
+fn a_sink_may_detach_the_template_that_it_attaches(rt: HostRuntime) -> Result<(), Fail> {
+    let alloc = rt.alloc();
+    let sink = Detaching::new(alloc)?;
+    let mut builder = TreeBuilder::new(alloc, sink, TreeBuilderOpts::default());
+    builder.process_token(start_with(alloc, "div", Vec::new(alloc))?, 1)?;
+    let template = start_with(alloc, "template", open_shadow_mode(alloc)?)?;
+    builder.process_token(template, 1)?;
+    builder.process_token(Token::CharacterTokens(String::from_str(alloc, "x")?), 1)?;
+    builder.process_token(end_of(alloc, "template")?, 1)?;
+    builder.process_token(Token::CharacterTokens(String::from_str(alloc, "y")?), 1)?;
+    check_loose_template(&builder.into_sink().finish(), alloc, &rt)
 }

@@ -2,11 +2,11 @@ use Rattle.std.proofs.Common.{◌-◌, true, refl, sym, subst, arith}
 use Rattle.h5_token.specs.declared.sink.TokenSinkResult.TheVariants.{Continue}
 use Rattle.h5_types.specs.TurnText.{turn_text}
 use Rattle.h5_types.specs.declared.turns.ProcessResult.TheVariants as results
-use Rattle.h5_meaning.specs.Modes.{rule}
+use Rattle.h5_meaning.specs.ForeignContent.{dispatch}
 use Rattle.h5_meaning.specs.Rows.{Follows}
 use Rattle.h5_meaning.specs.Settle.{settle}
 use Rattle.h5_meaning.specs.Sound.{Fits}
-use Rattle.h5_meaning.proofs.FitsLaws.{fits_acknowledged, fits_again, fits_answered, fits_done}
+use Rattle.h5_meaning.proofs.ForeignFitLaws.{fits_acknowledged, fits_again, fits_answered, fits_done}
 use Rattle.h5_meaning.proofs.FallsLaws.{rank_few}
 use Rattle.h5_meaning.proofs.SettleLaws.{rank_falls}
 use Rattle.h5_state.specs.View.{world}
@@ -25,7 +25,7 @@ returns-in-Done g c =
     let b = (g.S.TreeSink.sees c.step.new.sink).errors in
     let e = (g.S.TreeSink.sees c.args.sink.now).errors in
     let first = world g.S.TreeSink.sees node c.args.sink.now c.args.state.now in
-    let f : Follows k node (rule w.mode t w) t w v a b results.Done = subst (λ x. Follows k node (rule w.mode x w) x w v a b results.Done) c.turns.invariant.same (subst (λ r. Follows k node (rule w.mode (turn_text c.turns.rest) w) (turn_text c.turns.rest) w v a b r) c.in-Done.is c.in_ok-step.ensures.follows) in
+    let f : Follows k node (dispatch k t w) t w v a b results.Done = subst (λ x. Follows k node (dispatch k x w) x w v a b results.Done) c.turns.invariant.same (subst (λ r. Follows k node (dispatch k (turn_text c.turns.rest) w) (turn_text c.turns.rest) w v a b r) c.in-Done.is c.in_ok-step.ensures.follows) in
     let u = world g.S.TreeSink.sees node c.check_flag.new.sink c.step.new.state in
     let d = (g.S.TreeSink.sees c.check_flag.new.sink).errors in
     record {
@@ -47,7 +47,7 @@ returns-in-DoneAckSelfClosing g c =
     let b = (g.S.TreeSink.sees c.step.new.sink).errors in
     let e = (g.S.TreeSink.sees c.args.sink.now).errors in
     let first = world g.S.TreeSink.sees node c.args.sink.now c.args.state.now in
-    let f : Follows k node (rule w.mode t w) t w v a b results.DoneAckSelfClosing = subst (λ x. Follows k node (rule w.mode x w) x w v a b results.DoneAckSelfClosing) c.turns.invariant.same (subst (λ r. Follows k node (rule w.mode (turn_text c.turns.rest) w) (turn_text c.turns.rest) w v a b r) c.in-DoneAckSelfClosing.is c.in_ok-step.ensures.follows) in
+    let f : Follows k node (dispatch k t w) t w v a b results.DoneAckSelfClosing = subst (λ x. Follows k node (dispatch k x w) x w v a b results.DoneAckSelfClosing) c.turns.invariant.same (subst (λ r. Follows k node (dispatch k (turn_text c.turns.rest) w) (turn_text c.turns.rest) w v a b r) c.in-DoneAckSelfClosing.is c.in_ok-step.ensures.follows) in
     record {
       came = subst (λ n. CameTo node (settle k t first) true v e b (record { turns = n; answer = Continue })) (omega (arith, c.turns.invariant.some))
           (acknowledged_last k node t first w v e a b (c.turns.turns - 1) f c.turns.invariant.left);
@@ -66,7 +66,7 @@ returns-in-Answer g c =
     let b = (g.S.TreeSink.sees c.step.new.sink).errors in
     let e = (g.S.TreeSink.sees c.args.sink.now).errors in
     let first = world g.S.TreeSink.sees node c.args.sink.now c.args.state.now in
-    let f : Follows k node (rule w.mode t w) t w v a b (results.Answer c.in-Answer.answer) = subst (λ x. Follows k node (rule w.mode x w) x w v a b (results.Answer c.in-Answer.answer)) c.turns.invariant.same (subst (λ r. Follows k node (rule w.mode (turn_text c.turns.rest) w) (turn_text c.turns.rest) w v a b r) c.in-Answer.is c.in_ok-step.ensures.follows) in
+    let f : Follows k node (dispatch k t w) t w v a b (results.Answer c.in-Answer.answer) = subst (λ x. Follows k node (dispatch k x w) x w v a b (results.Answer c.in-Answer.answer)) c.turns.invariant.same (subst (λ r. Follows k node (dispatch k (turn_text c.turns.rest) w) (turn_text c.turns.rest) w v a b r) c.in-Answer.is c.in_ok-step.ensures.follows) in
     record {
       came = subst (λ n. CameTo node (settle k t first) true v e b (record { turns = n; answer = c.in-Answer.answer })) (omega (arith, c.turns.invariant.some))
           (answered_last k node t first w v e a b (c.turns.turns - 1) c.in-Answer.answer f c.turns.invariant.left);
@@ -100,7 +100,7 @@ turns-smaller g c =
     let v = world g.S.TreeSink.sees node c.step.new.sink c.step.new.state in
     let a = (g.S.TreeSink.sees c.turns.sink).errors in
     let b = (g.S.TreeSink.sees c.step.new.sink).errors in
-    let f : Follows k node (rule w.mode t w) t w v a b (results.Reprocess c.in-Reprocess.mode c.in-Reprocess.again) = subst (λ x. Follows k node (rule w.mode x w) x w v a b (results.Reprocess c.in-Reprocess.mode c.in-Reprocess.again)) c.turns.invariant.same (subst (λ r. Follows k node (rule w.mode (turn_text c.turns.rest) w) (turn_text c.turns.rest) w v a b r) c.in-Reprocess.is c.in_ok-step.ensures.follows) in
+    let f : Follows k node (dispatch k t w) t w v a b (results.Reprocess c.in-Reprocess.mode c.in-Reprocess.again) = subst (λ x. Follows k node (dispatch k x w) x w v a b (results.Reprocess c.in-Reprocess.mode c.in-Reprocess.again)) c.turns.invariant.same (subst (λ r. Follows k node (dispatch k (turn_text c.turns.rest) w) (turn_text c.turns.rest) w v a b r) c.in-Reprocess.is c.in_ok-step.ensures.follows) in
     let u = world g.S.TreeSink.sees node c.step.new.sink c.set_mode.new.state in
     rank_falls k node t w v u a b c.in-Reprocess.mode c.in-Reprocess.again f c.set_mode.ensures.world c.turns.invariant.sound.sound c.requires.text c.turns.invariant.fits
 
@@ -115,7 +115,7 @@ turns-preserved g c =
     let b = (g.S.TreeSink.sees c.step.new.sink).errors in
     let e = (g.S.TreeSink.sees c.args.sink.now).errors in
     let first = world g.S.TreeSink.sees node c.args.sink.now c.args.state.now in
-    let f : Follows k node (rule w.mode t w) t w v a b (results.Reprocess c.in-Reprocess.mode c.in-Reprocess.again) = subst (λ x. Follows k node (rule w.mode x w) x w v a b (results.Reprocess c.in-Reprocess.mode c.in-Reprocess.again)) c.turns.invariant.same (subst (λ r. Follows k node (rule w.mode (turn_text c.turns.rest) w) (turn_text c.turns.rest) w v a b r) c.in-Reprocess.is c.in_ok-step.ensures.follows) in
+    let f : Follows k node (dispatch k t w) t w v a b (results.Reprocess c.in-Reprocess.mode c.in-Reprocess.again) = subst (λ x. Follows k node (dispatch k x w) x w v a b (results.Reprocess c.in-Reprocess.mode c.in-Reprocess.again)) c.turns.invariant.same (subst (λ r. Follows k node (dispatch k (turn_text c.turns.rest) w) (turn_text c.turns.rest) w v a b r) c.in-Reprocess.is c.in_ok-step.ensures.follows) in
     let u = world g.S.TreeSink.sees node c.step.new.sink c.set_mode.new.state in
     let m = c.in-Reprocess.mode in
     let token = c.in-Reprocess.again in

@@ -1,65 +1,45 @@
-use Rattle.std.proofs.Common.{refl, sym, ◌∙◌}
-use Rattle.h5_types.specs.declared.modes.InsertionMode.TheVariants.{AfterAfterBody, AfterBody, AfterHead, BeforeHead, InBody, InCaption, InCell, InColumnGroup, InHead, InHeadNoscript, InRow, InTable, InTableBody, InTableText, InTemplate, InFrameset, AfterFrameset, AfterAfterFrameset, Text}
-use Rattle.h5_meaning.proofs.FitsLaws.{enough_open}
-use Rattle.h5_tree_builder.proofs.ChainLaws.{fits_in_mode, ready_in_mode}
+use Rattle.std.proofs.Common.{◌≡◌, true, sym, subst, ◌∙◌}
+use Rattle.h5_types.specs.TurnText.{turn_text}
+use Rattle.h5_meaning.specs.Foreign.{is_foreign}
+use Rattle.h5_meaning.specs.ForeignContent.{foreign_step}
+use Rattle.h5_rules_foreign.specs.ForeignSteps.{CameTo}
+use Rattle.h5_state.specs.Steps.{errors_of, world_of}
+use Rattle.h5_tree_builder.proofs.DispatchLaws.{left_keeps, turns_by_mode, turns_in_foreign, turns_left}
 use Rattle.h5_tree_builder.proofs.dispatch.step.Goals as goal
 
-pub step_before_head-requires-clause-open : goal.step_before_head-requires-clause-open
-step_before_head-requires-clause-open g c = record { sound = c.requires.ready.sound; some = enough_open _ BeforeHead (sym c.current_mode.ensures ∙ c.in-BeforeHead.is) refl c.requires.ready.fits }
+pub returns-then-not-is_foreign : goal.returns-then-not-is_foreign
+returns-then-not-is_foreign g c =
+    turns_by_mode g.S.TreeSink (turn_text c.args.token) c.args.sink.now c.args.state.now c.step_by_mode.new.sink c.step_by_mode.new.state c.step_by_mode.result
+    (sym c.is_foreign.ensures ∙ c.if-not-is_foreign.true) c.step_by_mode.ensures
 
-pub step_in_head-requires-clause-open : goal.step_in_head-requires-clause-open
-step_in_head-requires-clause-open g c = record { sound = c.requires.ready.sound; some = enough_open _ InHead (sym c.current_mode.ensures ∙ c.in-InHead.is) refl c.requires.ready.fits }
+pub step_by_mode-requires-in-ByMode-clause-ready : goal.step_by_mode-requires-in-ByMode-clause-ready
+step_by_mode-requires-in-ByMode-clause-ready g c =
+    let law = g.S.TreeSink in
+    let t = turn_text c.args.token in
+    let w = world_of law c.args.sink.now c.args.state.now in
+    let v = world_of law c.step_foreign.new.sink c.step_foreign.new.state in
+    let foreign : is_foreign law.choices t w ≡ true = sym c.is_foreign.ensures ∙ c.if-not-is_foreign.false in
+    let came = subst (CameTo law.choices law.node (foreign_step t w) t w v (errors_of law c.args.sink.now) (errors_of law c.step_foreign.new.sink)) c.in-ByMode.is c.in_ok-result.ensures.came in
+    let kept = left_keeps law t c.args.sink.now c.args.state.now c.step_foreign.new.sink c.step_foreign.new.state c.in-ByMode.again foreign came (record { sound = c.requires.ready.sound.sound; fits = c.requires.ready.fits }) in
+    record { sound = c.step_foreign.ensures.sound; fits = kept.fits }
 
-pub step_after_head-requires-clause-open : goal.step_after_head-requires-clause-open
-step_after_head-requires-clause-open g c = record { sound = c.requires.ready.sound; some = enough_open _ AfterHead (sym c.current_mode.ensures ∙ c.in-AfterHead.is) refl c.requires.ready.fits }
+pub returns-in-Ended : goal.returns-in-Ended
+returns-in-Ended g c =
+    let law = g.S.TreeSink in
+    let t = turn_text c.args.token in
+    let w = world_of law c.args.sink.now c.args.state.now in
+    let v = world_of law c.step_foreign.new.sink c.step_foreign.new.state in
+    let foreign : is_foreign law.choices t w ≡ true = sym c.is_foreign.ensures ∙ c.if-not-is_foreign.false in
+    let came = subst (CameTo law.choices law.node (foreign_step t w) t w v (errors_of law c.args.sink.now) (errors_of law c.step_foreign.new.sink)) c.in-Ended.is c.in_ok-result.ensures.came in
+    turns_in_foreign law t c.args.sink.now c.args.state.now c.step_foreign.new.sink c.step_foreign.new.state c.in-Ended.result foreign came c.step_foreign.ensures.sound
 
-pub step_after_head-requires-clause-fits : goal.step_after_head-requires-clause-fits
-step_after_head-requires-clause-fits g c = fits_in_mode _ AfterHead (sym c.current_mode.ensures ∙ c.in-AfterHead.is) c.requires.ready.fits
-
-pub step_in_head_noscript-requires-clause-open : goal.step_in_head_noscript-requires-clause-open
-step_in_head_noscript-requires-clause-open g c = record { sound = c.requires.ready.sound; some = enough_open _ InHeadNoscript (sym c.current_mode.ensures ∙ c.in-InHeadNoscript.is) refl c.requires.ready.fits }
-
-pub step_text_mode-requires-clause-open : goal.step_text_mode-requires-clause-open
-step_text_mode-requires-clause-open g c = record { sound = c.requires.ready.sound; some = enough_open _ Text (sym c.current_mode.ensures ∙ c.in-Text.is) refl c.requires.ready.fits }
-
-pub step_in_body-requires-clause-ready : goal.step_in_body-requires-clause-ready
-step_in_body-requires-clause-ready g c = ready_in_mode _ InBody (sym c.current_mode.ensures ∙ c.in-InBody.is) refl c.requires.ready.sound.sound c.requires.ready.fits
-
-pub step_in_table-requires-clause-ready : goal.step_in_table-requires-clause-ready
-step_in_table-requires-clause-ready g c = ready_in_mode _ InTable (sym c.current_mode.ensures ∙ c.in-InTable.is) refl c.requires.ready.sound.sound c.requires.ready.fits
-
-pub step_in_table_text-requires-clause-ready : goal.step_in_table_text-requires-clause-ready
-step_in_table_text-requires-clause-ready g c = ready_in_mode _ InTableText (sym c.current_mode.ensures ∙ c.in-InTableText.is) refl c.requires.ready.sound.sound c.requires.ready.fits
-
-pub step_in_caption-requires-clause-ready : goal.step_in_caption-requires-clause-ready
-step_in_caption-requires-clause-ready g c = ready_in_mode _ InCaption (sym c.current_mode.ensures ∙ c.in-InCaption.is) refl c.requires.ready.sound.sound c.requires.ready.fits
-
-pub step_in_column_group-requires-clause-ready : goal.step_in_column_group-requires-clause-ready
-step_in_column_group-requires-clause-ready g c = ready_in_mode _ InColumnGroup (sym c.current_mode.ensures ∙ c.in-InColumnGroup.is) refl c.requires.ready.sound.sound c.requires.ready.fits
-
-pub step_in_table_body-requires-clause-ready : goal.step_in_table_body-requires-clause-ready
-step_in_table_body-requires-clause-ready g c = ready_in_mode _ InTableBody (sym c.current_mode.ensures ∙ c.in-InTableBody.is) refl c.requires.ready.sound.sound c.requires.ready.fits
-
-pub step_in_row-requires-clause-ready : goal.step_in_row-requires-clause-ready
-step_in_row-requires-clause-ready g c = ready_in_mode _ InRow (sym c.current_mode.ensures ∙ c.in-InRow.is) refl c.requires.ready.sound.sound c.requires.ready.fits
-
-pub step_in_cell-requires-clause-ready : goal.step_in_cell-requires-clause-ready
-step_in_cell-requires-clause-ready g c = ready_in_mode _ InCell (sym c.current_mode.ensures ∙ c.in-InCell.is) refl c.requires.ready.sound.sound c.requires.ready.fits
-
-pub step_after_body-requires-clause-open : goal.step_after_body-requires-clause-open
-step_after_body-requires-clause-open g c = record { sound = c.requires.ready.sound; some = enough_open _ AfterBody (sym c.current_mode.ensures ∙ c.in-AfterBody.is) refl c.requires.ready.fits }
-
-pub step_after_after_body-requires-clause-open : goal.step_after_after_body-requires-clause-open
-step_after_after_body-requires-clause-open g c = record { sound = c.requires.ready.sound; some = enough_open _ AfterAfterBody (sym c.current_mode.ensures ∙ c.in-AfterAfterBody.is) refl c.requires.ready.fits }
-
-pub step_in_template-requires-clause-ready : goal.step_in_template-requires-clause-ready
-step_in_template-requires-clause-ready g c = ready_in_mode _ InTemplate (sym c.current_mode.ensures ∙ c.in-InTemplate.is) refl c.requires.ready.sound.sound c.requires.ready.fits
-
-pub step_in_frameset-requires-clause-open : goal.step_in_frameset-requires-clause-open
-step_in_frameset-requires-clause-open g c = record { sound = c.requires.ready.sound; some = enough_open _ InFrameset (sym c.current_mode.ensures ∙ c.in-InFrameset.is) refl c.requires.ready.fits }
-
-pub step_after_frameset-requires-clause-open : goal.step_after_frameset-requires-clause-open
-step_after_frameset-requires-clause-open g c = record { sound = c.requires.ready.sound; some = enough_open _ AfterFrameset (sym c.current_mode.ensures ∙ c.in-AfterFrameset.is) refl c.requires.ready.fits }
-
-pub step_after_after_frameset-requires-clause-open : goal.step_after_after_frameset-requires-clause-open
-step_after_after_frameset-requires-clause-open g c = record { sound = c.requires.ready.sound; some = enough_open _ AfterAfterFrameset (sym c.current_mode.ensures ∙ c.in-AfterAfterFrameset.is) refl c.requires.ready.fits }
+pub returns-in-ByMode : goal.returns-in-ByMode
+returns-in-ByMode g c =
+    let law = g.S.TreeSink in
+    let t = turn_text c.args.token in
+    let w = world_of law c.args.sink.now c.args.state.now in
+    let v = world_of law c.step_foreign.new.sink c.step_foreign.new.state in
+    let foreign : is_foreign law.choices t w ≡ true = sym c.is_foreign.ensures ∙ c.if-not-is_foreign.false in
+    let came = subst (CameTo law.choices law.node (foreign_step t w) t w v (errors_of law c.args.sink.now) (errors_of law c.step_foreign.new.sink)) c.in-ByMode.is c.in_ok-result.ensures.came in
+    turns_left law t c.args.sink.now c.args.state.now c.step_foreign.new.sink c.step_foreign.new.state c.in-ByMode.again foreign came
+    c.step_by_mode-in-ByMode.new.sink c.step_by_mode-in-ByMode.new.state c.step_by_mode-in-ByMode.result c.step_by_mode-in-ByMode.ensures

@@ -1,4 +1,4 @@
-use Rattle.std.proofs.Common.{option_map, ap, ◌∙◌}
+use Rattle.std.proofs.Common.{option_map, ap, refl, ◌∙◌}
 use Rattle.h5_interface.specs.Forest.{children_of}
 use Rattle.h5_meaning.specs.World.{World}
 use Rattle.h5_tree_builder.specs.Fragment.{context_world}
@@ -12,6 +12,14 @@ invariant_of-result g c =
     let seen = law.sees c.args.sink in
     fragment_kept law c.fragment_state.new.sink c.in_ok-state.state law.choices seen (law.node c.args.context_elem) (option_map law.node c.args.form_elem) c.args.opts c.get_document-document.ensures.is_forest c.requires.context
     (form_is_there law.node seen.forest c.args.form_elem c.requires.form) c.in_ok-state.ensures.sound c.in_ok-state.ensures.world
+
+pub returns-clause-fitting : goal.returns-clause-fitting
+returns-clause-fitting g c =
+    let law = g.Sink.TreeSink in
+    let seen = law.sees c.args.sink in
+    let k = fragment_kept law c.fragment_state.new.sink c.in_ok-state.state law.choices seen (law.node c.args.context_elem) (option_map law.node c.args.form_elem) c.args.opts c.get_document-document.ensures.is_forest c.requires.context
+    (form_is_there law.node seen.forest c.args.form_elem c.requires.form) c.in_ok-state.ensures.sound c.in_ok-state.ensures.world in
+    record { sound = k.sound.sound; fits = k.fits refl refl }
 
 pub returns-clause-last : goal.returns-clause-last
 returns-clause-last g c =

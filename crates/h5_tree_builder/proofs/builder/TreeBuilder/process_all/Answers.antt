@@ -42,7 +42,7 @@ returns-clause-run g c =
     let left = into_iter_items c.tokens.token-iterator in
     let told = reply_texts node c.tokens.replies.items in
     let none : left ≡ [] = none_left left (omega (arith, c.tokens.token-iterator.rest.ok.0, c.in-None.ensures.steps.0)) in
-    onward_last k all old now told c.has_failed.ensures.sound.formatting (subst (λ z. Onward k all (token_texts z) old now told) none c.tokens.invariant.onward)
+    onward_last k all old now told (record { fitting = λ f e. record { sound = c.has_failed.ensures.sound; fits = c.has_failed.ensures.fits f e } }) (subst (λ z. Onward k all (token_texts z) old now told) none c.tokens.invariant.onward)
 
 pub returns-clause-rebuilds : goal.returns-clause-rebuilds
 returns-clause-rebuilds g c = rebuilds_plain g.Sink.TreeSink.choices (token_texts c.args.tokens.items) _ _ _ (returns-clause-run g c)

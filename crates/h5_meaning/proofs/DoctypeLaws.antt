@@ -1,4 +1,4 @@
--- A doctype at the start: what it leaves of open elements.
+-- A doctype at the start: what it leaves of open elements, and that it leaves what a builder keeps.
 use Rattle.std.proofs.Common.{◌≡◌, ℕ, true, false, cond, List, [], refl, subst, sym}
 use Rattle.std.specs.Prelude.{unwrap_or}
 use Rattle.h5_token.specs.TokenText.{DoctypeText}
@@ -13,9 +13,10 @@ use Rattle.h5_names.specs.declared.qualified.QualName.{QualName}
 use Rattle.h5_meaning.proofs.SituationLaws.{KeepsSituation, situation_forest, situation_later, situation_same}
 use Rattle.h5_meaning.specs.Changes.{insert_doctype, set_quirks_mode}
 use Rattle.h5_meaning.specs.Run.{judged, with_doctype}
-use Rattle.h5_meaning.specs.Sound.{Fits, HasLists, Sound, situation_of}
+use Rattle.h5_meaning.specs.Sound.{Fits, Fitting, HasLists, Sound, situation_of}
 use Rattle.h5_meaning.specs.World.{World, names_of}
 use Rattle.h5_meaning.proofs.NameLaws.{names_kept}
+use Rattle.h5_meaning.proofs.SoundLaws.{all_rearranged}
 
 pub names-insert_doctype : (choices : SinkChoices) (name public_id system_id : List ℕ) (w : World) → Sound w → names_of (insert_doctype choices name public_id system_id w) ≡ names_of w
 unfolding insert_doctype names_of
@@ -58,3 +59,19 @@ fits_judged choices d w e k h =
       mode = subst (NamesFit (situation_of v) BeforeHtml) (sym (names-with_doctype choices d w k)) (still_first (situation_of v) (names_of w) (names_later (situation_of w) (situation_of v) later Initial (names_of w) first));
       lists = keeps-with_doctype choices d w h.lists;
     }
+
+sound-with_doctype : (choices : SinkChoices) (d : DoctypeText) (w : World) → Sound w → Sound (with_doctype choices d w)
+unfolding with_doctype insert_doctype
+sound-with_doctype choices d w k =
+    let g = append_doctype choices (unwrap_or d.name []) (unwrap_or d.public_id []) (unwrap_or d.system_id []) w.forest in
+    elim w.options.drop_doctype as (λ b. Sound (cond b w (insert_doctype choices (unwrap_or d.name []) (unwrap_or d.public_id []) (unwrap_or d.system_id []) w))) [
+      | true ↦ k
+      | false ↦ all_rearranged w.forest g w.stack k (append_doctype_rearranges choices w.forest (unwrap_or d.name []) (unwrap_or d.public_id []) (unwrap_or d.system_id []) k.stands.is_forest)
+    ]
+
+sound-judged : (choices : SinkChoices) (d : DoctypeText) (w : World) → Sound w → Sound (judged choices d w)
+unfolding judged set_quirks_mode
+sound-judged choices d w k = sound-with_doctype choices d w k
+
+pub judged_fitting : (choices : SinkChoices) (d : DoctypeText) (w : World) → w.mode ≡ Initial → Fitting w → Fitting (judged choices d w)
+judged_fitting choices d w e g = record { sound = sound-judged choices d w g.sound; fits = fits_judged choices d w e g.sound g.fits }

@@ -1,0 +1,3 @@
+pub mod ChangeLaws
+pub mod DoctypeLaws
+pub mod TableLaws

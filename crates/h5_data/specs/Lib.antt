@@ -1,0 +1,3 @@
+pub mod AdjustedNames
+pub mod Doctypes
+pub mod Tables

@@ -1,0 +1,3 @@
+pub mod CurrentLaws
+pub mod LeaveLaws
+pub mod SearchLaws

@@ -1,0 +1,2 @@
+pub mod EndSearches
+pub mod Inserts

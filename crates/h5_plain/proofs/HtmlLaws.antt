@@ -1,0 +1,57 @@
+-- Where the adjusted current node is an element of HTML, or none is open, no token is for foreign content.
+use Rattle.std.proofs.Common.{◌≡◌, ◌∙◌, ℕ, false, true, List, [], ◌∷◌, map, Option, None, Some, ap, refl, subst, sym}
+use Rattle.h5_names.specs.declared.qualified.QualName.{QualName}
+use Rattle.h5_interface.specs.Forest.{ElementNode, kind_of}
+use Rattle.h5_interface.specs.SinkChoices.{SinkChoices}
+use Rattle.h5_tag_sets.specs.TagSets.{html_namespace}
+use Rattle.h5_types.specs.TurnText.{TurnText}
+use Rattle.h5_stack.specs.FormattingNames.{html_name}
+use Rattle.h5_stack.specs.Order.{first_or}
+use Rattle.h5_stack.specs.Scope.{first_passes}
+use Rattle.h5_fits.specs.NamesFit.{is_html_element}
+use Rattle.h5_meaning.specs.Foreign.{adjusted_current_node, adjusted_of, is_foreign}
+use Rattle.h5_meaning.specs.Run.{taken}
+use Rattle.h5_meaning.specs.World.{World, current, name_in, name_of_found, names_of}
+use Rattle.h5_meaning.proofs.ForeignModeLaws.{IsHtmlAt, html_not_foreign}
+
+abbrev pub AtHtml : World → Type 0
+AtHtml w = IsHtmlAt w (adjusted_current_node w)
+
+-- the newline flag plays no part
+taken_at : (w : World) (o : Option ℕ) → IsHtmlAt w o → IsHtmlAt (taken w) o
+taken_at w None h = tt
+taken_at w (Some n) h = h
+
+pub taken_html : (choices : SinkChoices) (t : TurnText) (w : World) → AtHtml w → is_foreign choices t (taken w) ≡ false
+taken_html choices t w h = html_not_foreign choices t (taken w) (taken_at w (adjusted_current_node w) h)
+
+-- none is open
+pub at_none : (w : World) → w.stack ≡ [] → AtHtml w
+at_none w e = subst (λ s. IsHtmlAt w (adjusted_of w.context s)) (sym e) tt
+
+-- without a context, the adjusted current node is the current node
+pub at_current : (w : World) → w.context ≡ None → is_html_element (name_in w.forest (current w)) ≡ true → AtHtml w
+at_current w none h = at w.context none w.stack h
+  where
+    at : (o : Option ℕ) → o ≡ None → (s : List ℕ) → is_html_element (name_in w.forest (first_or w.forest.document s)) ≡ true → IsHtmlAt w (adjusted_of o s)
+    at None e [] k = tt
+    at None e (n ∷ []) k = k
+    at None e (n ∷ m ∷ s) k = k
+    at (Some c) e s k = absurd (cc)
+
+-- an element of HTML, by its name
+pub html_is : (local : List ℕ) → is_html_element (html_name local) ≡ true
+unfolding html_namespace
+html_is local = refl
+
+pub at_element : (w : World) (n : ℕ) (local : List ℕ) → w.context ≡ None → current w ≡ n → kind_of w.forest n ≡ Some (ElementNode (html_name local)) → AtHtml w
+at_element w n local none e k =
+    at_current w none (ap (λ x. is_html_element (name_in w.forest x)) e ∙ ap (λ o. is_html_element (name_of_found o)) k ∙ html_is local)
+
+pub at_named : (w : World) (local : List ℕ) (names : List QualName) → w.context ≡ None → names_of w ≡ html_name local ∷ names → AtHtml w
+unfolding names_of
+at_named w local names none e = at_current w none (at w.stack e)
+  where
+    at : (s : List ℕ) → map (name_in w.forest) s ≡ html_name local ∷ names → is_html_element (name_in w.forest (first_or w.forest.document s)) ≡ true
+    at [] h = absurd (cc)
+    at (n ∷ s) h = ap (first_passes is_html_element) h ∙ html_is local

@@ -1,0 +1,107 @@
+-- A turn in foreign content that goes by the rule of the mode after all.
+use Rattle.std.proofs.Common.{◌≡◌, ◌++◌, ℕ, List, true, false, Result, Ok, Err, IfOk, ap, sym, subst, ◌∙◌}
+use Rattle.std.specs.declared.alloc.AllocError.{AllocError}
+use Rattle.h5_interface.specs.SinkChoices.{SinkChoices}
+use Rattle.h5_interface.specs.declared.sink.TreeSink.{Ghosts}
+use Rattle.h5_types.specs.TurnText.{TurnText, turn_text}
+use Rattle.h5_types.specs.declared.turns.ProcessResult.{ProcessResult}
+use Rattle.h5_types.specs.declared.turns.Token.{Token}
+use Rattle.h5_meaning.specs.Foreign.{is_foreign}
+use Rattle.h5_meaning.specs.ForeignContent.{ByMode, ForeignStep, HasRow, by_mode, dispatch, foreign_step, row_of}
+use Rattle.h5_meaning.specs.Modes.{rule}
+use Rattle.h5_meaning.specs.Rows.{Change, Follows, Row, apply_all}
+use Rattle.h5_meaning.specs.Sound.{Fitting}
+use Rattle.h5_meaning.specs.World.{World}
+use Rattle.h5_meaning.proofs.ForeignFitLaws.{leaves_fitting}
+use Rattle.h5_meaning.proofs.ForeignModeLaws.{foreign_mode}
+use Rattle.h5_meaning.proofs.ForeignRowLaws.{any_has, dispatch_foreign, dispatch_html, each_step}
+use Rattle.h5_meaning.proofs.KeptLaws.{apply_append}
+use Rattle.h5_rules_foreign.specs.ForeignSteps.{EndedBy, LeftToMode}
+use Rattle.h5_state.specs.Steps.{IsSound, errors_of, world_of}
+use Rattle.h5_state.specs.Turn.{Turns}
+use Rattle.h5_state.specs.declared.state.State.{State}
+
+-- what a builder keeps is kept by the changes before it
+abbrev KeptBefore : SinkChoices → World → ForeignStep → Type 0
+KeptBefore choices w (HasRow r) = Unit {0}
+KeptBefore choices w (ByMode changes) = Fitting (apply_all choices changes w)
+
+kept_before : (choices : SinkChoices) (t : TurnText) (w : World) → is_foreign choices t w ≡ true → Fitting w → KeptBefore choices w (foreign_step t w)
+kept_before choices t w h f =
+    each_step w (λ x. Unit {0}) (KeptBefore choices w)
+    (record {
+      leaves = leaves_fitting choices w (record { fitting = f; takes = foreign_mode choices t w h f.fits.mode });
+      stays = f;
+      ignores = tt;
+      starts = λ tag. tt;
+      ends = λ tag e. tt;
+      comments = λ x. tt;
+      texts = λ x s. tt;
+      nulls = tt;
+    }) t (any_has t)
+
+left_fitting : (choices : SinkChoices) (t : TurnText) (w v : World) (changes : List Change) → is_foreign choices t w ≡ true → foreign_step t w ≡ ByMode changes → v ≡ apply_all choices changes w → Fitting w → Fitting v
+left_fitting choices t w v changes h is e f = subst Fitting (sym e) (subst (KeptBefore choices w) is (kept_before choices t w h f))
+
+module _ {H : Type 0} (choices : SinkChoices) (node : H → ℕ) (t : TurnText) (w u : World) (a c : ℕ) (result : ProcessResult H) where
+  -- the turn followed the row of the token, whichever it has
+  follows_row : (r : Row) → is_foreign choices t w ≡ true → foreign_step t w ≡ HasRow r → Follows choices node r t w u a c result → Follows choices node (dispatch choices t w) t w u a c result
+  follows_row r h is f = subst (λ x. Follows choices node x t w u a c result) (sym (dispatch_foreign choices t w h ∙ ap (λ x. row_of choices x t w) is)) f
+
+  after_changes : (changes : List Change) (b : ℕ) → (let v = apply_all choices changes w in Follows choices node (rule v.mode t v) t v u b c result) → Follows choices node (by_mode choices changes t w) t w u a c result
+  after_changes changes b f =
+      let v = apply_all choices changes w in
+      let r = rule v.mode t v in
+      record {
+        world = f.world ∙ sym (apply_append choices changes r.changes w);
+        ending = f.ending;
+        quiet = λ q. absurd (cc);
+      }
+
+  follows_mode : (v : World) (changes : List Change) (b : ℕ) → is_foreign choices t w ≡ true → foreign_step t w ≡ ByMode changes → v ≡ apply_all choices changes w → Follows choices node (rule v.mode t v) t v u b c result → Follows choices node (dispatch choices t w) t w u a c result
+  follows_mode v changes b h is e f =
+      subst (λ x. Follows choices node x t w u a c result) (sym (dispatch_foreign choices t w h ∙ ap (λ x. row_of choices x t w) is))
+      (after_changes changes b (subst (λ (x : World). Follows choices node (rule x.mode t x) t x u b c result) e f))
+
+-- what holds of an answer holds of another, where one follows from the other
+if_ok : {A E : Type 0} (result : Result A E) (P Q : A → Type 0) → ((a : A) → P a → Q a) → IfOk result P → IfOk result Q
+if_ok (Ok a) P Q f p = f a p
+if_ok (Err e) P Q f p = tt
+
+-- SO THE TURN OF A TOKEN follows the row of its dispatch
+module _ {S H O : Type 0} (law : Ghosts S H O) (t : TurnText) (sink : S) (state : State H) where
+  abbrev here : World
+  here = world_of law sink state
+
+  pub turns_by_mode : (new_sink : S) (new_state : State H) (result : Result (ProcessResult H) AllocError) → is_foreign law.choices t here ≡ false → Turns law (rule here.mode t) t sink state new_sink new_state result → Turns law (dispatch law.choices t) t sink state new_sink new_state result
+  turns_by_mode new_sink new_state result h s = record {
+    follows = subst (λ x. IfOk result (λ r. Follows law.choices law.node x t here (world_of law new_sink new_state) (errors_of law sink) (errors_of law new_sink) r)) (sym (dispatch_html law.choices t here h)) s.follows;
+    sound = s.sound;
+  }
+
+  pub turns_in_foreign : (new_sink : S) (new_state : State H) (result : ProcessResult H) → is_foreign law.choices t here ≡ true → EndedBy law.choices law.node (foreign_step t here) t here (world_of law new_sink new_state) (errors_of law sink) (errors_of law new_sink) result
+      → IsSound law new_sink new_state → Turns law (dispatch law.choices t) t sink state new_sink new_state (Ok result)
+  turns_in_foreign new_sink new_state result h e sound = record {
+    follows = follows_row law.choices law.node t here (world_of law new_sink new_state) (errors_of law sink) (errors_of law new_sink) result e.row h e.is e.follows;
+    sound = sound;
+  }
+
+  module _ (left_sink : S) (left_state : State H) (again : Token) (h : is_foreign law.choices t here ≡ true) (l : LeftToMode law.choices (foreign_step t here) t here (world_of law left_sink left_state) again) where
+    abbrev left : World
+    left = world_of law left_sink left_state
+
+    pub left_keeps : Fitting here → Fitting left
+    left_keeps f = left_fitting law.choices t here left l.changes h l.is l.world f
+
+    pub turns_left : (new_sink : S) (new_state : State H) (result : Result (ProcessResult H) AllocError) → Turns law (rule left.mode (turn_text again)) (turn_text again) left_sink left_state new_sink new_state result → Turns law (dispatch law.choices t) t sink state new_sink new_state result
+    turns_left new_sink new_state result s =
+        let new = world_of law new_sink new_state in
+        let a = errors_of law sink in
+        let b = errors_of law left_sink in
+        let d = errors_of law new_sink in
+        record {
+          follows =
+              if_ok result (λ r. Follows law.choices law.node (rule left.mode (turn_text again) left) (turn_text again) left new b d r) (λ r. Follows law.choices law.node (dispatch law.choices t here) t here new a d r)
+              (λ r f. follows_mode law.choices law.node t here new a d r left l.changes b h l.is l.world (subst (λ x. Follows law.choices law.node (rule left.mode x left) x left new b d r) l.token f)) s.follows;
+          sound = s.sound;
+        }
