@@ -67,7 +67,7 @@ pub const FOREIGN: [(&str, &str); 24] = [
     ),
     (
         "<svg><title><b>1</title>2",
-        "<svg><title><b>1</b></title>2</svg>",
+        "<svg><title><b>12</b></title></svg>",
     ),
     ("<svg><![CDATA[a<b]]>c", "<svg>a&lt;bc</svg>"),
     ("<svg><math>a<!--b-->", "<svg><math>a<!--b--></math></svg>"),
