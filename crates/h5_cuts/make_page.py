@@ -8,7 +8,7 @@ opened is closed, or the rules close it.
 
 import os
 
-SECTIONS = 31
+SECTIONS = 29
 LINE_ENDS = ["\n", "\r\n", "\r"]
 NAMES = ["Aldermoor", "Bréhat", "Cape Wrath", "Długi Ostrów", "Eddystone", "Fårö", "Górki", "灯台", "Høgsteinen"]
 NAMES += ["Île Vierge", "Маяк"]
@@ -275,6 +275,80 @@ def embedded(n):
     ]
 
 
+def templates(n):
+    return [
+        (
+            f"<template id=t{n}><tr><td>{n}<td>x</template>\n",
+            f'<template id="t{n}"><tr><td>{n}</td><td>x</td></tr></template>\n',
+        ),
+        ("<p>a<template><p>b<b>c</template>d</p>\n", "<p>a<template><p>b<b>c</b></p></template>d</p>\n"),
+        (
+            f"<table><template><td>{n}</template><tr><td>x</table>\n",
+            f"<table><template><td>{n}</td></template><tbody><tr><td>x</td></tr></tbody></table>\n",
+        ),
+        (
+            f"<div><template shadowrootmode=open><slot>{n}</template></div>\n",
+            f'<div><template shadowrootmode="open"><slot>{n}</slot></template></div>\n',
+        ),
+    ]
+
+
+def fostered(n):
+    """What may not stand in a table stands before it."""
+    return [
+        (
+            f"<table>a<tr><td>{n}</td>b</tr><i>c</i></table>\n",
+            f"ab<i>c</i><table><tbody><tr><td>{n}</td></tr></tbody></table>\n",
+        ),
+        (
+            "<table> <tr> <td>x</td> </tr> </table>\n",
+            "<table> <tbody><tr> <td>x</td> </tr> </tbody></table>\n",
+        ),
+        ("<table><b>x<tr><td>y</table></b>\n", "<b>x</b><table><tbody><tr><td>y</td></tr></tbody></table>\n"),
+        (
+            f"<table><input type=hidden><input name=a{n}></table>\n",
+            f'<input name="a{n}"><table><input type="hidden"></table>\n',
+        ),
+        (
+            "<table><caption>a<p>b</caption><col span=2><td>c</table>\n",
+            '<table><caption>a<p>b</p></caption><colgroup><col span="2"></colgroup><tbody><tr><td>c</td></tr></tbody></table>\n',
+        ),
+    ]
+
+
+def drawings(n):
+    return [
+        (f'<svg viewbox="0 0 {n} 1"><g/><title>t\0</title>', f'<svg viewBox="0 0 {n} 1"><g></g><title>t</title>'),
+        (
+            f"<foreignobject><p>{n}</p></foreignobject><desc>d<b>e</b></desc>",
+            f"<foreignObject><p>{n}</p></foreignObject><desc>d<b>e</b></desc>",
+        ),
+        ("<![CDATA[a<b>&amp;]] >]]>\0<circle r=1 /></circle>", 'a&lt;b&gt;&amp;amp;]] &gt;\ufffd<circle r="1"></circle>'),
+        (f"<a xlink:href='#{n}' xml:lang=e>x</A></svg>\n", f'<a xlink:href="#{n}" xml:lang="e">x</a></svg>\n'),
+        ("<svg><rect><p>out</p>\n", "<svg><rect></rect></svg><p>out</p>\n"),
+        ("<svg><font>in</font><font color=c>out</font>\n", '<svg><font>in</font></svg><font color="c">out</font>\n'),
+        (
+            f"<math><mi definitionurl=u{n}>x</mi><annotation-xml encoding=text/html><p>y</p></annotation-xml>",
+            f'<math><mi definitionURL="u{n}">x</mi><annotation-xml encoding="text/html"><p>y</p></annotation-xml>',
+        ),
+        ("<mtext><b>z</b></mtext><![CDATA[&lt;]]></math>\n", "<mtext><b>z</b></mtext>&amp;lt;</math>\n"),
+    ]
+
+
+def misnested(n):
+    return [
+        (f"<p>1<b>2<i>{n}</b>4</i>5</p>\n", f"<p>1<b>2<i>{n}</i></b><i>4</i>5</p>\n"),
+        (f"<b>1<p>{n}</b>3</p>\n", f"<b>1</b><p><b>{n}</b>3</p>\n"),
+        (f"<a href=x>1<a href=y>{n}</a>\n", f'<a href="x">1</a><a href="y">{n}</a>\n'),
+        ("<nobr>a<nobr>b</nobr>\n", "<nobr>a</nobr><nobr>b</nobr>\n"),
+        (
+            "<p><b><b><b><b>x</p>y</b></b></b></b>\n",
+            "<p><b><b><b><b>x</b></b></b></b></p><b><b><b>y</b></b></b>\n",
+        ),
+        ("<h3>a<h4>b</h5>\n", "<h3>a</h3><h4>b</h4>\n"),
+    ]
+
+
 def story(n):
     return [same(f"<p>{prose(n + 5, 4 + n % 4)}</p>\n")]
 
@@ -288,6 +362,7 @@ def section(n):
     parts += pick([images, table, quotation], n)(n) + lists(n) + comments(n) + marks(n)
     parts += pick([odd_tags, form], n)(n) + story(n + 1) + pick([table, images], n)(n)
     parts += pick([raw_texts, choices, embedded], n)(n)
+    parts += pick([templates, fostered, drawings, misnested], n)(n)
     return with_line_ends(parts + [("</Section>\n", "</section>\n")], pick(LINE_ENDS, n))
 
 

@@ -1,14 +1,15 @@
 -- What an arena holds: its nodes in the order in which they were made, and the forest that they are.
-use Rattle.std.specs.Prelude.{◌<◌, ◌+◌, ℕ, ◌==◌, Bool, true, false, cond, length, List, map, Option, None, Some, String, slice_get, string_bytes, refl}
+use Rattle.std.specs.Prelude.{◌<◌, ◌+◌, ℕ, ◌==◌, Bool, true, false, cond, length, List, [], ◌∷◌, map, Option, None, Some, String, slice_get, string_bytes, refl}
 use Rattle.std.specs.Option.{option_map, option_map_or}
 use Rattle.std.specs.declared.alloc.Global.{Global}
 use Rattle.std.proofs.Math.Nat.{le_refl}
 use Rattle.h5_names.specs.declared.qualified.QualName.{QualName}
 use Rattle.h5_names.specs.AttributeText.{attribute_texts}
 use Rattle.h5_interface.specs.declared.marks.QuirksMode.{QuirksMode}
+use Rattle.h5_interface.specs.declared.marks.QuirksMode.TheVariants.{NoQuirks}
 use Rattle.h5_interface.specs.Forest as forest
 use Rattle.h5_interface.specs.Forest.{CommentNode, DoctypeNode, DocumentNode, ElementNode, Forest, FragmentNode, InstructionNode, IsForest, IsNode, Marks, Node}
-use Rattle.h5_interface.specs.Seen.{Seen, no_flags, no_marks}
+use Rattle.h5_interface.specs.Seen.{Seen, no_flags, no_marks, plain}
 use Rattle.h5_interface.specs.SinkChoices.{Rearranges, SinkChoices}
 use Rattle.h5_arena.specs.declared.nodes.NodeData.{NodeData}
 use Rattle.h5_arena.specs.declared.nodes.NodeId.{NodeId}
@@ -66,6 +67,10 @@ pub record ArenaView : Type 0 where
   pub quirks : QuirksMode
   pub errors : List (List ℕ)
   pub errors_lost : Bool
+
+-- it holds its document alone
+abbrev pub new_arena : ArenaView
+new_arena = record { nodes = plain DocumentNode ∷ []; quirks = NoQuirks; errors = []; errors_lost = false }
 
 abbrev pub forest_seen : ArenaView → Forest
 forest_seen a = forest_of a.nodes

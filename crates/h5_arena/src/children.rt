@@ -66,6 +66,18 @@ fn push_to_text(children: &mut Vec<Child>, at: usize, text: &str) -> Result<(), 
     }
 }
 
+// One more child, the last. The first takes room for itself alone: most elements have no other.
+pub(crate) fn add_child(children: &mut Vec<Child>, child: Child) -> Result<(), AllocError>
+    ensures ok { OnOk result (children.new.items ≡ children.old.items ++ child ∷ []) }
+    ensures err { OnErr result (children.new.items ≡ children.old.items) }
+{
+    if children.is_empty() {
+        children.reserve_exact(1)?;
+    }
+    children.push(child)?;
+    Ok(())
+}
+
 // A text as the last child.
 pub(crate) fn push_text(children: &mut Vec<Child>, text: String) -> Result<(), AllocError>
     requires { AreParted (child_views children.old.items) }
@@ -75,14 +87,14 @@ pub(crate) fn push_text(children: &mut Vec<Child>, text: String) -> Result<(), A
 {
     let count = children.len();
     if count == 0 {
-        children.push(Child::Text(text))?;
+        add_child(children, Child::Text(text))?;
         return Ok(());
     }
     if is_text(&children[count - 1]) {
         push_to_text(children, count - 1, text.as_str())?;
         return Ok(());
     }
-    children.push(Child::Text(text))?;
+    add_child(children, Child::Text(text))?;
     Ok(())
 }
 

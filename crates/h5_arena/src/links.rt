@@ -22,7 +22,7 @@ pub(crate) fn append_node(
     ensures err { OnErr result (node_views nodes.new.items ≡ node_views nodes.old.items) }
 {
     let node = &mut nodes[parent.index];
-    node.children.push(Child::Node(id))?;
+    children::add_child(&mut node.children, Child::Node(id))?;
     let moved = &mut nodes[id.index];
     moved.parent = Some(parent);
     Ok(())

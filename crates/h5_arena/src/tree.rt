@@ -1,8 +1,6 @@
 //! The arena, and the calls that read it.
-ghost use Rattle.std.specs.Prelude.{◌≡◌, ◌<◌, [], ◌∷◌, IfOk, Some, false, length, nat_lt, option_copied};
+ghost use Rattle.std.specs.Prelude.{◌≡◌, ◌<◌, IfOk, Some, length, nat_lt, option_copied};
 ghost use Rattle.h5_names.specs.AttributeText.{attribute_texts};
-ghost use Rattle.h5_interface.specs.Forest.{DocumentNode};
-ghost use Rattle.h5_interface.specs.Seen.{plain};
 
 use super::makes;
 use super::nodes::{Child, Kind, NodeData, NodeId};
@@ -33,13 +31,13 @@ impl Model for Arena {
     ghost invariant = { λ a. IsForest (forest_in a.nodes.items) };
 }
 
-ghost use Rattle.h5_arena.specs.ArenaModel.{ArenaView, IsHeld, at_node, child_parent, child_views, id_at, kind_view, name_of_kind, optional_place, texts_of};
+ghost use Rattle.h5_arena.specs.ArenaModel.{ArenaView, IsHeld, at_node, child_parent, child_views, id_at, kind_view, name_of_kind, new_arena, optional_place, texts_of};
 
 impl Arena {
     /// An arena that holds its document alone, with NoQuirks and no error, or an `AllocError` where memory
     /// is refused.
     pub fn new(alloc: Global) -> Result<Arena, AllocError>
-        ensures { IfOk result (λ a. a ≡ record { nodes = plain DocumentNode ∷ []; quirks = QuirksMode.NoQuirks; errors = []; errors_lost = false }) }
+        ensures { IfOk result (λ a. a ≡ new_arena) }
     {
         let mut nodes = Vec::new(alloc);
         nodes.push(makes::bare_node(alloc, Kind::Document))?;

@@ -1,7 +1,7 @@
 -- A command prints one output of one input.
-use Rattle.std.proofs.Common.{◌≡◌, ℕ, suc, List, [], ◌∷◌, ◌++◌, Some, None, Result, Ok, slice_get, refl, sym, ap, subst, ◌∙◌}
+use Rattle.std.proofs.Common.{◌≡◌, ℕ, suc, true, List, [], ◌∷◌, ◌++◌, Some, None, Result, Ok, slice_get, refl, sym, ap, subst, ◌∙◌}
 use Rattle.h5_interface.specs.Forest.{Child, Forest}
-use Rattle.h5_arena.specs.ArenaModel.{ArenaView, arena_choices, forest_seen}
+use Rattle.h5_arena.specs.ArenaModel.{ArenaView, arena_choices, forest_seen, new_arena, seen_of}
 use Rattle.h5_arena.specs.NodeCalls.{walk_of}
 use Rattle.h5_serialize.specs.Standing.{new_standing, walk_text}
 use Rattle.h5_serialize.specs.declared.options.TraversalScope.TheVariants.{ChildrenOnly}
@@ -10,10 +10,11 @@ use Rattle.h5_print.specs.Printed.{IsTreeText, NoChild, NodeChild, Printed, Temp
 use Rattle.h5_print.specs.Replies.{quirks_line}
 use Rattle.h5_print.proofs.OneText.{one_tree_text}
 use Rattle.h5_tree_builder.specs.Builder.{ended_view}
+use Rattle.h5_driver.specs.Options.{default_options}
+use Rattle.h5_driver.proofs.OneTree.{one_fragment, one_tree}
 use Rattle.h5_commands.specs.Outcome.{Prints}
-use Rattle.h5_commands.specs.Printed.{HtmlPrints, IsParsed, IsTreeOutput, ItemsPrint, TreePrints, after_items, default_serializing, first_view, replies_to_items, reply_lines}
-use Rattle.h5_commands.specs.declared.words.Command.{Command}
-use Rattle.h5_commands.specs.declared.words.Command.TheVariants.{Tokens, Tree, Html}
+use Rattle.h5_commands.specs.Printed.{FragmentPrints, HtmlPrints, IsTreeOutput, ItemsPrint, TreePrints, after_items, default_serializing, first_view, html_name, replies_to_items, reply_lines}
+use Rattle.h5_commands.specs.Words.{CommandText, Fragment, Html, Tokens, Tree}
 
 some_same : {A : Type 0} (x y : A) → Some x ≡ Some y → x ≡ y
 some_same x y e = cc
@@ -56,31 +57,27 @@ items_print items x y p q =
     p.whole ∙ ap (λ t. t ++ reply_lines 1 (replies_to_items items first_view)) tree ∙ sym q.whole
 
 -- a parser makes one tree of a text
-record SameSeen (a b : ArenaView) : Type 0 where
-  pub forest : forest_seen a ≡ forest_seen b
-  pub quirks : a.quirks ≡ b.quirks
-
-parsed_same : (text : List ℕ) (a b : ArenaView) → IsParsed text a → IsParsed text b → SameSeen a b
-parsed_same text a b p q =
-    let one = (p.any p.tokens _ p.reads).1 in
-    let other = (q.any p.tokens _ p.reads).1 in
-    record { forest = one.0 ∙ sym other.0; quirks = one.1 ∙ sym other.1 }
-
 tree_prints : (text x y : List ℕ) → TreePrints text x → TreePrints text y → x ≡ y
 tree_prints text x y p q =
-    let same = parsed_same text p.arena q.arena p.parsed q.parsed in
-    output_same p.arena q.arena x y same.forest same.quirks p.is_tree q.is_tree
+    let same = one_tree arena_choices _ _ text _ _ p.parsed q.parsed in
+    output_same p.arena q.arena x y same.0 same.1 p.is_tree q.is_tree
+
+fragment_prints : (context text x y : List ℕ) → FragmentPrints context text x → FragmentPrints context text y → x ≡ y
+fragment_prints context text x y p q =
+    let same = one_fragment arena_choices (seen_of new_arena) default_options (html_name context) [] true text (seen_of p.arena) (seen_of q.arena) p.parsed q.parsed in
+    output_same p.arena q.arena x y same.0 same.1 p.is_tree q.is_tree
 
 html_prints : (text x y : List ℕ) → HtmlPrints text x → HtmlPrints text y → x ≡ y
 html_prints text x y p q =
-    let same = parsed_same text p.arena q.arena p.parsed q.parsed in
-    p.whole ∙ ap (λ f. walk_text (new_standing default_serializing) (walk_of f 0 (ChildrenOnly None))) same.forest ∙ sym q.whole
+    let same = one_tree arena_choices _ _ text _ _ p.parsed q.parsed in
+    p.whole ∙ ap (λ f. walk_text (new_standing default_serializing) (walk_of f 0 (ChildrenOnly None))) same.0 ∙ sym q.whole
 
 ok_same : {A B : Type 0} (r : Result A B) (x y : A) → r ≡ Ok x → r ≡ Ok y → x ≡ y
 ok_same r x y p q = cc
 
-pub one_output : (command : Command) (bytes x y : List ℕ) → Prints command bytes x → Prints command bytes y → x ≡ y
+pub one_output : (command : CommandText) (bytes x y : List ℕ) → Prints command bytes x → Prints command bytes y → x ≡ y
 one_output Tokens bytes x y (u, (items, e, p)) (v, (others, f, q)) =
     items_print others x y (subst (λ is. ItemsPrint is x) (ok_same (items_of bytes) items others e f) p) q
 one_output Tree bytes x y (u, p) (v, q) = tree_prints bytes x y p q
+one_output (Fragment context) bytes x y (u, p) (v, q) = fragment_prints context bytes x y p q
 one_output Html bytes x y (u, p) (v, q) = html_prints bytes x y p q

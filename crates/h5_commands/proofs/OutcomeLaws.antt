@@ -5,8 +5,8 @@ use Rattle.std.specs.Result.{IfErr, IfOk}
 use Rattle.std.specs.declared.alloc.Global.{Global}
 use Rattle.std.proofs.lemmas.Str.{IsUtf8-string_bytes}
 use Rattle.h5_commands.specs.Outcome.{ComesBy}
-use Rattle.h5_commands.specs.Printed.{HtmlPrints, TreePrints}
-use Rattle.h5_commands.specs.declared.words.Command.TheVariants.{Html, Tree}
+use Rattle.h5_commands.specs.Printed.{FragmentPrints, HtmlPrints, TreePrints}
+use Rattle.h5_commands.specs.Words.{Fragment, Html, Tree}
 use Rattle.h5_commands.specs.declared.fault.Fault.{Fault}
 use Rattle.h5_commands.specs.declared.fault.Fault.TheVariants.{Memory}
 
@@ -23,3 +23,7 @@ tree_comes known text (Err fault) h p e = inl (inr e)
 pub html_comes : (known : Option (List ℕ)) (text : String Global) (built : Result (Vec ℕ Global) Fault) → IfSome known (λ bytes. string_bytes text ≡ bytes) → IfOk built (λ output. HtmlPrints (string_bytes text) output.items) → IfErr built (λ fault. fault ≡ Memory) → ComesBy (Some Html) known built
 html_comes known text (Ok output) h p e = is_text (λ b. HtmlPrints b output.items) known text h p
 html_comes known text (Err fault) h p e = inl (inr e)
+
+pub fragment_comes : (context : List ℕ) (known : Option (List ℕ)) (text : String Global) (built : Result (Vec ℕ Global) Fault) → IfSome known (λ bytes. string_bytes text ≡ bytes) → IfOk built (λ output. FragmentPrints context (string_bytes text) output.items) → IfErr built (λ fault. fault ≡ Memory) → ComesBy (Some (Fragment context)) known built
+fragment_comes context known text (Ok output) h p e = is_text (λ b. FragmentPrints context b output.items) known text h p
+fragment_comes context known text (Err fault) h p e = inl (inr e)

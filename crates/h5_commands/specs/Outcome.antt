@@ -5,10 +5,8 @@ use Rattle.std.specs.declared.alloc.Global.{Global}
 use Rattle.h5_lines.specs.Items.{ItemText, item_texts, items_of}
 use Rattle.h5_lines.specs.declared.items.Item.{Item}
 use Rattle.h5_commands.specs.Faults.{IsBadLine, IsReadFault, message_of, status_of}
-use Rattle.h5_commands.specs.Printed.{HtmlPrints, ItemsPrint, TreePrints}
-use Rattle.h5_commands.specs.Words.{command_of}
-use Rattle.h5_commands.specs.declared.words.Command.{Command}
-use Rattle.h5_commands.specs.declared.words.Command.TheVariants.{Tokens, Tree, Html}
+use Rattle.h5_commands.specs.Printed.{FragmentPrints, HtmlPrints, ItemsPrint, TreePrints}
+use Rattle.h5_commands.specs.Words.{CommandText, Fragment, Html, Tokens, Tree, command_of}
 use Rattle.h5_commands.specs.declared.fault.Fault.{Fault}
 use Rattle.h5_commands.specs.declared.fault.Fault.TheVariants.{Usage, NotUtf8, Unwritable, Memory}
 
@@ -35,19 +33,19 @@ abbrev pub IsBadAt : ℕ → List ℕ → Type 0
 IsBadAt n bytes = IsUtf8 bytes × (items_of bytes ≡ Err n)
 
 -- a command prints this of its input: of lines of tokens, or of a text
-abbrev pub Prints : Command → List ℕ → List ℕ → Type 0
+abbrev pub Prints : CommandText → List ℕ → List ℕ → Type 0
 Prints Tokens bytes output = ArePrinted bytes output
 Prints Tree bytes output = IsUtf8 bytes × TreePrints bytes output
+Prints (Fragment context) bytes output = IsUtf8 bytes × FragmentPrints context bytes output
 Prints Html bytes output = IsUtf8 bytes × HtmlPrints bytes output
 
 -- a line is bad, where lines are asked for
-abbrev pub IsBadFor : Command → Option (List ℕ) → Fault → Type 0
+abbrev pub IsBadFor : CommandText → Option (List ℕ) → Fault → Type 0
 IsBadFor Tokens known fault = (n : ℕ) × IsBadLine n fault × IfSome known (IsBadAt n)
-IsBadFor Tree known fault = ⊥
-IsBadFor Html known fault = ⊥
+IsBadFor _ known fault = ⊥
 
 -- a command and the known input come to this output, or to this fault
-abbrev pub ComesBy : Option Command → Option (List ℕ) → Result (Vec ℕ Global) Fault → Type 0
+abbrev pub ComesBy : Option CommandText → Option (List ℕ) → Result (Vec ℕ Global) Fault → Type 0
 ComesBy None known (Ok output) = ⊥
 ComesBy None known (Err fault) = fault ≡ Usage
 ComesBy (Some command) known (Ok output) = IfSome known (λ bytes. Prints command bytes output.items)

@@ -1,28 +1,21 @@
 -- What the program prints of an input.
-use Rattle.std.specs.Prelude.{◌≡◌, ℕ, ◌+◌, true, false, List, [], ◌∷◌, ◌++◌, None}
+use Rattle.std.specs.Prelude.{◌≡◌, ℕ, ◌+◌, true, false, List, [], ◌∷◌, ◌++◌, None, codes}
+use Rattle.h5_names.specs.declared.qualified.QualName.{QualName}
 use Rattle.h5_token.specs.Reply.{Reply}
-use Rattle.h5_interface.specs.Seen.{plain}
-use Rattle.h5_interface.specs.Forest.{DocumentNode}
-use Rattle.h5_interface.specs.declared.marks.QuirksMode.TheVariants.{NoQuirks}
 use Rattle.h5_serialize.specs.Standing.{new_standing, walk_text}
 use Rattle.h5_serialize.specs.declared.options.SerializeOpts.{SerializeOpts}
 use Rattle.h5_serialize.specs.declared.options.TraversalScope.TheVariants.{ChildrenOnly}
-use Rattle.h5_arena.specs.ArenaModel.{ArenaView, arena_choices, forest_seen, seen_of}
+use Rattle.h5_arena.specs.ArenaModel.{ArenaView, arena_choices, forest_seen, new_arena, seen_of}
 use Rattle.h5_arena.specs.NodeCalls.{walk_of}
-use Rattle.h5_tokenizer.specs.Options.{first_place}
 use Rattle.h5_meaning.specs.Run.{View, after_token, reply_to}
 use Rattle.h5_tree_builder.specs.Builder.{ended_view, first_building}
 use Rattle.h5_driver.specs.Options.{default_options}
-use Rattle.h5_driver.specs.Parsing.{Parses}
+use Rattle.h5_driver.specs.Texts.{ParsesDocument, ParsesFragment}
 use Rattle.h5_lines.specs.Items.{ItemText, TheEnd, TokenAt}
 use Rattle.h5_print.specs.Printed.{IsTreeText}
 use Rattle.h5_print.specs.Replies.{quirks_line, reply_line}
 
--- an arena that holds its document alone
-abbrev pub new_arena : ArenaView
-new_arena = record { nodes = plain DocumentNode ∷ []; quirks = NoQuirks; errors = []; errors_lost = false }
-
--- a builder over it that took nothing yet, with the default options
+-- a builder over an arena that holds its document alone, that took nothing yet, with the default options
 abbrev pub first_view : View
 first_view = (first_building (seen_of new_arena) default_options.tree_builder).view
 
@@ -64,12 +57,26 @@ pub record ItemsPrint (items : List ItemText) (output : List ℕ) : Type 0 where
 
 -- an arena is what a parser with the default options makes of a text
 abbrev pub IsParsed : List ℕ → ArenaView → Type 0
-IsParsed text a = Parses arena_choices (first_place default_options.tokenizer) first_view text (seen_of a)
+IsParsed text a = ParsesDocument arena_choices (seen_of new_arena) default_options text (seen_of a)
 
 -- its tree is printed
 pub record TreePrints (text output : List ℕ) : Type 0 where
   pub arena : ArenaView
   pub parsed : IsParsed text arena
+  pub is_tree : IsTreeOutput arena output
+
+-- an arena is what a parser with the default options makes of a text in an HTML element of this name, without attributes,
+-- where scripts are allowed
+abbrev pub html_name : List ℕ → QualName
+html_name local = record { prefix = None; ns = codes "http://www.w3.org/1999/xhtml"; local = local }
+
+abbrev pub IsParsedIn : (context : List ℕ) → List ℕ → ArenaView → Type 0
+IsParsedIn context text a = ParsesFragment arena_choices (seen_of new_arena) default_options (html_name context) [] true text (seen_of a)
+
+-- its tree is printed
+pub record FragmentPrints (context text output : List ℕ) : Type 0 where
+  pub arena : ArenaView
+  pub parsed : IsParsedIn context text arena
   pub is_tree : IsTreeOutput arena output
 
 -- the options of a serializer that hold where nothing else is said

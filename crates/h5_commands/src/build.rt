@@ -7,13 +7,14 @@ ghost use Rattle.h5_print.specs.Replies.{reply_line};
 ghost use Rattle.h5_tree_builder.specs.Builder.{ended_view};
 ghost use Rattle.h5_tree_builder.specs.Held.{building};
 ghost use Rattle.h5_tree_builder.specs.Replies.{reply_text, reply_texts, token_texts};
-ghost use Rattle.h5_commands.specs.Printed.{HtmlPrints, IsParsed, IsTreeOutput, ItemsPrint, TreePrints, after_items, html_of, replies_to_items, reply_lines};
+ghost use Rattle.h5_commands.specs.Printed.{FragmentPrints, HtmlPrints, IsParsed, IsParsedIn, IsTreeOutput, ItemsPrint, TreePrints, after_items, html_of, replies_to_items, reply_lines};
 
 use super::fault::Fault;
 use h5_arena::laws::no_call_lacks_a_parent;
 use h5_arena::{Arena, NodeId};
-use h5_driver::{ParseOpts, parse_document};
+use h5_driver::{ParseOpts, parse_document, parse_fragment};
 use h5_lines::Item;
+use h5_names::{LocalName, Namespace, QualName};
 use h5_print::{print_answer, print_quirks, print_refusal, print_tree};
 use h5_serialize::{SerializeFault, SerializeOpts, serialize};
 use h5_token::{BuildFault, Token};
@@ -146,12 +147,41 @@ fn parse(alloc: Global, text: String) -> Result<Arena, Fault>
         .map_err(fault_of_build)
 }
 
+// The tree that a text makes in an HTML element of this name, where scripts are allowed.
+fn parse_in(alloc: Global, context: &str, text: String) -> Result<Arena, Fault>
+    ensures parsed { IfOk result (λ arena. IsParsedIn context.now (string_bytes text) arena) }
+    ensures memory { IfErr result (λ fault. fault ≡ Fault.Memory) }
+{
+    let pieces = vec![in alloc; text]?;
+    let name = QualName::new(None, Namespace::html(), LocalName::new(alloc, context)?);
+    let arena = Arena::new(alloc)?;
+    let opts = ParseOpts::default();
+    let parser = parse_fragment(alloc, arena, opts, name, Vec::new(alloc), true).map_err(
+        fault_of_build,
+    )?;
+    let tree = parser
+        .process_pieces(pieces.as_slice())
+        .map_err(fault_of_build)?;
+    Ok(tree)
+}
+
 /// What is printed of the tree that a text makes: the tree, and the quirks mode. The only fault is `Memory`.
 pub fn tree_output(alloc: Global, text: String) -> Result<Vec<u8>, Fault>
     ensures prints { IfOk result (λ output. TreePrints (string_bytes text) output.items) }
     ensures memory { IfErr result (λ fault. fault ≡ Fault.Memory) }
 {
     let arena = parse(alloc, text)?;
+    let out = print_arena(alloc, &arena)?;
+    Ok(out.into_bytes())
+}
+
+/// What is printed of the tree that a text makes as a fragment, in an HTML element of this name, without attributes, where
+/// scripts are allowed: the tree, and the quirks mode. The only fault is `Memory`.
+pub fn fragment_output(alloc: Global, context: &str, text: String) -> Result<Vec<u8>, Fault>
+    ensures prints { IfOk result (λ output. FragmentPrints context.now (string_bytes text) output.items) }
+    ensures memory { IfErr result (λ fault. fault ≡ Fault.Memory) }
+{
+    let arena = parse_in(alloc, context, text)?;
     let out = print_arena(alloc, &arena)?;
     Ok(out.into_bytes())
 }

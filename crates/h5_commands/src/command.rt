@@ -2,9 +2,9 @@
 ghost use Rattle.std.specs.Prelude.{◌≡◌, None, Some};
 ghost use Rattle.h5_commands.specs.Faults.{message_of, status_of};
 ghost use Rattle.h5_commands.specs.Outcome.{AppendsFront, AreRead, Comes, ComesBy, Ends, EndsUnread, IsRead, LinesCome, Puts};
-ghost use Rattle.h5_commands.specs.Words.{command_of};
+ghost use Rattle.h5_commands.specs.Words.{command_of, command_text};
 
-use super::build::{build, html_output, tree_output};
+use super::build::{build, fragment_output, html_output, tree_output};
 use super::fault::{Fault, bad_line, fault_of_read};
 use super::output::write_bytes;
 use super::words::{Command, command_of};
@@ -58,12 +58,13 @@ fn output_of<R: Read + Drop>(alloc: Global, words: &[String], input: R) -> Resul
 }
 
 fn output_by<R: Read + Drop>(alloc: Global, command: Command, input: R) -> Result<Vec<u8>, Fault>
-    ensures { ComesBy (Some command) (R.remaining input) result }
+    ensures { ComesBy (Some (command_text command.entry)) (R.remaining input) result }
 {
     let text = read_text(alloc, input)?;
     match command {
         Command::Tokens => tokens_output(alloc, text.as_str()),
         Command::Tree => tree_output(alloc, text),
+        Command::Fragment(context) => fragment_output(alloc, context, text),
         Command::Html => html_output(alloc, text),
     }
 }

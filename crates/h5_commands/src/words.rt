@@ -1,20 +1,22 @@
 //! The words of a command.
-ghost use Rattle.std.specs.Prelude.{◌≡◌};
-ghost use Rattle.h5_commands.specs.Words.{command_named, command_of};
+ghost use Rattle.std.specs.Prelude.{◌≡◌, option_map};
+ghost use Rattle.h5_commands.specs.Words.{command_named, command_of, command_text};
 
 /// What is to be done.
 #[derive(Clone, Copy, Debug, PartialEq, Eq)]
-pub enum Command {
+pub enum Command<'a> {
     /// Lines of tokens, to the tree that they make.
     Tokens,
     /// A text, to the tree that it makes.
     Tree,
+    /// A text, to the tree that it makes as a fragment, in an HTML element of this name.
+    Fragment(&'a str),
     /// A text, to the HTML of the tree that it makes.
     Html,
 }
 
-fn command_named(word: &str) -> Option<Command>
-    ensures { result ≡ command_named word.now }
+fn command_named<'a>(word: &str) -> Option<Command<'a>>
+    ensures { option_map command_text result ≡ command_named word.now }
 {
     match word {
         "tokens" => Some(Command::Tokens),
@@ -24,12 +26,16 @@ fn command_named(word: &str) -> Option<Command>
     }
 }
 
-/// The command of these words: one word that names it.
-pub fn command_of(words: &[String]) -> Option<Command>
-    ensures { result ≡ command_of words.now }
+/// The command of these words: one word that names it, or `tree` and the name of a context.
+pub fn command_of<'a>(words: &'a [String]) -> Option<Command<'a>>
+    ensures { option_map command_text result ≡ command_of words.now }
 {
     match words {
         [word] => command_named(word.as_str()),
+        [word, context] => match word.as_str() {
+            "tree" => Some(Command::Fragment(context.as_str())),
+            _ => None,
+        },
         _ => None,
     }
 }

@@ -46,6 +46,17 @@ pub struct Keeping {
     ghost later_names: { AreNamesBehind FEW (attribute_texts attributes.items) later },
 }
 
+// Room for the first attribute alone: most elements that have any have one.
+fn make_room(attributes: &mut Vec<Attribute>) -> Result<(), AllocError>
+    ensures items { attributes.new.items ≡ attributes.old.items }
+    ensures len { vec_len attributes.new ≡ vec_len attributes.old }
+{
+    if attributes.is_empty() {
+        attributes.reserve_exact(1)?;
+    }
+    Ok(())
+}
+
 impl Keeping {
     ghost use Rattle.std.specs.Prelude.{◌||◌, List};
     ghost use Rattle.h5_names.specs.AttributeText.{AttributeText};
@@ -98,6 +109,7 @@ impl Keeping {
         if self.attributes.len() >= FEW {
             return self.push_later(attribute);
         }
+        make_room(&mut self.attributes)?;
         self.attributes.push(attribute)?;
         Ok(())
     }

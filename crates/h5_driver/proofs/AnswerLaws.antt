@@ -41,7 +41,7 @@ no_text : (m : InsertionMode) → m ≢ Text → is_text m ≡ false
 no_text Text h = absurd (h refl)
 no_text _ h = refl
 
-text_no_text : (m : InsertionMode) → is_text m ≡ false → m ≢ Text
+pub text_no_text : (m : InsertionMode) → is_text m ≡ false → m ≢ Text
 text_no_text m h e = let i : is_text m ≡ true = ap is_text e in cc
 
 none_behind : (p : Place) (v : View) → IsWorking p v → NoTextBehind v.world

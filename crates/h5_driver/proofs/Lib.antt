@@ -1,4 +1,6 @@
 pub mod AnswerLaws
+pub mod FragmentLaws
+pub mod OneTree
 pub mod RawLaws
 pub mod ReadingLaws
 pub mod StreamLaws

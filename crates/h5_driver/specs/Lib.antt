@@ -1,2 +1,4 @@
+pub mod Fragments
 pub mod Options
 pub mod Parsing
+pub mod Texts

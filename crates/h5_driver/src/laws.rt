@@ -1,6 +1,8 @@
-//! The law of who streams, as the contract of a function that does nothing.
-ghost use Rattle.std.specs.Prelude.{ℕ, List, ◌++◌};
+//! Laws of texts that are parsed, each the contract of a function that does nothing.
+ghost use Rattle.std.specs.Prelude.{◌≡◌, ℕ, List, ◌++◌};
 ghost use Rattle.h5_interface.specs.Seen.{Seen};
+ghost use Rattle.h5_meaning.specs.Run.{View};
+ghost use Rattle.h5_tokenizer.specs.Front.{Place};
 ghost use Rattle.h5_driver.specs.Parsing.{Parses, Parsing, ProcessedAll, joined, unread, view_of};
 
 use h5_interface::TreeSink;
@@ -13,4 +15,12 @@ pub fn pieces_then_finish<Handle: Drop, Sink: TreeSink<Handle = Handle> + Drop>(
         ProcessedAll Sink.choices Sink.sees Sink.node pieces first last
         → Parses Sink.choices last.reader.place (view_of Sink.sees Sink.node last) (unread last) told
         → Parses Sink.choices first.reader.place (view_of Sink.sees Sink.node first) (unread first ++ joined pieces) told }
+{}
+
+/// What is made of a text is one forest and one quirks mode, from one place of the reader and one view of the builder. So
+/// two parsers of documents, or of fragments, that begin alike make the same of a text, however each takes it in pieces.
+pub fn a_text_has_one_tree<Handle: Drop, Sink: TreeSink<Handle = Handle> + Drop>()
+    ensures { (place : Place) (view : View) (text : List ℕ) (one other : Seen) →
+        Parses Sink.choices place view text one → Parses Sink.choices place view text other
+        → (one.forest ≡ other.forest) × (one.quirks ≡ other.quirks) }
 {}

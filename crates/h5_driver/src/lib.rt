@@ -2,9 +2,11 @@
 //! documents").
 #![tactic(auto)]
 
+mod fragment;
 pub mod laws;
 mod options;
 mod parser;
 
+pub use fragment::{parse_fragment, parse_fragment_for_element};
 pub use options::ParseOpts;
 pub use parser::{Parser, parse_document};

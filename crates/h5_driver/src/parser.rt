@@ -11,7 +11,7 @@ ghost use Rattle.h5_driver.specs.Parsing.{Advances, IsWorking, Parses, Processed
 use super::options::ParseOpts;
 use h5_interface::TreeSink;
 use h5_token::{BuildFault, TokenSink};
-use h5_tokenizer::{BufferQueue, Tokenizer, TokenizerResult};
+use h5_tokenizer::{BufferQueue, Tokenizer, TokenizerOpts, TokenizerResult};
 use h5_tree_builder::TreeBuilder;
 use std::alloc::Global;
 use std::marker::Model;
@@ -78,6 +78,26 @@ impl<Handle: Drop, Sink: TreeSink<Handle = Handle> + Drop> Model for Parser<Hand
     ghost invariant = { λ p. IsParsing Sink.sees Sink.node (record { builder = p.tokenizer.sink; reader = p.tokenizer.reader; waiting = p.input_buffer; failed = p.failed }) };
 }
 
+// A parser over a builder that works.
+pub(super) fn parser_over<Handle: Drop, Sink: TreeSink<Handle = Handle> + Drop>(
+    alloc: Global,
+    builder: TreeBuilder<Handle, Sink>,
+    opts: TokenizerOpts,
+) -> Parser<Handle, Sink>
+    requires works { IsWorking (first_place opts) (building Sink.sees Sink.node builder).view }
+    ensures builder { result.builder ≡ builder }
+    ensures reader { result.reader ≡ record { place = first_place opts; held = []; stage = Reading } }
+    ensures waiting { result.waiting ≡ [] }
+    ensures failed { result.failed ≡ false }
+{
+    Parser {
+        tokenizer: Tokenizer::new(alloc, builder, opts),
+        input_buffer: BufferQueue::new(alloc),
+        failed: false,
+        alloc,
+    }
+}
+
 /// A parser of a document, into a sink, that took nothing yet. It takes no memory, and the sink stays as it
 /// is.
 pub fn parse_document<Handle: Drop, Sink: TreeSink<Handle = Handle> + Drop>(
@@ -92,12 +112,7 @@ pub fn parse_document<Handle: Drop, Sink: TreeSink<Handle = Handle> + Drop>(
     ensures failed { result.failed ≡ false }
 {
     let builder = TreeBuilder::new(alloc, sink, opts.tree_builder);
-    Parser {
-        tokenizer: Tokenizer::new(alloc, builder, opts.tokenizer),
-        input_buffer: BufferQueue::new(alloc),
-        failed: false,
-        alloc,
-    }
+    parser_over(alloc, builder, opts.tokenizer)
 }
 
 impl<Handle: Drop, Sink: TreeSink<Handle = Handle> + Drop> Parser<Handle, Sink> {

@@ -90,10 +90,10 @@ fn adjust_own_attributes(
     }
 }
 
-/// The attributes of an element in a namespace: those of MathML, or of SVG, are adjusted, and then foreign ones. After an
-/// Err they are gone.
+// The attributes of an element in a namespace: those of MathML, or of SVG, are adjusted, and then foreign ones. After an
+// Err they are gone.
 #[tactic(auto, unfolding(h5_meaning::specs::Foreign::adjusted_attributes))]
-pub fn adjust_attributes(
+fn adjust_attributes(
     alloc: Global,
     namespace: &Namespace,
     attrs: Vec<Attribute>,

@@ -12,6 +12,4 @@ pub use closing::{
     search_end,
 };
 pub use current::{adjusted_current_node, is_foreign, is_foreign_text};
-pub use insert::{
-    adjust_attributes, insert_and_pop_foreign_element, insert_foreign_element, insert_foreign_for,
-};
+pub use insert::{insert_and_pop_foreign_element, insert_foreign_element, insert_foreign_for};

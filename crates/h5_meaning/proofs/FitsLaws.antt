@@ -1,5 +1,5 @@
 -- What a mode tells of open elements stays true, row by row.
-use Rattle.std.proofs.Common.{◌≡◌, ◌<◌, inl, ℕ, true, false, [], ◌∷◌, is_some, length, refl, sym, subst}
+use Rattle.std.proofs.Common.{◌≡◌, ◌<◌, inl, true, false, [], ◌∷◌, is_some, length, refl, sym, subst}
 use Rattle.h5_token.specs.TokenText.{TagText}
 use Rattle.h5_token.specs.declared.tag.TagKind.{TagKind}
 use Rattle.h5_token.specs.declared.tag.TagKind.TheVariants.{StartTag, EndTag}
@@ -8,11 +8,9 @@ use Rattle.h5_types.specs.TurnText.{TurnText, TagTurn, CommentTurn, TextTurn, Eo
 use Rattle.h5_types.specs.declared.modes.InsertionMode.{InsertionMode}
 use Rattle.h5_types.specs.declared.modes.InsertionMode.TheVariants.{AfterAfterBody, AfterBody, AfterHead, BeforeHead, BeforeHtml, InBody, InCaption, InCell, InColumnGroup, InHead, InHeadNoscript, InRow, InTable, InTableBody, InTableText, InTemplate, InFrameset, AfterFrameset, AfterAfterFrameset, Initial, Text}
 use Rattle.h5_types.specs.declared.modes.SplitStatus.TheVariants.{Whitespace}
-use Rattle.h5_types.specs.declared.turns.ProcessResult.{ProcessResult}
 use Rattle.h5_types.specs.declared.turns.ProcessResult.TheVariants as results
 use Rattle.h5_stack.specs.Lists.{Lists}
 use Rattle.h5_fits.specs.Fits.{goes_by_body, is_before_root}
-use Rattle.h5_fits.specs.NamesFit.{NamesFit}
 use Rattle.h5_fits.proofs.NamesBodyLaws.{names_after_after_body, names_in_body}
 use Rattle.h5_fits.proofs.NamesFitLaws.{names_open}
 use Rattle.h5_meaning.specs.AfterAfterBody.{after_after_body, after_after_body_start, after_after_body_tag}
@@ -27,7 +25,7 @@ use Rattle.h5_meaning.specs.InHeadNoscript.{in_head_noscript, in_head_noscript_t
 use Rattle.h5_meaning.specs.InTemplate.{in_template, in_template_as, in_template_end, in_template_start, in_template_tag}
 use Rattle.h5_meaning.specs.InitialMode.{initial}
 use Rattle.h5_meaning.specs.Modes.{rule}
-use Rattle.h5_meaning.specs.Rows.{Again, Ending, Follows, IsDone, SetMode, apply_all, errs, ignored, next_mode, row}
+use Rattle.h5_meaning.specs.Rows.{Again, Ending, IsDone, SetMode, apply_all, errs, ignored, next_mode, row}
 use Rattle.h5_meaning.specs.Sound.{Fits, HasLists, Sound, situation_of}
 use Rattle.h5_meaning.specs.World.{World, names_of}
 use Rattle.h5_meaning.proofs.BodyFitsLaws.{NoPart, kept_in_body, kept_text_in_body}
@@ -184,13 +182,6 @@ rule_fits choices t w k some h =
     fits_set (mode_with v.mode (next_mode r.ending v)) v
     (subst (λ m. FitsAs (mode_with m (next_mode r.ending v)) v) (sym (changes_mode choices r.changes w)) (kept_rule choices w (record { sound = k; lists = h.lists }) w.mode refl t some h.mode))
     (rule_lists choices t w k some h)
-
--- where neither open elements nor the list nor mode nor situation change
-pub fits_kept : (w v : World) → v.mode ≡ w.mode → names_of v ≡ names_of w → situation_of v ≡ situation_of w → v.stack ≡ w.stack → v.formatting ≡ w.formatting → Fits w → Fits v
-fits_kept w v same e situation stack list h = record {
-  mode = subst (λ m. FitsAs m v) (sym same) (subst (λ s. NamesFit s w.mode (names_of v)) (sym situation) (subst (NamesFit (situation_of w) w.mode) (sym e) h.mode));
-  lists = subst (λ s. Lists s v.formatting) (sym stack) (subst (Lists w.stack) (sym list) h.lists);
-}
 
 -- once the root has been made an element is open
 pub enough_open : (w : World) (m : InsertionMode) → w.mode ≡ m → is_before_root m ≡ false → Fits w → 0 < length w.stack

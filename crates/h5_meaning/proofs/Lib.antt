@@ -36,7 +36,6 @@ pub mod JoinLaws
 pub mod KeptLaws
 pub mod ListableLaws
 pub mod ListedLaws
-pub mod ListedRunLaws
 pub mod ListsLaws
 pub mod NameLaws
 pub mod PlaceLaws

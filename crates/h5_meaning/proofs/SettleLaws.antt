@@ -160,9 +160,6 @@ among_fitting choices t some = record {
 pub settle-turn : (choices : SinkChoices) (t : TurnText) (w : World) → Sound w → HasText t → Fits w → settle choices t w ≡ by_row choices (settle choices t) t (dispatch choices t w) w
 settle-turn choices t w s some f = turn_in choices t Fitting (among_fitting choices t some) w (record { sound = s; fits = f })
 
-pub settle-row : (choices : SinkChoices) (t : TurnText) (w : World) (m : InsertionMode) (r : Row) → is_foreign choices t w ≡ false → w.mode ≡ m → rule m t w ≡ r → Sound w → HasText t → Fits w → settle choices t w ≡ by_row choices (settle choices t) t r w
-settle-row choices t w m r html e f s some h = settle-turn choices t w s some h ∙ ap (λ x. by_row choices (settle choices t) t x w) (by_mode_row choices t w m r html e f)
-
 pub settle-again : (choices : SinkChoices) (t : TurnText) (w : World) (k : InsertionMode) → Sound w → HasText t → Fits w → next_mode (dispatch choices t w).ending (changed_by choices (dispatch choices t w) w) ≡ Some k
     → settle choices t w ≡ goes_on_to (dispatch choices t w) (settle choices t (set_mode k (changed_by choices (dispatch choices t w) w)))
 settle-again choices t w k s some f e = again_in choices t Fitting (among_fitting choices t some) w k (record { sound = s; fits = f }) e

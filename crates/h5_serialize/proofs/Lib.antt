@@ -1,3 +1,4 @@
+pub mod EachLaws
 pub mod EntryLemmas
 pub mod EscapeLaws
 pub mod Escapes

@@ -5,18 +5,14 @@ use Rattle.std.specs.Io.KnownBytes.{Appends}
 use Rattle.h5_serialize.specs.Call.{Call}
 use Rattle.h5_serialize.specs.Openers.{lacks_parent}
 use Rattle.h5_serialize.specs.Standing.{Standing, Broken, Working, answer_to, standing_after, text_written, IsBrokenBy, walk_text, is_orphan, has_orphan}
-use Rattle.h5_serialize.specs.Walk.{Makes, AreMade, NoCall, OneMore, IsStopped, Starved, Refused}
+use Rattle.h5_serialize.specs.Walk.{Makes, AreMade, NoCall, OneMore, IsStopped, Starved, Refused, after_each}
 use Rattle.h5_serialize.specs.declared.fault.SerializeFault.{SerializeFault}
 use Rattle.h5_serialize.specs.declared.fault.SerializeFault.TheVariants.{NoParent, Failed}
+use Rattle.h5_serialize.proofs.EachLaws.{each_more}
 
 -- how it stands after these calls
 abbrev pub after_all : Standing → List Call → Standing
-after_all m [] = m
-after_all m (call ∷ calls) = after_all (standing_after m call) calls
-
-after_more : (m : Standing) (calls : List Call) (call : Call) → after_all m (calls ++ call ∷ []) ≡ standing_after (after_all m calls) call
-after_more m [] call = refl
-after_more m (first ∷ calls) call = after_more (standing_after m first) calls call
+after_all = after_each standing_after
 
 -- the text of a walk in two parts
 pub text_split : (m : Standing) (calls rest : List Call) → walk_text m (calls ++ rest) ≡ walk_text m calls ++ walk_text (after_all m calls) rest
@@ -90,7 +86,7 @@ has_made {m} {t} (OneMore {calls} {k} {v} call n u before made) =
     let h = has_made before in
     let here : text_written k call ≡ text_written (after_all m calls) call = ap (λ s. text_written s call) h.standing in
     record {
-      standing = made.meant ∙ ap (λ s. standing_after s call) h.standing ∙ sym (after_more m calls call);
+      standing = made.meant ∙ ap (λ s. standing_after s call) h.standing ∙ sym (each_more standing_after m calls call);
       text = subst (Appends t u) (ap (λ l. walk_text m calls ++ l) here ∙ sym (text_more m calls call)) (Appends-trans t v u (walk_text m calls) (text_written k call) h.text made.written);
       parents = orphan_split m calls (call ∷ []) ∙ or_false _ _ h.parents (or_false _ _ (ap (λ s. is_orphan s call) (sym h.standing) ∙ no_orphan k call made.answered) refl);
     }

@@ -25,6 +25,11 @@ WhereBroken (Err Memory) P = P Memory
 WhereBroken (Err Write) P = P Write
 WhereBroken (Err Failed) P = Unit {0}
 
+-- what a serializer means after calls none of which meets a fault
+abbrev pub after_each : {M : Type 0} → (M → Call → M) → M → List Call → M
+after_each after m [] = m
+after_each after m (call ∷ calls) = after_each after (after m call) calls
+
 module _ {M : Type 0} (answer : M → Call → Result (Unit {0}) SerializeFault) (after : M → Call → M) (writes : M → Call → List ℕ) (breaks : M → Option (List ℕ) → Call → SerializeFault → M → Option (List ℕ) → Type 0) where
   -- a call made where the serializer means m and has written t gives this result, n and u
   pub record Makes (call : Call) (m : M) (t : Option (List ℕ)) (result : Result (Unit {0}) SerializeFault) (n : M) (u : Option (List ℕ)) : Type 0 where

@@ -1,4 +1,5 @@
 //! Texts that come in pieces: the trees are those of the whole texts.
+use super::foreign::FOREIGN;
 use super::parser::new_parser;
 use super::rows::{BODIES, FORMS, PAGES, TABLES, TEXTS, TREES, page_of};
 use super::running::prints;
@@ -15,7 +16,8 @@ pub fn html_of(alloc: Global, arena: &Arena) -> Result<Vec<u8>, SerializeFault> 
     serialize(alloc, Vec::new(alloc), &node, SerializeOpts::default())
 }
 
-fn characters_of(alloc: Global, text: &str) -> Result<Vec<String>, AllocError> {
+/// The characters of a text.
+pub fn characters_of(alloc: Global, text: &str) -> Result<Vec<String>, AllocError> {
     let mut pieces = Vec::new(alloc);
     for character in text.chars() {
         pieces.push(character.to_string(alloc)?)?;
@@ -86,6 +88,16 @@ fn templates_in_single_characters(rt: HostRuntime) -> Result<(), Fail> {
     for (page, html) in TEMPLATES {
         let found = html_of_characters(alloc, page)?;
         assert_eq!(rt; found.as_slice(), html.as_bytes());
+    }
+    Ok(())
+}
+
+#[test]
+fn drawings_in_single_characters(rt: HostRuntime) -> Result<(), Fail> {
+    let alloc = rt.alloc();
+    for (page, body) in FOREIGN {
+        let found = html_of_characters(alloc, page)?;
+        assert_eq!(rt; found.as_slice(), page_of(alloc, body)?.as_bytes());
     }
     Ok(())
 }

@@ -1,6 +1,10 @@
 //! Fragments, in their contexts.
+use super::cuts::{characters_of, html_of};
+use super::parser::ArenaParser;
+use super::running::runs;
 use super::templates::start_with;
 use h5_arena::{Arena, Child, NodeId};
+use h5_driver::{ParseOpts, parse_fragment, parse_fragment_for_element};
 use h5_interface::create_element;
 use h5_names::{LocalName, Namespace, QualName};
 use h5_token::Token;
@@ -91,6 +95,141 @@ fn a_context_tells_how_its_text_is_read(rt: HostRuntime) -> Result<(), Fail> {
     let builder = in_context(alloc, "noscript", &rt)?;
     if builder.is_fragment() {
         assert!(rt; builder.tokenizer_state_for_context_elem(false) == State::Data);
+    }
+    Ok(())
+}
+
+// Contexts, texts in them, and the HTML of the roots that they make.
+const IN_CONTEXTS: [(&str, &str, &str); 10] = [
+    ("tr", "<td>1", "<html><td>1</td></html>"),
+    ("td", "<tr>", "<html></html>"),
+    ("div", "<p>1<p>2", "<html><p>1</p><p>2</p></html>"),
+    (
+        "table",
+        "<td>1",
+        "<html><tbody><tr><td>1</td></tr></tbody></html>",
+    ),
+    ("textarea", "<b>1", "<html>&lt;b&gt;1</html>"),
+    ("template", "<td>1", "<html><td>1</td></html>"),
+    ("frameset", "1<frame>2", "<html><frame></html>"),
+    ("body", "<svg><p>1", "<html><svg></svg><p>1</p></html>"),
+    (
+        "p",
+        "<svg><![CDATA[a<b]]>",
+        "<html><svg>a&lt;b</svg></html>",
+    ),
+    ("html", "a", "<html><head></head><body>a</body></html>"),
+];
+
+fn parser_in(alloc: Global, context: &str) -> Result<ArenaParser, Fail> {
+    let name = QualName::new(None, Namespace::html(), LocalName::new(alloc, context)?);
+    let arena = Arena::new(alloc)?;
+    let opts = ParseOpts::default();
+    let parser = parse_fragment(alloc, arena, opts, name, Vec::new(alloc), true)?;
+    Ok(parser)
+}
+
+#[test]
+fn texts_are_parsed_in_their_contexts(rt: HostRuntime) -> Result<(), Fail> {
+    let alloc = rt.alloc();
+    for (context, text, html) in IN_CONTEXTS {
+        let arena = parser_in(alloc, context)?.one(text)?;
+        assert_eq!(rt; html_of(alloc, &arena)?.as_slice(), html.as_bytes());
+    }
+    Ok(())
+}
+
+#[test]
+fn single_characters_are_parsed_in_their_contexts(rt: HostRuntime) -> Result<(), Fail> {
+    let alloc = rt.alloc();
+    for (context, text, html) in IN_CONTEXTS {
+        let pieces = characters_of(alloc, text)?;
+        let arena = parser_in(alloc, context)?.process_pieces(pieces.as_slice())?;
+        assert_eq!(rt; html_of(alloc, &arena)?.as_slice(), html.as_bytes());
+    }
+    Ok(())
+}
+
+// A parser of a fragment in this element of an arena, where scripts aren't allowed.
+fn parser_in_element(
+    alloc: Global,
+    arena: Arena,
+    element: NodeId,
+    rt: &impl Abort,
+) -> Result<ArenaParser, Fail> {
+    assert!(rt; arena.holds(element));
+    match arena.name(element) {
+        Some(_) => {
+            let opts = ParseOpts::default();
+            let parser = parse_fragment_for_element(alloc, arena, opts, element, false, None)?;
+            Ok(parser)
+        }
+        None => Err("an element was made".into()),
+    }
+}
+
+// The same in an HTML element of this name, which has no parent.
+fn parser_in_new(alloc: Global, context: &str, rt: &impl Abort) -> Result<ArenaParser, Fail> {
+    let mut arena = Arena::new(alloc)?;
+    let name = QualName::new(None, Namespace::html(), LocalName::new(alloc, context)?);
+    let element = create_element(&mut arena, name, Vec::new(alloc))?;
+    parser_in_element(alloc, arena, element, rt)
+}
+
+#[test]
+fn a_text_is_parsed_in_an_element(rt: HostRuntime) -> Result<(), Fail> {
+    let alloc = rt.alloc();
+    for (context, html) in [
+        ("title", "<html>&lt;b&gt;x</html>"),
+        ("noscript", "<html><b>x</b></html>"),
+    ] {
+        let arena = parser_in_new(alloc, context, &rt)?.one("<b>x")?;
+        assert_eq!(rt; html_of(alloc, &arena)?.as_slice(), html.as_bytes());
+    }
+    Ok(())
+}
+
+// Contexts, texts in them, and what is printed of the trees that they make.
+const PRINTED: [(&str, &str, &str); 7] = [
+    (
+        "tr",
+        "<td>1",
+        "<html>\n  <td>\n    \"1\"\nquirks: NoQuirks\n",
+    ),
+    ("td", "<tr>", "<html>\nquirks: NoQuirks\n"),
+    (
+        "title",
+        "a</title>b",
+        "<html>\n  \"a</title>b\"\nquirks: NoQuirks\n",
+    ),
+    ("noscript", "<b>", "<html>\n  \"<b>\"\nquirks: NoQuirks\n"),
+    (
+        "plaintext",
+        "</plaintext>&amp;",
+        "<html>\n  \"</plaintext>&amp;\"\nquirks: NoQuirks\n",
+    ),
+    (
+        "svg",
+        "<![CDATA[a]]>",
+        "<html>\n  \"<![CDATA[a]]>\"\nquirks: NoQuirks\n",
+    ),
+    ("", "a", "<html>\n  \"a\"\nquirks: NoQuirks\n"),
+];
+
+#[test]
+fn trees_of_texts_in_contexts_are_printed(rt: HostRuntime) -> Result<(), Fail> {
+    for (context, text, tree) in PRINTED {
+        runs(&rt, rt.alloc(), &["tree", context], text, 0, tree, "")?;
+    }
+    Ok(())
+}
+
+#[test]
+fn other_words_behind_a_command_are_no_command(rt: HostRuntime) -> Result<(), Fail> {
+    let usage = "h5: usage: h5 tokens | h5 tree [context] | h5 html\n";
+    let words: [&[&str]; 4] = [&[], &["html", "p"], &["tokens", "p"], &["tree", "p", "q"]];
+    for words in words {
+        runs(&rt, rt.alloc(), words, "", 2, "", usage)?;
     }
     Ok(())
 }

@@ -358,7 +358,7 @@ fn a_bad_line_is_named(rt: HostRuntime) -> Result<(), Fail> {
     runs(
         &rt,
         rt.alloc(),
-        "tokens",
+        &["tokens"],
         "Q x\n",
         2,
         "",

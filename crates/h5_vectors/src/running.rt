@@ -3,17 +3,25 @@ use h5_commands::run;
 use std::alloc::{AllocError, Global};
 use std::process::Abort;
 
-/// Runs a command: its status, and what stands on standard output and standard error.
+fn words_of(alloc: Global, words: &[&str]) -> Result<Vec<String>, AllocError> {
+    let mut list = Vec::new(alloc);
+    for word in words {
+        list.push(String::from_str(alloc, word)?)?;
+    }
+    Ok(list)
+}
+
+/// Runs a command of these words: its status, and what stands on standard output and standard error.
 pub fn runs(
     rt: &impl Abort,
     alloc: Global,
-    word: &str,
+    words: &[&str],
     input: &str,
     status: u8,
     output: &str,
     fault: &str,
 ) -> Result<(), AllocError> {
-    let words = vec![in alloc; String::from_str(alloc, word)?]?;
+    let words = words_of(alloc, words)?;
     let mut out: Vec<u8> = Vec::new(alloc);
     let mut faults: Vec<u8> = Vec::new(alloc);
     let answer = run(
@@ -29,7 +37,7 @@ pub fn runs(
     Ok(())
 }
 
-/// Runs a command that meets no fault.
+/// Runs a command of one word that meets no fault.
 pub fn prints(
     rt: &impl Abort,
     alloc: Global,
@@ -37,5 +45,5 @@ pub fn prints(
     input: &str,
     output: &str,
 ) -> Result<(), AllocError> {
-    runs(rt, alloc, word, input, 0, output, "")
+    runs(rt, alloc, &[word], input, 0, output, "")
 }

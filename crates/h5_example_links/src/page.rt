@@ -1,0 +1,42 @@
+//! The links of a page.
+ghost use Rattle.std.specs.Prelude.{◌≡◌, None, IfOk, OnOk};
+ghost use Rattle.h5_serialize.specs.Walk.{after_each};
+ghost use Rattle.h5_serialize.specs.declared.options.TraversalScope.TheVariants.{ChildrenOnly};
+ghost use Rattle.h5_arena.specs.ArenaModel.{forest_seen};
+ghost use Rattle.h5_arena.specs.NodeCalls.{walk_of};
+ghost use Rattle.h5_example_links.specs.Links.{after_call, kept, link_texts};
+ghost use Rattle.h5_example_links.specs.Page.{AreLinksOf};
+
+use super::links::{Link, Links};
+use html_tree_builder::arena::Arena;
+use html_tree_builder::driver::{ParseOpts, parse_document};
+use html_tree_builder::serialize::laws::calls_are_taken_in_turn;
+use html_tree_builder::serialize::{Serialize, SerializeFault, TraversalScope};
+use std::alloc::{AllocError, Global};
+
+// A parser of text that hasn't failed, and a serializer over memory, meet no other fault.
+fn refused<F: Drop>(_fault: F) -> AllocError {
+    AllocError
+}
+
+// Takes the calls that tell of a tree.
+fn take_calls(links: &mut Links, arena: &Arena) -> Result<(), SerializeFault>
+    ensures { OnOk result (kept links.new ≡ after_each after_call (kept links.old) (walk_of (forest_seen arena.now) 0 (ChildrenOnly None))) }
+{
+    let document = arena.at(arena.document());
+    document.serialize(links, TraversalScope::ChildrenOnly(None))?;
+    calls_are_taken_in_turn::<Links>();
+    Ok(())
+}
+
+/// The links of a page, in its order. An `AllocError` where memory is refused.
+pub fn links_of_page(alloc: Global, page: &str) -> Result<Vec<Link>, AllocError>
+    ensures { IfOk result (λ links. AreLinksOf page.now (link_texts links.items)) }
+{
+    let parser = parse_document(alloc, Arena::new(alloc)?, ParseOpts::default());
+    let arena = parser.one(page).map_err(refused)?;
+    let mut links = Links::new(alloc);
+    take_calls(&mut links, &arena).map_err(refused)?;
+    let list = links.into_list()?;
+    Ok(list)
+}

@@ -1,0 +1,16 @@
+//! The text of a page, block by block, a line for each: a caller of the library.
+#![tactic(auto)]
+
+mod blocks;
+mod page;
+
+use page::text_of_page;
+use std::io::{self, Write};
+
+fn main(rt: HostRuntime) -> anyhow::Result<()> {
+    let alloc = rt.alloc();
+    let page = io::read_to_string(alloc, rt.reader())?;
+    let text = text_of_page(alloc, page.as_str())?;
+    rt.stdout().write_all(text.as_bytes())?;
+    Ok(())
+}

@@ -1,0 +1,42 @@
+//! The text of a page.
+ghost use Rattle.std.specs.Prelude.{◌≡◌, None, IfOk, OnOk, string_bytes};
+ghost use Rattle.h5_serialize.specs.Walk.{after_each};
+ghost use Rattle.h5_serialize.specs.declared.options.TraversalScope.TheVariants.{ChildrenOnly};
+ghost use Rattle.h5_arena.specs.ArenaModel.{forest_seen};
+ghost use Rattle.h5_arena.specs.NodeCalls.{walk_of};
+ghost use Rattle.h5_example_text.specs.Blocks.{after_call, kept};
+ghost use Rattle.h5_example_text.specs.Page.{IsTextOf};
+
+use super::blocks::Blocks;
+use html_tree_builder::arena::Arena;
+use html_tree_builder::driver::{ParseOpts, parse_document};
+use html_tree_builder::serialize::laws::calls_are_taken_in_turn;
+use html_tree_builder::serialize::{Serialize, SerializeFault, TraversalScope};
+use std::alloc::{AllocError, Global};
+
+// A parser of text that hasn't failed, and a serializer over memory, meet no other fault.
+fn refused<F: Drop>(_fault: F) -> AllocError {
+    AllocError
+}
+
+// Takes the calls that tell of a tree.
+fn take_calls(blocks: &mut Blocks, arena: &Arena) -> Result<(), SerializeFault>
+    ensures { OnOk result (kept blocks.new ≡ after_each after_call (kept blocks.old) (walk_of (forest_seen arena.now) 0 (ChildrenOnly None))) }
+{
+    let document = arena.at(arena.document());
+    document.serialize(blocks, TraversalScope::ChildrenOnly(None))?;
+    calls_are_taken_in_turn::<Blocks>();
+    Ok(())
+}
+
+/// The text of a page: a line for each block in which there is any. An `AllocError` where memory is refused.
+pub fn text_of_page(alloc: Global, page: &str) -> Result<String, AllocError>
+    ensures { IfOk result (λ text. IsTextOf page.now (string_bytes text)) }
+{
+    let parser = parse_document(alloc, Arena::new(alloc)?, ParseOpts::default());
+    let arena = parser.one(page).map_err(refused)?;
+    let mut blocks = Blocks::new(alloc);
+    take_calls(&mut blocks, &arena).map_err(refused)?;
+    let lines = blocks.into_lines()?;
+    Ok(lines)
+}
