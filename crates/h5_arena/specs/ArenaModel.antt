@@ -1,6 +1,7 @@
 -- What an arena holds: its nodes in the order in which they were made, and the forest that they are.
 use Rattle.std.specs.Prelude.{◌<◌, ◌+◌, ℕ, ◌==◌, Bool, true, false, cond, length, List, [], ◌∷◌, map, Option, None, Some, String, slice_get, string_bytes, refl}
 use Rattle.std.specs.Option.{option_map, option_map_or}
+use Rattle.std.specs.Arc.{arc_value}
 use Rattle.std.specs.declared.alloc.Global.{Global}
 use Rattle.std.proofs.Math.Nat.{le_refl}
 use Rattle.h5_names.specs.declared.qualified.QualName.{QualName}
@@ -42,7 +43,7 @@ optional_place = option_map place
 
 abbrev pub node_view : NodeData → Node
 node_view d = record {
-  kind = kind_view d.kind;
+  kind = kind_view (arc_value d.kind);
   attrs = attribute_texts d.attrs.items;
   children = child_views d.children.items;
   contents = optional_place d.contents;

@@ -66,12 +66,12 @@ fn push_to_text(children: &mut Vec<Child>, at: usize, text: &str) -> Result<(), 
     }
 }
 
-// One more child, the last. The first takes room for itself alone: most elements have no other.
+// One more child, the last. The first and the second take room for themselves alone: most elements have no others.
 pub(crate) fn add_child(children: &mut Vec<Child>, child: Child) -> Result<(), AllocError>
     ensures ok { OnOk result (children.new.items ≡ children.old.items ++ child ∷ []) }
     ensures err { OnErr result (children.new.items ≡ children.old.items) }
 {
-    if children.is_empty() {
+    if children.len() < 2 {
         children.reserve_exact(1)?;
     }
     children.push(child)?;

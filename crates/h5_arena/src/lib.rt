@@ -8,6 +8,7 @@ mod links;
 mod makes;
 mod moves;
 mod nodes;
+mod shared;
 mod sink;
 mod tree;
 mod walk;

@@ -1,23 +1,27 @@
 //! New nodes. An Err leaves all nodes as they were.
-ghost use Rattle.std.specs.Prelude.{◌≡◌, ◌<◌, ◌++◌, ◌∷◌, [], None, OnOk, OnErr, vec_len};
+ghost use Rattle.std.specs.Prelude.{◌≡◌, ◌<◌, ◌++◌, ◌∷◌, [], None, IfOk, OnOk, OnErr, vec_len};
+ghost use Rattle.std.specs.Arc.{arc_value};
+ghost use Rattle.h5_names.specs.declared.qualified.QualName.{QualName};
 ghost use Rattle.h5_names.specs.AttributeText.{attribute_texts};
 ghost use Rattle.h5_interface.specs.Changes.{append_node};
-ghost use Rattle.h5_interface.specs.Forest.{IsForest};
+ghost use Rattle.h5_interface.specs.Forest.{ElementNode, IsForest};
 ghost use Rattle.h5_interface.specs.Seen.{element, make, make_contents, make_element, plain};
 ghost use Rattle.h5_arena.specs.ArenaModel.{arena_choices, forest_in, kind_view, node_view, node_views};
 
 use super::links;
 use super::nodes::{Kind, NodeData, NodeId};
+use super::shared::SharedKinds;
 use h5_interface::ElementFlags;
 use h5_names::{Attribute, QualName};
 use std::alloc::{AllocError, Global};
+use std::sync::Arc;
 
 // A node that is no element, with nothing below it and no parent.
-pub(crate) fn bare_node(alloc: Global, kind: Kind) -> NodeData
-    ensures { node_view result ≡ plain (kind_view kind) }
+pub(crate) fn bare_node(alloc: Global, kind: Kind) -> Result<NodeData, AllocError>
+    ensures { IfOk result (λ node. node_view node ≡ plain (kind_view kind)) }
 {
-    NodeData {
-        kind,
+    Ok(NodeData {
+        kind: Arc::new(alloc, kind)?,
         attrs: Vec::new(alloc),
         children: Vec::new(alloc),
         contents: None,
@@ -29,20 +33,20 @@ pub(crate) fn bare_node(alloc: Global, kind: Kind) -> NodeData
         },
         started: false,
         form: None,
-    }
+    })
 }
 
 // An element with nothing below it and no parent.
 fn bare_element(
     alloc: Global,
-    name: QualName,
+    kind: Arc<Kind>,
     attrs: Vec<Attribute>,
     flags: ElementFlags,
 ) -> NodeData
-    ensures { node_view result ≡ element name (attribute_texts attrs.items) flags }
+    ensures { (name : QualName) → kind_view (arc_value kind) ≡ ElementNode name → node_view result ≡ element name (attribute_texts attrs.items) flags }
 {
     NodeData {
-        kind: Kind::Element(name),
+        kind,
         attrs,
         children: Vec::new(alloc),
         contents: None,
@@ -63,7 +67,8 @@ pub(crate) fn push_plain(
     ensures err { OnErr result (node_views nodes.new.items ≡ node_views nodes.old.items) }
     ensures pushed { OnOk result (node_views nodes.new.items ≡ node_views nodes.old.items ++ plain (kind_view kind) ∷ []) }
 {
-    nodes.push(bare_node(alloc, kind))?;
+    let node = bare_node(alloc, kind)?;
+    nodes.push(node)?;
     Ok(())
 }
 
@@ -79,7 +84,7 @@ fn push_template(
     ensures err { OnErr result (node_views nodes.new.items ≡ node_views nodes.old.items) }
 {
     let index = nodes.len();
-    let mut contents = bare_node(alloc, Kind::Fragment);
+    let mut contents = bare_node(alloc, Kind::Fragment)?;
     contents.parent = Some(NodeId { index });
     let mut template = template;
     template.contents = Some(NodeId { index: index + 1 });
@@ -96,6 +101,7 @@ fn push_template(
 // A new element, and its contents where it is a template.
 pub(crate) fn push_element(
     nodes: &mut Vec<NodeData>,
+    shared: &mut SharedKinds,
     alloc: Global,
     name: QualName,
     attrs: Vec<Attribute>,
@@ -106,7 +112,8 @@ pub(crate) fn push_element(
     ensures err { OnErr result (node_views nodes.new.items ≡ node_views nodes.old.items) }
 {
     let is_template = flags.template;
-    let node = bare_element(alloc, name, attrs, flags);
+    let kind = shared.element(alloc, name)?;
+    let node = bare_element(alloc, kind, attrs, flags);
     if is_template {
         push_template(nodes, alloc, node)?;
         return Ok(());

@@ -1,6 +1,7 @@
 //! The nodes of an arena.
 use h5_interface::ElementFlags;
 use h5_names::{Attribute, QualName};
+use std::sync::Arc;
 
 /// A node of an arena, named by its place in the vector.
 #[derive(Clone, Copy, Debug, PartialEq, Eq)]
@@ -35,10 +36,10 @@ pub enum Child {
     Text(String),
 }
 
-/// A node. No vector of children is allocated before the first child.
+/// A node. What it is, elements of one name share. No vector of children is allocated before the first child.
 #[derive(Drop)]
 pub(crate) struct NodeData {
-    pub(crate) kind: Kind,
+    pub(crate) kind: Arc<Kind>,
     pub(crate) attrs: Vec<Attribute>,
     pub(crate) children: Vec<Child>,
     pub(crate) contents: Option<NodeId>,

@@ -54,7 +54,7 @@ impl TreeSink for Arena {
     }
 
     fn elem_name<'a>(&'a self, target: &'a NodeId) -> &'a QualName {
-        match &self.nodes[target.index].kind {
+        match &*self.nodes[target.index].kind {
             Kind::Element(name) => name,
             _ => unreachable!(),
         }
@@ -82,7 +82,8 @@ impl TreeSink for Arena {
         flags: ElementFlags,
     ) -> Result<NodeId, AllocError> {
         let index = self.nodes.len();
-        makes::push_element(&mut self.nodes, self.alloc, name, attrs, flags)?;
+        let (nodes, shared) = (&mut self.nodes, &mut self.shared);
+        makes::push_element(nodes, shared, self.alloc, name, attrs, flags)?;
         Ok(NodeId { index })
     }
 

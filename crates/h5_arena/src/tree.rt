@@ -4,6 +4,7 @@ ghost use Rattle.h5_names.specs.AttributeText.{attribute_texts};
 
 use super::makes;
 use super::nodes::{Child, Kind, NodeData, NodeId};
+use super::shared::SharedKinds;
 use h5_interface::QuirksMode;
 use h5_names::{Attribute, QualName};
 use std::alloc::{AllocError, Global};
@@ -14,6 +15,8 @@ use std::marker::Model;
 #[derive(Drop)]
 pub struct Arena {
     pub(crate) nodes: Vec<NodeData>,
+    // Not in the view: what it holds the nodes hold, too.
+    pub(crate) shared: SharedKinds,
     pub(crate) quirks: QuirksMode,
     pub(crate) errors: Vec<String>,
     pub(crate) errors_lost: bool,
@@ -40,9 +43,10 @@ impl Arena {
         ensures { IfOk result (λ a. a ≡ new_arena) }
     {
         let mut nodes = Vec::new(alloc);
-        nodes.push(makes::bare_node(alloc, Kind::Document))?;
+        nodes.push(makes::bare_node(alloc, Kind::Document)?)?;
         Ok(Arena {
             nodes,
+            shared: SharedKinds::new(alloc),
             quirks: QuirksMode::NoQuirks,
             errors: Vec::new(alloc),
             errors_lost: false,
@@ -89,7 +93,7 @@ impl Arena {
         requires { IsHeld self.now id }
         ensures { at_node (λ d. d.kind) self.now id ≡ Some (kind_view result.now) }
     {
-        &self.nodes[id.index].kind
+        &*self.nodes[id.index].kind
     }
 
     /// The name of an element, and nothing of any other node.
@@ -98,7 +102,7 @@ impl Arena {
         ensures { at_node (λ d. name_of_kind d.kind) self.now id ≡ Some (option_copied result) }
     {
         let node = &self.nodes[id.index];
-        match &node.kind {
+        match &*node.kind {
             Kind::Element(name) => Some(name),
             _ => None,
         }
@@ -126,7 +130,7 @@ impl Arena {
         ensures { at_node child_parent self.now id ≡ Some (optional_place result) }
     {
         let node = &self.nodes[id.index];
-        match &node.kind {
+        match &*node.kind {
             Kind::Fragment => None,
             _ => node.parent,
         }

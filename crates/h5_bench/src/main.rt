@@ -1,6 +1,6 @@
 //! One part of the way from text to text, with a text of its own making: `h5_bench KIND SIZE PART`. With the word
 //! `time` behind these it tells the time and the speed of the part, too; with a number the reader is fed pieces of so
-//! many bytes.
+//! many bytes. `h5_bench KIND SIZE print` prints the text.
 #![tactic(auto)]
 
 mod counter;
@@ -12,7 +12,14 @@ mod texts;
 use anyhow::{Context, bail};
 use parts::{part_named, run};
 use std::env;
-use texts::kind_named;
+use texts::{Kind, kind_named, make_text};
+
+fn print_text(rt: &HostRuntime, kind: Kind, size: usize) -> anyhow::Result<()> {
+    let text = make_text(rt.alloc(), kind, size)?;
+    let text = text.as_str();
+    print!(rt; "{text}")?;
+    Ok(())
+}
 
 fn main(rt: HostRuntime) -> anyhow::Result<()> {
     let mut words = Vec::new(rt.alloc());
@@ -31,6 +38,9 @@ fn main(rt: HostRuntime) -> anyhow::Result<()> {
     };
     let kind = kind_named(kind.as_str()).context("no such kind of text")?;
     let size: usize = size.as_str().parse().context("the size")?;
+    if part.as_str() == "print" {
+        return print_text(&rt, kind, size);
+    }
     let part = part_named(part.as_str(), piece).context("no such part")?;
     let report = run(&rt, kind, size, part)?;
     let (bytes, outcome) = (report.bytes, report.outcome);

@@ -14,6 +14,10 @@ pub enum Kind {
     Nest,
     /// Tags, texts, references and comments, as in a page.
     Page,
+    /// Elements with five attributes each, and a word of text.
+    Attributed,
+    /// One long text of a paragraph.
+    Text,
     /// One long comment.
     Comment,
     /// A tag with one long value.
@@ -87,12 +91,22 @@ const PARAGRAPH: &str = "<div class=\"row\" id=r7>
 </div>
 ";
 
+const ATTRIBUTED: &str =
+    "<div class=\"row first\" id=\"r7\" title='of no use' data-at=3 hidden><a href=\"/find?q=1\" \
+class=\"link\" rel=\"next\" lang=\"la\" tabindex=\"2\">amet</a></div>\n";
+
+const SENTENCE: &str =
+    "Lorem ipsum dolor sit amet, consectetur adipiscing elit, sed do eiusmod tempor incididunt ut labore et \
+dolore magna aliqua.\n";
+
 /// The kind of this name.
 pub fn kind_named(name: &str) -> Option<Kind> {
     match name {
         "flat" => Some(Kind::Flat),
         "nest" => Some(Kind::Nest),
         "page" => Some(Kind::Page),
+        "attributed" => Some(Kind::Attributed),
+        "text" => Some(Kind::Text),
         "comment" => Some(Kind::Comment),
         "value" => Some(Kind::Value),
         "raw" => Some(Kind::Raw),
@@ -188,6 +202,8 @@ pub fn make_text(alloc: Global, kind: Kind, size: usize) -> Result<String, Alloc
         Kind::Flat => filled(alloc, FLAT_FRONT, FLAT_PART, FLAT_BACK, size),
         Kind::Nest => doubled(alloc, "<!DOCTYPE html>", "<div>", "</div>", size),
         Kind::Page => filled(alloc, "<!DOCTYPE html>\n", PARAGRAPH, "", size),
+        Kind::Attributed => filled(alloc, "<!DOCTYPE html>\n", ATTRIBUTED, "", size),
+        Kind::Text => filled(alloc, "<!DOCTYPE html>\n<p>", SENTENCE, "", size),
         Kind::Comment => filled(alloc, "<!--", "x", "-->", size),
         Kind::Value => filled(alloc, "<a b=\"", "x", "\">", size),
         Kind::Raw => filled(alloc, "<script>", "if (a < b) c();\n", "</script>", size),

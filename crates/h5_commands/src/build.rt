@@ -1,18 +1,20 @@
 //! What an input makes.
-ghost use Rattle.std.specs.Prelude.{◌≡◌, ◌++◌, Err, IfErr, IfOk, OnOk, string_bytes};
-ghost use Rattle.h5_arena.specs.ArenaModel.{arena_choices, place, seen_of};
+ghost use Rattle.std.specs.Prelude.{◌≡◌, ◌++◌, [], true, Err, IfErr, IfOk, OnOk, string_bytes};
+ghost use Rattle.h5_arena.specs.ArenaModel.{arena_choices, new_arena, place, seen_of};
+ghost use Rattle.h5_driver.specs.Fragments.{first_in_new, place_in_context};
+ghost use Rattle.h5_driver.specs.Options.{default_options};
 ghost use Rattle.h5_lines.specs.Items.{item_texts};
 ghost use Rattle.h5_meaning.specs.Run.{after_all, replies as replies_to};
 ghost use Rattle.h5_print.specs.Replies.{reply_line};
 ghost use Rattle.h5_tree_builder.specs.Builder.{ended_view};
 ghost use Rattle.h5_tree_builder.specs.Held.{building};
 ghost use Rattle.h5_tree_builder.specs.Replies.{reply_text, reply_texts, token_texts};
-ghost use Rattle.h5_commands.specs.Printed.{FragmentPrints, HtmlPrints, IsParsed, IsParsedIn, IsTreeOutput, ItemsPrint, TreePrints, after_items, html_of, replies_to_items, reply_lines};
+ghost use Rattle.h5_commands.specs.Printed.{FragmentPrints, HtmlPrints, IsParsed, IsParsedIn, IsTreeOutput, ItemsPrint, TreePrints, after_items, html_name, html_of, replies_to_items, reply_lines};
 
 use super::fault::Fault;
 use h5_arena::laws::no_call_lacks_a_parent;
 use h5_arena::{Arena, NodeId};
-use h5_driver::{ParseOpts, parse_document, parse_fragment};
+use h5_driver::{ParseOpts, Parser, parse_document, parse_fragment};
 use h5_lines::Item;
 use h5_names::{LocalName, Namespace, QualName};
 use h5_print::{print_answer, print_quirks, print_refusal, print_tree};
@@ -140,11 +142,25 @@ fn parse(alloc: Global, text: String) -> Result<Arena, Fault>
     ensures parsed { IfOk result (λ arena. IsParsed (string_bytes text) arena) }
     ensures memory { IfErr result (λ fault. fault ≡ Fault.Memory) }
 {
-    let pieces = vec![in alloc; text]?;
     let parser = parse_document(alloc, Arena::new(alloc)?, ParseOpts::default());
-    parser
-        .process_pieces(pieces.as_slice())
-        .map_err(fault_of_build)
+    parser.one_owned(text).map_err(fault_of_build)
+}
+
+// A parser in an HTML element of this name, without attributes, where scripts are allowed.
+fn parser_in(alloc: Global, context: &str) -> Result<Parser<NodeId, Arena>, Fault>
+    ensures builder { IfOk result (λ parser. building seen_of place parser.builder ≡ first_in_new arena_choices (seen_of new_arena) (html_name context.now) [] default_options.tree_builder) }
+    ensures begins { IfOk result (λ parser. parser.reader.place ≡ place_in_context true (building seen_of place parser.builder).view.world default_options.tokenizer) }
+    ensures held { IfOk result (λ parser. parser.reader.held ≡ []) }
+    ensures waiting { IfOk result (λ parser. parser.waiting ≡ []) }
+    ensures memory { IfErr result (λ fault. fault ≡ Fault.Memory) }
+{
+    let name = QualName::new(None, Namespace::html(), LocalName::new(alloc, context)?);
+    let arena = Arena::new(alloc)?;
+    let opts = ParseOpts::default();
+    let parser = parse_fragment(alloc, arena, opts, name, Vec::new(alloc), true).map_err(
+        fault_of_build,
+    )?;
+    Ok(parser)
 }
 
 // The tree that a text makes in an HTML element of this name, where scripts are allowed.
@@ -152,16 +168,8 @@ fn parse_in(alloc: Global, context: &str, text: String) -> Result<Arena, Fault>
     ensures parsed { IfOk result (λ arena. IsParsedIn context.now (string_bytes text) arena) }
     ensures memory { IfErr result (λ fault. fault ≡ Fault.Memory) }
 {
-    let pieces = vec![in alloc; text]?;
-    let name = QualName::new(None, Namespace::html(), LocalName::new(alloc, context)?);
-    let arena = Arena::new(alloc)?;
-    let opts = ParseOpts::default();
-    let parser = parse_fragment(alloc, arena, opts, name, Vec::new(alloc), true).map_err(
-        fault_of_build,
-    )?;
-    let tree = parser
-        .process_pieces(pieces.as_slice())
-        .map_err(fault_of_build)?;
+    let parser = parser_in(alloc, context)?;
+    let tree = parser.one_owned(text).map_err(fault_of_build)?;
     Ok(tree)
 }
 
@@ -205,12 +213,14 @@ fn write_html(alloc: Global, arena: &Arena) -> Result<Vec<u8>, Fault>
     }
 }
 
-/// The HTML of the tree that a text makes, with the default options. The only fault is `Memory`.
+/// The HTML of the tree that a text makes, with the default options. The only fault is `Memory`. The memory of the tree
+/// isn't given back piece by piece: it goes with the process.
 pub fn html_output(alloc: Global, text: String) -> Result<Vec<u8>, Fault>
     ensures prints { IfOk result (λ output. HtmlPrints (string_bytes text) output.items) }
     ensures memory { IfErr result (λ fault. fault ≡ Fault.Memory) }
 {
     let arena = parse(alloc, text)?;
     let output = write_html(alloc, &arena)?;
+    mem::forget(arena);
     Ok(output)
 }

@@ -132,7 +132,26 @@ impl<Handle: Drop, Sink: TreeSink<Handle = Handle> + Drop> Parser<Handle, Sink> 
         }
         self.failed = true;
         let piece = String::from_str(self.alloc, text)?;
-        self.input_buffer.push_back(piece)?;
+        self.failed = false;
+        self.process_owned(piece)
+    }
+
+    /// Takes the next piece of the text as `process` does, but as a text of its own, which isn't copied where
+    /// nothing waits.
+    ///
+    /// It answers `Memory` where memory is refused, and `Failed` after that; then nothing has changed.
+    pub fn process_owned(&mut self, text: String) -> Result<(), BuildFault>
+        ensures takes { OnOk result (Processed Sink.choices Sink.sees Sink.node (string_bytes text) self.old self.new) }
+        ensures works { OnOk result (self.new.failed ≡ false) }
+        ensures failed { self.old.failed ≡ true → (result ≡ Err BuildFault.Failed) × (self.new ≡ self.old) }
+        ensures memory { self.old.failed ≡ false → OnErr result (result ≡ Err BuildFault.Memory) }
+        ensures fails { OnErr result (self.new.failed ≡ true) }
+    {
+        if self.failed {
+            return Err(BuildFault::Failed);
+        }
+        self.failed = true;
+        self.input_buffer.push_back(text)?;
         feed_all(&mut self.tokenizer, &mut self.input_buffer)?;
         self.failed = false;
         Ok(())
@@ -206,8 +225,22 @@ impl<Handle: Drop, Sink: TreeSink<Handle = Handle> + Drop> Parser<Handle, Sink> 
         if self.failed {
             return Err(BuildFault::Failed);
         }
+        let piece = String::from_str(self.alloc, text)?;
+        self.one_owned(piece)
+    }
+
+    /// Takes a whole text of its own, and its end: `process_owned`, and `finish`. The text isn't copied where nothing
+    /// waits.
+    pub fn one_owned(self, text: String) -> Result<Sink::Output, BuildFault>
+        ensures parses { IfOk result (λ output. Parses Sink.choices self.reader.place (view_of Sink.sees Sink.node self) ((self.reader.held ++ self.waiting) ++ string_bytes text) (Sink.told output)) }
+        ensures failed { self.failed ≡ true → result ≡ Err BuildFault.Failed }
+        ensures memory { self.failed ≡ false → OnErr result (result ≡ Err BuildFault.Memory) }
+    {
+        if self.failed {
+            return Err(BuildFault::Failed);
+        }
         let mut parser = self;
-        parser.process(text)?;
+        parser.process_owned(text)?;
         parser.finish()
     }
 

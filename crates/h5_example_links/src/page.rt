@@ -2,8 +2,10 @@
 ghost use Rattle.std.specs.Prelude.{◌≡◌, None, IfOk, OnOk};
 ghost use Rattle.h5_serialize.specs.Walk.{after_each};
 ghost use Rattle.h5_serialize.specs.declared.options.TraversalScope.TheVariants.{ChildrenOnly};
-ghost use Rattle.h5_arena.specs.ArenaModel.{forest_seen};
+ghost use Rattle.h5_arena.specs.ArenaModel.{arena_choices, forest_seen, new_arena, seen_of};
 ghost use Rattle.h5_arena.specs.NodeCalls.{walk_of};
+ghost use Rattle.h5_driver.specs.Options.{default_options};
+ghost use Rattle.h5_driver.specs.Texts.{ParsesDocument};
 ghost use Rattle.h5_example_links.specs.Links.{after_call, kept, link_texts};
 ghost use Rattle.h5_example_links.specs.Page.{AreLinksOf};
 
@@ -29,12 +31,20 @@ fn take_calls(links: &mut Links, arena: &Arena) -> Result<(), SerializeFault>
     Ok(())
 }
 
+// The tree of a page.
+fn tree_of(alloc: Global, page: &str) -> Result<Arena, AllocError>
+    ensures { IfOk result (λ arena. ParsesDocument arena_choices (seen_of new_arena) default_options page.now (seen_of arena)) }
+{
+    let parser = parse_document(alloc, Arena::new(alloc)?, ParseOpts::default());
+    let arena = parser.one(page).map_err(refused)?;
+    Ok(arena)
+}
+
 /// The links of a page, in its order. An `AllocError` where memory is refused.
 pub fn links_of_page(alloc: Global, page: &str) -> Result<Vec<Link>, AllocError>
     ensures { IfOk result (λ links. AreLinksOf page.now (link_texts links.items)) }
 {
-    let parser = parse_document(alloc, Arena::new(alloc)?, ParseOpts::default());
-    let arena = parser.one(page).map_err(refused)?;
+    let arena = tree_of(alloc, page)?;
     let mut links = Links::new(alloc);
     take_calls(&mut links, &arena).map_err(refused)?;
     let list = links.into_list()?;

@@ -17,3 +17,4 @@ pub mod DeedLaws
 pub mod CutLaws
 pub mod WholeLaws
 pub mod KeptLaws
+pub mod BareLaws

@@ -57,7 +57,7 @@ plain_bits {mode} {last} foreign (x ∷ xs) (suc n) le h =
     more_bits (x ∷ []) (front_no mode last foreign (x ∷ xs) (plain_opening mode last foreign x xs (plain x (h 0 (omega arith)))))
     (plain_bits true xs n (omega arith) (λ k lt. h (suc k) (omega arith)))
 
-some_plain : {mode : Mode} {last : List ℕ} (foreign : Bool) (xs rest old new : List ℕ) (n : ℕ) → 0 < n → n ≤ length xs → ((k : ℕ) → k < n → is_plain (get_or xs k 0) ≡ true) → new ≡ old ++ take n xs → rest ≡ drop n xs → TakesBits mode last foreign xs rest old new
+pub some_plain : {mode : Mode} {last : List ℕ} (foreign : Bool) (xs rest old new : List ℕ) (n : ℕ) → 0 < n → n ≤ length xs → ((k : ℕ) → k < n → is_plain (get_or xs k 0) ≡ true) → new ≡ old ++ take n xs → rest ≡ drop n xs → TakesBits mode last foreign xs rest old new
 some_plain foreign xs rest old new n some le h e f = record {
   text = take n xs;
   bits = rw f (plain_bits foreign xs n le h);

@@ -10,3 +10,4 @@ pub mod Options
 pub mod Proper
 pub mod Lines
 pub mod Whole
+pub mod Bare

@@ -1,6 +1,7 @@
 //! The plain reader: from text to tokens, for every taker of tokens.
 #![tactic(auto)]
 
+mod bare;
 mod buffer;
 mod ending;
 mod front;

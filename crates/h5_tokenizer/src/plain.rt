@@ -1,5 +1,5 @@
 //! Text, up to what is more than that.
-ghost use Rattle.std.specs.Prelude.{◌≡◌, List, ℕ, Bool, true, IfOk, ◌<◌, length};
+ghost use Rattle.std.specs.Prelude.{◌≡◌, List, [], ℕ, Bool, true, IfOk, IfSome, ◌<◌, length};
 ghost use Rattle.std.specs.String.{string_bytes};
 ghost use Rattle.std.specs.Option.{option_copied};
 ghost use Rattle.h5_scan.specs.Matching as m;
@@ -24,6 +24,20 @@ pub fn take_plain<'a>(text: &'a str, out: &mut String) -> Result<&'a str, AllocE
     let (front, rest) = text.split_at(n);
     out.push_str(front)?;
     Ok(rest)
+}
+
+/// The plain text at the front and what follows it, where there is some.
+#[inline(always)]
+pub fn cut_plain<'a>(text: &'a str) -> Option<(&'a str, &'a str)>
+    ensures { IfSome result (λ cut. (mode : Mode) (last : List ℕ) (foreign : Bool)
+        → TakesBits mode last foreign text.now cut.1.now [] cut.0.now) }
+{
+    let n = plain_len(text);
+    if n == 0 {
+        return None;
+    }
+    let (front, rest) = text.split_at(n);
+    Some((front, rest))
 }
 
 // Takes text where the search found nothing but text.

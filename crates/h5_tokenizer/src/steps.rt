@@ -8,8 +8,9 @@ ghost use Rattle.h5_tokenizer.specs.Read.{chosen_mode};
 ghost use Rattle.h5_tokenizer.specs.Steps.{place_of, Asks, AnswersAs, HandsOn, Makes, Pending, TakesBits, turn_of};
 ghost use Rattle.h5_token.specs.Reply.{reply};
 
+use super::bare::{find_bare, make_bare};
 use super::front::{Construct, Mode, Opening, find_opening};
-use super::plain::{take_plain, take_texts};
+use super::plain::{cut_plain, take_plain, take_texts};
 use super::state::{Search, State, Stop, Turn};
 use super::tokens::make_token;
 use h5_scan::{Inside, Seen, Sought, seek_end};
@@ -207,8 +208,8 @@ fn resumed(search: Option<Search>, foreign: bool, construct: Construct) -> Searc
     }
 }
 
-/// One step, unless what follows decides the front. The line stays as it is.
-pub fn step<'a, S: TokenSink>(
+// A step, whatever stands at the front.
+fn any_step<'a, S: TokenSink>(
     sink: &mut S,
     state: &mut State,
     alloc: Global,
@@ -220,9 +221,6 @@ pub fn step<'a, S: TokenSink>(
     ensures { Makes S.reply_to S.after S.is_foreign S.node (place_of state.old) (S.meaning sink.old) rest.now
         (place_of state.new) (S.meaning sink.new) result }
 {
-    if rest.is_empty() {
-        return Ok(Turn::Waits(None));
-    }
     let foreign = sink.adjusted_current_node_present_but_not_in_html_namespace();
     match find_opening(state.mode, state.last.as_str(), foreign, rest) {
         Seen::Open => Ok(Turn::Waits(None)),
@@ -247,4 +245,31 @@ pub fn step<'a, S: TokenSink>(
             }
         },
     }
+}
+
+/// One step, unless what follows decides the front. The line stays as it is.
+pub fn step<'a, S: TokenSink>(
+    sink: &mut S,
+    state: &mut State,
+    alloc: Global,
+    rest: &'a str,
+    search: Option<Search>,
+) -> Result<Turn<'a, S::Handle>, BuildFault>
+    requires started { state.old.at_start ≡ false }
+    requires pending { Pending search state.old.mode (string_bytes state.old.last) rest.now }
+    ensures { Makes S.reply_to S.after S.is_foreign S.node (place_of state.old) (S.meaning sink.old) rest.now
+        (place_of state.new) (S.meaning sink.new) result }
+{
+    if rest.is_empty() {
+        return Ok(Turn::Waits(None));
+    }
+    if let Some((kind, name, after)) = find_bare(state.mode, search, rest) {
+        let token = make_bare(alloc, kind, name)?;
+        return token_step(sink, state, rest, after, token);
+    }
+    if let Some((front, after)) = cut_plain(rest) {
+        let text = String::from_str(alloc, front)?;
+        return text_step(sink, state, rest, after, text);
+    }
+    any_step(sink, state, alloc, rest, search)
 }

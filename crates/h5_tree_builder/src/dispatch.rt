@@ -31,6 +31,7 @@ use h5_types::{InsertionMode, ProcessResult, Token};
 use std::alloc::AllocError;
 
 // One turn, by the rule of the mode.
+#[inline(always)]
 fn step_by_mode<S: TreeSink>(
     sink: &mut S,
     state: &mut State<S::Handle>,
@@ -66,6 +67,7 @@ fn step_by_mode<S: TreeSink>(
 }
 
 // One turn: by the rules of foreign content, or by the rule of the mode.
+#[inline(always)]
 fn step<S: TreeSink>(sink: &mut S, state: &mut State<S::Handle>, token: Token) -> Turn<S::Handle>
     requires ready { IsReady S.TreeSink sink.old state.old }
     requires text { HasText (turn_text token) }

@@ -17,6 +17,7 @@ use std::alloc::AllocError;
 
 // The newline flag, which is taken.
 #[tactic(auto, unfolding(h5_state::specs::View::world, h5_meaning::specs::World::names_of))]
+#[inline(always)]
 fn take_lf<S: TreeSink>(sink: &S, state: &mut State<S::Handle>) -> bool
     ensures flag { result ≡ (world_of S.TreeSink sink.now state.old).ignore_lf }
     ensures done { world_of S.TreeSink sink.now state.new ≡ taken (world_of S.TreeSink sink.now state.old) }
@@ -29,6 +30,7 @@ fn take_lf<S: TreeSink>(sink: &S, state: &mut State<S::Handle>) -> bool
 
 // The sink is told of the line of a token that didn't begin in the first.
 #[tactic(auto, unfolding(h5_state::specs::View::world, h5_meaning::specs::World::names_of))]
+#[inline(always)]
 pub fn note_line<S: TreeSink>(sink: &mut S, state: &State<S::Handle>, line_number: u64)
     ensures done { world_of S.TreeSink sink.new state.now ≡ world_of S.TreeSink sink.old state.now }
     ensures quiet { errors_of S.TreeSink sink.new ≡ errors_of S.TreeSink sink.old }
@@ -41,6 +43,7 @@ pub fn note_line<S: TreeSink>(sink: &mut S, state: &State<S::Handle>, line_numbe
 
 /// A token that isn't refused. It gives how many turns it took and what is answered, or an `AllocError` where
 /// memory is refused; what was built so far is sound then.
+#[inline(always)]
 pub fn take_token<S: TreeSink>(
     sink: &mut S,
     state: &mut State<S::Handle>,

@@ -18,6 +18,7 @@ fn is_refused_in_text(token: &Token) -> bool
 }
 
 /// Whether a token is refused in a mode: in a text a start tag, a comment and a null are.
+#[inline(always)]
 pub fn refuses_in(mode: InsertionMode, token: &Token) -> bool
     ensures { result ≡ refuses_in mode (token_text token.now) }
 {

@@ -36,6 +36,7 @@ fn next_run<S: TreeSink>(sink: &S, state: &State<S::Handle>, text: &str) -> (Spl
 }
 
 // The chain of a run.
+#[inline(always)]
 fn settle_run<S: TreeSink>(
     sink: &mut S,
     state: &mut State<S::Handle>,
@@ -80,6 +81,7 @@ fn process_runs<S: TreeSink>(
 }
 
 // A text: its runs in turn, and where it is one run it is moved. It gives the turns of all of them.
+#[inline(always)]
 fn process_text<S: TreeSink>(
     sink: &mut S,
     state: &mut State<S::Handle>,
@@ -105,6 +107,7 @@ fn process_text<S: TreeSink>(
 }
 
 // A text without its first newline, where that is to be dropped.
+#[inline(always)]
 fn drop_lf(ignore_lf: bool, text: String) -> String
     ensures { string_bytes result ≡ without_lf ignore_lf (string_bytes text) }
 {
@@ -117,6 +120,7 @@ fn drop_lf(ignore_lf: bool, text: String) -> String
 
 /// A text that comes as a token: it loses one newline where one is to be dropped. It gives the turns of all its
 /// runs, or an `AllocError` where memory is refused.
+#[inline(always)]
 pub fn take_text<S: TreeSink>(
     sink: &mut S,
     state: &mut State<S::Handle>,

@@ -8,7 +8,7 @@ use Rattle.h5_arena.proofs.makes.push_template.Goals as goal
 
 pub returns-in-Ok-clause-ok : goal.returns-in-Ok-clause-ok
 returns-in-Ok-clause-ok c =
-    ap forest_in (c.in-Ok.ensures.items ∙ ap (λ xs. xs ++ (record c.bare_node-contents.result { parent = Some (record { index = c.len-index.result }) }) ∷ []) c.in_ok-push.ensures.items)
+    ap forest_in (c.in-Ok.ensures.items ∙ ap (λ xs. xs ++ (record c.in_ok-contents.contents { parent = Some (record { index = c.len-index.result }) }) ∷ []) c.in_ok-push.ensures.items)
     ∙ template_is c.args.nodes.now.items _ _ (node_view c.args.template) _ (omega arith)
     (ap (λ k. record (node_view c.args.template) { contents = Some (k + 1) }) c.len-index.ensures)
-    (ap {A = Node} (λ v. record v { parent = Some c.len-index.result }) c.bare_node-contents.ensures ∙ ap (λ k. record (plain FragmentNode) { parent = Some k }) c.len-index.ensures)
+    (ap {A = Node} (λ v. record v { parent = Some c.len-index.result }) c.in_ok-contents.ensures ∙ ap (λ k. record (plain FragmentNode) { parent = Some k }) c.len-index.ensures)

@@ -14,6 +14,6 @@ returns c =
     let taken : kept c.take_calls.new.links ≡ after_each after_call (kept c.new-links.result) walk = search rules in
     record {
       arena = arena;
-      parsed = search rules;
+      parsed = c.in_ok-arena.ensures;
       are_all = c.in_ok-list.ensures ∙ kept_links (kept c.take_calls.new.links) walk (taken ∙ ap (λ k. after_each after_call k walk) c.new-links.ensures);
     }

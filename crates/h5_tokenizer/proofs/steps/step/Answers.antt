@@ -1,35 +1,8 @@
 use Rattle.std.proofs.Common.{string_bytes}
-use Rattle.h5_scan.specs.Matching.{Found, No}
-use Rattle.h5_tokenizer.specs.Front.{Gives, Turns}
-use Rattle.h5_tokenizer.specs.Steps.{place_of}
-use Rattle.h5_tokenizer.proofs.StepLaws.{switch_moves, opening_at}
-use Rattle.h5_tokenizer.proofs.PlainLaws.{takes_bit}
 use Rattle.h5_tokenizer.proofs.steps.step.Goals as goal
 
 pub text_step-requires-clause-begun : goal.text_step-requires-clause-begun
 text_step-requires-clause-begun g c =
     let S = g.S.TokenSink in
     let state = c.args.state.now in
-    let foreign = S.is_foreign (S.meaning c.args.sink.now) in
-    rw c.new-text.ensures.bytes at
-    (c.in_ok-after-in-No.ensures state.mode (string_bytes state.last) foreign
-    (opening_at state.mode (string_bytes state.last) _ _ foreign c.args.rest.now No c.in-No.ensures c.as_str.ensures.value c.adjusted_current_node_present_but_not_in_html_namespace-foreign.ensures))
-
-pub text_step-requires-in-Gives-clause-begun : goal.text_step-requires-in-Gives-clause-begun
-text_step-requires-in-Gives-clause-begun g c =
-    let S = g.S.TokenSink in
-    let state = c.args.state.now in
-    let foreign = S.is_foreign (S.meaning c.args.sink.now) in
-    let found = rw c.in-Gives.is at c.in-Found.ensures in
-    takes_bit {mode = state.mode} {last = string_bytes state.last} foreign c.args.rest.now c.in-Found.after.now c.in-Gives.bit.now _ _
-    (opening_at state.mode (string_bytes state.last) _ _ foreign c.args.rest.now (Found (Gives c.in-Gives.bit.now) c.in-Found.after.now) found c.as_str.ensures.value c.adjusted_current_node_present_but_not_in_html_namespace-foreign.ensures)
-    c.in_ok-text-in-Gives.ensures.ok
-
-pub returns-in-Turns : goal.returns-in-Turns
-returns-in-Turns g c =
-    let S = g.S.TokenSink in
-    let state = c.args.state.now in
-    let foreign = S.is_foreign (S.meaning c.args.sink.now) in
-    let found = rw c.in-Turns.is at c.in-Found.ensures in
-    switch_moves S.reply_to S.after S.is_foreign (place_of state) (S.meaning c.args.sink.now) c.args.rest.now c.in-Found.after.now c.in-Turns.mode c.requires.started
-    (opening_at state.mode (string_bytes state.last) _ _ foreign c.args.rest.now (Found (Turns c.in-Turns.mode) c.in-Found.after.now) found c.as_str.ensures.value c.adjusted_current_node_present_but_not_in_html_namespace-foreign.ensures)
+    rw c.in_ok-text.ensures.ok (c.in-Some-cut_plain.ensures state.mode (string_bytes state.last) (S.is_foreign (S.meaning c.args.sink.now)))

@@ -3,12 +3,3 @@ use Rattle.h5_driver.proofs.parser.Parser.process.Goals as goal
 
 pub returns-in_err-piece-clause-fails : goal.returns-in_err-piece-clause-fails
 returns-in_err-piece-clause-fails g c = search rules
-
-pub returns-in_err-push_back-clause-fails : goal.returns-in_err-push_back-clause-fails
-returns-in_err-push_back-clause-fails g c = search rules
-
-pub returns-in_err-feed_all-clause-fails : goal.returns-in_err-feed_all-clause-fails
-returns-in_err-feed_all-clause-fails g c = search rules
-
-pub returns-clause-takes : goal.returns-clause-takes
-returns-clause-takes g c = search rules

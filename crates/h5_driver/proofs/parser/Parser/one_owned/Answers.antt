@@ -1,0 +1,18 @@
+use Rattle.std.proofs.Common.{◌++◌, string_bytes}
+use Rattle.h5_driver.specs.Parsing.{view_of}
+use Rattle.h5_driver.proofs.ReadingLaws.{nothing_read_yet, piece_taken, told_behind}
+use Rattle.h5_driver.proofs.parser.Parser.one_owned.Goals as goal
+
+pub returns-clause-parses : goal.returns-clause-parses
+returns-clause-parses g c =
+    let k = g.Sink.TreeSink.choices in
+    let sees = g.Sink.TreeSink.sees in
+    let node = g.Sink.TreeSink.node in
+    let first = c.args.self in
+    let now = c.process_owned.new.self in
+    let base = first.reader.held ++ first.waiting in
+    let took = c.in_ok-process_owned.ensures.takes in
+    told_behind k g.Sink.TreeSink.told first.reader.place now.reader.place (view_of sees node first) (view_of sees node now) (base ++ string_bytes c.args.text) (now.reader.held ++ now.waiting) took.worked
+    (piece_taken k first.reader.place first.reader.place now.reader.place (view_of sees node first) (view_of sees node first) (view_of sees node now) base first.reader.held first.waiting (string_bytes c.args.text) now.reader.held now.waiting
+    (nothing_read_yet k first.reader.place (view_of sees node first) base) took.takes took.none_waits)
+    c.finish.result c.finish.ensures.parses

@@ -1,0 +1,127 @@
+-- Tags that are nothing but their names.
+use Rattle.std.proofs.Common.{◌≡◌, ℕ, zero, suc, ◌<◌, ◌+◌, ◌&&◌, Bool, true, false, List, [], ◌∷◌, eqb, length, take, drop, get_or, refl, sym, ap, ◌∙◌, subst, arith, zero-le}
+use Rattle.std.proofs.lemmas.Bool.Decides.{nat_tests}
+use Rattle.std.specs.Char.{is_ascii_alphabetic, to_ascii_lowercase}
+use Rattle.h5_token.specs.TokenText.{TokenText, TagIs}
+use Rattle.h5_token.specs.declared.tag.TagKind.TheVariants as kind
+use Rattle.h5_scan.specs.Matching.{Found}
+use Rattle.h5_scan.specs.Cuts.{is_in, before, from}
+use Rattle.h5_scan.specs.Ending.{ends, up_to_end, place_after}
+use Rattle.h5_scan.specs.declared.cut.Class.TheVariants.{NameEnd}
+use Rattle.h5_scan.specs.declared.ending.Inside.TheVariants.{TagName}
+use Rattle.h5_scan.proofs.Endings.{sought_end}
+use Rattle.h5_scan.proofs.Staying.{walk_stays, in_tag_name}
+use Rattle.h5_constructs.specs.Text.{name_of}
+use Rattle.h5_constructs.specs.Attributes.{attributes_of, distinct, has_duplicates}
+use Rattle.h5_tokenizer.specs.Bare.{bare_tag, IsBare, BeginsBare}
+use Rattle.h5_tokenizer.specs.Tokens.{is_between, is_self_closing, last_is, start_tag, end_tag}
+use Rattle.h5_tokenizer.specs.Front.{Begins, Whole, in_data}
+use Rattle.h5_tokenizer.specs.declared.front.Mode.TheVariants.{Data}
+use Rattle.h5_tokenizer.specs.declared.front.Construct.TheVariants.{StartTag, EndTag}
+use Rattle.h5_tokenizer.proofs.StepLaws.{front_concluded}
+
+all_before : (stop : ℕ → Bool) (xs : List ℕ) (n : ℕ) → ((k : ℕ) → k < n → stop (get_or xs k 0) ≡ false) → before stop (take n xs) ≡ take n xs
+all_before stop xs zero h = refl
+all_before stop [] (suc n) h = refl
+all_before stop (x ∷ xs) (suc n) h = rw (h 0 (omega arith)) (ap (λ l. x ∷ l) (all_before stop xs n (λ k lt. h (suc k) (omega arith))))
+
+none_from : (stop : ℕ → Bool) (xs : List ℕ) (n : ℕ) → ((k : ℕ) → k < n → stop (get_or xs k 0) ≡ false) → from stop (take n xs) ≡ []
+none_from stop xs zero h = refl
+none_from stop [] (suc n) h = refl
+none_from stop (x ∷ xs) (suc n) h = rw (h 0 (omega arith)) (none_from stop xs n (λ k lt. h (suc k) (omega arith)))
+
+-- a name, by the index of the '>' behind it
+pub bare_by : (xs name behind rest : List ℕ) (n : ℕ) → n < length xs → ((k : ℕ) → k < n → is_in NameEnd (get_or xs k 0) ≡ false) → is_ascii_alphabetic (get_or xs 0 0) ≡ true → get_or xs n 0 ≡ 62 → name ≡ take n xs → behind ≡ drop n xs → rest ≡ drop 1 behind → IsBare xs name rest
+bare_by xs name behind rest n lt passed letter ended e f g =
+    let same : 0 + n ≡ n = omega arith in
+    let Ends : ℕ → Type 0 = λ k. (up_to_end TagName xs ≡ Found (take k xs) (drop 1 (drop k xs))) × (place_after TagName (take k xs) ≡ TagName) in
+    let found : Ends n = subst Ends same
+    (sought_end TagName TagName TagName xs 0 n zero-le lt refl (walk_stays TagName (is_in NameEnd) xs n in_tag_name passed) (ap (ends TagName) ended)) in
+    record {
+      some = omega arith;
+      letter = letter;
+      end = found.0 ∙ (λ i. Found (sym e i) (sym (g ∙ ap (drop 1) f) i));
+      place = ap (place_after TagName) e ∙ found.1;
+      all = ap (before (is_in NameEnd)) e ∙ all_before (is_in NameEnd) xs n passed ∙ sym e;
+      no_more = ap (from (is_in NameEnd)) e ∙ none_from (is_in NameEnd) xs n passed;
+    }
+
+never : (b : Bool) → (b && false) ≡ false
+never true = refl
+never false = refl
+
+no_attributes : attributes_of [] ≡ []
+unfolding attributes_of
+no_attributes = refl
+
+abbrev made : List ℕ → List ℕ → Bool → TokenText
+made front behind closing = TagIs (record {
+  kind = kind.StartTag;
+  name = name_of front;
+  self_closing = closing;
+  attrs = distinct [] (attributes_of behind);
+  had_duplicate_attributes = has_duplicates (attributes_of behind);
+})
+
+start_is : (xs name rest : List ℕ) → IsBare xs name rest → start_tag name ≡ bare_tag kind.StartTag name
+start_is xs name rest h =
+    let open_tag : is_self_closing name ≡ false = ap (λ place. last_is 47 name && is_between place) h.place ∙ never (last_is 47 name) in
+    (λ i. made (h.all i) (h.no_more i) (open_tag i)) ∙ ap (λ l. TagIs (record {
+      kind = kind.StartTag;
+      name = name_of name;
+      self_closing = false;
+      attrs = distinct [] l;
+      had_duplicate_attributes = has_duplicates l;
+    })) no_attributes
+
+end_is : (xs name rest : List ℕ) → IsBare xs name rest → end_tag name ≡ bare_tag kind.EndTag name
+end_is xs name rest h = ap (bare_tag kind.EndTag) h.all
+
+-- a byte that is no '!' and no '/'
+record Letter (x : ℕ) : Type 0 where
+  bang : eqb x 33 ≡ false
+  low : eqb (to_ascii_lowercase x) 33 ≡ false
+  slash : eqb x 47 ≡ false
+
+letter_not : (x n : ℕ) → n < 65 → is_ascii_alphabetic x ≡ true → eqb x n ≡ false
+letter_not x n lt h = grind (arith, nat_tests)
+
+low_not : (x : ℕ) → is_ascii_alphabetic x ≡ true → eqb (to_ascii_lowercase x) 33 ≡ false
+low_not x h = grind (arith, nat_tests)
+
+letter : (x : ℕ) → is_ascii_alphabetic x ≡ true → Letter x
+letter x h = record { bang = letter_not x 33 (omega arith) h; low = low_not x h; slash = letter_not x 47 (omega arith) h }
+
+start_begins : (foreign : Bool) (xs inner : List ℕ) → 0 < length xs → get_or xs 0 0 ≡ 60 → inner ≡ drop 1 xs → 0 < length inner → is_ascii_alphabetic (get_or inner 0 0) ≡ true → in_data foreign xs ≡ Found (Begins StartTag) inner
+start_begins foreign [] inner some e f more h = absurd (omega arith)
+start_begins foreign (y ∷ []) inner some e f more h = absurd (omega (arith, ap length f))
+start_begins true (y ∷ x ∷ xs) inner some e f more h =
+    let a : is_ascii_alphabetic x ≡ true = ap (λ l. is_ascii_alphabetic (get_or l 0 0)) (sym f) ∙ h in
+    let p = letter x a in
+    rw (e, f) (simp (p.bang, p.low, p.slash, a))
+start_begins false (y ∷ x ∷ xs) inner some e f more h =
+    let a : is_ascii_alphabetic x ≡ true = ap (λ l. is_ascii_alphabetic (get_or l 0 0)) (sym f) ∙ h in
+    let p = letter x a in
+    rw (e, f) (simp (p.bang, p.low, p.slash, a))
+
+end_begins : (foreign : Bool) (xs inner : List ℕ) → 1 < length xs → get_or xs 0 0 ≡ 60 → get_or xs 1 0 ≡ 47 → inner ≡ drop 2 xs → 0 < length inner → is_ascii_alphabetic (get_or inner 0 0) ≡ true → in_data foreign xs ≡ Found (Begins EndTag) inner
+end_begins foreign [] inner some e g f more h = absurd (omega arith)
+end_begins foreign (y ∷ []) inner some e g f more h = absurd (omega arith)
+end_begins foreign (y ∷ z ∷ []) inner some e g f more h = absurd (omega (arith, ap length f))
+end_begins true (y ∷ z ∷ x ∷ xs) inner some e g f more h =
+    let a : is_ascii_alphabetic x ≡ true = ap (λ l. is_ascii_alphabetic (get_or l 0 0)) (sym f) ∙ h in
+    rw (e, g, f) (simp a)
+end_begins false (y ∷ z ∷ x ∷ xs) inner some e g f more h =
+    let a : is_ascii_alphabetic x ≡ true = ap (λ l. is_ascii_alphabetic (get_or l 0 0)) (sym f) ∙ h in
+    rw (e, g, f) (simp a)
+
+-- such a tag is at the front
+pub begins_start : (xs inner name rest : List ℕ) → 0 < length xs → get_or xs 0 0 ≡ 60 → inner ≡ drop 1 xs → IsBare inner name rest → BeginsBare Data xs kind.StartTag name rest
+begins_start xs inner name rest some e f h = λ last foreign.
+    front_concluded Data last foreign xs inner name rest StartTag (start_begins foreign xs inner some e f h.some h.letter) h.end
+    ∙ ap (λ t. Found (Whole t) rest) (start_is inner name rest h)
+
+pub begins_end : (xs inner name rest : List ℕ) → 1 < length xs → get_or xs 0 0 ≡ 60 → get_or xs 1 0 ≡ 47 → inner ≡ drop 2 xs → IsBare inner name rest → BeginsBare Data xs kind.EndTag name rest
+begins_end xs inner name rest some e g f h = λ last foreign.
+    front_concluded Data last foreign xs inner name rest EndTag (end_begins foreign xs inner some e g f h.some h.letter) h.end
+    ∙ ap (λ t. Found (Whole t) rest) (end_is inner name rest h)

@@ -1,0 +1,98 @@
+//! Tags that are nothing but their names. Most tags are.
+ghost use Rattle.std.specs.Prelude.{◌≡◌, ◌<◌, ℕ, false, true, length, slice_index, IfSome, IfOk};
+ghost use Rattle.std.specs.Char.{is_ascii_alphabetic};
+ghost use Rattle.h5_token.specs.TokenText.{token_text};
+ghost use Rattle.h5_scan.specs.Cuts.{is_in};
+ghost use Rattle.h5_tokenizer.specs.Bare.{bare_tag, BeginsBare, IsBare};
+
+use super::front::Mode;
+use super::state::Search;
+use h5_constructs::make_name;
+use h5_scan::Class;
+use h5_token::{Tag, TagKind, Token};
+use std::alloc::{AllocError, Global};
+
+// Whether a byte may stand in such a name: a letter, or behind the first byte a digit.
+fn is_name_byte(b: u8, first: bool) -> bool
+    ensures name { result ≡ true → is_in Class.NameEnd b ≡ false }
+    ensures first { first ≡ true → result ≡ is_ascii_alphabetic b }
+{
+    b.is_ascii_alphabetic() || (!first && b.is_ascii_digit())
+}
+
+// The length of a name of letters and digits that a `>` follows, or 0 where there is none.
+fn bare_name(bytes: &[u8]) -> usize
+    ensures within { 0 < result → result < length bytes.now }
+    ensures passed { (k : ℕ) → k < result → is_in Class.NameEnd (slice_index bytes.now k) ≡ false }
+    ensures starts { 0 < result → is_ascii_alphabetic (slice_index bytes.now 0) ≡ true }
+    ensures ends { 0 < result → slice_index bytes.now result ≡ 62 }
+{
+    for (i, b) in bytes.iter().enumerate() {
+        if !is_name_byte(*b, i == 0) {
+            return if *b == b'>' { i } else { 0 };
+        }
+    }
+    0
+}
+
+// The tag behind its opening.
+fn cut_bare<'a>(kind: TagKind, text: &'a str) -> Option<(TagKind, &'a str, &'a str)>
+    ensures { IfSome result (λ tag. (tag.0 ≡ kind) × IsBare text.now tag.1.now tag.2.now) }
+{
+    let n = bare_name(text.as_bytes());
+    if n == 0 {
+        return None;
+    }
+    let (name, behind) = text.split_at(n);
+    let (_, rest) = behind.split_at(1);
+    Some((kind, name, rest))
+}
+
+// The tag, in the state "data".
+#[inline(always)]
+fn bare_in_data<'a>(text: &'a str) -> Option<(TagKind, &'a str, &'a str)>
+    ensures { IfSome result (λ tag. BeginsBare Mode.Data text.now tag.0 tag.1.now tag.2.now) }
+{
+    let bytes = text.as_bytes();
+    if bytes.len() < 2 || bytes[0] != b'<' {
+        return None;
+    }
+    if bytes[1] == b'/' {
+        let (_, inner) = text.split_at(2);
+        return cut_bare(TagKind::EndTag, inner);
+    }
+    let (_, inner) = text.split_at(1);
+    cut_bare(TagKind::StartTag, inner)
+}
+
+/// The kind and the name of the tag at the front, and what follows it, where it is nothing but its name and its end
+/// wasn't looked for before.
+#[inline(always)]
+pub fn find_bare<'a>(
+    mode: Mode,
+    search: Option<Search>,
+    text: &'a str,
+) -> Option<(TagKind, &'a str, &'a str)>
+    ensures { IfSome result (λ tag. BeginsBare mode text.now tag.0 tag.1.now tag.2.now) }
+{
+    if search.is_some() {
+        return None;
+    }
+    match mode {
+        Mode::Data => bare_in_data(text),
+        _ => None,
+    }
+}
+
+/// Such a tag, by its name.
+pub fn make_bare(alloc: Global, kind: TagKind, name: &str) -> Result<Token, AllocError>
+    ensures { IfOk result (λ token. token_text token ≡ bare_tag kind name.now) }
+{
+    Ok(Token::TagToken(Tag {
+        kind,
+        name: make_name(alloc, name)?,
+        self_closing: false,
+        attrs: Vec::new(alloc),
+        had_duplicate_attributes: false,
+    }))
+}
