@@ -1,13 +1,9 @@
 //! Texts that come in pieces: the trees are those of the whole texts.
-use super::foreign::FOREIGN;
 use super::parser::new_parser;
-use super::rows::{BODIES, FORMS, PAGES, TABLES, TEXTS, TREES, page_of};
-use super::running::prints;
-use super::templates::TEMPLATES;
 use h5_arena::Arena;
+use h5_pages::{BODIES, FOREIGN, FORMS, PAGES, TABLES, TEMPLATES, TEXTS, page_of};
 use h5_serialize::{SerializeFault, SerializeOpts, serialize};
 use std::alloc::{AllocError, Global};
-use std::fmt::Write;
 use std::test::Fail;
 
 /// The HTML of what an arena holds.
@@ -112,31 +108,5 @@ fn a_newline_in_two_pieces_is_one(rt: HostRuntime) -> Result<(), Fail> {
     let found = html_of(alloc, &arena)?;
     let html = "<html><head></head><body>a\nb</body></html>";
     assert_eq!(rt; found.as_slice(), html.as_bytes());
-    Ok(())
-}
-
-// A line, or a line for each character of the text that it says.
-fn write_line(lines: &mut String, line: &str) -> Result<(), AllocError> {
-    match line.strip_prefix("T ") {
-        Some(text) => {
-            for character in text.chars() {
-                writeln!(lines, "T {character}")?;
-            }
-            Ok(())
-        }
-        None => writeln!(lines, "{line}"),
-    }
-}
-
-#[test]
-fn tokens_whose_texts_are_single_characters(rt: HostRuntime) -> Result<(), Fail> {
-    let alloc = rt.alloc();
-    for (input, output) in TREES {
-        let mut lines = String::new(alloc);
-        for line in input.lines() {
-            write_line(&mut lines, line)?;
-        }
-        prints(&rt, alloc, "tokens", lines.as_str(), output)?;
-    }
     Ok(())
 }

@@ -1,6 +1,5 @@
-//! What stands in a `noscript`, where scripts don't run; and tokens that don't come in a text.
+//! What stands in a `noscript`, where scripts don't run.
 use super::cuts::html_of;
-use super::running::prints;
 use h5_arena::Arena;
 use h5_driver::{ParseOpts, parse_document};
 use h5_types::TreeBuilderOpts;
@@ -27,30 +26,6 @@ const PAGES: [(&str, &str); 4] = [
     ),
 ];
 
-// Lines of tokens, and the trees and answers of texts.
-const ANSWERS: [(&str, &str); 5] = [
-    (
-        "S title\nC x\nN\nT t\nE title\nX\nT u\n",
-        "<html>\n  <head>\n    <title>\n      \"t\"\nquirks: Quirks\n1 RawData(Rcdata)\n2 NotInText\n3 NotInText\n6 AfterEnd\n",
-    ),
-    (
-        "S script\nT x\nZ\n",
-        "<html>\n  <head>\n    <script>\n      \"x\"\n  <body>\nquirks: Quirks\n1 RawData(ScriptData)\n",
-    ),
-    (
-        "S script\nS b\nE script\nN\nC x\nZ\n",
-        "<html>\n  <head>\n    <script>\n  <body>\n    <!-- x -->\nquirks: Quirks\n1 RawData(ScriptData)\n2 NotInText\n3 Script\n",
-    ),
-    (
-        "S textarea\nN\nT \\nx\nE textarea\nN\nZ\n",
-        "<html>\n  <head>\n  <body>\n    <textarea>\n      \"x\"\nquirks: Quirks\n1 RawData(Rcdata)\n2 NotInText\n",
-    ),
-    (
-        "S plaintext\nC x\nZ\n",
-        "<html>\n  <head>\n  <body>\n    <plaintext>\n      <!-- x -->\nquirks: Quirks\n1 Plaintext\n",
-    ),
-];
-
 fn without_scripts() -> ParseOpts {
     ParseOpts {
         tree_builder: TreeBuilderOpts {
@@ -69,14 +44,6 @@ fn a_noscript_holds_elements_where_scripts_do_not_run(rt: HostRuntime) -> Result
         let arena = parser.one(text)?;
         let html = html_of(alloc, &arena)?;
         assert_eq!(rt; html.as_slice(), page.as_bytes());
-    }
-    Ok(())
-}
-
-#[test]
-fn tags_comments_and_nulls_are_refused_in_a_text(rt: HostRuntime) -> Result<(), Fail> {
-    for (input, output) in ANSWERS {
-        prints(&rt, rt.alloc(), "tokens", input, output)?;
     }
     Ok(())
 }

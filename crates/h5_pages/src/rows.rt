@@ -1,7 +1,7 @@
-//! Runs of the program on lines of tokens and on texts: what it prints, and how it ends.
-use super::running::{prints, runs};
+//! Lines of tokens, and texts of HTML.
+ghost use Rattle.std.specs.Prelude.{◌≡◌, ◌++◌, codes, IfOk, string_bytes};
+
 use std::alloc::{AllocError, Global};
-use std::test::Fail;
 
 /// Lines of tokens, and the trees that they make.
 pub const TREES: [(&str, &str); 9] = [
@@ -328,99 +328,9 @@ pub const TEXTS: [(&str, &str); 22] = [
     ),
 ];
 
-/// The HTML of a page whose body holds this.
-pub fn page_of(alloc: Global, body: &str) -> Result<String, AllocError> {
+/// The HTML of a page whose body holds this, or an `AllocError` where memory is refused.
+pub fn page_of(alloc: Global, body: &str) -> Result<String, AllocError>
+    ensures { IfOk result (λ page. string_bytes page ≡ (codes "<html><head></head><body>" ++ body.now) ++ codes "</body></html>") }
+{
     format!(in alloc; "<html><head></head><body>{body}</body></html>")
-}
-
-#[test]
-fn trees_of_few_tokens(rt: HostRuntime) -> Result<(), Fail> {
-    for (input, output) in TREES {
-        prints(&rt, rt.alloc(), "tokens", input, output)?;
-    }
-    Ok(())
-}
-
-#[test]
-fn tokens_after_the_end_are_refused(rt: HostRuntime) -> Result<(), Fail> {
-    prints(
-        &rt,
-        rt.alloc(),
-        "tokens",
-        "X\nD html\nZ\n",
-        "quirks: NoQuirks\n1 AfterEnd\n2 AfterEnd\n",
-    )?;
-    Ok(())
-}
-
-#[test]
-fn a_bad_line_is_named(rt: HostRuntime) -> Result<(), Fail> {
-    runs(
-        &rt,
-        rt.alloc(),
-        &["tokens"],
-        "Q x\n",
-        2,
-        "",
-        "h5: bad line 1\n",
-    )?;
-    Ok(())
-}
-
-#[test]
-fn html_of_a_text(rt: HostRuntime) -> Result<(), Fail> {
-    for (input, output) in PAGES {
-        prints(&rt, rt.alloc(), "html", input, output)?;
-    }
-    Ok(())
-}
-
-#[test]
-fn bodies_of_texts(rt: HostRuntime) -> Result<(), Fail> {
-    let alloc = rt.alloc();
-    for (input, body) in BODIES {
-        let page = page_of(alloc, body)?;
-        prints(&rt, alloc, "html", input, page.as_str())?;
-    }
-    Ok(())
-}
-
-#[test]
-fn bodies_of_texts_with_tables(rt: HostRuntime) -> Result<(), Fail> {
-    let alloc = rt.alloc();
-    for (input, body) in TABLES {
-        let page = page_of(alloc, body)?;
-        prints(&rt, alloc, "html", input, page.as_str())?;
-    }
-    Ok(())
-}
-
-#[test]
-fn bodies_of_texts_with_forms_and_lists(rt: HostRuntime) -> Result<(), Fail> {
-    let alloc = rt.alloc();
-    for (input, body) in FORMS {
-        let page = page_of(alloc, body)?;
-        prints(&rt, alloc, "html", input, page.as_str())?;
-    }
-    Ok(())
-}
-
-#[test]
-fn pages_of_texts_with_raw_texts(rt: HostRuntime) -> Result<(), Fail> {
-    for (input, output) in TEXTS {
-        prints(&rt, rt.alloc(), "html", input, output)?;
-    }
-    Ok(())
-}
-
-#[test]
-fn the_tree_of_a_text(rt: HostRuntime) -> Result<(), Fail> {
-    prints(
-        &rt,
-        rt.alloc(),
-        "tree",
-        "<p id=x>y",
-        "<html>\n  <head>\n  <body>\n    <p>\n      id=\"x\"\n      \"y\"\nquirks: Quirks\n",
-    )?;
-    Ok(())
 }
