@@ -16,7 +16,7 @@ use Rattle.h5_interface.specs.Seen.{Seen}
 use Rattle.h5_interface.specs.declared.marks.QuirksMode.{QuirksMode}
 use Rattle.h5_names.specs.AttributeText.{AttributeText}
 use Rattle.h5_arena.specs.declared.nodes.NodeData.{NodeData}
-use Rattle.h5_arena.specs.ArenaModel.{ArenaView, arena_choices, at_node, child_views, forest_in, forest_of, marks_at, name_of_kind, node_view, node_views, optional_place}
+use Rattle.h5_arena.specs.ArenaModel.{ArenaView, arena_choices, at_node, child_views, forest_in, forest_of, marks_at, name_of_kind, node_view, node_views, link_place}
 use Rattle.h5_arena.specs.declared.nodes.NodeId.{NodeId}
 use Rattle.h5_names.specs.declared.qualified.QualName.{QualName}
 
@@ -125,7 +125,7 @@ parent_within ns p c k e = node_exists ns p (k.inside p c e)
 pub child_within : (ns : List NodeData) (p c : ℕ) → parent_of (forest_in ns) c ≡ Some p → c < length ns
 child_within ns p c e = node_exists ns c (child_is_node (forest_in ns) c p e)
 
-pub parent_at : (ns : List NodeData) (c : ℕ) (d : NodeData) → c < length ns → d ≡ get_or ns c d → parent_of (forest_in ns) c ≡ optional_place d.parent
+pub parent_at : (ns : List NodeData) (c : ℕ) (d : NodeData) → c < length ns → d ≡ get_or ns c d → parent_of (forest_in ns) c ≡ link_place d.parent
 parent_at ns c d h e = rw (node_at ns c d h e) refl
 
 pub kind_at : (ns : List NodeData) (c : ℕ) (d : NodeData) → c < length ns → d ≡ get_or ns c d → kind_of (forest_in ns) c ≡ Some (node_view d).kind

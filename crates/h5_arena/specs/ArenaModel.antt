@@ -3,6 +3,7 @@ use Rattle.std.specs.Prelude.{◌<◌, ◌+◌, ℕ, ◌==◌, Bool, true, false
 use Rattle.std.specs.Option.{option_map, option_map_or}
 use Rattle.std.specs.Arc.{arc_value}
 use Rattle.std.specs.declared.alloc.Global.{Global}
+use Prim.Native.Nat.{zero, suc}
 use Rattle.std.proofs.Math.Nat.{le_refl}
 use Rattle.h5_names.specs.declared.qualified.QualName.{QualName}
 use Rattle.h5_names.specs.AttributeText.{attribute_texts}
@@ -12,6 +13,7 @@ use Rattle.h5_interface.specs.Forest as forest
 use Rattle.h5_interface.specs.Forest.{CommentNode, DoctypeNode, DocumentNode, ElementNode, Forest, FragmentNode, InstructionNode, IsForest, IsNode, Marks, Node}
 use Rattle.h5_interface.specs.Seen.{Seen, no_flags, no_marks, plain}
 use Rattle.h5_interface.specs.SinkChoices.{Rearranges, SinkChoices}
+use Rattle.h5_arena.specs.declared.link.Link.{Link}
 use Rattle.h5_arena.specs.declared.nodes.NodeData.{NodeData}
 use Rattle.h5_arena.specs.declared.nodes.NodeId.{NodeId}
 use Rattle.h5_arena.specs.declared.nodes.Kind.{Kind}
@@ -41,14 +43,22 @@ place id = id.index
 abbrev pub optional_place : Option NodeId → Option ℕ
 optional_place = option_map place
 
+-- the place that a link leads to
+abbrev pub place_before : ℕ → Option ℕ
+place_before zero = None
+place_before (suc n) = Some n
+
+abbrev pub link_place : Link → Option ℕ
+link_place link = place_before link.behind
+
 abbrev pub node_view : NodeData → Node
 node_view d = record {
   kind = kind_view (arc_value d.kind);
   attrs = attribute_texts d.attrs.items;
   children = child_views d.children.items;
-  contents = optional_place d.contents;
-  parent = optional_place d.parent;
-  marks = record { flags = d.flags; started = d.started; form = optional_place d.form };
+  contents = link_place d.contents;
+  parent = link_place d.parent;
+  marks = record { flags = d.flags; started = d.started; form = link_place d.form };
 }
 
 abbrev pub node_views : List NodeData → List Node

@@ -4,6 +4,7 @@
 mod attributes;
 mod children;
 pub mod laws;
+mod link;
 mod links;
 mod makes;
 mod moves;

@@ -5,6 +5,7 @@ ghost use Rattle.h5_interface.specs.Forest.{FragmentNode, IsForest, kind_of, par
 ghost use Rattle.h5_arena.specs.ArenaModel.{forest_in, node_views};
 
 use super::children;
+use super::link::Link;
 use super::nodes::{Child, NodeData, NodeId};
 use std::alloc::{AllocError, Global};
 use std::mem;
@@ -24,7 +25,7 @@ pub(crate) fn append_node(
     let node = &mut nodes[parent.index];
     children::add_child(&mut node.children, Child::Node(id))?;
     let moved = &mut nodes[id.index];
-    moved.parent = Some(parent);
+    moved.parent = Link::to(parent);
     Ok(())
 }
 
@@ -62,7 +63,7 @@ fn insert_node_below(
     let at = children::place_of(node.children.as_slice(), sibling.index);
     children::insert_node(&mut node.children, at, id)?;
     let placed = &mut nodes[id.index];
-    placed.parent = Some(parent);
+    placed.parent = Link::to(parent);
     Ok(())
 }
 
@@ -98,7 +99,7 @@ pub(crate) fn insert_node_before(
     ensures ok { OnOk result (forest_in nodes.new.items ≡ change.insert_node_before sibling.index id.index (forest_in nodes.old.items)) }
     ensures err { OnErr result (node_views nodes.new.items ≡ node_views nodes.old.items) }
 {
-    match nodes[sibling.index].parent {
+    match nodes[sibling.index].parent.node() {
         None => Ok(()),
         Some(parent) => {
             insert_node_below(nodes, parent, sibling, id)?;
@@ -119,7 +120,7 @@ pub(crate) fn insert_text_before(
     ensures ok { OnOk result (forest_in nodes.new.items ≡ change.insert_text_before sibling.index (string_bytes text) (forest_in nodes.old.items)) }
     ensures err { OnErr result (node_views nodes.new.items ≡ node_views nodes.old.items) }
 {
-    match nodes[sibling.index].parent {
+    match nodes[sibling.index].parent.node() {
         None => Ok(()),
         Some(parent) => {
             insert_text_below(nodes, parent, sibling, text)?;
@@ -139,7 +140,7 @@ fn detach_from(nodes: &mut Vec<NodeData>, parent: NodeId, id: NodeId) -> Result<
     let node = &mut nodes[parent.index];
     children::remove_node(&mut node.children, id)?;
     let moved = &mut nodes[id.index];
-    moved.parent = None;
+    moved.parent = Link::none();
     Ok(())
 }
 
@@ -151,7 +152,7 @@ pub(crate) fn detach(nodes: &mut Vec<NodeData>, id: NodeId) -> Result<(), AllocE
     ensures ok { OnOk result (forest_in nodes.new.items ≡ change.detach id.index (forest_in nodes.old.items)) }
     ensures err { OnErr result (node_views nodes.new.items ≡ node_views nodes.old.items) }
 {
-    match nodes[id.index].parent {
+    match nodes[id.index].parent.node() {
         None => Ok(()),
         Some(parent) => {
             detach_from(nodes, parent, id)?;

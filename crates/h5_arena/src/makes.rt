@@ -8,6 +8,7 @@ ghost use Rattle.h5_interface.specs.Forest.{ElementNode, IsForest};
 ghost use Rattle.h5_interface.specs.Seen.{element, make, make_contents, make_element, plain};
 ghost use Rattle.h5_arena.specs.ArenaModel.{arena_choices, forest_in, kind_view, node_view, node_views};
 
+use super::link::Link;
 use super::links;
 use super::nodes::{Kind, NodeData, NodeId};
 use super::shared::SharedKinds;
@@ -24,15 +25,15 @@ pub(crate) fn bare_node(alloc: Global, kind: Kind) -> Result<NodeData, AllocErro
         kind: Arc::new(alloc, kind)?,
         attrs: Vec::new(alloc),
         children: Vec::new(alloc),
-        contents: None,
-        parent: None,
+        contents: Link::none(),
+        parent: Link::none(),
         flags: ElementFlags {
             template: false,
             mathml_annotation_xml_integration_point: false,
             had_duplicate_attributes: false,
         },
         started: false,
-        form: None,
+        form: Link::none(),
     })
 }
 
@@ -49,11 +50,11 @@ fn bare_element(
         kind,
         attrs,
         children: Vec::new(alloc),
-        contents: None,
-        parent: None,
+        contents: Link::none(),
+        parent: Link::none(),
         flags,
         started: false,
-        form: None,
+        form: Link::none(),
     }
 }
 
@@ -85,9 +86,9 @@ fn push_template(
 {
     let index = nodes.len();
     let mut contents = bare_node(alloc, Kind::Fragment)?;
-    contents.parent = Some(NodeId { index });
+    contents.parent = Link::to(NodeId { index });
     let mut template = template;
-    template.contents = Some(NodeId { index: index + 1 });
+    template.contents = Link::to(NodeId { index: index + 1 });
     nodes.push(template)?;
     match nodes.push(contents) {
         Ok(()) => Ok(()),

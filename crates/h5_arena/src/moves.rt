@@ -7,6 +7,7 @@ ghost use Rattle.h5_arena.specs.ArenaModel.{forest_in, node_views};
 ghost use Rattle.h5_arena.specs.ChildTests.{is_node_at};
 
 use super::children;
+use super::link::Link;
 use super::nodes::{Child, NodeData, NodeId};
 use std::alloc::{AllocError, Global};
 use std::mem;
@@ -25,7 +26,7 @@ fn adopt_child(nodes: &mut Vec<NodeData>, parent: NodeId, at: usize)
         Child::Node(id) => {
             let child = *id;
             let moved = &mut nodes[child.index];
-            moved.parent = Some(parent);
+            moved.parent = Link::to(parent);
         }
     }
 }

@@ -1,4 +1,5 @@
 //! The nodes of an arena.
+use super::link::Link;
 use h5_interface::ElementFlags;
 use h5_names::{Attribute, QualName};
 use std::sync::Arc;
@@ -42,10 +43,10 @@ pub(crate) struct NodeData {
     pub(crate) kind: Arc<Kind>,
     pub(crate) attrs: Vec<Attribute>,
     pub(crate) children: Vec<Child>,
-    pub(crate) contents: Option<NodeId>,
+    pub(crate) contents: Link,
     // The node whose child this is, or whose contents.
-    pub(crate) parent: Option<NodeId>,
+    pub(crate) parent: Link,
     pub(crate) flags: ElementFlags,
     pub(crate) started: bool,
-    pub(crate) form: Option<NodeId>,
+    pub(crate) form: Link,
 }

@@ -3,6 +3,7 @@ ghost use Rattle.std.specs.Prelude.{◌≡◌, ◌≤◌, ◌<◌, ◌⊎◌, �
 ghost use Rattle.h5_interface.specs.Seen.{CanAppend, CanAppendBasedOnParent, CanInsertBefore, after_append, after_append_before, after_append_by, child_of};
 ghost use Rattle.h5_arena.specs.ArenaModel.{ArenaView, arena_choices, place, seen_of};
 
+use super::link::Link;
 use super::nodes::{Kind, NodeId};
 use super::tree::Arena;
 use super::{attributes, links, makes, moves};
@@ -69,7 +70,7 @@ impl TreeSink for Arena {
     }
 
     fn get_template_contents(&self, target: &NodeId) -> NodeId {
-        match self.nodes[target.index].contents {
+        match self.nodes[target.index].contents.node() {
             Some(contents) => contents,
             None => unreachable!(),
         }
@@ -150,7 +151,7 @@ impl TreeSink for Arena {
             (seen_of self.new ≡ after_append_by element.now.index prev.now.index (child_of place child) (seen_of self.old)) }
         ensures err { OnErr result (seen_of self.new ≡ seen_of self.old) }
     {
-        match self.nodes[element.index].parent {
+        match self.nodes[element.index].parent.node() {
             Some(_) => {
                 self.append_before_sibling(element, child)?;
                 Ok(())
@@ -214,7 +215,7 @@ impl TreeSink for Arena {
     ) {
         let _ = nodes;
         let node = &mut self.nodes[target.index];
-        node.form = Some(*form);
+        node.form = Link::to(*form);
     }
 
     fn set_quirks_mode(&mut self, mode: QuirksMode) {

@@ -132,7 +132,7 @@ impl Arena {
         let node = &self.nodes[id.index];
         match &*node.kind {
             Kind::Fragment => None,
-            _ => node.parent,
+            _ => node.parent.node(),
         }
     }
 
@@ -141,7 +141,7 @@ impl Arena {
         requires { IsHeld self.now id }
         ensures { at_node (λ d. d.contents) self.now id ≡ Some (optional_place result) }
     {
-        self.nodes[id.index].contents
+        self.nodes[id.index].contents.node()
     }
 
     /// The form that an element was associated with.
@@ -149,7 +149,7 @@ impl Arena {
         requires { IsHeld self.now id }
         ensures { at_node (λ d. d.marks.form) self.now id ≡ Some (optional_place result) }
     {
-        self.nodes[id.index].form
+        self.nodes[id.index].form.node()
     }
 
     /// Whether an element was marked as a script that has started.

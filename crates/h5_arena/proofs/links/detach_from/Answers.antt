@@ -1,4 +1,4 @@
-use Rattle.std.proofs.Common.{◌∙◌, ◌<◌, ap, arith, length, refl}
+use Rattle.std.proofs.Common.{◌∙◌, ◌<◌, ap, arith, length}
 use Rattle.std.specs.Prelude.{◌==◌, None}
 use Rattle.std.proofs.Math.ListN.{set}
 use Rattle.std.proofs.lemmas.List.{length-set}
@@ -29,6 +29,7 @@ returns-clause-ok c =
     let there = parent_within c.args.nodes.now.items c.args.parent.index c.args.id.index c.requires.forest c.requires.parent in
     let there_id : c.args.id.index < length (set c.args.nodes.now.items c.args.parent.index (record c.index_mut-node.result.now { children = c.remove_node.new.children })) =
     simp length-set (child_within c.args.nodes.now.items c.args.parent.index c.args.id.index c.requires.parent) in
-    parent_write _ _ c.index_mut-moved.result.now _ None there_id c.index_mut-moved.ensures.value refl
+    parent_write _ _ c.index_mut-moved.result.now _ None there_id c.index_mut-moved.ensures.value
+    (ap (λ p. record (node_view c.index_mut-moved.result.now) { parent = p }) c.none-moved.ensures)
     ∙ ap (set_parents (λ n. n == c.args.id.index) None) (children_write _ _ c.index_mut-node.result.now _ (without c.args.id.index) there c.index_mut-node.ensures.value
     (ap (λ cs. record (node_view c.index_mut-node.result.now) { children = cs }) c.in_ok-remove_node.ensures.ok))

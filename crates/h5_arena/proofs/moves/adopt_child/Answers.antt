@@ -1,7 +1,7 @@
 use Rattle.std.proofs.Common.{◌∙◌, ◌<◌, ap, arith, length, refl}
 use Rattle.std.specs.Prelude.{◌==◌, Some}
 use Rattle.h5_interface.specs.Forest.{children_of}
-use Rattle.h5_arena.specs.ArenaModel.{child_view, forest_in}
+use Rattle.h5_arena.specs.ArenaModel.{child_view, forest_in, node_view}
 use Rattle.h5_arena.specs.ChildTests.{is_node_at}
 use Rattle.h5_arena.proofs.ChildTexts.{has_at}
 use Rattle.h5_arena.proofs.MoveLaws.{present, set_parents_none, set_parents_same}
@@ -27,5 +27,6 @@ returns-in-Node c =
     let found = present c.args.nodes.now.items c.args.parent.index c.args.at c.index-node.result.now c.index.result.now there c.index-node.ensures c.index.ensures c.requires.within ∙ ap (λ x. Some (child_view x)) c.in-Node.is in
     let held = c.requires.held c.in-Node.id.index (has_at c.in-Node.id.index (children_of (forest_in c.args.nodes.now.items) c.args.parent.index) c.args.at found) in
     let held' : c.in-Node.id.index < length c.args.nodes.now.items = omega (arith, held) in
-    parent_write c.args.nodes.now.items c.in-Node.id.index c.index_mut-moved.result.now _ (Some c.args.parent.index) held' c.index_mut-moved.ensures.value refl
+    parent_write c.args.nodes.now.items c.in-Node.id.index c.index_mut-moved.result.now _ (Some c.args.parent.index) held' c.index_mut-moved.ensures.value
+    (ap (λ p. record (node_view c.index_mut-moved.result.now) { parent = p }) c.to-moved.ensures)
     ∙ set_parents_same (λ n. n == c.in-Node.id.index) (is_node_at (children_of (forest_in c.args.nodes.now.items) c.args.parent.index) c.args.at) (Some c.args.parent.index) (forest_in c.args.nodes.now.items) (λ n. rw found refl)
