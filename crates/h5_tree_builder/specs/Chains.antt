@@ -1,5 +1,5 @@
 -- What code that lets turns follow each other did.
-use Rattle.std.specs.Prelude.{◌≡◌, ℕ, Bool, true, false, List, [], Result, IfOk, OnOk}
+use Rattle.std.specs.Prelude.{◌≡◌, ℕ, Bool, true, false, Result, IfOk, OnOk}
 use Rattle.std.specs.declared.alloc.AllocError.{AllocError}
 use Rattle.h5_token.specs.Reply.{reply}
 use Rattle.h5_token.specs.TokenText.{TokenText, Characters, ParseErrorIs}

@@ -1,6 +1,7 @@
 //! The turns of one token (HTML standard, section 13.2.6, "the tree construction dispatcher").
 ghost use Rattle.std.specs.Prelude.{◌≡◌, false, true, IfOk};
 ghost use Rattle.h5_types.specs.TurnText.{HasText, is_self_closing as is_closing_turn, turn_text};
+ghost use Rattle.h5_meaning.specs.Foreign.{is_foreign};
 ghost use Rattle.h5_meaning.specs.ForeignContent.{dispatch};
 ghost use Rattle.h5_meaning.specs.Modes.{rule};
 ghost use Rattle.h5_meaning.specs.Settle.{settle};
@@ -30,9 +31,9 @@ use h5_token::{TagKind, TokenSinkResult};
 use h5_types::{InsertionMode, ProcessResult, Token};
 use std::alloc::AllocError;
 
-// One turn, by the rule of the mode.
-#[inline(always)]
-fn step_by_mode<S: TreeSink>(
+// One turn, by the rule of the mode, whichever it is.
+#[inline(never)]
+fn step_by_any_mode<S: TreeSink>(
     sink: &mut S,
     state: &mut State<S::Handle>,
     token: Token,
@@ -66,6 +67,41 @@ fn step_by_mode<S: TreeSink>(
     }
 }
 
+// One turn, by the rule of the mode. Most tokens of a page come in the body.
+#[inline(always)]
+fn step_by_mode<S: TreeSink>(
+    sink: &mut S,
+    state: &mut State<S::Handle>,
+    token: Token,
+) -> Turn<S::Handle>
+    requires ready { IsReady S.TreeSink sink.old state.old }
+    requires text { HasText (turn_text token) }
+    ensures { Turns S.TreeSink (rule (world_of S.TreeSink sink.old state.old).mode (turn_text token)) (turn_text token) sink.old state.old sink.new state.new result }
+{
+    match current_mode(sink, state) {
+        InsertionMode::InBody => step_in_body(sink, state, token),
+        _ => step_by_any_mode(sink, state, token),
+    }
+}
+
+// One turn in foreign content: by its rules, or by the rule of the mode after all.
+#[inline(never)]
+fn step_in_foreign<S: TreeSink>(
+    sink: &mut S,
+    state: &mut State<S::Handle>,
+    token: Token,
+) -> Turn<S::Handle>
+    requires ready { IsReady S.TreeSink sink.old state.old }
+    requires text { HasText (turn_text token) }
+    requires foreign { is_foreign S.choices (turn_text token) (world_of S.TreeSink sink.old state.old) ≡ true }
+    ensures { Turns S.TreeSink (dispatch S.choices (turn_text token)) (turn_text token) sink.old state.old sink.new state.new result }
+{
+    match step_foreign(sink, state, token)? {
+        ForeignStep::Ended(result) => Ok(result),
+        ForeignStep::ByMode(again) => step_by_any_mode(sink, state, again),
+    }
+}
+
 // One turn: by the rules of foreign content, or by the rule of the mode.
 #[inline(always)]
 fn step<S: TreeSink>(sink: &mut S, state: &mut State<S::Handle>, token: Token) -> Turn<S::Handle>
@@ -73,12 +109,10 @@ fn step<S: TreeSink>(sink: &mut S, state: &mut State<S::Handle>, token: Token) -
     requires text { HasText (turn_text token) }
     ensures { Turns S.TreeSink (dispatch S.choices (turn_text token)) (turn_text token) sink.old state.old sink.new state.new result }
 {
-    if !is_foreign(sink, state, &token) {
-        return step_by_mode(sink, state, token);
-    }
-    match step_foreign(sink, state, token)? {
-        ForeignStep::Ended(result) => Ok(result),
-        ForeignStep::ByMode(again) => step_by_mode(sink, state, again),
+    if is_foreign(sink, state, &token) {
+        step_in_foreign(sink, state, token)
+    } else {
+        step_by_mode(sink, state, token)
     }
 }
 

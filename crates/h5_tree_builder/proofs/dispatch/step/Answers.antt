@@ -1,45 +1,9 @@
-use Rattle.std.proofs.Common.{◌≡◌, true, sym, subst, ◌∙◌}
+use Rattle.std.proofs.Common.{sym, ◌∙◌}
 use Rattle.h5_types.specs.TurnText.{turn_text}
-use Rattle.h5_meaning.specs.Foreign.{is_foreign}
-use Rattle.h5_meaning.specs.ForeignContent.{foreign_step}
-use Rattle.h5_rules_foreign.specs.ForeignSteps.{CameTo}
-use Rattle.h5_state.specs.Steps.{errors_of, world_of}
-use Rattle.h5_tree_builder.proofs.DispatchLaws.{left_keeps, turns_by_mode, turns_in_foreign, turns_left}
+use Rattle.h5_tree_builder.proofs.DispatchLaws.{turns_by_mode}
 use Rattle.h5_tree_builder.proofs.dispatch.step.Goals as goal
 
-pub returns-then-not-is_foreign : goal.returns-then-not-is_foreign
-returns-then-not-is_foreign g c =
+pub returns-else-is_foreign : goal.returns-else-is_foreign
+returns-else-is_foreign g c =
     turns_by_mode g.S.TreeSink (turn_text c.args.token) c.args.sink.now c.args.state.now c.step_by_mode.new.sink c.step_by_mode.new.state c.step_by_mode.result
-    (sym c.is_foreign.ensures ∙ c.if-not-is_foreign.true) c.step_by_mode.ensures
-
-pub step_by_mode-requires-in-ByMode-clause-ready : goal.step_by_mode-requires-in-ByMode-clause-ready
-step_by_mode-requires-in-ByMode-clause-ready g c =
-    let law = g.S.TreeSink in
-    let t = turn_text c.args.token in
-    let w = world_of law c.args.sink.now c.args.state.now in
-    let v = world_of law c.step_foreign.new.sink c.step_foreign.new.state in
-    let foreign : is_foreign law.choices t w ≡ true = sym c.is_foreign.ensures ∙ c.if-not-is_foreign.false in
-    let came = subst (CameTo law.choices law.node (foreign_step t w) t w v (errors_of law c.args.sink.now) (errors_of law c.step_foreign.new.sink)) c.in-ByMode.is c.in_ok-result.ensures.came in
-    let kept = left_keeps law t c.args.sink.now c.args.state.now c.step_foreign.new.sink c.step_foreign.new.state c.in-ByMode.again foreign came (record { sound = c.requires.ready.sound.sound; fits = c.requires.ready.fits }) in
-    record { sound = c.step_foreign.ensures.sound; fits = kept.fits }
-
-pub returns-in-Ended : goal.returns-in-Ended
-returns-in-Ended g c =
-    let law = g.S.TreeSink in
-    let t = turn_text c.args.token in
-    let w = world_of law c.args.sink.now c.args.state.now in
-    let v = world_of law c.step_foreign.new.sink c.step_foreign.new.state in
-    let foreign : is_foreign law.choices t w ≡ true = sym c.is_foreign.ensures ∙ c.if-not-is_foreign.false in
-    let came = subst (CameTo law.choices law.node (foreign_step t w) t w v (errors_of law c.args.sink.now) (errors_of law c.step_foreign.new.sink)) c.in-Ended.is c.in_ok-result.ensures.came in
-    turns_in_foreign law t c.args.sink.now c.args.state.now c.step_foreign.new.sink c.step_foreign.new.state c.in-Ended.result foreign came c.step_foreign.ensures.sound
-
-pub returns-in-ByMode : goal.returns-in-ByMode
-returns-in-ByMode g c =
-    let law = g.S.TreeSink in
-    let t = turn_text c.args.token in
-    let w = world_of law c.args.sink.now c.args.state.now in
-    let v = world_of law c.step_foreign.new.sink c.step_foreign.new.state in
-    let foreign : is_foreign law.choices t w ≡ true = sym c.is_foreign.ensures ∙ c.if-not-is_foreign.false in
-    let came = subst (CameTo law.choices law.node (foreign_step t w) t w v (errors_of law c.args.sink.now) (errors_of law c.step_foreign.new.sink)) c.in-ByMode.is c.in_ok-result.ensures.came in
-    turns_left law t c.args.sink.now c.args.state.now c.step_foreign.new.sink c.step_foreign.new.state c.in-ByMode.again foreign came
-    c.step_by_mode-in-ByMode.new.sink c.step_by_mode-in-ByMode.new.state c.step_by_mode-in-ByMode.result c.step_by_mode-in-ByMode.ensures
+    (sym c.is_foreign.ensures ∙ c.if-is_foreign.false) c.step_by_mode.ensures
