@@ -35,10 +35,10 @@ pub fn adjusted_current_node<'a, S: TreeSink>(
     }
 }
 
-// Whether no element is open, or the current node is the adjusted one, and its number alone tells that it is an element of
-// HTML.
+/// Whether no element is open, or the current node is the adjusted one, and its number alone tells that it is an element of
+/// HTML; no token is for foreign content then. It may answer no where that holds, too.
 #[tactic(auto, unfolding(h5_state::specs::View::world))]
-fn is_in_known_html<S: TreeSink>(sink: &S, state: &State<S::Handle>) -> bool
+pub fn is_in_known_html<S: TreeSink>(sink: &S, state: &State<S::Handle>) -> bool
     requires { IsSound S.TreeSink sink.now state.now }
     ensures { result ≡ true → (t : TurnText) → is_foreign_at S.choices t (world_of S.TreeSink sink.now state.now).forest (adjusted_current_node (world_of S.TreeSink sink.now state.now)) ≡ false }
 {

@@ -11,5 +11,5 @@ pub use closing::{
     EndSearch, is_current_in_any_case, leave_foreign_content, pop_until_named_in_any_case,
     search_end,
 };
-pub use current::{adjusted_current_node, is_foreign, is_foreign_text};
+pub use current::{adjusted_current_node, is_foreign, is_foreign_text, is_in_known_html};
 pub use insert::{insert_and_pop_foreign_element, insert_foreign_element, insert_foreign_for};

@@ -28,6 +28,7 @@ pub fn create_element<S: TreeSink>(
 }
 
 /// The same, and whether the reader dropped an attribute of the tag.
+#[inline(always)]
 pub fn create_element_with_flags<S: TreeSink>(
     sink: &mut S,
     name: QualName,

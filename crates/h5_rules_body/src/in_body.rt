@@ -431,8 +431,14 @@ fn in_body_end_tag<S: TreeSink>(
     }
 }
 
+/// A turn of a tag in the body.
 #[tactic(auto, unfolding(h5_meaning::specs::InBody::in_body_tag))]
-fn in_body_tag<S: TreeSink>(sink: &mut S, state: &mut State<S::Handle>, tag: Tag) -> Turn<S::Handle>
+#[inline(always)]
+pub fn in_body_tag<S: TreeSink>(
+    sink: &mut S,
+    state: &mut State<S::Handle>,
+    tag: Tag,
+) -> Turn<S::Handle>
     requires sound { IsSound S.TreeSink sink.old state.old }
     requires ready { IsReady (world_of S.TreeSink sink.old state.old) }
     ensures { TakesTag S.TreeSink in_body_tag tag sink.old state.old sink.new state.new result }
@@ -456,6 +462,7 @@ fn in_body_eof<S: TreeSink>(sink: &mut S, state: &mut State<S::Handle>) -> Turn<
 }
 
 /// A turn in the body.
+#[inline(always)]
 pub fn step_in_body<S: TreeSink>(
     sink: &mut S,
     state: &mut State<S::Handle>,

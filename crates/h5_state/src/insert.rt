@@ -45,6 +45,7 @@ fn of_owner<Handle>(owner: Option<Handle>) -> Notice<Handle>
 // An HTML element of this name at a place, of which the sink is told before it is put there; it becomes the current
 // node. Where none is open, the place is in the document.
 #[tactic(auto, unfolding(crate::specs::View::world))]
+#[inline(always)]
 fn push_at<S: TreeSink>(
     sink: &mut S,
     state: &mut State<S::Handle>,

@@ -81,6 +81,7 @@ fn notify<S: TreeSink>(
 }
 
 /// A new element at a place. The sink is told what there is to tell of it before it is put there.
+#[inline(always)]
 pub fn insert_new_element<S: TreeSink>(
     sink: &mut S,
     place: &InsertionPoint<S::Handle>,
