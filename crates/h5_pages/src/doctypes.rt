@@ -1,5 +1,5 @@
 //! Doctypes, and the encodings that tags name.
-use super::running::prints;
+use super::running::{each_prints, prints};
 use std::test::Fail;
 
 /// Doctypes, their lines, and the quirks modes that they mean.
@@ -126,9 +126,6 @@ fn a_table_closes_a_paragraph_but_in_quirks(rt: HostRuntime) -> Result<(), Fail>
 
 #[test]
 fn encodings_are_answered(rt: HostRuntime) -> Result<(), Fail> {
-    let alloc = rt.alloc();
-    for (input, output) in ENCODINGS {
-        prints(&rt, alloc, "tokens", input, output)?;
-    }
+    each_prints(&rt, rt.alloc(), "tokens", &ENCODINGS)?;
     Ok(())
 }

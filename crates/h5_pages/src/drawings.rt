@@ -1,18 +1,13 @@
 //! Runs of the program on texts with elements of SVG and MathML.
 use super::foreign::{FOREIGN, FOREIGN_ATTRIBUTES, SVG_ATTRIBUTES, SVG_TAGS};
-use super::rows::page_of;
-use super::running::prints;
+use super::running::{each_body_prints, prints};
 use std::test::Fail;
 
 const BODY: &str = "<html>\n  <head>\n  <body>\n";
 
 #[test]
 fn bodies_of_texts_with_svg_and_mathml(rt: HostRuntime) -> Result<(), Fail> {
-    let alloc = rt.alloc();
-    for (input, body) in FOREIGN {
-        let page = page_of(alloc, body)?;
-        prints(&rt, alloc, "html", input, page.as_str())?;
-    }
+    each_body_prints(&rt, rt.alloc(), &FOREIGN)?;
     Ok(())
 }
 

@@ -1,6 +1,6 @@
 //! Runs of the program on lines of tokens and on texts: what it prints, and how it ends.
-use super::rows::{BODIES, FORMS, PAGES, TABLES, TEXTS, TREES, page_of};
-use super::running::{prints, runs};
+use super::rows::{BODIES, FORMS, PAGES, TABLES, TEXTS, TREES};
+use super::running::{each_body_prints, each_prints, prints, runs};
 use super::templates::TEMPLATES;
 use std::alloc::AllocError;
 use std::fmt::Write;
@@ -8,9 +8,7 @@ use std::test::Fail;
 
 #[test]
 fn trees_of_few_tokens(rt: HostRuntime) -> Result<(), Fail> {
-    for (input, output) in TREES {
-        prints(&rt, rt.alloc(), "tokens", input, output)?;
-    }
+    each_prints(&rt, rt.alloc(), "tokens", &TREES)?;
     Ok(())
 }
 
@@ -42,47 +40,31 @@ fn a_bad_line_is_named(rt: HostRuntime) -> Result<(), Fail> {
 
 #[test]
 fn html_of_a_text(rt: HostRuntime) -> Result<(), Fail> {
-    for (input, output) in PAGES {
-        prints(&rt, rt.alloc(), "html", input, output)?;
-    }
+    each_prints(&rt, rt.alloc(), "html", &PAGES)?;
     Ok(())
 }
 
 #[test]
 fn bodies_of_texts(rt: HostRuntime) -> Result<(), Fail> {
-    let alloc = rt.alloc();
-    for (input, body) in BODIES {
-        let page = page_of(alloc, body)?;
-        prints(&rt, alloc, "html", input, page.as_str())?;
-    }
+    each_body_prints(&rt, rt.alloc(), &BODIES)?;
     Ok(())
 }
 
 #[test]
 fn bodies_of_texts_with_tables(rt: HostRuntime) -> Result<(), Fail> {
-    let alloc = rt.alloc();
-    for (input, body) in TABLES {
-        let page = page_of(alloc, body)?;
-        prints(&rt, alloc, "html", input, page.as_str())?;
-    }
+    each_body_prints(&rt, rt.alloc(), &TABLES)?;
     Ok(())
 }
 
 #[test]
 fn bodies_of_texts_with_forms_and_lists(rt: HostRuntime) -> Result<(), Fail> {
-    let alloc = rt.alloc();
-    for (input, body) in FORMS {
-        let page = page_of(alloc, body)?;
-        prints(&rt, alloc, "html", input, page.as_str())?;
-    }
+    each_body_prints(&rt, rt.alloc(), &FORMS)?;
     Ok(())
 }
 
 #[test]
 fn pages_of_texts_with_raw_texts(rt: HostRuntime) -> Result<(), Fail> {
-    for (input, output) in TEXTS {
-        prints(&rt, rt.alloc(), "html", input, output)?;
-    }
+    each_prints(&rt, rt.alloc(), "html", &TEXTS)?;
     Ok(())
 }
 
@@ -126,9 +108,7 @@ fn tokens_whose_texts_are_single_characters(rt: HostRuntime) -> Result<(), Fail>
 
 #[test]
 fn pages_of_texts_with_templates(rt: HostRuntime) -> Result<(), Fail> {
-    for (input, output) in TEMPLATES {
-        prints(&rt, rt.alloc(), "html", input, output)?;
-    }
+    each_prints(&rt, rt.alloc(), "html", &TEMPLATES)?;
     Ok(())
 }
 
@@ -177,8 +157,6 @@ const ANSWERS: [(&str, &str); 5] = [
 
 #[test]
 fn tags_comments_and_nulls_are_refused_in_a_text(rt: HostRuntime) -> Result<(), Fail> {
-    for (input, output) in ANSWERS {
-        prints(&rt, rt.alloc(), "tokens", input, output)?;
-    }
+    each_prints(&rt, rt.alloc(), "tokens", &ANSWERS)?;
     Ok(())
 }

@@ -1,4 +1,5 @@
 //! Runs of the program over memory.
+use super::rows::page_of;
 use h5_commands::run;
 use std::alloc::{AllocError, Global};
 use std::process::Abort;
@@ -46,4 +47,30 @@ pub fn prints(
     output: &str,
 ) -> Result<(), AllocError> {
     runs(rt, alloc, &[word], input, 0, output, "")
+}
+
+/// Runs a command of one word on each of these texts: it meets no fault, and prints what stands beside the text.
+pub fn each_prints(
+    rt: &impl Abort,
+    alloc: Global,
+    word: &str,
+    rows: &[(&str, &str)],
+) -> Result<(), AllocError> {
+    for &(input, output) in rows {
+        prints(rt, alloc, word, input, output)?;
+    }
+    Ok(())
+}
+
+/// Prints the HTML of each of these texts: that of a page whose body holds what stands beside the text.
+pub fn each_body_prints(
+    rt: &impl Abort,
+    alloc: Global,
+    rows: &[(&str, &str)],
+) -> Result<(), AllocError> {
+    for &(input, body) in rows {
+        let page = page_of(alloc, body)?;
+        prints(rt, alloc, "html", input, page.as_str())?;
+    }
+    Ok(())
 }

@@ -4,6 +4,7 @@ use h5_arena::Arena;
 use h5_pages::{BODIES, FOREIGN, FORMS, PAGES, TABLES, TEMPLATES, TEXTS, page_of};
 use h5_serialize::{SerializeFault, SerializeOpts, serialize};
 use std::alloc::{AllocError, Global};
+use std::process::Abort;
 use std::test::Fail;
 
 /// The HTML of what an arena holds.
@@ -28,74 +29,58 @@ fn html_of_characters(alloc: Global, page: &str) -> Result<Vec<u8>, Fail> {
     Ok(html_of(alloc, &arena)?)
 }
 
-#[test]
-fn pages_in_single_characters(rt: HostRuntime) -> Result<(), Fail> {
-    let alloc = rt.alloc();
-    for (page, html) in PAGES {
+// Each of these pages has the HTML beside it.
+fn check_pages(rt: &impl Abort, alloc: Global, rows: &[(&str, &str)]) -> Result<(), Fail> {
+    for &(page, html) in rows {
         let found = html_of_characters(alloc, page)?;
         assert_eq!(rt; found.as_slice(), html.as_bytes());
     }
     Ok(())
+}
+
+// Each of these pages has a body that holds what stands beside it.
+fn check_bodies(rt: &impl Abort, alloc: Global, rows: &[(&str, &str)]) -> Result<(), Fail> {
+    for &(page, body) in rows {
+        let found = html_of_characters(alloc, page)?;
+        let html = page_of(alloc, body)?;
+        assert_eq!(rt; found.as_slice(), html.as_bytes());
+    }
+    Ok(())
+}
+
+#[test]
+fn pages_in_single_characters(rt: HostRuntime) -> Result<(), Fail> {
+    check_pages(&rt, rt.alloc(), &PAGES)
 }
 
 #[test]
 fn bodies_in_single_characters(rt: HostRuntime) -> Result<(), Fail> {
-    let alloc = rt.alloc();
-    for (page, body) in BODIES {
-        let found = html_of_characters(alloc, page)?;
-        assert_eq!(rt; found.as_slice(), page_of(alloc, body)?.as_bytes());
-    }
-    Ok(())
+    check_bodies(&rt, rt.alloc(), &BODIES)
 }
 
 #[test]
 fn tables_in_single_characters(rt: HostRuntime) -> Result<(), Fail> {
-    let alloc = rt.alloc();
-    for (page, body) in TABLES {
-        let found = html_of_characters(alloc, page)?;
-        assert_eq!(rt; found.as_slice(), page_of(alloc, body)?.as_bytes());
-    }
-    Ok(())
+    check_bodies(&rt, rt.alloc(), &TABLES)
 }
 
 #[test]
 fn forms_in_single_characters(rt: HostRuntime) -> Result<(), Fail> {
-    let alloc = rt.alloc();
-    for (page, body) in FORMS {
-        let found = html_of_characters(alloc, page)?;
-        assert_eq!(rt; found.as_slice(), page_of(alloc, body)?.as_bytes());
-    }
-    Ok(())
+    check_bodies(&rt, rt.alloc(), &FORMS)
 }
 
 #[test]
 fn raw_texts_in_single_characters(rt: HostRuntime) -> Result<(), Fail> {
-    let alloc = rt.alloc();
-    for (page, html) in TEXTS {
-        let found = html_of_characters(alloc, page)?;
-        assert_eq!(rt; found.as_slice(), html.as_bytes());
-    }
-    Ok(())
+    check_pages(&rt, rt.alloc(), &TEXTS)
 }
 
 #[test]
 fn templates_in_single_characters(rt: HostRuntime) -> Result<(), Fail> {
-    let alloc = rt.alloc();
-    for (page, html) in TEMPLATES {
-        let found = html_of_characters(alloc, page)?;
-        assert_eq!(rt; found.as_slice(), html.as_bytes());
-    }
-    Ok(())
+    check_pages(&rt, rt.alloc(), &TEMPLATES)
 }
 
 #[test]
 fn drawings_in_single_characters(rt: HostRuntime) -> Result<(), Fail> {
-    let alloc = rt.alloc();
-    for (page, body) in FOREIGN {
-        let found = html_of_characters(alloc, page)?;
-        assert_eq!(rt; found.as_slice(), page_of(alloc, body)?.as_bytes());
-    }
-    Ok(())
+    check_bodies(&rt, rt.alloc(), &FOREIGN)
 }
 
 #[test]
