@@ -1,5 +1,5 @@
 -- A builder's first world, and what a token did seen as a whole.
-use Rattle.std.proofs.Common.{◌≡◌, ◌≤◌, ◌+◌, ℕ, length, false, List, [], ◌∷◌, None, refl, ap, sym, subst, ◌∙◌, arith}
+use Rattle.std.proofs.Common.{◌≡◌, ◌≤◌, ◌+◌, ℕ, length, false, List, [], ◌∷◌, refl, ap, sym, subst, ◌∙◌, arith}
 use Rattle.h5_token.specs.Reply.{reply}
 use Rattle.h5_token.specs.TokenText.{DoctypeText, TokenText, DoctypeIs, TagIs, CommentIs, Characters, NullCharacter, EndOfFile, ParseErrorIs}
 use Rattle.h5_interface.specs.Forest.{IsForest}

@@ -1,5 +1,5 @@
 -- A fragment's builder that took nothing yet: all stands, and the root fits the insertion mode that is reset to.
-use Rattle.std.proofs.Common.{◌≡◌, ℕ, cond, Bool, false, List, [], ◌∷◌, codes, Option, None, Some, option_map, refl, ap, sym, subst, ◌∙◌}
+use Rattle.std.proofs.Common.{◌≡◌, ℕ, cond, false, List, [], ◌∷◌, codes, Option, None, Some, option_map, refl, ap, sym, subst, ◌∙◌}
 use Rattle.std.specs.Prelude.{MatchOption}
 use Rattle.h5_names.specs.declared.qualified.QualName.{QualName}
 use Rattle.h5_interface.specs.Forest.{Forest, IsElement, IsForest}
@@ -14,11 +14,11 @@ use Rattle.h5_fits.specs.Changes.{start_modes, start_of}
 use Rattle.h5_fits.specs.Fits.{Situation}
 use Rattle.h5_fits.specs.NamesFit.{NamesFit}
 use Rattle.h5_fits.specs.Reset.{reset}
-use Rattle.h5_fits.specs.Roles.{HtmlRole, Role, TemplateRole, is_template, role_of, roles}
+use Rattle.h5_fits.specs.Roles.{Role, TemplateRole, is_template, role_of, roles}
 use Rattle.h5_fits.proofs.NamesFitLaws.{names_fragment}
 use Rattle.h5_fits.proofs.RoleLaws.{local_html, role_made}
 use Rattle.h5_fits.proofs.SetLaws.{template_test}
-use Rattle.h5_meaning.specs.Changes.{create_root, set_mode}
+use Rattle.h5_meaning.specs.Changes.{create_root}
 use Rattle.h5_meaning.specs.Reset.{reset_mode}
 use Rattle.h5_meaning.specs.Rows.{CreateRoot}
 use Rattle.h5_meaning.specs.Sound.{Fits, Sound, situation_of}

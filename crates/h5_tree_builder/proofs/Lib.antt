@@ -1,4 +1,5 @@
 pub mod ActiveFormattingLaws
+pub mod BodyLaws
 pub mod BuilderLaws
 pub mod ChainLaws
 pub mod DispatchLaws

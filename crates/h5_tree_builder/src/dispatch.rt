@@ -1,6 +1,7 @@
 //! The turns of one token (HTML standard, section 13.2.6, "the tree construction dispatcher").
 ghost use Rattle.std.specs.Prelude.{◌≡◌, false, true, IfOk};
-ghost use Rattle.h5_types.specs.TurnText.{HasText, is_self_closing as is_closing_turn, turn_text};
+ghost use Rattle.h5_token.specs.TokenText.{tag_text};
+ghost use Rattle.h5_types.specs.TurnText.{HasText, TagTurn, is_self_closing as is_closing_turn, turn_text};
 ghost use Rattle.h5_meaning.specs.Foreign.{is_foreign};
 ghost use Rattle.h5_meaning.specs.ForeignContent.{dispatch};
 ghost use Rattle.h5_meaning.specs.Modes.{rule};
@@ -27,7 +28,7 @@ use h5_rules_templates::{
 };
 use h5_rules_text::step_text_mode;
 use h5_state::{State, Turn, current_mode, set_mode, tell_error, unexpected};
-use h5_token::{TagKind, TokenSinkResult};
+use h5_token::{Tag, TagKind, TokenSinkResult};
 use h5_types::{InsertionMode, ProcessResult, Token};
 use std::alloc::AllocError;
 
@@ -116,18 +117,25 @@ fn step<S: TreeSink>(sink: &mut S, state: &mut State<S::Handle>, token: Token) -
     }
 }
 
-// Whether a token is a start tag with the self-closing flag.
+/// Whether a tag is a start tag with the self-closing flag.
+pub fn is_self_closing_tag(tag: &Tag) -> bool
+    ensures { result ≡ is_closing_turn (TagTurn (tag_text tag.now)) }
+{
+    tag.kind == TagKind::StartTag && tag.self_closing
+}
+
+// Whether a token is one.
 fn is_self_closing(token: &Token) -> bool
     ensures { result ≡ is_closing_turn (turn_text token.now) }
 {
     match token {
-        Token::Tag(tag) => tag.kind == TagKind::StartTag && tag.self_closing,
+        Token::Tag(tag) => is_self_closing_tag(tag),
         _ => false,
     }
 }
 
-// A self-closing flag that nobody acknowledged is a parse error.
-fn check_flag<S: TreeSink>(sink: &mut S, state: &State<S::Handle>, self_closing: bool)
+/// A self-closing flag that nobody acknowledged is a parse error.
+pub fn check_flag<S: TreeSink>(sink: &mut S, state: &State<S::Handle>, self_closing: bool)
     requires { IsSound S.TreeSink sink.old state.now }
     ensures told { TellsErrors S.TreeSink sink.old sink.new state.now }
     ensures quiet { self_closing ≡ false → errors_of S.TreeSink sink.new ≡ errors_of S.TreeSink sink.old }

@@ -10,6 +10,7 @@ mod end;
 mod first;
 mod foreign;
 mod fragment;
+mod in_body;
 mod open_elems;
 mod process_token;
 mod refusal;

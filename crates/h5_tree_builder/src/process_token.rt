@@ -1,12 +1,15 @@
 //! Taking a token, by its kind (HTML standard, section 13.2.6, "Tree construction").
-ghost use Rattle.std.specs.Prelude.{◌≡◌, true, IsOk};
+ghost use Rattle.std.specs.Prelude.{◌≡◌, true, IsOk, string_bytes};
 ghost use Rattle.h5_token.specs.TokenText.{token_text};
+ghost use Rattle.h5_types.specs.TurnText.{CommentTurn, EofTurn, NullTurn};
 ghost use Rattle.h5_meaning.specs.Run.{is_counted, step, taken};
+ghost use Rattle.h5_meaning.specs.Settle.{settle};
 ghost use Rattle.h5_state.specs.Steps.{errors_of, world_of};
 ghost use Rattle.h5_tree_builder.specs.Chains.{IsReady, Settles, is_free};
 
 use super::dispatch::settle_token;
 use super::doctype::take_doctype;
+use super::in_body::settle_tag;
 use super::taken::Taken;
 use super::text::take_text;
 use h5_interface::TreeSink;
@@ -41,6 +44,43 @@ pub fn note_line<S: TreeSink>(sink: &mut S, state: &State<S::Handle>, line_numbe
     }
 }
 
+// A comment.
+#[inline(never)]
+fn take_comment<S: TreeSink>(
+    sink: &mut S,
+    state: &mut State<S::Handle>,
+    text: String,
+) -> Result<Taken<S::Handle>, AllocError>
+    requires { IsReady S.TreeSink sink.old state.old }
+    ensures { Settles S.TreeSink (settle S.choices (CommentTurn (string_bytes text))) true sink.old state.old sink.new state.new result }
+{
+    settle_token(sink, state, Token::Comment(text))
+}
+
+// A null.
+#[inline(never)]
+fn take_null<S: TreeSink>(
+    sink: &mut S,
+    state: &mut State<S::Handle>,
+) -> Result<Taken<S::Handle>, AllocError>
+    requires { IsReady S.TreeSink sink.old state.old }
+    ensures { Settles S.TreeSink (settle S.choices NullTurn) true sink.old state.old sink.new state.new result }
+{
+    settle_token(sink, state, Token::NullCharacter)
+}
+
+// The end of the file.
+#[inline(never)]
+fn take_eof<S: TreeSink>(
+    sink: &mut S,
+    state: &mut State<S::Handle>,
+) -> Result<Taken<S::Handle>, AllocError>
+    requires { IsReady S.TreeSink sink.old state.old }
+    ensures { Settles S.TreeSink (settle S.choices EofTurn) true sink.old state.old sink.new state.new result }
+{
+    settle_token(sink, state, Token::Eof)
+}
+
 /// A token that isn't refused. It gives how many turns it took and what is answered, or an `AllocError` where
 /// memory is refused; what was built so far is sound then.
 #[inline(always)]
@@ -56,11 +96,11 @@ pub fn take_token<S: TreeSink>(
     let ignore_lf = take_lf(sink, state);
     match token {
         Input::DoctypeToken(doctype) => take_doctype(sink, state, doctype),
-        Input::TagToken(tag) => settle_token(sink, state, Token::Tag(tag)),
-        Input::CommentToken(text) => settle_token(sink, state, Token::Comment(text)),
+        Input::TagToken(tag) => settle_tag(sink, state, tag),
+        Input::CommentToken(text) => take_comment(sink, state, text),
         Input::CharacterTokens(text) => take_text(sink, state, ignore_lf, text),
-        Input::NullCharacterToken => settle_token(sink, state, Token::NullCharacter),
-        Input::EOFToken => settle_token(sink, state, Token::Eof),
+        Input::NullCharacterToken => take_null(sink, state),
+        Input::EOFToken => take_eof(sink, state),
         Input::ParseError(message) => {
             tell_error(sink, state, message.as_str());
             Ok(Taken {

@@ -11,9 +11,11 @@ ghost use Rattle.h5_state.specs.Steps.{IsSound, errors_of, world_of};
 ghost use Rattle.h5_tree_builder.specs.Chains.{IsReady, Settles};
 
 use super::dispatch::settle_token;
+use super::in_body::goes_by_body;
 use super::taken::Taken;
 use h5_foreign::is_foreign_text;
 use h5_interface::TreeSink;
+use h5_rules_shared::in_body_text;
 use h5_state::{State, current_mode, first_run};
 use h5_token::TokenSinkResult;
 use h5_types::{SplitStatus, Token};
@@ -35,7 +37,7 @@ fn next_run<S: TreeSink>(sink: &S, state: &State<S::Handle>, text: &str) -> (Spl
     }
 }
 
-// The chain of a run.
+// The chain of a run. In the body it is one turn.
 #[inline(always)]
 fn settle_run<S: TreeSink>(
     sink: &mut S,
@@ -51,6 +53,10 @@ fn settle_run<S: TreeSink>(
     ensures sound { IsSound S.TreeSink sink.new state.new }
     ensures fits { OnOk result (Fits (world_of S.TreeSink sink.new state.new)) }
 {
+    if goes_by_body(sink, state) {
+        in_body_text(sink, state, status, run)?;
+        return Ok(1);
+    }
     let taken = settle_token(sink, state, Token::Characters(status, run))?;
     Ok(taken.turns)
 }

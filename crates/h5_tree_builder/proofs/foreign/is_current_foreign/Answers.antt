@@ -1,4 +1,4 @@
-use Rattle.std.proofs.Common.{◌≡◌, Bor, ap, not, option_map, sym, ◌∙◌}
+use Rattle.std.proofs.Common.{Bor, ap, not, option_map, sym, ◌∙◌}
 use Rattle.h5_names.specs.AttributeText.{is_same_text}
 use Rattle.h5_names.specs.declared.qualified.QualName.{QualName}
 use Rattle.h5_tag_sets.specs.TagSets.{html_namespace}
@@ -6,7 +6,7 @@ use Rattle.h5_foreign.proofs.CurrentLaws.{adjusted_is_element}
 use Rattle.h5_state.specs.Steps.{world_of}
 use Rattle.h5_state.specs.View.{world}
 use Rattle.h5_state.proofs.StackLaws.{named}
-use Rattle.h5_tree_builder.specs.Builder.{is_foreign_in, is_foreign_node}
+use Rattle.h5_tree_builder.specs.Builder.{is_foreign_node}
 use Rattle.h5_tree_builder.proofs.foreign.is_current_foreign.Goals as goal
 
 pub elem_name-requires : goal.elem_name-requires
