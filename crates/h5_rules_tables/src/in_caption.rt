@@ -16,7 +16,7 @@ ghost use Rattle.h5_state.specs.Turn.{TakesTag, TakesToken};
 use h5_formatting::clear_active_formatting_to_marker;
 use h5_interface::TreeSink;
 use h5_names::{KnownName, LocalName};
-use h5_rules_body::step_in_body;
+use h5_rules_body::{in_body_tag, step_in_body};
 use h5_rules_shared::{expect_to_close, is_any_of, is_table_structure};
 use h5_state::{
     Known, State, Turn, find_in_table_scope, generate_implied_end, is_current_html,
@@ -127,7 +127,7 @@ fn in_caption_end_tag<S: TreeSink>(
         unexpected_tag(sink, state, &tag);
         Ok(ProcessResult::Done)
     } else {
-        step_in_body(sink, state, Token::Tag(tag))
+        in_body_tag(sink, state, tag)
     }
 }
 
@@ -143,7 +143,7 @@ fn in_caption_tag<S: TreeSink>(
 {
     match tag.kind {
         TagKind::StartTag if is_table_structure(&tag.name) => in_caption_close(sink, state, tag),
-        TagKind::StartTag => step_in_body(sink, state, Token::Tag(tag)),
+        TagKind::StartTag => in_body_tag(sink, state, tag),
         TagKind::EndTag => in_caption_end_tag(sink, state, tag),
     }
 }

@@ -13,7 +13,7 @@ use super::parts::has_in_table_scope;
 use h5_formatting::clear_active_formatting_to_marker;
 use h5_interface::TreeSink;
 use h5_names::{KnownName, LocalName};
-use h5_rules_body::step_in_body;
+use h5_rules_body::{in_body_tag, step_in_body};
 use h5_rules_shared::{expect_to_close, is_any_of, is_table_structure};
 use h5_state::{
     Cell, Local, State, Turn, find_cell, find_in_table_scope, generate_implied_end,
@@ -159,12 +159,17 @@ fn in_cell_end_tag<S: TreeSink>(
         unexpected_tag(sink, state, &tag);
         Ok(ProcessResult::Done)
     } else {
-        step_in_body(sink, state, Token::Tag(tag))
+        in_body_tag(sink, state, tag)
     }
 }
 
+/// A turn of a tag in a cell.
 #[tactic(auto, unfolding(h5_meaning::specs::InCell::in_cell_tag, h5_meaning::specs::InCell::in_cell_start))]
-fn in_cell_tag<S: TreeSink>(sink: &mut S, state: &mut State<S::Handle>, tag: Tag) -> Turn<S::Handle>
+pub fn in_cell_tag<S: TreeSink>(
+    sink: &mut S,
+    state: &mut State<S::Handle>,
+    tag: Tag,
+) -> Turn<S::Handle>
     requires sound { IsSound S.TreeSink sink.old state.old }
     requires ready { IsReady (world_of S.TreeSink sink.old state.old) }
     ensures { TakesTag S.TreeSink in_cell_tag tag sink.old state.old sink.new state.new result }
@@ -173,7 +178,7 @@ fn in_cell_tag<S: TreeSink>(sink: &mut S, state: &mut State<S::Handle>, tag: Tag
         TagKind::StartTag if is_table_structure(&tag.name) => in_cell_start_structure(
             sink, state, tag,
         ),
-        TagKind::StartTag => step_in_body(sink, state, Token::Tag(tag)),
+        TagKind::StartTag => in_body_tag(sink, state, tag),
         TagKind::EndTag => in_cell_end_tag(sink, state, tag),
     }
 }

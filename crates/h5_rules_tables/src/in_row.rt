@@ -9,7 +9,7 @@ ghost use Rattle.h5_meaning.specs.Sound.{IsReady};
 ghost use Rattle.h5_state.specs.Steps.{IsSound, world_of};
 ghost use Rattle.h5_state.specs.Turn.{TakesTag, TakesToken};
 
-use super::in_table::step_in_table;
+use super::in_table::{in_table_tag, step_in_table};
 use super::parts::{clear_to_table_row_context, has_in_table_scope, is_section};
 use h5_formatting::insert_marker;
 use h5_interface::TreeSink;
@@ -153,7 +153,7 @@ fn in_row_start_tag<S: TreeSink>(
     } else if closes_row(&tag.name) {
         in_row_close(sink, state, tag)
     } else {
-        step_in_table(sink, state, Token::Tag(tag))
+        in_table_tag(sink, state, tag)
     }
 }
 
@@ -178,12 +178,17 @@ fn in_row_end_tag<S: TreeSink>(
         unexpected_tag(sink, state, &tag);
         Ok(ProcessResult::Done)
     } else {
-        step_in_table(sink, state, Token::Tag(tag))
+        in_table_tag(sink, state, tag)
     }
 }
 
+/// A turn of a tag in a row.
 #[tactic(auto, unfolding(h5_meaning::specs::InRow::in_row_tag))]
-fn in_row_tag<S: TreeSink>(sink: &mut S, state: &mut State<S::Handle>, tag: Tag) -> Turn<S::Handle>
+pub fn in_row_tag<S: TreeSink>(
+    sink: &mut S,
+    state: &mut State<S::Handle>,
+    tag: Tag,
+) -> Turn<S::Handle>
     requires sound { IsSound S.TreeSink sink.old state.old }
     requires ready { IsReady (world_of S.TreeSink sink.old state.old) }
     ensures { TakesTag S.TreeSink in_row_tag tag sink.old state.old sink.new state.new result }

@@ -297,8 +297,9 @@ fn in_table_end_tag<S: TreeSink>(
     }
 }
 
+/// A turn of a tag in a table.
 #[tactic(auto, unfolding(h5_meaning::specs::InTable::in_table_tag))]
-fn in_table_tag<S: TreeSink>(
+pub fn in_table_tag<S: TreeSink>(
     sink: &mut S,
     state: &mut State<S::Handle>,
     tag: Tag,

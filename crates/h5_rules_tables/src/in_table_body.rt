@@ -9,7 +9,7 @@ ghost use Rattle.h5_meaning.specs.Sound.{IsReady};
 ghost use Rattle.h5_state.specs.Steps.{IsSound, world_of};
 ghost use Rattle.h5_state.specs.Turn.{TakesTag, TakesToken};
 
-use super::in_table::step_in_table;
+use super::in_table::{in_table_tag, step_in_table};
 use super::parts::{clear_to_table_body_context, has_in_table_scope, is_section};
 use h5_interface::TreeSink;
 use h5_names::{KnownName, LocalName, QualName};
@@ -167,7 +167,7 @@ fn in_table_body_start_tag<S: TreeSink>(
     } else if closes_section(&tag.name) {
         in_table_body_close(sink, state, tag)
     } else {
-        step_in_table(sink, state, Token::Tag(tag))
+        in_table_tag(sink, state, tag)
     }
 }
 
@@ -190,12 +190,13 @@ fn in_table_body_end_tag<S: TreeSink>(
         unexpected_tag(sink, state, &tag);
         Ok(ProcessResult::Done)
     } else {
-        step_in_table(sink, state, Token::Tag(tag))
+        in_table_tag(sink, state, tag)
     }
 }
 
+/// A turn of a tag in a table body.
 #[tactic(auto, unfolding(h5_meaning::specs::InTableBody::in_table_body_tag))]
-fn in_table_body_tag<S: TreeSink>(
+pub fn in_table_body_tag<S: TreeSink>(
     sink: &mut S,
     state: &mut State<S::Handle>,
     tag: Tag,

@@ -12,9 +12,9 @@ mod in_table_text;
 mod parts;
 
 pub use in_caption::step_in_caption;
-pub use in_cell::step_in_cell;
+pub use in_cell::{in_cell_tag, step_in_cell};
 pub use in_column_group::step_in_column_group;
-pub use in_row::step_in_row;
-pub use in_table::step_in_table;
-pub use in_table_body::step_in_table_body;
+pub use in_row::{in_row_tag, step_in_row};
+pub use in_table::{in_table_tag, step_in_table};
+pub use in_table_body::{in_table_body_tag, step_in_table_body};
 pub use in_table_text::step_in_table_text;
