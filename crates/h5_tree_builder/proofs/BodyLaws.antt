@@ -1,5 +1,5 @@
--- Turns by the rule of "in body", as those of the token.
-use Rattle.std.proofs.Common.{◌≡◌, ◌+◌, ℕ, List, true, refl, ap, sym, subst, ◌∙◌, arith}
+-- Texts by the rule of "in body", and chains that were begun.
+use Rattle.std.proofs.Common.{◌+◌, ℕ, List, true, refl, sym, subst, ◌∙◌, arith}
 use Rattle.h5_token.specs.declared.sink.TokenSinkResult.{TokenSinkResult}
 use Rattle.h5_interface.specs.SinkChoices.{SinkChoices}
 use Rattle.h5_types.specs.TurnText.{TextTurn, TurnText}
@@ -7,25 +7,16 @@ use Rattle.h5_types.specs.declared.modes.SplitStatus.{SplitStatus}
 use Rattle.h5_types.specs.declared.turns.ProcessResult.{ProcessResult}
 use Rattle.h5_types.specs.declared.turns.ProcessResult.TheVariants as results
 use Rattle.h5_meaning.specs.ForeignContent.{dispatch}
-use Rattle.h5_meaning.specs.InBody.{in_body}
-use Rattle.h5_meaning.specs.Modes.{rule}
 use Rattle.h5_meaning.specs.Rows.{Follows}
 use Rattle.h5_meaning.specs.Settle.{settle}
 use Rattle.h5_meaning.specs.Shared.{in_body_text}
 use Rattle.h5_meaning.specs.World.{World}
 use Rattle.h5_meaning.proofs.ForeignRowLaws.{dispatch_html}
 use Rattle.h5_tree_builder.specs.Chains.{CameTo}
-use Rattle.h5_tree_builder.specs.InBody.{GoesByBody}
+use Rattle.h5_tree_builder.specs.TextInBody.{TakesTextByBody}
 use Rattle.h5_tree_builder.proofs.ChainLaws.{Left}
 
-by_body : (choices : SinkChoices) (t : TurnText) (w : World) → GoesByBody choices w → in_body t w ≡ dispatch choices t w
-by_body choices t w g = sym (dispatch_html choices t w (g.html t) ∙ ap (λ m. rule m t w) g.mode)
-
 module _ {H : Type 0} (choices : SinkChoices) (node : H → ℕ) where
-  -- a turn by this rule is the token's
-  pub follows_body : (t : TurnText) (w v : World) (a b : ℕ) (r : ProcessResult H) → GoesByBody choices w → Follows choices node (in_body t w) t w v a b r → Follows choices node (dispatch choices t w) t w v a b r
-  follows_body t w v a b r g f = subst (λ x. Follows choices node x t w v a b r) (by_body choices t w g) f
-
   text_ends : (t : TurnText) (x : List ℕ) (w v : World) (a b : ℕ) (r : ProcessResult H) → Follows choices node (in_body_text x w) t w v a b r → Follows choices node (in_body_text x w) t w v a b results.Done
   text_ends t x w v a b results.Done f = f
   text_ends t x w v a b results.DoneAckSelfClosing f = record { world = f.world; ending = refl; quiet = f.quiet }
@@ -33,9 +24,11 @@ module _ {H : Type 0} (choices : SinkChoices) (node : H → ℕ) where
   text_ends t x w v a b (results.Answer answer) f = record { world = f.world; ending = refl; quiet = f.quiet }
 
   -- a text is done with after it
-  pub text_follows : (s : SplitStatus) (x : List ℕ) (w v : World) (a b : ℕ) (r : ProcessResult H) → GoesByBody choices w → Follows choices node (in_body_text x w) (TextTurn s x) w v a b r
+  pub text_follows : (s : SplitStatus) (x : List ℕ) (w v : World) (a b : ℕ) (r : ProcessResult H) → TakesTextByBody choices w → Follows choices node (in_body_text x w) (TextTurn s x) w v a b r
       → Follows choices node (dispatch choices (TextTurn s x) w) (TextTurn s x) w v a b results.Done
-  text_follows s x w v a b r g f = follows_body (TextTurn s x) w v a b results.Done g (text_ends (TextTurn s x) x w v a b r f)
+  text_follows s x w v a b r g f =
+      subst (λ row. Follows choices node row (TextTurn s x) w v a b results.Done) (sym (dispatch_html choices (TextTurn s x) w (g.html (TextTurn s x)) ∙ g.by_body s x))
+      (text_ends (TextTurn s x) x w v a b r f)
 
   -- what is left of a chain came to what is defined, and so did all of it
   pub left_came : (t : TurnText) (first w v : World) (a b e n turns : ℕ) (answer : TokenSinkResult H) → Left choices t first w a b n → CameTo node (settle choices t w) true v b e (record { turns = turns; answer = answer })

@@ -3,5 +3,5 @@ pub mod Builder
 pub mod Chains
 pub mod Fragment
 pub mod Held
-pub mod InBody
+pub mod TextInBody
 pub mod Replies

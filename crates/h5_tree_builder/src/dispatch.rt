@@ -32,9 +32,9 @@ use h5_token::{Tag, TagKind, TokenSinkResult};
 use h5_types::{InsertionMode, ProcessResult, Token};
 use std::alloc::AllocError;
 
-// One turn, by the rule of the mode, whichever it is.
+/// One turn, by the rule of the mode, whichever it is.
 #[inline(never)]
-fn step_by_any_mode<S: TreeSink>(
+pub fn step_by_any_mode<S: TreeSink>(
     sink: &mut S,
     state: &mut State<S::Handle>,
     token: Token,
@@ -115,6 +115,20 @@ fn step<S: TreeSink>(sink: &mut S, state: &mut State<S::Handle>, token: Token) -
     } else {
         step_by_mode(sink, state, token)
     }
+}
+
+/// One turn, in foreign content or not.
+#[inline(never)]
+pub fn step_token<S: TreeSink>(
+    sink: &mut S,
+    state: &mut State<S::Handle>,
+    token: Token,
+) -> Turn<S::Handle>
+    requires ready { IsReady S.TreeSink sink.old state.old }
+    requires text { HasText (turn_text token) }
+    ensures { Turns S.TreeSink (dispatch S.choices (turn_text token)) (turn_text token) sink.old state.old sink.new state.new result }
+{
+    step(sink, state, token)
 }
 
 /// Whether a tag is a start tag with the self-closing flag.

@@ -9,7 +9,7 @@ ghost use Rattle.h5_tree_builder.specs.Chains.{IsReady, Settles, is_free};
 
 use super::dispatch::settle_token;
 use super::doctype::take_doctype;
-use super::in_body::settle_tag;
+use super::tag::settle_tag;
 use super::taken::Taken;
 use super::text::take_text;
 use h5_interface::TreeSink;

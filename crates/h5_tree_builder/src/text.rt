@@ -9,16 +9,16 @@ ghost use Rattle.h5_meaning.specs.Text.{IsRun, is_quiet_text, text_any};
 ghost use Rattle.h5_types.specs.declared.modes.SplitStatus.TheVariants.{NotSplit};
 ghost use Rattle.h5_state.specs.Steps.{IsSound, errors_of, world_of};
 ghost use Rattle.h5_tree_builder.specs.Chains.{IsReady, Settles};
+ghost use Rattle.h5_tree_builder.specs.TextInBody.{TakesTextByBody};
 
 use super::dispatch::settle_token;
-use super::in_body::goes_by_body;
 use super::taken::Taken;
-use h5_foreign::is_foreign_text;
+use h5_foreign::{is_foreign_text, is_in_known_html};
 use h5_interface::TreeSink;
 use h5_rules_shared::in_body_text;
 use h5_state::{State, current_mode, first_run};
 use h5_token::TokenSinkResult;
-use h5_types::{SplitStatus, Token};
+use h5_types::{InsertionMode, SplitStatus, Token};
 use std::alloc::AllocError;
 
 // The first run of a text: whole in foreign content, where a text isn't split.
@@ -34,6 +34,19 @@ fn next_run<S: TreeSink>(sink: &S, state: &State<S::Handle>, text: &str) -> (Spl
         (SplitStatus::NotSplit, text.len())
     } else {
         first_run(current_mode(sink, state), text)
+    }
+}
+
+// Whether texts go by the rule of "in body". It may answer no where they do, too.
+#[tactic(auto, unfolding(h5_meaning::specs::Foreign::is_foreign))]
+#[inline(always)]
+fn takes_text_by_body<S: TreeSink>(sink: &S, state: &State<S::Handle>) -> bool
+    requires { IsSound S.TreeSink sink.now state.now }
+    ensures { result ≡ true → TakesTextByBody S.choices (world_of S.TreeSink sink.now state.now) }
+{
+    match current_mode(sink, state) {
+        InsertionMode::InBody | InsertionMode::InCell => is_in_known_html(sink, state),
+        _ => false,
     }
 }
 
@@ -53,7 +66,7 @@ fn settle_run<S: TreeSink>(
     ensures sound { IsSound S.TreeSink sink.new state.new }
     ensures fits { OnOk result (Fits (world_of S.TreeSink sink.new state.new)) }
 {
-    if goes_by_body(sink, state) {
+    if takes_text_by_body(sink, state) {
         in_body_text(sink, state, status, run)?;
         return Ok(1);
     }

@@ -1,0 +1,93 @@
+//! The turns of a tag. The first one is taken without a token around it; most tags take no other.
+ghost use Rattle.std.specs.Prelude.{◌≡◌, true};
+ghost use Rattle.h5_token.specs.TokenText.{tag_text};
+ghost use Rattle.h5_types.specs.TurnText.{TagTurn};
+ghost use Rattle.h5_meaning.specs.Foreign.{is_foreign};
+ghost use Rattle.h5_meaning.specs.ForeignContent.{dispatch};
+ghost use Rattle.h5_meaning.specs.Modes.{rule};
+ghost use Rattle.h5_meaning.specs.Settle.{settle};
+ghost use Rattle.h5_state.specs.Steps.{world_of};
+ghost use Rattle.h5_state.specs.Turn.{Turns};
+ghost use Rattle.h5_tree_builder.specs.Chains.{IsReady, Settles};
+
+use super::dispatch::{
+    check_flag, is_self_closing_tag, settle_token, step_by_any_mode, step_token,
+};
+use super::taken::Taken;
+use h5_foreign::is_in_known_html;
+use h5_interface::TreeSink;
+use h5_rules_body::in_body_tag;
+use h5_rules_tables::{in_cell_tag, in_row_tag, in_table_body_tag, in_table_tag};
+use h5_state::{State, Turn, current_mode, set_mode};
+use h5_token::{Tag, TokenSinkResult};
+use h5_types::{InsertionMode, ProcessResult, Token};
+use std::alloc::AllocError;
+
+// One turn of a tag, by the rule of the mode. Most tags of a page come in these.
+#[inline(always)]
+fn step_tag_by_mode<S: TreeSink>(
+    sink: &mut S,
+    state: &mut State<S::Handle>,
+    tag: Tag,
+) -> Turn<S::Handle>
+    requires { IsReady S.TreeSink sink.old state.old }
+    ensures { Turns S.TreeSink (rule (world_of S.TreeSink sink.old state.old).mode (TagTurn (tag_text tag))) (TagTurn (tag_text tag)) sink.old state.old sink.new state.new result }
+{
+    match current_mode(sink, state) {
+        InsertionMode::InBody => in_body_tag(sink, state, tag),
+        InsertionMode::InTable => in_table_tag(sink, state, tag),
+        InsertionMode::InTableBody => in_table_body_tag(sink, state, tag),
+        InsertionMode::InRow => in_row_tag(sink, state, tag),
+        InsertionMode::InCell => in_cell_tag(sink, state, tag),
+        _ => step_by_any_mode(sink, state, Token::Tag(tag)),
+    }
+}
+
+// One turn of a tag.
+#[tactic(auto, unfolding(h5_meaning::specs::Foreign::is_foreign))]
+#[inline(always)]
+fn step_tag<S: TreeSink>(sink: &mut S, state: &mut State<S::Handle>, tag: Tag) -> Turn<S::Handle>
+    requires { IsReady S.TreeSink sink.old state.old }
+    ensures { Turns S.TreeSink (dispatch S.choices (TagTurn (tag_text tag))) (TagTurn (tag_text tag)) sink.old state.old sink.new state.new result }
+{
+    if is_in_known_html(sink, state) {
+        step_tag_by_mode(sink, state, tag)
+    } else {
+        step_token(sink, state, Token::Tag(tag))
+    }
+}
+
+/// The chain of a tag. It gives how many turns there were and what is answered, or an `AllocError` where memory is
+/// refused; what was built so far is sound then.
+pub fn settle_tag<S: TreeSink>(
+    sink: &mut S,
+    state: &mut State<S::Handle>,
+    tag: Tag,
+) -> Result<Taken<S::Handle>, AllocError>
+    requires { IsReady S.TreeSink sink.old state.old }
+    ensures { Settles S.TreeSink (settle S.choices (TagTurn (tag_text tag))) true sink.old state.old sink.new state.new result }
+{
+    let self_closing = is_self_closing_tag(&tag);
+    match step_tag(sink, state, tag)? {
+        ProcessResult::Done => {
+            check_flag(sink, state, self_closing);
+            Ok(Taken {
+                turns: 1,
+                answer: TokenSinkResult::Continue,
+            })
+        }
+        ProcessResult::DoneAckSelfClosing => Ok(Taken {
+            turns: 1,
+            answer: TokenSinkResult::Continue,
+        }),
+        ProcessResult::Answer(answer) => Ok(Taken { turns: 1, answer }),
+        ProcessResult::Reprocess(mode, again) => {
+            set_mode(sink, state, mode);
+            let rest = settle_token(sink, state, again)?;
+            Ok(Taken {
+                turns: rest.turns + 1,
+                answer: rest.answer,
+            })
+        }
+    }
+}
