@@ -22,6 +22,14 @@ bare_tag kind name = TagIs (record {
   had_duplicate_attributes = false;
 })
 
+-- so many bytes are a name, a letter at first, and the '>' that ends the tag stands behind them
+pub record IsBareName (xs : List ℕ) (n : ℕ) : Type 0 where
+  pub some : 0 < n
+  pub within : n < length xs
+  pub passed : (k : ℕ) → k < n → is_in NameEnd (slice_index xs k) ≡ false
+  pub starts : is_ascii_alphabetic (slice_index xs 0) ≡ true
+  pub ends : slice_index xs n ≡ 62
+
 -- what stands behind the opening of a tag is a name, the '>' that ends the tag, and this rest
 pub record IsBare (xs name rest : List ℕ) : Type 0 where
   pub some : 0 < length xs

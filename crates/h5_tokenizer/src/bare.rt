@@ -1,9 +1,9 @@
 //! Tags that are nothing but their names. Most tags are.
-ghost use Rattle.std.specs.Prelude.{◌≡◌, ◌<◌, ℕ, false, true, length, slice_index, IfSome, IfOk};
+ghost use Rattle.std.specs.Prelude.{◌≡◌, false, true, IfSome, IfOk};
 ghost use Rattle.std.specs.Char.{is_ascii_alphabetic};
 ghost use Rattle.h5_token.specs.TokenText.{token_text};
 ghost use Rattle.h5_scan.specs.Cuts.{is_in};
-ghost use Rattle.h5_tokenizer.specs.Bare.{bare_tag, BeginsBare, IsBare};
+ghost use Rattle.h5_tokenizer.specs.Bare.{bare_tag, BeginsBare, IsBare, IsBareName};
 
 use super::front::Mode;
 use super::state::Search;
@@ -20,29 +20,23 @@ fn is_name_byte(b: u8, first: bool) -> bool
     b.is_ascii_alphabetic() || (!first && b.is_ascii_digit())
 }
 
-// The length of a name of letters and digits that a `>` follows, or 0 where there is none.
-fn bare_name(bytes: &[u8]) -> usize
-    ensures within { 0 < result → result < length bytes.now }
-    ensures passed { (k : ℕ) → k < result → is_in Class.NameEnd (slice_index bytes.now k) ≡ false }
-    ensures starts { 0 < result → is_ascii_alphabetic (slice_index bytes.now 0) ≡ true }
-    ensures ends { 0 < result → slice_index bytes.now result ≡ 62 }
+// The length of a name of letters and digits that a `>` follows, where there is one.
+fn bare_name(bytes: &[u8]) -> Option<usize>
+    ensures { IfSome result (λ n. IsBareName bytes.now n) }
 {
     for (i, b) in bytes.iter().enumerate() {
         if !is_name_byte(*b, i == 0) {
-            return if *b == b'>' { i } else { 0 };
+            return if i > 0 && *b == b'>' { Some(i) } else { None };
         }
     }
-    0
+    None
 }
 
 // The tag behind its opening.
 fn cut_bare<'a>(kind: TagKind, text: &'a str) -> Option<(TagKind, &'a str, &'a str)>
     ensures { IfSome result (λ tag. (tag.0 ≡ kind) × IsBare text.now tag.1.now tag.2.now) }
 {
-    let n = bare_name(text.as_bytes());
-    if n == 0 {
-        return None;
-    }
+    let n = bare_name(text.as_bytes())?;
     let (name, behind) = text.split_at(n);
     let (_, rest) = behind.split_at(1);
     Some((kind, name, rest))

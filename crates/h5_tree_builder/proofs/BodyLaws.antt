@@ -1,41 +1,38 @@
--- Texts by the rule of "in body", and chains that were begun.
-use Rattle.std.proofs.Common.{◌+◌, ℕ, List, true, refl, sym, subst, ◌∙◌, arith}
-use Rattle.h5_token.specs.declared.sink.TokenSinkResult.{TokenSinkResult}
+-- Turns by the rule of the mode, and texts by that of "in body", as turns of the token.
+use Rattle.std.proofs.Common.{◌≡◌, ℕ, List, false, refl, ap, sym, subst, ◌∙◌}
 use Rattle.h5_interface.specs.SinkChoices.{SinkChoices}
-use Rattle.h5_types.specs.TurnText.{TextTurn, TurnText}
+use Rattle.h5_types.specs.TurnText.{HasText, TextTurn, TurnText}
 use Rattle.h5_types.specs.declared.modes.SplitStatus.{SplitStatus}
 use Rattle.h5_types.specs.declared.turns.ProcessResult.{ProcessResult}
 use Rattle.h5_types.specs.declared.turns.ProcessResult.TheVariants as results
+use Rattle.h5_meaning.specs.Foreign.{is_foreign}
 use Rattle.h5_meaning.specs.ForeignContent.{dispatch}
+use Rattle.h5_meaning.specs.Modes.{rule}
 use Rattle.h5_meaning.specs.Rows.{Follows}
-use Rattle.h5_meaning.specs.Settle.{settle}
+use Rattle.h5_meaning.specs.Settle.{Settled, settle}
 use Rattle.h5_meaning.specs.Shared.{in_body_text}
+use Rattle.h5_meaning.specs.Sound.{Fits, Sound}
 use Rattle.h5_meaning.specs.World.{World}
+use Rattle.h5_meaning.proofs.ForeignFitLaws.{fits_done}
 use Rattle.h5_meaning.proofs.ForeignRowLaws.{dispatch_html}
-use Rattle.h5_tree_builder.specs.Chains.{CameTo}
+use Rattle.h5_meaning.proofs.SettleLaws.{ends_here}
 use Rattle.h5_tree_builder.specs.TextInBody.{TakesTextByBody}
-use Rattle.h5_tree_builder.proofs.ChainLaws.{Left}
 
 module _ {H : Type 0} (choices : SinkChoices) (node : H → ℕ) where
+  -- where the token isn't foreign, a turn by the rule of the mode is its turn
+  pub follows_mode : (t : TurnText) (w v : World) (a b : ℕ) (r : ProcessResult H) → is_foreign choices t w ≡ false → Follows choices node (rule w.mode t w) t w v a b r → Follows choices node (dispatch choices t w) t w v a b r
+  follows_mode t w v a b r h f = subst (λ row. Follows choices node row t w v a b r) (sym (dispatch_html choices t w h)) f
+
   text_ends : (t : TurnText) (x : List ℕ) (w v : World) (a b : ℕ) (r : ProcessResult H) → Follows choices node (in_body_text x w) t w v a b r → Follows choices node (in_body_text x w) t w v a b results.Done
   text_ends t x w v a b results.Done f = f
   text_ends t x w v a b results.DoneAckSelfClosing f = record { world = f.world; ending = refl; quiet = f.quiet }
   text_ends t x w v a b (results.Reprocess mode token) f = record { world = f.world; ending = refl; quiet = f.quiet }
   text_ends t x w v a b (results.Answer answer) f = record { world = f.world; ending = refl; quiet = f.quiet }
 
-  -- a text is done with after it
-  pub text_follows : (s : SplitStatus) (x : List ℕ) (w v : World) (a b : ℕ) (r : ProcessResult H) → TakesTextByBody choices w → Follows choices node (in_body_text x w) (TextTurn s x) w v a b r
-      → Follows choices node (dispatch choices (TextTurn s x) w) (TextTurn s x) w v a b results.Done
-  text_follows s x w v a b r g f =
-      subst (λ row. Follows choices node row (TextTurn s x) w v a b results.Done) (sym (dispatch_html choices (TextTurn s x) w (g.html (TextTurn s x)) ∙ g.by_body s x))
-      (text_ends (TextTurn s x) x w v a b r f)
-
-  -- what is left of a chain came to what is defined, and so did all of it
-  pub left_came : (t : TurnText) (first w v : World) (a b e n turns : ℕ) (answer : TokenSinkResult H) → Left choices t first w a b n → CameTo node (settle choices t w) true v b e (record { turns = turns; answer = answer })
-      → CameTo node (settle choices t first) true v a e (record { turns = turns + n; answer = answer })
-  left_came t first w v a b e n turns answer l c = record {
-    world = c.world ∙ sym l.world;
-    turns = λ h. omega (arith, c.turns h, l.turns);
-    reply = c.reply ∙ sym l.reply;
-    quiet = λ h. let q = l.quiet h in c.quiet q.0 ∙ q.1;
-  }
+  -- a text is done with after one turn, in the world that its chain comes to, which fits
+  pub text_came_by_body : (s : SplitStatus) (x : List ℕ) (w v : World) (a b : ℕ) (r : ProcessResult H) → TakesTextByBody choices w → Follows choices node (in_body_text x w) (TextTurn s x) w v a b r → Sound w → HasText (TextTurn s x) → Fits w
+      → (v ≡ (settle choices (TextTurn s x) w).world) × Fits v
+  text_came_by_body s x w v a b r g f k some h =
+      let t = TextTurn s x in
+      let done = follows_mode t w v a b results.Done (g.html t) (subst (λ row. Follows choices node row t w v a b results.Done) (sym (g.by_body s x)) (text_ends t x w v a b r f)) in
+      (sym (ap (λ (s : Settled). s.world) (ends_here choices node t w v a b done)), fits_done choices node t w v a b done k some h)

@@ -95,3 +95,12 @@ module _ {H : Type 0} (choices : SinkChoices) (node : H → ℕ) (t : TurnText) 
 
   pub answered_last : (a b c n : ℕ) (answer : TokenSinkResult H) → Follows choices node (dispatch choices t w) t w v b c (results.Answer answer) → Left choices t first w a b n → CameTo node (settle choices t first) true v a c (record { turns = n + 1; answer = answer })
   answered_last a b c n answer f l = last a b c c n answer true (answered_here choices node t w v b c answer f) f.quiet (λ h. refl) l
+
+  -- what is left of a chain came to what is defined, and so did all of it
+  pub left_came : (a b e n turns : ℕ) (answer : TokenSinkResult H) → Left choices t first w a b n → CameTo node (settle choices t w) true v b e (record { turns = turns; answer = answer }) → CameTo node (settle choices t first) true v a e (record { turns = turns + n; answer = answer })
+  left_came a b e n turns answer l c = record {
+    world = c.world ∙ sym l.world;
+    turns = λ h. omega (arith, c.turns h, l.turns);
+    reply = c.reply ∙ sym l.reply;
+    quiet = λ h. let q = l.quiet h in c.quiet q.0 ∙ q.1;
+  }

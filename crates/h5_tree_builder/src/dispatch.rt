@@ -1,5 +1,5 @@
 //! The turns of one token (HTML standard, section 13.2.6, "the tree construction dispatcher").
-ghost use Rattle.std.specs.Prelude.{◌≡◌, false, true, IfOk};
+ghost use Rattle.std.specs.Prelude.{◌≡◌, ◌<◌, false, true, IfOk};
 ghost use Rattle.h5_token.specs.TokenText.{tag_text};
 ghost use Rattle.h5_types.specs.TurnText.{HasText, TagTurn, is_self_closing as is_closing_turn, turn_text};
 ghost use Rattle.h5_meaning.specs.Foreign.{is_foreign};
@@ -117,20 +117,6 @@ fn step<S: TreeSink>(sink: &mut S, state: &mut State<S::Handle>, token: Token) -
     }
 }
 
-/// One turn, in foreign content or not.
-#[inline(never)]
-pub fn step_token<S: TreeSink>(
-    sink: &mut S,
-    state: &mut State<S::Handle>,
-    token: Token,
-) -> Turn<S::Handle>
-    requires ready { IsReady S.TreeSink sink.old state.old }
-    requires text { HasText (turn_text token) }
-    ensures { Turns S.TreeSink (dispatch S.choices (turn_text token)) (turn_text token) sink.old state.old sink.new state.new result }
-{
-    step(sink, state, token)
-}
-
 /// Whether a tag is a start tag with the self-closing flag.
 pub fn is_self_closing_tag(tag: &Tag) -> bool
     ensures { result ≡ is_closing_turn (TagTurn (tag_text tag.now)) }
@@ -153,6 +139,7 @@ pub fn check_flag<S: TreeSink>(sink: &mut S, state: &State<S::Handle>, self_clos
     requires { IsSound S.TreeSink sink.old state.now }
     ensures told { TellsErrors S.TreeSink sink.old sink.new state.now }
     ensures quiet { self_closing ≡ false → errors_of S.TreeSink sink.new ≡ errors_of S.TreeSink sink.old }
+    ensures noted { self_closing ≡ true → 0 < errors_of S.TreeSink sink.new }
 {
     if self_closing {
         tell_error(

@@ -1,18 +1,15 @@
 //! The turns of a tag. The first one is taken without a token around it; most tags take no other.
-ghost use Rattle.std.specs.Prelude.{◌≡◌, true};
+ghost use Rattle.std.specs.Prelude.{◌≡◌, false, true};
 ghost use Rattle.h5_token.specs.TokenText.{tag_text};
 ghost use Rattle.h5_types.specs.TurnText.{TagTurn};
 ghost use Rattle.h5_meaning.specs.Foreign.{is_foreign};
-ghost use Rattle.h5_meaning.specs.ForeignContent.{dispatch};
 ghost use Rattle.h5_meaning.specs.Modes.{rule};
 ghost use Rattle.h5_meaning.specs.Settle.{settle};
 ghost use Rattle.h5_state.specs.Steps.{world_of};
 ghost use Rattle.h5_state.specs.Turn.{Turns};
 ghost use Rattle.h5_tree_builder.specs.Chains.{IsReady, Settles};
 
-use super::dispatch::{
-    check_flag, is_self_closing_tag, settle_token, step_by_any_mode, step_token,
-};
+use super::dispatch::{check_flag, is_self_closing_tag, settle_token, step_by_any_mode};
 use super::taken::Taken;
 use h5_foreign::is_in_known_html;
 use h5_interface::TreeSink;
@@ -43,32 +40,18 @@ fn step_tag_by_mode<S: TreeSink>(
     }
 }
 
-// One turn of a tag.
-#[tactic(auto, unfolding(h5_meaning::specs::Foreign::is_foreign))]
-#[inline(always)]
-fn step_tag<S: TreeSink>(sink: &mut S, state: &mut State<S::Handle>, tag: Tag) -> Turn<S::Handle>
-    requires { IsReady S.TreeSink sink.old state.old }
-    ensures { Turns S.TreeSink (dispatch S.choices (TagTurn (tag_text tag))) (TagTurn (tag_text tag)) sink.old state.old sink.new state.new result }
-{
-    if is_in_known_html(sink, state) {
-        step_tag_by_mode(sink, state, tag)
-    } else {
-        step_token(sink, state, Token::Tag(tag))
-    }
-}
-
-/// The chain of a tag. It gives how many turns there were and what is answered, or an `AllocError` where memory is
-/// refused; what was built so far is sound then.
-pub fn settle_tag<S: TreeSink>(
+// The chain of a tag whose first turn isn't in foreign content.
+fn settle_tag_in_html<S: TreeSink>(
     sink: &mut S,
     state: &mut State<S::Handle>,
     tag: Tag,
 ) -> Result<Taken<S::Handle>, AllocError>
-    requires { IsReady S.TreeSink sink.old state.old }
+    requires ready { IsReady S.TreeSink sink.old state.old }
+    requires html { is_foreign S.choices (TagTurn (tag_text tag)) (world_of S.TreeSink sink.old state.old) ≡ false }
     ensures { Settles S.TreeSink (settle S.choices (TagTurn (tag_text tag))) true sink.old state.old sink.new state.new result }
 {
     let self_closing = is_self_closing_tag(&tag);
-    match step_tag(sink, state, tag)? {
+    match step_tag_by_mode(sink, state, tag)? {
         ProcessResult::Done => {
             check_flag(sink, state, self_closing);
             Ok(Taken {
@@ -89,5 +72,24 @@ pub fn settle_tag<S: TreeSink>(
                 answer: rest.answer,
             })
         }
+    }
+}
+
+/// The chain of a tag. It gives how many turns there were and what is answered, or an `AllocError` where memory is
+/// refused; what was built so far is sound then.
+#[tactic(auto, unfolding(h5_meaning::specs::Foreign::is_foreign))]
+#[inline(always)]
+pub fn settle_tag<S: TreeSink>(
+    sink: &mut S,
+    state: &mut State<S::Handle>,
+    tag: Tag,
+) -> Result<Taken<S::Handle>, AllocError>
+    requires { IsReady S.TreeSink sink.old state.old }
+    ensures { Settles S.TreeSink (settle S.choices (TagTurn (tag_text tag))) true sink.old state.old sink.new state.new result }
+{
+    if is_in_known_html(sink, state) {
+        settle_tag_in_html(sink, state, tag)
+    } else {
+        settle_token(sink, state, Token::Tag(tag))
     }
 }

@@ -1,4 +1,4 @@
-use Rattle.std.proofs.Common.{◌≡◌, ◌<◌, ◌+◌, drop, refl, ap, ◌∙◌, arith}
+use Rattle.std.proofs.Common.{◌≡◌, ◌+◌, drop, refl, ap, ◌∙◌, arith}
 use Rattle.h5_scan.specs.Ending.{ends}
 use Rattle.h5_scan.specs.declared.ending.Inside.TheVariants.{TagName}
 use Rattle.h5_scan.proofs.Endings.{boundary_behind}
@@ -7,15 +7,13 @@ use Rattle.h5_tokenizer.proofs.bare.cut_bare.Goals as goal
 
 pub split_at-requires-2 : goal.split_at-requires-2
 split_at-requires-2 c =
-    let n = c.bare_name-n.result in
-    let at = rw c.as_bytes.ensures.value at c.bare_name-n.ensures in
-    let some : 0 < n = omega arith in
+    let n = c.in_ok-n.n in
+    let at = rw c.as_bytes.ensures.value at c.in_ok-n.ensures in
     let same : n ≡ 0 + n = omega arith in
-    boundary_behind TagName c.args.text.now c.split_at.result.1.now 0 n c.utf8.text (c.split_at.ensures.back ∙ ap (λ k. drop k c.args.text.now) same) (at.within some) (ap (ends TagName) (at.ends some))
+    boundary_behind TagName c.args.text.now c.split_at.result.1.now 0 n c.utf8.text (c.split_at.ensures.back ∙ ap (λ k. drop k c.args.text.now) same) at.within (ap (ends TagName) at.ends)
 
 pub returns : goal.returns
 returns c =
-    let n = c.bare_name-n.result in
-    let at = rw c.as_bytes.ensures.value at c.bare_name-n.ensures in
-    let some : 0 < n = omega arith in
-    (refl, bare_by c.args.text.now c.split_at.result.0.now c.split_at.result.1.now c.split_at-2.result.1.now n (at.within some) at.passed (at.starts some) (at.ends some) c.split_at.ensures.front c.split_at.ensures.back c.split_at-2.ensures.back)
+    let n = c.in_ok-n.n in
+    let at = rw c.as_bytes.ensures.value at c.in_ok-n.ensures in
+    (refl, bare_by c.args.text.now c.split_at.result.0.now c.split_at.result.1.now c.split_at-2.result.1.now n at.within at.passed at.starts at.ends c.split_at.ensures.front c.split_at.ensures.back c.split_at-2.ensures.back)

@@ -2,7 +2,7 @@ use Rattle.std.proofs.Common.{true, refl, sym, subst, arith}
 use Rattle.h5_token.specs.TokenText.{tag_text}
 use Rattle.h5_token.specs.declared.sink.TokenSinkResult.TheVariants.{Continue}
 use Rattle.h5_types.specs.TurnText.{TagTurn, turn_text}
-use Rattle.h5_meaning.specs.ForeignContent.{dispatch}
+use Rattle.h5_meaning.specs.Modes.{rule}
 use Rattle.h5_meaning.specs.Rows.{Follows}
 use Rattle.h5_meaning.specs.Settle.{settle}
 use Rattle.h5_meaning.specs.Sound.{Fits}
@@ -10,9 +10,9 @@ use Rattle.h5_meaning.proofs.ForeignFitLaws.{fits_acknowledged, fits_again, fits
 use Rattle.h5_meaning.proofs.TurnLaws.{turns_few}
 use Rattle.h5_state.specs.View.{world}
 use Rattle.h5_tree_builder.specs.Chains.{CameTo}
-use Rattle.h5_tree_builder.proofs.BodyLaws.{left_came}
-use Rattle.h5_tree_builder.proofs.ChainLaws.{acknowledged_last, answered_last, done_last, few_open, left_all, left_next}
-use Rattle.h5_tree_builder.proofs.tag.settle_tag.Goals as goal
+use Rattle.h5_tree_builder.proofs.BodyLaws.{follows_mode}
+use Rattle.h5_tree_builder.proofs.ChainLaws.{acknowledged_last, answered_last, done_last, few_open, left_all, left_came, left_next}
+use Rattle.h5_tree_builder.proofs.tag.settle_tag_in_html.Goals as goal
 
 pub returns-in-Done : goal.returns-in-Done
 returns-in-Done g c =
@@ -20,16 +20,16 @@ returns-in-Done g c =
     let node = g.S.TreeSink.node in
     let t = TagTurn (tag_text c.args.tag) in
     let w = world g.S.TreeSink.sees node c.args.sink.now c.args.state.now in
-    let v = world g.S.TreeSink.sees node c.step_tag.new.sink c.step_tag.new.state in
+    let v = world g.S.TreeSink.sees node c.step_tag_by_mode.new.sink c.step_tag_by_mode.new.state in
     let a = (g.S.TreeSink.sees c.args.sink.now).errors in
-    let b = (g.S.TreeSink.sees c.step_tag.new.sink).errors in
+    let b = (g.S.TreeSink.sees c.step_tag_by_mode.new.sink).errors in
     let d = (g.S.TreeSink.sees c.check_flag.new.sink).errors in
-    let f = subst (λ r. Follows k node (dispatch k t w) t w v a b r) c.in-Done.is c.in_ok-step_tag.ensures.follows in
+    let f = follows_mode k node t w v a b _ c.requires.html (subst (λ r. Follows k node (rule w.mode t w) t w v a b r) c.in-Done.is c.in_ok-step_tag_by_mode.ensures.follows) in
     record {
       came = subst (λ x. CameTo node (settle k t w) true x a d (record { turns = 1; answer = Continue })) (sym c.check_flag.ensures.told.world)
           (done_last k node t w w v a a b d 0 c.is_self_closing_tag-self_closing.result f c.is_self_closing_tag-self_closing.ensures c.check_flag.ensures.quiet (left_all k t w a));
-      sound = c.check_flag.ensures.told.sound c.step_tag.ensures.sound;
-      fits = subst Fits (sym c.check_flag.ensures.told.world) (fits_done k node t w v a b f c.requires.sound.sound tt c.requires.fits);
+      sound = c.check_flag.ensures.told.sound c.step_tag_by_mode.ensures.sound;
+      fits = subst Fits (sym c.check_flag.ensures.told.world) (fits_done k node t w v a b f c.requires.ready.sound.sound tt c.requires.ready.fits);
     }
 
 pub returns-in-DoneAckSelfClosing : goal.returns-in-DoneAckSelfClosing
@@ -38,14 +38,14 @@ returns-in-DoneAckSelfClosing g c =
     let node = g.S.TreeSink.node in
     let t = TagTurn (tag_text c.args.tag) in
     let w = world g.S.TreeSink.sees node c.args.sink.now c.args.state.now in
-    let v = world g.S.TreeSink.sees node c.step_tag.new.sink c.step_tag.new.state in
+    let v = world g.S.TreeSink.sees node c.step_tag_by_mode.new.sink c.step_tag_by_mode.new.state in
     let a = (g.S.TreeSink.sees c.args.sink.now).errors in
-    let b = (g.S.TreeSink.sees c.step_tag.new.sink).errors in
-    let f = subst (λ r. Follows k node (dispatch k t w) t w v a b r) c.in-DoneAckSelfClosing.is c.in_ok-step_tag.ensures.follows in
+    let b = (g.S.TreeSink.sees c.step_tag_by_mode.new.sink).errors in
+    let f = follows_mode k node t w v a b _ c.requires.html (subst (λ r. Follows k node (rule w.mode t w) t w v a b r) c.in-DoneAckSelfClosing.is c.in_ok-step_tag_by_mode.ensures.follows) in
     record {
       came = acknowledged_last k node t w w v a a b 0 f (left_all k t w a);
-      sound = c.step_tag.ensures.sound;
-      fits = fits_acknowledged k node t w v a b f c.requires.sound.sound tt c.requires.fits;
+      sound = c.step_tag_by_mode.ensures.sound;
+      fits = fits_acknowledged k node t w v a b f c.requires.ready.sound.sound tt c.requires.ready.fits;
     }
 
 pub returns-in-Answer : goal.returns-in-Answer
@@ -54,21 +54,21 @@ returns-in-Answer g c =
     let node = g.S.TreeSink.node in
     let t = TagTurn (tag_text c.args.tag) in
     let w = world g.S.TreeSink.sees node c.args.sink.now c.args.state.now in
-    let v = world g.S.TreeSink.sees node c.step_tag.new.sink c.step_tag.new.state in
+    let v = world g.S.TreeSink.sees node c.step_tag_by_mode.new.sink c.step_tag_by_mode.new.state in
     let a = (g.S.TreeSink.sees c.args.sink.now).errors in
-    let b = (g.S.TreeSink.sees c.step_tag.new.sink).errors in
-    let f = subst (λ r. Follows k node (dispatch k t w) t w v a b r) c.in-Answer.is c.in_ok-step_tag.ensures.follows in
+    let b = (g.S.TreeSink.sees c.step_tag_by_mode.new.sink).errors in
+    let f = follows_mode k node t w v a b _ c.requires.html (subst (λ r. Follows k node (rule w.mode t w) t w v a b r) c.in-Answer.is c.in_ok-step_tag_by_mode.ensures.follows) in
     record {
       came = answered_last k node t w w v a a b 0 c.in-Answer.answer f (left_all k t w a);
-      sound = c.step_tag.ensures.sound;
-      fits = fits_answered k node t w v a b c.in-Answer.answer f c.requires.sound.sound tt c.requires.fits;
+      sound = c.step_tag_by_mode.ensures.sound;
+      fits = fits_answered k node t w v a b c.in-Answer.answer f c.requires.ready.sound.sound tt c.requires.ready.fits;
     }
 
 pub overflow_add-result : goal.overflow_add-result
 overflow_add-result g c =
     let k = g.S.TreeSink.choices in
     let node = g.S.TreeSink.node in
-    omega (arith, c.in_ok-rest-in-Reprocess.ensures.came.turns refl, turns_few k (turn_text c.in-Reprocess.again) (world g.S.TreeSink.sees node c.step_tag.new.sink c.set_mode.new.state), few_open g.S.TreeSink.sees node c.step_tag.new.sink c.set_mode.new.state)
+    omega (arith, c.in_ok-rest-in-Reprocess.ensures.came.turns refl, turns_few k (turn_text c.in-Reprocess.again) (world g.S.TreeSink.sees node c.step_tag_by_mode.new.sink c.set_mode.new.state), few_open g.S.TreeSink.sees node c.step_tag_by_mode.new.sink c.set_mode.new.state)
 
 pub returns-in_ok-rest-in-Reprocess : goal.returns-in_ok-rest-in-Reprocess
 returns-in_ok-rest-in-Reprocess g c =
@@ -76,16 +76,16 @@ returns-in_ok-rest-in-Reprocess g c =
     let node = g.S.TreeSink.node in
     let t = TagTurn (tag_text c.args.tag) in
     let w = world g.S.TreeSink.sees node c.args.sink.now c.args.state.now in
-    let v = world g.S.TreeSink.sees node c.step_tag.new.sink c.step_tag.new.state in
-    let u = world g.S.TreeSink.sees node c.step_tag.new.sink c.set_mode.new.state in
+    let v = world g.S.TreeSink.sees node c.step_tag_by_mode.new.sink c.step_tag_by_mode.new.state in
+    let u = world g.S.TreeSink.sees node c.step_tag_by_mode.new.sink c.set_mode.new.state in
     let last = world g.S.TreeSink.sees node c.settle_token.new.sink c.settle_token.new.state in
     let a = (g.S.TreeSink.sees c.args.sink.now).errors in
-    let b = (g.S.TreeSink.sees c.step_tag.new.sink).errors in
+    let b = (g.S.TreeSink.sees c.step_tag_by_mode.new.sink).errors in
     let e = (g.S.TreeSink.sees c.settle_token.new.sink).errors in
     let m = c.in-Reprocess.mode in
     let token = c.in-Reprocess.again in
-    let f = subst (λ r. Follows k node (dispatch k t w) t w v a b r) c.in-Reprocess.is c.in_ok-step_tag.ensures.follows in
-    let left = left_next k node t w w v u a a b 0 m token f c.set_mode.ensures.world c.requires.sound.sound tt c.requires.fits (left_all k t w a) in
+    let f = follows_mode k node t w v a b _ c.requires.html (subst (λ r. Follows k node (rule w.mode t w) t w v a b r) c.in-Reprocess.is c.in_ok-step_tag_by_mode.ensures.follows) in
+    let left = left_next k node t w w v u a a b 0 m token f c.set_mode.ensures.world c.requires.ready.sound.sound tt c.requires.ready.fits (left_all k t w a) in
     let came : CameTo node (settle k t u) true last b e c.in_ok-rest-in-Reprocess.rest = subst (λ x. CameTo node (settle k x u) true last b e c.in_ok-rest-in-Reprocess.rest) f.ending.1 c.in_ok-rest-in-Reprocess.ensures.came in
     record {
       came = left_came k node t w u last a b e 1 c.in_ok-rest-in-Reprocess.rest.turns c.in_ok-rest-in-Reprocess.rest.answer left came;
@@ -99,14 +99,14 @@ settle_token-requires-clause-ready g c =
     let node = g.S.TreeSink.node in
     let t = TagTurn (tag_text c.args.tag) in
     let w = world g.S.TreeSink.sees node c.args.sink.now c.args.state.now in
-    let v = world g.S.TreeSink.sees node c.step_tag.new.sink c.step_tag.new.state in
-    let u = world g.S.TreeSink.sees node c.step_tag.new.sink c.set_mode.new.state in
+    let v = world g.S.TreeSink.sees node c.step_tag_by_mode.new.sink c.step_tag_by_mode.new.state in
+    let u = world g.S.TreeSink.sees node c.step_tag_by_mode.new.sink c.set_mode.new.state in
     let a = (g.S.TreeSink.sees c.args.sink.now).errors in
-    let b = (g.S.TreeSink.sees c.step_tag.new.sink).errors in
+    let b = (g.S.TreeSink.sees c.step_tag_by_mode.new.sink).errors in
     let m = c.in-Reprocess.mode in
     let token = c.in-Reprocess.again in
-    let f = subst (λ r. Follows k node (dispatch k t w) t w v a b r) c.in-Reprocess.is c.in_ok-step_tag.ensures.follows in
+    let f = follows_mode k node t w v a b _ c.requires.html (subst (λ r. Follows k node (rule w.mode t w) t w v a b r) c.in-Reprocess.is c.in_ok-step_tag_by_mode.ensures.follows) in
     record {
       sound = c.set_mode.ensures.sound;
-      fits = fits_again k node t w v u a b m token f c.set_mode.ensures.world c.requires.sound.sound tt c.requires.fits;
+      fits = fits_again k node t w v u a b m token f c.set_mode.ensures.world c.requires.ready.sound.sound tt c.requires.ready.fits;
     }
