@@ -6,8 +6,8 @@ use Rattle.h5_interface.specs.Seen.{Seen, after_pop, changed, with_last_child}
 use Rattle.h5_interface.specs.SinkChoices.{SinkChoices}
 use Rattle.h5_interface.specs.declared.sink.TreeSink.{Ghosts}
 use Rattle.h5_token.specs.TokenText.{TagText}
-use Rattle.h5_stack.specs.Adoption.{FormattingElement, FurthestBlock, older_than, round_list, round_stack, to_clone}
-use Rattle.h5_stack.specs.Order.{first_or}
+use Rattle.h5_meaning.specs.Adoption.{FormattingElement, FurthestBlock, older_than, round_list, round_stack, to_clone}
+use Rattle.h5_meaning.specs.Order.{first_or}
 use Rattle.h5_meaning.specs.AdoptionAgency.{adopt, common_ancestor, make_for, nest, placed, refilled}
 use Rattle.h5_meaning.specs.Changes.{with_forest}
 use Rattle.h5_meaning.specs.Place.{appropriate_place, put}

@@ -3,22 +3,22 @@ use Rattle.std.proofs.Common.{◌<◌, ◌≢◌, arith, ◌≡◌, ℕ, suc, Bo
 use Rattle.std.specs.List.{list_any}
 use Rattle.h5_interface.specs.SinkChoices.{SinkChoices}
 use Rattle.h5_tag_sets.specs.TagSets.{is_default_scope, is_special}
-use Rattle.h5_stack.specs.Adoption.{FormattingElement, FurthestBlock, furthest_block, newer_than, newest_named}
-use Rattle.h5_stack.specs.FormattingList.{ElementEntry, nodes_of, without_entry}
-use Rattle.h5_stack.specs.Order.{Before, is_in}
-use Rattle.h5_stack.proofs.EntryLaws.{nodes_of-append}
-use Rattle.h5_stack.proofs.PairLaws.{distinct_apart}
+use Rattle.h5_meaning.specs.Adoption.{FormattingElement, FurthestBlock, furthest_block, newer_than, newest_named}
+use Rattle.h5_meaning.specs.FormattingList.{ElementEntry, nodes_of, without_entry}
+use Rattle.h5_meaning.specs.Order.{Before, is_in}
+use Rattle.h5_meaning.proofs.EntryLaws.{nodes_of-append}
+use Rattle.h5_meaning.proofs.PairLaws.{distinct_apart}
 use Rattle.h5_names.specs.AttributeText.{is_same_text}
 use Rattle.h5_meaning.specs.AdoptionAgency.{adopt_at, adopt_by, adopt_within, adoption_agency, KeepsKinds}
 use Rattle.h5_names.specs.declared.qualified.QualName.{QualName}
 use Rattle.h5_interface.specs.Forest.{ElementNode}
 use Rattle.h5_interface.proofs.ForestLaws.{node_of_kind}
 use Rattle.h5_tag_sets.specs.TagSets.{is_html_named}
-use Rattle.h5_fits.specs.Root.{IsRootOpen}
-use Rattle.h5_stack.specs.FormattingNames.{html_name}
-use Rattle.h5_stack.specs.Order.{last_or}
-use Rattle.h5_stack.proofs.KeptLaws.{without_entry_none}
-use Rattle.h5_stack.proofs.PairLaws.{is_in_telling}
+use Rattle.h5_meaning.specs.Root.{IsRootOpen}
+use Rattle.h5_meaning.specs.FormattingNames.{html_name}
+use Rattle.h5_meaning.specs.Order.{last_or}
+use Rattle.h5_meaning.proofs.KeptListsLaws.{without_entry_none}
+use Rattle.h5_meaning.proofs.PairLaws.{is_in_telling}
 use Rattle.h5_meaning.specs.Sound.{Sound}
 use Rattle.h5_meaning.specs.World.{name_of_found, names_of, root}
 use Rattle.h5_meaning.proofs.AdoptionAgencyLaws.{LeavesReady, agency_leaves, leaves_refl, round_ready}

@@ -5,8 +5,8 @@ use Rattle.h5_token.specs.TokenText.{TagText}
 use Rattle.h5_interface.specs.Seen.{changed}
 use Rattle.h5_interface.specs.SinkChoices.{SinkChoices}
 use Rattle.h5_interface.specs.declared.sink.TreeSink.{Ghosts}
-use Rattle.h5_stack.specs.FormattingList.{ElementEntry, Entry, MarkerEntry, nodes_of}
-use Rattle.h5_stack.specs.Order.{IsIn, is_in}
+use Rattle.h5_meaning.specs.FormattingList.{ElementEntry, Entry, MarkerEntry, nodes_of}
+use Rattle.h5_meaning.specs.Order.{IsIn, is_in}
 use Rattle.h5_meaning.specs.AdoptionAgency.{IsLoose, Nest, tag_in, wrapped, KeepsKinds}
 use Rattle.h5_meaning.specs.World.{World}
 use Rattle.h5_meaning.specs.Sound.{AllStand}

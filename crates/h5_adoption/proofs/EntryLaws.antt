@@ -2,11 +2,11 @@
 use Rattle.std.proofs.Common.{◌≡◌, ℕ, true, cond, List, [], ◌∷◌, ◌++◌, length, map, reverse, take, drop, append_assoc, inl, inr, ap, sym, subst, ◌∙◌}
 use Rattle.std.proofs.lemmas.List.{map-append, reverse-append, take-append-drop}
 use Rattle.h5_token.specs.TokenText.{TagText}
-use Rattle.h5_stack.specs.FormattingList.{ElementEntry, Entry, nodes_of}
+use Rattle.h5_meaning.specs.FormattingList.{ElementEntry, Entry, nodes_of}
 use Rattle.std.proofs.lemmas.Bool.{ne_eqb}
-use Rattle.h5_stack.specs.Order.{IsIn, is_in}
-use Rattle.h5_stack.proofs.EntryLaws.{nodes_of-append}
-use Rattle.h5_stack.proofs.PairLaws.{in_split}
+use Rattle.h5_meaning.specs.Order.{IsIn, is_in}
+use Rattle.h5_meaning.proofs.EntryLaws.{nodes_of-append}
+use Rattle.h5_meaning.proofs.PairLaws.{in_split}
 use Rattle.h5_state.specs.View.{entry_of}
 use Rattle.h5_state.specs.declared.state.State.{State}
 use Rattle.h5_meaning.specs.World.{World}

@@ -1,9 +1,9 @@
 -- Where the furthest block goes, by the place of the formatting element.
 use Rattle.std.proofs.Common.{◌≡◌, ◌+◌, ◌-◌, ◌<◌, ◌≤◌, ℕ, List, [], ◌∷◌, ◌++◌, append_assoc, length, map, reverse, inl, refl, ap, sym, subst, ◌∙◌, arith}
 use Rattle.h5_interface.specs.declared.sink.TreeSink.{Ghosts}
-use Rattle.h5_stack.specs.Adoption.{newer_than, older_than}
-use Rattle.h5_stack.specs.Order.{IsIn, first_or}
-use Rattle.h5_stack.proofs.PassLaws.{stack_split}
+use Rattle.h5_meaning.specs.Adoption.{newer_than, older_than}
+use Rattle.h5_meaning.specs.Order.{IsIn, first_or}
+use Rattle.h5_meaning.proofs.PassLaws.{stack_split}
 use Rattle.h5_meaning.proofs.AdoptionPlace.{ancestor_is_older, older_is_open}
 use Rattle.h5_meaning.specs.World.{root}
 use Rattle.h5_state.specs.Steps.{IsSound, world_of}

@@ -4,10 +4,10 @@ use Rattle.std.proofs.lemmas.List.{append-nil}
 use Rattle.h5_token.specs.TokenText.{TagText}
 use Rattle.h5_interface.specs.Forest.{Forest}
 use Rattle.h5_interface.specs.SinkChoices.{SinkChoices}
-use Rattle.h5_stack.specs.FormattingList.{Entry, nodes_of}
-use Rattle.h5_stack.specs.InnerLoop.{picked}
-use Rattle.h5_stack.specs.Order.{Before, is_in}
-use Rattle.h5_stack.proofs.PairLaws.{before_right}
+use Rattle.h5_meaning.specs.FormattingList.{Entry, nodes_of}
+use Rattle.h5_meaning.specs.InnerLoop.{picked}
+use Rattle.h5_meaning.specs.Order.{Before, is_in}
+use Rattle.h5_meaning.proofs.PairLaws.{before_right}
 use Rattle.h5_meaning.specs.AdoptionAgency.{Nest, nest, tag_in, wrapped}
 use Rattle.h5_state.specs.View.{open_node, stack_under}
 use Rattle.h5_state.specs.declared.open_element.OpenElement.{OpenElement}

@@ -5,9 +5,9 @@ use Rattle.std.specs.Prelude.{◌==◌}
 use Rattle.std.proofs.lemmas.Bool.{eqb-false}
 use Rattle.std.proofs.lemmas.List.{length-map, length-reverse, length-take, map-append, reverse-append, take-append-drop, take_more}
 use Rattle.h5_tag_sets.specs.TagSets.{is_special}
-use Rattle.h5_stack.specs.Adoption.{block_or, furthest_block, newer_than, older_than}
-use Rattle.h5_stack.specs.Order.{IsIn}
-use Rattle.h5_stack.proofs.PassLaws.{stack_split}
+use Rattle.h5_meaning.specs.Adoption.{block_or, furthest_block, newer_than, older_than}
+use Rattle.h5_meaning.specs.Order.{IsIn}
+use Rattle.h5_meaning.proofs.PassLaws.{stack_split}
 use Rattle.h5_meaning.specs.World.{World, name_in}
 use Rattle.h5_state.specs.View.{open_node, stack_under}
 use Rattle.h5_state.specs.declared.open_element.OpenElement.{OpenElement}

@@ -3,16 +3,16 @@ use Rattle.std.proofs.Common.{◌≡◌, ◌≢◌, inl, inr, ℕ, zero, suc, Bo
 use Rattle.std.specs.Prelude.{◌==◌}
 use Rattle.std.proofs.lemmas.Bool.{eq-eqb, ne_eqb}
 use Rattle.h5_token.specs.TokenText.{TagText}
-use Rattle.h5_stack.specs.Adoption.{inserted_after, replaced, replaced_by, round_list, to_clone}
-use Rattle.h5_stack.specs.FormattingList.{EachEntry, ElementEntry, Entry, MarkerEntry, nodes_of, without_entry}
-use Rattle.h5_stack.specs.InnerLoop.{MayWalk, swapped, walked}
-use Rattle.h5_stack.specs.Order.{Distinct, IsIn, first_or, is_in}
-use Rattle.h5_stack.proofs.EachLaws.{each_without_entry}
-use Rattle.h5_stack.proofs.EntryLaws.{nodes_of-append}
-use Rattle.h5_stack.proofs.PairLaws.{in_left, in_right, in_split, is_in_true, not_beside}
-use Rattle.h5_stack.proofs.ReplaceLaws.{nodes_replaced, now_in}
-use Rattle.h5_stack.proofs.RoundLaws.{inserted_after_at, without_entry_at}
-use Rattle.h5_stack.proofs.WalkLaws.{to_clone_walked}
+use Rattle.h5_meaning.specs.Adoption.{inserted_after, replaced, replaced_by, round_list, to_clone}
+use Rattle.h5_meaning.specs.FormattingList.{EachEntry, ElementEntry, Entry, MarkerEntry, nodes_of, without_entry}
+use Rattle.h5_meaning.specs.InnerLoop.{MayWalk, swapped, walked}
+use Rattle.h5_meaning.specs.Order.{Distinct, IsIn, first_or, is_in}
+use Rattle.h5_meaning.proofs.EachLaws.{each_without_entry}
+use Rattle.h5_meaning.proofs.EntryLaws.{nodes_of-append}
+use Rattle.h5_meaning.proofs.PairLaws.{in_left, in_right, in_split, is_in_true, not_beside}
+use Rattle.h5_meaning.proofs.ReplaceLaws.{nodes_replaced, now_in}
+use Rattle.h5_meaning.proofs.RoundLaws.{inserted_after_at, without_entry_at}
+use Rattle.h5_meaning.proofs.WalkLaws.{to_clone_walked}
 
 -- where an entry is exchanged
 pub swapped_at : (m y : ℕ) (t : TagText) (p r : List Entry) → ¬ (IsIn m (nodes_of p)) → swapped m y (p ++ ElementEntry m t ∷ r) ≡ p ++ ElementEntry y t ∷ r

@@ -4,17 +4,17 @@ use Rattle.std.specs.Prelude.{OnOk, Some}
 use Rattle.std.proofs.Math.Seq.{take-append_seam}
 use Rattle.h5_token.specs.TokenText.{TagText}
 use Rattle.h5_interface.specs.declared.sink.TreeSink.{Ghosts}
-use Rattle.h5_stack.specs.Adoption.{FormattingElement, replaced_by, round_list, to_clone}
-use Rattle.h5_stack.specs.FormattingList.{ElementEntry, Entry, nodes_of}
-use Rattle.h5_stack.specs.FormattingNames.{IsOfTag}
-use Rattle.h5_stack.specs.InnerLoop.{MayWalk, walked}
-use Rattle.h5_stack.specs.Lists.{Agrees}
-use Rattle.h5_stack.specs.Order.{Before, Distinct, IsIn}
-use Rattle.h5_stack.proofs.EntryLaws.{nodes_of-append}
-use Rattle.h5_stack.proofs.PairLaws.{before_right, distinct_apart, in_left, in_right, not_beside, older}
-use Rattle.h5_stack.proofs.EachLaws.{each_at, each_round}
-use Rattle.h5_stack.proofs.KeptLaws.{EntryCut, entry_cut}
-use Rattle.h5_stack.proofs.RoundLaws.{replaced_by_which}
+use Rattle.h5_meaning.specs.Adoption.{FormattingElement, replaced_by, round_list, to_clone}
+use Rattle.h5_meaning.specs.FormattingList.{ElementEntry, Entry, nodes_of}
+use Rattle.h5_meaning.specs.FormattingNames.{IsOfTag}
+use Rattle.h5_meaning.specs.InnerLoop.{MayWalk, walked}
+use Rattle.h5_meaning.specs.Lists.{Agrees}
+use Rattle.h5_meaning.specs.Order.{Before, Distinct, IsIn}
+use Rattle.h5_meaning.proofs.EntryLaws.{nodes_of-append}
+use Rattle.h5_meaning.proofs.PairLaws.{before_right, distinct_apart, in_left, in_right, not_beside, older}
+use Rattle.h5_meaning.proofs.EachLaws.{each_at, each_round}
+use Rattle.h5_meaning.proofs.KeptListsLaws.{EntryCut, entry_cut}
+use Rattle.h5_meaning.proofs.RoundLaws.{replaced_by_which}
 use Rattle.h5_meaning.specs.Sound.{Sound}
 use Rattle.h5_meaning.specs.World.{World, names_of}
 use Rattle.h5_state.specs.Steps.{IsSound, world_of}

@@ -4,16 +4,16 @@ use Rattle.std.proofs.lemmas.List.{take-append-le, take_all}
 use Rattle.h5_token.specs.TokenText.{TagText}
 use Rattle.h5_interface.specs.Forest.{Forest, parent_of}
 use Rattle.h5_interface.specs.SinkChoices.{SinkChoices}
-use Rattle.h5_stack.specs.Adoption.{FormattingElement, FurthestBlock, IsCloneOf, newer_than, older_than, to_clone}
-use Rattle.h5_stack.specs.FormattingList.{ElementEntry, nodes_of}
-use Rattle.h5_stack.specs.FormattingNames.{IsOfTag}
-use Rattle.h5_stack.specs.Fresh.{AreFresh}
-use Rattle.h5_stack.specs.InnerLoop.{MayWalk}
-use Rattle.h5_stack.specs.Order.{Before, Distinct, IsIn}
-use Rattle.h5_stack.proofs.EachLaws.{each_at}
-use Rattle.h5_stack.proofs.EntryLaws.{nodes_of-append}
-use Rattle.h5_stack.proofs.PairLaws.{before_across, before_first, before_left, before_right, before_second}
-use Rattle.h5_stack.proofs.PassLaws.{furthest_block_at, ordered_distinct, stack_split}
+use Rattle.h5_meaning.specs.Adoption.{FormattingElement, FurthestBlock, IsCloneOf, newer_than, older_than, to_clone}
+use Rattle.h5_meaning.specs.FormattingList.{ElementEntry, nodes_of}
+use Rattle.h5_meaning.specs.FormattingNames.{IsOfTag}
+use Rattle.h5_meaning.specs.Fresh.{AreFresh}
+use Rattle.h5_meaning.specs.InnerLoop.{MayWalk}
+use Rattle.h5_meaning.specs.Order.{Before, Distinct, IsIn}
+use Rattle.h5_meaning.proofs.EachLaws.{each_at}
+use Rattle.h5_meaning.proofs.EntryLaws.{nodes_of-append}
+use Rattle.h5_meaning.proofs.PairLaws.{before_across, before_first, before_left, before_right, before_second}
+use Rattle.h5_meaning.proofs.PassLaws.{furthest_block_at, ordered_distinct, stack_split}
 use Rattle.h5_meaning.specs.AdoptionAgency.{Nest, nest, placed, refilled, tag_in}
 use Rattle.h5_meaning.specs.Changes.{with_forest}
 use Rattle.h5_meaning.proofs.AdoptionForest.{before_trans}

@@ -4,7 +4,7 @@ use Rattle.h5_meaning.specs.AdoptionAgency.{KeepsKinds}
 use Rattle.h5_interface.specs.Forest.{Forest, IsElement}
 use Rattle.h5_interface.specs.Seen.{Seen, changed}
 use Rattle.h5_interface.specs.declared.sink.TreeSink.{Ghosts}
-use Rattle.h5_stack.specs.Order.{IsIn}
+use Rattle.h5_meaning.specs.Order.{IsIn}
 use Rattle.h5_meaning.specs.Sound.{AllStand}
 use Rattle.h5_meaning.specs.World.{name_in, name_of_found, names_of}
 use Rattle.h5_meaning.proofs.SoundLaws.{element_is_node}

@@ -3,9 +3,9 @@ use Rattle.std.specs.Prelude.{◌≢◌, ℕ, ◌-◌, List, [], ◌∷◌, ◌+
 use Rattle.h5_token.specs.TokenText.{TagText}
 use Rattle.h5_interface.specs.Forest.{DocumentNode, Forest, FragmentNode, IsNode, kind_of}
 use Rattle.h5_interface.specs.SinkChoices.{SinkChoices}
-use Rattle.h5_fits.specs.Root.{IsRootOpen}
-use Rattle.h5_stack.specs.Adoption.{FormattingElement, FurthestBlock}
-use Rattle.h5_stack.specs.Order.{Before}
+use Rattle.h5_meaning.specs.Root.{IsRootOpen}
+use Rattle.h5_meaning.specs.Adoption.{FormattingElement, FurthestBlock}
+use Rattle.h5_meaning.specs.Order.{Before}
 use Rattle.h5_meaning.specs.AdoptionAgency.{IsLoose, MayAdopt, Nest, wrapped}
 use Rattle.h5_meaning.specs.World.{World, names_of}
 use Rattle.h5_state.specs.View.{stack_under}

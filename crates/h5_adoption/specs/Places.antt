@@ -3,9 +3,9 @@
 use Rattle.std.specs.Prelude.{◌≡◌, ℕ, ◌+◌, List, ◌∷◌, ◌++◌, length, Some}
 use Rattle.h5_token.specs.TokenText.{TagText}
 use Rattle.h5_tag_sets.specs.TagSets.{is_special}
-use Rattle.h5_stack.specs.Adoption.{FormattingElement, FurthestBlock, furthest_block, newer_than, newest_named}
-use Rattle.h5_stack.specs.FormattingList.{ElementEntry, Entry, nodes_of}
-use Rattle.h5_stack.specs.Order.{IsIn}
+use Rattle.h5_meaning.specs.Adoption.{FormattingElement, FurthestBlock, furthest_block, newer_than, newest_named}
+use Rattle.h5_meaning.specs.FormattingList.{ElementEntry, Entry, nodes_of}
+use Rattle.h5_meaning.specs.Order.{IsIn}
 use Rattle.h5_meaning.specs.World.{World, name_in}
 
 -- the entry of an element, the newest one where it has more, stands at this place

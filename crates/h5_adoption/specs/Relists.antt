@@ -1,10 +1,10 @@
 -- What a round of the adoption agency finds where it goes over the list of active formatting elements.
 use Rattle.std.specs.Prelude.{◌≡◌, ℕ, ◌+◌, List, ◌∷◌, ◌++◌, length}
 use Rattle.h5_interface.specs.Forest.{kind_of}
-use Rattle.h5_stack.specs.Adoption.{FormattingElement, IsCloneOf, to_clone}
-use Rattle.h5_stack.specs.FormattingList.{ElementEntry, Entry, nodes_of}
-use Rattle.h5_stack.specs.InnerLoop.{MayWalk}
-use Rattle.h5_stack.specs.Order.{IsIn}
+use Rattle.h5_meaning.specs.Adoption.{FormattingElement, IsCloneOf, to_clone}
+use Rattle.h5_meaning.specs.FormattingList.{ElementEntry, Entry, nodes_of}
+use Rattle.h5_meaning.specs.InnerLoop.{MayWalk}
+use Rattle.h5_meaning.specs.Order.{IsIn}
 use Rattle.h5_meaning.specs.World.{World}
 
 -- The formatting element's entry stands at a place of the list. Of the stack, these elements are between it, which is right

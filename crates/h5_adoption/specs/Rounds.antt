@@ -4,8 +4,8 @@ use Rattle.std.specs.List.{list_any}
 use Rattle.h5_token.specs.TokenText.{TagText}
 use Rattle.h5_interface.specs.SinkChoices.{SinkChoices}
 use Rattle.h5_tag_sets.specs.TagSets.{is_default_scope, is_special}
-use Rattle.h5_stack.specs.Adoption.{FormattingElement, FurthestBlock, furthest_block, newer_than, newest_named, older_than}
-use Rattle.h5_stack.specs.FormattingList.{ElementEntry, Entry}
+use Rattle.h5_meaning.specs.Adoption.{FormattingElement, FurthestBlock, furthest_block, newer_than, newest_named, older_than}
+use Rattle.h5_meaning.specs.FormattingList.{ElementEntry, Entry}
 use Rattle.h5_meaning.specs.AdoptionAgency.{MayAdopt, adopt_at}
 use Rattle.h5_meaning.specs.Sound.{IsReady}
 use Rattle.h5_meaning.specs.World.{World, name_in}

@@ -1,6 +1,6 @@
 -- The list of active formatting elements, and what is kept beside open elements, as far as some place.
 use Rattle.std.specs.Prelude.{ℕ, List, map, reverse, take}
-use Rattle.h5_stack.specs.FormattingList.{Entry}
+use Rattle.h5_meaning.specs.FormattingList.{Entry}
 use Rattle.h5_state.specs.View.{entry_of}
 use Rattle.h5_state.specs.declared.state.State.{State}
 

@@ -1,8 +1,8 @@
 //! The adoption agency, and what calls it (HTML standard, section 13.2.6.4.7, "adoption agency algorithm").
 ghost use Rattle.std.specs.Prelude.{◌≡◌, ◌<◌, ℕ, Bool, List, IfOk, OnOk, Some, codes, false, length};
 ghost use Rattle.h5_names.specs.AttributeText.{is_same_text};
-ghost use Rattle.h5_stack.specs.Adoption.{FormattingElement, newest_named, older_than};
-ghost use Rattle.h5_stack.specs.FormattingList.{without_entry};
+ghost use Rattle.h5_meaning.specs.Adoption.{FormattingElement, newest_named, older_than};
+ghost use Rattle.h5_meaning.specs.FormattingList.{without_entry};
 ghost use Rattle.h5_meaning.specs.AdoptionAgency.{adopt_by, adopt_within};
 ghost use Rattle.h5_meaning.specs.Rows.{AdoptionAgency, HandleMisnestedATags};
 ghost use Rattle.h5_meaning.specs.Sound.{IsReady};

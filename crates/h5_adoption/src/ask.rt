@@ -2,9 +2,9 @@
 ghost use Rattle.std.specs.Prelude.{◌≡◌, ◌==◌, ℕ, is_some};
 ghost use Rattle.h5_token.specs.TokenText.{TagText};
 ghost use Rattle.h5_meaning.specs.AdoptionAgency.{closes_current, closes_one, is_current_unlisted};
-ghost use Rattle.h5_stack.specs.Adoption.{newest_named};
-ghost use Rattle.h5_stack.specs.FormattingList.{ElementEntry, nodes_of};
-ghost use Rattle.h5_stack.specs.Order.{is_in};
+ghost use Rattle.h5_meaning.specs.Adoption.{newest_named};
+ghost use Rattle.h5_meaning.specs.FormattingList.{ElementEntry, nodes_of};
+ghost use Rattle.h5_meaning.specs.Order.{is_in};
 ghost use Rattle.h5_state.specs.Steps.{IsSound, world_of};
 ghost use Rattle.h5_state.specs.View.{entry_of};
 

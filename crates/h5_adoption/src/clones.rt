@@ -1,7 +1,7 @@
 //! The clones of elements between the formatting element and its furthest block.
 ghost use Rattle.std.specs.Prelude.{◌≡◌, ◌≤◌, ◌<◌, ◌+◌, ◌∷◌, ℕ, List, IfOk, OnOk, length};
 ghost use Rattle.h5_token.specs.TokenText.{tag_text};
-ghost use Rattle.h5_stack.specs.Adoption.{to_clone};
+ghost use Rattle.h5_meaning.specs.Adoption.{to_clone};
 ghost use Rattle.h5_meaning.specs.AdoptionAgency.{IsLoose, nest, tag_in, wrapped, KeepsKinds};
 ghost use Rattle.h5_state.specs.Steps.{IsSound, errors_of, world_of};
 ghost use Rattle.h5_state.specs.View.{stack_under};

@@ -1,8 +1,8 @@
 //! What takes elements off the stack and out of the list.
 ghost use Rattle.std.specs.Prelude.{◌<◌, ℕ, length};
 ghost use Rattle.h5_meaning.specs.Closing.{close_named};
-ghost use Rattle.h5_stack.specs.Adoption.{older_than};
-ghost use Rattle.h5_stack.specs.FormattingList.{without_entry};
+ghost use Rattle.h5_meaning.specs.Adoption.{older_than};
+ghost use Rattle.h5_meaning.specs.FormattingList.{without_entry};
 ghost use Rattle.h5_state.specs.Steps.{IsSound, world_of};
 ghost use Rattle.h5_adoption.specs.Becomes.{Becomes};
 ghost use Rattle.h5_state.specs.Places.{IsOpenAt};

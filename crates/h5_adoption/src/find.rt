@@ -2,9 +2,9 @@
 ghost use Rattle.std.specs.Prelude.{◌≡◌, ◌<◌, ◌+◌, ◌∷◌, ℕ, MatchOption, None, is_some, length};
 ghost use Rattle.std.specs.List.{list_any};
 ghost use Rattle.h5_tag_sets.specs.TagSets.{is_default_scope, is_special};
-ghost use Rattle.h5_stack.specs.Adoption.{furthest_block, newer_than, newest_named};
-ghost use Rattle.h5_stack.specs.FormattingList.{nodes_of};
-ghost use Rattle.h5_stack.specs.Order.{is_in};
+ghost use Rattle.h5_meaning.specs.Adoption.{furthest_block, newer_than, newest_named};
+ghost use Rattle.h5_meaning.specs.FormattingList.{nodes_of};
+ghost use Rattle.h5_meaning.specs.Order.{is_in};
 ghost use Rattle.h5_meaning.specs.World.{name_in};
 ghost use Rattle.h5_state.specs.Steps.{IsSound, world_of};
 ghost use Rattle.h5_state.specs.Places.{IsOpenAt};

@@ -1,10 +1,10 @@
 //! The list of active formatting elements after a round of the adoption agency.
 ghost use Rattle.std.specs.Prelude.{◌≡◌, ◌<◌, ◌≤◌, ◌+◌, ◌-◌, ◌∷◌, ◌++◌, ℕ, zero, suc, List, IsOk, drop, length, map, take};
 ghost use Rattle.h5_token.specs.TokenText.{TagText};
-ghost use Rattle.h5_stack.specs.Adoption.{FormattingElement, round_list};
-ghost use Rattle.h5_stack.specs.FormattingList.{ElementEntry, Entry, nodes_of};
-ghost use Rattle.h5_stack.specs.InnerLoop.{walked};
-ghost use Rattle.h5_stack.specs.Order.{IsIn};
+ghost use Rattle.h5_meaning.specs.Adoption.{FormattingElement, round_list};
+ghost use Rattle.h5_meaning.specs.FormattingList.{ElementEntry, Entry, nodes_of};
+ghost use Rattle.h5_meaning.specs.InnerLoop.{walked};
+ghost use Rattle.h5_meaning.specs.Order.{IsIn};
 ghost use Rattle.h5_state.specs.Steps.{IsSound, world_of};
 ghost use Rattle.h5_state.specs.View.{stack_under};
 ghost use Rattle.h5_adoption.specs.Becomes.{BecomesIfOk};

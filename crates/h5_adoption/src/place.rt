@@ -7,7 +7,7 @@ ghost use Rattle.h5_interface.specs.Seen.{changed, with_last_child};
 ghost use Rattle.h5_meaning.specs.AdoptionAgency.{make_for, KeepsKinds};
 ghost use Rattle.h5_meaning.specs.Place.{appropriate_place, put};
 ghost use Rattle.h5_meaning.specs.World.{root};
-ghost use Rattle.h5_stack.specs.Order.{IsIn, first_or};
+ghost use Rattle.h5_meaning.specs.Order.{IsIn, first_or};
 ghost use Rattle.h5_state.specs.Steps.{IsSound, errors_of, world_of};
 ghost use Rattle.h5_state.specs.View.{stack_under};
 ghost use Rattle.h5_adoption.specs.Hanging.{MayMove};

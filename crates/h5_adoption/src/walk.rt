@@ -1,7 +1,7 @@
 //! Walks over the stack of open elements and the list of active formatting elements: places are counted from the oldest.
 ghost use Rattle.std.specs.Prelude.{◌≡◌, ◌<◌, ◌+◌, ◌∷◌, ◌++◌, [], ℕ, List, length};
 ghost use Rattle.h5_token.specs.TokenText.{TagText};
-ghost use Rattle.h5_stack.specs.FormattingList.{ElementEntry, Entry};
+ghost use Rattle.h5_meaning.specs.FormattingList.{ElementEntry, Entry};
 ghost use Rattle.h5_adoption.specs.Rounds.{IsElementEntry};
 ghost use Rattle.h5_interface.specs.Forest.{IsElement};
 ghost use Rattle.h5_tag_sets.specs.TagSets.{is_default_scope, is_special};

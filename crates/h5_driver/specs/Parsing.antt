@@ -5,7 +5,7 @@ use Rattle.h5_token.specs.TokenText.{TokenText}
 use Rattle.h5_interface.specs.Seen.{Seen}
 use Rattle.h5_interface.specs.SinkChoices.{SinkChoices}
 use Rattle.h5_types.specs.declared.modes.InsertionMode.TheVariants.{Text}
-use Rattle.h5_fits.specs.Fits.{AllKinds}
+use Rattle.h5_meaning.specs.Fits.{AllKinds}
 use Rattle.h5_meaning.specs.InTableText.{saved_mode}
 use Rattle.h5_meaning.specs.Run.{View, after_all, after_token, reply_to}
 use Rattle.h5_meaning.specs.Sound.{Fitting}

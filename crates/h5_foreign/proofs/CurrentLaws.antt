@@ -11,8 +11,8 @@ use Rattle.h5_interface.specs.SinkChoices.{SinkChoices}
 use Rattle.h5_tag_sets.specs.TagSets.{is_mathml_text_point, is_one_of, is_svg_html_point}
 use Rattle.h5_types.specs.TurnText.{CommentTurn, EofTurn, NullTurn, TagTurn, TextTurn, TurnText}
 use Rattle.h5_types.specs.declared.modes.SplitStatus.TheVariants.{NotSplit}
-use Rattle.h5_fits.specs.NamesFit.{is_html_element}
-use Rattle.h5_stack.specs.Order.{IsIn}
+use Rattle.h5_meaning.specs.NamesFit.{is_html_element}
+use Rattle.h5_meaning.specs.Order.{IsIn}
 use Rattle.h5_meaning.specs.Foreign.{adjusted_current_node, adjusted_of, glyph_names, is_foreign, is_foreign_at, is_taken_in}
 use Rattle.h5_meaning.specs.Sound.{Sound}
 use Rattle.h5_meaning.specs.World.{World, name_in}

@@ -2,7 +2,7 @@
 use Rattle.std.proofs.Common.{◌≡◌, Bool, true, false, cond, List, [], ◌∷◌, refl, ap, sym, ◌∙◌}
 use Rattle.h5_names.specs.declared.qualified.QualName.{QualName}
 use Rattle.h5_interface.specs.SinkChoices.{SinkChoices}
-use Rattle.h5_stack.specs.Scope.{first_passes, later_names}
+use Rattle.h5_meaning.specs.Scope.{first_passes, later_names}
 use Rattle.h5_meaning.specs.Changes.{pop, pop_while}
 use Rattle.h5_meaning.specs.Foreign.{is_left, leave_foreign_content}
 use Rattle.h5_meaning.specs.World.{World, names_of}

@@ -3,9 +3,9 @@ use Rattle.std.proofs.Common.{◌≡◌, ◌+◌, ◌-◌, ◌<◌, ◌≤◌, �
 use Rattle.std.proofs.lemmas.List.{length-map}
 use Rattle.h5_names.specs.declared.qualified.QualName.{QualName}
 use Rattle.h5_interface.specs.Seen.{Seen}
-use Rattle.h5_fits.specs.NamesFit.{is_html_element}
-use Rattle.h5_stack.specs.Scope.{cut_through}
-use Rattle.h5_stack.specs.Order.{but_first}
+use Rattle.h5_meaning.specs.NamesFit.{is_html_element}
+use Rattle.h5_meaning.specs.Scope.{cut_through}
+use Rattle.h5_meaning.specs.Order.{but_first}
 use Rattle.h5_meaning.specs.Foreign.{is_named_in_any_case}
 use Rattle.h5_meaning.specs.ForeignContent.{Finds, ReachesHtml, ReachesRoot, search_end}
 use Rattle.h5_meaning.specs.World.{name_in}

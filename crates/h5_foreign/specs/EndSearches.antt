@@ -1,6 +1,6 @@
 -- The search for the element that an end tag closes, as the code has it.
 use Rattle.std.specs.Prelude.{◌≡◌, ℕ, List, length}
-use Rattle.h5_stack.specs.Scope.{cut_through}
+use Rattle.h5_meaning.specs.Scope.{cut_through}
 use Rattle.h5_meaning.specs.Foreign.{is_named_in_any_case}
 use Rattle.h5_meaning.specs.ForeignContent.{EndSearch, Finds, ReachesHtml, ReachesRoot}
 use Rattle.h5_meaning.specs.World.{World, names_of}

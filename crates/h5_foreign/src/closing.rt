@@ -1,7 +1,7 @@
 //! What closes elements of SVG and MathML (HTML standard, section 13.2.6.5, "The rules for parsing tokens in foreign
 //! content").
 ghost use Rattle.std.specs.Prelude.{◌≡◌, length};
-ghost use Rattle.h5_stack.specs.Scope.{cut_through, first_passes};
+ghost use Rattle.h5_meaning.specs.Scope.{cut_through, first_passes};
 ghost use Rattle.h5_meaning.specs.Foreign.{is_left, is_named_in_any_case};
 ghost use Rattle.h5_meaning.specs.ForeignContent.{search_end};
 ghost use Rattle.h5_meaning.specs.Rows.{LeaveForeignContent, PopUntilNamedInAnyCase};

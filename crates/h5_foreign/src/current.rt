@@ -3,7 +3,7 @@ ghost use Rattle.std.specs.Prelude.{◌≡◌, ◌&&◌, ◌||◌, [], false, no
 ghost use Rattle.h5_interface.specs.Forest.{IsElement};
 ghost use Rattle.h5_interface.specs.NewElement.{is_annotation_xml};
 ghost use Rattle.h5_tag_sets.specs.TagSets.{is_mathml_text_point, is_one_of, is_svg_html_point};
-ghost use Rattle.h5_fits.specs.NamesFit.{is_html_element};
+ghost use Rattle.h5_meaning.specs.NamesFit.{is_html_element};
 ghost use Rattle.h5_token.specs.TokenText.{TagText};
 ghost use Rattle.h5_types.specs.TurnText.{TagTurn, TextTurn, TurnText, turn_text};
 ghost use Rattle.h5_meaning.specs.Foreign.{adjusted_current_node, glyph_names, is_foreign, is_foreign_at, is_foreign_text, is_taken_in};

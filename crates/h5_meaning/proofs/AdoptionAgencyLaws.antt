@@ -10,17 +10,17 @@ use Rattle.h5_interface.specs.Forest.{ElementNode, Forest, parent_of}
 use Rattle.h5_interface.specs.SinkChoices.{SinkChoices}
 use Rattle.h5_interface.proofs.ForestLaws.{node_of_kind}
 use Rattle.h5_tag_sets.specs.TagSets.{formatting_names, is_default_scope, is_html_named, is_one_of, is_special}
-use Rattle.h5_stack.specs.Adoption.{FormattingElement, FurthestBlock, furthest_block, newer_than, newest_named, older_than, without_node}
-use Rattle.h5_stack.specs.FormattingList.{Entry, nodes_of, without_entry}
-use Rattle.h5_stack.specs.FormattingNames.{IsOfTag, html_name}
-use Rattle.h5_stack.specs.Order.{Distinct, IsIn, is_in}
-use Rattle.h5_stack.specs.Scope.{comes_before_special, cut_names, cut_through, first_passes, in_scope, is_implied_but, later_names}
-use Rattle.h5_stack.proofs.EachLaws.{each_without_entry}
-use Rattle.h5_stack.proofs.KeptLaws.{lists_without_entry}
-use Rattle.h5_stack.proofs.PairLaws.{before_one_more, in_one_more, is_in_true}
-use Rattle.h5_stack.proofs.PassLaws.{lists_but_first, lists_closed, lists_cut_through, lists_removed, ordered_distinct, stack_split, without_node_split}
-use Rattle.h5_fits.specs.Root.{IsRootOpen}
-use Rattle.h5_fits.proofs.OpenLaws.{not_html, open_ended, open_pop}
+use Rattle.h5_meaning.specs.Adoption.{FormattingElement, FurthestBlock, furthest_block, newer_than, newest_named, older_than, without_node}
+use Rattle.h5_meaning.specs.FormattingList.{Entry, nodes_of, without_entry}
+use Rattle.h5_meaning.specs.FormattingNames.{IsOfTag, html_name}
+use Rattle.h5_meaning.specs.Order.{Distinct, IsIn, is_in}
+use Rattle.h5_meaning.specs.Scope.{comes_before_special, cut_names, cut_through, first_passes, in_scope, is_implied_but, later_names}
+use Rattle.h5_meaning.proofs.EachLaws.{each_without_entry}
+use Rattle.h5_meaning.proofs.KeptListsLaws.{lists_without_entry}
+use Rattle.h5_meaning.proofs.PairLaws.{before_one_more, in_one_more, is_in_true}
+use Rattle.h5_meaning.proofs.PassLaws.{lists_but_first, lists_closed, lists_cut_through, lists_removed, ordered_distinct, stack_split, without_node_split}
+use Rattle.h5_meaning.specs.Root.{IsRootOpen}
+use Rattle.h5_meaning.proofs.OpenLaws.{not_html, open_ended, open_pop}
 use Rattle.h5_meaning.specs.AdoptionAgency.{MayAdopt, adopt, adopt_at, adopt_by, adopt_within, adoption_agency, close_misnested_a, handle_misnested_a_tags, handle_misnested_nobr_tags, remove_from_stack, unlist_and_remove, KeepsKinds}
 use Rattle.h5_meaning.specs.Changes.{generate_implied_end_except, pop, pop_until_named, pop_while}
 use Rattle.h5_meaning.specs.Closing.{close_named}
@@ -35,7 +35,7 @@ use Rattle.h5_meaning.proofs.FormattingLaws.{AllListedOpen, reconstruct_opens, r
 use Rattle.h5_meaning.proofs.NameLaws.{names-cut, names-implied}
 use Rattle.h5_meaning.proofs.PopLaws.{all_cut, names-pop}
 use Rattle.h5_meaning.proofs.SoundLaws.{all_tail}
-use Rattle.h5_stack.specs.Lists.{Lists}
+use Rattle.h5_meaning.specs.Lists.{Lists}
 
 -- all stands, the list agrees with the stack, and nodes stayed what they were
 pub record Keeps (w v : World) : Type 0 where

@@ -15,13 +15,13 @@ use Rattle.h5_interface.proofs.ForestLaws.{ancestor_is_node, rearranged_ancestor
 use Rattle.h5_interface.proofs.HangingLaws.{append_node_keeps, append_node_rehangs, detach_rearranges, detached_parent, moved_child, reparent_keeps, reparent_rehangs}
 use Rattle.h5_interface.proofs.MakingLaws.{IsLone, add_keeps, added_parent, element_lone, host_rehangs, made_is_free, made_kind, made_parent, make_element_rearranges, mark_rearranges, new_is_free, new_is_node, new_kind, old_is_node, plain_lone}
 use Rattle.h5_interface.proofs.RehangLaws.{Rehangs, hung_ancestor, rehung_node}
-use Rattle.h5_stack.specs.FormattingList.{Entry}
-use Rattle.h5_stack.specs.FormattingNames.{IsOfTag, html_name}
-use Rattle.h5_stack.specs.Order.{Before, Distinct, IsIn}
-use Rattle.h5_stack.proofs.EachLaws.{each_more}
-use Rattle.h5_stack.specs.Adoption.{FormattingElement, FurthestBlock, newer_than, older_than}
-use Rattle.h5_stack.proofs.PairLaws.{before_across, before_first, before_second, in_right}
-use Rattle.h5_stack.proofs.PassLaws.{furthest_block_at, ordered_distinct, stack_split}
+use Rattle.h5_meaning.specs.FormattingList.{Entry}
+use Rattle.h5_meaning.specs.FormattingNames.{IsOfTag, html_name}
+use Rattle.h5_meaning.specs.Order.{Before, Distinct, IsIn}
+use Rattle.h5_meaning.proofs.EachLaws.{each_more}
+use Rattle.h5_meaning.specs.Adoption.{FormattingElement, FurthestBlock, newer_than, older_than}
+use Rattle.h5_meaning.proofs.PairLaws.{before_across, before_first, before_second, in_right}
+use Rattle.h5_meaning.proofs.PassLaws.{furthest_block_at, ordered_distinct, stack_split}
 use Rattle.h5_tag_sets.specs.TagSets.{is_special}
 use Rattle.h5_meaning.specs.AdoptionAgency.{IsLoose, MayAdopt, make_for, wrapped, KeepsKinds}
 use Rattle.h5_meaning.specs.Sound.{AllStand, RootIsTop, Stands}

@@ -9,25 +9,25 @@ use Rattle.h5_interface.specs.Forest.{ElementNode, Forest}
 use Rattle.h5_interface.specs.SinkChoices.{SinkChoices}
 use Rattle.h5_interface.proofs.ForestLaws.{node_of_kind}
 use Rattle.h5_tag_sets.specs.TagSets.{is_default_scope, is_html_named, is_special}
-use Rattle.h5_stack.specs.Adoption.{FormattingElement, FurthestBlock, furthest_block, newer_than, newest_named, older_than, to_clone, without_node}
-use Rattle.h5_stack.specs.FormattingList.{Entry, nodes_of, without_entry}
-use Rattle.h5_stack.specs.FormattingNames.{html_name}
-use Rattle.h5_stack.specs.Order.{IsIn, is_in}
-use Rattle.h5_stack.specs.Scope.{comes_before_special, cut_names, first_passes, later_names}
-use Rattle.h5_stack.proofs.PairLaws.{in_left, in_right, is_in_true}
-use Rattle.h5_stack.proofs.PassLaws.{furthest_block_at, stack_split, without_node_split}
-use Rattle.h5_fits.specs.Contexts.{Under}
-use Rattle.h5_fits.specs.Floors.{Grounded}
-use Rattle.h5_fits.specs.Frames.{AllPlain, Cut, Frame, here, passes_table_scope, there}
-use Rattle.h5_fits.specs.Roles.{PlainRole, role_of, role_of_local, roles}
-use Rattle.h5_fits.proofs.BoolLaws.{or_neither}
-use Rattle.h5_fits.proofs.CutLaws.{frame_cut}
-use Rattle.h5_fits.proofs.EndTagLaws.{frame_other_end}
-use Rattle.h5_fits.proofs.FrameLaws.{frame_refl, frame_trans}
-use Rattle.h5_fits.proofs.NameLaws.{frame_without}
-use Rattle.h5_fits.proofs.NamesAdoptionLaws.{frame_adopted}
-use Rattle.h5_fits.proofs.RoleLaws.{role_named}
-use Rattle.h5_fits.proofs.SetLaws.{default_passes, ordinary_plain}
+use Rattle.h5_meaning.specs.Adoption.{FormattingElement, FurthestBlock, furthest_block, newer_than, newest_named, older_than, to_clone, without_node}
+use Rattle.h5_meaning.specs.FormattingList.{Entry, nodes_of, without_entry}
+use Rattle.h5_meaning.specs.FormattingNames.{html_name}
+use Rattle.h5_meaning.specs.Order.{IsIn, is_in}
+use Rattle.h5_meaning.specs.Scope.{comes_before_special, cut_names, first_passes, later_names}
+use Rattle.h5_meaning.proofs.PairLaws.{in_left, in_right, is_in_true}
+use Rattle.h5_meaning.proofs.PassLaws.{furthest_block_at, stack_split, without_node_split}
+use Rattle.h5_meaning.specs.Contexts.{Under}
+use Rattle.h5_meaning.specs.Floors.{Grounded}
+use Rattle.h5_meaning.specs.Frames.{AllPlain, Cut, Frame, here, passes_table_scope, there}
+use Rattle.h5_meaning.specs.Roles.{PlainRole, role_of, role_of_local, roles}
+use Rattle.h5_meaning.proofs.BoolLaws.{or_neither}
+use Rattle.h5_meaning.proofs.CutNameLaws.{frame_cut}
+use Rattle.h5_meaning.proofs.EndTagLaws.{frame_other_end}
+use Rattle.h5_meaning.proofs.FrameLaws.{frame_refl, frame_trans}
+use Rattle.h5_meaning.proofs.RoleNameLaws.{frame_without}
+use Rattle.h5_meaning.proofs.NamesAdoptionLaws.{frame_adopted}
+use Rattle.h5_meaning.proofs.RoleLaws.{role_named}
+use Rattle.h5_meaning.proofs.SetLaws.{default_passes, ordinary_plain}
 use Rattle.h5_meaning.specs.AdoptionAgency.{MayAdopt, Nest, adopt, adopt_at, adopt_by, adopt_within, adoption_agency, close_misnested_a, handle_misnested_a_tags, nest, placed, refilled, remove_from_stack, unlist_and_remove}
 use Rattle.h5_meaning.specs.Changes.{generate_implied_end_except, pop, pop_until_named}
 use Rattle.h5_meaning.specs.Closing.{close_named}

@@ -17,17 +17,17 @@ use Rattle.h5_interface.proofs.ForestLaws.{rearranged_ancestor, rearranged_node}
 use Rattle.h5_interface.proofs.HangingLaws.{detach_rearranges, detached_parent}
 use Rattle.h5_interface.proofs.RehangLaws.{Rehangs}
 use Rattle.h5_tag_sets.specs.TagSets.{html_namespace, is_default_scope, is_html_named, is_special, is_table_outer, scope_names, special_names}
-use Rattle.h5_stack.specs.Adoption.{FormattingElement, FurthestBlock, block_or, furthest_block, newer_than, newest_named, older_than}
-use Rattle.h5_stack.specs.FormattingList.{ElementEntry, Entry, MarkerEntry, nodes_of}
-use Rattle.h5_stack.specs.FormattingNames.{IsOfTag}
-use Rattle.h5_stack.specs.Order.{Before, Distinct, IsIn, first_or, last_or}
-use Rattle.h5_stack.proofs.EachLaws.{each_at}
-use Rattle.h5_stack.proofs.PairLaws.{before_across, before_first, before_second, in_left, in_right}
-use Rattle.h5_stack.proofs.PassLaws.{furthest_block_at, newest_named_at, ordered_distinct, stack_split}
-use Rattle.h5_stack.proofs.PlainLaws.{listed_is_plain}
-use Rattle.h5_fits.specs.Root.{IsRootOpen}
-use Rattle.h5_fits.proofs.BoolLaws.{or_neither}
-use Rattle.h5_fits.proofs.SetLaws.{default_named, special_named}
+use Rattle.h5_meaning.specs.Adoption.{FormattingElement, FurthestBlock, block_or, furthest_block, newer_than, newest_named, older_than}
+use Rattle.h5_meaning.specs.FormattingList.{ElementEntry, Entry, MarkerEntry, nodes_of}
+use Rattle.h5_meaning.specs.FormattingNames.{IsOfTag}
+use Rattle.h5_meaning.specs.Order.{Before, Distinct, IsIn, first_or, last_or}
+use Rattle.h5_meaning.proofs.EachLaws.{each_at}
+use Rattle.h5_meaning.proofs.PairLaws.{before_across, before_first, before_second, in_left, in_right}
+use Rattle.h5_meaning.proofs.PassLaws.{furthest_block_at, newest_named_at, ordered_distinct, stack_split}
+use Rattle.h5_meaning.proofs.PlainListLaws.{listed_is_plain}
+use Rattle.h5_meaning.specs.Root.{IsRootOpen}
+use Rattle.h5_meaning.proofs.BoolLaws.{or_neither}
+use Rattle.h5_meaning.proofs.SetLaws.{default_named, special_named}
 use Rattle.h5_meaning.specs.AdoptionAgency.{IsLoose, MayAdopt, common_ancestor, KeepsKinds}
 use Rattle.h5_meaning.specs.Changes.{with_forest}
 use Rattle.h5_meaning.specs.Place.{CanPut, IsPlaceIn, LastChild, Place, TableFosterParenting, appropriate_place, foster_place, from_foster_parent, inside, is_foster_parent, put}

@@ -11,18 +11,18 @@ use Rattle.h5_interface.specs.SinkChoices.{SinkChoices}
 use Rattle.h5_interface.proofs.AncestorLaws.{ancestor_trans, at_or_above_trans}
 use Rattle.h5_interface.proofs.ForestLaws.{child_is_node, node_of_kind, there_alike}
 use Rattle.h5_tag_sets.specs.TagSets.{formatting_names, is_one_of, is_special}
-use Rattle.h5_stack.specs.Adoption.{FormattingElement, FurthestBlock, IsCloneOf, adopted_at, clones_wanted_at, newer_than, older_than, round_stack, to_clone}
-use Rattle.h5_stack.specs.FormattingList.{EachEntry, ElementEntry, Entry, MarkerEntry, nodes_of}
-use Rattle.h5_stack.specs.FormattingNames.{AllFormatting, AllOfTags, IsOfTag, IsPlain, html_name}
-use Rattle.h5_stack.specs.Fresh.{AreFresh, Makes, no_more, one_more}
-use Rattle.h5_stack.specs.Lists.{Lists}
-use Rattle.h5_stack.specs.Order.{Before, IsIn, is_in}
-use Rattle.h5_stack.proofs.FreshLaws.{fresh_round, listed_adopted, made_new}
-use Rattle.h5_stack.proofs.PairLaws.{before_left, before_right, before_split, before_across, in_left, in_right, in_split, is_in_true}
-use Rattle.h5_stack.proofs.PassLaws.{each_tag_adopted, furthest_block_at, lists_adopted, ordered_distinct, stack_split}
-use Rattle.h5_stack.proofs.PlainLaws.{listed_is_plain}
-use Rattle.h5_fits.specs.Root.{IsRootOpen}
-use Rattle.h5_fits.proofs.OpenLaws.{open_push}
+use Rattle.h5_meaning.specs.Adoption.{FormattingElement, FurthestBlock, IsCloneOf, adopted_at, clones_wanted_at, newer_than, older_than, round_stack, to_clone}
+use Rattle.h5_meaning.specs.FormattingList.{EachEntry, ElementEntry, Entry, MarkerEntry, nodes_of}
+use Rattle.h5_meaning.specs.FormattingNames.{AllFormatting, AllOfTags, IsOfTag, IsPlain, html_name}
+use Rattle.h5_meaning.specs.Fresh.{AreFresh, Makes, no_more, one_more}
+use Rattle.h5_meaning.specs.Lists.{Lists}
+use Rattle.h5_meaning.specs.Order.{Before, IsIn, is_in}
+use Rattle.h5_meaning.proofs.FreshLaws.{fresh_round, listed_adopted, made_new}
+use Rattle.h5_meaning.proofs.PairLaws.{before_left, before_right, before_split, before_across, in_left, in_right, in_split, is_in_true}
+use Rattle.h5_meaning.proofs.PassLaws.{each_tag_adopted, furthest_block_at, lists_adopted, ordered_distinct, stack_split}
+use Rattle.h5_meaning.proofs.PlainListLaws.{listed_is_plain}
+use Rattle.h5_meaning.specs.Root.{IsRootOpen}
+use Rattle.h5_meaning.proofs.OpenLaws.{open_push}
 use Rattle.h5_meaning.specs.AdoptionAgency.{IsLoose, MayAdopt, Nest, adopt, common_ancestor, nest, placed, refilled, tag_in, wrapped, KeepsKinds}
 use Rattle.h5_meaning.specs.Changes.{with_forest}
 use Rattle.h5_meaning.specs.Sound.{AllStand, IsHtml, IsReady, RootIsTop, Sound, Stands}

@@ -15,15 +15,15 @@ use Rattle.h5_types.specs.declared.modes.InsertionMode.TheVariants.{AfterHead, I
 use Rattle.h5_types.specs.TurnText.{TurnText}
 use Rattle.h5_types.specs.declared.turns.ProcessResult.{ProcessResult}
 use Rattle.h5_types.specs.declared.turns.ProcessResult.TheVariants as results
-use Rattle.h5_stack.specs.FormattingList.{MarkerEntry}
-use Rattle.h5_stack.specs.FormattingNames.{html_name}
-use Rattle.h5_stack.specs.Order.{last_or}
-use Rattle.h5_fits.specs.NamesFit.{NamesFit, is_html_element}
-use Rattle.h5_fits.specs.Roles.{PlainRole, role_of, role_of_local}
-use Rattle.h5_fits.specs.Root.{IsRootOpen}
-use Rattle.h5_fits.proofs.NamesTableLaws.{names_template_put}
-use Rattle.h5_fits.proofs.OpenLaws.{names_root_open, open_push}
-use Rattle.h5_fits.proofs.RoleLaws.{role_made}
+use Rattle.h5_meaning.specs.FormattingList.{MarkerEntry}
+use Rattle.h5_meaning.specs.FormattingNames.{html_name}
+use Rattle.h5_meaning.specs.Order.{last_or}
+use Rattle.h5_meaning.specs.NamesFit.{NamesFit, is_html_element}
+use Rattle.h5_meaning.specs.Roles.{PlainRole, role_of, role_of_local}
+use Rattle.h5_meaning.specs.Root.{IsRootOpen}
+use Rattle.h5_meaning.proofs.NamesTableLaws.{names_template_put}
+use Rattle.h5_meaning.proofs.OpenLaws.{names_root_open, open_push}
+use Rattle.h5_meaning.proofs.RoleLaws.{role_made}
 use Rattle.h5_meaning.specs.AdoptionAgency.{remove_from_stack}
 use Rattle.h5_meaning.specs.AfterHead.{removes_known, with_head}
 use Rattle.h5_meaning.specs.ByName.{named, of_tag}

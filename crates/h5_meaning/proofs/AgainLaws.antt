@@ -6,12 +6,12 @@ use Rattle.h5_token.specs.declared.tag.TagKind.TheVariants.{StartTag, EndTag}
 use Rattle.h5_interface.specs.declared.marks.QuirksMode.TheVariants.{Quirks}
 use Rattle.h5_names.specs.declared.known_name.KnownName.TheVariants.{Col, Html, Table, Tr}
 use Rattle.h5_tag_sets.specs.TagSets.{cell_names, is_one_of}
-use Rattle.h5_stack.specs.Scope.{has_template}
+use Rattle.h5_meaning.specs.Scope.{has_template}
 use Rattle.h5_types.specs.TurnText.{TurnText, TagTurn, CommentTurn, TextTurn, NullTurn, EofTurn}
 use Rattle.h5_types.specs.declared.modes.InsertionMode.{InsertionMode}
 use Rattle.h5_types.specs.declared.modes.InsertionMode.TheVariants.{Initial, BeforeHtml, BeforeHead, InHead, InHeadNoscript, AfterHead, InBody, AfterBody, AfterAfterBody}
-use Rattle.h5_fits.proofs.Ranks as edges
-use Rattle.h5_fits.proofs.Ranks.{CellTurns, ColTurns, EndHtmlTurns, EndPartTurns, EofTurns, OtherTurns, PartTurns, RowTurns, StartTableTurns, TextTurns, TurnKind, is_eof, leaves_body_end}
+use Rattle.h5_meaning.proofs.Ranks as edges
+use Rattle.h5_meaning.proofs.Ranks.{CellTurns, ColTurns, EndHtmlTurns, EndPartTurns, EofTurns, OtherTurns, PartTurns, RowTurns, StartTableTurns, TextTurns, TurnKind, is_eof, leaves_body_end}
 use Rattle.h5_meaning.specs.AfterAfterBody.{after_after_body_start}
 use Rattle.h5_meaning.specs.AfterBody.{after_body_end, after_body_start, back_to_body}
 use Rattle.h5_meaning.specs.AfterHead.{after_head_else, after_head_end, after_head_start, with_head}

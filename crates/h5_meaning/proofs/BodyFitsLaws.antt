@@ -11,16 +11,16 @@ use Rattle.h5_tag_sets.specs.TagSets.{block_end_names, block_start_names, format
 use Rattle.h5_types.specs.TurnText.{CommentTurn, EofTurn, HasText, NullTurn, TagTurn, TextTurn, TurnText}
 use Rattle.h5_types.specs.declared.modes.InsertionMode.{InsertionMode}
 use Rattle.h5_types.specs.declared.modes.InsertionMode.TheVariants.{AfterBody, InBody, InTable, Text}
-use Rattle.h5_stack.specs.FormattingNames.{html_name}
-use Rattle.h5_stack.specs.Scope.{comes_before_special, cut_names, has_p_in_button_scope, has_template, in_scope, second_is}
-use Rattle.h5_fits.specs.Fits.{goes_by_body}
-use Rattle.h5_fits.specs.NamesFit.{NamesFit, is_html_element}
-use Rattle.h5_fits.specs.Roles.{BodyRole, CaptionRole, CellRole, ColgroupRole, FramesetRole, HeadRole, HtmlRole, PlainRole, Role, RowRole, SectionRole, TableRole, TemplateRole, is_table_part, role_of_local}
-use Rattle.h5_fits.specs.Root.{IsRootOpen}
-use Rattle.h5_fits.proofs.NamesBodyLaws.{MayEnd, names_after_body, names_in_body, names_other_end}
-use Rattle.h5_fits.proofs.NamesTableLaws.{names_table_put}
-use Rattle.h5_fits.proofs.PlainLaws.{block_end_plain, block_start_plain, heading_local_plain, set_plain}
-use Rattle.h5_fits.proofs.RoleLaws.{Origin, local_p, origin, role_made}
+use Rattle.h5_meaning.specs.FormattingNames.{html_name}
+use Rattle.h5_meaning.specs.Scope.{comes_before_special, cut_names, has_p_in_button_scope, has_template, in_scope, second_is}
+use Rattle.h5_meaning.specs.Fits.{goes_by_body}
+use Rattle.h5_meaning.specs.NamesFit.{NamesFit, is_html_element}
+use Rattle.h5_meaning.specs.Roles.{BodyRole, CaptionRole, CellRole, ColgroupRole, FramesetRole, HeadRole, HtmlRole, PlainRole, Role, RowRole, SectionRole, TableRole, TemplateRole, is_table_part, role_of_local}
+use Rattle.h5_meaning.specs.Root.{IsRootOpen}
+use Rattle.h5_meaning.proofs.NamesBodyLaws.{MayEnd, names_after_body, names_in_body, names_other_end}
+use Rattle.h5_meaning.proofs.NamesTableLaws.{names_table_put}
+use Rattle.h5_meaning.proofs.PlainNameLaws.{block_end_plain, block_start_plain, heading_local_plain, set_plain}
+use Rattle.h5_meaning.proofs.RoleLaws.{Origin, local_p, origin, role_made}
 use Rattle.h5_meaning.specs.ByName.{NonePasses, by_kind, by_name, named}
 use Rattle.h5_meaning.specs.Changes.{generate_implied_end_except, insert_element, pop_until_named, save_mode, set_foster, set_frameset_not_ok, set_frameset_ok_by_text, set_ignore_lf, set_mode}
 use Rattle.h5_meaning.specs.Closing.{close_p_element_in_button_scope, pop_heading}

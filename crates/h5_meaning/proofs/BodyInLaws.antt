@@ -12,26 +12,26 @@ use Rattle.h5_meaning.proofs.ReadyInLaws.{ReadyIn, in_close_named, in_close_p_in
 use Rattle.h5_meaning.specs.InBody.{close_the_form, copies_option, description_names, form_in_scope, in_body_end_description, in_body_end_form, in_body_end_li, in_body_end_marked, in_body_end_option, in_body_marked, in_body_opens, in_body_preformatted, in_body_ruby_bases, in_body_ruby_texts, in_body_start_button, in_body_start_foreign, in_body_start_form, in_body_start_hr, in_body_start_image, in_body_start_input, in_body_start_item, in_body_start_marked, in_body_start_optgroup, in_body_start_option, in_body_start_preformatted, in_body_start_ruby, in_body_start_select, list_item_names, named_in_scope, oldest_option, unless_hidden}
 use Rattle.h5_meaning.proofs.CloseInLaws.{all_implied_keeps, in_cleared, in_close_except, in_close_other, in_copy, in_ignore_lf, in_implied_except, in_insert_form, in_list_item, in_marker, in_no_form, in_pop, in_remove_form, in_select, in_until, node_in_stack, oldest_is_open}
 use Rattle.h5_meaning.specs.ByName.{named}
-use Rattle.h5_fits.specs.Fits.{goes_by_body}
+use Rattle.h5_meaning.specs.Fits.{goes_by_body}
 use Rattle.h5_meaning.specs.Formatting.{reconstruct_active_formatting_elements}
 use Rattle.h5_meaning.specs.Rows.{GenerateImpliedEnd, GenerateImpliedEndExcept, IsDone, Pop, Row, SetFramesetNotOk, apply_all, choose, ignored, row}
 use Rattle.h5_meaning.specs.Changes.{clear_form, generate_implied_end_except, insert_and_pop_element, insert_element, pop, pop_until_named, set_frameset_not_ok}
 use Rattle.h5_meaning.specs.World.{World, names_of}
 use Rattle.h5_meaning.specs.AdoptionAgency.{KeepsKinds, remove_from_stack}
-use Rattle.h5_fits.specs.Roles.{PlainRole, role_of_local}
-use Rattle.h5_fits.proofs.TestLaws.{list_item_default}
+use Rattle.h5_meaning.specs.Roles.{PlainRole, role_of_local}
+use Rattle.h5_meaning.proofs.TestLaws.{list_item_default}
 use Rattle.h5_meaning.proofs.AdoptionAgencyLaws.{implied_keeps, until_named_keeps}
 use Rattle.h5_meaning.proofs.SoundLaws.{element_is_node}
-use Rattle.h5_stack.specs.FormattingNames.{html_name}
+use Rattle.h5_meaning.specs.FormattingNames.{html_name}
 use Rattle.h5_meaning.proofs.ByNameLaws.{holds_chosen, of_named}
 use Rattle.h5_meaning.specs.Shared.{current_is, is_context, is_type_hidden}
-use Rattle.h5_stack.specs.Order.{IsIn}
-use Rattle.h5_stack.specs.Scope.{comes_before_special, has_template, in_scope}
+use Rattle.h5_meaning.specs.Order.{IsIn}
+use Rattle.h5_meaning.specs.Scope.{comes_before_special, has_template, in_scope}
 use Rattle.h5_meaning.proofs.AdoptionForest.{kinds_trans}
 use Rattle.h5_meaning.proofs.ClosingLaws.{named_not_implied}
-use Rattle.h5_fits.proofs.PlainLaws.{set_plain}
+use Rattle.h5_meaning.proofs.PlainNameLaws.{set_plain}
 use Rattle.h5_meaning.specs.Foreign.{foreign_name}
-use Rattle.h5_fits.specs.NamesFit.{is_html_element}
+use Rattle.h5_meaning.specs.NamesFit.{is_html_element}
 
 -- NAMES
 

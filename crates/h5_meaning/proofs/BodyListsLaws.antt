@@ -9,9 +9,9 @@ use Rattle.h5_types.specs.TurnText.{TurnText, TagTurn, CommentTurn, TextTurn, Nu
 use Rattle.h5_types.specs.declared.modes.InsertionMode.{InsertionMode}
 use Rattle.h5_tag_sets.specs.TagSets.{is_default_scope, is_heading, is_html_named, mathml_namespace, svg_namespace}
 use Rattle.h5_types.specs.declared.modes.InsertionMode.TheVariants.{AfterBody, InTable, InFrameset}
-use Rattle.h5_fits.specs.Fits.{goes_by_body}
-use Rattle.h5_fits.proofs.OpenLaws.{goes_after_root, names_root_open}
-use Rattle.h5_stack.specs.Scope.{comes_before_special, has_p_in_button_scope, has_template, in_scope, second_is}
+use Rattle.h5_meaning.specs.Fits.{goes_by_body}
+use Rattle.h5_meaning.proofs.OpenLaws.{goes_after_root, names_root_open}
+use Rattle.h5_meaning.specs.Scope.{comes_before_special, has_p_in_button_scope, has_template, in_scope, second_is}
 use Rattle.h5_meaning.specs.ByName.{NonePasses, by_kind, by_name, of_tag}
 use Rattle.h5_meaning.specs.InBody.{body_ends, body_in_scope, if_body_in_scope, in_body, in_body_end, in_body_end_block, in_body_end_br, in_body_end_heading, in_body_end_other, in_body_end_p, in_body_start, in_body_start_block, in_body_start_body, in_body_start_heading, in_body_start_iframe, in_body_start_noembed, in_body_start_noscript, in_body_start_other, in_body_start_part, in_body_start_plaintext, in_body_start_table, in_body_start_textarea, in_body_start_void, in_body_start_xmp, in_body_tag, is_quirks, in_body_start_frameset, no_template_mode}
 use Rattle.h5_meaning.specs.Rows.{AddAttrsToHtml, AddAttrsToSecond, Again, AppendComment, Change, ClosePElement, ClosePElementInButtonScope, GenerateImpliedEnd, GenerateImpliedEndExcept, InsertElement, IsDone, PopUntilHeading, PopUntilNamed, Row, SetFramesetNotOk, SetMode, apply_all, choose, errs, ignored, row, row_if, RemoveBody}

@@ -7,7 +7,7 @@ use Rattle.h5_types.specs.declared.modes.InsertionMode.TheVariants.{AfterBody}
 use Rattle.h5_token.specs.TokenText.{TagText}
 use Rattle.h5_tag_sets.specs.TagSets.{is_default_scope, is_heading, is_html_named, is_list_item_scope, is_one_of, mathml_namespace, svg_namespace}
 use Rattle.h5_meaning.specs.InBody.{body_ends, body_in_scope, close_the_form, copies_option, form_in_scope, if_body_in_scope, in_body_end, in_body_end_block, in_body_end_body, in_body_end_br, in_body_end_description, in_body_end_form, in_body_end_formatting, in_body_end_heading, in_body_end_html, in_body_end_li, in_body_end_marked, in_body_end_option, in_body_end_other, in_body_end_p, in_body_start, in_body_start_body, in_body_start_button, in_body_start_foreign, in_body_start_form, in_body_start_frameset, in_body_start_input, in_body_start_noscript, in_body_start_optgroup, in_body_start_option, in_body_start_other, in_body_start_ruby, in_body_start_select, in_body_start_table, is_quirks, named_in_scope, oldest_option, unless_hidden}
-use Rattle.h5_stack.specs.Scope.{comes_before_special, has_p_in_button_scope, has_template, in_scope, second_is}
+use Rattle.h5_meaning.specs.Scope.{comes_before_special, has_p_in_button_scope, has_template, in_scope, second_is}
 use Rattle.h5_meaning.specs.Rows.{AddAttrsToHtml, AddAttrsToSecond, Answers, Change, Ending, GenerateImpliedEnd, GenerateImpliedEndExcept, InsertAndPopElement, IsAcknowledged, IsDone, Row, SetFramesetNotOk, SetMode, choose, errs, ignored, row}
 use Rattle.h5_meaning.specs.Shared.{current_is, head_start_names, in_body_start_html, inserts, is_context, is_type_hidden}
 use Rattle.h5_meaning.specs.World.{World, names_of}
@@ -15,7 +15,7 @@ use Rattle.h5_meaning.proofs.ListedLaws.{AllListable}
 use Rattle.h5_meaning.specs.ByName.{NonePasses, by_name, named, of_tag}
 use Rattle.h5_meaning.proofs.ByNameLaws.{holds_by_name, of_named, of_one}
 use Rattle.h5_meaning.proofs.ReadyLaws.{a_formatting, nobr_formatting}
-use Rattle.h5_meaning.specs.InHead.{in_head_else, in_head_links, in_head_raw, in_head_start, in_head_start_link, in_head_start_noscript, in_head_start_raw, in_head_start_script, in_head_end_template, in_head_start_tag, in_head_start_template, in_head_start_title}
+use Rattle.h5_meaning.specs.InHead.{in_head_else, in_head_links, in_head_raw, in_head_start, in_head_start_noscript, in_head_start_raw, in_head_start_script, in_head_end_template, in_head_start_tag, in_head_start_template, in_head_start_title}
 use Rattle.h5_meaning.proofs.ToldLaws.{IsTold, NoText}
 use Rattle.h5_types.specs.TurnText.{TagTurn}
 use Rattle.h5_meaning.specs.InHeadNoscript.{noscript_content_names}

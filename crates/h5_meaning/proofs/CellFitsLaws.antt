@@ -11,11 +11,11 @@ use Rattle.h5_types.specs.TurnText.{CommentTurn, EofTurn, HasText, NullTurn, Tag
 use Rattle.h5_types.specs.declared.modes.InsertionMode.{InsertionMode}
 use Rattle.h5_types.specs.declared.modes.InsertionMode.TheVariants.{InCaption, InCell, InColumnGroup, InRow, InTable}
 use Rattle.h5_types.specs.declared.modes.SplitStatus.TheVariants.{NotSplit, NotWhitespace, Whitespace}
-use Rattle.h5_stack.specs.Scope.{first_passes, in_scope, later_names}
-use Rattle.h5_fits.specs.NamesFit.{NamesFit}
-use Rattle.h5_fits.specs.Roles.{CaptionRole, CellRole, ColgroupRole, Role, RowRole, SectionRole, TableRole, role_of_local}
-use Rattle.h5_fits.proofs.NamesTableLaws.{names_caption_closed, names_cell_closed, names_cell_ended, names_colgroup_popped}
-use Rattle.h5_fits.proofs.RoleLaws.{Origin, origin, role_named}
+use Rattle.h5_meaning.specs.Scope.{first_passes, in_scope, later_names}
+use Rattle.h5_meaning.specs.NamesFit.{NamesFit}
+use Rattle.h5_meaning.specs.Roles.{CaptionRole, CellRole, ColgroupRole, Role, RowRole, SectionRole, TableRole, role_of_local}
+use Rattle.h5_meaning.proofs.NamesTableLaws.{names_caption_closed, names_cell_closed, names_cell_ended, names_colgroup_popped}
+use Rattle.h5_meaning.proofs.RoleLaws.{Origin, origin, role_named}
 use Rattle.h5_meaning.specs.ByName.{NonePasses, by_kind, by_name, named, of_tag}
 use Rattle.h5_meaning.specs.Changes.{insert_and_pop_element, pop, pop_until_named}
 use Rattle.h5_meaning.specs.Closing.{generate_implied_end, pop_until_cell}

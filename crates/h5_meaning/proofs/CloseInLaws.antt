@@ -9,44 +9,44 @@ use Rattle.h5_interface.specs.Forest.{Forest, IsElement, kind_of}
 use Rattle.h5_interface.specs.SinkChoices.{Rearranges, SinkChoices}
 use Rattle.h5_tag_sets.specs.TagSets.{html_namespace, formatting_names, is_default_scope, is_html_named, is_implied, is_one_of, is_special}
 use Rattle.h5_types.specs.declared.modes.InsertionMode.{InsertionMode}
-use Rattle.h5_stack.specs.FormattingList.{ElementEntry, Entry, MarkerEntry, nodes_of}
-use Rattle.h5_stack.specs.Order.{IsIn, is_in}
-use Rattle.h5_fits.specs.Frames.{Frame, passes_table_scope}
-use Rattle.h5_fits.specs.Roles.{PlainRole, is_plain, role_of, role_of_local, roles}
-use Rattle.h5_fits.proofs.BoolLaws.{and_both, and_not}
-use Rattle.h5_fits.proofs.FrameLaws.{frame_trans}
-use Rattle.h5_fits.proofs.SetLaws.{ordinary_plain}
+use Rattle.h5_meaning.specs.FormattingList.{ElementEntry, Entry, MarkerEntry, nodes_of}
+use Rattle.h5_meaning.specs.Order.{IsIn, is_in}
+use Rattle.h5_meaning.specs.Frames.{Frame, passes_table_scope}
+use Rattle.h5_meaning.specs.Roles.{PlainRole, is_plain, role_of, role_of_local, roles}
+use Rattle.h5_meaning.proofs.BoolLaws.{and_both, and_not}
+use Rattle.h5_meaning.proofs.FrameLaws.{frame_trans}
+use Rattle.h5_meaning.proofs.SetLaws.{ordinary_plain}
 use Rattle.h5_meaning.proofs.TreeLaws.{OnlyTree, tree_implied_except, tree_pop, tree_remove, tree_then, tree_until}
 use Rattle.h5_meaning.specs.Closing.{close_item, close_list_item, copy_closed_option, ends_item_search, generate_implied_end, generate_implied_end_in_select, is_html_among, newest_item, passed_names}
-use Rattle.h5_stack.specs.Scope.{comes_before_special, cut_names, drop_while, first_passes, in_scope, is_implied_but, later_names, node_in_scope, oldest_of, oldest_passing}
-use Rattle.h5_stack.proofs.PassLaws.{lists_without_node}
+use Rattle.h5_meaning.specs.Scope.{comes_before_special, cut_names, drop_while, first_passes, in_scope, is_implied_but, later_names, node_in_scope, oldest_of, oldest_passing}
+use Rattle.h5_meaning.proofs.PassLaws.{lists_without_node}
 use Rattle.h5_meaning.specs.Shared.{current_is}
 use Rattle.h5_meaning.proofs.AdoptionFrameLaws.{Framed, framed_same, taken_framed}
 use Rattle.h5_meaning.proofs.AdoptionForest.{kinds_trans}
 use Rattle.h5_meaning.specs.World.{World, name_in, name_of_found, names_of}
-use Rattle.h5_stack.specs.FormattingNames.{AllFormatting, AllOfTags, html_name}
+use Rattle.h5_meaning.specs.FormattingNames.{AllFormatting, AllOfTags, html_name}
 use Rattle.h5_meaning.proofs.SituationLaws.{situation_forest, situation_tree}
 use Rattle.h5_meaning.proofs.ReadyInLaws.{ReadyIn, in_implied, in_insert, in_step, steady}
-use Rattle.h5_fits.proofs.NameLaws.{cut_roles, frame_without}
+use Rattle.h5_meaning.proofs.RoleNameLaws.{cut_roles, frame_without}
 use Rattle.h5_meaning.specs.Sound.{HasLists, IsHtml, Sound}
 use Rattle.h5_meaning.specs.Changes.{clear_form, generate_implied_end_except, insert_form, pop, pop_until_named, set_ignore_lf, with_forest}
-use Rattle.h5_fits.proofs.EndTagLaws.{frame_other_end}
-use Rattle.h5_fits.proofs.PlainLaws.{frame_implied, plain_only}
+use Rattle.h5_meaning.proofs.EndTagLaws.{frame_other_end}
+use Rattle.h5_meaning.proofs.PlainNameLaws.{frame_implied, plain_only}
 use Rattle.h5_meaning.proofs.NameLaws.{names-cut, names-implied, names_kept}
 use Rattle.h5_meaning.specs.AdoptionAgency.{remove_from_stack}
 use Rattle.h5_meaning.proofs.AdoptionAgencyLaws.{Keeps, implied_keeps, pop_keeps, taken_ready, until_named_keeps, while_keeps}
 use Rattle.h5_meaning.proofs.PlaceLaws.{form_open_stands, no_form_stands}
-use Rattle.h5_fits.proofs.RoleLaws.{role_made, role_named}
+use Rattle.h5_meaning.proofs.RoleLaws.{role_made, role_named}
 use Rattle.h5_meaning.specs.Formatting.{clear_active_formatting_to_marker, insert_marker}
 use Rattle.h5_meaning.proofs.ClosingLaws.{still_in_scope}
 use Rattle.h5_meaning.proofs.PopLaws.{names-pop}
-use Rattle.h5_fits.specs.Contexts.{ends}
-use Rattle.h5_fits.proofs.CutLaws.{frame_cut}
+use Rattle.h5_meaning.specs.Contexts.{ends}
+use Rattle.h5_meaning.proofs.CutNameLaws.{frame_cut}
 use Rattle.h5_meaning.proofs.ListsLaws.{steady_cleared, steady_marker, steady_rearranged}
-use Rattle.h5_fits.specs.Fits.{goes_by_body}
+use Rattle.h5_meaning.specs.Fits.{goes_by_body}
 use Rattle.h5_meaning.proofs.SoundLaws.{element_is_node}
-use Rattle.h5_fits.proofs.RoleSetLaws.{set_passes}
-use Rattle.h5_fits.proofs.TestLaws.{frame_closed}
+use Rattle.h5_meaning.proofs.RoleSetLaws.{set_passes}
+use Rattle.h5_meaning.proofs.TestLaws.{frame_closed}
 
 -- FRAMES of names
 

@@ -8,14 +8,14 @@ use Rattle.h5_interface.specs.Changes.{mark}
 use Rattle.h5_interface.specs.SinkChoices.{SinkChoices}
 use Rattle.h5_interface.proofs.MakingLaws.{mark_rearranges}
 use Rattle.h5_tag_sets.specs.TagSets.{block_end_names, heading_names, html_namespace, implied_names, is_button_scope, is_heading, is_html_named, is_implied, is_one_of, is_thorough_implied, thorough_implied_names}
-use Rattle.h5_stack.specs.FormattingNames.{html_name}
-use Rattle.h5_stack.specs.Order.{but_first}
-use Rattle.h5_stack.specs.Scope.{cut_names, drop_while, first_passes, in_scope, is_implied_but, later_names}
-use Rattle.h5_fits.specs.Root.{IsRootOpen}
-use Rattle.h5_fits.proofs.BoolLaws.{and_both, and_not, or_neither}
-use Rattle.h5_fits.proofs.RoleLaws.{made_named}
-use Rattle.h5_fits.proofs.SetLaws.{in_set}
-use Rattle.h5_fits.proofs.OpenLaws.{open_while}
+use Rattle.h5_meaning.specs.FormattingNames.{html_name}
+use Rattle.h5_meaning.specs.Order.{but_first}
+use Rattle.h5_meaning.specs.Scope.{cut_names, drop_while, first_passes, in_scope, is_implied_but, later_names}
+use Rattle.h5_meaning.specs.Root.{IsRootOpen}
+use Rattle.h5_meaning.proofs.BoolLaws.{and_both, and_not, or_neither}
+use Rattle.h5_meaning.proofs.RoleLaws.{made_named}
+use Rattle.h5_meaning.proofs.SetLaws.{in_set}
+use Rattle.h5_meaning.proofs.OpenLaws.{open_while}
 use Rattle.h5_meaning.specs.Changes.{generate_implied_end_except, pop, pop_while}
 use Rattle.h5_meaning.specs.Closing.{close_p_element, generate_implied_end, generate_implied_end_thoroughly, pop_heading, pop_until_heading}
 use Rattle.h5_meaning.specs.Sound.{Sound}

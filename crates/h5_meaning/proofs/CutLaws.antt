@@ -4,13 +4,13 @@ use Rattle.std.proofs.lemmas.List.{append-nil}
 use Rattle.h5_interface.specs.SinkChoices.{SinkChoices}
 use Rattle.h5_interface.specs.Forest.{ChildText, Forest}
 use Rattle.h5_tag_sets.specs.TagSets.{is_html_named}
-use Rattle.h5_fits.specs.Fits.{is_before_root}
+use Rattle.h5_meaning.specs.Fits.{is_before_root}
 use Rattle.h5_types.specs.TurnText.{TextTurn, TurnText}
 use Rattle.h5_types.specs.declared.modes.InsertionMode.{InsertionMode}
 use Rattle.h5_types.specs.declared.modes.SplitStatus.TheVariants.{NotSplit, NotWhitespace, Whitespace}
 use Rattle.h5_types.specs.declared.modes.InsertionMode.TheVariants.{Initial, BeforeHtml, BeforeHead, InHead, InHeadNoscript, AfterHead, InBody, Text, InTable, InTableText, InCaption, InColumnGroup, InTableBody, InRow, InCell, AfterBody, AfterAfterBody, InTemplate, InFrameset, AfterFrameset, AfterAfterFrameset}
 use Rattle.h5_meaning.specs.Blanks.{is_blank, all_blank, blanks_of, rest_of}
-use Rattle.h5_meaning.specs.Changes.{append_pending_text, append_text, pop, save_mode, set_foster, set_frameset_ok_by_text, set_mode, with_forest}
+use Rattle.h5_meaning.specs.Changes.{append_pending_text, append_text, save_mode, set_foster, set_frameset_ok_by_text, set_mode, with_forest}
 use Rattle.h5_meaning.specs.Foreign.{is_foreign_text}
 use Rattle.h5_meaning.specs.Formatting.{reconstruct_active_formatting_elements}
 use Rattle.h5_meaning.specs.AfterBody.{back_to_body}
@@ -20,12 +20,12 @@ use Rattle.h5_meaning.specs.BeforeHtml.{before_html_else}
 use Rattle.h5_meaning.specs.Modes.{rule}
 use Rattle.h5_meaning.specs.Shared.{current_is, in_body_text}
 use Rattle.h5_meaning.specs.Sound.{Fitting}
-use Rattle.h5_meaning.specs.InColumnGroup.{close_the_column_group, in_column_group_else}
+use Rattle.h5_meaning.specs.InColumnGroup.{in_column_group_else}
 use Rattle.h5_meaning.specs.InHead.{in_head_else}
 use Rattle.h5_meaning.specs.InHeadNoscript.{in_head_noscript_else}
 use Rattle.h5_meaning.specs.InTable.{in_table_text_or_null, keeps_text}
 use Rattle.h5_meaning.specs.InitialMode.{initial_else}
-use Rattle.h5_meaning.specs.Rows.{Again, Pop, Row, choose, ignored, row}
+use Rattle.h5_meaning.specs.Rows.{Row, choose, row}
 use Rattle.h5_meaning.specs.Text.{after_row, all_blanks, closes_column_group, foreign_text, fostered_text, if_any, unless_foreign, split, dropped, by_else, text_in_body, text_in_column_group, text_in_table, text_in_table_text, text_after_body, text_after_head, text_in_head, text_in_head_noscript, text_before_head, text_before_html, text_initial, text_in, text_rule}
 use Rattle.h5_meaning.specs.Place.{appropriate_place, place, put}
 use Rattle.h5_meaning.specs.World.{World, names_of}

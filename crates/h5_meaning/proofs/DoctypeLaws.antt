@@ -6,9 +6,9 @@ use Rattle.h5_interface.specs.Seen.{append_doctype}
 use Rattle.h5_interface.specs.SinkChoices.{SinkChoices}
 use Rattle.h5_interface.proofs.MakingLaws.{append_doctype_rearranges}
 use Rattle.h5_types.specs.declared.modes.InsertionMode.TheVariants.{BeforeHtml, Initial}
-use Rattle.h5_fits.specs.Fits.{Situation}
-use Rattle.h5_fits.specs.NamesFit.{NamesFit}
-use Rattle.h5_fits.proofs.SituationLaws.{names_later}
+use Rattle.h5_meaning.specs.Fits.{Situation}
+use Rattle.h5_meaning.specs.NamesFit.{NamesFit}
+use Rattle.h5_meaning.proofs.SituationRoleLaws.{names_later}
 use Rattle.h5_names.specs.declared.qualified.QualName.{QualName}
 use Rattle.h5_meaning.proofs.SituationLaws.{KeepsSituation, situation_forest, situation_later, situation_same}
 use Rattle.h5_meaning.specs.Changes.{insert_doctype, set_quirks_mode}

@@ -7,28 +7,28 @@ use Rattle.h5_interface.specs.SinkChoices.{SinkChoices}
 use Rattle.std.specs.Prelude.{unwrap_or}
 use Rattle.h5_interface.specs.declared.marks.QuirksMode.TheVariants.{Quirks}
 use Rattle.h5_tag_sets.specs.TagSets.{html_namespace, is_html_named}
-use Rattle.h5_stack.specs.FormattingList.{ElementEntry, Entry, MarkerEntry, closed_front}
-use Rattle.h5_stack.specs.FormattingNames.{AllFormatting, html_name}
-use Rattle.h5_stack.specs.Scope.{first_passes, has_template, later_names}
+use Rattle.h5_meaning.specs.FormattingList.{ElementEntry, Entry, MarkerEntry, closed_front}
+use Rattle.h5_meaning.specs.FormattingNames.{AllFormatting, html_name}
+use Rattle.h5_meaning.specs.Scope.{first_passes, has_template, later_names}
 use Rattle.h5_types.specs.TurnText.{CommentTurn, EofTurn, NullTurn, TagTurn, TextTurn, TurnText}
 use Rattle.h5_types.specs.declared.modes.InsertionMode.{InsertionMode}
 use Rattle.h5_types.specs.declared.modes.InsertionMode.TheVariants.{AfterAfterBody, AfterAfterFrameset, AfterBody, AfterFrameset, BeforeHtml, InCell, InColumnGroup, InFrameset, InTable, InTableText, Initial, Text}
 use Rattle.h5_types.specs.declared.modes.SplitStatus.TheVariants.{NotSplit}
-use Rattle.h5_fits.specs.Fits.{Placed, Situation, is_table_mode, is_whole, may_be_left}
-use Rattle.h5_fits.specs.NamesFit.{NamesFit}
-use Rattle.h5_fits.specs.Reset.{reset}
-use Rattle.h5_fits.specs.Roles.{PlainRole, Role, TableRole, count_roles, has_role, is_template, later_roles, role_of, role_of_local, roles}
-use Rattle.h5_fits.proofs.ChangeLaws.{later_kinds}
-use Rattle.h5_fits.proofs.CutLaws.{cut_root}
-use Rattle.h5_fits.proofs.HeadLaws.{text_pop}
-use Rattle.h5_fits.proofs.NamesFitLaws.{names_table_text_ended, roles_later}
-use Rattle.h5_fits.proofs.NamesTableLaws.{table_cut, template_cut}
-use Rattle.h5_fits.proofs.RankLaws.{again_falls}
-use Rattle.h5_fits.proofs.RankWeightLaws.{closes_templates, colgroup_falls, eof_falls, is_text, names_rank_bound, rank_usual, table_falls, table_text_falls, template_again_falls, weight_pop, weight_push}
-use Rattle.h5_fits.proofs.RankWeightLaws as weights
-use Rattle.h5_fits.proofs.Ranks as edges
-use Rattle.h5_fits.proofs.Ranks.{CellTurns, ColTurns, EndHtmlTurns, EndPartTurns, EofTurns, OtherTurns, PartTurns, RowTurns, StartTableTurns, TextTurns, TurnKind, early_below, eof_weight, is_eof, is_table_like, rank, rank_in, rank_saved}
-use Rattle.h5_fits.proofs.RoleLaws.{role_named}
+use Rattle.h5_meaning.specs.Fits.{Placed, Situation, is_table_mode, is_whole, may_be_left}
+use Rattle.h5_meaning.specs.NamesFit.{NamesFit}
+use Rattle.h5_meaning.specs.ResetByRoles.{reset}
+use Rattle.h5_meaning.specs.Roles.{PlainRole, Role, TableRole, count_roles, has_role, is_template, later_roles, role_of, role_of_local, roles}
+use Rattle.h5_meaning.proofs.ChangeLaws.{later_kinds}
+use Rattle.h5_meaning.proofs.CutNameLaws.{cut_root}
+use Rattle.h5_meaning.proofs.HeadLaws.{text_pop}
+use Rattle.h5_meaning.proofs.NamesFitLaws.{names_table_text_ended, roles_later}
+use Rattle.h5_meaning.proofs.NamesTableLaws.{table_cut, template_cut}
+use Rattle.h5_meaning.proofs.RankLaws.{again_falls}
+use Rattle.h5_meaning.proofs.RankWeightLaws.{closes_templates, colgroup_falls, eof_falls, is_text, names_rank_bound, rank_usual, table_falls, table_text_falls, template_again_falls, weight_pop, weight_push}
+use Rattle.h5_meaning.proofs.RankWeightLaws as weights
+use Rattle.h5_meaning.proofs.Ranks as edges
+use Rattle.h5_meaning.proofs.Ranks.{CellTurns, ColTurns, EndHtmlTurns, EndPartTurns, EofTurns, OtherTurns, PartTurns, RowTurns, StartTableTurns, TextTurns, TurnKind, early_below, eof_weight, is_eof, is_table_like, rank, rank_in, rank_saved}
+use Rattle.h5_meaning.proofs.RoleLaws.{role_named}
 use Rattle.h5_meaning.specs.Changes.{append_text, create_root, insert_element, insert_head, mark_started, pop, pop_until_named, set_foster, set_frameset_ok_by_text, set_mode, set_quirks_mode, take_pending_text}
 use Rattle.h5_meaning.specs.Blanks.{all_blank}
 use Rattle.h5_meaning.specs.Formatting.{clear_active_formatting_to_marker, insert_anew, reconstruct_active_formatting_elements}

@@ -8,11 +8,9 @@ use Rattle.h5_types.specs.TurnText.{TurnText, TagTurn, CommentTurn, TextTurn, Eo
 use Rattle.h5_types.specs.declared.modes.InsertionMode.{InsertionMode}
 use Rattle.h5_types.specs.declared.modes.InsertionMode.TheVariants.{AfterAfterBody, AfterBody, AfterHead, BeforeHead, BeforeHtml, InBody, InCaption, InCell, InColumnGroup, InHead, InHeadNoscript, InRow, InTable, InTableBody, InTableText, InTemplate, InFrameset, AfterFrameset, AfterAfterFrameset, Initial, Text}
 use Rattle.h5_types.specs.declared.modes.SplitStatus.TheVariants.{Whitespace}
-use Rattle.h5_types.specs.declared.turns.ProcessResult.TheVariants as results
-use Rattle.h5_stack.specs.Lists.{Lists}
-use Rattle.h5_fits.specs.Fits.{goes_by_body, is_before_root}
-use Rattle.h5_fits.proofs.NamesBodyLaws.{names_after_after_body, names_in_body}
-use Rattle.h5_fits.proofs.NamesFitLaws.{names_open}
+use Rattle.h5_meaning.specs.Fits.{goes_by_body, is_before_root}
+use Rattle.h5_meaning.proofs.NamesBodyLaws.{names_after_after_body, names_in_body}
+use Rattle.h5_meaning.proofs.NamesFitLaws.{names_open}
 use Rattle.h5_meaning.specs.AfterAfterBody.{after_after_body, after_after_body_start, after_after_body_tag}
 use Rattle.h5_meaning.specs.AfterBody.{after_body, after_body_end, after_body_start, after_body_tag, back_to_body}
 use Rattle.h5_meaning.specs.AfterHead.{after_head, after_head_tag}

@@ -1,5 +1,5 @@
 -- What a builder keeps between tokens is kept by each token.
-use Rattle.std.proofs.Common.{◌≡◌, ℕ, Bool, true, false, List, [], ◌∷◌, Option, Some, None, refl}
+use Rattle.std.proofs.Common.{◌≡◌, ℕ, List, [], ◌∷◌, Option, Some, None, refl}
 use Rattle.h5_token.specs.TokenText.{CommentIs, Characters, DoctypeIs, DoctypeText, EndOfFile, NullCharacter, ParseErrorIs, TagIs, TokenText}
 use Rattle.h5_token.specs.declared.fault.BuildFault.{BuildFault}
 use Rattle.h5_interface.specs.SinkChoices.{SinkChoices}
@@ -7,7 +7,7 @@ use Rattle.h5_types.specs.TurnText.{CommentTurn, EofTurn, NullTurn, TagTurn}
 use Rattle.h5_types.specs.declared.modes.InsertionMode.{InsertionMode}
 use Rattle.h5_types.specs.declared.modes.InsertionMode.TheVariants.{Initial}
 use Rattle.h5_meaning.specs.Run.{IsFitting, View, after_token, doctype_in, refusal, step, take_or_refuse, taken, text_step, without_lf}
-use Rattle.h5_meaning.specs.Sound.{Fits, Fitting}
+use Rattle.h5_meaning.specs.Sound.{Fitting}
 use Rattle.h5_meaning.specs.World.{World, names_of}
 use Rattle.h5_meaning.proofs.DoctypeLaws.{judged_fitting}
 use Rattle.h5_meaning.proofs.ForeignTextLaws.{text_keeps}

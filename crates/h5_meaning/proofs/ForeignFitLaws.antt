@@ -1,31 +1,29 @@
 -- By whichever rule a token goes, what holds at every turn holds after it.
-use Rattle.std.proofs.Common.{◌≡◌, ◌≢◌, ℕ, Bool, true, false, List, [], ◌∷◌, ◌++◌, Option, Some, None, refl, ap, sym, subst, ◌∙◌}
-use Rattle.h5_names.specs.AttributeText.{AttributeText, is_same_text}
+use Rattle.std.proofs.Common.{◌≡◌, ◌≢◌, ℕ, Bool, true, false, List, [], ◌∷◌, ◌++◌, None, refl, sym, subst, ◌∙◌}
+use Rattle.h5_names.specs.AttributeText.{AttributeText}
 use Rattle.h5_names.specs.declared.qualified.QualName.{QualName}
 use Rattle.h5_token.specs.TokenText.{TagText}
 use Rattle.h5_interface.specs.SinkChoices.{SinkChoices}
-use Rattle.h5_tag_sets.specs.TagSets.{html_namespace}
 use Rattle.h5_types.specs.TurnText.{HasText, TurnText}
 use Rattle.h5_types.specs.declared.modes.InsertionMode.{InsertionMode}
 use Rattle.h5_types.specs.declared.turns.ProcessResult.{ProcessResult}
 use Rattle.h5_types.specs.declared.turns.ProcessResult.TheVariants as results
 use Rattle.h5_types.specs.declared.modes.InsertionMode.TheVariants.{BeforeHtml, Initial}
-use Rattle.h5_stack.specs.Scope.{cut_names, drop_while}
-use Rattle.h5_fits.specs.Fits.{is_before_root}
-use Rattle.h5_fits.specs.Frames.{Frame}
-use Rattle.h5_fits.specs.NamesFit.{NamesFit, is_html_element}
-use Rattle.h5_fits.specs.Roles.{roles}
-use Rattle.h5_fits.specs.Root.{IsRootOpen}
-use Rattle.h5_fits.proofs.FrameLaws.{frame_refl}
-use Rattle.h5_fits.proofs.NameLaws.{frame_pushed}
-use Rattle.h5_fits.proofs.OpenLaws.{names_root_open, open_push}
-use Rattle.h5_fits.proofs.TestLaws.{foreign_plain}
+use Rattle.h5_meaning.specs.Fits.{is_before_root}
+use Rattle.h5_meaning.specs.Frames.{Frame}
+use Rattle.h5_meaning.specs.NamesFit.{is_html_element}
+use Rattle.h5_meaning.specs.Roles.{roles}
+use Rattle.h5_meaning.specs.Root.{IsRootOpen}
+use Rattle.h5_meaning.proofs.FrameLaws.{frame_refl}
+use Rattle.h5_meaning.proofs.RoleNameLaws.{frame_pushed}
+use Rattle.h5_meaning.proofs.OpenLaws.{names_root_open, open_push}
+use Rattle.h5_meaning.proofs.TestLaws.{foreign_plain}
 use Rattle.h5_meaning.specs.Changes.{append_comment, append_text, set_frameset_ok_by_text, set_mode}
-use Rattle.h5_meaning.specs.Foreign.{adjusted_attributes, adjusted_local, adjusted_namespace, foreign_name, insert_and_pop_foreign_element, insert_foreign_element, is_foreign, is_left, is_named_in_any_case, leave_foreign_content, pop_until_named_in_any_case}
-use Rattle.h5_meaning.specs.ForeignContent.{ByMode, Finds, ForeignStep, HasRow, by_mode, dispatch, foreign_start_other, foreign_step, foreign_text_row, replacement_text, row_of, search_end}
+use Rattle.h5_meaning.specs.Foreign.{adjusted_local, adjusted_namespace, foreign_name, insert_and_pop_foreign_element, insert_foreign_element, pop_until_named_in_any_case}
+use Rattle.h5_meaning.specs.ForeignContent.{Finds, by_mode, dispatch, foreign_text_row, replacement_text, row_of, search_end}
 use Rattle.h5_meaning.specs.Modes.{rule}
-use Rattle.h5_meaning.specs.Rows.{AppendComment, AppendText, Change, Ending, Follows, InsertAndPopForeignElement, InsertForeignElement, IsAcknowledged, IsDone, LeaveForeignContent, PopUntilNamedInAnyCase, Row, SetFramesetOkByText, apply_all, changed_by, choose, errs, ignored, next_mode, row}
-use Rattle.h5_meaning.specs.Sound.{Fits, Fitting, HasLists, Sound, situation_of}
+use Rattle.h5_meaning.specs.Rows.{AppendComment, AppendText, Change, Follows, InsertAndPopForeignElement, InsertForeignElement, IsDone, LeaveForeignContent, PopUntilNamedInAnyCase, Row, SetFramesetOkByText, apply_all, changed_by, choose, errs, next_mode, row}
+use Rattle.h5_meaning.specs.Sound.{Fits, Fitting, Sound, situation_of}
 use Rattle.h5_meaning.specs.World.{World, names_of}
 use Rattle.h5_meaning.proofs.FitsLaws.{FitsAfter, rule_fits}
 use Rattle.h5_meaning.proofs.ForeignLaws.{names-insert_and_pop_foreign, names-insert_foreign, names-leave, names-until_in_any_case, situation_insert_and_pop_foreign, situation_insert_foreign, situation_leave, situation_until_in_any_case}
@@ -34,8 +32,8 @@ use Rattle.h5_meaning.proofs.ForeignRowLaws.{Steps, dispatch_holds, each_step, f
 use Rattle.h5_meaning.proofs.KeptLaws.{FitsAs, apply_append, changes_mode, fits_at, mode_after, mode_with}
 use Rattle.h5_meaning.proofs.ListsLaws.{IsSteady, NeedsOfAll, steady_changes}
 use Rattle.h5_meaning.proofs.NameLaws.{names-append, names-append_comment}
-use Rattle.h5_meaning.proofs.RowListsLaws.{rule_lists, rule_sound}
-use Rattle.h5_meaning.proofs.SituationLaws.{KeepsSituation, situation_comment, situation_frameset, situation_same, situation_text, situation_then}
+use Rattle.h5_meaning.proofs.RowListsLaws.{rule_sound}
+use Rattle.h5_meaning.proofs.SituationLaws.{KeepsSituation, situation_comment, situation_frameset, situation_text, situation_then}
 
 takes_root : (m : InsertionMode) → takes_foreign m ≡ true → is_before_root m ≡ false
 takes_root Initial h = absurd (cc)

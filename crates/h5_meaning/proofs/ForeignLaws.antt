@@ -1,10 +1,10 @@
 -- Elements of SVG and MathML: what making them, and leaving them, keeps.
-use Rattle.std.proofs.Common.{◌≡◌, ℕ, Bool, false, List, [], ◌∷◌, map, None, refl, ap, ◌∙◌}
+use Rattle.std.proofs.Common.{◌≡◌, ℕ, Bool, false, List, ◌∷◌, map, None, refl, ap, ◌∙◌}
 use Rattle.h5_names.specs.AttributeText.{AttributeText}
 use Rattle.h5_names.specs.declared.qualified.QualName.{QualName}
 use Rattle.h5_interface.specs.SinkChoices.{SinkChoices}
-use Rattle.h5_stack.specs.Scope.{cut_names, drop_while}
-use Rattle.h5_stack.proofs.KeptLaws.{lists_pushed}
+use Rattle.h5_meaning.specs.Scope.{cut_names, drop_while}
+use Rattle.h5_meaning.proofs.KeptListsLaws.{lists_pushed}
 use Rattle.h5_meaning.specs.Changes.{new_element}
 use Rattle.h5_meaning.specs.Foreign.{foreign_name, insert_and_pop_foreign_element, insert_foreign_element, is_left, is_named_in_any_case, leave_foreign_content, pop_until_named_in_any_case}
 use Rattle.h5_meaning.specs.Place.{place}
@@ -18,7 +18,7 @@ use Rattle.h5_meaning.proofs.SituationLaws.{KeepsSituation, situation_forest, si
 use Rattle.h5_meaning.proofs.SoundLaws.{all_rearranged}
 use Rattle.h5_meaning.proofs.TreeLaws.{OnlyTree, tree_while}
 use Rattle.h5_tag_sets.specs.TagSets.{html_namespace, mathml_namespace, svg_namespace}
-use Rattle.h5_fits.specs.NamesFit.{is_html_element}
+use Rattle.h5_meaning.specs.NamesFit.{is_html_element}
 
 -- MathML and SVG aren't HTML
 pub mathml_no_html : (local : List ℕ) → is_html_element (foreign_name mathml_namespace local) ≡ false

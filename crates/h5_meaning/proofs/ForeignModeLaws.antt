@@ -1,5 +1,5 @@
 -- The modes in which a token may be foreign, and what changes of foreign content keep of what they tell.
-use Rattle.std.proofs.Common.{◌≡◌, ◌<◌, inl, ℕ, Bool, true, false, not, cond, ◌&&◌, ◌||◌, List, [], ◌∷◌, ◌++◌, length, map, codes, IsTrue, Option, Some, None, refl, ap, sym, subst, ◌∙◌, arith}
+use Rattle.std.proofs.Common.{◌≡◌, ◌<◌, ℕ, Bool, true, false, not, cond, ◌||◌, List, [], ◌∷◌, length, map, codes, IsTrue, Option, Some, None, refl, ap, sym, subst, ◌∙◌, arith}
 use Rattle.std.specs.Prelude.{unwrap_or}
 use Rattle.h5_names.specs.AttributeText.{is_same_text}
 use Rattle.h5_names.specs.declared.qualified.QualName.{QualName}
@@ -8,22 +8,22 @@ use Rattle.h5_tag_sets.specs.TagSets.{html_namespace, is_html_named}
 use Rattle.h5_types.specs.TurnText.{CommentTurn, EofTurn, NullTurn, TagTurn, TextTurn, TurnText}
 use Rattle.h5_types.specs.declared.modes.InsertionMode.{InsertionMode}
 use Rattle.h5_types.specs.declared.modes.InsertionMode.TheVariants.{AfterAfterBody, AfterAfterFrameset, AfterBody, AfterFrameset, AfterHead, BeforeHead, BeforeHtml, InBody, InCaption, InCell, InColumnGroup, InFrameset, InHead, InHeadNoscript, InRow, InTable, InTableBody, InTableText, InTemplate, Initial, Text}
-use Rattle.h5_stack.specs.Scope.{cut_names, drop_while, first_passes, later_names}
-use Rattle.h5_fits.specs.Fits.{PlacedBelow, Situation, goes_by_body, is_before_root, is_table_mode, is_whole}
-use Rattle.h5_fits.specs.Frames.{Frame}
-use Rattle.h5_fits.specs.NamesFit.{NamesFit, is_html_element}
-use Rattle.h5_fits.specs.Roles.{HeadRole, HtmlRole, PlainRole, Role, is_plain, role_of, roles}
-use Rattle.h5_fits.specs.Root.{IsRootOpen}
-use Rattle.h5_fits.proofs.BoolLaws.{or_first, or_neither}
-use Rattle.h5_fits.proofs.FrameLaws.{frame_trans}
-use Rattle.h5_fits.proofs.NameLaws.{frame_while, frame_without}
-use Rattle.h5_fits.proofs.NamesFitLaws.{names_frame}
-use Rattle.h5_fits.proofs.OpenLaws.{open_pop, open_while}
-use Rattle.h5_fits.proofs.PlaceLaws.{frame_placed, known_frame, same_templates}
-use Rattle.h5_fits.proofs.RoleLaws.{named_ns}
-use Rattle.h5_fits.proofs.TestLaws.{foreign_plain}
+use Rattle.h5_meaning.specs.Scope.{cut_names, drop_while, first_passes}
+use Rattle.h5_meaning.specs.Fits.{PlacedBelow, Situation, goes_by_body, is_table_mode, is_whole}
+use Rattle.h5_meaning.specs.Frames.{Frame}
+use Rattle.h5_meaning.specs.NamesFit.{NamesFit, is_html_element}
+use Rattle.h5_meaning.specs.Roles.{HeadRole, HtmlRole, PlainRole, Role, is_plain, role_of, roles}
+use Rattle.h5_meaning.specs.Root.{IsRootOpen}
+use Rattle.h5_meaning.proofs.BoolLaws.{or_first, or_neither}
+use Rattle.h5_meaning.proofs.FrameLaws.{frame_trans}
+use Rattle.h5_meaning.proofs.RoleNameLaws.{frame_while, frame_without}
+use Rattle.h5_meaning.proofs.NamesFitLaws.{names_frame}
+use Rattle.h5_meaning.proofs.OpenLaws.{open_while}
+use Rattle.h5_meaning.proofs.PlacedNameLaws.{frame_placed, known_frame, same_templates}
+use Rattle.h5_meaning.proofs.RoleLaws.{named_ns}
+use Rattle.h5_meaning.proofs.TestLaws.{foreign_plain}
 use Rattle.h5_meaning.specs.Foreign.{adjusted_current_node, adjusted_namespace, adjusted_of, is_foreign, is_foreign_at, is_left, is_named_in_any_case, is_taken_in, namespace_at}
-use Rattle.h5_meaning.specs.ForeignContent.{EndSearch, Finds, ReachesHtml, ReachesRoot, search_end}
+use Rattle.h5_meaning.specs.ForeignContent.{Finds, ReachesHtml, search_end}
 use Rattle.h5_meaning.specs.Sound.{situation_of}
 use Rattle.h5_meaning.specs.World.{World, name_in, names_of}
 use Rattle.h5_meaning.proofs.KeptLaws.{FitsAs}

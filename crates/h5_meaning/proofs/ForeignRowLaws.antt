@@ -1,16 +1,16 @@
 -- What holds of each step of foreign content, and so of the rule that a token goes by.
-use Rattle.std.proofs.Common.{◌≡◌, ◌≢◌, ℕ, Bool, true, false, if◌then◌else◌, List, [], ◌∷◌, ◌++◌, length, refl, ap, sym, subst, ◌∙◌}
+use Rattle.std.proofs.Common.{◌≡◌, ◌≢◌, ℕ, Bool, true, false, if◌then◌else◌, List, [], ◌∷◌, refl, ap}
 use Rattle.h5_token.specs.TokenText.{TagText}
 use Rattle.h5_token.specs.declared.tag.TagKind.{TagKind}
 use Rattle.h5_token.specs.declared.tag.TagKind.TheVariants.{EndTag, StartTag}
 use Rattle.h5_interface.specs.SinkChoices.{SinkChoices}
 use Rattle.h5_tag_sets.specs.TagSets.{is_one_of}
 use Rattle.h5_types.specs.TurnText.{CommentTurn, EofTurn, HasText, NullTurn, TagTurn, TextTurn, TurnText}
-use Rattle.h5_stack.specs.Scope.{first_passes}
+use Rattle.h5_meaning.specs.Scope.{first_passes}
 use Rattle.h5_meaning.specs.Foreign.{is_foreign, is_named_in_any_case}
-use Rattle.h5_meaning.specs.ForeignContent.{ByMode, EndSearch, Finds, ForeignStep, HasRow, ReachesHtml, ReachesRoot, breaks_out, by_mode, dispatch, foreign_breakout_end_names, foreign_end, foreign_end_by, foreign_start, foreign_start_other, foreign_step, foreign_tag, foreign_text_row, replacement_text, row_of, search_end, unexpected_in_foreign_content}
+use Rattle.h5_meaning.specs.ForeignContent.{ByMode, EndSearch, Finds, ForeignStep, HasRow, ReachesHtml, ReachesRoot, breaks_out, dispatch, foreign_breakout_end_names, foreign_end, foreign_end_by, foreign_start, foreign_start_other, foreign_step, foreign_tag, foreign_text_row, replacement_text, row_of, search_end, unexpected_in_foreign_content}
 use Rattle.h5_meaning.specs.Modes.{rule}
-use Rattle.h5_meaning.specs.Rows.{AppendComment, AppendText, IsDone, LeaveForeignContent, PopUntilNamedInAnyCase, Row, apply_all, changed_by, choose, errs, ignored, row, row_if}
+use Rattle.h5_meaning.specs.Rows.{AppendComment, AppendText, IsDone, PopUntilNamedInAnyCase, Row, choose, errs, ignored, row, row_if}
 use Rattle.h5_meaning.specs.World.{World, names_of}
 
 -- the row of an end tag that finds its element

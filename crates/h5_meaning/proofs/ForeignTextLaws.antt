@@ -12,22 +12,22 @@ use Rattle.h5_types.specs.declared.modes.InsertionMode.{InsertionMode}
 use Rattle.h5_types.specs.declared.modes.InsertionMode.TheVariants.{AfterAfterBody, AfterAfterFrameset, AfterBody, AfterFrameset, AfterHead, BeforeHead, BeforeHtml, InBody, InCaption, InCell, InColumnGroup, InFrameset, InHead, InHeadNoscript, InRow, InTable, InTableBody, InTableText, InTemplate, Initial, Text}
 use Rattle.h5_types.specs.declared.modes.SplitStatus.{SplitStatus}
 use Rattle.h5_types.specs.declared.modes.SplitStatus.TheVariants.{NotSplit, NotWhitespace, Whitespace}
-use Rattle.h5_stack.specs.FormattingList.{ElementEntry, Entry, MarkerEntry, closed_front}
-use Rattle.h5_stack.specs.FormattingNames.{html_name}
-use Rattle.h5_stack.specs.Scope.{first_passes}
-use Rattle.h5_fits.specs.Fits.{is_before_root}
-use Rattle.h5_fits.specs.NamesFit.{is_html_element}
-use Rattle.h5_fits.specs.Roles.{roles}
-use Rattle.h5_fits.specs.Root.{IsRootOpen}
-use Rattle.h5_fits.proofs.OpenLaws.{names_root_open}
+use Rattle.h5_meaning.specs.FormattingList.{ElementEntry, Entry, MarkerEntry, closed_front}
+use Rattle.h5_meaning.specs.FormattingNames.{html_name}
+use Rattle.h5_meaning.specs.Scope.{first_passes}
+use Rattle.h5_meaning.specs.Fits.{is_before_root}
+use Rattle.h5_meaning.specs.NamesFit.{is_html_element}
+use Rattle.h5_meaning.specs.Roles.{roles}
+use Rattle.h5_meaning.specs.Root.{IsRootOpen}
+use Rattle.h5_meaning.proofs.OpenLaws.{names_root_open}
 use Rattle.h5_meaning.specs.AfterBody.{back_to_body}
 use Rattle.h5_meaning.specs.AfterHead.{after_head_else}
 use Rattle.h5_meaning.specs.BeforeHead.{before_head_else}
 use Rattle.h5_meaning.specs.BeforeHtml.{before_html_else}
 use Rattle.h5_meaning.specs.Blanks.{blanks_of, rest_of}
-use Rattle.h5_meaning.specs.Changes.{append_pending_text, append_text, insert_element, pop, save_mode, set_foster, set_frameset_ok_by_text, set_mode}
+use Rattle.h5_meaning.specs.Changes.{append_pending_text, append_text, insert_element, save_mode, set_foster, set_frameset_ok_by_text, set_mode}
 use Rattle.h5_meaning.specs.Foreign.{adjusted_current_node, is_foreign, is_foreign_at, is_foreign_text}
-use Rattle.h5_meaning.specs.Formatting.{insert_anew, insert_for, reconstruct_active_formatting_elements}
+use Rattle.h5_meaning.specs.Formatting.{insert_anew, reconstruct_active_formatting_elements}
 use Rattle.h5_meaning.specs.InBody.{in_body}
 use Rattle.h5_meaning.specs.InColumnGroup.{close_the_column_group, in_column_group_else}
 use Rattle.h5_meaning.specs.InHead.{in_head_else}
@@ -35,16 +35,15 @@ use Rattle.h5_meaning.specs.InHeadNoscript.{in_head_noscript_else}
 use Rattle.h5_meaning.specs.InTable.{in_table_text_or_null, keeps_text}
 use Rattle.h5_meaning.specs.InitialMode.{initial_else}
 use Rattle.h5_meaning.specs.Modes.{rule}
-use Rattle.h5_meaning.specs.Rows.{Again, AppendPendingText, AppendText, IsDone, Pop, Row, SaveMode, changed_by, choose, ignored, next_mode, row}
+use Rattle.h5_meaning.specs.Rows.{Again, AppendPendingText, IsDone, Pop, Row, SaveMode, changed_by, choose, ignored, next_mode, row}
 use Rattle.h5_meaning.specs.Shared.{current_is, in_body_text}
 use Rattle.h5_meaning.specs.Sound.{Fits, Fitting, Sound, situation_of}
 use Rattle.h5_meaning.specs.Tables.{foster}
 use Rattle.h5_meaning.specs.Text.{after_row, all_blanks, by_else, closes_column_group, dropped, foreign_text, fostered_text, if_any, in_next, split, text_after_body, text_after_head, text_before_head, text_before_html, text_in, text_in_body, text_in_column_group, text_in_head, text_in_head_noscript, text_in_table, text_in_table_text, text_initial, text_rule, unless_foreign}
 use Rattle.h5_meaning.specs.Place.{place}
 use Rattle.h5_meaning.specs.World.{World, name_in, name_of_found, names_of}
-use Rattle.h5_meaning.proofs.FitsLaws.{FitsAfter}
 use Rattle.h5_meaning.proofs.ForeignFitLaws.{KeptBy, rule_kept, text_fitting}
-use Rattle.h5_meaning.proofs.ForeignModeLaws.{IsHtmlAt, foreign_mode, html_first, html_not_foreign}
+use Rattle.h5_meaning.proofs.ForeignModeLaws.{foreign_mode, html_first, html_not_foreign}
 use Rattle.h5_meaning.proofs.FormattingLaws.{root_anew, sound_anew}
 use Rattle.h5_meaning.proofs.KeptLaws.{kept_append, mode_with}
 use Rattle.h5_meaning.proofs.ListsLaws.{steady_text}

@@ -1,26 +1,25 @@
 -- By whichever rule a token goes: what is listed, what is answered, and where another turn leads.
-use Rattle.std.proofs.Common.{◌≡◌, ◌<◌, ◌+◌, ◌⊎◌, inl, inr, ℕ, Bool, true, false, cond, List, [], ◌∷◌, ◌++◌, Option, Some, None, suc, refl, ap, sym, subst, ◌∙◌}
+use Rattle.std.proofs.Common.{◌≡◌, ◌<◌, ◌+◌, ◌⊎◌, inl, inr, Bool, true, false, cond, List, [], ◌∷◌, Option, Some, None, suc, refl, ap, sym, subst, ◌∙◌}
 use Rattle.h5_names.specs.declared.qualified.QualName.{QualName}
 use Rattle.h5_token.specs.Reply.{Indicates, RunsScript, TurnsPlain, TurnsRaw}
-use Rattle.h5_token.specs.TokenText.{TagText}
 use Rattle.h5_interface.specs.SinkChoices.{SinkChoices}
 use Rattle.h5_types.specs.TurnText.{EofTurn, TurnText}
 use Rattle.h5_types.specs.declared.modes.InsertionMode.{InsertionMode}
 use Rattle.h5_types.specs.declared.modes.InsertionMode.TheVariants.{InTableText, Text}
-use Rattle.h5_stack.specs.Scope.{drop_while}
-use Rattle.h5_fits.specs.Fits.{Situation}
-use Rattle.h5_fits.specs.Roles.{PlainRole, Role, count_roles, role_of, roles}
-use Rattle.h5_fits.proofs.Ranks.{EofTurns, StartTableTurns, TextTurns, TurnKind, by_mode as by_table_mode, is_eof, is_table_like, outside, rank, rank_saved}
+use Rattle.h5_meaning.specs.Scope.{drop_while}
+use Rattle.h5_meaning.specs.Fits.{Situation}
+use Rattle.h5_meaning.specs.Roles.{Role, count_roles, roles}
+use Rattle.h5_meaning.proofs.Ranks.{EofTurns, StartTableTurns, TextTurns, TurnKind, by_mode as by_table_mode, is_eof, is_table_like, outside, rank, rank_saved}
 use Rattle.h5_meaning.specs.Changes.{set_mode}
 use Rattle.h5_meaning.specs.Foreign.{is_foreign, is_left, leave_foreign_content}
-use Rattle.h5_meaning.specs.ForeignContent.{ByMode, ForeignStep, HasRow, by_mode, dispatch, foreign_start_other, row_of}
+use Rattle.h5_meaning.specs.ForeignContent.{by_mode, dispatch, row_of}
 use Rattle.h5_meaning.specs.Modes.{rule}
 use Rattle.h5_meaning.specs.Rows.{Again, AgainBy, Answers, Change, Ending, IsAcknowledged, IsDone, LeaveForeignContent, Row, apply_all, changed_by, choose, next_mode}
 use Rattle.h5_meaning.specs.Sound.{Fitting, situation_of}
 use Rattle.h5_meaning.specs.World.{World, names_of}
 use Rattle.h5_meaning.proofs.AgainLaws.{kind_of_turn}
 use Rattle.h5_meaning.proofs.FallsLaws.{falls, rank_of, text_falls, turn_eof}
-use Rattle.h5_meaning.proofs.ForeignFitLaws.{Standing, leaves_fitting}
+use Rattle.h5_meaning.proofs.ForeignFitLaws.{leaves_fitting}
 use Rattle.h5_meaning.proofs.ForeignLaws.{names-leave, tree_leave}
 use Rattle.h5_meaning.proofs.ForeignModeLaws.{foreign_mode, left_plain}
 use Rattle.h5_meaning.proofs.ForeignRowLaws.{Steps, any_has, dispatch_holds, each_step, eof_html}

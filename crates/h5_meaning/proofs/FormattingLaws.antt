@@ -6,18 +6,18 @@ use Rattle.h5_interface.specs.Forest.{Forest, IsNode}
 use Rattle.h5_interface.specs.SinkChoices.{Rearranges, SinkChoices}
 use Rattle.h5_interface.proofs.ForestLaws.{rearranged_node}
 use Rattle.h5_tag_sets.specs.TagSets.{formatting_names, is_one_of}
-use Rattle.h5_stack.specs.FormattingList.{ElementEntry, Entry, MarkerEntry, after_marker, closed_front, made_anew, nodes_of, push_formatting, reconstructed}
-use Rattle.h5_stack.specs.FormattingNames.{AllFormatting, AllOfTags, IsOfTag, html_name}
-use Rattle.h5_stack.specs.Fresh.{AreFresh}
-use Rattle.h5_stack.specs.Lists.{Lists, OpenFirst}
-use Rattle.h5_stack.specs.Order.{Distinct, IsIn, is_in}
-use Rattle.h5_stack.proofs.EachLaws.{each_push_formatting, each_reconstructed, each_tag_reconstructed}
-use Rattle.h5_stack.proofs.FreshLaws.{each_listed, listed_rearranged}
-use Rattle.h5_stack.proofs.KeptLaws.{lists_pushed}
-use Rattle.h5_stack.proofs.PushLaws.{lists_push_formatting}
-use Rattle.h5_stack.proofs.ReconstructLaws.{front_reconstructed, lists_reconstructed, open_after, reconstructed_is_open, reconstructed_none}
-use Rattle.h5_fits.specs.Root.{IsRootOpen}
-use Rattle.h5_fits.proofs.OpenLaws.{open_push}
+use Rattle.h5_meaning.specs.FormattingList.{ElementEntry, Entry, MarkerEntry, after_marker, closed_front, made_anew, nodes_of, push_formatting, reconstructed}
+use Rattle.h5_meaning.specs.FormattingNames.{AllFormatting, AllOfTags, IsOfTag, html_name}
+use Rattle.h5_meaning.specs.Fresh.{AreFresh}
+use Rattle.h5_meaning.specs.Lists.{Lists, OpenFirst}
+use Rattle.h5_meaning.specs.Order.{Distinct, IsIn, is_in}
+use Rattle.h5_meaning.proofs.EachLaws.{each_push_formatting, each_reconstructed, each_tag_reconstructed}
+use Rattle.h5_meaning.proofs.FreshLaws.{each_listed, listed_rearranged}
+use Rattle.h5_meaning.proofs.KeptListsLaws.{lists_pushed}
+use Rattle.h5_meaning.proofs.PushLaws.{lists_push_formatting}
+use Rattle.h5_meaning.proofs.ReconstructLaws.{front_reconstructed, lists_reconstructed, open_after, reconstructed_is_open, reconstructed_none}
+use Rattle.h5_meaning.specs.Root.{IsRootOpen}
+use Rattle.h5_meaning.proofs.OpenLaws.{open_push}
 use Rattle.h5_meaning.specs.Changes.{owned, append_text, insert_element, set_frameset_ok_by_text}
 use Rattle.h5_meaning.specs.Formatting.{create_formatting_element, insert_anew, insert_for, reconstruct_active_formatting_elements}
 use Rattle.h5_meaning.specs.Place.{place}

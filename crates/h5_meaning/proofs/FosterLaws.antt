@@ -11,7 +11,7 @@ use Rattle.h5_meaning.specs.Reset.{reset_mode}
 use Rattle.h5_meaning.specs.Rows.{ClearActiveFormattingToMarker, PopTemplateMode, ResetMode, EndsAs, Again, AgainBy, Answers, Ending, Follows, IsAcknowledged, IsDone, PopUntilNamed, Row, SetFoster, errs, ignored, next_mode, row}
 use Rattle.h5_meaning.specs.Tables.{foster}
 use Rattle.h5_meaning.specs.World.{World, names_of}
-use Rattle.h5_stack.specs.Scope.{has_template}
+use Rattle.h5_meaning.specs.Scope.{has_template}
 use Rattle.h5_token.specs.TokenText.{TagText}
 use Rattle.h5_token.specs.declared.tag.TagKind.{TagKind}
 use Rattle.h5_token.specs.declared.tag.TagKind.TheVariants.{EndTag, StartTag}

@@ -7,11 +7,11 @@ use Rattle.h5_interface.specs.SinkChoices.{Rearranges}
 use Rattle.h5_interface.proofs.ForestLaws.{rearranges_refl}
 use Rattle.h5_interface.proofs.HangingLaws.{detach_rearranges}
 use Rattle.h5_tag_sets.specs.TagSets.{is_html_named}
-use Rattle.h5_stack.specs.FormattingList.{Entry}
-use Rattle.h5_stack.specs.Lists.{Lists}
-use Rattle.h5_stack.specs.Order.{Distinct, IsIn, second_from_last}
-use Rattle.h5_stack.proofs.PassLaws.{lists_but_first, ordered_distinct}
-use Rattle.h5_fits.specs.Root.{IsRootOpen}
+use Rattle.h5_meaning.specs.FormattingList.{Entry}
+use Rattle.h5_meaning.specs.Lists.{Lists}
+use Rattle.h5_meaning.specs.Order.{Distinct, IsIn, second_from_last}
+use Rattle.h5_meaning.proofs.PassLaws.{lists_but_first, ordered_distinct}
+use Rattle.h5_meaning.specs.Root.{IsRootOpen}
 use Rattle.h5_meaning.specs.AdoptionAgency.{KeepsKinds}
 use Rattle.h5_meaning.specs.Changes.{detach_known, only_last, remove_body}
 use Rattle.h5_meaning.specs.Sound.{AllStand, HasLists, Sound}

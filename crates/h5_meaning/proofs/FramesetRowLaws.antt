@@ -10,18 +10,18 @@ use Rattle.h5_types.specs.TurnText.{CommentTurn, EofTurn, HasText, NullTurn, Tag
 use Rattle.h5_types.specs.declared.modes.InsertionMode.{InsertionMode}
 use Rattle.h5_types.specs.declared.modes.InsertionMode.TheVariants.{AfterAfterFrameset, AfterFrameset, AfterHead, InFrameset}
 use Rattle.h5_types.specs.declared.modes.SplitStatus.TheVariants.{NotSplit, NotWhitespace, Whitespace}
-use Rattle.h5_stack.specs.FormattingList.{ElementEntry, Entry, MarkerEntry, closed_front}
-use Rattle.h5_stack.specs.FormattingNames.{AllFormatting, html_name}
-use Rattle.h5_stack.specs.Scope.{later_names, second_is}
+use Rattle.h5_meaning.specs.FormattingList.{ElementEntry, Entry, MarkerEntry, closed_front}
+use Rattle.h5_meaning.specs.FormattingNames.{AllFormatting, html_name}
+use Rattle.h5_meaning.specs.Scope.{later_names, second_is}
 use Rattle.h5_tag_sets.specs.TagSets.{is_html_named, is_one_of}
-use Rattle.h5_fits.specs.Fits.{Situation, may_be_left}
-use Rattle.h5_fits.specs.NamesFit.{NamesFit}
-use Rattle.h5_fits.specs.Roles.{FramesetRole, HtmlRole, PlainRole, role_of, role_of_local}
-use Rattle.h5_fits.proofs.BoolLaws.{and_both}
-use Rattle.h5_fits.proofs.NamesFitLaws.{names_frameset_begun}
-use Rattle.h5_fits.proofs.NamesTableLaws.{names_after_frameset_pushed, names_frameset_ended, names_frameset_left, names_frameset_popped, names_frameset_pushed, names_frameset_put}
-use Rattle.h5_fits.proofs.OpenLaws.{names_root_open}
-use Rattle.h5_fits.proofs.RoleLaws.{role_made, role_named}
+use Rattle.h5_meaning.specs.Fits.{Situation, may_be_left}
+use Rattle.h5_meaning.specs.NamesFit.{NamesFit}
+use Rattle.h5_meaning.specs.Roles.{FramesetRole, HtmlRole, PlainRole, role_of, role_of_local}
+use Rattle.h5_meaning.proofs.BoolLaws.{and_both}
+use Rattle.h5_meaning.proofs.NamesFitLaws.{names_frameset_begun}
+use Rattle.h5_meaning.proofs.NamesTableLaws.{names_after_frameset_pushed, names_frameset_ended, names_frameset_left, names_frameset_popped, names_frameset_pushed, names_frameset_put}
+use Rattle.h5_meaning.proofs.OpenLaws.{names_root_open}
+use Rattle.h5_meaning.proofs.RoleLaws.{role_made, role_named}
 use Rattle.h5_meaning.specs.AfterAfterFrameset.{after_after_frameset, after_after_frameset_tag}
 use Rattle.h5_meaning.specs.AfterFrameset.{after_frameset, after_frameset_end, after_frameset_start, after_frameset_tag}
 use Rattle.h5_meaning.specs.AfterHead.{after_head_start_frameset}

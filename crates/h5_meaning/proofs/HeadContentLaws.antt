@@ -9,20 +9,20 @@ use Rattle.h5_interface.specs.SinkChoices.{SinkChoices}
 use Rattle.h5_types.specs.declared.modes.InsertionMode.{InsertionMode}
 use Rattle.h5_types.specs.declared.modes.InsertionMode.TheVariants.{AfterHead, BeforeHtml, InHead, InTableText, Initial, Text}
 use Rattle.h5_meaning.specs.Shared.{head_start_names, inserts, raw_text}
-use Rattle.h5_fits.specs.Fits.{goes_by_body, is_before_root, may_be_left, takes_template}
+use Rattle.h5_meaning.specs.Fits.{goes_by_body, is_before_root, may_be_left, takes_template}
 use Rattle.h5_meaning.proofs.KeptLaws.{FitsAs, Kept, as_before, kept_start_html, mode_with}
 use Rattle.h5_meaning.specs.World.{World, names_of}
 use Rattle.h5_meaning.specs.Sound.{Sound, situation_of}
 use Rattle.h5_meaning.specs.ByName.{NonePasses, named, of_tag}
 use Rattle.h5_meaning.specs.InHead.{in_head_else, in_head_raw, in_head_start, in_head_start_link, in_head_start_noscript, in_head_start_script, in_head_start_tag, in_head_start_template}
-use Rattle.h5_fits.specs.Root.{IsRootOpen}
+use Rattle.h5_meaning.specs.Root.{IsRootOpen}
 use Rattle.h5_meaning.proofs.ByNameLaws.{holds_by_name, of_named}
 use Rattle.h5_meaning.proofs.TemplateRowLaws.{kept_start_template}
 use Rattle.h5_meaning.proofs.TextBeginsLaws.{script_begins, text_begins}
-use Rattle.h5_fits.proofs.PlainLaws.{set_plain}
-use Rattle.h5_fits.specs.Roles.{PlainRole, role_of_local}
+use Rattle.h5_meaning.proofs.PlainNameLaws.{set_plain}
+use Rattle.h5_meaning.specs.Roles.{PlainRole, role_of_local}
 use Rattle.h5_meaning.proofs.NameLaws.{names-insert_and_pop}
-use Rattle.h5_fits.proofs.OpenLaws.{names_root_open}
+use Rattle.h5_meaning.proofs.OpenLaws.{names_root_open}
 use Rattle.h5_meaning.specs.Rows.{Row, next_mode}
 use Rattle.h5_meaning.proofs.SituationLaws.{situation_leaf}
 use Rattle.h5_meaning.proofs.BodyRowLaws.{head_start_passes}

@@ -14,14 +14,14 @@ use Rattle.h5_interface.specs.declared.marks.QuirksMode.TheVariants.{Quirks}
 use Rattle.h5_tag_sets.specs.TagSets.{is_html_named, is_one_of}
 use Rattle.h5_types.specs.TurnText.{TurnText}
 use Rattle.h5_types.specs.declared.modes.InsertionMode.TheVariants.{AfterHead, BeforeHead, BeforeHtml, InBody, InHead, InHeadNoscript, Initial}
-use Rattle.h5_stack.specs.FormattingNames.{html_name}
-use Rattle.h5_fits.specs.Fits.{takes_template}
-use Rattle.h5_fits.specs.NamesFit.{NamesFit}
-use Rattle.h5_fits.specs.Roles.{BodyRole, HeadRole, role_of_local}
-use Rattle.h5_fits.proofs.NamesFitLaws.{names_body_pushed, names_head_popped, names_head_pushed, names_noscript_popped, names_noscript_pushed, names_root_pushed}
-use Rattle.h5_fits.proofs.RoleLaws.{made_named, role_made}
-use Rattle.h5_fits.proofs.SituationLaws.{names_later}
-use Rattle.h5_fits.specs.Changes.{with_head}
+use Rattle.h5_meaning.specs.FormattingNames.{html_name}
+use Rattle.h5_meaning.specs.Fits.{takes_template}
+use Rattle.h5_meaning.specs.NamesFit.{NamesFit}
+use Rattle.h5_meaning.specs.Roles.{BodyRole, HeadRole, role_of_local}
+use Rattle.h5_meaning.proofs.NamesFitLaws.{names_body_pushed, names_head_popped, names_head_pushed, names_noscript_popped, names_noscript_pushed, names_root_pushed}
+use Rattle.h5_meaning.proofs.RoleLaws.{made_named, role_made}
+use Rattle.h5_meaning.proofs.SituationRoleLaws.{names_later}
+use Rattle.h5_meaning.specs.SituationChanges.{with_head}
 use Rattle.h5_meaning.specs.AfterHead.{after_head_else, after_head_end, after_head_start}
 use Rattle.h5_meaning.specs.BeforeHead.{before_head_else, before_head_end, before_head_start}
 use Rattle.h5_meaning.specs.BeforeHtml.{before_html_else, before_html_end, before_html_start}

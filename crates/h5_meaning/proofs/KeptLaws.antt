@@ -4,10 +4,10 @@ use Rattle.h5_token.specs.TokenText.{TagText}
 use Rattle.h5_interface.specs.SinkChoices.{SinkChoices}
 use Rattle.h5_types.specs.TurnText.{TurnText}
 use Rattle.h5_types.specs.declared.modes.InsertionMode.{InsertionMode}
-use Rattle.h5_stack.specs.Order.{second_from_last}
-use Rattle.h5_stack.specs.Scope.{has_template}
-use Rattle.h5_fits.specs.NamesFit.{NamesFit}
-use Rattle.h5_fits.proofs.SituationLaws.{names_later}
+use Rattle.h5_meaning.specs.Order.{second_from_last}
+use Rattle.h5_meaning.specs.Scope.{has_template}
+use Rattle.h5_meaning.specs.NamesFit.{NamesFit}
+use Rattle.h5_meaning.proofs.SituationRoleLaws.{names_later}
 use Rattle.h5_meaning.specs.Changes.{add_attrs_at, add_attrs_to_html, add_attrs_to_second, append_comment, append_comment_to_doc, append_comment_to_html, append_pending_text, append_text, create_root, insert_and_pop_element, insert_and_pop_form, insert_element, insert_form, insert_head, insert_script, mark_started, pop, pop_until_named, set_foster, set_frameset_not_ok, set_frameset_ok_by_text, set_mode, set_quirks_mode}
 use Rattle.h5_meaning.specs.Closing.{copy_closed_option}
 use Rattle.h5_meaning.specs.Reset.{reset_mode}

@@ -5,7 +5,7 @@ use Rattle.h5_token.specs.declared.tag.TagKind.{TagKind}
 use Rattle.h5_token.specs.declared.tag.TagKind.TheVariants.{StartTag, EndTag}
 use Rattle.h5_interface.specs.declared.marks.QuirksMode.TheVariants.{Quirks}
 use Rattle.h5_tag_sets.specs.TagSets.{is_cell, is_one_of, is_table_body_context, is_table_row_context}
-use Rattle.h5_stack.specs.Scope.{has_template}
+use Rattle.h5_meaning.specs.Scope.{has_template}
 use Rattle.h5_types.specs.TurnText.{TurnText, TagTurn, CommentTurn, TextTurn, NullTurn, EofTurn}
 use Rattle.h5_types.specs.declared.modes.InsertionMode.{InsertionMode}
 use Rattle.h5_types.specs.declared.modes.InsertionMode.TheVariants.{Initial, BeforeHtml, BeforeHead, InHead, InHeadNoscript, AfterHead, InBody, Text, InTable, InTableText, InCaption, InColumnGroup, InTableBody, InRow, InCell, AfterBody, AfterAfterBody, InTemplate, InFrameset, AfterFrameset, AfterAfterFrameset}

@@ -8,14 +8,14 @@ use Rattle.h5_interface.specs.SinkChoices.{Rearranges, SinkChoices}
 use Rattle.h5_interface.proofs.ForestLaws.{document_is_node}
 use Rattle.h5_interface.proofs.MakingLaws.{add_missing_rearranges, mark_rearranges}
 use Rattle.h5_tag_sets.specs.TagSets.{is_cell, is_default_scope, is_heading, is_html_named, is_implied, is_thorough_implied}
-use Rattle.h5_stack.specs.FormattingList.{MarkerEntry, clear_to_marker}
-use Rattle.h5_stack.specs.FormattingNames.{html_name}
-use Rattle.h5_stack.specs.Order.{second_from_last}
-use Rattle.h5_stack.specs.Scope.{first_passes, has_p_in_button_scope, in_scope}
-use Rattle.h5_fits.specs.Root.{IsRootOpen}
-use Rattle.h5_stack.proofs.EachLaws.{each_cleared}
-use Rattle.h5_stack.proofs.KeptLaws.{lists_cleared, lists_marked, lists_pushed}
-use Rattle.h5_stack.proofs.PassLaws.{lists_cut_above, ordered_distinct}
+use Rattle.h5_meaning.specs.FormattingList.{MarkerEntry, clear_to_marker}
+use Rattle.h5_meaning.specs.FormattingNames.{html_name}
+use Rattle.h5_meaning.specs.Order.{second_from_last}
+use Rattle.h5_meaning.specs.Scope.{first_passes, has_p_in_button_scope, in_scope}
+use Rattle.h5_meaning.specs.Root.{IsRootOpen}
+use Rattle.h5_meaning.proofs.EachLaws.{each_cleared}
+use Rattle.h5_meaning.proofs.KeptListsLaws.{lists_cleared, lists_marked, lists_pushed}
+use Rattle.h5_meaning.proofs.PassLaws.{lists_cut_above, ordered_distinct}
 use Rattle.h5_meaning.specs.FormOwner.{Marking}
 use Rattle.h5_meaning.specs.Changes.{add_attrs_at, add_attrs_to_html, add_attrs_to_second, append_comment, append_comment_to_doc, append_comment_to_html, append_pending_text, append_text, create_root, generate_implied_end_except, insert_and_pop_element, insert_and_pop_form, insert_element, insert_form, insert_head, insert_script, mark_started, new_comment, new_element, owned, pop, pop_until_current, pop_until_named, push_new, remove_body, set_frameset_ok_by_text, set_quirks_mode, starts_marked, with_forest}
 use Rattle.h5_meaning.specs.Closing.{close_item, close_list_item, close_p_element, close_p_element_in_button_scope, generate_implied_end, generate_implied_end_in_select, generate_implied_end_thoroughly, newest_item, pop_heading, pop_until_cell, pop_until_heading}

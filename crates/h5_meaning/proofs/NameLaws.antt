@@ -11,12 +11,12 @@ use Rattle.h5_meaning.specs.FormOwner.{Marking}
 use Rattle.h5_meaning.specs.Changes.{owned, add_attrs_to_html, add_attrs_to_second, add_attrs_at, append_text, append_comment, append_comment_to_doc, append_comment_to_html, pop_until_named, generate_implied_end_except, insert_and_pop_element, insert_and_pop_form, insert_element, insert_head, create_root, new_element, pop, pop_until_current, pop_while, push_new}
 use Rattle.h5_meaning.specs.Closing.{pop_until_cell}
 use Rattle.h5_meaning.specs.Place.{IsPlaceIn, LastChild, Place, place, put}
-use Rattle.h5_stack.specs.Order.{IsIn}
-use Rattle.h5_stack.specs.Scope.{cut_above, cut_names, cut_through, down_names, drop_while, is_implied_but, later_names}
+use Rattle.h5_meaning.specs.Order.{IsIn}
+use Rattle.h5_meaning.specs.Scope.{cut_above, cut_names, cut_through, down_names, drop_while, is_implied_but, later_names}
 use Rattle.h5_meaning.specs.Sound.{Sound}
 use Rattle.h5_meaning.specs.World.{World, name_in, name_of_found, names_of, root}
-use Rattle.h5_stack.specs.FormattingNames.{html_name}
-use Rattle.h5_stack.specs.Order.{second_from_last}
+use Rattle.h5_meaning.specs.FormattingNames.{html_name}
+use Rattle.h5_meaning.specs.Order.{second_from_last}
 use Rattle.h5_meaning.proofs.PopLaws.{names-pop}
 use Rattle.h5_meaning.proofs.PlaceLaws.{current_place_is_there, new_comment_rearranges, new_element_kind, new_element_rearranges, text_put_rearranges}
 use Rattle.h5_meaning.proofs.SoundLaws.{element_is_node, name_kept, root_is_node}

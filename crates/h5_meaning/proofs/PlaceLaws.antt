@@ -16,15 +16,15 @@ use Rattle.h5_interface.proofs.MakingLaws.{hung_fresh_rearranges, make_element_r
 use Rattle.h5_interface.proofs.RehangLaws.{Rehangs}
 use Rattle.h5_interface.proofs.CallLaws.{is_child}
 use Rattle.h5_tag_sets.specs.TagSets.{html_namespace, is_table_outer}
-use Rattle.h5_stack.specs.Order.{IsIn, first_or}
+use Rattle.h5_meaning.specs.Order.{IsIn, first_or}
 use Rattle.h5_meaning.specs.Changes.{clear_form, insert_and_pop_element, insert_and_pop_form, insert_element, insert_form, insert_head, new_comment, new_element, owned}
 use Rattle.h5_meaning.specs.FormOwner.{Marking, marked_by}
 use Rattle.h5_meaning.specs.Place.{CanPut, IsPlaceIn, LastChild, Place, TableFosterParenting, appropriate_place, foster_place, from_foster_parent, inside, is_foster_parent, place, put}
-use Rattle.h5_stack.specs.FormattingNames.{html_name}
+use Rattle.h5_meaning.specs.FormattingNames.{html_name}
 use Rattle.h5_meaning.specs.Sound.{AllStand, IsHtml, Sound}
 use Rattle.h5_meaning.specs.World.{World, current, name_in, name_of_found, names_of, no_name, root}
 use Rattle.h5_meaning.proofs.SoundLaws.{all_pushed, element_is_node, first_is_node, root_is_node}
-use Rattle.h5_stack.specs.Scope.{has_template}
+use Rattle.h5_meaning.specs.Scope.{has_template}
 
 -- the parent of what is put there
 abbrev pub parent_at : Forest → Place → ℕ

@@ -8,12 +8,12 @@ use Rattle.h5_interface.specs.SinkChoices.{SinkChoices}
 use Rattle.h5_tag_sets.specs.TagSets.{is_html_named, is_implied, is_thorough_implied}
 use Rattle.h5_meaning.specs.Changes.{generate_implied_end_except, mark_started, pop, pop_while}
 use Rattle.h5_meaning.specs.Closing.{generate_implied_end, generate_implied_end_thoroughly}
-use Rattle.h5_stack.specs.Scope.{cut_above, cut_through, first_passes, is_implied_but, later_names}
+use Rattle.h5_meaning.specs.Scope.{cut_above, cut_through, first_passes, is_implied_but, later_names}
 use Rattle.h5_meaning.specs.Sound.{AllStand}
 use Rattle.h5_meaning.specs.World.{World, current, name_in, name_of_found, names_of}
-use Rattle.h5_stack.specs.FormattingList.{Entry}
-use Rattle.h5_stack.specs.Order.{but_first}
-use Rattle.h5_fits.proofs.BoolLaws.{and_not}
+use Rattle.h5_meaning.specs.FormattingList.{Entry}
+use Rattle.h5_meaning.specs.Order.{but_first}
+use Rattle.h5_meaning.proofs.BoolLaws.{and_not}
 use Rattle.h5_meaning.proofs.SoundLaws.{all_but_first}
 
 -- as many names as open elements

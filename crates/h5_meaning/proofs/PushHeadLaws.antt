@@ -11,17 +11,17 @@ use Rattle.h5_interface.specs.SinkChoices.{SinkChoices}
 use Rattle.h5_interface.proofs.AncestorLaws.{no_ancestor}
 use Rattle.h5_tag_sets.specs.TagSets.{html_namespace, is_html_named, is_special, special_names}
 use Rattle.h5_types.specs.declared.modes.InsertionMode.TheVariants.{AfterHead}
-use Rattle.h5_stack.specs.Adoption.{without_node}
-use Rattle.h5_stack.specs.FormattingList.{Entry, nodes_of}
-use Rattle.h5_stack.specs.FormattingNames.{html_name}
-use Rattle.h5_stack.specs.Lists.{Lists}
-use Rattle.h5_stack.specs.Order.{Before, IsIn, is_in}
-use Rattle.h5_stack.proofs.KeptLaws.{lists_pushed}
-use Rattle.h5_stack.proofs.PairLaws.{is_in_telling}
-use Rattle.h5_stack.proofs.PassLaws.{lists_without_node}
-use Rattle.h5_stack.proofs.PlainLaws.{special_not_listed}
-use Rattle.h5_fits.specs.Roles.{HeadRole, HtmlRole, role_of, role_of_local, roles}
-use Rattle.h5_fits.proofs.RoleLaws.{role_made}
+use Rattle.h5_meaning.specs.Adoption.{without_node}
+use Rattle.h5_meaning.specs.FormattingList.{Entry, nodes_of}
+use Rattle.h5_meaning.specs.FormattingNames.{html_name}
+use Rattle.h5_meaning.specs.Lists.{Lists}
+use Rattle.h5_meaning.specs.Order.{Before, IsIn, is_in}
+use Rattle.h5_meaning.proofs.KeptListsLaws.{lists_pushed}
+use Rattle.h5_meaning.proofs.PairLaws.{is_in_telling}
+use Rattle.h5_meaning.proofs.PassLaws.{lists_without_node}
+use Rattle.h5_meaning.proofs.PlainListLaws.{special_not_listed}
+use Rattle.h5_meaning.specs.Roles.{HeadRole, HtmlRole, role_of, role_of_local, roles}
+use Rattle.h5_meaning.proofs.RoleLaws.{role_made}
 use Rattle.h5_meaning.specs.AdoptionAgency.{remove_from_stack}
 use Rattle.h5_meaning.specs.Changes.{push_head, with_known}
 use Rattle.h5_meaning.specs.Sound.{AllStand, HasLists, IsHtml, IsReady, Sound}

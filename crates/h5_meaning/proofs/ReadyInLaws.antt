@@ -7,25 +7,25 @@ use Rattle.h5_token.specs.TokenText.{TagText}
 use Rattle.h5_interface.specs.SinkChoices.{SinkChoices}
 use Rattle.h5_tag_sets.specs.TagSets.{formatting_names, is_button_scope, is_default_scope, is_heading, is_html_named, is_implied, is_one_of}
 use Rattle.h5_types.specs.declared.modes.InsertionMode.{InsertionMode}
-use Rattle.h5_stack.specs.FormattingList.{ElementEntry, Entry, MarkerEntry, closed_front}
-use Rattle.h5_stack.specs.FormattingNames.{AllFormatting, html_name}
-use Rattle.h5_stack.specs.Order.{is_in}
-use Rattle.h5_stack.specs.Scope.{cut_names, drop_while, first_passes, has_p_in_button_scope, in_scope, is_implied_but, later_names}
-use Rattle.h5_fits.specs.Fits.{goes_by_body, is_whole}
-use Rattle.h5_fits.specs.Frames.{Frame}
-use Rattle.h5_fits.specs.NamesFit.{NamesFit, is_html_element}
-use Rattle.h5_fits.specs.Roles.{PlainRole, role_of, role_of_local, roles}
-use Rattle.h5_fits.specs.Root.{IsRootOpen}
-use Rattle.h5_fits.proofs.BoolLaws.{and_not}
-use Rattle.h5_fits.proofs.FrameLaws.{frame_refl, frame_trans}
-use Rattle.h5_fits.proofs.NameLaws.{frame_pushed, frame_while, frame_without}
-use Rattle.h5_fits.proofs.NamesFitLaws.{names_frame}
-use Rattle.h5_fits.proofs.OpenLaws.{goes_after_root, names_root_open}
-use Rattle.h5_fits.proofs.PlaceLaws.{fits_grounded}
-use Rattle.h5_fits.proofs.PlainLaws.{formatting_local_plain, frame_implied, heading_plain, implied_plain}
-use Rattle.h5_fits.proofs.RoleLaws.{local_p, role_made, role_named}
-use Rattle.h5_fits.proofs.SituationLaws.{names_later}
-use Rattle.h5_fits.proofs.TestLaws.{button_default, foreign_plain, frame_closed, frame_found}
+use Rattle.h5_meaning.specs.FormattingList.{ElementEntry, Entry, MarkerEntry, closed_front}
+use Rattle.h5_meaning.specs.FormattingNames.{AllFormatting, html_name}
+use Rattle.h5_meaning.specs.Order.{is_in}
+use Rattle.h5_meaning.specs.Scope.{cut_names, drop_while, first_passes, has_p_in_button_scope, in_scope, is_implied_but, later_names}
+use Rattle.h5_meaning.specs.Fits.{goes_by_body, is_whole}
+use Rattle.h5_meaning.specs.Frames.{Frame}
+use Rattle.h5_meaning.specs.NamesFit.{NamesFit, is_html_element}
+use Rattle.h5_meaning.specs.Roles.{PlainRole, role_of, role_of_local, roles}
+use Rattle.h5_meaning.specs.Root.{IsRootOpen}
+use Rattle.h5_meaning.proofs.BoolLaws.{and_not}
+use Rattle.h5_meaning.proofs.FrameLaws.{frame_refl, frame_trans}
+use Rattle.h5_meaning.proofs.RoleNameLaws.{frame_pushed, frame_while, frame_without}
+use Rattle.h5_meaning.proofs.NamesFitLaws.{names_frame}
+use Rattle.h5_meaning.proofs.OpenLaws.{goes_after_root, names_root_open}
+use Rattle.h5_meaning.proofs.PlacedNameLaws.{fits_grounded}
+use Rattle.h5_meaning.proofs.PlainNameLaws.{formatting_local_plain, frame_implied, heading_plain, implied_plain}
+use Rattle.h5_meaning.proofs.RoleLaws.{local_p, role_made, role_named}
+use Rattle.h5_meaning.proofs.SituationRoleLaws.{names_later}
+use Rattle.h5_meaning.proofs.TestLaws.{button_default, foreign_plain, frame_closed, frame_found}
 use Rattle.h5_meaning.specs.AdoptionAgency.{adoption_agency, handle_misnested_a_tags, handle_misnested_nobr_tags}
 use Rattle.h5_meaning.specs.Changes.{add_attrs_to_second, append_comment, append_text, generate_implied_end_except, insert_and_pop_element, insert_element, pop, pop_until_named, set_foster, set_frameset_not_ok, set_frameset_ok_by_text}
 use Rattle.h5_meaning.specs.Closing.{close_p_element, close_p_element_in_button_scope, generate_implied_end, pop_heading, pop_until_heading}

@@ -4,7 +4,7 @@ use Rattle.h5_names.specs.declared.known_name.KnownName.TheVariants.{A, Nobr}
 use Rattle.h5_token.specs.TokenText.{TagText}
 use Rattle.h5_interface.specs.SinkChoices.{SinkChoices}
 use Rattle.h5_tag_sets.specs.TagSets.{formatting_names, is_one_of}
-use Rattle.h5_fits.proofs.OpenLaws.{open_some}
+use Rattle.h5_meaning.proofs.OpenLaws.{open_some}
 use Rattle.h5_meaning.specs.ByName.{named}
 use Rattle.h5_meaning.specs.Formatting.{reconstruct_active_formatting_elements}
 use Rattle.h5_meaning.specs.AdoptionAgency.{handle_misnested_a_tags}

@@ -1,12 +1,12 @@
 -- What stands where open elements leave the stack.
 use Rattle.std.proofs.Common.{◌≡◌, ◌≢◌, ℕ, List, [], ◌∷◌, ◌++◌, Option, refl, sym, subst}
 use Rattle.h5_interface.specs.Forest.{Forest}
-use Rattle.h5_stack.specs.Adoption.{newer_than, older_than, without_node}
-use Rattle.h5_stack.specs.FormattingList.{Entry, without_entry}
-use Rattle.h5_stack.specs.Order.{IsIn, last_or}
-use Rattle.h5_stack.proofs.EachLaws.{each_without_entry}
-use Rattle.h5_stack.proofs.PairLaws.{before_one_more, in_one_more}
-use Rattle.h5_stack.proofs.PassLaws.{stack_split, without_node_split}
+use Rattle.h5_meaning.specs.Adoption.{newer_than, older_than, without_node}
+use Rattle.h5_meaning.specs.FormattingList.{Entry, without_entry}
+use Rattle.h5_meaning.specs.Order.{IsIn, last_or}
+use Rattle.h5_meaning.proofs.EachLaws.{each_without_entry}
+use Rattle.h5_meaning.proofs.PairLaws.{before_one_more, in_one_more}
+use Rattle.h5_meaning.proofs.PassLaws.{stack_split, without_node_split}
 use Rattle.h5_meaning.specs.Sound.{AllStand, RootIsTop, Stands}
 use Rattle.h5_meaning.proofs.SoundLaws.{all_tail}
 

@@ -5,7 +5,7 @@ use Rattle.h5_interface.specs.SinkChoices.{SinkChoices}
 use Rattle.h5_types.specs.TurnText.{HasText, TurnText, is_self_closing}
 use Rattle.h5_types.specs.declared.modes.InsertionMode.{InsertionMode}
 use Rattle.h5_types.specs.declared.turns.ProcessResult.TheVariants as results
-use Rattle.h5_fits.proofs.Ranks.{TextTurns}
+use Rattle.h5_meaning.proofs.Ranks.{TextTurns}
 use Rattle.h5_meaning.specs.Changes.{set_mode}
 use Rattle.h5_meaning.specs.Foreign.{is_foreign}
 use Rattle.h5_meaning.specs.ForeignContent.{dispatch}

@@ -11,14 +11,14 @@ use Rattle.h5_interface.proofs.MakingLaws.{add_missing_rearranges}
 use Rattle.h5_tag_sets.specs.TagSets.{is_thorough_implied}
 use Rattle.h5_types.specs.declared.modes.InsertionMode.{InsertionMode}
 use Rattle.h5_types.specs.declared.modes.InsertionMode.TheVariants.{InTemplate}
-use Rattle.h5_stack.specs.FormattingList.{ElementEntry, Entry, MarkerEntry, closed_front}
-use Rattle.h5_stack.specs.FormattingNames.{html_name}
-use Rattle.h5_stack.specs.Order.{second_from_last}
-use Rattle.h5_fits.specs.Changes.{later_modes, with_last_mode, with_template, without_template}
-use Rattle.h5_fits.specs.Fits.{Situation}
-use Rattle.h5_fits.specs.Roles.{role_of}
-use Rattle.h5_fits.proofs.BoolLaws.{and_both}
-use Rattle.h5_fits.proofs.SituationLaws.{Later}
+use Rattle.h5_meaning.specs.FormattingList.{ElementEntry, Entry, MarkerEntry, closed_front}
+use Rattle.h5_meaning.specs.FormattingNames.{html_name}
+use Rattle.h5_meaning.specs.Order.{second_from_last}
+use Rattle.h5_meaning.specs.SituationChanges.{later_modes, with_last_mode, with_template, without_template}
+use Rattle.h5_meaning.specs.Fits.{Situation}
+use Rattle.h5_meaning.specs.Roles.{role_of}
+use Rattle.h5_meaning.proofs.BoolLaws.{and_both}
+use Rattle.h5_meaning.proofs.SituationRoleLaws.{Later}
 use Rattle.h5_meaning.specs.AdoptionAgency.{KeepsKinds}
 use Rattle.h5_meaning.specs.Blanks.{all_blank}
 use Rattle.h5_meaning.specs.Changes.{owned, pop_while, set_frameset_not_ok, add_attrs_at, add_attrs_to_html, add_attrs_to_second, append_comment, append_comment_to_doc, append_comment_to_html, append_text, create_root, insert_and_pop_element, insert_element, insert_head, pop, set_frameset_ok_by_text, with_forest}

@@ -6,9 +6,9 @@ use Rattle.h5_interface.specs.NewElement.{is_html_template}
 use Rattle.h5_interface.specs.Seen.{Seen, changed}
 use Rattle.h5_interface.specs.SinkChoices.{Rearranges}
 use Rattle.h5_interface.proofs.ForestLaws.{ancestor_is_node, document_is_node, node_of_kind, rearranged_ancestor, rearranges_refl}
-use Rattle.h5_stack.specs.FormattingList.{ElementEntry, Entry, MarkerEntry}
-use Rattle.h5_stack.specs.FormattingNames.{AllOfTags, html_name}
-use Rattle.h5_stack.specs.Order.{Before, IsIn, but_first, first_or, last_or}
+use Rattle.h5_meaning.specs.FormattingList.{ElementEntry, Entry, MarkerEntry}
+use Rattle.h5_meaning.specs.FormattingNames.{AllOfTags, html_name}
+use Rattle.h5_meaning.specs.Order.{Before, IsIn, but_first, first_or, last_or}
 use Rattle.h5_meaning.specs.Sound.{AllStand, IsHtml, RootIsTop, Sound, Stands}
 use Rattle.h5_meaning.specs.World.{World, name_in, name_of_found, root}
 

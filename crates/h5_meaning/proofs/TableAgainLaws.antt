@@ -10,15 +10,15 @@ use Rattle.h5_token.specs.TokenText.{TagText}
 use Rattle.h5_token.specs.declared.tag.TagKind.{TagKind}
 use Rattle.h5_token.specs.declared.tag.TagKind.TheVariants.{StartTag, EndTag}
 use Rattle.h5_tag_sets.specs.TagSets.{cell_names, is_cell, is_one_of, is_table_body_context, is_table_row_context}
-use Rattle.h5_stack.specs.Scope.{has_template}
+use Rattle.h5_meaning.specs.Scope.{has_template}
 use Rattle.h5_types.specs.TurnText.{TurnText, TagTurn, CommentTurn, TextTurn, NullTurn, EofTurn}
 use Rattle.h5_types.specs.declared.modes.InsertionMode.{InsertionMode}
 use Rattle.h5_types.specs.declared.modes.InsertionMode.TheVariants.{Initial, BeforeHtml, BeforeHead, InHead, InHeadNoscript, AfterHead, InBody, Text, InTable, InTableText, InCaption, InColumnGroup, InTableBody, InRow, InCell, InTemplate, AfterBody, InFrameset, AfterFrameset, AfterAfterBody, AfterAfterFrameset}
 use Rattle.h5_types.specs.declared.modes.SplitStatus.TheVariants.{NotSplit, Whitespace, NotWhitespace}
-use Rattle.h5_fits.specs.Fits.{is_table_mode}
-use Rattle.h5_fits.proofs.Ranks as edges
-use Rattle.h5_fits.proofs.Ranks.{CellTurns, ColTurns, EndHtmlTurns, EndPartTurns, EofTurns, OtherTurns, PartTurns, RowTurns, StartTableTurns, TextTurns, TurnKind}
-use Rattle.h5_fits.proofs.RankWeightLaws.{closes_templates, is_text}
+use Rattle.h5_meaning.specs.Fits.{is_table_mode}
+use Rattle.h5_meaning.proofs.Ranks as edges
+use Rattle.h5_meaning.proofs.Ranks.{CellTurns, ColTurns, EndHtmlTurns, EndPartTurns, EofTurns, OtherTurns, PartTurns, RowTurns, StartTableTurns, TextTurns, TurnKind}
+use Rattle.h5_meaning.proofs.RankWeightLaws.{closes_templates, is_text}
 use Rattle.h5_meaning.specs.AfterAfterBody.{after_after_body_tag}
 use Rattle.h5_meaning.specs.AfterBody.{after_body_tag}
 use Rattle.h5_meaning.specs.AfterHead.{after_head_tag}

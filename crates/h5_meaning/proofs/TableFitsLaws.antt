@@ -13,20 +13,20 @@ use Rattle.h5_types.specs.TurnText.{CommentTurn, EofTurn, HasText, NullTurn, Tag
 use Rattle.h5_types.specs.declared.modes.InsertionMode.{InsertionMode}
 use Rattle.h5_types.specs.declared.modes.InsertionMode.TheVariants.{InCaption, InCell, InColumnGroup, InRow, InTable, InTableBody, InTableText}
 use Rattle.h5_types.specs.declared.modes.SplitStatus.TheVariants.{NotSplit}
-use Rattle.h5_stack.specs.FormattingNames.{html_name}
-use Rattle.h5_stack.specs.Scope.{down_names, has_template, later_names}
-use Rattle.h5_fits.specs.Changes.{with_saved}
-use Rattle.h5_fits.specs.Fits.{goes_by_body, is_table_mode}
-use Rattle.h5_fits.specs.NamesFit.{NamesFit}
-use Rattle.h5_fits.specs.Reset.{reset}
-use Rattle.h5_fits.specs.Roles.{CaptionRole, CellRole, ColgroupRole, Role, RowRole, SectionRole, TableRole, is_cell_role, is_section, role_of, role_of_local, roles}
-use Rattle.h5_fits.specs.Roles as fits_roles
-use Rattle.h5_fits.proofs.NamesBodyLaws.{names_in_table, table_goes}
-use Rattle.h5_fits.proofs.NamesFitLaws.{names_table_text_begun, names_table_text_ended}
-use Rattle.h5_fits.proofs.NamesTableLaws.{names_caption_put, names_cell_put, names_colgroup_put, names_row_closed, names_row_put, names_section_closed, names_section_left, names_section_put, names_table_closed}
-use Rattle.h5_fits.proofs.RoleLaws.{Origin, origin, role_made, role_named}
-use Rattle.h5_fits.proofs.RoleSetLaws.{all_pass}
-use Rattle.h5_fits.proofs.TableModeLaws.{cell_only, section_only}
+use Rattle.h5_meaning.specs.FormattingNames.{html_name}
+use Rattle.h5_meaning.specs.Scope.{down_names, has_template, later_names}
+use Rattle.h5_meaning.specs.SituationChanges.{with_saved}
+use Rattle.h5_meaning.specs.Fits.{goes_by_body, is_table_mode}
+use Rattle.h5_meaning.specs.NamesFit.{NamesFit}
+use Rattle.h5_meaning.specs.ResetByRoles.{reset}
+use Rattle.h5_meaning.specs.Roles.{CaptionRole, CellRole, ColgroupRole, Role, RowRole, SectionRole, TableRole, is_cell_role, is_section, role_of, role_of_local, roles}
+use Rattle.h5_meaning.specs.Roles as fits_roles
+use Rattle.h5_meaning.proofs.NamesBodyLaws.{names_in_table, table_goes}
+use Rattle.h5_meaning.proofs.NamesFitLaws.{names_table_text_begun, names_table_text_ended}
+use Rattle.h5_meaning.proofs.NamesTableLaws.{names_caption_put, names_cell_put, names_colgroup_put, names_row_closed, names_row_put, names_section_closed, names_section_left, names_section_put, names_table_closed}
+use Rattle.h5_meaning.proofs.RoleLaws.{Origin, origin, role_made, role_named}
+use Rattle.h5_meaning.proofs.RoleSetLaws.{all_pass}
+use Rattle.h5_meaning.proofs.TableModeLaws.{cell_only, section_only}
 use Rattle.h5_meaning.specs.Blanks.{all_blank}
 use Rattle.h5_meaning.specs.ByName.{NonePasses, by_kind, by_name, named, of_tag}
 use Rattle.h5_meaning.specs.Changes.{append_pending_text, append_text, insert_and_pop_element, insert_and_pop_form, insert_element, pop, pop_until_current, pop_until_named, save_mode, set_foster, set_frameset_ok_by_text, take_pending_text}

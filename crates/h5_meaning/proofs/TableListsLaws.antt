@@ -10,9 +10,9 @@ use Rattle.h5_types.specs.declared.modes.InsertionMode.{InsertionMode}
 use Rattle.h5_tag_sets.specs.TagSets.{is_cell, is_table_body_context, is_table_row_context}
 use Rattle.h5_types.specs.declared.modes.InsertionMode.TheVariants.{InCaption, InCell, InColumnGroup, InRow, InTable, InTableBody, InTableText}
 use Rattle.h5_types.specs.declared.modes.SplitStatus.TheVariants.{NotSplit, NotWhitespace, Whitespace}
-use Rattle.h5_fits.specs.Fits.{goes_by_body, is_table_mode}
-use Rattle.h5_fits.proofs.NamesBodyLaws.{table_goes}
-use Rattle.h5_stack.specs.Scope.{has_template}
+use Rattle.h5_meaning.specs.Fits.{goes_by_body, is_table_mode}
+use Rattle.h5_meaning.proofs.NamesBodyLaws.{table_goes}
+use Rattle.h5_meaning.specs.Scope.{has_template}
 use Rattle.h5_meaning.specs.Blanks.{all_blank}
 use Rattle.h5_meaning.specs.ByName.{by_kind, by_name, of_tag}
 use Rattle.h5_meaning.specs.Changes.{set_foster, take_pending_text}

@@ -10,15 +10,15 @@ use Rattle.h5_interface.specs.Seen.{element, make, make_element, with_child_by, 
 use Rattle.h5_interface.specs.SinkChoices.{SinkChoices}
 use Rattle.h5_interface.proofs.MakingLaws.{new_kind}
 use Rattle.h5_tag_sets.specs.TagSets.{formatting_names, html_namespace, is_html_named, is_one_of, is_table_outer, table_outer_names}
-use Rattle.h5_stack.specs.FormattingList.{ElementEntry, Entry, MarkerEntry, closed_front}
-use Rattle.h5_stack.specs.FormattingNames.{AllFormatting, html_name}
-use Rattle.h5_stack.specs.Order.{is_in}
-use Rattle.h5_stack.specs.Scope.{first_passes}
-use Rattle.h5_fits.specs.Roles.{PlainRole, Role, RowRole, SectionRole, TableRole, is_template, role_of, role_of_local}
-use Rattle.h5_fits.proofs.PlainLaws.{formatting_local_plain}
-use Rattle.h5_fits.proofs.RoleLaws.{role_made}
-use Rattle.h5_fits.proofs.RoleSetLaws.{set_passes}
-use Rattle.h5_fits.proofs.SetLaws.{template_test}
+use Rattle.h5_meaning.specs.FormattingList.{ElementEntry, Entry, MarkerEntry, closed_front}
+use Rattle.h5_meaning.specs.FormattingNames.{AllFormatting, html_name}
+use Rattle.h5_meaning.specs.Order.{is_in}
+use Rattle.h5_meaning.specs.Scope.{first_passes}
+use Rattle.h5_meaning.specs.Roles.{PlainRole, Role, RowRole, SectionRole, TableRole, is_template, role_of, role_of_local}
+use Rattle.h5_meaning.proofs.PlainNameLaws.{formatting_local_plain}
+use Rattle.h5_meaning.proofs.RoleLaws.{role_made}
+use Rattle.h5_meaning.proofs.RoleSetLaws.{set_passes}
+use Rattle.h5_meaning.proofs.SetLaws.{template_test}
 use Rattle.h5_meaning.specs.FormOwner.{Marking, marked_by}
 use Rattle.h5_meaning.specs.Changes.{owned, append_text, insert_element, new_element, set_foster, set_frameset_ok_by_text}
 use Rattle.h5_meaning.specs.Formatting.{insert_anew, insert_for, reconstruct_active_formatting_elements}

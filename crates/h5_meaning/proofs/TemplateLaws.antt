@@ -10,9 +10,9 @@ use Rattle.h5_interface.specs.SinkChoices.{Rearranges, SinkChoices}
 use Rattle.h5_interface.proofs.ForestLaws.{rearranged_node, there_alike}
 use Rattle.h5_interface.proofs.MakingLaws.{made_contents, made_kind, made_parent, make_element_rearranges}
 use Rattle.h5_tag_sets.specs.TagSets.{is_html_named, is_thorough_implied}
-use Rattle.h5_stack.specs.FormattingNames.{html_name}
-use Rattle.h5_stack.specs.Scope.{cut_names, later_names}
-use Rattle.h5_stack.proofs.KeptLaws.{lists_pushed}
+use Rattle.h5_meaning.specs.FormattingNames.{html_name}
+use Rattle.h5_meaning.specs.Scope.{cut_names, later_names}
+use Rattle.h5_meaning.proofs.KeptListsLaws.{lists_pushed}
 use Rattle.h5_meaning.specs.AdoptionAgency.{KeepsKinds}
 use Rattle.h5_meaning.specs.Changes.{insert_element, owned, pop, pop_until_named, with_forest}
 use Rattle.h5_meaning.specs.Closing.{generate_implied_end_thoroughly}

@@ -4,18 +4,18 @@ use Rattle.h5_token.specs.TokenText.{TagText}
 use Rattle.h5_interface.specs.SinkChoices.{SinkChoices}
 use Rattle.h5_types.specs.declared.modes.InsertionMode.{InsertionMode}
 use Rattle.h5_types.specs.declared.modes.InsertionMode.TheVariants.{AfterHead, InHead, InTemplate}
-use Rattle.h5_stack.specs.FormattingList.{MarkerEntry}
-use Rattle.h5_stack.specs.FormattingNames.{html_name}
-use Rattle.h5_stack.specs.Scope.{cut_names, has_template}
+use Rattle.h5_meaning.specs.FormattingList.{MarkerEntry}
+use Rattle.h5_meaning.specs.FormattingNames.{html_name}
+use Rattle.h5_meaning.specs.Scope.{cut_names, has_template}
 use Rattle.h5_tag_sets.specs.TagSets.{is_html_named}
-use Rattle.h5_fits.specs.Changes.{without_template}
-use Rattle.h5_fits.specs.Fits.{Situation, goes_by_body, is_template_mode, takes_template}
-use Rattle.h5_fits.specs.NamesFit.{NamesFit}
-use Rattle.h5_fits.specs.Reset.{reset}
-use Rattle.h5_fits.specs.Roles.{Role, TemplateRole, has_role, is_template, role_of_local, roles}
-use Rattle.h5_fits.proofs.NamesTableLaws.{names_template_closed, names_template_mode, names_template_put}
-use Rattle.h5_fits.proofs.RoleLaws.{role_made}
-use Rattle.h5_fits.proofs.TestLaws.{has_template_test}
+use Rattle.h5_meaning.specs.SituationChanges.{without_template}
+use Rattle.h5_meaning.specs.Fits.{Situation, goes_by_body, is_template_mode, takes_template}
+use Rattle.h5_meaning.specs.NamesFit.{NamesFit}
+use Rattle.h5_meaning.specs.ResetByRoles.{reset}
+use Rattle.h5_meaning.specs.Roles.{Role, TemplateRole, has_role, is_template, role_of_local, roles}
+use Rattle.h5_meaning.proofs.NamesTableLaws.{names_template_closed, names_template_mode, names_template_put}
+use Rattle.h5_meaning.proofs.RoleLaws.{role_made}
+use Rattle.h5_meaning.proofs.TestLaws.{has_template_test}
 use Rattle.h5_meaning.specs.AdoptionAgency.{KeepsKinds}
 use Rattle.h5_meaning.specs.Changes.{pop_until_named, set_frameset_not_ok, set_mode}
 use Rattle.h5_meaning.specs.Closing.{generate_implied_end_thoroughly}

@@ -5,16 +5,16 @@ use Rattle.h5_names.specs.declared.qualified.QualName.{QualName}
 use Rattle.h5_interface.specs.SinkChoices.{SinkChoices}
 use Rattle.h5_types.specs.declared.modes.InsertionMode.{InsertionMode}
 use Rattle.h5_types.specs.declared.modes.InsertionMode.TheVariants.{Text}
-use Rattle.h5_stack.specs.FormattingNames.{html_name}
+use Rattle.h5_meaning.specs.FormattingNames.{html_name}
 use Rattle.h5_tag_sets.specs.TagSets.{html_namespace}
-use Rattle.h5_fits.specs.Changes.{with_saved}
-use Rattle.h5_fits.specs.Fits.{may_be_left}
-use Rattle.h5_fits.specs.NamesFit.{NamesFit, is_html_element}
-use Rattle.h5_fits.specs.Roles.{PlainRole, role_of, role_of_local}
-use Rattle.h5_fits.specs.Root.{IsRootOpen}
-use Rattle.h5_fits.proofs.NamesFitLaws.{names_text_pushed}
-use Rattle.h5_fits.proofs.RoleLaws.{role_made}
-use Rattle.h5_fits.proofs.SituationLaws.{names_later}
+use Rattle.h5_meaning.specs.SituationChanges.{with_saved}
+use Rattle.h5_meaning.specs.Fits.{may_be_left}
+use Rattle.h5_meaning.specs.NamesFit.{NamesFit, is_html_element}
+use Rattle.h5_meaning.specs.Roles.{PlainRole, role_of, role_of_local}
+use Rattle.h5_meaning.specs.Root.{IsRootOpen}
+use Rattle.h5_meaning.proofs.NamesFitLaws.{names_text_pushed}
+use Rattle.h5_meaning.proofs.RoleLaws.{role_made}
+use Rattle.h5_meaning.proofs.SituationRoleLaws.{names_later}
 use Rattle.h5_meaning.specs.Changes.{insert_element, insert_script, save_mode, set_mode, starts_marked}
 use Rattle.h5_meaning.specs.Place.{place}
 use Rattle.h5_meaning.specs.Sound.{Sound, situation_of}

@@ -9,9 +9,9 @@ use Rattle.h5_interface.specs.SinkChoices.{SinkChoices}
 use Rattle.h5_interface.proofs.MakingLaws.{mark_rearranges}
 use Rattle.h5_types.specs.TurnText.{CommentTurn, EofTurn, HasText, NullTurn, TagTurn, TextTurn, TurnText}
 use Rattle.h5_types.specs.declared.modes.InsertionMode.TheVariants.{InTable, Text}
-use Rattle.h5_stack.specs.Scope.{later_names}
-use Rattle.h5_fits.specs.NamesFit.{NamesFit}
-use Rattle.h5_fits.proofs.NamesFitLaws.{names_text_popped}
+use Rattle.h5_meaning.specs.Scope.{later_names}
+use Rattle.h5_meaning.specs.NamesFit.{NamesFit}
+use Rattle.h5_meaning.proofs.NamesFitLaws.{names_text_popped}
 use Rattle.h5_meaning.specs.ByName.{by_kind}
 use Rattle.h5_meaning.specs.Changes.{mark_started, pop}
 use Rattle.h5_meaning.specs.InTableText.{saved_mode}

@@ -9,7 +9,7 @@ use Rattle.h5_interface.specs.Seen.{is_integration_point, with_child_by}
 use Rattle.h5_interface.specs.SinkChoices.{SinkChoices}
 use Rattle.h5_interface.proofs.ForestLaws.{same_forest}
 use Rattle.h5_tag_sets.specs.TagSets.{is_table_outer}
-use Rattle.h5_stack.specs.Order.{first_or, last_or}
+use Rattle.h5_meaning.specs.Order.{first_or, last_or}
 use Rattle.h5_meaning.specs.Changes.{with_forest}
 use Rattle.h5_meaning.specs.Place.{LastChild, Place, TableFosterParenting, appropriate_place, foster_place, from_foster_parent, inside, is_foster_parent, place, put}
 use Rattle.h5_meaning.specs.World.{World, name_in, name_of_found}

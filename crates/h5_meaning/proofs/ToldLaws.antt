@@ -3,9 +3,9 @@ use Rattle.std.proofs.Common.{◌≡◌, Bool, true, false, List, [], ◌∷◌,
 use Rattle.h5_token.specs.Reply.{Indicates, RunsScript, TurnsPlain, TurnsRaw}
 use Rattle.h5_types.specs.declared.modes.InsertionMode.{InsertionMode}
 use Rattle.h5_types.specs.declared.modes.InsertionMode.TheVariants.{Text}
-use Rattle.h5_fits.specs.Fits.{AllKinds, is_template_mode}
-use Rattle.h5_fits.specs.Roles.{roles}
-use Rattle.h5_fits.proofs.NamesFitLaws.{is_silent, reset_silent}
+use Rattle.h5_meaning.specs.Fits.{AllKinds, is_template_mode}
+use Rattle.h5_meaning.specs.Roles.{roles}
+use Rattle.h5_meaning.proofs.NamesFitLaws.{is_silent, reset_silent}
 use Rattle.h5_meaning.specs.InTableText.{saved_mode}
 use Rattle.h5_meaning.specs.Reset.{reset_mode}
 use Rattle.h5_meaning.specs.Rows.{Again, AgainBy, Answers, Change, Ending, IsAcknowledged, IsDone, ResetMode, Row, SaveMode, SetMode, choose, PushTemplateMode, PopTemplateMode, SwitchTemplateMode}

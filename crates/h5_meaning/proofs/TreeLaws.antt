@@ -7,10 +7,10 @@ use Rattle.h5_token.specs.TokenText.{TagText}
 use Rattle.h5_interface.specs.Changes.{mark}
 use Rattle.h5_interface.specs.SinkChoices.{SinkChoices}
 use Rattle.h5_tag_sets.specs.TagSets.{is_default_scope, is_heading, is_html_named, is_implied, is_special, is_thorough_implied}
-use Rattle.h5_stack.specs.Adoption.{FormattingElement, FurthestBlock, furthest_block, newer_than, newest_named, without_node}
-use Rattle.h5_stack.specs.FormattingList.{ElementEntry, Entry, MarkerEntry, closed_front, nodes_of, without_entry}
-use Rattle.h5_stack.specs.Order.{is_in}
-use Rattle.h5_stack.specs.Scope.{comes_before_special, first_passes, has_p_in_button_scope, in_scope, is_implied_but}
+use Rattle.h5_meaning.specs.Adoption.{FormattingElement, FurthestBlock, furthest_block, newer_than, newest_named, without_node}
+use Rattle.h5_meaning.specs.FormattingList.{ElementEntry, Entry, MarkerEntry, closed_front, nodes_of, without_entry}
+use Rattle.h5_meaning.specs.Order.{is_in}
+use Rattle.h5_meaning.specs.Scope.{comes_before_special, first_passes, has_p_in_button_scope, in_scope, is_implied_but}
 use Rattle.h5_meaning.specs.AdoptionAgency.{adopt, adopt_at, adopt_by, adopt_within, adoption_agency, close_misnested_a, handle_misnested_a_tags, handle_misnested_nobr_tags, remove_from_stack, unlist_and_remove}
 use Rattle.h5_meaning.specs.Changes.{generate_implied_end_except, insert_element, pop, pop_until_current, pop_until_named, pop_while, remove_body}
 use Rattle.h5_meaning.specs.Closing.{close_item, close_list_item, close_named, close_p_element, close_p_element_in_button_scope, generate_implied_end, generate_implied_end_in_select, generate_implied_end_thoroughly, newest_item, pop_heading, pop_until_cell, pop_until_heading}

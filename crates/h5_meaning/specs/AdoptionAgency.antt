@@ -9,11 +9,11 @@ use Rattle.h5_interface.specs.NewElement.{flags_of}
 use Rattle.h5_interface.specs.Seen.{make_element, with_last_child}
 use Rattle.h5_interface.specs.SinkChoices.{SinkChoices}
 use Rattle.h5_tag_sets.specs.TagSets.{is_default_scope, is_html_named, is_special}
-use Rattle.h5_stack.specs.Adoption.{FormattingElement, FurthestBlock, adopted_at, furthest_block, newer_than, newest_named, older_than, to_clone, without_node}
-use Rattle.h5_stack.specs.FormattingList.{Entry, ElementEntry, MarkerEntry, nodes_of, without_entry}
-use Rattle.h5_stack.specs.FormattingNames.{html_name}
-use Rattle.h5_stack.specs.Order.{Before, IsIn, first_or, is_in}
-use Rattle.h5_stack.specs.Scope.{first_passes, in_scope}
+use Rattle.h5_meaning.specs.Adoption.{FormattingElement, FurthestBlock, adopted_at, furthest_block, newer_than, newest_named, older_than, to_clone, without_node}
+use Rattle.h5_meaning.specs.FormattingList.{Entry, ElementEntry, MarkerEntry, nodes_of, without_entry}
+use Rattle.h5_meaning.specs.FormattingNames.{html_name}
+use Rattle.h5_meaning.specs.Order.{Before, IsIn, first_or, is_in}
+use Rattle.h5_meaning.specs.Scope.{first_passes, in_scope}
 use Rattle.h5_meaning.specs.Changes.{pop, with_forest}
 use Rattle.h5_meaning.specs.Closing.{close_named}
 use Rattle.h5_meaning.specs.Formatting.{reconstruct_active_formatting_elements}

@@ -11,12 +11,12 @@ use Rattle.h5_interface.specs.declared.marks.QuirksMode.{QuirksMode}
 use Rattle.h5_tag_sets.specs.TagSets.{is_html_named}
 use Rattle.h5_types.specs.declared.modes.InsertionMode.{InsertionMode}
 use Rattle.h5_meaning.specs.Blanks.{all_blank}
-use Rattle.h5_stack.specs.Scope.{cut_above, cut_through, has_template, is_implied_but}
+use Rattle.h5_meaning.specs.Scope.{cut_above, cut_through, has_template, is_implied_but}
 use Rattle.h5_meaning.specs.FormOwner.{Marking, associates, form_owner, marked_by}
 use Rattle.h5_meaning.specs.Place.{LastChild, Place, place, put}
 use Rattle.h5_meaning.specs.World.{World, current, names_of, root}
-use Rattle.h5_stack.specs.FormattingNames.{html_name}
-use Rattle.h5_stack.specs.Order.{but_first, second_from_last}
+use Rattle.h5_meaning.specs.FormattingNames.{html_name}
+use Rattle.h5_meaning.specs.Order.{but_first, second_from_last}
 
 abbrev pub set_mode : InsertionMode → World → World
 set_mode m w = record w { mode = m }

@@ -4,8 +4,8 @@ use Rattle.h5_names.specs.AttributeText.{is_same_text}
 use Rattle.h5_names.specs.declared.qualified.QualName.{QualName}
 use Rattle.h5_interface.specs.SinkChoices.{SinkChoices}
 use Rattle.h5_tag_sets.specs.TagSets.{html_namespace, is_cell, is_default_scope, is_heading, is_html_named, is_implied, is_one_of, is_special, is_thorough_implied}
-use Rattle.h5_stack.specs.Order.{is_in}
-use Rattle.h5_stack.specs.Scope.{comes_before_special, cut_through, first_passes, has_p_in_button_scope, in_scope}
+use Rattle.h5_meaning.specs.Order.{is_in}
+use Rattle.h5_meaning.specs.Scope.{comes_before_special, cut_through, first_passes, has_p_in_button_scope, in_scope}
 use Rattle.h5_meaning.specs.Changes.{generate_implied_end_except, pop, pop_until_named, pop_while, with_forest}
 use Rattle.h5_meaning.specs.World.{World, names_of}
 

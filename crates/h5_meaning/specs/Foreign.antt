@@ -1,12 +1,10 @@
 -- Elements of SVG and MathML: when a token is for foreign content, and how their elements are made and left (HTML
 -- standard, sections 13.2.4.2, "adjusted current node", and 13.2.6, "the tree construction dispatcher").
 use Rattle.std.specs.Prelude.{ℕ, Bool, true, false, not, ◌&&◌, ◌||◌, if◌then◌else◌, unwrap_or, List, [], ◌∷◌, map, codes, Option, None, Some}
-use Rattle.std.specs.List.{list_any}
 use Rattle.std.specs.Str.{str_eq_ignore_ascii_case}
 use Rattle.h5_names.specs.AttributeText.{AttributeText, is_same_text}
 use Rattle.h5_names.specs.declared.qualified.QualName.{QualName}
-use Rattle.h5_token.specs.TokenText.{TagText}
-use Rattle.h5_interface.specs.Forest.{ChildNode, Forest}
+use Rattle.h5_interface.specs.Forest.{Forest}
 use Rattle.h5_interface.specs.NewElement.{is_annotation_xml}
 use Rattle.h5_interface.specs.Seen.{is_integration_point}
 use Rattle.h5_interface.specs.SinkChoices.{SinkChoices}
@@ -14,8 +12,8 @@ use Rattle.h5_tag_sets.specs.TagSets.{is_mathml_text_point, is_one_of, is_svg_ht
 use Rattle.h5_data.specs.AdjustedNames.{adjusted_svg_tag, foreign_attributes, mathml_attributes, renamed, svg_attributes}
 use Rattle.h5_types.specs.TurnText.{CommentTurn, EofTurn, NullTurn, TagTurn, TextTurn, TurnText}
 use Rattle.h5_types.specs.declared.modes.SplitStatus.TheVariants.{NotSplit}
-use Rattle.h5_stack.specs.Scope.{cut_through}
-use Rattle.h5_fits.specs.NamesFit.{is_html_element}
+use Rattle.h5_meaning.specs.Scope.{cut_through}
+use Rattle.h5_meaning.specs.NamesFit.{is_html_element}
 use Rattle.h5_meaning.specs.Changes.{new_element, pop_while, with_forest}
 use Rattle.h5_meaning.specs.Kinds.{is_start}
 use Rattle.h5_meaning.specs.Place.{place}

@@ -9,11 +9,11 @@ use Rattle.h5_token.specs.declared.tag.TagKind.TheVariants.{EndTag, StartTag}
 use Rattle.h5_interface.specs.SinkChoices.{SinkChoices}
 use Rattle.h5_tag_sets.specs.TagSets.{is_one_of}
 use Rattle.h5_types.specs.TurnText.{CommentTurn, EofTurn, NullTurn, TagTurn, TextTurn, TurnText}
-use Rattle.h5_stack.specs.Scope.{first_passes}
-use Rattle.h5_fits.specs.NamesFit.{is_html_element}
+use Rattle.h5_meaning.specs.Scope.{first_passes}
+use Rattle.h5_meaning.specs.NamesFit.{is_html_element}
 use Rattle.h5_meaning.specs.Foreign.{adjusted_attributes, adjusted_local, adjusted_namespace, foreign_name, is_foreign, is_named_in_any_case}
 use Rattle.h5_meaning.specs.Modes.{rule}
-use Rattle.h5_meaning.specs.Rows.{AppendComment, AppendText, Change, InsertAndPopForeignElement, InsertForeignElement, IsAcknowledged, IsDone, LeaveForeignContent, PopUntilNamedInAnyCase, Row, SetFramesetOkByText, apply_all, choose, errs, ignored, row, row_if}
+use Rattle.h5_meaning.specs.Rows.{AppendComment, AppendText, Change, IsDone, LeaveForeignContent, PopUntilNamedInAnyCase, Row, SetFramesetOkByText, apply_all, choose, errs, ignored, row, row_if}
 use Rattle.h5_meaning.specs.Shared.{inserts_foreign}
 use Rattle.h5_meaning.specs.World.{World, names_of}
 

@@ -8,7 +8,7 @@ use Rattle.h5_interface.specs.Forest.{Forest, Marks}
 use Rattle.h5_interface.specs.NewElement.{is_expanded}
 use Rattle.h5_interface.specs.SinkChoices.{SinkChoices}
 use Rattle.h5_tag_sets.specs.TagSets.{is_one_of}
-use Rattle.h5_stack.specs.Scope.{has_template}
+use Rattle.h5_meaning.specs.Scope.{has_template}
 use Rattle.h5_meaning.specs.Place.{LastChild, Place, TableFosterParenting}
 use Rattle.h5_meaning.specs.World.{World, names_of}
 

@@ -2,7 +2,7 @@
 use Rattle.std.specs.Prelude.{Bool, true, false, List, [], ◌∷◌, length, take}
 use Rattle.h5_token.specs.TokenText.{TagText}
 use Rattle.h5_interface.specs.SinkChoices.{SinkChoices}
-use Rattle.h5_stack.specs.FormattingList.{Entry, ElementEntry, MarkerEntry, clear_to_marker, closed_front, push_formatting, reconstructed}
+use Rattle.h5_meaning.specs.FormattingList.{Entry, ElementEntry, MarkerEntry, clear_to_marker, closed_front, push_formatting, reconstructed}
 use Rattle.h5_meaning.specs.Changes.{insert_element}
 use Rattle.h5_meaning.specs.World.{World, current}
 

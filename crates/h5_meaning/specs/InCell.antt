@@ -2,7 +2,7 @@
 use Rattle.std.specs.Prelude.{List, [], ◌∷◌, ℕ, codes}
 use Rattle.h5_token.specs.TokenText.{TagText}
 use Rattle.h5_tag_sets.specs.TagSets.{cell_names, is_cell, is_one_of}
-use Rattle.h5_stack.specs.Scope.{first_passes}
+use Rattle.h5_meaning.specs.Scope.{first_passes}
 use Rattle.h5_types.specs.TurnText.{CommentTurn, EofTurn, NullTurn, TagTurn, TextTurn, TurnText}
 use Rattle.h5_types.specs.declared.modes.InsertionMode.TheVariants.{InRow}
 use Rattle.h5_meaning.specs.ByName.{Rules, by_kind, by_name, ignored_tag, of_tag}

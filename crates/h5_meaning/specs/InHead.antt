@@ -12,7 +12,7 @@ use Rattle.h5_meaning.specs.Rows.{Again, AgainBy, AppendComment, AppendText, Cle
 use Rattle.h5_meaning.specs.Shared.{current_is, in_body_start_html, inserts, raw_text}
 use Rattle.h5_meaning.specs.Reset.{reset_mode}
 use Rattle.h5_meaning.specs.World.{World, names_of}
-use Rattle.h5_stack.specs.Scope.{has_template}
+use Rattle.h5_meaning.specs.Scope.{has_template}
 use Rattle.h5_tag_sets.specs.TagSets.{is_one_of}
 
 -- an end tag "head"

@@ -1,5 +1,5 @@
 -- HTML standard, section 13.2.6.4.14, the "in row" insertion mode.
-use Rattle.std.specs.Prelude.{◌&&◌, List, [], ◌∷◌, ℕ, codes}
+use Rattle.std.specs.Prelude.{List, [], ◌∷◌, ℕ, codes}
 use Rattle.h5_token.specs.TokenText.{TagText}
 use Rattle.h5_names.specs.declared.known_name.KnownName.TheVariants.{Table, Tr}
 use Rattle.h5_tag_sets.specs.TagSets.{cell_names, is_one_of, is_table_row_context}

@@ -1,11 +1,9 @@
 -- HTML standard, section 13.2.6.4.9, the "in table" insertion mode.
-use Rattle.std.specs.Prelude.{Bool, false, ◌||◌, ◌&&◌, List, [], ◌∷◌, ℕ, codes, is_some, if◌then◌else◌}
-use Rattle.std.specs.Str.{str_eq_ignore_ascii_case}
-use Rattle.h5_names.specs.AttributeText.{AttributeText, is_same_text}
+use Rattle.std.specs.Prelude.{Bool, false, ◌||◌, List, [], ◌∷◌, ℕ, codes, is_some}
 use Rattle.h5_token.specs.TokenText.{TagText}
 use Rattle.h5_names.specs.declared.known_name.KnownName.TheVariants.{Caption, Col, Colgroup, Form, Input, Table, Template}
 use Rattle.h5_tag_sets.specs.TagSets.{is_one_of, is_table_outer, is_table_scope}
-use Rattle.h5_stack.specs.Scope.{first_passes, has_template}
+use Rattle.h5_meaning.specs.Scope.{first_passes, has_template}
 use Rattle.h5_types.specs.TurnText.{CommentTurn, EofTurn, NullTurn, TagTurn, TextTurn, TurnText}
 use Rattle.h5_types.specs.declared.modes.InsertionMode.TheVariants.{InCaption, InColumnGroup, InTableBody, InTableText}
 use Rattle.h5_meaning.specs.ByName.{Rules, by_kind, by_name, ignored_tag, named, of_tag}

@@ -6,7 +6,7 @@ use Rattle.h5_interface.specs.NewElement.{is_html_template}
 use Rattle.h5_interface.specs.Seen.{CanAppend, CanAppendBasedOnParent, with_child_by, with_last_child}
 use Rattle.h5_tag_sets.specs.TagSets.{is_html_named, is_table_outer}
 use Rattle.h5_meaning.specs.World.{World, current, name_in, root}
-use Rattle.h5_stack.specs.Order.{first_or}
+use Rattle.h5_meaning.specs.Order.{first_or}
 
 -- as the last child of a node; or, by foster parenting, before a table where that has a parent, and else as the
 -- last child of the element below it in the stack

@@ -1,7 +1,7 @@
 -- The reset of the insertion mode of a world (HTML standard, section 13.2.4.1, "reset the insertion mode
 -- appropriately").
-use Rattle.h5_fits.specs.Reset.{reset}
-use Rattle.h5_fits.specs.Roles.{roles}
+use Rattle.h5_meaning.specs.ResetByRoles.{reset}
+use Rattle.h5_meaning.specs.Roles.{roles}
 use Rattle.h5_types.specs.declared.modes.InsertionMode.{InsertionMode}
 use Rattle.h5_meaning.specs.Sound.{situation_of}
 use Rattle.h5_meaning.specs.World.{World, names_of}

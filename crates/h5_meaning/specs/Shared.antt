@@ -5,7 +5,7 @@ use Rattle.h5_names.specs.declared.qualified.QualName.{QualName}
 use Rattle.h5_token.specs.TokenText.{TagText}
 use Rattle.h5_types.specs.declared.modes.InsertionMode.TheVariants.{Text}
 use Rattle.h5_token.specs.declared.states.RawKind.{RawKind}
-use Rattle.h5_stack.specs.Scope.{first_passes, has_template}
+use Rattle.h5_meaning.specs.Scope.{first_passes, has_template}
 use Rattle.h5_meaning.specs.Rows.{AddAttrsToHtml, Answers, AppendText, Change, InsertAndPopForeignElement, InsertElement, InsertForeignElement, IsAcknowledged, IsDone, ReconstructActiveFormattingElements, Row, SaveMode, SetFramesetOkByText, SetMode, choose, errs, ignored, row}
 use Rattle.h5_meaning.specs.World.{World, name_in, names_of}
 use Rattle.h5_tag_sets.specs.TagSets.{is_html_named}

@@ -3,14 +3,14 @@
 use Rattle.std.specs.Prelude.{◌≡◌, ℕ, is_some, List, [], ◌∷◌, codes, Option, Some, None, IsTrue}
 use Rattle.h5_interface.specs.Forest.{ElementNode, Forest, HasContents, IsElement, IsForest, kind_of, parent_of}
 use Rattle.h5_interface.specs.NewElement.{is_html_template}
-use Rattle.h5_stack.specs.FormattingList.{Entry}
-use Rattle.h5_stack.specs.FormattingNames.{AllFormatting, AllOfTags, html_name}
-use Rattle.h5_stack.specs.Lists.{Lists}
-use Rattle.h5_stack.specs.Order.{IsIn, IsOrdered}
-use Rattle.h5_fits.specs.Fits.{Situation}
-use Rattle.h5_fits.specs.Roles.{Role, role_of}
-use Rattle.h5_fits.specs.NamesFit.{NamesFit}
-use Rattle.h5_fits.specs.Root.{IsRootOpen}
+use Rattle.h5_meaning.specs.FormattingList.{Entry}
+use Rattle.h5_meaning.specs.FormattingNames.{AllFormatting, AllOfTags, html_name}
+use Rattle.h5_meaning.specs.Lists.{Lists}
+use Rattle.h5_meaning.specs.Order.{IsIn, IsOrdered}
+use Rattle.h5_meaning.specs.Fits.{Situation}
+use Rattle.h5_meaning.specs.Roles.{Role, role_of}
+use Rattle.h5_meaning.specs.NamesFit.{NamesFit}
+use Rattle.h5_meaning.specs.Root.{IsRootOpen}
 use Rattle.h5_meaning.specs.World.{World, name_in, names_of}
 
 -- the forest is one, open elements are its elements, none is an ancestor of an older one, and templates have contents

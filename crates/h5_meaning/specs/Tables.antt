@@ -1,11 +1,11 @@
 -- What the modes of tables share (HTML standard, sections 13.2.6.4.9 to 13.2.6.4.15).
-use Rattle.std.specs.Prelude.{Bool, true, false, List, [], ◌∷◌, ◌++◌, ◌||◌, ℕ, codes}
+use Rattle.std.specs.Prelude.{Bool, true, false, List, [], ◌∷◌, ◌++◌, ℕ, codes}
 use Rattle.h5_names.specs.declared.qualified.QualName.{QualName}
 use Rattle.h5_types.specs.TurnText.{TurnText}
-use Rattle.h5_tag_sets.specs.TagSets.{is_html_named, is_one_of, is_table_scope}
-use Rattle.h5_stack.specs.Scope.{in_scope}
+use Rattle.h5_tag_sets.specs.TagSets.{is_html_named, is_table_scope}
+use Rattle.h5_meaning.specs.Scope.{in_scope}
 use Rattle.h5_meaning.specs.Changes.{set_foster}
-use Rattle.h5_meaning.specs.Rows.{Change, Row, SetFoster, errs}
+use Rattle.h5_meaning.specs.Rows.{Row, SetFoster, errs}
 use Rattle.h5_meaning.specs.World.{World, names_of}
 
 -- a row group

@@ -6,9 +6,9 @@ use Rattle.h5_names.specs.AttributeText.{AttributeText, is_same_text}
 use Rattle.h5_interface.specs.NewElement.{flags_of}
 use Rattle.h5_interface.specs.Seen.{make_element}
 use Rattle.h5_interface.specs.SinkChoices.{SinkChoices}
-use Rattle.h5_fits.specs.Changes.{later_modes}
+use Rattle.h5_meaning.specs.SituationChanges.{later_modes}
 use Rattle.h5_types.specs.declared.modes.InsertionMode.{InsertionMode}
-use Rattle.h5_stack.specs.FormattingNames.{html_name}
+use Rattle.h5_meaning.specs.FormattingNames.{html_name}
 use Rattle.h5_meaning.specs.Changes.{insert_element, pop, with_forest}
 use Rattle.h5_meaning.specs.FormOwner.{stands_by}
 use Rattle.h5_meaning.specs.Place.{place}

@@ -5,8 +5,8 @@ use Rattle.h5_interface.specs.Forest.{CommentNode, DoctypeNode, DocumentNode, El
 use Rattle.h5_interface.specs.declared.marks.QuirksMode.{QuirksMode}
 use Rattle.h5_types.specs.declared.modes.InsertionMode.{InsertionMode}
 use Rattle.h5_types.specs.declared.options.TreeBuilderOpts.{TreeBuilderOpts}
-use Rattle.h5_stack.specs.FormattingList.{Entry}
-use Rattle.h5_stack.specs.Order.{first_or, last_or}
+use Rattle.h5_meaning.specs.FormattingList.{Entry}
+use Rattle.h5_meaning.specs.Order.{first_or, last_or}
 
 -- Open elements and formatting list have the newest first. `seen_quirks` is the quirks mode that the sink
 -- was told, `quirks` the builder's own.

@@ -3,9 +3,9 @@ ghost use Rattle.std.specs.Prelude.{◌≡◌, ◌≤◌, ◌<◌, ◌+◌, ℕ,
 ghost use Rattle.h5_token.specs.Joins.{join};
 ghost use Rattle.h5_token.specs.TokenText.{TokenText};
 ghost use Rattle.h5_interface.specs.SinkChoices.{SinkChoices};
-ghost use Rattle.h5_stack.specs.FormattingList.{after_marker, nodes_of};
-ghost use Rattle.h5_stack.specs.Lists.{OpenFirst};
-ghost use Rattle.h5_stack.specs.Order.{IsIn};
+ghost use Rattle.h5_meaning.specs.FormattingList.{after_marker, nodes_of};
+ghost use Rattle.h5_meaning.specs.Lists.{OpenFirst};
+ghost use Rattle.h5_meaning.specs.Order.{IsIn};
 ghost use Rattle.h5_types.specs.TurnText.{EofTurn, HasText, TurnText};
 ghost use Rattle.h5_types.specs.declared.modes.InsertionMode.TheVariants.{Initial};
 ghost use Rattle.h5_meaning.specs.Cuts.{CutsAgree};

@@ -9,9 +9,9 @@ use Rattle.h5_interface.specs.SinkChoices.{SinkChoices}
 use Rattle.h5_tag_sets.specs.TagSets.{html_namespace, implied_names, is_default_scope, is_heading, is_html_named, is_implied}
 use Rattle.h5_types.specs.TurnText.{TagTurn}
 use Rattle.h5_types.specs.declared.modes.InsertionMode.TheVariants.{InBody}
-use Rattle.h5_stack.specs.FormattingNames.{html_name}
-use Rattle.h5_stack.specs.Order.{but_first}
-use Rattle.h5_stack.specs.Scope.{cut_through, first_passes, has_p_in_button_scope, in_scope, is_implied_but}
+use Rattle.h5_meaning.specs.FormattingNames.{html_name}
+use Rattle.h5_meaning.specs.Order.{but_first}
+use Rattle.h5_meaning.specs.Scope.{cut_through, first_passes, has_p_in_button_scope, in_scope, is_implied_but}
 use Rattle.h5_meaning.specs.Blanks.{all_blank}
 use Rattle.h5_meaning.specs.Changes.{append_text, insert_and_pop_element, insert_element, new_element, pop, pop_until_named, push_new, set_frameset_not_ok, set_frameset_ok_by_text}
 use Rattle.h5_meaning.specs.Closing.{close_p_element, close_p_element_in_button_scope, pop_heading, pop_until_heading}
@@ -24,7 +24,7 @@ use Rattle.h5_meaning.proofs.FormattingLaws.{reconstruct_none}
 use Rattle.h5_meaning.proofs.PopLaws.{all_implied_none, implied_none}
 use Rattle.h5_plain.specs.Plain.{end_tag, start_tag}
 use Rattle.h5_plain.proofs.BodyRuleLaws.{IsHeadingName, IsHolder, br_outside, br_rule, div_end_rule, div_outside, p_end_rule, p_outside}
-use Rattle.h5_stack.specs.FormattingList.{Entry}
+use Rattle.h5_meaning.specs.FormattingList.{Entry}
 use Rattle.h5_plain.proofs.ListedLaws.{OpenFormat}
 use Rattle.h5_plain.proofs.CalmLaws.{Calm, calm_html, after, calm_closed, names_are, opened, place_is, unowned}
 use Rattle.h5_plain.proofs.FilledLaws.{Face}

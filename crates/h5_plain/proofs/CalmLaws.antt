@@ -8,12 +8,12 @@ use Rattle.h5_interface.specs.NewElement.{is_html_template}
 use Rattle.h5_interface.specs.SinkChoices.{SinkChoices}
 use Rattle.h5_interface.proofs.ForestLaws.{node_of_kind}
 use Rattle.h5_tag_sets.specs.TagSets.{is_table_outer}
-use Rattle.h5_stack.specs.FormattingList.{Entry, closed_front, nodes_of}
-use Rattle.h5_stack.specs.FormattingNames.{html_name}
-use Rattle.h5_stack.specs.Order.{first_or, is_in}
-use Rattle.h5_fits.specs.NamesFit.{is_html_element}
+use Rattle.h5_meaning.specs.FormattingList.{Entry, closed_front, nodes_of}
+use Rattle.h5_meaning.specs.FormattingNames.{html_name}
+use Rattle.h5_meaning.specs.Order.{first_or, is_in}
+use Rattle.h5_meaning.specs.NamesFit.{is_html_element}
 use Rattle.h5_meaning.specs.Place.{LastChild, appropriate_place, foster_place, from_foster_parent, place}
-use Rattle.h5_stack.specs.Scope.{has_template}
+use Rattle.h5_meaning.specs.Scope.{has_template}
 use Rattle.h5_meaning.specs.Changes.{owned}
 use Rattle.h5_meaning.specs.FormOwner.{associates, form_owner, may_have_owner}
 use Rattle.h5_meaning.specs.World.{World, current, name_in, name_of_found, name_of_kind, names_of, root}

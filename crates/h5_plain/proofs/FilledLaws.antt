@@ -8,7 +8,7 @@ use Rattle.h5_interface.specs.SinkChoices.{SinkChoices}
 use Rattle.h5_interface.proofs.ForestLaws.{there_alike}
 use Rattle.h5_meaning.specs.Place.{LastChild}
 use Rattle.h5_meaning.proofs.PlaceLaws.{text_put_rearranges}
-use Rattle.h5_stack.specs.FormattingNames.{html_name}
+use Rattle.h5_meaning.specs.FormattingNames.{html_name}
 use Rattle.h5_plain.specs.Plain.{ElementThen, End, Nodes, TextThen}
 use Rattle.h5_plain.specs.Rebuilding.{Looks, Stands}
 use Rattle.h5_plain.proofs.GrowthLaws.{Below, Rooted, html, kinds_apart, with_element}

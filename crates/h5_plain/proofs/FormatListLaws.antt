@@ -3,9 +3,9 @@ use Rattle.std.proofs.Common.{◌≡◌, ℕ, ◌==◌, Bool, true, false, ◌||
 use Rattle.std.proofs.lemmas.Bool.{eqb-true}
 use Rattle.h5_names.specs.AttributeText.{AttributeText, is_same_text}
 use Rattle.h5_token.specs.TokenText.{TagText}
-use Rattle.h5_stack.specs.Adoption.{newest_named}
-use Rattle.h5_stack.specs.FormattingList.{ElementEntry, Entry, MarkerEntry, count_alike, is_alike, nodes_of, push_formatting, without_earliest}
-use Rattle.h5_stack.specs.Order.{is_in}
+use Rattle.h5_meaning.specs.Adoption.{newest_named}
+use Rattle.h5_meaning.specs.FormattingList.{ElementEntry, Entry, MarkerEntry, count_alike, is_alike, nodes_of, push_formatting, without_earliest}
+use Rattle.h5_meaning.specs.Order.{is_in}
 use Rattle.h5_plain.proofs.ListedLaws.{AtMarker, Bottom, Entries, Fewer, IsBase, Kept, Lost, NoEntry, OpenFormat, Formats, has_link}
 use Rattle.h5_plain.proofs.RuleLaws.{start}
 

@@ -4,7 +4,7 @@ use Rattle.h5_names.specs.AttributeText.{AttributeText, is_same_text}
 use Rattle.h5_tag_sets.specs.TagSets.{block_end_names, block_start_names, cell_names, formatting_names, heading_names, html_namespace, is_html_named, is_one_of, void_names}
 use Rattle.h5_types.specs.TurnText.{TagTurn}
 use Rattle.h5_types.specs.declared.modes.InsertionMode.TheVariants.{InBody}
-use Rattle.h5_stack.specs.FormattingNames.{html_name}
+use Rattle.h5_meaning.specs.FormattingNames.{html_name}
 use Rattle.h5_meaning.specs.InBody.{description_names, in_body_end, in_body_end_formatting, in_body_preformatted, in_body_start, in_body_start_a, in_body_start_formatting, in_body_tag, list_item_names}
 use Rattle.h5_meaning.specs.InCell.{in_cell_closing_ends, in_cell_ignored_ends}
 use Rattle.h5_meaning.specs.Modes.{rule}

@@ -8,11 +8,11 @@ use Rattle.h5_token.specs.TokenText.{TagText}
 use Rattle.h5_interface.specs.Changes.{mark}
 use Rattle.h5_interface.specs.SinkChoices.{SinkChoices}
 use Rattle.h5_tag_sets.specs.TagSets.{is_default_scope, is_html_named, is_special}
-use Rattle.h5_stack.specs.Adoption.{FormattingElement, furthest_block, newer_than, newest_named, older_than}
-use Rattle.h5_stack.specs.FormattingList.{ElementEntry, Entry, nodes_of, push_formatting, without_entry}
-use Rattle.h5_stack.specs.FormattingNames.{html_name}
-use Rattle.h5_stack.specs.Order.{but_first, first_or, is_in}
-use Rattle.h5_stack.specs.Scope.{first_passes}
+use Rattle.h5_meaning.specs.Adoption.{FormattingElement, furthest_block, newer_than, newest_named, older_than}
+use Rattle.h5_meaning.specs.FormattingList.{ElementEntry, Entry, nodes_of, push_formatting, without_entry}
+use Rattle.h5_meaning.specs.FormattingNames.{html_name}
+use Rattle.h5_meaning.specs.Order.{but_first, first_or, is_in}
+use Rattle.h5_meaning.specs.Scope.{first_passes}
 use Rattle.h5_meaning.specs.AdoptionAgency.{adopt_at, adopt_by, adopt_within, adoption_agency, close_misnested_a, closes_current, closes_one, handle_misnested_a_tags, is_current_unlisted, is_formatting_element}
 use Rattle.h5_meaning.specs.Changes.{pop}
 use Rattle.h5_meaning.specs.Formatting.{create_formatting_element, reconstruct_active_formatting_elements}

@@ -10,7 +10,7 @@ use Rattle.h5_types.specs.TurnText.{EofTurn, TagTurn, TextTurn, TurnText, is_sel
 use Rattle.h5_types.specs.declared.modes.InsertionMode.{InsertionMode}
 use Rattle.h5_types.specs.declared.modes.InsertionMode.TheVariants.{Text}
 use Rattle.h5_types.specs.declared.modes.SplitStatus.TheVariants.{NotSplit}
-use Rattle.h5_stack.specs.FormattingList.{closed_front}
+use Rattle.h5_meaning.specs.FormattingList.{closed_front}
 use Rattle.h5_meaning.specs.ByName.{by_kind}
 use Rattle.h5_meaning.specs.Changes.{append_text, set_frameset_ok_by_text}
 use Rattle.h5_meaning.specs.Foreign.{is_foreign}

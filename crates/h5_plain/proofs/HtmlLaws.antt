@@ -5,10 +5,10 @@ use Rattle.h5_interface.specs.Forest.{ElementNode, kind_of}
 use Rattle.h5_interface.specs.SinkChoices.{SinkChoices}
 use Rattle.h5_tag_sets.specs.TagSets.{html_namespace}
 use Rattle.h5_types.specs.TurnText.{TurnText}
-use Rattle.h5_stack.specs.FormattingNames.{html_name}
-use Rattle.h5_stack.specs.Order.{first_or}
-use Rattle.h5_stack.specs.Scope.{first_passes}
-use Rattle.h5_fits.specs.NamesFit.{is_html_element}
+use Rattle.h5_meaning.specs.FormattingNames.{html_name}
+use Rattle.h5_meaning.specs.Order.{first_or}
+use Rattle.h5_meaning.specs.Scope.{first_passes}
+use Rattle.h5_meaning.specs.NamesFit.{is_html_element}
 use Rattle.h5_meaning.specs.Foreign.{adjusted_current_node, adjusted_of, is_foreign}
 use Rattle.h5_meaning.specs.Run.{taken}
 use Rattle.h5_meaning.specs.World.{World, current, name_in, name_of_found, names_of}

@@ -1,11 +1,11 @@
 -- The rules that the tags of lists and their items follow in the body, and what their names are.
 use Rattle.std.proofs.Common.{◌≡◌, ℕ, true, false, List, codes, refl}
 use Rattle.h5_names.specs.AttributeText.{AttributeText}
-use Rattle.h5_fits.specs.Roles.{PlainRole, role_of, role_of_local}
+use Rattle.h5_meaning.specs.Roles.{PlainRole, role_of, role_of_local}
 use Rattle.h5_tag_sets.specs.TagSets.{block_end_names, block_start_names, button_scope_names, cell_names, heading_names, html_namespace, implied_names, is_button_scope, is_default_scope, is_html_named, is_implied, is_one_of, is_special, mathml_namespace, scope_names, special_names, svg_namespace, void_names}
 use Rattle.h5_types.specs.TurnText.{TagTurn}
 use Rattle.h5_types.specs.declared.modes.InsertionMode.TheVariants.{InBody}
-use Rattle.h5_stack.specs.FormattingNames.{html_name}
+use Rattle.h5_meaning.specs.FormattingNames.{html_name}
 use Rattle.h5_meaning.specs.Closing.{ends_item_search, is_html_among, passed_names}
 use Rattle.h5_meaning.specs.InBody.{in_body_end, in_body_end_block, in_body_end_li, in_body_preformatted, in_body_start, in_body_start_block, in_body_start_item, in_body_tag, list_item_names}
 use Rattle.h5_meaning.specs.InCell.{in_cell_closing_ends, in_cell_ignored_ends}

@@ -5,9 +5,9 @@ use Rattle.h5_names.specs.declared.qualified.QualName.{QualName}
 use Rattle.h5_interface.specs.Forest.{IsForest}
 use Rattle.h5_interface.specs.SinkChoices.{SinkChoices}
 use Rattle.h5_tag_sets.specs.TagSets.{html_namespace, implied_names, is_default_scope, is_html_named, is_implied, is_list_item_scope}
-use Rattle.h5_stack.specs.FormattingList.{Entry}
-use Rattle.h5_stack.specs.FormattingNames.{html_name}
-use Rattle.h5_stack.specs.Scope.{first_passes, has_p_in_button_scope, in_scope, is_implied_but}
+use Rattle.h5_meaning.specs.FormattingList.{Entry}
+use Rattle.h5_meaning.specs.FormattingNames.{html_name}
+use Rattle.h5_meaning.specs.Scope.{first_passes, has_p_in_button_scope, in_scope, is_implied_but}
 use Rattle.h5_meaning.specs.Changes.{insert_element, pop_until_named, set_frameset_not_ok}
 use Rattle.h5_meaning.specs.Closing.{close_item, close_list_item, close_p_element_in_button_scope, newest_item}
 use Rattle.h5_meaning.specs.InBody.{in_body_end_block, in_body_end_li, list_item_names}

@@ -2,8 +2,8 @@
 use Rattle.std.proofs.Common.{◌≡◌, ℕ, ◌==◌, Bool, true, false, ◌||◌, cond, List, [], ◌∷◌, ◌++◌, codes, refl, ap}
 use Rattle.std.proofs.lemmas.Bool.{eq-eqb}
 use Rattle.h5_names.specs.AttributeText.{AttributeText, is_same_text}
-use Rattle.h5_stack.specs.FormattingList.{ElementEntry, Entry, MarkerEntry, closed_front, nodes_of}
-use Rattle.h5_stack.specs.Order.{is_in}
+use Rattle.h5_meaning.specs.FormattingList.{ElementEntry, Entry, MarkerEntry, closed_front, nodes_of}
+use Rattle.h5_meaning.specs.Order.{is_in}
 use Rattle.h5_plain.proofs.RuleLaws.{start}
 
 -- below the open formatting elements of a block the list is empty, or begins with a marker

@@ -3,14 +3,14 @@ use Rattle.std.proofs.Common.{◌≡◌, ◌∙◌, ℕ, Bool, true, false, List
 use Rattle.h5_names.specs.AttributeText.{AttributeText}
 use Rattle.h5_names.specs.declared.qualified.QualName.{QualName}
 use Rattle.h5_interface.specs.SinkChoices.{SinkChoices}
-use Rattle.h5_fits.specs.Fits.{Situation}
-use Rattle.h5_fits.specs.Reset.{decide, reset}
-use Rattle.h5_fits.specs.Roles.{CellRole, PlainRole, role_of, roles}
+use Rattle.h5_meaning.specs.Fits.{Situation}
+use Rattle.h5_meaning.specs.ResetByRoles.{decide, reset}
+use Rattle.h5_meaning.specs.Roles.{CellRole, PlainRole, role_of, roles}
 use Rattle.h5_tag_sets.specs.TagSets.{cell_names, is_one_of}
 use Rattle.h5_types.specs.TurnText.{TagTurn}
 use Rattle.h5_types.specs.declared.modes.InsertionMode.{InsertionMode}
 use Rattle.h5_types.specs.declared.modes.InsertionMode.TheVariants.{InBody, InCell}
-use Rattle.h5_stack.specs.Scope.{first_passes}
+use Rattle.h5_meaning.specs.Scope.{first_passes}
 use Rattle.h5_meaning.specs.InCell.{in_cell_closing_ends, in_cell_end, in_cell_end_cell, in_cell_end_structure, in_cell_ignored_ends, in_cell_start, in_cell_start_structure, in_cell_tag}
 use Rattle.h5_meaning.specs.InBody.{in_body}
 use Rattle.h5_meaning.specs.Modes.{rule}

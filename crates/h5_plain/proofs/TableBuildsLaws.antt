@@ -7,9 +7,9 @@ use Rattle.h5_interface.specs.SinkChoices.{SinkChoices}
 use Rattle.h5_types.specs.declared.modes.InsertionMode.{InsertionMode}
 use Rattle.h5_types.specs.declared.modes.InsertionMode.TheVariants.{InCell, InRow}
 use Rattle.h5_tag_sets.specs.TagSets.{is_table_row_context}
-use Rattle.h5_stack.specs.FormattingList.{Entry, MarkerEntry, clear_to_marker}
-use Rattle.h5_stack.specs.FormattingNames.{html_name}
-use Rattle.h5_stack.specs.Scope.{first_passes}
+use Rattle.h5_meaning.specs.FormattingList.{Entry, MarkerEntry, clear_to_marker}
+use Rattle.h5_meaning.specs.FormattingNames.{html_name}
+use Rattle.h5_meaning.specs.Scope.{first_passes}
 use Rattle.h5_meaning.specs.World.{World, names_of}
 use Rattle.h5_plain.specs.Plain.{ElementThen, Nodes, end_tag, start_tag}
 use Rattle.h5_plain.proofs.BodyRuleLaws.{IsHolder}

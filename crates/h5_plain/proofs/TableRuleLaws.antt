@@ -1,11 +1,11 @@
 -- The rules that the tags of tables follow, each in its mode, and what their names are.
 use Rattle.std.proofs.Common.{◌≡◌, ℕ, true, false, List, [], ◌∷◌, codes, refl}
 use Rattle.h5_names.specs.AttributeText.{AttributeText}
-use Rattle.h5_fits.specs.Roles.{CellRole, role_of, role_of_local}
+use Rattle.h5_meaning.specs.Roles.{CellRole, role_of, role_of_local}
 use Rattle.h5_tag_sets.specs.TagSets.{button_scope_names, cell_names, formatting_names, block_start_names, heading_names, html_namespace, implied_names, is_button_scope, is_default_scope, is_heading, is_html_named, is_implied, is_one_of, is_table_body_context, is_table_row_context, is_table_scope, mathml_namespace, scope_names, svg_namespace, void_names}
 use Rattle.h5_types.specs.TurnText.{TagTurn}
 use Rattle.h5_types.specs.declared.modes.InsertionMode.TheVariants.{InBody, InCell, InRow, InTable, InTableBody}
-use Rattle.h5_stack.specs.FormattingNames.{html_name}
+use Rattle.h5_meaning.specs.FormattingNames.{html_name}
 use Rattle.h5_meaning.specs.InBody.{description_names, in_body_marked, in_body_preformatted, in_body_start, in_body_start_table, in_body_tag, list_item_names}
 use Rattle.h5_meaning.specs.InCell.{in_cell_end, in_cell_end_cell, in_cell_tag}
 use Rattle.h5_meaning.specs.InRow.{close_the_row, in_row_end, in_row_start, in_row_tag}

@@ -10,10 +10,10 @@ use Rattle.h5_tag_sets.specs.TagSets.{html_namespace, is_html_named, is_implied,
 use Rattle.h5_types.specs.TurnText.{TagTurn}
 use Rattle.h5_types.specs.declared.modes.InsertionMode.{InsertionMode}
 use Rattle.h5_types.specs.declared.modes.InsertionMode.TheVariants.{InCell, InRow, InTable, InTableBody}
-use Rattle.h5_stack.specs.FormattingList.{Entry, MarkerEntry, clear_to_marker}
-use Rattle.h5_stack.specs.FormattingNames.{html_name}
-use Rattle.h5_stack.specs.Order.{but_first}
-use Rattle.h5_stack.specs.Scope.{cut_above, first_passes, has_p_in_button_scope, in_scope, later_names}
+use Rattle.h5_meaning.specs.FormattingList.{Entry, MarkerEntry, clear_to_marker}
+use Rattle.h5_meaning.specs.FormattingNames.{html_name}
+use Rattle.h5_meaning.specs.Order.{but_first}
+use Rattle.h5_meaning.specs.Scope.{cut_above, first_passes, has_p_in_button_scope, in_scope, later_names}
 use Rattle.h5_meaning.specs.Changes.{insert_element, pop, pop_until_current, pop_until_named, set_frameset_not_ok, set_mode}
 use Rattle.h5_meaning.specs.Formatting.{clear_active_formatting_to_marker, insert_marker}
 use Rattle.h5_meaning.specs.InBody.{in_body_start_table, is_quirks}

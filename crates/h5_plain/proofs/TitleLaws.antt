@@ -8,7 +8,7 @@ use Rattle.h5_interface.specs.SinkChoices.{SinkChoices}
 use Rattle.h5_interface.specs.declared.marks.QuirksMode.TheVariants.{NoQuirks}
 use Rattle.h5_tag_sets.specs.TagSets.{void_names}
 use Rattle.h5_types.specs.declared.modes.InsertionMode.TheVariants.{InHead, InTable, Text}
-use Rattle.h5_stack.specs.Order.{but_first, first_or}
+use Rattle.h5_meaning.specs.Order.{but_first, first_or}
 use Rattle.h5_meaning.specs.Changes.{append_text, insert_element, pop, save_mode, set_mode, with_forest}
 use Rattle.h5_meaning.specs.Place.{LastChild, place, put}
 use Rattle.h5_meaning.specs.Rows.{InsertElement, IsDone, Pop, SaveMode, SetMode, row}

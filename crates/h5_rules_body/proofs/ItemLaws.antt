@@ -4,7 +4,7 @@ use Rattle.std.specs.Prelude.{is_none}
 use Rattle.h5_names.specs.declared.qualified.QualName.{QualName}
 use Rattle.h5_interface.specs.SinkChoices.{SinkChoices}
 use Rattle.h5_tag_sets.specs.TagSets.{implied_names, is_html_named, is_implied, is_one_of}
-use Rattle.h5_stack.specs.Scope.{first_passes, is_implied_but}
+use Rattle.h5_meaning.specs.Scope.{first_passes, is_implied_but}
 use Rattle.h5_meaning.specs.Changes.{generate_implied_end_except}
 use Rattle.h5_meaning.specs.Closing.{close_item, close_list_item, generate_implied_end, newest_item}
 use Rattle.h5_meaning.specs.InBody.{in_body_marked}

@@ -1,7 +1,7 @@
 //! Blocks, paragraphs and headings in the body (HTML standard, section 13.2.6.4.7).
 ghost use Rattle.std.specs.Prelude.{◌≡◌, false, true};
 ghost use Rattle.h5_tag_sets.specs.TagSets.{block_end_names, heading_names, is_heading, is_one_of};
-ghost use Rattle.h5_stack.specs.Scope.{first_passes};
+ghost use Rattle.h5_meaning.specs.Scope.{first_passes};
 ghost use Rattle.h5_meaning.specs.InBody.{in_body_end_block, in_body_end_heading, in_body_end_p, in_body_start_block, in_body_start_heading, in_body_start_preformatted};
 ghost use Rattle.h5_meaning.specs.World.{names_of};
 ghost use Rattle.h5_state.specs.Steps.{IsSound, TellsErrors, errors_of, world_of};

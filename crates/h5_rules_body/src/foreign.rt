@@ -5,9 +5,9 @@ ghost use Rattle.h5_state.specs.Steps.{IsSound};
 ghost use Rattle.h5_state.specs.Turn.{TakesTag};
 
 use h5_foreign::insert_foreign_for;
-use h5_formatting::reconstruct_active_formatting_elements;
 use h5_interface::TreeSink;
 use h5_names::{Namespace, namespaces};
+use h5_rules_shared::reconstruct_active_formatting_elements;
 use h5_state::{State, Turn};
 use h5_token::Tag;
 

@@ -2,7 +2,7 @@
 ghost use Rattle.std.specs.Prelude.{◌≡◌, [], ◌∷◌, false, true, OnOk, IsTrue, codes};
 ghost use Rattle.h5_names.specs.AttributeText.{attribute_texts};
 ghost use Rattle.h5_tag_sets.specs.TagSets.{formatting_names, is_default_scope, is_html_named, is_one_of};
-ghost use Rattle.h5_stack.specs.Scope.{in_scope};
+ghost use Rattle.h5_meaning.specs.Scope.{in_scope};
 ghost use Rattle.h5_meaning.specs.AdoptionAgency.{closes_one, handle_misnested_nobr_tags, is_named_listed};
 ghost use Rattle.h5_meaning.specs.InBody.{in_body_end_br, in_body_end_formatting, in_body_start_a, in_body_start_formatting, in_body_start_nobr, in_body_start_void};
 ghost use Rattle.h5_meaning.specs.Rows.{InsertAndPopElement, ReconstructActiveFormattingElements, SetFramesetNotOk, apply_all};
@@ -12,9 +12,9 @@ ghost use Rattle.h5_state.specs.Steps.{IsSound, TellsErrors, errors_of, world_of
 ghost use Rattle.h5_state.specs.Turn.{TakesTag};
 
 use h5_adoption::{adoption_agency, closes_one, handle_misnested_a_tags, is_named_listed};
-use h5_formatting::{create_formatting_element, reconstruct_active_formatting_elements};
 use h5_interface::TreeSink;
 use h5_names::{Attribute, KnownName, LocalName};
+use h5_rules_shared::{create_formatting_element, reconstruct_active_formatting_elements};
 use h5_state::{
     State, Turn, in_scope_named, insert_and_pop_element, set_frameset_not_ok, tell_error,
     unexpected_tag,

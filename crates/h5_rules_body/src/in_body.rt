@@ -23,7 +23,6 @@ use super::names::{
     is_ruby_base, is_ruby_text, is_void,
 };
 use super::ruby::{in_body_start_ruby_base, in_body_start_ruby_text};
-use h5_formatting::reconstruct_active_formatting_elements;
 use h5_interface::TreeSink;
 use h5_names::KnownName;
 use h5_rules_forms::{
@@ -31,7 +30,9 @@ use h5_rules_forms::{
     in_body_start_hr, in_body_start_image, in_body_start_input, in_body_start_optgroup,
     in_body_start_option, in_body_start_part, in_body_start_select,
 };
-use h5_rules_shared::{expect_to_close, in_body_start_html, in_body_text};
+use h5_rules_shared::{
+    expect_to_close, in_body_start_html, in_body_text, reconstruct_active_formatting_elements,
+};
 use h5_rules_text::{
     in_body_start_iframe, in_body_start_noembed, in_body_start_noscript, in_body_start_plaintext,
     in_body_start_textarea, in_body_start_xmp, in_head_end_template, in_head_start_tag,

@@ -1,7 +1,7 @@
 //! Items of lists in the body (HTML standard, section 13.2.6.4.7).
 ghost use Rattle.std.specs.Prelude.{◌≡◌, [], ◌∷◌, true, length};
 ghost use Rattle.h5_tag_sets.specs.TagSets.{is_html_named};
-ghost use Rattle.h5_stack.specs.Scope.{cut_through};
+ghost use Rattle.h5_meaning.specs.Scope.{cut_through};
 ghost use Rattle.h5_meaning.specs.InBody.{in_body_end_description, in_body_end_li, in_body_start_item};
 ghost use Rattle.h5_meaning.specs.Rows.{GenerateImpliedEndExcept, PopUntilNamed, apply_all};
 ghost use Rattle.h5_meaning.specs.Shared.{current_is};

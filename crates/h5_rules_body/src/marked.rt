@@ -2,7 +2,7 @@
 //! "marquee" and "object").
 ghost use Rattle.std.specs.Prelude.{◌≡◌, [], ◌∷◌, true, length};
 ghost use Rattle.h5_tag_sets.specs.TagSets.{is_html_named, is_one_of};
-ghost use Rattle.h5_stack.specs.Scope.{cut_through};
+ghost use Rattle.h5_meaning.specs.Scope.{cut_through};
 ghost use Rattle.h5_meaning.specs.InBody.{in_body_end_marked, in_body_marked, in_body_start_marked};
 ghost use Rattle.h5_meaning.specs.Rows.{ClearActiveFormattingToMarker, GenerateImpliedEnd, PopUntilNamed, apply_all};
 ghost use Rattle.h5_meaning.specs.Shared.{current_is};
@@ -10,12 +10,12 @@ ghost use Rattle.h5_meaning.specs.World.{names_of};
 ghost use Rattle.h5_state.specs.Steps.{IsSound, errors_of, world_of};
 ghost use Rattle.h5_state.specs.Turn.{TakesTag};
 
-use h5_formatting::{
-    clear_active_formatting_to_marker, insert_marker, reconstruct_active_formatting_elements,
-};
 use h5_interface::TreeSink;
 use h5_names::LocalName;
-use h5_rules_shared::expect_to_close;
+use h5_rules_shared::{
+    clear_active_formatting_to_marker, expect_to_close, insert_marker,
+    reconstruct_active_formatting_elements,
+};
 use h5_state::{
     State, Turn, find_in_default_scope, generate_implied_end, insert_element, is_current_html,
     pop_until_named, set_frameset_not_ok, unexpected_tag,

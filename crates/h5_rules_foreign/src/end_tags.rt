@@ -2,7 +2,7 @@
 ghost use Rattle.std.specs.Prelude.{◌≡◌, true};
 ghost use Rattle.h5_token.specs.TokenText.{tag_text};
 ghost use Rattle.h5_types.specs.TurnText.{TagTurn};
-ghost use Rattle.h5_stack.specs.Scope.{first_passes};
+ghost use Rattle.h5_meaning.specs.Scope.{first_passes};
 ghost use Rattle.h5_meaning.specs.Foreign.{is_named_in_any_case};
 ghost use Rattle.h5_meaning.specs.ForeignContent.{foreign_end, foreign_end_by, search_end};
 ghost use Rattle.h5_meaning.specs.World.{names_of};

@@ -5,11 +5,11 @@ use Rattle.h5_names.specs.declared.qualified.QualName.{QualName}
 use Rattle.h5_interface.specs.Forest.{ElementNode, IsElement, kind_of}
 use Rattle.h5_interface.specs.SinkChoices.{SinkChoices}
 use Rattle.h5_tag_sets.specs.TagSets.{html_namespace, implied_names, is_default_scope, is_html_named, is_implied, is_one_of}
-use Rattle.h5_stack.specs.FormattingNames.{html_name}
-use Rattle.h5_stack.specs.Order.{IsIn, last_or}
-use Rattle.h5_stack.specs.Scope.{is_implied_but, node_in_scope}
-use Rattle.h5_fits.specs.Root.{IsRootOpen}
-use Rattle.h5_fits.proofs.OpenLaws.{open_while}
+use Rattle.h5_meaning.specs.FormattingNames.{html_name}
+use Rattle.h5_meaning.specs.Order.{IsIn, last_or}
+use Rattle.h5_meaning.specs.Scope.{is_implied_but, node_in_scope}
+use Rattle.h5_meaning.specs.Root.{IsRootOpen}
+use Rattle.h5_meaning.proofs.OpenLaws.{open_while}
 use Rattle.h5_meaning.specs.Changes.{clear_form, generate_implied_end_except, pop, pop_until_named}
 use Rattle.h5_meaning.specs.Closing.{generate_implied_end}
 use Rattle.h5_meaning.specs.InBody.{close_the_form, form_in_scope}

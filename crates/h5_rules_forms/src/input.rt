@@ -8,10 +8,9 @@ ghost use Rattle.h5_state.specs.Steps.{IsSound, TellsErrors, errors_of, world_of
 ghost use Rattle.h5_state.specs.Turn.{TakesTag};
 
 use super::select::is_option_in_scope;
-use h5_formatting::reconstruct_active_formatting_elements;
 use h5_interface::TreeSink;
 use h5_names::{KnownName, LocalName};
-use h5_rules_shared::{expect_to_close, is_type_hidden};
+use h5_rules_shared::{expect_to_close, is_type_hidden, reconstruct_active_formatting_elements};
 use h5_state::{
     State, Turn, close_p_element_in_button_scope, find_in_default_scope,
     generate_implied_end_in_select, in_scope_named, insert_and_pop_element, pop_until_named,

@@ -1,6 +1,6 @@
 -- What "after head" tells of the open elements.
 use Rattle.h5_types.specs.declared.modes.InsertionMode.TheVariants.{AfterHead}
-use Rattle.h5_fits.specs.NamesFit.{NamesFit}
+use Rattle.h5_meaning.specs.NamesFit.{NamesFit}
 use Rattle.h5_meaning.specs.Sound.{situation_of}
 use Rattle.h5_meaning.specs.World.{World, names_of}
 

@@ -5,7 +5,7 @@ use Rattle.h5_names.specs.AttributeText.{is_same_text}
 use Rattle.h5_names.specs.KnownNames.{name_text}
 use Rattle.h5_names.specs.declared.known_name.KnownName.{KnownName}
 use Rattle.h5_tag_sets.specs.TagSets.{is_one_of}
-use Rattle.h5_fits.proofs.SetLaws.{same_tests}
+use Rattle.h5_meaning.proofs.SetLaws.{same_tests}
 use Rattle.std.proofs.lemmas.Slice.Eq.{bytes_eq-Decides}
 
 turned : (x y : List ℕ) → is_same_text x y ≡ true → is_same_text y x ≡ true

@@ -6,7 +6,7 @@ use Rattle.std.specs.Bool.{Decides}
 use Rattle.std.specs.Str.{str_eq_ignore_ascii_case, str_to_ascii_lowercase}
 use Rattle.h5_names.specs.AttributeText.{attribute_text, attribute_texts}
 use Rattle.h5_names.specs.declared.qualified.Attribute.{Attribute}
-use Rattle.h5_fits.proofs.SetLaws.{same_tests}
+use Rattle.h5_meaning.proofs.SetLaws.{same_tests}
 use Rattle.h5_meaning.specs.Shared.{is_type, is_type_hidden}
 
 -- the first of what is left decides, where it is one

@@ -1,2 +1,4 @@
 pub mod AnyOfLaws
 pub mod HiddenLaws
+pub mod ListLaws
+pub mod RenewLaws

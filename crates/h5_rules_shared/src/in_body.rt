@@ -5,7 +5,7 @@ ghost use Rattle.h5_meaning.specs.Shared.{in_body_start_html, in_body_text};
 ghost use Rattle.h5_state.specs.Steps.{IsOpen, IsSound, TellsErrors, errors_of};
 ghost use Rattle.h5_state.specs.Turn.{TakesTag, Turns};
 
-use h5_formatting::reconstruct_active_formatting_elements;
+use super::reconstruct::reconstruct_active_formatting_elements;
 use h5_interface::TreeSink;
 use h5_state::{
     State, Turn, add_attrs_to_html, append_text, has_open_template, set_frameset_ok_by_text,

@@ -2,9 +2,9 @@
 use Rattle.std.proofs.Common.{◌≡◌, ◌<◌, Bool, true, false, List, [], ◌∷◌, length, codes, refl, sym, subst, cond, arith}
 use Rattle.h5_names.specs.declared.qualified.QualName.{QualName}
 use Rattle.h5_tag_sets.specs.TagSets.{is_html_named, is_table_body_context, is_table_row_context, table_body_context_names, table_row_context_names}
-use Rattle.h5_stack.specs.Scope.{down_names}
-use Rattle.h5_fits.specs.Root.{IsRootOpen}
-use Rattle.h5_fits.proofs.SetLaws.{in_set}
+use Rattle.h5_meaning.specs.Scope.{down_names}
+use Rattle.h5_meaning.specs.Root.{IsRootOpen}
+use Rattle.h5_meaning.proofs.SetLaws.{in_set}
 use Rattle.h5_meaning.specs.Changes.{pop_until_current}
 use Rattle.h5_meaning.specs.Sound.{IsReady}
 use Rattle.h5_meaning.specs.World.{World, names_of}

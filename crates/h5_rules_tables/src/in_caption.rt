@@ -2,7 +2,7 @@
 ghost use Rattle.std.specs.Prelude.{◌≡◌, [], ◌∷◌, true, codes, length};
 ghost use Rattle.h5_types.specs.TurnText.{HasText, turn_text};
 ghost use Rattle.h5_tag_sets.specs.TagSets.{is_html_named, is_one_of};
-ghost use Rattle.h5_stack.specs.Scope.{cut_through};
+ghost use Rattle.h5_meaning.specs.Scope.{cut_through};
 ghost use Rattle.h5_meaning.specs.ByName.{by_name, of_tag};
 ghost use Rattle.h5_meaning.specs.InBody.{in_body};
 ghost use Rattle.h5_meaning.specs.Shared.{current_is};
@@ -13,11 +13,12 @@ ghost use Rattle.h5_meaning.specs.World.{names_of};
 ghost use Rattle.h5_state.specs.Steps.{IsSound, errors_of, world_of};
 ghost use Rattle.h5_state.specs.Turn.{TakesTag, TakesToken};
 
-use h5_formatting::clear_active_formatting_to_marker;
 use h5_interface::TreeSink;
 use h5_names::{KnownName, LocalName};
 use h5_rules_body::{in_body_tag, step_in_body};
-use h5_rules_shared::{expect_to_close, is_any_of, is_table_structure};
+use h5_rules_shared::{
+    clear_active_formatting_to_marker, expect_to_close, is_any_of, is_table_structure,
+};
 use h5_state::{
     Known, State, Turn, find_in_table_scope, generate_implied_end, is_current_html,
     pop_until_named, set_mode, unexpected_tag,

@@ -11,10 +11,9 @@ ghost use Rattle.h5_state.specs.Turn.{TakesTag, TakesToken};
 
 use super::in_table::{in_table_tag, step_in_table};
 use super::parts::{clear_to_table_row_context, has_in_table_scope, is_section};
-use h5_formatting::insert_marker;
 use h5_interface::TreeSink;
 use h5_names::{KnownName, LocalName};
-use h5_rules_shared::is_any_of;
+use h5_rules_shared::{insert_marker, is_any_of};
 use h5_state::{Known, Local, State, Turn, insert_element, pop, set_mode, unexpected_tag};
 use h5_tag_sets::NameSet;
 use h5_token::{Tag, TagKind};

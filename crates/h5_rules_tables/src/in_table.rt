@@ -10,11 +10,10 @@ ghost use Rattle.h5_state.specs.Turn.{TakesTag, TakesToken};
 
 use super::foster::foster_parent_in_body;
 use super::parts::{clear_to_table_context, is_section};
-use h5_formatting::insert_marker;
 use h5_interface::TreeSink;
 use h5_names::{KnownName, LocalName};
 use h5_rules_body::step_in_body;
-use h5_rules_shared::{is_any_of, is_type_hidden};
+use h5_rules_shared::{insert_marker, is_any_of, is_type_hidden};
 use h5_rules_text::{in_head_end_template, in_head_start_tag, is_table_text};
 use h5_state::{
     Local, State, Turn, append_comment, find_in_table_scope, has_form, has_open_template,

@@ -5,9 +5,8 @@ ghost use Rattle.h5_state.specs.Steps.{IsSound};
 ghost use Rattle.h5_state.specs.Turn.{TakesTag};
 
 use super::raw_text::{parse_raw_data, to_raw_text_mode};
-use h5_formatting::reconstruct_active_formatting_elements;
 use h5_interface::TreeSink;
-use h5_rules_shared::expect_to_close;
+use h5_rules_shared::{expect_to_close, reconstruct_active_formatting_elements};
 use h5_state::{
     State, Turn, close_p_element_in_button_scope, insert_element, is_scripting,
     set_frameset_not_ok, set_ignore_lf,

@@ -6,10 +6,9 @@ ghost use Rattle.h5_meaning.specs.Rows.{ClearActiveFormattingToMarker, PopTempla
 ghost use Rattle.h5_state.specs.Steps.{IsSound, world_of};
 ghost use Rattle.h5_state.specs.Turn.{TakesTag, TakesToken};
 
-use h5_formatting::{clear_active_formatting_to_marker, insert_marker};
 use h5_interface::TreeSink;
 use h5_names::{KnownName, LocalName};
-use h5_rules_shared::expect_to_close;
+use h5_rules_shared::{clear_active_formatting_to_marker, expect_to_close, insert_marker};
 use h5_state::{
     State, Turn, find_named, has_open_template, is_current_html, pop_until_named,
     reset_insertion_mode, set_frameset_not_ok, set_mode, tell_error, unexpected_tag,

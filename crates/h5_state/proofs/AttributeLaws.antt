@@ -7,7 +7,7 @@ use Rattle.h5_interface.specs.Forest.{IsForest}
 use Rattle.h5_interface.specs.Seen.{Seen, changed}
 use Rattle.h5_interface.specs.SinkChoices.{Rearranges}
 use Rattle.h5_interface.proofs.MakingLaws.{add_missing_rearranges}
-use Rattle.h5_stack.specs.Order.{last_or, second_from_last}
+use Rattle.h5_meaning.specs.Order.{last_or, second_from_last}
 use Rattle.h5_meaning.proofs.SoundLaws.{rearranged_or_not}
 use Rattle.h5_state.proofs.StackLaws.{last_or-append}
 

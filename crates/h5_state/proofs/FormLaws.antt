@@ -2,12 +2,12 @@
 use Rattle.std.proofs.Common.{◌≡◌, ℕ, Bool, true, false, cond, codes, List, None, Option, Some, refl, ap, subst, sym}
 use Rattle.h5_names.specs.AttributeText.{AttributeText, is_same_text}
 use Rattle.std.proofs.lemmas.Slice.Eq.{bytes_eq-Decides}
-use Rattle.h5_fits.proofs.SetLaws.{same_tests}
+use Rattle.h5_meaning.proofs.SetLaws.{same_tests}
 use Rattle.h5_interface.specs.Forest.{ElementNode}
 use Rattle.h5_interface.specs.SinkChoices.{SinkChoices}
 use Rattle.h5_interface.proofs.ForestLaws.{node_of_kind}
-use Rattle.h5_stack.specs.FormattingNames.{html_name}
-use Rattle.h5_stack.specs.Scope.{has_template}
+use Rattle.h5_meaning.specs.FormattingNames.{html_name}
+use Rattle.h5_meaning.specs.Scope.{has_template}
 use Rattle.h5_meaning.specs.Changes.{insert_element, insert_form, owned}
 use Rattle.h5_meaning.specs.FormOwner.{form_associatable_names, form_owner}
 use Rattle.h5_meaning.specs.Place.{place}

@@ -4,7 +4,7 @@ use Rattle.h5_names.specs.AttributeText.{is_same_text}
 use Rattle.h5_names.specs.declared.qualified.QualName.{QualName}
 use Rattle.h5_interface.specs.Forest.{Forest}
 use Rattle.h5_tag_sets.specs.TagSets.{html_namespace, is_one_of, is_special, special_names}
-use Rattle.h5_stack.specs.Scope.{oldest_of, oldest_passing}
+use Rattle.h5_meaning.specs.Scope.{oldest_of, oldest_passing}
 use Rattle.h5_meaning.specs.Closing.{ends_item_search, is_html_among, newest_item, passed_names}
 use Rattle.h5_meaning.specs.InBody.{description_names, list_item_names}
 use Rattle.h5_meaning.specs.World.{name_in}

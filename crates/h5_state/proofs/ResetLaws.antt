@@ -1,8 +1,8 @@
 -- The walk of a reset of the insertion mode.
 use Rattle.std.proofs.Common.{◌≡◌, ◌<◌, ◌||◌, false, List, [], ◌∷◌, length, Some, None, refl, ap, arith}
-use Rattle.h5_fits.specs.Fits.{Situation}
-use Rattle.h5_fits.specs.Reset.{context_or, decide, decide_root, reset}
-use Rattle.h5_fits.specs.Roles.{BodyRole, CaptionRole, CellRole, ColgroupRole, FramesetRole, HeadRole, HtmlRole, PlainRole, Role, RowRole, SectionRole, TableRole, TemplateRole, is_cell_role, is_head}
+use Rattle.h5_meaning.specs.Fits.{Situation}
+use Rattle.h5_meaning.specs.ResetByRoles.{context_or, decide, decide_root, reset}
+use Rattle.h5_meaning.specs.Roles.{BodyRole, CaptionRole, CellRole, ColgroupRole, FramesetRole, HeadRole, HtmlRole, PlainRole, Role, RowRole, SectionRole, TableRole, TemplateRole, is_cell_role, is_head}
 use Rattle.h5_types.specs.declared.modes.InsertionMode.TheVariants.{InBody}
 
 -- at the root the others decide as elsewhere

@@ -4,12 +4,12 @@ use Rattle.std.specs.Prelude.{slice_get, unwrap_or}
 use Rattle.h5_names.specs.declared.qualified.QualName.{QualName}
 use Rattle.h5_tag_sets.specs.TagSets.{html_namespace, is_html_named}
 use Rattle.h5_interface.specs.NewElement.{is_html_template}
-use Rattle.h5_stack.specs.FormattingList.{Entry}
-use Rattle.h5_stack.specs.Order.{IsIn}
-use Rattle.h5_stack.specs.Scope.{second_is}
+use Rattle.h5_meaning.specs.FormattingList.{Entry}
+use Rattle.h5_meaning.specs.Order.{IsIn}
+use Rattle.h5_meaning.specs.Scope.{second_is}
 use Rattle.h5_meaning.specs.Place.{inside}
 use Rattle.h5_meaning.specs.World.{World, name_in, name_of_found}
-use Rattle.h5_stack.specs.Order.{first_or, last_or}
+use Rattle.h5_meaning.specs.Order.{first_or, last_or}
 use Rattle.std.proofs.lemmas.List.{length-map, length-reverse, map-append, reverse-append, take_more}
 use Rattle.h5_interface.specs.Changes.{mark}
 use Rattle.h5_interface.specs.Seen.{Seen, after_pop}

@@ -15,7 +15,7 @@ use Rattle.h5_interface.specs.Forest.{Forest}
 use Rattle.h5_interface.specs.Seen.{Seen, after_pop}
 use Rattle.h5_interface.specs.SinkChoices.{SinkChoices}
 use Rattle.h5_tag_sets.specs.TagSets.{html_namespace, is_html_named}
-use Rattle.h5_stack.specs.Scope.{later_names}
+use Rattle.h5_meaning.specs.Scope.{later_names}
 use Rattle.h5_meaning.specs.World.{World, name_in, names_of}
 use Rattle.h5_meaning.proofs.PopLaws.{names-pop}
 use Rattle.h5_state.specs.Summaries.{all_open, html_number, name_number, summaries, summary_of, text_number}

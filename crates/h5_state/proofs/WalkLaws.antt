@@ -3,8 +3,8 @@ use Rattle.std.proofs.Common.{ap, sym, subst, ◌∙◌, ◌≡◌, ◌+◌, ◌
 use Rattle.std.proofs.lemmas.List.{length-reverse, reverse-append, reverse-reverse, take-append-le, take-map, take_all}
 use Rattle.h5_names.specs.declared.qualified.QualName.{QualName}
 use Rattle.h5_interface.specs.Forest.{Forest}
-use Rattle.h5_stack.specs.Order.{but_first}
-use Rattle.h5_stack.specs.Scope.{cut_above, cut_through, in_scope}
+use Rattle.h5_meaning.specs.Order.{but_first}
+use Rattle.h5_meaning.specs.Scope.{cut_above, cut_through, in_scope}
 use Rattle.h5_meaning.specs.Place.{from_foster_parent, is_foster_parent}
 use Rattle.h5_meaning.specs.World.{name_in}
 use Rattle.h5_state.specs.View.{open_node, stack_under}

@@ -1,8 +1,8 @@
 -- The place of insertion, as the code has it, and where open elements stand: places of the stack are counted from the
 -- root.
 use Rattle.std.specs.Prelude.{◌≡◌, ℕ, length}
-use Rattle.h5_stack.specs.Adoption.{older_than}
-use Rattle.h5_stack.specs.Order.{IsIn}
+use Rattle.h5_meaning.specs.Adoption.{older_than}
+use Rattle.h5_meaning.specs.Order.{IsIn}
 use Rattle.h5_meaning.specs.Place.{LastChild, Place, TableFosterParenting}
 use Rattle.h5_meaning.specs.World.{World}
 use Rattle.h5_state.specs.declared.place.InsertionPoint.{InsertionPoint}

@@ -1,5 +1,5 @@
 -- The roles of names to a reset of the insertion mode, as the code has them.
-use Rattle.h5_fits.specs.Roles.{BodyRole, CaptionRole, CellRole, ColgroupRole, FramesetRole, HeadRole, HtmlRole, PlainRole, Role, RowRole, SectionRole, TableRole, TemplateRole}
+use Rattle.h5_meaning.specs.Roles.{BodyRole, CaptionRole, CellRole, ColgroupRole, FramesetRole, HeadRole, HtmlRole, PlainRole, Role, RowRole, SectionRole, TableRole, TemplateRole}
 use Rattle.h5_state.specs.declared.reset.Role.{Role as Kept}
 use Rattle.h5_state.specs.declared.reset.Role.TheVariants as kept
 

@@ -9,7 +9,7 @@ use Rattle.h5_names.specs.contracts.known_name.KnownName.{the_type}
 use Rattle.h5_names.specs.declared.known_name.KnownName.TheVariants.{Other}
 use Rattle.h5_names.specs.declared.qualified.QualName.{QualName}
 use Rattle.h5_tag_sets.specs.TagSets.{html_namespace, is_implied, is_special}
-use Rattle.h5_stack.specs.Scope.{has_body_in_scope, has_p_in_button_scope, has_template, has_unclosed}
+use Rattle.h5_meaning.specs.Scope.{has_body_in_scope, has_p_in_button_scope, has_template, has_unclosed}
 use Rattle.h5_state.specs.declared.open_element.AllOpen.{AllOpen}
 use Rattle.h5_state.specs.declared.open_element.Summary.{Summary}
 

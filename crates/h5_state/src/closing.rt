@@ -3,7 +3,7 @@
 ghost use Rattle.std.specs.Prelude.{◌≡◌, Bool, MatchOption, codes, false, if◌then◌else◌, is_some, length, true};
 ghost use Rattle.h5_names.specs.declared.qualified.QualName.{QualName as NameText};
 ghost use Rattle.h5_tag_sets.specs.TagSets.{is_default_scope, is_heading, is_html_named, is_implied};
-ghost use Rattle.h5_stack.specs.Scope.{cut_through, first_passes, has_p_in_button_scope, in_scope};
+ghost use Rattle.h5_meaning.specs.Scope.{cut_through, first_passes, has_p_in_button_scope, in_scope};
 ghost use Rattle.h5_meaning.specs.Changes.{generate_implied_end_except};
 ghost use Rattle.h5_meaning.specs.Rows.{ClosePElement, ClosePElementInButtonScope, GenerateImpliedEnd, GenerateImpliedEndInSelect, PopHeading, PopUntilHeading};
 ghost use Rattle.h5_meaning.specs.World.{names_of};

@@ -8,7 +8,7 @@ ghost use Rattle.h5_meaning.specs.Changes.{push_new, starts_marked};
 ghost use Rattle.h5_meaning.specs.FormOwner.{associates};
 ghost use Rattle.h5_meaning.specs.Place.{IsPlaceIn, LastChild, Place};
 ghost use Rattle.h5_meaning.specs.Rows.{AppendComment, AppendCommentToDoc, AppendCommentToHtml, AppendText, CreateRoot, InsertAndPopElement, InsertAndPopForm, InsertElement, InsertForm, InsertHead, InsertScript};
-ghost use Rattle.h5_stack.specs.FormattingNames.{html_name};
+ghost use Rattle.h5_meaning.specs.FormattingNames.{html_name};
 ghost use Rattle.h5_state.specs.Notices.{IsNodeIfTold, marking_of};
 ghost use Rattle.h5_state.specs.Places.{place_of};
 ghost use Rattle.h5_state.specs.Steps.{IsSound, MakesIfOk, errors_of, world_of};

@@ -4,7 +4,7 @@ ghost use Rattle.std.specs.Option.{option_map};
 ghost use Rattle.h5_names.specs.KnownNames.{name_text};
 ghost use Rattle.h5_interface.specs.Forest.{IsElement};
 ghost use Rattle.h5_tag_sets.specs.TagSets.{is_html_named, is_list_item_scope, is_special};
-ghost use Rattle.h5_stack.specs.Scope.{cut_through, in_scope};
+ghost use Rattle.h5_meaning.specs.Scope.{cut_through, in_scope};
 ghost use Rattle.h5_meaning.specs.Closing.{is_html_among, newest_item, passed_names};
 ghost use Rattle.h5_meaning.specs.Rows.{CloseListItem};
 ghost use Rattle.h5_meaning.specs.World.{name_in, names_of};

@@ -4,8 +4,8 @@ ghost use Rattle.std.specs.Prelude.{◌≡◌, ◌<◌, ◌≤◌, ◌+◌, ◌�
 ghost use Rattle.h5_names.specs.KnownNames.{name_text};
 ghost use Rattle.h5_interface.specs.Forest.{IsElement};
 ghost use Rattle.h5_tag_sets.specs.TagSets.{is_default_scope, is_html_named, is_implied, is_special};
-ghost use Rattle.h5_stack.specs.Order.{but_first};
-ghost use Rattle.h5_stack.specs.Scope.{comes_before_special, cut_through, first_passes, has_body_in_scope, has_p_in_button_scope, has_template, has_unclosed, in_scope, is_implied_but, second_is};
+ghost use Rattle.h5_meaning.specs.Order.{but_first};
+ghost use Rattle.h5_meaning.specs.Scope.{comes_before_special, cut_through, first_passes, has_body_in_scope, has_p_in_button_scope, has_template, has_unclosed, in_scope, is_implied_but, second_is};
 ghost use Rattle.h5_meaning.specs.Rows.{GenerateImpliedEndExcept, PopUntilNamed};
 ghost use Rattle.h5_meaning.specs.World.{name_in, names_of, root};
 ghost use Rattle.h5_state.specs.Steps.{IsSound, Makes, TellsErrors, errors_of, world_of};

@@ -3,7 +3,7 @@ ghost use Rattle.std.specs.Prelude.{◌≡◌, ◌<◌, ◌+◌, ◌&&◌, lengt
 ghost use Rattle.h5_tag_sets.specs.TagSets.{is_table_outer};
 ghost use Rattle.h5_meaning.specs.Place.{appropriate_place, foster_place, from_foster_parent, inside, place};
 ghost use Rattle.h5_meaning.specs.World.{name_in, root};
-ghost use Rattle.h5_stack.specs.Order.{IsIn};
+ghost use Rattle.h5_meaning.specs.Order.{IsIn};
 ghost use Rattle.h5_state.specs.Places.{place_of};
 ghost use Rattle.h5_state.specs.Steps.{IsSound, world_of};
 ghost use Rattle.h5_state.specs.View.{stack_under};

@@ -1,7 +1,7 @@
 //! An element leaves the stack of open elements, wherever it stands.
 ghost use Rattle.std.specs.Prelude.{◌≡◌, ◌≢◌, if◌then◌else◌};
-ghost use Rattle.h5_stack.specs.Adoption.{without_node};
-ghost use Rattle.h5_stack.specs.Order.{is_in};
+ghost use Rattle.h5_meaning.specs.Adoption.{without_node};
+ghost use Rattle.h5_meaning.specs.Order.{is_in};
 ghost use Rattle.h5_meaning.specs.Rows.{RemoveFromStack};
 ghost use Rattle.h5_meaning.specs.World.{World, root};
 ghost use Rattle.h5_state.specs.Steps.{IsSound, Makes, world_of};

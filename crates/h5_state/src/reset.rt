@@ -1,7 +1,7 @@
 //! The reset of the insertion mode (HTML standard, section 13.2.4.1, "reset the insertion mode appropriately").
 ghost use Rattle.std.specs.Prelude.{◌≡◌, ◌||◌, if◌then◌else◌, is_some, unwrap_or};
-ghost use Rattle.h5_fits.specs.Reset.{decide, decide_root, first_mode};
-ghost use Rattle.h5_fits.specs.Roles.{is_cell_role, is_head, role_of, role_of_local};
+ghost use Rattle.h5_meaning.specs.ResetByRoles.{decide, decide_root, first_mode};
+ghost use Rattle.h5_meaning.specs.Roles.{is_cell_role, is_head, role_of, role_of_local};
 ghost use Rattle.h5_types.specs.declared.modes.InsertionMode.{InsertionMode as Mode};
 ghost use Rattle.h5_meaning.specs.Reset.{reset_mode};
 ghost use Rattle.h5_meaning.specs.Sound.{situation_of};
@@ -34,7 +34,7 @@ enum Role {
 }
 
 // The role of an HTML element by its local name.
-#[tactic(auto, unfolding(h5_fits::specs::Roles::role_of_local))]
+#[tactic(auto, unfolding(h5_meaning::specs::Roles::role_of_local))]
 fn role_of_local(local: &LocalName) -> Role
     ensures { role_as result ≡ role_of_local local.now }
 {
@@ -72,7 +72,7 @@ fn role_of_local(local: &LocalName) -> Role
 }
 
 // A foreign element is plain.
-#[tactic(auto, unfolding(h5_fits::specs::Roles::role_of, h5_tag_sets::specs::TagSets::html_namespace))]
+#[tactic(auto, unfolding(h5_meaning::specs::Roles::role_of, h5_tag_sets::specs::TagSets::html_namespace))]
 fn role_of(name: &QualName) -> Role
     ensures { role_as result ≡ role_of name.now }
 {

@@ -2,7 +2,7 @@
 //! 13.2.6.4.15).
 ghost use Rattle.std.specs.Prelude.{◌≡◌, MatchOption, is_some, length};
 ghost use Rattle.h5_tag_sets.specs.TagSets.{is_cell, is_table_outer, is_table_scope};
-ghost use Rattle.h5_stack.specs.Scope.{cut_above, cut_through, first_passes, in_scope};
+ghost use Rattle.h5_meaning.specs.Scope.{cut_above, cut_through, first_passes, in_scope};
 ghost use Rattle.h5_meaning.specs.Rows.{PopUntilCell, PopUntilCurrent};
 ghost use Rattle.h5_meaning.specs.World.{names_of};
 ghost use Rattle.h5_state.specs.Steps.{IsSound, Makes, world_of};

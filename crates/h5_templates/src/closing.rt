@@ -2,7 +2,7 @@
 //! thoroughly").
 ghost use Rattle.std.specs.Prelude.{◌≡◌};
 ghost use Rattle.h5_tag_sets.specs.TagSets.{is_thorough_implied};
-ghost use Rattle.h5_stack.specs.Scope.{first_passes};
+ghost use Rattle.h5_meaning.specs.Scope.{first_passes};
 ghost use Rattle.h5_meaning.specs.Rows.{GenerateImpliedEndThoroughly};
 ghost use Rattle.h5_meaning.specs.World.{names_of};
 ghost use Rattle.h5_state.specs.Steps.{IsSound, Makes, world_of};

@@ -3,7 +3,7 @@
 ghost use Rattle.std.specs.Prelude.{◌≡◌, OnOk};
 ghost use Rattle.h5_interface.specs.Seen.{changed};
 ghost use Rattle.h5_meaning.specs.Changes.{detach_known};
-ghost use Rattle.h5_stack.specs.Order.{second_from_last};
+ghost use Rattle.h5_meaning.specs.Order.{second_from_last};
 ghost use Rattle.h5_meaning.specs.InFrameset.{is_in_frameset, is_root_alone};
 ghost use Rattle.h5_meaning.specs.Rows.{RemoveBody};
 ghost use Rattle.h5_meaning.specs.World.{names_of};

@@ -7,9 +7,9 @@ use Rattle.h5_interface.specs.SinkChoices.{SinkChoices}
 use Rattle.h5_types.specs.TurnText.{HasText, TurnText, is_self_closing}
 use Rattle.h5_types.specs.declared.modes.InsertionMode.{InsertionMode}
 use Rattle.h5_types.specs.declared.turns.ProcessResult.TheVariants as results
-use Rattle.h5_fits.specs.Fits.{is_before_root}
-use Rattle.h5_fits.specs.NamesFit.{NamesFit}
-use Rattle.h5_fits.proofs.OpenLaws.{names_root_open}
+use Rattle.h5_meaning.specs.Fits.{is_before_root}
+use Rattle.h5_meaning.specs.NamesFit.{NamesFit}
+use Rattle.h5_meaning.proofs.OpenLaws.{names_root_open}
 use Rattle.h5_meaning.specs.Changes.{set_mode}
 use Rattle.h5_meaning.specs.ForeignContent.{dispatch}
 use Rattle.h5_meaning.specs.Rows.{Follows}

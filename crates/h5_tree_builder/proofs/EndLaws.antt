@@ -5,9 +5,9 @@ use Rattle.h5_interface.specs.SinkChoices.{SinkChoices}
 use Rattle.h5_meaning.specs.Changes.{pop}
 use Rattle.h5_meaning.specs.Sound.{HasLists}
 use Rattle.h5_meaning.specs.World.{World}
-use Rattle.h5_stack.specs.FormattingList.{Entry}
-use Rattle.h5_stack.specs.Lists.{Lists}
-use Rattle.h5_stack.specs.Order.{but_first}
+use Rattle.h5_meaning.specs.FormattingList.{Entry}
+use Rattle.h5_meaning.specs.Lists.{Lists}
+use Rattle.h5_meaning.specs.Order.{but_first}
 use Rattle.h5_state.specs.View.{open_node, world}
 use Rattle.h5_state.specs.declared.state.State.{State}
 use Rattle.h5_state.proofs.AttributeLaws.{open_length}

@@ -9,15 +9,15 @@ use Rattle.h5_interface.specs.declared.sink.TreeSink.{Ghosts}
 use Rattle.h5_types.specs.declared.modes.InsertionMode.{InsertionMode}
 use Rattle.h5_types.specs.declared.modes.InsertionMode.TheVariants.{InTemplate}
 use Rattle.h5_types.specs.declared.options.TreeBuilderOpts.{TreeBuilderOpts}
-use Rattle.h5_stack.specs.FormattingNames.{html_name}
-use Rattle.h5_fits.specs.Changes.{start_modes, start_of}
-use Rattle.h5_fits.specs.Fits.{Situation}
-use Rattle.h5_fits.specs.NamesFit.{NamesFit}
-use Rattle.h5_fits.specs.Reset.{reset}
-use Rattle.h5_fits.specs.Roles.{Role, TemplateRole, is_template, role_of, roles}
-use Rattle.h5_fits.proofs.NamesFitLaws.{names_fragment}
-use Rattle.h5_fits.proofs.RoleLaws.{local_html, role_made}
-use Rattle.h5_fits.proofs.SetLaws.{template_test}
+use Rattle.h5_meaning.specs.FormattingNames.{html_name}
+use Rattle.h5_meaning.specs.SituationChanges.{start_modes, start_of}
+use Rattle.h5_meaning.specs.Fits.{Situation}
+use Rattle.h5_meaning.specs.NamesFit.{NamesFit}
+use Rattle.h5_meaning.specs.ResetByRoles.{reset}
+use Rattle.h5_meaning.specs.Roles.{Role, TemplateRole, is_template, role_of, roles}
+use Rattle.h5_meaning.proofs.NamesFitLaws.{names_fragment}
+use Rattle.h5_meaning.proofs.RoleLaws.{local_html, role_made}
+use Rattle.h5_meaning.proofs.SetLaws.{template_test}
 use Rattle.h5_meaning.specs.Changes.{create_root}
 use Rattle.h5_meaning.specs.Reset.{reset_mode}
 use Rattle.h5_meaning.specs.Rows.{CreateRoot}

@@ -9,7 +9,7 @@ use Rattle.h5_interface.specs.Seen.{element, make_element}
 use Rattle.h5_interface.specs.SinkChoices.{SinkChoices}
 use Rattle.h5_interface.proofs.ChildLaws.{joined-append_node}
 use Rattle.h5_interface.proofs.ForestLaws.{document_is_node}
-use Rattle.h5_stack.specs.FormattingNames.{html_name}
+use Rattle.h5_meaning.specs.FormattingNames.{html_name}
 use Rattle.h5_meaning.specs.Changes.{create_root}
 use Rattle.h5_meaning.specs.World.{World}
 

@@ -1,6 +1,6 @@
 use Rattle.std.proofs.Common.{ap, sym, subst, ◌∙◌}
-use Rattle.h5_stack.specs.Adoption.{older_than}
-use Rattle.h5_stack.specs.FormattingList.{without_entry}
+use Rattle.h5_meaning.specs.Adoption.{older_than}
+use Rattle.h5_meaning.specs.FormattingList.{without_entry}
 use Rattle.h5_meaning.specs.World.{World}
 use Rattle.h5_state.specs.Steps.{world_of}
 use Rattle.h5_adoption.specs.Places.{IsEntryAt}

@@ -1,5 +1,5 @@
 use Rattle.std.proofs.Common.{sym, ap, ◌∙◌}
-use Rattle.h5_stack.specs.Adoption.{newest_named}
+use Rattle.h5_meaning.specs.Adoption.{newest_named}
 use Rattle.h5_meaning.specs.AdoptionAgency.{adopt_by}
 use Rattle.h5_state.specs.Steps.{world_of}
 use Rattle.h5_adoption.proofs.AgencyLaws.{found_at, found_told, listed_element, none_named}

@@ -1,5 +1,5 @@
 use Rattle.std.proofs.Common.{sym, ap, ◌∙◌}
-use Rattle.h5_stack.specs.Order.{is_in}
+use Rattle.h5_meaning.specs.Order.{is_in}
 use Rattle.h5_state.specs.Steps.{world_of}
 use Rattle.h5_adoption.proofs.AgencyLaws.{found_entry, is_closed_round, open_told}
 use Rattle.h5_adoption.proofs.agency.round_listed.Goals as goal

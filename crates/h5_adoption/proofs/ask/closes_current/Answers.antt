@@ -2,7 +2,7 @@ use Rattle.std.proofs.Common.{ap, sym, ◌++◌, ◌+◌, ◌∙◌, ◌≡◌, 
 use Rattle.std.specs.Prelude.{◌==◌}
 use Rattle.h5_meaning.specs.AdoptionAgency.{is_formatting_element}
 use Rattle.h5_meaning.specs.World.{current}
-use Rattle.h5_stack.specs.FormattingList.{ElementEntry}
+use Rattle.h5_meaning.specs.FormattingList.{ElementEntry}
 use Rattle.h5_state.specs.Steps.{world_of}
 use Rattle.h5_state.specs.View.{entry_of, world}
 use Rattle.h5_adoption.specs.View.{list_under}

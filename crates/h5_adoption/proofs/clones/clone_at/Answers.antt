@@ -1,6 +1,6 @@
 use Rattle.std.proofs.Common.{ap, sym, subst, ◌∙◌, refl}
 use Rattle.h5_token.specs.TokenText.{tag_text}
-use Rattle.h5_stack.specs.FormattingList.{ElementEntry}
+use Rattle.h5_meaning.specs.FormattingList.{ElementEntry}
 use Rattle.h5_meaning.specs.AdoptionAgency.{tag_in}
 use Rattle.h5_state.specs.Steps.{world_of}
 use Rattle.h5_state.specs.View.{entry_of, world}

@@ -1,6 +1,6 @@
 use Rattle.std.proofs.Common.{◌≡◌, ◌<◌, ◌+◌, ◌-◌, ◌∷◌, suc, length, map, ap, sym, subst, ◌∙◌, inl, inr, refl, arith}
-use Rattle.h5_stack.specs.InnerLoop.{picked}
-use Rattle.h5_stack.proofs.PairLaws.{before_first}
+use Rattle.h5_meaning.specs.InnerLoop.{picked}
+use Rattle.h5_meaning.proofs.PairLaws.{before_first}
 use Rattle.h5_meaning.specs.AdoptionAgency.{IsLoose}
 use Rattle.h5_meaning.proofs.AdoptionForest.{kinds_refl, kinds_trans, loose_block}
 use Rattle.h5_state.specs.Steps.{world_of}

@@ -1,6 +1,6 @@
 use Rattle.std.proofs.Common.{◌≡◌, ◌≤◌, ◌+◌, ◌-◌, ◌∷◌, ℕ, List}
-use Rattle.h5_stack.specs.Adoption.{to_clone}
-use Rattle.h5_stack.specs.InnerLoop.{picked}
+use Rattle.h5_meaning.specs.Adoption.{to_clone}
+use Rattle.h5_meaning.specs.InnerLoop.{picked}
 use Rattle.h5_meaning.specs.AdoptionAgency.{IsLoose, nest, KeepsKinds}
 use Rattle.h5_state.specs.Steps.{IsSound, world_of}
 use Rattle.h5_state.specs.View.{stack_under}

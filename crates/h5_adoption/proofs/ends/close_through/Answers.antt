@@ -1,8 +1,8 @@
 use Rattle.std.proofs.Common.{[], ap, append_assoc, map, refl, reverse, subst, sym, ◌++◌, ◌∙◌, ◌∷◌, ◌≡◌}
 use Rattle.h5_meaning.specs.Sound.{AllStand}
 use Rattle.h5_meaning.specs.World.{name_in, names_of}
-use Rattle.h5_stack.specs.Adoption.{newer_than, older_than}
-use Rattle.h5_stack.proofs.PassLaws.{stack_split}
+use Rattle.h5_meaning.specs.Adoption.{newer_than, older_than}
+use Rattle.h5_meaning.proofs.PassLaws.{stack_split}
 use Rattle.h5_state.specs.Summaries.{summaries}
 use Rattle.h5_state.specs.View.{open_node, world}
 use Rattle.h5_state.proofs.SummaryLaws.{kept_under}

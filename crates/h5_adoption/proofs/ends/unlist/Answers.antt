@@ -1,7 +1,7 @@
 use Rattle.std.proofs.Common.{ap, refl, sym, ◌++◌, ◌∙◌, ◌≡◌}
 use Rattle.h5_meaning.proofs.RemovalLaws.{all_unlisted}
-use Rattle.h5_stack.specs.FormattingList.{ElementEntry, without_entry}
-use Rattle.h5_stack.proofs.RoundLaws.{without_entry_at}
+use Rattle.h5_meaning.specs.FormattingList.{ElementEntry, without_entry}
+use Rattle.h5_meaning.proofs.RoundLaws.{without_entry_at}
 use Rattle.h5_state.specs.Steps.{world_of}
 use Rattle.h5_adoption.proofs.RelistsLaws.{sound_relisted}
 use Rattle.h5_adoption.proofs.ends.unlist.Goals as goal

@@ -1,7 +1,7 @@
 use Rattle.std.proofs.Common.{ap, arith, map, reverse, sym, ◌+◌, ◌++◌, ◌∙◌, ◌≡◌, ◌||◌, ℕ}
 use Rattle.std.specs.List.{list_any}
 use Rattle.h5_tag_sets.specs.TagSets.{is_special}
-use Rattle.h5_stack.specs.Adoption.{newer_than}
+use Rattle.h5_meaning.specs.Adoption.{newer_than}
 use Rattle.h5_meaning.specs.World.{name_in}
 use Rattle.h5_state.specs.View.{open_node, stack_under, world}
 use Rattle.h5_adoption.proofs.OpenLaws.{block_at, furthest_none, length_under, none_newer, one_left, stack_cut, stands_at, stands_below}

@@ -1,7 +1,7 @@
 use Rattle.std.proofs.Common.{◌≡◌, ◌≤◌, ◌<◌, ◌-◌, ℕ, false, length}
 use Rattle.std.specs.List.{list_any}
 use Rattle.h5_tag_sets.specs.TagSets.{is_special}
-use Rattle.h5_stack.specs.Adoption.{newer_than}
+use Rattle.h5_meaning.specs.Adoption.{newer_than}
 use Rattle.h5_meaning.specs.World.{name_in}
 use Rattle.h5_state.specs.View.{stack_under, world}
 use Rattle.h5_state.specs.Places.{IsOpenAt}

@@ -1,8 +1,8 @@
 use Rattle.std.proofs.Common.{inl, inr, ap, arith, sym, ◌+◌, ◌-◌, ◌∙◌, ◌≡◌, ◌∷◌}
 use Rattle.std.proofs.lemmas.Bool.{eqb-false}
 use Rattle.h5_token.specs.TokenText.{tag_text}
-use Rattle.h5_stack.specs.FormattingList.{ElementEntry, MarkerEntry, nodes_of}
-use Rattle.h5_stack.specs.Order.{is_in}
+use Rattle.h5_meaning.specs.FormattingList.{ElementEntry, MarkerEntry, nodes_of}
+use Rattle.h5_meaning.specs.Order.{is_in}
 use Rattle.h5_state.specs.View.{entry_of}
 use Rattle.h5_adoption.specs.View.{list_under}
 use Rattle.h5_adoption.proofs.EntryLaws.{other_entry, passed_more}

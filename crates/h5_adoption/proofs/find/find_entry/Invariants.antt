@@ -1,6 +1,6 @@
 use Rattle.std.proofs.Common.{◌≡◌, ◌≤◌, length}
-use Rattle.h5_stack.specs.FormattingList.{nodes_of}
-use Rattle.h5_stack.specs.Order.{is_in}
+use Rattle.h5_meaning.specs.FormattingList.{nodes_of}
+use Rattle.h5_meaning.specs.Order.{is_in}
 use Rattle.h5_state.specs.View.{world}
 use Rattle.h5_adoption.specs.View.{list_under}
 use Rattle.h5_adoption.proofs.EntryLaws.{Passed}

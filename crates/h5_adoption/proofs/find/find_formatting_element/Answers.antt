@@ -1,7 +1,7 @@
 use Rattle.std.proofs.Common.{ap, arith, cond, sym, Some, ◌+◌, ◌++◌, ◌-◌, ◌∙◌, ◌≡◌, ◌∷◌}
 use Rattle.h5_token.specs.TokenText.{tag_text}
-use Rattle.h5_stack.specs.Adoption.{newest_named}
-use Rattle.h5_stack.specs.FormattingList.{ElementEntry}
+use Rattle.h5_meaning.specs.Adoption.{newest_named}
+use Rattle.h5_meaning.specs.FormattingList.{ElementEntry}
 use Rattle.h5_state.specs.View.{entry_of, world}
 use Rattle.h5_adoption.specs.View.{list_under}
 use Rattle.h5_adoption.proofs.EntryLaws.{list_cut}

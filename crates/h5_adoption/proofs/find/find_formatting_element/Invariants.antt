@@ -1,5 +1,5 @@
 use Rattle.std.proofs.Common.{◌≡◌, ◌≤◌, length}
-use Rattle.h5_stack.specs.Adoption.{newest_named}
+use Rattle.h5_meaning.specs.Adoption.{newest_named}
 use Rattle.h5_state.specs.View.{world}
 use Rattle.h5_adoption.specs.View.{list_under}
 use Rattle.h5_adoption.proofs.find.find_formatting_element.Given as goal

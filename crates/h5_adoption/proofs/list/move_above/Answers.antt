@@ -1,10 +1,10 @@
 use Rattle.std.proofs.Common.{ap, inl, refl, subst, sym, true, ◌++◌, ◌∙◌, ◌∷◌, ◌≡◌}
 use Rattle.std.proofs.lemmas.Bool.{false≢true}
 use Rattle.h5_state.specs.Steps.{world_of}
-use Rattle.h5_stack.specs.FormattingList.{ElementEntry, nodes_of}
-use Rattle.h5_stack.specs.Order.{IsIn, is_in}
-use Rattle.h5_stack.proofs.EntryLaws.{nodes_of-append}
-use Rattle.h5_stack.proofs.PairLaws.{in_right, is_in_telling}
+use Rattle.h5_meaning.specs.FormattingList.{ElementEntry, nodes_of}
+use Rattle.h5_meaning.specs.Order.{IsIn, is_in}
+use Rattle.h5_meaning.proofs.EntryLaws.{nodes_of-append}
+use Rattle.h5_meaning.proofs.PairLaws.{in_right, is_in_telling}
 use Rattle.h5_adoption.proofs.RelistLaws.{same_first}
 use Rattle.h5_adoption.proofs.list.move_above.Goals as goal
 

@@ -1,6 +1,6 @@
 use Rattle.std.proofs.Common.{List, ap, append_assoc, arith, length, length-append, map, reverse, sym, ◌++◌, ◌∙◌, ◌∷◌, ◌≡◌}
 use Rattle.std.proofs.lemmas.List.{length-map, length-reverse}
-use Rattle.h5_stack.specs.FormattingList.{Entry}
+use Rattle.h5_meaning.specs.FormattingList.{Entry}
 use Rattle.h5_state.specs.View.{entry_of, world}
 use Rattle.h5_state.proofs.SeenLaws.{seen_inserted, seen_removed, seen_value}
 use Rattle.h5_adoption.proofs.list.move_entry.Goals as goal

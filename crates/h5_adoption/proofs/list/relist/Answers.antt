@@ -3,8 +3,8 @@ use Rattle.std.proofs.lemmas.Bool.{eqb-false, eqb-true}
 use Rattle.std.proofs.lemmas.List.{nil_from_length}
 use Rattle.std.specs.Prelude.{vec_len}
 use Rattle.h5_meaning.specs.World.{World}
-use Rattle.h5_stack.specs.Adoption.{round_list}
-use Rattle.h5_stack.specs.FormattingList.{ElementEntry}
+use Rattle.h5_meaning.specs.Adoption.{round_list}
+use Rattle.h5_meaning.specs.FormattingList.{ElementEntry}
 use Rattle.h5_state.specs.Steps.{world_of}
 use Rattle.h5_state.specs.View.{stack_under, world}
 use Rattle.h5_adoption.proofs.RelistsLaws as laws

@@ -1,6 +1,6 @@
 use Rattle.std.proofs.Common.{ap, arith, drop, length, map, refl, reverse, suc, sym, take, ◌+◌, ◌-◌, ◌<◌, ◌∙◌, ◌∷◌, ◌≡◌}
 use Rattle.h5_meaning.specs.World.{World}
-use Rattle.h5_stack.specs.InnerLoop.{walked}
+use Rattle.h5_meaning.specs.InnerLoop.{walked}
 use Rattle.h5_state.specs.Steps.{world_of}
 use Rattle.h5_state.specs.View.{open_node, stack_under, world}
 use Rattle.h5_adoption.proofs.OpenLaws.{same_under, under_more}

@@ -1,5 +1,5 @@
 use Rattle.std.proofs.Common.{◌≡◌, ◌-◌, ◌≤◌, drop, length, map, take}
-use Rattle.h5_stack.specs.InnerLoop.{walked}
+use Rattle.h5_meaning.specs.InnerLoop.{walked}
 use Rattle.h5_state.specs.View.{stack_under, world}
 use Rattle.h5_adoption.proofs.list.relist_between.Given as goal
 

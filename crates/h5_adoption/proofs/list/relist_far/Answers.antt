@@ -1,11 +1,11 @@
 use Rattle.std.proofs.Common.{ap, sym, zero, ◌∙◌, ◌≡◌}
 use Rattle.std.proofs.lemmas.Bool.{false≢true}
 use Rattle.h5_meaning.specs.World.{World}
-use Rattle.h5_stack.specs.FormattingList.{ElementEntry, nodes_of, without_entry}
-use Rattle.h5_stack.specs.InnerLoop.{walked}
-use Rattle.h5_stack.proofs.KeptLaws.{without_entry_none}
-use Rattle.h5_stack.proofs.PairLaws.{is_in_telling}
-use Rattle.h5_stack.proofs.RoundLaws.{without_entry_at}
+use Rattle.h5_meaning.specs.FormattingList.{ElementEntry, nodes_of, without_entry}
+use Rattle.h5_meaning.specs.InnerLoop.{walked}
+use Rattle.h5_meaning.proofs.KeptListsLaws.{without_entry_none}
+use Rattle.h5_meaning.proofs.PairLaws.{is_in_telling}
+use Rattle.h5_meaning.proofs.RoundLaws.{without_entry_at}
 use Rattle.h5_state.specs.Steps.{world_of}
 use Rattle.h5_adoption.proofs.list.relist_far.Goals as goal
 

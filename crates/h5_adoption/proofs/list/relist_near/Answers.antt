@@ -1,8 +1,8 @@
 use Rattle.std.proofs.Common.{ap, arith, drop, map, sym, ◌+◌, ◌++◌, ◌∙◌, ◌∷◌, ◌≡◌}
 use Rattle.h5_meaning.specs.World.{World}
-use Rattle.h5_stack.specs.FormattingList.{ElementEntry, nodes_of}
-use Rattle.h5_stack.specs.InnerLoop.{swapped, walked}
-use Rattle.h5_stack.specs.Order.{is_in}
+use Rattle.h5_meaning.specs.FormattingList.{ElementEntry, nodes_of}
+use Rattle.h5_meaning.specs.InnerLoop.{swapped, walked}
+use Rattle.h5_meaning.specs.Order.{is_in}
 use Rattle.h5_state.specs.Steps.{world_of}
 use Rattle.h5_adoption.proofs.RelistLaws.{swapped_at, walked_onto}
 use Rattle.h5_state.proofs.SeenLaws.{drop_more}

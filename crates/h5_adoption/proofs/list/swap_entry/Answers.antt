@@ -2,7 +2,7 @@ use Rattle.std.proofs.Common.{ap, arith, length, map, sym, ◌++◌, ◌<◌, �
 use Rattle.std.proofs.lemmas.List.{length-map, length-reverse}
 use Rattle.h5_token.specs.TokenText.{TagText, tag_text}
 use Rattle.h5_types.specs.declared.entry.FormatEntry.TheVariants.{Element}
-use Rattle.h5_stack.specs.FormattingList.{ElementEntry, MarkerEntry}
+use Rattle.h5_meaning.specs.FormattingList.{ElementEntry, MarkerEntry}
 use Rattle.h5_state.specs.View.{entry_of, world}
 use Rattle.h5_state.proofs.SeenLaws.{seen_replaced, seen_value, set_cut}
 use Rattle.h5_adoption.proofs.list.swap_entry.Goals as goal

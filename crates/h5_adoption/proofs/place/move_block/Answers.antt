@@ -7,7 +7,7 @@ use Rattle.h5_meaning.specs.Place.{CanPut, appropriate_place, put}
 use Rattle.h5_meaning.proofs.AdoptionForest.{can_detach, detached_all, detached_kinds}
 use Rattle.h5_meaning.proofs.AdoptionPlace.{can_put_loose, put_loose_all, put_loose_kinds}
 use Rattle.h5_meaning.specs.World.{root}
-use Rattle.h5_stack.specs.Order.{first_or}
+use Rattle.h5_meaning.specs.Order.{first_or}
 use Rattle.h5_state.specs.Places.{place_of}
 use Rattle.h5_state.specs.Steps.{world_of}
 use Rattle.h5_state.specs.View.{stack_under, world}

@@ -1,8 +1,8 @@
 use Rattle.std.proofs.Common.{◌≡◌, ◌∷◌, ◌++◌, ℕ, List, map, reverse, ap, sym, subst, ◌∙◌, refl, arith}
 use Rattle.h5_token.specs.TokenText.{tag_text}
 use Rattle.h5_interface.specs.Seen.{Seen}
-use Rattle.h5_stack.specs.Adoption.{FormattingElement, FurthestBlock, older_than, round_list}
-use Rattle.h5_stack.specs.Order.{IsIn}
+use Rattle.h5_meaning.specs.Adoption.{FormattingElement, FurthestBlock, older_than, round_list}
+use Rattle.h5_meaning.specs.Order.{IsIn}
 use Rattle.h5_meaning.specs.AdoptionAgency.{Nest, adopt}
 use Rattle.h5_meaning.specs.Sound.{AllStand}
 use Rattle.h5_meaning.specs.World.{World}

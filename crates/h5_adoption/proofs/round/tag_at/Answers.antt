@@ -1,6 +1,6 @@
 use Rattle.std.proofs.Common.{◌≡◌, ap, ◌∙◌}
 use Rattle.h5_token.specs.TokenText.{tag_text}
-use Rattle.h5_stack.specs.FormattingList.{ElementEntry, MarkerEntry}
+use Rattle.h5_meaning.specs.FormattingList.{ElementEntry, MarkerEntry}
 use Rattle.h5_state.specs.View.{entry_of, world}
 use Rattle.h5_adoption.proofs.CloneLaws.{entry_here}
 use Rattle.h5_adoption.proofs.round.tag_at.Goals as goal

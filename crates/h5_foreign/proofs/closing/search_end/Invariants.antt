@@ -1,5 +1,5 @@
 use Rattle.std.proofs.Common.{◌≡◌, ◌≤◌, length}
-use Rattle.h5_stack.specs.Scope.{cut_through}
+use Rattle.h5_meaning.specs.Scope.{cut_through}
 use Rattle.h5_meaning.specs.Foreign.{is_named_in_any_case}
 use Rattle.h5_meaning.specs.ForeignContent.{search_end}
 use Rattle.h5_meaning.specs.World.{names_of}

@@ -1,6 +1,6 @@
 use Rattle.std.proofs.Common.{ap, rules, ◌∙◌}
 use Rattle.h5_tag_sets.specs.TagSets.{is_heading}
-use Rattle.h5_stack.specs.Scope.{first_passes, has_p_in_button_scope}
+use Rattle.h5_meaning.specs.Scope.{first_passes, has_p_in_button_scope}
 use Rattle.h5_meaning.specs.World.{World, names_of}
 use Rattle.h5_state.specs.Steps.{world_of}
 use Rattle.h5_rules_body.proofs.BlockLaws.{neither, nothing_unexpected, same_current}

@@ -1,6 +1,6 @@
 use Rattle.std.proofs.Common.{codes, ap, rules, subst, sym, ◌∙◌}
 use Rattle.h5_tag_sets.specs.TagSets.{is_default_scope, is_html_named}
-use Rattle.h5_stack.specs.Scope.{in_scope}
+use Rattle.h5_meaning.specs.Scope.{in_scope}
 use Rattle.h5_meaning.specs.Formatting.{is_reconstructed}
 use Rattle.h5_meaning.specs.Sound.{IsReady}
 use Rattle.h5_meaning.specs.World.{World, names_of}

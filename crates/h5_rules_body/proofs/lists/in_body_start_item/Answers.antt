@@ -1,6 +1,6 @@
 use Rattle.std.proofs.Common.{ap, rules, ◌∙◌}
 use Rattle.std.specs.Prelude.{is_none}
-use Rattle.h5_stack.specs.Scope.{has_p_in_button_scope}
+use Rattle.h5_meaning.specs.Scope.{has_p_in_button_scope}
 use Rattle.h5_meaning.specs.Closing.{newest_item}
 use Rattle.h5_meaning.specs.World.{World, names_of}
 use Rattle.h5_state.specs.Items.{item_names}

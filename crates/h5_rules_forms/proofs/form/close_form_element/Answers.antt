@@ -3,7 +3,7 @@ use Rattle.h5_token.specs.TokenText.{tag_text}
 use Rattle.h5_types.specs.TurnText.{TagTurn}
 use Rattle.h5_types.specs.declared.turns.ProcessResult.TheVariants.{Done}
 use Rattle.h5_tag_sets.specs.TagSets.{is_default_scope}
-use Rattle.h5_stack.specs.Scope.{node_in_scope}
+use Rattle.h5_meaning.specs.Scope.{node_in_scope}
 use Rattle.h5_meaning.specs.AdoptionAgency.{remove_from_stack}
 use Rattle.h5_meaning.specs.Changes.{clear_form}
 use Rattle.h5_meaning.specs.Closing.{generate_implied_end}

@@ -1,5 +1,5 @@
 use Rattle.std.proofs.Common.{ap, codes, rules, ◌∙◌}
-use Rattle.h5_stack.specs.Scope.{has_p_in_button_scope}
+use Rattle.h5_meaning.specs.Scope.{has_p_in_button_scope}
 use Rattle.h5_meaning.specs.InBody.{named_in_scope}
 use Rattle.h5_meaning.specs.World.{World, names_of}
 use Rattle.h5_state.specs.Steps.{world_of}

@@ -1,6 +1,6 @@
 use Rattle.std.proofs.Common.{ap, refl, ◌∙◌}
 use Rattle.h5_tag_sets.specs.TagSets.{is_cell}
-use Rattle.h5_stack.specs.Scope.{first_passes}
+use Rattle.h5_meaning.specs.Scope.{first_passes}
 use Rattle.h5_meaning.specs.Closing.{pop_until_cell}
 use Rattle.h5_meaning.specs.Formatting.{clear_active_formatting_to_marker}
 use Rattle.h5_meaning.specs.World.{World, names_of}

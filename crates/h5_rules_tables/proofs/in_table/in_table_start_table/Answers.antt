@@ -1,6 +1,6 @@
 use Rattle.std.proofs.Common.{[], ◌∷◌, Some, ap, codes, refl, subst, sym, ◌∙◌}
 use Rattle.h5_tag_sets.specs.TagSets.{is_html_named, is_table_scope}
-use Rattle.h5_stack.specs.Scope.{in_scope}
+use Rattle.h5_meaning.specs.Scope.{in_scope}
 use Rattle.h5_types.specs.TurnText.{TagTurn}
 use Rattle.h5_types.specs.declared.turns.ProcessResult.TheVariants.{Reprocess}
 use Rattle.h5_types.specs.declared.turns.Token.TheVariants.{Tag}

@@ -5,7 +5,7 @@ use Rattle.h5_interface.specs.SinkChoices.{SinkChoices}
 use Rattle.h5_tag_sets.specs.TagSets.{is_html_named, is_thorough_implied}
 use Rattle.h5_types.specs.TurnText.{TagTurn}
 use Rattle.h5_types.specs.declared.turns.ProcessResult.TheVariants.{Done}
-use Rattle.h5_stack.specs.Scope.{first_passes}
+use Rattle.h5_meaning.specs.Scope.{first_passes}
 use Rattle.h5_meaning.specs.Closing.{generate_implied_end_thoroughly}
 use Rattle.h5_meaning.specs.InHead.{in_head_end_template}
 use Rattle.h5_meaning.specs.Rows.{Change, ClearActiveFormattingToMarker, Follows, GenerateImpliedEndThoroughly, IsDone, PopTemplateMode, PopUntilNamed, ResetMode, apply_all, choose, ignored, row_if}

@@ -1,7 +1,7 @@
 use Rattle.std.proofs.Common.{◌<◌, length, sym, subst, ◌∙◌, ap}
 use Rattle.h5_meaning.specs.Closing.{generate_implied_end}
 use Rattle.h5_meaning.specs.World.{World, names_of}
-use Rattle.h5_stack.specs.Scope.{cut_through}
+use Rattle.h5_meaning.specs.Scope.{cut_through}
 use Rattle.h5_meaning.proofs.PopLaws.{all_implied_none, all_implied_step, cut_behind_all_implied, first_is_open, pop_shorter}
 use Rattle.h5_state.specs.View.{world}
 use Rattle.h5_state.proofs.closing.generate_implied_end.Goals as goal

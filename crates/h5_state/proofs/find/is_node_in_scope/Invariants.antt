@@ -1,5 +1,5 @@
 use Rattle.std.proofs.Common.{◌≡◌, ◌≤◌, length}
-use Rattle.h5_stack.specs.Scope.{node_in_scope}
+use Rattle.h5_meaning.specs.Scope.{node_in_scope}
 use Rattle.h5_tag_sets.specs.TagSets.{is_default_scope}
 use Rattle.h5_meaning.specs.World.{names_of}
 use Rattle.h5_state.specs.View.{names_under, stack_under, world}

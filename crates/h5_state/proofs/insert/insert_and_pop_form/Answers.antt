@@ -7,7 +7,7 @@ use Rattle.h5_meaning.specs.Place.{IsPlaceIn, place}
 use Rattle.h5_meaning.specs.Sound.{Sound}
 use Rattle.h5_meaning.specs.World.{World, names_of}
 use Rattle.h5_meaning.proofs.PlaceLaws.{current_place_is_there, form_stands}
-use Rattle.h5_stack.specs.FormattingNames.{html_name}
+use Rattle.h5_meaning.specs.FormattingNames.{html_name}
 use Rattle.h5_state.specs.View.{world}
 use Rattle.h5_state.proofs.FormLaws.{form_unowned}
 use Rattle.h5_state.proofs.StackLaws.{seen_world}

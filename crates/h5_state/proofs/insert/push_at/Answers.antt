@@ -4,7 +4,7 @@ use Rattle.h5_interface.specs.Seen.{Seen, changed}
 use Rattle.h5_meaning.specs.Changes.{new_element, push_new}
 use Rattle.h5_meaning.specs.Sound.{AllStand}
 use Rattle.h5_meaning.specs.World.{name_in, names_of}
-use Rattle.h5_stack.specs.FormattingNames.{html_name}
+use Rattle.h5_meaning.specs.FormattingNames.{html_name}
 use Rattle.h5_meaning.proofs.NameLaws.{names_pushed}
 use Rattle.h5_meaning.proofs.PlaceLaws.{all_inserted}
 use Rattle.h5_state.specs.Notices.{marking_of}

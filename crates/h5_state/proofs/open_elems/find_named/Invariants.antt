@@ -1,5 +1,5 @@
 use Rattle.std.proofs.Common.{◌≡◌, ◌≤◌, length}
-use Rattle.h5_stack.specs.Scope.{cut_through}
+use Rattle.h5_meaning.specs.Scope.{cut_through}
 use Rattle.h5_tag_sets.specs.TagSets.{is_html_named}
 use Rattle.h5_meaning.specs.World.{names_of}
 use Rattle.h5_state.specs.Summaries.{html_number}

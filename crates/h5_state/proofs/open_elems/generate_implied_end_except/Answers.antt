@@ -1,7 +1,7 @@
 use Rattle.std.proofs.Common.{◌<◌, length, sym, subst, ◌∙◌, ap}
 use Rattle.h5_meaning.specs.Changes.{generate_implied_end_except}
 use Rattle.h5_meaning.specs.World.{World, names_of}
-use Rattle.h5_stack.specs.Scope.{cut_through}
+use Rattle.h5_meaning.specs.Scope.{cut_through}
 use Rattle.h5_tag_sets.specs.TagSets.{is_html_named}
 use Rattle.h5_meaning.proofs.PopLaws.{cut_behind_implied, first_is_open, implied_none, implied_step, pop_shorter}
 use Rattle.h5_state.specs.View.{world}

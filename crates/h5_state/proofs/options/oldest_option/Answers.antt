@@ -1,5 +1,5 @@
 use Rattle.std.proofs.Common.{Some, ap, codes, map, reverse, sym, take, drop, true, ◌+◌, ◌∙◌, ◌∷◌, ◌≡◌}
-use Rattle.h5_stack.specs.Scope.{oldest_passing}
+use Rattle.h5_meaning.specs.Scope.{oldest_passing}
 use Rattle.h5_tag_sets.specs.TagSets.{is_html_named}
 use Rattle.h5_meaning.specs.World.{name_in, names_of}
 use Rattle.h5_state.specs.View.{names_under, open_node, stack_under, world}

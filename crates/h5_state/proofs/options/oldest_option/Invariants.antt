@@ -1,5 +1,5 @@
 use Rattle.std.proofs.Common.{◌≡◌, ◌≤◌, ◌-◌, None, codes, length}
-use Rattle.h5_stack.specs.Scope.{oldest_passing}
+use Rattle.h5_meaning.specs.Scope.{oldest_passing}
 use Rattle.h5_tag_sets.specs.TagSets.{is_html_named}
 use Rattle.h5_state.specs.View.{names_under, stack_under, world}
 use Rattle.h5_state.proofs.options.oldest_option.Given as goal

@@ -2,7 +2,7 @@ use Rattle.std.proofs.Common.{◌<◌, ap, arith, cond, get_or, length, map, sym
 use Rattle.std.proofs.lemmas.List.{length-map, length-reverse}
 use Rattle.h5_meaning.specs.Place.{LastChild, TableFosterParenting, foster_place, inside}
 use Rattle.h5_meaning.specs.World.{root}
-use Rattle.h5_stack.specs.Order.{first_or}
+use Rattle.h5_meaning.specs.Order.{first_or}
 use Rattle.h5_state.specs.View.{open_node, stack_under, world}
 use Rattle.h5_state.proofs.StackLaws.{below_first, element_at, seen_at, stack_step, template_test}
 use Rattle.h5_state.proofs.place.foster_place_at.Goals as goal

@@ -5,8 +5,8 @@ use Rattle.h5_interface.specs.SinkChoices.{Rearranges}
 use Rattle.h5_interface.proofs.MakingLaws.{mark_rearranges}
 use Rattle.h5_meaning.specs.AdoptionAgency.{remove_from_stack}
 use Rattle.h5_meaning.specs.World.{World}
-use Rattle.h5_stack.specs.Adoption.{without_node}
-use Rattle.h5_stack.proofs.PairLaws.{is_in_true}
+use Rattle.h5_meaning.specs.Adoption.{without_node}
+use Rattle.h5_meaning.proofs.PairLaws.{is_in_true}
 use Rattle.h5_state.specs.View.{world}
 use Rattle.h5_state.proofs.StackLaws.{seen_world}
 use Rattle.h5_state.proofs.StepLaws.{sound_rearranged}

@@ -1,7 +1,7 @@
 use Rattle.std.proofs.Common.{ap, arith, cond, length, map, refl, reverse, subst, sym, ◌≤◌, ◌∙◌, ◌≡◌}
 use Rattle.h5_meaning.specs.Sound.{AllStand}
 use Rattle.h5_meaning.specs.World.{name_in, names_of}
-use Rattle.h5_stack.specs.Adoption.{without_node}
+use Rattle.h5_meaning.specs.Adoption.{without_node}
 use Rattle.h5_state.specs.Summaries.{summaries}
 use Rattle.h5_state.specs.View.{kept_under, names_under, open_node, with_stack, world}
 use Rattle.h5_state.proofs.AttributeLaws.{open_length}

@@ -2,8 +2,8 @@ use Rattle.std.proofs.Common.{◌≡◌, ℕ, ap, length, List, [], ◌∷◌, S
 use Rattle.std.specs.Prelude.{option_map}
 use Rattle.std.proofs.lemmas.List.{length-map}
 use Rattle.h5_names.specs.declared.qualified.QualName.{QualName}
-use Rattle.h5_fits.specs.Reset.{decide_root, reset}
-use Rattle.h5_fits.specs.Roles.{role_of, roles}
+use Rattle.h5_meaning.specs.ResetByRoles.{decide_root, reset}
+use Rattle.h5_meaning.specs.Roles.{role_of, roles}
 use Rattle.h5_meaning.specs.Reset.{reset_mode}
 use Rattle.h5_meaning.specs.Sound.{role_at, situation_of}
 use Rattle.h5_meaning.proofs.PopLaws.{names_length}

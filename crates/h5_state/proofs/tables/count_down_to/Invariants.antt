@@ -1,5 +1,5 @@
 use Rattle.std.proofs.Common.{◌≡◌, ◌≤◌, length}
-use Rattle.h5_stack.specs.Scope.{cut_above}
+use Rattle.h5_meaning.specs.Scope.{cut_above}
 use Rattle.h5_meaning.specs.World.{names_of}
 use Rattle.h5_state.specs.View.{names_under, stack_under, world}
 use Rattle.h5_state.proofs.tables.count_down_to.Given as goal

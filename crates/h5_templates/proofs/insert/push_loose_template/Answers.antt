@@ -3,7 +3,7 @@ use Rattle.h5_names.specs.AttributeText.{attribute_texts}
 use Rattle.h5_interface.specs.NewElement.{flags_of}
 use Rattle.h5_interface.specs.Seen.{changed, make_element}
 use Rattle.h5_interface.proofs.MakingLaws.{make_element_rearranges}
-use Rattle.h5_stack.specs.FormattingNames.{html_name}
+use Rattle.h5_meaning.specs.FormattingNames.{html_name}
 use Rattle.h5_meaning.specs.Sound.{AllStand, Sound}
 use Rattle.h5_meaning.specs.Templates.{push_loose_template}
 use Rattle.h5_meaning.specs.World.{name_in, names_of}

@@ -1,9 +1,0 @@
-pub mod Changes
-pub mod Contexts
-pub mod Fits
-pub mod Floors
-pub mod Frames
-pub mod NamesFit
-pub mod Reset
-pub mod Roles
-pub mod Root
