@@ -1,31 +1,16 @@
 //! Each public call of the tree builder once, with ample memory, over an arena.
+use super::feeding::{
+    ArenaBuilder, end, new_builder, start, taking, with_end, with_start, with_text,
+};
 use h5_arena::{Arena, Child, NodeId};
 use h5_interface::QuirksMode;
-use h5_names::LocalName;
-use h5_token::{Doctype, Tag, TagKind, Token, TokenSink, TokenSinkResult};
+use h5_token::{Doctype, Tag, Token, TokenSink, TokenSinkResult};
 use h5_tree_builder::{Reply, TreeBuilder, html_elem};
 use h5_tree_calls::Attaching;
 use h5_types::TreeBuilderOpts;
 use std::alloc::{AllocError, Global};
 use std::process::Abort;
 use std::test::Fail;
-
-type ArenaBuilder = TreeBuilder<NodeId, Arena>;
-
-fn new_builder(alloc: Global) -> Result<ArenaBuilder, AllocError> {
-    let arena = Arena::new(alloc)?;
-    Ok(TreeBuilder::new(alloc, arena, TreeBuilderOpts::default()))
-}
-
-fn start(alloc: Global, name: &str) -> Result<Token, AllocError> {
-    Ok(Token::TagToken(Tag {
-        kind: TagKind::StartTag,
-        name: LocalName::new(alloc, name)?,
-        self_closing: false,
-        attrs: Vec::new(alloc),
-        had_duplicate_attributes: false,
-    }))
-}
 
 fn is_continue(reply: &Reply<NodeId>) -> bool {
     matches!(reply, Reply::Answer(TokenSinkResult::Continue))
@@ -49,15 +34,12 @@ fn the_end_of_file_alone_takes_six_turns(rt: HostRuntime) -> Result<(), Fail> {
 #[test]
 fn a_text_is_one_however_it_is_cut(rt: HostRuntime) -> Result<(), Fail> {
     let alloc = rt.alloc();
-    let mut builder = new_builder(alloc)?;
-    for text in [" ", "a", " "] {
-        let token = Token::CharacterTokens(String::from_str(alloc, text)?);
-        builder.process_token(token, 1)?;
-    }
+    let builder = with_text(new_builder(alloc)?, alloc, " ")?;
+    let builder = with_text(builder, alloc, "a")?;
+    let mut builder = with_text(builder, alloc, " ")?;
     builder.end();
     assert!(rt; builder.process_token(Token::EOFToken, 1).is_err());
-    let arena = &builder.sink;
-    assert!(rt; body_holds(arena, "a "));
+    assert!(rt; body_holds(&builder.sink, "a "));
     Ok(())
 }
 
@@ -87,11 +69,10 @@ fn a_builder_takes_tokens_as_any_sink_of_them(rt: HostRuntime) -> Result<(), Fai
 #[test]
 fn the_end_of_a_table_is_found_from_a_cell(rt: HostRuntime) -> Result<(), Fail> {
     let alloc = rt.alloc();
-    let mut builder = new_builder(alloc)?;
-    for name in ["table", "tr", "td"] {
-        builder.process_token(start(alloc, name)?, 1)?;
-    }
-    builder.process_token(end(alloc, "table")?, 1)?;
+    let builder = with_start(new_builder(alloc)?, alloc, "table")?;
+    let builder = with_start(builder, alloc, "tr")?;
+    let builder = with_start(builder, alloc, "td")?;
+    let builder = with_end(builder, alloc, "table")?;
     assert_eq!(rt; builder.turns(), 4);
     Ok(())
 }
@@ -106,9 +87,8 @@ fn is_entry(entry: Option<(usize, &NodeId, &Tag)>, place: usize, name: &str) -> 
 #[test]
 fn formatting_elements_come_from_the_newest_on(rt: HostRuntime) -> Result<(), Fail> {
     let alloc = rt.alloc();
-    let mut builder = new_builder(alloc)?;
-    builder.process_token(start(alloc, "b")?, 1)?;
-    builder.process_token(start(alloc, "i")?, 1)?;
+    let builder = with_start(new_builder(alloc)?, alloc, "b")?;
+    let builder = with_start(builder, alloc, "i")?;
     let mut entries = builder.active_formatting_end_to_marker();
     assert!(rt; is_entry(entries.next(), 1, "i"));
     assert!(rt; is_entry(entries.next(), 0, "b"));
@@ -118,30 +98,22 @@ fn formatting_elements_come_from_the_newest_on(rt: HostRuntime) -> Result<(), Fa
     Ok(())
 }
 
-fn end(alloc: Global, name: &str) -> Result<Token, AllocError> {
-    Ok(Token::TagToken(Tag {
-        kind: TagKind::EndTag,
-        name: LocalName::new(alloc, name)?,
-        self_closing: false,
-        attrs: Vec::new(alloc),
-        had_duplicate_attributes: false,
-    }))
-}
-
-fn doctype(alloc: Global, name: &str) -> Result<Token, AllocError> {
-    Ok(Token::DoctypeToken(Doctype {
-        name: Some(String::from_str(alloc, name)?),
+// The builder after a doctype of another name.
+fn with_doctype(builder: ArenaBuilder, alloc: Global) -> Result<ArenaBuilder, Fail> {
+    let doctype = Doctype {
+        name: Some(String::from_str(alloc, "x")?),
         public_id: None,
         system_id: None,
         force_quirks: false,
-    }))
+    };
+    taking(builder, Token::DoctypeToken(doctype))
 }
 
 // The errors of an end tag that comes first, and of a doctype behind it.
 fn errors_of(alloc: Global, opts: TreeBuilderOpts) -> Result<Vec<String>, Fail> {
-    let mut builder: ArenaBuilder = TreeBuilder::new(alloc, Arena::new(alloc)?, opts);
-    builder.process_token(end(alloc, "b")?, 1)?;
-    builder.process_token(doctype(alloc, "x")?, 1)?;
+    let builder: ArenaBuilder = TreeBuilder::new(alloc, Arena::new(alloc)?, opts);
+    let builder = with_end(builder, alloc, "b")?;
+    let builder = with_doctype(builder, alloc)?;
     let mut errors = Vec::new(alloc);
     for error in builder.sink.errors() {
         errors.push(error.clone()?)?;

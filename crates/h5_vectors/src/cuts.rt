@@ -1,4 +1,5 @@
 //! Texts that come in pieces: the trees are those of the whole texts.
+use super::feeding::fed;
 use super::parser::new_parser;
 use h5_arena::Arena;
 use h5_pages::{BODIES, FOREIGN, FORMS, PAGES, TABLES, TEMPLATES, TEXTS, page_of};
@@ -86,10 +87,8 @@ fn drawings_in_single_characters(rt: HostRuntime) -> Result<(), Fail> {
 #[test]
 fn a_newline_in_two_pieces_is_one(rt: HostRuntime) -> Result<(), Fail> {
     let alloc = rt.alloc();
-    let mut parser = new_parser(alloc)?;
-    parser.process("a\r")?;
-    parser.process("\nb")?;
-    let arena = parser.finish()?;
+    let parser = fed(new_parser(alloc)?, "a\r")?;
+    let arena = fed(parser, "\nb")?.finish()?;
     let found = html_of(alloc, &arena)?;
     let html = "<html><head></head><body>a\nb</body></html>";
     assert_eq!(rt; found.as_slice(), html.as_bytes());

@@ -1,20 +1,16 @@
 //! Fragments, in their contexts.
 use super::cuts::{characters_of, html_of};
-use super::parser::ArenaParser;
-use super::templates::start_with;
+use super::feeding::{ArenaBuilder, ArenaParser, with_start, with_text};
 use h5_arena::{Arena, Child, NodeId};
 use h5_driver::{ParseOpts, parse_fragment, parse_fragment_for_element};
 use h5_interface::create_element;
 use h5_names::{LocalName, Namespace, QualName};
-use h5_token::Token;
 use h5_token::states::{RawKind, State};
 use h5_tree_builder::TreeBuilder;
 use h5_types::TreeBuilderOpts;
 use std::alloc::Global;
 use std::process::Abort;
 use std::test::Fail;
-
-type ArenaBuilder = TreeBuilder<NodeId, Arena>;
 
 // A builder of a fragment in this element of an arena.
 fn in_element(
@@ -55,17 +51,16 @@ fn children_of_root(arena: &Arena, rt: &impl Abort) -> usize {
 
 #[test]
 fn a_context_stands_for_the_root(rt: HostRuntime) -> Result<(), Fail> {
-    let alloc = rt.alloc();
-    let mut builder = in_context(alloc, "tr", &rt)?;
+    let builder = with_start(in_context(rt.alloc(), "tr", &rt)?, rt.alloc(), "td")?;
     assert!(rt; builder.is_fragment());
-    let tokens = vec![in alloc;
-        (start_with(alloc, "td", Vec::new(alloc))?, 1),
-        (Token::CharacterTokens(String::from_str(alloc, "1")?), 1),
-    ]?;
-    builder.process_all(tokens)?;
+    let builder = with_text(builder, rt.alloc(), "1")?;
     assert_eq!(rt; children_of_root(&builder.sink, &rt), 1);
-    let mut builder = in_context(alloc, "td", &rt)?;
-    builder.process_token(start_with(alloc, "tr", Vec::new(alloc))?, 1)?;
+    Ok(())
+}
+
+#[test]
+fn a_cell_takes_no_row(rt: HostRuntime) -> Result<(), Fail> {
+    let builder = with_start(in_context(rt.alloc(), "td", &rt)?, rt.alloc(), "tr")?;
     assert_eq!(rt; children_of_root(&builder.sink, &rt), 0);
     Ok(())
 }
@@ -82,19 +77,24 @@ const STATES: [(&str, State); 8] = [
     ("plaintext", State::Plaintext),
 ];
 
+// How the text of a context is read.
+fn state_in(alloc: Global, context: &str, scripting: bool, rt: &impl Abort) -> Result<State, Fail> {
+    let builder = in_context(alloc, context, rt)?;
+    assert!(rt; builder.is_fragment());
+    Ok(builder.tokenizer_state_for_context_elem(scripting))
+}
+
+fn check_states(rt: &impl Abort, alloc: Global, rows: &[(&str, State)]) -> Result<(), Fail> {
+    for (context, state) in rows {
+        assert!(rt; state_in(alloc, context, true, rt)? == *state);
+    }
+    Ok(())
+}
+
 #[test]
 fn a_context_tells_how_its_text_is_read(rt: HostRuntime) -> Result<(), Fail> {
-    let alloc = rt.alloc();
-    for (context, state) in STATES {
-        let builder = in_context(alloc, context, &rt)?;
-        if builder.is_fragment() {
-            assert!(rt; builder.tokenizer_state_for_context_elem(true) == state);
-        }
-    }
-    let builder = in_context(alloc, "noscript", &rt)?;
-    if builder.is_fragment() {
-        assert!(rt; builder.tokenizer_state_for_context_elem(false) == State::Data);
-    }
+    check_states(&rt, rt.alloc(), &STATES)?;
+    assert!(rt; state_in(rt.alloc(), "noscript", false, &rt)? == State::Data);
     Ok(())
 }
 
@@ -128,25 +128,30 @@ fn parser_in(alloc: Global, context: &str) -> Result<ArenaParser, Fail> {
     Ok(parser)
 }
 
-#[test]
-fn texts_are_parsed_in_their_contexts(rt: HostRuntime) -> Result<(), Fail> {
-    let alloc = rt.alloc();
-    for (context, text, html) in IN_CONTEXTS {
-        let arena = parser_in(alloc, context)?.one(text)?;
-        assert_eq!(rt; html_of(alloc, &arena)?.as_slice(), html.as_bytes());
+// The HTML of a root, for a text in a context, and for its single characters.
+fn html_in(alloc: Global, context: &str, text: &str) -> Result<Vec<u8>, Fail> {
+    let arena = parser_in(alloc, context)?.one(text)?;
+    Ok(html_of(alloc, &arena)?)
+}
+
+fn html_of_characters_in(alloc: Global, context: &str, text: &str) -> Result<Vec<u8>, Fail> {
+    let pieces = characters_of(alloc, text)?;
+    let arena = parser_in(alloc, context)?.process_pieces(pieces.as_slice())?;
+    Ok(html_of(alloc, &arena)?)
+}
+
+fn check_contexts(rt: &impl Abort, alloc: Global, rows: &[(&str, &str, &str)]) -> Result<(), Fail> {
+    for &(context, text, html) in rows {
+        assert_eq!(rt; html_in(alloc, context, text)?.as_slice(), html.as_bytes());
+        let found = html_of_characters_in(alloc, context, text)?;
+        assert_eq!(rt; found.as_slice(), html.as_bytes());
     }
     Ok(())
 }
 
 #[test]
-fn single_characters_are_parsed_in_their_contexts(rt: HostRuntime) -> Result<(), Fail> {
-    let alloc = rt.alloc();
-    for (context, text, html) in IN_CONTEXTS {
-        let pieces = characters_of(alloc, text)?;
-        let arena = parser_in(alloc, context)?.process_pieces(pieces.as_slice())?;
-        assert_eq!(rt; html_of(alloc, &arena)?.as_slice(), html.as_bytes());
-    }
-    Ok(())
+fn texts_are_parsed_in_their_contexts(rt: HostRuntime) -> Result<(), Fail> {
+    check_contexts(&rt, rt.alloc(), &IN_CONTEXTS)
 }
 
 // A parser of a fragment in this element of an arena, where scripts aren't allowed.
@@ -175,15 +180,17 @@ fn parser_in_new(alloc: Global, context: &str, rt: &impl Abort) -> Result<ArenaP
     parser_in_element(alloc, arena, element, rt)
 }
 
+// The HTML of a root in an element of this name that has no parent.
+fn html_in_new(alloc: Global, context: &str, rt: &impl Abort) -> Result<Vec<u8>, Fail> {
+    let arena = parser_in_new(alloc, context, rt)?.one("<b>x")?;
+    Ok(html_of(alloc, &arena)?)
+}
+
 #[test]
 fn a_text_is_parsed_in_an_element(rt: HostRuntime) -> Result<(), Fail> {
-    let alloc = rt.alloc();
-    for (context, html) in [
-        ("title", "<html>&lt;b&gt;x</html>"),
-        ("noscript", "<html><b>x</b></html>"),
-    ] {
-        let arena = parser_in_new(alloc, context, &rt)?.one("<b>x")?;
-        assert_eq!(rt; html_of(alloc, &arena)?.as_slice(), html.as_bytes());
-    }
+    let html = html_in_new(rt.alloc(), "title", &rt)?;
+    assert_eq!(rt; html.as_slice(), "<html>&lt;b&gt;x</html>".as_bytes());
+    let html = html_in_new(rt.alloc(), "noscript", &rt)?;
+    assert_eq!(rt; html.as_slice(), "<html><b>x</b></html>".as_bytes());
     Ok(())
 }

@@ -6,6 +6,8 @@ mod builder;
 #[cfg(test)]
 mod cuts;
 #[cfg(test)]
+mod feeding;
+#[cfg(test)]
 mod fragments;
 #[cfg(test)]
 mod parser;

@@ -1,12 +1,11 @@
 //! Each public call of the parser once, with ample memory, over an arena.
+use super::feeding::{ArenaParser, fed};
 use h5_arena::{Arena, Child};
-use h5_driver::{ParseOpts, Parser, parse_document};
+use h5_driver::{ParseOpts, parse_document};
 use h5_interface::QuirksMode;
 use std::alloc::{AllocError, Global};
 use std::process::Abort;
 use std::test::Fail;
-
-pub type ArenaParser = Parser<h5_arena::NodeId, Arena>;
 
 /// A parser of a document, into an arena.
 pub fn new_parser(alloc: Global) -> Result<ArenaParser, AllocError> {
@@ -25,20 +24,28 @@ fn paragraph_holds(arena: &Arena, text: &str) -> bool {
     }
 }
 
-#[test]
-fn pieces_make_the_tree_of_the_whole_text(rt: HostRuntime) -> Result<(), Fail> {
-    let alloc = rt.alloc();
+fn tree_of_pieces(alloc: Global) -> Result<Arena, Fail> {
     let pieces = vec![in alloc;
         String::from_str(alloc, "<!DOCTYPE html><p>a&am")?,
         String::new(alloc),
         String::from_str(alloc, "p;b</p>")?,
     ]?;
-    let parser = new_parser(alloc)?;
-    let arena = parser.process_pieces(pieces.as_slice())?;
+    let arena = new_parser(alloc)?.process_pieces(pieces.as_slice())?;
+    Ok(arena)
+}
+
+#[test]
+fn pieces_make_the_tree_of_the_whole_text(rt: HostRuntime) -> Result<(), Fail> {
+    let alloc = rt.alloc();
+    let arena = tree_of_pieces(alloc)?;
     assert!(rt; paragraph_holds(&arena, "a&b"));
     assert!(rt; arena.quirks() == QuirksMode::NoQuirks);
-    let parser = new_parser(alloc)?;
-    let arena = parser.one("<!DOCTYPE html><p>a&amp;b</p>")?;
+    Ok(())
+}
+
+#[test]
+fn a_whole_text_makes_its_tree(rt: HostRuntime) -> Result<(), Fail> {
+    let arena = new_parser(rt.alloc())?.one("<!DOCTYPE html><p>a&amp;b</p>")?;
     assert!(rt; paragraph_holds(&arena, "a&b"));
     Ok(())
 }
@@ -82,9 +89,8 @@ fn a_parser_takes_text_and_then_the_end(rt: HostRuntime) -> Result<(), Fail> {
     let alloc = rt.alloc();
     let mut parser = new_parser(alloc)?;
     parser.error("from outside");
-    parser.process("<!DOCTYPE html><p>")?;
-    parser.process("x")?;
-    let arena = parser.finish()?;
+    let parser = fed(parser, "<!DOCTYPE html><p>")?;
+    let arena = fed(parser, "x")?.finish()?;
     assert!(rt; paragraph_holds(&arena, "x"));
     assert_eq!(rt; arena.errors().len(), 1);
     Ok(())

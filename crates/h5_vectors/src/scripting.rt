@@ -3,7 +3,8 @@ use super::cuts::html_of;
 use h5_arena::Arena;
 use h5_driver::{ParseOpts, parse_document};
 use h5_types::TreeBuilderOpts;
-use std::alloc::{AllocError, Global};
+use std::alloc::Global;
+use std::process::Abort;
 use std::test::Fail;
 
 // Texts, and their pages where scripts don't run.
@@ -36,14 +37,22 @@ fn without_scripts() -> ParseOpts {
     }
 }
 
-#[test]
-fn a_noscript_holds_elements_where_scripts_do_not_run(rt: HostRuntime) -> Result<(), Fail> {
-    let alloc = rt.alloc();
-    for (text, page) in PAGES {
-        let parser = parse_document(alloc, Arena::new(alloc)?, without_scripts());
-        let arena = parser.one(text)?;
-        let html = html_of(alloc, &arena)?;
+// The HTML of a page, where scripts don't run.
+fn html_without_scripts(alloc: Global, text: &str) -> Result<Vec<u8>, Fail> {
+    let parser = parse_document(alloc, Arena::new(alloc)?, without_scripts());
+    let arena = parser.one(text)?;
+    Ok(html_of(alloc, &arena)?)
+}
+
+fn check_pages(rt: &impl Abort, alloc: Global, rows: &[(&str, &str)]) -> Result<(), Fail> {
+    for &(text, page) in rows {
+        let html = html_without_scripts(alloc, text)?;
         assert_eq!(rt; html.as_slice(), page.as_bytes());
     }
     Ok(())
+}
+
+#[test]
+fn a_noscript_holds_elements_where_scripts_do_not_run(rt: HostRuntime) -> Result<(), Fail> {
+    check_pages(&rt, rt.alloc(), &PAGES)
 }

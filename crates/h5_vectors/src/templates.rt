@@ -1,9 +1,10 @@
 //! Templates and shadow roots.
 use super::cuts::html_of;
+use super::feeding::{new_builder, start, tag_with, taking, with_end, with_start, with_text};
 use h5_arena::{Arena, NodeId};
 use h5_interface::TreeSink;
 use h5_names::{Attribute, LocalName, Namespace, QualName};
-use h5_token::{Tag, TagKind, Token};
+use h5_token::{TagKind, Token};
 use h5_tree_builder::TreeBuilder;
 use h5_tree_calls::{Attaching, Detaching};
 use h5_types::TreeBuilderOpts;
@@ -11,30 +12,27 @@ use std::alloc::{AllocError, Global};
 use std::process::Abort;
 use std::test::Fail;
 
-/// A start tag of this name, with these attributes.
-pub fn start_with(alloc: Global, name: &str, attrs: Vec<Attribute>) -> Result<Token, AllocError> {
-    Ok(Token::TagToken(Tag {
-        kind: TagKind::StartTag,
-        name: LocalName::new(alloc, name)?,
-        self_closing: false,
-        attrs,
-        had_duplicate_attributes: false,
-    }))
+// So many start tags of templates, and the end of the file.
+fn templates(alloc: Global, count: usize) -> Result<Vec<(Token, u64)>, AllocError> {
+    let mut tokens = Vec::new(alloc);
+    for _ in 0..count {
+        tokens.push((start(alloc, "template")?, 1))?;
+    }
+    tokens.push((Token::EOFToken, 1))?;
+    Ok(tokens)
+}
+
+// How many turns the end of the file takes after so many templates.
+fn turns_after(alloc: Global, count: usize) -> Result<u64, Fail> {
+    let tokens = templates(alloc, count)?;
+    let mut builder = new_builder(alloc)?;
+    builder.process_all(tokens)?;
+    Ok(builder.turns())
 }
 
 #[test]
 fn templates_in_each_other_are_closed_one_a_turn(rt: HostRuntime) -> Result<(), Fail> {
-    let alloc = rt.alloc();
-    let mut builder: TreeBuilder<NodeId, Arena> = TreeBuilder::new(
-        alloc,
-        Arena::new(alloc)?,
-        TreeBuilderOpts::default(),
-    );
-    for _ in 0..1_000 {
-        builder.process_token(start_with(alloc, "template", Vec::new(alloc))?, 1)?;
-    }
-    builder.process_token(Token::EOFToken, 1)?;
-    assert_eq!(rt; builder.turns(), 1_003);
+    assert_eq!(rt; turns_after(rt.alloc(), 1_000)?, 1_003);
     Ok(())
 }
 
@@ -47,14 +45,26 @@ fn open_shadow_mode(alloc: Global) -> Result<Vec<Attribute>, AllocError> {
     Ok(attrs)
 }
 
-fn end_of(alloc: Global, name: &str) -> Result<Token, AllocError> {
-    Ok(Token::TagToken(Tag {
-        kind: TagKind::EndTag,
-        name: LocalName::new(alloc, name)?,
-        self_closing: false,
-        attrs: Vec::new(alloc),
-        had_duplicate_attributes: false,
-    }))
+// A start tag of a template that asks for a shadow root.
+fn shadow_start(alloc: Global) -> Result<Token, AllocError> {
+    tag_with(
+        alloc,
+        TagKind::StartTag,
+        "template",
+        open_shadow_mode(alloc)?,
+    )
+}
+
+// The builder after a template that asks for a shadow root, in a `div`, and a text behind it.
+fn with_shadow_root<Handle: Drop, Sink: TreeSink<Handle = Handle> + Drop>(
+    builder: TreeBuilder<Handle, Sink>,
+    alloc: Global,
+) -> Result<TreeBuilder<Handle, Sink>, Fail> {
+    let token = shadow_start(alloc)?;
+    let builder = taking(with_start(builder, alloc, "div")?, token)?;
+    let builder = with_text(builder, alloc, "x")?;
+    let builder = with_end(builder, alloc, "template")?;
+    with_text(builder, alloc, "y")
 }
 
 // The first template of an arena, by the order in which nodes were made.
@@ -82,27 +92,15 @@ fn check_loose_template(arena: &Arena, alloc: Global, rt: &impl Abort) -> Result
 #[test]
 fn a_sink_may_say_that_it_attached_a_shadow_root(rt: HostRuntime) -> Result<(), Fail> {
     let alloc = rt.alloc();
-    let sink = Attaching::new(alloc)?;
-    let mut builder = TreeBuilder::new(alloc, sink, TreeBuilderOpts::default());
-    builder.process_token(start_with(alloc, "div", Vec::new(alloc))?, 1)?;
-    let template = start_with(alloc, "template", open_shadow_mode(alloc)?)?;
-    builder.process_token(template, 1)?;
-    builder.process_token(Token::CharacterTokens(String::from_str(alloc, "x")?), 1)?;
-    builder.process_token(end_of(alloc, "template")?, 1)?;
-    builder.process_token(Token::CharacterTokens(String::from_str(alloc, "y")?), 1)?;
+    let builder = TreeBuilder::new(alloc, Attaching::new(alloc)?, TreeBuilderOpts::default());
+    let builder = with_shadow_root(builder, alloc)?;
     check_loose_template(&builder.into_sink().finish(), alloc, &rt)
 }
 
 #[test]
 fn a_sink_may_detach_the_template_that_it_attaches(rt: HostRuntime) -> Result<(), Fail> {
     let alloc = rt.alloc();
-    let sink = Detaching::new(alloc)?;
-    let mut builder = TreeBuilder::new(alloc, sink, TreeBuilderOpts::default());
-    builder.process_token(start_with(alloc, "div", Vec::new(alloc))?, 1)?;
-    let template = start_with(alloc, "template", open_shadow_mode(alloc)?)?;
-    builder.process_token(template, 1)?;
-    builder.process_token(Token::CharacterTokens(String::from_str(alloc, "x")?), 1)?;
-    builder.process_token(end_of(alloc, "template")?, 1)?;
-    builder.process_token(Token::CharacterTokens(String::from_str(alloc, "y")?), 1)?;
+    let builder = TreeBuilder::new(alloc, Detaching::new(alloc)?, TreeBuilderOpts::default());
+    let builder = with_shadow_root(builder, alloc)?;
     check_loose_template(&builder.into_sink().finish(), alloc, &rt)
 }
