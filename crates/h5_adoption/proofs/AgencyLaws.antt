@@ -25,7 +25,7 @@ use Rattle.h5_meaning.proofs.AdoptionAgencyLaws.{LeavesReady, agency_leaves, lea
 use Rattle.h5_meaning.proofs.AdoptionPlace.{newest_is_plain, newest_of_tag, plain_not_html}
 use Rattle.h5_meaning.specs.World.{World, name_in}
 use Rattle.h5_meaning.specs.Sound.{IsReady}
-use Rattle.h5_state.specs.Places.{IsOpenAt}
+use Rattle.h5_state.specs.OpenPlaces.{IsOpenAt}
 use Rattle.h5_adoption.specs.Places.{IsBlockAt, IsEntryAt, IsListedAt}
 use Rattle.h5_adoption.specs.Rounds.{IsElementEntry, IsFound, IsRound, adopt_open, then_again}
 

@@ -13,7 +13,7 @@ use Rattle.h5_state.specs.View.{open_node, stack_under}
 use Rattle.h5_state.specs.declared.open_element.OpenElement.{OpenElement}
 use Rattle.h5_state.specs.declared.state.State.{State}
 use Rattle.h5_state.proofs.StackLaws.{seen_pushed}
-use Rattle.h5_state.specs.Places.{IsOpenAt}
+use Rattle.h5_state.specs.OpenPlaces.{IsOpenAt}
 use Rattle.h5_adoption.specs.Places.{IsBlockAt}
 
 -- an element stands at this place, counted from the oldest

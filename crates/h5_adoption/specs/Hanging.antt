@@ -10,7 +10,7 @@ use Rattle.h5_meaning.specs.AdoptionAgency.{IsLoose, MayAdopt, Nest, wrapped}
 use Rattle.h5_meaning.specs.World.{World, names_of}
 use Rattle.h5_state.specs.View.{stack_under}
 use Rattle.h5_state.specs.declared.state.State.{State}
-use Rattle.h5_state.specs.Places.{IsOpenAt}
+use Rattle.h5_state.specs.OpenPlaces.{IsOpenAt}
 use Rattle.h5_adoption.specs.declared.clones.Clones.{Clones}
 
 -- a node that may be hung elsewhere

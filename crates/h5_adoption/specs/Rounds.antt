@@ -9,7 +9,7 @@ use Rattle.h5_meaning.specs.FormattingList.{ElementEntry, Entry}
 use Rattle.h5_meaning.specs.AdoptionAgency.{MayAdopt, adopt_at}
 use Rattle.h5_meaning.specs.Sound.{IsReady}
 use Rattle.h5_meaning.specs.World.{World, name_in}
-use Rattle.h5_state.specs.Places.{IsOpenAt}
+use Rattle.h5_state.specs.OpenPlaces.{IsOpenAt}
 
 -- a round for a name may be made: the formatting element and its furthest block stand at these places of the stack, and its
 -- entry at this place of the list

@@ -10,7 +10,7 @@ ghost use Rattle.h5_meaning.specs.World.{World};
 ghost use Rattle.h5_state.specs.Steps.{IsSound, MakesIfOk, errors_of, world_of};
 ghost use Rattle.h5_adoption.specs.Becomes.{Becomes, BecomesIfOk};
 ghost use Rattle.h5_adoption.specs.Rounds.{IsFound, SomeFound, SomeOpen, adopt_open, then_again};
-ghost use Rattle.h5_state.specs.Places.{IsOpenAt};
+ghost use Rattle.h5_state.specs.OpenPlaces.{IsOpenAt};
 
 use super::ask::is_current_unlisted;
 use super::ends::{close_named, close_through, unlist};
@@ -19,7 +19,8 @@ use super::round::adopt;
 use super::walk::element_at;
 use h5_interface::TreeSink;
 use h5_names::{KnownName, LocalName};
-use h5_state::{State, find_open, pop, remove_from_stack};
+use h5_operations::remove_from_stack;
+use h5_state::{State, find_open, pop};
 use std::alloc::AllocError;
 
 // Where the formatting element has no furthest block, the elements up to and with it are popped, and its entry goes.

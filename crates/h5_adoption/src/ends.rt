@@ -5,7 +5,7 @@ ghost use Rattle.h5_meaning.specs.Adoption.{older_than};
 ghost use Rattle.h5_meaning.specs.FormattingList.{without_entry};
 ghost use Rattle.h5_state.specs.Steps.{IsSound, world_of};
 ghost use Rattle.h5_adoption.specs.Becomes.{Becomes};
-ghost use Rattle.h5_state.specs.Places.{IsOpenAt};
+ghost use Rattle.h5_state.specs.OpenPlaces.{IsOpenAt};
 ghost use Rattle.h5_adoption.specs.Places.{IsEntryAt};
 
 use super::list::drop_entry;

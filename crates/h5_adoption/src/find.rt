@@ -7,7 +7,7 @@ ghost use Rattle.h5_meaning.specs.FormattingList.{nodes_of};
 ghost use Rattle.h5_meaning.specs.Order.{is_in};
 ghost use Rattle.h5_meaning.specs.World.{name_in};
 ghost use Rattle.h5_state.specs.Steps.{IsSound, world_of};
-ghost use Rattle.h5_state.specs.Places.{IsOpenAt};
+ghost use Rattle.h5_state.specs.OpenPlaces.{IsOpenAt};
 ghost use Rattle.h5_adoption.specs.Places.{IsBlockAt, IsEntryAt, IsListedAt};
 
 use super::walk::{ends_scope, entry_at, entry_count, open_at, open_count};

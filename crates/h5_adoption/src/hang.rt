@@ -8,7 +8,7 @@ ghost use Rattle.h5_meaning.specs.AdoptionAgency.{make_for, wrapped};
 ghost use Rattle.h5_adoption.specs.Hanging.{MayHang};
 
 use h5_interface::{NodeOrText, TreeSink, create_element_with_flags};
-use h5_state::html_qual_name;
+use h5_operations::html_qual_name;
 use h5_token::Tag;
 use std::alloc::AllocError;
 

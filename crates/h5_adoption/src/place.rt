@@ -14,7 +14,8 @@ ghost use Rattle.h5_adoption.specs.Hanging.{MayMove};
 
 use super::hang::make_for;
 use h5_interface::{NodeOrText, TreeSink};
-use h5_state::{State, appropriate_place_for_insertion, handle_at, insert_at};
+use h5_operations::{appropriate_place_for_insertion, insert_at};
+use h5_state::{State, handle_at};
 use h5_token::Tag;
 use std::alloc::AllocError;
 

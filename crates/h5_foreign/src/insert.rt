@@ -12,9 +12,8 @@ ghost use Rattle.h5_state.specs.Turn.{TakesTag};
 use h5_data::{adjust_foreign_attributes, adjust_mathml_attributes, adjust_svg_attributes};
 use h5_interface::TreeSink;
 use h5_names::{Attribute, Namespace, QualName};
-use h5_state::{
-    Notice, OpenElement, State, Summary, Turn, all_open, current_place, insert_new_element,
-};
+use h5_operations::{Notice, current_place, insert_new_element};
+use h5_state::{OpenElement, State, Summary, Turn, all_open};
 use h5_token::Tag;
 use h5_types::ProcessResult;
 use std::alloc::{AllocError, Global};

@@ -7,8 +7,9 @@ ghost use Rattle.h5_state.specs.Turn.{TakesTag, TakesToken};
 use super::after_body::back_to_body;
 use h5_interface::TreeSink;
 use h5_names::KnownName;
+use h5_operations::append_comment_to_doc;
 use h5_rules_shared::{in_body_start_html, in_body_text};
-use h5_state::{State, Turn, append_comment_to_doc};
+use h5_state::{State, Turn};
 use h5_token::{Tag, TagKind};
 use h5_types::{ProcessResult, SplitStatus, Token};
 

@@ -6,10 +6,9 @@ ghost use Rattle.h5_state.specs.Turn.{TakesTag, TakesToken};
 
 use h5_interface::TreeSink;
 use h5_names::KnownName;
+use h5_operations::append_comment_to_html;
 use h5_rules_shared::{in_body_start_html, in_body_text};
-use h5_state::{
-    State, Turn, append_comment_to_html, is_fragment, set_mode, unexpected, unexpected_tag,
-};
+use h5_state::{State, Turn, is_fragment, set_mode, unexpected, unexpected_tag};
 use h5_token::{Tag, TagKind};
 use h5_types::{InsertionMode, ProcessResult, SplitStatus, Token};
 

@@ -9,12 +9,15 @@ ghost use Rattle.h5_state.specs.Turn.{TakesTag};
 
 use h5_interface::TreeSink;
 use h5_names::KnownName;
+use h5_operations::{
+    close_p_element, close_p_element_in_button_scope, find_heading_in_scope, find_in_default_scope,
+    generate_implied_end, insert_element, insert_phantom, is_current_heading, pop_heading,
+    pop_until_heading,
+};
 use h5_rules_shared::expect_to_close;
 use h5_state::{
-    State, Turn, close_p_element, close_p_element_in_button_scope, find_heading_in_scope,
-    find_in_default_scope, generate_implied_end, has_p_in_button_scope, insert_element,
-    insert_phantom, is_current_heading, is_current_html, pop_heading, pop_until_heading,
-    pop_until_named, set_frameset_not_ok, set_ignore_lf, tell_error, unexpected_tag,
+    State, Turn, has_p_in_button_scope, is_current_html, pop_until_named, set_frameset_not_ok,
+    set_ignore_lf, tell_error, unexpected_tag,
 };
 use h5_token::Tag;
 use h5_types::ProcessResult;

@@ -14,11 +14,9 @@ ghost use Rattle.h5_state.specs.Turn.{TakesTag};
 use h5_adoption::{adoption_agency, closes_one, handle_misnested_a_tags, is_named_listed};
 use h5_interface::TreeSink;
 use h5_names::{Attribute, KnownName, LocalName};
+use h5_operations::insert_and_pop_element;
 use h5_rules_shared::{create_formatting_element, reconstruct_active_formatting_elements};
-use h5_state::{
-    State, Turn, in_scope_named, insert_and_pop_element, set_frameset_not_ok, tell_error,
-    unexpected_tag,
-};
+use h5_state::{State, Turn, in_scope_named, set_frameset_not_ok, tell_error, unexpected_tag};
 use h5_token::Tag;
 use h5_types::ProcessResult;
 use std::alloc::AllocError;

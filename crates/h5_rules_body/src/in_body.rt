@@ -25,6 +25,9 @@ use super::names::{
 use super::ruby::{in_body_start_ruby_base, in_body_start_ruby_text};
 use h5_interface::TreeSink;
 use h5_names::KnownName;
+use h5_operations::{
+    ItemKind, add_attrs_to_second, append_comment, close_p_element_in_button_scope, insert_element,
+};
 use h5_rules_forms::{
     in_body_end_form, in_body_end_option, in_body_start_button, in_body_start_form,
     in_body_start_hr, in_body_start_image, in_body_start_input, in_body_start_optgroup,
@@ -39,11 +42,10 @@ use h5_rules_text::{
     is_head_start, template_eof,
 };
 use h5_state::{
-    ItemKind, State, Turn, add_attrs_to_second, append_comment, check_body_end,
-    close_p_element_in_button_scope, find_before_special, generate_implied_end_except,
-    has_body_in_scope, has_body_second, has_open_template, insert_element, is_current_html,
-    is_frameset_ok, is_in_quirks, pop_until_named, set_frameset_not_ok, set_mode, tell_error,
-    unexpected, unexpected_tag,
+    State, Turn, check_body_end, find_before_special, generate_implied_end_except,
+    has_body_in_scope, has_body_second, has_open_template, is_current_html, is_frameset_ok,
+    is_in_quirks, pop_until_named, set_frameset_not_ok, set_mode, tell_error, unexpected,
+    unexpected_tag,
 };
 use h5_tag_sets::NameSet;
 use h5_templates::{has_template_mode, remove_body};

@@ -6,17 +6,20 @@ ghost use Rattle.h5_meaning.specs.InBody.{in_body_end_description, in_body_end_l
 ghost use Rattle.h5_meaning.specs.Rows.{GenerateImpliedEndExcept, PopUntilNamed, apply_all};
 ghost use Rattle.h5_meaning.specs.Shared.{current_is};
 ghost use Rattle.h5_meaning.specs.World.{names_of};
-ghost use Rattle.h5_state.specs.Items.{item_names};
+ghost use Rattle.h5_operations.specs.Items.{item_names};
 ghost use Rattle.h5_state.specs.Steps.{IsSound, errors_of, world_of};
 ghost use Rattle.h5_state.specs.Turn.{TakesTag};
 
 use h5_interface::TreeSink;
 use h5_names::{KnownName, LocalName};
+use h5_operations::{
+    ItemKind, close_list_item, close_p_element_in_button_scope, find_in_default_scope,
+    find_li_in_list_item_scope, insert_element,
+};
 use h5_rules_shared::expect_to_close;
 use h5_state::{
-    ItemKind, State, Turn, close_list_item, close_p_element_in_button_scope, find_in_default_scope,
-    find_li_in_list_item_scope, generate_implied_end_except, insert_element, is_current_html,
-    pop_until_named, set_frameset_not_ok, unexpected_tag,
+    State, Turn, generate_implied_end_except, is_current_html, pop_until_named,
+    set_frameset_not_ok, unexpected_tag,
 };
 use h5_token::Tag;
 use h5_types::ProcessResult;

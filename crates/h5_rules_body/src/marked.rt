@@ -12,13 +12,13 @@ ghost use Rattle.h5_state.specs.Turn.{TakesTag};
 
 use h5_interface::TreeSink;
 use h5_names::LocalName;
+use h5_operations::{find_in_default_scope, generate_implied_end, insert_element};
 use h5_rules_shared::{
     clear_active_formatting_to_marker, expect_to_close, insert_marker,
     reconstruct_active_formatting_elements,
 };
 use h5_state::{
-    State, Turn, find_in_default_scope, generate_implied_end, insert_element, is_current_html,
-    pop_until_named, set_frameset_not_ok, unexpected_tag,
+    State, Turn, is_current_html, pop_until_named, set_frameset_not_ok, unexpected_tag,
 };
 use h5_token::Tag;
 use h5_types::ProcessResult;

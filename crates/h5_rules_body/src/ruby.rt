@@ -7,9 +7,9 @@ ghost use Rattle.h5_state.specs.Turn.{TakesTag};
 
 use h5_interface::TreeSink;
 use h5_names::{KnownName, LocalName};
+use h5_operations::{generate_implied_end, insert_element};
 use h5_state::{
-    State, Turn, generate_implied_end, generate_implied_end_except, in_scope_named, insert_element,
-    is_current_html, unexpected_tag,
+    State, Turn, generate_implied_end_except, in_scope_named, is_current_html, unexpected_tag,
 };
 use h5_token::Tag;
 use h5_types::ProcessResult;

@@ -7,9 +7,8 @@ ghost use Rattle.h5_state.specs.Turn.{TakesTag};
 use super::opens::open_control;
 use h5_interface::TreeSink;
 use h5_names::{KnownName, LocalName};
-use h5_state::{
-    State, Turn, find_in_default_scope, generate_implied_end, pop_until_named, tell_error,
-};
+use h5_operations::{find_in_default_scope, generate_implied_end};
+use h5_state::{State, Turn, pop_until_named, tell_error};
 use h5_token::Tag;
 use h5_types::ProcessResult;
 

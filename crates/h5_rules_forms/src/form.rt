@@ -8,11 +8,14 @@ ghost use Rattle.h5_state.specs.Turn.{TakesTag};
 
 use h5_interface::TreeSink;
 use h5_names::{KnownName, LocalName};
+use h5_operations::{
+    close_p_element_in_button_scope, find_in_default_scope, generate_implied_end, insert_form,
+    remove_from_stack,
+};
 use h5_rules_shared::expect_to_close;
 use h5_state::{
-    State, Turn, close_p_element_in_button_scope, current_node, find_in_default_scope,
-    generate_implied_end, has_form, has_open_template, insert_form, is_current_html,
-    is_node_in_scope, pop_until_named, remove_from_stack, take_form, tell_error,
+    State, Turn, current_node, has_form, has_open_template, is_current_html, is_node_in_scope,
+    pop_until_named, take_form, tell_error,
 };
 use h5_token::Tag;
 use h5_types::ProcessResult;

@@ -10,11 +10,13 @@ ghost use Rattle.h5_state.specs.Turn.{TakesTag};
 use super::select::is_option_in_scope;
 use h5_interface::TreeSink;
 use h5_names::{KnownName, LocalName};
+use h5_operations::{
+    close_p_element_in_button_scope, find_in_default_scope, generate_implied_end_in_select,
+    insert_and_pop_element,
+};
 use h5_rules_shared::{expect_to_close, is_type_hidden, reconstruct_active_formatting_elements};
 use h5_state::{
-    State, Turn, close_p_element_in_button_scope, find_in_default_scope,
-    generate_implied_end_in_select, in_scope_named, insert_and_pop_element, pop_until_named,
-    set_frameset_not_ok, tell_error, unexpected_tag,
+    State, Turn, in_scope_named, pop_until_named, set_frameset_not_ok, tell_error, unexpected_tag,
 };
 use h5_token::Tag;
 use h5_types::ProcessResult;

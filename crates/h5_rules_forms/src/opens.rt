@@ -7,8 +7,9 @@ ghost use Rattle.h5_meaning.specs.Rows.{apply_all};
 ghost use Rattle.h5_state.specs.Steps.{IsSound, errors_of, world_of};
 
 use h5_interface::TreeSink;
+use h5_operations::insert_element;
 use h5_rules_shared::reconstruct_active_formatting_elements;
-use h5_state::{State, insert_element, set_frameset_not_ok};
+use h5_state::{State, set_frameset_not_ok};
 use h5_token::Tag;
 use std::alloc::AllocError;
 

@@ -9,11 +9,13 @@ ghost use Rattle.h5_state.specs.Turn.{TakesTag};
 use super::opens::{open_control, open_element};
 use h5_interface::TreeSink;
 use h5_names::{KnownName, LocalName};
+use h5_operations::{
+    copy_closed_option, find_in_default_scope, generate_implied_end, oldest_option,
+};
 use h5_rules_shared::expect_to_close;
 use h5_state::{
-    State, Turn, copy_closed_option, find_before_special, find_in_default_scope,
-    generate_implied_end, generate_implied_end_except, in_scope_named, is_current_html,
-    is_select_context, oldest_option, pop, pop_until_named, tell_error, unexpected_tag,
+    State, Turn, find_before_special, generate_implied_end_except, in_scope_named, is_current_html,
+    is_select_context, pop, pop_until_named, tell_error, unexpected_tag,
 };
 use h5_token::Tag;
 use h5_types::ProcessResult;

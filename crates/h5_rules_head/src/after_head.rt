@@ -13,12 +13,13 @@ ghost use Rattle.h5_state.specs.Turn.{TakesTag, TakesToken};
 
 use h5_interface::TreeSink;
 use h5_names::KnownName;
+use h5_operations::{
+    append_comment, append_text, insert_element, insert_phantom, known_head, push_head,
+    remove_from_stack,
+};
 use h5_rules_shared::{in_body_start_html, is_outer};
 use h5_rules_text::{in_head_end_template, in_head_start_tag, is_head_start};
-use h5_state::{
-    State, Turn, append_comment, append_text, insert_element, insert_phantom, known_head,
-    push_head, remove_from_stack, set_frameset_not_ok, set_mode, unexpected_tag,
-};
+use h5_state::{State, Turn, set_frameset_not_ok, set_mode, unexpected_tag};
 use h5_token::{Tag, TagKind};
 use h5_types::{InsertionMode, ProcessResult, SplitStatus, Token};
 

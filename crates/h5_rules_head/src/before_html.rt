@@ -6,8 +6,9 @@ ghost use Rattle.h5_state.specs.Turn.{TakesTag, TakesToken};
 
 use h5_interface::TreeSink;
 use h5_names::KnownName;
+use h5_operations::{append_comment_to_doc, create_root};
 use h5_rules_shared::is_outer;
-use h5_state::{State, Turn, append_comment_to_doc, create_root, set_mode, unexpected_tag};
+use h5_state::{State, Turn, set_mode, unexpected_tag};
 use h5_token::{Tag, TagKind};
 use h5_types::{InsertionMode, ProcessResult, SplitStatus, Token};
 

@@ -6,9 +6,10 @@ ghost use Rattle.h5_state.specs.Turn.{TakesTag, TakesToken};
 
 use h5_interface::TreeSink;
 use h5_names::KnownName;
+use h5_operations::{append_comment, append_text};
 use h5_rules_shared::is_outer;
 use h5_rules_text::{in_head_else, in_head_end_template, in_head_start_tag};
-use h5_state::{State, Turn, append_comment, append_text, pop, set_mode, unexpected_tag};
+use h5_state::{State, Turn, pop, set_mode, unexpected_tag};
 use h5_token::{Tag, TagKind};
 use h5_types::{InsertionMode, ProcessResult, SplitStatus, Token};
 

@@ -5,7 +5,8 @@ ghost use Rattle.h5_state.specs.Steps.{IsSound};
 ghost use Rattle.h5_state.specs.Turn.{TakesToken};
 
 use h5_interface::{QuirksMode, TreeSink};
-use h5_state::{State, Turn, append_comment_to_doc, has_srcdoc, set_quirks_mode, unexpected};
+use h5_operations::append_comment_to_doc;
+use h5_state::{State, Turn, has_srcdoc, set_quirks_mode, unexpected};
 use h5_types::{InsertionMode, ProcessResult, SplitStatus, Token};
 
 // Whatever else comes: without a doctype the document is in quirks mode, unless it is that of an `iframe` with

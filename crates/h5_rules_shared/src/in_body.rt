@@ -7,9 +7,9 @@ ghost use Rattle.h5_state.specs.Turn.{TakesTag, Turns};
 
 use super::reconstruct::reconstruct_active_formatting_elements;
 use h5_interface::TreeSink;
+use h5_operations::{add_attrs_to_html, append_text};
 use h5_state::{
-    State, Turn, add_attrs_to_html, append_text, has_open_template, set_frameset_ok_by_text,
-    tell_error, unexpected_tag,
+    State, Turn, has_open_template, set_frameset_ok_by_text, tell_error, unexpected_tag,
 };
 use h5_token::Tag;
 use h5_types::{ProcessResult, SplitStatus};

@@ -8,7 +8,8 @@ ghost use Rattle.h5_rules_shared.specs.Places.{entries_of, without_place};
 ghost use Rattle.h5_state.specs.Steps.{IsSound, MakesIfOk};
 
 use h5_interface::TreeSink;
-use h5_state::{State, current_node, insert_element};
+use h5_operations::insert_element;
+use h5_state::{State, current_node};
 use h5_token::Tag;
 use h5_types::FormatEntry;
 use std::alloc::AllocError;

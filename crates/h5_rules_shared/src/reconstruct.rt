@@ -7,7 +7,8 @@ ghost use Rattle.h5_rules_shared.specs.Places.{entries_of, renewed, with_node_at
 ghost use Rattle.h5_state.specs.Steps.{IsSound, MakesIfOk, errors_of, world_of};
 
 use h5_interface::TreeSink;
-use h5_state::{State, current_node, insert_element};
+use h5_operations::insert_element;
+use h5_state::{State, current_node};
 use h5_types::FormatEntry;
 use std::alloc::AllocError;
 

@@ -15,14 +15,12 @@ ghost use Rattle.h5_state.specs.Turn.{TakesTag, TakesToken};
 
 use h5_interface::TreeSink;
 use h5_names::{KnownName, LocalName};
+use h5_operations::{find_in_table_scope, generate_implied_end};
 use h5_rules_body::{in_body_tag, step_in_body};
 use h5_rules_shared::{
     clear_active_formatting_to_marker, expect_to_close, is_any_of, is_table_structure,
 };
-use h5_state::{
-    Known, State, Turn, find_in_table_scope, generate_implied_end, is_current_html,
-    pop_until_named, set_mode, unexpected_tag,
-};
+use h5_state::{Known, State, Turn, is_current_html, pop_until_named, set_mode, unexpected_tag};
 use h5_token::{Tag, TagKind};
 use h5_types::{InsertionMode, ProcessResult, Token};
 

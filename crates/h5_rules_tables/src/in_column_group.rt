@@ -8,13 +8,11 @@ ghost use Rattle.h5_state.specs.Turn.{TakesTag, TakesToken};
 
 use h5_interface::TreeSink;
 use h5_names::{KnownName, LocalName};
+use h5_operations::{append_comment, append_text, insert_and_pop_element};
 use h5_rules_body::step_in_body;
 use h5_rules_shared::in_body_start_html;
 use h5_rules_text::{in_head_end_template, in_head_start_tag};
-use h5_state::{
-    State, Turn, append_comment, append_text, insert_and_pop_element, is_current_html, pop,
-    set_mode, unexpected, unexpected_tag,
-};
+use h5_state::{State, Turn, is_current_html, pop, set_mode, unexpected, unexpected_tag};
 use h5_token::{Tag, TagKind};
 use h5_types::{InsertionMode, ProcessResult, SplitStatus, Token};
 

@@ -12,13 +12,15 @@ use super::foster::foster_parent_in_body;
 use super::parts::{clear_to_table_context, is_section};
 use h5_interface::TreeSink;
 use h5_names::{KnownName, LocalName};
+use h5_operations::{
+    append_comment, find_in_table_scope, insert_and_pop_element, insert_and_pop_form,
+    insert_element, insert_phantom, is_current_table_outer, reset_insertion_mode,
+};
 use h5_rules_body::step_in_body;
 use h5_rules_shared::{insert_marker, is_any_of, is_type_hidden};
 use h5_rules_text::{in_head_end_template, in_head_start_tag, is_table_text};
 use h5_state::{
-    Local, State, Turn, append_comment, find_in_table_scope, has_form, has_open_template,
-    insert_and_pop_element, insert_and_pop_form, insert_element, insert_phantom,
-    is_current_table_outer, pop_until_named, reset_insertion_mode, save_mode, set_mode,
+    Local, State, Turn, has_form, has_open_template, pop_until_named, save_mode, set_mode,
     unexpected_tag,
 };
 use h5_token::{Tag, TagKind};

@@ -13,10 +13,9 @@ use super::in_table::{in_table_tag, step_in_table};
 use super::parts::{clear_to_table_body_context, has_in_table_scope, is_section};
 use h5_interface::TreeSink;
 use h5_names::{KnownName, LocalName, QualName};
+use h5_operations::{insert_element, insert_phantom};
 use h5_rules_shared::is_any_of;
-use h5_state::{
-    Local, NameTest, State, Turn, insert_element, insert_phantom, pop, set_mode, unexpected_tag,
-};
+use h5_state::{Local, NameTest, State, Turn, pop, set_mode, unexpected_tag};
 use h5_tag_sets::{NameSet, is_html_known};
 use h5_token::{Tag, TagKind};
 use h5_types::{InsertionMode, ProcessResult, Token};

@@ -9,10 +9,8 @@ ghost use Rattle.h5_state.specs.Turn.{TakesToken, Turns};
 
 use super::foster::foster_parent_in_body;
 use h5_interface::TreeSink;
-use h5_state::{
-    PendingText, State, Turn, append_pending_text, append_text, saved_mode, take_pending_text,
-    unexpected,
-};
+use h5_operations::{append_pending_text, append_text, take_pending_text};
+use h5_state::{PendingText, State, Turn, saved_mode, unexpected};
 use h5_types::{ProcessResult, SplitStatus, Token};
 
 // The text that was kept back: blank, it goes where it came; else it goes by the body, with foster parenting on.

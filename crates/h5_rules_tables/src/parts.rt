@@ -7,11 +7,9 @@ ghost use Rattle.h5_tag_sets.specs.TagSets.{is_one_of, is_table_body_context, is
 
 use h5_interface::TreeSink;
 use h5_names::{KnownName, LocalName};
+use h5_operations::{find_in_table_scope, pop_until_current};
 use h5_rules_shared::is_any_of;
-use h5_state::{
-    NameTest, State, TableBodyContext, TableRowContext, TableScope, find_in_table_scope,
-    pop_until_current,
-};
+use h5_state::{NameTest, State, TableBodyContext, TableRowContext, TableScope};
 
 /// Whether an element whose name passes is in table scope.
 pub(crate) fn has_in_table_scope<S: TreeSink, Is: NameTest>(

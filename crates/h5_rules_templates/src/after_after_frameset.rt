@@ -6,8 +6,9 @@ ghost use Rattle.h5_state.specs.Turn.{TakesTag, TakesToken};
 
 use super::after_frameset::after_frameset_start_tag;
 use h5_interface::TreeSink;
+use h5_operations::append_comment_to_doc;
 use h5_rules_shared::in_body_text;
-use h5_state::{State, Turn, append_comment_to_doc, unexpected, unexpected_tag};
+use h5_state::{State, Turn, unexpected, unexpected_tag};
 use h5_token::{Tag, TagKind};
 use h5_types::{ProcessResult, SplitStatus, Token};
 

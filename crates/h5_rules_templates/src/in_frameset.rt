@@ -7,12 +7,10 @@ ghost use Rattle.h5_state.specs.Turn.{TakesTag, TakesToken};
 
 use h5_interface::TreeSink;
 use h5_names::KnownName;
+use h5_operations::{append_comment, append_text, insert_and_pop_element, insert_element};
 use h5_rules_shared::in_body_start_html;
 use h5_rules_text::in_head_start_tag;
-use h5_state::{
-    State, Turn, append_comment, append_text, insert_and_pop_element, insert_element, is_fragment,
-    pop, set_mode, tell_error, unexpected, unexpected_tag,
-};
+use h5_state::{State, Turn, is_fragment, pop, set_mode, tell_error, unexpected, unexpected_tag};
 use h5_templates::{is_below_frameset, is_root_alone};
 use h5_token::{Tag, TagKind};
 use h5_types::{InsertionMode, ProcessResult, SplitStatus, Token};

@@ -6,11 +6,9 @@ ghost use Rattle.h5_state.specs.Turn.{TakesTag};
 
 use super::raw_text::{parse_raw_data, to_raw_text_mode};
 use h5_interface::TreeSink;
+use h5_operations::{close_p_element_in_button_scope, insert_element};
 use h5_rules_shared::{expect_to_close, reconstruct_active_formatting_elements};
-use h5_state::{
-    State, Turn, close_p_element_in_button_scope, insert_element, is_scripting,
-    set_frameset_not_ok, set_ignore_lf,
-};
+use h5_state::{State, Turn, is_scripting, set_frameset_not_ok, set_ignore_lf};
 use h5_token::states::RawKind;
 use h5_token::{Tag, TokenSinkResult};
 use h5_types::ProcessResult;

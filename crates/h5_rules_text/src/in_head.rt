@@ -9,11 +9,9 @@ use super::raw_text::{parse_raw_data, to_raw_text_mode};
 use super::template::in_head_start_template;
 use h5_interface::TreeSink;
 use h5_names::KnownName;
+use h5_operations::{insert_and_pop_element, insert_element, insert_script};
 use h5_rules_shared::in_body_start_html;
-use h5_state::{
-    State, Turn, insert_and_pop_element, insert_element, insert_script, is_scripting, pop,
-    set_mode, unexpected_tag,
-};
+use h5_state::{State, Turn, is_scripting, pop, set_mode, unexpected_tag};
 use h5_token::states::RawKind;
 use h5_token::{Tag, TokenSinkResult};
 use h5_types::{InsertionMode, ProcessResult, Token};

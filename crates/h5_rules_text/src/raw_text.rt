@@ -9,7 +9,8 @@ ghost use Rattle.h5_state.specs.Steps.{IsSound, errors_of, world_of};
 ghost use Rattle.h5_state.specs.Turn.{TakesTag};
 
 use h5_interface::TreeSink;
-use h5_state::{State, Turn, insert_element, save_mode, set_mode};
+use h5_operations::insert_element;
+use h5_state::{State, Turn, save_mode, set_mode};
 use h5_token::states::RawKind;
 use h5_token::{Tag, TokenSinkResult};
 use h5_types::{InsertionMode, ProcessResult};

@@ -8,10 +8,11 @@ ghost use Rattle.h5_state.specs.Turn.{TakesTag, TakesToken};
 
 use h5_interface::TreeSink;
 use h5_names::{KnownName, LocalName};
+use h5_operations::reset_insertion_mode;
 use h5_rules_shared::{clear_active_formatting_to_marker, expect_to_close, insert_marker};
 use h5_state::{
     State, Turn, find_named, has_open_template, is_current_html, pop_until_named,
-    reset_insertion_mode, set_frameset_not_ok, set_mode, tell_error, unexpected_tag,
+    set_frameset_not_ok, set_mode, tell_error, unexpected_tag,
 };
 use h5_templates::{
     generate_implied_end_thoroughly, insert_template, pop_template_mode, push_template_mode,

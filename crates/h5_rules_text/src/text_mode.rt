@@ -7,9 +7,10 @@ ghost use Rattle.h5_state.specs.Turn.{TakesTag, TakesToken, Turns};
 
 use h5_interface::TreeSink;
 use h5_names::{KnownName, LocalName};
+use h5_operations::append_text;
 use h5_state::{
-    State, Turn, append_text, current_node, is_current_html, mark_started, pop, saved_mode,
-    set_mode, tell_error, unexpected,
+    State, Turn, current_node, is_current_html, mark_started, pop, saved_mode, set_mode,
+    tell_error, unexpected,
 };
 use h5_token::{Tag, TagKind, TokenSinkResult};
 use h5_types::{ProcessResult, Token};

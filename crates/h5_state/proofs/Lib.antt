@@ -1,10 +1,6 @@
 pub mod AttributeLaws
-pub mod FormLaws
 pub mod FoundLaws
-pub mod ItemLaws
-pub mod PutLaws
 pub mod RenewLaws
-pub mod ResetLaws
 pub mod SeenLaws
 pub mod StackLaws
 pub mod StepLaws

@@ -1,7 +1,4 @@
-pub mod Items
-pub mod Notices
-pub mod Places
-pub mod Reset
+pub mod OpenPlaces
 pub mod Steps
 pub mod Summaries
 pub mod Turn

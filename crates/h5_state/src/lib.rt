@@ -2,139 +2,36 @@
 //! "Parse state").
 #![tactic(auto)]
 
-mod attributes;
 mod blanks;
-mod closing;
 mod errors;
 mod find;
-mod form_owner;
-mod head;
-mod insert;
-mod list_items;
 mod name_test;
 mod open_element;
 mod open_elems;
-mod options;
 mod pending_text;
-mod place;
-mod put;
-mod removal;
 mod renew;
-mod reset;
 mod state;
 mod steps;
-mod table_text;
-mod tables;
 
-pub use attributes::add_attrs_to_html;
-pub use attributes::add_attrs_to_second;
-pub use blanks::first_run;
-pub use blanks::is_blank_text;
-pub use blanks::set_frameset_ok_by_text;
-pub use closing::close_p_element;
-pub use closing::close_p_element_in_button_scope;
-pub use closing::find_heading_in_scope;
-pub use closing::find_in_default_scope;
-pub use closing::generate_implied_end;
-pub use closing::generate_implied_end_in_select;
-pub use closing::is_current_heading;
-pub use closing::pop_heading;
-pub use closing::pop_until_heading;
-pub use errors::tell_error;
-pub use errors::unexpected;
-pub use errors::unexpected_tag;
-pub use find::find_open;
-pub use find::handle_at;
-pub use find::is_node_in_scope;
-pub use head::known_head;
-pub use head::push_head;
-pub use insert::append_comment;
-pub use insert::append_comment_to_doc;
-pub use insert::append_comment_to_html;
-pub use insert::append_text;
-pub use insert::create_root;
-pub use insert::html_qual_name;
-pub use insert::insert_and_pop_element;
-pub use insert::insert_and_pop_form;
-pub use insert::insert_element;
-pub use insert::insert_form;
-pub use insert::insert_head;
-pub use insert::insert_phantom;
-pub use insert::insert_script;
-pub use list_items::ItemKind;
-pub use list_items::close_list_item;
-pub use list_items::find_li_in_list_item_scope;
-pub use name_test::Cell;
-pub use name_test::DefaultScope;
-pub use name_test::Heading;
-pub use name_test::Known;
-pub use name_test::ListItemScope;
-pub use name_test::Local;
-pub use name_test::NameTest;
-pub use name_test::TableBodyContext;
-pub use name_test::TableOuter;
-pub use name_test::TableRowContext;
-pub use name_test::TableScope;
-pub use open_element::AllOpen;
-pub use open_element::FIRST_TEXT_NUMBER;
-pub use open_element::OpenElement;
-pub use open_element::Summary;
-pub use open_elems::all_open;
-pub use open_elems::check_body_end;
-pub use open_elems::find_before_special;
-pub use open_elems::find_named;
-pub use open_elems::generate_implied_end_except;
-pub use open_elems::has_body_in_scope;
-pub use open_elems::has_body_second;
-pub use open_elems::has_open_template;
-pub use open_elems::has_p_in_button_scope;
-pub use open_elems::in_scope_named;
-pub use open_elems::is_current;
-pub use open_elems::is_current_html;
-pub use open_elems::name_at;
-pub use open_elems::open_at;
-pub use open_elems::open_count;
-pub use open_elems::pop_until_named;
-pub use open_elems::truncate;
-pub use options::copy_closed_option;
-pub use options::oldest_option;
+pub use blanks::{first_run, is_blank_text, set_frameset_ok_by_text};
+pub use errors::{tell_error, unexpected, unexpected_tag};
+pub use find::{find_open, handle_at, is_node_in_scope};
+pub use name_test::{
+    Cell, DefaultScope, FosterParent, Heading, Known, ListItemScope, Local, NameTest, Nothing,
+    TableBodyContext, TableOuter, TableRowContext, TableScope,
+};
+pub use open_element::{AllOpen, FIRST_TEXT_NUMBER, OpenElement, Summary, html_number};
+pub use open_elems::{
+    all_open, check_body_end, find_before_special, find_in_scope, find_named,
+    generate_implied_end_except, has_body_in_scope, has_body_second, has_open_template,
+    has_p_in_button_scope, in_scope_named, is_current, is_current_html, is_current_implied,
+    is_named, name_at, open_at, open_count, pop_until_named, root_node, truncate,
+};
 pub use pending_text::PendingText;
-pub use place::InsertionPoint;
-pub use place::appropriate_place_for_insertion;
-pub use place::current_place;
-pub use put::Notice;
-pub use put::insert_at;
-pub use put::insert_new_element;
-pub use put::nodes_of;
-pub use removal::remove_from_stack;
-pub use renew::all_under;
-pub use reset::reset_insertion_mode;
-pub use state::State;
-pub use state::Turn;
-pub use steps::current_mode;
-pub use steps::current_node;
-pub use steps::has_form;
-pub use steps::has_srcdoc;
-pub use steps::is_fragment;
-pub use steps::is_frameset_ok;
-pub use steps::is_in_quirks;
-pub use steps::is_scripting;
-pub use steps::is_select_context;
-pub use steps::mark_started;
-pub use steps::pop;
-pub use steps::save_mode;
-pub use steps::saved_mode;
-pub use steps::set_foster;
-pub use steps::set_frameset_not_ok;
-pub use steps::set_ignore_lf;
-pub use steps::set_mode;
-pub use steps::set_quirks_mode;
-pub use steps::take_form;
-pub use table_text::append_pending_text;
-pub use table_text::take_pending_text;
-pub use tables::find_cell;
-pub use tables::find_in_table_scope;
-pub use tables::is_current_cell;
-pub use tables::is_current_table_outer;
-pub use tables::pop_until_cell;
-pub use tables::pop_until_current;
+pub use renew::{all_under, renew_from};
+pub use state::{State, Turn};
+pub use steps::{
+    current_mode, current_node, has_form, has_srcdoc, is_fragment, is_frameset_ok, is_in_quirks,
+    is_scripting, is_select_context, mark_started, pop, save_mode, saved_mode, set_foster,
+    set_frameset_not_ok, set_ignore_lf, set_mode, set_quirks_mode, take_form,
+};

@@ -71,7 +71,7 @@ pub fn name_at<'a, S: TreeSink>(
 
 /// Whether an open element is an HTML element of this name. The sink is asked for its name only where others may have the
 /// same number.
-pub(crate) fn is_named<S: TreeSink>(
+pub fn is_named<S: TreeSink>(
     sink: &S,
     element: &OpenElement<S::Handle>,
     local: &LocalName,
@@ -274,7 +274,7 @@ pub fn is_current<S: TreeSink, Is: NameTest>(sink: &S, state: &State<S::Handle>,
 }
 
 /// Whether the end tag of the current node is implied.
-pub(crate) fn is_current_implied<S: TreeSink>(sink: &S, state: &State<S::Handle>) -> bool
+pub fn is_current_implied<S: TreeSink>(sink: &S, state: &State<S::Handle>) -> bool
     requires { IsSound S.TreeSink sink.now state.now }
     ensures { result ≡ first_passes is_implied (names_of (world_of S.TreeSink sink.now state.now)) }
 {

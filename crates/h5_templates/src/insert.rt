@@ -14,10 +14,8 @@ ghost use Rattle.h5_state.specs.Steps.{IsOpen, IsSound, MakesIfOk, errors_of, wo
 
 use h5_interface::{TreeSink, create_element_with_flags};
 use h5_names::{Attribute, KnownName, LocalName};
-use h5_state::{
-    OpenElement, State, Summary, all_open, current_node, current_place, html_qual_name,
-    insert_element, nodes_of, pop,
-};
+use h5_operations::{current_place, html_qual_name, insert_element, nodes_of};
+use h5_state::{OpenElement, State, Summary, all_open, current_node, pop};
 use h5_token::Tag;
 use std::alloc::AllocError;
 

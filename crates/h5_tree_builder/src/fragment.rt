@@ -9,8 +9,9 @@ ghost use Rattle.h5_tree_builder.specs.Fragment.{context_modes, context_world, f
 use super::first::first_state;
 use h5_interface::TreeSink;
 use h5_names::{KnownName, LocalName, QualName};
+use h5_operations::{create_root, reset_insertion_mode};
 use h5_rules_shared::is_any_of;
-use h5_state::{State, create_root, reset_insertion_mode, set_mode};
+use h5_state::{State, set_mode};
 use h5_tag_sets::is_html_known;
 use h5_token::states::{RawKind, State as ReaderState};
 use h5_types::{InsertionMode, TreeBuilderOpts};

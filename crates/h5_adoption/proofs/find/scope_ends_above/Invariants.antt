@@ -4,7 +4,7 @@ use Rattle.h5_tag_sets.specs.TagSets.{is_default_scope}
 use Rattle.h5_meaning.specs.Adoption.{newer_than}
 use Rattle.h5_meaning.specs.World.{name_in}
 use Rattle.h5_state.specs.View.{stack_under, world}
-use Rattle.h5_state.specs.Places.{IsOpenAt}
+use Rattle.h5_state.specs.OpenPlaces.{IsOpenAt}
 use Rattle.h5_adoption.proofs.find.scope_ends_above.Given as goal
 
 -- what is left gives what was to come at first

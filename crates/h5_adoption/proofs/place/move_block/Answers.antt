@@ -8,7 +8,7 @@ use Rattle.h5_meaning.proofs.AdoptionForest.{can_detach, detached_all, detached_
 use Rattle.h5_meaning.proofs.AdoptionPlace.{can_put_loose, put_loose_all, put_loose_kinds}
 use Rattle.h5_meaning.specs.World.{root}
 use Rattle.h5_meaning.specs.Order.{first_or}
-use Rattle.h5_state.specs.Places.{place_of}
+use Rattle.h5_operations.specs.Places.{place_of}
 use Rattle.h5_state.specs.Steps.{world_of}
 use Rattle.h5_state.specs.View.{stack_under, world}
 use Rattle.h5_adoption.proofs.MoveLaws.{next_is_first, next_is_older, next_is_open, not_lowest, place_inside}

@@ -10,7 +10,7 @@ use Rattle.h5_meaning.proofs.ForeignLaws.{insert_foreign_stands, names-insert_fo
 use Rattle.h5_meaning.proofs.PlaceLaws.{current_place_is_there}
 use Rattle.h5_state.specs.Summaries.{summaries}
 use Rattle.h5_state.specs.View.{open_node, world}
-use Rattle.h5_state.proofs.PutLaws.{same_world}
+use Rattle.h5_operations.proofs.PutLaws.{same_world}
 use Rattle.h5_state.proofs.StackLaws.{seen_pushed, seen_world}
 use Rattle.h5_state.proofs.StepLaws.{sound_rearranged}
 use Rattle.h5_state.proofs.SummaryLaws.{kept_pushed}

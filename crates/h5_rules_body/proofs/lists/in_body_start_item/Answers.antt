@@ -3,7 +3,7 @@ use Rattle.std.specs.Prelude.{is_none}
 use Rattle.h5_meaning.specs.Scope.{has_p_in_button_scope}
 use Rattle.h5_meaning.specs.Closing.{newest_item}
 use Rattle.h5_meaning.specs.World.{World, names_of}
-use Rattle.h5_state.specs.Items.{item_names}
+use Rattle.h5_operations.specs.Items.{item_names}
 use Rattle.h5_state.specs.Steps.{world_of}
 use Rattle.h5_rules_body.proofs.BlockLaws.{nothing_unexpected}
 use Rattle.h5_rules_body.proofs.ItemLaws.{first_not_second, none_closed}

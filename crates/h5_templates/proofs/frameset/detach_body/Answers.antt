@@ -7,7 +7,7 @@ use Rattle.h5_interface.specs.Changes.{detach}
 use Rattle.h5_meaning.specs.Changes.{detach_known}
 use Rattle.h5_meaning.proofs.SoundLaws.{element_is_node, rearranged_or_not}
 use Rattle.h5_state.specs.View.{open_node, world}
-use Rattle.h5_state.proofs.PutLaws.{onok_then}
+use Rattle.h5_operations.proofs.PutLaws.{onok_then}
 use Rattle.h5_state.proofs.StackLaws.{element_at}
 use Rattle.h5_state.proofs.StepLaws.{sound_rearranged}
 use Rattle.h5_state.proofs.AttributeLaws.{second_at, second_missing}

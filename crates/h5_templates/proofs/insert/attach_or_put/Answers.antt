@@ -4,7 +4,7 @@ use Rattle.h5_interface.specs.Seen.{attach}
 use Rattle.h5_meaning.specs.Changes.{insert_element, pop, with_forest}
 use Rattle.h5_meaning.specs.World.{World}
 use Rattle.h5_state.specs.Steps.{world_of}
-use Rattle.h5_state.proofs.PutLaws.{onok_then}
+use Rattle.h5_operations.proofs.PutLaws.{onok_then}
 use Rattle.h5_templates.proofs.ShadowLaws.{not_attached_is}
 use Rattle.h5_templates.proofs.insert.attach_or_put.Goals as goal
 

@@ -10,7 +10,7 @@ use Rattle.h5_meaning.specs.World.{name_in, names_of}
 use Rattle.h5_meaning.proofs.TemplateLaws.{loose_stands, names-loose}
 use Rattle.h5_state.specs.Summaries.{summaries, summary_of}
 use Rattle.h5_state.specs.View.{open_node, world}
-use Rattle.h5_state.proofs.PutLaws.{same_world, seen_rearranged}
+use Rattle.h5_operations.proofs.PutLaws.{same_world, seen_rearranged}
 use Rattle.h5_state.proofs.StackLaws.{seen_pushed, seen_world}
 use Rattle.h5_state.proofs.StepLaws.{sound_rearranged, sound_told}
 use Rattle.h5_state.proofs.SummaryLaws.{kept_pushed}

@@ -1,0 +1,4 @@
+pub mod FormLaws
+pub mod ItemLaws
+pub mod PutLaws
+pub mod ResetLaws

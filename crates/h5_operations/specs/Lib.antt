@@ -1,0 +1,4 @@
+pub mod Items
+pub mod Notices
+pub mod Places
+pub mod Reset
