@@ -16,7 +16,7 @@ cat >"$room/bin/rt" <<'END'
 #!/bin/sh
 echo "$*" >>"$ROOM/calls"
 case $1 in
-    all)
+    check)
         [ -e "$ROOM/edit" ] && sleep 1 && touch "$ROOM/project/crates/low/src/lib.rt"
         [ -e "$ROOM/proof" ] && echo "the prover's words" && exit 1
         exit 0

@@ -13,7 +13,7 @@ use Rattle.h5_interface.proofs.ChildLaws.{count-append, nodes-append, nodes-join
 use Rattle.h5_interface.proofs.ForestLaws.{parent_of_child, same_forest}
 use Rattle.h5_arena.specs.declared.nodes.Child as own
 use Rattle.h5_arena.specs.declared.nodes.NodeData.{NodeData}
-use Rattle.h5_arena.specs.ArenaModel.{child_view, child_views, forest_in, node_view, node_views}
+use Rattle.h5_arena.specs.ArenaModel.{child_view, child_views, children_in, forest_in, node_view, node_views}
 use Rattle.h5_arena.specs.ChildTests.{is_node_at, is_this}
 use Rattle.h5_arena.proofs.ChildViews.{child_at, set-back}
 use Rattle.h5_arena.proofs.NodeWrites.{child_within, children_at, children_write, node_at, same_write}
@@ -151,11 +151,11 @@ moved_held ns g from to c xs ys d k apart e x y w h =
     case false m all = child_held ns from c k (rw y (grind (arith, nat_tests)))
 
 -- the child that is read at a node
-pub present : (ns : List NodeData) (p at : ℕ) (d : NodeData) (x : own.Child) → p < length ns → d ≡ get_or ns p d → x ≡ get_or d.children.items at x → at < length (children_of (forest_in ns) p) → slice_get (children_of (forest_in ns) p) at ≡ Some (child_view x)
+pub present : (ns : List NodeData) (p at : ℕ) (d : NodeData) (x : own.Child) → p < length ns → d ≡ get_or ns p d → x ≡ get_or (children_in d.children) at x → at < length (children_of (forest_in ns) p) → slice_get (children_of (forest_in ns) p) at ≡ Some (child_view x)
 present ns p at d x h e f w =
     let w' = (rw (children_at ns p d h e) at w) in
-    let within : at < length d.children.items = simp length-map at w' in
-    rw (children_at ns p d h e) (child_at d.children.items at x within f)
+    let within : at < length (children_in d.children) = simp length-map at w' in
+    rw (children_at ns p d h e) (child_at (children_in d.children) at x within f)
 
 -- none has its parent yet, one has, and all have
 pub adopts_none : (f g : Forest) (cs : List Child) (q : Option ℕ) (i : ℕ) → g ≡ f → i ≡ 0 → g ≡ set_parents (has_child (take i cs)) q f
@@ -186,12 +186,12 @@ kept_children f g chosen q p e = ap (λ y. children_of y p) e ∙ set_parents_ch
 pub kept_length : (ns ms : List NodeData) (chosen : ℕ → Bool) (q : Option ℕ) → forest_in ms ≡ set_parents chosen q (forest_in ns) → length ms ≡ length ns
 kept_length ns ms chosen q e = let w : length (node_views ms) ≡ length (node_views ns) = ap (λ f. f.bound) e in sym (length-map ms node_view) ∙ w ∙ length-map ns node_view
 
-pub children_length : (ns : List NodeData) (p : ℕ) (d : NodeData) → p < length ns → d ≡ get_or ns p d → length (children_of (forest_in ns) p) ≡ length d.children.items
-children_length ns p d h e = ap length (children_at ns p d h e) ∙ length-map d.children.items child_view
+pub children_length : (ns : List NodeData) (p : ℕ) (d : NodeData) → p < length ns → d ≡ get_or ns p d → length (children_of (forest_in ns) p) ≡ length (children_in d.children)
+children_length ns p d h e = ap length (children_at ns p d h e) ∙ length-map (children_in d.children) child_view
 
 -- the one node was emptied, and the other filled
 pub moved_forest : (ns : List NodeData) (from to : ℕ) (d d1 e e1 : NodeData) (ys : List Child) → from < length ns → to < length ns → d ≡ get_or ns from d → node_view d1 ≡ record (node_view d) { children = [] }
-    → e ≡ get_or (set ns from d1) to e → node_view e1 ≡ record (node_view e) { children = joined (child_views e.children.items ++ ys) }
+    → e ≡ get_or (set ns from d1) to e → node_view e1 ≡ record (node_view e) { children = joined (child_views (children_in e.children) ++ ys) }
     → forest_in (set (set ns from d1) to e1) ≡ edit_children to (λ cs. cs ++ ys) (edit_children from (λ _. []) (forest_in ns))
 moved_forest ns from to d d1 e e1 ys a b ed wd ee we =
     children_write (set ns from d1) to e e1 (λ cs. cs ++ ys) (rw (length-set ns from d1) b) ee we

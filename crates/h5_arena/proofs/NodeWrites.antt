@@ -16,7 +16,7 @@ use Rattle.h5_interface.specs.Seen.{Seen}
 use Rattle.h5_interface.specs.declared.marks.QuirksMode.{QuirksMode}
 use Rattle.h5_names.specs.AttributeText.{AttributeText}
 use Rattle.h5_arena.specs.declared.nodes.NodeData.{NodeData}
-use Rattle.h5_arena.specs.ArenaModel.{ArenaView, arena_choices, at_node, child_views, forest_in, forest_of, marks_at, name_of_kind, node_view, node_views, link_place}
+use Rattle.h5_arena.specs.ArenaModel.{ArenaView, arena_choices, at_node, child_views, children_in, forest_in, forest_of, link_place, marks_at, name_of_kind, node_view, node_views}
 use Rattle.h5_arena.specs.declared.nodes.NodeId.{NodeId}
 use Rattle.h5_names.specs.declared.qualified.QualName.{QualName}
 
@@ -57,7 +57,7 @@ node_at ns i d h e = slice_get-map node_view ns i ∙ rw (slice_get_read ns (len
 
 -- the children of one node are written
 pub children_write : (ns : List NodeData) (p : ℕ) (d d1 : NodeData) (h : List Child → List Child) → p < length ns → d ≡ get_or ns p d
-    → node_view d1 ≡ record (node_view d) { children = joined (h (child_views d.children.items)) } → forest_in (set ns p d1) ≡ edit_children p h (forest_in ns)
+    → node_view d1 ≡ record (node_view d) { children = joined (h (child_views (children_in d.children))) } → forest_in (set ns p d1) ≡ edit_children p h (forest_in ns)
 children_write ns p d d1 h there e w =
     write_is ns p d1 there ∙ ap (λ v. replaced p v (forest_in ns)) w ∙ replaced_edit (forest_in ns) p (node_view d) h (node_at ns p d there e)
 
@@ -110,7 +110,7 @@ pub same_write : (ns : List NodeData) (p : ℕ) (d d1 : NodeData) → d ≡ get_
 same_write ns p d d1 e w = map-set_same node_view ns p d1 d (w ∙ ap node_view e)
 
 -- a node's children are parted
-pub parted_at : (ns : List NodeData) (p : ℕ) (d : NodeData) → p < length ns → d ≡ get_or ns p d → IsForest (forest_in ns) → AreParted (child_views d.children.items)
+pub parted_at : (ns : List NodeData) (p : ℕ) (d : NodeData) → p < length ns → d ≡ get_or ns p d → IsForest (forest_in ns) → AreParted (child_views (children_in d.children))
 parted_at ns p d h e k = let w = k.parted p in (rw (node_at ns p d h e) at w)
 
 pub node_exists : (ns : List NodeData) (i : ℕ) → slice_get (node_views ns) i ≢ None → i < length ns
@@ -131,11 +131,11 @@ parent_at ns c d h e = rw (node_at ns c d h e) refl
 pub kind_at : (ns : List NodeData) (c : ℕ) (d : NodeData) → c < length ns → d ≡ get_or ns c d → kind_of (forest_in ns) c ≡ Some (node_view d).kind
 kind_at ns c d h e = rw (node_at ns c d h e) refl
 
-pub children_at : (ns : List NodeData) (p : ℕ) (d : NodeData) → p < length ns → d ≡ get_or ns p d → children_of (forest_in ns) p ≡ child_views d.children.items
+pub children_at : (ns : List NodeData) (p : ℕ) (d : NodeData) → p < length ns → d ≡ get_or ns p d → children_of (forest_in ns) p ≡ child_views (children_in d.children)
 children_at ns p d h e = rw (node_at ns p d h e) refl
 
 -- a node that is no fragment stands once among its parent's children
-pub once_at : (ns : List NodeData) (p c : ℕ) (d : NodeData) → IsForest (forest_in ns) → parent_of (forest_in ns) c ≡ Some p → kind_of (forest_in ns) c ≢ Some FragmentNode → d ≡ get_or ns p d → count c (nodes (child_views d.children.items)) ≡ 1
+pub once_at : (ns : List NodeData) (p c : ℕ) (d : NodeData) → IsForest (forest_in ns) → parent_of (forest_in ns) c ≡ Some p → kind_of (forest_in ns) c ≢ Some FragmentNode → d ≡ get_or ns p d → count c (nodes (child_views (children_in d.children))) ≡ 1
 once_at ns p c d k up no_fragment e =
     let one = child_once (forest_in ns) p c k up no_fragment in
     (rw (children_at ns p d (parent_within ns p c k up) e) at one)

@@ -13,6 +13,8 @@ use Rattle.h5_interface.specs.Forest as forest
 use Rattle.h5_interface.specs.Forest.{CommentNode, DoctypeNode, DocumentNode, ElementNode, Forest, FragmentNode, InstructionNode, IsForest, IsNode, Marks, Node}
 use Rattle.h5_interface.specs.Seen.{Seen, no_flags, no_marks, plain}
 use Rattle.h5_interface.specs.SinkChoices.{Rearranges, SinkChoices}
+use Rattle.h5_arena.specs.declared.below.Below.{Below}
+use Rattle.h5_arena.specs.declared.below.Below.TheVariants as below_is
 use Rattle.h5_arena.specs.declared.link.Link.{Link}
 use Rattle.h5_arena.specs.declared.nodes.NodeData.{NodeData}
 use Rattle.h5_arena.specs.declared.nodes.NodeId.{NodeId}
@@ -37,6 +39,16 @@ child_view (child_is.Text text) = forest.ChildText (string_bytes text)
 abbrev pub child_views : List child.Child → List forest.Child
 child_views = map child_view
 
+-- the children that a node keeps
+abbrev pub children_in : Below → List child.Child
+children_in (below_is.One c) = c ∷ []
+children_in (below_is.List list) = list.items
+
+-- they are kept in a list
+abbrev pub IsList : Below → Type 0
+IsList (below_is.One c) = ⊥
+IsList (below_is.List list) = Unit {0}
+
 abbrev pub place : NodeId → ℕ
 place id = id.index
 
@@ -55,7 +67,7 @@ abbrev pub node_view : NodeData → Node
 node_view d = record {
   kind = kind_view (arc_value d.kind);
   attrs = attribute_texts d.attrs.items;
-  children = child_views d.children.items;
+  children = child_views (children_in d.children);
   contents = link_place d.contents;
   parent = link_place d.parent;
   marks = record { flags = d.flags; started = d.started; form = link_place d.form };

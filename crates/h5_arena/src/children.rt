@@ -66,18 +66,6 @@ fn push_to_text(children: &mut Vec<Child>, at: usize, text: &str) -> Result<(), 
     }
 }
 
-// One more child, the last. The first and the second take room for themselves alone: most elements have no others.
-pub(crate) fn add_child(children: &mut Vec<Child>, child: Child) -> Result<(), AllocError>
-    ensures ok { OnOk result (children.new.items ≡ children.old.items ++ child ∷ []) }
-    ensures err { OnErr result (children.new.items ≡ children.old.items) }
-{
-    if children.len() < 2 {
-        children.reserve_exact(1)?;
-    }
-    children.push(child)?;
-    Ok(())
-}
-
 // A text as the last child.
 pub(crate) fn push_text(children: &mut Vec<Child>, text: String) -> Result<(), AllocError>
     requires { AreParted (child_views children.old.items) }
@@ -87,14 +75,14 @@ pub(crate) fn push_text(children: &mut Vec<Child>, text: String) -> Result<(), A
 {
     let count = children.len();
     if count == 0 {
-        add_child(children, Child::Text(text))?;
+        children.push(Child::Text(text))?;
         return Ok(());
     }
     if is_text(&children[count - 1]) {
         push_to_text(children, count - 1, text.as_str())?;
         return Ok(());
     }
-    add_child(children, Child::Text(text))?;
+    children.push(Child::Text(text))?;
     Ok(())
 }
 

@@ -2,6 +2,7 @@
 #![tactic(auto)]
 
 mod attributes;
+mod below;
 mod children;
 pub mod laws;
 mod link;

@@ -4,9 +4,9 @@ ghost use Rattle.h5_interface.specs.Changes as change;
 ghost use Rattle.h5_interface.specs.Forest.{FragmentNode, IsForest, kind_of, parent_of};
 ghost use Rattle.h5_arena.specs.ArenaModel.{forest_in, node_views};
 
-use super::children;
 use super::link::Link;
 use super::nodes::{Child, NodeData, NodeId};
+use super::{below, children};
 use std::alloc::{AllocError, Global};
 use std::mem;
 
@@ -22,8 +22,9 @@ pub(crate) fn append_node(
     ensures ok { OnOk result (forest_in nodes.new.items ≡ change.append_node parent.index id.index (forest_in nodes.old.items)) }
     ensures err { OnErr result (node_views nodes.new.items ≡ node_views nodes.old.items) }
 {
+    let alloc = *nodes.allocator();
     let node = &mut nodes[parent.index];
-    children::add_child(&mut node.children, Child::Node(id))?;
+    below::add_child(alloc, &mut node.children, Child::Node(id))?;
     let moved = &mut nodes[id.index];
     moved.parent = Link::to(parent);
     Ok(())
@@ -40,8 +41,9 @@ pub(crate) fn append_text(
     ensures ok { OnOk result (forest_in nodes.new.items ≡ change.append_text parent.index (string_bytes text) (forest_in nodes.old.items)) }
     ensures err { OnErr result (node_views nodes.new.items ≡ node_views nodes.old.items) }
 {
+    let alloc = *nodes.allocator();
     let node = &mut nodes[parent.index];
-    children::push_text(&mut node.children, text)?;
+    below::push_text(alloc, &mut node.children, text)?;
     Ok(())
 }
 
@@ -59,9 +61,10 @@ fn insert_node_below(
     ensures ok { OnOk result (forest_in nodes.new.items ≡ change.insert_node_below (Some parent.index) sibling.index id.index (forest_in nodes.old.items)) }
     ensures err { OnErr result (node_views nodes.new.items ≡ node_views nodes.old.items) }
 {
+    let alloc = *nodes.allocator();
     let node = &mut nodes[parent.index];
     let at = children::place_of(node.children.as_slice(), sibling.index);
-    children::insert_node(&mut node.children, at, id)?;
+    below::insert_node(alloc, &mut node.children, at, id)?;
     let placed = &mut nodes[id.index];
     placed.parent = Link::to(parent);
     Ok(())
@@ -80,9 +83,10 @@ fn insert_text_below(
     ensures ok { OnOk result (forest_in nodes.new.items ≡ change.insert_text_below (Some parent.index) sibling.index (string_bytes text) (forest_in nodes.old.items)) }
     ensures err { OnErr result (node_views nodes.new.items ≡ node_views nodes.old.items) }
 {
+    let alloc = *nodes.allocator();
     let node = &mut nodes[parent.index];
     let at = children::place_of(node.children.as_slice(), sibling.index);
-    children::insert_text(&mut node.children, at, text)?;
+    below::insert_text(alloc, &mut node.children, at, text)?;
     Ok(())
 }
 
@@ -137,8 +141,9 @@ fn detach_from(nodes: &mut Vec<NodeData>, parent: NodeId, id: NodeId) -> Result<
     ensures ok { OnOk result (forest_in nodes.new.items ≡ change.detach_from (Some parent.index) id.index (forest_in nodes.old.items)) }
     ensures err { OnErr result (node_views nodes.new.items ≡ node_views nodes.old.items) }
 {
+    let alloc = *nodes.allocator();
     let node = &mut nodes[parent.index];
-    children::remove_node(&mut node.children, id)?;
+    below::remove_node(alloc, &mut node.children, id)?;
     let moved = &mut nodes[id.index];
     moved.parent = Link::none();
     Ok(())

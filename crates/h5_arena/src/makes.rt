@@ -8,6 +8,7 @@ ghost use Rattle.h5_interface.specs.Forest.{ElementNode, IsForest};
 ghost use Rattle.h5_interface.specs.Seen.{element, make, make_contents, make_element, plain};
 ghost use Rattle.h5_arena.specs.ArenaModel.{arena_choices, forest_in, kind_view, node_view, node_views};
 
+use super::below::Below;
 use super::link::Link;
 use super::links;
 use super::nodes::{Kind, NodeData, NodeId};
@@ -24,7 +25,7 @@ pub(crate) fn bare_node(alloc: Global, kind: Kind) -> Result<NodeData, AllocErro
     Ok(NodeData {
         kind: Arc::new(alloc, kind)?,
         attrs: Vec::new(alloc),
-        children: Vec::new(alloc),
+        children: Below::none(alloc),
         contents: Link::none(),
         parent: Link::none(),
         flags: ElementFlags {
@@ -49,7 +50,7 @@ fn bare_element(
     NodeData {
         kind,
         attrs,
-        children: Vec::new(alloc),
+        children: Below::none(alloc),
         contents: Link::none(),
         parent: Link::none(),
         flags,

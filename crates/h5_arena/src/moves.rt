@@ -6,7 +6,7 @@ ghost use Rattle.h5_interface.specs.Forest.{Forest, IsForest, children_of, count
 ghost use Rattle.h5_arena.specs.ArenaModel.{forest_in, node_views};
 ghost use Rattle.h5_arena.specs.ChildTests.{is_node_at};
 
-use super::children;
+use super::below::{self, Below};
 use super::link::Link;
 use super::nodes::{Child, NodeData, NodeId};
 use std::alloc::{AllocError, Global};
@@ -21,7 +21,8 @@ fn adopt_child(nodes: &mut Vec<NodeData>, parent: NodeId, at: usize)
         set_parents (is_node_at (children_of (forest_in nodes.old.items) parent.index) at) (Some parent.index) (forest_in nodes.old.items) }
 {
     let node = &nodes[parent.index];
-    match &node.children[at] {
+    let children = node.children.as_slice();
+    match &children[at] {
         Child::Text(_) => {}
         Child::Node(id) => {
             let child = *id;
@@ -60,10 +61,10 @@ pub(crate) fn reparent(
     ensures err { OnErr result (node_views nodes.new.items ≡ node_views nodes.old.items) }
 {
     let emptied = &mut nodes[from.index];
-    let mut moved = mem::replace(&mut emptied.children, Vec::new(alloc));
+    let mut moved = mem::replace(&mut emptied.children, Below::none(alloc));
     let filled = &mut nodes[to.index];
     let start = filled.children.len();
-    if let Err(e) = children::append_children(&mut filled.children, &mut moved) {
+    if let Err(e) = below::append_children(alloc, &mut filled.children, &mut moved) {
         let restored = &mut nodes[from.index];
         restored.children = moved;
         return Err(e);

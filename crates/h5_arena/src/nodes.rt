@@ -1,4 +1,5 @@
 //! The nodes of an arena.
+use super::below::Below;
 use super::link::Link;
 use h5_interface::ElementFlags;
 use h5_names::{Attribute, QualName};
@@ -37,12 +38,12 @@ pub enum Child {
     Text(String),
 }
 
-/// A node. What it is, elements of one name share. No vector of children is allocated before the first child.
+/// A node. What it is, elements of one name share.
 #[derive(Drop)]
 pub(crate) struct NodeData {
     pub(crate) kind: Arc<Kind>,
     pub(crate) attrs: Vec<Attribute>,
-    pub(crate) children: Vec<Child>,
+    pub(crate) children: Below,
     pub(crate) contents: Link,
     // The node whose child this is, or whose contents.
     pub(crate) parent: Link,

@@ -15,7 +15,8 @@ use std::marker::Model;
 /// What stands before the colon of a name (DOM standard: namespace prefix).
 #[derive(Debug, Drop)]
 pub struct Prefix {
-    text: String,
+    // Few names have one, so it takes the room of a pointer.
+    text: Box<String>,
 }
 
 impl Model for Prefix {
@@ -24,7 +25,7 @@ impl Model for Prefix {
 
     ghost Value = { List ℕ };
 
-    ghost view = { λ name. string_bytes name.text };
+    ghost view = { λ name. string_bytes name.text.value };
 }
 
 impl Prefix {
@@ -33,7 +34,7 @@ impl Prefix {
         ensures { IfOk result (λ name. name ≡ text.now) }
     {
         Ok(Prefix {
-            text: String::from_str(alloc, text)?,
+            text: Box::new(alloc, String::from_str(alloc, text)?)?,
         })
     }
 

@@ -59,11 +59,12 @@ fn find_known(text: &str) -> Option<Known>
     }
 }
 
-// What stands behind a namespace: one of those that HTML knows, or a text.
+// What stands behind a namespace: one of those that HTML knows, or a text. No tree of HTML has any other, so that takes
+// the room of a pointer.
 #[derive(Debug, Drop)]
 enum Url {
     Known(Known),
-    Other(String),
+    Other(Box<String>),
 }
 
 /// The namespace that a name belongs to, by its URL (DOM standard: namespace). The empty text is no namespace.
@@ -97,7 +98,7 @@ impl Namespace {
                 url: Url::Known(url),
             }),
             None => Ok(Namespace {
-                url: Url::Other(String::from_str(alloc, text)?),
+                url: Url::Other(Box::new(alloc, String::from_str(alloc, text)?)?),
             }),
         }
     }

@@ -2,7 +2,7 @@
 use Rattle.std.proofs.Common.{◌≡◌, ℕ, Bool, List, Result, Ok, Err, OnOk, OnErr, refl, ap, sym, subst, ◌∙◌}
 use Rattle.h5_names.specs.declared.qualified.QualName.{QualName}
 use Rattle.h5_names.specs.AttributeText.{AttributeText}
-use Rattle.h5_interface.specs.Forest.{ChildNode, CommentNode, Forest, IsElement, IsForest, IsNode, kind_of}
+use Rattle.h5_interface.specs.Forest.{ChildNode, CommentNode, Forest, IsElement, IsForest, kind_of}
 use Rattle.h5_interface.specs.NewElement.{flags_of}
 use Rattle.h5_interface.specs.Seen.{Seen, changed, make, make_element, plain}
 use Rattle.h5_interface.specs.SinkChoices.{Rearranges, SinkChoices}

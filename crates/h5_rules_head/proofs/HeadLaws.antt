@@ -1,5 +1,5 @@
 -- Head content after the head: what its row comes to, once the head element has left the stack again.
-use Rattle.std.proofs.Common.{◌≡◌, ◌≢◌, ◌<◌, ℕ, MatchOption, None, Option, Some, option_map, true, ap, length, refl, subst, sym, ◌∙◌, arith}
+use Rattle.std.proofs.Common.{◌≡◌, ◌≢◌, ◌<◌, ℕ, MatchOption, None, Option, Some, option_map, true, ap, length, subst, sym, ◌∙◌, arith}
 use Rattle.h5_token.specs.TokenText.{TagText}
 use Rattle.h5_interface.specs.SinkChoices.{SinkChoices}
 use Rattle.h5_types.specs.TurnText.{TagTurn}

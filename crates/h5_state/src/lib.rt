@@ -1,5 +1,4 @@
-//! The state of a tree builder, and the steps that rules are made of (HTML standard, section 13.2.4,
-//! "Parse state").
+//! The state of a tree builder, and single steps over it (HTML standard, section 13.2.4, "Parse state").
 #![tactic(auto)]
 
 mod blanks;

@@ -1,5 +1,5 @@
 -- Multisets of attributes.
-use Rattle.std.specs.Prelude.{◌≡◌, ℕ, ◌+◌, Bool, if◌then◌else◌, List, [], ◌∷◌}
+use Rattle.std.specs.Prelude.{◌≡◌, ℕ, ◌+◌, if◌then◌else◌, List, [], ◌∷◌}
 use Rattle.h5_names.specs.AttributeText.{AttributeText, is_same_attribute}
 
 -- how often an attribute stands in a list

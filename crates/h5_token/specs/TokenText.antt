@@ -1,5 +1,5 @@
 -- Tokens, without where their texts lie in memory.
-use Rattle.std.specs.Prelude.{◌≡◌, ℕ, Bool, List, Option, String, string_bytes}
+use Rattle.std.specs.Prelude.{◌≡◌, ℕ, Bool, List, Option, string_bytes}
 use Rattle.std.specs.List.{find}
 use Rattle.std.specs.Option.{option_map}
 use Rattle.h5_names.specs.AttributeText.{AttributeText, attribute_texts, is_same_text}

@@ -14,12 +14,13 @@ pub enum TagKind {
 /// A start tag or an end tag (HTML standard, section 13.2.5, "Tokenization").
 #[derive(Debug, Drop, PartialEq, Eq)]
 pub struct Tag {
+    // What is small comes first and together: so a tag, which is moved from the reader to its rule, takes 64 bytes.
     pub kind: TagKind,
-    pub name: LocalName,
     pub self_closing: bool,
-    pub attrs: Vec<Attribute>,
     /// Whether the reader dropped an attribute, since one of its name came before.
     pub had_duplicate_attributes: bool,
+    pub name: LocalName,
+    pub attrs: Vec<Attribute>,
 }
 
 impl Tag {

@@ -41,6 +41,7 @@ fn step_tag_by_mode<S: TreeSink>(
 }
 
 // The chain of a tag whose first turn isn't in foreign content.
+#[inline(always)]
 fn settle_tag_in_html<S: TreeSink>(
     sink: &mut S,
     state: &mut State<S::Handle>,

@@ -1,5 +1,5 @@
 -- Tokens that take turns, without where their texts lie in memory.
-use Rattle.std.specs.Prelude.{◌≢◌, ℕ, Bool, true, false, List, [], string_bytes}
+use Rattle.std.specs.Prelude.{◌≢◌, ℕ, Bool, false, List, [], string_bytes}
 use Rattle.h5_token.specs.TokenText.{TagText, tag_text}
 use Rattle.h5_token.specs.declared.tag.TagKind.{TagKind}
 use Rattle.h5_token.specs.declared.tag.TagKind.TheVariants.{StartTag, EndTag}

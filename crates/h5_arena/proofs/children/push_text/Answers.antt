@@ -9,5 +9,5 @@ returns-then-is_text-clause-ok c =
 
 pub returns-clause-ok : goal.returns-clause-ok
 returns-clause-ok c =
-    rw c.in_ok-add_child-2.ensures.ok
+    rw c.in_ok-push-2.ensures.items
     (pushed_after_node c.args.children.now.items _ c.index.result.now _ _ (omega arith) c.index.ensures (sym c.is_text.ensures ∙ c.if-is_text.false) refl c.requires)

@@ -1,8 +1,8 @@
 use Rattle.std.proofs.Common.{◌≡◌, Some, ◌∷◌, ap, map, refl, reverse, subst, sym, ◌∙◌}
 use Rattle.h5_meaning.specs.FormattingNames.{html_name}
-use Rattle.h5_meaning.specs.Changes.{push_head, with_known}
+use Rattle.h5_meaning.specs.Changes.{with_known}
 use Rattle.h5_meaning.specs.Sound.{Sound}
-use Rattle.h5_meaning.specs.World.{World, name_in, name_of_found, names_of}
+use Rattle.h5_meaning.specs.World.{name_in, name_of_found, names_of}
 use Rattle.h5_state.specs.Summaries.{summary_of}
 use Rattle.h5_state.specs.View.{open_node, with_stack, world}
 use Rattle.h5_state.proofs.StackLaws.{seen_pushed}

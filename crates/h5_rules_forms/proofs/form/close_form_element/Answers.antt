@@ -1,11 +1,8 @@
-use Rattle.std.proofs.Common.{◌≡◌, Some, ap, false, refl, subst, sym, true, ◌∙◌}
+use Rattle.std.proofs.Common.{◌≡◌, ap, false, refl, subst, sym, true, ◌∙◌}
 use Rattle.h5_token.specs.TokenText.{tag_text}
 use Rattle.h5_types.specs.TurnText.{TagTurn}
 use Rattle.h5_types.specs.declared.turns.ProcessResult.TheVariants.{Done}
-use Rattle.h5_tag_sets.specs.TagSets.{is_default_scope}
-use Rattle.h5_meaning.specs.Scope.{node_in_scope}
 use Rattle.h5_meaning.specs.AdoptionAgency.{remove_from_stack}
-use Rattle.h5_meaning.specs.Changes.{clear_form}
 use Rattle.h5_meaning.specs.Closing.{generate_implied_end}
 use Rattle.h5_meaning.specs.InBody.{form_in_scope}
 use Rattle.h5_meaning.specs.Rows.{Follows}

@@ -48,14 +48,13 @@ doctypes x y =
 tags : (x y : Tag) → Decides ((tag_eq.eq-value).it x y) (tag_text x ≡ tag_text y)
 tags x y =
     Decides-like _
-    (λ p i. record { kind = p.0 i; name = p.1.0 i; self_closing = p.1.1.0 i; attrs = p.1.1.1.0 i; had_duplicate_attributes = p.1.1.1.1 i })
-    (λ e. (ap (λ t. t.kind) e, (ap (λ t. t.name) e, (ap (λ t. t.self_closing) e, (ap (λ t. t.attrs) e, ap (λ t. t.had_duplicate_attributes) e)))))
+    (λ p i. record { kind = p.0 i; self_closing = p.1.0 i; had_duplicate_attributes = p.1.1.0 i; name = p.1.1.1.0 i; attrs = p.1.1.1.1 i })
+    (λ e. (ap (λ t. t.kind) e, (ap (λ t. t.self_closing) e, (ap (λ t. t.had_duplicate_attributes) e, (ap (λ t. t.name) e, ap (λ t. t.attrs) e)))))
     (Decides-and _ _ (kinds x.kind y.kind)
-    (Decides-and _ _ (bytes_eq-Decides x.name y.name)
     (Decides-and _ _ (booleans_Decides x.self_closing y.self_closing)
-    (Decides-and _ _
-    (lists_decide {eq = λ a b. is_same_attribute (attribute_text a) (attribute_text b)} attribute_text (λ a b. same_attribute (attribute_text a) (attribute_text b)) x.attrs.items y.attrs.items)
-    (booleans_Decides x.had_duplicate_attributes y.had_duplicate_attributes)))))
+    (Decides-and _ _ (booleans_Decides x.had_duplicate_attributes y.had_duplicate_attributes)
+    (Decides-and _ _ (bytes_eq-Decides x.name y.name)
+    (lists_decide {eq = λ a b. is_same_attribute (attribute_text a) (attribute_text b)} attribute_text (λ a b. same_attribute (attribute_text a) (attribute_text b)) x.attrs.items y.attrs.items)))))
 
 tokens : (x y : Token) → Decides ((token_eq.eq-value).it x y) (token_text x ≡ token_text y)
 tokens (DoctypeToken x) (DoctypeToken y) = Decides-like _ (λ e. ap DoctypeIs e) (λ e. cc) (doctypes x y)

@@ -1,4 +1,4 @@
-use Rattle.std.proofs.Common.{◌≡◌, true, sym, ◌∙◌}
+use Rattle.std.proofs.Common.{sym, ◌∙◌}
 use Rattle.h5_token.proofs.Multisets.{counted, counted_back}
 use Rattle.h5_token.proofs.tag.have_same_attributes.Goals as goal
 

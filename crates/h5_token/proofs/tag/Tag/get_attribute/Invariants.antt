@@ -1,4 +1,4 @@
-use Rattle.std.proofs.Common.{◌≡◌, take, drop}
+use Rattle.std.proofs.Common.{◌≡◌, drop}
 use Rattle.h5_names.specs.AttributeText.{attribute_texts}
 use Rattle.h5_token.specs.TokenText.{first_value}
 use Rattle.h5_token.proofs.tag.Tag.get_attribute.Given as goal
