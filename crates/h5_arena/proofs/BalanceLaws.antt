@@ -8,10 +8,9 @@ use Rattle.h5_names.specs.AttributeText.{AttributeText}
 use Rattle.h5_names.specs.declared.qualified.QualName.{QualName}
 use Rattle.h5_interface.specs.Forest.{Child, ChildNode, ChildText, CommentNode, DoctypeNode, DocumentNode, ElementNode, Forest, FragmentNode, InstructionNode, Kind, Node}
 use Rattle.h5_serialize.specs.Call.{Call, CommentOf, DoctypeOf, EndOf, InstructionOf, StartOf, TextOf}
-use Rattle.h5_serialize.specs.Openers.{base_of}
+use Rattle.h5_serialize.specs.Openers.{base_of, start_of}
 use Rattle.h5_serialize.specs.Standing.{Standing, Working, has_orphan, new_standing, standing_after}
 use Rattle.h5_serialize.specs.declared.openers.Opener.{Opener}
-use Rattle.h5_serialize.specs.declared.openers.Opener.TheVariants.{Start}
 use Rattle.h5_serialize.specs.declared.options.SerializeOpts.{SerializeOpts}
 use Rattle.h5_serialize.specs.declared.options.TraversalScope.{TraversalScope}
 use Rattle.h5_serialize.specs.declared.options.TraversalScope.TheVariants.{ChildrenOnly, IncludeNode}
@@ -65,11 +64,11 @@ instruction_leaves t u s true o os = refl
 instruction_leaves t u s false o os = refl
 
 -- a start and an end
-started : (name : QualName) (attrs : List AttributeText) (scripting create : Bool) (opener : Opener) (openers : List Opener) → after_all (Working scripting create (opener ∷ openers)) (StartOf name attrs ∷ []) ≡ Working scripting create (Start name ∷ opener ∷ openers)
+started : (name : QualName) (attrs : List AttributeText) (scripting create : Bool) (opener : Opener) (openers : List Opener) → after_all (Working scripting create (opener ∷ openers)) (StartOf name attrs ∷ []) ≡ Working scripting create (start_of scripting name ∷ opener ∷ openers)
 started name attrs s true o os = refl
 started name attrs s false o os = refl
 
-ended : (name : QualName) (scripting create : Bool) (opener : Opener) (openers : List Opener) → after_all (Working scripting create (Start name ∷ opener ∷ openers)) (EndOf name ∷ []) ≡ Working scripting create (opener ∷ openers)
+ended : (name : QualName) (scripting create : Bool) (opener : Opener) (openers : List Opener) → after_all (Working scripting create (start_of scripting name ∷ opener ∷ openers)) (EndOf name ∷ []) ≡ Working scripting create (opener ∷ openers)
 ended name s true o os = refl
 ended name s false o os = refl
 
@@ -77,12 +76,12 @@ balanced_element : (name : QualName) (attrs : List AttributeText) (below : List 
 balanced_element name attrs below h = record {
   parents = λ s c o os.
       orphans_append (Working s c (o ∷ os)) _ (StartOf name attrs ∷ []) (below ++ EndOf name ∷ []) (no_orphan (StartOf name attrs) s c o os) (started name attrs s c o os)
-      (orphans_append (Working s c (Start name ∷ o ∷ os)) _ below (EndOf name ∷ []) (h.parents s c (Start name) (o ∷ os)) (h.leaves s c (Start name) (o ∷ os)) (no_orphan (EndOf name) s c (Start name) (o ∷ os)));
+      (orphans_append (Working s c (start_of s name ∷ o ∷ os)) _ below (EndOf name ∷ []) (h.parents s c (start_of s name) (o ∷ os)) (h.leaves s c (start_of s name) (o ∷ os)) (no_orphan (EndOf name) s c (start_of s name) (o ∷ os)));
   leaves = λ s c o os.
       after_append (Working s c (o ∷ os)) (StartOf name attrs ∷ []) (below ++ EndOf name ∷ [])
       ∙ ap (λ m. after_all m (below ++ EndOf name ∷ [])) (started name attrs s c o os)
-      ∙ after_append (Working s c (Start name ∷ o ∷ os)) below (EndOf name ∷ [])
-      ∙ ap (λ m. after_all m (EndOf name ∷ [])) (h.leaves s c (Start name) (o ∷ os))
+      ∙ after_append (Working s c (start_of s name ∷ o ∷ os)) below (EndOf name ∷ [])
+      ∙ ap (λ m. after_all m (EndOf name ∷ [])) (h.leaves s c (start_of s name) (o ∷ os))
       ∙ ended name s c o os;
 }
 
@@ -115,4 +114,4 @@ balanced_walk f n IncludeNode = balanced_within f.bound f n
 balanced_walk f n (ChildrenOnly name) = balanced_children (calls_within f.bound f) (balanced_within f.bound f) (shown_children f n)
 
 pub no_orphan_in_walk : (f : Forest) (n : ℕ) (scope : TraversalScope) (opts : SerializeOpts) → has_orphan (new_standing opts) (walk_of f n scope) ≡ false
-no_orphan_in_walk f n scope opts = (balanced_walk f n scope).parents opts.scripting_enabled opts.create_missing_parent (base_of opts.traversal_scope) []
+no_orphan_in_walk f n scope opts = (balanced_walk f n scope).parents opts.scripting_enabled opts.create_missing_parent (base_of opts.scripting_enabled opts.traversal_scope) []

@@ -1,5 +1,5 @@
 -- Children that move from one node to another.
-use Rattle.std.proofs.Common.{◌≡◌, ◌≢◌, ◌∙◌, ℕ, ◌+◌, ◌-◌, ◌<◌, ◌≤◌, Bool, true, false, cond, List, [], ◌∷◌, ◌++◌, ap, arith, drop, get_or, length, refl, sym, take}
+use Rattle.std.proofs.Common.{◌≡◌, ◌≢◌, ◌∙◌, ℕ, ◌+◌, ◌-◌, ◌<◌, ◌≤◌, Bool, true, false, cond, eqb, List, [], ◌∷◌, ◌++◌, ap, arith, drop, get_or, length, refl, sym, take}
 use Rattle.std.specs.Prelude.{◌==◌, ◌||◌, if◌then◌else◌, nat_lt, Option, None, Some, slice_get}
 use Rattle.std.specs.Option.{option_map}
 use Rattle.std.proofs.Math.ListN.{set}
@@ -7,7 +7,7 @@ use Rattle.std.proofs.lemmas.Bool.{eq-eqb, eqb-true}
 use Rattle.std.proofs.lemmas.Bool.Decides.{nat_tests}
 use Rattle.std.proofs.lemmas.List.{get_or-set_other, get_or-set_same, length-drop, length-map, length-set, map-set}
 use Prim.Native.Nat.{zero, suc}
-use Rattle.h5_interface.specs.Changes.{edit_children, has_child, join, joined, reparent, set_parents}
+use Rattle.h5_interface.specs.Changes.{edit_children, has_child, join, joined, reparent, set_parents, without}
 use Rattle.h5_interface.specs.Forest.{AreParted, Child, ChildNode, ChildText, Forest, IsForest, Node, children_of, count, nodes}
 use Rattle.h5_interface.proofs.ChildLaws.{count-append, nodes-append, nodes-joined}
 use Rattle.h5_interface.proofs.ForestLaws.{parent_of_child, same_forest}
@@ -210,3 +210,12 @@ put_back ns from to d d1 e e1 r2 a ed ee we wr =
 
 pub restored_at : (ns : List NodeData) (from to : ℕ) (d1 e1 r : NodeData) → from < length ns → from ≢ to → r ≡ get_or (set (set ns from d1) to e1) from r → r ≡ d1
 restored_at ns from to d1 e1 r a apart h = h ∙ get_or-set_other (set ns from d1) to from e1 r apart ∙ get_or-set_same ns from d1 r a
+
+same_node : (b : Bool) (n : ℕ) → (if b then 1 else 0) + 0 ≡ 1 → joined (cond b [] (ChildNode n ∷ [])) ≡ []
+same_node true n h = refl
+same_node false n h = absurd (omega (arith, h))
+
+-- what is left of an only child that is taken away
+pub only_removed : (id : ℕ) (c : Child) → count id (nodes (c ∷ [])) ≡ 1 → joined (without id (c ∷ [])) ≡ []
+only_removed id (ChildNode n) h = same_node (eqb id n) n h
+only_removed id (ChildText t) h = absurd (omega (arith, h))

@@ -152,17 +152,20 @@ pub(crate) fn insert_text(
     }
 }
 
-// Takes a node from among children.
+// Takes a node from among children. An only child is let go without a list.
+#[tactic(auto, using(crate::proofs::MoveLaws::only_removed))]
 pub(crate) fn remove_node(alloc: Global, children: &mut Below, id: NodeId) -> Result<(), AllocError>
     requires once { count id.index (nodes (child_views (children_in children.old))) ≡ 1 }
     requires parted { AreParted (child_views (children_in children.old)) }
     ensures ok { OnOk result (child_views (children_in children.new) ≡ joined (without id.index (child_views (children_in children.old)))) }
     ensures err { OnErr result (child_views (children_in children.new) ≡ child_views (children_in children.old)) }
 {
-    make_list(alloc, children)?;
     match children {
         Below::List(list) => children::remove_node(list, id),
-        Below::One(_) => unreachable!(),
+        Below::One(_) => {
+            *children = Below::none(alloc);
+            Ok(())
+        }
     }
 }
 

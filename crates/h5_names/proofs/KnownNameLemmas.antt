@@ -50,7 +50,7 @@ pub known_not_other : (known : KnownName) → is_known known ≡ true → known 
 known_not_other known h e = let f : false ≡ true = sym (ap is_known e) ∙ h in cc
 
 -- tests of which each is true where the other is
-same_tests : (b c : Bool) → (b ≡ true → c ≡ true) → (c ≡ true → b ≡ true) → b ≡ c
+pub same_tests : (b c : Bool) → (b ≡ true → c ≡ true) → (c ≡ true → b ≡ true) → b ≡ c
 same_tests true c f g = sym (f refl)
 same_tests false true f g = g refl
 same_tests false false f g = refl

@@ -109,6 +109,7 @@ impl LocalName {
     }
 
     /// An equal local name, or an `AllocError` where memory is refused. A name that HTML knows takes none.
+    #[inline(always)]
     pub fn clone(&self) -> Result<LocalName, AllocError>
         ensures value { IfOk result (λ name. name ≡ self.now) }
         ensures free { known_name_of self.now ≢ KnownName.Other → IsOk result }

@@ -1,5 +1,5 @@
 //! Namespaces.
-ghost use Rattle.std.specs.Prelude.{◌≡◌, [], IfOk, IsOk, IsTrue, Some, is_some, nat_eq, refl};
+ghost use Rattle.std.specs.Prelude.{◌≡◌, [], IfOk, IsOk, IsTrue, Some, bytes_eq, is_some, nat_eq, refl};
 ghost use Rattle.std.specs.Cmp.{partial_equiv_from_equiv};
 ghost use Rattle.std.specs.Cmp.Lexicographic.{pointwise, slice_cmp, nat_list_eq_equiv, nat_list_cmp_total, texts_ties, texts_po};
 ghost use Rattle.std.specs.Cmp.Rules.{hashing};
@@ -16,7 +16,7 @@ use std::hash::{Hash, Hasher};
 use std::marker::Model;
 
 // The namespaces that HTML knows.
-#[derive(Clone, Copy, Debug)]
+#[derive(Clone, Copy, Debug, PartialEq, Eq)]
 enum Known {
     NoNamespace,
     Html,
@@ -57,6 +57,14 @@ fn find_known(text: &str) -> Option<Known>
         namespaces::XMLNS => Some(Known::Xmlns),
         _ => None,
     }
+}
+
+// Whether the texts of two are the same, without a look at them.
+#[tactic(auto, using(crate::proofs::UrlLemmas::same_by_number))]
+fn are_same(one: Known, another: Known) -> bool
+    ensures { result ≡ bytes_eq (known_text one) (known_text another) }
+{
+    one == another
 }
 
 // What stands behind a namespace: one of those that HTML knows, or a text. No tree of HTML has any other, so that takes
@@ -153,6 +161,7 @@ impl Namespace {
     }
 
     /// An equal namespace, or an `AllocError` where memory is refused. One that HTML knows takes none.
+    #[inline(always)]
     pub fn clone(&self) -> Result<Namespace, AllocError>
         ensures value { IfOk result (λ name. name ≡ self.now) }
         ensures free { IsTrue (is_some (found_url self.now)) → IsOk result }
@@ -174,7 +183,10 @@ impl PartialEq for Namespace {
     ghost laws = { partial_equiv_from_equiv nat_list_eq_equiv };
 
     fn eq(&self, other: &Namespace) -> bool {
-        self.as_str() == other.as_str()
+        match (&self.url, &other.url) {
+            (Url::Known(one), Url::Known(another)) => are_same(*one, *another),
+            _ => self.as_str() == other.as_str(),
+        }
     }
 }
 

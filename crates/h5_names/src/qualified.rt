@@ -37,6 +37,7 @@ impl QualName {
     }
 
     /// An equal name, or an `AllocError` where memory is refused.
+    #[inline(always)]
     pub fn clone(&self) -> Result<QualName, AllocError>
         ensures { IfOk result (λ name. name ≡ self.now) }
     {

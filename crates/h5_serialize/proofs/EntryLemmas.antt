@@ -3,7 +3,7 @@ use Rattle.std.proofs.Common.{◌≡◌, ◌+◌, ◌-◌, ◌<◌, ◌||◌, Li
 use Rattle.std.proofs.lemmas.List.{reverse-append, take_more}
 use Rattle.std.proofs.lemmas.Option.{get_or_from_slice_get}
 use Rattle.std.specs.List.{slice_get}
-use Rattle.h5_serialize.specs.Openers.{are_hidden, is_void_start}
+use Rattle.h5_serialize.specs.Openers.{are_hidden}
 use Rattle.h5_serialize.specs.Entries.{openers_in, AreMarked, AreMarkedFrom}
 use Rattle.h5_serialize.specs.declared.openers.Entry.{Entry}
 
@@ -35,7 +35,7 @@ last_marked entries entry e marked =
     let first = subst AreMarkedFrom split marked in
     first.0 ∙ ap are_hidden (ap (map (λ x. x.opener)) (sym split) ∙ sym (map_reverse (λ x. x.opener) entries))
 
-pub marked_push : (entries : List Entry) (entry : Entry) → AreMarked entries → entry.is_hidden ≡ is_void_start entry.opener || are_hidden (openers_in entries) → AreMarked (entries ++ entry ∷ [])
+pub marked_push : (entries : List Entry) (entry : Entry) → AreMarked entries → entry.is_hidden ≡ entry.opener.is_void || are_hidden (openers_in entries) → AreMarked (entries ++ entry ∷ [])
 marked_push entries entry marked e =
     subst AreMarkedFrom (sym (reverse-append entries (entry ∷ [])))
-    (e ∙ ap (λ l. is_void_start entry.opener || are_hidden l) (map_reverse (λ x. x.opener) entries), marked)
+    (e ∙ ap (λ l. entry.opener.is_void || are_hidden l) (map_reverse (λ x. x.opener) entries), marked)

@@ -1,3 +1,4 @@
+mod KnownTags
 pub mod EachLaws
 pub mod EntryLemmas
 pub mod EscapeLaws

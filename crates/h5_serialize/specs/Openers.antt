@@ -1,41 +1,36 @@
 -- What stands open where a call writes, innermost first.
-use Rattle.std.specs.Prelude.{Bool, true, false, ◌&&◌, List, [], ◌∷◌, Option, Some, None, if◌then◌else◌}
+use Rattle.std.specs.Prelude.{Bool, true, false, ◌&&◌, List, [], ◌∷◌, Some, None, if◌then◌else◌}
 use Rattle.std.specs.List.{list_any}
 use Rattle.h5_names.specs.declared.qualified.QualName.{QualName}
 use Rattle.h5_serialize.specs.declared.openers.Opener.{Opener}
-use Rattle.h5_serialize.specs.declared.openers.Opener.TheVariants.{Base, Missing, Start}
 use Rattle.h5_serialize.specs.declared.options.TraversalScope.{TraversalScope}
 use Rattle.h5_serialize.specs.declared.options.TraversalScope.TheVariants.{IncludeNode, ChildrenOnly}
 use Rattle.h5_serialize.specs.Call.{Call, StartOf, EndOf, TextOf, CommentOf, DoctypeOf, InstructionOf}
 use Rattle.h5_serialize.specs.Names.{is_void, is_html, is_raw_name}
 
--- the base entry of a scope: of a node whose children alone are written, its local name
-abbrev pub base_of : TraversalScope → Opener
-base_of IncludeNode = Base None
-base_of (ChildrenOnly None) = Base None
-base_of (ChildrenOnly (Some name)) = Base (Some name.local)
+-- one of which nothing is asked
+abbrev pub plain : Opener
+plain = record { is_void = false; is_raw = false }
 
--- a start of a void element; the base entry never is one
-abbrev pub is_void_start : Opener → Bool
-is_void_start (Base local) = false
-is_void_start Missing = false
-is_void_start (Start name) = is_void name
+-- the base entry of a scope: of a node whose children alone are written, it counts as an HTML element of its local name, but
+-- never as the start of a void element
+abbrev pub base_of : (scripting_enabled : Bool) → TraversalScope → Opener
+base_of scripting_enabled IncludeNode = plain
+base_of scripting_enabled (ChildrenOnly None) = plain
+base_of scripting_enabled (ChildrenOnly (Some name)) = record { is_void = false; is_raw = is_raw_name scripting_enabled name.local }
+
+-- the start of an element of this name
+abbrev pub start_of : (scripting_enabled : Bool) → QualName → Opener
+start_of scripting_enabled name = record { is_void = is_void name; is_raw = is_html name && is_raw_name scripting_enabled name.local }
 
 -- tags are left out where some opener is the start of a void element
 abbrev pub are_hidden : List Opener → Bool
-are_hidden openers = list_any is_void_start openers
+are_hidden openers = list_any (λ o. o.is_void) openers
 
--- whether text right inside an opener is written as it stands; the base entry counts as an HTML element
-abbrev pub is_raw_opener : (scripting_enabled : Bool) → Opener → Bool
-is_raw_opener scripting_enabled (Base None) = false
-is_raw_opener scripting_enabled (Base (Some local)) = is_raw_name scripting_enabled local
-is_raw_opener scripting_enabled Missing = false
-is_raw_opener scripting_enabled (Start name) = is_html name && is_raw_name scripting_enabled name.local
-
--- the last opener decides
-abbrev pub is_raw : (scripting_enabled : Bool) → List Opener → Bool
-is_raw scripting_enabled [] = false
-is_raw scripting_enabled (opener ∷ openers) = is_raw_opener scripting_enabled opener
+-- whether text is written as it stands: the last opener decides
+abbrev pub is_raw : List Opener → Bool
+is_raw [] = false
+is_raw (opener ∷ openers) = opener.is_raw
 
 -- a call that has to stand inside something
 abbrev pub needs_parent : Call → Bool
@@ -48,7 +43,7 @@ needs_parent (InstructionOf target content) = false
 
 -- a missing opener where none is left
 abbrev pub with_parent : List Opener → List Opener
-with_parent [] = Missing ∷ []
+with_parent [] = plain ∷ []
 with_parent (opener ∷ openers) = opener ∷ openers
 
 -- the openers of a call: where it needs one and none is left, a missing one is made if that is allowed
@@ -67,21 +62,10 @@ without_last [] = []
 without_last (opener ∷ openers) = openers
 
 -- the openers that a call leaves, from its own: a start opens, an end closes the last one
-abbrev pub openers_left : Call → List Opener → List Opener
-openers_left (StartOf name attrs) openers = Start name ∷ openers
-openers_left (EndOf name) openers = without_last openers
-openers_left (TextOf text) openers = openers
-openers_left (CommentOf text) openers = openers
-openers_left (DoctypeOf name) openers = openers
-openers_left (InstructionOf target content) openers = openers
-
--- the name of a start
-abbrev pub start_name : Opener → Option QualName
-start_name (Base local) = None
-start_name Missing = None
-start_name (Start name) = Some name
-
--- the name of the last opener, where that is a start
-abbrev pub last_start : List Opener → Option QualName
-last_start [] = None
-last_start (opener ∷ openers) = start_name opener
+abbrev pub openers_left : (scripting_enabled : Bool) → Call → List Opener → List Opener
+openers_left scripting_enabled (StartOf name attrs) openers = start_of scripting_enabled name ∷ openers
+openers_left scripting_enabled (EndOf name) openers = without_last openers
+openers_left scripting_enabled (TextOf text) openers = openers
+openers_left scripting_enabled (CommentOf text) openers = openers
+openers_left scripting_enabled (DoctypeOf name) openers = openers
+openers_left scripting_enabled (InstructionOf target content) openers = openers

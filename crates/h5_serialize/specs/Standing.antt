@@ -15,7 +15,7 @@ pub data Standing : Type 0 where
 
 -- a new serializer keeps the one base entry of its options
 abbrev pub new_standing : SerializeOpts → Standing
-new_standing opts = Working opts.scripting_enabled opts.create_missing_parent (base_of opts.traversal_scope ∷ [])
+new_standing opts = Working opts.scripting_enabled opts.create_missing_parent (base_of opts.scripting_enabled opts.traversal_scope ∷ [])
 
 -- the answer to a call
 abbrev pub answer_to : Standing → Call → Result (Unit {0}) SerializeFault
@@ -34,13 +34,13 @@ abbrev pub standing_after : Standing → Call → Standing
 standing_after Broken call = Broken
 standing_after (Working scripting create openers) call =
     Working scripting create
-    (if lacks_parent create call openers then openers else openers_left call (openers_of create call openers))
+    (if lacks_parent create call openers then openers else openers_left scripting call (openers_of create call openers))
 
 -- and writes nothing
 abbrev pub text_written : Standing → Call → List ℕ
 text_written Broken call = []
 text_written (Working scripting create openers) call =
-    if lacks_parent create call openers then [] else written scripting (openers_of create call openers) call
+    if lacks_parent create call openers then [] else written (openers_of create call openers) call
 
 -- a call that may take memory
 abbrev pub takes_memory : Call → Bool

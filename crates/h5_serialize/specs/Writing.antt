@@ -1,5 +1,5 @@
 -- What is written for a call (HTML standard, section 13.3, "Serializing HTML fragments").
-use Rattle.std.specs.Prelude.{ℕ, Bool, true, false, List, [], ◌++◌, if◌then◌else◌, codes}
+use Rattle.std.specs.Prelude.{ℕ, true, false, List, [], ◌++◌, if◌then◌else◌, codes}
 use Rattle.std.specs.List.{flat_map}
 use Rattle.h5_names.specs.AttributeText.{AttributeText, is_same_text}
 use Rattle.h5_names.specs.declared.qualified.QualName.{QualName}
@@ -29,12 +29,16 @@ start_tag name attrs = codes "<" ++ name.local ++ flat_map attribute_written att
 abbrev pub end_tag : QualName → List ℕ
 end_tag name = codes "</" ++ name.local ++ codes ">"
 
+-- both tags of an element of this local name without attributes
+abbrev pub both_tags : List ℕ → List ℕ
+both_tags name = (codes "<" ++ name ++ codes ">") ++ (codes "</" ++ name ++ codes ">")
+
 -- what a call writes, for its openers
-abbrev pub written : (scripting_enabled : Bool) → List Opener → Call → List ℕ
-written scripting openers (StartOf name attrs) = if are_hidden openers then [] else start_tag name attrs
-written scripting openers (EndOf name) = if are_hidden openers then [] else end_tag name
-written scripting openers (TextOf text) = if is_raw scripting openers then text else escape false text
-written scripting openers (CommentOf text) = codes "<!--" ++ text ++ codes "-->"
-written scripting openers (DoctypeOf name) = codes "<!DOCTYPE " ++ name ++ codes ">"
-written scripting openers (InstructionOf target content) =
+abbrev pub written : List Opener → Call → List ℕ
+written openers (StartOf name attrs) = if are_hidden openers then [] else start_tag name attrs
+written openers (EndOf name) = if are_hidden openers then [] else end_tag name
+written openers (TextOf text) = if is_raw openers then text else escape false text
+written openers (CommentOf text) = codes "<!--" ++ text ++ codes "-->"
+written openers (DoctypeOf name) = codes "<!DOCTYPE " ++ name ++ codes ">"
+written openers (InstructionOf target content) =
     codes "<?" ++ target ++ codes " " ++ content ++ codes ">"

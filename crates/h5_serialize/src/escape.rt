@@ -15,15 +15,23 @@ use super::fault::SerializeFault;
 use memchr::{memchr, memchr2, memchr3};
 use std::io::Write;
 
+/// Writes bytes. The fault is `Write`, where the writer fails.
+pub fn write_bytes<Wr: Write>(writer: &mut Wr, bytes: &[u8]) -> Result<(), SerializeFault>
+    ensures bytes { OnOk result (Appends (Wr.contents writer.old) (Wr.contents writer.new) bytes.now) }
+    ensures fault { IsOkUnless result SerializeFault.Write }
+{
+    match writer.write_all(bytes) {
+        Ok(()) => Ok(()),
+        Err(_) => Err(SerializeFault::Write),
+    }
+}
+
 /// Writes a text as it stands. The fault is `Write`, where the writer fails.
 pub fn write_verbatim<Wr: Write>(writer: &mut Wr, text: &str) -> Result<(), SerializeFault>
     ensures text { OnOk result (Appends (Wr.contents writer.old) (Wr.contents writer.new) text.now) }
     ensures fault { IsOkUnless result SerializeFault.Write }
 {
-    match writer.write_all(text.as_bytes()) {
-        Ok(()) => Ok(()),
-        Err(_) => Err(SerializeFault::Write),
-    }
+    write_bytes(writer, text.as_bytes())
 }
 
 // The place of the first `&`, `<` or `>`, or the length.

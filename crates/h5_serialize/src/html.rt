@@ -1,14 +1,13 @@
 //! The serializer that writes HTML.
 ghost use Rattle.std.specs.Prelude.{◌≡◌, ◌++◌, OnOk, IfOk, IsOkUnless};
 ghost use Rattle.std.specs.Io.KnownBytes.{Appends};
-ghost use Rattle.h5_serialize.specs.Openers.{base_of};
 ghost use Rattle.h5_serialize.specs.Standing.{new_standing, parent_answer};
 
 use super::attributes::AttrRef;
 use super::escape::{write_escaped, write_verbatim};
 use super::fault::SerializeFault;
 use super::openers::{Opener, Openers};
-use super::options::{SerializeOpts, TraversalScope};
+use super::options::SerializeOpts;
 use super::serializer::Serializer;
 use super::tags::{write_end_tag, write_start_tag};
 use h5_names::QualName;
@@ -45,16 +44,6 @@ impl<Wr: Write + Drop> Model for HtmlSerializer<Wr> {
     } };
 }
 
-// The base entry of a scope.
-fn base_of(traversal_scope: TraversalScope) -> Opener
-    ensures { result ≡ base_of traversal_scope }
-{
-    match traversal_scope {
-        TraversalScope::ChildrenOnly(Some(name)) => Opener::Base(Some(name.local)),
-        TraversalScope::ChildrenOnly(None) | TraversalScope::IncludeNode => Opener::Base(None),
-    }
-}
-
 impl<Wr: Write + Drop> HtmlSerializer<Wr> {
     /// A serializer that has written nothing and keeps the base entry of the options. The fault is
     /// `Memory`, where memory is refused; the writer is dropped then.
@@ -67,9 +56,10 @@ impl<Wr: Write + Drop> HtmlSerializer<Wr> {
         ensures contents { IfOk result (λ serializer. serializer.contents ≡ Wr.contents writer) }
         ensures fault { IsOkUnless result SerializeFault.Memory }
     {
+        let base = Opener::base(opts.scripting_enabled, &opts.traversal_scope);
         Ok(HtmlSerializer {
             writer,
-            openers: Openers::new(alloc, base_of(opts.traversal_scope))?,
+            openers: Openers::new(alloc, base)?,
             scripting_enabled: opts.scripting_enabled,
             create_missing_parent: opts.create_missing_parent,
             failed: false,
@@ -133,15 +123,13 @@ impl<Wr: Write + Drop> Serializer for HtmlSerializer<Wr> {
         self.failed = true;
         self.openers.find_parent()?;
         let is_hidden = self.openers.are_hidden();
-        self.openers.push(Opener::Start(name))?;
+        self.openers
+            .push(Opener::start(self.scripting_enabled, &name))?;
         if is_hidden {
             self.failed = false;
             return Ok(());
         }
-        let Some(name) = self.openers.last_start() else {
-            unreachable!()
-        };
-        write_start_tag(&mut self.writer, name, attrs)?;
+        write_start_tag(&mut self.writer, &name, attrs)?;
         self.failed = false;
         Ok(())
     }
@@ -164,7 +152,7 @@ impl<Wr: Write + Drop> Serializer for HtmlSerializer<Wr> {
         self.parent_answer()?;
         self.failed = true;
         self.openers.find_parent()?;
-        if self.openers.is_raw(self.scripting_enabled) {
+        if self.openers.is_raw() {
             write_verbatim(&mut self.writer, text)?;
         } else {
             write_escaped(&mut self.writer, text, false)?;

@@ -10,6 +10,7 @@ mod attributes;
 mod escape;
 mod fault;
 mod html;
+mod known_tags;
 pub mod laws;
 mod names;
 mod openers;

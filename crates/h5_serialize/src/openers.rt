@@ -1,65 +1,66 @@
 //! What stands open.
 ghost use Rattle.std.specs.Prelude.{◌≡◌, ◌==◌, ◌||◌, ◌∷◌, [], OnOk, OnErr, IfOk, length};
+ghost use Rattle.h5_serialize.specs.Openers.{are_hidden, base_of, is_raw, plain, start_of, with_parent, without_last};
 
 use super::names::{is_html, is_raw_name, is_void};
-use h5_names::{LocalName, QualName};
+use super::options::TraversalScope;
+use h5_names::QualName;
 use std::alloc::{AllocError, Global};
 use std::marker::Model;
 
-/// What a call stands in.
-#[derive(Debug, Drop)]
-pub enum Opener {
-    /// The base entry, which counts as an HTML element of this local name.
-    Base(Option<LocalName>),
-    /// What was made where no opener was left.
-    Missing,
-    /// A start.
-    Start(QualName),
+/// What a call stands in. It keeps what is asked of it, and no name.
+#[derive(Clone, Copy, Debug)]
+pub struct Opener {
+    /// Whether it is the start of a void element, so that tags inside are left out.
+    pub is_void: bool,
+    /// Whether text right inside is written as it stands.
+    pub is_raw: bool,
 }
 
-ghost use Rattle.h5_serialize.specs.Openers.{is_void_start, is_raw_opener, are_hidden, is_raw, without_last, start_name, last_start, with_parent};
-ghost use Rattle.std.specs.Option.{option_copied};
+impl Opener {
+    /// One of which nothing is asked, as what is made where no opener was left.
+    pub fn plain() -> Opener
+        ensures { result ≡ plain }
+    {
+        Opener {
+            is_void: false,
+            is_raw: false,
+        }
+    }
 
-// Whether it is the start of a void element.
-fn is_void_start(opener: &Opener) -> bool
-    ensures { result ≡ is_void_start opener.now }
-{
-    match opener {
-        Opener::Start(name) => is_void(name),
-        Opener::Base(_) | Opener::Missing => false,
+    /// The base entry of a scope, which counts as an HTML element of its local name.
+    pub fn base(scripting_enabled: bool, traversal_scope: &TraversalScope) -> Opener
+        ensures { result ≡ base_of scripting_enabled traversal_scope.now }
+    {
+        match traversal_scope {
+            TraversalScope::ChildrenOnly(Some(name)) => Opener {
+                is_void: false,
+                is_raw: is_raw_name(scripting_enabled, &name.local),
+            },
+            TraversalScope::ChildrenOnly(None) | TraversalScope::IncludeNode => Opener::plain(),
+        }
+    }
+
+    /// The start of an element of this name.
+    pub fn start(scripting_enabled: bool, name: &QualName) -> Opener
+        ensures { result ≡ start_of scripting_enabled name.now }
+    {
+        Opener {
+            is_void: is_void(name),
+            is_raw: is_html(name) && is_raw_name(scripting_enabled, &name.local),
+        }
     }
 }
 
 // Whether tags inside are left out, which may be so around it already.
-fn are_hidden_inside(opener: &Opener, around: bool) -> bool
-    ensures { result ≡ is_void_start opener.now || around }
+fn is_hidden_inside(opener: Opener, around: bool) -> bool
+    ensures { result ≡ opener.is_void || around }
 {
-    around || is_void_start(opener)
-}
-
-// Whether text right inside is written as it stands.
-fn is_raw_opener(scripting_enabled: bool, opener: &Opener) -> bool
-    ensures { result ≡ is_raw_opener scripting_enabled opener.now }
-{
-    match opener {
-        Opener::Base(Some(local)) => is_raw_name(scripting_enabled, local),
-        Opener::Base(None) | Opener::Missing => false,
-        Opener::Start(name) => is_html(name) && is_raw_name(scripting_enabled, &name.local),
-    }
-}
-
-// The name, of a start.
-fn start_name(opener: &Opener) -> Option<&QualName>
-    ensures { option_copied result ≡ start_name opener.now }
-{
-    match opener {
-        Opener::Start(name) => Some(name),
-        Opener::Base(_) | Opener::Missing => None,
-    }
+    opener.is_void || around
 }
 
 /// An opener, and whether it or one around it is the start of a void element.
-#[derive(Debug, Drop)]
+#[derive(Clone, Copy, Debug)]
 pub struct Entry {
     opener: Opener,
     is_hidden: bool,
@@ -116,11 +117,11 @@ impl Openers {
     }
 
     /// Whether text right inside the innermost opener is written as it stands.
-    pub fn is_raw(&self, scripting_enabled: bool) -> bool
-        ensures { result ≡ is_raw scripting_enabled self.now }
+    pub fn is_raw(&self) -> bool
+        ensures { result ≡ is_raw self.now }
     {
         match self.entries.last() {
-            Some(entry) => is_raw_opener(scripting_enabled, &entry.opener),
+            Some(entry) => entry.opener.is_raw,
             None => false,
         }
     }
@@ -131,19 +132,9 @@ impl Openers {
         ensures ok { OnOk result (self.new ≡ opener ∷ self.old) }
         ensures err { OnErr result (self.new ≡ self.old) }
     {
-        let is_hidden = are_hidden_inside(&opener, self.are_hidden());
+        let is_hidden = is_hidden_inside(opener, self.are_hidden());
         self.entries.push(Entry { opener, is_hidden })?;
         Ok(())
-    }
-
-    /// The name of the innermost opener, where that is a start.
-    pub fn last_start(&self) -> Option<&QualName>
-        ensures { option_copied result ≡ last_start self.now }
-    {
-        match self.entries.last() {
-            Some(entry) => start_name(&entry.opener),
-            None => None,
-        }
     }
 
     /// A missing one where none is left. Where memory is refused nothing changes.
@@ -152,7 +143,7 @@ impl Openers {
         ensures err { OnErr result (self.new ≡ self.old) }
     {
         if self.is_empty() {
-            return self.push(Opener::Missing);
+            return self.push(Opener::plain());
         }
         Ok(())
     }

@@ -1,5 +1,5 @@
 //! Writing tags.
-ghost use Rattle.std.specs.Prelude.{◌≡◌, ◌++◌, List, map, OnOk, IsOkUnless};
+ghost use Rattle.std.specs.Prelude.{◌≡◌, ◌++◌, List, codes, map, OnOk, IsOkUnless};
 ghost use Rattle.std.specs.Io.KnownBytes.{Appends};
 ghost use Rattle.std.specs.Iterator.{Drains, IsFinite};
 ghost use Rattle.std.specs.List.{flat_map};
@@ -7,9 +7,10 @@ ghost use Rattle.h5_names.specs.AttributeText.{AttributeText};
 ghost use Rattle.h5_serialize.specs.Writing.{attribute_prefix, attribute_written, start_tag, end_tag};
 
 use super::attributes::AttrRef;
-use super::escape::{write_escaped, write_verbatim};
+use super::escape::{write_bytes, write_escaped, write_verbatim};
 use super::fault::SerializeFault;
-use h5_names::{QualName, namespaces};
+use super::known_tags::{end_of, start_of};
+use h5_names::{KnownName, LocalName, QualName, namespaces};
 use std::io::Write;
 
 // What stands before the local name of an attribute.
@@ -67,6 +68,21 @@ fn write_attributes<Wr: Write, T: AttrRef, I: Iterator<Item = T> + Drop>(
     Ok(())
 }
 
+// Writes what a start tag of this local name begins with.
+fn write_start<Wr: Write>(writer: &mut Wr, name: &LocalName) -> Result<(), SerializeFault>
+    ensures text { OnOk result
+        (Appends (Wr.contents writer.old) (Wr.contents writer.new) (codes "<" ++ name.now)) }
+    ensures fault { IsOkUnless result SerializeFault.Write }
+{
+    match name.known() {
+        KnownName::Other => {
+            write_verbatim(writer, "<")?;
+            write_verbatim(writer, name.as_str())
+        }
+        known => write_bytes(writer, start_of(known)),
+    }
+}
+
 /// Writes a start tag with the attributes that an iterator gives. The fault is `Write`, where the writer
 /// fails.
 pub fn write_start_tag<Wr: Write, T: AttrRef, I: Iterator<Item = T> + Drop>(
@@ -81,8 +97,7 @@ pub fn write_start_tag<Wr: Write, T: AttrRef, I: Iterator<Item = T> + Drop>(
         (start_tag name.now (map T.attribute all))) }
     ensures fault { IsOkUnless result SerializeFault.Write }
 {
-    write_verbatim(writer, "<")?;
-    write_verbatim(writer, name.local.as_str())?;
+    write_start(writer, &name.local)?;
     write_attributes(writer, attrs)?;
     write_verbatim(writer, ">")
 }
@@ -93,7 +108,12 @@ pub fn write_end_tag<Wr: Write>(writer: &mut Wr, name: &QualName) -> Result<(), 
         (Appends (Wr.contents writer.old) (Wr.contents writer.new) (end_tag name.now)) }
     ensures fault { IsOkUnless result SerializeFault.Write }
 {
-    write_verbatim(writer, "</")?;
-    write_verbatim(writer, name.local.as_str())?;
-    write_verbatim(writer, ">")
+    match name.local.known() {
+        KnownName::Other => {
+            write_verbatim(writer, "</")?;
+            write_verbatim(writer, name.local.as_str())?;
+            write_verbatim(writer, ">")
+        }
+        known => write_bytes(writer, end_of(known)),
+    }
 }

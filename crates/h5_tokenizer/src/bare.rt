@@ -1,7 +1,7 @@
 //! Tags that are nothing but their names. Most tags are.
 ghost use Rattle.std.specs.Prelude.{◌≡◌, false, true, IfSome, IfOk};
 ghost use Rattle.std.specs.Char.{is_ascii_alphabetic};
-ghost use Rattle.h5_token.specs.TokenText.{token_text};
+ghost use Rattle.h5_token.specs.TokenText.{TagIs, tag_text};
 ghost use Rattle.h5_scan.specs.Cuts.{is_in};
 ghost use Rattle.h5_tokenizer.specs.Bare.{bare_tag, BeginsBare, IsBare, IsBareName};
 
@@ -9,7 +9,7 @@ use super::front::Mode;
 use super::state::Search;
 use h5_constructs::make_name;
 use h5_scan::Class;
-use h5_token::{Tag, TagKind, Token};
+use h5_token::{Tag, TagKind};
 use std::alloc::{AllocError, Global};
 
 // Whether a byte may stand in such a name: a letter, or behind the first byte a digit.
@@ -79,14 +79,14 @@ pub fn find_bare<'a>(
 }
 
 /// Such a tag, by its name.
-pub fn make_bare(alloc: Global, kind: TagKind, name: &str) -> Result<Token, AllocError>
-    ensures { IfOk result (λ token. token_text token ≡ bare_tag kind name.now) }
+pub fn make_bare(alloc: Global, kind: TagKind, name: &str) -> Result<Tag, AllocError>
+    ensures { IfOk result (λ tag. TagIs (tag_text tag) ≡ bare_tag kind name.now) }
 {
-    Ok(Token::TagToken(Tag {
+    Ok(Tag {
         kind,
         name: make_name(alloc, name)?,
         self_closing: false,
         attrs: Vec::new(alloc),
         had_duplicate_attributes: false,
-    }))
+    })
 }

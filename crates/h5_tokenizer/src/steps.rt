@@ -2,7 +2,7 @@
 ghost use Rattle.std.specs.Prelude.{◌≡◌, ℕ, false, [], length, ◌<◌};
 ghost use Rattle.std.specs.String.{string_bytes};
 ghost use Rattle.h5_scan.specs.Matching as m;
-ghost use Rattle.h5_token.specs.TokenText.{token_text, Characters};
+ghost use Rattle.h5_token.specs.TokenText.{Characters, TagIs, tag_text, token_text};
 ghost use Rattle.h5_tokenizer.specs.Front as f;
 ghost use Rattle.h5_tokenizer.specs.Read.{chosen_mode};
 ghost use Rattle.h5_tokenizer.specs.Steps.{place_of, Asks, AnswersAs, HandsOn, Makes, Pending, TakesBits, turn_of};
@@ -14,7 +14,7 @@ use super::plain::{cut_plain, take_plain, take_texts};
 use super::state::{Search, State, Stop, Turn};
 use super::tokens::make_token;
 use h5_scan::{Inside, Seen, Sought, seek_end};
-use h5_token::{BuildFault, TagKind, Token, TokenSink, TokenSinkResult};
+use h5_token::{BuildFault, Tag, TagKind, Token, TokenSink, TokenSinkResult};
 use std::alloc::Global;
 
 fn chosen_mode<H>(answer: &TokenSinkResult<H>) -> Mode
@@ -48,8 +48,53 @@ pub fn ask<S: TokenSink>(
     sink.process_token(token, line)
 }
 
-// Hands a token on, and goes where it and the answer lead.
+fn ask_of_tag<S: TokenSink>(
+    sink: &mut S,
+    tag: Tag,
+    line: u64,
+) -> Result<TokenSinkResult<S::Handle>, BuildFault>
+    ensures { Asks S.reply_to S.after S.node (S.meaning sink.old) (TagIs (tag_text tag)) line (S.meaning sink.new) result }
+{
+    sink.process_tag(tag, line)
+}
+
+fn ask_of_text<S: TokenSink>(
+    sink: &mut S,
+    text: String,
+    line: u64,
+) -> Result<TokenSinkResult<S::Handle>, BuildFault>
+    ensures { Asks S.reply_to S.after S.node (S.meaning sink.old) (Characters (string_bytes text)) line (S.meaning sink.new) result }
+{
+    sink.process_characters(text, line)
+}
+
+// Hands a tag on, and goes where it and the answer lead.
 #[inline(always)]
+fn hand_on_tag<S: TokenSink>(
+    sink: &mut S,
+    state: &mut State,
+    tag: Tag,
+) -> Result<Option<Stop<S::Handle>>, BuildFault>
+    ensures { HandsOn S.reply_to S.after S.node (place_of state.old) (S.meaning sink.old) (TagIs (tag_text tag))
+        (place_of state.new) (S.meaning sink.new) result }
+{
+    match tag.kind {
+        TagKind::StartTag => {
+            state.last.clear();
+            state.last.push_str(tag.name.as_str())?;
+            let answer = ask_of_tag(sink, tag, state.line)?;
+            state.mode = chosen_mode(&answer);
+            Ok(stop_of(answer))
+        }
+        TagKind::EndTag => {
+            let answer = ask_of_tag(sink, tag, state.line)?;
+            state.mode = Mode::Data;
+            Ok(stop_of(answer))
+        }
+    }
+}
+
+// Hands a token on, and goes where it and the answer lead.
 fn hand_on<S: TokenSink>(
     sink: &mut S,
     state: &mut State,
@@ -58,22 +103,9 @@ fn hand_on<S: TokenSink>(
     ensures { HandsOn S.reply_to S.after S.node (place_of state.old) (S.meaning sink.old) (token_text token)
         (place_of state.new) (S.meaning sink.new) result }
 {
-    match &token {
-        Token::TagToken(tag) => match tag.kind {
-            TagKind::StartTag => {
-                state.last.clear();
-                state.last.push_str(tag.name.as_str())?;
-                let answer = ask(sink, token, state.line)?;
-                state.mode = chosen_mode(&answer);
-                Ok(stop_of(answer))
-            }
-            TagKind::EndTag => {
-                let answer = ask(sink, token, state.line)?;
-                state.mode = Mode::Data;
-                Ok(stop_of(answer))
-            }
-        },
-        _ => {
+    match token {
+        Token::TagToken(tag) => hand_on_tag(sink, state, tag),
+        token => {
             let answer = ask(sink, token, state.line)?;
             Ok(stop_of(answer))
         }
@@ -89,7 +121,7 @@ fn hand_on_text<S: TokenSink>(
     ensures { HandsOn S.reply_to S.after S.node (place_of state.now) (S.meaning sink.old) (Characters (string_bytes text))
         (place_of state.now) (S.meaning sink.new) result }
 {
-    let answer = ask(sink, Token::CharacterTokens(text), state.line)?;
+    let answer = ask_of_text(sink, text, state.line)?;
     Ok(stop_of(answer))
 }
 
@@ -124,6 +156,26 @@ fn token_step<'a, S: TokenSink>(
 {
     let _rest = rest;
     let stopped = hand_on(sink, state, token)?;
+    Ok(turn(stopped, after))
+}
+
+// A tag that is nothing but its name stands at the front.
+#[inline(always)]
+fn tag_step<'a, S: TokenSink>(
+    sink: &mut S,
+    state: &mut State,
+    rest: &'a str,
+    after: &'a str,
+    tag: Tag,
+) -> Result<Turn<'a, S::Handle>, BuildFault>
+    requires started { state.old.at_start ≡ false }
+    requires front { f.front state.old.mode (string_bytes state.old.last) (S.is_foreign (S.meaning sink.old)) rest.now
+        ≡ m.Found (f.Whole (TagIs (tag_text tag))) after.now }
+    ensures { Makes S.reply_to S.after S.is_foreign S.node (place_of state.old) (S.meaning sink.old) rest.now
+        (place_of state.new) (S.meaning sink.new) result }
+{
+    let _rest = rest;
+    let stopped = hand_on_tag(sink, state, tag)?;
     Ok(turn(stopped, after))
 }
 
@@ -264,8 +316,8 @@ pub fn step<'a, S: TokenSink>(
         return Ok(Turn::Waits(None));
     }
     if let Some((kind, name, after)) = find_bare(state.mode, search, rest) {
-        let token = make_bare(alloc, kind, name)?;
-        return token_step(sink, state, rest, after, token);
+        let tag = make_bare(alloc, kind, name)?;
+        return tag_step(sink, state, rest, after, tag);
     }
     if let Some((front, after)) = cut_plain(rest) {
         let text = String::from_str(alloc, front)?;

@@ -1,5 +1,5 @@
 -- Turns by the rule of the mode, and texts by that of "in body", as turns of the token.
-use Rattle.std.proofs.Common.{◌≡◌, ℕ, List, false, refl, ap, sym, subst, ◌∙◌}
+use Rattle.std.proofs.Common.{◌≡◌, ℕ, List, false, refl, ap, sym, subst}
 use Rattle.h5_interface.specs.SinkChoices.{SinkChoices}
 use Rattle.h5_types.specs.TurnText.{HasText, TextTurn, TurnText}
 use Rattle.h5_types.specs.declared.modes.SplitStatus.{SplitStatus}

@@ -7,7 +7,7 @@ use Rattle.h5_interface.specs.Seen.{Seen}
 use Rattle.h5_interface.specs.SinkChoices.{SinkChoices}
 use Rattle.h5_types.specs.TurnText.{TagTurn, CommentTurn, NullTurn, EofTurn}
 use Rattle.h5_types.specs.declared.modes.InsertionMode.{InsertionMode}
-use Rattle.h5_types.specs.declared.modes.InsertionMode.TheVariants.{Initial}
+use Rattle.h5_types.specs.declared.modes.InsertionMode.TheVariants.{Initial, Text}
 use Rattle.h5_types.specs.declared.options.TreeBuilderOpts.{TreeBuilderOpts}
 use Rattle.h5_meaning.specs.Run.{doctype_in, is_counted, refuses_in, step, take_or_refuse, taken, tell_or_refuse, text_step, without_lf}
 use Rattle.h5_interface.specs.declared.sink.TreeSink.{Ghosts}
@@ -79,3 +79,8 @@ answered choices node t old new taken f e comes same n s =
       unended = e;
       comes = comes;
     }
+
+-- a text is taken in every mode
+pub no_text_is_refused : (m : InsertionMode) (t : List ℕ) → refuses_in m (Characters t) ≡ false
+no_text_is_refused Text t = refl
+no_text_is_refused _ t = refl

@@ -35,8 +35,8 @@ pub struct TreeBuilder<Handle: Drop, Sink: TreeSink<Handle = Handle> + Drop> {
     /// The sink. It is the builder's as long as tokens come: nobody else changes it.
     pub sink: Sink,
     pub(super) state: State<Handle>,
-    ended: bool,
-    failed: bool,
+    pub(super) ended: bool,
+    pub(super) failed: bool,
     pub(super) turns: u64,
 }
 

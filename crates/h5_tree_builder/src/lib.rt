@@ -18,6 +18,7 @@ mod tag;
 mod taken;
 mod text;
 mod token_sink;
+mod unwrapped;
 mod whole;
 
 pub use active_formatting::ActiveFormattingIter;

@@ -1,6 +1,6 @@
 //! Taking a token, by its kind (HTML standard, section 13.2.6, "Tree construction").
 ghost use Rattle.std.specs.Prelude.{◌≡◌, true, IsOk, string_bytes};
-ghost use Rattle.h5_token.specs.TokenText.{token_text};
+ghost use Rattle.h5_token.specs.TokenText.{Characters, TagIs, tag_text, token_text};
 ghost use Rattle.h5_types.specs.TurnText.{CommentTurn, EofTurn, NullTurn};
 ghost use Rattle.h5_meaning.specs.Run.{is_counted, step, taken};
 ghost use Rattle.h5_meaning.specs.Settle.{settle};
@@ -14,7 +14,7 @@ use super::taken::Taken;
 use super::text::take_text;
 use h5_interface::TreeSink;
 use h5_state::{State, tell_error};
-use h5_token::{Token as Input, TokenSinkResult};
+use h5_token::{Tag, Token as Input, TokenSinkResult};
 use h5_types::Token;
 use std::alloc::AllocError;
 
@@ -79,6 +79,37 @@ fn take_eof<S: TreeSink>(
     ensures { Settles S.TreeSink (settle S.choices EofTurn) true sink.old state.old sink.new state.new result }
 {
     settle_token(sink, state, Token::Eof)
+}
+
+/// A tag that isn't refused. It gives how many turns it took and what is answered, or an `AllocError` where memory is
+/// refused; what was built so far is sound then.
+#[inline(always)]
+pub fn take_tag<S: TreeSink>(
+    sink: &mut S,
+    state: &mut State<S::Handle>,
+    tag: Tag,
+) -> Result<Taken<S::Handle>, AllocError>
+    requires { IsReady S.TreeSink sink.old state.old }
+    ensures { Settles S.TreeSink (step S.choices (TagIs (tag_text tag))) true sink.old state.old sink.new state.new result }
+{
+    let _ = take_lf(sink, state);
+    settle_tag(sink, state, tag)
+}
+
+/// A text, which is never refused. It gives the turns of all its runs and what is answered, or an `AllocError` where
+/// memory is refused; what was built so far is sound then.
+#[inline(always)]
+pub fn take_characters<S: TreeSink>(
+    sink: &mut S,
+    state: &mut State<S::Handle>,
+    text: String,
+) -> Result<Taken<S::Handle>, AllocError>
+    requires { IsReady S.TreeSink sink.old state.old }
+    ensures settles { Settles S.TreeSink (step S.choices (Characters (string_bytes text))) (is_counted (Characters (string_bytes text)) (world_of S.TreeSink sink.old state.old)) sink.old state.old sink.new state.new result }
+    ensures free { is_free (Characters (string_bytes text)) (world_of S.TreeSink sink.old state.old) ≡ true → IsOk result }
+{
+    let ignore_lf = take_lf(sink, state);
+    take_text(sink, state, ignore_lf, text)
 }
 
 /// A token that isn't refused. It gives how many turns it took and what is answered, or an `AllocError` where
