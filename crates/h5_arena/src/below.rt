@@ -42,13 +42,14 @@ impl Below {
     }
 }
 
-// A list of a child alone, with room for some more: most nodes with two children have a third.
+// A list of a child alone, with room for two more: most nodes that have a few children have two, three or five, blanks among
+// them.
 fn list_of(alloc: Global, children: &mut Below) -> Result<Vec<Child>, AllocError>
     ensures ok { OnOk result (children_in children.new ≡ []) }
     ensures list { IfOk result (λ list. list.items ≡ children_in children.old) }
     ensures err { OnErr result (children_in children.new ≡ children_in children.old) }
 {
-    let mut list = Vec::with_capacity(alloc, 4)?;
+    let mut list = Vec::with_capacity(alloc, 3)?;
     match mem::replace(children, Below::none(alloc)) {
         Below::One(child) => match list.push(child) {
             Ok(()) => Ok(list),
