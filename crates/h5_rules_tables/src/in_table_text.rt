@@ -1,17 +1,21 @@
 //! The mode "in table text" (HTML standard, section 13.2.6.4.10).
-ghost use Rattle.std.specs.Prelude.{◌≡◌, ◌≢◌, [], string_bytes};
+ghost use Rattle.std.specs.Prelude.{◌≡◌, ◌≢◌, [], IfOk, string_bytes};
 ghost use Rattle.h5_types.specs.TurnText.{HasText, TextTurn, turn_text};
 ghost use Rattle.h5_types.specs.declared.modes.SplitStatus.TheVariants.{NotSplit};
+ghost use Rattle.h5_types.specs.declared.turns.ProcessResult.TheVariants.{Reprocess};
+ghost use Rattle.h5_types.specs.declared.turns.Token.{Token};
 ghost use Rattle.h5_meaning.specs.InTableText.{in_table_text, in_table_text_else, pending_text};
+ghost use Rattle.h5_meaning.specs.Rows.{Follows};
 ghost use Rattle.h5_meaning.specs.Sound.{IsReady};
-ghost use Rattle.h5_state.specs.Steps.{IsSound, world_of};
+ghost use Rattle.h5_state.specs.Steps.{IsSound, errors_of, world_of};
 ghost use Rattle.h5_state.specs.Turn.{TakesToken, Turns};
 
 use super::foster::foster_parent_in_body;
 use h5_interface::TreeSink;
 use h5_operations::{append_pending_text, append_text, take_pending_text};
 use h5_state::{PendingText, State, Turn, saved_mode, unexpected};
-use h5_types::{ProcessResult, SplitStatus, Token};
+use h5_types::{InsertionMode, ProcessResult, SplitStatus, Token};
+use std::alloc::AllocError;
 
 // The text that was kept back: blank, it goes where it came; else it goes by the body, with foster parenting on.
 #[tactic(auto, unfolding(h5_meaning::specs::InTableText::pending_text))]
@@ -35,8 +39,26 @@ fn insert_pending_text<S: TreeSink>(
     }
 }
 
-// Anything else: the text goes first, and the token by the mode that was left.
+/// Anything else than a text or a null: the text that was kept back goes first, and the mode that was left is given, by which
+/// the token is to take its next turn, whatever it is. An `AllocError` where memory is refused; what was built so far is sound
+/// then.
 #[tactic(auto, unfolding(h5_meaning::specs::InTableText::in_table_text_else))]
+pub fn leave_table_text<S: TreeSink>(
+    sink: &mut S,
+    state: &mut State<S::Handle>,
+) -> Result<InsertionMode, AllocError>
+    requires sound { IsSound S.TreeSink sink.old state.old }
+    requires ready { IsReady (world_of S.TreeSink sink.old state.old) }
+    ensures asks { IfOk result (λ mode. (token : Token) →
+        Follows S.choices S.node (in_table_text_else (turn_text token) (world_of S.TreeSink sink.old state.old)) (turn_text token) (world_of S.TreeSink sink.old state.old) (world_of S.TreeSink sink.new state.new) (errors_of S.TreeSink sink.old) (errors_of S.TreeSink sink.new) (Reprocess mode token)) }
+    ensures sound { IsSound S.TreeSink sink.new state.new }
+{
+    let pending = take_pending_text(sink, state);
+    insert_pending_text(sink, state, pending)?;
+    Ok(saved_mode(sink, state))
+}
+
+// Anything else: the text goes first, and the token by the mode that was left.
 fn in_table_text_else<S: TreeSink>(
     sink: &mut S,
     state: &mut State<S::Handle>,
@@ -46,9 +68,8 @@ fn in_table_text_else<S: TreeSink>(
     requires ready { IsReady (world_of S.TreeSink sink.old state.old) }
     ensures { TakesToken S.TreeSink in_table_text_else token sink.old state.old sink.new state.new result }
 {
-    let pending = take_pending_text(sink, state);
-    insert_pending_text(sink, state, pending)?;
-    Ok(ProcessResult::Reprocess(saved_mode(sink, state), token))
+    let mode = leave_table_text(sink, state)?;
+    Ok(ProcessResult::Reprocess(mode, token))
 }
 
 /// A turn while texts of a table are kept back.

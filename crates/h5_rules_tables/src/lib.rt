@@ -17,4 +17,4 @@ pub use in_column_group::step_in_column_group;
 pub use in_row::{in_row_tag, step_in_row};
 pub use in_table::{in_table_tag, step_in_table};
 pub use in_table_body::{in_table_body_tag, step_in_table_body};
-pub use in_table_text::step_in_table_text;
+pub use in_table_text::{leave_table_text, step_in_table_text};

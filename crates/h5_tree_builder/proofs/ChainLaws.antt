@@ -21,7 +21,7 @@ use Rattle.h5_state.specs.View.{open_node, world}
 use Rattle.h5_state.specs.declared.state.State.{State}
 use Rattle.h5_interface.specs.Seen.{Seen}
 use Rattle.std.proofs.lemmas.List.{length-map, length-reverse}
-use Rattle.h5_tree_builder.specs.Chains.{CameTo}
+use Rattle.h5_tree_builder.specs.Chains.{CameTo, Left}
 
 -- once the root has been made builder and sink are ready
 pub ready_in_mode : (w : World) (m : InsertionMode) → w.mode ≡ m → is_before_root m ≡ false → Sound w → Fits w → IsReady w
@@ -37,13 +37,6 @@ unfolding world
 few_open sees node sink state =
     let v = state.open_elems in
     omega (arith, length-reverse (map (open_node node) v.items), length-map v.items (open_node node), v.ok.0, v.ok.1, v.small)
-
--- after so many turns: the chain of the first world ends as that of this one
-pub record Left (choices : SinkChoices) (t : TurnText) (first now : World) (first_errors errors count : ℕ) : Type 0 where
-  pub world : (settle choices t first).world ≡ (settle choices t now).world
-  pub turns : (settle choices t first).turns ≡ (settle choices t now).turns + count
-  pub reply : (settle choices t first).reply ≡ (settle choices t now).reply
-  pub quiet : (settle choices t first).quiet ≡ true → ((settle choices t now).quiet ≡ true) × (errors ≡ first_errors)
 
 pub left_all : (choices : SinkChoices) (t : TurnText) (w : World) (a : ℕ) → Left choices t w w a a 0
 left_all choices t w a = record { world = refl; turns = omega arith; reply = refl; quiet = λ h. (h, refl) }

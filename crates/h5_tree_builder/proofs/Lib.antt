@@ -7,5 +7,6 @@ pub mod EndLaws
 pub mod FragmentLaws
 pub mod RootLaws
 pub mod SettledLaws
+pub mod TableTextLaws
 pub mod TextLaws
 pub mod WholeLaws

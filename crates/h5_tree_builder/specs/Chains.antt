@@ -1,11 +1,13 @@
 -- What code that lets turns follow each other did.
-use Rattle.std.specs.Prelude.{◌≡◌, ℕ, Bool, true, false, Result, IfOk, OnOk}
+use Rattle.std.specs.Prelude.{◌≡◌, ℕ, ◌+◌, Bool, true, false, Result, IfOk, OnOk}
 use Rattle.std.specs.declared.alloc.AllocError.{AllocError}
 use Rattle.h5_token.specs.Reply.{reply}
 use Rattle.h5_token.specs.TokenText.{TokenText, Characters, ParseErrorIs}
+use Rattle.h5_interface.specs.SinkChoices.{SinkChoices}
 use Rattle.h5_interface.specs.declared.sink.TreeSink.{Ghosts}
+use Rattle.h5_types.specs.TurnText.{TurnText}
 use Rattle.h5_meaning.specs.Run.{is_empty_text, without_lf}
-use Rattle.h5_meaning.specs.Settle.{Settled}
+use Rattle.h5_meaning.specs.Settle.{Settled, settle}
 use Rattle.h5_meaning.specs.Sound.{Fits}
 use Rattle.h5_meaning.specs.World.{World}
 use Rattle.h5_state.specs.Steps.{IsSound, errors_of, world_of}
@@ -30,6 +32,13 @@ pub record Settles {S H O : Type 0} (law : Ghosts S H O) (defined : World → Se
   pub came : IfOk result (λ r. CameTo law.node (defined (world_of law old_sink old_state)) counted (world_of law new_sink new_state) (errors_of law old_sink) (errors_of law new_sink) r)
   pub sound : IsSound law new_sink new_state
   pub fits : OnOk result (Fits (world_of law new_sink new_state))
+
+-- after so many turns: the chain of the first world ends as that of this one
+pub record Left (choices : SinkChoices) (t : TurnText) (first now : World) (first_errors errors count : ℕ) : Type 0 where
+  pub world : (settle choices t first).world ≡ (settle choices t now).world
+  pub turns : (settle choices t first).turns ≡ (settle choices t now).turns + count
+  pub reply : (settle choices t first).reply ≡ (settle choices t now).reply
+  pub quiet : (settle choices t first).quiet ≡ true → ((settle choices t now).quiet ≡ true) × (errors ≡ first_errors)
 
 -- a parse error, and a text that is or becomes empty, take no memory
 abbrev pub is_free : TokenText → World → Bool

@@ -4,4 +4,5 @@ pub mod Chains
 pub mod Fragment
 pub mod Held
 pub mod TextInBody
+pub mod TextInTable
 pub mod Replies

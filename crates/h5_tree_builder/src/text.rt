@@ -2,6 +2,8 @@
 //! that a rule takes alike is taken at once).
 ghost use Rattle.std.specs.Prelude.{◌≡◌, ◌≢◌, ◌<◌, [], length, take, true, IfOk, IsOk, OnOk, string_bytes};
 ghost use Rattle.std.specs.Str.{IsCharBoundary};
+ghost use Rattle.h5_types.specs.declared.modes.InsertionMode.TheVariants.{InTableText};
+ghost use Rattle.h5_meaning.specs.Changes.{append_pending_text, save_mode, set_mode};
 ghost use Rattle.h5_meaning.specs.Foreign.{is_foreign_text};
 ghost use Rattle.h5_meaning.specs.Run.{is_empty_text, text_step, without_lf};
 ghost use Rattle.h5_meaning.specs.Sound.{Fits};
@@ -10,13 +12,15 @@ ghost use Rattle.h5_types.specs.declared.modes.SplitStatus.TheVariants.{NotSplit
 ghost use Rattle.h5_state.specs.Steps.{IsSound, errors_of, world_of};
 ghost use Rattle.h5_tree_builder.specs.Chains.{IsReady, Settles};
 ghost use Rattle.h5_tree_builder.specs.TextInBody.{TakesTextByBody};
+ghost use Rattle.h5_tree_builder.specs.TextInTable.{KeepsTextBack};
 
 use super::dispatch::settle_token;
 use super::taken::Taken;
 use h5_foreign::{is_foreign_text, is_in_known_html};
 use h5_interface::TreeSink;
+use h5_operations::{append_pending_text, is_current_table_outer};
 use h5_rules_shared::in_body_text;
-use h5_state::{State, current_mode, first_run};
+use h5_state::{State, current_mode, first_run, save_mode, set_mode};
 use h5_token::TokenSinkResult;
 use h5_types::{InsertionMode, SplitStatus, Token};
 use std::alloc::AllocError;
@@ -50,7 +54,37 @@ fn takes_text_by_body<S: TreeSink>(sink: &S, state: &State<S::Handle>) -> bool
     }
 }
 
-// The chain of a run. In the body it is one turn.
+// Whether texts are kept back until the table goes on. It may answer no where they are, too.
+#[tactic(auto, unfolding(h5_meaning::specs::Foreign::is_foreign))]
+#[inline(always)]
+fn keeps_text_back<S: TreeSink>(sink: &S, state: &State<S::Handle>) -> bool
+    requires { IsSound S.TreeSink sink.now state.now }
+    ensures { result ≡ true → KeepsTextBack S.choices (world_of S.TreeSink sink.now state.now) }
+{
+    match current_mode(sink, state) {
+        InsertionMode::InTable | InsertionMode::InTableBody | InsertionMode::InRow => {
+            is_in_known_html(sink, state) && is_current_table_outer(sink, state)
+        }
+        _ => false,
+    }
+}
+
+// Keeps a text back, as two turns do.
+fn keep_text_back<S: TreeSink>(
+    sink: &S,
+    state: &mut State<S::Handle>,
+    run: String,
+) -> Result<(), AllocError>
+    requires { IsSound S.TreeSink sink.now state.old }
+    ensures kept { OnOk result (world_of S.TreeSink sink.now state.new ≡ append_pending_text (string_bytes run) (set_mode InTableText (save_mode (world_of S.TreeSink sink.now state.old)))) }
+    ensures sound { IsSound S.TreeSink sink.now state.new }
+{
+    save_mode(sink, state);
+    set_mode(sink, state, InsertionMode::InTableText);
+    append_pending_text(sink, state, run)
+}
+
+// The chain of a run. In the body it is one turn, and mostly two in a table.
 #[inline(always)]
 fn settle_run<S: TreeSink>(
     sink: &mut S,
@@ -69,6 +103,10 @@ fn settle_run<S: TreeSink>(
     if takes_text_by_body(sink, state) {
         in_body_text(sink, state, status, run)?;
         return Ok(1);
+    }
+    if keeps_text_back(sink, state) {
+        keep_text_back(sink, state, run)?;
+        return Ok(2);
     }
     let taken = settle_token(sink, state, Token::Characters(status, run))?;
     Ok(taken.turns)

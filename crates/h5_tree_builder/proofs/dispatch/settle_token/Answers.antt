@@ -10,8 +10,8 @@ use Rattle.h5_meaning.proofs.ForeignFitLaws.{fits_acknowledged, fits_again, fits
 use Rattle.h5_meaning.proofs.FallsLaws.{rank_few}
 use Rattle.h5_meaning.proofs.SettleLaws.{rank_falls}
 use Rattle.h5_state.specs.View.{world}
-use Rattle.h5_tree_builder.specs.Chains.{CameTo}
-use Rattle.h5_tree_builder.proofs.ChainLaws.{Left, acknowledged_last, answered_last, done_last, few_open, left_all, left_next}
+use Rattle.h5_tree_builder.specs.Chains.{CameTo, Left}
+use Rattle.h5_tree_builder.proofs.ChainLaws.{acknowledged_last, answered_last, done_last, few_open, left_all, left_next}
 use Rattle.h5_tree_builder.proofs.dispatch.settle_token.Goals as goal
 
 pub returns-in-Done : goal.returns-in-Done

@@ -4,7 +4,7 @@ use Rattle.h5_meaning.specs.Sound.{Fits}
 use Rattle.h5_meaning.proofs.FallsLaws.{rank_of}
 use Rattle.h5_state.specs.Steps.{IsSound}
 use Rattle.h5_state.specs.View.{world}
-use Rattle.h5_tree_builder.proofs.ChainLaws.{Left}
+use Rattle.h5_tree_builder.specs.Chains.{Left}
 use Rattle.h5_tree_builder.proofs.dispatch.settle_token.Given as goal
 
 -- what is left of the chain gives what was to come at first

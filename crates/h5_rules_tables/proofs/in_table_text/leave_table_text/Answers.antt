@@ -7,15 +7,15 @@ use Rattle.h5_meaning.specs.Rows.{Follows, Row, apply_all}
 use Rattle.h5_meaning.specs.Sound.{IsReady}
 use Rattle.h5_state.specs.Steps.{errors_of, world_of}
 use Rattle.h5_rules_tables.proofs.PendingLaws.{ready_taken, same_pending}
-use Rattle.h5_rules_tables.proofs.in_table_text.in_table_text_else.Goals as goal
+use Rattle.h5_rules_tables.proofs.in_table_text.leave_table_text.Goals as goal
 
 pub insert_pending_text-requires-clause-ready : goal.insert_pending_text-requires-clause-ready
 insert_pending_text-requires-clause-ready g c =
     subst IsReady (sym c.take_pending_text-pending.ensures.made.world) (ready_taken (world_of g.S.TreeSink c.args.sink.now c.args.state.now) c.requires.ready)
 
-pub returns : goal.returns
+pub returns-clause-asks : goal.returns-clause-asks
 unfolding in_table_text_else
-returns g c =
+returns-clause-asks g c = λ token.
     let law = g.S.TreeSink in
     let w = world_of law c.args.sink.now c.args.state.now in
     let u = world_of law c.args.sink.now c.take_pending_text-pending.new.state in
@@ -29,10 +29,7 @@ returns g c =
     ∙ same_pending w.pending w)
     c.in_ok-insert_pending_text.ensures.follows in
     record {
-      follows = record {
-        world = inserted.world ∙ ap (apply_all law.choices r.changes) c.take_pending_text-pending.ensures.made.world;
-        ending = (ap Some (sym c.saved_mode.ensures), refl);
-        quiet = inserted.quiet;
-      };
-      sound = c.in_ok-insert_pending_text.ensures.sound;
+      world = inserted.world ∙ ap (apply_all law.choices r.changes) c.take_pending_text-pending.ensures.made.world;
+      ending = (ap Some (sym c.saved_mode.ensures), refl);
+      quiet = inserted.quiet;
     }
