@@ -138,12 +138,12 @@ pub fn build(alloc: Global, items: Vec<Item>) -> Result<Vec<u8>, Fault>
 }
 
 // The tree that a text makes.
-fn parse(alloc: Global, text: String) -> Result<Arena, Fault>
-    ensures parsed { IfOk result (λ arena. IsParsed (string_bytes text) arena) }
+fn parse(alloc: Global, text: &str) -> Result<Arena, Fault>
+    ensures parsed { IfOk result (λ arena. IsParsed text.now arena) }
     ensures memory { IfErr result (λ fault. fault ≡ Fault.Memory) }
 {
     let parser = parse_document(alloc, Arena::new(alloc)?, ParseOpts::default());
-    parser.one_owned(text).map_err(fault_of_build)
+    parser.one(text).map_err(fault_of_build)
 }
 
 // A parser in an HTML element of this name, without attributes, where scripts are allowed.
@@ -164,12 +164,12 @@ fn parser_in(alloc: Global, context: &str) -> Result<Parser<NodeId, Arena>, Faul
 }
 
 // The tree that a text makes in an HTML element of this name, where scripts are allowed.
-fn parse_in(alloc: Global, context: &str, text: String) -> Result<Arena, Fault>
-    ensures parsed { IfOk result (λ arena. IsParsedIn context.now (string_bytes text) arena) }
+fn parse_in(alloc: Global, context: &str, text: &str) -> Result<Arena, Fault>
+    ensures parsed { IfOk result (λ arena. IsParsedIn context.now text.now arena) }
     ensures memory { IfErr result (λ fault. fault ≡ Fault.Memory) }
 {
     let parser = parser_in(alloc, context)?;
-    let tree = parser.one_owned(text).map_err(fault_of_build)?;
+    let tree = parser.one(text).map_err(fault_of_build)?;
     Ok(tree)
 }
 
@@ -178,7 +178,7 @@ pub fn tree_output(alloc: Global, text: String) -> Result<Vec<u8>, Fault>
     ensures prints { IfOk result (λ output. TreePrints (string_bytes text) output.items) }
     ensures memory { IfErr result (λ fault. fault ≡ Fault.Memory) }
 {
-    let arena = parse(alloc, text)?;
+    let arena = parse(alloc, text.as_str())?;
     let out = print_arena(alloc, &arena)?;
     Ok(out.into_bytes())
 }
@@ -189,19 +189,22 @@ pub fn fragment_output(alloc: Global, context: &str, text: String) -> Result<Vec
     ensures prints { IfOk result (λ output. FragmentPrints context.now (string_bytes text) output.items) }
     ensures memory { IfErr result (λ fault. fault ≡ Fault.Memory) }
 {
-    let arena = parse_in(alloc, context, text)?;
+    let arena = parse_in(alloc, context, text.as_str())?;
     let out = print_arena(alloc, &arena)?;
     Ok(out.into_bytes())
 }
 
-// The HTML of a tree. It isn't written only where memory is refused: the writer is memory, too.
-fn write_html(alloc: Global, arena: &Arena) -> Result<Vec<u8>, Fault>
+// The HTML of a tree, in the room of these bytes, which are let go. It isn't written only where memory is refused: the writer is
+// memory, too.
+fn write_html(alloc: Global, arena: &Arena, room: Vec<u8>) -> Result<Vec<u8>, Fault>
     ensures html { IfOk result (λ output. output.items ≡ html_of arena.now) }
     ensures memory { IfErr result (λ fault. fault ≡ Fault.Memory) }
 {
+    let mut writer = room;
+    writer.clear();
     let node = arena.at(arena.document());
     let opts = SerializeOpts::default();
-    match serialize(alloc, Vec::new(alloc), &node, opts) {
+    match serialize(alloc, writer, &node, opts) {
         Ok(written) => Ok(written),
         Err(SerializeFault::Memory) => Err(Fault::Memory),
         Err(SerializeFault::Write) => Err(Fault::Memory),
@@ -213,14 +216,14 @@ fn write_html(alloc: Global, arena: &Arena) -> Result<Vec<u8>, Fault>
     }
 }
 
-/// The HTML of the tree that a text makes, with the default options. The only fault is `Memory`. The memory of the tree
-/// isn't given back piece by piece: it goes with the process.
+/// The HTML of the tree that a text makes, with the default options. The only fault is `Memory`. It is written where the text
+/// was, and the memory of the tree isn't given back piece by piece: it goes with the process.
 pub fn html_output(alloc: Global, text: String) -> Result<Vec<u8>, Fault>
     ensures prints { IfOk result (λ output. HtmlPrints (string_bytes text) output.items) }
     ensures memory { IfErr result (λ fault. fault ≡ Fault.Memory) }
 {
-    let arena = parse(alloc, text)?;
-    let output = write_html(alloc, &arena)?;
+    let arena = parse(alloc, text.as_str())?;
+    let output = write_html(alloc, &arena, text.into_bytes())?;
     mem::forget(arena);
     Ok(output)
 }

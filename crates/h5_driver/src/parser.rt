@@ -53,6 +53,14 @@ fn close<Handle: Drop, Sink: TreeSink<Handle = Handle> + Drop>(
     tokenizer.end()
 }
 
+// How many bytes of a text are copied at a time. They are few beside the text, so that memory doesn't hold it twice; and no text
+// has more than 128 parts of some length, so that what is done once for each part stays a constant beside its length.
+fn part_size(length: usize) -> usize
+    ensures { 0 < result }
+{
+    (length / 128).max(65_536)
+}
+
 /// A parser of a document: the reader over the tree builder over a sink.
 ///
 /// It takes text in pieces, and how a text is cut into pieces doesn't matter. Contracts see it as its
@@ -216,7 +224,25 @@ impl<Handle: Drop, Sink: TreeSink<Handle = Handle> + Drop> Parser<Handle, Sink> 
         parser.finish()
     }
 
-    /// Takes a whole text, and its end: `process`, and `finish`.
+    // Takes a text in parts, each of which is copied.
+    fn process_parts(&mut self, text: &str) -> Result<(), BuildFault>
+        ensures takes { OnOk result (Advances Sink.choices self.old.reader.place (view_of Sink.sees Sink.node self.old) ((self.old.reader.held ++ self.old.waiting) ++ text.now)
+            self.new.reader.place (view_of Sink.sees Sink.node self.new) (self.new.reader.held ++ self.new.waiting)) }
+        ensures works { OnOk result (self.new.failed ≡ self.old.failed) }
+        ensures memory { self.old.failed ≡ false → OnErr result (result ≡ Err BuildFault.Memory) }
+        ensures failed { self.old.failed ≡ true → OnErr result (result ≡ Err BuildFault.Failed) }
+    {
+        let size = part_size(text.len());
+        let mut left = text;
+        'parts: while !left.is_empty() {
+            let (part, rest) = left.split_at(left.ceil_char_boundary(size));
+            self.process(part)?;
+            left = rest;
+        }
+        Ok(())
+    }
+
+    /// Takes a whole text, and its end: `process` on parts of it, and `finish`. The parts are copied, one at a time.
     pub fn one(self, text: &str) -> Result<Sink::Output, BuildFault>
         ensures parses { IfOk result (λ output. Parses Sink.choices self.reader.place (view_of Sink.sees Sink.node self) ((self.reader.held ++ self.waiting) ++ text.now) (Sink.told output)) }
         ensures failed { self.failed ≡ true → result ≡ Err BuildFault.Failed }
@@ -225,8 +251,9 @@ impl<Handle: Drop, Sink: TreeSink<Handle = Handle> + Drop> Parser<Handle, Sink> 
         if self.failed {
             return Err(BuildFault::Failed);
         }
-        let piece = String::from_str(self.alloc, text)?;
-        self.one_owned(piece)
+        let mut parser = self;
+        parser.process_parts(text)?;
+        parser.finish()
     }
 
     /// Takes a whole text of its own, and its end: `process_owned`, and `finish`. The text isn't copied where nothing

@@ -50,6 +50,18 @@ fn a_whole_text_makes_its_tree(rt: HostRuntime) -> Result<(), Fail> {
     Ok(())
 }
 
+#[test]
+fn a_long_text_makes_its_tree(rt: HostRuntime) -> Result<(), Fail> {
+    let alloc = rt.alloc();
+    let mut text = String::from_str(alloc, "a")?;
+    text.push_str("é".repeat(alloc, 40_000)?.as_str())?;
+    let mut page = String::from_str(alloc, "<!DOCTYPE html><p>")?;
+    page.push_str(text.as_str())?;
+    let arena = new_parser(alloc)?.one(page.as_str())?;
+    assert!(rt; paragraph_holds(&arena, text.as_str()));
+    Ok(())
+}
+
 // How many parse errors a text has.
 fn errors_in(alloc: Global, text: &str) -> Result<usize, Fail> {
     let arena = new_parser(alloc)?.one(text)?;

@@ -1,4 +1,4 @@
-use Rattle.std.proofs.Common.{◌≡◌, ◌++◌, true, [], string_bytes, refl, rules}
+use Rattle.std.proofs.Common.{◌≡◌, ◌++◌, true, [], refl, rules}
 use Rattle.h5_arena.specs.ArenaModel.{arena_choices, new_arena, place, seen_of}
 use Rattle.h5_tree_builder.specs.Held.{building}
 use Rattle.h5_driver.specs.Options.{default_options}
@@ -11,7 +11,7 @@ pub returns-clause-parsed : goal.returns-clause-parsed
 returns-clause-parsed c =
     let parser = c.in_ok-parser.parser in
     let told = seen_of c.in_ok-tree.tree in
-    let text = string_bytes c.args.text in
+    let text = c.args.text.now in
     let xs = (parser.reader.held ++ parser.waiting) ++ text in
     let same : xs ≡ text = rw (c.in_ok-parser.ensures.held, c.in_ok-parser.ensures.waiting) refl in
     let parsed : Parses arena_choices parser.reader.place (view_of seen_of place parser) xs told = search rules in

@@ -1,0 +1,14 @@
+use Rattle.std.proofs.Common.{◌++◌, rules}
+use Rattle.h5_driver.specs.Parsing.{IsWorking, view_of}
+use Rattle.h5_driver.proofs.ReadingLaws.{told_behind}
+use Rattle.h5_driver.proofs.parser.Parser.one.Goals as goal
+
+pub returns-clause-parses : goal.returns-clause-parses
+returns-clause-parses g c =
+    let sees = g.Sink.TreeSink.sees in
+    let node = g.Sink.TreeSink.node in
+    let first = c.args.self in
+    let now = c.process_parts.new.self in
+    let works : IsWorking first.reader.place (view_of sees node first) = search rules in
+    told_behind g.Sink.TreeSink.choices g.Sink.TreeSink.told first.reader.place now.reader.place (view_of sees node first) (view_of sees node now)
+    ((first.reader.held ++ first.waiting) ++ c.args.text.now) (now.reader.held ++ now.waiting) works c.in_ok-process_parts.ensures.takes c.finish.result c.finish.ensures.parses
