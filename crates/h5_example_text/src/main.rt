@@ -10,7 +10,7 @@ use std::io::{self, Write};
 fn main(rt: HostRuntime) -> anyhow::Result<()> {
     let alloc = rt.alloc();
     let page = io::read_to_string(alloc, rt.reader())?;
-    let text = text_of_page(alloc, page.as_str())?;
+    let text = text_of_page(alloc, page)?;
     rt.stdout().write_all(text.as_bytes())?;
     Ok(())
 }

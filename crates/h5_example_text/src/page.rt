@@ -30,11 +30,11 @@ fn take_calls(blocks: &mut Blocks, arena: &Arena) -> Result<(), SerializeFault>
 }
 
 /// The text of a page: a line for each block in which there is any. An `AllocError` where memory is refused.
-pub fn text_of_page(alloc: Global, page: &str) -> Result<String, AllocError>
-    ensures { IfOk result (λ text. IsTextOf page.now (string_bytes text)) }
+pub fn text_of_page(alloc: Global, page: String) -> Result<String, AllocError>
+    ensures { IfOk result (λ text. IsTextOf (string_bytes page) (string_bytes text)) }
 {
     let parser = parse_document(alloc, Arena::new(alloc)?, ParseOpts::default());
-    let arena = parser.one(page).map_err(refused)?;
+    let arena = parser.one_owned(page).map_err(refused)?;
     let mut blocks = Blocks::new(alloc);
     take_calls(&mut blocks, &arena).map_err(refused)?;
     let lines = blocks.into_lines()?;
