@@ -23,7 +23,7 @@ use Rattle.h5_tokenizer.specs.declared.state.Turn.{Turn}
 use Rattle.h5_tokenizer.specs.declared.state.Turn.TheVariants.{Waits, Goes, Stops}
 
 abbrev pub place_of : State → Place
-place_of state = record { at_start = state.at_start; mode = state.mode; last = string_bytes state.last; line = state.line }
+place_of state = record { at_start = state.at_start; mode = state.mode; last = state.last; line = state.line }
 
 -- From xs on, up to ys, there is text, which was put behind what had been there.
 pub record TakesBits (mode : Mode) (last : List ℕ) (foreign : Bool) (xs ys old new : List ℕ) : Type 0 where

@@ -1,5 +1,5 @@
 //! Text, up to what is more than that.
-ghost use Rattle.std.specs.Prelude.{◌≡◌, List, [], ℕ, Bool, true, IfOk, IfSome, ◌<◌, length};
+ghost use Rattle.std.specs.Prelude.{◌≡◌, List, [], ℕ, Bool, true, IfOk, IfSome, ◌<◌, ◌≤◌, length};
 ghost use Rattle.std.specs.String.{string_bytes};
 ghost use Rattle.std.specs.Option.{option_copied};
 ghost use Rattle.h5_scan.specs.Matching as m;
@@ -11,7 +11,8 @@ ghost use Rattle.h5_tokenizer.specs.Steps.{TakesBits, TakesSome, TakesMany};
 use super::front::{Mode, Opening, find_opening};
 use h5_constructs::plain_len;
 use h5_scan::Seen;
-use std::alloc::AllocError;
+use memchr::memchr;
+use std::alloc::{AllocError, Global};
 
 /// Takes text where nothing else stands: all that is plain, or one byte that might have begun something.
 #[inline(always)]
@@ -38,6 +39,41 @@ pub fn cut_plain<'a>(text: &'a str) -> Option<(&'a str, &'a str)>
     }
     let (front, rest) = text.split_at(n);
     Some((front, rest))
+}
+
+// How far a text is looked ahead for the tag behind it.
+const AHEAD: usize = 1024;
+
+// How many bytes come before the next tag, as far as that is looked for.
+fn length_ahead(text: &str) -> usize
+    ensures { result ≤ 1024 }
+{
+    let bytes = text.as_bytes();
+    let near = &bytes[..bytes.len().min(AHEAD)];
+    match memchr(b'<', near) {
+        Some(i) => i,
+        None => near.len(),
+    }
+}
+
+/// A text that begins with this front, with room for what comes before the next tag, which belongs to it mostly.
+pub fn begin_long(alloc: Global, front: &str, after: &str) -> Result<String, AllocError>
+    ensures { IfOk result (λ text. string_bytes text ≡ front.now) }
+{
+    let mut text = String::with_capacity(alloc, front.len() + length_ahead(after))?;
+    text.push_str(front)?;
+    Ok(text)
+}
+
+/// A text that begins with this front. A reference behind it goes on with it.
+#[inline(always)]
+pub fn begin_text(alloc: Global, front: &str, after: &str) -> Result<String, AllocError>
+    ensures { IfOk result (λ text. string_bytes text ≡ front.now) }
+{
+    match after.as_bytes() {
+        [b'&', ..] => begin_long(alloc, front, after),
+        _ => String::from_str(alloc, front),
+    }
 }
 
 // Takes text where the search found nothing but text.

@@ -31,7 +31,7 @@ impl Model for Reader {
 
     ghost view = { λ r. record { place = place_of r.state; held = r.held; stage = r.phase } };
 
-    ghost invariant = { λ r. Pending r.search r.state.mode (string_bytes r.state.last) r.held };
+    ghost invariant = { λ r. Pending r.search r.state.mode r.state.last r.held };
 }
 
 impl Reader {

@@ -86,7 +86,7 @@ fn run<'a, S: TokenSink>(
     search: Option<Search>,
 ) -> Result<Halt<'a, S::Handle>, BuildFault>
     requires started { state.old.at_start ≡ false }
-    requires pending { Pending search state.old.mode (string_bytes state.old.last) text.now }
+    requires pending { Pending search state.old.mode state.old.last text.now }
     ensures { Runs S.reply_to S.after S.is_foreign S.node (place_of state.old) (S.meaning sink.old) text.now
         (place_of state.new) (S.meaning sink.new) result }
 {
@@ -116,7 +116,7 @@ fn skip_mark<'a>(
     text: &'a str,
     search: Option<Search>,
 ) -> Option<(&'a str, Option<Search>)>
-    requires { Pending search state.old.mode (string_bytes state.old.last) text.now }
+    requires { Pending search state.old.mode state.old.last text.now }
     ensures { Skips (place_of state.old) text.now (place_of state.new) result }
 {
     if !state.at_start {
@@ -144,7 +144,7 @@ pub fn run_from<'a, S: TokenSink>(
     text: &'a str,
     search: Option<Search>,
 ) -> Result<Halt<'a, S::Handle>, BuildFault>
-    requires { Pending search state.old.mode (string_bytes state.old.last) text.now }
+    requires { Pending search state.old.mode state.old.last text.now }
     ensures { RunsFrom S.reply_to S.after S.is_foreign S.node (place_of state.old) (S.meaning sink.old) text.now
         (place_of state.new) (S.meaning sink.new) result }
 {

@@ -2,6 +2,7 @@
 ghost use Rattle.std.specs.Prelude.{◌≡◌};
 
 use super::front::Mode;
+use h5_names::LocalName;
 use h5_scan::Inside;
 
 /// Where the reader is between two tokens.
@@ -11,7 +12,7 @@ pub struct State {
     pub at_start: bool,
     pub mode: Mode,
     /// The last start tag's name, or the empty text.
-    pub last: String,
+    pub last: LocalName,
     /// The line in which what comes next begins. It stays at the most a `u64` holds.
     pub line: u64,
 }

@@ -10,7 +10,7 @@ ghost use Rattle.h5_token.specs.Reply.{reply};
 
 use super::bare::{find_bare, make_bare};
 use super::front::{Construct, Mode, Opening, find_opening};
-use super::plain::{cut_plain, take_plain, take_texts};
+use super::plain::{begin_long, begin_text, cut_plain, take_plain, take_texts};
 use super::state::{Search, State, Stop, Turn};
 use super::tokens::make_token;
 use h5_scan::{Inside, Seen, Sought, seek_end};
@@ -80,8 +80,7 @@ fn hand_on_tag<S: TokenSink>(
 {
     match tag.kind {
         TagKind::StartTag => {
-            state.last.clear();
-            state.last.push_str(tag.name.as_str())?;
+            state.last = tag.name.clone()?;
             let answer = ask_of_tag(sink, tag, state.line)?;
             state.mode = chosen_mode(&answer);
             Ok(stop_of(answer))
@@ -149,7 +148,7 @@ fn token_step<'a, S: TokenSink>(
     token: Token,
 ) -> Result<Turn<'a, S::Handle>, BuildFault>
     requires started { state.old.at_start ≡ false }
-    requires front { f.front state.old.mode (string_bytes state.old.last) (S.is_foreign (S.meaning sink.old)) rest.now
+    requires front { f.front state.old.mode state.old.last (S.is_foreign (S.meaning sink.old)) rest.now
         ≡ m.Found (f.Whole (token_text token)) after.now }
     ensures { Makes S.reply_to S.after S.is_foreign S.node (place_of state.old) (S.meaning sink.old) rest.now
         (place_of state.new) (S.meaning sink.new) result }
@@ -169,7 +168,7 @@ fn tag_step<'a, S: TokenSink>(
     tag: Tag,
 ) -> Result<Turn<'a, S::Handle>, BuildFault>
     requires started { state.old.at_start ≡ false }
-    requires front { f.front state.old.mode (string_bytes state.old.last) (S.is_foreign (S.meaning sink.old)) rest.now
+    requires front { f.front state.old.mode state.old.last (S.is_foreign (S.meaning sink.old)) rest.now
         ≡ m.Found (f.Whole (TagIs (tag_text tag))) after.now }
     ensures { Makes S.reply_to S.after S.is_foreign S.node (place_of state.old) (S.meaning sink.old) rest.now
         (place_of state.new) (S.meaning sink.new) result }
@@ -189,7 +188,7 @@ fn text_step<'a, S: TokenSink>(
     mut text: String,
 ) -> Result<Turn<'a, S::Handle>, BuildFault>
     requires started { state.old.at_start ≡ false }
-    requires begun { TakesBits state.old.mode (string_bytes state.old.last) (S.is_foreign (S.meaning sink.old)) rest.now after.now [] (string_bytes text) }
+    requires begun { TakesBits state.old.mode state.old.last (S.is_foreign (S.meaning sink.old)) rest.now after.now [] (string_bytes text) }
     ensures { Makes S.reply_to S.after S.is_foreign S.node (place_of state.old) (S.meaning sink.old) rest.now
         (place_of state.new) (S.meaning sink.new) result }
 {
@@ -211,7 +210,7 @@ fn construct_step<'a, S: TokenSink>(
 ) -> Result<Turn<'a, S::Handle>, BuildFault>
     requires started { state.old.at_start ≡ false }
     requires foreign { search.foreign ≡ S.is_foreign (S.meaning sink.old) }
-    requires begins { f.opening state.old.mode (string_bytes state.old.last) search.foreign rest.now
+    requires begins { f.opening state.old.mode state.old.last search.foreign rest.now
         ≡ m.Found (f.Begins construct) inner.now }
     requires within { search.at ≤ length inner.now }
     requires walked { walk (start_of construct) (take search.at inner.now) ≡ Some search.place }
@@ -269,7 +268,7 @@ fn any_step<'a, S: TokenSink>(
     search: Option<Search>,
 ) -> Result<Turn<'a, S::Handle>, BuildFault>
     requires started { state.old.at_start ≡ false }
-    requires pending { Pending search state.old.mode (string_bytes state.old.last) rest.now }
+    requires pending { Pending search state.old.mode state.old.last rest.now }
     ensures { Makes S.reply_to S.after S.is_foreign S.node (place_of state.old) (S.meaning sink.old) rest.now
         (place_of state.new) (S.meaning sink.new) result }
 {
@@ -287,7 +286,7 @@ fn any_step<'a, S: TokenSink>(
                 construct_step(sink, state, alloc, rest, after, construct, search)
             }
             Opening::Gives(bit) => {
-                let text = String::from_str(alloc, bit)?;
+                let text = begin_long(alloc, bit, after)?;
                 text_step(sink, state, rest, after, text)
             }
             Opening::Null => token_step(sink, state, rest, after, Token::NullCharacterToken),
@@ -308,7 +307,7 @@ pub fn step<'a, S: TokenSink>(
     search: Option<Search>,
 ) -> Result<Turn<'a, S::Handle>, BuildFault>
     requires started { state.old.at_start ≡ false }
-    requires pending { Pending search state.old.mode (string_bytes state.old.last) rest.now }
+    requires pending { Pending search state.old.mode state.old.last rest.now }
     ensures { Makes S.reply_to S.after S.is_foreign S.node (place_of state.old) (S.meaning sink.old) rest.now
         (place_of state.new) (S.meaning sink.new) result }
 {
@@ -320,7 +319,7 @@ pub fn step<'a, S: TokenSink>(
         return tag_step(sink, state, rest, after, tag);
     }
     if let Some((front, after)) = cut_plain(rest) {
-        let text = String::from_str(alloc, front)?;
+        let text = begin_text(alloc, front, after)?;
         return text_step(sink, state, rest, after, text);
     }
     any_step(sink, state, alloc, rest, search)

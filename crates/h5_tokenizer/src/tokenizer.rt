@@ -12,6 +12,7 @@ use super::reader::{Reader, read};
 use super::result::TokenizerResult;
 use super::stage::Stage;
 use super::state::State;
+use h5_names::LocalName;
 use h5_token::{BuildFault, TokenSink, states};
 use std::alloc::Global;
 
@@ -52,6 +53,7 @@ impl<Sink: TokenSink> Tokenizer<Sink> {
             Some(name) => name,
             None => String::new(alloc),
         };
+        let last = LocalName::from_string(last);
         Tokenizer {
             sink,
             reader: Reader {

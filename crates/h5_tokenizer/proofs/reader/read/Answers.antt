@@ -13,7 +13,7 @@ returns-in_err-rest g c = search rules
 pub run_from-requires : goal.run_from-requires
 run_from-requires g c =
     let inside = c.reader.inside in
-    pending_on inside.search c.take-search.result inside.state.mode (string_bytes inside.state.last) inside.held c.as_str-text.result.now c.args.input.now
+    pending_on inside.search c.take-search.result inside.state.mode inside.state.last inside.held c.as_str-text.result.now c.args.input.now
     c.take-search.ensures.value (c.as_str-text.ensures ∙ c.in_ok-append.ensures.ok.0 ∙ ap (λ l. l ++ c.args.input.now) c.replace-buffer.ensures.value) c.reader.invariant
 
 pub keep-requires-clause-boundary : goal.keep-requires-clause-boundary

@@ -9,7 +9,7 @@ abbrev pub invariant-steps : goal.invariant-steps
 invariant-steps g l = record {
   utf8 : shadow (Utf8 l.rest);
   started : l.state.at_start ≡ false;
-  pending : Pending l.search l.state.mode (string_bytes l.state.last) l.rest;
+  pending : Pending l.search l.state.mode l.state.last l.rest;
   went : Went g.S.TokenSink.reply_to g.S.TokenSink.after g.S.TokenSink.is_foreign
       (place_of l.fn.state) (g.S.TokenSink.meaning l.fn.sink) l.text
       (place_of l.state) (g.S.TokenSink.meaning l.sink) l.rest;

@@ -12,8 +12,8 @@ text_step-requires-clause-begun g c =
     let state = c.args.state.now in
     let foreign = S.is_foreign (S.meaning c.args.sink.now) in
     rw c.new-text.ensures.bytes at
-    (c.in_ok-after-in-No.ensures state.mode (string_bytes state.last) foreign
-    (opening_at state.mode (string_bytes state.last) _ _ foreign c.args.rest.now No c.in-No.ensures c.as_str.ensures.value c.adjusted_current_node_present_but_not_in_html_namespace-foreign.ensures))
+    (c.in_ok-after-in-No.ensures state.mode state.last foreign
+    (opening_at state.mode state.last _ _ foreign c.args.rest.now No c.in-No.ensures c.as_str.ensures c.adjusted_current_node_present_but_not_in_html_namespace-foreign.ensures))
 
 pub text_step-requires-in-Gives-clause-begun : goal.text_step-requires-in-Gives-clause-begun
 text_step-requires-in-Gives-clause-begun g c =
@@ -21,9 +21,9 @@ text_step-requires-in-Gives-clause-begun g c =
     let state = c.args.state.now in
     let foreign = S.is_foreign (S.meaning c.args.sink.now) in
     let found = rw c.in-Gives.is at c.in-Found.ensures in
-    takes_bit {mode = state.mode} {last = string_bytes state.last} foreign c.args.rest.now c.in-Found.after.now c.in-Gives.bit.now _ _
-    (opening_at state.mode (string_bytes state.last) _ _ foreign c.args.rest.now (Found (Gives c.in-Gives.bit.now) c.in-Found.after.now) found c.as_str.ensures.value c.adjusted_current_node_present_but_not_in_html_namespace-foreign.ensures)
-    c.in_ok-text-in-Gives.ensures.ok
+    takes_bit {mode = state.mode} {last = state.last} foreign c.args.rest.now c.in-Found.after.now c.in-Gives.bit.now _ _
+    (opening_at state.mode state.last _ _ foreign c.args.rest.now (Found (Gives c.in-Gives.bit.now) c.in-Found.after.now) found c.as_str.ensures c.adjusted_current_node_present_but_not_in_html_namespace-foreign.ensures)
+    c.in_ok-text-in-Gives.ensures
 
 pub returns-in-Turns : goal.returns-in-Turns
 returns-in-Turns g c =
@@ -32,4 +32,4 @@ returns-in-Turns g c =
     let foreign = S.is_foreign (S.meaning c.args.sink.now) in
     let found = rw c.in-Turns.is at c.in-Found.ensures in
     switch_moves S.reply_to S.after S.is_foreign (place_of state) (S.meaning c.args.sink.now) c.args.rest.now c.in-Found.after.now c.in-Turns.mode c.requires.started
-    (opening_at state.mode (string_bytes state.last) _ _ foreign c.args.rest.now (Found (Turns c.in-Turns.mode) c.in-Found.after.now) found c.as_str.ensures.value c.adjusted_current_node_present_but_not_in_html_namespace-foreign.ensures)
+    (opening_at state.mode state.last _ _ foreign c.args.rest.now (Found (Turns c.in-Turns.mode) c.in-Found.after.now) found c.as_str.ensures c.adjusted_current_node_present_but_not_in_html_namespace-foreign.ensures)

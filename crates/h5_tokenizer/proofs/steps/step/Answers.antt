@@ -5,4 +5,4 @@ pub text_step-requires-clause-begun : goal.text_step-requires-clause-begun
 text_step-requires-clause-begun g c =
     let S = g.S.TokenSink in
     let state = c.args.state.now in
-    rw c.in_ok-text.ensures.ok (c.in-Some-cut_plain.ensures state.mode (string_bytes state.last) (S.is_foreign (S.meaning c.args.sink.now)))
+    rw c.in_ok-text.ensures (c.in-Some-cut_plain.ensures state.mode state.last (S.is_foreign (S.meaning c.args.sink.now)))

@@ -9,7 +9,7 @@ pub returns-in_err-stopped : goal.returns-in_err-stopped
 returns-in_err-stopped g c =
     let S = g.S.TokenSink in
     let p = err_from_is_err_and c.from_residual-in_err-stopped.result c.from_residual-in_err-stopped.ensures.1 in
-    let all = rw c.as_str.ensures.value at c.in_ok-end.ensures in
+    let all = rw c.as_str.ensures at c.in_ok-end.ensures in
     rw (p.1, p.2)
     (refused S.reply_to S.after S.is_foreign S.node (place_of c.args.state.now) (S.meaning c.args.sink.now) c.args.rest.now c.in_ok-end.end.now (Characters (string_bytes c.take_texts.new.out)) (place_of c.args.state.now) (S.meaning c.hand_on_text.new.sink) c.in_err-stopped.field-0.0
     (text_leads S.reply_to S.after S.is_foreign (place_of c.args.state.now) (S.meaning c.args.sink.now) c.args.rest.now c.args.after.now c.in_ok-end.end.now _ _ c.requires.started c.requires.begun all)
@@ -18,7 +18,7 @@ returns-in_err-stopped g c =
 pub returns : goal.returns
 returns g c =
     let S = g.S.TokenSink in
-    let all = rw c.as_str.ensures.value at c.in_ok-end.ensures in
+    let all = rw c.as_str.ensures at c.in_ok-end.ensures in
     rw c.turn.ensures
     (turned S.reply_to S.after S.is_foreign S.node (place_of c.args.state.now) (S.meaning c.args.sink.now) c.args.rest.now c.in_ok-end.end (Characters (string_bytes c.take_texts.new.out)) (place_of c.args.state.now) (S.meaning c.hand_on_text.new.sink) c.in_ok-stopped.stopped
     (text_leads S.reply_to S.after S.is_foreign (place_of c.args.state.now) (S.meaning c.args.sink.now) c.args.rest.now c.args.after.now c.in_ok-end.end.now _ _ c.requires.started c.requires.begun all)
