@@ -56,13 +56,14 @@ module _ {M : Type 0} (answer : M → Call → Result (Unit {0}) SerializeFault)
   begins_stopped (Ok opened) is h = absurd is
   begins_stopped {m} {n} {t} {u} {calls} (Err answered) is h = let P : SerializeFault → Type 0 = λ x. IsStopped answer after writes breaks calls m t x n u in subst P (sym is) h
 
-  -- want of memory before the first call
-  pub begins_starved : (m : M) (t : Option (List ℕ)) (calls : List Call) (result : Result (Option OpenNode) SerializeFault) → IsErrAnd result (λ fault. fault ≡ Memory) → Begins answer after writes breaks f calls m t result m t
-  begins_starved m t calls result is = begins_stopped result is (Starved [] calls refl NoCall)
-
   -- the first call met a fault
   pub begins_refused : {m n : M} {t u : Option (List ℕ)} {calls : List Call} {fault : SerializeFault} (call : Call) (left : List Call) (result : Result (Option OpenNode) SerializeFault) → calls ≡ call ∷ left → IsErrAnd result (λ answered. answered ≡ fault) → Makes answer after writes breaks call m t (Err fault) n u → Begins answer after writes breaks f calls m t result n u
   begins_refused call left result e is made = begins_stopped result is (Refused [] call left e NoCall made)
+
+  -- the first call met a fault, or there was no memory for it
+  pub begins_not : {m n : M} {t u : Option (List ℕ)} {calls : List Call} {fault : SerializeFault} (call : Call) (left : List Call) (result : Result (Option OpenNode) SerializeFault) → calls ≡ call ∷ left → IsErrAnd result (λ answered. answered ≡ fault) → IsStopped answer after writes breaks (call ∷ []) m t fault n u → Begins answer after writes breaks f calls m t result n u
+  begins_not {m} {n} {t} {u} {calls} {fault} call left result e is stopped =
+      begins_stopped result is (subst (λ l. IsStopped answer after writes breaks l m t fault n u) (sym e) (stopped_early answer after writes breaks left stopped))
 
   -- one call was all
   pub begins_one : {m n : M} {t u : Option (List ℕ)} {calls : List Call} (call : Call) → calls ≡ call ∷ [] → Makes answer after writes breaks call m t (Ok tt) n u → Begins answer after writes breaks f calls m t (Ok None) n u
@@ -72,8 +73,8 @@ module _ {M : Type 0} (answer : M → Call → Result (Unit {0}) SerializeFault)
   pub begins_silent : {m : M} {t : Option (List ℕ)} {calls : List Call} (opened : OpenNode) → calls ≡ calls_left f opened → Begins answer after writes breaks f calls m t (Ok (Some opened)) m t
   begins_silent opened e = ([], e, NoCall)
 
-  pub begins_open : {m n : M} {t u : Option (List ℕ)} {calls : List Call} (call : Call) (opened : OpenNode) → calls ≡ call ∷ calls_left f opened → Makes answer after writes breaks call m t (Ok tt) n u → Begins answer after writes breaks f calls m t (Ok (Some opened)) n u
-  begins_open {m} {n} {t} {u} call opened e made = (call ∷ [], e, OneMore call n u NoCall made)
+  pub begins_open : {m n : M} {t u : Option (List ℕ)} {calls : List Call} (call : Call) (opened : OpenNode) → calls ≡ call ∷ calls_left f opened → AreMade answer after writes breaks m t (call ∷ []) n u → Begins answer after writes breaks f calls m t (Ok (Some opened)) n u
+  begins_open call opened e made = (call ∷ [], e, made)
 
 -- a walk in its middle: some calls were made, and those of the open nodes are left
 module _ {M : Type 0} (answer : M → Call → Result (Unit {0}) SerializeFault) (after : M → Call → M) (writes : M → Call → List ℕ) (breaks : M → Option (List ℕ) → Call → SerializeFault → M → Option (List ℕ) → Type 0) where

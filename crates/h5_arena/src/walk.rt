@@ -67,7 +67,7 @@ fn begin_element<'a, S: Serializer>(
     ensures opened { OpensChildren (forest_seen arena.now) id.index result }
 {
     let _nodes = &arena.nodes;
-    serializer.start_elem(name.clone()?, arena.attrs(id).iter())?;
+    serializer.start_elem_ref(name, arena.attrs(id).iter())?;
     Ok(Some(OpenNode {
         rest: shown_children(arena, id),
         name: Some(name),
@@ -138,7 +138,7 @@ fn end<S: Serializer>(name: Option<&QualName>, serializer: &mut S) -> Result<(),
         (S.meaning serializer.new) (S.contents serializer.new) }
 {
     match name {
-        Some(name) => serializer.end_elem(name.clone()?),
+        Some(name) => serializer.end_elem_ref(name),
         None => Ok(()),
     }
 }

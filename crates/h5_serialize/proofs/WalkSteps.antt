@@ -1,5 +1,5 @@
 -- How the calls of a walk are put together, over any serializer.
-use Rattle.std.proofs.Common.{◌≡◌, ℕ, List, [], ◌∷◌, ◌++◌, map, Option, Result, Ok, Err, refl, sym, ap, ◌∙◌, subst, append_assoc, append-nil, ⊎_elim, length, Bor, ◌<◌, ◌+◌, get_or, take, drop}
+use Rattle.std.proofs.Common.{◌≡◌, ℕ, List, [], ◌∷◌, ◌++◌, map, Option, Result, Ok, Err, refl, sym, ap, ◌∙◌, subst, append_assoc, append-nil, inl, inr, ⊎_elim, length, Bor, ◌<◌, ◌+◌, get_or, take, drop}
 use Rattle.std.proofs.lemmas.List.{take_more, take-append-drop}
 use Rattle.std.specs.Iterator.{Drains}
 use Rattle.std.specs.Result.{IsErrAnd}
@@ -9,7 +9,7 @@ use Rattle.h5_names.specs.AttributeText.{AttributeText, attribute_text, attribut
 use Rattle.h5_names.specs.declared.qualified.Attribute.{Attribute}
 use Rattle.h5_names.specs.declared.qualified.QualName.{QualName}
 use Rattle.h5_serialize.specs.Call.{Call, StartOf}
-use Rattle.h5_serialize.specs.Walk.{Makes, MakesStart, AreMade, NoCall, OneMore, IsStopped, Starved, Refused, Walks}
+use Rattle.h5_serialize.specs.Walk.{Makes, MakesStart, AreMade, NoCall, OneMore, IsStopped, Starved, Refused, Walks, WalksStart}
 use Rattle.h5_serialize.specs.declared.fault.SerializeFault.{SerializeFault}
 use Rattle.h5_serialize.specs.declared.fault.SerializeFault.TheVariants.{Memory}
 
@@ -51,6 +51,14 @@ module _ {M : Type 0} (answer : M → Call → Result (Unit {0}) SerializeFault)
   -- a start with the attributes that the iterator gives, where these are known
   pub start_made : {A : Type 0} (attribute : A → AttributeText) (given : List A → Type 0) (name : QualName) (attrs : List AttributeText) {m n : M} {t u : Option (List ℕ)} {result : Result (Unit {0}) SerializeFault} → ((all : List A) → given all → map attribute all ≡ attrs) → MakesStart answer after writes breaks attribute given name m t result n u → Makes answer after writes breaks (StartOf name attrs) m t result n u
   start_made attribute given name attrs {m} {n} {t} {u} {result} known h = ⊎_elim (λ read. subst (λ l. Makes answer after writes breaks (StartOf name l) m t result n u) (known read.0 read.1) read.2) (λ whatever. whatever attrs) h
+
+  -- the same of a start whose name is lent
+  pub start_walked : {A : Type 0} (attribute : A → AttributeText) (given : List A → Type 0) (name : QualName) (attrs : List AttributeText) (m : M) (t : Option (List ℕ)) (result : Result (Unit {0}) SerializeFault) (n : M) (u : Option (List ℕ)) → ((all : List A) → given all → map attribute all ≡ attrs) → WalksStart answer after writes breaks attribute given name m t result n u → Walks answer after writes breaks (StartOf name attrs ∷ []) m t result n u
+  start_walked attribute given name attrs m t result n u known h = ⊎_elim (λ read. subst (λ l. Walks answer after writes breaks (StartOf name l ∷ []) m t result n u) (known read.0 read.1) read.2) (λ whatever. whatever attrs) h
+
+  -- a start that was made is a walk of one call
+  pub walk_start : {A : Type 0} (attribute : A → AttributeText) (given : List A → Type 0) (name : QualName) {m n : M} {t u : Option (List ℕ)} (result : Result (Unit {0}) SerializeFault) → MakesStart answer after writes breaks attribute given name m t result n u → WalksStart answer after writes breaks attribute given name m t result n u
+  walk_start attribute given name result h = ⊎_elim (λ read. inl (read.0, read.1, walk_one (StartOf name (map attribute read.0)) result read.2)) (λ whatever. inr (λ attrs. walk_one (StartOf name attrs) result (whatever attrs))) h
 
 -- the items that the iterator of a slice gives
 pub slice_gives : {A : Type 0} (all : List (Bor A)) (it : Iter A) → Drains iter_steps it all → map (λ x. x.now) all ≡ iter_rest it

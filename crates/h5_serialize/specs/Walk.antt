@@ -59,3 +59,9 @@ module _ {M : Type 0} (answer : M → Call → Result (Unit {0}) SerializeFault)
   abbrev pub Walks : List Call → M → Option (List ℕ) → Result (Unit {0}) SerializeFault → M → Option (List ℕ) → Type 0
   Walks calls m t (Ok done) n u = AreMade m t calls n u
   Walks calls m t (Err fault) n u = IsStopped calls m t fault n u
+
+  -- the same of one start, with the attributes that an iterator gives, as above
+  abbrev pub WalksStart : {A : Type 0} → (A → AttributeText) → (given : List A → Type 0) → QualName → M → Option (List ℕ) → Result (Unit {0}) SerializeFault → M → Option (List ℕ) → Type 0
+  WalksStart {A} attribute given name m t result n u =
+      ((all : List A) × given all × Walks (StartOf name (map attribute all) ∷ []) m t result n u)
+      ⊎ ((attrs : List AttributeText) → Walks (StartOf name attrs ∷ []) m t result n u)

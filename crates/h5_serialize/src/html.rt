@@ -1,7 +1,10 @@
 //! The serializer that writes HTML.
 ghost use Rattle.std.specs.Prelude.{◌≡◌, ◌++◌, OnOk, IfOk, IsOkUnless};
 ghost use Rattle.std.specs.Io.KnownBytes.{Appends};
-ghost use Rattle.h5_serialize.specs.Standing.{new_standing, parent_answer};
+ghost use Rattle.std.specs.Iterator.{Drains, IsFinite};
+ghost use Rattle.h5_serialize.specs.Call.{EndOf};
+ghost use Rattle.h5_serialize.specs.Standing.{IsBrokenBy, answer_to, new_standing, parent_answer, standing_after, text_written};
+ghost use Rattle.h5_serialize.specs.Walk.{Makes, MakesStart};
 
 use super::attributes::AttrRef;
 use super::escape::{write_escaped, write_verbatim};
@@ -78,6 +81,48 @@ impl<Wr: Write + Drop> HtmlSerializer<Wr> {
         }
         Ok(())
     }
+
+    // The start of an element. Nothing is written where an opener is the start of a void element.
+    fn start<T: AttrRef, I: Iterator<Item = T> + Drop>(
+        &mut self,
+        name: &QualName,
+        attrs: I,
+    ) -> Result<(), SerializeFault>
+        requires can { I.can_next attrs }
+        requires ends { IsFinite (I.remaining attrs) }
+        ensures { MakesStart answer_to standing_after text_written IsBrokenBy T.attribute (Drains I.next_gives attrs) name.now
+            self.old.standing self.old.contents result self.new.standing self.new.contents }
+    {
+        self.parent_answer()?;
+        self.failed = true;
+        self.openers.find_parent()?;
+        let is_hidden = self.openers.are_hidden();
+        self.openers
+            .push(Opener::start(self.scripting_enabled, name))?;
+        if is_hidden {
+            self.failed = false;
+            return Ok(());
+        }
+        write_start_tag(&mut self.writer, name, attrs)?;
+        self.failed = false;
+        Ok(())
+    }
+
+    // The end of an element. It closes the innermost opener. Nothing is written where that or one around it is the start of a
+    // void element.
+    fn end(&mut self, name: &QualName) -> Result<(), SerializeFault>
+        ensures { Makes answer_to standing_after text_written IsBrokenBy (EndOf name.now)
+            self.old.standing self.old.contents result self.new.standing self.new.contents }
+    {
+        self.parent_answer()?;
+        self.failed = true;
+        if !self.openers.are_hidden() {
+            write_end_tag(&mut self.writer, name)?;
+        }
+        self.openers.pop();
+        self.failed = false;
+        Ok(())
+    }
 }
 
 // Writes a text with what comes before and after it.
@@ -97,7 +142,7 @@ fn write_between<Wr: Write>(
 }
 
 impl<Wr: Write + Drop> Serializer for HtmlSerializer<Wr> {
-    ghost use Rattle.h5_serialize.specs.Standing.{Standing, answer_to, standing_after, text_written, IsBrokenBy};
+    ghost use Rattle.h5_serialize.specs.Standing.{Standing};
 
     ghost Meaning = { Standing };
 
@@ -119,32 +164,27 @@ impl<Wr: Write + Drop> Serializer for HtmlSerializer<Wr> {
         name: QualName,
         attrs: I,
     ) -> Result<(), SerializeFault> {
-        self.parent_answer()?;
-        self.failed = true;
-        self.openers.find_parent()?;
-        let is_hidden = self.openers.are_hidden();
-        self.openers
-            .push(Opener::start(self.scripting_enabled, &name))?;
-        if is_hidden {
-            self.failed = false;
-            return Ok(());
-        }
-        write_start_tag(&mut self.writer, &name, attrs)?;
-        self.failed = false;
-        Ok(())
+        self.start(&name, attrs)
     }
 
     /// Closes the innermost opener. Nothing is written where it or one around it is the start of a void
     /// element.
     fn end_elem(&mut self, name: QualName) -> Result<(), SerializeFault> {
-        self.parent_answer()?;
-        self.failed = true;
-        if !self.openers.are_hidden() {
-            write_end_tag(&mut self.writer, &name)?;
-        }
-        self.openers.pop();
-        self.failed = false;
-        Ok(())
+        self.end(&name)
+    }
+
+    /// As `start_elem`. No name is copied.
+    fn start_elem_ref<T: AttrRef, I: Iterator<Item = T> + Drop>(
+        &mut self,
+        name: &QualName,
+        attrs: I,
+    ) -> Result<(), SerializeFault> {
+        self.start(name, attrs)
+    }
+
+    /// As `end_elem`. No name is copied.
+    fn end_elem_ref(&mut self, name: &QualName) -> Result<(), SerializeFault> {
+        self.end(name)
     }
 
     /// A text right inside an element as `style` is written as it stands, any other with its escapes.

@@ -1,8 +1,8 @@
 //! What takes the calls that tell of a tree, and what makes them.
-ghost use Rattle.std.specs.Prelude.{ℕ, List, Option, Result};
+ghost use Rattle.std.specs.Prelude.{ℕ, List, [], ◌∷◌, Option, Result};
 ghost use Rattle.std.specs.Iterator.{Drains, IsFinite};
 ghost use Rattle.h5_serialize.specs.Call.{Call, EndOf, TextOf, CommentOf, DoctypeOf, InstructionOf};
-ghost use Rattle.h5_serialize.specs.Walk.{Makes, MakesStart, Walks};
+ghost use Rattle.h5_serialize.specs.Walk.{Makes, MakesStart, Walks, WalksStart};
 ghost use Rattle.h5_serialize.specs.declared.fault.SerializeFault.{SerializeFault};
 ghost use Rattle.h5_serialize.specs.declared.options.TraversalScope.{TraversalScope};
 
@@ -54,6 +54,29 @@ pub trait Serializer {
     fn end_elem(&mut self, name: QualName) -> Result<(), SerializeFault>
         ensures { Makes answer after writes breaks (EndOf name)
             (meaning self.old) (contents self.old) result (meaning self.new) (contents self.new) };
+
+    /// The start of an element whose name is lent. Where the name is copied for `start_elem`, and there is no memory for
+    /// that, the answer is `Memory`, and nothing changes.
+    fn start_elem_ref<T: AttrRef, I: Iterator<Item = T> + Drop>(
+        &mut self,
+        name: &QualName,
+        attrs: I,
+    ) -> Result<(), SerializeFault>
+        requires can { I.can_next attrs }
+        requires ends { IsFinite (I.remaining attrs) }
+        ensures { WalksStart answer after writes breaks T.attribute (Drains I.next_gives attrs) name.now
+            (meaning self.old) (contents self.old) result (meaning self.new) (contents self.new) }
+    {
+        self.start_elem(name.clone()?, attrs)
+    }
+
+    /// The end of an element whose name is lent, with the promise of `start_elem_ref`.
+    fn end_elem_ref(&mut self, name: &QualName) -> Result<(), SerializeFault>
+        ensures { Walks answer after writes breaks (EndOf name.now ∷ [])
+            (meaning self.old) (contents self.old) result (meaning self.new) (contents self.new) }
+    {
+        self.end_elem(name.clone()?)
+    }
 
     /// A text.
     fn write_text(&mut self, text: &str) -> Result<(), SerializeFault>

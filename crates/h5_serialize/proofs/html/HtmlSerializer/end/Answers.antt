@@ -1,5 +1,5 @@
 use Rattle.std.proofs.Common.{rules}
-use Rattle.h5_serialize.proofs.html.HtmlSerializerSerializer.end_elem.Goals as goal
+use Rattle.h5_serialize.proofs.html.HtmlSerializer.end.Goals as goal
 
 pub returns : goal.returns
 returns g c = search rules

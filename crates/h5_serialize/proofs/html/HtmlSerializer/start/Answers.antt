@@ -1,5 +1,5 @@
 use Rattle.std.proofs.Common.{rules, inl, inr}
-use Rattle.h5_serialize.proofs.html.HtmlSerializerSerializer.start_elem.Goals as goal
+use Rattle.h5_serialize.proofs.html.HtmlSerializer.start.Goals as goal
 
 pub returns-in_err-parent_answer : goal.returns-in_err-parent_answer
 returns-in_err-parent_answer g c = inr (λ attrs. search rules)
