@@ -1,6 +1,6 @@
 -- Writes to a vector of children, as contracts see it.
-use Rattle.std.proofs.Common.{◌≡◌, ◌∙◌, ℕ, ◌+◌, ◌-◌, ◌<◌, Bool, true, false, List, [], ◌∷◌, ◌++◌, ap, arith, drop, get_or, length, refl, sym, take}
-use Rattle.std.specs.Prelude.{◌&&◌, is_some, Option, None, Some, Result, Ok, Err, OnErr, slice_get}
+use Rattle.std.proofs.Common.{◌≡◌, ◌∙◌, ℕ, ◌+◌, ◌-◌, ◌<◌, Bool, Bor, true, false, List, [], ◌∷◌, ◌++◌, ap, arith, drop, get_or, length, refl, sym, take}
+use Rattle.std.specs.Prelude.{◌&&◌, is_some, Option, None, Some, Result, Ok, Err, OnErr, option_copied, slice_get}
 use Rattle.std.specs.List.{insert, remove}
 use Rattle.std.proofs.Math.ListN.{set}
 use Rattle.std.proofs.Math.Seq.{map-set_same}
@@ -12,7 +12,7 @@ use Rattle.h5_interface.specs.Forest.{AreParted, Child, ChildNode, ChildText, co
 use Rattle.h5_interface.proofs.ChildLaws.{joined-append_node, joined-parted}
 use Rattle.h5_arena.specs.declared.nodes.Child as own
 use Rattle.h5_arena.specs.ArenaModel.{child_view, child_views}
-use Rattle.h5_arena.specs.ChildTests.{first_text, is_child_text, last_text, texts_around, texts_meet}
+use Rattle.h5_arena.specs.ChildTests.{child_text, first_text, is_child_text, last_text, texts_around, texts_meet}
 use Rattle.h5_arena.proofs.ChildTexts.{around_above, around_after, around_before, around_within, either_case, joined-append_apart, joined-append_meets, joined-insert_apart, joined-insert_first, joined-insert_meets, joined-insert_node, joined-last_node, joined-last_text, met_removed}
 
 pub on_err : {T E : Type 0} {P : Type 0} (r : Result T E) → P → OnErr r P
@@ -26,6 +26,18 @@ text_of (ChildText t) e = (t, refl)
 pub node_of : (x : Child) → is_child_text x ≡ false → (n : ℕ) × (x ≡ ChildNode n)
 node_of (ChildNode n) e = (n, refl)
 node_of (ChildText t) e = cc
+
+-- the text that a child tells of itself
+pub text_told : (x : Child) (told : Option (Bor (List ℕ))) (t : Bor (List ℕ)) → option_copied told ≡ child_text x → told ≡ Some t → x ≡ ChildText t.now
+text_told (ChildNode n) None t e is = cc
+text_told (ChildNode n) (Some s) t e is = cc
+text_told (ChildText u) None t e is = cc
+text_told (ChildText u) (Some s) t e is = cc
+
+pub text_is_told : (x : Child) (told : Option (Bor (List ℕ))) → option_copied told ≡ child_text x → is_child_text x ≡ true → told ≡ None → ⊥
+text_is_told (ChildNode n) told e is none = cc
+text_is_told (ChildText u) None e is none = cc
+text_is_told (ChildText u) (Some s) e is none = cc
 
 -- the child that is read at a place
 pub child_at : (cs : List own.Child) (i : ℕ) (x : own.Child) → i < length cs → x ≡ get_or cs i x → slice_get (child_views cs) i ≡ Some (child_view x)
@@ -50,6 +62,13 @@ pub grown : (cs : List own.Child) (i : ℕ) (x x' : own.Child) (t a b : List ℕ
 grown cs i x x' t a b h e v w g =
     let same : t ≡ a = text_inj t a (sym g ∙ child_at cs i x h e ∙ ap (λ y. Some y) v) in
     map-set child_view cs i x' ∙ ap (set (child_views cs) i) (w ∙ rw same refl)
+
+-- the text that stands at a place is the child there
+pub text_there : (cs : List own.Child) (i : ℕ) (x : own.Child) (t : List ℕ) → i < length cs → x ≡ get_or cs i x → slice_get (child_views cs) i ≡ Some (ChildText t) → child_view x ≡ ChildText t
+text_there cs i x t h e g = some_inj (child_view x) (ChildText t) (sym (child_at cs i x h e) ∙ g)
+  where
+    some_inj : (y z : Child) → Some y ≡ Some z → y ≡ z
+    some_inj y z e = cc
 
 -- a text and a node are not at one place
 pub not_both : (cs : List own.Child) (i : ℕ) (x : own.Child) (n : ℕ) (t : List ℕ) → i < length cs → x ≡ get_or cs i x → child_view x ≡ ChildNode n → slice_get (child_views cs) i ≡ Some (ChildText t) → ⊥

@@ -12,7 +12,9 @@ use Rattle.h5_interface.specs.Forest.{AreParted, Child, ChildNode, ChildText, Fo
 use Rattle.h5_interface.proofs.ChildLaws.{count-append, nodes-append, nodes-joined}
 use Rattle.h5_interface.proofs.ForestLaws.{parent_of_child, same_forest}
 use Rattle.h5_arena.specs.declared.nodes.Child as own
+use Rattle.h5_arena.specs.declared.nodes.Child.TheVariants as own_is
 use Rattle.h5_arena.specs.declared.nodes.NodeData.{NodeData}
+use Rattle.h5_arena.specs.declared.nodes.NodeId.{NodeId}
 use Rattle.h5_arena.specs.ArenaModel.{child_view, child_views, children_in, forest_in, node_view, node_views}
 use Rattle.h5_arena.specs.ChildTests.{is_node_at, is_this}
 use Rattle.h5_arena.proofs.ChildViews.{child_at, set-back}
@@ -149,6 +151,12 @@ moved_held ns g from to c xs ys d k apart e x y w h =
     case : (b : Bool) → nat_lt 0 (count c (nodes xs)) ≡ b → 0 < count c (nodes xs) + count c (nodes ys) → c < length ns
     case true m all = child_held ns to c k (rw (e, x) (grind (arith, nat_tests)))
     case false m all = child_held ns from c k (rw y (grind (arith, nat_tests)))
+
+-- a child that is no node is none of them
+pub no_node : (n : ℕ) (x : own.Child) → ((id : NodeId) → x ≡ own_is.Node id → ⊥) → is_this n (child_view x) ≡ false
+no_node n (own_is.Node id) none = absurd (none id refl)
+no_node n (own_is.Text text) none = refl
+no_node n (own_is.Blank text) none = refl
 
 -- the child that is read at a node
 pub present : (ns : List NodeData) (p at : ℕ) (d : NodeData) (x : own.Child) → p < length ns → d ≡ get_or ns p d → x ≡ get_or (children_in d.children) at x → at < length (children_of (forest_in ns) p) → slice_get (children_of (forest_in ns) p) at ≡ Some (child_view x)

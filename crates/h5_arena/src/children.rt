@@ -6,6 +6,7 @@ ghost use Rattle.h5_interface.specs.Forest.{AreParted, ChildNode, ChildText, cou
 ghost use Rattle.h5_arena.specs.ArenaModel.{child_view, child_views};
 ghost use Rattle.h5_arena.specs.ChildTests.{is_child_node, is_child_text, texts_around, texts_meet};
 
+use super::blank::{self, text_child};
 use super::nodes::{Child, NodeId};
 use std::alloc::AllocError;
 use std::mem;
@@ -16,7 +17,7 @@ fn is_node(child: &Child, index: usize) -> bool
 {
     match child {
         Child::Node(id) => id.index == index,
-        Child::Text(_) => false,
+        Child::Text(_) | Child::Blank(_) => false,
     }
 }
 
@@ -25,7 +26,7 @@ fn is_text(child: &Child) -> bool
 {
     match child {
         Child::Node(_) => false,
-        Child::Text(_) => true,
+        Child::Text(_) | Child::Blank(_) => true,
     }
 }
 
@@ -47,7 +48,7 @@ pub(crate) fn place_of(children: &[Child], index: usize) -> usize
     unreachable!()
 }
 
-// A text at the end of the text at this place. Nothing moves, and the vector keeps its room.
+// A text at the end of the text at this place. No child moves, and the vector keeps its room.
 fn push_to_text(children: &mut Vec<Child>, at: usize, text: &str) -> Result<(), AllocError>
     requires within { at < vec_len children.old }
     requires text { (t : List ℕ) × (slice_get (child_views children.old.items) at ≡ Some (ChildText t)) }
@@ -57,13 +58,9 @@ fn push_to_text(children: &mut Vec<Child>, at: usize, text: &str) -> Result<(), 
     ensures len { vec_len children.new ≡ vec_len children.old }
     ensures room { vec_capacity children.new ≡ vec_capacity children.old }
 {
-    match &mut children[at] {
-        Child::Text(before) => {
-            before.push_str(text)?;
-            Ok(())
-        }
-        Child::Node(_) => unreachable!(),
-    }
+    let alloc = *children.allocator();
+    blank::push_str(alloc, &mut children[at], text)?;
+    Ok(())
 }
 
 // A text as the last child.
@@ -75,14 +72,14 @@ pub(crate) fn push_text(children: &mut Vec<Child>, text: String) -> Result<(), A
 {
     let count = children.len();
     if count == 0 {
-        children.push(Child::Text(text))?;
+        children.push(text_child(text))?;
         return Ok(());
     }
     if is_text(&children[count - 1]) {
         push_to_text(children, count - 1, text.as_str())?;
         return Ok(());
     }
-    children.push(Child::Text(text))?;
+    children.push(text_child(text))?;
     Ok(())
 }
 
@@ -115,14 +112,14 @@ pub(crate) fn insert_text(
     ensures err { OnErr result (child_views children.new.items ≡ child_views children.old.items) }
 {
     if at == 0 {
-        children.insert(at, Child::Text(text))?;
+        children.insert(at, text_child(text))?;
         return Ok(());
     }
     if is_text(&children[at - 1]) {
         push_to_text(children, at - 1, text.as_str())?;
         return Ok(());
     }
-    children.insert(at, Child::Text(text))?;
+    children.insert(at, text_child(text))?;
     Ok(())
 }
 
@@ -152,18 +149,17 @@ fn remove_between(children: &mut Vec<Child>, at: usize, id: NodeId) -> Result<()
     ensures err { OnErr result (child_views children.new.items ≡ child_views children.old.items) }
 {
     // The text behind the node is taken out, and the node stands in its place, until it is joined.
-    match mem::replace(&mut children[at + 1], Child::Node(id)) {
-        Child::Node(_) => unreachable!(),
-        Child::Text(after) => {
-            if let Err(e) = push_to_text(children, at - 1, after.as_str()) {
-                children[at + 1] = Child::Text(after);
-                return Err(e);
-            }
-            let _ = children.remove(at + 1);
-            let _ = children.remove(at);
-            Ok(())
-        }
+    let after = mem::replace(&mut children[at + 1], Child::Node(id));
+    let Some(text) = after.text() else {
+        unreachable!();
+    };
+    if let Err(e) = push_to_text(children, at - 1, text) {
+        children[at + 1] = after;
+        return Err(e);
     }
+    let _ = children.remove(at + 1);
+    let _ = children.remove(at);
+    Ok(())
 }
 
 // Takes a node from among children.
@@ -209,9 +205,9 @@ fn append_meeting(children: &mut Vec<Child>, moved: &mut Vec<Child>) -> Result<(
     // After this there is room for all that is moved, so that only the text can be refused.
     children.reserve(moved.len())?;
     let last = children.len() - 1;
-    match &moved[0] {
-        Child::Node(_) => unreachable!(),
-        Child::Text(first) => push_to_text(children, last, first.as_str())?,
+    match moved[0].text() {
+        None => unreachable!(),
+        Some(first) => push_to_text(children, last, first)?,
     }
     let _ = moved.remove(0);
     match children.append(moved) {

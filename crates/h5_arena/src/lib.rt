@@ -3,6 +3,7 @@
 
 mod attributes;
 mod below;
+mod blank;
 mod children;
 pub mod laws;
 mod link;
@@ -15,6 +16,7 @@ mod sink;
 mod tree;
 mod walk;
 
+pub use blank::Blank;
 pub use nodes::{Child, Kind, NodeId};
 pub use tree::Arena;
 pub use walk::NodeRef;

@@ -22,13 +22,10 @@ fn adopt_child(nodes: &mut Vec<NodeData>, parent: NodeId, at: usize)
 {
     let node = &nodes[parent.index];
     let children = node.children.as_slice();
-    match &children[at] {
-        Child::Text(_) => {}
-        Child::Node(id) => {
-            let child = *id;
-            let moved = &mut nodes[child.index];
-            moved.parent = Link::to(parent);
-        }
+    if let Child::Node(id) = &children[at] {
+        let child = *id;
+        let moved = &mut nodes[child.index];
+        moved.parent = Link::to(parent);
     }
 }
 

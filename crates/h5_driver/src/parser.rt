@@ -53,8 +53,8 @@ fn close<Handle: Drop, Sink: TreeSink<Handle = Handle> + Drop>(
     tokenizer.end()
 }
 
-// How many bytes of a text are copied at a time. They are few beside the text, so that memory doesn't hold it twice; and no text
-// has more than 128 parts of some length, so that what is done once for each part stays a constant beside its length.
+// How many bytes of a text are copied at a time: a 128th of it, so that memory doesn't hold it twice and its parts stay few, and
+// 64 KiB at the least.
 fn part_size(length: usize) -> usize
     ensures { 0 < result }
 {

@@ -13,22 +13,22 @@ use super::known_tags::{end_of, start_of};
 use h5_names::{KnownName, LocalName, QualName, namespaces};
 use std::io::Write;
 
-// What stands before the local name of an attribute.
-fn attribute_prefix(name: &QualName) -> &'static str
-    ensures { result.now ≡ attribute_prefix name.now }
+// What stands before the local name of an attribute: a space, and then a prefix.
+fn attribute_front(name: &QualName) -> &'static str
+    ensures { result.now ≡ codes " " ++ attribute_prefix name.now }
 {
     match name.ns.as_str() {
-        namespaces::NONE => "",
-        namespaces::XML => "xml:",
+        namespaces::NONE => " ",
+        namespaces::XML => " xml:",
         namespaces::XMLNS => {
             if name.local.as_str() == "xmlns" {
-                ""
+                " "
             } else {
-                "xmlns:"
+                " xmlns:"
             }
         }
-        namespaces::XLINK => "xlink:",
-        _ => "unknown_namespace:",
+        namespaces::XLINK => " xlink:",
+        _ => " unknown_namespace:",
     }
 }
 
@@ -42,8 +42,7 @@ fn write_attribute<Wr: Write>(
         (attribute_written (record { name = name.now; value = value.now }))) }
     ensures fault { IsOkUnless result SerializeFault.Write }
 {
-    write_verbatim(writer, " ")?;
-    write_verbatim(writer, attribute_prefix(name))?;
+    write_verbatim(writer, attribute_front(name))?;
     write_verbatim(writer, name.local.as_str())?;
     write_verbatim(writer, "=\"")?;
     write_escaped(writer, value, true)?;

@@ -49,15 +49,15 @@ fn is_first_value(attrs: &[Attribute], value: &str) -> bool {
 }
 
 fn is_text(child: &Child, text: &str) -> bool {
-    match child {
-        Child::Text(other) => other.as_str() == text,
-        Child::Node(_) => false,
+    match child.text() {
+        Some(other) => other == text,
+        None => false,
     }
 }
 
 fn is_node(child: &Child, id: NodeId) -> bool {
     match child {
-        Child::Text(_) => false,
+        Child::Text(_) | Child::Blank(_) => false,
         Child::Node(other) => *other == id,
     }
 }
@@ -144,6 +144,18 @@ fn a_small_tree_stands_in_an_arena(rt: HostRuntime) -> Result<(), Fail> {
     check_root(&arena, root, &rt);
     let note = arena.id(2).ok_or("the comment is the third node")?;
     check_note(&arena, root, note, &rt);
+    Ok(())
+}
+
+#[test]
+fn a_blank_is_a_text(rt: HostRuntime) -> Result<(), Fail> {
+    let alloc = rt.alloc();
+    let mut arena = Arena::new(alloc)?;
+    let root = small_tree(&mut arena, alloc, "x", "\n  ", &rt)?;
+    assert!(rt; arena.holds(root));
+    assert_eq!(rt; arena.children(root).len(), 2);
+    assert!(rt; matches!(&arena.children(root)[0], Child::Blank(_)));
+    assert!(rt; is_text(&arena.children(root)[0], "\n  "));
     Ok(())
 }
 
