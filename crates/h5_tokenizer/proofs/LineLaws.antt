@@ -40,12 +40,13 @@ high_by x true b e f h = let same : x ≡ 13 = eqb-true x 13 e in absurd (omega 
 high_by x false true e f h = let same : x ≡ 10 = eqb-true x 10 f in absurd (omega arith)
 high_by x false false e f h = (refl, refl)
 
--- bytes above a CR are no newlines, where no CR came before them
-pub none_high : (xs : List ℕ) → ((k : ℕ) → k < length xs → 13 < get_or xs k 0) → newlines false xs ≡ 0
-none_high [] h = refl
-none_high (x ∷ xs) h =
+-- bytes that are none may be passed, where no CR came before them
+pub none_passed : (xs : List ℕ) (n : ℕ) → ((k : ℕ) → k < n → 13 < get_or xs k 0) → newlines false xs ≡ newlines false (drop n xs)
+none_passed xs zero h = refl
+none_passed [] (suc n) h = refl
+none_passed (x ∷ xs) (suc n) h =
     let none = high_by x (eqb x 13) (eqb x 10) refl refl (h 0 (omega arith)) in
-    rw (none.0, none.1) (none_high xs (λ k lt. h (suc k) (omega arith)))
+    rw (none.0, none.1) (none_passed xs n (λ k lt. h (suc k) (omega arith)))
 
 -- the same was passed, whatever follows
 passed_on : (xs ys more : List ℕ) → passed (xs ++ more) (ys ++ more) ≡ passed xs ys

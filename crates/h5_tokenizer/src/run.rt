@@ -27,15 +27,17 @@ fn few_newlines(bytes: &[u8], behind_cr: bool) -> u8
     count
 }
 
-// The least of these bytes, or the greatest there is where there are none.
-fn least(bytes: &[u8]) -> u8
-    ensures { (k : ℕ) → k < length bytes.now → result ≤ slice_index bytes.now k }
+// The index of the first byte that may be a newline, or the length where there is none.
+fn first_low(bytes: &[u8]) -> usize
+    ensures within { result ≤ length bytes.now }
+    ensures passed { (k : ℕ) → k < result → 13 < slice_index bytes.now k }
 {
-    let mut least = u8::MAX;
-    for b in bytes {
-        least = least.min(*b);
+    for (i, b) in bytes.iter().enumerate() {
+        if *b <= b'\r' {
+            return i;
+        }
     }
-    least
+    bytes.len()
 }
 
 // The same as `few_newlines`, for bytes that mostly have none.
@@ -43,10 +45,11 @@ fn rare_newlines(bytes: &[u8], behind_cr: bool) -> u8
     requires { length bytes.now < 256 }
     ensures { result ≡ newlines behind_cr bytes.now }
 {
-    if !behind_cr && least(bytes) > b'\r' {
-        return 0;
+    if behind_cr {
+        return few_newlines(bytes, true);
     }
-    few_newlines(bytes, behind_cr)
+    let (_, rest) = bytes.split_at(first_low(bytes));
+    few_newlines(rest, false)
 }
 
 // How many newlines these bytes are.
@@ -56,10 +59,10 @@ fn newlines(bytes: &[u8]) -> u64
     let mut count: u64 = 0;
     let mut after_cr = false;
     let mut rest = bytes;
-    while rest.len() > 15 {
-        let (front, back) = rest.split_at(16);
-        count += rare_newlines(front, after_cr) as u64;
-        after_cr = rest[15] == b'\r';
+    while rest.len() > 63 {
+        let (front, back) = rest.split_at(64);
+        count += few_newlines(front, after_cr) as u64;
+        after_cr = rest[63] == b'\r';
         rest = back;
     }
     count + rare_newlines(rest, after_cr) as u64
