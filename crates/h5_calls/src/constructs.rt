@@ -1,7 +1,7 @@
 //! The parts of texts, tags and doctypes.
 use h5_constructs::{
-    Kept, cleaned, escape, make_doctype, make_name, newline, plain_len, read_attributes, reference,
-    text_of,
+    Kept, cleaned, escape, is_plain, make_doctype, make_name, newline, plain_len, read_attributes,
+    reference, text_of,
 };
 use h5_scan::Seen;
 use h5_token::Doctype;
@@ -50,6 +50,8 @@ fn names_are_read(rt: HostRuntime) -> Result<(), Fail> {
 #[test]
 fn plain_texts_are_measured(rt: HostRuntime) {
     assert_eq!(rt; plain_len("ab&c"), 2);
+    assert!(rt; is_plain(b'b'));
+    assert!(rt; !is_plain(b'&'));
 }
 
 fn listed(alloc: Global, kept: &Kept) -> Result<String, AllocError> {

@@ -9,5 +9,5 @@ mod text;
 
 pub use attributes::{Kept, make_name, read_attributes};
 pub use doctypes::make_doctype;
-pub use plain::plain_len;
+pub use plain::{is_plain, plain_len};
 pub use text::{cleaned, escape, newline, reference, text_of};

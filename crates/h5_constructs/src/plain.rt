@@ -2,7 +2,9 @@
 ghost use Rattle.std.specs.Prelude.{◌≡◌, ℕ, true, false, ◌<◌, ◌≤◌, length, slice_index};
 ghost use Rattle.h5_constructs.specs.Plain.{is_plain};
 
-fn is_plain(b: u8) -> bool
+/// Whether a byte is text in every state: it begins no tag, no reference and no end of a CDATA part, and stands for no other
+/// byte (HTML standard, section 13.2.5, "Tokenization").
+pub fn is_plain(b: u8) -> bool
     ensures { result ≡ is_plain b }
 {
     b > b']' || !(b == b'<' || b == b'&' || b == b'\r' || b == 0 || b == b']')

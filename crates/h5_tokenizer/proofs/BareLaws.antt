@@ -1,6 +1,7 @@
 -- Tags that are nothing but their names.
-use Rattle.std.proofs.Common.{◌≡◌, ℕ, zero, suc, ◌<◌, ◌+◌, ◌&&◌, Bool, true, false, List, [], ◌∷◌, eqb, length, take, drop, get_or, refl, sym, ap, ◌∙◌, subst, arith, zero-le}
+use Rattle.std.proofs.Common.{◌≡◌, ℕ, zero, suc, ◌<◌, ◌+◌, ◌-◌, ◌&&◌, Bool, true, false, List, [], ◌∷◌, eqb, length, take, drop, get_or, refl, sym, ap, ◌∙◌, subst, arith, zero-le}
 use Rattle.std.proofs.lemmas.Bool.Decides.{nat_tests}
+use Rattle.std.proofs.lemmas.List.{length-drop}
 use Rattle.std.specs.Char.{is_ascii_alphabetic, to_ascii_lowercase}
 use Rattle.h5_token.specs.TokenText.{TokenText, TagIs}
 use Rattle.h5_token.specs.declared.tag.TagKind.TheVariants as kind
@@ -18,6 +19,8 @@ use Rattle.h5_tokenizer.specs.Tokens.{is_between, is_self_closing, last_is, star
 use Rattle.h5_tokenizer.specs.Front.{Begins, Whole, in_data}
 use Rattle.h5_tokenizer.specs.declared.front.Mode.TheVariants.{Data}
 use Rattle.h5_tokenizer.specs.declared.front.Construct.TheVariants.{StartTag, EndTag}
+use Rattle.h5_tokenizer.specs.Lines.{newlines_passed}
+use Rattle.h5_tokenizer.proofs.LineLaws.{in_line_more, in_line_through}
 use Rattle.h5_tokenizer.proofs.StepLaws.{front_concluded}
 
 all_before : (stop : ℕ → Bool) (xs : List ℕ) (n : ℕ) → ((k : ℕ) → k < n → stop (get_or xs k 0) ≡ false) → before stop (take n xs) ≡ take n xs
@@ -31,12 +34,13 @@ none_from stop [] (suc n) h = refl
 none_from stop (x ∷ xs) (suc n) h = rw (h 0 (omega arith)) (none_from stop xs n (λ k lt. h (suc k) (omega arith)))
 
 -- a name, by the index of the '>' behind it
-pub bare_by : (xs name behind rest : List ℕ) (n : ℕ) → n < length xs → ((k : ℕ) → k < n → is_in NameEnd (get_or xs k 0) ≡ false) → is_ascii_alphabetic (get_or xs 0 0) ≡ true → get_or xs n 0 ≡ 62 → name ≡ take n xs → behind ≡ drop n xs → rest ≡ drop 1 behind → IsBare xs name rest
-bare_by xs name behind rest n lt passed letter ended e f g =
+pub bare_by : (xs name behind rest : List ℕ) (n : ℕ) → n < length xs → ((k : ℕ) → k < n → is_in NameEnd (get_or xs k 0) ≡ false) → is_ascii_alphabetic (get_or xs 0 0) ≡ true → get_or xs n 0 ≡ 62 → ((k : ℕ) → k < n → 13 < get_or xs k 0) → name ≡ take n xs → behind ≡ drop n xs → rest ≡ drop 1 behind → IsBare xs name rest
+bare_by xs name behind rest n lt passed letter ended high e f g =
     let same : 0 + n ≡ n = omega arith in
     let Ends : ℕ → Type 0 = λ k. (up_to_end TagName xs ≡ Found (take k xs) (drop 1 (drop k xs))) × (place_after TagName (take k xs) ≡ TagName) in
     let found : Ends n = subst Ends same
     (sought_end TagName TagName TagName xs 0 n zero-le lt refl (walk_stays TagName (is_in NameEnd) xs n in_tag_name passed) (ap (ends TagName) ended)) in
+    let left : length rest ≡ length xs - suc n = omega (arith, ap length (g ∙ ap (drop 1) f), length-drop 1 (drop n xs), length-drop n xs) in
     record {
       some = omega arith;
       letter = letter;
@@ -44,6 +48,8 @@ bare_by xs name behind rest n lt passed letter ended e f g =
       place = ap (place_after TagName) e ∙ found.1;
       all = ap (before (is_in NameEnd)) e ∙ all_before (is_in NameEnd) xs n passed ∙ sym e;
       no_more = ap (from (is_in NameEnd)) e ∙ none_from (is_in NameEnd) xs n passed;
+      line = in_line_through xs rest n lt left high (omega (arith, ended));
+      shorter = omega (arith, left);
     }
 
 never : (b : Bool) → (b && false) ≡ false
@@ -114,6 +120,16 @@ end_begins true (y ∷ z ∷ x ∷ xs) inner some e g f more h =
 end_begins false (y ∷ z ∷ x ∷ xs) inner some e g f more h =
     let a : is_ascii_alphabetic x ≡ true = ap (λ l. is_ascii_alphabetic (get_or l 0 0)) (sym f) ∙ h in
     rw (e, g, f) (simp a)
+
+-- such a tag has no newline
+pub start_in_line : (xs inner name rest : List ℕ) → 0 < length xs → get_or xs 0 0 ≡ 60 → inner ≡ drop 1 xs → IsBare inner name rest → newlines_passed xs rest ≡ 0
+start_in_line xs inner name rest some e f h = in_line_more xs inner rest some (omega (arith, e)) f h.shorter h.line
+
+pub end_in_line : (xs inner name rest : List ℕ) → 1 < length xs → get_or xs 0 0 ≡ 60 → get_or xs 1 0 ≡ 47 → inner ≡ drop 2 xs → IsBare inner name rest → newlines_passed xs rest ≡ 0
+end_in_line [] inner name rest some e g f h = absurd (omega arith)
+end_in_line (y ∷ xs) inner name rest some e g f h =
+    let below : newlines_passed xs rest ≡ 0 = in_line_more xs inner rest (omega arith) (omega (arith, g)) f h.shorter h.line in
+    in_line_more (y ∷ xs) xs rest (omega arith) (omega (arith, e)) refl (omega (arith, ap length f, length-drop 1 xs, h.shorter)) below
 
 -- such a tag is at the front
 pub begins_start : (xs inner name rest : List ℕ) → 0 < length xs → get_or xs 0 0 ≡ 60 → inner ≡ drop 1 xs → IsBare inner name rest → BeginsBare Data xs kind.StartTag name rest

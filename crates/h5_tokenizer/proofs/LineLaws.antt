@@ -1,10 +1,12 @@
 -- Newlines, counted in parts.
-use Rattle.std.proofs.Common.{◌≡◌, ℕ, zero, suc, ◌<◌, ◌≤◌, ◌+◌, ◌-◌, Bool, true, false, not, ◌&&◌, List, [], ◌∷◌, ◌++◌, cond, eqb, length, take, drop, get_or, refl, ap, ◌∙◌, arith, length-append}
+use Rattle.std.proofs.Common.{◌≡◌, ℕ, zero, suc, ◌<◌, ◌≤◌, ◌+◌, ◌-◌, Bool, true, false, not, ◌&&◌, List, [], ◌∷◌, ◌++◌, cond, eqb, length, take, drop, get_or, refl, sym, ap, ◌∙◌, subst, arith, length-append, length-drop}
 use Rattle.std.proofs.lemmas.Bool.{eqb-true}
 use Rattle.std.proofs.lemmas.List.{take-append-le}
 use Rattle.std.specs.Io.Iter.{u64_saturate}
+use Rattle.h5_constructs.specs.Plain.{is_plain}
+use Rattle.h5_constructs.proofs.PlainBytes.{plain}
 use Rattle.h5_tokenizer.specs.Front.{Place}
-use Rattle.h5_tokenizer.specs.Lines.{line_behind, newlines, passed}
+use Rattle.h5_tokenizer.specs.Lines.{line_behind, newlines, newlines_passed, passed}
 use Rattle.h5_tokenizer.specs.Read.{behind}
 
 few_by : (a b : Bool) (n m k l : ℕ) → n ≤ k → m ≤ k → l ≤ k → cond a (1 + n) (cond b (1 + m) l) ≤ suc k
@@ -48,6 +50,65 @@ none_passed (x ∷ xs) (suc n) h =
     let none = high_by x (eqb x 13) (eqb x 10) refl refl (h 0 (omega arith)) in
     rw (none.0, none.1) (none_passed xs n (λ k lt. h (suc k) (omega arith)))
 
+-- where none of the bytes up to one, and that one, may be a newline, there is none
+quiet_through : (xs : List ℕ) (n : ℕ) → ((k : ℕ) → k < n → 13 < get_or xs k 0) → 13 < get_or xs n 0 → newlines false (take (suc n) xs) ≡ 0
+quiet_through [] n h i = refl
+quiet_through (x ∷ xs) zero h i =
+    let none = high_by x (eqb x 13) (eqb x 10) refl refl i in
+    rw (none.0, none.1) refl
+quiet_through (x ∷ xs) (suc n) h i =
+    let none = high_by x (eqb x 13) (eqb x 10) refl refl (h 0 (omega arith)) in
+    rw (none.0, none.1) (quiet_through xs n (λ k lt. h (suc k) (omega arith)) i)
+
+pub in_line_through : (xs rest : List ℕ) (n : ℕ) → n < length xs → length rest ≡ length xs - suc n → ((k : ℕ) → k < n → 13 < get_or xs k 0) → 13 < get_or xs n 0 → newlines_passed xs rest ≡ 0
+in_line_through xs rest n lt e h i =
+    let same : length xs - length rest ≡ suc n = omega (arith, e) in
+    ap (λ k. newlines false (take k xs)) same ∙ quiet_through xs n h i
+
+head_by : (b : Bool) → cond (b && true) 1 0 ≡ 0 + cond b 1 0
+head_by true = refl
+head_by false = refl
+
+tail_by : (b : Bool) (n m r : ℕ) → n ≡ m + r → cond (b && true) (1 + n) n ≡ cond (b && true) (1 + m) m + r
+tail_by true n m r h = omega (arith, h)
+tail_by false n m r h = h
+
+-- one more byte of plain text, which is no CR
+pub plain_more : (xs : List ℕ) (n : ℕ) → n < length xs → ((k : ℕ) → k < n → is_plain (get_or xs k 0) ≡ true) → is_plain (get_or xs n 0) ≡ true → newlines false (take (suc n) xs) ≡ newlines false (take n xs) + cond (eqb (get_or xs n 0) 10) 1 0
+plain_more [] n lt h i = absurd (omega arith)
+plain_more (x ∷ xs) zero lt h i = rw (plain x i).cr (head_by (eqb x 10))
+plain_more (x ∷ xs) (suc n) lt h i =
+    rw (plain x (h 0 (omega arith))).cr
+    (tail_by (eqb x 10) (newlines false (take (suc n) xs)) (newlines false (take n xs)) (cond (eqb (get_or xs n 0) 10) 1 0)
+    (plain_more xs n (omega arith) (λ k lt. h (suc k) (omega arith)) i))
+
+pub plain_next : (xs : List ℕ) (n lines next : ℕ) → n < length xs → ((k : ℕ) → k < n → is_plain (get_or xs k 0) ≡ true) → is_plain (get_or xs n 0) ≡ true → lines ≡ newlines false (take n xs) → next ≡ lines + cond (eqb (get_or xs n 0) 10) 1 0 → next ≡ newlines false (take (n + 1) xs)
+plain_next xs n lines next lt h i e f =
+    let same : suc n ≡ n + 1 = omega arith in
+    f ∙ ap (λ l. l + cond (eqb (get_or xs n 0) 10) 1 0) e ∙ sym (plain_more xs n lt h i) ∙ ap (λ m. newlines false (take m xs)) same
+
+-- a part by its length
+pub passed_by : (xs rest : List ℕ) (n : ℕ) → n ≤ length xs → rest ≡ drop n xs → newlines_passed xs rest ≡ newlines false (take n xs)
+passed_by xs rest n le e =
+    let same : length xs - length rest ≡ n = omega (arith, ap length e, length-drop n xs) in
+    ap (λ k. newlines false (take k xs)) same
+
+-- and by the length of what follows it
+pub passed_as : (xs rest end : List ℕ) → length end ≡ length rest → newlines_passed xs rest ≡ newlines_passed xs end
+passed_as xs rest end e = ap (λ k. newlines false (take (length xs - k) xs)) (sym e)
+
+by_one : (n m : ℕ) → m ≤ n → suc n - m ≡ suc (n - m)
+by_one n m le = omega arith
+
+-- a byte more
+pub in_line_more : (xs inner rest : List ℕ) → 0 < length xs → 13 < get_or xs 0 0 → inner ≡ drop 1 xs → length rest ≤ length inner → newlines_passed inner rest ≡ 0 → newlines_passed xs rest ≡ 0
+in_line_more [] inner rest some high e le h = absurd (omega arith)
+in_line_more (x ∷ xs) inner rest some high e le h =
+    let none = high_by x (eqb x 13) (eqb x 10) refl refl high in
+    let same : length (x ∷ xs) - length rest ≡ suc (length xs - length rest) = by_one (length xs) (length rest) (omega (arith, ap length e, le)) in
+    ap (λ k. newlines false (take k (x ∷ xs))) same
+    ∙ rw (none.0, none.1) (subst (λ (l : List ℕ). newlines_passed l rest ≡ 0) e h)
+
 -- the same was passed, whatever follows
 passed_on : (xs ys more : List ℕ) → passed (xs ++ more) (ys ++ more) ≡ passed xs ys
 passed_on xs ys more =
@@ -56,6 +117,10 @@ passed_on xs ys more =
 
 line_on : (line : ℕ) (xs ys more : List ℕ) → line_behind line (xs ++ more) (ys ++ more) ≡ line_behind line xs ys
 line_on line xs ys more = ap (λ l. u64_saturate (line + newlines false l)) (passed_on xs ys more)
+
+-- the line behind a part, by the newlines in it
+pub behind_by : (p : Place) (lines : ℕ) (xs ys : List ℕ) → lines ≡ newlines_passed xs ys → behind p xs ys ≡ record { at_start = p.at_start; mode = p.mode; last = p.last; line = u64_saturate (p.line + lines) }
+behind_by p lines xs ys h = ap (λ l. let q : Place = record { at_start = p.at_start; mode = p.mode; last = p.last; line = u64_saturate (p.line + l) } in q) (sym h)
 
 pub behind_on : (p : Place) (xs ys more : List ℕ) → behind p (xs ++ more) (ys ++ more) ≡ behind p xs ys
 behind_on p xs ys more = ap (λ l. let q : Place = record { at_start = p.at_start; mode = p.mode; last = p.last; line = l } in q) (line_on p.line xs ys more)

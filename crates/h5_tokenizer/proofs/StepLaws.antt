@@ -9,8 +9,9 @@ use Rattle.h5_scan.specs.Matching.{Match, Open, Found, or_else}
 use Rattle.h5_scan.specs.Ending.{walk, up_to_end}
 use Rattle.h5_tokenizer.specs.Tokens.{start_of, token_of}
 use Rattle.h5_tokenizer.specs.Front.{Opening, Begins, Turns, opening, Whole, Switch, Place, concluded, other, front}
+use Rattle.h5_tokenizer.specs.Lines.{newlines_passed}
 use Rattle.h5_tokenizer.specs.Read.{Bits, behind, token_step, switch_step, text_step, next_place, in_mode}
-use Rattle.h5_tokenizer.specs.Steps.{TakesBits, TakesMany, IsPending, Pending, fresh, turn_of, HandedOn, HandsOn, Moves, MovesOn, MovesInto, Makes}
+use Rattle.h5_tokenizer.specs.Steps.{TakesBits, TakesMany, IsPending, Pending, fresh, turn_in_line_of, turn_of, HandedOn, HandsOn, Moves, MovesOn, MovesInto, Makes}
 use Rattle.h5_tokenizer.specs.declared.front.Mode.{Mode}
 use Rattle.h5_tokenizer.specs.declared.front.Construct.{Construct}
 use Rattle.h5_tokenizer.specs.declared.state.Stop.{Stop}
@@ -59,6 +60,10 @@ module _ {M : Type 0} (reply_to : M → TokenText → Reply) (after : M → Toke
   turned node p m xs ys t q n None leads h = record { reply = reply_to m t; goes_on = h.answer; moves = leads.moves q n h.place h.meaning }
   turned node p m xs ys t q n (Some s) leads h =
       subst (λ (r : Reply). Moves reply_to after foreign p m xs r (behind q xs ys.now) n ys.now) h.answer (leads.moves q n h.place h.meaning)
+
+  pub turned_in_line : {H : Type 0} (node : H → ℕ) (p : Place) (m : M) (xs : List ℕ) (ys : Bor (List ℕ)) (t : TokenText) (q : Place) (n : M) (stopped : Option (Stop H)) → newlines_passed xs ys.now ≡ 0 → Leads p m xs t ys.now → HandedOn reply_to after node p m t q n stopped → Makes reply_to after foreign node p m xs q n (Ok (turn_in_line_of stopped ys))
+  turned_in_line node p m xs ys t q n None line leads h = (turned node p m xs ys t q n None leads h, sym line)
+  turned_in_line node p m xs ys t q n (Some s) line leads h = turned node p m xs ys t q n (Some s) leads h
 
   -- one that was refused
   refused_by : (p : Place) (m : M) (xs ys : List ℕ) (t : TokenText) (n : M) (f : BuildFault) → Leads p m xs t ys → reply_to m t ≡ Refuses f → n ≡ after m t p.line → MovesInto reply_to after foreign p m xs f n

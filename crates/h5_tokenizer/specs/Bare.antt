@@ -1,5 +1,5 @@
 -- Tags that are nothing but their names.
-use Rattle.std.specs.Prelude.{◌≡◌, ℕ, ◌<◌, Bool, true, false, List, [], length, slice_index}
+use Rattle.std.specs.Prelude.{◌≡◌, ℕ, ◌<◌, ◌≤◌, Bool, true, false, List, [], length, slice_index}
 use Rattle.std.specs.Char.{is_ascii_alphabetic}
 use Rattle.h5_token.specs.TokenText.{TokenText, TagIs}
 use Rattle.h5_token.specs.declared.tag.TagKind.{TagKind}
@@ -10,6 +10,7 @@ use Rattle.h5_scan.specs.declared.cut.Class.TheVariants.{NameEnd}
 use Rattle.h5_scan.specs.declared.ending.Inside.TheVariants.{TagName}
 use Rattle.h5_constructs.specs.Text.{name_of}
 use Rattle.h5_tokenizer.specs.Front.{Whole, front}
+use Rattle.h5_tokenizer.specs.Lines.{newlines_passed}
 use Rattle.h5_tokenizer.specs.declared.front.Mode.{Mode}
 
 -- a tag with a name, and neither attributes nor flags
@@ -27,6 +28,7 @@ pub record IsBareName (xs : List ℕ) (n : ℕ) : Type 0 where
   pub some : 0 < n
   pub within : n < length xs
   pub passed : (k : ℕ) → k < n → is_in NameEnd (slice_index xs k) ≡ false
+  pub high : (k : ℕ) → k < n → 13 < slice_index xs k
   pub starts : is_ascii_alphabetic (slice_index xs 0) ≡ true
   pub ends : slice_index xs n ≡ 62
 
@@ -38,6 +40,8 @@ pub record IsBare (xs name rest : List ℕ) : Type 0 where
   pub place : place_after TagName name ≡ TagName
   pub all : before (is_in NameEnd) name ≡ name
   pub no_more : from (is_in NameEnd) name ≡ []
+  pub line : newlines_passed xs rest ≡ 0
+  pub shorter : length rest ≤ length xs
 
 -- such a tag stands at the front
 abbrev pub BeginsBare : Mode → List ℕ → TagKind → List ℕ → List ℕ → Type 0

@@ -13,6 +13,10 @@ newlines after_cr (x ∷ xs) =
 abbrev pub passed : List ℕ → List ℕ → List ℕ
 passed xs rest = take (length xs - length rest) xs
 
+-- how many newlines were passed
+abbrev pub newlines_passed : List ℕ → List ℕ → ℕ
+newlines_passed xs rest = newlines false (passed xs rest)
+
 -- The line behind what was passed of an input that begins in this line. The count stays at the most a u64 holds.
 abbrev pub line_behind : ℕ → List ℕ → List ℕ → ℕ
-line_behind line xs rest = u64_saturate (line + newlines false (passed xs rest))
+line_behind line xs rest = u64_saturate (line + newlines_passed xs rest)

@@ -9,6 +9,7 @@ use Rattle.h5_token.specs.declared.sink.TokenSinkResult.{TokenSinkResult}
 use Rattle.h5_scan.specs.Matching.{Open, No, Found}
 use Rattle.h5_scan.specs.Ending.{walk}
 use Rattle.h5_tokenizer.specs.Front.{Begins, opening, Place, front, mark}
+use Rattle.h5_tokenizer.specs.Lines.{newlines_passed}
 use Rattle.h5_tokenizer.specs.Tokens.{start_of}
 use Rattle.h5_tokenizer.specs.Read.{Bits, Step, Reads, behind, goes_on, next_place, started, IsUndecided}
 use Rattle.h5_tokenizer.specs.declared.front.Mode.{Mode}
@@ -20,7 +21,7 @@ use Rattle.h5_tokenizer.specs.declared.state.Stop.TheVariants as stop
 use Rattle.h5_tokenizer.specs.declared.state.Halt.{Halt}
 use Rattle.h5_tokenizer.specs.declared.state.Halt.TheVariants as halt
 use Rattle.h5_tokenizer.specs.declared.state.Turn.{Turn}
-use Rattle.h5_tokenizer.specs.declared.state.Turn.TheVariants.{Waits, Goes, Stops}
+use Rattle.h5_tokenizer.specs.declared.state.Turn.TheVariants.{Waits, Goes, GoesBehind, Stops}
 
 abbrev pub place_of : State → Place
 place_of state = record { at_start = state.at_start; mode = state.mode; last = state.last; line = state.line }
@@ -83,6 +84,10 @@ abbrev pub turn_of : {H : Type 0} → Option (Stop H) → Bor (List ℕ) → Tur
 turn_of None rest = Goes rest
 turn_of (Some s) rest = Stops s rest
 
+abbrev pub turn_in_line_of : {H : Type 0} → Option (Stop H) → Bor (List ℕ) → Turn H
+turn_in_line_of None rest = GoesBehind rest 0
+turn_in_line_of (Some s) rest = Stops s rest
+
 abbrev pub AnswersAs : {H : Type 0} → (H → ℕ) → Option (Stop H) → Reply → Type 0
 AnswersAs node None reply = goes_on reply ≡ true
 AnswersAs node (Some s) reply = reply ≡ stops_as node s
@@ -139,6 +144,7 @@ module _ {M : Type 0} (reply_to : M → TokenText → Reply) (after : M → Toke
   abbrev pub Makes : {H : Type 0} → (H → ℕ) → Place → M → List ℕ → Place → M → Result (Turn H) BuildFault → Type 0
   Makes node p m xs q n (Ok (Waits search)) = StandsStill p m xs q n search
   Makes node p m xs q n (Ok (Goes rest)) = MovesOn p m xs (behind q xs rest.now) n rest.now
+  Makes node p m xs q n (Ok (GoesBehind rest lines)) = MovesOn p m xs (behind q xs rest.now) n rest.now × (lines ≡ newlines_passed xs rest.now)
   Makes node p m xs q n (Ok (Stops s rest)) = Moves p m xs (stops_as node s) (behind q xs rest.now) n rest.now
   Makes node p m xs q n (Err fault.Memory) = Unit {0}
   Makes node p m xs q n (Err fault.AfterEnd) = MovesInto p m xs fault.AfterEnd n

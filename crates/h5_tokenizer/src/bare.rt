@@ -1,9 +1,10 @@
 //! Tags that are nothing but their names. Most tags are.
-ghost use Rattle.std.specs.Prelude.{◌≡◌, false, true, IfSome, IfOk};
+ghost use Rattle.std.specs.Prelude.{◌≡◌, ◌<◌, false, true, IfSome, IfOk};
 ghost use Rattle.std.specs.Char.{is_ascii_alphabetic};
 ghost use Rattle.h5_token.specs.TokenText.{TagIs, tag_text};
 ghost use Rattle.h5_scan.specs.Cuts.{is_in};
 ghost use Rattle.h5_tokenizer.specs.Bare.{bare_tag, BeginsBare, IsBare, IsBareName};
+ghost use Rattle.h5_tokenizer.specs.Lines.{newlines_passed};
 
 use super::front::Mode;
 use super::state::Search;
@@ -15,6 +16,7 @@ use std::alloc::{AllocError, Global};
 // Whether a byte may stand in such a name: a letter, or behind the first byte a digit.
 fn is_name_byte(b: u8, first: bool) -> bool
     ensures name { result ≡ true → is_in Class.NameEnd b ≡ false }
+    ensures high { result ≡ true → 13 < b }
     ensures first { first ≡ true → result ≡ is_ascii_alphabetic b }
 {
     b.is_ascii_alphabetic() || (!first && b.is_ascii_digit())
@@ -45,7 +47,8 @@ fn cut_bare<'a>(kind: TagKind, text: &'a str) -> Option<(TagKind, &'a str, &'a s
 // The tag, in the state "data".
 #[inline(always)]
 fn bare_in_data<'a>(text: &'a str) -> Option<(TagKind, &'a str, &'a str)>
-    ensures { IfSome result (λ tag. BeginsBare Mode.Data text.now tag.0 tag.1.now tag.2.now) }
+    ensures begins { IfSome result (λ tag. BeginsBare Mode.Data text.now tag.0 tag.1.now tag.2.now) }
+    ensures line { IfSome result (λ tag. newlines_passed text.now tag.2.now ≡ 0) }
 {
     let bytes = text.as_bytes();
     if bytes.len() < 2 || bytes[0] != b'<' {
@@ -67,7 +70,8 @@ pub fn find_bare<'a>(
     search: Option<Search>,
     text: &'a str,
 ) -> Option<(TagKind, &'a str, &'a str)>
-    ensures { IfSome result (λ tag. BeginsBare mode text.now tag.0 tag.1.now tag.2.now) }
+    ensures begins { IfSome result (λ tag. BeginsBare mode text.now tag.0 tag.1.now tag.2.now) }
+    ensures line { IfSome result (λ tag. newlines_passed text.now tag.2.now ≡ 0) }
 {
     if search.is_some() {
         return None;

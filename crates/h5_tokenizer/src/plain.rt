@@ -1,15 +1,17 @@
 //! Text, up to what is more than that.
-ghost use Rattle.std.specs.Prelude.{◌≡◌, List, [], ℕ, Bool, true, IfOk, IfSome, ◌<◌, ◌≤◌, length};
+ghost use Rattle.std.specs.Prelude.{◌≡◌, List, [], ℕ, Bool, false, true, IfOk, IfSome, ◌<◌, ◌≤◌, length, slice_index, take};
 ghost use Rattle.std.specs.String.{string_bytes};
 ghost use Rattle.std.specs.Option.{option_copied};
+ghost use Rattle.h5_constructs.specs.Plain.{is_plain};
 ghost use Rattle.h5_scan.specs.Matching as m;
 ghost use Rattle.h5_scan.specs.Seen.{seen};
 ghost use Rattle.h5_tokenizer.specs.Front.{opening};
+ghost use Rattle.h5_tokenizer.specs.Lines.{newlines, newlines_passed};
 ghost use Rattle.h5_tokenizer.specs.Openings.{opening_of};
 ghost use Rattle.h5_tokenizer.specs.Steps.{TakesBits, TakesSome, TakesMany};
 
 use super::front::{Mode, Opening, find_opening};
-use h5_constructs::plain_len;
+use h5_constructs::{is_plain, plain_len};
 use h5_scan::Seen;
 use memchr::memchr;
 use std::alloc::{AllocError, Global};
@@ -27,18 +29,55 @@ pub fn take_plain<'a>(text: &'a str, out: &mut String) -> Result<&'a str, AllocE
     Ok(rest)
 }
 
+/// Plain text, and what follows it.
+#[derive(Clone, Copy)]
+pub struct Plain<'a> {
+    pub front: &'a str,
+    pub after: &'a str,
+    /// How many newlines are in it.
+    pub lines: u64,
+}
+
+// How many bytes at the front are text in every state, and how many newlines are among them.
+fn count_plain(text: &str) -> (usize, u64)
+    ensures within { result.0 ≤ length text.now }
+    ensures plain { (k : ℕ) → k < result.0 → is_plain (slice_index text.now k) ≡ true }
+    ensures stops { result.0 < length text.now → is_plain (slice_index text.now result.0) ≡ false }
+    ensures lines { result.1 ≡ newlines false (take result.0 text.now) }
+{
+    let bytes = text.as_bytes();
+    let mut lines: u64 = 0;
+    for (i, b) in bytes.iter().enumerate() {
+        // Most bytes are letters in lower case, and these are asked nothing else.
+        if *b <= b']' {
+            if !is_plain(*b) {
+                return (i, lines);
+            }
+            if *b == b'\n' {
+                lines += 1;
+            }
+        }
+    }
+    (bytes.len(), lines)
+}
+
 /// The plain text at the front and what follows it, where there is some.
 #[inline(always)]
-pub fn cut_plain<'a>(text: &'a str) -> Option<(&'a str, &'a str)>
-    ensures { IfSome result (λ cut. (mode : Mode) (last : List ℕ) (foreign : Bool)
-        → TakesBits mode last foreign text.now cut.1.now [] cut.0.now) }
+pub fn cut_plain<'a>(text: &'a str) -> Option<Plain<'a>>
+    ensures begins { IfSome result (λ plain. (mode : Mode) (last : List ℕ) (foreign : Bool)
+        → TakesBits mode last foreign text.now plain.after.now [] plain.front.now) }
+    ensures lines { IfSome result (λ plain. plain.lines ≡ newlines_passed text.now plain.after.now) }
 {
-    let n = plain_len(text);
+    let (n, lines) = count_plain(text);
     if n == 0 {
         return None;
     }
-    let (front, rest) = text.split_at(n);
-    Some((front, rest))
+    let (front, after) = text.split_at(n);
+    Some(Plain {
+        front,
+        after,
+        lines,
+    })
 }
 
 // How far a text is looked ahead for the tag behind it.

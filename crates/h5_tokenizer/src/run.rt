@@ -106,6 +106,12 @@ fn run<'a, S: TokenSink>(
                 rest = after;
                 search = None;
             }
+            Turn::GoesBehind(after, lines) => {
+                state.line = state.line.saturating_add(lines);
+                let _bytes = after.as_bytes();
+                rest = after;
+                search = None;
+            }
         }
     }
 }

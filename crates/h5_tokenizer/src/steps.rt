@@ -5,12 +5,12 @@ ghost use Rattle.h5_scan.specs.Matching as m;
 ghost use Rattle.h5_token.specs.TokenText.{Characters, TagIs, tag_text, token_text};
 ghost use Rattle.h5_tokenizer.specs.Front as f;
 ghost use Rattle.h5_tokenizer.specs.Read.{chosen_mode};
-ghost use Rattle.h5_tokenizer.specs.Steps.{place_of, Asks, AnswersAs, HandsOn, Makes, Pending, TakesBits, turn_of};
+ghost use Rattle.h5_tokenizer.specs.Steps.{place_of, Asks, AnswersAs, HandsOn, Makes, Pending, TakesBits, turn_in_line_of, turn_of};
 ghost use Rattle.h5_token.specs.Reply.{reply};
 
 use super::bare::{find_bare, make_bare};
 use super::front::{Construct, Mode, Opening, find_opening};
-use super::plain::{begin_long, begin_text, cut_plain, take_plain, take_texts};
+use super::plain::{Plain, begin_long, begin_text, cut_plain, take_plain, take_texts};
 use super::state::{Search, State, Stop, Turn};
 use super::tokens::make_token;
 use h5_scan::{Inside, Seen, Sought, seek_end};
@@ -133,8 +133,19 @@ fn turn<'a, H: Drop>(stopped: Option<Stop<H>>, rest: &'a str) -> Turn<'a, H>
     }
 }
 
+// The same where no newline was passed.
+fn turn_in_line<'a, H: Drop>(stopped: Option<Stop<H>>, rest: &'a str) -> Turn<'a, H>
+    ensures { result ≡ turn_in_line_of stopped rest.entry }
+{
+    match stopped {
+        Some(stop) => Turn::Stops(stop, rest),
+        None => Turn::GoesBehind(rest, 0),
+    }
+}
+
 ghost use Rattle.std.specs.Prelude.{◌≤◌, ◌⊎◌, Bool, List, Option, Some, None, take};
 ghost use Rattle.h5_scan.specs.Ending.{walk};
+ghost use Rattle.h5_tokenizer.specs.Lines.{newlines_passed};
 ghost use Rattle.h5_tokenizer.specs.Tokens.{start_of};
 ghost use Rattle.h5_tokenizer.specs.Steps.{fresh};
 
@@ -170,12 +181,13 @@ fn tag_step<'a, S: TokenSink>(
     requires started { state.old.at_start ≡ false }
     requires front { f.front state.old.mode state.old.last (S.is_foreign (S.meaning sink.old)) rest.now
         ≡ m.Found (f.Whole (TagIs (tag_text tag))) after.now }
+    requires line { newlines_passed rest.now after.now ≡ 0 }
     ensures { Makes S.reply_to S.after S.is_foreign S.node (place_of state.old) (S.meaning sink.old) rest.now
         (place_of state.new) (S.meaning sink.new) result }
 {
     let _rest = rest;
     let stopped = hand_on_tag(sink, state, tag)?;
-    Ok(turn(stopped, after))
+    Ok(turn_in_line(stopped, after))
 }
 
 // A text has begun.
@@ -196,6 +208,29 @@ fn text_step<'a, S: TokenSink>(
     let end = take_texts(state.mode, state.last.as_str(), after, &mut text)?;
     let stopped = hand_on_text(sink, state, text)?;
     Ok(turn(stopped, end))
+}
+
+// Plain text stands at the front, and so many newlines are in it. They are counted again where the text goes on.
+#[inline(always)]
+fn plain_step<'a, S: TokenSink>(
+    sink: &mut S,
+    state: &mut State,
+    alloc: Global,
+    rest: &'a str,
+    plain: Plain<'a>,
+) -> Result<Turn<'a, S::Handle>, BuildFault>
+    requires started { state.old.at_start ≡ false }
+    requires begun { TakesBits state.old.mode state.old.last (S.is_foreign (S.meaning sink.old)) rest.now plain.after.now [] plain.front.now }
+    requires lines { plain.lines ≡ newlines_passed rest.now plain.after.now }
+    ensures { Makes S.reply_to S.after S.is_foreign S.node (place_of state.old) (S.meaning sink.old) rest.now
+        (place_of state.new) (S.meaning sink.new) result }
+{
+    let after = plain.after;
+    let text = begin_text(alloc, plain.front, after)?;
+    match text_step(sink, state, rest, after, text)? {
+        Turn::Goes(end) if end.len() == after.len() => Ok(Turn::GoesBehind(end, plain.lines)),
+        turn => Ok(turn),
+    }
 }
 
 // A construct has begun, and its end is looked for.
@@ -318,9 +353,8 @@ pub fn step<'a, S: TokenSink>(
         let tag = make_bare(alloc, kind, name)?;
         return tag_step(sink, state, rest, after, tag);
     }
-    if let Some((front, after)) = cut_plain(rest) {
-        let text = begin_text(alloc, front, after)?;
-        return text_step(sink, state, rest, after, text);
+    if let Some(plain) = cut_plain(rest) {
+        return plain_step(sink, state, alloc, rest, plain);
     }
     any_step(sink, state, alloc, rest, search)
 }

@@ -1,7 +1,7 @@
 use Rattle.std.proofs.Common.{◌≡◌, ◌≤◌, length, get_or, sym, ap, ◌∙◌, arith}
 use Rattle.std.proofs.lemmas.Option.{IfSome_then}
 use Rattle.std.proofs.lemmas.Str.{IsCharBoundary-after_ascii}
-use Rattle.h5_tokenizer.proofs.BareLaws.{begins_start, begins_end}
+use Rattle.h5_tokenizer.proofs.BareLaws.{begins_start, begins_end, start_in_line, end_in_line}
 use Rattle.h5_tokenizer.proofs.bare.bare_in_data.Goals as goal
 
 pub split_at-requires : goal.split_at-requires
@@ -16,15 +16,28 @@ split_at-requires-2 c =
     let two : 2 ≤ length c.args.text.now = omega (arith, c.as_bytes-bytes.ensures.len) in
     IsCharBoundary-after_ascii c.args.text.now 0 c.utf8.text (omega arith) (omega arith)
 
-pub returns-then-bytes-eq47 : goal.returns-then-bytes-eq47
-returns-then-bytes-eq47 c =
+pub returns-then-bytes-eq47-clause-begins : goal.returns-then-bytes-eq47-clause-begins
+returns-then-bytes-eq47-clause-begins c =
     let angle : get_or c.args.text.now 0 0 ≡ 60 = ap (λ l. get_or l 0 0) (sym c.as_bytes-bytes.ensures.value) ∙ c.if-bytes-ne60.false in
     let slash : get_or c.args.text.now 1 0 ≡ 47 = ap (λ l. get_or l 1 0) (sym c.as_bytes-bytes.ensures.value) ∙ c.if-bytes-eq47.true in
     let two : 2 ≤ length c.args.text.now = omega (arith, c.as_bytes-bytes.ensures.len) in
     IfSome_then c.cut_bare.result c.cut_bare.ensures (λ tag h. rw h.0 (begins_end c.args.text.now c.split_at.result.1.now tag.1.now tag.2.now (omega arith) angle slash c.split_at.ensures.back h.1))
 
-pub returns : goal.returns
-returns c =
+pub returns-then-bytes-eq47-clause-line : goal.returns-then-bytes-eq47-clause-line
+returns-then-bytes-eq47-clause-line c =
+    let angle : get_or c.args.text.now 0 0 ≡ 60 = ap (λ l. get_or l 0 0) (sym c.as_bytes-bytes.ensures.value) ∙ c.if-bytes-ne60.false in
+    let slash : get_or c.args.text.now 1 0 ≡ 47 = ap (λ l. get_or l 1 0) (sym c.as_bytes-bytes.ensures.value) ∙ c.if-bytes-eq47.true in
+    let two : 2 ≤ length c.args.text.now = omega (arith, c.as_bytes-bytes.ensures.len) in
+    IfSome_then c.cut_bare.result c.cut_bare.ensures (λ tag h. end_in_line c.args.text.now c.split_at.result.1.now tag.1.now tag.2.now (omega arith) angle slash c.split_at.ensures.back h.1)
+
+pub returns-clause-line : goal.returns-clause-line
+returns-clause-line c =
+    let angle : get_or c.args.text.now 0 0 ≡ 60 = ap (λ l. get_or l 0 0) (sym c.as_bytes-bytes.ensures.value) ∙ c.if-bytes-ne60.false in
+    let two : 2 ≤ length c.args.text.now = omega (arith, c.as_bytes-bytes.ensures.len) in
+    IfSome_then c.cut_bare-2.result c.cut_bare-2.ensures (λ tag h. start_in_line c.args.text.now c.split_at-2.result.1.now tag.1.now tag.2.now (omega arith) angle c.split_at-2.ensures.back h.1)
+
+pub returns-clause-begins : goal.returns-clause-begins
+returns-clause-begins c =
     let angle : get_or c.args.text.now 0 0 ≡ 60 = ap (λ l. get_or l 0 0) (sym c.as_bytes-bytes.ensures.value) ∙ c.if-bytes-ne60.false in
     let two : 2 ≤ length c.args.text.now = omega (arith, c.as_bytes-bytes.ensures.len) in
     IfSome_then c.cut_bare-2.result c.cut_bare-2.ensures (λ tag h. rw h.0 (begins_start c.args.text.now c.split_at-2.result.1.now tag.1.now tag.2.now (omega arith) angle c.split_at-2.ensures.back h.1))

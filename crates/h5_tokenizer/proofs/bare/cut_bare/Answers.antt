@@ -16,4 +16,4 @@ pub returns : goal.returns
 returns c =
     let n = c.in_ok-n.n in
     let at = rw c.as_bytes.ensures.value at c.in_ok-n.ensures in
-    (refl, bare_by c.args.text.now c.split_at.result.0.now c.split_at.result.1.now c.split_at-2.result.1.now n at.within at.passed at.starts at.ends c.split_at.ensures.front c.split_at.ensures.back c.split_at-2.ensures.back)
+    (refl, bare_by c.args.text.now c.split_at.result.0.now c.split_at.result.1.now c.split_at-2.result.1.now n at.within at.passed at.starts at.ends at.high c.split_at.ensures.front c.split_at.ensures.back c.split_at-2.ensures.back)

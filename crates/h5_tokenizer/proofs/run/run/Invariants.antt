@@ -1,4 +1,4 @@
-use Rattle.std.proofs.Common.{◌≡◌, false, length, string_bytes}
+use Rattle.std.proofs.Common.{◌≡◌, false, length}
 use denote.Text.{Utf8}
 use denote.Shadow.{shadow}
 use Rattle.h5_tokenizer.specs.Steps.{place_of, Pending}

@@ -1,4 +1,3 @@
-use Rattle.std.proofs.Common.{string_bytes}
 use Rattle.h5_scan.specs.Matching.{Found, No}
 use Rattle.h5_tokenizer.specs.Front.{Gives, Turns}
 use Rattle.h5_tokenizer.specs.Steps.{place_of}

@@ -1,8 +1,7 @@
-use Rattle.std.proofs.Common.{string_bytes}
 use Rattle.h5_tokenizer.proofs.steps.step.Goals as goal
 
-pub text_step-requires-clause-begun : goal.text_step-requires-clause-begun
-text_step-requires-clause-begun g c =
+pub plain_step-requires-clause-begun : goal.plain_step-requires-clause-begun
+plain_step-requires-clause-begun g c =
     let S = g.S.TokenSink in
     let state = c.args.state.now in
-    rw c.in_ok-text.ensures (c.in-Some-cut_plain.ensures state.mode state.last (S.is_foreign (S.meaning c.args.sink.now)))
+    c.in-Some-cut_plain.ensures.begins state.mode state.last (S.is_foreign (S.meaning c.args.sink.now))

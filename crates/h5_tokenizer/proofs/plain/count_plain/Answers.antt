@@ -1,0 +1,53 @@
+use Rattle.std.proofs.Common.{◌≡◌, ◌<◌, ◌+◌, ℕ, Bool, List, length, false, true, cond, eqb, get_or, ap, sym, subst, ◌∙◌, ⊎_elim, arith}
+use Rattle.std.proofs.lemmas.Bool.{ne_eqb}
+use Rattle.std.proofs.lemmas.Bool.Decides.{eqb_tells, nat_tests}
+use Rattle.h5_constructs.specs.Plain.{is_plain}
+use Rattle.h5_tokenizer.proofs.LineLaws.{plain_next}
+use Rattle.h5_tokenizer.proofs.plain.count_plain.Goals as goal
+use Rattle.h5_tokenizer.proofs.plain.count_plain.Goals.{then-b-le93+else-not-is_plain+then-b-eq10, then-b-le93+else-not-is_plain+else-b-eq10, else-b-le93}
+
+none_more : {lines : ℕ} {b : Bool} → b ≡ false → lines + cond b 1 0 ≡ lines
+none_more {lines} e = rw e (omega arith)
+
+high_plain : (x : ℕ) → 93 < x → is_plain x ≡ true
+high_plain x h = grind (arith, nat_tests)
+
+high_none : (x : ℕ) → 93 < x → eqb x 10 ≡ false
+high_none x h = ne_eqb x 10 (λ e. absurd (omega (arith, e, h)))
+
+all_plain : (xs : List ℕ) (n : ℕ) → ((k : ℕ) → k < n → is_plain (get_or xs k 0) ≡ true) → is_plain (get_or xs n 0) ≡ true → (k : ℕ) → k < n + 1 → is_plain (get_or xs k 0) ≡ true
+all_plain xs n h e k lt =
+    ⊎_elim
+    (λ p. subst (λ m. is_plain (get_or xs m 0) ≡ true) (sym p.1) e)
+    (λ p. h k (omega (arith, p.1)))
+    (eqb_tells k n)
+
+pub loop-i-preserved : goal.loop-i-preserved
+loop-i-preserved c =
+    let bytes = c.as_bytes-bytes.result.now in
+    let i = c.loop-i.i in
+    let within : i < length bytes = omega arith in
+    elim c.if-b-le93.branch [
+      | then-b-le93+else-not-is_plain+then-b-eq10 w ↦
+          let here : is_plain (get_or bytes i 0) ≡ true = sym w.is_plain.ensures ∙ w.if-not-is_plain.false in
+          record {
+            plain = all_plain bytes i c.loop-i.invariant.plain here;
+            few = omega (arith, w.lines-is, c.loop-i.invariant.few);
+            counted = plain_next bytes i c.loop-i.lines c.if-b-le93.lines within c.loop-i.invariant.plain here c.loop-i.invariant.counted (w.lines-is ∙ ap (λ x. c.loop-i.lines + cond (eqb x 10) 1 0) (sym w.if-b-eq10.true));
+          }
+      | then-b-le93+else-not-is_plain+else-b-eq10 w ↦
+          let here : is_plain (get_or bytes i 0) ≡ true = sym w.is_plain.ensures ∙ w.if-not-is_plain.false in
+          record {
+            plain = all_plain bytes i c.loop-i.invariant.plain here;
+            few = omega (arith, w.lines-is, c.loop-i.invariant.few);
+            counted = plain_next bytes i c.loop-i.lines c.if-b-le93.lines within c.loop-i.invariant.plain here c.loop-i.invariant.counted (w.lines-is ∙ sym (none_more (ne_eqb (get_or bytes i 0) 10 w.if-b-eq10.false)));
+          }
+      | else-b-le93 w ↦
+          let high : 93 < get_or bytes i 0 = omega (arith, w.if-b-le93.false) in
+          let here : is_plain (get_or bytes i 0) ≡ true = high_plain (get_or bytes i 0) high in
+          record {
+            plain = all_plain bytes i c.loop-i.invariant.plain here;
+            few = omega (arith, w.lines-is, c.loop-i.invariant.few);
+            counted = plain_next bytes i c.loop-i.lines c.if-b-le93.lines within c.loop-i.invariant.plain here c.loop-i.invariant.counted (w.lines-is ∙ sym (none_more (high_none (get_or bytes i 0) high)));
+          }
+    ]
