@@ -2,6 +2,7 @@
 use Rattle.std.specs.Prelude.{◌≡◌, ℕ, ◌+◌, Bool, true, false, Result, IfOk, OnOk}
 use Rattle.std.specs.declared.alloc.AllocError.{AllocError}
 use Rattle.h5_token.specs.Reply.{reply}
+use Rattle.h5_token.specs.declared.sink.TokenSinkResult.{TokenSinkResult}
 use Rattle.h5_token.specs.TokenText.{TokenText, Characters, ParseErrorIs}
 use Rattle.h5_interface.specs.SinkChoices.{SinkChoices}
 use Rattle.h5_interface.specs.declared.sink.TreeSink.{Ghosts}
@@ -30,6 +31,12 @@ pub record CameTo {H : Type 0} (node : H → ℕ) (s : Settled) (counted : Bool)
 -- so it did, unless memory was refused; what there is then is sound, too
 pub record Settles {S H O : Type 0} (law : Ghosts S H O) (defined : World → Settled) (counted : Bool) (old_sink : S) (old_state : State H) (new_sink : S) (new_state : State H) (result : Result (Taken H) AllocError) : Type 0 where
   pub came : IfOk result (λ r. CameTo law.node (defined (world_of law old_sink old_state)) counted (world_of law new_sink new_state) (errors_of law old_sink) (errors_of law new_sink) r)
+  pub sound : IsSound law new_sink new_state
+  pub fits : OnOk result (Fits (world_of law new_sink new_state))
+
+-- the same where the answer stands apart from the turns
+pub record SettlesApart {S H O : Type 0} (law : Ghosts S H O) (defined : World → Settled) (counted : Bool) (old_sink : S) (old_state : State H) (new_sink : S) (new_state : State H) (answer : TokenSinkResult H) (result : Result ℕ AllocError) : Type 0 where
+  pub came : IfOk result (λ n. CameTo law.node (defined (world_of law old_sink old_state)) counted (world_of law new_sink new_state) (errors_of law old_sink) (errors_of law new_sink) (record { turns = n; answer = answer }))
   pub sound : IsSound law new_sink new_state
   pub fits : OnOk result (Fits (world_of law new_sink new_state))
 

@@ -1,11 +1,11 @@
 //! Taking a token, by its kind (HTML standard, section 13.2.6, "Tree construction").
 ghost use Rattle.std.specs.Prelude.{◌≡◌, true, IsOk, string_bytes};
 ghost use Rattle.h5_token.specs.TokenText.{Characters, TagIs, tag_text, token_text};
-ghost use Rattle.h5_types.specs.TurnText.{CommentTurn, EofTurn, NullTurn};
+ghost use Rattle.h5_types.specs.TurnText.{CommentTurn, EofTurn, NullTurn, TagTurn};
 ghost use Rattle.h5_meaning.specs.Run.{is_counted, step, taken};
 ghost use Rattle.h5_meaning.specs.Settle.{settle};
 ghost use Rattle.h5_state.specs.Steps.{errors_of, world_of};
-ghost use Rattle.h5_tree_builder.specs.Chains.{IsReady, Settles, is_free};
+ghost use Rattle.h5_tree_builder.specs.Chains.{IsReady, Settles, SettlesApart, is_free};
 
 use super::dispatch::settle_token;
 use super::doctype::take_doctype;
@@ -81,19 +81,35 @@ fn take_eof<S: TreeSink>(
     settle_token(sink, state, Token::Eof)
 }
 
-/// A tag that isn't refused. It gives how many turns it took and what is answered, or an `AllocError` where memory is
-/// refused; what was built so far is sound then.
+/// A tag that isn't refused. It gives how many turns it took, and changes the answer where that isn't "go on"; or an
+/// `AllocError` where memory is refused; what was built so far is sound then.
 #[inline(always)]
 pub fn take_tag<S: TreeSink>(
     sink: &mut S,
     state: &mut State<S::Handle>,
     tag: Tag,
-) -> Result<Taken<S::Handle>, AllocError>
-    requires { IsReady S.TreeSink sink.old state.old }
-    ensures { Settles S.TreeSink (step S.choices (TagIs (tag_text tag))) true sink.old state.old sink.new state.new result }
+    answer: &mut TokenSinkResult<S::Handle>,
+) -> Result<u64, AllocError>
+    requires ready { IsReady S.TreeSink sink.old state.old }
+    requires goes_on { answer.old ≡ TokenSinkResult.Continue }
+    ensures { SettlesApart S.TreeSink (step S.choices (TagIs (tag_text tag))) true sink.old state.old sink.new state.new answer.new result }
 {
     let _ = take_lf(sink, state);
-    settle_tag(sink, state, tag)
+    settle_tag(sink, state, tag, answer)
+}
+
+// A tag in a token.
+fn take_tag_token<S: TreeSink>(
+    sink: &mut S,
+    state: &mut State<S::Handle>,
+    tag: Tag,
+) -> Result<Taken<S::Handle>, AllocError>
+    requires { IsReady S.TreeSink sink.old state.old }
+    ensures { Settles S.TreeSink (settle S.choices (TagTurn (tag_text tag))) true sink.old state.old sink.new state.new result }
+{
+    let mut answer = TokenSinkResult::Continue;
+    let turns = settle_tag(sink, state, tag, &mut answer)?;
+    Ok(Taken { turns, answer })
 }
 
 /// A text, which is never refused. It gives the turns of all its runs and what is answered, or an `AllocError` where
@@ -127,7 +143,7 @@ pub fn take_token<S: TreeSink>(
     let ignore_lf = take_lf(sink, state);
     match token {
         Input::DoctypeToken(doctype) => take_doctype(sink, state, doctype),
-        Input::TagToken(tag) => settle_tag(sink, state, tag),
+        Input::TagToken(tag) => take_tag_token(sink, state, tag),
         Input::CommentToken(text) => take_comment(sink, state, text),
         Input::CharacterTokens(text) => take_text(sink, state, ignore_lf, text),
         Input::NullCharacterToken => take_null(sink, state),

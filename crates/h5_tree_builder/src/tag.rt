@@ -11,10 +11,9 @@ ghost use Rattle.h5_meaning.specs.Settle.{settle};
 ghost use Rattle.h5_meaning.specs.Sound.{Fits};
 ghost use Rattle.h5_state.specs.Steps.{IsSound, errors_of, world_of};
 ghost use Rattle.h5_state.specs.Turn.{Turns};
-ghost use Rattle.h5_tree_builder.specs.Chains.{IsReady, Left, Settles};
+ghost use Rattle.h5_tree_builder.specs.Chains.{IsReady, Left, SettlesApart};
 
 use super::dispatch::{check_flag, is_self_closing_tag, settle_token, step_by_any_mode};
-use super::taken::Taken;
 use h5_foreign::is_in_known_html;
 use h5_interface::TreeSink;
 use h5_rules_body::in_body_tag;
@@ -44,38 +43,35 @@ fn step_tag_by_mode<S: TreeSink>(
     }
 }
 
-// The chain of a tag whose first turn isn't in foreign content.
+// The chain of a tag whose first turn isn't in foreign content. The answer stays where it is "go on".
 #[inline(always)]
 fn settle_tag_in_html<S: TreeSink>(
     sink: &mut S,
     state: &mut State<S::Handle>,
     tag: Tag,
-) -> Result<Taken<S::Handle>, AllocError>
+    answer: &mut TokenSinkResult<S::Handle>,
+) -> Result<u64, AllocError>
     requires ready { IsReady S.TreeSink sink.old state.old }
+    requires goes_on { answer.old ≡ TokenSinkResult.Continue }
     requires html { is_foreign S.choices (TagTurn (tag_text tag)) (world_of S.TreeSink sink.old state.old) ≡ false }
-    ensures { Settles S.TreeSink (settle S.choices (TagTurn (tag_text tag))) true sink.old state.old sink.new state.new result }
+    ensures { SettlesApart S.TreeSink (settle S.choices (TagTurn (tag_text tag))) true sink.old state.old sink.new state.new answer.new result }
 {
     let self_closing = is_self_closing_tag(&tag);
     match step_tag_by_mode(sink, state, tag)? {
         ProcessResult::Done => {
             check_flag(sink, state, self_closing);
-            Ok(Taken {
-                turns: 1,
-                answer: TokenSinkResult::Continue,
-            })
+            Ok(1)
         }
-        ProcessResult::DoneAckSelfClosing => Ok(Taken {
-            turns: 1,
-            answer: TokenSinkResult::Continue,
-        }),
-        ProcessResult::Answer(answer) => Ok(Taken { turns: 1, answer }),
+        ProcessResult::DoneAckSelfClosing => Ok(1),
+        ProcessResult::Answer(given) => {
+            *answer = given;
+            Ok(1)
+        }
         ProcessResult::Reprocess(mode, again) => {
             set_mode(sink, state, mode);
             let rest = settle_token(sink, state, again)?;
-            Ok(Taken {
-                turns: rest.turns + 1,
-                answer: rest.answer,
-            })
+            *answer = rest.answer;
+            Ok(rest.turns + 1)
         }
     }
 }
@@ -118,32 +114,34 @@ fn settle_tag_itself<S: TreeSink>(
     sink: &mut S,
     state: &mut State<S::Handle>,
     tag: Tag,
-) -> Result<Taken<S::Handle>, AllocError>
-    requires { IsReady S.TreeSink sink.old state.old }
-    ensures { Settles S.TreeSink (settle S.choices (TagTurn (tag_text tag))) true sink.old state.old sink.new state.new result }
+    answer: &mut TokenSinkResult<S::Handle>,
+) -> Result<u64, AllocError>
+    requires ready { IsReady S.TreeSink sink.old state.old }
+    requires goes_on { answer.old ≡ TokenSinkResult.Continue }
+    ensures { SettlesApart S.TreeSink (settle S.choices (TagTurn (tag_text tag))) true sink.old state.old sink.new state.new answer.new result }
 {
     if is_in_known_html(sink, state) {
-        settle_tag_in_html(sink, state, tag)
-    } else {
-        settle_token(sink, state, Token::Tag(tag))
+        return settle_tag_in_html(sink, state, tag, answer);
     }
+    let taken = settle_token(sink, state, Token::Tag(tag))?;
+    *answer = taken.answer;
+    Ok(taken.turns)
 }
 
-/// The chain of a tag. It gives how many turns there were and what is answered, or an `AllocError` where memory is
-/// refused; what was built so far is sound then.
+/// The chain of a tag. It gives how many turns there were, and changes the answer where that isn't "go on"; or an
+/// `AllocError` where memory is refused; what was built so far is sound then.
 #[inline(always)]
 pub fn settle_tag<S: TreeSink>(
     sink: &mut S,
     state: &mut State<S::Handle>,
     tag: Tag,
-) -> Result<Taken<S::Handle>, AllocError>
-    requires { IsReady S.TreeSink sink.old state.old }
-    ensures { Settles S.TreeSink (settle S.choices (TagTurn (tag_text tag))) true sink.old state.old sink.new state.new result }
+    answer: &mut TokenSinkResult<S::Handle>,
+) -> Result<u64, AllocError>
+    requires ready { IsReady S.TreeSink sink.old state.old }
+    requires goes_on { answer.old ≡ TokenSinkResult.Continue }
+    ensures { SettlesApart S.TreeSink (settle S.choices (TagTurn (tag_text tag))) true sink.old state.old sink.new state.new answer.new result }
 {
     let turns = let_text_go(sink, state)?;
-    let rest = settle_tag_itself(sink, state, tag)?;
-    Ok(Taken {
-        turns: rest.turns + turns,
-        answer: rest.answer,
-    })
+    let rest = settle_tag_itself(sink, state, tag, answer)?;
+    Ok(rest + turns)
 }

@@ -38,10 +38,11 @@ impl<Handle: Drop, Sink: TreeSink<Handle = Handle> + Drop> TreeBuilder<Handle, S
         }
         note_line(&mut self.sink, &self.state, line_number);
         self.failed = true;
-        let taken = take_tag(&mut self.sink, &mut self.state, tag)?;
-        self.turns = taken.turns;
+        let mut answer = TokenSinkResult::Continue;
+        let turns = take_tag(&mut self.sink, &mut self.state, tag, &mut answer)?;
+        self.turns = turns;
         self.failed = false;
-        Ok(taken.answer)
+        Ok(answer)
     }
 
     /// Takes a text that began in this line, as [`process_token`](TreeBuilder::process_token) takes it in a token, with the

@@ -15,8 +15,8 @@ unfolding step
 returns-in-TagToken-clause-settles g c =
     let law = g.S.TreeSink in
     let w = world_of law c.args.sink.now c.args.state.now in
-    subst (λ x. Settles law (step law.choices (token_text x)) (is_counted (token_text x) w) c.args.sink.now c.args.state.now c.settle_tag.new.sink c.settle_tag.new.state c.settle_tag.result) (sym c.in-TagToken.is)
-    (settles_as law (settle law.choices (TagTurn (tag_text c.in-TagToken.tag))) _ _ _ _ _ _ _ _ _ (ap (settle law.choices (TagTurn (tag_text c.in-TagToken.tag))) c.take_lf-ignore_lf.ensures.done) refl c.settle_tag.ensures)
+    subst (λ x. Settles law (step law.choices (token_text x)) (is_counted (token_text x) w) c.args.sink.now c.args.state.now c.take_tag_token.new.sink c.take_tag_token.new.state c.take_tag_token.result) (sym c.in-TagToken.is)
+    (settles_as law (settle law.choices (TagTurn (tag_text c.in-TagToken.tag))) _ _ _ _ _ _ _ _ _ (ap (settle law.choices (TagTurn (tag_text c.in-TagToken.tag))) c.take_lf-ignore_lf.ensures.done) refl c.take_tag_token.ensures)
 
 pub returns-in-CommentToken-clause-settles : goal.returns-in-CommentToken-clause-settles
 unfolding step

@@ -23,7 +23,7 @@ returns g c =
     let b = (g.S.TreeSink.sees c.let_text_go.new.sink).errors in
     let e = (g.S.TreeSink.sees c.settle_tag_itself.new.sink).errors in
     record {
-      came = left_came k node t w u last a b e c.in_ok-turns.turns c.in_ok-rest.rest.turns c.in_ok-rest.rest.answer (c.in_ok-turns.ensures.left c.args.tag) c.in_ok-rest.ensures.came;
+      came = left_came k node t w u last a b e c.in_ok-turns.turns c.in_ok-rest.rest c.settle_tag_itself.new.answer (c.in_ok-turns.ensures.left c.args.tag) c.in_ok-rest.ensures.came;
       sound = c.settle_tag_itself.ensures.sound;
       fits = c.in_ok-rest.ensures.fits;
     }

@@ -26,8 +26,9 @@ returns-in-Done g c =
     let d = (g.S.TreeSink.sees c.check_flag.new.sink).errors in
     let f = follows_mode k node t w v a b _ c.requires.html (subst (λ r. Follows k node (rule w.mode t w) t w v a b r) c.in-Done.is c.in_ok-step_tag_by_mode.ensures.follows) in
     record {
-      came = subst (λ x. CameTo node (settle k t w) true x a d (record { turns = 1; answer = Continue })) (sym c.check_flag.ensures.told.world)
-          (done_last k node t w w v a a b d 0 c.is_self_closing_tag-self_closing.result f c.is_self_closing_tag-self_closing.ensures c.check_flag.ensures.quiet (left_all k t w a));
+      came = subst (λ x. CameTo node (settle k t w) true (world g.S.TreeSink.sees node c.check_flag.new.sink c.step_tag_by_mode.new.state) a d (record { turns = 1; answer = x })) (sym c.requires.goes_on)
+          (subst (λ x. CameTo node (settle k t w) true x a d (record { turns = 1; answer = Continue })) (sym c.check_flag.ensures.told.world)
+          (done_last k node t w w v a a b d 0 c.is_self_closing_tag-self_closing.result f c.is_self_closing_tag-self_closing.ensures c.check_flag.ensures.quiet (left_all k t w a)));
       sound = c.check_flag.ensures.told.sound c.step_tag_by_mode.ensures.sound;
       fits = subst Fits (sym c.check_flag.ensures.told.world) (fits_done k node t w v a b f c.requires.ready.sound.sound tt c.requires.ready.fits);
     }
@@ -43,7 +44,7 @@ returns-in-DoneAckSelfClosing g c =
     let b = (g.S.TreeSink.sees c.step_tag_by_mode.new.sink).errors in
     let f = follows_mode k node t w v a b _ c.requires.html (subst (λ r. Follows k node (rule w.mode t w) t w v a b r) c.in-DoneAckSelfClosing.is c.in_ok-step_tag_by_mode.ensures.follows) in
     record {
-      came = acknowledged_last k node t w w v a a b 0 f (left_all k t w a);
+      came = subst (λ x. CameTo node (settle k t w) true v a b (record { turns = 1; answer = x })) (sym c.requires.goes_on) (acknowledged_last k node t w w v a a b 0 f (left_all k t w a));
       sound = c.step_tag_by_mode.ensures.sound;
       fits = fits_acknowledged k node t w v a b f c.requires.ready.sound.sound tt c.requires.ready.fits;
     }
@@ -59,9 +60,9 @@ returns-in-Answer g c =
     let b = (g.S.TreeSink.sees c.step_tag_by_mode.new.sink).errors in
     let f = follows_mode k node t w v a b _ c.requires.html (subst (λ r. Follows k node (rule w.mode t w) t w v a b r) c.in-Answer.is c.in_ok-step_tag_by_mode.ensures.follows) in
     record {
-      came = answered_last k node t w w v a a b 0 c.in-Answer.answer f (left_all k t w a);
+      came = answered_last k node t w w v a a b 0 c.in-Answer.given f (left_all k t w a);
       sound = c.step_tag_by_mode.ensures.sound;
-      fits = fits_answered k node t w v a b c.in-Answer.answer f c.requires.ready.sound.sound tt c.requires.ready.fits;
+      fits = fits_answered k node t w v a b c.in-Answer.given f c.requires.ready.sound.sound tt c.requires.ready.fits;
     }
 
 pub overflow_add-result : goal.overflow_add-result

@@ -7,6 +7,7 @@ use Rattle.h5_state.specs.View.{world}
 use Rattle.h5_tree_builder.specs.Builder.{Answered, Building}
 use Rattle.h5_tree_builder.specs.Chains.{CameTo}
 use Rattle.h5_tree_builder.specs.Held.{building}
+use Rattle.h5_tree_builder.specs.declared.taken.Taken.{Taken}
 use Rattle.h5_tree_builder.proofs.BuilderLaws.{answered}
 use Rattle.h5_tree_builder.proofs.builder.TreeBuilder.process_tag.Goals as goal
 
@@ -19,10 +20,10 @@ returns-clause-takes g c =
     let new = world g.Sink.TreeSink.sees node c.take_tag.new.sink c.take_tag.new.state in
     let a = (g.Sink.TreeSink.sees c.self.inside.sink).errors in
     let b = (g.Sink.TreeSink.sees c.take_tag.new.sink).errors in
-    let taken = c.in_ok-taken.taken in
+    let taken : Taken _ = record { turns = c.in_ok-turns.turns; answer = c.take_tag.new.answer } in
     let noted = world g.Sink.TreeSink.sees node c.note_line.new.sink c.self.inside.state in
     let after : Building = record { view = record { world = new; ended = c.self.inside.ended; failed = false }; turns = taken.turns; errors = b } in
-    let came : CameTo node (step k t w) (is_counted t w) new a b taken = subst (λ (u : World). CameTo node (step k t u) (is_counted t u) new a b taken) c.note_line.ensures.done (subst (λ x. CameTo node (step k t noted) (is_counted t noted) new x b taken) c.note_line.ensures.quiet c.in_ok-taken.ensures.came) in
+    let came : CameTo node (step k t w) (is_counted t w) new a b taken = subst (λ (u : World). CameTo node (step k t u) (is_counted t u) new a b taken) c.note_line.ensures.done (subst (λ x. CameTo node (step k t noted) (is_counted t noted) new x b taken) c.note_line.ensures.quiet c.in_ok-turns.ensures.came) in
     let comes : refuses_in w.mode t ≡ false = ap (λ m. refuses_in m t) (sym c.current_mode.ensures) ∙ sym c.refuses_tag_in.ensures ∙ c.if-refuses_tag_in.false in
     subst (λ h. Answered k t (building g.Sink.TreeSink.sees node h) after (reply node taken.answer)) c.self.view_is
     (answered k node t (record { view = record { world = w; ended = c.self.inside.ended; failed = c.self.inside.failed }; turns = c.self.inside.turns; errors = a }) after taken c.if-self.false c.if-self-2.false comes (ap (λ f. let x : View = record { world = new; ended = c.self.inside.ended; failed = f } in x) (sym c.if-self.false)) refl came)
