@@ -1,6 +1,7 @@
 -- The line that a reading comes to.
 use Rattle.std.proofs.Common.{◌≡◌, ℕ, ◌+◌, ◌-◌, ◌^◌, ◌≤◌, Bool, false, List, [], ◌∷◌, ◌++◌, length, take, refl, sym, ap, ◌∙◌, subst, arith, append_assoc, append-nil, length-append}
 use Rattle.std.proofs.Math.Seq.{take-append_seam}
+use Rattle.std.proofs.lemmas.List.{length-take-le}
 use Rattle.std.specs.Io.Iter.{u64_saturate}
 use Rattle.h5_token.specs.TokenText.{TokenText, DoctypeIs, TagIs, CommentIs, Characters, NullCharacter, EndOfFile, ParseErrorIs}
 use Rattle.h5_token.specs.Reply.{Reply}
@@ -8,11 +9,14 @@ use Rattle.h5_token.specs.declared.tag.TagKind.{TagKind}
 use Rattle.h5_token.specs.declared.tag.TagKind.TheVariants.{StartTag, EndTag}
 use Rattle.h5_scan.proofs.Finds.{literal_gives}
 use Rattle.h5_tokenizer.specs.Front.{Place}
-use Rattle.h5_tokenizer.specs.Lines.{line_behind, newlines, passed}
+use Rattle.h5_tokenizer.specs.Lines.{line_behind, newlines, newlines_passed, passed}
 use Rattle.h5_tokenizer.specs.Read.{Step, marked, unmarked, token_step, switch_step, text_step, Read, nothing_read, read_on, after_tag, next_place}
+use Rattle.h5_tokenizer.specs.Steps.{TakesBits, TakesMany}
+use Rattle.h5_tokenizer.specs.declared.front.Mode.{Mode}
 use Rattle.h5_tokenizer.specs.Whole.{Readings, no_reading, more_reading}
 use Rattle.h5_tokenizer.proofs.PartLaws.{Part, ends_in_cr, newlines_append, part_none, part_twice}
-use Rattle.h5_tokenizer.proofs.FrontKeeps.{step_part, read_part}
+use Rattle.h5_tokenizer.proofs.FrontKeeps.{bits_part, step_part, read_part}
+use Rattle.h5_tokenizer.proofs.LineLaws.{few}
 
 passed_is : (xs ys front : List ℕ) → xs ≡ front ++ ys → passed xs ys ≡ front
 passed_is xs ys front split =
@@ -24,23 +28,33 @@ apart_alone : (c : Bool) (front rest : List ℕ) → newlines c (front ++ rest) 
 apart_alone c [] rest h = refl
 apart_alone c (x ∷ front) rest h = omega (arith, h, newlines_append c (x ∷ front) rest, newlines_append false (x ∷ front) rest)
 
-twice_by : (l a b c : ℕ) → c ≡ a + b → u64_saturate (u64_saturate (l + a) + b) ≡ u64_saturate (l + c)
-twice_by l a b c e = omega arith
-
-none_by : (l n : ℕ) → l ≤ 2 ^ 64 - 1 → n ≡ 0 → l ≡ u64_saturate (l + n)
-none_by l n le e = omega arith
-
 -- one part, and then another
-line_twice : (line : ℕ) (xs ys zs : List ℕ) → Part xs ys → Part ys zs → line_behind (line_behind line xs ys) ys zs ≡ line_behind line xs zs
-line_twice line xs ys zs c d =
+pub passed_twice : {xs ys zs : List ℕ} → Part xs ys → Part ys zs → newlines_passed xs zs ≡ newlines_passed xs ys + newlines_passed ys zs
+passed_twice {xs} {ys} {zs} c d =
     let alone : newlines (ends_in_cr false c.front) d.front ≡ newlines false d.front =
     apart_alone (ends_in_cr false c.front) d.front zs (subst (λ (l : List ℕ). newlines (ends_in_cr false c.front) l ≡ newlines false l) d.split c.apart) in
     let first : newlines false (passed xs ys) ≡ newlines false c.front = ap (newlines false) (passed_is xs ys c.front c.split) in
     let second : newlines false (passed ys zs) ≡ newlines false d.front = ap (newlines false) (passed_is ys zs d.front d.split) in
     let split : xs ≡ (c.front ++ d.front) ++ zs = c.split ∙ ap (λ l. c.front ++ l) d.split ∙ sym (append_assoc c.front d.front zs) in
     let both : newlines false (passed xs zs) ≡ newlines false (c.front ++ d.front) = ap (newlines false) (passed_is xs zs (c.front ++ d.front) split) in
-    twice_by line (newlines false (passed xs ys)) (newlines false (passed ys zs)) (newlines false (passed xs zs))
-    (omega (arith, alone, first, second, both, newlines_append false c.front d.front))
+    omega (arith, alone, first, second, both, newlines_append false c.front d.front)
+
+-- a text that was begun, and what goes on with it
+pub text_lines : {mode : Mode} {last : List ℕ} {foreign : Bool} (xs mid ys old begun out : List ℕ) → TakesBits mode last foreign xs mid old begun → TakesMany mode last mid ys begun out → newlines_passed xs ys ≡ newlines_passed xs mid + newlines_passed mid ys
+text_lines xs mid ys old begun out first second = passed_twice (bits_part first.bits) (bits_part second.bits)
+
+-- there are no more newlines than bytes
+pub few_passed : (xs ys : List ℕ) → newlines_passed xs ys ≤ length xs
+few_passed xs ys = omega (arith, few false (passed xs ys), length-take-le (length xs - length ys) xs (omega arith))
+
+twice_by : (l a b c : ℕ) → c ≡ a + b → u64_saturate (u64_saturate (l + a) + b) ≡ u64_saturate (l + c)
+twice_by l a b c e = omega arith
+
+none_by : (l n : ℕ) → l ≤ 2 ^ 64 - 1 → n ≡ 0 → l ≡ u64_saturate (l + n)
+none_by l n le e = omega arith
+
+line_twice : (line : ℕ) (xs ys zs : List ℕ) → Part xs ys → Part ys zs → line_behind (line_behind line xs ys) ys zs ≡ line_behind line xs zs
+line_twice line xs ys zs c d = twice_by line (newlines_passed xs ys) (newlines_passed ys zs) (newlines_passed xs zs) (passed_twice c d)
 
 line_stays : (line : ℕ) (xs ys front : List ℕ) → line ≤ 2 ^ 64 - 1 → xs ≡ front ++ ys → newlines false front ≡ 0 → line ≡ line_behind line xs ys
 line_stays line xs ys front le split none = none_by line (newlines false (passed xs ys)) le (ap (newlines false) (passed_is xs ys front split) ∙ none)

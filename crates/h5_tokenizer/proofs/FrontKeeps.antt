@@ -145,7 +145,7 @@ front_keeps mode last foreign = record { parts = front_parts mode last foreign }
 found_part : {A : Type 0} {p : List ℕ → Match A} (a : A) (xs rest : List ℕ) → Keeps p → p xs ≡ Found a rest → Part xs rest
 found_part a xs rest h e = subst (Parts xs) e (h.parts xs)
 
-bits_part : {mode : Mode} {last : List ℕ} {foreign : Bool} {xs text ys : List ℕ} → Bits mode last foreign xs text ys → Part xs ys
+pub bits_part : {mode : Mode} {last : List ℕ} {foreign : Bool} {xs text ys : List ℕ} → Bits mode last foreign xs text ys → Part xs ys
 bits_part {xs} no_bit = part_none xs
 bits_part (more_bits {mode} {last} {foreign} {xs} {rest} bit h bits) = part_twice (found_part (Bit bit) xs rest (front_keeps mode last foreign) h) (bits_part bits)
 

@@ -1,6 +1,7 @@
 -- Newlines, counted in parts.
-use Rattle.std.proofs.Common.{◌≡◌, ℕ, zero, suc, ◌<◌, ◌≤◌, ◌+◌, ◌-◌, Bool, true, false, not, ◌&&◌, List, [], ◌∷◌, ◌++◌, cond, eqb, length, take, drop, get_or, refl, sym, ap, ◌∙◌, subst, arith, length-append, length-drop}
-use Rattle.std.proofs.lemmas.Bool.{eqb-true}
+use Rattle.std.proofs.Common.{◌≡◌, ℕ, zero, suc, ◌<◌, ◌≤◌, ◌+◌, ◌-◌, Bool, true, false, not, ◌&&◌, List, [], ◌∷◌, ◌++◌, cond, eqb, length, take, drop, get_or, refl, sym, ap, ◌∙◌, subst, ⊎_elim, arith, length-append, length-drop}
+use Rattle.std.proofs.lemmas.Bool.{eqb-true, ne_eqb}
+use Rattle.std.proofs.lemmas.Bool.Decides.{eqb_tells, nat_tests}
 use Rattle.std.proofs.lemmas.List.{take-append-le}
 use Rattle.std.specs.Io.Iter.{u64_saturate}
 use Rattle.h5_constructs.specs.Plain.{is_plain}
@@ -8,6 +9,7 @@ use Rattle.h5_constructs.proofs.PlainBytes.{plain}
 use Rattle.h5_tokenizer.specs.Front.{Place}
 use Rattle.h5_tokenizer.specs.Lines.{line_behind, newlines, newlines_passed, passed}
 use Rattle.h5_tokenizer.specs.Read.{behind}
+use Rattle.h5_tokenizer.specs.Steps.{further}
 
 few_by : (a b : Bool) (n m k l : ℕ) → n ≤ k → m ≤ k → l ≤ k → cond a (1 + n) (cond b (1 + m) l) ≤ suc k
 few_by true b n m k l h i j = omega arith
@@ -87,15 +89,30 @@ plain_next xs n lines next lt h i e f =
     let same : suc n ≡ n + 1 = omega arith in
     f ∙ ap (λ l. l + cond (eqb (get_or xs n 0) 10) 1 0) e ∙ sym (plain_more xs n lt h i) ∙ ap (λ m. newlines false (take m xs)) same
 
+-- a byte that is no newline adds none
+pub none_more : {lines : ℕ} {b : Bool} → b ≡ false → lines + cond b 1 0 ≡ lines
+none_more {lines} e = rw e (omega arith)
+
+-- bytes behind all that ends plain text
+pub high_plain : (x : ℕ) → 93 < x → is_plain x ≡ true
+high_plain x h = grind (arith, nat_tests)
+
+pub high_none : (x : ℕ) → 93 < x → eqb x 10 ≡ false
+high_none x h = ne_eqb x 10 (λ e. absurd (omega (arith, e, h)))
+
+-- one more byte that is plain
+pub all_plain : (xs : List ℕ) (n : ℕ) → ((k : ℕ) → k < n → is_plain (get_or xs k 0) ≡ true) → is_plain (get_or xs n 0) ≡ true → (k : ℕ) → k < n + 1 → is_plain (get_or xs k 0) ≡ true
+all_plain xs n h e k lt =
+    ⊎_elim
+    (λ p. subst (λ m. is_plain (get_or xs m 0) ≡ true) (sym p.1) e)
+    (λ p. h k (omega (arith, p.1)))
+    (eqb_tells k n)
+
 -- a part by its length
 pub passed_by : (xs rest : List ℕ) (n : ℕ) → n ≤ length xs → rest ≡ drop n xs → newlines_passed xs rest ≡ newlines false (take n xs)
 passed_by xs rest n le e =
     let same : length xs - length rest ≡ n = omega (arith, ap length e, length-drop n xs) in
     ap (λ k. newlines false (take k xs)) same
-
--- and by the length of what follows it
-pub passed_as : (xs rest end : List ℕ) → length end ≡ length rest → newlines_passed xs rest ≡ newlines_passed xs end
-passed_as xs rest end e = ap (λ k. newlines false (take (length xs - k) xs)) (sym e)
 
 by_one : (n m : ℕ) → m ≤ n → suc n - m ≡ suc (n - m)
 by_one n m le = omega arith
@@ -118,9 +135,9 @@ passed_on xs ys more =
 line_on : (line : ℕ) (xs ys more : List ℕ) → line_behind line (xs ++ more) (ys ++ more) ≡ line_behind line xs ys
 line_on line xs ys more = ap (λ l. u64_saturate (line + newlines false l)) (passed_on xs ys more)
 
--- the line behind a part, by the newlines in it
-pub behind_by : (p : Place) (lines : ℕ) (xs ys : List ℕ) → lines ≡ newlines_passed xs ys → behind p xs ys ≡ record { at_start = p.at_start; mode = p.mode; last = p.last; line = u64_saturate (p.line + lines) }
-behind_by p lines xs ys h = ap (λ l. let q : Place = record { at_start = p.at_start; mode = p.mode; last = p.last; line = u64_saturate (p.line + l) } in q) (sym h)
+-- the place behind a part, by the newlines in it
+pub behind_by : (p : Place) (lines : ℕ) (xs ys : List ℕ) → lines ≡ newlines_passed xs ys → behind p xs ys ≡ further lines p
+behind_by p lines xs ys h = ap (λ l. further l p) (sym h)
 
 pub behind_on : (p : Place) (xs ys more : List ℕ) → behind p (xs ++ more) (ys ++ more) ≡ behind p xs ys
 behind_on p xs ys more = ap (λ l. let q : Place = record { at_start = p.at_start; mode = p.mode; last = p.last; line = l } in q) (line_on p.line xs ys more)

@@ -11,12 +11,13 @@ use Rattle.h5_tokenizer.specs.Tokens.{start_of, token_of}
 use Rattle.h5_tokenizer.specs.Front.{Opening, Begins, Turns, opening, Whole, Switch, Place, concluded, other, front}
 use Rattle.h5_tokenizer.specs.Lines.{newlines_passed}
 use Rattle.h5_tokenizer.specs.Read.{Bits, behind, token_step, switch_step, text_step, next_place, in_mode}
-use Rattle.h5_tokenizer.specs.Steps.{TakesBits, TakesMany, IsPending, Pending, fresh, turn_in_line_of, turn_of, HandedOn, HandsOn, Moves, MovesOn, MovesInto, Makes}
+use Rattle.h5_tokenizer.specs.Steps.{TakesBits, TakesMany, IsPending, Pending, fresh, further, stops_as, turn_of, HandedOn, HandsOn, Moves, MovesOn, MovesInto, Makes}
 use Rattle.h5_tokenizer.specs.declared.front.Mode.{Mode}
 use Rattle.h5_tokenizer.specs.declared.front.Construct.{Construct}
 use Rattle.h5_tokenizer.specs.declared.state.Stop.{Stop}
 use Rattle.h5_tokenizer.specs.declared.state.Search.{Search}
 use Rattle.h5_tokenizer.proofs.FrontTakes.{front_eats}
+use Rattle.h5_tokenizer.proofs.LineLaws.{behind_by}
 use Rattle.h5_constructs.proofs.TextTakes.{found_shorter}
 use Rattle.h5_tokenizer.proofs.PlainLaws.{front_found, bits_join}
 
@@ -55,15 +56,16 @@ module _ {M : Type 0} (reply_to : M → TokenText → Reply) (after : M → Toke
       subst (λ l. Leads p m xs (Characters l) ys) (sym whole)
       (text_leads_by p m xs ys (first.text ++ second.text) started less (bits_join first.shorter first.bits second.bits))
 
-  -- a token that was taken
-  pub turned : {H : Type 0} (node : H → ℕ) (p : Place) (m : M) (xs : List ℕ) (ys : Bor (List ℕ)) (t : TokenText) (q : Place) (n : M) (stopped : Option (Stop H)) → Leads p m xs t ys.now → HandedOn reply_to after node p m t q n stopped → Makes reply_to after foreign node p m xs q n (Ok (turn_of stopped ys))
-  turned node p m xs ys t q n None leads h = record { reply = reply_to m t; goes_on = h.answer; moves = leads.moves q n h.place h.meaning }
-  turned node p m xs ys t q n (Some s) leads h =
-      subst (λ (r : Reply). Moves reply_to after foreign p m xs r (behind q xs ys.now) n ys.now) h.answer (leads.moves q n h.place h.meaning)
-
-  pub turned_in_line : {H : Type 0} (node : H → ℕ) (p : Place) (m : M) (xs : List ℕ) (ys : Bor (List ℕ)) (t : TokenText) (q : Place) (n : M) (stopped : Option (Stop H)) → newlines_passed xs ys.now ≡ 0 → Leads p m xs t ys.now → HandedOn reply_to after node p m t q n stopped → Makes reply_to after foreign node p m xs q n (Ok (turn_in_line_of stopped ys))
-  turned_in_line node p m xs ys t q n None line leads h = (turned node p m xs ys t q n None leads h, sym line)
-  turned_in_line node p m xs ys t q n (Some s) line leads h = turned node p m xs ys t q n (Some s) leads h
+  -- a token that was taken, behind so many newlines
+  pub turned : {H : Type 0} (node : H → ℕ) (p : Place) (m : M) (xs : List ℕ) (ys : Bor (List ℕ)) (t : TokenText) (q : Place) (n : M) (lines : ℕ) (stopped : Option (Stop H)) → lines ≡ newlines_passed xs ys.now → Leads p m xs t ys.now → HandedOn reply_to after node p m t q n stopped → Makes reply_to after foreign node p m xs q n (Ok (turn_of stopped ys lines))
+  turned node p m xs ys t q n lines None line leads h = record {
+    reply = reply_to m t;
+    goes_on = h.answer;
+    moves = subst (λ (r : Place). Moves reply_to after foreign p m xs (reply_to m t) r n ys.now) (behind_by q lines xs ys.now line) (leads.moves q n h.place h.meaning);
+  }
+  turned node p m xs ys t q n lines (Some s) line leads h =
+      subst (λ (r : Place). Moves reply_to after foreign p m xs (stops_as node s) r n ys.now) (behind_by q lines xs ys.now line)
+      (subst (λ (r : Reply). Moves reply_to after foreign p m xs r (behind q xs ys.now) n ys.now) h.answer (leads.moves q n h.place h.meaning))
 
   -- one that was refused
   refused_by : (p : Place) (m : M) (xs ys : List ℕ) (t : TokenText) (n : M) (f : BuildFault) → Leads p m xs t ys → reply_to m t ≡ Refuses f → n ≡ after m t p.line → MovesInto reply_to after foreign p m xs f n
@@ -79,13 +81,14 @@ module _ {M : Type 0} (reply_to : M → TokenText → Reply) (after : M → Toke
   refused node p m xs ys t q n fault.NotInText leads h = refused_by p m xs ys t n fault.NotInText leads h.0 h.1
   refused node p m xs ys t q n fault.Failed leads h = refused_by p m xs ys t n fault.Failed leads h.0 h.1
 
-  pub switch_moves : (p : Place) (m : M) (xs ys : List ℕ) (mode : Mode) → p.at_start ≡ false → opening p.mode p.last (foreign m) xs ≡ Found (Turns mode) ys → MovesOn reply_to after foreign p m xs (behind (in_mode mode p) xs ys) m ys
-  switch_moves p m xs ys mode started h =
+  pub switch_moves : (p : Place) (m : M) (xs ys : List ℕ) (mode : Mode) (lines : ℕ) → lines ≡ newlines_passed xs ys → p.at_start ≡ false → opening p.mode p.last (foreign m) xs ≡ Found (Turns mode) ys → MovesOn reply_to after foreign p m xs (further lines (in_mode mode p)) m ys
+  switch_moves p m xs ys mode lines line started h =
       let here = front_found p.mode p.last (foreign m) xs h in
       record {
         reply = Continues;
         goes_on = refl;
-        moves = record { tokens = []; step = switch_step mode started here; shorter = found_shorter (Switch mode) xs ys (front_eats p.mode p.last (foreign m)) here };
+        moves = subst (λ (r : Place). Moves reply_to after foreign p m xs Continues r m ys) (behind_by (in_mode mode p) lines xs ys line)
+            (record { tokens = []; step = switch_step mode started here; shorter = found_shorter (Switch mode) xs ys (front_eats p.mode p.last (foreign m)) here });
       }
 
 -- a construct whose end is there, and one whose end isn't

@@ -1,6 +1,7 @@
 -- What one step of the reader did.
-use Rattle.std.specs.Prelude.{◌≡◌, ℕ, Bool, true, false, List, ◌++◌, length, ◌<◌, ◌≤◌, ◌⊎◌, take, Result, Ok, Err, Option, Some, None, string_bytes}
+use Rattle.std.specs.Prelude.{◌≡◌, ℕ, ◌+◌, Bool, true, false, List, ◌++◌, length, ◌<◌, ◌≤◌, ◌⊎◌, take, Result, Ok, Err, Option, Some, None, string_bytes}
 use Rattle.std.specs.Borrow.{Bor}
+use Rattle.std.specs.Io.Iter.{u64_saturate}
 use Rattle.h5_token.specs.TokenText.{TokenText}
 use Rattle.h5_token.specs.Reply.{Reply, RunsScript, Indicates, Refuses, reply}
 use Rattle.h5_token.specs.declared.fault.BuildFault.{BuildFault}
@@ -9,9 +10,8 @@ use Rattle.h5_token.specs.declared.sink.TokenSinkResult.{TokenSinkResult}
 use Rattle.h5_scan.specs.Matching.{Open, No, Found}
 use Rattle.h5_scan.specs.Ending.{walk}
 use Rattle.h5_tokenizer.specs.Front.{Begins, opening, Place, front, mark}
-use Rattle.h5_tokenizer.specs.Lines.{newlines_passed}
 use Rattle.h5_tokenizer.specs.Tokens.{start_of}
-use Rattle.h5_tokenizer.specs.Read.{Bits, Step, Reads, behind, goes_on, next_place, started, IsUndecided}
+use Rattle.h5_tokenizer.specs.Read.{Bits, Step, Reads, goes_on, next_place, started, IsUndecided}
 use Rattle.h5_tokenizer.specs.declared.front.Mode.{Mode}
 use Rattle.h5_tokenizer.specs.declared.front.Construct.{Construct}
 use Rattle.h5_tokenizer.specs.declared.state.State.{State}
@@ -21,7 +21,7 @@ use Rattle.h5_tokenizer.specs.declared.state.Stop.TheVariants as stop
 use Rattle.h5_tokenizer.specs.declared.state.Halt.{Halt}
 use Rattle.h5_tokenizer.specs.declared.state.Halt.TheVariants as halt
 use Rattle.h5_tokenizer.specs.declared.state.Turn.{Turn}
-use Rattle.h5_tokenizer.specs.declared.state.Turn.TheVariants.{Waits, Goes, GoesBehind, Stops}
+use Rattle.h5_tokenizer.specs.declared.state.Turn.TheVariants.{Waits, Goes, Stops}
 
 abbrev pub place_of : State → Place
 place_of state = record { at_start = state.at_start; mode = state.mode; last = state.last; line = state.line }
@@ -80,13 +80,13 @@ abbrev pub stops_as : {H : Type 0} → (H → ℕ) → Stop H → Reply
 stops_as node (stop.Script handle) = RunsScript (node handle)
 stops_as node (stop.EncodingIndicator encoding) = Indicates (string_bytes encoding)
 
-abbrev pub turn_of : {H : Type 0} → Option (Stop H) → Bor (List ℕ) → Turn H
-turn_of None rest = Goes rest
-turn_of (Some s) rest = Stops s rest
+abbrev pub turn_of : {H : Type 0} → Option (Stop H) → Bor (List ℕ) → ℕ → Turn H
+turn_of None rest lines = Goes rest lines
+turn_of (Some s) rest lines = Stops s rest lines
 
-abbrev pub turn_in_line_of : {H : Type 0} → Option (Stop H) → Bor (List ℕ) → Turn H
-turn_in_line_of None rest = GoesBehind rest 0
-turn_in_line_of (Some s) rest = Stops s rest
+-- the same place, so many newlines further on
+abbrev pub further : ℕ → Place → Place
+further lines p = record { at_start = p.at_start; mode = p.mode; last = p.last; line = u64_saturate (p.line + lines) }
 
 abbrev pub AnswersAs : {H : Type 0} → (H → ℕ) → Option (Stop H) → Reply → Type 0
 AnswersAs node None reply = goes_on reply ≡ true
@@ -143,9 +143,8 @@ module _ {M : Type 0} (reply_to : M → TokenText → Reply) (after : M → Toke
   -- what one step did. The place is still in the line in which the step began
   abbrev pub Makes : {H : Type 0} → (H → ℕ) → Place → M → List ℕ → Place → M → Result (Turn H) BuildFault → Type 0
   Makes node p m xs q n (Ok (Waits search)) = StandsStill p m xs q n search
-  Makes node p m xs q n (Ok (Goes rest)) = MovesOn p m xs (behind q xs rest.now) n rest.now
-  Makes node p m xs q n (Ok (GoesBehind rest lines)) = MovesOn p m xs (behind q xs rest.now) n rest.now × (lines ≡ newlines_passed xs rest.now)
-  Makes node p m xs q n (Ok (Stops s rest)) = Moves p m xs (stops_as node s) (behind q xs rest.now) n rest.now
+  Makes node p m xs q n (Ok (Goes rest lines)) = MovesOn p m xs (further lines q) n rest.now
+  Makes node p m xs q n (Ok (Stops s rest lines)) = Moves p m xs (stops_as node s) (further lines q) n rest.now
   Makes node p m xs q n (Err fault.Memory) = Unit {0}
   Makes node p m xs q n (Err fault.AfterEnd) = MovesInto p m xs fault.AfterEnd n
   Makes node p m xs q n (Err fault.NotInText) = MovesInto p m xs fault.NotInText n

@@ -7,7 +7,7 @@ ghost use Rattle.h5_tokenizer.specs.Steps.{place_of};
 ghost use Rattle.h5_constructs.specs.Text.{text_of};
 
 use super::front::{Construct, Mode, Opening, find_opening};
-use super::run::line_behind;
+use super::lines::line_behind;
 use super::state::State;
 use super::steps::ask;
 use h5_constructs::text_of;

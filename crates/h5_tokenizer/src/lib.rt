@@ -6,6 +6,7 @@ mod buffer;
 mod ending;
 mod front;
 pub mod laws;
+mod lines;
 mod options;
 mod plain;
 mod reader;

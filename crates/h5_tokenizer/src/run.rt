@@ -1,7 +1,5 @@
 //! Steps, one after another.
-ghost use Rattle.std.specs.Prelude.{◌≡◌, ◌<◌, ◌≤◌, ℕ, false, length, slice_index};
-ghost use Rattle.std.specs.String.{string_bytes};
-ghost use Rattle.h5_tokenizer.specs.Lines.{line_behind, newlines};
+ghost use Rattle.std.specs.Prelude.{◌≡◌, false};
 ghost use Rattle.h5_tokenizer.specs.Steps.{place_of, Pending, Runs, RunsFrom, Skips};
 
 use super::state::{Halt, Search, State, Turn};
@@ -9,73 +7,6 @@ use super::steps::step;
 use h5_scan::{Seen, literal};
 use h5_token::{BuildFault, TokenSink};
 use std::alloc::Global;
-
-// How many newlines a few bytes are, where a CR came before them or didn't: CR LF is one. There are few
-// enough of them that a byte counts them.
-fn few_newlines(bytes: &[u8], behind_cr: bool) -> u8
-    requires { length bytes.now < 256 }
-    ensures { result ≡ newlines behind_cr bytes.now }
-{
-    let mut count: u8 = 0;
-    let mut after_cr = behind_cr;
-    for b in bytes {
-        if *b == b'\r' || (*b == b'\n' && !after_cr) {
-            count += 1;
-        }
-        after_cr = *b == b'\r';
-    }
-    count
-}
-
-// The index of the first byte that may be a newline, or the length where there is none.
-fn first_low(bytes: &[u8]) -> usize
-    ensures within { result ≤ length bytes.now }
-    ensures passed { (k : ℕ) → k < result → 13 < slice_index bytes.now k }
-{
-    for (i, b) in bytes.iter().enumerate() {
-        if *b <= b'\r' {
-            return i;
-        }
-    }
-    bytes.len()
-}
-
-// The same as `few_newlines`, for bytes that mostly have none.
-fn rare_newlines(bytes: &[u8], behind_cr: bool) -> u8
-    requires { length bytes.now < 256 }
-    ensures { result ≡ newlines behind_cr bytes.now }
-{
-    if behind_cr {
-        return few_newlines(bytes, true);
-    }
-    let (_, rest) = bytes.split_at(first_low(bytes));
-    few_newlines(rest, false)
-}
-
-// How many newlines these bytes are.
-fn newlines(bytes: &[u8]) -> u64
-    ensures { result ≡ newlines false bytes.now }
-{
-    let mut count: u64 = 0;
-    let mut after_cr = false;
-    let mut rest = bytes;
-    while rest.len() > 63 {
-        let (front, back) = rest.split_at(64);
-        count += few_newlines(front, after_cr) as u64;
-        after_cr = rest[63] == b'\r';
-        rest = back;
-    }
-    count + rare_newlines(rest, after_cr) as u64
-}
-
-/// The line behind what was passed of a text that begins in this line, and of which this rest is left.
-pub fn line_behind(line: u64, text: &str, rest: &str) -> u64
-    requires { length rest.now ≤ length text.now }
-    ensures { result ≡ line_behind line text.now rest.now }
-{
-    let (passed, _) = text.as_bytes().split_at(text.len() - rest.len());
-    line.saturating_add(newlines(passed))
-}
 
 // Steps up to an answer that stops the reader, or to a front that what follows decides.
 fn run<'a, S: TokenSink>(
@@ -95,19 +26,13 @@ fn run<'a, S: TokenSink>(
     'steps: loop {
         match step(sink, state, alloc, rest, search)? {
             Turn::Waits(search) => return Ok(Halt::Waits(rest, search)),
-            Turn::Stops(stop, after) => {
-                state.line = line_behind(state.line, rest, after);
+            Turn::Stops(stop, after, lines) => {
+                state.line = state.line.saturating_add(lines);
                 return Ok(Halt::Stops(stop, after));
             }
-            Turn::Goes(after) => {
-                state.line = line_behind(state.line, rest, after);
-                // That it is text holds for the loop's next turn.
-                let _bytes = after.as_bytes();
-                rest = after;
-                search = None;
-            }
-            Turn::GoesBehind(after, lines) => {
+            Turn::Goes(after, lines) => {
                 state.line = state.line.saturating_add(lines);
+                // That it is text holds for the loop's next turn.
                 let _bytes = after.as_bytes();
                 rest = after;
                 search = None;

@@ -40,11 +40,10 @@ pub enum Stop<H> {
 pub enum Turn<'a, H> {
     /// What follows decides the front.
     Waits(Option<Search>),
-    /// Reading goes on here. What was passed may have newlines.
-    Goes(&'a str),
     /// Reading goes on here, behind so many newlines.
-    GoesBehind(&'a str, u64),
-    Stops(Stop<H>, &'a str),
+    Goes(&'a str, u64),
+    /// The reader stops here, behind so many newlines.
+    Stops(Stop<H>, &'a str, u64),
 }
 
 /// Where steps come to.

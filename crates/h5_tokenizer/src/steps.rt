@@ -5,12 +5,13 @@ ghost use Rattle.h5_scan.specs.Matching as m;
 ghost use Rattle.h5_token.specs.TokenText.{Characters, TagIs, tag_text, token_text};
 ghost use Rattle.h5_tokenizer.specs.Front as f;
 ghost use Rattle.h5_tokenizer.specs.Read.{chosen_mode};
-ghost use Rattle.h5_tokenizer.specs.Steps.{place_of, Asks, AnswersAs, HandsOn, Makes, Pending, TakesBits, turn_in_line_of, turn_of};
+ghost use Rattle.h5_tokenizer.specs.Steps.{place_of, Asks, AnswersAs, HandsOn, Makes, Pending, TakesBits, turn_of};
 ghost use Rattle.h5_token.specs.Reply.{reply};
 
 use super::bare::{find_bare, make_bare};
 use super::front::{Construct, Mode, Opening, find_opening};
-use super::plain::{Plain, begin_long, begin_text, cut_plain, take_plain, take_texts};
+use super::lines::newlines_passed;
+use super::plain::{begin_long, begin_text, cut_plain, take_plain, take_texts};
 use super::state::{Search, State, Stop, Turn};
 use super::tokens::make_token;
 use h5_scan::{Inside, Seen, Sought, seek_end};
@@ -124,22 +125,12 @@ fn hand_on_text<S: TokenSink>(
     Ok(stop_of(answer))
 }
 
-fn turn<'a, H: Drop>(stopped: Option<Stop<H>>, rest: &'a str) -> Turn<'a, H>
-    ensures { result ≡ turn_of stopped rest.entry }
+fn turn<'a, H: Drop>(stopped: Option<Stop<H>>, rest: &'a str, lines: u64) -> Turn<'a, H>
+    ensures { result ≡ turn_of stopped rest.entry lines }
 {
     match stopped {
-        Some(stop) => Turn::Stops(stop, rest),
-        None => Turn::Goes(rest),
-    }
-}
-
-// The same where no newline was passed.
-fn turn_in_line<'a, H: Drop>(stopped: Option<Stop<H>>, rest: &'a str) -> Turn<'a, H>
-    ensures { result ≡ turn_in_line_of stopped rest.entry }
-{
-    match stopped {
-        Some(stop) => Turn::Stops(stop, rest),
-        None => Turn::GoesBehind(rest, 0),
+        Some(stop) => Turn::Stops(stop, rest, lines),
+        None => Turn::Goes(rest, lines),
     }
 }
 
@@ -164,9 +155,8 @@ fn token_step<'a, S: TokenSink>(
     ensures { Makes S.reply_to S.after S.is_foreign S.node (place_of state.old) (S.meaning sink.old) rest.now
         (place_of state.new) (S.meaning sink.new) result }
 {
-    let _rest = rest;
     let stopped = hand_on(sink, state, token)?;
-    Ok(turn(stopped, after))
+    Ok(turn(stopped, after, newlines_passed(rest, after)))
 }
 
 // A tag that is nothing but its name stands at the front.
@@ -187,50 +177,29 @@ fn tag_step<'a, S: TokenSink>(
 {
     let _rest = rest;
     let stopped = hand_on_tag(sink, state, tag)?;
-    Ok(turn_in_line(stopped, after))
+    Ok(turn(stopped, after, 0))
 }
 
-// A text has begun.
+// A text has begun, behind so many newlines.
 #[inline(always)]
 fn text_step<'a, S: TokenSink>(
     sink: &mut S,
     state: &mut State,
     rest: &'a str,
     after: &'a str,
+    lines: u64,
     mut text: String,
 ) -> Result<Turn<'a, S::Handle>, BuildFault>
     requires started { state.old.at_start ≡ false }
     requires begun { TakesBits state.old.mode state.old.last (S.is_foreign (S.meaning sink.old)) rest.now after.now [] (string_bytes text) }
+    requires lines { lines ≡ newlines_passed rest.now after.now }
     ensures { Makes S.reply_to S.after S.is_foreign S.node (place_of state.old) (S.meaning sink.old) rest.now
         (place_of state.new) (S.meaning sink.new) result }
 {
     let _rest = rest;
     let end = take_texts(state.mode, state.last.as_str(), after, &mut text)?;
     let stopped = hand_on_text(sink, state, text)?;
-    Ok(turn(stopped, end))
-}
-
-// Plain text stands at the front, and so many newlines are in it. They are counted again where the text goes on.
-#[inline(always)]
-fn plain_step<'a, S: TokenSink>(
-    sink: &mut S,
-    state: &mut State,
-    alloc: Global,
-    rest: &'a str,
-    plain: Plain<'a>,
-) -> Result<Turn<'a, S::Handle>, BuildFault>
-    requires started { state.old.at_start ≡ false }
-    requires begun { TakesBits state.old.mode state.old.last (S.is_foreign (S.meaning sink.old)) rest.now plain.after.now [] plain.front.now }
-    requires lines { plain.lines ≡ newlines_passed rest.now plain.after.now }
-    ensures { Makes S.reply_to S.after S.is_foreign S.node (place_of state.old) (S.meaning sink.old) rest.now
-        (place_of state.new) (S.meaning sink.new) result }
-{
-    let after = plain.after;
-    let text = begin_text(alloc, plain.front, after)?;
-    match text_step(sink, state, rest, after, text)? {
-        Turn::Goes(end) if end.len() == after.len() => Ok(Turn::GoesBehind(end, plain.lines)),
-        turn => Ok(turn),
-    }
+    Ok(turn(stopped, end, lines + newlines_passed(after, end)))
 }
 
 // A construct has begun, and its end is looked for.
@@ -313,7 +282,7 @@ fn any_step<'a, S: TokenSink>(
         Seen::No => {
             let mut text = String::new(alloc);
             let after = take_plain(rest, &mut text)?;
-            text_step(sink, state, rest, after, text)
+            text_step(sink, state, rest, after, newlines_passed(rest, after), text)
         }
         Seen::Found(opening, after) => match opening {
             Opening::Begins(construct) => {
@@ -322,12 +291,12 @@ fn any_step<'a, S: TokenSink>(
             }
             Opening::Gives(bit) => {
                 let text = begin_long(alloc, bit, after)?;
-                text_step(sink, state, rest, after, text)
+                text_step(sink, state, rest, after, newlines_passed(rest, after), text)
             }
             Opening::Null => token_step(sink, state, rest, after, Token::NullCharacterToken),
             Opening::Turns(mode) => {
                 state.mode = mode;
-                Ok(Turn::Goes(after))
+                Ok(Turn::Goes(after, newlines_passed(rest, after)))
             }
         },
     }
@@ -354,7 +323,8 @@ pub fn step<'a, S: TokenSink>(
         return tag_step(sink, state, rest, after, tag);
     }
     if let Some(plain) = cut_plain(rest) {
-        return plain_step(sink, state, alloc, rest, plain);
+        let text = begin_text(alloc, plain.front, plain.after)?;
+        return text_step(sink, state, rest, plain.after, plain.lines, text);
     }
     any_step(sink, state, alloc, rest, search)
 }

@@ -1,26 +1,9 @@
-use Rattle.std.proofs.Common.{◌≡◌, ◌<◌, ◌+◌, ℕ, Bool, List, length, false, true, cond, eqb, get_or, ap, sym, subst, ◌∙◌, ⊎_elim, arith}
+use Rattle.std.proofs.Common.{◌≡◌, ◌<◌, ◌+◌, length, true, cond, eqb, get_or, ap, sym, ◌∙◌, arith}
 use Rattle.std.proofs.lemmas.Bool.{ne_eqb}
-use Rattle.std.proofs.lemmas.Bool.Decides.{eqb_tells, nat_tests}
 use Rattle.h5_constructs.specs.Plain.{is_plain}
-use Rattle.h5_tokenizer.proofs.LineLaws.{plain_next}
+use Rattle.h5_tokenizer.proofs.LineLaws.{all_plain, high_none, high_plain, none_more, plain_next}
 use Rattle.h5_tokenizer.proofs.plain.count_plain.Goals as goal
 use Rattle.h5_tokenizer.proofs.plain.count_plain.Goals.{then-b-le93+else-not-is_plain+then-b-eq10, then-b-le93+else-not-is_plain+else-b-eq10, else-b-le93}
-
-none_more : {lines : ℕ} {b : Bool} → b ≡ false → lines + cond b 1 0 ≡ lines
-none_more {lines} e = rw e (omega arith)
-
-high_plain : (x : ℕ) → 93 < x → is_plain x ≡ true
-high_plain x h = grind (arith, nat_tests)
-
-high_none : (x : ℕ) → 93 < x → eqb x 10 ≡ false
-high_none x h = ne_eqb x 10 (λ e. absurd (omega (arith, e, h)))
-
-all_plain : (xs : List ℕ) (n : ℕ) → ((k : ℕ) → k < n → is_plain (get_or xs k 0) ≡ true) → is_plain (get_or xs n 0) ≡ true → (k : ℕ) → k < n + 1 → is_plain (get_or xs k 0) ≡ true
-all_plain xs n h e k lt =
-    ⊎_elim
-    (λ p. subst (λ m. is_plain (get_or xs m 0) ≡ true) (sym p.1) e)
-    (λ p. h k (omega (arith, p.1)))
-    (eqb_tells k n)
 
 pub loop-i-preserved : goal.loop-i-preserved
 loop-i-preserved c =

@@ -1,9 +1,6 @@
-use Rattle.std.proofs.Common.{◌+◌, subst, IsUtf8}
+use Rattle.std.proofs.Common.{subst, IsUtf8}
 use Rattle.std.proofs.lemmas.Result.{err_from_is_err_and}
-use Rattle.std.specs.Io.Iter.{u64_saturate}
-use Rattle.h5_tokenizer.specs.Read.{behind}
-use Rattle.h5_tokenizer.specs.Steps.{place_of, stops_as}
-use Rattle.h5_tokenizer.proofs.LineLaws.{behind_by}
+use Rattle.h5_tokenizer.specs.Steps.{further, place_of, stops_as}
 use Rattle.h5_tokenizer.proofs.ReadLaws.{moves_started}
 use Rattle.h5_tokenizer.proofs.RunLaws.{went_none, went_more, halts_at, ran_into}
 use Rattle.h5_tokenizer.proofs.run.run.Goals as goal
@@ -25,31 +22,18 @@ pub returns-in-Stops : goal.returns-in-Stops
 returns-in-Stops g c =
     let S = g.S.TokenSink in
     let moved = rw c.in-Stops.is at c.in_ok-search.ensures in
-    rw c.line_behind-state.ensures
-    (halts_at S.reply_to S.after S.is_foreign (place_of c.args.state.now) (S.meaning c.args.sink.now) c.args.text.now (place_of c.steps.state) (S.meaning c.steps.sink) c.steps.rest.now (stops_as S.node c.in-Stops.stop) (behind (place_of c.step.new.state) c.steps.rest.now c.in-Stops.after.now) (S.meaning c.step.new.sink) c.in-Stops.after.now
+    rw c.saturating_add-state.ensures
+    (halts_at S.reply_to S.after S.is_foreign (place_of c.args.state.now) (S.meaning c.args.sink.now) c.args.text.now (place_of c.steps.state) (S.meaning c.steps.sink) c.steps.rest.now (stops_as S.node c.in-Stops.stop) (further c.in-Stops.lines (place_of c.step.new.state)) (S.meaning c.step.new.sink) c.in-Stops.after.now
     c.steps.invariant.went moved)
-
-pub steps-preserved-in-Goes : goal.steps-preserved-in-Goes
-steps-preserved-in-Goes g c =
-    let S = g.S.TokenSink in
-    let moved = rw c.in-Goes.is at c.in_ok-search.ensures in
-    record {
-      utf8 = subst IsUtf8 c.as_bytes-bytes.ensures.value c.as_bytes-bytes.ensures.utf8;
-      started = moves_started S.reply_to S.after S.is_foreign (place_of c.steps.state) (S.meaning c.steps.sink) c.steps.rest.now moved.reply (behind (place_of c.step.new.state) c.steps.rest.now c.in-Goes.after.now) (S.meaning c.step.new.sink) c.in-Goes.after.now c.steps.invariant.started moved.moves;
-      pending = tt;
-      went = rw c.line_behind-state-in-Goes.ensures
-          (went_more S.reply_to S.after S.is_foreign (place_of c.args.state.now) (S.meaning c.args.sink.now) c.args.text.now (place_of c.steps.state) (S.meaning c.steps.sink) c.steps.rest.now (behind (place_of c.step.new.state) c.steps.rest.now c.in-Goes.after.now) (S.meaning c.step.new.sink) c.in-Goes.after.now c.steps.invariant.went moved);
-    }
 
 pub steps-preserved : goal.steps-preserved
 steps-preserved g c =
     let S = g.S.TokenSink in
-    let moved = rw c.in-GoesBehind.is at c.in_ok-search.ensures in
-    let here = rw (behind_by (place_of c.step.new.state) c.in-GoesBehind.lines c.steps.rest.now c.in-GoesBehind.after.now moved.1) at moved.0 in
+    let moved = rw c.in-Goes.is at c.in_ok-search.ensures in
     record {
-      utf8 = subst IsUtf8 c.as_bytes-bytes-in-GoesBehind.ensures.value c.as_bytes-bytes-in-GoesBehind.ensures.utf8;
-      started = moves_started S.reply_to S.after S.is_foreign (place_of c.steps.state) (S.meaning c.steps.sink) c.steps.rest.now moved.0.reply (behind (place_of c.step.new.state) c.steps.rest.now c.in-GoesBehind.after.now) (S.meaning c.step.new.sink) c.in-GoesBehind.after.now c.steps.invariant.started moved.0.moves;
+      utf8 = subst IsUtf8 c.as_bytes-bytes.ensures.value c.as_bytes-bytes.ensures.utf8;
+      started = moves_started S.reply_to S.after S.is_foreign (place_of c.steps.state) (S.meaning c.steps.sink) c.steps.rest.now moved.reply (further c.in-Goes.lines (place_of c.step.new.state)) (S.meaning c.step.new.sink) c.in-Goes.after.now c.steps.invariant.started moved.moves;
       pending = tt;
-      went = rw c.saturating_add-state.ensures
-          (went_more S.reply_to S.after S.is_foreign (place_of c.args.state.now) (S.meaning c.args.sink.now) c.args.text.now (place_of c.steps.state) (S.meaning c.steps.sink) c.steps.rest.now (record { at_start = c.step.new.state.at_start; mode = c.step.new.state.mode; last = c.step.new.state.last; line = u64_saturate (c.step.new.state.line + c.in-GoesBehind.lines) }) (S.meaning c.step.new.sink) c.in-GoesBehind.after.now c.steps.invariant.went here);
+      went = rw c.saturating_add-state-in-Goes.ensures
+          (went_more S.reply_to S.after S.is_foreign (place_of c.args.state.now) (S.meaning c.args.sink.now) c.args.text.now (place_of c.steps.state) (S.meaning c.steps.sink) c.steps.rest.now (further c.in-Goes.lines (place_of c.step.new.state)) (S.meaning c.step.new.sink) c.in-Goes.after.now c.steps.invariant.went moved);
     }

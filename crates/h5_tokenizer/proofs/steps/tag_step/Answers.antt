@@ -1,7 +1,8 @@
+use Rattle.std.proofs.Common.{sym}
 use Rattle.std.proofs.lemmas.Result.{err_from_is_err_and}
 use Rattle.h5_token.specs.TokenText.{TagIs, tag_text}
 use Rattle.h5_tokenizer.specs.Steps.{place_of}
-use Rattle.h5_tokenizer.proofs.StepLaws.{token_leads, turned_in_line, refused}
+use Rattle.h5_tokenizer.proofs.StepLaws.{token_leads, turned, refused}
 use Rattle.h5_tokenizer.proofs.steps.tag_step.Goals as goal
 
 pub returns-in_err-stopped : goal.returns-in_err-stopped
@@ -16,7 +17,7 @@ returns-in_err-stopped g c =
 pub returns : goal.returns
 returns g c =
     let S = g.S.TokenSink in
-    rw c.turn_in_line.ensures
-    (turned_in_line S.reply_to S.after S.is_foreign S.node (place_of c.args.state.now) (S.meaning c.args.sink.now) c.args.rest.now c.args.after (TagIs (tag_text c.args.tag)) (place_of c.hand_on_tag.new.state) (S.meaning c.hand_on_tag.new.sink) c.in_ok-stopped.stopped c.requires.line
+    rw c.turn.ensures
+    (turned S.reply_to S.after S.is_foreign S.node (place_of c.args.state.now) (S.meaning c.args.sink.now) c.args.rest.now c.args.after (TagIs (tag_text c.args.tag)) (place_of c.hand_on_tag.new.state) (S.meaning c.hand_on_tag.new.sink) 0 c.in_ok-stopped.stopped (sym c.requires.line)
     (token_leads S.reply_to S.after S.is_foreign (place_of c.args.state.now) (S.meaning c.args.sink.now) c.args.rest.now c.args.after.now (TagIs (tag_text c.args.tag)) c.requires.started c.requires.front)
     c.in_ok-stopped.ensures)

@@ -1,6 +1,6 @@
 use Rattle.std.proofs.Common.{◌≡◌, ◌+◌, ◌≤◌, length, false}
 use Rattle.h5_tokenizer.specs.Lines.{newlines}
-use Rattle.h5_tokenizer.proofs.run.newlines.Given as goal
+use Rattle.h5_tokenizer.proofs.lines.newlines.Given as goal
 
 abbrev pub invariant-loop-rest : goal.invariant-loop-rest
 invariant-loop-rest l = record {

@@ -1,6 +1,6 @@
 use Rattle.std.proofs.Common.{◌≡◌, ◌+◌, ◌≤◌, drop}
 use Rattle.h5_tokenizer.specs.Lines.{newlines}
-use Rattle.h5_tokenizer.proofs.run.few_newlines.Given as goal
+use Rattle.h5_tokenizer.proofs.lines.few_newlines.Given as goal
 
 abbrev pub invariant-loop-b : goal.invariant-loop-b
 invariant-loop-b l = record {

@@ -1,7 +1,7 @@
 use Rattle.std.proofs.Common.{◌≡◌, false, ap, sym, ◌∙◌}
 use Rattle.h5_tokenizer.specs.Lines.{newlines}
 use Rattle.h5_tokenizer.proofs.LineLaws.{none_passed}
-use Rattle.h5_tokenizer.proofs.run.rare_newlines.Goals as goal
+use Rattle.h5_tokenizer.proofs.lines.rare_newlines.Goals as goal
 
 pub returns : goal.returns
 returns c =

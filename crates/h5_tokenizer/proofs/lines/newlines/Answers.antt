@@ -1,7 +1,7 @@
 use Rattle.std.proofs.Common.{◌≡◌, ◌<◌, ◌+◌, eqb, length, take, drop, get_or, ap, ◌∙◌, arith}
 use Rattle.h5_tokenizer.specs.Lines.{newlines}
 use Rattle.h5_tokenizer.proofs.LineLaws.{few, in_parts}
-use Rattle.h5_tokenizer.proofs.run.newlines.Goals as goal
+use Rattle.h5_tokenizer.proofs.lines.newlines.Goals as goal
 
 pub loop-rest-preserved : goal.loop-rest-preserved
 loop-rest-preserved c =
