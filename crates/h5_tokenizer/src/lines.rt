@@ -45,6 +45,7 @@ fn rare_newlines(bytes: &[u8], behind_cr: bool) -> u8
 }
 
 // How many newlines these bytes are.
+#[inline(never)]
 fn newlines(bytes: &[u8]) -> u64
     ensures { result ≡ newlines false bytes.now }
 {
