@@ -1,13 +1,12 @@
 -- What was settled, told of another world or in other words.
-use Rattle.std.proofs.Common.{◌≡◌, ℕ, Bool, Result, IfOk, subst}
+use Rattle.std.proofs.Common.{◌≡◌, Bool, Result, IfOk, subst}
 use Rattle.std.specs.declared.alloc.AllocError.{AllocError}
-use Rattle.h5_token.specs.declared.sink.TokenSinkResult.{TokenSinkResult}
 use Rattle.h5_interface.specs.declared.sink.TreeSink.{Ghosts}
 use Rattle.h5_meaning.specs.Settle.{Settled}
 use Rattle.h5_meaning.specs.World.{World}
 use Rattle.h5_state.specs.Steps.{errors_of, world_of}
 use Rattle.h5_state.specs.declared.state.State.{State}
-use Rattle.h5_tree_builder.specs.Chains.{CameTo, Settles, SettlesApart}
+use Rattle.h5_tree_builder.specs.Chains.{CameTo, Settles}
 use Rattle.h5_tree_builder.specs.declared.taken.Taken.{Taken}
 
 pub settles_as : {S H O : Type 0} (law : Ghosts S H O) (defined other : World → Settled) (counted is_counted : Bool) (sink new_sink : S) (state before new_state : State H) (result : Result (Taken H) AllocError)
@@ -15,14 +14,6 @@ pub settles_as : {S H O : Type 0} (law : Ghosts S H O) (defined other : World �
 settles_as law defined other counted is_counted sink new_sink state before new_state result e i s = record {
   came = subst (λ c. IfOk result (λ r. CameTo law.node (other (world_of law sink before)) c (world_of law new_sink new_state) (errors_of law sink) (errors_of law new_sink) r)) i
       (subst (λ d. IfOk result (λ r. CameTo law.node d counted (world_of law new_sink new_state) (errors_of law sink) (errors_of law new_sink) r)) e s.came);
-  sound = s.sound;
-  fits = s.fits;
-}
-
-pub apart_as : {S H O : Type 0} (law : Ghosts S H O) (defined other : World → Settled) (counted : Bool) (sink new_sink : S) (state before new_state : State H) (answer : TokenSinkResult H) (result : Result ℕ AllocError)
-    → defined (world_of law sink state) ≡ other (world_of law sink before) → SettlesApart law defined counted sink state new_sink new_state answer result → SettlesApart law other counted sink before new_sink new_state answer result
-apart_as law defined other counted sink new_sink state before new_state answer result e s = record {
-  came = subst (λ d. IfOk result (λ n. CameTo law.node d counted (world_of law new_sink new_state) (errors_of law sink) (errors_of law new_sink) (record { turns = n; answer = answer }))) e s.came;
   sound = s.sound;
   fits = s.fits;
 }

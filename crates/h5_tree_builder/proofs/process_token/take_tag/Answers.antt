@@ -1,9 +1,9 @@
-use Rattle.std.proofs.Common.{ap}
+use Rattle.std.proofs.Common.{refl, ap}
 use Rattle.h5_token.specs.TokenText.{tag_text}
 use Rattle.h5_types.specs.TurnText.{TagTurn}
 use Rattle.h5_meaning.specs.Run.{step}
 use Rattle.h5_meaning.specs.Settle.{settle}
-use Rattle.h5_tree_builder.proofs.SettledLaws.{apart_as}
+use Rattle.h5_tree_builder.proofs.SettledLaws.{settles_as}
 use Rattle.h5_tree_builder.proofs.process_token.take_tag.Goals as goal
 
 pub returns : goal.returns
@@ -11,4 +11,4 @@ unfolding step
 returns g c =
     let law = g.S.TreeSink in
     let meant = settle law.choices (TagTurn (tag_text c.args.tag)) in
-    apart_as law meant _ _ _ _ _ _ _ _ _ (ap meant c.take_lf.ensures.done) c.settle_tag.ensures
+    settles_as law meant _ _ _ _ _ _ _ _ _ (ap meant c.take_lf.ensures.done) refl c.settle_tag.ensures
