@@ -76,6 +76,7 @@ fn make_list(alloc: Global, children: &mut Below) -> Result<(), AllocError>
 }
 
 // One more child, the last.
+#[inline(always)]
 pub(crate) fn add_child(alloc: Global, children: &mut Below, child: Child) -> Result<(), AllocError>
     ensures ok { OnOk result (children_in children.new ≡ children_in children.old ++ child ∷ []) }
     ensures err { OnErr result (children_in children.new ≡ children_in children.old) }

@@ -53,6 +53,7 @@ impl Blank {
 }
 
 // A text as a child.
+#[inline(always)]
 pub(crate) fn text_child(text: String) -> Child
     ensures { child_view result ≡ ChildText (string_bytes text) }
 {
