@@ -19,6 +19,8 @@ use Rattle.h5_interface.specs.Forest.{ElementNode, Forest, IsElement, Marks, con
 use Rattle.h5_interface.proofs.MakingLaws.{mark_rearranges}
 use Rattle.h5_meaning.specs.Sound.{AllStand}
 use Rattle.h5_meaning.proofs.SoundLaws.{all_rearranged, all_tail}
+use Rattle.h5_meaning.proofs.PairLaws.{in_left, in_right}
+use Rattle.h5_meaning.proofs.RemovalLaws.{last_or-append}
 
 pub seen_pushed : {H A : Type 0} (node : H → A) (xs ys : List H) (x : H) → ys ≡ xs ++ x ∷ [] → reverse (map node ys) ≡ node x ∷ reverse (map node xs)
 seen_pushed node xs ys x e = ap (λ z. reverse (map node z)) e ∙ ap reverse (map-append node xs (x ∷ [])) ∙ reverse-append (map node xs) (node x ∷ [])
@@ -88,26 +90,11 @@ inside_template f n c t e = ap (λ b. cond b (unwrap_or (contents_of f n) n) n) 
 pub inside_other : (f : Forest) (n : ℕ) → is_html_template (name_in f n) ≡ false → inside f n ≡ n
 inside_other f n t = ap (λ b. cond b (unwrap_or (contents_of f n) n) n) t
 
--- the root as it is seen
-pub last_or-append : (d a : ℕ) (s : List ℕ) → last_or d (s ++ a ∷ []) ≡ a
-last_or-append d a [] = refl
-last_or-append d a (n ∷ s) = last_or-append n a s
-
 pub seen_root : {H : Type 0} (node : H → ℕ) (d : ℕ) (xs : List H) (x : H) → Some x ≡ slice_get xs 0 → last_or d (reverse (map node xs)) ≡ node x
 seen_root node d [] x e = absurd (cc)
 seen_root node d (y ∷ ys) x e =
     let same : x ≡ y = cc in
     ap (last_or d) (reverse-append (node y ∷ []) (map node ys)) ∙ last_or-append d (node y) (reverse (map node ys)) ∙ ap node (sym same)
-
--- a member as it is seen
-in_right : (n : ℕ) (s r : List ℕ) → IsIn n r → IsIn n (s ++ r)
-in_right n [] r h = h
-in_right n (m ∷ s) r h = inr (in_right n s r h)
-
-in_left : (n : ℕ) (s r : List ℕ) → IsIn n s → IsIn n (s ++ r)
-in_left n [] r h = absurd h
-in_left n (m ∷ s) r (inl e) = inl e
-in_left n (m ∷ s) r (inr h) = inr (in_left n s r h)
 
 reverse_cons : (n : ℕ) (s : List ℕ) → reverse (n ∷ s) ≡ reverse s ++ n ∷ []
 reverse_cons n s = reverse-append (n ∷ []) s

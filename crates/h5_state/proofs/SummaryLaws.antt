@@ -1,24 +1,28 @@
 -- What is kept beside the open elements, where elements come or leave.
-use Rattle.std.proofs.Common.{◌≡◌, ◌≢◌, Bool, true, false, cond, ◌&&◌, ◌<◌, ◌≤◌, ◌-◌, ◌+◌, ℕ, take, drop, get_or, Some, List, [], ◌∷◌, ◌++◌, length, map, reverse, refl, ap, sym, ◌∙◌, arith, rules}
+use Rattle.std.proofs.Common.{◌≡◌, ◌≢◌, Bool, true, false, cond, ◌&&◌, ◌||◌, ◌<◌, ◌≤◌, ◌-◌, ◌+◌, ℕ, nat_lt, take, drop, get_or, Some, List, [], ◌∷◌, ◌++◌, length, map, reverse, refl, ap, sym, ◌∙◌, zero-add, arith, rules}
 use denote.Enum.Bare.{sameb, same_false, tag_one}
 use denote.Enum.Declared.{tag_of}
 use Rattle.h5_names.specs.KnownNames.{known_name_of}
 use Rattle.h5_names.specs.contracts.known_name.KnownName.{the_type}
 use Rattle.h5_names.specs.declared.known_name.KnownName.TheVariants.{Other}
 use Rattle.h5_names.proofs.KnownNameLemmas.{same_known}
+use Rattle.std.specs.Int.{from_bool}
 use Rattle.std.specs.Prelude.{slice_get}
+use Rattle.std.proofs.lemmas.Bool.{lt-ltb}
+use Rattle.std.proofs.lemmas.List.Sums.{count_by-le-length, sum_by-cons}
 use Rattle.std.proofs.lemmas.Slice.Eq.{bytes_eq-Decides}
 use Rattle.std.proofs.lemmas.List.{length-map, length-reverse, map-append, reverse-append, take-append-drop, take_more}
 use Rattle.h5_names.specs.AttributeText.{is_same_text}
 use Rattle.h5_names.specs.declared.qualified.QualName.{QualName}
 use Rattle.h5_interface.specs.Forest.{Forest}
+use Rattle.h5_interface.specs.NewElement.{is_html_template}
 use Rattle.h5_interface.specs.Seen.{Seen, after_pop}
 use Rattle.h5_interface.specs.SinkChoices.{SinkChoices}
 use Rattle.h5_tag_sets.specs.TagSets.{html_namespace, is_html_named}
-use Rattle.h5_meaning.specs.Scope.{later_names}
+use Rattle.h5_meaning.specs.Scope.{has_template, later_names}
 use Rattle.h5_meaning.specs.World.{World, name_in, names_of}
 use Rattle.h5_meaning.proofs.PopLaws.{names-pop}
-use Rattle.h5_state.specs.Summaries.{all_open, html_number, name_number, summaries, summary_of, text_number}
+use Rattle.h5_state.specs.Summaries.{all_open, html_number, name_number, open_templates, summaries, summary_of, text_number}
 use Rattle.h5_state.specs.View.{open_node}
 use Rattle.h5_state.specs.declared.open_element.OpenElement.{OpenElement}
 use Rattle.h5_state.specs.declared.open_element.Summary.{Summary}
@@ -59,6 +63,23 @@ same_number local name = at (is_same_text name.ns html_namespace)
     at true e h = same_html_number name.local local e h
     at false e h = absurd (omega (arith, e, h, text_number_from name.local))
 
+-- a name more, and how many are `template`s
+pub one_more : (name : QualName) (older : List QualName) → open_templates (name ∷ older) ≡ from_bool (is_html_template name) + open_templates older
+one_more name older = sum_by-cons (λ n. cond (is_html_template n) 1 0) name older ∙ ap (λ k. k + open_templates older) (as_number (is_html_template name))
+  where
+    as_number : (b : Bool) → cond b 1 0 ≡ from_bool b
+    as_number true = refl
+    as_number false = refl
+
+-- a `template` is open exactly if the number of those isn't 0
+pub some_template : (names : List QualName) → nat_lt 0 (open_templates names) ≡ has_template names
+some_template [] = refl
+some_template (n ∷ ns) = ap (nat_lt 0) (one_more n ns) ∙ at (is_html_template n) (some_template ns)
+  where
+    at : (b : Bool) → nat_lt 0 (open_templates ns) ≡ has_template ns → nat_lt 0 (from_bool b + open_templates ns) ≡ (b || has_template ns)
+    at true e = lt-ltb 0 (1 + open_templates ns) (omega arith)
+    at false e = ap (nat_lt 0) (zero-add (open_templates ns)) ∙ e
+
 -- the older ones have the summaries of their names
 summaries_behind : (newer older : List QualName) (kept rest : List Summary) → length kept ≡ length newer → kept ++ rest ≡ summaries (newer ++ older) → rest ≡ summaries older
 summaries_behind [] older [] rest e h = h
@@ -77,6 +98,10 @@ module _ {H : Type 0} (node : H → ℕ) (f : Forest) where
 
   abbrev pub names : List (OpenElement H) → List QualName
   names xs = map (name_in f) (reverse (map (open_node node) xs))
+
+  -- no more are `template`s than there are
+  pub few_templates : (xs : List (OpenElement H)) → open_templates (names xs) ≤ length xs
+  few_templates xs = omega (arith, count_by-le-length is_html_template (names xs), length-map (reverse (map (open_node node) xs)) (name_in f), length-reverse (map (open_node node) xs), length-map xs (open_node node))
 
   -- so many of the oldest
   pub kept_under : (xs : List (OpenElement H)) (count : ℕ) → kept xs ≡ summaries (names xs) → kept (take count xs) ≡ summaries (names (take count xs))

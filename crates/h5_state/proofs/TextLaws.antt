@@ -12,13 +12,5 @@ rest_of-push (a ∷ t) b h k =
 pub rest_of-more : (t : List ℕ) (i : ℕ) → i < length t → rest_of (take i t) ≡ [] → is_blank (get_or t i 0) ≡ true → rest_of (take (i + 1) t) ≡ []
 rest_of-more t i l h k = rw (take_more t i 0 l) (rest_of-push (take i t) (get_or t i 0) h k)
 
-all_blanks-push : (t : List ℕ) (b : ℕ) → all_blanks t ≡ [] → is_blank b ≡ false → all_blanks (t ++ b ∷ []) ≡ []
-all_blanks-push [] b h k = rw k refl
-all_blanks-push (a ∷ t) b h k =
-    (elim (is_blank a) as (λ v. cond v (a ∷ all_blanks t) (all_blanks t) ≡ [] → cond v (a ∷ all_blanks (t ++ b ∷ [])) (all_blanks (t ++ b ∷ [])) ≡ []) [ true ↦ λ e. absurd (cc) | false ↦ λ e. all_blanks-push t b e k ]) h
-
-pub all_blanks-more : (t : List ℕ) (i : ℕ) → i < length t → all_blanks (take i t) ≡ [] → is_blank (get_or t i 0) ≡ false → all_blanks (take (i + 1) t) ≡ []
-all_blanks-more t i l h k = rw (take_more t i 0 l) (all_blanks-push (take i t) (get_or t i 0) h k)
-
 pub blank_small : (b : ℕ) → is_blank b ≡ true → b < 128
 blank_small b h = grind arith

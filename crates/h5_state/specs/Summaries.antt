@@ -1,6 +1,6 @@
 -- What is kept beside the open elements, by their names.
 use Rattle.std.specs.Prelude.{ℕ, ◌+◌, ◌*◌, ◌/◌, ◌%◌, ◌^◌, if◌then◌else◌, List, [], ◌∷◌}
-use Rattle.std.specs.List.{fold}
+use Rattle.std.specs.List.{count_by, fold}
 use denote.Enum.Bare.{sameb}
 use denote.Enum.Declared.{tag_of}
 use Rattle.h5_names.specs.AttributeText.{is_same_text}
@@ -8,8 +8,9 @@ use Rattle.h5_names.specs.KnownNames.{known_name_of}
 use Rattle.h5_names.specs.contracts.known_name.KnownName.{the_type}
 use Rattle.h5_names.specs.declared.known_name.KnownName.TheVariants.{Other}
 use Rattle.h5_names.specs.declared.qualified.QualName.{QualName}
+use Rattle.h5_interface.specs.NewElement.{is_html_template}
 use Rattle.h5_tag_sets.specs.TagSets.{html_namespace, is_implied, is_special}
-use Rattle.h5_meaning.specs.Scope.{has_body_in_scope, has_p_in_button_scope, has_template, has_unclosed}
+use Rattle.h5_meaning.specs.Scope.{has_body_in_scope, has_p_in_button_scope, has_unclosed}
 use Rattle.h5_state.specs.declared.open_element.AllOpen.{AllOpen}
 use Rattle.h5_state.specs.declared.open_element.Summary.{Summary}
 
@@ -30,11 +31,15 @@ html_number local = if sameb the_type (known_name_of local) Other then text_numb
 unfoldable pub name_number : QualName → ℕ
 name_number name = if is_same_text name.ns html_namespace then html_number name.local else text_number name.local
 
+-- how many open elements are HTML `template`s
+abbrev pub open_templates : List QualName → ℕ
+open_templates = count_by is_html_template
+
 -- what is known of all open elements by their names, the newest first
 abbrev pub all_open : List QualName → AllOpen
 all_open names = record {
   unclosed = has_unclosed names;
-  template = has_template names;
+  templates = open_templates names;
   body_in_scope = has_body_in_scope names;
   p_in_button_scope = has_p_in_button_scope names;
 }

@@ -24,7 +24,7 @@ pub use open_elems::{
     all_open, check_body_end, find_before_special, find_in_scope, find_named,
     generate_implied_end_except, has_body_in_scope, has_body_second, has_open_template,
     has_p_in_button_scope, in_scope_named, is_current, is_current_html, is_current_implied,
-    is_named, name_at, open_at, open_count, pop_until_named, root_node, truncate,
+    is_named, name_at, open_at, open_count, open_templates, pop_until_named, root_node, truncate,
 };
 pub use pending_text::PendingText;
 pub use renew::{all_under, renew_from};

@@ -1,6 +1,6 @@
 //! An open element, and what is kept beside it: what is asked of all open elements is known then without a walk over
 //! them (HTML standard, section 13.2.4.2, "The stack of open elements").
-ghost use Rattle.std.specs.Prelude.{◌≡◌, ◌∷◌, if◌then◌else◌, List, [], false, true};
+ghost use Rattle.std.specs.Prelude.{◌≡◌, ◌<◌, ◌∷◌, if◌then◌else◌, List, [], false, true};
 ghost use Rattle.h5_names.specs.declared.qualified.QualName.{QualName as NameText};
 ghost use Rattle.h5_state.specs.Summaries.{all_open, html_number, name_number, summary_of, text_number};
 
@@ -12,8 +12,8 @@ use h5_tag_sets::{NameSet, default_scope};
 pub struct AllOpen {
     /// Whether one may not be open where the body ends.
     pub unclosed: bool,
-    /// Whether one is an HTML `template`.
-    pub template: bool,
+    /// How many are HTML `template`s.
+    pub templates: usize,
     /// Whether an HTML `body` is in scope.
     pub body_in_scope: bool,
     /// Whether an HTML `p` is in button scope.
@@ -27,7 +27,7 @@ impl AllOpen {
     {
         AllOpen {
             unclosed: false,
-            template: false,
+            templates: 0,
             body_in_scope: false,
             p_in_button_scope: false,
         }
@@ -36,6 +36,7 @@ impl AllOpen {
     /// What is known with one more, the newest, of this name.
     #[inline(always)]
     pub fn with_newest(self, name: &QualName) -> AllOpen
+        requires { self.templates < usize.MAX }
         ensures { (older : List NameText) → self ≡ all_open older → result ≡ all_open (name.now ∷ older) }
     {
         let (html, local) = (name.ns.is_html(), &name.local);
@@ -47,7 +48,7 @@ impl AllOpen {
         let ends_button_scope = ends_scope | (html & NameSet::ButtonScope.holds(local));
         AllOpen {
             unclosed: !(html & NameSet::BodyEndOk.holds(local)) | self.unclosed,
-            template: (html & local.is(KnownName::Template)) | self.template,
+            templates: usize::from(html & local.is(KnownName::Template)) + self.templates,
             body_in_scope: still_in_scope(is_body, ends_scope, self.body_in_scope),
             p_in_button_scope: still_in_scope(is_p, ends_button_scope, self.p_in_button_scope),
         }
@@ -72,6 +73,7 @@ impl Summary {
     #[inline(always)]
     #[tactic(auto, unfolding(h5_tag_sets::specs::TagSets::html_namespace, h5_tag_sets::specs::TagSets::is_special, h5_tag_sets::specs::TagSets::is_implied))]
     pub fn new(name: &QualName, older: AllOpen) -> Summary
+        requires { older.templates < usize.MAX }
         ensures { (names : List NameText) → older ≡ all_open names → result ≡ summary_of name.now names }
     {
         let (html, local) = (name.ns.is_html(), &name.local);

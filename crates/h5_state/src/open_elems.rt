@@ -9,7 +9,7 @@ ghost use Rattle.h5_meaning.specs.Scope.{comes_before_special, cut_through, firs
 ghost use Rattle.h5_meaning.specs.Rows.{GenerateImpliedEndExcept, PopUntilNamed};
 ghost use Rattle.h5_meaning.specs.World.{name_in, names_of, root};
 ghost use Rattle.h5_state.specs.Steps.{IsSound, Makes, TellsErrors, errors_of, world_of};
-ghost use Rattle.h5_state.specs.Summaries.{all_open, html_number, name_number, summaries};
+ghost use Rattle.h5_state.specs.Summaries.{all_open, html_number, name_number, open_templates, summaries};
 ghost use Rattle.h5_state.specs.View.{kept_of, names_under, stack_under, with_stack};
 
 use super::errors::tell_error;
@@ -167,7 +167,8 @@ pub fn find_named<S: TreeSink>(sink: &S, state: &State<S::Handle>, local: &Local
 #[tactic(auto, unfolding(crate::specs::View::world, h5_meaning::specs::World::names_of))]
 pub fn all_open<S: TreeSink>(sink: &S, state: &State<S::Handle>) -> AllOpen
     requires { IsSound S.TreeSink sink.now state.now }
-    ensures { result ≡ all_open (names_of (world_of S.TreeSink sink.now state.now)) }
+    ensures known { result ≡ all_open (names_of (world_of S.TreeSink sink.now state.now)) }
+    ensures few { result.templates < usize.MAX }
 {
     match state.open_elems.last() {
         Some(newest) => newest.summary.all,
@@ -191,12 +192,20 @@ pub fn has_p_in_button_scope<S: TreeSink>(sink: &S, state: &State<S::Handle>) ->
     all_open(sink, state).p_in_button_scope
 }
 
+/// How many open elements are HTML `template`s.
+pub fn open_templates<S: TreeSink>(sink: &S, state: &State<S::Handle>) -> usize
+    requires { IsSound S.TreeSink sink.now state.now }
+    ensures { result ≡ open_templates (names_of (world_of S.TreeSink sink.now state.now)) }
+{
+    all_open(sink, state).templates
+}
+
 /// Whether an HTML `template` is open.
 pub fn has_open_template<S: TreeSink>(sink: &S, state: &State<S::Handle>) -> bool
     requires { IsSound S.TreeSink sink.now state.now }
     ensures { result ≡ has_template (names_of (world_of S.TreeSink sink.now state.now)) }
 {
-    all_open(sink, state).template
+    open_templates(sink, state) > 0
 }
 
 // Whether an element is open that may not be where the body ends.

@@ -15,7 +15,8 @@ use h5_interface::TreeSink;
 pub fn all_under<S: TreeSink>(sink: &S, state: &State<S::Handle>, count: usize) -> AllOpen
     requires count { count ≤ length (world_of S.TreeSink sink.now state.now).stack }
     requires kept { kept_under state.now count ≡ summaries (names_under S.sees S.node sink.now state.now count) }
-    ensures { result ≡ all_open (names_under S.sees S.node sink.now state.now count) }
+    ensures known { result ≡ all_open (names_under S.sees S.node sink.now state.now count) }
+    ensures few { result.templates < usize.MAX }
 {
     if count == 0 {
         AllOpen::none()

@@ -56,6 +56,6 @@ returns g c =
       sound = record {
         sound = subst (λ s. AllStand w.forest s w.formatting w.head w.form w.context) (sym stack) c.requires.stands;
         kept = kept_pushed items c.push.new.self.items _ (name_in w.forest n) (names_of w) _ c.in_ok-push.ensures.items
-            (c.new-summary.ensures _ c.all_under-all.ensures ∙ ap (λ m. summary_of m (names_under g.S.TreeSink.sees node c.args.sink.now c.args.state.now c.open_count.result)) name ∙ ap (summary_of (name_in w.forest n)) all) (ap (map (name_in w.forest)) stack) c.requires.sound.kept;
+            (c.new-summary.ensures _ c.all_under-all.ensures.known ∙ ap (λ m. summary_of m (names_under g.S.TreeSink.sees node c.args.sink.now c.args.state.now c.open_count.result)) name ∙ ap (summary_of (name_in w.forest n)) all) (ap (map (name_in w.forest)) stack) c.requires.sound.kept;
       };
     }

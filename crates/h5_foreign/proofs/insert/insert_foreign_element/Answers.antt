@@ -65,7 +65,7 @@ returns g c =
       sound = record {
         sound = subst Sound (sym done) (insert_foreign_stands choices name attrs flag w c.requires.sound);
         kept = kept_pushed c.args.state.now.open_elems.items c.push.new.self.items _ name (names_of w) _ c.in_ok-push.ensures.items
-            (c.new-summary.ensures (names_of w) c.all_open.ensures)
+            (c.new-summary.ensures (names_of w) c.all_open.ensures.known)
             (ap names_of done ∙ names-insert_foreign choices name attrs flag w c.requires.sound) c.requires.kept;
       };
     }

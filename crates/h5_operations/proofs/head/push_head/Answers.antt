@@ -27,7 +27,7 @@ returns-in_ok-push g c =
       sound = record {
         sound = subst Sound (sym done) c.requires.ready;
         kept = kept_pushed old new _ (html_name c.from_known.result) (names_of w) _ c.in_ok-push.ensures.items
-            (c.new-summary.ensures (names_of w) c.all_open.ensures ∙ ap (λ n. summary_of n (names_of w)) c.html_qual_name-name.ensures)
+            (c.new-summary.ensures (names_of w) c.all_open.ensures.known ∙ ap (λ n. summary_of n (names_of w)) c.html_qual_name-name.ensures)
             (ap (map (name_in w.forest)) (stack ∙ ap (λ o. with_known o w.stack) (sym is_head)) ∙ ap (λ n. n ∷ names_of w) name) c.requires.sound.kept;
       };
     }

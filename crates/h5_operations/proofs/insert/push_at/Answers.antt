@@ -67,6 +67,6 @@ returns-clause-sound g c =
           (subst (λ s. AllStand (new_element g.S.TreeSink.choices p name attrs flag marks seen.forest) s w.formatting w.head w.form w.context) (sym stack)
           (all_inserted g.S.TreeSink.choices p name attrs flag marks w c.requires.sound.sound c.requires.place c.requires.first));
       kept = kept_pushed c.args.state.now.open_elems.items c.push.new.self.items _ (html_name c.args.local) (names_of w) _ c.in_ok-push.ensures.items
-          (c.new-summary.ensures (names_of w) c.all_open.ensures ∙ ap (λ n. summary_of n (names_of w)) c.html_qual_name-name.ensures)
+          (c.new-summary.ensures (names_of w) c.all_open.ensures.known ∙ ap (λ n. summary_of n (names_of w)) c.html_qual_name-name.ensures)
           (ap names_of done ∙ names_pushed g.S.TreeSink.choices p c.args.local attrs flag marks w c.requires.sound.sound c.requires.place) c.requires.sound.kept;
     }

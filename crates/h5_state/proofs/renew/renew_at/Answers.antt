@@ -40,6 +40,6 @@ returns-clause-kept g c =
     let other = stack_step (open_node node) items c.args.place c.index.result.now inner c.index.ensures in
     let same : node c.index.result.now.handle ≡ node x.handle = cc (one, other) in
     let name : c.elem_name.result.now ≡ name_in f (node x.handle) = sym (named f (node c.index.result.now.handle) c.elem_name.result.now c.elem_name.ensures) ∙ ap (name_in f) same in
-    let summary = c.new-summary.ensures _ c.all_under-all.ensures in
+    let summary = c.new-summary.ensures _ c.all_under-all.ensures.known in
     kept_more node f items c.args.place (record { handle = x.handle; summary = c.new-summary.result }) inner
     (summary ∙ ap (λ n. summary_of n (names_under g.S.TreeSink.sees node c.args.sink.now c.args.state.now c.args.place)) name) c.requires.kept

@@ -73,6 +73,6 @@ returns-clause-sound g c =
     record {
       sound = subst Sound (sym done) (loose_stands choices attrs flag w c.requires.sound);
       kept = kept_pushed c.args.state.now.open_elems.items c.push.new.self.items _ template (names_of w) _ c.in_ok-push.ensures.items
-          (c.new-summary.ensures (names_of w) c.all_open.ensures ∙ ap (λ n. summary_of n (names_of w)) named)
+          (c.new-summary.ensures (names_of w) c.all_open.ensures.known ∙ ap (λ n. summary_of n (names_of w)) named)
           (ap names_of done ∙ names-loose choices attrs flag w c.requires.sound) c.requires.kept;
     }

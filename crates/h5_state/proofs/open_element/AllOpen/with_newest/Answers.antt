@@ -1,5 +1,6 @@
 use Rattle.std.proofs.Common.{refl}
 use Rattle.h5_tag_sets.specs.TagSets.{html_namespace, is_body_end_ok, is_button_scope, is_html_named}
+use Rattle.h5_state.proofs.SummaryLaws.{one_more}
 use Rattle.h5_state.proofs.open_element.AllOpen.with_newest.Goals as goal
 
 pub returns : goal.returns
@@ -8,6 +9,7 @@ returns c = λ older e.
     rw (
       c.still_in_scope.ensures,
       c.still_in_scope-2.ensures,
+      c.from.ensures,
       c.is.ensures,
       c.is-2.ensures,
       c.is-3.ensures,
@@ -16,4 +18,5 @@ returns c = λ older e.
       c.holds-2.ensures,
       c.is_html-html.ensures,
       e,
+      one_more c.args.name.now older,
     ) refl
