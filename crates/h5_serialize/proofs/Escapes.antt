@@ -1,5 +1,5 @@
 -- A search for bytes finds the characters with an escape.
-use Rattle.std.proofs.Common.{◌≡◌, ℕ, ◌<◌, ◌≤◌, ◌+◌, ◌-◌, Bool, true, false, ◌||◌, ◌&&◌, List, [], ◌∷◌, ◌++◌, cond, eqb, length, take, drop, get_or, refl, sym, ap, ◌∙◌, subst, arith, append_assoc, append-nil, length-append, take-append-drop, IsUtf8, get_or-take, length-take-le, add_assoc, length-drop, get_or-drop, below_more, take_all}
+use Rattle.std.proofs.Common.{◌≡◌, ℕ, ◌<◌, ◌≤◌, ◌+◌, ◌-◌, Bool, true, false, ◌||◌, ◌&&◌, List, [], ◌∷◌, ◌++◌, cond, eqb, length, take, drop, get_or, refl, sym, ap, ◌∙◌, subst, arith, append_assoc, length-append, take-append-drop, IsUtf8, get_or-take, length-take-le, add_assoc, length-drop, get_or-drop, take_all}
 use Rattle.std.proofs.lemmas.List.{get_or-append-add, get_or_past}
 use Rattle.std.proofs.lemmas.Bool.{cases_lt}
 use Rattle.std.proofs.lemmas.Str.{encode_ascii, length-encode, len_utf8_bounds}
@@ -13,7 +13,7 @@ use Rattle.std.specs.Io.KnownBytes.{Appends}
 use Rattle.std.proofs.Common.{Option, Some, None}
 use Rattle.memchr.specs.Find.{is_byte3}
 use Rattle.h5_serialize.specs.Escape.{escape_char, escape}
-use Rattle.h5_serialize.specs.Places.{begins_reference, is_candidate, HasNoMarkBefore}
+use Rattle.h5_serialize.specs.Places.{begins_reference, HasNoMarkBefore}
 
 -- no character with an escape begins at the places below n
 abbrev pub Clean : Bool → List ℕ → ℕ → Type 0
@@ -117,36 +117,6 @@ escape_split value xs n utf8 boundary h =
 pub escape_one : (value : Bool) (xs rest : List ℕ) (c : ℕ) → IsUtf8 xs → xs ≡ encode_utf8 c ++ rest → escape value xs ≡ escape_char value c ++ escape value rest
 escape_one value xs rest c utf8 e = ap (flat_map (escape_char value)) (chars_past_char xs rest c utf8 e)
 
--- a byte that neither search finds
-pub passed : (value : Bool) (x y : ℕ) → is_byte3 38 60 62 x ≡ false → is_candidate value x ≡ false → begins_reference value x y ≡ false
-passed value x y h g = by (eqb x 38) (eqb x 60) (eqb x 62) (value && eqb x 34) (eqb x 194) (eqb y 160) h g
-  where
-    by : (a b c d e f : Bool) → ((a || b) || c) ≡ false → (d || e) ≡ false → (a || (b || (c || (d || (e && f))))) ≡ false
-    by true b c d e f h g = h
-    by false true c d e f h g = h
-    by false false true d e f h g = h
-    by false false false true e f h g = g
-    by false false false false true f h g = absurd (false≢true (sym g))
-    by false false false false false f h g = refl
-
--- the places up to j pass
-pub clean_more : (value : Bool) (xs : List ℕ) (from j : ℕ) → Clean value xs from → HasNoMarkBefore xs (length xs) → ((k : ℕ) → from ≤ k → k < j → is_candidate value (get_or xs k 0) ≡ false) → j ≤ length xs → Clean value xs j
-clean_more value xs from j h f g le k lt = ⊎_elim (λ before. h k before) (λ behind. passed value (get_or xs k 0) (get_or xs (k + 1) 0) (f k (omega arith)) (g k behind lt)) (cases_lt k from)
-
--- and the place j itself, which a look has passed
-pub clean_next : (value : Bool) (xs : List ℕ) (j : ℕ) → Clean value xs j → begins_reference value (get_or xs j 0) (get_or xs (j + 1) 0) ≡ false → Clean value xs (j + 1)
-clean_next value xs j h here = below_more (λ k. begins_reference value (get_or xs k 0) (get_or xs (k + 1) 0) ≡ false) j h here
-
-neither : (a b : Bool) → (a || b) ≡ false → (a ≡ false) × (b ≡ false)
-neither true b h = absurd (false≢true (sym h))
-neither false b h = (refl, h)
-
--- and the place j, where the byte begins no character with an escape
-pub clean_past : (value : Bool) (xs : List ℕ) (j : ℕ) → Clean value xs j → (is_byte3 38 60 62 (get_or xs j 0) || is_candidate value (get_or xs j 0)) ≡ false → Clean value xs (j + 1)
-clean_past value xs j h here =
-    let none = neither (is_byte3 38 60 62 (get_or xs j 0)) (is_candidate value (get_or xs j 0)) here in
-    clean_next value xs j h (passed value (get_or xs j 0) (get_or xs (j + 1) 0) none.0 none.1)
-
 not_true : (b : Bool) → (b ≡ true → ⊥) → b ≡ false
 not_true true h = absurd (h refl)
 not_true false h = refl
@@ -164,10 +134,6 @@ rest_before test xs from j k h low lt =
     let there : from + (k - from) ≡ k = omega arith in
     let here : get_or (take (length xs - from) (drop from xs)) (k - from) 0 ≡ get_or xs k 0 = ap (λ l. get_or l (k - from) 0) (rest_same xs from) ∙ get_or-drop from xs (k - from) 0 ∙ ap (λ n. get_or xs n 0) there in
     not_true (test (get_or xs k 0)) (λ e. h (k - from) (omega arith) (omega arith) (ap test here ∙ e))
-
--- parts of a text without marks have none
-pub no_mark_take : (xs : List ℕ) (n : ℕ) → n ≤ length xs → HasNoMarkBefore xs n → HasNoMarkBefore (take n xs) (length (take n xs))
-no_mark_take xs n le h k lt = let below : k < n = omega (arith, lt, length-take-le n xs le) in ap (is_byte3 38 60 62) (get_or-take n xs k 0 below) ∙ h k below
 
 pub no_mark_behind : (xs ys : List ℕ) → HasNoMarkBefore (xs ++ ys) (length (xs ++ ys)) → HasNoMarkBefore ys (length ys)
 no_mark_behind xs ys h k lt = ap (is_byte3 38 60 62) (sym (get_or-append-add xs ys k 0)) ∙ h (length xs + k) (omega (arith, length-append xs ys))
@@ -207,19 +173,12 @@ pub record Wrote (old new : Option (List ℕ)) (all rest : List ℕ) : Type 0 wh
   pub appends : Appends old new part
   pub splits : all ≡ part ++ rest
 
-pub wrote_none : (w : Option (List ℕ)) (all : List ℕ) → Wrote w w all all
-wrote_none None all = record { part = []; appends = tt; splits = refl }
-wrote_none (Some xs) all = record { part = []; appends = sym (append-nil xs); splits = refl }
-
 pub wrote_more : (a b c : Option (List ℕ)) (all mid rest part : List ℕ) → Wrote a b all mid → Appends b c part → mid ≡ part ++ rest → Wrote a c all rest
 wrote_more a b c all mid rest part w h e = record {
   part = w.part ++ part;
   appends = appends_both a b c w.part part (w.part ++ part) w.appends h refl;
   splits = w.splits ∙ ap (λ l. w.part ++ l) e ∙ sym (append_assoc w.part part rest);
 }
-
-pub wrote_last : (a b c : Option (List ℕ)) (all mid : List ℕ) → Wrote a b all mid → Appends b c mid → Appends a c all
-wrote_last a b c all mid w h = appends_both a b c w.part mid all w.appends h w.splits
 
 pub shorter_after : (text : List ℕ) (n : ℕ) (rest seen : List ℕ) (c : ℕ) → drop n text ≡ encode_utf8 c ++ rest → seen ≡ rest → length seen < length text
 shorter_after text n rest seen c e f = omega (arith, ap length e, ap length f, length-append (encode_utf8 c) rest, length-drop n text, length-encode c, (len_utf8_bounds c).0)

@@ -51,12 +51,13 @@ takes_memory (CommentOf text) = false
 takes_memory (DoctypeOf name) = false
 takes_memory (InstructionOf target content) = false
 
--- want of memory comes in such a call alone, before its first byte; how much a failing writer took isn't
--- said; after either the serializer is broken
+-- want of memory comes in such a call alone, before its first byte; how much a failing writer took isn't said. Either
+-- comes in a call that had been answered Ok, and leaves the serializer broken. So after Memory or Write every call answers
+-- Failed and writes nothing, and NoParent comes exactly where a parent lacks, whatever memory and writer do
 abbrev pub IsBrokenBy : Standing → Option (List ℕ) → Call → SerializeFault → Standing → Option (List ℕ) → Type 0
 IsBrokenBy m t call NoParent n u = ⊥
-IsBrokenBy m t call Memory n u = (takes_memory call ≡ true) × (n ≡ Broken) × (u ≡ t)
-IsBrokenBy m t call Write n u = n ≡ Broken
+IsBrokenBy m t call Memory n u = (answer_to m call ≡ Ok tt) × (takes_memory call ≡ true) × (n ≡ Broken) × (u ≡ t)
+IsBrokenBy m t call Write n u = (answer_to m call ≡ Ok tt) × (n ≡ Broken)
 IsBrokenBy m t call Failed n u = ⊥
 
 -- the text of a walk

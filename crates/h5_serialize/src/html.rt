@@ -1,10 +1,10 @@
 //! The serializer that writes HTML.
-ghost use Rattle.std.specs.Prelude.{◌≡◌, ◌++◌, OnOk, IfOk, IsOkUnless};
+ghost use Rattle.std.specs.Prelude.{◌≡◌, ◌++◌, ◌∷◌, [], OnOk, IfOk, IsOkUnless};
 ghost use Rattle.std.specs.Io.KnownBytes.{Appends};
 ghost use Rattle.std.specs.Iterator.{Drains, IsFinite};
 ghost use Rattle.h5_serialize.specs.Call.{EndOf};
 ghost use Rattle.h5_serialize.specs.Standing.{IsBrokenBy, answer_to, new_standing, parent_answer, standing_after, text_written};
-ghost use Rattle.h5_serialize.specs.Walk.{Makes, MakesStart};
+ghost use Rattle.h5_serialize.specs.Walk.{Makes, MakesStart, Walks, WalksStart};
 
 use super::attributes::AttrRef;
 use super::escape::{write_escaped, write_verbatim};
@@ -178,12 +178,24 @@ impl<Wr: Write + Drop> Serializer for HtmlSerializer<Wr> {
         &mut self,
         name: &QualName,
         attrs: I,
-    ) -> Result<(), SerializeFault> {
+    ) -> Result<(), SerializeFault>
+        requires can { I.can_next attrs }
+        requires ends { IsFinite (I.remaining attrs) }
+        ensures walks { WalksStart answer_to standing_after text_written IsBrokenBy T.attribute (Drains I.next_gives attrs) name.now
+            self.old.standing self.old.contents result self.new.standing self.new.contents }
+        ensures makes { MakesStart answer_to standing_after text_written IsBrokenBy T.attribute (Drains I.next_gives attrs) name.now
+            self.old.standing self.old.contents result self.new.standing self.new.contents }
+    {
         self.start(name, attrs)
     }
 
     /// As `end_elem`. No name is copied.
-    fn end_elem_ref(&mut self, name: &QualName) -> Result<(), SerializeFault> {
+    fn end_elem_ref(&mut self, name: &QualName) -> Result<(), SerializeFault>
+        ensures walks { Walks answer_to standing_after text_written IsBrokenBy (EndOf name.now ∷ [])
+            self.old.standing self.old.contents result self.new.standing self.new.contents }
+        ensures makes { Makes answer_to standing_after text_written IsBrokenBy (EndOf name.now)
+            self.old.standing self.old.contents result self.new.standing self.new.contents }
+    {
         self.end(name)
     }
 

@@ -2,5 +2,5 @@ use Rattle.h5_serialize.specs.Standing.{IsBrokenBy, answer_to, standing_after, t
 use Rattle.h5_serialize.proofs.WalkSteps.{walk_one}
 use Rattle.h5_serialize.proofs.html.HtmlSerializerSerializer.end_elem_ref.Goals as goal
 
-pub returns : goal.returns
-returns g c = walk_one answer_to standing_after text_written IsBrokenBy _ _ c.end.ensures
+pub returns-clause-walks : goal.returns-clause-walks
+returns-clause-walks g c = walk_one answer_to standing_after text_written IsBrokenBy _ _ c.end.ensures
