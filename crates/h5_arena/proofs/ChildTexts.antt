@@ -5,14 +5,15 @@ use Rattle.std.specs.List.{insert, remove}
 use Rattle.std.proofs.Math.Bool.{and-false}
 use Rattle.std.proofs.Math.ListN.{set}
 use Rattle.std.proofs.Math.Seq.{drop-nil}
-use Rattle.std.proofs.lemmas.Bool.{eq-eqb, eqb-true}
+use Rattle.std.proofs.lemmas.Bool.{eq-eqb}
 use Rattle.std.proofs.lemmas.Bool.Decides.{nat_tests}
 use Prim.Native.Nat.{zero, suc}
 use lib.Dec.{leb}
 use Rattle.h5_interface.specs.Changes.{insert_before, join, joined, without}
 use Rattle.h5_interface.specs.Forest.{AreParted, Child, ChildNode, ChildText, count, nodes}
 use Rattle.h5_interface.proofs.ChildLaws.{joined-parted}
-use Rattle.h5_arena.specs.ChildTests.{first_text, is_child_node, is_child_text, last_text, texts_around}
+use Rattle.h5_arena.specs.ChildTests.{first_text, is_child_text, last_text, texts_around}
+use Rattle.std.proofs.lemmas.Bool.{and_parts}
 
 -- a text after a last text is joined to it
 pub joined-last_text : (cs : List Child) (i : ℕ) (t u : List ℕ) → length cs ≡ i + 1 → slice_get cs i ≡ Some (ChildText t) → AreParted cs → set cs i (ChildText (t ++ u)) ≡ joined (cs ++ ChildText u ∷ [])
@@ -40,29 +41,12 @@ joined-last_node (ChildText a ∷ ChildNode m ∷ c ∷ cs) (suc zero) n u l e h
 joined-last_node (ChildText a ∷ ChildNode m ∷ c ∷ cs) (suc (suc i)) n u l e h = ap (λ xs. ChildText a ∷ ChildNode m ∷ xs) (joined-last_node (c ∷ cs) i n u (omega arith) e h.1)
 joined-last_node (ChildText a ∷ ChildText b ∷ cs) i n u l e h = absurd h
 
-here_or_later : (c : ℕ) (x : Child) (xs : List Child) → is_child_node c x ≡ false → 0 < count c (nodes (x ∷ xs)) → 0 < count c (nodes xs)
-here_or_later c (ChildNode n) xs e h = grind (arith, nat_tests)
-here_or_later c (ChildText t) xs e h = h
-
--- a node that is not at a place stands after it
-pub not_at : (c : ℕ) (cs : List Child) (i : ℕ) (x : Child) → slice_get cs i ≡ Some x → is_child_node c x ≡ false → 0 < count c (nodes (drop i cs)) → 0 < count c (nodes (drop (suc i) cs))
-not_at c [] i x s e h = cc
-not_at c (y ∷ cs) zero x s e h = let w : y ≡ x = cc in here_or_later c y cs (rw w e) h
-not_at c (y ∷ cs) (suc i) x s e h = not_at c cs i x s e h
-
-is_node_at : (c : ℕ) (x : Child) → is_child_node c x ≡ true → x ≡ ChildNode c
-is_node_at c (ChildNode n) e = ap ChildNode (eqb-true n c e)
-is_node_at c (ChildText t) e = cc
-
 pub has_at : (c : ℕ) (cs : List Child) (i : ℕ) → slice_get cs i ≡ Some (ChildNode c) → 0 < count c (nodes cs)
 has_at c [] i s = cc
 has_at c (ChildText t ∷ cs) zero s = cc
 has_at c (ChildText t ∷ cs) (suc i) s = has_at c cs i s
 has_at c (ChildNode n ∷ cs) zero s = let w : n ≡ c = cc in rw (eq-eqb c n (sym w)) (omega arith)
 has_at c (ChildNode n ∷ cs) (suc i) s = let w = has_at c cs i s in omega arith
-
-pub found_at : (c : ℕ) (cs : List Child) (i : ℕ) (x : Child) → slice_get cs i ≡ Some x → is_child_node c x ≡ true → slice_get cs i ≡ Some (ChildNode c)
-found_at c cs i x s e = s ∙ ap (λ y. Some y) (is_node_at c x e)
 
 without_case : (c n : ℕ) (cs : List Child) (b : Bool) → (c == n) ≡ b → (if b then 1 else 0) + count c (nodes cs) ≡ 0 → (count c (nodes cs) ≡ 0 → without c cs ≡ cs) → without c (ChildNode n ∷ cs) ≡ ChildNode n ∷ cs
 without_case c n cs true w h k = absurd (omega arith)
@@ -89,13 +73,6 @@ without-remove c (ChildNode n ∷ cs) (suc i) s e = later_case c n cs i (c == n)
     later_case c n cs i true w h k r = absurd (omega arith)
     later_case c n cs i false w h k r = rw w (ap (λ xs. ChildNode n ∷ xs) (r (omega arith)))
 
-parted-after : (l : List Child) (c : ℕ) (r : List Child) → AreParted (l ++ ChildNode c ∷ r) → AreParted r
-parted-after [] c r h = h
-parted-after (ChildNode n ∷ l) c r h = parted-after l c r h
-parted-after (ChildText t ∷ []) c r h = h.1
-parted-after (ChildText t ∷ ChildNode n ∷ l) c r h = parted-after l c r h.1
-parted-after (ChildText t ∷ ChildText u ∷ l) c r h = absurd h
-
 text_first : (t : List ℕ) (r : List Child) → first_text r ≡ None → AreParted r → join (ChildText t) r ≡ ChildText t ∷ r
 text_first t [] e h = refl
 text_first t (ChildNode n ∷ r) e h = refl
@@ -112,14 +89,6 @@ joined-apart (ChildText t ∷ ChildNode n ∷ []) c r h k = ap (λ xs. ChildText
 joined-apart (ChildText t ∷ ChildNode n ∷ x ∷ l) c r h k = ap (λ xs. ChildText t ∷ ChildNode n ∷ xs) (joined-apart (x ∷ l) c r h.1 k)
 joined-apart (ChildText t ∷ ChildText u ∷ l) c r h k = absurd h
 
--- Where it is taken out between two texts, they are joined.
-pub joined-meet : (l : List Child) (t : List ℕ) (c : ℕ) (u : List ℕ) (r : List Child) → AreParted ((l ++ ChildText t ∷ []) ++ ChildNode c ∷ ChildText u ∷ r) → joined ((l ++ ChildText t ∷ []) ++ ChildText u ∷ r) ≡ l ++ ChildText (t ++ u) ∷ r
-joined-meet [] t c u r h = ap (join (ChildText t)) (joined-parted (ChildText u ∷ r) h.1)
-joined-meet (ChildNode n ∷ l) t c u r h = ap (λ xs. ChildNode n ∷ xs) (joined-meet l t c u r h)
-joined-meet (ChildText a ∷ []) t c u r h = absurd h
-joined-meet (ChildText a ∷ ChildNode n ∷ l) t c u r h = ap (λ xs. ChildText a ∷ ChildNode n ∷ xs) (joined-meet l t c u r h.1)
-joined-meet (ChildText a ∷ ChildText b ∷ l) t c u r h = absurd h
-
 last_take : (cs : List Child) (j : ℕ) (x : Child) → slice_get cs j ≡ Some x → is_some (last_text (take (suc j) cs)) ≡ is_child_text x
 last_take [] j x e = cc
 last_take (ChildText t ∷ cs) zero x e = let w : ChildText t ≡ x = cc in rw (← w) refl
@@ -134,10 +103,7 @@ first_drop (ChildText t ∷ cs) zero x e = let w : ChildText t ≡ x = cc in rw 
 first_drop (ChildNode n ∷ cs) zero x e = let w : ChildNode n ≡ x = cc in rw (← w) refl
 first_drop (c ∷ cs) (suc j) x e = first_drop cs j x e
 
-pub around_first : (cs : List Child) → texts_around cs 0 ≡ false
-around_first cs = refl
-
-drop-past : (cs : List Child) (n : ℕ) → length cs ≤ n → drop n cs ≡ []
+pub drop-past : (cs : List Child) (n : ℕ) → length cs ≤ n → drop n cs ≡ []
 drop-past [] n h = drop-nil n
 drop-past (x ∷ cs) zero h = absurd (omega arith)
 drop-past (x ∷ cs) (suc n) h = drop-past cs n (omega arith)
@@ -191,19 +157,11 @@ pub around_above : (cs : List Child) (i : ℕ) → texts_around cs i ≡ true �
 around_above cs zero e = cc
 around_above cs (suc i) e = omega arith
 
-and_left : (a b : Bool) → (a && b) ≡ true → a ≡ true
-and_left true b e = refl
-and_left false b e = cc
-
-and_right : (a b : Bool) → (a && b) ≡ true → b ≡ true
-and_right true b e = e
-and_right false b e = cc
-
 pub around_before : (cs : List Child) (i j : ℕ) (x : Child) → i ≡ suc j → texts_around cs i ≡ true → slice_get cs j ≡ Some x → is_child_text x ≡ true
-around_before cs i j x e w s = sym (last_take cs j x s) ∙ (let v = (rw e at w) in and_left _ _ v)
+around_before cs i j x e w s = sym (last_take cs j x s) ∙ (let v = (rw e at w) in (and_parts _ _ v).0)
 
 pub around_after : (cs : List Child) (i k : ℕ) (x : Child) → k ≡ suc i → texts_around cs i ≡ true → slice_get cs k ≡ Some x → is_child_text x ≡ true
-around_after cs i k x e w s = sym (first_drop cs k x s) ∙ rw e (and_right _ _ w)
+around_after cs i k x e w s = sym (first_drop cs k x s) ∙ rw e (and_parts _ _ w).1
 
 -- a child that is put before a node is put at that node's place
 insert_case : (s n : ℕ) (x : Child) (cs : List Child) (i : ℕ) (b : Bool) → (s == n) ≡ b → (if b then 1 else 0) + count s (nodes cs) ≡ 1 → 0 < count s (nodes cs) → (count s (nodes cs) ≡ 1 → insert_before s x cs ≡ insert cs i x)

@@ -1,6 +1,6 @@
 -- Writes to a vector of children, as contracts see it.
-use Rattle.std.proofs.Common.{◌≡◌, ◌∙◌, ℕ, ◌+◌, ◌-◌, ◌<◌, Bool, Bor, true, false, List, [], ◌∷◌, ◌++◌, ap, arith, drop, get_or, length, refl, sym, take}
-use Rattle.std.specs.Prelude.{◌&&◌, is_some, Option, None, Some, Result, Ok, Err, OnErr, option_copied, slice_get}
+use Rattle.std.proofs.Common.{◌≡◌, ◌∙◌, ℕ, ◌+◌, ◌-◌, ◌<◌, true, false, List, [], ◌∷◌, ◌++◌, ap, arith, drop, get_or, length, refl, sym, take}
+use Rattle.std.specs.Prelude.{◌&&◌, is_some, Option, None, Some, Result, Ok, Err, OnErr, String, slice_get}
 use Rattle.std.specs.List.{insert, remove}
 use Rattle.std.proofs.Math.ListN.{set}
 use Rattle.std.proofs.Math.Seq.{map-set_same}
@@ -10,10 +10,13 @@ use Prim.Native.Nat.{zero, suc}
 use Rattle.h5_interface.specs.Changes.{insert_before, joined}
 use Rattle.h5_interface.specs.Forest.{AreParted, Child, ChildNode, ChildText, count, nodes}
 use Rattle.h5_interface.proofs.ChildLaws.{joined-append_node, joined-parted}
+use Rattle.std.specs.declared.alloc.Global.{Global}
 use Rattle.h5_arena.specs.declared.nodes.Child as own
+use Rattle.h5_arena.specs.declared.nodes.Child.TheVariants as own_is
 use Rattle.h5_arena.specs.ArenaModel.{child_view, child_views}
-use Rattle.h5_arena.specs.ChildTests.{child_text, first_text, is_child_text, last_text, texts_around, texts_meet}
+use Rattle.h5_arena.specs.ChildTests.{first_text, is_child_text, last_text, texts_around, texts_meet}
 use Rattle.h5_arena.proofs.ChildTexts.{around_above, around_after, around_before, around_within, either_case, joined-append_apart, joined-append_meets, joined-insert_apart, joined-insert_first, joined-insert_meets, joined-insert_node, joined-last_node, joined-last_text, met_removed}
+use Rattle.std.proofs.lemmas.Bool.{and_parts}
 
 pub on_err : {T E : Type 0} {P : Type 0} (r : Result T E) → P → OnErr r P
 on_err (Ok x) p = tt
@@ -27,17 +30,10 @@ pub node_of : (x : Child) → is_child_text x ≡ false → (n : ℕ) × (x ≡ 
 node_of (ChildNode n) e = (n, refl)
 node_of (ChildText t) e = cc
 
--- the text that a child tells of itself
-pub text_told : (x : Child) (told : Option (Bor (List ℕ))) (t : Bor (List ℕ)) → option_copied told ≡ child_text x → told ≡ Some t → x ≡ ChildText t.now
-text_told (ChildNode n) None t e is = cc
-text_told (ChildNode n) (Some s) t e is = cc
-text_told (ChildText u) None t e is = cc
-text_told (ChildText u) (Some s) t e is = cc
-
-pub text_is_told : (x : Child) (told : Option (Bor (List ℕ))) → option_copied told ≡ child_text x → is_child_text x ≡ true → told ≡ None → ⊥
-text_is_told (ChildNode n) told e is none = cc
-text_is_told (ChildText u) None e is none = cc
-text_is_told (ChildText u) (Some s) e is none = cc
+-- a child that is a text has one
+pub no_text : (x : own.Child) → is_child_text (child_view x) ≡ true → ((text : String Global) → x ≡ own_is.Text text → ⊥) → ⊥
+no_text (own_is.Node id) is none = cc
+no_text (own_is.Text text) is none = none text refl
 
 -- the child that is read at a place
 pub child_at : (cs : List own.Child) (i : ℕ) (x : own.Child) → i < length cs → x ≡ get_or cs i x → slice_get (child_views cs) i ≡ Some (child_view x)
@@ -63,21 +59,9 @@ grown cs i x x' t a b h e v w g =
     let same : t ≡ a = text_inj t a (sym g ∙ child_at cs i x h e ∙ ap (λ y. Some y) v) in
     map-set child_view cs i x' ∙ ap (set (child_views cs) i) (w ∙ rw same refl)
 
--- the text that stands at a place is the child there
-pub text_there : (cs : List own.Child) (i : ℕ) (x : own.Child) (t : List ℕ) → i < length cs → x ≡ get_or cs i x → slice_get (child_views cs) i ≡ Some (ChildText t) → child_view x ≡ ChildText t
-text_there cs i x t h e g = some_inj (child_view x) (ChildText t) (sym (child_at cs i x h e) ∙ g)
-  where
-    some_inj : (y z : Child) → Some y ≡ Some z → y ≡ z
-    some_inj y z e = cc
-
 -- a text and a node are not at one place
 pub not_both : (cs : List own.Child) (i : ℕ) (x : own.Child) (n : ℕ) (t : List ℕ) → i < length cs → x ≡ get_or cs i x → child_view x ≡ ChildNode n → slice_get (child_views cs) i ≡ Some (ChildText t) → ⊥
 not_both cs i x n t h e v g = let w : Some (ChildNode n) ≡ Some (ChildText t) = sym (child_at cs i x h e ∙ ap (λ y. Some y) v) ∙ g in cc
-
--- a last child
-pub pushed_first : (cs : List own.Child) (y : own.Child) (t : List ℕ) → length cs ≡ 0 → child_view y ≡ ChildText t → child_views (cs ++ y ∷ []) ≡ joined (child_views cs ++ ChildText t ∷ [])
-pushed_first [] y t l e = rw e refl
-pushed_first (c ∷ cs) y t l e = absurd (omega arith)
 
 pub pushed_node : (cs : List own.Child) (y : own.Child) (c : ℕ) → child_view y ≡ ChildNode c → AreParted (child_views cs) → child_views (cs ++ y ∷ []) ≡ joined (child_views cs ++ ChildNode c ∷ [])
 pushed_node cs y c w h = rw (map-append child_view cs (y ∷ []), w) (sym (joined-append_node (child_views cs) c h))
@@ -221,10 +205,6 @@ pub meet_at : (cs ms : List own.Child) (i : ℕ) (x y : own.Child) → length cs
 meet_at cs ms i x y l e h f =
     rw (last_at (child_views cs) i (child_view x) (simp length-map l) (child_at cs i x (omega arith) e), first_at (child_views ms) (child_view y) (child_at ms 0 y h f)) refl
 
-and_left : (a b : Bool) → (a && b) ≡ true → a ≡ true
-and_left true b e = refl
-and_left false b e = cc
-
 last_text_at : (cs : List Child) (i : ℕ) → length cs ≡ i + 1 → is_some (last_text cs) ≡ true → (t : List ℕ) × (slice_get cs i ≡ Some (ChildText t))
 last_text_at [] i l e = cc
 last_text_at (ChildText t ∷ []) zero l e = (t, refl)
@@ -240,7 +220,7 @@ some_length (c ∷ cs) e = omega arith
 
 pub meeting_last : (cs rs : List own.Child) (xs : List Child) (i : ℕ) → rs ≡ cs → i ≡ length cs - 1 → texts_meet (child_views cs) xs ≡ true → (t : List ℕ) × (slice_get (child_views rs) i ≡ Some (ChildText t))
 meeting_last cs rs xs i e l h =
-    let last = and_left _ _ h in
+    let last = (and_parts _ _ h).0 in
     let some : 0 < length cs = simp length-map at (some_length (child_views cs) last) in
     let t = last_text_at (child_views cs) i (simp length-map (omega arith)) last in
     (t.0, rw e t.1)
@@ -250,7 +230,7 @@ pub appended_meeting : (cs rs ms ds ps es : List own.Child) (i : ℕ) (u : List 
     → ((t : List ℕ) → slice_get (child_views rs) i ≡ Some (ChildText t) → child_views ps ≡ set (child_views rs) i (ChildText (t ++ u)))
     → texts_meet (child_views cs) (child_views ms) ≡ true → AreParted (child_views cs) → AreParted (child_views ms) → child_views es ≡ joined (child_views cs ++ child_views ms)
 appended_meeting cs rs ms ds ps es i u y e1 e2 e3 l ey h v grows meet p q =
-    let last = and_left _ _ meet in
+    let last = (and_parts _ _ meet).0 in
     let some : 0 < length cs = simp length-map at (some_length (child_views cs) last) in
     let t = meeting_last cs cs (child_views ms) i refl l meet in
     ap child_views e3 ∙ map-append child_view ps ds ∙ ap (λ xs. xs ++ child_views ds) (grows t.0 (rw e1 t.1) ∙ ap (λ zs. set (child_views zs) i (ChildText (t.0 ++ u))) e1)

@@ -1,24 +1,16 @@
 -- A forest has no more levels than nodes.
-use Rattle.std.proofs.Common.{◌≡◌, ◌≢◌, ℕ, ◌+◌, ◌<◌, ◌≤◌, Bool, true, false, ◌||◌, eqb, List, [], ◌∷◌, ap, arith, length, refl, rules, sym, tests}
-use Rattle.std.specs.Prelude.{Option, None, Some, if◌then◌else◌, nat_lt}
+use Rattle.std.proofs.Common.{◌≡◌, ◌≢◌, ℕ, ◌+◌, ◌<◌, ◌≤◌, Bool, true, false, ◌||◌, eqb, List, [], ◌∷◌, arith, length, refl, rules, sym, tests}
+use Rattle.std.specs.Prelude.{Option, None, Some, nat_lt}
 use Rattle.std.specs.List.{AllByRecursion, IsDistinct, list_any}
 use Rattle.std.proofs.lemmas.Bool.{eq-eqb, eqb-true}
 use Rattle.std.proofs.lemmas.Map.Steps.{length-le_from_distinct_below}
 use Prim.Native.Nat.{zero, suc}
 use Rattle.h5_interface.specs.Ancestors.{Further, IsAncestor, Parent}
-use Rattle.h5_interface.specs.Forest.{Forest, IsForest, IsNode, Node, below_of, contents_of, count, is_at, nodes, parent_of}
+use Rattle.h5_interface.specs.Forest.{Forest, IsForest, IsNode, Node, below_of, contents_of, count, nodes, parent_of}
 use Rattle.h5_interface.proofs.AncestorLaws.{ancestor_trans}
 use Rattle.h5_interface.proofs.ChildLaws.{count-append}
-use Rattle.h5_interface.proofs.ForestLaws.{ancestor_is_node, is_some, parent_of_child}
+use Rattle.h5_interface.proofs.ForestLaws.{ancestor_is_node, is_some, parent_of_child, at_parent}
 use Rattle.h5_arena.specs.NodeCalls.{shown_children}
-
-at_parent : (p : ℕ) (o : Option ℕ) → 0 < (if is_at p o then 1 else 0) → o ≡ Some p
-at_parent p None h = absurd (omega arith)
-at_parent p (Some q) h = case (eqb p q) refl h
-  where
-    case : (b : Bool) → eqb p q ≡ b → 0 < (if b then 1 else 0) → Some q ≡ Some p
-    case true e w = ap (λ x. Some x) (sym (eqb-true p q e))
-    case false e w = absurd (omega arith)
 
 -- contents have their template as parent
 pub parent_of_contents : (f : Forest) (p c : ℕ) → IsForest f → contents_of f p ≡ Some c → parent_of f c ≡ Some p

@@ -3,7 +3,7 @@ mod BalanceLaws
 pub mod CallConditions
 mod LevelLaws
 mod NodeCallLaws
-mod ChildTexts
+pub mod ChildTexts
 mod ChildViews
 mod MakeLaws
 mod MoveLaws

@@ -45,10 +45,6 @@ popped ns ps qs zs v e w h =
     let long' : length qs ≡ length (node_views ns) + 1 = sym (length-map qs node_view) ∙ long ∙ length-append (node_views ns) (v ∷ []) in
     ap node_views h ∙ sym (take-map node_view (length qs - 1) qs) ∙ ap (take (length qs - 1)) (w ∙ e) ∙ take-front (node_views ns) v (length qs - 1) (omega (arith, long'))
 
-apart_next : (n m k : ℕ) (b : Bool) → m ≡ n + 1 → (k == n) ≡ true → (k == m) ≡ b → (k == m) ≡ false
-apart_next n m k true e w v = absurd (let x : k ≡ n = eqb-true k n w in let y : k ≡ m = eqb-true k m v in omega arith)
-apart_next n m k false e w v = v
-
 apart_before : (n m k : ℕ) (b : Bool) → m ≡ n + 1 → (k == m) ≡ true → (k == n) ≡ b → (k == n) ≡ false
 apart_before n m k true e w v = absurd (let x : k ≡ m = eqb-true k m w in let y : k ≡ n = eqb-true k n v in omega arith)
 apart_before n m k false e w v = v

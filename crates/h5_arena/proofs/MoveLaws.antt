@@ -1,7 +1,6 @@
 -- Children that move from one node to another.
 use Rattle.std.proofs.Common.{◌≡◌, ◌≢◌, ◌∙◌, ℕ, ◌+◌, ◌-◌, ◌<◌, ◌≤◌, Bool, true, false, cond, eqb, List, [], ◌∷◌, ◌++◌, ap, arith, drop, get_or, length, refl, sym, take}
 use Rattle.std.specs.Prelude.{◌==◌, ◌||◌, if◌then◌else◌, nat_lt, Option, None, Some, slice_get}
-use Rattle.std.specs.Option.{option_map}
 use Rattle.std.proofs.Math.ListN.{set}
 use Rattle.std.proofs.lemmas.Bool.{eq-eqb, eqb-true}
 use Rattle.std.proofs.lemmas.Bool.Decides.{nat_tests}
@@ -19,14 +18,11 @@ use Rattle.h5_arena.specs.ArenaModel.{child_view, child_views, children_in, fore
 use Rattle.h5_arena.specs.ChildTests.{is_node_at, is_this}
 use Rattle.h5_arena.proofs.ChildViews.{child_at, set-back}
 use Rattle.h5_arena.proofs.NodeWrites.{child_within, children_at, children_write, node_at, same_write}
+use Rattle.h5_interface.proofs.RehangLaws.{id_map}
 
 -- the same nodes get a parent
 pub set_parents_same : (a b : ℕ → Bool) (q : Option ℕ) (f : Forest) → ((n : ℕ) → a n ≡ b n) → set_parents a q f ≡ set_parents b q f
 set_parents_same a b q f h = ap (λ chosen. set_parents chosen q f) (λ i n. h n i)
-
-id_map : (o : Option Node) → option_map {T = Node} {U = Node} (λ d. d) o ≡ o
-id_map None = refl
-id_map (Some d) = refl
 
 -- no node gets a parent
 pub set_parents_none : (a : ℕ → Bool) (q : Option ℕ) (f : Forest) → ((n : ℕ) → a n ≡ false) → f ≡ set_parents a q f
@@ -138,9 +134,6 @@ moved_all f g h from to start xs ys d apart e x y l parted w v =
 child_held : (ns : List NodeData) (p c : ℕ) → IsForest (forest_in ns) → 0 < count c (nodes (children_of (forest_in ns) p)) → c < length ns
 child_held ns p c k h = child_within ns p c (parent_of_child (forest_in ns) p c k h)
 
-either_more : (a b : ℕ) → 0 < a + b → (0 < a → ⊥) → 0 < b
-either_more a b h k = grind (arith, nat_tests)
-
 -- all that stand at `to` now are nodes
 pub moved_held : (ns : List NodeData) (g : Forest) (from to c : ℕ) (xs ys : List Child) (d : Node) → IsForest (forest_in ns) → from ≢ to → slice_get (node_views ns) to ≡ Some d → d.children ≡ xs → children_of (forest_in ns) from ≡ ys
     → g ≡ edit_children to (λ cs. cs ++ ys) (edit_children from (λ _. []) (forest_in ns)) → 0 < count c (nodes (children_of g to)) → c < length ns
@@ -156,7 +149,6 @@ moved_held ns g from to c xs ys d k apart e x y w h =
 pub no_node : (n : ℕ) (x : own.Child) → ((id : NodeId) → x ≡ own_is.Node id → ⊥) → is_this n (child_view x) ≡ false
 no_node n (own_is.Node id) none = absurd (none id refl)
 no_node n (own_is.Text text) none = refl
-no_node n (own_is.Blank text) none = refl
 
 -- the child that is read at a node
 pub present : (ns : List NodeData) (p at : ℕ) (d : NodeData) (x : own.Child) → p < length ns → d ≡ get_or ns p d → x ≡ get_or (children_in d.children) at x → at < length (children_of (forest_in ns) p) → slice_get (children_of (forest_in ns) p) at ≡ Some (child_view x)

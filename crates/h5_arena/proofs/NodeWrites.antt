@@ -16,9 +16,10 @@ use Rattle.h5_interface.specs.Seen.{Seen}
 use Rattle.h5_interface.specs.declared.marks.QuirksMode.{QuirksMode}
 use Rattle.h5_names.specs.AttributeText.{AttributeText}
 use Rattle.h5_arena.specs.declared.nodes.NodeData.{NodeData}
-use Rattle.h5_arena.specs.ArenaModel.{ArenaView, arena_choices, at_node, child_views, children_in, forest_in, forest_of, link_place, marks_at, name_of_kind, node_view, node_views}
+use Rattle.h5_arena.specs.ArenaModel.{ArenaView, arena_choices, at_node, child_views, children_in, forest_in, forest_of, marks_at, name_of_kind, node_view, node_views}
 use Rattle.h5_arena.specs.declared.nodes.NodeId.{NodeId}
 use Rattle.h5_names.specs.declared.qualified.QualName.{QualName}
+use Rattle.h5_interface.proofs.RehangLaws.{id_map}
 
 get-set : {A : Type 0} (xs : List A) (i : ℕ) (x : A) (m : ℕ) → i < length xs → slice_get (set xs i x) m ≡ cond (m == i) (Some x) (slice_get xs m)
 get-set [] i x m h = absurd (omega arith)
@@ -33,10 +34,6 @@ replaced i v f = record f { node = λ m. cond (m == i) (Some v) (f.node m) }
 
 write_is : (ns : List NodeData) (i : ℕ) (d : NodeData) → i < length ns → forest_in (set ns i d) ≡ replaced i (node_view d) (forest_in ns)
 write_is ns i d h = rw (map-set node_view ns i d) (same_forest _ (replaced i (node_view d) (forest_in ns)) refl (length-set (node_views ns) i (node_view d)) (λ m. get-set (node_views ns) i (node_view d) m (simp length-map h)))
-
-id_map : (o : Option Node) → option_map {T = Node} {U = Node} (λ d. d) o ≡ o
-id_map None = refl
-id_map (Some d) = refl
 
 replaced_edit : (f : Forest) (p : ℕ) (v : Node) (h : List Child → List Child) → f.node p ≡ Some v → replaced p (record v { children = joined (h v.children) }) f ≡ edit_children p h f
 replaced_edit f p v h e = same_forest _ (edit_children p h f) refl refl (λ m. at m (m == p) refl)
@@ -124,12 +121,6 @@ parent_within ns p c k e = node_exists ns p (k.inside p c e)
 
 pub child_within : (ns : List NodeData) (p c : ℕ) → parent_of (forest_in ns) c ≡ Some p → c < length ns
 child_within ns p c e = node_exists ns c (child_is_node (forest_in ns) c p e)
-
-pub parent_at : (ns : List NodeData) (c : ℕ) (d : NodeData) → c < length ns → d ≡ get_or ns c d → parent_of (forest_in ns) c ≡ link_place d.parent
-parent_at ns c d h e = rw (node_at ns c d h e) refl
-
-pub kind_at : (ns : List NodeData) (c : ℕ) (d : NodeData) → c < length ns → d ≡ get_or ns c d → kind_of (forest_in ns) c ≡ Some (node_view d).kind
-kind_at ns c d h e = rw (node_at ns c d h e) refl
 
 pub children_at : (ns : List NodeData) (p : ℕ) (d : NodeData) → p < length ns → d ≡ get_or ns p d → children_of (forest_in ns) p ≡ child_views (children_in d.children)
 children_at ns p d h e = rw (node_at ns p d h e) refl

@@ -12,7 +12,7 @@ use Rattle.h5_arena.specs.ArenaModel.{child_view, child_views}
 use Rattle.h5_arena.specs.NodeCalls.{calls_of, calls_of_children, child_calls, shown_children}
 use Rattle.h5_arena.specs.OpenNodes.{AreNodes, Begins, OpensChild, calls_left, end_calls}
 use Rattle.h5_arena.specs.declared.nodes.Child.{Child}
-use Rattle.h5_arena.specs.declared.nodes.Child.TheVariants.{Blank, Node, Text}
+use Rattle.h5_arena.specs.declared.nodes.Child.TheVariants.{Node, Text}
 use Rattle.h5_arena.specs.declared.walk.OpenNode.{OpenNode}
 use Rattle.h5_arena.proofs.NodeCallLaws.{shown_are_nodes, weight_of, weight_of_children, weight_of_node}
 
@@ -163,7 +163,6 @@ first_held f current x rest e h = at x (subst (λ xs. AreNodes f (child_views xs
     at : (x : Child) → AreNodes f (child_view x ∷ child_views rest.now) → AreNodes f (child_view x ∷ []) × AreNodes f (child_views rest.now)
     at (Node id) h = ((h.0, tt), h.1)
     at (Text text) h = (tt, h)
-    at (Blank text) h = (tt, h)
 
 -- less is left where a child was opened
 pub less_opened : (f : Forest) (current opened : OpenNode) (around : List OpenNode) (x : Child) (rest : Bor (List Child)) → IsForest f → current.rest.now ≡ x ∷ rest.now → OpensChild f (child_view x) (Ok (Some opened))
@@ -172,7 +171,6 @@ less_opened f current opened around x rest k e h = at x e h
   where
     at : (x : Child) → current.rest.now ≡ x ∷ rest.now → OpensChild f (child_view x) (Ok (Some opened)) → weight_left f opened + weight_waiting f (around ++ behind current rest ∷ []) < weight_left f current + weight_waiting f around
     at (Text text) e h = absurd h
-    at (Blank text) e h = absurd h
     at (Node id) e h =
         let more = weight_waiting_more f around (behind current rest) in
         let own = weight_of_node f id.index k in
@@ -183,5 +181,4 @@ less_opened f current opened around x rest k e h = at x e h
 -- what is left of a child that was opened are nodes or texts
 pub opened_held : (f : Forest) (x : Child) (opened : OpenNode) → IsForest f → OpensChild f (child_view x) (Ok (Some opened)) → AreNodes f (child_views opened.rest.now)
 opened_held f (Text text) opened k h = absurd h
-opened_held f (Blank text) opened k h = absurd h
 opened_held f (Node id) opened k h = subst (AreNodes f) (sym h) (shown_are_nodes f id.index k)

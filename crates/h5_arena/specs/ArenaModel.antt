@@ -1,5 +1,5 @@
 -- What an arena holds: its nodes in the order in which they were made, and the forest that they are.
-use Rattle.std.specs.Prelude.{◌<◌, ◌+◌, ℕ, ◌==◌, Bool, true, false, codes, cond, if◌then◌else◌, length, List, [], ◌∷◌, map, Option, None, Some, String, slice_get, string_bytes, refl}
+use Rattle.std.specs.Prelude.{◌≡◌, ◌<◌, ◌+◌, ℕ, ◌==◌, Bool, true, false, cond, length, List, [], ◌∷◌, map, Option, None, Some, String, slice_get, string_bytes, refl}
 use Rattle.std.specs.Option.{option_map, option_map_or}
 use Rattle.std.specs.Arc.{arc_value}
 use Rattle.std.specs.declared.alloc.Global.{Global}
@@ -15,7 +15,6 @@ use Rattle.h5_interface.specs.Seen.{Seen, no_flags, no_marks, plain}
 use Rattle.h5_interface.specs.SinkChoices.{Rearranges, SinkChoices}
 use Rattle.h5_arena.specs.declared.below.Below.{Below}
 use Rattle.h5_arena.specs.declared.below.Below.TheVariants as below_is
-use Rattle.h5_arena.specs.declared.blank.Blank.{Blank}
 use Rattle.h5_arena.specs.declared.link.Link.{Link}
 use Rattle.h5_arena.specs.declared.nodes.NodeData.{NodeData}
 use Rattle.h5_arena.specs.declared.nodes.NodeId.{NodeId}
@@ -33,24 +32,9 @@ kind_view (Comment text) = CommentNode (string_bytes text)
 kind_view (Instruction target text) = InstructionNode (string_bytes target) (string_bytes text)
 kind_view Fragment = FragmentNode
 
--- the text that a blank is
-abbrev pub blank_text : Blank → List ℕ
-blank_text blank =
-    if blank.length == 1 then codes "\n"
-    else (if blank.length == 2 then codes "\n "
-    else (if blank.length == 3 then codes "\n  "
-    else (if blank.length == 4 then codes "\n   "
-    else (if blank.length == 5 then codes "\n    "
-    else (if blank.length == 6 then codes "\n     "
-    else (if blank.length == 7 then codes "\n      "
-    else (if blank.length == 8 then codes "\n       "
-    else (if blank.length == 9 then codes "\n        "
-    else []))))))))
-
 abbrev pub child_view : child.Child → forest.Child
 child_view (child_is.Node id) = forest.ChildNode id.index
 child_view (child_is.Text text) = forest.ChildText (string_bytes text)
-child_view (child_is.Blank blank) = forest.ChildText (blank_text blank)
 
 abbrev pub child_views : List child.Child → List forest.Child
 child_views = map child_view
@@ -117,6 +101,10 @@ forest_seen a = forest_of a.nodes
 -- each error counts, and so does that any was lost
 abbrev pub seen_of : ArenaView → Seen
 seen_of a = record { forest = forest_of a.nodes; quirks = a.quirks; errors = length a.errors + cond a.errors_lost 1 0 }
+
+-- the texts of the errors, and whether one was lost, stay as they were
+abbrev pub KeepsErrors : (old new : ArenaView) → Type 0
+KeepsErrors old new = (new.errors ≡ old.errors) × (new.errors_lost ≡ old.errors_lost)
 
 abbrev pub texts_of : List (String Global) → List (List ℕ)
 texts_of = map string_bytes
@@ -185,11 +173,4 @@ arena_choices = record {
   attach_rearranges = λ f host template attrs k a b attached. same_forest f k;
   after_option_copy = λ f option. f;
   option_copy_rearranges = λ f option k there. same_forest f k;
-}
-
--- the same, but that every shadow root is said to be attached, and nothing changes
-abbrev pub attaching_choices : SinkChoices
-attaching_choices = record arena_choices {
-  attaches = λ f host template attrs. true;
-  attach_rearranges = λ f host template attrs k a b attached. same_forest f k;
 }

@@ -13,11 +13,6 @@ abbrev pub is_child_text : Child → Bool
 is_child_text (ChildNode n) = false
 is_child_text (ChildText t) = true
 
--- the text that a child is
-abbrev pub child_text : Child → Option (List ℕ)
-child_text (ChildNode n) = None
-child_text (ChildText t) = Some t
-
 -- the text at the end, and the one at the front
 abbrev pub last_text : List Child → Option (List ℕ)
 last_text [] = None

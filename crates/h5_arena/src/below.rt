@@ -4,7 +4,6 @@ ghost use Rattle.h5_interface.specs.Changes.{insert_before, joined, without};
 ghost use Rattle.h5_interface.specs.Forest.{AreParted, ChildNode, ChildText, count, nodes};
 ghost use Rattle.h5_arena.specs.ArenaModel.{IsList, child_views, children_in};
 
-use super::blank::{self, text_child};
 use super::children;
 use super::nodes::{Child, NodeId};
 use std::alloc::{AllocError, Global};
@@ -43,8 +42,8 @@ impl Below {
     }
 }
 
-// A list of a child alone, with room for two more: most nodes that have a few children have two, three or five, blanks among
-// them.
+// A list of a child alone, with room for two more: most nodes that have a few children have two, three or five, texts of blanks
+// among them.
 fn list_of(alloc: Global, children: &mut Below) -> Result<Vec<Child>, AllocError>
     ensures ok { OnOk result (children_in children.new ≡ []) }
     ensures list { IfOk result (λ list. list.items ≡ children_in children.old) }
@@ -103,11 +102,11 @@ pub(crate) fn push_text(alloc: Global, children: &mut Below, text: String) -> Re
     ensures err { OnErr result (child_views (children_in children.new) ≡ child_views (children_in children.old)) }
 {
     match children {
-        Below::One(Child::Node(_)) => add_child(alloc, children, text_child(text)),
-        Below::One(before) => blank::push_str(alloc, before, text.as_str()),
+        Below::One(Child::Text(before)) => before.push_str(text.as_str()),
+        Below::One(Child::Node(_)) => add_child(alloc, children, Child::Text(text)),
         Below::List(list) => {
             if list.is_empty() {
-                *children = Below::One(text_child(text));
+                *children = Below::One(Child::Text(text));
                 return Ok(());
             }
             children::push_text(list, text)

@@ -6,7 +6,6 @@ ghost use Rattle.h5_interface.specs.Forest.{AreParted, ChildNode, ChildText, cou
 ghost use Rattle.h5_arena.specs.ArenaModel.{child_view, child_views};
 ghost use Rattle.h5_arena.specs.ChildTests.{is_child_node, is_child_text, texts_around, texts_meet};
 
-use super::blank::{self, text_child};
 use super::nodes::{Child, NodeId};
 use std::alloc::AllocError;
 use std::mem;
@@ -17,7 +16,7 @@ fn is_node(child: &Child, index: usize) -> bool
 {
     match child {
         Child::Node(id) => id.index == index,
-        Child::Text(_) | Child::Blank(_) => false,
+        Child::Text(_) => false,
     }
 }
 
@@ -26,7 +25,7 @@ fn is_text(child: &Child) -> bool
 {
     match child {
         Child::Node(_) => false,
-        Child::Text(_) | Child::Blank(_) => true,
+        Child::Text(_) => true,
     }
 }
 
@@ -58,9 +57,13 @@ fn push_to_text(children: &mut Vec<Child>, at: usize, text: &str) -> Result<(), 
     ensures len { vec_len children.new ≡ vec_len children.old }
     ensures room { vec_capacity children.new ≡ vec_capacity children.old }
 {
-    let alloc = *children.allocator();
-    blank::push_str(alloc, &mut children[at], text)?;
-    Ok(())
+    match &mut children[at] {
+        Child::Text(before) => {
+            before.push_str(text)?;
+            Ok(())
+        }
+        Child::Node(_) => unreachable!(),
+    }
 }
 
 // A text as the last child.
@@ -72,14 +75,14 @@ pub(crate) fn push_text(children: &mut Vec<Child>, text: String) -> Result<(), A
 {
     let count = children.len();
     if count == 0 {
-        children.push(text_child(text))?;
+        children.push(Child::Text(text))?;
         return Ok(());
     }
     if is_text(&children[count - 1]) {
         push_to_text(children, count - 1, text.as_str())?;
         return Ok(());
     }
-    children.push(text_child(text))?;
+    children.push(Child::Text(text))?;
     Ok(())
 }
 
@@ -112,14 +115,14 @@ pub(crate) fn insert_text(
     ensures err { OnErr result (child_views children.new.items ≡ child_views children.old.items) }
 {
     if at == 0 {
-        children.insert(at, text_child(text))?;
+        children.insert(at, Child::Text(text))?;
         return Ok(());
     }
     if is_text(&children[at - 1]) {
         push_to_text(children, at - 1, text.as_str())?;
         return Ok(());
     }
-    children.insert(at, text_child(text))?;
+    children.insert(at, Child::Text(text))?;
     Ok(())
 }
 
@@ -149,12 +152,11 @@ fn remove_between(children: &mut Vec<Child>, at: usize, id: NodeId) -> Result<()
     ensures err { OnErr result (child_views children.new.items ≡ child_views children.old.items) }
 {
     // The text behind the node is taken out, and the node stands in its place, until it is joined.
-    let after = mem::replace(&mut children[at + 1], Child::Node(id));
-    let Some(text) = after.text() else {
+    let Child::Text(after) = mem::replace(&mut children[at + 1], Child::Node(id)) else {
         unreachable!();
     };
-    if let Err(e) = push_to_text(children, at - 1, text) {
-        children[at + 1] = after;
+    if let Err(e) = push_to_text(children, at - 1, after.as_str()) {
+        children[at + 1] = Child::Text(after);
         return Err(e);
     }
     let _ = children.remove(at + 1);
@@ -205,9 +207,9 @@ fn append_meeting(children: &mut Vec<Child>, moved: &mut Vec<Child>) -> Result<(
     // After this there is room for all that is moved, so that only the text can be refused.
     children.reserve(moved.len())?;
     let last = children.len() - 1;
-    match moved[0].text() {
-        None => unreachable!(),
-        Some(first) => push_to_text(children, last, first)?,
+    match &moved[0] {
+        Child::Node(_) => unreachable!(),
+        Child::Text(first) => push_to_text(children, last, first.as_str())?,
     }
     let _ = moved.remove(0);
     match children.append(moved) {

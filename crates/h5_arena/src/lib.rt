@@ -3,7 +3,6 @@
 
 mod attributes;
 mod below;
-mod blank;
 mod children;
 pub mod laws;
 mod link;
@@ -16,7 +15,6 @@ mod sink;
 mod tree;
 mod walk;
 
-pub use blank::Blank;
 pub use nodes::{Child, Kind, NodeId};
 pub use tree::Arena;
 pub use walk::NodeRef;

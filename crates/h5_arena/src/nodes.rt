@@ -1,10 +1,5 @@
 //! The nodes of an arena.
-ghost use Rattle.std.specs.Prelude.{◌≡◌, option_copied};
-ghost use Rattle.h5_arena.specs.ArenaModel.{child_view};
-ghost use Rattle.h5_arena.specs.ChildTests.{child_text};
-
 use super::below::Below;
-use super::blank::Blank;
 use super::link::Link;
 use h5_interface::ElementFlags;
 use h5_names::{Attribute, QualName};
@@ -37,27 +32,10 @@ pub enum Kind {
 }
 
 /// What stands below a node. No text is empty, and no two texts are neighbours.
-///
-/// A contract sees a blank as the text that it is.
 #[derive(Debug, Drop)]
 pub enum Child {
     Node(NodeId),
     Text(String),
-    /// A text as it often stands between tags, which takes no memory.
-    Blank(Blank),
-}
-
-impl Child {
-    /// The text, where this is one, of either kind, and nothing where it is a node.
-    pub fn text(&self) -> Option<&str>
-        ensures { option_copied result ≡ child_text (child_view self.now) }
-    {
-        match self {
-            Child::Node(_) => None,
-            Child::Text(text) => Some(text.as_str()),
-            Child::Blank(blank) => Some(blank.as_str()),
-        }
-    }
 }
 
 /// A node. What it is, elements of one name share.

@@ -1,7 +1,10 @@
 //! The arena as a sink of a tree builder.
-ghost use Rattle.std.specs.Prelude.{◌≡◌, ◌≤◌, ◌<◌, ◌⊎◌, ◌++◌, ◌∷◌, [], OnOk, OnErr, true};
-ghost use Rattle.h5_interface.specs.Seen.{CanAppend, CanAppendBasedOnParent, CanInsertBefore, after_append, after_append_before, after_append_by, child_of};
-ghost use Rattle.h5_arena.specs.ArenaModel.{ArenaView, arena_choices, place, seen_of};
+ghost use Rattle.std.specs.Prelude.{◌≡◌, ◌≤◌, ◌<◌, ◌⊎◌, ◌++◌, ◌∷◌, [], IfOk, OnOk, OnErr, string_bytes, true};
+ghost use Rattle.std.specs.Option.{option_map};
+ghost use Rattle.h5_names.specs.AttributeText.{attribute_texts};
+ghost use Rattle.h5_interface.specs.Forest.{CommentNode, InstructionNode, IsElement, IsNode};
+ghost use Rattle.h5_interface.specs.Seen.{CanAppend, CanAppendBasedOnParent, CanDetach, CanInsertBefore, CanReparent, after_add_attrs, after_append, after_append_before, after_append_by, after_append_doctype, after_associate, after_attach, after_create, after_create_element, after_option_copy, after_quirks, after_remove, after_reparent, after_started, child_of};
+ghost use Rattle.h5_arena.specs.ArenaModel.{ArenaView, KeepsErrors, arena_choices, place, seen_of};
 
 use super::link::Link;
 use super::nodes::{Kind, NodeId};
@@ -24,7 +27,10 @@ impl TreeSink for Arena {
 
     ghost told = { seen_of };
 
-    fn finish(self) -> Arena {
+    /// The arena, as it is.
+    fn finish(self) -> Arena
+        ensures { result ≡ self }
+    {
         self
     }
 
@@ -81,20 +87,38 @@ impl TreeSink for Arena {
         name: QualName,
         attrs: Vec<Attribute>,
         flags: ElementFlags,
-    ) -> Result<NodeId, AllocError> {
+    ) -> Result<NodeId, AllocError>
+        ensures handle { IfOk result (λ handle. handle.index ≡ arena_choices.fresh (seen_of self.old).forest) }
+        ensures ok { OnOk result
+            (seen_of self.new ≡ after_create_element arena_choices name (attribute_texts attrs.items) flags (seen_of self.old)) }
+        ensures err { OnErr result (seen_of self.new ≡ seen_of self.old) }
+        ensures errors { KeepsErrors self.old self.new }
+    {
         let index = self.nodes.len();
         let (nodes, shared) = (&mut self.nodes, &mut self.shared);
         makes::push_element(nodes, shared, self.alloc, name, attrs, flags)?;
         Ok(NodeId { index })
     }
 
-    fn create_comment(&mut self, text: String) -> Result<NodeId, AllocError> {
+    fn create_comment(&mut self, text: String) -> Result<NodeId, AllocError>
+        ensures handle { IfOk result (λ handle. handle.index ≡ arena_choices.fresh (seen_of self.old).forest) }
+        ensures ok { OnOk result
+            (seen_of self.new ≡ after_create arena_choices (CommentNode (string_bytes text)) (seen_of self.old)) }
+        ensures err { OnErr result (seen_of self.new ≡ seen_of self.old) }
+        ensures errors { KeepsErrors self.old self.new }
+    {
         let index = self.nodes.len();
         makes::push_plain(&mut self.nodes, self.alloc, Kind::Comment(text))?;
         Ok(NodeId { index })
     }
 
-    fn create_pi(&mut self, target: String, data: String) -> Result<NodeId, AllocError> {
+    fn create_pi(&mut self, target: String, data: String) -> Result<NodeId, AllocError>
+        ensures handle { IfOk result (λ handle. handle.index ≡ arena_choices.fresh (seen_of self.old).forest) }
+        ensures ok { OnOk result
+            (seen_of self.new ≡ after_create arena_choices (InstructionNode (string_bytes target) (string_bytes «data»)) (seen_of self.old)) }
+        ensures err { OnErr result (seen_of self.new ≡ seen_of self.old) }
+        ensures errors { KeepsErrors self.old self.new }
+    {
         let index = self.nodes.len();
         let kind = Kind::Instruction { target, text: data };
         makes::push_plain(&mut self.nodes, self.alloc, kind)?;
@@ -105,6 +129,7 @@ impl TreeSink for Arena {
         requires { CanAppend (seen_of self.old).forest parent.now.index (child_of place child) }
         ensures ok { OnOk result (seen_of self.new ≡ after_append parent.now.index (child_of place child) (seen_of self.old)) }
         ensures err { OnErr result (seen_of self.new ≡ seen_of self.old) }
+        ensures errors { KeepsErrors self.old self.new }
     {
         match child {
             NodeOrText::AppendNode(id) => {
@@ -127,6 +152,7 @@ impl TreeSink for Arena {
         ensures ok { OnOk result
             (seen_of self.new ≡ after_append_before sibling.now.index (child_of place child) (seen_of self.old)) }
         ensures err { OnErr result (seen_of self.new ≡ seen_of self.old) }
+        ensures errors { KeepsErrors self.old self.new }
     {
         match child {
             NodeOrText::AppendNode(id) => {
@@ -150,6 +176,7 @@ impl TreeSink for Arena {
         ensures ok { OnOk result
             (seen_of self.new ≡ after_append_by element.now.index prev.now.index (child_of place child) (seen_of self.old)) }
         ensures err { OnErr result (seen_of self.new ≡ seen_of self.old) }
+        ensures errors { KeepsErrors self.old self.new }
     {
         match self.nodes[element.index].parent.node() {
             Some(_) => {
@@ -168,7 +195,12 @@ impl TreeSink for Arena {
         name: String,
         public_id: String,
         system_id: String,
-    ) -> Result<(), AllocError> {
+    ) -> Result<(), AllocError>
+        ensures ok { OnOk result
+            (seen_of self.new ≡ after_append_doctype arena_choices (string_bytes name) (string_bytes public_id) (string_bytes system_id) (seen_of self.old)) }
+        ensures err { OnErr result (seen_of self.new ≡ seen_of self.old) }
+        ensures errors { KeepsErrors self.old self.new }
+    {
         let kind = Kind::Doctype {
             name,
             public_id,
@@ -182,28 +214,51 @@ impl TreeSink for Arena {
         &mut self,
         target: &NodeId,
         attrs: Vec<Attribute>,
-    ) -> Result<(), AllocError> {
+    ) -> Result<(), AllocError>
+        requires { IsElement (seen_of self.old).forest target.now.index }
+        ensures ok { OnOk result
+            (seen_of self.new ≡ after_add_attrs target.now.index (attribute_texts attrs.items) (seen_of self.old)) }
+        ensures err { OnErr result (seen_of self.new ≡ seen_of self.old) }
+        ensures errors { KeepsErrors self.old self.new }
+    {
         let node = &mut self.nodes[target.index];
         attributes::add_missing(&mut node.attrs, attrs)?;
         Ok(())
     }
 
-    fn remove_from_parent(&mut self, target: &NodeId) -> Result<(), AllocError> {
+    fn remove_from_parent(&mut self, target: &NodeId) -> Result<(), AllocError>
+        requires { CanDetach (seen_of self.old).forest target.now.index }
+        ensures ok { OnOk result (seen_of self.new ≡ after_remove target.now.index (seen_of self.old)) }
+        ensures err { OnErr result (seen_of self.new ≡ seen_of self.old) }
+        ensures errors { KeepsErrors self.old self.new }
+    {
         links::detach(&mut self.nodes, *target)?;
         Ok(())
     }
 
-    fn reparent_children(&mut self, from: &NodeId, to: &NodeId) -> Result<(), AllocError> {
+    fn reparent_children(&mut self, from: &NodeId, to: &NodeId) -> Result<(), AllocError>
+        requires { CanReparent (seen_of self.old).forest from.now.index to.now.index }
+        ensures ok { OnOk result (seen_of self.new ≡ after_reparent from.now.index to.now.index (seen_of self.old)) }
+        ensures err { OnErr result (seen_of self.new ≡ seen_of self.old) }
+        ensures errors { KeepsErrors self.old self.new }
+    {
         moves::reparent(&mut self.nodes, self.alloc, *from, *to)?;
         Ok(())
     }
 
-    fn mark_script_already_started(&mut self, script: &NodeId) {
+    fn mark_script_already_started(&mut self, script: &NodeId)
+        requires { IsElement (seen_of self.old).forest script.now.index }
+        ensures started { seen_of self.new ≡ after_started arena_choices script.now.index (seen_of self.old) }
+        ensures errors { KeepsErrors self.old self.new }
+    {
         let node = &mut self.nodes[script.index];
         node.started = true;
     }
 
-    fn pop(&mut self, element: &NodeId) {
+    /// Nothing changes.
+    fn pop(&mut self, element: &NodeId)
+        ensures { self.new ≡ self.old }
+    {
         let _ = element;
     }
 
@@ -212,17 +267,30 @@ impl TreeSink for Arena {
         target: &NodeId,
         form: &NodeId,
         nodes: (&NodeId, Option<&NodeId>),
-    ) {
+    )
+        requires target { IsElement (seen_of self.old).forest target.now.index }
+        requires form { IsNode (seen_of self.old).forest form.now.index }
+        requires place { IsNode (seen_of self.old).forest nodes.0.now.index }
+        ensures associated { seen_of self.new ≡ after_associate arena_choices target.now.index form.now.index nodes.entry.0.now.index
+            (option_map (λ outer. outer.now.index) nodes.entry.1) (seen_of self.old) }
+        ensures errors { KeepsErrors self.old self.new }
+    {
         let _ = nodes;
         let node = &mut self.nodes[target.index];
         node.form = Link::to(*form);
     }
 
-    fn set_quirks_mode(&mut self, mode: QuirksMode) {
+    fn set_quirks_mode(&mut self, mode: QuirksMode)
+        ensures quirks { seen_of self.new ≡ after_quirks mode (seen_of self.old) }
+        ensures errors { KeepsErrors self.old self.new }
+    {
         self.quirks = mode;
     }
 
-    fn set_current_line(&mut self, line: u64) {
+    /// Nothing changes.
+    fn set_current_line(&mut self, line: u64)
+        ensures { self.new ≡ self.old }
+    {
         let _ = line;
     }
 
@@ -242,7 +310,15 @@ impl TreeSink for Arena {
         host: &NodeId,
         template: &NodeId,
         attrs: &[Attribute],
-    ) -> Result<bool, AllocError> {
+    ) -> Result<bool, AllocError>
+        requires host { IsNode (seen_of self.old).forest host.now.index }
+        requires template { IsNode (seen_of self.old).forest template.now.index }
+        ensures answer { IfOk result (λ attached. attached ≡ arena_choices.attaches (seen_of self.old).forest host.now.index template.now.index (attribute_texts attrs.now)) }
+        ensures ok { OnOk result
+            (seen_of self.new ≡ after_attach arena_choices host.now.index template.now.index (attribute_texts attrs.now) (seen_of self.old)) }
+        ensures err { OnErr result (seen_of self.new ≡ seen_of self.old) }
+        ensures errors { KeepsErrors self.old self.new }
+    {
         let _ = host;
         let _ = template;
         let _ = attrs;
@@ -252,7 +328,12 @@ impl TreeSink for Arena {
     fn maybe_clone_an_option_into_selectedcontent(
         &mut self,
         option: &NodeId,
-    ) -> Result<(), AllocError> {
+    ) -> Result<(), AllocError>
+        requires { IsElement (seen_of self.old).forest option.now.index }
+        ensures ok { OnOk result (seen_of self.new ≡ after_option_copy arena_choices option.now.index (seen_of self.old)) }
+        ensures err { OnErr result (seen_of self.new ≡ seen_of self.old) }
+        ensures errors { KeepsErrors self.old self.new }
+    {
         let _ = option;
         Ok(())
     }

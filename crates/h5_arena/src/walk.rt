@@ -1,8 +1,7 @@
 //! The walk of a serializer over a node of an arena (HTML standard, section 13.3, "Serializing HTML
 //! fragments").
-ghost use Rattle.std.specs.Prelude.{◌≡◌, ◌∷◌, [], IfOk, None, Some, option_copied};
-ghost use Rattle.h5_interface.specs.Forest.{ElementNode, Forest};
-ghost use Rattle.h5_serialize.specs.Call.{TextOf};
+ghost use Rattle.std.specs.Prelude.{◌≡◌, ◌∷◌, [], Some, option_copied};
+ghost use Rattle.h5_interface.specs.Forest.{ElementNode};
 ghost use Rattle.h5_serialize.specs.Walk.{Walks};
 ghost use Rattle.h5_arena.specs.ArenaModel.{IsHeld, at_node, child_view, child_views, forest_seen, kind_view};
 ghost use Rattle.h5_arena.specs.NodeCalls.{calls_of, calls_of_children, child_calls, shown_children};
@@ -110,21 +109,6 @@ fn begin<'a, S: Serializer>(
     }
 }
 
-// Tells of a text, which is done then.
-#[inline(always)]
-fn begin_text<'a, S: Serializer>(
-    text: &str,
-    serializer: &mut S,
-) -> Result<Option<OpenNode<'a>>, SerializeFault>
-    ensures calls { (f : Forest) → Begins S.answer S.after S.writes S.breaks f (TextOf text.now ∷ [])
-        (S.meaning serializer.old) (S.contents serializer.old) result
-        (S.meaning serializer.new) (S.contents serializer.new) }
-    ensures opened { IfOk result (λ opened. opened ≡ None) }
-{
-    serializer.write_text(text)?;
-    Ok(None)
-}
-
 // Begins a child.
 fn begin_child<'a, S: Serializer>(
     arena: &'a Arena,
@@ -140,8 +124,10 @@ fn begin_child<'a, S: Serializer>(
 {
     match child {
         Child::Node(id) => begin(arena, *id, serializer),
-        Child::Text(text) => begin_text(text.as_str(), serializer),
-        Child::Blank(blank) => begin_text(blank.as_str(), serializer),
+        Child::Text(text) => {
+            serializer.write_text(text.as_str())?;
+            Ok(None)
+        }
     }
 }
 

@@ -16,6 +16,7 @@ use Rattle.h5_print.specs.Frames.{AreHeld, Left, NoneOpen, OneOpen, GoesOn, Open
 use Rattle.h5_print.specs.Nodes.{attribute_lines, indent, kind_line, line, quoted}
 use Rattle.h5_print.specs.Printed.{IsTreeText, Printed, NoChild, TextChild, NodeChild, TemplateChild, first_lines}
 use Rattle.h5_print.specs.declared.tree.Frame.{Frame}
+use Rattle.h5_arena.proofs.ChildTexts.{drop-past}
 
 -- lists that end alike
 ends_front : (xs ys : List Frame) (x y : Frame) → xs ++ x ∷ [] ≡ ys ++ y ∷ [] → xs ≡ ys
@@ -65,23 +66,10 @@ none_open : {zs : List Frame} {t : List ℕ} (a : ArenaView) → zs ≡ [] → L
 none_open a e NoneOpen = refl
 none_open a e (OneOpen {frames} g d is printed around) = absurd (omega (arith, ap length e, length-append frames (g ∷ [])))
 
--- nothing happened, and one step after another
-pub goes_nowhere : (a : ArenaView) (frames : List Frame) (was : List ℕ) → GoesOn a frames was frames was
-goes_nowhere a frames was t l = (t, l, refl)
-
-pub goes_far : (a : ArenaView) (xs ys zs : List Frame) (was mid is : List ℕ) → GoesOn a xs was ys mid → GoesOn a ys mid zs is → GoesOn a xs was zs is
-goes_far a xs ys zs was mid is g h t l =
-    let second = h t l in
-    let first = g second.0 second.1 in
-    (first.0, first.1, first.2 ∙ second.2)
-
-past_all : (cs : List Child) (n : ℕ) → length cs ≤ n → drop n cs ≡ []
-past_all cs n le = drop_of_length-le cs le
-
 -- a node without further children is closed
 pub closes : (a : ArenaView) (xs : List Frame) (f : Frame) (d : Node) (was : List ℕ) → slice_get a.nodes f.node.index ≡ Some d → length d.children ≤ f.printed → GoesOn a (xs ++ f ∷ []) was xs was
 closes a xs f d was is le t l =
-    (t, OneOpen f d is (subst (λ (cs : List Child). Printed a (length xs) cs []) (sym (past_all d.children f.printed le)) NoChild) l, refl)
+    (t, OneOpen f d is (subst (λ (cs : List Child). Printed a (length xs) cs []) (sym (drop-past d.children f.printed le)) NoChild) l, refl)
 
 same_node : {o : Option Node} {d e : Node} → o ≡ Some d → o ≡ Some e → d ≡ e
 same_node p q = cc

@@ -74,7 +74,6 @@ fn print_next(
     })?;
     match &children[frame.printed] {
         Child::Text(text) => print_text(out, level, text.as_str()),
-        Child::Blank(blank) => print_text(out, level, blank.as_str()),
         Child::Node(node) => print_node(arena, *node, level, out, stack),
     }
 }

@@ -1,9 +1,6 @@
-use Rattle.std.proofs.Common.{◌∙◌, arith, sym}
-use Rattle.h5_arena.proofs.ChildViews.{pushed_after_node, pushed_to_text, text_at}
+use Rattle.std.proofs.Common.{◌∙◌, arith, refl, sym}
+use Rattle.h5_arena.proofs.ChildViews.{pushed_after_node, pushed_to_text}
 use Rattle.h5_arena.proofs.children.push_text.Goals as goal
-
-pub push_to_text-requires-clause-text : goal.push_to_text-requires-clause-text
-push_to_text-requires-clause-text c = text_at c.args.children.now.items _ c.index.result.now (omega arith) c.index.ensures (sym c.is_text.ensures ∙ c.if-is_text.true)
 
 pub returns-then-is_text-clause-ok : goal.returns-then-is_text-clause-ok
 returns-then-is_text-clause-ok c =
@@ -13,4 +10,4 @@ returns-then-is_text-clause-ok c =
 pub returns-clause-ok : goal.returns-clause-ok
 returns-clause-ok c =
     rw c.in_ok-push-2.ensures.items
-    (pushed_after_node c.args.children.now.items _ c.index.result.now _ _ (omega arith) c.index.ensures (sym c.is_text.ensures ∙ c.if-is_text.false) c.text_child-2.ensures c.requires)
+    (pushed_after_node c.args.children.now.items _ c.index.result.now _ _ (omega arith) c.index.ensures (sym c.is_text.ensures ∙ c.if-is_text.false) refl c.requires)

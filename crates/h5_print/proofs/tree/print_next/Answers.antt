@@ -1,6 +1,6 @@
 use Rattle.std.proofs.Common.{◌≡◌, ◌++◌, ℕ, List, [], ◌∷◌, length, sym, ap, ◌∙◌, arith, subst, string_bytes}
 use Rattle.h5_interface.specs.Forest.{Node, ChildText, ChildNode}
-use Rattle.h5_arena.specs.ArenaModel.{blank_text, child_view, child_views}
+use Rattle.h5_arena.specs.ArenaModel.{child_view, child_views}
 use Rattle.h5_print.specs.Frames.{AreHeld, GoesOn, Opens}
 use Rattle.h5_print.specs.Nodes.{line, quoted}
 use Rattle.h5_print.specs.declared.tree.Frame.{Frame}
@@ -35,22 +35,6 @@ returns-in-Text-clause-goes_on c =
     on_ok c.print_text.result (λ printed.
     subst (λ (fs : List Frame). GoesOn a (xs ++ f ∷ []) was fs (string_bytes c.print_text.new.out)) (sym c.in_ok-push.ensures.items)
     (subst (λ (u : List ℕ). GoesOn a (xs ++ f ∷ []) was (xs ++ next f ∷ []) u) (sym (printed ∙ (λ i. was ++ line (level i) (quoted (c.as_str.ensures.value i))))) goes)) c.print_text.ensures
-
-pub returns-in-Blank-clause-goes_on : goal.returns-in-Blank-clause-goes_on
-returns-in-Blank-clause-goes_on c =
-    let a = c.args.arena.now in
-    let f = c.args.frame in
-    let xs = c.args.stack.now.items in
-    let was = string_bytes c.args.out.now in
-    let there = node_there a f.node c.requires.held in
-    let children = look_at a f.node (λ (d : Node). d.children) there.0 (child_views c.children-children.result.now) there.1 c.children-children.ensures in
-    let text = blank_text c.in-Blank.blank in
-    let child = child_next there.0.children c.children-children.result.now f.printed c.index-children-frame.result (ChildText text) children (omega arith) (sym c.index-children-frame.is) (ap child_view c.in-Blank.is) in
-    let level : c.len-level.result ≡ length xs = omega (arith, c.len-level.ensures, c.args.stack.now.ok.0) in
-    let goes = text_goes a xs f there.0 was text there.1 child in
-    on_ok c.print_text-in-Blank.result (λ printed.
-    subst (λ (fs : List Frame). GoesOn a (xs ++ f ∷ []) was fs (string_bytes c.print_text-in-Blank.new.out)) (sym c.in_ok-push.ensures.items)
-    (subst (λ (u : List ℕ). GoesOn a (xs ++ f ∷ []) was (xs ++ next f ∷ []) u) (sym (printed ∙ (λ i. was ++ line (level i) (quoted (c.as_str-in-Blank.ensures i))))) goes)) c.print_text-in-Blank.ensures
 
 pub returns-in-Node-clause-held : goal.returns-in-Node-clause-held
 returns-in-Node-clause-held c =

@@ -11,7 +11,7 @@ invariant_of-self c =
     rw (form_write c.self.inside.nodes.items c.args.target.now.index c.args.form.now.index 0 None c.index_mut-node.result.now (record c.index_mut-node.result.now { form = c.to-node.result }) there c.index_mut-node.ensures.value (ap (λ p. record (node_view c.index_mut-node.result.now) { marks = record (node_view c.index_mut-node.result.now).marks { form = p } }) c.to-node.ensures))
     (mark_rearranges (forest_in c.self.inside.nodes.items) (arena_choices.marks_after_associate (forest_in c.self.inside.nodes.items) c.args.target.now.index c.args.form.now.index 0 None) c.self.invariant).is_forest
 
-pub returns : goal.returns
-returns c =
+pub returns-clause-associated : goal.returns-clause-associated
+returns-clause-associated c =
     let there = element_within c.self.inside.nodes.items c.args.target.now.index (rw (← c.self.view_is) at c.requires.target) in
     rw (← c.self.view_is) (seen_after _ _ _ _ (form_write c.self.inside.nodes.items c.args.target.now.index c.args.form.now.index 0 None c.index_mut-node.result.now (record c.index_mut-node.result.now { form = c.to-node.result }) there c.index_mut-node.ensures.value (ap (λ p. record (node_view c.index_mut-node.result.now) { marks = record (node_view c.index_mut-node.result.now).marks { form = p } }) c.to-node.ensures)))

@@ -10,7 +10,7 @@ invariant_of-self c =
     rw (started_write c.self.inside.nodes.items c.args.script.now.index c.index_mut-node.result.now (record c.index_mut-node.result.now { started = true }) there c.index_mut-node.ensures.value refl)
     (mark_rearranges (forest_in c.self.inside.nodes.items) (arena_choices.marks_after_started (forest_in c.self.inside.nodes.items) c.args.script.now.index) c.self.invariant).is_forest
 
-pub returns : goal.returns
-returns c =
+pub returns-clause-started : goal.returns-clause-started
+returns-clause-started c =
     let there = element_within c.self.inside.nodes.items c.args.script.now.index (rw (← c.self.view_is) at c.requires) in
     rw (← c.self.view_is) (seen_after _ _ _ _ (started_write c.self.inside.nodes.items c.args.script.now.index c.index_mut-node.result.now (record c.index_mut-node.result.now { started = true }) there c.index_mut-node.ensures.value refl))
