@@ -39,14 +39,14 @@ fn beginning_in(opts: TokenizerOpts, state: State) -> TokenizerOpts
 /// the form element. The text is read as the name of the context says, whatever initial state the options have.
 ///
 /// Where memory is refused it answers `Memory`, and the sink is let go.
-pub fn parse_fragment_for_element<Handle: Drop, Sink: TreeSink<Handle = Handle> + Drop>(
+pub fn parse_fragment_for_element<Sink: TreeSink + Drop>(
     alloc: Global,
     sink: Sink,
     opts: ParseOpts,
-    context_element: Handle,
+    context_element: Sink::Handle,
     context_element_allows_scripting: bool,
-    form_element: Option<Handle>,
-) -> Result<Parser<Handle, Sink>, BuildFault>
+    form_element: Option<Sink::Handle>,
+) -> Result<Parser<Sink>, BuildFault>
     requires context { IsElement (Sink.sees sink).forest (Sink.node context_element) }
     requires form { MatchOption form_element (Unit {0}) (λ form. IsElement (Sink.sees sink).forest (Sink.node form)) }
     ensures builder { IfOk result (λ parser. building Sink.sees Sink.node parser.builder ≡ first_fragment Sink.choices (Sink.sees sink) (Sink.node context_element) (option_map (λ form. Sink.node form) form_element) opts.tree_builder) }
@@ -75,14 +75,14 @@ pub fn parse_fragment_for_element<Handle: Drop, Sink: TreeSink<Handle = Handle> 
 ///
 /// Where memory is refused it answers `Memory`, and the sink is let go.
 #[tactic(auto, unfolding(crate::specs::Fragments::first_in_new))]
-pub fn parse_fragment<Handle: Drop, Sink: TreeSink<Handle = Handle> + Drop>(
+pub fn parse_fragment<Sink: TreeSink + Drop>(
     alloc: Global,
     sink: Sink,
     opts: ParseOpts,
     context_name: QualName,
     context_attrs: Vec<Attribute>,
     context_element_allows_scripting: bool,
-) -> Result<Parser<Handle, Sink>, BuildFault>
+) -> Result<Parser<Sink>, BuildFault>
     ensures builder { IfOk result (λ parser. building Sink.sees Sink.node parser.builder ≡ first_in_new Sink.choices (Sink.sees sink) context_name (attribute_texts context_attrs.items) opts.tree_builder) }
     ensures reader { IfOk result (λ parser. parser.reader ≡ record { place = place_in_context context_element_allows_scripting (building Sink.sees Sink.node parser.builder).view.world opts.tokenizer; held = []; stage = Reading }) }
     ensures waiting { IfOk result (λ parser. parser.waiting ≡ []) }

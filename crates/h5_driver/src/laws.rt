@@ -10,8 +10,8 @@ use h5_interface::TreeSink;
 /// `process` on each of some pieces, and then `finish`: what the sink tells at the end is what it tells of the whole
 /// text, read from where the first piece found the parser. So it is the forest and the quirks mode of the run of
 /// a list of tokens that reads the whole text, and of any such list.
-pub fn pieces_then_finish<Handle: Drop, Sink: TreeSink<Handle = Handle> + Drop>()
-    ensures { (pieces : List (List ℕ)) (first last : Parsing Sink Handle) (told : Seen) →
+pub fn pieces_then_finish<Sink: TreeSink + Drop>()
+    ensures { (pieces : List (List ℕ)) (first last : Parsing Sink Sink.Handle) (told : Seen) →
         ProcessedAll Sink.choices Sink.sees Sink.node pieces first last
         → Parses Sink.choices last.reader.place (view_of Sink.sees Sink.node last) (unread last) told
         → Parses Sink.choices first.reader.place (view_of Sink.sees Sink.node first) (unread first ++ joined pieces) told }
@@ -19,7 +19,7 @@ pub fn pieces_then_finish<Handle: Drop, Sink: TreeSink<Handle = Handle> + Drop>(
 
 /// What is made of a text is one forest and one quirks mode, from one place of the reader and one view of the builder. So
 /// two parsers of documents, or of fragments, that begin alike make the same of a text, however each takes it in pieces.
-pub fn a_text_has_one_tree<Handle: Drop, Sink: TreeSink<Handle = Handle> + Drop>()
+pub fn a_text_has_one_tree<Sink: TreeSink + Drop>()
     ensures { (place : Place) (view : View) (text : List ℕ) (one other : Seen) →
         Parses Sink.choices place view text one → Parses Sink.choices place view text other
         → (one.forest ≡ other.forest) × (one.quirks ≡ other.quirks) }

@@ -17,8 +17,8 @@ use std::alloc::Global;
 use std::marker::Model;
 
 // Feeds the reader until all that waits is read, whatever else it answers.
-fn feed_all<Handle: Drop, Sink: TreeSink<Handle = Handle> + Drop>(
-    tokenizer: &mut Tokenizer<TreeBuilder<Handle, Sink>>,
+fn feed_all<Sink: TreeSink + Drop>(
+    tokenizer: &mut Tokenizer<TreeBuilder<Sink::Handle, Sink>>,
     queue: &mut BufferQueue,
 ) -> Result<(), BuildFault>
     requires reading { tokenizer.old.reader.stage ≡ Reading }
@@ -40,8 +40,8 @@ fn feed_all<Handle: Drop, Sink: TreeSink<Handle = Handle> + Drop>(
 }
 
 // Tells the reader of the end.
-fn close<Handle: Drop, Sink: TreeSink<Handle = Handle> + Drop>(
-    tokenizer: &mut Tokenizer<TreeBuilder<Handle, Sink>>,
+fn close<Sink: TreeSink + Drop>(
+    tokenizer: &mut Tokenizer<TreeBuilder<Sink::Handle, Sink>>,
 ) -> Result<(), BuildFault>
     requires reading { tokenizer.old.reader.stage ≡ Reading }
     requires works { IsWorking tokenizer.old.reader.place (building Sink.sees Sink.node tokenizer.old.sink).view }
@@ -67,19 +67,19 @@ fn part_size(length: usize) -> usize
 /// builder, its reader, the text that waits, and whether it has failed: it has after want of memory, and
 /// then every call answers `Failed`.
 #[derive(Drop)]
-pub struct Parser<Handle: Drop, Sink: TreeSink<Handle = Handle> + Drop> {
+pub struct Parser<Sink: TreeSink + Drop> {
     /// The reader, over the builder.
-    pub tokenizer: Tokenizer<TreeBuilder<Handle, Sink>>,
+    pub tokenizer: Tokenizer<TreeBuilder<Sink::Handle, Sink>>,
     /// The text that waits.
     pub input_buffer: BufferQueue,
     failed: bool,
     alloc: Global,
 }
 
-impl<Handle: Drop, Sink: TreeSink<Handle = Handle> + Drop> Model for Parser<Handle, Sink> {
+impl<Sink: TreeSink + Drop> Model for Parser<Sink> {
     ghost use Rattle.h5_driver.specs.Parsing.{IsParsing, Parsing};
 
-    ghost Value = { Parsing Sink Handle };
+    ghost Value = { Parsing Sink Sink.Handle };
 
     ghost view = { λ p. record { builder = p.tokenizer.sink; reader = p.tokenizer.reader; waiting = p.input_buffer; failed = p.failed } };
 
@@ -87,11 +87,11 @@ impl<Handle: Drop, Sink: TreeSink<Handle = Handle> + Drop> Model for Parser<Hand
 }
 
 // A parser over a builder that works.
-pub(super) fn parser_over<Handle: Drop, Sink: TreeSink<Handle = Handle> + Drop>(
+pub(super) fn parser_over<Sink: TreeSink + Drop>(
     alloc: Global,
-    builder: TreeBuilder<Handle, Sink>,
+    builder: TreeBuilder<Sink::Handle, Sink>,
     opts: TokenizerOpts,
-) -> Parser<Handle, Sink>
+) -> Parser<Sink>
     requires works { IsWorking (first_place opts) (building Sink.sees Sink.node builder).view }
     ensures builder { result.builder ≡ builder }
     ensures reader { result.reader ≡ record { place = first_place opts; held = []; stage = Reading } }
@@ -108,11 +108,11 @@ pub(super) fn parser_over<Handle: Drop, Sink: TreeSink<Handle = Handle> + Drop>(
 
 /// A parser of a document, into a sink, that took nothing yet. It takes no memory, and the sink stays as it
 /// is.
-pub fn parse_document<Handle: Drop, Sink: TreeSink<Handle = Handle> + Drop>(
+pub fn parse_document<Sink: TreeSink + Drop>(
     alloc: Global,
     sink: Sink,
     opts: ParseOpts,
-) -> Parser<Handle, Sink>
+) -> Parser<Sink>
     ensures builder { building Sink.sees Sink.node result.builder ≡ first_building (Sink.sees sink) opts.tree_builder }
     ensures sink { result.builder.sink ≡ sink }
     ensures reader { result.reader ≡ record { place = first_place opts.tokenizer; held = []; stage = Reading } }
@@ -123,7 +123,7 @@ pub fn parse_document<Handle: Drop, Sink: TreeSink<Handle = Handle> + Drop>(
     parser_over(alloc, builder, opts.tokenizer)
 }
 
-impl<Handle: Drop, Sink: TreeSink<Handle = Handle> + Drop> Parser<Handle, Sink> {
+impl<Sink: TreeSink + Drop> Parser<Sink> {
     /// Takes the next piece of the text: it is read as far as that is decided, whatever the reader answers
     /// besides.
     ///
