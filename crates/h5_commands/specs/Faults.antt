@@ -1,6 +1,8 @@
 -- What is said of a fault, and its exit status.
 use Rattle.std.specs.Prelude.{◌≡◌, ◌⊎◌, ℕ, List, [], ◌∷◌, ◌++◌, codes, string_bytes}
 use Rattle.std.specs.Fmt.{decimal}
+use Rattle.std.specs.declared.io.ErrorKind.{ErrorKind}
+use Rattle.std.specs.declared.io.ErrorKind.TheVariants.{OutOfMemory}
 use Rattle.h5_commands.specs.declared.fault.Fault.{Fault}
 use Rattle.h5_commands.specs.declared.fault.Fault.TheVariants.{Usage, Unreadable, NotUtf8, BadLine, Unwritable, Memory}
 
@@ -29,6 +31,16 @@ IsBadLine n (BadLine message) = string_bytes message ≡ codes "h5: bad line " +
 IsBadLine n Unwritable = ⊥
 IsBadLine n Memory = ⊥
 
--- what a failed read is
+-- the fault that a failed read with an error of this kind is: want of memory exactly where the kind is that
+abbrev pub read_fault : ErrorKind → Fault
+read_fault OutOfMemory = Memory
+read_fault _ = Unreadable
+
+-- and the fault of words that can't be read: words that are no text are no command
+abbrev pub words_fault : ErrorKind → Fault
+words_fault OutOfMemory = Memory
+words_fault _ = Usage
+
+-- what a failed read is, of whatever kind
 abbrev pub IsReadFault : Fault → Type 0
 IsReadFault fault = (fault ≡ Unreadable) ⊎ (fault ≡ Memory)

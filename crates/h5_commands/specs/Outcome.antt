@@ -2,9 +2,10 @@
 use Rattle.std.specs.Prelude.{◌≡◌, ◌⊎◌, ℕ, List, take, Option, Some, None, Result, Ok, Err, String, Vec, IfSome, IsUtf8, string_bytes}
 use Rattle.std.specs.Io.KnownBytes.{Appends, Keeps}
 use Rattle.std.specs.declared.alloc.Global.{Global}
+use Rattle.std.specs.declared.io.ErrorKind.{ErrorKind}
 use Rattle.h5_lines.specs.Items.{ItemText, item_texts, items_of}
 use Rattle.h5_lines.specs.declared.items.Item.{Item}
-use Rattle.h5_commands.specs.Faults.{IsBadLine, IsReadFault, message_of, status_of}
+use Rattle.h5_commands.specs.Faults.{IsBadLine, IsReadFault, message_of, status_of, words_fault}
 use Rattle.h5_commands.specs.Printed.{FragmentPrints, HtmlPrints, ItemsPrint, TreePrints}
 use Rattle.h5_commands.specs.Words.{CommandText, Fragment, Html, Tokens, Tree, command_of}
 use Rattle.h5_commands.specs.declared.fault.Fault.{Fault}
@@ -80,8 +81,7 @@ abbrev pub Ends : List (String Global) → (input out out_new faults faults_new 
 Ends words input out out_new faults faults_new status =
     (outcome : Result (Vec ℕ Global) Fault) × Comes words input outcome × Shows outcome out out_new faults faults_new status
 
--- a run whose words can't be read: they are no command, or memory was refused, and that is said
-abbrev pub EndsUnread : (faults faults_new : Option (List ℕ)) → ℕ → Type 0
-EndsUnread faults faults_new status =
-    ((status ≡ 2) × AppendsFront faults faults_new (message_of Usage))
-    ⊎ ((status ≡ 1) × AppendsFront faults faults_new (message_of Memory))
+-- a run whose words can't be read, for an error of this kind: its fault is said, and its status answered
+abbrev pub EndsUnread : ErrorKind → (faults faults_new : Option (List ℕ)) → ℕ → Type 0
+EndsUnread kind faults faults_new status =
+    (status ≡ status_of (words_fault kind)) × AppendsFront faults faults_new (message_of (words_fault kind))

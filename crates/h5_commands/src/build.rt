@@ -147,7 +147,7 @@ fn parse(alloc: Global, text: &str) -> Result<Arena, Fault>
 }
 
 // A parser in an HTML element of this name, without attributes, where scripts are allowed.
-fn parser_in(alloc: Global, context: &str) -> Result<Parser<NodeId, Arena>, Fault>
+fn parser_in(alloc: Global, context: &str) -> Result<Parser<Arena>, Fault>
     ensures builder { IfOk result (λ parser. building seen_of place parser.builder ≡ first_in_new arena_choices (seen_of new_arena) (html_name context.now) [] default_options.tree_builder) }
     ensures begins { IfOk result (λ parser. parser.reader.place ≡ place_in_context true (building seen_of place parser.builder).view.world default_options.tokenizer) }
     ensures held { IfOk result (λ parser. parser.reader.held ≡ []) }

@@ -1,11 +1,12 @@
 //! A run of the program.
 ghost use Rattle.std.specs.Prelude.{◌≡◌, None, Some};
+ghost use Rattle.std.specs.IoError.{error_kind};
 ghost use Rattle.h5_commands.specs.Faults.{message_of, status_of};
 ghost use Rattle.h5_commands.specs.Outcome.{AppendsFront, AreRead, Comes, ComesBy, Ends, EndsUnread, IsRead, LinesCome, Puts};
 ghost use Rattle.h5_commands.specs.Words.{command_of, command_text};
 
 use super::build::{build, fragment_output, html_output, tree_output};
-use super::fault::{Fault, bad_line, fault_of_read};
+use super::fault::{Fault, bad_line, fault_of_read, fault_of_words};
 use super::output::write_bytes;
 use super::words::{Command, command_of};
 use h5_lines::{Item, LineFault, parse};
@@ -36,15 +37,13 @@ pub fn run<R: Read + Drop, Out: Write, Note: Write>(
     }
 }
 
-/// Says of words that can't be read what they are, and answers the exit status: 1 where memory is refused, and
-/// else 2, since words that are no text are no command.
+/// Says of words that can't be read what they are, and answers the exit status: 1 exactly where the error's kind is want of
+/// memory, and else 2, since words that are no text are no command.
 pub fn refuse_words<Note: Write>(error: &io::Error, faults: &mut Note) -> u8
-    ensures { EndsUnread (Note.contents faults.old) (Note.contents faults.new) result }
+    ensures { EndsUnread (error_kind error.now) (Note.contents faults.old) (Note.contents faults.new) result }
 {
-    if error.kind() == io::ErrorKind::OutOfMemory {
-        return say(&Fault::Memory, faults);
-    }
-    say(&Fault::Usage, faults)
+    let fault = fault_of_words(error);
+    say(&fault, faults)
 }
 
 // What a command prints.

@@ -1,6 +1,7 @@
 //! What can go wrong, what is said of it, and the exit status.
 ghost use Rattle.std.specs.Prelude.{◌≡◌, IfOk, string_bytes};
-ghost use Rattle.h5_commands.specs.Faults.{IsBadLine, IsReadFault, message_of, status_of};
+ghost use Rattle.std.specs.IoError.{error_kind};
+ghost use Rattle.h5_commands.specs.Faults.{IsBadLine, IsReadFault, message_of, read_fault, status_of, words_fault};
 
 use std::alloc::{AllocError, AllocFailed, Global};
 use std::io;
@@ -79,13 +80,25 @@ pub fn bad_line(alloc: Global, line: u64) -> Result<Fault, AllocError>
     Ok(Fault::BadLine(format!(in alloc; "h5: bad line {line}\n")?))
 }
 
-/// The fault that a failed read is.
+/// The fault that a failed read is: want of memory exactly where the error's kind is that, and else an input that can't be
+/// read.
 pub fn fault_of_read(error: &io::Error) -> Fault
-    ensures { IsReadFault result }
+    ensures which { result ≡ read_fault (error_kind error.now) }
+    ensures reads { IsReadFault result }
 {
-    if error.kind() == io::ErrorKind::OutOfMemory {
-        Fault::Memory
-    } else {
-        Fault::Unreadable
+    match error.kind() {
+        io::ErrorKind::OutOfMemory => Fault::Memory,
+        _ => Fault::Unreadable,
+    }
+}
+
+/// The fault of words that can't be read: want of memory exactly where the error's kind is that, and else a wrong use, since
+/// words that are no text are no command.
+pub fn fault_of_words(error: &io::Error) -> Fault
+    ensures { result ≡ words_fault (error_kind error.now) }
+{
+    match error.kind() {
+        io::ErrorKind::OutOfMemory => Fault::Memory,
+        _ => Fault::Usage,
     }
 }
