@@ -41,9 +41,6 @@ module _ {name : List ℕ} {f : FormattingElement} {at : ℕ} (w : World) (found
     here = found.listed_at;
   }
 
-  pub found_element : IsElementEntry at w
-  found_element = record { node = f.node; tag = f.tag; newer = found.newer; older = found.older; cut = found.cut; here = found.listed_at }
-
   -- the round that is made where it is open and in scope, and has a furthest block
   pub found_round : (place block : ℕ) (o : IsOpenAt f.node place w) (b : IsBlockAt f.node place block w) → list_any (λ n. is_default_scope (name_in w.forest n)) (newer_than f.node w.stack) ≡ false → IsRound name f b.furthest place at block w
   found_round place block o b in_scope = record {
@@ -60,10 +57,6 @@ module _ {name : List ℕ} {f : FormattingElement} {at : ℕ} (w : World) (found
 -- the same entry, where the stack changed
 pub entry_still : (n at : ℕ) (w : World) (s : List ℕ) → IsEntryAt n at w → IsEntryAt n at (record w { stack = s })
 entry_still n at w s k = record { tag = k.tag; newer = k.newer; older = k.older; cut = k.cut; first = k.first; here = k.here }
-
--- what a round comes to
-pub out_of_scope : (again : World → World) (choices : SinkChoices) (f : FormattingElement) (w : World) → list_any (λ n. is_default_scope (name_in w.forest n)) (newer_than f.node w.stack) ≡ true → adopt_open again choices f w ≡ w
-out_of_scope again choices f w h = ap (λ b. cond b w (adopt_at again choices f (furthest_block (λ n. is_special (name_in w.forest n)) (newer_than f.node w.stack)) w)) h
 
 pub in_scope_at : (again : World → World) (choices : SinkChoices) (f : FormattingElement) (o : Option FurthestBlock) (w : World) → list_any (λ n. is_default_scope (name_in w.forest n)) (newer_than f.node w.stack) ≡ false
     → furthest_block (λ n. is_special (name_in w.forest n)) (newer_than f.node w.stack) ≡ o → adopt_open again choices f w ≡ adopt_at again choices f o w

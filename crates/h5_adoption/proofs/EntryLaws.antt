@@ -19,9 +19,6 @@ pub record Passed (n : ℕ) (l left : List Entry) : Type 0 where
   pub cut : l ≡ newer ++ left
   pub none : ¬ (IsIn n (nodes_of newer))
 
-pub passed_none : (n : ℕ) (l left : List Entry) → left ≡ l → Passed n l left
-passed_none n l left e = record { newer = []; cut = sym e; none = λ h. absurd h }
-
 pub passed_more : (n : ℕ) (l left rest : List Entry) (e : Entry) → left ≡ e ∷ rest → ¬ (IsIn n (nodes_of (e ∷ []))) → Passed n l left → Passed n l rest
 passed_more n l left rest e is other p = record {
   newer = p.newer ++ e ∷ [];
@@ -48,7 +45,3 @@ list_cut node state count =
 -- an element that isn't that of the next entry is listed where it is among the rest
 pub other_entry : (n m : ℕ) (t : TagText) (rest : List Entry) → ¬ (m ≡ n) → is_in n (nodes_of (ElementEntry m t ∷ rest)) ≡ is_in n (nodes_of rest)
 other_entry n m t rest other = ap (λ b. cond b true (is_in n (nodes_of rest))) (ne_eqb n m (λ e. other (sym e)))
-
--- where a walk finds the entry of an element
-pub found_entry : (n place : ℕ) (t : TagText) (w : World) (left rest : List Entry) → left ≡ ElementEntry n t ∷ rest → place ≡ length rest → Passed n w.formatting left → IsEntryAt n place w
-found_entry n place t w left rest e h p = record { tag = t; newer = p.newer; older = rest; cut = p.cut ∙ ap (λ l. p.newer ++ l) e; first = p.none; here = h }

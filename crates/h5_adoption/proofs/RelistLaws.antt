@@ -137,15 +137,6 @@ pub walked_none : (k : ℕ) (ys : List ℕ) (l : List Entry) → walked k [] ys 
 walked_none zero ys l = refl
 walked_none (suc k) ys l = refl
 
--- one that isn't listed is passed over
-pub walked_over : (k n : ℕ) (ns ys : List ℕ) (l : List Entry) → is_in n (nodes_of l) ≡ false → walked (suc k) (n ∷ ns) ys l ≡ walked k ns ys l
-walked_over k n ns [] l e = refl
-walked_over k n ns (y ∷ ys) l e = ap (λ b. cond b (walked k ns ys (swapped n y l)) (walked k ns (y ∷ ys) l)) e
-
-pub walked_past : (k n : ℕ) (ns ys : List ℕ) (l : List Entry) → ys ≡ [] → walked (suc k) (n ∷ ns) ys l ≡ walked k ns ys l
-walked_past k n ns [] l e = refl
-walked_past k n ns (y ∷ ys) l e = absurd (cc)
-
 pub walked_onto : (k n y : ℕ) (ns ys zs : List ℕ) (l : List Entry) → zs ≡ y ∷ ys → is_in n (nodes_of l) ≡ true → walked (suc k) (n ∷ ns) zs l ≡ walked k ns ys (swapped n y l)
 walked_onto k n y ns ys zs l e h = ap (λ z. walked (suc k) (n ∷ ns) z l) e ∙ ap (λ b. cond b (walked k ns ys (swapped n y l)) (walked k ns (y ∷ ys) l)) h
 

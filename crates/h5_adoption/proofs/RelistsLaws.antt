@@ -110,25 +110,3 @@ module _ (f : FormattingElement) (between clones : List ℕ) (clone at first blo
 
   pub place_inside : (e : Entry) (v : World) → v ≡ record w { formatting = walk ++ e ∷ r.older } → at < length v.formatting
   place_inside e v h = omega (arith, ap (λ (x : World). length x.formatting) h, length-append walk (e ∷ r.older), r.here)
-
--- entries of elements that are newer than the formatting element in the stack are newer than its entry
-pub listed_above : (s : List ℕ) (l : List Entry) (high between low : List ℕ) (f : ℕ) (t : TagText) (newer rest : List Entry) → Agrees s l → Distinct s → s ≡ high ++ (between ++ f ∷ low) → l ≡ newer ++ ElementEntry f t ∷ rest
-    → (n : ℕ) → IsIn n between → ¬ (IsIn n (nodes_of (ElementEntry f t ∷ rest)))
-listed_above s l high between low f t newer rest k d cut here n i = λ h. elim h [ inl e ↦ itself e | inr j ↦ later j ]
-  where
-    whole : s ≡ (high ++ between) ++ f ∷ low
-    whole = cut ∙ sym (append_assoc high between (f ∷ low))
-
-    distinct : Distinct ((high ++ between) ++ f ∷ low)
-    distinct = subst Distinct whole d
-
-    itself : n ≡ f → ⊥
-    itself e = not_beside (high ++ between) low f distinct (in_left f (high ++ between) low (subst (λ z. IsIn z (high ++ between)) e (in_right n high between i)))
-
-    later : IsIn n (nodes_of rest) → ⊥
-    later j =
-        let listed : Before (nodes_of l) f n = subst (λ z. Before z f n) (sym (ap nodes_of here ∙ nodes_of-append newer (ElementEntry f t ∷ rest))) (before_right f n (nodes_of newer) (f ∷ nodes_of rest) (inl (refl, j))) in
-        let f_open : IsIn f s = subst (IsIn f) (sym whole) (in_right f (high ++ between) (f ∷ low) (inl refl)) in
-        let n_open : IsIn n s = subst (IsIn n) (sym whole) (in_left n (high ++ between) (f ∷ low) (in_right n high between i)) in
-        let below = older (high ++ between) low f n distinct (subst (λ z. Before z f n) whole (k.order f n f_open n_open listed)) in
-        distinct_apart n (high ++ between) (f ∷ low) distinct (in_right n high between i) (inr below)

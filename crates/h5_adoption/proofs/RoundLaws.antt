@@ -17,7 +17,7 @@ use Rattle.h5_meaning.proofs.PassLaws.{furthest_block_at, ordered_distinct, stac
 use Rattle.h5_meaning.specs.AdoptionAgency.{Nest, nest, placed, refilled, tag_in}
 use Rattle.h5_meaning.specs.Changes.{with_forest}
 use Rattle.h5_meaning.proofs.AdoptionForest.{before_trans}
-use Rattle.h5_meaning.proofs.AdoptionRound.{clone_of_tag, clones_of_tags, each_tag_in, round_count, round_fresh, round_refilled, tagged, to_clone_is_listed}
+use Rattle.h5_meaning.proofs.AdoptionRound.{clone_of_tag, clones_of_tags, each_tag_in, round_count, round_fresh, round_refilled, tagged, to_clone_is_listed, original_in}
 use Rattle.h5_adoption.specs.Relists.{Relists}
 use Rattle.h5_meaning.specs.World.{World}
 use Rattle.h5_state.specs.View.{open_node, stack_under}
@@ -82,12 +82,6 @@ module _ {H : Type 0} {name : List ℕ} {f : FormattingElement} {k : FurthestBlo
       let count : block - (place + 1) ≡ length k.between = omega (arith, r.block_at) in
       ap (λ j. take j (stack_under node state block)) count ∙ ap (take (length k.between)) under_block
       ∙ take-append-le (length k.between) k.between (f.node ∷ older) (omega arith) ∙ take_all (length k.between) k.between (omega arith)
-
-clone_of_in : (xs ys : List ℕ) (y x : ℕ) → IsCloneOf xs ys y x → IsIn x xs
-clone_of_in [] ys y x h = absurd h
-clone_of_in (a ∷ xs) [] y x h = absurd h
-clone_of_in (a ∷ xs) (b ∷ ys) y x (inl e) = inl e.0
-clone_of_in (a ∷ xs) (b ∷ ys) y x (inr h) = inr (clone_of_in xs ys y x h)
 
 module _ (choices : SinkChoices) {name : List ℕ} {f : FormattingElement} {k : FurthestBlock} {place at block : ℕ} (w : World) (r : IsRound name f k place at block w) where
   abbrev pub round_nest : Nest
@@ -157,7 +151,7 @@ module _ (choices : SinkChoices) {name : List ℕ} {f : FormattingElement} {k : 
     above = λ x i h. above x i h;
     new = fresh.unlisted own_clone (inl refl);
     alike = λ y x h.
-        let tag = tagged w.formatting x (to_clone_is_listed w.formatting k.between x (clone_of_in (to_clone w.formatting k.between) round_nest.clones y x h)) in
+        let tag = tagged w.formatting x (to_clone_is_listed w.formatting k.between x (original_in (to_clone w.formatting k.between) round_nest.clones y x h)) in
         clones_of_tags choices w r.ready r.may y x tag.0 h tag.1 ∙ sym (of_tag x tag.0 tag.1);
     own = clone_of_tag choices w r.ready r.may ∙ sym (each_at (IsOfTag round_forest) r.newer r.older w.formatting f.node f.tag r.cut (round_refilled choices w r.ready r.may).listed);
   }

@@ -11,9 +11,6 @@ pub record Carried (low high old new : List ℕ) : Type 0 where
   pub stack : high ≡ newer ++ low
   pub list : new ≡ newer ++ old
 
-pub carried_none : (low old : List ℕ) → Carried low low old old
-carried_none low old = record { newer = []; stack = refl; list = refl }
-
 pub carried_more : (low high higher old new newest : List ℕ) (n : ℕ) → higher ≡ n ∷ high → newest ≡ n ∷ new → Carried low high old new → Carried low higher old newest
 carried_more low high higher old new newest n e h k = record { newer = n ∷ k.newer; stack = e ∙ ap (λ s. n ∷ s) k.stack; list = h ∙ ap (λ s. n ∷ s) k.list }
 

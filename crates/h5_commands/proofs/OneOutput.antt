@@ -15,9 +15,7 @@ use Rattle.h5_driver.proofs.OneTree.{one_fragment, one_tree}
 use Rattle.h5_commands.specs.Outcome.{Prints}
 use Rattle.h5_commands.specs.Printed.{FragmentPrints, HtmlPrints, IsTreeOutput, ItemsPrint, TreePrints, after_items, default_serializing, first_view, html_name, replies_to_items, reply_lines}
 use Rattle.h5_commands.specs.Words.{CommandText, Fragment, Html, Tokens, Tree}
-
-some_same : {A : Type 0} (x y : A) → Some x ≡ Some y → x ≡ y
-some_same x y e = cc
+use Rattle.h5_arena.proofs.CallConditions.{some_same}
 
 -- a list is its length and what stands at each place
 lists_same : {A : Type 0} (xs ys : List A) → ((n : ℕ) → slice_get xs n ≡ slice_get ys n) → xs ≡ ys

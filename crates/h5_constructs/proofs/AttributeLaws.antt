@@ -71,23 +71,6 @@ pub attributes_shorter : (xs front : List ℕ) (w : Written) → front ≡ past 
 attributes_shorter xs [] w e h = absurd h
 attributes_shorter xs (x ∷ front) w e h = omega (arith, ap (λ (v : Written). length v.rest) h, attribute_le x front, ap length e, from_le (λ y. not (is_in BetweenAttributes y)) xs)
 
--- a name that is there, and one that isn't
-pub distinct_there : (kept others : List AttributeText) (a : AttributeText) → is_named_in a.name.local kept ≡ true → distinct kept others ≡ distinct kept (a ∷ others)
-distinct_there kept others a h = rw h refl
-
-pub distinct_new : (kept others : List AttributeText) (a : AttributeText) → is_named_in a.name.local kept ≡ false → distinct (kept ++ a ∷ []) others ≡ distinct kept (a ∷ others)
-distinct_new kept others a h = rw h refl
-
-or_true : (b : Bool) → (b || true) ≡ true
-or_true true = refl
-or_true false = refl
-
-pub repeats_there : (d : Bool) (kept others : List AttributeText) (a : AttributeText) → is_named_in a.name.local kept ≡ true → (true || repeats kept others) ≡ (d || repeats kept (a ∷ others))
-repeats_there d kept others a h = rw h (sym (or_true d))
-
-pub repeats_new : (d : Bool) (kept others : List AttributeText) (a : AttributeText) → is_named_in a.name.local kept ≡ false → (d || repeats (kept ++ a ∷ []) others) ≡ (d || repeats kept (a ∷ others))
-repeats_new d kept others a h = rw h refl
-
 pub texts_push : (xs : List Attribute) (x : Attribute) → attribute_texts (xs ++ x ∷ []) ≡ attribute_texts xs ++ attribute_text x ∷ []
 texts_push [] x = refl
 texts_push (y ∷ xs) x = ap (λ l. attribute_text y ∷ l) (texts_push xs x)

@@ -66,45 +66,6 @@ pub known_takes : (choices : SinkChoices) (t : TurnText) (f : Forest) (context :
     → is_foreign_at choices t f (adjusted_of context stack) ≡ false
 known_takes choices t f context stack n e h = ap (is_foreign_at choices t f) e ∙ html_takes choices t f n (known_is_html (name_in f n) h)
 
--- where no token is foreign, none is
-pub none_foreign : (choices : SinkChoices) (t : TurnText) (w : World) → is_foreign_at choices t w.forest (adjusted_current_node w) ≡ false → is_foreign choices t w ≡ false
-unfolding is_foreign
-none_foreign choices (TagTurn tag) w h = h
-none_foreign choices (CommentTurn text) w h = h
-none_foreign choices (TextTurn status text) w h = h
-none_foreign choices NullTurn w h = h
-none_foreign choices EofTurn w h = refl
-
--- what an element of this name takes of texts
-pub text_taken : (choices : SinkChoices) (f : Forest) (n : ℕ) (name : QualName) → kind_of f n ≡ Some (ElementNode name)
-    → is_taken_in choices (TextTurn NotSplit []) f n
-    ≡ ((is_html_element name || (is_mathml_text_point name || is_svg_html_point name)) || (is_annotation_xml name && is_integration_point choices f n))
-text_taken choices f n name e =
-    ap (λ m. is_html_element m || ((is_mathml_text_point m && true) || ((is_svg_html_point m && true) || (is_annotation_xml m && is_integration_point choices f n)))) (named f n name e)
-    ∙ at (is_html_element name) (is_mathml_text_point name) (is_svg_html_point name) (is_annotation_xml name && is_integration_point choices f n)
-  where
-    at : (html text point other : Bool) → (html || ((text && true) || ((point && true) || other))) ≡ ((html || (text || point)) || other)
-    at true text point other = refl
-    at false true point other = refl
-    at false false true other = refl
-    at false false false other = refl
-
--- and of start tags
-pub start_taken : (choices : SinkChoices) (f : Forest) (n : ℕ) (name : QualName) (tag : TagText) → kind_of f n ≡ Some (ElementNode name) → tag.kind ≡ StartTag
-    → is_taken_in choices (TagTurn tag) f n
-    ≡ ((is_html_element name || ((is_mathml_text_point name && not (is_one_of glyph_names tag.name)) || is_svg_html_point name))
-    || (is_annotation_xml name && (is_same_text tag.name (codes "svg") || is_integration_point choices f n)))
-start_taken choices f n name tag e k =
-    ap (λ kind. is_taken_in choices (TagTurn (record tag { kind = kind })) f n) k
-    ∙ ap (λ m. is_html_element m || ((is_mathml_text_point m && not (is_one_of glyph_names tag.name)) || ((is_svg_html_point m && true) || (is_annotation_xml m && (is_same_text tag.name (codes "svg") || is_integration_point choices f n))))) (named f n name e)
-    ∙ at (is_html_element name) (is_mathml_text_point name && not (is_one_of glyph_names tag.name)) (is_svg_html_point name) (is_annotation_xml name && (is_same_text tag.name (codes "svg") || is_integration_point choices f n))
-  where
-    at : (html text point other : Bool) → (html || (text || ((point && true) || other))) ≡ ((html || (text || point)) || other)
-    at true text point other = refl
-    at false true point other = refl
-    at false false true other = refl
-    at false false false other = refl
-
 -- of others only an element of HTML takes any
 never : (html text point other : Bool) → (html || ((text && false) || ((point && false) || (other && false)))) ≡ html
 never true text point other = refl

@@ -6,15 +6,7 @@ use Rattle.h5_meaning.specs.Scope.{first_passes, later_names}
 use Rattle.h5_meaning.specs.Changes.{pop, pop_while}
 use Rattle.h5_meaning.specs.Foreign.{is_left, leave_foreign_content}
 use Rattle.h5_meaning.specs.World.{World, names_of}
-use Rattle.h5_meaning.proofs.PopLaws.{names-pop}
-
-while_step : (choices : SinkChoices) (p : QualName → Bool) (ns : List QualName) (w : World) → first_passes p ns ≡ true → pop_while choices p ns w ≡ pop_while choices p (later_names ns) (pop choices w)
-while_step choices p [] w h = absurd (cc)
-while_step choices p (n ∷ ns) w h = ap (λ b. cond b (pop_while choices p ns (pop choices w)) w) h
-
-while_none : (choices : SinkChoices) (p : QualName → Bool) (ns : List QualName) (w : World) → first_passes p ns ≡ false → pop_while choices p ns w ≡ w
-while_none choices p [] w h = refl
-while_none choices p (n ∷ ns) w h = ap (λ b. cond b (pop_while choices p ns (pop choices w)) w) h
+use Rattle.h5_meaning.proofs.PopLaws.{names-pop, while_step, while_none}
 
 pub leave_step : (choices : SinkChoices) (w : World) → first_passes is_left (names_of w) ≡ true → leave_foreign_content choices (pop choices w) ≡ leave_foreign_content choices w
 unfolding leave_foreign_content

@@ -17,10 +17,6 @@ pub ancestor_fewer : (up down : ℕ → Option ℕ) → ((n p : ℕ) → down n 
 ancestor_fewer up down k a n (Parent e) = Parent (k n a e)
 ancestor_fewer up down k a n (Further p h e) = Further p (ancestor_fewer up down k a p h) (k n p e)
 
-pub at_or_above_fewer : (up down : ℕ → Option ℕ) → ((n p : ℕ) → down n ≡ Some p → up n ≡ Some p) → (a n : ℕ) → AtOrAbove down a n → AtOrAbove up a n
-at_or_above_fewer up down k a n (inl e) = inl e
-at_or_above_fewer up down k a n (inr h) = inr (ancestor_fewer up down k a n h)
-
 -- what has no parent has no ancestor
 pub no_ancestor : (up : ℕ → Option ℕ) (a n : ℕ) → up n ≡ None → ¬ (IsAncestor up a n)
 no_ancestor up a n e (Parent w) = let v : None ≡ Some a = sym e ∙ w in cc

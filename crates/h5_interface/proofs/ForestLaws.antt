@@ -72,7 +72,7 @@ child_once f p c k up no_fragment = at (f.node p) refl
         let none = no_contents d.contents (rw e refl) in
         rw e (omega (arith, none, simp count-append at all'))
 
-at_parent : (p : ℕ) (o : Option ℕ) → 0 < (if is_at p o then 1 else 0) → o ≡ Some p
+pub at_parent : (p : ℕ) (o : Option ℕ) → 0 < (if is_at p o then 1 else 0) → o ≡ Some p
 at_parent p None h = absurd (omega arith)
 at_parent p (Some q) h = case (p == q) refl h
   where

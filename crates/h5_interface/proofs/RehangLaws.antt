@@ -82,11 +82,6 @@ pub hung_ancestor : (f g : Forest) (chosen : ℕ → Bool) (p a n : ℕ) → Reh
 hung_ancestor f g chosen p a n r h =
     ancestor_after (parent_of f) chosen p a n (ancestor_fewer (hung (parent_of f) chosen p) (parent_of g) (λ c q e. sym (r.parents c) ∙ e) a n h)
 
--- after nodes were loosened, an ancestor is an old one
-pub loosened_ancestor : (f g : Forest) (chosen : ℕ → Bool) (a n : ℕ) → Rehangs f g chosen None → IsAncestor (parent_of g) a n → IsAncestor (parent_of f) a n
-loosened_ancestor f g chosen a n r h =
-    ancestor_fewer (parent_of f) (parent_of g) (λ c q e. loosened_edge (chosen c) (parent_of f c) q (sym (r.parents c) ∙ e)) a n h
-
 pub rehung_node : (f g : Forest) (chosen : ℕ → Bool) (q : Option ℕ) (n : ℕ) → Rehangs f g chosen q → IsNode f n → IsNode g n
 rehung_node f g chosen q n r there = there_alike f g n (r.kinds n) there
 
@@ -149,7 +144,7 @@ edited_rehangs p h chosen q f d k e there texts here other = record {
 abbrev pub none_chosen : ℕ → Bool
 none_chosen _ = false
 
-id_map : (o : Option Node) → option_map {T = Node} {U = Node} (λ d. d) o ≡ o
+pub id_map : (o : Option Node) → option_map {T = Node} {U = Node} (λ d. d) o ≡ o
 id_map None = refl
 id_map (Some d) = refl
 

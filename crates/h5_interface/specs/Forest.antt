@@ -77,9 +77,6 @@ contents_of f n = option_and_then (λ d. d.contents) (f.node n)
 abbrev pub kind_of : Forest → ℕ → Option Kind
 kind_of f n = option_map (λ d. d.kind) (f.node n)
 
-abbrev pub marks_of : Forest → ℕ → Option Marks
-marks_of f n = option_map (λ d. d.marks) (f.node n)
-
 -- n is a node
 abbrev pub IsNode : Forest → ℕ → Type 0
 IsNode f n = f.node n ≢ None

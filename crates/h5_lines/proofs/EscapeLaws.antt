@@ -53,9 +53,6 @@ none-some e f = cc
 pub byte_of_low : (c d : ℕ) → byte_of c ≡ Some d → c < 128
 byte_of_low c d e = ⊎_elim (λ low. low) (λ high. none-some (byte_of_high c high) e) (cases_lt c 128)
 
-pub letter_of_low : (c d : ℕ) → letter_of c ≡ Some d → c < 128
-letter_of_low c d e = ⊎_elim (λ low. low) (λ high. none-some (letter_of_high c high) e) (cases_lt c 128)
-
 low_by : (b : Bool) (k l : ℕ) (o : Option ℕ) → k < 128 → (o ≡ Some l → l < 128) → cond b (Some k) o ≡ Some l → l < 128
 low_by true k l o h g e = let same : k ≡ l = cc in omega arith
 low_by false k l o h g e = g e
@@ -67,11 +64,6 @@ pub low_byte : (c d : ℕ) → byte_of c ≡ Some d → d < 128
 low_byte c d =
     low_by (eqb c 110) 10 d _ (omega arith) (low_by (eqb c 116) 9 d _ (omega arith) (low_by (eqb c 102) 12 d _ (omega arith)
     (low_by (eqb c 114) 13 d _ (omega arith) (low_by (eqb c 48) 0 d _ (omega arith) (low_by (eqb c 92) 92 d _ (omega arith) (none_low d))))))
-
-pub low_letter : (c d : ℕ) → letter_of c ≡ Some d → d < 128
-low_letter c d =
-    low_by (eqb c 10) 110 d _ (omega arith) (low_by (eqb c 9) 116 d _ (omega arith) (low_by (eqb c 12) 102 d _ (omega arith)
-    (low_by (eqb c 13) 114 d _ (omega arith) (low_by (eqb c 0) 48 d _ (omega arith) (low_by (eqb c 92) 92 d _ (omega arith) (none_low d))))))
 
 some_bytes : (c : ℕ) (rest : List ℕ) → 0 < length (encode_utf8 c ++ rest)
 some_bytes c rest = omega (arith, length-append (encode_utf8 c) rest, length-encode c, (len_utf8_bounds c).0)
@@ -146,11 +138,6 @@ pub read_last : (text rest out new : List ℕ) → ((k : ℕ) → k < length res
 read_last text rest out new none e h = ap Some e ∙ ap (onto out) (sym (unescape_all rest none)) ∙ h
 
 -- ---- writing
-
--- a character that has a letter
-pub escape_letter : (xs rest : List ℕ) (c letter : ℕ) → xs ≡ encode_utf8 c ++ rest → letter_of c ≡ Some letter → escape xs ≡ 92 ∷ letter ∷ escape rest
-escape_letter xs rest c letter e h =
-    ap escape (e ∙ ap (λ l. l ++ rest) (encode_ascii c (letter_of_low c letter h))) ∙ ap (λ o. written_by o c ++ escape rest) h
 
 escape_high : (xs rest : List ℕ) → ((k : ℕ) → k < length xs → 128 ≤ get_or xs k 0) → escape (xs ++ rest) ≡ xs ++ escape rest
 escape_high [] rest h = refl

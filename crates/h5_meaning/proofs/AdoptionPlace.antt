@@ -13,7 +13,7 @@ use Rattle.h5_interface.specs.Seen.{CanStandBy, IsFreeFor}
 use Rattle.h5_interface.specs.SinkChoices.{Rearranges}
 use Rattle.h5_interface.proofs.AncestorLaws.{at_or_above_trans}
 use Rattle.h5_interface.proofs.ChildLaws.{count-append}
-use Rattle.h5_interface.proofs.ForestLaws.{rearranged_ancestor, rearranged_node}
+use Rattle.h5_interface.proofs.ForestLaws.{rearranged_ancestor, rearranged_node, at_parent}
 use Rattle.h5_interface.proofs.HangingLaws.{detach_rearranges, detached_parent}
 use Rattle.h5_interface.proofs.RehangLaws.{Rehangs}
 use Rattle.h5_tag_sets.specs.TagSets.{html_namespace, is_default_scope, is_html_named, is_special, is_table_outer, scope_names, special_names}
@@ -193,9 +193,6 @@ may_adopt_kept {name} {f} {k} w g sound same may = record {
     named : (n : ℕ) → IsIn n (newer_than f.node w.stack) → name_in g n ≡ name_in w.forest n
     named n i = ap name_of_found (same n (element_is_node w.forest n (sound.stands.elements n (newer_is_open w may n i))))
 
-pub ancestor_is_open : {name : List ℕ} {f : FormattingElement} {k : FurthestBlock} (w : World) → IsRootOpen (names_of w) → Sound w → MayAdopt name f k w → IsIn (common_ancestor f w) w.stack
-ancestor_is_open {name} {f} {k} w open_root sound may = older_is_open w may (common_ancestor f w) (ancestor_is_older w may sound open_root)
-
 -- A place that a node isn't above.
 
 abbrev pub IsClearOf : Forest → ℕ → Place → Type 0
@@ -222,14 +219,6 @@ clear_rearranged g h z p forest r there clear = at p there clear
     at : (p : Place) → IsPlaceIn g p → IsClearOf g z p → IsClearOf h z p
     at (LastChild q) there clear = old q there clear
     at (TableFosterParenting n prev) there clear = (old n (element_is_node g n there.0) clear.0, old prev there.1 clear.1)
-
-at_parent : (p : ℕ) (o : Option ℕ) → 0 < (if is_at p o then 1 else 0) → o ≡ Some p
-at_parent p None h = absurd (omega arith)
-at_parent p (Some q) h = case (p == q) refl h
-  where
-    case : (b : Bool) → (p == q) ≡ b → 0 < (if b then 1 else 0) → Some q ≡ Some p
-    case true e w = ap (λ x. Some x) (sym (eqb-true p q e))
-    case false e w = absurd (omega arith)
 
 -- contents have the template as their parent
 pub contents_parent : (g : Forest) (t c : ℕ) → IsForest g → contents_of g t ≡ Some c → parent_of g c ≡ Some t
@@ -394,13 +383,3 @@ module _ {name : List ℕ} {f : FormattingElement} {k : FurthestBlock} (w : Worl
       (λ y z i e above come. kept.below y i (subst (λ m. AtOrAbove (parent_of free_forest) m y) (eqb-true z last e) come))
 
 -- In the element that is next older than the formatting element.
-
-module _ {name : List ℕ} {f : FormattingElement} {k : FurthestBlock} (w : World) (sound : Sound w) (open_root : IsRootOpen (names_of w)) (may : MayAdopt name f k w) (last : ℕ) (loose : IsLoose w.forest w.stack k.block last) where
-  pub can_place : CanPut (detach last w.forest) (appropriate_place w (common_ancestor f w)) (ChildNode last)
-  can_place = can_put_loose w may sound open_root (common_ancestor f w) (ancestor_is_older w may sound open_root) last loose
-
-  pub placed_all : AllStand (put (appropriate_place w (common_ancestor f w)) (ChildNode last) (detach last w.forest)) w.stack w.formatting w.head w.form w.context
-  placed_all = put_loose_all w may sound open_root (common_ancestor f w) (ancestor_is_older w may sound open_root) last loose
-
-  pub placed_kinds : KeepsKinds w.forest (put (appropriate_place w (common_ancestor f w)) (ChildNode last) (detach last w.forest))
-  placed_kinds = put_loose_kinds w may sound open_root (common_ancestor f w) (ancestor_is_older w may sound open_root) last loose

@@ -324,7 +324,7 @@ clone_original (x ∷ xs) (z ∷ ys) y e (inr i) =
     less : (p q : ℕ) → suc p ≡ suc q → p ≡ q
     less p q w = cc
 
-original_in : (xs ys : List ℕ) (y x : ℕ) → IsCloneOf xs ys y x → IsIn x xs
+pub original_in : (xs ys : List ℕ) (y x : ℕ) → IsCloneOf xs ys y x → IsIn x xs
 original_in [] ys y x h = h
 original_in (a ∷ xs) [] y x h = absurd h
 original_in (a ∷ xs) (b ∷ ys) y x (inl h) = inl h.0

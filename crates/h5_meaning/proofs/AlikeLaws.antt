@@ -9,10 +9,7 @@ use Rattle.h5_token.specs.TokenText.{IsAlike, TagText}
 use Rattle.h5_token.specs.declared.tag.TagKind.{TagKind}
 use Rattle.h5_token.specs.declared.tag.TagKind.TheVariants.{StartTag, EndTag}
 use Rattle.h5_meaning.specs.FormattingList.{has_same_attributes, is_alike, is_same_kind}
-
-both : (a b : Bool) → (a && b) ≡ true → (a ≡ true) × (b ≡ true)
-both true b h = (refl, h)
-both false b h = cc
+use Rattle.h5_meaning.proofs.BoolLaws.{and_both}
 
 occurrences-append : (a : AttributeText) (xs ys : List AttributeText) → occurrences a (xs ++ ys) ≡ occurrences a xs + occurrences a ys
 occurrences-append a [] ys = omega arith
@@ -22,15 +19,15 @@ occurrences-append a (x ∷ xs) ys = at (is_same_attribute x a) (occurrences a x
     at true i j k e = omega (arith, e)
     at false i j k e = e
 
--- an attribute that stands in a list, each of which stands as often in both, does so too
+-- an attribute that stands in a list, each of which stands as often in and_both, does so too
 listed : (a : AttributeText) (these xs ys : List AttributeText) → list_all (λ x. occurrences x xs == occurrences x ys) these ≡ true → occurrences a these ≢ 0 → occurrences a xs ≡ occurrences a ys
 listed a [] xs ys all there = absurd (there refl)
-listed a (x ∷ these) xs ys all there = step (is_same_attribute x a) refl (listed a these xs ys (both _ _ all).1)
+listed a (x ∷ these) xs ys all there = step (is_same_attribute x a) refl (listed a these xs ys (and_both _ _ all).1)
   where
     step : (b : Bool) → is_same_attribute x a ≡ b → (occurrences a these ≢ 0 → occurrences a xs ≡ occurrences a ys) → occurrences a xs ≡ occurrences a ys
     step true same again =
         let P : AttributeText → Type 0 = λ t. occurrences t xs ≡ occurrences t ys in
-        subst P ((same_attribute x a).0 same) (eqb-true _ _ (both _ _ all).0)
+        subst P ((same_attribute x a).0 same) (eqb-true _ _ (and_both _ _ all).0)
     step false other again = again (λ none. there (rw other none))
 
 same_told : (xs ys : List AttributeText) → has_same_attributes xs ys ≡ true → HaveSameAttributes xs ys
@@ -58,23 +55,20 @@ kind_telling x y e = subst (λ z. is_same_kind x z ≡ true) e (same x)
     same StartTag = refl
     same EndTag = refl
 
-same_text : (x y : List ℕ) → IsTrue (is_same_text x y) ↔ (x ≡ y)
+pub same_text : (x y : List ℕ) → IsTrue (is_same_text x y) ↔ (x ≡ y)
 same_text x y = search rules
 
 -- the test is likeness
 pub alike_told : (x y : TagText) → is_alike x y ≡ true → IsAlike x y
 unfolding is_alike
 alike_told x y h =
-    let k = both (is_same_kind x.kind y.kind) (is_same_text x.name y.name && has_same_attributes x.attrs y.attrs) h in
-    let n = both (is_same_text x.name y.name) (has_same_attributes x.attrs y.attrs) k.1 in
+    let k = and_both (is_same_kind x.kind y.kind) (is_same_text x.name y.name && has_same_attributes x.attrs y.attrs) h in
+    let n = and_both (is_same_text x.name y.name) (has_same_attributes x.attrs y.attrs) k.1 in
     record { kind = kind_told x.kind y.kind k.0; name = (same_text x.name y.name).0 n.0; attrs = same_told x.attrs y.attrs n.1 }
 
 pub alike_telling : (x y : TagText) → IsAlike x y → is_alike x y ≡ true
 unfolding is_alike
 alike_telling x y h = rw (kind_telling x.kind y.kind h.kind) (rw ((same_text x.name y.name).1 h.name) (same_telling x.attrs y.attrs (x.attrs ++ y.attrs) h.attrs))
-
-pub alike_self : (x : TagText) → is_alike x x ≡ true
-alike_self x = alike_telling x x (record { kind = refl; name = refl; attrs = λ a. refl })
 
 -- alike tags have the same ones alike to them
 pub alike_same : (x y z : TagText) → is_alike x y ≡ true → is_alike x z ≡ is_alike y z

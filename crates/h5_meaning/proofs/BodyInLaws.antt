@@ -112,7 +112,7 @@ form_not_implied : (n : QualName) → is_implied n ≡ true → is_html_named (c
 unfolding unimplied_names implied_names
 form_not_implied n h = named_not_implied unimplied_names (codes "form") n refl refl h
 
-marked_not_implied : (local : List ℕ) → is_one_of in_body_marked local ≡ true → (n : QualName) → is_implied n ≡ true → is_html_named local n ≡ false
+pub marked_not_implied : (local : List ℕ) → is_one_of in_body_marked local ≡ true → (n : QualName) → is_implied n ≡ true → is_html_named local n ≡ false
 unfolding in_body_marked implied_names
 marked_not_implied local p n h = named_not_implied in_body_marked local n refl p h
 

@@ -168,9 +168,6 @@ module _ (m : InsertionMode) (goes : goes_by_body m ≡ true) where
       let k = steady_cleared w (steady m goes w r) in record { ready = record { sound = k.sound; lists = k.lists; root = r.ready.root }; fit = r.fit }
 
 module _ (choices : SinkChoices) (m : InsertionMode) (goes : goes_by_body m ≡ true) (w : World) (r : ReadyIn m w) where
-  FramedAs : List QualName → Type 0
-  FramedAs ns = Frame (roles (names_of w)) (roles ns)
-
   pub in_implied_except : (local : List ℕ) → ReadyIn m (generate_implied_end_except choices local w)
   in_implied_except local =
       in_closed m goes w (generate_implied_end_except choices local w) r (implied_keeps choices local w r.ready.sound r.ready.lists) (tree_implied_except choices local w)

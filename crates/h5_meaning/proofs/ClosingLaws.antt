@@ -80,10 +80,6 @@ pub template_not_thorough : (n : QualName) → is_thorough_implied n ≡ true �
 unfolding thorough_implied_names implied_names
 template_not_thorough n h = named_not_thorough (codes "template") n refl h
 
-pub html_not_thorough : (n : QualName) → is_thorough_implied n ≡ true → is_html_named (codes "html") n ≡ false
-unfolding thorough_implied_names implied_names
-html_not_thorough n h = named_not_thorough (codes "html") n refl h
-
 -- what is popped is no element that names are cut at, so cutting there leaves the same
 pub cut_dropped : (is popped : QualName → Bool) → ((n : QualName) → popped n ≡ true → is n ≡ false) → (ns : List QualName) → cut_names is (drop_while popped ns) ≡ cut_names is ns
 cut_dropped is popped apart [] = refl
@@ -175,11 +171,3 @@ while_holds P choices popped one (n ∷ ns) w k =
       | true ↦ while_holds P choices popped one ns (pop choices w) (one w k)
       | false ↦ k
     ]
-
--- thorough implied ends leave all standing, and the root open
-pub thorough_sound : (choices : SinkChoices) (w : World) → Sound w → Sound (generate_implied_end_thoroughly choices w)
-unfolding generate_implied_end_thoroughly
-thorough_sound choices w k = while_holds Sound choices is_thorough_implied (pop_sound choices) (names_of w) w k
-
-pub thorough_root_open : (choices : SinkChoices) (w : World) → IsRootOpen (names_of w) → IsRootOpen (names_of (generate_implied_end_thoroughly choices w))
-thorough_root_open choices w h = subst IsRootOpen (sym (names-thorough_implied choices w)) (open_while is_thorough_implied (names_of w) html_not_thorough h)

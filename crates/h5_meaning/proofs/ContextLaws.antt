@@ -52,11 +52,6 @@ down_rooted c (n ∷ []) r = at (ends c n) (html_ends c n r)
     at false e = absurd (cc)
 down_rooted c (n ∷ m ∷ ns) r = elim (ends c n) as (λ b. Rooted (cond b (n ∷ m ∷ ns) (down_to c (m ∷ ns)))) [ true ↦ r | false ↦ down_rooted c (m ∷ ns) r ]
 
--- one step down
-record Later (c : StackContext) (n : Role) (ns : List Role) : Type 0 where
-  no_ground : is_ground n ≡ false
-  clear : Clear c ns
-
 over_later : (c : StackContext) (n : Role) (ns : List Role) → ends c n ≡ false → Over c (n ∷ ns) → (is_ground n ≡ false) × Over c ns
 over_later c n ns e o = (at n e o, passed n o)
   where

@@ -34,6 +34,7 @@ use Rattle.h5_meaning.proofs.FormattingLaws.{reconstruct_after_flag_and_text}
 use Rattle.h5_meaning.proofs.TableTextLaws.{current_name_kept, fostered_keeps}
 use Rattle.h5_meaning.proofs.TextForestLaws.{place_same, put_text_twice, text_same}
 use Rattle.h5_meaning.proofs.TreeLaws.{tree_reconstruct}
+use Rattle.h5_meaning.proofs.BlankLaws.{all_blank-append}
 
 -- a text is blank, or has a rest at which its front ends
 pub data Cut (t u : List ℕ) : Type 0 where
@@ -70,10 +71,6 @@ appends : Blanks append_text
 unfolding append_text
 appends = record { twice = λ t u w. ap (λ f. with_forest f w) (forest_twice t u w); mode = λ t w. refl }
 
-all_blank-append : (t u : List ℕ) → all_blank (t ++ u) ≡ (all_blank t && all_blank u)
-all_blank-append [] u = refl
-all_blank-append (b ∷ t) u = elim (is_blank b) as (λ v. (v && all_blank (t ++ u)) ≡ ((v && all_blank t) && all_blank u)) [ true ↦ all_blank-append t u | false ↦ refl ]
-
 and_assoc : (p q r : Bool) → ((p && q) && r) ≡ (p && (q && r))
 and_assoc true q r = refl
 and_assoc false q r = refl
@@ -105,10 +102,6 @@ in_body_twice choices = record {
   twice = λ t u w. ap (plain_text u) (reconstruct_after_flag_and_text choices t w) ∙ plain_twice t u (reconstruct_active_formatting_elements choices w);
   mode = λ t w. plain_mode t (reconstruct_active_formatting_elements choices w) ∙ ap (λ (v : World). v.mode) (tree_reconstruct choices w);
 }
-
-any_mode : (f : List ℕ → World → World) → Blanks f → (t : List ℕ) (w : World) → (if_any f t w).mode ≡ w.mode
-any_mode f b [] w = refl
-any_mode f b (x ∷ t) w = b.mode (x ∷ t) w
 
 any_twice : (f : List ℕ → World → World) → Blanks f → (t u : List ℕ) (w : World) → if_any f u (if_any f t w) ≡ if_any f (t ++ u) w
 any_twice f b [] u w = refl

@@ -49,8 +49,9 @@ use Rattle.h5_meaning.proofs.FormattingLaws.{sound_anew, sound_reconstruct}
 use Rattle.h5_meaning.proofs.NameLaws.{names-append, names-cut, names-insert, names-insert_head, names-insert_root}
 use Rattle.h5_meaning.proofs.PopLaws.{names-mark_started, names-pop, names_length}
 use Rattle.h5_meaning.proofs.TableAgainLaws.{ByEdge, ClosesColumnGroup, ClosesTable, ClosesTemplate, EndsText, RowLeads, TakesPending, leads}
-use Rattle.h5_meaning.proofs.TableTextLaws.{formatting_role, front_formatting}
+use Rattle.h5_meaning.proofs.TableTextLaws.{formatting_role}
 use Rattle.h5_meaning.proofs.TreeLaws.{tree_reconstruct}
+use Rattle.h5_meaning.proofs.ReadyInLaws.{front_formatting}
 
 -- how many turns a token can still take at most
 abbrev pub rank_of : TurnText → World → ℕ

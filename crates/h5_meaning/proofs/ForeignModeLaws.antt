@@ -27,6 +27,7 @@ use Rattle.h5_meaning.specs.ForeignContent.{Finds, ReachesHtml, search_end}
 use Rattle.h5_meaning.specs.Sound.{situation_of}
 use Rattle.h5_meaning.specs.World.{World, name_in, names_of}
 use Rattle.h5_meaning.proofs.KeptLaws.{FitsAs}
+use Rattle.h5_meaning.proofs.NamesBodyLaws.{table_goes}
 
 -- IN HTML: where the adjusted current node is an element of HTML no token is foreign
 abbrev pub IsHtmlAt : World → Option ℕ → Type 0
@@ -166,12 +167,6 @@ foreign_mode choices t w h f = at (takes_foreign w.mode) refl
 open_length : (ns : List QualName) → IsRootOpen ns → 0 < length (roles ns)
 open_length [] h = absurd h
 open_length (n ∷ ns) h = omega arith
-
-table_goes : (m : InsertionMode) → is_table_mode m ≡ true → goes_by_body m ≡ true
-table_goes InTable h = refl
-table_goes InTableBody h = refl
-table_goes InRow h = refl
-table_goes _ h = absurd (cc)
 
 pub names_foreign_frame : (s : Situation) (m : InsertionMode) (old new : List QualName) → takes_foreign m ≡ true → Frame (roles old) (roles new) → IsRootOpen new → NamesFit s m old → NamesFit s m new
 names_foreign_frame s InFrameset old new h f o fit = record {

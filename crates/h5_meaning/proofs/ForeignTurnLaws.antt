@@ -24,7 +24,7 @@ use Rattle.h5_meaning.proofs.ForeignLaws.{names-leave, tree_leave}
 use Rattle.h5_meaning.proofs.ForeignModeLaws.{foreign_mode, left_plain}
 use Rattle.h5_meaning.proofs.ForeignRowLaws.{Steps, any_has, dispatch_holds, each_step, eof_html}
 use Rattle.h5_meaning.proofs.KeptLaws.{apply_append}
-use Rattle.h5_meaning.proofs.ListableLaws.{rule_listable, rule_told}
+use Rattle.h5_meaning.proofs.ListableLaws.{rule_told}
 use Rattle.h5_meaning.proofs.ListedLaws.{AllListable}
 use Rattle.h5_meaning.proofs.SilentLaws.{Silent, is_start_turn, rule_silent}
 use Rattle.h5_meaning.proofs.ToldLaws.{IsTold, Tells, is_text}
@@ -32,29 +32,6 @@ use Rattle.h5_meaning.proofs.ToldLaws.{IsTold, Tells, is_text}
 -- leaving foreign content leaves the mode
 left_mode : (choices : SinkChoices) (w : World) → (leave_foreign_content choices w).mode ≡ w.mode
 left_mode choices w = ap (λ (x : World). x.mode) (tree_leave choices w)
-
--- what is listed
-step_listable : (choices : SinkChoices) (t : TurnText) (w : World) → Steps w (λ x. Unit {0}) (λ x. AllListable (row_of choices x t w).changes)
-step_listable choices t w = record {
-  leaves = rule_listable (leave_foreign_content choices w).mode t (leave_foreign_content choices w);
-  stays = rule_listable w.mode t w;
-  ignores = tt;
-  starts = λ tag. chosen tag.self_closing _ _ tt tt;
-  ends = λ tag e. tt;
-  comments = λ x. tt;
-  texts = λ x s. tt;
-  nulls = tt;
-}
-  where
-    chosen : (b : Bool) (r s : Row) → AllListable r.changes → AllListable s.changes → AllListable (choose b r s).changes
-    chosen true r s f g = f
-    chosen false r s f g = g
-
-pub dispatch_listable : (choices : SinkChoices) (t : TurnText) (w : World) → AllListable (dispatch choices t w).changes
-dispatch_listable choices t w =
-    dispatch_holds (λ r. AllListable r.changes) choices t w
-    (λ h. each_step w (λ x. Unit {0}) (λ x. AllListable (row_of choices x t w).changes) (step_listable choices t w) t (any_has t))
-    (λ h. rule_listable w.mode t w)
 
 -- what is told of texts
 tells_left : (x : Ending) (ys : List Change) → Tells x ys → Tells x (LeaveForeignContent ∷ ys)

@@ -12,7 +12,7 @@ use Rattle.h5_meaning.specs.Fresh.{AreFresh}
 use Rattle.h5_meaning.specs.Lists.{Lists, OpenFirst}
 use Rattle.h5_meaning.specs.Order.{Distinct, IsIn, is_in}
 use Rattle.h5_meaning.proofs.EachLaws.{each_push_formatting, each_reconstructed, each_tag_reconstructed}
-use Rattle.h5_meaning.proofs.FreshLaws.{each_listed, listed_rearranged}
+use Rattle.h5_meaning.proofs.FreshLaws.{each_listed}
 use Rattle.h5_meaning.proofs.KeptListsLaws.{lists_pushed}
 use Rattle.h5_meaning.proofs.PushLaws.{lists_push_formatting}
 use Rattle.h5_meaning.proofs.ReconstructLaws.{front_reconstructed, lists_reconstructed, open_after, reconstructed_is_open, reconstructed_none}
@@ -25,7 +25,7 @@ use Rattle.h5_meaning.specs.Sound.{AllStand, HasLists, IsReady, Sound}
 use Rattle.h5_meaning.specs.World.{World, names_of}
 use Rattle.h5_meaning.proofs.NameLaws.{names-insert}
 use Rattle.h5_meaning.proofs.PlaceLaws.{all_inserted, current_place_is_there, first_place, new_element_kind, new_element_rearranges}
-use Rattle.h5_meaning.proofs.SoundLaws.{element_is_node}
+use Rattle.h5_meaning.proofs.SoundLaws.{element_is_node, listed_kept}
 
 -- the list is another
 pub all_listed : {head form context : Option ℕ} (f : Forest) (s : List ℕ) (l m : List Entry) → AllStand f s l head form context → AllOfTags f m → AllFormatting m → AllStand f s m head form context
@@ -79,9 +79,6 @@ module _ (choices : SinkChoices) (tag : TagText) (w : World) where
   insert_for_keeps_node n k there = rearranged_node w.forest (insert_for choices tag w).forest n (insert_for_rearranges k) there
 
   -- the list is what it was, and the new element isn't listed
-  pub lists_insert : Sound w → HasLists w → HasLists (insert_for choices tag w)
-  unfolding insert_element
-  lists_insert k lists = lists_pushed (choices.fresh w.forest) w.stack w.formatting (new_is_unlisted choices w k) lists
 
   pub root_insert_for : Sound w → IsRootOpen (names_of w) → IsRootOpen (names_of (insert_for choices tag w))
   root_insert_for k h = subst IsRootOpen (sym (names-insert choices tag.name tag.attrs tag.had_duplicate_attributes w k)) (open_push (html_name tag.name) (names_of w) h)
@@ -96,11 +93,6 @@ pub sound_anew : (choices : SinkChoices) (l : List Entry) (w : World) → Sound 
 sound_anew choices [] w k = k
 sound_anew choices (MarkerEntry ∷ l) w k = sound_anew choices l w k
 sound_anew choices (ElementEntry n tag ∷ l) w k = sound_insert_for choices tag (insert_anew choices l w) (sound_anew choices l w k)
-
-pub formatting-anew : (choices : SinkChoices) (l : List Entry) (w : World) → (insert_anew choices l w).formatting ≡ w.formatting
-formatting-anew choices [] w = refl
-formatting-anew choices (MarkerEntry ∷ l) w = formatting-anew choices l w
-formatting-anew choices (ElementEntry n tag ∷ l) w = formatting-insert_for choices tag (insert_anew choices l w) ∙ formatting-anew choices l w
 
 pub root_anew : (choices : SinkChoices) (l : List Entry) (w : World) → Sound w → IsRootOpen (names_of w) → IsRootOpen (names_of (insert_anew choices l w))
 root_anew choices [] w k h = h
@@ -164,7 +156,7 @@ anew_keeps_kind choices [] w k h = h
 anew_keeps_kind choices (MarkerEntry ∷ l) w k h = anew_keeps_kind choices l w k h
 anew_keeps_kind choices (ElementEntry n tag ∷ l) w k h =
     let v = insert_anew choices l w in
-    listed_rearranged v.forest (insert_for choices tag v).forest w.formatting (insert_for_rearranges choices tag v (sound_anew choices l w k)) (anew_keeps_kind choices l w k h)
+    listed_kept v.forest (insert_for choices tag v).forest w.formatting (insert_for_rearranges choices tag v (sound_anew choices l w k)) (anew_keeps_kind choices l w k h)
 
 -- each is of its entry's tag
 made_kinds : (choices : SinkChoices) (l : List Entry) (w : World) → Sound w → AllOfTags (insert_anew choices l w).forest (made_anew (made_nodes choices l w) l)
@@ -177,7 +169,7 @@ made_kinds choices (MarkerEntry ∷ l) w k = none (made_nodes choices l w)
 made_kinds choices (ElementEntry n tag ∷ l) w k =
     let v = insert_anew choices l w in
     let sound = sound_anew choices l w k in
-    (kind-insert_for choices tag v sound, listed_rearranged v.forest (insert_for choices tag v).forest (made_anew (made_nodes choices l w) l) (insert_for_rearranges choices tag v sound) (made_kinds choices l w k))
+    (kind-insert_for choices tag v sound, listed_kept v.forest (insert_for choices tag v).forest (made_anew (made_nodes choices l w) l) (insert_for_rearranges choices tag v sound) (made_kinds choices l w k))
 
 -- RECONSTRUCTING, as a change of stack and list alone
 module _ (choices : SinkChoices) (w : World) where
@@ -245,25 +237,6 @@ module _ (choices : SinkChoices) (w : World) where
       ∙ ap (closed_front (made ++ w.stack)) formatting-reconstruct
       ∙ front_reconstructed made w.stack w.formatting (made_many choices w.stack w.formatting w)
 
--- twice is once, whatever the world
-pub reconstruct_twice : (choices : SinkChoices) (w : World) → let v = reconstruct_active_formatting_elements choices w in reconstruct_active_formatting_elements choices v ≡ v
-reconstruct_twice choices w = reconstruct_none choices (reconstruct_active_formatting_elements choices w) (closed_reconstruct choices w)
-
--- also with a text put in between, and with what a text does to the frameset flag
-pub reconstruct_after_text : (choices : SinkChoices) (t : List ℕ) (w : World) → let v = append_text t (reconstruct_active_formatting_elements choices w) in reconstruct_active_formatting_elements choices v ≡ v
-unfolding append_text
-reconstruct_after_text choices t w = reconstruct_none choices (append_text t (reconstruct_active_formatting_elements choices w)) (closed_reconstruct choices w)
-
-pub reconstruct_after_flag : (choices : SinkChoices) (t : List ℕ) (w : World)
-    → let v = set_frameset_ok_by_text t (reconstruct_active_formatting_elements choices w) in reconstruct_active_formatting_elements choices v ≡ v
-unfolding set_frameset_ok_by_text
-reconstruct_after_flag choices t w = reconstruct_none choices (set_frameset_ok_by_text t (reconstruct_active_formatting_elements choices w)) (closed_reconstruct choices w)
-
-pub reconstruct_after_text_and_flag : (choices : SinkChoices) (t : List ℕ) (w : World)
-    → let v = set_frameset_ok_by_text t (append_text t (reconstruct_active_formatting_elements choices w)) in reconstruct_active_formatting_elements choices v ≡ v
-unfolding append_text set_frameset_ok_by_text
-reconstruct_after_text_and_flag choices t w = reconstruct_none choices (set_frameset_ok_by_text t (append_text t (reconstruct_active_formatting_elements choices w))) (closed_reconstruct choices w)
-
 pub reconstruct_after_flag_and_text : (choices : SinkChoices) (t : List ℕ) (w : World)
     → let v = append_text t (set_frameset_ok_by_text t (reconstruct_active_formatting_elements choices w)) in reconstruct_active_formatting_elements choices v ≡ v
 unfolding append_text set_frameset_ok_by_text
@@ -295,19 +268,6 @@ AllListedOpen w = (n : ℕ) → IsIn n (nodes_of (after_marker w.formatting)) �
 -- so it is after reconstructing, where the list agrees with the stack
 pub reconstruct_opens : (choices : SinkChoices) (w : World) → HasLists w → AllListedOpen (reconstruct_active_formatting_elements choices w)
 reconstruct_opens choices w lists = open_reconstruct choices w (open_after w.stack w.formatting lists.agrees.open_first)
-
--- as most formatting tags have it: reconstructing, and then a new formatting element
-pub lists_reconstruct_format : (choices : SinkChoices) (tag : TagText) (w : World) → Sound w → HasLists w → HasLists (create_formatting_element choices tag (reconstruct_active_formatting_elements choices w))
-lists_reconstruct_format choices tag w k lists =
-    lists_format choices tag (reconstruct_active_formatting_elements choices w) (reconstruct_opens choices w lists) (sound_reconstruct choices w k) (lists_reconstruct choices w k lists)
-
--- IN THE BODY: builder and sink stay ready
-pub insert_for_ready : (choices : SinkChoices) (tag : TagText) (w : World) → IsReady w → IsReady (insert_for choices tag w)
-insert_for_ready choices tag w k = record {
-  sound = sound_insert_for choices tag w k.sound;
-  lists = lists_insert choices tag w k.sound k.lists;
-  root = root_insert_for choices tag w k.sound k.root;
-}
 
 pub reconstruct_ready : (choices : SinkChoices) (w : World) → IsReady w → IsReady (reconstruct_active_formatting_elements choices w)
 reconstruct_ready choices w k = record {

@@ -43,8 +43,9 @@ use Rattle.h5_meaning.proofs.KeptLaws.{FitsAs, Kept, as_before, fits_at, kept_ap
 use Rattle.h5_meaning.proofs.NameLaws.{names-append, names-insert, names-insert_and_pop}
 use Rattle.h5_meaning.proofs.PopLaws.{names-pop}
 use Rattle.h5_meaning.proofs.SituationLaws.{situation_frameset, situation_insert, situation_leaf, situation_pop, situation_text, situation_then, situation_tree}
-use Rattle.h5_meaning.proofs.TableTextLaws.{formatting_role, front_formatting}
+use Rattle.h5_meaning.proofs.TableTextLaws.{formatting_role}
 use Rattle.h5_meaning.proofs.TreeLaws.{tree_insert_for}
+use Rattle.h5_meaning.proofs.ReadyInLaws.{front_formatting}
 
 frameset_role : (l : List ℕ) → named Frameset l ≡ true → role_of_local l ≡ FramesetRole
 unfolding role_of_local

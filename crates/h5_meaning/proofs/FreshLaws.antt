@@ -12,10 +12,6 @@ use Rattle.h5_meaning.specs.Order.{Distinct, IsIn}
 use Rattle.h5_meaning.proofs.EachLaws.{each_more}
 use Rattle.h5_meaning.proofs.PairLaws.{before_across, before_left, in_left, in_right}
 
--- a rearranged forest keeps what is listed
-pub listed_rearranged : (f g : Forest) (l : List Entry) → Rearranges f g → AllOfTags f l → AllOfTags g l
-listed_rearranged f g l r h = each_more (IsOfTag f) (IsOfTag g) l (λ n t e. r.same_kind n (node_of_kind f n (ElementNode (html_name t.name)) e) ∙ e) h
-
 -- what is listed is a node
 pub each_listed : (f : Forest) (l : List Entry) (n : ℕ) → AllOfTags f l → IsIn n (nodes_of l) → IsNode f n
 each_listed f [] n k h = absurd h

@@ -188,9 +188,6 @@ without_entry_gone m l d i = elim (is_listed_or_not m (nodes_of l)) [
 pub agrees_dropped : (a b : List ℕ) (n : ℕ) (l : List Entry) → Agrees (a ++ n ∷ b) l → Agrees (a ++ b) (without_entry n l)
 agrees_dropped a b n l k = agrees_left a b n (without_entry n l) (without_entry_gone n l k.once) (agrees_without_entry n (a ++ n ∷ b) l k)
 
-pub lists_dropped : (a b : List ℕ) (n : ℕ) (l : List Entry) → Lists (a ++ n ∷ b) l → Lists (a ++ b) (without_entry n l)
-lists_dropped a b n l k = lists_left a b n (without_entry n l) (without_entry_gone n l k.agrees.once) (lists_without_entry n (a ++ n ∷ b) l k)
-
 -- a marker is pushed
 pub lists_marked : (s : List ℕ) (l : List Entry) → Lists s l → Lists s (MarkerEntry ∷ l)
 lists_marked s l k = record {

@@ -46,17 +46,14 @@ use Rattle.h5_meaning.specs.InFrameset.{in_frameset_end, in_frameset_end_framese
 use Rattle.h5_meaning.specs.AfterFrameset.{after_frameset_end, after_frameset_start, after_frameset_tag}
 use Rattle.h5_meaning.specs.AfterAfterFrameset.{after_after_frameset_tag}
 
-either : (b : Bool) (r s : Row) → IsTold r → IsTold s → IsTold (choose b r s)
-either b r s x y = told_chosen b r s x y
-
 -- BEFORE the body, and after it
 told_html : (tag : TagText) (w : World) → IsTold (in_body_start_html tag w)
 unfolding in_body_start_html
-told_html tag w = either (has_template (names_of w)) ignored (errs (AddAttrsToHtml tag.attrs ∷ []) IsDone) (tt, tt) (tt, tt)
+told_html tag w = told_chosen (has_template (names_of w)) ignored (errs (AddAttrsToHtml tag.attrs ∷ []) IsDone) (tt, tt) (tt, tt)
 
 initial_row : (t : TurnText) (w : World) → IsTold (initial_else t w)
 unfolding initial_else
-initial_row t w = either w.options.iframe_srcdoc (row [] (Again BeforeHtml)) (errs (SetQuirksMode Quirks ∷ []) (Again BeforeHtml)) (tt, (refl, tt)) (tt, (refl, tt))
+initial_row t w = told_chosen w.options.iframe_srcdoc (row [] (Again BeforeHtml)) (errs (SetQuirksMode Quirks ∷ []) (Again BeforeHtml)) (tt, (refl, tt)) (tt, (refl, tt))
 
 before_html_rows : (k : TagKind) (tag : TagText) (w : World) → IsTold (by_kind k (by_name before_html_start (of_tag before_html_else) tag w) (by_name before_html_end ignored_tag tag w))
 unfolding before_html_start before_html_end
@@ -113,7 +110,7 @@ after_head_rows EndTag tag w = holds_by_name IsTold after_head_end ignored_tag t
 after_body_rows : (k : TagKind) (tag : TagText) (w : World) → IsTold (by_kind k (by_name after_body_start (of_tag back_to_body) tag w) (by_name after_body_end (of_tag back_to_body) tag w))
 unfolding after_body_start after_body_end
 after_body_rows StartTag tag w = holds_by_name IsTold after_body_start (of_tag back_to_body) tag w ((λ p. told_html tag w), tt) (λ n. (tt, (refl, tt)))
-after_body_rows EndTag tag w = holds_by_name IsTold after_body_end (of_tag back_to_body) tag w ((λ p. either (is_some w.context) ignored (row (SetMode AfterAfterBody ∷ []) IsDone) (tt, tt) (tt, (refl, tt))), tt) (λ n. (tt, (refl, tt)))
+after_body_rows EndTag tag w = holds_by_name IsTold after_body_end (of_tag back_to_body) tag w ((λ p. told_chosen (is_some w.context) ignored (row (SetMode AfterAfterBody ∷ []) IsDone) (tt, tt) (tt, (refl, tt))), tt) (λ n. (tt, (refl, tt)))
 
 after_after_body_rows : (k : TagKind) (tag : TagText) (w : World) → IsTold (by_kind k (by_name after_after_body_start (of_tag back_to_body) tag w) (back_to_body (TagTurn tag) w))
 unfolding after_after_body_start
@@ -123,7 +120,7 @@ after_after_body_rows EndTag tag w = (tt, (refl, tt))
 -- IN THE BODY
 body_end_html : (w : World) → IsTold (if_body_in_scope (body_ends [] (Again AfterBody) w) w)
 unfolding if_body_in_scope
-body_end_html w = either (body_in_scope w) (body_ends [] (Again AfterBody) w) ignored (tt, (refl, tt)) (tt, tt)
+body_end_html w = told_chosen (body_in_scope w) (body_ends [] (Again AfterBody) w) ignored (tt, (refl, tt)) (tt, tt)
 
 body_tag_rows : (tag : TagText) (w : World) → IsTold (in_body_tag tag w)
 unfolding in_body_tag
@@ -135,14 +132,14 @@ body_tag_rows tag w = at tag.kind
 
 told_template_eof : (w : World) → IsTold (template_eof w)
 unfolding template_eof
-told_template_eof w = either (has_template (names_of w)) _ (row [] IsDone) (tt, (tt, reset_no_text)) (tt, tt)
+told_template_eof w = told_chosen (has_template (names_of w)) _ (row [] IsDone) (tt, (tt, reset_no_text)) (tt, tt)
 
 body_rows : (t : TurnText) (w : World) → IsTold (in_body t w)
 body_rows (TagTurn tag) w = body_tag_rows tag w
 body_rows (CommentTurn text) w = (tt, tt)
 body_rows (TextTurn status text) w = (tt, tt)
 body_rows NullTurn w = (tt, tt)
-body_rows EofTurn w = either (no_template_mode w.template_modes) (body_ends [] IsDone w) (template_eof w) (tt, tt) (told_template_eof w)
+body_rows EofTurn w = told_chosen (no_template_mode w.template_modes) (body_ends [] IsDone w) (template_eof w) (tt, tt) (told_template_eof w)
 
 -- IN TABLES
 fosters : (on : Bool) (x : Ending) (xs : List Change) → AllListable xs × Tells x xs → AllListable (SetFoster on ∷ xs) × Tells x (SetFoster on ∷ xs)
@@ -176,12 +173,12 @@ module _ (tag : TagText) (w : World) where
               (
                 (λ p. (tt, (refl, tt))),
                 (
-                  (λ p. either (named_in_table_scope (codes "table") w) (errs (PopUntilNamed (codes "table") ∷ []) (AgainBy reset_mode)) ignored (tt, (tt, reset_no_text)) (tt, tt)),
+                  (λ p. told_chosen (named_in_table_scope (codes "table") w) (errs (PopUntilNamed (codes "table") ∷ []) (AgainBy reset_mode)) ignored (tt, (tt, reset_no_text)) (tt, tt)),
                   (
                     (λ p. (row_head_start tag w (table_text_passes tag.name p)).told),
                     (
-                      (λ p. either (is_type_hidden tag.attrs) (errs (InsertAndPopElement tag.name tag.attrs tag.had_duplicate_attributes ∷ []) IsAcknowledged) (foster in_body (TagTurn tag) w) (tt, tt) (fostered_rows (TagTurn tag) w)),
-                      ((λ p. either (has_template (names_of w) || is_some w.form) ignored (errs (InsertAndPopForm tag.attrs tag.had_duplicate_attributes ∷ []) IsDone) (tt, tt) (tt, tt)), tt),
+                      (λ p. told_chosen (is_type_hidden tag.attrs) (errs (InsertAndPopElement tag.name tag.attrs tag.had_duplicate_attributes ∷ []) IsAcknowledged) (foster in_body (TagTurn tag) w) (tt, tt) (fostered_rows (TagTurn tag) w)),
+                      ((λ p. told_chosen (has_template (names_of w) || is_some w.form) ignored (errs (InsertAndPopForm tag.attrs tag.had_duplicate_attributes ∷ []) IsDone) (tt, tt) (tt, tt)), tt),
                     ),
                   ),
                 ),
@@ -196,7 +193,7 @@ module _ (tag : TagText) (w : World) where
   unfolding in_table_end in_table_end_table
   table_end_rows =
       holds_by_name IsTold in_table_end (of_tag in_table_else) tag w
-      ((λ p. either (named_in_table_scope (codes "table") w) (row (PopUntilNamed (codes "table") ∷ ResetMode ∷ []) IsDone) ignored (tt, tt) (tt, tt)), ((λ p. (tt, tt)), ((λ p. (row_end_template tag w).told), tt)))
+      ((λ p. told_chosen (named_in_table_scope (codes "table") w) (row (PopUntilNamed (codes "table") ∷ ResetMode ∷ []) IsDone) ignored (tt, tt) (tt, tt)), ((λ p. (tt, tt)), ((λ p. (row_end_template tag w).told), tt)))
       (λ n. fostered_rows (TagTurn tag) w)
 
 table_tag_rows : (tag : TagText) (w : World) → IsTold (in_table_tag tag w)
@@ -209,14 +206,7 @@ table_tag_rows tag w = at tag.kind
 
 table_text_rows : (t : TurnText) (w : World) → IsTold (in_table_text_or_null t w)
 unfolding in_table_text_or_null
-table_text_rows t w = either (keeps_text w) (row (SaveMode ∷ []) (Again InTableText)) (foster in_body t w) (tt, (refl, tt)) (fostered_rows t w)
-
-table_rows : (t : TurnText) (w : World) → IsTold (in_table t w)
-table_rows (TagTurn tag) w = table_tag_rows tag w
-table_rows (CommentTurn text) w = (tt, tt)
-table_rows (TextTurn status text) w = table_text_rows (TextTurn status text) w
-table_rows NullTurn w = table_text_rows NullTurn w
-table_rows EofTurn w = body_rows EofTurn w
+table_text_rows t w = told_chosen (keeps_text w) (row (SaveMode ∷ []) (Again InTableText)) (foster in_body t w) (tt, (refl, tt)) (fostered_rows t w)
 
 -- what is kept back leads to no text
 pending_rows : (p : List ℕ) (w : World) → AllListable (pending_text p w).changes × NoText (pending_text p w).changes
@@ -235,7 +225,7 @@ table_text_else_rows t w = let p = pending_rows w.pending w in (p.0, (p.1, (λ v
 module _ (tag : TagText) (w : World) where
   row_close : (changes : List Change) (x : Ending) → AllListable changes × Tells x changes → IsTold (close_the_row changes x w)
   unfolding close_the_row
-  row_close changes x h = either (named_in_table_scope (codes "tr") w) (row (PopUntilCurrent is_table_row_context ∷ Pop ∷ changes) x) ignored (closes x changes h) (tt, tt)
+  row_close changes x h = told_chosen (named_in_table_scope (codes "tr") w) (row (PopUntilCurrent is_table_row_context ∷ Pop ∷ changes) x) ignored (closes x changes h) (tt, tt)
     where
       closes : (y : Ending) (xs : List Change) → AllListable xs × Tells y xs → AllListable (PopUntilCurrent is_table_row_context ∷ Pop ∷ xs) × Tells y (PopUntilCurrent is_table_row_context ∷ Pop ∷ xs)
       closes IsDone xs k = k
@@ -251,7 +241,7 @@ module _ (tag : TagText) (w : World) where
   caption_close : (changes : List Change) (x : Ending) → AllListable changes × Tells x changes → IsTold (close_the_caption changes x w)
   unfolding close_the_caption
   caption_close changes x h =
-      either (named_in_table_scope (codes "caption") w)
+      told_chosen (named_in_table_scope (codes "caption") w)
       (row_if (current_is (codes "caption") w) (GenerateImpliedEnd ∷ PopUntilNamed (codes "caption") ∷ ClearActiveFormattingToMarker ∷ changes) x) ignored (closes x changes h) (tt, tt)
     where
       closes : (y : Ending) (xs : List Change) → AllListable xs × Tells y xs
@@ -268,7 +258,7 @@ module _ (tag : TagText) (w : World) where
 
   section_close : IsTold (in_table_body_close tag w)
   unfolding in_table_body_close
-  section_close = either (in_table_scope is_table_or_section w) (row (PopUntilCurrent is_table_body_context ∷ Pop ∷ []) (Again InTable)) ignored (tt, (refl, tt)) (tt, tt)
+  section_close = told_chosen (in_table_scope is_table_or_section w) (row (PopUntilCurrent is_table_body_context ∷ Pop ∷ []) (Again InTable)) ignored (tt, (refl, tt)) (tt, tt)
 
   caption_rows : (k : TagKind) → IsTold (by_kind k (by_name in_caption_start (of_tag in_body) tag w) (by_name in_caption_end (of_tag in_body) tag w))
   unfolding in_caption_start in_caption_end
@@ -282,7 +272,7 @@ module _ (tag : TagText) (w : World) where
   section_rows StartTag = holds_by_name IsTold in_table_body_start (of_tag in_table) tag w ((λ p. (tt, (refl, tt))), ((λ p. (tt, (refl, tt))), ((λ p. section_close), tt))) (λ n. table_tag_rows tag w)
   section_rows EndTag =
       holds_by_name IsTold in_table_body_end (of_tag in_table) tag w
-      ((λ p. either (named_in_table_scope tag.name w) (row (PopUntilCurrent is_table_body_context ∷ Pop ∷ SetMode InTable ∷ []) IsDone) ignored (tt, (refl, tt)) (tt, tt)), ((λ p. section_close), ((λ p. (tt, tt)), tt)))
+      ((λ p. told_chosen (named_in_table_scope tag.name w) (row (PopUntilCurrent is_table_body_context ∷ Pop ∷ SetMode InTable ∷ []) IsDone) ignored (tt, (refl, tt)) (tt, tt)), ((λ p. section_close), ((λ p. (tt, tt)), tt)))
       (λ n. table_tag_rows tag w)
 
   row_rows : (k : TagKind) → IsTold (by_kind k (by_name in_row_start (of_tag in_table) tag w) (by_name in_row_end (of_tag in_table) tag w))
@@ -291,23 +281,23 @@ module _ (tag : TagText) (w : World) where
   row_rows EndTag =
       holds_by_name IsTold in_row_end (of_tag in_table) tag w (
         (λ p. row_close (SetMode InTableBody ∷ []) IsDone (tt, (refl, tt))),
-        ((λ p. row_close [] (Again InTableBody) (tt, (refl, tt))), ((λ p. either (named_in_table_scope tag.name w) (close_the_row [] (Again InTableBody) w) ignored (row_close [] (Again InTableBody) (tt, (refl, tt))) (tt, tt)), ((λ p. (tt, tt)), tt))),
+        ((λ p. row_close [] (Again InTableBody) (tt, (refl, tt))), ((λ p. told_chosen (named_in_table_scope tag.name w) (close_the_row [] (Again InTableBody) w) ignored (row_close [] (Again InTableBody) (tt, (refl, tt))) (tt, tt)), ((λ p. (tt, tt)), tt))),
       )
       (λ n. table_tag_rows tag w)
 
   cell_rows : (k : TagKind) → IsTold (by_kind k (by_name in_cell_start (of_tag in_body) tag w) (by_name in_cell_end (of_tag in_body) tag w))
   unfolding in_cell_start in_cell_end in_cell_end_cell in_cell_end_structure in_cell_start_structure
-  cell_rows StartTag = holds_by_name IsTold in_cell_start (of_tag in_body) tag w ((λ p. either (in_table_scope is_cell w) (close_the_cell w) ignored (tt, (refl, tt)) (tt, tt)), tt) (λ n. body_tag_rows tag w)
+  cell_rows StartTag = holds_by_name IsTold in_cell_start (of_tag in_body) tag w ((λ p. told_chosen (in_table_scope is_cell w) (close_the_cell w) ignored (tt, (refl, tt)) (tt, tt)), tt) (λ n. body_tag_rows tag w)
   cell_rows EndTag =
       holds_by_name IsTold in_cell_end (of_tag in_body) tag w (
-        (λ p. either (named_in_table_scope tag.name w) (row_if (current_is tag.name w) (GenerateImpliedEnd ∷ PopUntilNamed tag.name ∷ ClearActiveFormattingToMarker ∷ SetMode InRow ∷ []) IsDone) ignored (tt, (refl, tt)) (tt, tt)),
-        ((λ p. either (named_in_table_scope tag.name w) (close_the_cell w) ignored (tt, (refl, tt)) (tt, tt)), ((λ p. (tt, tt)), tt)),
+        (λ p. told_chosen (named_in_table_scope tag.name w) (row_if (current_is tag.name w) (GenerateImpliedEnd ∷ PopUntilNamed tag.name ∷ ClearActiveFormattingToMarker ∷ SetMode InRow ∷ []) IsDone) ignored (tt, (refl, tt)) (tt, tt)),
+        ((λ p. told_chosen (named_in_table_scope tag.name w) (close_the_cell w) ignored (tt, (refl, tt)) (tt, tt)), ((λ p. (tt, tt)), tt)),
       )
       (λ n. body_tag_rows tag w)
 
 column_close : (changes : List Change) (x : Ending) (w : World) → AllListable (Pop ∷ changes) × Tells x (Pop ∷ changes) → IsTold (close_the_column_group changes x w)
 unfolding close_the_column_group
-column_close changes x w h = either (current_is (codes "colgroup") w) (row (Pop ∷ changes) x) ignored h (tt, tt)
+column_close changes x w h = told_chosen (current_is (codes "colgroup") w) (row (Pop ∷ changes) x) ignored h (tt, tt)
 
 column_rows : (k : TagKind) (tag : TagText) (w : World)
     → IsTold (by_kind k (by_name in_column_group_start (of_tag in_column_group_else) tag w) (by_name in_column_group_end (of_tag in_column_group_else) tag w))
@@ -331,7 +321,7 @@ frameset_rows StartTag tag w =
     ((λ p. told_html tag w), ((λ p. (tt, tt)), ((λ p. (tt, tt)), ((λ p. (row_head_start tag w (noframes_passes tag.name p)).told), tt)))) (λ n. (tt, tt))
 frameset_rows EndTag tag w =
     holds_by_name IsTold in_frameset_end ignored_tag tag w
-    ((λ p. either (is_root_alone (names_of w)) ignored _ (tt, tt) (either (not (is_some w.context) && not (is_in_frameset (names_of w))) (row (Pop ∷ SetMode AfterFrameset ∷ []) IsDone) (row (Pop ∷ []) IsDone) (tt, (refl, tt)) (tt, tt))), tt)
+    ((λ p. told_chosen (is_root_alone (names_of w)) ignored _ (tt, tt) (told_chosen (not (is_some w.context) && not (is_in_frameset (names_of w))) (row (Pop ∷ SetMode AfterFrameset ∷ []) IsDone) (row (Pop ∷ []) IsDone) (tt, (refl, tt)) (tt, tt))), tt)
     (λ n. (tt, tt))
 
 after_frameset_starts : (tag : TagText) (w : World) → IsTold (by_name after_frameset_start ignored_tag tag w)
@@ -459,26 +449,3 @@ rule_told m (TextTurn NotWhitespace x) w h = solid_rows m x w h
 rule_told m (TextTurn NotSplit x) w h = whole_rows m x w h
 rule_told m NullTurn w h = null_rows m w h
 rule_told m EofTurn w h = eof_rows m w h
-
--- and in one
-marks_listable : (w : World) → AllListable (marks_script w ++ Pop ∷ [])
-marks_listable w = at (current_is (codes "script") w)
-  where
-    at : (b : Bool) → AllListable ((if b then MarkStarted ∷ [] else []) ++ Pop ∷ [])
-    at true = tt
-    at false = tt
-
-text_listable : (t : TurnText) (w : World) → AllListable (text_mode t w).changes
-text_listable (TagTurn tag) w = at tag.kind
-  where
-    at : (k : TagKind) → AllListable (by_kind k ignored (text_end tag w)).changes
-    at StartTag = tt
-    at EndTag = tt
-text_listable (CommentTurn x) w = tt
-text_listable (TextTurn status x) w = tt
-text_listable NullTurn w = tt
-text_listable EofTurn w = marks_listable w
-
-pub rule_listable : (m : InsertionMode) (t : TurnText) (w : World) → AllListable (rule m t w).changes
-rule_listable Text t w = text_listable t w
-rule_listable m t w = (rule_told m t w refl).0

@@ -38,19 +38,6 @@ table_passes n h = at (role_of n) (sym (table_scope_test n) ∙ h)
 pub table_cut : (x : Role) (local : List ℕ) (ns : List QualName) → role_of_local local ≡ x → in_scope (is_html_named local) is_table_scope ns ≡ true → Cut passes_table_scope x (roles ns) (roles (cut_names (is_html_named local) ns))
 table_cut x local ns e h = cut_roles (is_html_named local) is_table_scope passes_table_scope x (λ n k. role_named local n k ∙ e) (λ n k l. table_passes n l) ns h
 
--- what is found stays found below names that are popped and aren't asked for
-pub cut_after_while : (is p : QualName → Bool) (ns : List QualName) → ((n : QualName) → p n ≡ true → is n ≡ false) → cut_names is (drop_while p ns) ≡ cut_names is ns
-cut_after_while is p [] f = refl
-cut_after_while is p (n ∷ ns) f = at (p n) refl (cut_after_while is p ns f)
-  where
-    passed : (b : Bool) → b ≡ false → cut_names is ns ≡ cond b ns (cut_names is ns)
-    passed true e = absurd (cc)
-    passed false e = refl
-
-    at : (b : Bool) → p n ≡ b → cut_names is (drop_while p ns) ≡ cut_names is ns → cut_names is (cond b (drop_while p ns) (n ∷ ns)) ≡ cond (is n) ns (cut_names is ns)
-    at true e k = k ∙ passed (is n) (f n e)
-    at false e k = refl
-
 -- the stack is cleared back to a context, and the current node popped then
 later_down : (c : StackContext) (is : QualName → Bool) (x : Role) (ns : List QualName) (rest : List Role) → ((n : QualName) → is n ≡ ends c (role_of n)) → down_to c (roles ns) ≡ x ∷ rest → rest ≡ roles (later_names (down_names is ns))
 later_down c is x ns rest f e = sym (ap later_roles (down_roles c is f ns ∙ e)) ∙ roles_later (down_names is ns)

@@ -17,6 +17,7 @@ use Rattle.h5_meaning.proofs.EachLaws.{each_at, each_more, each_round, each_with
 use Rattle.h5_meaning.proofs.RoundLaws.{replaced_by_which}
 use Rattle.h5_meaning.proofs.KeptListsLaws.{without_entry_gone, is_listed_or_not, lists_without_entry, lists_cut, lists_left}
 use Rattle.h5_meaning.proofs.WholeRoundLaws.{lists_round}
+use Rattle.h5_meaning.proofs.AlikeLaws.{same_text}
 
 -- open elements that are ordered are distinct
 pub ordered_distinct : (up : ℕ → Option ℕ) (s : List ℕ) → IsOrdered up s → Distinct s
@@ -88,10 +89,6 @@ lists_closed f s l i d k =
     let again = append_assoc (newer_than f s) (f ∷ []) (older_than f s) in
     lists_without_entry f (older_than f s) l
     (lists_cut (newer_than f s ++ f ∷ []) (older_than f s) l (subst Distinct (e ∙ sym again) d) (subst (λ z. Lists z l) (e ∙ sym again) k))
-
--- where the formatting element's entry stands
-same_text : (x y : List ℕ) → IsTrue (is_same_text x y) ↔ (x ≡ y)
-same_text x y = search rules
 
 differ : (x y : List ℕ) → is_same_text x y ≡ false → ¬ (x ≡ y)
 differ x y h e = let v : true ≡ false = sym ((same_text x y).1 e) ∙ h in cc

@@ -10,6 +10,7 @@ use Rattle.h5_meaning.specs.FormattingNames.{AllFormatting, AllOfTags, IsPlain, 
 use Rattle.h5_meaning.specs.Order.{IsIn}
 use Rattle.h5_names.specs.declared.qualified.QualName.{QualName}
 use Rattle.h5_interface.specs.Forest.{ElementNode, Forest, kind_of}
+use Rattle.h5_meaning.proofs.AlikeLaws.{same_text}
 
 abbrev is_plain : List ℕ → Bool
 is_plain x = not (is_special (html_name x))
@@ -17,9 +18,6 @@ is_plain x = not (is_special (html_name x))
 all_plain : list_all is_plain formatting_names ≡ true
 unfolding formatting_names is_special special_names html_namespace
 all_plain = refl
-
-same_text : (x y : List ℕ) → IsTrue (is_same_text x y) ↔ (x ≡ y)
-same_text x y = search rules
 
 among : (ns : List (List ℕ)) (x : List ℕ) → list_all is_plain ns ≡ true → is_one_of ns x ≡ true → is_plain x ≡ true
 among [] x h k = absurd (cc)

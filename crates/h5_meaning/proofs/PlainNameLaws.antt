@@ -52,11 +52,6 @@ pub heading_plain : (n : QualName) → is_heading n ≡ true → role_of n ≡ P
 unfolding role_of_local heading_names is_heading
 heading_plain n h = plain_only (role_of n) (set_passes is_plain heading_names n (refl, (refl, (refl, (refl, (refl, (refl, tt)))))) h)
 
-pub formatting_plain : (n : QualName) → is_formatting n ≡ true → role_of n ≡ PlainRole
-unfolding role_of_local formatting_names is_formatting
-formatting_plain n h =
-    plain_only (role_of n) (set_passes is_plain formatting_names n (refl, (refl, (refl, (refl, (refl, (refl, (refl, (refl, (refl, (refl, (refl, (refl, (refl, (refl, tt)))))))))))))) h)
-
 -- the local name of a formatting element
 pub formatting_local_plain : (local : List ℕ) → is_one_of formatting_names local ≡ true → role_of_local local ≡ PlainRole
 unfolding role_of_local formatting_names

@@ -45,11 +45,11 @@ pub names-mark_started : (choices : SinkChoices) (w : World) → names_of (mark_
 unfolding names_of mark_started
 names-mark_started choices w = marked_names (choices.marks_after_started w.forest (current w)) w.forest w.stack
 
-while_step : (choices : SinkChoices) (p : QualName → Bool) (ns : List QualName) (w : World) → first_passes p ns ≡ true → pop_while choices p ns w ≡ pop_while choices p (later_names ns) (pop choices w)
+pub while_step : (choices : SinkChoices) (p : QualName → Bool) (ns : List QualName) (w : World) → first_passes p ns ≡ true → pop_while choices p ns w ≡ pop_while choices p (later_names ns) (pop choices w)
 while_step choices p [] w h = absurd (cc)
 while_step choices p (n ∷ ns) w h = ap (λ b. cond b (pop_while choices p ns (pop choices w)) w) h
 
-while_none : (choices : SinkChoices) (p : QualName → Bool) (ns : List QualName) (w : World) → first_passes p ns ≡ false → pop_while choices p ns w ≡ w
+pub while_none : (choices : SinkChoices) (p : QualName → Bool) (ns : List QualName) (w : World) → first_passes p ns ≡ false → pop_while choices p ns w ≡ w
 while_none choices p [] w h = refl
 while_none choices p (n ∷ ns) w h = ap (λ b. cond b (pop_while choices p ns (pop choices w)) w) h
 
@@ -144,8 +144,3 @@ pub cut_behind_all_implied : (choices : SinkChoices) (is : QualName → Bool) (w
     cut_through is (names_of v) v.stack ≡ cut_through is (names_of w) w.stack
 unfolding generate_implied_end
 cut_behind_all_implied choices is w apart = cut_popped choices is_implied is apart (names_of w) w refl
-
-pub cut_behind_thorough_implied : (choices : SinkChoices) (is : QualName → Bool) (w : World) → ((n : QualName) → is_thorough_implied n ≡ true → is n ≡ false) → let v = generate_implied_end_thoroughly choices w in
-    cut_through is (names_of v) v.stack ≡ cut_through is (names_of w) w.stack
-unfolding generate_implied_end_thoroughly
-cut_behind_thorough_implied choices is w apart = cut_popped choices is_thorough_implied is apart (names_of w) w refl

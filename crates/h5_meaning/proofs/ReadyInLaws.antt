@@ -81,7 +81,7 @@ frame_pop_heading (n ∷ ns) = at (is_heading n) refl
     at false e = frame_refl (roles (n ∷ ns))
 
 -- elements are made anew
-front_formatting : (s : List ℕ) (l : List Entry) → AllFormatting l → AllFormatting (closed_front s l)
+pub front_formatting : (s : List ℕ) (l : List Entry) → AllFormatting l → AllFormatting (closed_front s l)
 front_formatting s [] h = tt
 front_formatting s (MarkerEntry ∷ l) h = tt
 front_formatting s (ElementEntry n t ∷ l) h = at (is_in n s) (front_formatting s l h.1)
@@ -154,11 +154,6 @@ module _ (m : InsertionMode) (goes : goes_by_body m ≡ true) where
   in_text t w some r = in_step w (append_text t w) r (steady_text w (steady w r) t some) (situation_text w t some r.ready.sound) (framed_same w (append_text t w) (names-append t w some r.ready.sound))
 
 module _ (choices : SinkChoices) (m : InsertionMode) (goes : goes_by_body m ≡ true) (w : World) (r : ReadyIn m w) where
-  pub in_comment : (t : List ℕ) → ReadyIn m (append_comment choices t w)
-  in_comment t =
-      in_step m goes w (append_comment choices t w) r (steady_changes choices (AppendComment t ∷ []) w (tt, tt) (steady m goes w r)) (situation_comment choices w t r.ready.sound)
-      (framed_same w (append_comment choices t w) (names-append_comment choices t w r.ready.sound))
-
   pub in_second_attrs : (attrs : List AttributeText) → ReadyIn m (add_attrs_to_second attrs w)
   in_second_attrs attrs =
       in_step m goes w (add_attrs_to_second attrs w) r (steady_changes choices (AddAttrsToSecond attrs ∷ []) w (tt, tt) (steady m goes w r)) (situation_add_to_second w attrs r.ready.sound)

@@ -24,7 +24,7 @@ top_less f n m [] older k = k
 top_less f n m (x ∷ []) older k = k
 top_less f n m (x ∷ y ∷ newer) older k = top_less f n m (y ∷ newer) older k
 
-last_or-append : (d n : ℕ) (newer : List ℕ) → last_or d (newer ++ n ∷ []) ≡ n
+pub last_or-append : (d n : ℕ) (newer : List ℕ) → last_or d (newer ++ n ∷ []) ≡ n
 last_or-append d n [] = refl
 last_or-append d n (m ∷ newer) = last_or-append m n newer
 

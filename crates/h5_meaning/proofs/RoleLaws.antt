@@ -105,10 +105,6 @@ pub local_html : role_of_local (codes "html") ≡ HtmlRole
 unfolding role_of_local
 local_html = refl
 
-pub local_th : role_of_local (codes "th") ≡ CellRole
-unfolding role_of_local
-local_th = refl
-
 pub local_p : role_of_local (codes "p") ≡ PlainRole
 unfolding role_of_local
 local_p = refl

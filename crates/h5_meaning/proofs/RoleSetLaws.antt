@@ -6,7 +6,7 @@ use Rattle.h5_names.specs.declared.qualified.QualName.{QualName}
 use Rattle.h5_tag_sets.specs.TagSets.{html_namespace, is_one_of}
 use Rattle.h5_meaning.specs.Roles.{PlainRole, Role, role_of, role_of_local}
 use Rattle.h5_meaning.proofs.BoolLaws.{and_both}
-use Rattle.h5_meaning.proofs.SetLaws.{same_tests}
+use Rattle.h5_names.proofs.KnownNameLemmas.{same_tests}
 
 abbrev pub AllPass : (Role → Bool) → List (List ℕ) → Type 0
 AllPass p [] = Unit {0}

@@ -51,9 +51,6 @@ replaced_by_which B (x ∷ xs) (y ∷ ys) n z e = at (n == x) refl e (λ h. repl
     at true u h go = inr (inl (eqb-true n x u, cc))
     at false u h go = elim (go h) [ inl i ↦ inl i | inr i ↦ inr (inr i) ]
 
-some_same : (a b : ℕ) → Some a ≡ Some b → a ≡ b
-some_same a b e = cc
-
 at_end : (B : List ℕ) (n m z : ℕ) (a b : Bool) → cond a None (Some n) ≡ Some z → cond b None (Some m) ≡ Some z → n ≡ m
 at_end B n m z true b h k = absurd (cc)
 at_end B n m z false true h k = absurd (cc)

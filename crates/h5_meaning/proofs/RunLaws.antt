@@ -124,7 +124,7 @@ abbrev text_reply : Option BuildFault → Reply
 text_reply (Some f) = Refuses f
 text_reply None = Continues
 
-step_reply : (choices : SinkChoices) (t : List ℕ) (w : World) → (text_step choices t w).reply ≡ Continues
+pub step_reply : (choices : SinkChoices) (t : List ℕ) (w : World) → (text_step choices t w).reply ≡ Continues
 step_reply choices [] w = refl
 step_reply choices (b ∷ t) w = refl
 

@@ -7,6 +7,7 @@ use Rattle.h5_meaning.specs.Frames.{passes_table_scope}
 use Rattle.h5_meaning.specs.Roles.{BodyRole, CaptionRole, CellRole, ColgroupRole, FramesetRole, HeadRole, HtmlRole, PlainRole, Role, RowRole, SectionRole, TableRole, TemplateRole, is_html, is_template, role_of, role_of_local}
 use Rattle.h5_meaning.proofs.RoleLaws.{Names, named_ns, named_local, names_of_role, role_named}
 use Rattle.h5_meaning.proofs.BoolLaws.{or_first}
+use Rattle.h5_names.proofs.KnownNameLemmas.{same_tests}
 
 -- a name of a list of local names
 pub in_set : (set : List (List ℕ)) (t : List ℕ) (n : QualName) → is_one_of set t ≡ true → is_html_named t n ≡ true → (is_same_text n.ns html_namespace && is_one_of set n.local) ≡ true
@@ -59,12 +60,6 @@ ordinary_plain n h = at (role_of n) (names_of_role n)
     at RowRole e = absurd (special (codes "tr") refl e)
     at CellRole (inl e) = absurd (special (codes "td") refl e)
     at CellRole (inr e) = absurd (special (codes "th") refl e)
-
--- a test by name is a test of the role
-pub same_tests : (a b : Bool) → (a ≡ true → b ≡ true) → (b ≡ true → a ≡ true) → a ≡ b
-same_tests true b f g = sym (f refl)
-same_tests false true f g = g refl
-same_tests false false f g = refl
 
 pub html_test : (n : QualName) → is_html_named (codes "html") n ≡ is_html (role_of n)
 unfolding role_of_local

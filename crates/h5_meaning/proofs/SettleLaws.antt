@@ -164,10 +164,6 @@ pub settle-again : (choices : SinkChoices) (t : TurnText) (w : World) (k : Inser
     → settle choices t w ≡ goes_on_to (dispatch choices t w) (settle choices t (set_mode k (changed_by choices (dispatch choices t w) w)))
 settle-again choices t w k s some f e = again_in choices t Fitting (among_fitting choices t some) w k (record { sound = s; fits = f }) e
 
--- as many turns as its rank are enough
-pub enough : (choices : SinkChoices) (t : TurnText) (n k : ℕ) (w : World) → Sound w → HasText t → Fits w → rank_of t w ≤ n → rank_of t w ≤ k → settle_within choices n t w ≡ settle_within choices k t w
-enough choices t n k w s some f h i = enough_in choices t Fitting (among_fitting choices t some) n k w (record { sound = s; fits = f }) h i
-
 pub one_chain : (choices : SinkChoices) (t : TurnText) (w : World) → Sound w → HasText t → Fits w → IsOneChain choices t w
 one_chain choices t w s some f =
     let d = among_fitting choices t some in

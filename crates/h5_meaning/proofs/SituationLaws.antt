@@ -181,25 +181,6 @@ situation_format choices tag w k =
 -- Changes of template modes, and what modes see after them: a mode is pushed for a template that is opened, with the
 -- frameset-ok flag off; it leaves with one that is closed; and it gives way to another.
 
-later_template : (s t : Situation) → Later s t → Later (with_template s) (with_template t)
-later_template s t l = record { modes = ap (λ ms. InTemplate ∷ ms) l.modes; saved = l.saved; context = l.context; head = l.head; ok = λ h. h }
-
-later_closed : (s t : Situation) → Later s t → Later (without_template s) (without_template t)
-later_closed s t l = record { modes = ap later_modes l.modes; saved = l.saved; context = l.context; head = l.head; ok = l.ok }
-
-later_switched : (m : InsertionMode) (s t : Situation) → Later s t → Later (with_last_mode m s) (with_last_mode m t)
-later_switched m s t l = record { modes = ap (λ ms. m ∷ later_modes ms) l.modes; saved = l.saved; context = l.context; head = l.head; ok = l.ok }
-
-module _ (w v : World) (k : Sound w) (kept : KeepsSituation w v) where
-  pub situation_push_template : Later (with_template (situation_of w)) (situation_of (push_template_mode InTemplate (set_frameset_not_ok v)))
-  situation_push_template = later_template (situation_of w) (situation_of v) (situation_later w v k kept)
-
-  pub situation_pop_template : Later (without_template (situation_of w)) (situation_of (pop_template_mode v))
-  situation_pop_template = later_closed (situation_of w) (situation_of v) (situation_later w v k kept)
-
-  pub situation_switch_template : (m : InsertionMode) → Later (with_last_mode m (situation_of w)) (situation_of (switch_template_mode m v))
-  situation_switch_template m = later_switched m (situation_of w) (situation_of v) (situation_later w v k kept)
-
 -- implied ends, however thorough
 pub situation_while : (choices : SinkChoices) (popped : QualName → Bool) (ns : List QualName) (w : World) → KeepsSituation w (pop_while choices popped ns w)
 situation_while choices popped ns w =

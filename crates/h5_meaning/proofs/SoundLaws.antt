@@ -88,13 +88,13 @@ root_is_node w k = last_is_node w.forest w.forest.document w.stack (document_is_
 html_kept : (f g : Forest) (local : List ℕ) (n : ℕ) → Rearranges f g → IsHtml f local n → IsHtml g local n
 html_kept f g local n r e = r.same_kind n (node_of_kind f n (ElementNode (html_name local)) e) ∙ e
 
-element_kept : (f g : Forest) (n : ℕ) → Rearranges f g → IsElement f n → IsElement g n
+pub element_kept : (f g : Forest) (n : ℕ) → Rearranges f g → IsElement f n → IsElement g n
 element_kept f g n r e = (e.0, html_kept_kind e)
   where
     html_kept_kind : (e : IsElement f n) → kind_of g n ≡ Some (ElementNode e.0)
     html_kept_kind e = r.same_kind n (element_is_node f n e) ∙ e.1
 
-listed_kept : (f g : Forest) (l : List Entry) → Rearranges f g → AllOfTags f l → AllOfTags g l
+pub listed_kept : (f g : Forest) (l : List Entry) → Rearranges f g → AllOfTags f l → AllOfTags g l
 listed_kept f g [] r k = tt
 listed_kept f g (MarkerEntry ∷ l) r k = listed_kept f g l r k
 listed_kept f g (ElementEntry n t ∷ l) r k = (html_kept f g t.name n r k.0, listed_kept f g l r k.1)

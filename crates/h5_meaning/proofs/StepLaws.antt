@@ -14,25 +14,6 @@ use Rattle.h5_meaning.proofs.AlikeLaws.{alike_told}
 use Rattle.h5_meaning.proofs.PushLaws.{push_full}
 use Rattle.h5_meaning.proofs.RoundLaws.{replaced_by_gone, replaced_by_kept}
 
--- new elements, one by one
-pub fresh_none : (s : List ℕ) (l : List Entry) → AreFresh [] s l
-fresh_none s l = record { distinct = λ x h. h; unopened = λ x h. absurd h; unlisted = λ x h. absurd h }
-
-pub fresh_more : (n : ℕ) (fresh s : List ℕ) (l : List Entry) → ¬ (IsIn n fresh) → ¬ (IsIn n s) → ¬ (IsIn n (nodes_of l)) → AreFresh fresh s l → AreFresh (n ∷ fresh) s l
-fresh_more n fresh s l new unopened unlisted k = record { distinct = distinct; unopened = unopen; unlisted = listed }
-  where
-    distinct : Distinct (n ∷ fresh)
-    distinct x (inl h) = new (subst (λ z. IsIn z fresh) h.0 h.1)
-    distinct x (inr h) = k.distinct x h
-
-    unopen : (x : ℕ) → IsIn x (n ∷ fresh) → ¬ (IsIn x s)
-    unopen x (inl e) i = unopened (subst (λ z. IsIn z s) e i)
-    unopen x (inr h) i = k.unopened x h i
-
-    listed : (x : ℕ) → IsIn x (n ∷ fresh) → ¬ (IsIn x (nodes_of l))
-    listed x (inl e) i = unlisted (subst (λ z. IsIn z (nodes_of l)) e i)
-    listed x (inr h) i = k.unlisted x h i
-
 -- the earliest of those alike to a tag: where it stands
 pub earliest_goes : (t : TagText) (l : List Entry) → 0 < count_alike t l → EarliestGoes t l (without_earliest t l)
 earliest_goes t [] h = absurd (omega arith)

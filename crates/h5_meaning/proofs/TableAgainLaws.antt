@@ -49,14 +49,9 @@ use Rattle.h5_meaning.specs.TextMode.{marks_script, text_end}
 use Rattle.h5_meaning.specs.World.{World, current, names_of}
 use Rattle.h5_meaning.proofs.AgainLaws.{Leads, RowStops, Stops, kind_of_end, kind_of_start, kind_of_tag, kind_of_turn, leads_after_after_body, leads_after_body, leads_after_head, leads_before_head, leads_before_html, leads_in_body, leads_in_head, leads_in_head_noscript, leads_initial_else, part_end_names, part_names, row_stops, stops_body_tag, stops_choose, stops_leads}
 use Rattle.h5_meaning.proofs.BodyRowLaws.{head_start_passes, noframes_passes, row_end_template, row_head_start, table_text_passes, template_passes}
-use Rattle.h5_meaning.proofs.ByNameLaws.{holds_by_name, holds_chosen, of_named}
+use Rattle.h5_meaning.proofs.ByNameLaws.{holds_by_name, holds_chosen, of_named, HoldsOfAll}
 
--- what is so of each name of a set is so of a name among them
-abbrev EachName : (List ℕ → Type 0) → List (List ℕ) → Type 0
-EachName P [] = Unit {0}
-EachName P (t ∷ set) = P t × EachName P set
-
-of_set : (P : List ℕ → Type 0) (set : List (List ℕ)) (l : List ℕ) → EachName P set → is_one_of set l ≡ true → P l
+of_set : (P : List ℕ → Type 0) (set : List (List ℕ)) (l : List ℕ) → HoldsOfAll P set → is_one_of set l ≡ true → P l
 of_set P [] l a h = absurd (cc)
 of_set P (t ∷ set) l a h = at (is_same_text t l) refl h (of_set P set l a.1)
   where

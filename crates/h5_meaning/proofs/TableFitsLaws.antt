@@ -267,9 +267,6 @@ module _ (choices : SinkChoices) (w : World) (steady : IsSteady w) where
 
   -- IN A TEXT IN A TABLE
 
-  taken : World
-  taken = take_pending_text w
-
   abbrev Back : Row → Type 0
   Back r = FitsAs (saved_mode (apply_all choices r.changes (take_pending_text w))) (apply_all choices r.changes (take_pending_text w))
 

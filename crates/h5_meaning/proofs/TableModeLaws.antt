@@ -39,9 +39,6 @@ module _ (s : Situation) (ns : List Role) where
   pub in_cell_close : (rest : List Role) → Cut passes_table_scope CellRole ns rest → Fits s InCell ns → Fits s InRow rest
   in_cell_close rest c f = close_fits s CellRole refl c f.place.0 f.place.1.0 f.known
 
-  pub in_table_end : (rest : List Role) → Cut passes_table_scope TableRole ns rest → Fits s InTable ns → Fits s (reset s rest) rest
-  in_table_end rest c f = table_closed s c f.place.0 f.known
-
 -- what a test in table scope finds
 abbrev pub passes_others : (Role → Bool) → Role → Bool
 passes_others is n = not (is n) && not (ends TableContext n)
@@ -64,7 +61,7 @@ found is x f (n ∷ ns) h = at (is n) (ends TableContext n) refl refl h (found i
     at false true e k l r = absurd (cc)
     at false false e k l r = let g = r l in record { rest = g.rest; cut = there n (others (is n) (ends TableContext n) e k) g.cut }
 
-neither : (a b : Bool) → (not a && not b) ≡ true → (a ≡ false) × (b ≡ false)
+pub neither : (a b : Bool) → (not a && not b) ≡ true → (a ≡ false) × (b ≡ false)
 neither true b h = absurd (cc)
 neither false true h = absurd (cc)
 neither false false h = (refl, refl)
@@ -83,9 +80,6 @@ others_pass is x (there n h c) = there n (scope_passes n (neither (is n) (ends T
 pub cell_only : (n : Role) → is_cell_role n ≡ true → n ≡ CellRole
 cell_only CellRole h = refl
 cell_only _ h = absurd (cc)
-
-pub cell_found : (s : Situation) (ns : List Role) → Fits s InCell ns → Found is_cell_role CellRole ns
-cell_found s ns f = found is_cell_role CellRole cell_only ns f.place.1.1
 
 -- a section in table scope is what the context of a body begins with
 pub section_only : (n : Role) → is_section n ≡ true → n ≡ SectionRole

@@ -28,6 +28,7 @@ use Rattle.h5_meaning.specs.Text.{fostered_text, text_in_body}
 use Rattle.h5_meaning.specs.World.{World, name_in, name_of_found, names_of}
 use Rattle.h5_meaning.proofs.PlaceLaws.{marked_kind}
 use Rattle.h5_meaning.proofs.TextForestLaws.{edit_kind, text_same}
+use Rattle.h5_meaning.proofs.ReadyInLaws.{front_formatting}
 
 -- a child that is put changes no kinds
 parents_kind : (chosen : ℕ → Bool) (o : Option ℕ) (f : Forest) (n : ℕ) → kind_of (set_parents chosen o f) n ≡ kind_of f n
@@ -102,15 +103,6 @@ keeps_anew : (choices : SinkChoices) (l : List Entry) (w : World) → AllFormatt
 keeps_anew choices [] w k h = h
 keeps_anew choices (MarkerEntry ∷ l) w k h = keeps_anew choices l w k h
 keeps_anew choices (ElementEntry n tag ∷ l) w k h = keeps_insert choices tag (insert_anew choices l w) k.0
-
-pub front_formatting : (s : List ℕ) (l : List Entry) → AllFormatting l → AllFormatting (closed_front s l)
-front_formatting s [] k = k
-front_formatting s (MarkerEntry ∷ l) k = tt
-front_formatting s (ElementEntry n tag ∷ l) k = at (is_in n s) (front_formatting s l k.1)
-  where
-    at : (b : Bool) → AllFormatting (closed_front s l) → AllFormatting (cond b [] (ElementEntry n tag ∷ closed_front s l))
-    at true h = tt
-    at false h = (k.0, h)
 
 keeps_reconstruct : (choices : SinkChoices) (w : World) → AllFormatting w.formatting → keeps_text w ≡ false → keeps_text (reconstruct_active_formatting_elements choices w) ≡ false
 unfolding names_of reconstruct_active_formatting_elements

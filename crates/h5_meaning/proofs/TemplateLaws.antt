@@ -65,10 +65,6 @@ tree_insert_template choices attrs duplicates w =
     (tree_then w v (insert_element choices (codes "template") attrs duplicates (pop choices v)) refl
     (tree_then v (pop choices v) (insert_element choices (codes "template") attrs duplicates (pop choices v)) (tree_pop choices v) (tree_insert choices (codes "template") attrs duplicates (pop choices v))))
 
-pub formatting-insert_template : (choices : SinkChoices) (attrs : List AttributeText) (duplicates : Bool) (w : World) → (insert_template choices attrs duplicates w).formatting ≡ w.formatting
-unfolding push_loose_template insert_element pop
-formatting-insert_template choices attrs duplicates w = template_ways (λ v. v.formatting ≡ w.formatting) choices attrs duplicates w refl (λ e. refl) refl
-
 module _ (choices : SinkChoices) (attrs : List AttributeText) (duplicates : Bool) (w : World) (k : Sound w) where
   -- a loose template has contents, and no parent
   abbrev pub made : Forest

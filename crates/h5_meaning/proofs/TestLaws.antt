@@ -13,9 +13,10 @@ use Rattle.h5_meaning.proofs.ChangeLaws.{close_in_body}
 use Rattle.h5_meaning.proofs.CutNameLaws.{frame_cut}
 use Rattle.h5_meaning.proofs.RoleNameLaws.{cut_roles}
 use Rattle.h5_meaning.proofs.RoleLaws.{Names, names_of_role, role_named}
-use Rattle.h5_meaning.proofs.SetLaws.{default_passes, in_set, ordinary_plain, same_tests, template_test}
+use Rattle.h5_meaning.proofs.SetLaws.{default_passes, in_set, ordinary_plain, template_test}
 use Rattle.h5_meaning.proofs.BoolLaws.{or_neither}
 use Rattle.h5_meaning.proofs.RoleSetLaws.{set_test}
+use Rattle.h5_names.proofs.KnownNameLemmas.{same_tests}
 
 -- a foreign element is plain
 pub foreign_plain : (n : QualName) → is_same_text n.ns html_namespace ≡ false → role_of n ≡ PlainRole
@@ -102,35 +103,3 @@ has_template_test (n ∷ ns) = ap (λ b. b || has_template ns) (template_test n)
     at : (b : Bool) → has_template ns ≡ has_role is_template (roles ns) → (b || has_template ns) ≡ cond b true (has_role is_template (roles ns))
     at true e = refl
     at false e = e
-
--- the second open element from the root on, and the current node
-abbrev pub second_has : (Role → Bool) → List Role → Bool
-second_has p [] = false
-second_has p (n ∷ []) = false
-second_has p (n ∷ m ∷ []) = p n
-second_has p (n ∷ m ∷ k ∷ ns) = second_has p (m ∷ k ∷ ns)
-
-pub second_test : (local : List ℕ) (p : Role → Bool) → ((n : QualName) → is_html_named local n ≡ p (role_of n)) → (ns : List QualName) → second_is local ns ≡ second_has p (roles ns)
-second_test local p f [] = refl
-second_test local p f (n ∷ []) = refl
-second_test local p f (n ∷ m ∷ []) = f n
-second_test local p f (n ∷ m ∷ k ∷ ns) = second_test local p f (m ∷ k ∷ ns)
-
-pub body_test : (n : QualName) → is_html_named (codes "body") n ≡ is_body (role_of n)
-unfolding role_of_local
-body_test n = same_tests (is_html_named (codes "body") n) (is_body (role_of n)) (λ h. ap is_body (role_named (codes "body") n h ∙ body_is)) (at (role_of n) (names_of_role n))
-  where
-    body_is : role_of_local (codes "body") ≡ BodyRole
-    body_is = refl
-
-    at : (x : Role) → Names x n → is_body x ≡ true → is_html_named (codes "body") n ≡ true
-    at BodyRole e h = e
-    at _ e h = absurd (cc)
-
-abbrev pub first_has : (Role → Bool) → List Role → Bool
-first_has p [] = false
-first_has p (n ∷ ns) = p n
-
-pub first_test : (is : QualName → Bool) (p : Role → Bool) → ((n : QualName) → is n ≡ p (role_of n)) → (ns : List QualName) → first_passes is ns ≡ first_has p (roles ns)
-first_test is p f [] = refl
-first_test is p f (n ∷ ns) = f n

@@ -49,7 +49,7 @@ no_marker_front [] q h = tt
 no_marker_front (MarkerEntry ∷ p) q h = absurd h
 no_marker_front (ElementEntry n t ∷ p) q h = no_marker_front p q h
 
-no_marker_back : (p q : List Entry) → NoMarker (p ++ q) → NoMarker q
+pub no_marker_back : (p q : List Entry) → NoMarker (p ++ q) → NoMarker q
 no_marker_back [] q h = h
 no_marker_back (MarkerEntry ∷ p) q h = absurd h
 no_marker_back (ElementEntry n t ∷ p) q h = no_marker_back p q h

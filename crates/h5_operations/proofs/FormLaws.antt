@@ -2,7 +2,6 @@
 use Rattle.std.proofs.Common.{◌≡◌, ℕ, Bool, true, false, cond, codes, List, None, Option, Some, refl, ap, subst, sym}
 use Rattle.h5_names.specs.AttributeText.{AttributeText, is_same_text}
 use Rattle.std.proofs.lemmas.Slice.Eq.{bytes_eq-Decides}
-use Rattle.h5_meaning.proofs.SetLaws.{same_tests}
 use Rattle.h5_interface.specs.Forest.{ElementNode}
 use Rattle.h5_interface.specs.SinkChoices.{SinkChoices}
 use Rattle.h5_interface.proofs.ForestLaws.{node_of_kind}
@@ -14,8 +13,9 @@ use Rattle.h5_meaning.specs.Place.{place}
 use Rattle.h5_meaning.specs.Sound.{IsHtml, Sound}
 use Rattle.h5_meaning.specs.World.{World, names_of}
 use Rattle.h5_meaning.proofs.PlaceLaws.{current_place_is_there, new_element_kind}
+use Rattle.h5_names.proofs.KnownNameLemmas.{same_tests}
 
-turned : (x y : List ℕ) → is_same_text x y ≡ true → is_same_text y x ≡ true
+pub turned : (x y : List ℕ) → is_same_text x y ≡ true → is_same_text y x ≡ true
 turned x y h =
     let e : x ≡ y = (bytes_eq-Decides x y).0 h in
     subst (λ z. is_same_text z x ≡ true) e (subst (λ z. is_same_text x z ≡ true) (sym e) h)

@@ -40,23 +40,6 @@ ordinary_passed kind n h = at (is_same_text n.ns html_namespace) (is_one_of spec
     at true true d e k = absurd (cc)
     at true false d e k = ap (λ c. c || false) (none_within (item_names kind) special_names n.local (special_items kind) e)
 
--- what the search says of an element that it comes to
-pub passed_on : (locals : List (List ℕ)) (n : QualName) (ns : List QualName) → stops_search locals n ≡ false → newest_item locals (n ∷ ns) ≡ newest_item locals ns
-passed_on locals n ns h = at (is_html_among locals n) (ends_item_search n) h
-  where
-    at : (a b : Bool) → (a || b) ≡ false → cond a (Some n.local) (cond b None (newest_item locals ns)) ≡ newest_item locals ns
-    at false false k = refl
-    at false true k = absurd (cc)
-    at true b k = absurd (cc)
-
-pub stopped_at : (locals : List (List ℕ)) (n : QualName) (ns : List QualName) → stops_search locals n ≡ true → newest_item locals (n ∷ ns) ≡ cond (is_html_among locals n) (Some n.local) None
-stopped_at locals n ns h = at (is_html_among locals n) (ends_item_search n) h
-  where
-    at : (a b : Bool) → (a || b) ≡ true → cond a (Some n.local) (cond b None (newest_item locals ns)) ≡ cond a (Some n.local) None
-    at true b k = refl
-    at false true k = refl
-    at false false k = absurd (cc)
-
 -- an option that no older one comes before is the oldest, also with newer ones
 pub oldest_stays : (is : QualName → Bool) (f : Forest) (m : ℕ) (newer s : List ℕ) → oldest_passing is (map (name_in f) s) s ≡ Some m → oldest_passing is (map (name_in f) (newer ++ s)) (newer ++ s) ≡ Some m
 oldest_stays is f m [] s h = h

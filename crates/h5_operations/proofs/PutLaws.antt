@@ -17,18 +17,15 @@ use Rattle.h5_operations.specs.Notices.{IsNodeIfTold}
 use Rattle.h5_operations.specs.declared.put.Notice.{Notice}
 use Rattle.h5_operations.specs.declared.put.Notice.TheVariants.{AlreadyStarted, FormOwner, Nothing}
 use Rattle.h5_interface.proofs.ForestLaws.{rearranged_node}
-use Rattle.h5_meaning.proofs.SoundLaws.{element_is_node}
+use Rattle.h5_meaning.proofs.SoundLaws.{element_is_node, element_kept}
 
 -- what is seen is a rearrangement
 pub seen_rearranged : (old new : Seen) (change : Forest → Forest) → new ≡ changed change old → Rearranges old.forest (change old.forest) → Rearranges old.forest new.forest
 seen_rearranged old new change e r = subst (λ (s : Seen). Rearranges old.forest s.forest) (sym e) r
 
-pub element_rearranged : (f g : Forest) (n : ℕ) → Rearranges f g → IsElement f n → IsElement g n
-element_rearranged f g n r e = (e.0, r.same_kind n (element_is_node f n e) ∙ e.1)
-
 place_rearranged : (f g : Forest) (p : Place) → Rearranges f g → IsPlaceIn f p → IsPlaceIn g p
 place_rearranged f g (LastChild n) r there = rearranged_node f g n r there
-place_rearranged f g (TableFosterParenting element prev) r there = (element_rearranged f g element r there.0, rearranged_node f g prev r there.1)
+place_rearranged f g (TableFosterParenting element prev) r there = (element_kept f g element r there.0, rearranged_node f g prev r there.1)
 
 -- a new element, as it was made, marked and put at a place
 module _ (choices : SinkChoices) (old mid : Seen) (p : Place) (n : ℕ) (name : QualName) (attrs : List AttributeText) (duplicates : Bool) (marking : ℕ → Place → Marking)
@@ -45,11 +42,6 @@ module _ (choices : SinkChoices) (old mid : Seen) (p : Place) (n : ℕ) (name : 
 
   pub place_in_mid : IsForest old.forest → IsPlaceIn old.forest p → IsPlaceIn mid.forest p
   place_in_mid k there = place_rearranged old.forest mid.forest p (mid_rearranged k) there
-
-  pub told_in_mid : {H : Type 0} (node : H → ℕ) (notice : Notice H) → IsForest old.forest → IsNodeIfTold node old.forest notice → IsNodeIfTold node mid.forest notice
-  told_in_mid node Nothing k there = tt
-  told_in_mid node (FormOwner form) k there = rearranged_node old.forest mid.forest (node form) (mid_rearranged k) there
-  told_in_mid node AlreadyStarted k there = tt
 
   module _ (marked : Seen) (e : marked ≡ changed (marked_by (marking n p)) mid) where
     pub marked_seen : marked ≡ changed (λ f. marked_by marks (make_element choices name attrs (flags_of name attrs duplicates) f)) old

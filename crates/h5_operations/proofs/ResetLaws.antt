@@ -20,11 +20,6 @@ root_decides s SectionRole e = refl
 root_decides s RowRole e = refl
 root_decides s CellRole e = absurd (cc)
 
--- above the root a name decides, or leaves it to the older ones
-pub reset_step : (s : Situation) (r : Role) (rs : List Role) → 0 < length rs → reset s (r ∷ rs) ≡ decide s r (reset s rs)
-reset_step s r [] h = absurd (omega arith)
-reset_step s r (q ∷ rs) h = refl
-
 -- the root alone is left
 pub reset_root : (s : Situation) (r : Role) → s.context ≡ None → reset s (r ∷ []) ≡ decide_root s r
 reset_root s r e = ap (λ o. decide_root s (context_or r o)) e

@@ -15,6 +15,7 @@ use Rattle.h5_meaning.specs.World.{World}
 use Rattle.h5_plain.specs.Plain.{has_end_tag}
 use Rattle.h5_plain.proofs.ModeLaws.{IsOutside}
 use Rattle.h5_plain.proofs.RuleLaws.{end, start}
+use Rattle.h5_meaning.proofs.ByNameLaws.{HoldsOfAll}
 
 -- a `div` and its end
 pub div_rule : (a : List AttributeText) (w : World) → rule InBody (TagTurn (start (codes "div") a)) w ≡ in_body_start_block (start (codes "div") a) w
@@ -77,12 +78,8 @@ pub record IsHeadingName (name : List ℕ) : Type 0 where
   pub not_implied : is_implied (html_name name) ≡ false
   pub outside : IsOutside name
 
-abbrev pub EachOf : (List ℕ → Type 0) → List (List ℕ) → Type 0
-EachOf Of [] = Unit {0}
-EachOf Of (n ∷ ns) = Of n × EachOf Of ns
-
 -- what holds of each name holds of any one of them
-pub of_each : (Of : List ℕ → Type 0) (names : List (List ℕ)) → EachOf Of names → (name : List ℕ) → is_one_of names name ≡ true → Of name
+pub of_each : (Of : List ℕ → Type 0) (names : List (List ℕ)) → HoldsOfAll Of names → (name : List ℕ) → is_one_of names name ≡ true → Of name
 of_each Of [] each name h = absurd (cc)
 of_each Of (n ∷ ns) each name h = at (of_each Of ns each.1 name) (is_same_text n name) refl h
   where
@@ -90,7 +87,7 @@ of_each Of (n ∷ ns) each name h = at (of_each Of ns each.1 name) (is_same_text
     at others true e k = subst Of ((bytes_eq-Decides n name).0 e) each.0
     at others false e k = others k
 
-headings : EachOf IsHeadingName heading_names
+headings : HoldsOfAll IsHeadingName heading_names
 unfolding heading_names void_names html_namespace in_body_tag in_body_start head_start_names in_body_end block_start_names block_end_names is_html_named is_heading is_implied implied_names table_structure_names cell_names in_cell_closing_ends in_cell_ignored_ends list_item_names description_names
 headings = (
   record { holds = record { has_end = refl; no_template = refl; no_title = refl }; starts = λ a w. refl; ends = λ w. refl; itself = refl; heading = refl; not_implied = refl; outside = record { no_structure = refl; no_cell = refl; closes_none = refl; not_ignored = refl } },

@@ -14,14 +14,9 @@ use Rattle.h5_meaning.specs.Text.{foreign_text, is_quiet_text, text_in_body, tex
 use Rattle.h5_meaning.specs.World.{World}
 use Rattle.h5_meaning.proofs.CutLaws.{by_foreign, by_mode}
 use Rattle.h5_meaning.proofs.FittingLaws.{step_fitting}
-use Rattle.h5_meaning.proofs.RunLaws.{step_cut, takes_text, without_lf-append}
+use Rattle.h5_meaning.proofs.RunLaws.{step_cut, takes_text, without_lf-append, step_reply}
 use Rattle.h5_meaning.proofs.TreeLaws.{tree_reconstruct}
 use Rattle.h5_plain.proofs.GoesLaws.{Goes, Moves}
-
--- a text is answered with "go on"
-text_continues : (choices : SinkChoices) (t : List ℕ) (w : World) → (text_step choices t w).reply ≡ Continues
-text_continues choices [] w = refl
-text_continues choices (b ∷ t) w = refl
 
 -- in a mode in which texts tell no parse error, none does
 text_quiet : (choices : SinkChoices) (t : List ℕ) (w : World) → is_quiet_text w.mode ≡ true → (text_step choices t w).quiet ≡ true
@@ -33,7 +28,7 @@ quiet_mode choices [] u d w q = q
 quiet_mode choices (b ∷ t) u d w q = q
 
 -- and the mode stays one
-body_mode : (choices : SinkChoices) (t : List ℕ) (w : World) → (text_in_body choices t w).mode ≡ w.mode
+pub body_mode : (choices : SinkChoices) (t : List ℕ) (w : World) → (text_in_body choices t w).mode ≡ w.mode
 unfolding text_in_body append_text set_frameset_ok_by_text
 body_mode choices t w = ap (λ (v : World). v.mode) (tree_reconstruct choices w)
 
@@ -82,13 +77,13 @@ module _ (choices : SinkChoices) (b : ℕ) (t : List ℕ) (d : ℕ) (u : List �
       let q = mode_is_quiet m.quiet in (
         record {
           world = refl;
-          reply = text_continues choices (without_lf w.ignore_lf (b ∷ t)) (taken w);
+          reply = step_reply choices (without_lf w.ignore_lf (b ∷ t)) (taken w);
           quiet = text_quiet choices (without_lf w.ignore_lf (b ∷ t)) (taken w) q;
           accepted = takes_text w.mode (b ∷ t);
         },
         record {
           world = sym (step_cut choices b t d u w k) ∙ m.world;
-          reply = text_continues choices (without_lf middle.ignore_lf (d ∷ u)) (taken middle);
+          reply = step_reply choices (without_lf middle.ignore_lf (d ∷ u)) (taken middle);
           quiet = text_quiet choices (without_lf middle.ignore_lf (d ∷ u)) (taken middle) (still_quiet choices (without_lf w.ignore_lf (b ∷ t)) (taken w) q);
           accepted = takes_text middle.mode (d ∷ u);
         },

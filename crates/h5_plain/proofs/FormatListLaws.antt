@@ -8,11 +8,7 @@ use Rattle.h5_meaning.specs.FormattingList.{ElementEntry, Entry, MarkerEntry, co
 use Rattle.h5_meaning.specs.Order.{is_in}
 use Rattle.h5_plain.proofs.ListedLaws.{AtMarker, Bottom, Entries, Fewer, IsBase, Kept, Lost, NoEntry, OpenFormat, Formats, has_link}
 use Rattle.h5_plain.proofs.RuleLaws.{start}
-
--- what isn't in a list is neither its first nor in the rest
-neither : (b c : Bool) → cond b true c ≡ false → (b ≡ false) × (c ≡ false)
-neither true c e = absurd (cc)
-neither false c e = (refl, e)
+use Rattle.h5_meaning.proofs.BoolLaws.{neither_of}
 
 both_not : (b c : Bool) → b ≡ false → c ≡ false → cond b true c ≡ false
 both_not true c e f = absurd (cc)
@@ -26,10 +22,10 @@ dropped_fewer t (ElementEntry m u ∷ l) n h = at (dropped_fewer t l) (count_ali
   where
     at : Fewer (without_earliest t l) l → (b a : Bool)
         → is_in n (nodes_of (cond b (cond a l (ElementEntry m u ∷ l)) (ElementEntry m u ∷ without_earliest t l))) ≡ false
-    at rest true true = (neither (n == m) (is_in n (nodes_of l)) h).1
+    at rest true true = (neither_of (n == m) (is_in n (nodes_of l)) h).1
     at rest true false = h
     at rest false a =
-        let x = neither (n == m) (is_in n (nodes_of l)) h in
+        let x = neither_of (n == m) (is_in n (nodes_of l)) h in
         both_not (n == m) (is_in n (nodes_of (without_earliest t l))) x.0 (rest n x.1)
 
 -- and the entries are still those of the open formatting elements
@@ -72,7 +68,7 @@ closed_fewer n t l k o f m h = at (m == n) refl
 
 -- the rest of a list has no more elements
 pub rest_fewer : (n : ℕ) (t : TagText) (l m : List Entry) → Fewer (ElementEntry n t ∷ l) m → Fewer l m
-rest_fewer n t l m f x h = (neither (x == n) (is_in x (nodes_of l)) (f x h)).1
+rest_fewer n t l m f x h = (neither_of (x == n) (is_in x (nodes_of l)) (f x h)).1
 
 -- outside of a link none is listed after the last marker
 pub no_link_listed : {base : List Entry} {path : List OpenFormat} {l : List Entry} → IsBase base → Entries base path l → has_link path ≡ false → newest_named (codes "a") l ≡ None

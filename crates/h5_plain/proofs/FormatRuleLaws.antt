@@ -11,9 +11,10 @@ use Rattle.h5_meaning.specs.Modes.{rule}
 use Rattle.h5_meaning.specs.Shared.{head_start_names, table_structure_names}
 use Rattle.h5_meaning.specs.World.{World}
 use Rattle.h5_plain.specs.Plain.{inline_names}
-use Rattle.h5_plain.proofs.BodyRuleLaws.{EachOf, IsHolder, of_each}
+use Rattle.h5_plain.proofs.BodyRuleLaws.{IsHolder, of_each}
 use Rattle.h5_plain.proofs.ModeLaws.{IsOutside}
 use Rattle.h5_plain.proofs.RuleLaws.{end, start}
+use Rattle.h5_meaning.proofs.ByNameLaws.{HoldsOfAll}
 
 -- a formatting element
 pub record IsFormatName (name : List ℕ) : Type 0 where
@@ -44,7 +45,7 @@ pub record IsInlineName (name : List ℕ) : Type 0 where
   pub starts : (a : List AttributeText) (w : World) → rule InBody (TagTurn (start name a)) w ≡ in_body_start_formatting (start name a) w
   pub no_link : is_same_text name (codes "a") ≡ false
 
-inlines : EachOf IsInlineName inline_names
+inlines : HoldsOfAll IsInlineName inline_names
 unfolding inline_names void_names html_namespace in_body_tag in_body_start head_start_names in_body_end block_start_names block_end_names heading_names formatting_names is_html_named table_structure_names cell_names in_cell_closing_ends in_cell_ignored_ends in_body_preformatted list_item_names description_names
 inlines = (
   record { formats = record { holds = record { has_end = refl; no_template = refl; no_title = refl }; ends = λ w. refl; itself = refl; same = refl; outside = record { no_structure = refl; no_cell = refl; closes_none = refl; not_ignored = refl } }; starts = λ a w. refl; no_link = refl },

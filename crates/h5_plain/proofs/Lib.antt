@@ -2,7 +2,7 @@ mod BodyRuleLaws
 mod BodyStepLaws
 mod BuildsLaws
 mod CalmLaws
-mod CutGoesLaws
+pub mod CutGoesLaws
 mod FilledLaws
 mod FormatListLaws
 mod FormatRuleLaws

@@ -13,9 +13,10 @@ use Rattle.h5_meaning.specs.Modes.{rule}
 use Rattle.h5_meaning.specs.Shared.{head_start_names, table_structure_names}
 use Rattle.h5_meaning.specs.World.{World}
 use Rattle.h5_plain.specs.Plain.{list_names}
-use Rattle.h5_plain.proofs.BodyRuleLaws.{EachOf, IsHolder, of_each}
+use Rattle.h5_plain.proofs.BodyRuleLaws.{IsHolder, of_each}
 use Rattle.h5_plain.proofs.ModeLaws.{IsOutside}
 use Rattle.h5_plain.proofs.RuleLaws.{end, start}
+use Rattle.h5_meaning.proofs.ByNameLaws.{HoldsOfAll}
 
 -- a `li` and its end
 pub item_rule : (a : List AttributeText) (w : World) → rule InBody (TagTurn (start (codes "li") a)) w ≡ in_body_start_item list_item_names (start (codes "li") a) w
@@ -49,7 +50,7 @@ pub record IsListName (name : List ℕ) : Type 0 where
   pub role : role_of (html_name name) ≡ PlainRole
   pub outside : IsOutside name
 
-lists : EachOf IsListName list_names
+lists : HoldsOfAll IsListName list_names
 unfolding list_names void_names html_namespace mathml_namespace svg_namespace in_body_tag in_body_start head_start_names in_body_end block_start_names block_end_names is_html_named is_implied implied_names is_button_scope is_default_scope scope_names button_scope_names list_item_names is_special special_names passed_names role_of role_of_local table_structure_names cell_names in_cell_closing_ends in_cell_ignored_ends
 lists = (
   record { holds = record { has_end = refl; no_template = refl; no_title = refl }; starts = λ a w. refl; ends = λ w. refl; itself = refl; not_implied = refl; no_p = refl; no_scope = refl; no_item = refl; ends_search = refl; role = refl; outside = record { no_structure = refl; no_cell = refl; closes_none = refl; not_ignored = refl } },

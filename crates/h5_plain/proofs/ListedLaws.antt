@@ -5,6 +5,7 @@ use Rattle.h5_names.specs.AttributeText.{AttributeText, is_same_text}
 use Rattle.h5_meaning.specs.FormattingList.{ElementEntry, Entry, MarkerEntry, closed_front, nodes_of}
 use Rattle.h5_meaning.specs.Order.{is_in}
 use Rattle.h5_plain.proofs.RuleLaws.{start}
+use Rattle.h5_meaning.proofs.BoolLaws.{later_true}
 
 -- below the open formatting elements of a block the list is empty, or begins with a marker
 pub data IsBase : List Entry → Type 0 where
@@ -32,18 +33,13 @@ pub data Entries (base : List Entry) : List OpenFormat → List Entry → Type 0
       → Entries base (Formats n name ∷ path) (ElementEntry n (start name attrs) ∷ l)
   Lost : {n : ℕ} {name : List ℕ} {path : List OpenFormat} {l : List Entry} → is_in n (nodes_of l) ≡ false → Entries base path l → Entries base (Formats n name ∷ path) l
 
--- an element that is open stays so
-still_in : (b c : Bool) → c ≡ true → cond b true c ≡ true
-still_in true c e = refl
-still_in false c e = e
-
 closed_pushed : (n : ℕ) (s : List ℕ) (l : List Entry) → closed_front s l ≡ [] → closed_front (n ∷ s) l ≡ []
 closed_pushed n s [] e = refl
 closed_pushed n s (MarkerEntry ∷ l) e = refl
 closed_pushed n s (ElementEntry m t ∷ l) e = at (is_in m s) refl e
   where
     at : (b : Bool) → is_in m s ≡ b → ◌≡◌ {A = List Entry} (cond b [] (ElementEntry m t ∷ closed_front s l)) [] → closed_front (n ∷ s) (ElementEntry m t ∷ l) ≡ []
-    at true h k = ap (λ b. cond b [] (ElementEntry m t ∷ closed_front (n ∷ s) l)) (still_in (m == n) (is_in m s) h)
+    at true h k = ap (λ b. cond b [] (ElementEntry m t ∷ closed_front (n ∷ s) l)) (later_true (m == n) (is_in m s) h)
     at false h k = absurd (cc)
 
 base_closed : (s : List ℕ) {base : List Entry} → IsBase base → closed_front s base ≡ []

@@ -16,8 +16,9 @@ use Rattle.h5_meaning.specs.Rows.{InsertElement, InsertMarker, IsDone, PopUntilC
 use Rattle.h5_meaning.specs.Shared.{head_start_names, table_structure_names}
 use Rattle.h5_meaning.specs.Tables.{table_section_names}
 use Rattle.h5_meaning.specs.World.{World}
-use Rattle.h5_plain.proofs.BodyRuleLaws.{EachOf, IsHolder, of_each}
+use Rattle.h5_plain.proofs.BodyRuleLaws.{IsHolder, of_each}
 use Rattle.h5_plain.proofs.RuleLaws.{end, start}
+use Rattle.h5_meaning.proofs.ByNameLaws.{HoldsOfAll}
 
 -- a `table` and its end
 pub table_rule : (a : List AttributeText) (w : World) → rule InBody (TagTurn (start (codes "table") a)) w ≡ in_body_start_table (start (codes "table") a) w
@@ -75,7 +76,7 @@ pub record IsCellName (name : List ℕ) : Type 0 where
   pub no_heading : is_heading (html_name name) ≡ false
   pub role : role_of (html_name name) ≡ CellRole
 
-cells : EachOf IsCellName cell_names
+cells : HoldsOfAll IsCellName cell_names
 unfolding cell_names void_names html_namespace mathml_namespace svg_namespace in_row_tag in_row_start in_cell_tag in_cell_end is_html_named is_implied implied_names is_button_scope is_default_scope scope_names button_scope_names is_heading heading_names role_of role_of_local
 cells = (
   record { holds = record { has_end = refl; no_template = refl; no_title = refl }; starts = λ a w. refl; ends = λ w. refl; itself = refl; not_implied = refl; no_p = refl; ends_scope = refl; no_heading = refl; role = refl },

@@ -6,12 +6,6 @@ use Rattle.h5_meaning.specs.Formatting.{is_empty, is_reconstructed, reconstruct_
 use Rattle.h5_meaning.specs.World.{World}
 use Rattle.h5_meaning.proofs.FormattingLaws.{reconstruct_none}
 
--- this is so, and that isn't
-pub one_not_other : (a b : Bool) → (a && not b) ≡ true → (a ≡ true) × (b ≡ false)
-one_not_other true false h = (refl, refl)
-one_not_other true true h = absurd (cc)
-one_not_other false b h = absurd (cc)
-
 empty_is : (l : List Entry) → is_empty l ≡ true → l ≡ []
 empty_is [] h = refl
 empty_is (e ∷ l) h = absurd (cc)

@@ -11,12 +11,7 @@ use Rattle.h5_meaning.specs.InBody.{in_body_marked}
 use Rattle.h5_meaning.specs.World.{World, names_of}
 use Rattle.h5_meaning.proofs.ClosingLaws.{named_not_implied}
 use Rattle.h5_meaning.proofs.PopLaws.{all_implied_none, implied_none}
-
--- this is so, and that isn't
-pub first_not_second : (a b : Bool) → (a && not b) ≡ true → (a ≡ true) × (b ≡ false)
-first_not_second true false h = (refl, refl)
-first_not_second true true h = absurd (cc)
-first_not_second false b h = absurd (cc)
+use Rattle.h5_meaning.proofs.BodyInLaws.{marked_not_implied}
 
 -- where no item is open, none is closed
 pub none_closed : (choices : SinkChoices) (locals : List (List ℕ)) (w : World) → is_none (newest_item locals (names_of w)) ≡ true → close_list_item choices locals w ≡ w
@@ -39,11 +34,6 @@ not_popped local (n ∷ ns) h = at (is_implied n) (is_html_named local n) h
 
 pub named_stays : (choices : SinkChoices) (local : List ℕ) (w : World) → first_passes (is_html_named local) (names_of w) ≡ true → first_passes (is_html_named local) (names_of (generate_implied_end_except choices local w)) ≡ true
 named_stays choices local w h = ap (λ (x : World). first_passes (is_html_named local) (names_of x)) (implied_none choices local w (not_popped local (names_of w) h)) ∙ h
-
--- an element with a marker has no implied end tag
-pub marked_not_implied : (local : List ℕ) → is_one_of in_body_marked local ≡ true → (n : QualName) → is_implied n ≡ true → is_html_named local n ≡ false
-unfolding implied_names in_body_marked
-marked_not_implied local marked n h = named_not_implied in_body_marked local n refl marked h
 
 marked_not_popped : (local : List ℕ) → is_one_of in_body_marked local ≡ true → (ns : List QualName) → first_passes (is_html_named local) ns ≡ true → first_passes is_implied ns ≡ false
 marked_not_popped local marked [] h = absurd (cc)

@@ -18,6 +18,8 @@ use Rattle.h5_meaning.specs.Sound.{Sound}
 use Rattle.h5_meaning.specs.World.{World, current, name_in, name_of_found, names_of, root}
 use Rattle.h5_meaning.proofs.ClosingLaws.{named_not_implied, names-all_implied, while_holds}
 use Rattle.h5_meaning.proofs.PlaceLaws.{marked_kind}
+use Rattle.h5_meaning.proofs.CloseInLaws.{node_in_stack}
+use Rattle.h5_meaning.proofs.SetLaws.{implied_not_html}
 
 -- neither a button nor a form has an implied end tag
 pub button_not_implied : (local : List ℕ) → local ≡ codes "button" → (n : QualName) → is_implied n ≡ true → is_html_named local n ≡ false
@@ -50,33 +52,18 @@ pub element_stays : {H : Type 0} (node : H → ℕ) (o : Option H) (choices : Si
 element_stays node None choices local w v e there = tt
 element_stays node (Some h) choices local w v e there = subst (λ (x : World). IsElement x.forest (node h)) (sym e) (closed_element choices local w (node h) there)
 
--- what is in scope is open
-in_scope_open : (x : ℕ) (ends : QualName → Bool) (ns : List QualName) (s : List ℕ) → node_in_scope x ends ns s ≡ true → IsIn x s
-in_scope_open x ends [] s h = absurd (cc)
-in_scope_open x ends (n ∷ ns) [] h = absurd (cc)
-in_scope_open x ends (n ∷ ns) (m ∷ s) h = at (x == m) (ends n) refl (in_scope_open x ends ns s) h
-  where
-    at : (b c : Bool) → (x == m) ≡ b → (node_in_scope x ends ns s ≡ true → IsIn x s) → cond b true (cond c false (node_in_scope x ends ns s)) ≡ true → IsIn x (m ∷ s)
-    at true c e f k = inl (eqb-true x m e)
-    at false true e f k = absurd (cc)
-    at false false e f k = inr (f k)
-
 root_named : (named : ℕ → QualName) (d : ℕ) (s : List ℕ) → IsRootOpen (map named s) → is_html_named (codes "html") (named (last_or d s)) ≡ true
 root_named named d [] h = absurd h
 root_named named d (n ∷ []) h = h
 root_named named d (n ∷ m ∷ s) h = root_named named n (m ∷ s) h
-
-html_not_implied : (n : QualName) → is_implied n ≡ true → is_html_named (codes "html") n ≡ false
-unfolding implied_names
-html_not_implied n h = named_not_implied (codes "html" ∷ []) (codes "html") n refl refl h
 
 -- the form element, which is in scope, isn't the root, nor does it become it
 pub form_not_root : (choices : SinkChoices) (w : World) (n : ℕ) → Sound w → IsRootOpen (names_of w) → w.form ≡ Some n → node_in_scope n is_default_scope (names_of w) w.stack ≡ true → n ≢ root (generate_implied_end choices (clear_form w))
 unfolding names_of is_html_named html_namespace
 form_not_root choices w n k root_open is_form scope e =
     let v = generate_implied_end choices (clear_form w) in
-    let kind : kind_of v.forest n ≡ Some (ElementNode (html_name (codes "form"))) = implied_kind choices (clear_form w) n ∙ k.form_name n is_form (in_scope_open n is_default_scope (names_of w) w.stack scope) in
-    let still : IsRootOpen (names_of v) = subst IsRootOpen (sym (names-all_implied choices (clear_form w))) (open_while is_implied (names_of w) html_not_implied root_open) in
+    let kind : kind_of v.forest n ≡ Some (ElementNode (html_name (codes "form"))) = implied_kind choices (clear_form w) n ∙ k.form_name n is_form (node_in_stack n is_default_scope (names_of w) w.stack scope) in
+    let still : IsRootOpen (names_of v) = subst IsRootOpen (sym (names-all_implied choices (clear_form w))) (open_while is_implied (names_of w) implied_not_html root_open) in
     let html : is_html_named (codes "html") (name_in v.forest n) ≡ true = ap (λ m. is_html_named (codes "html") (name_in v.forest m)) e ∙ root_named (name_in v.forest) v.forest.document v.stack still in
     let other : is_html_named (codes "html") (name_in v.forest n) ≡ false = ap (λ x. is_html_named (codes "html") (name_of_found x)) kind in
     let clash : true ≡ false = sym html ∙ other in

@@ -7,12 +7,6 @@ use Rattle.h5_meaning.specs.Changes.{generate_implied_end_except}
 use Rattle.h5_meaning.specs.Closing.{close_p_element, close_p_element_in_button_scope}
 use Rattle.h5_meaning.specs.World.{World, names_of}
 
--- neither of two is so
-pub neither : (a b : Bool) → (not a && not b) ≡ true → (a ≡ false) × (b ≡ false)
-neither false false h = (refl, refl)
-neither false true h = absurd (cc)
-neither true b h = absurd (cc)
-
 -- where no `p` is in button scope, all is as expected, and nothing changes
 pub nothing_unexpected : (choices : SinkChoices) (w : World) → has_p_in_button_scope (names_of w) ≡ false
     → cond (has_p_in_button_scope (names_of w)) (first_passes (is_html_named (codes "p")) (names_of (generate_implied_end_except choices (codes "p") w))) true ≡ true

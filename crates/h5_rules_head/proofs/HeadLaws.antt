@@ -15,10 +15,6 @@ use Rattle.h5_meaning.proofs.AfterHeadLaws.{content_row, ends_anywhere}
 use Rattle.h5_meaning.proofs.KeptLaws.{apply_append}
 use Rattle.h5_meaning.proofs.PushHeadLaws.{OnlyRoot, stack_push_head}
 
--- where it is pushed, an element is open
-pub pushed_open : (w : World) → OnlyRoot w → 0 < length (push_head w).stack
-pushed_open w o = subst (λ s. 0 < length s) (sym (stack_push_head w o.head o.known)) (omega arith)
-
 -- the row of the head, and then the head element leaves the stack, where there is one
 pub followed : {H : Type 0} (choices : SinkChoices) (node : H → ℕ) (tag : TagText) (w u v : World) (a b : ℕ) (result : ProcessResult H) (known : Option ℕ) → is_one_of head_start_names tag.name ≡ true
     → known ≡ w.head → u ≡ apply_all choices (in_head_start_tag tag (push_head w)).changes (push_head w) → EndsAs node (TagTurn tag) result (in_head_start_tag tag (push_head w)).ending u

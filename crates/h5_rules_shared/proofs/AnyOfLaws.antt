@@ -5,16 +5,9 @@ use Rattle.h5_names.specs.AttributeText.{is_same_text}
 use Rattle.h5_names.specs.KnownNames.{name_text}
 use Rattle.h5_names.specs.declared.known_name.KnownName.{KnownName}
 use Rattle.h5_tag_sets.specs.TagSets.{is_one_of}
-use Rattle.h5_meaning.proofs.SetLaws.{same_tests}
 use Rattle.std.proofs.lemmas.Slice.Eq.{bytes_eq-Decides}
-
-turned : (x y : List ℕ) → is_same_text x y ≡ true → is_same_text y x ≡ true
-turned x y h =
-    let e : x ≡ y = (bytes_eq-Decides x y).0 h in
-    subst (λ z. is_same_text z x ≡ true) e (subst (λ z. is_same_text x z ≡ true) (sym e) h)
-
-same_turned : (x y : List ℕ) → is_same_text x y ≡ is_same_text y x
-same_turned x y = same_tests (is_same_text x y) (is_same_text y x) (turned x y) (turned y x)
+use Rattle.h5_names.proofs.KnownNameLemmas.{same_tests}
+use Rattle.h5_operations.proofs.FormLaws.{turned, same_turned}
 
 -- the next one, or one behind it
 among_rest : (name : List ℕ) (known : List KnownName) (i : ℕ) (other : KnownName) → i < length known

@@ -6,8 +6,8 @@ use Rattle.std.specs.Bool.{Decides}
 use Rattle.std.specs.Str.{str_eq_ignore_ascii_case, str_to_ascii_lowercase}
 use Rattle.h5_names.specs.AttributeText.{attribute_text, attribute_texts}
 use Rattle.h5_names.specs.declared.qualified.Attribute.{Attribute}
-use Rattle.h5_meaning.proofs.SetLaws.{same_tests}
 use Rattle.h5_meaning.specs.Shared.{is_type, is_type_hidden}
+use Rattle.h5_names.proofs.KnownNameLemmas.{same_tests}
 
 -- the first of what is left decides, where it is one
 pub hidden_here : (attrs : List Attribute) (i : ℕ) (a : Attribute) → i < length attrs → a ≡ slice_index_or attrs i a → is_type (attribute_text a) ≡ true

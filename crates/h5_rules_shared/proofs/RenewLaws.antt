@@ -22,6 +22,7 @@ use Rattle.h5_state.specs.View.{kept_of}
 use Rattle.h5_state.specs.declared.state.State.{State}
 use Rattle.h5_rules_shared.specs.Places.{entry_at, renewed, renewed_by, with_node_at}
 use Rattle.h5_rules_shared.proofs.ListLaws.{each_entry_at, each_with_node, entry_at_cut, with_node_at_cut}
+use Rattle.h5_meaning.proofs.WholeRoundLaws.{no_marker_back}
 
 -- a world with another list
 abbrev pub with_list : List Entry → World → World
@@ -152,11 +153,6 @@ module _ (choices : SinkChoices) (w : World) (todo : List Entry) (n : ℕ) (t : 
       ap (λ e. renewed_by choices here e before) (ap (entry_at here) cut ∙ entry_at_cut here todo entry older older_many)
       ∙ ap (λ l. with_list l (insert_for choices t (insert_anew choices done w))) (ap (with_node_at here m) cut ∙ with_node_at_cut here m todo entry older older_many)
 
-back : (p l : List Entry) → NoMarker (p ++ l) → NoMarker l
-back [] l h = h
-back (MarkerEntry ∷ p) l h = elim h [ ]
-back (ElementEntry n t ∷ p) l h = back p l h
-
 pub partly_more : (choices : SinkChoices) (w v : World) (i : ℕ) → i < length w.formatting → IsPartly choices w i v → IsPartly choices w (i + 1) (renewed choices i v)
 partly_more choices w v i h k = at k.todo refl
   where
@@ -188,7 +184,7 @@ partly_more choices w v i h k = at k.todo refl
         let o = oldest d todo in
         let c : k.todo ≡ o.newer ++ o.entry ∷ [] = e ∙ o.cut in
         step o.newer o.entry c
-        (back o.newer (o.entry ∷ k.done)
+        (no_marker_back o.newer (o.entry ∷ k.done)
         (subst NoMarker (k.front ∙ ap (λ l. l ++ k.done) c ∙ append_assoc o.newer (o.entry ∷ []) k.done) (rewinds_to w.stack w.formatting).unmarked))
 
 -- as many entries as before
@@ -196,7 +192,7 @@ pub partly_many : (choices : SinkChoices) (w v : World) (i : ℕ) → IsPartly c
 partly_many choices w v i k =
     let rest = open_rest w.stack w.formatting in
     let whole = ap length (front_split w.stack w.formatting ∙ ap (λ l. l ++ rest) k.front ∙ append_assoc k.todo k.done rest) in
-    let all = anew_many choices w k.done (back k.todo k.done (subst NoMarker k.front (rewinds_to w.stack w.formatting).unmarked)) in
+    let all = anew_many choices w k.done (no_marker_back k.todo k.done (subst NoMarker k.front (rewinds_to w.stack w.formatting).unmarked)) in
     let a = length-append k.todo (k.done ++ rest) in
     let b = length-append k.done rest in
     let c = length-append k.todo (made_anew (made_nodes choices k.done w) k.done ++ rest) in

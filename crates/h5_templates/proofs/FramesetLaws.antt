@@ -28,11 +28,6 @@ below_named node f (a ∷ b ∷ c ∷ ds) x h e =
     ∙ in_frameset_more names (name_in f (node a)) two
     ∙ below_named node f (b ∷ c ∷ ds) x (omega arith) (e ∙ ap (λ k. get_or (a ∷ b ∷ c ∷ ds) k x) older)
 
-pub below_none : {H : Type 0} (node : H → ℕ) (f : Forest) (xs : List H) → length xs ≤ 1 → is_in_frameset (map (name_in f) (reverse (map node xs))) ≡ false
-below_none node f [] h = refl
-below_none node f (a ∷ []) h = refl
-below_none node f (a ∷ b ∷ cs) h = absurd (omega arith)
-
 -- the root alone
 only_last-append : (s : List ℕ) (n : ℕ) → only_last (s ++ n ∷ []) ≡ n ∷ []
 only_last-append [] n = refl

@@ -9,14 +9,6 @@ use Rattle.h5_meaning.specs.Changes.{insert_element, pop, with_forest}
 use Rattle.h5_meaning.specs.Templates.{asks_for_shadow, attach_or_put, insert_template, push_loose_template}
 use Rattle.h5_meaning.specs.World.{World, current}
 
--- it rearranges the forest, or leaves it
-pub attach_rearranges : (choices : SinkChoices) (f : Forest) (host template : ℕ) (attrs : List AttributeText) → IsForest f → IsNode f host → IsNode f template → Rearranges f (attach choices host template attrs f)
-attach_rearranges choices f host template attrs k h t = at (choices.attaches f host template attrs) refl
-  where
-    at : (b : Bool) → choices.attaches f host template attrs ≡ b → Rearranges f (attach_where b choices host template attrs f)
-    at true e = choices.attach_rearranges f host template attrs k h t e
-    at false e = rearranges_refl f k
-
 -- what holds of a result holds of what is made of it
 pub onok_ap : {T E A B : Type 0} (r : Result T E) (f : A → B) (x y : A) → OnOk r (x ≡ y) → OnOk r (f x ≡ f y)
 onok_ap (Ok t) f x y e = ap f e
@@ -24,11 +16,6 @@ onok_ap (Err t) f x y e = tt
 
 -- the shadow root was attached, or wasn't, and another template is put
 module _ (choices : SinkChoices) (host template : ℕ) (attrs : List AttributeText) (duplicates : Bool) (w : World) where
-  pub attached_is : choices.attaches w.forest host template attrs ≡ true → with_forest (attach choices host template attrs w.forest) w ≡ attach_or_put choices host template attrs duplicates w
-  attached_is e =
-      ap (λ b. with_forest (attach_where b choices host template attrs w.forest) w) e
-      ∙ sym (ap (λ b. cond b (with_forest (choices.after_attach w.forest host template attrs) w) (insert_element choices (codes "template") attrs duplicates (pop choices w))) e)
-
   pub not_attached_is : choices.attaches w.forest host template attrs ≡ false
       → insert_element choices (codes "template") attrs duplicates (pop choices (with_forest (attach choices host template attrs w.forest) w)) ≡ attach_or_put choices host template attrs duplicates w
   not_attached_is e =
@@ -37,17 +24,6 @@ module _ (choices : SinkChoices) (host template : ℕ) (attrs : List AttributeTe
 
 -- a template that asks for a shadow root, and one that doesn't
 module _ (choices : SinkChoices) (attrs : List AttributeText) (duplicates : Bool) (w : World) where
-  pub asked_is : asks_for_shadow choices attrs w ≡ true
-      → attach_or_put choices (current w) (choices.fresh w.forest) attrs duplicates (push_loose_template choices attrs duplicates w) ≡ insert_template choices attrs duplicates w
-  unfolding insert_template
-  asked_is e =
-      sym (ap (λ b. cond b (attach_or_put choices (current w) (choices.fresh w.forest) attrs duplicates (push_loose_template choices attrs duplicates w)) (insert_element choices (codes "template") attrs duplicates w)) e)
-
-  pub not_asked_is : asks_for_shadow choices attrs w ≡ false → insert_element choices (codes "template") attrs duplicates w ≡ insert_template choices attrs duplicates w
-  unfolding insert_template
-  not_asked_is e =
-      sym (ap (λ b. cond b (attach_or_put choices (current w) (choices.fresh w.forest) attrs duplicates (push_loose_template choices attrs duplicates w)) (insert_element choices (codes "template") attrs duplicates w)) e)
-
   pub loose_is_open : 0 < length (push_loose_template choices attrs duplicates w).stack
   unfolding push_loose_template
   loose_is_open = search rules

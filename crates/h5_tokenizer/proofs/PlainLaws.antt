@@ -19,9 +19,6 @@ front_no mode last foreign xs h = ap (λ m. or_else (and_then m finished) (other
 pub front_found : {o : Opening} {rest : List ℕ} (mode : Mode) (last : List ℕ) (foreign : Bool) (xs : List ℕ) → opening mode last foreign xs ≡ Found o rest → front mode last foreign xs ≡ or_else (finished o rest) (other xs)
 front_found mode last foreign xs h = ap (λ m. or_else (and_then m finished) (other xs)) h
 
-pub front_open : (mode : Mode) (last : List ℕ) (foreign : Bool) (xs : List ℕ) → opening mode last foreign xs ≡ Open → front mode last foreign xs ≡ Open
-front_open mode last foreign xs h = ap (λ m. or_else (and_then m finished) (other xs)) h
-
 plain_raw : (last : List ℕ) (x : ℕ) (xs : List ℕ) → Plain x → raw_end_tag last (x ∷ xs) ≡ No
 plain_raw [] x xs p = refl
 plain_raw (c ∷ cs) x xs p = simp (p.lt)

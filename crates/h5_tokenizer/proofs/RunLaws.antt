@@ -27,12 +27,6 @@ module _ {M : Type 0} (reply_to : M → TokenText → Reply) (after : M → Toke
     reads = reads_more reply_to after foreign p m xs before.reply q n ys now.reply r o zs before.reads before.goes_on now.moves;
   }
 
-  pub comes_to : (p : Place) (m : M) (xs : List ℕ) (q : Place) (n : M) (ys : List ℕ) (r : Place) (o : M) (search : Option Search) → q.at_start ≡ false → Went p m xs q n ys → StandsStill reply_to after foreign q n ys r o search → ComesTo reply_to after foreign p m xs r o ys search
-  comes_to p m xs q n ys r o search e before now =
-      subst (λ (t : Place). ComesTo reply_to after foreign p m xs t o ys search) (sym now.place)
-      (subst (λ (t : M). ComesTo reply_to after foreign p m xs q t ys search) (sym now.meaning)
-      (record { reply = before.reply; goes_on = before.goes_on; reads = before.reads; undecided = now.undecided; pending = now.pending; started = e }))
-
   pub halts_at : (p : Place) (m : M) (xs : List ℕ) (q : Place) (n : M) (ys : List ℕ) (reply : Reply) (r : Place) (o : M) (zs : List ℕ) → Went p m xs q n ys → Moves reply_to after foreign q n ys reply r o zs → HaltsAt reply_to after foreign p m xs reply r o zs
   halts_at p m xs q n ys reply r o zs before now = record {
     reads = reads_more reply_to after foreign p m xs before.reply q n ys reply r o zs before.reads before.goes_on now;

@@ -95,31 +95,6 @@ module _ {M : Type 0} (reply_to : M → TokenText → Reply) (after : M → Toke
 pub front_concluded : (mode : Mode) (last : List ℕ) (foreign : Bool) (xs inner text rest : List ℕ) (construct : Construct) → opening mode last foreign xs ≡ Found (Begins construct) inner → up_to_end (start_of construct) inner ≡ Found text rest → front mode last foreign xs ≡ Found (Whole (token_of construct text)) rest
 front_concluded mode last foreign xs inner text rest construct h e = front_found mode last foreign xs h ∙ ap (λ m. or_else (concluded construct m) (other xs)) e
 
-pub front_unfinished : (mode : Mode) (last : List ℕ) (foreign : Bool) (xs inner : List ℕ) (construct : Construct) → opening mode last foreign xs ≡ Found (Begins construct) inner → up_to_end (start_of construct) inner ≡ Open → front mode last foreign xs ≡ Open
-front_unfinished mode last foreign xs inner construct h e = front_found mode last foreign xs h ∙ ap (λ m. or_else (concluded construct m) (other xs)) e
-
--- a search goes on where the same construct was looked through
-pub record CanGoOn (construct : Construct) (inner : List ℕ) (search : Search) : Type 0 where
-  pub within : search.at ≤ length inner
-  pub walked : walk (start_of construct) (take search.at inner) ≡ Some search.place
-
-goes_on_by : (mode : Mode) (last xs inner : List ℕ) (construct : Construct) (search : Search) (foreign : Bool) → IsPending search mode last xs → search.foreign ≡ foreign → opening mode last foreign xs ≡ Found (Begins construct) inner → CanGoOn construct inner search
-goes_on_by mode last xs inner construct search foreign h e here =
-    let both : Found (Begins h.construct) h.inner ≡ Found (Begins construct) inner = sym h.begins ∙ ap (λ b. opening mode last b xs) e ∙ here in
-    let same : h.construct ≡ construct = cc in
-    let texts : h.inner ≡ inner = cc in
-    record {
-      within = omega (arith, h.within, ap length texts);
-      walked = rw (same, texts) at h.walked;
-    }
-
-pub can_go_on : (mode : Mode) (last xs inner : List ℕ) (construct : Construct) (old : Option Search) (search : Search) (foreign : Bool) → Pending old mode last xs → opening mode last foreign xs ≡ Found (Begins construct) inner → (search ≡ fresh foreign construct) ⊎ ((old ≡ Some search) × (search.foreign ≡ foreign)) → CanGoOn construct inner search
-can_go_on mode last xs inner construct old search foreign h here way =
-    ⊎_elim
-    (λ new. subst (CanGoOn construct inner) (sym new) (record { within = zero-le; walked = refl }))
-    (λ same. let P : Option Search → Type 0 = λ o. Pending o mode last xs in goes_on_by mode last xs inner construct search foreign (subst P same.0 h) same.1 here)
-    way
-
 -- the search, at the state and the sink's answer
 pub opening_at : (mode : Mode) (last name : List ℕ) (asked foreign : Bool) (xs : List ℕ) (m : Match Opening) → m ≡ opening mode name asked xs → name ≡ last → asked ≡ foreign → opening mode last foreign xs ≡ m
 opening_at mode last name asked foreign xs m h e f = sym (h ∙ (λ i. opening mode (e i) (f i) xs))

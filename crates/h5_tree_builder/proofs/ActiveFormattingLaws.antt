@@ -30,11 +30,3 @@ module _ {H : Type 0} (node : H → ℕ) where
 
   pub given_places : (entries : List (FormatEntry H)) → map given_place (still_given entries) ≡ falling (length (reverse (map (entry_of node) entries))) (after_marker (reverse (map (entry_of node) entries)))
   given_places entries = placed_places (reverse entries) ∙ ap (λ x. falling (length x) (after_marker x)) (map-reversed (entry_of node) entries)
-
--- the newest is given first
-pub gives_element : {H : Type 0} (older entries : List (FormatEntry H)) (handle : H) (tag : Tag) → entries ≡ older ++ Element handle tag ∷ [] → still_given entries ≡ (length older, (handle, tag)) ∷ still_given older
-gives_element older entries handle tag e =
-    ap still_given e ∙ ap placed (reverse-append older (Element handle tag ∷ [])) ∙ ap (λ n. (n, (handle, tag)) ∷ still_given older) (length-reverse older)
-
-pub gives_none : {H : Type 0} (older entries : List (FormatEntry H)) → entries ≡ older ++ Marker ∷ [] → still_given entries ≡ []
-gives_none older entries e = ap still_given e ∙ ap placed (reverse-append older (Marker ∷ []))

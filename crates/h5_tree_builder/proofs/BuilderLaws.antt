@@ -79,8 +79,3 @@ answered choices node t old new taken f e comes same n s =
       unended = e;
       comes = comes;
     }
-
--- a text is taken in every mode
-pub no_text_is_refused : (m : InsertionMode) (t : List ℕ) → refuses_in m (Characters t) ≡ false
-no_text_is_refused Text t = refl
-no_text_is_refused _ t = refl

@@ -41,11 +41,11 @@ few_open sees node sink state =
 pub left_all : (choices : SinkChoices) (t : TurnText) (w : World) (a : ℕ) → Left choices t w w a a 0
 left_all choices t w a = record { world = refl; turns = omega arith; reply = refl; quiet = λ h. (h, refl) }
 
-and_left : (a b : Bool) → (a && b) ≡ true → a ≡ true
+pub and_left : (a b : Bool) → (a && b) ≡ true → a ≡ true
 and_left true b h = refl
 and_left false b h = absurd (cc)
 
-and_right : (a b : Bool) → (a && b) ≡ true → b ≡ true
+pub and_right : (a b : Bool) → (a && b) ≡ true → b ≡ true
 and_right true b h = h
 and_right false b h = absurd (cc)
 

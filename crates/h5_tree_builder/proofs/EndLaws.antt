@@ -22,9 +22,6 @@ pub none_left : {A : Type 0} (s : List A) → length s ≡ 0 → s ≡ []
 none_left [] e = refl
 none_left (n ∷ s) e = absurd (omega (arith, e))
 
-pub none_open : (w : World) → length w.stack ≡ 0 → w.stack ≡ []
-none_open w e = none_left w.stack e
-
 -- one element less
 pub pop_next : (choices : SinkChoices) (w : World) → 0 < length w.stack → all_popped choices (pop choices w) ≡ all_popped choices w
 unfolding pop
@@ -33,9 +30,6 @@ pop_next choices w some = at w.stack refl
     at : (s : List ℕ) → w.stack ≡ s → pop_each choices (pop choices w).stack (pop choices w) ≡ pop_each choices w.stack w
     at [] e = absurd (omega (arith, some, ap length e))
     at (n ∷ s) e = ap (λ x. pop_each choices (but_first x) (pop choices w)) e ∙ sym (ap (λ x. pop_each choices x w) e)
-
-pub popped_all : (choices : SinkChoices) (w : World) → w.stack ≡ [] → all_popped choices w ≡ w
-popped_all choices w e = ap (λ s. pop_each choices s w) e
 
 -- with no element open any list that agreed with open elements agrees
 lists_none : (s : List ℕ) (l : List Entry) → Lists s l → Lists [] l

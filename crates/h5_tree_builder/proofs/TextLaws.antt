@@ -37,6 +37,7 @@ use Rattle.h5_meaning.proofs.ForeignTextLaws.{kept_back_foreign}
 use Rattle.h5_meaning.proofs.SettleLaws.{settle-text-row, settle-text-turn, settle_fitting}
 use Rattle.h5_meaning.proofs.TreeLaws.{tree_reconstruct}
 use Rattle.h5_tree_builder.specs.Chains.{CameTo}
+use Rattle.h5_plain.proofs.CutGoesLaws.{body_mode}
 
 blank_all : (t : List ℕ) → rest_of t ≡ [] → blanks_of t ≡ t
 blank_all [] e = refl
@@ -54,10 +55,6 @@ split_blank blanks others b t w e = ap (λ x. if_any others x (if_any blanks (bl
 
 split_solid : (blanks others : List ℕ → World → World) (b : ℕ) (t : List ℕ) (w : World) → is_blank b ≡ false → split blanks others (b ∷ t) w ≡ others (b ∷ t) w
 split_solid blanks others b t w e = ap (λ v. if_any others (cond v (rest_of t) (b ∷ t)) (if_any blanks (cond v (b ∷ blanks_of t) []) w)) e
-
-in_body_mode : (choices : SinkChoices) (t : List ℕ) (w : World) → (text_in_body choices t w).mode ≡ w.mode
-unfolding text_in_body append_text set_frameset_ok_by_text
-in_body_mode choices t w = ap (λ (v : World). v.mode) (tree_reconstruct choices w)
 
 module _ (choices : SinkChoices) (s : SplitStatus) (b : ℕ) (t : List ℕ) where
   abbrev Meets : InsertionMode → Type 0
@@ -361,7 +358,7 @@ mode_stays choices [] w v q f = ap (λ (x : World). is_quiet_text x.mode) f ∙ 
 mode_stays choices (b ∷ t) w v q f = ap (λ (x : World). is_quiet_text x.mode) f ∙ at (is_foreign_text choices w) refl
   where
     by_body : text_rule choices (b ∷ t) w ≡ text_in_body choices (b ∷ t) w → is_quiet_text (text_rule choices (b ∷ t) w).mode ≡ true
-    by_body h = ap (λ (x : World). is_quiet_text x.mode) h ∙ ap is_quiet_text (in_body_mode choices (b ∷ t) w) ∙ q
+    by_body h = ap (λ (x : World). is_quiet_text x.mode) h ∙ ap is_quiet_text (body_mode choices (b ∷ t) w) ∙ q
 
     stays : (m : InsertionMode) → is_foreign_text choices w ≡ false → w.mode ≡ m → is_quiet_text m ≡ true → is_quiet_text (text_rule choices (b ∷ t) w).mode ≡ true
     stays InBody h e k = by_body (by_mode choices InBody (b ∷ t) w h e)
@@ -374,9 +371,3 @@ mode_stays choices (b ∷ t) w v q f = ap (λ (x : World). is_quiet_text x.mode)
     at : (c : Bool) → is_foreign_text choices w ≡ c → is_quiet_text (text_rule choices (b ∷ t) w).mode ≡ true
     at true h = ap (λ (x : World). is_quiet_text x.mode) (by_foreign choices (b ∷ t) w h) ∙ q
     at false h = stays w.mode h refl q
-
--- what a text came to
-pub text_came : {H : Type 0} (choices : SinkChoices) (node : H → ℕ) (text : List ℕ) (old new : World) (a b n : ℕ) → new ≡ text_any choices text old → (is_quiet_text old.mode ≡ true → b ≡ a) → (text ≡ [] → (n ≡ 0) × (b ≡ a))
-    → CameTo node (text_step choices text old) (is_empty_text text) new a b (record { turns = n; answer = Continue })
-text_came choices node [] old new a b n e quiet empty = record { world = e; turns = λ h. (empty refl).0; reply = refl; quiet = λ h. (empty refl).1 }
-text_came choices node (d ∷ t) old new a b n e quiet empty = record { world = e; turns = λ h. absurd (cc); reply = refl; quiet = quiet }

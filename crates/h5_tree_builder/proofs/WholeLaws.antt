@@ -11,28 +11,7 @@ use Rattle.h5_meaning.proofs.RunLaws.{cuts_agree, is_taken}
 use Rattle.h5_plain.specs.Rebuilding.{DocumentStands, IsStart}
 use Rattle.h5_plain.proofs.WholeLaws.{rebuilds_all}
 use Rattle.h5_tree_builder.specs.Builder.{Answered, Building, RanAll, Refused, RebuildsPlain, Replied}
-
--- a token that was answered or refused was replied to
-turns_told : (counted : Bool) (s : Settled) (old new : ℕ) → (counted ≡ true → new ≡ s.turns) → CountsTurns (tell counted s).turns old new
-turns_told true s old new h = h refl
-turns_told false s old new h = tt
-
-pub replied : (choices : SinkChoices) (t : TokenText) (old new : Building) (answer : Reply) → Answered choices t old new answer → Replied choices t old new answer
-replied choices t old new answer a = record {
-  view = a.view;
-  told = a.reply;
-  turns = subst (λ o. CountsTurns (tell_or_refuse choices t o old.view).turns old.turns new.turns) (sym (is_taken old.view t a.working a.unended a.comes))
-      (turns_told (is_counted t old.view.world) (step choices t old.view.world) old.turns new.turns a.turns);
-  quiet = a.quiet;
-}
-
-pub refused : (choices : SinkChoices) (t : TokenText) (old new : Building) (fault : BuildFault) → Refused t old new fault → Replied choices t old new (Refuses fault)
-refused choices t old new fault r = record {
-  view = ap (λ (b : Building). b.view) r.same ∙ sym (ap (λ o. take_or_refuse choices t o old.view) r.due);
-  told = sym (ap (λ o. (tell_or_refuse choices t o old.view).reply) r.due);
-  turns = subst (λ o. CountsTurns (tell_or_refuse choices t o old.view).turns old.turns new.turns) (sym r.due) (ap (λ (b : Building). b.turns) r.same);
-  quiet = λ h. ap (λ (b : Building). b.errors) r.same;
-}
+use Rattle.h5_tree_builder.proofs.ChainLaws.{and_left, and_right}
 
 -- a count after two tokens
 counts_later : (before next : Turns) (old now new : ℕ) → CountsTurns before old now → CountsTurns next now new → CountsTurns (later_turns before next) old new
@@ -53,17 +32,6 @@ pub record Onward (choices : SinkChoices) (all left : List TokenText) (old now :
   pub turns : Counted choices all left old now
   pub quiet : all_quiet choices all old.view ≡ true → (all_quiet choices left now.view ≡ true) × (now.errors ≡ old.errors)
 
-pub onward_first : (choices : SinkChoices) (all : List TokenText) (old : Building) → Onward choices all all old old []
-onward_first choices all old = record { view = refl; told = refl; turns = record { before = WasRefused; counts = refl; whole = refl }; quiet = λ h. (h, refl) }
-
-both_left : (a b : Bool) → (a && b) ≡ true → a ≡ true
-both_left true b h = refl
-both_left false b h = absurd (cc)
-
-both_right : (a b : Bool) → (a && b) ≡ true → b ≡ true
-both_right true b h = h
-both_right false b h = absurd (cc)
-
 -- one token more
 pub onward_next : (choices : SinkChoices) (all rest : List TokenText) (t : TokenText) (old now new : Building) (answers : List Reply) (answer : Reply) → Replied choices t now new answer → Onward choices all (t ∷ rest) old now answers → Onward choices all rest old new (answers ++ answer ∷ [])
 unfolding run
@@ -81,8 +49,8 @@ onward_next choices all rest t old now new answers answer r o =
         whole = ap (λ x. last_turns (later_turns o.turns.before (told_of choices t v).turns) (told_all choices rest x)) r.view ∙ o.turns.whole;
       };
       quiet = λ h. let k = o.quiet h in (
-        ap (all_quiet choices rest) r.view ∙ both_right (is_quiet choices t v) (all_quiet choices rest (after_token choices t v)) k.0,
-        r.quiet (both_left (is_quiet choices t v) (all_quiet choices rest (after_token choices t v)) k.0) ∙ k.1,
+        ap (all_quiet choices rest) r.view ∙ and_right (is_quiet choices t v) (all_quiet choices rest (after_token choices t v)) k.0,
+        r.quiet (and_left (is_quiet choices t v) (all_quiet choices rest (after_token choices t v)) k.0) ∙ k.1,
       );
     }
 

@@ -1,7 +1,8 @@
-use Rattle.h5_meaning.proofs.FreshLaws.{fresh_round, listed_adopted, listed_rearranged}
+use Rattle.h5_meaning.proofs.FreshLaws.{fresh_round, listed_adopted}
 use Rattle.h5_meaning.proofs.PassLaws.{ordered_distinct}
 use Rattle.h5_meaning.proofs.PlainListLaws.{listed_is_plain, special_not_listed}
 use Rattle.h5_meaning.proofs.lists.listed_elements_are_plain.Goals as goal
+use Rattle.h5_meaning.proofs.SoundLaws.{listed_kept}
 
 pub returns-clause-distinct : goal.returns-clause-distinct
 returns-clause-distinct c = ordered_distinct
@@ -13,7 +14,7 @@ pub returns-clause-not_special : goal.returns-clause-not_special
 returns-clause-not_special c = special_not_listed
 
 pub returns-clause-rearranged : goal.returns-clause-rearranged
-returns-clause-rearranged c = listed_rearranged
+returns-clause-rearranged c = listed_kept
 
 pub returns-clause-fresh : goal.returns-clause-fresh
 returns-clause-fresh c = fresh_round

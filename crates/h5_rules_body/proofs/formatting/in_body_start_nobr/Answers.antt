@@ -6,8 +6,9 @@ use Rattle.h5_meaning.specs.Sound.{IsReady}
 use Rattle.h5_meaning.specs.World.{World, names_of}
 use Rattle.h5_meaning.proofs.FormattingLaws.{reconstruct_ready}
 use Rattle.h5_state.specs.Steps.{world_of}
-use Rattle.h5_rules_body.proofs.FormatLaws.{one_not_other, reconstructed_same}
+use Rattle.h5_rules_body.proofs.FormatLaws.{reconstructed_same}
 use Rattle.h5_rules_body.proofs.formatting.in_body_start_nobr.Goals as goal
+use Rattle.h5_meaning.proofs.BoolLaws.{and_not}
 
 pub handle_misnested_nobr_tags-requires-clause-ready : goal.handle_misnested_nobr_tags-requires-clause-ready
 handle_misnested_nobr_tags-requires-clause-ready g c =
@@ -24,7 +25,7 @@ returns g c =
         world = search rules;
         ending = search rules;
         quiet = λ h.
-            let none = one_not_other (is_reconstructed w) (in_scope (is_html_named (codes "nobr")) is_default_scope (names_of w)) h in
+            let none = and_not (is_reconstructed w) (in_scope (is_html_named (codes "nobr")) is_default_scope (names_of w)) h in
             let same = c.in_ok-reconstruct_active_formatting_elements.ensures.world ∙ reconstructed_same law.choices w none.0 in
             c.create_formatting_element.ensures.quiet
             ∙ c.handle_misnested_nobr_tags.ensures.quiet (ap (λ (x : World). in_scope (is_html_named (codes "nobr")) is_default_scope (names_of x)) same ∙ none.1)

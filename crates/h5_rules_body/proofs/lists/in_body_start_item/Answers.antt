@@ -5,9 +5,10 @@ use Rattle.h5_meaning.specs.Closing.{newest_item}
 use Rattle.h5_meaning.specs.World.{World, names_of}
 use Rattle.h5_operations.specs.Items.{item_names}
 use Rattle.h5_state.specs.Steps.{world_of}
-use Rattle.h5_rules_body.proofs.BlockLaws.{nothing_unexpected}
-use Rattle.h5_rules_body.proofs.ItemLaws.{first_not_second, none_closed}
+use Rattle.h5_rules_body.proofs.ItemLaws.{none_closed}
 use Rattle.h5_rules_body.proofs.lists.in_body_start_item.Goals as goal
+use Rattle.h5_meaning.proofs.BoolLaws.{and_not}
+use Rattle.h5_rules_forms.proofs.QuietLaws.{nothing_unexpected}
 
 pub returns : goal.returns
 unfolding names_of
@@ -24,7 +25,7 @@ returns g c =
         world = search rules;
         ending = search rules;
         quiet = λ h.
-            let none = first_not_second (is_none (newest_item locals (names_of w))) (has_p_in_button_scope (names_of w)) h in
+            let none = and_not (is_none (newest_item locals (names_of w))) (has_p_in_button_scope (names_of w)) h in
             let no_item = ap (λ (x : World). is_none (newest_item locals (names_of x))) c.set_frameset_not_ok.ensures.world ∙ none.0 in
             let same = c.expect_to_close.ensures.told.world ∙ item.ensures.made.world ∙ none_closed law.choices locals flagged no_item ∙ c.set_frameset_not_ok.ensures.world in
             let no_p = ap (λ (x : World). has_p_in_button_scope (names_of x)) same ∙ none.1 in

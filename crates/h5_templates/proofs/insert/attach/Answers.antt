@@ -4,7 +4,8 @@ use Rattle.h5_meaning.proofs.SoundLaws.{errors_or_not, rearranged_or_not}
 use Rattle.h5_state.specs.View.{world}
 use Rattle.h5_state.proofs.StackLaws.{seen_world}
 use Rattle.h5_state.proofs.StepLaws.{sound_rearranged}
-use Rattle.h5_templates.proofs.ShadowLaws.{attach_rearranges, onok_ap}
+use Rattle.h5_interface.proofs.CallLaws.{attach_rearranges}
+use Rattle.h5_templates.proofs.ShadowLaws.{onok_ap}
 use Rattle.h5_templates.proofs.insert.attach.Goals as goal
 
 pub returns : goal.returns
