@@ -1,0 +1,275 @@
+#!/usr/bin/env python3
+"""Writes what is made of known_names.txt: the enum of known names, their texts, numbers and slots, and the sets of names.
+
+    write_known_names.py           writes the files that differ
+    write_known_names.py --check   writes nothing; the status is 1 where a file differs
+
+To add a name is to add its line to known_names.txt and to run this. The rest of each file is written by hand.
+"""
+import os
+import re
+import sys
+
+CRATES = os.path.dirname(os.path.dirname(os.path.abspath(__file__)))
+
+# The sets in the order of `NameSet`: its name in known_names.txt, which is that of its flag in small letters, and the list in
+# the definitions that it stands for.
+SETS = {
+    "special": "special_names",
+    "default_scope": "scope_names",
+    "list_item_scope": "list_item_scope_names",
+    "button_scope": "button_scope_names",
+    "table_scope": "table_scope_names",
+    "table_body_context": "table_body_context_names",
+    "table_row_context": "table_row_context_names",
+    "cursory_implied_end": "implied_names",
+    "thorough_implied_end": "thorough_implied_names",
+    "heading": "heading_names",
+    "body_end_ok": "body_end_names",
+    "head_content": "head_content_names",
+    "formatting": "formatting_names",
+    "td_th": "cell_names",
+    "table_outer": "table_outer_names",
+    "mathml_text_point": "mathml_text_points",
+    "svg_html_point": "svg_html_points",
+    "void": "void_names",
+    "raw_text": "raw_names",
+    "block_start": "block_start_names",
+    "block_end": "block_end_names",
+}
+
+# A set that holds all names of another.
+WIDER = {"cursory_implied_end": "thorough_implied_end"}
+
+SLOTS = 1024
+LONGEST = 19
+NO_NUMBER = 255
+
+
+class Name:
+    """A known name: its variant, its text, its sets, and whether it stands for a text with capitals in lower case."""
+
+    def __init__(self, variant, text, sets, is_lowered=False):
+        self.variant, self.text, self.sets, self.is_lowered = variant, text, sets, is_lowered
+
+    def has_capitals(self):
+        return self.text != self.text.lower()
+
+
+def stop(why):
+    sys.exit(f"known_names.txt: {why}")
+
+
+def variant_of(text):
+    """A variant's name: the words of the text, each with a capital."""
+    words = re.findall(r"[A-Z]+(?![a-z])|[A-Z]?[a-z0-9]+", text)
+    return "".join(word[0].upper() + word[1:].lower() for word in words)
+
+
+def read_line(line):
+    """A name of a line, and behind it its form in lower case where it has capitals."""
+    head, colon, sets = line.partition(":")
+    text, _, variant = (part.strip() for part in head.partition("="))
+    sets = sets.split()
+    if not colon or not re.fullmatch(r"[A-Za-z0-9-]+", text) or len(text) > LONGEST:
+        stop(f"a line is 'NAME: SET ..', its name at most {LONGEST} characters long: {line}")
+    for it in sets:
+        if it not in SETS:
+            stop(f"no set is named {it}")
+    variant = variant or variant_of(text)
+    names = [Name(variant, text, sets)]
+    if text != text.lower():
+        names.append(Name(f"{variant}Lowercase", text.lower(), [], True))
+    return names
+
+
+def read():
+    """The names in the order of their texts in lower case, and the fronts of lists that are told."""
+    names, fronts = [], {}
+    with open(f"{CRATES}/h5_names/known_names.txt", encoding="utf-8") as file:
+        lines = [line.strip() for line in file if line.strip() and not line.startswith("#")]
+    for line in lines:
+        if line.startswith("first "):
+            held, _, front = line[len("first ") :].partition(":")
+            fronts[held] = front.split()
+        else:
+            names += read_line(line)
+    names.sort(key=lambda name: (name.text.lower(), name.is_lowered))
+    texts, variants = [name.text for name in names], [name.variant for name in names]
+    if len(set(texts)) < len(texts) or len(set(variants)) < len(variants):
+        stop("a name stands twice")
+    if len(names) > NO_NUMBER:
+        stop(f"there are more than {NO_NUMBER} names")
+    for held, front in fronts.items():
+        for text in front:
+            if not any(name.text == text and held in name.sets for name in names):
+                stop(f"{held} begins with {text}, which it doesn't hold")
+    return names, fronts
+
+
+def sets_of(name):
+    """The sets that hold a name, in their order."""
+    held = set(name.sets) | {WIDER[it] for it in name.sets if it in WIDER}
+    return [it for it in SETS if it in held]
+
+
+def texts_in(held, names, fronts):
+    """The texts of the names of a set, in the order of its list."""
+    front = fronts.get(held, [])
+    return front + [name.text for name in names if held in name.sets and name.text not in front]
+
+
+def slot(text, factors):
+    a, b, c, d = factors
+    fold = lambda at: ord(text[at]) | 0x20
+    return (a * len(text) + b * fold(0) + c * fold(2 * len(text) // 5) + d * fold(len(text) - 1)) % SLOTS
+
+
+def are_apart(names, factors):
+    slots = [slot(name.text, factors) for name in names if not name.has_capitals()]
+    return len(set(slots)) == len(slots)
+
+
+def factors_for(names, now):
+    """Factors by which each name has a slot of its own: those that are there if they serve, or the first that do."""
+    number = 1
+    while not are_apart(names, now):
+        # Numbers without a plan that are the same in each run.
+        now = []
+        for _ in range(4):
+            number = (number * 1103515245 + 12345) % 2**31
+            now.append(number // 2**16 % SLOTS)
+    return now
+
+
+def filled(items, width, indent=4, behind=""):
+    """Items in lines of at most this width, parted by spaces."""
+    lines, line = [], " " * indent
+    for item in items:
+        if line.strip() and len(line) + len(item) + 1 > width:
+            lines.append(line)
+            line = " " * indent
+        line += item if not line.strip() else f" {item}"
+    return "\n".join([*lines, line]) + behind
+
+
+def between(text, begin, end, new):
+    """The text with what stands between two lines, the first of each kind, written anew."""
+    at = text.index(begin) + len(begin)
+    return text[:at] + new + text[text.index(end, at) :]
+
+
+def enum_of(names):
+    lines = []
+    for name in names:
+        if name.text != name.variant.lower():
+            lines.append(f"    /// `{name.text}`.")
+        lines.append(f"    {name.variant},")
+    return "\n".join(lines) + "\n"
+
+
+def write_names(names, text):
+    text = between(text, "pub enum KnownName {\n", "    /// Any other name.\n", enum_of(names))
+    text = re.sub(r"TEXTS: \[&str; \d+\]", f"TEXTS: [&str; {len(names) + 1}]", text)
+    return between(text, f"TEXTS: [&str; {len(names) + 1}] = [\n", '    "",\n', "".join(f'    "{name.text}",\n' for name in names))
+
+
+def write_cases(names, text):
+    pairs = [(name.variant, f"{name.variant}Lowercase") for name in names if name.has_capitals()]
+    arms = lambda pairs: "".join(f"        KnownName::{one} => KnownName::{other},\n" for one, other in pairs)
+    lower = "-> KnownName\n    ensures { result ≡ lowercase_name known }\n{\n    match known {\n"
+    mixed = "-> KnownName\n    ensures { result ≡ mixed_name known }\n{\n    match known {\n"
+    text = between(text, lower, "        lower => lower,", arms(pairs))
+    return between(text, mixed, "        single => single,", arms([(other, one) for one, other in pairs]))
+
+
+def write_slots(names, text):
+    found = re.search(r"\((\d+) \* len\n\s+\+ (\d+) \* folded\(bytes\[0\]\)\n\s+\+ (\d+) \* folded\(bytes\[2 \* len / 5\]\)\n\s+\+ (\d+) \* folded", text)
+    factors = factors_for(names, [int(it) for it in found.groups()])
+    a, b, c, d = factors
+    formula = f"({a} * len\n        + {b} * folded(bytes[0])\n        + {c} * folded(bytes[2 * len / 5])\n        + {d} * folded"
+    text = text.replace(found[0], formula)
+    numbers = [NO_NUMBER] * SLOTS
+    for number, name in enumerate(names):
+        if not name.has_capitals():
+            numbers[slot(name.text, factors)] = number
+    arms = "".join(f"        {number} => KnownName::{name.variant},\n" for number, name in enumerate(names))
+    text = between(text, "    match number {\n", "    }\n", f"{arms}        {len(names)}..=255 => KnownName::Other,\n")
+    text = between(text, "[u8; 1024] = [\n", "];", filled([f"{number}," for number in numbers], 99) + "\n")
+    return text, factors
+
+
+def write_definitions(names, factors, text):
+    head = "TheVariants.{\n"
+    text = between(text, head, "  Other", "".join(f"  {name.variant},\n" for name in names))
+    text = between(text, "name_text : KnownName → List ℕ\n", "name_text Other", "".join(f'name_text {name.variant} = codes "{name.text}"\n' for name in names))
+    mixed = [name for name in names if name.has_capitals()]
+    text = between(text, "lowercase_name : KnownName → KnownName\n", "lowercase_name known", "".join(f"lowercase_name {it.variant} = {it.variant}Lowercase\n" for it in mixed))
+    text = between(text, "mixed_name : KnownName → KnownName\n", "mixed_name known", "".join(f"mixed_name {it.variant}Lowercase = {it.variant}\n" for it in mixed))
+    text = between(text, "known_names =\n", "\n\n", filled([*(f"{name.variant} ∷" for name in names), "[]"], 100))
+    a, b, c, d = factors
+    formula = rf"\(\d+ \* length text \+ \d+ \* (.*?) \+ \d+ \* (.*?) \+ \d+ \* (.*?)\) % {SLOTS}"
+    return re.sub(formula, lambda it: f"({a} * length text + {b} * {it[1]} + {c} * {it[2]} + {d} * {it[3]}) % {SLOTS}", text)
+
+
+def write_flags(names, text):
+    rows = [(" | ".join(it.upper() for it in sets_of(name)) or "0", name.text) for name in names]
+    text = re.sub(r"FLAGS: \[u32; \d+\]", f"FLAGS: [u32; {len(names) + 1}]", text)
+    return between(text, f"FLAGS: [u32; {len(names) + 1}] = [\n", "    0, // any other\n", "".join(f"    {flags}, // {it}\n" for flags, it in rows))
+
+
+def write_lists(names, fronts, text):
+    narrower = {wide: held for held, wide in WIDER.items()}
+    for held, listed in SETS.items():
+        items = [f'codes "{it}" ∷' for it in texts_in(held, names, fronts)]
+        head = f"    {SETS[narrower[held]]} ++\n" if held in narrower else ""
+        text = between(text, f"\n{listed} =\n", "\n\n", head + filled([*items, "[]"], 99))
+    return text
+
+
+def write_tags(names, text):
+    text = re.sub(r"TAGS: \[&str; \d+\]", f"TAGS: [&str; {len(names) + 1}]", text)
+    return between(text, f"TAGS: [&str; {len(names) + 1}] = [\n", '    "<></>",\n', "".join(f'    "<{it.text}></{it.text}>",\n' for it in names))
+
+
+def write_count(names, text):
+    """The lemma and the answer that say how many names there are."""
+    return re.sub(r"\b\d+(?= ≤ n →| ≤ c\.args\.number)|(?<=returns-in-)\d+(?=-to-255)", str(len(names)), text)
+
+
+def files_of(names, fronts):
+    """Each file that is made of the list, as it stands and as it is to be."""
+    read_file = lambda path: open(f"{CRATES}/{path}", encoding="utf-8").read()
+    slots, factors = write_slots(names, read_file("h5_names/src/known_slots.rt"))
+    yield "h5_names/src/known_slots.rt", slots
+    for path, write in (
+        ("h5_names/src/known_name.rt", lambda text: write_names(names, text)),
+        ("h5_names/src/known_cases.rt", lambda text: write_cases(names, text)),
+        ("h5_names/specs/KnownNames.antt", lambda text: write_definitions(names, factors, text)),
+        ("h5_names/proofs/KnownNameLemmas.antt", lambda text: write_count(names, text)),
+        ("h5_names/proofs/known_slots/name_of_number/Answers.antt", lambda text: write_count(names, text)),
+        ("h5_tag_sets/src/name_sets.rt", lambda text: write_flags(names, text)),
+        ("h5_tag_sets/specs/TagSets.antt", lambda text: write_lists(names, fronts, text)),
+        ("h5_serialize/src/known_tags.rt", lambda text: write_tags(names, text)),
+    ):
+        yield path, write(read_file(path))
+
+
+def main(words):
+    names, fronts = read()
+    differ = 0
+    for path, text in files_of(names, fronts):
+        with open(f"{CRATES}/{path}", encoding="utf-8") as file:
+            if file.read() == text:
+                continue
+        differ += 1
+        print(f"crates/{path} {'is not what known_names.txt says' if words else 'is written anew'}")
+        if not words:
+            with open(f"{CRATES}/{path}", "w", encoding="utf-8") as file:
+                file.write(text)
+    return 1 if words and differ else 0
+
+
+if sys.argv[1:] not in ([], ["--check"]):
+    sys.exit(__doc__)
+sys.exit(main(sys.argv[1:]))
