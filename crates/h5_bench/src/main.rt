@@ -1,15 +1,17 @@
 //! One part of the way from text to text, with a text of its own making: `h5_bench KIND SIZE PART`. With the word
 //! `time` behind these it tells the time and the speed of the part, too; with a number the reader is fed pieces of so
-//! many bytes. `h5_bench KIND SIZE print` prints the text.
+//! many bytes. `h5_bench KIND SIZE print` prints the text. `h5_bench cuts` tells whether it matters how a text is cut.
 #![tactic(auto)]
 
 mod counter;
+mod cuts;
 mod parts;
 mod reading;
 mod report;
 mod texts;
 
 use anyhow::{Context, bail};
+use cuts::try_cuts;
 use parts::{part_named, run};
 use std::env;
 use texts::{Kind, kind_named, make_text};
@@ -27,9 +29,10 @@ fn main(rt: HostRuntime) -> anyhow::Result<()> {
         words.push(word)?;
     }
     let (kind, size, part, last) = match words.as_slice() {
+        [word] if word.as_str() == "cuts" => return try_cuts(&rt),
         [kind, size, part] => (kind, size, part, None),
         [kind, size, part, last] => (kind, size, part, Some(last.as_str())),
-        _ => bail!("usage: h5_bench KIND SIZE PART [time | BYTES]"),
+        _ => bail!("usage: h5_bench KIND SIZE PART [time | BYTES] | h5_bench cuts"),
     };
     let (is_timed, piece) = match last {
         None => (false, usize::MAX),

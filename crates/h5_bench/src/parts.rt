@@ -7,7 +7,7 @@ use anyhow::ensure;
 use h5_arena::Arena;
 use h5_driver::{ParseOpts, parse_document};
 use h5_serialize::{SerializeFault, SerializeOpts, serialize};
-use h5_takers::Answer;
+use h5_tests_sinks::Answer;
 use h5_token::BuildFault;
 use std::alloc::Global;
 use std::io;

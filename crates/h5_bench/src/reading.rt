@@ -1,7 +1,7 @@
 //! A reading of a text in pieces of one size.
 ghost use Rattle.std.specs.Prelude.{◌<◌};
 
-use h5_takers::{Answer, Counter};
+use h5_tests_sinks::{Answer, Counter};
 use h5_token::{BuildFault, TokenSink};
 use h5_tokenizer::{BufferQueue, Tokenizer, TokenizerOpts, TokenizerResult};
 use std::alloc::Global;

@@ -1,5 +1,5 @@
 //! Texts of several kinds, of a size that is chosen.
-use h5_takers::Answer;
+use h5_tests_sinks::Answer;
 use h5_token::states::RawKind;
 use std::alloc::{AllocError, Global};
 use std::fmt::Write;

@@ -1,79 +1,24 @@
-//! Each public call of the tree builder once, with ample memory, over an arena.
-use super::feeding::{
-    ArenaBuilder, end, new_builder, start, taking, with_end, with_start, with_text,
-};
-use h5_arena::{Arena, Child, NodeId};
-use h5_interface::QuirksMode;
+//! Calls of the tree builder over an arena, and what it tells the arena that no tree shows.
+use super::feeding::{end, new_builder, start, taking, with_end, with_start, with_text};
+use super::tokens::ArenaBuilder;
+use h5_arena::{Arena, NodeId};
+use h5_tests_sinks::Agreeing;
 use h5_token::{Doctype, Tag, Token, TokenSink, TokenSinkResult};
-use h5_tree_builder::{Reply, TreeBuilder, html_elem};
-use h5_tree_calls::Attaching;
+use h5_tree_builder::{TreeBuilder, html_elem};
 use h5_types::TreeBuilderOpts;
-use std::alloc::{AllocError, Global};
-use std::process::Abort;
+use std::alloc::Global;
 use std::test::Fail;
-
-fn is_continue(reply: &Reply<NodeId>) -> bool {
-    matches!(reply, Reply::Answer(TokenSinkResult::Continue))
-}
-
-#[test]
-fn the_end_of_file_alone_takes_six_turns(rt: HostRuntime) -> Result<(), Fail> {
-    let alloc = rt.alloc();
-    let mut builder = new_builder(alloc)?;
-    assert!(rt; !builder.is_fragment());
-    let tokens = vec![in alloc; (Token::EOFToken, 1)]?;
-    let replies = builder.process_all(tokens)?;
-    assert_eq!(rt; builder.turns(), 6);
-    assert!(rt; replies.iter().all(is_continue));
-    assert_eq!(rt; replies.len(), 1);
-    assert_eq!(rt; builder.sink.len(), 4);
-    assert!(rt; builder.sink.quirks() == QuirksMode::Quirks);
-    Ok(())
-}
-
-#[test]
-fn a_text_is_one_however_it_is_cut(rt: HostRuntime) -> Result<(), Fail> {
-    let alloc = rt.alloc();
-    let builder = with_text(new_builder(alloc)?, alloc, " ")?;
-    let builder = with_text(builder, alloc, "a")?;
-    let mut builder = with_text(builder, alloc, " ")?;
-    builder.end();
-    assert!(rt; builder.process_token(Token::EOFToken, 1).is_err());
-    assert!(rt; body_holds(&builder.sink, "a "));
-    Ok(())
-}
-
-// Whether the body, which is made after the document, the root and the head, holds this text alone.
-fn body_holds(arena: &Arena, text: &str) -> bool {
-    match arena.id(3) {
-        Some(id) => match arena.children(id) {
-            [Child::Text(found)] => found.as_str() == text,
-            _ => false,
-        },
-        None => false,
-    }
-}
 
 #[test]
 fn a_builder_takes_tokens_as_any_sink_of_them(rt: HostRuntime) -> Result<(), Fail> {
     let alloc = rt.alloc();
     let mut builder = new_builder(alloc)?;
+    assert!(rt; !builder.is_fragment());
     let answer = TokenSink::process_token(&mut builder, start(alloc, "p")?, 2);
     assert!(rt; matches!(answer, Ok(TokenSinkResult::Continue)));
     assert!(rt; !TokenSink::adjusted_current_node_present_but_not_in_html_namespace(&builder));
     TokenSink::end(&mut builder);
     assert!(rt; TokenSink::process_token(&mut builder, Token::EOFToken, 1).is_err());
-    Ok(())
-}
-
-#[test]
-fn the_end_of_a_table_is_found_from_a_cell(rt: HostRuntime) -> Result<(), Fail> {
-    let alloc = rt.alloc();
-    let builder = with_start(new_builder(alloc)?, alloc, "table")?;
-    let builder = with_start(builder, alloc, "tr")?;
-    let builder = with_start(builder, alloc, "td")?;
-    let builder = with_end(builder, alloc, "table")?;
-    assert_eq!(rt; builder.turns(), 4);
     Ok(())
 }
 
@@ -147,7 +92,7 @@ fn exact_errors_name_the_token_and_the_mode(rt: HostRuntime) -> Result<(), Fail>
 
 // How many options a builder copies where these options come, each begun, or ended.
 fn copies_of(alloc: Global, begins: &[bool]) -> Result<usize, Fail> {
-    let sink = Attaching::new(alloc)?;
+    let sink = Agreeing::new(alloc)?;
     let mut builder = TreeBuilder::new(alloc, sink, TreeBuilderOpts::default());
     for &is_start in begins {
         let token = if is_start {
@@ -167,5 +112,24 @@ fn an_option_is_copied_where_it_was_closed(rt: HostRuntime) -> Result<(), Fail> 
     assert_eq!(rt; copies_of(alloc, &[true, true])?, 0);
     assert_eq!(rt; copies_of(alloc, &[true, true, false])?, 1);
     assert_eq!(rt; copies_of(alloc, &[false])?, 0);
+    Ok(())
+}
+
+// Whether the script has started, which is made after the document, the root and the head.
+fn has_started(arena: &Arena) -> bool {
+    match arena.id(3) {
+        Some(script) => arena.started(script),
+        None => false,
+    }
+}
+
+#[test]
+fn a_script_in_which_the_file_ends_has_started(rt: HostRuntime) -> Result<(), Fail> {
+    let alloc = rt.alloc();
+    let builder = with_start(new_builder(alloc)?, alloc, "script")?;
+    let builder = with_text(builder, alloc, "x")?;
+    assert!(rt; !has_started(&builder.sink));
+    let builder = taking(builder, Token::EOFToken)?;
+    assert!(rt; has_started(&builder.sink));
     Ok(())
 }

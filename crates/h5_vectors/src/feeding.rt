@@ -1,6 +1,7 @@
 //! Builders and parsers that take one thing: tests go from one to the next.
-use h5_arena::{Arena, NodeId};
-use h5_driver::Parser;
+use super::parsers::ArenaParser;
+use super::tokens::ArenaBuilder;
+use h5_arena::Arena;
 use h5_interface::TreeSink;
 use h5_names::{Attribute, LocalName};
 use h5_token::{Tag, TagKind, Token};
@@ -8,10 +9,6 @@ use h5_tree_builder::TreeBuilder;
 use h5_types::TreeBuilderOpts;
 use std::alloc::{AllocError, Global};
 use std::test::Fail;
-
-pub type ArenaBuilder = TreeBuilder<NodeId, Arena>;
-
-pub type ArenaParser = Parser<NodeId, Arena>;
 
 /// A builder of a document, over an arena.
 pub fn new_builder(alloc: Global) -> Result<ArenaBuilder, AllocError> {

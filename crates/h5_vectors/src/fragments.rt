@@ -1,8 +1,10 @@
 //! Fragments, in their contexts.
-use super::cuts::{characters_of, html_of};
-use super::feeding::{ArenaBuilder, ArenaParser, with_start, with_text};
+use super::feeding::{with_start, with_text};
+use super::made::html_of;
+use super::parsers::ArenaParser;
+use super::tokens::ArenaBuilder;
 use h5_arena::{Arena, Child, NodeId};
-use h5_driver::{ParseOpts, parse_fragment, parse_fragment_for_element};
+use h5_driver::{ParseOpts, parse_fragment_for_element};
 use h5_interface::create_element;
 use h5_names::{LocalName, Namespace, QualName};
 use h5_token::states::{RawKind, State};
@@ -58,13 +60,6 @@ fn a_context_stands_for_the_root(rt: HostRuntime) -> Result<(), Fail> {
     Ok(())
 }
 
-#[test]
-fn a_cell_takes_no_row(rt: HostRuntime) -> Result<(), Fail> {
-    let builder = with_start(in_context(rt.alloc(), "td", &rt)?, rt.alloc(), "tr")?;
-    assert_eq!(rt; children_of_root(&builder.sink, &rt), 0);
-    Ok(())
-}
-
 // Contexts, and how their text is read where scripts run.
 const STATES: [(&str, State); 8] = [
     ("div", State::Data),
@@ -96,62 +91,6 @@ fn a_context_tells_how_its_text_is_read(rt: HostRuntime) -> Result<(), Fail> {
     check_states(&rt, rt.alloc(), &STATES)?;
     assert!(rt; state_in(rt.alloc(), "noscript", false, &rt)? == State::Data);
     Ok(())
-}
-
-// Contexts, texts in them, and the HTML of the roots that they make.
-const IN_CONTEXTS: [(&str, &str, &str); 10] = [
-    ("tr", "<td>1", "<html><td>1</td></html>"),
-    ("td", "<tr>", "<html></html>"),
-    ("div", "<p>1<p>2", "<html><p>1</p><p>2</p></html>"),
-    (
-        "table",
-        "<td>1",
-        "<html><tbody><tr><td>1</td></tr></tbody></html>",
-    ),
-    ("textarea", "<b>1", "<html>&lt;b&gt;1</html>"),
-    ("template", "<td>1", "<html><td>1</td></html>"),
-    ("frameset", "1<frame>2", "<html><frame></html>"),
-    ("body", "<svg><p>1", "<html><svg></svg><p>1</p></html>"),
-    (
-        "p",
-        "<svg><![CDATA[a<b]]>",
-        "<html><svg>a&lt;b</svg></html>",
-    ),
-    ("html", "a", "<html><head></head><body>a</body></html>"),
-];
-
-fn parser_in(alloc: Global, context: &str) -> Result<ArenaParser, Fail> {
-    let name = QualName::new(None, Namespace::html(), LocalName::new(alloc, context)?);
-    let arena = Arena::new(alloc)?;
-    let opts = ParseOpts::default();
-    let parser = parse_fragment(alloc, arena, opts, name, Vec::new(alloc), true)?;
-    Ok(parser)
-}
-
-// The HTML of a root, for a text in a context, and for its single characters.
-fn html_in(alloc: Global, context: &str, text: &str) -> Result<Vec<u8>, Fail> {
-    let arena = parser_in(alloc, context)?.one(text)?;
-    Ok(html_of(alloc, &arena)?)
-}
-
-fn html_of_characters_in(alloc: Global, context: &str, text: &str) -> Result<Vec<u8>, Fail> {
-    let pieces = characters_of(alloc, text)?;
-    let arena = parser_in(alloc, context)?.process_pieces(pieces.as_slice())?;
-    Ok(html_of(alloc, &arena)?)
-}
-
-fn check_contexts(rt: &impl Abort, alloc: Global, rows: &[(&str, &str, &str)]) -> Result<(), Fail> {
-    for &(context, text, html) in rows {
-        assert_eq!(rt; html_in(alloc, context, text)?.as_slice(), html.as_bytes());
-        let found = html_of_characters_in(alloc, context, text)?;
-        assert_eq!(rt; found.as_slice(), html.as_bytes());
-    }
-    Ok(())
-}
-
-#[test]
-fn texts_are_parsed_in_their_contexts(rt: HostRuntime) -> Result<(), Fail> {
-    check_contexts(&rt, rt.alloc(), &IN_CONTEXTS)
 }
 
 // A parser of a fragment in this element of an arena, where scripts aren't allowed.

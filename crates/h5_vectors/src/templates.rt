@@ -1,12 +1,12 @@
 //! Templates and shadow roots.
-use super::cuts::html_of;
 use super::feeding::{new_builder, start, tag_with, taking, with_end, with_start, with_text};
+use super::made::html_of;
 use h5_arena::{Arena, NodeId};
 use h5_interface::TreeSink;
 use h5_names::{Attribute, LocalName, Namespace, QualName};
+use h5_tests_sinks::{Agreeing, Detaching};
 use h5_token::{TagKind, Token};
 use h5_tree_builder::TreeBuilder;
-use h5_tree_calls::{Attaching, Detaching};
 use h5_types::TreeBuilderOpts;
 use std::alloc::{AllocError, Global};
 use std::process::Abort;
@@ -78,10 +78,15 @@ fn first_template(arena: &Arena) -> Option<NodeId> {
     None
 }
 
-// The template stands loose, and the page has the text after it alone.
-fn check_loose_template(arena: &Arena, alloc: Global, rt: &impl Abort) -> Result<(), Fail> {
+// The first template stands loose, and the page has this body.
+fn check_loose_template(
+    arena: &Arena,
+    body: &str,
+    alloc: Global,
+    rt: &impl Abort,
+) -> Result<(), Fail> {
     let html = html_of(alloc, arena)?;
-    let page = "<html><head></head><body><div>y</div></body></html>";
+    let page = format!(in alloc; "<html><head></head><body>{body}</body></html>")?;
     assert_eq!(rt; html.as_slice(), page.as_bytes());
     let template = first_template(arena).ok_or("a template was made")?;
     assert!(rt; arena.holds(template));
@@ -92,9 +97,10 @@ fn check_loose_template(arena: &Arena, alloc: Global, rt: &impl Abort) -> Result
 #[test]
 fn a_sink_may_say_that_it_attached_a_shadow_root(rt: HostRuntime) -> Result<(), Fail> {
     let alloc = rt.alloc();
-    let builder = TreeBuilder::new(alloc, Attaching::new(alloc)?, TreeBuilderOpts::default());
+    let builder = TreeBuilder::new(alloc, Agreeing::new(alloc)?, TreeBuilderOpts::default());
     let builder = with_shadow_root(builder, alloc)?;
-    check_loose_template(&builder.into_sink().finish(), alloc, &rt)
+    let arena = builder.into_sink().finish();
+    check_loose_template(&arena, "<div>y</div>", alloc, &rt)
 }
 
 #[test]
@@ -102,5 +108,18 @@ fn a_sink_may_detach_the_template_that_it_attaches(rt: HostRuntime) -> Result<()
     let alloc = rt.alloc();
     let builder = TreeBuilder::new(alloc, Detaching::new(alloc)?, TreeBuilderOpts::default());
     let builder = with_shadow_root(builder, alloc)?;
-    check_loose_template(&builder.into_sink().finish(), alloc, &rt)
+    let arena = builder.into_sink().finish();
+    check_loose_template(&arena, "<div>y</div>", alloc, &rt)
+}
+
+#[test]
+fn an_arena_attaches_none_and_gets_a_second_template(rt: HostRuntime) -> Result<(), Fail> {
+    let alloc = rt.alloc();
+    let builder = with_shadow_root(new_builder(alloc)?, alloc)?;
+    let arena = builder.into_sink().finish();
+    let body = "<div><template shadowrootmode=\"open\">x</template>y</div>";
+    check_loose_template(&arena, body, alloc, &rt)?;
+    // The document, four elements, and two templates with their contents.
+    assert_eq!(rt; arena.len(), 9);
+    Ok(())
 }

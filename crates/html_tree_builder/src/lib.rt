@@ -8,7 +8,9 @@
 pub mod laws;
 
 pub use h5_arena as arena;
+pub use h5_data as data;
 pub use h5_driver as driver;
+pub use h5_encoding as encoding;
 pub use h5_interface as interface;
 pub use h5_names as names;
 pub use h5_serialize as serialize;

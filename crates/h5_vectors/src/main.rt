@@ -1,0 +1,86 @@
+//! Runs the cases that stand in files, `h5_vectors FILE..`: each as it stands, and with every text in single characters.
+//! What differs is printed, and then how many cases there are and how many differ. `data/README.md` has the layout.
+#![tactic(auto)]
+
+#[cfg(test)]
+mod builder;
+mod case;
+mod cases;
+mod compare;
+mod draft;
+#[cfg(test)]
+mod every_list;
+#[cfg(test)]
+mod feeding;
+#[cfg(test)]
+mod forest;
+#[cfg(test)]
+mod fragments;
+mod made;
+#[cfg(test)]
+mod parser;
+mod parsers;
+#[cfg(test)]
+mod refused;
+mod run;
+mod sections;
+mod settings;
+#[cfg(test)]
+mod templates;
+mod tokens;
+
+use anyhow::{Context, Result};
+use cases::cases_of;
+use compare::agrees;
+use std::process::ExitCode;
+use std::{env, fs};
+
+// How many cases there were, and how many differed.
+#[derive(Drop)]
+struct Tally {
+    cases: u64,
+    differing: u64,
+}
+
+// Runs the cases of a file.
+fn run_file(rt: &HostRuntime, file: &str, tally: &mut Tally) -> Result<()> {
+    let text = fs::read_to_string(rt, file)?;
+    for case in cases_of(rt.alloc(), text.as_str())? {
+        tally.cases = tally.cases.saturating_add(1);
+        if !agrees(rt, file, &case)? {
+            tally.differing = tally.differing.saturating_add(1);
+        }
+    }
+    Ok(())
+}
+
+// Runs the cases of all files that are named.
+fn run_files(rt: &HostRuntime) -> Result<Tally> {
+    let mut tally = Tally {
+        cases: 0,
+        differing: 0,
+    };
+    for file in env::args(rt)?.skip(1) {
+        run_file(rt, file.as_str(), &mut tally).context(format_args!("{file}"))?;
+    }
+    Ok(tally)
+}
+
+// Runs them, and prints how many there were: whether none differs.
+fn run_and_count(rt: &HostRuntime) -> Result<bool> {
+    let tally = run_files(rt)?;
+    let (cases, differing) = (tally.cases, tally.differing);
+    println!(rt; "{cases} cases, {differing} differ")?;
+    Ok(differing == 0)
+}
+
+fn main(rt: HostRuntime) -> ExitCode {
+    match run_and_count(&rt) {
+        Ok(true) => ExitCode::SUCCESS,
+        Ok(false) => ExitCode::FAILURE,
+        Err(error) => {
+            let _ = eprintln!(rt; "{error:#}");
+            ExitCode::FAILURE
+        }
+    }
+}

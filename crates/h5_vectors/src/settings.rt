@@ -1,0 +1,59 @@
+//! How a text is parsed, or tokens are taken.
+use anyhow::{Result, bail};
+use h5_driver::ParseOpts;
+use h5_interface::QuirksMode;
+use h5_tokenizer::TokenizerOpts;
+use h5_types::TreeBuilderOpts;
+
+/// The context of a fragment, where there is one, and options.
+#[derive(Drop)]
+pub struct Settings {
+    /// The context's name, behind `svg ` or `math ` where it is such an element.
+    pub context: Option<String>,
+    pub discard_bom: bool,
+    pub tree_builder: TreeBuilderOpts,
+}
+
+impl Settings {
+    /// A document, with the default options.
+    pub fn new() -> Settings {
+        Settings {
+            context: None,
+            discard_bom: true,
+            tree_builder: TreeBuilderOpts::default(),
+        }
+    }
+
+    // Sets the option of this name.
+    fn set_option(&mut self, line: u64, word: &str) -> Result<()> {
+        match word {
+            "exact_errors" => self.tree_builder.exact_errors = true,
+            "iframe_srcdoc" => self.tree_builder.iframe_srcdoc = true,
+            "drop_doctype" => self.tree_builder.drop_doctype = true,
+            "quirks" => self.tree_builder.quirks_mode = QuirksMode::Quirks,
+            "limited_quirks" => self.tree_builder.quirks_mode = QuirksMode::LimitedQuirks,
+            "keep_bom" => self.discard_bom = false,
+            _ => bail!("line {line}: no option is called {word}"),
+        }
+        Ok(())
+    }
+
+    /// Sets the options of these names, which stand below the line of this number.
+    pub fn set_options(&mut self, line: u64, words: &str) -> Result<()> {
+        for word in words.split_ascii_whitespace() {
+            self.set_option(line, word)?;
+        }
+        Ok(())
+    }
+
+    /// The options, as a parser takes them.
+    pub fn parse_opts(&self) -> ParseOpts {
+        ParseOpts {
+            tokenizer: TokenizerOpts {
+                discard_bom: self.discard_bom,
+                ..TokenizerOpts::default()
+            },
+            tree_builder: self.tree_builder,
+        }
+    }
+}
