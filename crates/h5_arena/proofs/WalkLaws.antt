@@ -1,6 +1,7 @@
 -- Steps of a walk over the nodes of an arena, over any serializer.
 use Rattle.std.proofs.Common.{◌≡◌, ◌∙◌, ℕ, ◌+◌, ◌<◌, Bor, List, [], ◌∷◌, ◌++◌, Option, Result, Ok, Err, ap, append-nil, append_assoc, arith, length, refl, subst, sym}
 use Rattle.std.specs.Prelude.{None, Some, option_copied}
+use Rattle.std.proofs.lemmas.List.{nil_from_length}
 use Rattle.std.specs.Result.{IsErrAnd}
 use Rattle.h5_serialize.specs.Call.{Call}
 use Rattle.h5_serialize.specs.Walk.{AreMade, IsStopped, Makes, NoCall, OneMore, Refused, Starved}
@@ -147,14 +148,10 @@ pub child_done : (f : Forest) (current : OpenNode) (around : List OpenNode) (x :
 child_done f current around x rest made e split =
     first_child f current around x rest e ∙ ap (λ l. l ++ (calls_left f (behind current rest) ++ calls_waiting f around)) (split ∙ append-nil made)
 
-pub no_length : {A : Type 0} (xs : List A) → length xs ≡ 0 → xs ≡ []
-no_length [] w = refl
-no_length (x ∷ xs) w = absurd (omega arith)
-
 -- where no child is left, the end comes next
 pub no_child : (f : Forest) (current : OpenNode) (around : List OpenNode) → length current.rest.now ≡ 0
     → calls_left f current ++ calls_waiting f around ≡ end_calls (option_copied current.name) ++ calls_waiting f around
-no_child f current around e = ap (λ xs. (calls_of_children f (child_views xs) ++ end_calls (option_copied current.name)) ++ calls_waiting f around) (no_length current.rest.now e)
+no_child f current around e = ap (λ xs. (calls_of_children f (child_views xs) ++ end_calls (option_copied current.name)) ++ calls_waiting f around) (nil_from_length current.rest.now e)
 
 -- the first child, and those behind it, are nodes or texts
 pub first_held : (f : Forest) (current : OpenNode) (x : Child) (rest : Bor (List Child)) → current.rest.now ≡ x ∷ rest.now → AreNodes f (child_views current.rest.now) → AreNodes f (child_view x ∷ []) × AreNodes f (child_views rest.now)

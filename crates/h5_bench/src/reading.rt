@@ -6,8 +6,8 @@ use h5_token::{BuildFault, TokenSink};
 use h5_tokenizer::{BufferQueue, Tokenizer, TokenizerOpts, TokenizerResult};
 use std::alloc::Global;
 
-// Feeds a piece, and again where the answer stopped the reader.
-fn feed<S: TokenSink>(
+/// Feeds a piece, and again where the answer stopped the reader.
+pub fn feed<S: TokenSink>(
     reader: &mut Tokenizer<S>,
     queue: &mut BufferQueue,
     piece: String,

@@ -208,11 +208,6 @@ pushed_full n t i l h full e =
     ∙ ap (λ r. ElementEntry n t ∷ r) e
     ∙ sym (push_full n t l full)
 
--- a list of no length
-pub nothing : {A : Type 0} (xs : List A) → length xs ≡ 0 → xs ≡ []
-nothing [] e = refl
-nothing (x ∷ xs) e = absurd (omega (arith, e))
-
 -- a step of the walk over those alike
 pub found_step : (t u : TagText) (n : ℕ) (l : List Entry) (count earliest i : ℕ) → is_alike t u ≡ true → length l ≡ i
     → alike_from t (ElementEntry n u ∷ l) (record { count = count; earliest = earliest }) ≡ alike_from t l (record { count = count + 1; earliest = i })

@@ -18,10 +18,6 @@ pub seen_length : {S H : Type 0} (sees : S → Seen) (node : H → ℕ) (sink : 
 unfolding world
 seen_length sees node sink state = open_length (open_node node) state.open_elems.items
 
-pub none_left : {A : Type 0} (s : List A) → length s ≡ 0 → s ≡ []
-none_left [] e = refl
-none_left (n ∷ s) e = absurd (omega (arith, e))
-
 -- one element less
 pub pop_next : (choices : SinkChoices) (w : World) → 0 < length w.stack → all_popped choices (pop choices w) ≡ all_popped choices w
 unfolding pop

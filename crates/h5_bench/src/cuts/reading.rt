@@ -1,8 +1,9 @@
 //! Readings of one text, cut at chosen places.
+use super::super::reading::feed;
 use h5_tests_sinks::{Answer, Recorder};
+use h5_token::BuildFault;
 use h5_token::states::State;
-use h5_token::{BuildFault, TokenSink};
-use h5_tokenizer::{BufferQueue, Tokenizer, TokenizerOpts, TokenizerResult};
+use h5_tokenizer::{BufferQueue, Tokenizer, TokenizerOpts};
 use std::alloc::{AllocError, Global};
 
 /// Where a reader begins, and what its sink answers.
@@ -20,21 +21,6 @@ fn make_options(alloc: Global, setting: Setting) -> Result<TokenizerOpts, AllocE
         initial_state: setting.state,
         last_start_tag_name: Some(String::from_str(alloc, "a")?),
     })
-}
-
-// Feeds a piece, and again where the sink's answer stopped the reader.
-fn feed<S: TokenSink>(
-    reader: &mut Tokenizer<S>,
-    queue: &mut BufferQueue,
-    piece: String,
-) -> Result<(), BuildFault> {
-    queue.push_back(piece)?;
-    for _ in 0..64 {
-        if let TokenizerResult::Done = reader.feed(queue)? {
-            return Ok(());
-        }
-    }
-    Ok(())
 }
 
 /// What is written down of a text that is cut behind each character whose bit is set, the first

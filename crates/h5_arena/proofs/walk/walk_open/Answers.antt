@@ -1,11 +1,12 @@
 use Rattle.std.proofs.Common.{◌∙◌, [], ◌∷◌, ◌++◌, append-nil, ap, arith, subst, sym}
 use Rattle.std.specs.Prelude.{option_copied}
+use Rattle.std.proofs.lemmas.List.{nil_from_length}
 use Rattle.h5_interface.specs.Forest.{IsForest}
 use Rattle.h5_serialize.specs.Walk.{NoCall}
 use Rattle.h5_serialize.proofs.WalkSteps.{walk_stopped}
 use Rattle.h5_arena.specs.ArenaModel.{ArenaView, forest_seen}
 use Rattle.h5_arena.specs.OpenNodes.{calls_left, end_calls}
-use Rattle.h5_arena.proofs.WalkLaws.{AreWaiting, behind, calls_waiting, child_done, child_opened, first_child, first_held, less_opened, no_child, no_length, opened_held, under_way_done, under_way_further, under_way_starved, under_way_stopped, waiting_fewer, waiting_more, weight_waiting_more, calls_waiting_more}
+use Rattle.h5_arena.proofs.WalkLaws.{AreWaiting, behind, calls_waiting, child_done, child_opened, first_child, first_held, less_opened, no_child, opened_held, under_way_done, under_way_further, under_way_starved, under_way_stopped, waiting_fewer, waiting_more, weight_waiting_more, calls_waiting_more}
 use Rattle.h5_arena.proofs.walk.walk_open.Goals as goal
 
 pub loop-child-init : goal.loop-child-init
@@ -87,6 +88,6 @@ pub returns-in-None-pop : goal.returns-in-None-pop
 returns-in-None-pop g c =
     let f = forest_seen c.args.arena.now in
     let ends = end_calls (option_copied c.loop-child.current.name) in
-    let none = no_length c.loop-child.around.items (omega (arith, c.loop-child.around.ok.0, c.in-None-pop.ensures.cases.0)) in
+    let none = nil_from_length c.loop-child.around.items (omega (arith, c.loop-child.around.ok.0, c.in-None-pop.ensures.cases.0)) in
     let next = no_child f c.loop-child.current c.loop-child.around.items c.in-None.ensures.cases ∙ ap (λ nodes. ends ++ calls_waiting f nodes) none ∙ append-nil ends in
     under_way_done g.S.Serializer.answer g.S.Serializer.after g.S.Serializer.writes g.S.Serializer.breaks {calls = calls_left f c.args.first} ends c.loop-child.invariant next c.in_ok-end-in-None.ensures

@@ -1,8 +1,9 @@
 use Rattle.std.proofs.Common.{◌∷◌, ap, sym, arith, ◌∙◌}
+use Rattle.std.proofs.lemmas.List.{nil_from_length}
 use Rattle.h5_state.specs.View.{entry_of}
 use Rattle.h5_meaning.specs.FormattingList.{clear_to_marker}
 use Rattle.h5_rules_shared.specs.Places.{entries_of}
-use Rattle.h5_rules_shared.proofs.ListLaws.{entries_pushed, nothing}
+use Rattle.h5_rules_shared.proofs.ListLaws.{entries_pushed}
 use Rattle.h5_rules_shared.proofs.markers.clear_to_marker.Goals as goal
 
 pub returns-in-Marker : goal.returns-in-Marker
@@ -18,7 +19,7 @@ clear-preserved-in_default-entry g c = λ node.
 pub returns : goal.returns
 returns g c = λ node.
     let none = c.in_default.ensures.cases in
-    let before = nothing c.clear.entries.items (omega (arith, none.0)) in
-    ap (entries_of node) (nothing c.pop.new.self.items (omega (arith, none.1)))
+    let before = nil_from_length c.clear.entries.items (omega (arith, none.0)) in
+    ap (entries_of node) (nil_from_length c.pop.new.self.items (omega (arith, none.1)))
     ∙ sym (ap (λ xs. clear_to_marker (entries_of node xs)) before)
     ∙ c.clear.invariant node

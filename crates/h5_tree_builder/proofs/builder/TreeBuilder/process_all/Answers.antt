@@ -1,10 +1,9 @@
 use Rattle.std.proofs.Common.{◌≡◌, ◌++◌, [], ◌∷◌, ap, sym, subst, ◌∙◌, arith, rules}
-use Rattle.std.proofs.lemmas.List.{map-append}
+use Rattle.std.proofs.lemmas.List.{map-append, nil_from_length}
 use Rattle.std.specs.Vec.Iter.{into_iter_items}
 use Rattle.h5_token.specs.TokenText.{token_text}
 use Rattle.h5_tree_builder.specs.Held.{building}
 use Rattle.h5_tree_builder.specs.Replies.{reply_text, reply_texts, token_texts}
-use Rattle.h5_tree_builder.proofs.EndLaws.{none_left}
 use Rattle.h5_tree_builder.proofs.WholeLaws.{Onward, onward_last, onward_next, rebuilds_plain}
 use Rattle.h5_tree_builder.proofs.builder.TreeBuilder.process_all.Goals as goal
 
@@ -41,7 +40,7 @@ returns-clause-run g c =
     let all = token_texts c.args.tokens.items in
     let left = into_iter_items c.tokens.token-iterator in
     let told = reply_texts node c.tokens.replies.items in
-    let none : left ≡ [] = none_left left (omega (arith, c.tokens.token-iterator.rest.ok.0, c.in-None.ensures.steps.0)) in
+    let none : left ≡ [] = nil_from_length left (omega (arith, c.tokens.token-iterator.rest.ok.0, c.in-None.ensures.steps.0)) in
     onward_last k all old now told (record { fitting = λ f e. record { sound = c.has_failed.ensures.sound; fits = c.has_failed.ensures.fits f e } }) (subst (λ z. Onward k all (token_texts z) old now told) none c.tokens.invariant.onward)
 
 pub returns-clause-rebuilds : goal.returns-clause-rebuilds
