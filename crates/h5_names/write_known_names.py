@@ -31,6 +31,7 @@ SETS = {
     "td_th": "cell_names",
     "table_outer": "table_outer_names",
     "mathml_text_point": "mathml_text_points",
+    "mathml_special": "mathml_special_names",
     "svg_html_point": "svg_html_points",
     "void": "void_names",
     "raw_text": "raw_names",
@@ -39,7 +40,7 @@ SETS = {
 }
 
 # A set that holds all names of another.
-WIDER = {"cursory_implied_end": "thorough_implied_end"}
+WIDER = {"cursory_implied_end": "thorough_implied_end", "mathml_text_point": "mathml_special"}
 
 SLOTS = 1024
 LONGEST = 19

@@ -1,19 +1,16 @@
 -- The adjusted current node, and what it takes as HTML.
-use Rattle.std.proofs.Common.{◌≡◌, ◌<◌, ℕ, Bool, true, false, not, cond, ◌&&◌, ◌||◌, List, [], ◌∷◌, Option, Some, None, codes, inl, length, refl, ap, sym, ◌∙◌, arith}
-use Rattle.h5_names.specs.AttributeText.{is_same_text}
+use Rattle.std.proofs.Common.{◌≡◌, ◌<◌, ℕ, Bool, true, false, not, cond, ◌&&◌, ◌||◌, List, [], ◌∷◌, Option, Some, None, inl, length, refl, ap, sym, ◌∙◌, arith}
 use Rattle.h5_names.specs.declared.qualified.QualName.{QualName}
 use Rattle.h5_token.specs.TokenText.{TagText}
-use Rattle.h5_token.specs.declared.tag.TagKind.TheVariants.{EndTag, StartTag}
+use Rattle.h5_token.specs.declared.tag.TagKind.TheVariants.{EndTag}
 use Rattle.h5_interface.specs.Forest.{ElementNode, Forest, IsElement, kind_of}
 use Rattle.h5_interface.specs.NewElement.{is_annotation_xml}
-use Rattle.h5_interface.specs.Seen.{is_integration_point}
 use Rattle.h5_interface.specs.SinkChoices.{SinkChoices}
-use Rattle.h5_tag_sets.specs.TagSets.{is_mathml_text_point, is_one_of, is_svg_html_point}
-use Rattle.h5_types.specs.TurnText.{CommentTurn, EofTurn, NullTurn, TagTurn, TextTurn, TurnText}
-use Rattle.h5_types.specs.declared.modes.SplitStatus.TheVariants.{NotSplit}
+use Rattle.h5_tag_sets.specs.TagSets.{is_mathml_text_point, is_svg_html_point}
+use Rattle.h5_types.specs.TurnText.{CommentTurn, TagTurn, TurnText}
 use Rattle.h5_meaning.specs.NamesFit.{is_html_element}
 use Rattle.h5_meaning.specs.Order.{IsIn}
-use Rattle.h5_meaning.specs.Foreign.{adjusted_current_node, adjusted_of, glyph_names, is_foreign, is_foreign_at, is_taken_in}
+use Rattle.h5_meaning.specs.Foreign.{adjusted_current_node, adjusted_of, is_foreign_at, is_taken_in}
 use Rattle.h5_meaning.specs.Sound.{Sound}
 use Rattle.h5_meaning.specs.World.{World, name_in}
 use Rattle.h5_state.specs.Summaries.{html_number, name_number, text_number}

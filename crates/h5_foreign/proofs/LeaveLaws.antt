@@ -1,17 +1,33 @@
 -- Foreign content is left, one element after the other.
-use Rattle.std.proofs.Common.{◌≡◌, Bool, true, false, cond, List, [], ◌∷◌, refl, ap, sym, ◌∙◌}
-use Rattle.h5_names.specs.declared.qualified.QualName.{QualName}
+use Rattle.std.proofs.Common.{◌≡◌, ◌<◌, ℕ, true, false, cond, List, [], ◌∷◌, length, refl, ap, sym, ◌∙◌, arith}
 use Rattle.h5_interface.specs.SinkChoices.{SinkChoices}
-use Rattle.h5_meaning.specs.Scope.{first_passes, later_names}
-use Rattle.h5_meaning.specs.Changes.{pop, pop_while}
-use Rattle.h5_meaning.specs.Foreign.{is_left, leave_foreign_content}
-use Rattle.h5_meaning.specs.World.{World, names_of}
-use Rattle.h5_meaning.proofs.PopLaws.{names-pop, while_step, while_none}
+use Rattle.h5_meaning.specs.Changes.{pop}
+use Rattle.h5_meaning.specs.Foreign.{leave_foreign_content, pop_left}
+use Rattle.h5_meaning.specs.Order.{but_first}
+use Rattle.h5_meaning.specs.World.{World}
+use Rattle.h5_meaning.proofs.PopLaws.{pop_stack}
+use Rattle.h5_foreign.specs.Leaving.{is_current_left, is_first_left}
 
-pub leave_step : (choices : SinkChoices) (w : World) → first_passes is_left (names_of w) ≡ true → leave_foreign_content choices (pop choices w) ≡ leave_foreign_content choices w
+pub leave_step : (choices : SinkChoices) (w : World) → is_current_left choices w ≡ true → leave_foreign_content choices (pop choices w) ≡ leave_foreign_content choices w
 unfolding leave_foreign_content
-leave_step choices w h = ap (λ ns. pop_while choices is_left ns (pop choices w)) (names-pop choices w) ∙ sym (while_step choices is_left (names_of w) w h)
+leave_step choices w h = ap (λ s. pop_left choices s (pop choices w)) (pop_stack choices w) ∙ at w.stack h
+  where
+    at : (s : List ℕ) → is_first_left choices w.forest s ≡ true → pop_left choices (but_first s) (pop choices w) ≡ pop_left choices s w
+    at [] h = absurd (cc)
+    at (n ∷ s) h = sym (ap (λ b. cond b (pop_left choices s (pop choices w)) w) h)
 
-pub leave_none : (choices : SinkChoices) (w : World) → first_passes is_left (names_of w) ≡ false → leave_foreign_content choices w ≡ w
+pub leave_none : (choices : SinkChoices) (w : World) → is_current_left choices w ≡ false → leave_foreign_content choices w ≡ w
 unfolding leave_foreign_content
-leave_none choices w h = while_none choices is_left (names_of w) w h
+leave_none choices w h = at w.stack h
+  where
+    at : (s : List ℕ) → is_first_left choices w.forest s ≡ false → pop_left choices s w ≡ w
+    at [] h = refl
+    at (n ∷ s) h = ap (λ b. cond b (pop_left choices s (pop choices w)) w) h
+
+-- what is left is open
+pub left_is_open : (choices : SinkChoices) (w : World) → is_current_left choices w ≡ true → 0 < length w.stack
+left_is_open choices w h = at w.stack h
+  where
+    at : (s : List ℕ) → is_first_left choices w.forest s ≡ true → 0 < length s
+    at [] h = absurd (cc)
+    at (n ∷ s) h = omega arith

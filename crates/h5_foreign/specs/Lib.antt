@@ -1,2 +1,3 @@
 pub mod EndSearches
 pub mod Inserts
+pub mod Leaving

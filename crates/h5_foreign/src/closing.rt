@@ -2,30 +2,17 @@
 //! content").
 ghost use Rattle.std.specs.Prelude.{◌≡◌, length};
 ghost use Rattle.h5_meaning.specs.Scope.{cut_through, first_passes};
-ghost use Rattle.h5_meaning.specs.Foreign.{is_left, is_named_in_any_case};
+ghost use Rattle.h5_meaning.specs.Foreign.{is_named_in_any_case};
 ghost use Rattle.h5_meaning.specs.ForeignContent.{search_end};
 ghost use Rattle.h5_meaning.specs.Rows.{LeaveForeignContent, PopUntilNamedInAnyCase};
 ghost use Rattle.h5_meaning.specs.World.{names_of};
 ghost use Rattle.h5_foreign.specs.EndSearches.{IsFoundIn, search_of};
 ghost use Rattle.h5_state.specs.Steps.{IsSound, Makes, world_of};
 
-use super::current::is_html_or_point;
+use super::current::is_current_left;
 use h5_interface::TreeSink;
 use h5_names::{LocalName, QualName};
 use h5_state::{NameTest, State, is_current, name_at, open_count, pop, truncate};
-
-// Whether an element is left with foreign content: it is neither of HTML nor an integration point.
-#[derive(Clone, Copy)]
-struct Left;
-
-impl NameTest for Left {
-    ghost holds = { λ t name. is_left name };
-
-    #[tactic(auto, unfolding(h5_meaning::specs::Foreign::is_left))]
-    fn test(&self, name: &QualName) -> bool {
-        !is_html_or_point(name)
-    }
-}
 
 // Whether an element has this local name, in any case of ASCII letters.
 #[derive(Clone, Copy)]
@@ -39,13 +26,13 @@ impl NameTest for InAnyCase<'_> {
     }
 }
 
-/// Leaves foreign content: pops elements up to one of HTML, a MathML text integration point, or an element of SVG that is
-/// an HTML integration point.
+/// Leaves foreign content: pops elements up to one of HTML, a MathML text integration point, or an HTML integration point,
+/// as an element of SVG is by its name, and an `annotation-xml` if the sink says so.
 pub fn leave_foreign_content<S: TreeSink>(sink: &mut S, state: &mut State<S::Handle>)
     requires { IsSound S.TreeSink sink.old state.old }
     ensures { Makes S.TreeSink LeaveForeignContent sink.old state.old sink.new state.new }
 {
-    'left: while is_current(sink, state, &Left) {
+    'left: while is_current_left(sink, state) {
         pop(sink, state);
     }
 }

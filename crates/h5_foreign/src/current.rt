@@ -6,7 +6,8 @@ ghost use Rattle.h5_tag_sets.specs.TagSets.{is_mathml_text_point, is_one_of, is_
 ghost use Rattle.h5_meaning.specs.NamesFit.{is_html_element};
 ghost use Rattle.h5_token.specs.TokenText.{TagText};
 ghost use Rattle.h5_types.specs.TurnText.{TagTurn, TextTurn, TurnText, turn_text};
-ghost use Rattle.h5_meaning.specs.Foreign.{adjusted_current_node, glyph_names, is_foreign, is_foreign_at, is_foreign_text, is_taken_in};
+ghost use Rattle.h5_meaning.specs.Foreign.{adjusted_current_node, glyph_names, is_foreign, is_foreign_at, is_foreign_text, is_left, is_taken_in};
+ghost use Rattle.h5_foreign.specs.Leaving.{is_current_left};
 ghost use Rattle.h5_state.specs.Steps.{IsSound, world_of};
 
 use h5_interface::TreeSink;
@@ -70,7 +71,7 @@ fn is_glyph(name: &LocalName) -> bool
 
 // Whether an element takes texts as HTML by its name: it is of HTML, or an integration point, whatever its attributes.
 #[tactic(auto, unfolding(h5_tag_sets::specs::TagSets::html_namespace))]
-pub(crate) fn is_html_or_point(name: &QualName) -> bool
+fn is_html_or_point(name: &QualName) -> bool
     ensures { result ≡ (is_html_element name.now || (is_mathml_text_point name.now || is_svg_html_point name.now)) }
 {
     name.ns.is_html() || mathml_text_integration_point(name) || svg_html_integration_point(name)
@@ -86,14 +87,30 @@ fn is_html_or_point_for(name: &QualName, local: &LocalName) -> bool
         || svg_html_integration_point(name)
 }
 
-// Whether texts are taken by the rules of HTML in an element.
+// Whether texts are taken by the rules of HTML in an element: it is of HTML, or an integration point, and so it isn't left
+// with foreign content.
+#[tactic(auto, unfolding(h5_meaning::specs::Foreign::is_left))]
 fn takes_text<S: TreeSink>(sink: &S, node: &S::Handle) -> bool
     requires { IsElement (S.sees sink.now).forest (S.node node.now) }
-    ensures { result ≡ is_taken_in S.choices (TextTurn SplitStatus.NotSplit []) (S.sees sink.now).forest (S.node node.now) }
+    ensures taken { result ≡ is_taken_in S.choices (TextTurn SplitStatus.NotSplit []) (S.sees sink.now).forest (S.node node.now) }
+    ensures left { not result ≡ is_left S.choices (S.sees sink.now).forest (S.node node.now) }
 {
     let name = sink.elem_name(node);
     is_html_or_point(name)
         || is_annotation_xml(name) && sink.is_mathml_annotation_xml_integration_point(node)
+}
+
+/// Whether the current node is left with foreign content.
+#[tactic(auto, unfolding(h5_state::specs::View::world))]
+pub(crate) fn is_current_left<S: TreeSink>(sink: &S, state: &State<S::Handle>) -> bool
+    requires { IsSound S.TreeSink sink.now state.now }
+    ensures { result ≡ is_current_left S.choices (world_of S.TreeSink sink.now state.now) }
+{
+    let count = open_count(sink, state);
+    if count == 0 {
+        return false;
+    }
+    !takes_text(sink, handle_at(sink, state, count - 1))
 }
 
 // Whether a start tag of this name is.

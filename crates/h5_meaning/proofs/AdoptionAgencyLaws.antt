@@ -43,7 +43,7 @@ pub record Keeps (w v : World) : Type 0 where
   pub lists : HasLists v
   pub kinds : KeepsKinds w.forest v.forest
 
-keeps_then : (u v w : World) → Keeps u v → Keeps v w → Keeps u w
+pub keeps_then : (u v w : World) → Keeps u v → Keeps v w → Keeps u w
 keeps_then u v w a b = record { sound = b.sound; lists = b.lists; kinds = kinds_trans u.forest v.forest w.forest a.kinds b.kinds }
 
 -- besides the root is still open

@@ -1,13 +1,13 @@
 -- Where the furthest block goes in a round of the adoption agency: it may be put there, and all stands then (HTML standard,
 -- sections 13.2.6.1 and 13.2.6.4.7).
-use Rattle.std.proofs.Common.{◌≡◌, ◌≢◌, inl, inr, ℕ, ◌<◌, Bool, true, false, ◌==◌, ◌&&◌, ◌||◌, cond, List, [], ◌∷◌, ◌++◌, map, codes, Option, Some, None, IsTrue, refl, ap, sym, subst, ◌∙◌, arith}
+use Rattle.std.proofs.Common.{◌≡◌, ◌≢◌, inl, inr, ℕ, Bool, true, false, ◌==◌, ◌&&◌, ◌||◌, cond, List, [], ◌∷◌, ◌++◌, map, codes, Option, Some, None, IsTrue, refl, ap, sym, subst, ◌∙◌, arith}
 use Rattle.std.specs.List.{list_any}
-use Rattle.std.specs.Prelude.{if◌then◌else◌, unwrap_or}
+use Rattle.std.specs.Prelude.{unwrap_or}
 use Rattle.std.proofs.lemmas.Bool.{eq-eqb, eqb-true, ne_eqb}
 use Rattle.h5_names.specs.declared.qualified.QualName.{QualName}
 use Rattle.h5_interface.specs.Ancestors.{AtOrAbove, Further, IsAncestor, Parent}
 use Rattle.h5_interface.specs.Changes.{detach}
-use Rattle.h5_interface.specs.Forest.{ChildNode, ElementNode, Forest, FragmentNode, IsForest, IsNode, Node, contents_of, is_at, kind_of, parent_of}
+use Rattle.h5_interface.specs.Forest.{ChildNode, ElementNode, Forest, FragmentNode, IsForest, IsNode, Node, contents_of, kind_of, parent_of}
 use Rattle.h5_interface.specs.NewElement.{is_html_template}
 use Rattle.h5_interface.specs.Seen.{CanStandBy, IsFreeFor}
 use Rattle.h5_interface.specs.SinkChoices.{Rearranges}
@@ -20,6 +20,7 @@ use Rattle.h5_tag_sets.specs.TagSets.{html_namespace, is_default_scope, is_html_
 use Rattle.h5_meaning.specs.Adoption.{FormattingElement, FurthestBlock, block_or, furthest_block, newer_than, newest_named, older_than}
 use Rattle.h5_meaning.specs.FormattingList.{ElementEntry, Entry, MarkerEntry, nodes_of}
 use Rattle.h5_meaning.specs.FormattingNames.{IsOfTag}
+use Rattle.h5_meaning.specs.NamesFit.{is_html_element}
 use Rattle.h5_meaning.specs.Order.{Before, Distinct, IsIn, first_or, last_or}
 use Rattle.h5_meaning.proofs.EachLaws.{each_at}
 use Rattle.h5_meaning.proofs.PairLaws.{before_across, before_first, before_second, in_left, in_right}
@@ -27,7 +28,7 @@ use Rattle.h5_meaning.proofs.PassLaws.{furthest_block_at, newest_named_at, order
 use Rattle.h5_meaning.proofs.PlainListLaws.{listed_is_plain}
 use Rattle.h5_meaning.specs.Root.{IsRootOpen}
 use Rattle.h5_meaning.proofs.BoolLaws.{or_neither}
-use Rattle.h5_meaning.proofs.SetLaws.{default_named, special_named}
+use Rattle.h5_meaning.proofs.SetLaws.{default_named, special_in_scope, special_named}
 use Rattle.h5_meaning.specs.AdoptionAgency.{IsLoose, MayAdopt, common_ancestor, KeepsKinds}
 use Rattle.h5_meaning.specs.Changes.{with_forest}
 use Rattle.h5_meaning.specs.Place.{CanPut, IsPlaceIn, LastChild, Place, TableFosterParenting, appropriate_place, foster_place, from_foster_parent, inside, is_foster_parent, put}
@@ -134,6 +135,13 @@ module _ {name : List ℕ} {f : FormattingElement} {k : FurthestBlock} (w : Worl
       let parts = furthest_block_at (λ n. is_special (name_in w.forest n)) newer k may.block in
       subst (λ s. Before s k.block y) (sym cut)
       (before_across k.block y newer (f.node ∷ older) (subst (IsIn k.block) (sym parts.cut) (in_right k.block k.newer (k.block ∷ k.between) (inl refl))) (inr i))
+
+  -- the furthest block is an element of HTML: what is special of MathML and SVG ends the scope
+  pub block_is_html : is_html_element (name_in w.forest k.block) ≡ true
+  block_is_html =
+      let parts = furthest_block_at (λ n. is_special (name_in w.forest n)) newer k may.block in
+      special_in_scope (name_in w.forest k.block) parts.is_special
+      (any_none (λ n. is_default_scope (name_in w.forest n)) newer k.block may.in_scope (subst (IsIn k.block) (sym parts.cut) (in_right k.block k.newer (k.block ∷ k.between) (inl refl))))
 
   -- the formatting element is of its tag, and isn't special
   pub formatting_of_tag : Sound w → IsOfTag w.forest f.node f.tag

@@ -72,16 +72,19 @@ content_row tag w p =
     holds_by_name IsContentRow in_head_start (of_tag in_head_else) tag w (
       (λ q. absurd (apart_known Html tag.name refl p q)),
       (
-        (λ q. record { changes = puts_leaf tag.name tag.attrs tag.had_duplicate_attributes; ends = λ v. indicates_next (named_encoding tag.attrs) v }),
+        (λ q. record { changes = puts_leaf tag.name tag.attrs tag.had_duplicate_attributes; ends = λ v. refl }),
         (
-          (λ q. record { changes = text (title_plain tag.name q); ends = λ v. refl }),
+          (λ q. record { changes = puts_leaf tag.name tag.attrs tag.had_duplicate_attributes; ends = λ v. indicates_next (named_encoding tag.attrs) v }),
           (
-            (λ q. record { changes = text (head_raw_plain tag.name q); ends = λ v. refl }),
+            (λ q. record { changes = text (title_plain tag.name q); ends = λ v. refl }),
             (
-              (λ q. absurd (apart_known Noscript tag.name refl p q)),
+              (λ q. record { changes = text (head_raw_plain tag.name q); ends = λ v. refl }),
               (
-                (λ q. record { changes = begins_script tag.attrs tag.had_duplicate_attributes script_plain; ends = λ v. refl }),
-                ((λ q. record { changes = puts_template tag.attrs tag.had_duplicate_attributes; ends = λ v. refl }), ((λ q. absurd (apart_known Head tag.name refl p q)), tt)),
+                (λ q. absurd (apart_known Noscript tag.name refl p q)),
+                (
+                  (λ q. record { changes = begins_script tag.attrs tag.had_duplicate_attributes script_plain; ends = λ v. refl }),
+                  ((λ q. record { changes = puts_template tag.attrs tag.had_duplicate_attributes; ends = λ v. refl }), ((λ q. absurd (apart_known Head tag.name refl p q)), tt)),
+                ),
               ),
             ),
           ),

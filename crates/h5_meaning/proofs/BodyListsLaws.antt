@@ -24,7 +24,7 @@ use Rattle.h5_meaning.proofs.ListsLaws.{IsSteady, NeedsOfAll, ready_steady, stea
 use Rattle.h5_meaning.proofs.ReadyLaws.{ready_end_formatting, ready_start_a, ready_start_formatting, ready_start_nobr}
 use Rattle.h5_meaning.proofs.BodyInLaws.{in_end_description, in_end_form, in_end_li, in_end_marked, in_end_option, in_start_button, in_start_description, in_start_foreign, in_start_form, in_start_hr, in_start_image, in_start_input, in_start_item, in_start_marked, in_start_optgroup, in_start_option, in_start_preformatted, in_start_ruby_base, in_start_ruby_text, in_start_select}
 use Rattle.h5_meaning.proofs.ReadyInLaws.{ReadyIn, ready_in}
-use Rattle.h5_meaning.specs.InHead.{in_head_else, in_head_start, in_head_start_link, in_head_start_noscript, in_head_start_raw, in_head_start_script, in_head_start_tag, in_head_start_title, in_head_start_template, in_head_end_template, template_eof}
+use Rattle.h5_meaning.specs.InHead.{in_head_else, in_head_start, in_head_start_link, in_head_start_meta, in_head_start_noscript, in_head_start_raw, in_head_start_script, in_head_start_tag, in_head_start_title, in_head_start_template, in_head_end_template, template_eof}
 use Rattle.h5_meaning.proofs.BodyRowLaws.{head_start_passes}
 use Rattle.h5_meaning.proofs.ForeignLaws.{mathml_no_html, svg_no_html}
 
@@ -110,16 +110,19 @@ module _ (choices : SinkChoices) (w : World) (k : IsSteady w) where
     (
       (λ p. stays m (in_head_start_link tag w) (tt, tt)),
       (
-        (λ p. stays m (in_head_start_title tag w) (tt, (tt, (tt, tt)))),
+        (λ p. stays m (in_head_start_meta tag w) (tt, tt)),
         (
-          (λ p. stays m (in_head_start_raw tag w) (tt, (tt, (tt, tt)))),
+          (λ p. stays m (in_head_start_title tag w) (tt, (tt, (tt, tt)))),
           (
-            (λ p. stays_head_noscript m tag),
+            (λ p. stays m (in_head_start_raw tag w) (tt, (tt, (tt, tt)))),
             (
-              (λ p. stays m (in_head_start_script tag w) (tt, (tt, (tt, tt)))),
+              (λ p. stays_head_noscript m tag),
               (
-                (λ p. stays m (in_head_start_template tag w) (tt, (tt, (tt, (tt, (tt, tt)))))),
-                ((λ p h. k), tt),
+                (λ p. stays m (in_head_start_script tag w) (tt, (tt, (tt, tt)))),
+                (
+                  (λ p. stays m (in_head_start_template tag w) (tt, (tt, (tt, (tt, (tt, tt)))))),
+                  ((λ p h. k), tt),
+                ),
               ),
             ),
           ),

@@ -121,9 +121,9 @@ module _ (tag : TagText) (w : World) where
   unfolding in_body_start_noscript
   row_start_noscript = chosen_row w.options.scripting_enabled _ _ (is_row _ tt (tt, (refl, tt))) (is_row _ tt (tt, tt))
 
-  head_link : (o : Option (List ℕ)) → IsBodyRow (row (InsertAndPopElement tag.name tag.attrs tag.had_duplicate_attributes ∷ []) (indicates o))
-  head_link None = is_row _ tt (tt, tt)
-  head_link (Some encoding) = is_row _ tt (tt, tt)
+  head_leaf : (o : Option (List ℕ)) → IsBodyRow (row (InsertAndPopElement tag.name tag.attrs tag.had_duplicate_attributes ∷ []) (indicates o))
+  head_leaf None = is_row _ tt (tt, tt)
+  head_leaf (Some encoding) = is_row _ tt (tt, tt)
 
   head_noscript : IsBodyRow (in_head_start_noscript tag w)
   unfolding in_head_start_noscript
@@ -135,18 +135,21 @@ module _ (tag : TagText) (w : World) where
   row_head_start_by P of other = holds_by_name P in_head_start (of_tag in_head_else) tag w (
     (λ p. of _ row_start_html),
     (
-      (λ p. of _ (head_link (named_encoding tag.attrs))),
+      (λ p. of _ (head_leaf None)),
       (
-        (λ p. of _ (is_row (in_head_start_title tag w) tt (tt, (refl, tt)))),
+        (λ p. of _ (head_leaf (named_encoding tag.attrs))),
         (
-          (λ p. of _ (is_row (in_head_start_raw tag w) tt (tt, (refl, tt)))),
+          (λ p. of _ (is_row (in_head_start_title tag w) tt (tt, (refl, tt)))),
           (
-            (λ p. of _ head_noscript),
+            (λ p. of _ (is_row (in_head_start_raw tag w) tt (tt, (refl, tt)))),
             (
-              (λ p. of _ (is_row (in_head_start_script tag w) tt (tt, (refl, tt)))),
+              (λ p. of _ head_noscript),
               (
-                (λ p. of _ (is_row (in_head_start_template tag w) tt (tt, (refl, (refl, tt))))),
-                ((λ p. of _ ignored_row), tt),
+                (λ p. of _ (is_row (in_head_start_script tag w) tt (tt, (refl, tt)))),
+                (
+                  (λ p. of _ (is_row (in_head_start_template tag w) tt (tt, (refl, (refl, tt))))),
+                  ((λ p. of _ ignored_row), tt),
+                ),
               ),
             ),
           ),

@@ -1,5 +1,5 @@
 -- Closing elements (HTML standard, sections 13.2.6.3 and 13.2.6.4.7): which names are left, and that the root stays.
-use Rattle.std.proofs.Common.{◌≡◌, ℕ, Bool, true, false, cond, ◌&&◌, ◌||◌, List, [], ◌∷◌, codes, refl, ap, sym, subst, ◌∙◌}
+use Rattle.std.proofs.Common.{◌≡◌, ℕ, Bool, true, false, cond, ◌&&◌, ◌||◌, List, [], ◌∷◌, codes, refl, ap, sym, ◌∙◌}
 use Rattle.std.specs.List.{list_any}
 use Rattle.std.proofs.lemmas.Slice.Eq.{bytes_eq-Decides}
 use Rattle.h5_names.specs.AttributeText.{is_same_text}
@@ -11,11 +11,9 @@ use Rattle.h5_tag_sets.specs.TagSets.{block_end_names, heading_names, html_names
 use Rattle.h5_meaning.specs.FormattingNames.{html_name}
 use Rattle.h5_meaning.specs.Order.{but_first}
 use Rattle.h5_meaning.specs.Scope.{cut_names, drop_while, first_passes, in_scope, is_implied_but, later_names}
-use Rattle.h5_meaning.specs.Root.{IsRootOpen}
 use Rattle.h5_meaning.proofs.BoolLaws.{and_both, and_not, or_neither}
 use Rattle.h5_meaning.proofs.RoleLaws.{made_named}
 use Rattle.h5_meaning.proofs.SetLaws.{in_set}
-use Rattle.h5_meaning.proofs.OpenLaws.{open_while}
 use Rattle.h5_meaning.specs.Changes.{generate_implied_end_except, pop, pop_while}
 use Rattle.h5_meaning.specs.Closing.{close_p_element, generate_implied_end, generate_implied_end_thoroughly, pop_heading, pop_until_heading}
 use Rattle.h5_meaning.specs.Sound.{Sound}

@@ -26,7 +26,7 @@ use Rattle.h5_meaning.specs.Rows.{AppendComment, AppendText, Change, Follows, In
 use Rattle.h5_meaning.specs.Sound.{Fits, Fitting, Sound, situation_of}
 use Rattle.h5_meaning.specs.World.{World, names_of}
 use Rattle.h5_meaning.proofs.FitsLaws.{FitsAfter, rule_fits}
-use Rattle.h5_meaning.proofs.ForeignLaws.{names-insert_and_pop_foreign, names-insert_foreign, names-leave, names-until_in_any_case, situation_insert_and_pop_foreign, situation_insert_foreign, situation_leave, situation_until_in_any_case}
+use Rattle.h5_meaning.proofs.ForeignLaws.{names-insert_and_pop_foreign, names-insert_foreign, names-until_in_any_case, situation_insert_and_pop_foreign, situation_insert_foreign, situation_leave, situation_until_in_any_case}
 use Rattle.h5_meaning.proofs.ForeignModeLaws.{foreign_mode, foreign_namespace, found_foreign, frame_leave, names_foreign_frame, open_leave, takes_foreign}
 use Rattle.h5_meaning.proofs.ForeignRowLaws.{Steps, dispatch_holds, each_step, foreign_end_found, some_has}
 use Rattle.h5_meaning.proofs.KeptLaws.{FitsAs, apply_append, changes_mode, fits_at, mode_after, mode_with}
@@ -77,8 +77,8 @@ module _ (choices : SinkChoices) (w : World) (k : Standing w) where
   pub leaves_fitting : Fitting (apply_all choices (LeaveForeignContent ∷ []) w)
   leaves_fitting =
       framed (LeaveForeignContent ∷ []) (tt, tt) refl (situation_leave choices w)
-      (subst (λ ns. Frame (roles (names_of w)) (roles ns)) (sym (names-leave choices w)) (frame_leave (names_of w)))
-      (subst IsRootOpen (sym (names-leave choices w)) (open_leave (names_of w) root))
+      (frame_leave choices w)
+      (open_leave choices w root)
 
   inserts_fitting : (name : QualName) (attrs : List AttributeText) (duplicates : Bool) → is_html_element name ≡ false → Fitting (insert_foreign_element choices name attrs duplicates w)
   inserts_fitting name attrs duplicates h =

@@ -1,22 +1,26 @@
 -- Elements of SVG and MathML: what making them, and leaving them, keeps.
-use Rattle.std.proofs.Common.{◌≡◌, ℕ, Bool, false, List, ◌∷◌, map, None, refl, ap, ◌∙◌}
+use Rattle.std.proofs.Common.{◌≡◌, ℕ, Bool, true, false, not, ◌||◌, cond, List, [], ◌∷◌, map, None, refl, ap, ◌∙◌}
 use Rattle.h5_names.specs.AttributeText.{AttributeText}
 use Rattle.h5_names.specs.declared.qualified.QualName.{QualName}
 use Rattle.h5_interface.specs.SinkChoices.{SinkChoices}
-use Rattle.h5_meaning.specs.Scope.{cut_names, drop_while}
+use Rattle.h5_meaning.specs.Scope.{cut_names}
 use Rattle.h5_meaning.proofs.KeptListsLaws.{lists_pushed}
-use Rattle.h5_meaning.specs.Changes.{new_element}
-use Rattle.h5_meaning.specs.Foreign.{foreign_name, insert_and_pop_foreign_element, insert_foreign_element, is_left, is_named_in_any_case, leave_foreign_content, pop_until_named_in_any_case}
+use Rattle.h5_meaning.specs.Changes.{new_element, pop}
+use Rattle.h5_meaning.specs.Foreign.{foreign_name, insert_and_pop_foreign_element, insert_foreign_element, is_left, is_named_in_any_case, leave_foreign_content, pop_left, pop_until_named_in_any_case}
 use Rattle.h5_meaning.specs.Place.{place}
 use Rattle.h5_meaning.specs.Sound.{HasLists, Sound}
 use Rattle.h5_meaning.specs.World.{World, name_in, name_of_found, names_of}
-use Rattle.h5_meaning.proofs.AdoptionAgencyLaws.{Keeps, cut_keeps, while_keeps}
+use Rattle.h5_meaning.proofs.AdoptionAgencyLaws.{Keeps, cut_keeps, keeps_then, pop_keeps}
+use Rattle.h5_meaning.proofs.AdoptionForest.{kinds_refl}
 use Rattle.h5_meaning.proofs.FormattingLaws.{new_is_unlisted}
-use Rattle.h5_meaning.proofs.NameLaws.{cut_map, names_kept, names_while}
+use Rattle.h5_meaning.proofs.NameLaws.{cut_map, names_kept}
+use Rattle.h5_meaning.proofs.PopLaws.{pop_stack}
 use Rattle.h5_meaning.proofs.PlaceLaws.{all_inserted, current_place_is_there, first_place, new_element_kind, new_element_rearranges}
-use Rattle.h5_meaning.proofs.SituationLaws.{KeepsSituation, situation_forest, situation_same, situation_while}
+use Rattle.h5_meaning.proofs.SituationLaws.{KeepsSituation, situation_forest, situation_pop, situation_same, situation_then}
 use Rattle.h5_meaning.proofs.SoundLaws.{all_rearranged}
-use Rattle.h5_meaning.proofs.TreeLaws.{OnlyTree, tree_while}
+use Rattle.h5_meaning.proofs.TreeLaws.{OnlyTree, tree_pop, tree_then}
+use Rattle.h5_interface.specs.Forest.{Forest}
+use Rattle.h5_meaning.specs.Order.{but_first}
 use Rattle.h5_tag_sets.specs.TagSets.{html_namespace, mathml_namespace, svg_namespace}
 use Rattle.h5_meaning.specs.NamesFit.{is_html_element}
 
@@ -29,22 +33,37 @@ pub svg_no_html : (local : List ℕ) → is_html_element (foreign_name svg_names
 unfolding svg_namespace html_namespace
 svg_no_html local = refl
 
+-- what is left is no element of HTML
+left_foreign : (choices : SinkChoices) (f : Forest) (n : ℕ) → is_left choices f n ≡ true → is_html_element (name_in f n) ≡ false
+unfolding is_left
+left_foreign choices f n h = not_first (is_html_element (name_in f n)) _ h
+  where
+    not_first : (a b : Bool) → not (a || b) ≡ true → a ≡ false
+    not_first true b h = absurd (cc)
+    not_first false b h = refl
+
+-- so what stays where a current node that isn't of HTML is popped stays where foreign content is left
+pub leave_holds : (P : World → Type 0) (choices : SinkChoices) → ((v : World) (x : QualName) (ns : List QualName) → names_of v ≡ x ∷ ns → is_html_element x ≡ false → P v → P (pop choices v)) → (w : World) → P w → P (leave_foreign_content choices w)
+unfolding leave_foreign_content names_of
+leave_holds P choices step w h = down w.stack w refl h
+  where
+    down : (s : List ℕ) (v : World) → v.stack ≡ s → P v → P (pop_left choices s v)
+    down [] v e k = k
+    down (n ∷ s) v e k = at (is_left choices v.forest n) refl (down s)
+      where
+        at : (b : Bool) → is_left choices v.forest n ≡ b → ((u : World) → u.stack ≡ s → P u → P (pop_left choices s u)) → P (cond b (pop_left choices s (pop choices v)) v)
+        at true l next = next (pop choices v) (pop_stack choices v ∙ ap but_first e) (step v (name_in v.forest n) (map (name_in v.forest) s) (ap (map (name_in v.forest)) e) (left_foreign choices v.forest n l) k)
+        at false l next = k
+
 -- leaving foreign content
 pub leave_keeps : (choices : SinkChoices) (w : World) → Sound w → HasLists w → Keeps w (leave_foreign_content choices w)
-unfolding leave_foreign_content
-leave_keeps choices w k h = while_keeps choices is_left (names_of w) w k h
+leave_keeps choices w k h = leave_holds (Keeps w) choices (λ v x ns e f one. keeps_then w v (pop choices v) one (pop_keeps choices v one.sound one.lists)) w (record { sound = k; lists = h; kinds = kinds_refl w.forest })
 
 pub tree_leave : (choices : SinkChoices) (w : World) → OnlyTree w (leave_foreign_content choices w)
-unfolding leave_foreign_content
-tree_leave choices w = tree_while choices is_left (names_of w) w
-
-pub names-leave : (choices : SinkChoices) (w : World) → names_of (leave_foreign_content choices w) ≡ drop_while is_left (names_of w)
-unfolding leave_foreign_content
-names-leave choices w = names_while choices is_left (names_of w) w refl
+tree_leave choices w = leave_holds (OnlyTree w) choices (λ v x ns e f one. tree_then w v (pop choices v) one (tree_pop choices v)) w refl
 
 pub situation_leave : (choices : SinkChoices) (w : World) → KeepsSituation w (leave_foreign_content choices w)
-unfolding leave_foreign_content
-situation_leave choices w = situation_while choices is_left (names_of w) w
+situation_leave choices w = leave_holds (KeepsSituation w) choices (λ v x ns e f one. situation_then w v (pop choices v) one (situation_pop choices v)) w (situation_same w)
 
 -- up to and with an element of a name
 pub until_in_any_case_keeps : (local : List ℕ) (w : World) → Sound w → HasLists w → Keeps w (pop_until_named_in_any_case local w)

@@ -1,5 +1,5 @@
 -- The modes in which a token may be foreign, and what changes of foreign content keep of what they tell.
-use Rattle.std.proofs.Common.{◌≡◌, ◌<◌, ℕ, Bool, true, false, not, cond, ◌||◌, List, [], ◌∷◌, length, map, codes, IsTrue, Option, Some, None, refl, ap, sym, subst, ◌∙◌, arith}
+use Rattle.std.proofs.Common.{◌≡◌, ◌<◌, ℕ, Bool, true, false, not, cond, List, [], ◌∷◌, length, map, codes, IsTrue, Option, Some, None, refl, ap, sym, subst, ◌∙◌, arith}
 use Rattle.std.specs.Prelude.{unwrap_or}
 use Rattle.h5_names.specs.AttributeText.{is_same_text}
 use Rattle.h5_names.specs.declared.qualified.QualName.{QualName}
@@ -8,21 +8,23 @@ use Rattle.h5_tag_sets.specs.TagSets.{html_namespace, is_html_named}
 use Rattle.h5_types.specs.TurnText.{CommentTurn, EofTurn, NullTurn, TagTurn, TextTurn, TurnText}
 use Rattle.h5_types.specs.declared.modes.InsertionMode.{InsertionMode}
 use Rattle.h5_types.specs.declared.modes.InsertionMode.TheVariants.{AfterAfterBody, AfterAfterFrameset, AfterBody, AfterFrameset, AfterHead, BeforeHead, BeforeHtml, InBody, InCaption, InCell, InColumnGroup, InFrameset, InHead, InHeadNoscript, InRow, InTable, InTableBody, InTableText, InTemplate, Initial, Text}
-use Rattle.h5_meaning.specs.Scope.{cut_names, drop_while, first_passes}
-use Rattle.h5_meaning.specs.Fits.{PlacedBelow, Situation, goes_by_body, is_table_mode, is_whole}
+use Rattle.h5_meaning.specs.Scope.{cut_names, first_passes, later_names}
+use Rattle.h5_meaning.specs.Fits.{PlacedBelow, Situation, is_whole}
 use Rattle.h5_meaning.specs.Frames.{Frame}
 use Rattle.h5_meaning.specs.NamesFit.{NamesFit, is_html_element}
-use Rattle.h5_meaning.specs.Roles.{HeadRole, HtmlRole, PlainRole, Role, is_plain, role_of, roles}
+use Rattle.h5_meaning.specs.Roles.{HeadRole, HtmlRole, Role, is_plain, role_of, roles}
 use Rattle.h5_meaning.specs.Root.{IsRootOpen}
 use Rattle.h5_meaning.proofs.BoolLaws.{or_first, or_neither}
-use Rattle.h5_meaning.proofs.FrameLaws.{frame_trans}
-use Rattle.h5_meaning.proofs.RoleNameLaws.{frame_while, frame_without}
+use Rattle.h5_meaning.proofs.FrameLaws.{frame_refl, frame_trans}
+use Rattle.h5_meaning.proofs.RoleNameLaws.{frame_without}
 use Rattle.h5_meaning.proofs.NamesFitLaws.{names_frame}
-use Rattle.h5_meaning.proofs.OpenLaws.{open_while}
+use Rattle.h5_meaning.proofs.ForeignLaws.{leave_holds}
+use Rattle.h5_meaning.proofs.PopLaws.{names-pop}
+use Rattle.h5_meaning.specs.Changes.{pop}
 use Rattle.h5_meaning.proofs.PlacedNameLaws.{frame_placed, known_frame, same_templates}
 use Rattle.h5_meaning.proofs.RoleLaws.{named_ns}
 use Rattle.h5_meaning.proofs.TestLaws.{foreign_plain}
-use Rattle.h5_meaning.specs.Foreign.{adjusted_current_node, adjusted_namespace, adjusted_of, is_foreign, is_foreign_at, is_left, is_named_in_any_case, is_taken_in, namespace_at}
+use Rattle.h5_meaning.specs.Foreign.{adjusted_current_node, adjusted_namespace, adjusted_of, is_foreign, is_foreign_at, is_named_in_any_case, is_taken_in, leave_foreign_content, namespace_at}
 use Rattle.h5_meaning.specs.ForeignContent.{Finds, ReachesHtml, search_end}
 use Rattle.h5_meaning.specs.Sound.{situation_of}
 use Rattle.h5_meaning.specs.World.{World, name_in, names_of}
@@ -196,18 +198,6 @@ names_foreign_frame s AfterBody old new h f o fit = names_frame s AfterBody old 
 names_foreign_frame s AfterAfterBody old new h f o fit = names_frame s AfterAfterBody old new refl f fit
 names_foreign_frame s _ old new h f o fit = absurd (cc)
 
--- leaving foreign content pops names of foreign elements, and never the root
-or_false : (a b : Bool) → not (a || b) ≡ true → a ≡ false
-or_false true b h = absurd (cc)
-or_false false b h = refl
-
-pub left_foreign : (n : QualName) → is_left n ≡ true → is_html_element n ≡ false
-unfolding is_left
-left_foreign n h = or_false (is_html_element n) _ h
-
-pub left_plain : (n : QualName) → is_left n ≡ true → role_of n ≡ PlainRole
-left_plain n h = foreign_plain n (left_foreign n h)
-
 foreign_no_root : (n : QualName) → is_html_element n ≡ false → is_html_named (codes "html") n ≡ false
 foreign_no_root n h = at (is_html_named (codes "html") n) refl
   where
@@ -215,11 +205,25 @@ foreign_no_root n h = at (is_html_named (codes "html") n) refl
     at false e = refl
     at true e = absurd (let clash = sym h ∙ named_ns (codes "html") n e in cc)
 
-pub frame_leave : (ns : List QualName) → Frame (roles ns) (roles (drop_while is_left ns))
-frame_leave ns = frame_while is_left left_plain ns
+-- leaving foreign content pops names of foreign elements, and never the root
+pub frame_leave : (choices : SinkChoices) (w : World) → Frame (roles (names_of w)) (roles (names_of (leave_foreign_content choices w)))
+frame_leave choices w =
+    leave_holds (λ v. Frame (roles (names_of w)) (roles (names_of v))) choices
+    (λ v x ns e f h. frame_trans (roles (names_of w)) (roles (names_of v)) (roles (names_of (pop choices v))) h (popped v x ns e f)) w (frame_refl (roles (names_of w)))
+  where
+    popped : (v : World) (x : QualName) (ns : List QualName) → names_of v ≡ x ∷ ns → is_html_element x ≡ false → Frame (roles (names_of v)) (roles (names_of (pop choices v)))
+    popped v x ns e f =
+        subst (λ ms. Frame (roles (names_of v)) (roles ms)) (sym (names-pop choices v ∙ ap later_names e))
+        (subst (λ ms. Frame (roles ms) (roles ns)) (sym e) (frame_without [] ns x (foreign_plain x f)))
 
-pub open_leave : (ns : List QualName) → IsRootOpen ns → IsRootOpen (drop_while is_left ns)
-open_leave ns h = open_while is_left ns (λ n e. foreign_no_root n (left_foreign n e)) h
+pub open_leave : (choices : SinkChoices) (w : World) → IsRootOpen (names_of w) → IsRootOpen (names_of (leave_foreign_content choices w))
+open_leave choices w h =
+    leave_holds (λ v. IsRootOpen (names_of v)) choices
+    (λ v x ns e f k. subst IsRootOpen (sym (names-pop choices v ∙ ap later_names e)) (popped x ns (foreign_no_root x f) (subst IsRootOpen e k))) w h
+  where
+    popped : (x : QualName) (ns : List QualName) → is_html_named (codes "html") x ≡ false → IsRootOpen (x ∷ ns) → IsRootOpen ns
+    popped x [] f k = absurd (let clash = sym f ∙ k in cc)
+    popped x (n ∷ ns) f k = k
 
 -- and so does the end tag of one that is found
 pub record FoundForeign (local : List ℕ) (ns : List QualName) : Type 0 where

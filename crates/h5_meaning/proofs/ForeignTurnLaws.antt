@@ -1,17 +1,17 @@
 -- By whichever rule a token goes: what is listed, what is answered, and where another turn leads.
-use Rattle.std.proofs.Common.{◌≡◌, ◌<◌, ◌+◌, ◌⊎◌, inl, inr, Bool, true, false, cond, List, [], ◌∷◌, Option, Some, None, suc, refl, ap, sym, subst, ◌∙◌}
+use Rattle.std.proofs.Common.{◌≡◌, ◌<◌, ◌+◌, ℕ, ◌⊎◌, inl, inr, Bool, true, false, cond, List, [], ◌∷◌, Option, Some, None, suc, refl, ap, sym, subst, ◌∙◌}
 use Rattle.h5_names.specs.declared.qualified.QualName.{QualName}
 use Rattle.h5_token.specs.Reply.{Indicates, RunsScript, TurnsPlain, TurnsRaw}
 use Rattle.h5_interface.specs.SinkChoices.{SinkChoices}
 use Rattle.h5_types.specs.TurnText.{EofTurn, TurnText}
 use Rattle.h5_types.specs.declared.modes.InsertionMode.{InsertionMode}
 use Rattle.h5_types.specs.declared.modes.InsertionMode.TheVariants.{InTableText, Text}
-use Rattle.h5_meaning.specs.Scope.{drop_while}
+use Rattle.h5_meaning.specs.Scope.{later_names}
 use Rattle.h5_meaning.specs.Fits.{Situation}
 use Rattle.h5_meaning.specs.Roles.{Role, count_roles, roles}
 use Rattle.h5_meaning.proofs.Ranks.{EofTurns, StartTableTurns, TextTurns, TurnKind, by_mode as by_table_mode, is_eof, is_table_like, outside, rank, rank_saved}
-use Rattle.h5_meaning.specs.Changes.{set_mode}
-use Rattle.h5_meaning.specs.Foreign.{is_foreign, is_left, leave_foreign_content}
+use Rattle.h5_meaning.specs.Changes.{pop, set_mode}
+use Rattle.h5_meaning.specs.Foreign.{is_foreign, leave_foreign_content}
 use Rattle.h5_meaning.specs.ForeignContent.{by_mode, dispatch, row_of}
 use Rattle.h5_meaning.specs.Modes.{rule}
 use Rattle.h5_meaning.specs.Rows.{Again, AgainBy, Answers, Change, Ending, IsAcknowledged, IsDone, LeaveForeignContent, Row, apply_all, changed_by, choose, next_mode}
@@ -20,12 +20,14 @@ use Rattle.h5_meaning.specs.World.{World, names_of}
 use Rattle.h5_meaning.proofs.AgainLaws.{kind_of_turn}
 use Rattle.h5_meaning.proofs.FallsLaws.{falls, rank_of, text_falls, turn_eof}
 use Rattle.h5_meaning.proofs.ForeignFitLaws.{leaves_fitting}
-use Rattle.h5_meaning.proofs.ForeignLaws.{names-leave, tree_leave}
-use Rattle.h5_meaning.proofs.ForeignModeLaws.{foreign_mode, left_plain}
+use Rattle.h5_meaning.proofs.ForeignLaws.{leave_holds, tree_leave}
+use Rattle.h5_meaning.proofs.ForeignModeLaws.{foreign_mode}
+use Rattle.h5_meaning.proofs.PopLaws.{names-pop}
+use Rattle.h5_meaning.proofs.TestLaws.{foreign_plain}
+use Rattle.h5_meaning.specs.NamesFit.{is_html_element}
 use Rattle.h5_meaning.proofs.ForeignRowLaws.{Steps, any_has, dispatch_holds, each_step, eof_html}
 use Rattle.h5_meaning.proofs.KeptLaws.{apply_append}
 use Rattle.h5_meaning.proofs.ListableLaws.{rule_told}
-use Rattle.h5_meaning.proofs.ListedLaws.{AllListable}
 use Rattle.h5_meaning.proofs.SilentLaws.{Silent, is_start_turn, rule_silent}
 use Rattle.h5_meaning.proofs.ToldLaws.{IsTold, Tells, is_text}
 
@@ -110,21 +112,24 @@ rank_same c h s t Text old new e n = refl
 rank_same c h s t InTableText old new e n = ap (λ o. rank_saved c o new) e ∙ saved_same c h s.saved_mode old new n
 rank_same c h s t m old new e n = refl
 
-count_left : (ns : List QualName) → count_roles is_table_like (roles (drop_while is_left ns)) ≡ count_roles is_table_like (roles ns)
-count_left [] = refl
-count_left (n ∷ ns) = at (is_left n) refl (count_left ns)
+count_left : (choices : SinkChoices) (w : World) → count_roles is_table_like (roles (names_of (leave_foreign_content choices w))) ≡ count_roles is_table_like (roles (names_of w))
+count_left choices w = leave_holds (λ v. count v ≡ count w) choices (λ v x ns e f h. popped v x ns e f ∙ h) w refl
   where
-    at : (b : Bool) → is_left n ≡ b → count_roles is_table_like (roles (drop_while is_left ns)) ≡ count_roles is_table_like (roles ns)
-        → count_roles is_table_like (roles (cond b (drop_while is_left ns) (n ∷ ns))) ≡ count_roles is_table_like (roles (n ∷ ns))
-    at true e h = h ∙ sym (ap (λ r. cond (is_table_like r) (suc (count_roles is_table_like (roles ns))) (count_roles is_table_like (roles ns))) (left_plain n e))
-    at false e h = refl
+    count : World → ℕ
+    count v = count_roles is_table_like (roles (names_of v))
+
+    popped : (v : World) (x : QualName) (ns : List QualName) → names_of v ≡ x ∷ ns → is_html_element x ≡ false → count (pop choices v) ≡ count v
+    popped v x ns e f =
+        ap (λ ms. count_roles is_table_like (roles ms)) (names-pop choices v ∙ ap later_names e)
+        ∙ sym (ap (λ r. cond (is_table_like r) (suc (count_roles is_table_like (roles ns))) (count_roles is_table_like (roles ns))) (foreign_plain x f))
+        ∙ sym (ap (λ ms. count_roles is_table_like (roles ms)) e)
 
 left_rank : (choices : SinkChoices) (t : TurnText) (w : World) → is_eof (kind_of_turn t) ≡ false → rank_of t (leave_foreign_content choices w) ≡ rank_of t w
 left_rank choices t w h =
     let v = leave_foreign_content choices w in
     ap (λ m. rank (kind_of_turn t) (situation_of v) m (roles (names_of v))) (left_mode choices w)
     ∙ rank_same (kind_of_turn t) h (situation_of w) (situation_of v) w.mode (roles (names_of w)) (roles (names_of v)) (ap (λ (x : World). x.saved_mode) (tree_leave choices w))
-    (ap (λ ns. count_roles is_table_like (roles ns)) (names-leave choices w) ∙ count_left (names_of w))
+    (count_left choices w)
 
 -- where another turn is taken the rank has fallen
 abbrev pub FallsIn : SinkChoices → TurnText → World → Row → Type 0

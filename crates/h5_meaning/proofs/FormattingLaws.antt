@@ -13,7 +13,6 @@ use Rattle.h5_meaning.specs.Lists.{Lists, OpenFirst}
 use Rattle.h5_meaning.specs.Order.{Distinct, IsIn, is_in}
 use Rattle.h5_meaning.proofs.EachLaws.{each_push_formatting, each_reconstructed, each_tag_reconstructed}
 use Rattle.h5_meaning.proofs.FreshLaws.{each_listed}
-use Rattle.h5_meaning.proofs.KeptListsLaws.{lists_pushed}
 use Rattle.h5_meaning.proofs.PushLaws.{lists_push_formatting}
 use Rattle.h5_meaning.proofs.ReconstructLaws.{front_reconstructed, lists_reconstructed, open_after, reconstructed_is_open, reconstructed_none}
 use Rattle.h5_meaning.specs.Root.{IsRootOpen}

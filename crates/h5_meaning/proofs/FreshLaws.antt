@@ -1,7 +1,6 @@
 -- Nodes that are made one by one in a growing forest are new; and a rearranged forest keeps what is listed.
 use Rattle.std.proofs.Common.{◌≡◌, inl, inr, ℕ, Bool, Some, List, [], ◌∷◌, ◌++◌, sym, subst, ◌∙◌}
 use Rattle.h5_interface.specs.Forest.{ElementNode, Forest, IsNode, kind_of}
-use Rattle.h5_interface.specs.SinkChoices.{Rearranges}
 use Rattle.h5_interface.proofs.ForestLaws.{node_of_kind}
 use Rattle.h5_meaning.specs.Adoption.{FormattingElement, IsCloneOf, adopted, clones_wanted, newest_named}
 use Rattle.h5_meaning.proofs.PassLaws.{each_adopted}
@@ -9,7 +8,6 @@ use Rattle.h5_meaning.specs.FormattingList.{ElementEntry, Entry, MarkerEntry, no
 use Rattle.h5_meaning.specs.FormattingNames.{AllOfTags, IsOfTag, html_name}
 use Rattle.h5_meaning.specs.Fresh.{AreFresh, Makes, one_more}
 use Rattle.h5_meaning.specs.Order.{Distinct, IsIn}
-use Rattle.h5_meaning.proofs.EachLaws.{each_more}
 use Rattle.h5_meaning.proofs.PairLaws.{before_across, before_left, in_left, in_right}
 
 -- what is listed is a node

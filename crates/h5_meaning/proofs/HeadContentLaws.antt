@@ -14,7 +14,7 @@ use Rattle.h5_meaning.proofs.KeptLaws.{FitsAs, Kept, as_before, kept_start_html,
 use Rattle.h5_meaning.specs.World.{World, names_of}
 use Rattle.h5_meaning.specs.Sound.{Sound, situation_of}
 use Rattle.h5_meaning.specs.ByName.{NonePasses, named, of_tag}
-use Rattle.h5_meaning.specs.InHead.{in_head_else, in_head_raw, in_head_start, in_head_start_link, in_head_start_noscript, in_head_start_script, in_head_start_tag, in_head_start_template}
+use Rattle.h5_meaning.specs.InHead.{in_head_else, in_head_raw, in_head_start, in_head_start_noscript, in_head_start_script, in_head_start_tag, in_head_start_template}
 use Rattle.h5_meaning.specs.Root.{IsRootOpen}
 use Rattle.h5_meaning.proofs.ByNameLaws.{holds_by_name, of_named}
 use Rattle.h5_meaning.proofs.TemplateRowLaws.{kept_start_template}
@@ -23,7 +23,7 @@ use Rattle.h5_meaning.proofs.PlainNameLaws.{set_plain}
 use Rattle.h5_meaning.specs.Roles.{PlainRole, role_of_local}
 use Rattle.h5_meaning.proofs.NameLaws.{names-insert_and_pop}
 use Rattle.h5_meaning.proofs.OpenLaws.{names_root_open}
-use Rattle.h5_meaning.specs.Rows.{Row, next_mode}
+use Rattle.h5_meaning.specs.Rows.{InsertAndPopElement, Row, next_mode, row}
 use Rattle.h5_meaning.proofs.SituationLaws.{situation_leaf}
 use Rattle.h5_meaning.proofs.BodyRowLaws.{head_start_passes}
 use Rattle.h5_types.specs.TurnText.{TagTurn}
@@ -93,9 +93,9 @@ module _ (choices : SinkChoices) (w : World) (sound : Sound w) (m : InsertionMod
   kept_script : (tag : TagText) → KeptHere (in_head_start_script tag w)
   kept_script tag h = script_begins choices w m is left sound (root h) tag.attrs tag.had_duplicate_attributes script_plain h
 
-  kept_link : (tag : TagText) → KeptHere (in_head_start_link tag w)
-  kept_link tag h =
-      subst (λ o. FitsAs (mode_with m o) (insert_and_pop_element choices tag.name tag.attrs tag.had_duplicate_attributes w)) (sym (indicates_next (named_encoding tag.attrs) (insert_and_pop_element choices tag.name tag.attrs tag.had_duplicate_attributes w)))
+  kept_leaf : (tag : TagText) (encoding : Option (List ℕ)) → KeptHere (row (InsertAndPopElement tag.name tag.attrs tag.had_duplicate_attributes ∷ []) (indicates encoding))
+  kept_leaf tag encoding h =
+      subst (λ o. FitsAs (mode_with m o) (insert_and_pop_element choices tag.name tag.attrs tag.had_duplicate_attributes w)) (sym (indicates_next encoding (insert_and_pop_element choices tag.name tag.attrs tag.had_duplicate_attributes w)))
       (as_before m w (insert_and_pop_element choices tag.name tag.attrs tag.had_duplicate_attributes w) sound (situation_leaf choices w tag.name tag.attrs tag.had_duplicate_attributes sound)
       (names-insert_and_pop choices tag.name tag.attrs tag.had_duplicate_attributes w sound) h)
 
@@ -105,18 +105,21 @@ module _ (choices : SinkChoices) (w : World) (sound : Sound w) (m : InsertionMod
   kept_head_start tag noscript template other = holds_by_name KeptHere in_head_start (of_tag in_head_else) tag w (
     (λ p. kept_start_html choices w sound m tag),
     (
-      (λ p. kept_link tag),
+      (λ p. kept_leaf tag None),
       (
-        (λ p. kept_raw Rcdata tag (title_plain tag.name p)),
+        (λ p. kept_leaf tag (named_encoding tag.attrs)),
         (
-          (λ p. kept_raw Rawtext tag (head_raw_plain tag.name p)),
+          (λ p. kept_raw Rcdata tag (title_plain tag.name p)),
           (
-            noscript,
+            (λ p. kept_raw Rawtext tag (head_raw_plain tag.name p)),
             (
-              (λ p. kept_script tag),
+              noscript,
               (
-                template,
-                ((λ p h. h), tt),
+                (λ p. kept_script tag),
+                (
+                  template,
+                  ((λ p h. h), tt),
+                ),
               ),
             ),
           ),

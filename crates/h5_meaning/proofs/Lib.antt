@@ -95,6 +95,7 @@ pub mod TableAgainLaws
 pub mod TableFitsLaws
 pub mod TableListsLaws
 pub mod TableModeLaws
+pub mod TableSectionLaws
 pub mod TableTextLaws
 pub mod TemplateLaws
 pub mod TemplateNameLaws

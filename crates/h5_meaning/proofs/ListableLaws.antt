@@ -1,5 +1,5 @@
 -- Each rule creates formatting elements of their names alone.
-use Rattle.std.proofs.Common.{◌≡◌, ℕ, Bool, true, false, ◌||◌, if◌then◌else◌, is_some, List, [], ◌∷◌, ◌++◌, Option, Some, None, codes, refl, not, ◌&&◌}
+use Rattle.std.proofs.Common.{◌≡◌, ℕ, Bool, true, false, ◌||◌, is_some, List, [], ◌∷◌, ◌++◌, Option, Some, None, codes, refl, not, ◌&&◌}
 use Rattle.h5_token.specs.TokenText.{TagText}
 use Rattle.h5_token.specs.declared.tag.TagKind.{TagKind}
 use Rattle.h5_token.specs.declared.tag.TagKind.TheVariants.{StartTag, EndTag}
@@ -25,11 +25,11 @@ use Rattle.h5_meaning.specs.InColumnGroup.{close_the_column_group, in_column_gro
 use Rattle.h5_meaning.specs.InHead.{in_head_end, in_head_start_tag, in_head_tag, template_eof}
 use Rattle.h5_meaning.specs.InRow.{close_the_row, in_row_end, in_row_end_section, in_row_start, in_row_tag}
 use Rattle.h5_meaning.specs.InTable.{in_table, in_table_else, in_table_end, in_table_end_table, in_table_start, in_table_start_form, in_table_start_input, in_table_start_table, in_table_tag, in_table_text_or_null, keeps_text}
-use Rattle.h5_meaning.specs.InTableBody.{in_table_body_close, in_table_body_end, in_table_body_end_section, in_table_body_start, in_table_body_tag, is_table_or_section}
+use Rattle.h5_meaning.specs.InTableBody.{in_table_body_close, in_table_body_end, in_table_body_end_section, in_table_body_start, in_table_body_tag, is_table_section}
 use Rattle.h5_meaning.specs.InTableText.{in_table_text_else, pending_text}
 use Rattle.h5_meaning.specs.InitialMode.{initial_else}
 use Rattle.h5_meaning.specs.Modes.{rule}
-use Rattle.h5_meaning.specs.Rows.{AddAttrsToHtml, Again, AgainBy, Answers, AppendText, Change, ClearActiveFormattingToMarker, Ending, GenerateImpliedEnd, InsertAndPopElement, InsertAndPopForm, IsAcknowledged, IsDone, MarkStarted, Pop, PopUntilCurrent, PopUntilNamed, PushHead, ResetMode, Row, SaveMode, SetFoster, SetMode, SetQuirksMode, choose, errs, ignored, row, row_if}
+use Rattle.h5_meaning.specs.Rows.{AddAttrsToHtml, Again, AgainBy, Answers, AppendText, Change, ClearActiveFormattingToMarker, Ending, GenerateImpliedEnd, InsertAndPopElement, InsertAndPopForm, IsAcknowledged, IsDone, Pop, PopUntilCurrent, PopUntilNamed, PushHead, ResetMode, SaveMode, SetFoster, SetMode, SetQuirksMode, choose, errs, ignored, row, row_if}
 use Rattle.h5_meaning.specs.Reset.{reset_mode}
 use Rattle.h5_meaning.specs.Shared.{current_is, head_start_names, in_body_start_html, is_type_hidden}
 use Rattle.h5_meaning.specs.Tables.{foster, in_table_scope, named_in_table_scope}
@@ -39,7 +39,6 @@ use Rattle.h5_meaning.proofs.ListedLaws.{AllListable}
 use Rattle.h5_meaning.proofs.BodyRowLaws.{head_start_passes, noscript_content_passes, row_end_by, row_head_start, row_head_start_by, row_start, table_text_passes, row_end_template, noframes_passes, template_passes}
 use Rattle.h5_token.specs.Reply.{Indicates, RunsScript, TurnsPlain, TurnsRaw}
 use Rattle.h5_meaning.proofs.ToldLaws.{IsTold, NoMode, NoText, Tells, is_text, reset_no_text, told_append, told_chosen}
-use Rattle.h5_meaning.specs.TextMode.{marks_script, text_end, text_mode}
 use Rattle.h5_meaning.specs.InHeadNoscript.{in_head_noscript_else, in_head_noscript_end, in_head_noscript_start, in_head_noscript_tag}
 use Rattle.h5_meaning.specs.InTemplate.{in_template_as, in_template_end, in_template_start, in_template_tag}
 use Rattle.h5_meaning.specs.InFrameset.{in_frameset_end, in_frameset_end_frameset, in_frameset_start, in_frameset_tag, is_in_frameset, is_root_alone}
@@ -258,7 +257,7 @@ module _ (tag : TagText) (w : World) where
 
   section_close : IsTold (in_table_body_close tag w)
   unfolding in_table_body_close
-  section_close = told_chosen (in_table_scope is_table_or_section w) (row (PopUntilCurrent is_table_body_context ∷ Pop ∷ []) (Again InTable)) ignored (tt, (refl, tt)) (tt, tt)
+  section_close = told_chosen (in_table_scope is_table_section w) (row (PopUntilCurrent is_table_body_context ∷ Pop ∷ []) (Again InTable)) ignored (tt, (refl, tt)) (tt, tt)
 
   caption_rows : (k : TagKind) → IsTold (by_kind k (by_name in_caption_start (of_tag in_body) tag w) (by_name in_caption_end (of_tag in_body) tag w))
   unfolding in_caption_start in_caption_end

@@ -4,7 +4,7 @@ use Rattle.h5_names.specs.declared.qualified.QualName.{QualName}
 use Rattle.h5_tag_sets.specs.TagSets.{html_namespace, is_cell, is_html_named, is_table_body_context, is_table_row_context, is_table_scope}
 use Rattle.h5_types.specs.declared.modes.InsertionMode.{InsertionMode}
 use Rattle.h5_types.specs.declared.modes.InsertionMode.TheVariants.{InCaption, InCell, InColumnGroup, InFrameset, InRow, InTable, InTableBody, InTemplate, InHead, AfterHead, AfterAfterFrameset, AfterFrameset}
-use Rattle.h5_meaning.specs.Scope.{cut_names, down_names, drop_while, has_template, in_scope, later_names}
+use Rattle.h5_meaning.specs.Scope.{cut_names, down_names, has_template, in_scope, later_names}
 use Rattle.h5_meaning.specs.SituationChanges.{with_last_mode, with_template, without_template}
 use Rattle.h5_meaning.specs.Contexts.{StackContext, TableBodyContext, TableContext, TableRowContext, down_to, ends}
 use Rattle.h5_meaning.specs.Fits.{Fits, Known, Situation, goes_by_body, is_template_mode, is_whole, takes_template}
@@ -12,7 +12,7 @@ use Rattle.h5_meaning.specs.Floors.{Left, grounded_left, head_left, root_left}
 use Rattle.h5_meaning.specs.Frames.{Cut, here, passes_table_scope, passes_to_template}
 use Rattle.h5_meaning.specs.NamesFit.{NamesFit}
 use Rattle.h5_meaning.specs.ResetByRoles.{reset}
-use Rattle.h5_meaning.specs.Roles.{CaptionRole, CellRole, ColgroupRole, FramesetRole, HtmlRole, PlainRole, Role, RowRole, SectionRole, TableRole, TemplateRole, is_cell_role, is_row, is_section, is_table_or_section, is_template, later_roles, role_of, role_of_local, role_in_scope, roles}
+use Rattle.h5_meaning.specs.Roles.{CaptionRole, CellRole, ColgroupRole, FramesetRole, HtmlRole, PlainRole, Role, RowRole, SectionRole, TableRole, TemplateRole, is_cell_role, is_row, is_section, is_template, later_roles, role_of, role_of_local, role_in_scope, roles}
 use Rattle.h5_meaning.proofs.ChangeLaws.{frameset_fits, table_closed, table_fits, template_closed, template_fits}
 use Rattle.h5_meaning.proofs.EdgeLaws.{after_frameset_pushed, frameset_left, frameset_popped, frameset_pushed}
 use Rattle.h5_meaning.proofs.FrameLaws.{Rooted}
@@ -22,7 +22,7 @@ use Rattle.h5_meaning.proofs.NamesFitLaws.{is_silent, kind_silent, names_fit, re
 use Rattle.h5_meaning.proofs.PlacedNameLaws.{fits_grounded, grounded_rooted}
 use Rattle.h5_meaning.proofs.RoleLaws.{role_named}
 use Rattle.h5_meaning.proofs.SetLaws.{template_test}
-use Rattle.h5_meaning.proofs.TableModeLaws.{first_row, first_section, in_caption_close, in_cell_close, in_column_group_pop, in_row_cell, in_row_close, in_table_body_close, in_table_body_row, in_table_caption, in_table_colgroup, in_table_section, section_of_either}
+use Rattle.h5_meaning.proofs.TableModeLaws.{first_row, first_section, in_caption_close, in_cell_close, in_column_group_pop, in_row_cell, in_row_close, in_table_body_close, in_table_body_row, in_table_caption, in_table_colgroup, in_table_section}
 use Rattle.h5_meaning.proofs.TestLaws.{cell_test, table_body_context_test, table_row_context_test, table_scope_test}
 
 -- what has this name is found in table scope, and closed
@@ -151,10 +151,10 @@ module _ (s : Situation) (ns : List QualName) where
   pub names_section_closed : (local : List ℕ) → role_of_local local ≡ SectionRole → in_scope (is_html_named local) is_table_scope ns ≡ true → NamesFit s InTableBody ns → NamesFit s InTable (later_names (down_names is_table_body_context ns))
   names_section_closed local e h f = names_section_found (named_in_scope local is_section (ap is_section e) ns h) f
 
-  -- also where a table or a section is found: it is a section
-  pub names_section_left : (test : QualName → Bool) → ((n : QualName) → test n ≡ true → is_table_or_section (role_of n) ≡ true) → in_scope test is_table_scope ns ≡ true → NamesFit s InTableBody ns
+  -- also where any of them is found
+  pub names_section_left : (test : QualName → Bool) → ((n : QualName) → test n ≡ true → is_section (role_of n) ≡ true) → in_scope test is_table_scope ns ≡ true → NamesFit s InTableBody ns
       → NamesFit s InTable (later_names (down_names is_table_body_context ns))
-  names_section_left test e h f = names_section_found (section_of_either (roles ns) f.fits.place.1.1 (found_in_scope test is_table_or_section e ns h)) f
+  names_section_left test e h f = names_section_found (found_in_scope test is_section e ns h) f
 
   -- a cell by its name
   pub names_cell_ended : (local : List ℕ) → role_of_local local ≡ CellRole → in_scope (is_html_named local) is_table_scope ns ≡ true → NamesFit s InCell ns → NamesFit s InRow (cut_names (is_html_named local) ns)

@@ -1,9 +1,9 @@
 -- What is listed isn't special.
-use Rattle.std.proofs.Common.{◌≡◌, ◌↔◌, ◌&&◌, ◌||◌, inl, inr, ℕ, Bool, true, false, List, [], ◌∷◌, IsTrue, refl, ap, sym, subst, ◌∙◌, Some, rules}
+use Rattle.std.proofs.Common.{◌≡◌, ◌&&◌, ◌||◌, inl, inr, ℕ, Bool, true, false, List, [], ◌∷◌, refl, ap, sym, subst, ◌∙◌, Some}
 use Rattle.std.specs.Prelude.{not}
 use Rattle.std.specs.List.{list_all}
 use Rattle.h5_names.specs.AttributeText.{is_same_text}
-use Rattle.h5_tag_sets.specs.TagSets.{html_namespace, is_one_of, is_special, special_names}
+use Rattle.h5_tag_sets.specs.TagSets.{html_namespace, is_foreign_special, is_one_of, is_special, mathml_namespace, special_names, svg_namespace}
 use Rattle.h5_meaning.specs.FormattingList.{ElementEntry, Entry, MarkerEntry, nodes_of}
 use Rattle.h5_tag_sets.specs.TagSets.{formatting_names}
 use Rattle.h5_meaning.specs.FormattingNames.{AllFormatting, AllOfTags, IsPlain, html_name}
@@ -16,7 +16,7 @@ abbrev is_plain : List ℕ → Bool
 is_plain x = not (is_special (html_name x))
 
 all_plain : list_all is_plain formatting_names ≡ true
-unfolding formatting_names is_special special_names html_namespace
+unfolding formatting_names is_special is_foreign_special special_names html_namespace mathml_namespace svg_namespace
 all_plain = refl
 
 among : (ns : List (List ℕ)) (x : List ℕ) → list_all is_plain ns ≡ true → is_one_of ns x ≡ true → is_plain x ≡ true

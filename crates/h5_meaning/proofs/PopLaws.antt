@@ -118,7 +118,7 @@ all_cut_above {l} {head} {form} {context} f is (n ∷ ns) s k =
       | false ↦ all_cut_above f is ns (but_first s) (all_but_first f s k)
     ]
 
-pop_stack : (choices : SinkChoices) (w : World) → (pop choices w).stack ≡ but_first w.stack
+pub pop_stack : (choices : SinkChoices) (w : World) → (pop choices w).stack ≡ but_first w.stack
 unfolding pop
 pop_stack choices w = refl
 

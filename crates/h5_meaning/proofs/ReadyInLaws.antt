@@ -27,10 +27,10 @@ use Rattle.h5_meaning.proofs.RoleLaws.{local_p, role_made, role_named}
 use Rattle.h5_meaning.proofs.SituationRoleLaws.{names_later}
 use Rattle.h5_meaning.proofs.TestLaws.{button_default, foreign_plain, frame_closed, frame_found}
 use Rattle.h5_meaning.specs.AdoptionAgency.{adoption_agency, handle_misnested_a_tags, handle_misnested_nobr_tags}
-use Rattle.h5_meaning.specs.Changes.{add_attrs_to_second, append_comment, append_text, generate_implied_end_except, insert_and_pop_element, insert_element, pop, pop_until_named, set_foster, set_frameset_not_ok, set_frameset_ok_by_text}
+use Rattle.h5_meaning.specs.Changes.{add_attrs_to_second, append_text, generate_implied_end_except, insert_and_pop_element, insert_element, pop, pop_until_named, set_foster, set_frameset_not_ok, set_frameset_ok_by_text}
 use Rattle.h5_meaning.specs.Closing.{close_p_element, close_p_element_in_button_scope, generate_implied_end, pop_heading, pop_until_heading}
 use Rattle.h5_meaning.specs.Formatting.{create_formatting_element, insert_anew, insert_for, reconstruct_active_formatting_elements}
-use Rattle.h5_meaning.specs.Rows.{AddAttrsToSecond, AppendComment, ClosePElement, GenerateImpliedEnd, InsertAndPopForeignElement, InsertElement, InsertForeignElement, PopHeading, PopUntilHeading, PopUntilNamed}
+use Rattle.h5_meaning.specs.Rows.{AddAttrsToSecond, ClosePElement, GenerateImpliedEnd, InsertAndPopForeignElement, InsertElement, InsertForeignElement, PopHeading, PopUntilHeading, PopUntilNamed}
 use Rattle.h5_meaning.specs.Sound.{IsReady, Sound, situation_of}
 use Rattle.h5_meaning.specs.World.{World, names_of}
 use Rattle.h5_meaning.proofs.AdoptionAgencyLaws.{agency_leaves, formatting_not_html, implied_keeps, misnested_a_leaves, until_named_keeps, while_keeps}
@@ -39,8 +39,8 @@ use Rattle.h5_meaning.proofs.AdoptionFrameLaws.{Framed, Standing, agency_framed,
 use Rattle.h5_meaning.proofs.ClosingLaws.{names-all_implied, names-close_p, names-pop_heading, names-until_heading, still_in_scope}
 use Rattle.h5_meaning.proofs.FormattingLaws.{AllListedOpen, format_ready, reconstruct_ready, sound_anew, root_anew}
 use Rattle.h5_meaning.proofs.ListsLaws.{IsSteady, ready_steady, steady_changes, steady_leaf, steady_ready, steady_text}
-use Rattle.h5_meaning.proofs.NameLaws.{names-add_to_second, names-append, names-append_comment, names-cut, names-insert, names-insert_and_pop}
-use Rattle.h5_meaning.proofs.SituationLaws.{KeepsSituation, situation_add_to_second, situation_comment, situation_format, situation_frameset, situation_insert, situation_later, situation_leaf, situation_pop, situation_reconstruct, situation_same, situation_text, situation_then, situation_tree}
+use Rattle.h5_meaning.proofs.NameLaws.{names-add_to_second, names-append, names-cut, names-insert, names-insert_and_pop}
+use Rattle.h5_meaning.proofs.SituationLaws.{KeepsSituation, situation_add_to_second, situation_format, situation_frameset, situation_insert, situation_later, situation_leaf, situation_pop, situation_reconstruct, situation_same, situation_text, situation_then, situation_tree}
 use Rattle.h5_meaning.proofs.TreeLaws.{tree_adoption, tree_close_p, tree_implied, tree_misnested_a_tags}
 use Rattle.h5_meaning.specs.Foreign.{insert_and_pop_foreign_element, insert_foreign_element}
 use Rattle.h5_meaning.proofs.ForeignLaws.{names-insert_and_pop_foreign, names-insert_foreign, situation_insert_and_pop_foreign, situation_insert_foreign}

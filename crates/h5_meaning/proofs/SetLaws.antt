@@ -1,9 +1,10 @@
 -- The sets that scopes end at, and the roles.
-use Rattle.std.proofs.Common.{◌≡◌, inl, inr, ℕ, Bool, true, false, ◌&&◌, List, codes, refl, ap, sym, ◌∙◌}
+use Rattle.std.proofs.Common.{◌≡◌, inl, inr, ℕ, Bool, true, false, ◌&&◌, ◌||◌, List, codes, refl, ap, sym, ◌∙◌}
 use Rattle.h5_names.specs.AttributeText.{is_same_text}
 use Rattle.h5_names.specs.declared.qualified.QualName.{QualName}
-use Rattle.h5_tag_sets.specs.TagSets.{html_namespace, implied_names, is_default_scope, is_implied, is_html_named, is_one_of, is_special, scope_names, special_names}
+use Rattle.h5_tag_sets.specs.TagSets.{html_namespace, implied_names, is_default_scope, is_foreign_special, is_implied, is_html_named, is_one_of, is_special, scope_names, special_names}
 use Rattle.h5_meaning.specs.Frames.{passes_table_scope}
+use Rattle.h5_meaning.specs.NamesFit.{is_html_element}
 use Rattle.h5_meaning.specs.Roles.{BodyRole, CaptionRole, CellRole, ColgroupRole, FramesetRole, HeadRole, HtmlRole, PlainRole, Role, RowRole, SectionRole, TableRole, TemplateRole, is_html, is_template, role_of, role_of_local}
 use Rattle.h5_meaning.proofs.RoleLaws.{Names, named_ns, named_local, names_of_role, role_named}
 use Rattle.h5_meaning.proofs.BoolLaws.{or_first}
@@ -20,7 +21,18 @@ default_named t n h e = or_first (is_same_text n.ns html_namespace && is_one_of 
 
 pub special_named : (t : List ℕ) (n : QualName) → is_one_of special_names t ≡ true → is_html_named t n ≡ true → is_special n ≡ true
 unfolding is_special
-special_named t n h e = in_set special_names t n h e
+special_named t n h e = or_first (is_same_text n.ns html_namespace && is_one_of special_names n.local) _ (in_set special_names t n h e)
+
+-- what is special and ends no default scope is of HTML, since what is special of MathML and SVG ends it
+pub special_in_scope : (n : QualName) → is_special n ≡ true → is_default_scope n ≡ false → is_html_element n ≡ true
+unfolding is_special is_default_scope
+special_in_scope n h k = at (is_same_text n.ns html_namespace) (is_one_of special_names n.local) (is_same_text n.ns html_namespace && is_one_of scope_names n.local) (is_foreign_special n) h k
+  where
+    at : (a b c d : Bool) → ((a && b) || d) ≡ true → (c || d) ≡ false → a ≡ true
+    at true b c d e f = refl
+    at false b c false e f = absurd (cc)
+    at false b true true e f = absurd (cc)
+    at false b false true e f = absurd (cc)
 
 -- what no scope ends at passes
 pub default_passes : (n : QualName) → is_default_scope n ≡ false → passes_table_scope (role_of n) ≡ true

@@ -25,7 +25,7 @@ use Rattle.h5_meaning.specs.InHead.{in_head_end, in_head_tag, in_head_end_templa
 use Rattle.h5_meaning.specs.InHeadNoscript.{in_head_noscript_end, in_head_noscript_tag}
 use Rattle.h5_meaning.specs.InRow.{close_the_row, in_row_end, in_row_end_section, in_row_tag}
 use Rattle.h5_meaning.specs.InTable.{in_table, in_table_else, in_table_end, in_table_end_table, in_table_tag, in_table_text_or_null, keeps_text}
-use Rattle.h5_meaning.specs.InTableBody.{in_table_body_close, in_table_body_end, in_table_body_end_section, in_table_body_tag, is_table_or_section}
+use Rattle.h5_meaning.specs.InTableBody.{in_table_body_close, in_table_body_end, in_table_body_end_section, in_table_body_tag, is_table_section}
 use Rattle.h5_meaning.specs.InTableText.{in_table_text_else}
 use Rattle.h5_meaning.specs.InitialMode.{initial_else}
 use Rattle.h5_meaning.specs.Modes.{rule}
@@ -172,7 +172,7 @@ close_column_group changes e w h = chosen (current_is (codes "colgroup") w) (row
 
 close_section : (tag : TagText) (w : World) → Silent (in_table_body_close tag w).ending
 unfolding in_table_body_close
-close_section tag w = chosen (in_table_scope is_table_or_section w) (row (PopUntilCurrent is_table_body_context ∷ Pop ∷ []) (Again InTable)) ignored tt tt
+close_section tag w = chosen (in_table_scope is_table_section w) (row (PopUntilCurrent is_table_body_context ∷ Pop ∷ []) (Again InTable)) ignored tt tt
 
 close_row : (changes : List Change) (e : Ending) (w : World) → Silent e → Silent (close_the_row changes e w).ending
 unfolding close_the_row

@@ -9,24 +9,19 @@ use Rattle.h5_interface.specs.SinkChoices.{Rearranges, SinkChoices}
 use Rattle.h5_interface.proofs.ForestLaws.{document_is_node}
 use Rattle.h5_interface.proofs.MakingLaws.{add_missing_rearranges}
 use Rattle.h5_tag_sets.specs.TagSets.{is_thorough_implied}
-use Rattle.h5_types.specs.declared.modes.InsertionMode.{InsertionMode}
-use Rattle.h5_types.specs.declared.modes.InsertionMode.TheVariants.{InTemplate}
 use Rattle.h5_meaning.specs.FormattingList.{ElementEntry, Entry, MarkerEntry, closed_front}
 use Rattle.h5_meaning.specs.FormattingNames.{html_name}
 use Rattle.h5_meaning.specs.Order.{second_from_last}
-use Rattle.h5_meaning.specs.SituationChanges.{later_modes, with_last_mode, with_template, without_template}
-use Rattle.h5_meaning.specs.Fits.{Situation}
 use Rattle.h5_meaning.specs.Roles.{role_of}
 use Rattle.h5_meaning.proofs.BoolLaws.{and_both}
 use Rattle.h5_meaning.proofs.SituationRoleLaws.{Later}
 use Rattle.h5_meaning.specs.AdoptionAgency.{KeepsKinds}
 use Rattle.h5_meaning.specs.Blanks.{all_blank}
-use Rattle.h5_meaning.specs.Changes.{owned, pop_while, set_frameset_not_ok, add_attrs_at, add_attrs_to_html, add_attrs_to_second, append_comment, append_comment_to_doc, append_comment_to_html, append_text, create_root, insert_and_pop_element, insert_element, insert_head, pop, set_frameset_ok_by_text, with_forest}
+use Rattle.h5_meaning.specs.Changes.{owned, pop_while, add_attrs_at, add_attrs_to_html, add_attrs_to_second, append_comment, append_comment_to_doc, append_comment_to_html, append_text, create_root, insert_and_pop_element, insert_element, insert_head, pop, set_frameset_ok_by_text, with_forest}
 use Rattle.h5_meaning.specs.Closing.{generate_implied_end_thoroughly}
 use Rattle.h5_meaning.specs.Formatting.{create_formatting_element, insert_anew, insert_for, reconstruct_active_formatting_elements}
 use Rattle.h5_meaning.specs.Place.{LastChild, place, put}
 use Rattle.h5_meaning.specs.Sound.{Sound, role_at, situation_of}
-use Rattle.h5_meaning.specs.Templates.{pop_template_mode, push_template_mode, switch_template_mode}
 use Rattle.h5_meaning.specs.World.{World, name_of_found, names_of, root}
 use Rattle.h5_meaning.proofs.AdoptionForest.{kinds_refl, kinds_trans, marked_kinds}
 use Rattle.h5_meaning.proofs.ClosingLaws.{while_holds}

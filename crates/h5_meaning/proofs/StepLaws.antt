@@ -6,7 +6,6 @@ use Rattle.std.proofs.lemmas.Bool.{eqb-true, eqb-false, eq-eqb, ne_eqb}
 use Rattle.h5_token.specs.TokenText.{TagText}
 use Rattle.h5_meaning.specs.Adoption.{entry_as, replaced, replaced_by}
 use Rattle.h5_meaning.specs.FormattingList.{ElementEntry, Entry, MarkerEntry, count_alike, is_alike, nodes_of, push_formatting, without_earliest, without_entry}
-use Rattle.h5_meaning.specs.Fresh.{AreFresh}
 use Rattle.h5_meaning.specs.Order.{Distinct, IsIn}
 use Rattle.h5_meaning.specs.InnerLoop.{swapped}
 use Rattle.h5_meaning.specs.Places.{EarliestGoes}

@@ -38,7 +38,7 @@ use Rattle.h5_meaning.specs.InHead.{in_head_end_template, in_head_start, in_head
 use Rattle.h5_meaning.specs.InHeadNoscript.{in_head_noscript_tag}
 use Rattle.h5_meaning.specs.InRow.{close_the_row, in_row_end, in_row_end_section, in_row_start, in_row_tag, row_closing_names}
 use Rattle.h5_meaning.specs.InTable.{in_table, in_table_else, in_table_end, in_table_end_table, in_table_ignored_ends, in_table_start, in_table_start_form, in_table_start_input, in_table_start_table, in_table_tag, in_table_text_or_null, keeps_text, row_part_names, table_text_names}
-use Rattle.h5_meaning.specs.InTableBody.{in_table_body_close, in_table_body_end, in_table_body_end_section, in_table_body_start, in_table_body_tag, is_table_or_section, section_closing_names}
+use Rattle.h5_meaning.specs.InTableBody.{in_table_body_close, in_table_body_end, in_table_body_end_section, in_table_body_start, in_table_body_tag, is_table_section, section_closing_names}
 use Rattle.h5_meaning.specs.InTableText.{in_table_text_else, pending_text, saved_mode}
 use Rattle.h5_meaning.specs.Modes.{rule}
 use Rattle.h5_meaning.specs.Reset.{reset_mode}
@@ -296,7 +296,7 @@ module _ (tag : TagText) (w : World) where
 
   section_close : (c : TurnKind) → edges.Again c InTableBody InTable → RowLeads c InTableBody w (in_table_body_close tag w)
   unfolding in_table_body_close
-  section_close c a = one_or_ignored c InTableBody w (in_table_scope is_table_or_section w) (row (PopUntilCurrent is_table_body_context ∷ Pop ∷ []) (Again InTable)) a
+  section_close c a = one_or_ignored c InTableBody w (in_table_scope is_table_section w) (row (PopUntilCurrent is_table_body_context ∷ Pop ∷ []) (Again InTable)) a
 
   section_end : RowLeads e InTableBody w (in_table_body_end_section tag w)
   unfolding in_table_body_end_section

@@ -8,7 +8,7 @@ use Rattle.h5_token.specs.TokenText.{TagText}
 use Rattle.h5_token.specs.declared.tag.TagKind.{TagKind}
 use Rattle.h5_token.specs.declared.tag.TagKind.TheVariants.{StartTag, EndTag}
 use Rattle.h5_interface.specs.SinkChoices.{SinkChoices}
-use Rattle.h5_tag_sets.specs.TagSets.{cell_names, is_html_named, is_one_of, is_table_body_context, is_table_row_context, is_table_scope}
+use Rattle.h5_tag_sets.specs.TagSets.{cell_names, is_one_of, is_table_body_context, is_table_row_context, is_table_scope}
 use Rattle.h5_types.specs.TurnText.{CommentTurn, EofTurn, HasText, NullTurn, TagTurn, TextTurn, TurnText}
 use Rattle.h5_types.specs.declared.modes.InsertionMode.{InsertionMode}
 use Rattle.h5_types.specs.declared.modes.InsertionMode.TheVariants.{InCaption, InCell, InColumnGroup, InRow, InTable, InTableBody, InTableText}
@@ -19,12 +19,11 @@ use Rattle.h5_meaning.specs.SituationChanges.{with_saved}
 use Rattle.h5_meaning.specs.Fits.{goes_by_body, is_table_mode}
 use Rattle.h5_meaning.specs.NamesFit.{NamesFit}
 use Rattle.h5_meaning.specs.ResetByRoles.{reset}
-use Rattle.h5_meaning.specs.Roles.{CaptionRole, CellRole, ColgroupRole, Role, RowRole, SectionRole, TableRole, is_cell_role, is_section, role_of, role_of_local, roles}
-use Rattle.h5_meaning.specs.Roles as fits_roles
+use Rattle.h5_meaning.specs.Roles.{CaptionRole, CellRole, ColgroupRole, Role, RowRole, SectionRole, TableRole, is_cell_role, is_section, role_of_local, roles}
 use Rattle.h5_meaning.proofs.NamesBodyLaws.{names_in_table, table_goes}
 use Rattle.h5_meaning.proofs.NamesFitLaws.{names_table_text_begun, names_table_text_ended}
 use Rattle.h5_meaning.proofs.NamesTableLaws.{names_caption_put, names_cell_put, names_colgroup_put, names_row_closed, names_row_put, names_section_closed, names_section_left, names_section_put, names_table_closed}
-use Rattle.h5_meaning.proofs.RoleLaws.{Origin, origin, role_made, role_named}
+use Rattle.h5_meaning.proofs.RoleLaws.{Origin, origin, role_made}
 use Rattle.h5_meaning.proofs.RoleSetLaws.{all_pass}
 use Rattle.h5_meaning.proofs.TableModeLaws.{cell_only, section_only}
 use Rattle.h5_meaning.specs.Blanks.{all_blank}
@@ -35,7 +34,8 @@ use Rattle.h5_meaning.specs.InBody.{in_body}
 use Rattle.h5_meaning.specs.InRow.{close_the_row, in_row, in_row_end, in_row_end_section, in_row_start, in_row_start_cell, in_row_tag}
 use Rattle.h5_meaning.specs.InTable.{in_table, in_table_else, in_table_end, in_table_end_table, in_table_ignored_ends, in_table_start, in_table_start_caption, in_table_start_col, in_table_start_colgroup, in_table_start_form, in_table_start_input, in_table_start_row_part, in_table_start_section, in_table_start_table, in_table_tag, in_table_text_or_null, keeps_text, table_text_names}
 use Rattle.h5_meaning.specs.Shared.{is_type_hidden}
-use Rattle.h5_meaning.specs.InTableBody.{in_table_body, in_table_body_close, in_table_body_end, in_table_body_end_section, in_table_body_start, in_table_body_start_cell, in_table_body_start_row, in_table_body_tag, is_table_or_section}
+use Rattle.h5_meaning.proofs.TableSectionLaws.{section_test}
+use Rattle.h5_meaning.specs.InTableBody.{in_table_body, in_table_body_close, in_table_body_end, in_table_body_end_section, in_table_body_start, in_table_body_start_cell, in_table_body_start_row, in_table_body_tag, is_table_section}
 use Rattle.h5_meaning.specs.InTableText.{in_table_text, in_table_text_else, pending_text, saved_mode}
 use Rattle.h5_meaning.specs.Reset.{reset_mode}
 use Rattle.h5_meaning.specs.Rows.{Again, AgainBy, AppendText, InsertAndPopElement, InsertAndPopForm, InsertMarker, IsAcknowledged, IsDone, Pop, PopUntilCurrent, PopUntilNamed, ResetMode, Row, SaveMode, SetMode, apply_all, errs, ignored, row}
@@ -86,20 +86,6 @@ no_part_in_table l n = at (role_of_local l) (origin l)
     at CellRole (inl o) = absurd (apart ends (codes "td") l refl o n.1.0)
     at CellRole (inr o) = absurd (apart ends (codes "th") l refl o n.1.0)
     at _ o = refl
-
--- what is looked for where a section is closed is a table or a section
-either_role : (n : QualName) → is_table_or_section n ≡ true → fits_roles.is_table_or_section (role_of n) ≡ true
-unfolding role_of_local
-either_role n h = at (is_html_named (codes "table") n) (is_html_named (codes "tbody") n) (is_html_named (codes "tfoot") n) refl refl refl h
-  where
-    role : (t : List ℕ) → is_html_named t n ≡ true → fits_roles.is_table_or_section (role_of_local t) ≡ true → fits_roles.is_table_or_section (role_of n) ≡ true
-    role t e o = ap fits_roles.is_table_or_section (role_named t n e) ∙ o
-
-    at : (a b c : Bool) → is_html_named (codes "table") n ≡ a → is_html_named (codes "tbody") n ≡ b → is_html_named (codes "tfoot") n ≡ c → (a || (b || c)) ≡ true → fits_roles.is_table_or_section (role_of n) ≡ true
-    at true b c e f g o = role (codes "table") e refl
-    at false true c e f g o = role (codes "tbody") f refl
-    at false false true e f g o = role (codes "tfoot") g refl
-    at false false false e f g o = absurd (cc)
 
 -- CHANGES
 
@@ -327,8 +313,8 @@ module _ (choices : SinkChoices) (w : World) (steady : IsSteady w) where
 
     kept_body_close : (tag : TagText) → Kept choices w InTableBody (in_table_body_close tag w)
     unfolding in_table_body_close
-    kept_body_close tag = holds_chosen (Kept choices w InTableBody) (in_table_scope is_table_or_section w) (row (PopUntilCurrent is_table_body_context ∷ Pop ∷ []) (Again InTable)) ignored
-        (λ e h. left_at is_table_body_context InTable (names_section_left (situation_of w) (names_of w) is_table_or_section either_role e h)) (λ e h. h)
+    kept_body_close tag = holds_chosen (Kept choices w InTableBody) (in_table_scope is_table_section w) (row (PopUntilCurrent is_table_body_context ∷ Pop ∷ []) (Again InTable)) ignored
+        (λ e h. left_at is_table_body_context InTable (names_section_left (situation_of w) (names_of w) is_table_section (λ n k. sym (section_test n) ∙ k) e h)) (λ e h. h)
 
     kept_body_tag : (kind : TagKind) (tag : TagText) → Kept choices w InTableBody (by_kind kind (by_name in_table_body_start (of_tag in_table) tag w) (by_name in_table_body_end (of_tag in_table) tag w))
     unfolding in_table_body_start in_table_body_end

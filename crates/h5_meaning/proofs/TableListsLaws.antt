@@ -23,7 +23,7 @@ use Rattle.h5_meaning.specs.InCell.{close_the_cell, in_cell, in_cell_end, in_cel
 use Rattle.h5_meaning.specs.InColumnGroup.{close_the_column_group, in_column_group, in_column_group_else, in_column_group_end, in_column_group_start, in_column_group_start_col, in_column_group_tag}
 use Rattle.h5_meaning.specs.InRow.{close_the_row, in_row, in_row_end, in_row_end_section, in_row_start, in_row_start_cell, in_row_tag}
 use Rattle.h5_meaning.specs.InTable.{in_table, in_table_else, in_table_end, in_table_end_table, in_table_start, in_table_start_caption, in_table_start_col, in_table_start_colgroup, in_table_start_form, in_table_start_input, in_table_start_row_part, in_table_start_section, in_table_start_table, in_table_tag, in_table_text_or_null, keeps_text}
-use Rattle.h5_meaning.specs.InTableBody.{in_table_body, in_table_body_close, in_table_body_end, in_table_body_end_section, in_table_body_start, in_table_body_start_cell, in_table_body_start_row, in_table_body_tag, is_table_or_section}
+use Rattle.h5_meaning.specs.InTableBody.{in_table_body, in_table_body_close, in_table_body_end, in_table_body_end_section, in_table_body_start, in_table_body_start_cell, in_table_body_start_row, in_table_body_tag, is_table_section}
 use Rattle.h5_meaning.specs.InTableText.{in_table_text, in_table_text_else, pending_text}
 use Rattle.h5_meaning.specs.Reset.{reset_mode}
 use Rattle.h5_meaning.specs.Rows.{Again, AgainBy, AppendComment, AppendPendingText, AppendText, Change, ClearActiveFormattingToMarker, Ending, GenerateImpliedEnd, InsertAndPopElement, InsertAndPopForm, IsAcknowledged, IsDone, Pop, PopUntilCurrent, PopUntilNamed, ReconstructActiveFormattingElements, ResetMode, Row, SaveMode, SetFoster, SetFramesetOkByText, SetMode, apply_all, choose, errs, ignored, row, row_if}
@@ -182,7 +182,7 @@ module _ (choices : SinkChoices) (w : World) (k : IsSteady w) where
 
   stays_body_close : (tag : TagText) → Stays choices w k InTableBody (in_table_body_close tag w)
   unfolding in_table_body_close
-  stays_body_close tag = chosen InTableBody (in_table_scope is_table_or_section w) (row (PopUntilCurrent is_table_body_context ∷ Pop ∷ []) (Again InTable)) (tt, (tt, tt))
+  stays_body_close tag = chosen InTableBody (in_table_scope is_table_section w) (row (PopUntilCurrent is_table_body_context ∷ Pop ∷ []) (Again InTable)) (tt, (tt, tt))
 
   stays_section_tag : (kind : TagKind) (tag : TagText) → Stays choices w k InTableBody (by_kind kind (by_name in_table_body_start (of_tag in_table) tag w) (by_name in_table_body_end (of_tag in_table) tag w))
   unfolding in_table_body_start in_table_body_end

@@ -1,12 +1,11 @@
 -- The rows of the table modes that change names, from the facts of their modes.
 use Rattle.std.proofs.Common.{◌≡◌, Bool, true, false, cond, not, ◌&&◌, List, [], ◌∷◌, refl, sym, subst}
 use Rattle.h5_types.specs.declared.modes.InsertionMode.TheVariants.{InTable, InCaption, InColumnGroup, InTableBody, InRow, InCell}
-use Rattle.h5_meaning.specs.Contexts.{Over, StackContext, TableBodyContext, TableContext, TableRowContext, down_to, ends}
+use Rattle.h5_meaning.specs.Contexts.{StackContext, TableBodyContext, TableContext, TableRowContext, down_to, ends}
 use Rattle.h5_meaning.specs.Fits.{Fits, Situation}
 use Rattle.h5_meaning.specs.Frames.{Cut, here, passes_table_scope, there}
-use Rattle.h5_meaning.specs.ResetByRoles.{reset}
-use Rattle.h5_meaning.specs.Roles.{CaptionRole, CellRole, ColgroupRole, HtmlRole, Role, RowRole, SectionRole, TableRole, TemplateRole, is_cell_role, is_row, is_section, is_table_or_section, role_in_scope}
-use Rattle.h5_meaning.proofs.ChangeLaws.{close_fits, cut_down, put_fits, table_closed}
+use Rattle.h5_meaning.specs.Roles.{CaptionRole, CellRole, ColgroupRole, HtmlRole, Role, RowRole, SectionRole, TableRole, TemplateRole, is_cell_role, is_row, is_section, role_in_scope}
+use Rattle.h5_meaning.proofs.ChangeLaws.{close_fits, cut_down, put_fits}
 
 module _ (s : Situation) (ns : List Role) where
   pub in_table_caption : Fits s InTable ns → Fits s InCaption (CaptionRole ∷ down_to TableContext ns)
@@ -86,7 +85,7 @@ pub section_only : (n : Role) → is_section n ≡ true → n ≡ SectionRole
 section_only SectionRole h = refl
 section_only _ h = absurd (cc)
 
-body_passed : (n : Role) → is_section n ≡ false → ends TableContext n ≡ false → ends TableBodyContext n ≡ false
+pub body_passed : (n : Role) → is_section n ≡ false → ends TableContext n ≡ false → ends TableBodyContext n ≡ false
 body_passed SectionRole h e = absurd (cc)
 body_passed HtmlRole h e = absurd (cc)
 body_passed TemplateRole h e = absurd (cc)
@@ -125,12 +124,3 @@ first_row ns h =
       down = cut_down TableRowContext (passes_others is_row) RowRole (λ n k. let p = neither (is_row n) (ends TableContext n) k in row_passed n p.0 p.1) refl f.cut;
       cut = others_pass is_row RowRole f.cut;
     }
-
--- where a section comes before any table, a table or section in table scope means a section
-pub section_of_either : (ns : List Role) → Over TableBodyContext ns → role_in_scope is_table_or_section (ends TableContext) ns ≡ true → role_in_scope is_section (ends TableContext) ns ≡ true
-section_of_either [] o h = absurd (cc)
-section_of_either (SectionRole ∷ ns) o h = refl
-section_of_either (TableRole ∷ ns) o h = absurd (cc)
-section_of_either (TemplateRole ∷ ns) o h = absurd (cc)
-section_of_either (HtmlRole ∷ ns) o h = absurd (cc)
-section_of_either (_ ∷ ns) o h = section_of_either ns o h

@@ -1,5 +1,5 @@
 -- What a text leaves of the current node's name, whatever the forest.
-use Rattle.std.proofs.Common.{◌≡◌, ℕ, ◌==◌, Bool, true, false, cond, List, [], ◌∷◌, ◌++◌, map, Option, Some, None, IsTrue, refl, ap, sym, ◌∙◌}
+use Rattle.std.proofs.Common.{◌≡◌, ℕ, ◌==◌, Bool, true, false, List, [], ◌∷◌, ◌++◌, map, Option, Some, None, IsTrue, refl, ap, sym, ◌∙◌}
 use Rattle.h5_names.specs.AttributeText.{AttributeText}
 use Rattle.h5_names.specs.declared.qualified.QualName.{QualName}
 use Rattle.h5_token.specs.TokenText.{TagText}
@@ -12,7 +12,6 @@ use Rattle.h5_interface.proofs.MakingLaws.{new_kind}
 use Rattle.h5_tag_sets.specs.TagSets.{formatting_names, html_namespace, is_html_named, is_one_of, is_table_outer, table_outer_names}
 use Rattle.h5_meaning.specs.FormattingList.{ElementEntry, Entry, MarkerEntry, closed_front}
 use Rattle.h5_meaning.specs.FormattingNames.{AllFormatting, html_name}
-use Rattle.h5_meaning.specs.Order.{is_in}
 use Rattle.h5_meaning.specs.Scope.{first_passes}
 use Rattle.h5_meaning.specs.Roles.{PlainRole, Role, RowRole, SectionRole, TableRole, is_template, role_of, role_of_local}
 use Rattle.h5_meaning.proofs.PlainNameLaws.{formatting_local_plain}

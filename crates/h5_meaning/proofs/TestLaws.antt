@@ -4,11 +4,11 @@ use Rattle.h5_names.specs.AttributeText.{is_same_text}
 use Rattle.h5_names.specs.declared.qualified.QualName.{QualName}
 use Rattle.h5_tag_sets.specs.TagSets.{cell_names, html_namespace, is_button_scope, is_cell, is_default_scope, is_html_named, is_list_item_scope, is_one_of, is_special, is_table_body_context, is_table_row_context, is_table_scope, table_body_context_names, table_row_context_names, table_scope_names}
 use Rattle.h5_types.specs.declared.modes.InsertionMode.TheVariants.{InBody}
-use Rattle.h5_meaning.specs.Scope.{cut_names, first_passes, has_template, in_scope, second_is}
+use Rattle.h5_meaning.specs.Scope.{cut_names, has_template, in_scope}
 use Rattle.h5_meaning.specs.Contexts.{TableBodyContext, TableContext, TableRowContext, ends}
 use Rattle.h5_meaning.specs.Fits.{Fits, Situation}
 use Rattle.h5_meaning.specs.Frames.{Frame, passes_table_scope}
-use Rattle.h5_meaning.specs.Roles.{BodyRole, CellRole, HtmlRole, PlainRole, Role, RowRole, SectionRole, TableRole, TemplateRole, has_role, is_body, is_cell_role, is_floor_name, is_template, role_of, role_of_local, roles}
+use Rattle.h5_meaning.specs.Roles.{CellRole, HtmlRole, PlainRole, Role, RowRole, SectionRole, TableRole, TemplateRole, has_role, is_cell_role, is_floor_name, is_template, role_of, role_of_local, roles}
 use Rattle.h5_meaning.proofs.ChangeLaws.{close_in_body}
 use Rattle.h5_meaning.proofs.CutNameLaws.{frame_cut}
 use Rattle.h5_meaning.proofs.RoleNameLaws.{cut_roles}
@@ -16,7 +16,6 @@ use Rattle.h5_meaning.proofs.RoleLaws.{Names, names_of_role, role_named}
 use Rattle.h5_meaning.proofs.SetLaws.{default_passes, in_set, ordinary_plain, template_test}
 use Rattle.h5_meaning.proofs.BoolLaws.{or_neither}
 use Rattle.h5_meaning.proofs.RoleSetLaws.{set_test}
-use Rattle.h5_names.proofs.KnownNameLemmas.{same_tests}
 
 -- a foreign element is plain
 pub foreign_plain : (n : QualName) → is_same_text n.ns html_namespace ≡ false → role_of n ≡ PlainRole

@@ -14,7 +14,7 @@ use Rattle.h5_types.specs.TurnText.{CommentTurn, EofTurn, NullTurn, TagTurn, Tex
 use Rattle.h5_types.specs.declared.modes.SplitStatus.TheVariants.{NotSplit}
 use Rattle.h5_meaning.specs.Scope.{cut_through}
 use Rattle.h5_meaning.specs.NamesFit.{is_html_element}
-use Rattle.h5_meaning.specs.Changes.{new_element, pop_while, with_forest}
+use Rattle.h5_meaning.specs.Changes.{new_element, pop, with_forest}
 use Rattle.h5_meaning.specs.Kinds.{is_start}
 use Rattle.h5_meaning.specs.Place.{place}
 use Rattle.h5_meaning.specs.World.{World, name_in, names_of}
@@ -113,13 +113,20 @@ insert_foreign_element choices name attrs duplicates w = record w {
 unfoldable pub insert_and_pop_foreign_element : SinkChoices → QualName → List AttributeText → Bool → World → World
 insert_and_pop_foreign_element choices name attrs duplicates w = with_forest (new_element choices (place w) name attrs duplicates None w.forest) w
 
--- elements are popped up to one of HTML, a MathML text integration point, or an SVG element that is an HTML integration
--- point
-unfoldable pub is_left : QualName → Bool
-is_left n = not (is_html_element n || (is_mathml_text_point n || is_svg_html_point n))
+-- an HTML integration point: one of SVG, by its name, or an `annotation-xml` of which the sink says so
+abbrev pub is_html_point : SinkChoices → Forest → ℕ → Bool
+is_html_point choices f n = is_svg_html_point (name_in f n) || (is_annotation_xml (name_in f n) && is_integration_point choices f n)
+
+-- elements are popped up to one of HTML, a MathML text integration point, or an HTML integration point
+unfoldable pub is_left : SinkChoices → Forest → ℕ → Bool
+is_left choices f n = not (is_html_element (name_in f n) || (is_mathml_text_point (name_in f n) || is_html_point choices f n))
+
+abbrev pub pop_left : SinkChoices → List ℕ → World → World
+pop_left choices [] w = w
+pop_left choices (n ∷ s) w = if is_left choices w.forest n then pop_left choices s (pop choices w) else w
 
 unfoldable pub leave_foreign_content : SinkChoices → World → World
-leave_foreign_content choices w = pop_while choices is_left (names_of w) w
+leave_foreign_content choices w = pop_left choices w.stack w
 
 -- an element of this local name, in any case of ASCII letters
 abbrev pub is_named_in_any_case : List ℕ → QualName → Bool

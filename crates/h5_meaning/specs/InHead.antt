@@ -2,13 +2,13 @@
 use Rattle.std.specs.Prelude.{ℕ, List, [], ◌∷◌, codes}
 use Rattle.h5_token.specs.TokenText.{TagText}
 use Rattle.h5_token.specs.declared.states.RawKind.TheVariants.{Rawtext, Rcdata, ScriptData}
-use Rattle.h5_names.specs.declared.known_name.KnownName.TheVariants.{Head, Html, Noscript, Script, Template, Title}
+use Rattle.h5_names.specs.declared.known_name.KnownName.TheVariants.{Head, Html, Meta, Noscript, Script, Template, Title}
 use Rattle.h5_types.specs.TurnText.{CommentTurn, EofTurn, NullTurn, TagTurn, TextTurn, TurnText}
 use Rattle.h5_types.specs.declared.modes.InsertionMode.TheVariants.{AfterHead, InHeadNoscript, InTemplate}
 use Rattle.h5_types.specs.declared.modes.SplitStatus.TheVariants.{NotSplit, NotWhitespace, Whitespace}
 use Rattle.h5_meaning.specs.ByName.{Rules, by_kind, by_name, ignored_tag, is_outer, named, of_tag}
 use Rattle.h5_meaning.specs.NamedEncoding.{indicates, named_encoding}
-use Rattle.h5_meaning.specs.Rows.{Again, AgainBy, AppendComment, AppendText, ClearActiveFormattingToMarker, GenerateImpliedEndThoroughly, InsertAndPopElement, InsertMarker, InsertScript, InsertTemplate, IsDone, Pop, PopTemplateMode, PopUntilNamed, PushTemplateMode, ResetMode, Row, SetFramesetNotOk, SetMode, choose, errs, ignored, row, row_if}
+use Rattle.h5_meaning.specs.Rows.{Again, AgainBy, AppendComment, AppendText, ClearActiveFormattingToMarker, GenerateImpliedEndThoroughly, InsertAndPopElement, InsertMarker, InsertScript, InsertTemplate, IsAcknowledged, IsDone, Pop, PopTemplateMode, PopUntilNamed, PushTemplateMode, ResetMode, Row, SetFramesetNotOk, SetMode, choose, errs, ignored, row, row_if}
 use Rattle.h5_meaning.specs.Shared.{current_is, in_body_start_html, inserts, raw_text}
 use Rattle.h5_meaning.specs.Reset.{reset_mode}
 use Rattle.h5_meaning.specs.World.{World, names_of}
@@ -19,12 +19,16 @@ use Rattle.h5_tag_sets.specs.TagSets.{is_one_of}
 abbrev pub in_head_end_head : TagText → World → Row
 in_head_end_head tag w = row (Pop ∷ SetMode AfterHead ∷ []) IsDone
 
--- a start tag "base", "basefont", "bgsound", "link", "meta"
+-- a start tag "base", "basefont", "bgsound", "link"
 unfoldable pub in_head_links : List (List ℕ)
-in_head_links = codes "base" ∷ codes "basefont" ∷ codes "bgsound" ∷ codes "link" ∷ codes "meta" ∷ []
+in_head_links = codes "base" ∷ codes "basefont" ∷ codes "bgsound" ∷ codes "link" ∷ []
 
 abbrev pub in_head_start_link : TagText → World → Row
-in_head_start_link tag w = row (InsertAndPopElement tag.name tag.attrs tag.had_duplicate_attributes ∷ []) (indicates (named_encoding tag.attrs))
+in_head_start_link tag w = row (InsertAndPopElement tag.name tag.attrs tag.had_duplicate_attributes ∷ []) IsAcknowledged
+
+-- a start tag "meta"
+abbrev pub in_head_start_meta : TagText → World → Row
+in_head_start_meta tag w = row (InsertAndPopElement tag.name tag.attrs tag.had_duplicate_attributes ∷ []) (indicates (named_encoding tag.attrs))
 
 -- a start tag "title"
 abbrev pub in_head_start_title : TagText → World → Row
@@ -75,6 +79,7 @@ unfoldable pub in_head_start : Rules
 in_head_start =
     (named Html, in_body_start_html) ∷
     (is_one_of in_head_links, in_head_start_link) ∷
+    (named Meta, in_head_start_meta) ∷
     (named Title, in_head_start_title) ∷
     (is_one_of in_head_raw, in_head_start_raw) ∷
     (named Noscript, in_head_start_noscript) ∷

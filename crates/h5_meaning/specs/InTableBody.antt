@@ -30,14 +30,14 @@ in_table_body_end_section tag w =
 unfoldable pub section_closing_names : List (List ℕ)
 section_closing_names = codes "caption" ∷ codes "col" ∷ codes "colgroup" ∷ codes "tbody" ∷ codes "tfoot" ∷ codes "thead" ∷ []
 
--- what is looked for then: this edition tests `table`, `tbody` and `tfoot`, and no `thead`
-abbrev pub is_table_or_section : QualName → Bool
-is_table_or_section name = is_html_named (codes "table") name || (is_html_named (codes "tbody") name || is_html_named (codes "tfoot") name)
+-- a row group
+abbrev pub is_table_section : QualName → Bool
+is_table_section name = is_html_named (codes "tbody") name || (is_html_named (codes "tfoot") name || is_html_named (codes "thead") name)
 
 -- a start tag "caption", "col", .., "thead", and an end tag "table"
 unfoldable pub in_table_body_close : TagText → World → Row
 in_table_body_close tag w =
-    choose (in_table_scope is_table_or_section w) (row (PopUntilCurrent is_table_body_context ∷ Pop ∷ []) (Again InTable)) ignored
+    choose (in_table_scope is_table_section w) (row (PopUntilCurrent is_table_body_context ∷ Pop ∷ []) (Again InTable)) ignored
 
 -- end tags that are ignored
 unfoldable pub in_table_body_ignored_ends : List (List ℕ)

@@ -83,11 +83,6 @@ abbrev pub is_section : Role → Bool
 is_section SectionRole = true
 is_section _ = false
 
-abbrev pub is_table_or_section : Role → Bool
-is_table_or_section TableRole = true
-is_table_or_section SectionRole = true
-is_table_or_section _ = false
-
 -- the names that stand only on the floor
 abbrev pub is_base : Role → Bool
 is_base HtmlRole = true

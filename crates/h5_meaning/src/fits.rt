@@ -15,7 +15,11 @@ ghost use Rattle.h5_meaning.specs.Frames.{AllPlain, Frame};
 ghost use Rattle.h5_meaning.specs.NamesFit.{ModeBelow, NamesFit, TableMode, is_html_element};
 ghost use Rattle.h5_meaning.specs.ResetByRoles.{reset};
 ghost use Rattle.h5_meaning.specs.Roles.{BodyRole, CaptionRole, CellRole, ColgroupRole, FramesetRole, HeadRole, HtmlRole, PlainRole, Role, RowRole, SectionRole, TableRole, TemplateRole, is_floor_name, role_of, role_of_local, roles};
-ghost use Rattle.h5_meaning.specs.Root.{RootIsHtml};
+ghost use Rattle.h5_meaning.specs.Adoption.{FormattingElement, FurthestBlock};
+ghost use Rattle.h5_meaning.specs.AdoptionAgency.{MayAdopt};
+ghost use Rattle.h5_meaning.specs.InTableBody.{is_table_section};
+ghost use Rattle.h5_meaning.specs.Root.{IsRootOpen, RootIsHtml};
+ghost use Rattle.h5_meaning.specs.World.{World, name_in};
 
 /// Changes that keep what modes tell of the open elements keep it together, one after the other.
 pub fn frames_compose()
@@ -38,6 +42,18 @@ pub fn plain_names_come_and_go()
 /// the formatting element f, those between give way to no more than these, f is taken out, and c is put on b.
 pub fn a_round_of_adoption_is_a_frame()
     ensures { (w : Bool) (ts ms ks rest : List QualName) (b f c : QualName) → role_of f ≡ PlainRole → role_of c ≡ PlainRole → is_default_scope b ≡ false → list_any is_special ms ≡ false → AllPlain (roles ks) → length ks ≤ length ms → Grounded w (roles (ts ++ b ∷ (ms ++ f ∷ rest))) → Under (roles (ts ++ b ∷ (ms ++ f ∷ rest))) → Frame (roles (ts ++ b ∷ (ms ++ f ∷ rest))) (roles (ts ++ c ∷ b ∷ (ks ++ rest))) }
+{}
+
+/// The furthest block of a round is an element of HTML: what is special of MathML and SVG ends the scope that the formatting
+/// element is in.
+pub fn a_furthest_block_is_html()
+    ensures { (name : List ℕ) (f : FormattingElement) (k : FurthestBlock) (w : World) → MayAdopt name f k w → is_html_element (name_in w.forest k.block) ≡ true }
+{}
+
+/// Where a row group is in table scope, it is what the stack cleared back to a table body context has on top, so the root
+/// isn't popped with it.
+pub fn a_closed_row_group_is_not_the_root()
+    ensures { (ns : List QualName) → in_scope is_table_section is_table_scope ns ≡ true → IsRootOpen ns → IsRootOpen (later_names (down_names is_table_body_context ns)) }
 {}
 
 /// In the modes that handle tokens by the rules of the body, such a change leaves the open elements fitting the mode;

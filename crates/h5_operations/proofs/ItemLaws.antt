@@ -3,7 +3,7 @@ use Rattle.std.proofs.Common.{◌≡◌, ℕ, Bool, true, false, cond, not, ◌&
 use Rattle.h5_names.specs.AttributeText.{is_same_text}
 use Rattle.h5_names.specs.declared.qualified.QualName.{QualName}
 use Rattle.h5_interface.specs.Forest.{Forest}
-use Rattle.h5_tag_sets.specs.TagSets.{html_namespace, is_one_of, is_special, special_names}
+use Rattle.h5_tag_sets.specs.TagSets.{html_namespace, is_foreign_special, is_one_of, is_special, special_names}
 use Rattle.h5_meaning.specs.Scope.{oldest_of, oldest_passing}
 use Rattle.h5_meaning.specs.Closing.{ends_item_search, is_html_among, newest_item, passed_names}
 use Rattle.h5_meaning.specs.InBody.{description_names, list_item_names}
@@ -33,12 +33,14 @@ special_items kinds.Description = refl
 
 pub ordinary_passed : (kind : ItemKind) (n : QualName) → is_special n ≡ false → stops_search (item_names kind) n ≡ false
 unfolding is_special
-ordinary_passed kind n h = at (is_same_text n.ns html_namespace) (is_one_of special_names n.local) (not (is_html_among passed_names n)) refl h
+ordinary_passed kind n h = at (is_same_text n.ns html_namespace) (is_one_of special_names n.local) (is_foreign_special n) (not (is_html_among passed_names n)) refl h
   where
-    at : (a b d : Bool) → is_one_of special_names n.local ≡ b → (a && b) ≡ false → ((a && is_one_of (item_names kind) n.local) || ((a && b) && d)) ≡ false
-    at false b d e k = refl
-    at true true d e k = absurd (cc)
-    at true false d e k = ap (λ c. c || false) (none_within (item_names kind) special_names n.local (special_items kind) e)
+    at : (a b c d : Bool) → is_one_of special_names n.local ≡ b → ((a && b) || c) ≡ false → ((a && is_one_of (item_names kind) n.local) || (((a && b) || c) && d)) ≡ false
+    at false b false d e k = refl
+    at false b true d e k = absurd (cc)
+    at true true c d e k = absurd (cc)
+    at true false true d e k = absurd (cc)
+    at true false false d e k = ap (λ x. x || false) (none_within (item_names kind) special_names n.local (special_items kind) e)
 
 -- an option that no older one comes before is the oldest, also with newer ones
 pub oldest_stays : (is : QualName → Bool) (f : Forest) (m : ℕ) (newer s : List ℕ) → oldest_passing is (map (name_in f) s) s ≡ Some m → oldest_passing is (map (name_in f) (newer ++ s)) (newer ++ s) ≡ Some m

@@ -3,7 +3,7 @@ use Rattle.std.proofs.Common.{◌≡◌, ◌||◌, ℕ, Bool, true, false, List,
 use Rattle.std.proofs.lemmas.Slice.Eq.{bytes_eq-Decides}
 use Rattle.h5_names.specs.AttributeText.{AttributeText, is_same_text}
 use Rattle.h5_interface.specs.NewElement.{is_html_template}
-use Rattle.h5_tag_sets.specs.TagSets.{block_end_names, block_start_names, cell_names, formatting_names, heading_names, html_namespace, implied_names, is_heading, is_html_named, is_implied, is_one_of, void_names}
+use Rattle.h5_tag_sets.specs.TagSets.{block_end_names, block_start_names, button_scope_names, cell_names, formatting_names, heading_names, html_namespace, implied_names, is_button_scope, is_default_scope, is_foreign_special, is_heading, is_html_named, is_implied, is_one_of, mathml_namespace, scope_names, svg_namespace, void_names}
 use Rattle.h5_types.specs.TurnText.{TagTurn}
 use Rattle.h5_types.specs.declared.modes.InsertionMode.TheVariants.{InBody}
 use Rattle.h5_meaning.specs.FormattingNames.{html_name}
@@ -12,19 +12,11 @@ use Rattle.h5_meaning.specs.InCell.{in_cell_closing_ends, in_cell_ignored_ends}
 use Rattle.h5_meaning.specs.Modes.{rule}
 use Rattle.h5_meaning.specs.Shared.{head_start_names, table_structure_names}
 use Rattle.h5_meaning.specs.World.{World}
-use Rattle.h5_plain.specs.Plain.{has_end_tag}
+use Rattle.h5_meaning.specs.Roles.{PlainRole, role_of, role_of_local}
+use Rattle.h5_plain.specs.Plain.{division_names, has_end_tag}
 use Rattle.h5_plain.proofs.ModeLaws.{IsOutside}
 use Rattle.h5_plain.proofs.RuleLaws.{end, start}
 use Rattle.h5_meaning.proofs.ByNameLaws.{HoldsOfAll}
-
--- a `div` and its end
-pub div_rule : (a : List AttributeText) (w : World) → rule InBody (TagTurn (start (codes "div") a)) w ≡ in_body_start_block (start (codes "div") a) w
-unfolding in_body_tag in_body_start head_start_names block_start_names
-div_rule a w = refl
-
-pub div_end_rule : (w : World) → rule InBody (TagTurn (end (codes "div"))) w ≡ in_body_end_block (end (codes "div")) w
-unfolding in_body_tag in_body_end block_end_names
-div_end_rule w = refl
 
 -- a `p` and its end
 pub p_rule : (a : List AttributeText) (w : World) → rule InBody (TagTurn (start (codes "p") a)) w ≡ in_body_start_block (start (codes "p") a) w
@@ -46,20 +38,12 @@ pub record IsHolder (name : List ℕ) : Type 0 where
   pub no_template : is_html_template (html_name name) ≡ false
   pub no_title : is_same_text name (codes "title") ≡ false
 
--- `div` and `p` do
-pub div_holds : IsHolder (codes "div")
-unfolding void_names
-div_holds = record { has_end = refl; no_template = refl; no_title = refl }
-
+-- a `p` does
 pub p_holds : IsHolder (codes "p")
 unfolding void_names
 p_holds = record { has_end = refl; no_template = refl; no_title = refl }
 
--- and a cell leaves them, and `br`, to the body
-pub div_outside : IsOutside (codes "div")
-unfolding table_structure_names cell_names in_cell_closing_ends in_cell_ignored_ends
-div_outside = record { no_structure = refl; no_cell = refl; closes_none = refl; not_ignored = refl }
-
+-- and a cell leaves it, and `br`, to the body
 pub p_outside : IsOutside (codes "p")
 unfolding table_structure_names cell_names in_cell_closing_ends in_cell_ignored_ends
 p_outside = record { no_structure = refl; no_cell = refl; closes_none = refl; not_ignored = refl }
@@ -67,6 +51,19 @@ p_outside = record { no_structure = refl; no_cell = refl; closes_none = refl; no
 pub br_outside : IsOutside (codes "br")
 unfolding table_structure_names cell_names in_cell_closing_ends in_cell_ignored_ends
 br_outside = record { no_structure = refl; no_cell = refl; closes_none = refl; not_ignored = refl }
+
+-- a block that is told from others by its name alone: it is no `p`, and doesn't end the scope of one
+pub record IsBlockName (name : List ℕ) : Type 0 where
+  pub holds : IsHolder name
+  pub starts : (a : List AttributeText) (w : World) → rule InBody (TagTurn (start name a)) w ≡ in_body_start_block (start name a) w
+  pub ends : (w : World) → rule InBody (TagTurn (end name)) w ≡ in_body_end_block (end name) w
+  pub itself : is_html_named name (html_name name) ≡ true
+  pub not_implied : is_implied (html_name name) ≡ false
+  pub no_heading : is_heading (html_name name) ≡ false
+  pub no_p : is_html_named (codes "p") (html_name name) ≡ false
+  pub no_scope : is_button_scope (html_name name) ≡ false
+  pub role : role_of (html_name name) ≡ PlainRole
+  pub outside : IsOutside name
 
 -- a heading
 pub record IsHeadingName (name : List ℕ) : Type 0 where
@@ -86,6 +83,17 @@ of_each Of (n ∷ ns) each name h = at (of_each Of ns each.1 name) (is_same_text
     at : (is_one_of ns name ≡ true → Of name) → (b : Bool) → is_same_text n name ≡ b → (b || is_one_of ns name) ≡ true → Of name
     at others true e k = subst Of ((bytes_eq-Decides n name).0 e) each.0
     at others false e k = others k
+
+divisions : HoldsOfAll IsBlockName division_names
+unfolding division_names void_names html_namespace mathml_namespace svg_namespace in_body_tag in_body_start head_start_names in_body_end block_start_names block_end_names is_html_named is_implied implied_names is_button_scope is_default_scope is_foreign_special scope_names button_scope_names is_heading heading_names role_of role_of_local table_structure_names cell_names in_cell_closing_ends in_cell_ignored_ends
+divisions = (
+  record { holds = record { has_end = refl; no_template = refl; no_title = refl }; starts = λ a w. refl; ends = λ w. refl; itself = refl; not_implied = refl; no_heading = refl; no_p = refl; no_scope = refl; role = refl; outside = record { no_structure = refl; no_cell = refl; closes_none = refl; not_ignored = refl } },
+  (record { holds = record { has_end = refl; no_template = refl; no_title = refl }; starts = λ a w. refl; ends = λ w. refl; itself = refl; not_implied = refl; no_heading = refl; no_p = refl; no_scope = refl; role = refl; outside = record { no_structure = refl; no_cell = refl; closes_none = refl; not_ignored = refl } }, tt),
+)
+
+-- `div` and `search` are such blocks
+pub is_division_name : (name : List ℕ) → is_one_of division_names name ≡ true → IsBlockName name
+is_division_name name h = of_each IsBlockName division_names divisions name h
 
 headings : HoldsOfAll IsHeadingName heading_names
 unfolding heading_names void_names html_namespace in_body_tag in_body_start head_start_names in_body_end block_start_names block_end_names is_html_named is_heading is_implied implied_names table_structure_names cell_names in_cell_closing_ends in_cell_ignored_ends list_item_names description_names

@@ -18,12 +18,12 @@ use Rattle.h5_meaning.specs.Closing.{close_p_element, close_p_element_in_button_
 use Rattle.h5_meaning.specs.InBody.{in_body_end_block, in_body_end_heading, in_body_end_p, in_body_start_block}
 use Rattle.h5_meaning.specs.Modes.{rule}
 use Rattle.h5_meaning.specs.Place.{place, put}
-use Rattle.h5_meaning.specs.Rows.{ClosePElement, ClosePElementInButtonScope, GenerateImpliedEnd, InsertAndPopElement, InsertElement, IsDone, PopHeading, PopUntilHeading, PopUntilNamed, ReconstructActiveFormattingElements, SetFramesetNotOk, choose, errs, ignored, row_if}
+use Rattle.h5_meaning.specs.Rows.{Change, ClosePElement, ClosePElementInButtonScope, GenerateImpliedEnd, InsertAndPopElement, InsertElement, IsDone, PopHeading, PopUntilHeading, PopUntilNamed, ReconstructActiveFormattingElements, SetFramesetNotOk, choose, errs, ignored, row_if}
 use Rattle.h5_meaning.specs.World.{World, names_of}
 use Rattle.h5_meaning.proofs.FormattingLaws.{reconstruct_none}
 use Rattle.h5_meaning.proofs.PopLaws.{all_implied_none, implied_none}
 use Rattle.h5_plain.specs.Plain.{end_tag, start_tag}
-use Rattle.h5_plain.proofs.BodyRuleLaws.{IsHeadingName, IsHolder, br_outside, br_rule, div_end_rule, div_outside, p_end_rule, p_outside}
+use Rattle.h5_plain.proofs.BodyRuleLaws.{IsBlockName, IsHeadingName, IsHolder, br_outside, br_rule, p_end_rule, p_outside}
 use Rattle.h5_meaning.specs.FormattingList.{Entry}
 use Rattle.h5_plain.proofs.ListedLaws.{OpenFormat}
 use Rattle.h5_plain.proofs.CalmLaws.{Calm, calm_html, after, calm_closed, names_are, opened, place_is, unowned}
@@ -113,16 +113,18 @@ module _ (choices : SinkChoices) (w : World) (names : List QualName) (m : GoesBy
   abbrev pub left : World
   left = record w { stack = but_first w.stack }
 
-  -- of a `div`
-  pub ends_div : names_of w ≡ html_name (codes "div") ∷ names → Moves choices (end_tag (codes "div")) w left
-  unfolding in_body_end_block is_html_named html_namespace is_implied implied_names pop_until_named
-  ends_div e =
-      moves_row choices (end (codes "div")) w left w.mode (GenerateImpliedEnd ∷ PopUntilNamed (codes "div") ∷ []) refl i j
-      (end_by_body m (codes "div") w div_outside
-      ∙ div_end_rule w
-      ∙ ap (λ ns. choose (in_scope (is_html_named (codes "div")) is_default_scope ns) (row_if (first_passes (is_html_named (codes "div")) ns) (GenerateImpliedEnd ∷ PopUntilNamed (codes "div") ∷ []) IsDone) ignored) e) refl refl
-      (ap (pop_until_named (codes "div")) (all_implied_none choices w (ap (first_passes is_implied) e))
-      ∙ cut_at w names (is_html_named (codes "div")) (html_name (codes "div")) e refl)
+  -- of a block
+  pub ends_block : (name : List ℕ) → IsBlockName name → names_of w ≡ html_name name ∷ names → Moves choices (end_tag name) w left
+  unfolding in_body_end_block pop_until_named
+  ends_block name k e =
+      let changes : List Change = GenerateImpliedEnd ∷ PopUntilNamed name ∷ [] in
+      moves_row choices (end name) w left w.mode changes refl i j
+      (end_by_body m name w k.outside
+      ∙ k.ends w
+      ∙ ap (λ ns. choose (in_scope (is_html_named name) is_default_scope ns) (row_if (first_passes (is_html_named name) ns) changes IsDone) ignored) e
+      ∙ ap (λ b. choose (cond b true (cond (is_default_scope (html_name name)) false (in_scope (is_html_named name) is_default_scope names))) (row_if b changes IsDone) ignored) k.itself) refl refl
+      (ap (pop_until_named name) (all_implied_none choices w (ap (first_passes is_implied) e ∙ k.not_implied))
+      ∙ cut_at w names (is_html_named name) (html_name name) e k.itself)
 
   -- of a `p`
   pub ends_p : names_of w ≡ html_name (codes "p") ∷ names → Moves choices (end_tag (codes "p")) w left

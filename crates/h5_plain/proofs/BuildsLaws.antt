@@ -6,7 +6,7 @@ use Rattle.h5_interface.specs.Changes.{append_text, mark}
 use Rattle.h5_interface.specs.Forest.{Child, ChildNode, ChildText, Forest, IsForest}
 use Rattle.h5_interface.specs.SinkChoices.{SinkChoices}
 use Rattle.h5_meaning.specs.Roles.{role_of, role_of_local}
-use Rattle.h5_tag_sets.specs.TagSets.{button_scope_names, heading_names, html_namespace, is_button_scope, is_default_scope, is_heading, is_html_named, is_table_body_context, is_table_row_context, is_table_scope, mathml_namespace, scope_names, svg_namespace, table_body_context_names, table_row_context_names, table_scope_names, void_names}
+use Rattle.h5_tag_sets.specs.TagSets.{button_scope_names, heading_names, html_namespace, is_button_scope, is_default_scope, is_foreign_special, is_heading, is_html_named, is_table_body_context, is_table_row_context, is_table_scope, mathml_namespace, scope_names, svg_namespace, table_body_context_names, table_row_context_names, table_scope_names, void_names}
 use Rattle.h5_types.specs.declared.modes.InsertionMode.{InsertionMode}
 use Rattle.h5_types.specs.declared.modes.InsertionMode.TheVariants.{InBody, InCell, InRow, InTable, InTableBody}
 use Rattle.h5_meaning.specs.FormattingNames.{html_name}
@@ -19,8 +19,8 @@ use Rattle.h5_meaning.specs.World.{World, names_of}
 use Rattle.h5_plain.specs.Plain.{Blocks, Break, Cell, Cells, Division, ElementThen, End, Formatted, Heading, Inlines, IsPlain, Item, ItemList, Items, Link, Nodes, Nothing, Paragraph, Rows, Section, Sections, Sort, Table, TableRow, TextThen, Words, end_tag, start_tag}
 use Rattle.h5_meaning.specs.FormattingList.{Entry, MarkerEntry, push_formatting}
 use Rattle.h5_plain.proofs.ListedLaws.{Entries, Fewer, Formats, Kept, Lost, OpenFormat, has_link}
-use Rattle.h5_plain.proofs.BodyRuleLaws.{IsHolder, div_holds, div_outside, div_rule, is_heading_name, p_holds, p_outside, p_rule}
-use Rattle.h5_plain.proofs.BodyStepLaws.{breaks, ends_div, ends_heading, ends_p, starts_block, starts_heading, writes}
+use Rattle.h5_plain.proofs.BodyRuleLaws.{IsBlockName, IsHolder, is_division_name, is_heading_name, p_holds, p_outside, p_rule}
+use Rattle.h5_plain.proofs.BodyStepLaws.{breaks, ends_block, ends_heading, ends_p, starts_block, starts_heading, writes}
 use Rattle.h5_plain.proofs.CalmLaws.{Built, Calm, Closed, Opens, after, built_nothing, calm_after, calm_below, element_case, opened}
 use Rattle.h5_plain.proofs.FilledLaws.{Face, face, filled_element, filled_nothing, filled_text, frame_element, frame_text, more, same_faces}
 use Rattle.h5_plain.proofs.FormatListLaws.{closed_fewer, entries_pushed, pushed_fewer, rest_fewer}
@@ -30,7 +30,7 @@ use Rattle.h5_plain.proofs.GoesLaws.{Moves}
 use Rattle.h5_plain.proofs.GrowthLaws.{body, html, with_element}
 use Rattle.h5_plain.proofs.HtmlLaws.{AtHtml}
 use Rattle.h5_plain.proofs.ListRuleLaws.{IsListName, is_list_name, item_holds}
-use Rattle.h5_plain.proofs.ListStepLaws.{ends_item, ends_list, starts_item}
+use Rattle.h5_plain.proofs.ListStepLaws.{ends_item, starts_item}
 use Rattle.h5_plain.proofs.LooksLaws.{ends_in_node, ends_in_text, unlike}
 use Rattle.h5_plain.proofs.ModeLaws.{GoesByBody, ResetsTo, TheBody, TheCell, resets_below, resets_to_cell}
 use Rattle.h5_plain.proofs.RuleLaws.{start}
@@ -52,33 +52,38 @@ abbrev pub Seam : Sort → List Child → Type 0
 Seam (Inlines false linked) cs = ends_in_text cs ≡ false
 Seam _ cs = Unit {0}
 
-in_division : (m : InsertionMode) (names : List QualName) → Fits Blocks m names → Fits Blocks m (html_name (codes "div") ∷ names)
-unfolding is_html_named is_button_scope is_default_scope is_heading html_namespace mathml_namespace svg_namespace scope_names button_scope_names heading_names role_of role_of_local
-in_division m names f = (f.0, (f.1.0, (refl, resets_below (html_name (codes "div")) names refl f.1.1.1)))
+-- a block has a `p` in button scope only if one around it has
+still_no_p : (name : List ℕ) (names : List QualName) → IsBlockName name → has_p_in_button_scope names ≡ false → has_p_in_button_scope (html_name name ∷ names) ≡ false
+still_no_p name names k h =
+    ap (λ b. cond b true (cond (is_button_scope (html_name name)) false (has_p_in_button_scope names))) k.no_p
+    ∙ ap (λ b. cond b false (has_p_in_button_scope names)) k.no_scope
+    ∙ h
+
+-- blocks may come in one that holds blocks
+in_division : (m : InsertionMode) (name : List ℕ) (names : List QualName) → IsBlockName name → Fits Blocks m names → Fits Blocks m (html_name name ∷ names)
+in_division m name names k f = (f.0, (still_no_p name names k f.1.0, (k.no_heading, resets_below (html_name name) names k.role f.1.1.1)))
 
 -- items may come in a list, which ends the search for an item, and blocks in an item
 in_list : (m : InsertionMode) (name : List ℕ) (names : List QualName) → IsListName name → Fits Blocks m names → Fits Items m (html_name name ∷ names)
 in_list m name names k f = (
   f.0,
   (
-    ap (λ b. cond b true (cond (is_button_scope (html_name name)) false (has_p_in_button_scope names))) k.no_p
-        ∙ ap (λ b. cond b false (has_p_in_button_scope names)) k.no_scope
-        ∙ f.1.0,
+    still_no_p name names k.block f.1.0,
     (
       ap (λ b. cond b (Some name) (cond (ends_item_search (html_name name)) None (newest_item list_item_names names))) k.no_item
           ∙ ap (λ b. cond b None (newest_item list_item_names names)) k.ends_search,
-      resets_below (html_name name) names k.role f.1.1.1,
+      resets_below (html_name name) names k.block.role f.1.1.1,
     ),
   ),
 )
 
 in_item : (m : InsertionMode) (names : List QualName) → Fits Items m names → Fits Blocks m (html_name (codes "li") ∷ names)
-unfolding is_html_named is_button_scope is_default_scope is_heading html_namespace mathml_namespace svg_namespace scope_names button_scope_names heading_names role_of role_of_local
+unfolding is_html_named is_button_scope is_default_scope is_foreign_special is_heading html_namespace mathml_namespace svg_namespace scope_names button_scope_names heading_names role_of role_of_local
 in_item m names f = (f.0, (f.1.0, (refl, resets_below (html_name (codes "li")) names refl f.1.1.1)))
 
 -- blocks may come in the body
 pub body_fits : (m : InsertionMode) → m ≡ InBody → Fits Blocks m (body ∷ html ∷ [])
-unfolding is_html_named is_button_scope is_default_scope is_heading html_namespace mathml_namespace svg_namespace scope_names button_scope_names heading_names role_of role_of_local
+unfolding is_html_named is_button_scope is_default_scope is_foreign_special is_heading html_namespace mathml_namespace svg_namespace scope_names button_scope_names heading_names role_of role_of_local
 body_fits m e = subst (λ k. Fits Blocks k (body ∷ html ∷ [])) (sym e) (TheBody, (refl, (refl, λ s. refl)))
 
 -- what a table and its parts hold may come in them
@@ -253,11 +258,12 @@ module _ (choices : SinkChoices) {w : World} {p : ℕ} {d : Face} {names : List 
 pub builds : (choices : SinkChoices) {s : Sort} {nodes : Nodes} → IsPlain s nodes → (w : World) (p : ℕ) (d : Face) (names : List QualName) (path : List OpenFormat) (under : List ℕ) (base : List Entry)
     → Fits s w.mode names → Seam s d.children → Unlinked s path → Calm w p d names (open_of s path) under base → Built choices w p d nodes (open_of s path) base
 builds choices Nothing w p d names path under base f z l c = built_nothing choices c
-builds choices (Division {attrs} {inner} {rest} a i r) w p d names path under base f z l c =
+builds choices (Division {name} {attrs} {inner} {rest} h a i r) w p d names path under base f z l c =
     let n = choices.fresh w.forest in
-    block_case choices c (codes "div") attrs inner rest div_holds (starts_block choices c (codes "div") attrs f.0 div_holds div_outside f.1.0 (div_rule attrs w))
-    (λ o. builds choices i (in_block choices c (codes "div") attrs) n (face (codes "div") attrs) (html_name (codes "div") ∷ names) [] (n ∷ w.stack) base (in_division w.mode names f) tt tt o)
-    (λ v m k j e. ends_div choices v names (subst GoesByBody (sym m) f.0) k j e)
+    let x = is_division_name name h in
+    block_case choices c name attrs inner rest x.holds (starts_block choices c name attrs f.0 x.holds x.outside f.1.0 (x.starts attrs w))
+    (λ o. builds choices i (in_block choices c name attrs) n (face name attrs) (html_name name ∷ names) [] (n ∷ w.stack) base (in_division w.mode name names x f) tt tt o)
+    (λ v m k j e. ends_block choices v names (subst GoesByBody (sym m) f.0) k j name x e)
     (λ g k b q. builds choices r (after w g k b) p (more d (ChildNode n ∷ [])) names path under base f tt tt q)
 builds choices (Paragraph {attrs} {inner} {rest} a i r) w p d names path under base f z l c =
     let n = choices.fresh w.forest in
@@ -275,9 +281,9 @@ builds choices (Heading {name} {attrs} {inner} {rest} h a i r) w p d names path 
 builds choices (ItemList {name} {attrs} {inner} {rest} h a i r) w p d names path under base f z l c =
     let n = choices.fresh w.forest in
     let x = is_list_name name h in
-    block_case choices c name attrs inner rest x.holds (starts_block choices c name attrs f.0 x.holds x.outside f.1.0 (x.starts attrs w))
+    block_case choices c name attrs inner rest x.block.holds (starts_block choices c name attrs f.0 x.block.holds x.block.outside f.1.0 (x.block.starts attrs w))
     (λ o. builds choices i (in_block choices c name attrs) n (face name attrs) (html_name name ∷ names) [] (n ∷ w.stack) base (in_list w.mode name names x f) tt tt o)
-    (λ v m k j e. ends_list choices v names (subst GoesByBody (sym m) f.0) k j name x e)
+    (λ v m k j e. ends_block choices v names (subst GoesByBody (sym m) f.0) k j name x.block e)
     (λ g k b q. builds choices r (after w g k b) p (more d (ChildNode n ∷ [])) names path under base f tt tt q)
 builds choices (Item {attrs} {inner} {rest} a i r) w p d names path under base f z l c =
     let n = choices.fresh w.forest in

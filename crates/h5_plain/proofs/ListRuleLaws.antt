@@ -1,19 +1,19 @@
 -- The rules that the tags of lists and their items follow in the body, and what their names are.
 use Rattle.std.proofs.Common.{◌≡◌, ℕ, true, false, List, codes, refl}
 use Rattle.h5_names.specs.AttributeText.{AttributeText}
-use Rattle.h5_meaning.specs.Roles.{PlainRole, role_of, role_of_local}
-use Rattle.h5_tag_sets.specs.TagSets.{block_end_names, block_start_names, button_scope_names, cell_names, heading_names, html_namespace, implied_names, is_button_scope, is_default_scope, is_html_named, is_implied, is_one_of, is_special, mathml_namespace, scope_names, special_names, svg_namespace, void_names}
+use Rattle.h5_meaning.specs.Roles.{role_of, role_of_local}
+use Rattle.h5_tag_sets.specs.TagSets.{block_end_names, block_start_names, button_scope_names, cell_names, heading_names, html_namespace, implied_names, is_button_scope, is_default_scope, is_foreign_special, is_heading, is_html_named, is_implied, is_one_of, is_special, mathml_namespace, scope_names, special_names, svg_namespace, void_names}
 use Rattle.h5_types.specs.TurnText.{TagTurn}
 use Rattle.h5_types.specs.declared.modes.InsertionMode.TheVariants.{InBody}
 use Rattle.h5_meaning.specs.FormattingNames.{html_name}
 use Rattle.h5_meaning.specs.Closing.{ends_item_search, is_html_among, passed_names}
-use Rattle.h5_meaning.specs.InBody.{in_body_end, in_body_end_block, in_body_end_li, in_body_preformatted, in_body_start, in_body_start_block, in_body_start_item, in_body_tag, list_item_names}
+use Rattle.h5_meaning.specs.InBody.{in_body_end, in_body_end_li, in_body_preformatted, in_body_start, in_body_start_item, in_body_tag, list_item_names}
 use Rattle.h5_meaning.specs.InCell.{in_cell_closing_ends, in_cell_ignored_ends}
 use Rattle.h5_meaning.specs.Modes.{rule}
 use Rattle.h5_meaning.specs.Shared.{head_start_names, table_structure_names}
 use Rattle.h5_meaning.specs.World.{World}
 use Rattle.h5_plain.specs.Plain.{list_names}
-use Rattle.h5_plain.proofs.BodyRuleLaws.{IsHolder, of_each}
+use Rattle.h5_plain.proofs.BodyRuleLaws.{IsBlockName, IsHolder, of_each}
 use Rattle.h5_plain.proofs.ModeLaws.{IsOutside}
 use Rattle.h5_plain.proofs.RuleLaws.{end, start}
 use Rattle.h5_meaning.proofs.ByNameLaws.{HoldsOfAll}
@@ -36,25 +36,17 @@ pub item_outside : IsOutside (codes "li")
 unfolding table_structure_names cell_names in_cell_closing_ends in_cell_ignored_ends
 item_outside = record { no_structure = refl; no_cell = refl; closes_none = refl; not_ignored = refl }
 
--- a list: it ends the search for an item; it is no `p`, and doesn't end the scope of one
+-- a list: a block that ends the search for an item
 pub record IsListName (name : List ℕ) : Type 0 where
-  pub holds : IsHolder name
-  pub starts : (a : List AttributeText) (w : World) → rule InBody (TagTurn (start name a)) w ≡ in_body_start_block (start name a) w
-  pub ends : (w : World) → rule InBody (TagTurn (end name)) w ≡ in_body_end_block (end name) w
-  pub itself : is_html_named name (html_name name) ≡ true
-  pub not_implied : is_implied (html_name name) ≡ false
-  pub no_p : is_html_named (codes "p") (html_name name) ≡ false
-  pub no_scope : is_button_scope (html_name name) ≡ false
+  pub block : IsBlockName name
   pub no_item : is_html_among list_item_names (html_name name) ≡ false
   pub ends_search : ends_item_search (html_name name) ≡ true
-  pub role : role_of (html_name name) ≡ PlainRole
-  pub outside : IsOutside name
 
 lists : HoldsOfAll IsListName list_names
-unfolding list_names void_names html_namespace mathml_namespace svg_namespace in_body_tag in_body_start head_start_names in_body_end block_start_names block_end_names is_html_named is_implied implied_names is_button_scope is_default_scope scope_names button_scope_names list_item_names is_special special_names passed_names role_of role_of_local table_structure_names cell_names in_cell_closing_ends in_cell_ignored_ends
+unfolding list_names void_names html_namespace mathml_namespace svg_namespace in_body_tag in_body_start head_start_names in_body_end block_start_names block_end_names is_html_named is_implied implied_names is_button_scope is_default_scope is_foreign_special scope_names button_scope_names is_heading heading_names list_item_names is_special special_names passed_names role_of role_of_local table_structure_names cell_names in_cell_closing_ends in_cell_ignored_ends
 lists = (
-  record { holds = record { has_end = refl; no_template = refl; no_title = refl }; starts = λ a w. refl; ends = λ w. refl; itself = refl; not_implied = refl; no_p = refl; no_scope = refl; no_item = refl; ends_search = refl; role = refl; outside = record { no_structure = refl; no_cell = refl; closes_none = refl; not_ignored = refl } },
-  (record { holds = record { has_end = refl; no_template = refl; no_title = refl }; starts = λ a w. refl; ends = λ w. refl; itself = refl; not_implied = refl; no_p = refl; no_scope = refl; no_item = refl; ends_search = refl; role = refl; outside = record { no_structure = refl; no_cell = refl; closes_none = refl; not_ignored = refl } }, tt),
+  record { block = record { holds = record { has_end = refl; no_template = refl; no_title = refl }; starts = λ a w. refl; ends = λ w. refl; itself = refl; not_implied = refl; no_heading = refl; no_p = refl; no_scope = refl; role = refl; outside = record { no_structure = refl; no_cell = refl; closes_none = refl; not_ignored = refl } }; no_item = refl; ends_search = refl },
+  (record { block = record { holds = record { has_end = refl; no_template = refl; no_title = refl }; starts = λ a w. refl; ends = λ w. refl; itself = refl; not_implied = refl; no_heading = refl; no_p = refl; no_scope = refl; role = refl; outside = record { no_structure = refl; no_cell = refl; closes_none = refl; not_ignored = refl } }; no_item = refl; ends_search = refl }, tt),
 )
 
 -- `ul` and `ol` are lists

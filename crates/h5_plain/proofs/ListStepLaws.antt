@@ -1,26 +1,26 @@
 -- What a tag of a list, or of an item of one, does in the body, or in a cell, which goes by the body for it.
-use Rattle.std.proofs.Common.{◌≡◌, ◌∙◌, ℕ, true, false, ◌&&◌, not, is_none, cond, List, [], ◌∷◌, None, codes, refl, ap}
+use Rattle.std.proofs.Common.{◌≡◌, ◌∙◌, ℕ, true, false, ◌&&◌, not, is_none, List, [], ◌∷◌, None, codes, refl, ap}
 use Rattle.h5_names.specs.AttributeText.{AttributeText}
 use Rattle.h5_names.specs.declared.qualified.QualName.{QualName}
 use Rattle.h5_interface.specs.Forest.{IsForest}
 use Rattle.h5_interface.specs.SinkChoices.{SinkChoices}
-use Rattle.h5_tag_sets.specs.TagSets.{html_namespace, implied_names, is_default_scope, is_html_named, is_implied, is_list_item_scope}
+use Rattle.h5_tag_sets.specs.TagSets.{html_namespace, implied_names, is_html_named, is_implied, is_list_item_scope}
 use Rattle.h5_meaning.specs.FormattingList.{Entry}
 use Rattle.h5_meaning.specs.FormattingNames.{html_name}
 use Rattle.h5_meaning.specs.Scope.{first_passes, has_p_in_button_scope, in_scope, is_implied_but}
 use Rattle.h5_meaning.specs.Changes.{insert_element, pop_until_named, set_frameset_not_ok}
 use Rattle.h5_meaning.specs.Closing.{close_item, close_list_item, close_p_element_in_button_scope, newest_item}
-use Rattle.h5_meaning.specs.InBody.{in_body_end_block, in_body_end_li, list_item_names}
-use Rattle.h5_meaning.specs.Rows.{Change, CloseListItem, ClosePElementInButtonScope, GenerateImpliedEnd, GenerateImpliedEndExcept, InsertElement, IsDone, PopUntilNamed, SetFramesetNotOk, choose, ignored, row_if}
+use Rattle.h5_meaning.specs.InBody.{in_body_end_li, list_item_names}
+use Rattle.h5_meaning.specs.Rows.{Change, CloseListItem, ClosePElementInButtonScope, GenerateImpliedEndExcept, InsertElement, IsDone, PopUntilNamed, SetFramesetNotOk, choose, ignored, row_if}
 use Rattle.h5_meaning.specs.World.{World, names_of}
-use Rattle.h5_meaning.proofs.PopLaws.{all_implied_none, implied_none}
+use Rattle.h5_meaning.proofs.PopLaws.{implied_none}
 use Rattle.h5_plain.specs.Plain.{end_tag, start_tag}
 use Rattle.h5_plain.proofs.BodyStepLaws.{cut_at, insert_is, left, no_p, none_closed}
 use Rattle.h5_plain.proofs.CalmLaws.{Calm, calm_html, names_are, opened}
 use Rattle.h5_plain.proofs.FilledLaws.{Face, same_faces}
 use Rattle.h5_plain.proofs.GoesLaws.{Moves, moves_row}
 use Rattle.h5_plain.proofs.HtmlLaws.{AtHtml}
-use Rattle.h5_plain.proofs.ListRuleLaws.{IsListName, item_end_rule, item_outside, item_rule}
+use Rattle.h5_plain.proofs.ListRuleLaws.{item_end_rule, item_outside, item_rule}
 use Rattle.h5_plain.proofs.ListedLaws.{OpenFormat}
 use Rattle.h5_plain.proofs.ModeLaws.{GoesByBody, end_by_body, start_by_body}
 use Rattle.h5_plain.proofs.RuleLaws.{end, start}
@@ -72,19 +72,6 @@ starts_item choices {w} {p} {d} {names} c attrs m h i =
 
 -- end tags: the current node leaves the stack, and nothing else changes
 module _ (choices : SinkChoices) (w : World) (names : List QualName) (m : GoesByBody w.mode) (i : w.ignore_lf ≡ false) (j : AtHtml w) where
-  -- of a list
-  pub ends_list : (name : List ℕ) → IsListName name → names_of w ≡ html_name name ∷ names → Moves choices (end_tag name) w (left choices w names m i j)
-  unfolding in_body_end_block pop_until_named
-  ends_list name k e =
-      let changes : List Change = GenerateImpliedEnd ∷ PopUntilNamed name ∷ [] in
-      moves_row choices (end name) w (left choices w names m i j) w.mode changes refl i j
-      (end_by_body m name w k.outside
-      ∙ k.ends w
-      ∙ ap (λ ns. choose (in_scope (is_html_named name) is_default_scope ns) (row_if (first_passes (is_html_named name) ns) changes IsDone) ignored) e
-      ∙ ap (λ b. choose (cond b true (cond (is_default_scope (html_name name)) false (in_scope (is_html_named name) is_default_scope names))) (row_if b changes IsDone) ignored) k.itself) refl refl
-      (ap (pop_until_named name) (all_implied_none choices w (ap (first_passes is_implied) e ∙ k.not_implied))
-      ∙ cut_at w names (is_html_named name) (html_name name) e k.itself)
-
   -- of a `li`
   item_ends : names_of w ≡ html_name (codes "li") ∷ names → Moves choices (end_tag (codes "li")) w (left choices w names m i j)
   unfolding in_body_end_li is_html_named html_namespace is_implied implied_names pop_until_named

@@ -2,7 +2,7 @@
 use Rattle.std.proofs.Common.{◌≡◌, ℕ, true, false, List, [], ◌∷◌, codes, refl}
 use Rattle.h5_names.specs.AttributeText.{AttributeText}
 use Rattle.h5_meaning.specs.Roles.{CellRole, role_of, role_of_local}
-use Rattle.h5_tag_sets.specs.TagSets.{button_scope_names, cell_names, formatting_names, block_start_names, heading_names, html_namespace, implied_names, is_button_scope, is_default_scope, is_heading, is_html_named, is_implied, is_one_of, is_table_body_context, is_table_row_context, is_table_scope, mathml_namespace, scope_names, svg_namespace, void_names}
+use Rattle.h5_tag_sets.specs.TagSets.{button_scope_names, cell_names, formatting_names, block_start_names, heading_names, html_namespace, implied_names, is_button_scope, is_default_scope, is_foreign_special, is_heading, is_html_named, is_implied, is_one_of, is_table_body_context, is_table_row_context, is_table_scope, mathml_namespace, scope_names, svg_namespace, void_names}
 use Rattle.h5_types.specs.TurnText.{TagTurn}
 use Rattle.h5_types.specs.declared.modes.InsertionMode.TheVariants.{InBody, InCell, InRow, InTable, InTableBody}
 use Rattle.h5_meaning.specs.FormattingNames.{html_name}
@@ -77,7 +77,7 @@ pub record IsCellName (name : List ℕ) : Type 0 where
   pub role : role_of (html_name name) ≡ CellRole
 
 cells : HoldsOfAll IsCellName cell_names
-unfolding cell_names void_names html_namespace mathml_namespace svg_namespace in_row_tag in_row_start in_cell_tag in_cell_end is_html_named is_implied implied_names is_button_scope is_default_scope scope_names button_scope_names is_heading heading_names role_of role_of_local
+unfolding cell_names void_names html_namespace mathml_namespace svg_namespace in_row_tag in_row_start in_cell_tag in_cell_end is_html_named is_implied implied_names is_button_scope is_default_scope is_foreign_special scope_names button_scope_names is_heading heading_names role_of role_of_local
 cells = (
   record { holds = record { has_end = refl; no_template = refl; no_title = refl }; starts = λ a w. refl; ends = λ w. refl; itself = refl; not_implied = refl; no_p = refl; ends_scope = refl; no_heading = refl; role = refl },
   (record { holds = record { has_end = refl; no_template = refl; no_title = refl }; starts = λ a w. refl; ends = λ w. refl; itself = refl; not_implied = refl; no_p = refl; ends_scope = refl; no_heading = refl; role = refl }, tt),

@@ -48,6 +48,10 @@ NoNul (b ∷ t) = (b ≢ 0) × NoNul t
 unfoldable pub inline_names : List (List ℕ)
 inline_names = codes "b" ∷ codes "i" ∷ codes "em" ∷ codes "code" ∷ []
 
+-- the blocks that hold blocks
+unfoldable pub division_names : List (List ℕ)
+division_names = codes "div" ∷ codes "search" ∷ []
+
 -- lists of items
 unfoldable pub list_names : List (List ℕ)
 list_names = codes "ul" ∷ codes "ol" ∷ []
@@ -65,9 +69,9 @@ pub data Sort : Type 0 where
 -- which lists of nodes are plain
 pub data IsPlain : Sort → Nodes → Type 0 where
   Nothing : {s : Sort} → IsPlain s End
-  -- a `div` of blocks
-  Division : {attrs : List AttributeText} {inner rest : Nodes} → ArePlain attrs → IsPlain Blocks inner → IsPlain Blocks rest
-      → IsPlain Blocks (ElementThen (codes "div") attrs inner rest)
+  -- a `div` or `search` of blocks
+  Division : {name : List ℕ} {attrs : List AttributeText} {inner rest : Nodes} → is_one_of division_names name ≡ true → ArePlain attrs
+      → IsPlain Blocks inner → IsPlain Blocks rest → IsPlain Blocks (ElementThen name attrs inner rest)
   -- a `p` of inlines
   Paragraph : {attrs : List AttributeText} {inner rest : Nodes} → ArePlain attrs → IsPlain (Inlines false false) inner → IsPlain Blocks rest
       → IsPlain Blocks (ElementThen (codes "p") attrs inner rest)
@@ -97,7 +101,8 @@ pub data IsPlain : Sort → Nodes → Type 0 where
   -- a `b`, `i`, `em` or `code` of inlines
   Formatted : {after_text linked : Bool} {name : List ℕ} {attrs : List AttributeText} {inner rest : Nodes} → is_one_of inline_names name ≡ true → ArePlain attrs
       → IsPlain (Inlines false linked) inner → IsPlain (Inlines false linked) rest → IsPlain (Inlines after_text linked) (ElementThen name attrs inner rest)
-  -- a link, which is an `a` of inlines, outside of any other
+  -- a link, which is an `a` of inlines, outside of any other: the start tag of one in it would close it, and the document wouldn't
+  -- be rebuilt
   Link : {after_text : Bool} {attrs : List AttributeText} {inner rest : Nodes} → ArePlain attrs
       → IsPlain (Inlines false true) inner → IsPlain (Inlines false false) rest → IsPlain (Inlines after_text false) (ElementThen (codes "a") attrs inner rest)
 

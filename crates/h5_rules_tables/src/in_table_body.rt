@@ -73,19 +73,19 @@ fn in_table_body_end_section<S: TreeSink>(
     }
 }
 
-/// Whether this is what closes a row group in table scope: a `table`, `tbody` or `tfoot`.
+/// Whether an element is a row group.
 #[derive(Clone, Copy)]
-struct TableOrSection;
+struct TableSection;
 
-impl NameTest for TableOrSection {
-    ghost use Rattle.h5_meaning.specs.InTableBody.{is_table_or_section};
+impl NameTest for TableSection {
+    ghost use Rattle.h5_meaning.specs.InTableBody.{is_table_section};
 
-    ghost holds = { λ t name. is_table_or_section name };
+    ghost holds = { λ t name. is_table_section name };
 
     fn test(&self, name: &QualName) -> bool {
-        is_html_known(name, KnownName::Table)
-            || is_html_known(name, KnownName::Tbody)
+        is_html_known(name, KnownName::Tbody)
             || is_html_known(name, KnownName::Tfoot)
+            || is_html_known(name, KnownName::Thead)
     }
 }
 
@@ -100,7 +100,7 @@ fn in_table_body_close<S: TreeSink>(
     requires ready { IsReady (world_of S.TreeSink sink.old state.old) }
     ensures { TakesTag S.TreeSink in_table_body_close tag sink.old state.old sink.new state.new result }
 {
-    if has_in_table_scope(sink, state, &TableOrSection) {
+    if has_in_table_scope(sink, state, &TableSection) {
         clear_to_table_body_context(sink, state);
         pop(sink, state);
         Ok(ProcessResult::Reprocess(InsertionMode::InTable, Token::Tag(tag)))

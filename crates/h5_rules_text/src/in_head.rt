@@ -1,5 +1,5 @@
 //! Start tags by the rules of the head, also where other modes go by them (HTML standard, section 13.2.6.4.4).
-ghost use Rattle.h5_meaning.specs.InHead.{in_head_else, in_head_start_link, in_head_start_noscript, in_head_start_script, in_head_start_tag};
+ghost use Rattle.h5_meaning.specs.InHead.{in_head_else, in_head_start_link, in_head_start_meta, in_head_start_noscript, in_head_start_script, in_head_start_tag};
 ghost use Rattle.h5_state.specs.Steps.{IsOpen, IsSound};
 ghost use Rattle.h5_state.specs.Turn.{TakesTag, TakesToken};
 
@@ -16,8 +16,7 @@ use h5_token::states::RawKind;
 use h5_token::{Tag, TokenSinkResult};
 use h5_types::{InsertionMode, ProcessResult, Token};
 
-// A start tag `base`, `basefont`, `bgsound`, `link` or `meta`: the element is empty, and an encoding that the tag names is
-// answered.
+// A start tag `base`, `basefont`, `bgsound` or `link`: the element is empty.
 fn in_head_start_link<S: TreeSink>(
     sink: &mut S,
     state: &mut State<S::Handle>,
@@ -25,6 +24,20 @@ fn in_head_start_link<S: TreeSink>(
 ) -> Turn<S::Handle>
     requires { IsSound S.TreeSink sink.old state.old }
     ensures { TakesTag S.TreeSink in_head_start_link tag sink.old state.old sink.new state.new result }
+{
+    let attrs = tag.attrs;
+    insert_and_pop_element(sink, state, tag.name, attrs, tag.had_duplicate_attributes)?;
+    Ok(ProcessResult::DoneAckSelfClosing)
+}
+
+// A start tag `meta`: the element is empty, and an encoding that the tag names is answered.
+fn in_head_start_meta<S: TreeSink>(
+    sink: &mut S,
+    state: &mut State<S::Handle>,
+    tag: Tag,
+) -> Turn<S::Handle>
+    requires { IsSound S.TreeSink sink.old state.old }
+    ensures { TakesTag S.TreeSink in_head_start_meta tag sink.old state.old sink.new state.new result }
 {
     let encoding = copy_named_encoding(state.alloc, &tag)?;
     let attrs = tag.attrs;
@@ -94,6 +107,8 @@ pub fn in_head_start_tag<S: TreeSink>(
         in_body_start_html(sink, state, tag)
     } else if is_head_link(&tag.name) {
         in_head_start_link(sink, state, tag)
+    } else if tag.name.is(KnownName::Meta) {
+        in_head_start_meta(sink, state, tag)
     } else if tag.name.is(KnownName::Title) {
         parse_raw_data(sink, state, tag, RawKind::Rcdata)
     } else if is_head_raw(&tag.name) {

@@ -9,7 +9,7 @@ ghost use Rattle.h5_meaning.specs.Shared.{head_start_names};
 use h5_names::{KnownName, LocalName};
 use h5_rules_shared::is_any_of;
 
-/// Whether this names an element that is empty, in the head.
+/// Whether this names an element that is empty, in the head, and no `meta`.
 #[tactic(auto, unfolding(h5_meaning::specs::InHead::in_head_links))]
 pub(crate) fn is_head_link(name: &LocalName) -> bool
     ensures { result ≡ is_one_of in_head_links name.now }
@@ -21,7 +21,6 @@ pub(crate) fn is_head_link(name: &LocalName) -> bool
             KnownName::Basefont,
             KnownName::Bgsound,
             KnownName::Link,
-            KnownName::Meta,
         ],
     )
 }

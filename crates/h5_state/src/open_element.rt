@@ -5,7 +5,7 @@ ghost use Rattle.h5_names.specs.declared.qualified.QualName.{QualName as NameTex
 ghost use Rattle.h5_state.specs.Summaries.{all_open, html_number, name_number, summary_of, text_number};
 
 use h5_names::{KnownName, LocalName, QualName};
-use h5_tag_sets::{NameSet, default_scope};
+use h5_tag_sets::{NameSet, cursory_implied_end, default_scope, special_tag};
 
 /// What is known of some open elements, from the root up to one of them.
 #[derive(Clone, Copy)]
@@ -71,16 +71,14 @@ pub struct Summary {
 impl Summary {
     /// What is kept of an element of this name, where this is known of all older ones.
     #[inline(always)]
-    #[tactic(auto, unfolding(h5_tag_sets::specs::TagSets::html_namespace, h5_tag_sets::specs::TagSets::is_special, h5_tag_sets::specs::TagSets::is_implied))]
     pub fn new(name: &QualName, older: AllOpen) -> Summary
         requires { older.templates < usize.MAX }
         ensures { (names : List NameText) → older ≡ all_open names → result ≡ summary_of name.now names }
     {
-        let (html, local) = (name.ns.is_html(), &name.local);
         Summary {
             number: name_number(name),
-            special: html & NameSet::Special.holds(local),
-            implied: html & NameSet::CursoryImpliedEnd.holds(local),
+            special: special_tag(name),
+            implied: cursory_implied_end(name),
             all: older.with_newest(name),
         }
     }

@@ -1,8 +1,8 @@
 -- The sets of local names.
 use Rattle.std.specs.Prelude.{ℕ, ◌==◌, ◌^◌, Bool, List, bit_and, not}
 use Rattle.h5_tag_sets.specs.declared.name_sets.NameSet.{NameSet}
-use Rattle.h5_tag_sets.specs.declared.name_sets.NameSet.TheVariants.{Special, DefaultScope, ListItemScope, ButtonScope, TableScope, TableBodyContext, TableRowContext, CursoryImpliedEnd, ThoroughImpliedEnd, Heading, BodyEndOk, HeadContent, Formatting, TdTh, TableOuter, MathMlTextPoint, SvgHtmlPoint, Void, RawText, BlockStart, BlockEnd}
-use Rattle.h5_tag_sets.specs.TagSets.{special_names, scope_names, list_item_scope_names, button_scope_names, table_scope_names, table_body_context_names, table_row_context_names, implied_names, thorough_implied_names, heading_names, body_end_names, head_content_names, formatting_names, cell_names, table_outer_names, mathml_text_points, svg_html_points, void_names, raw_names, block_start_names, block_end_names}
+use Rattle.h5_tag_sets.specs.declared.name_sets.NameSet.TheVariants.{Special, DefaultScope, ListItemScope, ButtonScope, TableScope, TableBodyContext, TableRowContext, CursoryImpliedEnd, ThoroughImpliedEnd, Heading, BodyEndOk, HeadContent, Formatting, TdTh, TableOuter, MathMlTextPoint, MathMlSpecial, SvgHtmlPoint, Void, RawText, BlockStart, BlockEnd}
+use Rattle.h5_tag_sets.specs.TagSets.{special_names, scope_names, list_item_scope_names, button_scope_names, table_scope_names, table_body_context_names, table_row_context_names, implied_names, thorough_implied_names, heading_names, body_end_names, head_content_names, formatting_names, cell_names, table_outer_names, mathml_text_points, mathml_special_names, svg_html_points, void_names, raw_names, block_start_names, block_end_names}
 
 -- the names that a set holds
 abbrev pub names_of : NameSet → List (List ℕ)
@@ -22,6 +22,7 @@ names_of Formatting = formatting_names
 names_of TdTh = cell_names
 names_of TableOuter = table_outer_names
 names_of MathMlTextPoint = mathml_text_points
+names_of MathMlSpecial = mathml_special_names
 names_of SvgHtmlPoint = svg_html_points
 names_of Void = void_names
 names_of RawText = raw_names
@@ -46,11 +47,12 @@ flag_of Formatting = 2 ^ 12
 flag_of TdTh = 2 ^ 13
 flag_of TableOuter = 2 ^ 14
 flag_of MathMlTextPoint = 2 ^ 15
-flag_of SvgHtmlPoint = 2 ^ 16
-flag_of Void = 2 ^ 17
-flag_of RawText = 2 ^ 18
-flag_of BlockStart = 2 ^ 19
-flag_of BlockEnd = 2 ^ 20
+flag_of MathMlSpecial = 2 ^ 16
+flag_of SvgHtmlPoint = 2 ^ 17
+flag_of Void = 2 ^ 18
+flag_of RawText = 2 ^ 19
+flag_of BlockStart = 2 ^ 20
+flag_of BlockEnd = 2 ^ 21
 
 -- whether the bit of a set is on
 abbrev pub has_flag : ℕ → NameSet → Bool

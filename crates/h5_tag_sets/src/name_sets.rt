@@ -41,6 +41,8 @@ pub enum NameSet {
     TableOuter,
     /// Text integration points, of MathML.
     MathMlTextPoint,
+    /// Special elements of MathML, which end a scope, too.
+    MathMlSpecial,
     /// HTML integration points, of SVG.
     SvgHtmlPoint,
     /// Elements that are written without content.
@@ -85,6 +87,8 @@ const TABLE_OUTER: u32 = 1 << NameSet::TableOuter as u32;
 
 const MATHML_TEXT_POINT: u32 = 1 << NameSet::MathMlTextPoint as u32;
 
+const MATHML_SPECIAL: u32 = 1 << NameSet::MathMlSpecial as u32;
+
 const SVG_HTML_POINT: u32 = 1 << NameSet::SvgHtmlPoint as u32;
 
 const VOID: u32 = 1 << NameSet::Void as u32;
@@ -113,7 +117,7 @@ static FLAGS: [u32; 221] = [
     0, // animatemotion
     0, // animateTransform
     0, // animatetransform
-    0, // annotation-xml
+    MATHML_SPECIAL, // annotation-xml
     SPECIAL | DEFAULT_SCOPE, // applet
     SPECIAL | VOID, // area
     SPECIAL | BLOCK_START | BLOCK_END, // article
@@ -235,7 +239,7 @@ static FLAGS: [u32; 221] = [
     SPECIAL | VOID, // img
     SPECIAL | VOID, // input
     SPECIAL, // isindex
-    VOID, // keygen
+    SPECIAL | VOID, // keygen
     0, // lang
     SPECIAL | CURSORY_IMPLIED_END | THOROUGH_IMPLIED_END | BODY_END_OK, // li
     0, // linearGradient
@@ -250,11 +254,11 @@ static FLAGS: [u32; 221] = [
     SPECIAL | HEAD_CONTENT | VOID, // meta
     0, // method
     0, // mglyph
-    MATHML_TEXT_POINT, // mi
-    MATHML_TEXT_POINT, // mn
-    MATHML_TEXT_POINT, // mo
-    MATHML_TEXT_POINT, // ms
-    MATHML_TEXT_POINT, // mtext
+    MATHML_TEXT_POINT | MATHML_SPECIAL, // mi
+    MATHML_TEXT_POINT | MATHML_SPECIAL, // mn
+    MATHML_TEXT_POINT | MATHML_SPECIAL, // mo
+    MATHML_TEXT_POINT | MATHML_SPECIAL, // ms
+    MATHML_TEXT_POINT | MATHML_SPECIAL, // mtext
     0, // name
     SPECIAL | BLOCK_START | BLOCK_END, // nav
     FORMATTING, // nobr
@@ -279,7 +283,7 @@ static FLAGS: [u32; 221] = [
     0, // ruby
     FORMATTING, // s
     SPECIAL | HEAD_CONTENT | RAW_TEXT, // script
-    BLOCK_START | BLOCK_END, // search
+    SPECIAL | BLOCK_START | BLOCK_END, // search
     SPECIAL | BLOCK_START | BLOCK_END, // section
     SPECIAL | DEFAULT_SCOPE | BLOCK_END, // select
     0, // shadowrootmode

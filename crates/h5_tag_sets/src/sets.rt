@@ -1,7 +1,7 @@
 //! Sets of elements.
 ghost use Rattle.std.specs.Prelude.{◌≡◌};
 ghost use Rattle.h5_names.specs.KnownNames.{name_text};
-ghost use Rattle.h5_tag_sets.specs.TagSets.{is_body_end_ok, is_button_scope, is_cell, is_default_scope, is_formatting, is_head_content, is_heading, is_html_named, is_implied, is_list_item_scope, is_mathml_text_point, is_special, is_svg_html_point, is_table_body_context, is_table_outer, is_table_row_context, is_table_scope, is_thorough_implied};
+ghost use Rattle.h5_tag_sets.specs.TagSets.{is_body_end_ok, is_button_scope, is_cell, is_default_scope, is_foreign_special, is_formatting, is_head_content, is_heading, is_html_named, is_implied, is_list_item_scope, is_mathml_text_point, is_special, is_svg_html_point, is_table_body_context, is_table_outer, is_table_row_context, is_table_scope, is_thorough_implied};
 
 use super::NameSet;
 use h5_names::{KnownName, LocalName, QualName};
@@ -31,23 +31,30 @@ pub fn is_html_known(name: &QualName, known: KnownName) -> bool
     name.local.is(known) && name.ns.is_html()
 }
 
+// Whether an element of MathML or SVG is special. Each such element ends a scope, too, and no other of MathML or SVG does.
+#[tactic(auto, unfolding(crate::specs::TagSets::is_foreign_special, crate::specs::TagSets::mathml_namespace, crate::specs::TagSets::svg_namespace))]
+fn foreign_special(name: &QualName) -> bool
+    ensures { result ≡ is_foreign_special name.now }
+{
+    (name.ns.is_mathml() && NameSet::MathMlSpecial.holds(&name.local))
+        || (name.ns.is_svg() && NameSet::SvgHtmlPoint.holds(&name.local))
+}
+
 /// Whether an element is special (HTML standard, section 13.2.4.2, "The stack of open elements").
 #[tactic(auto, unfolding(crate::specs::TagSets::is_special, crate::specs::TagSets::html_namespace))]
 pub fn special_tag(name: &QualName) -> bool
     ensures { result ≡ is_special name.now }
 {
-    name.ns.is_html() && NameSet::Special.holds(&name.local)
+    (name.ns.is_html() && NameSet::Special.holds(&name.local)) || foreign_special(name)
 }
 
 /// Whether an element ends a scope (HTML standard, section 13.2.4.2, "have a particular element in
 /// scope").
-#[tactic(auto, unfolding(crate::specs::TagSets::is_default_scope, crate::specs::TagSets::html_namespace, crate::specs::TagSets::mathml_namespace, crate::specs::TagSets::svg_namespace))]
+#[tactic(auto, unfolding(crate::specs::TagSets::is_default_scope, crate::specs::TagSets::html_namespace))]
 pub fn default_scope(name: &QualName) -> bool
     ensures { result ≡ is_default_scope name.now }
 {
-    (name.ns.is_html() && NameSet::DefaultScope.holds(&name.local))
-        || (name.ns.is_mathml() && NameSet::MathMlTextPoint.holds(&name.local))
-        || (name.ns.is_svg() && NameSet::SvgHtmlPoint.holds(&name.local))
+    (name.ns.is_html() && NameSet::DefaultScope.holds(&name.local)) || foreign_special(name)
 }
 
 /// Whether an element ends a list item scope (HTML standard, section 13.2.4.2, "have a particular element

@@ -72,16 +72,35 @@ fn local_names_are_in_their_sets(rt: HostRuntime) {
 #[test]
 fn texts_of_mathml_are_points(rt: HostRuntime) -> Result<(), Fail> {
     let text = foreign(rt.alloc(), namespaces::MATHML, KnownName::Mtext)?;
-    assert!(rt; mathml_text_integration_point(&text) && default_scope(&text));
+    assert!(rt; mathml_text_integration_point(&text));
+    assert!(rt; special_tag(&text) && default_scope(&text));
     Ok(())
 }
 
 #[test]
-fn titles_are_points_in_svg_and_special_in_html(rt: HostRuntime) -> Result<(), Fail> {
+fn annotations_are_special_in_mathml_and_no_points(rt: HostRuntime) -> Result<(), Fail> {
+    let annotation = foreign(rt.alloc(), namespaces::MATHML, KnownName::AnnotationXml)?;
+    assert!(rt; special_tag(&annotation) && default_scope(&annotation));
+    assert!(rt; !mathml_text_integration_point(&annotation));
+    let other = html(KnownName::AnnotationXml);
+    assert!(rt; !special_tag(&other) && !default_scope(&other));
+    Ok(())
+}
+
+#[test]
+fn searches_are_special_and_end_no_scope(rt: HostRuntime) {
+    let search = html(KnownName::Search);
+    assert!(rt; special_tag(&search) && special_tag(&html(KnownName::Keygen)));
+    assert!(rt; !default_scope(&search));
+}
+
+#[test]
+fn titles_are_points_in_svg_and_special_in_svg_and_html(rt: HostRuntime) -> Result<(), Fail> {
     let drawn = foreign(rt.alloc(), namespaces::SVG, KnownName::Title)?;
     let other = foreign(rt.alloc(), namespaces::MATHML, KnownName::Title)?;
     let title = html(KnownName::Title);
     assert!(rt; svg_html_integration_point(&drawn) && default_scope(&drawn));
+    assert!(rt; special_tag(&drawn));
     assert!(rt; special_tag(&title) && !svg_html_integration_point(&title));
     assert!(rt; !special_tag(&other) && !svg_html_integration_point(&other));
     Ok(())
