@@ -55,7 +55,7 @@ not_cr_by false m xs e h = refl
 not_cr : (x : ℕ) (xs : List ℕ) → literal (13 ∷ []) (x ∷ xs) ≡ No → eqb x 13 ≡ false
 not_cr x xs h = not_cr_by (eqb x 13) (literal [] xs) xs refl h
 
-one_byte : (references : Bool) (x : ℕ) (xs : List ℕ) → IsPlainAt references (x ∷ xs) → text_of references (x ∷ xs) ≡ x ∷ text_of references xs
+pub one_byte : (references : Bool) (x : ℕ) (xs : List ℕ) → IsPlainAt references (x ∷ xs) → text_of references (x ∷ xs) ≡ x ∷ text_of references xs
 one_byte references x xs way =
     ⊎_elim
     (λ no. text_put references x xs No no)

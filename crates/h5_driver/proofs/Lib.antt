@@ -4,3 +4,4 @@ pub mod OneTree
 pub mod RawLaws
 pub mod ReadingLaws
 pub mod StreamLaws
+pub mod PlainLaws

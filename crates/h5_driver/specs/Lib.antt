@@ -1,4 +1,5 @@
 pub mod Fragments
 pub mod Options
 pub mod Parsing
+pub mod PlainTexts
 pub mod Texts

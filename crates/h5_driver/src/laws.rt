@@ -4,6 +4,8 @@ ghost use Rattle.h5_interface.specs.Seen.{Seen};
 ghost use Rattle.h5_meaning.specs.Run.{View};
 ghost use Rattle.h5_tokenizer.specs.Front.{Place};
 ghost use Rattle.h5_driver.specs.Parsing.{Parses, Parsing, ProcessedAll, joined, unread, view_of};
+ghost use Rattle.h5_driver.specs.PlainTexts.{BringsBack};
+ghost use Rattle.h5_tree_builder.specs.Held.{building};
 
 use h5_interface::TreeSink;
 
@@ -24,3 +26,15 @@ pub fn a_text_has_one_tree<Sink: TreeSink + Drop>()
         Parses Sink.choices place view text one → Parses Sink.choices place view text other
         → (one.forest ≡ other.forest) × (one.quirks ≡ other.quirks) }
 {}
+
+/// The text of a plain document comes back, in whatever pieces it comes. Where a parser of documents with the default
+/// options, over a sink that holds its document alone, takes the pieces by `process`, one after the other, and then
+/// `finish`, that document stands in what the sink tells, in no quirks.
+pub fn documents_come_back<Sink: TreeSink + Drop>()
+    ensures { (pieces : List (List ℕ)) (first last : Parsing Sink Sink.Handle) (told : Seen) →
+        ProcessedAll Sink.choices Sink.sees Sink.node pieces first last
+        → Parses Sink.choices last.reader.place (view_of Sink.sees Sink.node last) (unread last) told
+        → BringsBack (building Sink.sees Sink.node first.builder) first.reader (unread first) (joined pieces) told }
+{
+    pieces_then_finish::<Sink>();
+}

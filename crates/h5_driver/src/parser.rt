@@ -6,6 +6,7 @@ ghost use Rattle.h5_tokenizer.specs.declared.stage.Stage.TheVariants.{Reading};
 ghost use Rattle.h5_tokenizer.specs.End.{Closes};
 ghost use Rattle.h5_tokenizer.specs.Options.{first_place};
 ghost use Rattle.h5_tree_builder.specs.Builder.{first_building};
+ghost use Rattle.h5_driver.specs.PlainTexts.{BringsBack};
 ghost use Rattle.h5_driver.specs.Parsing.{Advances, IsWorking, Parses, Processed, TakesAll, after, ended, foreign, joined, replies, view_of};
 
 use super::options::ParseOpts;
@@ -211,8 +212,13 @@ impl<Sink: TreeSink + Drop> Parser<Sink> {
     /// However the text is cut into pieces, empty ones too, it gives the forest and the quirks mode of the
     /// run of a list of tokens that reads the whole text, and of any such list. It answers `Memory` where
     /// memory is refused, and `Failed` where that was before.
+    ///
+    /// From the text of a plain document it gives that document, in no quirks: by a parser of documents that took nothing
+    /// yet, with the default options, over a sink that holds its document alone, and of a document whose texts and values
+    /// hold neither NUL nor CR, and whose attributes have names that are read as they are written.
     pub fn process_pieces(self, pieces: &[String]) -> Result<Sink::Output, BuildFault>
         ensures parses { IfOk result (λ output. Parses Sink.choices self.reader.place (view_of Sink.sees Sink.node self) ((self.reader.held ++ self.waiting) ++ joined (map string_bytes pieces.now)) (Sink.told output)) }
+        ensures plain { IfOk result (λ output. BringsBack (building Sink.sees Sink.node self.builder) self.reader (self.reader.held ++ self.waiting) (joined (map string_bytes pieces.now)) (Sink.told output)) }
         ensures failed { self.failed ≡ true → result ≡ Err BuildFault.Failed }
         ensures memory { self.failed ≡ false → OnErr result (result ≡ Err BuildFault.Memory) }
     {
@@ -242,9 +248,11 @@ impl<Sink: TreeSink + Drop> Parser<Sink> {
         Ok(())
     }
 
-    /// Takes a whole text, and its end: `process` on parts of it, and `finish`. The parts are copied, one at a time.
+    /// Takes a whole text, and its end: `process` on parts of it, and `finish`. The parts are copied, one at a time. The text
+    /// of a plain document gives that document, as by `process_pieces`.
     pub fn one(self, text: &str) -> Result<Sink::Output, BuildFault>
         ensures parses { IfOk result (λ output. Parses Sink.choices self.reader.place (view_of Sink.sees Sink.node self) ((self.reader.held ++ self.waiting) ++ text.now) (Sink.told output)) }
+        ensures plain { IfOk result (λ output. BringsBack (building Sink.sees Sink.node self.builder) self.reader (self.reader.held ++ self.waiting) text.now (Sink.told output)) }
         ensures failed { self.failed ≡ true → result ≡ Err BuildFault.Failed }
         ensures memory { self.failed ≡ false → OnErr result (result ≡ Err BuildFault.Memory) }
     {
@@ -257,9 +265,10 @@ impl<Sink: TreeSink + Drop> Parser<Sink> {
     }
 
     /// Takes a whole text of its own, and its end: `process_owned`, and `finish`. The text isn't copied where nothing
-    /// waits.
+    /// waits. That of a plain document gives that document, as by `process_pieces`.
     pub fn one_owned(self, text: String) -> Result<Sink::Output, BuildFault>
         ensures parses { IfOk result (λ output. Parses Sink.choices self.reader.place (view_of Sink.sees Sink.node self) ((self.reader.held ++ self.waiting) ++ string_bytes text) (Sink.told output)) }
+        ensures plain { IfOk result (λ output. BringsBack (building Sink.sees Sink.node self.builder) self.reader (self.reader.held ++ self.waiting) (string_bytes text) (Sink.told output)) }
         ensures failed { self.failed ≡ true → result ≡ Err BuildFault.Failed }
         ensures memory { self.failed ≡ false → OnErr result (result ≡ Err BuildFault.Memory) }
     {

@@ -19,7 +19,7 @@ second_true : (a b : Bool) → a && b ≡ true → b ≡ true
 second_true true b h = h
 second_true false b h = absurd (false≢true h)
 
-by_cases : (mode : Bool) (c : ℕ) (P : List ℕ → Type 0)
+pub by_cases : (mode : Bool) (c : ℕ) (P : List ℕ → Type 0)
     → (c ≡ 38 → P (codes "&amp;")) → (c ≡ 160 → P (codes "&nbsp;")) → (c ≡ 60 → P (codes "&lt;")) → (c ≡ 62 → P (codes "&gt;")) → (c ≡ 34 → P (codes "&quot;"))
     → (eqb c 38 ≡ false → eqb c 60 ≡ false → eqb c 62 ≡ false → (mode && eqb c 34) ≡ false → P (encode_utf8 c)) → P (escape_char mode c)
 by_cases mode c P amp nbsp less greater quote plain =
@@ -32,15 +32,15 @@ by_cases mode c P amp nbsp less greater quote plain =
 
 -- ---- no mark
 
-abbrev has : ℕ → List ℕ → Bool
+abbrev pub has : ℕ → List ℕ → Bool
 has m xs = list_any (λ x. eqb x m) xs
 
 -- each number is above m
-abbrev AreAbove : ℕ → List ℕ → Type 0
+abbrev pub AreAbove : ℕ → List ℕ → Type 0
 AreAbove m [] = Unit {0}
 AreAbove m (x ∷ xs) = (m < x) × AreAbove m xs
 
-unequal_above : (x m : ℕ) → m < x → eqb x m ≡ false
+pub unequal_above : (x m : ℕ) → m < x → eqb x m ≡ false
 unequal_above x m h = by (eqb x m) refl
   where
     by : (b : Bool) → eqb x m ≡ b → b ≡ false
@@ -51,7 +51,7 @@ above_has : (m : ℕ) (xs : List ℕ) → AreAbove m xs → has m xs ≡ false
 above_has m [] h = refl
 above_has m (x ∷ xs) h = ap (λ b. b || has m xs) (unequal_above x m h.0) ∙ above_has m xs h.1
 
-above_encode : (m c : ℕ) → m < 128 → 128 ≤ c → AreAbove m (encode_utf8 c)
+pub above_encode : (m c : ℕ) → m < 128 → 128 ≤ c → AreAbove m (encode_utf8 c)
 unfolding encode_utf8
 above_encode m c small high = by (ltb c 128) (le-ltb c 128 high) (ltb c 2048) (ltb c 65536)
   where
@@ -70,11 +70,11 @@ plain_has m c small h = ⊎_elim
 or_false : (a b : Bool) → a ≡ false → b ≡ false → a || b ≡ false
 or_false a b h g = ap (λ x. x || b) h ∙ g
 
-or_first : (a b : Bool) → a || b ≡ false → a ≡ false
+pub or_first : (a b : Bool) → a || b ≡ false → a ≡ false
 or_first true b e = e
 or_first false b e = refl
 
-or_second : (a b : Bool) → a || b ≡ false → b ≡ false
+pub or_second : (a b : Bool) → a || b ≡ false → b ≡ false
 or_second true b e = absurd (false≢true (sym e))
 or_second false b e = e
 
@@ -103,8 +103,14 @@ no_less_than mode = no_mark mode 60 (omega arith) (λ c. by_cases mode c (λ l. 
 pub no_greater_than : (mode : Bool) (text : List ℕ) → ¬ (Contains (escape mode text) 62)
 no_greater_than mode = no_mark mode 62 (omega arith) (λ c. by_cases mode c (λ l. has 62 l ≡ false) (λ e. refl) (λ e. refl) (λ e. refl) (λ e. refl) (λ e. refl) (λ amp less greater quote. plain_has 62 c (omega arith) greater))
 
+quote_char : (c : ℕ) → has 34 (escape_char true c) ≡ false
+quote_char c = by_cases true c (λ l. has 34 l ≡ false) (λ e. refl) (λ e. refl) (λ e. refl) (λ e. refl) (λ e. refl) (λ amp less greater quote. plain_has 34 c (omega arith) quote)
+
+pub has_no_quote : (text : List ℕ) → has 34 (escape true text) ≡ false
+has_no_quote text = has_all 34 (escape_char true) quote_char (chars text)
+
 pub no_quote : (text : List ℕ) → ¬ (Contains (escape true text) 34)
-no_quote = no_mark true 34 (omega arith) (λ c. by_cases true c (λ l. has 34 l ≡ false) (λ e. refl) (λ e. refl) (λ e. refl) (λ e. refl) (λ e. refl) (λ amp less greater quote. plain_has 34 c (omega arith) quote))
+no_quote = no_mark true 34 (omega arith) quote_char
 
 -- ---- different texts
 

@@ -98,7 +98,7 @@ low_not x h = grind (arith, nat_tests)
 letter : (x : ℕ) → is_ascii_alphabetic x ≡ true → Letter x
 letter x h = record { bang = letter_not x 33 (omega arith) h; low = low_not x h; slash = letter_not x 47 (omega arith) h }
 
-start_begins : (foreign : Bool) (xs inner : List ℕ) → 0 < length xs → get_or xs 0 0 ≡ 60 → inner ≡ drop 1 xs → 0 < length inner → is_ascii_alphabetic (get_or inner 0 0) ≡ true → in_data foreign xs ≡ Found (Begins StartTag) inner
+pub start_begins : (foreign : Bool) (xs inner : List ℕ) → 0 < length xs → get_or xs 0 0 ≡ 60 → inner ≡ drop 1 xs → 0 < length inner → is_ascii_alphabetic (get_or inner 0 0) ≡ true → in_data foreign xs ≡ Found (Begins StartTag) inner
 start_begins foreign [] inner some e f more h = absurd (omega arith)
 start_begins foreign (y ∷ []) inner some e f more h = absurd (omega (arith, ap length f))
 start_begins true (y ∷ x ∷ xs) inner some e f more h =
@@ -110,7 +110,7 @@ start_begins false (y ∷ x ∷ xs) inner some e f more h =
     let p = letter x a in
     rw (e, f) (simp (p.bang, p.low, p.slash, a))
 
-end_begins : (foreign : Bool) (xs inner : List ℕ) → 1 < length xs → get_or xs 0 0 ≡ 60 → get_or xs 1 0 ≡ 47 → inner ≡ drop 2 xs → 0 < length inner → is_ascii_alphabetic (get_or inner 0 0) ≡ true → in_data foreign xs ≡ Found (Begins EndTag) inner
+pub end_begins : (foreign : Bool) (xs inner : List ℕ) → 1 < length xs → get_or xs 0 0 ≡ 60 → get_or xs 1 0 ≡ 47 → inner ≡ drop 2 xs → 0 < length inner → is_ascii_alphabetic (get_or inner 0 0) ≡ true → in_data foreign xs ≡ Found (Begins EndTag) inner
 end_begins foreign [] inner some e g f more h = absurd (omega arith)
 end_begins foreign (y ∷ []) inner some e g f more h = absurd (omega arith)
 end_begins foreign (y ∷ z ∷ []) inner some e g f more h = absurd (omega (arith, ap length f))

@@ -1,7 +1,7 @@
 //! Comparing what a case makes with what is wanted of it.
 use super::case::{Case, Expected, Part};
 use super::made::Made;
-use super::run::{Cut, cuts_of, run};
+use super::run::{Cut, cuts_of, places_of, run};
 use anyhow::Result;
 use std::io;
 
@@ -34,23 +34,38 @@ fn print_difference(
     println!(rt; "{place}\n{part}, read {cut}; wanted:\n{text}\ngot:\n{got}\n")
 }
 
+// Whether what a case at this place makes is as wanted, in this cut. What isn't is printed.
+fn agrees_in(rt: &(impl Print + AllocGlobal), place: &str, case: &Case, cut: Cut) -> Result<bool> {
+    let made = run(rt.alloc(), case, cut)?;
+    let mut agrees = true;
+    for expected in &case.expected {
+        if cut != Cut::Whole && !expected.part.is_of_any_cut() {
+            continue;
+        }
+        if !is_met(expected, &made) {
+            print_difference(rt, place, cut, expected, &made)?;
+            agrees = false;
+        }
+    }
+    Ok(agrees)
+}
+
+// Whether it is so in two pieces, wherever its text is cut.
+fn agrees_in_two(rt: &(impl Print + AllocGlobal), place: &str, case: &Case) -> Result<bool> {
+    let mut agrees = true;
+    for bytes in 0..places_of(&case.input) {
+        agrees &= agrees_in(rt, place, case, Cut::After(bytes))?;
+    }
+    Ok(agrees)
+}
+
 /// Whether what a case of this file makes is as wanted, in every cut. What isn't is printed.
 pub fn agrees(rt: &(impl Print + AllocGlobal), file: &str, case: &Case) -> Result<bool> {
-    let alloc = rt.alloc();
     let Case { line, about, .. } = case;
-    let place = format!(in alloc; "{file}:{line}: {about}")?;
-    let mut agrees = true;
+    let place = format!(in rt.alloc(); "{file}:{line}: {about}")?;
+    let mut agrees = agrees_in_two(rt, place.as_str(), case)?;
     for cut in cuts_of(&case.input) {
-        let made = run(alloc, case, *cut)?;
-        for expected in &case.expected {
-            if *cut != Cut::Whole && !expected.part.is_of_any_cut() {
-                continue;
-            }
-            if !is_met(expected, &made) {
-                print_difference(rt, place.as_str(), *cut, expected, &made)?;
-                agrees = false;
-            }
-        }
+        agrees &= agrees_in(rt, place.as_str(), case, *cut)?;
     }
     Ok(agrees)
 }

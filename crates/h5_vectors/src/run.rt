@@ -1,10 +1,12 @@
 //! Runs of a case.
 use super::case::{Case, Input};
 use super::made::Made;
-use super::parsers::{new_parser, parse_characters};
+use super::parsers::{ArenaParser, new_parser, parse_characters};
 use super::settings::Settings;
 use super::tokens;
 use anyhow::Result;
+use h5_arena::Arena;
+use h5_token::BuildFault;
 use std::alloc::Global;
 use std::fmt;
 
@@ -17,6 +19,8 @@ pub enum Cut {
     Pieces,
     /// In single characters.
     Characters,
+    /// In two pieces, the first of which has so many bytes, or a few more where a character would be cut.
+    After(usize),
 }
 
 impl fmt::Display for Cut {
@@ -25,16 +29,34 @@ impl fmt::Display for Cut {
             Cut::Whole => write!(f, "whole"),
             Cut::Pieces => write!(f, "in its pieces"),
             Cut::Characters => write!(f, "in single characters"),
+            Cut::After(bytes) => write!(f, "in two pieces, cut behind {bytes} bytes"),
         }
     }
 }
 
-/// In which cuts an input comes.
+/// In which cuts an input comes, but for those in two pieces.
 pub fn cuts_of(input: &Input) -> &'static [Cut] {
     match input {
         Input::Pieces(_) => &[Cut::Whole, Cut::Pieces, Cut::Characters],
         Input::Text(_) | Input::Tokens(_) => &[Cut::Whole, Cut::Characters],
     }
+}
+
+/// How many places a text has at which it is cut in two, too.
+pub fn places_of(input: &Input) -> usize {
+    match input {
+        Input::Text(text) => text.len(),
+        Input::Pieces(_) | Input::Tokens(_) => 0,
+    }
+}
+
+// The tree of a text that comes in two pieces.
+fn parse_two(parser: ArenaParser, text: &str, bytes: usize) -> Result<Arena, BuildFault> {
+    let (first, second) = text.split_at(text.ceil_char_boundary(bytes));
+    let mut parser = parser;
+    parser.process(first)?;
+    parser.process(second)?;
+    parser.finish()
 }
 
 // What a text makes, which comes in this cut, or in these pieces.
@@ -50,6 +72,7 @@ fn run_text(
         Cut::Whole => parser.one(text)?,
         Cut::Pieces => parser.process_pieces(pieces)?,
         Cut::Characters => parse_characters(parser, text)?,
+        Cut::After(bytes) => parse_two(parser, text, bytes)?,
     };
     Made::of_arena(alloc, &arena, settings.context.is_some())
 }
@@ -57,7 +80,7 @@ fn run_text(
 // What lines of tokens make.
 fn run_tokens(alloc: Global, settings: &Settings, lines: &str, cut: Cut) -> Result<Made> {
     match cut {
-        Cut::Whole | Cut::Pieces => tokens::run_whole(alloc, settings, lines),
+        Cut::Whole | Cut::Pieces | Cut::After(_) => tokens::run_whole(alloc, settings, lines),
         Cut::Characters => tokens::run_characters(alloc, settings, lines),
     }
 }

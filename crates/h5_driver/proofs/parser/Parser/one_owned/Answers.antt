@@ -1,4 +1,6 @@
 use Rattle.std.proofs.Common.{◌++◌, string_bytes}
+use Rattle.h5_tree_builder.specs.Held.{building}
+use Rattle.h5_driver.proofs.PlainLaws.{brought_back}
 use Rattle.h5_driver.specs.Parsing.{view_of}
 use Rattle.h5_driver.proofs.ReadingLaws.{nothing_read_yet, piece_taken, told_behind}
 use Rattle.h5_driver.proofs.parser.Parser.one_owned.Goals as goal
@@ -16,3 +18,9 @@ returns-clause-parses g c =
     (piece_taken k first.reader.place first.reader.place now.reader.place (view_of sees node first) (view_of sees node first) (view_of sees node now) base first.reader.held first.waiting (string_bytes c.args.text) now.reader.held now.waiting
     (nothing_read_yet k first.reader.place (view_of sees node first) base) took.takes took.none_waits)
     c.finish.result c.finish.ensures.parses
+
+pub returns-clause-plain : goal.returns-clause-plain
+returns-clause-plain g c =
+    let first = c.args.self in
+    brought_back g.Sink.TreeSink.choices g.Sink.TreeSink.told (building g.Sink.TreeSink.sees g.Sink.TreeSink.node first.builder) first.reader (first.reader.held ++ first.waiting) (string_bytes c.args.text) c.finish.result
+    (returns-clause-parses g c)

@@ -1,5 +1,7 @@
-use Rattle.std.proofs.Common.{◌++◌, map, string_bytes, rules}
-use Rattle.h5_driver.specs.Parsing.{IsWorking, joined, view_of}
+use Rattle.std.proofs.Common.{◌++◌, map, string_bytes, rules, IfOk}
+use Rattle.h5_tree_builder.specs.Held.{building}
+use Rattle.h5_driver.specs.Parsing.{IsWorking, Parses, joined, view_of}
+use Rattle.h5_driver.proofs.PlainLaws.{brought_back}
 use Rattle.h5_driver.proofs.ReadingLaws.{told_behind}
 use Rattle.h5_driver.proofs.parser.Parser.process_pieces.Goals as goal
 
@@ -12,3 +14,9 @@ returns-clause-parses g c =
     let works : IsWorking first.reader.place (view_of sees node first) = search rules in
     told_behind g.Sink.TreeSink.choices g.Sink.TreeSink.told first.reader.place now.reader.place (view_of sees node first) (view_of sees node now)
     ((first.reader.held ++ first.waiting) ++ joined (map string_bytes c.args.pieces.now)) (now.reader.held ++ now.waiting) works c.in_ok-process_each.ensures.takes c.finish.result c.finish.ensures.parses
+
+pub returns-clause-plain : goal.returns-clause-plain
+returns-clause-plain g c =
+    let first = c.args.self in
+    brought_back g.Sink.TreeSink.choices g.Sink.TreeSink.told (building g.Sink.TreeSink.sees g.Sink.TreeSink.node first.builder) first.reader (first.reader.held ++ first.waiting) (joined (map string_bytes c.args.pieces.now)) c.finish.result
+    (returns-clause-parses g c)

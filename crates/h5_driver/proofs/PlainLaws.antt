@@ -1,0 +1,106 @@
+-- The text of a plain document, taken by a parser.
+use Rattle.std.proofs.Common.{◌≡◌, ℕ, List, [], ◌∷◌, ◌++◌, map, refl, sym, ap, ◌∙◌, subst, Option, Some, None as Nothing, codes, Result, Ok, Err, IfOk}
+use Rattle.h5_names.specs.AttributeText.{AttributeText}
+use Rattle.h5_token.specs.TokenText.{TokenText}
+use Rattle.h5_token.specs.declared.fault.BuildFault.{BuildFault}
+use Rattle.h5_interface.specs.Changes.{mark}
+use Rattle.h5_interface.specs.Forest.{Child, ChildNode, ChildText, DoctypeNode, DocumentNode, ElementNode, Forest, Kind, Marks, Node, children_of}
+use Rattle.h5_interface.specs.Seen.{Seen}
+use Rattle.h5_interface.specs.SinkChoices.{SinkChoices}
+use Rattle.h5_interface.specs.declared.marks.QuirksMode.TheVariants.{NoQuirks}
+use Rattle.h5_meaning.specs.Changes.{pop}
+use Rattle.h5_meaning.specs.Run as r
+use Rattle.h5_meaning.specs.Run.{View, after_all, after_token, run}
+use Rattle.h5_meaning.specs.FormattingNames.{html_name}
+use Rattle.h5_meaning.specs.World.{World}
+use Rattle.h5_types.specs.Options as types
+use Rattle.h5_plain.specs.Plain.{ElementThen, End, Nodes, PlainDocument, TextThen, document_tokens, plain_reply, root_of}
+use Rattle.h5_plain.specs.Rebuilding.{DocumentStands, HoldsDocument, IsStart, Looks, Stands}
+use Rattle.h5_tree_builder.specs.Builder.{first_building, pop_each}
+use Rattle.h5_driver.specs.Options.{default_options}
+use Rattle.h5_driver.specs.Parsing.{Parses, after, ended, foreign, replies}
+use Rattle.h5_driver.specs.Texts.{ParsesDocument}
+use Rattle.h5_round.specs.Readable.{IsReadableDocument}
+use Rattle.h5_driver.specs.PlainTexts.{BringsBack, ComesBack, IsNew}
+use Rattle.h5_round.specs.Written.{written_of}
+use Rattle.h5_tokenizer.specs.Options as reader
+use Rattle.h5_tokenizer.specs.ReaderText.{ReaderText}
+use Rattle.h5_tokenizer.specs.declared.stage.Stage.TheVariants.{Reading}
+use Rattle.h5_tree_builder.specs.Builder.{Building}
+use Rattle.h5_plain.proofs.LooksLaws.{looks_marked}
+use Rattle.h5_plain.proofs.WholeLaws.{rebuilds_all}
+use Rattle.h5_round.proofs.JoinedLaws.{document_joined}
+use Rattle.h5_round.specs.Answers.{Answers}
+use Rattle.h5_round.proofs.ReadingLaws.{document_read}
+
+-- the builder answers as to a plain document's tokens
+answers_by : (choices : SinkChoices) (ts : List TokenText) (v : View) → r.replies choices ts v ≡ map plain_reply ts → Answers (replies choices) (after choices) v ts
+unfolding run
+answers_by choices [] v e = tt
+answers_by choices (t ∷ ts) v e = (cc, (λ line. answers_by choices ts (after_token choices t v) (cc)))
+
+-- ---- marks aren't looked at
+
+same_children : (f : Forest) (marks : ℕ → Marks) (n : ℕ) → children_of (mark marks f) n ≡ children_of f n
+same_children f marks n = at (f.node n) refl
+  where
+    at : (o : Option Node) → f.node n ≡ o → children_of (mark marks f) n ≡ children_of f n
+    at Nothing w = rw w refl
+    at (Some x) w = rw w refl
+
+stand_marked : (f : Forest) (marks : ℕ → Marks) (cs : List Child) (ns : Nodes) → Stands f cs ns → Stands (mark marks f) cs ns
+stand_marked f marks [] End h = tt
+stand_marked f marks (ChildText t ∷ cs) (TextThen text rest) h = (h.0, stand_marked f marks cs rest h.1)
+stand_marked f marks (ChildNode n ∷ cs) (ElementThen name attrs inner rest) h =
+    let same = same_children f marks n in
+    let kind = ElementNode (html_name name) in (
+      looks_marked f n marks kind attrs (children_of (mark marks f) n) (subst (λ (kids : List Child). Looks f n kind attrs kids) (sym same) h.0),
+      (subst (λ (kids : List Child). Stands (mark marks f) kids inner) (sym same) (stand_marked f marks (children_of f n) inner h.1.0), stand_marked f marks cs rest h.1.1),
+    )
+stand_marked f marks _ _ h = absurd h
+
+document_marked : (f : Forest) (marks : ℕ → Marks) (d : PlainDocument) → DocumentStands f d → DocumentStands (mark marks f) d
+document_marked f marks d s = record {
+  doctype = s.doctype;
+  root = s.root;
+  document = looks_marked f f.document marks DocumentNode [] (ChildNode s.doctype ∷ ChildNode s.root ∷ []) s.document;
+  is_doctype = looks_marked f s.doctype marks (DoctypeNode (codes "html") [] []) [] [] s.is_doctype;
+  stands = stand_marked f marks (ChildNode s.root ∷ []) (root_of d) s.stands;
+}
+
+popped : (choices : SinkChoices) (d : PlainDocument) (ns : List ℕ) (w : World) → DocumentStands w.forest d → w.seen_quirks ≡ NoQuirks → DocumentStands (pop_each choices ns w).forest d × ((pop_each choices ns w).seen_quirks ≡ NoQuirks)
+unfolding pop
+popped choices d [] w s q = (s, q)
+popped choices d (n ∷ ns) w s q = popped choices d ns (pop choices w) (document_marked w.forest _ d s) q
+
+-- what a parser makes of a document's text
+document_parsed : (choices : SinkChoices) (seen told : Seen) (d : PlainDocument) → HoldsDocument seen.forest → IsReadableDocument d
+    → ParsesDocument choices seen default_options (written_of d) told → ComesBack told d
+document_parsed choices seen told d holds readable parses =
+    let v = (first_building seen types.default_options).view in
+    let ts = document_tokens d in
+    let start : IsStart v.world = record { holds = holds; options = refl; mode = refl; none_open = refl; none_listed = refl; ignore_lf = refl; no_foster = refl; no_template_modes = refl; no_head = refl; no_form = refl; no_context = refl } in
+    let built = rebuilds_all choices ts v d start refl refl (document_joined d) in
+    let read = document_read (replies choices) (after choices) foreign (ended choices) d v readable (answers_by choices ts v built.answers) in
+    let same = parses.any ts read.0 read.1 in
+    let end = popped choices d (after_all choices ts v).world.stack (after_all choices ts v).world built.stands built.quirks in
+    record {
+      stands = subst (λ (f : Forest). DocumentStands f d) (sym (same.1.0 ∙ ap (λ (u : View). u.world.forest) same.0)) end.0;
+      quirks = same.1.1 ∙ ap (λ (u : View). u.world.seen_quirks) same.0 ∙ end.1;
+    }
+
+-- so does a parser that took nothing yet, however the text is cut
+pub brings_back : (choices : SinkChoices) (b : Building) (r : ReaderText) (unread text : List ℕ) (told : Seen) → Parses choices r.place b.view (unread ++ text) told → BringsBack b r unread text told
+brings_back choices b r unread text told parses = λ d seen new holds readable same.
+    let P : Building → ReaderText → List ℕ → List ℕ → Type 0 = λ c q u t. Parses choices q.place c.view (u ++ t) told in
+    let first = first_building seen types.default_options in
+    let fresh : ReaderText = record { place = reader.first_place reader.default_options; held = []; stage = Reading } in
+    document_parsed choices seen told d holds readable
+    (subst (P first fresh []) same
+    (subst (λ u. P first fresh u text) new.none_waits
+    (subst (λ q. P first q unread text) new.reader
+    (subst (λ c. P c r unread text) new.builder parses))))
+
+pub brought_back : {O : Type 0} (choices : SinkChoices) (told : O → Seen) (b : Building) (r : ReaderText) (unread text : List ℕ) (result : Result O BuildFault) → IfOk result (λ o. Parses choices r.place b.view (unread ++ text) (told o)) → IfOk result (λ o. BringsBack b r unread text (told o))
+brought_back choices told b r unread text (Ok o) h = brings_back choices b r unread text (told o) h
+brought_back choices told b r unread text (Err e) h = h
