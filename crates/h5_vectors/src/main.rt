@@ -13,9 +13,9 @@ mod every_list;
 #[cfg(test)]
 mod feeding;
 #[cfg(test)]
-mod forest;
-#[cfg(test)]
 mod fragments;
+#[cfg(test)]
+mod large;
 mod made;
 #[cfg(test)]
 mod parser;

@@ -1,10 +1,9 @@
 //! Builders over a sink that is refused memory once, at each of its calls in turn.
-use super::forest::is_forest;
 use h5_arena::{Arena, NodeId};
 use h5_interface::TreeSink;
 use h5_lines::{Item, parse};
 use h5_print::print_tree;
-use h5_tests_sinks::Starved;
+use h5_tests_sinks::{Starved, is_forest};
 use h5_token::{BuildFault, Token};
 use h5_tree_builder::TreeBuilder;
 use h5_types::TreeBuilderOpts;
