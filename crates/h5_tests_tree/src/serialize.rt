@@ -388,6 +388,23 @@ fn write_pair(alloc: Global, local: &QualName, value: &str) -> Result<Vec<u8>, S
     write_pairs(alloc, element, &[(local, value)])
 }
 
+/// Starts and ends an element whose name is lent, on a new serializer, and answers what is written.
+fn write_lent(alloc: Global, element: &QualName) -> Result<Vec<u8>, SerializeFault> {
+    let mut serializer = HtmlSerializer::new(alloc, Vec::new(alloc), SerializeOpts::default())?;
+    let attrs: Vec<Attribute> = Vec::new(alloc);
+    serializer.start_elem_ref(element, attrs.iter())?;
+    serializer.end_elem_ref(element)?;
+    Ok(serializer.writer)
+}
+
+#[test]
+fn names_of_elements_are_lent(rt: HostRuntime) -> Result<(), Fail> {
+    let element = name(rt.alloc(), namespaces::HTML, "p")?;
+    let written = write_lent(rt.alloc(), &element)?;
+    assert_eq!(rt; written.as_slice(), "<p></p>".as_bytes());
+    Ok(())
+}
+
 fn write_title_after(alloc: Global, id: &QualName) -> Result<Vec<u8>, SerializeFault> {
     let title = name(alloc, "", "title")?;
     let pairs = [(id, "1"), (&title, "a\"b")];

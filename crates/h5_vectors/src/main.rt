@@ -22,6 +22,8 @@ mod parser;
 mod parsers;
 #[cfg(test)]
 mod refused;
+#[cfg(test)]
+mod refused_texts;
 mod run;
 mod sections;
 mod settings;
