@@ -18,8 +18,13 @@ fn is_written_back(rt: &impl Abort, alloc: Global, count: usize) -> Result<(), A
 }
 
 #[test]
-fn deep_documents_are_written_back(rt: HostRuntime) -> Result<(), Fail> {
+fn ten_thousand_elements_in_each_other_are_written_back(rt: HostRuntime) -> Result<(), Fail> {
     is_written_back(&rt, rt.alloc(), 10_000)?;
+    Ok(())
+}
+
+#[test]
+fn a_hundred_thousand_elements_in_each_other_are_written_back(rt: HostRuntime) -> Result<(), Fail> {
     is_written_back(&rt, rt.alloc(), 100_000)?;
     Ok(())
 }

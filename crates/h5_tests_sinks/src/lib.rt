@@ -1,4 +1,5 @@
-//! Test doubles, for tests and programs: sinks of trees, takers of tokens, and a writer that fails.
+//! Test doubles, for tests and programs: sinks of trees, takers of tokens, and a writer that fails. And what tests ask of a sink or
+//! of a serializer that was refused something.
 #![tactic(auto)]
 
 mod answer;
@@ -6,6 +7,8 @@ mod attaching;
 mod broken;
 mod closing;
 mod counter;
+mod failing;
+mod forest;
 mod recorder;
 mod starved;
 
@@ -14,5 +17,7 @@ pub use attaching::{Agreeing, Attaching, Detaching};
 pub use broken::Broken;
 pub use closing::{Closing, Counting};
 pub use counter::Counter;
+pub use failing::all_calls_fail;
+pub use forest::is_forest;
 pub use recorder::Recorder;
 pub use starved::Starved;

@@ -180,6 +180,18 @@ fn a_template_leaves_its_parent_in_a_third_sink(rt: HostRuntime) -> Result<(), F
     Ok(())
 }
 
+#[test]
+fn an_arena_attaches_no_shadow_root(rt: HostRuntime) -> Result<(), Fail> {
+    let alloc = rt.alloc();
+    let mut arena = Arena::new(alloc)?;
+    let root = small_tree(&mut arena, alloc, "x", "some text", &rt)?;
+    let document = arena.document();
+    assert!(rt; !calls::attach_shadow(&mut arena, document, root, &rt)?);
+    assert_eq!(rt; arena.len(), 3);
+    check_root(&arena, root, &rt);
+    Ok(())
+}
+
 fn check_contents(arena: &Arena, template: NodeId, contents: NodeId, rt: &impl Abort) {
     assert!(rt; arena.holds(contents));
     assert_eq!(rt; arena.id(2), Some(contents), "right after the template");

@@ -187,3 +187,14 @@ pub(crate) fn allows_shadow_roots(arena: &Arena, id: NodeId, rt: &impl Abort) ->
     assert!(rt; arena.holds(id));
     arena.allow_declarative_shadow_roots(&id)
 }
+
+pub(crate) fn attach_shadow(
+    arena: &mut Arena,
+    host: NodeId,
+    template: NodeId,
+    rt: &impl Abort,
+) -> Result<bool, AllocError> {
+    assert!(rt; arena.holds(host));
+    assert!(rt; arena.holds(template));
+    arena.attach_declarative_shadow(&host, &template, &[])
+}

@@ -1,5 +1,4 @@
-//! Each public call once, with ample memory; the rules of the standard at outside values; and a writer
-//! that fails.
+//! Each public call once, with ample memory, and the rules of the standard at outside values.
 ghost use Rattle.std.specs.Prelude.{List, map, [], ◌∷◌, string_bytes};
 ghost use Rattle.h5_names.specs.AttributeText.{attribute_texts};
 ghost use Rattle.h5_serialize.specs.Call.{Call, StartOf, EndOf, TextOf, CommentOf, DoctypeOf, InstructionOf};
@@ -10,7 +9,6 @@ use h5_serialize::{
     HtmlSerializer, Serialize, SerializeFault, SerializeOpts, Serializer, TraversalScope, serialize,
 };
 use std::alloc::{AllocError, Global};
-use std::io::{self, Write};
 use std::process::Abort;
 use std::test::Fail;
 
@@ -94,7 +92,7 @@ fn name(alloc: Global, ns: &str, local: &str) -> Result<QualName, AllocError> {
 
 /// One call, its texts lent. Elements are HTML elements, drawn ones SVG elements, without attributes.
 #[derive(Clone, Copy)]
-enum Step<'a> {
+pub(crate) enum Step<'a> {
     Open(&'a str),
     Close(&'a str),
     OpenDrawn(&'a str),
@@ -146,7 +144,7 @@ fn check(
 }
 
 /// Makes one call, and answers what the serializer does.
-fn answer_of<S: Serializer>(
+pub(crate) fn answer_of<S: Serializer>(
     alloc: Global,
     serializer: &mut S,
     step: Step<'_>,
@@ -180,7 +178,7 @@ fn children_of(alloc: Global, ns: &str, local: &str) -> Result<SerializeOpts, Al
     })
 }
 
-fn making_parents() -> SerializeOpts {
+pub(crate) fn making_parents() -> SerializeOpts {
     SerializeOpts {
         scripting_enabled: true,
         traversal_scope: TraversalScope::ChildrenOnly(None),
@@ -390,6 +388,23 @@ fn write_pair(alloc: Global, local: &QualName, value: &str) -> Result<Vec<u8>, S
     write_pairs(alloc, element, &[(local, value)])
 }
 
+/// Starts and ends an element whose name is lent, on a new serializer, and answers what is written.
+fn write_lent(alloc: Global, element: &QualName) -> Result<Vec<u8>, SerializeFault> {
+    let mut serializer = HtmlSerializer::new(alloc, Vec::new(alloc), SerializeOpts::default())?;
+    let attrs: Vec<Attribute> = Vec::new(alloc);
+    serializer.start_elem_ref(element, attrs.iter())?;
+    serializer.end_elem_ref(element)?;
+    Ok(serializer.writer)
+}
+
+#[test]
+fn names_of_elements_are_lent(rt: HostRuntime) -> Result<(), Fail> {
+    let element = name(rt.alloc(), namespaces::HTML, "p")?;
+    let written = write_lent(rt.alloc(), &element)?;
+    assert_eq!(rt; written.as_slice(), "<p></p>".as_bytes());
+    Ok(())
+}
+
 fn write_title_after(alloc: Global, id: &QualName) -> Result<Vec<u8>, SerializeFault> {
     let title = name(alloc, "", "title")?;
     let pairs = [(id, "1"), (&title, "a\"b")];
@@ -430,120 +445,6 @@ fn options_have_defaults(rt: HostRuntime) -> Result<(), Fail> {
     let default = SerializeOpts::default();
     assert!(rt; default.scripting_enabled && !default.create_missing_parent);
     assert!(rt; default.traversal_scope == TraversalScope::ChildrenOnly(None));
-    Ok(())
-}
-
-/// A writer over memory one of whose writes fails.
-#[derive(Drop)]
-struct Broken {
-    held: Vec<u8>,
-    // How many writes pass before the one that fails; none fails any more once it has.
-    passing: Option<usize>,
-}
-
-impl Write for Broken {
-    fn write(&mut self, buf: &[u8]) -> io::Result<usize> {
-        match self.passing {
-            Some(0) => {
-                self.passing = None;
-                return Err(io::Error::from(io::ErrorKind::BrokenPipe));
-            }
-            Some(left) => self.passing = Some(left - 1),
-            None => {}
-        }
-        self.held.extend_from_slice(buf)?;
-        Ok(buf.len())
-    }
-
-    fn flush(&mut self) -> io::Result<()> {
-        Ok(())
-    }
-}
-
-/// Checks that each of the six calls answers `Failed` and writes nothing.
-fn check_failed(
-    rt: &impl Abort,
-    alloc: Global,
-    serializer: &mut HtmlSerializer<Broken>,
-) -> Result<(), AllocError> {
-    let held = serializer.writer.held.len();
-    let steps = [
-        Open("p"),
-        Close("p"),
-        Text("t"),
-        Comment("c"),
-        Doctype("d"),
-        Instruction("i", "j"),
-    ];
-    for &step in &steps {
-        let given = answer_of(alloc, serializer, step)?;
-        assert_eq!(rt; given, Err(SerializeFault::Failed));
-    }
-    assert_eq!(rt; serializer.writer.held.len(), held);
-    Ok(())
-}
-
-/// Writes a document where the write behind `passing` others fails, and answers whether none did.
-fn check_broken_at(
-    rt: &impl Abort,
-    alloc: Global,
-    document: &Document,
-    passing: usize,
-) -> Result<bool, SerializeFault> {
-    let writer = Broken {
-        held: Vec::new(alloc),
-        passing: Some(passing),
-    };
-    let mut serializer = HtmlSerializer::new(alloc, writer, SerializeOpts::default())?;
-    match document.serialize(&mut serializer, TraversalScope::IncludeNode) {
-        Ok(()) => Ok(true),
-        Err(fault) => {
-            assert_eq!(rt; fault, SerializeFault::Write);
-            check_failed(rt, alloc, &mut serializer)?;
-            Ok(false)
-        }
-    }
-}
-
-/// Lets each write fail in turn, and answers how many writes a document takes.
-fn check_broken(
-    rt: &impl Abort,
-    alloc: Global,
-    steps: &[Step<'_>],
-) -> Result<usize, SerializeFault> {
-    let document = document_of(alloc, steps)?;
-    for passing in 0..100 {
-        if check_broken_at(rt, alloc, &document, passing)? {
-            return Ok(passing);
-        }
-    }
-    Ok(100)
-}
-
-#[test]
-fn a_broken_writer_fails_the_serializer(rt: HostRuntime) -> Result<(), Fail> {
-    let documents: [&[Step<'_>]; 3] = [
-        &[Doctype("html"), Open("p"), Text("a<b"), Close("p")],
-        &[
-            Open("br"),
-            Text("x"),
-            Open("b"),
-            Close("b"),
-            Close("br"),
-            Comment("c"),
-        ],
-        &[
-            Open("style"),
-            Text("<"),
-            Close("style"),
-            Instruction("i", "j"),
-            Text("\u{a0}&"),
-        ],
-    ];
-    for &steps in &documents {
-        let writes = check_broken(&rt, rt.alloc(), steps)?;
-        assert!(rt; 4 < writes && writes < 100, "{writes} writes");
-    }
     Ok(())
 }
 

@@ -17,8 +17,12 @@ fn build_template(alloc: Global, arena: &mut Arena, rt: &impl Abort) -> Result<N
     Ok(template)
 }
 
-// A document: a doctype, a template, a text, and an element, which is answered.
-fn build_document(alloc: Global, arena: &mut Arena, rt: &impl Abort) -> Result<NodeId, AllocError> {
+/// A document: a doctype, a template, a text, and an element, which is answered.
+pub(crate) fn build_document(
+    alloc: Global,
+    arena: &mut Arena,
+    rt: &impl Abort,
+) -> Result<NodeId, AllocError> {
     put_doctype(arena, alloc)?;
     let root = small_tree(arena, alloc, "\"x\"", "1 < 2", rt)?;
     let template = build_template(alloc, arena, rt)?;

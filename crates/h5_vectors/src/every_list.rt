@@ -1,9 +1,9 @@
 //! Every list of three tokens, of twenty that stand for all.
 use super::feeding::new_builder;
-use super::forest::is_forest;
 use super::tokens::ArenaBuilder;
 use h5_lines::{Item, parse};
 use h5_print::print_tree;
+use h5_tests_sinks::is_forest;
 use h5_token::states::RawKind;
 use h5_token::{BuildFault, Token, TokenSinkResult};
 use std::alloc::Global;

@@ -67,6 +67,20 @@ pub fn with_start<Handle: Drop, Sink: TreeSink<Handle = Handle> + Drop>(
     taking(builder, token)
 }
 
+/// The builder after so many start tags of this name.
+pub fn with_starts<Handle: Drop, Sink: TreeSink<Handle = Handle> + Drop>(
+    builder: TreeBuilder<Handle, Sink>,
+    alloc: Global,
+    name: &str,
+    count: usize,
+) -> Result<TreeBuilder<Handle, Sink>, Fail> {
+    let mut builder = builder;
+    for _ in 0..count {
+        builder.process_token(start(alloc, name)?, 1)?;
+    }
+    Ok(builder)
+}
+
 /// The builder after an end tag.
 pub fn with_end<Handle: Drop, Sink: TreeSink<Handle = Handle> + Drop>(
     builder: TreeBuilder<Handle, Sink>,

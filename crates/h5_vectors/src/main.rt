@@ -13,15 +13,17 @@ mod every_list;
 #[cfg(test)]
 mod feeding;
 #[cfg(test)]
-mod forest;
-#[cfg(test)]
 mod fragments;
+#[cfg(test)]
+mod large;
 mod made;
 #[cfg(test)]
 mod parser;
 mod parsers;
 #[cfg(test)]
 mod refused;
+#[cfg(test)]
+mod refused_texts;
 mod run;
 mod sections;
 mod settings;

@@ -49,3 +49,13 @@ fn a_parser_takes_text_and_then_the_end(rt: HostRuntime) -> Result<(), Fail> {
     assert_eq!(rt; arena.errors().len(), 1);
     Ok(())
 }
+
+#[test]
+fn a_parser_takes_texts_of_its_own(rt: HostRuntime) -> Result<(), Fail> {
+    let alloc = rt.alloc();
+    let mut parser = new_parser(alloc, &Settings::new())?;
+    parser.process_owned(String::from_str(alloc, "<!DOCTYPE html><p>")?)?;
+    let arena = parser.one_owned(String::from_str(alloc, "x")?)?;
+    assert!(rt; paragraph_holds(&arena, "x"));
+    Ok(())
+}

@@ -9,8 +9,8 @@ use std::alloc::{AllocError, Global};
 
 pub type ArenaParser = Parser<Arena>;
 
-// The name of a context: HTML's, or behind `svg ` or `math ` one of SVG or MathML.
-fn context_name(alloc: Global, name: &str) -> Result<QualName, AllocError> {
+/// The name of a context: HTML's, or behind `svg ` or `math ` one of SVG or MathML.
+pub fn context_name(alloc: Global, name: &str) -> Result<QualName, AllocError> {
     let (ns, local) = match name.split_once(' ') {
         Some(("svg", local)) => (namespaces::SVG, local),
         Some(("math", local)) => (namespaces::MATHML, local),

@@ -1,5 +1,5 @@
 //! Templates and shadow roots.
-use super::feeding::{new_builder, start, tag_with, taking, with_end, with_start, with_text};
+use super::feeding::{new_builder, tag_with, taking, with_end, with_start, with_text};
 use super::made::html_of;
 use h5_arena::{Arena, NodeId};
 use h5_interface::TreeSink;
@@ -11,30 +11,6 @@ use h5_types::TreeBuilderOpts;
 use std::alloc::{AllocError, Global};
 use std::process::Abort;
 use std::test::Fail;
-
-// So many start tags of templates, and the end of the file.
-fn templates(alloc: Global, count: usize) -> Result<Vec<(Token, u64)>, AllocError> {
-    let mut tokens = Vec::new(alloc);
-    for _ in 0..count {
-        tokens.push((start(alloc, "template")?, 1))?;
-    }
-    tokens.push((Token::EOFToken, 1))?;
-    Ok(tokens)
-}
-
-// How many turns the end of the file takes after so many templates.
-fn turns_after(alloc: Global, count: usize) -> Result<u64, Fail> {
-    let tokens = templates(alloc, count)?;
-    let mut builder = new_builder(alloc)?;
-    builder.process_all(tokens)?;
-    Ok(builder.turns())
-}
-
-#[test]
-fn templates_in_each_other_are_closed_one_a_turn(rt: HostRuntime) -> Result<(), Fail> {
-    assert_eq!(rt; turns_after(rt.alloc(), 1_000)?, 1_003);
-    Ok(())
-}
 
 fn open_shadow_mode(alloc: Global) -> Result<Vec<Attribute>, AllocError> {
     let local = LocalName::new(alloc, "shadowrootmode")?;
