@@ -1,5 +1,5 @@
-//! Test doubles, for tests and programs: sinks of trees, takers of tokens, and a writer that fails. And what tests ask of a sink or
-//! of a serializer that was refused something.
+//! Test doubles, for tests and programs: sinks of trees, takers of tokens, and a writer that fails. And what tests ask of an
+//! arena, of a sink, or of a serializer that was refused something.
 #![tactic(auto)]
 
 mod answer;
@@ -9,6 +9,7 @@ mod closing;
 mod counter;
 mod failing;
 mod forest;
+mod html;
 mod recorder;
 mod starved;
 
@@ -19,5 +20,6 @@ pub use closing::{Closing, Counting};
 pub use counter::Counter;
 pub use failing::all_calls_fail;
 pub use forest::is_forest;
+pub use html::html_of;
 pub use recorder::Recorder;
 pub use starved::Starved;

@@ -4,7 +4,7 @@ use anyhow::Result;
 use h5_arena::Arena;
 use h5_lines::read_escapes;
 use h5_print::print_tree;
-use h5_serialize::{SerializeFault, SerializeOpts, serialize};
+use h5_tests_sinks::html_of;
 use std::alloc::{AllocError, Global};
 
 /// What a run made: each part as its section would say it.
@@ -40,12 +40,6 @@ fn document_of(alloc: Global, arena: &Arena, indent: &str) -> Result<String, All
         }
     }
     Ok(document)
-}
-
-/// The HTML of what an arena holds.
-pub fn html_of(alloc: Global, arena: &Arena) -> Result<Vec<u8>, SerializeFault> {
-    let node = arena.at(arena.document());
-    serialize(alloc, Vec::new(alloc), &node, SerializeOpts::default())
 }
 
 impl Made {

@@ -2,33 +2,15 @@
 //! What differs is printed, and then how many cases there are and how many differ. `data/README.md` has the layout.
 #![tactic(auto)]
 
-#[cfg(test)]
-mod builder;
 mod case;
 mod cases;
 mod compare;
 mod draft;
-#[cfg(test)]
-mod every_list;
-#[cfg(test)]
-mod feeding;
-#[cfg(test)]
-mod fragments;
-#[cfg(test)]
-mod large;
 mod made;
-#[cfg(test)]
-mod parser;
 mod parsers;
-#[cfg(test)]
-mod refused;
-#[cfg(test)]
-mod refused_texts;
 mod run;
 mod sections;
 mod settings;
-#[cfg(test)]
-mod templates;
 mod tokens;
 
 use anyhow::{Context, Result};

@@ -2,7 +2,7 @@
 use anyhow::Result;
 use h5_arena::Arena;
 use h5_driver::{ParseOpts, Parser, parse_document};
-use h5_serialize::{SerializeOpts, serialize};
+use h5_tests_sinks::html_of;
 use std::alloc::{AllocError, Global};
 
 fn new_parser(alloc: Global) -> Result<Parser<Arena>, AllocError> {
@@ -10,9 +10,7 @@ fn new_parser(alloc: Global) -> Result<Parser<Arena>, AllocError> {
 }
 
 fn html_of_arena(alloc: Global, arena: &Arena) -> Result<String> {
-    let node = arena.at(arena.document());
-    let bytes = serialize(alloc, Vec::new(alloc), &node, SerializeOpts::default())?;
-    Ok(String::from_utf8(bytes)?)
+    Ok(String::from_utf8(html_of(alloc, arena)?)?)
 }
 
 /// The HTML of a page that comes whole.

@@ -1,9 +1,8 @@
 //! Long lists of tokens: deep trees, many formatting elements, texts in many parts.
 use super::feeding::{tag_with, taking, with_end, with_start, with_starts, with_text};
-use super::made::html_of;
 use h5_arena::{Arena, Child, NodeId};
 use h5_names::{Attribute, LocalName, Namespace, QualName};
-use h5_tests_sinks::Starved;
+use h5_tests_sinks::{Starved, html_of};
 use h5_token::{TagKind, Token};
 use h5_tree_builder::TreeBuilder;
 use h5_types::TreeBuilderOpts;

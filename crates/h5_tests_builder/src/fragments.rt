@@ -1,12 +1,10 @@
 //! Fragments, in their contexts.
-use super::feeding::{with_start, with_text};
-use super::made::html_of;
-use super::parsers::ArenaParser;
-use super::tokens::ArenaBuilder;
+use super::feeding::{ArenaBuilder, ArenaParser, with_start, with_text};
 use h5_arena::{Arena, Child, NodeId};
 use h5_driver::{ParseOpts, parse_fragment_for_element};
 use h5_interface::create_element;
 use h5_names::{LocalName, Namespace, QualName};
+use h5_tests_sinks::html_of;
 use h5_token::states::{RawKind, State};
 use h5_tree_builder::TreeBuilder;
 use h5_types::TreeBuilderOpts;

@@ -1,10 +1,9 @@
 //! Templates and shadow roots.
 use super::feeding::{new_builder, tag_with, taking, with_end, with_start, with_text};
-use super::made::html_of;
 use h5_arena::{Arena, NodeId};
 use h5_interface::TreeSink;
 use h5_names::{Attribute, LocalName, Namespace, QualName};
-use h5_tests_sinks::{Agreeing, Detaching};
+use h5_tests_sinks::{Agreeing, Detaching, html_of};
 use h5_token::{TagKind, Token};
 use h5_tree_builder::TreeBuilder;
 use h5_types::TreeBuilderOpts;

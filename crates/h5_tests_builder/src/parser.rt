@@ -1,7 +1,5 @@
 //! Calls of the parser over an arena.
-use super::feeding::fed;
-use super::parsers::new_parser;
-use super::settings::Settings;
+use super::feeding::{fed, new_parser};
 use h5_arena::{Arena, Child};
 use h5_driver::ParseOpts;
 use std::test::Fail;
@@ -25,7 +23,7 @@ fn a_long_text_makes_its_tree(rt: HostRuntime) -> Result<(), Fail> {
     text.push_str("é".repeat(alloc, 40_000)?.as_str())?;
     let mut page = String::from_str(alloc, "<!DOCTYPE html><p>")?;
     page.push_str(text.as_str())?;
-    let arena = new_parser(alloc, &Settings::new())?.one(page.as_str())?;
+    let arena = new_parser(alloc)?.one(page.as_str())?;
     assert!(rt; paragraph_holds(&arena, text.as_str()));
     Ok(())
 }
@@ -41,7 +39,7 @@ fn options_are_cloned(rt: HostRuntime) -> Result<(), Fail> {
 #[test]
 fn a_parser_takes_text_and_then_the_end(rt: HostRuntime) -> Result<(), Fail> {
     let alloc = rt.alloc();
-    let mut parser = new_parser(alloc, &Settings::new())?;
+    let mut parser = new_parser(alloc)?;
     parser.error("from outside");
     let parser = fed(parser, "<!DOCTYPE html><p>")?;
     let arena = fed(parser, "x")?.finish()?;
@@ -53,7 +51,7 @@ fn a_parser_takes_text_and_then_the_end(rt: HostRuntime) -> Result<(), Fail> {
 #[test]
 fn a_parser_takes_texts_of_its_own(rt: HostRuntime) -> Result<(), Fail> {
     let alloc = rt.alloc();
-    let mut parser = new_parser(alloc, &Settings::new())?;
+    let mut parser = new_parser(alloc)?;
     parser.process_owned(String::from_str(alloc, "<!DOCTYPE html><p>")?)?;
     let arena = parser.one_owned(String::from_str(alloc, "x")?)?;
     assert!(rt; paragraph_holds(&arena, "x"));

@@ -1,6 +1,5 @@
 //! Every list of three tokens, of twenty that stand for all.
-use super::feeding::new_builder;
-use super::tokens::ArenaBuilder;
+use super::feeding::{ArenaBuilder, new_builder};
 use h5_lines::{Item, parse};
 use h5_print::print_tree;
 use h5_tests_sinks::is_forest;

@@ -1,10 +1,10 @@
 //! Calls of the tree builder over an arena, and what it tells the arena that no tree shows.
-use super::feeding::{end, new_builder, start, taking, with_end, with_start, with_text};
-use super::made::html_of;
-use super::tokens::ArenaBuilder;
+use super::feeding::{
+    ArenaBuilder, end, new_builder, start, taking, with_end, with_start, with_text,
+};
 use h5_arena::{Arena, NodeId};
 use h5_names::LocalName;
-use h5_tests_sinks::Agreeing;
+use h5_tests_sinks::{Agreeing, html_of};
 use h5_token::{Doctype, Tag, TagKind, Token, TokenSink, TokenSinkResult};
 use h5_tree_builder::{TreeBuilder, html_elem};
 use h5_types::TreeBuilderOpts;

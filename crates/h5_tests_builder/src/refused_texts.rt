@@ -1,8 +1,8 @@
 //! Parsers over a sink that is refused memory once, at each of its calls in turn.
-use super::parsers::context_name;
 use super::refused::check_answer;
 use h5_arena::Arena;
 use h5_driver::{ParseOpts, Parser, parse_document, parse_fragment};
+use h5_names::{LocalName, Namespace, QualName};
 use h5_print::print_tree;
 use h5_tests_sinks::Starved;
 use h5_token::BuildFault;
@@ -35,7 +35,7 @@ fn parser_refused(
     if context.is_empty() {
         return Ok(parse_document(alloc, sink, opts));
     }
-    let name = context_name(alloc, context)?;
+    let name = QualName::new(None, Namespace::html(), LocalName::new(alloc, context)?);
     parse_fragment(alloc, sink, opts, name, Vec::new(alloc), true)
 }
 

@@ -1,7 +1,6 @@
 //! Builders and parsers that take one thing: tests go from one to the next.
-use super::parsers::ArenaParser;
-use super::tokens::ArenaBuilder;
-use h5_arena::Arena;
+use h5_arena::{Arena, NodeId};
+use h5_driver::{ParseOpts, Parser, parse_document};
 use h5_interface::TreeSink;
 use h5_names::{Attribute, LocalName};
 use h5_token::{Tag, TagKind, Token};
@@ -9,6 +8,15 @@ use h5_tree_builder::TreeBuilder;
 use h5_types::TreeBuilderOpts;
 use std::alloc::{AllocError, Global};
 use std::test::Fail;
+
+pub type ArenaBuilder = TreeBuilder<NodeId, Arena>;
+
+pub type ArenaParser = Parser<Arena>;
+
+/// A parser of a document, into an arena.
+pub fn new_parser(alloc: Global) -> Result<ArenaParser, AllocError> {
+    Ok(parse_document(alloc, Arena::new(alloc)?, ParseOpts::default()))
+}
 
 /// A builder of a document, over an arena.
 pub fn new_builder(alloc: Global) -> Result<ArenaBuilder, AllocError> {
