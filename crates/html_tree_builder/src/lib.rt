@@ -1,4 +1,5 @@
-//! The tree builder, driver and serializer of html5ever, proved: every module under its name there.
+//! The tree builder, driver and serializer of html5ever, proved: every module under its name there, and at the root the names that
+//! most callers need.
 //!
 //! ```text
 //! text -> driver::Parser -> a sink of trees (arena::Arena) -> serialize::serialize -> text
@@ -8,12 +9,19 @@
 pub mod laws;
 
 pub use h5_arena as arena;
+pub use h5_arena::{Arena, NodeId};
 pub use h5_data as data;
 pub use h5_driver as driver;
+pub use h5_driver::{
+    ParseOpts, Parser, parse_document, parse_fragment, parse_fragment_for_element,
+};
 pub use h5_encoding as encoding;
 pub use h5_interface as interface;
+pub use h5_interface::{NodeOrText, QuirksMode, TreeSink};
 pub use h5_names as names;
+pub use h5_names::{Attribute, ExpandedName, LocalName, Namespace, Prefix, QualName, namespaces};
 pub use h5_serialize as serialize;
+pub use h5_serialize::{Serialize, SerializeOpts, Serializer, TraversalScope};
 pub use h5_tag_sets as tag_sets;
 pub use h5_token as token;
 pub use h5_tokenizer as tokenizer;
