@@ -10,10 +10,10 @@ ghost use Rattle.h5_state.specs.Steps.{IsSound, world_of};
 ghost use Rattle.h5_state.specs.OpenPlaces.{IsOpenAt};
 ghost use Rattle.h5_adoption.specs.Places.{IsBlockAt, IsEntryAt, IsListedAt};
 
-use super::walk::{ends_scope, entry_at, entry_count, open_at, open_count};
+use super::walk::{ends_scope, entry_at, entry_count};
 use h5_interface::TreeSink;
 use h5_names::LocalName;
-use h5_state::State;
+use h5_state::{State, open_at, open_count};
 use h5_types::FormatEntry;
 
 /// Where the formatting element of a name is listed: the newest entry of the name after the last marker.

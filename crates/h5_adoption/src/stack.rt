@@ -5,9 +5,8 @@ ghost use Rattle.h5_state.specs.Steps.{IsSound, world_of};
 ghost use Rattle.h5_state.specs.View.{stack_under};
 ghost use Rattle.h5_adoption.specs.Becomes.{Becomes, BecomesIfOk};
 
-use super::walk::open_count;
 use h5_interface::TreeSink;
-use h5_state::{OpenElement, State, Summary, all_under, handle_at};
+use h5_state::{OpenElement, State, Summary, all_under, handle_at, open_count};
 use std::alloc::AllocError;
 
 // Clones are pushed, the last of them first.

@@ -1,46 +1,19 @@
-//! Walks over the stack of open elements and the list of active formatting elements: places are counted from the oldest.
+//! Whether an element ends a scope, and walks over the list of active formatting elements: places are counted from the oldest.
 ghost use Rattle.std.specs.Prelude.{◌≡◌, ◌<◌, ◌+◌, ◌∷◌, ◌++◌, [], ℕ, List, length};
 ghost use Rattle.h5_token.specs.TokenText.{TagText};
 ghost use Rattle.h5_meaning.specs.FormattingList.{ElementEntry, Entry};
 ghost use Rattle.h5_adoption.specs.Rounds.{IsElementEntry};
 ghost use Rattle.h5_interface.specs.Forest.{IsElement};
-ghost use Rattle.h5_tag_sets.specs.TagSets.{is_default_scope, is_special};
+ghost use Rattle.h5_tag_sets.specs.TagSets.{is_default_scope};
 ghost use Rattle.h5_meaning.specs.World.{name_in};
-ghost use Rattle.h5_state.specs.Steps.{IsSound, world_of};
-ghost use Rattle.h5_state.specs.View.{entry_of, stack_under};
+ghost use Rattle.h5_state.specs.Steps.{world_of};
+ghost use Rattle.h5_state.specs.View.{entry_of};
 ghost use Rattle.h5_adoption.specs.View.{list_under};
 
 use h5_interface::TreeSink;
-use h5_state::{OpenElement, State};
+use h5_state::State;
 use h5_tag_sets::default_scope;
 use h5_types::FormatEntry;
-
-/// How many elements are open.
-#[tactic(auto, unfolding(h5_state::specs::View::world, h5_state::specs::View::stack_under))]
-pub fn open_count<S: TreeSink>(sink: &S, state: &State<S::Handle>) -> usize
-    ensures count { result ≡ length (world_of S.TreeSink sink.now state.now).stack }
-    ensures all { stack_under S.node state.now result ≡ (world_of S.TreeSink sink.now state.now).stack }
-    ensures none { stack_under S.node state.now 0 ≡ [] }
-{
-    state.open_elems.len()
-}
-
-/// The open element at a place, and what is kept beside it.
-#[tactic(auto, unfolding(h5_state::specs::View::world, h5_state::specs::View::stack_under))]
-pub fn open_at<'a, S: TreeSink>(
-    sink: &S,
-    state: &'a State<S::Handle>,
-    place: usize,
-) -> &'a OpenElement<S::Handle>
-    requires sound { IsSound S.TreeSink sink.now state.now }
-    requires place { place < length (world_of S.TreeSink sink.now state.now).stack }
-    ensures element { IsElement (S.sees sink.now).forest (S.node result.now.handle) }
-    ensures special { result.now.summary.special ≡ is_special (name_in (S.sees sink.now).forest (S.node result.now.handle)) }
-    ensures stack { stack_under S.node state.now (place + 1) ≡ S.node result.now.handle ∷ stack_under S.node state.now place }
-    ensures count { length (stack_under S.node state.now place) ≡ place }
-{
-    &state.open_elems[place]
-}
 
 /// Whether an element ends a scope.
 pub fn ends_scope<S: TreeSink>(sink: &S, handle: &S::Handle) -> bool

@@ -27,7 +27,7 @@ returns-then-open_at-clause-block g c = λ n k.
     let state = c.args.state.now in
     let cut = stack_cut node state (c.up.above + 1) in
     block_at n c.args.place c.up.above (node c.open_at.result.now.handle) cut.newer (stack_under node state c.up.above) _ k
-    (cut.cut ∙ ap (λ s. cut.newer ++ s) c.open_at.ensures.stack) (sym c.open_at.ensures.count) c.up.invariant.below
+    (cut.cut ∙ ap (λ s. cut.newer ++ s) c.open_at.ensures.here) (sym c.open_at.ensures.count) c.up.invariant.below
     (sym c.open_at.ensures.special ∙ c.if-open_at.true) (c.up.invariant.none n k)
 
 pub up-preserved : goal.up-preserved
@@ -41,7 +41,7 @@ up-preserved g c = record {
       let state = c.args.state.now in
       let special = λ (m : ℕ). is_special (name_in (g.S.TreeSink.sees c.args.sink.now).forest m) in
       let at = stands_below node state n c.args.place (c.up.above + 1) (stands_at n c.args.place _ k) (omega (arith, c.up.invariant.below)) (omega (arith, c.up-test.true, c.up.invariant.count)) in
-      let one = one_left special n c.args.place _ _ _ c.open_at.ensures.stack at (omega (arith, c.up.invariant.below, c.open_at.ensures.count)) in
+      let one = one_left special n c.args.place _ _ _ c.open_at.ensures.here at (omega (arith, c.up.invariant.below, c.open_at.ensures.count)) in
       one.1 ∙ ap (λ b. b || list_any special (newer_than n (stack_under node state c.up.above))) (sym c.open_at.ensures.special ∙ c.if-open_at.false) ∙ c.up.invariant.none n k;
 }
 
@@ -52,5 +52,5 @@ returns-clause-block g c = λ n k.
     let state = c.args.state.now in
     let special = λ (m : ℕ). is_special (name_in (g.S.TreeSink.sees c.args.sink.now).forest m) in
     let all : stack_under node state c.up.above ≡ reverse (map (open_node node) state.open_elems.items) =
-    ap (stack_under node state) (omega (arith, c.up.invariant.above, c.up-test.false)) ∙ c.open_count-count.ensures.all in
+    ap (stack_under node state) (omega (arith, c.up.invariant.above, c.up-test.false)) ∙ c.open_count-count.ensures.stack in
     furthest_none special _ (ap (λ s. list_any special (newer_than n s)) (sym all) ∙ c.up.invariant.none n k)

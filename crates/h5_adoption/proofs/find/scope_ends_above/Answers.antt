@@ -12,7 +12,7 @@ unfolding world
 down-init g c = record {
   above = omega (arith, c.open_count-above.ensures.count);
   below = omega (arith, c.open_count-above.ensures.count, c.requires.place);
-  left = λ n k. ap (λ s. list_any (λ (m : ℕ). is_default_scope (name_in (g.S.TreeSink.sees c.args.sink.now).forest m)) (newer_than n s)) c.open_count-above.ensures.all;
+  left = λ n k. ap (λ s. list_any (λ (m : ℕ). is_default_scope (name_in (g.S.TreeSink.sees c.args.sink.now).forest m)) (newer_than n s)) c.open_count-above.ensures.stack;
 }
 
 pub returns-then-ends_scope : goal.returns-then-ends_scope
@@ -23,7 +23,7 @@ returns-then-ends_scope g c = λ n k.
     let ends = λ (m : ℕ). is_default_scope (name_in (g.S.TreeSink.sees c.args.sink.now).forest m) in
     let here : c.down.above ≡ c.down.above - 1 + 1 = omega (arith, c.down-test.true) in
     let at = stands_below node state n c.args.place c.down.above (stands_at n c.args.place _ k) c.down.invariant.below c.down.invariant.above in
-    let one = one_left ends n c.args.place _ _ _ (ap (stack_under node state) here ∙ c.open_at.ensures.stack) at (omega (arith, c.down-test.true, c.open_at.ensures.count)) in
+    let one = one_left ends n c.args.place _ _ _ (ap (stack_under node state) here ∙ c.open_at.ensures.here) at (omega (arith, c.down-test.true, c.open_at.ensures.count)) in
     ap (λ b. b || list_any ends (newer_than n (stack_under node state (c.down.above - 1)))) (sym c.if-ends_scope.true ∙ c.ends_scope.ensures) ∙ sym one.1 ∙ c.down.invariant.left n k
 
 pub down-preserved : goal.down-preserved
@@ -37,7 +37,7 @@ down-preserved g c = record {
       let ends = λ (m : ℕ). is_default_scope (name_in (g.S.TreeSink.sees c.args.sink.now).forest m) in
       let here : c.down.above ≡ c.down.above - 1 + 1 = omega (arith, c.down-test.true) in
       let at = stands_below node state n c.args.place c.down.above (stands_at n c.args.place _ k) c.down.invariant.below c.down.invariant.above in
-      let one = one_left ends n c.args.place _ _ _ (ap (stack_under node state) here ∙ c.open_at.ensures.stack) at (omega (arith, c.down-test.true, c.open_at.ensures.count)) in
+      let one = one_left ends n c.args.place _ _ _ (ap (stack_under node state) here ∙ c.open_at.ensures.here) at (omega (arith, c.down-test.true, c.open_at.ensures.count)) in
       ap (λ b. b || list_any ends (newer_than n (stack_under node state (c.down.above - 1)))) (sym c.if-ends_scope.false ∙ c.ends_scope.ensures) ∙ sym one.1 ∙ c.down.invariant.left n k;
 }
 

@@ -17,5 +17,5 @@ up-preserved g c =
 pub returns : goal.returns
 unfolding world
 returns g c = λ newer e.
-    let all : stack_under g.S.TreeSink.node c.args.state.now c.up.place ≡ _ = ap (stack_under g.S.TreeSink.node c.args.state.now) (omega (arith, c.up-test.false, c.up.invariant.place)) ∙ c.open_count-count.ensures.all in
+    let all : stack_under g.S.TreeSink.node c.args.state.now c.up.place ≡ _ = ap (stack_under g.S.TreeSink.node c.args.state.now) (omega (arith, c.up-test.false, c.up.invariant.place)) ∙ c.open_count-count.ensures.stack in
     carried_all _ _ _ _ newer c.up.invariant.pushed (all ∙ e)
