@@ -5,7 +5,7 @@ use Rattle.h5_names.specs.declared.qualified.QualName.{QualName}
 use Rattle.h5_interface.specs.Changes.{mark}
 use Rattle.h5_interface.specs.Forest.{Forest, Marks, Node, kind_of}
 use Rattle.h5_interface.specs.SinkChoices.{SinkChoices}
-use Rattle.h5_tag_sets.specs.TagSets.{is_html_named, is_implied, is_thorough_implied}
+use Rattle.h5_tag_sets.specs.TagSets.{is_implied, is_thorough_implied}
 use Rattle.h5_meaning.specs.Changes.{generate_implied_end_except, mark_started, pop, pop_while}
 use Rattle.h5_meaning.specs.Closing.{generate_implied_end, generate_implied_end_thoroughly}
 use Rattle.h5_meaning.specs.Scope.{cut_above, cut_through, first_passes, is_implied_but, later_names}
@@ -13,7 +13,6 @@ use Rattle.h5_meaning.specs.Sound.{AllStand}
 use Rattle.h5_meaning.specs.World.{World, current, name_in, name_of_found, names_of}
 use Rattle.h5_meaning.specs.FormattingList.{Entry}
 use Rattle.h5_meaning.specs.Order.{but_first}
-use Rattle.h5_meaning.proofs.BoolLaws.{and_not}
 use Rattle.h5_meaning.proofs.SoundLaws.{all_but_first}
 
 -- as many names as open elements
@@ -45,7 +44,7 @@ pub names-mark_started : (choices : SinkChoices) (w : World) → names_of (mark_
 unfolding names_of mark_started
 names-mark_started choices w = marked_names (choices.marks_after_started w.forest (current w)) w.forest w.stack
 
-pub while_step : (choices : SinkChoices) (p : QualName → Bool) (ns : List QualName) (w : World) → first_passes p ns ≡ true → pop_while choices p ns w ≡ pop_while choices p (later_names ns) (pop choices w)
+while_step : (choices : SinkChoices) (p : QualName → Bool) (ns : List QualName) (w : World) → first_passes p ns ≡ true → pop_while choices p ns w ≡ pop_while choices p (later_names ns) (pop choices w)
 while_step choices p [] w h = absurd (cc)
 while_step choices p (n ∷ ns) w h = ap (λ b. cond b (pop_while choices p ns (pop choices w)) w) h
 
@@ -53,32 +52,19 @@ pub while_none : (choices : SinkChoices) (p : QualName → Bool) (ns : List Qual
 while_none choices p [] w h = refl
 while_none choices p (n ∷ ns) w h = ap (λ b. cond b (pop_while choices p ns (pop choices w)) w) h
 
--- one implied end more
-pub implied_step : (choices : SinkChoices) (local : List ℕ) (w : World) → first_passes (is_implied_but local) (names_of w) ≡ true → generate_implied_end_except choices local (pop choices w) ≡ generate_implied_end_except choices local w
-unfolding generate_implied_end_except
-implied_step choices local w h =
-    ap (λ ns. pop_while choices (is_implied_but local) ns (pop choices w)) (names-pop choices w)
-    ∙ sym (while_step choices (is_implied_but local) (names_of w) w h)
+-- one element more is popped
+pub while_popped : (choices : SinkChoices) (p : QualName → Bool) (w : World) → first_passes p (names_of w) ≡ true → pop_while choices p (names_of (pop choices w)) (pop choices w) ≡ pop_while choices p (names_of w) w
+while_popped choices p w h =
+    ap (λ ns. pop_while choices p ns (pop choices w)) (names-pop choices w)
+    ∙ sym (while_step choices p (names_of w) w h)
 
 pub implied_none : (choices : SinkChoices) (local : List ℕ) (w : World) → first_passes (is_implied_but local) (names_of w) ≡ false → generate_implied_end_except choices local w ≡ w
 unfolding generate_implied_end_except
 implied_none choices local w h = while_none choices (is_implied_but local) (names_of w) w h
 
-pub all_implied_step : (choices : SinkChoices) (w : World) → first_passes is_implied (names_of w) ≡ true → generate_implied_end choices (pop choices w) ≡ generate_implied_end choices w
-unfolding generate_implied_end
-all_implied_step choices w h =
-    ap (λ ns. pop_while choices is_implied ns (pop choices w)) (names-pop choices w)
-    ∙ sym (while_step choices is_implied (names_of w) w h)
-
 pub all_implied_none : (choices : SinkChoices) (w : World) → first_passes is_implied (names_of w) ≡ false → generate_implied_end choices w ≡ w
 unfolding generate_implied_end
 all_implied_none choices w h = while_none choices is_implied (names_of w) w h
-
-pub thorough_implied_step : (choices : SinkChoices) (w : World) → first_passes is_thorough_implied (names_of w) ≡ true → generate_implied_end_thoroughly choices (pop choices w) ≡ generate_implied_end_thoroughly choices w
-unfolding generate_implied_end_thoroughly
-thorough_implied_step choices w h =
-    ap (λ ns. pop_while choices is_thorough_implied ns (pop choices w)) (names-pop choices w)
-    ∙ sym (while_step choices is_thorough_implied (names_of w) w h)
 
 pub thorough_implied_none : (choices : SinkChoices) (w : World) → first_passes is_thorough_implied (names_of w) ≡ false → generate_implied_end_thoroughly choices w ≡ w
 unfolding generate_implied_end_thoroughly
@@ -123,7 +109,7 @@ unfolding pop
 pop_stack choices w = refl
 
 -- what is popped is no element that a stack is cut at, so cutting at it gives the same
-cut_popped : (choices : SinkChoices) (popped is : QualName → Bool) → ((n : QualName) → popped n ≡ true → is n ≡ false) → (ns : List QualName) (w : World) → names_of w ≡ ns
+pub cut_popped : (choices : SinkChoices) (popped is : QualName → Bool) → ((n : QualName) → popped n ≡ true → is n ≡ false) → (ns : List QualName) (w : World) → names_of w ≡ ns
     → let v = pop_while choices popped ns w in cut_through is (names_of v) v.stack ≡ cut_through is ns w.stack
 cut_popped choices popped is apart [] w e = ap (λ ns. cut_through is ns w.stack) e
 cut_popped choices popped is apart (n ∷ ns) w e =
@@ -134,13 +120,3 @@ cut_popped choices popped is apart (n ∷ ns) w e =
         → let v = cond b (pop_while choices popped ns (pop choices w)) w in cut_through is (names_of v) v.stack ≡ cut_through is (n ∷ ns) w.stack
     at true h later = later ∙ ap (λ c. cond c (but_first w.stack) (cut_through is ns (but_first w.stack))) (sym (apart n h))
     at false h later = ap (λ ms. cut_through is ms w.stack) e
-
-pub cut_behind_implied : (choices : SinkChoices) (local : List ℕ) (w : World) → let v = generate_implied_end_except choices local w in
-    cut_through (is_html_named local) (names_of v) v.stack ≡ cut_through (is_html_named local) (names_of w) w.stack
-unfolding generate_implied_end_except
-cut_behind_implied choices local w = cut_popped choices (is_implied_but local) (is_html_named local) (λ n h. (and_not (is_implied n) (is_html_named local n) h).1) (names_of w) w refl
-
-pub cut_behind_all_implied : (choices : SinkChoices) (is : QualName → Bool) (w : World) → ((n : QualName) → is_implied n ≡ true → is n ≡ false) → let v = generate_implied_end choices w in
-    cut_through is (names_of v) v.stack ≡ cut_through is (names_of w) w.stack
-unfolding generate_implied_end
-cut_behind_all_implied choices is w apart = cut_popped choices is_implied is apart (names_of w) w refl

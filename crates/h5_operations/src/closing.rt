@@ -12,10 +12,11 @@ ghost use Rattle.h5_state.specs.Steps.{IsSound, Makes, world_of};
 use h5_interface::TreeSink;
 use h5_names::{KnownName, LocalName};
 use h5_state::{
-    DefaultScope, Heading, Local, NameTest, State, find_in_scope, find_named,
-    generate_implied_end_except, has_p_in_button_scope, in_scope_named, is_current,
-    is_current_html, is_current_implied, pop, pop_until_named, truncate,
+    Local, NameTest, State, find_in_scope, find_named, generate_implied_end_except,
+    has_p_in_button_scope, in_scope_named, is_current, is_current_html, pop, pop_until_named,
+    pop_while, truncate,
 };
+use h5_tag_sets::ElementSet;
 
 /// Where the first HTML element of this name stands, from the current node on, if it is in scope: so many elements are
 /// older.
@@ -28,7 +29,7 @@ pub fn find_in_default_scope<S: TreeSink>(
     ensures found { is_some result ≡ in_scope (is_html_named local.now) is_default_scope (names_of (world_of S.TreeSink sink.now state.now)) }
     ensures place { MatchOption result (Unit {0}) (λ place. place ≡ length (cut_through (is_html_named local.now) (names_of (world_of S.TreeSink sink.now state.now)) (world_of S.TreeSink sink.now state.now).stack)) }
 {
-    find_in_scope(sink, state, &Local(local), &DefaultScope)
+    find_in_scope(sink, state, &Local(local), &ElementSet::DefaultScope)
 }
 
 /// The same of the first heading, `h1` to `h6`.
@@ -37,7 +38,7 @@ pub fn find_heading_in_scope<S: TreeSink>(sink: &S, state: &State<S::Handle>) ->
     ensures found { is_some result ≡ in_scope is_heading is_default_scope (names_of (world_of S.TreeSink sink.now state.now)) }
     ensures place { MatchOption result (Unit {0}) (λ place. place ≡ length (cut_through is_heading (names_of (world_of S.TreeSink sink.now state.now)) (world_of S.TreeSink sink.now state.now).stack)) }
 {
-    find_in_scope(sink, state, &Heading, &DefaultScope)
+    find_in_scope(sink, state, &ElementSet::Heading, &ElementSet::DefaultScope)
 }
 
 /// Whether the current node is a heading.
@@ -45,7 +46,7 @@ pub fn is_current_heading<S: TreeSink>(sink: &S, state: &State<S::Handle>) -> bo
     requires { IsSound S.TreeSink sink.now state.now }
     ensures { result ≡ first_passes is_heading (names_of (world_of S.TreeSink sink.now state.now)) }
 {
-    is_current(sink, state, &Heading)
+    is_current(sink, state, &ElementSet::Heading)
 }
 
 /// Pops elements whose end tags are implied (HTML standard, section 13.2.6.3, "generate implied end tags"). What is older
@@ -57,9 +58,7 @@ pub fn generate_implied_end<S: TreeSink>(sink: &mut S, state: &mut State<S::Hand
         → cut_through is (names_of (world_of S.TreeSink sink.new state.new)) (world_of S.TreeSink sink.new state.new).stack
         ≡ cut_through is (names_of (world_of S.TreeSink sink.old state.old)) (world_of S.TreeSink sink.old state.old).stack }
 {
-    'implied: while is_current_implied(sink, state) {
-        pop(sink, state);
-    }
+    pop_while(sink, state, &ElementSet::CursoryImpliedEnd);
 }
 
 /// The same, where an HTML `select` is in scope.

@@ -14,9 +14,10 @@ ghost use Rattle.h5_state.specs.Steps.{IsSound, Makes, world_of};
 use h5_interface::TreeSink;
 use h5_names::{KnownName, LocalName, QualName};
 use h5_state::{
-    Known, ListItemScope, OpenElement, State, find_in_scope, find_named,
-    generate_implied_end_except, is_current_html, open_at, open_count, pop_until_named,
+    Known, OpenElement, State, find_in_scope, find_named, generate_implied_end_except,
+    is_current_html, open_at, open_count, pop_until_named,
 };
+use h5_tag_sets::ElementSet;
 
 /// Items that close one another.
 #[derive(Clone, Copy)]
@@ -115,5 +116,10 @@ pub fn find_li_in_list_item_scope<S: TreeSink>(sink: &S, state: &State<S::Handle
     ensures found { is_some result ≡ in_scope (is_html_named (codes "li")) is_list_item_scope (names_of (world_of S.TreeSink sink.now state.now)) }
     ensures place { MatchOption result (Unit {0}) (λ place. place ≡ length (cut_through (is_html_named (codes "li")) (names_of (world_of S.TreeSink sink.now state.now)) (world_of S.TreeSink sink.now state.now).stack)) }
 {
-    find_in_scope(sink, state, &Known(KnownName::Li), &ListItemScope)
+    find_in_scope(
+        sink,
+        state,
+        &Known(KnownName::Li),
+        &ElementSet::ListItemScope,
+    )
 }

@@ -19,10 +19,8 @@ use h5_rules_body::{in_body_tag, step_in_body};
 use h5_rules_shared::{
     clear_active_formatting_to_marker, expect_to_close, is_any_of, is_table_structure,
 };
-use h5_state::{
-    Cell, Local, State, Turn, is_current_html, pop_until_named, set_mode, unexpected_tag,
-};
-use h5_tag_sets::NameSet;
+use h5_state::{Local, State, Turn, is_current_html, pop_until_named, set_mode, unexpected_tag};
+use h5_tag_sets::{ElementSet, NameSet};
 use h5_token::{Tag, TagKind};
 use h5_types::{InsertionMode, ProcessResult, Token};
 
@@ -83,7 +81,7 @@ fn in_cell_start_structure<S: TreeSink>(
     requires { IsSound S.TreeSink sink.old state.old }
     ensures { TakesTag S.TreeSink in_cell_start_structure tag sink.old state.old sink.new state.new result }
 {
-    if has_in_table_scope(sink, state, &Cell) {
+    if has_in_table_scope(sink, state, &ElementSet::TdTh) {
         close_the_cell(sink, state, tag)
     } else {
         unexpected_tag(sink, state, &tag);

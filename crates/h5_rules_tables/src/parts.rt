@@ -9,7 +9,8 @@ use h5_interface::TreeSink;
 use h5_names::{KnownName, LocalName};
 use h5_operations::{find_in_table_scope, pop_until_current};
 use h5_rules_shared::is_any_of;
-use h5_state::{NameTest, State, TableBodyContext, TableRowContext, TableScope};
+use h5_state::{NameTest, State};
+use h5_tag_sets::ElementSet;
 
 /// Whether an element whose name passes is in table scope.
 pub(crate) fn has_in_table_scope<S: TreeSink, Is: NameTest>(
@@ -39,7 +40,7 @@ pub(crate) fn clear_to_table_context<S: TreeSink>(sink: &S, state: &mut State<S:
     requires { IsSound S.TreeSink sink.now state.old }
     ensures { Makes S.TreeSink (PopUntilCurrent is_table_scope) sink.now state.old sink.now state.new }
 {
-    pop_until_current(sink, state, &TableScope);
+    pop_until_current(sink, state, &ElementSet::TableScope);
 }
 
 /// Clears the stack of open elements back to a table body context.
@@ -47,7 +48,7 @@ pub(crate) fn clear_to_table_body_context<S: TreeSink>(sink: &S, state: &mut Sta
     requires { IsSound S.TreeSink sink.now state.old }
     ensures { Makes S.TreeSink (PopUntilCurrent is_table_body_context) sink.now state.old sink.now state.new }
 {
-    pop_until_current(sink, state, &TableBodyContext);
+    pop_until_current(sink, state, &ElementSet::TableBodyContext);
 }
 
 /// Clears the stack of open elements back to a table row context.
@@ -55,5 +56,5 @@ pub(crate) fn clear_to_table_row_context<S: TreeSink>(sink: &S, state: &mut Stat
     requires { IsSound S.TreeSink sink.now state.old }
     ensures { Makes S.TreeSink (PopUntilCurrent is_table_row_context) sink.now state.old sink.now state.new }
 {
-    pop_until_current(sink, state, &TableRowContext);
+    pop_until_current(sink, state, &ElementSet::TableRowContext);
 }

@@ -15,16 +15,13 @@ mod steps;
 pub use blanks::{first_run, is_blank_text, set_frameset_ok_by_text};
 pub use errors::{tell_error, unexpected, unexpected_tag};
 pub use find::{find_open, handle_at, is_node_in_scope};
-pub use name_test::{
-    Cell, DefaultScope, FosterParent, Heading, Known, ListItemScope, Local, NameTest, Nothing,
-    TableBodyContext, TableOuter, TableRowContext, TableScope,
-};
+pub use name_test::{FosterParent, Known, Local, NameTest, Nothing};
 pub use open_element::{AllOpen, FIRST_TEXT_NUMBER, OpenElement, Summary, html_number};
 pub use open_elems::{
     all_open, check_body_end, find_before_special, find_in_scope, find_named,
     generate_implied_end_except, has_body_in_scope, has_body_second, has_open_template,
-    has_p_in_button_scope, in_scope_named, is_current, is_current_html, is_current_implied,
-    is_named, name_at, open_at, open_count, open_templates, pop_until_named, root_node, truncate,
+    has_p_in_button_scope, in_scope_named, is_current, is_current_html, is_named, name_at, open_at,
+    open_count, open_templates, pop_until_named, pop_while, root_node, truncate,
 };
 pub use pending_text::PendingText;
 pub use renew::{all_under, renew_from};

@@ -2,14 +2,19 @@
 ghost use Rattle.std.specs.Prelude.{◌≡◌, Bool, false};
 ghost use Rattle.h5_names.specs.declared.qualified.QualName.{QualName as NameText};
 ghost use Rattle.h5_names.specs.KnownNames.{name_text};
-ghost use Rattle.h5_tag_sets.specs.TagSets.{is_cell, is_default_scope, is_heading, is_html_named, is_list_item_scope, is_table_body_context, is_table_outer, is_table_row_context, is_table_scope};
+ghost use Rattle.h5_interface.specs.Forest.{IsElement};
+ghost use Rattle.h5_tag_sets.specs.ElementSets.{holds_element};
+ghost use Rattle.h5_tag_sets.specs.TagSets.{is_html_named, is_implied};
 ghost use Rattle.h5_meaning.specs.Place.{is_foster_parent};
+ghost use Rattle.h5_meaning.specs.Scope.{is_implied_but};
+ghost use Rattle.h5_meaning.specs.World.{name_in};
+ghost use Rattle.h5_state.specs.Summaries.{name_number};
 
+use super::open_element::{OpenElement, html_number};
+use super::open_elems::is_named;
+use h5_interface::TreeSink;
 use h5_names::{KnownName, LocalName, QualName};
-use h5_tag_sets::{
-    default_scope, heading_tag, is_html_known, is_html_local, list_item_scope, table_body_context,
-    table_outer, table_row_context, table_scope, td_th,
-};
+use h5_tag_sets::{ElementSet, cursory_implied_end, is_html_known, is_html_local};
 
 /// A question about the name of an element.
 pub trait NameTest {
@@ -19,6 +24,17 @@ pub trait NameTest {
     /// Whether a name passes.
     fn test(&self, name: &QualName) -> bool
         ensures { result ≡ holds self.now name.now };
+
+    /// Whether the name of an open element passes. The sink is asked for the name only where what is kept beside the
+    /// element doesn't tell.
+    fn test_open<S: TreeSink>(&self, sink: &S, element: &OpenElement<S::Handle>) -> bool
+        requires element { IsElement (S.sees sink.now).forest (S.node element.now.handle) }
+        requires number { element.now.summary.number ≡ name_number (name_in (S.sees sink.now).forest (S.node element.now.handle)) }
+        requires implied { element.now.summary.implied ≡ is_implied (name_in (S.sees sink.now).forest (S.node element.now.handle)) }
+        ensures { result ≡ holds self.now (name_in (S.sees sink.now).forest (S.node element.now.handle)) }
+    {
+        self.test(sink.elem_name(&element.handle))
+    }
 }
 
 /// Whether this is the name of an HTML element of this known name.
@@ -43,101 +59,44 @@ impl NameTest for Local<'_> {
     fn test(&self, name: &QualName) -> bool {
         is_html_local(name, self.0)
     }
-}
 
-/// Whether an element is a heading.
-#[derive(Clone, Copy)]
-pub struct Heading;
-
-impl NameTest for Heading {
-    ghost holds = { λ t name. is_heading name };
-
-    fn test(&self, name: &QualName) -> bool {
-        heading_tag(name)
+    // A number of the name is kept beside an open element.
+    fn test_open<S: TreeSink>(&self, sink: &S, element: &OpenElement<S::Handle>) -> bool {
+        is_named(sink, element, self.0, html_number(self.0))
     }
 }
 
-/// Whether an element ends a scope.
-#[derive(Clone, Copy)]
-pub struct DefaultScope;
+impl NameTest for ElementSet {
+    ghost holds = { λ t name. holds_element t name };
 
-impl NameTest for DefaultScope {
-    ghost holds = { λ t name. is_default_scope name };
-
+    #[inline(always)]
     fn test(&self, name: &QualName) -> bool {
-        default_scope(name)
+        self.holds(name)
+    }
+
+    // Whether an end tag is implied is kept beside an open element.
+    #[inline(always)]
+    fn test_open<S: TreeSink>(&self, sink: &S, element: &OpenElement<S::Handle>) -> bool {
+        match self {
+            ElementSet::CursoryImpliedEnd => element.summary.implied,
+            set => set.holds(sink.elem_name(&element.handle)),
+        }
     }
 }
 
-/// Whether an element ends a list item scope.
+/// Whether the end tag of an element is implied, and it is no HTML element of this local name.
 #[derive(Clone, Copy)]
-pub struct ListItemScope;
+pub struct ImpliedBut<'a>(pub &'a LocalName);
 
-impl NameTest for ListItemScope {
-    ghost holds = { λ t name. is_list_item_scope name };
+impl NameTest for ImpliedBut<'_> {
+    ghost holds = { λ t name. is_implied_but t.0.now name };
 
     fn test(&self, name: &QualName) -> bool {
-        list_item_scope(name)
+        cursory_implied_end(name) && !is_html_local(name, self.0)
     }
-}
 
-/// Whether an element ends a table scope. It is a table context, too.
-#[derive(Clone, Copy)]
-pub struct TableScope;
-
-impl NameTest for TableScope {
-    ghost holds = { λ t name. is_table_scope name };
-
-    fn test(&self, name: &QualName) -> bool {
-        table_scope(name)
-    }
-}
-
-/// Whether an element is a table body context.
-#[derive(Clone, Copy)]
-pub struct TableBodyContext;
-
-impl NameTest for TableBodyContext {
-    ghost holds = { λ t name. is_table_body_context name };
-
-    fn test(&self, name: &QualName) -> bool {
-        table_body_context(name)
-    }
-}
-
-/// Whether an element is a table row context.
-#[derive(Clone, Copy)]
-pub struct TableRowContext;
-
-impl NameTest for TableRowContext {
-    ghost holds = { λ t name. is_table_row_context name };
-
-    fn test(&self, name: &QualName) -> bool {
-        table_row_context(name)
-    }
-}
-
-/// Whether what is put into an element is foster-parented, where foster parenting is on.
-#[derive(Clone, Copy)]
-pub struct TableOuter;
-
-impl NameTest for TableOuter {
-    ghost holds = { λ t name. is_table_outer name };
-
-    fn test(&self, name: &QualName) -> bool {
-        table_outer(name)
-    }
-}
-
-/// Whether an element is a cell of a table.
-#[derive(Clone, Copy)]
-pub struct Cell;
-
-impl NameTest for Cell {
-    ghost holds = { λ t name. is_cell name };
-
-    fn test(&self, name: &QualName) -> bool {
-        td_th(name)
+    fn test_open<S: TreeSink>(&self, sink: &S, element: &OpenElement<S::Handle>) -> bool {
+        element.summary.implied && !Local(self.0).test_open(sink, element)
     }
 }
 

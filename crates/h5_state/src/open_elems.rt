@@ -1,11 +1,13 @@
 //! Questions about the stack of open elements (HTML standard, section 13.2.4.2, "The stack of open
 //! elements"), and what closes elements.
-ghost use Rattle.std.specs.Prelude.{◌≡◌, ◌<◌, ◌≤◌, ◌+◌, ◌∷◌, [], ℕ, true, false, length, codes, MatchOption, is_some};
+ghost use Rattle.std.specs.Prelude.{◌≡◌, ◌<◌, ◌≤◌, ◌+◌, ◌∷◌, [], ℕ, Bool, true, false, length, codes, MatchOption, is_some};
+ghost use Rattle.h5_names.specs.declared.qualified.QualName.{QualName as NameText};
 ghost use Rattle.h5_names.specs.KnownNames.{name_text};
 ghost use Rattle.h5_interface.specs.Forest.{IsElement};
 ghost use Rattle.h5_tag_sets.specs.TagSets.{is_default_scope, is_html_named, is_implied, is_special};
+ghost use Rattle.h5_meaning.specs.Changes.{pop_while};
 ghost use Rattle.h5_meaning.specs.Order.{but_first};
-ghost use Rattle.h5_meaning.specs.Scope.{comes_before_special, cut_through, first_passes, has_body_in_scope, has_p_in_button_scope, has_template, has_unclosed, in_scope, is_implied_but, second_is};
+ghost use Rattle.h5_meaning.specs.Scope.{comes_before_special, cut_through, first_passes, has_body_in_scope, has_p_in_button_scope, has_template, has_unclosed, in_scope, second_is};
 ghost use Rattle.h5_meaning.specs.Rows.{GenerateImpliedEndExcept, PopUntilNamed};
 ghost use Rattle.h5_meaning.specs.World.{name_in, names_of, root};
 ghost use Rattle.h5_state.specs.Steps.{IsSound, Makes, TellsErrors, errors_of, world_of};
@@ -13,13 +15,13 @@ ghost use Rattle.h5_state.specs.Summaries.{all_open, html_number, name_number, o
 ghost use Rattle.h5_state.specs.View.{kept_of, names_under, stack_under, with_stack};
 
 use super::errors::tell_error;
-use super::name_test::{DefaultScope, Known, NameTest};
+use super::name_test::{ImpliedBut, Known, Local, NameTest};
 use super::open_element::{AllOpen, FIRST_TEXT_NUMBER, OpenElement, html_number};
 use super::state::State;
 use super::steps::pop;
 use h5_interface::TreeSink;
 use h5_names::{KnownName, LocalName, QualName};
-use h5_tag_sets::{is_html_known, is_html_local};
+use h5_tag_sets::{ElementSet, is_html_known, is_html_local};
 
 /// How many elements are open.
 #[tactic(auto, unfolding(crate::specs::View::world, crate::specs::View::names_under, crate::specs::View::stack_under, h5_meaning::specs::World::names_of))]
@@ -88,6 +90,7 @@ pub fn is_named<S: TreeSink>(
 
 // The walk over the names of open elements, from the current node on: the place, counted from the root, of the first
 // element whose name passes, where it comes before, or is, the first that ends the scope.
+#[inline(always)]
 pub fn find_in_scope<S: TreeSink, Is: NameTest, Ends: NameTest>(
     sink: &S,
     state: &State<S::Handle>,
@@ -117,7 +120,7 @@ pub fn in_scope_named<S: TreeSink>(sink: &S, state: &State<S::Handle>, name: Kno
     requires { IsSound S.TreeSink sink.now state.now }
     ensures { result ≡ in_scope (is_html_named (name_text name)) is_default_scope (names_of (world_of S.TreeSink sink.now state.now)) }
 {
-    find_in_scope(sink, state, &Known(name), &DefaultScope).is_some()
+    find_in_scope(sink, state, &Known(name), &ElementSet::DefaultScope).is_some()
 }
 
 /// Where the first HTML element of this name stands, from the current node on, if it comes before any special element:
@@ -253,24 +256,8 @@ pub fn has_body_second<S: TreeSink>(sink: &S, state: &State<S::Handle>) -> bool
     }
 }
 
-/// Whether the current node is an HTML element of this name.
-pub fn is_current_html<S: TreeSink>(sink: &S, state: &State<S::Handle>, local: &LocalName) -> bool
-    requires { IsSound S.TreeSink sink.now state.now }
-    ensures { result ≡ first_passes (is_html_named local.now) (names_of (world_of S.TreeSink sink.now state.now)) }
-{
-    let count = open_count(sink, state);
-    if count == 0 {
-        return false;
-    }
-    is_named(
-        sink,
-        open_at(sink, state, count - 1),
-        local,
-        html_number(local),
-    )
-}
-
 /// Whether the name of the current node passes.
+#[inline(always)]
 pub fn is_current<S: TreeSink, Is: NameTest>(sink: &S, state: &State<S::Handle>, is: &Is) -> bool
     requires { IsSound S.TreeSink sink.now state.now }
     ensures { result ≡ first_passes (Is.holds is.now) (names_of (world_of S.TreeSink sink.now state.now)) }
@@ -279,36 +266,32 @@ pub fn is_current<S: TreeSink, Is: NameTest>(sink: &S, state: &State<S::Handle>,
     if count == 0 {
         return false;
     }
-    is.test(name_at(sink, state, count - 1))
+    is.test_open(sink, open_at(sink, state, count - 1))
 }
 
-/// Whether the end tag of the current node is implied.
-pub fn is_current_implied<S: TreeSink>(sink: &S, state: &State<S::Handle>) -> bool
+/// Whether the current node is an HTML element of this name.
+pub fn is_current_html<S: TreeSink>(sink: &S, state: &State<S::Handle>, local: &LocalName) -> bool
     requires { IsSound S.TreeSink sink.now state.now }
-    ensures { result ≡ first_passes is_implied (names_of (world_of S.TreeSink sink.now state.now)) }
+    ensures { result ≡ first_passes (is_html_named local.now) (names_of (world_of S.TreeSink sink.now state.now)) }
 {
-    let count = open_count(sink, state);
-    if count == 0 {
-        return false;
-    }
-    open_at(sink, state, count - 1).summary.implied
+    is_current(sink, state, &Local(local))
 }
 
-// Whether the end tag of the current node is implied, and it is no HTML element of this name.
-fn is_current_implied_but<S: TreeSink>(
-    sink: &S,
-    state: &State<S::Handle>,
-    local: &LocalName,
-) -> bool
-    requires { IsSound S.TreeSink sink.now state.now }
-    ensures { result ≡ first_passes (is_implied_but local.now) (names_of (world_of S.TreeSink sink.now state.now)) }
+/// Pops elements while the name of the current node passes. What is older than the first element that another question
+/// finds stays, where no name passes both.
+#[inline(always)]
+pub fn pop_while<S: TreeSink, Is: NameTest>(sink: &mut S, state: &mut State<S::Handle>, is: &Is)
+    requires { IsSound S.TreeSink sink.old state.old }
+    ensures world { world_of S.TreeSink sink.new state.new ≡ pop_while S.choices (Is.holds is.now) (names_of (world_of S.TreeSink sink.old state.old)) (world_of S.TreeSink sink.old state.old) }
+    ensures quiet { errors_of S.TreeSink sink.new ≡ errors_of S.TreeSink sink.old }
+    ensures sound { IsSound S.TreeSink sink.new state.new }
+    ensures older { (other : NameText → Bool) → ((name : NameText) → Is.holds is.now name ≡ true → other name ≡ false)
+        → cut_through other (names_of (world_of S.TreeSink sink.new state.new)) (world_of S.TreeSink sink.new state.new).stack
+        ≡ cut_through other (names_of (world_of S.TreeSink sink.old state.old)) (world_of S.TreeSink sink.old state.old).stack }
 {
-    let count = open_count(sink, state);
-    if count == 0 {
-        return false;
+    'passing: while is_current(sink, state, is) {
+        pop(sink, state);
     }
-    let element = open_at(sink, state, count - 1);
-    element.summary.implied && !is_named(sink, element, local, html_number(local))
 }
 
 /// Pops elements whose end tags are implied, but no HTML element of this name (HTML standard, section
@@ -323,9 +306,7 @@ pub fn generate_implied_end_except<S: TreeSink>(
     ensures older { cut_through (is_html_named local.now) (names_of (world_of S.TreeSink sink.new state.new)) (world_of S.TreeSink sink.new state.new).stack
         ≡ cut_through (is_html_named local.now) (names_of (world_of S.TreeSink sink.old state.old)) (world_of S.TreeSink sink.old state.old).stack }
 {
-    'implied: while is_current_implied_but(sink, state, local) {
-        pop(sink, state);
-    }
+    pop_while(sink, state, &ImpliedBut(local));
 }
 
 /// Takes elements off the stack until the first HTML element of this name was taken off, which stands at this place. The

@@ -1,2 +1,3 @@
+pub mod ElementSets
 pub mod NameSets
 pub mod TagSets

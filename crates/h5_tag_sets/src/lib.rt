@@ -1,9 +1,11 @@
 //! Sets of elements that the rules of tree construction ask for.
 #![tactic(auto)]
 
+mod element_sets;
 mod name_sets;
 mod sets;
 
+pub use element_sets::ElementSet;
 pub use name_sets::NameSet;
 pub use sets::{
     body_end_ok, button_scope, cursory_implied_end, default_scope, formatting_tag,

@@ -1,10 +1,10 @@
 //! Each set once with an element that it holds, and one that it doesn't.
 use h5_names::{KnownName, LocalName, Namespace, QualName, namespaces};
 use h5_tag_sets::{
-    NameSet, body_end_ok, button_scope, cursory_implied_end, default_scope, formatting_tag,
-    head_content_tag, heading_tag, is_html, is_html_known, is_html_local, list_item_scope,
-    mathml_text_integration_point, special_tag, svg_html_integration_point, table_body_context,
-    table_outer, table_row_context, table_scope, td_th, thorough_implied_end,
+    ElementSet, NameSet, body_end_ok, button_scope, cursory_implied_end, default_scope,
+    formatting_tag, head_content_tag, heading_tag, is_html, is_html_known, is_html_local,
+    list_item_scope, mathml_text_integration_point, special_tag, svg_html_integration_point,
+    table_body_context, table_outer, table_row_context, table_scope, td_th, thorough_implied_end,
 };
 use std::alloc::{AllocError, Global};
 use std::process::Abort;
@@ -60,6 +60,14 @@ fn headings_and_parts_of_tables_are_told(rt: HostRuntime) {
     assert!(rt; heading_tag(&html(KnownName::H6)) && !heading_tag(&list));
     assert!(rt; td_th(&html(KnownName::Th)) && !td_th(&row));
     assert!(rt; table_outer(&row) && !table_outer(&list));
+}
+
+#[test]
+fn sets_as_values_hold_what_they_are_named_for(rt: HostRuntime) {
+    let (cell, list) = (html(KnownName::Td), html(KnownName::Ul));
+    assert!(rt; ElementSet::TdTh.holds(&cell) && !ElementSet::TdTh.holds(&list));
+    assert!(rt; ElementSet::DefaultScope.holds(&cell) && !ElementSet::DefaultScope.holds(&list));
+    assert!(rt; ElementSet::ListItemScope.holds(&list) && !ElementSet::Heading.holds(&list));
 }
 
 #[test]

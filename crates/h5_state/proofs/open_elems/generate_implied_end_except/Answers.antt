@@ -1,39 +1,12 @@
-use Rattle.std.proofs.Common.{◌<◌, length, sym, subst, ◌∙◌, ap}
 use Rattle.h5_meaning.specs.Changes.{generate_implied_end_except}
-use Rattle.h5_meaning.specs.World.{World, names_of}
-use Rattle.h5_meaning.specs.Scope.{cut_through}
-use Rattle.h5_tag_sets.specs.TagSets.{is_html_named}
-use Rattle.h5_meaning.proofs.PopLaws.{cut_behind_implied, first_is_open, implied_none, implied_step, pop_shorter}
-use Rattle.h5_state.specs.View.{world}
+use Rattle.h5_tag_sets.specs.TagSets.{is_html_named, is_implied}
+use Rattle.h5_meaning.proofs.BoolLaws.{and_not}
 use Rattle.h5_state.proofs.open_elems.generate_implied_end_except.Goals as goal
 
-pub pop-requires : goal.pop-requires
-pop-requires g c = record { sound = c.implied.invariant.sound; some = first_is_open _ _ (sym c.is_current_implied_but.ensures ∙ c.implied-test.true) }
-
-pub implied-smaller : goal.implied-smaller
-implied-smaller g c =
-    let w = world g.S.TreeSink.sees g.S.TreeSink.node c.implied.sink c.implied.state in
-    let some : 0 < length w.stack = first_is_open _ w (sym c.is_current_implied_but.ensures ∙ c.implied-test.true) in
-    subst (λ (v : World). length v.stack < length w.stack) (sym c.pop.ensures.world) (pop_shorter g.S.TreeSink.choices w some)
-
-pub implied-preserved : goal.implied-preserved
-implied-preserved g c = record {
-  sound = c.pop.ensures.sound;
-  quiet = c.pop.ensures.quiet ∙ c.implied.invariant.quiet;
-  left = ap (generate_implied_end_except g.S.TreeSink.choices c.args.local.now) c.pop.ensures.world
-      ∙ implied_step g.S.TreeSink.choices c.args.local.now _ (sym c.is_current_implied_but.ensures ∙ c.implied-test.true)
-      ∙ c.implied.invariant.left;
-}
-
 pub returns-clause-made : goal.returns-clause-made
-returns-clause-made g c = record {
-  world = sym (implied_none g.S.TreeSink.choices c.args.local.now _ (sym c.is_current_implied_but.ensures ∙ c.implied-test.false)) ∙ c.implied.invariant.left;
-  quiet = c.implied.invariant.quiet;
-  sound = c.implied.invariant.sound;
-}
+unfolding generate_implied_end_except
+returns-clause-made g c = record { world = c.pop_while.ensures.world; quiet = c.pop_while.ensures.quiet; sound = c.pop_while.ensures.sound }
 
 pub returns-clause-older : goal.returns-clause-older
 returns-clause-older g c =
-    let local = c.args.local.now in
-    let cut : World → _ = λ w. cut_through (is_html_named local) (names_of w) w.stack in
-    ap cut (sym (implied_none g.S.TreeSink.choices local _ (sym c.is_current_implied_but.ensures ∙ c.implied-test.false)) ∙ c.implied.invariant.left) ∙ cut_behind_implied g.S.TreeSink.choices local _
+    c.pop_while.ensures.older (is_html_named c.args.local.now) (λ n h. (and_not (is_implied n) (is_html_named c.args.local.now n) h).1)

@@ -1,31 +1,6 @@
-use Rattle.std.proofs.Common.{◌<◌, length, sym, subst, ◌∙◌, ap}
 use Rattle.h5_meaning.specs.Closing.{generate_implied_end_thoroughly}
-use Rattle.h5_meaning.specs.World.{World}
-use Rattle.h5_meaning.proofs.PopLaws.{first_is_open, pop_shorter, thorough_implied_none, thorough_implied_step}
-use Rattle.h5_state.specs.View.{world}
 use Rattle.h5_templates.proofs.closing.generate_implied_end_thoroughly.Goals as goal
 
-pub pop-requires : goal.pop-requires
-pop-requires g c = record { sound = c.implied.invariant.sound; some = first_is_open _ _ (sym c.is_current.ensures ∙ c.implied-test.true) }
-
-pub implied-smaller : goal.implied-smaller
-implied-smaller g c =
-    let w = world g.S.TreeSink.sees g.S.TreeSink.node c.implied.sink c.implied.state in
-    let some : 0 < length w.stack = first_is_open _ w (sym c.is_current.ensures ∙ c.implied-test.true) in
-    subst (λ (v : World). length v.stack < length w.stack) (sym c.pop.ensures.world) (pop_shorter g.S.TreeSink.choices w some)
-
-pub implied-preserved : goal.implied-preserved
-implied-preserved g c = record {
-  sound = c.pop.ensures.sound;
-  quiet = c.pop.ensures.quiet ∙ c.implied.invariant.quiet;
-  left = ap (generate_implied_end_thoroughly g.S.TreeSink.choices) c.pop.ensures.world
-      ∙ thorough_implied_step g.S.TreeSink.choices _ (sym c.is_current.ensures ∙ c.implied-test.true)
-      ∙ c.implied.invariant.left;
-}
-
 pub returns : goal.returns
-returns g c = record {
-  world = sym (thorough_implied_none g.S.TreeSink.choices _ (sym c.is_current.ensures ∙ c.implied-test.false)) ∙ c.implied.invariant.left;
-  quiet = c.implied.invariant.quiet;
-  sound = c.implied.invariant.sound;
-}
+unfolding generate_implied_end_thoroughly
+returns g c = record { world = c.pop_while.ensures.world; quiet = c.pop_while.ensures.quiet; sound = c.pop_while.ensures.sound }
