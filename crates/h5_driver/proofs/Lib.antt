@@ -5,3 +5,4 @@ pub mod RawLaws
 pub mod ReadingLaws
 pub mod StreamLaws
 pub mod PlainLaws
+pub mod ByteLaws

@@ -1,3 +1,4 @@
+pub mod Bytes
 pub mod Fragments
 pub mod Options
 pub mod Parsing

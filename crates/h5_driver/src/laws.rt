@@ -1,8 +1,10 @@
 //! Laws of texts that are parsed, each the contract of a function that does nothing.
 ghost use Rattle.std.specs.Prelude.{◌≡◌, ℕ, List, ◌++◌};
+ghost use Rattle.std.specs.Str.Lossy.{utf8_lossy};
 ghost use Rattle.h5_interface.specs.Seen.{Seen};
 ghost use Rattle.h5_meaning.specs.Run.{View};
 ghost use Rattle.h5_tokenizer.specs.Front.{Place};
+ghost use Rattle.h5_driver.specs.Bytes.{ParsingBytes, ProcessedAllBytes};
 ghost use Rattle.h5_driver.specs.Parsing.{Parses, Parsing, ProcessedAll, joined, unread, view_of};
 ghost use Rattle.h5_driver.specs.PlainTexts.{BringsBack};
 ghost use Rattle.h5_tree_builder.specs.Held.{building};
@@ -17,6 +19,15 @@ pub fn pieces_then_finish<Sink: TreeSink + Drop>()
         ProcessedAll Sink.choices Sink.sees Sink.node pieces first last
         → Parses Sink.choices last.reader.place (view_of Sink.sees Sink.node last) (unread last) told
         → Parses Sink.choices first.reader.place (view_of Sink.sees Sink.node first) (unread first ++ joined pieces) told }
+{}
+
+/// The same of bytes in UTF-8: `process` on each of some chunks, and then `finish`, by a parser of bytes. What the sink tells at
+/// the end is what it tells of the text of all bytes together, with U+FFFD for each error in them.
+pub fn chunks_then_finish<Sink: TreeSink + Drop>()
+    ensures { (chunks : List (List ℕ)) (first last : ParsingBytes Sink Sink.Handle) (told : Seen) →
+        ProcessedAllBytes Sink.choices Sink.sees Sink.node chunks first last
+        → Parses Sink.choices last.parser.reader.place (view_of Sink.sees Sink.node last.parser) (unread last.parser ++ utf8_lossy last.unfinished) told
+        → Parses Sink.choices first.parser.reader.place (view_of Sink.sees Sink.node first.parser) (unread first.parser ++ utf8_lossy (first.unfinished ++ joined chunks)) told }
 {}
 
 /// What is made of a text is one forest and one quirks mode, from one place of the reader and one view of the builder. So

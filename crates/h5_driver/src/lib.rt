@@ -2,11 +2,13 @@
 //! documents").
 #![tactic(auto)]
 
+mod bytes;
 mod fragment;
 pub mod laws;
 mod options;
 mod parser;
 
+pub use bytes::Utf8Parser;
 pub use fragment::{parse_fragment, parse_fragment_for_element};
 pub use options::ParseOpts;
 pub use parser::{Parser, parse_document};

@@ -7,8 +7,9 @@ ghost use Rattle.h5_tokenizer.specs.End.{Closes};
 ghost use Rattle.h5_tokenizer.specs.Options.{first_place};
 ghost use Rattle.h5_tree_builder.specs.Builder.{first_building};
 ghost use Rattle.h5_driver.specs.PlainTexts.{BringsBack};
-ghost use Rattle.h5_driver.specs.Parsing.{Advances, IsWorking, Parses, Processed, TakesAll, after, ended, foreign, joined, replies, view_of};
+ghost use Rattle.h5_driver.specs.Parsing.{Advances, IsParsing, IsWorking, Parses, Processed, TakesAll, after, ended, foreign, joined, replies, view_of};
 
+use super::bytes::{Utf8Parser, bytes_over};
 use super::options::ParseOpts;
 use h5_interface::TreeSink;
 use h5_token::{BuildFault, TokenSink};
@@ -56,7 +57,7 @@ fn close<Sink: TreeSink + Drop>(
 
 // How many bytes of a text are copied at a time: a 128th of it, so that memory doesn't hold it twice and its parts stay few, and
 // 64 KiB at the least.
-fn part_size(length: usize) -> usize
+pub(super) fn part_size(length: usize) -> usize
     ensures { 0 < result }
 {
     (length / 128).max(65_536)
@@ -278,6 +279,35 @@ impl<Sink: TreeSink + Drop> Parser<Sink> {
         let mut parser = self;
         parser.process_owned(text)?;
         parser.finish()
+    }
+
+    /// A parser of bytes in UTF-8 that goes on where this one is. It takes no memory.
+    pub fn from_utf8(self) -> Utf8Parser<Sink>
+        ensures parser { result.parser ≡ self }
+        ensures unfinished { result.unfinished ≡ [] }
+    {
+        bytes_over(self.alloc, self)
+    }
+
+    // What holds of a parser at every moment, of this one.
+    pub(super) fn stands(&self)
+        ensures { IsParsing Sink.sees Sink.node self.now }
+    {
+        let _reader = &self.tokenizer;
+    }
+
+    // Whether it has failed.
+    pub(super) fn has_failed(&self) -> bool
+        ensures { result ≡ self.now.failed }
+    {
+        self.failed
+    }
+
+    // Makes it fail from now on.
+    pub(super) fn fail(&mut self)
+        ensures { self.new.failed ≡ true }
+    {
+        self.failed = true;
     }
 
     /// Tells the sink of an error that was met outside. Nothing else changes.

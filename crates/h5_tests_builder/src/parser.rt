@@ -57,3 +57,23 @@ fn a_parser_takes_texts_of_its_own(rt: HostRuntime) -> Result<(), Fail> {
     assert!(rt; paragraph_holds(&arena, "x"));
     Ok(())
 }
+
+#[test]
+fn a_character_is_cut_between_chunks_of_bytes(rt: HostRuntime) -> Result<(), Fail> {
+    let alloc = rt.alloc();
+    let mut parser = new_parser(alloc)?.from_utf8();
+    parser.process(b"<!DOCTYPE html><p>\xC3")?;
+    parser.process(b"\xA9")?;
+    let arena = parser.finish()?;
+    assert!(rt; paragraph_holds(&arena, "é"));
+    Ok(())
+}
+
+#[test]
+fn bytes_that_are_no_character_are_replaced(rt: HostRuntime) -> Result<(), Fail> {
+    let alloc = rt.alloc();
+    let parser = new_parser(alloc)?.from_utf8();
+    let arena = parser.one(b"<!DOCTYPE html><p>\xE2\x82x\xFF\xF0\x9F\x92")?;
+    assert!(rt; paragraph_holds(&arena, "\u{FFFD}x\u{FFFD}\u{FFFD}"));
+    Ok(())
+}

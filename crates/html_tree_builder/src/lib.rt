@@ -13,7 +13,7 @@ pub use h5_arena::{Arena, NodeId};
 pub use h5_data as data;
 pub use h5_driver as driver;
 pub use h5_driver::{
-    ParseOpts, Parser, parse_document, parse_fragment, parse_fragment_for_element,
+    ParseOpts, Parser, Utf8Parser, parse_document, parse_fragment, parse_fragment_for_element,
 };
 pub use h5_encoding as encoding;
 pub use h5_interface as interface;
@@ -27,3 +27,4 @@ pub use h5_token as token;
 pub use h5_tokenizer as tokenizer;
 pub use h5_tree_builder as tree_builder;
 pub use h5_types as types;
+pub use h5_utf8 as utf8;
