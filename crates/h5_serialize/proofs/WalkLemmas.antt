@@ -1,26 +1,16 @@
 -- What a walk of calls leaves of the HTML serializer.
-use Rattle.std.proofs.Common.{◌≡◌, ℕ, Bool, true, false, ◌||◌, cond, List, [], ◌∷◌, ◌++◌, Option, Result, Ok, Err, refl, sym, ap, ◌∙◌, subst, append_assoc, append-nil}
-use Rattle.std.proofs.KnownBytes.{Appends-nil, Appends-trans}
-use Rattle.std.specs.Io.KnownBytes.{Appends}
+use Rattle.std.proofs.Common.{◌≡◌, ℕ, Bool, true, false, ◌||◌, cond, List, [], ◌∷◌, ◌++◌, Option, Result, Ok, Err, refl, sym, ap, ◌∙◌, subst}
 use Rattle.h5_serialize.specs.Call.{Call}
 use Rattle.h5_serialize.specs.Openers.{lacks_parent}
-use Rattle.h5_serialize.specs.Standing.{Standing, Broken, Working, answer_to, standing_after, text_written, IsBrokenBy, walk_text, is_orphan, has_orphan}
+use Rattle.h5_serialize.specs.Standing.{Standing, Broken, Working, answer_to, standing_after, text_written, IsBrokenBy, is_orphan, has_orphan}
 use Rattle.h5_serialize.specs.Walk.{Makes, AreMade, NoCall, OneMore, IsStopped, Starved, Refused, after_each}
 use Rattle.h5_serialize.specs.declared.fault.SerializeFault.{SerializeFault}
 use Rattle.h5_serialize.specs.declared.fault.SerializeFault.TheVariants.{NoParent, Failed}
-use Rattle.h5_serialize.proofs.EachLaws.{each_more}
+use Rattle.h5_serialize.proofs.EachLaws.{made_means}
 
 -- how it stands after these calls
 abbrev pub after_all : Standing → List Call → Standing
 after_all = after_each standing_after
-
--- the text of a walk in two parts
-pub text_split : (m : Standing) (calls rest : List Call) → walk_text m (calls ++ rest) ≡ walk_text m calls ++ walk_text (after_all m calls) rest
-text_split m [] rest = refl
-text_split m (call ∷ calls) rest = ap (λ l. text_written m call ++ l) (text_split (standing_after m call) calls rest) ∙ sym (append_assoc (text_written m call) _ _)
-
-text_more : (m : Standing) (calls : List Call) (call : Call) → walk_text m (calls ++ call ∷ []) ≡ walk_text m calls ++ text_written (after_all m calls) call
-text_more m calls call = text_split m calls (call ∷ []) ∙ ap (λ l. walk_text m calls ++ l) (append-nil (text_written (after_all m calls) call))
 
 or_assoc : (a b c : Bool) → a || (b || c) ≡ (a || b) || c
 or_assoc true b c = refl
@@ -74,36 +64,26 @@ works : (m : Standing) (call : Call) → IsWorking m → Err Failed ≡ answer_t
 works Broken call h g = h
 works (Working s c os) call h g = never_failed _ (lacks_parent c call os) refl g
 
--- calls that were made have parents, and their text was written
-pub record HasMade (m : Standing) (t : Option (List ℕ)) (calls : List Call) (n : Standing) (u : Option (List ℕ)) : Type 0 where
-  pub standing : n ≡ after_all m calls
-  pub text : Appends t u (walk_text m calls)
-  pub parents : has_orphan m calls ≡ false
-
-pub has_made : {m : Standing} {t : Option (List ℕ)} {calls : List Call} {n : Standing} {u : Option (List ℕ)} → AreMade answer_to standing_after text_written IsBrokenBy m t calls n u → HasMade m t calls n u
-has_made {m} {t} NoCall = record { standing = refl; text = Appends-nil t; parents = refl }
-has_made {m} {t} (OneMore {calls} {k} {v} call n u before made) =
-    let h = has_made before in
-    let here : text_written k call ≡ text_written (after_all m calls) call = ap (λ s. text_written s call) h.standing in
-    record {
-      standing = made.meant ∙ ap (λ s. standing_after s call) h.standing ∙ sym (each_more standing_after m calls call);
-      text = subst (Appends t u) (ap (λ l. walk_text m calls ++ l) here ∙ sym (text_more m calls call)) (Appends-trans t v u (walk_text m calls) (text_written k call) h.text made.written);
-      parents = orphan_split m calls (call ∷ []) ∙ or_false _ _ h.parents (or_false _ _ (ap (λ s. is_orphan s call) (sym h.standing) ∙ no_orphan k call made.answered) refl);
-    }
+-- calls that were made have parents
+pub made_parents : {m : Standing} {t : Option (List ℕ)} {calls : List Call} {n : Standing} {u : Option (List ℕ)} → AreMade answer_to standing_after text_written IsBrokenBy m t calls n u → has_orphan m calls ≡ false
+made_parents NoCall = refl
+made_parents {m} (OneMore {calls} {k} {v} call n u before made) =
+    let standing = made_means answer_to standing_after text_written IsBrokenBy before in
+    orphan_split m calls (call ∷ []) ∙ or_false _ _ (made_parents before) (or_false _ _ (ap (λ s. is_orphan s call) (sym standing) ∙ no_orphan k call made.answered) refl)
 
 pub stopped_orphan : {m : Standing} {t : Option (List ℕ)} {calls : List Call} {fault : SerializeFault} {n : Standing} {u : Option (List ℕ)} → IsStopped answer_to standing_after text_written IsBrokenBy calls m t fault n u → fault ≡ NoParent → has_orphan m calls ≡ true
 stopped_orphan (Starved made left e h) is = cc
 stopped_orphan {m} {t} (Refused made call left {k} {n} {v} {u} {fault} e h makes) is =
-    let before = has_made h in
+    let standing = made_means answer_to standing_after text_written IsBrokenBy h in
     let P : SerializeFault → Type 0 = λ f. Makes answer_to standing_after text_written IsBrokenBy call k v (Err f) n u in
     let answered = (subst P is makes).answered in
-    let here = ap (λ s. is_orphan s call) (sym before.standing) ∙ an_orphan k call answered in
+    let here = ap (λ s. is_orphan s call) (sym standing) ∙ an_orphan k call answered in
     ap (has_orphan m) e ∙ orphan_split m made (call ∷ left) ∙ or_true _ _ (ap (λ b. b || has_orphan (standing_after (after_all m made) call) left) here)
 
 pub never_stopped : {m : Standing} {t : Option (List ℕ)} {calls : List Call} {fault : SerializeFault} {n : Standing} {u : Option (List ℕ)} → IsStopped answer_to standing_after text_written IsBrokenBy calls m t fault n u → IsWorking m → fault ≡ Failed → ⊥
 never_stopped (Starved made left e h) works is = cc
 never_stopped {m} {t} (Refused made call left {k} {n} {v} {u} {fault} e h makes) working is =
-    let before = has_made h in
+    let standing = made_means answer_to standing_after text_written IsBrokenBy h in
     let P : SerializeFault → Type 0 = λ f. Makes answer_to standing_after text_written IsBrokenBy call k v (Err f) n u in
     let answered = (subst P is makes).answered in
-    works k call (subst IsWorking (sym before.standing) (working_after m made working)) answered
+    works k call (subst IsWorking (sym standing) (working_after m made working)) answered

@@ -1,7 +1,8 @@
 -- How the HTML serializer stands between two calls, and what it answers, writes and keeps.
-use Rattle.std.specs.Prelude.{◌≡◌, ◌||◌, ℕ, Bool, true, false, List, [], ◌∷◌, ◌++◌, Option, Result, Ok, Err, if◌then◌else◌}
+use Rattle.std.specs.Prelude.{◌≡◌, ◌||◌, ℕ, Bool, true, false, List, [], ◌∷◌, Option, Result, Ok, Err, if◌then◌else◌}
 use Rattle.h5_serialize.specs.Call.{Call, StartOf, EndOf, TextOf, CommentOf, DoctypeOf, InstructionOf}
 use Rattle.h5_serialize.specs.Openers.{base_of, lacks_parent, openers_of, openers_left}
+use Rattle.h5_serialize.specs.Walk.{text_of_each}
 use Rattle.h5_serialize.specs.Writing.{written}
 use Rattle.h5_serialize.specs.declared.fault.SerializeFault.{SerializeFault}
 use Rattle.h5_serialize.specs.declared.fault.SerializeFault.TheVariants.{NoParent, Memory, Write, Failed}
@@ -62,8 +63,7 @@ IsBrokenBy m t call Failed n u = ⊥
 
 -- the text of a walk
 abbrev pub walk_text : Standing → List Call → List ℕ
-walk_text standing [] = []
-walk_text standing (call ∷ calls) = text_written standing call ++ walk_text (standing_after standing call) calls
+walk_text = text_of_each standing_after text_written
 
 -- a call that needs a parent and finds none
 abbrev pub is_orphan : Standing → Call → Bool

@@ -30,6 +30,11 @@ abbrev pub after_each : {M : Type 0} → (M → Call → M) → M → List Call 
 after_each after m [] = m
 after_each after m (call ∷ calls) = after_each after (after m call) calls
 
+-- what it writes for them: the text of each call, one after the other
+abbrev pub text_of_each : {M : Type 0} → (after : M → Call → M) → (writes : M → Call → List ℕ) → M → List Call → List ℕ
+text_of_each after writes m [] = []
+text_of_each after writes m (call ∷ calls) = writes m call ++ text_of_each after writes (after m call) calls
+
 module _ {M : Type 0} (answer : M → Call → Result (Unit {0}) SerializeFault) (after : M → Call → M) (writes : M → Call → List ℕ) (breaks : M → Option (List ℕ) → Call → SerializeFault → M → Option (List ℕ) → Type 0) where
   -- a call made where the serializer means m and has written t gives this result, n and u
   pub record Makes (call : Call) (m : M) (t : Option (List ℕ)) (result : Result (Unit {0}) SerializeFault) (n : M) (u : Option (List ℕ)) : Type 0 where

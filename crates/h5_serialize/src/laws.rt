@@ -1,8 +1,16 @@
 //! Laws of escapes, and of walks. Each is the contract of a function that does nothing.
-ghost use Rattle.std.specs.Prelude.{◌≡◌, ℕ, Bool, true, List, Contains, IsUtf8, Option};
-ghost use Rattle.h5_serialize.specs.Call.{Call};
+ghost use Rattle.std.specs.Prelude.{◌≡◌, ◌∷◌, [], ℕ, Bool, true, List, Contains, IsUtf8, Option, Result};
+ghost use Rattle.std.specs.Io.KnownBytes.{Appends};
+ghost use Rattle.std.specs.Iterator.{Drains};
+ghost use Rattle.std.specs.Slice.Iter.{iter_rest, iter_steps};
+ghost use Rattle.std.specs.declared.slice.Iter.{Iter};
+ghost use Rattle.h5_names.specs.AttributeText.{attribute_text, attribute_texts};
+ghost use Rattle.h5_names.specs.declared.qualified.Attribute.{Attribute};
+ghost use Rattle.h5_names.specs.declared.qualified.QualName.{QualName};
+ghost use Rattle.h5_serialize.specs.Call.{Call, StartOf};
 ghost use Rattle.h5_serialize.specs.Escape.{escape};
-ghost use Rattle.h5_serialize.specs.Walk.{AreMade, after_each};
+ghost use Rattle.h5_serialize.specs.Walk.{AreMade, Makes, MakesStart, Walks, WalksStart, after_each, text_of_each};
+ghost use Rattle.h5_serialize.specs.declared.fault.SerializeFault.{SerializeFault};
 
 use super::serializer::Serializer;
 
@@ -24,4 +32,23 @@ pub fn different_texts_have_different_escapes()
 pub fn calls_are_taken_in_turn<S: Serializer>()
     ensures { (calls : List Call) (m n : S.Meaning) (t u : Option (List ℕ)) →
         AreMade S.answer S.after S.writes S.breaks m t calls n u → n ≡ after_each S.after m calls }
+{}
+
+/// After such calls the text of a serializer has grown by the text of each call, one after the other: by what it writes for the
+/// call as it stood then. Where the text before the calls isn't known, as that of a serializer that tells no contents, nothing is
+/// said; where it is known, it is known behind them, too.
+pub fn texts_are_written_in_turn<S: Serializer>()
+    ensures { (calls : List Call) (m n : S.Meaning) (t u : Option (List ℕ)) →
+        AreMade S.answer S.after S.writes S.breaks m t calls n u → Appends t u (text_of_each S.after S.writes m calls) }
+{}
+
+/// A start that is made with the attributes of a slice, as in `start_elem(name, attrs.iter())` or
+/// `start_elem_ref(&name, attrs.iter())`, is the call with these attributes.
+pub fn starts_have_the_attributes_of_their_slice<S: Serializer>()
+    ensures start_elem { (attrs : Iter Attribute) (name : QualName) (m n : S.Meaning) (t u : Option (List ℕ)) (result : Result (Unit {0}) SerializeFault) →
+        MakesStart S.answer S.after S.writes S.breaks (λ a. attribute_text a.now) (Drains iter_steps attrs) name m t result n u →
+        Makes S.answer S.after S.writes S.breaks (StartOf name (attribute_texts (iter_rest attrs))) m t result n u }
+    ensures start_elem_ref { (attrs : Iter Attribute) (name : QualName) (m n : S.Meaning) (t u : Option (List ℕ)) (result : Result (Unit {0}) SerializeFault) →
+        WalksStart S.answer S.after S.writes S.breaks (λ a. attribute_text a.now) (Drains iter_steps attrs) name m t result n u →
+        Walks S.answer S.after S.writes S.breaks (StartOf name (attribute_texts (iter_rest attrs)) ∷ []) m t result n u }
 {}
