@@ -1,6 +1,7 @@
 mod AttributeLaws
 mod BalanceLaws
 pub mod CallConditions
+mod HeldLaws
 mod LevelLaws
 mod NodeCallLaws
 pub mod ChildTexts

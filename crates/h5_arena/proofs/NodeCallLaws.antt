@@ -16,10 +16,10 @@ use Rattle.h5_arena.specs.NodeCalls.{calls_around, calls_of, calls_of_children, 
 use Rattle.h5_arena.proofs.CallConditions.{some_same}
 use Rattle.h5_arena.proofs.LevelLaws.{held, settled, shown_is_below}
 
-here_first : (n : ℕ) (cs : List Child) → 0 < count n (nodes (ChildNode n ∷ cs))
+pub here_first : (n : ℕ) (cs : List Child) → 0 < count n (nodes (ChildNode n ∷ cs))
 here_first n cs = rw (eq-eqb n n refl) (omega arith)
 
-here_later : (m n : ℕ) (cs : List Child) → 0 < count m (nodes cs) → 0 < count m (nodes (ChildNode n ∷ cs))
+pub here_later : (m n : ℕ) (cs : List Child) → 0 < count m (nodes cs) → 0 < count m (nodes (ChildNode n ∷ cs))
 here_later m n cs h = omega arith
 
 same_calls : (g h : ℕ → List Call) (cs : List Child) → ((m : ℕ) → 0 < count m (nodes cs) → g m ≡ h m) → flat_map (child_calls g) cs ≡ flat_map (child_calls h) cs

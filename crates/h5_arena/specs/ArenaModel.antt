@@ -1,16 +1,17 @@
 -- What an arena holds: its nodes in the order in which they were made, and the forest that they are.
-use Rattle.std.specs.Prelude.{◌≡◌, ◌<◌, ◌+◌, ℕ, ◌==◌, Bool, true, false, cond, length, List, [], ◌∷◌, map, Option, None, Some, String, slice_get, string_bytes, refl}
-use Rattle.std.specs.Option.{option_map, option_map_or}
+use Rattle.std.specs.Prelude.{◌≡◌, ◌<◌, ◌+◌, ℕ, ◌-◌, ◌==◌, ◌&&◌, Bool, true, false, cond, length, List, [], ◌∷◌, map, Option, None, Some, String, slice_get, string_bytes, refl}
+use Rattle.std.specs.List.{find}
+use Rattle.std.specs.Option.{option_and_then, option_map, option_map_or}
 use Rattle.std.specs.Arc.{arc_value}
 use Rattle.std.specs.declared.alloc.Global.{Global}
 use Prim.Native.Nat.{zero, suc}
 use Rattle.std.proofs.Math.Nat.{le_refl}
 use Rattle.h5_names.specs.declared.qualified.QualName.{QualName}
-use Rattle.h5_names.specs.AttributeText.{attribute_texts}
+use Rattle.h5_names.specs.AttributeText.{AttributeText, attribute_texts, is_same_text}
 use Rattle.h5_interface.specs.declared.marks.QuirksMode.{QuirksMode}
 use Rattle.h5_interface.specs.declared.marks.QuirksMode.TheVariants.{NoQuirks}
 use Rattle.h5_interface.specs.Forest as forest
-use Rattle.h5_interface.specs.Forest.{CommentNode, DoctypeNode, DocumentNode, ElementNode, Forest, FragmentNode, InstructionNode, IsForest, IsNode, Marks, Node}
+use Rattle.h5_interface.specs.Forest.{CommentNode, DoctypeNode, DocumentNode, ElementNode, Forest, FragmentNode, InstructionNode, IsForest, IsNode, Marks, Node, children_of}
 use Rattle.h5_interface.specs.Seen.{Seen, no_flags, no_marks, plain}
 use Rattle.h5_interface.specs.SinkChoices.{Rearranges, SinkChoices}
 use Rattle.h5_arena.specs.declared.below.Below.{Below}
@@ -113,6 +114,11 @@ texts_of = map string_bytes
 abbrev pub IsHeld : ArenaView → NodeId → Type 0
 IsHeld a id = id.index < length a.nodes
 
+-- a child that is a node is one of the arena
+abbrev pub IsChildHeld : ArenaView → child.Child → Type 0
+IsChildHeld a (child_is.Node id) = IsHeld a id
+IsChildHeld a (child_is.Text text) = Unit {0}
+
 -- the name of an element
 abbrev pub name_of_kind : forest.Kind → Option QualName
 name_of_kind DocumentNode = None
@@ -121,6 +127,10 @@ name_of_kind (ElementNode name) = Some name
 name_of_kind (CommentNode text) = None
 name_of_kind (InstructionNode target text) = None
 name_of_kind FragmentNode = None
+
+-- the value of the first of some attributes that has this local name and no namespace
+abbrev pub value_of : (local : List ℕ) → List AttributeText → Option (List ℕ)
+value_of local attrs = option_map (λ a. a.value) (find (λ a. is_same_text a.name.ns [] && is_same_text a.name.local local) attrs)
 
 -- whose child a node is; a fragment is none, but contents
 abbrev pub child_parent_of_kind : forest.Kind → Option ℕ → Option ℕ
@@ -141,6 +151,15 @@ at_node look a id = option_map look (slice_get a.nodes id.index)
 -- the node at this place, if there is one
 abbrev pub id_at : ArenaView → ℕ → Option NodeId
 id_at a n = option_map (λ _. record { index = n }) (slice_get a.nodes n)
+
+-- the node that a child is
+abbrev pub node_of : forest.Child → Option ℕ
+node_of (forest.ChildNode n) = Some n
+node_of (forest.ChildText t) = None
+
+-- the root of a fragment: the document's last child, where it is a node
+abbrev pub fragment_root : ArenaView → Option ℕ
+fragment_root a = let children = children_of (forest_seen a) 0 in option_and_then node_of (slice_get children (length children - 1))
 
 -- the marks of a node
 abbrev pub marks_at : Forest → ℕ → Marks

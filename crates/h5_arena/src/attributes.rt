@@ -1,11 +1,24 @@
-//! Attributes that a node lacks.
-ghost use Rattle.std.specs.Prelude.{◌≡◌, OnOk, OnErr};
+//! Attributes of a node: the value of one, and those that it lacks.
+ghost use Rattle.std.specs.Prelude.{◌≡◌, OnOk, OnErr, option_copied};
 ghost use Rattle.std.specs.List.{list_any};
 ghost use Rattle.h5_names.specs.AttributeText.{attribute_texts, is_same_name};
 ghost use Rattle.h5_interface.specs.Changes.{with_missing};
+ghost use Rattle.h5_arena.specs.ArenaModel.{value_of};
 
-use h5_names::{Attribute, QualName};
+use h5_names::{Attribute, LocalName, Namespace, QualName};
 use std::alloc::AllocError;
+
+// The value of the first attribute that has this local name and no namespace.
+pub(crate) fn value_of<'a>(attrs: &'a [Attribute], local: &LocalName) -> Option<&'a str>
+    ensures { option_copied result ≡ value_of local.now (attribute_texts attrs.now) }
+{
+    for attribute in attrs {
+        if attribute.name.ns == Namespace::none() && attribute.name.local == *local {
+            return Some(attribute.value.as_str());
+        }
+    }
+    None
+}
 
 // Whether one of these attributes has this name.
 fn has_name(attrs: &[Attribute], name: &QualName) -> bool

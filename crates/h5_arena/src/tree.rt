@@ -1,12 +1,12 @@
 //! The arena, and the calls that read it.
-ghost use Rattle.std.specs.Prelude.{◌≡◌, ◌<◌, IfOk, Some, length, nat_lt, option_copied};
+ghost use Rattle.std.specs.Prelude.{◌≡◌, ◌<◌, All, IfOk, IfSome, Some, length, nat_lt, option_copied};
 ghost use Rattle.h5_names.specs.AttributeText.{attribute_texts};
 
-use super::makes;
 use super::nodes::{Child, Kind, NodeData, NodeId};
 use super::shared::SharedKinds;
+use super::{attributes, makes};
 use h5_interface::QuirksMode;
-use h5_names::{Attribute, QualName};
+use h5_names::{Attribute, LocalName, QualName};
 use std::alloc::{AllocError, Global};
 use std::marker::Model;
 
@@ -34,7 +34,7 @@ impl Model for Arena {
     ghost invariant = { λ a. IsForest (forest_in a.nodes.items) };
 }
 
-ghost use Rattle.h5_arena.specs.ArenaModel.{ArenaView, IsHeld, at_node, child_parent, child_views, id_at, kind_view, name_of_kind, new_arena, optional_place, texts_of};
+ghost use Rattle.h5_arena.specs.ArenaModel.{ArenaView, IsChildHeld, IsHeld, at_node, child_parent, child_views, fragment_root, id_at, kind_view, name_of_kind, new_arena, optional_place, texts_of, value_of};
 
 impl Arena {
     /// An arena that holds its document alone, with NoQuirks and no error, or an `AllocError` where memory
@@ -116,10 +116,20 @@ impl Arena {
         self.nodes[id.index].attrs.as_slice()
     }
 
+    /// The value of an attribute: of the first that has this local name and no namespace. Nothing where there is none, as of any
+    /// node that is no element.
+    pub fn attr(&self, id: NodeId, name: &LocalName) -> Option<&str>
+        requires { IsHeld self.now id }
+        ensures { at_node (λ d. value_of name.now d.attrs) self.now id ≡ Some (option_copied result) }
+    {
+        attributes::value_of(self.attrs(id), name)
+    }
+
     /// The children of a node, in order.
     pub fn children(&self, id: NodeId) -> &[Child]
         requires { IsHeld self.now id }
-        ensures { at_node (λ d. d.children) self.now id ≡ Some (child_views result.now) }
+        ensures children { at_node (λ d. d.children) self.now id ≡ Some (child_views result.now) }
+        ensures held { All (IsChildHeld self.now) result.now }
     {
         self.nodes[id.index].children.as_slice()
     }
@@ -127,7 +137,8 @@ impl Arena {
     /// Whose child a node is. The contents of a template are nobody's child.
     pub fn parent(&self, id: NodeId) -> Option<NodeId>
         requires { IsHeld self.now id }
-        ensures { at_node child_parent self.now id ≡ Some (optional_place result) }
+        ensures parent { at_node child_parent self.now id ≡ Some (optional_place result) }
+        ensures held { IfSome result (IsHeld self.now) }
     {
         let node = &self.nodes[id.index];
         match &*node.kind {
@@ -139,9 +150,22 @@ impl Arena {
     /// The contents of a template, and nothing of any other node.
     pub fn contents(&self, id: NodeId) -> Option<NodeId>
         requires { IsHeld self.now id }
-        ensures { at_node (λ d. d.contents) self.now id ≡ Some (optional_place result) }
+        ensures contents { at_node (λ d. d.contents) self.now id ≡ Some (optional_place result) }
+        ensures held { IfSome result (IsHeld self.now) }
     {
         self.nodes[id.index].contents.node()
+    }
+
+    /// The root that the parser of a fragment made, an `html`, below which the fragment stands: the document's last child. Nothing
+    /// where the document has no child, or where its last child is a text.
+    pub fn fragment_root(&self) -> Option<NodeId>
+        ensures root { optional_place result ≡ fragment_root self.now }
+        ensures held { IfSome result (IsHeld self.now) }
+    {
+        match self.children(self.document()).last() {
+            Some(Child::Node(id)) => Some(*id),
+            _ => None,
+        }
     }
 
     /// The form that an element was associated with.
