@@ -1,8 +1,7 @@
 //! Trees as text.
 ghost use Rattle.std.specs.Prelude.{◌≡◌, ◌+◌, ◌++◌, ◌∷◌, [], IfOk, OnOk, vec_len};
 ghost use Rattle.std.specs.String.{string_bytes};
-ghost use Rattle.h5_interface.specs.Forest.{IsForest};
-ghost use Rattle.h5_arena.specs.ArenaModel.{IsHeld, forest_seen};
+ghost use Rattle.h5_arena.specs.ArenaModel.{IsHeld};
 ghost use Rattle.h5_print.specs.Frames.{AreHeld, GoesOn, Opens};
 ghost use Rattle.h5_print.specs.Printed.{IsTreeText};
 
@@ -26,7 +25,6 @@ fn print_node(
     out: &mut String,
     stack: &mut Vec<Frame>,
 ) -> Result<(), AllocError>
-    requires forest { IsForest (forest_seen arena.now) }
     requires held { IsHeld arena.now node }
     requires level { vec_len stack.old ≡ level + 1 }
     ensures { OnOk result (Opens arena.now node level stack.old.items
@@ -56,7 +54,6 @@ fn print_next(
     out: &mut String,
     stack: &mut Vec<Frame>,
 ) -> Result<(), AllocError>
-    requires forest { IsForest (forest_seen arena.now) }
     requires held { IsHeld arena.now frame.node }
     requires stack { AreHeld arena.now stack.old.items }
     ensures held { OnOk result (AreHeld arena.now stack.new.items) }
