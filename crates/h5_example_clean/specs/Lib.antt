@@ -1,0 +1,4 @@
+pub mod Calls
+pub mod Page
+pub mod Policy
+pub mod Safe

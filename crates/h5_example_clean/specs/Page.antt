@@ -1,0 +1,14 @@
+-- What is left of a page.
+use Rattle.std.specs.Prelude.{◌≡◌, ℕ, List, None}
+use Rattle.h5_serialize.specs.declared.options.TraversalScope.TheVariants.{ChildrenOnly}
+use Rattle.h5_arena.specs.ArenaModel.{ArenaView, arena_choices, forest_seen, new_arena, seen_of}
+use Rattle.h5_arena.specs.NodeCalls.{walk_of}
+use Rattle.h5_driver.specs.Options.{default_options}
+use Rattle.h5_driver.specs.Texts.{ParsesDocument}
+use Rattle.h5_example_clean.specs.Calls.{cleaned_text}
+
+-- HTML is what the policy leaves of a page: of the tree that a parser with the default options makes of it
+pub record IsCleanOf (page html : List ℕ) : Type 0 where
+  pub arena : ArenaView
+  pub parsed : ParsesDocument arena_choices (seen_of new_arena) default_options page (seen_of arena)
+  pub text : html ≡ cleaned_text (walk_of (forest_seen arena) 0 (ChildrenOnly None))

@@ -1,0 +1,17 @@
+//! The part of a page that an allow list allows, as HTML: a caller of the library.
+#![tactic(auto)]
+
+mod cleaner;
+mod page;
+mod policy;
+
+use page::clean_page;
+use std::io::{self, Write};
+
+fn main(rt: HostRuntime) -> anyhow::Result<()> {
+    let alloc = rt.alloc();
+    let page = io::read_to_string(alloc, rt.reader())?;
+    let html = clean_page(alloc, page.as_str())?;
+    rt.stdout().write_all(html.as_slice())?;
+    Ok(())
+}
