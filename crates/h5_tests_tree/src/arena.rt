@@ -126,6 +126,53 @@ fn check_root(arena: &Arena, root: NodeId, rt: &impl Abort) {
     assert_eq!(rt; arena.form(root), None);
 }
 
+#[test]
+fn attributes_have_values(rt: HostRuntime) -> Result<(), Fail> {
+    let alloc = rt.alloc();
+    let mut arena = Arena::new(alloc)?;
+    let root = small_tree(&mut arena, alloc, "x", "some text", &rt)?;
+    assert!(rt; arena.holds(root));
+    let value = arena.attr(root, &LocalName::new(alloc, "id")?);
+    assert_eq!(rt; value, Some("x"));
+    let other = arena.attr(root, &LocalName::new(alloc, "class")?);
+    assert!(rt; other.is_none());
+    Ok(())
+}
+
+// How many children the children of a node have: what the arena gives it holds, so nothing is asked on the way down.
+fn count_grandchildren(arena: &Arena, id: NodeId, rt: &impl Abort) -> usize {
+    assert!(rt; arena.holds(id));
+    let mut count: usize = 0;
+    for child in arena.children(id) {
+        if let Child::Node(node) = child {
+            count = count.saturating_add(arena.children(*node).len());
+        }
+    }
+    count
+}
+
+// The parent of the parent of a node, without a question on the way up.
+fn grandparent(arena: &Arena, id: NodeId, rt: &impl Abort) -> Option<NodeId> {
+    assert!(rt; arena.holds(id));
+    match arena.parent(id) {
+        Some(parent) => arena.parent(parent),
+        None => None,
+    }
+}
+
+#[test]
+fn a_caller_goes_on_from_what_is_held(rt: HostRuntime) -> Result<(), Fail> {
+    let alloc = rt.alloc();
+    let mut arena = Arena::new(alloc)?;
+    let root = small_tree(&mut arena, alloc, "x", "some text", &rt)?;
+    let document = arena.document();
+    assert_eq!(rt; count_grandchildren(&arena, document, &rt), 2);
+    let note = arena.id(2).ok_or("the comment is the third node")?;
+    assert_eq!(rt; grandparent(&arena, note, &rt), Some(document));
+    assert_eq!(rt; arena.fragment_root(), Some(root));
+    Ok(())
+}
+
 fn check_note(arena: &Arena, root: NodeId, note: NodeId, rt: &impl Abort) {
     assert!(rt; arena.holds(root));
     assert!(rt; arena.holds(note));
