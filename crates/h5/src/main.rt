@@ -1,4 +1,7 @@
-//! The program `h5`: a thin hull round [`h5_commands::run`].
+//! The program `h5`: a thin hull round [`h5_commands::run`], which has the commands.
+//!
+//! It reads its words, hands them on with standard input, output and error, and ends with the status that comes back.
+//! What the commands print is defined in `specs/Printed.antt` of `h5_commands`.
 #![tactic(auto)]
 
 use std::process::ExitCode;

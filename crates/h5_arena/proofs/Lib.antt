@@ -9,5 +9,6 @@ mod ChildViews
 mod MakeLaws
 mod MoveLaws
 mod NodeWrites
+mod OwnerLaws
 mod PlaceLaws
 mod WalkLaws

@@ -84,6 +84,19 @@ forest_of nodes = record { document = 0; bound = length nodes; node = slice_get 
 abbrev pub forest_in : List NodeData → Forest
 forest_in nodes = forest_of (node_views nodes)
 
+-- the form owner that is noted of a node
+abbrev pub form_of : Forest → ℕ → Option ℕ
+form_of f n = option_and_then (λ d. d.marks.form) (f.node n)
+
+-- each form owner is a node
+pub record HoldsOwners (f : Forest) : Type 0 where
+  pub owner : (n form : ℕ) → form_of f n ≡ Some form → IsNode f form
+
+-- the nodes of an arena are a forest, and their form owners are among them
+pub record IsArena (f : Forest) : Type 0 where
+  pub is_forest : IsForest f
+  pub owners : HoldsOwners f
+
 -- an arena: its nodes, its quirks mode, the texts of the errors told to it, and whether the text of an
 -- error found no memory
 pub record ArenaView : Type 0 where

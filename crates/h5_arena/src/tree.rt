@@ -24,14 +24,13 @@ pub struct Arena {
 }
 
 impl Model for Arena {
-    ghost use Rattle.h5_interface.specs.Forest.{IsForest};
-    ghost use Rattle.h5_arena.specs.ArenaModel.{ArenaView, forest_in, node_views, texts_of};
+    ghost use Rattle.h5_arena.specs.ArenaModel.{ArenaView, IsArena, forest_in, node_views, texts_of};
 
     ghost Value = { ArenaView };
 
     ghost view = { λ a. record { nodes = node_views a.nodes.items; quirks = a.quirks; errors = texts_of a.errors.items; errors_lost = a.errors_lost } };
 
-    ghost invariant = { λ a. IsForest (forest_in a.nodes.items) };
+    ghost invariant = { λ a. IsArena (forest_in a.nodes.items) };
 }
 
 ghost use Rattle.h5_arena.specs.ArenaModel.{ArenaView, IsChildHeld, IsHeld, at_node, child_parent, child_views, fragment_root, id_at, kind_view, name_of_kind, new_arena, optional_place, texts_of, value_of};
@@ -171,7 +170,8 @@ impl Arena {
     /// The form that an element was associated with.
     pub fn form(&self, id: NodeId) -> Option<NodeId>
         requires { IsHeld self.now id }
-        ensures { at_node (λ d. d.marks.form) self.now id ≡ Some (optional_place result) }
+        ensures form { at_node (λ d. d.marks.form) self.now id ≡ Some (optional_place result) }
+        ensures held { IfSome result (IsHeld self.now) }
     {
         self.nodes[id.index].form.node()
     }

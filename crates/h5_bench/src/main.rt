@@ -1,6 +1,9 @@
 //! One part of the way from text to text, with a text of its own making: `h5_bench KIND SIZE PART`. With the word
 //! `time` behind these it tells the time and the speed of the part, too; with a number the reader is fed pieces of so
 //! many bytes. `h5_bench KIND SIZE print` prints the text. `h5_bench cuts` tells whether it matters how a text is cut.
+//!
+//! `texts` makes the text, `parts` has the parts, `report` what is told of one, and `cuts` the texts in many cuts.
+//! Begin with `src/parts.rt`.
 #![tactic(auto)]
 
 mod counter;

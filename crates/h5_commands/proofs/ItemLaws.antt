@@ -2,7 +2,7 @@
 use Rattle.std.proofs.Common.{◌≡◌, ℕ, Bool, List, [], ◌∷◌, ◌++◌, refl, sym, ap, ◌∙◌, append_assoc, append-nil}
 use Rattle.h5_token.specs.Reply.{Reply}
 use Rattle.h5_token.specs.TokenText.{TokenText}
-use Rattle.h5_meaning.specs.Run.{View, after_all, after_token, replies, reply_to, run}
+use Rattle.h5_rules.specs.Run.{View, after_all, after_token, replies, reply_to, run}
 use Rattle.h5_arena.specs.ArenaModel.{ArenaView, arena_choices, place, seen_of}
 use Rattle.h5_arena.specs.declared.nodes.NodeId.{NodeId}
 use Rattle.h5_state.specs.View.{world}

@@ -1,3 +1,5 @@
 pub mod ChangeLaws
+pub mod Charset
 pub mod DoctypeLaws
+pub mod MetaParts
 pub mod TableLaws

@@ -1,3 +1,4 @@
 pub mod AdjustedNames
 pub mod Doctypes
+pub mod MetaEncoding
 pub mod Tables

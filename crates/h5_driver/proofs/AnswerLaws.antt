@@ -7,14 +7,14 @@ use Rattle.h5_token.specs.declared.tag.TagKind.TheVariants.{EndTag, StartTag}
 use Rattle.h5_interface.specs.SinkChoices.{SinkChoices}
 use Rattle.h5_types.specs.declared.modes.InsertionMode.{InsertionMode}
 use Rattle.h5_types.specs.declared.modes.InsertionMode.TheVariants.{Text}
-use Rattle.h5_meaning.specs.InTableText.{saved_mode}
-use Rattle.h5_meaning.specs.Run.{View, after_token, is_refused_in_text, refuses_in, reply_to, step, take_or_refuse, tell_or_refuse}
-use Rattle.h5_meaning.specs.Settle.{Settled}
-use Rattle.h5_meaning.specs.Sound.{Fitting}
-use Rattle.h5_meaning.proofs.FittingLaws.{step_fitting}
-use Rattle.h5_meaning.proofs.RunLaws.{is_taken}
-use Rattle.h5_meaning.proofs.TextReadLaws.{IsCalm, Leads, StepLeads, TagLeads, TokenLeads, mode_is_text, step_leads}
-use Rattle.h5_meaning.proofs.ToldLaws.{NoTextBehind, is_text}
+use Rattle.h5_rules.specs.modes.InTableText.{saved_mode}
+use Rattle.h5_rules.specs.Run.{View, after_token, is_refused_in_text, refuses_in, reply_to, step, take_or_refuse, tell_or_refuse}
+use Rattle.h5_rules.specs.Settle.{Settled}
+use Rattle.h5_rules.specs.Sound.{Fitting}
+use Rattle.h5_laws.proofs.kept.FittingLaws.{step_fitting}
+use Rattle.h5_laws.proofs.cuts.RunLaws.{is_taken}
+use Rattle.h5_laws.proofs.replies.TextReadLaws.{IsCalm, Leads, StepLeads, TagLeads, TokenLeads, mode_is_text, step_leads}
+use Rattle.h5_rules.proofs.rows.ToldLaws.{NoTextBehind, is_text}
 use Rattle.h5_tokenizer.specs.End.{refuses}
 use Rattle.h5_tokenizer.specs.Front.{Place}
 use Rattle.h5_tokenizer.specs.Read.{after_tag, next_place}

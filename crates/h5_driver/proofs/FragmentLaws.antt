@@ -4,11 +4,11 @@ use Rattle.h5_interface.specs.Seen.{Seen}
 use Rattle.h5_interface.specs.SinkChoices.{SinkChoices}
 use Rattle.h5_types.specs.declared.modes.InsertionMode.TheVariants.{InTable}
 use Rattle.h5_types.specs.declared.options.TreeBuilderOpts.{TreeBuilderOpts}
-use Rattle.h5_meaning.specs.Changes.{create_root}
-use Rattle.h5_meaning.specs.Reset.{reset_mode}
-use Rattle.h5_meaning.specs.Sound.{Fitting}
-use Rattle.h5_meaning.specs.World.{World}
-use Rattle.h5_meaning.proofs.ToldLaws.{is_text, reset_no_text}
+use Rattle.h5_rules.specs.Changes.{create_root}
+use Rattle.h5_rules.specs.fitting.Reset.{reset_mode}
+use Rattle.h5_rules.specs.Sound.{Fitting}
+use Rattle.h5_rules.specs.World.{World}
+use Rattle.h5_rules.proofs.rows.ToldLaws.{is_text, reset_no_text}
 use Rattle.h5_tree_builder.specs.Fragment.{first_fragment, rooted_world}
 use Rattle.h5_tokenizer.specs.Front.{Place}
 use Rattle.h5_driver.specs.Parsing.{IsWorking}

@@ -4,7 +4,7 @@ use Rattle.h5_names.specs.AttributeText.{AttributeText}
 use Rattle.h5_names.specs.declared.qualified.QualName.{QualName}
 use Rattle.h5_interface.specs.Seen.{Seen}
 use Rattle.h5_interface.specs.SinkChoices.{SinkChoices}
-use Rattle.h5_meaning.specs.Run.{View}
+use Rattle.h5_rules.specs.Run.{View}
 use Rattle.h5_tokenizer.specs.Front.{Place}
 use Rattle.h5_tree_builder.specs.Builder.{Building}
 use Rattle.h5_driver.specs.Fragments.{first_in_new, place_in_context}

@@ -8,11 +8,11 @@ use Rattle.h5_interface.specs.Forest.{Child, ChildNode, ChildText, DoctypeNode, 
 use Rattle.h5_interface.specs.Seen.{Seen}
 use Rattle.h5_interface.specs.SinkChoices.{SinkChoices}
 use Rattle.h5_interface.specs.declared.marks.QuirksMode.TheVariants.{NoQuirks}
-use Rattle.h5_meaning.specs.Changes.{pop}
-use Rattle.h5_meaning.specs.Run as r
-use Rattle.h5_meaning.specs.Run.{View, after_all, after_token, run}
-use Rattle.h5_meaning.specs.FormattingNames.{html_name}
-use Rattle.h5_meaning.specs.World.{World}
+use Rattle.h5_rules.specs.Changes.{pop}
+use Rattle.h5_rules.specs.Run as r
+use Rattle.h5_rules.specs.Run.{View, after_all, after_token, run}
+use Rattle.h5_rules.specs.formatting.FormattingNames.{html_name}
+use Rattle.h5_rules.specs.World.{World}
 use Rattle.h5_types.specs.Options as types
 use Rattle.h5_plain.specs.Plain.{ElementThen, End, Nodes, PlainDocument, TextThen, document_tokens, plain_reply, root_of}
 use Rattle.h5_plain.specs.Rebuilding.{DocumentStands, HoldsDocument, IsStart, Looks, Stands}

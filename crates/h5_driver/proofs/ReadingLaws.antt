@@ -7,10 +7,10 @@ use Rattle.h5_token.specs.declared.fault.BuildFault.{BuildFault}
 use Rattle.h5_token.specs.declared.fault.BuildFault.TheVariants.{AfterEnd, Failed, Memory, NotInText}
 use Rattle.h5_interface.specs.Seen.{Seen}
 use Rattle.h5_interface.specs.SinkChoices.{SinkChoices}
-use Rattle.h5_meaning.specs.Run.{IsFitting, View, after_all, after_token, refuses_in, reply_to, run}
-use Rattle.h5_meaning.proofs.JoinLaws.{view_joins}
-use Rattle.h5_meaning.proofs.FittingLaws.{token_fitting}
-use Rattle.h5_meaning.proofs.RunLaws.{takes_text, token_cut}
+use Rattle.h5_rules.specs.Run.{IsFitting, View, after_all, after_token, refuses_in, reply_to, run}
+use Rattle.h5_laws.proofs.cuts.JoinLaws.{view_joins}
+use Rattle.h5_laws.proofs.kept.FittingLaws.{token_fitting}
+use Rattle.h5_laws.proofs.cuts.RunLaws.{takes_text, token_cut}
 use Rattle.h5_tokenizer.specs.End.{Closes, ClosesWith, Finishes, Takes, refuses, settle}
 use Rattle.h5_tokenizer.specs.Front.{Place}
 use Rattle.h5_tokenizer.specs.Read.{Read, Step, behind, marked, next_place, nothing_read, read_on, started, switch_step, text_step, token_step, unmarked}

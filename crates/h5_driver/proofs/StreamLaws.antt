@@ -2,7 +2,7 @@
 use Rattle.std.proofs.Common.{◌++◌, ℕ, List, [], ◌∷◌, sym, subst, append_assoc, append-nil}
 use Rattle.h5_interface.specs.Seen.{Seen}
 use Rattle.h5_interface.specs.SinkChoices.{SinkChoices}
-use Rattle.h5_meaning.specs.Run.{View}
+use Rattle.h5_rules.specs.Run.{View}
 use Rattle.h5_tokenizer.specs.Front.{Place}
 use Rattle.h5_driver.specs.Parsing.{Advances, Parses, Parsing, ProcessedAll, joined, unread, view_of}
 use Rattle.h5_driver.proofs.ReadingLaws.{nothing_read_yet, parses_behind, piece_taken}

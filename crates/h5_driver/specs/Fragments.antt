@@ -7,7 +7,7 @@ use Rattle.h5_interface.specs.NewElement.{flags_of}
 use Rattle.h5_interface.specs.Seen.{Seen, after_create_element}
 use Rattle.h5_interface.specs.SinkChoices.{SinkChoices}
 use Rattle.h5_types.specs.declared.options.TreeBuilderOpts.{TreeBuilderOpts}
-use Rattle.h5_meaning.specs.World.{World}
+use Rattle.h5_rules.specs.World.{World}
 use Rattle.h5_tokenizer.specs.Front.{Place}
 use Rattle.h5_tokenizer.specs.Options.{first_place}
 use Rattle.h5_tokenizer.specs.declared.options.TokenizerOpts.{TokenizerOpts}

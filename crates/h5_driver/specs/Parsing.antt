@@ -5,10 +5,10 @@ use Rattle.h5_token.specs.TokenText.{TokenText}
 use Rattle.h5_interface.specs.Seen.{Seen}
 use Rattle.h5_interface.specs.SinkChoices.{SinkChoices}
 use Rattle.h5_types.specs.declared.modes.InsertionMode.TheVariants.{Text}
-use Rattle.h5_meaning.specs.Fits.{AllKinds}
-use Rattle.h5_meaning.specs.InTableText.{saved_mode}
-use Rattle.h5_meaning.specs.Run.{View, after_all, after_token, reply_to}
-use Rattle.h5_meaning.specs.Sound.{Fitting}
+use Rattle.h5_rules.specs.fitting.Fits.{AllKinds}
+use Rattle.h5_rules.specs.modes.InTableText.{saved_mode}
+use Rattle.h5_rules.specs.Run.{View, after_all, after_token, reply_to}
+use Rattle.h5_rules.specs.Sound.{Fitting}
 use Rattle.h5_tree_builder.specs.Builder.{ended_view, is_foreign_in}
 use Rattle.h5_tree_builder.specs.Held.{Held, building}
 use Rattle.h5_tokenizer.specs.Front.{Place}

@@ -1,7 +1,7 @@
 //! A parser of bytes.
 ghost use Rattle.std.specs.Prelude.{◌≡◌, ◌++◌, [], true, false, Ok, Err, IfOk, OnErr, OnOk};
 ghost use Rattle.std.specs.Str.Lossy.{utf8_lossy};
-ghost use Rattle.h5_meaning.specs.Run.{View};
+ghost use Rattle.h5_rules.specs.Run.{View};
 ghost use Rattle.h5_tree_builder.specs.Held.{building};
 ghost use Rattle.h5_driver.specs.Bytes.{AdvancesBytes, ProcessedBytes};
 ghost use Rattle.h5_driver.specs.Parsing.{Parses, unread, view_of};

@@ -2,7 +2,7 @@
 ghost use Rattle.std.specs.Prelude.{◌≡◌, ℕ, List, ◌++◌};
 ghost use Rattle.std.specs.Str.Lossy.{utf8_lossy};
 ghost use Rattle.h5_interface.specs.Seen.{Seen};
-ghost use Rattle.h5_meaning.specs.Run.{View};
+ghost use Rattle.h5_rules.specs.Run.{View};
 ghost use Rattle.h5_tokenizer.specs.Front.{Place};
 ghost use Rattle.h5_driver.specs.Bytes.{ParsingBytes, ProcessedAllBytes};
 ghost use Rattle.h5_driver.specs.Parsing.{Parses, Parsing, ProcessedAll, joined, unread, view_of};

@@ -1,6 +1,6 @@
 //! The parser.
 ghost use Rattle.std.specs.Prelude.{◌≡◌, ◌++◌, ◌<◌, [], map, string_bytes, true, false, Ok, Err, IfOk, OnErr, OnOk};
-ghost use Rattle.h5_meaning.specs.Run.{View};
+ghost use Rattle.h5_rules.specs.Run.{View};
 ghost use Rattle.h5_tree_builder.specs.Held.{building};
 ghost use Rattle.h5_tokenizer.specs.declared.stage.Stage.TheVariants.{Reading};
 ghost use Rattle.h5_tokenizer.specs.End.{Closes};

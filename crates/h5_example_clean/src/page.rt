@@ -41,7 +41,7 @@ fn clean_tree(alloc: Global, arena: &Arena) -> Result<Vec<u8>, SerializeFault>
     Ok(cleaner.into_html())
 }
 
-/// The HTML of what the policy allows of a page, in which no start tag of a `script` or a `style` begins. An `AllocError` where
+/// The HTML of what the policy allows of a page, in which neither `<script` nor `<style` stands. An `AllocError` where
 /// memory is refused.
 pub fn clean_page(alloc: Global, page: &str) -> Result<Vec<u8>, AllocError>
     ensures cleaned { IfOk result (λ html. IsCleanOf page.now html.items) }

@@ -1,4 +1,7 @@
-//! The links of a page, with their texts, a line for each: a caller of the library.
+//! The links of a page, with their texts, a line for each: a caller of the library `html_tree_builder`.
+//!
+//! `page` reads a page to its links, and `links` takes the calls that tell of the page, and keeps its links. Begin with
+//! `specs/Links.antt` (which links a page has), then `src/page.rt`.
 #![tactic(auto)]
 
 mod links;

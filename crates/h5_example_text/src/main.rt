@@ -1,4 +1,7 @@
-//! The text of a page, block by block, a line for each: a caller of the library.
+//! The text of a page, block by block, a line for each: a caller of the library `html_tree_builder`.
+//!
+//! `page` reads a page to its text, and `blocks` takes the calls that tell of the page, and keeps its text. Begin with
+//! `specs/Blocks.antt` (the lines of a page), then `src/page.rt`.
 #![tactic(auto)]
 
 mod blocks;

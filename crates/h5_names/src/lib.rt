@@ -1,7 +1,13 @@
 //! Names of elements and attributes, and attributes themselves.
 //!
-//! A contract sees a name as its text, and two names are equal if their texts are. What stands behind
-//! a name is this crate's own.
+//! A contract sees a name as its text, and two names are equal if their texts are. What stands behind a name is this
+//! crate's own: `local_name`, `name_prefix` and `namespace_url` have the parts of names, `qualified` whole names, and
+//! attributes. `known_name` has the names that HTML knows, `known_slots` finds one by its text, and `known_cases` has
+//! them in lower case and with capitals. `namespaces` has the namespaces that HTML knows, and `laws` what holds of
+//! names as of their texts.
+//!
+//! It stands on no other crate, and all but `h5_utf8` stand on it. Begin with `specs/AttributeText.antt` and
+//! `src/qualified.rt`.
 #![tactic(auto)]
 
 mod known_cases;

@@ -6,30 +6,30 @@ use Rattle.h5_interface.specs.NewElement.{is_html_template}
 use Rattle.h5_tag_sets.specs.TagSets.{block_end_names, block_start_names, button_scope_names, cell_names, formatting_names, heading_names, html_namespace, implied_names, is_button_scope, is_default_scope, is_foreign_special, is_heading, is_html_named, is_implied, is_one_of, mathml_namespace, scope_names, svg_namespace, void_names}
 use Rattle.h5_types.specs.TurnText.{TagTurn}
 use Rattle.h5_types.specs.declared.modes.InsertionMode.TheVariants.{InBody}
-use Rattle.h5_meaning.specs.FormattingNames.{html_name}
-use Rattle.h5_meaning.specs.InBody.{description_names, in_body_end, in_body_end_block, in_body_end_heading, in_body_end_p, in_body_marked, in_body_preformatted, in_body_start, in_body_start_block, in_body_start_heading, in_body_start_void, in_body_tag, in_body_void, list_item_names}
-use Rattle.h5_meaning.specs.InCell.{in_cell_closing_ends, in_cell_ignored_ends}
-use Rattle.h5_meaning.specs.Modes.{rule}
-use Rattle.h5_meaning.specs.Shared.{head_start_names, table_structure_names}
-use Rattle.h5_meaning.specs.World.{World}
-use Rattle.h5_meaning.specs.Roles.{PlainRole, role_of, role_of_local}
+use Rattle.h5_rules.specs.formatting.FormattingNames.{html_name}
+use Rattle.h5_rules.specs.modes.InBody.{description_names, in_body_end, in_body_end_block, in_body_end_blocks, in_body_end_heading, in_body_end_inline, in_body_end_p, in_body_marked, in_body_preformatted, in_body_start, in_body_start_block, in_body_start_blocks, in_body_start_embedded, in_body_start_heading, in_body_start_inline, in_body_start_void, in_body_tag, in_body_void, list_item_names}
+use Rattle.h5_rules.specs.modes.InCell.{in_cell_closing_ends, in_cell_ignored_ends}
+use Rattle.h5_rules.specs.modes.Modes.{rule}
+use Rattle.h5_rules.specs.modes.Shared.{head_start_names, table_structure_names}
+use Rattle.h5_rules.specs.World.{World}
+use Rattle.h5_rules.specs.fitting.Roles.{PlainRole, role_of, role_of_local}
 use Rattle.h5_plain.specs.Plain.{division_names, has_end_tag}
 use Rattle.h5_plain.proofs.ModeLaws.{IsOutside}
 use Rattle.h5_plain.proofs.RuleLaws.{end, start}
-use Rattle.h5_meaning.proofs.ByNameLaws.{HoldsOfAll}
+use Rattle.h5_rules.proofs.rows.ByNameLaws.{HoldsOfAll}
 
 -- a `p` and its end
 pub p_rule : (a : List AttributeText) (w : World) → rule InBody (TagTurn (start (codes "p") a)) w ≡ in_body_start_block (start (codes "p") a) w
-unfolding in_body_tag in_body_start head_start_names block_start_names
+unfolding in_body_tag in_body_start in_body_start_blocks in_body_start_inline in_body_start_embedded head_start_names block_start_names
 p_rule a w = refl
 
 pub p_end_rule : (w : World) → rule InBody (TagTurn (end (codes "p"))) w ≡ in_body_end_p (end (codes "p")) w
-unfolding in_body_tag in_body_end block_end_names
+unfolding in_body_tag in_body_end in_body_end_blocks in_body_end_inline block_end_names
 p_end_rule w = refl
 
 -- a `br`
 pub br_rule : (a : List AttributeText) (w : World) → rule InBody (TagTurn (start (codes "br") a)) w ≡ in_body_start_void (start (codes "br") a) w
-unfolding in_body_tag in_body_start head_start_names block_start_names heading_names formatting_names in_body_preformatted list_item_names description_names in_body_marked in_body_void
+unfolding in_body_tag in_body_start in_body_start_blocks in_body_start_inline in_body_start_embedded head_start_names block_start_names heading_names formatting_names in_body_preformatted list_item_names description_names in_body_marked in_body_void
 br_rule a w = refl
 
 -- an element of this name is written with an end tag, and takes children itself; it is no `title`
@@ -85,7 +85,7 @@ of_each Of (n ∷ ns) each name h = at (of_each Of ns each.1 name) (is_same_text
     at others false e k = others k
 
 divisions : HoldsOfAll IsBlockName division_names
-unfolding division_names void_names html_namespace mathml_namespace svg_namespace in_body_tag in_body_start head_start_names in_body_end block_start_names block_end_names is_html_named is_implied implied_names is_button_scope is_default_scope is_foreign_special scope_names button_scope_names is_heading heading_names role_of role_of_local table_structure_names cell_names in_cell_closing_ends in_cell_ignored_ends
+unfolding division_names void_names html_namespace mathml_namespace svg_namespace in_body_tag in_body_start in_body_start_blocks in_body_start_inline in_body_start_embedded head_start_names in_body_end in_body_end_blocks in_body_end_inline block_start_names block_end_names is_html_named is_implied implied_names is_button_scope is_default_scope is_foreign_special scope_names button_scope_names is_heading heading_names role_of role_of_local table_structure_names cell_names in_cell_closing_ends in_cell_ignored_ends
 divisions = (
   record { holds = record { has_end = refl; no_template = refl; no_title = refl }; starts = λ a w. refl; ends = λ w. refl; itself = refl; not_implied = refl; no_heading = refl; no_p = refl; no_scope = refl; role = refl; outside = record { no_structure = refl; no_cell = refl; closes_none = refl; not_ignored = refl } },
   (record { holds = record { has_end = refl; no_template = refl; no_title = refl }; starts = λ a w. refl; ends = λ w. refl; itself = refl; not_implied = refl; no_heading = refl; no_p = refl; no_scope = refl; role = refl; outside = record { no_structure = refl; no_cell = refl; closes_none = refl; not_ignored = refl } }, tt),
@@ -96,7 +96,7 @@ pub is_division_name : (name : List ℕ) → is_one_of division_names name ≡ t
 is_division_name name h = of_each IsBlockName division_names divisions name h
 
 headings : HoldsOfAll IsHeadingName heading_names
-unfolding heading_names void_names html_namespace in_body_tag in_body_start head_start_names in_body_end block_start_names block_end_names is_html_named is_heading is_implied implied_names table_structure_names cell_names in_cell_closing_ends in_cell_ignored_ends list_item_names description_names
+unfolding heading_names void_names html_namespace in_body_tag in_body_start in_body_start_blocks in_body_start_inline in_body_start_embedded head_start_names in_body_end in_body_end_blocks in_body_end_inline block_start_names block_end_names is_html_named is_heading is_implied implied_names table_structure_names cell_names in_cell_closing_ends in_cell_ignored_ends list_item_names description_names
 headings = (
   record { holds = record { has_end = refl; no_template = refl; no_title = refl }; starts = λ a w. refl; ends = λ w. refl; itself = refl; heading = refl; not_implied = refl; outside = record { no_structure = refl; no_cell = refl; closes_none = refl; not_ignored = refl } },
   (

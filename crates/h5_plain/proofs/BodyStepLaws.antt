@@ -9,22 +9,22 @@ use Rattle.h5_interface.specs.SinkChoices.{SinkChoices}
 use Rattle.h5_tag_sets.specs.TagSets.{html_namespace, implied_names, is_default_scope, is_heading, is_html_named, is_implied}
 use Rattle.h5_types.specs.TurnText.{TagTurn}
 use Rattle.h5_types.specs.declared.modes.InsertionMode.TheVariants.{InBody}
-use Rattle.h5_meaning.specs.FormattingNames.{html_name}
-use Rattle.h5_meaning.specs.Order.{but_first}
-use Rattle.h5_meaning.specs.Scope.{cut_through, first_passes, has_p_in_button_scope, in_scope, is_implied_but}
-use Rattle.h5_meaning.specs.Blanks.{all_blank}
-use Rattle.h5_meaning.specs.Changes.{append_text, insert_and_pop_element, insert_element, new_element, pop, pop_until_named, push_new, set_frameset_not_ok, set_frameset_ok_by_text}
-use Rattle.h5_meaning.specs.Closing.{close_p_element, close_p_element_in_button_scope, pop_heading, pop_until_heading}
-use Rattle.h5_meaning.specs.InBody.{in_body_end_block, in_body_end_heading, in_body_end_p, in_body_start_block}
-use Rattle.h5_meaning.specs.Modes.{rule}
-use Rattle.h5_meaning.specs.Place.{place, put}
-use Rattle.h5_meaning.specs.Rows.{Change, ClosePElement, ClosePElementInButtonScope, GenerateImpliedEnd, InsertAndPopElement, InsertElement, IsDone, PopHeading, PopUntilHeading, PopUntilNamed, ReconstructActiveFormattingElements, SetFramesetNotOk, choose, errs, ignored, row_if}
-use Rattle.h5_meaning.specs.World.{World, names_of}
-use Rattle.h5_meaning.proofs.FormattingLaws.{reconstruct_none}
-use Rattle.h5_meaning.proofs.PopLaws.{all_implied_none, implied_none}
+use Rattle.h5_rules.specs.formatting.FormattingNames.{html_name}
+use Rattle.h5_rules.specs.stack.Order.{but_first}
+use Rattle.h5_rules.specs.stack.Scope.{cut_through, first_passes, has_p_in_button_scope, in_scope, is_implied_but}
+use Rattle.h5_rules.specs.Blanks.{all_blank}
+use Rattle.h5_rules.specs.Changes.{append_text, insert_and_pop_element, insert_element, new_element, pop, pop_until_named, push_new, set_frameset_not_ok, set_frameset_ok_by_text}
+use Rattle.h5_rules.specs.stack.Closing.{close_p_element, close_p_element_in_button_scope, pop_heading, pop_until_heading}
+use Rattle.h5_rules.specs.modes.InBody.{in_body_end_block, in_body_end_heading, in_body_end_p, in_body_start_block}
+use Rattle.h5_rules.specs.modes.Modes.{rule}
+use Rattle.h5_rules.specs.insertion.Place.{place, put}
+use Rattle.h5_rules.specs.Rows.{Change, ClosePElement, ClosePElementInButtonScope, GenerateImpliedEnd, InsertAndPopElement, InsertElement, IsDone, PopHeading, PopUntilHeading, PopUntilNamed, ReconstructActiveFormattingElements, SetFramesetNotOk, choose, errs, ignored, row_if}
+use Rattle.h5_rules.specs.World.{World, names_of}
+use Rattle.h5_rules.proofs.changes.FormattingLaws.{reconstruct_none}
+use Rattle.h5_rules.proofs.changes.PopLaws.{all_implied_none, implied_none}
 use Rattle.h5_plain.specs.Plain.{end_tag, start_tag}
 use Rattle.h5_plain.proofs.BodyRuleLaws.{IsBlockName, IsHeadingName, IsHolder, br_outside, br_rule, p_end_rule, p_outside}
-use Rattle.h5_meaning.specs.FormattingList.{Entry}
+use Rattle.h5_rules.specs.formatting.FormattingList.{Entry}
 use Rattle.h5_plain.proofs.ListedLaws.{OpenFormat}
 use Rattle.h5_plain.proofs.CalmLaws.{Calm, calm_html, after, calm_closed, names_are, opened, place_is, unowned}
 use Rattle.h5_plain.proofs.FilledLaws.{Face}

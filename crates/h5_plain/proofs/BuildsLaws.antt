@@ -5,19 +5,19 @@ use Rattle.h5_names.specs.declared.qualified.QualName.{QualName}
 use Rattle.h5_interface.specs.Changes.{append_text, mark}
 use Rattle.h5_interface.specs.Forest.{Child, ChildNode, ChildText, Forest, IsForest}
 use Rattle.h5_interface.specs.SinkChoices.{SinkChoices}
-use Rattle.h5_meaning.specs.Roles.{role_of, role_of_local}
+use Rattle.h5_rules.specs.fitting.Roles.{role_of, role_of_local}
 use Rattle.h5_tag_sets.specs.TagSets.{button_scope_names, heading_names, html_namespace, is_button_scope, is_default_scope, is_foreign_special, is_heading, is_html_named, is_table_body_context, is_table_row_context, is_table_scope, mathml_namespace, scope_names, svg_namespace, table_body_context_names, table_row_context_names, table_scope_names, void_names}
 use Rattle.h5_types.specs.declared.modes.InsertionMode.{InsertionMode}
 use Rattle.h5_types.specs.declared.modes.InsertionMode.TheVariants.{InBody, InCell, InRow, InTable, InTableBody}
-use Rattle.h5_meaning.specs.FormattingNames.{html_name}
-use Rattle.h5_meaning.specs.Order.{but_first}
-use Rattle.h5_meaning.specs.Scope.{first_passes, has_p_in_button_scope}
-use Rattle.h5_meaning.specs.Blanks.{all_blank}
-use Rattle.h5_meaning.specs.Closing.{ends_item_search, newest_item}
-use Rattle.h5_meaning.specs.InBody.{list_item_names}
-use Rattle.h5_meaning.specs.World.{World, names_of}
+use Rattle.h5_rules.specs.formatting.FormattingNames.{html_name}
+use Rattle.h5_rules.specs.stack.Order.{but_first}
+use Rattle.h5_rules.specs.stack.Scope.{first_passes, has_p_in_button_scope}
+use Rattle.h5_rules.specs.Blanks.{all_blank}
+use Rattle.h5_rules.specs.stack.Closing.{ends_item_search, newest_item}
+use Rattle.h5_rules.specs.modes.InBody.{list_item_names}
+use Rattle.h5_rules.specs.World.{World, names_of}
 use Rattle.h5_plain.specs.Plain.{Blocks, Break, Cell, Cells, Division, ElementThen, End, Formatted, Heading, Inlines, IsPlain, Item, ItemList, Items, Link, Nodes, Nothing, Paragraph, Rows, Section, Sections, Sort, Table, TableRow, TextThen, Words, end_tag, start_tag}
-use Rattle.h5_meaning.specs.FormattingList.{Entry, MarkerEntry, push_formatting}
+use Rattle.h5_rules.specs.formatting.FormattingList.{Entry, MarkerEntry, push_formatting}
 use Rattle.h5_plain.proofs.ListedLaws.{Entries, Fewer, Formats, Kept, Lost, OpenFormat, has_link}
 use Rattle.h5_plain.proofs.BodyRuleLaws.{IsBlockName, IsHolder, is_division_name, is_heading_name, p_holds, p_outside, p_rule}
 use Rattle.h5_plain.proofs.BodyStepLaws.{breaks, ends_block, ends_heading, ends_p, starts_block, starts_heading, writes}

@@ -8,15 +8,15 @@ use Rattle.h5_interface.specs.NewElement.{is_html_template}
 use Rattle.h5_interface.specs.SinkChoices.{SinkChoices}
 use Rattle.h5_interface.proofs.ForestLaws.{node_of_kind}
 use Rattle.h5_tag_sets.specs.TagSets.{is_table_outer}
-use Rattle.h5_meaning.specs.FormattingList.{Entry, closed_front, nodes_of}
-use Rattle.h5_meaning.specs.FormattingNames.{html_name}
-use Rattle.h5_meaning.specs.Order.{first_or, is_in}
-use Rattle.h5_meaning.specs.NamesFit.{is_html_element}
-use Rattle.h5_meaning.specs.Place.{LastChild, appropriate_place, foster_place, from_foster_parent, place}
-use Rattle.h5_meaning.specs.Scope.{has_template}
-use Rattle.h5_meaning.specs.Changes.{owned}
-use Rattle.h5_meaning.specs.FormOwner.{associates, form_owner, may_have_owner}
-use Rattle.h5_meaning.specs.World.{World, current, name_in, name_of_found, name_of_kind, names_of, root}
+use Rattle.h5_rules.specs.formatting.FormattingList.{Entry, closed_front, nodes_of}
+use Rattle.h5_rules.specs.formatting.FormattingNames.{html_name}
+use Rattle.h5_rules.specs.stack.Order.{first_or, is_in}
+use Rattle.h5_rules.specs.fitting.NamesFit.{is_html_element}
+use Rattle.h5_rules.specs.insertion.Place.{LastChild, appropriate_place, foster_place, from_foster_parent, place}
+use Rattle.h5_rules.specs.stack.Scope.{has_template}
+use Rattle.h5_rules.specs.Changes.{owned}
+use Rattle.h5_rules.specs.insertion.FormOwner.{associates, form_owner, may_have_owner}
+use Rattle.h5_rules.specs.World.{World, current, name_in, name_of_found, name_of_kind, names_of, root}
 use Rattle.h5_plain.specs.Plain.{ElementThen, End, Nodes, end_tag, has_end_tag, start_tag, tokens_before}
 use Rattle.h5_plain.proofs.FilledLaws.{Face, Filled, Frame, SameFaces, Shows, face, filled_element, filled_nothing, frame_element, gone_before, more}
 use Rattle.h5_types.specs.declared.modes.InsertionMode.{InsertionMode}

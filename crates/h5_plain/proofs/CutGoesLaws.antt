@@ -5,16 +5,16 @@ use Rattle.h5_interface.specs.SinkChoices.{SinkChoices}
 use Rattle.h5_types.specs.declared.modes.InsertionMode.{InsertionMode}
 use Rattle.h5_types.specs.declared.modes.InsertionMode.TheVariants.{InBody, InCaption, InCell, InTemplate, Text}
 use Rattle.h5_token.specs.Joins.{glue, join}
-use Rattle.h5_meaning.specs.Changes.{append_text, set_frameset_ok_by_text}
-use Rattle.h5_meaning.specs.Foreign.{is_foreign_text}
-use Rattle.h5_meaning.specs.Run.{step, taken, text_step, without_lf}
-use Rattle.h5_meaning.specs.Sound.{Fitting}
-use Rattle.h5_meaning.specs.Text.{foreign_text, is_quiet_text, text_in_body, text_rule}
-use Rattle.h5_meaning.specs.World.{World}
-use Rattle.h5_meaning.proofs.CutLaws.{by_foreign, by_mode}
-use Rattle.h5_meaning.proofs.FittingLaws.{step_fitting}
-use Rattle.h5_meaning.proofs.RunLaws.{step_cut, takes_text, without_lf-append, step_reply}
-use Rattle.h5_meaning.proofs.TreeLaws.{tree_reconstruct}
+use Rattle.h5_rules.specs.Changes.{append_text, set_frameset_ok_by_text}
+use Rattle.h5_rules.specs.insertion.Foreign.{is_foreign_text}
+use Rattle.h5_rules.specs.Run.{step, taken, text_step, without_lf}
+use Rattle.h5_rules.specs.Sound.{Fitting}
+use Rattle.h5_rules.specs.Text.{foreign_text, is_quiet_text, text_in_body, text_rule}
+use Rattle.h5_rules.specs.World.{World}
+use Rattle.h5_laws.proofs.cuts.CutLaws.{by_foreign, by_mode}
+use Rattle.h5_laws.proofs.kept.FittingLaws.{step_fitting}
+use Rattle.h5_laws.proofs.cuts.RunLaws.{step_cut, takes_text, without_lf-append, step_reply}
+use Rattle.h5_rules.proofs.changes.TreeLaws.{tree_reconstruct}
 use Rattle.h5_plain.proofs.GoesLaws.{Goes, Moves}
 
 -- in a mode in which texts tell no parse error, none does

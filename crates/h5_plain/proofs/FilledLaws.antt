@@ -6,9 +6,9 @@ use Rattle.h5_interface.specs.Changes.{append_text}
 use Rattle.h5_interface.specs.Forest.{Child, ChildNode, ChildText, DoctypeNode, DocumentNode, ElementNode, Forest, IsForest, IsNode, Kind, Node, children_of, kind_of}
 use Rattle.h5_interface.specs.SinkChoices.{SinkChoices}
 use Rattle.h5_interface.proofs.ForestLaws.{there_alike}
-use Rattle.h5_meaning.specs.Place.{LastChild}
-use Rattle.h5_meaning.proofs.PlaceLaws.{text_put_rearranges}
-use Rattle.h5_meaning.specs.FormattingNames.{html_name}
+use Rattle.h5_rules.specs.insertion.Place.{LastChild}
+use Rattle.h5_rules.proofs.changes.PlaceLaws.{text_put_rearranges}
+use Rattle.h5_rules.specs.formatting.FormattingNames.{html_name}
 use Rattle.h5_plain.specs.Plain.{ElementThen, End, Nodes, TextThen}
 use Rattle.h5_plain.specs.Rebuilding.{Looks, Stands}
 use Rattle.h5_plain.proofs.GrowthLaws.{Below, Rooted, html, kinds_apart, with_element}

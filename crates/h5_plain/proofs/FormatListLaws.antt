@@ -3,12 +3,12 @@ use Rattle.std.proofs.Common.{◌≡◌, ℕ, ◌==◌, Bool, true, false, ◌||
 use Rattle.std.proofs.lemmas.Bool.{eqb-true}
 use Rattle.h5_names.specs.AttributeText.{AttributeText, is_same_text}
 use Rattle.h5_token.specs.TokenText.{TagText}
-use Rattle.h5_meaning.specs.Adoption.{newest_named}
-use Rattle.h5_meaning.specs.FormattingList.{ElementEntry, Entry, MarkerEntry, count_alike, is_alike, nodes_of, push_formatting, without_earliest}
-use Rattle.h5_meaning.specs.Order.{is_in}
+use Rattle.h5_rules.specs.formatting.Adoption.{newest_named}
+use Rattle.h5_rules.specs.formatting.FormattingList.{ElementEntry, Entry, MarkerEntry, count_alike, is_alike, nodes_of, push_formatting, without_earliest}
+use Rattle.h5_rules.specs.stack.Order.{is_in}
 use Rattle.h5_plain.proofs.ListedLaws.{AtMarker, Bottom, Entries, Fewer, IsBase, Kept, Lost, NoEntry, OpenFormat, Formats, has_link}
 use Rattle.h5_plain.proofs.RuleLaws.{start}
-use Rattle.h5_meaning.proofs.BoolLaws.{neither_of}
+use Rattle.h5_rules.proofs.BoolLaws.{neither_of}
 
 both_not : (b c : Bool) → b ≡ false → c ≡ false → cond b true c ≡ false
 both_not true c e f = absurd (cc)

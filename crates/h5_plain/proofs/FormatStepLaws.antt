@@ -8,17 +8,17 @@ use Rattle.h5_token.specs.TokenText.{TagText}
 use Rattle.h5_interface.specs.Changes.{mark}
 use Rattle.h5_interface.specs.SinkChoices.{SinkChoices}
 use Rattle.h5_tag_sets.specs.TagSets.{is_default_scope, is_html_named, is_special}
-use Rattle.h5_meaning.specs.Adoption.{FormattingElement, furthest_block, newer_than, newest_named, older_than}
-use Rattle.h5_meaning.specs.FormattingList.{ElementEntry, Entry, nodes_of, push_formatting, without_entry}
-use Rattle.h5_meaning.specs.FormattingNames.{html_name}
-use Rattle.h5_meaning.specs.Order.{but_first, first_or, is_in}
-use Rattle.h5_meaning.specs.Scope.{first_passes}
-use Rattle.h5_meaning.specs.AdoptionAgency.{adopt_at, adopt_by, adopt_within, adoption_agency, close_misnested_a, closes_current, closes_one, handle_misnested_a_tags, is_current_unlisted, is_formatting_element}
-use Rattle.h5_meaning.specs.Changes.{pop}
-use Rattle.h5_meaning.specs.Formatting.{create_formatting_element, reconstruct_active_formatting_elements}
-use Rattle.h5_meaning.specs.Rows.{AdoptionAgency, CreateFormattingElement, HandleMisnestedATags, IsDone, ReconstructActiveFormattingElements, row_if}
-use Rattle.h5_meaning.specs.World.{World, current, name_in, names_of}
-use Rattle.h5_meaning.proofs.FormattingLaws.{reconstruct_none}
+use Rattle.h5_rules.specs.formatting.Adoption.{FormattingElement, furthest_block, newer_than, newest_named, older_than}
+use Rattle.h5_rules.specs.formatting.FormattingList.{ElementEntry, Entry, nodes_of, push_formatting, without_entry}
+use Rattle.h5_rules.specs.formatting.FormattingNames.{html_name}
+use Rattle.h5_rules.specs.stack.Order.{but_first, first_or, is_in}
+use Rattle.h5_rules.specs.stack.Scope.{first_passes}
+use Rattle.h5_rules.specs.formatting.AdoptionAgency.{adopt_at, adopt_by, adopt_within, adoption_agency, close_misnested_a, closes_current, closes_one, handle_misnested_a_tags, is_current_unlisted, is_formatting_element}
+use Rattle.h5_rules.specs.Changes.{pop}
+use Rattle.h5_rules.specs.formatting.Formatting.{create_formatting_element, reconstruct_active_formatting_elements}
+use Rattle.h5_rules.specs.Rows.{AdoptionAgency, CreateFormattingElement, HandleMisnestedATags, IsDone, ReconstructActiveFormattingElements, row_if}
+use Rattle.h5_rules.specs.World.{World, current, name_in, names_of}
+use Rattle.h5_rules.proofs.changes.FormattingLaws.{reconstruct_none}
 use Rattle.h5_plain.specs.Plain.{end_tag, start_tag}
 use Rattle.h5_plain.proofs.BodyStepLaws.{insert_is}
 use Rattle.h5_plain.proofs.CalmLaws.{Calm, calm_html, calm_closed, opened}

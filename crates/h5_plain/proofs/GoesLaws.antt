@@ -10,24 +10,24 @@ use Rattle.h5_types.specs.TurnText.{EofTurn, TagTurn, TextTurn, TurnText, is_sel
 use Rattle.h5_types.specs.declared.modes.InsertionMode.{InsertionMode}
 use Rattle.h5_types.specs.declared.modes.InsertionMode.TheVariants.{Text}
 use Rattle.h5_types.specs.declared.modes.SplitStatus.TheVariants.{NotSplit}
-use Rattle.h5_meaning.specs.FormattingList.{closed_front}
-use Rattle.h5_meaning.specs.ByName.{by_kind}
-use Rattle.h5_meaning.specs.Changes.{append_text, set_frameset_ok_by_text}
-use Rattle.h5_meaning.specs.Foreign.{is_foreign}
-use Rattle.h5_meaning.specs.Modes.{rule}
-use Rattle.h5_meaning.specs.Rows.{Answers, Change, IsAcknowledged, IsDone, Row, apply_all, ignored, row}
-use Rattle.h5_meaning.specs.Kinds.{is_start}
-use Rattle.h5_meaning.specs.Run.{View, after_all, after_token, all_quiet, is_quiet, refuses_in, replies, run, step, take_or_refuse, taken, tell_or_refuse, text_step, without_lf}
-use Rattle.h5_meaning.specs.Settle.{Settled, settle}
-use Rattle.h5_meaning.specs.Text.{is_quiet_text, text_in_body, text_rule}
-use Rattle.h5_meaning.specs.TextMode.{text_end}
-use Rattle.h5_meaning.specs.World.{World}
-use Rattle.h5_meaning.proofs.CutLaws.{by_mode}
-use Rattle.h5_meaning.proofs.ForeignModeLaws.{html_not_foreign}
-use Rattle.h5_meaning.proofs.ForeignRowLaws.{eof_html}
-use Rattle.h5_meaning.proofs.FormattingLaws.{reconstruct_none}
-use Rattle.h5_meaning.proofs.RunLaws.{is_taken, moved, taken_same, takes_text}
-use Rattle.h5_meaning.proofs.SettleLaws.{settle-done}
+use Rattle.h5_rules.specs.formatting.FormattingList.{closed_front}
+use Rattle.h5_rules.specs.ByName.{by_kind}
+use Rattle.h5_rules.specs.Changes.{append_text, set_frameset_ok_by_text}
+use Rattle.h5_rules.specs.insertion.Foreign.{is_foreign}
+use Rattle.h5_rules.specs.modes.Modes.{rule}
+use Rattle.h5_rules.specs.Rows.{Answers, Change, IsAcknowledged, IsDone, Row, apply_all, ignored, row}
+use Rattle.h5_rules.specs.Kinds.{is_start}
+use Rattle.h5_rules.specs.Run.{View, after_all, after_token, all_quiet, is_quiet, refuses_in, replies, run, step, take_or_refuse, taken, tell_or_refuse, text_step, without_lf}
+use Rattle.h5_rules.specs.Settle.{Settled, settle}
+use Rattle.h5_rules.specs.Text.{is_quiet_text, text_in_body, text_rule}
+use Rattle.h5_rules.specs.modes.TextMode.{text_end}
+use Rattle.h5_rules.specs.World.{World}
+use Rattle.h5_laws.proofs.cuts.CutLaws.{by_mode}
+use Rattle.h5_laws.proofs.modes.ForeignModeLaws.{html_not_foreign}
+use Rattle.h5_laws.proofs.modes.ForeignRowLaws.{eof_html}
+use Rattle.h5_rules.proofs.changes.FormattingLaws.{reconstruct_none}
+use Rattle.h5_laws.proofs.cuts.RunLaws.{is_taken, moved, taken_same, takes_text}
+use Rattle.h5_laws.proofs.turns.SettleLaws.{settle-done}
 use Rattle.h5_plain.specs.Plain.{is_start_of_title, plain_reply}
 use Rattle.h5_plain.proofs.HtmlLaws.{AtHtml, taken_html}
 use Rattle.h5_plain.proofs.ModeLaws.{GoesByBody, quiet_by_body, text_by_body}

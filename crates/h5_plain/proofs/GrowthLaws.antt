@@ -9,10 +9,10 @@ use Rattle.h5_interface.specs.Seen.{append_doctype, element, make, make_element,
 use Rattle.h5_interface.specs.SinkChoices.{SinkChoices}
 use Rattle.h5_interface.proofs.ForestLaws.{document_is_node}
 use Rattle.h5_interface.proofs.MakingLaws.{append_doctype_rearranges, element_lone, mark_rearranges, plain_lone}
-use Rattle.h5_meaning.specs.Place.{LastChild}
-use Rattle.h5_meaning.specs.World.{name_in, name_of_found}
-use Rattle.h5_meaning.specs.FormattingNames.{html_name}
-use Rattle.h5_meaning.proofs.PlaceLaws.{new_element_rearranges}
+use Rattle.h5_rules.specs.insertion.Place.{LastChild}
+use Rattle.h5_rules.specs.World.{name_in, name_of_found}
+use Rattle.h5_rules.specs.formatting.FormattingNames.{html_name}
+use Rattle.h5_rules.proofs.changes.PlaceLaws.{new_element_rearranges}
 use Rattle.h5_plain.specs.Rebuilding.{HoldsDocument, Looks}
 use Rattle.h5_plain.proofs.LooksLaws.{hung, looks_marked, looks_new, looks_node, looks_other, looks_parent}
 

@@ -5,14 +5,14 @@ use Rattle.h5_interface.specs.Forest.{ElementNode, kind_of}
 use Rattle.h5_interface.specs.SinkChoices.{SinkChoices}
 use Rattle.h5_tag_sets.specs.TagSets.{html_namespace}
 use Rattle.h5_types.specs.TurnText.{TurnText}
-use Rattle.h5_meaning.specs.FormattingNames.{html_name}
-use Rattle.h5_meaning.specs.Order.{first_or}
-use Rattle.h5_meaning.specs.Scope.{first_passes}
-use Rattle.h5_meaning.specs.NamesFit.{is_html_element}
-use Rattle.h5_meaning.specs.Foreign.{adjusted_current_node, adjusted_of, is_foreign}
-use Rattle.h5_meaning.specs.Run.{taken}
-use Rattle.h5_meaning.specs.World.{World, current, name_in, name_of_found, names_of}
-use Rattle.h5_meaning.proofs.ForeignModeLaws.{IsHtmlAt, html_not_foreign}
+use Rattle.h5_rules.specs.formatting.FormattingNames.{html_name}
+use Rattle.h5_rules.specs.stack.Order.{first_or}
+use Rattle.h5_rules.specs.stack.Scope.{first_passes}
+use Rattle.h5_rules.specs.fitting.NamesFit.{is_html_element}
+use Rattle.h5_rules.specs.insertion.Foreign.{adjusted_current_node, adjusted_of, is_foreign}
+use Rattle.h5_rules.specs.Run.{taken}
+use Rattle.h5_rules.specs.World.{World, current, name_in, name_of_found, names_of}
+use Rattle.h5_laws.proofs.modes.ForeignModeLaws.{IsHtmlAt, html_not_foreign}
 
 abbrev pub AtHtml : World → Type 0
 AtHtml w = IsHtmlAt w (adjusted_current_node w)

@@ -1,30 +1,30 @@
 -- The rules that the tags of lists and their items follow in the body, and what their names are.
 use Rattle.std.proofs.Common.{◌≡◌, ℕ, true, false, List, codes, refl}
 use Rattle.h5_names.specs.AttributeText.{AttributeText}
-use Rattle.h5_meaning.specs.Roles.{role_of, role_of_local}
+use Rattle.h5_rules.specs.fitting.Roles.{role_of, role_of_local}
 use Rattle.h5_tag_sets.specs.TagSets.{block_end_names, block_start_names, button_scope_names, cell_names, heading_names, html_namespace, implied_names, is_button_scope, is_default_scope, is_foreign_special, is_heading, is_html_named, is_implied, is_one_of, is_special, mathml_namespace, scope_names, special_names, svg_namespace, void_names}
 use Rattle.h5_types.specs.TurnText.{TagTurn}
 use Rattle.h5_types.specs.declared.modes.InsertionMode.TheVariants.{InBody}
-use Rattle.h5_meaning.specs.FormattingNames.{html_name}
-use Rattle.h5_meaning.specs.Closing.{ends_item_search, is_html_among, passed_names}
-use Rattle.h5_meaning.specs.InBody.{in_body_end, in_body_end_li, in_body_preformatted, in_body_start, in_body_start_item, in_body_tag, list_item_names}
-use Rattle.h5_meaning.specs.InCell.{in_cell_closing_ends, in_cell_ignored_ends}
-use Rattle.h5_meaning.specs.Modes.{rule}
-use Rattle.h5_meaning.specs.Shared.{head_start_names, table_structure_names}
-use Rattle.h5_meaning.specs.World.{World}
+use Rattle.h5_rules.specs.formatting.FormattingNames.{html_name}
+use Rattle.h5_rules.specs.stack.Closing.{ends_item_search, is_html_among, passed_names}
+use Rattle.h5_rules.specs.modes.InBody.{in_body_end, in_body_end_blocks, in_body_end_inline, in_body_end_li, in_body_preformatted, in_body_start, in_body_start_blocks, in_body_start_embedded, in_body_start_inline, in_body_start_item, in_body_tag, list_item_names}
+use Rattle.h5_rules.specs.modes.InCell.{in_cell_closing_ends, in_cell_ignored_ends}
+use Rattle.h5_rules.specs.modes.Modes.{rule}
+use Rattle.h5_rules.specs.modes.Shared.{head_start_names, table_structure_names}
+use Rattle.h5_rules.specs.World.{World}
 use Rattle.h5_plain.specs.Plain.{list_names}
 use Rattle.h5_plain.proofs.BodyRuleLaws.{IsBlockName, IsHolder, of_each}
 use Rattle.h5_plain.proofs.ModeLaws.{IsOutside}
 use Rattle.h5_plain.proofs.RuleLaws.{end, start}
-use Rattle.h5_meaning.proofs.ByNameLaws.{HoldsOfAll}
+use Rattle.h5_rules.proofs.rows.ByNameLaws.{HoldsOfAll}
 
 -- a `li` and its end
 pub item_rule : (a : List AttributeText) (w : World) → rule InBody (TagTurn (start (codes "li") a)) w ≡ in_body_start_item list_item_names (start (codes "li") a) w
-unfolding in_body_tag in_body_start head_start_names block_start_names heading_names in_body_preformatted list_item_names
+unfolding in_body_tag in_body_start in_body_start_blocks in_body_start_inline in_body_start_embedded head_start_names block_start_names heading_names in_body_preformatted list_item_names
 item_rule a w = refl
 
 pub item_end_rule : (w : World) → rule InBody (TagTurn (end (codes "li"))) w ≡ in_body_end_li (end (codes "li")) w
-unfolding in_body_tag in_body_end block_end_names list_item_names
+unfolding in_body_tag in_body_end in_body_end_blocks in_body_end_inline block_end_names list_item_names
 item_end_rule w = refl
 
 pub item_holds : IsHolder (codes "li")
@@ -43,7 +43,7 @@ pub record IsListName (name : List ℕ) : Type 0 where
   pub ends_search : ends_item_search (html_name name) ≡ true
 
 lists : HoldsOfAll IsListName list_names
-unfolding list_names void_names html_namespace mathml_namespace svg_namespace in_body_tag in_body_start head_start_names in_body_end block_start_names block_end_names is_html_named is_implied implied_names is_button_scope is_default_scope is_foreign_special scope_names button_scope_names is_heading heading_names list_item_names is_special special_names passed_names role_of role_of_local table_structure_names cell_names in_cell_closing_ends in_cell_ignored_ends
+unfolding list_names void_names html_namespace mathml_namespace svg_namespace in_body_tag in_body_start in_body_start_blocks in_body_start_inline in_body_start_embedded head_start_names in_body_end in_body_end_blocks in_body_end_inline block_start_names block_end_names is_html_named is_implied implied_names is_button_scope is_default_scope is_foreign_special scope_names button_scope_names is_heading heading_names list_item_names is_special special_names passed_names role_of role_of_local table_structure_names cell_names in_cell_closing_ends in_cell_ignored_ends
 lists = (
   record { block = record { holds = record { has_end = refl; no_template = refl; no_title = refl }; starts = λ a w. refl; ends = λ w. refl; itself = refl; not_implied = refl; no_heading = refl; no_p = refl; no_scope = refl; role = refl; outside = record { no_structure = refl; no_cell = refl; closes_none = refl; not_ignored = refl } }; no_item = refl; ends_search = refl },
   (record { block = record { holds = record { has_end = refl; no_template = refl; no_title = refl }; starts = λ a w. refl; ends = λ w. refl; itself = refl; not_implied = refl; no_heading = refl; no_p = refl; no_scope = refl; role = refl; outside = record { no_structure = refl; no_cell = refl; closes_none = refl; not_ignored = refl } }; no_item = refl; ends_search = refl }, tt),

@@ -5,15 +5,15 @@ use Rattle.h5_names.specs.declared.qualified.QualName.{QualName}
 use Rattle.h5_interface.specs.Forest.{IsForest}
 use Rattle.h5_interface.specs.SinkChoices.{SinkChoices}
 use Rattle.h5_tag_sets.specs.TagSets.{html_namespace, implied_names, is_html_named, is_implied, is_list_item_scope}
-use Rattle.h5_meaning.specs.FormattingList.{Entry}
-use Rattle.h5_meaning.specs.FormattingNames.{html_name}
-use Rattle.h5_meaning.specs.Scope.{first_passes, has_p_in_button_scope, in_scope, is_implied_but}
-use Rattle.h5_meaning.specs.Changes.{insert_element, pop_until_named, set_frameset_not_ok}
-use Rattle.h5_meaning.specs.Closing.{close_item, close_list_item, close_p_element_in_button_scope, newest_item}
-use Rattle.h5_meaning.specs.InBody.{in_body_end_li, list_item_names}
-use Rattle.h5_meaning.specs.Rows.{Change, CloseListItem, ClosePElementInButtonScope, GenerateImpliedEndExcept, InsertElement, IsDone, PopUntilNamed, SetFramesetNotOk, choose, ignored, row_if}
-use Rattle.h5_meaning.specs.World.{World, names_of}
-use Rattle.h5_meaning.proofs.PopLaws.{implied_none}
+use Rattle.h5_rules.specs.formatting.FormattingList.{Entry}
+use Rattle.h5_rules.specs.formatting.FormattingNames.{html_name}
+use Rattle.h5_rules.specs.stack.Scope.{first_passes, has_p_in_button_scope, in_scope, is_implied_but}
+use Rattle.h5_rules.specs.Changes.{insert_element, pop_until_named, set_frameset_not_ok}
+use Rattle.h5_rules.specs.stack.Closing.{close_item, close_list_item, close_p_element_in_button_scope, newest_item}
+use Rattle.h5_rules.specs.modes.InBody.{in_body_end_li, list_item_names}
+use Rattle.h5_rules.specs.Rows.{Change, CloseListItem, ClosePElementInButtonScope, GenerateImpliedEndExcept, InsertElement, IsDone, PopUntilNamed, SetFramesetNotOk, choose, ignored, row_if}
+use Rattle.h5_rules.specs.World.{World, names_of}
+use Rattle.h5_rules.proofs.changes.PopLaws.{implied_none}
 use Rattle.h5_plain.specs.Plain.{end_tag, start_tag}
 use Rattle.h5_plain.proofs.BodyStepLaws.{cut_at, insert_is, left, no_p, none_closed}
 use Rattle.h5_plain.proofs.CalmLaws.{Calm, calm_html, names_are, opened}

@@ -2,10 +2,10 @@
 use Rattle.std.proofs.Common.{◌≡◌, ℕ, ◌==◌, Bool, true, false, ◌||◌, cond, List, [], ◌∷◌, ◌++◌, codes, refl, ap}
 use Rattle.std.proofs.lemmas.Bool.{eq-eqb}
 use Rattle.h5_names.specs.AttributeText.{AttributeText, is_same_text}
-use Rattle.h5_meaning.specs.FormattingList.{ElementEntry, Entry, MarkerEntry, closed_front, nodes_of}
-use Rattle.h5_meaning.specs.Order.{is_in}
+use Rattle.h5_rules.specs.formatting.FormattingList.{ElementEntry, Entry, MarkerEntry, closed_front, nodes_of}
+use Rattle.h5_rules.specs.stack.Order.{is_in}
 use Rattle.h5_plain.proofs.RuleLaws.{start}
-use Rattle.h5_meaning.proofs.BoolLaws.{later_true}
+use Rattle.h5_rules.proofs.BoolLaws.{later_true}
 
 -- below the open formatting elements of a block the list is empty, or begins with a marker
 pub data IsBase : List Entry → Type 0 where

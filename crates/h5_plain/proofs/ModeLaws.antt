@@ -3,23 +3,23 @@ use Rattle.std.proofs.Common.{◌≡◌, ◌∙◌, ℕ, Bool, true, false, List
 use Rattle.h5_names.specs.AttributeText.{AttributeText}
 use Rattle.h5_names.specs.declared.qualified.QualName.{QualName}
 use Rattle.h5_interface.specs.SinkChoices.{SinkChoices}
-use Rattle.h5_meaning.specs.Fits.{Situation}
-use Rattle.h5_meaning.specs.ResetByRoles.{decide, reset}
-use Rattle.h5_meaning.specs.Roles.{CellRole, PlainRole, role_of, roles}
+use Rattle.h5_rules.specs.fitting.Fits.{Situation}
+use Rattle.h5_rules.specs.fitting.ResetByRoles.{decide, reset}
+use Rattle.h5_rules.specs.fitting.Roles.{CellRole, PlainRole, role_of, roles}
 use Rattle.h5_tag_sets.specs.TagSets.{cell_names, is_one_of}
 use Rattle.h5_types.specs.TurnText.{TagTurn}
 use Rattle.h5_types.specs.declared.modes.InsertionMode.{InsertionMode}
 use Rattle.h5_types.specs.declared.modes.InsertionMode.TheVariants.{InBody, InCell}
-use Rattle.h5_meaning.specs.Scope.{first_passes}
-use Rattle.h5_meaning.specs.InCell.{in_cell_closing_ends, in_cell_end, in_cell_end_cell, in_cell_end_structure, in_cell_ignored_ends, in_cell_start, in_cell_start_structure, in_cell_tag}
-use Rattle.h5_meaning.specs.InBody.{in_body}
-use Rattle.h5_meaning.specs.Modes.{rule}
-use Rattle.h5_meaning.specs.Reset.{reset_mode}
-use Rattle.h5_meaning.specs.Rows.{choose, ignored}
-use Rattle.h5_meaning.specs.Sound.{situation_of}
-use Rattle.h5_meaning.specs.Shared.{table_structure_names}
-use Rattle.h5_meaning.specs.Text.{is_quiet_text, text_in, text_in_body}
-use Rattle.h5_meaning.specs.World.{World, names_of}
+use Rattle.h5_rules.specs.stack.Scope.{first_passes}
+use Rattle.h5_rules.specs.modes.InCell.{in_cell_closing_ends, in_cell_end, in_cell_end_cell, in_cell_end_structure, in_cell_ignored_ends, in_cell_start, in_cell_start_structure, in_cell_tag}
+use Rattle.h5_rules.specs.modes.InBody.{in_body}
+use Rattle.h5_rules.specs.modes.Modes.{rule}
+use Rattle.h5_rules.specs.fitting.Reset.{reset_mode}
+use Rattle.h5_rules.specs.Rows.{choose, ignored}
+use Rattle.h5_rules.specs.Sound.{situation_of}
+use Rattle.h5_rules.specs.modes.Shared.{table_structure_names}
+use Rattle.h5_rules.specs.Text.{is_quiet_text, text_in, text_in_body}
+use Rattle.h5_rules.specs.World.{World, names_of}
 use Rattle.h5_plain.proofs.RuleLaws.{end, start}
 
 -- the body, and a cell, which goes by the body for most tags and for texts

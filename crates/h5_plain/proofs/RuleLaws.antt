@@ -7,16 +7,16 @@ use Rattle.h5_token.specs.declared.states.RawKind.TheVariants.{Rcdata}
 use Rattle.h5_token.specs.declared.tag.TagKind.TheVariants.{EndTag, StartTag}
 use Rattle.h5_types.specs.TurnText.{TagTurn}
 use Rattle.h5_types.specs.declared.modes.InsertionMode.TheVariants.{AfterAfterBody, AfterBody, AfterHead, BeforeHead, BeforeHtml, InBody, InHead, Text}
-use Rattle.h5_meaning.specs.AfterBody.{after_body_end, after_body_tag}
-use Rattle.h5_meaning.specs.AfterHead.{after_head_start, after_head_tag}
-use Rattle.h5_meaning.specs.BeforeHead.{before_head_start, before_head_tag}
-use Rattle.h5_meaning.specs.BeforeHtml.{before_html_start, before_html_tag}
-use Rattle.h5_meaning.specs.InBody.{body_ends, if_body_in_scope, in_body_end, in_body_tag}
-use Rattle.h5_meaning.specs.InHead.{in_head_end, in_head_links, in_head_start, in_head_start_tag, in_head_tag}
-use Rattle.h5_meaning.specs.InTableText.{saved_mode}
-use Rattle.h5_meaning.specs.Modes.{rule}
-use Rattle.h5_meaning.specs.Rows.{Answers, CreateRoot, InsertElement, InsertHead, IsDone, Pop, SaveMode, SetFramesetNotOk, SetMode, choose, ignored, row}
-use Rattle.h5_meaning.specs.World.{World}
+use Rattle.h5_rules.specs.modes.AfterBody.{after_body_end, after_body_tag}
+use Rattle.h5_rules.specs.modes.AfterHead.{after_head_start, after_head_tag}
+use Rattle.h5_rules.specs.modes.BeforeHead.{before_head_start, before_head_tag}
+use Rattle.h5_rules.specs.modes.BeforeHtml.{before_html_start, before_html_tag}
+use Rattle.h5_rules.specs.modes.InBody.{body_ends, if_body_in_scope, in_body_end, in_body_end_blocks, in_body_end_inline, in_body_tag}
+use Rattle.h5_rules.specs.modes.InHead.{in_head_end, in_head_links, in_head_start, in_head_start_tag, in_head_tag}
+use Rattle.h5_rules.specs.modes.InTableText.{saved_mode}
+use Rattle.h5_rules.specs.modes.Modes.{rule}
+use Rattle.h5_rules.specs.Rows.{Answers, CreateRoot, InsertElement, InsertHead, IsDone, Pop, SaveMode, SetFramesetNotOk, SetMode, choose, ignored, row}
+use Rattle.h5_rules.specs.World.{World}
 
 -- the tags of `start_tag` and `end_tag`
 abbrev pub start : List ℕ → List AttributeText → TagText
@@ -49,7 +49,7 @@ unfolding after_head_tag after_head_start
 body_rule a w = refl
 
 pub body_end_rule : (w : World) → rule InBody (TagTurn (end (codes "body"))) w ≡ if_body_in_scope (body_ends (SetMode AfterBody ∷ []) IsDone w) w
-unfolding in_body_tag in_body_end
+unfolding in_body_tag in_body_end in_body_end_blocks in_body_end_inline
 body_end_rule w = refl
 
 pub html_end_rule : (w : World) → w.context ≡ None → rule AfterBody (TagTurn (end (codes "html"))) w ≡ row (SetMode AfterAfterBody ∷ []) IsDone

@@ -4,7 +4,7 @@ use Rattle.h5_names.specs.AttributeText.{AttributeText}
 use Rattle.h5_token.specs.TokenText.{DoctypeText, EndOfFile, TokenText}
 use Rattle.h5_interface.specs.Forest.{Child, ChildNode, ElementNode}
 use Rattle.h5_names.specs.declared.qualified.QualName.{QualName}
-use Rattle.h5_meaning.specs.FormattingList.{nodes_of}
+use Rattle.h5_rules.specs.formatting.FormattingList.{nodes_of}
 use Rattle.h5_plain.proofs.ListedLaws.{Bottom, Entries, NoEntry}
 use Rattle.h5_interface.specs.SinkChoices.{SinkChoices}
 use Rattle.h5_interface.specs.declared.marks.QuirksMode.TheVariants.{NoQuirks}
@@ -13,15 +13,15 @@ use Rattle.h5_data.specs.Doctypes.{good_identifiers, quirks_of}
 use Rattle.h5_types.specs.declared.modes.InsertionMode.{InsertionMode}
 use Rattle.h5_types.specs.declared.modes.InsertionMode.TheVariants.{BeforeHtml, BeforeHead, InHead, AfterHead, InBody, AfterBody, AfterAfterBody}
 use Rattle.h5_types.specs.declared.options.TreeBuilderOpts.{TreeBuilderOpts}
-use Rattle.h5_meaning.specs.Changes.{set_frameset_not_ok, set_mode, insert_element, insert_head, insert_doctype, new_element, create_root, pop, set_quirks_mode}
-use Rattle.h5_meaning.specs.InBody.{body_ends, body_in_scope, if_body_in_scope}
-use Rattle.h5_meaning.specs.Rows.{SetFramesetNotOk, InsertElement, InsertHead, CreateRoot, IsDone, Pop, Row, SetMode, choose, ignored}
-use Rattle.h5_meaning.specs.Run.{doctype_in, judged, refuses_in, step, taken, with_doctype}
-use Rattle.h5_meaning.specs.Scope.{has_unclosed, in_scope}
-use Rattle.h5_meaning.specs.Place.{LastChild, place}
-use Rattle.h5_meaning.specs.World.{World, current, name_in, names_of}
-use Rattle.h5_meaning.specs.FormattingNames.{html_name}
-use Rattle.h5_meaning.specs.Order.{but_first, first_or, is_in}
+use Rattle.h5_rules.specs.Changes.{set_frameset_not_ok, set_mode, insert_element, insert_head, insert_doctype, new_element, create_root, pop, set_quirks_mode}
+use Rattle.h5_rules.specs.modes.InBody.{body_ends, body_in_scope, if_body_in_scope}
+use Rattle.h5_rules.specs.Rows.{SetFramesetNotOk, InsertElement, InsertHead, CreateRoot, IsDone, Pop, Row, SetMode, choose, ignored}
+use Rattle.h5_rules.specs.Run.{doctype_in, judged, refuses_in, step, taken, with_doctype}
+use Rattle.h5_rules.specs.stack.Scope.{has_unclosed, in_scope}
+use Rattle.h5_rules.specs.insertion.Place.{LastChild, place}
+use Rattle.h5_rules.specs.World.{World, current, name_in, names_of}
+use Rattle.h5_rules.specs.formatting.FormattingNames.{html_name}
+use Rattle.h5_rules.specs.stack.Order.{but_first, first_or, is_in}
 use Rattle.h5_plain.specs.Plain.{Blocks, End, IsPlain, Nodes, end_tag, plain_doctype, start_tag, tokens_before}
 use Rattle.h5_plain.specs.Rebuilding.{IsStart, Looks, Stands}
 use Rattle.h5_plain.proofs.BuildsLaws.{body_fits, builds}

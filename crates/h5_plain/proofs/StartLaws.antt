@@ -1,12 +1,12 @@
 -- A builder that took nothing yet has what a builder keeps between tokens.
 use Rattle.std.proofs.Common.{◌≡◌, ◌∙◌, ◌+◌, [], length, map, None, ap, refl, subst, sym}
 use Rattle.h5_interface.specs.Forest.{Forest, IsForest}
-use Rattle.h5_meaning.specs.Lists.{Lists}
+use Rattle.h5_rules.specs.formatting.Lists.{Lists}
 use Rattle.h5_types.specs.declared.modes.InsertionMode.TheVariants.{Initial}
-use Rattle.h5_meaning.specs.Fits.{AllKinds, context_templates}
-use Rattle.h5_meaning.specs.NamesFit.{NamesFit}
-use Rattle.h5_meaning.specs.Sound.{AllStand, Fitting, Stands, role_at, situation_of}
-use Rattle.h5_meaning.specs.World.{World, name_in, names_of}
+use Rattle.h5_rules.specs.fitting.Fits.{AllKinds, context_templates}
+use Rattle.h5_rules.specs.fitting.NamesFit.{NamesFit}
+use Rattle.h5_rules.specs.Sound.{AllStand, Fitting, Stands, role_at, situation_of}
+use Rattle.h5_rules.specs.World.{World, name_in, names_of}
 use Rattle.h5_plain.specs.Rebuilding.{IsStart}
 
 -- where nothing is open, listed or pointed at, all stands

@@ -7,10 +7,10 @@ use Rattle.h5_interface.specs.SinkChoices.{SinkChoices}
 use Rattle.h5_types.specs.declared.modes.InsertionMode.{InsertionMode}
 use Rattle.h5_types.specs.declared.modes.InsertionMode.TheVariants.{InCell, InRow}
 use Rattle.h5_tag_sets.specs.TagSets.{is_table_row_context}
-use Rattle.h5_meaning.specs.FormattingList.{Entry, MarkerEntry, clear_to_marker}
-use Rattle.h5_meaning.specs.FormattingNames.{html_name}
-use Rattle.h5_meaning.specs.Scope.{first_passes}
-use Rattle.h5_meaning.specs.World.{World, names_of}
+use Rattle.h5_rules.specs.formatting.FormattingList.{Entry, MarkerEntry, clear_to_marker}
+use Rattle.h5_rules.specs.formatting.FormattingNames.{html_name}
+use Rattle.h5_rules.specs.stack.Scope.{first_passes}
+use Rattle.h5_rules.specs.World.{World, names_of}
 use Rattle.h5_plain.specs.Plain.{ElementThen, Nodes, end_tag, start_tag}
 use Rattle.h5_plain.proofs.BodyRuleLaws.{IsHolder}
 use Rattle.h5_plain.proofs.CalmLaws.{Built, Calm, Opens, after, element_case, opened}

@@ -1,28 +1,28 @@
 -- The rules that the tags of tables follow, each in its mode, and what their names are.
 use Rattle.std.proofs.Common.{◌≡◌, ℕ, true, false, List, [], ◌∷◌, codes, refl}
 use Rattle.h5_names.specs.AttributeText.{AttributeText}
-use Rattle.h5_meaning.specs.Roles.{CellRole, role_of, role_of_local}
+use Rattle.h5_rules.specs.fitting.Roles.{CellRole, role_of, role_of_local}
 use Rattle.h5_tag_sets.specs.TagSets.{button_scope_names, cell_names, formatting_names, block_start_names, heading_names, html_namespace, implied_names, is_button_scope, is_default_scope, is_foreign_special, is_heading, is_html_named, is_implied, is_one_of, is_table_body_context, is_table_row_context, is_table_scope, mathml_namespace, scope_names, svg_namespace, void_names}
 use Rattle.h5_types.specs.TurnText.{TagTurn}
 use Rattle.h5_types.specs.declared.modes.InsertionMode.TheVariants.{InBody, InCell, InRow, InTable, InTableBody}
-use Rattle.h5_meaning.specs.FormattingNames.{html_name}
-use Rattle.h5_meaning.specs.InBody.{description_names, in_body_marked, in_body_preformatted, in_body_start, in_body_start_table, in_body_tag, list_item_names}
-use Rattle.h5_meaning.specs.InCell.{in_cell_end, in_cell_end_cell, in_cell_tag}
-use Rattle.h5_meaning.specs.InRow.{close_the_row, in_row_end, in_row_start, in_row_tag}
-use Rattle.h5_meaning.specs.InTable.{in_table_end, in_table_end_table, in_table_start, in_table_tag}
-use Rattle.h5_meaning.specs.InTableBody.{in_table_body_end, in_table_body_end_section, in_table_body_start, in_table_body_tag}
-use Rattle.h5_meaning.specs.Modes.{rule}
-use Rattle.h5_meaning.specs.Rows.{InsertElement, InsertMarker, IsDone, PopUntilCurrent, SetMode, row}
-use Rattle.h5_meaning.specs.Shared.{head_start_names, table_structure_names}
-use Rattle.h5_meaning.specs.Tables.{table_section_names}
-use Rattle.h5_meaning.specs.World.{World}
+use Rattle.h5_rules.specs.formatting.FormattingNames.{html_name}
+use Rattle.h5_rules.specs.modes.InBody.{description_names, in_body_marked, in_body_preformatted, in_body_start, in_body_start_blocks, in_body_start_embedded, in_body_start_inline, in_body_start_table, in_body_tag, list_item_names}
+use Rattle.h5_rules.specs.modes.InCell.{in_cell_end, in_cell_end_cell, in_cell_tag}
+use Rattle.h5_rules.specs.modes.InRow.{close_the_row, in_row_end, in_row_start, in_row_tag}
+use Rattle.h5_rules.specs.modes.InTable.{in_table_end, in_table_end_table, in_table_start, in_table_tag}
+use Rattle.h5_rules.specs.modes.InTableBody.{in_table_body_end, in_table_body_end_section, in_table_body_start, in_table_body_tag}
+use Rattle.h5_rules.specs.modes.Modes.{rule}
+use Rattle.h5_rules.specs.Rows.{InsertElement, InsertMarker, IsDone, PopUntilCurrent, SetMode, row}
+use Rattle.h5_rules.specs.modes.Shared.{head_start_names, table_structure_names}
+use Rattle.h5_rules.specs.modes.Tables.{table_section_names}
+use Rattle.h5_rules.specs.World.{World}
 use Rattle.h5_plain.proofs.BodyRuleLaws.{IsHolder, of_each}
 use Rattle.h5_plain.proofs.RuleLaws.{end, start}
-use Rattle.h5_meaning.proofs.ByNameLaws.{HoldsOfAll}
+use Rattle.h5_rules.proofs.rows.ByNameLaws.{HoldsOfAll}
 
 -- a `table` and its end
 pub table_rule : (a : List AttributeText) (w : World) → rule InBody (TagTurn (start (codes "table") a)) w ≡ in_body_start_table (start (codes "table") a) w
-unfolding in_body_tag in_body_start head_start_names block_start_names heading_names formatting_names in_body_preformatted list_item_names description_names in_body_marked
+unfolding in_body_tag in_body_start in_body_start_blocks in_body_start_inline in_body_start_embedded head_start_names block_start_names heading_names formatting_names in_body_preformatted list_item_names description_names in_body_marked
 table_rule a w = refl
 
 pub table_end_rule : (w : World) → rule InTable (TagTurn (end (codes "table"))) w ≡ in_table_end_table (end (codes "table")) w

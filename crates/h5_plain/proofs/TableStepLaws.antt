@@ -10,22 +10,22 @@ use Rattle.h5_tag_sets.specs.TagSets.{html_namespace, is_html_named, is_implied,
 use Rattle.h5_types.specs.TurnText.{TagTurn}
 use Rattle.h5_types.specs.declared.modes.InsertionMode.{InsertionMode}
 use Rattle.h5_types.specs.declared.modes.InsertionMode.TheVariants.{InCell, InRow, InTable, InTableBody}
-use Rattle.h5_meaning.specs.FormattingList.{Entry, MarkerEntry, clear_to_marker}
-use Rattle.h5_meaning.specs.FormattingNames.{html_name}
-use Rattle.h5_meaning.specs.Order.{but_first}
-use Rattle.h5_meaning.specs.Scope.{cut_above, first_passes, has_p_in_button_scope, in_scope, later_names}
-use Rattle.h5_meaning.specs.Changes.{insert_element, pop, pop_until_current, pop_until_named, set_frameset_not_ok, set_mode}
-use Rattle.h5_meaning.specs.Formatting.{clear_active_formatting_to_marker, insert_marker}
-use Rattle.h5_meaning.specs.InBody.{in_body_start_table, is_quirks}
-use Rattle.h5_meaning.specs.InCell.{in_cell_end_cell}
-use Rattle.h5_meaning.specs.InRow.{close_the_row}
-use Rattle.h5_meaning.specs.InTable.{in_table_end_table}
-use Rattle.h5_meaning.specs.InTableBody.{in_table_body_end_section}
-use Rattle.h5_meaning.specs.Modes.{rule}
-use Rattle.h5_meaning.specs.Reset.{reset_mode}
-use Rattle.h5_meaning.specs.Rows.{Change, ClearActiveFormattingToMarker, ClosePElementInButtonScope, GenerateImpliedEnd, InsertElement, InsertMarker, IsDone, Pop, PopUntilCurrent, PopUntilNamed, ResetMode, SetFramesetNotOk, SetMode, choose, ignored, row, row_if}
-use Rattle.h5_meaning.specs.World.{World, current, name_in, names_of}
-use Rattle.h5_meaning.proofs.PopLaws.{all_implied_none}
+use Rattle.h5_rules.specs.formatting.FormattingList.{Entry, MarkerEntry, clear_to_marker}
+use Rattle.h5_rules.specs.formatting.FormattingNames.{html_name}
+use Rattle.h5_rules.specs.stack.Order.{but_first}
+use Rattle.h5_rules.specs.stack.Scope.{cut_above, first_passes, has_p_in_button_scope, in_scope, later_names}
+use Rattle.h5_rules.specs.Changes.{insert_element, pop, pop_until_current, pop_until_named, set_frameset_not_ok, set_mode}
+use Rattle.h5_rules.specs.formatting.Formatting.{clear_active_formatting_to_marker, insert_marker}
+use Rattle.h5_rules.specs.modes.InBody.{in_body_start_table, is_quirks}
+use Rattle.h5_rules.specs.modes.InCell.{in_cell_end_cell}
+use Rattle.h5_rules.specs.modes.InRow.{close_the_row}
+use Rattle.h5_rules.specs.modes.InTable.{in_table_end_table}
+use Rattle.h5_rules.specs.modes.InTableBody.{in_table_body_end_section}
+use Rattle.h5_rules.specs.modes.Modes.{rule}
+use Rattle.h5_rules.specs.fitting.Reset.{reset_mode}
+use Rattle.h5_rules.specs.Rows.{Change, ClearActiveFormattingToMarker, ClosePElementInButtonScope, GenerateImpliedEnd, InsertElement, InsertMarker, IsDone, Pop, PopUntilCurrent, PopUntilNamed, ResetMode, SetFramesetNotOk, SetMode, choose, ignored, row, row_if}
+use Rattle.h5_rules.specs.World.{World, current, name_in, names_of}
+use Rattle.h5_rules.proofs.changes.PopLaws.{all_implied_none}
 use Rattle.h5_plain.specs.Plain.{end_tag, start_tag}
 use Rattle.h5_plain.proofs.BodyRuleLaws.{IsHolder}
 use Rattle.h5_plain.proofs.BodyStepLaws.{cut_at, insert_is, no_p, none_closed}

@@ -8,12 +8,12 @@ use Rattle.h5_interface.specs.SinkChoices.{SinkChoices}
 use Rattle.h5_interface.specs.declared.marks.QuirksMode.TheVariants.{NoQuirks}
 use Rattle.h5_tag_sets.specs.TagSets.{void_names}
 use Rattle.h5_types.specs.declared.modes.InsertionMode.TheVariants.{InHead, InTable, Text}
-use Rattle.h5_meaning.specs.Order.{but_first, first_or}
-use Rattle.h5_meaning.specs.Changes.{append_text, insert_element, pop, save_mode, set_mode, with_forest}
-use Rattle.h5_meaning.specs.Place.{LastChild, place, put}
-use Rattle.h5_meaning.specs.Rows.{InsertElement, IsDone, Pop, SaveMode, SetMode, row}
-use Rattle.h5_meaning.specs.Run.{taken}
-use Rattle.h5_meaning.specs.World.{World, current}
+use Rattle.h5_rules.specs.stack.Order.{but_first, first_or}
+use Rattle.h5_rules.specs.Changes.{append_text, insert_element, pop, save_mode, set_mode, with_forest}
+use Rattle.h5_rules.specs.insertion.Place.{LastChild, place, put}
+use Rattle.h5_rules.specs.Rows.{InsertElement, IsDone, Pop, SaveMode, SetMode, row}
+use Rattle.h5_rules.specs.Run.{taken}
+use Rattle.h5_rules.specs.World.{World, current}
 use Rattle.h5_plain.specs.Plain.{ElementThen, End, IsHead, Nodes, TextThen, Titled, Untitled, end_tag, start_tag, tokens_before}
 use Rattle.h5_plain.specs.Rebuilding.{Looks}
 use Rattle.h5_plain.proofs.CalmLaws.{place_is}

@@ -5,8 +5,8 @@ use Rattle.h5_interface.specs.Forest.{Child, ChildNode, children_of}
 use Rattle.h5_interface.specs.SinkChoices.{SinkChoices}
 use Rattle.h5_tag_sets.specs.TagSets.{void_names}
 use Rattle.h5_types.specs.declared.modes.InsertionMode.TheVariants.{AfterAfterBody}
-use Rattle.h5_meaning.specs.Run.{View}
-use Rattle.h5_meaning.specs.World.{World}
+use Rattle.h5_rules.specs.Run.{View}
+use Rattle.h5_rules.specs.World.{World}
 use Rattle.h5_plain.specs.Plain.{ElementThen, End, PlainDocument, document_tokens, end_tag, start_tag, tokens_before}
 use Rattle.h5_plain.specs.Rebuilding.{DocumentStands, IsStart, RebuildsAll, Stands}
 use Rattle.h5_plain.proofs.CutGoesLaws.{goes_cut}

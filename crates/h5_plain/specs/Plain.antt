@@ -7,7 +7,7 @@ use Rattle.h5_token.specs.declared.states.RawKind.TheVariants.{Rcdata}
 use Rattle.h5_token.specs.declared.tag.TagKind.TheVariants.{StartTag, EndTag}
 use Rattle.h5_interface.specs.Changes.{has_attribute}
 use Rattle.h5_tag_sets.specs.TagSets.{cell_names, heading_names, is_one_of, void_names}
-use Rattle.h5_meaning.specs.Kinds.{is_start}
+use Rattle.h5_rules.specs.Kinds.{is_start}
 
 -- a list of nodes: texts, and HTML elements with what they hold
 pub data Nodes : Type 0 where

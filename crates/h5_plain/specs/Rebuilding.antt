@@ -8,9 +8,9 @@ use Rattle.h5_interface.specs.declared.marks.QuirksMode.TheVariants.{NoQuirks}
 use Rattle.h5_types.specs.Options.{default_options}
 use Rattle.h5_types.specs.declared.modes.InsertionMode.TheVariants.{Initial}
 use Rattle.h5_token.specs.Joins.{join}
-use Rattle.h5_meaning.specs.Run.{View, after_all, all_quiet, replies}
-use Rattle.h5_meaning.specs.World.{World}
-use Rattle.h5_meaning.specs.FormattingNames.{html_name}
+use Rattle.h5_rules.specs.Run.{View, after_all, all_quiet, replies}
+use Rattle.h5_rules.specs.World.{World}
+use Rattle.h5_rules.specs.formatting.FormattingNames.{html_name}
 use Rattle.h5_plain.specs.Plain.{ElementThen, End, Nodes, PlainDocument, TextThen, document_tokens, plain_reply, root_of}
 
 -- a node of this kind, with these attributes and children, and without contents. Its parent and its marks

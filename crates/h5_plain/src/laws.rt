@@ -2,7 +2,7 @@
 ghost use Rattle.std.specs.Prelude.{◌≡◌, List};
 ghost use Rattle.h5_token.specs.TokenText.{TokenText};
 ghost use Rattle.h5_interface.specs.SinkChoices.{SinkChoices};
-ghost use Rattle.h5_meaning.specs.Run.{View};
+ghost use Rattle.h5_rules.specs.Run.{View};
 ghost use Rattle.h5_plain.specs.Rebuilding.{RebuildsAll};
 
 /// The tokens of a plain document, however its texts are cut, rebuild exactly that document: from a builder

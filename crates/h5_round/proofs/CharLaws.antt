@@ -7,11 +7,11 @@ use Rattle.std.specs.Char.{encode_utf8, to_ascii_lowercase}
 use Rattle.std.specs.List.{flat_map}
 use Rattle.std.specs.Str.{chars, encode_utf8_all}
 use Rattle.h5_token.specs.declared.states.RawKind.TheVariants.{Rcdata}
-use Rattle.h5_scan.specs.Matching.{No, Found, or_else, and_then}
+use Rattle.h5_markup.specs.Matching.{No, Found, or_else, and_then}
 use Rattle.h5_serialize.specs.Escape.{escape_char, escape}
-use Rattle.h5_constructs.specs.Text.{text_of, ReadsBit}
-use Rattle.h5_constructs.specs.Text as t
-use Rattle.h5_constructs.proofs.TextLaws.{one_byte, reads_found, text_nil}
+use Rattle.h5_markup.specs.Text.{text_of, ReadsBit}
+use Rattle.h5_markup.specs.Text as t
+use Rattle.h5_markup.proofs.TextLaws.{one_byte, reads_found, text_nil}
 use Rattle.h5_serialize.proofs.EscapeLaws.{AreAbove, above_encode, by_cases, has, has_no_quote, or_first, or_second}
 use Rattle.h5_tokenizer.specs.declared.front.Mode.{Mode}
 use Rattle.h5_tokenizer.specs.declared.front.Mode.TheVariants.{Data, RawData}

@@ -8,16 +8,16 @@ use Rattle.h5_names.specs.AttributeText.{AttributeText}
 use Rattle.h5_token.specs.TokenText.{TokenText, TagIs}
 use Rattle.h5_token.specs.declared.states.RawKind.TheVariants.{Rcdata}
 use Rattle.h5_token.specs.declared.tag.TagKind.TheVariants as kind
-use Rattle.h5_scan.specs.Matching.{Found, or_else, and_then}
-use Rattle.h5_scan.specs.Cuts.{is_in, before, from}
-use Rattle.h5_scan.specs.Ending.{ends, place_after, up_to_end, walk}
-use Rattle.h5_scan.specs.declared.cut.Class.TheVariants.{NameEnd, AttributeNameEnd}
-use Rattle.h5_scan.specs.declared.ending.Inside.{Inside}
-use Rattle.h5_scan.specs.declared.ending.Inside.TheVariants.{TagName, BeforeAttributeName, AttributeName, AttributeValueDoubleQuoted}
-use Rattle.h5_scan.proofs.Endings.{end_found, walk_append}
-use Rattle.h5_scan.proofs.Staying.{Stays, in_attribute_name, in_double_quotes, in_tag_name}
-use Rattle.h5_constructs.specs.Text.{name_of, text_of}
-use Rattle.h5_constructs.specs.Attributes.{attributes_of, distinct, has_duplicates}
+use Rattle.h5_markup.specs.Matching.{Found, or_else, and_then}
+use Rattle.h5_markup.specs.Cuts.{is_in, before, from}
+use Rattle.h5_markup.specs.Ending.{ends, place_after, up_to_end, walk}
+use Rattle.h5_markup.specs.declared.cut.Class.TheVariants.{NameEnd, AttributeNameEnd}
+use Rattle.h5_markup.specs.declared.ending.Inside.{Inside}
+use Rattle.h5_markup.specs.declared.ending.Inside.TheVariants.{TagName, BeforeAttributeName, AttributeName, AttributeValueDoubleQuoted}
+use Rattle.h5_markup.proofs.Endings.{end_found, walk_append}
+use Rattle.h5_markup.proofs.Staying.{Stays, in_attribute_name, in_double_quotes, in_tag_name}
+use Rattle.h5_markup.specs.Text.{name_of, text_of}
+use Rattle.h5_markup.specs.Attributes.{attributes_of, distinct, has_duplicates}
 use Rattle.h5_serialize.specs.Escape.{escape}
 use Rattle.h5_serialize.specs.Writing.{attribute_written}
 use Rattle.h5_tokenizer.specs.declared.front.Mode.{Mode}

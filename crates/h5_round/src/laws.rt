@@ -2,7 +2,7 @@
 ghost use Rattle.std.specs.Prelude.{◌≡◌, ℕ, true, false, None, List};
 ghost use Rattle.h5_token.specs.Joins.{join};
 ghost use Rattle.h5_interface.specs.Forest.{Forest, IsForest};
-ghost use Rattle.h5_constructs.specs.Text.{text_of};
+ghost use Rattle.h5_markup.specs.Text.{text_of};
 ghost use Rattle.h5_tokenizer.specs.Options.{default_options, first_place};
 ghost use Rattle.h5_tokenizer.specs.Whole.{ReadsToEnd};
 ghost use Rattle.h5_serialize.specs.Escape.{escape};

@@ -1,10 +1,10 @@
 -- When the rules of formatting elements tell no parse error.
 use Rattle.std.proofs.Common.{◌≡◌, Bool, true, false, not, ◌&&◌, List, [], ◌∷◌, refl}
 use Rattle.h5_interface.specs.SinkChoices.{SinkChoices}
-use Rattle.h5_meaning.specs.FormattingList.{Entry, closed_front}
-use Rattle.h5_meaning.specs.Formatting.{is_empty, is_reconstructed, reconstruct_active_formatting_elements}
-use Rattle.h5_meaning.specs.World.{World}
-use Rattle.h5_meaning.proofs.FormattingLaws.{reconstruct_none}
+use Rattle.h5_rules.specs.formatting.FormattingList.{Entry, closed_front}
+use Rattle.h5_rules.specs.formatting.Formatting.{is_empty, is_reconstructed, reconstruct_active_formatting_elements}
+use Rattle.h5_rules.specs.World.{World}
+use Rattle.h5_rules.proofs.changes.FormattingLaws.{reconstruct_none}
 
 empty_is : (l : List Entry) → is_empty l ≡ true → l ≡ []
 empty_is [] h = refl

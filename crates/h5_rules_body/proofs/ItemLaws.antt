@@ -4,14 +4,14 @@ use Rattle.std.specs.Prelude.{is_none}
 use Rattle.h5_names.specs.declared.qualified.QualName.{QualName}
 use Rattle.h5_interface.specs.SinkChoices.{SinkChoices}
 use Rattle.h5_tag_sets.specs.TagSets.{implied_names, is_html_named, is_implied, is_one_of}
-use Rattle.h5_meaning.specs.Scope.{first_passes, is_implied_but}
-use Rattle.h5_meaning.specs.Changes.{generate_implied_end_except}
-use Rattle.h5_meaning.specs.Closing.{close_item, close_list_item, generate_implied_end, newest_item}
-use Rattle.h5_meaning.specs.InBody.{in_body_marked}
-use Rattle.h5_meaning.specs.World.{World, names_of}
-use Rattle.h5_meaning.proofs.ClosingLaws.{named_not_implied}
-use Rattle.h5_meaning.proofs.PopLaws.{all_implied_none, implied_none}
-use Rattle.h5_meaning.proofs.BodyInLaws.{marked_not_implied}
+use Rattle.h5_rules.specs.stack.Scope.{first_passes, is_implied_but}
+use Rattle.h5_rules.specs.Changes.{generate_implied_end_except}
+use Rattle.h5_rules.specs.stack.Closing.{close_item, close_list_item, generate_implied_end, newest_item}
+use Rattle.h5_rules.specs.modes.InBody.{in_body_marked}
+use Rattle.h5_rules.specs.World.{World, names_of}
+use Rattle.h5_rules.proofs.changes.ClosingLaws.{named_not_implied}
+use Rattle.h5_rules.proofs.changes.PopLaws.{all_implied_none, implied_none}
+use Rattle.h5_rules.proofs.modes.BodyInLaws.{marked_not_implied}
 
 -- where no item is open, none is closed
 pub none_closed : (choices : SinkChoices) (locals : List (List ℕ)) (w : World) → is_none (newest_item locals (names_of w)) ≡ true → close_list_item choices locals w ≡ w

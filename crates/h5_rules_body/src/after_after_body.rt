@@ -1,19 +1,38 @@
-//! The mode "after after body" (HTML standard, section 13.2.6.4.22).
+//! The mode "after after body" (HTML standard, section 13.2.6.4.20).
+ghost use Rattle.h5_rules.specs.modes.AfterBody.{back_to_body};
+ghost use Rattle.h5_rules.specs.ByName.{by_known, of_tag};
 ghost use Rattle.h5_types.specs.TurnText.{HasText, turn_text};
-ghost use Rattle.h5_meaning.specs.AfterAfterBody.{after_after_body, after_after_body_tag};
+ghost use Rattle.h5_rules.specs.modes.AfterAfterBody.{after_after_body, after_after_body_start, after_after_body_tag};
 ghost use Rattle.h5_state.specs.Steps.{IsOpen};
 ghost use Rattle.h5_state.specs.Turn.{TakesTag, TakesToken};
 
 use super::after_body::back_to_body;
+use super::body_text::in_body_text;
+use h5_insertion::append_comment_to_doc;
 use h5_interface::TreeSink;
 use h5_names::KnownName;
-use h5_operations::append_comment_to_doc;
-use h5_rules_shared::{in_body_start_html, in_body_text};
+use h5_rules_head::in_body_start_html;
 use h5_state::{State, Turn};
 use h5_token::{Tag, TagKind};
 use h5_types::{ProcessResult, SplitStatus, Token};
 
-#[tactic(auto, unfolding(h5_meaning::specs::AfterAfterBody::after_after_body_tag, h5_meaning::specs::AfterAfterBody::after_after_body_start))]
+// Start tags, by their names.
+#[tactic(auto, unfolding(h5_rules::specs::modes::AfterAfterBody::after_after_body_start, h5_names::specs::KnownNames::name_text))]
+fn after_after_body_start_tag<S: TreeSink>(
+    sink: &mut S,
+    state: &mut State<S::Handle>,
+    tag: Tag,
+) -> Turn<S::Handle>
+    requires { IsOpen S.TreeSink sink.old state.old }
+    ensures { TakesTag S.TreeSink (by_known after_after_body_start (of_tag back_to_body)) tag sink.old state.old sink.new state.new result }
+{
+    match tag.name.known() {
+        KnownName::Html => in_body_start_html(sink, state, tag),
+        _ => back_to_body(sink, state, Token::Tag(tag)),
+    }
+}
+
+#[tactic(auto, using(h5_rules::proofs::rows::KnownRuleLaws::after_after_body_start_known), unfolding(h5_rules::specs::modes::AfterAfterBody::after_after_body_tag))]
 fn after_after_body_tag<S: TreeSink>(
     sink: &mut S,
     state: &mut State<S::Handle>,
@@ -23,13 +42,7 @@ fn after_after_body_tag<S: TreeSink>(
     ensures { TakesTag S.TreeSink after_after_body_tag tag sink.old state.old sink.new state.new result }
 {
     match tag.kind {
-        TagKind::StartTag => {
-            if tag.name.is(KnownName::Html) {
-                in_body_start_html(sink, state, tag)
-            } else {
-                back_to_body(sink, state, Token::Tag(tag))
-            }
-        }
+        TagKind::StartTag => after_after_body_start_tag(sink, state, tag),
         TagKind::EndTag => back_to_body(sink, state, Token::Tag(tag)),
     }
 }

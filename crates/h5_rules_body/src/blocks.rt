@@ -1,20 +1,20 @@
 //! Blocks, paragraphs and headings in the body (HTML standard, section 13.2.6.4.7).
 ghost use Rattle.std.specs.Prelude.{◌≡◌, false, true};
 ghost use Rattle.h5_tag_sets.specs.TagSets.{block_end_names, heading_names, is_heading, is_one_of};
-ghost use Rattle.h5_meaning.specs.Scope.{first_passes};
-ghost use Rattle.h5_meaning.specs.InBody.{in_body_end_block, in_body_end_heading, in_body_end_p, in_body_start_block, in_body_start_heading, in_body_start_preformatted};
-ghost use Rattle.h5_meaning.specs.World.{names_of};
+ghost use Rattle.h5_rules.specs.stack.Scope.{first_passes};
+ghost use Rattle.h5_rules.specs.modes.InBody.{in_body_end_block, in_body_end_heading, in_body_end_p, in_body_start_block, in_body_start_heading, in_body_start_preformatted};
+ghost use Rattle.h5_rules.specs.World.{names_of};
 ghost use Rattle.h5_state.specs.Steps.{IsSound, TellsErrors, errors_of, world_of};
 ghost use Rattle.h5_state.specs.Turn.{TakesTag};
 
-use h5_interface::TreeSink;
-use h5_names::KnownName;
-use h5_operations::{
-    close_p_element, close_p_element_in_button_scope, find_heading_in_scope, find_in_default_scope,
-    generate_implied_end, insert_element, insert_phantom, is_current_heading, pop_heading,
+use h5_closing::{
+    close_p_element, close_p_element_in_button_scope, expect_to_close, find_heading_in_scope,
+    find_in_default_scope, generate_implied_end, is_current_heading, pop_heading,
     pop_until_heading,
 };
-use h5_rules_shared::expect_to_close;
+use h5_insertion::{insert_element, insert_phantom};
+use h5_interface::TreeSink;
+use h5_names::KnownName;
 use h5_state::{
     State, Turn, has_p_in_button_scope, is_current_html, pop_until_named, set_frameset_not_ok,
     set_ignore_lf, tell_error, unexpected_tag,
@@ -86,7 +86,7 @@ pub(crate) fn in_body_start_heading<S: TreeSink>(
 }
 
 // An end tag `address`, `article`, .., `ul`: it closes the block of its name, where one is in scope.
-#[tactic(auto, unfolding(h5_meaning::specs::InBody::in_body_end_block))]
+#[tactic(auto, unfolding(h5_rules::specs::modes::InBody::in_body_end_block))]
 pub(crate) fn in_body_end_block<S: TreeSink>(
     sink: &mut S,
     state: &mut State<S::Handle>,
@@ -113,7 +113,7 @@ pub(crate) fn in_body_end_block<S: TreeSink>(
 }
 
 // An end tag `p`: it closes the `p` in button scope, or one that is made for it.
-#[tactic(auto, unfolding(h5_meaning::specs::InBody::in_body_end_p))]
+#[tactic(auto, unfolding(h5_rules::specs::modes::InBody::in_body_end_p))]
 pub(crate) fn in_body_end_p<S: TreeSink>(
     sink: &mut S,
     state: &mut State<S::Handle>,
@@ -136,7 +136,7 @@ pub(crate) fn in_body_end_p<S: TreeSink>(
 }
 
 // An end tag `h1` to `h6`: it closes the heading in scope, also one of another name.
-#[tactic(auto, unfolding(h5_meaning::specs::InBody::in_body_end_heading))]
+#[tactic(auto, unfolding(h5_rules::specs::modes::InBody::in_body_end_heading))]
 pub(crate) fn in_body_end_heading<S: TreeSink>(
     sink: &mut S,
     state: &mut State<S::Handle>,

@@ -1,13 +1,13 @@
 //! Elements of MathML and SVG in the body (HTML standard, section 13.2.6.4.7, start tags "math" and "svg").
 ghost use Rattle.h5_tag_sets.specs.TagSets.{mathml_namespace, svg_namespace};
-ghost use Rattle.h5_meaning.specs.InBody.{in_body_start_foreign};
+ghost use Rattle.h5_rules.specs.modes.InBody.{in_body_start_foreign};
 ghost use Rattle.h5_state.specs.Steps.{IsSound};
 ghost use Rattle.h5_state.specs.Turn.{TakesTag};
 
-use h5_foreign::insert_foreign_for;
+use h5_formatting::reconstruct_active_formatting_elements;
+use h5_insertion::insert_foreign_for;
 use h5_interface::TreeSink;
 use h5_names::{Namespace, namespaces};
-use h5_rules_shared::reconstruct_active_formatting_elements;
 use h5_state::{State, Turn};
 use h5_token::Tag;
 

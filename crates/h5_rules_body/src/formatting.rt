@@ -2,20 +2,22 @@
 ghost use Rattle.std.specs.Prelude.{◌≡◌, [], ◌∷◌, false, true, OnOk, IsTrue, codes};
 ghost use Rattle.h5_names.specs.AttributeText.{attribute_texts};
 ghost use Rattle.h5_tag_sets.specs.TagSets.{formatting_names, is_default_scope, is_html_named, is_one_of};
-ghost use Rattle.h5_meaning.specs.Scope.{in_scope};
-ghost use Rattle.h5_meaning.specs.AdoptionAgency.{closes_one, handle_misnested_nobr_tags, is_named_listed};
-ghost use Rattle.h5_meaning.specs.InBody.{in_body_end_br, in_body_end_formatting, in_body_start_a, in_body_start_formatting, in_body_start_nobr, in_body_start_void};
-ghost use Rattle.h5_meaning.specs.Rows.{InsertAndPopElement, ReconstructActiveFormattingElements, SetFramesetNotOk, apply_all};
-ghost use Rattle.h5_meaning.specs.Sound.{IsReady};
-ghost use Rattle.h5_meaning.specs.World.{names_of};
+ghost use Rattle.h5_rules.specs.stack.Scope.{in_scope};
+ghost use Rattle.h5_rules.specs.formatting.AdoptionAgency.{closes_one, handle_misnested_nobr_tags, is_named_listed};
+ghost use Rattle.h5_rules.specs.modes.InBody.{in_body_end_br, in_body_end_formatting, in_body_start_a, in_body_start_formatting, in_body_start_nobr, in_body_start_void};
+ghost use Rattle.h5_rules.specs.Rows.{InsertAndPopElement, ReconstructActiveFormattingElements, SetFramesetNotOk, apply_all};
+ghost use Rattle.h5_rules.specs.Sound.{HasHtmlRoot};
+ghost use Rattle.h5_rules.specs.World.{names_of};
 ghost use Rattle.h5_state.specs.Steps.{IsSound, TellsErrors, errors_of, world_of};
 ghost use Rattle.h5_state.specs.Turn.{TakesTag};
 
-use h5_adoption::{adoption_agency, closes_one, handle_misnested_a_tags, is_named_listed};
+use h5_formatting::{
+    adoption_agency, closes_one, create_formatting_element, handle_misnested_a_tags,
+    is_named_listed, reconstruct_active_formatting_elements,
+};
+use h5_insertion::insert_and_pop_element;
 use h5_interface::TreeSink;
 use h5_names::{Attribute, KnownName, LocalName};
-use h5_operations::insert_and_pop_element;
-use h5_rules_shared::{create_formatting_element, reconstruct_active_formatting_elements};
 use h5_state::{State, Turn, in_scope_named, set_frameset_not_ok, tell_error, unexpected_tag};
 use h5_token::Tag;
 use h5_types::ProcessResult;
@@ -39,7 +41,7 @@ pub(crate) fn in_body_start_a<S: TreeSink>(
     tag: Tag,
 ) -> Turn<S::Handle>
     requires sound { IsSound S.TreeSink sink.old state.old }
-    requires ready { IsReady (world_of S.TreeSink sink.old state.old) }
+    requires ready { HasHtmlRoot (world_of S.TreeSink sink.old state.old) }
     requires name { IsTrue (is_one_of formatting_names tag.name) }
     ensures { TakesTag S.TreeSink in_body_start_a tag sink.old state.old sink.new state.new result }
 {
@@ -51,13 +53,13 @@ pub(crate) fn in_body_start_a<S: TreeSink>(
 }
 
 // A `nobr` in scope is closed, and what is closed with it is made anew.
-#[tactic(auto, unfolding(h5_meaning::specs::AdoptionAgency::handle_misnested_nobr_tags))]
+#[tactic(auto, unfolding(h5_rules::specs::formatting::AdoptionAgency::handle_misnested_nobr_tags))]
 fn handle_misnested_nobr_tags<S: TreeSink>(
     sink: &mut S,
     state: &mut State<S::Handle>,
 ) -> Result<(), AllocError>
     requires sound { IsSound S.TreeSink sink.old state.old }
-    requires ready { IsReady (world_of S.TreeSink sink.old state.old) }
+    requires ready { HasHtmlRoot (world_of S.TreeSink sink.old state.old) }
     ensures done { OnOk result (world_of S.TreeSink sink.new state.new ≡ handle_misnested_nobr_tags S.choices (world_of S.TreeSink sink.old state.old)) }
     ensures quiet { in_scope (is_html_named (codes "nobr")) is_default_scope (names_of (world_of S.TreeSink sink.old state.old)) ≡ false → errors_of S.TreeSink sink.new ≡ errors_of S.TreeSink sink.old }
     ensures sound { IsSound S.TreeSink sink.new state.new }
@@ -79,7 +81,7 @@ pub(crate) fn in_body_start_nobr<S: TreeSink>(
     tag: Tag,
 ) -> Turn<S::Handle>
     requires sound { IsSound S.TreeSink sink.old state.old }
-    requires ready { IsReady (world_of S.TreeSink sink.old state.old) }
+    requires ready { HasHtmlRoot (world_of S.TreeSink sink.old state.old) }
     requires name { IsTrue (is_one_of formatting_names tag.name) }
     ensures { TakesTag S.TreeSink in_body_start_nobr tag sink.old state.old sink.new state.new result }
 {
@@ -122,7 +124,7 @@ pub(crate) fn in_body_end_formatting<S: TreeSink>(
     tag: Tag,
 ) -> Turn<S::Handle>
     requires sound { IsSound S.TreeSink sink.old state.old }
-    requires ready { IsReady (world_of S.TreeSink sink.old state.old) }
+    requires ready { HasHtmlRoot (world_of S.TreeSink sink.old state.old) }
     requires name { IsTrue (is_one_of formatting_names tag.name) }
     ensures { TakesTag S.TreeSink in_body_end_formatting tag sink.old state.old sink.new state.new result }
 {

@@ -1,9 +1,8 @@
 //! The mode "in body" (HTML standard, section 13.2.6.4.7, "The 'in body' insertion mode").
-ghost use Rattle.std.specs.Prelude.{drop};
 ghost use Rattle.h5_types.specs.TurnText.{HasText, turn_text};
-ghost use Rattle.h5_meaning.specs.ByName.{by_name};
-ghost use Rattle.h5_meaning.specs.InBody.{in_body, in_body_end, in_body_end_body, in_body_end_html, in_body_end_other, in_body_start, in_body_start_body, in_body_start_frameset, in_body_start_other, in_body_start_table, in_body_tag};
-ghost use Rattle.h5_meaning.specs.Sound.{IsReady};
+ghost use Rattle.h5_rules.specs.ByName.{by_known};
+ghost use Rattle.h5_rules.specs.modes.InBody.{in_body, in_body_end_blocks, in_body_end_body, in_body_end_html, in_body_end_inline, in_body_end_other, in_body_start_blocks, in_body_start_body, in_body_start_embedded, in_body_start_frameset, in_body_start_inline, in_body_start_other, in_body_start_table, in_body_tag};
+ghost use Rattle.h5_rules.specs.Sound.{HasHtmlRoot};
 ghost use Rattle.h5_state.specs.Steps.{IsSound, TellsErrors, world_of};
 ghost use Rattle.h5_state.specs.Turn.{TakesTag, TakesToken};
 
@@ -11,6 +10,7 @@ use super::blocks::{
     in_body_end_block, in_body_end_heading, in_body_end_p, in_body_start_block,
     in_body_start_heading, in_body_start_preformatted,
 };
+use super::body_text::in_body_text;
 use super::foreign::{in_body_start_math, in_body_start_svg};
 use super::formatting::{
     in_body_end_br, in_body_end_formatting, in_body_start_a, in_body_start_formatting,
@@ -18,28 +18,25 @@ use super::formatting::{
 };
 use super::lists::{in_body_end_description, in_body_end_li, in_body_start_item};
 use super::marked::{in_body_end_marked, in_body_start_marked};
-use super::names::{
-    is_description, is_ignored_start, is_list_item, is_marked, is_part, is_preformatted,
-    is_ruby_base, is_ruby_text, is_void,
+use super::raw_texts::{
+    in_body_start_iframe, in_body_start_noembed, in_body_start_noscript, in_body_start_plaintext,
+    in_body_start_textarea, in_body_start_xmp,
 };
 use super::ruby::{in_body_start_ruby_base, in_body_start_ruby_text};
+use h5_closing::{
+    ItemKind, close_p_element_in_button_scope, expect_to_close, has_template_mode, remove_body,
+};
+use h5_formatting::reconstruct_active_formatting_elements;
+use h5_insertion::{add_attrs_to_second, append_comment, insert_element};
 use h5_interface::TreeSink;
 use h5_names::KnownName;
-use h5_operations::{
-    ItemKind, add_attrs_to_second, append_comment, close_p_element_in_button_scope, insert_element,
-};
 use h5_rules_forms::{
     in_body_end_form, in_body_end_option, in_body_start_button, in_body_start_form,
     in_body_start_hr, in_body_start_image, in_body_start_input, in_body_start_optgroup,
     in_body_start_option, in_body_start_part, in_body_start_select,
 };
-use h5_rules_shared::{
-    expect_to_close, in_body_start_html, in_body_text, reconstruct_active_formatting_elements,
-};
-use h5_rules_text::{
-    in_body_start_iframe, in_body_start_noembed, in_body_start_noscript, in_body_start_plaintext,
-    in_body_start_textarea, in_body_start_xmp, in_head_end_template, in_head_start_tag,
-    is_head_start, template_eof,
+use h5_rules_head::{
+    ignored_tag, in_body_start_html, in_head_end_template, in_head_start_tag, template_eof,
 };
 use h5_state::{
     State, Turn, check_body_end, find_before_special, generate_implied_end_except,
@@ -47,14 +44,12 @@ use h5_state::{
     is_in_quirks, pop_until_named, set_frameset_not_ok, set_mode, tell_error, unexpected,
     unexpected_tag,
 };
-use h5_tag_sets::NameSet;
-use h5_templates::{has_template_mode, remove_body};
 use h5_token::{Tag, TagKind};
 use h5_types::{InsertionMode, ProcessResult, Token};
 
 // A start tag `body`: the body gets the attributes that it lacks.
 #[cold]
-#[tactic(auto, unfolding(h5_meaning::specs::InBody::in_body_start_body))]
+#[tactic(auto, unfolding(h5_rules::specs::modes::InBody::in_body_start_body))]
 fn in_body_start_body<S: TreeSink>(
     sink: &mut S,
     state: &mut State<S::Handle>,
@@ -75,7 +70,7 @@ fn in_body_start_body<S: TreeSink>(
 
 // A start tag `frameset`: where the body may still be taken back, it takes the place of the body.
 #[cold]
-#[tactic(auto, unfolding(h5_meaning::specs::InBody::in_body_start_frameset))]
+#[tactic(auto, unfolding(h5_rules::specs::modes::InBody::in_body_start_frameset))]
 fn in_body_start_frameset<S: TreeSink>(
     sink: &mut S,
     state: &mut State<S::Handle>,
@@ -98,7 +93,7 @@ fn in_body_start_frameset<S: TreeSink>(
 
 // An end tag `body`.
 #[cold]
-#[tactic(auto, unfolding(h5_meaning::specs::InBody::if_body_in_scope))]
+#[tactic(auto, unfolding(h5_rules::specs::modes::InBody::if_body_in_scope))]
 fn in_body_end_body<S: TreeSink>(
     sink: &mut S,
     state: &mut State<S::Handle>,
@@ -120,7 +115,7 @@ fn in_body_end_body<S: TreeSink>(
 
 // An end tag `html`.
 #[cold]
-#[tactic(auto, unfolding(h5_meaning::specs::InBody::if_body_in_scope))]
+#[tactic(auto, unfolding(h5_rules::specs::modes::InBody::if_body_in_scope))]
 fn in_body_end_html<S: TreeSink>(
     sink: &mut S,
     state: &mut State<S::Handle>,
@@ -149,7 +144,7 @@ fn check_nesting<S: TreeSink>(sink: &mut S, state: &State<S::Handle>, tag: &Tag)
 }
 
 // Any other end tag: it closes the open element of its name, where no special element comes before.
-#[tactic(auto, unfolding(h5_meaning::specs::InBody::in_body_end_other))]
+#[tactic(auto, unfolding(h5_rules::specs::modes::InBody::in_body_end_other))]
 fn in_body_end_other<S: TreeSink>(
     sink: &mut S,
     state: &mut State<S::Handle>,
@@ -189,7 +184,7 @@ fn in_body_start_other<S: TreeSink>(
 }
 
 // A start tag `table`: it closes a `p` but in quirks mode.
-#[tactic(auto, unfolding(h5_meaning::specs::InBody::in_body_start_table))]
+#[tactic(auto, unfolding(h5_rules::specs::modes::InBody::in_body_start_table))]
 fn in_body_start_table<S: TreeSink>(
     sink: &mut S,
     state: &mut State<S::Handle>,
@@ -209,233 +204,254 @@ fn in_body_start_table<S: TreeSink>(
     Ok(ProcessResult::Done)
 }
 
-// Of ruby annotations, of MathML and SVG, and any other.
-#[tactic(auto, unfolding(h5_meaning::specs::InBody::in_body_start))]
+// Of what is put in: images, controls, elements whose content is text, annotations, MathML and SVG; and any other.
+#[tactic(auto, unfolding(h5_rules::specs::modes::InBody::in_body_start_embedded, h5_rules::specs::modes::InBody::in_body_parts, h5_rules::specs::modes::InBody::in_body_ruby_bases, h5_rules::specs::modes::InBody::in_body_ruby_texts, h5_rules::specs::modes::InBody::in_body_ignored_starts, h5_rules::specs::modes::Shared::table_structure_names, h5_rules::specs::modes::InBody::outside_names, h5_names::specs::KnownNames::name_text))]
 fn in_body_start_embedded<S: TreeSink>(
     sink: &mut S,
     state: &mut State<S::Handle>,
     tag: Tag,
 ) -> Turn<S::Handle>
     requires sound { IsSound S.TreeSink sink.old state.old }
-    requires ready { IsReady (world_of S.TreeSink sink.old state.old) }
-    ensures { TakesTag S.TreeSink (by_name (drop 30 in_body_start) in_body_start_other) tag sink.old state.old sink.new state.new result }
+    requires ready { HasHtmlRoot (world_of S.TreeSink sink.old state.old) }
+    ensures { TakesTag S.TreeSink (by_known in_body_start_embedded in_body_start_other) tag sink.old state.old sink.new state.new result }
 {
-    if is_ruby_base(&tag.name) {
-        in_body_start_ruby_base(sink, state, tag)
-    } else if is_ruby_text(&tag.name) {
-        in_body_start_ruby_text(sink, state, tag)
-    } else if tag.name.is(KnownName::Math) {
-        in_body_start_math(sink, state, tag)
-    } else if tag.name.is(KnownName::Svg) {
-        in_body_start_svg(sink, state, tag)
-    } else if is_ignored_start(&tag.name) {
-        unexpected_tag(sink, state, &tag);
-        Ok(ProcessResult::Done)
-    } else {
-        in_body_start_other(sink, state, tag)
+    match tag.name.known() {
+        KnownName::Image => in_body_start_image(sink, state, tag),
+        KnownName::Input => in_body_start_input(sink, state, tag),
+        KnownName::Param | KnownName::Source | KnownName::Track => in_body_start_part(
+            sink, state, tag,
+        ),
+        KnownName::Hr => in_body_start_hr(sink, state, tag),
+        KnownName::Textarea => in_body_start_textarea(sink, state, tag),
+        KnownName::Xmp => in_body_start_xmp(sink, state, tag),
+        KnownName::Iframe => in_body_start_iframe(sink, state, tag),
+        KnownName::Noembed => in_body_start_noembed(sink, state, tag),
+        KnownName::Noscript => in_body_start_noscript(sink, state, tag),
+        KnownName::Select => in_body_start_select(sink, state, tag),
+        KnownName::Option => in_body_start_option(sink, state, tag),
+        KnownName::Optgroup => in_body_start_optgroup(sink, state, tag),
+        KnownName::Rb | KnownName::Rtc => in_body_start_ruby_base(sink, state, tag),
+        KnownName::Rp | KnownName::Rt => in_body_start_ruby_text(sink, state, tag),
+        KnownName::Math => in_body_start_math(sink, state, tag),
+        KnownName::Svg => in_body_start_svg(sink, state, tag),
+        KnownName::Caption
+        | KnownName::Col
+        | KnownName::Colgroup
+        | KnownName::Tbody
+        | KnownName::Td
+        | KnownName::Tfoot
+        | KnownName::Th
+        | KnownName::Thead
+        | KnownName::Tr
+        | KnownName::Frame
+        | KnownName::Head => ignored_tag(sink, state, tag),
+        _ => in_body_start_other(sink, state, tag),
     }
 }
 
-// Of `select` and what stands in it.
-#[tactic(auto, unfolding(h5_meaning::specs::InBody::in_body_start))]
-fn in_body_start_choice<S: TreeSink>(
-    sink: &mut S,
-    state: &mut State<S::Handle>,
-    tag: Tag,
-) -> Turn<S::Handle>
-    requires sound { IsSound S.TreeSink sink.old state.old }
-    requires ready { IsReady (world_of S.TreeSink sink.old state.old) }
-    ensures { TakesTag S.TreeSink (by_name (drop 27 in_body_start) in_body_start_other) tag sink.old state.old sink.new state.new result }
-{
-    if tag.name.is(KnownName::Select) {
-        in_body_start_select(sink, state, tag)
-    } else if tag.name.is(KnownName::Option) {
-        in_body_start_option(sink, state, tag)
-    } else if tag.name.is(KnownName::Optgroup) {
-        in_body_start_optgroup(sink, state, tag)
-    } else {
-        in_body_start_embedded(sink, state, tag)
-    }
-}
-
-// Of elements whose content is text.
-#[tactic(auto, unfolding(h5_meaning::specs::InBody::in_body_start))]
-fn in_body_start_raw_text<S: TreeSink>(
-    sink: &mut S,
-    state: &mut State<S::Handle>,
-    tag: Tag,
-) -> Turn<S::Handle>
-    requires sound { IsSound S.TreeSink sink.old state.old }
-    requires ready { IsReady (world_of S.TreeSink sink.old state.old) }
-    ensures { TakesTag S.TreeSink (by_name (drop 22 in_body_start) in_body_start_other) tag sink.old state.old sink.new state.new result }
-{
-    if tag.name.is(KnownName::Textarea) {
-        in_body_start_textarea(sink, state, tag)
-    } else if tag.name.is(KnownName::Xmp) {
-        in_body_start_xmp(sink, state, tag)
-    } else if tag.name.is(KnownName::Iframe) {
-        in_body_start_iframe(sink, state, tag)
-    } else if tag.name.is(KnownName::Noembed) {
-        in_body_start_noembed(sink, state, tag)
-    } else if tag.name.is(KnownName::Noscript) {
-        in_body_start_noscript(sink, state, tag)
-    } else {
-        in_body_start_choice(sink, state, tag)
-    }
-}
-
-// Of images, and of parts of forms that have no content.
-#[tactic(auto, unfolding(h5_meaning::specs::InBody::in_body_start))]
-fn in_body_start_control<S: TreeSink>(
-    sink: &mut S,
-    state: &mut State<S::Handle>,
-    tag: Tag,
-) -> Turn<S::Handle>
-    requires sound { IsSound S.TreeSink sink.old state.old }
-    requires ready { IsReady (world_of S.TreeSink sink.old state.old) }
-    ensures { TakesTag S.TreeSink (by_name (drop 18 in_body_start) in_body_start_other) tag sink.old state.old sink.new state.new result }
-{
-    if tag.name.is(KnownName::Image) {
-        in_body_start_image(sink, state, tag)
-    } else if tag.name.is(KnownName::Input) {
-        in_body_start_input(sink, state, tag)
-    } else if is_part(&tag.name) {
-        in_body_start_part(sink, state, tag)
-    } else if tag.name.is(KnownName::Hr) {
-        in_body_start_hr(sink, state, tag)
-    } else {
-        in_body_start_raw_text(sink, state, tag)
-    }
-}
-
-// Of formatting elements, and others that stand in a text.
-#[tactic(auto, unfolding(h5_meaning::specs::InBody::in_body_start))]
+// Of lists, formatting elements, and others that stand in a text.
+#[tactic(auto, unfolding(h5_rules::specs::modes::InBody::in_body_start_inline, h5_rules::specs::modes::InBody::in_body_preformatted, h5_rules::specs::modes::InBody::list_item_names, h5_rules::specs::modes::InBody::description_names, h5_tag_sets::specs::TagSets::formatting_names, h5_rules::specs::modes::InBody::in_body_marked, h5_rules::specs::modes::InBody::in_body_void, h5_names::specs::KnownNames::name_text))]
 fn in_body_start_inline<S: TreeSink>(
     sink: &mut S,
     state: &mut State<S::Handle>,
     tag: Tag,
 ) -> Turn<S::Handle>
     requires sound { IsSound S.TreeSink sink.old state.old }
-    requires ready { IsReady (world_of S.TreeSink sink.old state.old) }
-    ensures { TakesTag S.TreeSink (by_name (drop 11 in_body_start) in_body_start_other) tag sink.old state.old sink.new state.new result }
+    requires ready { HasHtmlRoot (world_of S.TreeSink sink.old state.old) }
+    ensures { TakesTag S.TreeSink (by_known in_body_start_inline (by_known in_body_start_embedded in_body_start_other)) tag sink.old state.old sink.new state.new result }
 {
-    if tag.name.is(KnownName::Button) {
-        in_body_start_button(sink, state, tag)
-    } else if tag.name.is(KnownName::A) {
-        in_body_start_a(sink, state, tag)
-    } else if tag.name.is(KnownName::Nobr) {
-        in_body_start_nobr(sink, state, tag)
-    } else if NameSet::Formatting.holds(&tag.name) {
-        in_body_start_formatting(sink, state, tag)
-    } else if is_marked(&tag.name) {
-        in_body_start_marked(sink, state, tag)
-    } else if tag.name.is(KnownName::Table) {
-        in_body_start_table(sink, state, tag)
-    } else if is_void(&tag.name) {
-        in_body_start_void(sink, state, tag)
-    } else {
-        in_body_start_control(sink, state, tag)
+    match tag.name.known() {
+        KnownName::Pre | KnownName::Listing => in_body_start_preformatted(sink, state, tag),
+        KnownName::Form => in_body_start_form(sink, state, tag),
+        KnownName::Li => in_body_start_item(sink, state, tag, ItemKind::ListItem),
+        KnownName::Dd | KnownName::Dt => in_body_start_item(
+            sink,
+            state,
+            tag,
+            ItemKind::Description,
+        ),
+        KnownName::Plaintext => in_body_start_plaintext(sink, state, tag),
+        KnownName::Button => in_body_start_button(sink, state, tag),
+        KnownName::A => in_body_start_a(sink, state, tag),
+        KnownName::Nobr => in_body_start_nobr(sink, state, tag),
+        KnownName::B
+        | KnownName::Big
+        | KnownName::Code
+        | KnownName::Em
+        | KnownName::Font
+        | KnownName::I
+        | KnownName::S
+        | KnownName::Small
+        | KnownName::Strike
+        | KnownName::Strong
+        | KnownName::Tt
+        | KnownName::U => in_body_start_formatting(sink, state, tag),
+        KnownName::Applet | KnownName::Marquee | KnownName::Object => in_body_start_marked(
+            sink, state, tag,
+        ),
+        KnownName::Table => in_body_start_table(sink, state, tag),
+        KnownName::Area
+        | KnownName::Br
+        | KnownName::Embed
+        | KnownName::Img
+        | KnownName::Keygen
+        | KnownName::Wbr => in_body_start_void(sink, state, tag),
+        _ => in_body_start_embedded(sink, state, tag),
     }
 }
 
-// Start tags, by their names: of blocks.
-#[tactic(auto, unfolding(h5_meaning::specs::InBody::in_body_start))]
+// Start tags, by their names: of the page and its blocks.
+#[tactic(auto, unfolding(h5_rules::specs::modes::InBody::in_body_start_blocks, h5_rules::specs::modes::Shared::head_start_names, h5_tag_sets::specs::TagSets::block_start_names, h5_tag_sets::specs::TagSets::heading_names, h5_names::specs::KnownNames::name_text))]
 fn in_body_start_tag<S: TreeSink>(
     sink: &mut S,
     state: &mut State<S::Handle>,
     tag: Tag,
 ) -> Turn<S::Handle>
     requires sound { IsSound S.TreeSink sink.old state.old }
-    requires ready { IsReady (world_of S.TreeSink sink.old state.old) }
-    ensures { TakesTag S.TreeSink (by_name in_body_start in_body_start_other) tag sink.old state.old sink.new state.new result }
+    requires ready { HasHtmlRoot (world_of S.TreeSink sink.old state.old) }
+    ensures { TakesTag S.TreeSink (by_known in_body_start_blocks (by_known in_body_start_inline (by_known in_body_start_embedded in_body_start_other))) tag sink.old state.old sink.new state.new result }
 {
-    if tag.name.is(KnownName::Html) {
-        in_body_start_html(sink, state, tag)
-    } else if is_head_start(&tag.name) {
-        in_head_start_tag(sink, state, tag)
-    } else if tag.name.is(KnownName::Body) {
-        in_body_start_body(sink, state, tag)
-    } else if tag.name.is(KnownName::Frameset) {
-        in_body_start_frameset(sink, state, tag)
-    } else if NameSet::BlockStart.holds(&tag.name) {
-        in_body_start_block(sink, state, tag)
-    } else if NameSet::Heading.holds(&tag.name) {
-        in_body_start_heading(sink, state, tag)
-    } else if is_preformatted(&tag.name) {
-        in_body_start_preformatted(sink, state, tag)
-    } else if tag.name.is(KnownName::Form) {
-        in_body_start_form(sink, state, tag)
-    } else if is_list_item(&tag.name) {
-        in_body_start_item(sink, state, tag, ItemKind::ListItem)
-    } else if is_description(&tag.name) {
-        in_body_start_item(sink, state, tag, ItemKind::Description)
-    } else if tag.name.is(KnownName::Plaintext) {
-        in_body_start_plaintext(sink, state, tag)
-    } else {
-        in_body_start_inline(sink, state, tag)
+    match tag.name.known() {
+        KnownName::Html => in_body_start_html(sink, state, tag),
+        KnownName::Base
+        | KnownName::Basefont
+        | KnownName::Bgsound
+        | KnownName::Link
+        | KnownName::Meta
+        | KnownName::Noframes
+        | KnownName::Script
+        | KnownName::Style
+        | KnownName::Template
+        | KnownName::Title => in_head_start_tag(sink, state, tag),
+        KnownName::Body => in_body_start_body(sink, state, tag),
+        KnownName::Frameset => in_body_start_frameset(sink, state, tag),
+        KnownName::Address
+        | KnownName::Article
+        | KnownName::Aside
+        | KnownName::Blockquote
+        | KnownName::Center
+        | KnownName::Details
+        | KnownName::Dialog
+        | KnownName::Dir
+        | KnownName::Div
+        | KnownName::Dl
+        | KnownName::Fieldset
+        | KnownName::Figcaption
+        | KnownName::Figure
+        | KnownName::Footer
+        | KnownName::Header
+        | KnownName::Hgroup
+        | KnownName::Main
+        | KnownName::Menu
+        | KnownName::Nav
+        | KnownName::Ol
+        | KnownName::P
+        | KnownName::Search
+        | KnownName::Section
+        | KnownName::Summary
+        | KnownName::Ul => in_body_start_block(sink, state, tag),
+        KnownName::H1
+        | KnownName::H2
+        | KnownName::H3
+        | KnownName::H4
+        | KnownName::H5
+        | KnownName::H6 => in_body_start_heading(sink, state, tag),
+        _ => in_body_start_inline(sink, state, tag),
     }
 }
 
-// Of headings, formatting elements, and any other.
-#[tactic(auto, unfolding(h5_meaning::specs::InBody::in_body_end))]
+// Of paragraphs, lists, headings, formatting elements, and any other.
+#[tactic(auto, unfolding(h5_rules::specs::modes::InBody::in_body_end_inline, h5_rules::specs::modes::InBody::list_item_names, h5_rules::specs::modes::InBody::description_names, h5_tag_sets::specs::TagSets::heading_names, h5_tag_sets::specs::TagSets::formatting_names, h5_rules::specs::modes::InBody::in_body_marked, h5_names::specs::KnownNames::name_text))]
 fn in_body_end_inline<S: TreeSink>(
     sink: &mut S,
     state: &mut State<S::Handle>,
     tag: Tag,
 ) -> Turn<S::Handle>
     requires sound { IsSound S.TreeSink sink.old state.old }
-    requires ready { IsReady (world_of S.TreeSink sink.old state.old) }
-    ensures { TakesTag S.TreeSink (by_name (drop 8 in_body_end) in_body_end_other) tag sink.old state.old sink.new state.new result }
+    requires ready { HasHtmlRoot (world_of S.TreeSink sink.old state.old) }
+    ensures { TakesTag S.TreeSink (by_known in_body_end_inline in_body_end_other) tag sink.old state.old sink.new state.new result }
 {
-    if NameSet::Heading.holds(&tag.name) {
-        in_body_end_heading(sink, state, tag)
-    } else if NameSet::Formatting.holds(&tag.name) {
-        in_body_end_formatting(sink, state, tag)
-    } else if is_marked(&tag.name) {
-        in_body_end_marked(sink, state, tag)
-    } else if tag.name.is(KnownName::Br) {
-        in_body_end_br(sink, state, tag)
-    } else if tag.name.is(KnownName::Template) {
-        in_head_end_template(sink, state, tag)
-    } else {
-        in_body_end_other(sink, state, tag)
+    match tag.name.known() {
+        KnownName::P => in_body_end_p(sink, state, tag),
+        KnownName::Li => in_body_end_li(sink, state, tag),
+        KnownName::Dd | KnownName::Dt => in_body_end_description(sink, state, tag),
+        KnownName::H1
+        | KnownName::H2
+        | KnownName::H3
+        | KnownName::H4
+        | KnownName::H5
+        | KnownName::H6 => in_body_end_heading(sink, state, tag),
+        KnownName::A
+        | KnownName::B
+        | KnownName::Big
+        | KnownName::Code
+        | KnownName::Em
+        | KnownName::Font
+        | KnownName::I
+        | KnownName::Nobr
+        | KnownName::S
+        | KnownName::Small
+        | KnownName::Strike
+        | KnownName::Strong
+        | KnownName::Tt
+        | KnownName::U => in_body_end_formatting(sink, state, tag),
+        KnownName::Applet | KnownName::Marquee | KnownName::Object => in_body_end_marked(
+            sink, state, tag,
+        ),
+        KnownName::Br => in_body_end_br(sink, state, tag),
+        KnownName::Template => in_head_end_template(sink, state, tag),
+        _ => in_body_end_other(sink, state, tag),
     }
 }
 
-// End tags, by their names: of blocks.
-#[tactic(auto, unfolding(h5_meaning::specs::InBody::in_body_end))]
+// End tags, by their names: of the page and its blocks.
+#[tactic(auto, unfolding(h5_rules::specs::modes::InBody::in_body_end_blocks, h5_tag_sets::specs::TagSets::block_end_names, h5_names::specs::KnownNames::name_text))]
 fn in_body_end_tag<S: TreeSink>(
     sink: &mut S,
     state: &mut State<S::Handle>,
     tag: Tag,
 ) -> Turn<S::Handle>
     requires sound { IsSound S.TreeSink sink.old state.old }
-    requires ready { IsReady (world_of S.TreeSink sink.old state.old) }
-    ensures { TakesTag S.TreeSink (by_name in_body_end in_body_end_other) tag sink.old state.old sink.new state.new result }
+    requires ready { HasHtmlRoot (world_of S.TreeSink sink.old state.old) }
+    ensures { TakesTag S.TreeSink (by_known in_body_end_blocks (by_known in_body_end_inline in_body_end_other)) tag sink.old state.old sink.new state.new result }
 {
-    if tag.name.is(KnownName::Html) {
-        in_body_end_html(sink, state, tag)
-    } else if tag.name.is(KnownName::Body) {
-        in_body_end_body(sink, state, tag)
-    } else if NameSet::BlockEnd.holds(&tag.name) {
-        in_body_end_block(sink, state, tag)
-    } else if tag.name.is(KnownName::Form) {
-        in_body_end_form(sink, state, tag)
-    } else if tag.name.is(KnownName::Option) {
-        in_body_end_option(sink, state, tag)
-    } else if tag.name.is(KnownName::P) {
-        in_body_end_p(sink, state, tag)
-    } else if is_list_item(&tag.name) {
-        in_body_end_li(sink, state, tag)
-    } else if is_description(&tag.name) {
-        in_body_end_description(sink, state, tag)
-    } else {
-        in_body_end_inline(sink, state, tag)
+    match tag.name.known() {
+        KnownName::Html => in_body_end_html(sink, state, tag),
+        KnownName::Body => in_body_end_body(sink, state, tag),
+        KnownName::Address
+        | KnownName::Article
+        | KnownName::Aside
+        | KnownName::Blockquote
+        | KnownName::Center
+        | KnownName::Details
+        | KnownName::Dialog
+        | KnownName::Dir
+        | KnownName::Div
+        | KnownName::Dl
+        | KnownName::Fieldset
+        | KnownName::Figcaption
+        | KnownName::Figure
+        | KnownName::Footer
+        | KnownName::Header
+        | KnownName::Hgroup
+        | KnownName::Main
+        | KnownName::Menu
+        | KnownName::Nav
+        | KnownName::Ol
+        | KnownName::Search
+        | KnownName::Section
+        | KnownName::Summary
+        | KnownName::Ul => in_body_end_block(sink, state, tag),
+        KnownName::Button | KnownName::Listing | KnownName::Pre | KnownName::Select =>
+            in_body_end_block(sink, state, tag),
+        KnownName::Form => in_body_end_form(sink, state, tag),
+        KnownName::Option => in_body_end_option(sink, state, tag),
+        _ => in_body_end_inline(sink, state, tag),
     }
 }
 
 /// A turn of a tag in the body.
-#[tactic(auto, unfolding(h5_meaning::specs::InBody::in_body_tag))]
+#[tactic(auto, using(h5_rules::proofs::rows::KnownRuleLaws::in_body_start_known, h5_rules::proofs::rows::KnownRuleLaws::in_body_end_known), unfolding(h5_rules::specs::modes::InBody::in_body_tag))]
 #[inline(always)]
 pub fn in_body_tag<S: TreeSink>(
     sink: &mut S,
@@ -443,7 +459,7 @@ pub fn in_body_tag<S: TreeSink>(
     tag: Tag,
 ) -> Turn<S::Handle>
     requires sound { IsSound S.TreeSink sink.old state.old }
-    requires ready { IsReady (world_of S.TreeSink sink.old state.old) }
+    requires ready { HasHtmlRoot (world_of S.TreeSink sink.old state.old) }
     ensures { TakesTag S.TreeSink in_body_tag tag sink.old state.old sink.new state.new result }
 {
     match tag.kind {
@@ -472,7 +488,7 @@ pub fn step_in_body<S: TreeSink>(
     token: Token,
 ) -> Turn<S::Handle>
     requires sound { IsSound S.TreeSink sink.old state.old }
-    requires ready { IsReady (world_of S.TreeSink sink.old state.old) }
+    requires ready { HasHtmlRoot (world_of S.TreeSink sink.old state.old) }
     requires text { HasText (turn_text token) }
     ensures { TakesToken S.TreeSink in_body token sink.old state.old sink.new state.new result }
 {

@@ -1,22 +1,22 @@
 //! Items of lists in the body (HTML standard, section 13.2.6.4.7).
 ghost use Rattle.std.specs.Prelude.{◌≡◌, [], ◌∷◌, true, length};
 ghost use Rattle.h5_tag_sets.specs.TagSets.{is_html_named};
-ghost use Rattle.h5_meaning.specs.Scope.{cut_through};
-ghost use Rattle.h5_meaning.specs.InBody.{in_body_end_description, in_body_end_li, in_body_start_item};
-ghost use Rattle.h5_meaning.specs.Rows.{GenerateImpliedEndExcept, PopUntilNamed, apply_all};
-ghost use Rattle.h5_meaning.specs.Shared.{current_is};
-ghost use Rattle.h5_meaning.specs.World.{names_of};
-ghost use Rattle.h5_operations.specs.Items.{item_names};
+ghost use Rattle.h5_rules.specs.stack.Scope.{cut_through};
+ghost use Rattle.h5_rules.specs.modes.InBody.{in_body_end_description, in_body_end_li, in_body_start_item};
+ghost use Rattle.h5_rules.specs.Rows.{GenerateImpliedEndExcept, PopUntilNamed, apply_all};
+ghost use Rattle.h5_rules.specs.modes.Shared.{current_is};
+ghost use Rattle.h5_rules.specs.World.{names_of};
+ghost use Rattle.h5_closing.specs.Items.{item_names};
 ghost use Rattle.h5_state.specs.Steps.{IsSound, errors_of, world_of};
 ghost use Rattle.h5_state.specs.Turn.{TakesTag};
 
+use h5_closing::{
+    ItemKind, close_list_item, close_p_element_in_button_scope, expect_to_close,
+    find_in_default_scope, find_li_in_list_item_scope,
+};
+use h5_insertion::insert_element;
 use h5_interface::TreeSink;
 use h5_names::{KnownName, LocalName};
-use h5_operations::{
-    ItemKind, close_list_item, close_p_element_in_button_scope, find_in_default_scope,
-    find_li_in_list_item_scope, insert_element,
-};
-use h5_rules_shared::expect_to_close;
 use h5_state::{
     State, Turn, generate_implied_end_except, is_current_html, pop_until_named,
     set_frameset_not_ok, unexpected_tag,
@@ -64,7 +64,7 @@ fn close_item<S: TreeSink>(
 }
 
 // An end tag `li`: it closes the `li` in list item scope.
-#[tactic(auto, unfolding(h5_meaning::specs::InBody::in_body_end_li))]
+#[tactic(auto, unfolding(h5_rules::specs::modes::InBody::in_body_end_li))]
 pub(crate) fn in_body_end_li<S: TreeSink>(
     sink: &mut S,
     state: &mut State<S::Handle>,
@@ -86,7 +86,7 @@ pub(crate) fn in_body_end_li<S: TreeSink>(
 }
 
 // An end tag `dd` or `dt`: it closes the element of its name in scope.
-#[tactic(auto, unfolding(h5_meaning::specs::InBody::in_body_end_description))]
+#[tactic(auto, unfolding(h5_rules::specs::modes::InBody::in_body_end_description))]
 pub(crate) fn in_body_end_description<S: TreeSink>(
     sink: &mut S,
     state: &mut State<S::Handle>,

@@ -2,21 +2,21 @@
 //! "marquee" and "object").
 ghost use Rattle.std.specs.Prelude.{◌≡◌, [], ◌∷◌, true, length};
 ghost use Rattle.h5_tag_sets.specs.TagSets.{is_html_named, is_one_of};
-ghost use Rattle.h5_meaning.specs.Scope.{cut_through};
-ghost use Rattle.h5_meaning.specs.InBody.{in_body_end_marked, in_body_marked, in_body_start_marked};
-ghost use Rattle.h5_meaning.specs.Rows.{ClearActiveFormattingToMarker, GenerateImpliedEnd, PopUntilNamed, apply_all};
-ghost use Rattle.h5_meaning.specs.Shared.{current_is};
-ghost use Rattle.h5_meaning.specs.World.{names_of};
+ghost use Rattle.h5_rules.specs.stack.Scope.{cut_through};
+ghost use Rattle.h5_rules.specs.modes.InBody.{in_body_end_marked, in_body_marked, in_body_start_marked};
+ghost use Rattle.h5_rules.specs.Rows.{ClearActiveFormattingToMarker, GenerateImpliedEnd, PopUntilNamed, apply_all};
+ghost use Rattle.h5_rules.specs.modes.Shared.{current_is};
+ghost use Rattle.h5_rules.specs.World.{names_of};
 ghost use Rattle.h5_state.specs.Steps.{IsSound, errors_of, world_of};
 ghost use Rattle.h5_state.specs.Turn.{TakesTag};
 
+use h5_closing::{expect_to_close, find_in_default_scope, generate_implied_end};
+use h5_formatting::{
+    clear_active_formatting_to_marker, insert_marker, reconstruct_active_formatting_elements,
+};
+use h5_insertion::insert_element;
 use h5_interface::TreeSink;
 use h5_names::LocalName;
-use h5_operations::{find_in_default_scope, generate_implied_end, insert_element};
-use h5_rules_shared::{
-    clear_active_formatting_to_marker, expect_to_close, insert_marker,
-    reconstruct_active_formatting_elements,
-};
 use h5_state::{
     State, Turn, is_current_html, pop_until_named, set_frameset_not_ok, unexpected_tag,
 };
@@ -62,7 +62,7 @@ fn close_marked<S: TreeSink>(
 }
 
 // An end tag `applet`, `marquee` or `object`: it closes the element of its name in scope.
-#[tactic(auto, unfolding(h5_meaning::specs::InBody::in_body_end_marked))]
+#[tactic(auto, unfolding(h5_rules::specs::modes::InBody::in_body_end_marked))]
 pub(crate) fn in_body_end_marked<S: TreeSink>(
     sink: &mut S,
     state: &mut State<S::Handle>,

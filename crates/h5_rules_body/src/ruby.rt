@@ -1,13 +1,14 @@
 //! Parts of ruby annotations in the body (HTML standard, section 13.2.6.4.7, start tags "rb", "rtc", "rp" and "rt").
 ghost use Rattle.std.specs.Prelude.{codes};
-ghost use Rattle.h5_meaning.specs.InBody.{in_body_start_ruby};
-ghost use Rattle.h5_meaning.specs.Rows.{GenerateImpliedEnd, GenerateImpliedEndExcept};
+ghost use Rattle.h5_rules.specs.modes.InBody.{in_body_start_ruby};
+ghost use Rattle.h5_rules.specs.Rows.{GenerateImpliedEnd, GenerateImpliedEndExcept};
 ghost use Rattle.h5_state.specs.Steps.{IsSound, TellsErrors};
 ghost use Rattle.h5_state.specs.Turn.{TakesTag};
 
+use h5_closing::generate_implied_end;
+use h5_insertion::insert_element;
 use h5_interface::TreeSink;
 use h5_names::{KnownName, LocalName};
-use h5_operations::{generate_implied_end, insert_element};
 use h5_state::{
     State, Turn, generate_implied_end_except, in_scope_named, is_current_html, unexpected_tag,
 };

@@ -6,9 +6,9 @@ use Rattle.h5_interface.specs.declared.sink.TreeSink.{Ghosts}
 use Rattle.h5_types.specs.TurnText.{TurnText, turn_text}
 use Rattle.h5_types.specs.declared.turns.ProcessResult.{ProcessResult}
 use Rattle.h5_types.specs.declared.turns.Token.{Token}
-use Rattle.h5_meaning.specs.ForeignContent.{ByMode, ForeignStep, HasRow, foreign_step}
-use Rattle.h5_meaning.specs.Rows.{Change, Follows, Row, apply_all}
-use Rattle.h5_meaning.specs.World.{World}
+use Rattle.h5_rules.specs.modes.ForeignContent.{ByMode, ForeignStep, HasRow, foreign_step}
+use Rattle.h5_rules.specs.Rows.{Change, Follows, Row, apply_all}
+use Rattle.h5_rules.specs.World.{World}
 use Rattle.h5_state.specs.Steps.{IsSound, errors_of, world_of}
 use Rattle.h5_state.specs.declared.state.State.{State}
 use Rattle.h5_rules_foreign.specs.declared.step.ForeignStep.{ForeignStep as Came}

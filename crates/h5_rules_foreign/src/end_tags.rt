@@ -2,17 +2,17 @@
 ghost use Rattle.std.specs.Prelude.{◌≡◌, true};
 ghost use Rattle.h5_token.specs.TokenText.{tag_text};
 ghost use Rattle.h5_types.specs.TurnText.{TagTurn};
-ghost use Rattle.h5_meaning.specs.Scope.{first_passes};
-ghost use Rattle.h5_meaning.specs.Foreign.{is_named_in_any_case};
-ghost use Rattle.h5_meaning.specs.ForeignContent.{foreign_end, foreign_end_by, search_end};
-ghost use Rattle.h5_meaning.specs.World.{names_of};
+ghost use Rattle.h5_rules.specs.stack.Scope.{first_passes};
+ghost use Rattle.h5_rules.specs.insertion.Foreign.{is_named_in_any_case};
+ghost use Rattle.h5_rules.specs.modes.ForeignContent.{foreign_end, foreign_end_by, search_end};
+ghost use Rattle.h5_rules.specs.World.{names_of};
 ghost use Rattle.h5_rules_foreign.specs.ForeignSteps.{CameTo};
 ghost use Rattle.h5_state.specs.Steps.{IsSound, TellsErrors, errors_of, world_of};
 
 use super::names::is_breakout_end;
 use super::start_tags::unexpected_in_foreign_content;
 use super::step::ForeignStep;
-use h5_foreign::{EndSearch, is_current_in_any_case, pop_until_named_in_any_case, search_end};
+use h5_closing::{EndSearch, is_current_in_any_case, pop_until_named_in_any_case, search_end};
 use h5_interface::TreeSink;
 use h5_state::{State, open_count, unexpected_tag};
 use h5_token::Tag;
@@ -50,7 +50,7 @@ fn foreign_end_other<S: TreeSink>(
     }
 }
 
-#[tactic(auto, unfolding(h5_meaning::specs::ForeignContent::foreign_end))]
+#[tactic(auto, unfolding(h5_rules::specs::modes::ForeignContent::foreign_end))]
 pub(crate) fn foreign_end<S: TreeSink>(
     sink: &mut S,
     state: &mut State<S::Handle>,

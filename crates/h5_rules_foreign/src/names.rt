@@ -2,72 +2,77 @@
 ghost use Rattle.std.specs.Prelude.{◌≡◌};
 ghost use Rattle.std.specs.List.{list_any};
 ghost use Rattle.h5_names.specs.AttributeText.{attribute_text, attribute_texts};
+ghost use Rattle.h5_names.specs.KnownNames.{name_text};
 ghost use Rattle.h5_token.specs.TokenText.{tag_text};
 ghost use Rattle.h5_tag_sets.specs.TagSets.{is_one_of};
-ghost use Rattle.h5_meaning.specs.ForeignContent.{breaks_out, foreign_breakout_end_names, foreign_breakout_names, is_font_attribute};
+ghost use Rattle.h5_rules.specs.modes.ForeignContent.{breaks_out, foreign_breakout_end_names, foreign_breakout_names, is_font_attribute};
 
 use h5_names::{Attribute, KnownName, LocalName};
-use h5_rules_shared::is_any_of;
 use h5_token::Tag;
 
-// Start tags of these names leave foreign content, whatever their attributes.
-const BREAKOUT_NAMES: [KnownName; 44] = [
-    KnownName::B,
-    KnownName::Big,
-    KnownName::Blockquote,
-    KnownName::Body,
-    KnownName::Br,
-    KnownName::Center,
-    KnownName::Code,
-    KnownName::Dd,
-    KnownName::Div,
-    KnownName::Dl,
-    KnownName::Dt,
-    KnownName::Em,
-    KnownName::Embed,
-    KnownName::H1,
-    KnownName::H2,
-    KnownName::H3,
-    KnownName::H4,
-    KnownName::H5,
-    KnownName::H6,
-    KnownName::Head,
-    KnownName::Hr,
-    KnownName::I,
-    KnownName::Img,
-    KnownName::Li,
-    KnownName::Listing,
-    KnownName::Menu,
-    KnownName::Meta,
-    KnownName::Nobr,
-    KnownName::Ol,
-    KnownName::P,
-    KnownName::Pre,
-    KnownName::Ruby,
-    KnownName::S,
-    KnownName::Small,
-    KnownName::Span,
-    KnownName::Strong,
-    KnownName::Strike,
-    KnownName::Sub,
-    KnownName::Sup,
-    KnownName::Table,
-    KnownName::Tt,
-    KnownName::U,
-    KnownName::Ul,
-    KnownName::Var,
-];
+// Whether a start tag of a name that HTML knows so leaves foreign content, whatever its attributes.
+#[tactic(auto, unfolding(h5_rules::specs::modes::ForeignContent::foreign_breakout_names, h5_names::specs::KnownNames::name_text))]
+fn is_known_breakout(known: KnownName) -> bool
+    ensures { result ≡ is_one_of foreign_breakout_names (name_text known) }
+{
+    match known {
+        KnownName::B
+        | KnownName::Big
+        | KnownName::Blockquote
+        | KnownName::Body
+        | KnownName::Br
+        | KnownName::Center
+        | KnownName::Code
+        | KnownName::Dd
+        | KnownName::Div
+        | KnownName::Dl
+        | KnownName::Dt
+        | KnownName::Em
+        | KnownName::Embed
+        | KnownName::H1
+        | KnownName::H2
+        | KnownName::H3
+        | KnownName::H4
+        | KnownName::H5
+        | KnownName::H6
+        | KnownName::Head
+        | KnownName::Hr
+        | KnownName::I => true,
+        KnownName::Img
+        | KnownName::Li
+        | KnownName::Listing
+        | KnownName::Menu
+        | KnownName::Meta
+        | KnownName::Nobr
+        | KnownName::Ol
+        | KnownName::P
+        | KnownName::Pre
+        | KnownName::Ruby
+        | KnownName::S
+        | KnownName::Small
+        | KnownName::Span
+        | KnownName::Strong
+        | KnownName::Strike
+        | KnownName::Sub
+        | KnownName::Sup
+        | KnownName::Table
+        | KnownName::Tt
+        | KnownName::U
+        | KnownName::Ul
+        | KnownName::Var => true,
+        _ => false,
+    }
+}
 
 // Whether a start tag of this name leaves foreign content, whatever its attributes.
-#[tactic(auto, unfolding(h5_meaning::specs::ForeignContent::foreign_breakout_names))]
 fn is_breakout(name: &LocalName) -> bool
     ensures { result ≡ is_one_of foreign_breakout_names name.now }
 {
-    is_any_of(name, &BREAKOUT_NAMES)
+    is_known_breakout(name.known())
 }
 
 // Whether an end tag of this name does.
-#[tactic(auto, unfolding(h5_meaning::specs::ForeignContent::foreign_breakout_end_names))]
+#[tactic(auto, unfolding(h5_rules::specs::modes::ForeignContent::foreign_breakout_end_names))]
 pub(crate) fn is_breakout_end(name: &LocalName) -> bool
     ensures { result ≡ is_one_of foreign_breakout_end_names name.now }
 {
@@ -75,7 +80,7 @@ pub(crate) fn is_breakout_end(name: &LocalName) -> bool
 }
 
 // Whether an attribute of a `font` makes it leave foreign content.
-#[tactic(auto, unfolding(h5_meaning::specs::ForeignContent::font_attribute_names))]
+#[tactic(auto, unfolding(h5_rules::specs::modes::ForeignContent::font_attribute_names))]
 fn is_font_attribute(attribute: &Attribute) -> bool
     ensures { result ≡ is_font_attribute (attribute_text attribute.now) }
 {
@@ -97,7 +102,7 @@ fn has_font_attribute(attrs: &[Attribute]) -> bool
 }
 
 // Whether a start tag leaves foreign content.
-#[tactic(auto, unfolding(h5_meaning::specs::ForeignContent::breaks_out))]
+#[tactic(auto, unfolding(h5_rules::specs::modes::ForeignContent::breaks_out))]
 pub(crate) fn breaks_out(tag: &Tag) -> bool
     ensures { result ≡ breaks_out (tag_text tag.now) }
 {

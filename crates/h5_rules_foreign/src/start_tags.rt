@@ -2,16 +2,17 @@
 ghost use Rattle.std.specs.Prelude.{◌≡◌, IfOk};
 ghost use Rattle.h5_token.specs.TokenText.{TagText, tag_text};
 ghost use Rattle.h5_types.specs.TurnText.{TagTurn};
-ghost use Rattle.h5_meaning.specs.Foreign.{adjusted_local, adjusted_namespace};
-ghost use Rattle.h5_meaning.specs.ForeignContent.{foreign_start, foreign_start_other, unexpected_in_foreign_content};
+ghost use Rattle.h5_rules.specs.insertion.Foreign.{adjusted_local, adjusted_namespace};
+ghost use Rattle.h5_rules.specs.modes.ForeignContent.{foreign_start, foreign_start_other, unexpected_in_foreign_content};
 ghost use Rattle.h5_rules_foreign.specs.ForeignSteps.{CameTo, Steps};
 ghost use Rattle.h5_state.specs.Steps.{IsSound, errors_of, world_of};
 ghost use Rattle.h5_state.specs.Turn.{TakesTag};
 
 use super::names::breaks_out;
 use super::step::ForeignStep;
+use h5_closing::leave_foreign_content;
 use h5_data::adjust_svg_tag_name;
-use h5_foreign::{adjusted_current_node, insert_foreign_for, leave_foreign_content};
+use h5_insertion::{adjusted_current_node, insert_foreign_for};
 use h5_interface::TreeSink;
 use h5_names::Namespace;
 use h5_state::{State, Turn, unexpected_tag};
@@ -49,7 +50,7 @@ fn adjusted_namespace<S: TreeSink>(
 }
 
 // A tag with the name that its element has in a namespace.
-#[tactic(auto, unfolding(h5_meaning::specs::Foreign::adjusted_local, h5_tag_sets::specs::TagSets::svg_namespace))]
+#[tactic(auto, unfolding(h5_rules::specs::insertion::Foreign::adjusted_local, h5_tag_sets::specs::TagSets::svg_namespace))]
 fn with_adjusted_name(namespace: &Namespace, tag: Tag) -> Tag
     ensures { tag_text result ≡ record (tag_text tag) { name = adjusted_local namespace.now tag.name } }
 {
@@ -77,7 +78,7 @@ fn foreign_start_other<S: TreeSink>(
     insert_foreign_for(sink, state, namespace, adjusted)
 }
 
-#[tactic(auto, unfolding(h5_meaning::specs::ForeignContent::foreign_start))]
+#[tactic(auto, unfolding(h5_rules::specs::modes::ForeignContent::foreign_start))]
 pub(crate) fn foreign_start<S: TreeSink>(
     sink: &mut S,
     state: &mut State<S::Handle>,

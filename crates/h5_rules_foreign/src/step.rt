@@ -2,16 +2,16 @@
 ghost use Rattle.std.specs.Prelude.{◌≢◌, [], ◌∷◌, string_bytes};
 ghost use Rattle.h5_token.specs.TokenText.{tag_text};
 ghost use Rattle.h5_types.specs.TurnText.{HasText, NullTurn, TagTurn, TextTurn, turn_text};
-ghost use Rattle.h5_meaning.specs.ForeignContent.{foreign_tag, foreign_text_row, replacement_text};
-ghost use Rattle.h5_meaning.specs.Rows.{AppendText, IsDone, errs};
+ghost use Rattle.h5_rules.specs.modes.ForeignContent.{foreign_tag, foreign_text_row, replacement_text};
+ghost use Rattle.h5_rules.specs.Rows.{AppendText, IsDone, errs};
 ghost use Rattle.h5_rules_foreign.specs.ForeignSteps.{Steps, StepsForeign};
 ghost use Rattle.h5_state.specs.Steps.{IsSound};
-ghost use Rattle.h5_state.specs.Turn.{Turns};
+ghost use Rattle.h5_state.specs.Turn.{FollowsRule};
 
 use super::end_tags::foreign_end;
 use super::start_tags::foreign_start;
+use h5_insertion::{append_comment, append_text};
 use h5_interface::TreeSink;
-use h5_operations::{append_comment, append_text};
 use h5_state::{State, Turn, set_frameset_ok_by_text, unexpected};
 use h5_token::{Tag, TagKind};
 use h5_types::{ProcessResult, SplitStatus, Token};
@@ -35,7 +35,7 @@ fn foreign_text<S: TreeSink>(
 ) -> Turn<S::Handle>
     requires sound { IsSound S.TreeSink sink.old state.old }
     requires text { string_bytes text ≢ [] }
-    ensures { Turns S.TreeSink (λ w. foreign_text_row (string_bytes text)) (TextTurn status (string_bytes text)) sink.old state.old sink.new state.new result }
+    ensures { FollowsRule S.TreeSink (λ w. foreign_text_row (string_bytes text)) (TextTurn status (string_bytes text)) sink.old state.old sink.new state.new result }
 {
     let _ = status;
     set_frameset_ok_by_text(sink, state, text.as_str());
@@ -46,7 +46,7 @@ fn foreign_text<S: TreeSink>(
 // A null, for which U+FFFD stands.
 fn foreign_null<S: TreeSink>(sink: &mut S, state: &mut State<S::Handle>) -> Turn<S::Handle>
     requires { IsSound S.TreeSink sink.old state.old }
-    ensures { Turns S.TreeSink (λ w. errs (AppendText replacement_text ∷ []) IsDone) NullTurn sink.old state.old sink.new state.new result }
+    ensures { FollowsRule S.TreeSink (λ w. errs (AppendText replacement_text ∷ []) IsDone) NullTurn sink.old state.old sink.new state.new result }
 {
     unexpected(sink, state, &Token::NullCharacter);
     let replacement = String::from_str(state.alloc, "\u{fffd}")?;

@@ -5,21 +5,21 @@ use Rattle.h5_names.specs.declared.qualified.QualName.{QualName}
 use Rattle.h5_interface.specs.Forest.{ElementNode, IsElement, kind_of}
 use Rattle.h5_interface.specs.SinkChoices.{SinkChoices}
 use Rattle.h5_tag_sets.specs.TagSets.{html_namespace, implied_names, is_default_scope, is_html_named, is_implied, is_one_of}
-use Rattle.h5_meaning.specs.FormattingNames.{html_name}
-use Rattle.h5_meaning.specs.Order.{IsIn, last_or}
-use Rattle.h5_meaning.specs.Scope.{is_implied_but, node_in_scope}
-use Rattle.h5_meaning.specs.Root.{IsRootOpen}
-use Rattle.h5_meaning.proofs.OpenLaws.{open_while}
-use Rattle.h5_meaning.specs.Changes.{clear_form, generate_implied_end_except, pop, pop_until_named}
-use Rattle.h5_meaning.specs.Closing.{generate_implied_end}
-use Rattle.h5_meaning.specs.InBody.{close_the_form, form_in_scope}
-use Rattle.h5_meaning.specs.Rows.{ClearForm, GenerateImpliedEnd, IsDone, RemoveFromStack, choose, errs}
-use Rattle.h5_meaning.specs.Sound.{Sound}
-use Rattle.h5_meaning.specs.World.{World, current, name_in, name_of_found, names_of, root}
-use Rattle.h5_meaning.proofs.ClosingLaws.{named_not_implied, names-all_implied, while_holds}
-use Rattle.h5_meaning.proofs.PlaceLaws.{marked_kind}
-use Rattle.h5_meaning.proofs.CloseInLaws.{node_in_stack}
-use Rattle.h5_meaning.proofs.SetLaws.{implied_not_html}
+use Rattle.h5_rules.specs.formatting.FormattingNames.{html_name}
+use Rattle.h5_rules.specs.stack.Order.{IsIn, last_or}
+use Rattle.h5_rules.specs.stack.Scope.{is_implied_but, node_in_scope}
+use Rattle.h5_rules.specs.stack.Root.{IsRootOpen}
+use Rattle.h5_rules.proofs.fitting.OpenLaws.{open_while}
+use Rattle.h5_rules.specs.Changes.{clear_form, generate_implied_end_except, pop, pop_until_named}
+use Rattle.h5_rules.specs.stack.Closing.{generate_implied_end}
+use Rattle.h5_rules.specs.modes.InBody.{close_the_form, form_in_scope}
+use Rattle.h5_rules.specs.Rows.{ClearForm, GenerateImpliedEnd, IsDone, RemoveFromStack, choose, errs}
+use Rattle.h5_rules.specs.Sound.{Sound}
+use Rattle.h5_rules.specs.World.{World, current, name_in, name_of_found, names_of, root}
+use Rattle.h5_rules.proofs.changes.ClosingLaws.{named_not_implied, names-all_implied, while_holds}
+use Rattle.h5_rules.proofs.changes.PlaceLaws.{marked_kind}
+use Rattle.h5_rules.proofs.modes.CloseInLaws.{node_in_stack}
+use Rattle.h5_rules.proofs.roles.SetLaws.{implied_not_html}
 
 -- neither a button nor a form has an implied end tag
 pub button_not_implied : (local : List ℕ) → local ≡ codes "button" → (n : QualName) → is_implied n ≡ true → is_html_named local n ≡ false

@@ -1,19 +1,19 @@
 //! Buttons in the body (HTML standard, section 13.2.6.4.7).
 ghost use Rattle.std.specs.Prelude.{◌≡◌};
-ghost use Rattle.h5_meaning.specs.InBody.{in_body_start_button};
+ghost use Rattle.h5_rules.specs.modes.InBody.{in_body_start_button};
 ghost use Rattle.h5_state.specs.Steps.{IsSound};
 ghost use Rattle.h5_state.specs.Turn.{TakesTag};
 
 use super::opens::open_control;
+use h5_closing::{find_in_default_scope, generate_implied_end};
 use h5_interface::TreeSink;
 use h5_names::{KnownName, LocalName};
-use h5_operations::{find_in_default_scope, generate_implied_end};
 use h5_state::{State, Turn, pop_until_named, tell_error};
 use h5_token::Tag;
 use h5_types::ProcessResult;
 
 /// A start tag `button`: one that is in scope is closed. It answers an `AllocError` where memory is refused.
-#[tactic(auto, unfolding(h5_meaning::specs::InBody::in_body_start_button))]
+#[tactic(auto, unfolding(h5_rules::specs::modes::InBody::in_body_start_button))]
 pub fn in_body_start_button<S: TreeSink>(
     sink: &mut S,
     state: &mut State<S::Handle>,

@@ -1,18 +1,18 @@
 //! Forms in the body (HTML standard, section 13.2.6.4.7).
 ghost use Rattle.std.specs.Prelude.{◌≡◌, ◌∷◌, [], codes};
-ghost use Rattle.h5_meaning.specs.InBody.{close_the_form, in_body_end_form, in_body_start_form, named_in_scope};
-ghost use Rattle.h5_meaning.specs.Rows.{GenerateImpliedEnd, IsDone, PopUntilNamed, choose, errs, ignored};
-ghost use Rattle.h5_meaning.specs.Sound.{IsReady};
+ghost use Rattle.h5_rules.specs.modes.InBody.{close_the_form, in_body_end_form, in_body_start_form, named_in_scope};
+ghost use Rattle.h5_rules.specs.Rows.{GenerateImpliedEnd, IsDone, PopUntilNamed, choose, errs, ignored};
+ghost use Rattle.h5_rules.specs.Sound.{HasHtmlRoot};
 ghost use Rattle.h5_state.specs.Steps.{IsSound, world_of};
 ghost use Rattle.h5_state.specs.Turn.{TakesTag};
 
-use h5_interface::TreeSink;
-use h5_names::{KnownName, LocalName};
-use h5_operations::{
-    close_p_element_in_button_scope, find_in_default_scope, generate_implied_end, insert_form,
+use h5_closing::{
+    close_p_element_in_button_scope, expect_to_close, find_in_default_scope, generate_implied_end,
     remove_from_stack,
 };
-use h5_rules_shared::expect_to_close;
+use h5_insertion::insert_form;
+use h5_interface::TreeSink;
+use h5_names::{KnownName, LocalName};
 use h5_state::{
     State, Turn, current_node, has_form, has_open_template, is_current_html, is_node_in_scope,
     pop_until_named, take_form, tell_error,
@@ -22,7 +22,7 @@ use h5_types::ProcessResult;
 
 /// A start tag `form`: it is ignored where there is a form element, and no template is open. It answers an `AllocError`
 /// where memory is refused.
-#[tactic(auto, unfolding(h5_meaning::specs::InBody::in_body_start_form))]
+#[tactic(auto, unfolding(h5_rules::specs::modes::InBody::in_body_start_form))]
 pub fn in_body_start_form<S: TreeSink>(
     sink: &mut S,
     state: &mut State<S::Handle>,
@@ -43,14 +43,14 @@ pub fn in_body_start_form<S: TreeSink>(
 }
 
 // The form element isn't one any more, and leaves the stack, where it is in scope.
-#[tactic(auto, unfolding(h5_meaning::specs::InBody::close_the_form))]
+#[tactic(auto, unfolding(h5_rules::specs::modes::InBody::close_the_form))]
 fn close_form_element<S: TreeSink>(
     sink: &mut S,
     state: &mut State<S::Handle>,
     tag: Tag,
 ) -> Turn<S::Handle>
     requires sound { IsSound S.TreeSink sink.old state.old }
-    requires ready { IsReady (world_of S.TreeSink sink.old state.old) }
+    requires ready { HasHtmlRoot (world_of S.TreeSink sink.old state.old) }
     ensures { TakesTag S.TreeSink (λ tag w. close_the_form w.form w) tag sink.old state.old sink.new state.new result }
 {
     let _ = tag;
@@ -98,14 +98,14 @@ fn close_open_form<S: TreeSink>(
 
 /// An end tag `form`: it closes the form element, wherever that stands in scope, and in a template the open one that is
 /// in scope.
-#[tactic(auto, unfolding(h5_meaning::specs::InBody::in_body_end_form))]
+#[tactic(auto, unfolding(h5_rules::specs::modes::InBody::in_body_end_form))]
 pub fn in_body_end_form<S: TreeSink>(
     sink: &mut S,
     state: &mut State<S::Handle>,
     tag: Tag,
 ) -> Turn<S::Handle>
     requires sound { IsSound S.TreeSink sink.old state.old }
-    requires ready { IsReady (world_of S.TreeSink sink.old state.old) }
+    requires ready { HasHtmlRoot (world_of S.TreeSink sink.old state.old) }
     ensures { TakesTag S.TreeSink in_body_end_form tag sink.old state.old sink.new state.new result }
 {
     if has_open_template(sink, state) {

@@ -1,20 +1,22 @@
 //! Elements without content, in forms and beside them (HTML standard, section 13.2.6.4.7).
 ghost use Rattle.std.specs.Prelude.{◌≡◌, ◌∷◌, OnOk, codes, false};
 ghost use Rattle.h5_names.specs.AttributeText.{attribute_texts};
-ghost use Rattle.h5_meaning.specs.InBody.{in_body_start_hr, in_body_start_image, in_body_start_input, in_body_start_part, named_in_scope, unless_hidden};
-ghost use Rattle.h5_meaning.specs.Closing.{generate_implied_end_in_select};
-ghost use Rattle.h5_meaning.specs.Rows.{InsertAndPopElement, ReconstructActiveFormattingElements, apply_all};
+ghost use Rattle.h5_rules.specs.modes.InBody.{in_body_start_hr, in_body_start_image, in_body_start_input, in_body_start_part, named_in_scope, unless_hidden};
+ghost use Rattle.h5_rules.specs.stack.Closing.{generate_implied_end_in_select};
+ghost use Rattle.h5_rules.specs.Rows.{InsertAndPopElement, ReconstructActiveFormattingElements, apply_all};
 ghost use Rattle.h5_state.specs.Steps.{IsSound, TellsErrors, errors_of, world_of};
 ghost use Rattle.h5_state.specs.Turn.{TakesTag};
 
+use super::hidden::is_type_hidden;
 use super::select::is_option_in_scope;
+use h5_closing::{
+    close_p_element_in_button_scope, expect_to_close, find_in_default_scope,
+    generate_implied_end_in_select,
+};
+use h5_formatting::reconstruct_active_formatting_elements;
+use h5_insertion::insert_and_pop_element;
 use h5_interface::TreeSink;
 use h5_names::{KnownName, LocalName};
-use h5_operations::{
-    close_p_element_in_button_scope, find_in_default_scope, generate_implied_end_in_select,
-    insert_and_pop_element,
-};
-use h5_rules_shared::{expect_to_close, is_type_hidden, reconstruct_active_formatting_elements};
 use h5_state::{
     State, Turn, in_scope_named, pop_until_named, set_frameset_not_ok, tell_error, unexpected_tag,
 };
@@ -77,7 +79,7 @@ fn insert_input<S: TreeSink>(
 }
 
 /// A start tag `input`: a `select` in scope is closed. It answers an `AllocError` where memory is refused.
-#[tactic(auto, unfolding(h5_meaning::specs::InBody::in_body_start_input))]
+#[tactic(auto, unfolding(h5_rules::specs::modes::InBody::in_body_start_input))]
 pub fn in_body_start_input<S: TreeSink>(
     sink: &mut S,
     state: &mut State<S::Handle>,

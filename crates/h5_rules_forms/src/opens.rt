@@ -1,14 +1,14 @@
 //! What the start tags of elements in forms do last.
 ghost use Rattle.std.specs.Prelude.{◌≡◌, OnOk};
 ghost use Rattle.h5_token.specs.TokenText.{tag_text};
-ghost use Rattle.h5_meaning.specs.Changes.{set_frameset_not_ok};
-ghost use Rattle.h5_meaning.specs.InBody.{in_body_opens};
-ghost use Rattle.h5_meaning.specs.Rows.{apply_all};
+ghost use Rattle.h5_rules.specs.Changes.{set_frameset_not_ok};
+ghost use Rattle.h5_rules.specs.modes.InBody.{in_body_opens};
+ghost use Rattle.h5_rules.specs.Rows.{apply_all};
 ghost use Rattle.h5_state.specs.Steps.{IsSound, errors_of, world_of};
 
+use h5_formatting::reconstruct_active_formatting_elements;
+use h5_insertion::insert_element;
 use h5_interface::TreeSink;
-use h5_operations::insert_element;
-use h5_rules_shared::reconstruct_active_formatting_elements;
 use h5_state::{State, set_frameset_not_ok};
 use h5_token::Tag;
 use std::alloc::AllocError;

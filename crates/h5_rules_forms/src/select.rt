@@ -1,18 +1,17 @@
 //! `select`, and what stands in it (HTML standard, section 13.2.6.4.7).
 ghost use Rattle.std.specs.Prelude.{◌≡◌, ◌||◌, MatchOption, OnOk, codes, option_map};
 ghost use Rattle.h5_interface.specs.Forest.{IsElement};
-ghost use Rattle.h5_meaning.specs.InBody.{copies_option, in_body_end_option, in_body_start_optgroup, in_body_start_option, in_body_start_select, named_in_scope};
-ghost use Rattle.h5_meaning.specs.Rows.{apply_all};
+ghost use Rattle.h5_rules.specs.modes.InBody.{copies_option, in_body_end_option, in_body_start_optgroup, in_body_start_option, in_body_start_select, named_in_scope};
+ghost use Rattle.h5_rules.specs.Rows.{apply_all};
 ghost use Rattle.h5_state.specs.Steps.{IsSound, TellsErrors, world_of};
 ghost use Rattle.h5_state.specs.Turn.{TakesTag};
 
 use super::opens::{open_control, open_element};
+use h5_closing::{
+    copy_closed_option, expect_to_close, find_in_default_scope, generate_implied_end, oldest_option,
+};
 use h5_interface::TreeSink;
 use h5_names::{KnownName, LocalName};
-use h5_operations::{
-    copy_closed_option, find_in_default_scope, generate_implied_end, oldest_option,
-};
-use h5_rules_shared::expect_to_close;
 use h5_state::{
     State, Turn, find_before_special, generate_implied_end_except, in_scope_named, is_current_html,
     is_select_context, pop, pop_until_named, tell_error, unexpected_tag,
@@ -23,7 +22,7 @@ use std::alloc::AllocError;
 
 /// A start tag `select`: one that is in scope is closed, and no other is opened; it is ignored where the context is one.
 /// It answers an `AllocError` where memory is refused.
-#[tactic(auto, unfolding(h5_meaning::specs::InBody::in_body_start_select))]
+#[tactic(auto, unfolding(h5_rules::specs::modes::InBody::in_body_start_select))]
 pub fn in_body_start_select<S: TreeSink>(
     sink: &mut S,
     state: &mut State<S::Handle>,
@@ -81,7 +80,7 @@ fn check_optgroup<S: TreeSink>(sink: &mut S, state: &State<S::Handle>)
 
 /// A start tag `option`: in a `select` it closes what has an implied end, but a group; elsewhere an option that is the
 /// current node. It answers an `AllocError` where memory is refused.
-#[tactic(auto, unfolding(h5_meaning::specs::InBody::in_body_start_option))]
+#[tactic(auto, unfolding(h5_rules::specs::modes::InBody::in_body_start_option))]
 pub fn in_body_start_option<S: TreeSink>(
     sink: &mut S,
     state: &mut State<S::Handle>,
@@ -109,7 +108,7 @@ pub fn in_body_start_option<S: TreeSink>(
 
 /// A start tag `optgroup`: in a `select` it closes what has an implied end; elsewhere an option that is the current
 /// node. It answers an `AllocError` where memory is refused.
-#[tactic(auto, unfolding(h5_meaning::specs::InBody::in_body_start_optgroup))]
+#[tactic(auto, unfolding(h5_rules::specs::modes::InBody::in_body_start_optgroup))]
 pub fn in_body_start_optgroup<S: TreeSink>(
     sink: &mut S,
     state: &mut State<S::Handle>,
@@ -154,7 +153,7 @@ fn copy_option<S: TreeSink>(
 
 /// An end tag `option`: it closes an option before which no special element comes, and the one that is the nearest to
 /// the root, where it was closed, is copied. It answers an `AllocError` where memory is refused.
-#[tactic(auto, unfolding(h5_meaning::specs::InBody::in_body_end_option))]
+#[tactic(auto, unfolding(h5_rules::specs::modes::InBody::in_body_end_option))]
 pub fn in_body_end_option<S: TreeSink>(
     sink: &mut S,
     state: &mut State<S::Handle>,

@@ -5,15 +5,15 @@ use Rattle.h5_interface.specs.SinkChoices.{SinkChoices}
 use Rattle.h5_types.specs.TurnText.{TagTurn}
 use Rattle.h5_types.specs.declared.turns.ProcessResult.{ProcessResult}
 use Rattle.h5_tag_sets.specs.TagSets.{is_one_of}
-use Rattle.h5_meaning.specs.AfterHead.{removes_known, with_head}
-use Rattle.h5_meaning.specs.Changes.{push_head}
-use Rattle.h5_meaning.specs.InHead.{in_head_start_tag}
-use Rattle.h5_meaning.specs.Rows.{EndsAs, Follows, apply_all}
-use Rattle.h5_meaning.specs.Shared.{head_start_names}
-use Rattle.h5_meaning.specs.World.{World, root}
-use Rattle.h5_meaning.proofs.AfterHeadLaws.{content_row, ends_anywhere}
-use Rattle.h5_meaning.proofs.KeptLaws.{apply_append}
-use Rattle.h5_meaning.proofs.PushHeadLaws.{OnlyRoot, stack_push_head}
+use Rattle.h5_rules.specs.modes.AfterHead.{removes_known, with_head}
+use Rattle.h5_rules.specs.Changes.{push_head}
+use Rattle.h5_rules.specs.modes.InHead.{in_head_start_tag}
+use Rattle.h5_rules.specs.Rows.{EndsAs, Follows, apply_all}
+use Rattle.h5_rules.specs.modes.Shared.{head_start_names}
+use Rattle.h5_rules.specs.World.{World, root}
+use Rattle.h5_rules.proofs.modes.AfterHeadLaws.{content_row, ends_anywhere}
+use Rattle.h5_rules.proofs.rows.KeptLaws.{apply_append}
+use Rattle.h5_rules.proofs.modes.PushHeadLaws.{OnlyRoot, stack_push_head}
 
 -- the row of the head, and then the head element leaves the stack, where there is one
 pub followed : {H : Type 0} (choices : SinkChoices) (node : H → ℕ) (tag : TagText) (w u v : World) (a b : ℕ) (result : ProcessResult H) (known : Option ℕ) → is_one_of head_start_names tag.name ≡ true

@@ -1,8 +1,8 @@
 -- What "after head" tells of the open elements.
 use Rattle.h5_types.specs.declared.modes.InsertionMode.TheVariants.{AfterHead}
-use Rattle.h5_meaning.specs.NamesFit.{NamesFit}
-use Rattle.h5_meaning.specs.Sound.{situation_of}
-use Rattle.h5_meaning.specs.World.{World, names_of}
+use Rattle.h5_rules.specs.fitting.NamesFit.{NamesFit}
+use Rattle.h5_rules.specs.Sound.{situation_of}
+use Rattle.h5_rules.specs.World.{World, names_of}
 
 abbrev pub FitsAfterHead : World → Type 0
 FitsAfterHead w = NamesFit (situation_of w) AfterHead (names_of w)

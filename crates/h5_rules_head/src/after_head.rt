@@ -1,24 +1,27 @@
 //! The mode "after head" (HTML standard, section 13.2.6.4.6).
+ghost use Rattle.h5_rules.specs.ByName.{by_known, ignored_tag, of_tag};
 ghost use Rattle.std.specs.Prelude.{◌≡◌, ◌≢◌, MatchOption, option_map, true};
 ghost use Rattle.h5_types.specs.TurnText.{HasText, turn_text};
 ghost use Rattle.h5_tag_sets.specs.TagSets.{is_one_of};
-ghost use Rattle.h5_meaning.specs.AfterHead.{after_head, after_head_else, after_head_start_body, after_head_start_frameset, after_head_tag, removes_known, with_head};
-ghost use Rattle.h5_meaning.specs.InHead.{in_head_start_tag};
-ghost use Rattle.h5_meaning.specs.Rows.{apply_all};
-ghost use Rattle.h5_meaning.specs.Shared.{head_start_names};
-ghost use Rattle.h5_meaning.specs.World.{root};
+ghost use Rattle.h5_rules.specs.modes.AfterHead.{after_head, after_head_else, after_head_end, after_head_start, after_head_start_body, after_head_start_frameset, after_head_tag, removes_known, with_head};
+ghost use Rattle.h5_rules.specs.modes.InHead.{in_head_start_tag};
+ghost use Rattle.h5_rules.specs.Rows.{apply_all};
+ghost use Rattle.h5_rules.specs.modes.Shared.{head_start_names};
+ghost use Rattle.h5_rules.specs.World.{root};
 ghost use Rattle.h5_rules_head.specs.Fits.{FitsAfterHead};
 ghost use Rattle.h5_state.specs.Steps.{IsOpen, IsSound, world_of};
 ghost use Rattle.h5_state.specs.Turn.{TakesTag, TakesToken};
 
+use super::html_start_tag::in_body_start_html;
+use super::ignored::ignored_tag;
+use super::in_head_start_tags::in_head_start_tag;
+use super::template::in_head_end_template;
+use h5_closing::remove_from_stack;
+use h5_insertion::{
+    append_comment, append_text, insert_element, insert_phantom, known_head, push_head,
+};
 use h5_interface::TreeSink;
 use h5_names::KnownName;
-use h5_operations::{
-    append_comment, append_text, insert_element, insert_phantom, known_head, push_head,
-    remove_from_stack,
-};
-use h5_rules_shared::{in_body_start_html, is_outer};
-use h5_rules_text::{in_head_end_template, in_head_start_tag, is_head_start};
 use h5_state::{State, Turn, set_frameset_not_ok, set_mode, unexpected_tag};
 use h5_token::{Tag, TagKind};
 use h5_types::{InsertionMode, ProcessResult, SplitStatus, Token};
@@ -68,7 +71,7 @@ fn leave_head<S: TreeSink>(sink: &mut S, state: &mut State<S::Handle>, head: &Op
 
 // A start tag that goes by the rules of the head: the head element is the current node for it, and then it leaves the
 // stack, from wherever it stands.
-#[tactic(auto, unfolding(h5_meaning::specs::AfterHead::with_head))]
+#[tactic(auto, unfolding(h5_rules::specs::modes::AfterHead::with_head))]
 fn with_head<S: TreeSink>(sink: &mut S, state: &mut State<S::Handle>, tag: Tag) -> Turn<S::Handle>
     requires sound { IsSound S.TreeSink sink.old state.old }
     requires fits { FitsAfterHead (world_of S.TreeSink sink.old state.old) }
@@ -96,7 +99,59 @@ fn after_head_else<S: TreeSink>(
     Ok(ProcessResult::Reprocess(InsertionMode::InBody, token))
 }
 
-#[tactic(auto, unfolding(h5_meaning::specs::AfterHead::after_head_tag, h5_meaning::specs::AfterHead::after_head_start, h5_meaning::specs::AfterHead::after_head_end))]
+// Start tags, by their names.
+#[tactic(auto, unfolding(h5_rules::specs::modes::AfterHead::after_head_start, h5_rules::specs::modes::Shared::head_start_names, h5_names::specs::KnownNames::name_text))]
+fn after_head_start_tag<S: TreeSink>(
+    sink: &mut S,
+    state: &mut State<S::Handle>,
+    tag: Tag,
+) -> Turn<S::Handle>
+    requires open { IsOpen S.TreeSink sink.old state.old }
+    requires fits { FitsAfterHead (world_of S.TreeSink sink.old state.old) }
+    ensures { TakesTag S.TreeSink (by_known after_head_start (of_tag after_head_else)) tag sink.old state.old sink.new state.new result }
+{
+    match tag.name.known() {
+        KnownName::Html => in_body_start_html(sink, state, tag),
+        KnownName::Body => after_head_start_body(sink, state, tag),
+        KnownName::Frameset => after_head_start_frameset(sink, state, tag),
+        KnownName::Base
+        | KnownName::Basefont
+        | KnownName::Bgsound
+        | KnownName::Link
+        | KnownName::Meta
+        | KnownName::Noframes
+        | KnownName::Script
+        | KnownName::Style
+        | KnownName::Template
+        | KnownName::Title => with_head(sink, state, tag),
+        KnownName::Head => ignored_tag(sink, state, tag),
+        _ => after_head_else(sink, state, Token::Tag(tag)),
+    }
+}
+
+// End tags, by their names.
+#[tactic(auto, unfolding(h5_rules::specs::modes::AfterHead::after_head_end, h5_rules::specs::ByName::outer_names, h5_names::specs::KnownNames::name_text))]
+fn after_head_end_tag<S: TreeSink>(
+    sink: &mut S,
+    state: &mut State<S::Handle>,
+    tag: Tag,
+) -> Turn<S::Handle>
+    requires { IsOpen S.TreeSink sink.old state.old }
+    ensures { TakesTag S.TreeSink (by_known after_head_end ignored_tag) tag sink.old state.old sink.new state.new result }
+{
+    match tag.name.known() {
+        KnownName::Head => ignored_tag(sink, state, tag),
+        KnownName::Template => in_head_end_template(sink, state, tag),
+        KnownName::Body | KnownName::Html | KnownName::Br => after_head_else(
+            sink,
+            state,
+            Token::Tag(tag),
+        ),
+        _ => ignored_tag(sink, state, tag),
+    }
+}
+
+#[tactic(auto, using(h5_rules::proofs::rows::KnownRuleLaws::after_head_start_known, h5_rules::proofs::rows::KnownRuleLaws::after_head_end_known), unfolding(h5_rules::specs::modes::AfterHead::after_head_tag))]
 fn after_head_tag<S: TreeSink>(
     sink: &mut S,
     state: &mut State<S::Handle>,
@@ -107,35 +162,8 @@ fn after_head_tag<S: TreeSink>(
     ensures { TakesTag S.TreeSink after_head_tag tag sink.old state.old sink.new state.new result }
 {
     match tag.kind {
-        TagKind::StartTag => {
-            if tag.name.is(KnownName::Html) {
-                in_body_start_html(sink, state, tag)
-            } else if tag.name.is(KnownName::Body) {
-                after_head_start_body(sink, state, tag)
-            } else if tag.name.is(KnownName::Frameset) {
-                after_head_start_frameset(sink, state, tag)
-            } else if is_head_start(&tag.name) {
-                with_head(sink, state, tag)
-            } else if tag.name.is(KnownName::Head) {
-                unexpected_tag(sink, state, &tag);
-                Ok(ProcessResult::Done)
-            } else {
-                after_head_else(sink, state, Token::Tag(tag))
-            }
-        }
-        TagKind::EndTag => {
-            if tag.name.is(KnownName::Head) {
-                unexpected_tag(sink, state, &tag);
-                Ok(ProcessResult::Done)
-            } else if tag.name.is(KnownName::Template) {
-                in_head_end_template(sink, state, tag)
-            } else if is_outer(&tag.name) {
-                after_head_else(sink, state, Token::Tag(tag))
-            } else {
-                unexpected_tag(sink, state, &tag);
-                Ok(ProcessResult::Done)
-            }
-        }
+        TagKind::StartTag => after_head_start_tag(sink, state, tag),
+        TagKind::EndTag => after_head_end_tag(sink, state, tag),
     }
 }
 

@@ -1,14 +1,16 @@
 //! The mode "before head" (HTML standard, section 13.2.6.4.3).
+ghost use Rattle.h5_rules.specs.ByName.{by_known, ignored_tag, of_tag};
 ghost use Rattle.h5_types.specs.TurnText.{HasText, turn_text};
-ghost use Rattle.h5_meaning.specs.BeforeHead.{before_head, before_head_else, before_head_start_head, before_head_tag};
+ghost use Rattle.h5_rules.specs.modes.BeforeHead.{before_head, before_head_else, before_head_end, before_head_start, before_head_start_head, before_head_tag};
 ghost use Rattle.h5_state.specs.Steps.{IsOpen, IsSound};
 ghost use Rattle.h5_state.specs.Turn.{TakesTag, TakesToken};
 
+use super::html_start_tag::in_body_start_html;
+use super::ignored::ignored_tag;
+use h5_insertion::{append_comment, insert_head};
 use h5_interface::TreeSink;
 use h5_names::KnownName;
-use h5_operations::{append_comment, insert_head};
-use h5_rules_shared::{in_body_start_html, is_outer};
-use h5_state::{State, Turn, set_mode, unexpected_tag};
+use h5_state::{State, Turn, set_mode};
 use h5_token::{Tag, TagKind};
 use h5_types::{InsertionMode, ProcessResult, SplitStatus, Token};
 
@@ -40,7 +42,44 @@ fn before_head_else<S: TreeSink>(
     Ok(ProcessResult::Reprocess(InsertionMode::InHead, token))
 }
 
-#[tactic(auto, unfolding(h5_meaning::specs::BeforeHead::before_head_tag, h5_meaning::specs::BeforeHead::before_head_start, h5_meaning::specs::BeforeHead::before_head_end))]
+// Start tags, by their names.
+#[tactic(auto, unfolding(h5_rules::specs::modes::BeforeHead::before_head_start, h5_names::specs::KnownNames::name_text))]
+fn before_head_start_tag<S: TreeSink>(
+    sink: &mut S,
+    state: &mut State<S::Handle>,
+    tag: Tag,
+) -> Turn<S::Handle>
+    requires { IsOpen S.TreeSink sink.old state.old }
+    ensures { TakesTag S.TreeSink (by_known before_head_start (of_tag before_head_else)) tag sink.old state.old sink.new state.new result }
+{
+    match tag.name.known() {
+        KnownName::Html => in_body_start_html(sink, state, tag),
+        KnownName::Head => before_head_start_head(sink, state, tag),
+        _ => before_head_else(sink, state, Token::Tag(tag)),
+    }
+}
+
+// End tags, by their names.
+#[tactic(auto, unfolding(h5_rules::specs::modes::BeforeHead::before_head_end, h5_rules::specs::ByName::outer_names, h5_names::specs::KnownNames::name_text))]
+fn before_head_end_tag<S: TreeSink>(
+    sink: &mut S,
+    state: &mut State<S::Handle>,
+    tag: Tag,
+) -> Turn<S::Handle>
+    requires { IsOpen S.TreeSink sink.old state.old }
+    ensures { TakesTag S.TreeSink (by_known before_head_end ignored_tag) tag sink.old state.old sink.new state.new result }
+{
+    match tag.name.known() {
+        KnownName::Head | KnownName::Body | KnownName::Html | KnownName::Br => before_head_else(
+            sink,
+            state,
+            Token::Tag(tag),
+        ),
+        _ => ignored_tag(sink, state, tag),
+    }
+}
+
+#[tactic(auto, using(h5_rules::proofs::rows::KnownRuleLaws::before_head_start_known, h5_rules::proofs::rows::KnownRuleLaws::before_head_end_known), unfolding(h5_rules::specs::modes::BeforeHead::before_head_tag))]
 fn before_head_tag<S: TreeSink>(
     sink: &mut S,
     state: &mut State<S::Handle>,
@@ -50,23 +89,8 @@ fn before_head_tag<S: TreeSink>(
     ensures { TakesTag S.TreeSink before_head_tag tag sink.old state.old sink.new state.new result }
 {
     match tag.kind {
-        TagKind::StartTag => {
-            if tag.name.is(KnownName::Html) {
-                in_body_start_html(sink, state, tag)
-            } else if tag.name.is(KnownName::Head) {
-                before_head_start_head(sink, state, tag)
-            } else {
-                before_head_else(sink, state, Token::Tag(tag))
-            }
-        }
-        TagKind::EndTag => {
-            if is_outer(&tag.name) {
-                before_head_else(sink, state, Token::Tag(tag))
-            } else {
-                unexpected_tag(sink, state, &tag);
-                Ok(ProcessResult::Done)
-            }
-        }
+        TagKind::StartTag => before_head_start_tag(sink, state, tag),
+        TagKind::EndTag => before_head_end_tag(sink, state, tag),
     }
 }
 

@@ -1,14 +1,15 @@
 //! The mode "before html" (HTML standard, section 13.2.6.4.2).
+ghost use Rattle.h5_rules.specs.ByName.{by_known, ignored_tag, of_tag};
 ghost use Rattle.h5_types.specs.TurnText.{HasText, turn_text};
-ghost use Rattle.h5_meaning.specs.BeforeHtml.{before_html, before_html_else, before_html_start_html, before_html_tag};
+ghost use Rattle.h5_rules.specs.modes.BeforeHtml.{before_html, before_html_else, before_html_end, before_html_start, before_html_start_html, before_html_tag};
 ghost use Rattle.h5_state.specs.Steps.{IsSound};
 ghost use Rattle.h5_state.specs.Turn.{TakesTag, TakesToken};
 
+use super::ignored::ignored_tag;
+use h5_insertion::{append_comment_to_doc, create_root};
 use h5_interface::TreeSink;
 use h5_names::KnownName;
-use h5_operations::{append_comment_to_doc, create_root};
-use h5_rules_shared::is_outer;
-use h5_state::{State, Turn, set_mode, unexpected_tag};
+use h5_state::{State, Turn, set_mode};
 use h5_token::{Tag, TagKind};
 use h5_types::{InsertionMode, ProcessResult, SplitStatus, Token};
 
@@ -40,7 +41,43 @@ fn before_html_start_html<S: TreeSink>(
     Ok(ProcessResult::Done)
 }
 
-#[tactic(auto, unfolding(h5_meaning::specs::BeforeHtml::before_html_tag, h5_meaning::specs::BeforeHtml::before_html_start, h5_meaning::specs::BeforeHtml::before_html_end))]
+// Start tags, by their names.
+#[tactic(auto, unfolding(h5_rules::specs::modes::BeforeHtml::before_html_start, h5_names::specs::KnownNames::name_text))]
+fn before_html_start_tag<S: TreeSink>(
+    sink: &mut S,
+    state: &mut State<S::Handle>,
+    tag: Tag,
+) -> Turn<S::Handle>
+    requires { IsSound S.TreeSink sink.old state.old }
+    ensures { TakesTag S.TreeSink (by_known before_html_start (of_tag before_html_else)) tag sink.old state.old sink.new state.new result }
+{
+    match tag.name.known() {
+        KnownName::Html => before_html_start_html(sink, state, tag),
+        _ => before_html_else(sink, state, Token::Tag(tag)),
+    }
+}
+
+// End tags, by their names.
+#[tactic(auto, unfolding(h5_rules::specs::modes::BeforeHtml::before_html_end, h5_rules::specs::ByName::outer_names, h5_names::specs::KnownNames::name_text))]
+fn before_html_end_tag<S: TreeSink>(
+    sink: &mut S,
+    state: &mut State<S::Handle>,
+    tag: Tag,
+) -> Turn<S::Handle>
+    requires { IsSound S.TreeSink sink.old state.old }
+    ensures { TakesTag S.TreeSink (by_known before_html_end ignored_tag) tag sink.old state.old sink.new state.new result }
+{
+    match tag.name.known() {
+        KnownName::Head | KnownName::Body | KnownName::Html | KnownName::Br => before_html_else(
+            sink,
+            state,
+            Token::Tag(tag),
+        ),
+        _ => ignored_tag(sink, state, tag),
+    }
+}
+
+#[tactic(auto, using(h5_rules::proofs::rows::KnownRuleLaws::before_html_start_known, h5_rules::proofs::rows::KnownRuleLaws::before_html_end_known), unfolding(h5_rules::specs::modes::BeforeHtml::before_html_tag))]
 fn before_html_tag<S: TreeSink>(
     sink: &mut S,
     state: &mut State<S::Handle>,
@@ -50,21 +87,8 @@ fn before_html_tag<S: TreeSink>(
     ensures { TakesTag S.TreeSink before_html_tag tag sink.old state.old sink.new state.new result }
 {
     match tag.kind {
-        TagKind::StartTag => {
-            if tag.name.is(KnownName::Html) {
-                before_html_start_html(sink, state, tag)
-            } else {
-                before_html_else(sink, state, Token::Tag(tag))
-            }
-        }
-        TagKind::EndTag => {
-            if is_outer(&tag.name) {
-                before_html_else(sink, state, Token::Tag(tag))
-            } else {
-                unexpected_tag(sink, state, &tag);
-                Ok(ProcessResult::Done)
-            }
-        }
+        TagKind::StartTag => before_html_start_tag(sink, state, tag),
+        TagKind::EndTag => before_html_end_tag(sink, state, tag),
     }
 }
 

@@ -1,15 +1,17 @@
 //! The mode "in head" (HTML standard, section 13.2.6.4.4).
+ghost use Rattle.h5_rules.specs.ByName.{by_known, ignored_tag};
 ghost use Rattle.h5_types.specs.TurnText.{HasText, turn_text};
-ghost use Rattle.h5_meaning.specs.InHead.{in_head, in_head_end_head, in_head_tag};
+ghost use Rattle.h5_rules.specs.modes.InHead.{in_head, in_head_end, in_head_end_head, in_head_tag};
 ghost use Rattle.h5_state.specs.Steps.{IsOpen};
 ghost use Rattle.h5_state.specs.Turn.{TakesTag, TakesToken};
 
+use super::ignored::ignored_tag;
+use super::in_head_start_tags::{in_head_else, in_head_start_tag};
+use super::template::in_head_end_template;
+use h5_insertion::{append_comment, append_text};
 use h5_interface::TreeSink;
 use h5_names::KnownName;
-use h5_operations::{append_comment, append_text};
-use h5_rules_shared::is_outer;
-use h5_rules_text::{in_head_else, in_head_end_template, in_head_start_tag};
-use h5_state::{State, Turn, pop, set_mode, unexpected_tag};
+use h5_state::{State, Turn, pop, set_mode};
 use h5_token::{Tag, TagKind};
 use h5_types::{InsertionMode, ProcessResult, SplitStatus, Token};
 
@@ -28,25 +30,36 @@ fn in_head_end_head<S: TreeSink>(
     Ok(ProcessResult::Done)
 }
 
-#[tactic(auto, unfolding(h5_meaning::specs::InHead::in_head_tag, h5_meaning::specs::InHead::in_head_end))]
+// End tags, by their names.
+#[tactic(auto, unfolding(h5_rules::specs::modes::InHead::in_head_end, h5_rules::specs::ByName::outer_names, h5_names::specs::KnownNames::name_text))]
+fn in_head_end_tag<S: TreeSink>(
+    sink: &mut S,
+    state: &mut State<S::Handle>,
+    tag: Tag,
+) -> Turn<S::Handle>
+    requires { IsOpen S.TreeSink sink.old state.old }
+    ensures { TakesTag S.TreeSink (by_known in_head_end ignored_tag) tag sink.old state.old sink.new state.new result }
+{
+    match tag.name.known() {
+        KnownName::Head => in_head_end_head(sink, state, tag),
+        KnownName::Body | KnownName::Html | KnownName::Br => in_head_else(
+            sink,
+            state,
+            Token::Tag(tag),
+        ),
+        KnownName::Template => in_head_end_template(sink, state, tag),
+        _ => ignored_tag(sink, state, tag),
+    }
+}
+
+#[tactic(auto, using(h5_rules::proofs::rows::KnownRuleLaws::in_head_end_known), unfolding(h5_rules::specs::modes::InHead::in_head_tag))]
 fn in_head_tag<S: TreeSink>(sink: &mut S, state: &mut State<S::Handle>, tag: Tag) -> Turn<S::Handle>
     requires { IsOpen S.TreeSink sink.old state.old }
     ensures { TakesTag S.TreeSink in_head_tag tag sink.old state.old sink.new state.new result }
 {
     match tag.kind {
         TagKind::StartTag => in_head_start_tag(sink, state, tag),
-        TagKind::EndTag => {
-            if tag.name.is(KnownName::Head) {
-                in_head_end_head(sink, state, tag)
-            } else if is_outer(&tag.name) {
-                in_head_else(sink, state, Token::Tag(tag))
-            } else if tag.name.is(KnownName::Template) {
-                in_head_end_template(sink, state, tag)
-            } else {
-                unexpected_tag(sink, state, &tag);
-                Ok(ProcessResult::Done)
-            }
-        }
+        TagKind::EndTag => in_head_end_tag(sink, state, tag),
     }
 }
 

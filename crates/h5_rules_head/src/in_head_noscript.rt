@@ -1,17 +1,17 @@
 //! The mode "in head noscript" (HTML standard, section 13.2.6.4.5).
+ghost use Rattle.h5_rules.specs.ByName.{by_known, ignored_tag, of_tag};
 ghost use Rattle.h5_types.specs.TurnText.{HasText, turn_text};
-ghost use Rattle.h5_tag_sets.specs.TagSets.{is_one_of};
-ghost use Rattle.h5_meaning.specs.InHeadNoscript.{in_head_noscript, in_head_noscript_else, in_head_noscript_end_noscript, in_head_noscript_ignored, in_head_noscript_tag};
+ghost use Rattle.h5_rules.specs.modes.InHeadNoscript.{in_head_noscript, in_head_noscript_else, in_head_noscript_end, in_head_noscript_end_noscript, in_head_noscript_start, in_head_noscript_tag};
 ghost use Rattle.h5_state.specs.Steps.{IsOpen};
 ghost use Rattle.h5_state.specs.Turn.{TakesTag, TakesToken};
-ghost use Rattle.std.specs.Prelude.{◌≡◌};
 
+use super::html_start_tag::in_body_start_html;
+use super::ignored::ignored_tag;
 use super::in_head::step_in_head;
+use super::in_head_start_tags::in_head_start_tag;
 use h5_interface::TreeSink;
-use h5_names::{KnownName, LocalName};
-use h5_rules_shared::{in_body_start_html, is_any_of};
-use h5_rules_text::{in_head_start_tag, is_noscript_content};
-use h5_state::{State, Turn, pop, set_mode, unexpected, unexpected_tag};
+use h5_names::KnownName;
+use h5_state::{State, Turn, pop, set_mode, unexpected};
 use h5_token::{Tag, TagKind};
 use h5_types::{InsertionMode, ProcessResult, SplitStatus, Token};
 
@@ -44,15 +44,47 @@ fn in_head_noscript_else<S: TreeSink>(
     Ok(ProcessResult::Reprocess(InsertionMode::InHead, token))
 }
 
-// Whether a start tag of this name is ignored.
-#[tactic(auto, unfolding(h5_meaning::specs::InHeadNoscript::in_head_noscript_ignored))]
-fn is_ignored_start(name: &LocalName) -> bool
-    ensures { result ≡ is_one_of in_head_noscript_ignored name.now }
+// Start tags, by their names.
+#[tactic(auto, unfolding(h5_rules::specs::modes::InHeadNoscript::in_head_noscript_start, h5_rules::specs::modes::InHeadNoscript::noscript_content_names, h5_rules::specs::modes::InHeadNoscript::in_head_noscript_ignored, h5_names::specs::KnownNames::name_text))]
+fn in_head_noscript_start_tag<S: TreeSink>(
+    sink: &mut S,
+    state: &mut State<S::Handle>,
+    tag: Tag,
+) -> Turn<S::Handle>
+    requires { IsOpen S.TreeSink sink.old state.old }
+    ensures { TakesTag S.TreeSink (by_known in_head_noscript_start (of_tag in_head_noscript_else)) tag sink.old state.old sink.new state.new result }
 {
-    is_any_of(name, &[KnownName::Head, KnownName::Noscript])
+    match tag.name.known() {
+        KnownName::Html => in_body_start_html(sink, state, tag),
+        KnownName::Basefont
+        | KnownName::Bgsound
+        | KnownName::Link
+        | KnownName::Meta
+        | KnownName::Noframes
+        | KnownName::Style => in_head_start_tag(sink, state, tag),
+        KnownName::Head | KnownName::Noscript => ignored_tag(sink, state, tag),
+        _ => in_head_noscript_else(sink, state, Token::Tag(tag)),
+    }
 }
 
-#[tactic(auto, unfolding(h5_meaning::specs::InHeadNoscript::in_head_noscript_tag, h5_meaning::specs::InHeadNoscript::in_head_noscript_start, h5_meaning::specs::InHeadNoscript::in_head_noscript_end))]
+// End tags, by their names.
+#[tactic(auto, unfolding(h5_rules::specs::modes::InHeadNoscript::in_head_noscript_end, h5_names::specs::KnownNames::name_text))]
+fn in_head_noscript_end_tag<S: TreeSink>(
+    sink: &mut S,
+    state: &mut State<S::Handle>,
+    tag: Tag,
+) -> Turn<S::Handle>
+    requires { IsOpen S.TreeSink sink.old state.old }
+    ensures { TakesTag S.TreeSink (by_known in_head_noscript_end ignored_tag) tag sink.old state.old sink.new state.new result }
+{
+    match tag.name.known() {
+        KnownName::Noscript => in_head_noscript_end_noscript(sink, state, tag),
+        KnownName::Br => in_head_noscript_else(sink, state, Token::Tag(tag)),
+        _ => ignored_tag(sink, state, tag),
+    }
+}
+
+#[tactic(auto, using(h5_rules::proofs::rows::KnownRuleLaws::in_head_noscript_start_known, h5_rules::proofs::rows::KnownRuleLaws::in_head_noscript_end_known), unfolding(h5_rules::specs::modes::InHeadNoscript::in_head_noscript_tag))]
 fn in_head_noscript_tag<S: TreeSink>(
     sink: &mut S,
     state: &mut State<S::Handle>,
@@ -62,28 +94,8 @@ fn in_head_noscript_tag<S: TreeSink>(
     ensures { TakesTag S.TreeSink in_head_noscript_tag tag sink.old state.old sink.new state.new result }
 {
     match tag.kind {
-        TagKind::StartTag => {
-            if tag.name.is(KnownName::Html) {
-                in_body_start_html(sink, state, tag)
-            } else if is_noscript_content(&tag.name) {
-                in_head_start_tag(sink, state, tag)
-            } else if is_ignored_start(&tag.name) {
-                unexpected_tag(sink, state, &tag);
-                Ok(ProcessResult::Done)
-            } else {
-                in_head_noscript_else(sink, state, Token::Tag(tag))
-            }
-        }
-        TagKind::EndTag => {
-            if tag.name.is(KnownName::Noscript) {
-                in_head_noscript_end_noscript(sink, state, tag)
-            } else if tag.name.is(KnownName::Br) {
-                in_head_noscript_else(sink, state, Token::Tag(tag))
-            } else {
-                unexpected_tag(sink, state, &tag);
-                Ok(ProcessResult::Done)
-            }
-        }
+        TagKind::StartTag => in_head_noscript_start_tag(sink, state, tag),
+        TagKind::EndTag => in_head_noscript_end_tag(sink, state, tag),
     }
 }
 

@@ -3,11 +3,11 @@ use Rattle.std.proofs.Common.{◌≡◌, ℕ, Bool, true, false, List, [], ◌�
 use Rattle.h5_names.specs.declared.qualified.QualName.{QualName}
 use Rattle.h5_interface.specs.SinkChoices.{SinkChoices}
 use Rattle.h5_tag_sets.specs.TagSets.{cell_names, implied_names, is_cell, is_html_named, is_implied, is_one_of}
-use Rattle.h5_meaning.specs.Scope.{first_passes}
-use Rattle.h5_meaning.specs.Closing.{generate_implied_end}
-use Rattle.h5_meaning.specs.World.{World, names_of}
-use Rattle.h5_meaning.proofs.ClosingLaws.{named_not_implied, sets_apart}
-use Rattle.h5_meaning.proofs.PopLaws.{all_implied_none}
+use Rattle.h5_rules.specs.stack.Scope.{first_passes}
+use Rattle.h5_rules.specs.stack.Closing.{generate_implied_end}
+use Rattle.h5_rules.specs.World.{World, names_of}
+use Rattle.h5_rules.proofs.changes.ClosingLaws.{named_not_implied, sets_apart}
+use Rattle.h5_rules.proofs.changes.PopLaws.{all_implied_none}
 
 -- none of these elements is an implied end
 abbrev pub IsApart : (QualName → Bool) → Type 0

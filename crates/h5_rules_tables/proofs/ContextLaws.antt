@@ -2,14 +2,14 @@
 use Rattle.std.proofs.Common.{◌≡◌, ◌<◌, Bool, true, false, List, [], ◌∷◌, length, codes, refl, sym, subst, cond, arith}
 use Rattle.h5_names.specs.declared.qualified.QualName.{QualName}
 use Rattle.h5_tag_sets.specs.TagSets.{is_html_named, is_table_body_context, is_table_row_context, table_body_context_names, table_row_context_names}
-use Rattle.h5_meaning.specs.Scope.{down_names}
-use Rattle.h5_meaning.specs.Root.{IsRootOpen}
-use Rattle.h5_meaning.proofs.SetLaws.{in_set}
-use Rattle.h5_meaning.specs.Changes.{pop_until_current}
-use Rattle.h5_meaning.specs.Sound.{IsReady}
-use Rattle.h5_meaning.specs.World.{World, names_of}
-use Rattle.h5_meaning.proofs.NameLaws.{names-until_current}
-use Rattle.h5_meaning.proofs.PopLaws.{names_length}
+use Rattle.h5_rules.specs.stack.Scope.{down_names}
+use Rattle.h5_rules.specs.stack.Root.{IsRootOpen}
+use Rattle.h5_rules.proofs.roles.SetLaws.{in_set}
+use Rattle.h5_rules.specs.Changes.{pop_until_current}
+use Rattle.h5_rules.specs.Sound.{HasHtmlRoot}
+use Rattle.h5_rules.specs.World.{World, names_of}
+use Rattle.h5_rules.proofs.changes.NameLaws.{names-until_current}
+use Rattle.h5_rules.proofs.changes.PopLaws.{names_length}
 
 abbrev HasRoot : (QualName → Bool) → Type 0
 HasRoot is = (n : QualName) → is_html_named (codes "html") n ≡ true → is n ≡ true
@@ -23,15 +23,15 @@ some_left is h (n ∷ m ∷ ns) k = at (is n) (some_left is h (m ∷ ns) k)
     at true l = omega arith
     at false l = l
 
-cleared_open : (is : QualName → Bool) → HasRoot is → (w : World) → IsReady w → 0 < length (pop_until_current is w).stack
+cleared_open : (is : QualName → Bool) → HasRoot is → (w : World) → HasHtmlRoot w → 0 < length (pop_until_current is w).stack
 cleared_open is h w k =
     subst (λ n. 0 < n) (sym (names_length (pop_until_current is w)))
     (subst (λ ns. 0 < length ns) (sym (names-until_current is w)) (some_left is h (names_of w) k.root))
 
-pub open_in_table_body : (w : World) → IsReady w → 0 < length (pop_until_current is_table_body_context w).stack
+pub open_in_table_body : (w : World) → HasHtmlRoot w → 0 < length (pop_until_current is_table_body_context w).stack
 unfolding is_table_body_context table_body_context_names
 open_in_table_body w k = cleared_open is_table_body_context (λ n h. in_set table_body_context_names (codes "html") n refl h) w k
 
-pub open_in_row : (w : World) → IsReady w → 0 < length (pop_until_current is_table_row_context w).stack
+pub open_in_row : (w : World) → HasHtmlRoot w → 0 < length (pop_until_current is_table_row_context w).stack
 unfolding is_table_row_context table_row_context_names
 open_in_row w k = cleared_open is_table_row_context (λ n h. in_set table_row_context_names (codes "html") n refl h) w k

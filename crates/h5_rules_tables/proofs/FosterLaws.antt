@@ -5,16 +5,16 @@ use Rattle.std.specs.declared.alloc.AllocError.{AllocError}
 use Rattle.h5_interface.specs.SinkChoices.{SinkChoices}
 use Rattle.h5_types.specs.TurnText.{TurnText}
 use Rattle.h5_types.specs.declared.turns.ProcessResult.{ProcessResult}
-use Rattle.h5_meaning.specs.Changes.{set_foster}
-use Rattle.h5_meaning.specs.InBody.{in_body}
-use Rattle.h5_meaning.specs.Rows.{Follows}
-use Rattle.h5_meaning.specs.Sound.{IsReady}
-use Rattle.h5_meaning.specs.Tables.{foster}
-use Rattle.h5_meaning.specs.World.{World, names_of}
-use Rattle.h5_meaning.proofs.FosterLaws.{foster_follows}
+use Rattle.h5_rules.specs.Changes.{set_foster}
+use Rattle.h5_rules.specs.modes.InBody.{in_body}
+use Rattle.h5_rules.specs.Rows.{Follows}
+use Rattle.h5_rules.specs.Sound.{HasHtmlRoot}
+use Rattle.h5_rules.specs.modes.Tables.{foster}
+use Rattle.h5_rules.specs.World.{World, names_of}
+use Rattle.h5_rules.proofs.modes.FosterLaws.{foster_follows}
 
 -- the flag is no part of what the body needs
-pub ready_foster : (w : World) → IsReady w → IsReady (set_foster true w)
+pub ready_foster : (w : World) → HasHtmlRoot w → HasHtmlRoot (set_foster true w)
 unfolding names_of
 ready_foster w k = record { sound = k.sound; lists = k.lists; root = k.root }
 

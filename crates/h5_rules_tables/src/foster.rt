@@ -1,8 +1,8 @@
 //! Foster parenting (HTML standard, section 13.2.6.1).
 ghost use Rattle.h5_types.specs.TurnText.{HasText, turn_text};
-ghost use Rattle.h5_meaning.specs.InBody.{in_body};
-ghost use Rattle.h5_meaning.specs.Sound.{IsReady};
-ghost use Rattle.h5_meaning.specs.Tables.{foster};
+ghost use Rattle.h5_rules.specs.modes.InBody.{in_body};
+ghost use Rattle.h5_rules.specs.Sound.{HasHtmlRoot};
+ghost use Rattle.h5_rules.specs.modes.Tables.{foster};
 ghost use Rattle.h5_state.specs.Steps.{IsSound, world_of};
 ghost use Rattle.h5_state.specs.Turn.{TakesToken};
 
@@ -18,7 +18,7 @@ pub(crate) fn foster_parent_in_body<S: TreeSink>(
     token: Token,
 ) -> Turn<S::Handle>
     requires sound { IsSound S.TreeSink sink.old state.old }
-    requires ready { IsReady (world_of S.TreeSink sink.old state.old) }
+    requires ready { HasHtmlRoot (world_of S.TreeSink sink.old state.old) }
     requires text { HasText (turn_text token) }
     ensures { TakesToken S.TreeSink (foster in_body) token sink.old state.old sink.new state.new result }
 {

@@ -1,25 +1,24 @@
 //! The mode "in caption" (HTML standard, section 13.2.6.4.11).
 ghost use Rattle.std.specs.Prelude.{◌≡◌, [], ◌∷◌, true, codes, length};
 ghost use Rattle.h5_types.specs.TurnText.{HasText, turn_text};
-ghost use Rattle.h5_tag_sets.specs.TagSets.{is_html_named, is_one_of};
-ghost use Rattle.h5_meaning.specs.Scope.{cut_through};
-ghost use Rattle.h5_meaning.specs.ByName.{by_name, of_tag};
-ghost use Rattle.h5_meaning.specs.InBody.{in_body};
-ghost use Rattle.h5_meaning.specs.Shared.{current_is};
-ghost use Rattle.h5_meaning.specs.InCaption.{in_caption, in_caption_close, in_caption_end, in_caption_end_caption, in_caption_ignored_ends, in_caption_start, in_caption_tag};
-ghost use Rattle.h5_meaning.specs.Rows.{ClearActiveFormattingToMarker, GenerateImpliedEnd, PopUntilNamed, apply_all};
-ghost use Rattle.h5_meaning.specs.Sound.{IsReady};
-ghost use Rattle.h5_meaning.specs.World.{names_of};
+ghost use Rattle.h5_tag_sets.specs.TagSets.{is_html_named};
+ghost use Rattle.h5_rules.specs.stack.Scope.{cut_through};
+ghost use Rattle.h5_rules.specs.ByName.{by_known, of_tag};
+ghost use Rattle.h5_rules.specs.modes.InBody.{in_body};
+ghost use Rattle.h5_rules.specs.modes.Shared.{current_is};
+ghost use Rattle.h5_rules.specs.modes.InCaption.{in_caption, in_caption_close, in_caption_end, in_caption_end_caption, in_caption_start, in_caption_tag};
+ghost use Rattle.h5_rules.specs.Rows.{ClearActiveFormattingToMarker, GenerateImpliedEnd, PopUntilNamed, apply_all};
+ghost use Rattle.h5_rules.specs.Sound.{HasHtmlRoot};
+ghost use Rattle.h5_rules.specs.World.{names_of};
 ghost use Rattle.h5_state.specs.Steps.{IsSound, errors_of, world_of};
 ghost use Rattle.h5_state.specs.Turn.{TakesTag, TakesToken};
 
+use h5_closing::{expect_to_close, find_in_table_scope, generate_implied_end};
+use h5_formatting::clear_active_formatting_to_marker;
 use h5_interface::TreeSink;
 use h5_names::{KnownName, LocalName};
-use h5_operations::{find_in_table_scope, generate_implied_end};
 use h5_rules_body::{in_body_tag, step_in_body};
-use h5_rules_shared::{
-    clear_active_formatting_to_marker, expect_to_close, is_any_of, is_table_structure,
-};
+use h5_rules_head::ignored_tag;
 use h5_state::{Known, State, Turn, is_current_html, pop_until_named, set_mode, unexpected_tag};
 use h5_token::{Tag, TagKind};
 use h5_types::{InsertionMode, ProcessResult, Token};
@@ -41,7 +40,7 @@ fn close_the_caption<S: TreeSink>(sink: &mut S, state: &mut State<S::Handle>, pl
 }
 
 // An end tag `caption`.
-#[tactic(auto, unfolding(h5_meaning::specs::InCaption::close_the_caption))]
+#[tactic(auto, unfolding(h5_rules::specs::modes::InCaption::close_the_caption))]
 fn in_caption_end_caption<S: TreeSink>(
     sink: &mut S,
     state: &mut State<S::Handle>,
@@ -64,7 +63,7 @@ fn in_caption_end_caption<S: TreeSink>(
 }
 
 // What closes the caption goes by the table then.
-#[tactic(auto, unfolding(h5_meaning::specs::InCaption::close_the_caption))]
+#[tactic(auto, unfolding(h5_rules::specs::modes::InCaption::close_the_caption))]
 fn in_caption_close<S: TreeSink>(
     sink: &mut S,
     state: &mut State<S::Handle>,
@@ -85,64 +84,71 @@ fn in_caption_close<S: TreeSink>(
     }
 }
 
-// Whether an end tag of this name is ignored.
-#[tactic(auto, unfolding(h5_meaning::specs::InCaption::in_caption_ignored_ends))]
-fn is_ignored_end(name: &LocalName) -> bool
-    ensures { result ≡ is_one_of in_caption_ignored_ends name.now }
-{
-    is_any_of(
-        name,
-        &[
-            KnownName::Body,
-            KnownName::Col,
-            KnownName::Colgroup,
-            KnownName::Html,
-            KnownName::Tbody,
-            KnownName::Td,
-            KnownName::Tfoot,
-            KnownName::Th,
-            KnownName::Thead,
-            KnownName::Tr,
-        ],
-    )
-}
-
 // End tags, by their names.
-#[tactic(auto, unfolding(h5_meaning::specs::InCaption::in_caption_end))]
+#[tactic(auto, unfolding(h5_rules::specs::modes::InCaption::in_caption_end, h5_rules::specs::modes::InCaption::in_caption_ignored_ends, h5_names::specs::KnownNames::name_text))]
 fn in_caption_end_tag<S: TreeSink>(
     sink: &mut S,
     state: &mut State<S::Handle>,
     tag: Tag,
 ) -> Turn<S::Handle>
     requires sound { IsSound S.TreeSink sink.old state.old }
-    requires ready { IsReady (world_of S.TreeSink sink.old state.old) }
-    ensures { TakesTag S.TreeSink (by_name in_caption_end (of_tag in_body)) tag sink.old state.old sink.new state.new result }
+    requires ready { HasHtmlRoot (world_of S.TreeSink sink.old state.old) }
+    ensures { TakesTag S.TreeSink (by_known in_caption_end (of_tag in_body)) tag sink.old state.old sink.new state.new result }
 {
-    if tag.name.is(KnownName::Caption) {
-        in_caption_end_caption(sink, state, tag)
-    } else if tag.name.is(KnownName::Table) {
-        in_caption_close(sink, state, tag)
-    } else if is_ignored_end(&tag.name) {
-        unexpected_tag(sink, state, &tag);
-        Ok(ProcessResult::Done)
-    } else {
-        in_body_tag(sink, state, tag)
+    match tag.name.known() {
+        KnownName::Caption => in_caption_end_caption(sink, state, tag),
+        KnownName::Table => in_caption_close(sink, state, tag),
+        KnownName::Body
+        | KnownName::Col
+        | KnownName::Colgroup
+        | KnownName::Html
+        | KnownName::Tbody
+        | KnownName::Td
+        | KnownName::Tfoot
+        | KnownName::Th
+        | KnownName::Thead
+        | KnownName::Tr => ignored_tag(sink, state, tag),
+        _ => in_body_tag(sink, state, tag),
     }
 }
 
-#[tactic(auto, unfolding(h5_meaning::specs::InCaption::in_caption_tag, h5_meaning::specs::InCaption::in_caption_start))]
+// Start tags, by their names.
+#[tactic(auto, unfolding(h5_rules::specs::modes::InCaption::in_caption_start, h5_rules::specs::modes::Shared::table_structure_names, h5_names::specs::KnownNames::name_text))]
+fn in_caption_start_tag<S: TreeSink>(
+    sink: &mut S,
+    state: &mut State<S::Handle>,
+    tag: Tag,
+) -> Turn<S::Handle>
+    requires sound { IsSound S.TreeSink sink.old state.old }
+    requires ready { HasHtmlRoot (world_of S.TreeSink sink.old state.old) }
+    ensures { TakesTag S.TreeSink (by_known in_caption_start (of_tag in_body)) tag sink.old state.old sink.new state.new result }
+{
+    match tag.name.known() {
+        KnownName::Caption
+        | KnownName::Col
+        | KnownName::Colgroup
+        | KnownName::Tbody
+        | KnownName::Td
+        | KnownName::Tfoot
+        | KnownName::Th
+        | KnownName::Thead
+        | KnownName::Tr => in_caption_close(sink, state, tag),
+        _ => in_body_tag(sink, state, tag),
+    }
+}
+
+#[tactic(auto, using(h5_rules::proofs::rows::KnownRuleLaws::in_caption_start_known, h5_rules::proofs::rows::KnownRuleLaws::in_caption_end_known), unfolding(h5_rules::specs::modes::InCaption::in_caption_tag))]
 fn in_caption_tag<S: TreeSink>(
     sink: &mut S,
     state: &mut State<S::Handle>,
     tag: Tag,
 ) -> Turn<S::Handle>
     requires sound { IsSound S.TreeSink sink.old state.old }
-    requires ready { IsReady (world_of S.TreeSink sink.old state.old) }
+    requires ready { HasHtmlRoot (world_of S.TreeSink sink.old state.old) }
     ensures { TakesTag S.TreeSink in_caption_tag tag sink.old state.old sink.new state.new result }
 {
     match tag.kind {
-        TagKind::StartTag if is_table_structure(&tag.name) => in_caption_close(sink, state, tag),
-        TagKind::StartTag => in_body_tag(sink, state, tag),
+        TagKind::StartTag => in_caption_start_tag(sink, state, tag),
         TagKind::EndTag => in_caption_end_tag(sink, state, tag),
     }
 }
@@ -154,7 +160,7 @@ pub fn step_in_caption<S: TreeSink>(
     token: Token,
 ) -> Turn<S::Handle>
     requires sound { IsSound S.TreeSink sink.old state.old }
-    requires ready { IsReady (world_of S.TreeSink sink.old state.old) }
+    requires ready { HasHtmlRoot (world_of S.TreeSink sink.old state.old) }
     requires text { HasText (turn_text token) }
     ensures { TakesToken S.TreeSink in_caption token sink.old state.old sink.new state.new result }
 {

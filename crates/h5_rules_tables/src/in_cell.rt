@@ -2,30 +2,30 @@
 ghost use Rattle.std.specs.Prelude.{◌≡◌, true};
 ghost use Rattle.h5_types.specs.TurnText.{HasText, turn_text};
 ghost use Rattle.h5_tag_sets.specs.TagSets.{cell_names, is_one_of};
-ghost use Rattle.h5_meaning.specs.ByName.{by_name, of_tag};
-ghost use Rattle.h5_meaning.specs.InBody.{in_body};
-ghost use Rattle.h5_meaning.specs.InCell.{close_the_cell, in_cell, in_cell_closing_ends, in_cell_end, in_cell_end_cell, in_cell_end_structure, in_cell_ignored_ends, in_cell_start, in_cell_start_structure, in_cell_tag};
-ghost use Rattle.h5_meaning.specs.Sound.{IsReady};
+ghost use Rattle.h5_rules.specs.ByName.{by_known, of_tag};
+ghost use Rattle.h5_rules.specs.modes.InBody.{in_body};
+ghost use Rattle.h5_rules.specs.modes.InCell.{close_the_cell, in_cell, in_cell_end, in_cell_end_cell, in_cell_end_structure, in_cell_start, in_cell_start_structure, in_cell_tag};
+ghost use Rattle.h5_rules.specs.Sound.{HasHtmlRoot};
 ghost use Rattle.h5_state.specs.Steps.{IsSound, world_of};
 ghost use Rattle.h5_state.specs.Turn.{TakesTag, TakesToken};
 
 use super::parts::has_in_table_scope;
+use h5_closing::{
+    expect_to_close, find_cell, find_in_table_scope, generate_implied_end, is_current_cell,
+    pop_until_cell,
+};
+use h5_formatting::clear_active_formatting_to_marker;
 use h5_interface::TreeSink;
-use h5_names::{KnownName, LocalName};
-use h5_operations::{
-    find_cell, find_in_table_scope, generate_implied_end, is_current_cell, pop_until_cell,
-};
+use h5_names::KnownName;
 use h5_rules_body::{in_body_tag, step_in_body};
-use h5_rules_shared::{
-    clear_active_formatting_to_marker, expect_to_close, is_any_of, is_table_structure,
-};
+use h5_rules_head::ignored_tag;
 use h5_state::{Local, State, Turn, is_current_html, pop_until_named, set_mode, unexpected_tag};
-use h5_tag_sets::{ElementSet, NameSet};
+use h5_tag_sets::ElementSet;
 use h5_token::{Tag, TagKind};
 use h5_types::{InsertionMode, ProcessResult, Token};
 
 // An end tag `td` or `th`.
-#[tactic(auto, unfolding(h5_meaning::specs::InCell::in_cell_end_cell))]
+#[tactic(auto, unfolding(h5_rules::specs::modes::InCell::in_cell_end_cell))]
 fn in_cell_end_cell<S: TreeSink>(
     sink: &mut S,
     state: &mut State<S::Handle>,
@@ -72,7 +72,7 @@ fn close_the_cell<S: TreeSink>(
 }
 
 // A start tag `caption`, `col`, .., `tr`: it closes the cell.
-#[tactic(auto, unfolding(h5_meaning::specs::InCell::in_cell_start_structure))]
+#[tactic(auto, unfolding(h5_rules::specs::modes::InCell::in_cell_start_structure))]
 fn in_cell_start_structure<S: TreeSink>(
     sink: &mut S,
     state: &mut State<S::Handle>,
@@ -90,7 +90,7 @@ fn in_cell_start_structure<S: TreeSink>(
 }
 
 // An end tag `table`, `tbody`, `tfoot`, `thead` or `tr`: it closes the cell where table scope has what it names.
-#[tactic(auto, unfolding(h5_meaning::specs::InCell::in_cell_end_structure))]
+#[tactic(auto, unfolding(h5_rules::specs::modes::InCell::in_cell_end_structure))]
 fn in_cell_end_structure<S: TreeSink>(
     sink: &mut S,
     state: &mut State<S::Handle>,
@@ -107,79 +107,68 @@ fn in_cell_end_structure<S: TreeSink>(
     }
 }
 
-// Whether an end tag of this name closes the cell.
-#[tactic(auto, unfolding(h5_meaning::specs::InCell::in_cell_closing_ends))]
-fn is_closing_end(name: &LocalName) -> bool
-    ensures { result ≡ is_one_of in_cell_closing_ends name.now }
-{
-    is_any_of(
-        name,
-        &[
-            KnownName::Table,
-            KnownName::Tbody,
-            KnownName::Tfoot,
-            KnownName::Thead,
-            KnownName::Tr,
-        ],
-    )
-}
-
-// Whether an end tag of this name is ignored.
-#[tactic(auto, unfolding(h5_meaning::specs::InCell::in_cell_ignored_ends))]
-fn is_ignored_end(name: &LocalName) -> bool
-    ensures { result ≡ is_one_of in_cell_ignored_ends name.now }
-{
-    is_any_of(
-        name,
-        &[
-            KnownName::Body,
-            KnownName::Caption,
-            KnownName::Col,
-            KnownName::Colgroup,
-            KnownName::Html,
-        ],
-    )
-}
-
 // End tags, by their names.
-#[tactic(auto, unfolding(h5_meaning::specs::InCell::in_cell_end))]
+#[tactic(auto, unfolding(h5_rules::specs::modes::InCell::in_cell_end, h5_tag_sets::specs::TagSets::cell_names, h5_rules::specs::modes::InCell::in_cell_closing_ends, h5_rules::specs::modes::InCell::in_cell_ignored_ends, h5_names::specs::KnownNames::name_text))]
 fn in_cell_end_tag<S: TreeSink>(
     sink: &mut S,
     state: &mut State<S::Handle>,
     tag: Tag,
 ) -> Turn<S::Handle>
     requires sound { IsSound S.TreeSink sink.old state.old }
-    requires ready { IsReady (world_of S.TreeSink sink.old state.old) }
-    ensures { TakesTag S.TreeSink (by_name in_cell_end (of_tag in_body)) tag sink.old state.old sink.new state.new result }
+    requires ready { HasHtmlRoot (world_of S.TreeSink sink.old state.old) }
+    ensures { TakesTag S.TreeSink (by_known in_cell_end (of_tag in_body)) tag sink.old state.old sink.new state.new result }
 {
-    if NameSet::TdTh.holds(&tag.name) {
-        in_cell_end_cell(sink, state, tag)
-    } else if is_closing_end(&tag.name) {
-        in_cell_end_structure(sink, state, tag)
-    } else if is_ignored_end(&tag.name) {
-        unexpected_tag(sink, state, &tag);
-        Ok(ProcessResult::Done)
-    } else {
-        in_body_tag(sink, state, tag)
+    match tag.name.known() {
+        KnownName::Td | KnownName::Th => in_cell_end_cell(sink, state, tag),
+        KnownName::Table | KnownName::Tbody | KnownName::Tfoot | KnownName::Thead | KnownName::Tr =>
+            in_cell_end_structure(sink, state, tag),
+        KnownName::Body
+        | KnownName::Caption
+        | KnownName::Col
+        | KnownName::Colgroup
+        | KnownName::Html => ignored_tag(sink, state, tag),
+        _ => in_body_tag(sink, state, tag),
+    }
+}
+
+// Start tags, by their names.
+#[tactic(auto, unfolding(h5_rules::specs::modes::InCell::in_cell_start, h5_rules::specs::modes::Shared::table_structure_names, h5_names::specs::KnownNames::name_text))]
+fn in_cell_start_tag<S: TreeSink>(
+    sink: &mut S,
+    state: &mut State<S::Handle>,
+    tag: Tag,
+) -> Turn<S::Handle>
+    requires sound { IsSound S.TreeSink sink.old state.old }
+    requires ready { HasHtmlRoot (world_of S.TreeSink sink.old state.old) }
+    ensures { TakesTag S.TreeSink (by_known in_cell_start (of_tag in_body)) tag sink.old state.old sink.new state.new result }
+{
+    match tag.name.known() {
+        KnownName::Caption
+        | KnownName::Col
+        | KnownName::Colgroup
+        | KnownName::Tbody
+        | KnownName::Td
+        | KnownName::Tfoot
+        | KnownName::Th
+        | KnownName::Thead
+        | KnownName::Tr => in_cell_start_structure(sink, state, tag),
+        _ => in_body_tag(sink, state, tag),
     }
 }
 
 /// A turn of a tag in a cell.
-#[tactic(auto, unfolding(h5_meaning::specs::InCell::in_cell_tag, h5_meaning::specs::InCell::in_cell_start))]
+#[tactic(auto, using(h5_rules::proofs::rows::KnownRuleLaws::in_cell_start_known, h5_rules::proofs::rows::KnownRuleLaws::in_cell_end_known), unfolding(h5_rules::specs::modes::InCell::in_cell_tag))]
 pub fn in_cell_tag<S: TreeSink>(
     sink: &mut S,
     state: &mut State<S::Handle>,
     tag: Tag,
 ) -> Turn<S::Handle>
     requires sound { IsSound S.TreeSink sink.old state.old }
-    requires ready { IsReady (world_of S.TreeSink sink.old state.old) }
+    requires ready { HasHtmlRoot (world_of S.TreeSink sink.old state.old) }
     ensures { TakesTag S.TreeSink in_cell_tag tag sink.old state.old sink.new state.new result }
 {
     match tag.kind {
-        TagKind::StartTag if is_table_structure(&tag.name) => in_cell_start_structure(
-            sink, state, tag,
-        ),
-        TagKind::StartTag => in_body_tag(sink, state, tag),
+        TagKind::StartTag => in_cell_start_tag(sink, state, tag),
         TagKind::EndTag => in_cell_end_tag(sink, state, tag),
     }
 }
@@ -191,7 +180,7 @@ pub fn step_in_cell<S: TreeSink>(
     token: Token,
 ) -> Turn<S::Handle>
     requires sound { IsSound S.TreeSink sink.old state.old }
-    requires ready { IsReady (world_of S.TreeSink sink.old state.old) }
+    requires ready { HasHtmlRoot (world_of S.TreeSink sink.old state.old) }
     requires text { HasText (turn_text token) }
     ensures { TakesToken S.TreeSink in_cell token sink.old state.old sink.new state.new result }
 {

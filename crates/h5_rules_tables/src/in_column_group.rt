@@ -1,17 +1,16 @@
 //! The mode "in column group" (HTML standard, section 13.2.6.4.12).
 ghost use Rattle.h5_types.specs.TurnText.{HasText, turn_text};
-ghost use Rattle.h5_meaning.specs.ByName.{by_name, of_tag};
-ghost use Rattle.h5_meaning.specs.InColumnGroup.{in_column_group, in_column_group_else, in_column_group_end, in_column_group_end_colgroup, in_column_group_start, in_column_group_start_col, in_column_group_tag};
-ghost use Rattle.h5_meaning.specs.Sound.{IsReady};
+ghost use Rattle.h5_rules.specs.ByName.{by_known, of_tag};
+ghost use Rattle.h5_rules.specs.modes.InColumnGroup.{in_column_group, in_column_group_else, in_column_group_end, in_column_group_end_colgroup, in_column_group_start, in_column_group_start_col, in_column_group_tag};
+ghost use Rattle.h5_rules.specs.Sound.{HasHtmlRoot};
 ghost use Rattle.h5_state.specs.Steps.{IsSound, world_of};
 ghost use Rattle.h5_state.specs.Turn.{TakesTag, TakesToken};
 
+use h5_insertion::{append_comment, append_text, insert_and_pop_element};
 use h5_interface::TreeSink;
 use h5_names::{KnownName, LocalName};
-use h5_operations::{append_comment, append_text, insert_and_pop_element};
 use h5_rules_body::step_in_body;
-use h5_rules_shared::in_body_start_html;
-use h5_rules_text::{in_head_end_template, in_head_start_tag};
+use h5_rules_head::{ignored_tag, in_body_start_html, in_head_end_template, in_head_start_tag};
 use h5_state::{State, Turn, is_current_html, pop, set_mode, unexpected, unexpected_tag};
 use h5_token::{Tag, TagKind};
 use h5_types::{InsertionMode, ProcessResult, SplitStatus, Token};
@@ -31,7 +30,7 @@ fn in_column_group_start_col<S: TreeSink>(
 }
 
 // An end tag `colgroup`.
-#[tactic(auto, unfolding(h5_meaning::specs::InColumnGroup::close_the_column_group))]
+#[tactic(auto, unfolding(h5_rules::specs::modes::InColumnGroup::close_the_column_group))]
 fn in_column_group_end_colgroup<S: TreeSink>(
     sink: &mut S,
     state: &mut State<S::Handle>,
@@ -51,7 +50,7 @@ fn in_column_group_end_colgroup<S: TreeSink>(
 }
 
 // Anything else: the column group is closed, and the token goes by the table.
-#[tactic(auto, unfolding(h5_meaning::specs::InColumnGroup::close_the_column_group))]
+#[tactic(auto, unfolding(h5_rules::specs::modes::InColumnGroup::close_the_column_group))]
 fn in_column_group_else<S: TreeSink>(
     sink: &mut S,
     state: &mut State<S::Handle>,
@@ -70,57 +69,50 @@ fn in_column_group_else<S: TreeSink>(
 }
 
 // Start tags, by their names.
-#[tactic(auto, unfolding(h5_meaning::specs::InColumnGroup::in_column_group_start))]
+#[tactic(auto, unfolding(h5_rules::specs::modes::InColumnGroup::in_column_group_start, h5_names::specs::KnownNames::name_text))]
 fn in_column_group_start_tag<S: TreeSink>(
     sink: &mut S,
     state: &mut State<S::Handle>,
     tag: Tag,
 ) -> Turn<S::Handle>
     requires sound { IsSound S.TreeSink sink.old state.old }
-    requires ready { IsReady (world_of S.TreeSink sink.old state.old) }
-    ensures { TakesTag S.TreeSink (by_name in_column_group_start (of_tag in_column_group_else)) tag sink.old state.old sink.new state.new result }
+    requires ready { HasHtmlRoot (world_of S.TreeSink sink.old state.old) }
+    ensures { TakesTag S.TreeSink (by_known in_column_group_start (of_tag in_column_group_else)) tag sink.old state.old sink.new state.new result }
 {
-    if tag.name.is(KnownName::Html) {
-        in_body_start_html(sink, state, tag)
-    } else if tag.name.is(KnownName::Col) {
-        in_column_group_start_col(sink, state, tag)
-    } else if tag.name.is(KnownName::Template) {
-        in_head_start_tag(sink, state, tag)
-    } else {
-        in_column_group_else(sink, state, Token::Tag(tag))
+    match tag.name.known() {
+        KnownName::Html => in_body_start_html(sink, state, tag),
+        KnownName::Col => in_column_group_start_col(sink, state, tag),
+        KnownName::Template => in_head_start_tag(sink, state, tag),
+        _ => in_column_group_else(sink, state, Token::Tag(tag)),
     }
 }
 
 // End tags, by their names.
-#[tactic(auto, unfolding(h5_meaning::specs::InColumnGroup::in_column_group_end))]
+#[tactic(auto, unfolding(h5_rules::specs::modes::InColumnGroup::in_column_group_end, h5_names::specs::KnownNames::name_text))]
 fn in_column_group_end_tag<S: TreeSink>(
     sink: &mut S,
     state: &mut State<S::Handle>,
     tag: Tag,
 ) -> Turn<S::Handle>
     requires { IsSound S.TreeSink sink.old state.old }
-    ensures { TakesTag S.TreeSink (by_name in_column_group_end (of_tag in_column_group_else)) tag sink.old state.old sink.new state.new result }
+    ensures { TakesTag S.TreeSink (by_known in_column_group_end (of_tag in_column_group_else)) tag sink.old state.old sink.new state.new result }
 {
-    if tag.name.is(KnownName::Colgroup) {
-        in_column_group_end_colgroup(sink, state, tag)
-    } else if tag.name.is(KnownName::Col) {
-        unexpected_tag(sink, state, &tag);
-        Ok(ProcessResult::Done)
-    } else if tag.name.is(KnownName::Template) {
-        in_head_end_template(sink, state, tag)
-    } else {
-        in_column_group_else(sink, state, Token::Tag(tag))
+    match tag.name.known() {
+        KnownName::Colgroup => in_column_group_end_colgroup(sink, state, tag),
+        KnownName::Col => ignored_tag(sink, state, tag),
+        KnownName::Template => in_head_end_template(sink, state, tag),
+        _ => in_column_group_else(sink, state, Token::Tag(tag)),
     }
 }
 
-#[tactic(auto, unfolding(h5_meaning::specs::InColumnGroup::in_column_group_tag))]
+#[tactic(auto, using(h5_rules::proofs::rows::KnownRuleLaws::in_column_group_start_known, h5_rules::proofs::rows::KnownRuleLaws::in_column_group_end_known), unfolding(h5_rules::specs::modes::InColumnGroup::in_column_group_tag))]
 fn in_column_group_tag<S: TreeSink>(
     sink: &mut S,
     state: &mut State<S::Handle>,
     tag: Tag,
 ) -> Turn<S::Handle>
     requires sound { IsSound S.TreeSink sink.old state.old }
-    requires ready { IsReady (world_of S.TreeSink sink.old state.old) }
+    requires ready { HasHtmlRoot (world_of S.TreeSink sink.old state.old) }
     ensures { TakesTag S.TreeSink in_column_group_tag tag sink.old state.old sink.new state.new result }
 {
     match tag.kind {
@@ -136,7 +128,7 @@ pub fn step_in_column_group<S: TreeSink>(
     token: Token,
 ) -> Turn<S::Handle>
     requires sound { IsSound S.TreeSink sink.old state.old }
-    requires ready { IsReady (world_of S.TreeSink sink.old state.old) }
+    requires ready { HasHtmlRoot (world_of S.TreeSink sink.old state.old) }
     requires text { HasText (turn_text token) }
     ensures { TakesToken S.TreeSink in_column_group token sink.old state.old sink.new state.new result }
 {

@@ -1,22 +1,20 @@
 //! The mode "in row" (HTML standard, section 13.2.6.4.14).
-ghost use Rattle.std.specs.Prelude.{◌≡◌};
 ghost use Rattle.h5_types.specs.TurnText.{HasText, turn_text};
-ghost use Rattle.h5_tag_sets.specs.TagSets.{is_one_of};
-ghost use Rattle.h5_meaning.specs.ByName.{by_name, of_tag};
-ghost use Rattle.h5_meaning.specs.InTable.{in_table};
-ghost use Rattle.h5_meaning.specs.InRow.{in_row, in_row_close, in_row_end, in_row_end_row, in_row_end_section, in_row_ignored_ends, in_row_start, in_row_start_cell, in_row_tag, row_closing_names};
-ghost use Rattle.h5_meaning.specs.Sound.{IsReady};
+ghost use Rattle.h5_rules.specs.ByName.{by_known, of_tag};
+ghost use Rattle.h5_rules.specs.modes.InTable.{in_table};
+ghost use Rattle.h5_rules.specs.modes.InRow.{in_row, in_row_close, in_row_end, in_row_end_row, in_row_end_section, in_row_start, in_row_start_cell, in_row_tag};
+ghost use Rattle.h5_rules.specs.Sound.{HasHtmlRoot};
 ghost use Rattle.h5_state.specs.Steps.{IsSound, world_of};
 ghost use Rattle.h5_state.specs.Turn.{TakesTag, TakesToken};
 
 use super::in_table::{in_table_tag, step_in_table};
-use super::parts::{clear_to_table_row_context, has_in_table_scope, is_section};
+use super::parts::{clear_to_table_row_context, has_in_table_scope};
+use h5_formatting::insert_marker;
+use h5_insertion::insert_element;
 use h5_interface::TreeSink;
-use h5_names::{KnownName, LocalName};
-use h5_operations::insert_element;
-use h5_rules_shared::{insert_marker, is_any_of};
+use h5_names::KnownName;
+use h5_rules_head::ignored_tag;
 use h5_state::{Known, Local, State, Turn, pop, set_mode, unexpected_tag};
-use h5_tag_sets::NameSet;
 use h5_token::{Tag, TagKind};
 use h5_types::{InsertionMode, ProcessResult, Token};
 
@@ -38,14 +36,14 @@ fn in_row_start_cell<S: TreeSink>(
 }
 
 // An end tag `tr`.
-#[tactic(auto, unfolding(h5_meaning::specs::InRow::close_the_row))]
+#[tactic(auto, unfolding(h5_rules::specs::modes::InRow::close_the_row))]
 fn in_row_end_row<S: TreeSink>(
     sink: &mut S,
     state: &mut State<S::Handle>,
     tag: Tag,
 ) -> Turn<S::Handle>
     requires sound { IsSound S.TreeSink sink.old state.old }
-    requires ready { IsReady (world_of S.TreeSink sink.old state.old) }
+    requires ready { HasHtmlRoot (world_of S.TreeSink sink.old state.old) }
     ensures { TakesTag S.TreeSink in_row_end_row tag sink.old state.old sink.new state.new result }
 {
     if has_in_table_scope(sink, state, &Known(KnownName::Tr)) {
@@ -60,14 +58,14 @@ fn in_row_end_row<S: TreeSink>(
 }
 
 // What closes the row goes by the row group then.
-#[tactic(auto, unfolding(h5_meaning::specs::InRow::close_the_row))]
+#[tactic(auto, unfolding(h5_rules::specs::modes::InRow::close_the_row))]
 fn in_row_close<S: TreeSink>(
     sink: &mut S,
     state: &mut State<S::Handle>,
     tag: Tag,
 ) -> Turn<S::Handle>
     requires sound { IsSound S.TreeSink sink.old state.old }
-    requires ready { IsReady (world_of S.TreeSink sink.old state.old) }
+    requires ready { HasHtmlRoot (world_of S.TreeSink sink.old state.old) }
     ensures { TakesTag S.TreeSink in_row_close tag sink.old state.old sink.new state.new result }
 {
     if has_in_table_scope(sink, state, &Known(KnownName::Tr)) {
@@ -81,14 +79,14 @@ fn in_row_close<S: TreeSink>(
 }
 
 // An end tag `tbody`, `tfoot` or `thead`: it closes the row where table scope has what it names.
-#[tactic(auto, unfolding(h5_meaning::specs::InRow::in_row_end_section))]
+#[tactic(auto, unfolding(h5_rules::specs::modes::InRow::in_row_end_section))]
 fn in_row_end_section<S: TreeSink>(
     sink: &mut S,
     state: &mut State<S::Handle>,
     tag: Tag,
 ) -> Turn<S::Handle>
     requires sound { IsSound S.TreeSink sink.old state.old }
-    requires ready { IsReady (world_of S.TreeSink sink.old state.old) }
+    requires ready { HasHtmlRoot (world_of S.TreeSink sink.old state.old) }
     ensures { TakesTag S.TreeSink in_row_end_section tag sink.old state.old sink.new state.new result }
 {
     if has_in_table_scope(sink, state, &Local(&tag.name)) {
@@ -99,98 +97,67 @@ fn in_row_end_section<S: TreeSink>(
     }
 }
 
-// Whether a start tag of this name closes a row.
-#[tactic(auto, unfolding(h5_meaning::specs::InRow::row_closing_names))]
-fn closes_row(name: &LocalName) -> bool
-    ensures { result ≡ is_one_of row_closing_names name.now }
-{
-    is_any_of(
-        name,
-        &[
-            KnownName::Caption,
-            KnownName::Col,
-            KnownName::Colgroup,
-            KnownName::Tbody,
-            KnownName::Tfoot,
-            KnownName::Thead,
-            KnownName::Tr,
-        ],
-    )
-}
-
-// Whether an end tag of this name is ignored.
-#[tactic(auto, unfolding(h5_meaning::specs::InRow::in_row_ignored_ends))]
-fn is_ignored_end(name: &LocalName) -> bool
-    ensures { result ≡ is_one_of in_row_ignored_ends name.now }
-{
-    is_any_of(
-        name,
-        &[
-            KnownName::Body,
-            KnownName::Caption,
-            KnownName::Col,
-            KnownName::Colgroup,
-            KnownName::Html,
-            KnownName::Td,
-            KnownName::Th,
-        ],
-    )
-}
-
 // Start tags, by their names.
-#[tactic(auto, unfolding(h5_meaning::specs::InRow::in_row_start))]
+#[tactic(auto, unfolding(h5_rules::specs::modes::InRow::in_row_start, h5_tag_sets::specs::TagSets::cell_names, h5_rules::specs::modes::InRow::row_closing_names, h5_names::specs::KnownNames::name_text))]
 fn in_row_start_tag<S: TreeSink>(
     sink: &mut S,
     state: &mut State<S::Handle>,
     tag: Tag,
 ) -> Turn<S::Handle>
     requires sound { IsSound S.TreeSink sink.old state.old }
-    requires ready { IsReady (world_of S.TreeSink sink.old state.old) }
-    ensures { TakesTag S.TreeSink (by_name in_row_start (of_tag in_table)) tag sink.old state.old sink.new state.new result }
+    requires ready { HasHtmlRoot (world_of S.TreeSink sink.old state.old) }
+    ensures { TakesTag S.TreeSink (by_known in_row_start (of_tag in_table)) tag sink.old state.old sink.new state.new result }
 {
-    if NameSet::TdTh.holds(&tag.name) {
-        in_row_start_cell(sink, state, tag)
-    } else if closes_row(&tag.name) {
-        in_row_close(sink, state, tag)
-    } else {
-        in_table_tag(sink, state, tag)
+    match tag.name.known() {
+        KnownName::Td | KnownName::Th => in_row_start_cell(sink, state, tag),
+        KnownName::Caption
+        | KnownName::Col
+        | KnownName::Colgroup
+        | KnownName::Tbody
+        | KnownName::Tfoot
+        | KnownName::Thead
+        | KnownName::Tr => in_row_close(sink, state, tag),
+        _ => in_table_tag(sink, state, tag),
     }
 }
 
 // End tags, by their names.
-#[tactic(auto, unfolding(h5_meaning::specs::InRow::in_row_end))]
+#[tactic(auto, unfolding(h5_rules::specs::modes::InRow::in_row_end, h5_rules::specs::modes::Tables::table_section_names, h5_rules::specs::modes::InRow::in_row_ignored_ends, h5_names::specs::KnownNames::name_text))]
 fn in_row_end_tag<S: TreeSink>(
     sink: &mut S,
     state: &mut State<S::Handle>,
     tag: Tag,
 ) -> Turn<S::Handle>
     requires sound { IsSound S.TreeSink sink.old state.old }
-    requires ready { IsReady (world_of S.TreeSink sink.old state.old) }
-    ensures { TakesTag S.TreeSink (by_name in_row_end (of_tag in_table)) tag sink.old state.old sink.new state.new result }
+    requires ready { HasHtmlRoot (world_of S.TreeSink sink.old state.old) }
+    ensures { TakesTag S.TreeSink (by_known in_row_end (of_tag in_table)) tag sink.old state.old sink.new state.new result }
 {
-    if tag.name.is(KnownName::Tr) {
-        in_row_end_row(sink, state, tag)
-    } else if tag.name.is(KnownName::Table) {
-        in_row_close(sink, state, tag)
-    } else if is_section(&tag.name) {
-        in_row_end_section(sink, state, tag)
-    } else if is_ignored_end(&tag.name) {
-        unexpected_tag(sink, state, &tag);
-        Ok(ProcessResult::Done)
-    } else {
-        in_table_tag(sink, state, tag)
+    match tag.name.known() {
+        KnownName::Tr => in_row_end_row(sink, state, tag),
+        KnownName::Table => in_row_close(sink, state, tag),
+        KnownName::Tbody | KnownName::Tfoot | KnownName::Thead => in_row_end_section(
+            sink, state, tag,
+        ),
+        KnownName::Body
+        | KnownName::Caption
+        | KnownName::Col
+        | KnownName::Colgroup
+        | KnownName::Html
+        | KnownName::Td
+        | KnownName::Th => ignored_tag(sink, state, tag),
+        _ => in_table_tag(sink, state, tag),
     }
 }
 
 /// A turn of a tag in a row.
-#[tactic(auto, unfolding(h5_meaning::specs::InRow::in_row_tag))]
+#[tactic(auto, using(h5_rules::proofs::rows::KnownRuleLaws::in_row_start_known, h5_rules::proofs::rows::KnownRuleLaws::in_row_end_known), unfolding(h5_rules::specs::modes::InRow::in_row_tag))]
 pub fn in_row_tag<S: TreeSink>(
     sink: &mut S,
     state: &mut State<S::Handle>,
     tag: Tag,
 ) -> Turn<S::Handle>
     requires sound { IsSound S.TreeSink sink.old state.old }
-    requires ready { IsReady (world_of S.TreeSink sink.old state.old) }
+    requires ready { HasHtmlRoot (world_of S.TreeSink sink.old state.old) }
     ensures { TakesTag S.TreeSink in_row_tag tag sink.old state.old sink.new state.new result }
 {
     match tag.kind {
@@ -206,7 +173,7 @@ pub fn step_in_row<S: TreeSink>(
     token: Token,
 ) -> Turn<S::Handle>
     requires sound { IsSound S.TreeSink sink.old state.old }
-    requires ready { IsReady (world_of S.TreeSink sink.old state.old) }
+    requires ready { HasHtmlRoot (world_of S.TreeSink sink.old state.old) }
     requires text { HasText (turn_text token) }
     ensures { TakesToken S.TreeSink in_row token sink.old state.old sink.new state.new result }
 {

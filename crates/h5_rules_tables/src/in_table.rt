@@ -1,24 +1,26 @@
 //! The mode "in table" (HTML standard, section 13.2.6.4.9).
-ghost use Rattle.std.specs.Prelude.{◌≡◌};
 ghost use Rattle.h5_types.specs.TurnText.{HasText, turn_text};
-ghost use Rattle.h5_tag_sets.specs.TagSets.{is_one_of};
-ghost use Rattle.h5_meaning.specs.ByName.{by_name, of_tag};
-ghost use Rattle.h5_meaning.specs.InTable.{in_table, in_table_else, in_table_end, in_table_end_table, in_table_ignored_ends, in_table_start, in_table_start_caption, in_table_start_col, in_table_start_colgroup, in_table_start_form, in_table_start_input, in_table_start_row_part, in_table_start_section, in_table_start_table, in_table_tag, in_table_text_or_null, row_part_names};
-ghost use Rattle.h5_meaning.specs.Sound.{IsReady};
-ghost use Rattle.h5_state.specs.Steps.{IsSound, world_of};
+ghost use Rattle.h5_rules.specs.ByName.{by_known, of_tag};
+ghost use Rattle.h5_rules.specs.modes.InTable.{in_table, in_table_else, in_table_end, in_table_end_table, in_table_start, in_table_start_caption, in_table_start_col, in_table_start_colgroup, in_table_start_form, in_table_start_input, in_table_start_row_part, in_table_start_section, in_table_start_table, in_table_tag, in_table_text_or_null};
+ghost use Rattle.std.specs.Prelude.{◌≡◌};
+ghost use Rattle.h5_types.specs.declared.modes.InsertionMode.TheVariants.{InTableText};
+ghost use Rattle.h5_rules.specs.Rows.{SaveMode};
+ghost use Rattle.h5_rules.specs.Sound.{HasHtmlRoot};
+ghost use Rattle.h5_state.specs.Steps.{IsSound, Makes, world_of};
 ghost use Rattle.h5_state.specs.Turn.{TakesTag, TakesToken};
 
 use super::foster::foster_parent_in_body;
-use super::parts::{clear_to_table_context, is_section};
+use super::parts::clear_to_table_context;
+use h5_closing::{find_in_table_scope, is_current_table_outer, reset_insertion_mode};
+use h5_formatting::insert_marker;
+use h5_insertion::{
+    append_comment, insert_and_pop_element, insert_and_pop_form, insert_element, insert_phantom,
+};
 use h5_interface::TreeSink;
 use h5_names::{KnownName, LocalName};
-use h5_operations::{
-    append_comment, find_in_table_scope, insert_and_pop_element, insert_and_pop_form,
-    insert_element, insert_phantom, is_current_table_outer, reset_insertion_mode,
-};
 use h5_rules_body::step_in_body;
-use h5_rules_shared::{insert_marker, is_any_of, is_type_hidden};
-use h5_rules_text::{in_head_end_template, in_head_start_tag, is_table_text};
+use h5_rules_forms::is_type_hidden;
+use h5_rules_head::{ignored_tag, in_head_end_template, in_head_start_tag};
 use h5_state::{
     Local, State, Turn, has_form, has_open_template, pop_until_named, save_mode, set_mode,
     unexpected_tag,
@@ -26,21 +28,31 @@ use h5_state::{
 use h5_token::{Tag, TagKind};
 use h5_types::{InsertionMode, ProcessResult, Token};
 
+/// A text of the table begins: the mode is kept, and the one by which the text is taken is given.
+pub fn begin_table_text<S: TreeSink>(sink: &S, state: &mut State<S::Handle>) -> InsertionMode
+    requires { IsSound S.TreeSink sink.now state.old }
+    ensures mode { result ≡ InTableText }
+    ensures kept { Makes S.TreeSink SaveMode sink.now state.old sink.now state.new }
+{
+    save_mode(sink, state);
+    InsertionMode::InTableText
+}
+
 // A text, or a null: it is kept back until the next token, where the current node is a part of the table.
-#[tactic(auto, unfolding(h5_meaning::specs::InTable::in_table_text_or_null))]
+#[tactic(auto, unfolding(h5_rules::specs::modes::InTable::in_table_text_or_null))]
 fn process_chars_in_table<S: TreeSink>(
     sink: &mut S,
     state: &mut State<S::Handle>,
     token: Token,
 ) -> Turn<S::Handle>
     requires sound { IsSound S.TreeSink sink.old state.old }
-    requires ready { IsReady (world_of S.TreeSink sink.old state.old) }
+    requires ready { HasHtmlRoot (world_of S.TreeSink sink.old state.old) }
     requires text { HasText (turn_text token) }
     ensures { TakesToken S.TreeSink in_table_text_or_null token sink.old state.old sink.new state.new result }
 {
     if is_current_table_outer(sink, state) {
-        save_mode(sink, state);
-        Ok(ProcessResult::Reprocess(InsertionMode::InTableText, token))
+        let mode = begin_table_text(sink, state);
+        Ok(ProcessResult::Reprocess(mode, token))
     } else {
         foster_parent_in_body(sink, state, token)
     }
@@ -124,7 +136,7 @@ fn in_table_start_row_part<S: TreeSink>(
 }
 
 // A start tag `table`: the table ends, and the mode is that of what it stands in.
-#[tactic(auto, unfolding(h5_meaning::specs::InTable::in_table_start_table))]
+#[tactic(auto, unfolding(h5_rules::specs::modes::InTable::in_table_start_table))]
 fn in_table_start_table<S: TreeSink>(
     sink: &mut S,
     state: &mut State<S::Handle>,
@@ -146,14 +158,14 @@ fn in_table_start_table<S: TreeSink>(
 }
 
 // A start tag `input`: one that isn't seen stays in the table.
-#[tactic(auto, unfolding(h5_meaning::specs::InTable::in_table_start_input))]
+#[tactic(auto, unfolding(h5_rules::specs::modes::InTable::in_table_start_input))]
 fn in_table_start_input<S: TreeSink>(
     sink: &mut S,
     state: &mut State<S::Handle>,
     tag: Tag,
 ) -> Turn<S::Handle>
     requires sound { IsSound S.TreeSink sink.old state.old }
-    requires ready { IsReady (world_of S.TreeSink sink.old state.old) }
+    requires ready { HasHtmlRoot (world_of S.TreeSink sink.old state.old) }
     ensures { TakesTag S.TreeSink in_table_start_input tag sink.old state.old sink.new state.new result }
 {
     if is_type_hidden(tag.attrs.as_slice()) {
@@ -167,7 +179,7 @@ fn in_table_start_input<S: TreeSink>(
 }
 
 // A start tag `form`: the form element, without content.
-#[tactic(auto, unfolding(h5_meaning::specs::InTable::in_table_start_form))]
+#[tactic(auto, unfolding(h5_rules::specs::modes::InTable::in_table_start_form))]
 fn in_table_start_form<S: TreeSink>(
     sink: &mut S,
     state: &mut State<S::Handle>,
@@ -186,7 +198,7 @@ fn in_table_start_form<S: TreeSink>(
 }
 
 // An end tag `table`.
-#[tactic(auto, unfolding(h5_meaning::specs::InTable::in_table_end_table))]
+#[tactic(auto, unfolding(h5_rules::specs::modes::InTable::in_table_end_table))]
 fn in_table_end_table<S: TreeSink>(
     sink: &mut S,
     state: &mut State<S::Handle>,
@@ -210,103 +222,73 @@ fn in_table_end_table<S: TreeSink>(
     }
 }
 
-// Whether a start tag of this name needs a row group.
-#[tactic(auto, unfolding(h5_meaning::specs::InTable::row_part_names))]
-fn is_row_part(name: &LocalName) -> bool
-    ensures { result ≡ is_one_of row_part_names name.now }
-{
-    is_any_of(name, &[KnownName::Td, KnownName::Th, KnownName::Tr])
-}
-
-// Whether an end tag of this name is ignored.
-#[tactic(auto, unfolding(h5_meaning::specs::InTable::in_table_ignored_ends))]
-fn is_ignored_end(name: &LocalName) -> bool
-    ensures { result ≡ is_one_of in_table_ignored_ends name.now }
-{
-    is_any_of(
-        name,
-        &[
-            KnownName::Body,
-            KnownName::Caption,
-            KnownName::Col,
-            KnownName::Colgroup,
-            KnownName::Html,
-            KnownName::Tbody,
-            KnownName::Td,
-            KnownName::Tfoot,
-            KnownName::Th,
-            KnownName::Thead,
-            KnownName::Tr,
-        ],
-    )
-}
-
 // Start tags, by their names.
-#[tactic(auto, unfolding(h5_meaning::specs::InTable::in_table_start))]
+#[tactic(auto, unfolding(h5_rules::specs::modes::InTable::in_table_start, h5_rules::specs::modes::Tables::table_section_names, h5_rules::specs::modes::InTable::row_part_names, h5_rules::specs::modes::InTable::table_text_names, h5_names::specs::KnownNames::name_text))]
 fn in_table_start_tag<S: TreeSink>(
     sink: &mut S,
     state: &mut State<S::Handle>,
     tag: Tag,
 ) -> Turn<S::Handle>
     requires sound { IsSound S.TreeSink sink.old state.old }
-    requires ready { IsReady (world_of S.TreeSink sink.old state.old) }
-    ensures { TakesTag S.TreeSink (by_name in_table_start (of_tag in_table_else)) tag sink.old state.old sink.new state.new result }
+    requires ready { HasHtmlRoot (world_of S.TreeSink sink.old state.old) }
+    ensures { TakesTag S.TreeSink (by_known in_table_start (of_tag in_table_else)) tag sink.old state.old sink.new state.new result }
 {
-    if tag.name.is(KnownName::Caption) {
-        in_table_start_caption(sink, state, tag)
-    } else if tag.name.is(KnownName::Colgroup) {
-        in_table_start_colgroup(sink, state, tag)
-    } else if tag.name.is(KnownName::Col) {
-        in_table_start_col(sink, state, tag)
-    } else if is_section(&tag.name) {
-        in_table_start_section(sink, state, tag)
-    } else if is_row_part(&tag.name) {
-        in_table_start_row_part(sink, state, tag)
-    } else if tag.name.is(KnownName::Table) {
-        in_table_start_table(sink, state, tag)
-    } else if is_table_text(&tag.name) {
-        in_head_start_tag(sink, state, tag)
-    } else if tag.name.is(KnownName::Input) {
-        in_table_start_input(sink, state, tag)
-    } else if tag.name.is(KnownName::Form) {
-        in_table_start_form(sink, state, tag)
-    } else {
-        foster_parent_in_body(sink, state, Token::Tag(tag))
+    match tag.name.known() {
+        KnownName::Caption => in_table_start_caption(sink, state, tag),
+        KnownName::Colgroup => in_table_start_colgroup(sink, state, tag),
+        KnownName::Col => in_table_start_col(sink, state, tag),
+        KnownName::Tbody | KnownName::Tfoot | KnownName::Thead => in_table_start_section(
+            sink, state, tag,
+        ),
+        KnownName::Td | KnownName::Th | KnownName::Tr => in_table_start_row_part(sink, state, tag),
+        KnownName::Table => in_table_start_table(sink, state, tag),
+        KnownName::Style | KnownName::Script | KnownName::Template => in_head_start_tag(
+            sink, state, tag,
+        ),
+        KnownName::Input => in_table_start_input(sink, state, tag),
+        KnownName::Form => in_table_start_form(sink, state, tag),
+        _ => foster_parent_in_body(sink, state, Token::Tag(tag)),
     }
 }
 
 // End tags, by their names.
-#[tactic(auto, unfolding(h5_meaning::specs::InTable::in_table_end))]
+#[tactic(auto, unfolding(h5_rules::specs::modes::InTable::in_table_end, h5_rules::specs::modes::InTable::in_table_ignored_ends, h5_names::specs::KnownNames::name_text))]
 fn in_table_end_tag<S: TreeSink>(
     sink: &mut S,
     state: &mut State<S::Handle>,
     tag: Tag,
 ) -> Turn<S::Handle>
     requires sound { IsSound S.TreeSink sink.old state.old }
-    requires ready { IsReady (world_of S.TreeSink sink.old state.old) }
-    ensures { TakesTag S.TreeSink (by_name in_table_end (of_tag in_table_else)) tag sink.old state.old sink.new state.new result }
+    requires ready { HasHtmlRoot (world_of S.TreeSink sink.old state.old) }
+    ensures { TakesTag S.TreeSink (by_known in_table_end (of_tag in_table_else)) tag sink.old state.old sink.new state.new result }
 {
-    if tag.name.is(KnownName::Table) {
-        in_table_end_table(sink, state, tag)
-    } else if is_ignored_end(&tag.name) {
-        unexpected_tag(sink, state, &tag);
-        Ok(ProcessResult::Done)
-    } else if tag.name.is(KnownName::Template) {
-        in_head_end_template(sink, state, tag)
-    } else {
-        foster_parent_in_body(sink, state, Token::Tag(tag))
+    match tag.name.known() {
+        KnownName::Table => in_table_end_table(sink, state, tag),
+        KnownName::Body
+        | KnownName::Caption
+        | KnownName::Col
+        | KnownName::Colgroup
+        | KnownName::Html
+        | KnownName::Tbody
+        | KnownName::Td
+        | KnownName::Tfoot
+        | KnownName::Th
+        | KnownName::Thead
+        | KnownName::Tr => ignored_tag(sink, state, tag),
+        KnownName::Template => in_head_end_template(sink, state, tag),
+        _ => foster_parent_in_body(sink, state, Token::Tag(tag)),
     }
 }
 
 /// A turn of a tag in a table.
-#[tactic(auto, unfolding(h5_meaning::specs::InTable::in_table_tag))]
+#[tactic(auto, using(h5_rules::proofs::rows::KnownRuleLaws::in_table_start_known, h5_rules::proofs::rows::KnownRuleLaws::in_table_end_known), unfolding(h5_rules::specs::modes::InTable::in_table_tag))]
 pub fn in_table_tag<S: TreeSink>(
     sink: &mut S,
     state: &mut State<S::Handle>,
     tag: Tag,
 ) -> Turn<S::Handle>
     requires sound { IsSound S.TreeSink sink.old state.old }
-    requires ready { IsReady (world_of S.TreeSink sink.old state.old) }
+    requires ready { HasHtmlRoot (world_of S.TreeSink sink.old state.old) }
     ensures { TakesTag S.TreeSink in_table_tag tag sink.old state.old sink.new state.new result }
 {
     match tag.kind {
@@ -322,7 +304,7 @@ pub fn step_in_table<S: TreeSink>(
     token: Token,
 ) -> Turn<S::Handle>
     requires sound { IsSound S.TreeSink sink.old state.old }
-    requires ready { IsReady (world_of S.TreeSink sink.old state.old) }
+    requires ready { HasHtmlRoot (world_of S.TreeSink sink.old state.old) }
     requires text { HasText (turn_text token) }
     ensures { TakesToken S.TreeSink in_table token sink.old state.old sink.new state.new result }
 {

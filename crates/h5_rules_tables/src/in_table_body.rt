@@ -1,22 +1,20 @@
 //! The mode "in table body" (HTML standard, section 13.2.6.4.13).
-ghost use Rattle.std.specs.Prelude.{◌≡◌};
 ghost use Rattle.h5_types.specs.TurnText.{HasText, turn_text};
-ghost use Rattle.h5_tag_sets.specs.TagSets.{is_one_of};
-ghost use Rattle.h5_meaning.specs.ByName.{by_name, of_tag};
-ghost use Rattle.h5_meaning.specs.InTable.{in_table};
-ghost use Rattle.h5_meaning.specs.InTableBody.{in_table_body, in_table_body_close, in_table_body_end, in_table_body_end_section, in_table_body_ignored_ends, in_table_body_start, in_table_body_start_cell, in_table_body_start_row, in_table_body_tag, section_closing_names};
-ghost use Rattle.h5_meaning.specs.Sound.{IsReady};
+ghost use Rattle.h5_rules.specs.ByName.{by_known, of_tag};
+ghost use Rattle.h5_rules.specs.modes.InTable.{in_table};
+ghost use Rattle.h5_rules.specs.modes.InTableBody.{in_table_body, in_table_body_close, in_table_body_end, in_table_body_end_section, in_table_body_start, in_table_body_start_cell, in_table_body_start_row, in_table_body_tag};
+ghost use Rattle.h5_rules.specs.Sound.{HasHtmlRoot};
 ghost use Rattle.h5_state.specs.Steps.{IsSound, world_of};
 ghost use Rattle.h5_state.specs.Turn.{TakesTag, TakesToken};
 
 use super::in_table::{in_table_tag, step_in_table};
-use super::parts::{clear_to_table_body_context, has_in_table_scope, is_section};
+use super::parts::{clear_to_table_body_context, has_in_table_scope};
+use h5_insertion::{insert_element, insert_phantom};
 use h5_interface::TreeSink;
-use h5_names::{KnownName, LocalName, QualName};
-use h5_operations::{insert_element, insert_phantom};
-use h5_rules_shared::is_any_of;
+use h5_names::{KnownName, QualName};
+use h5_rules_head::ignored_tag;
 use h5_state::{Local, NameTest, State, Turn, pop, set_mode, unexpected_tag};
-use h5_tag_sets::{NameSet, is_html_known};
+use h5_tag_sets::is_html_known;
 use h5_token::{Tag, TagKind};
 use h5_types::{InsertionMode, ProcessResult, Token};
 
@@ -52,14 +50,14 @@ fn in_table_body_start_cell<S: TreeSink>(
 }
 
 // An end tag `tbody`, `tfoot` or `thead`.
-#[tactic(auto, unfolding(h5_meaning::specs::InTableBody::in_table_body_end_section))]
+#[tactic(auto, unfolding(h5_rules::specs::modes::InTableBody::in_table_body_end_section))]
 fn in_table_body_end_section<S: TreeSink>(
     sink: &mut S,
     state: &mut State<S::Handle>,
     tag: Tag,
 ) -> Turn<S::Handle>
     requires sound { IsSound S.TreeSink sink.old state.old }
-    requires ready { IsReady (world_of S.TreeSink sink.old state.old) }
+    requires ready { HasHtmlRoot (world_of S.TreeSink sink.old state.old) }
     ensures { TakesTag S.TreeSink in_table_body_end_section tag sink.old state.old sink.new state.new result }
 {
     if has_in_table_scope(sink, state, &Local(&tag.name)) {
@@ -78,7 +76,7 @@ fn in_table_body_end_section<S: TreeSink>(
 struct TableSection;
 
 impl NameTest for TableSection {
-    ghost use Rattle.h5_meaning.specs.InTableBody.{is_table_section};
+    ghost use Rattle.h5_rules.specs.modes.InTableBody.{is_table_section};
 
     ghost holds = { λ t name. is_table_section name };
 
@@ -90,14 +88,14 @@ impl NameTest for TableSection {
 }
 
 // What closes the row group goes by the table then.
-#[tactic(auto, unfolding(h5_meaning::specs::InTableBody::in_table_body_close))]
+#[tactic(auto, unfolding(h5_rules::specs::modes::InTableBody::in_table_body_close))]
 fn in_table_body_close<S: TreeSink>(
     sink: &mut S,
     state: &mut State<S::Handle>,
     tag: Tag,
 ) -> Turn<S::Handle>
     requires sound { IsSound S.TreeSink sink.old state.old }
-    requires ready { IsReady (world_of S.TreeSink sink.old state.old) }
+    requires ready { HasHtmlRoot (world_of S.TreeSink sink.old state.old) }
     ensures { TakesTag S.TreeSink in_table_body_close tag sink.old state.old sink.new state.new result }
 {
     if has_in_table_scope(sink, state, &TableSection) {
@@ -110,98 +108,67 @@ fn in_table_body_close<S: TreeSink>(
     }
 }
 
-// Whether a start tag of this name closes a row group.
-#[tactic(auto, unfolding(h5_meaning::specs::InTableBody::section_closing_names))]
-fn closes_section(name: &LocalName) -> bool
-    ensures { result ≡ is_one_of section_closing_names name.now }
-{
-    is_any_of(
-        name,
-        &[
-            KnownName::Caption,
-            KnownName::Col,
-            KnownName::Colgroup,
-            KnownName::Tbody,
-            KnownName::Tfoot,
-            KnownName::Thead,
-        ],
-    )
-}
-
-// Whether an end tag of this name is ignored.
-#[tactic(auto, unfolding(h5_meaning::specs::InTableBody::in_table_body_ignored_ends))]
-fn is_ignored_end(name: &LocalName) -> bool
-    ensures { result ≡ is_one_of in_table_body_ignored_ends name.now }
-{
-    is_any_of(
-        name,
-        &[
-            KnownName::Body,
-            KnownName::Caption,
-            KnownName::Col,
-            KnownName::Colgroup,
-            KnownName::Html,
-            KnownName::Td,
-            KnownName::Th,
-            KnownName::Tr,
-        ],
-    )
-}
-
 // Start tags, by their names.
-#[tactic(auto, unfolding(h5_meaning::specs::InTableBody::in_table_body_start))]
+#[tactic(auto, unfolding(h5_rules::specs::modes::InTableBody::in_table_body_start, h5_tag_sets::specs::TagSets::cell_names, h5_rules::specs::modes::InTableBody::section_closing_names, h5_names::specs::KnownNames::name_text))]
 fn in_table_body_start_tag<S: TreeSink>(
     sink: &mut S,
     state: &mut State<S::Handle>,
     tag: Tag,
 ) -> Turn<S::Handle>
     requires sound { IsSound S.TreeSink sink.old state.old }
-    requires ready { IsReady (world_of S.TreeSink sink.old state.old) }
-    ensures { TakesTag S.TreeSink (by_name in_table_body_start (of_tag in_table)) tag sink.old state.old sink.new state.new result }
+    requires ready { HasHtmlRoot (world_of S.TreeSink sink.old state.old) }
+    ensures { TakesTag S.TreeSink (by_known in_table_body_start (of_tag in_table)) tag sink.old state.old sink.new state.new result }
 {
-    if tag.name.is(KnownName::Tr) {
-        in_table_body_start_row(sink, state, tag)
-    } else if NameSet::TdTh.holds(&tag.name) {
-        in_table_body_start_cell(sink, state, tag)
-    } else if closes_section(&tag.name) {
-        in_table_body_close(sink, state, tag)
-    } else {
-        in_table_tag(sink, state, tag)
+    match tag.name.known() {
+        KnownName::Tr => in_table_body_start_row(sink, state, tag),
+        KnownName::Td | KnownName::Th => in_table_body_start_cell(sink, state, tag),
+        KnownName::Caption
+        | KnownName::Col
+        | KnownName::Colgroup
+        | KnownName::Tbody
+        | KnownName::Tfoot
+        | KnownName::Thead => in_table_body_close(sink, state, tag),
+        _ => in_table_tag(sink, state, tag),
     }
 }
 
 // End tags, by their names.
-#[tactic(auto, unfolding(h5_meaning::specs::InTableBody::in_table_body_end))]
+#[tactic(auto, unfolding(h5_rules::specs::modes::InTableBody::in_table_body_end, h5_rules::specs::modes::Tables::table_section_names, h5_rules::specs::modes::InTableBody::in_table_body_ignored_ends, h5_names::specs::KnownNames::name_text))]
 fn in_table_body_end_tag<S: TreeSink>(
     sink: &mut S,
     state: &mut State<S::Handle>,
     tag: Tag,
 ) -> Turn<S::Handle>
     requires sound { IsSound S.TreeSink sink.old state.old }
-    requires ready { IsReady (world_of S.TreeSink sink.old state.old) }
-    ensures { TakesTag S.TreeSink (by_name in_table_body_end (of_tag in_table)) tag sink.old state.old sink.new state.new result }
+    requires ready { HasHtmlRoot (world_of S.TreeSink sink.old state.old) }
+    ensures { TakesTag S.TreeSink (by_known in_table_body_end (of_tag in_table)) tag sink.old state.old sink.new state.new result }
 {
-    if is_section(&tag.name) {
-        in_table_body_end_section(sink, state, tag)
-    } else if tag.name.is(KnownName::Table) {
-        in_table_body_close(sink, state, tag)
-    } else if is_ignored_end(&tag.name) {
-        unexpected_tag(sink, state, &tag);
-        Ok(ProcessResult::Done)
-    } else {
-        in_table_tag(sink, state, tag)
+    match tag.name.known() {
+        KnownName::Tbody | KnownName::Tfoot | KnownName::Thead => in_table_body_end_section(
+            sink, state, tag,
+        ),
+        KnownName::Table => in_table_body_close(sink, state, tag),
+        KnownName::Body
+        | KnownName::Caption
+        | KnownName::Col
+        | KnownName::Colgroup
+        | KnownName::Html
+        | KnownName::Td
+        | KnownName::Th
+        | KnownName::Tr => ignored_tag(sink, state, tag),
+        _ => in_table_tag(sink, state, tag),
     }
 }
 
 /// A turn of a tag in a table body.
-#[tactic(auto, unfolding(h5_meaning::specs::InTableBody::in_table_body_tag))]
+#[tactic(auto, using(h5_rules::proofs::rows::KnownRuleLaws::in_table_body_start_known, h5_rules::proofs::rows::KnownRuleLaws::in_table_body_end_known), unfolding(h5_rules::specs::modes::InTableBody::in_table_body_tag))]
 pub fn in_table_body_tag<S: TreeSink>(
     sink: &mut S,
     state: &mut State<S::Handle>,
     tag: Tag,
 ) -> Turn<S::Handle>
     requires sound { IsSound S.TreeSink sink.old state.old }
-    requires ready { IsReady (world_of S.TreeSink sink.old state.old) }
+    requires ready { HasHtmlRoot (world_of S.TreeSink sink.old state.old) }
     ensures { TakesTag S.TreeSink in_table_body_tag tag sink.old state.old sink.new state.new result }
 {
     match tag.kind {
@@ -217,7 +184,7 @@ pub fn step_in_table_body<S: TreeSink>(
     token: Token,
 ) -> Turn<S::Handle>
     requires sound { IsSound S.TreeSink sink.old state.old }
-    requires ready { IsReady (world_of S.TreeSink sink.old state.old) }
+    requires ready { HasHtmlRoot (world_of S.TreeSink sink.old state.old) }
     requires text { HasText (turn_text token) }
     ensures { TakesToken S.TreeSink in_table_body token sink.old state.old sink.new state.new result }
 {

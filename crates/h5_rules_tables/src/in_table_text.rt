@@ -4,29 +4,29 @@ ghost use Rattle.h5_types.specs.TurnText.{HasText, TextTurn, turn_text};
 ghost use Rattle.h5_types.specs.declared.modes.SplitStatus.TheVariants.{NotSplit};
 ghost use Rattle.h5_types.specs.declared.turns.ProcessResult.TheVariants.{Reprocess};
 ghost use Rattle.h5_types.specs.declared.turns.Token.{Token};
-ghost use Rattle.h5_meaning.specs.InTableText.{in_table_text, in_table_text_else, pending_text};
-ghost use Rattle.h5_meaning.specs.Rows.{Follows};
-ghost use Rattle.h5_meaning.specs.Sound.{IsReady};
-ghost use Rattle.h5_state.specs.Steps.{IsSound, errors_of, world_of};
-ghost use Rattle.h5_state.specs.Turn.{TakesToken, Turns};
+ghost use Rattle.h5_rules.specs.modes.InTableText.{in_table_text, in_table_text_else, pending_text};
+ghost use Rattle.h5_rules.specs.Rows.{AppendPendingText, Follows};
+ghost use Rattle.h5_rules.specs.Sound.{HasHtmlRoot};
+ghost use Rattle.h5_state.specs.Steps.{IsSound, MakesIfOk, errors_of, world_of};
+ghost use Rattle.h5_state.specs.Turn.{TakesToken, FollowsRule};
 
 use super::foster::foster_parent_in_body;
+use h5_insertion::{append_pending_text, append_text, take_pending_text};
 use h5_interface::TreeSink;
-use h5_operations::{append_pending_text, append_text, take_pending_text};
 use h5_state::{PendingText, State, Turn, saved_mode, unexpected};
 use h5_types::{InsertionMode, ProcessResult, SplitStatus, Token};
 use std::alloc::AllocError;
 
 // The text that was kept back: blank, it goes where it came; else it goes by the body, with foster parenting on.
-#[tactic(auto, unfolding(h5_meaning::specs::InTableText::pending_text))]
+#[tactic(auto, unfolding(h5_rules::specs::modes::InTableText::pending_text))]
 fn insert_pending_text<S: TreeSink>(
     sink: &mut S,
     state: &mut State<S::Handle>,
     pending: PendingText,
 ) -> Turn<S::Handle>
     requires sound { IsSound S.TreeSink sink.old state.old }
-    requires ready { IsReady (world_of S.TreeSink sink.old state.old) }
-    ensures { Turns S.TreeSink (pending_text pending) (TextTurn NotSplit pending) sink.old state.old sink.new state.new result }
+    requires ready { HasHtmlRoot (world_of S.TreeSink sink.old state.old) }
+    ensures { FollowsRule S.TreeSink (pending_text pending) (TextTurn NotSplit pending) sink.old state.old sink.new state.new result }
 {
     if pending.is_empty() {
         Ok(ProcessResult::Done)
@@ -42,13 +42,13 @@ fn insert_pending_text<S: TreeSink>(
 /// Anything else than a text or a null: the text that was kept back goes first, and the mode that was left is given, by which
 /// the token is to take its next turn, whatever it is. An `AllocError` where memory is refused; what was built so far is sound
 /// then.
-#[tactic(auto, unfolding(h5_meaning::specs::InTableText::in_table_text_else))]
+#[tactic(auto, unfolding(h5_rules::specs::modes::InTableText::in_table_text_else))]
 pub fn leave_table_text<S: TreeSink>(
     sink: &mut S,
     state: &mut State<S::Handle>,
 ) -> Result<InsertionMode, AllocError>
     requires sound { IsSound S.TreeSink sink.old state.old }
-    requires ready { IsReady (world_of S.TreeSink sink.old state.old) }
+    requires ready { HasHtmlRoot (world_of S.TreeSink sink.old state.old) }
     ensures asks { IfOk result (λ mode. (token : Token) →
         Follows S.choices S.node (in_table_text_else (turn_text token) (world_of S.TreeSink sink.old state.old)) (turn_text token) (world_of S.TreeSink sink.old state.old) (world_of S.TreeSink sink.new state.new) (errors_of S.TreeSink sink.old) (errors_of S.TreeSink sink.new) (Reprocess mode token)) }
     ensures sound { IsSound S.TreeSink sink.new state.new }
@@ -65,11 +65,23 @@ fn in_table_text_else<S: TreeSink>(
     token: Token,
 ) -> Turn<S::Handle>
     requires sound { IsSound S.TreeSink sink.old state.old }
-    requires ready { IsReady (world_of S.TreeSink sink.old state.old) }
+    requires ready { HasHtmlRoot (world_of S.TreeSink sink.old state.old) }
     ensures { TakesToken S.TreeSink in_table_text_else token sink.old state.old sink.new state.new result }
 {
     let mode = leave_table_text(sink, state)?;
     Ok(ProcessResult::Reprocess(mode, token))
+}
+
+/// A text of the table is kept back, behind those that are. An `AllocError` where memory is refused; what was kept stays then.
+pub fn keep_table_text<S: TreeSink>(
+    sink: &S,
+    state: &mut State<S::Handle>,
+    text: String,
+) -> Result<(), AllocError>
+    requires { IsSound S.TreeSink sink.now state.old }
+    ensures { MakesIfOk S.TreeSink (AppendPendingText (string_bytes text)) sink.now state.old sink.now state.new result }
+{
+    append_pending_text(sink, state, text)
 }
 
 /// A turn while texts of a table are kept back.
@@ -79,13 +91,13 @@ pub fn step_in_table_text<S: TreeSink>(
     token: Token,
 ) -> Turn<S::Handle>
     requires sound { IsSound S.TreeSink sink.old state.old }
-    requires ready { IsReady (world_of S.TreeSink sink.old state.old) }
+    requires ready { HasHtmlRoot (world_of S.TreeSink sink.old state.old) }
     requires text { HasText (turn_text token) }
     ensures { TakesToken S.TreeSink in_table_text token sink.old state.old sink.new state.new result }
 {
     match token {
         Token::Characters(_, text) => {
-            append_pending_text(sink, state, text)?;
+            keep_table_text(sink, state, text)?;
             Ok(ProcessResult::Done)
         }
         Token::NullCharacter => {

@@ -1,4 +1,13 @@
 //! The insertion modes of tables (HTML standard, sections 13.2.6.4.9 to 13.2.6.4.15).
+//!
+//! Each mode has a file with its name: `in_table`, `in_table_text`, `in_caption`, `in_column_group`, `in_table_body`,
+//! `in_row` and `in_cell`. `parts` has what they share: a part of a table is put into the nearest element that may hold
+//! it. `foster` has foster parenting (section 13.2.6.1).
+//!
+//! It stands on `h5_rules_head` and `h5_rules_body`, by whose rules many tokens go, on `h5_rules_forms` for hidden
+//! inputs, and on `h5_insertion`, `h5_closing` and `h5_formatting`; the builder stands on it. The contract of each step
+//! is the rule of its mode. The rules are in `h5_rules`: begin with `specs/modes/InTable.antt` and
+//! `specs/modes/Tables.antt` there, then `src/in_table.rt`.
 #![tactic(auto)]
 
 mod foster;
@@ -15,6 +24,6 @@ pub use in_caption::step_in_caption;
 pub use in_cell::{in_cell_tag, step_in_cell};
 pub use in_column_group::step_in_column_group;
 pub use in_row::{in_row_tag, step_in_row};
-pub use in_table::{in_table_tag, step_in_table};
+pub use in_table::{begin_table_text, in_table_tag, step_in_table};
 pub use in_table_body::{in_table_body_tag, step_in_table_body};
-pub use in_table_text::{leave_table_text, step_in_table_text};
+pub use in_table_text::{keep_table_text, leave_table_text, step_in_table_text};

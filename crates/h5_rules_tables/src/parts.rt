@@ -1,14 +1,12 @@
 //! What the modes of tables share: their parts are put into the nearest element that may hold them.
 ghost use Rattle.std.specs.Prelude.{◌≡◌};
-ghost use Rattle.h5_meaning.specs.Tables.{in_table_scope, table_section_names};
-ghost use Rattle.h5_meaning.specs.Rows.{PopUntilCurrent};
+ghost use Rattle.h5_rules.specs.modes.Tables.{in_table_scope};
+ghost use Rattle.h5_rules.specs.Rows.{PopUntilCurrent};
 ghost use Rattle.h5_state.specs.Steps.{IsSound, Makes, world_of};
-ghost use Rattle.h5_tag_sets.specs.TagSets.{is_one_of, is_table_body_context, is_table_row_context, is_table_scope};
+ghost use Rattle.h5_tag_sets.specs.TagSets.{is_table_body_context, is_table_row_context, is_table_scope};
 
+use h5_closing::{find_in_table_scope, pop_until_current};
 use h5_interface::TreeSink;
-use h5_names::{KnownName, LocalName};
-use h5_operations::{find_in_table_scope, pop_until_current};
-use h5_rules_shared::is_any_of;
 use h5_state::{NameTest, State};
 use h5_tag_sets::ElementSet;
 
@@ -22,17 +20,6 @@ pub(crate) fn has_in_table_scope<S: TreeSink, Is: NameTest>(
     ensures { result ≡ in_table_scope (Is.holds is.now) (world_of S.TreeSink sink.now state.now) }
 {
     find_in_table_scope(sink, state, is).is_some()
-}
-
-/// Whether this is the name of a row group.
-#[tactic(auto, unfolding(h5_meaning::specs::Tables::table_section_names))]
-pub(crate) fn is_section(name: &LocalName) -> bool
-    ensures { result ≡ is_one_of table_section_names name.now }
-{
-    is_any_of(
-        name,
-        &[KnownName::Tbody, KnownName::Tfoot, KnownName::Thead],
-    )
 }
 
 /// Clears the stack of open elements back to a table context.

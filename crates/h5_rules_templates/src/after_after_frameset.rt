@@ -1,18 +1,19 @@
-//! The mode "after after frameset" (HTML standard, section 13.2.6.4.23).
+//! The mode "after after frameset" (HTML standard, section 13.2.6.4.21).
 ghost use Rattle.h5_types.specs.TurnText.{HasText, turn_text};
-ghost use Rattle.h5_meaning.specs.AfterAfterFrameset.{after_after_frameset, after_after_frameset_tag};
+ghost use Rattle.h5_rules.specs.modes.AfterAfterFrameset.{after_after_frameset, after_after_frameset_tag};
 ghost use Rattle.h5_state.specs.Steps.{IsOpen};
 ghost use Rattle.h5_state.specs.Turn.{TakesTag, TakesToken};
 
 use super::after_frameset::after_frameset_start_tag;
+use h5_insertion::append_comment_to_doc;
 use h5_interface::TreeSink;
-use h5_operations::append_comment_to_doc;
-use h5_rules_shared::in_body_text;
-use h5_state::{State, Turn, unexpected, unexpected_tag};
+use h5_rules_body::in_body_text;
+use h5_rules_head::ignored_tag;
+use h5_state::{State, Turn, unexpected};
 use h5_token::{Tag, TagKind};
 use h5_types::{ProcessResult, SplitStatus, Token};
 
-#[tactic(auto, unfolding(h5_meaning::specs::AfterAfterFrameset::after_after_frameset_tag))]
+#[tactic(auto, using(h5_rules::proofs::rows::KnownRuleLaws::after_frameset_start_known), unfolding(h5_rules::specs::modes::AfterAfterFrameset::after_after_frameset_tag))]
 fn after_after_frameset_tag<S: TreeSink>(
     sink: &mut S,
     state: &mut State<S::Handle>,
@@ -23,10 +24,7 @@ fn after_after_frameset_tag<S: TreeSink>(
 {
     match tag.kind {
         TagKind::StartTag => after_frameset_start_tag(sink, state, tag),
-        TagKind::EndTag => {
-            unexpected_tag(sink, state, &tag);
-            Ok(ProcessResult::Done)
-        }
+        TagKind::EndTag => ignored_tag(sink, state, tag),
     }
 }
 

@@ -1,36 +1,32 @@
-//! The mode "after frameset" (HTML standard, section 13.2.6.4.21).
+//! The mode "after frameset" (HTML standard, section 13.2.6.4.19).
 ghost use Rattle.h5_types.specs.TurnText.{HasText, turn_text};
-ghost use Rattle.h5_meaning.specs.AfterFrameset.{after_frameset, after_frameset_end_html, after_frameset_start, after_frameset_tag};
-ghost use Rattle.h5_meaning.specs.ByName.{by_name, ignored_tag};
+ghost use Rattle.h5_rules.specs.modes.AfterFrameset.{after_frameset, after_frameset_end, after_frameset_end_html, after_frameset_start, after_frameset_tag};
+ghost use Rattle.h5_rules.specs.ByName.{by_known, ignored_tag};
 ghost use Rattle.h5_state.specs.Steps.{IsOpen, IsSound};
 ghost use Rattle.h5_state.specs.Turn.{TakesTag, TakesToken};
 
+use h5_insertion::{append_comment, append_text};
 use h5_interface::TreeSink;
 use h5_names::KnownName;
-use h5_operations::{append_comment, append_text};
-use h5_rules_shared::in_body_start_html;
-use h5_rules_text::in_head_start_tag;
-use h5_state::{State, Turn, set_mode, unexpected, unexpected_tag};
+use h5_rules_head::{ignored_tag, in_body_start_html, in_head_start_tag};
+use h5_state::{State, Turn, set_mode, unexpected};
 use h5_token::{Tag, TagKind};
 use h5_types::{InsertionMode, ProcessResult, SplitStatus, Token};
 
 /// Start tags, by their names, here and in the mode after this one.
-#[tactic(auto, unfolding(h5_meaning::specs::AfterFrameset::after_frameset_start))]
+#[tactic(auto, unfolding(h5_rules::specs::modes::AfterFrameset::after_frameset_start, h5_names::specs::KnownNames::name_text))]
 pub(crate) fn after_frameset_start_tag<S: TreeSink>(
     sink: &mut S,
     state: &mut State<S::Handle>,
     tag: Tag,
 ) -> Turn<S::Handle>
     requires { IsOpen S.TreeSink sink.old state.old }
-    ensures { TakesTag S.TreeSink (by_name after_frameset_start ignored_tag) tag sink.old state.old sink.new state.new result }
+    ensures { TakesTag S.TreeSink (by_known after_frameset_start ignored_tag) tag sink.old state.old sink.new state.new result }
 {
-    if tag.name.is(KnownName::Html) {
-        in_body_start_html(sink, state, tag)
-    } else if tag.name.is(KnownName::Noframes) {
-        in_head_start_tag(sink, state, tag)
-    } else {
-        unexpected_tag(sink, state, &tag);
-        Ok(ProcessResult::Done)
+    match tag.name.known() {
+        KnownName::Html => in_body_start_html(sink, state, tag),
+        KnownName::Noframes => in_head_start_tag(sink, state, tag),
+        _ => ignored_tag(sink, state, tag),
     }
 }
 
@@ -48,7 +44,23 @@ fn after_frameset_end_html<S: TreeSink>(
     Ok(ProcessResult::Done)
 }
 
-#[tactic(auto, unfolding(h5_meaning::specs::AfterFrameset::after_frameset_tag, h5_meaning::specs::AfterFrameset::after_frameset_end))]
+// End tags, by their names.
+#[tactic(auto, unfolding(h5_rules::specs::modes::AfterFrameset::after_frameset_end, h5_names::specs::KnownNames::name_text))]
+fn after_frameset_end_tag<S: TreeSink>(
+    sink: &mut S,
+    state: &mut State<S::Handle>,
+    tag: Tag,
+) -> Turn<S::Handle>
+    requires { IsOpen S.TreeSink sink.old state.old }
+    ensures { TakesTag S.TreeSink (by_known after_frameset_end ignored_tag) tag sink.old state.old sink.new state.new result }
+{
+    match tag.name.known() {
+        KnownName::Html => after_frameset_end_html(sink, state, tag),
+        _ => ignored_tag(sink, state, tag),
+    }
+}
+
+#[tactic(auto, using(h5_rules::proofs::rows::KnownRuleLaws::after_frameset_start_known, h5_rules::proofs::rows::KnownRuleLaws::after_frameset_end_known), unfolding(h5_rules::specs::modes::AfterFrameset::after_frameset_tag))]
 fn after_frameset_tag<S: TreeSink>(
     sink: &mut S,
     state: &mut State<S::Handle>,
@@ -59,14 +71,7 @@ fn after_frameset_tag<S: TreeSink>(
 {
     match tag.kind {
         TagKind::StartTag => after_frameset_start_tag(sink, state, tag),
-        TagKind::EndTag => {
-            if tag.name.is(KnownName::Html) {
-                after_frameset_end_html(sink, state, tag)
-            } else {
-                unexpected_tag(sink, state, &tag);
-                Ok(ProcessResult::Done)
-            }
-        }
+        TagKind::EndTag => after_frameset_end_tag(sink, state, tag),
     }
 }
 

@@ -1,17 +1,16 @@
-//! The mode "in frameset" (HTML standard, section 13.2.6.4.20).
+//! The mode "in frameset" (HTML standard, section 13.2.6.4.18).
 ghost use Rattle.h5_types.specs.TurnText.{HasText, turn_text};
-ghost use Rattle.h5_meaning.specs.ByName.{by_name, ignored_tag};
-ghost use Rattle.h5_meaning.specs.InFrameset.{in_frameset, in_frameset_end_frameset, in_frameset_start, in_frameset_start_frame, in_frameset_start_frameset, in_frameset_tag};
+ghost use Rattle.h5_rules.specs.ByName.{by_known, ignored_tag};
+ghost use Rattle.h5_rules.specs.modes.InFrameset.{in_frameset, in_frameset_end, in_frameset_end_frameset, in_frameset_start, in_frameset_start_frame, in_frameset_start_frameset, in_frameset_tag};
 ghost use Rattle.h5_state.specs.Steps.{IsOpen, IsSound};
 ghost use Rattle.h5_state.specs.Turn.{TakesTag, TakesToken};
 
+use h5_closing::{is_below_frameset, is_root_alone};
+use h5_insertion::{append_comment, append_text, insert_and_pop_element, insert_element};
 use h5_interface::TreeSink;
 use h5_names::KnownName;
-use h5_operations::{append_comment, append_text, insert_and_pop_element, insert_element};
-use h5_rules_shared::in_body_start_html;
-use h5_rules_text::in_head_start_tag;
+use h5_rules_head::{ignored_tag, in_body_start_html, in_head_start_tag};
 use h5_state::{State, Turn, is_fragment, pop, set_mode, tell_error, unexpected, unexpected_tag};
-use h5_templates::{is_below_frameset, is_root_alone};
 use h5_token::{Tag, TagKind};
 use h5_types::{InsertionMode, ProcessResult, SplitStatus, Token};
 
@@ -44,7 +43,7 @@ fn in_frameset_start_frame<S: TreeSink>(
 }
 
 // An end tag `frameset`: behind the outermost one, in a document, the mode is left.
-#[tactic(auto, unfolding(h5_meaning::specs::InFrameset::in_frameset_end_frameset))]
+#[tactic(auto, unfolding(h5_rules::specs::modes::InFrameset::in_frameset_end_frameset))]
 fn in_frameset_end_frameset<S: TreeSink>(
     sink: &mut S,
     state: &mut State<S::Handle>,
@@ -66,30 +65,41 @@ fn in_frameset_end_frameset<S: TreeSink>(
 }
 
 // Start tags, by their names.
-#[tactic(auto, unfolding(h5_meaning::specs::InFrameset::in_frameset_start))]
+#[tactic(auto, unfolding(h5_rules::specs::modes::InFrameset::in_frameset_start, h5_names::specs::KnownNames::name_text))]
 fn in_frameset_start_tag<S: TreeSink>(
     sink: &mut S,
     state: &mut State<S::Handle>,
     tag: Tag,
 ) -> Turn<S::Handle>
     requires { IsOpen S.TreeSink sink.old state.old }
-    ensures { TakesTag S.TreeSink (by_name in_frameset_start ignored_tag) tag sink.old state.old sink.new state.new result }
+    ensures { TakesTag S.TreeSink (by_known in_frameset_start ignored_tag) tag sink.old state.old sink.new state.new result }
 {
-    if tag.name.is(KnownName::Html) {
-        in_body_start_html(sink, state, tag)
-    } else if tag.name.is(KnownName::Frameset) {
-        in_frameset_start_frameset(sink, state, tag)
-    } else if tag.name.is(KnownName::Frame) {
-        in_frameset_start_frame(sink, state, tag)
-    } else if tag.name.is(KnownName::Noframes) {
-        in_head_start_tag(sink, state, tag)
-    } else {
-        unexpected_tag(sink, state, &tag);
-        Ok(ProcessResult::Done)
+    match tag.name.known() {
+        KnownName::Html => in_body_start_html(sink, state, tag),
+        KnownName::Frameset => in_frameset_start_frameset(sink, state, tag),
+        KnownName::Frame => in_frameset_start_frame(sink, state, tag),
+        KnownName::Noframes => in_head_start_tag(sink, state, tag),
+        _ => ignored_tag(sink, state, tag),
     }
 }
 
-#[tactic(auto, unfolding(h5_meaning::specs::InFrameset::in_frameset_tag, h5_meaning::specs::InFrameset::in_frameset_end))]
+// End tags, by their names.
+#[tactic(auto, unfolding(h5_rules::specs::modes::InFrameset::in_frameset_end, h5_names::specs::KnownNames::name_text))]
+fn in_frameset_end_tag<S: TreeSink>(
+    sink: &mut S,
+    state: &mut State<S::Handle>,
+    tag: Tag,
+) -> Turn<S::Handle>
+    requires { IsOpen S.TreeSink sink.old state.old }
+    ensures { TakesTag S.TreeSink (by_known in_frameset_end ignored_tag) tag sink.old state.old sink.new state.new result }
+{
+    match tag.name.known() {
+        KnownName::Frameset => in_frameset_end_frameset(sink, state, tag),
+        _ => ignored_tag(sink, state, tag),
+    }
+}
+
+#[tactic(auto, using(h5_rules::proofs::rows::KnownRuleLaws::in_frameset_start_known, h5_rules::proofs::rows::KnownRuleLaws::in_frameset_end_known), unfolding(h5_rules::specs::modes::InFrameset::in_frameset_tag))]
 fn in_frameset_tag<S: TreeSink>(
     sink: &mut S,
     state: &mut State<S::Handle>,
@@ -100,14 +110,7 @@ fn in_frameset_tag<S: TreeSink>(
 {
     match tag.kind {
         TagKind::StartTag => in_frameset_start_tag(sink, state, tag),
-        TagKind::EndTag => {
-            if tag.name.is(KnownName::Frameset) {
-                in_frameset_end_frameset(sink, state, tag)
-            } else {
-                unexpected_tag(sink, state, &tag);
-                Ok(ProcessResult::Done)
-            }
-        }
+        TagKind::EndTag => in_frameset_end_tag(sink, state, tag),
     }
 }
 

@@ -7,9 +7,9 @@ use Rattle.h5_interface.specs.Forest.{IsForest}
 use Rattle.h5_interface.specs.Seen.{Seen, changed}
 use Rattle.h5_interface.specs.SinkChoices.{Rearranges}
 use Rattle.h5_interface.proofs.MakingLaws.{add_missing_rearranges}
-use Rattle.h5_meaning.specs.Order.{last_or, second_from_last}
-use Rattle.h5_meaning.proofs.SoundLaws.{rearranged_or_not}
-use Rattle.h5_meaning.proofs.RemovalLaws.{last_or-append}
+use Rattle.h5_rules.specs.stack.Order.{last_or, second_from_last}
+use Rattle.h5_rules.proofs.changes.SoundLaws.{rearranged_or_not}
+use Rattle.h5_rules.proofs.changes.RemovalLaws.{last_or-append}
 
 pub on_ok : {T E : Type 0} {P Q : Type 0} (r : Result T E) → (P → Q) → OnOk r P → OnOk r Q
 on_ok (Ok x) f h = f h

@@ -2,9 +2,9 @@
 use Rattle.std.proofs.Common.{◌≡◌, ◌+◌, ℕ, true, cond, List, ◌∷◌, ◌++◌, length, map, reverse, take, drop, inl, ap, sym, subst, ◌∙◌}
 use Rattle.std.specs.Prelude.{◌==◌}
 use Rattle.std.proofs.lemmas.Bool.{eqb-true}
-use Rattle.h5_meaning.specs.Adoption.{newer_than, older_than, without_node}
-use Rattle.h5_meaning.specs.Order.{IsIn}
-use Rattle.h5_meaning.proofs.PassLaws.{stack_split, without_node_split}
+use Rattle.h5_rules.specs.formatting.Adoption.{newer_than, older_than, without_node}
+use Rattle.h5_rules.specs.stack.Order.{IsIn}
+use Rattle.h5_rules.proofs.entries.PassLaws.{stack_split, without_node_split}
 use Rattle.h5_state.proofs.SeenLaws.{seen_removed}
 
 -- the first of those that are left is it

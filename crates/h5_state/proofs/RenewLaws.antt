@@ -4,7 +4,7 @@ use Rattle.std.proofs.Math.ListN.{set}
 use Rattle.std.proofs.Math.Seq.{map-set_same, take-append_seam}
 use Rattle.std.proofs.lemmas.List.{length-take, take_more, take_more_set}
 use Rattle.h5_interface.specs.Forest.{Forest}
-use Rattle.h5_meaning.specs.World.{name_in}
+use Rattle.h5_rules.specs.World.{name_in}
 use Rattle.h5_state.specs.Summaries.{all_open, summaries, summary_of}
 use Rattle.h5_state.specs.View.{open_node}
 use Rattle.h5_state.specs.declared.open_element.OpenElement.{OpenElement}

@@ -4,23 +4,23 @@ use Rattle.std.specs.Prelude.{slice_get, unwrap_or}
 use Rattle.h5_names.specs.declared.qualified.QualName.{QualName}
 use Rattle.h5_tag_sets.specs.TagSets.{html_namespace, is_html_named}
 use Rattle.h5_interface.specs.NewElement.{is_html_template}
-use Rattle.h5_meaning.specs.FormattingList.{Entry}
-use Rattle.h5_meaning.specs.Order.{IsIn}
-use Rattle.h5_meaning.specs.Scope.{second_is}
-use Rattle.h5_meaning.specs.Place.{inside}
-use Rattle.h5_meaning.specs.World.{World, name_in, name_of_found}
-use Rattle.h5_meaning.specs.Order.{first_or, last_or}
+use Rattle.h5_rules.specs.formatting.FormattingList.{Entry}
+use Rattle.h5_rules.specs.stack.Order.{IsIn}
+use Rattle.h5_rules.specs.stack.Scope.{second_is}
+use Rattle.h5_rules.specs.insertion.Place.{inside}
+use Rattle.h5_rules.specs.World.{World, name_in, name_of_found}
+use Rattle.h5_rules.specs.stack.Order.{first_or, last_or}
 use Rattle.std.proofs.lemmas.List.{length-map, length-reverse, map-append, reverse-append, take_more}
 use Rattle.h5_interface.specs.Changes.{mark}
 use Rattle.h5_interface.specs.Seen.{Seen, after_pop}
 use Rattle.h5_interface.specs.SinkChoices.{SinkChoices}
-use Rattle.h5_meaning.specs.Changes.{pop}
+use Rattle.h5_rules.specs.Changes.{pop}
 use Rattle.h5_interface.specs.Forest.{ElementNode, Forest, IsElement, Marks, contents_of, kind_of}
 use Rattle.h5_interface.proofs.MakingLaws.{mark_rearranges}
-use Rattle.h5_meaning.specs.Sound.{AllStand}
-use Rattle.h5_meaning.proofs.SoundLaws.{all_rearranged, all_tail}
-use Rattle.h5_meaning.proofs.PairLaws.{in_left, in_right}
-use Rattle.h5_meaning.proofs.RemovalLaws.{last_or-append}
+use Rattle.h5_rules.specs.Sound.{AllStand}
+use Rattle.h5_rules.proofs.changes.SoundLaws.{all_rearranged, all_tail}
+use Rattle.h5_rules.proofs.entries.PairLaws.{in_left, in_right}
+use Rattle.h5_rules.proofs.changes.RemovalLaws.{last_or-append}
 
 pub seen_pushed : {H A : Type 0} (node : H → A) (xs ys : List H) (x : H) → ys ≡ xs ++ x ∷ [] → reverse (map node ys) ≡ node x ∷ reverse (map node xs)
 seen_pushed node xs ys x e = ap (λ z. reverse (map node z)) e ∙ ap reverse (map-append node xs (x ∷ [])) ∙ reverse-append (map node xs) (node x ∷ [])

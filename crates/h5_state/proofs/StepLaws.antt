@@ -2,10 +2,10 @@
 use Rattle.std.proofs.Common.{◌≡◌, ap, sym, subst, ◌∙◌}
 use Rattle.h5_interface.specs.SinkChoices.{Rearranges}
 use Rattle.h5_interface.specs.declared.sink.TreeSink.{Ghosts}
-use Rattle.h5_meaning.specs.Sound.{Sound}
-use Rattle.h5_meaning.specs.World.{World, names_of}
-use Rattle.h5_meaning.proofs.NameLaws.{names_kept}
-use Rattle.h5_meaning.proofs.SoundLaws.{all_rearranged}
+use Rattle.h5_rules.specs.Sound.{Sound}
+use Rattle.h5_rules.specs.World.{World, names_of}
+use Rattle.h5_rules.proofs.changes.NameLaws.{names_kept}
+use Rattle.h5_rules.proofs.changes.SoundLaws.{all_rearranged}
 use Rattle.h5_state.specs.Steps.{IsSound, world_of}
 use Rattle.h5_state.specs.Summaries.{summaries}
 use Rattle.h5_state.specs.View.{world}

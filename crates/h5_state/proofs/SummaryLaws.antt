@@ -19,9 +19,9 @@ use Rattle.h5_interface.specs.NewElement.{is_html_template}
 use Rattle.h5_interface.specs.Seen.{Seen, after_pop}
 use Rattle.h5_interface.specs.SinkChoices.{SinkChoices}
 use Rattle.h5_tag_sets.specs.TagSets.{html_namespace, is_html_named}
-use Rattle.h5_meaning.specs.Scope.{has_template, later_names}
-use Rattle.h5_meaning.specs.World.{World, name_in, names_of}
-use Rattle.h5_meaning.proofs.PopLaws.{names-pop}
+use Rattle.h5_rules.specs.stack.Scope.{has_template, later_names}
+use Rattle.h5_rules.specs.World.{World, name_in, names_of}
+use Rattle.h5_rules.proofs.changes.PopLaws.{names-pop}
 use Rattle.h5_state.specs.Summaries.{all_open, html_number, name_number, open_templates, summaries, summary_of, text_number}
 use Rattle.h5_state.specs.View.{open_node}
 use Rattle.h5_state.specs.declared.open_element.OpenElement.{OpenElement}

@@ -1,7 +1,7 @@
 -- A run of blanks that grows, and one that has none.
 use Rattle.std.proofs.Common.{◌≡◌, ℕ, ◌+◌, ◌<◌, true, false, cond, List, [], ◌∷◌, ◌++◌, length, take, get_or, refl, arith}
 use Rattle.std.proofs.lemmas.List.{take_more}
-use Rattle.h5_meaning.specs.Blanks.{is_blank, rest_of}
+use Rattle.h5_rules.specs.Blanks.{is_blank, rest_of}
 
 rest_of-push : (t : List ℕ) (b : ℕ) → rest_of t ≡ [] → is_blank b ≡ true → rest_of (t ++ b ∷ []) ≡ []
 rest_of-push [] b h k = rw k refl

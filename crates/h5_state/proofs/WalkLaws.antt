@@ -3,10 +3,10 @@ use Rattle.std.proofs.Common.{ap, sym, subst, ◌∙◌, ◌≡◌, ◌+◌, ◌
 use Rattle.std.proofs.lemmas.List.{length-reverse, reverse-append, reverse-reverse, take-append-le, take-map, take_all}
 use Rattle.h5_names.specs.declared.qualified.QualName.{QualName}
 use Rattle.h5_interface.specs.Forest.{Forest}
-use Rattle.h5_meaning.specs.Order.{but_first}
-use Rattle.h5_meaning.specs.Scope.{cut_above, cut_through, in_scope}
-use Rattle.h5_meaning.specs.Place.{from_foster_parent, is_foster_parent}
-use Rattle.h5_meaning.specs.World.{name_in}
+use Rattle.h5_rules.specs.stack.Order.{but_first}
+use Rattle.h5_rules.specs.stack.Scope.{cut_above, cut_through, in_scope}
+use Rattle.h5_rules.specs.insertion.Place.{from_foster_parent, is_foster_parent}
+use Rattle.h5_rules.specs.World.{name_in}
 use Rattle.h5_state.specs.View.{open_node, stack_under}
 use Rattle.h5_state.specs.declared.state.State.{State}
 

@@ -1,8 +1,8 @@
 -- Where open elements stand: places of the stack are counted from the root.
 use Rattle.std.specs.Prelude.{◌≡◌, ℕ, length}
-use Rattle.h5_meaning.specs.Adoption.{older_than}
-use Rattle.h5_meaning.specs.Order.{IsIn}
-use Rattle.h5_meaning.specs.World.{World}
+use Rattle.h5_rules.specs.formatting.Adoption.{older_than}
+use Rattle.h5_rules.specs.stack.Order.{IsIn}
+use Rattle.h5_rules.specs.World.{World}
 
 -- an element is open, and stands at this place
 pub record IsOpenAt (n place : ℕ) (w : World) : Type 0 where

@@ -2,9 +2,9 @@
 -- names, and what the sink chooses.
 use Rattle.std.specs.Prelude.{◌≡◌, ◌<◌, ℕ, length, Result, OnOk}
 use Rattle.h5_interface.specs.declared.sink.TreeSink.{Ghosts}
-use Rattle.h5_meaning.specs.Rows.{Change, apply}
-use Rattle.h5_meaning.specs.Sound.{Sound}
-use Rattle.h5_meaning.specs.World.{World, names_of}
+use Rattle.h5_rules.specs.Rows.{Change, apply}
+use Rattle.h5_rules.specs.Sound.{Sound}
+use Rattle.h5_rules.specs.World.{World, names_of}
 use Rattle.h5_state.specs.Summaries.{summaries}
 use Rattle.h5_state.specs.View.{kept_of, world}
 use Rattle.h5_state.specs.declared.state.State.{State}
@@ -27,17 +27,24 @@ pub record IsOpen {S H O : Type 0} (law : Ghosts S H O) (sink : S) (state : Stat
   pub sound : IsSound law sink state
   pub some : 0 < length (world_of law sink state).stack
 
--- this change was made, and no parse error was told
-pub record Makes {S H O : Type 0} (law : Ghosts S H O) (change : Change) (old_sink : S) (old_state : State H) (new_sink : S) (new_state : State H) : Type 0 where
-  pub world : world_of law new_sink new_state ≡ apply law.choices change (world_of law old_sink old_state)
+-- the world became what a function makes of it, no parse error was told, and what there is is sound
+pub record Becomes {S H O : Type 0} (law : Ghosts S H O) (change : World → World) (old_sink : S) (old_state : State H) (new_sink : S) (new_state : State H) : Type 0 where
+  pub world : world_of law new_sink new_state ≡ change (world_of law old_sink old_state)
   pub quiet : errors_of law new_sink ≡ errors_of law old_sink
   pub sound : IsSound law new_sink new_state
 
 -- the same, unless memory was refused; what there is then is sound, too
-pub record MakesIfOk {S H O T E : Type 0} (law : Ghosts S H O) (change : Change) (old_sink : S) (old_state : State H) (new_sink : S) (new_state : State H) (result : Result T E) : Type 0 where
-  pub world : OnOk result (world_of law new_sink new_state ≡ apply law.choices change (world_of law old_sink old_state))
+pub record BecomesIfOk {S H O T E : Type 0} (law : Ghosts S H O) (change : World → World) (old_sink : S) (old_state : State H) (new_sink : S) (new_state : State H) (result : Result T E) : Type 0 where
+  pub world : OnOk result (world_of law new_sink new_state ≡ change (world_of law old_sink old_state))
   pub quiet : errors_of law new_sink ≡ errors_of law old_sink
   pub sound : IsSound law new_sink new_state
+
+-- this change was made
+abbrev pub Makes : {S H O : Type 0} → Ghosts S H O → Change → S → State H → S → State H → Type 0
+Makes law change old_sink old_state new_sink new_state = Becomes law (apply law.choices change) old_sink old_state new_sink new_state
+
+abbrev pub MakesIfOk : {S H O T E : Type 0} → Ghosts S H O → Change → S → State H → S → State H → Result T E → Type 0
+MakesIfOk law change old_sink old_state new_sink new_state result = BecomesIfOk law (apply law.choices change) old_sink old_state new_sink new_state result
 
 -- nothing changes but, perhaps, the mark of parse errors
 pub record TellsErrors {S H O : Type 0} (law : Ghosts S H O) (old_sink new_sink : S) (state : State H) : Type 0 where

@@ -10,7 +10,7 @@ use Rattle.h5_names.specs.declared.known_name.KnownName.TheVariants.{Other}
 use Rattle.h5_names.specs.declared.qualified.QualName.{QualName}
 use Rattle.h5_interface.specs.NewElement.{is_html_template}
 use Rattle.h5_tag_sets.specs.TagSets.{html_namespace, is_implied, is_special}
-use Rattle.h5_meaning.specs.Scope.{has_body_in_scope, has_p_in_button_scope, has_unclosed}
+use Rattle.h5_rules.specs.stack.Scope.{has_body_in_scope, has_p_in_button_scope, has_unclosed}
 use Rattle.h5_state.specs.declared.open_element.AllOpen.{AllOpen}
 use Rattle.h5_state.specs.declared.open_element.Summary.{Summary}
 

@@ -7,19 +7,19 @@ use Rattle.h5_interface.specs.declared.sink.TreeSink.{Ghosts}
 use Rattle.h5_types.specs.TurnText.{TagTurn, TurnText, turn_text}
 use Rattle.h5_types.specs.declared.turns.ProcessResult.{ProcessResult}
 use Rattle.h5_types.specs.declared.turns.Token.{Token}
-use Rattle.h5_meaning.specs.Rows.{Follows, Row}
-use Rattle.h5_meaning.specs.World.{World}
+use Rattle.h5_rules.specs.Rows.{Follows, Row}
+use Rattle.h5_rules.specs.World.{World}
 use Rattle.h5_state.specs.Steps.{IsSound, errors_of, world_of}
 use Rattle.h5_state.specs.declared.state.State.{State}
 
 -- a turn for a token followed a rule, unless it was refused memory; what there is then is sound, too
-pub record Turns {S H O : Type 0} (law : Ghosts S H O) (rule : World → Row) (token : TurnText) (old_sink : S) (old_state : State H) (new_sink : S) (new_state : State H) (result : Result (ProcessResult H) AllocError) : Type 0 where
+pub record FollowsRule {S H O : Type 0} (law : Ghosts S H O) (rule : World → Row) (token : TurnText) (old_sink : S) (old_state : State H) (new_sink : S) (new_state : State H) (result : Result (ProcessResult H) AllocError) : Type 0 where
   pub follows : IfOk result (λ r. Follows law.choices law.node (rule (world_of law old_sink old_state)) token (world_of law old_sink old_state) (world_of law new_sink new_state) (errors_of law old_sink) (errors_of law new_sink) r)
   pub sound : IsSound law new_sink new_state
 
 -- a tag, or any token, was taken by this rule
 abbrev pub TakesTag : {S H O : Type 0} → Ghosts S H O → (TagText → World → Row) → Tag → S → State H → S → State H → Result (ProcessResult H) AllocError → Type 0
-TakesTag law rule tag old_sink old_state new_sink new_state result = Turns law (rule (tag_text tag)) (TagTurn (tag_text tag)) old_sink old_state new_sink new_state result
+TakesTag law rule tag old_sink old_state new_sink new_state result = FollowsRule law (rule (tag_text tag)) (TagTurn (tag_text tag)) old_sink old_state new_sink new_state result
 
 abbrev pub TakesToken : {S H O : Type 0} → Ghosts S H O → (TurnText → World → Row) → Token → S → State H → S → State H → Result (ProcessResult H) AllocError → Type 0
-TakesToken law rule token old_sink old_state new_sink new_state result = Turns law (rule (turn_text token)) (turn_text token) old_sink old_state new_sink new_state result
+TakesToken law rule token old_sink old_state new_sink new_state result = FollowsRule law (rule (turn_text token)) (turn_text token) old_sink old_state new_sink new_state result

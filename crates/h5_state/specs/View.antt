@@ -5,8 +5,8 @@ use Rattle.h5_token.specs.TokenText.{tag_text}
 use Rattle.h5_interface.specs.Seen.{Seen}
 use Rattle.h5_types.specs.declared.entry.FormatEntry.{FormatEntry}
 use Rattle.h5_types.specs.declared.entry.FormatEntry.TheVariants.{Element, Marker}
-use Rattle.h5_meaning.specs.World.{World, name_in}
-use Rattle.h5_meaning.specs.FormattingList.{Entry, ElementEntry, MarkerEntry}
+use Rattle.h5_rules.specs.World.{World, name_in}
+use Rattle.h5_rules.specs.formatting.FormattingList.{Entry, ElementEntry, MarkerEntry}
 use Rattle.h5_state.specs.declared.open_element.OpenElement.{OpenElement}
 use Rattle.h5_state.specs.declared.open_element.Summary.{Summary}
 use Rattle.h5_state.specs.declared.state.State.{State}

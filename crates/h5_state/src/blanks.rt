@@ -1,8 +1,8 @@
 //! Blanks, and the runs of a text (Infra standard: ASCII whitespace).
 ghost use Rattle.std.specs.Prelude.{◌≡◌, ◌≢◌, ◌<◌, ℕ, [], false, take, slice_index, IsCharBoundary};
-ghost use Rattle.h5_meaning.specs.Blanks.{all_blank, is_blank, rest_of};
-ghost use Rattle.h5_meaning.specs.Rows.{SetFramesetOkByText};
-ghost use Rattle.h5_meaning.specs.Text.{IsRun, all_blanks, splits};
+ghost use Rattle.h5_rules.specs.Blanks.{all_blank, is_blank, rest_of};
+ghost use Rattle.h5_rules.specs.Rows.{SetFramesetOkByText};
+ghost use Rattle.h5_rules.specs.Text.{IsRun, all_blanks, splits};
 ghost use Rattle.h5_state.specs.Steps.{IsSound, Makes};
 
 use super::state::State;
@@ -28,7 +28,7 @@ pub fn is_blank_text(text: &str) -> bool
 }
 
 /// The frameset flag goes off if the text has a character that is no blank.
-#[tactic(auto, unfolding(crate::specs::View::world, h5_meaning::specs::Changes::set_frameset_ok_by_text, h5_meaning::specs::World::names_of))]
+#[tactic(auto, unfolding(crate::specs::View::world, h5_rules::specs::Changes::set_frameset_ok_by_text, h5_rules::specs::World::names_of))]
 pub fn set_frameset_ok_by_text<S: TreeSink>(sink: &S, state: &mut State<S::Handle>, text: &str)
     requires { IsSound S.TreeSink sink.now state.old }
     ensures { Makes S.TreeSink (SetFramesetOkByText text.now) sink.now state.old sink.now state.new }

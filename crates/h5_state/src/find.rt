@@ -1,9 +1,9 @@
 //! An open element is looked for in the stack by its handle.
 ghost use Rattle.std.specs.Prelude.{◌≡◌, ◌<◌, ◌+◌, ◌∷◌, MatchOption, is_some, length};
 ghost use Rattle.h5_tag_sets.specs.TagSets.{is_default_scope};
-ghost use Rattle.h5_meaning.specs.Order.{is_in};
-ghost use Rattle.h5_meaning.specs.Scope.{node_in_scope};
-ghost use Rattle.h5_meaning.specs.World.{names_of};
+ghost use Rattle.h5_rules.specs.stack.Order.{is_in};
+ghost use Rattle.h5_rules.specs.stack.Scope.{node_in_scope};
+ghost use Rattle.h5_rules.specs.World.{names_of};
 ghost use Rattle.h5_state.specs.OpenPlaces.{IsOpenAt};
 ghost use Rattle.h5_state.specs.Steps.{IsSound, world_of};
 ghost use Rattle.h5_state.specs.View.{stack_under};

@@ -5,9 +5,9 @@ ghost use Rattle.h5_names.specs.KnownNames.{name_text};
 ghost use Rattle.h5_interface.specs.Forest.{IsElement};
 ghost use Rattle.h5_tag_sets.specs.ElementSets.{holds_element};
 ghost use Rattle.h5_tag_sets.specs.TagSets.{is_html_named, is_implied};
-ghost use Rattle.h5_meaning.specs.Place.{is_foster_parent};
-ghost use Rattle.h5_meaning.specs.Scope.{is_implied_but};
-ghost use Rattle.h5_meaning.specs.World.{name_in};
+ghost use Rattle.h5_rules.specs.insertion.Place.{is_foster_parent};
+ghost use Rattle.h5_rules.specs.stack.Scope.{is_implied_but};
+ghost use Rattle.h5_rules.specs.World.{name_in};
 ghost use Rattle.h5_state.specs.Summaries.{name_number};
 
 use super::open_element::{OpenElement, html_number};

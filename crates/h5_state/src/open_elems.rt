@@ -5,11 +5,11 @@ ghost use Rattle.h5_names.specs.declared.qualified.QualName.{QualName as NameTex
 ghost use Rattle.h5_names.specs.KnownNames.{name_text};
 ghost use Rattle.h5_interface.specs.Forest.{IsElement};
 ghost use Rattle.h5_tag_sets.specs.TagSets.{is_default_scope, is_html_named, is_implied, is_special};
-ghost use Rattle.h5_meaning.specs.Changes.{pop_while};
-ghost use Rattle.h5_meaning.specs.Order.{but_first};
-ghost use Rattle.h5_meaning.specs.Scope.{comes_before_special, cut_through, first_passes, has_body_in_scope, has_p_in_button_scope, has_template, has_unclosed, in_scope, second_is};
-ghost use Rattle.h5_meaning.specs.Rows.{GenerateImpliedEndExcept, PopUntilNamed};
-ghost use Rattle.h5_meaning.specs.World.{name_in, names_of, root};
+ghost use Rattle.h5_rules.specs.Changes.{pop_while};
+ghost use Rattle.h5_rules.specs.stack.Order.{but_first};
+ghost use Rattle.h5_rules.specs.stack.Scope.{comes_before_special, cut_through, first_passes, has_body_in_scope, has_p_in_button_scope, has_template, has_unclosed, in_scope, second_is};
+ghost use Rattle.h5_rules.specs.Rows.{GenerateImpliedEndExcept, PopUntilNamed};
+ghost use Rattle.h5_rules.specs.World.{name_in, names_of, root};
 ghost use Rattle.h5_state.specs.Steps.{IsSound, Makes, TellsErrors, errors_of, world_of};
 ghost use Rattle.h5_state.specs.Summaries.{all_open, html_number, name_number, open_templates, summaries};
 ghost use Rattle.h5_state.specs.View.{kept_of, names_under, stack_under, with_stack};
@@ -24,7 +24,7 @@ use h5_names::{KnownName, LocalName, QualName};
 use h5_tag_sets::{ElementSet, is_html_known, is_html_local};
 
 /// How many elements are open.
-#[tactic(auto, unfolding(crate::specs::View::world, crate::specs::View::names_under, crate::specs::View::stack_under, h5_meaning::specs::World::names_of))]
+#[tactic(auto, unfolding(crate::specs::View::world, crate::specs::View::names_under, crate::specs::View::stack_under, h5_rules::specs::World::names_of))]
 pub fn open_count<S: TreeSink>(sink: &S, state: &State<S::Handle>) -> usize
     ensures count { result ≡ length (world_of S.TreeSink sink.now state.now).stack }
     ensures all { names_under S.sees S.node sink.now state.now result ≡ names_of (world_of S.TreeSink sink.now state.now) }
@@ -167,7 +167,7 @@ pub fn find_named<S: TreeSink>(sink: &S, state: &State<S::Handle>, local: &Local
 }
 
 /// What is known of all open elements, from the newest of them alone.
-#[tactic(auto, unfolding(crate::specs::View::world, h5_meaning::specs::World::names_of))]
+#[tactic(auto, unfolding(crate::specs::View::world, h5_rules::specs::World::names_of))]
 pub fn all_open<S: TreeSink>(sink: &S, state: &State<S::Handle>) -> AllOpen
     requires { IsSound S.TreeSink sink.now state.now }
     ensures known { result ≡ all_open (names_of (world_of S.TreeSink sink.now state.now)) }
@@ -244,7 +244,7 @@ pub fn root_node<S: TreeSink>(sink: &S, state: &State<S::Handle>) -> S::Handle
 }
 
 /// Whether the second open element, from the root on, is an HTML `body`.
-#[tactic(auto, unfolding(crate::specs::View::world, h5_meaning::specs::World::names_of))]
+#[tactic(auto, unfolding(crate::specs::View::world, h5_rules::specs::World::names_of))]
 pub fn has_body_second<S: TreeSink>(sink: &S, state: &State<S::Handle>) -> bool
     requires { IsSound S.TreeSink sink.now state.now }
     ensures { result ≡ second_is (codes "body") (names_of (world_of S.TreeSink sink.now state.now)) }

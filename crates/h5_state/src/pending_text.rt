@@ -1,6 +1,6 @@
 //! Text of a table that is kept back (HTML standard, section 13.2.6.4.10, "In table text").
 ghost use Rattle.std.specs.Prelude.{◌≡◌, ◌==◌, ◌++◌, [], OnErr, OnOk, length, string_bytes};
-ghost use Rattle.h5_meaning.specs.Blanks.{all_blank};
+ghost use Rattle.h5_rules.specs.Blanks.{all_blank};
 
 use super::blanks::is_blank_text;
 use std::alloc::{AllocError, Global};
@@ -16,7 +16,7 @@ pub struct PendingText {
 
 impl Model for PendingText {
     ghost use Rattle.std.specs.Prelude.{◌≡◌, List, ℕ, string_bytes};
-    ghost use Rattle.h5_meaning.specs.Blanks.{all_blank};
+    ghost use Rattle.h5_rules.specs.Blanks.{all_blank};
 
     ghost Value = { List ℕ };
 

@@ -1,6 +1,6 @@
 //! What is kept beside open elements is made anew, where the elements below them changed.
 ghost use Rattle.std.specs.Prelude.{◌≡◌, ◌<◌, ◌≤◌, ◌+◌, length};
-ghost use Rattle.h5_meaning.specs.Sound.{Sound};
+ghost use Rattle.h5_rules.specs.Sound.{Sound};
 ghost use Rattle.h5_state.specs.Steps.{IsSound, world_of};
 ghost use Rattle.h5_state.specs.Summaries.{all_open, summaries};
 ghost use Rattle.h5_state.specs.View.{kept_under, names_under};

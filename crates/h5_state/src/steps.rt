@@ -2,11 +2,11 @@
 ghost use Rattle.std.specs.Prelude.{◌≡◌, codes, is_some};
 ghost use Rattle.std.specs.Option.{option_map};
 ghost use Rattle.h5_tag_sets.specs.TagSets.{is_html_named};
-ghost use Rattle.h5_meaning.specs.InBody.{is_quirks};
-ghost use Rattle.h5_meaning.specs.InTableText.{saved_mode};
-ghost use Rattle.h5_meaning.specs.Rows.{ClearForm, MarkStarted, Pop, SaveMode, SetFoster, SetFramesetNotOk, SetIgnoreLf, SetMode, SetQuirksMode};
-ghost use Rattle.h5_meaning.specs.Shared.{is_context};
-ghost use Rattle.h5_meaning.specs.World.{current};
+ghost use Rattle.h5_rules.specs.modes.InBody.{is_quirks};
+ghost use Rattle.h5_rules.specs.modes.InTableText.{saved_mode};
+ghost use Rattle.h5_rules.specs.Rows.{ClearForm, MarkStarted, Pop, SaveMode, SetFoster, SetFramesetNotOk, SetIgnoreLf, SetMode, SetQuirksMode};
+ghost use Rattle.h5_rules.specs.modes.Shared.{is_context};
+ghost use Rattle.h5_rules.specs.World.{current};
 ghost use Rattle.h5_state.specs.Steps.{IsOpen, IsSound, Makes, world_of};
 
 use super::state::State;
@@ -33,7 +33,7 @@ pub fn set_mode<S: TreeSink>(sink: &S, state: &mut State<S::Handle>, mode: Inser
 }
 
 /// Keeps the insertion mode, to go back to it.
-#[tactic(auto, unfolding(crate::specs::View::world, h5_meaning::specs::World::names_of))]
+#[tactic(auto, unfolding(crate::specs::View::world, h5_rules::specs::World::names_of))]
 pub fn save_mode<S: TreeSink>(sink: &S, state: &mut State<S::Handle>)
     requires { IsSound S.TreeSink sink.now state.old }
     ensures { Makes S.TreeSink SaveMode sink.now state.old sink.now state.new }
@@ -42,7 +42,7 @@ pub fn save_mode<S: TreeSink>(sink: &S, state: &mut State<S::Handle>)
 }
 
 /// Turns foster parenting on or off.
-#[tactic(auto, unfolding(crate::specs::View::world, h5_meaning::specs::World::names_of))]
+#[tactic(auto, unfolding(crate::specs::View::world, h5_rules::specs::World::names_of))]
 pub fn set_foster<S: TreeSink>(sink: &S, state: &mut State<S::Handle>, on: bool)
     requires { IsSound S.TreeSink sink.now state.old }
     ensures { Makes S.TreeSink (SetFoster on) sink.now state.old sink.now state.new }
@@ -51,7 +51,7 @@ pub fn set_foster<S: TreeSink>(sink: &S, state: &mut State<S::Handle>, on: bool)
 }
 
 /// The frameset flag goes off.
-#[tactic(auto, unfolding(crate::specs::View::world, h5_meaning::specs::World::names_of))]
+#[tactic(auto, unfolding(crate::specs::View::world, h5_rules::specs::World::names_of))]
 pub fn set_frameset_not_ok<S: TreeSink>(sink: &S, state: &mut State<S::Handle>)
     requires { IsSound S.TreeSink sink.now state.old }
     ensures { Makes S.TreeSink SetFramesetNotOk sink.now state.old sink.now state.new }
@@ -60,7 +60,7 @@ pub fn set_frameset_not_ok<S: TreeSink>(sink: &S, state: &mut State<S::Handle>)
 }
 
 /// A newline that comes next is dropped.
-#[tactic(auto, unfolding(crate::specs::View::world, h5_meaning::specs::World::names_of))]
+#[tactic(auto, unfolding(crate::specs::View::world, h5_rules::specs::World::names_of))]
 pub fn set_ignore_lf<S: TreeSink>(sink: &S, state: &mut State<S::Handle>)
     requires { IsSound S.TreeSink sink.now state.old }
     ensures { Makes S.TreeSink SetIgnoreLf sink.now state.old sink.now state.new }
@@ -69,7 +69,7 @@ pub fn set_ignore_lf<S: TreeSink>(sink: &S, state: &mut State<S::Handle>)
 }
 
 /// Builder and sink take a quirks mode.
-#[tactic(auto, unfolding(crate::specs::View::world, h5_meaning::specs::Changes::set_quirks_mode, h5_meaning::specs::World::names_of))]
+#[tactic(auto, unfolding(crate::specs::View::world, h5_rules::specs::Changes::set_quirks_mode, h5_rules::specs::World::names_of))]
 pub fn set_quirks_mode<S: TreeSink>(sink: &mut S, state: &mut State<S::Handle>, mode: QuirksMode)
     requires { IsSound S.TreeSink sink.old state.old }
     ensures { Makes S.TreeSink (SetQuirksMode mode) sink.old state.old sink.new state.new }
@@ -90,7 +90,7 @@ pub fn current_node<S: TreeSink>(sink: &S, state: &State<S::Handle>) -> S::Handl
 }
 
 /// The current node leaves the stack of open elements, and the sink is told.
-#[tactic(auto, unfolding(crate::specs::View::world, h5_meaning::specs::Changes::pop))]
+#[tactic(auto, unfolding(crate::specs::View::world, h5_rules::specs::Changes::pop))]
 pub fn pop<S: TreeSink>(sink: &mut S, state: &mut State<S::Handle>)
     requires { IsOpen S.TreeSink sink.old state.old }
     ensures { Makes S.TreeSink Pop sink.old state.old sink.new state.new }
@@ -101,7 +101,7 @@ pub fn pop<S: TreeSink>(sink: &mut S, state: &mut State<S::Handle>)
 }
 
 /// The current node is noted as a script that has started.
-#[tactic(auto, unfolding(crate::specs::View::world, h5_meaning::specs::Changes::mark_started))]
+#[tactic(auto, unfolding(crate::specs::View::world, h5_rules::specs::Changes::mark_started))]
 pub fn mark_started<S: TreeSink>(sink: &mut S, state: &State<S::Handle>)
     requires { IsOpen S.TreeSink sink.old state.now }
     ensures { Makes S.TreeSink MarkStarted sink.old state.now sink.new state.now }
@@ -119,7 +119,7 @@ pub fn has_form<S: TreeSink>(sink: &S, state: &State<S::Handle>) -> bool
 }
 
 /// The form element, which isn't one any more.
-#[tactic(auto, unfolding(crate::specs::View::world, h5_meaning::specs::World::names_of))]
+#[tactic(auto, unfolding(crate::specs::View::world, h5_rules::specs::World::names_of))]
 pub fn take_form<S: TreeSink>(sink: &S, state: &mut State<S::Handle>) -> Option<S::Handle>
     requires { IsSound S.TreeSink sink.now state.old }
     ensures made { Makes S.TreeSink ClearForm sink.now state.old sink.now state.new }

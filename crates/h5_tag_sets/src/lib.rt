@@ -1,4 +1,11 @@
-//! Sets of elements that the rules of tree construction ask for.
+//! Sets of elements that the rules of tree construction ask for, and two that the serializer asks for.
+//!
+//! `name_sets` has sets of local names, each a bit of a known name's word. `sets` asks of a name or an element whether
+//! it is in one: special and formatting elements, what ends a scope, implied end tags, contexts of tables, integration
+//! points. `element_sets` has sets as values, for a search among the open elements.
+//!
+//! It stands on names alone. The serializer, the rules of tree construction and their code stand on it. Begin with
+//! `specs/TagSets.antt`, which has each set as the standard has it, with its section; then `src/sets.rt`.
 #![tactic(auto)]
 
 mod element_sets;

@@ -1,9 +1,8 @@
 //! The parts of texts, tags and doctypes.
-use h5_constructs::{
-    Kept, cleaned, escape, is_plain, make_doctype, make_name, newline, plain_len, read_attributes,
-    reference, text_of,
+use h5_markup::{
+    Kept, Seen, cleaned, escape, is_plain, make_doctype, make_name, newline, plain_len,
+    read_attributes, reference, text_of,
 };
-use h5_scan::Seen;
 use h5_token::Doctype;
 use std::alloc::{AllocError, Global};
 use std::fmt::Write;

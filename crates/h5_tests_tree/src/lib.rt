@@ -1,4 +1,8 @@
 //! Tests: each public call of the serializer and of the arena once, with ample memory; and writers that fail.
+//!
+//! `serialize` has the calls of the serializer, and `arena` those of the arena and of two more lawful sinks; `walk` has
+//! trees as they are written, `failing` writers that fail at each write in turn, and `calls` calls of the arena where
+//! their conditions hold. Begin with `src/arena.rt`.
 #![tactic(auto)]
 
 #[cfg(test)]

@@ -5,15 +5,15 @@ use Rattle.std.proofs.lemmas.List.{length-drop}
 use Rattle.std.specs.Char.{is_ascii_alphabetic, to_ascii_lowercase}
 use Rattle.h5_token.specs.TokenText.{TokenText, TagIs}
 use Rattle.h5_token.specs.declared.tag.TagKind.TheVariants as kind
-use Rattle.h5_scan.specs.Matching.{Found}
-use Rattle.h5_scan.specs.Cuts.{is_in, before, from}
-use Rattle.h5_scan.specs.Ending.{ends, up_to_end, place_after}
-use Rattle.h5_scan.specs.declared.cut.Class.TheVariants.{NameEnd}
-use Rattle.h5_scan.specs.declared.ending.Inside.TheVariants.{TagName}
-use Rattle.h5_scan.proofs.Endings.{sought_end}
-use Rattle.h5_scan.proofs.Staying.{walk_stays, in_tag_name}
-use Rattle.h5_constructs.specs.Text.{name_of}
-use Rattle.h5_constructs.specs.Attributes.{attributes_of, distinct, has_duplicates}
+use Rattle.h5_markup.specs.Matching.{Found}
+use Rattle.h5_markup.specs.Cuts.{is_in, before, from}
+use Rattle.h5_markup.specs.Ending.{ends, up_to_end, place_after}
+use Rattle.h5_markup.specs.declared.cut.Class.TheVariants.{NameEnd}
+use Rattle.h5_markup.specs.declared.ending.Inside.TheVariants.{TagName}
+use Rattle.h5_markup.proofs.Endings.{sought_end}
+use Rattle.h5_markup.proofs.Staying.{walk_stays, in_tag_name}
+use Rattle.h5_markup.specs.Text.{name_of}
+use Rattle.h5_markup.specs.Attributes.{attributes_of, distinct, has_duplicates}
 use Rattle.h5_tokenizer.specs.Bare.{bare_tag, IsBare, BeginsBare}
 use Rattle.h5_tokenizer.specs.Tokens.{is_between, is_self_closing, last_is, start_tag, end_tag}
 use Rattle.h5_tokenizer.specs.Front.{Begins, Whole, in_data}

@@ -7,7 +7,7 @@ use Rattle.h5_token.specs.TokenText.{TokenText, DoctypeIs, TagIs, CommentIs, Cha
 use Rattle.h5_token.specs.Reply.{Reply}
 use Rattle.h5_token.specs.declared.tag.TagKind.{TagKind}
 use Rattle.h5_token.specs.declared.tag.TagKind.TheVariants.{StartTag, EndTag}
-use Rattle.h5_scan.proofs.Finds.{literal_gives}
+use Rattle.h5_markup.proofs.Finds.{literal_gives}
 use Rattle.h5_tokenizer.specs.Front.{Place}
 use Rattle.h5_tokenizer.specs.Lines.{line_behind, newlines, newlines_passed, passed}
 use Rattle.h5_tokenizer.specs.Read.{Step, marked, unmarked, token_step, switch_step, text_step, Read, nothing_read, read_on, after_tag, next_place}

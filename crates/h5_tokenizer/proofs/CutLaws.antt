@@ -2,9 +2,9 @@
 use Rattle.std.proofs.Common.{◌≡◌, ℕ, ◌<◌, Bool, true, false, List, [], ◌∷◌, ◌++◌, length, refl, sym, ap, ◌∙◌, subst, arith, append-nil}
 use Rattle.h5_token.specs.TokenText.{TokenText, Characters, EndOfFile}
 use Rattle.h5_token.specs.Reply.{Reply}
-use Rattle.h5_scan.specs.Matching.{Match, Open, No, Found, and_then, or_else, literal}
+use Rattle.h5_markup.specs.Matching.{Match, Open, No, Found, and_then, or_else, literal}
 use Rattle.std.specs.Prelude.{codes, Option, Some, None}
-use Rattle.h5_constructs.specs.Text.{reference, newline}
+use Rattle.h5_markup.specs.Text.{reference, newline}
 use Rattle.h5_tokenizer.specs.declared.front.Mode.{Mode}
 use Rattle.h5_tokenizer.specs.declared.front.Mode.TheVariants.{Data, RawData, Plaintext, Cdata}
 use Rattle.h5_tokenizer.specs.Front.{Opening, Turns, says, stands_for, comment, doctype, end_tag, start_tag, null, Piece, Bit, Whole, Switch, finished, other, front, Place}

@@ -4,7 +4,7 @@ use Rattle.h5_token.specs.TokenText.{TokenText, DoctypeIs, TagIs, CommentIs, Cha
 use Rattle.h5_token.specs.declared.tag.TagKind.{TagKind}
 use Rattle.h5_token.specs.declared.tag.TagKind.TheVariants.{StartTag, EndTag}
 use Rattle.h5_token.specs.Reply.{Reply}
-use Rattle.h5_scan.specs.Matching.{Match, Open, No, Found, and_then}
+use Rattle.h5_markup.specs.Matching.{Match, Open, No, Found, and_then}
 use Rattle.h5_tokenizer.specs.declared.front.Mode.{Mode}
 use Rattle.h5_tokenizer.specs.Front.{Place, Piece, Bit, Whole, Switch, front, mark}
 use Rattle.h5_tokenizer.specs.Read.{after_tag, next_place, in_mode, started, IsUndecided}

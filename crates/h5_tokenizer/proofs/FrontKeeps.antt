@@ -8,13 +8,13 @@ use Rattle.h5_token.specs.Reply.{Reply}
 use Rattle.h5_token.specs.declared.states.RawKind.TheVariants.{Rcdata, Rawtext, ScriptData}
 use Rattle.h5_tokenizer.specs.Lines.{newlines}
 use Rattle.h5_tokenizer.specs.Read.{Bits, no_bit, more_bits, Step, marked, unmarked, token_step, switch_step, text_step, Read, nothing_read, read_on}
-use Rattle.h5_scan.specs.Matching.{Match, Open, No, Found, literal, word, peek, and_then, or_else}
-use Rattle.h5_scan.specs.Cuts.{is_in}
-use Rattle.h5_scan.specs.declared.cut.Class.TheVariants.{NameEnd}
+use Rattle.h5_markup.specs.Matching.{Match, Open, No, Found, literal, word, peek, and_then, or_else}
+use Rattle.h5_markup.specs.Cuts.{is_in}
+use Rattle.h5_markup.specs.declared.cut.Class.TheVariants.{NameEnd}
 use Rattle.h5_tokenizer.specs.declared.front.Mode.{Mode}
 use Rattle.h5_tokenizer.specs.declared.front.Mode.TheVariants.{Data, RawData, Plaintext, Cdata}
 use Rattle.h5_tokenizer.specs.declared.front.Construct.TheVariants.{Comment, Doctype, StartTag, EndTag, RawEndTag}
-use Rattle.h5_constructs.specs.Text.{gives, reference, newline, cleaned, escape}
+use Rattle.h5_markup.specs.Text.{gives, reference, newline, cleaned, escape}
 use Rattle.h5_tokenizer.specs.Tokens.{start_of, token_of}
 use Rattle.h5_tokenizer.specs.Front.{Opening, Begins, Gives, Null, Turns, says, stands_for, cdata, in_data, raw_end_tag, reads_references, opening, Bit, Whole, Switch, finished, other, front, Place}
 use Rattle.h5_tokenizer.proofs.PartLaws.{Part, Parts, Keeps, ends_in_cr, part_none, part_twice, and_then_parts, or_else_parts, literal_keeps, word_keeps, peek_keeps, ahead_keeps, up_to_end_keeps, found_keeps, no_keeps, and_then_keeps, or_else_keeps}

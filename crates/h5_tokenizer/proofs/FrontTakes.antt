@@ -3,14 +3,14 @@ use Rattle.std.proofs.Common.{ℕ, ◌≤◌, Bool, true, false, List, [], ◌�
 use Rattle.std.specs.Prelude.{codes}
 use Rattle.std.specs.Char.{is_ascii_alphabetic}
 use Rattle.h5_token.specs.TokenText.{NullCharacter}
-use Rattle.h5_scan.specs.Matching.{Match, and_then, word, peek}
-use Rattle.h5_scan.specs.Cuts.{is_in}
-use Rattle.h5_scan.specs.declared.cut.Class.TheVariants.{NameEnd}
-use Rattle.h5_scan.proofs.Eating.{Takes, Eats, literal_eats, word_eats, peek_eats, ahead_eats, up_to_end_eats, found_eats, no_eats, and_then_eats, or_else_eats, eats_less}
+use Rattle.h5_markup.specs.Matching.{Match, and_then, word, peek}
+use Rattle.h5_markup.specs.Cuts.{is_in}
+use Rattle.h5_markup.specs.declared.cut.Class.TheVariants.{NameEnd}
+use Rattle.h5_markup.proofs.Eating.{Takes, Eats, literal_eats, word_eats, peek_eats, ahead_eats, up_to_end_eats, found_eats, no_eats, and_then_eats, or_else_eats, eats_less}
 use Rattle.h5_tokenizer.specs.declared.front.Mode.{Mode}
 use Rattle.h5_tokenizer.specs.declared.front.Mode.TheVariants.{Data, RawData, Plaintext, Cdata}
 use Rattle.h5_tokenizer.specs.declared.front.Construct.TheVariants.{Comment, Doctype, StartTag, EndTag, RawEndTag}
-use Rattle.h5_constructs.proofs.TextTakes.{reference_eats, newline_eats, cleaned_eats, escape_eats}
+use Rattle.h5_markup.proofs.TextTakes.{reference_eats, newline_eats, cleaned_eats, escape_eats}
 use Rattle.h5_tokenizer.specs.Tokens.{start_of, token_of}
 use Rattle.h5_tokenizer.specs.Front.{Opening, Begins, Gives, Null, Turns, says, stands_for, cdata, in_data, raw_end_tag, reads_references, opening, Bit, Whole, Switch, finished, other, front}
 

@@ -4,8 +4,8 @@ use Rattle.std.proofs.lemmas.Bool.{eqb-true, ne_eqb}
 use Rattle.std.proofs.lemmas.Bool.Decides.{eqb_tells, nat_tests}
 use Rattle.std.proofs.lemmas.List.{take-append-le}
 use Rattle.std.specs.Io.Iter.{u64_saturate}
-use Rattle.h5_constructs.specs.Plain.{is_plain}
-use Rattle.h5_constructs.proofs.PlainBytes.{plain}
+use Rattle.h5_markup.specs.Plain.{is_plain}
+use Rattle.h5_markup.proofs.PlainBytes.{plain}
 use Rattle.h5_tokenizer.specs.Front.{Place}
 use Rattle.h5_tokenizer.specs.Lines.{line_behind, newlines, newlines_passed, passed}
 use Rattle.h5_tokenizer.specs.Read.{behind}

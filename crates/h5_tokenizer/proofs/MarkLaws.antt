@@ -8,8 +8,8 @@ use Rattle.h5_token.specs.TokenText.{TokenText}
 use Rattle.h5_token.specs.Reply.{Reply, Continues, Refuses}
 use Rattle.h5_token.specs.declared.fault.BuildFault.{BuildFault}
 use Rattle.h5_token.specs.declared.fault.BuildFault.TheVariants as fault
-use Rattle.h5_scan.specs.Matching.{Open, Found}
-use Rattle.h5_scan.proofs.Eating.{literal_eats, eats_less}
+use Rattle.h5_markup.specs.Matching.{Open, Found}
+use Rattle.h5_markup.proofs.Eating.{literal_eats, eats_less}
 use Rattle.h5_tokenizer.specs.Front.{Place, Begins, mark}
 use Rattle.h5_tokenizer.specs.Read.{marked, unmarked, Read, Reads, started}
 use Rattle.h5_tokenizer.specs.Steps.{Pending, IsBehindMark, ComesTo, RunsInto, Runs, WaitsAt, RunsFrom, stops_as}
@@ -17,11 +17,11 @@ use Rattle.h5_tokenizer.specs.declared.front.Mode.{Mode}
 use Rattle.h5_tokenizer.specs.declared.state.Search.{Search}
 use Rattle.h5_tokenizer.specs.declared.state.Halt.{Halt}
 use Rattle.h5_tokenizer.specs.declared.state.Halt.TheVariants as halt
-use Rattle.h5_scan.specs.Ending.{walk}
+use Rattle.h5_markup.specs.Ending.{walk}
 use Rattle.std.proofs.lemmas.List.{take-append-le}
 use Rattle.h5_tokenizer.specs.Tokens.{start_of}
 use Rattle.h5_tokenizer.proofs.FrontStays.{opening_stable, found_stays}
-use Rattle.h5_constructs.proofs.TextTakes.{found_shorter}
+use Rattle.h5_markup.proofs.TextTakes.{found_shorter}
 use Rattle.h5_tokenizer.proofs.FrontKeeps.{read_part}
 use Rattle.h5_tokenizer.proofs.PartLaws.{Part}
 use Rattle.h5_tokenizer.proofs.ReadLaws.{reads_none, read_after}

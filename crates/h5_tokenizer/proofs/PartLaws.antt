@@ -3,9 +3,9 @@ use Rattle.std.proofs.Common.{◌≡◌, ℕ, ◌+◌, Bool, true, false, not, �
 use Rattle.std.proofs.lemmas.Bool.{eqb-true, false≢true}
 use Rattle.std.proofs.lemmas.Bool.Decides.{nat_tests}
 use Rattle.std.specs.Char.{to_ascii_lowercase}
-use Rattle.h5_scan.specs.Matching.{Match, Open, No, Found, and_then, or_else, literal, word, peek, ahead, prefixed}
-use Rattle.h5_scan.specs.Ending.{may_end, ends, next, up_to_end}
-use Rattle.h5_scan.specs.declared.ending.Inside.{Inside}
+use Rattle.h5_markup.specs.Matching.{Match, Open, No, Found, and_then, or_else, literal, word, peek, ahead, prefixed}
+use Rattle.h5_markup.specs.Ending.{may_end, ends, next, up_to_end}
+use Rattle.h5_markup.specs.declared.ending.Inside.{Inside}
 use Rattle.h5_tokenizer.specs.Lines.{newlines}
 
 -- whether the last of some bytes is a CR; where there are none, whether one came before

@@ -1,16 +1,16 @@
 -- Text, bit by bit.
 use Rattle.std.proofs.Common.{◌≡◌, ℕ, zero, suc, ◌<◌, ◌≤◌, Bool, true, false, List, [], ◌∷◌, ◌++◌, length, take, drop, get_or, refl, sym, ap, ◌∙◌, arith, append_assoc, append-nil, length-drop, max, le_refl}
 use Rattle.h5_token.specs.declared.states.RawKind.TheVariants.{Rcdata, Rawtext, ScriptData}
-use Rattle.h5_scan.specs.Matching.{Open, No, Found, or_else, and_then}
+use Rattle.h5_markup.specs.Matching.{Open, No, Found, or_else, and_then}
 use Rattle.h5_tokenizer.specs.declared.front.Mode.{Mode}
 use Rattle.h5_tokenizer.specs.declared.front.Mode.TheVariants.{Data, RawData, Plaintext, Cdata}
 use Rattle.h5_tokenizer.specs.Front.{Opening, Gives, Bit, in_data, raw_end_tag, opening, finished, other, front}
 use Rattle.h5_tokenizer.specs.Read.{Bits, no_bit, more_bits}
 use Rattle.h5_tokenizer.specs.Steps.{TakesBits, TakesMany}
 use Rattle.h5_tokenizer.proofs.FrontTakes.{front_eats}
-use Rattle.h5_constructs.specs.Plain.{is_plain}
-use Rattle.h5_constructs.proofs.PlainBytes.{Plain, plain}
-use Rattle.h5_constructs.proofs.TextTakes.{found_shorter}
+use Rattle.h5_markup.specs.Plain.{is_plain}
+use Rattle.h5_markup.proofs.PlainBytes.{Plain, plain}
+use Rattle.h5_markup.proofs.TextTakes.{found_shorter}
 
 -- where nothing else stands, and where something stands for a piece of text
 pub front_no : (mode : Mode) (last : List ℕ) (foreign : Bool) (xs : List ℕ) → opening mode last foreign xs ≡ No → front mode last foreign xs ≡ other xs

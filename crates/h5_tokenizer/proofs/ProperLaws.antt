@@ -4,15 +4,15 @@ use Rattle.std.specs.Prelude.{codes}
 use Rattle.std.specs.Char.{is_ascii_alphabetic}
 use Rattle.h5_token.specs.TokenText.{TokenText, Characters}
 use Rattle.h5_token.specs.Reply.{Reply}
-use Rattle.h5_scan.specs.Matching.{Match, Open, No, Found, and_then, or_else, literal, word, peek, ahead}
-use Rattle.h5_scan.specs.Cuts.{is_in}
-use Rattle.h5_scan.specs.Ending.{up_to_end}
-use Rattle.h5_scan.specs.declared.cut.Class.TheVariants.{NameEnd}
+use Rattle.h5_markup.specs.Matching.{Match, Open, No, Found, and_then, or_else, literal, word, peek, ahead}
+use Rattle.h5_markup.specs.Cuts.{is_in}
+use Rattle.h5_markup.specs.Ending.{up_to_end}
+use Rattle.h5_markup.specs.declared.cut.Class.TheVariants.{NameEnd}
 use Rattle.h5_tokenizer.specs.declared.front.Mode.{Mode}
 use Rattle.h5_tokenizer.specs.declared.front.Mode.TheVariants.{Data, RawData, Plaintext, Cdata}
 use Rattle.h5_tokenizer.specs.declared.front.Construct.{Construct}
 use Rattle.h5_tokenizer.specs.declared.front.Construct.TheVariants.{Comment, Doctype, StartTag, EndTag, RawEndTag}
-use Rattle.h5_constructs.specs.Text.{gives, reference, newline, cleaned, escape}
+use Rattle.h5_markup.specs.Text.{gives, reference, newline, cleaned, escape}
 use Rattle.h5_tokenizer.specs.Tokens.{start_of, token_of}
 use Rattle.h5_tokenizer.specs.Front.{Opening, Begins, Gives, Null, Turns, says, stands_for, cdata, in_data, raw_end_tag, reads_references, opening, Piece, Bit, Whole, Switch, finished, other, front, Place}
 use Rattle.h5_tokenizer.specs.Proper.{IsProper, AreProper}

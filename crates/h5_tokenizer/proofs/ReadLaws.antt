@@ -4,7 +4,7 @@ use Rattle.h5_token.specs.TokenText.{TokenText, DoctypeIs, TagIs, CommentIs, Cha
 use Rattle.h5_token.specs.Reply.{Reply, Continues}
 use Rattle.h5_token.specs.declared.tag.TagKind.{TagKind}
 use Rattle.h5_token.specs.declared.tag.TagKind.TheVariants.{StartTag, EndTag}
-use Rattle.h5_scan.proofs.Growth.{literal_stable}
+use Rattle.h5_markup.proofs.Growth.{literal_stable}
 use Rattle.h5_tokenizer.specs.Front.{Bit, Whole, Switch, Place}
 use Rattle.h5_tokenizer.specs.Read.{Bits, no_bit, more_bits, Step, marked, unmarked, token_step, switch_step, text_step, Read, nothing_read, read_on, Reads, behind, goes_on, in_mode, next_place, after_tag}
 use Rattle.h5_tokenizer.specs.declared.front.Mode.{Mode}

@@ -5,8 +5,8 @@ use Rattle.h5_token.specs.TokenText.{TokenText, Characters}
 use Rattle.h5_token.specs.Reply.{Reply, Continues, Refuses}
 use Rattle.h5_token.specs.declared.fault.BuildFault.{BuildFault}
 use Rattle.h5_token.specs.declared.fault.BuildFault.TheVariants as fault
-use Rattle.h5_scan.specs.Matching.{Match, Open, Found, or_else}
-use Rattle.h5_scan.specs.Ending.{walk, up_to_end}
+use Rattle.h5_markup.specs.Matching.{Match, Open, Found, or_else}
+use Rattle.h5_markup.specs.Ending.{walk, up_to_end}
 use Rattle.h5_tokenizer.specs.Tokens.{start_of, token_of}
 use Rattle.h5_tokenizer.specs.Front.{Opening, Begins, Turns, opening, Whole, Switch, Place, concluded, other, front}
 use Rattle.h5_tokenizer.specs.Lines.{newlines_passed}
@@ -18,7 +18,7 @@ use Rattle.h5_tokenizer.specs.declared.state.Stop.{Stop}
 use Rattle.h5_tokenizer.specs.declared.state.Search.{Search}
 use Rattle.h5_tokenizer.proofs.FrontTakes.{front_eats}
 use Rattle.h5_tokenizer.proofs.LineLaws.{behind_by}
-use Rattle.h5_constructs.proofs.TextTakes.{found_shorter}
+use Rattle.h5_markup.proofs.TextTakes.{found_shorter}
 use Rattle.h5_tokenizer.proofs.PlainLaws.{front_found, bits_join}
 
 module _ {M : Type 0} (reply_to : M → TokenText → Reply) (after : M → TokenText → ℕ → M) (foreign : M → Bool) where

@@ -3,12 +3,12 @@ use Rattle.std.specs.Prelude.{◌≡◌, ℕ, ◌<◌, ◌≤◌, Bool, true, fa
 use Rattle.std.specs.Char.{is_ascii_alphabetic}
 use Rattle.h5_token.specs.TokenText.{TokenText, TagIs}
 use Rattle.h5_token.specs.declared.tag.TagKind.{TagKind}
-use Rattle.h5_scan.specs.Matching.{Found}
-use Rattle.h5_scan.specs.Cuts.{is_in, before, from}
-use Rattle.h5_scan.specs.Ending.{place_after, up_to_end}
-use Rattle.h5_scan.specs.declared.cut.Class.TheVariants.{NameEnd}
-use Rattle.h5_scan.specs.declared.ending.Inside.TheVariants.{TagName}
-use Rattle.h5_constructs.specs.Text.{name_of}
+use Rattle.h5_markup.specs.Matching.{Found}
+use Rattle.h5_markup.specs.Cuts.{is_in, before, from}
+use Rattle.h5_markup.specs.Ending.{place_after, up_to_end}
+use Rattle.h5_markup.specs.declared.cut.Class.TheVariants.{NameEnd}
+use Rattle.h5_markup.specs.declared.ending.Inside.TheVariants.{TagName}
+use Rattle.h5_markup.specs.Text.{name_of}
 use Rattle.h5_tokenizer.specs.Front.{Whole, front}
 use Rattle.h5_tokenizer.specs.Lines.{newlines_passed}
 use Rattle.h5_tokenizer.specs.declared.front.Mode.{Mode}

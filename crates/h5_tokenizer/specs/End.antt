@@ -4,8 +4,8 @@ use Rattle.h5_token.specs.TokenText.{TokenText, CommentIs, Characters, EndOfFile
 use Rattle.h5_token.specs.Reply.{Reply, Continues, RunsScript, TurnsPlain, TurnsRaw, Indicates, Refuses}
 use Rattle.h5_token.specs.declared.fault.BuildFault.{BuildFault}
 use Rattle.h5_token.specs.declared.fault.BuildFault.TheVariants as fault
-use Rattle.h5_scan.specs.Matching.{Match, Open, No, Found}
-use Rattle.h5_constructs.specs.Text.{text_of}
+use Rattle.h5_markup.specs.Matching.{Match, Open, No, Found}
+use Rattle.h5_markup.specs.Text.{text_of}
 use Rattle.h5_tokenizer.specs.Front.{Opening, Begins, Gives, Null, Turns, Place, opening}
 use Rattle.h5_tokenizer.specs.Lines.{line_behind}
 use Rattle.h5_tokenizer.specs.ReaderText.{ReaderText}

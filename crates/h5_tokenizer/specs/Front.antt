@@ -4,11 +4,11 @@ use Rattle.std.specs.Char.{is_ascii_alphabetic}
 use Rattle.h5_token.specs.TokenText.{TokenText, NullCharacter}
 use Rattle.h5_token.specs.declared.states.RawKind.{RawKind}
 use Rattle.h5_token.specs.declared.states.RawKind.TheVariants.{Rcdata, Rawtext, ScriptData}
-use Rattle.h5_scan.specs.Matching.{Match, Open, No, Found, and_then, or_else, literal, word, peek, ahead}
-use Rattle.h5_scan.specs.Cuts.{is_in}
-use Rattle.h5_scan.specs.Ending.{up_to_end}
-use Rattle.h5_scan.specs.declared.cut.Class.TheVariants.{NameEnd}
-use Rattle.h5_constructs.specs.Text.{escape, reference, newline, cleaned}
+use Rattle.h5_markup.specs.Matching.{Match, Open, No, Found, and_then, or_else, literal, word, peek, ahead}
+use Rattle.h5_markup.specs.Cuts.{is_in}
+use Rattle.h5_markup.specs.Ending.{up_to_end}
+use Rattle.h5_markup.specs.declared.cut.Class.TheVariants.{NameEnd}
+use Rattle.h5_markup.specs.Text.{escape, reference, newline, cleaned}
 use Rattle.h5_tokenizer.specs.Tokens.{start_of, token_of}
 use Rattle.h5_tokenizer.specs.declared.front.Mode.{Mode}
 use Rattle.h5_tokenizer.specs.declared.front.Mode.TheVariants.{Data, RawData, Plaintext, Cdata}

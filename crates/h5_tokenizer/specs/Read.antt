@@ -4,7 +4,7 @@ use Rattle.h5_token.specs.TokenText.{TokenText, DoctypeIs, TagIs, CommentIs, Cha
 use Rattle.h5_token.specs.Reply.{Reply, Continues, RunsScript, TurnsPlain, TurnsRaw, Indicates, Refuses}
 use Rattle.h5_token.specs.declared.tag.TagKind.{TagKind}
 use Rattle.h5_token.specs.declared.tag.TagKind.TheVariants.{StartTag, EndTag}
-use Rattle.h5_scan.specs.Matching.{Open, No, Found}
+use Rattle.h5_markup.specs.Matching.{Open, No, Found}
 use Rattle.h5_tokenizer.specs.Front.{Bit, Whole, Switch, Place, front, mark}
 use Rattle.h5_tokenizer.specs.Lines.{line_behind}
 use Rattle.h5_tokenizer.specs.declared.front.Mode.{Mode}

@@ -7,8 +7,8 @@ use Rattle.h5_token.specs.Reply.{Reply, RunsScript, Indicates, Refuses, reply}
 use Rattle.h5_token.specs.declared.fault.BuildFault.{BuildFault}
 use Rattle.h5_token.specs.declared.fault.BuildFault.TheVariants as fault
 use Rattle.h5_token.specs.declared.sink.TokenSinkResult.{TokenSinkResult}
-use Rattle.h5_scan.specs.Matching.{Open, No, Found}
-use Rattle.h5_scan.specs.Ending.{walk}
+use Rattle.h5_markup.specs.Matching.{Open, No, Found}
+use Rattle.h5_markup.specs.Ending.{walk}
 use Rattle.h5_tokenizer.specs.Front.{Begins, opening, Place, front, mark}
 use Rattle.h5_tokenizer.specs.Tokens.{start_of}
 use Rattle.h5_tokenizer.specs.Read.{Bits, Step, Reads, goes_on, next_place, started, IsUndecided}

@@ -2,14 +2,14 @@
 use Rattle.std.specs.Prelude.{ℕ, Bool, true, false, ◌&&◌, List, [], ◌∷◌, ◌==◌, if◌then◌else◌}
 use Rattle.h5_token.specs.TokenText.{TokenText, DoctypeIs, TagIs, CommentIs}
 use Rattle.h5_token.specs.declared.tag.TagKind.TheVariants as kind
-use Rattle.h5_scan.specs.Cuts.{is_in, before, from}
-use Rattle.h5_scan.specs.Ending.{place_after}
-use Rattle.h5_scan.specs.declared.cut.Class.TheVariants.{NameEnd}
-use Rattle.h5_scan.specs.declared.ending.Inside.{Inside}
-use Rattle.h5_scan.specs.declared.ending.Inside.TheVariants as inside
-use Rattle.h5_constructs.specs.Text.{text_of, name_of}
-use Rattle.h5_constructs.specs.Attributes.{attributes_of, distinct, has_duplicates}
-use Rattle.h5_constructs.specs.Doctypes.{doctype_of}
+use Rattle.h5_markup.specs.Cuts.{is_in, before, from}
+use Rattle.h5_markup.specs.Ending.{place_after}
+use Rattle.h5_markup.specs.declared.cut.Class.TheVariants.{NameEnd}
+use Rattle.h5_markup.specs.declared.ending.Inside.{Inside}
+use Rattle.h5_markup.specs.declared.ending.Inside.TheVariants as inside
+use Rattle.h5_markup.specs.Text.{text_of, name_of}
+use Rattle.h5_markup.specs.Attributes.{attributes_of, distinct, has_duplicates}
+use Rattle.h5_markup.specs.Doctypes.{doctype_of}
 use Rattle.h5_tokenizer.specs.declared.front.Construct.{Construct}
 use Rattle.h5_tokenizer.specs.declared.front.Construct.TheVariants.{Comment, Doctype, StartTag, EndTag, RawEndTag}
 

@@ -2,14 +2,13 @@
 ghost use Rattle.std.specs.Prelude.{◌≡◌, ◌<◌, false, true, IfSome, IfOk};
 ghost use Rattle.std.specs.Char.{is_ascii_alphabetic};
 ghost use Rattle.h5_token.specs.TokenText.{TagIs, tag_text};
-ghost use Rattle.h5_scan.specs.Cuts.{is_in};
+ghost use Rattle.h5_markup.specs.Cuts.{is_in};
 ghost use Rattle.h5_tokenizer.specs.Bare.{bare_tag, BeginsBare, IsBare, IsBareName};
 ghost use Rattle.h5_tokenizer.specs.Lines.{newlines_passed};
 
 use super::front::Mode;
 use super::state::Search;
-use h5_constructs::make_name;
-use h5_scan::Class;
+use h5_markup::{Class, make_name};
 use h5_token::{Tag, TagKind};
 use std::alloc::{AllocError, Global};
 

@@ -4,14 +4,13 @@ ghost use Rattle.std.specs.Option.{option_map};
 ghost use Rattle.h5_token.specs.TokenText.{token_text};
 ghost use Rattle.h5_tokenizer.specs.End.{settle, text_token, unfinished, Takes, Finishes, Closes};
 ghost use Rattle.h5_tokenizer.specs.Steps.{place_of};
-ghost use Rattle.h5_constructs.specs.Text.{text_of};
+ghost use Rattle.h5_markup.specs.Text.{text_of};
 
 use super::front::{Construct, Mode, Opening, find_opening};
 use super::lines::line_behind;
 use super::state::State;
 use super::steps::ask;
-use h5_constructs::text_of;
-use h5_scan::Seen;
+use h5_markup::{Seen, text_of};
 use h5_token::{BuildFault, Token, TokenSink};
 use std::alloc::{AllocError, Global};
 

@@ -1,13 +1,12 @@
 //! What stands at the front of the input, in each state.
 ghost use Rattle.std.specs.Prelude.{◌≡◌, Bool};
-ghost use Rattle.h5_scan.specs.Matching.{and_then, or_else, Found};
-ghost use Rattle.h5_scan.specs.Seen.{seen};
+ghost use Rattle.h5_markup.specs.Matching.{and_then, or_else, Found};
+ghost use Rattle.h5_markup.specs.Seen.{seen};
 ghost use Rattle.h5_tokenizer.specs.Front as f;
 ghost use Rattle.h5_tokenizer.specs.Openings.{opening_of};
-ghost use Rattle.h5_constructs.specs.Text as t;
+ghost use Rattle.h5_markup.specs.Text as t;
 
-use h5_constructs::{cleaned, escape, newline, reference};
-use h5_scan::{Seen, literal, name_is, peek_letter, word};
+use h5_markup::{Seen, cleaned, escape, literal, name_is, newline, peek_letter, reference, word};
 use h5_token::states::RawKind;
 
 /// The states that are told apart between two tokens.

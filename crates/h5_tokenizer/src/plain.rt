@@ -2,17 +2,16 @@
 ghost use Rattle.std.specs.Prelude.{◌≡◌, List, [], ℕ, Bool, false, true, IfOk, IfSome, ◌<◌, ◌≤◌, length, slice_index, take};
 ghost use Rattle.std.specs.String.{string_bytes};
 ghost use Rattle.std.specs.Option.{option_copied};
-ghost use Rattle.h5_constructs.specs.Plain.{is_plain};
-ghost use Rattle.h5_scan.specs.Matching as m;
-ghost use Rattle.h5_scan.specs.Seen.{seen};
+ghost use Rattle.h5_markup.specs.Plain.{is_plain};
+ghost use Rattle.h5_markup.specs.Matching as m;
+ghost use Rattle.h5_markup.specs.Seen.{seen};
 ghost use Rattle.h5_tokenizer.specs.Front.{opening};
 ghost use Rattle.h5_tokenizer.specs.Lines.{newlines, newlines_passed};
 ghost use Rattle.h5_tokenizer.specs.Openings.{opening_of};
 ghost use Rattle.h5_tokenizer.specs.Steps.{TakesBits, TakesSome, TakesMany};
 
 use super::front::{Mode, Opening, find_opening};
-use h5_constructs::{is_plain, plain_len};
-use h5_scan::Seen;
+use h5_markup::{Seen, is_plain, plain_len};
 use memchr::memchr;
 use std::alloc::{AllocError, Global};
 

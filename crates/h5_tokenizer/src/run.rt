@@ -4,7 +4,7 @@ ghost use Rattle.h5_tokenizer.specs.Steps.{place_of, Pending, Runs, RunsFrom, Sk
 
 use super::state::{Halt, Search, State, Turn};
 use super::steps::step;
-use h5_scan::{Seen, literal};
+use h5_markup::{Seen, literal};
 use h5_token::{BuildFault, TokenSink};
 use std::alloc::Global;
 

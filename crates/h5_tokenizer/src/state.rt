@@ -2,8 +2,8 @@
 ghost use Rattle.std.specs.Prelude.{◌≡◌};
 
 use super::front::Mode;
+use h5_markup::Inside;
 use h5_names::LocalName;
-use h5_scan::Inside;
 
 /// Where the reader is between two tokens.
 #[derive(Drop)]

@@ -1,7 +1,7 @@
 //! One step of the reader: the token at the front is handed on, or a part that is none is passed.
 ghost use Rattle.std.specs.Prelude.{◌≡◌, ℕ, false, [], length, ◌<◌};
 ghost use Rattle.std.specs.String.{string_bytes};
-ghost use Rattle.h5_scan.specs.Matching as m;
+ghost use Rattle.h5_markup.specs.Matching as m;
 ghost use Rattle.h5_token.specs.TokenText.{Characters, TagIs, tag_text, token_text};
 ghost use Rattle.h5_tokenizer.specs.Front as f;
 ghost use Rattle.h5_tokenizer.specs.Read.{chosen_mode};
@@ -14,7 +14,7 @@ use super::lines::newlines_passed;
 use super::plain::{begin_long, begin_text, cut_plain, take_plain, take_texts};
 use super::state::{Search, State, Stop, Turn};
 use super::tokens::make_token;
-use h5_scan::{Inside, Seen, Sought, seek_end};
+use h5_markup::{Inside, Seen, Sought, seek_end};
 use h5_token::{BuildFault, Tag, TagKind, Token, TokenSink, TokenSinkResult};
 use std::alloc::Global;
 
@@ -135,7 +135,7 @@ fn turn<'a, H: Drop>(stopped: Option<Stop<H>>, rest: &'a str, lines: u64) -> Tur
 }
 
 ghost use Rattle.std.specs.Prelude.{◌≤◌, ◌⊎◌, Bool, List, Option, Some, None, take};
-ghost use Rattle.h5_scan.specs.Ending.{walk};
+ghost use Rattle.h5_markup.specs.Ending.{walk};
 ghost use Rattle.h5_tokenizer.specs.Lines.{newlines_passed};
 ghost use Rattle.h5_tokenizer.specs.Tokens.{start_of};
 ghost use Rattle.h5_tokenizer.specs.Steps.{fresh};

@@ -1,13 +1,12 @@
 //! The tokens that comments, doctypes and tags are.
 ghost use Rattle.std.specs.Prelude.{◌≡◌, IfOk};
 ghost use Rattle.h5_token.specs.TokenText.{token_text};
-ghost use Rattle.h5_scan.specs.Ending.{place_after};
-ghost use Rattle.h5_constructs.specs.Text.{text_of};
+ghost use Rattle.h5_markup.specs.Ending.{place_after};
+ghost use Rattle.h5_markup.specs.Text.{text_of};
 ghost use Rattle.h5_tokenizer.specs.Tokens as s;
 
 use super::front::Construct;
-use h5_constructs::{make_doctype, make_name, read_attributes, text_of};
-use h5_scan::{Class, Inside, cut_at};
+use h5_markup::{Class, Inside, cut_at, make_doctype, make_name, read_attributes, text_of};
 use h5_token::{Tag, TagKind, Token};
 use std::alloc::{AllocError, Global};
 

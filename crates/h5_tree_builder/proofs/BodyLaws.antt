@@ -5,17 +5,17 @@ use Rattle.h5_types.specs.TurnText.{HasText, TextTurn, TurnText}
 use Rattle.h5_types.specs.declared.modes.SplitStatus.{SplitStatus}
 use Rattle.h5_types.specs.declared.turns.ProcessResult.{ProcessResult}
 use Rattle.h5_types.specs.declared.turns.ProcessResult.TheVariants as results
-use Rattle.h5_meaning.specs.Foreign.{is_foreign}
-use Rattle.h5_meaning.specs.ForeignContent.{dispatch}
-use Rattle.h5_meaning.specs.Modes.{rule}
-use Rattle.h5_meaning.specs.Rows.{Follows}
-use Rattle.h5_meaning.specs.Settle.{Settled, settle}
-use Rattle.h5_meaning.specs.Shared.{in_body_text}
-use Rattle.h5_meaning.specs.Sound.{Fits, Sound}
-use Rattle.h5_meaning.specs.World.{World}
-use Rattle.h5_meaning.proofs.ForeignFitLaws.{fits_done}
-use Rattle.h5_meaning.proofs.ForeignRowLaws.{dispatch_html}
-use Rattle.h5_meaning.proofs.SettleLaws.{ends_here}
+use Rattle.h5_rules.specs.insertion.Foreign.{is_foreign}
+use Rattle.h5_rules.specs.modes.ForeignContent.{dispatch}
+use Rattle.h5_rules.specs.modes.Modes.{rule}
+use Rattle.h5_rules.specs.Rows.{Follows}
+use Rattle.h5_rules.specs.Settle.{Settled, settle}
+use Rattle.h5_rules.specs.modes.Shared.{in_body_text}
+use Rattle.h5_rules.specs.Sound.{Fits, Sound}
+use Rattle.h5_rules.specs.World.{World}
+use Rattle.h5_laws.proofs.kept.ForeignFitLaws.{fits_done}
+use Rattle.h5_laws.proofs.modes.ForeignRowLaws.{dispatch_html}
+use Rattle.h5_laws.proofs.turns.SettleLaws.{ends_here}
 use Rattle.h5_tree_builder.specs.TextInBody.{TakesTextByBody}
 
 module _ {H : Type 0} (choices : SinkChoices) (node : H → ℕ) where

@@ -9,12 +9,12 @@ use Rattle.h5_types.specs.TurnText.{TagTurn, CommentTurn, NullTurn, EofTurn}
 use Rattle.h5_types.specs.declared.modes.InsertionMode.{InsertionMode}
 use Rattle.h5_types.specs.declared.modes.InsertionMode.TheVariants.{Initial, Text}
 use Rattle.h5_types.specs.declared.options.TreeBuilderOpts.{TreeBuilderOpts}
-use Rattle.h5_meaning.specs.Run.{doctype_in, is_counted, refuses_in, step, take_or_refuse, taken, tell_or_refuse, text_step, without_lf}
+use Rattle.h5_rules.specs.Run.{doctype_in, is_counted, refuses_in, step, take_or_refuse, taken, tell_or_refuse, text_step, without_lf}
 use Rattle.h5_interface.specs.declared.sink.TreeSink.{Ghosts}
-use Rattle.h5_meaning.specs.Sound.{Fits, HasLists, Sound}
-use Rattle.h5_meaning.specs.World.{World, names_of}
-use Rattle.h5_meaning.proofs.TurnLaws.{turns_few}
-use Rattle.h5_meaning.proofs.RunLaws.{is_taken, moved}
+use Rattle.h5_rules.specs.Sound.{Fits, HasLists, Sound}
+use Rattle.h5_rules.specs.World.{World, names_of}
+use Rattle.h5_laws.proofs.turns.TurnLaws.{turns_few}
+use Rattle.h5_laws.proofs.cuts.RunLaws.{is_taken, moved}
 use Rattle.h5_plain.proofs.StartLaws.{all_none, fits_none, lists_none}
 use Rattle.h5_state.specs.Steps.{world_of}
 use Rattle.h5_state.specs.Summaries.{summaries}
@@ -23,7 +23,7 @@ use Rattle.h5_state.specs.declared.state.State.{State}
 use Rattle.h5_tree_builder.specs.Builder.{Answered, Building, first_world}
 use Rattle.h5_tree_builder.specs.Chains.{CameTo}
 use Rattle.h5_tree_builder.specs.Held.{IsKept}
-use Rattle.h5_tree_builder.specs.declared.taken.Taken.{Taken}
+use Rattle.h5_tree_builder.specs.declared.turns_taken.Taken.{Taken}
 
 fits_first : (seen : Seen) (opts : TreeBuilderOpts) → Fits (first_world seen opts)
 unfolding names_of

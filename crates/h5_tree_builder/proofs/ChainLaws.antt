@@ -7,16 +7,16 @@ use Rattle.h5_interface.specs.SinkChoices.{SinkChoices}
 use Rattle.h5_types.specs.TurnText.{HasText, TurnText, is_self_closing}
 use Rattle.h5_types.specs.declared.modes.InsertionMode.{InsertionMode}
 use Rattle.h5_types.specs.declared.turns.ProcessResult.TheVariants as results
-use Rattle.h5_meaning.specs.Fits.{is_before_root}
-use Rattle.h5_meaning.specs.NamesFit.{NamesFit}
-use Rattle.h5_meaning.proofs.OpenLaws.{names_root_open}
-use Rattle.h5_meaning.specs.Changes.{set_mode}
-use Rattle.h5_meaning.specs.ForeignContent.{dispatch}
-use Rattle.h5_meaning.specs.Rows.{Follows}
-use Rattle.h5_meaning.specs.Settle.{Settled, settle}
-use Rattle.h5_meaning.specs.Sound.{Fits, IsReady, Sound, situation_of}
-use Rattle.h5_meaning.specs.World.{World, names_of}
-use Rattle.h5_meaning.proofs.SettleLaws.{acknowledged_here, answered_here, ends_here, goes_on}
+use Rattle.h5_rules.specs.fitting.Fits.{is_before_root}
+use Rattle.h5_rules.specs.fitting.NamesFit.{NamesFit}
+use Rattle.h5_rules.proofs.fitting.OpenLaws.{names_root_open}
+use Rattle.h5_rules.specs.Changes.{set_mode}
+use Rattle.h5_rules.specs.modes.ForeignContent.{dispatch}
+use Rattle.h5_rules.specs.Rows.{Follows}
+use Rattle.h5_rules.specs.Settle.{Settled, settle}
+use Rattle.h5_rules.specs.Sound.{Fits, HasHtmlRoot, Sound, situation_of}
+use Rattle.h5_rules.specs.World.{World, names_of}
+use Rattle.h5_laws.proofs.turns.SettleLaws.{acknowledged_here, answered_here, ends_here, goes_on}
 use Rattle.h5_state.specs.View.{open_node, world}
 use Rattle.h5_state.specs.declared.state.State.{State}
 use Rattle.h5_interface.specs.Seen.{Seen}
@@ -24,7 +24,7 @@ use Rattle.std.proofs.lemmas.List.{length-map, length-reverse}
 use Rattle.h5_tree_builder.specs.Chains.{CameTo, Left}
 
 -- once the root has been made builder and sink are ready
-pub ready_in_mode : (w : World) (m : InsertionMode) → w.mode ≡ m → is_before_root m ≡ false → Sound w → Fits w → IsReady w
+pub ready_in_mode : (w : World) (m : InsertionMode) → w.mode ≡ m → is_before_root m ≡ false → Sound w → Fits w → HasHtmlRoot w
 ready_in_mode w m e after k h = record { sound = k; lists = h.lists; root = names_root_open (situation_of w) m (names_of w) after (subst (λ x. NamesFit (situation_of w) x (names_of w)) e h.mode) }
 
 -- what a mode tells, where it is the world's

@@ -6,19 +6,19 @@ use Rattle.h5_interface.specs.declared.sink.TreeSink.{Ghosts}
 use Rattle.h5_types.specs.TurnText.{TurnText, turn_text}
 use Rattle.h5_types.specs.declared.turns.ProcessResult.{ProcessResult}
 use Rattle.h5_types.specs.declared.turns.Token.{Token}
-use Rattle.h5_meaning.specs.Foreign.{is_foreign}
-use Rattle.h5_meaning.specs.ForeignContent.{ByMode, ForeignStep, HasRow, by_mode, dispatch, foreign_step, row_of}
-use Rattle.h5_meaning.specs.Modes.{rule}
-use Rattle.h5_meaning.specs.Rows.{Change, Follows, Row, apply_all}
-use Rattle.h5_meaning.specs.Sound.{Fitting}
-use Rattle.h5_meaning.specs.World.{World}
-use Rattle.h5_meaning.proofs.ForeignFitLaws.{leaves_fitting}
-use Rattle.h5_meaning.proofs.ForeignModeLaws.{foreign_mode}
-use Rattle.h5_meaning.proofs.ForeignRowLaws.{any_has, dispatch_foreign, dispatch_html, each_step}
-use Rattle.h5_meaning.proofs.KeptLaws.{apply_append}
+use Rattle.h5_rules.specs.insertion.Foreign.{is_foreign}
+use Rattle.h5_rules.specs.modes.ForeignContent.{ByMode, ForeignStep, HasRow, by_mode, dispatch, foreign_step, row_of}
+use Rattle.h5_rules.specs.modes.Modes.{rule}
+use Rattle.h5_rules.specs.Rows.{Change, Follows, Row, apply_all}
+use Rattle.h5_rules.specs.Sound.{Fitting}
+use Rattle.h5_rules.specs.World.{World}
+use Rattle.h5_laws.proofs.kept.ForeignFitLaws.{leaves_fitting}
+use Rattle.h5_laws.proofs.modes.ForeignModeLaws.{foreign_mode}
+use Rattle.h5_laws.proofs.modes.ForeignRowLaws.{any_has, dispatch_foreign, dispatch_html, each_step}
+use Rattle.h5_rules.proofs.rows.KeptLaws.{apply_append}
 use Rattle.h5_rules_foreign.specs.ForeignSteps.{EndedBy, LeftToMode}
 use Rattle.h5_state.specs.Steps.{IsSound, errors_of, world_of}
-use Rattle.h5_state.specs.Turn.{Turns}
+use Rattle.h5_state.specs.Turn.{FollowsRule}
 use Rattle.h5_state.specs.declared.state.State.{State}
 
 -- what a builder keeps is kept by the changes before it
@@ -73,14 +73,14 @@ module _ {S H O : Type 0} (law : Ghosts S H O) (t : TurnText) (sink : S) (state 
   abbrev here : World
   here = world_of law sink state
 
-  pub turns_by_mode : (new_sink : S) (new_state : State H) (result : Result (ProcessResult H) AllocError) → is_foreign law.choices t here ≡ false → Turns law (rule here.mode t) t sink state new_sink new_state result → Turns law (dispatch law.choices t) t sink state new_sink new_state result
+  pub turns_by_mode : (new_sink : S) (new_state : State H) (result : Result (ProcessResult H) AllocError) → is_foreign law.choices t here ≡ false → FollowsRule law (rule here.mode t) t sink state new_sink new_state result → FollowsRule law (dispatch law.choices t) t sink state new_sink new_state result
   turns_by_mode new_sink new_state result h s = record {
     follows = subst (λ x. IfOk result (λ r. Follows law.choices law.node x t here (world_of law new_sink new_state) (errors_of law sink) (errors_of law new_sink) r)) (sym (dispatch_html law.choices t here h)) s.follows;
     sound = s.sound;
   }
 
   pub turns_in_foreign : (new_sink : S) (new_state : State H) (result : ProcessResult H) → is_foreign law.choices t here ≡ true → EndedBy law.choices law.node (foreign_step t here) t here (world_of law new_sink new_state) (errors_of law sink) (errors_of law new_sink) result
-      → IsSound law new_sink new_state → Turns law (dispatch law.choices t) t sink state new_sink new_state (Ok result)
+      → IsSound law new_sink new_state → FollowsRule law (dispatch law.choices t) t sink state new_sink new_state (Ok result)
   turns_in_foreign new_sink new_state result h e sound = record {
     follows = follows_row law.choices law.node t here (world_of law new_sink new_state) (errors_of law sink) (errors_of law new_sink) result e.row h e.is e.follows;
     sound = sound;
@@ -93,7 +93,7 @@ module _ {S H O : Type 0} (law : Ghosts S H O) (t : TurnText) (sink : S) (state 
     pub left_keeps : Fitting here → Fitting left
     left_keeps f = left_fitting law.choices t here left l.changes h l.is l.world f
 
-    pub turns_left : (new_sink : S) (new_state : State H) (result : Result (ProcessResult H) AllocError) → Turns law (rule left.mode (turn_text again)) (turn_text again) left_sink left_state new_sink new_state result → Turns law (dispatch law.choices t) t sink state new_sink new_state result
+    pub turns_left : (new_sink : S) (new_state : State H) (result : Result (ProcessResult H) AllocError) → FollowsRule law (rule left.mode (turn_text again)) (turn_text again) left_sink left_state new_sink new_state result → FollowsRule law (dispatch law.choices t) t sink state new_sink new_state result
     turns_left new_sink new_state result s =
         let new = world_of law new_sink new_state in
         let a = errors_of law sink in

@@ -2,12 +2,12 @@
 use Rattle.std.proofs.Common.{◌≡◌, ◌<◌, ℕ, List, [], ◌∷◌, length, refl, ap, sym, subst, ◌∙◌, arith}
 use Rattle.h5_interface.specs.Seen.{Seen}
 use Rattle.h5_interface.specs.SinkChoices.{SinkChoices}
-use Rattle.h5_meaning.specs.Changes.{pop}
-use Rattle.h5_meaning.specs.Sound.{HasLists}
-use Rattle.h5_meaning.specs.World.{World}
-use Rattle.h5_meaning.specs.FormattingList.{Entry}
-use Rattle.h5_meaning.specs.Lists.{Lists}
-use Rattle.h5_meaning.specs.Order.{but_first}
+use Rattle.h5_rules.specs.Changes.{pop}
+use Rattle.h5_rules.specs.Sound.{HasLists}
+use Rattle.h5_rules.specs.World.{World}
+use Rattle.h5_rules.specs.formatting.FormattingList.{Entry}
+use Rattle.h5_rules.specs.formatting.Lists.{Lists}
+use Rattle.h5_rules.specs.stack.Order.{but_first}
 use Rattle.h5_state.specs.View.{open_node, world}
 use Rattle.h5_state.specs.declared.state.State.{State}
 use Rattle.h5_state.proofs.AttributeLaws.{open_length}

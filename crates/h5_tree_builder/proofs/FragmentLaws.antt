@@ -1,7 +1,14 @@
 -- A fragment's builder that took nothing yet: all stands, and the root fits the insertion mode that is reset to.
-use Rattle.std.proofs.Common.{◌≡◌, ℕ, cond, false, List, [], ◌∷◌, codes, Option, None, Some, option_map, refl, ap, sym, subst, ◌∙◌}
+use Rattle.std.proofs.Common.{◌≡◌, ℕ, Bool, ◌&&◌, if◌then◌else◌, cond, false, List, [], ◌∷◌, codes, Option, None, Some, option_map, refl, ap, sym, subst, ◌∙◌}
 use Rattle.std.specs.Prelude.{MatchOption}
+use Rattle.h5_names.specs.AttributeText.{is_same_text}
+use Rattle.h5_names.specs.KnownNames.{known_name_of, known_names, name_text}
+use Rattle.h5_names.specs.declared.known_name.KnownName.TheVariants.{Noscript, Plaintext, Script}
 use Rattle.h5_names.specs.declared.qualified.QualName.{QualName}
+use Rattle.h5_names.proofs.KnownNameLemmas.{any_by_name}
+use Rattle.h5_token.specs.declared.states.State.{State as ReaderState}
+use Rattle.h5_token.specs.declared.states.State.TheVariants as reader
+use Rattle.h5_tag_sets.specs.TagSets.{is_one_of}
 use Rattle.h5_interface.specs.Forest.{Forest, IsElement, IsForest}
 use Rattle.h5_interface.specs.Seen.{Seen}
 use Rattle.h5_interface.specs.SinkChoices.{SinkChoices}
@@ -9,27 +16,29 @@ use Rattle.h5_interface.specs.declared.sink.TreeSink.{Ghosts}
 use Rattle.h5_types.specs.declared.modes.InsertionMode.{InsertionMode}
 use Rattle.h5_types.specs.declared.modes.InsertionMode.TheVariants.{InTemplate}
 use Rattle.h5_types.specs.declared.options.TreeBuilderOpts.{TreeBuilderOpts}
-use Rattle.h5_meaning.specs.FormattingNames.{html_name}
-use Rattle.h5_meaning.specs.SituationChanges.{start_modes, start_of}
-use Rattle.h5_meaning.specs.Fits.{Situation}
-use Rattle.h5_meaning.specs.NamesFit.{NamesFit}
-use Rattle.h5_meaning.specs.ResetByRoles.{reset}
-use Rattle.h5_meaning.specs.Roles.{Role, TemplateRole, is_template, role_of, roles}
-use Rattle.h5_meaning.proofs.NamesFitLaws.{names_fragment}
-use Rattle.h5_meaning.proofs.RoleLaws.{local_html, role_made}
-use Rattle.h5_meaning.proofs.SetLaws.{template_test}
-use Rattle.h5_meaning.specs.Changes.{create_root}
-use Rattle.h5_meaning.specs.Reset.{reset_mode}
-use Rattle.h5_meaning.specs.Rows.{CreateRoot}
-use Rattle.h5_meaning.specs.Sound.{Fits, Sound, situation_of}
-use Rattle.h5_meaning.specs.World.{World, name_in, name_of_found, names_of}
-use Rattle.h5_meaning.proofs.ListsLaws.{IsSteady, steady_changes}
-use Rattle.h5_meaning.proofs.NameLaws.{names-insert_root}
-use Rattle.h5_meaning.proofs.SituationLaws.{situation_root}
-use Rattle.h5_meaning.proofs.SoundLaws.{element_is_node}
+use Rattle.h5_rules.specs.ByName.{Only}
+use Rattle.h5_rules.specs.formatting.FormattingNames.{html_name}
+use Rattle.h5_rules.specs.fitting.SituationChanges.{start_modes, start_of}
+use Rattle.h5_rules.specs.fitting.Fits.{Situation}
+use Rattle.h5_rules.specs.fitting.NamesFit.{NamesFit}
+use Rattle.h5_rules.specs.fitting.ResetByRoles.{reset}
+use Rattle.h5_rules.specs.fitting.Roles.{Role, TemplateRole, is_template, role_of, roles}
+use Rattle.h5_rules.proofs.rows.KnownRuleLaws.{among_by_known}
+use Rattle.h5_rules.proofs.fitting.NamesFitLaws.{names_fragment}
+use Rattle.h5_rules.proofs.roles.RoleLaws.{local_html, role_made}
+use Rattle.h5_rules.proofs.roles.SetLaws.{template_test}
+use Rattle.h5_rules.specs.Changes.{create_root}
+use Rattle.h5_rules.specs.fitting.Reset.{reset_mode}
+use Rattle.h5_rules.specs.Rows.{CreateRoot}
+use Rattle.h5_rules.specs.Sound.{Fits, Sound, situation_of}
+use Rattle.h5_rules.specs.World.{World, name_in, name_of_found, names_of}
+use Rattle.h5_rules.proofs.changes.ListsLaws.{IsSteady, steady_changes}
+use Rattle.h5_rules.proofs.changes.NameLaws.{names-insert_root}
+use Rattle.h5_rules.proofs.changes.SituationLaws.{situation_root}
+use Rattle.h5_rules.proofs.changes.SoundLaws.{element_is_node}
 use Rattle.h5_state.specs.Steps.{IsSound, world_of}
 use Rattle.h5_state.specs.declared.state.State.{State}
-use Rattle.h5_tree_builder.specs.Fragment.{context_modes, context_world, fragment_world, rooted_world}
+use Rattle.h5_tree_builder.specs.Fragment.{context_modes, context_world, fragment_world, rawtext_context_names, rcdata_context_names, rooted_world, state_of_local}
 use Rattle.h5_tree_builder.specs.Held.{IsKept}
 use Rattle.h5_plain.proofs.StartLaws.{lists_none, stands_none}
 
@@ -111,3 +120,26 @@ pub fragment_kept : {S H O : Type 0} (law : Ghosts S H O) (sink : S) (state : St
 fragment_kept law sink state choices seen context form opts k c f sound e =
     let fits = subst Fits (sym e) (fragment_fits seen context form opts k c f choices) in
     record { sound = sound; fits = λ a b. fits; lists = λ a. fits.lists; closed = λ h. absurd (cc) }
+
+-- how text is read by a local name is how it is read by what HTML knows the name as
+same_choice : (b c : Bool) (x y z : ReaderState) → b ≡ c → y ≡ z → (if b then x else y) ≡ (if c then x else z)
+same_choice b c x y z e f = ap (λ d. if d then x else y) e ∙ ap (λ r. if c then x else r) f
+
+pub state_by_known : (scripting : Bool) (l : List ℕ) → state_of_local scripting (name_text (known_name_of l)) ≡ state_of_local scripting l
+unfolding state_of_local rcdata_context_names rawtext_context_names known_name_of known_names
+state_by_known scripting l =
+    same_choice _ _ _ _ _ (any_by_name rcdata_context_names l refl)
+    (same_choice _ _ _ _ _ (any_by_name rawtext_context_names l refl)
+    (same_choice _ _ _ _ _ (among_by_known (Only Script) l refl)
+    (same_choice _ _ _ _ _ (ap (λ b. b && scripting) (among_by_known (Only Noscript) l refl))
+    (same_choice _ _ _ _ _ (among_by_known (Only Plaintext) l refl) refl))))
+
+-- and where a name is none of those that are asked for, it is read as data
+pub state_of_no_name : (scripting : Bool) (l : List ℕ) → is_one_of rcdata_context_names l ≡ false → is_one_of rawtext_context_names l ≡ false → is_same_text l (codes "script") ≡ false → is_same_text l (codes "noscript") ≡ false → is_same_text l (codes "plaintext") ≡ false
+    → reader.Data ≡ state_of_local scripting l
+unfolding state_of_local
+state_of_no_name scripting l rcdata rawtext script noscript plaintext =
+    sym (same_choice _ false _ _ _ rcdata
+    (same_choice _ false _ _ _ rawtext
+    (same_choice _ false _ _ _ script
+    (same_choice _ false _ _ _ (ap (λ b. b && scripting) noscript) (same_choice _ false _ _ _ plaintext refl)))))

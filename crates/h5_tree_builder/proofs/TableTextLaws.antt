@@ -5,11 +5,11 @@ use Rattle.h5_types.specs.TurnText.{TextTurn, TurnText}
 use Rattle.h5_types.specs.declared.modes.InsertionMode.{InsertionMode}
 use Rattle.h5_types.specs.declared.modes.InsertionMode.TheVariants.{InRow, InTable, InTableBody, InTableText}
 use Rattle.h5_types.specs.declared.modes.SplitStatus.TheVariants.{NotSplit}
-use Rattle.h5_meaning.specs.Changes.{append_pending_text, save_mode, set_mode}
-use Rattle.h5_meaning.specs.Foreign.{adjusted_current_node, is_foreign, is_foreign_at, is_foreign_text}
-use Rattle.h5_meaning.specs.InTable.{keeps_text}
-use Rattle.h5_meaning.specs.Text.{foreign_text, fostered_text, is_quiet_text, text_any, text_in, text_in_table, text_in_table_text}
-use Rattle.h5_meaning.specs.World.{World}
+use Rattle.h5_rules.specs.Changes.{append_pending_text, save_mode, set_mode}
+use Rattle.h5_rules.specs.insertion.Foreign.{adjusted_current_node, is_foreign, is_foreign_at, is_foreign_text}
+use Rattle.h5_rules.specs.modes.InTable.{keeps_text}
+use Rattle.h5_rules.specs.Text.{foreign_text, fostered_text, is_quiet_text, text_any, text_in, text_in_table, text_in_table_text}
+use Rattle.h5_rules.specs.World.{World}
 use Rattle.h5_tree_builder.specs.TextInTable.{KeepsTextBack}
 
 -- in a table, a row group and a row

@@ -4,7 +4,7 @@ use Rattle.h5_token.specs.TokenText.{tag_text}
 use Rattle.h5_token.specs.declared.tag.Tag.{Tag}
 use Rattle.h5_types.specs.declared.entry.FormatEntry.{FormatEntry}
 use Rattle.h5_types.specs.declared.entry.FormatEntry.TheVariants.{Element, Marker}
-use Rattle.h5_meaning.specs.FormattingList.{Entry, ElementEntry}
+use Rattle.h5_rules.specs.formatting.FormattingList.{Entry, ElementEntry}
 
 -- of entries with the newest first: up to the first marker, each element with its tag and its place, which is the number
 -- of older entries

@@ -14,12 +14,12 @@ use Rattle.h5_tag_sets.specs.TagSets.{html_namespace}
 use Rattle.h5_types.specs.Options.{default_options}
 use Rattle.h5_types.specs.declared.modes.InsertionMode.TheVariants.{Initial}
 use Rattle.h5_types.specs.declared.options.TreeBuilderOpts.{TreeBuilderOpts}
-use Rattle.h5_meaning.specs.Changes.{pop}
+use Rattle.h5_rules.specs.Changes.{pop}
 use Rattle.h5_token.specs.Joins.{join}
-use Rattle.h5_meaning.specs.Cuts.{spread}
-use Rattle.h5_meaning.specs.Run.{CountsTurns, View, WasRefused, after_all, after_token, all_quiet, is_counted, is_quiet, last_turns, refusal, refuses_in, replies, reply_to, step, told_all, told_of}
-use Rattle.h5_meaning.specs.Foreign.{adjusted_current_node}
-use Rattle.h5_meaning.specs.World.{World, name_in}
+use Rattle.h5_laws.specs.Cuts.{spread}
+use Rattle.h5_rules.specs.Run.{CountsTurns, View, WasRefused, after_all, after_token, all_quiet, is_counted, is_quiet, last_turns, refusal, refuses_in, replies, reply_to, step, told_all, told_of}
+use Rattle.h5_rules.specs.insertion.Foreign.{adjusted_current_node}
+use Rattle.h5_rules.specs.World.{World, name_in}
 use Rattle.h5_plain.specs.Plain.{PlainDocument, document_tokens, plain_reply}
 use Rattle.h5_plain.specs.Rebuilding.{DocumentStands, HoldsDocument}
 use Rattle.h5_tree_builder.specs.Chains.{is_free}

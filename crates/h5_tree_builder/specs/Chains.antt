@@ -7,13 +7,13 @@ use Rattle.h5_token.specs.TokenText.{TokenText, Characters, ParseErrorIs}
 use Rattle.h5_interface.specs.SinkChoices.{SinkChoices}
 use Rattle.h5_interface.specs.declared.sink.TreeSink.{Ghosts}
 use Rattle.h5_types.specs.TurnText.{TurnText}
-use Rattle.h5_meaning.specs.Run.{is_empty_text, without_lf}
-use Rattle.h5_meaning.specs.Settle.{Settled, settle}
-use Rattle.h5_meaning.specs.Sound.{Fits}
-use Rattle.h5_meaning.specs.World.{World}
+use Rattle.h5_rules.specs.Run.{is_empty_text, without_lf}
+use Rattle.h5_rules.specs.Settle.{Settled, settle}
+use Rattle.h5_rules.specs.Sound.{Fits}
+use Rattle.h5_rules.specs.World.{World}
 use Rattle.h5_state.specs.Steps.{IsSound, errors_of, world_of}
 use Rattle.h5_state.specs.declared.state.State.{State}
-use Rattle.h5_tree_builder.specs.declared.taken.Taken.{Taken}
+use Rattle.h5_tree_builder.specs.declared.turns_taken.Taken.{Taken}
 
 -- a token may be taken: what holds at every moment, and what the mode tells
 pub record IsReady {S H O : Type 0} (law : Ghosts S H O) (sink : S) (state : State H) : Type 0 where

@@ -2,9 +2,9 @@
 use Rattle.std.specs.Prelude.{◌≡◌, ◌≢◌, ℕ, List, [], false}
 use Rattle.h5_interface.specs.SinkChoices.{SinkChoices}
 use Rattle.h5_types.specs.declared.modes.InsertionMode.TheVariants.{InTableText}
-use Rattle.h5_meaning.specs.Changes.{append_pending_text, save_mode, set_mode}
-use Rattle.h5_meaning.specs.Text.{is_quiet_text, text_any}
-use Rattle.h5_meaning.specs.World.{World}
+use Rattle.h5_rules.specs.Changes.{append_pending_text, save_mode, set_mode}
+use Rattle.h5_rules.specs.Text.{is_quiet_text, text_any}
+use Rattle.h5_rules.specs.World.{World}
 
 -- the mode is left for it, and it waits; in these modes a text may be a parse error
 pub record KeepsTextBack (choices : SinkChoices) (w : World) : Type 0 where

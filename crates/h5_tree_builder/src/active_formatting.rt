@@ -1,6 +1,6 @@
 //! The list of active formatting elements, from its end to its last marker (HTML standard, section 13.2.4.3).
 ghost use Rattle.std.specs.Prelude.{◌≡◌, length, map};
-ghost use Rattle.h5_meaning.specs.FormattingList.{after_marker};
+ghost use Rattle.h5_rules.specs.formatting.FormattingList.{after_marker};
 ghost use Rattle.h5_tree_builder.specs.ActiveFormatting.{falling, given_entry, given_place, still_given};
 ghost use Rattle.h5_tree_builder.specs.Held.{building};
 

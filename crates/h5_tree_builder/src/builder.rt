@@ -2,13 +2,13 @@
 ghost use Rattle.std.specs.Prelude.{◌≡◌, ◌++◌, [], ◌∷◌, false, true, IfErr, IfOk, MatchOption, option_map};
 ghost use Rattle.h5_interface.specs.Forest.{ChildNode, IsElement, children_of};
 ghost use Rattle.h5_token.specs.TokenText.{token_text};
-ghost use Rattle.h5_meaning.specs.Sound.{Fits, Fitting, HasLists, Sound};
+ghost use Rattle.h5_rules.specs.Sound.{Fits, Fitting, HasLists, Sound};
 ghost use Rattle.h5_tree_builder.specs.Held.{building};
 ghost use Rattle.h5_tree_builder.specs.Builder.{IsKeptWhole, Takes, ended_view, first_building};
 ghost use Rattle.h5_tree_builder.specs.Fragment.{first_fragment};
 
 use super::end::pop_all;
-use super::first::first_state;
+use super::first_state::first_state;
 use super::fragment::fragment_state;
 use super::process_token::{note_line, take_token};
 use super::refusal::refuses_in;

@@ -2,22 +2,22 @@
 ghost use Rattle.std.specs.Prelude.{◌≡◌, ◌<◌, false, true, IfOk};
 ghost use Rattle.h5_token.specs.TokenText.{tag_text};
 ghost use Rattle.h5_types.specs.TurnText.{HasText, TagTurn, is_self_closing as is_closing_turn, turn_text};
-ghost use Rattle.h5_meaning.specs.Foreign.{is_foreign};
-ghost use Rattle.h5_meaning.specs.ForeignContent.{dispatch};
-ghost use Rattle.h5_meaning.specs.Modes.{rule};
-ghost use Rattle.h5_meaning.specs.Settle.{settle};
+ghost use Rattle.h5_rules.specs.insertion.Foreign.{is_foreign};
+ghost use Rattle.h5_rules.specs.modes.ForeignContent.{dispatch};
+ghost use Rattle.h5_rules.specs.modes.Modes.{rule};
+ghost use Rattle.h5_rules.specs.Settle.{settle};
 ghost use Rattle.h5_state.specs.Steps.{IsSound, TellsErrors, errors_of, world_of};
-ghost use Rattle.h5_state.specs.Turn.{Turns};
+ghost use Rattle.h5_state.specs.Turn.{FollowsRule};
 ghost use Rattle.h5_tree_builder.specs.Chains.{IsReady, Settles};
 
-use super::taken::Taken;
-use h5_foreign::is_foreign;
+use super::turns_taken::Taken;
+use h5_insertion::is_foreign;
 use h5_interface::TreeSink;
 use h5_rules_body::{step_after_after_body, step_after_body, step_in_body};
 use h5_rules_foreign::{ForeignStep, step_foreign};
 use h5_rules_head::{
     step_after_head, step_before_head, step_before_html, step_in_head, step_in_head_noscript,
-    step_initial,
+    step_initial, step_text_mode,
 };
 use h5_rules_tables::{
     step_in_caption, step_in_cell, step_in_column_group, step_in_row, step_in_table,
@@ -26,7 +26,6 @@ use h5_rules_tables::{
 use h5_rules_templates::{
     step_after_after_frameset, step_after_frameset, step_in_frameset, step_in_template,
 };
-use h5_rules_text::step_text_mode;
 use h5_state::{State, Turn, current_mode, set_mode, tell_error, unexpected};
 use h5_token::{Tag, TagKind, TokenSinkResult};
 use h5_types::{InsertionMode, ProcessResult, Token};
@@ -41,7 +40,7 @@ pub fn step_by_any_mode<S: TreeSink>(
 ) -> Turn<S::Handle>
     requires ready { IsReady S.TreeSink sink.old state.old }
     requires text { HasText (turn_text token) }
-    ensures { Turns S.TreeSink (rule (world_of S.TreeSink sink.old state.old).mode (turn_text token)) (turn_text token) sink.old state.old sink.new state.new result }
+    ensures { FollowsRule S.TreeSink (rule (world_of S.TreeSink sink.old state.old).mode (turn_text token)) (turn_text token) sink.old state.old sink.new state.new result }
 {
     match current_mode(sink, state) {
         InsertionMode::Initial => step_initial(sink, state, token),
@@ -77,7 +76,7 @@ fn step_by_mode<S: TreeSink>(
 ) -> Turn<S::Handle>
     requires ready { IsReady S.TreeSink sink.old state.old }
     requires text { HasText (turn_text token) }
-    ensures { Turns S.TreeSink (rule (world_of S.TreeSink sink.old state.old).mode (turn_text token)) (turn_text token) sink.old state.old sink.new state.new result }
+    ensures { FollowsRule S.TreeSink (rule (world_of S.TreeSink sink.old state.old).mode (turn_text token)) (turn_text token) sink.old state.old sink.new state.new result }
 {
     match current_mode(sink, state) {
         InsertionMode::InBody => step_in_body(sink, state, token),
@@ -95,7 +94,7 @@ fn step_in_foreign<S: TreeSink>(
     requires ready { IsReady S.TreeSink sink.old state.old }
     requires text { HasText (turn_text token) }
     requires foreign { is_foreign S.choices (turn_text token) (world_of S.TreeSink sink.old state.old) ≡ true }
-    ensures { Turns S.TreeSink (dispatch S.choices (turn_text token)) (turn_text token) sink.old state.old sink.new state.new result }
+    ensures { FollowsRule S.TreeSink (dispatch S.choices (turn_text token)) (turn_text token) sink.old state.old sink.new state.new result }
 {
     match step_foreign(sink, state, token)? {
         ForeignStep::Ended(result) => Ok(result),
@@ -108,7 +107,7 @@ fn step_in_foreign<S: TreeSink>(
 fn step<S: TreeSink>(sink: &mut S, state: &mut State<S::Handle>, token: Token) -> Turn<S::Handle>
     requires ready { IsReady S.TreeSink sink.old state.old }
     requires text { HasText (turn_text token) }
-    ensures { Turns S.TreeSink (dispatch S.choices (turn_text token)) (turn_text token) sink.old state.old sink.new state.new result }
+    ensures { FollowsRule S.TreeSink (dispatch S.choices (turn_text token)) (turn_text token) sink.old state.old sink.new state.new result }
 {
     if is_foreign(sink, state, &token) {
         step_in_foreign(sink, state, token)

@@ -2,11 +2,11 @@
 ghost use Rattle.std.specs.Prelude.{◌≡◌, ℕ, List, [], Option, Some, None, true, IfOk, OnOk, option_map, string_bytes, unwrap_or};
 ghost use Rattle.h5_token.specs.TokenText.{doctype_text};
 ghost use Rattle.h5_data.specs.Doctypes.{is_good_doctype, quirks_of};
-ghost use Rattle.h5_meaning.specs.Run.{doctype_in, judged, with_doctype};
+ghost use Rattle.h5_rules.specs.Run.{doctype_in, judged, with_doctype};
 ghost use Rattle.h5_state.specs.Steps.{IsSound, TellsErrors, errors_of, world_of};
 ghost use Rattle.h5_tree_builder.specs.Chains.{IsReady, Settles};
 
-use super::taken::Taken;
+use super::turns_taken::Taken;
 use h5_data::doctype_error_and_quirks;
 use h5_interface::TreeSink;
 use h5_state::{State, current_mode, set_mode, set_quirks_mode, tell_error};
@@ -24,7 +24,7 @@ fn text_or_empty(alloc: Global, text: Option<String>) -> String
 }
 
 // The doctype goes into the document, unless doctypes are dropped.
-#[tactic(auto, unfolding(h5_state::specs::View::world, h5_meaning::specs::Run::with_doctype, h5_meaning::specs::Changes::insert_doctype))]
+#[tactic(auto, unfolding(h5_state::specs::View::world, h5_rules::specs::Run::with_doctype, h5_rules::specs::Changes::insert_doctype))]
 fn append_doctype<S: TreeSink>(
     sink: &mut S,
     state: &State<S::Handle>,
@@ -88,7 +88,7 @@ fn tell_late<S: TreeSink>(sink: &mut S, state: &State<S::Handle>)
 }
 
 // A doctype at the start goes into the document and chooses the quirks mode.
-#[tactic(auto, unfolding(h5_meaning::specs::Run::judged))]
+#[tactic(auto, unfolding(h5_rules::specs::Run::judged))]
 fn judge_doctype<S: TreeSink>(
     sink: &mut S,
     state: &mut State<S::Handle>,

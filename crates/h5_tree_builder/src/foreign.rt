@@ -4,7 +4,7 @@ ghost use Rattle.std.specs.Prelude.{◌≡◌};
 ghost use Rattle.h5_state.specs.Steps.{IsSound, world_of};
 ghost use Rattle.h5_tree_builder.specs.Builder.{is_foreign_in};
 
-use h5_foreign::adjusted_current_node;
+use h5_insertion::adjusted_current_node;
 use h5_interface::TreeSink;
 use h5_state::State;
 

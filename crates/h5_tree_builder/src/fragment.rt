@@ -1,16 +1,16 @@
 //! The state of a builder of a fragment that took nothing yet, and how its text is read (HTML standard, section 13.4,
 //! "Parsing HTML fragments").
 ghost use Rattle.std.specs.Prelude.{◌≡◌, IfOk, MatchOption, option_map, reverse};
+ghost use Rattle.h5_names.specs.KnownNames.{name_text};
 ghost use Rattle.h5_interface.specs.Forest.{IsElement, IsForest};
-ghost use Rattle.h5_tag_sets.specs.TagSets.{is_one_of};
 ghost use Rattle.h5_state.specs.Steps.{IsSound, errors_of, world_of};
-ghost use Rattle.h5_tree_builder.specs.Fragment.{context_modes, context_world, fragment_world, rawtext_context_names, rcdata_context_names, state_in_context, state_of_local};
+ghost use Rattle.h5_tree_builder.specs.Fragment.{context_modes, context_world, fragment_world, state_in_context, state_of_local};
 
-use super::first::first_state;
+use super::first_state::first_state;
+use h5_closing::reset_insertion_mode;
+use h5_insertion::create_root;
 use h5_interface::TreeSink;
 use h5_names::{KnownName, LocalName, QualName};
-use h5_operations::{create_root, reset_insertion_mode};
-use h5_rules_shared::is_any_of;
 use h5_state::{State, set_mode};
 use h5_tag_sets::is_html_known;
 use h5_token::states::{RawKind, State as ReaderState};
@@ -73,46 +73,37 @@ pub fn fragment_state<S: TreeSink>(
     Ok(state)
 }
 
-#[tactic(auto, unfolding(crate::specs::Fragment::rcdata_context_names))]
-fn is_rcdata_context(name: &LocalName) -> bool
-    ensures { result ≡ is_one_of rcdata_context_names name.now }
+// How text is read in an element that HTML knows by this name.
+#[tactic(auto, unfolding(crate::specs::Fragment::state_of_local, crate::specs::Fragment::rcdata_context_names, crate::specs::Fragment::rawtext_context_names, h5_names::specs::KnownNames::name_text))]
+fn state_of_known(known: KnownName, scripting: bool) -> ReaderState
+    ensures { result ≡ state_of_local scripting (name_text known) }
 {
-    is_any_of(name, &[KnownName::Title, KnownName::Textarea])
+    match known {
+        KnownName::Title | KnownName::Textarea => ReaderState::RawData(RawKind::Rcdata),
+        KnownName::Style
+        | KnownName::Xmp
+        | KnownName::Iframe
+        | KnownName::Noembed
+        | KnownName::Noframes => ReaderState::RawData(RawKind::Rawtext),
+        KnownName::Script => ReaderState::RawData(RawKind::ScriptData),
+        KnownName::Noscript => {
+            if scripting {
+                ReaderState::RawData(RawKind::Rawtext)
+            } else {
+                ReaderState::Data
+            }
+        }
+        KnownName::Plaintext => ReaderState::Plaintext,
+        _ => ReaderState::Data,
+    }
 }
 
-#[tactic(auto, unfolding(crate::specs::Fragment::rawtext_context_names))]
-fn is_rawtext_context(name: &LocalName) -> bool
-    ensures { result ≡ is_one_of rawtext_context_names name.now }
-{
-    is_any_of(
-        name,
-        &[
-            KnownName::Style,
-            KnownName::Xmp,
-            KnownName::Iframe,
-            KnownName::Noembed,
-            KnownName::Noframes,
-        ],
-    )
-}
-
-#[tactic(auto, unfolding(crate::specs::Fragment::state_of_local))]
+// How text is read in an HTML element of this name.
+#[tactic(auto, using(crate::proofs::FragmentLaws::state_by_known))]
 fn state_of_local(name: &LocalName, scripting: bool) -> ReaderState
     ensures { result ≡ state_of_local scripting name.now }
 {
-    if is_rcdata_context(name) {
-        ReaderState::RawData(RawKind::Rcdata)
-    } else if is_rawtext_context(name) {
-        ReaderState::RawData(RawKind::Rawtext)
-    } else if name.is(KnownName::Script) {
-        ReaderState::RawData(RawKind::ScriptData)
-    } else if name.is(KnownName::Noscript) && scripting {
-        ReaderState::RawData(RawKind::Rawtext)
-    } else if name.is(KnownName::Plaintext) {
-        ReaderState::Plaintext
-    } else {
-        ReaderState::Data
-    }
+    state_of_known(name.known(), scripting)
 }
 
 /// How the text of a fragment is read, by the name of its context.

@@ -2,16 +2,16 @@
 ghost use Rattle.std.specs.Prelude.{◌≡◌, true, IsOk, string_bytes};
 ghost use Rattle.h5_token.specs.TokenText.{Characters, TagIs, tag_text, token_text};
 ghost use Rattle.h5_types.specs.TurnText.{CommentTurn, EofTurn, NullTurn, TagTurn};
-ghost use Rattle.h5_meaning.specs.Run.{is_counted, step, taken};
-ghost use Rattle.h5_meaning.specs.Settle.{settle};
+ghost use Rattle.h5_rules.specs.Run.{is_counted, step, taken};
+ghost use Rattle.h5_rules.specs.Settle.{settle};
 ghost use Rattle.h5_state.specs.Steps.{errors_of, world_of};
 ghost use Rattle.h5_tree_builder.specs.Chains.{IsReady, Settles, SettlesApart, is_free};
 
 use super::dispatch::settle_token;
 use super::doctype::take_doctype;
 use super::tag::settle_tag;
-use super::taken::Taken;
 use super::text::take_text;
+use super::turns_taken::Taken;
 use h5_interface::TreeSink;
 use h5_state::{State, tell_error};
 use h5_token::{Tag, Token as Input, TokenSinkResult};
@@ -19,7 +19,7 @@ use h5_types::Token;
 use std::alloc::AllocError;
 
 // The newline flag, which is taken.
-#[tactic(auto, unfolding(h5_state::specs::View::world, h5_meaning::specs::World::names_of))]
+#[tactic(auto, unfolding(h5_state::specs::View::world, h5_rules::specs::World::names_of))]
 #[inline(always)]
 fn take_lf<S: TreeSink>(sink: &S, state: &mut State<S::Handle>) -> bool
     ensures flag { result ≡ (world_of S.TreeSink sink.now state.old).ignore_lf }
@@ -32,7 +32,7 @@ fn take_lf<S: TreeSink>(sink: &S, state: &mut State<S::Handle>) -> bool
 }
 
 // The sink is told of the line of a token that didn't begin in the first.
-#[tactic(auto, unfolding(h5_state::specs::View::world, h5_meaning::specs::World::names_of))]
+#[tactic(auto, unfolding(h5_state::specs::View::world, h5_rules::specs::World::names_of))]
 #[inline(always)]
 pub fn note_line<S: TreeSink>(sink: &mut S, state: &State<S::Handle>, line_number: u64)
     ensures done { world_of S.TreeSink sink.new state.now ≡ world_of S.TreeSink sink.old state.now }

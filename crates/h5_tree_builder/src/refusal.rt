@@ -2,7 +2,7 @@
 //! comments and no nulls.
 ghost use Rattle.std.specs.Prelude.{◌≡◌};
 ghost use Rattle.h5_token.specs.TokenText.{TagIs, tag_text, token_text};
-ghost use Rattle.h5_meaning.specs.Run.{is_refused_in_text, refuses_in};
+ghost use Rattle.h5_rules.specs.Run.{is_refused_in_text, refuses_in};
 
 use h5_token::{Tag, TagKind, Token};
 use h5_types::InsertionMode;

@@ -5,16 +5,16 @@ ghost use Rattle.h5_token.specs.TokenText.{tag_text};
 ghost use Rattle.h5_token.specs.declared.tag.Tag.{Tag};
 ghost use Rattle.h5_types.specs.TurnText.{TagTurn, TurnText};
 ghost use Rattle.h5_types.specs.declared.modes.InsertionMode.TheVariants.{InTableText};
-ghost use Rattle.h5_meaning.specs.Foreign.{is_foreign};
-ghost use Rattle.h5_meaning.specs.Modes.{rule};
-ghost use Rattle.h5_meaning.specs.Settle.{settle};
-ghost use Rattle.h5_meaning.specs.Sound.{Fits};
+ghost use Rattle.h5_rules.specs.insertion.Foreign.{is_foreign};
+ghost use Rattle.h5_rules.specs.modes.Modes.{rule};
+ghost use Rattle.h5_rules.specs.Settle.{settle};
+ghost use Rattle.h5_rules.specs.Sound.{Fits};
 ghost use Rattle.h5_state.specs.Steps.{IsSound, errors_of, world_of};
-ghost use Rattle.h5_state.specs.Turn.{Turns};
+ghost use Rattle.h5_state.specs.Turn.{FollowsRule};
 ghost use Rattle.h5_tree_builder.specs.Chains.{IsReady, Left, SettlesApart};
 
 use super::dispatch::{check_flag, is_self_closing_tag, settle_token, step_by_any_mode};
-use h5_foreign::is_in_known_html;
+use h5_insertion::is_in_known_html;
 use h5_interface::TreeSink;
 use h5_rules_body::in_body_tag;
 use h5_rules_tables::{in_cell_tag, in_row_tag, in_table_body_tag, in_table_tag, leave_table_text};
@@ -31,7 +31,7 @@ fn step_tag_by_mode<S: TreeSink>(
     tag: Tag,
 ) -> Turn<S::Handle>
     requires { IsReady S.TreeSink sink.old state.old }
-    ensures { Turns S.TreeSink (rule (world_of S.TreeSink sink.old state.old).mode (TagTurn (tag_text tag))) (TagTurn (tag_text tag)) sink.old state.old sink.new state.new result }
+    ensures { FollowsRule S.TreeSink (rule (world_of S.TreeSink sink.old state.old).mode (TagTurn (tag_text tag))) (TagTurn (tag_text tag)) sink.old state.old sink.new state.new result }
 {
     match current_mode(sink, state) {
         InsertionMode::InBody => in_body_tag(sink, state, tag),
@@ -43,41 +43,8 @@ fn step_tag_by_mode<S: TreeSink>(
     }
 }
 
-// The chain of a tag whose first turn isn't in foreign content. The answer stays where it is "go on".
-#[inline(always)]
-fn settle_tag_in_html<S: TreeSink>(
-    sink: &mut S,
-    state: &mut State<S::Handle>,
-    tag: Tag,
-    answer: &mut TokenSinkResult<S::Handle>,
-) -> Result<u64, AllocError>
-    requires ready { IsReady S.TreeSink sink.old state.old }
-    requires goes_on { answer.old ≡ TokenSinkResult.Continue }
-    requires html { is_foreign S.choices (TagTurn (tag_text tag)) (world_of S.TreeSink sink.old state.old) ≡ false }
-    ensures { SettlesApart S.TreeSink (settle S.choices (TagTurn (tag_text tag))) true sink.old state.old sink.new state.new answer.new result }
-{
-    let self_closing = is_self_closing_tag(&tag);
-    match step_tag_by_mode(sink, state, tag)? {
-        ProcessResult::Done => {
-            check_flag(sink, state, self_closing);
-            Ok(1)
-        }
-        ProcessResult::DoneAckSelfClosing => Ok(1),
-        ProcessResult::Answer(given) => {
-            *answer = given;
-            Ok(1)
-        }
-        ProcessResult::Reprocess(mode, again) => {
-            set_mode(sink, state, mode);
-            let rest = settle_token(sink, state, again)?;
-            *answer = rest.answer;
-            Ok(rest.turns + 1)
-        }
-    }
-}
-
 // Whether a text of a table is kept back. It may answer no where one is, too.
-#[tactic(auto, unfolding(h5_meaning::specs::Foreign::is_foreign))]
+#[tactic(auto, unfolding(h5_rules::specs::insertion::Foreign::is_foreign))]
 #[inline(always)]
 fn holds_text_back<S: TreeSink>(sink: &S, state: &State<S::Handle>) -> bool
     requires { IsSound S.TreeSink sink.now state.now }
@@ -107,8 +74,9 @@ fn let_text_go<S: TreeSink>(sink: &mut S, state: &mut State<S::Handle>) -> Resul
     Ok(0)
 }
 
-// The chain of a tag where no text is kept back.
-#[tactic(auto, unfolding(h5_meaning::specs::Foreign::is_foreign))]
+// The chain of a tag where no text is kept back. Mostly its first turn isn't in foreign content: then it is taken without
+// a token. The answer stays where it is "go on".
+#[tactic(auto, unfolding(h5_rules::specs::insertion::Foreign::is_foreign))]
 #[inline(always)]
 fn settle_tag_itself<S: TreeSink>(
     sink: &mut S,
@@ -120,12 +88,29 @@ fn settle_tag_itself<S: TreeSink>(
     requires goes_on { answer.old ≡ TokenSinkResult.Continue }
     ensures { SettlesApart S.TreeSink (settle S.choices (TagTurn (tag_text tag))) true sink.old state.old sink.new state.new answer.new result }
 {
-    if is_in_known_html(sink, state) {
-        return settle_tag_in_html(sink, state, tag, answer);
+    if !is_in_known_html(sink, state) {
+        let taken = settle_token(sink, state, Token::Tag(tag))?;
+        *answer = taken.answer;
+        return Ok(taken.turns);
     }
-    let taken = settle_token(sink, state, Token::Tag(tag))?;
-    *answer = taken.answer;
-    Ok(taken.turns)
+    let self_closing = is_self_closing_tag(&tag);
+    match step_tag_by_mode(sink, state, tag)? {
+        ProcessResult::Done => {
+            check_flag(sink, state, self_closing);
+            Ok(1)
+        }
+        ProcessResult::DoneAckSelfClosing => Ok(1),
+        ProcessResult::Answer(given) => {
+            *answer = given;
+            Ok(1)
+        }
+        ProcessResult::Reprocess(mode, again) => {
+            set_mode(sink, state, mode);
+            let rest = settle_token(sink, state, again)?;
+            *answer = rest.answer;
+            Ok(rest.turns + 1)
+        }
+    }
 }
 
 /// The chain of a tag. It gives how many turns there were, and changes the answer where that isn't "go on"; or an

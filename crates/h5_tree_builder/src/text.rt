@@ -3,11 +3,11 @@
 ghost use Rattle.std.specs.Prelude.{◌≡◌, ◌≢◌, ◌<◌, [], length, take, true, IfOk, IsOk, OnOk, string_bytes};
 ghost use Rattle.std.specs.Str.{IsCharBoundary};
 ghost use Rattle.h5_types.specs.declared.modes.InsertionMode.TheVariants.{InTableText};
-ghost use Rattle.h5_meaning.specs.Changes.{append_pending_text, save_mode, set_mode};
-ghost use Rattle.h5_meaning.specs.Foreign.{is_foreign_text};
-ghost use Rattle.h5_meaning.specs.Run.{is_empty_text, text_step, without_lf};
-ghost use Rattle.h5_meaning.specs.Sound.{Fits};
-ghost use Rattle.h5_meaning.specs.Text.{IsRun, is_quiet_text, text_any};
+ghost use Rattle.h5_rules.specs.Changes.{append_pending_text, save_mode, set_mode};
+ghost use Rattle.h5_rules.specs.insertion.Foreign.{is_foreign_text};
+ghost use Rattle.h5_rules.specs.Run.{is_empty_text, text_step, without_lf};
+ghost use Rattle.h5_rules.specs.Sound.{Fits};
+ghost use Rattle.h5_rules.specs.Text.{IsRun, is_quiet_text, text_any};
 ghost use Rattle.h5_types.specs.declared.modes.SplitStatus.TheVariants.{NotSplit};
 ghost use Rattle.h5_state.specs.Steps.{IsSound, errors_of, world_of};
 ghost use Rattle.h5_tree_builder.specs.Chains.{IsReady, Settles};
@@ -15,12 +15,13 @@ ghost use Rattle.h5_tree_builder.specs.TextInBody.{TakesTextByBody};
 ghost use Rattle.h5_tree_builder.specs.TextInTable.{KeepsTextBack};
 
 use super::dispatch::settle_token;
-use super::taken::Taken;
-use h5_foreign::{is_foreign_text, is_in_known_html};
+use super::turns_taken::Taken;
+use h5_closing::is_current_table_outer;
+use h5_insertion::{is_foreign_text, is_in_known_html};
 use h5_interface::TreeSink;
-use h5_operations::{append_pending_text, is_current_table_outer};
-use h5_rules_shared::in_body_text;
-use h5_state::{State, current_mode, first_run, save_mode, set_mode};
+use h5_rules_body::in_body_text;
+use h5_rules_tables::{begin_table_text, keep_table_text};
+use h5_state::{State, current_mode, first_run, set_mode};
 use h5_token::TokenSinkResult;
 use h5_types::{InsertionMode, SplitStatus, Token};
 use std::alloc::AllocError;
@@ -42,7 +43,7 @@ fn next_run<S: TreeSink>(sink: &S, state: &State<S::Handle>, text: &str) -> (Spl
 }
 
 // Whether texts go by the rule of "in body". It may answer no where they do, too.
-#[tactic(auto, unfolding(h5_meaning::specs::Foreign::is_foreign))]
+#[tactic(auto, unfolding(h5_rules::specs::insertion::Foreign::is_foreign))]
 #[inline(always)]
 fn takes_text_by_body<S: TreeSink>(sink: &S, state: &State<S::Handle>) -> bool
     requires { IsSound S.TreeSink sink.now state.now }
@@ -55,7 +56,7 @@ fn takes_text_by_body<S: TreeSink>(sink: &S, state: &State<S::Handle>) -> bool
 }
 
 // Whether texts are kept back until the table goes on. It may answer no where they are, too.
-#[tactic(auto, unfolding(h5_meaning::specs::Foreign::is_foreign))]
+#[tactic(auto, unfolding(h5_rules::specs::insertion::Foreign::is_foreign))]
 #[inline(always)]
 fn keeps_text_back<S: TreeSink>(sink: &S, state: &State<S::Handle>) -> bool
     requires { IsSound S.TreeSink sink.now state.now }
@@ -79,9 +80,9 @@ fn keep_text_back<S: TreeSink>(
     ensures kept { OnOk result (world_of S.TreeSink sink.now state.new ≡ append_pending_text (string_bytes run) (set_mode InTableText (save_mode (world_of S.TreeSink sink.now state.old)))) }
     ensures sound { IsSound S.TreeSink sink.now state.new }
 {
-    save_mode(sink, state);
-    set_mode(sink, state, InsertionMode::InTableText);
-    append_pending_text(sink, state, run)
+    let mode = begin_table_text(sink, state);
+    set_mode(sink, state, mode);
+    keep_table_text(sink, state, run)
 }
 
 // The chain of a run. In the body it is one turn, and mostly two in a table.

@@ -1,5 +1,9 @@
-//! Runs the cases that stand in files, `h5_vectors FILE..`: each as it stands, and with every text in single characters.
-//! What differs is printed, and then how many cases there are and how many differ. `data/README.md` has the layout.
+//! Runs the cases that stand in files, `h5_vectors FILE..`: each as it stands, with every text in single characters,
+//! and a whole text in two pieces, at each of its places. What differs is printed, and then how many cases there are
+//! and how many differ. `data/README.md` has the layout.
+//!
+//! `cases`, `sections` and `draft` read a file to cases, `settings` has how a case is parsed, `parsers`, `tokens` and
+//! `run` run it, and `compare` judges what was made. Begin with `src/case.rt`, then `src/compare.rt`.
 #![tactic(auto)]
 
 mod case;

@@ -15,7 +15,7 @@ ghost use Rattle.h5_driver.specs.PlainTexts.{ComesBack, IsNew};
 
 pub use h5_driver::laws::documents_come_back;
 use h5_interface::TreeSink;
-pub use h5_meaning::laws::{
+pub use h5_laws::laws::{
     a_token_has_one_chain, cuts_agree, cuts_of_one_list_agree, reconstructed_elements_are_open,
     runs_join, turns_are_few, what_is_kept_stays,
 };

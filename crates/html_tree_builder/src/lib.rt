@@ -6,6 +6,7 @@
 //! ```
 #![tactic(auto)]
 
+pub mod encoding;
 pub mod laws;
 
 pub use h5_arena as arena;
@@ -15,7 +16,6 @@ pub use h5_driver as driver;
 pub use h5_driver::{
     ParseOpts, Parser, Utf8Parser, parse_document, parse_fragment, parse_fragment_for_element,
 };
-pub use h5_encoding as encoding;
 pub use h5_interface as interface;
 pub use h5_interface::{NodeOrText, QuirksMode, TreeSink};
 pub use h5_names as names;

@@ -8,5 +8,5 @@ use Rattle.h5_arena.proofs.walk.walk_below.Goals as goal
 pub walk_open-requires : goal.walk_open-requires
 walk_open-requires g c =
     let f = forest_seen c.args.arena.now in
-    let forest = subst (λ (a : ArenaView). IsForest (forest_seen a)) c.arena.view_is c.arena.invariant in
+    let forest = subst (λ (a : ArenaView). IsForest (forest_seen a)) c.arena.view_is c.arena.invariant.is_forest in
     subst (AreNodes f) (sym c.shown_children-rest.ensures) (shown_are_nodes f c.args.id.index forest)

@@ -9,7 +9,7 @@ use Rattle.h5_arena.proofs.walk.walk_node.Goals as goal
 pub walk_open-requires : goal.walk_open-requires
 walk_open-requires g c =
     let f = forest_seen c.args.arena.now in
-    let forest = subst (λ (a : ArenaView). IsForest (forest_seen a)) c.arena.view_is c.arena.invariant in
+    let forest = subst (λ (a : ArenaView). IsForest (forest_seen a)) c.arena.view_is c.arena.invariant.is_forest in
     let shown = rw c.in-Some.is at c.in_ok-opened.ensures.opened in
     subst (AreNodes f) (sym shown) (shown_are_nodes f c.args.id.index forest)
 

@@ -38,14 +38,14 @@ returns-in_err-push-in-Some g c =
 pub loop-child-smaller-in-Some-2 : goal.loop-child-smaller-in-Some-2
 loop-child-smaller-in-Some-2 g c =
     let f = forest_seen c.args.arena.now in
-    let forest = subst (λ (a : ArenaView). IsForest (forest_seen a)) c.arena.view_is c.arena.invariant in
+    let forest = subst (λ (a : ArenaView). IsForest (forest_seen a)) c.arena.view_is c.arena.invariant.is_forest in
     let opened = rw c.in-Some-2.is at c.in_ok-opened-in-Some.ensures.opened in
     rw c.in_ok-push-in-Some.ensures.items (less_opened f c.loop-child.current c.in-Some-2.opened c.loop-child.around.items c.in-Some.child.now c.in-Some.rest forest c.in-Some.ensures.cases.0 opened)
 
 pub loop-child-preserved-in-Some-2 : goal.loop-child-preserved-in-Some-2
 loop-child-preserved-in-Some-2 g c =
     let f = forest_seen c.args.arena.now in
-    let forest = subst (λ (a : ArenaView). IsForest (forest_seen a)) c.arena.view_is c.arena.invariant in
+    let forest = subst (λ (a : ArenaView). IsForest (forest_seen a)) c.arena.view_is c.arena.invariant.is_forest in
     let opened = rw c.in-Some-2.is at c.in_ok-opened-in-Some.ensures.opened in
     let begun = rw c.in-Some-2.is at c.in_ok-opened-in-Some.ensures.calls in
     let next = child_opened f c.loop-child.current c.in-Some-2.opened c.loop-child.around.items c.in-Some.child.now c.in-Some.rest begun.0 c.in-Some.ensures.cases.0 begun.1 in

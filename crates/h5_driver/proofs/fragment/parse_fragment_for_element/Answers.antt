@@ -1,8 +1,8 @@
 use Rattle.std.proofs.Common.{ap, option_map, subst, sym}
 use Rattle.std.specs.Option.{is_some}
 use Rattle.h5_tokenizer.specs.Options.{first_place}
-use Rattle.h5_meaning.specs.Changes.{create_root}
-use Rattle.h5_meaning.specs.Sound.{Fitting}
+use Rattle.h5_rules.specs.Changes.{create_root}
+use Rattle.h5_rules.specs.Sound.{Fitting}
 use Rattle.h5_tree_builder.specs.Builder.{Building}
 use Rattle.h5_driver.specs.Parsing.{IsWorking}
 use Rattle.h5_driver.proofs.FragmentLaws.{fragment_works}

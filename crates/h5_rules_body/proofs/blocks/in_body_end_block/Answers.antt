@@ -1,15 +1,15 @@
 use Rattle.std.proofs.Common.{[], ◌∷◌, ap, length, refl, subst, sym, ◌∙◌}
 use Rattle.h5_tag_sets.specs.TagSets.{is_html_named}
-use Rattle.h5_meaning.specs.Scope.{cut_through, first_passes}
+use Rattle.h5_rules.specs.stack.Scope.{cut_through, first_passes}
 use Rattle.h5_types.specs.TurnText.{TagTurn}
 use Rattle.h5_types.specs.declared.turns.ProcessResult.TheVariants.{Done}
 use Rattle.h5_token.specs.TokenText.{tag_text}
-use Rattle.h5_meaning.specs.Changes.{pop_until_named}
-use Rattle.h5_meaning.specs.InBody.{in_body_end_block}
-use Rattle.h5_meaning.specs.Shared.{current_is}
-use Rattle.h5_meaning.specs.Rows.{Follows, GenerateImpliedEnd, IsDone, PopUntilNamed, choose, ignored, row_if}
-use Rattle.h5_meaning.specs.World.{World, names_of}
-use Rattle.h5_meaning.proofs.ClosingLaws.{block_not_implied, block_stays_current}
+use Rattle.h5_rules.specs.Changes.{pop_until_named}
+use Rattle.h5_rules.specs.modes.InBody.{in_body_end_block}
+use Rattle.h5_rules.specs.modes.Shared.{current_is}
+use Rattle.h5_rules.specs.Rows.{Follows, GenerateImpliedEnd, IsDone, PopUntilNamed, choose, ignored, row_if}
+use Rattle.h5_rules.specs.World.{World, names_of}
+use Rattle.h5_rules.proofs.changes.ClosingLaws.{block_not_implied, block_stays_current}
 use Rattle.h5_state.specs.Steps.{errors_of, world_of}
 use Rattle.h5_rules_body.proofs.blocks.in_body_end_block.Goals as goal
 

@@ -2,10 +2,10 @@ use Rattle.std.proofs.Common.{[], ◌∷◌, codes, false, refl, subst, sym, ◌
 use Rattle.h5_types.specs.TurnText.{TagTurn}
 use Rattle.h5_types.specs.declared.turns.ProcessResult.TheVariants.{Done}
 use Rattle.h5_token.specs.TokenText.{tag_text}
-use Rattle.h5_meaning.specs.InBody.{in_body_end_p}
-use Rattle.h5_meaning.specs.Shared.{current_is}
-use Rattle.h5_meaning.specs.Rows.{ClosePElement, Follows, InsertElement, IsDone, choose, errs, row_if}
-use Rattle.h5_meaning.proofs.ClosingLaws.{p_stays_current}
+use Rattle.h5_rules.specs.modes.InBody.{in_body_end_p}
+use Rattle.h5_rules.specs.modes.Shared.{current_is}
+use Rattle.h5_rules.specs.Rows.{ClosePElement, Follows, InsertElement, IsDone, choose, errs, row_if}
+use Rattle.h5_rules.proofs.changes.ClosingLaws.{p_stays_current}
 use Rattle.h5_state.specs.Steps.{errors_of, world_of}
 use Rattle.h5_rules_body.proofs.blocks.in_body_end_p.Goals as goal
 

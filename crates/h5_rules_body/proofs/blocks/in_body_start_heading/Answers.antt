@@ -1,11 +1,11 @@
 use Rattle.std.proofs.Common.{ap, rules, ◌∙◌}
 use Rattle.h5_tag_sets.specs.TagSets.{is_heading}
-use Rattle.h5_meaning.specs.Scope.{first_passes, has_p_in_button_scope}
-use Rattle.h5_meaning.specs.World.{World, names_of}
+use Rattle.h5_rules.specs.stack.Scope.{first_passes, has_p_in_button_scope}
+use Rattle.h5_rules.specs.World.{World, names_of}
 use Rattle.h5_state.specs.Steps.{world_of}
 use Rattle.h5_rules_body.proofs.BlockLaws.{same_current}
 use Rattle.h5_rules_body.proofs.blocks.in_body_start_heading.Goals as goal
-use Rattle.h5_meaning.proofs.TableModeLaws.{neither}
+use Rattle.h5_rules.proofs.fitting.TableModeLaws.{neither}
 use Rattle.h5_rules_forms.proofs.QuietLaws.{nothing_unexpected}
 
 pub returns : goal.returns

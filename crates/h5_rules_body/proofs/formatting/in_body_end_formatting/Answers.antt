@@ -1,4 +1,4 @@
-use Rattle.h5_meaning.proofs.AdoptionAgencyLaws.{formatting_not_html}
+use Rattle.h5_rules.proofs.adoption.AdoptionAgencyLaws.{formatting_not_html}
 use Rattle.h5_rules_body.proofs.formatting.in_body_end_formatting.Goals as goal
 
 pub adoption_agency-requires-clause-name : goal.adoption_agency-requires-clause-name

@@ -1,20 +1,20 @@
 use Rattle.std.proofs.Common.{codes, ap, rules, subst, sym, ◌∙◌}
 use Rattle.h5_tag_sets.specs.TagSets.{is_default_scope, is_html_named}
-use Rattle.h5_meaning.specs.Scope.{in_scope}
-use Rattle.h5_meaning.specs.Formatting.{is_reconstructed}
-use Rattle.h5_meaning.specs.Sound.{IsReady}
-use Rattle.h5_meaning.specs.World.{World, names_of}
-use Rattle.h5_meaning.proofs.FormattingLaws.{reconstruct_ready}
+use Rattle.h5_rules.specs.stack.Scope.{in_scope}
+use Rattle.h5_rules.specs.formatting.Formatting.{is_reconstructed}
+use Rattle.h5_rules.specs.Sound.{HasHtmlRoot}
+use Rattle.h5_rules.specs.World.{World, names_of}
+use Rattle.h5_rules.proofs.changes.FormattingLaws.{reconstruct_ready}
 use Rattle.h5_state.specs.Steps.{world_of}
 use Rattle.h5_rules_body.proofs.FormatLaws.{reconstructed_same}
 use Rattle.h5_rules_body.proofs.formatting.in_body_start_nobr.Goals as goal
-use Rattle.h5_meaning.proofs.BoolLaws.{and_not}
+use Rattle.h5_rules.proofs.BoolLaws.{and_not}
 
 pub handle_misnested_nobr_tags-requires-clause-ready : goal.handle_misnested_nobr_tags-requires-clause-ready
 handle_misnested_nobr_tags-requires-clause-ready g c =
     let law = g.S.TreeSink in
     let w = world_of law c.args.sink.now c.args.state.now in
-    subst IsReady (sym c.in_ok-reconstruct_active_formatting_elements.ensures.world) (reconstruct_ready law.choices w c.requires.ready)
+    subst HasHtmlRoot (sym c.in_ok-reconstruct_active_formatting_elements.ensures.world) (reconstruct_ready law.choices w c.requires.ready)
 
 pub returns : goal.returns
 returns g c =

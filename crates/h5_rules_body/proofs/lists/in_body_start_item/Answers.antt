@@ -1,13 +1,13 @@
 use Rattle.std.proofs.Common.{ap, rules, ◌∙◌}
 use Rattle.std.specs.Prelude.{is_none}
-use Rattle.h5_meaning.specs.Scope.{has_p_in_button_scope}
-use Rattle.h5_meaning.specs.Closing.{newest_item}
-use Rattle.h5_meaning.specs.World.{World, names_of}
-use Rattle.h5_operations.specs.Items.{item_names}
+use Rattle.h5_rules.specs.stack.Scope.{has_p_in_button_scope}
+use Rattle.h5_rules.specs.stack.Closing.{newest_item}
+use Rattle.h5_rules.specs.World.{World, names_of}
+use Rattle.h5_closing.specs.Items.{item_names}
 use Rattle.h5_state.specs.Steps.{world_of}
 use Rattle.h5_rules_body.proofs.ItemLaws.{none_closed}
 use Rattle.h5_rules_body.proofs.lists.in_body_start_item.Goals as goal
-use Rattle.h5_meaning.proofs.BoolLaws.{and_not}
+use Rattle.h5_rules.proofs.BoolLaws.{and_not}
 use Rattle.h5_rules_forms.proofs.QuietLaws.{nothing_unexpected}
 
 pub returns : goal.returns

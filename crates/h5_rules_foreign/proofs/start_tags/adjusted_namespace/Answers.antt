@@ -1,9 +1,9 @@
 use Rattle.std.proofs.Common.{◌≡◌, IfOk, List, ℕ, ap, subst, sym, ◌∙◌}
 use Rattle.h5_names.specs.declared.qualified.QualName.{QualName}
-use Rattle.h5_meaning.specs.Foreign.{adjusted_namespace, namespace_at}
+use Rattle.h5_rules.specs.insertion.Foreign.{adjusted_namespace, namespace_at}
 use Rattle.h5_state.specs.View.{world}
 use Rattle.h5_state.proofs.StackLaws.{named}
-use Rattle.h5_foreign.proofs.CurrentLaws.{adjusted_is_element}
+use Rattle.h5_insertion.proofs.CurrentLaws.{adjusted_is_element}
 use Rattle.h5_rules_foreign.proofs.start_tags.adjusted_namespace.Goals as goal
 
 pub elem_name-requires : goal.elem_name-requires

@@ -1,7 +1,7 @@
 use Rattle.std.proofs.Common.{ap, length, sym, ◌∙◌}
 use Rattle.h5_tag_sets.specs.TagSets.{is_html_named}
-use Rattle.h5_meaning.specs.Scope.{cut_through}
-use Rattle.h5_meaning.specs.World.{World, names_of}
+use Rattle.h5_rules.specs.stack.Scope.{cut_through}
+use Rattle.h5_rules.specs.World.{World, names_of}
 use Rattle.h5_rules_forms.proofs.EndLaws.{button_not_implied}
 use Rattle.h5_rules_forms.proofs.button.in_body_start_button.Goals as goal
 

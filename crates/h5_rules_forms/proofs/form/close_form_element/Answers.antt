@@ -2,11 +2,11 @@ use Rattle.std.proofs.Common.{◌≡◌, ap, false, refl, subst, sym, true, ◌�
 use Rattle.h5_token.specs.TokenText.{tag_text}
 use Rattle.h5_types.specs.TurnText.{TagTurn}
 use Rattle.h5_types.specs.declared.turns.ProcessResult.TheVariants.{Done}
-use Rattle.h5_meaning.specs.AdoptionAgency.{remove_from_stack}
-use Rattle.h5_meaning.specs.Closing.{generate_implied_end}
-use Rattle.h5_meaning.specs.InBody.{form_in_scope}
-use Rattle.h5_meaning.specs.Rows.{Follows}
-use Rattle.h5_meaning.specs.World.{World, names_of, root}
+use Rattle.h5_rules.specs.formatting.AdoptionAgency.{remove_from_stack}
+use Rattle.h5_rules.specs.stack.Closing.{generate_implied_end}
+use Rattle.h5_rules.specs.modes.InBody.{form_in_scope}
+use Rattle.h5_rules.specs.Rows.{Follows}
+use Rattle.h5_rules.specs.World.{World, names_of, root}
 use Rattle.h5_state.specs.Steps.{errors_of, world_of}
 use Rattle.h5_rules_forms.proofs.EndLaws.{closes_scoped, closes_unscoped, form_not_root}
 use Rattle.h5_rules_forms.proofs.form.close_form_element.Goals as goal

@@ -1,7 +1,7 @@
 use Rattle.std.proofs.Common.{ap, length, sym, ◌∙◌}
 use Rattle.h5_tag_sets.specs.TagSets.{is_html_named}
-use Rattle.h5_meaning.specs.Scope.{cut_through}
-use Rattle.h5_meaning.specs.World.{World, names_of}
+use Rattle.h5_rules.specs.stack.Scope.{cut_through}
+use Rattle.h5_rules.specs.World.{World, names_of}
 use Rattle.h5_rules_forms.proofs.EndLaws.{form_not_implied}
 use Rattle.h5_rules_forms.proofs.form.close_open_form.Goals as goal
 

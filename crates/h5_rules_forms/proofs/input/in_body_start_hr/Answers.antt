@@ -1,11 +1,11 @@
 use Rattle.std.proofs.Common.{ap, codes, rules, ◌∙◌}
-use Rattle.h5_meaning.specs.Scope.{has_p_in_button_scope}
-use Rattle.h5_meaning.specs.InBody.{named_in_scope}
-use Rattle.h5_meaning.specs.World.{World, names_of}
+use Rattle.h5_rules.specs.stack.Scope.{has_p_in_button_scope}
+use Rattle.h5_rules.specs.modes.InBody.{named_in_scope}
+use Rattle.h5_rules.specs.World.{World, names_of}
 use Rattle.h5_state.specs.Steps.{world_of}
 use Rattle.h5_rules_forms.proofs.QuietLaws.{nothing_closed, nothing_unexpected}
 use Rattle.h5_rules_forms.proofs.input.in_body_start_hr.Goals as goal
-use Rattle.h5_meaning.proofs.TableModeLaws.{neither}
+use Rattle.h5_rules.proofs.fitting.TableModeLaws.{neither}
 
 pub returns : goal.returns
 returns g c =

@@ -1,5 +1,5 @@
 use Rattle.std.proofs.Common.{ap, ◌∙◌}
-use Rattle.h5_meaning.specs.Changes.{pop_until_named}
+use Rattle.h5_rules.specs.Changes.{pop_until_named}
 use Rattle.h5_state.specs.View.{world}
 use Rattle.h5_rules_forms.proofs.EndLaws.{element_stays}
 use Rattle.h5_rules_forms.proofs.select.in_body_end_option.Goals as goal

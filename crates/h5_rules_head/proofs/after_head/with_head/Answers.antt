@@ -1,13 +1,13 @@
 use Rattle.std.proofs.Common.{◌≡◌, ap, option_map, subst, sym, ◌∙◌}
 use Rattle.h5_token.specs.TokenText.{tag_text}
 use Rattle.h5_types.specs.TurnText.{TagTurn}
-use Rattle.h5_meaning.specs.Changes.{push_head}
-use Rattle.h5_meaning.specs.InHead.{in_head_start_tag}
-use Rattle.h5_meaning.specs.Rows.{Follows}
-use Rattle.h5_meaning.specs.Sound.{Sound}
-use Rattle.h5_meaning.specs.World.{World, root}
-use Rattle.h5_meaning.proofs.AfterHeadLaws.{head_stays_above}
-use Rattle.h5_meaning.proofs.PushHeadLaws.{only_root, sound_push_head}
+use Rattle.h5_rules.specs.Changes.{push_head}
+use Rattle.h5_rules.specs.modes.InHead.{in_head_start_tag}
+use Rattle.h5_rules.specs.Rows.{Follows}
+use Rattle.h5_rules.specs.Sound.{Sound}
+use Rattle.h5_rules.specs.World.{World, root}
+use Rattle.h5_rules.proofs.modes.AfterHeadLaws.{head_stays_above}
+use Rattle.h5_rules.proofs.modes.PushHeadLaws.{only_root, sound_push_head}
 use Rattle.h5_state.specs.Steps.{errors_of, world_of}
 use Rattle.h5_rules_head.proofs.HeadLaws.{apart_if_known, followed}
 use Rattle.h5_rules_head.proofs.after_head.with_head.Goals as goal

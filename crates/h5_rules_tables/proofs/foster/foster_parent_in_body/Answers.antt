@@ -1,11 +1,11 @@
 use Rattle.std.proofs.Common.{subst, sym, ap, true, ◌∙◌}
 use Rattle.std.specs.Prelude.{IfOk}
 use Rattle.h5_types.specs.TurnText.{turn_text}
-use Rattle.h5_meaning.specs.Changes.{set_foster}
-use Rattle.h5_meaning.specs.InBody.{in_body}
-use Rattle.h5_meaning.specs.Rows.{Follows}
-use Rattle.h5_meaning.specs.Sound.{IsReady}
-use Rattle.h5_meaning.specs.World.{World}
+use Rattle.h5_rules.specs.Changes.{set_foster}
+use Rattle.h5_rules.specs.modes.InBody.{in_body}
+use Rattle.h5_rules.specs.Rows.{Follows}
+use Rattle.h5_rules.specs.Sound.{HasHtmlRoot}
+use Rattle.h5_rules.specs.World.{World}
 use Rattle.h5_state.specs.Steps.{errors_of, world_of}
 use Rattle.h5_rules_tables.proofs.FosterLaws.{foster_if_ok, ready_foster}
 use Rattle.h5_rules_tables.proofs.foster.foster_parent_in_body.Goals as goal
@@ -13,7 +13,7 @@ use Rattle.h5_rules_tables.proofs.foster.foster_parent_in_body.Goals as goal
 pub step_in_body-turn-requires-clause-ready : goal.step_in_body-turn-requires-clause-ready
 step_in_body-turn-requires-clause-ready g c =
     let w = world_of g.S.TreeSink c.args.sink.now c.args.state.now in
-    subst IsReady (sym (c.set_foster.ensures.world ∙ ap (set_foster true) c.unexpected.ensures.told.world)) (ready_foster w c.requires.ready)
+    subst HasHtmlRoot (sym (c.set_foster.ensures.world ∙ ap (set_foster true) c.unexpected.ensures.told.world)) (ready_foster w c.requires.ready)
 
 pub returns : goal.returns
 returns g c =

@@ -1,9 +1,9 @@
 use Rattle.std.proofs.Common.{ap, refl, ◌∙◌}
 use Rattle.h5_tag_sets.specs.TagSets.{is_cell}
-use Rattle.h5_meaning.specs.Scope.{first_passes}
-use Rattle.h5_meaning.specs.Closing.{pop_until_cell}
-use Rattle.h5_meaning.specs.Formatting.{clear_active_formatting_to_marker}
-use Rattle.h5_meaning.specs.World.{World, names_of}
+use Rattle.h5_rules.specs.stack.Scope.{first_passes}
+use Rattle.h5_rules.specs.stack.Closing.{pop_until_cell}
+use Rattle.h5_rules.specs.formatting.Formatting.{clear_active_formatting_to_marker}
+use Rattle.h5_rules.specs.World.{World, names_of}
 use Rattle.h5_state.specs.Steps.{world_of}
 use Rattle.h5_rules_tables.proofs.ClosingLaws.{cell_not_implied, stays_current}
 use Rattle.h5_rules_tables.proofs.in_cell.close_the_cell.Goals as goal

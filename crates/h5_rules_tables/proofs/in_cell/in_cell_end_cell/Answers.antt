@@ -1,16 +1,16 @@
 use Rattle.std.proofs.Common.{[], ◌∷◌, ap, length, refl, subst, sym, ◌∙◌}
 use Rattle.h5_tag_sets.specs.TagSets.{is_html_named}
-use Rattle.h5_meaning.specs.Scope.{cut_through, first_passes}
+use Rattle.h5_rules.specs.stack.Scope.{cut_through, first_passes}
 use Rattle.h5_types.specs.TurnText.{TagTurn}
 use Rattle.h5_types.specs.declared.modes.InsertionMode.TheVariants.{InRow}
 use Rattle.h5_types.specs.declared.turns.ProcessResult.TheVariants.{Done}
 use Rattle.h5_token.specs.TokenText.{tag_text}
-use Rattle.h5_meaning.specs.Changes.{pop_until_named, set_mode}
-use Rattle.h5_meaning.specs.Formatting.{clear_active_formatting_to_marker}
-use Rattle.h5_meaning.specs.Shared.{current_is}
-use Rattle.h5_meaning.specs.InCell.{in_cell_end_cell}
-use Rattle.h5_meaning.specs.Rows.{ClearActiveFormattingToMarker, Follows, GenerateImpliedEnd, IsDone, PopUntilNamed, SetMode, choose, ignored, row_if}
-use Rattle.h5_meaning.specs.World.{World, names_of}
+use Rattle.h5_rules.specs.Changes.{pop_until_named, set_mode}
+use Rattle.h5_rules.specs.formatting.Formatting.{clear_active_formatting_to_marker}
+use Rattle.h5_rules.specs.modes.Shared.{current_is}
+use Rattle.h5_rules.specs.modes.InCell.{in_cell_end_cell}
+use Rattle.h5_rules.specs.Rows.{ClearActiveFormattingToMarker, Follows, GenerateImpliedEnd, IsDone, PopUntilNamed, SetMode, choose, ignored, row_if}
+use Rattle.h5_rules.specs.World.{World, names_of}
 use Rattle.h5_state.specs.Steps.{errors_of, world_of}
 use Rattle.h5_rules_tables.proofs.ClosingLaws.{cell_named_not_implied, stays_current}
 use Rattle.h5_rules_tables.proofs.in_cell.in_cell_end_cell.Goals as goal

@@ -1,5 +1,5 @@
 use Rattle.std.proofs.Common.{◌<◌, length, subst, sym}
-use Rattle.h5_meaning.specs.World.{World}
+use Rattle.h5_rules.specs.World.{World}
 use Rattle.h5_state.specs.Steps.{world_of}
 use Rattle.h5_rules_tables.proofs.ContextLaws.{open_in_row}
 use Rattle.h5_rules_tables.proofs.in_row.in_row_end_row.Goals as goal

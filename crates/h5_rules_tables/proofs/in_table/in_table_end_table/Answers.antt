@@ -1,14 +1,14 @@
 use Rattle.std.proofs.Common.{[], ◌∷◌, ap, codes, refl, subst, ◌∙◌}
 use Rattle.h5_tag_sets.specs.TagSets.{is_html_named, is_table_scope}
-use Rattle.h5_meaning.specs.Scope.{in_scope}
+use Rattle.h5_rules.specs.stack.Scope.{in_scope}
 use Rattle.h5_types.specs.TurnText.{TagTurn}
 use Rattle.h5_types.specs.declared.turns.ProcessResult.TheVariants.{Done}
 use Rattle.h5_token.specs.TokenText.{tag_text}
-use Rattle.h5_meaning.specs.Changes.{pop_until_named, set_mode}
-use Rattle.h5_meaning.specs.InTable.{in_table_end_table}
-use Rattle.h5_meaning.specs.Reset.{reset_mode}
-use Rattle.h5_meaning.specs.Rows.{Follows, IsDone, PopUntilNamed, ResetMode, choose, ignored, row}
-use Rattle.h5_meaning.specs.World.{World, names_of}
+use Rattle.h5_rules.specs.Changes.{pop_until_named, set_mode}
+use Rattle.h5_rules.specs.modes.InTable.{in_table_end_table}
+use Rattle.h5_rules.specs.fitting.Reset.{reset_mode}
+use Rattle.h5_rules.specs.Rows.{Follows, IsDone, PopUntilNamed, ResetMode, choose, ignored, row}
+use Rattle.h5_rules.specs.World.{World, names_of}
 use Rattle.h5_state.specs.Steps.{errors_of, world_of}
 use Rattle.h5_rules_tables.proofs.in_table.in_table_end_table.Goals as goal
 

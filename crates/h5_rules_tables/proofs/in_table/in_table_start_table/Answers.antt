@@ -1,15 +1,15 @@
 use Rattle.std.proofs.Common.{[], ◌∷◌, Some, ap, codes, refl, subst, sym, ◌∙◌}
 use Rattle.h5_tag_sets.specs.TagSets.{is_html_named, is_table_scope}
-use Rattle.h5_meaning.specs.Scope.{in_scope}
+use Rattle.h5_rules.specs.stack.Scope.{in_scope}
 use Rattle.h5_types.specs.TurnText.{TagTurn}
 use Rattle.h5_types.specs.declared.turns.ProcessResult.TheVariants.{Reprocess}
 use Rattle.h5_types.specs.declared.turns.Token.TheVariants.{Tag}
 use Rattle.h5_token.specs.TokenText.{tag_text}
-use Rattle.h5_meaning.specs.Changes.{pop_until_named}
-use Rattle.h5_meaning.specs.InTable.{in_table_start_table}
-use Rattle.h5_meaning.specs.Reset.{reset_mode}
-use Rattle.h5_meaning.specs.Rows.{AgainBy, Follows, PopUntilNamed, choose, errs, ignored}
-use Rattle.h5_meaning.specs.World.{World, names_of}
+use Rattle.h5_rules.specs.Changes.{pop_until_named}
+use Rattle.h5_rules.specs.modes.InTable.{in_table_start_table}
+use Rattle.h5_rules.specs.fitting.Reset.{reset_mode}
+use Rattle.h5_rules.specs.Rows.{AgainBy, Follows, PopUntilNamed, choose, errs, ignored}
+use Rattle.h5_rules.specs.World.{World, names_of}
 use Rattle.h5_state.specs.Steps.{errors_of, world_of}
 use Rattle.h5_rules_tables.proofs.in_table.in_table_start_table.Goals as goal
 

@@ -1,17 +1,17 @@
 use Rattle.std.proofs.Common.{Some, ap, refl, subst, sym, ◌∙◌}
 use Rattle.h5_types.specs.TurnText.{TextTurn}
 use Rattle.h5_types.specs.declared.modes.SplitStatus.TheVariants.{NotSplit}
-use Rattle.h5_meaning.specs.Changes.{take_pending_text}
-use Rattle.h5_meaning.specs.InTableText.{in_table_text_else, pending_text}
-use Rattle.h5_meaning.specs.Rows.{Follows, Row, apply_all}
-use Rattle.h5_meaning.specs.Sound.{IsReady}
+use Rattle.h5_rules.specs.Changes.{take_pending_text}
+use Rattle.h5_rules.specs.modes.InTableText.{in_table_text_else, pending_text}
+use Rattle.h5_rules.specs.Rows.{Follows, Row, apply_all}
+use Rattle.h5_rules.specs.Sound.{HasHtmlRoot}
 use Rattle.h5_state.specs.Steps.{errors_of, world_of}
 use Rattle.h5_rules_tables.proofs.PendingLaws.{ready_taken, same_pending}
 use Rattle.h5_rules_tables.proofs.in_table_text.leave_table_text.Goals as goal
 
 pub insert_pending_text-requires-clause-ready : goal.insert_pending_text-requires-clause-ready
 insert_pending_text-requires-clause-ready g c =
-    subst IsReady (sym c.take_pending_text-pending.ensures.made.world) (ready_taken (world_of g.S.TreeSink c.args.sink.now c.args.state.now) c.requires.ready)
+    subst HasHtmlRoot (sym c.take_pending_text-pending.ensures.made.world) (ready_taken (world_of g.S.TreeSink c.args.sink.now c.args.state.now) c.requires.ready)
 
 pub returns-clause-asks : goal.returns-clause-asks
 unfolding in_table_text_else

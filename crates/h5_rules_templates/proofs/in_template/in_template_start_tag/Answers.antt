@@ -1,4 +1,4 @@
-use Rattle.h5_meaning.proofs.ReadyLaws.{ready_open}
+use Rattle.h5_rules.proofs.modes.ReadyLaws.{ready_open}
 use Rattle.h5_state.specs.Steps.{world_of}
 use Rattle.h5_rules_templates.proofs.in_template.in_template_start_tag.Goals as goal
 

@@ -1,6 +1,6 @@
 use Rattle.std.proofs.Common.{◌≡◌, true, ◌<◌, arith, refl, length, get_or, subst, sym, ◌∙◌}
 use Rattle.std.proofs.lemmas.Str.{IsCharBoundary-start, IsCharBoundary-after_ascii}
-use Rattle.h5_meaning.specs.Blanks.{is_blank}
+use Rattle.h5_rules.specs.Blanks.{is_blank}
 use Rattle.h5_state.proofs.TextLaws.{rest_of-more, blank_small}
 use Rattle.h5_state.proofs.blanks.blank_len.Goals as goal
 

@@ -1,5 +1,5 @@
 use Rattle.std.proofs.Common.{◌≡◌, take, [], IsCharBoundary}
-use Rattle.h5_meaning.specs.Blanks.{rest_of}
+use Rattle.h5_rules.specs.Blanks.{rest_of}
 use Rattle.h5_state.proofs.blanks.blank_len.Given as goal
 
 abbrev pub invariant-loop-i : goal.invariant-loop-i

@@ -1,5 +1,5 @@
 use Rattle.std.proofs.Common.{◌≡◌, drop}
-use Rattle.h5_meaning.specs.Blanks.{all_blank}
+use Rattle.h5_rules.specs.Blanks.{all_blank}
 use Rattle.h5_state.proofs.blanks.is_blank_text.Given as goal
 
 abbrev pub invariant-loop-b : goal.invariant-loop-b

@@ -1,5 +1,5 @@
 use Rattle.std.proofs.Common.{ap, arith, length, sym, ◌+◌, ◌-◌, ◌∙◌, ◌≡◌, ◌∷◌}
-use Rattle.h5_meaning.proofs.PairLaws.{is_in_telling, is_in_true}
+use Rattle.h5_rules.proofs.entries.PairLaws.{is_in_telling, is_in_true}
 use Rattle.h5_state.specs.View.{stack_under}
 use Rattle.h5_state.proofs.FoundLaws.{found_first}
 use Rattle.h5_state.proofs.find.find_open.Goals as goal

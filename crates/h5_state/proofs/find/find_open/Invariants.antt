@@ -1,6 +1,6 @@
 use Rattle.std.proofs.Common.{◌≡◌, ◌≤◌, length}
-use Rattle.h5_meaning.specs.Adoption.{older_than}
-use Rattle.h5_meaning.specs.Order.{is_in}
+use Rattle.h5_rules.specs.formatting.Adoption.{older_than}
+use Rattle.h5_rules.specs.stack.Order.{is_in}
 use Rattle.h5_state.specs.View.{stack_under, world}
 use Rattle.h5_state.proofs.find.find_open.Given as goal
 

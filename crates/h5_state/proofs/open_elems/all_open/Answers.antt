@@ -1,5 +1,5 @@
 use Rattle.std.proofs.Common.{ap, arith, map, reverse, sym, ◌∙◌, ◌≡◌}
-use Rattle.h5_meaning.specs.World.{name_in, names_of}
+use Rattle.h5_rules.specs.World.{name_in, names_of}
 use Rattle.h5_state.specs.Summaries.{all_open}
 use Rattle.h5_state.specs.View.{open_node, world}
 use Rattle.h5_state.specs.declared.open_element.AllOpen.{AllOpen}

@@ -1,6 +1,6 @@
 use Rattle.std.proofs.Common.{◌≡◌, ◌≤◌, length}
-use Rattle.h5_meaning.specs.Scope.{cut_through, in_scope}
-use Rattle.h5_meaning.specs.World.{names_of}
+use Rattle.h5_rules.specs.stack.Scope.{cut_through, in_scope}
+use Rattle.h5_rules.specs.World.{names_of}
 use Rattle.h5_state.specs.View.{names_under, stack_under, world}
 use Rattle.h5_state.proofs.open_elems.find_in_scope.Given as goal
 

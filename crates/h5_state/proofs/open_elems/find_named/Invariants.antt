@@ -1,7 +1,7 @@
 use Rattle.std.proofs.Common.{◌≡◌, ◌≤◌, length}
-use Rattle.h5_meaning.specs.Scope.{cut_through}
+use Rattle.h5_rules.specs.stack.Scope.{cut_through}
 use Rattle.h5_tag_sets.specs.TagSets.{is_html_named}
-use Rattle.h5_meaning.specs.World.{names_of}
+use Rattle.h5_rules.specs.World.{names_of}
 use Rattle.h5_state.specs.Summaries.{html_number}
 use Rattle.h5_state.specs.View.{names_under, stack_under, world}
 use Rattle.h5_state.proofs.open_elems.find_named.Given as goal

@@ -1,6 +1,6 @@
-use Rattle.h5_meaning.specs.Changes.{generate_implied_end_except}
+use Rattle.h5_rules.specs.Changes.{generate_implied_end_except}
 use Rattle.h5_tag_sets.specs.TagSets.{is_html_named, is_implied}
-use Rattle.h5_meaning.proofs.BoolLaws.{and_not}
+use Rattle.h5_rules.proofs.BoolLaws.{and_not}
 use Rattle.h5_state.proofs.open_elems.generate_implied_end_except.Goals as goal
 
 pub returns-clause-made : goal.returns-clause-made

@@ -1,7 +1,7 @@
 use Rattle.std.proofs.Common.{ap, codes, map, sym, ◌∙◌, arith}
 use Rattle.std.proofs.lemmas.List.{length-map, length-reverse}
 use Rattle.h5_tag_sets.specs.TagSets.{is_html_named}
-use Rattle.h5_meaning.specs.World.{names_of}
+use Rattle.h5_rules.specs.World.{names_of}
 use Rattle.h5_state.specs.View.{open_node, world}
 use Rattle.h5_state.proofs.StackLaws.{element_at, named, second_named, second_none}
 use Rattle.h5_state.proofs.open_elems.has_body_second.Goals as goal

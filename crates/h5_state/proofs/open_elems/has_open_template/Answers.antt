@@ -1,5 +1,5 @@
 use Rattle.std.proofs.Common.{ap, nat_lt, ◌∙◌}
-use Rattle.h5_meaning.specs.World.{names_of}
+use Rattle.h5_rules.specs.World.{names_of}
 use Rattle.h5_state.specs.View.{world}
 use Rattle.h5_state.proofs.SummaryLaws.{some_template}
 use Rattle.h5_state.proofs.open_elems.has_open_template.Goals as goal

@@ -1,6 +1,6 @@
 use Rattle.std.proofs.Common.{◌<◌, rules, subst, sym, ◌∙◌}
 use Rattle.std.proofs.lemmas.Bool.{lt-ltb, ne_eqb}
-use Rattle.h5_meaning.specs.World.{name_in}
+use Rattle.h5_rules.specs.World.{name_in}
 use Rattle.h5_state.proofs.SummaryLaws.{other_number, same_number}
 use Rattle.h5_state.proofs.open_elems.is_named.Goals as goal
 

@@ -1,5 +1,5 @@
 use Rattle.std.proofs.Common.{◌<◌, length, ap, arith}
-use Rattle.h5_meaning.specs.World.{names_of}
+use Rattle.h5_rules.specs.World.{names_of}
 use Rattle.h5_state.specs.View.{open_node, world}
 use Rattle.h5_state.specs.declared.open_element.Summary.{Summary}
 use Rattle.h5_state.proofs.AttributeLaws.{open_length}

@@ -1,9 +1,9 @@
 use Rattle.std.proofs.Common.{ap, refl, subst, sym, ◌≡◌, ◌∙◌}
 use Rattle.h5_tag_sets.specs.TagSets.{is_html_named}
-use Rattle.h5_meaning.specs.Changes.{pop_until_named}
-use Rattle.h5_meaning.specs.Sound.{Sound}
-use Rattle.h5_meaning.specs.World.{names_of}
-use Rattle.h5_meaning.proofs.PopLaws.{all_cut}
+use Rattle.h5_rules.specs.Changes.{pop_until_named}
+use Rattle.h5_rules.specs.Sound.{Sound}
+use Rattle.h5_rules.specs.World.{names_of}
+use Rattle.h5_rules.proofs.changes.PopLaws.{all_cut}
 use Rattle.h5_state.specs.View.{with_stack, world}
 use Rattle.h5_state.proofs.WalkLaws.{cut_under}
 use Rattle.h5_state.proofs.open_elems.pop_until_named.Goals as goal

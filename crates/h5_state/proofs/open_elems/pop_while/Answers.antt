@@ -1,8 +1,8 @@
 use Rattle.std.proofs.Common.{◌<◌, length, refl, sym, subst, ◌∙◌, ap}
-use Rattle.h5_meaning.specs.Changes.{pop_while}
-use Rattle.h5_meaning.specs.Scope.{cut_through}
-use Rattle.h5_meaning.specs.World.{World, names_of}
-use Rattle.h5_meaning.proofs.PopLaws.{cut_popped, first_is_open, pop_shorter, while_none, while_popped}
+use Rattle.h5_rules.specs.Changes.{pop_while}
+use Rattle.h5_rules.specs.stack.Scope.{cut_through}
+use Rattle.h5_rules.specs.World.{World, names_of}
+use Rattle.h5_rules.proofs.changes.PopLaws.{cut_popped, first_is_open, pop_shorter, while_none, while_popped}
 use Rattle.h5_state.specs.View.{world}
 use Rattle.h5_state.proofs.open_elems.pop_while.Goals as goal
 

@@ -1,6 +1,6 @@
 use Rattle.std.proofs.Common.{◌≡◌, length}
-use Rattle.h5_meaning.specs.Changes.{pop_while}
-use Rattle.h5_meaning.specs.World.{World, names_of}
+use Rattle.h5_rules.specs.Changes.{pop_while}
+use Rattle.h5_rules.specs.World.{World, names_of}
 use Rattle.h5_state.specs.Steps.{IsSound}
 use Rattle.h5_state.specs.View.{world}
 use Rattle.h5_state.proofs.open_elems.pop_while.Given as goal

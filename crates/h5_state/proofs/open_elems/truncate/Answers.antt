@@ -1,5 +1,5 @@
 use Rattle.std.proofs.Common.{◌≡◌, map, reverse, subst, sym}
-use Rattle.h5_meaning.specs.World.{name_in, names_of}
+use Rattle.h5_rules.specs.World.{name_in, names_of}
 use Rattle.h5_state.specs.Summaries.{summaries}
 use Rattle.h5_state.specs.View.{open_node, world}
 use Rattle.h5_state.proofs.SummaryLaws.{kept_under}

@@ -1,5 +1,5 @@
 use Rattle.std.proofs.Common.{ap, arith, length, refl, sym, ◌<◌, ◌∙◌, ◌≡◌}
-use Rattle.h5_meaning.specs.World.{name_in}
+use Rattle.h5_rules.specs.World.{name_in}
 use Rattle.h5_state.specs.Summaries.{summary_of}
 use Rattle.h5_state.specs.View.{names_under, open_node, world}
 use Rattle.h5_state.proofs.AttributeLaws.{open_length}

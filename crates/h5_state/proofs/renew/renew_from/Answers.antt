@@ -1,7 +1,7 @@
 use Rattle.std.proofs.Common.{ap, arith, length, map, reverse, subst, sym, ◌<◌, ◌≤◌, ◌∙◌, ◌≡◌}
 use Rattle.std.proofs.lemmas.List.{take_all}
-use Rattle.h5_meaning.specs.Sound.{Sound}
-use Rattle.h5_meaning.specs.World.{World, name_in, names_of}
+use Rattle.h5_rules.specs.Sound.{Sound}
+use Rattle.h5_rules.specs.World.{World, name_in, names_of}
 use Rattle.h5_state.specs.Summaries.{summaries}
 use Rattle.h5_state.specs.View.{names_under, open_node, world}
 use Rattle.h5_state.proofs.AttributeLaws.{open_length}

@@ -3,7 +3,7 @@ use Rattle.h5_interface.specs.Changes.{mark}
 use Rattle.h5_interface.specs.Seen.{Seen}
 use Rattle.h5_interface.specs.SinkChoices.{Rearranges}
 use Rattle.h5_interface.proofs.MakingLaws.{mark_rearranges}
-use Rattle.h5_meaning.specs.Changes.{mark_started}
+use Rattle.h5_rules.specs.Changes.{mark_started}
 use Rattle.h5_state.specs.View.{world}
 use Rattle.h5_state.proofs.StackLaws.{seen_world}
 use Rattle.h5_state.proofs.StepLaws.{sound_rearranged}

@@ -1,6 +1,6 @@
 use Rattle.std.proofs.Common.{sym, subst, reverse, map, ap}
 use Rattle.h5_interface.specs.Seen.{Seen}
-use Rattle.h5_meaning.specs.Sound.{AllStand}
+use Rattle.h5_rules.specs.Sound.{AllStand}
 use Rattle.h5_state.specs.View.{open_node, world}
 use Rattle.h5_state.proofs.StackLaws.{all_popped, popped_world}
 use Rattle.h5_state.proofs.SummaryLaws.{kept_popped}

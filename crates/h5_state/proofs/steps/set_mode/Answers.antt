@@ -1,5 +1,5 @@
 use Rattle.std.proofs.Common.{rules}
-use Rattle.h5_meaning.specs.World.{names_of}
+use Rattle.h5_rules.specs.World.{names_of}
 use Rattle.h5_state.specs.View.{world}
 use Rattle.h5_state.proofs.steps.set_mode.Goals as goal
 

@@ -1,7 +1,7 @@
 use Rattle.std.proofs.Common.{◌≡◌, ◌<◌, ℕ, false, true, get_or}
 use Rattle.std.specs.Char.{is_ascii_alphabetic}
-use Rattle.h5_scan.specs.Cuts.{is_in}
-use Rattle.h5_scan.specs.declared.cut.Class.TheVariants.{NameEnd}
+use Rattle.h5_markup.specs.Cuts.{is_in}
+use Rattle.h5_markup.specs.declared.cut.Class.TheVariants.{NameEnd}
 use Rattle.h5_tokenizer.proofs.bare.bare_name.Given as goal
 
 abbrev pub invariant-loop-i : goal.invariant-loop-i

@@ -1,7 +1,7 @@
 use Rattle.std.proofs.Common.{◌≡◌, ◌+◌, drop, refl, ap, ◌∙◌, arith}
-use Rattle.h5_scan.specs.Ending.{ends}
-use Rattle.h5_scan.specs.declared.ending.Inside.TheVariants.{TagName}
-use Rattle.h5_scan.proofs.Endings.{boundary_behind}
+use Rattle.h5_markup.specs.Ending.{ends}
+use Rattle.h5_markup.specs.declared.ending.Inside.TheVariants.{TagName}
+use Rattle.h5_markup.proofs.Endings.{boundary_behind}
 use Rattle.h5_tokenizer.proofs.BareLaws.{bare_by}
 use Rattle.h5_tokenizer.proofs.bare.cut_bare.Goals as goal
 

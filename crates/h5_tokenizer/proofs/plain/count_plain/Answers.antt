@@ -1,6 +1,6 @@
 use Rattle.std.proofs.Common.{◌≡◌, ◌<◌, ◌+◌, length, true, cond, eqb, get_or, ap, sym, ◌∙◌, arith}
 use Rattle.std.proofs.lemmas.Bool.{ne_eqb}
-use Rattle.h5_constructs.specs.Plain.{is_plain}
+use Rattle.h5_markup.specs.Plain.{is_plain}
 use Rattle.h5_tokenizer.proofs.LineLaws.{all_plain, high_none, high_plain, none_more, plain_next}
 use Rattle.h5_tokenizer.proofs.plain.count_plain.Goals as goal
 use Rattle.h5_tokenizer.proofs.plain.count_plain.Goals.{then-b-le93+else-not-is_plain+then-b-eq10, then-b-le93+else-not-is_plain+else-b-eq10, else-b-le93}

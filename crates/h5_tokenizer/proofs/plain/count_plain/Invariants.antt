@@ -1,5 +1,5 @@
 use Rattle.std.proofs.Common.{◌≡◌, ◌<◌, ◌≤◌, ℕ, false, true, get_or, take}
-use Rattle.h5_constructs.specs.Plain.{is_plain}
+use Rattle.h5_markup.specs.Plain.{is_plain}
 use Rattle.h5_tokenizer.specs.Lines.{newlines}
 use Rattle.h5_tokenizer.proofs.plain.count_plain.Given as goal
 

@@ -1,6 +1,6 @@
 use Rattle.std.proofs.Common.{ap, ◌∙◌}
-use Rattle.h5_scan.specs.Matching.{Found}
-use Rattle.h5_scan.specs.Seen.{seen}
+use Rattle.h5_markup.specs.Matching.{Found}
+use Rattle.h5_markup.specs.Seen.{seen}
 use Rattle.h5_tokenizer.specs.Openings.{opening_of}
 use Rattle.h5_tokenizer.proofs.PlainLaws.{takes_bit}
 use Rattle.h5_tokenizer.proofs.plain.take_bit.Goals as goal

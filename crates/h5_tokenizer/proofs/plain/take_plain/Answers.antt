@@ -1,5 +1,5 @@
 use Rattle.std.proofs.Common.{◌++◌, string_bytes, ap, ◌∙◌}
-use Rattle.h5_constructs.proofs.PlainBytes.{cut_plain}
+use Rattle.h5_markup.proofs.PlainBytes.{cut_plain}
 use Rattle.h5_tokenizer.proofs.PlainLaws.{takes_plain}
 use Rattle.h5_tokenizer.proofs.plain.take_plain.Goals as goal
 

@@ -1,7 +1,7 @@
 use Rattle.std.proofs.Common.{sym, arith}
-use Rattle.h5_scan.specs.Matching.{Found, No}
+use Rattle.h5_markup.specs.Matching.{Found, No}
 use Rattle.h5_tokenizer.specs.Front.{Gives, Turns}
-use Rattle.h5_constructs.proofs.TextTakes.{found_shorter}
+use Rattle.h5_markup.proofs.TextTakes.{found_shorter}
 use Rattle.h5_tokenizer.specs.Steps.{place_of}
 use Rattle.h5_tokenizer.proofs.FrontTakes.{opening_eats}
 use Rattle.h5_tokenizer.proofs.StepLaws.{switch_moves, opening_at}

@@ -1,7 +1,7 @@
 use Rattle.std.proofs.Common.{arith}
 use Rattle.std.proofs.lemmas.Result.{err_from_is_err_and}
 use Rattle.h5_token.specs.TokenText.{token_text}
-use Rattle.h5_constructs.proofs.TextTakes.{found_shorter}
+use Rattle.h5_markup.proofs.TextTakes.{found_shorter}
 use Rattle.h5_tokenizer.specs.Front.{Whole}
 use Rattle.h5_tokenizer.specs.Steps.{place_of}
 use Rattle.h5_tokenizer.proofs.FrontTakes.{front_eats}

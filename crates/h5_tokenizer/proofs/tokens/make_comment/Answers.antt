@@ -1,6 +1,6 @@
 use Rattle.std.proofs.Common.{◌≡◌, ◌++◌, ◌∷◌, [], ap, sym, ◌∙◌, false}
 use Rattle.h5_token.specs.TokenText.{CommentIs}
-use Rattle.h5_constructs.specs.Text.{text_of}
+use Rattle.h5_markup.specs.Text.{text_of}
 use Rattle.h5_tokenizer.specs.Tokens.{without_dashes}
 use Rattle.h5_tokenizer.proofs.TokenLaws.{without_them, nothing_gone}
 use Rattle.h5_tokenizer.proofs.tokens.make_comment.Goals as goal

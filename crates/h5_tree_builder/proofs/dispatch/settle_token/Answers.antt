@@ -2,13 +2,13 @@ use Rattle.std.proofs.Common.{◌-◌, true, refl, sym, subst, arith}
 use Rattle.h5_token.specs.declared.sink.TokenSinkResult.TheVariants.{Continue}
 use Rattle.h5_types.specs.TurnText.{turn_text}
 use Rattle.h5_types.specs.declared.turns.ProcessResult.TheVariants as results
-use Rattle.h5_meaning.specs.ForeignContent.{dispatch}
-use Rattle.h5_meaning.specs.Rows.{Follows}
-use Rattle.h5_meaning.specs.Settle.{settle}
-use Rattle.h5_meaning.specs.Sound.{Fits}
-use Rattle.h5_meaning.proofs.ForeignFitLaws.{fits_acknowledged, fits_again, fits_answered, fits_done}
-use Rattle.h5_meaning.proofs.FallsLaws.{rank_few}
-use Rattle.h5_meaning.proofs.SettleLaws.{rank_falls}
+use Rattle.h5_rules.specs.modes.ForeignContent.{dispatch}
+use Rattle.h5_rules.specs.Rows.{Follows}
+use Rattle.h5_rules.specs.Settle.{settle}
+use Rattle.h5_rules.specs.Sound.{Fits}
+use Rattle.h5_laws.proofs.kept.ForeignFitLaws.{fits_acknowledged, fits_again, fits_answered, fits_done}
+use Rattle.h5_laws.proofs.turns.FallsLaws.{rank_few}
+use Rattle.h5_laws.proofs.turns.SettleLaws.{rank_falls}
 use Rattle.h5_state.specs.View.{world}
 use Rattle.h5_tree_builder.specs.Chains.{CameTo, Left}
 use Rattle.h5_tree_builder.proofs.ChainLaws.{acknowledged_last, answered_last, done_last, few_open, left_all, left_next}

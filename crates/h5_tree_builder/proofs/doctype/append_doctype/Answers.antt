@@ -1,6 +1,6 @@
 use Rattle.h5_interface.specs.Seen.{append_doctype}
 use Rattle.h5_interface.proofs.MakingLaws.{append_doctype_rearranges}
-use Rattle.h5_meaning.proofs.SoundLaws.{rearranged_or_not}
+use Rattle.h5_rules.proofs.changes.SoundLaws.{rearranged_or_not}
 use Rattle.h5_state.specs.View.{world}
 use Rattle.h5_state.proofs.StepLaws.{sound_rearranged}
 use Rattle.h5_tree_builder.proofs.doctype.append_doctype.Goals as goal

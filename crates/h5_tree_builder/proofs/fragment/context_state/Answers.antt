@@ -1,7 +1,7 @@
 use Rattle.std.proofs.Common.{◌≡◌, ℕ, List, Option, Some, option_map, reverse, ap, sym, subst, ◌∙◌}
 use Rattle.h5_types.specs.declared.modes.InsertionMode.{InsertionMode}
-use Rattle.h5_meaning.specs.Sound.{Sound}
-use Rattle.h5_meaning.specs.World.{World, names_of}
+use Rattle.h5_rules.specs.Sound.{Sound}
+use Rattle.h5_rules.specs.World.{World, names_of}
 use Rattle.h5_state.specs.Summaries.{summaries}
 use Rattle.h5_state.specs.View.{world}
 use Rattle.h5_state.proofs.StackLaws.{named}

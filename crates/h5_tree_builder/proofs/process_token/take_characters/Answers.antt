@@ -1,5 +1,5 @@
 use Rattle.std.proofs.Common.{string_bytes, ap, ◌∙◌}
-use Rattle.h5_meaning.specs.Run.{is_empty_text, step, taken, text_step, without_lf}
+use Rattle.h5_rules.specs.Run.{is_empty_text, step, taken, text_step, without_lf}
 use Rattle.h5_state.specs.Steps.{world_of}
 use Rattle.h5_tree_builder.proofs.SettledLaws.{settles_as}
 use Rattle.h5_tree_builder.proofs.process_token.take_characters.Goals as goal

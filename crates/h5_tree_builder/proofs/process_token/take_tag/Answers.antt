@@ -1,8 +1,8 @@
 use Rattle.std.proofs.Common.{refl, ap}
 use Rattle.h5_token.specs.TokenText.{tag_text}
 use Rattle.h5_types.specs.TurnText.{TagTurn}
-use Rattle.h5_meaning.specs.Run.{step}
-use Rattle.h5_meaning.specs.Settle.{settle}
+use Rattle.h5_rules.specs.Run.{step}
+use Rattle.h5_rules.specs.Settle.{settle}
 use Rattle.h5_tree_builder.proofs.SettledLaws.{settles_as}
 use Rattle.h5_tree_builder.proofs.process_token.take_tag.Goals as goal
 

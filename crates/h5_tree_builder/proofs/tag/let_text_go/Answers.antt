@@ -4,9 +4,9 @@ use Rattle.h5_types.specs.TurnText.{EofTurn, TagTurn}
 use Rattle.h5_types.specs.declared.modes.InsertionMode.TheVariants.{InTableText}
 use Rattle.h5_types.specs.declared.turns.ProcessResult.TheVariants.{Reprocess}
 use Rattle.h5_types.specs.declared.turns.Token.TheVariants as tokens
-use Rattle.h5_meaning.specs.Modes.{rule}
-use Rattle.h5_meaning.specs.Rows.{Follows}
-use Rattle.h5_meaning.proofs.ForeignFitLaws.{fits_again}
+use Rattle.h5_rules.specs.modes.Modes.{rule}
+use Rattle.h5_rules.specs.Rows.{Follows}
+use Rattle.h5_laws.proofs.kept.ForeignFitLaws.{fits_again}
 use Rattle.h5_state.specs.View.{world}
 use Rattle.h5_tree_builder.proofs.BodyLaws.{follows_mode}
 use Rattle.h5_tree_builder.proofs.ChainLaws.{left_all, left_next, ready_in_mode}

@@ -1,7 +1,7 @@
 use Rattle.std.proofs.Common.{refl, arith}
 use Rattle.h5_token.specs.TokenText.{tag_text}
 use Rattle.h5_types.specs.TurnText.{TagTurn}
-use Rattle.h5_meaning.proofs.TurnLaws.{turns_few}
+use Rattle.h5_laws.proofs.turns.TurnLaws.{turns_few}
 use Rattle.h5_state.specs.View.{world}
 use Rattle.h5_tree_builder.proofs.ChainLaws.{few_open, left_came}
 use Rattle.h5_tree_builder.proofs.tag.settle_tag.Goals as goal

@@ -1,6 +1,6 @@
 use Rattle.std.proofs.Common.{◌≡◌, length, true}
-use Rattle.h5_meaning.specs.Sound.{Fits}
-use Rattle.h5_meaning.specs.Text.{is_quiet_text, text_any}
+use Rattle.h5_rules.specs.Sound.{Fits}
+use Rattle.h5_rules.specs.Text.{is_quiet_text, text_any}
 use Rattle.h5_state.specs.Steps.{IsSound}
 use Rattle.h5_state.specs.View.{world}
 use denote.Shadow.{shadow}

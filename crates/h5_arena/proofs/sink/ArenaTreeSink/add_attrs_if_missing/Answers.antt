@@ -4,6 +4,7 @@ use Rattle.h5_interface.proofs.MakingLaws.{add_missing_rearranges}
 use Rattle.h5_arena.specs.ArenaModel.{forest_in, forest_of, node_view}
 use Rattle.h5_arena.proofs.ChildViews.{on_err}
 use Rattle.h5_arena.proofs.NodeWrites.{attrs_write, element_within, same_write, seen_after}
+use Rattle.h5_arena.proofs.OwnerLaws.{owners_add_missing}
 use Rattle.h5_arena.proofs.sink.ArenaTreeSink.add_attrs_if_missing.Goals as goal
 
 pub invariant_of-self : goal.invariant_of-self
@@ -19,8 +20,10 @@ returns-in_err-add_missing-clause-err c =
 pub invariant_of-self-2 : goal.invariant_of-self-2
 invariant_of-self-2 c =
     let there = element_within c.self.inside.nodes.items c.args.target.now.index (rw (← c.self.view_is) at c.requires) in
-    rw (attrs_write c.self.inside.nodes.items c.args.target.now.index c.index_mut-node.result.now (record c.index_mut-node.result.now { attrs = c.add_missing.new.attrs }) (attribute_texts c.args.attrs.items) there c.index_mut-node.ensures.value (ap (λ xs. record (node_view c.index_mut-node.result.now) { attrs = xs }) c.in_ok-add_missing.ensures.ok))
-    (add_missing_rearranges (forest_in c.self.inside.nodes.items) c.args.target.now.index (attribute_texts c.args.attrs.items) c.self.invariant).is_forest
+    rw (attrs_write c.self.inside.nodes.items c.args.target.now.index c.index_mut-node.result.now (record c.index_mut-node.result.now { attrs = c.add_missing.new.attrs }) (attribute_texts c.args.attrs.items) there c.index_mut-node.ensures.value (ap (λ xs. record (node_view c.index_mut-node.result.now) { attrs = xs }) c.in_ok-add_missing.ensures.ok)) (record {
+      is_forest = (add_missing_rearranges (forest_in c.self.inside.nodes.items) c.args.target.now.index (attribute_texts c.args.attrs.items) c.self.invariant.is_forest).is_forest;
+      owners = owners_add_missing (forest_in c.self.inside.nodes.items) c.args.target.now.index (attribute_texts c.args.attrs.items) c.self.invariant.owners;
+    })
 
 pub returns-clause-ok : goal.returns-clause-ok
 returns-clause-ok c =

@@ -7,7 +7,7 @@ use Rattle.h5_arena.proofs.tree.Arena.contents.Goals as goal
 pub returns-clause-held : goal.returns-clause-held
 returns-clause-held c =
     let a = c.args.self.now in
-    let forest = subst (λ (a : ArenaView). IsForest (forest_seen a)) c.self.view_is c.self.invariant in
+    let forest = subst (λ (a : ArenaView). IsForest (forest_seen a)) c.self.view_is c.self.invariant.is_forest in
     let nodes = ap (λ (a : ArenaView). a.nodes) c.self.view_is in
     let told = node_told (λ d. d.contents) a c.self.inside.nodes.items c.args.id c.index.result.now nodes c.requires c.index.ensures ∙ ap Some (sym c.node.ensures) in
     contents_held a c.args.id c.node.result forest told

@@ -7,7 +7,7 @@ use Rattle.h5_arena.proofs.tree.Arena.parent.Goals as goal
 pub returns-in_default-clause-held : goal.returns-in_default-clause-held
 returns-in_default-clause-held c =
     let a = c.args.self.now in
-    let forest = subst (λ (a : ArenaView). IsForest (forest_seen a)) c.self.view_is c.self.invariant in
+    let forest = subst (λ (a : ArenaView). IsForest (forest_seen a)) c.self.view_is c.self.invariant.is_forest in
     let nodes = ap (λ (a : ArenaView). a.nodes) c.self.view_is in
     let told = node_told (λ d. d.parent) a c.self.inside.nodes.items c.args.id c.index-node.result.now nodes c.requires c.index-node.ensures ∙ ap Some (sym c.node.ensures) in
     parent_held a c.args.id c.node.result forest told

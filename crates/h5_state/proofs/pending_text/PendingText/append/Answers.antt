@@ -1,6 +1,6 @@
 use Rattle.std.proofs.Common.{◌++◌, ◌&&◌, ap, string_bytes, sym, ◌∙◌}
-use Rattle.h5_meaning.specs.Blanks.{all_blank}
-use Rattle.h5_meaning.proofs.BlankLaws.{all_blank-append}
+use Rattle.h5_rules.specs.Blanks.{all_blank}
+use Rattle.h5_rules.proofs.BlankLaws.{all_blank-append}
 use Rattle.h5_state.proofs.pending_text.PendingText.append.Goals as goal
 
 pub invariant_of-self-2 : goal.invariant_of-self-2

@@ -1,15 +1,15 @@
 use Rattle.std.proofs.Common.{◌≡◌, false, string_bytes, ap, sym, subst, refl}
 use Rattle.h5_token.specs.Reply.{reply}
 use Rattle.h5_token.specs.TokenText.{Characters}
-use Rattle.h5_meaning.specs.Run.{View, is_counted, refuses_in, step}
-use Rattle.h5_meaning.specs.World.{World}
+use Rattle.h5_rules.specs.Run.{View, is_counted, refuses_in, step}
+use Rattle.h5_rules.specs.World.{World}
 use Rattle.h5_state.specs.View.{world}
 use Rattle.h5_tree_builder.specs.Builder.{Answered, Building}
 use Rattle.h5_tree_builder.specs.Chains.{CameTo}
 use Rattle.h5_tree_builder.specs.Held.{building}
 use Rattle.h5_tree_builder.proofs.BuilderLaws.{answered}
 use Rattle.h5_tree_builder.proofs.builder.TreeBuilder.process_characters.Goals as goal
-use Rattle.h5_meaning.proofs.RunLaws.{takes_text}
+use Rattle.h5_laws.proofs.cuts.RunLaws.{takes_text}
 
 pub returns-clause-takes : goal.returns-clause-takes
 returns-clause-takes g c =

@@ -1,6 +1,0 @@
-pub mod Becomes
-pub mod Hanging
-pub mod Places
-pub mod Relists
-pub mod Rounds
-pub mod View

@@ -1,0 +1,5 @@
+pub mod FramesetLaws
+pub mod ItemLaws
+pub mod LeaveLaws
+pub mod ResetLaws
+pub mod SearchLaws

@@ -1,0 +1,19 @@
+use Rattle.std.proofs.Common.{◌≡◌, ◌≤◌, length}
+use Rattle.h5_rules.specs.stack.Scope.{cut_through}
+use Rattle.h5_tag_sets.specs.TagSets.{is_cell}
+use Rattle.h5_rules.specs.World.{names_of}
+use Rattle.h5_state.specs.View.{names_under, stack_under, world}
+use Rattle.h5_closing.proofs.tables.find_cell.Given as goal
+
+-- what is left gives what was to come at first
+abbrev pub invariant-down : goal.invariant-down
+invariant-down g l =
+    let w = world g.S.TreeSink.sees g.S.TreeSink.node l.sink l.state in
+    let names = names_under g.S.TreeSink.sees g.S.TreeSink.node l.sink l.state l.place in
+    record {
+      place : l.place ≤ length w.stack;
+      cut : cut_through is_cell names (stack_under g.S.TreeSink.node l.state l.place) ≡ cut_through is_cell (names_of w) w.stack;
+    }
+
+abbrev pub decreases-down : goal.decreases-down
+decreases-down g l = l.place

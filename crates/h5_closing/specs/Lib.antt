@@ -1,0 +1,3 @@
+pub mod EndSearches
+pub mod Items
+pub mod Reset

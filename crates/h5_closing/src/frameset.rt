@@ -1,0 +1,69 @@
+//! What framesets ask of the open elements, and what goes where one takes the place of the body (HTML standard, sections
+//! 13.2.6.4.7 and 13.2.6.4.18).
+ghost use Rattle.std.specs.Prelude.{◌≡◌, OnOk};
+ghost use Rattle.h5_interface.specs.Seen.{changed};
+ghost use Rattle.h5_rules.specs.Changes.{detach_known};
+ghost use Rattle.h5_rules.specs.stack.Order.{second_from_last};
+ghost use Rattle.h5_rules.specs.modes.InFrameset.{is_in_frameset, is_root_alone};
+ghost use Rattle.h5_rules.specs.Rows.{RemoveBody};
+ghost use Rattle.h5_rules.specs.World.{names_of};
+ghost use Rattle.h5_state.specs.Steps.{IsSound, MakesIfOk, errors_of, world_of};
+
+use h5_interface::TreeSink;
+use h5_names::KnownName;
+use h5_state::{State, truncate};
+use h5_tag_sets::is_html_known;
+use std::alloc::AllocError;
+
+/// Whether only the root is open.
+#[tactic(auto, unfolding(h5_state::specs::View::world))]
+pub fn is_root_alone<S: TreeSink>(sink: &S, state: &State<S::Handle>) -> bool
+    ensures { result ≡ is_root_alone (names_of (world_of S.TreeSink sink.now state.now)) }
+{
+    state.open_elems.len() == 1
+}
+
+/// Whether the element below the current node is a `frameset`.
+#[tactic(auto, unfolding(h5_state::specs::View::world, h5_rules::specs::World::names_of))]
+pub fn is_below_frameset<S: TreeSink>(sink: &S, state: &State<S::Handle>) -> bool
+    requires { IsSound S.TreeSink sink.now state.now }
+    ensures { result ≡ is_in_frameset (names_of (world_of S.TreeSink sink.now state.now)) }
+{
+    let count = state.open_elems.len();
+    if count > 1 {
+        let below = &state.open_elems[count - 2];
+        is_html_known(sink.elem_name(&below.handle), KnownName::Frameset)
+    } else {
+        false
+    }
+}
+
+// The body, the second open element, leaves its parent. An Err leaves it.
+#[tactic(auto, unfolding(h5_state::specs::View::world))]
+fn detach_body<S: TreeSink>(sink: &mut S, state: &State<S::Handle>) -> Result<(), AllocError>
+    requires { IsSound S.TreeSink sink.old state.now }
+    ensures done { OnOk result (S.sees sink.new ≡ changed (detach_known (second_from_last (world_of S.TreeSink sink.old state.now).stack)) (S.sees sink.old)) }
+    ensures quiet { errors_of S.TreeSink sink.new ≡ errors_of S.TreeSink sink.old }
+    ensures sound { IsSound S.TreeSink sink.new state.now }
+{
+    if state.open_elems.len() > 1 {
+        sink.remove_from_parent(&state.open_elems[1].handle)
+    } else {
+        Ok(())
+    }
+}
+
+/// The body, the second open element, leaves its parent, and only the root stays open. The sink isn't told of elements that
+/// were open. An Err leaves them.
+#[tactic(auto, unfolding(h5_state::specs::View::world, h5_rules::specs::Changes::remove_body))]
+pub fn remove_body<S: TreeSink>(
+    sink: &mut S,
+    state: &mut State<S::Handle>,
+) -> Result<(), AllocError>
+    requires { IsSound S.TreeSink sink.old state.old }
+    ensures { MakesIfOk S.TreeSink RemoveBody sink.old state.old sink.new state.new result }
+{
+    detach_body(sink, state)?;
+    truncate(sink, state, 1);
+    Ok(())
+}

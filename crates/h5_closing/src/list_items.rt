@@ -1,0 +1,125 @@
+//! Items of lists (HTML standard, section 13.2.6.4.7, start tags "li", "dd" and "dt").
+ghost use Rattle.std.specs.Prelude.{◌≡◌, MatchOption, None, Some, codes, if◌then◌else◌, is_none, is_some, length, true};
+ghost use Rattle.std.specs.Option.{option_map};
+ghost use Rattle.h5_names.specs.KnownNames.{name_text};
+ghost use Rattle.h5_interface.specs.Forest.{IsElement};
+ghost use Rattle.h5_tag_sets.specs.TagSets.{is_html_named, is_list_item_scope, is_special};
+ghost use Rattle.h5_rules.specs.stack.Scope.{cut_through, in_scope};
+ghost use Rattle.h5_rules.specs.stack.Closing.{is_html_among, newest_item, passed_names};
+ghost use Rattle.h5_rules.specs.Rows.{CloseListItem};
+ghost use Rattle.h5_rules.specs.World.{name_in, names_of};
+ghost use Rattle.h5_closing.specs.Items.{item_names, stops_search};
+ghost use Rattle.h5_state.specs.Steps.{IsSound, Makes, world_of};
+
+use h5_interface::TreeSink;
+use h5_names::{KnownName, LocalName, QualName};
+use h5_state::{
+    Known, OpenElement, State, find_in_scope, find_named, generate_implied_end_except,
+    is_current_html, open_at, open_count, pop_until_named,
+};
+use h5_tag_sets::ElementSet;
+
+/// Items that close one another.
+#[derive(Clone, Copy)]
+pub enum ItemKind {
+    /// `li`.
+    ListItem,
+    /// `dd` and `dt`.
+    Description,
+}
+
+// Which item of this kind has this name, if one does.
+#[tactic(auto, unfolding(h5_rules::specs::modes::InBody::list_item_names, h5_rules::specs::modes::InBody::description_names, h5_tag_sets::specs::TagSets::html_namespace))]
+fn item_of(name: &QualName, kind: ItemKind) -> Option<KnownName>
+    ensures { option_map name_text result ≡ (if is_html_among (item_names kind) name.now then Some name.now.local else None) }
+{
+    if !name.ns.is_html() {
+        return None;
+    }
+    match kind {
+        ItemKind::ListItem if name.local.is(KnownName::Li) => Some(KnownName::Li),
+        ItemKind::Description if name.local.is(KnownName::Dd) => Some(KnownName::Dd),
+        ItemKind::Description if name.local.is(KnownName::Dt) => Some(KnownName::Dt),
+        ItemKind::ListItem | ItemKind::Description => None,
+    }
+}
+
+// Whether a special element of this name ends the search for an item.
+#[tactic(auto, unfolding(h5_rules::specs::stack::Closing::passed_names, h5_tag_sets::specs::TagSets::html_namespace))]
+fn is_passed(name: &QualName) -> bool
+    ensures { result ≡ is_html_among passed_names name.now }
+{
+    name.ns.is_html()
+        && (name.local.is(KnownName::Address)
+            || name.local.is(KnownName::Div)
+            || name.local.is(KnownName::P))
+}
+
+// Whether the search for an item of this kind stops at an open element: that is one, or ends the search. The sink is
+// asked for names of special elements alone.
+fn stops_search<S: TreeSink>(sink: &S, element: &OpenElement<S::Handle>, kind: ItemKind) -> bool
+    requires element { IsElement (S.sees sink.now).forest (S.node element.now.handle) }
+    requires special { element.now.summary.special ≡ is_special (name_in (S.sees sink.now).forest (S.node element.now.handle)) }
+    ensures { result ≡ stops_search (item_names kind) (name_in (S.sees sink.now).forest (S.node element.now.handle)) }
+{
+    if !element.summary.special {
+        return false;
+    }
+    let name = sink.elem_name(&element.handle);
+    !is_passed(name) || item_of(name, kind).is_some()
+}
+
+// The newest item of this kind, from the current node on, if it comes before any element that ends the search.
+fn find_item<S: TreeSink>(sink: &S, state: &State<S::Handle>, kind: ItemKind) -> Option<KnownName>
+    requires { IsSound S.TreeSink sink.now state.now }
+    ensures { option_map name_text result ≡ newest_item (item_names kind) (names_of (world_of S.TreeSink sink.now state.now)) }
+{
+    let mut place = open_count(sink, state);
+    'down: while place > 0 {
+        place -= 1;
+        let element = open_at(sink, state, place);
+        if stops_search(sink, element, kind) {
+            return item_of(sink.elem_name(&element.handle), kind);
+        }
+    }
+    None
+}
+
+/// Closes the newest item of this kind, if it comes before any element that ends the search. Whether it was the current
+/// node once implied end tags were popped, or there is none: where it wasn't, this is a parse error.
+#[tactic(auto, unfolding(h5_rules::specs::stack::Closing::close_list_item))]
+pub fn close_list_item<S: TreeSink>(
+    sink: &mut S,
+    state: &mut State<S::Handle>,
+    kind: ItemKind,
+) -> bool
+    requires { IsSound S.TreeSink sink.old state.old }
+    ensures made { Makes S.TreeSink (CloseListItem (item_names kind)) sink.old state.old sink.new state.new }
+    ensures expected { is_none (newest_item (item_names kind) (names_of (world_of S.TreeSink sink.old state.old))) ≡ true → result ≡ true }
+{
+    match find_item(sink, state, kind) {
+        Some(known) => {
+            let name = LocalName::from_known(known);
+            generate_implied_end_except(sink, state, &name);
+            let expected = is_current_html(sink, state, &name);
+            let place = find_named(sink, state, &name);
+            pop_until_named(sink, state, &name, place);
+            expected
+        }
+        None => true,
+    }
+}
+
+/// Where the first HTML `li` stands, from the current node on, if it is in list item scope: so many elements are older.
+pub fn find_li_in_list_item_scope<S: TreeSink>(sink: &S, state: &State<S::Handle>) -> Option<usize>
+    requires { IsSound S.TreeSink sink.now state.now }
+    ensures found { is_some result ≡ in_scope (is_html_named (codes "li")) is_list_item_scope (names_of (world_of S.TreeSink sink.now state.now)) }
+    ensures place { MatchOption result (Unit {0}) (λ place. place ≡ length (cut_through (is_html_named (codes "li")) (names_of (world_of S.TreeSink sink.now state.now)) (world_of S.TreeSink sink.now state.now).stack)) }
+{
+    find_in_scope(
+        sink,
+        state,
+        &Known(KnownName::Li),
+        &ElementSet::ListItemScope,
+    )
+}

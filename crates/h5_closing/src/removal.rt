@@ -1,0 +1,46 @@
+//! An element leaves the stack of open elements, wherever it stands.
+ghost use Rattle.std.specs.Prelude.{◌≡◌, ◌≢◌, if◌then◌else◌};
+ghost use Rattle.h5_rules.specs.formatting.Adoption.{without_node};
+ghost use Rattle.h5_rules.specs.stack.Order.{is_in};
+ghost use Rattle.h5_rules.specs.Rows.{RemoveFromStack};
+ghost use Rattle.h5_rules.specs.World.{World, root};
+ghost use Rattle.h5_state.specs.Steps.{IsSound, Makes, world_of};
+ghost use Rattle.h5_state.specs.View.{with_stack};
+
+use h5_interface::TreeSink;
+use h5_state::{State, find_open, renew_from};
+
+// An element leaves the stack, where it is open; the sink isn't told. Whether it was.
+fn take_out<S: TreeSink>(sink: &S, state: &mut State<S::Handle>, handle: &S::Handle) -> bool
+    requires sound { IsSound S.TreeSink sink.now state.old }
+    requires root { S.node handle.now ≢ root (world_of S.TreeSink sink.now state.old) }
+    ensures found { result ≡ is_in (S.node handle.now) (world_of S.TreeSink sink.now state.old).stack }
+    ensures world { world_of S.TreeSink sink.now state.new ≡ (let w = world_of S.TreeSink sink.now state.old in
+        if is_in (S.node handle.now) w.stack then with_stack (without_node (S.node handle.now) w.stack) w else w) }
+    ensures sound { IsSound S.TreeSink sink.now state.new }
+{
+    match find_open(sink, state, handle) {
+        Some(place) => {
+            let _ = state.open_elems.remove(place);
+            renew_from(sink, state, place);
+            true
+        }
+        None => false,
+    }
+}
+
+/// An element, which isn't the root, leaves the stack, and the sink is told, where it is open.
+#[tactic(auto, unfolding(h5_rules::specs::formatting::AdoptionAgency::remove_from_stack))]
+pub fn remove_from_stack<S: TreeSink>(
+    sink: &mut S,
+    state: &mut State<S::Handle>,
+    handle: &S::Handle,
+)
+    requires sound { IsSound S.TreeSink sink.old state.old }
+    requires root { S.node handle.now ≢ root (world_of S.TreeSink sink.old state.old) }
+    ensures { Makes S.TreeSink (RemoveFromStack (S.node handle.now)) sink.old state.old sink.new state.new }
+{
+    if take_out(sink, state, handle) {
+        sink.pop(handle);
+    }
+}

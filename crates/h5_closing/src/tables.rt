@@ -1,0 +1,93 @@
+//! What the modes of tables ask of the open elements, and how they close them (HTML standard, sections 13.2.6.4.9 to
+//! 13.2.6.4.15).
+ghost use Rattle.std.specs.Prelude.{◌≡◌, MatchOption, is_some, length};
+ghost use Rattle.h5_tag_sets.specs.TagSets.{is_cell, is_table_outer, is_table_scope};
+ghost use Rattle.h5_rules.specs.stack.Scope.{cut_above, cut_through, first_passes, in_scope};
+ghost use Rattle.h5_rules.specs.Rows.{PopUntilCell, PopUntilCurrent};
+ghost use Rattle.h5_rules.specs.World.{names_of};
+ghost use Rattle.h5_state.specs.Steps.{IsSound, Makes, world_of};
+
+use h5_interface::TreeSink;
+use h5_state::{NameTest, State, find_in_scope, is_current, name_at, open_count, truncate};
+use h5_tag_sets::{ElementSet, td_th};
+
+/// Where the first element whose name passes stands, from the current node on, if it is in table scope: so many elements
+/// are older.
+pub fn find_in_table_scope<S: TreeSink, Is: NameTest>(
+    sink: &S,
+    state: &State<S::Handle>,
+    is: &Is,
+) -> Option<usize>
+    requires { IsSound S.TreeSink sink.now state.now }
+    ensures found { is_some result ≡ in_scope (Is.holds is.now) is_table_scope (names_of (world_of S.TreeSink sink.now state.now)) }
+    ensures place { MatchOption result (Unit {0}) (λ place. place ≡ length (cut_through (Is.holds is.now) (names_of (world_of S.TreeSink sink.now state.now)) (world_of S.TreeSink sink.now state.now).stack)) }
+{
+    find_in_scope(sink, state, is, &ElementSet::TableScope)
+}
+
+/// Whether text of a table is kept back where it would be put: the current node is a part of a table.
+pub fn is_current_table_outer<S: TreeSink>(sink: &S, state: &State<S::Handle>) -> bool
+    requires { IsSound S.TreeSink sink.now state.now }
+    ensures { result ≡ first_passes is_table_outer (names_of (world_of S.TreeSink sink.now state.now)) }
+{
+    is_current(sink, state, &ElementSet::TableOuter)
+}
+
+// How many elements stay open where the stack is cut above the first whose name passes, from the current node on.
+#[inline(always)]
+fn count_down_to<S: TreeSink, Is: NameTest>(sink: &S, state: &State<S::Handle>, is: &Is) -> usize
+    requires { IsSound S.TreeSink sink.now state.now }
+    ensures { result ≡ length (cut_above (Is.holds is.now) (names_of (world_of S.TreeSink sink.now state.now)) (world_of S.TreeSink sink.now state.now).stack) }
+{
+    let mut count = open_count(sink, state);
+    'down: while count > 0 {
+        if is.test(name_at(sink, state, count - 1)) {
+            return count;
+        }
+        count -= 1;
+    }
+    0
+}
+
+/// Clears the stack back to a context: takes elements off it until the name of the current node passes, or none is open.
+/// The sink isn't told.
+#[inline(always)]
+pub fn pop_until_current<S: TreeSink, Is: NameTest>(sink: &S, state: &mut State<S::Handle>, is: &Is)
+    requires { IsSound S.TreeSink sink.now state.old }
+    ensures { Makes S.TreeSink (PopUntilCurrent (Is.holds is.now)) sink.now state.old sink.now state.new }
+{
+    let count = count_down_to(sink, state, is);
+    truncate(sink, state, count);
+}
+
+/// Takes elements off the stack until the first cell was taken off, which stands at this place. The sink isn't told.
+pub fn pop_until_cell<S: TreeSink>(sink: &S, state: &mut State<S::Handle>, place: usize)
+    requires sound { IsSound S.TreeSink sink.now state.old }
+    requires place { place ≡ length (cut_through is_cell (names_of (world_of S.TreeSink sink.now state.old)) (world_of S.TreeSink sink.now state.old).stack) }
+    ensures { Makes S.TreeSink PopUntilCell sink.now state.old sink.now state.new }
+{
+    truncate(sink, state, place);
+}
+
+/// Whether the current node is a cell.
+pub fn is_current_cell<S: TreeSink>(sink: &S, state: &State<S::Handle>) -> bool
+    requires { IsSound S.TreeSink sink.now state.now }
+    ensures { result ≡ first_passes is_cell (names_of (world_of S.TreeSink sink.now state.now)) }
+{
+    is_current(sink, state, &ElementSet::TdTh)
+}
+
+/// Where the first cell stands, from the current node on: so many elements are older, none where none is open.
+pub fn find_cell<S: TreeSink>(sink: &S, state: &State<S::Handle>) -> usize
+    requires { IsSound S.TreeSink sink.now state.now }
+    ensures { result ≡ length (cut_through is_cell (names_of (world_of S.TreeSink sink.now state.now)) (world_of S.TreeSink sink.now state.now).stack) }
+{
+    let mut place = open_count(sink, state);
+    'down: while place > 0 {
+        place -= 1;
+        if td_th(name_at(sink, state, place)) {
+            return place;
+        }
+    }
+    0
+}

@@ -1,0 +1,55 @@
+//! The stack of template insertion modes (HTML standard, section 13.2.4.1).
+ghost use Rattle.std.specs.Prelude.{◌≡◌, not};
+ghost use Rattle.h5_rules.specs.modes.InBody.{no_template_mode};
+ghost use Rattle.h5_rules.specs.Rows.{PopTemplateMode, PushTemplateMode, SwitchTemplateMode};
+ghost use Rattle.h5_state.specs.Steps.{IsSound, Makes, MakesIfOk, world_of};
+
+use h5_interface::TreeSink;
+use h5_state::State;
+use h5_types::InsertionMode;
+use std::alloc::AllocError;
+
+/// Whether there is a template insertion mode.
+#[tactic(auto, unfolding(h5_state::specs::View::world))]
+pub fn has_template_mode<S: TreeSink>(sink: &S, state: &State<S::Handle>) -> bool
+    ensures { result ≡ not (no_template_mode (world_of S.TreeSink sink.now state.now).template_modes) }
+{
+    !state.template_modes.is_empty()
+}
+
+/// A template insertion mode is pushed. An Err leaves them.
+#[tactic(auto, unfolding(h5_state::specs::View::world, h5_rules::specs::World::names_of))]
+pub fn push_template_mode<S: TreeSink>(
+    sink: &S,
+    state: &mut State<S::Handle>,
+    mode: InsertionMode,
+) -> Result<(), AllocError>
+    requires { IsSound S.TreeSink sink.now state.old }
+    ensures { MakesIfOk S.TreeSink (PushTemplateMode mode) sink.now state.old sink.now state.new result }
+{
+    state.template_modes.push(mode)?;
+    Ok(())
+}
+
+/// The current template insertion mode leaves.
+#[tactic(auto, unfolding(h5_state::specs::View::world, h5_rules::specs::World::names_of))]
+pub fn pop_template_mode<S: TreeSink>(sink: &S, state: &mut State<S::Handle>)
+    requires { IsSound S.TreeSink sink.now state.old }
+    ensures { Makes S.TreeSink PopTemplateMode sink.now state.old sink.now state.new }
+{
+    let _ = state.template_modes.pop();
+}
+
+/// The current template insertion mode gives way to another. After an Err there may be one less.
+#[tactic(auto, unfolding(h5_state::specs::View::world, h5_rules::specs::World::names_of))]
+pub fn switch_template_mode<S: TreeSink>(
+    sink: &S,
+    state: &mut State<S::Handle>,
+    mode: InsertionMode,
+) -> Result<(), AllocError>
+    requires { IsSound S.TreeSink sink.now state.old }
+    ensures { MakesIfOk S.TreeSink (SwitchTemplateMode mode) sink.now state.old sink.now state.new result }
+{
+    pop_template_mode(sink, state);
+    push_template_mode(sink, state, mode)
+}

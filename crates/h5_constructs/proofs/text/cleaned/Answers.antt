@@ -1,5 +1,0 @@
-use Rattle.std.proofs.Common.{rules}
-use Rattle.h5_constructs.proofs.text.cleaned.Goals as goal
-
-pub returns-in-0 : goal.returns-in-0
-returns-in-0 c = search rules

@@ -1,3 +1,0 @@
-pub mod CurrentLaws
-pub mod LeaveLaws
-pub mod SearchLaws

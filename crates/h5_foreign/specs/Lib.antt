@@ -1,3 +1,0 @@
-pub mod EndSearches
-pub mod Inserts
-pub mod Leaving

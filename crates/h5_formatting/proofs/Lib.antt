@@ -1,0 +1,15 @@
+pub mod AdoptLaws
+pub mod AgencyLaws
+pub mod CloneLaws
+pub mod EntryLaws
+pub mod HangLaws
+pub mod ListLaws
+pub mod MoveLaws
+pub mod NestLaws
+pub mod OpenLaws
+pub mod RelistLaws
+pub mod RelistsLaws
+pub mod RenewLaws
+pub mod RoundLaws
+pub mod StackPushLaws
+pub mod ViewLaws

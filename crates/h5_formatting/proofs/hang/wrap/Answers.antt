@@ -1,0 +1,50 @@
+use Rattle.std.proofs.Common.{[], ap, sym, subst, ◌∙◌}
+use Rattle.h5_token.specs.TokenText.{tag_text}
+use Rattle.h5_interface.specs.Changes.{detach}
+use Rattle.h5_interface.specs.Forest.{ChildNode}
+use Rattle.h5_interface.specs.Seen.{CanAppend, CanDetach, Seen, changed}
+use Rattle.h5_interface.specs.SinkChoices.{Rearranges}
+use Rattle.h5_rules.specs.formatting.AdoptionAgency.{make_for}
+use Rattle.h5_rules.proofs.adoption.AdoptionForest.{can_wrap, loosened_rearranges, make_for_rearranges, made_can_detach}
+use Rattle.h5_formatting.proofs.HangLaws.{loose_alone, on_err, seen_after}
+use Rattle.h5_formatting.proofs.hang.wrap.Goals as goal
+
+pub remove_from_parent-requires : goal.remove_from_parent-requires
+remove_from_parent-requires g c =
+    let seen = g.S.TreeSink.sees c.args.sink.now in
+    let choices = g.S.TreeSink.choices in
+    let tag = tag_text c.args.tag.now in
+    let n = g.S.TreeSink.node c.args.last.now in
+    seen_after seen _ (make_for choices tag) (λ f. CanDetach f n) c.in_ok-element.ensures.ok
+    (made_can_detach choices tag seen.forest [] n n c.requires.is_forest (loose_alone seen.forest n c.requires.last))
+
+pub returns-in_err-remove_from_parent-clause-err : goal.returns-in_err-remove_from_parent-clause-err
+returns-in_err-remove_from_parent-clause-err g c =
+    let seen = g.S.TreeSink.sees c.args.sink.now in
+    let choices = g.S.TreeSink.choices in
+    let tag = tag_text c.args.tag.now in
+    on_err _ _
+    (subst (λ (s : Seen). Rearranges seen.forest s.forest) (sym (c.in_err-remove_from_parent.ensures.err ∙ c.in_ok-element.ensures.ok)) (make_for_rearranges choices tag seen.forest c.requires.is_forest))
+
+pub append-requires : goal.append-requires
+append-requires g c =
+    let seen = g.S.TreeSink.sees c.args.sink.now in
+    let choices = g.S.TreeSink.choices in
+    let tag = tag_text c.args.tag.now in
+    let n = g.S.TreeSink.node c.args.last.now in
+    subst (λ (s : Seen). CanAppend s.forest (g.S.TreeSink.node c.in_ok-element.element) (ChildNode (g.S.TreeSink.node c.clone_handle.result)))
+    (sym (c.in_ok-remove_from_parent.ensures.ok ∙ ap (changed (detach n)) c.in_ok-element.ensures.ok))
+    (subst (λ e. CanAppend (detach n (make_for choices tag seen.forest)) e (ChildNode (g.S.TreeSink.node c.clone_handle.result))) (sym c.in_ok-element.ensures.handle)
+    (subst (λ e. CanAppend (detach n (make_for choices tag seen.forest)) (choices.fresh seen.forest) (ChildNode e)) (sym c.clone_handle.ensures)
+    (can_wrap choices tag seen.forest [] n n c.requires.is_forest (loose_alone seen.forest n c.requires.last))))
+
+pub returns-in_err-append-clause-err : goal.returns-in_err-append-clause-err
+returns-in_err-append-clause-err g c =
+    let seen = g.S.TreeSink.sees c.args.sink.now in
+    let choices = g.S.TreeSink.choices in
+    let tag = tag_text c.args.tag.now in
+    let n = g.S.TreeSink.node c.args.last.now in
+    on_err _ _
+    (subst (λ (s : Seen). Rearranges seen.forest s.forest)
+    (sym (c.in_err-append.ensures.err ∙ c.in_ok-remove_from_parent.ensures.ok ∙ ap (changed (detach n)) c.in_ok-element.ensures.ok))
+    (loosened_rearranges choices tag seen.forest [] n n c.requires.is_forest (loose_alone seen.forest n c.requires.last)))

@@ -1,0 +1,104 @@
+use Rattle.std.proofs.Common.{[], ap, append_assoc, arith, drop, length, map, refl, sym, take, ◌++◌, ◌-◌, ◌<◌, ◌∙◌, ◌∷◌, ◌≡◌}
+use Rattle.std.proofs.lemmas.Bool.{eqb-false, eqb-true}
+use Rattle.std.proofs.lemmas.List.{nil_from_length}
+use Rattle.std.specs.Prelude.{vec_len}
+use Rattle.h5_rules.specs.World.{World}
+use Rattle.h5_rules.specs.formatting.Adoption.{round_list}
+use Rattle.h5_rules.specs.formatting.FormattingList.{ElementEntry}
+use Rattle.h5_state.specs.Steps.{world_of}
+use Rattle.h5_state.specs.View.{stack_under, world}
+use Rattle.h5_formatting.proofs.RelistsLaws as laws
+use Rattle.h5_state.proofs.SeenLaws.{drop_more}
+use Rattle.h5_formatting.proofs.relisting.relist.Goals as goal
+
+pub relist_between-requires : goal.relist_between-requires
+relist_between-requires g c =
+    let r = c.requires.relists in
+    laws.block_inside r.0 r.1 _ _ _ _ _ _ r.2
+
+pub swap_entry-requires : goal.swap_entry-requires
+unfolding world
+swap_entry-requires g c =
+    let node = g.S.TreeSink.node in
+    let state = c.args.state.now in
+    let w = world_of g.S.TreeSink c.args.sink.now state in
+    let clones = map node c.args.clones.now.items in
+    let n = node c.args.clone in
+    let p = c.requires.relists in
+    let walked = laws.walked_world p.0 p.1 clones n c.args.at c.args.first c.args.block w p.2 (take (c.args.block - c.args.first) (stack_under node state c.args.block)) (world_of g.S.TreeSink c.args.sink.now c.relist_between.new.state)
+    (laws.between_taken p.0 p.1 clones n c.args.at c.args.first c.args.block w p.2 node state refl) c.relist_between.ensures.world in
+    laws.place_inside p.0 p.1 clones n c.args.at c.args.first c.args.block w p.2 _ _ walked
+
+pub move_above-requires : goal.move_above-requires
+unfolding world
+move_above-requires g c =
+    let node = g.S.TreeSink.node in
+    let state = c.args.state.now in
+    let w = world_of g.S.TreeSink c.args.sink.now state in
+    let v = world_of g.S.TreeSink c.args.sink.now c.relist_between.new.state in
+    let u = world_of g.S.TreeSink c.args.sink.now c.swap_entry.new.state in
+    let clones = map node c.args.clones.now.items in
+    let n = node c.args.clone in
+    let p = c.requires.relists in
+    let walked = laws.walked_world p.0 p.1 clones n c.args.at c.args.first c.args.block w p.2 (take (c.args.block - c.args.first) (stack_under node state c.args.block)) v
+    (laws.between_taken p.0 p.1 clones n c.args.at c.args.first c.args.block w p.2 node state refl) c.relist_between.ensures.world in
+    let swapped = laws.swapped_world p.0 p.1 clones n c.args.at c.args.first c.args.block w p.2 v u walked c.swap_entry.ensures.done in
+    laws.place_inside p.0 p.1 clones n c.args.at c.args.first c.args.block w p.2 (ElementEntry n p.0.tag) u swapped
+
+pub returns-then-is_empty : goal.returns-then-is_empty
+unfolding world
+returns-then-is_empty g c = λ f between r.
+    let node = g.S.TreeSink.node in
+    let state = c.args.state.now in
+    let w = world_of g.S.TreeSink c.args.sink.now state in
+    let v = world_of g.S.TreeSink c.args.sink.now c.relist_between.new.state in
+    let u = world_of g.S.TreeSink c.args.sink.now c.swap_entry.new.state in
+    let items = c.args.clones.now.items in
+    let clones = map node items in
+    let n = node c.args.clone in
+    let walked = laws.walked_world f between clones n c.args.at c.args.first c.args.block w r (take (c.args.block - c.args.first) (stack_under node state c.args.block)) v
+    (laws.between_taken f between clones n c.args.at c.args.first c.args.block w r node state refl) c.relist_between.ensures.world in
+    let swapped = laws.swapped_world f between clones n c.args.at c.args.first c.args.block w r v u walked c.swap_entry.ensures.done in
+    let empty : vec_len c.args.clones.now ≡ 0 = eqb-true (vec_len c.args.clones.now) 0 (sym c.is_empty.ensures ∙ c.if-is_empty.true) in
+    let none : items ≡ [] = nil_from_length items (omega (arith, empty, c.args.clones.now.ok.0)) in
+    let after = round_list f.node f.tag between clones n w.formatting in
+    let done = swapped ∙ ap (λ l. record w { formatting = l }) (sym (laws.relist_alone f between clones n c.args.at c.args.first c.args.block w r (ap (map node) none))) in
+    record {
+      world = done;
+      quiet = refl;
+      sound = laws.sound_relisted g.S.TreeSink c.args.sink.now state c.swap_entry.new.state after (c.swap_entry.ensures.stack ∙ c.relist_between.ensures.stack) done c.requires.sound
+          (laws.sound_round f between clones n c.args.at c.args.first c.args.block w r c.requires.sound.sound);
+    }
+
+pub returns : goal.returns
+unfolding world
+returns g c = λ f between r.
+    let node = g.S.TreeSink.node in
+    let state = c.args.state.now in
+    let w = world_of g.S.TreeSink c.args.sink.now state in
+    let v = world_of g.S.TreeSink c.args.sink.now c.relist_between.new.state in
+    let u = world_of g.S.TreeSink c.args.sink.now c.swap_entry.new.state in
+    let items = c.args.clones.now.items in
+    let clones = map node items in
+    let n = node c.args.clone in
+    let x = c.index.result.now in
+    let y = node x in
+    let walked = laws.walked_world f between clones n c.args.at c.args.first c.args.block w r (take (c.args.block - c.args.first) (stack_under node state c.args.block)) v
+    (laws.between_taken f between clones n c.args.at c.args.first c.args.block w r node state refl) c.relist_between.ensures.world in
+    let swapped = laws.swapped_world f between clones n c.args.at c.args.first c.args.block w r v u walked c.swap_entry.ensures.done in
+    let nonempty = eqb-false (vec_len c.args.clones.now) 0 (sym c.is_empty.ensures ∙ c.if-is_empty.false) in
+    let inside : 0 < length items = omega (arith, nonempty, c.args.clones.now.ok.0) in
+    let some : clones ≡ y ∷ drop 1 clones = drop_more node items 0 x inside c.index.ensures in
+    let k = laws.first_cut f between clones n c.args.at c.args.first c.args.block w r y (drop 1 clones) some in
+    let own = ElementEntry n f.tag in
+    let list = ap (λ (z : World). z.formatting) swapped ∙ ap (λ z. z ++ own ∷ r.older) k.cut ∙ append_assoc k.front (ElementEntry y k.tag ∷ k.rest) (own ∷ r.older) in
+    let moved = c.move_above.ensures.done k.front k.rest r.older k.tag own list k.first r.here in
+    let after = round_list f.node f.tag between clones n w.formatting in
+    let done = moved ∙ ap (λ (z : World). record z { formatting = k.front ++ own ∷ ElementEntry y k.tag ∷ (k.rest ++ r.older) }) swapped
+    ∙ ap (λ l. record w { formatting = l }) (sym (laws.relist_above f between clones n c.args.at c.args.first c.args.block w r y (drop 1 clones) k some)) in
+    record {
+      world = laws.on_ok c.move_above.result done;
+      quiet = refl;
+      sound = laws.sound_relisted g.S.TreeSink c.args.sink.now state c.move_above.new.state after (c.move_above.ensures.stack ∙ c.swap_entry.ensures.stack ∙ c.relist_between.ensures.stack) done c.requires.sound
+          (laws.sound_round f between clones n c.args.at c.args.first c.args.block w r c.requires.sound.sound);
+    }

@@ -1,0 +1,35 @@
+use Rattle.std.proofs.Common.{ap, sym, zero, ◌∙◌, ◌≡◌}
+use Rattle.std.proofs.lemmas.Bool.{false≢true}
+use Rattle.h5_rules.specs.World.{World}
+use Rattle.h5_rules.specs.formatting.FormattingList.{ElementEntry, nodes_of, without_entry}
+use Rattle.h5_rules.specs.formatting.InnerLoop.{walked}
+use Rattle.h5_rules.proofs.entries.KeptListsLaws.{without_entry_none}
+use Rattle.h5_rules.proofs.entries.PairLaws.{is_in_telling}
+use Rattle.h5_rules.proofs.entries.RoundLaws.{without_entry_at}
+use Rattle.h5_state.specs.Steps.{world_of}
+use Rattle.h5_formatting.proofs.relisting.relist_far.Goals as goal
+
+pub returns-in-Some-clause-walked : goal.returns-in-Some-clause-walked
+returns-in-Some-clause-walked g c = λ n older e ns ys.
+    let m = g.S.TreeSink.node c.handle_at.result.now in
+    let w = world_of g.S.TreeSink c.args.sink.now c.args.state.now in
+    let k = c.in-Some.ensures.place in
+    let same : n ≡ m = cc (c.handle_at.ensures.stack, e) in
+    let done = c.drop_entry.ensures.done k.newer k.older (ElementEntry m k.tag) k.cut k.here in
+    ap (walked zero ns ys)
+    (ap (λ z. without_entry z w.formatting) same ∙ ap (without_entry m) k.cut ∙ without_entry_at m k.tag k.newer k.older k.first ∙ sym (ap (λ (u : World). u.formatting) done))
+
+pub returns-in-Some-clause-world : goal.returns-in-Some-clause-world
+returns-in-Some-clause-world g c =
+    let w = world_of g.S.TreeSink c.args.sink.now c.args.state.now in
+    let k = c.in-Some.ensures.place in
+    let done = c.drop_entry.ensures.done k.newer k.older (ElementEntry (g.S.TreeSink.node c.handle_at.result.now) k.tag) k.cut k.here in
+    done ∙ ap (λ l. record w { formatting = l }) (sym (ap (λ (u : World). u.formatting) done))
+
+pub returns-in_default-clause-walked : goal.returns-in_default-clause-walked
+returns-in_default-clause-walked g c = λ n older e ns ys.
+    let m = g.S.TreeSink.node c.handle_at.result.now in
+    let w = world_of g.S.TreeSink c.args.sink.now c.args.state.now in
+    let same : n ≡ m = cc (c.handle_at.ensures.stack, e) in
+    ap (walked zero ns ys)
+    (ap (λ z. without_entry z w.formatting) same ∙ without_entry_none m w.formatting (λ i. false≢true (c.in_default.ensures.found ∙ is_in_telling m (nodes_of w.formatting) i)))

@@ -1,0 +1,27 @@
+use Rattle.std.proofs.Common.{ap, arith, drop, map, sym, ◌+◌, ◌++◌, ◌∙◌, ◌∷◌, ◌≡◌}
+use Rattle.h5_rules.specs.World.{World}
+use Rattle.h5_rules.specs.formatting.FormattingList.{ElementEntry, nodes_of}
+use Rattle.h5_rules.specs.formatting.InnerLoop.{swapped, walked}
+use Rattle.h5_rules.specs.stack.Order.{is_in}
+use Rattle.h5_state.specs.Steps.{world_of}
+use Rattle.h5_formatting.proofs.RelistLaws.{swapped_at, walked_onto}
+use Rattle.h5_state.proofs.SeenLaws.{drop_more}
+use Rattle.h5_formatting.proofs.relisting.relist_near.Goals as goal
+
+pub returns-in-Some-clause-walked : goal.returns-in-Some-clause-walked
+returns-in-Some-clause-walked g c = λ n older e k ns.
+    let node = g.S.TreeSink.node in
+    let m = node c.handle_at.result.now in
+    let w = world_of g.S.TreeSink c.args.sink.now c.args.state.now in
+    let items = c.args.clones.now.items in
+    let clones = map node items in
+    let y = node c.index.result.now in
+    let place = c.in-Some.ensures.place in
+    let same : n ≡ m = cc (c.handle_at.ensures.stack, e) in
+    let next = drop_more node items c.args.used c.index.result.now (omega (arith, c.if-used-len.true, c.len.ensures, c.args.clones.now.ok.0)) c.index.ensures in
+    let done = c.swap_entry.ensures.done place.newer place.older m place.tag place.cut place.here in
+    let list = ap (λ (u : World). u.formatting) done ∙ ap (λ z. place.newer ++ ElementEntry z place.tag ∷ place.older) c.clone_handle.ensures in
+    let listed = ap (λ z. is_in z (nodes_of w.formatting)) same ∙ sym c.in-Some.ensures.found in
+    walked_onto k n y ns (drop (c.args.used + 1) clones) (drop c.args.used clones) w.formatting next listed
+    ∙ ap (walked k ns (drop (c.args.used + 1) clones))
+    (ap (λ z. swapped z y w.formatting) same ∙ ap (swapped m y) place.cut ∙ swapped_at m y place.tag place.newer place.older place.first ∙ sym list)

@@ -1,0 +1,21 @@
+use Rattle.std.proofs.Common.{ap, arith, map, reverse, ◌∙◌, ◌∷◌, ◌≡◌}
+use Rattle.h5_state.specs.View.{stack_under, world}
+use Rattle.h5_state.proofs.StackLaws.{seen_pushed}
+use Rattle.h5_formatting.proofs.StackPushLaws.{carried_all, carried_more}
+use Rattle.h5_formatting.proofs.stack.push_newer.Goals as goal
+
+pub up-preserved : goal.up-preserved
+up-preserved g c =
+    let node = g.S.TreeSink.node in
+    record {
+      count = c.up.invariant.count;
+      place = omega (arith, c.up-test.true);
+      pushed = carried_more _ _ _ _ _ _ (node c.handle_at.result.now) c.handle_at.ensures.stack
+          (seen_pushed node _ _ _ c.in_ok-push.ensures.items ∙ ap (λ n. n ∷ reverse (map node c.up.handles.items)) c.clone_handle.ensures) c.up.invariant.pushed;
+    }
+
+pub returns : goal.returns
+unfolding world
+returns g c = λ newer e.
+    let all : stack_under g.S.TreeSink.node c.args.state.now c.up.place ≡ _ = ap (stack_under g.S.TreeSink.node c.args.state.now) (omega (arith, c.up-test.false, c.up.invariant.place)) ∙ c.open_count-count.ensures.stack in
+    carried_all _ _ _ _ newer c.up.invariant.pushed (all ∙ e)

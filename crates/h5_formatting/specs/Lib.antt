@@ -1,0 +1,6 @@
+pub mod EntryPlaces
+pub mod Hanging
+pub mod Places
+pub mod Relists
+pub mod Rounds
+pub mod View

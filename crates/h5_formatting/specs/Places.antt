@@ -1,0 +1,33 @@
+-- Where open elements and entries stand: places of the stack are counted from the root, those of the list from the oldest
+-- entry.
+use Rattle.std.specs.Prelude.{◌≡◌, ℕ, ◌+◌, List, ◌∷◌, ◌++◌, length, Some}
+use Rattle.h5_token.specs.TokenText.{TagText}
+use Rattle.h5_tag_sets.specs.TagSets.{is_special}
+use Rattle.h5_rules.specs.formatting.Adoption.{FormattingElement, FurthestBlock, furthest_block, newer_than, newest_named}
+use Rattle.h5_rules.specs.formatting.FormattingList.{ElementEntry, Entry, nodes_of}
+use Rattle.h5_rules.specs.stack.Order.{IsIn}
+use Rattle.h5_rules.specs.World.{World, name_in}
+
+-- the entry of an element, the newest one where it has more, stands at this place
+pub record IsEntryAt (n place : ℕ) (w : World) : Type 0 where
+  pub tag : TagText
+  pub newer : List Entry
+  pub older : List Entry
+  pub cut : w.formatting ≡ newer ++ ElementEntry n tag ∷ older
+  pub first : ¬ (IsIn n (nodes_of newer))
+  pub here : place ≡ length older
+
+-- the entry of the formatting element of a name stands at this place
+pub record IsListedAt (name : List ℕ) (place : ℕ) (w : World) : Type 0 where
+  pub element : FormattingElement
+  pub newest : newest_named name w.formatting ≡ Some element
+  pub newer : List Entry
+  pub older : List Entry
+  pub cut : w.formatting ≡ newer ++ ElementEntry element.node element.tag ∷ older
+  pub here : place ≡ length older
+
+-- the furthest block of an element, which stands at the first place, stands at the second
+pub record IsBlockAt (n place at : ℕ) (w : World) : Type 0 where
+  pub furthest : FurthestBlock
+  pub found : furthest_block (λ m. is_special (name_in w.forest m)) (newer_than n w.stack) ≡ Some furthest
+  pub here : at ≡ place + 1 + length furthest.between

@@ -1,0 +1,42 @@
+//! Markers in the list of active formatting elements.
+ghost use Rattle.std.specs.Prelude.{◌≡◌, ℕ, OnErr};
+ghost use Rattle.h5_rules.specs.formatting.FormattingList.{clear_to_marker};
+ghost use Rattle.h5_rules.specs.Rows.{ClearActiveFormattingToMarker, InsertMarker};
+ghost use Rattle.h5_formatting.specs.EntryPlaces.{entries_of};
+ghost use Rattle.h5_state.specs.Steps.{IsSound, Makes, MakesIfOk, world_of};
+
+use h5_interface::TreeSink;
+use h5_state::State;
+use h5_types::FormatEntry;
+use std::alloc::AllocError;
+
+/// A marker becomes the newest entry of the list. An Err leaves the list.
+#[tactic(auto, unfolding(h5_state::specs::View::world, h5_rules::specs::formatting::Formatting::insert_marker))]
+pub fn insert_marker<S: TreeSink>(sink: &S, state: &mut State<S::Handle>) -> Result<(), AllocError>
+    requires { IsSound S.TreeSink sink.now state.old }
+    ensures made { MakesIfOk S.TreeSink InsertMarker sink.now state.old sink.now state.new result }
+    ensures err { OnErr result (world_of S.TreeSink sink.now state.new ≡ world_of S.TreeSink sink.now state.old) }
+{
+    state.active_formatting.push(FormatEntry::Marker)?;
+    Ok(())
+}
+
+// Takes entries off, the newest first, until a marker was taken off.
+fn clear_to_marker<Handle: Drop>(entries: &mut Vec<FormatEntry<Handle>>)
+    ensures { (node : Handle → ℕ) → entries_of node entries.new.items ≡ clear_to_marker (entries_of node entries.old.items) }
+{
+    'clear: while let Some(entry) = entries.pop() {
+        if let FormatEntry::Marker = entry {
+            return;
+        }
+    }
+}
+
+/// Takes entries off the list, the newest first, until a marker was taken off.
+#[tactic(auto, unfolding(h5_state::specs::View::world, h5_rules::specs::formatting::Formatting::clear_active_formatting_to_marker))]
+pub fn clear_active_formatting_to_marker<S: TreeSink>(sink: &S, state: &mut State<S::Handle>)
+    requires { IsSound S.TreeSink sink.now state.old }
+    ensures { Makes S.TreeSink ClearActiveFormattingToMarker sink.now state.old sink.now state.new }
+{
+    clear_to_marker(&mut state.active_formatting);
+}

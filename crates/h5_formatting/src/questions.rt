@@ -1,0 +1,74 @@
+//! Questions that are asked where formatting elements are closed.
+ghost use Rattle.std.specs.Prelude.{◌≡◌, ◌==◌, ℕ, is_some};
+ghost use Rattle.h5_token.specs.TokenText.{TagText};
+ghost use Rattle.h5_rules.specs.formatting.AdoptionAgency.{closes_current, closes_one, is_current_unlisted};
+ghost use Rattle.h5_rules.specs.formatting.Adoption.{newest_named};
+ghost use Rattle.h5_rules.specs.formatting.FormattingList.{ElementEntry, nodes_of};
+ghost use Rattle.h5_rules.specs.stack.Order.{is_in};
+ghost use Rattle.h5_state.specs.Steps.{IsSound, world_of};
+ghost use Rattle.h5_state.specs.View.{entry_of};
+
+use super::find::{find_entry, find_formatting_element};
+use super::walk::entry_at;
+use h5_interface::TreeSink;
+use h5_names::LocalName;
+use h5_state::{State, current_node, is_current_html};
+use h5_types::FormatEntry;
+
+// Whether an entry, which is no marker, is that of an element.
+fn is_entry_of<S: TreeSink>(sink: &S, entry: &FormatEntry<S::Handle>, handle: &S::Handle) -> bool
+    ensures { (n : ℕ) → (tag : TagText) → entry_of S.node entry.now ≡ ElementEntry n tag → result ≡ (S.node handle.now == n) }
+{
+    match entry {
+        FormatEntry::Element(listed, _) => sink.same_node(handle, listed),
+        FormatEntry::Marker => false,
+    }
+}
+
+/// Whether the current node is the formatting element of a name.
+pub fn closes_current<S: TreeSink>(sink: &S, state: &State<S::Handle>, name: &LocalName) -> bool
+    ensures { result ≡ closes_current name.now (world_of S.TreeSink sink.now state.now) }
+{
+    match find_formatting_element(sink, state, name) {
+        Some(place) => is_entry_of(
+            sink,
+            entry_at(sink, state, place),
+            &current_node(sink, state),
+        ),
+        None => false,
+    }
+}
+
+// Whether an element is listed.
+fn is_listed<S: TreeSink>(sink: &S, state: &State<S::Handle>, handle: &S::Handle) -> bool
+    ensures { result ≡ is_in (S.node handle.now) (nodes_of (world_of S.TreeSink sink.now state.now).formatting) }
+{
+    find_entry(sink, state, handle).is_some()
+}
+
+/// Whether the current node has this name and isn't listed.
+pub fn is_current_unlisted<S: TreeSink>(
+    sink: &S,
+    state: &State<S::Handle>,
+    name: &LocalName,
+) -> bool
+    requires { IsSound S.TreeSink sink.now state.now }
+    ensures { result ≡ is_current_unlisted name.now (world_of S.TreeSink sink.now state.now) }
+{
+    is_current_html(sink, state, name) && !is_listed(sink, state, &current_node(sink, state))
+}
+
+/// Whether the adoption agency for a name closes the current node alone, which is no parse error.
+pub fn closes_one<S: TreeSink>(sink: &S, state: &State<S::Handle>, name: &LocalName) -> bool
+    requires { IsSound S.TreeSink sink.now state.now }
+    ensures { result ≡ closes_one name.now (world_of S.TreeSink sink.now state.now) }
+{
+    is_current_unlisted(sink, state, name) || closes_current(sink, state, name)
+}
+
+/// Whether a formatting element of a name is listed after the last marker.
+pub fn is_named_listed<S: TreeSink>(sink: &S, state: &State<S::Handle>, name: &LocalName) -> bool
+    ensures { result ≡ is_some (newest_named name.now (world_of S.TreeSink sink.now state.now).formatting) }
+{
+    find_formatting_element(sink, state, name).is_some()
+}

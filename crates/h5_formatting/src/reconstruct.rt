@@ -1,0 +1,102 @@
+//! Formatting elements that were closed are made anew.
+ghost use Rattle.std.specs.Prelude.{◌≡◌, ◌<◌, ◌≤◌, ℕ, length, OnOk, vec_len};
+ghost use Rattle.h5_rules.specs.formatting.FormattingList.{open_rest};
+ghost use Rattle.h5_rules.specs.stack.Order.{is_in};
+ghost use Rattle.h5_rules.specs.Rows.{ReconstructActiveFormattingElements};
+ghost use Rattle.h5_formatting.specs.EntryPlaces.{entries_of, renewed, with_node_at};
+ghost use Rattle.h5_state.specs.Steps.{IsSound, MakesIfOk, errors_of, world_of};
+
+use h5_insertion::insert_element;
+use h5_interface::TreeSink;
+use h5_state::{State, current_node};
+use h5_types::FormatEntry;
+use std::alloc::AllocError;
+
+// Whether an element is open.
+#[tactic(auto, unfolding(h5_state::specs::View::world))]
+fn is_open<S: TreeSink>(sink: &S, state: &State<S::Handle>, handle: &S::Handle) -> bool
+    ensures { result ≡ is_in (S.node handle.now) (world_of S.TreeSink sink.now state.now).stack }
+{
+    let mut place = state.open_elems.len();
+    'down: while place > 0 {
+        place -= 1;
+        if sink.same_node(handle, &state.open_elems[place].handle) {
+            return true;
+        }
+    }
+    false
+}
+
+// How many entries stay as they are: the oldest ones, up to the last marker or the last element that is open.
+#[tactic(auto, unfolding(h5_state::specs::View::world))]
+fn count_staying<S: TreeSink>(sink: &S, state: &State<S::Handle>) -> usize
+    ensures { result ≡ length (open_rest (world_of S.TreeSink sink.now state.now).stack (world_of S.TreeSink sink.now state.now).formatting) }
+{
+    let mut place = state.active_formatting.len();
+    'rewind: while place > 0 {
+        match &state.active_formatting[place - 1] {
+            FormatEntry::Element(handle, _) => {
+                if is_open(sink, state, handle) {
+                    return place;
+                }
+            }
+            FormatEntry::Marker => return place,
+        }
+        place -= 1;
+    }
+    0
+}
+
+// The entry at a place is for another element; its tag stays.
+fn set_node<Handle: Drop>(entries: &mut Vec<FormatEntry<Handle>>, place: usize, handle: Handle)
+    requires { place < vec_len entries.old }
+    ensures { (node : Handle → ℕ) → entries_of node entries.new.items ≡ with_node_at place (node handle) (entries_of node entries.old.items) }
+{
+    if let FormatEntry::Element(node, _) = &mut entries[place] {
+        *node = handle;
+    }
+}
+
+// The element of the entry at a place is made anew.
+#[tactic(auto, unfolding(h5_state::specs::View::world))]
+fn make_anew<S: TreeSink>(
+    sink: &mut S,
+    state: &mut State<S::Handle>,
+    place: usize,
+) -> Result<(), AllocError>
+    requires sound { IsSound S.TreeSink sink.old state.old }
+    requires place { place < length (world_of S.TreeSink sink.old state.old).formatting }
+    ensures world { OnOk result (world_of S.TreeSink sink.new state.new ≡ renewed S.choices place (world_of S.TreeSink sink.old state.old)) }
+    ensures quiet { errors_of S.TreeSink sink.new ≡ errors_of S.TreeSink sink.old }
+    ensures sound { IsSound S.TreeSink sink.new state.new }
+{
+    if let FormatEntry::Element(_, tag) = &state.active_formatting[place] {
+        let copy = tag.clone()?;
+        insert_element(
+            sink,
+            state,
+            copy.name,
+            copy.attrs,
+            copy.had_duplicate_attributes,
+        )?;
+        let handle = current_node(sink, state);
+        set_node(&mut state.active_formatting, place, handle);
+    }
+    Ok(())
+}
+
+/// Makes the elements of entries anew, the oldest first: of all entries after the last marker and after the last element
+/// that is open. After an Err those that were made stay.
+pub fn reconstruct_active_formatting_elements<S: TreeSink>(
+    sink: &mut S,
+    state: &mut State<S::Handle>,
+) -> Result<(), AllocError>
+    requires { IsSound S.TreeSink sink.old state.old }
+    ensures { MakesIfOk S.TreeSink ReconstructActiveFormattingElements sink.old state.old sink.new state.new result }
+{
+    let first = count_staying(sink, state);
+    for place in first..state.active_formatting.len() {
+        make_anew(sink, state, place)?;
+    }
+    Ok(())
+}

@@ -1,0 +1,64 @@
+//! Whether an element ends a scope, and walks over the list of active formatting elements: places are counted from the oldest.
+ghost use Rattle.std.specs.Prelude.{◌≡◌, ◌<◌, ◌+◌, ◌∷◌, ◌++◌, [], ℕ, List, length};
+ghost use Rattle.h5_token.specs.TokenText.{TagText};
+ghost use Rattle.h5_rules.specs.formatting.FormattingList.{ElementEntry, Entry};
+ghost use Rattle.h5_formatting.specs.Rounds.{IsElementEntry};
+ghost use Rattle.h5_interface.specs.Forest.{IsElement};
+ghost use Rattle.h5_tag_sets.specs.TagSets.{is_default_scope};
+ghost use Rattle.h5_rules.specs.World.{name_in};
+ghost use Rattle.h5_state.specs.Steps.{world_of};
+ghost use Rattle.h5_state.specs.View.{entry_of};
+ghost use Rattle.h5_formatting.specs.View.{list_under};
+
+use h5_interface::TreeSink;
+use h5_state::State;
+use h5_tag_sets::default_scope;
+use h5_types::FormatEntry;
+
+/// Whether an element ends a scope.
+pub fn ends_scope<S: TreeSink>(sink: &S, handle: &S::Handle) -> bool
+    requires { IsElement (S.sees sink.now).forest (S.node handle.now) }
+    ensures { result ≡ is_default_scope (name_in (S.sees sink.now).forest (S.node handle.now)) }
+{
+    default_scope(sink.elem_name(handle))
+}
+
+/// How many entries there are.
+#[tactic(auto, unfolding(h5_state::specs::View::world, crate::specs::View::list_under))]
+pub fn entry_count<S: TreeSink>(sink: &S, state: &State<S::Handle>) -> usize
+    ensures count { result ≡ length (world_of S.TreeSink sink.now state.now).formatting }
+    ensures all { list_under S.node state.now result ≡ (world_of S.TreeSink sink.now state.now).formatting }
+    ensures none { list_under S.node state.now 0 ≡ [] }
+{
+    state.active_formatting.len()
+}
+
+/// The entry at a place.
+#[tactic(auto, unfolding(h5_state::specs::View::world, crate::specs::View::list_under))]
+pub fn entry_at<'a, S: TreeSink>(
+    sink: &S,
+    state: &'a State<S::Handle>,
+    place: usize,
+) -> &'a FormatEntry<S::Handle>
+    requires { place < length (world_of S.TreeSink sink.now state.now).formatting }
+    ensures list { list_under S.node state.now (place + 1) ≡ entry_of S.node result.now ∷ list_under S.node state.now place }
+    ensures count { length (list_under S.node state.now place) ≡ place }
+{
+    &state.active_formatting[place]
+}
+
+/// The element that is listed at a place.
+pub fn element_at<'a, S: TreeSink>(
+    sink: &S,
+    state: &'a State<S::Handle>,
+    at: usize,
+) -> &'a S::Handle
+    requires { IsElementEntry at (world_of S.TreeSink sink.now state.now) }
+    ensures { (newer older : List Entry) → (n : ℕ) → (tag : TagText) → (world_of S.TreeSink sink.now state.now).formatting ≡ newer ++ ElementEntry n tag ∷ older → at ≡ length older
+        → S.node result.now ≡ n }
+{
+    match entry_at(sink, state, at) {
+        FormatEntry::Element(element, _) => element,
+        FormatEntry::Marker => unreachable!(),
+    }
+}

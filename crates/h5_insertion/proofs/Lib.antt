@@ -1,0 +1,5 @@
+pub mod CurrentLaws
+pub mod FormLaws
+pub mod PutLaws
+pub mod ShadowLaws
+pub mod ShadowPlaceLaws

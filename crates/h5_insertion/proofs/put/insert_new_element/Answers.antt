@@ -1,0 +1,45 @@
+use Rattle.h5_names.specs.AttributeText.{attribute_texts}
+use Rattle.h5_rules.specs.Changes.{new_element}
+use Rattle.h5_rules.proofs.changes.PlaceLaws.{new_element_rearranges}
+use Rattle.h5_insertion.specs.Notices.{marking_of}
+use Rattle.h5_insertion.specs.Places.{place_of}
+use Rattle.h5_insertion.proofs.PutLaws.{element_may, element_seen, marked_rearranged, mid_element, place_in_mid, same_seen, seen_rearranged}
+use Rattle.h5_insertion.proofs.put.insert_new_element.Goals as goal
+
+pub notify-requires-clause-element : goal.notify-requires-clause-element
+notify-requires-clause-element g c =
+    mid_element g.S.TreeSink.choices (g.S.TreeSink.sees c.args.sink.now) (g.S.TreeSink.sees c.create_element_with_flags.new.sink) (place_of g.S.TreeSink.node c.args.place.now) (g.S.TreeSink.node c.in_ok-element.element) c.args.name (attribute_texts c.args.attrs.items) c.args.had_duplicate_attributes (marking_of g.S.TreeSink.node g.S.TreeSink.choices c.args.notice)
+    c.in_ok-element.ensures.ok c.in_ok-element.ensures.handle c.requires.is_forest
+
+pub notify-requires-clause-place : goal.notify-requires-clause-place
+notify-requires-clause-place g c =
+    place_in_mid g.S.TreeSink.choices (g.S.TreeSink.sees c.args.sink.now) (g.S.TreeSink.sees c.create_element_with_flags.new.sink) (place_of g.S.TreeSink.node c.args.place.now) (g.S.TreeSink.node c.in_ok-element.element) c.args.name (attribute_texts c.args.attrs.items) c.args.had_duplicate_attributes (marking_of g.S.TreeSink.node g.S.TreeSink.choices c.args.notice)
+    c.in_ok-element.ensures.ok c.in_ok-element.ensures.handle c.requires.is_forest c.requires.place
+
+pub insert_at-requires : goal.insert_at-requires
+insert_at-requires g c =
+    element_may g.S.TreeSink.choices (g.S.TreeSink.sees c.args.sink.now) (g.S.TreeSink.sees c.create_element_with_flags.new.sink) (place_of g.S.TreeSink.node c.args.place.now) (g.S.TreeSink.node c.in_ok-element.element) c.args.name (attribute_texts c.args.attrs.items) c.args.had_duplicate_attributes (marking_of g.S.TreeSink.node g.S.TreeSink.choices c.args.notice)
+    c.in_ok-element.ensures.ok c.in_ok-element.ensures.handle (g.S.TreeSink.sees c.notify.new.sink) c.notify.ensures _ c.clone_handle-child.ensures c.requires.is_forest c.requires.place
+
+pub returns-in_err-insert_at-clause-rearranged : goal.returns-in_err-insert_at-clause-rearranged
+returns-in_err-insert_at-clause-rearranged g c =
+    same_seen (g.S.TreeSink.sees c.args.sink.now) _ _ c.in_err-insert_at.ensures.err
+    (marked_rearranged g.S.TreeSink.choices (g.S.TreeSink.sees c.args.sink.now) (g.S.TreeSink.sees c.create_element_with_flags.new.sink) (place_of g.S.TreeSink.node c.args.place.now) (g.S.TreeSink.node c.in_ok-element.element) c.args.name (attribute_texts c.args.attrs.items) c.args.had_duplicate_attributes (marking_of g.S.TreeSink.node g.S.TreeSink.choices c.args.notice)
+    c.in_ok-element.ensures.ok c.in_ok-element.ensures.handle (g.S.TreeSink.sees c.notify.new.sink) c.notify.ensures c.requires.is_forest c.requires.place)
+
+pub returns-clause-done : goal.returns-clause-done
+returns-clause-done g c =
+    element_seen g.S.TreeSink.choices (g.S.TreeSink.sees c.args.sink.now) (g.S.TreeSink.sees c.create_element_with_flags.new.sink) (place_of g.S.TreeSink.node c.args.place.now) (g.S.TreeSink.node c.in_ok-element.element) c.args.name (attribute_texts c.args.attrs.items) c.args.had_duplicate_attributes (marking_of g.S.TreeSink.node g.S.TreeSink.choices c.args.notice)
+    c.in_ok-element.ensures.ok c.in_ok-element.ensures.handle (g.S.TreeSink.sees c.notify.new.sink) c.notify.ensures (g.S.TreeSink.sees c.insert_at.new.sink) _ c.clone_handle-child.ensures c.in_ok-insert_at.ensures.ok
+
+pub returns-clause-rearranged : goal.returns-clause-rearranged
+returns-clause-rearranged g c =
+    let attrs = attribute_texts c.args.attrs.items in
+    let seen = g.S.TreeSink.sees c.args.sink.now in
+    let place = place_of g.S.TreeSink.node c.args.place.now in
+    let marks = marking_of g.S.TreeSink.node g.S.TreeSink.choices c.args.notice (g.S.TreeSink.choices.fresh seen.forest) place in
+    let done =
+    element_seen g.S.TreeSink.choices seen (g.S.TreeSink.sees c.create_element_with_flags.new.sink) place (g.S.TreeSink.node c.in_ok-element.element) c.args.name attrs c.args.had_duplicate_attributes (marking_of g.S.TreeSink.node g.S.TreeSink.choices c.args.notice)
+    c.in_ok-element.ensures.ok c.in_ok-element.ensures.handle (g.S.TreeSink.sees c.notify.new.sink) c.notify.ensures (g.S.TreeSink.sees c.insert_at.new.sink) _ c.clone_handle-child.ensures c.in_ok-insert_at.ensures.ok in
+    seen_rearranged seen _ (new_element g.S.TreeSink.choices place c.args.name attrs c.args.had_duplicate_attributes marks) done
+    (new_element_rearranges g.S.TreeSink.choices seen.forest place c.args.name attrs c.args.had_duplicate_attributes marks c.requires.is_forest c.requires.place)

@@ -1,0 +1,4 @@
+pub mod ForeignInserts
+pub mod Leaving
+pub mod Notices
+pub mod Places

@@ -1,0 +1,40 @@
+//! Attributes that are added where they are missing (HTML standard, section 13.2.6.4.7, start tags "html" and
+//! "body").
+ghost use Rattle.h5_names.specs.AttributeText.{attribute_texts};
+ghost use Rattle.h5_rules.specs.Rows.{AddAttrsToHtml, AddAttrsToSecond};
+ghost use Rattle.h5_state.specs.Steps.{IsOpen, IsSound, MakesIfOk};
+
+use h5_interface::TreeSink;
+use h5_names::Attribute;
+use h5_state::State;
+use std::alloc::AllocError;
+
+/// The root gets the attributes that it lacks.
+#[tactic(auto, unfolding(h5_state::specs::View::world, h5_rules::specs::Changes::add_attrs_to_html))]
+pub fn add_attrs_to_html<S: TreeSink>(
+    sink: &mut S,
+    state: &State<S::Handle>,
+    attrs: Vec<Attribute>,
+) -> Result<(), AllocError>
+    requires { IsOpen S.TreeSink sink.old state.now }
+    ensures { MakesIfOk S.TreeSink (AddAttrsToHtml (attribute_texts attrs.items)) sink.old state.now sink.new state.now result }
+{
+    sink.add_attrs_if_missing(&state.open_elems[0].handle, attrs)
+}
+
+/// The second open element, from the root on, gets the attributes that it lacks, where there is one.
+#[tactic(auto, unfolding(h5_state::specs::View::world, h5_rules::specs::Changes::add_attrs_to_second))]
+pub fn add_attrs_to_second<S: TreeSink>(
+    sink: &mut S,
+    state: &State<S::Handle>,
+    attrs: Vec<Attribute>,
+) -> Result<(), AllocError>
+    requires { IsSound S.TreeSink sink.old state.now }
+    ensures { MakesIfOk S.TreeSink (AddAttrsToSecond (attribute_texts attrs.items)) sink.old state.now sink.new state.now result }
+{
+    if state.open_elems.len() > 1 {
+        sink.add_attrs_if_missing(&state.open_elems[1].handle, attrs)
+    } else {
+        Ok(())
+    }
+}

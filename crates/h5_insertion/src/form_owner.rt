@@ -1,0 +1,97 @@
+//! The form that owns a new element (HTML standard, section 13.2.6.1, create an element for a token).
+ghost use Rattle.std.specs.Prelude.{◌≡◌, [], MatchOption, codes, option_map};
+ghost use Rattle.std.specs.List.{list_any};
+ghost use Rattle.h5_names.specs.AttributeText.{attribute_text, attribute_texts, is_same_text};
+ghost use Rattle.h5_names.specs.KnownNames.{name_text};
+ghost use Rattle.h5_interface.specs.Forest.{IsNode};
+ghost use Rattle.h5_interface.specs.NewElement.{is_expanded};
+ghost use Rattle.h5_tag_sets.specs.TagSets.{is_one_of};
+ghost use Rattle.h5_rules.specs.insertion.FormOwner.{form_associatable_names, form_owner, may_have_owner, names_a_form};
+ghost use Rattle.h5_state.specs.Steps.{IsSound, world_of};
+
+use h5_interface::TreeSink;
+use h5_names::{Attribute, KnownName, LocalName};
+use h5_state::{State, has_open_template};
+
+// Whether this is the name that HTML knows as this.
+#[tactic(auto, using(crate::proofs::FormLaws::same_turned))]
+fn is_known(local: &LocalName, known: KnownName) -> bool
+    ensures { result ≡ is_same_text (name_text known) local.now }
+{
+    local.is(known)
+}
+
+// Whether this is the name `output`.
+fn is_output(local: &LocalName) -> bool
+    ensures { result ≡ is_same_text (codes "output") local.now }
+{
+    "output" == local.as_str()
+}
+
+// Whether an element of this name may have a form owner.
+#[tactic(auto, unfolding(h5_rules::specs::insertion::FormOwner::form_associatable_names))]
+fn is_form_associatable(local: &LocalName) -> bool
+    ensures { result ≡ is_one_of form_associatable_names local.now }
+{
+    is_known(local, KnownName::Button)
+        || is_known(local, KnownName::Fieldset)
+        || is_known(local, KnownName::Img)
+        || is_known(local, KnownName::Input)
+        || is_known(local, KnownName::Object)
+        || is_output(local)
+        || is_known(local, KnownName::Select)
+        || is_known(local, KnownName::Textarea)
+}
+
+// Whether an attribute is `form`, in no namespace.
+fn is_form(attribute: &Attribute) -> bool
+    ensures { result ≡ is_expanded [] (codes "form") (attribute_text attribute.now).name }
+{
+    attribute.name.ns.as_str().is_empty() && attribute.name.local.is(KnownName::Form)
+}
+
+fn any_is_form(attrs: &[Attribute]) -> bool
+    ensures { result ≡ list_any (λ a. is_expanded [] (codes "form") (attribute_text a).name) attrs.now }
+{
+    attrs.iter().any(|attribute| is_form(attribute))
+}
+
+// Whether one of these attributes is `form`.
+fn names_a_form(attrs: &[Attribute]) -> bool
+    ensures { result ≡ names_a_form (attribute_texts attrs.now) }
+{
+    any_is_form(attrs)
+}
+
+// Whether an element of this name, with these attributes, may be owned by the form element: an `img` may, whatever its
+// attributes say.
+fn may_have_owner(local: &LocalName, attrs: &[Attribute]) -> bool
+    ensures { result ≡ may_have_owner local.now (attribute_texts attrs.now) }
+{
+    is_form_associatable(local) && (local.is(KnownName::Img) || !names_a_form(attrs))
+}
+
+/// A handle of the form element, where it owns a new element of this name, with these attributes: not where a template
+/// is open.
+#[tactic(auto, unfolding(h5_state::specs::View::world, h5_rules::specs::insertion::FormOwner::form_owner))]
+pub(crate) fn form_owner<S: TreeSink>(
+    sink: &S,
+    state: &State<S::Handle>,
+    local: &LocalName,
+    attrs: &[Attribute],
+) -> Option<S::Handle>
+    requires { IsSound S.TreeSink sink.now state.now }
+    ensures owner { option_map S.node result ≡ form_owner local.now (attribute_texts attrs.now) (world_of S.TreeSink sink.now state.now) }
+    ensures node { MatchOption result (Unit {0}) (λ form. IsNode (world_of S.TreeSink sink.now state.now).forest (S.node form)) }
+{
+    match &state.form_elem {
+        Some(form) => {
+            if may_have_owner(local, attrs) && !has_open_template(sink, state) {
+                Some(sink.clone_handle(form))
+            } else {
+                None
+            }
+        }
+        None => None,
+    }
+}

@@ -1,0 +1,40 @@
+//! The head element, where it comes back to the stack of open elements (HTML standard, section 13.2.6.4.6, start tags
+//! that go by the rules of the head).
+ghost use Rattle.std.specs.Prelude.{◌≡◌, MatchOption};
+ghost use Rattle.std.specs.Option.{option_map};
+ghost use Rattle.h5_rules.specs.Changes.{push_head};
+ghost use Rattle.h5_rules.specs.Rows.{PushHead};
+ghost use Rattle.h5_rules.specs.Sound.{Sound};
+ghost use Rattle.h5_state.specs.Steps.{IsSound, MakesIfOk, world_of};
+
+use super::insert::html_qual_name;
+use h5_interface::TreeSink;
+use h5_names::{KnownName, LocalName};
+use h5_state::{OpenElement, State, Summary, all_open};
+use std::alloc::AllocError;
+
+/// A handle of the head element, where there is one.
+#[tactic(auto, unfolding(h5_state::specs::View::world))]
+pub fn known_head<S: TreeSink>(sink: &S, state: &State<S::Handle>) -> Option<S::Handle>
+    ensures { option_map S.node result ≡ (world_of S.TreeSink sink.now state.now).head }
+{
+    match &state.head_elem {
+        Some(head) => Some(sink.clone_handle(head)),
+        None => None,
+    }
+}
+
+/// The head element, where there is one, becomes the current node. An Err leaves open elements.
+#[tactic(auto, unfolding(h5_state::specs::View::world))]
+pub fn push_head<S: TreeSink>(sink: &S, state: &mut State<S::Handle>) -> Result<(), AllocError>
+    requires sound { IsSound S.TreeSink sink.now state.old }
+    requires ready { Sound (push_head (world_of S.TreeSink sink.now state.old)) }
+    ensures { MakesIfOk S.TreeSink PushHead sink.now state.old sink.now state.new result }
+{
+    if let Some(handle) = known_head(sink, state) {
+        let name = html_qual_name(LocalName::from_known(KnownName::Head));
+        let summary = Summary::new(&name, all_open(sink, state));
+        state.open_elems.push(OpenElement { handle, summary })?;
+    }
+    Ok(())
+}

@@ -1,0 +1,110 @@
+//! The place of insertion (HTML standard, section 13.2.6.1, "Creating and inserting nodes").
+ghost use Rattle.std.specs.Prelude.{◌≡◌, ◌<◌, ◌+◌, ◌&&◌, length};
+ghost use Rattle.h5_tag_sets.specs.TagSets.{is_table_outer};
+ghost use Rattle.h5_rules.specs.insertion.Place.{appropriate_place, foster_place, from_foster_parent, inside, place};
+ghost use Rattle.h5_rules.specs.World.{name_in, root};
+ghost use Rattle.h5_rules.specs.stack.Order.{IsIn};
+ghost use Rattle.h5_insertion.specs.Places.{place_of};
+ghost use Rattle.h5_state.specs.Steps.{IsSound, world_of};
+ghost use Rattle.h5_state.specs.View.{stack_under};
+
+use h5_interface::TreeSink;
+use h5_names::KnownName;
+use h5_state::{FosterParent, Nothing, State, find_in_scope, root_node};
+use h5_tag_sets::{is_html_known, table_outer};
+
+/// Where a node or a text is put.
+#[derive(Drop)]
+pub enum InsertionPoint<Handle> {
+    /// As the last child of this node.
+    LastChild(Handle),
+    /// Before the first, a table, where that has a parent; else as the last child of the second, the element below
+    /// it in the stack.
+    TableFosterParenting(Handle, Handle),
+}
+
+// What is put into an open element is put here: into its contents, where it is a template.
+#[tactic(auto, unfolding(h5_state::specs::View::world))]
+fn inside<S: TreeSink>(sink: &S, state: &State<S::Handle>, target: &S::Handle) -> S::Handle
+    requires sound { IsSound S.TreeSink sink.now state.now }
+    requires open { IsIn (S.node target.now) (world_of S.TreeSink sink.now state.now).stack }
+    ensures { S.node result ≡ inside (world_of S.TreeSink sink.now state.now).forest (S.node target.now) }
+{
+    if is_html_known(sink.elem_name(target), KnownName::Template) {
+        sink.get_template_contents(target)
+    } else {
+        sink.clone_handle(target)
+    }
+}
+
+// The place of what is foster-parented.
+fn foster_place<S: TreeSink>(sink: &S, state: &State<S::Handle>) -> InsertionPoint<S::Handle>
+    requires { IsSound S.TreeSink sink.now state.now }
+    ensures { place_of S.node result ≡ foster_place (world_of S.TreeSink sink.now state.now).forest (root (world_of S.TreeSink sink.now state.now))
+        (from_foster_parent (world_of S.TreeSink sink.now state.now).forest (world_of S.TreeSink sink.now state.now).stack) }
+{
+    match find_in_scope(sink, state, &FosterParent, &Nothing) {
+        Some(at) => foster_place_at(sink, state, at),
+        None => InsertionPoint::LastChild(root_node(sink, state)),
+    }
+}
+
+// By the element at this place, counted from the root.
+#[tactic(auto, unfolding(h5_state::specs::View::world, h5_state::specs::View::stack_under))]
+fn foster_place_at<S: TreeSink>(
+    sink: &S,
+    state: &State<S::Handle>,
+    at: usize,
+) -> InsertionPoint<S::Handle>
+    requires sound { IsSound S.TreeSink sink.now state.now }
+    requires at { at < length (world_of S.TreeSink sink.now state.now).stack }
+    ensures { place_of S.node result ≡ foster_place (world_of S.TreeSink sink.now state.now).forest (root (world_of S.TreeSink sink.now state.now)) (stack_under S.node state.now (at + 1)) }
+{
+    let element = &state.open_elems[at];
+    if is_html_known(sink.elem_name(&element.handle), KnownName::Template) {
+        InsertionPoint::LastChild(inside(sink, state, &element.handle))
+    } else {
+        let below = &state.open_elems[at.saturating_sub(1)];
+        InsertionPoint::TableFosterParenting(
+            sink.clone_handle(&element.handle),
+            sink.clone_handle(&below.handle),
+        )
+    }
+}
+
+// Whether what is put into an open element is foster-parented.
+fn is_fostered<S: TreeSink>(sink: &S, state: &State<S::Handle>, target: &S::Handle) -> bool
+    requires sound { IsSound S.TreeSink sink.now state.now }
+    requires open { IsIn (S.node target.now) (world_of S.TreeSink sink.now state.now).stack }
+    ensures { result ≡ ((world_of S.TreeSink sink.now state.now).foster && is_table_outer (name_in (world_of S.TreeSink sink.now state.now).forest (S.node target.now))) }
+{
+    state.foster_parenting && table_outer(sink.elem_name(target))
+}
+
+/// The appropriate place for inserting a node into an open element.
+pub fn appropriate_place_for_insertion<S: TreeSink>(
+    sink: &S,
+    state: &State<S::Handle>,
+    target: &S::Handle,
+) -> InsertionPoint<S::Handle>
+    requires sound { IsSound S.TreeSink sink.now state.now }
+    requires open { IsIn (S.node target.now) (world_of S.TreeSink sink.now state.now).stack }
+    ensures { place_of S.node result ≡ appropriate_place (world_of S.TreeSink sink.now state.now) (S.node target.now) }
+{
+    if is_fostered(sink, state, target) {
+        foster_place(sink, state)
+    } else {
+        InsertionPoint::LastChild(inside(sink, state, target))
+    }
+}
+
+/// The appropriate place for inserting a node into the current node, or the document where no element is open.
+pub fn current_place<S: TreeSink>(sink: &S, state: &State<S::Handle>) -> InsertionPoint<S::Handle>
+    requires { IsSound S.TreeSink sink.now state.now }
+    ensures { place_of S.node result ≡ place (world_of S.TreeSink sink.now state.now) }
+{
+    match state.open_elems.last() {
+        Some(element) => appropriate_place_for_insertion(sink, state, &element.handle),
+        None => InsertionPoint::LastChild(sink.get_document()),
+    }
+}

@@ -1,0 +1,6 @@
+pub mod RuleLaws
+pub mod cuts
+pub mod kept
+pub mod modes
+pub mod replies
+pub mod turns

@@ -1,0 +1,6 @@
+-- What a builder keeps is kept by each rule, and so by each token.
+pub mod DoctypeLaws
+pub mod FitsLaws
+pub mod FittingLaws
+pub mod ForeignFitLaws
+pub mod RowListsLaws

@@ -1,0 +1,102 @@
+-- What modes that go by the body tell by names: the modes of the body fit where they do, and any other end tag in them.
+use Rattle.std.proofs.Common.{◌≡◌, ℕ, Bool, true, false, List, refl, ap, sym, subst, ◌∙◌}
+use Rattle.h5_names.specs.declared.qualified.QualName.{QualName}
+use Rattle.h5_tag_sets.specs.TagSets.{is_html_named, is_special}
+use Rattle.h5_types.specs.declared.modes.InsertionMode.{InsertionMode}
+use Rattle.h5_types.specs.declared.modes.InsertionMode.TheVariants.{AfterAfterBody, AfterBody, InBody, InRow, InTable, InTableBody}
+use Rattle.h5_rules.specs.stack.Scope.{comes_before_special, cut_names, drop_while, is_implied_but}
+use Rattle.h5_rules.specs.fitting.Fits.{Situation, goes_by_body, is_table_mode}
+use Rattle.h5_rules.specs.fitting.Floors.{Grounded, above, in_head, on_body, on_root, on_template}
+use Rattle.h5_rules.specs.fitting.Frames.{Cut, here, there}
+use Rattle.h5_rules.specs.fitting.NamesFit.{NamesFit}
+use Rattle.h5_rules.specs.fitting.Roles.{BodyRole, FramesetRole, HeadRole, HtmlRole, PlainRole, Role, TemplateRole, is_base, is_floor_name, is_plain, role_of, role_of_local, roles}
+use Rattle.h5_rules.proofs.roles.EndTagLaws.{frame_other_end}
+use Rattle.h5_rules.proofs.roles.RoleNameLaws.{cut_roles}
+use Rattle.h5_rules.proofs.fitting.NamesFitLaws.{names_ended, names_fit, names_frame}
+use Rattle.h5_rules.proofs.fitting.PlacedNameLaws.{fits_grounded}
+use Rattle.h5_rules.proofs.roles.RoleLaws.{role_named}
+use Rattle.h5_rules.proofs.roles.SetLaws.{ordinary_plain}
+
+module _ (s : Situation) (ns : List QualName) where
+  -- what fits a mode that goes by the body fits the body, and what comes after it
+  pub names_in_body : (m : InsertionMode) → goes_by_body m ≡ true → NamesFit s m ns → NamesFit s InBody ns
+  names_in_body m h f = names_fit s InBody ns refl (record { known = f.fits.known; place = fits_grounded s m (roles ns) h f.fits })
+
+  pub names_after_body : NamesFit s InBody ns → NamesFit s AfterBody ns
+  names_after_body f = names_fit s AfterBody ns refl (record { known = f.fits.known; place = f.fits.place })
+
+  pub names_after_after_body : NamesFit s InBody ns → NamesFit s AfterAfterBody ns
+  names_after_after_body f = names_fit s AfterAfterBody ns refl (record { known = f.fits.known; place = f.fits.place })
+
+  -- what fits a section or a row fits their table
+  pub names_in_table : (m : InsertionMode) → is_table_mode m ≡ true → NamesFit s m ns → NamesFit s InTable ns
+  names_in_table InTable h f = f
+  names_in_table InTableBody h f = names_fit s InTable ns refl (record { known = f.fits.known; place = (f.fits.place.0, f.fits.place.1.0) })
+  names_in_table InRow h f = names_fit s InTable ns refl (record { known = f.fits.known; place = (f.fits.place.0, f.fits.place.1.0) })
+  names_in_table _ h f = absurd (cc)
+
+pub table_goes : (m : InsertionMode) → is_table_mode m ≡ true → goes_by_body m ≡ true
+table_goes InTable h = refl
+table_goes InTableBody h = refl
+table_goes InRow h = refl
+table_goes _ h = absurd (cc)
+
+-- a head, or a frameset, stands under plain names alone nowhere in the body
+abbrev pub is_covered : Role → Bool
+is_covered HeadRole = true
+is_covered FramesetRole = true
+is_covered _ = false
+
+covered_base : (x : Role) → is_covered x ≡ true → is_base x ≡ true
+covered_base HeadRole h = refl
+covered_base FramesetRole h = refl
+covered_base _ h = absurd (cc)
+
+covered : {w : Bool} {x : Role} {ns rest : List Role} → is_covered x ≡ true → Cut is_plain x ns rest → Grounded w ns → ⊥
+covered h here (above n b g) = absurd (let k = covered_base n h in cc)
+covered h here on_root = absurd (cc)
+covered h here on_body = absurd (cc)
+covered h here on_template = absurd (cc)
+covered h here in_head = absurd (cc)
+covered h (there n k c) (above _ b g) = covered h c g
+covered h (there n k c) on_root = absurd (cc)
+covered h (there n k c) on_body = absurd (cc)
+covered h (there n k c) on_template = absurd (cc)
+covered h (there n k c) in_head = absurd (cc)
+
+-- what an end tag that no rule names may name, by its role: parts of tables in the body alone, since the other modes
+-- name them
+abbrev pub MayEnd : InsertionMode → Role → Type 0
+MayEnd m PlainRole = Unit {0}
+MayEnd m HeadRole = Unit {0}
+MayEnd m FramesetRole = Unit {0}
+MayEnd m HtmlRole = ⊥
+MayEnd m BodyRole = ⊥
+MayEnd m TemplateRole = ⊥
+MayEnd m _ = m ≡ InBody
+
+-- any other end tag, in every mode that goes by the body
+pub names_other_end : (s : Situation) (m : InsertionMode) (local : List ℕ) (ns : List QualName) → goes_by_body m ≡ true → MayEnd m (role_of_local local) → comes_before_special local ns ≡ true → NamesFit s m ns
+    → NamesFit s m (cut_names (is_html_named local) (drop_while (is_implied_but local) ns))
+names_other_end s m local ns goes may h f = at (role_of_local local) refl may
+  where
+    After : InsertionMode → Type 0
+    After k = NamesFit s k (cut_names (is_html_named local) (drop_while (is_implied_but local) ns))
+
+    plain_test : (n : QualName) → is_special n ≡ false → is_plain (role_of n) ≡ true
+    plain_test n e = subst (λ x. is_plain x ≡ true) (sym (ordinary_plain n e)) refl
+
+    never : (x : Role) → role_of_local local ≡ x → is_covered x ≡ true → After m
+    never x e c = absurd (covered c (cut_roles (is_html_named local) is_special is_plain x (λ n k. role_named local n k ∙ e) (λ n k l. plain_test n l) ns h) (fits_grounded s m (roles ns) goes f.fits))
+
+    in_body : (x : Role) → role_of_local local ≡ x → is_floor_name x ≡ false → m ≡ InBody → After m
+    in_body x e o k = subst After (sym k) (names_ended s local ns (ap is_floor_name e ∙ o) h (subst (λ j. NamesFit s j ns) k f))
+
+    at : (x : Role) → role_of_local local ≡ x → MayEnd m x → After m
+    at PlainRole e k = names_frame s m ns (cut_names (is_html_named local) (drop_while (is_implied_but local) ns)) goes (frame_other_end local ns e h) f
+    at HeadRole e k = never HeadRole e refl
+    at FramesetRole e k = never FramesetRole e refl
+    at HtmlRole e k = absurd k
+    at BodyRole e k = absurd k
+    at TemplateRole e k = absurd k
+    at x e k = in_body x e refl k

@@ -1,0 +1,14 @@
+pub mod AttributeLaws
+pub mod Cutting
+pub mod DoctypeLaws
+pub mod Eating
+pub mod Endings
+pub mod Finds
+pub mod Growth
+pub mod LaterLaws
+pub mod NameLaws
+pub mod PlainBytes
+pub mod Staying
+pub mod TextLaws
+pub mod TextTakes
+pub mod Words

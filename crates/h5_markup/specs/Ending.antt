@@ -1,0 +1,60 @@
+-- Where a comment, a doctype or a tag ends (HTML standard, sections 13.2.5.6 to 13.2.5.54).
+use Rattle.std.specs.Prelude.{ℕ, Bool, true, false, List, [], ◌∷◌, ◌==◌, ◌||◌, if◌then◌else◌, Option, Some, None}
+use Rattle.std.specs.Char.{is_ascii_whitespace}
+use Rattle.h5_markup.specs.Matching.{Match, Open, Found, prefixed}
+use Rattle.h5_markup.specs.declared.ending.Inside.{Inside}
+use Rattle.h5_markup.specs.declared.ending.Inside.TheVariants.{Comment, CommentEndDash, CommentEnd, Doctype, TagName, BeforeAttributeName, AttributeName, AfterAttributeName, BeforeAttributeValue, AttributeValueDoubleQuoted, AttributeValueSingleQuoted, AttributeValueUnquoted}
+
+-- whether a '>' there ends it: in a comment only behind two dashes, in a tag anywhere but in quotes
+abbrev pub may_end : Inside → Bool
+may_end Comment = false
+may_end CommentEndDash = false
+may_end CommentEnd = true
+may_end Doctype = true
+may_end TagName = true
+may_end BeforeAttributeName = true
+may_end AttributeName = true
+may_end AfterAttributeName = true
+may_end BeforeAttributeValue = true
+may_end AttributeValueDoubleQuoted = false
+may_end AttributeValueSingleQuoted = false
+may_end AttributeValueUnquoted = true
+
+abbrev pub ends : Inside → ℕ → Bool
+ends place x = if x == 62 then may_end place else false
+
+-- after a byte of an attribute's name, or one that follows the name and blanks
+abbrev pub named : ℕ → Inside
+named x = if is_ascii_whitespace x then AfterAttributeName
+    else (if x == 47 then BeforeAttributeName else (if x == 61 then BeforeAttributeValue else AttributeName))
+
+-- where the next byte is
+abbrev pub next : Inside → ℕ → Inside
+next Comment x = if x == 45 then CommentEndDash else Comment
+next CommentEndDash x = if x == 45 then CommentEnd else Comment
+next CommentEnd x = if x == 45 then CommentEnd else Comment
+next Doctype x = Doctype
+next TagName x = if is_ascii_whitespace x || x == 47 then BeforeAttributeName else TagName
+next BeforeAttributeName x = if is_ascii_whitespace x || x == 47 then BeforeAttributeName else AttributeName
+next AttributeName x = named x
+next AfterAttributeName x = named x
+next BeforeAttributeValue x = if is_ascii_whitespace x then BeforeAttributeValue
+    else (if x == 34 then AttributeValueDoubleQuoted else (if x == 39 then AttributeValueSingleQuoted else AttributeValueUnquoted))
+next AttributeValueDoubleQuoted x = if x == 34 then BeforeAttributeName else AttributeValueDoubleQuoted
+next AttributeValueSingleQuoted x = if x == 39 then BeforeAttributeName else AttributeValueSingleQuoted
+next AttributeValueUnquoted x = if is_ascii_whitespace x then BeforeAttributeName else AttributeValueUnquoted
+
+-- all up to the '>' that ends it, which is taken too
+abbrev pub up_to_end : Inside → List ℕ → Match (List ℕ)
+up_to_end place [] = Open
+up_to_end place (x ∷ xs) = if ends place x then Found [] xs else prefixed x (up_to_end (next place x) xs)
+
+-- where one is behind some bytes of it
+abbrev pub place_after : Inside → List ℕ → Inside
+place_after place [] = place
+place_after place (x ∷ xs) = place_after (next place x) xs
+
+-- the same, where it doesn't end in them
+abbrev pub walk : Inside → List ℕ → Option Inside
+walk place [] = Some place
+walk place (x ∷ xs) = if ends place x then None else walk (next place x) xs

@@ -1,0 +1,13 @@
+pub mod Attributes
+pub mod Cuts
+pub mod Doctypes
+pub mod Ending
+pub mod Later
+pub mod Matching
+pub mod Plain
+pub mod Quoting
+pub mod Seen
+pub mod Sought
+pub mod Spelled
+pub mod Text
+pub mod Writing

@@ -1,0 +1,128 @@
+//! The attributes of a tag.
+ghost use Rattle.std.specs.Prelude.{◌≡◌, ◌<◌, IfOk, [], false, drop, length};
+ghost use Rattle.h5_names.specs.AttributeText.{attribute_texts};
+ghost use Rattle.h5_markup.specs.Cuts.{is_in, from};
+ghost use Rattle.h5_markup.specs.Attributes as a;
+ghost use Rattle.h5_markup.specs.Writing.{written, WrittenAt};
+ghost use Rattle.h5_markup.specs.Text as t;
+
+use super::cut::{Class, cut_at, cut_name, cut_past, skip};
+use super::keeping::Keeping;
+use super::needle::literal;
+use super::seen::Seen;
+use super::text::text_of;
+use h5_names::{Attribute, KnownName, LocalName};
+use std::alloc::{AllocError, Global};
+
+/// A name as a tag or an attribute has it: NULs are U+FFFD, newlines LF, and ASCII letters in lower case.
+/// `AllocError` where memory is refused (HTML standard, section 13.2.5.8, "Tag name state").
+pub fn make_name(alloc: Global, text: &str) -> Result<LocalName, AllocError>
+    ensures { IfOk result (λ name. name ≡ t.name_of text.now) }
+{
+    // Most names are known, and take no memory.
+    match KnownName::from_text(text) {
+        KnownName::Other => {}
+        known => return Ok(LocalName::from_known(known.to_ascii_lowercase())),
+    }
+    let mut lower = text_of(alloc, false, text)?;
+    lower.make_ascii_lowercase();
+    Ok(LocalName::from_string(lower))
+}
+
+/// An attribute as it is written, and what follows it.
+#[derive(Drop)]
+pub struct Written<'a> {
+    pub name: &'a str,
+    pub value: &'a str,
+    pub rest: &'a str,
+}
+
+fn cut_unquoted<'a>(name: &'a str, text: &'a str) -> Written<'a>
+    ensures { written result ≡ a.value_to Class.ValueEnd name.entry.now text.entry.now (from (is_in Class.ValueEnd) text.entry.now) }
+{
+    let (value, rest) = cut_at(text, Class::ValueEnd);
+    Written { name, value, rest }
+}
+
+fn cut_quoted<'a>(name: &'a str, text: &'a str, class: Class) -> Written<'a>
+    ensures { written result ≡ a.value_to class name.entry.now text.entry.now (drop 1 (from (is_in class) text.entry.now)) }
+{
+    let (value, rest) = cut_past(text, class);
+    Written { name, value, rest }
+}
+
+// The value behind a `=` and blanks.
+fn cut_value<'a>(name: &'a str, text: &'a str) -> Written<'a>
+    ensures { written result ≡ a.valued name.entry.now text.entry.now }
+{
+    match literal(text, "\"") {
+        Seen::Found(_, inner) => cut_quoted(name, inner, Class::DoubleQuote),
+        Seen::Open => cut_unquoted(name, text),
+        Seen::No => match literal(text, "'") {
+            Seen::Found(_, inner) => cut_quoted(name, inner, Class::SingleQuote),
+            Seen::Open => cut_unquoted(name, text),
+            Seen::No => cut_unquoted(name, text),
+        },
+    }
+}
+
+// What follows a name and blanks.
+fn cut_rest<'a>(name: &'a str, text: &'a str) -> Written<'a>
+    ensures { written result ≡ a.with_value name.entry.now text.entry.now }
+{
+    match literal(text, "=") {
+        Seen::Found(_, inner) => cut_value(name, skip(inner, Class::Blank)),
+        Seen::Open => Written {
+            name,
+            value: "",
+            rest: text,
+        },
+        Seen::No => Written {
+            name,
+            value: "",
+            rest: text,
+        },
+    }
+}
+
+// The attribute at the front.
+fn cut_attribute<'a>(text: &'a str) -> Written<'a>
+    requires { 0 < length text.now }
+    ensures { WrittenAt text.now (written result) }
+{
+    let (name, behind) = cut_name(text, Class::AttributeNameEnd);
+    cut_rest(name, skip(behind, Class::Blank))
+}
+
+/// The attributes that were kept, each name once, and whether one came twice.
+#[derive(Drop)]
+pub struct Kept {
+    pub attributes: Vec<Attribute>,
+    pub duplicates: bool,
+}
+
+/// The attributes of a tag, by what stands between its name and the `>` that ends it, in their order. One
+/// whose name came before is left out. `AllocError` where memory is refused (HTML standard, sections
+/// 13.2.5.32, "Before attribute name state", to 13.2.5.40, "Self-closing start tag state").
+pub fn read_attributes(alloc: Global, text: &str) -> Result<Kept, AllocError>
+    ensures attributes { IfOk result (λ kept. attribute_texts kept.attributes.items ≡ a.distinct [] (a.attributes_of text.now)) }
+    ensures duplicates { IfOk result (λ kept. kept.duplicates ≡ a.has_duplicates (a.attributes_of text.now)) }
+{
+    let mut kept = Keeping::new(alloc);
+    let mut rest = text;
+    'attributes: loop {
+        let front = skip(rest, Class::BetweenAttributes);
+        if front.is_empty() {
+            return Ok(Kept {
+                attributes: kept.attributes,
+                duplicates: kept.duplicates,
+            });
+        }
+        let attribute = cut_attribute(front);
+        let name = make_name(alloc, attribute.name)?;
+        kept.keep(alloc, name, attribute.value)?;
+        // That it is text holds for the loop's next turn.
+        let _bytes = attribute.rest.as_bytes();
+        rest = attribute.rest;
+    }
+}

@@ -1,0 +1,134 @@
+//! The attributes of a tag, kept while it is read.
+ghost use Rattle.std.specs.Prelude.{◌≡◌, ◌≤◌, ◌++◌, ◌∷◌, [], true, false, IfOk, OnOk, vec_len};
+ghost use Rattle.h5_names.specs.AttributeText.{attribute_text, attribute_texts};
+ghost use Rattle.h5_markup.specs.Attributes as a;
+ghost use Rattle.h5_markup.specs.Later.{AreNamesBehind};
+ghost use Rattle.h5_markup.specs.Text as t;
+ghost use Rattle.h5_markup.specs.declared.keeping.TheConstants.{FEW};
+
+use super::text::text_of;
+use h5_names::{Attribute, LocalName, Namespace, QualName};
+use std::alloc::{AllocError, Global};
+use std::collections::BTreeSet;
+
+// How many attributes are looked through one after another. Most tags have fewer.
+const FEW: usize = 32;
+
+fn make_attribute(alloc: Global, name: LocalName, value: &str) -> Result<Attribute, AllocError>
+    ensures { IfOk result (λ attribute. attribute_text attribute ≡ a.attribute_named name (t.text_of true value.now)) }
+{
+    Ok(Attribute {
+        name: QualName::new(None, Namespace::none(), name),
+        value: text_of(alloc, true, value)?,
+    })
+}
+
+#[inline(always)]
+fn is_named_in(name: &LocalName, attributes: &[Attribute]) -> bool
+    ensures { result ≡ a.is_named_in name.now (attribute_texts attributes.now) }
+{
+    for attribute in attributes {
+        if attribute.name.local == *name {
+            return true;
+        }
+    }
+    false
+}
+
+/// The attributes that were kept so far, each name once, and whether one came twice. However many there are,
+/// a name is found among them in few steps (HTML standard, section 13.2.5.33, "Attribute name state").
+#[derive(Drop)]
+pub struct Keeping {
+    pub attributes: Vec<Attribute>,
+    pub duplicates: bool,
+    // The names of those behind the first few, in order, so that many take little more time each than few.
+    later: BTreeSet<LocalName>,
+    ghost later_names: { AreNamesBehind FEW (attribute_texts attributes.items) later },
+}
+
+// Room for the first attribute alone: most elements that have any have one.
+fn make_room(attributes: &mut Vec<Attribute>) -> Result<(), AllocError>
+    ensures items { attributes.new.items ≡ attributes.old.items }
+    ensures len { vec_len attributes.new ≡ vec_len attributes.old }
+{
+    if attributes.is_empty() {
+        attributes.reserve_exact(1)?;
+    }
+    Ok(())
+}
+
+impl Keeping {
+    ghost use Rattle.std.specs.Prelude.{◌||◌, List};
+    ghost use Rattle.h5_names.specs.AttributeText.{AttributeText};
+
+    /// No attributes, which take no memory.
+    pub fn new(alloc: Global) -> Keeping
+        ensures attributes { result.attributes.items ≡ [] }
+        ensures duplicates { result.duplicates ≡ false }
+    {
+        Keeping {
+            attributes: Vec::new(alloc),
+            duplicates: false,
+            later: BTreeSet::new(alloc),
+        }
+    }
+
+    // Whether one of them has this name.
+    fn is_named(&self, name: &LocalName) -> bool
+        ensures { result ≡ a.is_named_in name.now (attribute_texts self.now.attributes.items) }
+    {
+        if self.attributes.len() <= FEW {
+            return is_named_in(name, &self.attributes);
+        }
+        is_named_in(name, &self.attributes[..FEW]) || self.later.contains(name)
+    }
+
+    // Adds an attribute behind the first few.
+    #[cold]
+    #[inline(never)]
+    fn push_later(&mut self, attribute: Attribute) -> Result<(), AllocError>
+        requires { FEW ≤ vec_len self.old.attributes }
+        ensures attributes { OnOk result (attribute_texts self.new.attributes.items
+            ≡ attribute_texts self.old.attributes.items ++ attribute_text attribute ∷ []) }
+        ensures duplicates { self.new.duplicates ≡ self.old.duplicates }
+    {
+        let name = attribute.name.local.clone()?;
+        // With room for the attribute, it is added with its name or not at all.
+        self.attributes.reserve(1)?;
+        self.later.insert(name)?;
+        self.attributes.push(attribute)?;
+        Ok(())
+    }
+
+    // Adds an attribute.
+    fn push(&mut self, attribute: Attribute) -> Result<(), AllocError>
+        ensures attributes { OnOk result (attribute_texts self.new.attributes.items
+            ≡ attribute_texts self.old.attributes.items ++ attribute_text attribute ∷ []) }
+        ensures duplicates { self.new.duplicates ≡ self.old.duplicates }
+    {
+        if self.attributes.len() >= FEW {
+            return self.push_later(attribute);
+        }
+        make_room(&mut self.attributes)?;
+        self.attributes.push(attribute)?;
+        Ok(())
+    }
+
+    /// Keeps an attribute, unless its name is there. `AllocError` where memory is refused, and then none is
+    /// added.
+    pub fn keep(&mut self, alloc: Global, name: LocalName, value: &str) -> Result<(), AllocError>
+        ensures attributes { IfOk result (λ _. (others : List AttributeText) →
+            a.distinct (attribute_texts self.new.attributes.items) others
+            ≡ a.distinct (attribute_texts self.old.attributes.items) (a.attribute_named name (t.text_of true value.now) ∷ others)) }
+        ensures duplicates { IfOk result (λ _. (others : List AttributeText) →
+            (self.new.duplicates || a.repeats (attribute_texts self.new.attributes.items) others)
+            ≡ (self.old.duplicates || a.repeats (attribute_texts self.old.attributes.items) (a.attribute_named name (t.text_of true value.now) ∷ others))) }
+    {
+        if self.is_named(&name) {
+            self.duplicates = true;
+            return Ok(());
+        }
+        let attribute = make_attribute(alloc, name, value)?;
+        self.push(attribute)
+    }
+}

@@ -1,4 +1,0 @@
-pub mod FormLaws
-pub mod ItemLaws
-pub mod PutLaws
-pub mod ResetLaws

@@ -1,4 +1,0 @@
-pub mod Items
-pub mod Notices
-pub mod Places
-pub mod Reset

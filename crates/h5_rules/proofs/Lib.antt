@@ -1,0 +1,9 @@
+pub mod BlankLaws
+pub mod BoolLaws
+pub mod adoption
+pub mod changes
+pub mod entries
+pub mod fitting
+pub mod modes
+pub mod roles
+pub mod rows

@@ -1,0 +1,43 @@
+-- What holds of each rule that a tag's name may choose holds of the one that it does choose.
+use Rattle.std.proofs.Common.{◌≡◌, ℕ, Bool, true, false, ◌||◌, List, [], ◌∷◌, refl, sym, subst}
+use Rattle.std.proofs.lemmas.Slice.Eq.{bytes_eq-Decides}
+use Rattle.h5_names.specs.declared.known_name.KnownName.{KnownName}
+use Rattle.h5_token.specs.TokenText.{TagText}
+use Rattle.h5_rules.specs.ByName.{NonePasses, Rules, by_name, is_among, named}
+use Rattle.h5_rules.specs.Rows.{Row, choose}
+use Rattle.h5_rules.specs.World.{World}
+use Rattle.h5_names.specs.KnownNames.{name_text}
+use Rattle.h5_names.specs.AttributeText.{is_same_text}
+use Rattle.h5_tag_sets.specs.TagSets.{is_one_of}
+
+-- of the one of two rows that is chosen
+pub holds_chosen : (P : Row → Type 0) (b : Bool) (r s : Row) → (b ≡ true → P r) → (b ≡ false → P s) → P (choose b r s)
+holds_chosen P true r s x y = x refl
+holds_chosen P false r s x y = y refl
+
+-- of each rule whose names the tag's name is among
+abbrev pub HoldsOfEach : (Row → Type 0) → TagText → World → Rules → Type 0
+HoldsOfEach P tag w [] = Unit {0}
+HoldsOfEach P tag w (x ∷ xs) = (is_among x.0 tag.name ≡ true → P (x.1 tag w)) × HoldsOfEach P tag w xs
+
+-- and of the last one, where it is among none
+pub holds_by_name : (P : Row → Type 0) (xs : Rules) (other : TagText → World → Row) (tag : TagText) (w : World) → HoldsOfEach P tag w xs → (NonePasses xs tag.name → P (other tag w)) → P (by_name xs other tag w)
+holds_by_name P [] other tag w k o = o tt
+holds_by_name P (x ∷ xs) other tag w k o = holds_chosen P (is_among x.0 tag.name) (x.1 tag w) (by_name xs other tag w) k.0 (λ e. holds_by_name P xs other tag w k.1 (λ n. o (e, n)))
+
+-- what holds of a known name holds of a name that is it
+pub of_named : (P : List ℕ → Type 0) (known : KnownName) (l : List ℕ) → P (name_text known) → named known l ≡ true → P l
+of_named P known l a h = subst P (sym ((bytes_eq-Decides l (name_text known)).0 h)) a
+
+-- what holds of each name of a list holds of a name that is among them
+abbrev pub HoldsOfAll : (List ℕ → Type 0) → List (List ℕ) → Type 0
+HoldsOfAll P [] = Unit {0}
+HoldsOfAll P (x ∷ xs) = P x × HoldsOfAll P xs
+
+pub of_one : (P : List ℕ → Type 0) (names : List (List ℕ)) (l : List ℕ) → HoldsOfAll P names → is_one_of names l ≡ true → P l
+of_one P [] l h e = absurd (cc)
+of_one P (x ∷ xs) l h e = at (is_same_text x l) refl e (of_one P xs l h.1)
+  where
+    at : (b : Bool) → is_same_text x l ≡ b → (b || is_one_of xs l) ≡ true → (is_one_of xs l ≡ true → P l) → P l
+    at true k o f = subst P ((bytes_eq-Decides x l).0 k) h.0
+    at false k o f = f o

@@ -1,0 +1,87 @@
+-- What holds of a builder and its sink at every moment, and what the insertion mode tells of the open elements (HTML
+-- standard, sections 13.2.4.1 and 13.2.4.2).
+use Rattle.std.specs.Prelude.{◌≡◌, ℕ, is_some, List, [], ◌∷◌, codes, Option, Some, None, IsTrue}
+use Rattle.h5_interface.specs.Forest.{ElementNode, Forest, HasContents, IsElement, IsForest, kind_of, parent_of}
+use Rattle.h5_interface.specs.NewElement.{is_html_template}
+use Rattle.h5_rules.specs.formatting.FormattingList.{Entry}
+use Rattle.h5_rules.specs.formatting.FormattingNames.{AllFormatting, AllOfTags, html_name}
+use Rattle.h5_rules.specs.formatting.Lists.{Lists}
+use Rattle.h5_rules.specs.stack.Order.{IsIn, IsOrdered}
+use Rattle.h5_rules.specs.fitting.Fits.{Situation}
+use Rattle.h5_rules.specs.fitting.Roles.{Role, role_of}
+use Rattle.h5_rules.specs.fitting.NamesFit.{NamesFit}
+use Rattle.h5_rules.specs.stack.Root.{IsRootOpen}
+use Rattle.h5_rules.specs.World.{World, name_in, names_of}
+
+-- the forest is one, open elements are its elements, none is an ancestor of an older one, and templates have contents
+pub record Stands (f : Forest) (s : List ℕ) : Type 0 where
+  pub is_forest : IsForest f
+  pub elements : (n : ℕ) → IsIn n s → IsElement f n
+  pub ordered : IsOrdered (parent_of f) s
+  pub templates : (n : ℕ) → IsIn n s → IsTrue (is_html_template (name_in f n)) → HasContents f n
+
+-- the root, where one is open, has no parent but the document
+abbrev pub RootIsTop : Forest → List ℕ → Type 0
+RootIsTop f [] = Unit {0}
+RootIsTop f (n ∷ []) = (p : ℕ) → parent_of f n ≡ Some p → p ≡ f.document
+RootIsTop f (n ∷ m ∷ s) = RootIsTop f (m ∷ s)
+
+-- a node is an HTML element of this name
+abbrev pub IsHtml : Forest → List ℕ → ℕ → Type 0
+IsHtml f local n = kind_of f n ≡ Some (ElementNode (html_name local))
+
+-- at every moment, also where memory ran out: so they stand, and what the builder points at is there. The head
+-- element is a `head`; the form element is another, and a `form` where it is open; the context of a fragment is another
+-- than the head element, and is never open; an element in the list of active formatting elements, open or not, is of its
+-- tag's name, one of the formatting elements'
+pub record AllStand (f : Forest) (s : List ℕ) (l : List Entry) (head form context : Option ℕ) : Type 0 where
+  pub stands : Stands f s
+  pub root_top : RootIsTop f s
+  pub head_node : (n : ℕ) → head ≡ Some n → IsHtml f (codes "head") n
+  pub form_node : (n : ℕ) → form ≡ Some n → IsElement f n
+  pub form_name : (n : ℕ) → form ≡ Some n → IsIn n s → IsHtml f (codes "form") n
+  pub apart : (n : ℕ) → head ≡ Some n → form ≡ Some n → ⊥
+  pub context_node : (n : ℕ) → context ≡ Some n → IsElement f n
+  pub context_out : (n : ℕ) → context ≡ Some n → ¬ (IsIn n s)
+  pub context_no_head : (n : ℕ) → head ≡ Some n → context ≡ Some n → ⊥
+  pub listed : AllOfTags f l
+  pub formatting : AllFormatting l
+
+abbrev pub Sound : World → Type 0
+Sound w = AllStand w.forest w.stack w.formatting w.head w.form w.context
+
+-- the role of the context element, where a fragment is parsed (section 13.4)
+abbrev pub role_at : Forest → Option ℕ → Option Role
+role_at f None = None
+role_at f (Some n) = Some (role_of (name_in f n))
+
+-- what the facts of a mode see of a world besides its mode and its open elements
+abbrev pub situation_of : World → Situation
+situation_of w = record {
+  template_modes = w.template_modes;
+  saved_mode = w.saved_mode;
+  has_head = is_some w.head;
+  frameset_ok = w.frameset_ok;
+  context = role_at w.forest w.context;
+}
+
+-- the list of active formatting elements agrees with the stack of open elements
+abbrev pub HasLists : World → Type 0
+HasLists w = Lists w.stack w.formatting
+
+-- at every turn, and between tokens: the open elements fit the mode, and the list agrees with them
+pub record Fits (w : World) : Type 0 where
+  pub mode : NamesFit (situation_of w) w.mode (names_of w)
+  pub lists : HasLists w
+
+-- WHAT A BUILDER KEEPS at every turn, and between tokens
+pub record Fitting (w : World) : Type 0 where
+  pub sound : Sound w
+  pub fits : Fits w
+
+-- in the body, where formatting elements are closed: all stands, the list agrees with the stack, and the root is an
+-- `html`
+pub record HasHtmlRoot (w : World) : Type 0 where
+  pub sound : Sound w
+  pub lists : HasLists w
+  pub root : IsRootOpen (names_of w)

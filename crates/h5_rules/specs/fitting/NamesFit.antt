@@ -1,0 +1,42 @@
+-- What an insertion mode tells of the open elements by their names.
+use Rattle.std.specs.Prelude.{◌≡◌, Bool, true, List, IsTrue, Some, codes}
+use Rattle.h5_names.specs.AttributeText.{is_same_text}
+use Rattle.h5_names.specs.declared.qualified.QualName.{QualName}
+use Rattle.h5_tag_sets.specs.TagSets.{html_namespace, is_html_named}
+use Rattle.h5_types.specs.declared.modes.InsertionMode.{InsertionMode}
+use Rattle.h5_types.specs.declared.modes.InsertionMode.TheVariants.{InHeadNoscript, Text}
+use Rattle.h5_rules.specs.stack.Scope.{first_passes, later_names}
+use Rattle.h5_rules.specs.fitting.Fits.{Fits, Situation, is_table_mode}
+use Rattle.h5_rules.specs.fitting.Roles.{roles}
+
+-- an element of HTML
+abbrev pub is_html_element : QualName → Bool
+is_html_element n = is_same_text n.ns html_namespace
+
+-- what a mode tells of the current node's name, and its role doesn't
+abbrev pub IsNamed : InsertionMode → List QualName → Type 0
+IsNamed InHeadNoscript ns = IsTrue (first_passes (is_html_named (codes "noscript")) ns)
+IsNamed _ ns = Unit {0}
+
+-- and in a text also of the element below, for the mode that was left
+abbrev pub AreNamed : Situation → InsertionMode → List QualName → Type 0
+AreNamed s Text ns = IsTrue (first_passes is_html_element ns) × ((m : InsertionMode) → s.saved_mode ≡ Some m → IsNamed m (later_names ns))
+AreNamed s m ns = IsNamed m ns
+
+-- the open elements fit the mode: at every turn, and between tokens
+pub record NamesFit (s : Situation) (m : InsertionMode) (ns : List QualName) : Type 0 where
+  pub fits : Fits s m (roles ns)
+  pub named : AreNamed s m ns
+
+-- below the element of a text: the mode that was left, and what it tells
+pub record ModeBelow (s : Situation) (ns : List QualName) : Type 0 where
+  pub mode : InsertionMode
+  pub saved : s.saved_mode ≡ Some mode
+  pub fit : NamesFit s mode (later_names ns)
+
+-- in a text in a table: the mode that was left
+pub record TableMode (s : Situation) (ns : List QualName) : Type 0 where
+  pub mode : InsertionMode
+  pub saved : s.saved_mode ≡ Some mode
+  pub is_table : is_table_mode mode ≡ true
+  pub fit : NamesFit s mode ns

@@ -1,0 +1,11 @@
+-- The reset of the insertion mode of a world (HTML standard, section 13.2.4.1, "reset the insertion mode
+-- appropriately").
+use Rattle.h5_rules.specs.fitting.ResetByRoles.{reset}
+use Rattle.h5_rules.specs.fitting.Roles.{roles}
+use Rattle.h5_types.specs.declared.modes.InsertionMode.{InsertionMode}
+use Rattle.h5_rules.specs.Sound.{situation_of}
+use Rattle.h5_rules.specs.World.{World, names_of}
+
+-- the mode of the first open element, from the current node on, that decides
+unfoldable pub reset_mode : World → InsertionMode
+reset_mode w = reset (situation_of w) (roles (names_of w))

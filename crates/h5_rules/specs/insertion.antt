@@ -1,0 +1,5 @@
+-- Where what is inserted goes, and what is made (HTML standard, section 13.2.6.1).
+pub mod Foreign
+pub mod FormOwner
+pub mod Place
+pub mod Templates

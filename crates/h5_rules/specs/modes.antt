@@ -1,0 +1,26 @@
+-- The rules of each insertion mode, and of foreign content (HTML standard, sections 13.2.6.4 and 13.2.6.5).
+pub mod AfterAfterBody
+pub mod AfterAfterFrameset
+pub mod AfterBody
+pub mod AfterFrameset
+pub mod AfterHead
+pub mod BeforeHead
+pub mod BeforeHtml
+pub mod ForeignContent
+pub mod InBody
+pub mod InCaption
+pub mod InCell
+pub mod InColumnGroup
+pub mod InFrameset
+pub mod InHead
+pub mod InHeadNoscript
+pub mod InRow
+pub mod InTable
+pub mod InTableBody
+pub mod InTableText
+pub mod InTemplate
+pub mod InitialMode
+pub mod Modes
+pub mod Shared
+pub mod Tables
+pub mod TextMode

@@ -1,0 +1,31 @@
+//! A text in the body (HTML standard, section 13.2.6.4.7).
+ghost use Rattle.std.specs.Prelude.{◌≢◌, [], string_bytes};
+ghost use Rattle.h5_types.specs.TurnText.{TextTurn};
+ghost use Rattle.h5_rules.specs.modes.Shared.{in_body_text};
+ghost use Rattle.h5_state.specs.Steps.{IsSound};
+ghost use Rattle.h5_state.specs.Turn.{FollowsRule};
+
+use h5_formatting::reconstruct_active_formatting_elements;
+use h5_insertion::append_text;
+use h5_interface::TreeSink;
+use h5_state::{State, Turn, set_frameset_ok_by_text};
+use h5_types::{ProcessResult, SplitStatus};
+
+/// A text: formatting elements that were closed are made anew, it is appended, and the frameset flag goes off where it
+/// isn't blank. It answers an `AllocError` where memory is refused.
+pub fn in_body_text<S: TreeSink>(
+    sink: &mut S,
+    state: &mut State<S::Handle>,
+    status: SplitStatus,
+    text: String,
+) -> Turn<S::Handle>
+    requires sound { IsSound S.TreeSink sink.old state.old }
+    requires text { string_bytes text ≢ [] }
+    ensures { FollowsRule S.TreeSink (in_body_text (string_bytes text)) (TextTurn status (string_bytes text)) sink.old state.old sink.new state.new result }
+{
+    let _ = status;
+    reconstruct_active_formatting_elements(sink, state)?;
+    set_frameset_ok_by_text(sink, state, text.as_str());
+    append_text(sink, state, text)?;
+    Ok(ProcessResult::Done)
+}

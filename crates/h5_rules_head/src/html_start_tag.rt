@@ -1,0 +1,31 @@
+//! A start tag `html`, in any mode behind "before html" (HTML standard, section 13.2.6.4.7).
+ghost use Rattle.h5_rules.specs.modes.Shared.{in_body_start_html};
+ghost use Rattle.h5_state.specs.Steps.{IsOpen};
+ghost use Rattle.h5_state.specs.Turn.{TakesTag};
+
+use h5_insertion::add_attrs_to_html;
+use h5_interface::TreeSink;
+use h5_state::{State, Turn, has_open_template, unexpected_tag};
+use h5_token::Tag;
+use h5_types::ProcessResult;
+
+/// A start tag `html`: the root gets the attributes that it lacks, unless a template is open. It answers an
+/// `AllocError` where memory is refused.
+#[cold]
+#[tactic(auto, unfolding(h5_rules::specs::modes::Shared::in_body_start_html))]
+pub fn in_body_start_html<S: TreeSink>(
+    sink: &mut S,
+    state: &mut State<S::Handle>,
+    tag: Tag,
+) -> Turn<S::Handle>
+    requires { IsOpen S.TreeSink sink.old state.old }
+    ensures { TakesTag S.TreeSink in_body_start_html tag sink.old state.old sink.new state.new result }
+{
+    unexpected_tag(sink, state, &tag);
+    if has_open_template(sink, state) {
+        Ok(ProcessResult::Done)
+    } else {
+        add_attrs_to_html(sink, state, tag.attrs)?;
+        Ok(ProcessResult::Done)
+    }
+}

@@ -1,0 +1,22 @@
+//! A tag that is ignored.
+ghost use Rattle.h5_rules.specs.ByName.{ignored_tag};
+ghost use Rattle.h5_state.specs.Steps.{IsSound};
+ghost use Rattle.h5_state.specs.Turn.{TakesTag};
+
+use h5_interface::TreeSink;
+use h5_state::{State, Turn, unexpected_tag};
+use h5_token::Tag;
+use h5_types::ProcessResult;
+
+/// A tag that is ignored: a parse error is told.
+pub fn ignored_tag<S: TreeSink>(
+    sink: &mut S,
+    state: &mut State<S::Handle>,
+    tag: Tag,
+) -> Turn<S::Handle>
+    requires { IsSound S.TreeSink sink.old state.old }
+    ensures { TakesTag S.TreeSink ignored_tag tag sink.old state.old sink.new state.new result }
+{
+    unexpected_tag(sink, state, &tag);
+    Ok(ProcessResult::Done)
+}

@@ -1,0 +1,138 @@
+//! Start tags by the rules of the head, also where other modes go by them (HTML standard, section 13.2.6.4.4).
+ghost use Rattle.h5_rules.specs.ByName.{by_known, of_tag};
+ghost use Rattle.h5_rules.specs.modes.InHead.{in_head_else, in_head_start, in_head_start_link, in_head_start_meta, in_head_start_noscript, in_head_start_script, in_head_start_tag};
+ghost use Rattle.h5_state.specs.Steps.{IsOpen, IsSound};
+ghost use Rattle.h5_state.specs.Turn.{TakesTag, TakesToken};
+
+use super::encoding::copy_named_encoding;
+use super::html_start_tag::in_body_start_html;
+use super::ignored::ignored_tag;
+use super::raw_text::{parse_raw_data, to_raw_text_mode};
+use super::template::in_head_start_template;
+use h5_insertion::{insert_and_pop_element, insert_element, insert_script};
+use h5_interface::TreeSink;
+use h5_names::KnownName;
+use h5_state::{State, Turn, is_scripting, pop, set_mode};
+use h5_token::states::RawKind;
+use h5_token::{Tag, TokenSinkResult};
+use h5_types::{InsertionMode, ProcessResult, Token};
+
+// A start tag `base`, `basefont`, `bgsound` or `link`: the element is empty.
+fn in_head_start_link<S: TreeSink>(
+    sink: &mut S,
+    state: &mut State<S::Handle>,
+    tag: Tag,
+) -> Turn<S::Handle>
+    requires { IsSound S.TreeSink sink.old state.old }
+    ensures { TakesTag S.TreeSink in_head_start_link tag sink.old state.old sink.new state.new result }
+{
+    let attrs = tag.attrs;
+    insert_and_pop_element(sink, state, tag.name, attrs, tag.had_duplicate_attributes)?;
+    Ok(ProcessResult::DoneAckSelfClosing)
+}
+
+// A start tag `meta`: the element is empty, and an encoding that the tag names is answered.
+fn in_head_start_meta<S: TreeSink>(
+    sink: &mut S,
+    state: &mut State<S::Handle>,
+    tag: Tag,
+) -> Turn<S::Handle>
+    requires { IsSound S.TreeSink sink.old state.old }
+    ensures { TakesTag S.TreeSink in_head_start_meta tag sink.old state.old sink.new state.new result }
+{
+    let encoding = copy_named_encoding(state.alloc, &tag)?;
+    let attrs = tag.attrs;
+    insert_and_pop_element(sink, state, tag.name, attrs, tag.had_duplicate_attributes)?;
+    match encoding {
+        None => Ok(ProcessResult::DoneAckSelfClosing),
+        Some(encoding) => Ok(ProcessResult::Answer(TokenSinkResult::EncodingIndicator(encoding))),
+    }
+}
+
+// A start tag `noscript`: where scripts run its content is text.
+#[tactic(auto, unfolding(h5_rules::specs::modes::InHead::in_head_start_noscript))]
+fn in_head_start_noscript<S: TreeSink>(
+    sink: &mut S,
+    state: &mut State<S::Handle>,
+    tag: Tag,
+) -> Turn<S::Handle>
+    requires { IsSound S.TreeSink sink.old state.old }
+    ensures { TakesTag S.TreeSink in_head_start_noscript tag sink.old state.old sink.new state.new result }
+{
+    if is_scripting(sink, state) {
+        return parse_raw_data(sink, state, tag, RawKind::Rawtext);
+    }
+    let attrs = tag.attrs;
+    insert_element(sink, state, tag.name, attrs, tag.had_duplicate_attributes)?;
+    set_mode(sink, state, InsertionMode::InHeadNoscript);
+    Ok(ProcessResult::Done)
+}
+
+// A start tag `script`.
+fn in_head_start_script<S: TreeSink>(
+    sink: &mut S,
+    state: &mut State<S::Handle>,
+    tag: Tag,
+) -> Turn<S::Handle>
+    requires { IsSound S.TreeSink sink.old state.old }
+    ensures { TakesTag S.TreeSink in_head_start_script tag sink.old state.old sink.new state.new result }
+{
+    insert_script(sink, state, tag.attrs, tag.had_duplicate_attributes)?;
+    Ok(to_raw_text_mode(sink, state, RawKind::ScriptData))
+}
+
+/// Whatever else comes in the head: it is closed, and the token taken after it.
+pub fn in_head_else<S: TreeSink>(
+    sink: &mut S,
+    state: &mut State<S::Handle>,
+    token: Token,
+) -> Turn<S::Handle>
+    requires { IsOpen S.TreeSink sink.old state.old }
+    ensures { TakesToken S.TreeSink in_head_else token sink.old state.old sink.new state.new result }
+{
+    pop(sink, state);
+    Ok(ProcessResult::Reprocess(InsertionMode::AfterHead, token))
+}
+
+// Start tags, by their names.
+#[tactic(auto, unfolding(h5_rules::specs::modes::InHead::in_head_start, h5_rules::specs::modes::InHead::in_head_links, h5_rules::specs::modes::InHead::in_head_raw, h5_names::specs::KnownNames::name_text))]
+fn in_head_start_by_name<S: TreeSink>(
+    sink: &mut S,
+    state: &mut State<S::Handle>,
+    tag: Tag,
+) -> Turn<S::Handle>
+    requires { IsOpen S.TreeSink sink.old state.old }
+    ensures { TakesTag S.TreeSink (by_known in_head_start (of_tag in_head_else)) tag sink.old state.old sink.new state.new result }
+{
+    match tag.name.known() {
+        KnownName::Html => in_body_start_html(sink, state, tag),
+        KnownName::Base | KnownName::Basefont | KnownName::Bgsound | KnownName::Link =>
+            in_head_start_link(sink, state, tag),
+        KnownName::Meta => in_head_start_meta(sink, state, tag),
+        KnownName::Title => parse_raw_data(sink, state, tag, RawKind::Rcdata),
+        KnownName::Noframes | KnownName::Style => parse_raw_data(
+            sink,
+            state,
+            tag,
+            RawKind::Rawtext,
+        ),
+        KnownName::Noscript => in_head_start_noscript(sink, state, tag),
+        KnownName::Script => in_head_start_script(sink, state, tag),
+        KnownName::Template => in_head_start_template(sink, state, tag),
+        KnownName::Head => ignored_tag(sink, state, tag),
+        _ => in_head_else(sink, state, Token::Tag(tag)),
+    }
+}
+
+/// A start tag, by the rules of the head. It answers an `AllocError` where memory is refused.
+#[tactic(auto, using(h5_rules::proofs::rows::KnownRuleLaws::in_head_start_known), unfolding(h5_rules::specs::modes::InHead::in_head_start_tag))]
+pub fn in_head_start_tag<S: TreeSink>(
+    sink: &mut S,
+    state: &mut State<S::Handle>,
+    tag: Tag,
+) -> Turn<S::Handle>
+    requires { IsOpen S.TreeSink sink.old state.old }
+    ensures { TakesTag S.TreeSink in_head_start_tag tag sink.old state.old sink.new state.new result }
+{
+    in_head_start_by_name(sink, state, tag)
+}

@@ -1,0 +1,79 @@
+//! The mode "text" (HTML standard, section 13.2.6.4.8).
+ghost use Rattle.std.specs.Prelude.{codes};
+ghost use Rattle.h5_types.specs.TurnText.{EofTurn, HasText, turn_text};
+ghost use Rattle.h5_rules.specs.modes.TextMode.{text_end, text_mode};
+ghost use Rattle.h5_state.specs.Steps.{IsOpen};
+ghost use Rattle.h5_state.specs.Turn.{TakesTag, TakesToken, FollowsRule};
+
+use h5_insertion::append_text;
+use h5_interface::TreeSink;
+use h5_names::{KnownName, LocalName};
+use h5_state::{
+    State, Turn, current_node, is_current_html, mark_started, pop, saved_mode, set_mode,
+    tell_error, unexpected,
+};
+use h5_token::{Tag, TagKind, TokenSinkResult};
+use h5_types::{ProcessResult, Token};
+
+// An end tag: the text's element is closed, and where it is a script's the reader is told of the element.
+#[tactic(auto, unfolding(h5_rules::specs::Changes::pop))]
+fn text_end<S: TreeSink>(sink: &mut S, state: &mut State<S::Handle>, tag: Tag) -> Turn<S::Handle>
+    requires { IsOpen S.TreeSink sink.old state.old }
+    ensures { TakesTag S.TreeSink text_end tag sink.old state.old sink.new state.new result }
+{
+    let element = current_node(sink, state);
+    pop(sink, state);
+    let mode = saved_mode(sink, state);
+    set_mode(sink, state, mode);
+    if tag.name.is(KnownName::Script) {
+        Ok(ProcessResult::Answer(TokenSinkResult::Script(element)))
+    } else {
+        Ok(ProcessResult::Done)
+    }
+}
+
+// The end of the input: a script that is open is marked as started, and the text's element is closed.
+#[tactic(auto, unfolding(h5_rules::specs::Changes::pop, h5_rules::specs::Changes::mark_started))]
+fn text_eof<S: TreeSink>(sink: &mut S, state: &mut State<S::Handle>) -> Turn<S::Handle>
+    requires { IsOpen S.TreeSink sink.old state.old }
+    ensures { FollowsRule S.TreeSink (text_mode EofTurn) EofTurn sink.old state.old sink.new state.new result }
+{
+    tell_error(sink, state, "unexpected end of input in a text");
+    if is_current_html(sink, state, &LocalName::from_known(KnownName::Script)) {
+        mark_started(sink, state);
+    }
+    pop(sink, state);
+    let mode = saved_mode(sink, state);
+    Ok(ProcessResult::Reprocess(mode, Token::Eof))
+}
+
+/// A turn in a text. Start tags, comments and nulls don't come there; it is a parse error if one does.
+/// It answers an `AllocError` where memory is refused.
+pub fn step_text_mode<S: TreeSink>(
+    sink: &mut S,
+    state: &mut State<S::Handle>,
+    token: Token,
+) -> Turn<S::Handle>
+    requires open { IsOpen S.TreeSink sink.old state.old }
+    requires text { HasText (turn_text token) }
+    ensures { TakesToken S.TreeSink text_mode token sink.old state.old sink.new state.new result }
+{
+    match token {
+        Token::Tag(tag) => match tag.kind {
+            TagKind::EndTag => text_end(sink, state, tag),
+            TagKind::StartTag => {
+                unexpected(sink, state, &Token::Tag(tag));
+                Ok(ProcessResult::Done)
+            }
+        },
+        Token::Characters(_, text) => {
+            append_text(sink, state, text)?;
+            Ok(ProcessResult::Done)
+        }
+        Token::Eof => text_eof(sink, state),
+        other => {
+            unexpected(sink, state, &other);
+            Ok(ProcessResult::Done)
+        }
+    }
+}

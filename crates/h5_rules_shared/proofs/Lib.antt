@@ -1,4 +1,0 @@
-pub mod AnyOfLaws
-pub mod HiddenLaws
-pub mod ListLaws
-pub mod RenewLaws

@@ -1,5 +1,0 @@
-use Rattle.std.proofs.Common.{rules}
-use Rattle.h5_scan.proofs.ending.may_end.Goals as goal
-
-pub returns-in-AttributeValueDoubleQuoted : goal.returns-in-AttributeValueDoubleQuoted
-returns-in-AttributeValueDoubleQuoted c = search rules

@@ -1,6 +1,0 @@
-pub mod Matching
-pub mod Seen
-pub mod Ending
-pub mod Cuts
-pub mod Spelled
-pub mod Sought

@@ -1,3 +1,0 @@
-pub mod FramesetLaws
-pub mod PlaceLaws
-pub mod ShadowLaws
