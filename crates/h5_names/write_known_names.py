@@ -4,7 +4,10 @@
     write_known_names.py           writes the files that differ
     write_known_names.py --check   writes nothing; the status is 1 where a file differs
 
-To add a name is to add its line to known_names.txt and to run this. The rest of each file is written by hand.
+To add a name or a set of names is to add its line to known_names.txt and to run this. The rest of each file is written by
+hand. For a new set that is: a better comment of its list in TagSets.antt, and, where elements are asked for and not names, a
+definition of those in TagSets.antt, a function in sets.rt and a case of `ElementSet`. A list whose set is gone is taken out of
+TagSets.antt by hand.
 """
 import os
 import re
@@ -12,39 +15,22 @@ import sys
 
 CRATES = os.path.dirname(os.path.dirname(os.path.abspath(__file__)))
 
-# The sets in the order of `NameSet`: its name in known_names.txt, which is that of its flag in small letters, and the list in
-# the definitions that it stands for.
-SETS = {
-    "special": "special_names",
-    "default_scope": "scope_names",
-    "list_item_scope": "list_item_scope_names",
-    "button_scope": "button_scope_names",
-    "table_scope": "table_scope_names",
-    "table_body_context": "table_body_context_names",
-    "table_row_context": "table_row_context_names",
-    "cursory_implied_end": "implied_names",
-    "thorough_implied_end": "thorough_implied_names",
-    "heading": "heading_names",
-    "body_end_ok": "body_end_names",
-    "head_content": "head_content_names",
-    "formatting": "formatting_names",
-    "td_th": "cell_names",
-    "table_outer": "table_outer_names",
-    "mathml_text_point": "mathml_text_points",
-    "mathml_special": "mathml_special_names",
-    "svg_html_point": "svg_html_points",
-    "void": "void_names",
-    "raw_text": "raw_names",
-    "block_start": "block_start_names",
-    "block_end": "block_end_names",
-}
-
-# A set that holds all names of another.
-WIDER = {"cursory_implied_end": "thorough_implied_end", "mathml_text_point": "mathml_special"}
-
 SLOTS = 1024
 LONGEST = 19
 NO_NUMBER = 255
+SET_BITS = 32
+
+
+class Set:
+    """A set of names: its word in known_names.txt, which is that of its flag in small letters, its variant, its list in the
+    definitions, the comment of its variant, and a set all names of which it holds, too."""
+
+    def __init__(self, word, variant, listed, comment):
+        self.word, self.variant, self.listed, self.comment = word, variant, listed, comment
+        self.narrower = None
+
+    def holds(self, name):
+        return self.word in name.sets or (self.narrower is not None and self.narrower.holds(name))
 
 
 class Name:
@@ -67,34 +53,80 @@ def variant_of(text):
     return "".join(word[0].upper() + word[1:].lower() for word in words)
 
 
-def read_line(line):
+def is_declared(word, sets, line):
+    """Stops where no line declares a set."""
+    if word not in sets:
+        stop(f"no line declares the set {word}, which stands in: {line}")
+
+
+def differ_in(what, words):
+    """Stops where two sets have the same of this kind."""
+    for it in words:
+        if words.count(it) > 1:
+            stop(f"two sets have the {what} {it}")
+
+
+def read_set(line):
+    found = re.fullmatch(r"set +([a-z][a-z0-9_]*) *= *([A-Z][A-Za-z0-9]*) +([a-z][a-z0-9_]*) *: *(.+)", line)
+    if not found:
+        stop(f"a line of a set is 'set SET = Variant list: Comment.': {line}")
+    return Set(*found.groups())
+
+
+def read_sets(lines):
+    """The sets by their words, in the order of their bits."""
+    sets = [read_set(line) for line in lines if line.startswith("set ")]
+    differ_in("word", [it.word for it in sets])
+    differ_in("variant", [it.variant for it in sets])
+    differ_in("list", [it.listed for it in sets])
+    if len(sets) > SET_BITS:
+        stop(f"there are {len(sets)} sets, and a name's flags have {SET_BITS} bits")
+    return {it.word: it for it in sets}
+
+
+def read_holds(line, sets):
+    """A set that holds all names of another. The other stands before it, so that its list does, too."""
+    wide, _, narrow = (part.strip() for part in line[len("holds ") :].partition(":"))
+    is_declared(wide, sets, line)
+    is_declared(narrow, sets, line)
+    if sets[wide].narrower is not None:
+        stop(f"{wide} holds the names of two sets")
+    if list(sets).index(narrow) >= list(sets).index(wide):
+        stop(f"{wide} holds the names of {narrow}, which is not declared before it")
+    sets[wide].narrower = sets[narrow]
+
+
+def read_line(line, sets):
     """A name of a line, and behind it its form in lower case where it has capitals."""
-    head, colon, sets = line.partition(":")
+    head, colon, words = line.partition(":")
     text, _, variant = (part.strip() for part in head.partition("="))
-    sets = sets.split()
+    words = words.split()
     if not colon or not re.fullmatch(r"[A-Za-z0-9-]+", text) or len(text) > LONGEST:
         stop(f"a line is 'NAME: SET ..', its name at most {LONGEST} characters long: {line}")
-    for it in sets:
-        if it not in SETS:
-            stop(f"no set is named {it}")
+    for word in words:
+        is_declared(word, sets, line)
     variant = variant or variant_of(text)
-    names = [Name(variant, text, sets)]
+    names = [Name(variant, text, words)]
     if text != text.lower():
         names.append(Name(f"{variant}Lowercase", text.lower(), [], True))
     return names
 
 
 def read():
-    """The names in the order of their texts in lower case, and the fronts of lists that are told."""
+    """The names in the order of their texts in lower case, the sets, and the fronts of lists that are told."""
     names, fronts = [], {}
     with open(f"{CRATES}/h5_names/known_names.txt", encoding="utf-8") as file:
         lines = [line.strip() for line in file if line.strip() and not line.startswith("#")]
+    sets = read_sets(lines)
     for line in lines:
         if line.startswith("first "):
             held, _, front = line[len("first ") :].partition(":")
+            is_declared(held, sets, line)
             fronts[held] = front.split()
-        else:
-            names += read_line(line)
+        elif line.startswith("holds "):
+            read_holds(line, sets)
+        elif not line.startswith("set "):
+            names += read_line(line, sets)
     names.sort(key=lambda name: (name.text.lower(), name.is_lowered))
     texts, variants = [name.text for name in names], [name.variant for name in names]
     if len(set(texts)) < len(texts) or len(set(variants)) < len(variants):
@@ -105,19 +137,13 @@ def read():
         for text in front:
             if not any(name.text == text and held in name.sets for name in names):
                 stop(f"{held} begins with {text}, which it doesn't hold")
-    return names, fronts
-
-
-def sets_of(name):
-    """The sets that hold a name, in their order."""
-    held = set(name.sets) | {WIDER[it] for it in name.sets if it in WIDER}
-    return [it for it in SETS if it in held]
+    return names, list(sets.values()), fronts
 
 
 def texts_in(held, names, fronts):
     """The texts of the names of a set, in the order of its list."""
-    front = fronts.get(held, [])
-    return front + [name.text for name in names if held in name.sets and name.text not in front]
+    front = fronts.get(held.word, [])
+    return front + [name.text for name in names if held.word in name.sets and name.text not in front]
 
 
 def slot(text, factors):
@@ -213,18 +239,57 @@ def write_definitions(names, factors, text):
     return re.sub(formula, lambda it: f"({a} * length text + {b} * {it[1]} + {c} * {it[2]} + {d} * {it[3]}) % {SLOTS}", text)
 
 
-def write_flags(names, text):
-    rows = [(" | ".join(it.upper() for it in sets_of(name)) or "0", name.text) for name in names]
+def write_flags(names, sets, text):
+    variants = "".join(f"    /// {it.comment}\n    {it.variant},\n" for it in sets)
+    text = between(text, "pub enum NameSet {\n", "}\n", variants)
+    constants = "".join(f"const {it.word.upper()}: u32 = 1 << NameSet::{it.variant} as u32;\n\n" for it in sets)
+    text = re.sub(r"(const \w+: u32 = 1 << NameSet::\w+ as u32;\n\n)+", constants, text)
+    rows = [(" | ".join(it.word.upper() for it in sets if it.holds(name)) or "0", name.text) for name in names]
     text = re.sub(r"FLAGS: \[u32; \d+\]", f"FLAGS: [u32; {len(names) + 1}]", text)
     return between(text, f"FLAGS: [u32; {len(names) + 1}] = [\n", "    0, // any other\n", "".join(f"    {flags}, // {it}\n" for flags, it in rows))
 
 
-def write_lists(names, fronts, text):
-    narrower = {wide: held for held, wide in WIDER.items()}
-    for held, listed in SETS.items():
-        items = [f'codes "{it}" ∷' for it in texts_in(held, names, fronts)]
-        head = f"    {SETS[narrower[held]]} ++\n" if held in narrower else ""
-        text = between(text, f"\n{listed} =\n", "\n\n", head + filled([*items, "[]"], 99))
+def write_set_imports(sets, text, lists):
+    """The variants and lists that are used, the lists behind what begins their line."""
+    text = between(text, "NameSet.TheVariants.{", "}\n", ", ".join(it.variant for it in sets))
+    return between(text, lists, "}\n", ", ".join(it.listed for it in sets))
+
+
+def write_set_definitions(sets, text):
+    text = write_set_imports(sets, text, "specs.TagSets.{")
+    text = between(text, "names_of : NameSet → List (List ℕ)\n", "\n\n", "\n".join(f"names_of {it.variant} = {it.listed}" for it in sets))
+    return between(text, "flag_of : NameSet → ℕ\n", "\n\n", "\n".join(f"flag_of {it.variant} = 2 ^ {bit}" for bit, it in enumerate(sets)))
+
+
+def write_set_lemmas(sets, text):
+    text = write_set_imports(sets, text, "specs.TagSets.{is_one_of, ")
+    lists = " ".join(it.listed for it in sets)
+    cases = "".join(f"\nflags_are_right {it.variant} A = refl\nflags_are_right {it.variant} _ = refl" for it in sets)
+    text = between(text, "(name_text known)\nunfolding ", "\n\n", lists + cases)
+    known = f"{lists} known_name_of known_names\nset_is_known {sets[0].variant} = refl"
+    return between(text, "are_known (names_of set) ≡ true\nunfolding ", "\nset_is_known _ = refl\n", known)
+
+
+def list_comment(held):
+    """The comment of a new list: that of the variant, which begins with no capital, if not with a name, and has no full stop."""
+    comment = held.comment.removesuffix(".")
+    first = comment.split()[0]
+    return comment if first[1:] != first[1:].lower() else comment[0].lower() + comment[1:]
+
+
+def with_head(held, sets, text):
+    """The definitions with the head of a set's list, behind all lists where it is new."""
+    if f"\n{held.listed} =\n" in text:
+        return text
+    at = text.index("\n\n", max(text.find(f"\n{it.listed} =\n") for it in sets))
+    return f"{text[:at]}\n\n-- {list_comment(held)}\nunfoldable pub {held.listed} : List (List ℕ)\n{held.listed} =\n{text[at:]}"
+
+
+def write_lists(names, sets, fronts, text):
+    for it in sets:
+        items = [f'codes "{name}" ∷' for name in texts_in(it, names, fronts)]
+        front = f"    {it.narrower.listed} ++\n" if it.narrower else ""
+        text = between(with_head(it, sets, text), f"\n{it.listed} =\n", "\n\n", front + filled([*items, "[]"], 99))
     return text
 
 
@@ -238,7 +303,7 @@ def write_count(names, text):
     return re.sub(r"\b\d+(?= ≤ n →| ≤ c\.args\.number)|(?<=returns-in-)\d+(?=-to-255)", str(len(names)), text)
 
 
-def files_of(names, fronts):
+def files_of(names, sets, fronts):
     """Each file that is made of the list, as it stands and as it is to be."""
     read_file = lambda path: open(f"{CRATES}/{path}", encoding="utf-8").read()
     slots, factors = write_slots(names, read_file("h5_names/src/known_slots.rt"))
@@ -249,17 +314,19 @@ def files_of(names, fronts):
         ("h5_names/specs/KnownNames.antt", lambda text: write_definitions(names, factors, text)),
         ("h5_names/proofs/KnownNameLemmas.antt", lambda text: write_count(names, text)),
         ("h5_names/proofs/known_slots/name_of_number/Answers.antt", lambda text: write_count(names, text)),
-        ("h5_tag_sets/src/name_sets.rt", lambda text: write_flags(names, text)),
-        ("h5_tag_sets/specs/TagSets.antt", lambda text: write_lists(names, fronts, text)),
+        ("h5_tag_sets/src/name_sets.rt", lambda text: write_flags(names, sets, text)),
+        ("h5_tag_sets/specs/NameSets.antt", lambda text: write_set_definitions(sets, text)),
+        ("h5_tag_sets/specs/TagSets.antt", lambda text: write_lists(names, sets, fronts, text)),
+        ("h5_tag_sets/proofs/NameLemmas.antt", lambda text: write_set_lemmas(sets, text)),
         ("h5_serialize/src/known_tags.rt", lambda text: write_tags(names, text)),
     ):
         yield path, write(read_file(path))
 
 
 def main(words):
-    names, fronts = read()
+    names, sets, fronts = read()
     differ = 0
-    for path, text in files_of(names, fronts):
+    for path, text in files_of(names, sets, fronts):
         with open(f"{CRATES}/{path}", encoding="utf-8") as file:
             if file.read() == text:
                 continue
