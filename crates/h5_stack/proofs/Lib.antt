@@ -1,0 +1,5 @@
+pub mod ItemLaws
+pub mod NewestLaws
+pub mod NumberingLaws
+pub mod PlaceLaws
+pub mod StackLaws

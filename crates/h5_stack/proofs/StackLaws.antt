@@ -1,0 +1,184 @@
+-- What a stack is seen as, by its items and its table, and what its calls leave.
+use Rattle.std.proofs.Common.{◌≡◌, ◌+◌, ◌-◌, ◌<◌, ◌≤◌, ℕ, suc, Bool, cond, get_or, set, slice_index_or, take, drop, List, [], ◌∷◌, ◌++◌, length, reverse, refl, ap, sym, subst, ◌∙◌, inl, inr, arith}
+use Rattle.std.specs.List.{insert, remove}
+use Rattle.std.proofs.lemmas.Bool.{cases_cond}
+use Rattle.std.proofs.lemmas.List.{append-nil, get_or_default, get_or_past, get_or_push, length-reverse, length-set, length-take-le, length_push, map-append, take-append-le, take_all, take_at}
+use Rattle.std.proofs.lemmas.List.Edits.{length-insert, length-remove}
+use Rattle.h5_stack.specs.Items.{AreLinked, ArePlaced, AreReached, links_of, numbered, numbers_of, stack_of}
+use Rattle.h5_stack.specs.Numbered.{Numbered, newest_of, newest_under, numbers, one_of, values}
+use Rattle.h5_stack.specs.Places.{IsPlaced}
+use Rattle.h5_stack.specs.declared.item.Item.{Item}
+use Rattle.h5_stack.proofs.ItemLaws.{left_out, left_reached, length-numbers, length-numbers_of, length-stack, link_at, linked_all, linked_under, number_at, placed_all, reached_inserted, reached_kept, reached_longer, reached_pushed, reached_removed, same_links, same_numbers, stack_of-inserted, stack_of-kept, stack_of-pushed, stack_of-removed, stack_of-set, take-removed, value_at}
+use Rattle.h5_stack.proofs.PlaceLaws.{linked_none, linked_table, newest_le}
+
+pub inside : {T : Type 0} (items : List (Item T)) (s : List (Numbered T)) (k : ℕ) → stack_of items ≡ s → k < length s → k < length items
+inside items s k v h = omega (arith, length-stack items, ap (λ z. length z) v, h)
+
+-- what is read
+pub seen_value : {T : Type 0} (items : List (Item T)) (s : List (Numbered T)) (k : ℕ) (x : Item T) → stack_of items ≡ s → k < length s → x ≡ get_or items k x → x.value ≡ slice_index_or (values s) k x.value
+seen_value items s k x v h e = subst (λ z. x.value ≡ slice_index_or (values z) k x.value) v (value_at items k x (inside items s k v h) e)
+
+pub seen_number : {T : Type 0} (items : List (Item T)) (s : List (Numbered T)) (k : ℕ) (x : Item T) → stack_of items ≡ s → k < length s → x ≡ get_or items k x → x.number ≡ get_or (numbers s) k 0
+seen_number items s k x v h e = subst (λ z. x.number ≡ get_or (numbers z) k 0) v (number_at items k x (inside items s k v h) e)
+
+pub seen_older : {T : Type 0} (items : List (Item T)) (s : List (Numbered T)) (t : List ℕ) (k : ℕ) (x : Item T) → stack_of items ≡ s → ArePlaced items t → k < length s → x ≡ get_or items k x
+    → x.older ≡ newest_under (get_or (numbers s) k 0) s k
+seen_older items s t k x v p h e =
+    subst (λ z. x.older ≡ newest_under (get_or (numbers z) k 0) z k) v
+    (link_at items k x (inside items s k v h) e ∙ p.whole.linked k (omega (arith, length-numbers_of items, inside items s k v h)))
+
+pub newest_seen : {T : Type 0} (items : List (Item T)) (s : List (Numbered T)) (t : List ℕ) (n : ℕ) → stack_of items ≡ s → ArePlaced items t → get_or t n 0 ≡ newest_of n (reverse (numbers s))
+newest_seen items s t n v p =
+    subst (λ z. get_or t n 0 ≡ newest_of n (reverse (numbers z))) v
+    (p.whole.tabled n ∙ ap (λ ns. newest_of n (reverse ns)) (take_all (length (numbers_of items)) (numbers_of items) (omega arith)))
+
+pub seen_newest : {T : Type 0} (items : List (Item T)) (s : List (Numbered T)) (t : List ℕ) (n x : ℕ) → stack_of items ≡ s → ArePlaced items t → n < length t → x ≡ get_or t n x → x ≡ newest_of n (reverse (numbers s))
+seen_newest items s t n x v p h e = e ∙ get_or_default t n x 0 h ∙ newest_seen items s t n v p
+
+pub seen_none : {T : Type 0} (items : List (Item T)) (s : List (Numbered T)) (t : List ℕ) (n : ℕ) → stack_of items ≡ s → ArePlaced items t → length t ≤ n → 0 ≡ newest_of n (reverse (numbers s))
+seen_none items s t n v p h = sym (get_or_past t n 0 h) ∙ newest_seen items s t n v p
+
+pub newest_within : {T : Type 0} (n : ℕ) (s : List (Numbered T)) → newest_of n (reverse (numbers s)) ≤ length s
+newest_within n s = omega (arith, newest_le n (reverse (numbers s)), length-reverse (numbers s), length-numbers s)
+
+pub newest_under_within : {T : Type 0} (n : ℕ) (s : List (Numbered T)) (k : ℕ) → k < length s → newest_under n s k ≤ k
+newest_under_within n s k h =
+    omega (arith, newest_le n (reverse (take k (numbers s))), length-reverse (take k (numbers s)), length-take-le k (numbers s) (omega (arith, length-numbers s, h)))
+
+-- an empty stack
+pub placed_none : {T : Type 0} (items : List (Item T)) (t : List ℕ) → items ≡ [] → t ≡ [] → ArePlaced items t
+placed_none {T} items t e f =
+    let none : List (Item T) = [] in
+    subst (λ (xs : List (Item T)). ArePlaced xs t) (sym e) (subst (λ u. ArePlaced none u) (sym f)
+    (record { whole = linked_none (numbers_of none) (links_of none); reached = λ k d l. absurd (omega arith); small = omega arith }))
+
+-- another table that says the same
+pub placed_table : {T : Type 0} (items : List (Item T)) (t u : List ℕ) → ((n : ℕ) → get_or u n 0 ≡ get_or t n 0) → length t ≤ length u → ArePlaced items t → ArePlaced items u
+placed_table items t u e h p = record {
+  whole = linked_table (numbers_of items) (links_of items) t u (length (numbers_of items)) e p.whole;
+  reached = reached_longer items t u h p.reached;
+  small = p.small;
+}
+
+-- another value at a place
+pub placed_set : {T : Type 0} (items : List (Item T)) (t : List ℕ) (k : ℕ) (x y : Item T) → x ≡ get_or items k x → y.number ≡ x.number → y.older ≡ x.older → ArePlaced items t → ArePlaced (set items k y) t
+placed_set items t k x y e f l p =
+    subst (λ ns. IsPlaced ns (links_of (set items k y)) t) (sym (same_numbers items k x y e f)) (subst (λ ls. IsPlaced (numbers_of items) ls t) (sym (same_links items k x y e l)) p)
+
+pub seen_set : {T : Type 0} (items : List (Item T)) (s : List (Numbered T)) (k : ℕ) (x y : Item T) → stack_of items ≡ s → k < length s → x ≡ get_or items k x → y.number ≡ x.number
+    → stack_of (set items k y) ≡ set s k (one_of (get_or (numbers s) k 0) y.value)
+seen_set items s k x y v h e f =
+    stack_of-set items k y ∙ ap (λ z. set z k (numbered y)) v ∙ ap (λ n. set s k (one_of n y.value)) (f ∙ seen_number items s k x v h e)
+
+-- one more on top
+pub push_linked : {T : Type 0} (items news : List (Item T)) (x : Item T) (t u : List ℕ) (k : ℕ) → k ≡ length items → news ≡ items ++ x ∷ [] → ((n : ℕ) → get_or u n 0 ≡ get_or t n 0) → ArePlaced items t → AreLinked news u k
+push_linked items news x t u k l e f p =
+    subst (λ n. AreLinked news u n) (sym l)
+    (linked_under items news u (length items) (sym (ap (take (length items)) e ∙ take-append-le (length items) items (x ∷ []) (omega arith)))
+    (linked_table (numbers_of items) (links_of items) t u (length items) f (linked_all items t p)))
+
+pub push_reached : {T : Type 0} (items news : List (Item T)) (x : Item T) (t u : List ℕ) → news ≡ items ++ x ∷ [] → length t ≤ length u → x.number < length u → ArePlaced items t → AreReached news u
+push_reached items news x t u e h n p = reached_pushed items news x u e n (reached_longer items t u h p.reached)
+
+pub seen_pushed : {T : Type 0} (items news : List (Item T)) (s : List (Numbered T)) (x : Item T) → stack_of items ≡ s → news ≡ items ++ x ∷ [] → stack_of news ≡ s ++ numbered x ∷ []
+seen_pushed items news s x v e = stack_of-pushed items news x e ∙ ap (λ z. z ++ numbered x ∷ []) v
+
+-- the newest is taken off
+taken : {T : Type 0} (items news : List (Item T)) (x : Item T) → items ≡ news ++ x ∷ [] → news ≡ take (length news) items
+taken items news x e = sym (ap (take (length news)) e ∙ take_at news (x ∷ []) (length news) refl)
+
+newest_item : {T : Type 0} (items news : List (Item T)) (x : Item T) → items ≡ news ++ x ∷ [] → x ≡ get_or items (length news) x
+newest_item items news x e = sym (ap (λ s. get_or s (length news) x) e ∙ get_or_push news x x (length news) refl)
+
+pub one_more : {T : Type 0} (items news : List (Item T)) (x : Item T) → items ≡ news ++ x ∷ [] → length items ≡ length news + 1
+one_more items news x e = ap (λ s. length s) e ∙ length_push news x
+
+linked_newest : {T : Type 0} (items news : List (Item T)) (x : Item T) (t : List ℕ) → items ≡ news ++ x ∷ [] → ArePlaced items t → AreLinked items t (length news + 1)
+linked_newest items news x t e p = subst (λ n. AreLinked items t n) (one_more items news x e) (linked_all items t p)
+
+pub popped_reached : {T : Type 0} (items news : List (Item T)) (x : Item T) (t : List ℕ) → items ≡ news ++ x ∷ [] → ArePlaced items t → x.number < length t
+popped_reached items news x t e p =
+    left_reached items t (length news) x (omega (arith, one_more items news x e)) (newest_item items news x e) (linked_newest items news x t e p)
+
+-- the oldest stay
+pub placed_kept : {T : Type 0} (items news : List (Item T)) (t u : List ℕ) (k : ℕ) → k ≤ length items → news ≡ take k items → AreLinked items u k → length u ≡ length t → ArePlaced items t → ArePlaced news u
+placed_kept items news t u k h e z l p =
+    placed_all news u (subst (λ n. AreLinked news u n) (sym count) (linked_under items news u k (sym (ap (take k) e ∙ take_all k (take k items) (omega (arith, length-take-le k items h)))) z))
+    (reached_longer news t u (omega (arith, l)) (reached_kept items news k t e p.reached)) (omega (arith, count, h, p.small, length-numbers_of items))
+  where
+    count : length news ≡ k
+    count = ap (λ s. length s) e ∙ length-take-le k items h
+
+pub popped : {T : Type 0} (items news : List (Item T)) (x : Item T) (t : List ℕ) → items ≡ news ++ x ∷ [] → ArePlaced items t → ArePlaced news (set t x.number x.older)
+popped items news x t e p =
+    placed_kept items news t (set t x.number x.older) (length news) (omega (arith, one_more items news x e)) (taken items news x e)
+    (left_out items t (length news) x (omega (arith, one_more items news x e)) (newest_item items news x e) (linked_newest items news x t e p)) (length-set t x.number x.older) p
+
+pub seen_popped : {T : Type 0} (items news : List (Item T)) (s : List (Numbered T)) (x : Item T) → stack_of items ≡ s → items ≡ news ++ x ∷ [] → s ≡ stack_of news ++ numbered x ∷ []
+seen_popped items news s x v e = sym v ∙ stack_of-pushed news items x e
+
+pub seen_rest : {T : Type 0} (items news : List (Item T)) (s : List (Numbered T)) (x : Item T) → stack_of items ≡ s → items ≡ news ++ x ∷ [] → stack_of news ≡ take (length s - 1) s
+seen_rest {T} items news s x v e =
+    let k : length news ≡ length s - 1 = omega (arith, one_more items news x e, length-stack items, ap (λ (z : List (Numbered T)). length z) v) in
+    stack_of-kept items news (length news) (taken items news x e) ∙ ap (λ z. take (length news) z) v ∙ ap (λ n. take n s) k
+
+pub value_popped : {T : Type 0} (items news : List (Item T)) (s : List (Numbered T)) (x : Item T) → stack_of items ≡ s → items ≡ news ++ x ∷ [] → values s ≡ values (stack_of news) ++ x.value ∷ []
+value_popped {T} items news s x v e =
+    ap (λ z. values z) (seen_popped items news s x v e) ∙ map-append (λ (one : Numbered T). one.value) (stack_of news) (numbered x ∷ [])
+
+-- one is taken out
+pub remove_linked : {T : Type 0} (items news : List (Item T)) (u : List ℕ) (k : ℕ) → k ≤ length items → news ≡ remove items k → AreLinked items u k → AreLinked news u k
+remove_linked items news u k h e z = linked_under items news u k (take-removed items news (drop (suc k) items) k h e) z
+
+pub remove_reached : {T : Type 0} (items news : List (Item T)) (t u : List ℕ) (k : ℕ) → news ≡ remove items k → length u ≡ length t → ArePlaced items t → AreReached news u
+remove_reached items news t u k e l p = reached_longer news t u (omega (arith, l)) (reached_removed items news k t e p.reached)
+
+pub remove_length : {T : Type 0} (items news : List (Item T)) (k : ℕ) → k < length items → news ≡ remove items k → length news + 1 ≡ length items
+remove_length items news k h e = ap (λ s. length s + 1) e ∙ length-remove items k h
+
+-- one is put in, or not
+pub insert_linked : {T : Type 0} (b : Bool) (items news : List (Item T)) (x : Item T) (u : List ℕ) (k : ℕ) → k ≤ length items → news ≡ cond b (insert items k x) items → AreLinked items u k → AreLinked news u k
+insert_linked b items news x u k h e z = elim (cases_cond b (insert items k x) items news e) [
+  | inl f ↦ linked_under items news u k (take-removed items news (x ∷ drop k items) k h f) z
+  | inr f ↦ linked_under items news u k (ap (take k) (sym f)) z
+]
+
+pub insert_reached : {T : Type 0} (b : Bool) (items news : List (Item T)) (x : Item T) (t u v : List ℕ) (k : ℕ) → news ≡ cond b (insert items k x) items → length t ≤ length u → length v ≡ length u → x.number < length u → ArePlaced items t → AreReached news v
+insert_reached b items news x t u v k e h l n p =
+    let r = reached_longer items t v (omega (arith, h, l)) p.reached in
+    elim (cases_cond b (insert items k x) items news e) [
+      | inl f ↦ reached_inserted items news k x v f (omega (arith, n, l)) r
+      | inr f ↦ subst (λ xs. AreReached xs v) (sym f) r
+    ]
+
+pub insert_length : {T : Type 0} (b : Bool) (items news : List (Item T)) (x : Item T) (k : ℕ) → k ≤ length items → news ≡ cond b (insert items k x) items → (length items ≤ length news) × (length news ≤ length items + 1)
+insert_length b items news x k h e = elim (cases_cond b (insert items k x) items news e) [
+  | inl f ↦ (let l = ap (λ s. length s) f ∙ length-insert items k x h in (omega (arith, l), omega (arith, l)))
+  | inr f ↦ (let l = ap (λ s. length s) f in (omega (arith, l), omega (arith, l)))
+]
+
+pub insert_table : {T : Type 0} (items : List (Item T)) (t u : List ℕ) → ((n : ℕ) → get_or u n 0 ≡ get_or t n 0) → ArePlaced items t → AreLinked items u (length items)
+insert_table items t u e p = linked_table (numbers_of items) (links_of items) t u (length items) e (linked_all items t p)
+
+pub seen_removed : {T : Type 0} (items news : List (Item T)) (s : List (Numbered T)) (k : ℕ) → stack_of items ≡ s → news ≡ remove items k → stack_of news ≡ remove s k
+seen_removed items news s k v e = stack_of-removed items news k e ∙ ap (λ z. remove z k) v
+
+pub seen_inserted : {T : Type 0} (items news : List (Item T)) (s : List (Numbered T)) (x : Item T) (k : ℕ) → stack_of items ≡ s → news ≡ insert items k x → stack_of news ≡ insert s k (numbered x)
+seen_inserted items news s x k v e = stack_of-inserted items news k x e ∙ ap (λ z. insert z k (numbered x)) v
+
+pub seen_kept : {T : Type 0} (items news : List (Item T)) (s : List (Numbered T)) (k : ℕ) → stack_of items ≡ s → news ≡ take k items → stack_of news ≡ take k s
+seen_kept items news s k v e = stack_of-kept items news k e ∙ ap (take k) v
+
+pub seen_same : {T : Type 0} (items news : List (Item T)) (s : List (Numbered T)) → stack_of items ≡ s → news ≡ items → stack_of news ≡ s
+seen_same items news s v e = ap (λ xs. stack_of xs) e ∙ v
+
+-- there was none to take off
+pub unpopped : {T : Type 0} (items news : List (Item T)) (t : List ℕ) → items ≡ news ++ [] → ArePlaced items t → ArePlaced news t
+unpopped items news t e p = subst (λ xs. ArePlaced xs t) (e ∙ append-nil news) p
+
+pub value_unpopped : {T : Type 0} (items news : List (Item T)) (s : List (Numbered T)) → stack_of items ≡ s → items ≡ news ++ [] → values s ≡ values (stack_of news) ++ []
+value_unpopped items news s v e = ap (λ z. values z) (sym (seen_same items news s v (sym (e ∙ append-nil news)))) ∙ sym (append-nil (values (stack_of news)))
+
+pub rest_unpopped : {T : Type 0} (items news : List (Item T)) (s : List (Numbered T)) → stack_of items ≡ s → items ≡ news ++ [] → length items ≡ 0 → stack_of news ≡ take (length s - 1) s
+rest_unpopped items news s v e h =
+    seen_same items news s v (sym (e ∙ append-nil news)) ∙ sym (take_all (length s - 1) s (omega (arith, h, length-stack items, ap (λ z. length z) v)))

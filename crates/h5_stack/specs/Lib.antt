@@ -1,0 +1,5 @@
+pub mod Items
+pub mod Numbered
+pub mod Numbering
+pub mod Numberings
+pub mod Places
