@@ -1,35 +1,96 @@
-#!/bin/sh
-# How long "h5 html" takes for texts that an enemy would write, by the program h5_bench: milliseconds of processor
-# time, the best of three runs, for 1,000 to 64,000 parts. What makes each text is its kind's line in h5_bench.
+#!/bin/bash
+# How long "h5 html" takes for texts that an enemy would write, and how much memory: milliseconds of processor time, the
+# best of three runs, for texts of 16 KB to 1 MB. The patterns of the texts stand in hostile.txt.
+#
+#     benches/hostile.sh [PATTERN..]     texts of these patterns; without any, of all
+#
+# Behind the times of a pattern stand
+#
+#     last      the last time through the one before
+#     memory    the most bytes that are held for each byte of the largest text that was tried, without those that are
+#               held for an empty text; it needs GNU time
+#     output    the bytes that are written for each byte of that text
+#     *         the last is over 2.3, or none is known, or the memory is over 60
+#
+# A text is not tried if the one before took more than half a second, and a dash stands for its time: it may take some
+# seconds, and what grows so is known by then.
+#
+# With PROGRAM='WORD..' these words are run in place of "h5 html", with the text as standard input.
+#
+# The shell is bash, since its `time` tells milliseconds.
 root=$(cd "$(dirname "$0")/.." && pwd) || exit 1
-crate=$root/crates/h5_bench
-program=$crate/out/h5_bench
-sizes="1000 2000 4000 8000 16000 32000 64000"
-[ $# -gt 0 ] || set -- body-ends broken-body-ends attributes strangers
+sizes="15625 31250 62500 125000 250000 500000 1000000"
+TIMEFORMAT='%3U %3S'
 
-log=$(mktemp) || exit 1
-trap 'rm -f "$log"' EXIT
-if ! (cd "$crate" && rt run -- flat 1000 make </dev/null) >"$log" 2>&1; then
-    cat "$log" >&2
-    exit 1
+room=$(mktemp -d) || exit 1
+trap 'rm -rf "$room"' EXIT
+trap 'exit 130' INT TERM HUP
+
+names=$("$root/benches/hostile.py") || exit 1
+[ $# -gt 0 ] || set -- $names
+for pattern; do
+    if ! printf '%s\n' "$names" | grep -q -x -F -e "$pattern"; then
+        echo "benches/hostile.sh: hostile.txt has no pattern $pattern" >&2
+        exit 2
+    fi
+done
+if [ -n "$PROGRAM" ]; then
+    program=$PROGRAM
+else
+    program="$root/crates/h5/out/h5 html"
+    if ! (cd "$root/crates/h5" && rt run -- html </dev/null) >"$room/log" 2>&1; then
+        cat "$room/log" >&2
+        exit 1
+    fi
 fi
 
-# The milliseconds of a text of this kind and size.
-best() {
-    for _ in 1 2 3; do
-        "$program" "$1" "$2" html time
-    done | sed -n 's/.*, \([0-9]*\) us, .*/\1/p' | sort -n | head -n 1
+# Runs the program over a text, for 30 seconds and with 4 GB at the most; words before it may be given.
+run() {
+    (
+        ulimit -t 30 -v 4000000
+        text=$1
+        shift
+        exec "$@" $program <"$room/$text" >"$room/out" 2>"$room/said"
+    )
 }
 
-printf '%-18s' ""
-for size in $sizes; do
-    printf ' %9s' "$size"
-done
+# The milliseconds of a text, or nothing if the program fails.
+best() {
+    for _ in 1 2 3; do
+        { time run "$1"; } 2>&1 || return
+    done | awk 'NR == 1 || $1 + $2 < least { least = $1 + $2 } END { if (NR == 3) printf "%.0f", least * 1000 }'
+}
+
+# The kilobytes that the program holds at the most.
+memory() {
+    run "$1" /usr/bin/time -o "$room/most" -f %M
+    tail -n 1 "$room/most"
+}
+
+: >"$room/empty"
+empty=$(memory empty)
+printf '%-28s' ""
+printf ' %8s' $sizes last memory output
 printf '\n'
-for kind; do
-    printf '%-18s' "$kind"
+for pattern; do
+    "$root/benches/hostile.py" "$pattern" "$room" $sizes || exit 1
+    printf '%-28s' "$pattern"
+    before= now=0 largest=
     for size in $sizes; do
-        printf ' %9s' "$(echo "scale=1; $(best "$kind" "$size") / 1000" | bc)"
+        if [ -z "$now" ] || [ "$now" -gt 500 ]; then
+            printf ' %8s' -
+            continue
+        fi
+        before=$now
+        now=$(best "$size")
+        printf ' %8s' "${now:-fails}"
+        largest=$size
     done
-    printf '\n'
+    held=$(memory "$largest")
+    echo "${now:-0} $before $held $empty $(wc -c <"$room/$largest") $(wc -c <"$room/out")" | awk '{
+        last = $2 > 0 ? sprintf("%.2f", $1 / $2) : "-"
+        memory = ($3 - $4) * 1024 / $5
+        mark = last == "-" || last + 0 > 2.3 || memory > 60 ? " *" : ""
+        printf " %8s %8.1f %8.1f%s\n", last, memory, $6 / $5, mark
+    }'
 done

@@ -1,4 +1,4 @@
-#!/bin/sh
+#!/bin/bash
 # How fast a document is read, built, written, and all of it, by the program h5_bench.
 #
 #     benches/parser.sh          MB of text for each second of processor time, the best of five runs, for a flat
@@ -7,13 +7,18 @@
 #                                and one long text
 #     benches/parser.sh count    instructions for each byte of text, at a tenth of these sizes; it needs valgrind
 #     benches/parser.sh memory   bytes of memory at the most for each byte of text; it needs GNU time
-#     benches/parser.sh beside PROGRAM [WORD..]
-#                                the same texts through `h5 html` and through another program that reads HTML and
-#                                writes it, in turn, from file to file: seconds of processor time, the best of five
-#                                runs, and MB of memory at the most; it needs GNU time
+#     benches/parser.sh beside NAME=COMMAND.. [-- PAGE..]
+#                                the same texts, and the files behind --, through `h5 html` and through other commands
+#                                that read HTML from standard input and write it, in turn: milliseconds of processor
+#                                time, the best and the median of five runs, and MB of memory at the most; it needs GNU
+#                                time. So for programs that are built on other libraries:
+#
+#     benches/parser.sh beside html5ever=./html5ever gumbo=./gumbo go=./xnet 'lxml=python3 lxml_write.py' -- page.html
 #
 # What comes before a part is left out: the making of the text, and for the writing the building, too. That the
 # tree is dropped is among the instructions in "build"; "html" leaves the tree to the end of the process.
+#
+# The shell is bash, since its `time` tells milliseconds.
 root=$(cd "$(dirname "$0")/.." && pwd) || exit 1
 program=$root/crates/h5_bench/out/h5_bench
 parts="read build serialize html"
@@ -25,14 +30,34 @@ case $1 in
 esac
 case $way:$# in
     speed:0 | count:1 | memory:1) ;;
-    beside:1 | beside:0) way= ;;
     beside:*) shift ;;
     *) way= ;;
 esac
+commands=()
+while [ "$way" = beside ] && [ $# -gt 0 ]; do
+    case $1 in
+        --)
+            shift
+            break
+            ;;
+        ?*=?*) commands+=("$1") ;;
+        *) way= ;;
+    esac
+    shift
+done
+if [ "$way" = beside ] && [ ${#commands[@]} -eq 0 ]; then
+    way=
+fi
 if [ -z "$way" ]; then
-    echo "usage: benches/parser.sh [count | memory | beside PROGRAM [WORD..]]" >&2
+    echo "usage: benches/parser.sh [count | memory | beside NAME=COMMAND.. [-- PAGE..]]" >&2
     exit 2
 fi
+for page; do
+    if [ "$way" = beside ] && [ ! -r "$page" ]; then
+        echo "benches/parser.sh: no page $page" >&2
+        exit 2
+    fi
+done
 
 room=$(mktemp -d) || exit 1
 trap 'rm -rf "$room"' EXIT
@@ -89,47 +114,61 @@ row() {
     printf '\n'
 }
 
-# The time and the memory of one run of a program over the text, behind those of its other runs.
-timed() {
-    runs=$1
-    shift
-    /usr/bin/time -a -o "$room/$runs" -f '%U %S %M' "$@" <"$room/text" >"$room/out" || exit 1
-}
-
-# The least seconds of the runs of a program, and its most memory.
-best() {
-    awk 'NR == 1 || $1 + $2 < least { least = $1 + $2 } $3 > most { most = $3 }
-        END { printf " %10.2f %10.1f", least, most * 1024 / 1000000 }' "$room/$1"
-}
-
-# Prints such a line for each text, of a size that is divided by this; what stands behind is handed on.
+# Prints such a line for each text, of a size that is divided by this.
 each_text() {
     line=$1
     divided=$2
-    shift 2
     for text in flat:10000000 nest:10000 misnested:5000000 rows:1000000 fostered:5000000 tables:10000 \
         attributed:10000000 text:10000000; do
-        "$line" "${text%:*}" $((${text#*:} / divided)) "$@"
+        "$line" "${text%:*}" $((${text#*:} / divided))
     done
 }
 
-# A line of the table of two programs: the second is that of the words behind kind and size.
-pair() {
-    name="$1 $2"
-    "$program" "$1" "$2" print >"$room/text" || exit 1
-    shift 2
-    rm -f "$room/ours" "$room/theirs"
+# The seconds of one run of a command over the text, behind those of its other runs; nothing if it fails.
+timed() {
+    { time sh -c "$2" <"$room/text" >"$room/out" 2>"$room/said"; } 2>"$room/time" || return
+    cat "$room/time" >>"$room/times.$1"
+}
+
+# The lines of the text that is there, of this name: one for each command.
+lines() {
+    name=$1
+    rm -f "$room"/times.*
     for _ in 1 2 3 4 5; do
-        timed ours "$root/crates/h5/out/h5" html
-        timed theirs "$@"
+        for command in "${commands[@]}"; do
+            timed "${command%%=*}" "${command#*=}"
+        done
     done
-    printf '%-18s%s%s\n' "$name" "$(best ours)" "$(best theirs)"
+    for command in "${commands[@]}"; do
+        printf '%-24s %-12s' "$name" "${command%%=*}"
+        name=
+        if [ "$(grep -c . "$room/times.${command%%=*}" 2>/dev/null)" != 5 ]; then
+            printf ' %12s\n' fails
+            continue
+        fi
+        most=$(/usr/bin/time -f %M sh -c "${command#*=}" 2>&1 <"$room/text" >"$room/out" | tail -n 1)
+        awk '{ print ($1 + $2) * 1000 }' "$room/times.${command%%=*}" | sort -n | awk -v most="$most" '
+            { times[NR] = $1 }
+            END { printf " %12.1f %12.1f %12.1f\n", times[1], times[3], most * 1024 / 1000000 }'
+    done
+}
+
+# The lines of a text of this kind and size.
+text_lines() {
+    "$program" "$1" "$2" print >"$room/text" || exit 1
+    lines "$1 $2"
 }
 
 if [ "$way" = beside ]; then
+    TIMEFORMAT='%3U %3S'
     build h5 html
-    printf '%-18s %10s %10s %10s %10s\n' "" "h5, s" "h5, MB" "other, s" "other, MB"
-    each_text pair 1 "$@"
+    commands=("h5='$root/crates/h5/out/h5' html" "${commands[@]}")
+    printf '%-24s %-12s %12s %12s %12s\n' "" "" "best, ms" "median, ms" "memory, MB"
+    each_text text_lines 1
+    for page; do
+        cp "$page" "$room/text" || exit 1
+        lines "$(basename "$page")"
+    done
     exit 0
 fi
 
