@@ -89,6 +89,14 @@ after_insert (Ok o) old new base text bytes number same none next s was len e k 
 after_insert (Err x) old new base text bytes number same none next s was len e k =
     numbered_same old new base (λ one. ap (λ es. lookup (is_at (λ q. slice_cmp nat_cmp one (string_bytes q))) es) e) (ap (λ es. length es) e) k
 
+-- and the number that comes next is one more, or the same where it is refused
+pub one_more : {Y : Type 0} (o : Option ℕ) (old new : BTreeMap (String Y) ℕ) (base : ℕ) (text bytes : List ℕ) → bytes ≡ text → get_by_text old text ≡ None → o ≡ get_by_text old bytes
+    → btree_map_len new ≡ btree_map_len old + cond (is_some o) 0 1 → base + btree_map_len new ≡ base + btree_map_len old + 1
+one_more o old new base text bytes same none was len =
+    let absent : o ≡ None = was ∙ ap (λ t. get_by_text old t) same ∙ none in
+    let more : btree_map_len new ≡ btree_map_len old + 1 = len ∙ ap (λ z. btree_map_len old + cond (is_some z) 0 1) absent in
+    omega (arith, more)
+
 -- a number that is found
 pub found_above : {Y : Type 0} (o : Option ℕ) (m : BTreeMap (String Y) ℕ) (base : ℕ) (text : List ℕ) → o ≡ get_by_text m text → IsNumbering m base → IfSome o (λ n. base ≤ n)
 found_above None m base text e k = tt

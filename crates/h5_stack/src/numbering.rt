@@ -1,5 +1,5 @@
 //! Numbers for texts.
-ghost use Rattle.std.specs.Prelude.{◌≡◌, ◌≢◌, ◌<◌, ◌≤◌, ◌+◌, ℕ, List, IfOk, IfSome, OnErr};
+ghost use Rattle.std.specs.Prelude.{◌≡◌, ◌≢◌, ◌<◌, ◌≤◌, ◌+◌, ℕ, List, IfOk, IfSome, Ok, OnErr, OnOk};
 ghost use Rattle.h5_stack.specs.Numberings.{IsNumbering};
 
 use std::alloc::{AllocError, Global};
@@ -45,9 +45,11 @@ impl Numbering {
         requires { number_of self.old text.now ≡ None }
         ensures ok { IfOk result (λ number. number_of self.new text.now ≡ Some number) }
         ensures next { IfOk result (λ number. number ≡ next_of self.old) }
+        ensures grows { OnOk result (next_of self.new ≡ next_of self.old + 1) }
         ensures stay { (one : List ℕ) (number : ℕ) → number_of self.old one ≡ Some number → number_of self.new one ≡ Some number }
         ensures others { (one : List ℕ) → one ≢ text.now → number_of self.new one ≡ number_of self.old one }
         ensures err { OnErr result ((one : List ℕ) → number_of self.new one ≡ number_of self.old one) }
+        ensures still { OnErr result (next_of self.new ≡ next_of self.old) }
         ensures base { base_of self.new ≡ base_of self.old }
     {
         let count = self.numbers.len();
@@ -65,9 +67,12 @@ impl Numbering {
     pub fn number(&mut self, text: &str) -> Result<u32, AllocError>
         ensures ok { IfOk result (λ number. number_of self.new text.now ≡ Some number) }
         ensures next { number_of self.old text.now ≡ None → IfOk result (λ number. number ≡ next_of self.old) }
+        ensures grows { number_of self.old text.now ≡ None → OnOk result (next_of self.new ≡ next_of self.old + 1) }
+        ensures known { (number : ℕ) → number_of self.old text.now ≡ Some number → (result ≡ Ok number) × (next_of self.new ≡ next_of self.old) }
         ensures stay { (one : List ℕ) (number : ℕ) → number_of self.old one ≡ Some number → number_of self.new one ≡ Some number }
         ensures others { (one : List ℕ) → one ≢ text.now → number_of self.new one ≡ number_of self.old one }
         ensures err { OnErr result ((one : List ℕ) → number_of self.new one ≡ number_of self.old one) }
+        ensures still { OnErr result (next_of self.new ≡ next_of self.old) }
         ensures base { base_of self.new ≡ base_of self.old }
         ensures apart { KeepsApart self.new }
     {

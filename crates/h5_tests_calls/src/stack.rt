@@ -26,10 +26,9 @@ fn the_newest_place_of_a_number_is_known(rt: HostRuntime) -> Result<(), AllocErr
 fn values_are_read(rt: HostRuntime) -> Result<(), AllocError> {
     let stack = four(rt.alloc())?;
     assert!(rt; !stack.is_empty() && stack.first() == Some(&b'a') && stack.last() == Some(&b'd'));
-    if stack.len() == 4 {
-        assert!(rt; *stack.get(2) == b'c' && stack.number_at(2) == 1);
-        assert!(rt; stack.older(2) == 1 && stack.older(0) == 0);
-    }
+    assert!(rt; stack.len() == 4);
+    assert!(rt; *stack.get(2) == b'c' && stack.number_at(2) == 1);
+    assert!(rt; stack.older(2) == 1 && stack.older(0) == 0);
     Ok(())
 }
 
@@ -45,13 +44,10 @@ fn the_newest_values_are_taken_off(rt: HostRuntime) -> Result<(), AllocError> {
 #[test]
 fn a_value_in_the_middle_comes_and_goes(rt: HostRuntime) -> Result<(), AllocError> {
     let mut stack = four(rt.alloc())?;
-    if stack.len() == 4 {
-        assert!(rt; stack.remove(1) == b'b');
-    }
+    assert!(rt; stack.len() == 4);
+    assert!(rt; stack.remove(1) == b'b');
     assert!(rt; stack.newest(1) == 2 && stack.newest(2) == 0 && stack.newest(3) == 3);
-    if !stack.is_empty() {
-        stack.insert(0, 2, b'e')?;
-    }
+    stack.insert(0, 2, b'e')?;
     assert!(rt; stack.newest(1) == 3 && stack.newest(2) == 1 && stack.newest(3) == 4);
     Ok(())
 }
@@ -59,9 +55,8 @@ fn a_value_in_the_middle_comes_and_goes(rt: HostRuntime) -> Result<(), AllocErro
 #[test]
 fn a_value_is_changed(rt: HostRuntime) -> Result<(), AllocError> {
     let mut stack = four(rt.alloc())?;
-    if stack.len() == 4 {
-        stack.set(3, b'z');
-    }
+    assert!(rt; stack.len() == 4);
+    stack.set(3, b'z');
     assert!(rt; stack.last() == Some(&b'z') && stack.newest(3) == 4);
     Ok(())
 }
