@@ -1,5 +1,5 @@
 //! A stack of values, each with a number.
-ghost use Rattle.std.specs.Prelude.{◌≡◌, ◌==◌, ◌<◌, ◌≤◌, ◌+◌, ◌-◌, ◌↔◌, ◌∷◌, ◌++◌, [], IsSome, OnErr, OnOk, length, reverse, slice_get, slice_index, slice_index_or, slice_set, take};
+ghost use Rattle.std.specs.Prelude.{◌≡◌, ◌==◌, ◌<◌, ◌≤◌, ◌+◌, ◌-◌, ◌^◌, ◌↔◌, ◌∷◌, ◌++◌, [], IfOk, IsSome, OnErr, OnOk, length, reverse, slice_get, slice_index, slice_index_or, slice_set, take};
 ghost use Rattle.std.specs.List.{insert, remove};
 ghost use Rattle.std.specs.Option.{option_copied, option_to_list};
 ghost use Rattle.h5_stack.specs.Numbered.{newest_of, newest_under, numbers, one_of, values};
@@ -48,7 +48,8 @@ impl<T> NumberedStack<T> {
 
     /// How many values there are.
     pub fn len(&self) -> usize
-        ensures { result ≡ length self.now }
+        ensures count { result ≡ length self.now }
+        ensures few { result < 2 ^ 32 }
     {
         self.items.len()
     }
@@ -58,6 +59,18 @@ impl<T> NumberedStack<T> {
         ensures { result ≡ (length self.now == 0) }
     {
         self.len() == 0
+    }
+
+    /// The place that the next value takes, where one more can come. It is refused where there are `MAX_LEN` values.
+    pub fn next_place(&self) -> Result<u32, AllocError>
+        ensures place { IfOk result (λ place. place ≡ length self.now) }
+        ensures few { IfOk result (λ place. place + 1 < 2 ^ 32) }
+    {
+        let place = self.items.len();
+        if place >= MAX_LEN {
+            return Err(AllocError);
+        }
+        Ok(place as u32)
     }
 
     /// The value at a place.
@@ -80,7 +93,7 @@ impl<T> NumberedStack<T> {
 
     /// The newest value.
     pub fn last(&self) -> Option<&T>
-        ensures { option_copied result ≡ slice_get (values self.now) (length self.now - 1) }
+        ensures { option_copied result ≡ slice_get (values self.now) (length (values self.now) - 1) }
     {
         if self.is_empty() {
             return None;
@@ -136,10 +149,7 @@ impl<T> NumberedStack<T> {
         ensures ok { OnOk result (self.new ≡ self.old ++ one_of number value ∷ []) }
         ensures err { OnErr result (self.new ≡ self.old) }
     {
-        let place = self.items.len();
-        if place >= MAX_LEN {
-            return Err(AllocError);
-        }
+        let place = self.next_place()? as usize;
         reach(&mut self.table, number)?;
         self.items.push(Item {
             value,
@@ -155,6 +165,7 @@ impl<T> NumberedStack<T> {
         ensures some { IsSome result ↔ (0 < length self.old) }
         ensures value { values self.old ≡ values self.new ++ option_to_list result }
         ensures rest { self.new ≡ take (length self.old - 1) self.old }
+        ensures numbers { IsSome result → numbers self.old ≡ numbers self.new ++ slice_index (numbers self.old) (length self.new) ∷ [] }
     {
         match self.items.pop() {
             Some(item) => {

@@ -1,5 +1,7 @@
 pub mod AttributeLaws
 pub mod FoundLaws
+pub mod NewestLaws
+pub mod NumberLaws
 pub mod RenewLaws
 pub mod SeenLaws
 pub mod StackLaws

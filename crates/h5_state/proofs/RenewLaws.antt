@@ -2,15 +2,16 @@
 use Rattle.std.proofs.Common.{◌≡◌, ◌≢◌, ◌+◌, ◌-◌, ◌<◌, ◌≤◌, ℕ, List, [], ◌∷◌, ◌++◌, length, map, reverse, take, get_or, ap, sym, ◌∙◌, arith}
 use Rattle.std.proofs.Math.ListN.{set}
 use Rattle.std.proofs.Math.Seq.{map-set_same, take-append_seam}
-use Rattle.std.proofs.lemmas.List.{length-take, take_more, take_more_set}
+use Rattle.std.proofs.lemmas.List.{length-take, map-set, set-get_or, take_more, take_more_set}
 use Rattle.h5_interface.specs.Forest.{Forest}
 use Rattle.h5_rules.specs.World.{name_in}
+use Rattle.h5_stack.specs.Numbered.{Numbered, numbers, one_of, values}
 use Rattle.h5_state.specs.Summaries.{all_open, summaries, summary_of}
 use Rattle.h5_state.specs.View.{open_node}
 use Rattle.h5_state.specs.declared.open_element.OpenElement.{OpenElement}
 use Rattle.h5_state.specs.declared.open_element.Summary.{Summary}
 use Rattle.h5_state.proofs.StackLaws.{seen_pushed}
-use Rattle.h5_state.proofs.SummaryLaws.{kept, kept_newest, kept_pushed, names}
+use Rattle.h5_state.proofs.SummaryLaws.{kept, kept_newest, summaries_pushed, names}
 
 -- the oldest stay, where one above them is taken out
 pub under_removed : {X : Type 0} (xs ys high : List X) (count : ℕ) → ys ≡ take count xs ++ high → count ≤ length xs → take count ys ≡ take count xs
@@ -33,9 +34,17 @@ module _ {H : Type 0} (node : H → ℕ) (f : Forest) where
       → kept node f (take place xs) ≡ summaries (names node f (take place xs)) → kept node f (take (place + 1) (set xs place y)) ≡ summaries (names node f (take (place + 1) (set xs place y)))
   kept_more xs place y h s k =
       let more = take_more_set xs place y h in
-      kept_pushed (take place xs) (take (place + 1) (set xs place y)) y (name_in f (node y.handle)) (names node f (take place xs)) _ more s
+      summaries_pushed (take place xs) (take (place + 1) (set xs place y)) y (name_in f (node y.handle)) (names node f (take place xs)) _ more s
       (ap (map (name_in f)) (seen_pushed (open_node node) (take place xs) (take (place + 1) (set xs place y)) y more)) k
 
   -- and the elements are the same
   pub same_open : (xs : List (OpenElement H)) (place : ℕ) (x y : OpenElement H) → x ≡ get_or xs place x → node y.handle ≡ node x.handle → reverse (map (open_node node) (set xs place y)) ≡ reverse (map (open_node node) xs)
   same_open xs place x y e h = ap reverse (map-set_same (open_node node) xs place y x (h ∙ ap (open_node node) e))
+
+-- another element of the same number
+pub values_set : {H : Type 0} (old new : List (Numbered (OpenElement H))) (place k : ℕ) (y : OpenElement H) → new ≡ set old place (one_of k y) → values new ≡ set (values old) place y
+values_set {H} old new place k y e = ap (λ (z : List (Numbered (OpenElement H))). values z) e ∙ map-set (λ (one : Numbered (OpenElement H)). one.value) old place (one_of k y)
+
+pub numbers_set : {H : Type 0} (old new : List (Numbered (OpenElement H))) (place : ℕ) (y : OpenElement H) → new ≡ set old place (one_of (get_or (numbers old) place 0) y) → numbers new ≡ numbers old
+numbers_set {H} old new place y e =
+    ap (λ (z : List (Numbered (OpenElement H))). numbers z) e ∙ map-set (λ (one : Numbered (OpenElement H)). one.number) old place (one_of (get_or (numbers old) place 0) y) ∙ set-get_or (numbers old) place 0

@@ -49,6 +49,10 @@ last_none (x ∷ y ∷ ys) e =
     let none : y ∷ ys ≡ [] = last_none (y ∷ ys) (e ∙ ap (slice_get (x ∷ y ∷ ys)) more) in
     absurd (cc)
 
+pub first_none : {A : Type 0} (xs : List A) → None ≡ slice_get xs 0 → xs ≡ []
+first_none [] e = refl
+first_none (x ∷ xs) e = absurd (cc)
+
 -- a world with another forest and other open elements
 abbrev pub seen_world : World → Seen → List ℕ → World
 seen_world w s stack = record w { forest = s.forest; seen_quirks = s.quirks; stack = stack }

@@ -7,7 +7,7 @@ use Rattle.h5_rules.specs.World.{World, names_of}
 use Rattle.h5_rules.proofs.changes.NameLaws.{names_kept}
 use Rattle.h5_rules.proofs.changes.SoundLaws.{all_rearranged}
 use Rattle.h5_state.specs.Steps.{IsSound, world_of}
-use Rattle.h5_state.specs.Summaries.{summaries}
+use Rattle.h5_state.specs.Summaries.{IsKept}
 use Rattle.h5_state.specs.View.{world}
 use Rattle.h5_state.specs.declared.state.State.{State}
 
@@ -16,9 +16,9 @@ pub sound_rearranged : {S H O : Type 0} (law : Ghosts S H O) (old new : S) (stat
 unfolding world names_of
 sound_rearranged law old new state k r = record {
   sound = all_rearranged _ _ _ k.sound r;
-  kept = k.kept ∙ ap summaries (sym (names_kept (world_of law old state) (law.sees new).forest k.sound r));
+  kept = subst (IsKept state.open_elems) (sym (names_kept (world_of law old state) (law.sees new).forest k.sound r)) k.kept;
 }
 
 -- the sink changed, but for what is seen of it
 pub sound_told : {S H O : Type 0} (law : Ghosts S H O) (old new : S) (state : State H) → world_of law new state ≡ world_of law old state → IsSound law old state → IsSound law new state
-sound_told law old new state e k = record { sound = subst Sound (sym e) k.sound; kept = k.kept ∙ ap (λ (w : World). summaries (names_of w)) (sym e) }
+sound_told law old new state e k = record { sound = subst Sound (sym e) k.sound; kept = subst (λ (w : World). IsKept state.open_elems (names_of w)) (sym e) k.kept }

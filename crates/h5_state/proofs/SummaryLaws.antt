@@ -1,67 +1,28 @@
 -- What is kept beside the open elements, where elements come or leave.
-use Rattle.std.proofs.Common.{◌≡◌, ◌≢◌, Bool, true, false, cond, ◌&&◌, ◌||◌, ◌<◌, ◌≤◌, ◌-◌, ◌+◌, ℕ, nat_lt, take, drop, get_or, Some, List, [], ◌∷◌, ◌++◌, length, map, reverse, refl, ap, sym, ◌∙◌, zero-add, arith, rules}
-use denote.Enum.Bare.{sameb, same_false, tag_one}
-use denote.Enum.Declared.{tag_of}
-use Rattle.h5_names.specs.KnownNames.{known_name_of}
-use Rattle.h5_names.specs.contracts.known_name.KnownName.{the_type}
-use Rattle.h5_names.specs.declared.known_name.KnownName.TheVariants.{Other}
-use Rattle.h5_names.proofs.KnownNameLemmas.{same_known}
+use Rattle.std.proofs.Common.{◌≡◌, ◌≢◌, Bool, true, false, cond, ◌&&◌, ◌||◌, ◌<◌, ◌≤◌, ◌-◌, ◌+◌, ℕ, nat_lt, take, drop, get_or, Some, List, [], ◌∷◌, ◌++◌, length, map, reverse, refl, ap, subst, sym, ◌∙◌, zero-add, arith, rules}
 use Rattle.std.specs.Int.{from_bool}
 use Rattle.std.specs.Prelude.{slice_get}
 use Rattle.std.proofs.lemmas.Bool.{lt-ltb}
 use Rattle.std.proofs.lemmas.List.Sums.{count_by-le-length, sum_by-cons}
-use Rattle.std.proofs.lemmas.Slice.Eq.{bytes_eq-Decides}
-use Rattle.std.proofs.lemmas.List.{length-map, length-reverse, map-append, reverse-append, take-append-drop, take_more}
-use Rattle.h5_names.specs.AttributeText.{is_same_text}
+use Rattle.std.proofs.lemmas.List.{length-map, length-reverse, map-append, reverse-append, take-append-drop, take-map, take_more}
 use Rattle.h5_names.specs.declared.qualified.QualName.{QualName}
 use Rattle.h5_interface.specs.Forest.{Forest}
 use Rattle.h5_interface.specs.NewElement.{is_html_template}
 use Rattle.h5_interface.specs.Seen.{Seen, after_pop}
 use Rattle.h5_interface.specs.SinkChoices.{SinkChoices}
-use Rattle.h5_tag_sets.specs.TagSets.{html_namespace, is_html_named}
 use Rattle.h5_rules.specs.stack.Scope.{has_template, later_names}
 use Rattle.h5_rules.specs.World.{World, name_in, names_of}
 use Rattle.h5_rules.proofs.changes.PopLaws.{names-pop}
-use Rattle.h5_state.specs.Summaries.{all_open, html_number, name_number, open_templates, summaries, summary_of, text_number}
+use Rattle.h5_state.specs.Summaries.{IsKept, all_open, open_templates, summaries, summary_of}
 use Rattle.h5_state.specs.View.{open_node}
+use Rattle.h5_state.specs.declared.name_numbers.NameNumbers.{NameNumbers}
 use Rattle.h5_state.specs.declared.open_element.OpenElement.{OpenElement}
+use Rattle.h5_state.specs.declared.open_element.OpenElements.{OpenElements}
 use Rattle.h5_state.specs.declared.open_element.Summary.{Summary}
+use Rattle.h5_stack.specs.Numbered.{Numbered, numbers, one_of, values}
+use Rattle.h5_state.proofs.SeenLaws.{same_tail}
 use Rattle.h5_state.proofs.StackLaws.{last_split, popped_world, seen_pushed, seen_world}
-
--- a name of another number is another
-pub other_number : (local : List ℕ) (name : QualName) → name_number name ≢ html_number local → is_html_named local name ≡ false
-unfolding is_html_named name_number
-other_number local name = at (is_same_text name.ns html_namespace) (is_same_text name.local local) (bytes_eq-Decides name.local local).0
-  where
-    at : (a b : Bool) → (b ≡ true → name.local ≡ local) → cond a (html_number name.local) (text_number name.local) ≢ html_number local → (a && b) ≡ false
-    at true true same h = absurd (h (ap html_number (same refl)))
-    at true false same h = refl
-    at false b same h = refl
-
--- a number of a text is none of a name that HTML knows
-text_number_from : (text : List ℕ) → 256 ≤ text_number text
-unfolding text_number
-text_number_from text = omega arith
-
--- HTML elements of one number below those of texts have one name
-same_html_number : (x y : List ℕ) → html_number x ≡ html_number y → html_number y < 256 → is_same_text x y ≡ true
-unfolding html_number
-same_html_number x y = at (sameb the_type (known_name_of x) Other) (sameb the_type (known_name_of y) Other) refl
-  where
-    at : (a b : Bool) → sameb the_type (known_name_of x) Other ≡ a → cond a (text_number x) (tag_of the_type (known_name_of x)) ≡ cond b (text_number y) (tag_of the_type (known_name_of y))
-        → cond b (text_number y) (tag_of the_type (known_name_of y)) < 256 → is_same_text x y ≡ true
-    at a true k e h = absurd (omega (arith, h, text_number_from y))
-    at true false k e h = absurd (omega (arith, e, h, text_number_from x))
-    at false false k e h = same_known x y (tag_one the_type (search rules) (known_name_of x) (known_name_of y) e) (same_false the_type (known_name_of x) Other k)
-
--- a name of the number of a name that HTML knows is that
-pub same_number : (local : List ℕ) (name : QualName) → name_number name ≡ html_number local → html_number local < 256 → is_html_named local name ≡ true
-unfolding is_html_named name_number
-same_number local name = at (is_same_text name.ns html_namespace)
-  where
-    at : (a : Bool) → cond a (html_number name.local) (text_number name.local) ≡ html_number local → html_number local < 256 → (a && is_same_text name.local local) ≡ true
-    at true e h = same_html_number name.local local e h
-    at false e h = absurd (omega (arith, e, h, text_number_from name.local))
+use Rattle.h5_state.specs.Numbers.{name_number}
 
 -- a name more, and how many are `template`s
 pub one_more : (name : QualName) (older : List QualName) → open_templates (name ∷ older) ≡ from_bool (is_html_template name) + open_templates older
@@ -128,24 +89,129 @@ module _ {H : Type 0} (node : H → ℕ) (f : Forest) where
       let r = last_split xs x e in
       ap (λ (s : Summary). s.all) (kept_newest r.0 xs x r.1 k) ∙ ap (λ s. all_open (map (name_in f) s)) (sym (seen_pushed (open_node node) r.0 xs x r.1))
 
--- one more
-pub kept_pushed : {H : Type 0} (xs ys : List (OpenElement H)) (x : OpenElement H) (name : QualName) (old new : List QualName) → ys ≡ xs ++ x ∷ [] → x.summary ≡ summary_of name old → new ≡ name ∷ old
+-- a summary more
+pub summaries_pushed : {H : Type 0} (xs ys : List (OpenElement H)) (x : OpenElement H) (name : QualName) (old new : List QualName) → ys ≡ xs ++ x ∷ [] → x.summary ≡ summary_of name old → new ≡ name ∷ old
     → reverse (map (λ (element : OpenElement H). element.summary) xs) ≡ summaries old → reverse (map (λ (element : OpenElement H). element.summary) ys) ≡ summaries new
-kept_pushed {H} xs ys x name old new e s n k =
+summaries_pushed {H} xs ys x name old new e s n k =
     seen_pushed (λ (element : OpenElement H). element.summary) xs ys x e
     ∙ ap (λ a. a ∷ reverse (map (λ (element : OpenElement H). element.summary) xs)) s
     ∙ ap (λ z. summary_of name old ∷ z) k
     ∙ ap summaries (sym n)
+
+-- numbers of names, where there is one more, or one less, or so many of the oldest
+number_pushed : (N : NameNumbers) (ns : List ℕ) (k : ℕ) (name : QualName) (names : List QualName) → name_number N name ≡ Some k → map Some (reverse ns) ≡ map (name_number N) names
+    → map Some (reverse (ns ++ k ∷ [])) ≡ map (name_number N) (name ∷ names)
+number_pushed N ns k name names e h = ap (λ (z : List ℕ). map Some z) (reverse-append ns (k ∷ [])) ∙ ap (λ o. o ∷ map Some (reverse ns)) (sym e) ∙ ap (λ z. name_number N name ∷ z) h
+
+number_popped : (N : NameNumbers) (ns ms : List ℕ) (k : ℕ) (names : List QualName) → ns ≡ ms ++ k ∷ [] → map Some (reverse ns) ≡ map (name_number N) names → map Some (reverse ms) ≡ map (name_number N) (later_names names)
+number_popped N ns ms k names e h = at names (sym (ap (λ (z : List ℕ). map Some (reverse z)) e ∙ ap (λ (z : List ℕ). map Some z) (reverse-append ms (k ∷ []))) ∙ h)
+  where
+    at : (names : List QualName) → Some k ∷ map Some (reverse ms) ≡ map (name_number N) names → map Some (reverse ms) ≡ map (name_number N) (later_names names)
+    at [] e = absurd (cc)
+    at (n ∷ ns) e = cc
+
+number_cut : (N : NameNumbers) (ns : List ℕ) (count : ℕ) (newer older : List QualName) → length older ≡ length (take count ns) → map Some (reverse ns) ≡ map (name_number N) (newer ++ older)
+    → map Some (reverse (take count ns)) ≡ map (name_number N) older
+number_cut N ns count newer older e h =
+    let cut : map Some (reverse ns) ≡ map Some (reverse (drop count ns)) ++ map Some (reverse (take count ns)) =
+    ap (λ (z : List ℕ). map Some (reverse z)) (sym (take-append-drop count ns)) ∙ ap (λ (z : List ℕ). map Some z) (reverse-append (take count ns) (drop count ns)) ∙ map-append (λ (x : ℕ). Some x) (reverse (drop count ns)) (reverse (take count ns)) in
+    (same_tail (map Some (reverse (drop count ns))) (map Some (reverse (take count ns))) (map (name_number N) newer) (map (name_number N) older)
+    (sym cut ∙ h ∙ map-append (name_number N) newer older) (omega (arith, e, length-map older (name_number N), length-map (reverse (take count ns)) (λ (x : ℕ). Some x), length-reverse (take count ns)))).1
+
+numbers_grow : (N M : NameNumbers) (ms : List ℕ) (names : List QualName) → ((one : QualName) (m : ℕ) → name_number N one ≡ Some m → name_number M one ≡ Some m) → map Some ms ≡ map (name_number N) names
+    → map Some ms ≡ map (name_number M) names
+numbers_grow N M [] [] stay e = refl
+numbers_grow N M [] (n ∷ ns) stay e = absurd (cc)
+numbers_grow N M (m ∷ ms) [] stay e = absurd (cc)
+numbers_grow N M (m ∷ ms) (n ∷ ns) stay e =
+    let head : name_number N n ≡ Some m = cc in
+    let tail : map Some ms ≡ map (name_number N) ns = cc in
+    ap (λ o. o ∷ map Some ms) (sym (stay n m head)) ∙ ap (λ z. name_number M n ∷ z) (numbers_grow N M ms ns stay tail)
 
 -- one less
 kept_later : (s : Summary) (rest : List Summary) (names : List QualName) → s ∷ rest ≡ summaries names → rest ≡ summaries (later_names names)
 kept_later s rest [] e = absurd (cc)
 kept_later s rest (n ∷ ns) e = cc
 
-pub kept_popped : {H : Type 0} (node : H → ℕ) (choices : SinkChoices) (w : World) (old new : Seen) (ys xs : List (OpenElement H)) (x : OpenElement H) → ys ≡ xs ++ x ∷ [] → new ≡ after_pop choices (node x.handle) old
-    → reverse (map (λ (element : OpenElement H). element.summary) ys) ≡ summaries (names_of (seen_world w old (reverse (map (open_node node) ys))))
-    → reverse (map (λ (element : OpenElement H). element.summary) xs) ≡ summaries (names_of (seen_world w new (reverse (map (open_node node) xs))))
-kept_popped {H} node choices w old new ys xs x e h k =
-    let before = seen_world w old (reverse (map (open_node node) ys)) in
-    kept_later x.summary _ (names_of before) (sym (seen_pushed (λ (element : OpenElement H). element.summary) xs ys x e) ∙ k)
-    ∙ ap summaries (sym (ap names_of (popped_world (open_node node) choices w old new ys xs x e h) ∙ names-pop choices before))
+-- what is kept beside open elements and their numbers, where elements come or leave
+module _ {H : Type 0} where
+  abbrev summary_at : OpenElement H → Summary
+  summary_at element = element.summary
+
+  abbrev value_at : Numbered (OpenElement H) → OpenElement H
+  value_at one = one.value
+
+  abbrev number_at : Numbered (OpenElement H) → ℕ
+  number_at one = one.number
+
+  pub pushed_values : (old new : List (Numbered (OpenElement H))) (k : ℕ) (x : OpenElement H) → new ≡ old ++ one_of k x ∷ [] → values new ≡ values old ++ x ∷ []
+  pushed_values old new k x e = ap (λ (z : List (Numbered (OpenElement H))). values z) e ∙ map-append value_at old (one_of k x ∷ [])
+
+  pub kept_pushed : (old new : OpenElements H) (x : OpenElement H) (k : ℕ) (name : QualName) (all : List QualName) → new.elements ≡ old.elements ++ one_of k x ∷ [] → x.summary ≡ summary_of name all
+      → name_number new.numbers name ≡ Some k → ((one : QualName) (m : ℕ) → name_number old.numbers one ≡ Some m → name_number new.numbers one ≡ Some m) → IsKept old all → IsKept new (name ∷ all)
+  kept_pushed old new x k name all e s n stay h =
+      let whole = pushed_values old.elements new.elements k x e in
+      let more : numbers new.elements ≡ numbers old.elements ++ k ∷ [] = ap (λ (z : List (Numbered (OpenElement H))). numbers z) e ∙ map-append number_at old.elements (one_of k x ∷ []) in
+      record {
+        summarized = summaries_pushed (values old.elements) (values new.elements) x name all (name ∷ all) whole s refl h.summarized;
+        numbered = ap (λ (z : List ℕ). map Some (reverse z)) more ∙ number_pushed new.numbers (numbers old.elements) k name all n (numbers_grow old.numbers new.numbers (reverse (numbers old.elements)) all stay h.numbered);
+      }
+
+  pub kept_grown : (old new : OpenElements H) (all : List QualName) → new.elements ≡ old.elements → ((one : QualName) (m : ℕ) → name_number old.numbers one ≡ Some m → name_number new.numbers one ≡ Some m) → IsKept old all → IsKept new all
+  kept_grown old new all e stay h = record {
+    summarized = ap (λ (z : List (Numbered (OpenElement H))). reverse (map summary_at (values z))) e ∙ h.summarized;
+    numbered = ap (λ (z : List (Numbered (OpenElement H))). map Some (reverse (numbers z))) e ∙ numbers_grow old.numbers new.numbers (reverse (numbers old.elements)) all stay h.numbered;
+  }
+
+  pub kept_popped : (old new : OpenElements H) (x : OpenElement H) (k : ℕ) (all : List QualName) → values old.elements ≡ values new.elements ++ x ∷ [] → numbers old.elements ≡ numbers new.elements ++ k ∷ []
+      → new.numbers ≡ old.numbers → IsKept old all → IsKept new (later_names all)
+  kept_popped old new x k all e f n h = record {
+    summarized = kept_later x.summary (reverse (map summary_at (values new.elements))) all (sym (seen_pushed summary_at (values new.elements) (values old.elements) x e) ∙ h.summarized);
+    numbered = number_popped old.numbers (numbers old.elements) (numbers new.elements) k all f h.numbered ∙ ap (λ N. map (name_number N) (later_names all)) (sym n);
+  }
+
+  pub cut_values : (old new : List (Numbered (OpenElement H))) (count : ℕ) → new ≡ take count old → values new ≡ take count (values old)
+  cut_values old new count e = ap (λ (z : List (Numbered (OpenElement H))). values z) e ∙ sym (take-map value_at count old)
+
+  -- the numbers of the oldest, so many of them
+  module _ (node : H → ℕ) (f : Forest) (old : OpenElements H) (count : ℕ) (h : IsKept old (names node f (values old.elements))) where
+    numbered_under : map Some (reverse (take count (numbers old.elements))) ≡ map (name_number old.numbers) (names node f (take count (values old.elements)))
+    numbered_under =
+        let older = take count (values old.elements) in
+        let newer = drop count (values old.elements) in
+        let same : length (names node f older) ≡ length (take count (numbers old.elements)) =
+        omega (
+          arith,
+          length-map (reverse (map (open_node node) older)) (name_in f),
+          length-reverse (map (open_node node) older),
+          length-map older (open_node node),
+          ap (λ z. length z) (take-map value_at count old.elements),
+          ap (λ z. length z) (take-map number_at count old.elements),
+          length-map (take count old.elements) value_at,
+          length-map (take count old.elements) number_at,
+        ) in
+        let split : names node f (values old.elements) ≡ names node f newer ++ names node f older =
+        ap (map (name_in f)) (cut_in_two (open_node node) (values old.elements) count) ∙ map-append (name_in f) (reverse (map (open_node node) newer)) (reverse (map (open_node node) older)) in
+        number_cut old.numbers (numbers old.elements) count (names node f newer) (names node f older) same (h.numbered ∙ ap (map (name_number old.numbers)) split)
+
+    pub kept_cut : (new : OpenElements H) → new.elements ≡ take count old.elements → new.numbers ≡ old.numbers → IsKept new (names node f (values new.elements))
+    kept_cut new e n =
+        let older = take count (values old.elements) in
+        let all = cut_values old.elements new.elements count e in
+        let some : numbers new.elements ≡ take count (numbers old.elements) = ap (λ (z : List (Numbered (OpenElement H))). numbers z) e ∙ sym (take-map number_at count old.elements) in
+        subst (λ xs. IsKept new (names node f xs)) (sym all)
+        (record {
+          summarized = ap (λ xs. reverse (map summary_at xs)) all ∙ kept_under node f (values old.elements) count h.summarized;
+          numbered = ap (λ (z : List ℕ). map Some (reverse z)) some ∙ numbered_under ∙ ap (λ N. map (name_number N) (names node f older)) (sym n);
+        })
+
+  -- the number of one
+  pub number_of_place : (node : H → ℕ) (f : Forest) (old : OpenElements H) (place : ℕ) (name : QualName) (older : List QualName) → place < length (values old.elements) → names node f (take (place + 1) (values old.elements)) ≡ name ∷ older
+      → IsKept old (names node f (values old.elements)) → name_number old.numbers name ≡ Some (get_or (numbers old.elements) place 0)
+  number_of_place node f old place name older h e k =
+      let inside : place < length (numbers old.elements) = omega (arith, h, length-map old.elements value_at, length-map old.elements number_at) in
+      let more : reverse (take (place + 1) (numbers old.elements)) ≡ get_or (numbers old.elements) place 0 ∷ reverse (take place (numbers old.elements)) =
+      ap reverse (take_more (numbers old.elements) place 0 inside) ∙ reverse-append (take place (numbers old.elements)) (get_or (numbers old.elements) place 0 ∷ []) in
+      let first : Some (get_or (numbers old.elements) place 0) ∷ map Some (reverse (take place (numbers old.elements))) ≡ name_number old.numbers name ∷ map (name_number old.numbers) older =
+      sym (ap (λ (z : List ℕ). map Some z) more) ∙ numbered_under node f old (place + 1) k ∙ ap (map (name_number old.numbers)) e in
+      cc

@@ -1,14 +1,17 @@
 -- The walk over the open elements.
-use Rattle.std.proofs.Common.{ap, sym, subst, ◌∙◌, ◌≡◌, ◌+◌, ◌<◌, ℕ, suc, Bool, true, false, cond, take, List, [], ◌∷◌, ◌++◌, length, map, reverse, refl, arith}
-use Rattle.std.proofs.lemmas.List.{length-reverse, reverse-append, reverse-reverse, take-append-le, take-map, take_all}
+use Rattle.std.proofs.Common.{ap, sym, subst, ◌∙◌, ◌≡◌, ◌+◌, ◌<◌, ◌≤◌, ℕ, zero, suc, get_or, Bool, true, false, cond, take, List, [], ◌∷◌, ◌++◌, length, map, reverse, refl, arith}
+use Rattle.std.proofs.lemmas.List.{length-map, length-reverse, length-take, reverse-append, reverse-reverse, take-append-le, take-map, take_all}
 use Rattle.h5_names.specs.declared.qualified.QualName.{QualName}
 use Rattle.h5_interface.specs.Forest.{Forest}
+use Rattle.h5_interface.specs.Seen.{Seen}
 use Rattle.h5_rules.specs.stack.Order.{but_first}
 use Rattle.h5_rules.specs.stack.Scope.{cut_above, cut_through, in_scope}
 use Rattle.h5_rules.specs.insertion.Place.{from_foster_parent, is_foster_parent}
 use Rattle.h5_rules.specs.World.{name_in}
-use Rattle.h5_state.specs.View.{open_node, stack_under}
+use Rattle.h5_state.specs.View.{elements_of, names_under, open_node, stack_under}
 use Rattle.h5_state.specs.declared.state.State.{State}
+use Rattle.h5_state.proofs.AttributeLaws.{open_length}
+use Rattle.h5_state.proofs.StackLaws.{stack_step}
 
 -- the second list is what the first one ends with
 pub record Suffix (s t : List ℕ) : Type 0 where
@@ -50,18 +53,46 @@ above_is_suffix is (n ∷ ns) s =
       | false ↦ suffix_later s (cut_above is ns (but_first s)) (above_is_suffix is ns (but_first s))
     ]
 
-left_under : {H : Type 0} (node : H → ℕ) (state : State H) (s t : List ℕ) (count : ℕ) → s ≡ reverse (map (open_node node) state.open_elems.items) → Suffix s t → count ≡ length t → stack_under node state count ≡ t
+left_under : {H : Type 0} (node : H → ℕ) (state : State H) (s t : List ℕ) (count : ℕ) → s ≡ reverse (map (open_node node) (elements_of state)) → Suffix s t → count ≡ length t → stack_under node state count ≡ t
 unfolding stack_under
 left_under node state s t count e x c =
-    ap (λ k. reverse (map (open_node node) (take k state.open_elems.items))) c
-    ∙ suffix_under (open_node node) state.open_elems.items t (subst (λ z. Suffix z t) e x)
+    ap (λ k. reverse (map (open_node node) (take k (elements_of state)))) c
+    ∙ suffix_under (open_node node) (elements_of state) t (subst (λ z. Suffix z t) e x)
+
+-- the element at a place, its name, and what is older
+pub there : {X : Type 0} (xs : List X) (i : ℕ) → i < length xs → (x : X) × (x ≡ get_or xs i x)
+there [] i h = absurd (omega (arith, h))
+there (x ∷ xs) zero h = (x, refl)
+there (x ∷ xs) (suc i) h = there xs i (omega (arith, h))
+
+pub names_more : {S H : Type 0} (sees : S → Seen) (node : H → ℕ) (sink : S) (state : State H) (place : ℕ) → place < length (reverse (map (open_node node) (elements_of state)))
+    → (n : QualName) × (names_under sees node sink state (place + 1) ≡ n ∷ names_under sees node sink state place)
+unfolding names_under
+names_more sees node sink state place h =
+    let elements = elements_of state in
+    let inside : place < length elements = omega (arith, h, open_length (open_node node) elements) in
+    let x = there elements place inside in
+    (name_in (sees sink).forest (open_node node x.0), ap (map (name_in (sees sink).forest)) (stack_step (open_node node) elements place x.0 inside x.1))
+
+pub names_count : {S H : Type 0} (sees : S → Seen) (node : H → ℕ) (sink : S) (state : State H) (count : ℕ) → count ≤ length (reverse (map (open_node node) (elements_of state))) → length (names_under sees node sink state count) ≡ count
+unfolding names_under
+names_count sees node sink state count h =
+    let oldest = take count (elements_of state) in
+    omega (
+      arith,
+      h,
+      length-map (reverse (map (open_node node) oldest)) (name_in (sees sink).forest),
+      open_length (open_node node) oldest,
+      length-take count (elements_of state),
+      open_length (open_node node) (elements_of state),
+    )
 
 -- so many elements are left of a stack that is cut
-pub cut_under : {H : Type 0} (node : H → ℕ) (state : State H) (is : QualName → Bool) (ns : List QualName) (s : List ℕ) (count : ℕ) → s ≡ reverse (map (open_node node) state.open_elems.items)
+pub cut_under : {H : Type 0} (node : H → ℕ) (state : State H) (is : QualName → Bool) (ns : List QualName) (s : List ℕ) (count : ℕ) → s ≡ reverse (map (open_node node) (elements_of state))
     → count ≡ length (cut_through is ns s) → stack_under node state count ≡ cut_through is ns s
 cut_under node state is ns s count e c = left_under node state s (cut_through is ns s) count e (cut_is_suffix is ns s) c
 
-pub above_under : {H : Type 0} (node : H → ℕ) (state : State H) (is : QualName → Bool) (ns : List QualName) (s : List ℕ) (count : ℕ) → s ≡ reverse (map (open_node node) state.open_elems.items)
+pub above_under : {H : Type 0} (node : H → ℕ) (state : State H) (is : QualName → Bool) (ns : List QualName) (s : List ℕ) (count : ℕ) → s ≡ reverse (map (open_node node) (elements_of state))
     → count ≡ length (cut_above is ns s) → stack_under node state count ≡ cut_above is ns s
 above_under node state is ns s count e c = left_under node state s (cut_above is ns s) count e (above_is_suffix is ns s) c
 
@@ -77,13 +108,13 @@ from_is_cut f (n ∷ s) h =
       | false ↦ λ e. let later = from_is_cut f s e in (suffix_more n s (from_foster_parent f s) later.0, later.1)
     ]) h
 
-pub foster_under : {H : Type 0} (node : H → ℕ) (state : State H) (f : Forest) (s : List ℕ) (at : ℕ) → s ≡ reverse (map (open_node node) state.open_elems.items)
+pub foster_under : {H : Type 0} (node : H → ℕ) (state : State H) (f : Forest) (s : List ℕ) (at : ℕ) → s ≡ reverse (map (open_node node) (elements_of state))
     → in_scope is_foster_parent (λ n. false) (map (name_in f) s) ≡ true → at ≡ length (cut_through is_foster_parent (map (name_in f) s) s) → stack_under node state (at + 1) ≡ from_foster_parent f s
 unfolding stack_under
 foster_under node state f s at e h c =
     let from = from_is_cut f s h in
-    ap (λ k. reverse (map (open_node node) (take k state.open_elems.items))) (omega (arith, c, from.1))
-    ∙ suffix_under (open_node node) state.open_elems.items (from_foster_parent f s) (subst (λ z. Suffix z (from_foster_parent f s)) e from.0)
+    ap (λ k. reverse (map (open_node node) (take k (elements_of state)))) (omega (arith, c, from.1))
+    ∙ suffix_under (open_node node) (elements_of state) (from_foster_parent f s) (subst (λ z. Suffix z (from_foster_parent f s)) e from.0)
 
 pub cut_inside : (is : QualName → Bool) (ns : List QualName) (s : List ℕ) → length s ≡ length ns → in_scope is (λ n. false) ns ≡ true → length (cut_through is ns s) < length s
 cut_inside is [] s e h = absurd (cc)

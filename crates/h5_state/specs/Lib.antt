@@ -1,3 +1,5 @@
+pub mod Newest
+pub mod Numbers
 pub mod OpenPlaces
 pub mod Steps
 pub mod Summaries

@@ -5,8 +5,8 @@ use Rattle.h5_interface.specs.declared.sink.TreeSink.{Ghosts}
 use Rattle.h5_rules.specs.Rows.{Change, apply}
 use Rattle.h5_rules.specs.Sound.{Sound}
 use Rattle.h5_rules.specs.World.{World, names_of}
-use Rattle.h5_state.specs.Summaries.{summaries}
-use Rattle.h5_state.specs.View.{kept_of, world}
+use Rattle.h5_state.specs.Summaries.{IsKept}
+use Rattle.h5_state.specs.View.{world}
 use Rattle.h5_state.specs.declared.state.State.{State}
 
 -- the world that a sink and a state mean
@@ -20,7 +20,7 @@ errors_of law sink = (law.sees sink).errors
 -- what holds at every moment: of the world, and that what is kept beside the open elements is what their names say
 pub record IsSound {S H O : Type 0} (law : Ghosts S H O) (sink : S) (state : State H) : Type 0 where
   pub sound : Sound (world_of law sink state)
-  pub kept : kept_of state ≡ summaries (names_of (world_of law sink state))
+  pub kept : IsKept state.open_elems (names_of (world_of law sink state))
 
 -- and an element is open
 pub record IsOpen {S H O : Type 0} (law : Ghosts S H O) (sink : S) (state : State H) : Type 0 where

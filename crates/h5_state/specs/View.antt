@@ -7,6 +7,7 @@ use Rattle.h5_types.specs.declared.entry.FormatEntry.{FormatEntry}
 use Rattle.h5_types.specs.declared.entry.FormatEntry.TheVariants.{Element, Marker}
 use Rattle.h5_rules.specs.World.{World, name_in}
 use Rattle.h5_rules.specs.formatting.FormattingList.{Entry, ElementEntry, MarkerEntry}
+use Rattle.h5_stack.specs.Numbered.{values}
 use Rattle.h5_state.specs.declared.open_element.OpenElement.{OpenElement}
 use Rattle.h5_state.specs.declared.open_element.Summary.{Summary}
 use Rattle.h5_state.specs.declared.state.State.{State}
@@ -14,6 +15,10 @@ use Rattle.h5_state.specs.declared.state.State.{State}
 -- the node of an open element
 abbrev pub open_node : {H : Type 0} → (H → ℕ) → OpenElement H → ℕ
 open_node node element = node element.handle
+
+-- the open elements, the oldest first
+abbrev pub elements_of : {H : Type 0} → State H → List (OpenElement H)
+elements_of state = values state.open_elems.elements
 
 abbrev pub entry_of : {H : Type 0} → (H → ℕ) → FormatEntry H → Entry
 entry_of node (Element handle tag) = ElementEntry (node handle) (tag_text tag)
@@ -30,7 +35,7 @@ world sees node sink state = record {
   template_modes = reverse state.template_modes.items;
   pending = state.pending_table_text;
   quirks = state.quirks_mode;
-  stack = reverse (map (open_node node) state.open_elems.items);
+  stack = reverse (map (open_node node) (elements_of state));
   formatting = reverse (map (entry_of node) state.active_formatting.items);
   head = option_map node state.head_elem;
   form = option_map node state.form_elem;
@@ -43,19 +48,15 @@ world sees node sink state = record {
 -- the names of the oldest open elements, so many of them, the newest first
 unfoldable pub names_under : {S H : Type 0} → (S → Seen) → (H → ℕ) → S → State H → ℕ → List QualName
 names_under sees node sink state count =
-    map (name_in (sees sink).forest) (reverse (map (open_node node) (take count state.open_elems.items)))
+    map (name_in (sees sink).forest) (reverse (map (open_node node) (take count (elements_of state))))
 
 -- those elements
 unfoldable pub stack_under : {H : Type 0} → (H → ℕ) → State H → ℕ → List ℕ
-stack_under node state count = reverse (map (open_node node) (take count state.open_elems.items))
+stack_under node state count = reverse (map (open_node node) (take count (elements_of state)))
 
--- what is kept beside the open elements, the newest first
-abbrev pub kept_of : {H : Type 0} → State H → List Summary
-kept_of state = reverse (map (λ element. element.summary) state.open_elems.items)
-
--- of the oldest ones, so many of them
+-- what is kept beside the oldest ones, so many of them
 unfoldable pub kept_under : {H : Type 0} → State H → ℕ → List Summary
-kept_under state count = reverse (map (λ element. element.summary) (take count state.open_elems.items))
+kept_under state count = reverse (map (λ element. element.summary) (take count (elements_of state)))
 
 abbrev pub with_stack : List ℕ → World → World
 with_stack s w = record w { stack = s }

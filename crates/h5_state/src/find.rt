@@ -24,7 +24,7 @@ pub fn handle_at<'a, S: TreeSink>(
     ensures stack { stack_under S.node state.now (place + 1) ≡ S.node result.now ∷ stack_under S.node state.now place }
     ensures count { length (stack_under S.node state.now place) ≡ place }
 {
-    &state.open_elems[place].handle
+    &state.open_elems.elements.get(place).handle
 }
 
 /// Where an element is open, counted from the root; the walk begins at the current node.

@@ -14,27 +14,35 @@
 mod blanks;
 mod errors;
 mod find;
+mod name_numbers;
 mod name_test;
+mod newest;
 mod open_element;
 mod open_elems;
 mod pending_text;
+mod push;
 mod renew;
+mod scopes;
+mod set_test;
 mod state;
 mod steps;
 
 pub use blanks::{first_run, is_blank_text, set_frameset_ok_by_text};
 pub use errors::{tell_error, unexpected, unexpected_tag};
 pub use find::{find_open, handle_at, is_node_in_scope};
-pub use name_test::{FosterParent, Known, Local, NameTest, Nothing};
-pub use open_element::{AllOpen, FIRST_TEXT_NUMBER, OpenElement, Summary, html_number};
+pub use name_numbers::NameNumbers;
+pub use name_test::{FosterParent, Known, Local, NameTest, NewestTest, Nothing};
+pub use newest::{newest_among, newest_named, newest_scope_end};
+pub use open_element::{AllOpen, OpenElement, OpenElements, Summary};
 pub use open_elems::{
-    all_open, check_body_end, find_before_special, find_in_scope, find_named,
-    generate_implied_end_except, has_body_in_scope, has_body_second, has_open_template,
-    has_p_in_button_scope, in_scope_named, is_current, is_current_html, is_named, name_at, open_at,
-    open_count, open_templates, pop_until_named, pop_while, root_node, truncate,
+    all_open, check_body_end, find_named, generate_implied_end_except, has_body_in_scope,
+    has_body_second, has_open_template, has_p_in_button_scope, is_current, is_current_html,
+    name_at, open_at, open_count, open_templates, pop_until_named, pop_while, root_node, truncate,
 };
 pub use pending_text::PendingText;
+pub use push::push_open;
 pub use renew::{all_under, renew_from};
+pub use scopes::{find_before_special, find_in_scope, in_scope_named};
 pub use state::{State, Turn};
 pub use steps::{
     current_mode, current_node, has_form, has_srcdoc, is_fragment, is_frameset_ok, is_in_quirks,

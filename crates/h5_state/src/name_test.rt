@@ -1,20 +1,21 @@
 //! Questions about the names of elements.
-ghost use Rattle.std.specs.Prelude.{◌≡◌, Bool, false};
+ghost use Rattle.std.specs.Prelude.{◌≡◌, ◌<◌, ◌+◌, Bool, false, length};
 ghost use Rattle.h5_names.specs.declared.qualified.QualName.{QualName as NameText};
 ghost use Rattle.h5_names.specs.KnownNames.{name_text};
-ghost use Rattle.h5_interface.specs.Forest.{IsElement};
-ghost use Rattle.h5_tag_sets.specs.ElementSets.{holds_element};
-ghost use Rattle.h5_tag_sets.specs.TagSets.{is_html_named, is_implied};
+ghost use Rattle.h5_tag_sets.specs.TagSets.{is_html_named};
 ghost use Rattle.h5_rules.specs.insertion.Place.{is_foster_parent};
-ghost use Rattle.h5_rules.specs.stack.Scope.{is_implied_but};
-ghost use Rattle.h5_rules.specs.World.{name_in};
-ghost use Rattle.h5_state.specs.Summaries.{name_number};
+ghost use Rattle.h5_rules.specs.stack.Scope.{first_passes, is_implied_but};
+ghost use Rattle.h5_rules.specs.World.{names_of};
+ghost use Rattle.h5_state.specs.Newest.{newest_where};
+ghost use Rattle.h5_state.specs.Steps.{IsSound, world_of};
+ghost use Rattle.h5_state.specs.View.{names_under};
 
-use super::open_element::{OpenElement, html_number};
-use super::open_elems::is_named;
+use super::newest::{newest_among, newest_named};
+use super::open_elems::{is_named, name_at, open_at};
+use super::state::State;
 use h5_interface::TreeSink;
 use h5_names::{KnownName, LocalName, QualName};
-use h5_tag_sets::{ElementSet, cursory_implied_end, is_html_known, is_html_local};
+use h5_tag_sets::{cursory_implied_end, is_html_known, is_html_local};
 
 /// A question about the name of an element.
 pub trait NameTest {
@@ -25,16 +26,23 @@ pub trait NameTest {
     fn test(&self, name: &QualName) -> bool
         ensures { result ≡ holds self.now name.now };
 
-    /// Whether the name of an open element passes. The sink is asked for the name only where what is kept beside the
-    /// element doesn't tell.
-    fn test_open<S: TreeSink>(&self, sink: &S, element: &OpenElement<S::Handle>) -> bool
-        requires element { IsElement (S.sees sink.now).forest (S.node element.now.handle) }
-        requires number { element.now.summary.number ≡ name_number (name_in (S.sees sink.now).forest (S.node element.now.handle)) }
-        requires implied { element.now.summary.implied ≡ is_implied (name_in (S.sees sink.now).forest (S.node element.now.handle)) }
-        ensures { result ≡ holds self.now (name_in (S.sees sink.now).forest (S.node element.now.handle)) }
+    /// Whether the name of the open element at a place passes. The sink is asked for the name only where what is kept
+    /// beside the element doesn't tell.
+    fn test_open<S: TreeSink>(&self, sink: &S, state: &State<S::Handle>, place: usize) -> bool
+        requires place { place < length (world_of S.TreeSink sink.now state.now).stack }
+        requires sound { IsSound S.TreeSink sink.now state.now }
+        ensures { result ≡ first_passes (holds self.now) (names_under S.sees S.node sink.now state.now (place + 1)) }
     {
-        self.test(sink.elem_name(&element.handle))
+        self.test(name_at(sink, state, place))
     }
+}
+
+/// A question about names, of which it is known where the newest open element stands whose name passes.
+pub trait NewestTest: NameTest {
+    /// Where the newest open element whose name passes stands: one more than its place, 0 where none is open.
+    fn newest<S: TreeSink>(&self, sink: &S, state: &State<S::Handle>) -> usize
+        requires { IsSound S.TreeSink sink.now state.now }
+        ensures { result ≡ newest_where (Self.holds self.now) (names_of (world_of S.TreeSink sink.now state.now)) };
 }
 
 /// Whether this is the name of an HTML element of this known name.
@@ -49,6 +57,12 @@ impl NameTest for Known {
     }
 }
 
+impl NewestTest for Known {
+    fn newest<S: TreeSink>(&self, sink: &S, state: &State<S::Handle>) -> usize {
+        newest_named(sink, state, &LocalName::from_known(self.0))
+    }
+}
+
 /// Whether this is the name of an HTML element of this local name.
 #[derive(Clone, Copy)]
 pub struct Local<'a>(pub &'a LocalName);
@@ -60,27 +74,15 @@ impl NameTest for Local<'_> {
         is_html_local(name, self.0)
     }
 
-    // A number of the name is kept beside an open element.
-    fn test_open<S: TreeSink>(&self, sink: &S, element: &OpenElement<S::Handle>) -> bool {
-        is_named(sink, element, self.0, html_number(self.0))
+    // The number of its name is kept beside an open element.
+    fn test_open<S: TreeSink>(&self, sink: &S, state: &State<S::Handle>, place: usize) -> bool {
+        is_named(sink, state, place, self.0)
     }
 }
 
-impl NameTest for ElementSet {
-    ghost holds = { λ t name. holds_element t name };
-
-    #[inline(always)]
-    fn test(&self, name: &QualName) -> bool {
-        self.holds(name)
-    }
-
-    // Whether an end tag is implied is kept beside an open element.
-    #[inline(always)]
-    fn test_open<S: TreeSink>(&self, sink: &S, element: &OpenElement<S::Handle>) -> bool {
-        match self {
-            ElementSet::CursoryImpliedEnd => element.summary.implied,
-            set => set.holds(sink.elem_name(&element.handle)),
-        }
+impl NewestTest for Local<'_> {
+    fn newest<S: TreeSink>(&self, sink: &S, state: &State<S::Handle>) -> usize {
+        newest_named(sink, state, self.0)
     }
 }
 
@@ -95,8 +97,8 @@ impl NameTest for ImpliedBut<'_> {
         cursory_implied_end(name) && !is_html_local(name, self.0)
     }
 
-    fn test_open<S: TreeSink>(&self, sink: &S, element: &OpenElement<S::Handle>) -> bool {
-        element.summary.implied && !Local(self.0).test_open(sink, element)
+    fn test_open<S: TreeSink>(&self, sink: &S, state: &State<S::Handle>, place: usize) -> bool {
+        open_at(sink, state, place).summary.implied && !is_named(sink, state, place, self.0)
     }
 }
 
@@ -112,6 +114,12 @@ impl NameTest for FosterParent {
     }
 }
 
+impl NewestTest for FosterParent {
+    fn newest<S: TreeSink>(&self, sink: &S, state: &State<S::Handle>) -> usize {
+        newest_among(sink, state, &[KnownName::Template, KnownName::Table])
+    }
+}
+
 /// No name passes.
 #[derive(Clone, Copy)]
 pub struct Nothing;
@@ -121,5 +129,11 @@ impl NameTest for Nothing {
 
     fn test(&self, _name: &QualName) -> bool {
         false
+    }
+}
+
+impl NewestTest for Nothing {
+    fn newest<S: TreeSink>(&self, _sink: &S, _state: &State<S::Handle>) -> usize {
+        0
     }
 }

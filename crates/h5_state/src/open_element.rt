@@ -1,23 +1,36 @@
 //! An open element, and what is kept beside it: what is asked of all open elements is known then without a walk over
 //! them (HTML standard, section 13.2.4.2, "The stack of open elements").
-ghost use Rattle.std.specs.Prelude.{◌≡◌, ◌<◌, ◌∷◌, if◌then◌else◌, List, [], false, true};
+ghost use Rattle.std.specs.Prelude.{◌≡◌, ◌==◌, ◌&&◌, ◌<◌, ◌≤◌, ◌+◌, ◌^◌, ◌∷◌, if◌then◌else◌, List, [], false, length, true};
 ghost use Rattle.h5_names.specs.declared.qualified.QualName.{QualName as NameText};
-ghost use Rattle.h5_state.specs.Summaries.{all_open, html_number, name_number, summary_of, text_number};
+ghost use Rattle.h5_rules.specs.stack.Closing.{ends_item_search};
+ghost use Rattle.h5_state.specs.Summaries.{all_open, summary_of};
 
-use h5_names::{KnownName, LocalName, QualName};
+use super::name_numbers::NameNumbers;
+use h5_names::{KnownName, QualName};
+use h5_stack::NumberedStack;
 use h5_tag_sets::{NameSet, cursory_implied_end, default_scope, special_tag};
+use std::alloc::Global;
 
-/// What is known of some open elements, from the root up to one of them.
+/// What is known of some open elements, from the root up to one of them. Places are counted from the root: what stands
+/// here of a place is one more than it, and 0 where there is none.
 #[derive(Clone, Copy)]
 pub struct AllOpen {
     /// Whether one may not be open where the body ends.
     pub unclosed: bool,
-    /// How many are HTML `template`s.
-    pub templates: usize,
     /// Whether an HTML `body` is in scope.
     pub body_in_scope: bool,
     /// Whether an HTML `p` is in button scope.
     pub p_in_button_scope: bool,
+    /// How many are HTML `template`s.
+    pub templates: u32,
+    /// The newest special one.
+    pub special: u32,
+    /// The newest that ends the search for an item of a list.
+    pub item_end: u32,
+    /// The newest that ends a scope.
+    pub scope_end: u32,
+    /// The oldest HTML `option`.
+    pub oldest_option: u32,
 }
 
 impl AllOpen {
@@ -27,17 +40,22 @@ impl AllOpen {
     {
         AllOpen {
             unclosed: false,
-            templates: 0,
             body_in_scope: false,
             p_in_button_scope: false,
+            templates: 0,
+            special: 0,
+            item_end: 0,
+            scope_end: 0,
+            oldest_option: 0,
         }
     }
 
-    /// What is known with one more, the newest, of this name.
+    /// What is known with one more, the newest, of this name at this place.
     #[inline(always)]
-    pub fn with_newest(self, name: &QualName) -> AllOpen
-        requires { self.templates < usize.MAX }
-        ensures { (older : List NameText) → self ≡ all_open older → result ≡ all_open (name.now ∷ older) }
+    pub fn with_newest(self, name: &QualName, place: u32) -> AllOpen
+        requires few { place + 1 < 2 ^ 32 }
+        requires templates { self.templates ≤ place }
+        ensures { (older : List NameText) → self ≡ all_open older → place ≡ length older → result ≡ all_open (name.now ∷ older) }
     {
         let (html, local) = (name.ns.is_html(), &name.local);
         let (is_body, is_p) = (
@@ -48,9 +66,17 @@ impl AllOpen {
         let ends_button_scope = ends_scope | (html & NameSet::ButtonScope.holds(local));
         AllOpen {
             unclosed: !(html & NameSet::BodyEndOk.holds(local)) | self.unclosed,
-            templates: usize::from(html & local.is(KnownName::Template)) + self.templates,
             body_in_scope: still_in_scope(is_body, ends_scope, self.body_in_scope),
             p_in_button_scope: still_in_scope(is_p, ends_button_scope, self.p_in_button_scope),
+            templates: u32::from(html & local.is(KnownName::Template)) + self.templates,
+            special: newest(special_tag(name), place, self.special),
+            item_end: newest(ends_item_search(name), place, self.item_end),
+            scope_end: newest(ends_scope, place, self.scope_end),
+            oldest_option: oldest(
+                html & local.is(KnownName::Option),
+                place,
+                self.oldest_option,
+            ),
         }
     }
 }
@@ -58,8 +84,6 @@ impl AllOpen {
 /// What is kept beside an open element.
 #[derive(Clone, Copy)]
 pub struct Summary {
-    /// A number of its name: equal names have equal numbers.
-    pub number: u32,
     /// Whether it is special.
     pub special: bool,
     /// Whether its end tag is implied.
@@ -69,17 +93,17 @@ pub struct Summary {
 }
 
 impl Summary {
-    /// What is kept of an element of this name, where this is known of all older ones.
+    /// What is kept of an element of this name at this place, where this is known of all older ones.
     #[inline(always)]
-    pub fn new(name: &QualName, older: AllOpen) -> Summary
-        requires { older.templates < usize.MAX }
-        ensures { (names : List NameText) → older ≡ all_open names → result ≡ summary_of name.now names }
+    pub fn new(name: &QualName, older: AllOpen, place: u32) -> Summary
+        requires few { place + 1 < 2 ^ 32 }
+        requires templates { older.templates ≤ place }
+        ensures { (names : List NameText) → older ≡ all_open names → place ≡ length names → result ≡ summary_of name.now names }
     {
         Summary {
-            number: name_number(name),
             special: special_tag(name),
             implied: cursory_implied_end(name),
-            all: older.with_newest(name),
+            all: older.with_newest(name, place),
         }
     }
 }
@@ -91,6 +115,29 @@ pub struct OpenElement<Handle> {
     pub summary: Summary,
 }
 
+/// The stack of open elements, the root first: each stands there with the number of its name, and of each number the
+/// stack knows the newest element.
+#[derive(Drop)]
+pub struct OpenElements<Handle> {
+    pub elements: NumberedStack<OpenElement<Handle>>,
+    pub numbers: NameNumbers,
+}
+
+impl<Handle> OpenElements<Handle> {
+    ghost use Rattle.h5_state.specs.Summaries.{IsKept};
+
+    /// None is open.
+    pub fn new(alloc: Global) -> OpenElements<Handle>
+        ensures none { result.elements ≡ [] }
+        ensures kept { IsKept result [] }
+    {
+        OpenElements {
+            elements: NumberedStack::new(alloc),
+            numbers: NameNumbers::new(alloc),
+        }
+    }
+}
+
 // Whether something is in scope above an element, which is it or ends the scope, where it is in scope below or not.
 fn still_in_scope(is: bool, ends: bool, below: bool) -> bool
     ensures { result ≡ (if is then true else (if ends then false else below)) }
@@ -98,44 +145,30 @@ fn still_in_scope(is: bool, ends: bool, below: bool) -> bool
     is || !ends && below
 }
 
-/// From here on numbers are those of texts, and names may share one. Each below is the number of the HTML elements of one
-/// name that HTML knows.
-pub const FIRST_TEXT_NUMBER: u32 = 256;
-
-// A number of a text: its bytes are digits, of which as much is left as fits.
-#[cold]
-#[inline(never)]
-fn text_number(text: &str) -> u32
-    ensures { result ≡ text_number text.now }
+// The newest, counted with one more, which is one or not.
+fn newest(is: bool, place: u32, below: u32) -> u32
+    requires { place + 1 < 2 ^ 32 }
+    ensures { result ≡ (if is then place + 1 else below) }
 {
-    let mut number: u32 = 0;
-    for byte in text.as_bytes() {
-        number = number.wrapping_mul(31).wrapping_add(*byte as u32);
-    }
-    number / 2 + FIRST_TEXT_NUMBER
+    if is { place + 1 } else { below }
 }
 
-/// The number of an HTML element of this local name, without a look at a text that HTML knows.
-#[tactic(auto, unfolding(crate::specs::Summaries::html_number))]
-pub fn html_number(local: &LocalName) -> u32
-    ensures { result ≡ html_number local.now }
+// The oldest, counted with one more, which is one or not.
+fn oldest(is: bool, place: u32, below: u32) -> u32
+    requires { place + 1 < 2 ^ 32 }
+    ensures { result ≡ (if (below == 0) && is then place + 1 else below) }
 {
-    let known = local.known();
-    if known == KnownName::Other {
-        text_number(local.as_str())
-    } else {
-        known as u32
-    }
+    if below == 0 && is { place + 1 } else { below }
 }
 
-// A number of a name: equal names have equal numbers, and most others have others.
-#[tactic(auto, unfolding(crate::specs::Summaries::name_number, h5_tag_sets::specs::TagSets::html_namespace))]
-fn name_number(name: &QualName) -> u32
-    ensures { result ≡ name_number name.now }
+// Whether an element of this name ends the search for an item of a list: it is special, and no `address`, `div` or `p`.
+#[tactic(auto, unfolding(h5_rules::specs::stack::Closing::passed_names, h5_tag_sets::specs::TagSets::html_namespace))]
+fn ends_item_search(name: &QualName) -> bool
+    ensures { result ≡ ends_item_search name.now }
 {
-    if name.ns.is_html() {
-        html_number(&name.local)
-    } else {
-        text_number(name.local.as_str())
-    }
+    special_tag(name)
+        && !(name.ns.is_html()
+            && (name.local.is(KnownName::Address)
+                || name.local.is(KnownName::Div)
+                || name.local.is(KnownName::P)))
 }

@@ -1,8 +1,7 @@
 //! Questions about the stack of open elements (HTML standard, section 13.2.4.2, "The stack of open
 //! elements"), and what closes elements.
-ghost use Rattle.std.specs.Prelude.{◌≡◌, ◌<◌, ◌≤◌, ◌+◌, ◌∷◌, [], ℕ, Bool, true, false, length, codes, MatchOption, is_some};
+ghost use Rattle.std.specs.Prelude.{◌≡◌, ◌<◌, ◌≤◌, ◌+◌, ◌^◌, ◌∷◌, [], ℕ, Bool, List, Some, true, false, length, codes, MatchOption, is_some};
 ghost use Rattle.h5_names.specs.declared.qualified.QualName.{QualName as NameText};
-ghost use Rattle.h5_names.specs.KnownNames.{name_text};
 ghost use Rattle.h5_interface.specs.Forest.{IsElement};
 ghost use Rattle.h5_tag_sets.specs.TagSets.{is_default_scope, is_html_named, is_implied, is_special};
 ghost use Rattle.h5_rules.specs.Changes.{pop_while};
@@ -11,28 +10,31 @@ ghost use Rattle.h5_rules.specs.stack.Scope.{comes_before_special, cut_through, 
 ghost use Rattle.h5_rules.specs.Rows.{GenerateImpliedEndExcept, PopUntilNamed};
 ghost use Rattle.h5_rules.specs.World.{name_in, names_of, root};
 ghost use Rattle.h5_state.specs.Steps.{IsSound, Makes, TellsErrors, errors_of, world_of};
-ghost use Rattle.h5_state.specs.Summaries.{all_open, html_number, name_number, open_templates, summaries};
-ghost use Rattle.h5_state.specs.View.{kept_of, names_under, stack_under, with_stack};
+ghost use Rattle.h5_state.specs.Numbers.{name_number};
+ghost use Rattle.h5_state.specs.Summaries.{IsKept, all_open, open_templates};
+ghost use Rattle.h5_state.specs.View.{names_under, stack_under, with_stack};
 
 use super::errors::tell_error;
-use super::name_test::{ImpliedBut, Known, Local, NameTest};
-use super::open_element::{AllOpen, FIRST_TEXT_NUMBER, OpenElement, html_number};
+use super::name_test::{ImpliedBut, Local, NameTest};
+use super::newest::newest_named;
+use super::open_element::{AllOpen, OpenElement};
 use super::state::State;
 use super::steps::pop;
 use h5_interface::TreeSink;
 use h5_names::{KnownName, LocalName, QualName};
-use h5_tag_sets::{ElementSet, is_html_known, is_html_local};
+use h5_tag_sets::{is_html_known, is_html_local};
 
 /// How many elements are open.
 #[tactic(auto, unfolding(crate::specs::View::world, crate::specs::View::names_under, crate::specs::View::stack_under, h5_rules::specs::World::names_of))]
 pub fn open_count<S: TreeSink>(sink: &S, state: &State<S::Handle>) -> usize
     ensures count { result ≡ length (world_of S.TreeSink sink.now state.now).stack }
+    ensures few { result < 2 ^ 32 }
     ensures all { names_under S.sees S.node sink.now state.now result ≡ names_of (world_of S.TreeSink sink.now state.now) }
     ensures none { names_under S.sees S.node sink.now state.now 0 ≡ [] }
     ensures stack { stack_under S.node state.now result ≡ (world_of S.TreeSink sink.now state.now).stack }
     ensures bottom { stack_under S.node state.now 0 ≡ [] }
 {
-    state.open_elems.len()
+    state.open_elems.elements.len()
 }
 
 /// The open element at a place, counted from the root.
@@ -46,14 +48,13 @@ pub fn open_at<'a, S: TreeSink>(
     requires sound { IsSound S.TreeSink sink.now state.now }
     ensures element { IsElement (S.sees sink.now).forest (S.node result.now.handle) }
     ensures names { names_under S.sees S.node sink.now state.now (place + 1) ≡ name_in (S.sees sink.now).forest (S.node result.now.handle) ∷ names_under S.sees S.node sink.now state.now place }
-    ensures number { result.now.summary.number ≡ name_number (name_in (S.sees sink.now).forest (S.node result.now.handle)) }
     ensures special { result.now.summary.special ≡ is_special (name_in (S.sees sink.now).forest (S.node result.now.handle)) }
     ensures implied { result.now.summary.implied ≡ is_implied (name_in (S.sees sink.now).forest (S.node result.now.handle)) }
     ensures stack { but_first (stack_under S.node state.now (place + 1)) ≡ stack_under S.node state.now place }
     ensures here { stack_under S.node state.now (place + 1) ≡ S.node result.now.handle ∷ stack_under S.node state.now place }
     ensures count { length (stack_under S.node state.now place) ≡ place }
 {
-    &state.open_elems[place]
+    state.open_elems.elements.get(place)
 }
 
 /// The name of the open element at a place, counted from the root.
@@ -71,82 +72,34 @@ pub fn name_at<'a, S: TreeSink>(
     sink.elem_name(&open_at(sink, state, place).handle)
 }
 
-/// Whether an open element is an HTML element of this name. The sink is asked for its name only where others may have the
-/// same number.
+// The number of the name of the open element at a place.
+#[tactic(auto, unfolding(crate::specs::View::world))]
+fn number_at<S: TreeSink>(sink: &S, state: &State<S::Handle>, place: usize) -> u32
+    requires place { place < length (world_of S.TreeSink sink.now state.now).stack }
+    requires sound { IsSound S.TreeSink sink.now state.now }
+    ensures { (name : NameText) → (older : List NameText) → names_under S.sees S.node sink.now state.now (place + 1) ≡ name ∷ older → name_number state.now.open_elems.numbers name ≡ Some result }
+{
+    state.open_elems.elements.number_at(place)
+}
+
+/// Whether the open element at a place is an HTML element of this name. The sink is asked for its name only where HTML
+/// doesn't know this one.
 pub fn is_named<S: TreeSink>(
     sink: &S,
-    element: &OpenElement<S::Handle>,
+    state: &State<S::Handle>,
+    place: usize,
     local: &LocalName,
-    number: u32,
 ) -> bool
-    requires element { IsElement (S.sees sink.now).forest (S.node element.now.handle) }
-    requires own { element.now.summary.number ≡ name_number (name_in (S.sees sink.now).forest (S.node element.now.handle)) }
-    requires number { number ≡ html_number local.now }
-    ensures { result ≡ is_html_named local.now (name_in (S.sees sink.now).forest (S.node element.now.handle)) }
+    requires place { place < length (world_of S.TreeSink sink.now state.now).stack }
+    requires sound { IsSound S.TreeSink sink.now state.now }
+    ensures { result ≡ first_passes (is_html_named local.now) (names_under S.sees S.node sink.now state.now (place + 1)) }
 {
-    element.summary.number == number
-        && (number < FIRST_TEXT_NUMBER || is_html_local(sink.elem_name(&element.handle), local))
-}
-
-// The walk over the names of open elements, from the current node on: the place, counted from the root, of the first
-// element whose name passes, where it comes before, or is, the first that ends the scope.
-#[inline(always)]
-pub fn find_in_scope<S: TreeSink, Is: NameTest, Ends: NameTest>(
-    sink: &S,
-    state: &State<S::Handle>,
-    is: &Is,
-    ends: &Ends,
-) -> Option<usize>
-    requires { IsSound S.TreeSink sink.now state.now }
-    ensures found { is_some result ≡ in_scope (Is.holds is.now) (Ends.holds ends.now) (names_of (world_of S.TreeSink sink.now state.now)) }
-    ensures place { MatchOption result (Unit {0}) (λ place. place ≡ length (cut_through (Is.holds is.now) (names_of (world_of S.TreeSink sink.now state.now)) (world_of S.TreeSink sink.now state.now).stack)) }
-{
-    let mut place = open_count(sink, state);
-    'down: while place > 0 {
-        place -= 1;
-        let name = name_at(sink, state, place);
-        if is.test(name) {
-            return Some(place);
-        }
-        if ends.test(name) {
-            return None;
-        }
+    let known = local.known();
+    if known == KnownName::Other {
+        is_html_local(name_at(sink, state, place), local)
+    } else {
+        number_at(sink, state, place) == known as u32
     }
-    None
-}
-
-/// Whether an HTML element of this name is in scope.
-pub fn in_scope_named<S: TreeSink>(sink: &S, state: &State<S::Handle>, name: KnownName) -> bool
-    requires { IsSound S.TreeSink sink.now state.now }
-    ensures { result ≡ in_scope (is_html_named (name_text name)) is_default_scope (names_of (world_of S.TreeSink sink.now state.now)) }
-{
-    find_in_scope(sink, state, &Known(name), &ElementSet::DefaultScope).is_some()
-}
-
-/// Where the first HTML element of this name stands, from the current node on, if it comes before any special element:
-/// so many elements are older.
-pub fn find_before_special<S: TreeSink>(
-    sink: &S,
-    state: &State<S::Handle>,
-    local: &LocalName,
-) -> Option<usize>
-    requires { IsSound S.TreeSink sink.now state.now }
-    ensures found { is_some result ≡ comes_before_special local.now (names_of (world_of S.TreeSink sink.now state.now)) }
-    ensures place { MatchOption result (Unit {0}) (λ place. place ≡ length (cut_through (is_html_named local.now) (names_of (world_of S.TreeSink sink.now state.now)) (world_of S.TreeSink sink.now state.now).stack)) }
-{
-    let number = html_number(local);
-    let mut place = open_count(sink, state);
-    'down: while place > 0 {
-        place -= 1;
-        let element = open_at(sink, state, place);
-        if is_named(sink, element, local, number) {
-            return Some(place);
-        }
-        if element.summary.special {
-            return None;
-        }
-    }
-    None
 }
 
 /// Where the first HTML element of this name stands, from the current node on: so many elements are older, none where none
@@ -155,15 +108,7 @@ pub fn find_named<S: TreeSink>(sink: &S, state: &State<S::Handle>, local: &Local
     requires { IsSound S.TreeSink sink.now state.now }
     ensures { result ≡ length (cut_through (is_html_named local.now) (names_of (world_of S.TreeSink sink.now state.now)) (world_of S.TreeSink sink.now state.now).stack) }
 {
-    let number = html_number(local);
-    let mut place = open_count(sink, state);
-    'down: while place > 0 {
-        place -= 1;
-        if is_named(sink, open_at(sink, state, place), local, number) {
-            return place;
-        }
-    }
-    0
+    newest_named(sink, state, local).saturating_sub(1)
 }
 
 /// What is known of all open elements, from the newest of them alone.
@@ -171,9 +116,9 @@ pub fn find_named<S: TreeSink>(sink: &S, state: &State<S::Handle>, local: &Local
 pub fn all_open<S: TreeSink>(sink: &S, state: &State<S::Handle>) -> AllOpen
     requires { IsSound S.TreeSink sink.now state.now }
     ensures known { result ≡ all_open (names_of (world_of S.TreeSink sink.now state.now)) }
-    ensures few { result.templates < usize.MAX }
+    ensures few { result.templates ≤ length (world_of S.TreeSink sink.now state.now).stack }
 {
-    match state.open_elems.last() {
+    match state.open_elems.elements.last() {
         Some(newest) => newest.summary.all,
         None => AllOpen::none(),
     }
@@ -200,7 +145,7 @@ pub fn open_templates<S: TreeSink>(sink: &S, state: &State<S::Handle>) -> usize
     requires { IsSound S.TreeSink sink.now state.now }
     ensures { result ≡ open_templates (names_of (world_of S.TreeSink sink.now state.now)) }
 {
-    all_open(sink, state).templates
+    all_open(sink, state).templates as usize
 }
 
 /// Whether an HTML `template` is open.
@@ -237,7 +182,7 @@ pub fn check_body_end<S: TreeSink>(sink: &mut S, state: &State<S::Handle>)
 pub fn root_node<S: TreeSink>(sink: &S, state: &State<S::Handle>) -> S::Handle
     ensures { S.node result ≡ root (world_of S.TreeSink sink.now state.now) }
 {
-    match state.open_elems.first() {
+    match state.open_elems.elements.first() {
         Some(element) => sink.clone_handle(&element.handle),
         None => sink.get_document(),
     }
@@ -249,8 +194,11 @@ pub fn has_body_second<S: TreeSink>(sink: &S, state: &State<S::Handle>) -> bool
     requires { IsSound S.TreeSink sink.now state.now }
     ensures { result ≡ second_is (codes "body") (names_of (world_of S.TreeSink sink.now state.now)) }
 {
-    if state.open_elems.len() > 1 {
-        is_html_known(sink.elem_name(&state.open_elems[1].handle), KnownName::Body)
+    if state.open_elems.elements.len() > 1 {
+        is_html_known(
+            sink.elem_name(&state.open_elems.elements.get(1).handle),
+            KnownName::Body,
+        )
     } else {
         false
     }
@@ -266,7 +214,7 @@ pub fn is_current<S: TreeSink, Is: NameTest>(sink: &S, state: &State<S::Handle>,
     if count == 0 {
         return false;
     }
-    is.test_open(sink, open_at(sink, state, count - 1))
+    is.test_open(sink, state, count - 1)
 }
 
 /// Whether the current node is an HTML element of this name.
@@ -328,8 +276,8 @@ pub fn pop_until_named<S: TreeSink>(
 #[tactic(auto, unfolding(crate::specs::View::world, crate::specs::View::stack_under))]
 pub fn truncate<S: TreeSink>(sink: &S, state: &mut State<S::Handle>, count: usize)
     requires { IsSound S.TreeSink sink.now state.old }
-    ensures kept { kept_of state.new ≡ summaries (names_of (world_of S.TreeSink sink.now state.new)) }
+    ensures kept { IsKept state.new.open_elems (names_of (world_of S.TreeSink sink.now state.new)) }
     ensures world { world_of S.TreeSink sink.now state.new ≡ with_stack (stack_under S.node state.old count) (world_of S.TreeSink sink.now state.old) }
 {
-    state.open_elems.truncate(count);
+    state.open_elems.elements.truncate(count);
 }

@@ -1,11 +1,14 @@
 //! What is kept beside open elements is made anew, where the elements below them changed.
-ghost use Rattle.std.specs.Prelude.{◌≡◌, ◌<◌, ◌≤◌, ◌+◌, length};
+ghost use Rattle.std.specs.Prelude.{◌≡◌, ◌<◌, ◌≤◌, ◌+◌, ◌^◌, Some, length, map, reverse};
+ghost use Rattle.h5_stack.specs.Numbered.{numbers};
 ghost use Rattle.h5_rules.specs.Sound.{Sound};
+ghost use Rattle.h5_rules.specs.World.{names_of};
+ghost use Rattle.h5_state.specs.Numbers.{name_number};
 ghost use Rattle.h5_state.specs.Steps.{IsSound, world_of};
 ghost use Rattle.h5_state.specs.Summaries.{all_open, summaries};
 ghost use Rattle.h5_state.specs.View.{kept_under, names_under};
 
-use super::open_element::{AllOpen, Summary};
+use super::open_element::{AllOpen, OpenElement, Summary};
 use super::open_elems::open_count;
 use super::state::State;
 use h5_interface::TreeSink;
@@ -16,12 +19,12 @@ pub fn all_under<S: TreeSink>(sink: &S, state: &State<S::Handle>, count: usize) 
     requires count { count ≤ length (world_of S.TreeSink sink.now state.now).stack }
     requires kept { kept_under state.now count ≡ summaries (names_under S.sees S.node sink.now state.now count) }
     ensures known { result ≡ all_open (names_under S.sees S.node sink.now state.now count) }
-    ensures few { result.templates < usize.MAX }
+    ensures few { result.templates ≤ count }
 {
     if count == 0 {
         AllOpen::none()
     } else {
-        state.open_elems[count - 1].summary.all
+        state.open_elems.elements.get(count - 1).summary.all
     }
 }
 
@@ -29,20 +32,27 @@ pub fn all_under<S: TreeSink>(sink: &S, state: &State<S::Handle>, count: usize) 
 fn renew_at<S: TreeSink>(sink: &S, state: &mut State<S::Handle>, place: usize)
     requires sound { Sound (world_of S.TreeSink sink.now state.old) }
     requires place { place < length (world_of S.TreeSink sink.now state.old).stack }
+    requires few { place + 1 < 2 ^ 32 }
     requires kept { kept_under state.old place ≡ summaries (names_under S.sees S.node sink.now state.old place) }
     ensures world { world_of S.TreeSink sink.now state.new ≡ world_of S.TreeSink sink.now state.old }
     ensures kept { kept_under state.new (place + 1) ≡ summaries (names_under S.sees S.node sink.now state.new (place + 1)) }
+    ensures numbers { numbers state.new.open_elems.elements ≡ numbers state.old.open_elems.elements }
+    ensures same { state.new.open_elems.numbers ≡ state.old.open_elems.numbers }
 {
     let all = all_under(sink, state, place);
-    let summary = Summary::new(sink.elem_name(&state.open_elems[place].handle), all);
-    state.open_elems[place].summary = summary;
+    let handle = sink.clone_handle(&state.open_elems.elements.get(place).handle);
+    let summary = Summary::new(sink.elem_name(&handle), all, place as u32);
+    let element = OpenElement { handle, summary };
+    state.open_elems.elements.set(place, element);
 }
 
-/// The summaries of the open elements from a place on are made anew, where those of all older ones are right.
+/// The summaries of the open elements from a place on are made anew, where those of all older ones are right, and so are
+/// the numbers of all.
 pub fn renew_from<S: TreeSink>(sink: &S, state: &mut State<S::Handle>, first: usize)
     requires sound { Sound (world_of S.TreeSink sink.now state.old) }
     requires first { first ≤ length (world_of S.TreeSink sink.now state.old).stack }
     requires kept { kept_under state.old first ≡ summaries (names_under S.sees S.node sink.now state.old first) }
+    requires numbered { map Some (reverse (numbers state.old.open_elems.elements)) ≡ map (name_number state.old.open_elems.numbers) (names_of (world_of S.TreeSink sink.now state.old)) }
     ensures world { world_of S.TreeSink sink.now state.new ≡ world_of S.TreeSink sink.now state.old }
     ensures sound { IsSound S.TreeSink sink.now state.new }
 {

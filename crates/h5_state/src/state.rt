@@ -1,5 +1,5 @@
 //! The state of a tree builder.
-use super::open_element::OpenElement;
+use super::open_element::OpenElements;
 use super::pending_text::PendingText;
 use h5_interface::QuirksMode;
 use h5_types::{FormatEntry, InsertionMode, ProcessResult, TreeBuilderOpts};
@@ -20,7 +20,7 @@ pub struct State<Handle> {
     pub pending_table_text: PendingText,
     pub quirks_mode: QuirksMode,
     /// The stack of open elements, the root first.
-    pub open_elems: Vec<OpenElement<Handle>>,
+    pub open_elems: OpenElements<Handle>,
     pub active_formatting: Vec<FormatEntry<Handle>>,
     pub head_elem: Option<Handle>,
     pub form_elem: Option<Handle>,

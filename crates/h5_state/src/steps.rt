@@ -83,7 +83,7 @@ pub fn set_quirks_mode<S: TreeSink>(sink: &mut S, state: &mut State<S::Handle>, 
 pub fn current_node<S: TreeSink>(sink: &S, state: &State<S::Handle>) -> S::Handle
     ensures { S.node result ≡ current (world_of S.TreeSink sink.now state.now) }
 {
-    match state.open_elems.last() {
+    match state.open_elems.elements.last() {
         Some(element) => sink.clone_handle(&element.handle),
         None => sink.get_document(),
     }
@@ -95,7 +95,7 @@ pub fn pop<S: TreeSink>(sink: &mut S, state: &mut State<S::Handle>)
     requires { IsOpen S.TreeSink sink.old state.old }
     ensures { Makes S.TreeSink Pop sink.old state.old sink.new state.new }
 {
-    if let Some(element) = state.open_elems.pop() {
+    if let Some(element) = state.open_elems.elements.pop() {
         sink.pop(&element.handle);
     }
 }

@@ -1,13 +1,17 @@
-use Rattle.std.proofs.Common.{◌≡◌, map, reverse, subst, sym}
-use Rattle.h5_rules.specs.World.{name_in, names_of}
-use Rattle.h5_state.specs.Summaries.{summaries}
-use Rattle.h5_state.specs.View.{open_node, world}
-use Rattle.h5_state.proofs.SummaryLaws.{kept_under}
+use Rattle.std.proofs.Common.{ap, map, refl, reverse, sym, ◌∙◌, ◌≡◌}
+use Rattle.std.proofs.lemmas.List.{take-map}
+use Rattle.h5_stack.specs.Numbered.{values}
+use Rattle.h5_rules.specs.World.{names_of}
+use Rattle.h5_state.specs.View.{open_node, stack_under, with_stack, world}
+use Rattle.h5_state.proofs.SummaryLaws.{cut_values, kept_cut}
 use Rattle.h5_state.proofs.open_elems.truncate.Goals as goal
 
 pub returns-clause-kept : goal.returns-clause-kept
 unfolding world names_of
-returns-clause-kept g c =
-    let f = (g.S.TreeSink.sees c.args.sink.now).forest in
-    subst (λ xs. reverse (map (λ element. element.summary) xs) ≡ summaries (map (name_in f) (reverse (map (open_node g.S.TreeSink.node) xs)))) (sym c.truncate.ensures.items)
-    (kept_under g.S.TreeSink.node f c.args.state.now.open_elems.items c.args.count c.requires.kept)
+returns-clause-kept g c = kept_cut g.S.TreeSink.node (g.S.TreeSink.sees c.args.sink.now).forest c.args.state.now.open_elems c.args.count c.requires.kept _ c.truncate.ensures refl
+
+pub returns-clause-world : goal.returns-clause-world
+unfolding world stack_under
+returns-clause-world g c =
+    let w = world g.S.TreeSink.sees g.S.TreeSink.node c.args.sink.now c.args.state.now in
+    ap (λ xs. with_stack (reverse (map (open_node g.S.TreeSink.node) xs)) w) (cut_values c.args.state.now.open_elems.elements c.truncate.new.self c.args.count c.truncate.ensures)

@@ -1,9 +1,10 @@
-use Rattle.std.proofs.Common.{ap, arith, length, map, reverse, subst, sym, ◌<◌, ◌≤◌, ◌∙◌, ◌≡◌}
+use Rattle.std.proofs.Common.{List, Some, ap, arith, length, map, reverse, subst, sym, ◌<◌, ◌≤◌, ◌∙◌, ◌≡◌, ℕ}
 use Rattle.std.proofs.lemmas.List.{take_all}
 use Rattle.h5_rules.specs.Sound.{Sound}
 use Rattle.h5_rules.specs.World.{World, name_in, names_of}
+use Rattle.h5_state.specs.Numbers.{name_number}
 use Rattle.h5_state.specs.Summaries.{summaries}
-use Rattle.h5_state.specs.View.{names_under, open_node, world}
+use Rattle.h5_state.specs.View.{elements_of, names_under, open_node, world}
 use Rattle.h5_state.proofs.AttributeLaws.{open_length}
 use Rattle.h5_state.specs.View.{kept_under}
 use Rattle.h5_state.proofs.renew.renew_from.Goals as goal
@@ -20,6 +21,8 @@ up-preserved g c = record {
   place = omega (arith, c.up-test.true);
   world = c.renew_at.ensures.world ∙ c.up.invariant.world;
   kept = c.renew_at.ensures.kept;
+  numbers = c.renew_at.ensures.numbers ∙ c.up.invariant.numbers;
+  same = c.renew_at.ensures.same ∙ c.up.invariant.same;
 }
 
 pub returns-clause-sound : goal.returns-clause-sound
@@ -27,9 +30,14 @@ unfolding world names_of names_under kept_under
 returns-clause-sound g c =
     let node = g.S.TreeSink.node in
     let f = (g.S.TreeSink.sees c.args.sink.now).forest in
-    let items = c.up.state.open_elems.items in
+    let items = elements_of c.up.state in
+    let first = world g.S.TreeSink.sees node c.args.sink.now c.args.state.now in
     let count : length items ≤ c.up.place = omega (arith, c.up-test.false, c.up.invariant.count, ap (λ (w : World). length w.stack) c.up.invariant.world, open_length (open_node node) items) in
     record {
       sound = subst Sound (sym c.up.invariant.world) c.requires.sound;
-      kept = subst (λ xs. reverse (map (λ element. element.summary) xs) ≡ summaries (map (name_in f) (reverse (map (open_node node) xs)))) (take_all c.up.place items count) c.up.invariant.kept;
+      kept = record {
+        summarized = subst (λ xs. reverse (map (λ element. element.summary) xs) ≡ summaries (map (name_in f) (reverse (map (open_node node) xs)))) (take_all c.up.place items count) c.up.invariant.kept;
+        numbered = ap (λ (z : List ℕ). map Some (reverse z)) c.up.invariant.numbers ∙ c.requires.numbered
+            ∙ ap (λ N. map (name_number N) (names_of first)) (sym c.up.invariant.same) ∙ ap (λ (v : World). map (name_number c.up.state.open_elems.numbers) (names_of v)) (sym c.up.invariant.world);
+      };
     }

@@ -1,4 +1,5 @@
 use Rattle.std.proofs.Common.{◌≡◌, ◌-◌, ◌≤◌, length}
+use Rattle.h5_stack.specs.Numbered.{numbers}
 use Rattle.h5_state.specs.Summaries.{summaries}
 use Rattle.h5_state.specs.View.{names_under, world}
 use Rattle.h5_state.specs.View.{kept_under}
@@ -13,6 +14,8 @@ invariant-up g l =
       place : l.place ≤ l.count;
       world : world g.S.TreeSink.sees g.S.TreeSink.node l.sink l.state ≡ first;
       kept : kept_under l.state l.place ≡ summaries (names_under g.S.TreeSink.sees g.S.TreeSink.node l.sink l.state l.place);
+      numbers : numbers l.state.open_elems.elements ≡ numbers l.fn.state.open_elems.elements;
+      same : l.state.open_elems.numbers ≡ l.fn.state.open_elems.numbers;
     }
 
 abbrev pub decreases-up : goal.decreases-up

@@ -1,7 +1,11 @@
-use Rattle.std.proofs.Common.{sym, subst, reverse, map, ap}
+use Rattle.std.proofs.Common.{ap, map, refl, reverse, subst, sym, ◌∙◌}
 use Rattle.h5_interface.specs.Seen.{Seen}
 use Rattle.h5_rules.specs.Sound.{AllStand}
-use Rattle.h5_state.specs.View.{open_node, world}
+use Rattle.h5_rules.specs.World.{names_of}
+use Rattle.h5_rules.proofs.changes.PopLaws.{names-pop}
+use Rattle.h5_stack.specs.Numbered.{values}
+use Rattle.h5_state.specs.Summaries.{IsKept}
+use Rattle.h5_state.specs.View.{elements_of, open_node, world}
 use Rattle.h5_state.proofs.StackLaws.{all_popped, popped_world}
 use Rattle.h5_state.proofs.SummaryLaws.{kept_popped}
 use Rattle.h5_state.proofs.steps.pop.Goals as goal
@@ -10,15 +14,20 @@ pub returns-in-Some : goal.returns-in-Some
 unfolding world
 returns-in-Some g c =
     let node = open_node g.S.TreeSink.node in
+    let choices = g.S.TreeSink.choices in
     let seen = g.S.TreeSink.sees c.args.sink.now in
     let w = world g.S.TreeSink.sees g.S.TreeSink.node c.args.sink.now c.args.state.now in
-    let items = c.args.state.now.open_elems.items in
+    let items = elements_of c.args.state.now in
+    let left = values c.pop.new.self in
+    let more = c.in-Some.ensures.value in
+    let made = popped_world node choices w seen _ items left c.in-Some.element more c.pop-in-Some.ensures in
     record {
-      world = popped_world node g.S.TreeSink.choices w seen _ items c.pop.new.self.items c.in-Some.element c.in-Some.ensures.items c.pop-in-Some.ensures;
+      world = made;
       quiet = ap (λ (s : Seen). s.errors) c.pop-in-Some.ensures;
       sound = record {
-        sound = subst (λ (s : Seen). AllStand s.forest (reverse (map node c.pop.new.self.items)) w.formatting w.head w.form w.context) (sym c.pop-in-Some.ensures)
-            (all_popped node c.pop.new.self.items items c.in-Some.element _ _ c.in-Some.ensures.items c.requires.sound.sound);
-        kept = kept_popped g.S.TreeSink.node g.S.TreeSink.choices w seen _ items c.pop.new.self.items c.in-Some.element c.in-Some.ensures.items c.pop-in-Some.ensures c.requires.sound.kept;
+        sound = subst (λ (s : Seen). AllStand s.forest (reverse (map node left)) w.formatting w.head w.form w.context) (sym c.pop-in-Some.ensures)
+            (all_popped node left items c.in-Some.element _ _ more c.requires.sound.sound);
+        kept = subst (IsKept _) (sym (ap names_of made ∙ names-pop choices w))
+            (kept_popped c.args.state.now.open_elems _ c.in-Some.element _ (names_of w) more (c.in-Some.ensures.numbers refl) refl c.requires.sound.kept);
       };
     }

@@ -5,18 +5,26 @@ use Rattle.h5_state.proofs.open_element.AllOpen.with_newest.Goals as goal
 
 pub returns : goal.returns
 unfolding is_html_named is_body_end_ok is_button_scope html_namespace
-returns c = λ older e.
+returns c = λ older e h.
     rw (
       c.still_in_scope.ensures,
       c.still_in_scope-2.ensures,
       c.from.ensures,
+      c.newest.ensures,
+      c.newest-2.ensures,
+      c.newest-3.ensures,
+      c.oldest.ensures,
+      c.special_tag.ensures,
+      c.ends_item_search.ensures,
       c.is.ensures,
       c.is-2.ensures,
       c.is-3.ensures,
+      c.is-4.ensures,
       c.default_scope-ends_scope.ensures,
       c.holds.ensures,
       c.holds-2.ensures,
       c.is_html-html.ensures,
       e,
+      h,
       one_more c.args.name.now older,
     ) refl

@@ -1,0 +1,14 @@
+use Rattle.std.proofs.Common.{Bool, [], ap, codes, false, length, refl, sym, true, ◌&&◌, ◌||◌, ◌∙◌, ◌∷◌, ◌≡◌}
+use Rattle.h5_names.specs.AttributeText.{is_same_text}
+use Rattle.h5_tag_sets.specs.TagSets.{html_namespace, is_html_named}
+use Rattle.h5_rules.specs.World.{names_of}
+use Rattle.h5_rules.specs.insertion.Place.{is_foster_parent}
+use Rattle.h5_rules.specs.stack.Closing.{is_html_among}
+use Rattle.h5_state.specs.View.{world}
+use Rattle.h5_state.proofs.NewestLaws.{among_two, newest_same}
+use Rattle.h5_state.proofs.name_test.FosterParentNewestTest.newest.Goals as goal
+
+pub returns : goal.returns
+returns g c =
+    let all = names_of (world g.S.TreeSink.sees g.S.TreeSink.node c.args.sink.now c.args.state.now) in
+    c.newest_among.ensures ∙ newest_same (is_html_among (codes "template" ∷ codes "table" ∷ [])) is_foster_parent (among_two (codes "template") (codes "table")) all

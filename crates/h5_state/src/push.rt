@@ -1,0 +1,32 @@
+//! An element becomes the current node.
+ghost use Rattle.std.specs.Prelude.{◌∷◌};
+ghost use Rattle.h5_rules.specs.Sound.{AllStand};
+ghost use Rattle.h5_state.specs.Steps.{BecomesIfOk, IsSound, world_of};
+
+use super::open_element::{OpenElement, Summary};
+use super::open_elems::all_open;
+use super::state::State;
+use h5_interface::TreeSink;
+use std::alloc::AllocError;
+
+/// An element becomes the current node, with what is kept beside it. It is refused where memory is.
+#[tactic(auto, unfolding(crate::specs::View::world))]
+pub fn push_open<S: TreeSink>(
+    sink: &S,
+    state: &mut State<S::Handle>,
+    handle: S::Handle,
+) -> Result<(), AllocError>
+    requires sound { IsSound S.TreeSink sink.now state.old }
+    requires stands { AllStand (world_of S.TreeSink sink.now state.old).forest (S.node handle ∷ (world_of S.TreeSink sink.now state.old).stack) (world_of S.TreeSink sink.now state.old).formatting
+        (world_of S.TreeSink sink.now state.old).head (world_of S.TreeSink sink.now state.old).form (world_of S.TreeSink sink.now state.old).context }
+    ensures { BecomesIfOk S.TreeSink (λ w. record w { stack = S.node handle ∷ w.stack }) sink.now state.old sink.now state.new result }
+{
+    let all = all_open(sink, state);
+    let place = state.open_elems.elements.next_place()?;
+    let name = sink.elem_name(&handle);
+    let number = state.open_elems.numbers.number(name)?;
+    let summary = Summary::new(name, all, place);
+    let element = OpenElement { handle, summary };
+    state.open_elems.elements.push(number, element)?;
+    Ok(())
+}
