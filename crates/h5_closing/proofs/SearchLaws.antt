@@ -9,7 +9,7 @@ use Rattle.h5_rules.specs.stack.Order.{but_first}
 use Rattle.h5_rules.specs.insertion.Foreign.{is_named_in_any_case}
 use Rattle.h5_rules.specs.modes.ForeignContent.{Finds, ReachesHtml, ReachesRoot, search_end}
 use Rattle.h5_rules.specs.World.{name_in}
-use Rattle.h5_state.specs.View.{names_under, open_node, stack_under}
+use Rattle.h5_state.specs.View.{elements_of, names_under, open_node, stack_under}
 use Rattle.h5_state.specs.declared.open_element.OpenElement.{OpenElement}
 use Rattle.h5_state.specs.declared.state.State.{State}
 
@@ -36,7 +36,7 @@ module _ (local : List ℕ) where
   -- the root
   pub search_root : {S H : Type 0} (sees : S → Seen) (node : H → ℕ) (sink : S) (state : State H) (count : ℕ) → count ≤ 1 → search_end local (names_under sees node sink state count) ≡ ReachesRoot
   unfolding names_under
-  search_root {S} {H} sees node sink state count h = at state.open_elems.items count h
+  search_root {S} {H} sees node sink state count h = at (elements_of state) count h
     where
       at : (items : List (OpenElement H)) (k : ℕ) → k ≤ 1 → search_end local (map (name_in (sees sink).forest) (reverse (map (open_node node) (take k items)))) ≡ ReachesRoot
       at items zero j = refl
@@ -47,7 +47,7 @@ module _ (local : List ℕ) where
 -- as many names as elements
 pub names_under_length : {S H : Type 0} (sees : S → Seen) (node : H → ℕ) (sink : S) (state : State H) (count : ℕ) → length (names_under sees node sink state count) ≡ length (stack_under node state count)
 unfolding names_under stack_under
-names_under_length sees node sink state count = length-map (reverse (map (open_node node) (take count state.open_elems.items))) (name_in (sees sink).forest)
+names_under_length sees node sink state count = length-map (reverse (map (open_node node) (take count (elements_of state)))) (name_in (sees sink).forest)
 
 -- one step of the walk, down to a place
 module _ {S H : Type 0} (sees : S → Seen) (node : H → ℕ) (sink : S) (state : State H) (local : List ℕ) (place : ℕ) (n : QualName)

@@ -20,7 +20,7 @@ use std::alloc::AllocError;
 pub fn is_root_alone<S: TreeSink>(sink: &S, state: &State<S::Handle>) -> bool
     ensures { result ≡ is_root_alone (names_of (world_of S.TreeSink sink.now state.now)) }
 {
-    state.open_elems.len() == 1
+    state.open_elems.elements.len() == 1
 }
 
 /// Whether the element below the current node is a `frameset`.
@@ -29,9 +29,9 @@ pub fn is_below_frameset<S: TreeSink>(sink: &S, state: &State<S::Handle>) -> boo
     requires { IsSound S.TreeSink sink.now state.now }
     ensures { result ≡ is_in_frameset (names_of (world_of S.TreeSink sink.now state.now)) }
 {
-    let count = state.open_elems.len();
+    let count = state.open_elems.elements.len();
     if count > 1 {
-        let below = &state.open_elems[count - 2];
+        let below = state.open_elems.elements.get(count - 2);
         is_html_known(sink.elem_name(&below.handle), KnownName::Frameset)
     } else {
         false
@@ -46,8 +46,8 @@ fn detach_body<S: TreeSink>(sink: &mut S, state: &State<S::Handle>) -> Result<()
     ensures quiet { errors_of S.TreeSink sink.new ≡ errors_of S.TreeSink sink.old }
     ensures sound { IsSound S.TreeSink sink.new state.now }
 {
-    if state.open_elems.len() > 1 {
-        sink.remove_from_parent(&state.open_elems[1].handle)
+    if state.open_elems.elements.len() > 1 {
+        sink.remove_from_parent(&state.open_elems.elements.get(1).handle)
     } else {
         Ok(())
     }

@@ -1,28 +1,14 @@
 //! The `option` that is copied where it was closed (HTML standard, section 13.2.6.4.7, an end tag "option").
-ghost use Rattle.std.specs.Prelude.{◌≡◌, MatchOption, codes};
+ghost use Rattle.std.specs.Prelude.{◌≡◌, MatchOption};
 ghost use Rattle.std.specs.Option.{option_map};
 ghost use Rattle.h5_interface.specs.Forest.{IsElement};
-ghost use Rattle.h5_tag_sets.specs.TagSets.{is_html_named};
 ghost use Rattle.h5_rules.specs.modes.InBody.{oldest_option};
 ghost use Rattle.h5_rules.specs.Rows.{CopyClosedOption};
-ghost use Rattle.h5_rules.specs.World.{name_in};
 ghost use Rattle.h5_state.specs.Steps.{IsSound, MakesIfOk, world_of};
-ghost use Rattle.h5_state.specs.Summaries.{name_number};
 
 use h5_interface::TreeSink;
-use h5_names::{KnownName, LocalName};
-use h5_state::{OpenElement, State, find_open, html_number, is_named, open_at, open_count};
+use h5_state::{State, all_open, find_open, open_at};
 use std::alloc::AllocError;
-
-// Whether an open element is an HTML `option`.
-fn is_option<S: TreeSink>(sink: &S, element: &OpenElement<S::Handle>) -> bool
-    requires element { IsElement (S.sees sink.now).forest (S.node element.now.handle) }
-    requires own { element.now.summary.number ≡ name_number (name_in (S.sees sink.now).forest (S.node element.now.handle)) }
-    ensures { result ≡ is_html_named (codes "option") (name_in (S.sees sink.now).forest (S.node element.now.handle)) }
-{
-    let name = LocalName::from_known(KnownName::Option);
-    is_named(sink, element, &name, html_number(&name))
-}
 
 /// A handle of the open HTML `option` that is the nearest to the root, if one is open.
 pub fn oldest_option<S: TreeSink>(sink: &S, state: &State<S::Handle>) -> Option<S::Handle>
@@ -30,16 +16,11 @@ pub fn oldest_option<S: TreeSink>(sink: &S, state: &State<S::Handle>) -> Option<
     ensures oldest { option_map S.node result ≡ oldest_option (world_of S.TreeSink sink.now state.now) }
     ensures element { MatchOption result (Unit {0}) (λ handle. IsElement (S.sees sink.now).forest (S.node handle)) }
 {
-    let count = open_count(sink, state);
-    let mut place = 0;
-    'up: while place < count {
-        let element = open_at(sink, state, place);
-        if is_option(sink, element) {
-            return Some(sink.clone_handle(&element.handle));
-        }
-        place += 1;
+    let place = all_open(sink, state).oldest_option as usize;
+    if place == 0 {
+        return None;
     }
-    None
+    Some(sink.clone_handle(&open_at(sink, state, place - 1).handle))
 }
 
 /// An option is copied into `selectedcontent` elements, where it isn't open any more. An Err leaves all.

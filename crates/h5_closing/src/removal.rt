@@ -21,7 +21,7 @@ fn take_out<S: TreeSink>(sink: &S, state: &mut State<S::Handle>, handle: &S::Han
 {
     match find_open(sink, state, handle) {
         Some(place) => {
-            let _ = state.open_elems.remove(place);
+            let _ = state.open_elems.elements.remove(place);
             renew_from(sink, state, place);
             true
         }

@@ -8,12 +8,12 @@ ghost use Rattle.h5_rules.specs.World.{names_of};
 ghost use Rattle.h5_state.specs.Steps.{IsSound, Makes, world_of};
 
 use h5_interface::TreeSink;
-use h5_state::{NameTest, State, find_in_scope, is_current, name_at, open_count, truncate};
-use h5_tag_sets::{ElementSet, td_th};
+use h5_state::{NewestTest, State, find_in_scope, is_current, truncate};
+use h5_tag_sets::ElementSet;
 
 /// Where the first element whose name passes stands, from the current node on, if it is in table scope: so many elements
 /// are older.
-pub fn find_in_table_scope<S: TreeSink, Is: NameTest>(
+pub fn find_in_table_scope<S: TreeSink, Is: NewestTest>(
     sink: &S,
     state: &State<S::Handle>,
     is: &Is,
@@ -35,24 +35,21 @@ pub fn is_current_table_outer<S: TreeSink>(sink: &S, state: &State<S::Handle>) -
 
 // How many elements stay open where the stack is cut above the first whose name passes, from the current node on.
 #[inline(always)]
-fn count_down_to<S: TreeSink, Is: NameTest>(sink: &S, state: &State<S::Handle>, is: &Is) -> usize
+fn count_down_to<S: TreeSink, Is: NewestTest>(sink: &S, state: &State<S::Handle>, is: &Is) -> usize
     requires { IsSound S.TreeSink sink.now state.now }
     ensures { result ≡ length (cut_above (Is.holds is.now) (names_of (world_of S.TreeSink sink.now state.now)) (world_of S.TreeSink sink.now state.now).stack) }
 {
-    let mut count = open_count(sink, state);
-    'down: while count > 0 {
-        if is.test(name_at(sink, state, count - 1)) {
-            return count;
-        }
-        count -= 1;
-    }
-    0
+    is.newest(sink, state)
 }
 
 /// Clears the stack back to a context: takes elements off it until the name of the current node passes, or none is open.
 /// The sink isn't told.
 #[inline(always)]
-pub fn pop_until_current<S: TreeSink, Is: NameTest>(sink: &S, state: &mut State<S::Handle>, is: &Is)
+pub fn pop_until_current<S: TreeSink, Is: NewestTest>(
+    sink: &S,
+    state: &mut State<S::Handle>,
+    is: &Is,
+)
     requires { IsSound S.TreeSink sink.now state.old }
     ensures { Makes S.TreeSink (PopUntilCurrent (Is.holds is.now)) sink.now state.old sink.now state.new }
 {
@@ -82,12 +79,5 @@ pub fn find_cell<S: TreeSink>(sink: &S, state: &State<S::Handle>) -> usize
     requires { IsSound S.TreeSink sink.now state.now }
     ensures { result ≡ length (cut_through is_cell (names_of (world_of S.TreeSink sink.now state.now)) (world_of S.TreeSink sink.now state.now).stack) }
 {
-    let mut place = open_count(sink, state);
-    'down: while place > 0 {
-        place -= 1;
-        if td_th(name_at(sink, state, place)) {
-            return place;
-        }
-    }
-    0
+    ElementSet::TdTh.newest(sink, state).saturating_sub(1)
 }

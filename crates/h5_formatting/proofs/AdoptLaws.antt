@@ -16,7 +16,7 @@ use Rattle.h5_rules.specs.World.{World, root}
 use Rattle.h5_rules.proofs.adoption.AdoptionPlace.{may_adopt_kept, older_some}
 use Rattle.h5_rules.proofs.adoption.AdoptionRound.{adopt_ready, nest_all, root_kept}
 use Rattle.h5_state.specs.Steps.{world_of}
-use Rattle.h5_state.specs.View.{open_node, stack_under, world}
+use Rattle.h5_state.specs.View.{elements_of, open_node, stack_under, world}
 use Rattle.h5_state.specs.declared.state.State.{State}
 use Rattle.h5_formatting.specs.Hanging.{MayMove, nest_of, open_between}
 use Rattle.h5_formatting.specs.Relists.{Relists}
@@ -40,7 +40,7 @@ module _ {S H O : Type 0} (law : Ghosts S H O) (old : S) (state : State H) {name
   abbrev start : World
   start = world_of law old state
 
-  abbrev same_stack : start.stack ≡ reverse (map (open_node law.node) state.open_elems.items)
+  abbrev same_stack : start.stack ≡ reverse (map (open_node law.node) (elements_of state))
   unfolding world
   same_stack = refl
 
@@ -105,7 +105,7 @@ module _ {S H O : Type 0} (law : Ghosts S H O) (old : S) (state : State H) {name
       (subst (λ c. Relists f k.between (round_nest law.choices start r).clones c at (place + 1) block (with_forest (round_forest law.choices start r) start)) (sym o) (relists law.choices start r)))
 
   -- and the stack
-  pub new_stack : (relisted : State H) (handles : List ℕ) (made : List ℕ) (own : ℕ) → reverse (map (open_node law.node) relisted.open_elems.items) ≡ start.stack → made ≡ (round_nest law.choices start r).clones → own ≡ own_clone law.choices start r
+  pub new_stack : (relisted : State H) (handles : List ℕ) (made : List ℕ) (own : ℕ) → reverse (map (open_node law.node) (elements_of relisted)) ≡ start.stack → made ≡ (round_nest law.choices start r).clones → own ≡ own_clone law.choices start r
       → handles ≡ k.newer ++ own ∷ k.block ∷ made
       → handles ++ stack_under law.node relisted place ≡ round_stack k.newer (own_clone law.choices start r) k.block (round_nest law.choices start r).clones (older_than f.node start.stack)
   new_stack relisted handles made own e m o h =

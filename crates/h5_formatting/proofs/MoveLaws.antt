@@ -7,17 +7,17 @@ use Rattle.h5_rules.proofs.entries.PassLaws.{stack_split}
 use Rattle.h5_rules.proofs.adoption.AdoptionPlace.{ancestor_is_older, older_is_open}
 use Rattle.h5_rules.specs.World.{root}
 use Rattle.h5_state.specs.Steps.{IsSound, world_of}
-use Rattle.h5_state.specs.View.{open_node, stack_under, world}
+use Rattle.h5_state.specs.View.{elements_of, open_node, stack_under, world}
 use Rattle.h5_state.specs.declared.state.State.{State}
 use Rattle.h5_formatting.specs.Hanging.{MayMove}
 use Rattle.h5_formatting.proofs.CloneLaws.{same_tail}
 use Rattle.h5_formatting.proofs.OpenLaws.{length_split, length_under, stack_cut}
 
 -- what is older than the element at a place stands under the place
-pub older_under : {H : Type 0} (node : H → ℕ) (state : State H) (n place : ℕ) (s : List ℕ) → s ≡ reverse (map (open_node node) state.open_elems.items) → IsIn n s → place ≡ length (older_than n s) → older_than n s ≡ stack_under node state place
+pub older_under : {H : Type 0} (node : H → ℕ) (state : State H) (n place : ℕ) (s : List ℕ) → s ≡ reverse (map (open_node node) (elements_of state)) → IsIn n s → place ≡ length (older_than n s) → older_than n s ≡ stack_under node state place
 older_under node state n place s same is_in here =
     let cut = stack_cut node state place in
-    let few : place ≤ length (reverse (map (open_node node) state.open_elems.items)) = omega (arith, here, length_split n s is_in, ap length same) in
+    let few : place ≤ length (reverse (map (open_node node) (elements_of state))) = omega (arith, here, length_split n s is_in, ap length same) in
     same_tail (newer_than n s ++ n ∷ []) cut.newer (older_than n s) (stack_under node state place)
     (append_assoc (newer_than n s) (n ∷ []) (older_than n s) ∙ sym (stack_split n s is_in) ∙ same ∙ cut.cut)
     (sym here ∙ sym (length_under node state place few))

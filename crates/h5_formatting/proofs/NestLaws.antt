@@ -9,7 +9,7 @@ use Rattle.h5_rules.specs.formatting.InnerLoop.{picked}
 use Rattle.h5_rules.specs.stack.Order.{Before, is_in}
 use Rattle.h5_rules.proofs.entries.PairLaws.{before_right}
 use Rattle.h5_rules.specs.formatting.AdoptionAgency.{Nest, nest, tag_in, wrapped}
-use Rattle.h5_state.specs.View.{open_node, stack_under}
+use Rattle.h5_state.specs.View.{elements_of, open_node, stack_under}
 use Rattle.h5_state.specs.declared.open_element.OpenElement.{OpenElement}
 use Rattle.h5_state.specs.declared.state.State.{State}
 use Rattle.h5_state.proofs.StackLaws.{stack_step}
@@ -49,11 +49,11 @@ pub record Under {H : Type 0} (node : H → ℕ) (state : State H) (place : ℕ)
   pub element : ℕ
   pub step : stack_under node state (place + 1) ≡ element ∷ stack_under node state place
 
-pub under_more : {H : Type 0} (node : H → ℕ) (state : State H) (place : ℕ) → place < length state.open_elems.items → Under node state place
+pub under_more : {H : Type 0} (node : H → ℕ) (state : State H) (place : ℕ) → place < length (elements_of state) → Under node state place
 unfolding stack_under
 under_more node state place h =
-    let x = place_of_items state.open_elems.items place h in
-    record { element = node x.0.handle; step = stack_step (open_node node) state.open_elems.items place x.0 h x.1 }
+    let x = place_of_items (elements_of state) place h in
+    record { element = node x.0.handle; step = stack_step (open_node node) (elements_of state) place x.0 h x.1 }
 
 pub between_more : {H : Type 0} (node : H → ℕ) (state : State H) (first place n : ℕ) → first ≤ place → stack_under node state (place + 1) ≡ n ∷ stack_under node state place
     → open_between node state first (place + 1) ≡ n ∷ open_between node state first place
@@ -78,8 +78,8 @@ pub record HasOlder (n : ℕ) (s : List ℕ) : Type 0 where
   pub older : ℕ
   pub before : Before s n older
 
-pub has_older : {H : Type 0} (node : H → ℕ) (state : State H) (n place : ℕ) → 0 < place → place < length state.open_elems.items → stack_under node state (place + 1) ≡ n ∷ stack_under node state place
-    → HasOlder n (reverse (map (open_node node) state.open_elems.items))
+pub has_older : {H : Type 0} (node : H → ℕ) (state : State H) (n place : ℕ) → 0 < place → place < length (elements_of state) → stack_under node state (place + 1) ≡ n ∷ stack_under node state place
+    → HasOlder n (reverse (map (open_node node) (elements_of state)))
 has_older node state n place some inside step =
     let cut = stack_cut node state (place + 1) in
     let below = under_more node state (place - 1) (omega (arith, inside)) in

@@ -9,7 +9,7 @@ use Rattle.h5_rules.specs.formatting.Adoption.{block_or, furthest_block, newer_t
 use Rattle.h5_rules.specs.stack.Order.{IsIn}
 use Rattle.h5_rules.proofs.entries.PassLaws.{stack_split}
 use Rattle.h5_rules.specs.World.{World, name_in}
-use Rattle.h5_state.specs.View.{open_node, stack_under}
+use Rattle.h5_state.specs.View.{elements_of, open_node, stack_under}
 use Rattle.h5_state.specs.declared.open_element.OpenElement.{OpenElement}
 use Rattle.h5_state.specs.declared.state.State.{State}
 use Rattle.h5_state.proofs.StackLaws.{seen_pushed}
@@ -61,10 +61,10 @@ pub record StackCut (s left : List ℕ) : Type 0 where
   pub newer : List ℕ
   pub cut : s ≡ newer ++ left
 
-pub stack_cut : {H : Type 0} (node : H → ℕ) (state : State H) (count : ℕ) → StackCut (reverse (map (open_node node) state.open_elems.items)) (stack_under node state count)
+pub stack_cut : {H : Type 0} (node : H → ℕ) (state : State H) (count : ℕ) → StackCut (reverse (map (open_node node) (elements_of state))) (stack_under node state count)
 unfolding stack_under
 stack_cut node state count =
-    let items = state.open_elems.items in
+    let items = (elements_of state) in
     record {
       newer = reverse (map (open_node node) (drop count items));
       cut = ap (λ z. reverse (map (open_node node) z)) (sym (take-append-drop count items))
@@ -72,15 +72,15 @@ stack_cut node state count =
           ∙ reverse-append (map (open_node node) (take count items)) (map (open_node node) (drop count items));
     }
 
-pub length_under : {H : Type 0} (node : H → ℕ) (state : State H) (count : ℕ) → count ≤ length (reverse (map (open_node node) state.open_elems.items)) → length (stack_under node state count) ≡ count
+pub length_under : {H : Type 0} (node : H → ℕ) (state : State H) (count : ℕ) → count ≤ length (reverse (map (open_node node) (elements_of state))) → length (stack_under node state count) ≡ count
 unfolding stack_under
 length_under node state count h =
-    let items = state.open_elems.items in
+    let items = (elements_of state) in
     omega (arith, h, length-reverse (map (open_node node) items), length-map items (open_node node), length-reverse (map (open_node node) (take count items)), length-map (take count items) (open_node node), length-take count items)
 
 -- an open element stands where it does among those below a place above it
-pub stands_below : {H : Type 0} (node : H → ℕ) (state : State H) (n place count : ℕ) → StandsAt n place (reverse (map (open_node node) state.open_elems.items)) → place < count
-    → count ≤ length (reverse (map (open_node node) state.open_elems.items)) → StandsAt n place (stack_under node state count)
+pub stands_below : {H : Type 0} (node : H → ℕ) (state : State H) (n place count : ℕ) → StandsAt n place (reverse (map (open_node node) (elements_of state))) → place < count
+    → count ≤ length (reverse (map (open_node node) (elements_of state))) → StandsAt n place (stack_under node state count)
 stands_below node state n place count k h c =
     let cut = stack_cut node state count in
     (stands_under n place cut.newer (stack_under node state count) (subst (StandsAt n place) cut.cut k) (omega (arith, h, length_under node state count c))).0
@@ -114,9 +114,9 @@ block_at n place at m newer left w k cut e above is none =
     }
 
 -- one more of the oldest
-pub under_more : {H : Type 0} (node : H → ℕ) (state : State H) (place : ℕ) → place < length (reverse (map (open_node node) state.open_elems.items)) → (n : ℕ) × (stack_under node state (place + 1) ≡ n ∷ stack_under node state place)
+pub under_more : {H : Type 0} (node : H → ℕ) (state : State H) (place : ℕ) → place < length (reverse (map (open_node node) (elements_of state))) → (n : ℕ) × (stack_under node state (place + 1) ≡ n ∷ stack_under node state place)
 unfolding stack_under
-under_more {H} node state place h = at state.open_elems.items h
+under_more {H} node state place h = at (elements_of state) h
   where
     at : (xs : List (OpenElement H)) → place < length (reverse (map (open_node node) xs)) → (n : ℕ) × (reverse (map (open_node node) (take (place + 1) xs)) ≡ n ∷ reverse (map (open_node node) (take place xs)))
     at [] k = absurd (omega (arith, k))

@@ -19,7 +19,7 @@ use Rattle.h5_rules.specs.Sound.{Sound}
 use Rattle.h5_rules.specs.World.{World, names_of}
 use Rattle.h5_state.specs.Steps.{IsSound, world_of}
 use Rattle.h5_state.specs.Summaries.{summaries}
-use Rattle.h5_state.specs.View.{open_node, stack_under}
+use Rattle.h5_state.specs.View.{elements_of, open_node, stack_under}
 use Rattle.h5_state.specs.declared.state.State.{State}
 use Rattle.h5_formatting.specs.Relists.{Relists}
 use Rattle.h5_formatting.proofs.RelistLaws.{first_walked, list_walked, round_above, round_alone}
@@ -46,11 +46,11 @@ module _ (f : FormattingElement) (between clones : List ℕ) (clone at first blo
   pub block_inside : block ≤ length w.stack
   block_inside = omega (arith, r.highest, r.lowest, ap length r.stack, length-append r.from_block (between ++ f.node ∷ r.below), length-append between (f.node ∷ r.below))
 
-  pub between_taken : {H : Type 0} (node : H → ℕ) (state : State H) → w.stack ≡ reverse (map (open_node node) state.open_elems.items) → take (block - first) (stack_under node state block) ≡ between
+  pub between_taken : {H : Type 0} (node : H → ℕ) (state : State H) → w.stack ≡ reverse (map (open_node node) (elements_of state)) → take (block - first) (stack_under node state block) ≡ between
   unfolding stack_under
   between_taken node state e =
       let low = between ++ f.node ∷ r.below in
-      let under = seen_at (open_node node) state.open_elems.items block r.from_block low (sym e ∙ r.stack) (omega (arith, r.highest, r.lowest, length-append between (f.node ∷ r.below))) in
+      let under = seen_at (open_node node) (elements_of state) block r.from_block low (sym e ∙ r.stack) (omega (arith, r.highest, r.lowest, length-append between (f.node ∷ r.below))) in
       let count : block - first ≡ length between = omega (arith, r.highest) in
       ap (take (block - first)) (sym under.1) ∙ ap (λ i. take i low) count ∙ take-append_seam between (f.node ∷ r.below)
 

@@ -20,7 +20,7 @@ use Rattle.h5_rules.proofs.adoption.AdoptionForest.{before_trans}
 use Rattle.h5_rules.proofs.adoption.AdoptionRound.{clone_of_tag, clones_of_tags, each_tag_in, round_count, round_fresh, round_refilled, tagged, to_clone_is_listed, original_in}
 use Rattle.h5_formatting.specs.Relists.{Relists}
 use Rattle.h5_rules.specs.World.{World}
-use Rattle.h5_state.specs.View.{open_node, stack_under}
+use Rattle.h5_state.specs.View.{elements_of, open_node, stack_under}
 use Rattle.h5_state.specs.declared.state.State.{State}
 use Rattle.h5_formatting.specs.Hanging.{open_between}
 use Rattle.h5_formatting.specs.Rounds.{IsRound}
@@ -28,7 +28,7 @@ use Rattle.h5_formatting.proofs.CloneLaws.{same_tail}
 use Rattle.h5_formatting.proofs.MoveLaws.{older_under}
 use Rattle.h5_formatting.proofs.OpenLaws.{length_under, stack_cut}
 
-module _ {H : Type 0} {name : List ℕ} {f : FormattingElement} {k : FurthestBlock} {place at block : ℕ} (node : H → ℕ) (state : State H) (w : World) (same : w.stack ≡ reverse (map (open_node node) state.open_elems.items)) (r : IsRound name f k place at block w) where
+module _ {H : Type 0} {name : List ℕ} {f : FormattingElement} {k : FurthestBlock} {place at block : ℕ} (node : H → ℕ) (state : State H) (w : World) (same : w.stack ≡ reverse (map (open_node node) (elements_of state))) (r : IsRound name f k place at block w) where
   abbrev older : List ℕ
   older = older_than f.node w.stack
 
@@ -45,10 +45,10 @@ module _ {H : Type 0} {name : List ℕ} {f : FormattingElement} {k : FurthestBlo
   pub block_inside : block < length w.stack
   block_inside = omega (arith, r.block_at, r.open_at, ap length round_split, length-append k.newer (k.block ∷ (k.between ++ f.node ∷ older)), length-append k.between (f.node ∷ older))
 
-  few : block ≤ length (reverse (map (open_node node) state.open_elems.items))
+  few : block ≤ length (reverse (map (open_node node) (elements_of state)))
   few = omega (arith, block_inside, ap length same)
 
-  few_more : block + 1 ≤ length (reverse (map (open_node node) state.open_elems.items))
+  few_more : block + 1 ≤ length (reverse (map (open_node node) (elements_of state)))
   few_more = omega (arith, block_inside, ap length same)
 
   pub under_length : length (k.between ++ f.node ∷ older) ≡ block
@@ -72,7 +72,7 @@ module _ {H : Type 0} {name : List ℕ} {f : FormattingElement} {k : FurthestBlo
   pub from_element : stack_under node state (place + 1) ≡ f.node ∷ older_than f.node w.stack
   from_element =
       let cut = stack_cut node state (place + 1) in
-      let enough : place + 1 ≤ length (reverse (map (open_node node) state.open_elems.items)) = omega (arith, few, r.block_at) in
+      let enough : place + 1 ≤ length (reverse (map (open_node node) (elements_of state))) = omega (arith, few, r.block_at) in
       same_tail cut.newer (newer_than f.node w.stack) (stack_under node state (place + 1)) (f.node ∷ older_than f.node w.stack)
       (sym cut.cut ∙ sym same ∙ stack_split f.node w.stack r.may.is_open)
       (omega (arith, length_under node state (place + 1) enough, r.open_at))

@@ -41,5 +41,5 @@ pub fn close_through<S: TreeSink>(sink: &S, state: &mut State<S::Handle>, place:
     ensures { (n : ℕ) → IsOpenAt n place (world_of S.TreeSink sink.now state.old)
         → Becomes S.TreeSink (λ w. record w { stack = older_than n w.stack }) sink.now state.old sink.now state.new }
 {
-    state.open_elems.truncate(place);
+    state.open_elems.elements.truncate(place);
 }

@@ -17,10 +17,10 @@ use std::alloc::AllocError;
 fn is_open<S: TreeSink>(sink: &S, state: &State<S::Handle>, handle: &S::Handle) -> bool
     ensures { result ≡ is_in (S.node handle.now) (world_of S.TreeSink sink.now state.now).stack }
 {
-    let mut place = state.open_elems.len();
+    let mut place = state.open_elems.elements.len();
     'down: while place > 0 {
         place -= 1;
-        if sink.same_node(handle, &state.open_elems[place].handle) {
+        if sink.same_node(handle, &state.open_elems.elements.get(place).handle) {
             return true;
         }
     }

@@ -5,7 +5,7 @@ ghost use Rattle.h5_state.specs.Steps.{Becomes, BecomesIfOk, IsSound, world_of};
 ghost use Rattle.h5_state.specs.View.{stack_under};
 
 use h5_interface::TreeSink;
-use h5_state::{OpenElement, State, Summary, all_under, handle_at, open_count};
+use h5_state::{State, handle_at, open_count, push_open};
 use std::alloc::AllocError;
 
 // Clones are pushed, the last of them first.
@@ -65,29 +65,12 @@ pub fn round_handles<S: TreeSink>(
     Ok(handles)
 }
 
-// An element becomes the current node, with what is kept beside it.
-fn push_open<S: TreeSink>(
-    sink: &S,
-    state: &mut State<S::Handle>,
-    handle: S::Handle,
-) -> Result<(), AllocError>
-    requires sound { IsSound S.TreeSink sink.now state.old }
-    requires stands { AllStand (world_of S.TreeSink sink.now state.old).forest (S.node handle ∷ (world_of S.TreeSink sink.now state.old).stack) (world_of S.TreeSink sink.now state.old).formatting
-        (world_of S.TreeSink sink.now state.old).head (world_of S.TreeSink sink.now state.old).form (world_of S.TreeSink sink.now state.old).context }
-    ensures { BecomesIfOk S.TreeSink (λ w. record w { stack = S.node handle ∷ w.stack }) sink.now state.old sink.now state.new result }
-{
-    let all = all_under(sink, state, open_count(sink, state));
-    let summary = Summary::new(sink.elem_name(&handle), all);
-    state.open_elems.push(OpenElement { handle, summary })?;
-    Ok(())
-}
-
 // So many of the oldest elements stay open. The sink isn't told.
 fn keep_oldest<S: TreeSink>(sink: &S, state: &mut State<S::Handle>, count: usize)
     requires { IsSound S.TreeSink sink.now state.old }
     ensures { Becomes S.TreeSink (λ w. record w { stack = stack_under S.node state.old count }) sink.now state.old sink.now state.new }
 {
-    state.open_elems.truncate(count);
+    state.open_elems.elements.truncate(count);
 }
 
 /// The elements from a place on leave the stack, and these stand there, the oldest first. An Err leaves some of them.

@@ -1,5 +1,5 @@
 -- The adjusted current node, and what it takes as HTML.
-use Rattle.std.proofs.Common.{◌≡◌, ◌<◌, ℕ, Bool, true, false, not, cond, ◌&&◌, ◌||◌, List, [], ◌∷◌, Option, Some, None, inl, length, refl, ap, sym, ◌∙◌, arith}
+use Rattle.std.proofs.Common.{◌≡◌, ◌<◌, ℕ, Bool, true, false, not, ◌&&◌, ◌||◌, List, [], ◌∷◌, Option, Some, None, inl, length, refl, ap, sym, ◌∙◌, arith}
 use Rattle.h5_names.specs.declared.qualified.QualName.{QualName}
 use Rattle.h5_token.specs.TokenText.{TagText}
 use Rattle.h5_token.specs.declared.tag.TagKind.TheVariants.{EndTag}
@@ -13,7 +13,6 @@ use Rattle.h5_rules.specs.stack.Order.{IsIn}
 use Rattle.h5_rules.specs.insertion.Foreign.{adjusted_current_node, adjusted_of, is_foreign_at, is_taken_in}
 use Rattle.h5_rules.specs.Sound.{Sound}
 use Rattle.h5_rules.specs.World.{World, name_in}
-use Rattle.h5_state.specs.Summaries.{html_number, name_number, text_number}
 use Rattle.h5_state.proofs.StackLaws.{named}
 
 -- the adjusted current node is an element
@@ -36,20 +35,6 @@ pub newest_above : (context : Option ℕ) (n : ℕ) (s : List ℕ) → 0 < lengt
 newest_above context n [] h = absurd (omega arith)
 newest_above context n (m ∷ s) h = refl
 
--- numbers of texts are those from here on
-text_above : (text : List ℕ) → text_number text < 256 → ⊥
-unfolding text_number
-text_above text h = omega arith
-
--- a number of a name that HTML knows is that of an element of HTML
-pub known_is_html : (n : QualName) → name_number n < 256 → is_html_element n ≡ true
-unfolding name_number
-known_is_html n h = at (is_html_element n) h
-  where
-    at : (b : Bool) → cond b (html_number n.local) (text_number n.local) < 256 → b ≡ true
-    at true k = refl
-    at false k = absurd (text_above n.local k)
-
 -- an element of HTML takes any token
 pub html_takes : (choices : SinkChoices) (t : TurnText) (f : Forest) (n : ℕ) → is_html_element (name_in f n) ≡ true → is_foreign_at choices t f (Some n) ≡ false
 html_takes choices t f n h = at (is_html_element (name_in f n)) h _
@@ -58,10 +43,10 @@ html_takes choices t f n h = at (is_html_element (name_in f n)) h _
     at true e x = refl
     at false e x = absurd (cc)
 
--- where a number tells that the adjusted current node is one, no token is foreign
-pub known_takes : (choices : SinkChoices) (t : TurnText) (f : Forest) (context : Option ℕ) (stack : List ℕ) (n : ℕ) → adjusted_of context stack ≡ Some n → name_number (name_in f n) < 256
+-- where the adjusted current node is one, no token is foreign
+pub known_takes : (choices : SinkChoices) (t : TurnText) (f : Forest) (context : Option ℕ) (stack : List ℕ) (n : ℕ) → adjusted_of context stack ≡ Some n → is_html_element (name_in f n) ≡ true
     → is_foreign_at choices t f (adjusted_of context stack) ≡ false
-known_takes choices t f context stack n e h = ap (is_foreign_at choices t f) e ∙ html_takes choices t f n (known_is_html (name_in f n) h)
+known_takes choices t f context stack n e h = ap (is_foreign_at choices t f) e ∙ html_takes choices t f n h
 
 -- of others only an element of HTML takes any
 never : (html text point other : Bool) → (html || ((text && false) || ((point && false) || (other && false)))) ≡ html

@@ -13,11 +13,8 @@ use Rattle.h5_rules.proofs.changes.PlaceLaws.{comment_can_be_put, element_can_be
 use Rattle.h5_state.proofs.StackLaws.{seen_world}
 use Rattle.h5_rules.specs.Changes.{new_element}
 use Rattle.h5_rules.specs.insertion.FormOwner.{Marking, marked_by}
-use Rattle.h5_insertion.specs.Notices.{IsNodeIfTold}
-use Rattle.h5_insertion.specs.declared.put.Notice.{Notice}
-use Rattle.h5_insertion.specs.declared.put.Notice.TheVariants.{AlreadyStarted, FormOwner, Nothing}
 use Rattle.h5_interface.proofs.ForestLaws.{rearranged_node}
-use Rattle.h5_rules.proofs.changes.SoundLaws.{element_is_node, element_kept}
+use Rattle.h5_rules.proofs.changes.SoundLaws.{element_kept}
 
 -- what is seen is a rearrangement
 pub seen_rearranged : (old new : Seen) (change : Forest → Forest) → new ≡ changed change old → Rearranges old.forest (change old.forest) → Rearranges old.forest new.forest

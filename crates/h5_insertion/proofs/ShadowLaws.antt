@@ -1,13 +1,11 @@
 -- A template that is put in place, or whose contents become a shadow root, as it is seen.
-use Rattle.std.proofs.Common.{◌≡◌, ◌<◌, ℕ, Bool, true, false, List, length, codes, rules, Result, Ok, Err, OnOk, cond, refl, ap, sym, ◌∙◌}
+use Rattle.std.proofs.Common.{◌≡◌, ◌<◌, ℕ, Bool, false, List, length, codes, rules, Result, Ok, Err, OnOk, cond, ap, sym, ◌∙◌}
 use Rattle.h5_names.specs.AttributeText.{AttributeText}
-use Rattle.h5_interface.specs.Forest.{Forest, IsForest, IsNode}
 use Rattle.h5_interface.specs.Seen.{attach, attach_where}
-use Rattle.h5_interface.specs.SinkChoices.{Rearranges, SinkChoices}
-use Rattle.h5_interface.proofs.ForestLaws.{rearranges_refl}
+use Rattle.h5_interface.specs.SinkChoices.{SinkChoices}
 use Rattle.h5_rules.specs.Changes.{insert_element, pop, with_forest}
-use Rattle.h5_rules.specs.insertion.Templates.{asks_for_shadow, attach_or_put, insert_template, push_loose_template}
-use Rattle.h5_rules.specs.World.{World, current}
+use Rattle.h5_rules.specs.insertion.Templates.{attach_or_put, push_loose_template}
+use Rattle.h5_rules.specs.World.{World}
 
 -- what holds of a result holds of what is made of it
 pub onok_ap : {T E A B : Type 0} (r : Result T E) (f : A → B) (x y : A) → OnOk r (x ≡ y) → OnOk r (f x ≡ f y)

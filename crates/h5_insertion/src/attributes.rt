@@ -19,7 +19,7 @@ pub fn add_attrs_to_html<S: TreeSink>(
     requires { IsOpen S.TreeSink sink.old state.now }
     ensures { MakesIfOk S.TreeSink (AddAttrsToHtml (attribute_texts attrs.items)) sink.old state.now sink.new state.now result }
 {
-    sink.add_attrs_if_missing(&state.open_elems[0].handle, attrs)
+    sink.add_attrs_if_missing(&state.open_elems.elements.get(0).handle, attrs)
 }
 
 /// The second open element, from the root on, gets the attributes that it lacks, where there is one.
@@ -32,8 +32,8 @@ pub fn add_attrs_to_second<S: TreeSink>(
     requires { IsSound S.TreeSink sink.old state.now }
     ensures { MakesIfOk S.TreeSink (AddAttrsToSecond (attribute_texts attrs.items)) sink.old state.now sink.new state.now result }
 {
-    if state.open_elems.len() > 1 {
-        sink.add_attrs_if_missing(&state.open_elems[1].handle, attrs)
+    if state.open_elems.elements.len() > 1 {
+        sink.add_attrs_if_missing(&state.open_elems.elements.get(1).handle, attrs)
     } else {
         Ok(())
     }

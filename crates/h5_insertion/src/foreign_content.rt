@@ -12,7 +12,7 @@ ghost use Rattle.h5_state.specs.Steps.{IsSound, world_of};
 
 use h5_interface::TreeSink;
 use h5_names::{KnownName, LocalName, QualName};
-use h5_state::{FIRST_TEXT_NUMBER, State, handle_at, open_at, open_count};
+use h5_state::{State, handle_at, is_html_at, open_at, open_count};
 use h5_tag_sets::{mathml_text_integration_point, svg_html_integration_point};
 use h5_token::TagKind;
 use h5_types::{SplitStatus, Token};
@@ -36,8 +36,8 @@ pub fn adjusted_current_node<'a, S: TreeSink>(
     }
 }
 
-/// Whether no element is open, or the current node is the adjusted one, and its number alone tells that it is an element of
-/// HTML; no token is for foreign content then. It may answer no where that holds, too.
+/// Whether no element is open, or the current node is the adjusted one, and is an element of HTML; no token is for foreign
+/// content then. It may answer no where that holds, too.
 #[tactic(auto, unfolding(h5_state::specs::View::world))]
 pub fn is_in_known_html<S: TreeSink>(sink: &S, state: &State<S::Handle>) -> bool
     requires { IsSound S.TreeSink sink.now state.now }
@@ -47,7 +47,7 @@ pub fn is_in_known_html<S: TreeSink>(sink: &S, state: &State<S::Handle>) -> bool
     if count == 0 {
         return true;
     }
-    let known = open_at(sink, state, count - 1).summary.number < FIRST_TEXT_NUMBER;
+    let known = is_html_at(sink, state, count - 1);
     match &state.context_elem {
         Some(_) => known && count > 1,
         None => known,

@@ -14,7 +14,7 @@ use super::put::{Notice, insert_new_element};
 use h5_data::{adjust_foreign_attributes, adjust_mathml_attributes, adjust_svg_attributes};
 use h5_interface::TreeSink;
 use h5_names::{Attribute, Namespace, QualName};
-use h5_state::{OpenElement, State, Summary, Turn, all_open};
+use h5_state::{State, Turn, push_open};
 use h5_token::Tag;
 use h5_types::ProcessResult;
 use std::alloc::{AllocError, Global};
@@ -33,7 +33,6 @@ pub fn insert_foreign_element<S: TreeSink>(
     ensures { MakesIfOk S.TreeSink (InsertForeignElement name (attribute_texts attrs.items) had_duplicate_attributes) sink.old state.old sink.new state.new result }
 {
     let place = current_place(sink, state);
-    let summary = Summary::new(&name, all_open(sink, state));
     let handle = insert_new_element(
         sink,
         &place,
@@ -42,8 +41,7 @@ pub fn insert_foreign_element<S: TreeSink>(
         had_duplicate_attributes,
         Notice::Nothing,
     )?;
-    state.open_elems.push(OpenElement { handle, summary })?;
-    Ok(())
+    push_open(sink, state, handle)
 }
 
 /// An element of this name at the place of insertion, which isn't open. An Err leaves open elements.

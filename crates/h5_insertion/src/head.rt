@@ -7,10 +7,8 @@ ghost use Rattle.h5_rules.specs.Rows.{PushHead};
 ghost use Rattle.h5_rules.specs.Sound.{Sound};
 ghost use Rattle.h5_state.specs.Steps.{IsSound, MakesIfOk, world_of};
 
-use super::insert::html_qual_name;
 use h5_interface::TreeSink;
-use h5_names::{KnownName, LocalName};
-use h5_state::{OpenElement, State, Summary, all_open};
+use h5_state::{State, push_open};
 use std::alloc::AllocError;
 
 /// A handle of the head element, where there is one.
@@ -32,9 +30,7 @@ pub fn push_head<S: TreeSink>(sink: &S, state: &mut State<S::Handle>) -> Result<
     ensures { MakesIfOk S.TreeSink PushHead sink.now state.old sink.now state.new result }
 {
     if let Some(handle) = known_head(sink, state) {
-        let name = html_qual_name(LocalName::from_known(KnownName::Head));
-        let summary = Summary::new(&name, all_open(sink, state));
-        state.open_elems.push(OpenElement { handle, summary })?;
+        push_open(sink, state, handle)?;
     }
     Ok(())
 }

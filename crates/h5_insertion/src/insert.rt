@@ -18,7 +18,7 @@ use super::place::{InsertionPoint, current_place};
 use super::put::{Notice, insert_new_comment, insert_new_element, insert_text};
 use h5_interface::TreeSink;
 use h5_names::{Attribute, KnownName, LocalName, Namespace, QualName};
-use h5_state::{OpenElement, State, Summary, all_open, current_node, has_open_template, root_node};
+use h5_state::{State, current_node, has_open_template, push_open, root_node};
 use std::alloc::AllocError;
 
 /// The HTML name of this local name.
@@ -63,10 +63,8 @@ fn push_at<S: TreeSink>(
     ensures sound { IsSound S.TreeSink sink.new state.new }
 {
     let name = html_qual_name(local);
-    let summary = Summary::new(&name, all_open(sink, state));
     let handle = insert_new_element(sink, place, name, attrs, had_duplicate_attributes, notice)?;
-    state.open_elems.push(OpenElement { handle, summary })?;
-    Ok(())
+    push_open(sink, state, handle)
 }
 
 /// An HTML element of this name at the place of insertion; it becomes the current node. After an Err it

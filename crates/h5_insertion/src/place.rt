@@ -60,11 +60,11 @@ fn foster_place_at<S: TreeSink>(
     requires at { at < length (world_of S.TreeSink sink.now state.now).stack }
     ensures { place_of S.node result ≡ foster_place (world_of S.TreeSink sink.now state.now).forest (root (world_of S.TreeSink sink.now state.now)) (stack_under S.node state.now (at + 1)) }
 {
-    let element = &state.open_elems[at];
+    let element = state.open_elems.elements.get(at);
     if is_html_known(sink.elem_name(&element.handle), KnownName::Template) {
         InsertionPoint::LastChild(inside(sink, state, &element.handle))
     } else {
-        let below = &state.open_elems[at.saturating_sub(1)];
+        let below = state.open_elems.elements.get(at.saturating_sub(1));
         InsertionPoint::TableFosterParenting(
             sink.clone_handle(&element.handle),
             sink.clone_handle(&below.handle),
@@ -103,7 +103,7 @@ pub fn current_place<S: TreeSink>(sink: &S, state: &State<S::Handle>) -> Inserti
     requires { IsSound S.TreeSink sink.now state.now }
     ensures { place_of S.node result ≡ place (world_of S.TreeSink sink.now state.now) }
 {
-    match state.open_elems.last() {
+    match state.open_elems.elements.last() {
         Some(element) => appropriate_place_for_insertion(sink, state, &element.handle),
         None => InsertionPoint::LastChild(sink.get_document()),
     }

@@ -17,7 +17,7 @@ use super::place::current_place;
 use super::put::nodes_of;
 use h5_interface::{TreeSink, create_element_with_flags};
 use h5_names::{Attribute, KnownName, LocalName};
-use h5_state::{OpenElement, State, Summary, all_open, current_node, pop};
+use h5_state::{State, current_node, pop, push_open};
 use h5_token::Tag;
 use std::alloc::AllocError;
 
@@ -46,7 +46,7 @@ fn has_shadow_mode(attrs: &[Attribute]) -> bool
 fn is_more_open<S: TreeSink>(sink: &S, state: &State<S::Handle>) -> bool
     ensures { result ≡ is_more_open (world_of S.TreeSink sink.now state.now).stack }
 {
-    state.open_elems.len() > 1
+    state.open_elems.elements.len() > 1
 }
 
 // Whether the sink allows a shadow root where an element would be put.
@@ -82,10 +82,9 @@ fn push_loose_template<S: TreeSink>(
     ensures sound { IsSound S.TreeSink sink.new state.new }
 {
     let name = html_qual_name(LocalName::from_known(KnownName::Template));
-    let summary = Summary::new(&name, all_open(sink, state));
     let handle = create_element_with_flags(sink, name, attrs, had_duplicate_attributes)?;
     let template = sink.clone_handle(&handle);
-    state.open_elems.push(OpenElement { handle, summary })?;
+    push_open(sink, state, handle)?;
     Ok(template)
 }
 

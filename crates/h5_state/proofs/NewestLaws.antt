@@ -1,19 +1,19 @@
 -- Where the newest of a kind stands, and what is in scope.
-use Rattle.std.proofs.Common.{◌≡◌, ◌+◌, ◌-◌, ◌<◌, ◌≤◌, ℕ, suc, nat_lt, nat_le, Bool, true, false, cond, ◌&&◌, ◌||◌, ◌==◌, List, [], ◌∷◌, ◌++◌, Option, Some, None, MatchOption, is_some, length, map, max, refl, ap, sym, subst, ◌∙◌, arith}
-use Rattle.std.proofs.lemmas.Bool.{le-leb, le-ltb, lt-leb, lt-ltb}
-use Rattle.std.proofs.lemmas.List.{length-map}
+use Rattle.std.proofs.Common.{◌≡◌, ◌≢◌, ◌+◌, ◌-◌, ◌<◌, ◌≤◌, ℕ, suc, nat_lt, nat_le, Bool, true, false, cond, ◌&&◌, ◌||◌, ◌==◌, List, [], ◌∷◌, ◌++◌, Option, Some, None, MatchOption, is_some, length, map, max, refl, ap, sym, subst, ◌∙◌, arith}
+use Rattle.std.proofs.lemmas.Bool.{eqb-false, eqb-true, le-leb, le-ltb, lt-leb, lt-ltb}
+use Rattle.std.proofs.lemmas.List.{length-append, length-map}
 use Rattle.std.proofs.lemmas.Option.{same_Some}
 use Rattle.h5_names.specs.declared.qualified.QualName.{QualName}
 use Rattle.h5_stack.specs.Numbered.{newest_of}
 use Rattle.h5_rules.specs.stack.Order.{but_first}
-use Rattle.h5_rules.specs.stack.Scope.{cut_through, in_scope}
+use Rattle.h5_rules.specs.stack.Scope.{cut_above, cut_through, in_scope, oldest_of, oldest_passing}
 use Rattle.std.proofs.lemmas.List.Folds.{list_any-append}
 use Rattle.std.proofs.lemmas.Slice.Eq.{bytes_eq-Decides}
 use Rattle.h5_names.specs.AttributeText.{is_same_text}
 use Rattle.h5_names.proofs.KnownNameLemmas.{same_tests}
 use Rattle.h5_rules.specs.stack.Closing.{is_html_among}
 use Rattle.h5_tag_sets.specs.TagSets.{html_namespace, is_html_named, is_one_of}
-use Rattle.h5_state.specs.Newest.{newer_of, newest_where, place_before}
+use Rattle.h5_state.specs.Newest.{newer_of, newest_where, oldest_where, place_before}
 use Rattle.h5_state.specs.Numbers.{html_number, name_number}
 use Rattle.h5_state.specs.declared.name_numbers.NameNumbers.{NameNumbers}
 use Rattle.h5_state.proofs.NumberLaws.{has_none, has_number}
@@ -66,6 +66,59 @@ cut_newest is (n ∷ ns) (m ∷ s) e = at (is n) (omega (arith, e)) (cut_newest 
         → length (cond b s (cut_through is ns s)) ≡ cond b (length ns + 1) (newest_where is ns) - 1
     at true l f = omega (arith, l)
     at false l f = f l
+
+-- where it is cut above it
+pub above_newest : (is : QualName → Bool) (names : List QualName) (s : List ℕ) → length s ≡ length names → length (cut_above is names s) ≡ newest_where is names
+above_newest is [] s e = e
+above_newest is (n ∷ ns) [] e = absurd (omega (arith, e))
+above_newest is (n ∷ ns) (m ∷ s) e = at (is n) (omega (arith, e)) (above_newest is ns s)
+  where
+    at : (b : Bool) → length s ≡ length ns → (length s ≡ length ns → length (cut_above is ns s) ≡ newest_where is ns)
+        → length (cond b (m ∷ s) (cut_above is ns s)) ≡ cond b (length ns + 1) (newest_where is ns)
+    at true l f = omega (arith, l)
+    at false l f = f l
+
+-- the oldest of a kind
+pub oldest_le : (is : QualName → Bool) (names : List QualName) → oldest_where is names ≤ length names
+oldest_le is [] = omega arith
+oldest_le is (n ∷ ns) = at ((oldest_where is ns == 0) && is n) (oldest_le is ns)
+  where
+    at : (b : Bool) → oldest_where is ns ≤ length ns → cond b (length ns + 1) (oldest_where is ns) ≤ suc (length ns)
+    at true h = omega arith
+    at false h = omega (arith, h)
+
+pub oldest_none : (is : QualName → Bool) (names : List QualName) (s : List ℕ) → oldest_where is names ≡ 0 → oldest_passing is names s ≡ None
+oldest_none is [] s h = refl
+oldest_none is (n ∷ ns) [] h = refl
+oldest_none is (n ∷ ns) (m ∷ s) h = at (oldest_where is ns == 0) (is n) (eqb-true (oldest_where is ns) 0) (eqb-false (oldest_where is ns) 0) h (oldest_none is ns s)
+  where
+    at : (a b : Bool) → (a ≡ true → oldest_where is ns ≡ 0) → (a ≡ false → oldest_where is ns ≢ 0) → cond (a && b) (length ns + 1) (oldest_where is ns) ≡ 0 → (oldest_where is ns ≡ 0 → oldest_passing is ns s ≡ None)
+        → oldest_of (oldest_passing is ns s) (cond b (Some m) None) ≡ None
+    at true true f d e g = absurd (omega (arith, e))
+    at true false f d e g = ap (λ o. oldest_of o None) (g (f refl))
+    at false b f d e g = absurd (d refl e)
+
+pub oldest_some : (is : QualName → Bool) (names : List QualName) (s newer older : List ℕ) (m : ℕ) → length s ≡ length names → s ≡ newer ++ m ∷ older → oldest_where is names ≡ length older + 1 → oldest_passing is names s ≡ Some m
+oldest_some is [] s newer older m l e h = absurd (omega (arith, h))
+oldest_some is (n ∷ ns) [] newer older m l e h = absurd (omega (arith, l))
+oldest_some is (n ∷ ns) (k ∷ s) [] older m l e h =
+    let here : k ≡ m = cc in
+    let rest : s ≡ older = cc in
+    let count : length older ≡ length ns = omega (arith, l, ap (λ (z : List ℕ). length z) rest) in
+    at (oldest_where is ns == 0) (is n) (eqb-true (oldest_where is ns) 0) (h ∙ ap (λ z. z + 1) count) here
+  where
+    at : (a b : Bool) → (a ≡ true → oldest_where is ns ≡ 0) → cond (a && b) (length ns + 1) (oldest_where is ns) ≡ length ns + 1 → k ≡ m → oldest_of (oldest_passing is ns s) (cond b (Some k) None) ≡ Some m
+    at true true f e same = ap (λ o. oldest_of o (Some k)) (oldest_none is ns s (f refl)) ∙ ap (λ x. Some x) same
+    at true false f e same = absurd (omega (arith, e, oldest_le is ns))
+    at false b f e same = absurd (omega (arith, e, oldest_le is ns))
+oldest_some is (n ∷ ns) (k ∷ s) (j ∷ newer) older m l e h =
+    let rest : s ≡ newer ++ m ∷ older = cc in
+    at ((oldest_where is ns == 0) && is n) h (omega (arith, l, ap (λ (z : List ℕ). length z) rest, length-append newer (m ∷ older))) (oldest_some is ns s newer older m (omega (arith, l)) rest)
+  where
+    at : (a : Bool) → cond a (length ns + 1) (oldest_where is ns) ≡ length older + 1 → length older + 1 ≤ length ns → (oldest_where is ns ≡ length older + 1 → oldest_passing is ns s ≡ Some m)
+        → oldest_of (oldest_passing is ns s) (cond (is n) (Some k) None) ≡ Some m
+    at true e le f = absurd (omega (arith, e, le))
+    at false e le f = ap (λ o. oldest_of o (cond (is n) (Some k) None)) (f e)
 
 -- the same as an answer
 pub found_before : (is ends : QualName → Bool) (names : List QualName) → is_some (place_before (newest_where is names) (newest_where ends names)) ≡ in_scope is ends names

@@ -1,8 +1,8 @@
 -- HTML elements of one number have one name.
-use Rattle.std.proofs.Common.{◌≡◌, ◌≢◌, ◌<◌, ◌≤◌, ℕ, nat_lt, Bool, true, false, cond, ◌&&◌, ◌==◌, List, Option, Some, None, refl, ap, sym, subst, ◌∙◌, arith, rules}
+use Rattle.std.proofs.Common.{◌≡◌, ◌≢◌, ◌<◌, ◌≤◌, ℕ, nat_lt, Bool, true, false, cond, not, ◌&&◌, ◌==◌, List, Option, Some, None, refl, ap, sym, subst, ◌∙◌, arith, rules}
 use denote.Enum.Bare.{false_same, sameb, same_false, tag_one}
 use denote.Enum.Declared.{tag_of}
-use Rattle.std.proofs.lemmas.Bool.{eq-eqb, eqb-true, ltb-true}
+use Rattle.std.proofs.lemmas.Bool.{eq-eqb, eqb-true, ltb-true, ne_eqb}
 use Rattle.std.proofs.lemmas.Option.{same_Some}
 use Rattle.std.proofs.lemmas.Slice.Eq.{bytes_eq-Decides}
 use Rattle.h5_names.specs.AttributeText.{is_same_text}
@@ -74,6 +74,15 @@ module _ (N : NameNumbers) where
       at false f = same_tests _ _
           (λ p. absurd (other_number local k e (same_Some (tag_of the_type Other) m f ∙ eqb-true m k p)))
           (λ p. absurd (cc))
+
+  -- an element is one of HTML exactly if it hasn't the number of the others
+  pub tells_html : (name : QualName) (m : ℕ) → name_number N name ≡ Some m → not (m == tag_of the_type Other) ≡ is_same_text name.ns html_namespace
+  unfolding name_number
+  tells_html name m = at (is_same_text name.ns html_namespace)
+    where
+      at : (a : Bool) → cond a (html_number N name.local) (Some (tag_of the_type Other)) ≡ Some m → not (m == tag_of the_type Other) ≡ a
+      at true e = ap not (ne_eqb m (tag_of the_type Other) (λ same. other_number name.local m e (sym same)))
+      at false e = ap not (eq-eqb m (tag_of the_type Other) (sym (same_Some (tag_of the_type Other) m e)))
 
   -- none has the name if it has no number
   pub has_none : (local : List ℕ) (name : QualName) (m : ℕ) → html_number N local ≡ None → name_number N name ≡ Some m → is_html_named local name ≡ false

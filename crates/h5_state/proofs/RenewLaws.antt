@@ -1,8 +1,9 @@
 -- What is kept beside open elements, where it is made anew.
-use Rattle.std.proofs.Common.{◌≡◌, ◌≢◌, ◌+◌, ◌-◌, ◌<◌, ◌≤◌, ℕ, List, [], ◌∷◌, ◌++◌, length, map, reverse, take, get_or, ap, sym, ◌∙◌, arith}
+use Rattle.std.proofs.Common.{◌≡◌, ◌≢◌, ◌+◌, ◌-◌, ◌<◌, ◌≤◌, ℕ, suc, List, [], ◌∷◌, ◌++◌, drop, length, map, reverse, take, get_or, ap, sym, ◌∙◌, arith}
 use Rattle.std.proofs.Math.ListN.{set}
 use Rattle.std.proofs.Math.Seq.{map-set_same, take-append_seam}
-use Rattle.std.proofs.lemmas.List.{length-take, map-set, set-get_or, take_more, take_more_set}
+use Rattle.std.specs.List.{remove}
+use Rattle.std.proofs.lemmas.List.{drop-map, length-take, map-append, map-set, set-get_or, take-map, take_more, take_more_set}
 use Rattle.h5_interface.specs.Forest.{Forest}
 use Rattle.h5_rules.specs.World.{name_in}
 use Rattle.h5_stack.specs.Numbered.{Numbered, numbers, one_of, values}
@@ -18,6 +19,12 @@ pub under_removed : {X : Type 0} (xs ys high : List X) (count : ℕ) → ys ≡ 
 under_removed xs ys high count e h =
     let low : length (take count xs) ≡ count = omega (arith, h, length-take count xs) in
     ap (take count) e ∙ ap (λ k. take k (take count xs ++ high)) (sym low) ∙ take-append_seam (take count xs) high
+
+map_removed : {X Y : Type 0} (f : X → Y) (old new : List X) (place : ℕ) → new ≡ remove old place → map f new ≡ take place (map f old) ++ drop (place + 1) (map f old)
+map_removed f old new place e =
+    let one_more : suc place ≡ place + 1 = omega arith in
+    ap (map f) e ∙ map-append f (take place old) (drop (suc place) old) ∙ ap (λ z. z ++ map f (drop (suc place) old)) (sym (take-map f place old))
+    ∙ ap (λ z. take place (map f old) ++ z) (sym (drop-map f (suc place) old)) ∙ ap (λ k. take place (map f old) ++ drop k (map f old)) one_more
 
 module _ {H : Type 0} (node : H → ℕ) (f : Forest) where
   -- what is known of the oldest ones
@@ -48,3 +55,10 @@ values_set {H} old new place k y e = ap (λ (z : List (Numbered (OpenElement H))
 pub numbers_set : {H : Type 0} (old new : List (Numbered (OpenElement H))) (place : ℕ) (y : OpenElement H) → new ≡ set old place (one_of (get_or (numbers old) place 0) y) → numbers new ≡ numbers old
 numbers_set {H} old new place y e =
     ap (λ (z : List (Numbered (OpenElement H))). numbers z) e ∙ map-set (λ (one : Numbered (OpenElement H)). one.number) old place (one_of (get_or (numbers old) place 0) y) ∙ set-get_or (numbers old) place 0
+
+-- one is taken out
+pub values_removed : {H : Type 0} (old new : List (Numbered (OpenElement H))) (place : ℕ) → new ≡ remove old place → values new ≡ take place (values old) ++ drop (place + 1) (values old)
+values_removed {H} old new place e = map_removed (λ (one : Numbered (OpenElement H)). one.value) old new place e
+
+pub numbers_removed : {H : Type 0} (old new : List (Numbered (OpenElement H))) (place : ℕ) → new ≡ remove old place → numbers new ≡ take place (numbers old) ++ drop (place + 1) (numbers old)
+numbers_removed {H} old new place e = map_removed (λ (one : Numbered (OpenElement H)). one.number) old new place e

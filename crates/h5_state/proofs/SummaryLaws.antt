@@ -1,10 +1,10 @@
 -- What is kept beside the open elements, where elements come or leave.
-use Rattle.std.proofs.Common.{◌≡◌, ◌≢◌, Bool, true, false, cond, ◌&&◌, ◌||◌, ◌<◌, ◌≤◌, ◌-◌, ◌+◌, ℕ, nat_lt, take, drop, get_or, Some, List, [], ◌∷◌, ◌++◌, length, map, reverse, refl, ap, subst, sym, ◌∙◌, zero-add, arith, rules}
+use Rattle.std.proofs.Common.{◌≡◌, ◌≢◌, Bool, true, false, cond, ◌&&◌, ◌||◌, ◌<◌, ◌≤◌, ◌-◌, ◌+◌, ℕ, nat_lt, take, drop, get_or, Some, List, [], ◌∷◌, ◌++◌, append_assoc, length, map, reverse, refl, ap, subst, sym, ◌∙◌, zero-add, arith, rules}
 use Rattle.std.specs.Int.{from_bool}
 use Rattle.std.specs.Prelude.{slice_get}
 use Rattle.std.proofs.lemmas.Bool.{lt-ltb}
 use Rattle.std.proofs.lemmas.List.Sums.{count_by-le-length, sum_by-cons}
-use Rattle.std.proofs.lemmas.List.{length-map, length-reverse, map-append, reverse-append, take-append-drop, take-map, take_more}
+use Rattle.std.proofs.lemmas.List.{length-map, length-reverse, length-take, map-append, reverse-append, take-append-drop, take-map, take_more}
 use Rattle.h5_names.specs.declared.qualified.QualName.{QualName}
 use Rattle.h5_interface.specs.Forest.{Forest}
 use Rattle.h5_interface.specs.NewElement.{is_html_template}
@@ -110,13 +110,25 @@ number_popped N ns ms k names e h = at names (sym (ap (λ (z : List ℕ). map So
     at [] e = absurd (cc)
     at (n ∷ ns) e = cc
 
-number_cut : (N : NameNumbers) (ns : List ℕ) (count : ℕ) (newer older : List QualName) → length older ≡ length (take count ns) → map Some (reverse ns) ≡ map (name_number N) (newer ++ older)
-    → map Some (reverse (take count ns)) ≡ map (name_number N) older
-number_cut N ns count newer older e h =
+number_parts : (N : NameNumbers) (ns : List ℕ) (count : ℕ) (newer older : List QualName) → length older ≡ length (take count ns) → map Some (reverse ns) ≡ map (name_number N) (newer ++ older)
+    → (map Some (reverse (drop count ns)) ≡ map (name_number N) newer) × (map Some (reverse (take count ns)) ≡ map (name_number N) older)
+number_parts N ns count newer older e h =
     let cut : map Some (reverse ns) ≡ map Some (reverse (drop count ns)) ++ map Some (reverse (take count ns)) =
     ap (λ (z : List ℕ). map Some (reverse z)) (sym (take-append-drop count ns)) ∙ ap (λ (z : List ℕ). map Some z) (reverse-append (take count ns) (drop count ns)) ∙ map-append (λ (x : ℕ). Some x) (reverse (drop count ns)) (reverse (take count ns)) in
-    (same_tail (map Some (reverse (drop count ns))) (map Some (reverse (take count ns))) (map (name_number N) newer) (map (name_number N) older)
-    (sym cut ∙ h ∙ map-append (name_number N) newer older) (omega (arith, e, length-map older (name_number N), length-map (reverse (take count ns)) (λ (x : ℕ). Some x), length-reverse (take count ns)))).1
+    same_tail (map Some (reverse (drop count ns))) (map Some (reverse (take count ns))) (map (name_number N) newer) (map (name_number N) older)
+    (sym cut ∙ h ∙ map-append (name_number N) newer older) (omega (arith, e, length-map older (name_number N), length-map (reverse (take count ns)) (λ (x : ℕ). Some x), length-reverse (take count ns)))
+
+-- one is taken out
+pub number_removed : (N : NameNumbers) (ns : List ℕ) (place : ℕ) (newer older : List QualName) (name : QualName) → place < length ns → place ≡ length older → map Some (reverse ns) ≡ map (name_number N) (newer ++ name ∷ older)
+    → map Some (reverse (take place ns ++ drop (place + 1) ns)) ≡ map (name_number N) (newer ++ older)
+number_removed N ns place newer older name h k e =
+    let high = (number_parts N ns (place + 1) newer (name ∷ older) (omega (arith, k, h, length-take (place + 1) ns)) e).0 in
+    let low = (number_parts N ns place (newer ++ name ∷ []) older (omega (arith, k, h, length-take place ns)) (e ∙ ap (map (name_number N)) (sym (append_assoc newer (name ∷ []) older)))).1 in
+    ap (λ (z : List ℕ). map Some z) (reverse-append (take place ns) (drop (place + 1) ns))
+    ∙ map-append (λ (x : ℕ). Some x) (reverse (drop (place + 1) ns)) (reverse (take place ns))
+    ∙ ap (λ z. z ++ map Some (reverse (take place ns))) high
+    ∙ ap (λ z. map (name_number N) newer ++ z) low
+    ∙ sym (map-append (name_number N) newer older)
 
 numbers_grow : (N M : NameNumbers) (ms : List ℕ) (names : List QualName) → ((one : QualName) (m : ℕ) → name_number N one ≡ Some m → name_number M one ≡ Some m) → map Some ms ≡ map (name_number N) names
     → map Some ms ≡ map (name_number M) names
@@ -192,7 +204,7 @@ module _ {H : Type 0} where
         ) in
         let split : names node f (values old.elements) ≡ names node f newer ++ names node f older =
         ap (map (name_in f)) (cut_in_two (open_node node) (values old.elements) count) ∙ map-append (name_in f) (reverse (map (open_node node) newer)) (reverse (map (open_node node) older)) in
-        number_cut old.numbers (numbers old.elements) count (names node f newer) (names node f older) same (h.numbered ∙ ap (map (name_number old.numbers)) split)
+        (number_parts old.numbers (numbers old.elements) count (names node f newer) (names node f older) same (h.numbered ∙ ap (map (name_number old.numbers)) split)).1
 
     pub kept_cut : (new : OpenElements H) → new.elements ≡ take count old.elements → new.numbers ≡ old.numbers → IsKept new (names node f (values new.elements))
     kept_cut new e n =

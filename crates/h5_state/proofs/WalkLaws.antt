@@ -74,6 +74,14 @@ names_more sees node sink state place h =
     let x = there elements place inside in
     (name_in (sees sink).forest (open_node node x.0), ap (map (name_in (sees sink).forest)) (stack_step (open_node node) elements place x.0 inside x.1))
 
+pub stack_more : {H : Type 0} (node : H → ℕ) (state : State H) (place : ℕ) → place < length (reverse (map (open_node node) (elements_of state))) → (n : ℕ) × (stack_under node state (place + 1) ≡ n ∷ stack_under node state place)
+unfolding stack_under
+stack_more node state place h =
+    let elements = elements_of state in
+    let inside : place < length elements = omega (arith, h, open_length (open_node node) elements) in
+    let x = there elements place inside in
+    (open_node node x.0, stack_step (open_node node) elements place x.0 inside x.1)
+
 pub names_count : {S H : Type 0} (sees : S → Seen) (node : H → ℕ) (sink : S) (state : State H) (count : ℕ) → count ≤ length (reverse (map (open_node node) (elements_of state))) → length (names_under sees node sink state count) ≡ count
 unfolding names_under
 names_count sees node sink state count h =
@@ -86,6 +94,11 @@ names_count sees node sink state count h =
       length-take count (elements_of state),
       open_length (open_node node) (elements_of state),
     )
+
+pub stack_count : {H : Type 0} (node : H → ℕ) (state : State H) (count : ℕ) → count ≤ length (reverse (map (open_node node) (elements_of state))) → length (stack_under node state count) ≡ count
+unfolding stack_under
+stack_count node state count h =
+    omega (arith, h, open_length (open_node node) (take count (elements_of state)), length-take count (elements_of state), open_length (open_node node) (elements_of state))
 
 -- so many elements are left of a stack that is cut
 pub cut_under : {H : Type 0} (node : H → ℕ) (state : State H) (is : QualName → Bool) (ns : List QualName) (s : List ℕ) (count : ℕ) → s ≡ reverse (map (open_node node) (elements_of state))

@@ -37,7 +37,8 @@ pub use open_element::{AllOpen, OpenElement, OpenElements, Summary};
 pub use open_elems::{
     all_open, check_body_end, find_named, generate_implied_end_except, has_body_in_scope,
     has_body_second, has_open_template, has_p_in_button_scope, is_current, is_current_html,
-    name_at, open_at, open_count, open_templates, pop_until_named, pop_while, root_node, truncate,
+    is_html_at, name_at, open_at, open_count, open_templates, pop_until_named, pop_while,
+    root_node, truncate,
 };
 pub use pending_text::PendingText;
 pub use push::push_open;

@@ -5,6 +5,7 @@ ghost use Rattle.h5_names.specs.declared.qualified.QualName.{QualName as NameTex
 ghost use Rattle.h5_interface.specs.Forest.{IsElement};
 ghost use Rattle.h5_tag_sets.specs.TagSets.{is_default_scope, is_html_named, is_implied, is_special};
 ghost use Rattle.h5_rules.specs.Changes.{pop_while};
+ghost use Rattle.h5_rules.specs.fitting.NamesFit.{is_html_element};
 ghost use Rattle.h5_rules.specs.stack.Order.{but_first};
 ghost use Rattle.h5_rules.specs.stack.Scope.{comes_before_special, cut_through, first_passes, has_body_in_scope, has_p_in_button_scope, has_template, has_unclosed, in_scope, second_is};
 ghost use Rattle.h5_rules.specs.Rows.{GenerateImpliedEndExcept, PopUntilNamed};
@@ -80,6 +81,16 @@ fn number_at<S: TreeSink>(sink: &S, state: &State<S::Handle>, place: usize) -> u
     ensures { (name : NameText) → (older : List NameText) → names_under S.sees S.node sink.now state.now (place + 1) ≡ name ∷ older → name_number state.now.open_elems.numbers name ≡ Some result }
 {
     state.open_elems.elements.number_at(place)
+}
+
+/// Whether the open element at a place is one of HTML, which its number tells.
+#[tactic(auto, unfolding(crate::specs::View::world))]
+pub fn is_html_at<S: TreeSink>(sink: &S, state: &State<S::Handle>, place: usize) -> bool
+    requires place { place < length (world_of S.TreeSink sink.now state.now).stack }
+    requires sound { IsSound S.TreeSink sink.now state.now }
+    ensures { (n : ℕ) → (older : List ℕ) → stack_under S.node state.now (place + 1) ≡ n ∷ older → result ≡ is_html_element (name_in (S.sees sink.now).forest n) }
+{
+    number_at(sink, state, place) != KnownName::Other as u32
 }
 
 /// Whether the open element at a place is an HTML element of this name. The sink is asked for its name only where HTML

@@ -10,7 +10,7 @@ use h5_state::{State, pop};
 fn is_any_open<S: TreeSink>(sink: &S, state: &State<S::Handle>) -> bool
     ensures { result ≡ not (length (world_of S.TreeSink sink.now state.now).stack == 0) }
 {
-    !state.open_elems.is_empty()
+    !state.open_elems.elements.is_empty()
 }
 
 // Pops all open elements, from the current node on.

@@ -1,26 +1,33 @@
-use Rattle.std.proofs.Common.{Some, ap, codes, map, reverse, sym, take, drop, true, ◌+◌, ◌∙◌, ◌∷◌, ◌≡◌}
-use Rattle.h5_rules.specs.stack.Scope.{oldest_passing}
+use Rattle.std.proofs.Common.{Some, ap, ◌++◌, arith, codes, drop, map, reverse, sym, ◌+◌, ◌-◌, ◌∙◌, ◌≡◌}
 use Rattle.h5_tag_sets.specs.TagSets.{is_html_named}
-use Rattle.h5_rules.specs.World.{name_in, names_of}
-use Rattle.h5_state.specs.View.{names_under, open_node, stack_under, world}
-use Rattle.h5_closing.proofs.ItemLaws.{oldest_first, oldest_stays}
+use Rattle.h5_rules.specs.World.{names_of}
+use Rattle.h5_rules.proofs.changes.PopLaws.{names_length}
+use Rattle.h5_state.specs.Newest.{oldest_where}
+use Rattle.h5_state.specs.View.{elements_of, open_node, stack_under, world}
+use Rattle.h5_state.specs.declared.open_element.AllOpen.{AllOpen}
+use Rattle.h5_state.proofs.NewestLaws.{oldest_le, oldest_none, oldest_some}
 use Rattle.h5_state.proofs.SeenLaws.{seen_cut}
 use Rattle.h5_closing.proofs.options.oldest_option.Goals as goal
 
-pub returns-then-is_option-clause-oldest : goal.returns-then-is_option-clause-oldest
-unfolding world names_of names_under stack_under
-returns-then-is_option-clause-oldest g c =
-    let node = g.S.TreeSink.node in
-    let f = (g.S.TreeSink.sees c.args.sink.now).forest in
-    let items = c.args.state.now.open_elems.items in
+pub returns-then-place-eq0-clause-oldest : goal.returns-then-place-eq0-clause-oldest
+returns-then-place-eq0-clause-oldest g c =
+    let w = world g.S.TreeSink.sees g.S.TreeSink.node c.args.sink.now c.args.state.now in
+    sym (oldest_none (is_html_named (codes "option")) (names_of w) w.stack (sym (ap (λ (a : AllOpen). a.oldest_option) c.all_open-place.ensures.known) ∙ c.if-place-eq0.true))
+
+pub open_at-requires-clause-place : goal.open_at-requires-clause-place
+open_at-requires-clause-place g c =
+    let w = world g.S.TreeSink.sees g.S.TreeSink.node c.args.sink.now c.args.state.now in
     let is = is_html_named (codes "option") in
-    let n = node c.open_at-element.result.now.handle in
-    let older = reverse (map (open_node node) (take (c.up.place + 1) items)) in
-    let below = reverse (map (open_node node) (take c.up.place items)) in
-    let first : oldest_passing is (map (name_in f) older) older ≡ Some n =
-    ap (λ ns. oldest_passing is ns older) c.open_at-element.ensures.names
-    ∙ ap (oldest_passing is (name_in f n ∷ map (name_in f) below)) c.open_at-element.ensures.here
-    ∙ oldest_first is (name_in f n) (map (name_in f) below) n below true c.up.invariant.none (sym c.is_option.ensures ∙ c.if-is_option.true) in
-    ap Some c.clone_handle.ensures
-    ∙ sym (ap (λ s. oldest_passing is (map (name_in f) s) s) (seen_cut (open_node node) items (c.up.place + 1))
-    ∙ oldest_stays is f n (reverse (map (open_node node) (drop (c.up.place + 1) items))) older first)
+    omega (arith, c.if-place-eq0.false, ap (λ (a : AllOpen). a.oldest_option) c.all_open-place.ensures.known, oldest_le is (names_of w), names_length w)
+
+pub returns-clause-oldest : goal.returns-clause-oldest
+unfolding world stack_under
+returns-clause-oldest g c =
+    let node = g.S.TreeSink.node in
+    let w = world g.S.TreeSink.sees node c.args.sink.now c.args.state.now in
+    let is = is_html_named (codes "option") in
+    let place = c.all_open-place.result.oldest_option in
+    let known : place ≡ oldest_where is (names_of w) = ap (λ (a : AllOpen). a.oldest_option) c.all_open-place.ensures.known in
+    let cut = seen_cut (open_node node) (elements_of c.args.state.now) (place - 1 + 1) ∙ ap (λ z. reverse (map (open_node node) (drop (place - 1 + 1) (elements_of c.args.state.now))) ++ z) c.open_at.ensures.here in
+    ap (λ n. Some n) c.clone_handle.ensures
+    ∙ sym (oldest_some is (names_of w) w.stack _ (stack_under node c.args.state.now (place - 1)) _ (names_length w) cut (omega (arith, known, c.if-place-eq0.false, c.open_at.ensures.count)))

@@ -4,7 +4,7 @@ use Rattle.h5_rules.proofs.entries.PairLaws.{before_first}
 use Rattle.h5_rules.specs.formatting.AdoptionAgency.{IsLoose}
 use Rattle.h5_rules.proofs.adoption.AdoptionForest.{kinds_refl, kinds_trans, loose_block}
 use Rattle.h5_state.specs.Steps.{world_of}
-use Rattle.h5_state.specs.View.{open_node, world}
+use Rattle.h5_state.specs.View.{elements_of, open_node, world}
 use Rattle.h5_state.proofs.AttributeLaws.{open_length}
 use Rattle.h5_formatting.specs.Hanging.{nest_of, open_between}
 use Rattle.h5_formatting.proofs.CloneLaws.{newest_same}
@@ -18,7 +18,7 @@ near-init g c =
     let node = g.S.TreeSink.node in
     let f = (g.S.TreeSink.sees c.args.sink.now).forest in
     let w = world_of g.S.TreeSink c.args.sink.now c.args.state.now in
-    let inside : c.args.block < length c.args.state.now.open_elems.items = omega (arith, c.requires.block, open_length (open_node node) c.args.state.now.open_elems.items) in
+    let inside : c.args.block < length (elements_of c.args.state.now) = omega (arith, c.requires.block, open_length (open_node node) (elements_of c.args.state.now)) in
     let older = has_older node c.args.state.now (node c.handle_at.result.now) c.args.block (omega (arith, c.requires.first, c.requires.between)) inside c.handle_at.ensures.stack in
     record {
       above = c.requires.between;
@@ -44,7 +44,7 @@ pub clone_at-requires-clause-may : goal.clone_at-requires-clause-may
 unfolding world
 clone_at-requires-clause-may g c =
     let node = g.S.TreeSink.node in
-    let inside : c.args.block < length c.args.state.now.open_elems.items = omega (arith, c.requires.block, open_length (open_node node) c.args.state.now.open_elems.items) in
+    let inside : c.args.block < length (elements_of c.args.state.now) = omega (arith, c.requires.block, open_length (open_node node) (elements_of c.args.state.now)) in
     let older = has_older node c.args.state.now (node c.handle_at.result.now) c.args.block (omega (arith, c.requires.first, c.requires.between)) inside c.handle_at.ensures.stack in
     record { block = node c.handle_at.result.now; older = older.older; under = older.before; loose = c.near.invariant.loose (node c.handle_at.result.now) _ c.handle_at.ensures.stack }
 
@@ -61,7 +61,7 @@ near-preserved g c =
     let nearer : first < c.near.place = omega (arith, c.near-test.true) in
     let more : place + 1 ≡ c.near.place = omega (arith, nearer) in
     let fewer : suc (c.near.left - 1) ≡ c.near.left = omega (arith, c.if-left-gt0.true) in
-    let under = under_more node state place (omega (arith, nearer, c.near.invariant.inside, c.requires.block, open_length (open_node node) state.open_elems.items)) in
+    let under = under_more node state place (omega (arith, nearer, c.near.invariant.inside, c.requires.block, open_length (open_node node) (elements_of state))) in
     let between : open_between node state first c.near.place ≡ under.element ∷ open_between node state first place =
     ap (open_between node state first) (sym more) ∙ between_more node state first place under.element (omega (arith, nearer)) under.step in
     let old = nest_of node (g.S.TreeSink.sees c.near.sink).forest c.near.clones in

@@ -4,7 +4,7 @@ use Rattle.h5_rules.specs.World.{name_in, names_of}
 use Rattle.h5_rules.specs.formatting.Adoption.{newer_than, older_than}
 use Rattle.h5_rules.proofs.entries.PassLaws.{stack_split}
 use Rattle.h5_state.specs.Summaries.{summaries}
-use Rattle.h5_state.specs.View.{open_node, world}
+use Rattle.h5_state.specs.View.{elements_of, open_node, world}
 use Rattle.h5_state.proofs.SummaryLaws.{kept_under}
 use Rattle.h5_rules.proofs.changes.RemovalLaws.{all_older}
 use Rattle.h5_state.proofs.SeenLaws.{seen_at}
@@ -15,7 +15,7 @@ unfolding world names_of
 returns g c = λ n k.
     let node = g.S.TreeSink.node in
     let w = world g.S.TreeSink.sees node c.args.sink.now c.args.state.now in
-    let items = c.args.state.now.open_elems.items in
+    let items = (elements_of c.args.state.now) in
     let newer = newer_than n w.stack ++ n ∷ [] in
     let cut : w.stack ≡ newer ++ older_than n w.stack = stack_split n w.stack k.is_open ∙ sym (append_assoc (newer_than n w.stack) (n ∷ []) (older_than n w.stack)) in
     let left : reverse (map (open_node node) c.truncate.new.self.items) ≡ older_than n w.stack =

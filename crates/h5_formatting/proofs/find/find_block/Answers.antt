@@ -3,7 +3,7 @@ use Rattle.std.specs.List.{list_any}
 use Rattle.h5_tag_sets.specs.TagSets.{is_special}
 use Rattle.h5_rules.specs.formatting.Adoption.{newer_than}
 use Rattle.h5_rules.specs.World.{name_in}
-use Rattle.h5_state.specs.View.{open_node, stack_under, world}
+use Rattle.h5_state.specs.View.{elements_of, open_node, stack_under, world}
 use Rattle.h5_formatting.proofs.OpenLaws.{block_at, furthest_none, length_under, none_newer, one_left, stack_cut, stands_at, stands_below}
 use Rattle.h5_formatting.proofs.find.find_block.Goals as goal
 
@@ -51,6 +51,6 @@ returns-clause-block g c = λ n k.
     let node = g.S.TreeSink.node in
     let state = c.args.state.now in
     let special = λ (m : ℕ). is_special (name_in (g.S.TreeSink.sees c.args.sink.now).forest m) in
-    let all : stack_under node state c.up.above ≡ reverse (map (open_node node) state.open_elems.items) =
+    let all : stack_under node state c.up.above ≡ reverse (map (open_node node) (elements_of state)) =
     ap (stack_under node state) (omega (arith, c.up.invariant.above, c.up-test.false)) ∙ c.open_count-count.ensures.stack in
     furthest_none special _ (ap (λ s. list_any special (newer_than n s)) (sym all) ∙ c.up.invariant.none n k)

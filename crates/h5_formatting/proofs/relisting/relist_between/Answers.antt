@@ -2,7 +2,7 @@ use Rattle.std.proofs.Common.{ap, arith, drop, length, map, refl, reverse, suc, 
 use Rattle.h5_rules.specs.World.{World}
 use Rattle.h5_rules.specs.formatting.InnerLoop.{walked}
 use Rattle.h5_state.specs.Steps.{world_of}
-use Rattle.h5_state.specs.View.{open_node, stack_under, world}
+use Rattle.h5_state.specs.View.{elements_of, open_node, stack_under, world}
 use Rattle.h5_formatting.proofs.OpenLaws.{same_under, under_more}
 use Rattle.h5_formatting.proofs.RelistLaws.{walked_none}
 use Rattle.h5_formatting.proofs.relisting.relist_between.Goals as goal
@@ -29,7 +29,7 @@ down-preserved-then-block-place-le3 g c =
     let ys = drop c.down.used (map node c.args.clones.now.items) in
     let first = c.args.first in
     let v = world_of g.S.TreeSink c.args.sink.now c.down.state in
-    let inside : place < length (reverse (map (open_node node) c.args.state.now.open_elems.items)) = omega (arith, c.down-test.true, c.down.invariant.place, c.requires) in
+    let inside : place < length (reverse (map (open_node node) (elements_of c.args.state.now))) = omega (arith, c.down-test.true, c.down.invariant.place, c.requires) in
     let here : c.down.place ≡ place + 1 = omega (arith, c.down-test.true) in
     let more = under_more node c.args.state.now place inside in
     let step = c.relist_near-used.ensures.walked more.0 (s place) (same_under node c.down.state c.args.state.now (place + 1) c.down.invariant.stack ∙ more.1) (3 - (c.args.block - place)) (take (place - first) (s place)) in
@@ -54,7 +54,7 @@ down-preserved g c =
     let first = c.args.first in
     let v = world_of g.S.TreeSink c.args.sink.now c.down.state in
     let u = world_of g.S.TreeSink c.args.sink.now c.relist_far.new.state in
-    let inside : place < length (reverse (map (open_node node) c.args.state.now.open_elems.items)) = omega (arith, c.down-test.true, c.down.invariant.place, c.requires) in
+    let inside : place < length (reverse (map (open_node node) (elements_of c.args.state.now))) = omega (arith, c.down-test.true, c.down.invariant.place, c.requires) in
     let here : c.down.place ≡ place + 1 = omega (arith, c.down-test.true) in
     let more = under_more node c.args.state.now place inside in
     let rest = take (place - first) (s place) in

@@ -2,7 +2,7 @@ use Rattle.std.proofs.Common.{ap, map, refl, reverse, subst, sym, ◌≡◌}
 use Rattle.h5_rules.specs.Sound.{AllStand}
 use Rattle.h5_rules.specs.World.{name_in, names_of}
 use Rattle.h5_state.specs.Summaries.{summaries}
-use Rattle.h5_state.specs.View.{open_node, stack_under, world}
+use Rattle.h5_state.specs.View.{elements_of, open_node, stack_under, world}
 use Rattle.h5_state.proofs.SummaryLaws.{kept_under}
 use Rattle.h5_formatting.proofs.OpenLaws.{stack_cut}
 use Rattle.h5_rules.proofs.changes.RemovalLaws.{all_older}
@@ -13,7 +13,7 @@ unfolding world names_of stack_under
 returns g c =
     let node = g.S.TreeSink.node in
     let w = world g.S.TreeSink.sees node c.args.sink.now c.args.state.now in
-    let items = c.args.state.now.open_elems.items in
+    let items = (elements_of c.args.state.now) in
     let cut = stack_cut node c.args.state.now c.args.count in
     let left : reverse (map (open_node node) c.truncate.new.self.items) ≡ stack_under node c.args.state.now c.args.count = ap (λ xs. reverse (map (open_node node) xs)) c.truncate.ensures.items in
     record {

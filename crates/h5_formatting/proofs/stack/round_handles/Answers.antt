@@ -1,6 +1,6 @@
 use Rattle.std.proofs.Common.{[], ap, arith, map, reverse, sym, ◌++◌, ◌+◌, ◌∙◌, ◌∷◌, ◌≡◌}
 use Rattle.std.proofs.lemmas.List.{append-nil}
-use Rattle.h5_state.specs.View.{open_node, stack_under, world}
+use Rattle.h5_state.specs.View.{elements_of, open_node, stack_under, world}
 use Rattle.h5_state.proofs.StackLaws.{seen_pushed}
 use Rattle.h5_state.proofs.SeenLaws.{seen_at}
 use Rattle.h5_formatting.proofs.stack.round_handles.Goals as goal
@@ -9,7 +9,7 @@ pub returns : goal.returns
 unfolding world stack_under
 returns g c = λ newer b older e h.
     let node = g.S.TreeSink.node in
-    let items = c.args.state.now.open_elems.items in
+    let items = (elements_of c.args.state.now) in
     let clones = map node c.args.clones.now.items in
     let n = node c.args.clone.now in
     let high = seen_at (open_node node) items (c.args.block + 1) newer (b ∷ older) e (omega (arith, h)) in
