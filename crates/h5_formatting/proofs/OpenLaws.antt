@@ -4,11 +4,14 @@ use Rattle.std.specs.List.{list_any}
 use Rattle.std.specs.Prelude.{◌==◌}
 use Rattle.std.proofs.lemmas.Bool.{eqb-false}
 use Rattle.std.proofs.lemmas.List.{length-map, length-reverse, length-take, map-append, reverse-append, take-append-drop, take_more}
+use Rattle.h5_names.specs.declared.qualified.QualName.{QualName}
 use Rattle.h5_tag_sets.specs.TagSets.{is_special}
 use Rattle.h5_rules.specs.formatting.Adoption.{block_or, furthest_block, newer_than, older_than}
 use Rattle.h5_rules.specs.stack.Order.{IsIn}
 use Rattle.h5_rules.proofs.entries.PassLaws.{stack_split}
 use Rattle.h5_rules.specs.World.{World, name_in}
+use Rattle.h5_stack.specs.Numbered.{values}
+use Rattle.h5_state.specs.declared.open_element.OpenElements.{OpenElements}
 use Rattle.h5_state.specs.View.{elements_of, open_node, stack_under}
 use Rattle.h5_state.specs.declared.open_element.OpenElement.{OpenElement}
 use Rattle.h5_state.specs.declared.state.State.{State}
@@ -128,4 +131,9 @@ under_more {H} node state place h = at (elements_of state) h
 
 pub same_under : {H : Type 0} (node : H → ℕ) (x y : State H) (count : ℕ) → x.open_elems ≡ y.open_elems → stack_under node x count ≡ stack_under node y count
 unfolding stack_under
-same_under node x y count e = ap (λ v. reverse (map (open_node node) (take count v.items))) e
+same_under {H} node x y count e = ap (λ (v : OpenElements H). reverse (map (open_node node) (take count (values v.elements)))) e
+
+-- one of some passes by its name
+pub any_named : (is : QualName → Bool) (name : ℕ → QualName) (s : List ℕ) → list_any is (map name s) ≡ list_any (λ m. is (name m)) s
+any_named is name [] = refl
+any_named is name (n ∷ s) = ap (λ b. is (name n) || b) (any_named is name s)

@@ -18,7 +18,7 @@ use Rattle.h5_rules.proofs.entries.RoundLaws.{replaced_by_which}
 use Rattle.h5_rules.specs.Sound.{Sound}
 use Rattle.h5_rules.specs.World.{World, names_of}
 use Rattle.h5_state.specs.Steps.{IsSound, world_of}
-use Rattle.h5_state.specs.Summaries.{summaries}
+use Rattle.h5_state.specs.Summaries.{IsKept}
 use Rattle.h5_state.specs.View.{elements_of, open_node, stack_under}
 use Rattle.h5_state.specs.declared.state.State.{State}
 use Rattle.h5_formatting.specs.Relists.{Relists}
@@ -36,7 +36,7 @@ pub sound_relisted : {S H O : Type 0} (law : Ghosts S H O) (sink : S) (old new :
 unfolding names_of
 sound_relisted law sink old new l same is k stands = record {
   sound = subst Sound (sym is) stands;
-  kept = ap (λ v. reverse (map (λ element. element.summary) v.items)) same ∙ k.kept ∙ ap (λ (u : World). summaries (names_of u)) (sym is);
+  kept = subst (λ open_elems. IsKept open_elems (names_of (world_of law sink new))) (sym same) (subst (λ (u : World). IsKept old.open_elems (names_of u)) (sym is) k.kept);
 }
 
 module _ (f : FormattingElement) (between clones : List ℕ) (clone at first block : ℕ) (w : World) (r : Relists f between clones clone at first block w) where

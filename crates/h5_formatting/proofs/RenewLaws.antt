@@ -17,8 +17,7 @@ use Rattle.h5_rules.specs.Sound.{Sound}
 use Rattle.h5_rules.specs.World.{World, current, names_of}
 use Rattle.h5_rules.proofs.changes.FormattingLaws.{all_listed, kind-insert_for, made_nodes, reconstruct_as_made, sound_insert_for}
 use Rattle.h5_state.specs.Steps.{IsSound, world_of}
-use Rattle.h5_state.specs.Summaries.{summaries}
-use Rattle.h5_state.specs.View.{kept_of}
+use Rattle.h5_state.specs.Summaries.{IsKept}
 use Rattle.h5_state.specs.declared.state.State.{State}
 use Rattle.h5_formatting.specs.EntryPlaces.{entry_at, renewed, renewed_by, with_node_at}
 use Rattle.h5_formatting.proofs.ListLaws.{each_entry_at, each_with_node, entry_at_cut, with_node_at_cut}
@@ -28,14 +27,14 @@ use Rattle.h5_rules.proofs.entries.WholeRoundLaws.{no_marker_back}
 abbrev pub with_list : List Entry → World → World
 with_list l w = record w { formatting = l }
 
-pub sound_with_list : {S H O : Type 0} (law : Ghosts S H O) (sink : S) (old new : State H) (l : List Entry) → world_of law sink new ≡ with_list l (world_of law sink old) → kept_of new ≡ kept_of old
+pub sound_with_list : {S H O : Type 0} (law : Ghosts S H O) (sink : S) (old new : State H) (l : List Entry) → world_of law sink new ≡ with_list l (world_of law sink old) → new.open_elems ≡ old.open_elems
     → AllOfTags (world_of law sink old).forest l → AllFormatting l → IsSound law sink old → IsSound law sink new
 unfolding names_of
 sound_with_list law sink old new l e h listed formatting k =
     let w = world_of law sink old in
     record {
       sound = subst Sound (sym e) (all_listed w.forest w.stack w.formatting l k.sound listed formatting);
-      kept = h ∙ k.kept ∙ ap (λ (v : World). summaries (names_of v)) (sym e);
+      kept = subst (λ open_elems. IsKept open_elems (names_of (world_of law sink new))) (sym h) (subst (λ (v : World). IsKept old.open_elems (names_of v)) (sym e) k.kept);
     }
 
 -- the element at a place is made anew: the one that became the current node
@@ -62,7 +61,7 @@ module _ (choices : SinkChoices) (t : TagText) (w : World) where
 
   -- a sink and a state that mean this are sound
   pub sound_with_current : {S H O : Type 0} (law : Ghosts S H O) (sink : S) (old new : State H) (i n : ℕ) → entry_at i w.formatting ≡ ElementEntry n t → Sound w → world_of law sink old ≡ open_more
-      → world_of law sink new ≡ with_current_at i (world_of law sink old) → kept_of new ≡ kept_of old → IsSound law sink old → IsSound law sink new
+      → world_of law sink new ≡ with_current_at i (world_of law sink old) → new.open_elems ≡ old.open_elems → IsSound law sink old → IsSound law sink new
   sound_with_current law sink old new i n e k was is kept sound =
       sound_with_list law sink old new (with_current_at i (world_of law sink old)).formatting is kept
       (subst (λ (v : World). AllOfTags v.forest (with_current_at i v).formatting) (sym was) (listed_with_current i n e k))

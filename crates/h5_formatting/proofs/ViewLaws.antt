@@ -9,7 +9,7 @@ use Rattle.h5_rules.specs.Sound.{AllStand}
 use Rattle.h5_rules.specs.World.{name_in, name_of_found, names_of}
 use Rattle.h5_rules.proofs.changes.SoundLaws.{element_is_node}
 use Rattle.h5_state.specs.Steps.{IsSound, world_of}
-use Rattle.h5_state.specs.Summaries.{summaries}
+use Rattle.h5_state.specs.Summaries.{IsKept}
 use Rattle.h5_state.specs.View.{world}
 use Rattle.h5_state.specs.declared.state.State.{State}
 
@@ -27,7 +27,7 @@ pub sound_rehung : {S H O : Type 0} (law : Ghosts S H O) (old new : S) (state : 
 unfolding world names_of
 sound_rehung law old new state k all same = record {
   sound = all;
-  kept = k.kept ∙ ap summaries (sym (names_same (law.sees old).forest (law.sees new).forest (world_of law old state).stack k.sound.stands.elements same));
+  kept = subst (IsKept state.open_elems) (sym (names_same (law.sees old).forest (law.sees new).forest (world_of law old state).stack k.sound.stands.elements same)) k.kept;
 }
 
 -- the same where it is known what the forest became

@@ -10,7 +10,9 @@ ghost use Rattle.h5_formatting.specs.Places.{IsEntryAt};
 use super::relisting::drop_entry;
 use h5_interface::TreeSink;
 use h5_names::LocalName;
-use h5_state::{State, find_before_special, generate_implied_end_except, pop_until_named};
+use h5_state::{
+    State, find_before_special, generate_implied_end_except, pop_until_named, truncate,
+};
 
 /// Closes the first element of a name from the current node on, if it comes before any special element (HTML standard,
 /// section 13.2.6.4.7, "any other end tag").
@@ -41,5 +43,5 @@ pub fn close_through<S: TreeSink>(sink: &S, state: &mut State<S::Handle>, place:
     ensures { (n : ℕ) → IsOpenAt n place (world_of S.TreeSink sink.now state.old)
         → Becomes S.TreeSink (λ w. record w { stack = older_than n w.stack }) sink.now state.old sink.now state.new }
 {
-    state.open_elems.elements.truncate(place);
+    truncate(sink, state, place);
 }

@@ -10,10 +10,10 @@ ghost use Rattle.h5_state.specs.Steps.{IsSound, world_of};
 ghost use Rattle.h5_state.specs.OpenPlaces.{IsOpenAt};
 ghost use Rattle.h5_formatting.specs.Places.{IsBlockAt, IsEntryAt, IsListedAt};
 
-use super::walk::{ends_scope, entry_at, entry_count};
+use super::walk::{entry_at, entry_count};
 use h5_interface::TreeSink;
 use h5_names::LocalName;
-use h5_state::{State, open_at, open_count};
+use h5_state::{State, newest_scope_end, open_at, open_count};
 use h5_types::FormatEntry;
 
 /// Where the formatting element of a name is listed: the newest entry of the name after the last marker.
@@ -70,14 +70,7 @@ pub fn scope_ends_above<S: TreeSink>(sink: &S, state: &State<S::Handle>, place: 
     ensures { (n : ℕ) → IsOpenAt n place (world_of S.TreeSink sink.now state.now)
         → result ≡ list_any (λ m. is_default_scope (name_in (world_of S.TreeSink sink.now state.now).forest m)) (newer_than n (world_of S.TreeSink sink.now state.now).stack) }
 {
-    let mut above = open_count(sink, state);
-    'down: while above > place + 1 {
-        above -= 1;
-        if ends_scope(sink, &open_at(sink, state, above).handle) {
-            return true;
-        }
-    }
-    false
+    newest_scope_end(sink, state) > place + 1
 }
 
 /// Where the furthest block of the open element at a place stands: the oldest special element above it.

@@ -1,31 +1,15 @@
 //! Formatting elements that were closed are made anew.
 ghost use Rattle.std.specs.Prelude.{◌≡◌, ◌<◌, ◌≤◌, ℕ, length, OnOk, vec_len};
 ghost use Rattle.h5_rules.specs.formatting.FormattingList.{open_rest};
-ghost use Rattle.h5_rules.specs.stack.Order.{is_in};
 ghost use Rattle.h5_rules.specs.Rows.{ReconstructActiveFormattingElements};
 ghost use Rattle.h5_formatting.specs.EntryPlaces.{entries_of, renewed, with_node_at};
 ghost use Rattle.h5_state.specs.Steps.{IsSound, MakesIfOk, errors_of, world_of};
 
 use h5_insertion::insert_element;
 use h5_interface::TreeSink;
-use h5_state::{State, current_node};
+use h5_state::{State, current_node, find_open};
 use h5_types::FormatEntry;
 use std::alloc::AllocError;
-
-// Whether an element is open.
-#[tactic(auto, unfolding(h5_state::specs::View::world))]
-fn is_open<S: TreeSink>(sink: &S, state: &State<S::Handle>, handle: &S::Handle) -> bool
-    ensures { result ≡ is_in (S.node handle.now) (world_of S.TreeSink sink.now state.now).stack }
-{
-    let mut place = state.open_elems.elements.len();
-    'down: while place > 0 {
-        place -= 1;
-        if sink.same_node(handle, &state.open_elems.elements.get(place).handle) {
-            return true;
-        }
-    }
-    false
-}
 
 // How many entries stay as they are: the oldest ones, up to the last marker or the last element that is open.
 #[tactic(auto, unfolding(h5_state::specs::View::world))]
@@ -36,7 +20,7 @@ fn count_staying<S: TreeSink>(sink: &S, state: &State<S::Handle>) -> usize
     'rewind: while place > 0 {
         match &state.active_formatting[place - 1] {
             FormatEntry::Element(handle, _) => {
-                if is_open(sink, state, handle) {
+                if find_open(sink, state, handle).is_some() {
                     return place;
                 }
             }

@@ -5,7 +5,7 @@ ghost use Rattle.h5_state.specs.Steps.{Becomes, BecomesIfOk, IsSound, world_of};
 ghost use Rattle.h5_state.specs.View.{stack_under};
 
 use h5_interface::TreeSink;
-use h5_state::{State, handle_at, open_count, push_open};
+use h5_state::{State, handle_at, open_count, push_open, truncate};
 use std::alloc::AllocError;
 
 // Clones are pushed, the last of them first.
@@ -70,7 +70,7 @@ fn keep_oldest<S: TreeSink>(sink: &S, state: &mut State<S::Handle>, count: usize
     requires { IsSound S.TreeSink sink.now state.old }
     ensures { Becomes S.TreeSink (λ w. record w { stack = stack_under S.node state.old count }) sink.now state.old sink.now state.new }
 {
-    state.open_elems.elements.truncate(count);
+    truncate(sink, state, count);
 }
 
 /// The elements from a place on leave the stack, and these stand there, the oldest first. An Err leaves some of them.

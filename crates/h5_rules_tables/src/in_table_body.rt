@@ -13,7 +13,9 @@ use h5_insertion::{insert_element, insert_phantom};
 use h5_interface::TreeSink;
 use h5_names::{KnownName, QualName};
 use h5_rules_head::ignored_tag;
-use h5_state::{Local, NameTest, State, Turn, pop, set_mode, unexpected_tag};
+use h5_state::{
+    Local, NameTest, NewestTest, State, Turn, newest_among, pop, set_mode, unexpected_tag,
+};
 use h5_tag_sets::is_html_known;
 use h5_token::{Tag, TagKind};
 use h5_types::{InsertionMode, ProcessResult, Token};
@@ -84,6 +86,16 @@ impl NameTest for TableSection {
         is_html_known(name, KnownName::Tbody)
             || is_html_known(name, KnownName::Tfoot)
             || is_html_known(name, KnownName::Thead)
+    }
+}
+
+impl NewestTest for TableSection {
+    fn newest<S: TreeSink>(&self, sink: &S, state: &State<S::Handle>) -> usize {
+        newest_among(
+            sink,
+            state,
+            &[KnownName::Tbody, KnownName::Tfoot, KnownName::Thead],
+        )
     }
 }
 

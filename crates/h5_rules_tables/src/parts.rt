@@ -7,11 +7,11 @@ ghost use Rattle.h5_tag_sets.specs.TagSets.{is_table_body_context, is_table_row_
 
 use h5_closing::{find_in_table_scope, pop_until_current};
 use h5_interface::TreeSink;
-use h5_state::{NameTest, State};
+use h5_state::{NewestTest, State};
 use h5_tag_sets::ElementSet;
 
 /// Whether an element whose name passes is in table scope.
-pub(crate) fn has_in_table_scope<S: TreeSink, Is: NameTest>(
+pub(crate) fn has_in_table_scope<S: TreeSink, Is: NewestTest>(
     sink: &S,
     state: &State<S::Handle>,
     is: &Is,

@@ -2,7 +2,7 @@
 use Rattle.std.proofs.Common.{◌≡◌, ◌≢◌, ◌+◌, ◌-◌, ◌<◌, ◌≤◌, ℕ, suc, nat_lt, nat_le, Bool, true, false, cond, ◌&&◌, ◌||◌, ◌==◌, List, [], ◌∷◌, ◌++◌, Option, Some, None, MatchOption, is_some, length, map, max, refl, ap, sym, subst, ◌∙◌, arith}
 use Rattle.std.proofs.lemmas.Bool.{eqb-false, eqb-true, le-leb, le-ltb, lt-leb, lt-ltb}
 use Rattle.std.proofs.lemmas.List.{length-append, length-map}
-use Rattle.std.proofs.lemmas.Option.{same_Some}
+use Rattle.std.specs.List.{list_any}
 use Rattle.h5_names.specs.declared.qualified.QualName.{QualName}
 use Rattle.h5_stack.specs.Numbered.{newest_of}
 use Rattle.h5_rules.specs.stack.Order.{but_first}
@@ -77,6 +77,15 @@ above_newest is (n ∷ ns) (m ∷ s) e = at (is n) (omega (arith, e)) (above_new
         → length (cond b (m ∷ s) (cut_above is ns s)) ≡ cond b (length ns + 1) (newest_where is ns)
     at true l f = omega (arith, l)
     at false l f = f l
+
+-- whether one is newer than some
+pub newer_than_rest : (is : QualName → Bool) (newer rest : List QualName) → nat_lt (length rest) (newest_where is (newer ++ rest)) ≡ list_any is newer
+newer_than_rest is [] rest = le-ltb (length rest) (newest_where is rest) (newest_le is rest)
+newer_than_rest is (n ∷ newer) rest = at (is n) (newer_than_rest is newer rest)
+  where
+    at : (b : Bool) → nat_lt (length rest) (newest_where is (newer ++ rest)) ≡ list_any is newer → nat_lt (length rest) (cond b (length (newer ++ rest) + 1) (newest_where is (newer ++ rest))) ≡ (b || list_any is newer)
+    at true e = lt-ltb (length rest) (length (newer ++ rest) + 1) (omega (arith, length-append newer rest))
+    at false e = e
 
 -- the oldest of a kind
 pub oldest_le : (is : QualName → Bool) (names : List QualName) → oldest_where is names ≤ length names

@@ -1,5 +1,5 @@
 -- What is kept beside the open elements, where elements come or leave.
-use Rattle.std.proofs.Common.{◌≡◌, ◌≢◌, Bool, true, false, cond, ◌&&◌, ◌||◌, ◌<◌, ◌≤◌, ◌-◌, ◌+◌, ℕ, nat_lt, take, drop, get_or, Some, List, [], ◌∷◌, ◌++◌, append_assoc, length, map, reverse, refl, ap, subst, sym, ◌∙◌, zero-add, arith, rules}
+use Rattle.std.proofs.Common.{◌≡◌, ◌≢◌, Bool, true, false, cond, ◌&&◌, ◌||◌, ◌<◌, ◌≤◌, ◌-◌, ◌+◌, ℕ, nat_lt, take, drop, get_or, Some, List, [], ◌∷◌, ◌++◌, append_assoc, length, length-append, ◌^◌, map, reverse, refl, ap, subst, sym, ◌∙◌, zero-add, arith, rules}
 use Rattle.std.specs.Int.{from_bool}
 use Rattle.std.specs.Prelude.{slice_get}
 use Rattle.std.proofs.lemmas.Bool.{lt-ltb}
@@ -160,19 +160,21 @@ module _ {H : Type 0} where
   pushed_values old new k x e = ap (λ (z : List (Numbered (OpenElement H))). values z) e ∙ map-append value_at old (one_of k x ∷ [])
 
   pub kept_pushed : (old new : OpenElements H) (x : OpenElement H) (k : ℕ) (name : QualName) (all : List QualName) → new.elements ≡ old.elements ++ one_of k x ∷ [] → x.summary ≡ summary_of name all
-      → name_number new.numbers name ≡ Some k → ((one : QualName) (m : ℕ) → name_number old.numbers one ≡ Some m → name_number new.numbers one ≡ Some m) → IsKept old all → IsKept new (name ∷ all)
-  kept_pushed old new x k name all e s n stay h =
+      → name_number new.numbers name ≡ Some k → ((one : QualName) (m : ℕ) → name_number old.numbers one ≡ Some m → name_number new.numbers one ≡ Some m) → length old.elements + 1 < 2 ^ 32 → IsKept old all → IsKept new (name ∷ all)
+  kept_pushed old new x k name all e s n stay few h =
       let whole = pushed_values old.elements new.elements k x e in
       let more : numbers new.elements ≡ numbers old.elements ++ k ∷ [] = ap (λ (z : List (Numbered (OpenElement H))). numbers z) e ∙ map-append number_at old.elements (one_of k x ∷ []) in
       record {
         summarized = summaries_pushed (values old.elements) (values new.elements) x name all (name ∷ all) whole s refl h.summarized;
         numbered = ap (λ (z : List ℕ). map Some (reverse z)) more ∙ number_pushed new.numbers (numbers old.elements) k name all n (numbers_grow old.numbers new.numbers (reverse (numbers old.elements)) all stay h.numbered);
+        few = omega (arith, few, ap (λ (z : List (Numbered (OpenElement H))). length z) e, length-append old.elements (one_of k x ∷ []));
       }
 
   pub kept_grown : (old new : OpenElements H) (all : List QualName) → new.elements ≡ old.elements → ((one : QualName) (m : ℕ) → name_number old.numbers one ≡ Some m → name_number new.numbers one ≡ Some m) → IsKept old all → IsKept new all
   kept_grown old new all e stay h = record {
     summarized = ap (λ (z : List (Numbered (OpenElement H))). reverse (map summary_at (values z))) e ∙ h.summarized;
     numbered = ap (λ (z : List (Numbered (OpenElement H))). map Some (reverse (numbers z))) e ∙ numbers_grow old.numbers new.numbers (reverse (numbers old.elements)) all stay h.numbered;
+    few = omega (arith, h.few, ap (λ (z : List (Numbered (OpenElement H))). length z) e);
   }
 
   pub kept_popped : (old new : OpenElements H) (x : OpenElement H) (k : ℕ) (all : List QualName) → values old.elements ≡ values new.elements ++ x ∷ [] → numbers old.elements ≡ numbers new.elements ++ k ∷ []
@@ -180,6 +182,7 @@ module _ {H : Type 0} where
   kept_popped old new x k all e f n h = record {
     summarized = kept_later x.summary (reverse (map summary_at (values new.elements))) all (sym (seen_pushed summary_at (values new.elements) (values old.elements) x e) ∙ h.summarized);
     numbered = number_popped old.numbers (numbers old.elements) (numbers new.elements) k all f h.numbered ∙ ap (λ N. map (name_number N) (later_names all)) (sym n);
+    few = omega (arith, h.few, ap (λ (z : List ℕ). length z) f, length-append (numbers new.elements) (k ∷ []), length-map old.elements number_at, length-map new.elements number_at);
   }
 
   pub cut_values : (old new : List (Numbered (OpenElement H))) (count : ℕ) → new ≡ take count old → values new ≡ take count (values old)
@@ -215,6 +218,7 @@ module _ {H : Type 0} where
         (record {
           summarized = ap (λ xs. reverse (map summary_at xs)) all ∙ kept_under node f (values old.elements) count h.summarized;
           numbered = ap (λ (z : List ℕ). map Some (reverse z)) some ∙ numbered_under ∙ ap (λ N. map (name_number N) (names node f older)) (sym n);
+          few = omega (arith, h.few, ap (λ (z : List (Numbered (OpenElement H))). length z) e, length-take count old.elements);
         })
 
   -- the number of one

@@ -1,5 +1,5 @@
 -- What is kept beside the open elements, by their names.
-use Rattle.std.specs.Prelude.{◌≡◌, ℕ, List, [], ◌∷◌, Some, codes, map, reverse}
+use Rattle.std.specs.Prelude.{◌≡◌, ◌<◌, ◌^◌, ℕ, List, [], ◌∷◌, Some, codes, length, map, reverse}
 use Rattle.std.specs.List.{count_by}
 use Rattle.h5_names.specs.declared.qualified.QualName.{QualName}
 use Rattle.h5_interface.specs.NewElement.{is_html_template}
@@ -40,7 +40,9 @@ abbrev pub summaries : List QualName → List Summary
 summaries [] = []
 summaries (name ∷ older) = summary_of name older ∷ summaries older
 
--- what is kept beside open elements of these names, the newest first, is what the names say, and so are their numbers
+-- what is kept beside open elements of these names, the newest first, is what the names say, and so are their numbers;
+-- places are numbers of 32 bits
 pub record IsKept {H : Type 0} (open_elems : OpenElements H) (names : List QualName) : Type 0 where
   pub summarized : reverse (map (λ (element : OpenElement H). element.summary) (values open_elems.elements)) ≡ summaries names
   pub numbered : map Some (reverse (numbers open_elems.elements)) ≡ map (name_number open_elems.numbers) names
+  pub few : length open_elems.elements < 2 ^ 32

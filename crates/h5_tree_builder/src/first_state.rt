@@ -1,18 +1,18 @@
 //! The state of a builder that took nothing yet (HTML standard, section 13.2.4, "Parse state").
 ghost use Rattle.std.specs.Prelude.{◌≡◌, []};
 ghost use Rattle.h5_state.specs.Steps.{world_of};
-ghost use Rattle.h5_state.specs.View.{kept_of};
+ghost use Rattle.h5_state.specs.Summaries.{IsKept};
 ghost use Rattle.h5_tree_builder.specs.Builder.{first_world};
 
 use h5_interface::TreeSink;
-use h5_state::{PendingText, State};
+use h5_state::{OpenElements, PendingText, State};
 use h5_types::{InsertionMode, TreeBuilderOpts};
 use std::alloc::Global;
 
 // Nothing is open, in the mode "initial".
 #[tactic(auto, unfolding(h5_state::specs::View::world))]
 pub fn first_state<S: TreeSink>(sink: &S, alloc: Global, opts: TreeBuilderOpts) -> State<S::Handle>
-    ensures kept { kept_of result ≡ [] }
+    ensures kept { IsKept result.open_elems [] }
     ensures world { world_of S.TreeSink sink.now result ≡ first_world (S.sees sink.now) opts }
 {
     State {
@@ -22,7 +22,7 @@ pub fn first_state<S: TreeSink>(sink: &S, alloc: Global, opts: TreeBuilderOpts) 
         template_modes: Vec::new(alloc),
         pending_table_text: PendingText::new(alloc),
         quirks_mode: opts.quirks_mode,
-        open_elems: Vec::new(alloc),
+        open_elems: OpenElements::new(alloc),
         active_formatting: Vec::new(alloc),
         head_elem: None,
         form_elem: None,

@@ -65,6 +65,6 @@ returns g c =
       sound = record {
         sound = subst (λ s. AllStand w.forest s w.formatting w.head w.form w.context) (sym stack) c.requires.stands;
         kept = subst (IsKept _) (sym (ap (map (name_in w.forest)) stack))
-            (kept_pushed old _ _ number (name_in w.forest n) (names_of w) c.in_ok-push.ensures.ok summary numbered c.in_ok-number.ensures.stay c.requires.sound.kept);
+            (kept_pushed old _ _ number (name_in w.forest n) (names_of w) c.in_ok-push.ensures.ok summary numbered c.in_ok-number.ensures.stay (omega (arith, c.in_ok-place.ensures.place, c.in_ok-place.ensures.few)) c.requires.sound.kept);
       };
     }

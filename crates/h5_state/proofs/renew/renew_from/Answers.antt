@@ -2,6 +2,7 @@ use Rattle.std.proofs.Common.{List, Some, ap, arith, length, map, reverse, subst
 use Rattle.std.proofs.lemmas.List.{take_all}
 use Rattle.h5_rules.specs.Sound.{Sound}
 use Rattle.h5_rules.specs.World.{World, name_in, names_of}
+use Rattle.h5_stack.proofs.ItemLaws.{length-values}
 use Rattle.h5_state.specs.Numbers.{name_number}
 use Rattle.h5_state.specs.Summaries.{summaries}
 use Rattle.h5_state.specs.View.{elements_of, names_under, open_node, world}
@@ -39,5 +40,13 @@ returns-clause-sound g c =
         summarized = subst (λ xs. reverse (map (λ element. element.summary) xs) ≡ summaries (map (name_in f) (reverse (map (open_node node) xs)))) (take_all c.up.place items count) c.up.invariant.kept;
         numbered = ap (λ (z : List ℕ). map Some (reverse z)) c.up.invariant.numbers ∙ c.requires.numbered
             ∙ ap (λ N. map (name_number N) (names_of first)) (sym c.up.invariant.same) ∙ ap (λ (v : World). map (name_number c.up.state.open_elems.numbers) (names_of v)) (sym c.up.invariant.world);
+        few = omega (
+          arith,
+          c.open_count-count.ensures.few,
+          c.up.invariant.count,
+          ap (λ (v : World). length v.stack) c.up.invariant.world,
+          open_length (open_node node) items,
+          length-values c.up.state.open_elems.elements,
+        );
       };
     }
