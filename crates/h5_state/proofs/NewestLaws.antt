@@ -191,6 +191,14 @@ among_more locals local n = at (is_same_text n.ns html_namespace)
 pub among_two : (one other : List ℕ) (n : QualName) → is_html_among (one ∷ other ∷ []) n ≡ (is_html_named one n || is_html_named other n)
 among_two one other n = among_more (one ∷ []) other n ∙ ap (λ b. b || is_html_named other n) (among_more [] one n ∙ ap (λ b. b || is_html_named one n) (among_none n))
 
+or_three : (a b c : Bool) → ((a || b) || c) ≡ (a || (b || c))
+or_three true b c = refl
+or_three false b c = refl
+
+pub among_three : (one other third : List ℕ) (n : QualName) → is_html_among (one ∷ other ∷ third ∷ []) n ≡ (is_html_named one n || (is_html_named other n || is_html_named third n))
+among_three one other third n =
+    among_more (one ∷ other ∷ []) third n ∙ ap (λ b. b || is_html_named third n) (among_two one other n) ∙ or_three (is_html_named one n) (is_html_named other n) (is_html_named third n)
+
 pub newest_among_none : (names : List QualName) → newest_where (is_html_among []) names ≡ 0
 newest_among_none names = newest_never (is_html_among []) among_none names
 

@@ -17,8 +17,7 @@ use Rattle.h5_laws.proofs.turns.TurnLaws.{turns_few}
 use Rattle.h5_laws.proofs.cuts.RunLaws.{is_taken, moved}
 use Rattle.h5_plain.proofs.StartLaws.{all_none, fits_none, lists_none}
 use Rattle.h5_state.specs.Steps.{world_of}
-use Rattle.h5_state.specs.Summaries.{summaries}
-use Rattle.h5_state.specs.View.{kept_of}
+use Rattle.h5_state.specs.Summaries.{IsKept as StackIsKept}
 use Rattle.h5_state.specs.declared.state.State.{State}
 use Rattle.h5_tree_builder.specs.Builder.{Answered, Building, first_world}
 use Rattle.h5_tree_builder.specs.Chains.{CameTo}
@@ -33,12 +32,12 @@ names_first : (seen : Seen) (opts : TreeBuilderOpts) → names_of (first_world s
 unfolding names_of
 names_first seen opts = refl
 
-pub first_kept : {S H O : Type 0} (law : Ghosts S H O) (sink : S) (state : State H) (opts : TreeBuilderOpts) → IsForest (law.sees sink).forest → kept_of state ≡ [] → world_of law sink state ≡ first_world (law.sees sink) opts
+pub first_kept : {S H O : Type 0} (law : Ghosts S H O) (sink : S) (state : State H) (opts : TreeBuilderOpts) → IsForest (law.sees sink).forest → StackIsKept state.open_elems [] → world_of law sink state ≡ first_world (law.sees sink) opts
     → IsKept law (record { sink = sink; state = state; ended = false; failed = false; turns = 0 })
 first_kept law sink state opts k none e = record {
   sound = record {
     sound = subst Sound (sym e) (all_none (law.sees sink).forest k);
-    kept = none ∙ ap summaries (sym (ap names_of e ∙ names_first (law.sees sink) opts));
+    kept = subst (StackIsKept state.open_elems) (sym (ap names_of e ∙ names_first (law.sees sink) opts)) none;
   };
   fits = λ a b. subst Fits (sym e) (fits_first (law.sees sink) opts);
   lists = λ a. subst HasLists (sym e) lists_none;

@@ -17,10 +17,13 @@ use Rattle.h5_rules.specs.Settle.{Settled, settle}
 use Rattle.h5_rules.specs.Sound.{Fits, HasHtmlRoot, Sound, situation_of}
 use Rattle.h5_rules.specs.World.{World, names_of}
 use Rattle.h5_laws.proofs.turns.SettleLaws.{acknowledged_here, answered_here, ends_here, goes_on}
-use Rattle.h5_state.specs.View.{open_node, world}
+use Rattle.h5_interface.specs.declared.sink.TreeSink.{Ghosts}
+use Rattle.h5_stack.proofs.ItemLaws.{length-values}
+use Rattle.h5_state.specs.Steps.{IsSound}
+use Rattle.h5_state.specs.View.{elements_of, open_node, world}
+use Rattle.h5_state.proofs.AttributeLaws.{open_length}
 use Rattle.h5_state.specs.declared.state.State.{State}
 use Rattle.h5_interface.specs.Seen.{Seen}
-use Rattle.std.proofs.lemmas.List.{length-map, length-reverse}
 use Rattle.h5_tree_builder.specs.Chains.{CameTo, Left}
 
 -- once the root has been made builder and sink are ready
@@ -31,12 +34,10 @@ ready_in_mode w m e after k h = record { sound = k; lists = h.lists; root = name
 pub fits_in_mode : (w : World) (m : InsertionMode) → w.mode ≡ m → Fits w → NamesFit (situation_of w) m (names_of w)
 fits_in_mode w m e h = subst (λ x. NamesFit (situation_of w) x (names_of w)) e h.mode
 
--- fewer elements are open than a vector has room for
-pub few_open : {S H : Type 0} (sees : S → Seen) (node : H → ℕ) (sink : S) (state : State H) → length (world sees node sink state).stack < 2 ^ 63
+-- few elements are open
+pub few_open : {S H O : Type 0} (law : Ghosts S H O) (sink : S) (state : State H) → IsSound law sink state → length (world law.sees law.node sink state).stack < 2 ^ 32
 unfolding world
-few_open sees node sink state =
-    let v = state.open_elems in
-    omega (arith, length-reverse (map (open_node node) v.items), length-map v.items (open_node node), v.ok.0, v.ok.1, v.small)
+few_open law sink state k = omega (arith, k.kept.few, open_length (open_node law.node) (elements_of state), length-values state.open_elems.elements)
 
 pub left_all : (choices : SinkChoices) (t : TurnText) (w : World) (a : ℕ) → Left choices t w w a a 0
 left_all choices t w a = record { world = refl; turns = omega arith; reply = refl; quiet = λ h. (h, refl) }

@@ -89,7 +89,7 @@ turns-init g c =
     }
 
 pub overflow_add-turns : goal.overflow_add-turns
-overflow_add-turns g c = omega (arith, c.turns.invariant.few, few_open g.S.TreeSink.sees g.S.TreeSink.node c.args.sink.now c.args.state.now)
+overflow_add-turns g c = omega (arith, c.turns.invariant.few, few_open g.S.TreeSink c.args.sink.now c.args.state.now c.requires.ready.sound)
 
 pub turns-smaller : goal.turns-smaller
 turns-smaller g c =

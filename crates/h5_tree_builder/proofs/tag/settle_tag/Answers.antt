@@ -9,7 +9,7 @@ use Rattle.h5_tree_builder.proofs.tag.settle_tag.Goals as goal
 pub overflow_add-result : goal.overflow_add-result
 overflow_add-result g c =
     let node = g.S.TreeSink.node in
-    omega (arith, c.in_ok-rest.ensures.came.turns refl, c.in_ok-turns.ensures.few, turns_few g.S.TreeSink.choices (TagTurn (tag_text c.args.tag)) (world g.S.TreeSink.sees node c.let_text_go.new.sink c.let_text_go.new.state), few_open g.S.TreeSink.sees node c.let_text_go.new.sink c.let_text_go.new.state)
+    omega (arith, c.in_ok-rest.ensures.came.turns refl, c.in_ok-turns.ensures.few, turns_few g.S.TreeSink.choices (TagTurn (tag_text c.args.tag)) (world g.S.TreeSink.sees node c.let_text_go.new.sink c.let_text_go.new.state), few_open g.S.TreeSink c.let_text_go.new.sink c.let_text_go.new.state c.let_text_go.ensures.sound)
 
 pub returns : goal.returns
 returns g c =

@@ -73,7 +73,7 @@ pub overflow_add-result : goal.overflow_add-result
 overflow_add-result g c =
     let k = g.S.TreeSink.choices in
     let node = g.S.TreeSink.node in
-    omega (arith, c.in_ok-rest-in-Reprocess.ensures.came.turns refl, turns_few k (turn_text c.in-Reprocess.again) (world g.S.TreeSink.sees node c.step_tag_by_mode.new.sink c.set_mode.new.state), few_open g.S.TreeSink.sees node c.step_tag_by_mode.new.sink c.set_mode.new.state)
+    omega (arith, c.in_ok-rest-in-Reprocess.ensures.came.turns refl, turns_few k (turn_text c.in-Reprocess.again) (world g.S.TreeSink.sees node c.step_tag_by_mode.new.sink c.set_mode.new.state), few_open g.S.TreeSink c.step_tag_by_mode.new.sink c.set_mode.new.state c.set_mode.ensures.sound)
 
 pub returns-in_ok-rest-in-Reprocess : goal.returns-in_ok-rest-in-Reprocess
 unfolding is_foreign
