@@ -1,2 +1,4 @@
+pub mod AttributeOrder
 pub mod Multisets
+pub mod SortedAttributes
 pub mod TextEquality

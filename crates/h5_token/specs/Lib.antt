@@ -1,4 +1,5 @@
 pub mod Joins
+pub mod Lent
 pub mod Occurrences
 pub mod OptionalText
 pub mod Reply

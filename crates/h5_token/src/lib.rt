@@ -1,14 +1,15 @@
 //! Tokens, what takes them, and what it answers (HTML standard, section 13.2.5, "Tokenization").
 //!
-//! `tokens` has what a reader hands on; `tag` and `doctype` have tags and doctypes. `sink` has the trait of what takes
-//! tokens, and its answers, `fault` why a call was refused, and `states` the states of a reader that a builder chooses.
-//! `laws` has those of tokens: they are equal exactly if their texts are.
+//! `tokens` has what a reader hands on; `tag` and `doctype` have tags and doctypes, and `alike` whether two lists have the
+//! same attributes. `sink` has the trait of what takes tokens, and its answers, `fault` why a call was refused, and `states`
+//! the states of a reader that a builder chooses. `laws` has those of tokens: they are equal exactly if their texts are.
 //!
 //! It stands on names alone. The reader (`h5_tokenizer`) hands tokens on, and the rules of tree construction take them.
 //! Begin with `specs/TokenText.antt`, a token without where its texts lie in memory, and `specs/Reply.antt`, an answer;
 //! then `src/tokens.rt` and `src/sink.rt`.
 #![tactic(auto)]
 
+mod alike;
 mod doctype;
 mod fault;
 pub mod laws;

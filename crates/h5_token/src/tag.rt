@@ -1,7 +1,8 @@
 //! Start tags and end tags.
-ghost use Rattle.std.specs.Prelude.{◌≡◌, ◌==◌, ◌↔◌, IfOk, IsTrue};
-ghost use Rattle.h5_names.specs.AttributeText.{attribute_text, attribute_texts};
+ghost use Rattle.std.specs.Prelude.{◌≡◌, ◌↔◌, IfOk, IsTrue};
+ghost use Rattle.h5_names.specs.AttributeText.{attribute_texts};
 
+use super::alike::have_same_attributes;
 use h5_names::{Attribute, LocalName};
 use std::alloc::AllocError;
 
@@ -34,7 +35,7 @@ impl Tag {
     {
         self.kind == other.kind
             && self.name == other.name
-            && have_same_attributes(&self.attrs, &other.attrs)
+            && have_same_attributes(*self.attrs.allocator(), &self.attrs, &other.attrs)
     }
 
     /// The value of the first attribute with this local name, in whatever namespace.
@@ -63,9 +64,6 @@ impl Tag {
     }
 }
 
-ghost use Rattle.std.specs.List.{list_all};
-ghost use Rattle.h5_token.specs.Occurrences.{occurrences, HaveSameAttributes};
-
 fn clone_attributes(attrs: &Vec<Attribute>) -> Result<Vec<Attribute>, AllocError>
     ensures { IfOk result (λ copy. attribute_texts copy.items ≡ attribute_texts attrs.now.items) }
 {
@@ -74,27 +72,4 @@ fn clone_attributes(attrs: &Vec<Attribute>) -> Result<Vec<Attribute>, AllocError
         copy.push(attribute.clone()?)?;
     }
     Ok(copy)
-}
-
-// How often an attribute stands in a list.
-fn occurrences_of(attribute: &Attribute, attrs: &[Attribute]) -> usize
-    ensures { result ≡ occurrences (attribute_text attribute.now) (attribute_texts attrs.now) }
-{
-    attrs.iter().filter(|other| **other == *attribute).count()
-}
-
-// Whether each of these attributes stands as often in the one list as in the other.
-fn each_is_as_often(these: &[Attribute], left: &[Attribute], right: &[Attribute]) -> bool
-    ensures { result ≡ list_all (λ x. occurrences (attribute_text x) (attribute_texts left.now)
-        == occurrences (attribute_text x) (attribute_texts right.now)) these.now }
-{
-    these.iter().all(|attribute| occurrences_of(attribute, left)
-        == occurrences_of(attribute, right))
-}
-
-// Whether two lists have the same attributes in some order.
-fn have_same_attributes(left: &[Attribute], right: &[Attribute]) -> bool
-    ensures { IsTrue result ↔ HaveSameAttributes (attribute_texts left.now) (attribute_texts right.now) }
-{
-    each_is_as_often(left, left, right) && each_is_as_often(right, left, right)
 }

@@ -1,6 +1,6 @@
 use Rattle.std.proofs.Common.{sym, ◌∙◌}
 use Rattle.h5_token.proofs.Multisets.{counted, counted_back}
-use Rattle.h5_token.proofs.tag.have_same_attributes.Goals as goal
+use Rattle.h5_token.proofs.alike.have_same_counts.Goals as goal
 
 pub returns-then-each_is_as_often : goal.returns-then-each_is_as_often
 returns-then-each_is_as_often c = (

@@ -3,7 +3,7 @@ use Rattle.std.specs.Prelude.{count_by}
 use Rattle.std.proofs.lemmas.List.Recursion.{is_count_by}
 use Rattle.h5_names.specs.AttributeText.{attribute_text, attribute_texts, is_same_attribute}
 use Rattle.h5_token.specs.Occurrences.{occurrences}
-use Rattle.h5_token.proofs.tag.occurrences_of.Goals as goal
+use Rattle.h5_token.proofs.alike.occurrences_of.Goals as goal
 
 pub returns : goal.returns
 returns c =

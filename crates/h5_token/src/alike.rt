@@ -1,0 +1,86 @@
+//! Whether two lists have the same attributes, in whatever order.
+ghost use Rattle.std.specs.Prelude.{◌≡◌, ◌==◌, ◌↔◌, IfOk, IsTrue};
+ghost use Rattle.std.specs.List.{list_all};
+ghost use Rattle.std.specs.List.Sorted.{IsPermutation, IsSorted};
+ghost use Rattle.h5_names.specs.AttributeText.{attribute_text, attribute_texts};
+ghost use Rattle.h5_names.specs.Laws.{attribute_order};
+ghost use Rattle.h5_token.specs.Lent.{lent_texts};
+ghost use Rattle.h5_token.specs.Occurrences.{occurrences, HaveSameAttributes};
+
+use h5_names::Attribute;
+use std::alloc::{AllocError, Global};
+
+// Shorter lists are compared by counting, which takes no memory; others by sorting.
+const FEW: usize = 9;
+
+// How often an attribute stands in a list.
+fn occurrences_of(attribute: &Attribute, attrs: &[Attribute]) -> usize
+    ensures { result ≡ occurrences (attribute_text attribute.now) (attribute_texts attrs.now) }
+{
+    attrs.iter().filter(|other| **other == *attribute).count()
+}
+
+// Whether each of these attributes stands as often in the one list as in the other.
+fn each_is_as_often(these: &[Attribute], left: &[Attribute], right: &[Attribute]) -> bool
+    ensures { result ≡ list_all (λ x. occurrences (attribute_text x) (attribute_texts left.now)
+        == occurrences (attribute_text x) (attribute_texts right.now)) these.now }
+{
+    these.iter().all(|attribute| occurrences_of(attribute, left)
+        == occurrences_of(attribute, right))
+}
+
+// By counting, in a walk over both lists for each attribute.
+fn have_same_counts(left: &[Attribute], right: &[Attribute]) -> bool
+    ensures { IsTrue result ↔ HaveSameAttributes (attribute_texts left.now) (attribute_texts right.now) }
+{
+    each_is_as_often(left, left, right) && each_is_as_often(right, left, right)
+}
+
+// The attributes of a list.
+fn lent(alloc: Global, attrs: &[Attribute]) -> Result<Vec<&Attribute>, AllocError>
+    ensures { IfOk result (λ all. lent_texts all.items ≡ attribute_texts attrs.now) }
+{
+    attrs.iter().collect(alloc)
+}
+
+// The attributes of a list in their order: by name, then by value.
+fn in_order(alloc: Global, attrs: &[Attribute]) -> Result<Vec<&Attribute>, AllocError>
+    ensures all { IfOk result (λ sorted. IsPermutation (attribute_texts attrs.now) (lent_texts sorted.items)) }
+    ensures sorted { IfOk result (λ sorted. IsSorted attribute_order (lent_texts sorted.items)) }
+{
+    let mut sorted = lent(alloc, attrs)?;
+    sorted.sort_unstable();
+    Ok(sorted)
+}
+
+// By sorting both lists.
+fn are_equal_in_order(
+    alloc: Global,
+    left: &[Attribute],
+    right: &[Attribute],
+) -> Result<bool, AllocError>
+    ensures { IfOk result (λ same.
+        IsTrue same ↔ HaveSameAttributes (attribute_texts left.now) (attribute_texts right.now)) }
+{
+    let left = in_order(alloc, left)?;
+    let right = in_order(alloc, right)?;
+    Ok(left == right)
+}
+
+// Whether two lists have the same attributes in some order. Where memory is refused, all lists are compared by counting.
+pub(super) fn have_same_attributes(alloc: Global, left: &[Attribute], right: &[Attribute]) -> bool
+    ensures { IsTrue result ↔ HaveSameAttributes (attribute_texts left.now) (attribute_texts right.now) }
+{
+    if left == right {
+        return true;
+    }
+    if left.len() != right.len() {
+        return false;
+    }
+    if left.len() >= FEW {
+        if let Ok(same) = are_equal_in_order(alloc, left, right) {
+            return same;
+        }
+    }
+    have_same_counts(left, right)
+}
