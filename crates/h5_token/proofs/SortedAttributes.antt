@@ -75,6 +75,9 @@ permuted (x ∷ xs) ys h =
 pub same_length : (xs ys : List AttributeText) → HaveSameAttributes xs ys → length ys ≡ length xs
 same_length xs ys h = length_permutation xs ys (permuted xs ys h)
 
+pub same_sum : (f : AttributeText → ℕ) (xs ys : List AttributeText) → HaveSameAttributes xs ys → sum_by f xs ≡ sum_by f ys
+same_sum f xs ys h = sym (sum_by-IsPermutation f xs ys (permuted xs ys h))
+
 -- nothing that occurs in a sorted list is lower than its first
 lowest : (x y : AttributeText) (ys : List AttributeText) → IsSorted attribute_order (y ∷ ys) → occurrences x (y ∷ ys) ≢ 0 → is_lt (attribute_order x y) ≡ false
 lowest x y ys up there =

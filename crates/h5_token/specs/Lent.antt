@@ -1,6 +1,6 @@
--- Attributes that are lent, without where their texts lie in memory.
+-- Attributes that are lent, without where their texts lie in memory, and how long their texts are.
 use Rattle.std.specs.Borrow.{Bor}
-use Rattle.std.specs.Prelude.{List, map}
+use Rattle.std.specs.Prelude.{ℕ, ◌+◌, List, length, map}
 use Rattle.h5_names.specs.AttributeText.{AttributeText, attribute_text}
 use Rattle.h5_names.specs.declared.qualified.Attribute.{Attribute}
 
@@ -9,3 +9,7 @@ lent_text lent = attribute_text lent.now
 
 abbrev pub lent_texts : List (Bor Attribute) → List AttributeText
 lent_texts = map lent_text
+
+-- how many bytes the local name and the value have
+abbrev pub attribute_len : AttributeText → ℕ
+attribute_len a = length a.name.local + length a.value

@@ -1,10 +1,10 @@
 //! Whether two lists have the same attributes, in whatever order.
-ghost use Rattle.std.specs.Prelude.{◌≡◌, ◌==◌, ◌↔◌, IfOk, IsTrue};
-ghost use Rattle.std.specs.List.{list_all};
+ghost use Rattle.std.specs.Prelude.{◌≡◌, ◌==◌, ◌↔◌, IfOk, IsTrue, min};
+ghost use Rattle.std.specs.List.{list_all, sum_by};
 ghost use Rattle.std.specs.List.Sorted.{IsPermutation, IsSorted};
 ghost use Rattle.h5_names.specs.AttributeText.{attribute_text, attribute_texts};
 ghost use Rattle.h5_names.specs.Laws.{attribute_order};
-ghost use Rattle.h5_token.specs.Lent.{lent_texts};
+ghost use Rattle.h5_token.specs.Lent.{attribute_len, lent_texts};
 ghost use Rattle.h5_token.specs.Occurrences.{occurrences, HaveSameAttributes};
 
 use h5_names::Attribute;
@@ -34,6 +34,25 @@ fn have_same_counts(left: &[Attribute], right: &[Attribute]) -> bool
     ensures { IsTrue result ↔ HaveSameAttributes (attribute_texts left.now) (attribute_texts right.now) }
 {
     each_is_as_often(left, left, right) && each_is_as_often(right, left, right)
+}
+
+// How many bytes the local name and the value of an attribute have.
+fn text_len(attribute: &Attribute) -> usize
+    ensures { result ≡ min (attribute_len (attribute_text attribute.now)) usize.MAX }
+{
+    let name = attribute.name.local.as_str();
+    name.len().saturating_add(attribute.value.len())
+}
+
+// How many bytes they have together, of all attributes of a list.
+fn texts_len(attrs: &[Attribute]) -> usize
+    ensures { result ≡ min (sum_by attribute_len (attribute_texts attrs.now)) usize.MAX }
+{
+    let mut len: usize = 0;
+    for attribute in attrs {
+        len = len.saturating_add(text_len(attribute));
+    }
+    len
 }
 
 // The attributes of a list.
@@ -75,6 +94,10 @@ pub(super) fn have_same_attributes(alloc: Global, left: &[Attribute], right: &[A
         return true;
     }
     if left.len() != right.len() {
+        return false;
+    }
+    // So no long text is looked at for a short one.
+    if texts_len(left) != texts_len(right) {
         return false;
     }
     if left.len() >= FEW {
