@@ -5,7 +5,7 @@ use Rattle.std.specs.List.{slice_get}
 use Rattle.std.specs.Option.{option_map}
 use Rattle.h5_interface.specs.Forest.{Child, Forest, IsForest, Node, children_of, count, nodes}
 use Rattle.h5_interface.proofs.ForestLaws.{child_is_node, contents_are_node, parent_of_child}
-use Rattle.h5_arena.specs.ArenaModel.{ArenaView, IsArena, IsChildHeld, IsHeld, at_node, child_views, forest_seen, node_view, node_views, optional_place}
+use Rattle.h5_arena.specs.ArenaModel.{ArenaView, HoldsOwners, IsChildHeld, IsHeld, at_node, child_views, forest_seen, node_view, node_views, optional_place}
 use Rattle.h5_arena.specs.declared.nodes.Child as child
 use Rattle.h5_arena.specs.declared.nodes.Child.TheVariants as child_is
 use Rattle.h5_arena.specs.declared.nodes.NodeData.{NodeData}
@@ -54,10 +54,10 @@ contents_held a id None k e = tt
 contents_held a id (Some c) k e =
     let f = forest_seen a in held f c.index k (contents_are_node f id.index c.index k (contents_told f id.index (Some c.index) e))
 
-pub form_held : (a : ArenaView) (id : NodeId) (form : Option NodeId) → IsArena (forest_seen a) → at_node (λ d. d.marks.form) a id ≡ Some (optional_place form) → IfSome form (IsHeld a)
-form_held a id None k e = tt
-form_held a id (Some owner) k e = at ((forest_seen a).node id.index) refl
+pub form_held : (a : ArenaView) (id : NodeId) (form : Option NodeId) → IsForest (forest_seen a) → HoldsOwners (forest_seen a) → at_node (λ d. d.marks.form) a id ≡ Some (optional_place form) → IfSome form (IsHeld a)
+form_held a id None whole k e = tt
+form_held a id (Some owner) whole k e = at ((forest_seen a).node id.index) refl
   where
     at : (o : Option Node) → (forest_seen a).node id.index ≡ o → owner.index < length a.nodes
     at None w = let v = (rw w at e) in cc
-    at (Some d) w = held (forest_seen a) owner.index k.is_forest (k.owners.owner id.index owner.index (rw w (some_same _ _ (rw w at e))))
+    at (Some d) w = held (forest_seen a) owner.index whole (k.owner id.index owner.index (rw w (some_same _ _ (rw w at e))))

@@ -1,4 +1,5 @@
 mod AttributeLaws
+mod AttributeNameLaws
 mod BalanceLaws
 pub mod CallConditions
 mod HeldLaws
@@ -9,6 +10,6 @@ mod ChildViews
 mod MakeLaws
 mod MoveLaws
 mod NodeWrites
-mod OwnerLaws
+mod NoteLaws
 mod PlaceLaws
 mod WalkLaws

@@ -1,5 +1,6 @@
 -- What an arena holds: its nodes in the order in which they were made, and the forest that they are.
 use Rattle.std.specs.Prelude.{◌≡◌, ◌<◌, ◌+◌, ℕ, ◌-◌, ◌==◌, ◌&&◌, Bool, true, false, cond, length, List, [], ◌∷◌, map, Option, None, Some, String, slice_get, string_bytes, refl}
+use Rattle.std.specs.BTreeSet.{BTreeSet}
 use Rattle.std.specs.List.{find}
 use Rattle.std.specs.Option.{option_and_then, option_map, option_map_or}
 use Rattle.std.specs.Arc.{arc_value}
@@ -14,6 +15,8 @@ use Rattle.h5_interface.specs.Forest as forest
 use Rattle.h5_interface.specs.Forest.{CommentNode, DoctypeNode, DocumentNode, ElementNode, Forest, FragmentNode, InstructionNode, IsForest, IsNode, Marks, Node, children_of}
 use Rattle.h5_interface.specs.Seen.{Seen, no_flags, no_marks, plain}
 use Rattle.h5_interface.specs.SinkChoices.{Rearranges, SinkChoices}
+use Rattle.h5_arena.specs.AttributeNames.{AreNamesAt, names_at}
+use Rattle.h5_arena.specs.declared.attribute_names.AttributeNames.{AttributeNames}
 use Rattle.h5_arena.specs.declared.below.Below.{Below}
 use Rattle.h5_arena.specs.declared.below.Below.TheVariants as below_is
 use Rattle.h5_arena.specs.declared.link.Link.{Link}
@@ -92,22 +95,37 @@ form_of f n = option_and_then (λ d. d.marks.form) (f.node n)
 pub record HoldsOwners (f : Forest) : Type 0 where
   pub owner : (n form : ℕ) → form_of f n ≡ Some form → IsNode f form
 
--- the nodes of an arena are a forest, and their form owners are among them
-pub record IsArena (f : Forest) : Type 0 where
-  pub is_forest : IsForest f
-  pub owners : HoldsOwners f
+-- names are kept of nodes alone, and are those of their attributes
+pub record KnowsNames (names : AttributeNames) (f : Forest) : Type 0 where
+  pub known : (n : ℕ) (d : Node) → f.node n ≡ Some d → AreNamesAt names n d.attrs
+  pub inside : (n : ℕ) (found : BTreeSet QualName) → names_at names n ≡ Some found → IsNode f n
 
--- an arena: its nodes, its quirks mode, the texts of the errors told to it, and whether the text of an
--- error found no memory
+-- what is noted of nodes beside the tree is right
+pub record HasNotes (names : AttributeNames) (f : Forest) : Type 0 where
+  pub owners : HoldsOwners f
+  pub kept_names : KnowsNames names f
+
+-- the nodes of an arena are a forest, and what is noted of them is right
+pub record IsArena (names : AttributeNames) (f : Forest) : Type 0 where
+  pub is_forest : IsForest f
+  pub notes : HasNotes names f
+
+-- an arena: its nodes, its quirks mode, the texts of the errors told to it, whether the text of an error was
+-- lost, and whether such texts are kept at all
 pub record ArenaView : Type 0 where
   pub nodes : List Node
   pub quirks : QuirksMode
   pub errors : List (List ℕ)
   pub errors_lost : Bool
+  pub keeps_errors : Bool
 
 -- it holds its document alone
 abbrev pub new_arena : ArenaView
-new_arena = record { nodes = plain DocumentNode ∷ []; quirks = NoQuirks; errors = []; errors_lost = false }
+new_arena = record { nodes = plain DocumentNode ∷ []; quirks = NoQuirks; errors = []; errors_lost = false; keeps_errors = true }
+
+-- the same, where no text of an error is kept
+abbrev pub silent_arena : ArenaView
+silent_arena = record new_arena { keeps_errors = false }
 
 abbrev pub forest_seen : ArenaView → Forest
 forest_seen a = forest_of a.nodes
@@ -116,9 +134,9 @@ forest_seen a = forest_of a.nodes
 abbrev pub seen_of : ArenaView → Seen
 seen_of a = record { forest = forest_of a.nodes; quirks = a.quirks; errors = length a.errors + cond a.errors_lost 1 0 }
 
--- the texts of the errors, and whether one was lost, stay as they were
+-- the texts of the errors, whether one was lost, and whether they are kept, stay as they were
 abbrev pub KeepsErrors : (old new : ArenaView) → Type 0
-KeepsErrors old new = (new.errors ≡ old.errors) × (new.errors_lost ≡ old.errors_lost)
+KeepsErrors old new = (new.errors ≡ old.errors) × (new.errors_lost ≡ old.errors_lost) × (new.keeps_errors ≡ old.keeps_errors)
 
 abbrev pub texts_of : List (String Global) → List (List ℕ)
 texts_of = map string_bytes

@@ -1,4 +1,5 @@
 pub mod ArenaModel
+pub mod AttributeNames
 pub mod ChildTests
 pub mod NodeCalls
 pub mod OpenNodes

@@ -2,14 +2,16 @@
 //!
 //! `tree` has the arena and the calls that read it, and `sink` those of a builder. `nodes` has what a node is, `below`
 //! what stands below it, and `shared` what elements of one name share. `makes` makes nodes; `link`, `links`, `children`
-//! and `moves` change parents and children, and `attributes` reads and adds attributes. `walk` is the walk of a
-//! serializer over a node (HTML standard, section 13.3), and `laws` has what holds of its calls.
+//! and `moves` change parents and children. `attributes` reads and adds attributes, and `attribute_names` keeps the names
+//! of many in order. `walk` is the walk of a serializer over a node (HTML standard, section 13.3), and `laws` has what
+//! holds of its calls.
 //!
 //! It stands on `h5_interface`, whose sink it is, and on `h5_serialize`. The crates of rules and the builder don't
 //! stand on it; the program and the tests do. Begin with `specs/ArenaModel.antt`, the forest that the nodes are, and
 //! `src/tree.rt`; then `specs/NodeCalls.antt` and `src/walk.rt`.
 #![tactic(auto)]
 
+mod attribute_names;
 mod attributes;
 mod below;
 mod children;

@@ -1,5 +1,5 @@
 //! The arena as a sink of a tree builder.
-ghost use Rattle.std.specs.Prelude.{◌≡◌, ◌≤◌, ◌<◌, ◌⊎◌, ◌++◌, ◌∷◌, [], IfOk, OnOk, OnErr, string_bytes, true};
+ghost use Rattle.std.specs.Prelude.{◌≡◌, ◌≤◌, ◌<◌, ◌⊎◌, ◌++◌, ◌∷◌, [], IfOk, OnOk, OnErr, string_bytes, false, true};
 ghost use Rattle.std.specs.Option.{option_map};
 ghost use Rattle.h5_names.specs.AttributeText.{attribute_texts};
 ghost use Rattle.h5_interface.specs.Forest.{CommentNode, InstructionNode, IsElement, IsNode};
@@ -9,7 +9,7 @@ ghost use Rattle.h5_arena.specs.ArenaModel.{ArenaView, KeepsErrors, arena_choice
 use super::link::Link;
 use super::nodes::{Kind, NodeId};
 use super::tree::Arena;
-use super::{attributes, links, makes, moves};
+use super::{links, makes, moves};
 use h5_interface::{ElementFlags, NodeOrText, QuirksMode, TreeSink};
 use h5_names::{Attribute, QualName};
 use std::alloc::AllocError;
@@ -34,7 +34,7 @@ impl TreeSink for Arena {
         self
     }
 
-    /// Keeps the text of the error. Where it finds no memory, `errors_lost` tells.
+    /// Keeps the text of the error, unless the arena keeps none. Where it is lost, `errors_lost` tells.
     fn parse_error(&mut self, message: &str)
         ensures forest { (seen_of self.new).forest ≡ (seen_of self.old).forest }
         ensures quirks { (seen_of self.new).quirks ≡ (seen_of self.old).quirks }
@@ -42,7 +42,12 @@ impl TreeSink for Arena {
         ensures noted { 0 < (seen_of self.new).errors }
         ensures kept { (self.new ≡ record self.old { errors = self.old.errors ++ message.now ∷ [] })
             ⊎ (self.new ≡ record self.old { errors_lost = true }) }
+        ensures silent { self.old.keeps_errors ≡ false → self.new ≡ record self.old { errors_lost = true } }
     {
+        if !self.keeps_errors {
+            self.errors_lost = true;
+            return;
+        }
         match String::from_str(self.alloc, message) {
             Ok(text) => {
                 if self.errors.push(text).is_err() {
@@ -222,7 +227,8 @@ impl TreeSink for Arena {
         ensures errors { KeepsErrors self.old self.new }
     {
         let node = &mut self.nodes[target.index];
-        attributes::add_missing(&mut node.attrs, attrs)?;
+        self.names
+            .add_missing(self.alloc, target.index, &mut node.attrs, attrs)?;
         Ok(())
     }
 

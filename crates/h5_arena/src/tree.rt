@@ -2,6 +2,7 @@
 ghost use Rattle.std.specs.Prelude.{◌≡◌, ◌<◌, All, IfOk, IfSome, Some, length, nat_lt, option_copied};
 ghost use Rattle.h5_names.specs.AttributeText.{attribute_texts};
 
+use super::attribute_names::AttributeNames;
 use super::nodes::{Child, Kind, NodeData, NodeId};
 use super::shared::SharedKinds;
 use super::{attributes, makes};
@@ -15,11 +16,14 @@ use std::marker::Model;
 #[derive(Drop)]
 pub struct Arena {
     pub(crate) nodes: Vec<NodeData>,
-    // Not in the view: what it holds the nodes hold, too.
+    // These two are not in the view: what they hold the nodes hold, too.
     pub(crate) shared: SharedKinds,
+    pub(crate) names: AttributeNames,
     pub(crate) quirks: QuirksMode,
     pub(crate) errors: Vec<String>,
     pub(crate) errors_lost: bool,
+    // Else the text of each error is lost.
+    pub(crate) keeps_errors: bool,
     pub(crate) alloc: Global,
 }
 
@@ -28,12 +32,12 @@ impl Model for Arena {
 
     ghost Value = { ArenaView };
 
-    ghost view = { λ a. record { nodes = node_views a.nodes.items; quirks = a.quirks; errors = texts_of a.errors.items; errors_lost = a.errors_lost } };
+    ghost view = { λ a. record { nodes = node_views a.nodes.items; quirks = a.quirks; errors = texts_of a.errors.items; errors_lost = a.errors_lost; keeps_errors = a.keeps_errors } };
 
-    ghost invariant = { λ a. IsArena (forest_in a.nodes.items) };
+    ghost invariant = { λ a. IsArena a.names (forest_in a.nodes.items) };
 }
 
-ghost use Rattle.h5_arena.specs.ArenaModel.{ArenaView, IsChildHeld, IsHeld, at_node, child_parent, child_views, fragment_root, id_at, kind_view, name_of_kind, new_arena, optional_place, texts_of, value_of};
+ghost use Rattle.h5_arena.specs.ArenaModel.{ArenaView, IsChildHeld, IsHeld, at_node, child_parent, child_views, fragment_root, id_at, kind_view, name_of_kind, new_arena, optional_place, silent_arena, texts_of, value_of};
 
 impl Arena {
     /// An arena that holds its document alone, with NoQuirks and no error, or an `AllocError` where memory
@@ -41,14 +45,31 @@ impl Arena {
     pub fn new(alloc: Global) -> Result<Arena, AllocError>
         ensures { IfOk result (λ a. a ≡ new_arena) }
     {
+        Arena::begin(alloc, true)
+    }
+
+    /// An arena like that of `new`, but it keeps no texts of parse errors: `errors` is empty, and `errors_lost` tells whether
+    /// an error was told. All else is the same, the tree above all.
+    pub fn without_errors(alloc: Global) -> Result<Arena, AllocError>
+        ensures { IfOk result (λ a. a ≡ silent_arena) }
+    {
+        Arena::begin(alloc, false)
+    }
+
+    // An arena that holds its document alone, and keeps the texts of errors or doesn't.
+    fn begin(alloc: Global, keeps_errors: bool) -> Result<Arena, AllocError>
+        ensures { IfOk result (λ a. a ≡ record new_arena { keeps_errors = keeps_errors }) }
+    {
         let mut nodes = Vec::new(alloc);
         nodes.push(makes::bare_node(alloc, Kind::Document)?)?;
         Ok(Arena {
             nodes,
             shared: SharedKinds::new(alloc),
+            names: AttributeNames::new(alloc),
             quirks: QuirksMode::NoQuirks,
             errors: Vec::new(alloc),
             errors_lost: false,
+            keeps_errors,
             alloc,
         })
     }
@@ -198,7 +219,7 @@ impl Arena {
         self.errors.as_slice()
     }
 
-    /// Whether the text of a parse error found no memory.
+    /// Whether the text of a parse error found no memory; in an arena that keeps none, whether an error was told.
     pub fn errors_lost(&self) -> bool
         ensures { result ≡ self.now.errors_lost }
     {

@@ -1,0 +1,125 @@
+//! The names of the attributes of nodes that have many, in order.
+ghost use Rattle.std.specs.Prelude.{◌≡◌, ◌==◌, ◌||◌, ◌++◌, ℕ, IfOk, IfSome, List, None, OnOk, OnErr, false};
+ghost use Rattle.std.specs.BTreeSet.{contains};
+ghost use Rattle.h5_names.specs.declared.qualified.QualName.{QualName};
+ghost use Rattle.h5_names.specs.AttributeText.{AttributeText, attribute_texts};
+ghost use Rattle.h5_interface.specs.Changes.{has_attribute, with_missing};
+ghost use Rattle.h5_arena.specs.AttributeNames.{AreNames, AreNamesAt, name_cmp, names_at};
+
+use super::attributes::add_missing;
+use h5_names::{Attribute, QualName};
+use std::alloc::{AllocError, Global};
+use std::collections::{BTreeMap, BTreeSet};
+
+// The attributes of a node that has fewer are looked through.
+const MANY: usize = 12;
+
+/// The names of the attributes of some nodes: of those that had many when they were given more.
+#[derive(Drop)]
+pub(crate) struct AttributeNames {
+    by_node: BTreeMap<usize, BTreeSet<QualName>>,
+}
+
+// Puts the names of these attributes among others.
+fn add_names(names: &mut BTreeSet<QualName>, attrs: &[Attribute]) -> Result<(), AllocError>
+    ensures { OnOk result ((q : QualName) → contains name_cmp names.new q ≡ (contains name_cmp names.old q || has_attribute q (attribute_texts attrs.now))) }
+{
+    for attribute in attrs {
+        names.insert(attribute.name.clone()?)?;
+    }
+    Ok(())
+}
+
+// The names of these attributes.
+fn names_of(alloc: Global, attrs: &[Attribute]) -> Result<BTreeSet<QualName>, AllocError>
+    ensures { IfOk result (λ names. AreNames names (attribute_texts attrs.now)) }
+{
+    let mut names = BTreeSet::new(alloc);
+    add_names(&mut names, attrs)?;
+    Ok(names)
+}
+
+impl AttributeNames {
+    /// Those of no node, which takes no memory.
+    pub(crate) fn new(alloc: Global) -> AttributeNames
+        ensures { (n : ℕ) → names_at result n ≡ None }
+    {
+        AttributeNames {
+            by_node: BTreeMap::new(alloc),
+        }
+    }
+
+    // The names of a node's attributes, where they are kept or the attributes are many. They are kept no longer.
+    fn take(
+        &mut self,
+        alloc: Global,
+        node: usize,
+        attrs: &[Attribute],
+    ) -> Result<Option<BTreeSet<QualName>>, AllocError>
+        requires { AreNamesAt self.old node (attribute_texts attrs.now) }
+        ensures taken { IfOk result (λ taken. IfSome taken (λ names. AreNames names (attribute_texts attrs.now))) }
+        ensures none { names_at self.new node ≡ None }
+        ensures others { (n : ℕ) → (n == node) ≡ false → names_at self.new n ≡ names_at self.old n }
+    {
+        match self.by_node.remove(&node) {
+            Some(names) => Ok(Some(names)),
+            None => {
+                if attrs.len() < MANY {
+                    return Ok(None);
+                }
+                Ok(Some(names_of(alloc, attrs)?))
+            }
+        }
+    }
+
+    // Keeps these names and those of more attributes as the names of a node.
+    fn keep(
+        &mut self,
+        node: usize,
+        names: BTreeSet<QualName>,
+        more: &[Attribute],
+    ) -> Result<(), AllocError>
+        requires { names_at self.old node ≡ None }
+        ensures ok { OnOk result ((attrs : List AttributeText) → AreNames names attrs → AreNamesAt self.new node (attrs ++ attribute_texts more.now)) }
+        ensures err { OnErr result (names_at self.new node ≡ None) }
+        ensures others { (n : ℕ) → (n == node) ≡ false → names_at self.new n ≡ names_at self.old n }
+    {
+        let mut names = names;
+        add_names(&mut names, more)?;
+        self.by_node.insert(node, names)?;
+        Ok(())
+    }
+
+    /// Adds to the attributes of a node those whose names don't stand there yet. An Err leaves the attributes as they were.
+    pub(crate) fn add_missing(
+        &mut self,
+        alloc: Global,
+        node: usize,
+        attrs: &mut Vec<Attribute>,
+        more: Vec<Attribute>,
+    ) -> Result<(), AllocError>
+        requires { AreNamesAt self.old node (attribute_texts attrs.old.items) }
+        ensures ok { OnOk result
+            (attribute_texts attrs.new.items ≡ with_missing (attribute_texts more.items) (attribute_texts attrs.old.items)) }
+        ensures err { OnErr result (attribute_texts attrs.new.items ≡ attribute_texts attrs.old.items) }
+        ensures names { AreNamesAt self.new node (attribute_texts attrs.new.items) }
+        ensures others { (n : ℕ) → (n == node) ≡ false → names_at self.new n ≡ names_at self.old n }
+    {
+        if more.is_empty() {
+            return Ok(());
+        }
+        let had = attrs.len();
+        let taken = self.take(alloc, node, attrs.as_slice())?;
+        add_missing(attrs, taken.as_ref(), more)?;
+        match taken {
+            None => Ok(()),
+            Some(names) => {
+                if let Err(refused) = self.keep(node, names, &attrs[had..]) {
+                    attrs.truncate(had);
+                    return Err(refused);
+                }
+                Ok(())
+            }
+        }
+    }
+}
