@@ -8,6 +8,7 @@ pub mod Growth
 pub mod LaterLaws
 pub mod NameLaws
 pub mod PlainBytes
+pub mod QuotedLaws
 pub mod Staying
 pub mod TextLaws
 pub mod TextTakes

@@ -1,12 +1,13 @@
 -- Bytes that leave the place in a construct as it is.
-use Rattle.std.proofs.Common.{◌≡◌, ℕ, zero, suc, ◌<◌, Bool, true, false, List, [], ◌∷◌, ◌||◌, cond, eqb, refl, sym, Some, take, get_or, arith}
+use Rattle.std.proofs.Common.{◌≡◌, ℕ, zero, suc, ◌<◌, Bool, true, false, not, List, [], ◌∷◌, ◌||◌, cond, eqb, refl, sym, Some, take, get_or, arith}
 use Rattle.std.proofs.lemmas.Bool.{false≢true}
+use Rattle.std.proofs.lemmas.Bool.Decides.{nat_tests}
 use Rattle.std.specs.Char.{is_ascii_whitespace}
 use Rattle.h5_markup.specs.Cuts.{is_in}
 use Rattle.h5_markup.specs.Ending.{ends, next, walk}
-use Rattle.h5_markup.specs.declared.cut.Class.TheVariants.{NameEnd, AttributeNameEnd, ValueEnd}
+use Rattle.h5_markup.specs.declared.cut.Class.TheVariants.{BetweenAttributes, NameEnd, AttributeNameEnd, ValueEnd}
 use Rattle.h5_markup.specs.declared.ending.Inside.{Inside}
-use Rattle.h5_markup.specs.declared.ending.Inside.TheVariants.{Comment, Doctype, TagName, AttributeName, AttributeValueDoubleQuoted, AttributeValueSingleQuoted, AttributeValueUnquoted}
+use Rattle.h5_markup.specs.declared.ending.Inside.TheVariants.{Comment, Doctype, TagName, BeforeAttributeName, AttributeName, AttributeValueDoubleQuoted, AttributeValueSingleQuoted, AttributeValueUnquoted}
 
 -- each byte but those that stop leaves the place as it is
 pub record Stays (place : Inside) (stop : ℕ → Bool) : Type 0 where
@@ -30,7 +31,7 @@ not_left a b h = (neither a b h).0
 not_right : (a b : Bool) → (a || b) ≡ false → b ≡ false
 not_right a b h = (neither a b h).1
 
-never : (b : Bool) → cond b false false ≡ false
+pub never : (b : Bool) → cond b false false ≡ false
 never true = refl
 never false = refl
 
@@ -52,6 +53,30 @@ in_tag_name = record {
   same = λ x h. let others = not_right (eqb x 62) (eqb x 47 || is_ascii_whitespace x) h in
       rw (not_right (eqb x 47) (is_ascii_whitespace x) others, not_left (eqb x 47) (is_ascii_whitespace x) others);
 }
+
+slash_or_blank : (slash blank : Bool) → not (slash || blank) ≡ false → (blank || slash) ≡ true
+slash_or_blank true true h = refl
+slash_or_blank true false h = refl
+slash_or_blank false true h = refl
+slash_or_blank false false h = sym h
+
+between_low : (x : ℕ) → not (is_in BetweenAttributes x) ≡ false → eqb x 62 ≡ false
+between_low x h = grind (arith, nat_tests)
+
+pub in_between : Stays BeforeAttributeName (λ x. not (is_in BetweenAttributes x))
+in_between = record {
+  goes_on = λ x h. rw (between_low x h);
+  same = λ x h. rw (slash_or_blank (eqb x 47) (is_ascii_whitespace x) h);
+}
+
+-- a name begins
+pub name_begins : (x : ℕ) → is_in AttributeNameEnd x ≡ false → (ends BeforeAttributeName x ≡ false) × (next BeforeAttributeName x ≡ AttributeName)
+name_begins x h =
+    let behind = not_right (eqb x 61) (eqb x 62 || (eqb x 47 || is_ascii_whitespace x)) h in
+    let others = not_right (eqb x 62) (eqb x 47 || is_ascii_whitespace x) behind in (
+      rw (not_left (eqb x 62) (eqb x 47 || is_ascii_whitespace x) behind),
+      rw (not_right (eqb x 47) (is_ascii_whitespace x) others, not_left (eqb x 47) (is_ascii_whitespace x) others),
+    )
 
 pub in_attribute_name : Stays AttributeName (is_in AttributeNameEnd)
 in_attribute_name = record {

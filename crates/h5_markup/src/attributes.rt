@@ -91,7 +91,14 @@ fn cut_attribute<'a>(text: &'a str) -> Written<'a>
     ensures { WrittenAt text.now (written result) }
 {
     let (name, behind) = cut_name(text, Class::AttributeNameEnd);
-    cut_rest(name, skip(behind, Class::Blank))
+    match behind.as_bytes() {
+        // Most are written so, and nothing else is asked of them.
+        [b'=', b'"', ..] => {
+            let (_, inner) = behind.split_at(2);
+            cut_quoted(name, inner, Class::DoubleQuote)
+        }
+        _ => cut_rest(name, skip(behind, Class::Blank)),
+    }
 }
 
 /// The attributes that were kept, each name once, and whether one came twice.

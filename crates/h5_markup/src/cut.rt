@@ -27,11 +27,11 @@ fn is_in(class: Class, b: u8) -> bool
     match class {
         Class::Blank => b.is_ascii_whitespace(),
         Class::BetweenAttributes => b == b'/' || b.is_ascii_whitespace(),
-        Class::NameEnd => b == b'>' || (b == b'/' || b.is_ascii_whitespace()),
+        Class::NameEnd => b <= b'>' && (b == b'>' || (b == b'/' || b.is_ascii_whitespace())),
         Class::AttributeNameEnd => {
-            b == b'=' || (b == b'>' || (b == b'/' || b.is_ascii_whitespace()))
+            b <= b'>' && (b == b'=' || (b == b'>' || (b == b'/' || b.is_ascii_whitespace())))
         }
-        Class::ValueEnd => b == b'>' || b.is_ascii_whitespace(),
+        Class::ValueEnd => b <= b'>' && (b == b'>' || b.is_ascii_whitespace()),
         Class::DoubleQuote => b == b'"',
         Class::SingleQuote => b == b'\'',
     }

@@ -3,6 +3,7 @@ ghost use Rattle.std.specs.Prelude.{◌≡◌, ◌<◌, ◌≤◌, Some, true, l
 ghost use Rattle.h5_markup.specs.Ending.{may_end, ends, named, next, walk};
 
 use super::cut::{Class, first_byte, first_index};
+use super::quoted::passed_len;
 
 /// Where in a construct a byte stands, by the names of the standard's states (HTML standard, sections
 /// 13.2.5.6 to 13.2.5.54).
@@ -107,7 +108,7 @@ fn choose(test: bool, yes: Inside, no: Inside) -> Inside
     if test { yes } else { no }
 }
 
-// How many bytes may be passed at once: behind each the next stands at the same place.
+// How many bytes may be passed at once: the next stands at the same place.
 fn unmoved(bytes: &[u8], place: Inside) -> usize
     ensures within { result ≤ length bytes.now }
     ensures walked { walk place (take result bytes.now) ≡ Some place }
@@ -116,6 +117,7 @@ fn unmoved(bytes: &[u8], place: Inside) -> usize
         Inside::Comment => first_byte(bytes, b'-'),
         Inside::Doctype => first_byte(bytes, b'>'),
         Inside::TagName => first_index(bytes, Class::NameEnd, true),
+        Inside::BeforeAttributeName => passed_len(bytes),
         Inside::AttributeName => first_index(bytes, Class::AttributeNameEnd, true),
         Inside::AttributeValueDoubleQuoted => first_byte(bytes, b'"'),
         Inside::AttributeValueSingleQuoted => first_byte(bytes, b'\''),

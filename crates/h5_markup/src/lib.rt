@@ -2,9 +2,9 @@
 //! section 13.1, "Writing HTML documents", and what of 13.2.5 a plain reader needs).
 //!
 //! `seen`, `needle` and `ending` look at the front of a text where more may follow: whether something stands there, and
-//! where a tag, a comment or a doctype ends. `cut` cuts whole texts. `text`, `attributes` and `doctypes` tell what a
-//! text, the inside of a tag or of a doctype stands for; `keeping` keeps each name of an attribute once, `plain` tells
-//! which bytes say themselves.
+//! where a tag, a comment or a doctype ends; `quoted` passes attributes that are written as most are. `cut` cuts whole
+//! texts. `text`, `attributes` and `doctypes` tell what a text, the inside of a tag or of a doctype stands for; `keeping`
+//! keeps each name of an attribute once, `plain` tells which bytes say themselves.
 //!
 //! It stands on names and tokens alone, and the tokenizer stands on it. Begin with `specs/Matching.antt` (found, not
 //! found, open) and `specs/Cuts.antt`, then `specs/Text.antt` and `src/text.rt`.
@@ -17,6 +17,7 @@ mod ending;
 mod keeping;
 mod needle;
 mod plain;
+mod quoted;
 mod seen;
 mod text;
 
