@@ -108,6 +108,25 @@ pub struct Kept {
     pub duplicates: bool,
 }
 
+// For how many attributes there is room beforehand at the most.
+const MOST: usize = 8;
+
+// How many attributes these bytes are likely to be: as many as there is `=` in the front of them. Few bytes are one, and aren't
+// looked at.
+fn likely_count(bytes: &[u8]) -> usize {
+    if bytes.len() < 16 {
+        return 1;
+    }
+    let front = &bytes[..bytes.len().min(255)];
+    let mut count: u8 = 0;
+    for b in front {
+        if *b == b'=' {
+            count += 1;
+        }
+    }
+    (count as usize).max(1).min(MOST)
+}
+
 /// The attributes of a tag, by what stands between its name and the `>` that ends it, in their order. One
 /// whose name came before is left out. `AllocError` where memory is refused (HTML standard, sections
 /// 13.2.5.32, "Before attribute name state", to 13.2.5.40, "Self-closing start tag state").
@@ -115,11 +134,12 @@ pub fn read_attributes(alloc: Global, text: &str) -> Result<Kept, AllocError>
     ensures attributes { IfOk result (λ kept. attribute_texts kept.attributes.items ≡ a.distinct [] (a.attributes_of text.now)) }
     ensures duplicates { IfOk result (λ kept. kept.duplicates ≡ a.has_duplicates (a.attributes_of text.now)) }
 {
-    let mut kept = Keeping::new(alloc);
+    let mut kept = Keeping::new(alloc, likely_count(text.as_bytes()));
     let mut rest = text;
     'attributes: loop {
         let front = skip(rest, Class::BetweenAttributes);
         if front.is_empty() {
+            kept.attributes.shrink_to_fit();
             return Ok(Kept {
                 attributes: kept.attributes,
                 duplicates: kept.duplicates,

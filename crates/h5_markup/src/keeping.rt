@@ -41,18 +41,20 @@ fn is_named_in(name: &LocalName, attributes: &[Attribute]) -> bool
 pub struct Keeping {
     pub attributes: Vec<Attribute>,
     pub duplicates: bool,
+    // For how many there is to be room with the first.
+    room: usize,
     // The names of those behind the first few, in order, so that many take little more time each than few.
     later: BTreeSet<LocalName>,
     ghost later_names: { AreNamesBehind FEW (attribute_texts attributes.items) later },
 }
 
-// Room for the first attribute alone: most elements that have any have one.
-fn make_room(attributes: &mut Vec<Attribute>) -> Result<(), AllocError>
+// Room for so many attributes with the first of them, so that most tags ask for memory once.
+fn make_room(attributes: &mut Vec<Attribute>, room: usize) -> Result<(), AllocError>
     ensures items { attributes.new.items ≡ attributes.old.items }
     ensures len { vec_len attributes.new ≡ vec_len attributes.old }
 {
     if attributes.is_empty() {
-        attributes.reserve_exact(1)?;
+        attributes.reserve_exact(room)?;
     }
     Ok(())
 }
@@ -61,14 +63,15 @@ impl Keeping {
     ghost use Rattle.std.specs.Prelude.{◌||◌, List};
     ghost use Rattle.h5_names.specs.AttributeText.{AttributeText};
 
-    /// No attributes, which take no memory.
-    pub fn new(alloc: Global) -> Keeping
+    /// No attributes, which take no memory. The first makes room for so many.
+    pub fn new(alloc: Global, room: usize) -> Keeping
         ensures attributes { result.attributes.items ≡ [] }
         ensures duplicates { result.duplicates ≡ false }
     {
         Keeping {
             attributes: Vec::new(alloc),
             duplicates: false,
+            room,
             later: BTreeSet::new(alloc),
         }
     }
@@ -109,7 +112,7 @@ impl Keeping {
         if self.attributes.len() >= FEW {
             return self.push_later(attribute);
         }
-        make_room(&mut self.attributes)?;
+        make_room(&mut self.attributes, self.room)?;
         self.attributes.push(attribute)?;
         Ok(())
     }

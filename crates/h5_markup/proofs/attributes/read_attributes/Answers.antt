@@ -10,7 +10,7 @@ use Rattle.h5_markup.proofs.attributes.read_attributes.Goals as goal
 pub returns-then-is_empty-clause-attributes : goal.returns-then-is_empty-clause-attributes
 returns-then-is_empty-clause-attributes c =
     let none = attributes_none c.attributes.rest.now c.skip-front.result.now c.skip-front.ensures (eqb-true _ _ (sym c.is_empty.ensures ∙ c.if-is_empty.true)) in
-    sym (ap (distinct (attribute_texts c.attributes.kept.attributes.items)) none) ∙ c.attributes.invariant.distinct
+    ap attribute_texts c.shrink_to_fit.ensures.items ∙ sym (ap (distinct (attribute_texts c.attributes.kept.attributes.items)) none) ∙ c.attributes.invariant.distinct
 
 pub returns-then-is_empty-clause-duplicates : goal.returns-then-is_empty-clause-duplicates
 returns-then-is_empty-clause-duplicates c =
