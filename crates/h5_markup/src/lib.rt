@@ -26,6 +26,6 @@ pub use cut::{Class, cut_at, skip};
 pub use doctypes::make_doctype;
 pub use ending::{Inside, Sought, seek_end};
 pub use needle::{literal, name_is, peek_letter, word};
-pub use plain::{is_plain, plain_len};
+pub use plain::{are_plain, is_plain, plain_len};
 pub use seen::Seen;
 pub use text::{cleaned, escape, newline, reference, text_of};

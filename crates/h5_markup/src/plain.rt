@@ -10,6 +10,53 @@ pub fn is_plain(b: u8) -> bool
     b > b']' || !(b == b'<' || b == b'&' || b == b'\r' || b == 0 || b == b']')
 }
 
+/// Whether all of a few bytes are text in every state. No byte ends the look, so many are looked at at once. There are
+/// few enough of them that a byte counts them.
+#[inline(always)]
+pub fn are_plain(bytes: &[u8]) -> bool
+    requires { length bytes.now < 256 }
+    ensures { result ≡ true → (k : ℕ) → k < length bytes.now → is_plain (slice_index bytes.now k) ≡ true }
+{
+    let mut others: u8 = 0;
+    for b in bytes {
+        if !is_plain(*b) {
+            others += 1;
+        }
+    }
+    others == 0
+}
+
+// How many bytes at the front are plain, as far as 64 at once are.
+fn plain_blocks(bytes: &[u8]) -> usize
+    ensures within { result ≤ length bytes.now }
+    ensures plain { (k : ℕ) → k < result → is_plain (slice_index bytes.now k) ≡ true }
+{
+    let mut n = 0;
+    while bytes.len() - n > 63 {
+        let (_, rest) = bytes.split_at(n);
+        let (block, _) = rest.split_at(64);
+        if !are_plain(block) {
+            return n;
+        }
+        n += 64;
+    }
+    n
+}
+
+// The index of the first byte that isn't plain, or the length where all are.
+fn first_other(bytes: &[u8]) -> usize
+    ensures within { result ≤ length bytes.now }
+    ensures plain { (k : ℕ) → k < result → is_plain (slice_index bytes.now k) ≡ true }
+    ensures stops { result < length bytes.now → is_plain (slice_index bytes.now result) ≡ false }
+{
+    for (i, b) in bytes.iter().enumerate() {
+        if !is_plain(*b) {
+            return i;
+        }
+    }
+    bytes.len()
+}
+
 /// How many bytes at the front are text in every state: none of them begins a tag, a reference or the end
 /// of a CDATA part, or stands for another byte (HTML standard, section 13.2.5, "Tokenization").
 pub fn plain_len(text: &str) -> usize
@@ -18,10 +65,7 @@ pub fn plain_len(text: &str) -> usize
     ensures stops { result < length text.now → is_plain (slice_index text.now result) ≡ false }
 {
     let bytes = text.as_bytes();
-    for (i, b) in bytes.iter().enumerate() {
-        if !is_plain(*b) {
-            return i;
-        }
-    }
-    bytes.len()
+    let n = plain_blocks(bytes);
+    let (_, rest) = bytes.split_at(n);
+    n + first_other(rest)
 }

@@ -84,6 +84,19 @@ plain_more (x ∷ xs) (suc n) lt h i =
     (tail_by (eqb x 10) (newlines false (take (suc n) xs)) (newlines false (take n xs)) (cond (eqb (get_or xs n 0) 10) 1 0)
     (plain_more xs n (omega arith) (λ k lt. h (suc k) (omega arith)) i))
 
+-- a part behind plain bytes
+pub plain_apart : (xs : List ℕ) (n m : ℕ) → n ≤ length xs → ((k : ℕ) → k < n → is_plain (get_or xs k 0) ≡ true) → newlines false (take (n + m) xs) ≡ newlines false (take n xs) + newlines false (take m (drop n xs))
+plain_apart xs zero m le h =
+    let same : 0 + m ≡ m = omega arith in
+    let none : newlines false (take m xs) ≡ 0 + newlines false (take m xs) = omega arith in
+    ap (λ k. newlines false (take k xs)) same ∙ none
+plain_apart [] (suc n) m le h = absurd (omega arith)
+plain_apart (x ∷ xs) (suc n) m le h =
+    let same : suc n + m ≡ suc (n + m) = omega arith in
+    rw (same, (plain x (h 0 (omega arith))).cr)
+    (tail_by (eqb x 10) (newlines false (take (n + m) xs)) (newlines false (take n xs)) (newlines false (take m (drop n xs)))
+    (plain_apart xs n m (omega arith) (λ k lt. h (suc k) (omega arith))))
+
 pub plain_next : (xs : List ℕ) (n lines next : ℕ) → n < length xs → ((k : ℕ) → k < n → is_plain (get_or xs k 0) ≡ true) → is_plain (get_or xs n 0) ≡ true → lines ≡ newlines false (take n xs) → next ≡ lines + cond (eqb (get_or xs n 0) 10) 1 0 → next ≡ newlines false (take (n + 1) xs)
 plain_next xs n lines next lt h i e f =
     let same : suc n ≡ n + 1 = omega arith in

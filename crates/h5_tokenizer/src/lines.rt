@@ -2,9 +2,9 @@
 ghost use Rattle.std.specs.Prelude.{◌≡◌, ◌<◌, ◌≤◌, ℕ, false, length, slice_index};
 ghost use Rattle.h5_tokenizer.specs.Lines.{line_behind, newlines, newlines_passed};
 
-// How many newlines a few bytes are, where a CR came before them or didn't: CR LF is one. There are few
-// enough of them that a byte counts them.
-fn few_newlines(bytes: &[u8], behind_cr: bool) -> u8
+/// How many newlines a few bytes are, where a CR came before them or didn't: CR LF is one. There are few
+/// enough of them that a byte counts them.
+pub fn few_newlines(bytes: &[u8], behind_cr: bool) -> u8
     requires { length bytes.now < 256 }
     ensures { result ≡ newlines behind_cr bytes.now }
 {

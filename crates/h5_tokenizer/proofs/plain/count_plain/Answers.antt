@@ -1,36 +1,33 @@
-use Rattle.std.proofs.Common.{◌≡◌, ◌<◌, ◌+◌, length, true, cond, eqb, get_or, ap, sym, ◌∙◌, arith}
-use Rattle.std.proofs.lemmas.Bool.{ne_eqb}
-use Rattle.h5_markup.specs.Plain.{is_plain}
-use Rattle.h5_tokenizer.proofs.LineLaws.{all_plain, high_none, high_plain, none_more, plain_next}
+use Rattle.std.proofs.Common.{◌≡◌, ◌+◌, drop, subst, arith}
+use Rattle.h5_tokenizer.proofs.PlainParts.{ArePlain, joined, of_front, at_most}
 use Rattle.h5_tokenizer.proofs.plain.count_plain.Goals as goal
-use Rattle.h5_tokenizer.proofs.plain.count_plain.Goals.{then-b-le93+else-not-is_plain+then-b-eq10, then-b-le93+else-not-is_plain+else-b-eq10, else-b-le93}
+use Rattle.h5_tokenizer.proofs.plain.count_plain.Goals.{After-count_far-m}
 
-pub loop-i-preserved : goal.loop-i-preserved
-loop-i-preserved c =
+front : (c : After-count_far-m) → ArePlain c.as_bytes-bytes.result.now c.count_bytes-n.result.0 c.count_bytes-n.result.1
+front c = of_front c.as_bytes-bytes.result.now c.split_at.result.0.now c.min.result c.count_bytes-n.result.0 c.count_bytes-n.result.1 c.split_at.ensures.front (omega (arith, c.split_at.ensures.back_len)) (omega (arith, c.split_at.ensures.front_len, c.count_bytes-n.ensures.within)) (record {
+  within = c.count_bytes-n.ensures.within;
+  plain = c.count_bytes-n.ensures.plain;
+  counted = c.count_bytes-n.ensures.lines;
+})
+
+back : (c : After-count_far-m) → ArePlain c.split_at.result.1.now c.count_far-m.result.0 c.count_far-m.result.1
+back c = record { within = c.count_far-m.ensures.within; plain = c.count_far-m.ensures.plain; counted = c.count_far-m.ensures.lines }
+
+both : (c : After-count_far-m) → ArePlain c.args.text.now (c.count_bytes-n.result.0 + c.count_far-m.result.0) (c.count_bytes-n.result.1 + c.count_far-m.result.1)
+both c =
     let bytes = c.as_bytes-bytes.result.now in
-    let i = c.loop-i.i in
-    let within : i < length bytes = omega arith in
-    elim c.if-b-le93.branch [
-      | then-b-le93+else-not-is_plain+then-b-eq10 w ↦
-          let here : is_plain (get_or bytes i 0) ≡ true = sym w.is_plain.ensures ∙ w.if-not-is_plain.false in
-          record {
-            plain = all_plain bytes i c.loop-i.invariant.plain here;
-            few = omega (arith, w.lines-is, c.loop-i.invariant.few);
-            counted = plain_next bytes i c.loop-i.lines c.if-b-le93.lines within c.loop-i.invariant.plain here c.loop-i.invariant.counted (w.lines-is ∙ ap (λ x. c.loop-i.lines + cond (eqb x 10) 1 0) (sym w.if-b-eq10.true));
-          }
-      | then-b-le93+else-not-is_plain+else-b-eq10 w ↦
-          let here : is_plain (get_or bytes i 0) ≡ true = sym w.is_plain.ensures ∙ w.if-not-is_plain.false in
-          record {
-            plain = all_plain bytes i c.loop-i.invariant.plain here;
-            few = omega (arith, w.lines-is, c.loop-i.invariant.few);
-            counted = plain_next bytes i c.loop-i.lines c.if-b-le93.lines within c.loop-i.invariant.plain here c.loop-i.invariant.counted (w.lines-is ∙ sym (none_more (ne_eqb (get_or bytes i 0) 10 w.if-b-eq10.false)));
-          }
-      | else-b-le93 w ↦
-          let high : 93 < get_or bytes i 0 = omega (arith, w.if-b-le93.false) in
-          let here : is_plain (get_or bytes i 0) ≡ true = high_plain (get_or bytes i 0) high in
-          record {
-            plain = all_plain bytes i c.loop-i.invariant.plain here;
-            few = omega (arith, w.lines-is, c.loop-i.invariant.few);
-            counted = plain_next bytes i c.loop-i.lines c.if-b-le93.lines within c.loop-i.invariant.plain here c.loop-i.invariant.counted (w.lines-is ∙ sym (none_more (high_none (get_or bytes i 0) high)));
-          }
-    ]
+    let all : c.min.result ≡ c.count_bytes-n.result.0 = omega (arith, c.split_at.ensures.front_len, c.count_bytes-n.ensures.within, c.if-n-front.false) in
+    let rest : c.split_at.result.1.now ≡ drop c.count_bytes-n.result.0 bytes = subst (λ k. c.split_at.result.1.now ≡ drop k bytes) all c.split_at.ensures.back in
+    subst (λ l. ArePlain l (c.count_bytes-n.result.0 + c.count_far-m.result.0) (c.count_bytes-n.result.1 + c.count_far-m.result.1)) c.as_bytes-bytes.ensures.value
+    (joined bytes c.split_at.result.1.now c.count_bytes-n.result.0 c.count_far-m.result.0 c.count_bytes-n.result.1 c.count_far-m.result.1 rest (front c) (back c))
+
+pub overflow_add-result-2 : goal.overflow_add-result-2
+overflow_add-result-2 c =
+    let b = (goal.at.overflow_add-result-2 c).After-count_far-m in
+    omega (arith, at_most _ _ _ (both b), (both b).within)
+
+pub returns-clause-plain : goal.returns-clause-plain
+returns-clause-plain c = (both (goal.at.returns-clause-plain c).After-count_far-m).plain
+
+pub returns-clause-lines : goal.returns-clause-lines
+returns-clause-lines c = (both (goal.at.returns-clause-lines c).After-count_far-m).counted
