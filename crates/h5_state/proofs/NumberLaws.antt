@@ -1,5 +1,5 @@
 -- HTML elements of one number have one name.
-use Rattle.std.proofs.Common.{◌≡◌, ◌≢◌, ◌<◌, ◌≤◌, ℕ, nat_lt, Bool, true, false, cond, not, ◌&&◌, ◌==◌, List, Option, Some, None, refl, ap, sym, subst, ◌∙◌, arith, rules}
+use Rattle.std.proofs.Common.{◌≡◌, ◌≢◌, ◌<◌, ◌≤◌, ℕ, nat_lt, Bool, true, false, cond, not, ◌&&◌, ◌==◌, List, Some, None, refl, ap, sym, ◌∙◌, arith, rules}
 use denote.Enum.Bare.{false_same, sameb, same_false, tag_one}
 use denote.Enum.Declared.{tag_of}
 use Rattle.std.proofs.lemmas.Bool.{eq-eqb, eqb-true, ltb-true, ne_eqb}

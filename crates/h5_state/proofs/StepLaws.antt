@@ -1,5 +1,5 @@
 -- What holds at every moment, after a step.
-use Rattle.std.proofs.Common.{◌≡◌, ap, sym, subst, ◌∙◌}
+use Rattle.std.proofs.Common.{◌≡◌, sym, subst}
 use Rattle.h5_interface.specs.SinkChoices.{Rearranges}
 use Rattle.h5_interface.specs.declared.sink.TreeSink.{Ghosts}
 use Rattle.h5_rules.specs.Sound.{Sound}

@@ -1,5 +1,5 @@
 -- What is kept beside the open elements, where elements come or leave.
-use Rattle.std.proofs.Common.{◌≡◌, ◌≢◌, Bool, true, false, cond, ◌&&◌, ◌||◌, ◌<◌, ◌≤◌, ◌-◌, ◌+◌, ℕ, nat_lt, take, drop, get_or, Some, List, [], ◌∷◌, ◌++◌, append_assoc, length, length-append, ◌^◌, map, reverse, refl, ap, subst, sym, ◌∙◌, zero-add, arith, rules}
+use Rattle.std.proofs.Common.{◌≡◌, Bool, true, false, cond, ◌||◌, ◌<◌, ◌≤◌, ◌-◌, ◌+◌, ℕ, nat_lt, take, drop, get_or, Some, List, [], ◌∷◌, ◌++◌, append_assoc, length, length-append, ◌^◌, map, reverse, refl, ap, subst, sym, ◌∙◌, zero-add, arith}
 use Rattle.std.specs.Int.{from_bool}
 use Rattle.std.specs.Prelude.{slice_get}
 use Rattle.std.proofs.lemmas.Bool.{lt-ltb}
@@ -8,11 +8,8 @@ use Rattle.std.proofs.lemmas.List.{length-map, length-reverse, length-take, map-
 use Rattle.h5_names.specs.declared.qualified.QualName.{QualName}
 use Rattle.h5_interface.specs.Forest.{Forest}
 use Rattle.h5_interface.specs.NewElement.{is_html_template}
-use Rattle.h5_interface.specs.Seen.{Seen, after_pop}
-use Rattle.h5_interface.specs.SinkChoices.{SinkChoices}
 use Rattle.h5_rules.specs.stack.Scope.{has_template, later_names}
-use Rattle.h5_rules.specs.World.{World, name_in, names_of}
-use Rattle.h5_rules.proofs.changes.PopLaws.{names-pop}
+use Rattle.h5_rules.specs.World.{name_in}
 use Rattle.h5_state.specs.Summaries.{IsKept, all_open, open_templates, summaries, summary_of}
 use Rattle.h5_state.specs.View.{open_node}
 use Rattle.h5_state.specs.declared.name_numbers.NameNumbers.{NameNumbers}
@@ -21,7 +18,7 @@ use Rattle.h5_state.specs.declared.open_element.OpenElements.{OpenElements}
 use Rattle.h5_state.specs.declared.open_element.Summary.{Summary}
 use Rattle.h5_stack.specs.Numbered.{Numbered, numbers, one_of, values}
 use Rattle.h5_state.proofs.SeenLaws.{same_tail}
-use Rattle.h5_state.proofs.StackLaws.{last_split, popped_world, seen_pushed, seen_world}
+use Rattle.h5_state.proofs.StackLaws.{last_split, seen_pushed}
 use Rattle.h5_state.specs.Numbers.{name_number}
 
 -- a name more, and how many are `template`s

@@ -1,4 +1,4 @@
-use Rattle.std.proofs.Common.{ap, arith, length, map, reverse, sym, ◌∙◌, ◌≡◌}
+use Rattle.std.proofs.Common.{ap, arith, map, reverse, sym, ◌∙◌, ◌≡◌}
 use Rattle.h5_rules.specs.World.{name_in, names_of}
 use Rattle.h5_state.specs.Summaries.{all_open}
 use Rattle.h5_state.specs.View.{elements_of, open_node, world}

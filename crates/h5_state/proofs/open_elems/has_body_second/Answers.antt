@@ -1,5 +1,4 @@
-use Rattle.std.proofs.Common.{ap, arith, codes, map, sym, ◌<◌, ◌∙◌}
-use Rattle.std.proofs.lemmas.List.{length-map, length-reverse}
+use Rattle.std.proofs.Common.{ap, arith, codes, sym, ◌∙◌}
 use Rattle.h5_tag_sets.specs.TagSets.{is_html_named}
 use Rattle.h5_rules.specs.World.{names_of}
 use Rattle.h5_stack.proofs.ItemLaws.{length-values}

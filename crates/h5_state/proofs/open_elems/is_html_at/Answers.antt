@@ -1,4 +1,4 @@
-use Rattle.std.proofs.Common.{ap, map, ◌∙◌}
+use Rattle.std.proofs.Common.{ap, map}
 use Rattle.h5_rules.specs.World.{name_in}
 use Rattle.h5_state.specs.View.{names_under, stack_under}
 use Rattle.h5_state.proofs.NumberLaws.{tells_html}

@@ -1,6 +1,4 @@
-use Rattle.std.proofs.Common.{ap, map, refl, reverse, sym, ◌∙◌, ◌≡◌}
-use Rattle.std.proofs.lemmas.List.{take-map}
-use Rattle.h5_stack.specs.Numbered.{values}
+use Rattle.std.proofs.Common.{ap, map, refl, reverse}
 use Rattle.h5_rules.specs.World.{names_of}
 use Rattle.h5_state.specs.View.{open_node, stack_under, with_stack, world}
 use Rattle.h5_state.proofs.SummaryLaws.{cut_values, kept_cut}

@@ -1,4 +1,4 @@
-use Rattle.std.proofs.Common.{◌≡◌, Some, ap, arith, length, map, refl, reverse, subst, sym, ◌∙◌}
+use Rattle.std.proofs.Common.{◌≡◌, ap, arith, length, map, refl, reverse, subst, sym, ◌∙◌}
 use Rattle.std.proofs.lemmas.Result.{err_from_is_err_and}
 use Rattle.h5_rules.specs.Sound.{AllStand}
 use Rattle.h5_rules.specs.World.{name_in, names_of}
@@ -7,7 +7,7 @@ use Rattle.h5_stack.specs.Numbered.{values}
 use Rattle.h5_stack.proofs.ItemLaws.{length-values}
 use Rattle.h5_state.specs.Numbers.{name_number}
 use Rattle.h5_state.specs.Summaries.{IsKept, summary_of}
-use Rattle.h5_state.specs.View.{elements_of, open_node, world}
+use Rattle.h5_state.specs.View.{open_node, world}
 use Rattle.h5_state.specs.declared.open_element.OpenElements.{OpenElements}
 use Rattle.h5_state.proofs.AttributeLaws.{open_length}
 use Rattle.h5_state.proofs.StackLaws.{named, seen_pushed}

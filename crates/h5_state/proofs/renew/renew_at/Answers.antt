@@ -1,8 +1,6 @@
 use Rattle.std.proofs.Common.{ap, arith, length, map, reverse, sym, subst, take, ◌+◌, ◌<◌, ◌∙◌, ◌≡◌}
-use Rattle.std.proofs.Math.ListN.{set}
 use Rattle.h5_interface.specs.Forest.{IsElement}
 use Rattle.h5_rules.specs.World.{name_in}
-use Rattle.h5_stack.specs.Numbered.{values}
 use Rattle.h5_stack.proofs.ItemLaws.{length-values}
 use Rattle.h5_state.specs.Summaries.{summaries, summary_of}
 use Rattle.h5_state.specs.View.{elements_of, kept_under, names_under, open_node, world}

@@ -1,6 +1,4 @@
-use Rattle.std.proofs.Common.{Bool, [], ap, codes, false, length, refl, sym, true, ◌&&◌, ◌||◌, ◌∙◌, ◌∷◌, ◌≡◌}
-use Rattle.h5_names.specs.AttributeText.{is_same_text}
-use Rattle.h5_tag_sets.specs.TagSets.{html_namespace, is_html_named}
+use Rattle.std.proofs.Common.{[], codes, ◌∙◌, ◌∷◌}
 use Rattle.h5_rules.specs.World.{names_of}
 use Rattle.h5_rules.specs.insertion.Place.{is_foster_parent}
 use Rattle.h5_rules.specs.stack.Closing.{is_html_among}
