@@ -2,20 +2,19 @@
 ghost use Rattle.std.specs.Prelude.{◌≡◌, MatchOption, None, Some, codes, if◌then◌else◌, is_none, is_some, length, true};
 ghost use Rattle.std.specs.Option.{option_map};
 ghost use Rattle.h5_names.specs.KnownNames.{name_text};
-ghost use Rattle.h5_interface.specs.Forest.{IsElement};
-ghost use Rattle.h5_tag_sets.specs.TagSets.{is_html_named, is_list_item_scope, is_special};
+ghost use Rattle.h5_tag_sets.specs.TagSets.{is_html_named, is_list_item_scope};
 ghost use Rattle.h5_rules.specs.stack.Scope.{cut_through, in_scope};
-ghost use Rattle.h5_rules.specs.stack.Closing.{is_html_among, newest_item, passed_names};
+ghost use Rattle.h5_rules.specs.stack.Closing.{is_html_among, newest_item};
 ghost use Rattle.h5_rules.specs.Rows.{CloseListItem};
-ghost use Rattle.h5_rules.specs.World.{name_in, names_of};
-ghost use Rattle.h5_closing.specs.Items.{item_names, stops_search};
+ghost use Rattle.h5_rules.specs.World.{names_of};
+ghost use Rattle.h5_closing.specs.Items.{item_names};
 ghost use Rattle.h5_state.specs.Steps.{IsSound, Makes, world_of};
 
 use h5_interface::TreeSink;
 use h5_names::{KnownName, LocalName, QualName};
 use h5_state::{
-    Known, OpenElement, State, find_in_scope, find_named, generate_implied_end_except,
-    is_current_html, open_at, open_count, pop_until_named,
+    Known, State, all_open, find_in_scope, find_named, generate_implied_end_except,
+    is_current_html, name_at, pop_until_named,
 };
 use h5_tag_sets::ElementSet;
 
@@ -44,45 +43,17 @@ fn item_of(name: &QualName, kind: ItemKind) -> Option<KnownName>
     }
 }
 
-// Whether a special element of this name ends the search for an item.
-#[tactic(auto, unfolding(h5_rules::specs::stack::Closing::passed_names, h5_tag_sets::specs::TagSets::html_namespace))]
-fn is_passed(name: &QualName) -> bool
-    ensures { result ≡ is_html_among passed_names name.now }
-{
-    name.ns.is_html()
-        && (name.local.is(KnownName::Address)
-            || name.local.is(KnownName::Div)
-            || name.local.is(KnownName::P))
-}
-
-// Whether the search for an item of this kind stops at an open element: that is one, or ends the search. The sink is
-// asked for names of special elements alone.
-fn stops_search<S: TreeSink>(sink: &S, element: &OpenElement<S::Handle>, kind: ItemKind) -> bool
-    requires element { IsElement (S.sees sink.now).forest (S.node element.now.handle) }
-    requires special { element.now.summary.special ≡ is_special (name_in (S.sees sink.now).forest (S.node element.now.handle)) }
-    ensures { result ≡ stops_search (item_names kind) (name_in (S.sees sink.now).forest (S.node element.now.handle)) }
-{
-    if !element.summary.special {
-        return false;
-    }
-    let name = sink.elem_name(&element.handle);
-    !is_passed(name) || item_of(name, kind).is_some()
-}
-
-// The newest item of this kind, from the current node on, if it comes before any element that ends the search.
+// The newest item of this kind, from the current node on, if it comes before any element that ends the search. Items end
+// it, too.
 fn find_item<S: TreeSink>(sink: &S, state: &State<S::Handle>, kind: ItemKind) -> Option<KnownName>
     requires { IsSound S.TreeSink sink.now state.now }
     ensures { option_map name_text result ≡ newest_item (item_names kind) (names_of (world_of S.TreeSink sink.now state.now)) }
 {
-    let mut place = open_count(sink, state);
-    'down: while place > 0 {
-        place -= 1;
-        let element = open_at(sink, state, place);
-        if stops_search(sink, element, kind) {
-            return item_of(sink.elem_name(&element.handle), kind);
-        }
+    let end = all_open(sink, state).item_end as usize;
+    if end == 0 {
+        return None;
     }
-    None
+    item_of(name_at(sink, state, end - 1), kind)
 }
 
 /// Closes the newest item of this kind, if it comes before any element that ends the search. Whether it was the current

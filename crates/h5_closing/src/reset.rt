@@ -1,7 +1,9 @@
 //! The reset of the insertion mode (HTML standard, section 13.2.4.1, "reset the insertion mode appropriately").
-ghost use Rattle.std.specs.Prelude.{◌≡◌, ◌||◌, if◌then◌else◌, is_some, unwrap_or};
-ghost use Rattle.h5_rules.specs.fitting.ResetByRoles.{decide, decide_root, first_mode};
-ghost use Rattle.h5_rules.specs.fitting.Roles.{is_cell_role, is_head, role_of, role_of_local};
+ghost use Rattle.std.specs.Prelude.{◌≡◌, ◌||◌, ◌∷◌, ◌++◌, [], if◌then◌else◌, IfSome, List, None, is_some, unwrap_or};
+ghost use Rattle.h5_names.specs.declared.qualified.QualName.{QualName as NameText};
+ghost use Rattle.h5_rules.specs.fitting.ResetByRoles.{decide, decide_root, first_mode, reset};
+ghost use Rattle.h5_rules.specs.fitting.Roles.{is_cell_role, is_head, role_of, role_of_local, roles};
+ghost use Rattle.h5_rules.specs.World.{names_of};
 ghost use Rattle.h5_types.specs.declared.modes.InsertionMode.{InsertionMode as Mode};
 ghost use Rattle.h5_rules.specs.fitting.Reset.{reset_mode};
 ghost use Rattle.h5_rules.specs.Sound.{situation_of};
@@ -10,7 +12,7 @@ ghost use Rattle.h5_state.specs.Steps.{IsSound, world_of};
 
 use h5_interface::TreeSink;
 use h5_names::{KnownName, LocalName, QualName};
-use h5_state::{State, name_at, open_count};
+use h5_state::{State, name_at, newest_among, open_count};
 use h5_types::InsertionMode;
 
 // What a name is to a reset: plain, or one that decides.
@@ -31,6 +33,24 @@ enum Role {
     // `td` or `th`.
     Cell,
 }
+
+// The names that decide.
+const DECIDING: [KnownName; 14] = [
+    KnownName::Html,
+    KnownName::Head,
+    KnownName::Body,
+    KnownName::Frameset,
+    KnownName::Table,
+    KnownName::Template,
+    KnownName::Caption,
+    KnownName::Colgroup,
+    KnownName::Tbody,
+    KnownName::Tfoot,
+    KnownName::Thead,
+    KnownName::Tr,
+    KnownName::Td,
+    KnownName::Th,
+];
 
 // The role of an HTML element by its local name.
 #[tactic(auto, unfolding(h5_rules::specs::fitting::Roles::role_of_local))]
@@ -144,6 +164,21 @@ fn decide_root<S: TreeSink>(sink: &S, state: &State<S::Handle>, role: Role) -> I
     }
 }
 
+// The mode that the newest element above the root tells which decides one, if there is one.
+fn decide_above_root<S: TreeSink>(sink: &S, state: &State<S::Handle>) -> Option<InsertionMode>
+    requires { IsSound S.TreeSink sink.now state.now }
+    ensures some { IfSome result (λ mode. mode ≡ reset (situation_of (world_of S.TreeSink sink.now state.now)) (roles (names_of (world_of S.TreeSink sink.now state.now)))) }
+    ensures none { result ≡ None → (root : NameText) → (newer : List NameText) → names_of (world_of S.TreeSink sink.now state.now) ≡ newer ++ root ∷ []
+        → reset (situation_of (world_of S.TreeSink sink.now state.now)) (roles (names_of (world_of S.TreeSink sink.now state.now))) ≡ reset (situation_of (world_of S.TreeSink sink.now state.now)) (roles (root ∷ [])) }
+{
+    let newest = newest_among(sink, state, &DECIDING);
+    if newest > 1 {
+        decide(sink, state, role_of(name_at(sink, state, newest - 1)))
+    } else {
+        None
+    }
+}
+
 /// The insertion mode that the open elements tell: that of the first, from the current node on, that decides. In a fragment
 /// the context element stands in for the root.
 #[tactic(auto, unfolding(h5_state::specs::View::world, h5_rules::specs::fitting::Reset::reset_mode))]
@@ -151,16 +186,11 @@ pub fn reset_insertion_mode<S: TreeSink>(sink: &S, state: &State<S::Handle>) -> 
     requires { IsSound S.TreeSink sink.now state.now }
     ensures { result ≡ reset_mode (world_of S.TreeSink sink.now state.now) }
 {
-    let mut place = open_count(sink, state);
-    if place == 0 {
+    if open_count(sink, state) == 0 {
         return InsertionMode::InBody;
     }
-    'down: while place > 1 {
-        place -= 1;
-        let role = role_of(name_at(sink, state, place));
-        if let Some(mode) = decide(sink, state, role) {
-            return mode;
-        }
+    if let Some(mode) = decide_above_root(sink, state) {
+        return mode;
     }
     match &state.context_elem {
         Some(context) => decide_root(sink, state, role_of(sink.elem_name(context))),

@@ -1,5 +1,5 @@
 -- Walks over the list of active formatting elements, the newest entry first.
-use Rattle.std.proofs.Common.{◌≡◌, ℕ, true, cond, List, [], ◌∷◌, ◌++◌, length, map, reverse, take, drop, append_assoc, inl, inr, ap, sym, subst, ◌∙◌}
+use Rattle.std.proofs.Common.{◌≡◌, ℕ, true, cond, List, [], ◌∷◌, ◌++◌, map, reverse, take, drop, append_assoc, inl, inr, ap, sym, subst, ◌∙◌}
 use Rattle.std.proofs.lemmas.List.{map-append, reverse-append, take-append-drop}
 use Rattle.h5_token.specs.TokenText.{TagText}
 use Rattle.h5_rules.specs.formatting.FormattingList.{ElementEntry, Entry, nodes_of}
@@ -9,8 +9,6 @@ use Rattle.h5_rules.proofs.entries.EntryLaws.{nodes_of-append}
 use Rattle.h5_rules.proofs.entries.PairLaws.{in_split}
 use Rattle.h5_state.specs.View.{entry_of}
 use Rattle.h5_state.specs.declared.state.State.{State}
-use Rattle.h5_rules.specs.World.{World}
-use Rattle.h5_formatting.specs.Places.{IsEntryAt}
 use Rattle.h5_formatting.specs.View.{list_under}
 
 -- newer entries, before what is left, aren't those of an element

@@ -1,5 +1,5 @@
 -- A round goes over the list.
-use Rattle.std.proofs.Common.{◌≡◌, ◌-◌, ◌<◌, ◌≤◌, ℕ, List, [], ◌∷◌, ◌++◌, append_assoc, length, length-append, map, reverse, take, Result, Ok, Err, inl, inr, refl, ap, sym, subst, ◌∙◌, arith}
+use Rattle.std.proofs.Common.{◌≡◌, ◌-◌, ◌<◌, ◌≤◌, ℕ, List, [], ◌∷◌, ◌++◌, length, length-append, map, reverse, take, Result, Ok, Err, inl, inr, ap, sym, subst, ◌∙◌, arith}
 use Rattle.std.specs.Prelude.{OnOk, Some}
 use Rattle.std.proofs.Math.Seq.{take-append_seam}
 use Rattle.h5_token.specs.TokenText.{TagText}
@@ -8,10 +8,7 @@ use Rattle.h5_rules.specs.formatting.Adoption.{FormattingElement, replaced_by, r
 use Rattle.h5_rules.specs.formatting.FormattingList.{ElementEntry, Entry, nodes_of}
 use Rattle.h5_rules.specs.formatting.FormattingNames.{IsOfTag}
 use Rattle.h5_rules.specs.formatting.InnerLoop.{MayWalk, walked}
-use Rattle.h5_rules.specs.formatting.Lists.{Agrees}
-use Rattle.h5_rules.specs.stack.Order.{Before, Distinct, IsIn}
-use Rattle.h5_rules.proofs.entries.EntryLaws.{nodes_of-append}
-use Rattle.h5_rules.proofs.entries.PairLaws.{before_right, distinct_apart, in_left, in_right, not_beside, older}
+use Rattle.h5_rules.specs.stack.Order.{IsIn}
 use Rattle.h5_rules.proofs.entries.EachLaws.{each_at, each_round}
 use Rattle.h5_rules.proofs.entries.KeptListsLaws.{EntryCut, entry_cut}
 use Rattle.h5_rules.proofs.entries.RoundLaws.{replaced_by_which}

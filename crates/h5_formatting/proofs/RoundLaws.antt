@@ -4,7 +4,7 @@ use Rattle.std.proofs.lemmas.List.{take-append-le, take_all}
 use Rattle.h5_token.specs.TokenText.{TagText}
 use Rattle.h5_interface.specs.Forest.{Forest, parent_of}
 use Rattle.h5_interface.specs.SinkChoices.{SinkChoices}
-use Rattle.h5_rules.specs.formatting.Adoption.{FormattingElement, FurthestBlock, IsCloneOf, newer_than, older_than, to_clone}
+use Rattle.h5_rules.specs.formatting.Adoption.{FormattingElement, FurthestBlock, newer_than, older_than, to_clone}
 use Rattle.h5_rules.specs.formatting.FormattingList.{ElementEntry, nodes_of}
 use Rattle.h5_rules.specs.formatting.FormattingNames.{IsOfTag}
 use Rattle.h5_rules.specs.formatting.Fresh.{AreFresh}

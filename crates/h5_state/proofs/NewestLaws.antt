@@ -172,7 +172,7 @@ among_none n = at (is_same_text n.ns html_namespace)
     at true = refl
     at false = refl
 
-same_text-sym : (x y : List ℕ) → is_same_text x y ≡ is_same_text y x
+pub same_text-sym : (x y : List ℕ) → is_same_text x y ≡ is_same_text y x
 same_text-sym x y = same_tests (is_same_text x y) (is_same_text y x) (λ e. (bytes_eq-Decides y x).1 (sym ((bytes_eq-Decides x y).0 e))) (λ e. (bytes_eq-Decides x y).1 (sym ((bytes_eq-Decides y x).0 e)))
 
 among_more : (locals : List (List ℕ)) (local : List ℕ) (n : QualName) → is_html_among (locals ++ local ∷ []) n ≡ (is_html_among locals n || is_html_named local n)

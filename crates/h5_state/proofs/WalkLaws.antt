@@ -1,16 +1,17 @@
 -- The walk over the open elements.
-use Rattle.std.proofs.Common.{ap, sym, subst, ◌∙◌, ◌≡◌, ◌+◌, ◌<◌, ◌≤◌, ℕ, zero, suc, get_or, Bool, true, false, cond, take, List, [], ◌∷◌, ◌++◌, length, map, reverse, refl, arith}
-use Rattle.std.proofs.lemmas.List.{length-map, length-reverse, length-take, reverse-append, reverse-reverse, take-append-le, take-map, take_all}
+use Rattle.std.proofs.Common.{ap, sym, subst, ◌∙◌, ◌≡◌, ◌+◌, ◌<◌, ◌≤◌, ℕ, zero, suc, get_or, Bool, true, false, cond, drop, take, List, [], ◌∷◌, ◌++◌, length, map, reverse, refl, arith}
+use Rattle.std.proofs.lemmas.List.{length-map, length-reverse, length-take, map-append, reverse-append, reverse-reverse, take-append-le, take-map, take_all}
 use Rattle.h5_names.specs.declared.qualified.QualName.{QualName}
 use Rattle.h5_interface.specs.Forest.{Forest}
 use Rattle.h5_interface.specs.Seen.{Seen}
 use Rattle.h5_rules.specs.stack.Order.{but_first}
 use Rattle.h5_rules.specs.stack.Scope.{cut_above, cut_through, in_scope}
 use Rattle.h5_rules.specs.insertion.Place.{from_foster_parent, is_foster_parent}
-use Rattle.h5_rules.specs.World.{name_in}
-use Rattle.h5_state.specs.View.{elements_of, names_under, open_node, stack_under}
+use Rattle.h5_rules.specs.World.{name_in, names_of}
+use Rattle.h5_state.specs.View.{elements_of, names_under, open_node, stack_under, world}
 use Rattle.h5_state.specs.declared.state.State.{State}
 use Rattle.h5_state.proofs.AttributeLaws.{open_length}
+use Rattle.h5_state.proofs.SeenLaws.{seen_cut}
 use Rattle.h5_state.proofs.StackLaws.{stack_step}
 
 -- the second list is what the first one ends with
@@ -93,6 +94,16 @@ names_count sees node sink state count h =
       open_length (open_node node) oldest,
       length-take count (elements_of state),
       open_length (open_node node) (elements_of state),
+    )
+
+-- the names of all, cut above the oldest ones
+pub names_cut : {S H : Type 0} (sees : S → Seen) (node : H → ℕ) (sink : S) (state : State H) (count : ℕ) → (newer : List QualName) × (names_of (world sees node sink state) ≡ newer ++ names_under sees node sink state count)
+unfolding names_of names_under world
+names_cut sees node sink state count =
+    let name = name_in (sees sink).forest in
+    let elements = elements_of state in (
+      map name (reverse (map (open_node node) (drop count elements))),
+      ap (map name) (seen_cut (open_node node) elements count) ∙ map-append name (reverse (map (open_node node) (drop count elements))) (reverse (map (open_node node) (take count elements))),
     )
 
 pub stack_count : {H : Type 0} (node : H → ℕ) (state : State H) (count : ℕ) → count ≤ length (reverse (map (open_node node) (elements_of state))) → length (stack_under node state count) ≡ count

@@ -1,5 +1,4 @@
-use Rattle.std.proofs.Common.{ap, arith, length, map, nat_lt, sym, ◌++◌, ◌+◌, ◌∙◌, ◌∷◌, ◌≡◌, ℕ}
-use Rattle.std.specs.List.{list_any}
+use Rattle.std.proofs.Common.{ap, arith, length, map, nat_lt, ◌++◌, ◌+◌, ◌∙◌, ◌∷◌, ◌≡◌}
 use Rattle.std.proofs.lemmas.List.{length-map, map-append}
 use Rattle.h5_tag_sets.specs.TagSets.{is_default_scope}
 use Rattle.h5_rules.specs.formatting.Adoption.{newer_than, older_than}

@@ -1,7 +1,7 @@
 use Rattle.std.proofs.Common.{refl, subst, sym, ◌≡◌}
 use Rattle.h5_rules.specs.Sound.{AllStand, Sound}
 use Rattle.h5_rules.proofs.changes.RemovalLaws.{all_older}
-use Rattle.h5_state.specs.View.{open_node, stack_under, with_stack, world}
+use Rattle.h5_state.specs.View.{stack_under, with_stack, world}
 use Rattle.h5_formatting.proofs.OpenLaws.{stack_cut}
 use Rattle.h5_formatting.proofs.stack.keep_oldest.Goals as goal
 
