@@ -319,6 +319,18 @@ fn errors_and_quirks_are_kept(rt: HostRuntime) -> Result<(), Fail> {
     Ok(())
 }
 
+#[test]
+fn an_arena_may_keep_no_errors(rt: HostRuntime) -> Result<(), Fail> {
+    let mut arena = Arena::without_errors(rt.alloc())?;
+    assert_eq!(rt; arena.len(), 1);
+    assert!(rt; !arena.errors_lost());
+    arena.parse_error("a strange tag");
+    let arena = arena.finish();
+    assert_eq!(rt; arena.errors().len(), 0);
+    assert!(rt; arena.errors_lost());
+    Ok(())
+}
+
 pub(crate) fn put_doctype(arena: &mut Arena, alloc: Global) -> Result<(), AllocError> {
     let name = text_of(alloc, "html")?;
     arena.append_doctype_to_document(name, String::new(alloc), String::new(alloc))
@@ -386,6 +398,35 @@ fn attributes_that_lack_are_added(rt: HostRuntime) -> Result<(), Fail> {
     assert!(rt; arena.holds(root));
     assert_eq!(rt; arena.attrs(root).len(), 2);
     assert!(rt; is_first_value(arena.attrs(root), "x"));
+    Ok(())
+}
+
+// Adds twenty attributes, one by one.
+fn add_many(
+    arena: &mut Arena,
+    id: NodeId,
+    value: &str,
+    alloc: Global,
+    rt: &impl Abort,
+) -> Result<(), AllocError> {
+    for number in 0..20_u8 {
+        let local = format!(in alloc; "a{number}")?;
+        add_attribute(arena, id, (local.as_str(), value), alloc, rt)?;
+    }
+    Ok(())
+}
+
+#[test]
+fn many_attributes_that_lack_are_added(rt: HostRuntime) -> Result<(), Fail> {
+    let alloc = rt.alloc();
+    let mut arena = Arena::new(alloc)?;
+    let root = small_tree(&mut arena, alloc, "x", "some text", &rt)?;
+    add_many(&mut arena, root, "y", alloc, &rt)?;
+    add_many(&mut arena, root, "z", alloc, &rt)?;
+    assert!(rt; arena.holds(root));
+    assert_eq!(rt; arena.attrs(root).len(), 21);
+    let value = arena.attr(root, &LocalName::new(alloc, "a19")?);
+    assert_eq!(rt; value, Some("y"));
     Ok(())
 }
 
