@@ -129,7 +129,7 @@ pub fn build(alloc: Global, items: Vec<Item>) -> Result<Vec<u8>, Fault>
     ensures prints { IfOk result (λ output. ItemsPrint (item_texts items.items) output.items) }
     ensures memory { IfErr result (λ fault. fault ≡ Fault.Memory) }
 {
-    let arena = Arena::new(alloc)?;
+    let arena = Arena::without_errors(alloc)?;
     let mut builder = TreeBuilder::new(alloc, arena, TreeBuilderOpts::default());
     let replies = take_items(alloc, &mut builder, items)?;
     let mut out = print_arena(alloc, &builder.sink)?;
@@ -142,7 +142,7 @@ fn parse(alloc: Global, text: &str) -> Result<Arena, Fault>
     ensures parsed { IfOk result (λ arena. IsParsed text.now arena) }
     ensures memory { IfErr result (λ fault. fault ≡ Fault.Memory) }
 {
-    let parser = parse_document(alloc, Arena::new(alloc)?, ParseOpts::default());
+    let parser = parse_document(alloc, Arena::without_errors(alloc)?, ParseOpts::default());
     parser.one(text).map_err(fault_of_build)
 }
 
@@ -155,7 +155,7 @@ fn parser_in(alloc: Global, context: &str) -> Result<Parser<Arena>, Fault>
     ensures memory { IfErr result (λ fault. fault ≡ Fault.Memory) }
 {
     let name = QualName::new(None, Namespace::html(), LocalName::new(alloc, context)?);
-    let arena = Arena::new(alloc)?;
+    let arena = Arena::without_errors(alloc)?;
     let opts = ParseOpts::default();
     let parser = parse_fragment(alloc, arena, opts, name, Vec::new(alloc), true).map_err(
         fault_of_build,
