@@ -28,10 +28,14 @@ pub struct Utf8Parser<Sink: TreeSink + Drop> {
 }
 
 impl<Sink: TreeSink + Drop> Model for Utf8Parser<Sink> {
+    ghost use Rattle.std.specs.Coded.{codes};
+    ghost use Rattle.h5_stack.specs.contracts.numbering.Numbering as numbering;
     ghost use Rattle.h5_driver.specs.Bytes.{ParsingBytes};
     ghost use Rattle.h5_driver.specs.Parsing.{IsParsing};
 
     ghost Value = { ParsingBytes Sink Sink.Handle };
+
+    ghost coded = { Prim.hlevel (codes, Sink.code, Sink.Handle.code, numbering.the_row.coded) };
 
     ghost view = { λ p. record { parser = p.parser; unfinished = p.decoder } };
 

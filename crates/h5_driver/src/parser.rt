@@ -79,9 +79,13 @@ pub struct Parser<Sink: TreeSink + Drop> {
 }
 
 impl<Sink: TreeSink + Drop> Model for Parser<Sink> {
+    ghost use Rattle.std.specs.Coded.{codes};
+    ghost use Rattle.h5_stack.specs.contracts.numbering.Numbering as numbering;
     ghost use Rattle.h5_driver.specs.Parsing.{IsParsing, Parsing};
 
     ghost Value = { Parsing Sink Sink.Handle };
+
+    ghost coded = { Prim.hlevel (codes, Sink.code, Sink.Handle.code, numbering.the_row.coded) };
 
     ghost view = { λ p. record { builder = p.tokenizer.sink; reader = p.tokenizer.reader; waiting = p.input_buffer; failed = p.failed } };
 

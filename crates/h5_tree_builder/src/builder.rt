@@ -41,9 +41,13 @@ pub struct TreeBuilder<Handle: Drop, Sink: TreeSink<Handle = Handle> + Drop> {
 }
 
 impl<Handle: Drop, Sink: TreeSink<Handle = Handle> + Drop> Model for TreeBuilder<Handle, Sink> {
+    ghost use Rattle.std.specs.Coded.{codes};
+    ghost use Rattle.h5_stack.specs.contracts.numbering.Numbering as numbering;
     ghost use Rattle.h5_tree_builder.specs.Held.{Held, IsKept};
 
     ghost Value = { Held Sink Handle };
+
+    ghost coded = { Prim.hlevel (codes, Sink.code, Handle.code, numbering.the_row.coded) };
 
     ghost view = { λ b. record { sink = b.sink; state = b.state; ended = b.ended; failed = b.failed; turns = b.turns } };
 
