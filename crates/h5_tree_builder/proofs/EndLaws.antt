@@ -8,15 +8,16 @@ use Rattle.h5_rules.specs.World.{World}
 use Rattle.h5_rules.specs.formatting.FormattingList.{Entry}
 use Rattle.h5_rules.specs.formatting.Lists.{Lists}
 use Rattle.h5_rules.specs.stack.Order.{but_first}
+use Rattle.h5_stack.proofs.ItemLaws.{length-values}
 use Rattle.h5_state.specs.View.{elements_of, open_node, world}
 use Rattle.h5_state.specs.declared.state.State.{State}
 use Rattle.h5_state.proofs.AttributeLaws.{open_length}
 use Rattle.h5_tree_builder.specs.Builder.{all_popped, pop_each}
 
 -- as many open elements are seen as are kept
-pub seen_length : {S H : Type 0} (sees : S → Seen) (node : H → ℕ) (sink : S) (state : State H) → length (world sees node sink state).stack ≡ length (elements_of state)
+pub seen_length : {S H : Type 0} (sees : S → Seen) (node : H → ℕ) (sink : S) (state : State H) → length (world sees node sink state).stack ≡ length state.open_elems.elements
 unfolding world
-seen_length sees node sink state = open_length (open_node node) (elements_of state)
+seen_length sees node sink state = open_length (open_node node) (elements_of state) ∙ length-values state.open_elems.elements
 
 -- one element less
 pub pop_next : (choices : SinkChoices) (w : World) → 0 < length w.stack → all_popped choices (pop choices w) ≡ all_popped choices w

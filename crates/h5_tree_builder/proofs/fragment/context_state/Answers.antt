@@ -2,7 +2,7 @@ use Rattle.std.proofs.Common.{◌≡◌, ℕ, List, Option, Some, option_map, re
 use Rattle.h5_types.specs.declared.modes.InsertionMode.{InsertionMode}
 use Rattle.h5_rules.specs.Sound.{Sound}
 use Rattle.h5_rules.specs.World.{World, names_of}
-use Rattle.h5_state.specs.Summaries.{summaries}
+use Rattle.h5_state.specs.Summaries.{IsKept}
 use Rattle.h5_state.specs.View.{world}
 use Rattle.h5_state.proofs.StackLaws.{named}
 use Rattle.h5_tree_builder.specs.Builder.{first_world}
@@ -30,6 +30,6 @@ returns g c =
       world = same;
       sound = record {
         sound = subst Sound (sym same) (context_stands seen context form c.args.opts c.requires.is_forest c.requires.context there);
-        kept = c.first_state-state.ensures.kept ∙ ap summaries (sym (ap names_of same ∙ names_before_root seen context form c.args.opts c.requires.is_forest c.requires.context there));
+        kept = subst (IsKept c.first_state-state.result.open_elems) (sym (ap names_of same ∙ names_before_root seen context form c.args.opts c.requires.is_forest c.requires.context there)) c.first_state-state.ensures.kept;
       };
     }
