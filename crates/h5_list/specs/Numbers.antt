@@ -1,0 +1,21 @@
+-- The numbers by which entries are found.
+use Rattle.std.specs.Prelude.{◌≡◌, ℕ, ◌+◌, List, map}
+use denote.Enum.Declared.{tag_of}
+use Rattle.h5_names.specs.KnownNames.{known_name_of}
+use Rattle.h5_names.specs.contracts.known_name.KnownName.{the_type}
+use Rattle.h5_types.specs.declared.entry.FormatEntry.{FormatEntry}
+use Rattle.h5_types.specs.declared.entry.FormatEntry.TheVariants.{Element, Marker}
+use Rattle.h5_stack.specs.Numbered.{Numbered, numbers}
+
+-- a number of a name: equal names have equal numbers, and others may share one
+unfoldable pub name_number : List ℕ → ℕ
+name_number name = tag_of the_type (known_name_of name) + 1
+
+-- that of a marker is none of a name
+abbrev pub entry_number : {H : Type 0} → FormatEntry H → ℕ
+entry_number (Element handle tag) = name_number tag.name
+entry_number Marker = 0
+
+-- a number for each entry
+abbrev pub AreNumbered : {H T : Type 0} → List (Numbered T) → List (FormatEntry H) → Type 0
+AreNumbered {H} stack items = numbers stack ≡ map (λ (entry : FormatEntry H). entry_number entry) items
