@@ -1,5 +1,6 @@
 //! An element leaves the stack of open elements, wherever it stands.
 ghost use Rattle.std.specs.Prelude.{◌≡◌, ◌≢◌, if◌then◌else◌};
+ghost use Rattle.h5_interface.specs.Forest.{IsElement};
 ghost use Rattle.h5_rules.specs.formatting.Adoption.{without_node};
 ghost use Rattle.h5_rules.specs.stack.Order.{is_in};
 ghost use Rattle.h5_rules.specs.Rows.{RemoveFromStack};
@@ -13,6 +14,7 @@ use h5_state::{State, find_open, renew_from};
 // An element leaves the stack, where it is open; the sink isn't told. Whether it was.
 fn take_out<S: TreeSink>(sink: &S, state: &mut State<S::Handle>, handle: &S::Handle) -> bool
     requires sound { IsSound S.TreeSink sink.now state.old }
+    requires element { IsElement (S.sees sink.now).forest (S.node handle.now) }
     requires root { S.node handle.now ≢ root (world_of S.TreeSink sink.now state.old) }
     ensures found { result ≡ is_in (S.node handle.now) (world_of S.TreeSink sink.now state.old).stack }
     ensures world { world_of S.TreeSink sink.now state.new ≡ (let w = world_of S.TreeSink sink.now state.old in
@@ -37,6 +39,7 @@ pub fn remove_from_stack<S: TreeSink>(
     handle: &S::Handle,
 )
     requires sound { IsSound S.TreeSink sink.old state.old }
+    requires element { IsElement (S.sees sink.old).forest (S.node handle.now) }
     requires root { S.node handle.now ≢ root (world_of S.TreeSink sink.old state.old) }
     ensures { Makes S.TreeSink (RemoveFromStack (S.node handle.now)) sink.old state.old sink.new state.new }
 {

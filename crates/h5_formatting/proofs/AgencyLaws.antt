@@ -11,7 +11,7 @@ use Rattle.h5_rules.proofs.entries.PairLaws.{distinct_apart}
 use Rattle.h5_names.specs.AttributeText.{is_same_text}
 use Rattle.h5_rules.specs.formatting.AdoptionAgency.{adopt_at, adopt_by, adopt_within, adoption_agency, KeepsKinds}
 use Rattle.h5_names.specs.declared.qualified.QualName.{QualName}
-use Rattle.h5_interface.specs.Forest.{ElementNode}
+use Rattle.h5_interface.specs.Forest.{ElementNode, IsElement, kind_of}
 use Rattle.h5_interface.proofs.ForestLaws.{node_of_kind}
 use Rattle.h5_tag_sets.specs.TagSets.{is_html_named}
 use Rattle.h5_rules.specs.stack.Root.{IsRootOpen}
@@ -164,3 +164,16 @@ unfolding names_of
 never_root_after choices name f n m w u v newest other ready after gone same e =
     let leaves = subst (LeavesReady w) (sym after) (agency_leaves choices name w other ready) in
     never_root name f w (record u { formatting = without_entry n u.formatting }) newest ready.sound leaves.kinds leaves.ready.root (sym same ∙ e ∙ ap root gone)
+
+-- the formatting element that is listed is an element
+pub found_is_element : {name : List ℕ} {f : FormattingElement} {at : ℕ} (n : ℕ) (w : World) → IsFound name f at w → f.node ≡ n → IsElement w.forest n
+found_is_element {name} {f} n w found same = subst (IsElement w.forest) same (html_name f.tag.name, newest_of_tag name w found.newest found.ready.sound)
+
+-- and it stays one
+pub still_element : (choices : SinkChoices) (name : List ℕ) (f : FormattingElement) (n m : ℕ) (w u v : World) → newest_named name w.formatting ≡ Some f → is_same_text name (codes "html") ≡ false → HasHtmlRoot w
+    → u ≡ adoption_agency choices name w → v ≡ record u { formatting = without_entry n u.formatting } → m ≡ f.node → IsElement v.forest m
+still_element choices name f n m w u v newest other ready after gone same =
+    let leaves = subst (LeavesReady w) (sym after) (agency_leaves choices name w other ready) in
+    let kind = newest_of_tag name w newest ready.sound in
+    let there = node_of_kind w.forest f.node (ElementNode (html_name f.tag.name)) kind in
+    subst (IsElement v.forest) (sym same) (html_name f.tag.name, ap (λ (x : World). kind_of x.forest f.node) gone ∙ leaves.kinds f.node there ∙ kind)

@@ -7,7 +7,7 @@ use Rattle.std.proofs.lemmas.Bool.{ne_eqb}
 use Rattle.h5_rules.specs.stack.Order.{IsIn, is_in}
 use Rattle.h5_rules.proofs.entries.EntryLaws.{nodes_of-append}
 use Rattle.h5_rules.proofs.entries.PairLaws.{in_split}
-use Rattle.h5_state.specs.View.{entry_of}
+use Rattle.h5_list.specs.Listed.{entry_of}
 use Rattle.h5_state.specs.declared.state.State.{State}
 use Rattle.h5_formatting.specs.View.{list_under}
 
@@ -29,10 +29,10 @@ pub record CutAt (l left : List Entry) : Type 0 where
   pub newer : List Entry
   pub cut : l ≡ newer ++ left
 
-pub list_cut : {H : Type 0} (node : H → ℕ) (state : State H) (count : ℕ) → CutAt (reverse (map (entry_of node) state.active_formatting.items)) (list_under node state count)
+pub list_cut : {H : Type 0} (node : H → ℕ) (state : State H) (count : ℕ) → CutAt (reverse (map (entry_of node) state.active_formatting)) (list_under node state count)
 unfolding list_under
 list_cut node state count =
-    let items = state.active_formatting.items in
+    let items = state.active_formatting in
     record {
       newer = reverse (map (entry_of node) (drop count items));
       cut = ap (λ z. reverse (map (entry_of node) z)) (sym (take-append-drop count items))

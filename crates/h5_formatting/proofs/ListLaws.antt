@@ -1,16 +1,16 @@
 -- The list as it is kept, and as it is seen.
-use Rattle.std.proofs.Common.{◌≡◌, ◌+◌, ◌-◌, ◌<◌, ◌≤◌, ◌==◌, ℕ, suc, Bool, true, false, cond, get_or, set, take, drop, List, [], ◌∷◌, ◌++◌, ◌↔◌, IsTrue, length, length-append, map, reverse, refl, ap, sym, subst, ◌∙◌, arith}
-use Rattle.std.proofs.lemmas.Bool.{eq-eqb, eqb-true, eqb-false, ne_eqb}
+use Rattle.std.proofs.Common.{◌≡◌, ◌+◌, ◌-◌, ◌<◌, ◌≤◌, ◌==◌, ℕ, suc, Bool, true, false, cond, get_or, set, take, drop, List, [], ◌∷◌, ◌++◌, length, length-append, map, reverse, refl, ap, sym, subst, ◌∙◌, arith}
+use Rattle.std.specs.List.{remove}
+use Rattle.std.proofs.lemmas.Bool.{eq-eqb, ne_eqb}
 use Rattle.std.proofs.lemmas.List.{drop-set-lt, length-map, length-reverse, length-take-le, map-append, reverse-append, take-append-drop, take_more, take_more_set}
-use Rattle.h5_token.specs.TokenText.{IsAlike, TagText}
+use Rattle.h5_token.specs.TokenText.{TagText}
 use Rattle.h5_types.specs.declared.entry.FormatEntry.{FormatEntry}
-use Rattle.h5_types.specs.declared.entry.FormatEntry.TheVariants.{Marker}
-use Rattle.h5_rules.specs.formatting.FormattingList.{EachEntry, ElementEntry, Entry, MarkerEntry, count_alike, is_alike, push_formatting, without_earliest}
-use Rattle.h5_rules.proofs.entries.AlikeLaws.{alike_telling, alike_told}
+use Rattle.h5_types.specs.declared.entry.FormatEntry.TheVariants.{Element, Marker}
+use Rattle.h5_rules.specs.formatting.FormattingList.{EachEntry, ElementEntry, Entry, MarkerEntry, count_alike, push_formatting, without_earliest}
 use Rattle.h5_rules.proofs.entries.PushLaws.{push_full}
-use Rattle.h5_state.specs.View.{entry_of}
+use Rattle.h5_list.specs.Listed.{entries_of, entry_of, with_handle, without_place}
 use Rattle.h5_state.proofs.StackLaws.{seen_pushed}
-use Rattle.h5_formatting.specs.EntryPlaces.{Alike, alike_from, entries_of, entry_at, entry_for, with_node_at, without_place}
+use Rattle.h5_formatting.specs.EntryPlaces.{entry_at, entry_for, with_node_at}
 
 -- a place, where the list is cut there
 not_there : (i : ℕ) (p : List Entry) (e : Entry) (r : List Entry) → length r ≡ i → (length (p ++ e ∷ r) == i) ≡ false
@@ -31,76 +31,12 @@ with_node_at_cut i n [] e r h = ap (λ b. cond b (entry_for n e ∷ r) (e ∷ wi
 with_node_at_cut i n (a ∷ p) e r h =
     ap (λ b. cond b (entry_for n a ∷ p ++ e ∷ r) (a ∷ with_node_at i n (p ++ e ∷ r))) (not_there i p e r h) ∙ ap (λ l. a ∷ l) (with_node_at_cut i n p e r h)
 
--- what is found of those alike
-pub found_count : (t : TagText) (l : List Entry) (found : Alike) → (alike_from t l found).count ≡ found.count + count_alike t l
-found_count t [] found = omega arith
-found_count t (MarkerEntry ∷ l) found = omega arith
-found_count t (ElementEntry n u ∷ l) found = at (is_alike t u) (found_count t l)
-  where
-    at : (b : Bool) → ((f : Alike) → (alike_from t l f).count ≡ f.count + count_alike t l)
-        → (cond b (alike_from t l (record { count = suc found.count; earliest = length l })) (alike_from t l found)).count ≡ found.count + cond b (suc (count_alike t l)) (count_alike t l)
-    at true go = let more = go (record { count = suc found.count; earliest = length l }) in omega (arith, more)
-    at false go = go found
+-- what is left where one is taken out
+pub left_parts : {X : Type 0} (xs : List X) (i : ℕ) → remove xs i ≡ take i xs ++ drop (i + 1) xs
+left_parts xs i = let e : suc i ≡ i + 1 = omega arith in ap (λ n. take i xs ++ drop n xs) e
 
-found_none : (t : TagText) (l : List Entry) (found : Alike) → count_alike t l ≡ 0 → (alike_from t l found).earliest ≡ found.earliest
-found_none t [] found h = refl
-found_none t (MarkerEntry ∷ l) found h = refl
-found_none t (ElementEntry n u ∷ l) found h = at (is_alike t u) h (found_none t l found)
-  where
-    at : (b : Bool) → cond b (suc (count_alike t l)) (count_alike t l) ≡ 0 → (count_alike t l ≡ 0 → (alike_from t l found).earliest ≡ found.earliest)
-        → (cond b (alike_from t l (record { count = suc found.count; earliest = length l })) (alike_from t l found)).earliest ≡ found.earliest
-    at true k go = absurd (omega (arith, k))
-    at false k go = go k
-
--- the earliest of them is the one that goes, where there is one
-pub record IsEarliest (t : TagText) (l : List Entry) (i : ℕ) : Type 0 where
-  pub within : i < length l
-  pub goes : without_place i l ≡ without_earliest t l
-
--- so it is with what is found
-pub found_earliest : (t : TagText) (l : List Entry) (found : Alike) → 0 < count_alike t l → IsEarliest t l (alike_from t l found).earliest
-found_earliest t [] found h = absurd (omega arith)
-found_earliest t (MarkerEntry ∷ l) found h = absurd (omega arith)
-found_earliest t (ElementEntry n u ∷ l) found h = at (is_alike t u) refl h (count_alike t l == 0) refl (found_earliest t l)
-  where
-    -- those after it have one
-    later : (f : Alike) → (count_alike t l == 0) ≡ false → IsEarliest t l (alike_from t l f).earliest → IsEarliest t (ElementEntry n u ∷ l) (alike_from t l f).earliest
-    later f none k = record {
-      within = let w = k.within in omega (arith, w);
-      goes = ap (λ b. cond b l (ElementEntry n u ∷ without_place (alike_from t l f).earliest l)) (ne_eqb (length l) (alike_from t l f).earliest (λ s. let w = k.within in omega (arith, w, s)))
-          ∙ ap (λ r. ElementEntry n u ∷ r) k.goes
-          ∙ sym (ap (λ b. cond b (cond (is_alike t u) l (ElementEntry n u ∷ l)) (ElementEntry n u ∷ without_earliest t l)) none);
-    }
-
-    some : (count_alike t l == 0) ≡ false → 0 < count_alike t l
-    some none = let k = eqb-false (count_alike t l) 0 none in omega (arith, k)
-
-    at : (b : Bool) → is_alike t u ≡ b → 0 < cond b (suc (count_alike t l)) (count_alike t l) → (z : Bool) → (count_alike t l == 0) ≡ z → ((f : Alike) → 0 < count_alike t l → IsEarliest t l (alike_from t l f).earliest)
-        → IsEarliest t (ElementEntry n u ∷ l) (cond b (alike_from t l (record { count = suc found.count; earliest = length l })) (alike_from t l found)).earliest
-    at true v k true none go =
-        let f : Alike = record { count = suc found.count; earliest = length l } in
-        let same : (alike_from t l f).earliest ≡ length l = found_none t l f (eqb-true (count_alike t l) 0 none) in
-        subst (IsEarliest t (ElementEntry n u ∷ l)) (sym same) (record {
-          within = omega arith;
-          goes = ap (λ b. cond b l (ElementEntry n u ∷ without_place (length l) l)) (eq-eqb (length l) (length l) refl)
-              ∙ sym (ap (λ b. cond b (cond (is_alike t u) l (ElementEntry n u ∷ l)) (ElementEntry n u ∷ without_earliest t l)) none ∙ ap (λ b. cond b l (ElementEntry n u ∷ l)) v);
-        })
-    at true v k false none go = let f : Alike = record { count = suc found.count; earliest = length l } in later f none (go f (some none))
-    at false v k true none go = let z = eqb-true (count_alike t l) 0 none in absurd (omega (arith, z, k))
-    at false v k false none go = later found none (go found (some none))
-
--- the test of the code
-pub alike_test : (b : Bool) (t u : TagText) → IsTrue b ↔ IsAlike t u → is_alike t u ≡ b
-alike_test true t u h = alike_telling t u (h.0 refl)
-alike_test false t u h = at (is_alike t u) refl
-  where
-    at : (b : Bool) → is_alike t u ≡ b → b ≡ false
-    at true e = absurd (let k = h.1 (alike_told t u e) in cc)
-    at false e = refl
-
--- the list of a `Vec`
 module _ {H : Type 0} (node : H → ℕ) where
-  -- as many entries as in the `Vec`
+  -- as many entries as are kept
   pub length_entries : (xs : List (FormatEntry H)) → length (entries_of node xs) ≡ length xs
   length_entries xs = length-reverse (map (entry_of node) xs) ∙ length-map xs (entry_of node)
 
@@ -139,15 +75,6 @@ module _ {H : Type 0} (node : H → ℕ) where
       ap (entry_at i) (entries_cut xs i x h e)
       ∙ entry_at_cut i (entries_of node (drop (i + 1) xs)) (entry_of node x) (entries_of node (take i xs)) (older_many xs i h)
 
-  -- the walk over those alike ends where nothing is left, or at a marker
-  pub ends_at_oldest : (t : TagText) (xs : List (FormatEntry H)) (i : ℕ) (found : Alike) → i ≡ 0 → found ≡ alike_from t (entries_of node (take i xs)) found
-  ends_at_oldest t xs i found e = sym (ap (λ j. alike_from t (entries_of node (take j xs)) found) e)
-
-  pub ends_at_marker : (t : TagText) (xs : List (FormatEntry H)) (i : ℕ) (x : FormatEntry H) (found : Alike) → 0 < i → i ≤ length xs → x ≡ get_or xs (i - 1) x → x ≡ Marker
-      → found ≡ alike_from t (entries_of node (take i xs)) found
-  ends_at_marker t xs i x found some h e marker =
-      sym (ap (λ l. alike_from t l found) (entries_below xs i x some h e ∙ ap (λ z. entry_of node z ∷ entries_of node (take (i - 1) xs)) marker))
-
   -- it is removed
   pub entry_removed : (xs ys : List (FormatEntry H)) (i : ℕ) (x : FormatEntry H) → i < length xs → x ≡ get_or xs i x → ys ≡ take i xs ++ drop (i + 1) xs → entries_of node ys ≡ without_place i (entries_of node xs)
   entry_removed xs ys i x h e d =
@@ -161,6 +88,11 @@ module _ {H : Type 0} (node : H → ℕ) where
       ∙ entries_joined (take (i + 1) (set xs i y)) (drop (i + 1) (set xs i y))
       ∙ ap (λ l. entries_of node l ++ entries_of node (take (i + 1) (set xs i y))) (drop-set-lt (i + 1) xs i y (omega arith))
       ∙ ap (λ l. entries_of node (drop (i + 1) xs) ++ l) (entries_pushed (take i xs) (take (i + 1) (set xs i y)) y (take_more_set xs i y h))
+
+  -- an entry of another element
+  pub entry_handed : (handle : H) (x : FormatEntry H) → entry_of node (with_handle handle x) ≡ entry_for (node handle) (entry_of node x)
+  entry_handed handle (Element other tag) = refl
+  entry_handed handle Marker = refl
 
   -- its element gives way to another
   pub entry_set : (xs ys : List (FormatEntry H)) (i n : ℕ) (x y : FormatEntry H) → i < length xs → x ≡ get_or xs i x → ys ≡ set xs i y → entry_of node y ≡ entry_for n (entry_of node x)
@@ -207,27 +139,3 @@ pushed_full n t i l h full e =
     ap (λ b. cond b l (ElementEntry n t ∷ without_place i l)) (ne_eqb (length l) i (λ s. omega (arith, h, s)))
     ∙ ap (λ r. ElementEntry n t ∷ r) e
     ∙ sym (push_full n t l full)
-
--- a step of the walk over those alike
-pub found_step : (t u : TagText) (n : ℕ) (l : List Entry) (count earliest i : ℕ) → is_alike t u ≡ true → length l ≡ i
-    → alike_from t (ElementEntry n u ∷ l) (record { count = count; earliest = earliest }) ≡ alike_from t l (record { count = count + 1; earliest = i })
-found_step t u n l count earliest i alike many =
-    ap (λ b. cond b (alike_from t l (record { count = suc count; earliest = length l })) (alike_from t l (record { count = count; earliest = earliest }))) alike
-    ∙ ap (λ c. alike_from t l (record { count = c; earliest = length l })) (omega arith)
-    ∙ ap (λ j. alike_from t l (record { count = count + 1; earliest = j })) many
-
--- one that isn't alike
-pub found_other : (t u : TagText) (n : ℕ) (l : List Entry) (found : Alike) → is_alike t u ≡ false → alike_from t (ElementEntry n u ∷ l) found ≡ alike_from t l found
-found_other t u n l found other = ap (λ b. cond b (alike_from t l (record { count = suc found.count; earliest = length l })) (alike_from t l found)) other
-
--- and what it found
-abbrev pub none_found : Alike
-none_found = record { count = 0; earliest = 0 }
-
-pub all_counted : (t : TagText) (l : List Entry) (found : Alike) → found ≡ alike_from t l none_found → found.count ≡ count_alike t l
-all_counted t l found e = let all = found_count t l none_found in let same = ap (λ (f : Alike). f.count) e in omega (arith, all, same)
-
-pub earliest_found : (t : TagText) (l : List Entry) (found : Alike) → found ≡ alike_from t l none_found → 3 ≤ found.count → IsEarliest t l found.earliest
-earliest_found t l found e many =
-    let all = all_counted t l found e in
-    subst (IsEarliest t l) (sym (ap (λ (f : Alike). f.earliest) e)) (found_earliest t l none_found (omega (arith, many, all)))

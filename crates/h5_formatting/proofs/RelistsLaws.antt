@@ -1,6 +1,6 @@
 -- A round goes over the list.
-use Rattle.std.proofs.Common.{◌≡◌, ◌-◌, ◌<◌, ◌≤◌, ℕ, List, [], ◌∷◌, ◌++◌, length, length-append, map, reverse, take, Result, Ok, Err, inl, inr, ap, sym, subst, ◌∙◌, arith}
-use Rattle.std.specs.Prelude.{OnOk, Some}
+use Rattle.std.proofs.Common.{◌≡◌, ◌-◌, ◌<◌, ◌≤◌, ℕ, List, [], ◌∷◌, ◌++◌, length, length-append, map, reverse, take, inl, inr, ap, sym, subst, ◌∙◌, arith}
+use Rattle.std.specs.Prelude.{Some}
 use Rattle.std.proofs.Math.Seq.{take-append_seam}
 use Rattle.h5_token.specs.TokenText.{TagText}
 use Rattle.h5_interface.specs.declared.sink.TreeSink.{Ghosts}
@@ -21,11 +21,6 @@ use Rattle.h5_state.specs.declared.state.State.{State}
 use Rattle.h5_formatting.specs.Relists.{Relists}
 use Rattle.h5_formatting.proofs.RelistLaws.{first_walked, list_walked, round_above, round_alone}
 use Rattle.h5_state.proofs.SeenLaws.{seen_at}
-
--- what holds, holds where there is a value
-pub on_ok : {T E P : Type 0} (r : Result T E) → P → OnOk r P
-on_ok (Ok x) p = p
-on_ok (Err e) p = tt
 
 -- all stands still, where the list alone changed
 pub sound_relisted : {S H O : Type 0} (law : Ghosts S H O) (sink : S) (old new : State H) (l : List Entry) → new.open_elems ≡ old.open_elems

@@ -3,9 +3,10 @@
 use Rattle.std.specs.Prelude.{◌≡◌, ℕ, ◌+◌, List, ◌∷◌, ◌++◌, length, Some}
 use Rattle.h5_token.specs.TokenText.{TagText}
 use Rattle.h5_tag_sets.specs.TagSets.{is_special}
-use Rattle.h5_rules.specs.formatting.Adoption.{FormattingElement, FurthestBlock, furthest_block, newer_than, newest_named}
+use Rattle.h5_rules.specs.formatting.Adoption.{FurthestBlock, furthest_block, newer_than}
 use Rattle.h5_rules.specs.formatting.FormattingList.{ElementEntry, Entry, nodes_of}
 use Rattle.h5_rules.specs.stack.Order.{IsIn}
+use Rattle.h5_list.specs.Listed.{IsNewestNamedAt}
 use Rattle.h5_rules.specs.World.{World, name_in}
 
 -- the entry of an element, the newest one where it has more, stands at this place
@@ -18,13 +19,8 @@ pub record IsEntryAt (n place : ℕ) (w : World) : Type 0 where
   pub here : place ≡ length older
 
 -- the entry of the formatting element of a name stands at this place
-pub record IsListedAt (name : List ℕ) (place : ℕ) (w : World) : Type 0 where
-  pub element : FormattingElement
-  pub newest : newest_named name w.formatting ≡ Some element
-  pub newer : List Entry
-  pub older : List Entry
-  pub cut : w.formatting ≡ newer ++ ElementEntry element.node element.tag ∷ older
-  pub here : place ≡ length older
+abbrev pub IsListedAt : List ℕ → ℕ → World → Type 0
+IsListedAt name place w = IsNewestNamedAt name place w.formatting
 
 -- the furthest block of an element, which stands at the first place, stands at the second
 pub record IsBlockAt (n place at : ℕ) (w : World) : Type 0 where

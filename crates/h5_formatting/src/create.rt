@@ -1,62 +1,31 @@
 //! New formatting elements.
-ghost use Rattle.std.specs.Prelude.{◌≡◌, ◌<◌, ◌≤◌, ℕ, IsTrue, MatchOption, OnErr, OnOk, vec_len};
+ghost use Rattle.std.specs.Prelude.{◌≡◌, ◌<◌, ◌≤◌, ℕ, IsTrue, MatchOption, OnErr, OnOk, length};
 ghost use Rattle.h5_token.specs.TokenText.{tag_text};
 ghost use Rattle.h5_tag_sets.specs.TagSets.{formatting_names, is_one_of};
-ghost use Rattle.h5_rules.specs.formatting.FormattingList.{count_alike, push_formatting, without_earliest};
+ghost use Rattle.h5_rules.specs.formatting.FormattingList.{push_formatting};
 ghost use Rattle.h5_rules.specs.Rows.{CreateFormattingElement};
-ghost use Rattle.h5_formatting.specs.EntryPlaces.{entries_of, without_place};
+ghost use Rattle.h5_list.specs.Listed.{entries_of};
 ghost use Rattle.h5_state.specs.Steps.{IsSound, MakesIfOk};
 
 use h5_insertion::insert_element;
 use h5_interface::TreeSink;
+use h5_list::FormattingList;
 use h5_state::{State, current_node};
 use h5_token::Tag;
 use h5_types::FormatEntry;
 use std::alloc::AllocError;
 
-// So many entries after the last marker may be alike.
-const MOST_ALIKE: usize = 3;
-
-// The place of the earliest entry after the last marker that is alike to a tag, if as many are as may be.
-fn find_surplus<Handle>(entries: &Vec<FormatEntry<Handle>>, tag: &Tag) -> Option<usize>
-    ensures within { MatchOption result (Unit {0}) (λ place. place < vec_len entries.now) }
-    ensures few { (node : Handle → ℕ) → MatchOption result (count_alike (tag_text tag.now) (entries_of node entries.now.items) < 3) (λ place. 3 ≤ count_alike (tag_text tag.now) (entries_of node entries.now.items)) }
-    ensures earliest { (node : Handle → ℕ) → MatchOption result (Unit {0}) (λ place.
-        without_place place (entries_of node entries.now.items) ≡ without_earliest (tag_text tag.now) (entries_of node entries.now.items)) }
-{
-    let mut count: usize = 0;
-    let mut earliest = 0;
-    let mut place = entries.len();
-    'down: while place > 0 {
-        place -= 1;
-        match &entries[place] {
-            FormatEntry::Element(_, other) => {
-                if tag.equiv_modulo_attr_order(other) {
-                    count += 1;
-                    earliest = place;
-                }
-            }
-            FormatEntry::Marker => break,
-        }
-    }
-    if count < MOST_ALIKE {
-        None
-    } else {
-        Some(earliest)
-    }
-}
-
 // Pushes an element and its tag onto the list. Where three after the last marker are alike already, the earliest of them
 // goes.
 fn push_formatting<Handle: Drop>(
-    entries: &mut Vec<FormatEntry<Handle>>,
+    entries: &mut FormattingList<Handle>,
     handle: Handle,
     tag: Tag,
 ) -> Result<(), AllocError>
-    ensures ok { OnOk result ((node : Handle → ℕ) → entries_of node entries.new.items ≡ push_formatting (node handle) (tag_text tag) (entries_of node entries.old.items)) }
-    ensures err { OnErr result (entries.new.items ≡ entries.old.items) }
+    ensures ok { OnOk result ((node : Handle → ℕ) → entries_of node entries.new ≡ push_formatting (node handle) (tag_text tag) (entries_of node entries.old)) }
+    ensures err { OnErr result (entries.new ≡ entries.old) }
 {
-    let surplus = find_surplus(entries, &tag);
+    let surplus = entries.find_surplus(&tag);
     entries.push(FormatEntry::Element(handle, tag))?;
     if let Some(place) = surplus {
         let _ = entries.remove(place);

@@ -17,6 +17,7 @@ use h5_state::{State, newest_scope_end, open_at, open_count};
 use h5_types::FormatEntry;
 
 /// Where the formatting element of a name is listed: the newest entry of the name after the last marker.
+#[tactic(auto, unfolding(h5_state::specs::View::world))]
 pub fn find_formatting_element<S: TreeSink>(
     sink: &S,
     state: &State<S::Handle>,
@@ -26,19 +27,7 @@ pub fn find_formatting_element<S: TreeSink>(
     ensures place { MatchOption result (Unit {0}) (λ place. IsListedAt name.now place (world_of S.TreeSink sink.now state.now)) }
     ensures inside { MatchOption result (Unit {0}) (λ place. place < length (world_of S.TreeSink sink.now state.now).formatting) }
 {
-    let mut place = entry_count(sink, state);
-    'down: while place > 0 {
-        place -= 1;
-        match entry_at(sink, state, place) {
-            FormatEntry::Marker => return None,
-            FormatEntry::Element(_, tag) => {
-                if tag.name == *name {
-                    return Some(place);
-                }
-            }
-        }
-    }
-    None
+    state.active_formatting.find_newest_named(name)
 }
 
 /// Where an element is listed: its newest entry.

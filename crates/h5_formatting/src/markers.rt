@@ -2,10 +2,11 @@
 ghost use Rattle.std.specs.Prelude.{◌≡◌, ℕ, OnErr};
 ghost use Rattle.h5_rules.specs.formatting.FormattingList.{clear_to_marker};
 ghost use Rattle.h5_rules.specs.Rows.{ClearActiveFormattingToMarker, InsertMarker};
-ghost use Rattle.h5_formatting.specs.EntryPlaces.{entries_of};
+ghost use Rattle.h5_list.specs.Listed.{entries_of};
 ghost use Rattle.h5_state.specs.Steps.{IsSound, Makes, MakesIfOk, world_of};
 
 use h5_interface::TreeSink;
+use h5_list::FormattingList;
 use h5_state::State;
 use h5_types::FormatEntry;
 use std::alloc::AllocError;
@@ -22,8 +23,8 @@ pub fn insert_marker<S: TreeSink>(sink: &S, state: &mut State<S::Handle>) -> Res
 }
 
 // Takes entries off, the newest first, until a marker was taken off.
-fn clear_to_marker<Handle: Drop>(entries: &mut Vec<FormatEntry<Handle>>)
-    ensures { (node : Handle → ℕ) → entries_of node entries.new.items ≡ clear_to_marker (entries_of node entries.old.items) }
+fn clear_to_marker<Handle: Drop>(entries: &mut FormattingList<Handle>)
+    ensures { (node : Handle → ℕ) → entries_of node entries.new ≡ clear_to_marker (entries_of node entries.old) }
 {
     'clear: while let Some(entry) = entries.pop() {
         if let FormatEntry::Marker = entry {

@@ -6,7 +6,7 @@ ghost use Rattle.h5_rules.specs.formatting.Adoption.{newest_named};
 ghost use Rattle.h5_rules.specs.formatting.FormattingList.{ElementEntry, nodes_of};
 ghost use Rattle.h5_rules.specs.stack.Order.{is_in};
 ghost use Rattle.h5_state.specs.Steps.{IsSound, world_of};
-ghost use Rattle.h5_state.specs.View.{entry_of};
+ghost use Rattle.h5_list.specs.Listed.{entry_of};
 
 use super::find::{find_entry, find_formatting_element};
 use super::walk::entry_at;

@@ -2,7 +2,8 @@
 ghost use Rattle.std.specs.Prelude.{◌≡◌, ◌<◌, ◌≤◌, ℕ, length, OnOk, vec_len};
 ghost use Rattle.h5_rules.specs.formatting.FormattingList.{open_rest};
 ghost use Rattle.h5_rules.specs.Rows.{ReconstructActiveFormattingElements};
-ghost use Rattle.h5_formatting.specs.EntryPlaces.{entries_of, renewed, with_node_at};
+ghost use Rattle.h5_formatting.specs.EntryPlaces.{renewed, with_node_at};
+ghost use Rattle.h5_list.specs.Listed.{entries_of};
 ghost use Rattle.h5_state.specs.Steps.{IsSound, MakesIfOk, errors_of, world_of};
 
 use h5_insertion::insert_element;
@@ -14,11 +15,12 @@ use std::alloc::AllocError;
 // How many entries stay as they are: the oldest ones, up to the last marker or the last element that is open.
 #[tactic(auto, unfolding(h5_state::specs::View::world))]
 fn count_staying<S: TreeSink>(sink: &S, state: &State<S::Handle>) -> usize
+    requires { IsSound S.TreeSink sink.now state.now }
     ensures { result ≡ length (open_rest (world_of S.TreeSink sink.now state.now).stack (world_of S.TreeSink sink.now state.now).formatting) }
 {
     let mut place = state.active_formatting.len();
     'rewind: while place > 0 {
-        match &state.active_formatting[place - 1] {
+        match state.active_formatting.get(place - 1) {
             FormatEntry::Element(handle, _) => {
                 if find_open(sink, state, handle).is_some() {
                     return place;
@@ -29,16 +31,6 @@ fn count_staying<S: TreeSink>(sink: &S, state: &State<S::Handle>) -> usize
         place -= 1;
     }
     0
-}
-
-// The entry at a place is for another element; its tag stays.
-fn set_node<Handle: Drop>(entries: &mut Vec<FormatEntry<Handle>>, place: usize, handle: Handle)
-    requires { place < vec_len entries.old }
-    ensures { (node : Handle → ℕ) → entries_of node entries.new.items ≡ with_node_at place (node handle) (entries_of node entries.old.items) }
-{
-    if let FormatEntry::Element(node, _) = &mut entries[place] {
-        *node = handle;
-    }
 }
 
 // The element of the entry at a place is made anew.
@@ -54,7 +46,7 @@ fn make_anew<S: TreeSink>(
     ensures quiet { errors_of S.TreeSink sink.new ≡ errors_of S.TreeSink sink.old }
     ensures sound { IsSound S.TreeSink sink.new state.new }
 {
-    if let FormatEntry::Element(_, tag) = &state.active_formatting[place] {
+    if let FormatEntry::Element(_, tag) = state.active_formatting.get(place) {
         let copy = tag.clone()?;
         insert_element(
             sink,
@@ -64,7 +56,7 @@ fn make_anew<S: TreeSink>(
             copy.had_duplicate_attributes,
         )?;
         let handle = current_node(sink, state);
-        set_node(&mut state.active_formatting, place, handle);
+        state.active_formatting.set_handle(place, handle);
     }
     Ok(())
 }

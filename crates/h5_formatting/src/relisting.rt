@@ -5,15 +5,13 @@ ghost use Rattle.h5_rules.specs.formatting.Adoption.{FormattingElement, round_li
 ghost use Rattle.h5_rules.specs.formatting.FormattingList.{ElementEntry, Entry, nodes_of};
 ghost use Rattle.h5_rules.specs.formatting.InnerLoop.{walked};
 ghost use Rattle.h5_rules.specs.stack.Order.{IsIn};
-ghost use Rattle.h5_state.specs.Steps.{BecomesIfOk, IsSound, world_of};
+ghost use Rattle.h5_state.specs.Steps.{Becomes, IsSound, world_of};
 ghost use Rattle.h5_state.specs.View.{stack_under};
 ghost use Rattle.h5_formatting.specs.Relists.{Relists};
 
 use super::find::find_entry;
 use h5_interface::TreeSink;
 use h5_state::{State, handle_at};
-use h5_types::FormatEntry;
-use std::alloc::AllocError;
 
 // The entry at a place becomes that of another element, with its tag.
 fn swap_entry<S: TreeSink>(sink: &S, state: &mut State<S::Handle>, at: usize, handle: S::Handle)
@@ -22,9 +20,7 @@ fn swap_entry<S: TreeSink>(sink: &S, state: &mut State<S::Handle>, at: usize, ha
         → world_of S.TreeSink sink.now state.new ≡ record (world_of S.TreeSink sink.now state.old) { formatting = newer ++ ElementEntry (S.node handle) tag ∷ older } }
     ensures stack { state.new.open_elems ≡ state.old.open_elems }
 {
-    if let FormatEntry::Element(listed, _) = &mut state.active_formatting[at] {
-        *listed = handle;
-    }
+    state.active_formatting.set_handle(at, handle);
 }
 
 /// The entry at a place goes.
@@ -37,40 +33,29 @@ pub fn drop_entry<S: TreeSink>(sink: &S, state: &mut State<S::Handle>, at: usize
     let _ = state.active_formatting.remove(at);
 }
 
-// The entry at a place comes to stand right above that at another place, which is higher. There is room for it.
-fn move_entry<S: TreeSink>(
-    sink: &S,
-    state: &mut State<S::Handle>,
-    from: usize,
-    to: usize,
-) -> Result<(), AllocError>
-    requires from { from < length (world_of S.TreeSink sink.now state.old).formatting }
+// The entry at a place comes to stand right above that at another place, which is higher.
+fn move_entry<S: TreeSink>(sink: &S, state: &mut State<S::Handle>, from: usize, to: usize)
+    requires order { from ≤ to }
     requires to { to < length (world_of S.TreeSink sink.now state.old).formatting }
     ensures done { (newer middle older : List Entry) → (e x : Entry) → (world_of S.TreeSink sink.now state.old).formatting ≡ newer ++ x ∷ (middle ++ e ∷ older) → from ≡ length older → to ≡ length (middle ++ e ∷ older)
         → world_of S.TreeSink sink.now state.new ≡ record (world_of S.TreeSink sink.now state.old) { formatting = newer ++ e ∷ x ∷ (middle ++ older) } }
     ensures stack { state.new.open_elems ≡ state.old.open_elems }
 {
-    let entry = state.active_formatting.remove(from);
-    state.active_formatting.insert(to, entry)?;
-    Ok(())
+    state.active_formatting.move_up(from, to);
 }
 
 // The entry at a place comes to stand right above that of an element, which is higher.
-fn move_above<S: TreeSink>(
-    sink: &S,
-    state: &mut State<S::Handle>,
-    from: usize,
-    handle: &S::Handle,
-) -> Result<(), AllocError>
+fn move_above<S: TreeSink>(sink: &S, state: &mut State<S::Handle>, from: usize, handle: &S::Handle)
     requires { from < length (world_of S.TreeSink sink.now state.old).formatting }
     ensures done { (newer middle older : List Entry) → (tag : TagText) → (e : Entry) → (world_of S.TreeSink sink.now state.old).formatting ≡ newer ++ ElementEntry (S.node handle.now) tag ∷ (middle ++ e ∷ older)
         → ¬ (IsIn (S.node handle.now) (nodes_of newer)) → from ≡ length older
         → world_of S.TreeSink sink.now state.new ≡ record (world_of S.TreeSink sink.now state.old) { formatting = newer ++ e ∷ ElementEntry (S.node handle.now) tag ∷ (middle ++ older) } }
     ensures stack { state.new.open_elems ≡ state.old.open_elems }
 {
-    match find_entry(sink, state, handle) {
-        Some(to) => move_entry(sink, state, from, to),
-        None => Ok(()),
+    if let Some(to) = find_entry(sink, state, handle) {
+        if from <= to {
+            move_entry(sink, state, from, to);
+        }
     }
 }
 
@@ -150,16 +135,15 @@ pub fn relist<S: TreeSink>(
     block: usize,
     clones: &Vec<S::Handle>,
     clone: S::Handle,
-) -> Result<(), AllocError>
+)
     requires sound { IsSound S.TreeSink sink.now state.old }
     requires relists { (f : FormattingElement) × (between : List ℕ) × Relists f between (map S.node clones.now.items) (S.node clone) at first block (world_of S.TreeSink sink.now state.old) }
     ensures { (f : FormattingElement) → (between : List ℕ) → Relists f between (map S.node clones.now.items) (S.node clone) at first block (world_of S.TreeSink sink.now state.old)
-        → BecomesIfOk S.TreeSink (λ w. record w { formatting = round_list f.node f.tag between (map S.node clones.now.items) (S.node clone) w.formatting }) sink.now state.old sink.now state.new result }
+        → Becomes S.TreeSink (λ w. record w { formatting = round_list f.node f.tag between (map S.node clones.now.items) (S.node clone) w.formatting }) sink.now state.old sink.now state.new }
 {
     relist_between(sink, state, first, block, clones);
     swap_entry(sink, state, at, clone);
-    if clones.is_empty() {
-        return Ok(());
+    if !clones.is_empty() {
+        move_above(sink, state, at, &clones[0]);
     }
-    move_above(sink, state, at, &clones[0])
 }

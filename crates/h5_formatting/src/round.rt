@@ -70,6 +70,6 @@ pub fn adopt<S: TreeSink>(
     let clone = refill(sink, state, tag, handle_at(sink, state, block))?;
     tell_popped(sink, state, place);
     let handles = round_handles(sink, state, block, &clones.made, &clone)?;
-    relist(sink, state, at, place + 1, block, &clones.made, clone)?;
+    relist(sink, state, at, place + 1, block, &clones.made, clone);
     restack(sink, state, place, handles)
 }

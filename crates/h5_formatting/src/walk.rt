@@ -7,7 +7,7 @@ ghost use Rattle.h5_interface.specs.Forest.{IsElement};
 ghost use Rattle.h5_tag_sets.specs.TagSets.{is_default_scope};
 ghost use Rattle.h5_rules.specs.World.{name_in};
 ghost use Rattle.h5_state.specs.Steps.{world_of};
-ghost use Rattle.h5_state.specs.View.{entry_of};
+ghost use Rattle.h5_list.specs.Listed.{entry_of};
 ghost use Rattle.h5_formatting.specs.View.{list_under};
 
 use h5_interface::TreeSink;
@@ -44,7 +44,7 @@ pub fn entry_at<'a, S: TreeSink>(
     ensures list { list_under S.node state.now (place + 1) ≡ entry_of S.node result.now ∷ list_under S.node state.now place }
     ensures count { length (list_under S.node state.now place) ≡ place }
 {
-    &state.active_formatting[place]
+    state.active_formatting.get(place)
 }
 
 /// The element that is listed at a place.

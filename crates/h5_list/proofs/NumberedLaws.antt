@@ -1,8 +1,9 @@
 -- Each entry has its number, one entry more or less.
-use Rattle.std.proofs.Common.{◌≡◌, ◌<◌, ℕ, suc, List, [], ◌∷◌, ◌++◌, drop, get_or, length, map, set, take, refl, ap, sym, ◌∙◌}
+use Rattle.std.proofs.Common.{◌≡◌, ◌<◌, ℕ, suc, List, [], ◌∷◌, ◌++◌, drop, get_or, length, map, set, take, refl, ap, sym, ◌∙◌, arith}
 use Rattle.std.specs.List.{insert, remove}
 use Rattle.std.proofs.lemmas.List.{drop-map, get_or-map, length-map, map-append, map-set, set-get_or, take-map}
 use Rattle.h5_stack.specs.Numbered.{Numbered, numbers, one_of}
+use Rattle.h5_stack.proofs.StackLaws.{item_at}
 use Rattle.h5_types.specs.declared.entry.FormatEntry.{FormatEntry}
 use Rattle.h5_types.specs.declared.entry.FormatEntry.TheVariants.{Element, Marker}
 use Rattle.h5_list.specs.Listed.{with_handle}
@@ -76,3 +77,17 @@ module _ {H T : Type 0} (stack : List (Numbered T)) (items : List (FormatEntry H
       ∙ sym (map-set (λ (entry : FormatEntry H). entry_number entry) items k x)
       ∙ ap (λ z. map (λ (entry : FormatEntry H). entry_number entry) (set items k z)) e
       ∙ ap (λ xs. map (λ (entry : FormatEntry H). entry_number entry) xs) (set-get_or items k x))
+
+-- one moves up
+pub numbered_moved : {H T : Type 0} (stack : List (Numbered T)) (items : List (FormatEntry H)) → AreNumbered stack items → (from to : ℕ) (more : List (Numbered T)) (news : List (FormatEntry H)) → from < length items
+    → ((one : Numbered T) → one ≡ get_or stack from one → more ≡ insert (remove stack from) to one)
+    → ((x : FormatEntry H) → x ≡ get_or items from x → news ≡ insert (remove items from) to x) → AreNumbered more news
+numbered_moved {H} {T} stack items all from to more news h e f =
+    let one = item_at stack from (omega (arith, h, as_many stack items all)) in
+    let x = item_at items from h in
+    let number : one.0.number ≡ entry_number x.0 =
+    ap (λ (z : Numbered T). z.number) one.1
+    ∙ sym (get_or-map (λ (z : Numbered T). z.number) stack from one.0 0 (omega (arith, h, as_many stack items all)))
+    ∙ number_is stack items all from x.0 h x.1 in
+    numbered_insert (remove stack from) (remove items from) (numbered_less stack items all from (remove stack from) (remove items from) refl refl) to x.0 one.0.value more news
+    (e one.0 one.1 ∙ ap (λ n. insert (remove stack from) to (one_of n one.0.value)) number) (f x.0 x.1)

@@ -1,5 +1,5 @@
 -- What is found from the newest entry down, where entries of other numbers are passed over.
-use Rattle.std.proofs.Common.{◌≡◌, ◌≢◌, ◌+◌, ◌-◌, ◌<◌, ◌≤◌, ℕ, zero, suc, Bool, true, false, cond, max, List, [], ◌∷◌, ◌++◌, drop, get_or, length, map, reverse, take, Some, None, refl, ap, sym, subst, ◌∙◌, add-zero, zero-add, arith}
+use Rattle.std.proofs.Common.{◌≡◌, ◌≢◌, ◌+◌, ◌-◌, ◌<◌, ◌≤◌, ℕ, zero, suc, Bool, true, false, cond, max, List, [], ◌∷◌, ◌++◌, drop, get_or, length, map, reverse, take, Some, None, refl, ap, sym, subst, ◌∙◌, add-zero, arith}
 use Rattle.std.proofs.lemmas.List.{get_or-take, get_or_default, length-map, length-reverse, length-take-le, map-append, reverse-append, reverse-reverse, take-append-drop, take_all, take_more}
 use Rattle.std.proofs.lemmas.Slice.Eq.{bytes_eq-Decides}
 use Rattle.h5_names.specs.AttributeText.{is_same_text}
@@ -7,11 +7,11 @@ use Rattle.h5_token.specs.TokenText.{tag_text}
 use Rattle.h5_types.specs.declared.entry.FormatEntry.{FormatEntry}
 use Rattle.h5_types.specs.declared.entry.FormatEntry.TheVariants.{Element, Marker}
 use Rattle.h5_rules.specs.formatting.Adoption.{FormattingElement, newest_named}
-use Rattle.h5_rules.specs.formatting.FormattingList.{ElementEntry, Entry, MarkerEntry, after_marker}
+use Rattle.h5_rules.specs.formatting.FormattingList.{ElementEntry, Entry, MarkerEntry}
 use Rattle.h5_stack.specs.Numbered.{Numbered, newest_of, numbers}
 use Rattle.h5_stack.proofs.NewestLaws.{newest_at, none_above}
 use Rattle.h5_list.specs.Listed.{IsNewestNamedAt, entries_of, entry_of, is_named}
-use Rattle.h5_list.specs.Numbers.{AreNumbered, entry_number, name_number}
+use Rattle.h5_list.specs.Numbers.{AreNumbered, IsAfterMarkers, entry_number, name_number}
 use Rattle.h5_list.proofs.NumberedLaws.{number_is}
 
 -- numbers above a place are others, if the newest of a number stands below
@@ -24,6 +24,13 @@ above_newest ns n count k low high within e =
 pub at_newest : (ns : List ℕ) (n count k : ℕ) → newest_of n (reverse (take count ns)) ≡ k + 1 → k < count → get_or ns k 0 ≡ n
 at_newest ns n count k e high =
     sym (ap (λ s. get_or s k 0) (reverse-reverse (take count ns)) ∙ get_or-take count ns k 0 high) ∙ newest_at n k (reverse (take count ns)) e
+
+-- the same of all
+pub above_whole : (ns : List ℕ) (n k : ℕ) → newest_of n (reverse ns) ≤ k → k < length ns → get_or ns k 0 ≢ n
+above_whole ns n k low high = above_newest ns n (length ns) k (subst (λ xs. newest_of n (reverse xs) ≤ k) (sym (take_all (length ns) ns (omega arith))) low) high (omega arith)
+
+pub at_whole : (ns : List ℕ) (n k : ℕ) → newest_of n (reverse ns) ≡ k + 1 → k < length ns → get_or ns k 0 ≡ n
+at_whole ns n k e high = at_newest ns n (length ns) k (ap (λ xs. newest_of n (reverse xs)) (take_all (length ns) ns (omega arith)) ∙ e) high
 
 module _ {H : Type 0} (node : H → ℕ) (items : List (FormatEntry H)) where
   -- the oldest entries, so many of them, the newest first
@@ -83,9 +90,24 @@ unfolding name_number
 name_number-some name e = omega (arith, e)
 
 -- an entry of a marker's number is one
-marker_by_number : {H : Type 0} (node : H → ℕ) (x : FormatEntry H) → entry_number x ≡ 0 → entry_of node x ≡ MarkerEntry
+pub marker_by_number : {H : Type 0} (node : H → ℕ) (x : FormatEntry H) → entry_number x ≡ 0 → entry_of node x ≡ MarkerEntry
 marker_by_number node Marker e = refl
 marker_by_number node (Element handle tag) e = absurd (name_number-some tag.name e)
+
+-- the newest entry of the name, where those above it are passed
+pub found_here : {H : Type 0} (node : H → ℕ) (items : List (FormatEntry H)) (name : List ℕ) (place : ℕ) (x : FormatEntry H) → place < length items → x ≡ get_or items place x → is_named name x ≡ true
+    → newest_named name (under node items (place + 1)) ≡ newest_named name (entries_of node items) → IsNewestNamedAt name place (entries_of node items)
+found_here node items name place x there e named passed =
+    let one = top_named node name x named in
+    let seen : under node items (place + 1) ≡ entry_of node x ∷ under node items place = under_more node items place x there e in
+    record {
+      element = one.element;
+      newest = sym passed ∙ ap (λ l. newest_named name l) seen ∙ one.newest (under node items place);
+      newer = reverse (map (entry_of node) (drop (place + 1) items));
+      older = under node items place;
+      cut = cut_at node items (place + 1) ∙ ap (λ l. reverse (map (entry_of node) (drop (place + 1) items)) ++ l) (seen ∙ ap (λ z. z ∷ under node items place) one.is);
+      here = sym (length-under node items place (omega (arith, there)));
+    }
 
 -- how far a walk over the entries of a name's number has come: all that is above the next one, and above the last marker, is passed
 pub record Walks {H T : Type 0} (stack : List (Numbered T)) (items : List (FormatEntry H)) (name : List ℕ) (end next : ℕ) : Type 0 where
@@ -128,15 +150,11 @@ module _ {H T : Type 0} (stack : List (Numbered T)) (items : List (FormatEntry H
       ap (λ k. newest_named name (under node items k)) (sym e) ∙ skipped node name (high - low) low (omega (arith, within, e)) (λ k l u. f k l (omega (arith, u, e)))
 
   -- a number that is newest at a place of all
-  above_all : (n k : ℕ) → newest_of n (reverse (numbers stack)) ≤ k → k < length items → get_or (numbers stack) k 0 ≢ n
-  above_all n k low high =
-      above_newest (numbers stack) n (length items) k
-      (subst (λ ns. newest_of n (reverse ns) ≤ k) (sym (take_all (length items) (numbers stack) (omega (arith, as_long)))) low)
-      high (omega (arith, as_long))
+  pub above_all : (n k : ℕ) → newest_of n (reverse (numbers stack)) ≤ k → k < length items → get_or (numbers stack) k 0 ≢ n
+  above_all n k low high = above_whole (numbers stack) n k low (omega (arith, high, as_long))
 
-  at_all : (n k : ℕ) → newest_of n (reverse (numbers stack)) ≡ k + 1 → k < length items → get_or (numbers stack) k 0 ≡ n
-  at_all n k e high =
-      at_newest (numbers stack) n (length items) k (ap (λ ns. newest_of n (reverse ns)) (take_all (length items) (numbers stack) (omega (arith, as_long))) ∙ e) high
+  pub at_all : (n k : ℕ) → newest_of n (reverse (numbers stack)) ≡ k + 1 → k < length items → get_or (numbers stack) k 0 ≡ n
+  at_all n k e high = at_whole (numbers stack) n k e (omega (arith, high, as_long))
 
   pub walk_begins : (name : List ℕ) (end next : ℕ) → end ≡ newest_of 0 (reverse (numbers stack)) → end ≤ length items → next ≡ newest_of (name_number name) (reverse (numbers stack)) → next ≤ length items → Walks stack items name end next
   walk_begins name end next e i f w = record {
@@ -193,49 +211,59 @@ module _ {H T : Type 0} (stack : List (Numbered T)) (items : List (FormatEntry H
   pub walk_finds : (name : List ℕ) (end next place : ℕ) (x : FormatEntry H) → Walks stack items name end next → end < next → next ≡ place + 1 → x ≡ get_or items place x → is_named name x ≡ true
       → (node : H → ℕ) → IsNewestNamedAt name place (entries_of node items)
   walk_finds name end next place x walk more up e named node =
-      let there : place < length items = omega (arith, up, walk.within) in
       let top : max next end ≡ place + 1 = omega (arith, more, up) in
-      let one = top_named node name x named in
-      let seen : under node items (place + 1) ≡ entry_of node x ∷ under node items place = under_more node items place x there e in
+      found_here node items name place x (omega (arith, up, walk.within)) e named (ap (λ k. newest_named name (under node items k)) (sym top) ∙ walk.passed node)
+
+  -- the place right after the last marker
+  pub is_after_markers : (end : ℕ) → end ≡ newest_of 0 (reverse (numbers stack)) → end ≤ length items → IsAfterMarkers end items
+  is_after_markers end e h = record {
+    within = h;
+    elements = λ k x l u i none. above_all 0 k (subst (λ n. n ≤ k) e l) u (number_is stack items all k x u i ∙ none);
+    ended = λ k x s i. (let there : k < length items = omega (arith, h, s) in sym (number_is stack items all k x there i) ∙ at_all 0 k (sym e ∙ s) there);
+  }
+
+-- how far a walk over all entries after the last marker has come
+pub record WalksNames {H : Type 0} (items : List (FormatEntry H)) (name : List ℕ) (end next : ℕ) : Type 0 where
+  pub low : end ≤ next
+  pub within : next ≤ length items
+  pub passed : (node : H → ℕ) → newest_named name (under node items next) ≡ newest_named name (entries_of node items)
+
+module _ {H : Type 0} (items : List (FormatEntry H)) (name : List ℕ) (end : ℕ) (after : IsAfterMarkers end items) where
+  pub names_begin : (next : ℕ) → next ≡ length items → WalksNames items name end next
+  names_begin next e = record {
+    low = omega (arith, e, after.within);
+    within = omega (arith, e);
+    passed = λ node. ap (λ l. newest_named name l) (under_all node items next e);
+  }
+
+  pub names_go_on : (next place : ℕ) (x : FormatEntry H) → WalksNames items name end next → end < next → next ≡ place + 1 → x ≡ get_or items place x → is_named name x ≡ false → WalksNames items name end place
+  names_go_on next place x walk more up e other =
+      let there : place < length items = omega (arith, up, walk.within) in
       record {
-        element = one.element;
-        newest = sym (walk.passed node) ∙ ap (λ k. newest_named name (under node items k)) top ∙ ap (λ l. newest_named name l) seen ∙ one.newest (under node items place);
-        newer = reverse (map (entry_of node) (drop (place + 1) items));
-        older = under node items place;
-        cut = cut_at node items (place + 1) ∙ ap (λ l. reverse (map (entry_of node) (drop (place + 1) items)) ++ l) (seen ∙ ap (λ z. z ∷ under node items place) one.is);
-        here = sym (length-under node items place (omega (arith, there)));
+        low = omega (arith, more, up);
+        within = omega (arith, there);
+        passed = λ node.
+            sym (other_name node name x (under node items place) other (after.elements place x (omega (arith, more, up)) there e))
+            ∙ sym (ap (λ l. newest_named name l) (ap (λ k. under node items k) up ∙ under_more node items place x there e))
+            ∙ walk.passed node;
       }
 
-  -- how many entries stand after the last marker
-  after_more : (node : H → ℕ) (many low : ℕ) → low + many ≤ length items → ((k : ℕ) → low ≤ k → k < low + many → get_or (numbers stack) k 0 ≢ 0)
-      → length (after_marker (under node items (low + many))) ≡ many + length (after_marker (under node items low))
-  after_more node zero low h f = ap (λ k. length (after_marker (under node items k))) (add-zero low) ∙ sym (zero-add (length (after_marker (under node items low))))
-  after_more node (suc many) low h f =
-      let k : ℕ = low + many in
-      let there : k < length items = omega (arith, h) in
-      let e : low + suc many ≡ k + 1 = omega arith in
-      let again = after_more node many low (omega (arith, h)) (λ j l u. f j l (omega (arith, u))) in
-      let one = longer node (get_or items k Marker) (under node items k) (λ i. f k (omega arith) (omega arith) (its_number k there ∙ i)) in
-      let seen = ap (λ j. length (after_marker (under node items j))) e ∙ ap (λ l. length (after_marker l)) (more_at node k there) in
-      omega (arith, seen, one, again)
+  pub names_find : (next place : ℕ) (x : FormatEntry H) → WalksNames items name end next → next ≡ place + 1 → x ≡ get_or items place x → is_named name x ≡ true → (node : H → ℕ) → IsNewestNamedAt name place (entries_of node items)
+  names_find next place x walk up e named node =
+      found_here node items name place x (omega (arith, up, walk.within)) e named (ap (λ k. newest_named name (under node items k)) (sym up) ∙ walk.passed node)
+
+  -- nothing is left above the last marker
+  pub names_end : (next : ℕ) → WalksNames items name end next → next ≤ end → (node : H → ℕ) → newest_named name (entries_of node items) ≡ None
+  names_end next walk over node =
+      let e : next ≡ end = omega (arith, over, walk.low) in
+      sym (walk.passed node) ∙ ap (λ k. newest_named name (under node items k)) e ∙ at node end refl
     where
-      longer : (node : H → ℕ) (x : FormatEntry H) (l : List Entry) → entry_number x ≢ 0 → length (after_marker (entry_of node x ∷ l)) ≡ suc (length (after_marker l))
-      longer node Marker l element = absurd (element refl)
-      longer node (Element handle tag) l element = refl
-
-  none_after : (node : H → ℕ) (end : ℕ) → end ≡ newest_of 0 (reverse (numbers stack)) → end ≤ length items → length (after_marker (under node items end)) ≡ 0
-  none_after node zero e h = refl
-  none_after node (suc k) e h =
-      let s : k + 1 ≡ suc k = omega arith in
-      let there : k < length items = omega (arith, h) in
-      let zero_there : get_or (numbers stack) k 0 ≡ 0 = at_all 0 k (sym e ∙ sym s) there in
-      ap (λ j. length (after_marker (under node items j))) (sym s)
-      ∙ ap (λ l. length (after_marker l)) (more_at node k there ∙ ap (λ z. z ∷ under node items k) (marker_by_number node (get_or items k Marker) (sym (its_number k there) ∙ zero_there)))
-
-  pub section_is : (node : H → ℕ) (end : ℕ) → end ≡ newest_of 0 (reverse (numbers stack)) → end ≤ length items → end + length (after_marker (entries_of node items)) ≡ length items
-  section_is node end e h =
-      let many : ℕ = length items - end in
-      let all_of : end + many ≡ length items = omega (arith, h) in
-      let counted = after_more node many end (omega (arith, all_of)) (λ k l u. above_all 0 k (subst (λ n. n ≤ k) e l) (omega (arith, u, all_of))) in
-      let seen = ap (λ l. length (after_marker l)) (ap (λ k. under node items k) all_of ∙ under_all node items (length items) refl) in
-      omega (arith, counted, seen, none_after node end e h, all_of)
+      at : (node : H → ℕ) (k : ℕ) → end ≡ k → newest_named name (under node items k) ≡ None
+      at node zero i = refl
+      at node (suc k) i =
+          let s : suc k ≡ k + 1 = omega arith in
+          let there : k < length items = omega (arith, i, after.within) in
+          let x : FormatEntry H = get_or items k Marker in
+          let here : x ≡ get_or items k x = get_or_default items k Marker x there in
+          ap (λ j. newest_named name (under node items j)) s
+          ∙ ap (λ l. newest_named name l) (under_more node items k x there here ∙ ap (λ z. z ∷ under node items k) (marker_by_number node x (after.ended k x (i ∙ s) here)))

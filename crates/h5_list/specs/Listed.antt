@@ -1,11 +1,12 @@
 -- What contracts see of entries of the list of active formatting elements, without where their texts lie in memory.
-use Rattle.std.specs.Prelude.{◌≡◌, ℕ, Bool, false, List, ◌∷◌, ◌++◌, Some, length, map, reverse, slice_index_or, slice_set}
+use Rattle.std.specs.Prelude.{◌≡◌, ◌==◌, ℕ, suc, if◌then◌else◌, Bool, false, List, [], ◌∷◌, ◌++◌, Some, length, map, reverse, slice_index_or, slice_set}
 use Rattle.h5_names.specs.AttributeText.{is_same_text}
-use Rattle.h5_token.specs.TokenText.{tag_text}
+use Rattle.h5_token.specs.TokenText.{TagText, tag_text}
 use Rattle.h5_types.specs.declared.entry.FormatEntry.{FormatEntry}
 use Rattle.h5_types.specs.declared.entry.FormatEntry.TheVariants.{Element, Marker}
 use Rattle.h5_rules.specs.formatting.Adoption.{FormattingElement, newest_named}
-use Rattle.h5_rules.specs.formatting.FormattingList.{ElementEntry, Entry, MarkerEntry}
+use Rattle.h5_rules.specs.formatting.FormattingList.{ElementEntry, Entry, MarkerEntry, is_alike}
+use Rattle.h5_list.specs.declared.surplus.Alike.{Alike}
 
 abbrev pub entry_of : {H : Type 0} → (H → ℕ) → FormatEntry H → Entry
 entry_of node (Element handle tag) = ElementEntry (node handle) (tag_text tag)
@@ -39,3 +40,24 @@ pub record IsNewestNamedAt (name : List ℕ) (place : ℕ) (l : List Entry) : Ty
   pub older : List Entry
   pub cut : l ≡ newer ++ ElementEntry element.node element.tag ∷ older
   pub here : place ≡ length older
+
+-- the list without the entry at a place, below which so many are older
+abbrev pub without_place : ℕ → List Entry → List Entry
+without_place place [] = []
+without_place place (e ∷ l) = if length l == place then l else e ∷ without_place place l
+
+-- how many entries after the last marker are alike to a tag, and the place of the earliest of them, over what was found so
+-- far
+abbrev pub alike_from : TagText → List Entry → Alike → Alike
+alike_from tag [] found = found
+alike_from tag (MarkerEntry ∷ l) found = found
+alike_from tag (ElementEntry n other ∷ l) found =
+    if is_alike tag other then alike_from tag l (record { count = suc found.count; earliest = length l }) else alike_from tag l found
+
+abbrev pub none_found : Alike
+none_found = record { count = 0; earliest = 0 }
+
+-- whether it is the entry of an element whose tag is alike to this one
+abbrev pub is_alike_entry : {H : Type 0} → TagText → FormatEntry H → Bool
+is_alike_entry tag (Element handle other) = is_alike tag (tag_text other)
+is_alike_entry tag Marker = false

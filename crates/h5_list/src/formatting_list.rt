@@ -1,14 +1,18 @@
 //! The list.
-ghost use Rattle.std.specs.Prelude.{◌≡◌, ◌==◌, ◌<◌, ◌≤◌, ◌+◌, ◌-◌, ◌↔◌, ◌∷◌, ◌++◌, [], ℕ, IsSome, MatchOption, OnErr, OnOk, is_some, length, slice_index_or, take, vec_len};
+ghost use Rattle.std.specs.Prelude.{◌≡◌, ◌==◌, ◌<◌, ◌≤◌, ◌↔◌, ◌∷◌, ◌++◌, [], ℕ, IsSome, MatchOption, OnErr, OnOk, is_some, length, slice_index_or, take, vec_len};
 ghost use Rattle.std.specs.List.{insert, remove};
 ghost use Rattle.std.specs.Option.{option_to_list};
 ghost use Rattle.h5_rules.specs.formatting.Adoption.{newest_named};
-ghost use Rattle.h5_rules.specs.formatting.FormattingList.{after_marker};
-ghost use Rattle.h5_list.specs.Listed.{IsHandedOver, IsNewestNamedAt, entries_of};
+ghost use Rattle.h5_rules.specs.formatting.FormattingList.{count_alike, without_earliest};
+ghost use Rattle.h5_token.specs.TokenText.{tag_text};
+ghost use Rattle.h5_list.specs.Listed.{IsHandedOver, IsNewestNamedAt, entries_of, without_place};
 
-use super::numbers::{MARKER, entry_number, is_named, name_number};
+use super::index::{Index, build_index, move_index, push_index, remove_index, truncate_index};
+use super::named::find_newest_named;
+use super::surplus::find_alike;
 use h5_names::LocalName;
-use h5_stack::NumberedStack;
+use h5_stack::move_up;
+use h5_token::Tag;
 use h5_types::FormatEntry;
 use std::alloc::{AllocError, Global};
 use std::marker::Model;
@@ -23,37 +27,41 @@ fn set_element<Handle: Drop>(entries: &mut Vec<FormatEntry<Handle>>, place: usiz
     }
 }
 
-/// The list of active formatting elements. Of each name it knows where its newest entry stands, and where the last marker
-/// stands.
+// So many entries after the last marker may be alike.
+const MOST_ALIKE: usize = 3;
+
+/// The list of active formatting elements. A long one has an index: of each name it knows where its newest entry stands, and
+/// of each entry which others may be alike.
 ///
 /// Contracts see it as the list of its entries, the oldest first. Places are counted from the oldest.
 #[derive(Drop)]
 pub struct FormattingList<Handle> {
     entries: Vec<FormatEntry<Handle>>,
-    // The number of each entry.
-    numbers: NumberedStack<()>,
+    index: Option<Index>,
 }
 
 impl<Handle> Model for FormattingList<Handle> {
     ghost use Rattle.std.specs.Prelude.{List};
-    ghost use Rattle.h5_list.specs.Numbers.{AreNumbered};
+    ghost use Rattle.h5_list.specs.Keys.{IsIndexed};
     ghost use Rattle.h5_types.specs.declared.entry.FormatEntry.{FormatEntry};
 
     ghost Value = { List (FormatEntry Handle) };
 
     ghost view = { λ list. list.entries.items };
 
-    ghost invariant = { λ list. AreNumbered list.numbers list.entries.items };
+    ghost invariant = { λ list. IsIndexed list.index list.entries.items };
 }
 
 impl<Handle> FormattingList<Handle> {
+    ghost use Rattle.h5_types.specs.declared.entry.FormatEntry.{FormatEntry as EntryAt};
+
     /// An empty list.
     pub fn new(alloc: Global) -> FormattingList<Handle>
         ensures { result ≡ [] }
     {
         FormattingList {
             entries: Vec::new(alloc),
-            numbers: NumberedStack::new(alloc),
+            index: None,
         }
     }
 
@@ -79,6 +87,13 @@ impl<Handle> FormattingList<Handle> {
         &self.entries[place]
     }
 
+    /// All entries, the oldest first.
+    pub fn as_slice(&self) -> &[FormatEntry<Handle>]
+        ensures { result.now ≡ self.now }
+    {
+        self.entries.as_slice()
+    }
+
     /// An entry becomes the newest. It is refused where memory is.
     pub fn push(&mut self, entry: FormatEntry<Handle>) -> Result<(), AllocError>
     where
@@ -87,8 +102,9 @@ impl<Handle> FormattingList<Handle> {
         ensures err { OnErr result (self.new ≡ self.old) }
     {
         self.entries.reserve(1)?;
-        self.numbers.push(entry_number(&entry), ())?;
+        push_index(&mut self.index, &self.entries, &entry)?;
         self.entries.push(entry)?;
+        build_index(&mut self.index, &self.entries);
         Ok(())
     }
 
@@ -97,7 +113,8 @@ impl<Handle> FormattingList<Handle> {
         ensures some { IsSome result ↔ (0 < length self.old) }
         ensures value { self.old ≡ self.new ++ option_to_list result }
     {
-        let _ = self.numbers.pop();
+        let count = self.len().saturating_sub(1);
+        truncate_index(&mut self.index, &self.entries, count);
         self.entries.pop()
     }
 
@@ -107,7 +124,7 @@ impl<Handle> FormattingList<Handle> {
         Handle: Drop,
         ensures { self.new ≡ take count self.old }
     {
-        self.numbers.truncate(count);
+        truncate_index(&mut self.index, &self.entries, count);
         self.entries.truncate(count);
     }
 
@@ -117,22 +134,21 @@ impl<Handle> FormattingList<Handle> {
         ensures value { result ≡ slice_index_or self.old place result }
         ensures rest { self.new ≡ remove self.old place }
     {
-        self.numbers.remove(place);
+        remove_index(&mut self.index, &self.entries, place);
         self.entries.remove(place)
     }
 
-    /// An entry is put at a place, and those from there on move up by one. It is refused where memory is.
-    pub fn insert(&mut self, place: usize, entry: FormatEntry<Handle>) -> Result<(), AllocError>
+    /// The entry at a place comes to stand at another one, which isn't lower, and those between move down by one. It takes no
+    /// memory.
+    pub fn move_up(&mut self, from: usize, to: usize)
     where
         Handle: Drop,
-        requires { place ≤ length self.old }
-        ensures ok { OnOk result (self.new ≡ insert self.old place entry) }
-        ensures err { OnErr result (self.new ≡ self.old) }
+        requires order { from ≤ to }
+        requires inside { to < length self.old }
+        ensures { (entry : EntryAt Handle) → entry ≡ slice_index_or self.old from entry → self.new ≡ insert (remove self.old from) to entry }
     {
-        self.entries.reserve(1)?;
-        self.numbers.insert(place, entry_number(&entry), ())?;
-        self.entries.insert(place, entry)?;
-        Ok(())
+        move_index(&mut self.index, &self.entries, from, to);
+        move_up(&mut self.entries, from, to);
     }
 
     /// The element of the entry at a place is another one, and its tag stays. A marker stays what it is.
@@ -145,28 +161,30 @@ impl<Handle> FormattingList<Handle> {
         set_element(&mut self.entries, place, handle);
     }
 
-    /// The place right after the last marker, or that of the oldest entry where there is no marker. It takes one step.
-    pub fn after_last_marker(&self) -> usize
-        ensures { (node : Handle → ℕ) → result + length (after_marker (entries_of node self.now)) ≡ length self.now }
-    {
-        self.numbers.newest(MARKER)
-    }
-
-    /// Where the newest entry of a name stands, of those after the last marker. It takes one step for a name that HTML knows.
+    /// Where the newest entry of a name stands, of those after the last marker. In a long list it takes one step for a name that
+    /// HTML knows.
     pub fn find_newest_named(&self, name: &LocalName) -> Option<usize>
         ensures found { (node : Handle → ℕ) → is_some result ≡ is_some (newest_named name.now (entries_of node self.now)) }
         ensures place { (node : Handle → ℕ) → MatchOption result (Unit {0}) (λ place. IsNewestNamedAt name.now place (entries_of node self.now)) }
         ensures inside { MatchOption result (Unit {0}) (λ place. place < length self.now) }
     {
-        let end = self.numbers.newest(MARKER);
-        let mut next = self.numbers.newest(name_number(name));
-        'down: while next > end {
-            let place = next - 1;
-            if is_named(&self.entries[place], name) {
-                return Some(place);
-            }
-            next = self.numbers.older(place);
+        find_newest_named(&self.entries, &self.index, name)
+    }
+
+    /// The place of the earliest entry after the last marker that is alike to a tag, if as many are as may be. In a long list
+    /// those are passed over that have other keys.
+    pub fn find_surplus(&self, tag: &Tag) -> Option<usize>
+        ensures within { MatchOption result (Unit {0}) (λ place. place < length self.now) }
+        ensures few { (node : Handle → ℕ) → MatchOption result (count_alike (tag_text tag.now) (entries_of node self.now) < 3)
+            (λ place. 3 ≤ count_alike (tag_text tag.now) (entries_of node self.now)) }
+        ensures earliest { (node : Handle → ℕ) → MatchOption result (Unit {0}) (λ place.
+            without_place place (entries_of node self.now) ≡ without_earliest (tag_text tag.now) (entries_of node self.now)) }
+    {
+        let found = find_alike(&self.entries, &self.index, tag);
+        if found.count < MOST_ALIKE {
+            None
+        } else {
+            Some(found.earliest)
         }
-        None
     }
 }

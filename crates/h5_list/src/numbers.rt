@@ -1,7 +1,7 @@
 //! The numbers by which entries are found.
 ghost use Rattle.std.specs.Prelude.{◌≡◌};
 ghost use Rattle.h5_list.specs.Listed.{is_named};
-ghost use Rattle.h5_list.specs.Numbers.{entry_number, name_number};
+ghost use Rattle.h5_list.specs.Numbers.{IsAfterMarkers, entry_number, name_number};
 
 use h5_names::LocalName;
 use h5_types::FormatEntry;
@@ -34,4 +34,16 @@ pub(super) fn is_named<Handle>(entry: &FormatEntry<Handle>, name: &LocalName) ->
         FormatEntry::Element(_, tag) => tag.name == *name,
         FormatEntry::Marker => false,
     }
+}
+
+/// The place right after the last marker, or that of the oldest entry where there is no marker, in a walk from the newest entry
+/// on.
+pub(super) fn after_markers<Handle>(entries: &Vec<FormatEntry<Handle>>) -> usize
+    ensures { IsAfterMarkers result entries.now.items }
+{
+    let mut place = entries.len();
+    'down: while place > 0 && entry_number(&entries[place - 1]) != MARKER {
+        place -= 1;
+    }
+    place
 }

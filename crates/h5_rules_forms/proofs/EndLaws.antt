@@ -69,6 +69,10 @@ form_not_root choices w n k root_open is_form scope e =
     let clash : true ≡ false = sym html ∙ other in
     cc
 
+-- it stays an element
+pub form_stays_element : (choices : SinkChoices) (w : World) (n : ℕ) → Sound w → w.form ≡ Some n → IsElement (generate_implied_end choices (clear_form w)).forest n
+form_stays_element choices w n k is_form = let e = k.form_node n is_form in (e.0, implied_kind choices (clear_form w) n ∙ e.1)
+
 -- the row of the end tag, where there is a form element
 pub closes_scoped : (form : ℕ) (w : World) → w.form ≡ Some form → form_in_scope form w ≡ true → close_the_form w.form w ≡ errs (ClearForm ∷ GenerateImpliedEnd ∷ RemoveFromStack form ∷ []) IsDone
 unfolding close_the_form

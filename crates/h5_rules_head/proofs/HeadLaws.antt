@@ -1,6 +1,7 @@
 -- Head content after the head: what its row comes to, once the head element has left the stack again.
-use Rattle.std.proofs.Common.{◌≡◌, ◌≢◌, ◌<◌, ℕ, MatchOption, None, Option, Some, option_map, true, ap, length, subst, sym, ◌∙◌, arith}
+use Rattle.std.proofs.Common.{◌≡◌, ◌≢◌, ◌<◌, ℕ, MatchOption, None, Option, Some, option_map, codes, true, ap, length, subst, sym, ◌∙◌, arith}
 use Rattle.h5_token.specs.TokenText.{TagText}
+use Rattle.h5_interface.specs.Forest.{IsElement}
 use Rattle.h5_interface.specs.SinkChoices.{SinkChoices}
 use Rattle.h5_types.specs.TurnText.{TagTurn}
 use Rattle.h5_types.specs.declared.turns.ProcessResult.{ProcessResult}
@@ -8,6 +9,8 @@ use Rattle.h5_tag_sets.specs.TagSets.{is_one_of}
 use Rattle.h5_rules.specs.modes.AfterHead.{removes_known, with_head}
 use Rattle.h5_rules.specs.Changes.{push_head}
 use Rattle.h5_rules.specs.modes.InHead.{in_head_start_tag}
+use Rattle.h5_rules.specs.formatting.FormattingNames.{html_name}
+use Rattle.h5_rules.specs.Sound.{Sound}
 use Rattle.h5_rules.specs.Rows.{EndsAs, Follows, apply_all}
 use Rattle.h5_rules.specs.modes.Shared.{head_start_names}
 use Rattle.h5_rules.specs.World.{World, root}
@@ -33,3 +36,8 @@ followed choices node tag w u v a b result known name is done ends left =
 pub apart_if_known : {H : Type 0} (node : H → ℕ) (o : Option H) (w u : World) → option_map node o ≡ w.head → ((h : ℕ) → w.head ≡ Some h → h ≢ root u) → MatchOption o (Unit {0}) (λ h. node h ≢ root u)
 apart_if_known node None w u e apart = tt
 apart_if_known node (Some h) w u e apart = apart (node h) (sym e)
+
+-- and it is an element
+pub element_if_known : {H : Type 0} (node : H → ℕ) (o : Option H) (u : World) → Sound u → option_map node o ≡ u.head → MatchOption o (Unit {0}) (λ h. IsElement u.forest (node h))
+element_if_known node None u k e = tt
+element_if_known node (Some h) u k e = (html_name (codes "head"), k.head_node (node h) (sym e))

@@ -2,6 +2,7 @@
 ghost use Rattle.h5_rules.specs.ByName.{by_known, ignored_tag, of_tag};
 ghost use Rattle.std.specs.Prelude.{◌≡◌, ◌≢◌, MatchOption, option_map, true};
 ghost use Rattle.h5_types.specs.TurnText.{HasText, turn_text};
+ghost use Rattle.h5_interface.specs.Forest.{IsElement};
 ghost use Rattle.h5_tag_sets.specs.TagSets.{is_one_of};
 ghost use Rattle.h5_rules.specs.modes.AfterHead.{after_head, after_head_else, after_head_end, after_head_start, after_head_start_body, after_head_start_frameset, after_head_tag, removes_known, with_head};
 ghost use Rattle.h5_rules.specs.modes.InHead.{in_head_start_tag};
@@ -60,6 +61,7 @@ fn after_head_start_frameset<S: TreeSink>(
 // The head element, where there is one, leaves the stack, from wherever it stands.
 fn leave_head<S: TreeSink>(sink: &mut S, state: &mut State<S::Handle>, head: &Option<S::Handle>)
     requires sound { IsSound S.TreeSink sink.old state.old }
+    requires element { MatchOption head.now (Unit {0}) (λ element. IsElement (S.sees sink.old).forest (S.node element)) }
     requires root { MatchOption head.now (Unit {0}) (λ element. S.node element ≢ root (world_of S.TreeSink sink.old state.old)) }
     ensures world { world_of S.TreeSink sink.new state.new ≡ apply_all S.choices (removes_known (option_map S.node head.now)) (world_of S.TreeSink sink.old state.old) }
     ensures sound { IsSound S.TreeSink sink.new state.new }

@@ -24,7 +24,7 @@ length-numbers_of items = length-numbers (stack_of items) ∙ length-stack items
 pub length-links : {T : Type 0} (items : List (Item T)) → length (links_of items) ≡ length items
 length-links {T} items = length-map items (λ (item : Item T). item.older)
 
-stack_at : {T : Type 0} (items : List (Item T)) (k : ℕ) (x : Item T) → k < length items → x ≡ get_or items k x → get_or (stack_of items) k (numbered x) ≡ numbered x
+pub stack_at : {T : Type 0} (items : List (Item T)) (k : ℕ) (x : Item T) → k < length items → x ≡ get_or items k x → get_or (stack_of items) k (numbered x) ≡ numbered x
 stack_at {T} items k x h e = get_or-map (λ (item : Item T). numbered item) items k x (numbered x) h ∙ ap (λ (item : Item T). numbered item) (sym e)
 
 pub number_at : {T : Type 0} (items : List (Item T)) (k : ℕ) (x : Item T) → k < length items → x ≡ get_or items k x → x.number ≡ get_or (numbers_of items) k 0

@@ -1,14 +1,14 @@
 -- What a stack is seen as, by its items and its table, and what its calls leave.
-use Rattle.std.proofs.Common.{◌≡◌, ◌+◌, ◌-◌, ◌<◌, ◌≤◌, ℕ, suc, Bool, cond, get_or, set, slice_index_or, take, drop, List, [], ◌∷◌, ◌++◌, length, reverse, refl, ap, sym, subst, ◌∙◌, inl, inr, arith}
+use Rattle.std.proofs.Common.{◌≡◌, ◌+◌, ◌-◌, ◌<◌, ◌≤◌, ℕ, zero, suc, Bool, cond, get_or, set, slice_index_or, take, drop, List, [], ◌∷◌, ◌++◌, length, reverse, refl, ap, sym, subst, ◌∙◌, inl, inr, arith}
 use Rattle.std.specs.List.{insert, remove}
 use Rattle.std.proofs.lemmas.Bool.{cases_cond}
-use Rattle.std.proofs.lemmas.List.{append-nil, get_or_default, get_or_past, get_or_push, length-reverse, length-set, length-take-le, length_push, map-append, take-append-le, take_all, take_at}
+use Rattle.std.proofs.lemmas.List.{append-nil, get_or_default, get_or_past, get_or_push, length-reverse, length-set, length-take-le, length_push, map-append, take-append-drop, take-append-le, take_all, take_at}
 use Rattle.std.proofs.lemmas.List.Edits.{length-insert, length-remove}
 use Rattle.h5_stack.specs.Items.{AreLinked, ArePlaced, AreReached, links_of, numbered, numbers_of, stack_of}
 use Rattle.h5_stack.specs.Numbered.{Numbered, newest_of, newest_under, numbers, one_of, values}
 use Rattle.h5_stack.specs.Places.{IsPlaced}
 use Rattle.h5_stack.specs.declared.item.Item.{Item}
-use Rattle.h5_stack.proofs.ItemLaws.{left_out, left_reached, length-numbers, length-numbers_of, length-stack, link_at, linked_all, linked_under, number_at, placed_all, reached_inserted, reached_kept, reached_longer, reached_pushed, reached_removed, same_links, same_numbers, stack_of-inserted, stack_of-kept, stack_of-pushed, stack_of-removed, stack_of-set, take-removed, value_at}
+use Rattle.h5_stack.proofs.ItemLaws.{left_out, left_reached, length-numbers, length-numbers_of, length-stack, link_at, linked_all, linked_under, number_at, placed_all, reached_inserted, reached_kept, reached_longer, reached_pushed, reached_removed, same_links, same_numbers, stack_at, stack_of-inserted, stack_of-kept, stack_of-pushed, stack_of-removed, stack_of-set, take-removed, value_at}
 use Rattle.h5_stack.proofs.PlaceLaws.{linked_none, linked_table, newest_le}
 
 pub inside : {T : Type 0} (items : List (Item T)) (s : List (Numbered T)) (k : ℕ) → stack_of items ≡ s → k < length s → k < length items
@@ -171,6 +171,46 @@ seen_kept items news s k v e = stack_of-kept items news k e ∙ ap (take k) v
 
 pub seen_same : {T : Type 0} (items news : List (Item T)) (s : List (Numbered T)) → stack_of items ≡ s → news ≡ items → stack_of news ≡ s
 seen_same items news s v e = ap (λ xs. stack_of xs) e ∙ v
+
+-- one moves up
+pub item_at : {X : Type 0} (xs : List X) (k : ℕ) → k < length xs → (x : X) × (x ≡ get_or xs k x)
+item_at [] k h = absurd (omega (arith, h))
+item_at (x ∷ xs) zero h = (x, refl)
+item_at (x ∷ xs) (suc k) h = item_at xs k (omega (arith, h))
+
+module _ {T : Type 0} (items news : List (Item T)) (from to : ℕ) (order : from ≤ to) (within : to < length items) (moved : (x : Item T) → x ≡ get_or items from x → news ≡ insert (remove items from) to x) where
+  the_item : (x : Item T) × (x ≡ get_or items from x)
+  the_item = item_at items from (omega (arith, order, within))
+
+  pub moved_linked : (u : List ℕ) → AreLinked items u from → AreLinked news u from
+  moved_linked u z =
+      let less : List (Item T) = remove items from in
+      let l : length less + 1 ≡ length items = length-remove items from (omega (arith, order, within)) in
+      let e = moved the_item.0 the_item.1 in
+      let low : take from items ≡ take from less = take-removed items less (drop (suc from) items) from (omega (arith, order, within)) refl in
+      let high : take from news ≡ take from less =
+      ap (take from) e ∙ take-append-le from (take to less) (the_item.0 ∷ drop to less) (omega (arith, order, within, l, length-take-le to less (omega (arith, within, l))))
+      ∙ sym (take-append-le from (take to less) (drop to less) (omega (arith, order, within, l, length-take-le to less (omega (arith, within, l)))))
+      ∙ ap (take from) (take-append-drop to less) in
+      linked_under items news u from (low ∙ sym high) z
+
+  pub moved_reached : (t u : List ℕ) → length u ≡ length t → ArePlaced items t → AreReached news u
+  moved_reached t u l p =
+      let inside : from < length items = omega (arith, order, within) in
+      let all = reached_longer items t u (omega (arith, l)) p.reached in
+      let least = reached_removed items (remove items from) from u refl all in
+      let known : the_item.0.number < length u =
+      omega (arith, l, number_at items from the_item.0 inside the_item.1, p.reached from 0 (omega (arith, inside, length-numbers_of items))) in
+      reached_inserted (remove items from) news to the_item.0 u (moved the_item.0 the_item.1) known least
+
+  pub seen_moved : (s : List (Numbered T)) (one : Numbered T) → stack_of items ≡ s → one ≡ get_or s from one → stack_of news ≡ insert (remove s from) to one
+  seen_moved s one v e =
+      let inside : from < length items = omega (arith, order, within) in
+      let same : numbered the_item.0 ≡ one =
+      sym (stack_at items from the_item.0 inside the_item.1) ∙ get_or_default (stack_of items) from (numbered the_item.0) one (omega (arith, inside, length-stack items)) ∙ ap (λ z. get_or z from one) v ∙ sym e in
+      stack_of-inserted (remove items from) news to the_item.0 (moved the_item.0 the_item.1)
+      ∙ ap (λ z. insert z to (numbered the_item.0)) (stack_of-removed items (remove items from) from refl ∙ ap (λ z. remove z from) v)
+      ∙ ap (λ z. insert (remove s from) to z) same
 
 -- there was none to take off
 pub unpopped : {T : Type 0} (items news : List (Item T)) (t : List ℕ) → items ≡ news ++ [] → ArePlaced items t → ArePlaced news t

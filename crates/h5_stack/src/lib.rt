@@ -3,7 +3,7 @@
 //!
 //! `numbered_stack` has the stack, and `item` a value with what is kept beside it. `places` keeps the places right: it
 //! takes items from the table of places, the newest first, and puts them back, the oldest first. `numbering` gives texts
-//! their numbers.
+//! their numbers. `moves` moves a value within a vector.
 //!
 //! It stands on no other crate. Begin with `specs/Numbered.antt` (what contracts see of a stack, and where the newest
 //! value of a number stands) and `src/numbered_stack.rt`; then `specs/Places.antt` and `src/places.rt`. Callers' proofs
@@ -11,9 +11,11 @@
 #![tactic(auto)]
 
 mod item;
+mod moves;
 mod numbered_stack;
 mod numbering;
 mod places;
 
+pub use moves::move_up;
 pub use numbered_stack::{MAX_LEN, NumberedStack};
 pub use numbering::Numbering;

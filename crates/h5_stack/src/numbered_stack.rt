@@ -2,9 +2,10 @@
 ghost use Rattle.std.specs.Prelude.{◌≡◌, ◌==◌, ◌<◌, ◌≤◌, ◌+◌, ◌-◌, ◌^◌, ◌↔◌, ◌∷◌, ◌++◌, [], IfOk, IsSome, OnErr, OnOk, length, reverse, slice_get, slice_index, slice_index_or, slice_set, take};
 ghost use Rattle.std.specs.List.{insert, remove};
 ghost use Rattle.std.specs.Option.{option_copied, option_to_list};
-ghost use Rattle.h5_stack.specs.Numbered.{newest_of, newest_under, numbers, one_of, values};
+ghost use Rattle.h5_stack.specs.Numbered.{Numbered, newest_of, newest_under, numbers, one_of, values};
 
 use super::item::Item;
+use super::moves::move_up;
 use super::places::{put_back, reach, take_back};
 use std::alloc::{AllocError, Global};
 use std::marker::Model;
@@ -226,5 +227,19 @@ impl<T> NumberedStack<T> {
         put_back(&mut self.items, &mut self.table, place);
         inserted?;
         Ok(())
+    }
+
+    /// The value at a place comes to stand at another one, which isn't lower, with its number; those between move down by one.
+    /// It takes a step or two for each value from there on, and no memory.
+    pub fn move_up(&mut self, from: usize, to: usize)
+    where
+        T: Drop,
+        requires order { from ≤ to }
+        requires inside { to < length self.old }
+        ensures { (one : Numbered T) → one ≡ slice_index_or self.old from one → self.new ≡ insert (remove self.old from) to one }
+    {
+        take_back(&self.items, &mut self.table, from);
+        move_up(&mut self.items, from, to);
+        put_back(&mut self.items, &mut self.table, from);
     }
 }

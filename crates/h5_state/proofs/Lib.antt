@@ -1,4 +1,5 @@
 pub mod AttributeLaws
+pub mod ChainLaws
 pub mod FoundLaws
 pub mod NewestLaws
 pub mod NumberLaws

@@ -1,13 +1,10 @@
 -- What a builder's state and its sink mean together.
 use Rattle.std.specs.Prelude.{ℕ, List, map, reverse, take, option_map}
 use Rattle.h5_names.specs.declared.qualified.QualName.{QualName}
-use Rattle.h5_token.specs.TokenText.{tag_text}
 use Rattle.h5_interface.specs.Seen.{Seen}
-use Rattle.h5_types.specs.declared.entry.FormatEntry.{FormatEntry}
-use Rattle.h5_types.specs.declared.entry.FormatEntry.TheVariants.{Element, Marker}
 use Rattle.h5_rules.specs.World.{World, name_in}
-use Rattle.h5_rules.specs.formatting.FormattingList.{Entry, ElementEntry, MarkerEntry}
 use Rattle.h5_stack.specs.Numbered.{values}
+use Rattle.h5_list.specs.Listed.{entries_of}
 use Rattle.h5_state.specs.declared.open_element.OpenElement.{OpenElement}
 use Rattle.h5_state.specs.declared.open_element.Summary.{Summary}
 use Rattle.h5_state.specs.declared.state.State.{State}
@@ -19,10 +16,6 @@ open_node node element = node element.handle
 -- the open elements, the oldest first
 abbrev pub elements_of : {H : Type 0} → State H → List (OpenElement H)
 elements_of state = values state.open_elems.elements
-
-abbrev pub entry_of : {H : Type 0} → (H → ℕ) → FormatEntry H → Entry
-entry_of node (Element handle tag) = ElementEntry (node handle) (tag_text tag)
-entry_of node Marker = MarkerEntry
 
 -- lists that grow at their end are seen with the newest first
 unfoldable pub world : {S H : Type 0} → (S → Seen) → (H → ℕ) → S → State H → World
@@ -36,7 +29,7 @@ world sees node sink state = record {
   pending = state.pending_table_text;
   quirks = state.quirks_mode;
   stack = reverse (map (open_node node) (elements_of state));
-  formatting = reverse (map (entry_of node) state.active_formatting.items);
+  formatting = entries_of node state.active_formatting;
   head = option_map node state.head_elem;
   form = option_map node state.form_elem;
   frameset_ok = state.frameset_ok;

@@ -1,9 +1,11 @@
 //! An open element is looked for in the stack by its handle.
-ghost use Rattle.std.specs.Prelude.{◌≡◌, ◌<◌, ◌+◌, ◌∷◌, MatchOption, is_some, length};
+ghost use Rattle.std.specs.Prelude.{◌≡◌, ◌<◌, ◌+◌, ◌∷◌, MatchOption, Some, is_some, length};
+ghost use Rattle.h5_interface.specs.Forest.{IsElement};
 ghost use Rattle.h5_tag_sets.specs.TagSets.{is_default_scope};
 ghost use Rattle.h5_rules.specs.stack.Order.{is_in};
 ghost use Rattle.h5_rules.specs.stack.Scope.{node_in_scope};
-ghost use Rattle.h5_rules.specs.World.{names_of};
+ghost use Rattle.h5_rules.specs.World.{name_in, names_of};
+ghost use Rattle.h5_state.specs.Numbers.{name_number};
 ghost use Rattle.h5_state.specs.OpenPlaces.{IsOpenAt};
 ghost use Rattle.h5_state.specs.Steps.{IsSound, world_of};
 ghost use Rattle.h5_state.specs.View.{stack_under};
@@ -27,8 +29,11 @@ pub fn handle_at<'a, S: TreeSink>(
     &state.open_elems.elements.get(place).handle
 }
 
-/// Where an element is open, counted from the root; the walk begins at the current node.
-pub fn find_open<S: TreeSink>(
+// So few open elements are all compared with one: it takes less than to ask for its name and the number of that.
+const FEW: usize = 16;
+
+// Where an element is open; the walk begins at the current node.
+fn find_among_all<S: TreeSink>(
     sink: &S,
     state: &State<S::Handle>,
     handle: &S::Handle,
@@ -45,6 +50,53 @@ pub fn find_open<S: TreeSink>(
         }
     }
     None
+}
+
+// Where an element is open whose name has this number: the walk goes from the newest open element of the number to ever
+// older ones.
+fn find_numbered<S: TreeSink>(
+    sink: &S,
+    state: &State<S::Handle>,
+    handle: &S::Handle,
+    number: u32,
+) -> Option<usize>
+    requires sound { IsSound S.TreeSink sink.now state.now }
+    requires number { name_number state.now.open_elems.numbers (name_in (S.sees sink.now).forest (S.node handle.now)) ≡ Some number }
+    ensures found { is_some result ≡ is_in (S.node handle.now) (world_of S.TreeSink sink.now state.now).stack }
+    ensures place { MatchOption result (Unit {0}) (λ place. IsOpenAt (S.node handle.now) place (world_of S.TreeSink sink.now state.now)) }
+    ensures inside { MatchOption result (Unit {0}) (λ place. place < length (world_of S.TreeSink sink.now state.now).stack) }
+{
+    let mut next = state.open_elems.elements.newest(number);
+    'down: while next > 0 {
+        let place = next - 1;
+        if sink.same_node(handle_at(sink, state, place), handle) {
+            return Some(place);
+        }
+        next = state.open_elems.elements.older(place);
+    }
+    None
+}
+
+/// Where an element is open, counted from the root. Where many are, only those that share the number of its name are compared
+/// with it.
+pub fn find_open<S: TreeSink>(
+    sink: &S,
+    state: &State<S::Handle>,
+    handle: &S::Handle,
+) -> Option<usize>
+    requires sound { IsSound S.TreeSink sink.now state.now }
+    requires element { IsElement (S.sees sink.now).forest (S.node handle.now) }
+    ensures found { is_some result ≡ is_in (S.node handle.now) (world_of S.TreeSink sink.now state.now).stack }
+    ensures place { MatchOption result (Unit {0}) (λ place. IsOpenAt (S.node handle.now) place (world_of S.TreeSink sink.now state.now)) }
+    ensures inside { MatchOption result (Unit {0}) (λ place. place < length (world_of S.TreeSink sink.now state.now).stack) }
+{
+    if open_count(sink, state) <= FEW {
+        return find_among_all(sink, state, handle);
+    }
+    match state.open_elems.numbers.find(sink.elem_name(handle)) {
+        Some(number) => find_numbered(sink, state, handle, number),
+        None => None,
+    }
 }
 
 /// Whether this element is open and in scope.

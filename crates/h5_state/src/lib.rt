@@ -1,14 +1,15 @@
 //! The state of a tree builder, and single steps over it (HTML standard, section 13.2.4, "Parse state").
 //!
 //! `state` has the state, and `open_element` an open element with what is kept beside it, so that questions about all
-//! open elements need no walk; `renew` makes that anew. `open_elems`, `find` and `name_test` ask of the stack of open
-//! elements and of names, and pop from it (section 13.2.4.2). `steps` changes one field or the current node, `errors`
-//! tells parse errors (section 13.2.2), `blanks` cuts texts into runs, and `pending_text` keeps text of a table back
-//! (section 13.2.6.4.10).
+//! open elements need no walk; `push` opens one, and `renew` makes anew what is kept. `name_numbers` has the numbers of
+//! names, `newest` where the newest element of a kind stands, `name_test` and `set_test` what is asked of a name, and
+//! `scopes` what is in scope (section 13.2.4.2). `open_elems` and `find` ask of the stack of open elements besides, and pop
+//! from it. `steps` changes one field or the current node, `errors` tells parse errors (section 13.2.2), `blanks` cuts texts
+//! into runs, and `pending_text` keeps text of a table back (section 13.2.6.4.10).
 //!
-//! It stands on the definitions in `h5_rules`. `h5_insertion` and `h5_closing` stand on it, and so do all crates with
-//! code of rules, and the builder. Begin with `specs/View.antt` (what state and sink mean together) and
-//! `specs/Steps.antt` (what a step does to that world), then `src/state.rt` and `src/steps.rt`.
+//! It stands on the definitions in `h5_rules`, and on `h5_stack` and `h5_list`. `h5_insertion` and `h5_closing` stand on
+//! it, and so do all crates with code of rules, and the builder. Begin with `specs/View.antt` (what state and sink mean
+//! together) and `specs/Steps.antt` (what a step does to that world), then `src/state.rt` and `src/steps.rt`.
 #![tactic(auto)]
 
 mod blanks;

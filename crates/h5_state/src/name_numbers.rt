@@ -41,6 +41,18 @@ impl NameNumbers {
         }
     }
 
+    /// The number of a name, if it has one.
+    #[tactic(auto, unfolding(crate::specs::Numbers::name_number, h5_tag_sets::specs::TagSets::html_namespace))]
+    pub fn find(&self, name: &QualName) -> Option<u32>
+        ensures { result ≡ name_number self.now name.now }
+    {
+        if name.ns.is_html() {
+            self.html(&name.local)
+        } else {
+            Some(KnownName::Other as u32)
+        }
+    }
+
     // The number of the HTML elements of a local name, which gets one where it has none.
     #[tactic(auto, unfolding(crate::specs::Numbers::html_number))]
     fn number_html(&mut self, local: &LocalName) -> Result<u32, AllocError>

@@ -2,13 +2,14 @@
 //! them (HTML standard, section 13.2.4.2, "The stack of open elements").
 ghost use Rattle.std.specs.Prelude.{◌≡◌, ◌==◌, ◌&&◌, ◌<◌, ◌≤◌, ◌+◌, ◌^◌, ◌∷◌, if◌then◌else◌, List, [], false, length, true};
 ghost use Rattle.h5_names.specs.declared.qualified.QualName.{QualName as NameText};
+ghost use Rattle.h5_tag_sets.specs.TagSets.{is_special};
 ghost use Rattle.h5_rules.specs.stack.Closing.{ends_item_search};
 ghost use Rattle.h5_state.specs.Summaries.{all_open, summary_of};
 
 use super::name_numbers::NameNumbers;
 use h5_names::{KnownName, QualName};
 use h5_stack::NumberedStack;
-use h5_tag_sets::{NameSet, cursory_implied_end, default_scope, special_tag};
+use h5_tag_sets::{NameSet, sets_of};
 use std::alloc::Global;
 
 /// What is known of some open elements, from the root up to one of them. Places are counted from the root: what stands
@@ -58,19 +59,21 @@ impl AllOpen {
         ensures { (older : List NameText) → self ≡ all_open older → place ≡ length older → result ≡ all_open (name.now ∷ older) }
     {
         let (html, local) = (name.ns.is_html(), &name.local);
+        let sets = sets_of(name);
+        let special = sets.has(NameSet::Special);
+        let ends_scope = sets.has(NameSet::DefaultScope);
+        let ends_button_scope = ends_scope | sets.has(NameSet::ButtonScope);
         let (is_body, is_p) = (
             html & local.is(KnownName::Body),
             html & local.is(KnownName::P),
         );
-        let ends_scope = default_scope(name);
-        let ends_button_scope = ends_scope | (html & NameSet::ButtonScope.holds(local));
         AllOpen {
-            unclosed: !(html & NameSet::BodyEndOk.holds(local)) | self.unclosed,
+            unclosed: !sets.has(NameSet::BodyEndOk) | self.unclosed,
             body_in_scope: still_in_scope(is_body, ends_scope, self.body_in_scope),
             p_in_button_scope: still_in_scope(is_p, ends_button_scope, self.p_in_button_scope),
             templates: u32::from(html & local.is(KnownName::Template)) + self.templates,
-            special: newest(special_tag(name), place, self.special),
-            item_end: newest(ends_item_search(name), place, self.item_end),
+            special: newest(special, place, self.special),
+            item_end: newest(ends_item_search(name, special), place, self.item_end),
             scope_end: newest(ends_scope, place, self.scope_end),
             oldest_option: oldest(
                 html & local.is(KnownName::Option),
@@ -100,9 +103,10 @@ impl Summary {
         requires templates { older.templates ≤ place }
         ensures { (names : List NameText) → older ≡ all_open names → place ≡ length names → result ≡ summary_of name.now names }
     {
+        let sets = sets_of(name);
         Summary {
-            special: special_tag(name),
-            implied: cursory_implied_end(name),
+            special: sets.has(NameSet::Special),
+            implied: sets.has(NameSet::CursoryImpliedEnd),
             all: older.with_newest(name, place),
         }
     }
@@ -161,12 +165,14 @@ fn oldest(is: bool, place: u32, below: u32) -> u32
     if below == 0 && is { place + 1 } else { below }
 }
 
-// Whether an element of this name ends the search for an item of a list: it is special, and no `address`, `div` or `p`.
+// Whether an element of this name, which is special or not, ends the search for an item of a list: it is special, and no
+// `address`, `div` or `p`.
 #[tactic(auto, unfolding(h5_rules::specs::stack::Closing::passed_names, h5_tag_sets::specs::TagSets::html_namespace))]
-fn ends_item_search(name: &QualName) -> bool
+fn ends_item_search(name: &QualName, special: bool) -> bool
+    requires { special ≡ is_special name.now }
     ensures { result ≡ ends_item_search name.now }
 {
-    special_tag(name)
+    special
         && !(name.ns.is_html()
             && (name.local.is(KnownName::Address)
                 || name.local.is(KnownName::Div)

@@ -2,7 +2,8 @@
 use super::open_element::OpenElements;
 use super::pending_text::PendingText;
 use h5_interface::QuirksMode;
-use h5_types::{FormatEntry, InsertionMode, ProcessResult, TreeBuilderOpts};
+use h5_list::FormattingList;
+use h5_types::{InsertionMode, ProcessResult, TreeBuilderOpts};
 use std::alloc::{AllocError, Global};
 
 /// How a turn ended, unless memory was refused.
@@ -21,7 +22,8 @@ pub struct State<Handle> {
     pub quirks_mode: QuirksMode,
     /// The stack of open elements, the root first.
     pub open_elems: OpenElements<Handle>,
-    pub active_formatting: Vec<FormatEntry<Handle>>,
+    /// The list of active formatting elements.
+    pub active_formatting: FormattingList<Handle>,
     pub head_elem: Option<Handle>,
     pub form_elem: Option<Handle>,
     pub frameset_ok: bool,

@@ -13,10 +13,10 @@ mod name_sets;
 mod sets;
 
 pub use element_sets::ElementSet;
-pub use name_sets::NameSet;
+pub use name_sets::{NameSet, NameSets};
 pub use sets::{
     body_end_ok, button_scope, cursory_implied_end, default_scope, formatting_tag,
     head_content_tag, heading_tag, is_html, is_html_known, is_html_local, list_item_scope,
-    mathml_text_integration_point, special_tag, svg_html_integration_point, table_body_context,
-    table_outer, table_row_context, table_scope, td_th, thorough_implied_end,
+    mathml_text_integration_point, sets_of, special_tag, svg_html_integration_point,
+    table_body_context, table_outer, table_row_context, table_scope, td_th, thorough_implied_end,
 };

@@ -1,5 +1,5 @@
 //! Sets of local names, each a bit of a known name's word.
-ghost use Rattle.std.specs.Prelude.{◌≡◌};
+ghost use Rattle.std.specs.Prelude.{◌≡◌, false};
 ghost use Rattle.h5_tag_sets.specs.TagSets.{is_one_of};
 ghost use Rattle.h5_names.specs.KnownNames.{name_text};
 ghost use Rattle.h5_tag_sets.specs.NameSets.{flag_of, has_flag, names_of};
@@ -343,6 +343,49 @@ impl NameSet {
     pub fn holds(self, name: &LocalName) -> bool
         ensures { result ≡ is_one_of (names_of self) name.now }
     {
-        flags(name.known()) & self.flag() != 0
+        NameSets::of(name).has(self)
+    }
+}
+
+/// Sets of local names, each a bit. Where it is asked for several sets whether they hold a name, those that hold it are
+/// read once.
+#[derive(Clone, Copy)]
+pub struct NameSets {
+    pub flags: u32,
+}
+
+impl NameSets {
+    /// The sets that hold a local name, without a look at its text if HTML knows it.
+    pub fn of(name: &LocalName) -> NameSets
+        ensures { (set : NameSet) → has_flag result.flags set ≡ is_one_of (names_of set) name.now }
+    {
+        NameSets {
+            flags: flags(name.known()),
+        }
+    }
+
+    /// The sets of an element of MathML or SVG, of those that are for elements of all namespaces: it is special and ends a
+    /// scope, or not.
+    pub fn of_foreign(is_special: bool) -> NameSets
+        ensures special { has_flag result.flags NameSet.Special ≡ is_special }
+        ensures scope { has_flag result.flags NameSet.DefaultScope ≡ is_special }
+        ensures button { has_flag result.flags NameSet.ButtonScope ≡ false }
+        ensures implied { has_flag result.flags NameSet.CursoryImpliedEnd ≡ false }
+        ensures body_end { has_flag result.flags NameSet.BodyEndOk ≡ false }
+    {
+        NameSets {
+            flags: if is_special {
+                SPECIAL | DEFAULT_SCOPE
+            } else {
+                0
+            },
+        }
+    }
+
+    /// Whether this set is one of them.
+    pub fn has(self, set: NameSet) -> bool
+        ensures { result ≡ has_flag self.flags set }
+    {
+        self.flags & set.flag() != 0
     }
 }

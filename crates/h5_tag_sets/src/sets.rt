@@ -1,9 +1,10 @@
 //! Sets of elements.
-ghost use Rattle.std.specs.Prelude.{◌≡◌};
+ghost use Rattle.std.specs.Prelude.{◌≡◌, ◌||◌};
 ghost use Rattle.h5_names.specs.KnownNames.{name_text};
+ghost use Rattle.h5_tag_sets.specs.NameSets.{has_flag};
 ghost use Rattle.h5_tag_sets.specs.TagSets.{is_body_end_ok, is_button_scope, is_cell, is_default_scope, is_foreign_special, is_formatting, is_head_content, is_heading, is_html_named, is_implied, is_list_item_scope, is_mathml_text_point, is_special, is_svg_html_point, is_table_body_context, is_table_outer, is_table_row_context, is_table_scope, is_thorough_implied};
 
-use super::NameSet;
+use super::{NameSet, NameSets};
 use h5_names::{KnownName, LocalName, QualName};
 
 /// Whether this is an HTML element of this local name.
@@ -40,21 +41,35 @@ fn foreign_special(name: &QualName) -> bool
         || (name.ns.is_svg() && NameSet::SvgHtmlPoint.holds(&name.local))
 }
 
+/// The sets that hold an element, of those that are kept for each open element: special elements, those that end a scope or a
+/// button scope, those whose end tag is implied, and those that may be open where the body ends. They are read once.
+pub fn sets_of(name: &QualName) -> NameSets
+    ensures special { has_flag result.flags NameSet.Special ≡ is_special name.now }
+    ensures scope { has_flag result.flags NameSet.DefaultScope ≡ is_default_scope name.now }
+    ensures button { (has_flag result.flags NameSet.DefaultScope || has_flag result.flags NameSet.ButtonScope) ≡ is_button_scope name.now }
+    ensures implied { has_flag result.flags NameSet.CursoryImpliedEnd ≡ is_implied name.now }
+    ensures body_end { has_flag result.flags NameSet.BodyEndOk ≡ is_body_end_ok name.now }
+{
+    if name.ns.is_html() {
+        NameSets::of(&name.local)
+    } else {
+        NameSets::of_foreign(foreign_special(name))
+    }
+}
+
 /// Whether an element is special (HTML standard, section 13.2.4.2, "The stack of open elements").
-#[tactic(auto, unfolding(crate::specs::TagSets::is_special, crate::specs::TagSets::html_namespace))]
 pub fn special_tag(name: &QualName) -> bool
     ensures { result ≡ is_special name.now }
 {
-    (name.ns.is_html() && NameSet::Special.holds(&name.local)) || foreign_special(name)
+    sets_of(name).has(NameSet::Special)
 }
 
 /// Whether an element ends a scope (HTML standard, section 13.2.4.2, "have a particular element in
 /// scope").
-#[tactic(auto, unfolding(crate::specs::TagSets::is_default_scope, crate::specs::TagSets::html_namespace))]
 pub fn default_scope(name: &QualName) -> bool
     ensures { result ≡ is_default_scope name.now }
 {
-    (name.ns.is_html() && NameSet::DefaultScope.holds(&name.local)) || foreign_special(name)
+    sets_of(name).has(NameSet::DefaultScope)
 }
 
 /// Whether an element ends a list item scope (HTML standard, section 13.2.4.2, "have a particular element
@@ -68,11 +83,11 @@ pub fn list_item_scope(name: &QualName) -> bool
 
 /// Whether an element ends a button scope (HTML standard, section 13.2.4.2, "have a particular element in
 /// button scope").
-#[tactic(auto, unfolding(crate::specs::TagSets::is_button_scope, crate::specs::TagSets::html_namespace))]
 pub fn button_scope(name: &QualName) -> bool
     ensures { result ≡ is_button_scope name.now }
 {
-    default_scope(name) || (name.ns.is_html() && NameSet::ButtonScope.holds(&name.local))
+    let sets = sets_of(name);
+    sets.has(NameSet::DefaultScope) || sets.has(NameSet::ButtonScope)
 }
 
 /// Whether an element ends a table scope (HTML standard, section 13.2.4.2, "have a particular element in

@@ -1,4 +1,5 @@
 pub mod AttributeOrder
+pub mod KeyLaws
 pub mod Multisets
 pub mod SortedAttributes
 pub mod TextEquality

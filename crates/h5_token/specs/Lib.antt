@@ -1,4 +1,5 @@
 pub mod Joins
+pub mod Keys
 pub mod Lent
 pub mod Occurrences
 pub mod OptionalText

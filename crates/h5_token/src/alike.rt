@@ -63,7 +63,7 @@ fn lent(alloc: Global, attrs: &[Attribute]) -> Result<Vec<&Attribute>, AllocErro
 }
 
 // The attributes of a list in their order: by name, then by value.
-fn in_order(alloc: Global, attrs: &[Attribute]) -> Result<Vec<&Attribute>, AllocError>
+pub(super) fn in_order(alloc: Global, attrs: &[Attribute]) -> Result<Vec<&Attribute>, AllocError>
     ensures all { IfOk result (λ sorted. IsPermutation (attribute_texts attrs.now) (lent_texts sorted.items)) }
     ensures sorted { IfOk result (λ sorted. IsSorted attribute_order (lent_texts sorted.items)) }
 {

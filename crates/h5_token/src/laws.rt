@@ -1,5 +1,6 @@
 //! Laws of tokens, each the contract of a function that does nothing.
 ghost use Rattle.std.specs.Prelude.{◌≡◌, ◌↔◌, IsTrue};
+ghost use Rattle.h5_token.specs.Keys.{KeysAreEqual};
 ghost use Rattle.h5_token.specs.TokenText.{TagText, IsAlike, doctype_text, tag_text, token_text};
 
 use super::{Doctype, Tag, Token};
@@ -9,6 +10,11 @@ pub fn likeness_is_an_equivalence()
     ensures reflexive { (x : TagText) → IsAlike x x }
     ensures symmetric { (x y : TagText) → IsAlike x y → IsAlike y x }
     ensures transitive { (x y z : TagText) → IsAlike x y → IsAlike y z → IsAlike x z }
+{}
+
+/// Tags that are alike have equal keys.
+pub fn alike_tags_have_equal_keys()
+    ensures { KeysAreEqual }
 {}
 
 /// Two tags, doctypes or tokens are equal exactly if their texts are.

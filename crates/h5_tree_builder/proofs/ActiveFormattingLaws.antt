@@ -6,7 +6,7 @@ use Rattle.h5_token.specs.declared.tag.Tag.{Tag}
 use Rattle.h5_types.specs.declared.entry.FormatEntry.{FormatEntry}
 use Rattle.h5_types.specs.declared.entry.FormatEntry.TheVariants.{Element, Marker}
 use Rattle.h5_rules.specs.formatting.FormattingList.{ElementEntry, after_marker}
-use Rattle.h5_state.specs.View.{entry_of}
+use Rattle.h5_list.specs.Listed.{entry_of}
 use Rattle.h5_tree_builder.specs.ActiveFormatting.{falling, given_entry, given_place, placed, still_given}
 
 map-reversed : {A B : Type 0} (f : A → B) (l : List A) → map f (reverse l) ≡ reverse (map f l)

@@ -5,6 +5,7 @@ ghost use Rattle.h5_state.specs.Summaries.{IsKept};
 ghost use Rattle.h5_tree_builder.specs.Builder.{first_world};
 
 use h5_interface::TreeSink;
+use h5_list::FormattingList;
 use h5_state::{OpenElements, PendingText, State};
 use h5_types::{InsertionMode, TreeBuilderOpts};
 use std::alloc::Global;
@@ -23,7 +24,7 @@ pub fn first_state<S: TreeSink>(sink: &S, alloc: Global, opts: TreeBuilderOpts) 
         pending_table_text: PendingText::new(alloc),
         quirks_mode: opts.quirks_mode,
         open_elems: OpenElements::new(alloc),
-        active_formatting: Vec::new(alloc),
+        active_formatting: FormattingList::new(alloc),
         head_elem: None,
         form_elem: None,
         frameset_ok: true,

@@ -268,6 +268,13 @@ head_stays_above choices tag w k fit p h known e =
     let same : h ≡ o.head = let both : Some h ≡ Some o.head = sym known ∙ o.known in cc in
     head_not_root w k o (sym same ∙ e ∙ content_top choices u.forest.document v (sound_push_head w k o) (in_head_start_tag tag v).changes (content_row tag v p).changes o.head o.root (stack_push_head w o.head o.known ∙ ap (λ s. o.head ∷ s) o.stack))
 
+-- and it stays the head element
+pub head_stays_known : (choices : SinkChoices) (tag : TagText) (w : World) → Sound w → FitsAs AfterHead w → is_one_of head_start_names tag.name ≡ true
+    → (apply_all choices (in_head_start_tag tag (push_head w)).changes (push_head w)).head ≡ w.head
+head_stays_known choices tag w k fit p =
+    let v = push_head w in
+    content_head choices v (sound_push_head w k (only_root w fit)) (in_head_start_tag tag v).changes (content_row tag v p).changes
+
 pub ends_anywhere : {H : Type 0} (node : H → ℕ) (t : TurnText) (result : ProcessResult H) (e : Ending) (u v : World) → ((x : World) → next_mode e x ≡ None) → EndsAs node t result e u → EndsAs node t result e v
 ends_anywhere node t results.Done e u v none ends = ends
 ends_anywhere node t results.DoneAckSelfClosing e u v none ends = ends

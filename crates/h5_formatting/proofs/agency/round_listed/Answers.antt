@@ -1,8 +1,13 @@
 use Rattle.std.proofs.Common.{sym, ap, ◌∙◌}
 use Rattle.h5_rules.specs.stack.Order.{is_in}
 use Rattle.h5_state.specs.Steps.{world_of}
-use Rattle.h5_formatting.proofs.AgencyLaws.{found_entry, is_closed_round, open_told}
+use Rattle.h5_state.specs.View.{world}
+use Rattle.h5_formatting.proofs.AgencyLaws.{found_entry, found_is_element, is_closed_round, open_told}
 use Rattle.h5_formatting.proofs.agency.round_listed.Goals as goal
+
+pub find_open-requires-clause-element : goal.find_open-requires-clause-element
+unfolding world
+find_open-requires-clause-element g c = found_is_element (g.S.TreeSink.node c.args.element.now) (world_of g.S.TreeSink c.args.sink.now c.args.state.now) c.requires.found.found c.requires.found.same
 
 pub returns-in-Some-clause-done : goal.returns-in-Some-clause-done
 returns-in-Some-clause-done g c =

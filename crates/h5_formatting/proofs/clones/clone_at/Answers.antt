@@ -3,7 +3,8 @@ use Rattle.h5_token.specs.TokenText.{tag_text}
 use Rattle.h5_rules.specs.formatting.FormattingList.{ElementEntry}
 use Rattle.h5_rules.specs.formatting.AdoptionAgency.{tag_in}
 use Rattle.h5_state.specs.Steps.{world_of}
-use Rattle.h5_state.specs.View.{entry_of, world}
+use Rattle.h5_state.specs.View.{world}
+use Rattle.h5_list.specs.Listed.{entry_of}
 use Rattle.h5_formatting.specs.Hanging.{nest_of, with_clone_by}
 use Rattle.h5_formatting.proofs.CloneLaws.{EntryIs, entry_is, entry_no_marker, entry_tag, newest_same, clone_told, tag_none}
 use Rattle.h5_formatting.proofs.clones.clone_at.Goals as goal

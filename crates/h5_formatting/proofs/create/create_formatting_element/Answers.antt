@@ -6,7 +6,7 @@ use Rattle.h5_rules.specs.Sound.{Sound}
 use Rattle.h5_rules.specs.World.{World, current, names_of}
 use Rattle.h5_rules.proofs.changes.FormattingLaws.{sound_format}
 use Rattle.h5_state.specs.View.{world}
-use Rattle.h5_formatting.specs.EntryPlaces.{entries_of}
+use Rattle.h5_list.specs.Listed.{entries_of}
 use Rattle.h5_formatting.proofs.RenewLaws.{ok_or_err, ok_then, sound_with_list, with_list}
 use Rattle.h5_formatting.proofs.create.create_formatting_element.Goals as goal
 
@@ -21,7 +21,7 @@ returns g c =
     let t = tag_text c.args.tag in
     let w = world g.S.TreeSink.sees node c.args.sink.now c.args.state.now in
     let v = world g.S.TreeSink.sees node c.insert_element.new.sink c.insert_element.new.state in
-    let new = with_list (entries_of node c.push_formatting.new.entries.items) v in
+    let new = with_list (entries_of node c.push_formatting.new.entries) v in
     let made : v ≡ insert_for choices t w = c.in_ok-insert_element.ensures.world ∙ ap (λ u. insert_for choices u w) c.in_ok-copy.ensures in
     let pushed : ((m : _ → ℕ) → _) → new ≡ create_formatting_element choices t w = λ e.
     ap (λ l. with_list l v) (e node ∙ ap (λ n. push_formatting n t v.formatting) c.current_node-handle.ensures) ∙ ap (with_pushed t) made in

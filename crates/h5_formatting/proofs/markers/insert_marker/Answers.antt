@@ -12,7 +12,7 @@ unfolding world insert_marker
 returns-clause-made g c =
     let node = g.S.TreeSink.node in
     let w = world g.S.TreeSink.sees node c.args.sink.now c.args.state.now in
-    let pushed = ap (λ l. with_list l w) (entries_pushed node c.args.state.now.active_formatting.items c.push.new.self.items Marker c.in_ok-push.ensures.items) in
+    let pushed = ap (λ l. with_list l w) (entries_pushed node c.args.state.now.active_formatting c.push.new.self Marker c.in_ok-push.ensures.ok) in
     record {
       world = pushed;
       quiet = refl;

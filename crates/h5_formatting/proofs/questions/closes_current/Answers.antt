@@ -4,7 +4,8 @@ use Rattle.h5_rules.specs.formatting.AdoptionAgency.{is_formatting_element}
 use Rattle.h5_rules.specs.World.{current}
 use Rattle.h5_rules.specs.formatting.FormattingList.{ElementEntry}
 use Rattle.h5_state.specs.Steps.{world_of}
-use Rattle.h5_state.specs.View.{entry_of, world}
+use Rattle.h5_state.specs.View.{world}
+use Rattle.h5_list.specs.Listed.{entry_of}
 use Rattle.h5_formatting.specs.View.{list_under}
 use Rattle.h5_formatting.proofs.EntryLaws.{list_cut}
 use Rattle.h5_state.proofs.SeenLaws.{same_tail}

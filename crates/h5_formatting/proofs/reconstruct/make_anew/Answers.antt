@@ -1,21 +1,22 @@
-use Rattle.std.proofs.Common.{ap, arith, length, refl, sym, ◌∙◌}
+use Rattle.std.proofs.Common.{ap, arith, length, refl, sym, ◌<◌, ◌∙◌}
 use Rattle.h5_token.specs.TokenText.{tag_text}
 use Rattle.h5_rules.specs.formatting.Formatting.{insert_for}
 use Rattle.h5_rules.specs.World.{World}
 use Rattle.h5_rules.proofs.changes.FormattingLaws.{formatting-insert_for}
-use Rattle.h5_state.specs.View.{entry_of, world}
+use Rattle.h5_state.specs.View.{world}
+use Rattle.h5_list.specs.Listed.{entry_of}
 use Rattle.h5_formatting.specs.EntryPlaces.{renewed_by, with_node_at}
-use Rattle.h5_formatting.proofs.ListLaws.{entry_there, length_entries}
+use Rattle.h5_formatting.proofs.ListLaws.{entry_handed, entry_set, entry_there, length_entries}
 use Rattle.h5_formatting.proofs.RenewLaws.{sound_with_current, with_current_at, with_list}
 use Rattle.h5_formatting.proofs.reconstruct.make_anew.Goals as goal
 
-pub set_node-requires : goal.set_node-requires
+pub set_handle-requires : goal.set_handle-requires
 unfolding world
-set_node-requires g c =
+set_handle-requires g c =
     let node = g.S.TreeSink.node in
     let w = world g.S.TreeSink.sees node c.args.sink.now c.args.state.now in
     let list = ap (λ (v : World). length v.formatting) c.in_ok-insert_element.ensures.world ∙ ap length (formatting-insert_for g.S.TreeSink.choices (tag_text c.in_ok-copy.copy) w) in
-    let many = length_entries node c.insert_element.new.state.active_formatting.items in
+    let many = length_entries node c.insert_element.new.state.active_formatting in
     omega (arith, c.requires.place, list, many)
 
 pub returns-in_ok-insert_element-clause-world : goal.returns-in_ok-insert_element-clause-world
@@ -23,12 +24,16 @@ unfolding world
 returns-in_ok-insert_element-clause-world g c =
     let node = g.S.TreeSink.node in
     let choices = g.S.TreeSink.choices in
-    let items = c.args.state.now.active_formatting.items in
+    let items = c.args.state.now.active_formatting in
     let w = world g.S.TreeSink.sees node c.args.sink.now c.args.state.now in
     let v = world g.S.TreeSink.sees node c.insert_element.new.sink c.insert_element.new.state in
     let was = c.in_ok-insert_element.ensures.world ∙ ap (λ t. insert_for choices t w) c.in_ok-copy.ensures in
-    let is = ap (λ l. with_list l v) (c.set_node.ensures node ∙ ap (λ n. with_node_at c.args.place n v.formatting) c.current_node-handle.ensures) in
-    let there = entry_there node items c.args.place c.index.result.now (omega (arith, c.requires.place, length_entries node items)) c.index.ensures ∙ ap (entry_of node) c.in-Element.is in
+    let over = c.set_handle.ensures in
+    let list = ap (λ (z : World). length z.formatting) c.in_ok-insert_element.ensures.world ∙ ap length (formatting-insert_for choices (tag_text c.in_ok-copy.copy) w) in
+    let inside : c.args.place < length c.insert_element.new.state.active_formatting = omega (arith, c.requires.place, list, length_entries node c.insert_element.new.state.active_formatting) in
+    let handed = entry_set node c.insert_element.new.state.active_formatting _ c.args.place (node c.current_node-handle.result) over.entry _ inside over.was over.is (entry_handed node c.current_node-handle.result over.entry) in
+    let is = ap (λ l. with_list l v) (handed ∙ ap (λ n. with_node_at c.args.place n v.formatting) c.current_node-handle.ensures) in
+    let there = entry_there node items c.args.place c.get.result.now (omega (arith, c.requires.place, length_entries node items)) c.get.ensures ∙ ap (entry_of node) c.in-Element.is in
     is ∙ ap (with_current_at c.args.place) was ∙ sym (ap (λ e. renewed_by choices c.args.place e w) there)
 
 pub returns-in_ok-insert_element-clause-sound : goal.returns-in_ok-insert_element-clause-sound
@@ -36,12 +41,16 @@ unfolding world
 returns-in_ok-insert_element-clause-sound g c =
     let node = g.S.TreeSink.node in
     let choices = g.S.TreeSink.choices in
-    let items = c.args.state.now.active_formatting.items in
+    let items = c.args.state.now.active_formatting in
     let w = world g.S.TreeSink.sees node c.args.sink.now c.args.state.now in
     let v = world g.S.TreeSink.sees node c.insert_element.new.sink c.insert_element.new.state in
     let was = c.in_ok-insert_element.ensures.world ∙ ap (λ t. insert_for choices t w) c.in_ok-copy.ensures in
-    let is = ap (λ l. with_list l v) (c.set_node.ensures node ∙ ap (λ n. with_node_at c.args.place n v.formatting) c.current_node-handle.ensures) in
-    let there = entry_there node items c.args.place c.index.result.now (omega (arith, c.requires.place, length_entries node items)) c.index.ensures ∙ ap (entry_of node) c.in-Element.is in
+    let over = c.set_handle.ensures in
+    let list = ap (λ (z : World). length z.formatting) c.in_ok-insert_element.ensures.world ∙ ap length (formatting-insert_for choices (tag_text c.in_ok-copy.copy) w) in
+    let inside : c.args.place < length c.insert_element.new.state.active_formatting = omega (arith, c.requires.place, list, length_entries node c.insert_element.new.state.active_formatting) in
+    let handed = entry_set node c.insert_element.new.state.active_formatting _ c.args.place (node c.current_node-handle.result) over.entry _ inside over.was over.is (entry_handed node c.current_node-handle.result over.entry) in
+    let is = ap (λ l. with_list l v) (handed ∙ ap (λ n. with_node_at c.args.place n v.formatting) c.current_node-handle.ensures) in
+    let there = entry_there node items c.args.place c.get.result.now (omega (arith, c.requires.place, length_entries node items)) c.get.ensures ∙ ap (entry_of node) c.in-Element.is in
     sound_with_current choices (tag_text c.in-Element.tag) w g.S.TreeSink c.insert_element.new.sink c.insert_element.new.state _ c.args.place (node c.in-Element.field-0) there c.requires.sound.sound was is refl
     c.insert_element.ensures.sound
 
@@ -49,7 +58,7 @@ pub returns-in_default-clause-world : goal.returns-in_default-clause-world
 unfolding world
 returns-in_default-clause-world g c =
     let node = g.S.TreeSink.node in
-    let items = c.args.state.now.active_formatting.items in
+    let items = c.args.state.now.active_formatting in
     let w = world g.S.TreeSink.sees node c.args.sink.now c.args.state.now in
-    let there = entry_there node items c.args.place c.index.result.now (omega (arith, c.requires.place, length_entries node items)) c.index.ensures ∙ ap (entry_of node) c.in_default.is in
+    let there = entry_there node items c.args.place c.get.result.now (omega (arith, c.requires.place, length_entries node items)) c.get.ensures ∙ ap (entry_of node) c.in_default.is in
     sym (ap (λ e. renewed_by g.S.TreeSink.choices c.args.place e w) there)

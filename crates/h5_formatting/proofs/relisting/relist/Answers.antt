@@ -45,9 +45,9 @@ move_above-requires g c =
     let swapped = laws.swapped_world p.0 p.1 clones n c.args.at c.args.first c.args.block w p.2 v u walked c.swap_entry.ensures.done in
     laws.place_inside p.0 p.1 clones n c.args.at c.args.first c.args.block w p.2 (ElementEntry n p.0.tag) u swapped
 
-pub returns-then-is_empty : goal.returns-then-is_empty
+pub returns-else-not-is_empty : goal.returns-else-not-is_empty
 unfolding world
-returns-then-is_empty g c = λ f between r.
+returns-else-not-is_empty g c = λ f between r.
     let node = g.S.TreeSink.node in
     let state = c.args.state.now in
     let w = world_of g.S.TreeSink c.args.sink.now state in
@@ -59,7 +59,7 @@ returns-then-is_empty g c = λ f between r.
     let walked = laws.walked_world f between clones n c.args.at c.args.first c.args.block w r (take (c.args.block - c.args.first) (stack_under node state c.args.block)) v
     (laws.between_taken f between clones n c.args.at c.args.first c.args.block w r node state refl) c.relist_between.ensures.world in
     let swapped = laws.swapped_world f between clones n c.args.at c.args.first c.args.block w r v u walked c.swap_entry.ensures.done in
-    let empty : vec_len c.args.clones.now ≡ 0 = eqb-true (vec_len c.args.clones.now) 0 (sym c.is_empty.ensures ∙ c.if-is_empty.true) in
+    let empty : vec_len c.args.clones.now ≡ 0 = eqb-true (vec_len c.args.clones.now) 0 (sym c.is_empty.ensures ∙ c.if-not-is_empty.false) in
     let none : items ≡ [] = nil_from_length items (omega (arith, empty, c.args.clones.now.ok.0)) in
     let after = round_list f.node f.tag between clones n w.formatting in
     let done = swapped ∙ ap (λ l. record w { formatting = l }) (sym (laws.relist_alone f between clones n c.args.at c.args.first c.args.block w r (ap (map node) none))) in
@@ -70,9 +70,9 @@ returns-then-is_empty g c = λ f between r.
           (laws.sound_round f between clones n c.args.at c.args.first c.args.block w r c.requires.sound.sound);
     }
 
-pub returns : goal.returns
+pub returns-then-not-is_empty : goal.returns-then-not-is_empty
 unfolding world
-returns g c = λ f between r.
+returns-then-not-is_empty g c = λ f between r.
     let node = g.S.TreeSink.node in
     let state = c.args.state.now in
     let w = world_of g.S.TreeSink c.args.sink.now state in
@@ -86,7 +86,7 @@ returns g c = λ f between r.
     let walked = laws.walked_world f between clones n c.args.at c.args.first c.args.block w r (take (c.args.block - c.args.first) (stack_under node state c.args.block)) v
     (laws.between_taken f between clones n c.args.at c.args.first c.args.block w r node state refl) c.relist_between.ensures.world in
     let swapped = laws.swapped_world f between clones n c.args.at c.args.first c.args.block w r v u walked c.swap_entry.ensures.done in
-    let nonempty = eqb-false (vec_len c.args.clones.now) 0 (sym c.is_empty.ensures ∙ c.if-is_empty.false) in
+    let nonempty = eqb-false (vec_len c.args.clones.now) 0 (sym c.is_empty.ensures ∙ c.if-not-is_empty.true) in
     let inside : 0 < length items = omega (arith, nonempty, c.args.clones.now.ok.0) in
     let some : clones ≡ y ∷ drop 1 clones = drop_more node items 0 x inside c.index.ensures in
     let k = laws.first_cut f between clones n c.args.at c.args.first c.args.block w r y (drop 1 clones) some in
@@ -97,7 +97,7 @@ returns g c = λ f between r.
     let done = moved ∙ ap (λ (z : World). record z { formatting = k.front ++ own ∷ ElementEntry y k.tag ∷ (k.rest ++ r.older) }) swapped
     ∙ ap (λ l. record w { formatting = l }) (sym (laws.relist_above f between clones n c.args.at c.args.first c.args.block w r y (drop 1 clones) k some)) in
     record {
-      world = laws.on_ok c.move_above.result done;
+      world = done;
       quiet = refl;
       sound = laws.sound_relisted g.S.TreeSink c.args.sink.now state c.move_above.new.state after (c.move_above.ensures.stack ∙ c.swap_entry.ensures.stack ∙ c.relist_between.ensures.stack) done c.requires.sound
           (laws.sound_round f between clones n c.args.at c.args.first c.args.block w r c.requires.sound.sound);

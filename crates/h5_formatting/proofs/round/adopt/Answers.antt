@@ -115,31 +115,6 @@ relist-requires-clause-relists g c =
     let rel = may_relist g.S.TreeSink c.args.sink.now state r c.tell_popped.new.sink (map node c.in_ok-clones.clones.made.items) (node c.in_ok-clone.clone) world4 made own in
     (c.requires.round.element, c.requires.round.furthest.between, rel)
 
-pub returns-in_err-relist-clause-sound : goal.returns-in_err-relist-clause-sound
-unfolding world
-returns-in_err-relist-clause-sound g c =
-    let node = g.S.TreeSink.node in
-    let choices = g.S.TreeSink.choices in
-    let state = c.args.state.now in
-    let w = world_of g.S.TreeSink c.args.sink.now state in
-    let r = c.requires.round.round in
-    let n = clones_made g.S.TreeSink c.args.sink.now state r c.make_clones.new.sink c.in_ok-clones.clones c.in_ok-clones.ensures.done in
-    let forest1 : (g.S.TreeSink.sees c.make_clones.new.sink).forest ≡ (round_nest choices w r).forest = ap (λ (x : Nest). x.forest) n in
-    let last : node c.in_ok-clones.clones.outermost ≡ (round_nest choices w r).outermost = ap (λ (x : Nest). x.outermost) n in
-    let made : map node c.in_ok-clones.clones.made.items ≡ (round_nest choices w r).clones = ap (λ (x : Nest). x.clones) n in
-    let world1 = world_seen g.S.TreeSink c.args.sink.now c.make_clones.new.sink state (round_nest choices w r).forest forest1 c.in_ok-clones.ensures.quirks in
-    let forest2 = block_moved g.S.TreeSink c.args.sink.now state r c.make_clones.new.sink c.move_block.new.sink (node c.in_ok-clones.clones.outermost) world1 forest1 last c.in_ok-move_block.ensures.done in
-    let b : node c.handle_at.result.now ≡ _ = newest_same _ _ _ _ _ c.handle_at.ensures.stack (from_block node state w refl r) in
-    let tag : tag_text c.tag_at-tag.result.now ≡ _ = c.tag_at-tag.ensures r.newer r.older _ _ r.cut r.listed_at in
-    let forest4 = refilled_and_told g.S.TreeSink c.args.sink.now state r c.move_block.new.sink c.refill.new.sink c.tell_popped.new.sink (node c.handle_at.result.now) _ (tag_text c.tag_at-tag.result.now) forest2 b tag refl
-    c.in_ok-clone.ensures.done (c.tell_popped.ensures.told _ _ (from_element node state w refl r)) in
-    let quirks4 : (g.S.TreeSink.sees c.tell_popped.new.sink).quirks ≡ (g.S.TreeSink.sees c.args.sink.now).quirks =
-    ap (λ (s : Seen). s.quirks) (c.tell_popped.ensures.told _ _ (from_element node state w refl r)) ∙ ap (λ (s : Seen). s.quirks) c.in_ok-clone.ensures.done ∙ ap (λ (s : Seen). s.quirks) c.in_ok-move_block.ensures.done ∙ c.in_ok-clones.ensures.quirks in
-    let world4 = world_seen g.S.TreeSink c.args.sink.now c.tell_popped.new.sink state (round_forest choices w r) forest4 quirks4 in
-    let own : node c.in_ok-clone.clone ≡ own_clone choices w r = c.in_ok-clone.ensures.handle ∙ ap choices.fresh forest2 in
-    let rel = may_relist g.S.TreeSink c.args.sink.now state r c.tell_popped.new.sink (map node c.in_ok-clones.clones.made.items) (node c.in_ok-clone.clone) world4 made own in
-    (c.relist.ensures c.requires.round.element c.requires.round.furthest.between rel).sound
-
 pub restack-requires-clause-sound : goal.restack-requires-clause-sound
 unfolding world
 restack-requires-clause-sound g c =
@@ -192,7 +167,7 @@ restack-requires-clause-stands g c =
     let k = c.requires.round.furthest in
     let mid = world_of g.S.TreeSink c.tell_popped.new.sink state in
     let after = world_relisted g.S.TreeSink c.args.sink.now state r mid (world_of g.S.TreeSink c.tell_popped.new.sink c.relist.new.state) (map node c.in_ok-clones.clones.made.items) (node c.in_ok-clone.clone) world4 made own
-    (c.in_ok-relist.ensures f k.between rel).world in
+    (c.relist.ensures f k.between rel).world in
     let handles : reverse (map node c.in_ok-handles.handles.items) ≡ k.newer ++ node c.in_ok-clone.clone ∷ k.block ∷ map node c.in_ok-clones.clones.made.items =
     c.in_ok-handles.ensures k.newer k.block (k.between ++ f.node ∷ older_than f.node w.stack) (round_split node state w refl r) (under_length node state w refl r) in
     let stack = new_stack g.S.TreeSink c.args.sink.now state r c.relist.new.state (reverse (map node c.in_ok-handles.handles.items)) (map node c.in_ok-clones.clones.made.items) (node c.in_ok-clone.clone) (ap (λ (v : World). v.stack) after) made own handles in
@@ -230,7 +205,7 @@ returns-clause-done g c =
     let rel = may_relist g.S.TreeSink c.args.sink.now state r c.tell_popped.new.sink (map node c.in_ok-clones.clones.made.items) (node c.in_ok-clone.clone) world4 made own in
     let mid = world_of g.S.TreeSink c.tell_popped.new.sink state in
     let after = world_relisted g.S.TreeSink c.args.sink.now state r mid (world_of g.S.TreeSink c.tell_popped.new.sink c.relist.new.state) (map node c.in_ok-clones.clones.made.items) (node c.in_ok-clone.clone) world4 made own
-    (c.in_ok-relist.ensures f k.between rel).world in
+    (c.relist.ensures f k.between rel).world in
     let handles : reverse (map node c.in_ok-handles.handles.items) ≡ k.newer ++ node c.in_ok-clone.clone ∷ k.block ∷ map node c.in_ok-clones.clones.made.items =
     c.in_ok-handles.ensures k.newer k.block (k.between ++ f.node ∷ older_than f.node w.stack) (round_split node state w refl r) (under_length node state w refl r) in
     let stack = new_stack g.S.TreeSink c.args.sink.now state r c.relist.new.state (reverse (map node c.in_ok-handles.handles.items)) (map node c.in_ok-clones.clones.made.items) (node c.in_ok-clone.clone) (ap (λ (v : World). v.stack) after) made own handles in

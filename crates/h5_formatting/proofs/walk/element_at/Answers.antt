@@ -1,7 +1,8 @@
 use Rattle.std.proofs.Common.{◌≡◌, ap, ◌∙◌}
 use Rattle.h5_token.specs.TokenText.{tag_text}
 use Rattle.h5_rules.specs.formatting.FormattingList.{ElementEntry, MarkerEntry}
-use Rattle.h5_state.specs.View.{entry_of, world}
+use Rattle.h5_state.specs.View.{world}
+use Rattle.h5_list.specs.Listed.{entry_of}
 use Rattle.h5_formatting.proofs.CloneLaws.{entry_here}
 use Rattle.h5_formatting.proofs.walk.element_at.Goals as goal
 

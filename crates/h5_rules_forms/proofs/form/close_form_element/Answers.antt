@@ -2,13 +2,15 @@ use Rattle.std.proofs.Common.{◌≡◌, ap, false, refl, subst, sym, true, ◌�
 use Rattle.h5_token.specs.TokenText.{tag_text}
 use Rattle.h5_types.specs.TurnText.{TagTurn}
 use Rattle.h5_types.specs.declared.turns.ProcessResult.TheVariants.{Done}
+use Rattle.h5_interface.specs.Forest.{IsElement}
 use Rattle.h5_rules.specs.formatting.AdoptionAgency.{remove_from_stack}
 use Rattle.h5_rules.specs.stack.Closing.{generate_implied_end}
 use Rattle.h5_rules.specs.modes.InBody.{form_in_scope}
 use Rattle.h5_rules.specs.Rows.{Follows}
 use Rattle.h5_rules.specs.World.{World, names_of, root}
 use Rattle.h5_state.specs.Steps.{errors_of, world_of}
-use Rattle.h5_rules_forms.proofs.EndLaws.{closes_scoped, closes_unscoped, form_not_root}
+use Rattle.h5_state.specs.View.{world}
+use Rattle.h5_rules_forms.proofs.EndLaws.{closes_scoped, closes_unscoped, form_not_root, form_stays_element}
 use Rattle.h5_rules_forms.proofs.form.close_form_element.Goals as goal
 
 pub returns-then-not-is_node_in_scope : goal.returns-then-not-is_node_in_scope
@@ -29,6 +31,16 @@ returns-then-not-is_node_in_scope g c =
           });
       sound = c.tell_error-then-not-is_node_in_scope.ensures.told.sound c.take_form.ensures.made.sound;
     }
+
+pub remove_from_stack-requires-clause-element : goal.remove_from_stack-requires-clause-element
+unfolding world
+remove_from_stack-requires-clause-element g c =
+    let law = g.S.TreeSink in
+    let w = world_of law c.args.sink.now c.args.state.now in
+    let form = law.node c.in-Some.form in
+    subst (λ (x : World). IsElement x.forest form)
+    (sym (c.expect_to_close.ensures.told.world ∙ c.generate_implied_end.ensures.made.world ∙ ap (generate_implied_end law.choices) c.take_form.ensures.made.world))
+    (form_stays_element law.choices w form c.requires.sound.sound (sym c.in-Some.ensures.form))
 
 pub remove_from_stack-requires-clause-root : goal.remove_from_stack-requires-clause-root
 unfolding names_of

@@ -6,10 +6,11 @@ use Rattle.h5_rules.specs.modes.InHead.{in_head_start_tag}
 use Rattle.h5_rules.specs.Rows.{Follows}
 use Rattle.h5_rules.specs.Sound.{Sound}
 use Rattle.h5_rules.specs.World.{World, root}
-use Rattle.h5_rules.proofs.modes.AfterHeadLaws.{head_stays_above}
+use Rattle.h5_rules.proofs.modes.AfterHeadLaws.{head_stays_above, head_stays_known}
 use Rattle.h5_rules.proofs.modes.PushHeadLaws.{only_root, sound_push_head}
 use Rattle.h5_state.specs.Steps.{errors_of, world_of}
-use Rattle.h5_rules_head.proofs.HeadLaws.{apart_if_known, followed}
+use Rattle.h5_state.specs.View.{world}
+use Rattle.h5_rules_head.proofs.HeadLaws.{apart_if_known, element_if_known, followed}
 use Rattle.h5_rules_head.proofs.after_head.with_head.Goals as goal
 
 pub push_head-requires-clause-ready : goal.push_head-requires-clause-ready
@@ -29,6 +30,20 @@ leave_head-requires-clause-root g c =
     let f = subst (λ y. Follows law.choices law.node (in_head_start_tag tag y) (TagTurn tag) y u (errors_of law c.unexpected_tag.new.sink) (errors_of law c.in_head_start_tag.new.sink) c.in_ok-result.result) pushed c.in_ok-result.ensures.follows in
     apart_if_known law.node c.known_head-head.result w u known
     (λ h e. subst (λ (v : World). h ≡ root v → ⊥) (sym f.world) (head_stays_above law.choices tag w c.requires.sound.sound c.requires.fits c.requires.name h e))
+
+pub leave_head-requires-clause-element : goal.leave_head-requires-clause-element
+unfolding world
+leave_head-requires-clause-element g c =
+    let law = g.S.TreeSink in
+    let tag = tag_text c.args.tag in
+    let w = world_of law c.args.sink.now c.args.state.now in
+    let x = world_of law c.unexpected_tag.new.sink c.push_head.new.state in
+    let u = world_of law c.in_head_start_tag.new.sink c.in_head_start_tag.new.state in
+    let known = c.known_head-head.ensures ∙ ap (λ (v : World). v.head) c.unexpected_tag.ensures.told.world in
+    let pushed : x ≡ push_head w = c.in_ok-push_head.ensures.world ∙ ap push_head c.unexpected_tag.ensures.told.world in
+    let f = subst (λ y. Follows law.choices law.node (in_head_start_tag tag y) (TagTurn tag) y u (errors_of law c.unexpected_tag.new.sink) (errors_of law c.in_head_start_tag.new.sink) c.in_ok-result.result) pushed c.in_ok-result.ensures.follows in
+    element_if_known law.node c.known_head-head.result u c.in_head_start_tag.ensures.sound.sound
+    (known ∙ sym (ap (λ (v : World). v.head) f.world ∙ head_stays_known law.choices tag w c.requires.sound.sound c.requires.fits c.requires.name))
 
 pub returns : goal.returns
 returns g c =

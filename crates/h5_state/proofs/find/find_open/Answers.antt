@@ -1,18 +1,21 @@
-use Rattle.std.proofs.Common.{ap, arith, length, sym, ◌+◌, ◌-◌, ◌∙◌, ◌≡◌, ◌∷◌}
-use Rattle.h5_rules.proofs.entries.PairLaws.{is_in_telling, is_in_true}
-use Rattle.h5_state.specs.View.{stack_under}
-use Rattle.h5_state.proofs.FoundLaws.{found_first}
+use Rattle.std.proofs.Common.{ap, sym, ◌∙◌}
+use Rattle.h5_rules.specs.World.{names_of}
+use Rattle.h5_state.specs.Numbers.{name_number}
+use Rattle.h5_state.specs.View.{world}
+use Rattle.h5_state.proofs.ChainLaws.{none_open}
+use Rattle.h5_state.proofs.StackLaws.{named}
 use Rattle.h5_state.proofs.find.find_open.Goals as goal
 
-pub returns-then-same_node-clause-place : goal.returns-then-same_node-clause-place
-returns-then-same_node-clause-place g c =
+pub find_numbered-requires-clause-number : goal.find_numbered-requires-clause-number
+find_numbered-requires-clause-number g c =
+    let f = (g.S.TreeSink.sees c.args.sink.now).forest in
+    ap (name_number c.args.state.now.open_elems.numbers) (named f (g.S.TreeSink.node c.args.handle.now) c.elem_name.result.now c.elem_name.ensures) ∙ sym c.find.ensures ∙ c.in-Some.is
+
+pub returns-in-None-clause-found : goal.returns-in-None-clause-found
+unfolding world names_of
+returns-in-None-clause-found g c =
     let node = g.S.TreeSink.node in
-    let n = node c.args.handle.now in
-    let here : c.down.place ≡ c.down.place - 1 + 1 = omega (arith, c.down-test.true) in
-    let left : stack_under node c.args.state.now c.down.place ≡ node c.handle_at.result.now ∷ stack_under node c.args.state.now (c.down.place - 1) =
-    ap (stack_under node c.args.state.now) here ∙ c.handle_at.ensures.stack in
-    let found = found_first n _ _ _ left (sym c.same_node.ensures ∙ c.if-same_node.true) in
-    record {
-      is_open = is_in_true n _ (sym c.down.invariant.left ∙ is_in_telling n _ found.0);
-      here = sym c.handle_at.ensures.count ∙ ap length (sym found.1 ∙ c.down.invariant.older);
-    }
+    let f = (g.S.TreeSink.sees c.args.sink.now).forest in
+    let numbers = c.args.state.now.open_elems.numbers in
+    let none = ap (name_number numbers) (named f (node c.args.handle.now) c.elem_name.result.now c.elem_name.ensures) ∙ sym c.find.ensures ∙ c.in-None.is in
+    sym (none_open node f c.args.state.now.open_elems c.requires.sound.kept (node c.args.handle.now) none)

@@ -1,53 +1,14 @@
-use Rattle.std.proofs.Common.{◌-◌, List, ap, is_some, length, reverse, subst, sym, ◌∙◌, arith}
+use Rattle.std.proofs.Common.{◌≡◌, List, is_some, subst}
+use Rattle.std.specs.Prelude.{MatchOption}
 use Rattle.h5_types.specs.declared.entry.FormatEntry.{FormatEntry}
 use Rattle.h5_rules.specs.formatting.Adoption.{newest_named}
-use Rattle.h5_stack.specs.Numbered.{newest_of, numbers}
 use Rattle.h5_list.specs.Listed.{IsNewestNamedAt, entries_of}
-use Rattle.h5_list.proofs.NumberedLaws.{as_many}
-use Rattle.h5_list.proofs.WalkLaws.{walk_begins, walk_ends, walk_finds, walk_goes_on}
 use Rattle.h5_list.proofs.formatting_list.FormattingList.find_newest_named.Goals as goal
-
-pub down-init : goal.down-init
-down-init g c =
-    let stack = c.self.inside.numbers in
-    let items = c.self.inside.entries.items in
-    let many = as_many stack items c.self.invariant in
-    walk_begins stack items c.self.invariant c.args.name.now c.newest-end.result c.newest-next.result c.newest-end.ensures.newest (omega (arith, c.newest-end.ensures.within, many))
-    (c.newest-next.ensures.newest ∙ ap (λ n. newest_of n (reverse (numbers stack))) c.name_number.ensures) (omega (arith, c.newest-next.ensures.within, many))
-
-pub overflow_sub-place : goal.overflow_sub-place
-overflow_sub-place g c = omega (arith, c.down-test.true)
-
-pub index-requires : goal.index-requires
-index-requires g c = omega (arith, c.down-test.true, c.down.invariant.within, c.self.inside.entries.ok.0)
-
-pub returns-then-is_named-clause-place : goal.returns-then-is_named-clause-place
-returns-then-is_named-clause-place g c = λ node.
-    subst (λ (xs : List (FormatEntry _)). IsNewestNamedAt c.args.name.now (c.down.next - 1) (entries_of node xs)) c.self.view_is
-    (walk_finds c.self.inside.numbers c.self.inside.entries.items c.self.invariant c.args.name.now c.newest-end.result c.down.next (c.down.next - 1) c.index.result.now c.down.invariant c.down-test.true
-    (omega (arith, c.down-test.true)) c.index.ensures (sym c.is_named.ensures ∙ c.if-is_named.true) node)
-
-pub returns-then-is_named-clause-found : goal.returns-then-is_named-clause-found
-returns-then-is_named-clause-found g c = λ node.
-    let at = walk_finds c.self.inside.numbers c.self.inside.entries.items c.self.invariant c.args.name.now c.newest-end.result c.down.next (c.down.next - 1) c.index.result.now c.down.invariant c.down-test.true
-    (omega (arith, c.down-test.true)) c.index.ensures (sym c.is_named.ensures ∙ c.if-is_named.true) node in
-    sym (ap (λ (xs : List (FormatEntry _)). is_some (newest_named c.args.name.now (entries_of node xs))) (sym c.self.view_is) ∙ ap is_some at.newest)
-
-pub returns-then-is_named-clause-inside : goal.returns-then-is_named-clause-inside
-returns-then-is_named-clause-inside g c = omega (arith, c.down-test.true, c.down.invariant.within, ap (λ (xs : List (FormatEntry _)). length xs) c.self.view_is)
-
-pub older-next-requires : goal.older-next-requires
-older-next-requires g c = omega (arith, c.down-test.true, c.down.invariant.within, as_many c.self.inside.numbers c.self.inside.entries.items c.self.invariant)
-
-pub down-smaller : goal.down-smaller
-down-smaller g c = omega (arith, c.down-test.true, c.older-next.ensures.within)
-
-pub down-preserved : goal.down-preserved
-down-preserved g c =
-    walk_goes_on c.self.inside.numbers c.self.inside.entries.items c.self.invariant c.args.name.now c.newest-end.result c.down.next c.older-next.result c.index.result.now c.down.invariant c.down-test.true
-    c.older-next.ensures.older c.older-next.ensures.within c.index.ensures (sym c.is_named.ensures ∙ c.if-is_named.false)
 
 pub returns-clause-found : goal.returns-clause-found
 returns-clause-found g c = λ node.
-    sym (ap (λ (xs : List (FormatEntry _)). is_some (newest_named c.args.name.now (entries_of node xs))) (sym c.self.view_is)
-    ∙ ap is_some (walk_ends c.self.inside.numbers c.self.inside.entries.items c.self.invariant c.args.name.now c.newest-end.result c.down.next c.down.invariant c.down-test.false node))
+    subst (λ (xs : List (FormatEntry _)). is_some c.find_newest_named.result ≡ is_some (newest_named c.args.name.now (entries_of node xs))) c.self.view_is (c.find_newest_named.ensures.found node)
+
+pub returns-clause-place : goal.returns-clause-place
+returns-clause-place g c = λ node.
+    subst (λ (xs : List (FormatEntry _)). MatchOption c.find_newest_named.result (Unit {0}) (λ place. IsNewestNamedAt c.args.name.now place (entries_of node xs))) c.self.view_is (c.find_newest_named.ensures.place node)

@@ -1,11 +1,12 @@
-use Rattle.std.proofs.Common.{refl}
-use Rattle.h5_tag_sets.specs.TagSets.{html_namespace, is_body_end_ok, is_button_scope, is_html_named}
+use Rattle.std.proofs.Common.{refl, ◌∙◌, ◌≡◌, ◌||◌}
+use Rattle.h5_tag_sets.specs.TagSets.{html_namespace, is_button_scope, is_html_named}
 use Rattle.h5_state.proofs.SummaryLaws.{one_more}
 use Rattle.h5_state.proofs.open_element.AllOpen.with_newest.Goals as goal
 
 pub returns : goal.returns
-unfolding is_html_named is_body_end_ok is_button_scope html_namespace
+unfolding is_html_named html_namespace
 returns c = λ older e h.
+    let button : (c.has-ends_scope.result || c.has.result) ≡ is_button_scope c.args.name.now = rw (c.has-ends_scope.ensures, c.has.ensures) c.sets_of-sets.ensures.button in
     rw (
       c.still_in_scope.ensures,
       c.still_in_scope-2.ensures,
@@ -14,15 +15,15 @@ returns c = λ older e h.
       c.newest-2.ensures,
       c.newest-3.ensures,
       c.oldest.ensures,
-      c.special_tag.ensures,
       c.ends_item_search.ensures,
+      button,
+      c.has-special.ensures ∙ c.sets_of-sets.ensures.special,
+      c.has-ends_scope.ensures ∙ c.sets_of-sets.ensures.scope,
+      c.has-2.ensures ∙ c.sets_of-sets.ensures.body_end,
       c.is.ensures,
       c.is-2.ensures,
       c.is-3.ensures,
       c.is-4.ensures,
-      c.default_scope-ends_scope.ensures,
-      c.holds.ensures,
-      c.holds-2.ensures,
       c.is_html-html.ensures,
       e,
       h,

@@ -11,11 +11,11 @@ unfolding world
 returns-clause-entries g c =
     let node = g.Sink.TreeSink.node in
     subst (λ h. map (given_entry node) (still_given c.as_slice.result.now) ≡ after_marker (building g.Sink.TreeSink.sees node h).view.world.formatting) c.self.view_is
-    (ap (λ e. map (given_entry node) (still_given e)) c.as_slice.ensures.value ∙ given_entries node c.self.inside.state.active_formatting.items)
+    (ap (λ e. map (given_entry node) (still_given e)) c.as_slice.ensures ∙ given_entries node c.self.inside.state.active_formatting)
 
 pub returns-clause-places : goal.returns-clause-places
 unfolding world
 returns-clause-places g c =
     let node = g.Sink.TreeSink.node in
     subst (λ h. let l = (building g.Sink.TreeSink.sees node h).view.world.formatting in map given_place (still_given c.as_slice.result.now) ≡ falling (length l) (after_marker l)) c.self.view_is
-    (ap (λ e. map given_place (still_given e)) c.as_slice.ensures.value ∙ given_places node c.self.inside.state.active_formatting.items)
+    (ap (λ e. map given_place (still_given e)) c.as_slice.ensures ∙ given_places node c.self.inside.state.active_formatting)
