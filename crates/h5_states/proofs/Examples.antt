@@ -1,0 +1,331 @@
+-- Texts, and what is handed on of them, by computing.
+use Rattle.std.proofs.Common.{◌≡◌, ℕ, zero, suc, ◌+◌, ◌*◌, Bool, true, false, List, [], ◌∷◌, ◌++◌, refl, length, if◌then◌else◌, codes}
+use Rattle.std.specs.Prelude.{Some, None}
+use Rattle.h5_names.specs.AttributeText.{AttributeText}
+use Rattle.h5_token.specs.TokenText.{TokenText, DoctypeIs, TagIs, CommentIs, Characters, NullCharacter, EndOfFile}
+use Rattle.h5_token.specs.Joins.{join}
+use Rattle.h5_token.specs.Reply.{Continues}
+use Rattle.h5_token.specs.declared.tag.TagKind.TheVariants.{StartTag, EndTag}
+use Rattle.h5_markup.specs.Attributes.{attribute_named}
+use Rattle.h5_states.specs.declared.errors.ParseError.{ParseError}
+use Rattle.h5_states.specs.declared.errors.ParseError.TheVariants as error
+use Rattle.h5_states.specs.declared.kinds.TextKind.TheVariants.{Data, Rcdata, Rawtext, ScriptData, Plaintext, CdataSection}
+use Rattle.h5_states.specs.ReferenceTable.{references}
+use Rattle.h5_states.specs.States.{State, Text}
+use Rattle.h5_states.specs.Lines.{normal}
+use Rattle.h5_states.specs.Turn.{Deed, Goes, Again, Hands, Asks}
+use Rattle.h5_states.specs.Machine.{turn}
+use Rattle.h5_states.specs.AtEnd.{at_end}
+use Rattle.h5_states.specs.Reading.{Place, is_dropped}
+use Rattle.h5_states.specs.End.{last_tokens}
+use Rattle.h5_states.proofs.ByRows.{Move, move}
+
+-- what is done at a byte over a sink that answers to go on
+abbrev silent : Bool → Place → ℕ → Move (Unit {0})
+silent foreign p x = move (λ m t. Continues) (λ m t line. m) (λ m. foreign) references p (tt {0}) x
+
+-- what is handed on over it; so many rows at most
+abbrev tokens_up_to : ℕ → Bool → Place → List ℕ → List TokenText
+tokens_up_to zero foreign p xs = []
+tokens_up_to (suc n) foreign p [] = last_tokens references p ++ EndOfFile ∷ []
+tokens_up_to (suc n) foreign p (x ∷ xs) =
+    let moved = silent foreign p x in
+    moved.tokens ++ tokens_up_to n foreign moved.place (if moved.is_consumed then xs else x ∷ xs)
+
+-- from a state on, behind a start tag of this name: each byte meets three rows at most
+abbrev tokens_from : Bool → State → List ℕ → List ℕ → List TokenText
+tokens_from foreign state last xs =
+    join (tokens_up_to (3 * length xs + 1) foreign (record { state = state; last = last; after_return = false; line = 1; began = 1 }) xs)
+
+-- the errors of all rows, in order
+abbrev asked : Bool → Deed → List ParseError
+asked true deed = []
+asked false (Goes text state) = []
+asked false (Again text state) = []
+asked false (Hands token state) = []
+asked false (Asks there error elsewhere) = error ∷ []
+
+abbrev errors_at : Bool → Place → ℕ → List ParseError
+errors_at foreign p x =
+    let row = turn references p.last p.state (normal x) in
+    if is_dropped p x then [] else row.errors ++ asked foreign row.deed
+
+abbrev errors_up_to : ℕ → Place → List ℕ → List ParseError
+errors_up_to zero p xs = []
+errors_up_to (suc n) p [] = (at_end references p.state).errors
+errors_up_to (suc n) p (x ∷ xs) =
+    let moved = silent false p x in
+    errors_at false p x ++ errors_up_to n moved.place (if moved.is_consumed then xs else x ∷ xs)
+
+abbrev errors_from : State → List ℕ → List ParseError
+errors_from state xs = errors_up_to (3 * length xs + 1) (record { state = state; last = []; after_return = false; line = 1; began = 1 }) xs
+
+abbrev start : List ℕ → Bool → List AttributeText → Bool → TokenText
+start name self_closing attrs duplicates = TagIs (record {
+  kind = StartTag;
+  name = name;
+  self_closing = self_closing;
+  attrs = attrs;
+  had_duplicate_attributes = duplicates;
+})
+
+abbrev end : List ℕ → Bool → List AttributeText → Bool → TokenText
+end name self_closing attrs duplicates = TagIs (record {
+  kind = EndTag;
+  name = name;
+  self_closing = self_closing;
+  attrs = attrs;
+  had_duplicate_attributes = duplicates;
+})
+
+-- tags, texts between them, names in lower case
+tags : tokens_from false (Text Data) [] (codes "<P>a</p >b")
+    ≡ start (codes "p") false [] false ∷ Characters (codes "a") ∷ end (codes "p") false [] false ∷ Characters (codes "b") ∷ EndOfFile ∷ []
+unfolding references lib.Utf8.encode
+tags = refl
+
+-- attributes in each form; a name that stands there already
+attributes : tokens_from false (Text Data) [] (codes "<A B=C d='e' f=" ++ (34 ∷ []) ++ codes "g" ++ (34 ∷ []) ++ codes " h b>")
+    ≡ start (codes "a") false (attribute_named (codes "b") (codes "C") ∷ attribute_named (codes "d") (codes "e") ∷ attribute_named (codes "f") (codes "g") ∷ attribute_named (codes "h") [] ∷ []) true
+    ∷ EndOfFile ∷ []
+unfolding references lib.Utf8.encode
+attributes = refl
+
+-- signs that are errors in attributes, and a '/' between them
+odd_attributes : tokens_from false (Text Data) [] (codes "<a =b / c<d=>")
+    ≡ start (codes "a") false (attribute_named (codes "=b") [] ∷ attribute_named (codes "c<d") [] ∷ []) false ∷ EndOfFile ∷ []
+unfolding references lib.Utf8.encode
+odd_attributes = refl
+
+-- a value without quotes
+unquoted : tokens_from false (Text Data) [] (codes "<a b=c/d'e&amp;f>")
+    ≡ start (codes "a") false (attribute_named (codes "b") (codes "c/d'e&f") ∷ []) false ∷ EndOfFile ∷ []
+unfolding references lib.Utf8.encode
+unquoted = refl
+
+-- the flag of a tag; an end tag keeps its attributes and the flag
+self_closing : tokens_from false (Text Data) [] (codes "<br/></a b='c'/>")
+    ≡ start (codes "br") true [] false ∷ end (codes "a") true (attribute_named (codes "b") (codes "c") ∷ []) false ∷ EndOfFile ∷ []
+unfolding references lib.Utf8.encode
+self_closing = refl
+
+-- references in values: a name without a semicolon may be text
+values_with_references : tokens_from false (Text Data) [] (codes "<a b=" ++ (34 ∷ []) ++ codes "&notit;&not;&not=&not" ++ (34 ∷ []) ++ codes " c='&lt'>")
+    ≡ start (codes "a") false (attribute_named (codes "b") (codes "&notit;" ++ (194 ∷ 172 ∷ []) ++ codes "&not=" ++ (194 ∷ 172 ∷ [])) ∷ attribute_named (codes "c") (codes "<") ∷ []) false
+    ∷ EndOfFile ∷ []
+unfolding references lib.Utf8.encode
+values_with_references = refl
+
+-- what begins as a tag and is none
+no_tags : tokens_from false (Text Data) [] (codes "<3 </ ></><?php><!x>")
+    ≡ Characters (codes "<3 ") ∷ CommentIs (codes " ") ∷ CommentIs (codes "?php") ∷ CommentIs (codes "x") ∷ EndOfFile ∷ []
+unfolding references lib.Utf8.encode
+no_tags = refl
+
+-- a tag that the end cuts off is dropped
+unfinished_tag : tokens_from false (Text Data) [] (codes "a<b c=" ++ (34 ∷ []) ++ codes "d")
+    ≡ Characters (codes "a") ∷ EndOfFile ∷ []
+unfolding references lib.Utf8.encode
+unfinished_tag = refl
+
+-- so are no openings
+unfinished_openings : tokens_from false (Text Data) [] (codes "</b></")
+    ≡ end (codes "b") false [] false ∷ Characters (codes "</") ∷ EndOfFile ∷ []
+unfolding references lib.Utf8.encode
+unfinished_openings = refl
+
+-- comments and their ends
+comments : tokens_from false (Text Data) [] (codes "<!----><!--a--b---><!--><!--->")
+    ≡ CommentIs [] ∷ CommentIs (codes "a--b-") ∷ CommentIs [] ∷ CommentIs [] ∷ EndOfFile ∷ []
+unfolding references lib.Utf8.encode
+comments = refl
+
+-- comments that end in a '!'
+comment_end_bang : tokens_from false (Text Data) [] (codes "<!--a--!b--!-c--!>")
+    ≡ CommentIs (codes "a--!b--!-c") ∷ EndOfFile ∷ []
+unfolding references lib.Utf8.encode
+comment_end_bang = refl
+
+-- comments that look nested
+nested_comments : tokens_from false (Text Data) [] (codes "<!--<!--a<!-b<<!->-->")
+    ≡ CommentIs (codes "<!--a<!-b<<!->") ∷ EndOfFile ∷ []
+unfolding references lib.Utf8.encode
+nested_comments = refl
+
+-- a comment that the end cuts off, with a NUL
+unfinished_comment : tokens_from false (Text Data) [] (codes "<!--a" ++ (0 ∷ []) ++ codes "-")
+    ≡ CommentIs (codes "a" ++ (239 ∷ 191 ∷ 189 ∷ [])) ∷ EndOfFile ∷ []
+unfolding references lib.Utf8.encode
+unfinished_comment = refl
+
+-- doctypes, and both identifiers
+doctypes : tokens_from false (Text Data) [] (codes "<!DOCTYPE html><!doctype HtMl PUBLIC " ++ (34 ∷ []) ++ codes "p" ++ (34 ∷ []) ++ codes " 's'>")
+    ≡ DoctypeIs (record { name = Some (codes "html"); public_id = None; system_id = None; force_quirks = false })
+    ∷ DoctypeIs (record { name = Some (codes "html"); public_id = Some (codes "p"); system_id = Some (codes "s"); force_quirks = false }) ∷ EndOfFile ∷ []
+unfolding references lib.Utf8.encode
+doctypes = refl
+
+-- doctypes that force quirks
+quirky_doctypes : tokens_from false (Text Data) [] (codes "<!DOCTYPE><!DOCTYPEa b><!DOCTYPE c SYSTEM>")
+    ≡ DoctypeIs (record { name = None; public_id = None; system_id = None; force_quirks = true })
+    ∷ DoctypeIs (record { name = Some (codes "a"); public_id = None; system_id = None; force_quirks = true })
+    ∷ DoctypeIs (record { name = Some (codes "c"); public_id = None; system_id = None; force_quirks = true }) ∷ EndOfFile ∷ []
+unfolding references lib.Utf8.encode
+quirky_doctypes = refl
+
+-- identifiers without blanks between them, something behind them, and one that '>' cuts off
+odd_identifiers : tokens_from false (Text Data) [] (codes "<!DOCTYPE a PUBLIC'b''c'x><!DOCTYPE d SYSTEM 'e>")
+    ≡ DoctypeIs (record { name = Some (codes "a"); public_id = Some (codes "b"); system_id = Some (codes "c"); force_quirks = false })
+    ∷ DoctypeIs (record { name = Some (codes "d"); public_id = None; system_id = Some (codes "e"); force_quirks = true }) ∷ EndOfFile ∷ []
+unfolding references lib.Utf8.encode
+odd_identifiers = refl
+
+-- a doctype that the end cuts off in a keyword
+unfinished_doctype : tokens_from false (Text Data) [] (codes "<!DOCTYPE a PUB")
+    ≡ DoctypeIs (record { name = Some (codes "a"); public_id = None; system_id = None; force_quirks = true }) ∷ EndOfFile ∷ []
+unfolding references lib.Utf8.encode
+unfinished_doctype = refl
+
+-- openings that are none, or not here
+markup_declarations : tokens_from false (Text Data) [] (codes "<!DOC><![CDATA[x]]><!-")
+    ≡ CommentIs (codes "DOC") ∷ CommentIs (codes "[CDATA[x]]") ∷ CommentIs (codes "-") ∷ EndOfFile ∷ []
+unfolding references lib.Utf8.encode
+markup_declarations = refl
+
+-- a CDATA section where the adjusted current node isn't in the HTML namespace
+cdata : tokens_from true (Text Data) [] (codes "<![CDATA[a]b]]c]]]><p>")
+    ≡ Characters (codes "a]b]]c]") ∷ start (codes "p") false [] false ∷ EndOfFile ∷ []
+unfolding references lib.Utf8.encode
+cdata = refl
+
+-- its end, and a NUL in it
+unfinished_cdata : tokens_from false (Text CdataSection) [] (codes "a" ++ (0 ∷ []) ++ codes "]")
+    ≡ Characters (codes "a") ∷ NullCharacter ∷ Characters (codes "]") ∷ EndOfFile ∷ []
+unfolding references lib.Utf8.encode
+unfinished_cdata = refl
+
+-- names, the longest, one of two characters, and what is none
+named_references : tokens_from false (Text Data) [] (codes "&amp;&ampx&notit;&notin;&ngE;&x;&;&")
+    ≡ Characters (codes "&&x" ++ (194 ∷ 172 ∷ []) ++ codes "it;" ++ (226 ∷ 136 ∷ 137 ∷ 226 ∷ 137 ∷ 167 ∷ 204 ∷ 184 ∷ []) ++ codes "&x;&;&") ∷ EndOfFile ∷ []
+unfolding references lib.Utf8.encode
+named_references = refl
+
+-- numbers, those that are replaced, and what is none
+numbers : tokens_from false (Text Data) [] (codes "&#65;&#x42;&#X43 &#128;&#0;&#xD800;&#x110000;&#;&#x;&#13;&#xFDD0;")
+    ≡ Characters (codes "ABC " ++ (226 ∷ 130 ∷ 172 ∷ 239 ∷ 191 ∷ 189 ∷ 239 ∷ 191 ∷ 189 ∷ 239 ∷ 191 ∷ 189 ∷ []) ++ codes "&#;&#x;" ++ (13 ∷ 239 ∷ 183 ∷ 144 ∷ []))
+    ∷ EndOfFile ∷ []
+unfolding references lib.Utf8.encode
+numbers = refl
+
+-- a number past the end of Unicode, which the end cuts off
+unfinished_number : tokens_from false (Text Data) [] (codes "&#99999999999999999999")
+    ≡ Characters (239 ∷ 191 ∷ 189 ∷ []) ∷ EndOfFile ∷ []
+unfolding references lib.Utf8.encode
+unfinished_number = refl
+
+-- RCDATA up to the end tag of its element
+rcdata : tokens_from false (Text Rcdata) (codes "title") (codes "a&lt;<b></titl></TITLE >x")
+    ≡ Characters (codes "a<<b></titl>") ∷ end (codes "title") false [] false ∷ Characters (codes "x") ∷ EndOfFile ∷ []
+unfolding references lib.Utf8.encode
+rcdata = refl
+
+-- RAWTEXT, with a NUL; an end tag that the end cuts off is text
+rawtext : tokens_from false (Text Rawtext) (codes "style") (codes "&amp;" ++ (0 ∷ []) ++ codes "</style")
+    ≡ Characters (codes "&amp;" ++ (239 ∷ 191 ∷ 189 ∷ []) ++ codes "</style") ∷ EndOfFile ∷ []
+unfolding references lib.Utf8.encode
+rawtext = refl
+
+-- a script in what looks like a comment in a script
+script_data : tokens_from false (Text ScriptData) (codes "script") (codes "a<!--<script></script>--></script>")
+    ≡ Characters (codes "a<!--<script></script>-->") ∷ end (codes "script") false [] false ∷ EndOfFile ∷ []
+unfolding references lib.Utf8.encode
+script_data = refl
+
+-- an end tag in what looks like a comment
+escaped_script_data : tokens_from false (Text ScriptData) (codes "script") (codes "<!--a-b</script>")
+    ≡ Characters (codes "<!--a-b") ∷ end (codes "script") false [] false ∷ EndOfFile ∷ []
+unfolding references lib.Utf8.encode
+escaped_script_data = refl
+
+-- PLAINTEXT
+plaintext : tokens_from false (Text Plaintext) [] (codes "<a>&amp;" ++ (0 ∷ []))
+    ≡ Characters (codes "<a>&amp;" ++ (239 ∷ 191 ∷ 189 ∷ [])) ∷ EndOfFile ∷ []
+unfolding references lib.Utf8.encode
+plaintext = refl
+
+-- newlines, and a NUL that is a token
+newlines : tokens_from false (Text Data) [] (codes "a" ++ (0 ∷ []) ++ codes "b" ++ (13 ∷ 10 ∷ 13 ∷ []) ++ codes "c" ++ (10 ∷ []))
+    ≡ Characters (codes "a") ∷ NullCharacter ∷ Characters (codes "b" ++ (10 ∷ 10 ∷ []) ++ codes "c" ++ (10 ∷ [])) ∷ EndOfFile ∷ []
+unfolding references lib.Utf8.encode
+newlines = refl
+
+-- letters that aren't ASCII
+letters : tokens_from false (Text Data) [] ((195 ∷ 169 ∷ []) ++ codes "<" ++ (195 ∷ 169 ∷ []) ++ codes "><a" ++ (195 ∷ 137 ∷ []) ++ codes " " ++ (195 ∷ 137 ∷ []) ++ codes "=" ++ (195 ∷ 188 ∷ []) ++ codes ">")
+    ≡ Characters ((195 ∷ 169 ∷ []) ++ codes "<" ++ (195 ∷ 169 ∷ []) ++ codes ">")
+    ∷ start (codes "a" ++ (195 ∷ 137 ∷ [])) false (attribute_named (195 ∷ 137 ∷ []) (195 ∷ 188 ∷ []) ∷ []) false ∷ EndOfFile ∷ []
+unfolding references lib.Utf8.encode
+letters = refl
+
+-- errors of comments
+errors_in_comments : errors_from (Text Data) (codes "<!--><!---><!--<!--x--!><!x><!--")
+    ≡ error.AbruptClosingOfEmptyComment ∷ error.AbruptClosingOfEmptyComment ∷ error.NestedComment ∷ error.IncorrectlyClosedComment
+    ∷ error.IncorrectlyOpenedComment ∷ error.EofInComment ∷ []
+unfolding references lib.Utf8.encode
+errors_in_comments = refl
+
+-- errors of doctypes
+errors_in_doctypes : errors_from (Text Data) (codes "<!DOCTYPEa PUBLIC'b''c'x><!DOCTYPE a SYSTEM'b'><!DOCTYPE><!DOCTYPE a b><!DOCTYPE a")
+    ≡ error.MissingWhitespaceBeforeDoctypeName ∷ error.MissingWhitespaceAfterDoctypePublicKeyword
+    ∷ error.MissingWhitespaceBetweenDoctypePublicAndSystemIdentifiers ∷ error.UnexpectedCharacterAfterDoctypeSystemIdentifier
+    ∷ error.MissingWhitespaceAfterDoctypeSystemKeyword ∷ error.MissingDoctypeName ∷ error.InvalidCharacterSequenceAfterDoctypeName ∷ error.EofInDoctype
+    ∷ []
+unfolding references lib.Utf8.encode
+errors_in_doctypes = refl
+
+-- errors of identifiers
+errors_in_identifiers : errors_from (Text Data) (codes "<!DOCTYPE a PUBLIC><!DOCTYPE a SYSTEM><!DOCTYPE a PUBLIC b><!DOCTYPE a SYSTEM b><!DOCTYPE a PUBLIC 'b><!DOCTYPE a SYSTEM 'b>")
+    ≡ error.MissingDoctypePublicIdentifier ∷ error.MissingDoctypeSystemIdentifier ∷ error.MissingQuoteBeforeDoctypePublicIdentifier
+    ∷ error.MissingQuoteBeforeDoctypeSystemIdentifier ∷ error.AbruptDoctypePublicIdentifier ∷ error.AbruptDoctypeSystemIdentifier ∷ []
+unfolding references lib.Utf8.encode
+errors_in_identifiers = refl
+
+-- errors of tags
+errors_in_tags : errors_from (Text Data) ((0 ∷ []) ++ codes "<?><3</></3></a b/><")
+    ≡ error.UnexpectedNullCharacter ∷ error.UnexpectedQuestionMarkInsteadOfTagName ∷ error.InvalidFirstCharacterOfTagName ∷ error.MissingEndTagName
+    ∷ error.InvalidFirstCharacterOfTagName ∷ error.EndTagWithAttributes ∷ error.EndTagWithTrailingSolidus ∷ error.EofBeforeTagName ∷ []
+unfolding references lib.Utf8.encode
+errors_in_tags = refl
+
+-- errors of attributes
+errors_in_attributes : errors_from (Text Data) (codes "<a =b c c d'=e f='g'h/i j=k' l=><a m m")
+    ≡ error.UnexpectedEqualsSignBeforeAttributeName ∷ error.DuplicateAttribute ∷ error.UnexpectedCharacterInAttributeName
+    ∷ error.MissingWhitespaceBetweenAttributes ∷ error.UnexpectedSolidusInTag ∷ error.UnexpectedCharacterInUnquotedAttributeValue
+    ∷ error.MissingAttributeValue ∷ error.DuplicateAttribute ∷ error.EofInTag ∷ []
+unfolding references lib.Utf8.encode
+errors_in_attributes = refl
+
+-- errors of references, and none where a name in a value is text
+errors_in_references : errors_from (Text Data) (codes "&#;&#0;&#x110000;&#xD800;&#xFFFE;&#1;&x;&amp<a b=&noti")
+    ≡ error.AbsenceOfDigitsInNumericCharacterReference ∷ error.NullCharacterReference ∷ error.CharacterReferenceOutsideUnicodeRange
+    ∷ error.SurrogateCharacterReference ∷ error.NoncharacterCharacterReference ∷ error.ControlCharacterReference ∷ error.UnknownNamedCharacterReference
+    ∷ error.MissingSemicolonAfterCharacterReference ∷ error.EofInTag ∷ []
+unfolding references lib.Utf8.encode
+errors_in_references = refl
+
+-- a CDATA section in HTML
+error_of_cdata : errors_from (Text Data) (codes "<![CDATA[")
+    ≡ error.CdataInHtmlContent ∷ []
+unfolding references lib.Utf8.encode
+error_of_cdata = refl
+
+-- a CDATA section that the end cuts off
+error_in_cdata : errors_from (Text CdataSection) (codes "]")
+    ≡ error.EofInCdata ∷ []
+unfolding references lib.Utf8.encode
+error_in_cdata = refl
+
+-- what looks like a comment in a script that the end cuts off
+error_in_script : errors_from (Text ScriptData) (codes "<!--<")
+    ≡ error.EofInScriptHtmlCommentLikeText ∷ []
+unfolding references lib.Utf8.encode
+error_in_script = refl

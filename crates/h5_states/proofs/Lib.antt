@@ -1,0 +1,12 @@
+pub mod RowLaws
+pub mod RankLaws
+pub mod RawLaws
+pub mod ReadLaws
+pub mod AllLaws
+pub mod ByRows
+pub mod CutLaws
+pub mod LineLaws
+pub mod WholeLaws
+pub mod AheadLaws
+pub mod TableLaws
+mod Examples

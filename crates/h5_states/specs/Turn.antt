@@ -1,0 +1,88 @@
+-- What a state does at a byte: one row of the standard's section 13.2.5, in its words.
+use Rattle.std.specs.Prelude.{ℕ, Bool, List, [], ◌∷◌, if◌then◌else◌, true, false, ◌&&◌, nat_lt, length}
+use Rattle.h5_token.specs.TokenText.{TokenText, DoctypeIs, CommentIs, DoctypeText}
+use Rattle.h5_token.specs.declared.tag.TagKind.{TagKind}
+use Rattle.h5_token.specs.declared.tag.TagKind.TheVariants.{StartTag, EndTag}
+use Rattle.h5_states.specs.declared.errors.ParseError.{ParseError}
+use Rattle.h5_states.specs.declared.errors.ParseError.TheVariants.{EndTagWithAttributes, EndTagWithTrailingSolidus}
+use Rattle.h5_states.specs.declared.kinds.TextKind.TheVariants.{Data, Rcdata}
+use Rattle.h5_states.specs.Construction.{Tag, completed, token_of, value_further}
+use Rattle.h5_states.specs.States.{State, Text, AttributeValue, Return, ToData, ToRcdata, ToValue}
+
+pub data Deed : Type 0 where
+  -- the byte is consumed, this text is emitted, and the state is this
+  Goes : (text : List ℕ) → (state : State) → Deed
+  -- this text is emitted, and the byte is reconsumed in this state
+  Again : (text : List ℕ) → (state : State) → Deed
+  -- the byte is consumed, and this token is emitted; the state is this, unless the tree builder changes it
+  Hands : (token : TokenText) → (state : State) → Deed
+  -- the byte is consumed; the state is the first where the adjusted current node isn't in the HTML namespace, and
+  -- elsewhere this is an error, and the state is the other
+  Asks : (foreign : State) → (error : ParseError) → (other : State) → Deed
+
+-- parse errors, in their order, and then a deed
+pub record Turn : Type 0 where
+  pub errors : List ParseError
+  pub deed : Deed
+
+abbrev pub wrong : ParseError → Turn → Turn
+wrong e t = record t { errors = e ∷ t.errors }
+
+abbrev pub wrong_if : Bool → ParseError → Turn → Turn
+wrong_if b e t = record t { errors = if b then e ∷ t.errors else t.errors }
+
+-- switch to
+abbrev pub to : State → Turn
+to s = record { errors = []; deed = Goes [] s }
+
+-- emit, and switch to
+abbrev pub emit : List ℕ → State → Turn
+emit text s = record { errors = []; deed = Goes text s }
+
+-- reconsume in
+abbrev pub again : State → Turn
+again s = record { errors = []; deed = Again [] s }
+
+-- emit, and reconsume in
+abbrev pub emit_again : List ℕ → State → Turn
+emit_again text s = record { errors = []; deed = Again text s }
+
+-- emit a token, and switch to
+abbrev pub hand : TokenText → State → Turn
+hand t s = record { errors = []; deed = Hands t s }
+
+-- switch to the one or the other, by the adjusted current node
+abbrev pub ask : State → ParseError → State → Turn
+ask foreign error other = record { errors = []; deed = Asks foreign error other }
+
+abbrev pub is_end : TagKind → Bool
+is_end StartTag = false
+is_end EndTag = true
+
+-- an end tag with attributes or a '/' is an error, and is emitted with them
+abbrev pub hand_complete : Tag → Turn
+hand_complete t =
+    wrong_if (is_end t.kind && nat_lt 0 (length t.attrs)) EndTagWithAttributes
+    (wrong_if (is_end t.kind && t.self_closing) EndTagWithTrailingSolidus (hand (token_of t) (Text Data)))
+
+-- emit the current tag token, and switch to the data state
+abbrev pub hand_tag : Tag → Turn
+hand_tag t = hand_complete (completed t)
+
+abbrev pub hand_comment : List ℕ → Turn
+hand_comment text = hand (CommentIs text) (Text Data)
+
+abbrev pub hand_doctype : DoctypeText → Turn
+hand_doctype d = hand (DoctypeIs d) (Text Data)
+
+-- flush code points consumed as a character reference, and switch to the return state
+abbrev pub flush : Return → List ℕ → Turn
+flush ToData text = emit text (Text Data)
+flush ToRcdata text = emit text (Text Rcdata)
+flush (ToValue value tag) text = to (AttributeValue value (value_further text tag))
+
+-- the same, and reconsume in the return state
+abbrev pub flush_again : Return → List ℕ → Turn
+flush_again ToData text = emit_again text (Text Data)
+flush_again ToRcdata text = emit_again text (Text Rcdata)
+flush_again (ToValue value tag) text = again (AttributeValue value (value_further text tag))
