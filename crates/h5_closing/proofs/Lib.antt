@@ -1,3 +1,4 @@
+pub mod EndLaws
 pub mod FramesetLaws
 pub mod ItemLaws
 pub mod LeaveLaws

@@ -6,13 +6,15 @@ ghost use Rattle.h5_rules.specs.insertion.Foreign.{is_named_in_any_case};
 ghost use Rattle.h5_rules.specs.modes.ForeignContent.{search_end};
 ghost use Rattle.h5_rules.specs.Rows.{LeaveForeignContent, PopUntilNamedInAnyCase};
 ghost use Rattle.h5_rules.specs.World.{names_of};
-ghost use Rattle.h5_closing.specs.EndSearches.{IsFoundIn, search_of};
+ghost use Rattle.h5_closing.specs.EndSearches.{IsFoundBy, IsFoundIn, end_by, search_of};
 ghost use Rattle.h5_state.specs.Steps.{IsSound, Makes, world_of};
 
 use h5_insertion::is_current_left;
 use h5_interface::TreeSink;
 use h5_names::{LocalName, QualName};
-use h5_state::{NameTest, State, is_current, name_at, open_count, pop, truncate};
+use h5_state::{
+    NameTest, State, is_current, name_at, newest_foreign, newest_html, open_count, pop, truncate,
+};
 
 // Whether an element has this local name, in any case of ASCII letters.
 #[derive(Clone, Copy)]
@@ -60,9 +62,22 @@ pub enum EndSearch {
     Finds(usize),
 }
 
-/// Looks for the element that an end tag of this name closes: the first of its name, in any case of ASCII letters, unless
-/// one of HTML, or the root, comes before.
-pub fn search_end<S: TreeSink>(sink: &S, state: &State<S::Handle>, local: &LocalName) -> EndSearch
+// By the places of the newest element of the name and of the newest HTML element, each counted with one more.
+fn end_by(here: usize, html: usize) -> EndSearch
+    ensures search { search_of result ≡ end_by here html }
+    ensures place { IsFoundBy here html result }
+{
+    if here <= 1 && html <= 1 {
+        EndSearch::ReachesRoot
+    } else if here <= html {
+        EndSearch::ReachesHtml
+    } else {
+        EndSearch::Finds(here - 1)
+    }
+}
+
+// The same in a walk over the open elements, from the current node on.
+fn walk_to_end<S: TreeSink>(sink: &S, state: &State<S::Handle>, local: &LocalName) -> EndSearch
     requires { IsSound S.TreeSink sink.now state.now }
     ensures search { search_of result ≡ search_end local.now (names_of (world_of S.TreeSink sink.now state.now)) }
     ensures place { IsFoundIn (world_of S.TreeSink sink.now state.now) local.now result }
@@ -79,6 +94,20 @@ pub fn search_end<S: TreeSink>(sink: &S, state: &State<S::Handle>, local: &Local
         }
     }
     EndSearch::ReachesRoot
+}
+
+/// Looks for the element that an end tag of this name closes: the first of its name, in any case of ASCII letters, unless
+/// one of HTML, or the root, comes before.
+pub fn search_end<S: TreeSink>(sink: &S, state: &State<S::Handle>, local: &LocalName) -> EndSearch
+    requires { IsSound S.TreeSink sink.now state.now }
+    ensures search { search_of result ≡ search_end local.now (names_of (world_of S.TreeSink sink.now state.now)) }
+    ensures place { IsFoundIn (world_of S.TreeSink sink.now state.now) local.now result }
+{
+    match newest_foreign(sink, state, local) {
+        Ok(here) => end_by(here, newest_html(sink, state)),
+        // Without memory for the name in lower case.
+        Err(_) => walk_to_end(sink, state, local),
+    }
 }
 
 /// Takes elements off the stack until the first of this local name, in any case of ASCII letters, was taken off, which

@@ -17,8 +17,6 @@ use Rattle.h5_tag_sets.specs.TagSets.{is_html_named}
 use Rattle.h5_rules.specs.stack.Root.{IsRootOpen}
 use Rattle.h5_rules.specs.formatting.FormattingNames.{html_name}
 use Rattle.h5_rules.specs.stack.Order.{last_or}
-use Rattle.h5_rules.proofs.entries.KeptListsLaws.{without_entry_none}
-use Rattle.h5_rules.proofs.entries.PairLaws.{is_in_telling}
 use Rattle.h5_rules.specs.Sound.{Sound}
 use Rattle.h5_rules.specs.World.{name_of_found, names_of, root}
 use Rattle.h5_rules.proofs.adoption.AdoptionAgencyLaws.{LeavesReady, agency_leaves, leaves_refl, round_ready}
@@ -153,10 +151,6 @@ never_root name f w v newest sound kinds open_root e =
     let other : is_html_named (codes "html") (name_in v.forest f.node) ≡ false = ap (is_html_named (codes "html")) same ∙ plain_not_html (name_in w.forest f.node) (newest_is_plain name w newest sound) in
     let absurdity : true ≡ false = sym html ∙ other in
     cc
-
-pub not_listed : (n : ℕ) (w : World) → false ≡ is_in n (nodes_of w.formatting) → w ≡ record w { formatting = without_entry n w.formatting }
-not_listed n w h =
-    ap (λ l. record w { formatting = l }) (sym (without_entry_none n w.formatting (λ i. let e : true ≡ false = sym (is_in_telling n (nodes_of w.formatting) i) ∙ sym h in cc)))
 
 pub never_root_after : (choices : SinkChoices) (name : List ℕ) (f : FormattingElement) (n m : ℕ) (w u v : World) → newest_named name w.formatting ≡ Some f → is_same_text name (codes "html") ≡ false → HasHtmlRoot w
     → u ≡ adoption_agency choices name w → v ≡ record u { formatting = without_entry n u.formatting } → m ≡ f.node → m ≢ root v

@@ -86,12 +86,12 @@ each_walked P (suc k) (m ∷ ms) (y ∷ ys) l new h =
     at true e d = e
     at false e d = d
 
-each_apart : (x : ℕ) (l : List Entry) → ¬ (IsIn x (nodes_of l)) → EachEntry (λ n t. n ≢ x) l
+pub each_apart : (x : ℕ) (l : List Entry) → ¬ (IsIn x (nodes_of l)) → EachEntry (λ n t. n ≢ x) l
 each_apart x [] out = tt
 each_apart x (MarkerEntry ∷ l) out = each_apart x l out
 each_apart x (ElementEntry n t ∷ l) out = (λ e. out (inl (sym e)), each_apart x l (λ i. out (inr i)))
 
-none_apart : (x : ℕ) (l : List Entry) → EachEntry (λ n t. n ≢ x) l → ¬ (IsIn x (nodes_of l))
+pub none_apart : (x : ℕ) (l : List Entry) → EachEntry (λ n t. n ≢ x) l → ¬ (IsIn x (nodes_of l))
 none_apart x [] h i = i
 none_apart x (MarkerEntry ∷ l) h i = none_apart x l h i
 none_apart x (ElementEntry n t ∷ l) h (inl e) = h.0 (sym e)

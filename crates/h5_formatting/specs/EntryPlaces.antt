@@ -1,5 +1,5 @@
 -- The list of active formatting elements as the code has it, by places that are counted from its oldest entry.
-use Rattle.std.specs.Prelude.{ℕ, ◌==◌, if◌then◌else◌, List, [], ◌∷◌, length}
+use Rattle.std.specs.Prelude.{ℕ, ◌==◌, Bool, false, if◌then◌else◌, List, [], ◌∷◌, length}
 use Rattle.h5_interface.specs.SinkChoices.{SinkChoices}
 use Rattle.h5_rules.specs.formatting.FormattingList.{Entry, ElementEntry, MarkerEntry}
 use Rattle.h5_rules.specs.formatting.Formatting.{insert_for}
@@ -9,6 +9,11 @@ use Rattle.h5_rules.specs.World.{World, current}
 abbrev pub entry_at : ℕ → List Entry → Entry
 entry_at place [] = MarkerEntry
 entry_at place (e ∷ l) = if length l == place then e else entry_at place l
+
+-- whether an entry is that of an element
+abbrev pub is_entry_of : ℕ → Entry → Bool
+is_entry_of n MarkerEntry = false
+is_entry_of n (ElementEntry m tag) = n == m
 
 -- an entry for another element
 abbrev pub entry_for : ℕ → Entry → Entry

@@ -1,6 +1,6 @@
 -- Where open elements and entries stand: places of the stack are counted from the root, those of the list from the oldest
 -- entry.
-use Rattle.std.specs.Prelude.{◌≡◌, ℕ, ◌+◌, List, ◌∷◌, ◌++◌, length, Some}
+use Rattle.std.specs.Prelude.{◌≡◌, ◌⊎◌, ℕ, ◌+◌, List, ◌∷◌, ◌++◌, length, Some}
 use Rattle.h5_token.specs.TokenText.{TagText}
 use Rattle.h5_tag_sets.specs.TagSets.{is_special}
 use Rattle.h5_rules.specs.formatting.Adoption.{FurthestBlock, furthest_block, newer_than}
@@ -17,6 +17,10 @@ pub record IsEntryAt (n place : ℕ) (w : World) : Type 0 where
   pub cut : w.formatting ≡ newer ++ ElementEntry n tag ∷ older
   pub first : ¬ (IsIn n (nodes_of newer))
   pub here : place ≡ length older
+
+-- an element is listed at this place, or nowhere
+abbrev pub IsListedOnlyAt : (n place : ℕ) → World → Type 0
+IsListedOnlyAt n place w = IsEntryAt n place w ⊎ (¬ (IsIn n (nodes_of w.formatting)))
 
 -- the entry of the formatting element of a name stands at this place
 abbrev pub IsListedAt : List ℕ → ℕ → World → Type 0

@@ -8,12 +8,13 @@ ghost use Rattle.h5_rules.specs.Rows.{AdoptionAgency, HandleMisnestedATags};
 ghost use Rattle.h5_rules.specs.Sound.{HasHtmlRoot};
 ghost use Rattle.h5_rules.specs.World.{World};
 ghost use Rattle.h5_state.specs.Steps.{Becomes, BecomesIfOk, IsSound, MakesIfOk, errors_of, world_of};
+ghost use Rattle.h5_formatting.specs.Places.{IsListedOnlyAt};
 ghost use Rattle.h5_formatting.specs.Rounds.{IsFound, SomeFound, SomeOpen, adopt_open, then_again};
 ghost use Rattle.h5_state.specs.OpenPlaces.{IsOpenAt};
 
 use super::ends::{close_named, close_through, unlist};
-use super::find::{find_block, find_entry, find_formatting_element, scope_ends_above};
-use super::questions::is_current_unlisted;
+use super::find::{find_block, find_formatting_element, scope_ends_above};
+use super::questions::{is_current_unlisted, is_listed_at};
 use super::round::adopt;
 use super::walk::element_at;
 use h5_closing::remove_from_stack;
@@ -152,14 +153,14 @@ pub fn adoption_agency<S: TreeSink>(
     }
 }
 
-// The entry of an element goes, where it is listed.
-fn unlist_element<S: TreeSink>(sink: &S, state: &mut State<S::Handle>, element: &S::Handle)
-    requires { IsSound S.TreeSink sink.now state.old }
+// The entry at a place goes, where it is that of an element, which is listed there or nowhere.
+fn unlist_where<S: TreeSink>(sink: &S, state: &mut State<S::Handle>, at: usize, element: &S::Handle)
+    requires sound { IsSound S.TreeSink sink.now state.old }
+    requires listed { IsListedOnlyAt (S.node element.now) at (world_of S.TreeSink sink.now state.old) }
     ensures { Becomes S.TreeSink (λ w. record w { formatting = without_entry (S.node element.now) w.formatting }) sink.now state.old sink.now state.new }
 {
-    match find_entry(sink, state, element) {
-        Some(at) => unlist(sink, state, at),
-        None => (),
+    if is_listed_at(sink, state, at, element) {
+        unlist(sink, state, at);
     }
 }
 
@@ -179,7 +180,8 @@ pub fn handle_misnested_a_tags<S: TreeSink>(
         Some(at) => {
             let element = sink.clone_handle(element_at(sink, state, at));
             adoption_agency(sink, state, &name)?;
-            unlist_element(sink, state, &element);
+            // The agency leaves the entry where it stood, or takes it away.
+            unlist_where(sink, state, at, &element);
             remove_from_stack(sink, state, &element);
             Ok(())
         }

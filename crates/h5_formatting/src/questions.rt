@@ -1,28 +1,40 @@
 //! Questions that are asked where formatting elements are closed.
-ghost use Rattle.std.specs.Prelude.{◌≡◌, ◌==◌, ℕ, is_some};
-ghost use Rattle.h5_token.specs.TokenText.{TagText};
+ghost use Rattle.std.specs.Prelude.{◌≡◌, is_some};
 ghost use Rattle.h5_rules.specs.formatting.AdoptionAgency.{closes_current, closes_one, is_current_unlisted};
 ghost use Rattle.h5_rules.specs.formatting.Adoption.{newest_named};
-ghost use Rattle.h5_rules.specs.formatting.FormattingList.{ElementEntry, nodes_of};
+ghost use Rattle.h5_rules.specs.formatting.FormattingList.{nodes_of};
 ghost use Rattle.h5_rules.specs.stack.Order.{is_in};
 ghost use Rattle.h5_state.specs.Steps.{IsSound, world_of};
 ghost use Rattle.h5_list.specs.Listed.{entry_of};
+ghost use Rattle.h5_formatting.specs.EntryPlaces.{entry_at, is_entry_of};
 
 use super::find::{find_entry, find_formatting_element};
-use super::walk::entry_at;
+use super::walk::{entry_at, entry_count};
 use h5_interface::TreeSink;
 use h5_names::LocalName;
 use h5_state::{State, current_node, is_current_html};
 use h5_types::FormatEntry;
 
-// Whether an entry, which is no marker, is that of an element.
+// Whether an entry is that of an element.
 fn is_entry_of<S: TreeSink>(sink: &S, entry: &FormatEntry<S::Handle>, handle: &S::Handle) -> bool
-    ensures { (n : ℕ) → (tag : TagText) → entry_of S.node entry.now ≡ ElementEntry n tag → result ≡ (S.node handle.now == n) }
+    ensures { result ≡ is_entry_of (S.node handle.now) (entry_of S.node entry.now) }
 {
     match entry {
         FormatEntry::Element(listed, _) => sink.same_node(handle, listed),
         FormatEntry::Marker => false,
     }
+}
+
+/// Whether the entry at a place is that of an element.
+pub fn is_listed_at<S: TreeSink>(
+    sink: &S,
+    state: &State<S::Handle>,
+    at: usize,
+    handle: &S::Handle,
+) -> bool
+    ensures { result ≡ is_entry_of (S.node handle.now) (entry_at at (world_of S.TreeSink sink.now state.now).formatting) }
+{
+    at < entry_count(sink, state) && is_entry_of(sink, entry_at(sink, state, at), handle)
 }
 
 /// Whether the current node is the formatting element of a name.

@@ -1,5 +1,6 @@
 //! Numbers for texts.
-ghost use Rattle.std.specs.Prelude.{◌≡◌, ◌≢◌, ◌<◌, ◌≤◌, ◌+◌, ℕ, List, IfOk, IfSome, Ok, OnErr, OnOk};
+ghost use Rattle.std.specs.Prelude.{◌≡◌, ◌≢◌, ◌<◌, ◌≤◌, ◌+◌, ◌^◌, ℕ, List, IfOk, IfSome, Ok, OnErr, OnOk};
+ghost use Rattle.std.specs.BTreeMap.{btree_map_len};
 ghost use Rattle.h5_stack.specs.Numberings.{IsNumbering};
 
 use std::alloc::{AllocError, Global};
@@ -12,6 +13,7 @@ pub struct Numbering {
     base: u32,
     alloc: Global,
     ghost sound: { IsNumbering numbers base },
+    ghost few: { base + btree_map_len numbers < 2 ^ 32 },
 }
 
 impl Numbering {
@@ -38,6 +40,13 @@ impl Numbering {
         ensures apart { KeepsApart self.now }
     {
         self.numbers.get(text).copied()
+    }
+
+    /// The number that the next text gets.
+    pub fn next(&self) -> u32
+        ensures { result ≡ next_of self.now }
+    {
+        self.base + self.numbers.len() as u32
     }
 
     // The next number becomes that of a text, which has none.

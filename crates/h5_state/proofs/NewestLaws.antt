@@ -12,10 +12,10 @@ use Rattle.h5_names.specs.AttributeText.{is_same_text}
 use Rattle.h5_names.proofs.KnownNameLemmas.{same_tests}
 use Rattle.h5_rules.specs.stack.Closing.{is_html_among}
 use Rattle.h5_tag_sets.specs.TagSets.{html_namespace, is_html_named, is_one_of}
-use Rattle.h5_state.specs.Newest.{newer_of, newest_where, oldest_where, place_before}
-use Rattle.h5_state.specs.Numbers.{html_number, name_number}
+use Rattle.h5_state.specs.Newest.{is_foreign_named, newer_of, newest_where, oldest_where, place_before}
+use Rattle.h5_state.specs.Numbers.{foreign_number, html_number, name_number}
 use Rattle.h5_state.specs.declared.name_numbers.NameNumbers.{NameNumbers}
-use Rattle.h5_state.proofs.NumberLaws.{has_none, has_number}
+use Rattle.h5_state.proofs.NumberLaws.{foreign_none, has_foreign, has_none, has_number}
 
 pub newest_le : (is : QualName → Bool) (names : List QualName) → newest_where is names ≤ length names
 newest_le is [] = omega arith
@@ -229,6 +229,12 @@ none_numbered is number (m ∷ ms) (n ∷ ns) e h =
 module _ (N : NameNumbers) (local : List ℕ) (ms : List ℕ) (names : List QualName) (kept : map Some ms ≡ map (name_number N) names) where
   pub newest_of_name : (k : ℕ) → html_number N local ≡ Some k → newest_of k ms ≡ newest_where (is_html_named local) names
   newest_of_name k e = newest_numbered (is_html_named local) k (name_number N) ms names kept (λ name m. has_number N local k name m e)
+
+  pub newest_of_foreign : (k : ℕ) → foreign_number N local ≡ Some k → newest_of k ms ≡ newest_where (is_foreign_named local) names
+  newest_of_foreign k e = newest_numbered (is_foreign_named local) k (name_number N) ms names kept (λ name m. has_foreign N local k name m e)
+
+  pub none_of_foreign : foreign_number N local ≡ None → newest_where (is_foreign_named local) names ≡ 0
+  none_of_foreign e = none_numbered (is_foreign_named local) (name_number N) ms names kept (λ name m. foreign_none N local name m e)
 
   pub none_of_name : html_number N local ≡ None → newest_where (is_html_named local) names ≡ 0
   none_of_name e = none_numbered (is_html_named local) (name_number N) ms names kept (λ name m. has_none N local name m e)

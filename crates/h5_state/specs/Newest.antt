@@ -1,7 +1,9 @@
 -- Where the newest and the oldest open element of a kind stand, by the names of all, the newest first. Places are counted
 -- from the root; what stands here is one more than a place, and 0 where there is none.
-use Rattle.std.specs.Prelude.{ℕ, ◌+◌, ◌-◌, ◌==◌, ◌&&◌, nat_lt, nat_le, Bool, if◌then◌else◌, List, [], ◌∷◌, Option, None, Some, length}
+use Rattle.std.specs.Prelude.{ℕ, ◌+◌, ◌-◌, ◌==◌, ◌&&◌, nat_lt, nat_le, not, Bool, if◌then◌else◌, List, [], ◌∷◌, Option, None, Some, length}
 use Rattle.h5_names.specs.declared.qualified.QualName.{QualName}
+use Rattle.h5_rules.specs.fitting.NamesFit.{is_html_element}
+use Rattle.h5_rules.specs.insertion.Foreign.{is_named_in_any_case}
 
 -- one more than the place of the newest whose name passes
 abbrev pub newest_where : (QualName → Bool) → List QualName → ℕ
@@ -20,3 +22,7 @@ newer_of one other = if nat_lt one other then other else one
 -- the place of the newest that is looked for, where the newest that ends the search isn't newer
 abbrev pub place_before : ℕ → ℕ → Option ℕ
 place_before here end = if nat_lt 0 here && nat_le end here then Some (here - 1) else None
+
+-- an element of MathML or SVG of this local name, in any case of ASCII letters
+abbrev pub is_foreign_named : List ℕ → QualName → Bool
+is_foreign_named local n = not (is_html_element n) && is_named_in_any_case local n

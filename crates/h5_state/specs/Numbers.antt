@@ -1,5 +1,6 @@
 -- Numbers of names, by which open elements are found.
-use Rattle.std.specs.Prelude.{ℕ, if◌then◌else◌, List, Option, Some}
+use Rattle.std.specs.Prelude.{ℕ, ◌+◌, ◌*◌, ◌%◌, ◌==◌, ◌||◌, nat_lt, Bool, if◌then◌else◌, List, Option, Some, option_map}
+use Rattle.std.specs.Str.{str_to_ascii_lowercase}
 use denote.Enum.Bare.{sameb}
 use denote.Enum.Declared.{tag_of}
 use Rattle.h5_names.specs.AttributeText.{is_same_text}
@@ -11,11 +12,20 @@ use Rattle.h5_stack.specs.Numbering.{number_of}
 use Rattle.h5_tag_sets.specs.TagSets.{html_namespace}
 use Rattle.h5_state.specs.declared.name_numbers.NameNumbers.{NameNumbers}
 
--- the number of the HTML elements of a local name: that of the name which HTML knows, or else that of its text, if it
--- has one yet
+-- the number of the HTML elements of a local name: that of the name which HTML knows, or else an even one by its text, if
+-- the text has a number yet
 unfoldable pub html_number : NameNumbers → List ℕ → Option ℕ
-html_number numbers local = if sameb the_type (known_name_of local) Other then number_of numbers.texts local else Some (tag_of the_type (known_name_of local))
+html_number numbers local =
+    if sameb the_type (known_name_of local) Other then option_map (λ n. 2 * n) (number_of numbers.texts local) else Some (tag_of the_type (known_name_of local))
 
--- the number of a name; all names that aren't HTML's share one
+-- that of the elements of MathML and SVG of a local name in any case of ASCII letters: an odd one, by its text in lower case
+unfoldable pub foreign_number : NameNumbers → List ℕ → Option ℕ
+foreign_number numbers local = option_map (λ n. 2 * n + 1) (number_of numbers.texts (str_to_ascii_lowercase local))
+
+-- the number of a name
 unfoldable pub name_number : NameNumbers → QualName → Option ℕ
-name_number numbers name = if is_same_text name.ns html_namespace then html_number numbers name.local else Some (tag_of the_type Other)
+name_number numbers name = if is_same_text name.ns html_namespace then html_number numbers name.local else foreign_number numbers name.local
+
+-- whether a number is one of HTML elements: those of the names that HTML knows are below all others, and those of other names even
+abbrev pub is_html_number : ℕ → Bool
+is_html_number number = nat_lt number 256 || (number % 2 == 0)

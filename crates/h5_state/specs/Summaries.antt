@@ -5,6 +5,7 @@ use Rattle.h5_names.specs.declared.qualified.QualName.{QualName}
 use Rattle.h5_interface.specs.NewElement.{is_html_template}
 use Rattle.h5_stack.specs.Numbered.{numbers, values}
 use Rattle.h5_tag_sets.specs.TagSets.{is_default_scope, is_html_named, is_implied, is_special}
+use Rattle.h5_rules.specs.fitting.NamesFit.{is_html_element}
 use Rattle.h5_rules.specs.stack.Closing.{ends_item_search}
 use Rattle.h5_rules.specs.stack.Scope.{has_body_in_scope, has_p_in_button_scope, has_unclosed}
 use Rattle.h5_state.specs.Newest.{newest_where, oldest_where}
@@ -28,6 +29,7 @@ all_open names = record {
   special = newest_where is_special names;
   item_end = newest_where ends_item_search names;
   scope_end = newest_where is_default_scope names;
+  html = newest_where is_html_element names;
   oldest_option = oldest_where (is_html_named (codes "option")) names;
 }
 

@@ -94,8 +94,10 @@ pub fn find_open<S: TreeSink>(
         return find_among_all(sink, state, handle);
     }
     match state.open_elems.numbers.find(sink.elem_name(handle)) {
-        Some(number) => find_numbered(sink, state, handle, number),
-        None => None,
+        Ok(Some(number)) => find_numbered(sink, state, handle, number),
+        Ok(None) => None,
+        // Without memory for the name in lower case.
+        Err(_) => find_among_all(sink, state, handle),
     }
 }
 

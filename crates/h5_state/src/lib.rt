@@ -33,7 +33,7 @@ pub use errors::{tell_error, unexpected, unexpected_tag};
 pub use find::{find_open, handle_at, is_node_in_scope};
 pub use name_numbers::NameNumbers;
 pub use name_test::{FosterParent, Known, Local, NameTest, NewestTest, Nothing};
-pub use newest::{newest_among, newest_named, newest_scope_end};
+pub use newest::{newest_among, newest_foreign, newest_html, newest_named, newest_scope_end};
 pub use open_element::{AllOpen, OpenElement, OpenElements, Summary};
 pub use open_elems::{
     all_open, check_body_end, find_named, generate_implied_end_except, has_body_in_scope,

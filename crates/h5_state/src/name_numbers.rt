@@ -1,31 +1,77 @@
 //! Numbers of names, by which open elements are found.
-ghost use Rattle.std.specs.Prelude.{◌≡◌, ℕ, IfOk, IfSome, List, Some};
+ghost use Rattle.std.specs.Prelude.{◌≡◌, ◌<◌, ◌≤◌, ◌+◌, ◌^◌, ℕ, IfOk, IfSome, List, Some};
+ghost use Rattle.std.specs.Str.{str_to_ascii_lowercase};
+ghost use Rattle.std.specs.String.{string_bytes};
 ghost use Rattle.h5_names.specs.declared.qualified.QualName.{QualName as NameText};
-ghost use Rattle.h5_stack.specs.Numbering.{base_of};
+ghost use Rattle.h5_stack.specs.Numbering.{base_of, next_of, number_of};
 
 use h5_names::{KnownName, LocalName, QualName};
 use h5_stack::Numbering;
 use std::alloc::{AllocError, Global};
 
-// From here on numbers are those of texts; those below are the numbers of the names that HTML knows.
-const FIRST_TEXT_NUMBER: u32 = 256;
+// Texts have numbers from here on. Elements have twice those, or one more: the numbers below are those of the names that HTML
+// knows.
+const FIRST_TEXT: u32 = 128;
+
+// Texts have numbers below this one, so that those of elements fit 32 bits.
+const END_OF_TEXTS: u32 = 0x8000_0000;
 
 /// Gives the HTML elements of each local name a number of their own: of a name that HTML knows it is that name's number,
-/// another gets one when an element of it is opened first.
+/// another gets one when an element of it is opened first. Elements of MathML and SVG share one for each local name in any
+/// case of ASCII letters.
 #[derive(Drop)]
 pub struct NameNumbers {
     texts: Numbering,
-    ghost first: { base_of texts ≡ 256 },
+    alloc: Global,
+    ghost first: { base_of texts ≡ 128 },
+    ghost few: { next_of texts ≤ 2 ^ 31 },
+}
+
+// A local name in ASCII lower case.
+fn in_lower_case(alloc: Global, local: &LocalName) -> Result<String, AllocError>
+    ensures { IfOk result (λ lower. string_bytes lower ≡ str_to_ascii_lowercase local.now) }
+{
+    let mut lower = String::from_str(alloc, local.as_str())?;
+    lower.make_ascii_lowercase();
+    Ok(lower)
 }
 
 impl NameNumbers {
-    ghost use Rattle.h5_state.specs.Numbers.{html_number, name_number};
+    ghost use Rattle.h5_state.specs.Numbers.{foreign_number, html_number, is_html_number, name_number};
 
     /// The names that HTML knows have numbers.
     pub fn new(alloc: Global) -> NameNumbers {
         NameNumbers {
-            texts: Numbering::new(alloc, FIRST_TEXT_NUMBER),
+            texts: Numbering::new(alloc, FIRST_TEXT),
+            alloc,
         }
+    }
+
+    /// Whether an element with this number is one of HTML: names that HTML knows have the least numbers, other names even ones.
+    pub fn is_html(number: u32) -> bool
+        ensures { result ≡ is_html_number number }
+    {
+        number < 2 * FIRST_TEXT || number % 2 == 0
+    }
+
+    // The number of a text, if it has one.
+    fn text(&self, text: &str) -> Option<u32>
+        ensures number { result ≡ number_of self.now.texts text.now }
+        ensures few { IfSome result (λ number. number < 2 ^ 31) }
+    {
+        self.texts.find(text)
+    }
+
+    // The number of a text, which gets one where it has none.
+    fn number_text(&mut self, text: &str) -> Result<u32, AllocError>
+        ensures ok { IfOk result (λ number. number_of self.new.texts text.now ≡ Some number) }
+        ensures few { IfOk result (λ number. number < 2 ^ 31) }
+        ensures stay { (one : List ℕ) (number : ℕ) → number_of self.old.texts one ≡ Some number → number_of self.new.texts one ≡ Some number }
+    {
+        if self.texts.next() >= END_OF_TEXTS {
+            return Err(AllocError);
+        }
+        self.texts.number(text)
     }
 
     /// The number of the HTML elements of a local name, if it has one.
@@ -35,21 +81,35 @@ impl NameNumbers {
     {
         let known = local.known();
         if known == KnownName::Other {
-            self.texts.find(local.as_str())
+            let number = self.text(local.as_str())?;
+            Some(2 * number)
         } else {
             Some(known as u32)
         }
     }
 
-    /// The number of a name, if it has one.
+    /// The number of the elements of MathML and SVG of a local name in any case of ASCII letters, if it has one. It is refused
+    /// where memory is.
+    #[tactic(auto, unfolding(crate::specs::Numbers::foreign_number))]
+    pub fn foreign(&self, local: &LocalName) -> Result<Option<u32>, AllocError>
+        ensures { IfOk result (λ number. number ≡ foreign_number self.now local.now) }
+    {
+        let lower = in_lower_case(self.alloc, local)?;
+        match self.text(lower.as_str()) {
+            Some(number) => Ok(Some(2 * number + 1)),
+            None => Ok(None),
+        }
+    }
+
+    /// The number of a name, if it has one. It is refused where memory is.
     #[tactic(auto, unfolding(crate::specs::Numbers::name_number, h5_tag_sets::specs::TagSets::html_namespace))]
-    pub fn find(&self, name: &QualName) -> Option<u32>
-        ensures { result ≡ name_number self.now name.now }
+    pub fn find(&self, name: &QualName) -> Result<Option<u32>, AllocError>
+        ensures { IfOk result (λ number. number ≡ name_number self.now name.now) }
     {
         if name.ns.is_html() {
-            self.html(&name.local)
+            Ok(self.html(&name.local))
         } else {
-            Some(KnownName::Other as u32)
+            self.foreign(&name.local)
         }
     }
 
@@ -61,10 +121,22 @@ impl NameNumbers {
     {
         let known = local.known();
         if known == KnownName::Other {
-            self.texts.number(local.as_str())
+            let number = self.number_text(local.as_str())?;
+            Ok(2 * number)
         } else {
             Ok(known as u32)
         }
+    }
+
+    // The number of the elements of MathML and SVG of a local name, which gets one where it has none.
+    #[tactic(auto, unfolding(crate::specs::Numbers::foreign_number))]
+    fn number_foreign(&mut self, local: &LocalName) -> Result<u32, AllocError>
+        ensures ok { IfOk result (λ number. foreign_number self.new local.now ≡ Some number) }
+        ensures stay { (name : NameText) (number : ℕ) → name_number self.old name ≡ Some number → name_number self.new name ≡ Some number }
+    {
+        let lower = in_lower_case(self.alloc, local)?;
+        let number = self.number_text(lower.as_str())?;
+        Ok(2 * number + 1)
     }
 
     /// The number of a name, which gets one where it has none. All others keep theirs. It is refused where memory is.
@@ -76,7 +148,7 @@ impl NameNumbers {
         if name.ns.is_html() {
             self.number_html(&name.local)
         } else {
-            Ok(KnownName::Other as u32)
+            self.number_foreign(&name.local)
         }
     }
 }

@@ -1,17 +1,19 @@
 //! Where the newest open element of a kind stands, by what is kept beside the open elements: one more than its place, 0
 //! where none is open.
-ghost use Rattle.std.specs.Prelude.{◌≡◌, map};
+ghost use Rattle.std.specs.Prelude.{◌≡◌, IfOk, map};
 ghost use Rattle.h5_names.specs.KnownNames.{name_text};
 ghost use Rattle.h5_tag_sets.specs.TagSets.{is_default_scope, is_html_named};
 ghost use Rattle.h5_rules.specs.stack.Closing.{is_html_among};
 ghost use Rattle.h5_rules.specs.World.{names_of};
-ghost use Rattle.h5_state.specs.Newest.{newer_of, newest_where};
+ghost use Rattle.h5_rules.specs.fitting.NamesFit.{is_html_element};
+ghost use Rattle.h5_state.specs.Newest.{is_foreign_named, newer_of, newest_where};
 ghost use Rattle.h5_state.specs.Steps.{IsSound, world_of};
 
 use super::open_elems::all_open;
 use super::state::State;
 use h5_interface::TreeSink;
 use h5_names::{KnownName, LocalName};
+use std::alloc::AllocError;
 
 /// The newest HTML element of a local name, by the number of the name.
 #[tactic(auto, unfolding(crate::specs::View::world))]
@@ -22,6 +24,23 @@ pub fn newest_named<S: TreeSink>(sink: &S, state: &State<S::Handle>, local: &Loc
     match state.open_elems.numbers.html(local) {
         Some(number) => state.open_elems.elements.newest(number),
         None => 0,
+    }
+}
+
+/// The newest element of MathML or SVG of a local name, in any case of ASCII letters, by the number of the name. It is refused
+/// where memory is.
+#[tactic(auto, unfolding(crate::specs::View::world))]
+pub fn newest_foreign<S: TreeSink>(
+    sink: &S,
+    state: &State<S::Handle>,
+    local: &LocalName,
+) -> Result<usize, AllocError>
+    requires { IsSound S.TreeSink sink.now state.now }
+    ensures { IfOk result (λ newest. newest ≡ newest_where (is_foreign_named local.now) (names_of (world_of S.TreeSink sink.now state.now))) }
+{
+    match state.open_elems.numbers.foreign(local)? {
+        Some(number) => Ok(state.open_elems.elements.newest(number)),
+        None => Ok(0),
     }
 }
 
@@ -43,6 +62,14 @@ pub fn newest_among<S: TreeSink>(sink: &S, state: &State<S::Handle>, names: &[Kn
         newest = newer(newest, named);
     }
     newest
+}
+
+/// The newest HTML element.
+pub fn newest_html<S: TreeSink>(sink: &S, state: &State<S::Handle>) -> usize
+    requires { IsSound S.TreeSink sink.now state.now }
+    ensures { result ≡ newest_where is_html_element (names_of (world_of S.TreeSink sink.now state.now)) }
+{
+    all_open(sink, state).html as usize
 }
 
 /// The newest element that ends a scope.

@@ -30,6 +30,8 @@ pub struct AllOpen {
     pub item_end: u32,
     /// The newest that ends a scope.
     pub scope_end: u32,
+    /// The newest of HTML.
+    pub html: u32,
     /// The oldest HTML `option`.
     pub oldest_option: u32,
 }
@@ -47,6 +49,7 @@ impl AllOpen {
             special: 0,
             item_end: 0,
             scope_end: 0,
+            html: 0,
             oldest_option: 0,
         }
     }
@@ -75,6 +78,7 @@ impl AllOpen {
             special: newest(special, place, self.special),
             item_end: newest(ends_item_search(name, special), place, self.item_end),
             scope_end: newest(ends_scope, place, self.scope_end),
+            html: newest(html, place, self.html),
             oldest_option: oldest(
                 html & local.is(KnownName::Option),
                 place,

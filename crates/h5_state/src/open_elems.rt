@@ -16,6 +16,7 @@ ghost use Rattle.h5_state.specs.Summaries.{IsKept, all_open, open_templates};
 ghost use Rattle.h5_state.specs.View.{names_under, stack_under, with_stack};
 
 use super::errors::tell_error;
+use super::name_numbers::NameNumbers;
 use super::name_test::{ImpliedBut, Local, NameTest};
 use super::newest::newest_named;
 use super::open_element::{AllOpen, OpenElement};
@@ -90,7 +91,7 @@ pub fn is_html_at<S: TreeSink>(sink: &S, state: &State<S::Handle>, place: usize)
     requires sound { IsSound S.TreeSink sink.now state.now }
     ensures { (n : ℕ) → (older : List ℕ) → stack_under S.node state.now (place + 1) ≡ n ∷ older → result ≡ is_html_element (name_in (S.sees sink.now).forest n) }
 {
-    number_at(sink, state, place) != KnownName::Other as u32
+    NameNumbers::is_html(number_at(sink, state, place))
 }
 
 /// Whether the open element at a place is an HTML element of this name. The sink is asked for its name only where HTML

@@ -1,36 +1,18 @@
-use Rattle.std.proofs.Common.{sym, ◌∙◌, arith}
-use Rattle.h5_tag_sets.specs.TagSets.{html_namespace}
-use Rattle.h5_closing.proofs.SearchLaws.{search_root, walk_cut, walk_found, walk_html, walk_later}
+use Rattle.std.proofs.Common.{ap, length, sym, ◌∙◌}
+use Rattle.h5_rules.specs.World.{names_of}
+use Rattle.h5_rules.proofs.changes.PopLaws.{names_length}
+use Rattle.h5_state.specs.Steps.{world_of}
+use Rattle.h5_state.specs.Newest.{is_foreign_named, newest_where}
+use Rattle.h5_closing.specs.EndSearches.{end_by}
+use Rattle.h5_closing.proofs.EndLaws.{found_by_places, search_by_places}
 use Rattle.h5_closing.proofs.leaving_foreign.search_end.Goals as goal
 
-pub returns-then-is_html-clause-search : goal.returns-then-is_html-clause-search
-unfolding html_namespace
-returns-then-is_html-clause-search g c =
-    sym (walk_html g.S.TreeSink.sees g.S.TreeSink.node c.args.sink.now c.args.state.now c.args.local.now c.down.place _ (omega (arith, c.down-test.true)) c.name_at-name.ensures.names c.name_at-name.ensures.count
-    (sym c.is_html.ensures ∙ c.if-is_html.true))
-    ∙ c.down.invariant.left
+pub returns-in-Ok-clause-search : goal.returns-in-Ok-clause-search
+returns-in-Ok-clause-search g c =
+    let w = world_of g.S.TreeSink c.args.sink.now c.args.state.now in
+    c.end_by.ensures.search ∙ ap (λ here. end_by here c.newest_html.result) c.in-Ok.ensures ∙ ap (λ html. end_by (newest_where (is_foreign_named c.args.local.now) (names_of w)) html) c.newest_html.ensures ∙ sym (search_by_places c.args.local.now (names_of w))
 
-pub returns-then-test-clause-search : goal.returns-then-test-clause-search
-unfolding html_namespace
-returns-then-test-clause-search g c =
-    sym (walk_found g.S.TreeSink.sees g.S.TreeSink.node c.args.sink.now c.args.state.now c.args.local.now c.down.place _ (omega (arith, c.down-test.true)) c.name_at-name.ensures.names c.name_at-name.ensures.count
-    (sym c.is_html.ensures ∙ c.if-is_html.false) (sym c.test.ensures ∙ c.if-test.true))
-    ∙ c.down.invariant.left
-
-pub down-preserved : goal.down-preserved
-unfolding html_namespace
-down-preserved g c =
-    let named = sym c.test.ensures ∙ c.if-test.false in
-    record {
-      place = omega (arith, c.down.invariant.place);
-      left = sym (walk_later g.S.TreeSink.sees g.S.TreeSink.node c.args.sink.now c.args.state.now c.args.local.now c.down.place _ (omega (arith, c.down-test.true)) c.name_at-name.ensures.names c.name_at-name.ensures.count
-          (sym c.is_html.ensures ∙ c.if-is_html.false) named)
-          ∙ c.down.invariant.left;
-      cut = sym (walk_cut g.S.TreeSink.sees g.S.TreeSink.node c.args.sink.now c.args.state.now c.args.local.now c.down.place _ (omega (arith, c.down-test.true)) c.name_at-name.ensures.names c.name_at-name.ensures.count c.name_at-name.ensures.stack named)
-          ∙ c.down.invariant.cut;
-    }
-
-pub returns-clause-search : goal.returns-clause-search
-returns-clause-search g c =
-    sym (search_root c.args.local.now g.S.TreeSink.sees g.S.TreeSink.node c.args.sink.now c.args.state.now c.down.place (omega (arith, c.down-test.false)))
-    ∙ c.down.invariant.left
+pub returns-in-Ok-clause-place : goal.returns-in-Ok-clause-place
+returns-in-Ok-clause-place g c =
+    let w = world_of g.S.TreeSink c.args.sink.now c.args.state.now in
+    found_by_places c.args.local.now w c.in-Ok.here c.newest_html.result c.end_by.result (names_length w) c.in-Ok.ensures c.newest_html.ensures c.end_by.ensures.place

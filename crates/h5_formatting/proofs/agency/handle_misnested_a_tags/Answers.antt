@@ -3,19 +3,27 @@ use Rattle.h5_names.specs.AttributeText.{is_same_text}
 use Rattle.h5_state.specs.Steps.{world_of}
 use Rattle.h5_state.specs.View.{world}
 use Rattle.h5_formatting.proofs.AgencyLaws.{never_root_after, still_element}
+use Rattle.h5_formatting.proofs.GoneLaws.{agency_leaves_listed}
 use Rattle.h5_formatting.proofs.agency.handle_misnested_a_tags.Goals as goal
+
+pub unlist_where-requires-clause-listed : goal.unlist_where-requires-clause-listed
+unlist_where-requires-clause-listed g c =
+    let l = c.in-Some.ensures.place in
+    agency_leaves_listed g.S.TreeSink.choices _ c.in-Some.at (g.S.TreeSink.node c.clone_handle-element.result) (world_of g.S.TreeSink c.args.sink.now c.args.state.now)
+    (world_of g.S.TreeSink c.adoption_agency.new.sink c.adoption_agency.new.state) c.requires.ready l
+    c.in_ok-adoption_agency-in-Some.ensures.world (c.clone_handle-element.ensures ∙ c.element_at.ensures l.newer l.older l.element.node l.element.tag l.cut l.here)
 
 pub remove_from_stack-requires-clause-root : goal.remove_from_stack-requires-clause-root
 remove_from_stack-requires-clause-root g c =
     let l = c.in-Some.ensures.place in
     never_root_after g.S.TreeSink.choices _ l.element (g.S.TreeSink.node c.clone_handle-element.result) (g.S.TreeSink.node c.clone_handle-element.result) (world_of g.S.TreeSink c.args.sink.now c.args.state.now)
-    (world_of g.S.TreeSink c.adoption_agency.new.sink c.adoption_agency.new.state) (world_of g.S.TreeSink c.adoption_agency.new.sink c.unlist_element.new.state) l.newest (ap (λ t. is_same_text t (codes "html")) c.from_known-name.ensures) c.requires.ready
-    c.in_ok-adoption_agency-in-Some.ensures.world c.unlist_element.ensures.world (c.clone_handle-element.ensures ∙ c.element_at.ensures l.newer l.older l.element.node l.element.tag l.cut l.here)
+    (world_of g.S.TreeSink c.adoption_agency.new.sink c.adoption_agency.new.state) (world_of g.S.TreeSink c.adoption_agency.new.sink c.unlist_where.new.state) l.newest (ap (λ t. is_same_text t (codes "html")) c.from_known-name.ensures) c.requires.ready
+    c.in_ok-adoption_agency-in-Some.ensures.world c.unlist_where.ensures.world (c.clone_handle-element.ensures ∙ c.element_at.ensures l.newer l.older l.element.node l.element.tag l.cut l.here)
 
 pub remove_from_stack-requires-clause-element : goal.remove_from_stack-requires-clause-element
 unfolding world
 remove_from_stack-requires-clause-element g c =
     let l = c.in-Some.ensures.place in
     still_element g.S.TreeSink.choices _ l.element (g.S.TreeSink.node c.clone_handle-element.result) (g.S.TreeSink.node c.clone_handle-element.result) (world_of g.S.TreeSink c.args.sink.now c.args.state.now)
-    (world_of g.S.TreeSink c.adoption_agency.new.sink c.adoption_agency.new.state) (world_of g.S.TreeSink c.adoption_agency.new.sink c.unlist_element.new.state) l.newest (ap (λ t. is_same_text t (codes "html")) c.from_known-name.ensures) c.requires.ready
-    c.in_ok-adoption_agency-in-Some.ensures.world c.unlist_element.ensures.world (c.clone_handle-element.ensures ∙ c.element_at.ensures l.newer l.older l.element.node l.element.tag l.cut l.here)
+    (world_of g.S.TreeSink c.adoption_agency.new.sink c.adoption_agency.new.state) (world_of g.S.TreeSink c.adoption_agency.new.sink c.unlist_where.new.state) l.newest (ap (λ t. is_same_text t (codes "html")) c.from_known-name.ensures) c.requires.ready
+    c.in_ok-adoption_agency-in-Some.ensures.world c.unlist_where.ensures.world (c.clone_handle-element.ensures ∙ c.element_at.ensures l.newer l.older l.element.node l.element.tag l.cut l.here)

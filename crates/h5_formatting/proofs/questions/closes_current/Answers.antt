@@ -6,6 +6,7 @@ use Rattle.h5_rules.specs.formatting.FormattingList.{ElementEntry}
 use Rattle.h5_state.specs.Steps.{world_of}
 use Rattle.h5_state.specs.View.{world}
 use Rattle.h5_list.specs.Listed.{entry_of}
+use Rattle.h5_formatting.specs.EntryPlaces.{is_entry_of}
 use Rattle.h5_formatting.specs.View.{list_under}
 use Rattle.h5_formatting.proofs.EntryLaws.{list_cut}
 use Rattle.h5_state.proofs.SeenLaws.{same_tail}
@@ -23,6 +24,7 @@ returns-in-Some g c =
     let same = same_tail cut.newer (entry_of node c.entry_at.result.now ∷ rest) k.newer (ElementEntry k.element.node k.element.tag ∷ k.older)
     (sym (cut.cut ∙ ap (λ l. cut.newer ++ l) c.entry_at.ensures.list) ∙ k.cut) (omega (arith, c.entry_at.ensures.count, k.here)) in
     let first : entry_of node c.entry_at.result.now ≡ ElementEntry k.element.node k.element.tag = cc (same.1) in
-    c.is_entry_of.ensures k.element.node k.element.tag first
+    c.is_entry_of.ensures
+    ∙ ap (is_entry_of (node c.current_node.result)) first
     ∙ ap (λ n. n == k.element.node) c.current_node.ensures
     ∙ ap (is_formatting_element (current w)) (sym k.newest)

@@ -1,4 +1,4 @@
-use Rattle.std.proofs.Common.{ap, map}
+use Rattle.std.proofs.Common.{ap, map, ◌∙◌}
 use Rattle.h5_rules.specs.World.{name_in}
 use Rattle.h5_state.specs.View.{names_under, stack_under}
 use Rattle.h5_state.proofs.NumberLaws.{tells_html}
@@ -8,4 +8,5 @@ pub returns : goal.returns
 unfolding names_under stack_under
 returns g c = λ n older e.
     let f = (g.S.TreeSink.sees c.args.sink.now).forest in
-    tells_html c.args.state.now.open_elems.numbers (name_in f n) c.number_at.result (c.number_at.ensures (name_in f n) (map (name_in f) older) (ap (map (name_in f)) e))
+    c.is_html.ensures
+    ∙ tells_html c.args.state.now.open_elems.numbers (name_in f n) c.number_at.result (c.number_at.ensures (name_in f n) (map (name_in f) older) (ap (map (name_in f)) e))

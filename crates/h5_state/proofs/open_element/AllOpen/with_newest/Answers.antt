@@ -14,6 +14,7 @@ returns c = λ older e h.
       c.newest.ensures,
       c.newest-2.ensures,
       c.newest-3.ensures,
+      c.newest-4.ensures,
       c.oldest.ensures,
       c.ends_item_search.ensures,
       button,

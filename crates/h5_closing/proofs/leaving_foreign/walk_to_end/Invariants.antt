@@ -4,7 +4,7 @@ use Rattle.h5_rules.specs.insertion.Foreign.{is_named_in_any_case}
 use Rattle.h5_rules.specs.modes.ForeignContent.{search_end}
 use Rattle.h5_rules.specs.World.{names_of}
 use Rattle.h5_state.specs.View.{names_under, stack_under, world}
-use Rattle.h5_closing.proofs.leaving_foreign.search_end.Given as goal
+use Rattle.h5_closing.proofs.leaving_foreign.walk_to_end.Given as goal
 
 -- what is left gives what was to come at first
 abbrev pub invariant-down : goal.invariant-down
