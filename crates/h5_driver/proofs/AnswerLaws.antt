@@ -15,7 +15,7 @@ use Rattle.h5_laws.proofs.kept.FittingLaws.{step_fitting}
 use Rattle.h5_laws.proofs.cuts.RunLaws.{is_taken}
 use Rattle.h5_laws.proofs.replies.TextReadLaws.{IsCalm, Leads, StepLeads, TagLeads, TokenLeads, mode_is_text, step_leads}
 use Rattle.h5_rules.proofs.rows.ToldLaws.{NoTextBehind, is_text}
-use Rattle.h5_tokenizer.specs.End.{refuses}
+use Rattle.h5_reading.specs.Answers.{refuses}
 use Rattle.h5_tokenizer.specs.Front.{Place}
 use Rattle.h5_tokenizer.specs.Read.{after_tag, next_place}
 use Rattle.h5_driver.specs.Parsing.{IsRaw, IsWorking}

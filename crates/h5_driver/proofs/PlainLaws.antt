@@ -23,9 +23,10 @@ use Rattle.h5_driver.specs.Texts.{ParsesDocument}
 use Rattle.h5_round.specs.Readable.{IsReadableDocument}
 use Rattle.h5_driver.specs.PlainTexts.{BringsBack, ComesBack, IsNew}
 use Rattle.h5_round.specs.Written.{written_of}
+use Rattle.h5_reading.specs.Options as reading
 use Rattle.h5_tokenizer.specs.Options as reader
 use Rattle.h5_tokenizer.specs.ReaderText.{ReaderText}
-use Rattle.h5_tokenizer.specs.declared.stage.Stage.TheVariants.{Reading}
+use Rattle.h5_reading.specs.declared.stage.Stage.TheVariants.{Reading}
 use Rattle.h5_tree_builder.specs.Builder.{Building}
 use Rattle.h5_plain.proofs.LooksLaws.{looks_marked}
 use Rattle.h5_plain.proofs.WholeLaws.{rebuilds_all}
@@ -94,7 +95,7 @@ pub brings_back : (choices : SinkChoices) (b : Building) (r : ReaderText) (unrea
 brings_back choices b r unread text told parses = λ d seen new holds readable same.
     let P : Building → ReaderText → List ℕ → List ℕ → Type 0 = λ c q u t. Parses choices q.place c.view (u ++ t) told in
     let first = first_building seen types.default_options in
-    let fresh : ReaderText = record { place = reader.first_place reader.default_options; held = []; stage = Reading } in
+    let fresh : ReaderText = record { place = reader.first_place reading.default_options; held = []; stage = Reading } in
     document_parsed choices seen told d holds readable
     (subst (P first fresh []) same
     (subst (λ u. P first fresh u text) new.none_waits

@@ -11,12 +11,15 @@ use Rattle.h5_rules.specs.Run.{IsFitting, View, after_all, after_token, refuses_
 use Rattle.h5_laws.proofs.cuts.JoinLaws.{view_joins}
 use Rattle.h5_laws.proofs.kept.FittingLaws.{token_fitting}
 use Rattle.h5_laws.proofs.cuts.RunLaws.{takes_text, token_cut}
-use Rattle.h5_tokenizer.specs.End.{Closes, ClosesWith, Finishes, Takes, refuses, settle}
+use Rattle.h5_tokenizer.specs.End.{Closes, settle}
+use Rattle.h5_reading.specs.Taking.{ClosesWith, Finishes, Takes}
+use Rattle.h5_reading.specs.Told.{handed}
+use Rattle.h5_reading.specs.Answers.{refuses}
 use Rattle.h5_tokenizer.specs.Front.{Place}
 use Rattle.h5_tokenizer.specs.Read.{Read, Step, behind, marked, next_place, nothing_read, read_on, started, switch_step, text_step, token_step, unmarked}
 use Rattle.h5_tokenizer.specs.Outcome.{Feeds, ReadsAll, RefusedAt, StopsAt}
 use Rattle.h5_tokenizer.specs.ReaderText.{ReaderText}
-use Rattle.h5_tokenizer.specs.Lines.{line_behind}
+use Rattle.h5_reading.specs.Lines.{line_behind}
 use Rattle.h5_tokenizer.specs.Whole.{Readings, after_closing, closing, more_reading, no_reading}
 use Rattle.h5_tokenizer.proofs.KeptLaws.{readings_agree}
 use Rattle.h5_tokenizer.proofs.WholeLaws.{end_ends, readings_go_on}
@@ -139,7 +142,7 @@ finishes_memory choices p m n line f w h = at f (token_works choices p EndOfFile
     at Failed k i = absurd (no_refusal (reply_to choices EndOfFile m) Failed k i.0)
 
 closes_memory : (choices : SinkChoices) (p : Place) (m n : View) (o : Option TokenText) (line last : ℕ) (f : BuildFault) → IsWorking p m → ((t : TokenText) → o ≡ Some t → refuses_in m.world.mode t ≡ false)
-    → ClosesWith (replies choices) (after choices) (ended choices) m o line last n (Err f) → f ≡ Memory
+    → ClosesWith (replies choices) (after choices) (ended choices) m (handed o) line last n (Err f) → f ≡ Memory
 closes_memory choices p m n None line last f w c h = finishes_memory choices p m n last f w h
 closes_memory choices p m n (Some t) line last f w c (inl h) = takes_memory choices m n t line f (token_works choices p t m w (c t refl)).takes h
 closes_memory choices p m n (Some t) line last f w c (inr h) =

@@ -10,7 +10,7 @@ use Rattle.h5_types.specs.declared.options.TreeBuilderOpts.{TreeBuilderOpts}
 use Rattle.h5_rules.specs.World.{World}
 use Rattle.h5_tokenizer.specs.Front.{Place}
 use Rattle.h5_tokenizer.specs.Options.{first_place}
-use Rattle.h5_tokenizer.specs.declared.options.TokenizerOpts.{TokenizerOpts}
+use Rattle.h5_reading.specs.declared.options.TokenizerOpts.{TokenizerOpts}
 use Rattle.h5_tree_builder.specs.Builder.{Building}
 use Rattle.h5_tree_builder.specs.Fragment.{first_fragment, state_by_context}
 

@@ -17,7 +17,7 @@ use Rattle.h5_tokenizer.specs.ReaderText.{ReaderText}
 use Rattle.h5_tokenizer.specs.Whole.{Readings, ReadsToEnd}
 use Rattle.h5_tokenizer.specs.declared.front.Mode.{Mode}
 use Rattle.h5_tokenizer.specs.declared.front.Mode.TheVariants.{RawData}
-use Rattle.h5_tokenizer.specs.declared.stage.Stage.TheVariants.{Reading}
+use Rattle.h5_reading.specs.declared.stage.Stage.TheVariants.{Reading}
 
 -- its builder, its reader, the text that waits, and whether it has failed
 pub record Parsing (S H : Type 0) : Type 0 where

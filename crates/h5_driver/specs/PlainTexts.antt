@@ -3,9 +3,10 @@ use Rattle.std.specs.Prelude.{◌≡◌, ℕ, List, []}
 use Rattle.h5_interface.specs.Seen.{Seen}
 use Rattle.h5_interface.specs.declared.marks.QuirksMode.TheVariants.{NoQuirks}
 use Rattle.h5_types.specs.Options.{default_options as of_builder}
-use Rattle.h5_tokenizer.specs.Options.{default_options as of_reader, first_place}
+use Rattle.h5_reading.specs.Options.{default_options as of_reader}
+use Rattle.h5_tokenizer.specs.Options.{first_place}
 use Rattle.h5_tokenizer.specs.ReaderText.{ReaderText}
-use Rattle.h5_tokenizer.specs.declared.stage.Stage.TheVariants.{Reading}
+use Rattle.h5_reading.specs.declared.stage.Stage.TheVariants.{Reading}
 use Rattle.h5_plain.specs.Plain.{PlainDocument}
 use Rattle.h5_plain.specs.Rebuilding.{DocumentStands, HoldsDocument}
 use Rattle.h5_tree_builder.specs.Builder.{Building, first_building}

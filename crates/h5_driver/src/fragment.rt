@@ -2,7 +2,7 @@
 ghost use Rattle.std.specs.Prelude.{◌≡◌, [], MatchOption, false, IfErr, IfOk, option_map};
 ghost use Rattle.h5_names.specs.AttributeText.{attribute_texts};
 ghost use Rattle.h5_interface.specs.Forest.{IsElement};
-ghost use Rattle.h5_tokenizer.specs.declared.stage.Stage.TheVariants.{Reading};
+ghost use Rattle.h5_reading.specs.declared.stage.Stage.TheVariants.{Reading};
 ghost use Rattle.h5_tree_builder.specs.Fragment.{first_fragment};
 ghost use Rattle.h5_tree_builder.specs.Held.{building};
 ghost use Rattle.h5_driver.specs.Fragments.{beginning_in, first_in_new, place_in_context};

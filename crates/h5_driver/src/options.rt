@@ -1,6 +1,6 @@
 //! Options of a parser.
 ghost use Rattle.std.specs.Prelude.{◌≡◌, IfOk};
-ghost use Rattle.h5_tokenizer.specs.Options.{options_text};
+ghost use Rattle.h5_reading.specs.Options.{options_text};
 
 use h5_tokenizer::TokenizerOpts;
 use h5_types::TreeBuilderOpts;

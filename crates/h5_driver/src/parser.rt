@@ -2,7 +2,7 @@
 ghost use Rattle.std.specs.Prelude.{◌≡◌, ◌++◌, ◌<◌, [], map, string_bytes, true, false, Ok, Err, IfOk, OnErr, OnOk};
 ghost use Rattle.h5_rules.specs.Run.{View};
 ghost use Rattle.h5_tree_builder.specs.Held.{building};
-ghost use Rattle.h5_tokenizer.specs.declared.stage.Stage.TheVariants.{Reading};
+ghost use Rattle.h5_reading.specs.declared.stage.Stage.TheVariants.{Reading};
 ghost use Rattle.h5_tokenizer.specs.End.{Closes};
 ghost use Rattle.h5_tokenizer.specs.Options.{first_place};
 ghost use Rattle.h5_tree_builder.specs.Builder.{first_building};

@@ -5,8 +5,10 @@ use Rattle.h5_token.specs.Joins.{join}
 use Rattle.h5_token.specs.Reply.{Reply}
 use Rattle.h5_token.specs.TokenText.{TokenText, TagIs, Characters, EndOfFile}
 use Rattle.h5_token.specs.declared.tag.TagKind.TheVariants.{EndTag}
-use Rattle.h5_tokenizer.specs.Options.{default_options, first_place}
-use Rattle.h5_tokenizer.specs.Whole.{IsBlindToCuts, ReadsToEnd}
+use Rattle.h5_reading.specs.Options.{default_options}
+use Rattle.h5_tokenizer.specs.Options.{first_place}
+use Rattle.h5_reading.specs.Blindness.{IsBlindToCuts}
+use Rattle.h5_tokenizer.specs.Whole.{ReadsToEnd}
 use Rattle.h5_tokenizer.proofs.CutLaws.{cuts_agree}
 use Rattle.h5_plain.specs.Plain.{ElementThen, End, Nodes, PlainDocument, TextThen, document_tokens, end_tag, has_end_tag, plain_reply, root_of, start_tag, tokens_before}
 use Rattle.h5_round.specs.Answers.{Answers}

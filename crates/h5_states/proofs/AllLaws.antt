@@ -2,14 +2,16 @@
 use Rattle.std.proofs.Common.{◌≡◌, ℕ, zero, suc, ◌<◌, Bool, true, false, true≢false, List, [], ◌∷◌, ◌++◌, refl, sym, ◌∙◌, arith, append-nil, append_assoc, if◌then◌else◌}
 use Rattle.h5_token.specs.TokenText.{TokenText, Characters, EndOfFile}
 use Rattle.h5_token.specs.Reply.{Reply, Continues}
+use Rattle.h5_reading.specs.Answers.{goes_on, refuses}
+use Rattle.h5_reading.specs.Told.{after_all}
 use Rattle.h5_states.specs.Lines.{normal}
 use Rattle.h5_states.specs.States.{State}
 use Rattle.h5_states.specs.Turn.{Deed, Goes, Again, Hands, Asks}
 use Rattle.h5_states.specs.References.{Reference}
 use Rattle.h5_states.specs.Rank.{rank}
-use Rattle.h5_states.specs.Reading.{Place, deed, is_dropped, behind, behind_newline, in_state, after_token, passed, drops, goes, again, Step, quiet_step, text_step, token_step, ask_step, Read, nothing_read, read_on, goes_on}
-use Rattle.h5_states.specs.End.{refuses, last_tokens}
-use Rattle.h5_states.specs.Whole.{ReadsAll, Readings, no_reading, more_reading, IsReadToEnd, after_all}
+use Rattle.h5_states.specs.Reading.{Place, deed, is_dropped, behind, behind_newline, in_state, after_token, passed, drops, goes, again, Step, quiet_step, text_step, token_step, ask_step, Read, nothing_read, read_on}
+use Rattle.h5_states.specs.End.{last_tokens}
+use Rattle.h5_states.specs.Whole.{ReadsAll, Readings, no_reading, more_reading, IsReadToEnd}
 use Rattle.h5_states.proofs.RankLaws.{rank_falls, rank_small}
 use Rattle.h5_states.proofs.ReadLaws.{read_joins}
 

@@ -1,12 +1,14 @@
 -- The one way to read an input to its end in which each row's text is handed on by itself.
 use Rattle.std.proofs.Common.{◌≡◌, ℕ, Bool, true, false, true≢false, List, [], ◌∷◌, ◌++◌, refl, sym, ap, ◌∙◌, subst, if◌then◌else◌}
-use Rattle.h5_token.specs.TokenText.{TokenText, Characters, EndOfFile}
+use Rattle.h5_token.specs.TokenText.{TokenText, EndOfFile}
 use Rattle.h5_token.specs.Reply.{Reply}
+use Rattle.h5_reading.specs.Told.{after_text, told}
+use Rattle.h5_reading.proofs.BlindLaws.{text_alike}
+use Rattle.h5_reading.specs.Blindness.{IsBlindToCuts}
 use Rattle.h5_states.specs.Turn.{Deed, Goes, Again, Hands, Asks}
 use Rattle.h5_states.specs.References.{Reference}
 use Rattle.h5_states.specs.Reading.{Place, behind, behind_newline, in_state, is_dropped, deed, after_token}
-use Rattle.h5_states.specs.End.{told, last_tokens}
-use Rattle.h5_states.specs.Whole.{IsBlindToCuts}
+use Rattle.h5_states.specs.End.{last_tokens}
 
 -- what was done at a byte
 pub record Move (M : Type 0) : Type 0 where
@@ -16,11 +18,6 @@ pub record Move (M : Type 0) : Type 0 where
   pub is_consumed : Bool
 
 module _ {M : Type 0} (reply_to : M → TokenText → Reply) (after : M → TokenText → ℕ → M) (foreign : M → Bool) where
-  -- what the sink means after a text; the empty one isn't handed on
-  abbrev pub after_text : M → List ℕ → ℕ → M
-  after_text m [] line = m
-  after_text m (x ∷ xs) line = after m (Characters (x ∷ xs)) line
-
   abbrev pub dropped : Place → M → Move M
   dropped p m = record { tokens = []; place = behind_newline p; meaning = m; is_consumed = true }
 
@@ -28,13 +25,13 @@ module _ {M : Type 0} (reply_to : M → TokenText → Reply) (after : M → Toke
   moved_by p m x (Goes text state) = record {
     tokens = told text;
     place = behind x state p;
-    meaning = after_text m text p.began;
+    meaning = after_text after m text p.began;
     is_consumed = true;
   }
   moved_by p m x (Again text state) = record {
     tokens = told text;
     place = in_state state p;
-    meaning = after_text m text p.began;
+    meaning = after_text after m text p.began;
     is_consumed = false;
   }
   moved_by p m x (Hands token state) = record {
@@ -95,13 +92,9 @@ module _ {M : Type 0} (reply_to : M → TokenText → Reply) (after : M → Toke
     pub is_consumed : a.is_consumed ≡ b.is_consumed
     pub like : alike a.meaning b.meaning
 
-  text_alike : (m n : M) (text : List ℕ) (line : ℕ) → alike m n → alike (after_text reply_to after foreign m text line) (after_text reply_to after foreign n text line)
-  text_alike m n [] line h = h
-  text_alike m n (x ∷ xs) line h = blind.kept m n (Characters (x ∷ xs)) line line h
-
   same_by : (p : Place) (m n : M) (x : ℕ) (d : Deed) → alike m n → IsSameMove (moved_by reply_to after foreign p m x d) (moved_by reply_to after foreign p n x d)
-  same_by p m n x (Goes text state) h = record { tokens = refl; place = refl; is_consumed = refl; like = text_alike m n text p.began h }
-  same_by p m n x (Again text state) h = record { tokens = refl; place = refl; is_consumed = refl; like = text_alike m n text p.began h }
+  same_by p m n x (Goes text state) h = record { tokens = refl; place = refl; is_consumed = refl; like = text_alike reply_to after foreign ended alike blind m n text p.began p.began h }
+  same_by p m n x (Again text state) h = record { tokens = refl; place = refl; is_consumed = refl; like = text_alike reply_to after foreign ended alike blind m n text p.began p.began h }
   same_by p m n x (Hands token state) h = record {
     tokens = refl;
     place = ap (λ r. after_token token r (behind x state p)) (blind.replies m n token h);

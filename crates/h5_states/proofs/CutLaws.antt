@@ -1,43 +1,26 @@
 -- Whatever is read is read row by row as well, up to cuts of texts.
 use Rattle.std.proofs.Common.{◌≡◌, ℕ, Bool, List, [], ◌∷◌, ◌++◌, refl, sym, ap, ◌∙◌, subst, append-nil, append_assoc}
-use Rattle.h5_token.specs.TokenText.{TokenText, Characters, EndOfFile}
+use Rattle.h5_token.specs.TokenText.{TokenText, EndOfFile}
 use Rattle.h5_token.specs.Joins.{glue, join}
 use Rattle.h5_token.specs.Reply.{Reply}
+use Rattle.h5_reading.specs.Told.{after_all, after_text, told}
+use Rattle.h5_reading.proofs.BlindLaws.{all_alike, text_cut}
+use Rattle.h5_reading.proofs.JoinLaws.{glue_twice, joins_append}
+use Rattle.h5_reading.specs.Blindness.{IsBlindToCuts}
 use Rattle.h5_states.specs.Turn.{Goes, Again, Hands, Asks}
 use Rattle.h5_states.specs.References.{Reference}
 use Rattle.h5_states.specs.Reading.{Place, Passes, passed, drops, goes, again, Step, quiet_step, text_step, token_step, ask_step, Read, nothing_read, read_on}
-use Rattle.h5_states.specs.End.{told, last_tokens}
-use Rattle.h5_states.specs.Whole.{Readings, no_reading, more_reading, ReadsToEnd, IsBlindToCuts, after_all}
-use Rattle.h5_states.proofs.ByRows.{after_text, dropped, move_dropped, move_row, ByRows, ends, consumes_as, reconsumes_as, from_alike, agree}
-
-glue_twice : (b : ℕ) (t : List ℕ) (d : ℕ) (u : List ℕ) (k : List TokenText) → glue (b ∷ t) (glue (d ∷ u) k) ≡ glue ((b ∷ t) ++ d ∷ u) k
-glue_twice b t d u [] = refl
-glue_twice b t d u (Characters [] ∷ k) = refl
-glue_twice b t d u (Characters (e ∷ v) ∷ k) = ap (λ l. Characters l ∷ k) (sym (append_assoc (b ∷ t) (d ∷ u) (e ∷ v)))
-glue_twice b t d u (x ∷ k) = refl
+use Rattle.h5_states.specs.End.{last_tokens}
+use Rattle.h5_states.specs.Whole.{Readings, no_reading, more_reading, ReadsToEnd}
+use Rattle.h5_states.proofs.ByRows.{dropped, move_dropped, move_row, ByRows, ends, consumes_as, reconsumes_as, from_alike, agree}
 
 told_joins : (t more : List ℕ) (us vs : List TokenText) → join vs ≡ join (told more ++ us) → join (told t ++ vs) ≡ join (told (t ++ more) ++ us)
 told_joins [] more us vs e = e
 told_joins (x ∷ xs) [] us vs e = ap (glue (x ∷ xs)) e ∙ ap (λ w. glue (x ∷ w) (join us)) (sym (append-nil xs))
 told_joins (x ∷ xs) (y ∷ ys) us vs e = ap (glue (x ∷ xs)) e ∙ glue_twice x xs y ys (join us)
 
--- lists whose joins are equal may stand for one another behind others
-joins_behind : (ts us vs : List TokenText) → join us ≡ join vs → join (ts ++ us) ≡ join (ts ++ vs)
-joins_behind [] us vs e = e
-joins_behind (Characters t ∷ ts) us vs e = ap (glue t) (joins_behind ts us vs e)
-joins_behind (t ∷ ts) us vs e = ap (λ l. t ∷ l) (joins_behind ts us vs e)
-
 module _ {M : Type 0} (reply_to : M → TokenText → Reply) (after : M → TokenText → ℕ → M) (foreign : M → Bool) (ended : M → M) (alike : M → M → Type 0)
     (blind : IsBlindToCuts reply_to after foreign ended alike) (table : List Reference) where
-  -- a text that is handed on in two parts
-  text_cut : (m : M) (t more : List ℕ) (j k l : ℕ)
-      → alike (after_text reply_to after foreign m (t ++ more) j) (after_text reply_to after foreign (after_text reply_to after foreign m t k) more l)
-  text_cut m [] [] j k l = blind.reflexive m
-  text_cut m [] (y ∷ ys) j k l = blind.kept m m (Characters (y ∷ ys)) j l (blind.reflexive m)
-  text_cut m (x ∷ xs) [] j k l =
-      subst (λ w. alike (after m (Characters (x ∷ w)) j) (after m (Characters (x ∷ xs)) k)) (sym (append-nil xs)) (blind.kept m m (Characters (x ∷ xs)) j k (blind.reflexive m))
-  text_cut m (x ∷ xs) (y ∷ ys) j k l = blind.cut m x y xs ys j k l
-
   -- These tokens, and then the others, are those of a reading row by row, up to cuts of texts. It comes to a meaning that
   -- is alike.
   pub record Flat (p : Place) (m : M) (xs : List ℕ) (ts us : List TokenText) (q : Place) (l : M) : Type 0 where
@@ -59,15 +42,15 @@ module _ {M : Type 0} (reply_to : M → TokenText → Reply) (after : M → Toke
       }
 
   -- where the rest of the text is told behind a part of it
-  rest_alike : (m n : M) (t more : List ℕ) (j k : ℕ) → alike (after_text reply_to after foreign m (t ++ more) j) n
-      → alike (after_text reply_to after foreign (after_text reply_to after foreign m t k) more j) n
+  rest_alike : (m n : M) (t more : List ℕ) (j k : ℕ) → alike (after_text after m (t ++ more) j) n
+      → alike (after_text after (after_text after m t k) more j) n
   rest_alike m n t more j k h =
-      let whole = after_text reply_to after foreign m (t ++ more) j in
-      let parts = after_text reply_to after foreign (after_text reply_to after foreign m t k) more j in
-      blind.transitive parts whole n (blind.symmetric whole parts (text_cut m t more j k j)) h
+      let whole = after_text after m (t ++ more) j in
+      let parts = after_text after (after_text after m t k) more j in
+      blind.transitive parts whole n (blind.symmetric whole parts (text_cut reply_to after foreign ended alike blind m t more j k j)) h
 
   flat_passes : {p q r : Place} {n l : M} {xs text ys : List ℕ} {us : List TokenText} (m : M) (j : ℕ)
-      → Passes table p xs text q ys → alike (after_text reply_to after foreign m text j) n → ByRows reply_to after foreign table q n ys us r l → Flat p m xs (told text) us r l
+      → Passes table p xs text q ys → alike (after_text after m text j) n → ByRows reply_to after foreign table q n ys us r l → Flat p m xs (told text) us r l
   flat_passes m j passed h rows = flat_alike h rows
   flat_passes {p} m j (drops {x = x} e rest) h rows =
       let flat = flat_passes m j rest h rows in
@@ -79,7 +62,7 @@ module _ {M : Type 0} (reply_to : M → TokenText → Reply) (after : M → Toke
         joins = flat.joins;
       }
   flat_passes {p} {n = n} {us = us} m j (goes {x = x} {more = more} text state e d rest) h rows =
-      let flat = flat_passes (after_text reply_to after foreign m text p.began) j rest (rest_alike m n text more j p.began h) rows in
+      let flat = flat_passes (after_text after m text p.began) j rest (rest_alike m n text more j p.began h) rows in
       record {
         tokens = told text ++ flat.tokens;
         meaning = flat.meaning;
@@ -88,7 +71,7 @@ module _ {M : Type 0} (reply_to : M → TokenText → Reply) (after : M → Toke
         joins = told_joins text more us flat.tokens flat.joins;
       }
   flat_passes {p} {n = n} {us = us} m j (again {x = x} {more = more} text state e d rest) h rows =
-      let flat = flat_passes (after_text reply_to after foreign m text p.began) j rest (rest_alike m n text more j p.began h) rows in
+      let flat = flat_passes (after_text after m text p.began) j rest (rest_alike m n text more j p.began h) rows in
       record {
         tokens = told text ++ flat.tokens;
         meaning = flat.meaning;
@@ -128,7 +111,7 @@ module _ {M : Type 0} (reply_to : M → TokenText → Reply) (after : M → Toke
     meaning = flat.meaning;
     rows = flat.rows;
     like = blind.transitive flat.meaning behind.meaning l flat.like behind.like;
-    joins = flat.joins ∙ joins_behind ts behind.tokens (us ++ vs) behind.joins ∙ ap join (sym (append_assoc ts us vs));
+    joins = flat.joins ∙ joins_append ts ts behind.tokens (us ++ vs) refl behind.joins ∙ ap join (sym (append_assoc ts us vs));
   }
 
   flat_read : {p : Place} {m : M} {xs : List ℕ} {ts : List TokenText} {reply : Reply} {q : Place} {k : M} {ys : List ℕ} {n l : M} {us : List TokenText} {r : Place}
@@ -145,15 +128,11 @@ module _ {M : Type 0} (reply_to : M → TokenText → Reply) (after : M → Toke
       let behind = flat_read read like rows in
       flat_before ts vs us behind (flat_readings readings (blind.reflexive k) behind.rows)
 
-  all_alike : (m n : M) (ts : List TokenText) (i j : ℕ) → alike m n → alike (after_all after m ts i) (after_all after n ts j)
-  all_alike m n [] i j h = h
-  all_alike m n (t ∷ ts) i j h = all_alike (after m t i) (after n t j) ts i j (blind.kept m n t i j h)
-
   ended_alike : (m n : M) (p q : Place) → p ≡ q → alike m n
       → alike (ended (after (after_all after m (last_tokens table p) p.began) EndOfFile p.line)) (ended (after (after_all after n (last_tokens table q) q.began) EndOfFile q.line))
   ended_alike m n p q e h =
       subst (λ (r : Place). alike (ended (after (after_all after m (last_tokens table p) p.began) EndOfFile p.line)) (ended (after (after_all after n (last_tokens table r) r.began) EndOfFile r.line))) e
-      (blind.ends _ _ (blind.kept _ _ EndOfFile p.line p.line (all_alike m n (last_tokens table p) p.began p.began h)))
+      (blind.ends _ _ (blind.kept _ _ EndOfFile p.line p.line (all_alike reply_to after foreign ended alike blind m n (last_tokens table p) p.began p.began h)))
 
   -- how an input is cut doesn't matter
   pub cuts_agree : (p : Place) (m n : M) (xs : List ℕ) (ts us : List TokenText) (k l : M) → alike m n

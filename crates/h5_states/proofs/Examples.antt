@@ -1,82 +1,13 @@
 -- Texts, and what is handed on of them, by computing.
-use Rattle.std.proofs.Common.{◌≡◌, ℕ, zero, suc, ◌+◌, ◌*◌, Bool, true, false, List, [], ◌∷◌, ◌++◌, refl, length, if◌then◌else◌, codes}
+use Rattle.std.proofs.Common.{◌≡◌, true, false, [], ◌∷◌, ◌++◌, refl, codes}
 use Rattle.std.specs.Prelude.{Some, None}
-use Rattle.h5_names.specs.AttributeText.{AttributeText}
-use Rattle.h5_token.specs.TokenText.{TokenText, DoctypeIs, TagIs, CommentIs, Characters, NullCharacter, EndOfFile}
-use Rattle.h5_token.specs.Joins.{join}
-use Rattle.h5_token.specs.Reply.{Continues}
-use Rattle.h5_token.specs.declared.tag.TagKind.TheVariants.{StartTag, EndTag}
+use Rattle.h5_token.specs.TokenText.{DoctypeIs, CommentIs, Characters, NullCharacter, EndOfFile}
 use Rattle.h5_markup.specs.Attributes.{attribute_named}
-use Rattle.h5_states.specs.declared.errors.ParseError.{ParseError}
 use Rattle.h5_states.specs.declared.errors.ParseError.TheVariants as error
 use Rattle.h5_states.specs.declared.kinds.TextKind.TheVariants.{Data, Rcdata, Rawtext, ScriptData, Plaintext, CdataSection}
 use Rattle.h5_states.specs.ReferenceTable.{references}
-use Rattle.h5_states.specs.States.{State, Text}
-use Rattle.h5_states.specs.Lines.{normal}
-use Rattle.h5_states.specs.Turn.{Deed, Goes, Again, Hands, Asks}
-use Rattle.h5_states.specs.Machine.{turn}
-use Rattle.h5_states.specs.AtEnd.{at_end}
-use Rattle.h5_states.specs.Reading.{Place, is_dropped}
-use Rattle.h5_states.specs.End.{last_tokens}
-use Rattle.h5_states.proofs.ByRows.{Move, move}
-
--- what is done at a byte over a sink that answers to go on
-abbrev silent : Bool → Place → ℕ → Move (Unit {0})
-silent foreign p x = move (λ m t. Continues) (λ m t line. m) (λ m. foreign) references p (tt {0}) x
-
--- what is handed on over it; so many rows at most
-abbrev tokens_up_to : ℕ → Bool → Place → List ℕ → List TokenText
-tokens_up_to zero foreign p xs = []
-tokens_up_to (suc n) foreign p [] = last_tokens references p ++ EndOfFile ∷ []
-tokens_up_to (suc n) foreign p (x ∷ xs) =
-    let moved = silent foreign p x in
-    moved.tokens ++ tokens_up_to n foreign moved.place (if moved.is_consumed then xs else x ∷ xs)
-
--- from a state on, behind a start tag of this name: each byte meets three rows at most
-abbrev tokens_from : Bool → State → List ℕ → List ℕ → List TokenText
-tokens_from foreign state last xs =
-    join (tokens_up_to (3 * length xs + 1) foreign (record { state = state; last = last; after_return = false; line = 1; began = 1 }) xs)
-
--- the errors of all rows, in order
-abbrev asked : Bool → Deed → List ParseError
-asked true deed = []
-asked false (Goes text state) = []
-asked false (Again text state) = []
-asked false (Hands token state) = []
-asked false (Asks there error elsewhere) = error ∷ []
-
-abbrev errors_at : Bool → Place → ℕ → List ParseError
-errors_at foreign p x =
-    let row = turn references p.last p.state (normal x) in
-    if is_dropped p x then [] else row.errors ++ asked foreign row.deed
-
-abbrev errors_up_to : ℕ → Place → List ℕ → List ParseError
-errors_up_to zero p xs = []
-errors_up_to (suc n) p [] = (at_end references p.state).errors
-errors_up_to (suc n) p (x ∷ xs) =
-    let moved = silent false p x in
-    errors_at false p x ++ errors_up_to n moved.place (if moved.is_consumed then xs else x ∷ xs)
-
-abbrev errors_from : State → List ℕ → List ParseError
-errors_from state xs = errors_up_to (3 * length xs + 1) (record { state = state; last = []; after_return = false; line = 1; began = 1 }) xs
-
-abbrev start : List ℕ → Bool → List AttributeText → Bool → TokenText
-start name self_closing attrs duplicates = TagIs (record {
-  kind = StartTag;
-  name = name;
-  self_closing = self_closing;
-  attrs = attrs;
-  had_duplicate_attributes = duplicates;
-})
-
-abbrev end : List ℕ → Bool → List AttributeText → Bool → TokenText
-end name self_closing attrs duplicates = TagIs (record {
-  kind = EndTag;
-  name = name;
-  self_closing = self_closing;
-  attrs = attrs;
-  had_duplicate_attributes = duplicates;
-})
+use Rattle.h5_states.specs.States.{Text}
+use Rattle.h5_states.proofs.Outcomes.{tokens_from, errors_from, start, end}
 
 -- tags, texts between them, names in lower case
 tags : tokens_from false (Text Data) [] (codes "<P>a</p >b")
@@ -267,14 +198,14 @@ unfolding references lib.Utf8.encode
 letters = refl
 
 -- errors of comments
-errors_in_comments : errors_from (Text Data) (codes "<!--><!---><!--<!--x--!><!x><!--")
+errors_in_comments : errors_from false (Text Data) [] (codes "<!--><!---><!--<!--x--!><!x><!--")
     ≡ error.AbruptClosingOfEmptyComment ∷ error.AbruptClosingOfEmptyComment ∷ error.NestedComment ∷ error.IncorrectlyClosedComment
     ∷ error.IncorrectlyOpenedComment ∷ error.EofInComment ∷ []
 unfolding references lib.Utf8.encode
 errors_in_comments = refl
 
 -- errors of doctypes
-errors_in_doctypes : errors_from (Text Data) (codes "<!DOCTYPEa PUBLIC'b''c'x><!DOCTYPE a SYSTEM'b'><!DOCTYPE><!DOCTYPE a b><!DOCTYPE a")
+errors_in_doctypes : errors_from false (Text Data) [] (codes "<!DOCTYPEa PUBLIC'b''c'x><!DOCTYPE a SYSTEM'b'><!DOCTYPE><!DOCTYPE a b><!DOCTYPE a")
     ≡ error.MissingWhitespaceBeforeDoctypeName ∷ error.MissingWhitespaceAfterDoctypePublicKeyword
     ∷ error.MissingWhitespaceBetweenDoctypePublicAndSystemIdentifiers ∷ error.UnexpectedCharacterAfterDoctypeSystemIdentifier
     ∷ error.MissingWhitespaceAfterDoctypeSystemKeyword ∷ error.MissingDoctypeName ∷ error.InvalidCharacterSequenceAfterDoctypeName ∷ error.EofInDoctype
@@ -283,21 +214,21 @@ unfolding references lib.Utf8.encode
 errors_in_doctypes = refl
 
 -- errors of identifiers
-errors_in_identifiers : errors_from (Text Data) (codes "<!DOCTYPE a PUBLIC><!DOCTYPE a SYSTEM><!DOCTYPE a PUBLIC b><!DOCTYPE a SYSTEM b><!DOCTYPE a PUBLIC 'b><!DOCTYPE a SYSTEM 'b>")
+errors_in_identifiers : errors_from false (Text Data) [] (codes "<!DOCTYPE a PUBLIC><!DOCTYPE a SYSTEM><!DOCTYPE a PUBLIC b><!DOCTYPE a SYSTEM b><!DOCTYPE a PUBLIC 'b><!DOCTYPE a SYSTEM 'b>")
     ≡ error.MissingDoctypePublicIdentifier ∷ error.MissingDoctypeSystemIdentifier ∷ error.MissingQuoteBeforeDoctypePublicIdentifier
     ∷ error.MissingQuoteBeforeDoctypeSystemIdentifier ∷ error.AbruptDoctypePublicIdentifier ∷ error.AbruptDoctypeSystemIdentifier ∷ []
 unfolding references lib.Utf8.encode
 errors_in_identifiers = refl
 
 -- errors of tags
-errors_in_tags : errors_from (Text Data) ((0 ∷ []) ++ codes "<?><3</></3></a b/><")
+errors_in_tags : errors_from false (Text Data) [] ((0 ∷ []) ++ codes "<?><3</></3></a b/><")
     ≡ error.UnexpectedNullCharacter ∷ error.UnexpectedQuestionMarkInsteadOfTagName ∷ error.InvalidFirstCharacterOfTagName ∷ error.MissingEndTagName
     ∷ error.InvalidFirstCharacterOfTagName ∷ error.EndTagWithAttributes ∷ error.EndTagWithTrailingSolidus ∷ error.EofBeforeTagName ∷ []
 unfolding references lib.Utf8.encode
 errors_in_tags = refl
 
 -- errors of attributes
-errors_in_attributes : errors_from (Text Data) (codes "<a =b c c d'=e f='g'h/i j=k' l=><a m m")
+errors_in_attributes : errors_from false (Text Data) [] (codes "<a =b c c d'=e f='g'h/i j=k' l=><a m m")
     ≡ error.UnexpectedEqualsSignBeforeAttributeName ∷ error.DuplicateAttribute ∷ error.UnexpectedCharacterInAttributeName
     ∷ error.MissingWhitespaceBetweenAttributes ∷ error.UnexpectedSolidusInTag ∷ error.UnexpectedCharacterInUnquotedAttributeValue
     ∷ error.MissingAttributeValue ∷ error.DuplicateAttribute ∷ error.EofInTag ∷ []
@@ -305,7 +236,7 @@ unfolding references lib.Utf8.encode
 errors_in_attributes = refl
 
 -- errors of references, and none where a name in a value is text
-errors_in_references : errors_from (Text Data) (codes "&#;&#0;&#x110000;&#xD800;&#xFFFE;&#1;&x;&amp<a b=&noti")
+errors_in_references : errors_from false (Text Data) [] (codes "&#;&#0;&#x110000;&#xD800;&#xFFFE;&#1;&x;&amp<a b=&noti")
     ≡ error.AbsenceOfDigitsInNumericCharacterReference ∷ error.NullCharacterReference ∷ error.CharacterReferenceOutsideUnicodeRange
     ∷ error.SurrogateCharacterReference ∷ error.NoncharacterCharacterReference ∷ error.ControlCharacterReference ∷ error.UnknownNamedCharacterReference
     ∷ error.MissingSemicolonAfterCharacterReference ∷ error.EofInTag ∷ []
@@ -313,19 +244,19 @@ unfolding references lib.Utf8.encode
 errors_in_references = refl
 
 -- a CDATA section in HTML
-error_of_cdata : errors_from (Text Data) (codes "<![CDATA[")
+error_of_cdata : errors_from false (Text Data) [] (codes "<![CDATA[")
     ≡ error.CdataInHtmlContent ∷ []
 unfolding references lib.Utf8.encode
 error_of_cdata = refl
 
 -- a CDATA section that the end cuts off
-error_in_cdata : errors_from (Text CdataSection) (codes "]")
+error_in_cdata : errors_from false (Text CdataSection) [] (codes "]")
     ≡ error.EofInCdata ∷ []
 unfolding references lib.Utf8.encode
 error_in_cdata = refl
 
 -- what looks like a comment in a script that the end cuts off
-error_in_script : errors_from (Text ScriptData) (codes "<!--<")
+error_in_script : errors_from false (Text ScriptData) [] (codes "<!--<")
     ≡ error.EofInScriptHtmlCommentLikeText ∷ []
 unfolding references lib.Utf8.encode
 error_in_script = refl

@@ -9,4 +9,5 @@ pub mod LineLaws
 pub mod WholeLaws
 pub mod AheadLaws
 pub mod TableLaws
+mod Outcomes
 mod Examples

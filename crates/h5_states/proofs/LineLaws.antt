@@ -6,32 +6,12 @@ use Rattle.h5_token.specs.TokenText.{TokenText, DoctypeIs, TagIs, CommentIs, Cha
 use Rattle.h5_token.specs.Reply.{Reply}
 use Rattle.h5_token.specs.declared.tag.TagKind.{TagKind}
 use Rattle.h5_token.specs.declared.tag.TagKind.TheVariants.{StartTag, EndTag}
-use Rattle.h5_states.specs.Lines.{newlines, line_behind, ends_in_return}
+use Rattle.h5_reading.specs.Lines.{newlines, line_past, ends_in_cr}
+use Rattle.h5_reading.proofs.LineLaws.{ends_append, line_fits, line_more, line_none, newlines_append}
 use Rattle.h5_states.specs.States.{State}
 use Rattle.h5_states.specs.References.{Reference}
 use Rattle.h5_states.specs.Reading.{Place, behind, behind_newline, in_state, is_dropped, after_tag, after_token, Passes, passed, drops, goes, again, Step, quiet_step, text_step, token_step, ask_step, Read, nothing_read, read_on}
 use Rattle.h5_states.specs.Whole.{IsCounted, Readings, no_reading, more_reading}
-
-pub line_fits : (line : ℕ) (after_return : Bool) (xs : List ℕ) → line_behind line after_return xs ≤ 2 ^ 64 - 1
-line_fits line after_return xs = omega arith
-
-append_by : (a b : Bool) (whole part rest : Bool → ℕ) → ((c : Bool) → whole c ≡ part c + rest c)
-    → (if a then 1 + whole true else (if b then 1 + whole false else whole false)) ≡ (if a then 1 + part true else (if b then 1 + part false else part false)) + rest a
-append_by true b whole part rest h = omega (arith, h true)
-append_by false true whole part rest h = omega (arith, h false)
-append_by false false whole part rest h = h false
-
-newlines_append : (after_return : Bool) (xs ys : List ℕ) → newlines after_return (xs ++ ys) ≡ newlines after_return xs + newlines (ends_in_return after_return xs) ys
-newlines_append after_return [] ys = omega arith
-newlines_append after_return (x ∷ xs) ys =
-    append_by (x == 13) (x == 10 && not after_return) (λ c. newlines c (xs ++ ys)) (λ c. newlines c xs) (λ c. newlines (ends_in_return c xs) ys) (λ c. newlines_append c xs ys)
-
-ends_append : (after_return : Bool) (xs ys : List ℕ) → ends_in_return after_return (xs ++ ys) ≡ ends_in_return (ends_in_return after_return xs) ys
-ends_append after_return [] ys = refl
-ends_append after_return (x ∷ xs) ys = ends_append (x == 13) xs ys
-
-twice_by : (l a b c : ℕ) → c ≡ a + b → u64_saturate (u64_saturate (l + a) + b) ≡ u64_saturate (l + c)
-twice_by l a b c e = omega (arith, e)
 
 -- one part, and then another
 counted_twice : (p : Place) (xs : List ℕ) (q : Place) (ys : List ℕ) (r : Place) (zs : List ℕ) → IsCounted p xs q ys → IsCounted q ys r zs → IsCounted p xs r zs
@@ -39,17 +19,14 @@ counted_twice p xs q ys r zs a b = record {
   passed = a.passed ++ b.passed;
   split = a.split ∙ ap (λ l. a.passed ++ l) b.split ∙ sym (append_assoc a.passed b.passed zs);
   line =
-      b.line ∙ (λ i. line_behind (a.line i) (a.after_return i) b.passed)
-      ∙ twice_by p.line (newlines p.after_return a.passed) (newlines (ends_in_return p.after_return a.passed) b.passed) (newlines p.after_return (a.passed ++ b.passed)) (newlines_append p.after_return a.passed b.passed);
-  after_return = b.after_return ∙ ap (λ c. ends_in_return c b.passed) a.after_return ∙ sym (ends_append p.after_return a.passed b.passed);
+      b.line ∙ (λ i. line_past (a.line i) (a.after_return i) b.passed)
+      ∙ line_more p.line (newlines p.after_return a.passed) (newlines (ends_in_cr p.after_return a.passed) b.passed) (newlines p.after_return (a.passed ++ b.passed)) (newlines_append p.after_return a.passed b.passed);
+  after_return = b.after_return ∙ ap (λ c. ends_in_cr c b.passed) a.after_return ∙ sym (ends_append p.after_return a.passed b.passed);
 }
-
-stays_by : (l : ℕ) → l ≤ 2 ^ 64 - 1 → l ≡ u64_saturate (l + 0)
-stays_by l le = omega (arith, le)
 
 -- a place in the same line
 counted_none : (p q : Place) (xs : List ℕ) → p.line ≤ 2 ^ 64 - 1 → q.line ≡ p.line → q.after_return ≡ p.after_return → IsCounted p xs q xs
-counted_none p q xs le line after_return = record { passed = []; split = refl; line = line ∙ stays_by p.line le; after_return = after_return }
+counted_none p q xs le line after_return = record { passed = []; split = refl; line = line ∙ line_none p.line 0 le refl; after_return = after_return }
 
 -- the same place but for its state
 counted_behind : (p : Place) (xs : List ℕ) (q : Place) (ys : List ℕ) (r : Place) → IsCounted p xs q ys → r.line ≡ q.line → r.after_return ≡ q.after_return → IsCounted p xs r ys

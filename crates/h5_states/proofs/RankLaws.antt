@@ -3,13 +3,13 @@ use Rattle.std.proofs.Common.{◌≡◌, ℕ, suc, ◌+◌, ◌<◌, ◌≤◌, 
 use Rattle.std.specs.Prelude.{not}
 use Rattle.std.specs.Char.{is_ascii_alphabetic, is_ascii_digit}
 use Rattle.h5_token.specs.TokenText.{TokenText}
+use Rattle.h5_reading.specs.Proper.{IsProper}
 use Rattle.h5_states.specs.Signs.{is_name_end, is_alphanumeric, is_hex_digit}
 use Rattle.h5_states.specs.States.{State, AttributeName, AfterAttributeName, RawEndTagName, ScriptDataDoubleEscapeStart, AmbiguousAmpersand, NamedCharacterReference, Hexadecimal, Decimal}
 use Rattle.h5_states.specs.Turn.{Again, Hands}
 use Rattle.h5_states.specs.References.{Reference}
 use Rattle.h5_states.specs.Machine.{turn}
 use Rattle.h5_states.specs.Rank.{rank, unless, Meets, one_row, more_rows}
-use Rattle.h5_states.specs.Proper.{IsProper}
 use Rattle.h5_states.proofs.RowLaws.{FitsDeed, turn_fits}
 
 pub rank_falls : (table : List Reference) (last : List ℕ) (state : State) (x : ℕ) (text : List ℕ) (next : State)

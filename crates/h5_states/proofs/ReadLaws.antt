@@ -1,11 +1,13 @@
 -- Readings go on and join, and what they hand on is proper.
-use Rattle.std.proofs.Common.{◌≡◌, ℕ, Bool, true, List, [], ◌∷◌, ◌++◌, refl, ◌∙◌, append_assoc, append-nil}
+use Rattle.std.proofs.Common.{◌≡◌, ℕ, Bool, true, List, ◌++◌, refl, ◌∙◌, append_assoc, append-nil}
 use Rattle.h5_token.specs.TokenText.{TokenText}
 use Rattle.h5_token.specs.Reply.{Reply}
+use Rattle.h5_reading.specs.Answers.{goes_on}
+use Rattle.h5_reading.specs.Proper.{AreProper}
+use Rattle.h5_reading.proofs.ProperLaws.{proper_append}
 use Rattle.h5_states.specs.Lines.{normal}
 use Rattle.h5_states.specs.References.{Reference}
-use Rattle.h5_states.specs.Reading.{Place, Passes, passed, drops, goes, again, Step, quiet_step, text_step, token_step, ask_step, Read, nothing_read, read_on, goes_on}
-use Rattle.h5_states.specs.Proper.{AreProper}
+use Rattle.h5_states.specs.Reading.{Place, Passes, passed, drops, goes, again, Step, quiet_step, text_step, token_step, ask_step, Read, nothing_read, read_on}
 use Rattle.h5_states.proofs.RankLaws.{hands_proper}
 
 pub passes_go_on : (table : List Reference) {p q : Place} {xs text ys : List ℕ} (more : List ℕ) → Passes table p xs text q ys → Passes table p (xs ++ more) text q (ys ++ more)
@@ -13,10 +15,6 @@ passes_go_on table more passed = passed
 passes_go_on table more (drops d h) = drops d (passes_go_on table more h)
 passes_go_on table more (goes text state d e h) = goes text state d e (passes_go_on table more h)
 passes_go_on table more (again text state d e h) = again text state d e (passes_go_on table more h)
-
-proper_append : (ts us : List TokenText) → AreProper ts → AreProper us → AreProper (ts ++ us)
-proper_append [] us h g = g
-proper_append (t ∷ ts) us h g = (h.0, proper_append ts us h.1 g)
 
 module _ (table : List Reference) {M : Type 0} (reply_to : M → TokenText → Reply) (after : M → TokenText → ℕ → M) (foreign : M → Bool) where
   step_goes_on : {p : Place} {m : M} {xs : List ℕ} {ts : List TokenText} {reply : Reply} {q : Place} {n : M} {ys : List ℕ} (more : List ℕ)

@@ -5,6 +5,7 @@ use Rattle.std.proofs.lemmas.Bool.{false≢true}
 use Rattle.std.specs.Char.{is_ascii_alphabetic, is_ascii_digit}
 use Rattle.std.specs.Prelude.{Option, Some, None, not}
 use Rattle.h5_token.specs.TokenText.{DoctypeText}
+use Rattle.h5_reading.specs.Proper.{IsProper}
 use Rattle.h5_states.specs.declared.kinds.TextKind.{TextKind}
 use Rattle.h5_states.specs.declared.kinds.TextKind.TheVariants.{Data, Rcdata, Rawtext, ScriptData, Plaintext, CdataSection}
 use Rattle.h5_states.specs.declared.kinds.RawTextKind.{RawTextKind}
@@ -22,7 +23,6 @@ use Rattle.h5_states.specs.Texts as t
 use Rattle.h5_states.specs.References.{Reference, Longest, longest, is_beginning, is_historical, named, unnamed, in_ambiguous, code_point}
 use Rattle.h5_states.specs.Machine.{turn}
 use Rattle.h5_states.specs.Rank.{rank, unless}
-use Rattle.h5_states.specs.Proper.{IsProper}
 
 abbrev pub FitsDeed : ℕ → ℕ → Deed → Type 0
 FitsDeed r x (Goes text state) = Unit {0}

@@ -2,10 +2,13 @@
 use Rattle.std.proofs.Common.{◌≡◌, ℕ, Bool, false, List, [], ◌∷◌, ◌++◌, refl, Ok}
 use Rattle.h5_token.specs.TokenText.{TokenText, EndOfFile}
 use Rattle.h5_token.specs.Reply.{Reply}
+use Rattle.h5_reading.specs.Answers.{refuses}
+use Rattle.h5_reading.specs.Taking.{ClosesWith}
+use Rattle.h5_reading.specs.Told.{after_all}
 use Rattle.h5_states.specs.References.{Reference}
 use Rattle.h5_states.specs.Reading.{Place, Read}
-use Rattle.h5_states.specs.End.{refuses, last_tokens, ClosesWith, Closes}
-use Rattle.h5_states.specs.Whole.{Readings, no_reading, more_reading, ReadsToEnd, after_all}
+use Rattle.h5_states.specs.End.{last_tokens, Closes}
+use Rattle.h5_states.specs.Whole.{Readings, no_reading, more_reading, ReadsToEnd}
 use Rattle.h5_states.proofs.ReadLaws.{read_goes_on}
 
 module _ (table : List Reference) {M : Type 0} (reply_to : M → TokenText → Reply) (after : M → TokenText → ℕ → M) (foreign : M → Bool) where

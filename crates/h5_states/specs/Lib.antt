@@ -20,4 +20,3 @@ pub mod Lines
 pub mod Reading
 pub mod End
 pub mod Whole
-pub mod Proper

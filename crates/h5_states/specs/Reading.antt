@@ -10,6 +10,7 @@ use Rattle.h5_token.specs.declared.tag.TagKind.{TagKind}
 use Rattle.h5_token.specs.declared.tag.TagKind.TheVariants.{StartTag, EndTag}
 use Rattle.h5_token.specs.declared.states.RawKind.{RawKind}
 use Rattle.h5_token.specs.declared.states.RawKind.TheVariants as chosen
+use Rattle.h5_reading.specs.Answers.{goes_on}
 use Rattle.h5_states.specs.declared.errors.ParseError.{ParseError}
 use Rattle.h5_states.specs.declared.kinds.TextKind.{TextKind}
 use Rattle.h5_states.specs.declared.kinds.TextKind.TheVariants.{Data, Rcdata, Rawtext, ScriptData, Plaintext}
@@ -18,15 +19,6 @@ use Rattle.h5_states.specs.States.{State, Text, ScriptDataEscapeStart, ScriptDat
 use Rattle.h5_states.specs.Turn.{Deed, Goes, Again, Hands, Asks}
 use Rattle.h5_states.specs.References.{Reference}
 use Rattle.h5_states.specs.Machine.{turn}
-
--- whether reading goes on after an answer
-abbrev pub goes_on : Reply → Bool
-goes_on Continues = true
-goes_on (RunsScript node) = false
-goes_on TurnsPlain = true
-goes_on (TurnsRaw kind) = true
-goes_on (Indicates encoding) = false
-goes_on (Refuses fault) = false
 
 abbrev pub raw_text : RawKind → TextKind
 raw_text chosen.Rcdata = Rcdata

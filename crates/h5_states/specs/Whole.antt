@@ -1,24 +1,20 @@
--- Input that is read to its end, and sinks to which it doesn't matter how a text is cut.
+-- Input that is read to its end.
 use Rattle.std.specs.Prelude.{◌≡◌, ℕ, Bool, true, false, List, [], ◌∷◌, ◌++◌}
-use Rattle.h5_token.specs.TokenText.{TokenText, Characters, EndOfFile}
+use Rattle.h5_token.specs.TokenText.{TokenText, EndOfFile}
 use Rattle.h5_token.specs.Reply.{Reply}
+use Rattle.h5_reading.specs.Told.{after_all}
+use Rattle.h5_reading.specs.Lines.{line_past, ends_in_cr}
+use Rattle.h5_reading.specs.Answers.{goes_on, refuses}
 use Rattle.h5_states.specs.References.{Reference}
-use Rattle.h5_states.specs.Lines.{line_behind, ends_in_return}
-use Rattle.h5_states.specs.Reading.{Place, Read, goes_on}
-use Rattle.h5_states.specs.End.{refuses, last_tokens}
+use Rattle.h5_states.specs.Reading.{Place, Read}
+use Rattle.h5_states.specs.End.{last_tokens}
 
 -- From a place, these bytes were passed of an input, up to a place and a rest. Its line is behind their newlines.
 pub record IsCounted (p : Place) (xs : List ℕ) (q : Place) (ys : List ℕ) : Type 0 where
   pub passed : List ℕ
   pub split : xs ≡ passed ++ ys
-  pub line : q.line ≡ line_behind p.line p.after_return passed
-  pub after_return : q.after_return ≡ ends_in_return p.after_return passed
-
-module _ {M : Type 0} (after : M → TokenText → ℕ → M) where
-  -- what the sink means after these, each told with this line
-  abbrev pub after_all : M → List TokenText → ℕ → M
-  after_all m [] line = m
-  after_all m (t ∷ ts) line = after_all (after m t line) ts line
+  pub line : q.line ≡ line_past p.line p.after_return passed
+  pub after_return : q.after_return ≡ ends_in_cr p.after_return passed
 
 module _ (table : List Reference) {M : Type 0} (reply_to : M → TokenText → Reply) (after : M → TokenText → ℕ → M) (foreign : M → Bool) where
   -- readings, one after another, where no token is refused
@@ -54,17 +50,3 @@ module _ (table : List Reference) {M : Type 0} (reply_to : M → TokenText → R
     pub tokens : List TokenText
     pub meaning : M
     pub reads : ReadsToEnd p m xs tokens meaning
-
-module _ {M : Type 0} (reply_to : M → TokenText → Reply) (after : M → TokenText → ℕ → M) (foreign : M → Bool) (ended : M → M) where
-  -- An equivalence of meanings that is kept by equal tokens, whatever lines they are told with, and to which it
-  -- doesn't matter how a text is cut. Meanings that are equivalent give the same answers.
-  pub record IsBlindToCuts (alike : M → M → Type 0) : Type 0 where
-    pub reflexive : (m : M) → alike m m
-    pub symmetric : (m n : M) → alike m n → alike n m
-    pub transitive : (m n o : M) → alike m n → alike n o → alike m o
-    pub replies : (m n : M) (t : TokenText) → alike m n → reply_to m t ≡ reply_to n t
-    pub spaces : (m n : M) → alike m n → foreign m ≡ foreign n
-    pub kept : (m n : M) (t : TokenText) (k l : ℕ) → alike m n → alike (after m t k) (after n t l)
-    pub ends : (m n : M) → alike m n → alike (ended m) (ended n)
-    pub cut : (m : M) (x y : ℕ) (xs ys : List ℕ) (j k l : ℕ)
-        → alike (after m (Characters ((x ∷ xs) ++ y ∷ ys)) j) (after (after m (Characters (x ∷ xs)) k) (Characters (y ∷ ys)) l)

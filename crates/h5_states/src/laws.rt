@@ -6,6 +6,7 @@ ghost use Rattle.h5_states.specs.References.{Reference};
 ghost use Rattle.h5_states.specs.States.{State};
 ghost use Rattle.h5_states.specs.Turn.{Again};
 
+pub use h5_reading::Likeness;
 use h5_token::TokenSink;
 
 /// A byte meets three rows at most: where a row reconsumes it, its rank is smaller in the state that takes it then, and a
@@ -21,9 +22,10 @@ ghost use Rattle.std.specs.Prelude.{Bool, true, [], ◌∷◌, ◌++◌};
 ghost use Rattle.h5_token.specs.Reply.{Reply, TurnsRaw};
 ghost use Rattle.h5_token.specs.TokenText.{TokenText, EndOfFile};
 ghost use Rattle.h5_token.specs.declared.states.RawKind.{RawKind};
-ghost use Rattle.h5_states.specs.Proper.{AreProper};
+ghost use Rattle.h5_reading.specs.Proper.{AreProper};
+ghost use Rattle.h5_reading.specs.Answers.{goes_on, refuses};
 ghost use Rattle.h5_states.specs.RawTexts.{IsRaw, RawBehind};
-ghost use Rattle.h5_states.specs.Reading.{Place, Read, Step, chosen_state, goes_on};
+ghost use Rattle.h5_states.specs.Reading.{Place, Read, Step, chosen_state};
 
 /// What was read is read so whatever follows: a piece that is read early is read as in the whole input.
 pub fn reading_goes_on<S: TokenSink>()
@@ -62,8 +64,9 @@ pub fn raw_elements_have_texts_and_an_end_tag<S: TokenSink>()
 
 ghost use Rattle.std.specs.Prelude.{Ok, false};
 ghost use Rattle.h5_token.specs.Joins.{join};
-ghost use Rattle.h5_states.specs.End.{Closes, last_tokens, refuses};
-ghost use Rattle.h5_states.specs.Whole.{IsBlindToCuts, IsCounted, IsReadToEnd, Readings, ReadsAll, ReadsToEnd};
+ghost use Rattle.h5_reading.specs.Blindness.{IsBlindToCuts};
+ghost use Rattle.h5_states.specs.End.{Closes, last_tokens};
+ghost use Rattle.h5_states.specs.Whole.{IsCounted, IsReadToEnd, Readings, ReadsAll, ReadsToEnd};
 
 /// Nothing is held back between two pieces. From every place, over every meaning, any input can be read up to nothing or to
 /// an answer after which reading doesn't go on. So what a reader keeps is a place, and no bytes.
@@ -106,13 +109,6 @@ pub fn lines_are_counted<S: TokenSink>()
         (q : Place) (n : S.Meaning) (ys : List ℕ) →
         p.line ≤ u64.MAX → Readings table S.reply_to S.after S.is_foreign p m xs ts q n ys → IsCounted p xs q ys }
 {}
-
-/// A relation of what is seen of a sink's meanings, for the law of cuts. It has no code.
-pub trait Likeness {
-    ghost Seen: { Type 0 };
-
-    ghost alike: { Seen → Seen → Type 0 };
-}
 
 /// How an input is cut doesn't matter: two readings of it to its end, over two meanings of a sink that are
 /// alike, hand on lists of tokens that differ in cuts of texts alone, and leave meanings that are alike.

@@ -9,10 +9,12 @@
 //! `kinds` and `errors` are what code shares with these pages. `laws` has what holds of them: a byte meets three rows at
 //! most (`specs/Rank.antt`), where the standard looks ahead nothing is lost (`specs/Ahead.antt`), a raw element has texts and
 //! an end tag (`specs/RawTexts.antt`), any input can be read, nothing is held back between two pieces of it, and how it is
-//! cut doesn't matter. `proofs/Examples.antt` has texts and what is handed on of them, by computing.
+//! cut doesn't matter. `proofs/Examples.antt` has texts and what is handed on of them, by computing. `examples.txt` has some
+//! 1,700 more, with the answers of another tokenizer, which `.ci/examples` tries in the same way.
 //!
-//! It stands on tokens, and on `h5_markup` for attributes. The plain reader (`h5_tokenizer`) has its own definition, of a
-//! subset. Begin with `specs/States.antt` and `specs/Turn.antt`, then read a chapter beside the standard.
+//! It stands on tokens, on `h5_reading` for what every reader has, and on `h5_markup` for attributes. The plain reader
+//! (`h5_tokenizer`) has its own definition, of a subset. Begin with `specs/States.antt` and `specs/Turn.antt`, then read a
+//! chapter beside the standard.
 #![tactic(auto)]
 
 mod errors;

@@ -14,13 +14,13 @@ use Rattle.h5_markup.proofs.Endings.{sought_end}
 use Rattle.h5_markup.proofs.Staying.{walk_stays, in_tag_name}
 use Rattle.h5_markup.specs.Text.{name_of}
 use Rattle.h5_markup.specs.Attributes.{attributes_of, distinct, has_duplicates}
+use Rattle.h5_reading.specs.Lines.{newlines_passed}
+use Rattle.h5_reading.proofs.LineLaws.{in_line_more, in_line_through}
 use Rattle.h5_tokenizer.specs.Bare.{bare_tag, IsBare, BeginsBare}
 use Rattle.h5_tokenizer.specs.Tokens.{is_between, is_self_closing, last_is, start_tag, end_tag}
 use Rattle.h5_tokenizer.specs.Front.{Begins, Whole, in_data}
 use Rattle.h5_tokenizer.specs.declared.front.Mode.TheVariants.{Data}
 use Rattle.h5_tokenizer.specs.declared.front.Construct.TheVariants.{StartTag, EndTag}
-use Rattle.h5_tokenizer.specs.Lines.{newlines_passed}
-use Rattle.h5_tokenizer.proofs.LineLaws.{in_line_more, in_line_through}
 use Rattle.h5_tokenizer.proofs.StepLaws.{front_concluded}
 
 all_before : (stop : ℕ → Bool) (xs : List ℕ) (n : ℕ) → ((k : ℕ) → k < n → stop (get_or xs k 0) ≡ false) → before stop (take n xs) ≡ take n xs

@@ -1,27 +1,19 @@
 -- The line that a reading comes to.
-use Rattle.std.proofs.Common.{◌≡◌, ℕ, ◌+◌, ◌-◌, ◌^◌, ◌≤◌, Bool, false, List, [], ◌∷◌, ◌++◌, length, take, refl, sym, ap, ◌∙◌, subst, arith, append_assoc, append-nil, length-append}
-use Rattle.std.proofs.Math.Seq.{take-append_seam}
-use Rattle.std.proofs.lemmas.List.{length-take-le}
-use Rattle.std.specs.Io.Iter.{u64_saturate}
+use Rattle.std.proofs.Common.{◌≡◌, ℕ, ◌+◌, ◌-◌, ◌^◌, ◌≤◌, Bool, false, List, [], ◌∷◌, ◌++◌, refl, sym, ap, ◌∙◌, subst, arith, append_assoc, append-nil}
 use Rattle.h5_token.specs.TokenText.{TokenText, DoctypeIs, TagIs, CommentIs, Characters, NullCharacter, EndOfFile, ParseErrorIs}
 use Rattle.h5_token.specs.Reply.{Reply}
 use Rattle.h5_token.specs.declared.tag.TagKind.{TagKind}
 use Rattle.h5_token.specs.declared.tag.TagKind.TheVariants.{StartTag, EndTag}
 use Rattle.h5_markup.proofs.Finds.{literal_gives}
+use Rattle.h5_reading.specs.Lines.{line_behind, newlines, newlines_passed, passed, ends_in_cr}
+use Rattle.h5_reading.proofs.LineLaws.{line_fits, line_more, line_none, newlines_append, passed_is}
 use Rattle.h5_tokenizer.specs.Front.{Place}
-use Rattle.h5_tokenizer.specs.Lines.{line_behind, newlines, newlines_passed, passed}
 use Rattle.h5_tokenizer.specs.Read.{Step, marked, unmarked, token_step, switch_step, text_step, Read, nothing_read, read_on, after_tag, next_place}
 use Rattle.h5_tokenizer.specs.Steps.{TakesBits, TakesMany}
 use Rattle.h5_tokenizer.specs.declared.front.Mode.{Mode}
 use Rattle.h5_tokenizer.specs.Whole.{Readings, no_reading, more_reading}
-use Rattle.h5_tokenizer.proofs.PartLaws.{Part, ends_in_cr, newlines_append, part_none, part_twice}
+use Rattle.h5_tokenizer.proofs.PartLaws.{Part, part_none, part_twice}
 use Rattle.h5_tokenizer.proofs.FrontKeeps.{bits_part, step_part, read_part}
-use Rattle.h5_tokenizer.proofs.LineLaws.{few}
-
-passed_is : (xs ys front : List ℕ) → xs ≡ front ++ ys → passed xs ys ≡ front
-passed_is xs ys front split =
-    let n : length xs - length ys ≡ length front = omega (arith, ap length split, length-append front ys) in
-    ap (λ k. take k xs) n ∙ ap (take (length front)) split ∙ take-append_seam front ys
 
 -- a CR before some bytes that doesn't matter for these and what follows doesn't matter for these alone
 apart_alone : (c : Bool) (front rest : List ℕ) → newlines c (front ++ rest) ≡ newlines false (front ++ rest) → newlines c front ≡ newlines false front
@@ -43,24 +35,11 @@ passed_twice {xs} {ys} {zs} c d =
 pub text_lines : {mode : Mode} {last : List ℕ} {foreign : Bool} (xs mid ys old begun out : List ℕ) → TakesBits mode last foreign xs mid old begun → TakesMany mode last mid ys begun out → newlines_passed xs ys ≡ newlines_passed xs mid + newlines_passed mid ys
 text_lines xs mid ys old begun out first second = passed_twice (bits_part first.bits) (bits_part second.bits)
 
--- there are no more newlines than bytes
-pub few_passed : (xs ys : List ℕ) → newlines_passed xs ys ≤ length xs
-few_passed xs ys = omega (arith, few false (passed xs ys), length-take-le (length xs - length ys) xs (omega arith))
-
-twice_by : (l a b c : ℕ) → c ≡ a + b → u64_saturate (u64_saturate (l + a) + b) ≡ u64_saturate (l + c)
-twice_by l a b c e = omega arith
-
-none_by : (l n : ℕ) → l ≤ 2 ^ 64 - 1 → n ≡ 0 → l ≡ u64_saturate (l + n)
-none_by l n le e = omega arith
-
 line_twice : (line : ℕ) (xs ys zs : List ℕ) → Part xs ys → Part ys zs → line_behind (line_behind line xs ys) ys zs ≡ line_behind line xs zs
-line_twice line xs ys zs c d = twice_by line (newlines_passed xs ys) (newlines_passed ys zs) (newlines_passed xs zs) (passed_twice c d)
+line_twice line xs ys zs c d = line_more line (newlines_passed xs ys) (newlines_passed ys zs) (newlines_passed xs zs) (passed_twice c d)
 
 line_stays : (line : ℕ) (xs ys front : List ℕ) → line ≤ 2 ^ 64 - 1 → xs ≡ front ++ ys → newlines false front ≡ 0 → line ≡ line_behind line xs ys
-line_stays line xs ys front le split none = none_by line (newlines false (passed xs ys)) le (ap (newlines false) (passed_is xs ys front split) ∙ none)
-
-line_fits : (line : ℕ) (xs ys : List ℕ) → line_behind line xs ys ≤ 2 ^ 64 - 1
-line_fits line xs ys = omega arith
+line_stays line xs ys front le split none = line_none line (newlines false (passed xs ys)) le (ap (newlines false) (passed_is xs ys front split) ∙ none)
 
 tag_line : (p : Place) (kind : TagKind) (name : List ℕ) (reply : Reply) → (after_tag p kind name reply).line ≡ p.line
 tag_line p StartTag name reply = refl
@@ -87,7 +66,7 @@ module _ {M : Type 0} (reply_to : M → TokenText → Reply) (after : M → Toke
   read_line le (nothing_read {p} {xs}) = line_stays p.line xs xs [] le refl refl
   read_line le (read_on {p} {q} {xs} {ys} {zs} read goes step) =
       let before : q.line ≡ line_behind p.line xs ys = read_line le read in
-      let fits : q.line ≤ 2 ^ 64 - 1 = omega (arith, before, line_fits p.line xs ys) in
+      let fits : q.line ≤ 2 ^ 64 - 1 = omega (arith, before, line_fits p.line false (passed xs ys)) in
       step_line fits step ∙ ap (λ l. line_behind l ys zs) before ∙ line_twice p.line xs ys zs (read_part reply_to after foreign read) (step_part reply_to after foreign step)
 
   readings_part : {p : Place} {m : M} {xs : List ℕ} {ts : List TokenText} {q : Place} {n : M} {ys : List ℕ} → Readings reply_to after foreign p m xs ts q n ys → Part xs ys
@@ -98,7 +77,7 @@ module _ {M : Type 0} (reply_to : M → TokenText → Reply) (after : M → Toke
   readings_line le (no_reading {p} {xs}) = line_stays p.line xs xs [] le refl refl
   readings_line le (more_reading {p} {q} {xs} {ys} {zs} readings read goes) =
       let before : q.line ≡ line_behind p.line xs ys = readings_line le readings in
-      let fits : q.line ≤ 2 ^ 64 - 1 = omega (arith, before, line_fits p.line xs ys) in
+      let fits : q.line ≤ 2 ^ 64 - 1 = omega (arith, before, line_fits p.line false (passed xs ys)) in
       read_line fits read ∙ ap (λ l. line_behind l ys zs) before ∙ line_twice p.line xs ys zs (readings_part readings) (read_part reply_to after foreign read)
 
   all_part : (xs : List ℕ) → Part xs []

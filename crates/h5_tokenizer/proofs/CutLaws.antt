@@ -5,16 +5,19 @@ use Rattle.h5_token.specs.Reply.{Reply}
 use Rattle.h5_markup.specs.Matching.{Match, Open, No, Found, and_then, or_else, literal}
 use Rattle.std.specs.Prelude.{codes, Option, Some, None}
 use Rattle.h5_markup.specs.Text.{reference, newline}
+use Rattle.h5_reading.specs.Blindness.{IsBlindToCuts}
+use Rattle.h5_reading.specs.Lines.{line_behind}
+use Rattle.h5_reading.specs.Told.{after_text, told}
+use Rattle.h5_reading.proofs.JoinLaws.{joins_append}
+use Rattle.h5_reading.proofs.BlindLaws.{text_cut}
 use Rattle.h5_tokenizer.specs.declared.front.Mode.{Mode}
 use Rattle.h5_tokenizer.specs.declared.front.Mode.TheVariants.{Data, RawData, Plaintext, Cdata}
 use Rattle.h5_tokenizer.specs.Front.{Opening, Turns, says, stands_for, comment, doctype, end_tag, start_tag, null, Piece, Bit, Whole, Switch, finished, other, front, Place}
 use Rattle.h5_token.specs.Joins.{glue, join}
 use Rattle.h5_tokenizer.specs.Read.{Bits, no_bit, more_bits, Step, marked, unmarked, token_step, switch_step, text_step, Read, nothing_read, read_on, behind, started, in_mode, next_place}
-use Rattle.h5_tokenizer.specs.Whole.{IsBlindToCuts, Readings, no_reading, more_reading, ReadsToEnd, closing, after_closing}
+use Rattle.h5_tokenizer.specs.Whole.{Readings, no_reading, more_reading, ReadsToEnd, closing, after_closing}
 use Rattle.h5_tokenizer.specs.End.{settle}
-use Rattle.h5_tokenizer.specs.Lines.{line_behind}
 use Rattle.h5_tokenizer.proofs.ProperLaws.{IsFull, bit_full, bits_full}
-use Rattle.h5_tokenizer.proofs.JoinLaws.{joins_append}
 use Rattle.h5_tokenizer.proofs.DeedLaws.{Deed, Begun, Done, behind_mark, done, deed, deed_begins, deed_goes_on, deed_waits, tokens_of, place_behind, meaning_behind, unlined, next_unlined, Runs, stays, does, runs_join, same_runs}
 
 -- what is text where a CDATA part might begin is text where none may
@@ -39,27 +42,16 @@ bit_anyway (RawData kind) last false xs bit rest h = h
 bit_anyway Plaintext last false xs bit rest h = h
 bit_anyway Cdata last false xs bit rest h = h
 
--- a text as a list of tokens; the empty one is none
-abbrev told : List ℕ → List TokenText
-told [] = []
-told (x ∷ xs) = Characters (x ∷ xs) ∷ []
-
 told_glues : (bit text : List ℕ) → IsFull bit → join (told (bit ++ text)) ≡ glue bit (join (told text))
 told_glues [] text full = absurd full
 told_glues (x ∷ bit) [] full = ap (λ l. Characters (x ∷ l) ∷ []) (append-nil bit)
 told_glues (x ∷ bit) (y ∷ text) full = refl
 
 module _ {M : Type 0} (reply_to : M → TokenText → Reply) (after : M → TokenText → ℕ → M) (foreign : M → Bool) (ended : M → M) (alike : M → M → Type 0) (blind : IsBlindToCuts reply_to after foreign ended alike) where
-  -- what the sink means after a text, whatever its line
-  abbrev after_text : M → List ℕ → M
-  after_text m [] = m
-  after_text m (x ∷ xs) = after m (Characters (x ∷ xs)) 0
-
-  after_cut : (m n : M) (bit text : List ℕ) → IsFull bit → alike (after_text (after m (Characters bit) 0) text) n → alike (after_text m (bit ++ text)) n
+  -- a bit, and the text behind it; texts are told with any line
+  after_cut : (m n : M) (bit text : List ℕ) → IsFull bit → alike (after_text after (after m (Characters bit) 0) text 0) n → alike (after_text after m (bit ++ text) 0) n
   after_cut m n [] text full h = absurd full
-  after_cut m n (x ∷ bit) [] full h = subst (λ (l : List ℕ). alike (after m (Characters (x ∷ l)) 0) n) (sym (append-nil bit)) h
-  after_cut m n (x ∷ bit) (y ∷ text) full h =
-      blind.transitive (after m (Characters ((x ∷ bit) ++ y ∷ text)) 0) (after (after m (Characters (x ∷ bit)) 0) (Characters (y ∷ text)) 0) n (blind.cut m x y bit text 0 0 0) h
+  after_cut m n (x ∷ bit) text full h = blind.transitive _ _ n (text_cut reply_to after foreign ended alike blind m (x ∷ bit) text 0 0 0) h
 
   -- the same was done bit by bit, but for the line
   pub record Follows (p : Place) (m : M) (xs : List ℕ) (ts : List TokenText) (q : Place) (n : M) (ys : List ℕ) : Type 0 where
@@ -74,8 +66,8 @@ module _ {M : Type 0} (reply_to : M → TokenText → Reply) (after : M → Toke
 
   one_bit : (p : Place) (m n : M) (xs bit rest text ys : List ℕ) → p.at_start ≡ false → alike m n
       → front p.mode p.last (foreign n) xs ≡ Found (Bit bit) rest
-      → Follows p (after n (Characters bit) 0) rest (told text) p (after_text (after m (Characters bit) 0) text) ys
-      → Follows p n xs (told (bit ++ text)) p (after_text m (bit ++ text)) ys
+      → Follows p (after n (Characters bit) 0) rest (told text) p (after_text after (after m (Characters bit) 0) text 0) ys
+      → Follows p n xs (told (bit ++ text)) p (after_text after m (bit ++ text) 0) ys
   one_bit p m n xs bit rest text ys begun like h behind =
       let full = bit_full p.mode p.last (foreign n) xs bit rest h in
       record {
@@ -86,14 +78,14 @@ module _ {M : Type 0} (reply_to : M → TokenText → Reply) (after : M → Toke
         like = after_cut m behind.meaning bit text full behind.like;
       }
 
-  follow_bits : {xs text ys : List ℕ} (p : Place) (m n : M) → p.at_start ≡ false → alike m n → Bits p.mode p.last true xs text ys → Follows p n xs (told text) p (after_text m text) ys
+  follow_bits : {xs text ys : List ℕ} (p : Place) (m n : M) → p.at_start ≡ false → alike m n → Bits p.mode p.last true xs text ys → Follows p n xs (told text) p (after_text after m text 0) ys
   follow_bits p m n begun like no_bit = record { tokens = []; meaning = n; run = stays; joined = refl; like = like }
   follow_bits {xs} {ys} p m n begun like (more_bits {rest} {text} bit h bits) =
       one_bit p m n xs bit rest text ys begun like (bit_anyway p.mode p.last (foreign n) xs bit rest h)
       (follow_bits p (after m (Characters bit) 0) (after n (Characters bit) 0) begun (blind.kept m n (Characters bit) 0 0 like) bits)
 
   -- the first bit is read where the sink's answer counts
-  follow_first : (p : Place) (m n : M) (xs text ys : List ℕ) → p.at_start ≡ false → alike m n → length ys < length xs → Bits p.mode p.last (foreign m) xs text ys → Follows p n xs (told text) p (after_text m text) ys
+  follow_first : (p : Place) (m n : M) (xs text ys : List ℕ) → p.at_start ≡ false → alike m n → length ys < length xs → Bits p.mode p.last (foreign m) xs text ys → Follows p n xs (told text) p (after_text after m text 0) ys
   follow_first p m n xs text ys begun like less no_bit = absurd (omega arith)
   follow_first p m n xs text ys begun like less (more_bits {rest} {text = others} bit h bits) =
       one_bit p m n xs bit rest others ys begun like (ap (λ b. front p.mode p.last b xs) (sym (blind.spaces m n like)) ∙ h)
@@ -115,7 +107,7 @@ module _ {M : Type 0} (reply_to : M → TokenText → Reply) (after : M → Toke
   told_one [] full = absurd full
   told_one (x ∷ text) full = refl
 
-  after_one : (m : M) (text : List ℕ) → IsFull text → after_text m text ≡ after m (Characters text) 0
+  after_one : (m : M) (text : List ℕ) → IsFull text → after_text after m text 0 ≡ after m (Characters text) 0
   after_one m [] full = absurd full
   after_one m (x ∷ text) full = refl
 
@@ -128,7 +120,7 @@ module _ {M : Type 0} (reply_to : M → TokenText → Reply) (after : M → Toke
         meaning = first.meaning;
         run = first.run;
         joined = ap join (sym (told_one text full)) ∙ first.joined;
-        like = blind.transitive (after m (Characters text) p.line) (after_text m text) first.meaning (subst (λ (k : M). alike (after m (Characters text) p.line) k) (sym (after_one m text full)) (blind.kept m m (Characters text) p.line 0 (blind.reflexive m))) first.like;
+        like = blind.transitive (after m (Characters text) p.line) (after_text after m text 0) first.meaning (subst (λ (k : M). alike (after m (Characters text) p.line) k) (sym (after_one m text full)) (blind.kept m m (Characters text) p.line 0 (blind.reflexive m))) first.like;
       }
 
   follow_step : {p : Place} {m : M} {xs : List ℕ} {ts : List TokenText} {reply : Reply} {q : Place} {k : M} {ys : List ℕ} (n : M) → alike m n → Step reply_to after foreign p m xs ts reply q k ys → Follows p n xs ts q k ys

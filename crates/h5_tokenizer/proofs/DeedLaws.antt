@@ -5,10 +5,10 @@ use Rattle.h5_token.specs.declared.tag.TagKind.{TagKind}
 use Rattle.h5_token.specs.declared.tag.TagKind.TheVariants.{StartTag, EndTag}
 use Rattle.h5_token.specs.Reply.{Reply}
 use Rattle.h5_markup.specs.Matching.{Match, Open, No, Found, and_then}
+use Rattle.h5_reading.specs.Blindness.{IsBlindToCuts}
 use Rattle.h5_tokenizer.specs.declared.front.Mode.{Mode}
 use Rattle.h5_tokenizer.specs.Front.{Place, Piece, Bit, Whole, Switch, front, mark}
 use Rattle.h5_tokenizer.specs.Read.{after_tag, next_place, in_mode, started, IsUndecided}
-use Rattle.h5_tokenizer.specs.Whole.{IsBlindToCuts}
 
 -- what is done first: the place where a mark may come is passed, or a piece is taken
 pub data Deed : Type 0 where

@@ -6,7 +6,7 @@ use Rattle.std.specs.Char.{is_ascii_alphabetic}
 use Rattle.h5_token.specs.TokenText.{TokenText, NullCharacter}
 use Rattle.h5_token.specs.Reply.{Reply}
 use Rattle.h5_token.specs.declared.states.RawKind.TheVariants.{Rcdata, Rawtext, ScriptData}
-use Rattle.h5_tokenizer.specs.Lines.{newlines}
+use Rattle.h5_reading.specs.Lines.{newlines, ends_in_cr}
 use Rattle.h5_tokenizer.specs.Read.{Bits, no_bit, more_bits, Step, marked, unmarked, token_step, switch_step, text_step, Read, nothing_read, read_on}
 use Rattle.h5_markup.specs.Matching.{Match, Open, No, Found, literal, word, peek, and_then, or_else}
 use Rattle.h5_markup.specs.Cuts.{is_in}
@@ -17,7 +17,7 @@ use Rattle.h5_tokenizer.specs.declared.front.Construct.TheVariants.{Comment, Doc
 use Rattle.h5_markup.specs.Text.{gives, reference, newline, cleaned, escape}
 use Rattle.h5_tokenizer.specs.Tokens.{start_of, token_of}
 use Rattle.h5_tokenizer.specs.Front.{Opening, Begins, Gives, Null, Turns, says, stands_for, cdata, in_data, raw_end_tag, reads_references, opening, Bit, Whole, Switch, finished, other, front, Place}
-use Rattle.h5_tokenizer.proofs.PartLaws.{Part, Parts, Keeps, ends_in_cr, part_none, part_twice, and_then_parts, or_else_parts, literal_keeps, word_keeps, peek_keeps, ahead_keeps, up_to_end_keeps, found_keeps, no_keeps, and_then_keeps, or_else_keeps}
+use Rattle.h5_tokenizer.proofs.PartLaws.{Part, Parts, Keeps, part_none, part_twice, and_then_parts, or_else_parts, literal_keeps, word_keeps, peek_keeps, ahead_keeps, up_to_end_keeps, found_keeps, no_keeps, and_then_keeps, or_else_keeps}
 
 gives_keeps : (bytes needle : List ℕ) → ends_in_cr false needle ≡ false → Keeps (λ xs. gives bytes (literal needle xs))
 gives_keeps bytes needle e = and_then_keeps (literal_keeps needle e) (λ _. found_keeps bytes)

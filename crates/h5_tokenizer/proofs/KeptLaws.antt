@@ -2,11 +2,12 @@
 use Rattle.std.proofs.Common.{◌≡◌, ℕ, Bool, List, [], ◌∷◌, ◌++◌, Option, None, Some, refl, ap, sym, ◌∙◌}
 use Rattle.h5_token.specs.TokenText.{Characters, EndOfFile, TokenText}
 use Rattle.h5_token.specs.Reply.{Reply}
+use Rattle.h5_reading.specs.Lines.{line_behind}
+use Rattle.h5_reading.specs.Blindness.{IsBlindToCuts}
 use Rattle.h5_tokenizer.specs.Front.{Place}
 use Rattle.h5_tokenizer.specs.Read.{Read, Step, marked, nothing_read, read_on, switch_step, text_step, token_step, unmarked}
 use Rattle.h5_tokenizer.specs.End.{settle}
-use Rattle.h5_tokenizer.specs.Lines.{line_behind}
-use Rattle.h5_tokenizer.specs.Whole.{IsBlindToCuts, Readings, ReadsToEnd, after_closing, more_reading, no_reading}
+use Rattle.h5_tokenizer.specs.Whole.{Readings, ReadsToEnd, after_closing, more_reading, no_reading}
 use Rattle.h5_tokenizer.proofs.CutLaws.{cuts_agree}
 
 -- a meaning of which it holds

@@ -13,7 +13,6 @@ pub mod MarkLaws
 pub mod OutcomeLaws
 pub mod TokenLaws
 pub mod ProperLaws
-pub mod JoinLaws
 pub mod DeedLaws
 pub mod CutLaws
 pub mod WholeLaws

@@ -10,9 +10,10 @@ use Rattle.h5_token.specs.declared.fault.BuildFault.{BuildFault}
 use Rattle.h5_token.specs.declared.fault.BuildFault.TheVariants as fault
 use Rattle.h5_markup.specs.Matching.{Open, Found}
 use Rattle.h5_markup.proofs.Eating.{literal_eats, eats_less}
+use Rattle.h5_reading.specs.Stops.{stops_as}
 use Rattle.h5_tokenizer.specs.Front.{Place, Begins, mark}
 use Rattle.h5_tokenizer.specs.Read.{marked, unmarked, Read, Reads, started}
-use Rattle.h5_tokenizer.specs.Steps.{Pending, IsBehindMark, ComesTo, RunsInto, Runs, WaitsAt, RunsFrom, stops_as}
+use Rattle.h5_tokenizer.specs.Steps.{Pending, IsBehindMark, ComesTo, RunsInto, Runs, WaitsAt, RunsFrom}
 use Rattle.h5_tokenizer.specs.declared.front.Mode.{Mode}
 use Rattle.h5_tokenizer.specs.declared.state.Search.{Search}
 use Rattle.h5_tokenizer.specs.declared.state.Halt.{Halt}

@@ -3,15 +3,16 @@ use Rattle.std.proofs.Common.{◌≡◌, ◌++◌, ℕ, Bool, List, [], length, 
 use Rattle.std.specs.Str.{IsCharBoundary}
 use Rattle.h5_token.specs.TokenText.{TokenText}
 use Rattle.h5_token.specs.Reply.{Reply}
+use Rattle.h5_reading.specs.Stops.{stops_as, result_of}
+use Rattle.h5_reading.specs.declared.stage.Stage.TheVariants.{Reading}
+use Rattle.h5_reading.specs.declared.stop.Stop.{Stop}
+use Rattle.h5_reading.specs.declared.stop.Stop.TheVariants as stop
 use Rattle.h5_tokenizer.specs.Front.{Place}
 use Rattle.h5_tokenizer.specs.ReaderText.{ReaderText}
-use Rattle.h5_tokenizer.specs.Steps.{WaitsAt, HaltsAt, Pending, stops_as}
-use Rattle.h5_tokenizer.specs.Outcome.{ReadsAll, StopsAt, Feeds, result_of}
+use Rattle.h5_tokenizer.specs.Steps.{WaitsAt, HaltsAt, Pending}
+use Rattle.h5_tokenizer.specs.Outcome.{ReadsAll, StopsAt, Feeds}
 use Rattle.h5_tokenizer.specs.declared.front.Mode.{Mode}
-use Rattle.h5_tokenizer.specs.declared.stage.Stage.TheVariants.{Reading}
 use Rattle.h5_tokenizer.specs.declared.state.Search.{Search}
-use Rattle.h5_tokenizer.specs.declared.state.Stop.{Stop}
-use Rattle.h5_tokenizer.specs.declared.state.Stop.TheVariants as stop
 use Rattle.h5_tokenizer.proofs.MarkLaws.{kept, kept_boundary, pending_more}
 
 -- the search that was kept, for what is held and waits now

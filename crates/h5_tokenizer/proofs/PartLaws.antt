@@ -1,31 +1,13 @@
 -- What a search passes is a front of its input, and no CR LF is cut where that ends.
-use Rattle.std.proofs.Common.{◌≡◌, ℕ, ◌+◌, Bool, true, false, not, ◌&&◌, List, [], ◌∷◌, ◌++◌, cond, eqb, refl, sym, ap, ◌∙◌, arith, append_assoc}
+use Rattle.std.proofs.Common.{◌≡◌, ℕ, Bool, true, false, List, [], ◌∷◌, ◌++◌, cond, eqb, refl, sym, ap, ◌∙◌, arith, append_assoc}
 use Rattle.std.proofs.lemmas.Bool.{eqb-true, false≢true}
 use Rattle.std.proofs.lemmas.Bool.Decides.{nat_tests}
 use Rattle.std.specs.Char.{to_ascii_lowercase}
 use Rattle.h5_markup.specs.Matching.{Match, Open, No, Found, and_then, or_else, literal, word, peek, ahead, prefixed}
 use Rattle.h5_markup.specs.Ending.{may_end, ends, next, up_to_end}
 use Rattle.h5_markup.specs.declared.ending.Inside.{Inside}
-use Rattle.h5_tokenizer.specs.Lines.{newlines}
-
--- whether the last of some bytes is a CR; where there are none, whether one came before
-abbrev pub ends_in_cr : Bool → List ℕ → Bool
-ends_in_cr after_cr [] = after_cr
-ends_in_cr after_cr (x ∷ xs) = ends_in_cr (eqb x 13) xs
-
-ends_append : (c : Bool) (xs ys : List ℕ) → ends_in_cr c (xs ++ ys) ≡ ends_in_cr (ends_in_cr c xs) ys
-ends_append c [] ys = refl
-ends_append c (x ∷ xs) ys = ends_append (eqb x 13) xs ys
-
-append_by : (e g : Bool) (f h r : Bool → ℕ) → ((b : Bool) → f b ≡ h b + r b) → cond e (1 + f true) (cond g (1 + f false) (f false)) ≡ cond e (1 + h true) (cond g (1 + h false) (h false)) + r e
-append_by true g f h r k = omega (arith, k true)
-append_by false true f h r k = omega (arith, k false)
-append_by false false f h r k = k false
-
-pub newlines_append : (c : Bool) (xs ys : List ℕ) → newlines c (xs ++ ys) ≡ newlines c xs + newlines (ends_in_cr c xs) ys
-newlines_append c [] ys = omega arith
-newlines_append c (x ∷ xs) ys =
-    append_by (eqb x 13) (eqb x 10 && not c) (λ b. newlines b (xs ++ ys)) (λ b. newlines b xs) (λ b. newlines (ends_in_cr b xs) ys) (λ b. newlines_append b xs ys)
+use Rattle.h5_reading.specs.Lines.{ends_in_cr, newlines}
+use Rattle.h5_reading.proofs.LineLaws.{ends_append}
 
 -- a front that is passed, and what it leaves; no CR LF stands across the cut
 pub record Part (xs rest : List ℕ) : Type 0 where

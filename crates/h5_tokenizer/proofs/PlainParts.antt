@@ -3,8 +3,9 @@ use Rattle.std.proofs.Common.{◌≡◌, ℕ, ◌+◌, ◌-◌, ◌<◌, ◌≤�
 use Rattle.std.proofs.lemmas.Bool.{cases_lt}
 use Rattle.std.proofs.lemmas.List.{get_or-drop, get_or-take, take-take, length-take-le}
 use Rattle.h5_markup.specs.Plain.{is_plain}
-use Rattle.h5_tokenizer.specs.Lines.{newlines}
-use Rattle.h5_tokenizer.proofs.LineLaws.{few, plain_apart}
+use Rattle.h5_reading.specs.Lines.{newlines}
+use Rattle.h5_reading.proofs.LineLaws.{few}
+use Rattle.h5_tokenizer.proofs.LineLaws.{plain_apart}
 
 -- so many bytes are plain, with so many newlines
 pub record ArePlain (xs : List ℕ) (n lines : ℕ) : Type 0 where

@@ -8,6 +8,8 @@ use Rattle.h5_markup.specs.Matching.{Match, Open, No, Found, and_then, or_else, 
 use Rattle.h5_markup.specs.Cuts.{is_in}
 use Rattle.h5_markup.specs.Ending.{up_to_end}
 use Rattle.h5_markup.specs.declared.cut.Class.TheVariants.{NameEnd}
+use Rattle.h5_reading.specs.Proper.{IsProper, AreProper}
+use Rattle.h5_reading.proofs.ProperLaws.{proper_append}
 use Rattle.h5_tokenizer.specs.declared.front.Mode.{Mode}
 use Rattle.h5_tokenizer.specs.declared.front.Mode.TheVariants.{Data, RawData, Plaintext, Cdata}
 use Rattle.h5_tokenizer.specs.declared.front.Construct.{Construct}
@@ -15,7 +17,6 @@ use Rattle.h5_tokenizer.specs.declared.front.Construct.TheVariants.{Comment, Doc
 use Rattle.h5_markup.specs.Text.{gives, reference, newline, cleaned, escape}
 use Rattle.h5_tokenizer.specs.Tokens.{start_of, token_of}
 use Rattle.h5_tokenizer.specs.Front.{Opening, Begins, Gives, Null, Turns, says, stands_for, cdata, in_data, raw_end_tag, reads_references, opening, Piece, Bit, Whole, Switch, finished, other, front, Place}
-use Rattle.h5_tokenizer.specs.Proper.{IsProper, AreProper}
 use Rattle.h5_tokenizer.specs.Read.{Bits, no_bit, more_bits, Step, marked, unmarked, token_step, switch_step, text_step, Read, nothing_read, read_on}
 
 -- a text that is not empty
@@ -156,10 +157,6 @@ bits_full less (more_bits {mode} {last} {foreign} {xs} {rest} {text} bit h bits)
 full_proper : (text : List ℕ) → IsFull text → IsProper (Characters text)
 full_proper [] h = h
 full_proper (x ∷ xs) h = tt
-
-proper_append : (ts us : List TokenText) → AreProper ts → AreProper us → AreProper (ts ++ us)
-proper_append [] us h g = g
-proper_append (t ∷ ts) us h g = (h.0, proper_append ts us h.1 g)
 
 module _ {M : Type 0} (reply_to : M → TokenText → Reply) (after : M → TokenText → ℕ → M) (foreign : M → Bool) where
   step_proper : {p : Place} {m : M} {xs : List ℕ} {ts : List TokenText} {reply : Reply} {q : Place} {n : M} {ys : List ℕ} → Step reply_to after foreign p m xs ts reply q n ys → AreProper ts

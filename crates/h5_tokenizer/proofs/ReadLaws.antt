@@ -5,8 +5,9 @@ use Rattle.h5_token.specs.Reply.{Reply, Continues}
 use Rattle.h5_token.specs.declared.tag.TagKind.{TagKind}
 use Rattle.h5_token.specs.declared.tag.TagKind.TheVariants.{StartTag, EndTag}
 use Rattle.h5_markup.proofs.Growth.{literal_stable}
+use Rattle.h5_reading.specs.Answers.{goes_on}
 use Rattle.h5_tokenizer.specs.Front.{Bit, Whole, Switch, Place}
-use Rattle.h5_tokenizer.specs.Read.{Bits, no_bit, more_bits, Step, marked, unmarked, token_step, switch_step, text_step, Read, nothing_read, read_on, Reads, behind, goes_on, in_mode, next_place, after_tag}
+use Rattle.h5_tokenizer.specs.Read.{Bits, no_bit, more_bits, Step, marked, unmarked, token_step, switch_step, text_step, Read, nothing_read, read_on, Reads, behind, in_mode, next_place, after_tag}
 use Rattle.h5_tokenizer.specs.declared.front.Mode.{Mode}
 use Rattle.h5_tokenizer.specs.Steps.{Moves}
 use Rattle.h5_tokenizer.proofs.FrontStays.{front_stable, found_stays, no_stays}

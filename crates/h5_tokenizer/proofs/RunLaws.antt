@@ -1,13 +1,13 @@
 -- Steps, one after another.
-use Rattle.std.proofs.Common.{◌≡◌, ℕ, Bool, true, false, List, refl, sym, subst, arith, Option, Err}
+use Rattle.std.proofs.Common.{◌≡◌, ℕ, Bool, true, List, refl, arith, Err}
 use Rattle.h5_token.specs.TokenText.{TokenText}
 use Rattle.h5_token.specs.Reply.{Reply, Continues, Refuses}
 use Rattle.h5_token.specs.declared.fault.BuildFault.{BuildFault}
 use Rattle.h5_token.specs.declared.fault.BuildFault.TheVariants as fault
+use Rattle.h5_reading.specs.Answers.{goes_on}
 use Rattle.h5_tokenizer.specs.Front.{Place}
-use Rattle.h5_tokenizer.specs.Read.{Reads, goes_on}
-use Rattle.h5_tokenizer.specs.Steps.{Moves, MovesOn, MovesInto, StandsStill, ComesTo, HaltsAt, RunsInto, Runs, Makes}
-use Rattle.h5_tokenizer.specs.declared.state.Search.{Search}
+use Rattle.h5_tokenizer.specs.Read.{Reads}
+use Rattle.h5_tokenizer.specs.Steps.{Moves, MovesOn, MovesInto, HaltsAt, RunsInto, Runs, Makes}
 use Rattle.h5_tokenizer.proofs.ReadLaws.{reads_none, reads_more}
 
 module _ {M : Type 0} (reply_to : M → TokenText → Reply) (after : M → TokenText → ℕ → M) (foreign : M → Bool) where

@@ -1,21 +1,21 @@
 -- What the parts of a step do is a step of Read.
-use Rattle.std.proofs.Common.{◌≡◌, ◌⊎◌, ℕ, ◌<◌, ◌≤◌, Bool, false, List, [], ◌∷◌, ◌++◌, length, take, refl, sym, ap, ◌∙◌, subst, arith, Option, Some, None, Ok, Err, ⊎_elim, zero-le}
+use Rattle.std.proofs.Common.{◌≡◌, ℕ, ◌<◌, Bool, false, List, [], ◌∷◌, ◌++◌, length, refl, sym, ap, ◌∙◌, subst, arith, Option, Some, None, Ok, Err}
 use Rattle.std.specs.Borrow.{Bor}
 use Rattle.h5_token.specs.TokenText.{TokenText, Characters}
 use Rattle.h5_token.specs.Reply.{Reply, Continues, Refuses}
 use Rattle.h5_token.specs.declared.fault.BuildFault.{BuildFault}
 use Rattle.h5_token.specs.declared.fault.BuildFault.TheVariants as fault
-use Rattle.h5_markup.specs.Matching.{Match, Open, Found, or_else}
-use Rattle.h5_markup.specs.Ending.{walk, up_to_end}
+use Rattle.h5_markup.specs.Matching.{Match, Found, or_else}
+use Rattle.h5_markup.specs.Ending.{up_to_end}
+use Rattle.h5_reading.specs.Lines.{newlines_passed}
+use Rattle.h5_reading.specs.Stops.{stops_as}
+use Rattle.h5_reading.specs.declared.stop.Stop.{Stop}
 use Rattle.h5_tokenizer.specs.Tokens.{start_of, token_of}
 use Rattle.h5_tokenizer.specs.Front.{Opening, Begins, Turns, opening, Whole, Switch, Place, concluded, other, front}
-use Rattle.h5_tokenizer.specs.Lines.{newlines_passed}
 use Rattle.h5_tokenizer.specs.Read.{Bits, behind, token_step, switch_step, text_step, next_place, in_mode}
-use Rattle.h5_tokenizer.specs.Steps.{TakesBits, TakesMany, IsPending, Pending, fresh, further, stops_as, turn_of, HandedOn, HandsOn, Moves, MovesOn, MovesInto, Makes}
+use Rattle.h5_tokenizer.specs.Steps.{TakesBits, TakesMany, further, turn_of, HandedOn, HandsOn, Moves, MovesOn, MovesInto, Makes}
 use Rattle.h5_tokenizer.specs.declared.front.Mode.{Mode}
 use Rattle.h5_tokenizer.specs.declared.front.Construct.{Construct}
-use Rattle.h5_tokenizer.specs.declared.state.Stop.{Stop}
-use Rattle.h5_tokenizer.specs.declared.state.Search.{Search}
 use Rattle.h5_tokenizer.proofs.FrontTakes.{front_eats}
 use Rattle.h5_tokenizer.proofs.LineLaws.{behind_by}
 use Rattle.h5_markup.proofs.TextTakes.{found_shorter}

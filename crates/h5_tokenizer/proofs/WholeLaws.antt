@@ -1,30 +1,25 @@
 -- Readings of pieces, one behind the other, and the end.
-use Rattle.std.proofs.Common.{◌≡◌, ℕ, Bool, true, false, List, [], ◌∷◌, ◌++◌, refl, sym, ap, ◌∙◌, subst, append-nil, Option, Some, None, Ok}
-use Rattle.std.proofs.lemmas.Bool.{false≢true}
+use Rattle.std.proofs.Common.{◌≡◌, ℕ, Bool, false, List, [], ◌∷◌, ◌++◌, refl, sym, ap, ◌∙◌, subst, append-nil, Option, Some, None, Ok}
 use Rattle.h5_token.specs.TokenText.{TokenText}
-use Rattle.h5_token.specs.Reply.{Reply, Continues, RunsScript, TurnsPlain, TurnsRaw, Indicates, Refuses}
+use Rattle.h5_token.specs.Reply.{Reply}
 use Rattle.h5_token.specs.declared.states.RawKind.TheVariants.{Rcdata, Rawtext, ScriptData}
 use Rattle.h5_markup.specs.Matching.{Open}
+use Rattle.h5_reading.specs.Answers.{refuses}
+use Rattle.h5_reading.specs.Taking.{ClosesWith}
+use Rattle.h5_reading.specs.declared.result.TokenizerResult.{TokenizerResult}
+use Rattle.h5_reading.specs.declared.result.TokenizerResult.TheVariants as result
+use Rattle.h5_reading.specs.Lines.{line_behind}
+use Rattle.h5_reading.specs.Told.{handed}
+use Rattle.h5_reading.proofs.AnswerLaws.{unrefused}
 use Rattle.h5_tokenizer.specs.declared.front.Mode.{Mode}
 use Rattle.h5_tokenizer.specs.declared.front.Mode.TheVariants.{Data, RawData, Plaintext, Cdata}
-use Rattle.h5_tokenizer.specs.End.{refuses, settle, Closes, ClosesWith}
+use Rattle.h5_tokenizer.specs.End.{settle, Closes}
 use Rattle.h5_tokenizer.specs.Front.{Place, front}
 use Rattle.h5_tokenizer.specs.Outcome.{Feeds}
-use Rattle.h5_tokenizer.specs.Read.{Read, Reads, goes_on, IsUndecided}
+use Rattle.h5_tokenizer.specs.Read.{Read, Reads, IsUndecided}
 use Rattle.h5_tokenizer.specs.ReaderText.{ReaderText}
-use Rattle.h5_tokenizer.specs.declared.result.TokenizerResult.{TokenizerResult}
-use Rattle.h5_tokenizer.specs.declared.result.TokenizerResult.TheVariants as result
-use Rattle.h5_tokenizer.specs.Lines.{line_behind}
 use Rattle.h5_tokenizer.specs.Whole.{HasRead, Readings, no_reading, more_reading, ReadsToEnd, closing, after_closing}
 use Rattle.h5_tokenizer.proofs.ReadLaws.{read_goes_on}
-
-unrefused : (reply : Reply) → goes_on reply ≡ true → refuses reply ≡ false
-unrefused Continues h = refl
-unrefused (RunsScript node) h = refl
-unrefused TurnsPlain h = refl
-unrefused (TurnsRaw kind) h = refl
-unrefused (Indicates encoding) h = refl
-unrefused (Refuses fault) h = absurd (false≢true h)
 
 front_nothing : (mode : Mode) (last : List ℕ) (foreign : Bool) → front mode last foreign [] ≡ Open
 front_nothing Data last foreign = refl
@@ -68,7 +63,7 @@ module _ {M : Type 0} (reply_to : M → TokenText → Reply) (after : M → Toke
       has_read_more more (new.held ++ queue) had fed.reads refl (ap (λ l. l ++ queue) (sym fed.nothing_held))
 
 module _ {M : Type 0} (reply_to : M → TokenText → Reply) (after : M → TokenText → ℕ → M) (foreign : M → Bool) (ended : M → M) where
-  closed_by : (n o : M) (s : Option TokenText) (line last : ℕ) → ClosesWith reply_to after ended n s line last o (Ok tt) → o ≡ ended (after_closing after n s line last)
+  closed_by : (n o : M) (s : Option TokenText) (line last : ℕ) → ClosesWith reply_to after ended n (handed s) line last o (Ok tt) → o ≡ ended (after_closing after n s line last)
   closed_by n o None line last h = h.1
   closed_by n o (Some t) line last h = h.1.1
 

@@ -9,8 +9,8 @@ use Rattle.h5_markup.specs.Ending.{place_after, up_to_end}
 use Rattle.h5_markup.specs.declared.cut.Class.TheVariants.{NameEnd}
 use Rattle.h5_markup.specs.declared.ending.Inside.TheVariants.{TagName}
 use Rattle.h5_markup.specs.Text.{name_of}
+use Rattle.h5_reading.specs.Lines.{newlines_passed}
 use Rattle.h5_tokenizer.specs.Front.{Whole, front}
-use Rattle.h5_tokenizer.specs.Lines.{newlines_passed}
 use Rattle.h5_tokenizer.specs.declared.front.Mode.{Mode}
 
 -- a tag with a name, and neither attributes nor flags

@@ -7,7 +7,5 @@ pub mod ReaderText
 pub mod Outcome
 pub mod End
 pub mod Options
-pub mod Proper
-pub mod Lines
 pub mod Whole
 pub mod Bare

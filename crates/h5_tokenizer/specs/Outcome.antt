@@ -4,19 +4,13 @@ use Rattle.h5_token.specs.TokenText.{TokenText}
 use Rattle.h5_token.specs.Reply.{Reply, RunsScript, Indicates, Refuses}
 use Rattle.h5_token.specs.declared.fault.BuildFault.{BuildFault}
 use Rattle.h5_token.specs.declared.fault.BuildFault.TheVariants as fault
+use Rattle.h5_reading.specs.Answers.{goes_on}
+use Rattle.h5_reading.specs.declared.stage.Stage.TheVariants.{Reading, Failed}
+use Rattle.h5_reading.specs.declared.result.TokenizerResult.{TokenizerResult}
+use Rattle.h5_reading.specs.declared.result.TokenizerResult.TheVariants as result
 use Rattle.h5_tokenizer.specs.Front.{Place}
-use Rattle.h5_tokenizer.specs.Read.{Reads, goes_on, IsUndecided}
+use Rattle.h5_tokenizer.specs.Read.{Reads, IsUndecided}
 use Rattle.h5_tokenizer.specs.ReaderText.{ReaderText}
-use Rattle.h5_tokenizer.specs.declared.stage.Stage.TheVariants.{Reading, Failed}
-use Rattle.h5_tokenizer.specs.declared.state.Stop.{Stop}
-use Rattle.h5_tokenizer.specs.declared.state.Stop.TheVariants as stop
-use Rattle.h5_tokenizer.specs.declared.result.TokenizerResult.{TokenizerResult}
-use Rattle.h5_tokenizer.specs.declared.result.TokenizerResult.TheVariants as result
-
--- what stops the reader, as `feed` answers it
-abbrev pub result_of : {H : Type 0} → Stop H → TokenizerResult H
-result_of (stop.Script handle) = result.Script handle
-result_of (stop.EncodingIndicator encoding) = result.EncodingIndicator encoding
 
 module _ {M : Type 0} (reply_to : M → TokenText → Reply) (after : M → TokenText → ℕ → M) (foreign : M → Bool) where
   -- all is handed on but an undecided rest

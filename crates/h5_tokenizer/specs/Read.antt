@@ -5,19 +5,11 @@ use Rattle.h5_token.specs.Reply.{Reply, Continues, RunsScript, TurnsPlain, Turns
 use Rattle.h5_token.specs.declared.tag.TagKind.{TagKind}
 use Rattle.h5_token.specs.declared.tag.TagKind.TheVariants.{StartTag, EndTag}
 use Rattle.h5_markup.specs.Matching.{Open, No, Found}
+use Rattle.h5_reading.specs.Answers.{goes_on}
+use Rattle.h5_reading.specs.Lines.{line_behind}
 use Rattle.h5_tokenizer.specs.Front.{Bit, Whole, Switch, Place, front, mark}
-use Rattle.h5_tokenizer.specs.Lines.{line_behind}
 use Rattle.h5_tokenizer.specs.declared.front.Mode.{Mode}
 use Rattle.h5_tokenizer.specs.declared.front.Mode.TheVariants.{Data, RawData, Plaintext}
-
--- whether reading goes on after an answer
-abbrev pub goes_on : Reply → Bool
-goes_on Continues = true
-goes_on (RunsScript node) = false
-goes_on TurnsPlain = true
-goes_on (TurnsRaw kind) = true
-goes_on (Indicates encoding) = false
-goes_on (Refuses fault) = false
 
 -- the state that an answer to a start tag chooses
 abbrev pub chosen_mode : Reply → Mode

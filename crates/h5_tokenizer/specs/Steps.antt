@@ -1,23 +1,23 @@
 -- What one step of the reader did.
-use Rattle.std.specs.Prelude.{◌≡◌, ℕ, ◌+◌, Bool, true, false, List, ◌++◌, length, ◌<◌, ◌≤◌, ◌⊎◌, take, Result, Ok, Err, Option, Some, None, string_bytes}
+use Rattle.std.specs.Prelude.{◌≡◌, ℕ, ◌+◌, Bool, true, false, List, ◌++◌, length, ◌<◌, ◌≤◌, ◌⊎◌, take, Result, Ok, Err, Option, Some, None}
 use Rattle.std.specs.Borrow.{Bor}
 use Rattle.std.specs.Io.Iter.{u64_saturate}
 use Rattle.h5_token.specs.TokenText.{TokenText}
-use Rattle.h5_token.specs.Reply.{Reply, RunsScript, Indicates, Refuses, reply}
+use Rattle.h5_token.specs.Reply.{Reply, Refuses}
 use Rattle.h5_token.specs.declared.fault.BuildFault.{BuildFault}
 use Rattle.h5_token.specs.declared.fault.BuildFault.TheVariants as fault
-use Rattle.h5_token.specs.declared.sink.TokenSinkResult.{TokenSinkResult}
 use Rattle.h5_markup.specs.Matching.{Open, No, Found}
 use Rattle.h5_markup.specs.Ending.{walk}
+use Rattle.h5_reading.specs.Answers.{goes_on}
+use Rattle.h5_reading.specs.Stops.{AnswersAs, stops_as}
+use Rattle.h5_reading.specs.declared.stop.Stop.{Stop}
 use Rattle.h5_tokenizer.specs.Front.{Begins, opening, Place, front, mark}
 use Rattle.h5_tokenizer.specs.Tokens.{start_of}
-use Rattle.h5_tokenizer.specs.Read.{Bits, Step, Reads, goes_on, next_place, started, IsUndecided}
+use Rattle.h5_tokenizer.specs.Read.{Bits, Step, Reads, next_place, started, IsUndecided}
 use Rattle.h5_tokenizer.specs.declared.front.Mode.{Mode}
 use Rattle.h5_tokenizer.specs.declared.front.Construct.{Construct}
 use Rattle.h5_tokenizer.specs.declared.state.State.{State}
 use Rattle.h5_tokenizer.specs.declared.state.Search.{Search}
-use Rattle.h5_tokenizer.specs.declared.state.Stop.{Stop}
-use Rattle.h5_tokenizer.specs.declared.state.Stop.TheVariants as stop
 use Rattle.h5_tokenizer.specs.declared.state.Halt.{Halt}
 use Rattle.h5_tokenizer.specs.declared.state.Halt.TheVariants as halt
 use Rattle.h5_tokenizer.specs.declared.state.Turn.{Turn}
@@ -75,11 +75,6 @@ abbrev pub Skips : Place → List ℕ → Place → Option (Bor (List ℕ) × Op
 Skips p xs q None = (q ≡ p) × (p.at_start ≡ true) × (mark xs ≡ Open)
 Skips p xs q (Some x) = Skipped p xs q x.0.now x.1
 
--- what stops the reader, as an answer
-abbrev pub stops_as : {H : Type 0} → (H → ℕ) → Stop H → Reply
-stops_as node (stop.Script handle) = RunsScript (node handle)
-stops_as node (stop.EncodingIndicator encoding) = Indicates (string_bytes encoding)
-
 abbrev pub turn_of : {H : Type 0} → Option (Stop H) → Bor (List ℕ) → ℕ → Turn H
 turn_of None rest lines = Goes rest lines
 turn_of (Some s) rest lines = Stops s rest lines
@@ -88,19 +83,7 @@ turn_of (Some s) rest lines = Stops s rest lines
 abbrev pub further : ℕ → Place → Place
 further lines p = record { at_start = p.at_start; mode = p.mode; last = p.last; line = u64_saturate (p.line + lines) }
 
-abbrev pub AnswersAs : {H : Type 0} → (H → ℕ) → Option (Stop H) → Reply → Type 0
-AnswersAs node None reply = goes_on reply ≡ true
-AnswersAs node (Some s) reply = reply ≡ stops_as node s
-
 module _ {M : Type 0} (reply_to : M → TokenText → Reply) (after : M → TokenText → ℕ → M) where
-  -- what the sink answered and is then, unless memory was refused
-  abbrev pub Asks : {H : Type 0} → (H → ℕ) → M → TokenText → ℕ → M → Result (TokenSinkResult H) BuildFault → Type 0
-  Asks node m t line n (Ok answer) = (reply_to m t ≡ reply node answer) × (n ≡ after m t line)
-  Asks node m t line n (Err fault.Memory) = Unit {0}
-  Asks node m t line n (Err fault.AfterEnd) = (reply_to m t ≡ Refuses fault.AfterEnd) × (n ≡ after m t line)
-  Asks node m t line n (Err fault.NotInText) = (reply_to m t ≡ Refuses fault.NotInText) × (n ≡ after m t line)
-  Asks node m t line n (Err fault.Failed) = (reply_to m t ≡ Refuses fault.Failed) × (n ≡ after m t line)
-
   -- a token was handed on: where reading goes on from but for the line, whether it stops, and what the sink is then
   pub record HandedOn {H : Type 0} (node : H → ℕ) (p : Place) (m : M) (t : TokenText) (q : Place) (n : M) (stopped : Option (Stop H)) : Type 0 where
     pub place : q ≡ next_place p t (reply_to m t)

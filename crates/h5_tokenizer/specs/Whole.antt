@@ -1,10 +1,11 @@
--- Input that is read to its end, and sinks to which it doesn't matter how a text is cut.
+-- Input that is read to its end.
 use Rattle.std.specs.Prelude.{◌≡◌, ℕ, Bool, false, List, [], ◌∷◌, ◌++◌, Option, Some, None}
-use Rattle.h5_token.specs.TokenText.{TokenText, Characters, EndOfFile}
+use Rattle.h5_token.specs.TokenText.{TokenText, EndOfFile}
 use Rattle.h5_token.specs.Reply.{Reply}
-use Rattle.h5_tokenizer.specs.End.{refuses, settle}
+use Rattle.h5_reading.specs.Answers.{refuses}
+use Rattle.h5_reading.specs.Lines.{line_behind}
+use Rattle.h5_tokenizer.specs.End.{settle}
 use Rattle.h5_tokenizer.specs.Front.{Place}
-use Rattle.h5_tokenizer.specs.Lines.{line_behind}
 use Rattle.h5_tokenizer.specs.Read.{Read, IsUndecided}
 
 -- what the end hands on: what it makes of the undecided rest, and the end of the file
@@ -44,16 +45,3 @@ module _ {M : Type 0} (reply_to : M → TokenText → Reply) (after : M → Toke
     pub undecided : IsUndecided place (foreign meaning) rest
     pub tokens : ts ≡ handed ++ closing (settle place.mode place.last (foreign meaning) rest)
     pub closed : n ≡ ended (after_closing after meaning (settle place.mode place.last (foreign meaning) rest) place.line (line_behind place.line rest []))
-
-  -- An equivalence of meanings that is kept by equal tokens, whatever lines they are told with, and to which it
-  -- doesn't matter how a text is cut. Meanings that are equivalent give the same answers.
-  pub record IsBlindToCuts (alike : M → M → Type 0) : Type 0 where
-    pub reflexive : (m : M) → alike m m
-    pub symmetric : (m n : M) → alike m n → alike n m
-    pub transitive : (m n o : M) → alike m n → alike n o → alike m o
-    pub replies : (m n : M) (t : TokenText) → alike m n → reply_to m t ≡ reply_to n t
-    pub spaces : (m n : M) → alike m n → foreign m ≡ foreign n
-    pub kept : (m n : M) (t : TokenText) (k l : ℕ) → alike m n → alike (after m t k) (after n t l)
-    pub ends : (m n : M) → alike m n → alike (ended m) (ended n)
-    pub cut : (m : M) (x y : ℕ) (xs ys : List ℕ) (j k l : ℕ)
-        → alike (after m (Characters ((x ∷ xs) ++ y ∷ ys)) j) (after (after m (Characters (x ∷ xs)) k) (Characters (y ∷ ys)) l)

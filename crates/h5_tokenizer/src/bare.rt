@@ -3,8 +3,8 @@ ghost use Rattle.std.specs.Prelude.{◌≡◌, ◌<◌, false, true, IfSome, IfO
 ghost use Rattle.std.specs.Char.{is_ascii_alphabetic};
 ghost use Rattle.h5_token.specs.TokenText.{TagIs, tag_text};
 ghost use Rattle.h5_markup.specs.Cuts.{is_in};
+ghost use Rattle.h5_reading.specs.Lines.{newlines_passed};
 ghost use Rattle.h5_tokenizer.specs.Bare.{bare_tag, BeginsBare, IsBare, IsBareName};
-ghost use Rattle.h5_tokenizer.specs.Lines.{newlines_passed};
 
 use super::front::Mode;
 use super::state::Search;

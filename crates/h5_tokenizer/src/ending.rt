@@ -2,15 +2,14 @@
 ghost use Rattle.std.specs.Prelude.{◌≡◌, IfOk, Option, false};
 ghost use Rattle.std.specs.Option.{option_map};
 ghost use Rattle.h5_token.specs.TokenText.{token_text};
-ghost use Rattle.h5_tokenizer.specs.End.{settle, text_token, unfinished, Takes, Finishes, Closes};
+ghost use Rattle.h5_tokenizer.specs.End.{settle, text_token, unfinished, Closes};
 ghost use Rattle.h5_tokenizer.specs.Steps.{place_of};
 ghost use Rattle.h5_markup.specs.Text.{text_of};
 
 use super::front::{Construct, Mode, Opening, find_opening};
-use super::lines::line_behind;
 use super::state::State;
-use super::steps::ask;
 use h5_markup::{Seen, text_of};
+use h5_reading::{finish, line_behind, offer};
 use h5_token::{BuildFault, Token, TokenSink};
 use std::alloc::{AllocError, Global};
 
@@ -53,21 +52,6 @@ fn settle(
             Opening::Turns(_) => text_token(alloc, rest),
         },
     }
-}
-
-fn offer<S: TokenSink>(sink: &mut S, token: Token, line: u64) -> Result<(), BuildFault>
-    ensures { Takes S.reply_to S.after S.ended (S.meaning sink.old) (token_text token) line (S.meaning sink.new) result }
-{
-    ask(sink, token, line)?;
-    Ok(())
-}
-
-fn finish<S: TokenSink>(sink: &mut S, line: u64) -> Result<(), BuildFault>
-    ensures { Finishes S.reply_to S.after S.ended (S.meaning sink.old) line (S.meaning sink.new) result }
-{
-    offer(sink, Token::EOFToken, line)?;
-    sink.end();
-    Ok(())
 }
 
 /// Hands on what the end makes of the undecided rest, with the line in which that begins, and the end of the file,

@@ -2,10 +2,12 @@
 ghost use Rattle.std.specs.Prelude.{◌≡◌, ℕ, Bool, true, List, ◌++◌};
 ghost use Rattle.h5_token.specs.Reply.{Reply};
 ghost use Rattle.h5_token.specs.TokenText.{TokenText};
+ghost use Rattle.h5_reading.specs.Proper.{AreProper};
+ghost use Rattle.h5_reading.specs.Answers.{goes_on, refuses};
 ghost use Rattle.h5_tokenizer.specs.Front.{Place};
-ghost use Rattle.h5_tokenizer.specs.Proper.{AreProper};
-ghost use Rattle.h5_tokenizer.specs.Read.{Read, goes_on};
+ghost use Rattle.h5_tokenizer.specs.Read.{Read};
 
+pub use h5_reading::Likeness;
 use h5_token::TokenSink;
 
 /// Reading hands on no parse errors and no empty texts, over any taker of tokens.
@@ -33,14 +35,15 @@ pub fn readings_join<S: TokenSink>()
 {}
 
 ghost use Rattle.std.specs.Prelude.{◌≤◌, [], Ok, false};
-ghost use Rattle.h5_tokenizer.specs.Lines.{line_behind};
-ghost use Rattle.h5_tokenizer.specs.End.{Closes, refuses, settle};
+ghost use Rattle.h5_reading.specs.Lines.{line_behind};
+ghost use Rattle.h5_reading.specs.Blindness.{IsBlindToCuts};
+ghost use Rattle.h5_reading.specs.declared.result.TokenizerResult.{TokenizerResult};
+ghost use Rattle.h5_tokenizer.specs.End.{Closes, settle};
 ghost use Rattle.h5_token.specs.Joins.{join};
 ghost use Rattle.h5_tokenizer.specs.Read.{IsUndecided};
 ghost use Rattle.h5_tokenizer.specs.Outcome.{Feeds};
 ghost use Rattle.h5_tokenizer.specs.ReaderText.{ReaderText};
-ghost use Rattle.h5_tokenizer.specs.Whole.{closing, HasRead, IsBlindToCuts, Readings, ReadsToEnd};
-ghost use Rattle.h5_tokenizer.specs.declared.result.TokenizerResult.{TokenizerResult};
+ghost use Rattle.h5_tokenizer.specs.Whole.{closing, HasRead, Readings, ReadsToEnd};
 
 /// Readings, and then one of what they left and of more input behind it, are readings of the whole input.
 /// So what calls of `feed` read in turn is read of all that was fed, one piece behind the other.
@@ -87,13 +90,6 @@ pub fn the_end_ends_readings<S: TokenSink>()
         → Closes S.reply_to S.after S.is_foreign S.ended q n ys o (Ok tt)
         → ReadsToEnd S.reply_to S.after S.is_foreign S.ended p m xs (ts ++ closing (settle q.mode q.last (S.is_foreign n) ys)) o }
 {}
-
-/// A relation of what is seen of a sink's meanings, for the law of cuts. It has no code.
-pub trait Likeness {
-    ghost Seen: { Type 0 };
-
-    ghost alike: { Seen → Seen → Type 0 };
-}
 
 /// How an input is cut doesn't matter: two readings of it to its end, over two meanings of a sink that are
 /// alike, hand on lists of tokens that differ in cuts of texts alone, and leave meanings that are alike.

@@ -5,14 +5,14 @@ ghost use Rattle.std.specs.Option.{option_copied};
 ghost use Rattle.h5_markup.specs.Plain.{is_plain};
 ghost use Rattle.h5_markup.specs.Matching as m;
 ghost use Rattle.h5_markup.specs.Seen.{seen};
+ghost use Rattle.h5_reading.specs.Lines.{newlines, newlines_passed};
 ghost use Rattle.h5_tokenizer.specs.Front.{opening};
-ghost use Rattle.h5_tokenizer.specs.Lines.{newlines, newlines_passed};
 ghost use Rattle.h5_tokenizer.specs.Openings.{opening_of};
 ghost use Rattle.h5_tokenizer.specs.Steps.{TakesBits, TakesSome, TakesMany};
 
 use super::front::{Mode, Opening, find_opening};
-use super::lines::few_newlines;
 use h5_markup::{Seen, are_plain, is_plain, plain_len};
+use h5_reading::few_newlines;
 use memchr::memchr;
 use std::alloc::{AllocError, Global};
 

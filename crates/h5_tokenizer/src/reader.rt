@@ -1,12 +1,11 @@
 //! The reader, apart from what takes its tokens.
 ghost use Rattle.std.specs.Prelude.{◌≡◌, ◌++◌, [], true, false, length};
-ghost use Rattle.h5_tokenizer.specs.Outcome.{Feeds, result_of};
+ghost use Rattle.h5_reading.specs.Stops.{result_of};
+ghost use Rattle.h5_tokenizer.specs.Outcome.{Feeds};
 
-use super::buffer::BufferQueue;
-use super::result::TokenizerResult;
 use super::run::run_from;
-use super::stage::Stage;
-use super::state::{Halt, Search, State, Stop};
+use super::state::{Halt, Search, State};
+use h5_reading::{BufferQueue, Stage, TokenizerResult, result_of};
 use h5_token::{BuildFault, TokenSink};
 use std::alloc::Global;
 use std::marker::Model;
@@ -39,15 +38,6 @@ impl Reader {
         ensures { result ≡ self.now.stage }
     {
         self.phase
-    }
-}
-
-fn result_of<H: Drop>(stop: Stop<H>) -> TokenizerResult<H>
-    ensures { result ≡ result_of stop }
-{
-    match stop {
-        Stop::Script(handle) => TokenizerResult::Script(handle),
-        Stop::EncodingIndicator(encoding) => TokenizerResult::EncodingIndicator(encoding),
     }
 }
 

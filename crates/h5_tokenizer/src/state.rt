@@ -4,6 +4,7 @@ ghost use Rattle.std.specs.Prelude.{◌≡◌};
 use super::front::Mode;
 use h5_markup::Inside;
 use h5_names::LocalName;
+use h5_reading::Stop;
 
 /// Where the reader is between two tokens.
 #[derive(Drop)]
@@ -26,13 +27,6 @@ pub struct Search {
     pub at: usize,
     /// Where in the construct the next byte stands.
     pub place: Inside,
-}
-
-/// What makes `feed` return before the end of its input.
-#[derive(Drop)]
-pub enum Stop<H> {
-    Script(H),
-    EncodingIndicator(String),
 }
 
 /// What a step comes to.

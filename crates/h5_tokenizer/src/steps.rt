@@ -5,16 +5,16 @@ ghost use Rattle.h5_markup.specs.Matching as m;
 ghost use Rattle.h5_token.specs.TokenText.{Characters, TagIs, tag_text, token_text};
 ghost use Rattle.h5_tokenizer.specs.Front as f;
 ghost use Rattle.h5_tokenizer.specs.Read.{chosen_mode};
-ghost use Rattle.h5_tokenizer.specs.Steps.{place_of, Asks, AnswersAs, HandsOn, Makes, Pending, TakesBits, turn_of};
+ghost use Rattle.h5_tokenizer.specs.Steps.{place_of, HandsOn, Makes, Pending, TakesBits, turn_of};
 ghost use Rattle.h5_token.specs.Reply.{reply};
 
 use super::bare::{find_bare, make_bare};
 use super::front::{Construct, Mode, Opening, find_opening};
-use super::lines::newlines_passed;
 use super::plain::{begin_long, begin_text, cut_plain, take_plain, take_texts};
-use super::state::{Search, State, Stop, Turn};
+use super::state::{Search, State, Turn};
 use super::tokens::make_token;
 use h5_markup::{Inside, Seen, Sought, seek_end};
+use h5_reading::{Stop, ask, ask_of_tag, ask_of_text, newlines_passed, stop_of};
 use h5_token::{BuildFault, Tag, TagKind, Token, TokenSink, TokenSinkResult};
 use std::alloc::Global;
 
@@ -26,47 +26,6 @@ fn chosen_mode<H>(answer: &TokenSinkResult<H>) -> Mode
         TokenSinkResult::RawData(kind) => Mode::RawData(*kind),
         _ => Mode::Data,
     }
-}
-
-// Whether an answer stops the reader.
-fn stop_of<H: Drop>(answer: TokenSinkResult<H>) -> Option<Stop<H>>
-    ensures { (node : H → ℕ) → AnswersAs node result (reply node answer) }
-{
-    match answer {
-        TokenSinkResult::Script(handle) => Some(Stop::Script(handle)),
-        TokenSinkResult::EncodingIndicator(encoding) => Some(Stop::EncodingIndicator(encoding)),
-        _ => None,
-    }
-}
-
-pub fn ask<S: TokenSink>(
-    sink: &mut S,
-    token: Token,
-    line: u64,
-) -> Result<TokenSinkResult<S::Handle>, BuildFault>
-    ensures { Asks S.reply_to S.after S.node (S.meaning sink.old) (token_text token) line (S.meaning sink.new) result }
-{
-    sink.process_token(token, line)
-}
-
-fn ask_of_tag<S: TokenSink>(
-    sink: &mut S,
-    tag: Tag,
-    line: u64,
-) -> Result<TokenSinkResult<S::Handle>, BuildFault>
-    ensures { Asks S.reply_to S.after S.node (S.meaning sink.old) (TagIs (tag_text tag)) line (S.meaning sink.new) result }
-{
-    sink.process_tag(tag, line)
-}
-
-fn ask_of_text<S: TokenSink>(
-    sink: &mut S,
-    text: String,
-    line: u64,
-) -> Result<TokenSinkResult<S::Handle>, BuildFault>
-    ensures { Asks S.reply_to S.after S.node (S.meaning sink.old) (Characters (string_bytes text)) line (S.meaning sink.new) result }
-{
-    sink.process_characters(text, line)
 }
 
 // Hands a tag on, and goes where it and the answer lead.
@@ -136,7 +95,7 @@ fn turn<'a, H: Drop>(stopped: Option<Stop<H>>, rest: &'a str, lines: u64) -> Tur
 
 ghost use Rattle.std.specs.Prelude.{◌≤◌, ◌⊎◌, Bool, List, Option, Some, None, take};
 ghost use Rattle.h5_markup.specs.Ending.{walk};
-ghost use Rattle.h5_tokenizer.specs.Lines.{newlines_passed};
+ghost use Rattle.h5_reading.specs.Lines.{newlines_passed};
 ghost use Rattle.h5_tokenizer.specs.Tokens.{start_of};
 ghost use Rattle.h5_tokenizer.specs.Steps.{fresh};
 

@@ -4,15 +4,12 @@ ghost use Rattle.h5_tokenizer.specs.End.{Closes, ClosedAs};
 ghost use Rattle.h5_tokenizer.specs.Outcome.{Feeds};
 ghost use Rattle.h5_tokenizer.specs.Options.{first_place, mode_of};
 
-use super::buffer::BufferQueue;
 use super::ending::close;
 use super::front::Mode;
-use super::options::TokenizerOpts;
 use super::reader::{Reader, read};
-use super::result::TokenizerResult;
-use super::stage::Stage;
 use super::state::State;
 use h5_names::LocalName;
+use h5_reading::{BufferQueue, Stage, TokenizerOpts, TokenizerResult};
 use h5_token::{BuildFault, TokenSink, states};
 use std::alloc::Global;
 

@@ -1,6 +1,6 @@
 use Rattle.std.proofs.Common.{◌≡◌, ◌++◌, length}
 use Rattle.h5_tree_builder.specs.Held.{building}
-use Rattle.h5_tokenizer.specs.declared.stage.Stage.TheVariants.{Reading}
+use Rattle.h5_reading.specs.declared.stage.Stage.TheVariants.{Reading}
 use Rattle.h5_driver.specs.Parsing.{Advances, IsWorking}
 use Rattle.h5_driver.proofs.parser.feed_all.Given as goal
 

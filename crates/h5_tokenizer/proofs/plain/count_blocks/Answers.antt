@@ -1,8 +1,8 @@
 use Rattle.std.proofs.Common.{◌∙◌, ap, sym, false, get_or, arith}
 use Rattle.std.proofs.lemmas.List.{get_or-take}
 use Rattle.h5_markup.specs.Plain.{is_plain}
-use Rattle.h5_tokenizer.specs.Lines.{newlines}
-use Rattle.h5_tokenizer.proofs.LineLaws.{few}
+use Rattle.h5_reading.specs.Lines.{newlines}
+use Rattle.h5_reading.proofs.LineLaws.{few}
 use Rattle.h5_tokenizer.proofs.PlainParts.{ArePlain, joined}
 use Rattle.h5_tokenizer.proofs.plain.count_blocks.Goals as goal
 

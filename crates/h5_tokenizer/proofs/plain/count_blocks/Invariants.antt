@@ -1,6 +1,6 @@
 use Rattle.std.proofs.Common.{◌≡◌, ℕ, false, true, ◌<◌, ◌≤◌, ◌-◌, length, get_or, take}
 use Rattle.h5_markup.specs.Plain.{is_plain}
-use Rattle.h5_tokenizer.specs.Lines.{newlines}
+use Rattle.h5_reading.specs.Lines.{newlines}
 use Rattle.h5_tokenizer.proofs.plain.count_blocks.Given as goal
 
 abbrev pub invariant-loop-n : goal.invariant-loop-n

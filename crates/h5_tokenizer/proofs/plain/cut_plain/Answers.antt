@@ -1,6 +1,6 @@
 use Rattle.std.proofs.Common.{[], sym, ◌∙◌, arith}
 use Rattle.h5_markup.proofs.PlainBytes.{cut_plain}
-use Rattle.h5_tokenizer.proofs.LineLaws.{passed_by}
+use Rattle.h5_reading.proofs.LineLaws.{passed_by}
 use Rattle.h5_tokenizer.proofs.PlainLaws.{some_plain}
 use Rattle.h5_tokenizer.proofs.plain.cut_plain.Goals as goal
 

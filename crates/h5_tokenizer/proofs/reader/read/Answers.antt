@@ -1,6 +1,7 @@
-use Rattle.std.proofs.Common.{◌≡◌, ◌++◌, ap, rules, ◌∙◌, string_bytes}
+use Rattle.std.proofs.Common.{◌≡◌, ◌++◌, ap, rules, ◌∙◌}
+use Rattle.h5_reading.specs.Stops.{stops_as}
 use Rattle.h5_tokenizer.specs.ReaderText.{ReaderText}
-use Rattle.h5_tokenizer.specs.Steps.{place_of, stops_as}
+use Rattle.h5_tokenizer.specs.Steps.{place_of}
 use Rattle.h5_tokenizer.proofs.OutcomeLaws.{pending_on, waits_boundary, halts_boundary, waits_keeps, halts_keeps, reads_all, stops_at, feeds_stop}
 use Rattle.h5_tokenizer.proofs.reader.read.Goals as goal
 

@@ -1,6 +1,7 @@
 use Rattle.std.proofs.Common.{subst, IsUtf8}
 use Rattle.std.proofs.lemmas.Result.{err_from_is_err_and}
-use Rattle.h5_tokenizer.specs.Steps.{further, place_of, stops_as}
+use Rattle.h5_reading.specs.Stops.{stops_as}
+use Rattle.h5_tokenizer.specs.Steps.{further, place_of}
 use Rattle.h5_tokenizer.proofs.ReadLaws.{moves_started}
 use Rattle.h5_tokenizer.proofs.RunLaws.{went_none, went_more, halts_at, ran_into}
 use Rattle.h5_tokenizer.proofs.run.run.Goals as goal

@@ -1,9 +1,10 @@
 use Rattle.std.proofs.Common.{◌≡◌, ◌+◌, arith, string_bytes}
 use Rattle.std.proofs.lemmas.Result.{err_from_is_err_and}
 use Rattle.h5_token.specs.TokenText.{Characters}
+use Rattle.h5_reading.specs.Lines.{newlines_passed}
+use Rattle.h5_reading.proofs.LineLaws.{few_passed}
 use Rattle.h5_tokenizer.specs.Steps.{place_of}
-use Rattle.h5_tokenizer.specs.Lines.{newlines_passed}
-use Rattle.h5_tokenizer.proofs.CountLaws.{few_passed, text_lines}
+use Rattle.h5_tokenizer.proofs.CountLaws.{text_lines}
 use Rattle.h5_tokenizer.proofs.StepLaws.{text_leads, turned, refused}
 use Rattle.h5_tokenizer.proofs.steps.text_step.Goals as goal
 

@@ -1,0 +1,20 @@
+-- Answers of a taker of tokens, by what they mean for reading.
+use Rattle.std.specs.Prelude.{Bool, true, false}
+use Rattle.h5_token.specs.Reply.{Reply, Continues, RunsScript, TurnsPlain, TurnsRaw, Indicates, Refuses}
+
+-- whether reading goes on after an answer
+abbrev pub goes_on : Reply → Bool
+goes_on Continues = true
+goes_on (RunsScript node) = false
+goes_on TurnsPlain = true
+goes_on (TurnsRaw kind) = true
+goes_on (Indicates encoding) = false
+goes_on (Refuses fault) = false
+
+abbrev pub refuses : Reply → Bool
+refuses Continues = false
+refuses (RunsScript node) = false
+refuses TurnsPlain = false
+refuses (TurnsRaw kind) = false
+refuses (Indicates encoding) = false
+refuses (Refuses fault) = true
