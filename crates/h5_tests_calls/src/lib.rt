@@ -1,5 +1,5 @@
-//! Tests: each public call of `h5_names`, `h5_token`, `h5_tag_sets`, `h5_markup`, `h5_data`, `h5_stack`, `h5_tokenizer`
-//! and of the program's crates once, with ample memory.
+//! Tests: each public call of `h5_names`, `h5_token`, `h5_tag_sets`, `h5_markup`, `h5_data`, `h5_references`, `h5_stack`,
+//! `h5_tokenizer` and of the program's crates once, with ample memory.
 //!
 //! Most modules have the name of what they test, as `names`, `token`, `tokenizer`, `lines` or `commands`; `constructs`
 //! has the parts of texts, tags and doctypes. `running` runs the program over memory, `deep` does so with deep
@@ -24,6 +24,8 @@ mod names;
 mod parts;
 #[cfg(test)]
 mod print;
+#[cfg(test)]
+mod references;
 #[cfg(test)]
 mod running;
 #[cfg(test)]

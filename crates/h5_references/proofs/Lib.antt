@@ -1,0 +1,5 @@
+pub mod TableLemmas
+pub mod OrderLemmas
+pub mod NarrowingLemmas
+pub mod LongestLemmas
+pub mod ShortLemmas

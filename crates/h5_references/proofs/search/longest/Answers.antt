@@ -1,0 +1,41 @@
+use Rattle.std.proofs.Common.{◌<◌, ◌+◌, [], true, length, take, drop, sym, ap, ◌∙◌, arith}
+use Rattle.std.specs.Prelude.{Some}
+use Rattle.h5_references.specs.Found.{found_in}
+use Rattle.h5_references.proofs.NarrowingLemmas.{begin_by, lt_by, narrowed_more}
+use Rattle.h5_references.proofs.LongestLemmas.{longest_ends, longest_is_first, longest_stays}
+use Rattle.h5_references.proofs.search.longest.Goals as goal
+use Rattle.h5_references.proofs.search.longest.Goals.{then-name-depth, else-name-depth}
+
+pub returns-then-is_empty : goal.returns-then-is_empty
+returns-then-is_empty c =
+    let seen = c.args.seen.now in
+    let depth = c.loop-depth.depth in
+    let was = c.loop-depth.candidates in
+    let is = c.narrowed-candidates.result in
+    let lt = c.loop-depth-test.true in
+    let are = narrowed_more [] seen depth depth was.from was.to is.from is.to (omega arith) lt c.loop-depth.invariant.are c.narrowed-candidates.ensures in
+    c.loop-depth.invariant.longest
+    ∙ longest_ends seen depth lt (sym (begin_by (take (depth + 1) seen) is.from is.to true (sym c.is_empty.ensures ∙ c.if-is_empty.true) is.ordered is.within_table are))
+
+pub loop-depth-preserved : goal.loop-depth-preserved
+loop-depth-preserved c =
+    let seen = c.args.seen.now in
+    let depth = c.loop-depth.depth in
+    let was = c.loop-depth.candidates in
+    let is = c.narrowed-candidates.result in
+    let lt = c.loop-depth-test.true in
+    let some : is.from < is.to = lt_by is.from is.to (sym c.is_empty.ensures ∙ c.if-is_empty.false) is.ordered in
+    let are = narrowed_more [] seen depth depth was.from was.to is.from is.to (omega arith) lt c.loop-depth.invariant.are c.narrowed-candidates.ensures in
+    record {
+      are = are;
+      longest = elim c.if-name-depth.branch [
+        | then-name-depth w ↦
+            ap (found_in seen) w.found-is
+            ∙ (ap (λ text. Some (record { name = take (depth + 1) seen; text = text; rest = drop (depth + 1) seen })) w.text.ensures
+            ∙ sym (longest_is_first seen depth is.from is.to lt some is.within_table are (sym (ap length c.name.ensures) ∙ w.if-name-depth.true)))
+        | else-name-depth w ↦
+            ap (found_in seen) w.found-is
+            ∙ (c.loop-depth.invariant.longest
+            ∙ sym (longest_stays seen depth is.from is.to lt some are (λ e. w.if-name-depth.false (ap length c.name.ensures ∙ e))))
+      ];
+    }

@@ -1,0 +1,3 @@
+pub mod Numbered
+pub mod Candidates
+pub mod Found
