@@ -11,6 +11,7 @@ use std::alloc::{AllocError, Global};
 use std::mem;
 
 // A node as the last child of another.
+#[inline(always)]
 pub(crate) fn append_node(
     nodes: &mut Vec<NodeData>,
     parent: NodeId,
@@ -31,6 +32,7 @@ pub(crate) fn append_node(
 }
 
 // A text at the end of the children of a node.
+#[inline(always)]
 pub(crate) fn append_text(
     nodes: &mut Vec<NodeData>,
     parent: NodeId,

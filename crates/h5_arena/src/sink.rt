@@ -130,6 +130,7 @@ impl TreeSink for Arena {
         Ok(NodeId { index })
     }
 
+    #[inline(always)]
     fn append(&mut self, parent: &NodeId, child: NodeOrText<NodeId>) -> Result<(), AllocError>
         requires { CanAppend (seen_of self.old).forest parent.now.index (child_of place child) }
         ensures ok { OnOk result (seen_of self.new ≡ after_append parent.now.index (child_of place child) (seen_of self.old)) }

@@ -1,6 +1,6 @@
 //! The parts of the way from text to text, each with the processor time that it took.
 use super::counter::ByteCounter;
-use super::reading::count_tokens;
+use super::reading::{count_standard_tokens, count_tokens};
 use super::report::{Outcome, Report};
 use super::texts::{Kind, answer_for, make_text};
 use anyhow::ensure;
@@ -20,6 +20,8 @@ pub enum Part {
     Make,
     /// The reader alone, over a taker that counts, in pieces of so many bytes.
     Read(usize),
+    /// The standard reader alone, in the same way.
+    Standard(usize),
     /// The reader, the tree builder and the arena.
     Build,
     /// Builds the tree, and then writes it; the time is that of the writing.
@@ -33,6 +35,7 @@ pub fn part_named(name: &str, piece: usize) -> Option<Part> {
     match name {
         "make" => Some(Part::Make),
         "read" => Some(Part::Read(piece)),
+        "standard" => Some(Part::Standard(piece)),
         "build" => Some(Part::Build),
         "serialize" => Some(Part::Serialize),
         "html" => Some(Part::Html),
@@ -81,6 +84,17 @@ fn run_read<R: AllocGlobal + CpuClock>(
     Ok((Outcome::Read { tokens }, time_since(rt, start)?))
 }
 
+fn run_standard<R: AllocGlobal + CpuClock>(
+    rt: &R,
+    text: &str,
+    piece: usize,
+    answer: Answer,
+) -> anyhow::Result<(Outcome, Duration)> {
+    let start = rt.thread_cpu_time()?;
+    let tokens = count_standard_tokens(rt.alloc(), text, piece.max(1), answer)?;
+    Ok((Outcome::Read { tokens }, time_since(rt, start)?))
+}
+
 fn run_build<R: AllocGlobal + CpuClock>(rt: &R, text: &str) -> anyhow::Result<(Outcome, Duration)> {
     let start = rt.thread_cpu_time()?;
     let tree = build(rt.alloc(), text)?;
@@ -122,6 +136,7 @@ pub fn run<R: AllocGlobal + CpuClock>(
     let (outcome, took) = match part {
         Part::Make => (Outcome::Made, made),
         Part::Read(piece) => run_read(rt, text.as_str(), piece, answer_for(kind))?,
+        Part::Standard(piece) => run_standard(rt, text.as_str(), piece, answer_for(kind))?,
         Part::Build => run_build(rt, text.as_str())?,
         Part::Serialize => run_serialize(rt, text.as_str())?,
         Part::Html => run_html(rt, text.as_str())?,

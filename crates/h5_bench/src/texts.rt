@@ -32,6 +32,10 @@ pub enum Kind {
     Scripts,
     /// A raw element of a long name, which half of the text is.
     Name,
+    /// One long number of a character reference.
+    Number,
+    /// One long word behind an `&`.
+    Letters,
     /// One tag of so many attributes, each of another name.
     Attributes,
     /// So many `<b>`, and then so many `</body>`.
@@ -114,6 +118,8 @@ pub fn kind_named(name: &str) -> Option<Kind> {
         "ampersands" => Some(Kind::Ampersands),
         "scripts" => Some(Kind::Scripts),
         "name" => Some(Kind::Name),
+        "number" => Some(Kind::Number),
+        "letters" => Some(Kind::Letters),
         "attributes" => Some(Kind::Attributes),
         "body-ends" => Some(Kind::BodyEnds),
         "broken-body-ends" => Some(Kind::BrokenBodyEnds),
@@ -211,6 +217,8 @@ pub fn make_text(alloc: Global, kind: Kind, size: usize) -> Result<String, Alloc
         Kind::Ampersands => filled(alloc, "", "&", "", size),
         Kind::Scripts => filled(alloc, "", "<script></script>", "", size),
         Kind::Name => with_name(alloc, size),
+        Kind::Number => filled(alloc, "&#", "1", ";", size),
+        Kind::Letters => filled(alloc, "&", "a", ";", size),
         Kind::Attributes => with_attributes(alloc, size),
         Kind::BodyEnds => doubled(alloc, "", "<b>", "</body>", size),
         Kind::BrokenBodyEnds => doubled(alloc, "", "<x-x>", "</body>z", size),

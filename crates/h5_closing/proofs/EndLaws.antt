@@ -1,11 +1,11 @@
 -- The search for the element that an end tag closes, by the places of two elements.
-use Rattle.std.proofs.Common.{◌≡◌, ◌<◌, ◌≤◌, ◌+◌, ◌-◌, ℕ, nat_le, nat_lt, Bool, true, false, cond, not, ◌&&◌, ◌||◌, List, [], ◌∷◌, length, refl, ap, sym, ◌∙◌, arith}
+use Rattle.std.proofs.Common.{◌≡◌, ◌<◌, ◌+◌, ℕ, nat_le, nat_lt, Bool, true, false, cond, not, ◌&&◌, ◌||◌, List, [], ◌∷◌, length, refl, ap, sym, ◌∙◌, arith}
 use Rattle.std.proofs.Math.Bool.{or-true}
 use Rattle.std.proofs.lemmas.Bool.{le-leb, lt-ltb, lt-leb}
 use Rattle.h5_names.specs.declared.qualified.QualName.{QualName}
 use Rattle.h5_rules.specs.fitting.NamesFit.{is_html_element}
 use Rattle.h5_rules.specs.insertion.Foreign.{is_named_in_any_case}
-use Rattle.h5_rules.specs.modes.ForeignContent.{EndSearch, Finds, ReachesHtml, ReachesRoot, search_end}
+use Rattle.h5_rules.specs.modes.ForeignContent.{Finds, ReachesHtml, ReachesRoot, search_end}
 use Rattle.h5_rules.specs.World.{World, names_of}
 use Rattle.h5_closing.specs.EndSearches.{IsFoundBy, IsFoundIn, end_by}
 use Rattle.h5_closing.specs.declared.leaving_foreign.EndSearch.{EndSearch as Kept}

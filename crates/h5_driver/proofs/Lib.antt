@@ -1,4 +1,5 @@
 pub mod AnswerLaws
+pub mod FaultLaws
 pub mod FragmentLaws
 pub mod OneTree
 pub mod RawLaws

@@ -2,7 +2,9 @@
 ghost use Rattle.std.specs.Prelude.{◌≡◌, None, IfOk, OnOk, string_bytes};
 ghost use Rattle.h5_serialize.specs.Walk.{after_each};
 ghost use Rattle.h5_serialize.specs.declared.options.TraversalScope.TheVariants.{ChildrenOnly};
-ghost use Rattle.h5_arena.specs.ArenaModel.{forest_seen};
+ghost use Rattle.h5_arena.specs.ArenaModel.{arena_choices, forest_seen, new_arena, seen_of};
+ghost use Rattle.h5_driver.specs.Options.{default_options};
+ghost use Rattle.h5_driver.specs.Texts.{ParsesDocument};
 ghost use Rattle.h5_arena.specs.NodeCalls.{walk_of};
 ghost use Rattle.h5_example_text.specs.Blocks.{after_call, kept};
 ghost use Rattle.h5_example_text.specs.Page.{IsTextOf};
@@ -29,12 +31,20 @@ fn take_calls(blocks: &mut Blocks, arena: &Arena) -> Result<(), SerializeFault>
     Ok(())
 }
 
+// The tree of a page.
+fn tree_of(alloc: Global, page: String) -> Result<Arena, AllocError>
+    ensures { IfOk result (λ arena. ParsesDocument arena_choices (seen_of new_arena) default_options (string_bytes page) (seen_of arena)) }
+{
+    let parser = parse_document(alloc, Arena::new(alloc)?, ParseOpts::default());
+    let arena = parser.one_owned(page).map_err(refused)?;
+    Ok(arena)
+}
+
 /// The text of a page: a line for each block in which there is any. An `AllocError` where memory is refused.
 pub fn text_of_page(alloc: Global, page: String) -> Result<String, AllocError>
     ensures { IfOk result (λ text. IsTextOf (string_bytes page) (string_bytes text)) }
 {
-    let parser = parse_document(alloc, Arena::new(alloc)?, ParseOpts::default());
-    let arena = parser.one_owned(page).map_err(refused)?;
+    let arena = tree_of(alloc, page)?;
     let mut blocks = Blocks::new(alloc);
     take_calls(&mut blocks, &arena).map_err(refused)?;
     let lines = blocks.into_lines()?;

@@ -1,5 +1,5 @@
 -- What sink and state mean in a round of the adoption agency, stage by stage.
-use Rattle.std.proofs.Common.{◌≡◌, ◌≢◌, ◌+◌, ℕ, List, [], ◌∷◌, ◌++◌, append_assoc, map, reverse, Result, Ok, Err, OnOk, refl, ap, sym, subst, ◌∙◌}
+use Rattle.std.proofs.Common.{◌≡◌, ◌≢◌, ◌+◌, ℕ, List, [], ◌∷◌, ◌++◌, append_assoc, map, reverse, Result, Ok, Err, OnOk, refl, ap, sym, subst, ◌∙◌, arith}
 use Rattle.h5_interface.specs.Changes.{detach, reparent}
 use Rattle.h5_interface.specs.Forest.{ChildNode, Forest}
 use Rattle.h5_interface.specs.Seen.{Seen, after_pop, changed, with_last_child}
@@ -16,14 +16,15 @@ use Rattle.h5_rules.specs.World.{World, root}
 use Rattle.h5_rules.proofs.adoption.AdoptionPlace.{may_adopt_kept, older_some}
 use Rattle.h5_rules.proofs.adoption.AdoptionRound.{adopt_ready, nest_all, root_kept}
 use Rattle.h5_state.specs.Steps.{world_of}
-use Rattle.h5_state.specs.View.{elements_of, open_node, stack_under, world}
+use Rattle.h5_state.specs.View.{elements_of, open_node, stack_over, stack_under, world}
 use Rattle.h5_state.specs.declared.state.State.{State}
+use Rattle.h5_state.proofs.SeenLaws.{seen_at}
 use Rattle.h5_formatting.specs.Hanging.{MayMove, nest_of, open_between}
 use Rattle.h5_formatting.specs.Relists.{Relists}
 use Rattle.h5_formatting.specs.Rounds.{IsRound}
 use Rattle.h5_formatting.specs.declared.clones.Clones.{Clones}
 use Rattle.h5_formatting.proofs.MoveLaws.{older_under}
-use Rattle.h5_formatting.proofs.RoundLaws.{between_is, from_block, own_clone, relists, round_forest, round_nest, under_element}
+use Rattle.h5_formatting.proofs.RoundLaws.{between_is, from_block, own_clone, relists, round_forest, round_nest, round_split, under_element, under_length}
 
 -- the sink alone changed
 pub world_seen : {S H O : Type 0} (law : Ghosts S H O) (old new : S) (state : State H) (f : Forest) → (law.sees new).forest ≡ f → (law.sees new).quirks ≡ (law.sees old).quirks → world_of law new state ≡ with_forest f (world_of law old state)
@@ -106,13 +107,18 @@ module _ {S H O : Type 0} (law : Ghosts S H O) (old : S) (state : State H) {name
 
   -- and the stack
   pub new_stack : (relisted : State H) (handles : List ℕ) (made : List ℕ) (own : ℕ) → reverse (map (open_node law.node) (elements_of relisted)) ≡ start.stack → made ≡ (round_nest law.choices start r).clones → own ≡ own_clone law.choices start r
-      → handles ≡ k.newer ++ own ∷ k.block ∷ made
-      → handles ++ stack_under law.node relisted place ≡ round_stack k.newer (own_clone law.choices start r) k.block (round_nest law.choices start r).clones (older_than f.node start.stack)
+      → handles ≡ own ∷ k.block ∷ made
+      → (stack_over law.node relisted (block + 1) ++ handles) ++ stack_under law.node relisted place ≡ round_stack k.newer (own_clone law.choices start r) k.block (round_nest law.choices start r).clones (older_than f.node start.stack)
+  unfolding stack_over
   new_stack relisted handles made own e m o h =
       let n = round_nest law.choices start r in
-      ap (λ s. handles ++ s) (sym (older_under law.node relisted f.node place start.stack (sym e) r.may.is_open r.open_at))
-      ∙ ap (λ s. s ++ older_than f.node start.stack) (h ∙ ap (λ ms. k.newer ++ own ∷ k.block ∷ ms) m ∙ ap (λ c. k.newer ++ c ∷ k.block ∷ n.clones) o)
-      ∙ append_assoc k.newer (own_clone law.choices start r ∷ k.block ∷ n.clones) (older_than f.node start.stack)
+      let older = older_than f.node start.stack in
+      let over : stack_over law.node relisted (block + 1) ≡ k.newer =
+      sym (seen_at (open_node law.node) (elements_of relisted) (block + 1) k.newer (k.block ∷ (k.between ++ f.node ∷ older)) (e ∙ round_split law.node state start same_stack r) (omega (arith, under_length law.node state start same_stack r))).0 in
+      ap (λ s. (stack_over law.node relisted (block + 1) ++ handles) ++ s) (sym (older_under law.node relisted f.node place start.stack (sym e) r.may.is_open r.open_at))
+      ∙ ap (λ s. (s ++ handles) ++ older) over
+      ∙ ap (λ s. (k.newer ++ s) ++ older) (h ∙ ap (λ ms. own ∷ k.block ∷ ms) m ∙ ap (λ c. c ∷ k.block ∷ n.clones) o)
+      ∙ append_assoc k.newer (own_clone law.choices start r ∷ k.block ∷ n.clones) older
 
   -- all stands then
   pub all_after : AllStand (round_forest law.choices start r) (round_stack k.newer (own_clone law.choices start r) k.block (round_nest law.choices start r).clones (older_than f.node start.stack))

@@ -21,7 +21,7 @@ on_err (Ok x) P h = tt
 on_err (Err x) P h = h
 
 -- what is so in both cases
-pub on_either : {T E : Type 0} (r : Result T E) (P : Seen → Type 0) (new a b : Seen) → OnOk r (new ≡ a) → OnErr r (new ≡ b) → P a → P b → P new
+pub on_either : {T E A : Type 0} (r : Result T E) (P : A → Type 0) (new a b : A) → OnOk r (new ≡ a) → OnErr r (new ≡ b) → P a → P b → P new
 on_either (Ok x) P new a b ok err h k = subst P (sym ok) h
 on_either (Err x) P new a b ok err h k = subst P (sym err) k
 

@@ -6,6 +6,7 @@ pub mod GoneLaws
 pub mod HangLaws
 pub mod ListLaws
 pub mod MoveLaws
+pub mod NamedLaws
 pub mod NestLaws
 pub mod OpenLaws
 pub mod RelistLaws

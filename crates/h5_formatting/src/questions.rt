@@ -4,11 +4,12 @@ ghost use Rattle.h5_rules.specs.formatting.AdoptionAgency.{closes_current, close
 ghost use Rattle.h5_rules.specs.formatting.Adoption.{newest_named};
 ghost use Rattle.h5_rules.specs.formatting.FormattingList.{nodes_of};
 ghost use Rattle.h5_rules.specs.stack.Order.{is_in};
+ghost use Rattle.h5_rules.specs.World.{name_in};
 ghost use Rattle.h5_state.specs.Steps.{IsSound, world_of};
 ghost use Rattle.h5_list.specs.Listed.{entry_of};
 ghost use Rattle.h5_formatting.specs.EntryPlaces.{entry_at, is_entry_of};
 
-use super::find::{find_entry, find_formatting_element};
+use super::find::find_formatting_element;
 use super::walk::{entry_at, entry_count};
 use h5_interface::TreeSink;
 use h5_names::LocalName;
@@ -51,11 +52,28 @@ pub fn closes_current<S: TreeSink>(sink: &S, state: &State<S::Handle>, name: &Lo
     }
 }
 
-// Whether an element is listed.
-fn is_listed<S: TreeSink>(sink: &S, state: &State<S::Handle>, handle: &S::Handle) -> bool
+// Whether an element of this name is listed. Entries of other names are passed over.
+#[tactic(auto, unfolding(h5_state::specs::View::world))]
+fn is_listed<S: TreeSink>(
+    sink: &S,
+    state: &State<S::Handle>,
+    name: &LocalName,
+    handle: &S::Handle,
+) -> bool
+    requires sound { IsSound S.TreeSink sink.now state.now }
+    requires named { (name_in (S.sees sink.now).forest (S.node handle.now)).local ≡ name.now }
     ensures { result ≡ is_in (S.node handle.now) (nodes_of (world_of S.TreeSink sink.now state.now).formatting) }
 {
-    find_entry(sink, state, handle).is_some()
+    let list = &state.active_formatting;
+    let mut place = list.pass_others(name, list.len());
+    'down: while place > 0 {
+        place -= 1;
+        if is_entry_of(sink, list.get(place), handle) {
+            return true;
+        }
+        place = list.pass_others(name, place);
+    }
+    false
 }
 
 /// Whether the current node has this name and isn't listed.
@@ -67,7 +85,7 @@ pub fn is_current_unlisted<S: TreeSink>(
     requires { IsSound S.TreeSink sink.now state.now }
     ensures { result ≡ is_current_unlisted name.now (world_of S.TreeSink sink.now state.now) }
 {
-    is_current_html(sink, state, name) && !is_listed(sink, state, &current_node(sink, state))
+    is_current_html(sink, state, name) && !is_listed(sink, state, name, &current_node(sink, state))
 }
 
 /// Whether the adoption agency for a name closes the current node alone, which is no parse error.

@@ -138,8 +138,9 @@ pub fn relist<S: TreeSink>(
 )
     requires sound { IsSound S.TreeSink sink.now state.old }
     requires relists { (f : FormattingElement) × (between : List ℕ) × Relists f between (map S.node clones.now.items) (S.node clone) at first block (world_of S.TreeSink sink.now state.old) }
-    ensures { (f : FormattingElement) → (between : List ℕ) → Relists f between (map S.node clones.now.items) (S.node clone) at first block (world_of S.TreeSink sink.now state.old)
+    ensures done { (f : FormattingElement) → (between : List ℕ) → Relists f between (map S.node clones.now.items) (S.node clone) at first block (world_of S.TreeSink sink.now state.old)
         → Becomes S.TreeSink (λ w. record w { formatting = round_list f.node f.tag between (map S.node clones.now.items) (S.node clone) w.formatting }) sink.now state.old sink.now state.new }
+    ensures stack { state.new.open_elems ≡ state.old.open_elems }
 {
     relist_between(sink, state, first, block, clones);
     swap_entry(sink, state, at, clone);

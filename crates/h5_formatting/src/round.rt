@@ -71,5 +71,5 @@ pub fn adopt<S: TreeSink>(
     tell_popped(sink, state, place);
     let handles = round_handles(sink, state, block, &clones.made, &clone)?;
     relist(sink, state, at, place + 1, block, &clones.made, clone);
-    restack(sink, state, place, handles)
+    restack(sink, state, place, block, handles)
 }

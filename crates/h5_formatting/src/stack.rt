@@ -1,11 +1,11 @@
 //! The stack of open elements after a round of the adoption agency.
-ghost use Rattle.std.specs.Prelude.{◌≡◌, ◌<◌, ◌+◌, ◌∷◌, ◌++◌, ℕ, List, IfOk, OnOk, length, map, reverse};
-ghost use Rattle.h5_rules.specs.Sound.{AllStand};
+ghost use Rattle.std.specs.Prelude.{◌≡◌, ◌<◌, ◌≤◌, ◌+◌, ◌∷◌, ◌++◌, ℕ, List, IfOk, OnOk, length, map, reverse, vec_len};
+ghost use Rattle.h5_rules.specs.Sound.{AllStand, Sound};
 ghost use Rattle.h5_state.specs.Steps.{Becomes, BecomesIfOk, IsSound, world_of};
-ghost use Rattle.h5_state.specs.View.{stack_under};
+ghost use Rattle.h5_state.specs.View.{stack_over, stack_under, with_stack};
 
 use h5_interface::TreeSink;
-use h5_state::{State, handle_at, open_count, push_open, truncate};
+use h5_state::{State, handle_at, open_count, push_open, replace_open, truncate};
 use std::alloc::AllocError;
 
 // Clones are pushed, the last of them first.
@@ -32,8 +32,7 @@ fn push_newer<S: TreeSink>(
     handles: &mut Vec<S::Handle>,
 ) -> Result<(), AllocError>
     requires { block < length (world_of S.TreeSink sink.now state.now).stack }
-    ensures { OnOk result ((newer : List ℕ) → (world_of S.TreeSink sink.now state.now).stack ≡ newer ++ stack_under S.node state.now (block + 1)
-        → reverse (map S.node handles.new.items) ≡ newer ++ reverse (map S.node handles.old.items)) }
+    ensures { OnOk result (reverse (map S.node handles.new.items) ≡ stack_over S.node state.now (block + 1) ++ reverse (map S.node handles.old.items)) }
 {
     let count = open_count(sink, state);
     let mut place = block + 1;
@@ -44,8 +43,8 @@ fn push_newer<S: TreeSink>(
     Ok(())
 }
 
-/// What stands above the older elements after a round, the oldest first: the clones, the last of them first, the block, which
-/// stands at a place, the clone of the formatting element, and what stands above the block.
+/// What stands above the older elements after a round, below what stood above the block, the oldest first: the clones, the
+/// last of them first, the block, which stands at a place, and the clone of the formatting element.
 pub fn round_handles<S: TreeSink>(
     sink: &S,
     state: &State<S::Handle>,
@@ -54,14 +53,13 @@ pub fn round_handles<S: TreeSink>(
     clone: &S::Handle,
 ) -> Result<Vec<S::Handle>, AllocError>
     requires { block < length (world_of S.TreeSink sink.now state.now).stack }
-    ensures { IfOk result (λ handles. (newer : List ℕ) → (b : ℕ) → (older : List ℕ) → (world_of S.TreeSink sink.now state.now).stack ≡ newer ++ b ∷ older → length older ≡ block
-        → reverse (map S.node handles.items) ≡ newer ++ S.node clone.now ∷ b ∷ map S.node clones.now.items) }
+    ensures { IfOk result (λ handles. (b : ℕ) → (older : List ℕ) → stack_under S.node state.now (block + 1) ≡ b ∷ older
+        → reverse (map S.node handles.items) ≡ S.node clone.now ∷ b ∷ map S.node clones.now.items) }
 {
     let mut handles = Vec::new(state.alloc);
     push_clones(sink, clones, &mut handles)?;
     handles.push(sink.clone_handle(handle_at(sink, state, block)))?;
     handles.push(sink.clone_handle(clone))?;
-    push_newer(sink, state, block, &mut handles)?;
     Ok(handles)
 }
 
@@ -73,8 +71,8 @@ fn keep_oldest<S: TreeSink>(sink: &S, state: &mut State<S::Handle>, count: usize
     truncate(sink, state, count);
 }
 
-/// The elements from a place on leave the stack, and these stand there, the oldest first. An Err leaves some of them.
-pub fn restack<S: TreeSink>(
+// The elements from a place on leave the stack, and these stand there, the oldest first. An Err leaves some of them.
+fn reopen<S: TreeSink>(
     sink: &S,
     state: &mut State<S::Handle>,
     place: usize,
@@ -90,4 +88,43 @@ pub fn restack<S: TreeSink>(
         push_open(sink, state, handle)?;
     }
     Ok(())
+}
+
+// These elements stand from a place on, in place of as many, and those above stay where they are. An Err leaves those below
+// the place.
+fn replace<S: TreeSink>(
+    sink: &S,
+    state: &mut State<S::Handle>,
+    place: usize,
+    handles: Vec<S::Handle>,
+) -> Result<(), AllocError>
+    requires sound { IsSound S.TreeSink sink.now state.old }
+    requires inside { place + vec_len handles ≤ length (world_of S.TreeSink sink.now state.old).stack }
+    requires stands { Sound (with_stack ((stack_over S.node state.old (place + vec_len handles) ++ reverse (map S.node handles.items)) ++ stack_under S.node state.old place) (world_of S.TreeSink sink.now state.old)) }
+    ensures { BecomesIfOk S.TreeSink (with_stack ((stack_over S.node state.old (place + vec_len handles) ++ reverse (map S.node handles.items)) ++ stack_under S.node state.old place)) sink.now state.old sink.now state.new result }
+{
+    replace_open(sink, state, place, handles)
+}
+
+/// The elements from a place up to that of the block leave the stack, and these stand there, the oldest first, below those
+/// that stand above the block. Where they are as many, those above stay where they are. An Err leaves some of them.
+pub fn restack<S: TreeSink>(
+    sink: &S,
+    state: &mut State<S::Handle>,
+    place: usize,
+    block: usize,
+    mut handles: Vec<S::Handle>,
+) -> Result<(), AllocError>
+    requires sound { IsSound S.TreeSink sink.now state.old }
+    requires place { place ≤ block }
+    requires block { block < length (world_of S.TreeSink sink.now state.old).stack }
+    requires stands { Sound (with_stack ((stack_over S.node state.old (block + 1) ++ reverse (map S.node handles.items)) ++ stack_under S.node state.old place) (world_of S.TreeSink sink.now state.old)) }
+    ensures { BecomesIfOk S.TreeSink (with_stack ((stack_over S.node state.old (block + 1) ++ reverse (map S.node handles.items)) ++ stack_under S.node state.old place)) sink.now state.old sink.now state.new result }
+{
+    if handles.len() == block + 1 - place {
+        replace(sink, state, place, handles)
+    } else {
+        push_newer(sink, state, block, &mut handles)?;
+        reopen(sink, state, place, handles)
+    }
 }

@@ -109,7 +109,7 @@ pub fn insert_foreign_for<S: TreeSink>(
     state: &mut State<S::Handle>,
     namespace: Namespace,
     tag: Tag,
-) -> Turn<S::Handle>
+) -> Turn
     requires { IsSound S.TreeSink sink.old state.old }
     ensures { TakesTag S.TreeSink (inserts_foreign_in namespace) tag sink.old state.old sink.new state.new result }
 {

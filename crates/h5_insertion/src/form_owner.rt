@@ -74,6 +74,7 @@ fn may_have_owner(local: &LocalName, attrs: &[Attribute]) -> bool
 /// A handle of the form element, where it owns a new element of this name, with these attributes: not where a template
 /// is open.
 #[tactic(auto, unfolding(h5_state::specs::View::world, h5_rules::specs::insertion::FormOwner::form_owner))]
+#[inline(always)]
 pub(crate) fn form_owner<S: TreeSink>(
     sink: &S,
     state: &State<S::Handle>,

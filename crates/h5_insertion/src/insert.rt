@@ -264,6 +264,7 @@ pub fn append_comment<S: TreeSink>(
 
 /// A text, which isn't empty, at the place of insertion. An Err leaves open elements.
 #[tactic(auto, unfolding(h5_state::specs::View::world, h5_rules::specs::Changes::append_text))]
+#[inline(always)]
 pub fn append_text<S: TreeSink>(
     sink: &mut S,
     state: &State<S::Handle>,

@@ -1,5 +1,6 @@
 //! The place of insertion (HTML standard, section 13.2.6.1, "Creating and inserting nodes").
 ghost use Rattle.std.specs.Prelude.{◌≡◌, ◌<◌, ◌+◌, ◌&&◌, length};
+ghost use Rattle.h5_interface.specs.NewElement.{is_html_template};
 ghost use Rattle.h5_tag_sets.specs.TagSets.{is_table_outer};
 ghost use Rattle.h5_rules.specs.insertion.Place.{appropriate_place, foster_place, from_foster_parent, inside, place};
 ghost use Rattle.h5_rules.specs.World.{name_in, root};
@@ -9,8 +10,10 @@ ghost use Rattle.h5_state.specs.Steps.{IsSound, world_of};
 ghost use Rattle.h5_state.specs.View.{stack_under};
 
 use h5_interface::TreeSink;
-use h5_names::KnownName;
-use h5_state::{FosterParent, Nothing, State, find_in_scope, root_node};
+use h5_names::{KnownName, LocalName};
+use h5_state::{
+    FosterParent, Nothing, State, find_in_scope, handle_at, is_named, open_count, root_node,
+};
 use h5_tag_sets::{is_html_known, table_outer};
 
 /// Where a node or a text is put.
@@ -23,18 +26,37 @@ pub enum InsertionPoint<Handle> {
     TableFosterParenting(Handle, Handle),
 }
 
-// What is put into an open element is put here: into its contents, where it is a template.
+// What is put into an open element, which is a template or not, is put here: into its contents, where it is one.
 #[tactic(auto, unfolding(h5_state::specs::View::world))]
+#[inline(always)]
+fn inside_of<S: TreeSink>(
+    sink: &S,
+    state: &State<S::Handle>,
+    target: &S::Handle,
+    is_template: bool,
+) -> S::Handle
+    requires sound { IsSound S.TreeSink sink.now state.now }
+    requires open { IsIn (S.node target.now) (world_of S.TreeSink sink.now state.now).stack }
+    requires template { is_template ≡ is_html_template (name_in (world_of S.TreeSink sink.now state.now).forest (S.node target.now)) }
+    ensures { S.node result ≡ inside (world_of S.TreeSink sink.now state.now).forest (S.node target.now) }
+{
+    if is_template {
+        sink.get_template_contents(target)
+    } else {
+        sink.clone_handle(target)
+    }
+}
+
+// What is put into an open element is put here.
+#[tactic(auto, unfolding(h5_state::specs::View::world))]
+#[inline(always)]
 fn inside<S: TreeSink>(sink: &S, state: &State<S::Handle>, target: &S::Handle) -> S::Handle
     requires sound { IsSound S.TreeSink sink.now state.now }
     requires open { IsIn (S.node target.now) (world_of S.TreeSink sink.now state.now).stack }
     ensures { S.node result ≡ inside (world_of S.TreeSink sink.now state.now).forest (S.node target.now) }
 {
-    if is_html_known(sink.elem_name(target), KnownName::Template) {
-        sink.get_template_contents(target)
-    } else {
-        sink.clone_handle(target)
-    }
+    let is_template = is_html_known(sink.elem_name(target), KnownName::Template);
+    inside_of(sink, state, target, is_template)
 }
 
 // The place of what is foster-parented.
@@ -73,6 +95,7 @@ fn foster_place_at<S: TreeSink>(
 }
 
 // Whether what is put into an open element is foster-parented.
+#[inline(always)]
 fn is_fostered<S: TreeSink>(sink: &S, state: &State<S::Handle>, target: &S::Handle) -> bool
     requires sound { IsSound S.TreeSink sink.now state.now }
     requires open { IsIn (S.node target.now) (world_of S.TreeSink sink.now state.now).stack }
@@ -82,6 +105,7 @@ fn is_fostered<S: TreeSink>(sink: &S, state: &State<S::Handle>, target: &S::Hand
 }
 
 /// The appropriate place for inserting a node into an open element.
+#[inline(always)]
 pub fn appropriate_place_for_insertion<S: TreeSink>(
     sink: &S,
     state: &State<S::Handle>,
@@ -98,13 +122,22 @@ pub fn appropriate_place_for_insertion<S: TreeSink>(
     }
 }
 
-/// The appropriate place for inserting a node into the current node, or the document where no element is open.
+/// The appropriate place for inserting a node into the current node, or the document where no element is open. Where nothing
+/// is foster-parented, its number tells whether it is a template.
+#[inline(always)]
 pub fn current_place<S: TreeSink>(sink: &S, state: &State<S::Handle>) -> InsertionPoint<S::Handle>
     requires { IsSound S.TreeSink sink.now state.now }
     ensures { place_of S.node result ≡ place (world_of S.TreeSink sink.now state.now) }
 {
-    match state.open_elems.elements.last() {
-        Some(element) => appropriate_place_for_insertion(sink, state, &element.handle),
-        None => InsertionPoint::LastChild(sink.get_document()),
+    let count = open_count(sink, state);
+    if count == 0 {
+        return InsertionPoint::LastChild(sink.get_document());
     }
+    let target = handle_at(sink, state, count - 1);
+    if state.foster_parenting {
+        return appropriate_place_for_insertion(sink, state, target);
+    }
+    let template = LocalName::from_known(KnownName::Template);
+    let is_template = is_named(sink, state, count - 1, &template);
+    InsertionPoint::LastChild(inside_of(sink, state, target, is_template))
 }

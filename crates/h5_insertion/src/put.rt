@@ -17,6 +17,7 @@ use h5_names::{Attribute, QualName};
 use std::alloc::AllocError;
 
 /// A node or a text is put at a place.
+#[inline(always)]
 pub fn insert_at<S: TreeSink>(
     sink: &mut S,
     place: &InsertionPoint<S::Handle>,
@@ -59,6 +60,7 @@ pub enum Notice<Handle> {
 }
 
 // The sink is told of a new element, and, with its form owner, where it is to stand.
+#[inline(always)]
 fn notify<S: TreeSink>(
     sink: &mut S,
     element: &S::Handle,
@@ -125,6 +127,7 @@ pub fn insert_new_comment<S: TreeSink>(
 }
 
 /// A text, which isn't empty, at a place.
+#[inline(always)]
 pub fn insert_text<S: TreeSink>(
     sink: &mut S,
     place: &InsertionPoint<S::Handle>,

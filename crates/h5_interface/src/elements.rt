@@ -44,6 +44,7 @@ pub fn create_element_with_flags<S: TreeSink>(
     sink.create_element(name, attrs, flags)
 }
 
+#[inline(always)]
 fn flags_for(name: &QualName, attrs: &[Attribute], had_duplicate_attributes: bool) -> ElementFlags
     ensures { result ≡ flags_of name.now (attribute_texts attrs.now) had_duplicate_attributes }
 {
@@ -56,18 +57,21 @@ fn flags_for(name: &QualName, attrs: &[Attribute], had_duplicate_attributes: boo
 
 // Whether this is an `annotation-xml` that holds HTML.
 #[tactic(auto, using(crate::proofs::ElementLemmas::any_of_texts))]
+#[inline(always)]
 fn is_holder_of_html(name: &QualName, attrs: &[Attribute]) -> bool
     ensures { result ≡ (is_annotation_xml name.now && list_any is_html_encoding (attribute_texts attrs.now)) }
 {
     is_annotation(name) && has_html_encoding(attrs)
 }
 
+#[inline(always)]
 fn is_template(name: &QualName) -> bool
     ensures { result ≡ is_html_template name.now }
 {
     name.ns.is_html() && name.local.is(KnownName::Template)
 }
 
+#[inline(always)]
 fn is_annotation(name: &QualName) -> bool
     ensures { result ≡ is_annotation_xml name.now }
 {

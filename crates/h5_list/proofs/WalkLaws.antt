@@ -124,7 +124,7 @@ module _ {H T : Type 0} (stack : List (Numbered T)) (items : List (FormatEntry H
   more_at : (node : H → ℕ) (k : ℕ) → k < length items → under node items (k + 1) ≡ entry_of node (get_or items k Marker) ∷ under node items k
   more_at node k h = under_more node items k (get_or items k Marker) h (get_or_default items k Marker (get_or items k Marker) h)
 
-  as_long : length (numbers stack) ≡ length items
+  pub as_long : length (numbers stack) ≡ length items
   as_long = ap (λ ns. length ns) all ∙ length-map items (λ (entry : FormatEntry H). entry_number entry)
 
   -- over some entries, none of which is a marker or has the number of the name
@@ -155,6 +155,15 @@ module _ {H T : Type 0} (stack : List (Numbered T)) (items : List (FormatEntry H
 
   pub at_all : (n k : ℕ) → newest_of n (reverse (numbers stack)) ≡ k + 1 → k < length items → get_or (numbers stack) k 0 ≡ n
   at_all n k e high = at_whole (numbers stack) n k e (omega (arith, high, as_long))
+
+  -- an entry whose number is another than that of a name doesn't have the name
+  pub otherwise_named : (name : List ℕ) (k : ℕ) (x : FormatEntry H) → k < length items → x ≡ get_or items k x → get_or (numbers stack) k 0 ≢ name_number name → is_named name x ≡ false
+  otherwise_named name k Marker h e other = refl
+  otherwise_named name k (Element handle tag) h e other = step (is_same_text tag.name name) refl
+    where
+      step : (b : Bool) → is_same_text tag.name name ≡ b → b ≡ false
+      step true same = absurd (other (number_is stack items all k (Element handle tag) h e ∙ ap (λ t. name_number t) ((bytes_eq-Decides tag.name name).0 same)))
+      step false same = refl
 
   pub walk_begins : (name : List ℕ) (end next : ℕ) → end ≡ newest_of 0 (reverse (numbers stack)) → end ≤ length items → next ≡ newest_of (name_number name) (reverse (numbers stack)) → next ≤ length items → Walks stack items name end next
   walk_begins name end next e i f w = record {

@@ -1,5 +1,5 @@
 -- What contracts see of entries of the list of active formatting elements, without where their texts lie in memory.
-use Rattle.std.specs.Prelude.{◌≡◌, ◌==◌, ℕ, suc, if◌then◌else◌, Bool, false, List, [], ◌∷◌, ◌++◌, Some, length, map, reverse, slice_index_or, slice_set}
+use Rattle.std.specs.Prelude.{◌≡◌, ◌==◌, ◌<◌, ◌≤◌, ℕ, suc, if◌then◌else◌, Bool, false, List, [], ◌∷◌, ◌++◌, Some, length, map, reverse, slice_index_or, slice_set}
 use Rattle.h5_names.specs.AttributeText.{is_same_text}
 use Rattle.h5_token.specs.TokenText.{TagText, tag_text}
 use Rattle.h5_types.specs.declared.entry.FormatEntry.{FormatEntry}
@@ -20,6 +20,10 @@ entries_of node items = reverse (map (entry_of node) items)
 abbrev pub is_named : {H : Type 0} → List ℕ → FormatEntry H → Bool
 is_named name (Element handle tag) = is_same_text tag.name name
 is_named name Marker = false
+
+-- from a place on, up to another one, no entry has this name
+abbrev pub AreOtherwiseNamed : {H : Type 0} → List ℕ → ℕ → ℕ → List (FormatEntry H) → Type 0
+AreOtherwiseNamed {H} name from to items = (k : ℕ) (x : FormatEntry H) → from ≤ k → k < to → x ≡ slice_index_or items k x → is_named name x ≡ false
 
 -- an entry of another element
 abbrev pub with_handle : {H : Type 0} → H → FormatEntry H → FormatEntry H

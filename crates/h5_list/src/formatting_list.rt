@@ -1,14 +1,14 @@
 //! The list.
-ghost use Rattle.std.specs.Prelude.{◌≡◌, ◌==◌, ◌<◌, ◌≤◌, ◌↔◌, ◌∷◌, ◌++◌, [], ℕ, IsSome, MatchOption, OnErr, OnOk, is_some, length, slice_index_or, take, vec_len};
+ghost use Rattle.std.specs.Prelude.{◌≡◌, ◌<◌, ◌≤◌, ◌↔◌, ◌∷◌, ◌++◌, [], ℕ, IsSome, MatchOption, OnErr, OnOk, is_some, length, slice_index_or, vec_len};
 ghost use Rattle.std.specs.List.{insert, remove};
 ghost use Rattle.std.specs.Option.{option_to_list};
 ghost use Rattle.h5_rules.specs.formatting.Adoption.{newest_named};
 ghost use Rattle.h5_rules.specs.formatting.FormattingList.{count_alike, without_earliest};
 ghost use Rattle.h5_token.specs.TokenText.{tag_text};
-ghost use Rattle.h5_list.specs.Listed.{IsHandedOver, IsNewestNamedAt, entries_of, without_place};
+ghost use Rattle.h5_list.specs.Listed.{AreOtherwiseNamed, IsHandedOver, IsNewestNamedAt, entries_of, without_place};
 
 use super::index::{Index, build_index, move_index, push_index, remove_index, truncate_index};
-use super::named::find_newest_named;
+use super::named::{find_newest_named, pass_others};
 use super::surplus::find_alike;
 use h5_names::LocalName;
 use h5_stack::move_up;
@@ -72,13 +72,6 @@ impl<Handle> FormattingList<Handle> {
         self.entries.len()
     }
 
-    /// Whether there is none.
-    pub fn is_empty(&self) -> bool
-        ensures { result ≡ (length self.now == 0) }
-    {
-        self.len() == 0
-    }
-
     /// The entry at a place.
     pub fn get(&self, place: usize) -> &FormatEntry<Handle>
         requires { place < length self.now }
@@ -101,8 +94,10 @@ impl<Handle> FormattingList<Handle> {
         ensures ok { OnOk result (self.new ≡ self.old ++ entry ∷ []) }
         ensures err { OnErr result (self.new ≡ self.old) }
     {
-        self.entries.reserve(1)?;
-        push_index(&mut self.index, &self.entries, &entry)?;
+        if self.index.is_some() {
+            self.entries.reserve(1)?;
+            push_index(&mut self.index, &self.entries, &entry)?;
+        }
         self.entries.push(entry)?;
         build_index(&mut self.index, &self.entries);
         Ok(())
@@ -113,19 +108,11 @@ impl<Handle> FormattingList<Handle> {
         ensures some { IsSome result ↔ (0 < length self.old) }
         ensures value { self.old ≡ self.new ++ option_to_list result }
     {
-        let count = self.len().saturating_sub(1);
-        truncate_index(&mut self.index, &self.entries, count);
+        if self.index.is_some() {
+            let count = self.len().saturating_sub(1);
+            truncate_index(&mut self.index, &self.entries, count);
+        }
         self.entries.pop()
-    }
-
-    /// The oldest entries stay, so many of them.
-    pub fn truncate(&mut self, count: usize)
-    where
-        Handle: Drop,
-        ensures { self.new ≡ take count self.old }
-    {
-        truncate_index(&mut self.index, &self.entries, count);
-        self.entries.truncate(count);
     }
 
     /// The entry at a place is taken out, and those above it move down by one.
@@ -169,6 +156,16 @@ impl<Handle> FormattingList<Handle> {
         ensures inside { MatchOption result (Unit {0}) (λ place. place < length self.now) }
     {
         find_newest_named(&self.entries, &self.index, name)
+    }
+
+    /// A place with no entry of a name from there up to another one. In a long list, where the other one is its end or has that
+    /// name, the entry right below it has the name, if HTML knows it, and it takes one step.
+    pub fn pass_others(&self, name: &LocalName, below: usize) -> usize
+        requires { below ≤ length self.now }
+        ensures within { result ≤ below }
+        ensures others { AreOtherwiseNamed name.now result below self.now }
+    {
+        pass_others(&self.entries, &self.index, name, below)
     }
 
     /// The place of the earliest entry after the last marker that is alike to a tag, if as many are as may be. In a long list

@@ -1,8 +1,8 @@
-//! Where the newest entry of a name stands, of those after the last marker.
-ghost use Rattle.std.specs.Prelude.{◌≡◌, ◌<◌, ℕ, MatchOption, is_some, vec_len};
+//! Where entries of a name stand: the newest after the last marker, and what may be passed over where others are looked for.
+ghost use Rattle.std.specs.Prelude.{◌≡◌, ◌<◌, ◌≤◌, ℕ, MatchOption, is_some, vec_len};
 ghost use Rattle.h5_rules.specs.formatting.Adoption.{newest_named};
 ghost use Rattle.h5_list.specs.Keys.{IsIndexOf, IsIndexed};
-ghost use Rattle.h5_list.specs.Listed.{IsNewestNamedAt, entries_of};
+ghost use Rattle.h5_list.specs.Listed.{AreOtherwiseNamed, IsNewestNamedAt, entries_of};
 ghost use Rattle.h5_list.specs.Numbers.{IsAfterMarkers};
 
 use super::index::Index;
@@ -68,5 +68,45 @@ pub(super) fn find_newest_named<Handle>(
     match index {
         Some(index) => find_numbered(entries, index, name),
         None => find_among_all(entries, after_markers(entries), name),
+    }
+}
+
+// By the index, where the newest of all is asked for, or that below one of the name.
+fn pass_numbered<Handle>(
+    entries: &Vec<FormatEntry<Handle>>,
+    index: &Index,
+    name: &LocalName,
+    below: usize,
+) -> usize
+    requires indexed { IsIndexOf index.now entries.now.items }
+    requires below { below ≤ vec_len entries.now }
+    ensures within { result ≤ below }
+    ensures others { AreOtherwiseNamed name.now result below entries.now.items }
+{
+    let number = name_number(name);
+    if below == entries.len() {
+        index.numbers.newest(number)
+    } else if index.numbers.number_at(below) == number {
+        index.numbers.older(below)
+    } else {
+        below
+    }
+}
+
+/// A place with no entry of a name from there up to another one.
+pub(super) fn pass_others<Handle>(
+    entries: &Vec<FormatEntry<Handle>>,
+    index: &Option<Index>,
+    name: &LocalName,
+    below: usize,
+) -> usize
+    requires indexed { IsIndexed index.now entries.now.items }
+    requires below { below ≤ vec_len entries.now }
+    ensures within { result ≤ below }
+    ensures others { AreOtherwiseNamed name.now result below entries.now.items }
+{
+    match index {
+        Some(index) => pass_numbered(entries, index, name, below),
+        None => below,
     }
 }

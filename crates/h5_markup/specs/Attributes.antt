@@ -68,3 +68,7 @@ repeats kept (a ∷ others) = if is_named_in a.name.local kept then true else re
 
 abbrev pub has_duplicates : List AttributeText → Bool
 has_duplicates = repeats []
+
+-- some attributes with one more, unless its name is among them
+abbrev pub kept_with : List ℕ → List ℕ → List AttributeText → List AttributeText
+kept_with name value kept = if is_named_in name kept then kept else kept ++ attribute_named name value ∷ []

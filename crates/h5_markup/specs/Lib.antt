@@ -1,4 +1,5 @@
 pub mod Attributes
+pub mod Bare
 pub mod Cuts
 pub mod Doctypes
 pub mod Ending

@@ -10,24 +10,9 @@ use super::cut::{Class, cut_at, cut_name, cut_past, skip};
 use super::keeping::Keeping;
 use super::needle::literal;
 use super::seen::Seen;
-use super::text::text_of;
-use h5_names::{Attribute, KnownName, LocalName};
+use super::shared_names::SharedNames;
+use h5_names::Attribute;
 use std::alloc::{AllocError, Global};
-
-/// A name as a tag or an attribute has it: NULs are U+FFFD, newlines LF, and ASCII letters in lower case.
-/// `AllocError` where memory is refused (HTML standard, section 13.2.5.8, "Tag name state").
-pub fn make_name(alloc: Global, text: &str) -> Result<LocalName, AllocError>
-    ensures { IfOk result (λ name. name ≡ t.name_of text.now) }
-{
-    // Most names are known, and take no memory.
-    match KnownName::from_text(text) {
-        KnownName::Other => {}
-        known => return Ok(LocalName::from_known(known.to_ascii_lowercase())),
-    }
-    let mut lower = text_of(alloc, false, text)?;
-    lower.make_ascii_lowercase();
-    Ok(LocalName::from_string(lower))
-}
 
 /// An attribute as it is written, and what follows it.
 #[derive(Drop)]
@@ -130,7 +115,11 @@ fn likely_count(bytes: &[u8]) -> usize {
 /// The attributes of a tag, by what stands between its name and the `>` that ends it, in their order. One
 /// whose name came before is left out. `AllocError` where memory is refused (HTML standard, sections
 /// 13.2.5.32, "Before attribute name state", to 13.2.5.40, "Self-closing start tag state").
-pub fn read_attributes(alloc: Global, text: &str) -> Result<Kept, AllocError>
+pub fn read_attributes(
+    alloc: Global,
+    names: &mut SharedNames,
+    text: &str,
+) -> Result<Kept, AllocError>
     ensures attributes { IfOk result (λ kept. attribute_texts kept.attributes.items ≡ a.distinct [] (a.attributes_of text.now)) }
     ensures duplicates { IfOk result (λ kept. kept.duplicates ≡ a.has_duplicates (a.attributes_of text.now)) }
 {
@@ -146,7 +135,7 @@ pub fn read_attributes(alloc: Global, text: &str) -> Result<Kept, AllocError>
             });
         }
         let attribute = cut_attribute(front);
-        let name = make_name(alloc, attribute.name)?;
+        let name = names.name(alloc, attribute.name)?;
         kept.keep(alloc, name, attribute.value)?;
         // That it is text holds for the loop's next turn.
         let _bytes = attribute.rest.as_bytes();

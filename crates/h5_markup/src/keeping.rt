@@ -1,5 +1,5 @@
 //! The attributes of a tag, kept while it is read.
-ghost use Rattle.std.specs.Prelude.{◌≡◌, ◌≤◌, ◌++◌, ◌∷◌, [], true, false, IfOk, OnOk, vec_len};
+ghost use Rattle.std.specs.Prelude.{◌≡◌, ◌≤◌, ◌++◌, ◌∷◌, [], true, false, IfOk, OnOk, vec_len, string_bytes, ◌||◌};
 ghost use Rattle.h5_names.specs.AttributeText.{attribute_text, attribute_texts};
 ghost use Rattle.h5_markup.specs.Attributes as a;
 ghost use Rattle.h5_markup.specs.Later.{AreNamesBehind};
@@ -60,7 +60,7 @@ fn make_room(attributes: &mut Vec<Attribute>, room: usize) -> Result<(), AllocEr
 }
 
 impl Keeping {
-    ghost use Rattle.std.specs.Prelude.{◌||◌, List};
+    ghost use Rattle.std.specs.Prelude.{List};
     ghost use Rattle.h5_names.specs.AttributeText.{AttributeText};
 
     /// No attributes, which take no memory. The first makes room for so many.
@@ -84,6 +84,17 @@ impl Keeping {
             return is_named_in(name, &self.attributes);
         }
         is_named_in(name, &self.attributes[..FEW]) || self.later.contains(name)
+    }
+
+    // Whether one of them has this name, which is noted.
+    fn is_repeated(&mut self, name: &LocalName) -> bool
+        ensures named { result ≡ a.is_named_in name.now (attribute_texts self.old.attributes.items) }
+        ensures attributes { self.new.attributes ≡ self.old.attributes }
+        ensures duplicates { self.new.duplicates ≡ (result || self.old.duplicates) }
+    {
+        let is_repeated = self.is_named(name);
+        self.duplicates = is_repeated || self.duplicates;
+        is_repeated
     }
 
     // Adds an attribute behind the first few.
@@ -127,11 +138,27 @@ impl Keeping {
             (self.new.duplicates || a.repeats (attribute_texts self.new.attributes.items) others)
             ≡ (self.old.duplicates || a.repeats (attribute_texts self.old.attributes.items) (a.attribute_named name (t.text_of true value.now) ∷ others))) }
     {
-        if self.is_named(&name) {
-            self.duplicates = true;
+        if self.is_repeated(&name) {
             return Ok(());
         }
         let attribute = make_attribute(alloc, name, value)?;
         self.push(attribute)
+    }
+
+    /// Keeps an attribute whose value was read, unless its name is there. `AllocError` where memory is refused, and then none
+    /// is added.
+    pub fn keep_finished(&mut self, name: LocalName, value: String) -> Result<(), AllocError>
+        ensures attributes { OnOk result (attribute_texts self.new.attributes.items
+            ≡ a.kept_with name (string_bytes value) (attribute_texts self.old.attributes.items)) }
+        ensures duplicates { OnOk result (self.new.duplicates
+            ≡ (a.is_named_in name (attribute_texts self.old.attributes.items) || self.old.duplicates)) }
+    {
+        if self.is_repeated(&name) {
+            return Ok(());
+        }
+        self.push(Attribute {
+            name: QualName::new(None, Namespace::none(), name),
+            value,
+        })
     }
 }

@@ -14,12 +14,13 @@ use std::alloc::{AllocError, Global};
 use std::cmp::Ordering;
 use std::hash::{Hash, Hasher};
 use std::marker::Model;
+use std::sync::Arc;
 
-// What stands behind a local name: a name that HTML knows, or the text of any other.
+// What stands behind a local name: a name that HTML knows, or the text of any other, which equal names share.
 #[derive(Debug, Drop)]
 enum Kept {
     Known(KnownName),
-    Text(String),
+    Text(Arc<String>),
 }
 
 /// The name of an element or an attribute, without its prefix (DOM standard: local name).
@@ -42,6 +43,17 @@ impl Model for LocalName {
 }
 
 impl LocalName {
+    // The local name with this text, which HTML doesn't know.
+    fn from_unknown(text: String) -> Result<LocalName, AllocError>
+        requires { known_name_of (string_bytes text) ≡ KnownName.Other }
+        ensures { IfOk result (λ name. name ≡ string_bytes text) }
+    {
+        let alloc = *text.allocator();
+        Ok(LocalName {
+            kept: Kept::Text(Arc::new(alloc, text)?),
+        })
+    }
+
     /// The local name with this text, or an `AllocError` where memory is refused. A text that HTML knows
     /// takes none.
     pub fn new(alloc: Global, text: &str) -> Result<LocalName, AllocError>
@@ -49,22 +61,20 @@ impl LocalName {
         ensures free { known_name_of text.now ≢ KnownName.Other → IsOk result }
     {
         match KnownName::from_text(text) {
-            KnownName::Other => Ok(LocalName {
-                kept: Kept::Text(String::from_str(alloc, text)?),
-            }),
+            KnownName::Other => LocalName::from_unknown(String::from_str(alloc, text)?),
             known => Ok(LocalName::from_known(known)),
         }
     }
 
-    /// The local name with this text, which is moved. It takes no memory.
-    pub fn from_string(text: String) -> LocalName
-        ensures { result ≡ string_bytes text }
+    /// The local name with this text, which is moved, or an `AllocError` where memory is refused. A text that HTML knows
+    /// takes none.
+    pub fn from_string(text: String) -> Result<LocalName, AllocError>
+        ensures value { IfOk result (λ name. name ≡ string_bytes text) }
+        ensures free { known_name_of (string_bytes text) ≢ KnownName.Other → IsOk result }
     {
         match KnownName::from_text(text.as_str()) {
-            KnownName::Other => LocalName {
-                kept: Kept::Text(text),
-            },
-            known => LocalName::from_known(known),
+            KnownName::Other => LocalName::from_unknown(text),
+            known => Ok(LocalName::from_known(known)),
         }
     }
 
@@ -108,7 +118,8 @@ impl LocalName {
         known != KnownName::Other || self.as_str() == known.as_str()
     }
 
-    /// An equal local name, or an `AllocError` where memory is refused. A name that HTML knows takes none.
+    /// An equal local name, which shares the text, or an `AllocError` where it can't be shared so often. A name that HTML knows
+    /// can always be had.
     #[inline(always)]
     pub fn clone(&self) -> Result<LocalName, AllocError>
         ensures value { IfOk result (λ name. name ≡ self.now) }

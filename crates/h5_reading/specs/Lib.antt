@@ -6,3 +6,4 @@ pub mod Options
 pub mod Proper
 pub mod Lines
 pub mod Blindness
+pub mod LastName

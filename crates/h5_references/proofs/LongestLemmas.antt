@@ -14,7 +14,7 @@ use Rattle.h5_references.specs.Numbered.{how_many, name_of, text_of}
 use Rattle.h5_references.specs.Candidates.{AreCandidates}
 use Rattle.h5_references.proofs.OrderLemmas.{before_itself, names_in_order, not_before, within_list}
 
-begins_itself : (seen : List ℕ) → begins same seen seen ≡ true
+pub begins_itself : (seen : List ℕ) → begins same seen seen ≡ true
 begins_itself [] = refl
 begins_itself (x ∷ seen) = and_from (x == x) (begins same seen seen) (eq-eqb x x refl) (begins_itself seen)
 
@@ -56,7 +56,7 @@ not_same : (a b : List ℕ) → is_before a b ≡ true → bytes_eq a b ≡ fals
 not_same a b h =
     false_from_ne_true _ (λ e. false≢true (sym (before_itself a) ∙ (ap (is_before a) ((bytes_eq-Decides a b).0 e) ∙ h)))
 
-meaning_at : (table : List Reference) (k : ℕ) → k < length table → ((i : ℕ) → i < k → is_before (get_or table i ([], [])).0 (get_or table k ([], [])).0 ≡ true) → meaning_of table (get_or table k ([], [])).0 ≡ Some (get_or table k ([], [])).1
+pub meaning_at : (table : List Reference) (k : ℕ) → k < length table → ((i : ℕ) → i < k → is_before (get_or table i ([], [])).0 (get_or table k ([], [])).0 ≡ true) → meaning_of table (get_or table k ([], [])).0 ≡ Some (get_or table k ([], [])).1
 meaning_at [] k lt order = absurd (omega arith)
 meaning_at (r ∷ table) zero lt order = cond-true (bytes_eq r.0 r.0) (Some r.1) (meaning_of table r.0) ((bytes_eq-Decides r.0 r.0).1 refl)
 meaning_at (r ∷ table) (suc k) lt order =

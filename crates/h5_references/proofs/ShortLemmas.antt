@@ -10,7 +10,7 @@ are_short : list_all (λ (r : Reference). leb (length r.0) 32) references ≡ tr
 unfolding references
 are_short = refl
 
-begins_no_shorter : (seen name : List ℕ) → begins same seen name ≡ true → length seen ≤ length name
+pub begins_no_shorter : (seen name : List ℕ) → begins same seen name ≡ true → length seen ≤ length name
 begins_no_shorter [] name h = omega arith
 begins_no_shorter (s ∷ seen) [] h = absurd (false≢true h)
 begins_no_shorter (s ∷ seen) (c ∷ name) h =

@@ -3,8 +3,10 @@ ghost use Rattle.std.specs.Prelude.{◌≡◌, ◌<◌, ◌≤◌, ◌+◌, true
 ghost use Rattle.h5_states.specs.References.{is_beginning, longest};
 ghost use Rattle.h5_states.specs.ReferenceTable.{references};
 ghost use Rattle.h5_references.specs.Found.{found_in};
+ghost use Rattle.h5_references.specs.Numbered.{how_many, name_of, text_of};
 
 use super::candidates::{Candidates, candidates_of};
+use super::common::common;
 use super::table::{name, text};
 
 /// The longest name that a text begins with.
@@ -27,8 +29,14 @@ pub fn is_beginning(seen: &[u8]) -> bool
 pub fn further_len(seen: &[u8], text: &[u8]) -> usize
     ensures within { result ≤ length text.now }
     ensures begins { is_beginning references seen.now ≡ true → is_beginning references (seen.now ++ take result text.now) ≡ true }
+    ensures some { 0 < result → is_beginning references (seen.now ++ take result text.now) ≡ true }
     ensures longest { result < length text.now → is_beginning references (seen.now ++ take (result + 1) text.now) ≡ false }
 {
+    if seen.is_empty() {
+        if let Some(number) = common(text) {
+            return name(number).len();
+        }
+    }
     let mut candidates = candidates_of(seen);
     for (len, &byte) in text.iter().enumerate() {
         candidates = candidates.narrowed(seen.len() + len, byte);
@@ -48,10 +56,25 @@ pub fn seen_len(text: &[u8]) -> usize
     further_len(&[], text)
 }
 
+// A reference's name, by how long it is, and its text.
+fn reference(number: usize) -> Named
+    requires { number < how_many }
+    ensures len { result.len ≡ length (name_of number) }
+    ensures text { result.text.now ≡ text_of number }
+{
+    Named {
+        len: name(number).len(),
+        text: text(number),
+    }
+}
+
 /// The longest beginning of what was seen that is a name (HTML standard, section 13.2.5.73).
 pub fn longest(seen: &[u8]) -> Option<Named>
     ensures { found_in seen.now result ≡ longest references seen.now }
 {
+    if let Some(number) = common(seen) {
+        return Some(reference(number));
+    }
     let mut candidates = Candidates::all();
     let mut found = None;
     for (depth, &byte) in seen.iter().enumerate() {
@@ -60,10 +83,7 @@ pub fn longest(seen: &[u8]) -> Option<Named>
             return found;
         }
         if name(candidates.from).len() == depth + 1 {
-            found = Some(Named {
-                len: depth + 1,
-                text: text(candidates.from),
-            });
+            found = Some(reference(candidates.from));
         }
     }
     found

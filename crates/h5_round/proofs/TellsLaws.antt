@@ -1,7 +1,6 @@
 -- The text of a plain document tells which document it is.
 use Rattle.std.proofs.Common.{◌≡◌, ℕ, Bool, true, false, List, [], ◌∷◌, cond, refl, sym, ap, ◌∙◌, subst}
 use Rattle.h5_names.specs.AttributeText.{AttributeText}
-use Rattle.h5_token.specs.Joins.{join}
 use Rattle.h5_token.specs.Reply.{Reply}
 use Rattle.h5_token.specs.TokenText.{TokenText, TagIs, Characters, EndOfFile}
 use Rattle.h5_token.specs.declared.tag.TagKind.TheVariants.{EndTag}

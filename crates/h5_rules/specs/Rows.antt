@@ -6,10 +6,10 @@ use Rattle.h5_token.specs.Reply.{Reply, reply}
 use Rattle.h5_token.specs.TokenText.{TagText}
 use Rattle.h5_interface.specs.SinkChoices.{SinkChoices}
 use Rattle.h5_interface.specs.declared.marks.QuirksMode.{QuirksMode}
+use Rattle.h5_types.specs.TurnResult.{TurnResult}
+use Rattle.h5_types.specs.TurnResult as results
 use Rattle.h5_types.specs.TurnText.{TurnText, turn_text}
 use Rattle.h5_types.specs.declared.modes.InsertionMode.{InsertionMode}
-use Rattle.h5_types.specs.declared.turns.ProcessResult.{ProcessResult}
-use Rattle.h5_types.specs.declared.turns.ProcessResult.TheVariants as results
 use Rattle.h5_rules.specs.formatting.AdoptionAgency.{adoption_agency, handle_misnested_a_tags, handle_misnested_nobr_tags, remove_from_stack}
 use Rattle.h5_rules.specs.Changes.{add_attrs_to_html, add_attrs_to_second, append_comment, append_comment_to_doc, append_comment_to_html, append_pending_text, append_text, clear_form, create_root, generate_implied_end_except, insert_and_pop_element, insert_and_pop_form, insert_element, insert_form, insert_head, insert_script, mark_started, pop, pop_until_current, pop_until_named, push_head, remove_body, save_mode, set_foster, set_frameset_not_ok, set_frameset_ok_by_text, set_ignore_lf, set_mode, set_quirks_mode, take_pending_text}
 use Rattle.h5_rules.specs.stack.Closing.{close_list_item, close_p_element, close_p_element_in_button_scope, copy_closed_option, generate_implied_end, generate_implied_end_in_select, generate_implied_end_thoroughly, pop_heading, pop_until_cell, pop_until_heading}
@@ -190,14 +190,14 @@ changed_by choices r w = apply_all choices r.changes w
 
 -- what a turn ended with is this ending in the world after it, and a token that takes another turn is the one that
 -- came
-abbrev pub EndsAs : {H : Type 0} → (H → ℕ) → TurnText → ProcessResult H → Ending → World → Type 0
+abbrev pub EndsAs : {H : Type 0} → (H → ℕ) → TurnText → TurnResult H → Ending → World → Type 0
 EndsAs node t results.Done e w = e ≡ IsDone
 EndsAs node t results.DoneAckSelfClosing e w = e ≡ IsAcknowledged
 EndsAs node t (results.Reprocess mode token) e w = (next_mode e w ≡ Some mode) × (turn_text token ≡ t)
 EndsAs node t (results.Answer answer) e w = e ≡ Answers (reply node answer)
 
 -- a turn followed a row: what changed, how it ended, and whether the sink's error mark moved
-pub record Follows {H : Type 0} (choices : SinkChoices) (node : H → ℕ) (r : Row) (t : TurnText) (old new : World) (old_errors new_errors : ℕ) (result : ProcessResult H) : Type 0 where
+pub record Follows {H : Type 0} (choices : SinkChoices) (node : H → ℕ) (r : Row) (t : TurnText) (old new : World) (old_errors new_errors : ℕ) (result : TurnResult H) : Type 0 where
   pub world : new ≡ apply_all choices r.changes old
   pub ending : EndsAs node t result r.ending new
   pub quiet : r.quiet ≡ true → new_errors ≡ old_errors

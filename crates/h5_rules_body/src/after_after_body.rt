@@ -22,7 +22,7 @@ fn after_after_body_start_tag<S: TreeSink>(
     sink: &mut S,
     state: &mut State<S::Handle>,
     tag: Tag,
-) -> Turn<S::Handle>
+) -> Turn
     requires { IsOpen S.TreeSink sink.old state.old }
     ensures { TakesTag S.TreeSink (by_known after_after_body_start (of_tag back_to_body)) tag sink.old state.old sink.new state.new result }
 {
@@ -33,11 +33,7 @@ fn after_after_body_start_tag<S: TreeSink>(
 }
 
 #[tactic(auto, using(h5_rules::proofs::rows::KnownRuleLaws::after_after_body_start_known), unfolding(h5_rules::specs::modes::AfterAfterBody::after_after_body_tag))]
-fn after_after_body_tag<S: TreeSink>(
-    sink: &mut S,
-    state: &mut State<S::Handle>,
-    tag: Tag,
-) -> Turn<S::Handle>
+fn after_after_body_tag<S: TreeSink>(sink: &mut S, state: &mut State<S::Handle>, tag: Tag) -> Turn
     requires { IsOpen S.TreeSink sink.old state.old }
     ensures { TakesTag S.TreeSink after_after_body_tag tag sink.old state.old sink.new state.new result }
 {
@@ -52,7 +48,7 @@ pub fn step_after_after_body<S: TreeSink>(
     sink: &mut S,
     state: &mut State<S::Handle>,
     token: Token,
-) -> Turn<S::Handle>
+) -> Turn
     requires open { IsOpen S.TreeSink sink.old state.old }
     requires text { HasText (turn_text token) }
     ensures { TakesToken S.TreeSink after_after_body token sink.old state.old sink.new state.new result }

@@ -10,16 +10,12 @@ use h5_insertion::append_comment_to_html;
 use h5_interface::TreeSink;
 use h5_names::KnownName;
 use h5_rules_head::in_body_start_html;
-use h5_state::{State, Turn, is_fragment, set_mode, unexpected, unexpected_tag};
+use h5_state::{State, Turn, is_fragment, set_again, set_mode, unexpected, unexpected_tag};
 use h5_token::{Tag, TagKind};
 use h5_types::{InsertionMode, ProcessResult, SplitStatus, Token};
 
 // An end tag `html`.
-fn after_body_end_html<S: TreeSink>(
-    sink: &mut S,
-    state: &mut State<S::Handle>,
-    tag: Tag,
-) -> Turn<S::Handle>
+fn after_body_end_html<S: TreeSink>(sink: &mut S, state: &mut State<S::Handle>, tag: Tag) -> Turn
     requires { IsSound S.TreeSink sink.old state.old }
     ensures { TakesTag S.TreeSink after_body_end_html tag sink.old state.old sink.new state.new result }
 {
@@ -36,21 +32,18 @@ pub(crate) fn back_to_body<S: TreeSink>(
     sink: &mut S,
     state: &mut State<S::Handle>,
     token: Token,
-) -> Turn<S::Handle>
+) -> Turn
     requires { IsSound S.TreeSink sink.old state.old }
     ensures { TakesToken S.TreeSink back_to_body token sink.old state.old sink.new state.new result }
 {
     unexpected(sink, state, &token);
-    Ok(ProcessResult::Reprocess(InsertionMode::InBody, token))
+    set_again(sink, state, token);
+    Ok(ProcessResult::Reprocess(InsertionMode::InBody))
 }
 
 // Start tags, by their names.
 #[tactic(auto, unfolding(h5_rules::specs::modes::AfterBody::after_body_start, h5_names::specs::KnownNames::name_text))]
-fn after_body_start_tag<S: TreeSink>(
-    sink: &mut S,
-    state: &mut State<S::Handle>,
-    tag: Tag,
-) -> Turn<S::Handle>
+fn after_body_start_tag<S: TreeSink>(sink: &mut S, state: &mut State<S::Handle>, tag: Tag) -> Turn
     requires { IsOpen S.TreeSink sink.old state.old }
     ensures { TakesTag S.TreeSink (by_known after_body_start (of_tag back_to_body)) tag sink.old state.old sink.new state.new result }
 {
@@ -62,11 +55,7 @@ fn after_body_start_tag<S: TreeSink>(
 
 // End tags, by their names.
 #[tactic(auto, unfolding(h5_rules::specs::modes::AfterBody::after_body_end, h5_names::specs::KnownNames::name_text))]
-fn after_body_end_tag<S: TreeSink>(
-    sink: &mut S,
-    state: &mut State<S::Handle>,
-    tag: Tag,
-) -> Turn<S::Handle>
+fn after_body_end_tag<S: TreeSink>(sink: &mut S, state: &mut State<S::Handle>, tag: Tag) -> Turn
     requires { IsOpen S.TreeSink sink.old state.old }
     ensures { TakesTag S.TreeSink (by_known after_body_end (of_tag back_to_body)) tag sink.old state.old sink.new state.new result }
 {
@@ -77,11 +66,7 @@ fn after_body_end_tag<S: TreeSink>(
 }
 
 #[tactic(auto, using(h5_rules::proofs::rows::KnownRuleLaws::after_body_start_known, h5_rules::proofs::rows::KnownRuleLaws::after_body_end_known), unfolding(h5_rules::specs::modes::AfterBody::after_body_tag))]
-fn after_body_tag<S: TreeSink>(
-    sink: &mut S,
-    state: &mut State<S::Handle>,
-    tag: Tag,
-) -> Turn<S::Handle>
+fn after_body_tag<S: TreeSink>(sink: &mut S, state: &mut State<S::Handle>, tag: Tag) -> Turn
     requires { IsOpen S.TreeSink sink.old state.old }
     ensures { TakesTag S.TreeSink after_body_tag tag sink.old state.old sink.new state.new result }
 {
@@ -96,7 +81,7 @@ pub fn step_after_body<S: TreeSink>(
     sink: &mut S,
     state: &mut State<S::Handle>,
     token: Token,
-) -> Turn<S::Handle>
+) -> Turn
     requires open { IsOpen S.TreeSink sink.old state.old }
     requires text { HasText (turn_text token) }
     ensures { TakesToken S.TreeSink after_body token sink.old state.old sink.new state.new result }

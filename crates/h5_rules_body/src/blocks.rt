@@ -27,7 +27,7 @@ pub(crate) fn in_body_start_block<S: TreeSink>(
     sink: &mut S,
     state: &mut State<S::Handle>,
     tag: Tag,
-) -> Turn<S::Handle>
+) -> Turn
     requires { IsSound S.TreeSink sink.old state.old }
     ensures { TakesTag S.TreeSink in_body_start_block tag sink.old state.old sink.new state.new result }
 {
@@ -43,7 +43,7 @@ pub(crate) fn in_body_start_preformatted<S: TreeSink>(
     sink: &mut S,
     state: &mut State<S::Handle>,
     tag: Tag,
-) -> Turn<S::Handle>
+) -> Turn
     requires { IsSound S.TreeSink sink.old state.old }
     ensures { TakesTag S.TreeSink in_body_start_preformatted tag sink.old state.old sink.new state.new result }
 {
@@ -72,7 +72,7 @@ pub(crate) fn in_body_start_heading<S: TreeSink>(
     sink: &mut S,
     state: &mut State<S::Handle>,
     tag: Tag,
-) -> Turn<S::Handle>
+) -> Turn
     requires { IsSound S.TreeSink sink.old state.old }
     ensures { TakesTag S.TreeSink in_body_start_heading tag sink.old state.old sink.new state.new result }
 {
@@ -91,7 +91,7 @@ pub(crate) fn in_body_end_block<S: TreeSink>(
     sink: &mut S,
     state: &mut State<S::Handle>,
     tag: Tag,
-) -> Turn<S::Handle>
+) -> Turn
     requires sound { IsSound S.TreeSink sink.old state.old }
     requires name { is_one_of block_end_names tag.name ≡ true }
     ensures { TakesTag S.TreeSink in_body_end_block tag sink.old state.old sink.new state.new result }
@@ -118,7 +118,7 @@ pub(crate) fn in_body_end_p<S: TreeSink>(
     sink: &mut S,
     state: &mut State<S::Handle>,
     tag: Tag,
-) -> Turn<S::Handle>
+) -> Turn
     requires { IsSound S.TreeSink sink.old state.old }
     ensures { TakesTag S.TreeSink in_body_end_p tag sink.old state.old sink.new state.new result }
 {
@@ -141,7 +141,7 @@ pub(crate) fn in_body_end_heading<S: TreeSink>(
     sink: &mut S,
     state: &mut State<S::Handle>,
     tag: Tag,
-) -> Turn<S::Handle>
+) -> Turn
     requires sound { IsSound S.TreeSink sink.old state.old }
     requires name { is_one_of heading_names tag.name ≡ true }
     ensures { TakesTag S.TreeSink in_body_end_heading tag sink.old state.old sink.new state.new result }

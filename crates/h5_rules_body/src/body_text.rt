@@ -18,7 +18,7 @@ pub fn in_body_text<S: TreeSink>(
     state: &mut State<S::Handle>,
     status: SplitStatus,
     text: String,
-) -> Turn<S::Handle>
+) -> Turn
     requires sound { IsSound S.TreeSink sink.old state.old }
     requires text { string_bytes text ≢ [] }
     ensures { FollowsRule S.TreeSink (in_body_text (string_bytes text)) (TextTurn status (string_bytes text)) sink.old state.old sink.new state.new result }

@@ -17,7 +17,7 @@ fn in_body_start_foreign<S: TreeSink>(
     state: &mut State<S::Handle>,
     namespace: Namespace,
     tag: Tag,
-) -> Turn<S::Handle>
+) -> Turn
     requires { IsSound S.TreeSink sink.old state.old }
     ensures { TakesTag S.TreeSink (in_body_start_foreign namespace) tag sink.old state.old sink.new state.new result }
 {
@@ -31,7 +31,7 @@ pub(crate) fn in_body_start_math<S: TreeSink>(
     sink: &mut S,
     state: &mut State<S::Handle>,
     tag: Tag,
-) -> Turn<S::Handle>
+) -> Turn
     requires { IsSound S.TreeSink sink.old state.old }
     ensures { TakesTag S.TreeSink (in_body_start_foreign mathml_namespace) tag sink.old state.old sink.new state.new result }
 {
@@ -45,7 +45,7 @@ pub(crate) fn in_body_start_svg<S: TreeSink>(
     sink: &mut S,
     state: &mut State<S::Handle>,
     tag: Tag,
-) -> Turn<S::Handle>
+) -> Turn
     requires { IsSound S.TreeSink sink.old state.old }
     ensures { TakesTag S.TreeSink (in_body_start_foreign svg_namespace) tag sink.old state.old sink.new state.new result }
 {

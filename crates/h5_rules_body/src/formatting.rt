@@ -39,7 +39,7 @@ pub(crate) fn in_body_start_a<S: TreeSink>(
     sink: &mut S,
     state: &mut State<S::Handle>,
     tag: Tag,
-) -> Turn<S::Handle>
+) -> Turn
     requires sound { IsSound S.TreeSink sink.old state.old }
     requires ready { HasHtmlRoot (world_of S.TreeSink sink.old state.old) }
     requires name { IsTrue (is_one_of formatting_names tag.name) }
@@ -79,7 +79,7 @@ pub(crate) fn in_body_start_nobr<S: TreeSink>(
     sink: &mut S,
     state: &mut State<S::Handle>,
     tag: Tag,
-) -> Turn<S::Handle>
+) -> Turn
     requires sound { IsSound S.TreeSink sink.old state.old }
     requires ready { HasHtmlRoot (world_of S.TreeSink sink.old state.old) }
     requires name { IsTrue (is_one_of formatting_names tag.name) }
@@ -96,7 +96,7 @@ pub(crate) fn in_body_start_formatting<S: TreeSink>(
     sink: &mut S,
     state: &mut State<S::Handle>,
     tag: Tag,
-) -> Turn<S::Handle>
+) -> Turn
     requires sound { IsSound S.TreeSink sink.old state.old }
     requires name { IsTrue (is_one_of formatting_names tag.name) }
     ensures { TakesTag S.TreeSink in_body_start_formatting tag sink.old state.old sink.new state.new result }
@@ -122,7 +122,7 @@ pub(crate) fn in_body_end_formatting<S: TreeSink>(
     sink: &mut S,
     state: &mut State<S::Handle>,
     tag: Tag,
-) -> Turn<S::Handle>
+) -> Turn
     requires sound { IsSound S.TreeSink sink.old state.old }
     requires ready { HasHtmlRoot (world_of S.TreeSink sink.old state.old) }
     requires name { IsTrue (is_one_of formatting_names tag.name) }
@@ -158,7 +158,7 @@ pub(crate) fn in_body_start_void<S: TreeSink>(
     sink: &mut S,
     state: &mut State<S::Handle>,
     tag: Tag,
-) -> Turn<S::Handle>
+) -> Turn
     requires { IsSound S.TreeSink sink.old state.old }
     ensures { TakesTag S.TreeSink in_body_start_void tag sink.old state.old sink.new state.new result }
 {
@@ -173,7 +173,7 @@ pub(crate) fn in_body_end_br<S: TreeSink>(
     sink: &mut S,
     state: &mut State<S::Handle>,
     tag: Tag,
-) -> Turn<S::Handle>
+) -> Turn
     requires { IsSound S.TreeSink sink.old state.old }
     ensures { TakesTag S.TreeSink in_body_end_br tag sink.old state.old sink.new state.new result }
 {

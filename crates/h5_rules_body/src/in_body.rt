@@ -41,8 +41,8 @@ use h5_rules_head::{
 use h5_state::{
     State, Turn, check_body_end, find_before_special, generate_implied_end_except,
     has_body_in_scope, has_body_second, has_open_template, is_current_html, is_frameset_ok,
-    is_in_quirks, pop_until_named, set_frameset_not_ok, set_mode, tell_error, unexpected,
-    unexpected_tag,
+    is_in_quirks, pop_until_named, set_again, set_frameset_not_ok, set_mode, tell_error,
+    unexpected, unexpected_tag,
 };
 use h5_token::{Tag, TagKind};
 use h5_types::{InsertionMode, ProcessResult, Token};
@@ -50,11 +50,7 @@ use h5_types::{InsertionMode, ProcessResult, Token};
 // A start tag `body`: the body gets the attributes that it lacks.
 #[cold]
 #[tactic(auto, unfolding(h5_rules::specs::modes::InBody::in_body_start_body))]
-fn in_body_start_body<S: TreeSink>(
-    sink: &mut S,
-    state: &mut State<S::Handle>,
-    tag: Tag,
-) -> Turn<S::Handle>
+fn in_body_start_body<S: TreeSink>(sink: &mut S, state: &mut State<S::Handle>, tag: Tag) -> Turn
     requires { IsSound S.TreeSink sink.old state.old }
     ensures { TakesTag S.TreeSink in_body_start_body tag sink.old state.old sink.new state.new result }
 {
@@ -71,11 +67,7 @@ fn in_body_start_body<S: TreeSink>(
 // A start tag `frameset`: where the body may still be taken back, it takes the place of the body.
 #[cold]
 #[tactic(auto, unfolding(h5_rules::specs::modes::InBody::in_body_start_frameset))]
-fn in_body_start_frameset<S: TreeSink>(
-    sink: &mut S,
-    state: &mut State<S::Handle>,
-    tag: Tag,
-) -> Turn<S::Handle>
+fn in_body_start_frameset<S: TreeSink>(sink: &mut S, state: &mut State<S::Handle>, tag: Tag) -> Turn
     requires { IsSound S.TreeSink sink.old state.old }
     ensures { TakesTag S.TreeSink in_body_start_frameset tag sink.old state.old sink.new state.new result }
 {
@@ -94,11 +86,7 @@ fn in_body_start_frameset<S: TreeSink>(
 // An end tag `body`.
 #[cold]
 #[tactic(auto, unfolding(h5_rules::specs::modes::InBody::if_body_in_scope))]
-fn in_body_end_body<S: TreeSink>(
-    sink: &mut S,
-    state: &mut State<S::Handle>,
-    tag: Tag,
-) -> Turn<S::Handle>
+fn in_body_end_body<S: TreeSink>(sink: &mut S, state: &mut State<S::Handle>, tag: Tag) -> Turn
     requires { IsSound S.TreeSink sink.old state.old }
     ensures { TakesTag S.TreeSink in_body_end_body tag sink.old state.old sink.new state.new result }
 {
@@ -116,17 +104,14 @@ fn in_body_end_body<S: TreeSink>(
 // An end tag `html`.
 #[cold]
 #[tactic(auto, unfolding(h5_rules::specs::modes::InBody::if_body_in_scope))]
-fn in_body_end_html<S: TreeSink>(
-    sink: &mut S,
-    state: &mut State<S::Handle>,
-    tag: Tag,
-) -> Turn<S::Handle>
+fn in_body_end_html<S: TreeSink>(sink: &mut S, state: &mut State<S::Handle>, tag: Tag) -> Turn
     requires { IsSound S.TreeSink sink.old state.old }
     ensures { TakesTag S.TreeSink in_body_end_html tag sink.old state.old sink.new state.new result }
 {
     if has_body_in_scope(sink, state) {
         check_body_end(sink, state);
-        Ok(ProcessResult::Reprocess(InsertionMode::AfterBody, Token::Tag(tag)))
+        set_again(sink, state, Token::Tag(tag));
+        Ok(ProcessResult::Reprocess(InsertionMode::AfterBody))
     } else {
         tell_error(sink, state, "</html> with no <body> in scope");
         Ok(ProcessResult::Done)
@@ -145,11 +130,7 @@ fn check_nesting<S: TreeSink>(sink: &mut S, state: &State<S::Handle>, tag: &Tag)
 
 // Any other end tag: it closes the open element of its name, where no special element comes before.
 #[tactic(auto, unfolding(h5_rules::specs::modes::InBody::in_body_end_other))]
-fn in_body_end_other<S: TreeSink>(
-    sink: &mut S,
-    state: &mut State<S::Handle>,
-    tag: Tag,
-) -> Turn<S::Handle>
+fn in_body_end_other<S: TreeSink>(sink: &mut S, state: &mut State<S::Handle>, tag: Tag) -> Turn
     requires { IsSound S.TreeSink sink.old state.old }
     ensures { TakesTag S.TreeSink in_body_end_other tag sink.old state.old sink.new state.new result }
 {
@@ -169,11 +150,7 @@ fn in_body_end_other<S: TreeSink>(
 }
 
 // Any other start tag: an element is inserted, after formatting elements that were closed were made anew.
-fn in_body_start_other<S: TreeSink>(
-    sink: &mut S,
-    state: &mut State<S::Handle>,
-    tag: Tag,
-) -> Turn<S::Handle>
+fn in_body_start_other<S: TreeSink>(sink: &mut S, state: &mut State<S::Handle>, tag: Tag) -> Turn
     requires { IsSound S.TreeSink sink.old state.old }
     ensures { TakesTag S.TreeSink in_body_start_other tag sink.old state.old sink.new state.new result }
 {
@@ -185,11 +162,7 @@ fn in_body_start_other<S: TreeSink>(
 
 // A start tag `table`: it closes a `p` but in quirks mode.
 #[tactic(auto, unfolding(h5_rules::specs::modes::InBody::in_body_start_table))]
-fn in_body_start_table<S: TreeSink>(
-    sink: &mut S,
-    state: &mut State<S::Handle>,
-    tag: Tag,
-) -> Turn<S::Handle>
+fn in_body_start_table<S: TreeSink>(sink: &mut S, state: &mut State<S::Handle>, tag: Tag) -> Turn
     requires { IsSound S.TreeSink sink.old state.old }
     ensures { TakesTag S.TreeSink in_body_start_table tag sink.old state.old sink.new state.new result }
 {
@@ -206,11 +179,7 @@ fn in_body_start_table<S: TreeSink>(
 
 // Of what is put in: images, controls, elements whose content is text, annotations, MathML and SVG; and any other.
 #[tactic(auto, unfolding(h5_rules::specs::modes::InBody::in_body_start_embedded, h5_rules::specs::modes::InBody::in_body_parts, h5_rules::specs::modes::InBody::in_body_ruby_bases, h5_rules::specs::modes::InBody::in_body_ruby_texts, h5_rules::specs::modes::InBody::in_body_ignored_starts, h5_rules::specs::modes::Shared::table_structure_names, h5_rules::specs::modes::InBody::outside_names, h5_names::specs::KnownNames::name_text))]
-fn in_body_start_embedded<S: TreeSink>(
-    sink: &mut S,
-    state: &mut State<S::Handle>,
-    tag: Tag,
-) -> Turn<S::Handle>
+fn in_body_start_embedded<S: TreeSink>(sink: &mut S, state: &mut State<S::Handle>, tag: Tag) -> Turn
     requires sound { IsSound S.TreeSink sink.old state.old }
     requires ready { HasHtmlRoot (world_of S.TreeSink sink.old state.old) }
     ensures { TakesTag S.TreeSink (by_known in_body_start_embedded in_body_start_other) tag sink.old state.old sink.new state.new result }
@@ -251,11 +220,7 @@ fn in_body_start_embedded<S: TreeSink>(
 
 // Of lists, formatting elements, and others that stand in a text.
 #[tactic(auto, unfolding(h5_rules::specs::modes::InBody::in_body_start_inline, h5_rules::specs::modes::InBody::in_body_preformatted, h5_rules::specs::modes::InBody::list_item_names, h5_rules::specs::modes::InBody::description_names, h5_tag_sets::specs::TagSets::formatting_names, h5_rules::specs::modes::InBody::in_body_marked, h5_rules::specs::modes::InBody::in_body_void, h5_names::specs::KnownNames::name_text))]
-fn in_body_start_inline<S: TreeSink>(
-    sink: &mut S,
-    state: &mut State<S::Handle>,
-    tag: Tag,
-) -> Turn<S::Handle>
+fn in_body_start_inline<S: TreeSink>(sink: &mut S, state: &mut State<S::Handle>, tag: Tag) -> Turn
     requires sound { IsSound S.TreeSink sink.old state.old }
     requires ready { HasHtmlRoot (world_of S.TreeSink sink.old state.old) }
     ensures { TakesTag S.TreeSink (by_known in_body_start_inline (by_known in_body_start_embedded in_body_start_other)) tag sink.old state.old sink.new state.new result }
@@ -302,11 +267,7 @@ fn in_body_start_inline<S: TreeSink>(
 
 // Start tags, by their names: of the page and its blocks.
 #[tactic(auto, unfolding(h5_rules::specs::modes::InBody::in_body_start_blocks, h5_rules::specs::modes::Shared::head_start_names, h5_tag_sets::specs::TagSets::block_start_names, h5_tag_sets::specs::TagSets::heading_names, h5_names::specs::KnownNames::name_text))]
-fn in_body_start_tag<S: TreeSink>(
-    sink: &mut S,
-    state: &mut State<S::Handle>,
-    tag: Tag,
-) -> Turn<S::Handle>
+fn in_body_start_tag<S: TreeSink>(sink: &mut S, state: &mut State<S::Handle>, tag: Tag) -> Turn
     requires sound { IsSound S.TreeSink sink.old state.old }
     requires ready { HasHtmlRoot (world_of S.TreeSink sink.old state.old) }
     ensures { TakesTag S.TreeSink (by_known in_body_start_blocks (by_known in_body_start_inline (by_known in_body_start_embedded in_body_start_other))) tag sink.old state.old sink.new state.new result }
@@ -362,11 +323,7 @@ fn in_body_start_tag<S: TreeSink>(
 
 // Of paragraphs, lists, headings, formatting elements, and any other.
 #[tactic(auto, unfolding(h5_rules::specs::modes::InBody::in_body_end_inline, h5_rules::specs::modes::InBody::list_item_names, h5_rules::specs::modes::InBody::description_names, h5_tag_sets::specs::TagSets::heading_names, h5_tag_sets::specs::TagSets::formatting_names, h5_rules::specs::modes::InBody::in_body_marked, h5_names::specs::KnownNames::name_text))]
-fn in_body_end_inline<S: TreeSink>(
-    sink: &mut S,
-    state: &mut State<S::Handle>,
-    tag: Tag,
-) -> Turn<S::Handle>
+fn in_body_end_inline<S: TreeSink>(sink: &mut S, state: &mut State<S::Handle>, tag: Tag) -> Turn
     requires sound { IsSound S.TreeSink sink.old state.old }
     requires ready { HasHtmlRoot (world_of S.TreeSink sink.old state.old) }
     ensures { TakesTag S.TreeSink (by_known in_body_end_inline in_body_end_other) tag sink.old state.old sink.new state.new result }
@@ -406,11 +363,7 @@ fn in_body_end_inline<S: TreeSink>(
 
 // End tags, by their names: of the page and its blocks.
 #[tactic(auto, unfolding(h5_rules::specs::modes::InBody::in_body_end_blocks, h5_tag_sets::specs::TagSets::block_end_names, h5_names::specs::KnownNames::name_text))]
-fn in_body_end_tag<S: TreeSink>(
-    sink: &mut S,
-    state: &mut State<S::Handle>,
-    tag: Tag,
-) -> Turn<S::Handle>
+fn in_body_end_tag<S: TreeSink>(sink: &mut S, state: &mut State<S::Handle>, tag: Tag) -> Turn
     requires sound { IsSound S.TreeSink sink.old state.old }
     requires ready { HasHtmlRoot (world_of S.TreeSink sink.old state.old) }
     ensures { TakesTag S.TreeSink (by_known in_body_end_blocks (by_known in_body_end_inline in_body_end_other)) tag sink.old state.old sink.new state.new result }
@@ -453,11 +406,7 @@ fn in_body_end_tag<S: TreeSink>(
 /// A turn of a tag in the body.
 #[tactic(auto, using(h5_rules::proofs::rows::KnownRuleLaws::in_body_start_known, h5_rules::proofs::rows::KnownRuleLaws::in_body_end_known), unfolding(h5_rules::specs::modes::InBody::in_body_tag))]
 #[inline(always)]
-pub fn in_body_tag<S: TreeSink>(
-    sink: &mut S,
-    state: &mut State<S::Handle>,
-    tag: Tag,
-) -> Turn<S::Handle>
+pub fn in_body_tag<S: TreeSink>(sink: &mut S, state: &mut State<S::Handle>, tag: Tag) -> Turn
     requires sound { IsSound S.TreeSink sink.old state.old }
     requires ready { HasHtmlRoot (world_of S.TreeSink sink.old state.old) }
     ensures { TakesTag S.TreeSink in_body_tag tag sink.old state.old sink.new state.new result }
@@ -469,7 +418,7 @@ pub fn in_body_tag<S: TreeSink>(
 }
 
 // The end of the file: where template insertion modes are kept, by the rules of templates.
-fn in_body_eof<S: TreeSink>(sink: &mut S, state: &mut State<S::Handle>) -> Turn<S::Handle>
+fn in_body_eof<S: TreeSink>(sink: &mut S, state: &mut State<S::Handle>) -> Turn
     requires { IsSound S.TreeSink sink.old state.old }
     ensures { TakesToken S.TreeSink in_body Token.Eof sink.old state.old sink.new state.new result }
 {
@@ -482,11 +431,7 @@ fn in_body_eof<S: TreeSink>(sink: &mut S, state: &mut State<S::Handle>) -> Turn<
 
 /// A turn in the body.
 #[inline(always)]
-pub fn step_in_body<S: TreeSink>(
-    sink: &mut S,
-    state: &mut State<S::Handle>,
-    token: Token,
-) -> Turn<S::Handle>
+pub fn step_in_body<S: TreeSink>(sink: &mut S, state: &mut State<S::Handle>, token: Token) -> Turn
     requires sound { IsSound S.TreeSink sink.old state.old }
     requires ready { HasHtmlRoot (world_of S.TreeSink sink.old state.old) }
     requires text { HasText (turn_text token) }

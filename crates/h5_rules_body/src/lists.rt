@@ -30,7 +30,7 @@ pub(crate) fn in_body_start_item<S: TreeSink>(
     state: &mut State<S::Handle>,
     tag: Tag,
     kind: ItemKind,
-) -> Turn<S::Handle>
+) -> Turn
     requires { IsSound S.TreeSink sink.old state.old }
     ensures { TakesTag S.TreeSink (in_body_start_item (item_names kind)) tag sink.old state.old sink.new state.new result }
 {
@@ -69,7 +69,7 @@ pub(crate) fn in_body_end_li<S: TreeSink>(
     sink: &mut S,
     state: &mut State<S::Handle>,
     tag: Tag,
-) -> Turn<S::Handle>
+) -> Turn
     requires { IsSound S.TreeSink sink.old state.old }
     ensures { TakesTag S.TreeSink in_body_end_li tag sink.old state.old sink.new state.new result }
 {
@@ -91,7 +91,7 @@ pub(crate) fn in_body_end_description<S: TreeSink>(
     sink: &mut S,
     state: &mut State<S::Handle>,
     tag: Tag,
-) -> Turn<S::Handle>
+) -> Turn
     requires { IsSound S.TreeSink sink.old state.old }
     ensures { TakesTag S.TreeSink in_body_end_description tag sink.old state.old sink.new state.new result }
 {

@@ -28,7 +28,7 @@ pub(crate) fn in_body_start_marked<S: TreeSink>(
     sink: &mut S,
     state: &mut State<S::Handle>,
     tag: Tag,
-) -> Turn<S::Handle>
+) -> Turn
     requires { IsSound S.TreeSink sink.old state.old }
     ensures { TakesTag S.TreeSink in_body_start_marked tag sink.old state.old sink.new state.new result }
 {
@@ -67,7 +67,7 @@ pub(crate) fn in_body_end_marked<S: TreeSink>(
     sink: &mut S,
     state: &mut State<S::Handle>,
     tag: Tag,
-) -> Turn<S::Handle>
+) -> Turn
     requires sound { IsSound S.TreeSink sink.old state.old }
     requires name { is_one_of in_body_marked tag.name ≡ true }
     ensures { TakesTag S.TreeSink in_body_end_marked tag sink.old state.old sink.new state.new result }

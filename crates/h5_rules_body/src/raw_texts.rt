@@ -9,7 +9,7 @@ use h5_formatting::reconstruct_active_formatting_elements;
 use h5_insertion::insert_element;
 use h5_interface::TreeSink;
 use h5_rules_head::{parse_raw_data, to_raw_text_mode};
-use h5_state::{State, Turn, is_scripting, set_frameset_not_ok, set_ignore_lf};
+use h5_state::{State, Turn, is_scripting, set_answer, set_frameset_not_ok, set_ignore_lf};
 use h5_token::states::RawKind;
 use h5_token::{Tag, TokenSinkResult};
 use h5_types::ProcessResult;
@@ -20,7 +20,7 @@ pub fn in_body_start_plaintext<S: TreeSink>(
     sink: &mut S,
     state: &mut State<S::Handle>,
     tag: Tag,
-) -> Turn<S::Handle>
+) -> Turn
     requires { IsSound S.TreeSink sink.old state.old }
     ensures { TakesTag S.TreeSink in_body_start_plaintext tag sink.old state.old sink.new state.new result }
 {
@@ -28,7 +28,8 @@ pub fn in_body_start_plaintext<S: TreeSink>(
     expect_to_close(sink, state, expected);
     let attrs = tag.attrs;
     insert_element(sink, state, tag.name, attrs, tag.had_duplicate_attributes)?;
-    Ok(ProcessResult::Answer(TokenSinkResult::Plaintext))
+    set_answer(sink, state, TokenSinkResult::Plaintext);
+    Ok(ProcessResult::Answer)
 }
 
 /// A start tag `textarea`: a newline that comes first in it is dropped.
@@ -36,7 +37,7 @@ pub fn in_body_start_textarea<S: TreeSink>(
     sink: &mut S,
     state: &mut State<S::Handle>,
     tag: Tag,
-) -> Turn<S::Handle>
+) -> Turn
     requires { IsSound S.TreeSink sink.old state.old }
     ensures { TakesTag S.TreeSink in_body_start_textarea tag sink.old state.old sink.new state.new result }
 {
@@ -46,11 +47,7 @@ pub fn in_body_start_textarea<S: TreeSink>(
 }
 
 /// A start tag `xmp`: a `p` that is in button scope is closed before it.
-pub fn in_body_start_xmp<S: TreeSink>(
-    sink: &mut S,
-    state: &mut State<S::Handle>,
-    tag: Tag,
-) -> Turn<S::Handle>
+pub fn in_body_start_xmp<S: TreeSink>(sink: &mut S, state: &mut State<S::Handle>, tag: Tag) -> Turn
     requires { IsSound S.TreeSink sink.old state.old }
     ensures { TakesTag S.TreeSink in_body_start_xmp tag sink.old state.old sink.new state.new result }
 {
@@ -60,7 +57,8 @@ pub fn in_body_start_xmp<S: TreeSink>(
     set_frameset_not_ok(sink, state);
     let attrs = tag.attrs;
     insert_element(sink, state, tag.name, attrs, tag.had_duplicate_attributes)?;
-    Ok(to_raw_text_mode(sink, state, RawKind::Rawtext))
+    to_raw_text_mode(sink, state, RawKind::Rawtext);
+    Ok(ProcessResult::Answer)
 }
 
 /// A start tag `iframe`.
@@ -68,7 +66,7 @@ pub fn in_body_start_iframe<S: TreeSink>(
     sink: &mut S,
     state: &mut State<S::Handle>,
     tag: Tag,
-) -> Turn<S::Handle>
+) -> Turn
     requires { IsSound S.TreeSink sink.old state.old }
     ensures { TakesTag S.TreeSink in_body_start_iframe tag sink.old state.old sink.new state.new result }
 {
@@ -81,7 +79,7 @@ pub fn in_body_start_noembed<S: TreeSink>(
     sink: &mut S,
     state: &mut State<S::Handle>,
     tag: Tag,
-) -> Turn<S::Handle>
+) -> Turn
     requires { IsSound S.TreeSink sink.old state.old }
     ensures { TakesTag S.TreeSink in_body_start_noembed tag sink.old state.old sink.new state.new result }
 {
@@ -94,7 +92,7 @@ pub fn in_body_start_noscript<S: TreeSink>(
     sink: &mut S,
     state: &mut State<S::Handle>,
     tag: Tag,
-) -> Turn<S::Handle>
+) -> Turn
     requires { IsSound S.TreeSink sink.old state.old }
     ensures { TakesTag S.TreeSink in_body_start_noscript tag sink.old state.old sink.new state.new result }
 {

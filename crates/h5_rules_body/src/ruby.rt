@@ -40,7 +40,7 @@ pub(crate) fn in_body_start_ruby_base<S: TreeSink>(
     sink: &mut S,
     state: &mut State<S::Handle>,
     tag: Tag,
-) -> Turn<S::Handle>
+) -> Turn
     requires { IsSound S.TreeSink sink.old state.old }
     ensures { TakesTag S.TreeSink (in_body_start_ruby GenerateImpliedEnd) tag sink.old state.old sink.new state.new result }
 {
@@ -58,7 +58,7 @@ pub(crate) fn in_body_start_ruby_text<S: TreeSink>(
     sink: &mut S,
     state: &mut State<S::Handle>,
     tag: Tag,
-) -> Turn<S::Handle>
+) -> Turn
     requires { IsSound S.TreeSink sink.old state.old }
     ensures { TakesTag S.TreeSink (in_body_start_ruby (GenerateImpliedEndExcept (codes "rtc"))) tag sink.old state.old sink.new state.new result }
 {

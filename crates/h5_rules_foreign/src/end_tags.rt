@@ -34,9 +34,9 @@ fn foreign_end_other<S: TreeSink>(
     sink: &mut S,
     state: &mut State<S::Handle>,
     tag: Tag,
-) -> ForeignStep<S::Handle>
+) -> ForeignStep
     requires { IsSound S.TreeSink sink.old state.old }
-    ensures came { CameTo S.choices S.node (foreign_end_by (search_end tag.name (names_of (world_of S.TreeSink sink.old state.old))) (tag_text tag) (world_of S.TreeSink sink.old state.old)) (TagTurn (tag_text tag)) (world_of S.TreeSink sink.old state.old) (world_of S.TreeSink sink.new state.new) (errors_of S.TreeSink sink.old) (errors_of S.TreeSink sink.new) result }
+    ensures came { CameTo S.choices S.node (foreign_end_by (search_end tag.name (names_of (world_of S.TreeSink sink.old state.old))) (tag_text tag) (world_of S.TreeSink sink.old state.old)) (TagTurn (tag_text tag)) (world_of S.TreeSink sink.old state.old) (world_of S.TreeSink sink.new state.new) (errors_of S.TreeSink sink.old) (errors_of S.TreeSink sink.new) state.new result }
     ensures sound { IsSound S.TreeSink sink.new state.new }
 {
     check_end_tag(sink, state, &tag);
@@ -55,9 +55,9 @@ pub(crate) fn foreign_end<S: TreeSink>(
     sink: &mut S,
     state: &mut State<S::Handle>,
     tag: Tag,
-) -> ForeignStep<S::Handle>
+) -> ForeignStep
     requires { IsSound S.TreeSink sink.old state.old }
-    ensures came { CameTo S.choices S.node (foreign_end (tag_text tag) (world_of S.TreeSink sink.old state.old)) (TagTurn (tag_text tag)) (world_of S.TreeSink sink.old state.old) (world_of S.TreeSink sink.new state.new) (errors_of S.TreeSink sink.old) (errors_of S.TreeSink sink.new) result }
+    ensures came { CameTo S.choices S.node (foreign_end (tag_text tag) (world_of S.TreeSink sink.old state.old)) (TagTurn (tag_text tag)) (world_of S.TreeSink sink.old state.old) (world_of S.TreeSink sink.new state.new) (errors_of S.TreeSink sink.old) (errors_of S.TreeSink sink.new) state.new result }
     ensures sound { IsSound S.TreeSink sink.new state.new }
 {
     if is_breakout_end(&tag.name) {

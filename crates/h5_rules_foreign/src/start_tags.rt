@@ -25,9 +25,9 @@ pub(crate) fn unexpected_in_foreign_content<S: TreeSink>(
     sink: &mut S,
     state: &mut State<S::Handle>,
     tag: Tag,
-) -> ForeignStep<S::Handle>
+) -> ForeignStep
     requires { IsSound S.TreeSink sink.old state.old }
-    ensures came { CameTo S.choices S.node unexpected_in_foreign_content (TagTurn (tag_text tag)) (world_of S.TreeSink sink.old state.old) (world_of S.TreeSink sink.new state.new) (errors_of S.TreeSink sink.old) (errors_of S.TreeSink sink.new) result }
+    ensures came { CameTo S.choices S.node unexpected_in_foreign_content (TagTurn (tag_text tag)) (world_of S.TreeSink sink.old state.old) (world_of S.TreeSink sink.new state.new) (errors_of S.TreeSink sink.old) (errors_of S.TreeSink sink.new) state.new result }
     ensures sound { IsSound S.TreeSink sink.new state.new }
 {
     unexpected_tag(sink, state, &tag);
@@ -65,11 +65,7 @@ fn with_adjusted_name(namespace: &Namespace, tag: Tag) -> Tag
 }
 
 // Any other start tag: an element in the namespace of the adjusted current node.
-fn foreign_start_other<S: TreeSink>(
-    sink: &mut S,
-    state: &mut State<S::Handle>,
-    tag: Tag,
-) -> Turn<S::Handle>
+fn foreign_start_other<S: TreeSink>(sink: &mut S, state: &mut State<S::Handle>, tag: Tag) -> Turn
     requires { IsSound S.TreeSink sink.old state.old }
     ensures { TakesTag S.TreeSink foreign_start_other tag sink.old state.old sink.new state.new result }
 {
@@ -83,7 +79,7 @@ pub(crate) fn foreign_start<S: TreeSink>(
     sink: &mut S,
     state: &mut State<S::Handle>,
     tag: Tag,
-) -> Result<ForeignStep<S::Handle>, AllocError>
+) -> Result<ForeignStep, AllocError>
     requires { IsSound S.TreeSink sink.old state.old }
     ensures { Steps S.TreeSink (foreign_start (tag_text tag)) (TagTurn (tag_text tag)) sink.old state.old sink.new state.new result }
 {

@@ -19,9 +19,9 @@ use std::alloc::AllocError;
 
 /// What a token in foreign content comes to, unless memory was refused.
 #[derive(Drop)]
-pub enum ForeignStep<Handle> {
+pub enum ForeignStep {
     /// The turn ended so.
-    Ended(ProcessResult<Handle>),
+    Ended(ProcessResult),
     /// The token, which is the one that came, goes by the rules of the current insertion mode, in the same turn.
     ByMode(Token),
 }
@@ -32,7 +32,7 @@ fn foreign_text<S: TreeSink>(
     state: &mut State<S::Handle>,
     status: SplitStatus,
     text: String,
-) -> Turn<S::Handle>
+) -> Turn
     requires sound { IsSound S.TreeSink sink.old state.old }
     requires text { string_bytes text ≢ [] }
     ensures { FollowsRule S.TreeSink (λ w. foreign_text_row (string_bytes text)) (TextTurn status (string_bytes text)) sink.old state.old sink.new state.new result }
@@ -44,7 +44,7 @@ fn foreign_text<S: TreeSink>(
 }
 
 // A null, for which U+FFFD stands.
-fn foreign_null<S: TreeSink>(sink: &mut S, state: &mut State<S::Handle>) -> Turn<S::Handle>
+fn foreign_null<S: TreeSink>(sink: &mut S, state: &mut State<S::Handle>) -> Turn
     requires { IsSound S.TreeSink sink.old state.old }
     ensures { FollowsRule S.TreeSink (λ w. errs (AppendText replacement_text ∷ []) IsDone) NullTurn sink.old state.old sink.new state.new result }
 {
@@ -58,7 +58,7 @@ fn foreign_tag<S: TreeSink>(
     sink: &mut S,
     state: &mut State<S::Handle>,
     tag: Tag,
-) -> Result<ForeignStep<S::Handle>, AllocError>
+) -> Result<ForeignStep, AllocError>
     requires { IsSound S.TreeSink sink.old state.old }
     ensures { Steps S.TreeSink (foreign_tag tag.kind (tag_text tag)) (TagTurn (tag_text tag)) sink.old state.old sink.new state.new result }
 {
@@ -74,7 +74,7 @@ pub fn step_foreign<S: TreeSink>(
     sink: &mut S,
     state: &mut State<S::Handle>,
     token: Token,
-) -> Result<ForeignStep<S::Handle>, AllocError>
+) -> Result<ForeignStep, AllocError>
     requires sound { IsSound S.TreeSink sink.old state.old }
     requires text { HasText (turn_text token) }
     ensures { StepsForeign S.TreeSink (turn_text token) sink.old state.old sink.new state.new result }

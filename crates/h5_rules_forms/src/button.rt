@@ -18,7 +18,7 @@ pub fn in_body_start_button<S: TreeSink>(
     sink: &mut S,
     state: &mut State<S::Handle>,
     tag: Tag,
-) -> Turn<S::Handle>
+) -> Turn
     requires { IsSound S.TreeSink sink.old state.old }
     ensures { TakesTag S.TreeSink in_body_start_button tag sink.old state.old sink.new state.new result }
 {

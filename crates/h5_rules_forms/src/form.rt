@@ -23,11 +23,7 @@ use h5_types::ProcessResult;
 /// A start tag `form`: it is ignored where there is a form element, and no template is open. It answers an `AllocError`
 /// where memory is refused.
 #[tactic(auto, unfolding(h5_rules::specs::modes::InBody::in_body_start_form))]
-pub fn in_body_start_form<S: TreeSink>(
-    sink: &mut S,
-    state: &mut State<S::Handle>,
-    tag: Tag,
-) -> Turn<S::Handle>
+pub fn in_body_start_form<S: TreeSink>(sink: &mut S, state: &mut State<S::Handle>, tag: Tag) -> Turn
     requires { IsSound S.TreeSink sink.old state.old }
     ensures { TakesTag S.TreeSink in_body_start_form tag sink.old state.old sink.new state.new result }
 {
@@ -44,11 +40,7 @@ pub fn in_body_start_form<S: TreeSink>(
 
 // The form element isn't one any more, and leaves the stack, where it is in scope.
 #[tactic(auto, unfolding(h5_rules::specs::modes::InBody::close_the_form))]
-fn close_form_element<S: TreeSink>(
-    sink: &mut S,
-    state: &mut State<S::Handle>,
-    tag: Tag,
-) -> Turn<S::Handle>
+fn close_form_element<S: TreeSink>(sink: &mut S, state: &mut State<S::Handle>, tag: Tag) -> Turn
     requires sound { IsSound S.TreeSink sink.old state.old }
     requires ready { HasHtmlRoot (world_of S.TreeSink sink.old state.old) }
     ensures { TakesTag S.TreeSink (λ tag w. close_the_form w.form w) tag sink.old state.old sink.new state.new result }
@@ -71,11 +63,7 @@ fn close_form_element<S: TreeSink>(
 }
 
 // In a template, an open HTML `form` is closed, where one is in scope.
-fn close_open_form<S: TreeSink>(
-    sink: &mut S,
-    state: &mut State<S::Handle>,
-    tag: Tag,
-) -> Turn<S::Handle>
+fn close_open_form<S: TreeSink>(sink: &mut S, state: &mut State<S::Handle>, tag: Tag) -> Turn
     requires { IsSound S.TreeSink sink.old state.old }
     ensures { TakesTag S.TreeSink (λ tag w. choose (named_in_scope (codes "form") w) (errs (GenerateImpliedEnd ∷ PopUntilNamed (codes "form") ∷ []) IsDone) ignored) tag sink.old state.old sink.new state.new result }
 {
@@ -99,11 +87,7 @@ fn close_open_form<S: TreeSink>(
 /// An end tag `form`: it closes the form element, wherever that stands in scope, and in a template the open one that is
 /// in scope.
 #[tactic(auto, unfolding(h5_rules::specs::modes::InBody::in_body_end_form))]
-pub fn in_body_end_form<S: TreeSink>(
-    sink: &mut S,
-    state: &mut State<S::Handle>,
-    tag: Tag,
-) -> Turn<S::Handle>
+pub fn in_body_end_form<S: TreeSink>(sink: &mut S, state: &mut State<S::Handle>, tag: Tag) -> Turn
     requires sound { IsSound S.TreeSink sink.old state.old }
     requires ready { HasHtmlRoot (world_of S.TreeSink sink.old state.old) }
     ensures { TakesTag S.TreeSink in_body_end_form tag sink.old state.old sink.new state.new result }

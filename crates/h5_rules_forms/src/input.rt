@@ -30,7 +30,7 @@ pub fn in_body_start_image<S: TreeSink>(
     sink: &mut S,
     state: &mut State<S::Handle>,
     tag: Tag,
-) -> Turn<S::Handle>
+) -> Turn
     requires { IsSound S.TreeSink sink.old state.old }
     ensures { TakesTag S.TreeSink in_body_start_image tag sink.old state.old sink.new state.new result }
 {
@@ -43,11 +43,7 @@ pub fn in_body_start_image<S: TreeSink>(
 }
 
 /// A start tag `param`, `source` or `track`. It answers an `AllocError` where memory is refused.
-pub fn in_body_start_part<S: TreeSink>(
-    sink: &mut S,
-    state: &mut State<S::Handle>,
-    tag: Tag,
-) -> Turn<S::Handle>
+pub fn in_body_start_part<S: TreeSink>(sink: &mut S, state: &mut State<S::Handle>, tag: Tag) -> Turn
     requires { IsSound S.TreeSink sink.old state.old }
     ensures { TakesTag S.TreeSink in_body_start_part tag sink.old state.old sink.new state.new result }
 {
@@ -84,7 +80,7 @@ pub fn in_body_start_input<S: TreeSink>(
     sink: &mut S,
     state: &mut State<S::Handle>,
     tag: Tag,
-) -> Turn<S::Handle>
+) -> Turn
     requires { IsSound S.TreeSink sink.old state.old }
     ensures { TakesTag S.TreeSink in_body_start_input tag sink.old state.old sink.new state.new result }
 {
@@ -116,11 +112,7 @@ fn check_rule<S: TreeSink>(sink: &mut S, state: &State<S::Handle>, in_select: bo
 
 /// A start tag `hr`: a `p` in button scope is closed, and, in a `select`, what has an implied end. It answers an
 /// `AllocError` where memory is refused.
-pub fn in_body_start_hr<S: TreeSink>(
-    sink: &mut S,
-    state: &mut State<S::Handle>,
-    tag: Tag,
-) -> Turn<S::Handle>
+pub fn in_body_start_hr<S: TreeSink>(sink: &mut S, state: &mut State<S::Handle>, tag: Tag) -> Turn
     requires { IsSound S.TreeSink sink.old state.old }
     ensures { TakesTag S.TreeSink in_body_start_hr tag sink.old state.old sink.new state.new result }
 {

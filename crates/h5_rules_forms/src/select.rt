@@ -27,7 +27,7 @@ pub fn in_body_start_select<S: TreeSink>(
     sink: &mut S,
     state: &mut State<S::Handle>,
     tag: Tag,
-) -> Turn<S::Handle>
+) -> Turn
     requires { IsSound S.TreeSink sink.old state.old }
     ensures { TakesTag S.TreeSink in_body_start_select tag sink.old state.old sink.new state.new result }
 {
@@ -85,7 +85,7 @@ pub fn in_body_start_option<S: TreeSink>(
     sink: &mut S,
     state: &mut State<S::Handle>,
     tag: Tag,
-) -> Turn<S::Handle>
+) -> Turn
     requires { IsSound S.TreeSink sink.old state.old }
     ensures { TakesTag S.TreeSink in_body_start_option tag sink.old state.old sink.new state.new result }
 {
@@ -113,7 +113,7 @@ pub fn in_body_start_optgroup<S: TreeSink>(
     sink: &mut S,
     state: &mut State<S::Handle>,
     tag: Tag,
-) -> Turn<S::Handle>
+) -> Turn
     requires { IsSound S.TreeSink sink.old state.old }
     ensures { TakesTag S.TreeSink in_body_start_optgroup tag sink.old state.old sink.new state.new result }
 {
@@ -154,11 +154,7 @@ fn copy_option<S: TreeSink>(
 /// An end tag `option`: it closes an option before which no special element comes, and the one that is the nearest to
 /// the root, where it was closed, is copied. It answers an `AllocError` where memory is refused.
 #[tactic(auto, unfolding(h5_rules::specs::modes::InBody::in_body_end_option))]
-pub fn in_body_end_option<S: TreeSink>(
-    sink: &mut S,
-    state: &mut State<S::Handle>,
-    tag: Tag,
-) -> Turn<S::Handle>
+pub fn in_body_end_option<S: TreeSink>(sink: &mut S, state: &mut State<S::Handle>, tag: Tag) -> Turn
     requires { IsSound S.TreeSink sink.old state.old }
     ensures { TakesTag S.TreeSink in_body_end_option tag sink.old state.old sink.new state.new result }
 {

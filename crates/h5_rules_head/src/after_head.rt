@@ -23,16 +23,14 @@ use h5_insertion::{
 };
 use h5_interface::TreeSink;
 use h5_names::KnownName;
-use h5_state::{State, Turn, set_frameset_not_ok, set_mode, unexpected_tag};
+use h5_state::{
+    State, Turn, set_again, set_answer, set_frameset_not_ok, set_mode, take_answer, unexpected_tag,
+};
 use h5_token::{Tag, TagKind};
 use h5_types::{InsertionMode, ProcessResult, SplitStatus, Token};
 
 // A start tag `body`.
-fn after_head_start_body<S: TreeSink>(
-    sink: &mut S,
-    state: &mut State<S::Handle>,
-    tag: Tag,
-) -> Turn<S::Handle>
+fn after_head_start_body<S: TreeSink>(sink: &mut S, state: &mut State<S::Handle>, tag: Tag) -> Turn
     requires { IsSound S.TreeSink sink.old state.old }
     ensures { TakesTag S.TreeSink after_head_start_body tag sink.old state.old sink.new state.new result }
 {
@@ -48,7 +46,7 @@ fn after_head_start_frameset<S: TreeSink>(
     sink: &mut S,
     state: &mut State<S::Handle>,
     tag: Tag,
-) -> Turn<S::Handle>
+) -> Turn
     requires { IsSound S.TreeSink sink.old state.old }
     ensures { TakesTag S.TreeSink after_head_start_frameset tag sink.old state.old sink.new state.new result }
 {
@@ -74,7 +72,7 @@ fn leave_head<S: TreeSink>(sink: &mut S, state: &mut State<S::Handle>, head: &Op
 // A start tag that goes by the rules of the head: the head element is the current node for it, and then it leaves the
 // stack, from wherever it stands.
 #[tactic(auto, unfolding(h5_rules::specs::modes::AfterHead::with_head))]
-fn with_head<S: TreeSink>(sink: &mut S, state: &mut State<S::Handle>, tag: Tag) -> Turn<S::Handle>
+fn with_head<S: TreeSink>(sink: &mut S, state: &mut State<S::Handle>, tag: Tag) -> Turn
     requires sound { IsSound S.TreeSink sink.old state.old }
     requires fits { FitsAfterHead (world_of S.TreeSink sink.old state.old) }
     requires name { is_one_of head_start_names tag.name ≡ true }
@@ -84,30 +82,25 @@ fn with_head<S: TreeSink>(sink: &mut S, state: &mut State<S::Handle>, tag: Tag) 
     let head = known_head(sink, state);
     push_head(sink, state)?;
     let result = in_head_start_tag(sink, state, tag)?;
+    let answer = take_answer(sink, state);
     leave_head(sink, state, &head);
+    set_answer(sink, state, answer);
     Ok(result)
 }
 
 // Whatever else comes: a body without attributes is inserted.
-fn after_head_else<S: TreeSink>(
-    sink: &mut S,
-    state: &mut State<S::Handle>,
-    token: Token,
-) -> Turn<S::Handle>
+fn after_head_else<S: TreeSink>(sink: &mut S, state: &mut State<S::Handle>, token: Token) -> Turn
     requires { IsSound S.TreeSink sink.old state.old }
     ensures { TakesToken S.TreeSink after_head_else token sink.old state.old sink.new state.new result }
 {
     insert_phantom(sink, state, KnownName::Body)?;
-    Ok(ProcessResult::Reprocess(InsertionMode::InBody, token))
+    set_again(sink, state, token);
+    Ok(ProcessResult::Reprocess(InsertionMode::InBody))
 }
 
 // Start tags, by their names.
 #[tactic(auto, unfolding(h5_rules::specs::modes::AfterHead::after_head_start, h5_rules::specs::modes::Shared::head_start_names, h5_names::specs::KnownNames::name_text))]
-fn after_head_start_tag<S: TreeSink>(
-    sink: &mut S,
-    state: &mut State<S::Handle>,
-    tag: Tag,
-) -> Turn<S::Handle>
+fn after_head_start_tag<S: TreeSink>(sink: &mut S, state: &mut State<S::Handle>, tag: Tag) -> Turn
     requires open { IsOpen S.TreeSink sink.old state.old }
     requires fits { FitsAfterHead (world_of S.TreeSink sink.old state.old) }
     ensures { TakesTag S.TreeSink (by_known after_head_start (of_tag after_head_else)) tag sink.old state.old sink.new state.new result }
@@ -133,11 +126,7 @@ fn after_head_start_tag<S: TreeSink>(
 
 // End tags, by their names.
 #[tactic(auto, unfolding(h5_rules::specs::modes::AfterHead::after_head_end, h5_rules::specs::ByName::outer_names, h5_names::specs::KnownNames::name_text))]
-fn after_head_end_tag<S: TreeSink>(
-    sink: &mut S,
-    state: &mut State<S::Handle>,
-    tag: Tag,
-) -> Turn<S::Handle>
+fn after_head_end_tag<S: TreeSink>(sink: &mut S, state: &mut State<S::Handle>, tag: Tag) -> Turn
     requires { IsOpen S.TreeSink sink.old state.old }
     ensures { TakesTag S.TreeSink (by_known after_head_end ignored_tag) tag sink.old state.old sink.new state.new result }
 {
@@ -154,11 +143,7 @@ fn after_head_end_tag<S: TreeSink>(
 }
 
 #[tactic(auto, using(h5_rules::proofs::rows::KnownRuleLaws::after_head_start_known, h5_rules::proofs::rows::KnownRuleLaws::after_head_end_known), unfolding(h5_rules::specs::modes::AfterHead::after_head_tag))]
-fn after_head_tag<S: TreeSink>(
-    sink: &mut S,
-    state: &mut State<S::Handle>,
-    tag: Tag,
-) -> Turn<S::Handle>
+fn after_head_tag<S: TreeSink>(sink: &mut S, state: &mut State<S::Handle>, tag: Tag) -> Turn
     requires open { IsOpen S.TreeSink sink.old state.old }
     requires fits { FitsAfterHead (world_of S.TreeSink sink.old state.old) }
     ensures { TakesTag S.TreeSink after_head_tag tag sink.old state.old sink.new state.new result }
@@ -174,7 +159,7 @@ pub fn step_after_head<S: TreeSink>(
     sink: &mut S,
     state: &mut State<S::Handle>,
     token: Token,
-) -> Turn<S::Handle>
+) -> Turn
     requires open { IsOpen S.TreeSink sink.old state.old }
     requires fits { FitsAfterHead (world_of S.TreeSink sink.old state.old) }
     requires text { HasText (turn_text token) }

@@ -10,16 +10,12 @@ use super::ignored::ignored_tag;
 use h5_insertion::{append_comment, insert_head};
 use h5_interface::TreeSink;
 use h5_names::KnownName;
-use h5_state::{State, Turn, set_mode};
+use h5_state::{State, Turn, set_again, set_mode};
 use h5_token::{Tag, TagKind};
 use h5_types::{InsertionMode, ProcessResult, SplitStatus, Token};
 
 // A start tag `head`.
-fn before_head_start_head<S: TreeSink>(
-    sink: &mut S,
-    state: &mut State<S::Handle>,
-    tag: Tag,
-) -> Turn<S::Handle>
+fn before_head_start_head<S: TreeSink>(sink: &mut S, state: &mut State<S::Handle>, tag: Tag) -> Turn
     requires { IsSound S.TreeSink sink.old state.old }
     ensures { TakesTag S.TreeSink before_head_start_head tag sink.old state.old sink.new state.new result }
 {
@@ -29,26 +25,19 @@ fn before_head_start_head<S: TreeSink>(
 }
 
 // Whatever else comes: a head without attributes is inserted.
-fn before_head_else<S: TreeSink>(
-    sink: &mut S,
-    state: &mut State<S::Handle>,
-    token: Token,
-) -> Turn<S::Handle>
+fn before_head_else<S: TreeSink>(sink: &mut S, state: &mut State<S::Handle>, token: Token) -> Turn
     requires { IsSound S.TreeSink sink.old state.old }
     ensures { TakesToken S.TreeSink before_head_else token sink.old state.old sink.new state.new result }
 {
     let attrs = Vec::new(state.alloc);
     insert_head(sink, state, attrs, false)?;
-    Ok(ProcessResult::Reprocess(InsertionMode::InHead, token))
+    set_again(sink, state, token);
+    Ok(ProcessResult::Reprocess(InsertionMode::InHead))
 }
 
 // Start tags, by their names.
 #[tactic(auto, unfolding(h5_rules::specs::modes::BeforeHead::before_head_start, h5_names::specs::KnownNames::name_text))]
-fn before_head_start_tag<S: TreeSink>(
-    sink: &mut S,
-    state: &mut State<S::Handle>,
-    tag: Tag,
-) -> Turn<S::Handle>
+fn before_head_start_tag<S: TreeSink>(sink: &mut S, state: &mut State<S::Handle>, tag: Tag) -> Turn
     requires { IsOpen S.TreeSink sink.old state.old }
     ensures { TakesTag S.TreeSink (by_known before_head_start (of_tag before_head_else)) tag sink.old state.old sink.new state.new result }
 {
@@ -61,11 +50,7 @@ fn before_head_start_tag<S: TreeSink>(
 
 // End tags, by their names.
 #[tactic(auto, unfolding(h5_rules::specs::modes::BeforeHead::before_head_end, h5_rules::specs::ByName::outer_names, h5_names::specs::KnownNames::name_text))]
-fn before_head_end_tag<S: TreeSink>(
-    sink: &mut S,
-    state: &mut State<S::Handle>,
-    tag: Tag,
-) -> Turn<S::Handle>
+fn before_head_end_tag<S: TreeSink>(sink: &mut S, state: &mut State<S::Handle>, tag: Tag) -> Turn
     requires { IsOpen S.TreeSink sink.old state.old }
     ensures { TakesTag S.TreeSink (by_known before_head_end ignored_tag) tag sink.old state.old sink.new state.new result }
 {
@@ -80,11 +65,7 @@ fn before_head_end_tag<S: TreeSink>(
 }
 
 #[tactic(auto, using(h5_rules::proofs::rows::KnownRuleLaws::before_head_start_known, h5_rules::proofs::rows::KnownRuleLaws::before_head_end_known), unfolding(h5_rules::specs::modes::BeforeHead::before_head_tag))]
-fn before_head_tag<S: TreeSink>(
-    sink: &mut S,
-    state: &mut State<S::Handle>,
-    tag: Tag,
-) -> Turn<S::Handle>
+fn before_head_tag<S: TreeSink>(sink: &mut S, state: &mut State<S::Handle>, tag: Tag) -> Turn
     requires { IsOpen S.TreeSink sink.old state.old }
     ensures { TakesTag S.TreeSink before_head_tag tag sink.old state.old sink.new state.new result }
 {
@@ -99,7 +80,7 @@ pub fn step_before_head<S: TreeSink>(
     sink: &mut S,
     state: &mut State<S::Handle>,
     token: Token,
-) -> Turn<S::Handle>
+) -> Turn
     requires open { IsOpen S.TreeSink sink.old state.old }
     requires text { HasText (turn_text token) }
     ensures { TakesToken S.TreeSink before_head token sink.old state.old sink.new state.new result }

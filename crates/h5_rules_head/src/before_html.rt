@@ -9,30 +9,23 @@ use super::ignored::ignored_tag;
 use h5_insertion::{append_comment_to_doc, create_root};
 use h5_interface::TreeSink;
 use h5_names::KnownName;
-use h5_state::{State, Turn, set_mode};
+use h5_state::{State, Turn, set_again, set_mode};
 use h5_token::{Tag, TagKind};
 use h5_types::{InsertionMode, ProcessResult, SplitStatus, Token};
 
 // Whatever else comes: a root without attributes is made.
-fn before_html_else<S: TreeSink>(
-    sink: &mut S,
-    state: &mut State<S::Handle>,
-    token: Token,
-) -> Turn<S::Handle>
+fn before_html_else<S: TreeSink>(sink: &mut S, state: &mut State<S::Handle>, token: Token) -> Turn
     requires { IsSound S.TreeSink sink.old state.old }
     ensures { TakesToken S.TreeSink before_html_else token sink.old state.old sink.new state.new result }
 {
     let attrs = Vec::new(state.alloc);
     create_root(sink, state, attrs)?;
-    Ok(ProcessResult::Reprocess(InsertionMode::BeforeHead, token))
+    set_again(sink, state, token);
+    Ok(ProcessResult::Reprocess(InsertionMode::BeforeHead))
 }
 
 // A start tag `html`.
-fn before_html_start_html<S: TreeSink>(
-    sink: &mut S,
-    state: &mut State<S::Handle>,
-    tag: Tag,
-) -> Turn<S::Handle>
+fn before_html_start_html<S: TreeSink>(sink: &mut S, state: &mut State<S::Handle>, tag: Tag) -> Turn
     requires { IsSound S.TreeSink sink.old state.old }
     ensures { TakesTag S.TreeSink before_html_start_html tag sink.old state.old sink.new state.new result }
 {
@@ -43,11 +36,7 @@ fn before_html_start_html<S: TreeSink>(
 
 // Start tags, by their names.
 #[tactic(auto, unfolding(h5_rules::specs::modes::BeforeHtml::before_html_start, h5_names::specs::KnownNames::name_text))]
-fn before_html_start_tag<S: TreeSink>(
-    sink: &mut S,
-    state: &mut State<S::Handle>,
-    tag: Tag,
-) -> Turn<S::Handle>
+fn before_html_start_tag<S: TreeSink>(sink: &mut S, state: &mut State<S::Handle>, tag: Tag) -> Turn
     requires { IsSound S.TreeSink sink.old state.old }
     ensures { TakesTag S.TreeSink (by_known before_html_start (of_tag before_html_else)) tag sink.old state.old sink.new state.new result }
 {
@@ -59,11 +48,7 @@ fn before_html_start_tag<S: TreeSink>(
 
 // End tags, by their names.
 #[tactic(auto, unfolding(h5_rules::specs::modes::BeforeHtml::before_html_end, h5_rules::specs::ByName::outer_names, h5_names::specs::KnownNames::name_text))]
-fn before_html_end_tag<S: TreeSink>(
-    sink: &mut S,
-    state: &mut State<S::Handle>,
-    tag: Tag,
-) -> Turn<S::Handle>
+fn before_html_end_tag<S: TreeSink>(sink: &mut S, state: &mut State<S::Handle>, tag: Tag) -> Turn
     requires { IsSound S.TreeSink sink.old state.old }
     ensures { TakesTag S.TreeSink (by_known before_html_end ignored_tag) tag sink.old state.old sink.new state.new result }
 {
@@ -78,11 +63,7 @@ fn before_html_end_tag<S: TreeSink>(
 }
 
 #[tactic(auto, using(h5_rules::proofs::rows::KnownRuleLaws::before_html_start_known, h5_rules::proofs::rows::KnownRuleLaws::before_html_end_known), unfolding(h5_rules::specs::modes::BeforeHtml::before_html_tag))]
-fn before_html_tag<S: TreeSink>(
-    sink: &mut S,
-    state: &mut State<S::Handle>,
-    tag: Tag,
-) -> Turn<S::Handle>
+fn before_html_tag<S: TreeSink>(sink: &mut S, state: &mut State<S::Handle>, tag: Tag) -> Turn
     requires { IsSound S.TreeSink sink.old state.old }
     ensures { TakesTag S.TreeSink before_html_tag tag sink.old state.old sink.new state.new result }
 {
@@ -97,7 +78,7 @@ pub fn step_before_html<S: TreeSink>(
     sink: &mut S,
     state: &mut State<S::Handle>,
     token: Token,
-) -> Turn<S::Handle>
+) -> Turn
     requires sound { IsSound S.TreeSink sink.old state.old }
     requires text { HasText (turn_text token) }
     ensures { TakesToken S.TreeSink before_html token sink.old state.old sink.new state.new result }

@@ -13,11 +13,7 @@ use h5_types::ProcessResult;
 /// `AllocError` where memory is refused.
 #[cold]
 #[tactic(auto, unfolding(h5_rules::specs::modes::Shared::in_body_start_html))]
-pub fn in_body_start_html<S: TreeSink>(
-    sink: &mut S,
-    state: &mut State<S::Handle>,
-    tag: Tag,
-) -> Turn<S::Handle>
+pub fn in_body_start_html<S: TreeSink>(sink: &mut S, state: &mut State<S::Handle>, tag: Tag) -> Turn
     requires { IsOpen S.TreeSink sink.old state.old }
     ensures { TakesTag S.TreeSink in_body_start_html tag sink.old state.old sink.new state.new result }
 {

@@ -9,11 +9,7 @@ use h5_token::Tag;
 use h5_types::ProcessResult;
 
 /// A tag that is ignored: a parse error is told.
-pub fn ignored_tag<S: TreeSink>(
-    sink: &mut S,
-    state: &mut State<S::Handle>,
-    tag: Tag,
-) -> Turn<S::Handle>
+pub fn ignored_tag<S: TreeSink>(sink: &mut S, state: &mut State<S::Handle>, tag: Tag) -> Turn
     requires { IsSound S.TreeSink sink.old state.old }
     ensures { TakesTag S.TreeSink ignored_tag tag sink.old state.old sink.new state.new result }
 {

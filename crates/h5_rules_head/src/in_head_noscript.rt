@@ -11,7 +11,7 @@ use super::in_head::step_in_head;
 use super::in_head_start_tags::in_head_start_tag;
 use h5_interface::TreeSink;
 use h5_names::KnownName;
-use h5_state::{State, Turn, pop, set_mode, unexpected};
+use h5_state::{State, Turn, pop, set_again, set_mode, unexpected};
 use h5_token::{Tag, TagKind};
 use h5_types::{InsertionMode, ProcessResult, SplitStatus, Token};
 
@@ -20,7 +20,7 @@ fn in_head_noscript_end_noscript<S: TreeSink>(
     sink: &mut S,
     state: &mut State<S::Handle>,
     tag: Tag,
-) -> Turn<S::Handle>
+) -> Turn
     requires { IsOpen S.TreeSink sink.old state.old }
     ensures { TakesTag S.TreeSink in_head_noscript_end_noscript tag sink.old state.old sink.new state.new result }
 {
@@ -35,13 +35,14 @@ fn in_head_noscript_else<S: TreeSink>(
     sink: &mut S,
     state: &mut State<S::Handle>,
     token: Token,
-) -> Turn<S::Handle>
+) -> Turn
     requires { IsOpen S.TreeSink sink.old state.old }
     ensures { TakesToken S.TreeSink in_head_noscript_else token sink.old state.old sink.new state.new result }
 {
     unexpected(sink, state, &token);
     pop(sink, state);
-    Ok(ProcessResult::Reprocess(InsertionMode::InHead, token))
+    set_again(sink, state, token);
+    Ok(ProcessResult::Reprocess(InsertionMode::InHead))
 }
 
 // Start tags, by their names.
@@ -50,7 +51,7 @@ fn in_head_noscript_start_tag<S: TreeSink>(
     sink: &mut S,
     state: &mut State<S::Handle>,
     tag: Tag,
-) -> Turn<S::Handle>
+) -> Turn
     requires { IsOpen S.TreeSink sink.old state.old }
     ensures { TakesTag S.TreeSink (by_known in_head_noscript_start (of_tag in_head_noscript_else)) tag sink.old state.old sink.new state.new result }
 {
@@ -73,7 +74,7 @@ fn in_head_noscript_end_tag<S: TreeSink>(
     sink: &mut S,
     state: &mut State<S::Handle>,
     tag: Tag,
-) -> Turn<S::Handle>
+) -> Turn
     requires { IsOpen S.TreeSink sink.old state.old }
     ensures { TakesTag S.TreeSink (by_known in_head_noscript_end ignored_tag) tag sink.old state.old sink.new state.new result }
 {
@@ -85,11 +86,7 @@ fn in_head_noscript_end_tag<S: TreeSink>(
 }
 
 #[tactic(auto, using(h5_rules::proofs::rows::KnownRuleLaws::in_head_noscript_start_known, h5_rules::proofs::rows::KnownRuleLaws::in_head_noscript_end_known), unfolding(h5_rules::specs::modes::InHeadNoscript::in_head_noscript_tag))]
-fn in_head_noscript_tag<S: TreeSink>(
-    sink: &mut S,
-    state: &mut State<S::Handle>,
-    tag: Tag,
-) -> Turn<S::Handle>
+fn in_head_noscript_tag<S: TreeSink>(sink: &mut S, state: &mut State<S::Handle>, tag: Tag) -> Turn
     requires { IsOpen S.TreeSink sink.old state.old }
     ensures { TakesTag S.TreeSink in_head_noscript_tag tag sink.old state.old sink.new state.new result }
 {
@@ -104,7 +101,7 @@ pub fn step_in_head_noscript<S: TreeSink>(
     sink: &mut S,
     state: &mut State<S::Handle>,
     token: Token,
-) -> Turn<S::Handle>
+) -> Turn
     requires open { IsOpen S.TreeSink sink.old state.old }
     requires text { HasText (turn_text token) }
     ensures { TakesToken S.TreeSink in_head_noscript token sink.old state.old sink.new state.new result }

@@ -12,17 +12,13 @@ use super::template::in_head_start_template;
 use h5_insertion::{insert_and_pop_element, insert_element, insert_script};
 use h5_interface::TreeSink;
 use h5_names::KnownName;
-use h5_state::{State, Turn, is_scripting, pop, set_mode};
+use h5_state::{State, Turn, is_scripting, pop, set_again, set_answer, set_mode};
 use h5_token::states::RawKind;
 use h5_token::{Tag, TokenSinkResult};
 use h5_types::{InsertionMode, ProcessResult, Token};
 
 // A start tag `base`, `basefont`, `bgsound` or `link`: the element is empty.
-fn in_head_start_link<S: TreeSink>(
-    sink: &mut S,
-    state: &mut State<S::Handle>,
-    tag: Tag,
-) -> Turn<S::Handle>
+fn in_head_start_link<S: TreeSink>(sink: &mut S, state: &mut State<S::Handle>, tag: Tag) -> Turn
     requires { IsSound S.TreeSink sink.old state.old }
     ensures { TakesTag S.TreeSink in_head_start_link tag sink.old state.old sink.new state.new result }
 {
@@ -32,11 +28,7 @@ fn in_head_start_link<S: TreeSink>(
 }
 
 // A start tag `meta`: the element is empty, and an encoding that the tag names is answered.
-fn in_head_start_meta<S: TreeSink>(
-    sink: &mut S,
-    state: &mut State<S::Handle>,
-    tag: Tag,
-) -> Turn<S::Handle>
+fn in_head_start_meta<S: TreeSink>(sink: &mut S, state: &mut State<S::Handle>, tag: Tag) -> Turn
     requires { IsSound S.TreeSink sink.old state.old }
     ensures { TakesTag S.TreeSink in_head_start_meta tag sink.old state.old sink.new state.new result }
 {
@@ -45,17 +37,16 @@ fn in_head_start_meta<S: TreeSink>(
     insert_and_pop_element(sink, state, tag.name, attrs, tag.had_duplicate_attributes)?;
     match encoding {
         None => Ok(ProcessResult::DoneAckSelfClosing),
-        Some(encoding) => Ok(ProcessResult::Answer(TokenSinkResult::EncodingIndicator(encoding))),
+        Some(encoding) => {
+            set_answer(sink, state, TokenSinkResult::EncodingIndicator(encoding));
+            Ok(ProcessResult::Answer)
+        }
     }
 }
 
 // A start tag `noscript`: where scripts run its content is text.
 #[tactic(auto, unfolding(h5_rules::specs::modes::InHead::in_head_start_noscript))]
-fn in_head_start_noscript<S: TreeSink>(
-    sink: &mut S,
-    state: &mut State<S::Handle>,
-    tag: Tag,
-) -> Turn<S::Handle>
+fn in_head_start_noscript<S: TreeSink>(sink: &mut S, state: &mut State<S::Handle>, tag: Tag) -> Turn
     requires { IsSound S.TreeSink sink.old state.old }
     ensures { TakesTag S.TreeSink in_head_start_noscript tag sink.old state.old sink.new state.new result }
 {
@@ -69,38 +60,28 @@ fn in_head_start_noscript<S: TreeSink>(
 }
 
 // A start tag `script`.
-fn in_head_start_script<S: TreeSink>(
-    sink: &mut S,
-    state: &mut State<S::Handle>,
-    tag: Tag,
-) -> Turn<S::Handle>
+fn in_head_start_script<S: TreeSink>(sink: &mut S, state: &mut State<S::Handle>, tag: Tag) -> Turn
     requires { IsSound S.TreeSink sink.old state.old }
     ensures { TakesTag S.TreeSink in_head_start_script tag sink.old state.old sink.new state.new result }
 {
     insert_script(sink, state, tag.attrs, tag.had_duplicate_attributes)?;
-    Ok(to_raw_text_mode(sink, state, RawKind::ScriptData))
+    to_raw_text_mode(sink, state, RawKind::ScriptData);
+    Ok(ProcessResult::Answer)
 }
 
 /// Whatever else comes in the head: it is closed, and the token taken after it.
-pub fn in_head_else<S: TreeSink>(
-    sink: &mut S,
-    state: &mut State<S::Handle>,
-    token: Token,
-) -> Turn<S::Handle>
+pub fn in_head_else<S: TreeSink>(sink: &mut S, state: &mut State<S::Handle>, token: Token) -> Turn
     requires { IsOpen S.TreeSink sink.old state.old }
     ensures { TakesToken S.TreeSink in_head_else token sink.old state.old sink.new state.new result }
 {
     pop(sink, state);
-    Ok(ProcessResult::Reprocess(InsertionMode::AfterHead, token))
+    set_again(sink, state, token);
+    Ok(ProcessResult::Reprocess(InsertionMode::AfterHead))
 }
 
 // Start tags, by their names.
 #[tactic(auto, unfolding(h5_rules::specs::modes::InHead::in_head_start, h5_rules::specs::modes::InHead::in_head_links, h5_rules::specs::modes::InHead::in_head_raw, h5_names::specs::KnownNames::name_text))]
-fn in_head_start_by_name<S: TreeSink>(
-    sink: &mut S,
-    state: &mut State<S::Handle>,
-    tag: Tag,
-) -> Turn<S::Handle>
+fn in_head_start_by_name<S: TreeSink>(sink: &mut S, state: &mut State<S::Handle>, tag: Tag) -> Turn
     requires { IsOpen S.TreeSink sink.old state.old }
     ensures { TakesTag S.TreeSink (by_known in_head_start (of_tag in_head_else)) tag sink.old state.old sink.new state.new result }
 {
@@ -126,11 +107,7 @@ fn in_head_start_by_name<S: TreeSink>(
 
 /// A start tag, by the rules of the head. It answers an `AllocError` where memory is refused.
 #[tactic(auto, using(h5_rules::proofs::rows::KnownRuleLaws::in_head_start_known), unfolding(h5_rules::specs::modes::InHead::in_head_start_tag))]
-pub fn in_head_start_tag<S: TreeSink>(
-    sink: &mut S,
-    state: &mut State<S::Handle>,
-    tag: Tag,
-) -> Turn<S::Handle>
+pub fn in_head_start_tag<S: TreeSink>(sink: &mut S, state: &mut State<S::Handle>, tag: Tag) -> Turn
     requires { IsOpen S.TreeSink sink.old state.old }
     ensures { TakesTag S.TreeSink in_head_start_tag tag sink.old state.old sink.new state.new result }
 {

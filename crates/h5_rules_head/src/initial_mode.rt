@@ -6,35 +6,29 @@ ghost use Rattle.h5_state.specs.Turn.{TakesToken};
 
 use h5_insertion::append_comment_to_doc;
 use h5_interface::{QuirksMode, TreeSink};
-use h5_state::{State, Turn, has_srcdoc, set_quirks_mode, unexpected};
+use h5_state::{State, Turn, has_srcdoc, set_again, set_quirks_mode, unexpected};
 use h5_types::{InsertionMode, ProcessResult, SplitStatus, Token};
 
 // Whatever else comes: without a doctype the document is in quirks mode, unless it is that of an `iframe` with
 // `srcdoc`.
 #[tactic(auto, unfolding(h5_rules::specs::modes::InitialMode::initial_else))]
-fn initial_else<S: TreeSink>(
-    sink: &mut S,
-    state: &mut State<S::Handle>,
-    token: Token,
-) -> Turn<S::Handle>
+fn initial_else<S: TreeSink>(sink: &mut S, state: &mut State<S::Handle>, token: Token) -> Turn
     requires { IsSound S.TreeSink sink.old state.old }
     ensures { TakesToken S.TreeSink initial_else token sink.old state.old sink.new state.new result }
 {
     if has_srcdoc(sink, state) {
-        Ok(ProcessResult::Reprocess(InsertionMode::BeforeHtml, token))
+        set_again(sink, state, token);
+        Ok(ProcessResult::Reprocess(InsertionMode::BeforeHtml))
     } else {
         unexpected(sink, state, &token);
         set_quirks_mode(sink, state, QuirksMode::Quirks);
-        Ok(ProcessResult::Reprocess(InsertionMode::BeforeHtml, token))
+        set_again(sink, state, token);
+        Ok(ProcessResult::Reprocess(InsertionMode::BeforeHtml))
     }
 }
 
 /// A turn at the start.
-pub fn step_initial<S: TreeSink>(
-    sink: &mut S,
-    state: &mut State<S::Handle>,
-    token: Token,
-) -> Turn<S::Handle>
+pub fn step_initial<S: TreeSink>(sink: &mut S, state: &mut State<S::Handle>, token: Token) -> Turn
     requires sound { IsSound S.TreeSink sink.old state.old }
     requires text { HasText (turn_text token) }
     ensures { TakesToken S.TreeSink initial token sink.old state.old sink.new state.new result }

@@ -1,8 +1,7 @@
 //! Elements whose content is text (HTML standard, section 13.2.6.2, "Parsing elements that contain only text").
 ghost use Rattle.std.specs.Prelude.{◌≡◌, [], ◌∷◌};
-ghost use Rattle.h5_token.specs.declared.sink.TokenSinkResult.TheVariants as answers;
+ghost use Rattle.h5_token.specs.Reply.{TurnsRaw, reply};
 ghost use Rattle.h5_types.specs.declared.modes.InsertionMode.TheVariants.{Text};
-ghost use Rattle.h5_types.specs.declared.turns.ProcessResult.TheVariants as results;
 ghost use Rattle.h5_rules.specs.Changes.{save_mode, set_mode};
 ghost use Rattle.h5_rules.specs.modes.Shared.{inserts, raw_text};
 ghost use Rattle.h5_state.specs.Steps.{IsSound, errors_of, world_of};
@@ -10,25 +9,21 @@ ghost use Rattle.h5_state.specs.Turn.{TakesTag};
 
 use h5_insertion::insert_element;
 use h5_interface::TreeSink;
-use h5_state::{State, Turn, save_mode, set_mode};
+use h5_state::{State, Turn, save_mode, set_answer, set_mode};
 use h5_token::states::RawKind;
 use h5_token::{Tag, TokenSinkResult};
 use h5_types::{InsertionMode, ProcessResult};
 
 /// The mode is kept, to go back to it, and left for a text; the reader is to be told of which kind that is.
-pub fn to_raw_text_mode<S: TreeSink>(
-    sink: &S,
-    state: &mut State<S::Handle>,
-    kind: RawKind,
-) -> ProcessResult<S::Handle>
+pub fn to_raw_text_mode<S: TreeSink>(sink: &S, state: &mut State<S::Handle>, kind: RawKind)
     requires { IsSound S.TreeSink sink.now state.old }
     ensures world { world_of S.TreeSink sink.now state.new ≡ set_mode Text (save_mode (world_of S.TreeSink sink.now state.old)) }
     ensures sound { IsSound S.TreeSink sink.now state.new }
-    ensures answer { result ≡ results.Answer (answers.RawData kind) }
+    ensures answer { reply S.node state.new.answer ≡ TurnsRaw kind }
 {
     save_mode(sink, state);
     set_mode(sink, state, InsertionMode::Text);
-    ProcessResult::Answer(TokenSinkResult::RawData(kind))
+    set_answer(sink, state, TokenSinkResult::RawData(kind));
 }
 
 /// A start tag of an element whose content is text of this kind. It answers an `AllocError` where memory is refused.
@@ -37,11 +32,12 @@ pub fn parse_raw_data<S: TreeSink>(
     state: &mut State<S::Handle>,
     tag: Tag,
     kind: RawKind,
-) -> Turn<S::Handle>
+) -> Turn
     requires { IsSound S.TreeSink sink.old state.old }
     ensures { TakesTag S.TreeSink (λ tag w. raw_text kind (inserts tag ∷ [])) tag sink.old state.old sink.new state.new result }
 {
     let attrs = tag.attrs;
     insert_element(sink, state, tag.name, attrs, tag.had_duplicate_attributes)?;
-    Ok(to_raw_text_mode(sink, state, kind))
+    to_raw_text_mode(sink, state, kind);
+    Ok(ProcessResult::Answer)
 }

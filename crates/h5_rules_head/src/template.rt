@@ -15,7 +15,7 @@ use h5_insertion::insert_template;
 use h5_interface::TreeSink;
 use h5_names::{KnownName, LocalName};
 use h5_state::{
-    State, Turn, find_named, has_open_template, is_current_html, pop_until_named,
+    State, Turn, find_named, has_open_template, is_current_html, pop_until_named, set_again,
     set_frameset_not_ok, set_mode, tell_error, unexpected_tag,
 };
 use h5_token::Tag;
@@ -26,7 +26,7 @@ pub(crate) fn in_head_start_template<S: TreeSink>(
     sink: &mut S,
     state: &mut State<S::Handle>,
     tag: Tag,
-) -> Turn<S::Handle>
+) -> Turn
     requires { IsSound S.TreeSink sink.old state.old }
     ensures { TakesTag S.TreeSink in_head_start_template tag sink.old state.old sink.new state.new result }
 {
@@ -59,7 +59,7 @@ pub fn in_head_end_template<S: TreeSink>(
     sink: &mut S,
     state: &mut State<S::Handle>,
     tag: Tag,
-) -> Turn<S::Handle>
+) -> Turn
     requires { IsSound S.TreeSink sink.old state.old }
     ensures { TakesTag S.TreeSink in_head_end_template tag sink.old state.old sink.new state.new result }
 {
@@ -78,11 +78,7 @@ pub fn in_head_end_template<S: TreeSink>(
 /// The end of the file, where template insertion modes are kept: a template that is open is closed, which is a parse
 /// error, and the end of the file comes again.
 #[tactic(auto, unfolding(h5_rules::specs::modes::InHead::template_eof))]
-pub fn template_eof<S: TreeSink>(
-    sink: &mut S,
-    state: &mut State<S::Handle>,
-    token: Token,
-) -> Turn<S::Handle>
+pub fn template_eof<S: TreeSink>(sink: &mut S, state: &mut State<S::Handle>, token: Token) -> Turn
     requires { IsSound S.TreeSink sink.old state.old }
     ensures { TakesToken S.TreeSink (λ t w. template_eof w) token sink.old state.old sink.new state.new result }
 {
@@ -92,5 +88,6 @@ pub fn template_eof<S: TreeSink>(
     tell_error(sink, state, "end of file in a template");
     close_template(sink, state);
     let mode = reset_insertion_mode(sink, state);
-    Ok(ProcessResult::Reprocess(mode, token))
+    set_again(sink, state, token);
+    Ok(ProcessResult::Reprocess(mode))
 }

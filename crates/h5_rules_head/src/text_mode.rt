@@ -9,15 +9,15 @@ use h5_insertion::append_text;
 use h5_interface::TreeSink;
 use h5_names::{KnownName, LocalName};
 use h5_state::{
-    State, Turn, current_node, is_current_html, mark_started, pop, saved_mode, set_mode,
-    tell_error, unexpected,
+    State, Turn, current_node, is_current_html, mark_started, pop, saved_mode, set_again,
+    set_answer, set_mode, tell_error, unexpected,
 };
 use h5_token::{Tag, TagKind, TokenSinkResult};
 use h5_types::{ProcessResult, Token};
 
 // An end tag: the text's element is closed, and where it is a script's the reader is told of the element.
 #[tactic(auto, unfolding(h5_rules::specs::Changes::pop))]
-fn text_end<S: TreeSink>(sink: &mut S, state: &mut State<S::Handle>, tag: Tag) -> Turn<S::Handle>
+fn text_end<S: TreeSink>(sink: &mut S, state: &mut State<S::Handle>, tag: Tag) -> Turn
     requires { IsOpen S.TreeSink sink.old state.old }
     ensures { TakesTag S.TreeSink text_end tag sink.old state.old sink.new state.new result }
 {
@@ -26,7 +26,8 @@ fn text_end<S: TreeSink>(sink: &mut S, state: &mut State<S::Handle>, tag: Tag) -
     let mode = saved_mode(sink, state);
     set_mode(sink, state, mode);
     if tag.name.is(KnownName::Script) {
-        Ok(ProcessResult::Answer(TokenSinkResult::Script(element)))
+        set_answer(sink, state, TokenSinkResult::Script(element));
+        Ok(ProcessResult::Answer)
     } else {
         Ok(ProcessResult::Done)
     }
@@ -34,7 +35,7 @@ fn text_end<S: TreeSink>(sink: &mut S, state: &mut State<S::Handle>, tag: Tag) -
 
 // The end of the input: a script that is open is marked as started, and the text's element is closed.
 #[tactic(auto, unfolding(h5_rules::specs::Changes::pop, h5_rules::specs::Changes::mark_started))]
-fn text_eof<S: TreeSink>(sink: &mut S, state: &mut State<S::Handle>) -> Turn<S::Handle>
+fn text_eof<S: TreeSink>(sink: &mut S, state: &mut State<S::Handle>) -> Turn
     requires { IsOpen S.TreeSink sink.old state.old }
     ensures { FollowsRule S.TreeSink (text_mode EofTurn) EofTurn sink.old state.old sink.new state.new result }
 {
@@ -44,16 +45,13 @@ fn text_eof<S: TreeSink>(sink: &mut S, state: &mut State<S::Handle>) -> Turn<S::
     }
     pop(sink, state);
     let mode = saved_mode(sink, state);
-    Ok(ProcessResult::Reprocess(mode, Token::Eof))
+    set_again(sink, state, Token::Eof);
+    Ok(ProcessResult::Reprocess(mode))
 }
 
 /// A turn in a text. Start tags, comments and nulls don't come there; it is a parse error if one does.
 /// It answers an `AllocError` where memory is refused.
-pub fn step_text_mode<S: TreeSink>(
-    sink: &mut S,
-    state: &mut State<S::Handle>,
-    token: Token,
-) -> Turn<S::Handle>
+pub fn step_text_mode<S: TreeSink>(sink: &mut S, state: &mut State<S::Handle>, token: Token) -> Turn
     requires open { IsOpen S.TreeSink sink.old state.old }
     requires text { HasText (turn_text token) }
     ensures { TakesToken S.TreeSink text_mode token sink.old state.old sink.new state.new result }

@@ -19,7 +19,9 @@ use h5_interface::TreeSink;
 use h5_names::{KnownName, LocalName};
 use h5_rules_body::{in_body_tag, step_in_body};
 use h5_rules_head::ignored_tag;
-use h5_state::{Known, State, Turn, is_current_html, pop_until_named, set_mode, unexpected_tag};
+use h5_state::{
+    Known, State, Turn, is_current_html, pop_until_named, set_again, set_mode, unexpected_tag,
+};
 use h5_token::{Tag, TagKind};
 use h5_types::{InsertionMode, ProcessResult, Token};
 
@@ -41,11 +43,7 @@ fn close_the_caption<S: TreeSink>(sink: &mut S, state: &mut State<S::Handle>, pl
 
 // An end tag `caption`.
 #[tactic(auto, unfolding(h5_rules::specs::modes::InCaption::close_the_caption))]
-fn in_caption_end_caption<S: TreeSink>(
-    sink: &mut S,
-    state: &mut State<S::Handle>,
-    tag: Tag,
-) -> Turn<S::Handle>
+fn in_caption_end_caption<S: TreeSink>(sink: &mut S, state: &mut State<S::Handle>, tag: Tag) -> Turn
     requires { IsSound S.TreeSink sink.old state.old }
     ensures { TakesTag S.TreeSink in_caption_end_caption tag sink.old state.old sink.new state.new result }
 {
@@ -64,18 +62,15 @@ fn in_caption_end_caption<S: TreeSink>(
 
 // What closes the caption goes by the table then.
 #[tactic(auto, unfolding(h5_rules::specs::modes::InCaption::close_the_caption))]
-fn in_caption_close<S: TreeSink>(
-    sink: &mut S,
-    state: &mut State<S::Handle>,
-    tag: Tag,
-) -> Turn<S::Handle>
+fn in_caption_close<S: TreeSink>(sink: &mut S, state: &mut State<S::Handle>, tag: Tag) -> Turn
     requires { IsSound S.TreeSink sink.old state.old }
     ensures { TakesTag S.TreeSink in_caption_close tag sink.old state.old sink.new state.new result }
 {
     match find_in_table_scope(sink, state, &Known(KnownName::Caption)) {
         Some(place) => {
             close_the_caption(sink, state, place);
-            Ok(ProcessResult::Reprocess(InsertionMode::InTable, Token::Tag(tag)))
+            set_again(sink, state, Token::Tag(tag));
+            Ok(ProcessResult::Reprocess(InsertionMode::InTable))
         }
         None => {
             unexpected_tag(sink, state, &tag);
@@ -86,11 +81,7 @@ fn in_caption_close<S: TreeSink>(
 
 // End tags, by their names.
 #[tactic(auto, unfolding(h5_rules::specs::modes::InCaption::in_caption_end, h5_rules::specs::modes::InCaption::in_caption_ignored_ends, h5_names::specs::KnownNames::name_text))]
-fn in_caption_end_tag<S: TreeSink>(
-    sink: &mut S,
-    state: &mut State<S::Handle>,
-    tag: Tag,
-) -> Turn<S::Handle>
+fn in_caption_end_tag<S: TreeSink>(sink: &mut S, state: &mut State<S::Handle>, tag: Tag) -> Turn
     requires sound { IsSound S.TreeSink sink.old state.old }
     requires ready { HasHtmlRoot (world_of S.TreeSink sink.old state.old) }
     ensures { TakesTag S.TreeSink (by_known in_caption_end (of_tag in_body)) tag sink.old state.old sink.new state.new result }
@@ -114,11 +105,7 @@ fn in_caption_end_tag<S: TreeSink>(
 
 // Start tags, by their names.
 #[tactic(auto, unfolding(h5_rules::specs::modes::InCaption::in_caption_start, h5_rules::specs::modes::Shared::table_structure_names, h5_names::specs::KnownNames::name_text))]
-fn in_caption_start_tag<S: TreeSink>(
-    sink: &mut S,
-    state: &mut State<S::Handle>,
-    tag: Tag,
-) -> Turn<S::Handle>
+fn in_caption_start_tag<S: TreeSink>(sink: &mut S, state: &mut State<S::Handle>, tag: Tag) -> Turn
     requires sound { IsSound S.TreeSink sink.old state.old }
     requires ready { HasHtmlRoot (world_of S.TreeSink sink.old state.old) }
     ensures { TakesTag S.TreeSink (by_known in_caption_start (of_tag in_body)) tag sink.old state.old sink.new state.new result }
@@ -138,11 +125,7 @@ fn in_caption_start_tag<S: TreeSink>(
 }
 
 #[tactic(auto, using(h5_rules::proofs::rows::KnownRuleLaws::in_caption_start_known, h5_rules::proofs::rows::KnownRuleLaws::in_caption_end_known), unfolding(h5_rules::specs::modes::InCaption::in_caption_tag))]
-fn in_caption_tag<S: TreeSink>(
-    sink: &mut S,
-    state: &mut State<S::Handle>,
-    tag: Tag,
-) -> Turn<S::Handle>
+fn in_caption_tag<S: TreeSink>(sink: &mut S, state: &mut State<S::Handle>, tag: Tag) -> Turn
     requires sound { IsSound S.TreeSink sink.old state.old }
     requires ready { HasHtmlRoot (world_of S.TreeSink sink.old state.old) }
     ensures { TakesTag S.TreeSink in_caption_tag tag sink.old state.old sink.new state.new result }
@@ -158,7 +141,7 @@ pub fn step_in_caption<S: TreeSink>(
     sink: &mut S,
     state: &mut State<S::Handle>,
     token: Token,
-) -> Turn<S::Handle>
+) -> Turn
     requires sound { IsSound S.TreeSink sink.old state.old }
     requires ready { HasHtmlRoot (world_of S.TreeSink sink.old state.old) }
     requires text { HasText (turn_text token) }

@@ -19,18 +19,16 @@ use h5_interface::TreeSink;
 use h5_names::KnownName;
 use h5_rules_body::{in_body_tag, step_in_body};
 use h5_rules_head::ignored_tag;
-use h5_state::{Local, State, Turn, is_current_html, pop_until_named, set_mode, unexpected_tag};
+use h5_state::{
+    Local, State, Turn, is_current_html, pop_until_named, set_again, set_mode, unexpected_tag,
+};
 use h5_tag_sets::ElementSet;
 use h5_token::{Tag, TagKind};
 use h5_types::{InsertionMode, ProcessResult, Token};
 
 // An end tag `td` or `th`.
 #[tactic(auto, unfolding(h5_rules::specs::modes::InCell::in_cell_end_cell))]
-fn in_cell_end_cell<S: TreeSink>(
-    sink: &mut S,
-    state: &mut State<S::Handle>,
-    tag: Tag,
-) -> Turn<S::Handle>
+fn in_cell_end_cell<S: TreeSink>(sink: &mut S, state: &mut State<S::Handle>, tag: Tag) -> Turn
     requires sound { IsSound S.TreeSink sink.old state.old }
     requires name { is_one_of cell_names tag.name ≡ true }
     ensures { TakesTag S.TreeSink in_cell_end_cell tag sink.old state.old sink.new state.new result }
@@ -54,11 +52,7 @@ fn in_cell_end_cell<S: TreeSink>(
 }
 
 // "Close the cell": the first cell, from the current node on, is closed, and the tag goes by the row.
-fn close_the_cell<S: TreeSink>(
-    sink: &mut S,
-    state: &mut State<S::Handle>,
-    tag: Tag,
-) -> Turn<S::Handle>
+fn close_the_cell<S: TreeSink>(sink: &mut S, state: &mut State<S::Handle>, tag: Tag) -> Turn
     requires { IsSound S.TreeSink sink.old state.old }
     ensures { TakesTag S.TreeSink (λ t. close_the_cell) tag sink.old state.old sink.new state.new result }
 {
@@ -68,7 +62,8 @@ fn close_the_cell<S: TreeSink>(
     let place = find_cell(sink, state);
     pop_until_cell(sink, state, place);
     clear_active_formatting_to_marker(sink, state);
-    Ok(ProcessResult::Reprocess(InsertionMode::InRow, Token::Tag(tag)))
+    set_again(sink, state, Token::Tag(tag));
+    Ok(ProcessResult::Reprocess(InsertionMode::InRow))
 }
 
 // A start tag `caption`, `col`, .., `tr`: it closes the cell.
@@ -77,7 +72,7 @@ fn in_cell_start_structure<S: TreeSink>(
     sink: &mut S,
     state: &mut State<S::Handle>,
     tag: Tag,
-) -> Turn<S::Handle>
+) -> Turn
     requires { IsSound S.TreeSink sink.old state.old }
     ensures { TakesTag S.TreeSink in_cell_start_structure tag sink.old state.old sink.new state.new result }
 {
@@ -91,11 +86,7 @@ fn in_cell_start_structure<S: TreeSink>(
 
 // An end tag `table`, `tbody`, `tfoot`, `thead` or `tr`: it closes the cell where table scope has what it names.
 #[tactic(auto, unfolding(h5_rules::specs::modes::InCell::in_cell_end_structure))]
-fn in_cell_end_structure<S: TreeSink>(
-    sink: &mut S,
-    state: &mut State<S::Handle>,
-    tag: Tag,
-) -> Turn<S::Handle>
+fn in_cell_end_structure<S: TreeSink>(sink: &mut S, state: &mut State<S::Handle>, tag: Tag) -> Turn
     requires { IsSound S.TreeSink sink.old state.old }
     ensures { TakesTag S.TreeSink in_cell_end_structure tag sink.old state.old sink.new state.new result }
 {
@@ -109,11 +100,7 @@ fn in_cell_end_structure<S: TreeSink>(
 
 // End tags, by their names.
 #[tactic(auto, unfolding(h5_rules::specs::modes::InCell::in_cell_end, h5_tag_sets::specs::TagSets::cell_names, h5_rules::specs::modes::InCell::in_cell_closing_ends, h5_rules::specs::modes::InCell::in_cell_ignored_ends, h5_names::specs::KnownNames::name_text))]
-fn in_cell_end_tag<S: TreeSink>(
-    sink: &mut S,
-    state: &mut State<S::Handle>,
-    tag: Tag,
-) -> Turn<S::Handle>
+fn in_cell_end_tag<S: TreeSink>(sink: &mut S, state: &mut State<S::Handle>, tag: Tag) -> Turn
     requires sound { IsSound S.TreeSink sink.old state.old }
     requires ready { HasHtmlRoot (world_of S.TreeSink sink.old state.old) }
     ensures { TakesTag S.TreeSink (by_known in_cell_end (of_tag in_body)) tag sink.old state.old sink.new state.new result }
@@ -133,11 +120,7 @@ fn in_cell_end_tag<S: TreeSink>(
 
 // Start tags, by their names.
 #[tactic(auto, unfolding(h5_rules::specs::modes::InCell::in_cell_start, h5_rules::specs::modes::Shared::table_structure_names, h5_names::specs::KnownNames::name_text))]
-fn in_cell_start_tag<S: TreeSink>(
-    sink: &mut S,
-    state: &mut State<S::Handle>,
-    tag: Tag,
-) -> Turn<S::Handle>
+fn in_cell_start_tag<S: TreeSink>(sink: &mut S, state: &mut State<S::Handle>, tag: Tag) -> Turn
     requires sound { IsSound S.TreeSink sink.old state.old }
     requires ready { HasHtmlRoot (world_of S.TreeSink sink.old state.old) }
     ensures { TakesTag S.TreeSink (by_known in_cell_start (of_tag in_body)) tag sink.old state.old sink.new state.new result }
@@ -158,11 +141,7 @@ fn in_cell_start_tag<S: TreeSink>(
 
 /// A turn of a tag in a cell.
 #[tactic(auto, using(h5_rules::proofs::rows::KnownRuleLaws::in_cell_start_known, h5_rules::proofs::rows::KnownRuleLaws::in_cell_end_known), unfolding(h5_rules::specs::modes::InCell::in_cell_tag))]
-pub fn in_cell_tag<S: TreeSink>(
-    sink: &mut S,
-    state: &mut State<S::Handle>,
-    tag: Tag,
-) -> Turn<S::Handle>
+pub fn in_cell_tag<S: TreeSink>(sink: &mut S, state: &mut State<S::Handle>, tag: Tag) -> Turn
     requires sound { IsSound S.TreeSink sink.old state.old }
     requires ready { HasHtmlRoot (world_of S.TreeSink sink.old state.old) }
     ensures { TakesTag S.TreeSink in_cell_tag tag sink.old state.old sink.new state.new result }
@@ -174,11 +153,7 @@ pub fn in_cell_tag<S: TreeSink>(
 }
 
 /// A turn in a cell.
-pub fn step_in_cell<S: TreeSink>(
-    sink: &mut S,
-    state: &mut State<S::Handle>,
-    token: Token,
-) -> Turn<S::Handle>
+pub fn step_in_cell<S: TreeSink>(sink: &mut S, state: &mut State<S::Handle>, token: Token) -> Turn
     requires sound { IsSound S.TreeSink sink.old state.old }
     requires ready { HasHtmlRoot (world_of S.TreeSink sink.old state.old) }
     requires text { HasText (turn_text token) }

@@ -11,7 +11,9 @@ use h5_interface::TreeSink;
 use h5_names::{KnownName, LocalName};
 use h5_rules_body::step_in_body;
 use h5_rules_head::{ignored_tag, in_body_start_html, in_head_end_template, in_head_start_tag};
-use h5_state::{State, Turn, is_current_html, pop, set_mode, unexpected, unexpected_tag};
+use h5_state::{
+    State, Turn, is_current_html, pop, set_again, set_mode, unexpected, unexpected_tag,
+};
 use h5_token::{Tag, TagKind};
 use h5_types::{InsertionMode, ProcessResult, SplitStatus, Token};
 
@@ -20,7 +22,7 @@ fn in_column_group_start_col<S: TreeSink>(
     sink: &mut S,
     state: &mut State<S::Handle>,
     tag: Tag,
-) -> Turn<S::Handle>
+) -> Turn
     requires { IsSound S.TreeSink sink.old state.old }
     ensures { TakesTag S.TreeSink in_column_group_start_col tag sink.old state.old sink.new state.new result }
 {
@@ -35,7 +37,7 @@ fn in_column_group_end_colgroup<S: TreeSink>(
     sink: &mut S,
     state: &mut State<S::Handle>,
     tag: Tag,
-) -> Turn<S::Handle>
+) -> Turn
     requires { IsSound S.TreeSink sink.old state.old }
     ensures { TakesTag S.TreeSink in_column_group_end_colgroup tag sink.old state.old sink.new state.new result }
 {
@@ -55,13 +57,14 @@ fn in_column_group_else<S: TreeSink>(
     sink: &mut S,
     state: &mut State<S::Handle>,
     token: Token,
-) -> Turn<S::Handle>
+) -> Turn
     requires { IsSound S.TreeSink sink.old state.old }
     ensures { TakesToken S.TreeSink in_column_group_else token sink.old state.old sink.new state.new result }
 {
     if is_current_html(sink, state, &LocalName::from_known(KnownName::Colgroup)) {
         pop(sink, state);
-        Ok(ProcessResult::Reprocess(InsertionMode::InTable, token))
+        set_again(sink, state, token);
+        Ok(ProcessResult::Reprocess(InsertionMode::InTable))
     } else {
         unexpected(sink, state, &token);
         Ok(ProcessResult::Done)
@@ -74,7 +77,7 @@ fn in_column_group_start_tag<S: TreeSink>(
     sink: &mut S,
     state: &mut State<S::Handle>,
     tag: Tag,
-) -> Turn<S::Handle>
+) -> Turn
     requires sound { IsSound S.TreeSink sink.old state.old }
     requires ready { HasHtmlRoot (world_of S.TreeSink sink.old state.old) }
     ensures { TakesTag S.TreeSink (by_known in_column_group_start (of_tag in_column_group_else)) tag sink.old state.old sink.new state.new result }
@@ -93,7 +96,7 @@ fn in_column_group_end_tag<S: TreeSink>(
     sink: &mut S,
     state: &mut State<S::Handle>,
     tag: Tag,
-) -> Turn<S::Handle>
+) -> Turn
     requires { IsSound S.TreeSink sink.old state.old }
     ensures { TakesTag S.TreeSink (by_known in_column_group_end (of_tag in_column_group_else)) tag sink.old state.old sink.new state.new result }
 {
@@ -106,11 +109,7 @@ fn in_column_group_end_tag<S: TreeSink>(
 }
 
 #[tactic(auto, using(h5_rules::proofs::rows::KnownRuleLaws::in_column_group_start_known, h5_rules::proofs::rows::KnownRuleLaws::in_column_group_end_known), unfolding(h5_rules::specs::modes::InColumnGroup::in_column_group_tag))]
-fn in_column_group_tag<S: TreeSink>(
-    sink: &mut S,
-    state: &mut State<S::Handle>,
-    tag: Tag,
-) -> Turn<S::Handle>
+fn in_column_group_tag<S: TreeSink>(sink: &mut S, state: &mut State<S::Handle>, tag: Tag) -> Turn
     requires sound { IsSound S.TreeSink sink.old state.old }
     requires ready { HasHtmlRoot (world_of S.TreeSink sink.old state.old) }
     ensures { TakesTag S.TreeSink in_column_group_tag tag sink.old state.old sink.new state.new result }
@@ -126,7 +125,7 @@ pub fn step_in_column_group<S: TreeSink>(
     sink: &mut S,
     state: &mut State<S::Handle>,
     token: Token,
-) -> Turn<S::Handle>
+) -> Turn
     requires sound { IsSound S.TreeSink sink.old state.old }
     requires ready { HasHtmlRoot (world_of S.TreeSink sink.old state.old) }
     requires text { HasText (turn_text token) }

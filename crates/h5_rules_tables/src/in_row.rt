@@ -14,16 +14,12 @@ use h5_insertion::insert_element;
 use h5_interface::TreeSink;
 use h5_names::KnownName;
 use h5_rules_head::ignored_tag;
-use h5_state::{Known, Local, State, Turn, pop, set_mode, unexpected_tag};
+use h5_state::{Known, Local, State, Turn, pop, set_again, set_mode, unexpected_tag};
 use h5_token::{Tag, TagKind};
 use h5_types::{InsertionMode, ProcessResult, Token};
 
 // A start tag `td` or `th`.
-fn in_row_start_cell<S: TreeSink>(
-    sink: &mut S,
-    state: &mut State<S::Handle>,
-    tag: Tag,
-) -> Turn<S::Handle>
+fn in_row_start_cell<S: TreeSink>(sink: &mut S, state: &mut State<S::Handle>, tag: Tag) -> Turn
     requires { IsSound S.TreeSink sink.old state.old }
     ensures { TakesTag S.TreeSink in_row_start_cell tag sink.old state.old sink.new state.new result }
 {
@@ -37,11 +33,7 @@ fn in_row_start_cell<S: TreeSink>(
 
 // An end tag `tr`.
 #[tactic(auto, unfolding(h5_rules::specs::modes::InRow::close_the_row))]
-fn in_row_end_row<S: TreeSink>(
-    sink: &mut S,
-    state: &mut State<S::Handle>,
-    tag: Tag,
-) -> Turn<S::Handle>
+fn in_row_end_row<S: TreeSink>(sink: &mut S, state: &mut State<S::Handle>, tag: Tag) -> Turn
     requires sound { IsSound S.TreeSink sink.old state.old }
     requires ready { HasHtmlRoot (world_of S.TreeSink sink.old state.old) }
     ensures { TakesTag S.TreeSink in_row_end_row tag sink.old state.old sink.new state.new result }
@@ -59,11 +51,7 @@ fn in_row_end_row<S: TreeSink>(
 
 // What closes the row goes by the row group then.
 #[tactic(auto, unfolding(h5_rules::specs::modes::InRow::close_the_row))]
-fn in_row_close<S: TreeSink>(
-    sink: &mut S,
-    state: &mut State<S::Handle>,
-    tag: Tag,
-) -> Turn<S::Handle>
+fn in_row_close<S: TreeSink>(sink: &mut S, state: &mut State<S::Handle>, tag: Tag) -> Turn
     requires sound { IsSound S.TreeSink sink.old state.old }
     requires ready { HasHtmlRoot (world_of S.TreeSink sink.old state.old) }
     ensures { TakesTag S.TreeSink in_row_close tag sink.old state.old sink.new state.new result }
@@ -71,7 +59,8 @@ fn in_row_close<S: TreeSink>(
     if has_in_table_scope(sink, state, &Known(KnownName::Tr)) {
         clear_to_table_row_context(sink, state);
         pop(sink, state);
-        Ok(ProcessResult::Reprocess(InsertionMode::InTableBody, Token::Tag(tag)))
+        set_again(sink, state, Token::Tag(tag));
+        Ok(ProcessResult::Reprocess(InsertionMode::InTableBody))
     } else {
         unexpected_tag(sink, state, &tag);
         Ok(ProcessResult::Done)
@@ -80,11 +69,7 @@ fn in_row_close<S: TreeSink>(
 
 // An end tag `tbody`, `tfoot` or `thead`: it closes the row where table scope has what it names.
 #[tactic(auto, unfolding(h5_rules::specs::modes::InRow::in_row_end_section))]
-fn in_row_end_section<S: TreeSink>(
-    sink: &mut S,
-    state: &mut State<S::Handle>,
-    tag: Tag,
-) -> Turn<S::Handle>
+fn in_row_end_section<S: TreeSink>(sink: &mut S, state: &mut State<S::Handle>, tag: Tag) -> Turn
     requires sound { IsSound S.TreeSink sink.old state.old }
     requires ready { HasHtmlRoot (world_of S.TreeSink sink.old state.old) }
     ensures { TakesTag S.TreeSink in_row_end_section tag sink.old state.old sink.new state.new result }
@@ -99,11 +84,7 @@ fn in_row_end_section<S: TreeSink>(
 
 // Start tags, by their names.
 #[tactic(auto, unfolding(h5_rules::specs::modes::InRow::in_row_start, h5_tag_sets::specs::TagSets::cell_names, h5_rules::specs::modes::InRow::row_closing_names, h5_names::specs::KnownNames::name_text))]
-fn in_row_start_tag<S: TreeSink>(
-    sink: &mut S,
-    state: &mut State<S::Handle>,
-    tag: Tag,
-) -> Turn<S::Handle>
+fn in_row_start_tag<S: TreeSink>(sink: &mut S, state: &mut State<S::Handle>, tag: Tag) -> Turn
     requires sound { IsSound S.TreeSink sink.old state.old }
     requires ready { HasHtmlRoot (world_of S.TreeSink sink.old state.old) }
     ensures { TakesTag S.TreeSink (by_known in_row_start (of_tag in_table)) tag sink.old state.old sink.new state.new result }
@@ -123,11 +104,7 @@ fn in_row_start_tag<S: TreeSink>(
 
 // End tags, by their names.
 #[tactic(auto, unfolding(h5_rules::specs::modes::InRow::in_row_end, h5_rules::specs::modes::Tables::table_section_names, h5_rules::specs::modes::InRow::in_row_ignored_ends, h5_names::specs::KnownNames::name_text))]
-fn in_row_end_tag<S: TreeSink>(
-    sink: &mut S,
-    state: &mut State<S::Handle>,
-    tag: Tag,
-) -> Turn<S::Handle>
+fn in_row_end_tag<S: TreeSink>(sink: &mut S, state: &mut State<S::Handle>, tag: Tag) -> Turn
     requires sound { IsSound S.TreeSink sink.old state.old }
     requires ready { HasHtmlRoot (world_of S.TreeSink sink.old state.old) }
     ensures { TakesTag S.TreeSink (by_known in_row_end (of_tag in_table)) tag sink.old state.old sink.new state.new result }
@@ -151,11 +128,7 @@ fn in_row_end_tag<S: TreeSink>(
 
 /// A turn of a tag in a row.
 #[tactic(auto, using(h5_rules::proofs::rows::KnownRuleLaws::in_row_start_known, h5_rules::proofs::rows::KnownRuleLaws::in_row_end_known), unfolding(h5_rules::specs::modes::InRow::in_row_tag))]
-pub fn in_row_tag<S: TreeSink>(
-    sink: &mut S,
-    state: &mut State<S::Handle>,
-    tag: Tag,
-) -> Turn<S::Handle>
+pub fn in_row_tag<S: TreeSink>(sink: &mut S, state: &mut State<S::Handle>, tag: Tag) -> Turn
     requires sound { IsSound S.TreeSink sink.old state.old }
     requires ready { HasHtmlRoot (world_of S.TreeSink sink.old state.old) }
     ensures { TakesTag S.TreeSink in_row_tag tag sink.old state.old sink.new state.new result }
@@ -167,11 +140,7 @@ pub fn in_row_tag<S: TreeSink>(
 }
 
 /// A turn in a row.
-pub fn step_in_row<S: TreeSink>(
-    sink: &mut S,
-    state: &mut State<S::Handle>,
-    token: Token,
-) -> Turn<S::Handle>
+pub fn step_in_row<S: TreeSink>(sink: &mut S, state: &mut State<S::Handle>, token: Token) -> Turn
     requires sound { IsSound S.TreeSink sink.old state.old }
     requires ready { HasHtmlRoot (world_of S.TreeSink sink.old state.old) }
     requires text { HasText (turn_text token) }

@@ -22,8 +22,8 @@ use h5_rules_body::step_in_body;
 use h5_rules_forms::is_type_hidden;
 use h5_rules_head::{ignored_tag, in_head_end_template, in_head_start_tag};
 use h5_state::{
-    Local, State, Turn, has_form, has_open_template, pop_until_named, save_mode, set_mode,
-    unexpected_tag,
+    Local, State, Turn, has_form, has_open_template, pop_until_named, save_mode, set_again,
+    set_mode, unexpected_tag,
 };
 use h5_token::{Tag, TagKind};
 use h5_types::{InsertionMode, ProcessResult, Token};
@@ -44,26 +44,23 @@ fn process_chars_in_table<S: TreeSink>(
     sink: &mut S,
     state: &mut State<S::Handle>,
     token: Token,
-) -> Turn<S::Handle>
+) -> Turn
     requires sound { IsSound S.TreeSink sink.old state.old }
     requires ready { HasHtmlRoot (world_of S.TreeSink sink.old state.old) }
     requires text { HasText (turn_text token) }
     ensures { TakesToken S.TreeSink in_table_text_or_null token sink.old state.old sink.new state.new result }
 {
     if is_current_table_outer(sink, state) {
-        let mode = begin_table_text(sink, state);
-        Ok(ProcessResult::Reprocess(mode, token))
+        let text_mode = begin_table_text(sink, state);
+        set_again(sink, state, token);
+        Ok(ProcessResult::Reprocess(text_mode))
     } else {
         foster_parent_in_body(sink, state, token)
     }
 }
 
 // A start tag `caption`.
-fn in_table_start_caption<S: TreeSink>(
-    sink: &mut S,
-    state: &mut State<S::Handle>,
-    tag: Tag,
-) -> Turn<S::Handle>
+fn in_table_start_caption<S: TreeSink>(sink: &mut S, state: &mut State<S::Handle>, tag: Tag) -> Turn
     requires { IsSound S.TreeSink sink.old state.old }
     ensures { TakesTag S.TreeSink in_table_start_caption tag sink.old state.old sink.new state.new result }
 {
@@ -80,7 +77,7 @@ fn in_table_start_colgroup<S: TreeSink>(
     sink: &mut S,
     state: &mut State<S::Handle>,
     tag: Tag,
-) -> Turn<S::Handle>
+) -> Turn
     requires { IsSound S.TreeSink sink.old state.old }
     ensures { TakesTag S.TreeSink in_table_start_colgroup tag sink.old state.old sink.new state.new result }
 {
@@ -92,25 +89,18 @@ fn in_table_start_colgroup<S: TreeSink>(
 }
 
 // A start tag `col`: a column group is made for it.
-fn in_table_start_col<S: TreeSink>(
-    sink: &mut S,
-    state: &mut State<S::Handle>,
-    tag: Tag,
-) -> Turn<S::Handle>
+fn in_table_start_col<S: TreeSink>(sink: &mut S, state: &mut State<S::Handle>, tag: Tag) -> Turn
     requires { IsSound S.TreeSink sink.old state.old }
     ensures { TakesTag S.TreeSink in_table_start_col tag sink.old state.old sink.new state.new result }
 {
     clear_to_table_context(sink, state);
     insert_phantom(sink, state, KnownName::Colgroup)?;
-    Ok(ProcessResult::Reprocess(InsertionMode::InColumnGroup, Token::Tag(tag)))
+    set_again(sink, state, Token::Tag(tag));
+    Ok(ProcessResult::Reprocess(InsertionMode::InColumnGroup))
 }
 
 // A start tag `tbody`, `tfoot` or `thead`.
-fn in_table_start_section<S: TreeSink>(
-    sink: &mut S,
-    state: &mut State<S::Handle>,
-    tag: Tag,
-) -> Turn<S::Handle>
+fn in_table_start_section<S: TreeSink>(sink: &mut S, state: &mut State<S::Handle>, tag: Tag) -> Turn
     requires { IsSound S.TreeSink sink.old state.old }
     ensures { TakesTag S.TreeSink in_table_start_section tag sink.old state.old sink.new state.new result }
 {
@@ -126,22 +116,19 @@ fn in_table_start_row_part<S: TreeSink>(
     sink: &mut S,
     state: &mut State<S::Handle>,
     tag: Tag,
-) -> Turn<S::Handle>
+) -> Turn
     requires { IsSound S.TreeSink sink.old state.old }
     ensures { TakesTag S.TreeSink in_table_start_row_part tag sink.old state.old sink.new state.new result }
 {
     clear_to_table_context(sink, state);
     insert_phantom(sink, state, KnownName::Tbody)?;
-    Ok(ProcessResult::Reprocess(InsertionMode::InTableBody, Token::Tag(tag)))
+    set_again(sink, state, Token::Tag(tag));
+    Ok(ProcessResult::Reprocess(InsertionMode::InTableBody))
 }
 
 // A start tag `table`: the table ends, and the mode is that of what it stands in.
 #[tactic(auto, unfolding(h5_rules::specs::modes::InTable::in_table_start_table))]
-fn in_table_start_table<S: TreeSink>(
-    sink: &mut S,
-    state: &mut State<S::Handle>,
-    tag: Tag,
-) -> Turn<S::Handle>
+fn in_table_start_table<S: TreeSink>(sink: &mut S, state: &mut State<S::Handle>, tag: Tag) -> Turn
     requires { IsSound S.TreeSink sink.old state.old }
     ensures { TakesTag S.TreeSink in_table_start_table tag sink.old state.old sink.new state.new result }
 {
@@ -151,7 +138,8 @@ fn in_table_start_table<S: TreeSink>(
         Some(place) => {
             pop_until_named(sink, state, &table, place);
             let mode = reset_insertion_mode(sink, state);
-            Ok(ProcessResult::Reprocess(mode, Token::Tag(tag)))
+            set_again(sink, state, Token::Tag(tag));
+            Ok(ProcessResult::Reprocess(mode))
         }
         None => Ok(ProcessResult::Done),
     }
@@ -159,11 +147,7 @@ fn in_table_start_table<S: TreeSink>(
 
 // A start tag `input`: one that isn't seen stays in the table.
 #[tactic(auto, unfolding(h5_rules::specs::modes::InTable::in_table_start_input))]
-fn in_table_start_input<S: TreeSink>(
-    sink: &mut S,
-    state: &mut State<S::Handle>,
-    tag: Tag,
-) -> Turn<S::Handle>
+fn in_table_start_input<S: TreeSink>(sink: &mut S, state: &mut State<S::Handle>, tag: Tag) -> Turn
     requires sound { IsSound S.TreeSink sink.old state.old }
     requires ready { HasHtmlRoot (world_of S.TreeSink sink.old state.old) }
     ensures { TakesTag S.TreeSink in_table_start_input tag sink.old state.old sink.new state.new result }
@@ -180,11 +164,7 @@ fn in_table_start_input<S: TreeSink>(
 
 // A start tag `form`: the form element, without content.
 #[tactic(auto, unfolding(h5_rules::specs::modes::InTable::in_table_start_form))]
-fn in_table_start_form<S: TreeSink>(
-    sink: &mut S,
-    state: &mut State<S::Handle>,
-    tag: Tag,
-) -> Turn<S::Handle>
+fn in_table_start_form<S: TreeSink>(sink: &mut S, state: &mut State<S::Handle>, tag: Tag) -> Turn
     requires { IsSound S.TreeSink sink.old state.old }
     ensures { TakesTag S.TreeSink in_table_start_form tag sink.old state.old sink.new state.new result }
 {
@@ -199,11 +179,7 @@ fn in_table_start_form<S: TreeSink>(
 
 // An end tag `table`.
 #[tactic(auto, unfolding(h5_rules::specs::modes::InTable::in_table_end_table))]
-fn in_table_end_table<S: TreeSink>(
-    sink: &mut S,
-    state: &mut State<S::Handle>,
-    tag: Tag,
-) -> Turn<S::Handle>
+fn in_table_end_table<S: TreeSink>(sink: &mut S, state: &mut State<S::Handle>, tag: Tag) -> Turn
     requires { IsSound S.TreeSink sink.old state.old }
     ensures { TakesTag S.TreeSink in_table_end_table tag sink.old state.old sink.new state.new result }
 {
@@ -224,11 +200,7 @@ fn in_table_end_table<S: TreeSink>(
 
 // Start tags, by their names.
 #[tactic(auto, unfolding(h5_rules::specs::modes::InTable::in_table_start, h5_rules::specs::modes::Tables::table_section_names, h5_rules::specs::modes::InTable::row_part_names, h5_rules::specs::modes::InTable::table_text_names, h5_names::specs::KnownNames::name_text))]
-fn in_table_start_tag<S: TreeSink>(
-    sink: &mut S,
-    state: &mut State<S::Handle>,
-    tag: Tag,
-) -> Turn<S::Handle>
+fn in_table_start_tag<S: TreeSink>(sink: &mut S, state: &mut State<S::Handle>, tag: Tag) -> Turn
     requires sound { IsSound S.TreeSink sink.old state.old }
     requires ready { HasHtmlRoot (world_of S.TreeSink sink.old state.old) }
     ensures { TakesTag S.TreeSink (by_known in_table_start (of_tag in_table_else)) tag sink.old state.old sink.new state.new result }
@@ -253,11 +225,7 @@ fn in_table_start_tag<S: TreeSink>(
 
 // End tags, by their names.
 #[tactic(auto, unfolding(h5_rules::specs::modes::InTable::in_table_end, h5_rules::specs::modes::InTable::in_table_ignored_ends, h5_names::specs::KnownNames::name_text))]
-fn in_table_end_tag<S: TreeSink>(
-    sink: &mut S,
-    state: &mut State<S::Handle>,
-    tag: Tag,
-) -> Turn<S::Handle>
+fn in_table_end_tag<S: TreeSink>(sink: &mut S, state: &mut State<S::Handle>, tag: Tag) -> Turn
     requires sound { IsSound S.TreeSink sink.old state.old }
     requires ready { HasHtmlRoot (world_of S.TreeSink sink.old state.old) }
     ensures { TakesTag S.TreeSink (by_known in_table_end (of_tag in_table_else)) tag sink.old state.old sink.new state.new result }
@@ -282,11 +250,7 @@ fn in_table_end_tag<S: TreeSink>(
 
 /// A turn of a tag in a table.
 #[tactic(auto, using(h5_rules::proofs::rows::KnownRuleLaws::in_table_start_known, h5_rules::proofs::rows::KnownRuleLaws::in_table_end_known), unfolding(h5_rules::specs::modes::InTable::in_table_tag))]
-pub fn in_table_tag<S: TreeSink>(
-    sink: &mut S,
-    state: &mut State<S::Handle>,
-    tag: Tag,
-) -> Turn<S::Handle>
+pub fn in_table_tag<S: TreeSink>(sink: &mut S, state: &mut State<S::Handle>, tag: Tag) -> Turn
     requires sound { IsSound S.TreeSink sink.old state.old }
     requires ready { HasHtmlRoot (world_of S.TreeSink sink.old state.old) }
     ensures { TakesTag S.TreeSink in_table_tag tag sink.old state.old sink.new state.new result }
@@ -298,11 +262,7 @@ pub fn in_table_tag<S: TreeSink>(
 }
 
 /// A turn in a table.
-pub fn step_in_table<S: TreeSink>(
-    sink: &mut S,
-    state: &mut State<S::Handle>,
-    token: Token,
-) -> Turn<S::Handle>
+pub fn step_in_table<S: TreeSink>(sink: &mut S, state: &mut State<S::Handle>, token: Token) -> Turn
     requires sound { IsSound S.TreeSink sink.old state.old }
     requires ready { HasHtmlRoot (world_of S.TreeSink sink.old state.old) }
     requires text { HasText (turn_text token) }

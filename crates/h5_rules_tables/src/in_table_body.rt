@@ -14,7 +14,8 @@ use h5_interface::TreeSink;
 use h5_names::{KnownName, QualName};
 use h5_rules_head::ignored_tag;
 use h5_state::{
-    Local, NameTest, NewestTest, State, Turn, newest_among, pop, set_mode, unexpected_tag,
+    Local, NameTest, NewestTest, State, Turn, newest_among, pop, set_again, set_mode,
+    unexpected_tag,
 };
 use h5_tag_sets::is_html_known;
 use h5_token::{Tag, TagKind};
@@ -25,7 +26,7 @@ fn in_table_body_start_row<S: TreeSink>(
     sink: &mut S,
     state: &mut State<S::Handle>,
     tag: Tag,
-) -> Turn<S::Handle>
+) -> Turn
     requires { IsSound S.TreeSink sink.old state.old }
     ensures { TakesTag S.TreeSink in_table_body_start_row tag sink.old state.old sink.new state.new result }
 {
@@ -41,14 +42,15 @@ fn in_table_body_start_cell<S: TreeSink>(
     sink: &mut S,
     state: &mut State<S::Handle>,
     tag: Tag,
-) -> Turn<S::Handle>
+) -> Turn
     requires { IsSound S.TreeSink sink.old state.old }
     ensures { TakesTag S.TreeSink in_table_body_start_cell tag sink.old state.old sink.new state.new result }
 {
     unexpected_tag(sink, state, &tag);
     clear_to_table_body_context(sink, state);
     insert_phantom(sink, state, KnownName::Tr)?;
-    Ok(ProcessResult::Reprocess(InsertionMode::InRow, Token::Tag(tag)))
+    set_again(sink, state, Token::Tag(tag));
+    Ok(ProcessResult::Reprocess(InsertionMode::InRow))
 }
 
 // An end tag `tbody`, `tfoot` or `thead`.
@@ -57,7 +59,7 @@ fn in_table_body_end_section<S: TreeSink>(
     sink: &mut S,
     state: &mut State<S::Handle>,
     tag: Tag,
-) -> Turn<S::Handle>
+) -> Turn
     requires sound { IsSound S.TreeSink sink.old state.old }
     requires ready { HasHtmlRoot (world_of S.TreeSink sink.old state.old) }
     ensures { TakesTag S.TreeSink in_table_body_end_section tag sink.old state.old sink.new state.new result }
@@ -101,11 +103,7 @@ impl NewestTest for TableSection {
 
 // What closes the row group goes by the table then.
 #[tactic(auto, unfolding(h5_rules::specs::modes::InTableBody::in_table_body_close))]
-fn in_table_body_close<S: TreeSink>(
-    sink: &mut S,
-    state: &mut State<S::Handle>,
-    tag: Tag,
-) -> Turn<S::Handle>
+fn in_table_body_close<S: TreeSink>(sink: &mut S, state: &mut State<S::Handle>, tag: Tag) -> Turn
     requires sound { IsSound S.TreeSink sink.old state.old }
     requires ready { HasHtmlRoot (world_of S.TreeSink sink.old state.old) }
     ensures { TakesTag S.TreeSink in_table_body_close tag sink.old state.old sink.new state.new result }
@@ -113,7 +111,8 @@ fn in_table_body_close<S: TreeSink>(
     if has_in_table_scope(sink, state, &TableSection) {
         clear_to_table_body_context(sink, state);
         pop(sink, state);
-        Ok(ProcessResult::Reprocess(InsertionMode::InTable, Token::Tag(tag)))
+        set_again(sink, state, Token::Tag(tag));
+        Ok(ProcessResult::Reprocess(InsertionMode::InTable))
     } else {
         unexpected_tag(sink, state, &tag);
         Ok(ProcessResult::Done)
@@ -126,7 +125,7 @@ fn in_table_body_start_tag<S: TreeSink>(
     sink: &mut S,
     state: &mut State<S::Handle>,
     tag: Tag,
-) -> Turn<S::Handle>
+) -> Turn
     requires sound { IsSound S.TreeSink sink.old state.old }
     requires ready { HasHtmlRoot (world_of S.TreeSink sink.old state.old) }
     ensures { TakesTag S.TreeSink (by_known in_table_body_start (of_tag in_table)) tag sink.old state.old sink.new state.new result }
@@ -146,11 +145,7 @@ fn in_table_body_start_tag<S: TreeSink>(
 
 // End tags, by their names.
 #[tactic(auto, unfolding(h5_rules::specs::modes::InTableBody::in_table_body_end, h5_rules::specs::modes::Tables::table_section_names, h5_rules::specs::modes::InTableBody::in_table_body_ignored_ends, h5_names::specs::KnownNames::name_text))]
-fn in_table_body_end_tag<S: TreeSink>(
-    sink: &mut S,
-    state: &mut State<S::Handle>,
-    tag: Tag,
-) -> Turn<S::Handle>
+fn in_table_body_end_tag<S: TreeSink>(sink: &mut S, state: &mut State<S::Handle>, tag: Tag) -> Turn
     requires sound { IsSound S.TreeSink sink.old state.old }
     requires ready { HasHtmlRoot (world_of S.TreeSink sink.old state.old) }
     ensures { TakesTag S.TreeSink (by_known in_table_body_end (of_tag in_table)) tag sink.old state.old sink.new state.new result }
@@ -174,11 +169,7 @@ fn in_table_body_end_tag<S: TreeSink>(
 
 /// A turn of a tag in a table body.
 #[tactic(auto, using(h5_rules::proofs::rows::KnownRuleLaws::in_table_body_start_known, h5_rules::proofs::rows::KnownRuleLaws::in_table_body_end_known), unfolding(h5_rules::specs::modes::InTableBody::in_table_body_tag))]
-pub fn in_table_body_tag<S: TreeSink>(
-    sink: &mut S,
-    state: &mut State<S::Handle>,
-    tag: Tag,
-) -> Turn<S::Handle>
+pub fn in_table_body_tag<S: TreeSink>(sink: &mut S, state: &mut State<S::Handle>, tag: Tag) -> Turn
     requires sound { IsSound S.TreeSink sink.old state.old }
     requires ready { HasHtmlRoot (world_of S.TreeSink sink.old state.old) }
     ensures { TakesTag S.TreeSink in_table_body_tag tag sink.old state.old sink.new state.new result }
@@ -194,7 +185,7 @@ pub fn step_in_table_body<S: TreeSink>(
     sink: &mut S,
     state: &mut State<S::Handle>,
     token: Token,
-) -> Turn<S::Handle>
+) -> Turn
     requires sound { IsSound S.TreeSink sink.old state.old }
     requires ready { HasHtmlRoot (world_of S.TreeSink sink.old state.old) }
     requires text { HasText (turn_text token) }

@@ -1,8 +1,8 @@
 //! The mode "in table text" (HTML standard, section 13.2.6.4.10).
 ghost use Rattle.std.specs.Prelude.{◌≡◌, ◌≢◌, [], IfOk, string_bytes};
+ghost use Rattle.h5_types.specs.TurnResult.{Reprocess};
 ghost use Rattle.h5_types.specs.TurnText.{HasText, TextTurn, turn_text};
 ghost use Rattle.h5_types.specs.declared.modes.SplitStatus.TheVariants.{NotSplit};
-ghost use Rattle.h5_types.specs.declared.turns.ProcessResult.TheVariants.{Reprocess};
 ghost use Rattle.h5_types.specs.declared.turns.Token.{Token};
 ghost use Rattle.h5_rules.specs.modes.InTableText.{in_table_text, in_table_text_else, pending_text};
 ghost use Rattle.h5_rules.specs.Rows.{AppendPendingText, Follows};
@@ -13,7 +13,7 @@ ghost use Rattle.h5_state.specs.Turn.{TakesToken, FollowsRule};
 use super::foster::foster_parent_in_body;
 use h5_insertion::{append_pending_text, append_text, take_pending_text};
 use h5_interface::TreeSink;
-use h5_state::{PendingText, State, Turn, saved_mode, unexpected};
+use h5_state::{PendingText, State, Turn, saved_mode, set_again, unexpected};
 use h5_types::{InsertionMode, ProcessResult, SplitStatus, Token};
 use std::alloc::AllocError;
 
@@ -23,7 +23,7 @@ fn insert_pending_text<S: TreeSink>(
     sink: &mut S,
     state: &mut State<S::Handle>,
     pending: PendingText,
-) -> Turn<S::Handle>
+) -> Turn
     requires sound { IsSound S.TreeSink sink.old state.old }
     requires ready { HasHtmlRoot (world_of S.TreeSink sink.old state.old) }
     ensures { FollowsRule S.TreeSink (pending_text pending) (TextTurn NotSplit pending) sink.old state.old sink.new state.new result }
@@ -59,17 +59,14 @@ pub fn leave_table_text<S: TreeSink>(
 }
 
 // Anything else: the text goes first, and the token by the mode that was left.
-fn in_table_text_else<S: TreeSink>(
-    sink: &mut S,
-    state: &mut State<S::Handle>,
-    token: Token,
-) -> Turn<S::Handle>
+fn in_table_text_else<S: TreeSink>(sink: &mut S, state: &mut State<S::Handle>, token: Token) -> Turn
     requires sound { IsSound S.TreeSink sink.old state.old }
     requires ready { HasHtmlRoot (world_of S.TreeSink sink.old state.old) }
     ensures { TakesToken S.TreeSink in_table_text_else token sink.old state.old sink.new state.new result }
 {
     let mode = leave_table_text(sink, state)?;
-    Ok(ProcessResult::Reprocess(mode, token))
+    set_again(sink, state, token);
+    Ok(ProcessResult::Reprocess(mode))
 }
 
 /// A text of the table is kept back, behind those that are. An `AllocError` where memory is refused; what was kept stays then.
@@ -89,7 +86,7 @@ pub fn step_in_table_text<S: TreeSink>(
     sink: &mut S,
     state: &mut State<S::Handle>,
     token: Token,
-) -> Turn<S::Handle>
+) -> Turn
     requires sound { IsSound S.TreeSink sink.old state.old }
     requires ready { HasHtmlRoot (world_of S.TreeSink sink.old state.old) }
     requires text { HasText (turn_text token) }

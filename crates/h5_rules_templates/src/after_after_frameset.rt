@@ -18,7 +18,7 @@ fn after_after_frameset_tag<S: TreeSink>(
     sink: &mut S,
     state: &mut State<S::Handle>,
     tag: Tag,
-) -> Turn<S::Handle>
+) -> Turn
     requires { IsOpen S.TreeSink sink.old state.old }
     ensures { TakesTag S.TreeSink after_after_frameset_tag tag sink.old state.old sink.new state.new result }
 {
@@ -33,7 +33,7 @@ pub fn step_after_after_frameset<S: TreeSink>(
     sink: &mut S,
     state: &mut State<S::Handle>,
     token: Token,
-) -> Turn<S::Handle>
+) -> Turn
     requires open { IsOpen S.TreeSink sink.old state.old }
     requires text { HasText (turn_text token) }
     ensures { TakesToken S.TreeSink after_after_frameset token sink.old state.old sink.new state.new result }

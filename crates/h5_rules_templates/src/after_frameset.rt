@@ -19,7 +19,7 @@ pub(crate) fn after_frameset_start_tag<S: TreeSink>(
     sink: &mut S,
     state: &mut State<S::Handle>,
     tag: Tag,
-) -> Turn<S::Handle>
+) -> Turn
     requires { IsOpen S.TreeSink sink.old state.old }
     ensures { TakesTag S.TreeSink (by_known after_frameset_start ignored_tag) tag sink.old state.old sink.new state.new result }
 {
@@ -35,7 +35,7 @@ fn after_frameset_end_html<S: TreeSink>(
     sink: &mut S,
     state: &mut State<S::Handle>,
     tag: Tag,
-) -> Turn<S::Handle>
+) -> Turn
     requires { IsSound S.TreeSink sink.old state.old }
     ensures { TakesTag S.TreeSink after_frameset_end_html tag sink.old state.old sink.new state.new result }
 {
@@ -46,11 +46,7 @@ fn after_frameset_end_html<S: TreeSink>(
 
 // End tags, by their names.
 #[tactic(auto, unfolding(h5_rules::specs::modes::AfterFrameset::after_frameset_end, h5_names::specs::KnownNames::name_text))]
-fn after_frameset_end_tag<S: TreeSink>(
-    sink: &mut S,
-    state: &mut State<S::Handle>,
-    tag: Tag,
-) -> Turn<S::Handle>
+fn after_frameset_end_tag<S: TreeSink>(sink: &mut S, state: &mut State<S::Handle>, tag: Tag) -> Turn
     requires { IsOpen S.TreeSink sink.old state.old }
     ensures { TakesTag S.TreeSink (by_known after_frameset_end ignored_tag) tag sink.old state.old sink.new state.new result }
 {
@@ -61,11 +57,7 @@ fn after_frameset_end_tag<S: TreeSink>(
 }
 
 #[tactic(auto, using(h5_rules::proofs::rows::KnownRuleLaws::after_frameset_start_known, h5_rules::proofs::rows::KnownRuleLaws::after_frameset_end_known), unfolding(h5_rules::specs::modes::AfterFrameset::after_frameset_tag))]
-fn after_frameset_tag<S: TreeSink>(
-    sink: &mut S,
-    state: &mut State<S::Handle>,
-    tag: Tag,
-) -> Turn<S::Handle>
+fn after_frameset_tag<S: TreeSink>(sink: &mut S, state: &mut State<S::Handle>, tag: Tag) -> Turn
     requires { IsOpen S.TreeSink sink.old state.old }
     ensures { TakesTag S.TreeSink after_frameset_tag tag sink.old state.old sink.new state.new result }
 {
@@ -80,7 +72,7 @@ pub fn step_after_frameset<S: TreeSink>(
     sink: &mut S,
     state: &mut State<S::Handle>,
     token: Token,
-) -> Turn<S::Handle>
+) -> Turn
     requires open { IsOpen S.TreeSink sink.old state.old }
     requires text { HasText (turn_text token) }
     ensures { TakesToken S.TreeSink after_frameset token sink.old state.old sink.new state.new result }

@@ -19,7 +19,7 @@ fn in_frameset_start_frameset<S: TreeSink>(
     sink: &mut S,
     state: &mut State<S::Handle>,
     tag: Tag,
-) -> Turn<S::Handle>
+) -> Turn
     requires { IsSound S.TreeSink sink.old state.old }
     ensures { TakesTag S.TreeSink in_frameset_start_frameset tag sink.old state.old sink.new state.new result }
 {
@@ -33,7 +33,7 @@ fn in_frameset_start_frame<S: TreeSink>(
     sink: &mut S,
     state: &mut State<S::Handle>,
     tag: Tag,
-) -> Turn<S::Handle>
+) -> Turn
     requires { IsSound S.TreeSink sink.old state.old }
     ensures { TakesTag S.TreeSink in_frameset_start_frame tag sink.old state.old sink.new state.new result }
 {
@@ -48,7 +48,7 @@ fn in_frameset_end_frameset<S: TreeSink>(
     sink: &mut S,
     state: &mut State<S::Handle>,
     tag: Tag,
-) -> Turn<S::Handle>
+) -> Turn
     requires { IsOpen S.TreeSink sink.old state.old }
     ensures { TakesTag S.TreeSink in_frameset_end_frameset tag sink.old state.old sink.new state.new result }
 {
@@ -66,11 +66,7 @@ fn in_frameset_end_frameset<S: TreeSink>(
 
 // Start tags, by their names.
 #[tactic(auto, unfolding(h5_rules::specs::modes::InFrameset::in_frameset_start, h5_names::specs::KnownNames::name_text))]
-fn in_frameset_start_tag<S: TreeSink>(
-    sink: &mut S,
-    state: &mut State<S::Handle>,
-    tag: Tag,
-) -> Turn<S::Handle>
+fn in_frameset_start_tag<S: TreeSink>(sink: &mut S, state: &mut State<S::Handle>, tag: Tag) -> Turn
     requires { IsOpen S.TreeSink sink.old state.old }
     ensures { TakesTag S.TreeSink (by_known in_frameset_start ignored_tag) tag sink.old state.old sink.new state.new result }
 {
@@ -85,11 +81,7 @@ fn in_frameset_start_tag<S: TreeSink>(
 
 // End tags, by their names.
 #[tactic(auto, unfolding(h5_rules::specs::modes::InFrameset::in_frameset_end, h5_names::specs::KnownNames::name_text))]
-fn in_frameset_end_tag<S: TreeSink>(
-    sink: &mut S,
-    state: &mut State<S::Handle>,
-    tag: Tag,
-) -> Turn<S::Handle>
+fn in_frameset_end_tag<S: TreeSink>(sink: &mut S, state: &mut State<S::Handle>, tag: Tag) -> Turn
     requires { IsOpen S.TreeSink sink.old state.old }
     ensures { TakesTag S.TreeSink (by_known in_frameset_end ignored_tag) tag sink.old state.old sink.new state.new result }
 {
@@ -100,11 +92,7 @@ fn in_frameset_end_tag<S: TreeSink>(
 }
 
 #[tactic(auto, using(h5_rules::proofs::rows::KnownRuleLaws::in_frameset_start_known, h5_rules::proofs::rows::KnownRuleLaws::in_frameset_end_known), unfolding(h5_rules::specs::modes::InFrameset::in_frameset_tag))]
-fn in_frameset_tag<S: TreeSink>(
-    sink: &mut S,
-    state: &mut State<S::Handle>,
-    tag: Tag,
-) -> Turn<S::Handle>
+fn in_frameset_tag<S: TreeSink>(sink: &mut S, state: &mut State<S::Handle>, tag: Tag) -> Turn
     requires { IsOpen S.TreeSink sink.old state.old }
     ensures { TakesTag S.TreeSink in_frameset_tag tag sink.old state.old sink.new state.new result }
 {
@@ -115,7 +103,7 @@ fn in_frameset_tag<S: TreeSink>(
 }
 
 // The end of the file: where a frameset is open, this is a parse error.
-fn in_frameset_eof<S: TreeSink>(sink: &mut S, state: &mut State<S::Handle>) -> Turn<S::Handle>
+fn in_frameset_eof<S: TreeSink>(sink: &mut S, state: &mut State<S::Handle>) -> Turn
     requires { IsSound S.TreeSink sink.old state.old }
     ensures { TakesToken S.TreeSink in_frameset Token.Eof sink.old state.old sink.new state.new result }
 {
@@ -130,7 +118,7 @@ pub fn step_in_frameset<S: TreeSink>(
     sink: &mut S,
     state: &mut State<S::Handle>,
     token: Token,
-) -> Turn<S::Handle>
+) -> Turn
     requires open { IsOpen S.TreeSink sink.old state.old }
     requires text { HasText (turn_text token) }
     ensures { TakesToken S.TreeSink in_frameset token sink.old state.old sink.new state.new result }

@@ -11,7 +11,7 @@ use h5_interface::TreeSink;
 use h5_names::KnownName;
 use h5_rules_body::step_in_body;
 use h5_rules_head::{ignored_tag, in_head_end_template, in_head_start_tag, template_eof};
-use h5_state::{State, Turn, unexpected};
+use h5_state::{State, Turn, set_again, unexpected};
 use h5_token::{Tag, TagKind};
 use h5_types::{InsertionMode, ProcessResult, Token};
 
@@ -21,21 +21,18 @@ fn in_template_as<S: TreeSink>(
     state: &mut State<S::Handle>,
     mode: InsertionMode,
     tag: Tag,
-) -> Turn<S::Handle>
+) -> Turn
     requires { IsSound S.TreeSink sink.old state.old }
     ensures { TakesTag S.TreeSink (in_template_as mode) tag sink.old state.old sink.new state.new result }
 {
     switch_template_mode(sink, state, mode)?;
-    Ok(ProcessResult::Reprocess(mode, Token::Tag(tag)))
+    set_again(sink, state, Token::Tag(tag));
+    Ok(ProcessResult::Reprocess(mode))
 }
 
 // Start tags, by their names.
 #[tactic(auto, unfolding(h5_rules::specs::modes::InTemplate::in_template_start, h5_rules::specs::modes::Shared::head_start_names, h5_rules::specs::modes::InTemplate::in_template_part_names, h5_tag_sets::specs::TagSets::cell_names, h5_names::specs::KnownNames::name_text))]
-fn in_template_start_tag<S: TreeSink>(
-    sink: &mut S,
-    state: &mut State<S::Handle>,
-    tag: Tag,
-) -> Turn<S::Handle>
+fn in_template_start_tag<S: TreeSink>(sink: &mut S, state: &mut State<S::Handle>, tag: Tag) -> Turn
     requires sound { IsSound S.TreeSink sink.old state.old }
     requires ready { HasHtmlRoot (world_of S.TreeSink sink.old state.old) }
     ensures { TakesTag S.TreeSink (by_known in_template_start (in_template_as InsertionMode.InBody)) tag sink.old state.old sink.new state.new result }
@@ -65,11 +62,7 @@ fn in_template_start_tag<S: TreeSink>(
 
 // End tags, by their names.
 #[tactic(auto, unfolding(h5_rules::specs::modes::InTemplate::in_template_end, h5_names::specs::KnownNames::name_text))]
-fn in_template_end_tag<S: TreeSink>(
-    sink: &mut S,
-    state: &mut State<S::Handle>,
-    tag: Tag,
-) -> Turn<S::Handle>
+fn in_template_end_tag<S: TreeSink>(sink: &mut S, state: &mut State<S::Handle>, tag: Tag) -> Turn
     requires { IsSound S.TreeSink sink.old state.old }
     ensures { TakesTag S.TreeSink (by_known in_template_end ignored_tag) tag sink.old state.old sink.new state.new result }
 {
@@ -80,11 +73,7 @@ fn in_template_end_tag<S: TreeSink>(
 }
 
 #[tactic(auto, using(h5_rules::proofs::rows::KnownRuleLaws::in_template_start_known, h5_rules::proofs::rows::KnownRuleLaws::in_template_end_known), unfolding(h5_rules::specs::modes::InTemplate::in_template_tag))]
-fn in_template_tag<S: TreeSink>(
-    sink: &mut S,
-    state: &mut State<S::Handle>,
-    tag: Tag,
-) -> Turn<S::Handle>
+fn in_template_tag<S: TreeSink>(sink: &mut S, state: &mut State<S::Handle>, tag: Tag) -> Turn
     requires sound { IsSound S.TreeSink sink.old state.old }
     requires ready { HasHtmlRoot (world_of S.TreeSink sink.old state.old) }
     ensures { TakesTag S.TreeSink in_template_tag tag sink.old state.old sink.new state.new result }
@@ -100,7 +89,7 @@ pub fn step_in_template<S: TreeSink>(
     sink: &mut S,
     state: &mut State<S::Handle>,
     token: Token,
-) -> Turn<S::Handle>
+) -> Turn
     requires sound { IsSound S.TreeSink sink.old state.old }
     requires ready { HasHtmlRoot (world_of S.TreeSink sink.old state.old) }
     requires text { HasText (turn_text token) }

@@ -30,6 +30,12 @@ cut_start name tags text e f =
     ∙ (take-append-le (length text + 1) (bare name) end (omega (arith, same, bare_length name))
     ∙ (ap (λ k. take k (bare name)) n ∙ take-append_seam (60 ∷ name) (62 ∷ [])))
 
+pub cut_whole : (name tags text : List ℕ) → tags ≡ both_tags name → text ≡ name → take (length text + 2) tags ≡ 60 ∷ (name ++ 62 ∷ [])
+cut_whole name tags text e f =
+    let same : length text ≡ length name = ap (λ (l : List ℕ). length l) f in
+    let n : length text + 2 ≡ length (bare name) = omega (arith, same, bare_length name) in
+    ap (take (length text + 2)) e ∙ (ap (λ k. take k (both_tags name)) n ∙ take-append_seam (bare name) (60 ∷ 47 ∷ (name ++ 62 ∷ [])))
+
 to_the_end : (n : ℕ) (l : List ℕ) → take (length l - n) (drop n l) ≡ drop n l
 to_the_end n l = ap (λ k. take k (drop n l)) (sym (length-drop n l)) ∙ take-length (drop n l)
 

@@ -252,6 +252,13 @@ pub fn start_of(known: KnownName) -> &'static [u8]
     &tags_of(known).as_bytes()[..known.as_str().len() + 1]
 }
 
+/// The start tag of this name, without attributes.
+pub fn whole_start_of(known: KnownName) -> &'static [u8]
+    ensures { result.now ≡ codes "<" ++ name_text known ++ codes ">" }
+{
+    &tags_of(known).as_bytes()[..known.as_str().len() + 2]
+}
+
 /// The end tag of this name.
 pub fn end_of(known: KnownName) -> &'static [u8]
     ensures { result.now ≡ codes "</" ++ name_text known ++ codes ">" }

@@ -9,7 +9,7 @@ ghost use Rattle.h5_serialize.specs.Writing.{attribute_prefix, attribute_written
 use super::attributes::AttrRef;
 use super::escape::{write_bytes, write_escaped, write_verbatim};
 use super::fault::SerializeFault;
-use super::known_tags::{end_of, start_of};
+use super::known_tags::{end_of, start_of, whole_start_of};
 use h5_names::{KnownName, LocalName, QualName, namespaces};
 use std::io::Write;
 
@@ -82,12 +82,28 @@ fn write_start<Wr: Write>(writer: &mut Wr, name: &LocalName) -> Result<(), Seria
     }
 }
 
+// Writes a start tag of this local name, without attributes.
+fn write_whole_start<Wr: Write>(writer: &mut Wr, name: &LocalName) -> Result<(), SerializeFault>
+    ensures text { OnOk result
+        (Appends (Wr.contents writer.old) (Wr.contents writer.new) (codes "<" ++ name.now ++ codes ">")) }
+    ensures fault { IsOkUnless result SerializeFault.Write }
+{
+    match name.known() {
+        KnownName::Other => {
+            write_verbatim(writer, "<")?;
+            write_verbatim(writer, name.as_str())?;
+            write_verbatim(writer, ">")
+        }
+        known => write_bytes(writer, whole_start_of(known)),
+    }
+}
+
 /// Writes a start tag with the attributes that an iterator gives. The fault is `Write`, where the writer
 /// fails.
 pub fn write_start_tag<Wr: Write, T: AttrRef, I: Iterator<Item = T> + Drop>(
     writer: &mut Wr,
     name: &QualName,
-    attrs: I,
+    mut attrs: I,
 ) -> Result<(), SerializeFault>
     requires can { I.can_next attrs }
     requires ends { IsFinite (I.remaining attrs) }
@@ -96,9 +112,15 @@ pub fn write_start_tag<Wr: Write, T: AttrRef, I: Iterator<Item = T> + Drop>(
         (start_tag name.now (map T.attribute all))) }
     ensures fault { IsOkUnless result SerializeFault.Write }
 {
-    write_start(writer, &name.local)?;
-    write_attributes(writer, attrs)?;
-    write_verbatim(writer, ">")
+    match attrs.next() {
+        None => write_whole_start(writer, &name.local),
+        Some(first) => {
+            write_start(writer, &name.local)?;
+            write_attribute(writer, first.name(), first.value())?;
+            write_attributes(writer, attrs)?;
+            write_verbatim(writer, ">")
+        }
+    }
 }
 
 /// Writes an end tag. The fault is `Write`, where the writer fails.

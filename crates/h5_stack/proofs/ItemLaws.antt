@@ -1,7 +1,7 @@
 -- An item of a stack, as it is seen.
 use Rattle.std.proofs.Common.{◌≡◌, ◌+◌, ◌<◌, ◌≤◌, ◌^◌, ℕ, suc, get_or, set, take, drop, List, [], ◌∷◌, ◌++◌, length, refl, ap, sym, subst, ◌∙◌, arith}
 use Rattle.std.specs.List.{insert, remove}
-use Rattle.std.proofs.lemmas.List.{drop-map, get_or-map, get_or-set_same, length-map, length-take-le, map-append, map-set, set-get_or, take-map, take-set, take_at}
+use Rattle.std.proofs.lemmas.List.{drop-map, get_or-map, get_or-set_same, length-map, length-take-le, map-append, map-set, set-get_or, set-set, take-map, take-set, take_at}
 use Rattle.std.proofs.lemmas.List.Elements.{All-append, All-cons, All-drop, All-get_or, All-take, All-weaker}
 use Rattle.h5_stack.specs.Items.{AreLinked, ArePlaced, AreReached, links_of, numbered, numbers_of, stack_of}
 use Rattle.h5_stack.specs.Numbered.{Numbered, numbers, values}
@@ -43,6 +43,10 @@ link_at {T} items k x h e =
 pub stack_of-set : {T : Type 0} (items : List (Item T)) (k : ℕ) (y : Item T) → stack_of (set items k y) ≡ set (stack_of items) k (numbered y)
 stack_of-set {T} items k y = map-set (λ (item : Item T). numbered item) items k y
 
+-- what is seen of a place doesn't matter where it is seen anew
+pub stack_of-set_over : {T : Type 0} (items mids : List (Item T)) (k : ℕ) (y : Item T) (one : Numbered T) → stack_of mids ≡ stack_of items → set (stack_of (set mids k y)) k one ≡ set (stack_of items) k one
+stack_of-set_over items mids k y one e = ap (λ s. set s k one) (stack_of-set mids k y) ∙ set-set (stack_of mids) k (numbered y) one ∙ ap (λ s. set s k one) e
+
 pub links_of-set : {T : Type 0} (items : List (Item T)) (k : ℕ) (y : Item T) → links_of (set items k y) ≡ set (links_of items) k y.older
 links_of-set {T} items k y = map-set (λ (item : Item T). item.older) items k y
 
@@ -51,7 +55,7 @@ pub same_stack : {T : Type 0} (items : List (Item T)) (k : ℕ) (x y : Item T) �
 same_stack {T} items k x y e f =
     stack_of-set items k y ∙ ap (set (stack_of items) k) f ∙ sym (stack_of-set items k x) ∙ ap (λ z. stack_of (set items k z)) e ∙ ap (λ z. stack_of z) (set-get_or items k x)
 
-numbers_of-set : {T : Type 0} (items : List (Item T)) (k : ℕ) (y : Item T) → numbers_of (set items k y) ≡ set (numbers_of items) k y.number
+pub numbers_of-set : {T : Type 0} (items : List (Item T)) (k : ℕ) (y : Item T) → numbers_of (set items k y) ≡ set (numbers_of items) k y.number
 numbers_of-set {T} items k y =
     ap (λ s. numbers s) (stack_of-set items k y) ∙ map-set (λ (one : Numbered T). one.number) (stack_of items) k (numbered y)
 

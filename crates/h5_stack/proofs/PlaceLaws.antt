@@ -25,11 +25,11 @@ seen_more ns k h = ap reverse (take_more ns k 0 h) ∙ reverse-append (take k ns
 length-seen : (ns : List ℕ) (k : ℕ) → k ≤ length ns → length (reverse (take k ns)) ≡ k
 length-seen ns k h = length-reverse (take k ns) ∙ length-take-le k ns h
 
-newest_more : (ns : List ℕ) (k : ℕ) → k < length ns → newest_of (get_or ns k 0) (reverse (take (k + 1) ns)) ≡ k + 1
+pub newest_more : (ns : List ℕ) (k : ℕ) → k < length ns → newest_of (get_or ns k 0) (reverse (take (k + 1) ns)) ≡ k + 1
 newest_more ns k h =
     ap (newest_of (get_or ns k 0)) (seen_more ns k h) ∙ newest_here (get_or ns k 0) (reverse (take k ns)) ∙ ap (λ z. z + 1) (length-seen ns k (omega arith))
 
-newest_same : (ns : List ℕ) (k n : ℕ) → k < length ns → (n ≡ get_or ns k 0 → ⊥) → newest_of n (reverse (take (k + 1) ns)) ≡ newest_of n (reverse (take k ns))
+pub newest_same : (ns : List ℕ) (k n : ℕ) → k < length ns → (n ≡ get_or ns k 0 → ⊥) → newest_of n (reverse (take (k + 1) ns)) ≡ newest_of n (reverse (take k ns))
 newest_same ns k n h d = ap (newest_of n) (seen_more ns k h) ∙ newest_other n (get_or ns k 0) (reverse (take k ns)) (λ e. d (sym e))
 
 -- the table has an entry for the newest number

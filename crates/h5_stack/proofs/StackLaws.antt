@@ -1,9 +1,8 @@
 -- What a stack is seen as, by its items and its table, and what its calls leave.
-use Rattle.std.proofs.Common.{◌≡◌, ◌+◌, ◌-◌, ◌<◌, ◌≤◌, ℕ, zero, suc, Bool, cond, get_or, set, slice_index_or, take, drop, List, [], ◌∷◌, ◌++◌, length, reverse, refl, ap, sym, subst, ◌∙◌, inl, inr, arith}
+use Rattle.std.proofs.Common.{◌≡◌, ◌+◌, ◌-◌, ◌<◌, ◌≤◌, ℕ, zero, suc, get_or, set, slice_index_or, take, drop, List, [], ◌∷◌, ◌++◌, length, reverse, refl, ap, sym, subst, ◌∙◌, arith}
 use Rattle.std.specs.List.{insert, remove}
-use Rattle.std.proofs.lemmas.Bool.{cases_cond}
-use Rattle.std.proofs.lemmas.List.{append-nil, get_or_default, get_or_past, get_or_push, length-reverse, length-set, length-take-le, length_push, map-append, take-append-drop, take-append-le, take_all, take_at}
-use Rattle.std.proofs.lemmas.List.Edits.{length-insert, length-remove}
+use Rattle.std.proofs.lemmas.List.{append-nil, get_or_default, get_or_past, get_or_push, get_or-set_same, length-reverse, length-set, length-take-le, length_push, map-append, take-append-drop, take-append-le, take_all, take_at}
+use Rattle.std.proofs.lemmas.List.Edits.{length-remove}
 use Rattle.h5_stack.specs.Items.{AreLinked, ArePlaced, AreReached, links_of, numbered, numbers_of, stack_of}
 use Rattle.h5_stack.specs.Numbered.{Numbered, newest_of, newest_under, numbers, one_of, values}
 use Rattle.h5_stack.specs.Places.{IsPlaced}
@@ -69,6 +68,15 @@ pub seen_set : {T : Type 0} (items : List (Item T)) (s : List (Numbered T)) (k :
     → stack_of (set items k y) ≡ set s k (one_of (get_or (numbers s) k 0) y.value)
 seen_set items s k x y v h e f =
     stack_of-set items k y ∙ ap (λ z. set z k (numbered y)) v ∙ ap (λ n. set s k (one_of n y.value)) (f ∙ seen_number items s k x v h e)
+
+-- another value at a place, with another number
+pub seen_replaced : {T : Type 0} (items mids : List (Item T)) (s : List (Numbered T)) (k n : ℕ) (x y : Item T) → stack_of items ≡ s → k < length s → x ≡ get_or mids k x → y.number ≡ x.number
+    → numbers_of mids ≡ set (numbers_of items) k n → ((one : Numbered T) → set (stack_of mids) k one ≡ set (stack_of items) k one) → stack_of (set mids k y) ≡ set s k (one_of n y.value)
+seen_replaced {T} items mids s k n x y v h e f m o =
+    let l : k < length (numbers_of items) = omega (arith, length-numbers_of items, inside items s k v h) in
+    let r : k < length mids = omega (arith, l, length-numbers_of mids, ap (λ z. length z) m, length-set (numbers_of items) k n) in
+    stack_of-set mids k y ∙ o (numbered y) ∙ ap (λ (z : List (Numbered T)). set z k (numbered y)) v
+    ∙ ap (λ i. set s k (one_of i y.value)) (f ∙ number_at mids k x r e ∙ ap (λ ns. get_or ns k 0) m ∙ get_or-set_same (numbers_of items) k n 0 l)
 
 -- one more on top
 pub push_linked : {T : Type 0} (items news : List (Item T)) (x : Item T) (t u : List ℕ) (k : ℕ) → k ≡ length items → news ≡ items ++ x ∷ [] → ((n : ℕ) → get_or u n 0 ≡ get_or t n 0) → ArePlaced items t → AreLinked news u k
@@ -136,35 +144,8 @@ remove_reached items news t u k e l p = reached_longer news t u (omega (arith, l
 pub remove_length : {T : Type 0} (items news : List (Item T)) (k : ℕ) → k < length items → news ≡ remove items k → length news + 1 ≡ length items
 remove_length items news k h e = ap (λ s. length s + 1) e ∙ length-remove items k h
 
--- one is put in, or not
-pub insert_linked : {T : Type 0} (b : Bool) (items news : List (Item T)) (x : Item T) (u : List ℕ) (k : ℕ) → k ≤ length items → news ≡ cond b (insert items k x) items → AreLinked items u k → AreLinked news u k
-insert_linked b items news x u k h e z = elim (cases_cond b (insert items k x) items news e) [
-  | inl f ↦ linked_under items news u k (take-removed items news (x ∷ drop k items) k h f) z
-  | inr f ↦ linked_under items news u k (ap (take k) (sym f)) z
-]
-
-pub insert_reached : {T : Type 0} (b : Bool) (items news : List (Item T)) (x : Item T) (t u v : List ℕ) (k : ℕ) → news ≡ cond b (insert items k x) items → length t ≤ length u → length v ≡ length u → x.number < length u → ArePlaced items t → AreReached news v
-insert_reached b items news x t u v k e h l n p =
-    let r = reached_longer items t v (omega (arith, h, l)) p.reached in
-    elim (cases_cond b (insert items k x) items news e) [
-      | inl f ↦ reached_inserted items news k x v f (omega (arith, n, l)) r
-      | inr f ↦ subst (λ xs. AreReached xs v) (sym f) r
-    ]
-
-pub insert_length : {T : Type 0} (b : Bool) (items news : List (Item T)) (x : Item T) (k : ℕ) → k ≤ length items → news ≡ cond b (insert items k x) items → (length items ≤ length news) × (length news ≤ length items + 1)
-insert_length b items news x k h e = elim (cases_cond b (insert items k x) items news e) [
-  | inl f ↦ (let l = ap (λ s. length s) f ∙ length-insert items k x h in (omega (arith, l), omega (arith, l)))
-  | inr f ↦ (let l = ap (λ s. length s) f in (omega (arith, l), omega (arith, l)))
-]
-
-pub insert_table : {T : Type 0} (items : List (Item T)) (t u : List ℕ) → ((n : ℕ) → get_or u n 0 ≡ get_or t n 0) → ArePlaced items t → AreLinked items u (length items)
-insert_table items t u e p = linked_table (numbers_of items) (links_of items) t u (length items) e (linked_all items t p)
-
 pub seen_removed : {T : Type 0} (items news : List (Item T)) (s : List (Numbered T)) (k : ℕ) → stack_of items ≡ s → news ≡ remove items k → stack_of news ≡ remove s k
 seen_removed items news s k v e = stack_of-removed items news k e ∙ ap (λ z. remove z k) v
-
-pub seen_inserted : {T : Type 0} (items news : List (Item T)) (s : List (Numbered T)) (x : Item T) (k : ℕ) → stack_of items ≡ s → news ≡ insert items k x → stack_of news ≡ insert s k (numbered x)
-seen_inserted items news s x k v e = stack_of-inserted items news k x e ∙ ap (λ z. insert z k (numbered x)) v
 
 pub seen_kept : {T : Type 0} (items news : List (Item T)) (s : List (Numbered T)) (k : ℕ) → stack_of items ≡ s → news ≡ take k items → stack_of news ≡ take k s
 seen_kept items news s k v e = stack_of-kept items news k e ∙ ap (take k) v

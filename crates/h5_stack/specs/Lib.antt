@@ -3,3 +3,4 @@ pub mod Numbered
 pub mod Numbering
 pub mod Numberings
 pub mod Places
+pub mod Replacing

@@ -6,7 +6,7 @@ ghost use Rattle.h5_stack.specs.Numbered.{Numbered, newest_of, newest_under, num
 
 use super::item::Item;
 use super::moves::move_up;
-use super::places::{put_back, reach, take_back};
+use super::places::{put_back, reach, renumber, take_back};
 use std::alloc::{AllocError, Global};
 use std::marker::Model;
 
@@ -143,6 +143,22 @@ impl<T> NumberedStack<T> {
         self.items[place].value = value;
     }
 
+    /// Another value stands at a place, with another number. It takes a step for each value up to the next newer one of the
+    /// number that goes, and of that which comes. It is refused where memory is, which a number takes that is larger than all
+    /// before.
+    pub fn replace(&mut self, place: usize, number: u32, value: T) -> Result<(), AllocError>
+    where
+        T: Drop,
+        requires { place < length self.old }
+        ensures ok { OnOk result (self.new ≡ slice_set self.old place (one_of number value)) }
+        ensures err { OnErr result (self.new ≡ self.old) }
+    {
+        reach(&mut self.table, number)?;
+        renumber(&mut self.items, &mut self.table, place, number);
+        self.items[place].value = value;
+        Ok(())
+    }
+
     /// A value becomes the newest. It is refused where memory is, and where there are `MAX_LEN` values.
     pub fn push(&mut self, number: u32, value: T) -> Result<(), AllocError>
     where
@@ -200,33 +216,6 @@ impl<T> NumberedStack<T> {
         let item = self.items.remove(place);
         put_back(&mut self.items, &mut self.table, place);
         item.value
-    }
-
-    /// A value is put at a place, and those from there on move up by one. It takes a step or two for each of them. It is
-    /// refused as by `push`.
-    pub fn insert(&mut self, place: usize, number: u32, value: T) -> Result<(), AllocError>
-    where
-        T: Drop,
-        requires { place ≤ length self.old }
-        ensures ok { OnOk result (self.new ≡ insert self.old place (one_of number value)) }
-        ensures err { OnErr result (self.new ≡ self.old) }
-    {
-        if self.items.len() >= MAX_LEN {
-            return Err(AllocError);
-        }
-        reach(&mut self.table, number)?;
-        take_back(&self.items, &mut self.table, place);
-        let inserted = self.items.insert(
-            place,
-            Item {
-                value,
-                number,
-                older: 0,
-            },
-        );
-        put_back(&mut self.items, &mut self.table, place);
-        inserted?;
-        Ok(())
     }
 
     /// The value at a place comes to stand at another one, which isn't lower, with its number; those between move down by one.

@@ -2,8 +2,10 @@
 //!
 //! Items above a place are taken from the table, the newest first, and put back, the oldest first, with what changed
 //! between.
-ghost use Rattle.std.specs.Prelude.{◌≡◌, ◌<◌, ◌≤◌, ◌+◌, ◌^◌, ℕ, OnOk, length, slice_index};
-ghost use Rattle.h5_stack.specs.Items.{AreLinked, ArePlaced, AreReached, stack_of};
+ghost use Rattle.std.specs.Prelude.{◌≡◌, ◌<◌, ◌≤◌, ◌+◌, ◌^◌, ℕ, MatchOption, OnOk, length, slice_index, slice_set};
+ghost use Rattle.h5_stack.specs.Numbered.{Numbered};
+ghost use Rattle.h5_stack.specs.Items.{AreLinked, ArePlaced, AreReached, links_of, numbers_of, stack_of};
+ghost use Rattle.h5_stack.specs.Replacing.{IsNextNewer, links_with, older_by, table_with};
 
 use super::item::Item;
 use std::alloc::AllocError;
@@ -76,5 +78,90 @@ pub(super) fn put_back<T>(items: &mut Vec<Item<T>>, table: &mut Vec<u32>, place:
     'up: while next < count {
         enter(items, table, next);
         next += 1;
+    }
+}
+
+// Where the first item of a number above a place stands, if there is one.
+pub(super) fn next_newer<T>(
+    items: &Vec<Item<T>>,
+    table: &Vec<u32>,
+    number: u32,
+    place: usize,
+) -> Option<usize>
+    requires place { place < length items.now.items }
+    requires reached { number < length table.now.items }
+    requires placed { ArePlaced items.now.items table.now.items }
+    ensures { IsNextNewer number place (numbers_of items.now.items) result }
+{
+    if table[number as usize] as usize <= place + 1 {
+        return None;
+    }
+    let count = items.len();
+    let mut next = place + 1;
+    'up: while next < count {
+        if items[next].number == number {
+            return Some(next);
+        }
+        next += 1;
+    }
+    None
+}
+
+// The newest value of a number below its next newer one: what that one has as its link, or the table where there is none.
+pub(super) fn older_of<T>(
+    items: &Vec<Item<T>>,
+    table: &Vec<u32>,
+    newer: Option<usize>,
+    number: u32,
+) -> u32
+    requires reached { number < length table.now.items }
+    requires newer { MatchOption newer (Unit {0}) (λ place. place < length items.now.items) }
+    ensures { result ≡ older_by newer number (links_of items.now.items) table.now.items }
+{
+    match newer {
+        Some(place) => items[place].older,
+        None => table[number as usize],
+    }
+}
+
+// The newest value of a number below its next newer one is said to stand elsewhere.
+pub(super) fn set_older<T>(
+    items: &mut Vec<Item<T>>,
+    table: &mut Vec<u32>,
+    newer: Option<usize>,
+    number: u32,
+    older: u32,
+)
+    requires reached { number < length table.old.items }
+    requires newer { MatchOption newer (Unit {0}) (λ place. place < length items.old.items) }
+    ensures same { stack_of items.new.items ≡ stack_of items.old.items }
+    ensures links { links_of items.new.items ≡ links_with newer older (links_of items.old.items) }
+    ensures table { table.new.items ≡ table_with newer number older table.old.items }
+{
+    match newer {
+        Some(place) => items[place].older = older,
+        None => table[number as usize] = older,
+    }
+}
+
+// The item at a place gets another number.
+pub(super) fn renumber<T>(items: &mut Vec<Item<T>>, table: &mut Vec<u32>, place: usize, number: u32)
+    requires place { place < length items.old.items }
+    requires reached { number < length table.old.items }
+    requires placed { ArePlaced items.old.items table.old.items }
+    ensures others { (one : Numbered T) → slice_set (stack_of items.new.items) place one ≡ slice_set (stack_of items.old.items) place one }
+    ensures numbers { numbers_of items.new.items ≡ slice_set (numbers_of items.old.items) place number }
+    ensures placed { ArePlaced items.new.items table.new.items }
+{
+    let (former, older) = (items[place].number, items[place].older);
+    if number != former {
+        let above_former = next_newer(items, table, former, place);
+        let above = next_newer(items, table, number, place);
+        let below = older_of(items, table, above, number);
+        set_older(items, table, above_former, former, older);
+        set_older(items, table, above, number, place as u32 + 1);
+        let item = &mut items[place];
+        item.number = number;
+        item.older = below;
     }
 }

@@ -3,7 +3,9 @@ pub mod ChainLaws
 pub mod FoundLaws
 pub mod NewestLaws
 pub mod NumberLaws
+pub mod OverLaws
 pub mod RenewLaws
+pub mod ReplacedLaws
 pub mod SeenLaws
 pub mod StackLaws
 pub mod StepLaws

@@ -1,5 +1,5 @@
 -- What is kept beside open elements, where it is made anew.
-use Rattle.std.proofs.Common.{◌≡◌, ◌≢◌, ◌+◌, ◌-◌, ◌<◌, ◌≤◌, ℕ, suc, List, [], ◌∷◌, ◌++◌, drop, length, map, reverse, take, get_or, ap, sym, ◌∙◌, arith}
+use Rattle.std.proofs.Common.{◌≡◌, ◌≢◌, ◌+◌, ◌-◌, ◌<◌, ◌≤◌, ◌^◌, ℕ, suc, Some, List, [], ◌∷◌, ◌++◌, drop, length, map, reverse, take, get_or, ap, sym, ◌∙◌, arith}
 use Rattle.std.proofs.Math.ListN.{set}
 use Rattle.std.proofs.Math.Seq.{map-set_same, take-append_seam}
 use Rattle.std.specs.List.{remove}
@@ -7,9 +7,13 @@ use Rattle.std.proofs.lemmas.List.{drop-map, length-take, map-append, map-set, s
 use Rattle.h5_interface.specs.Forest.{Forest}
 use Rattle.h5_rules.specs.World.{name_in}
 use Rattle.h5_stack.specs.Numbered.{Numbered, numbers, one_of, values}
-use Rattle.h5_state.specs.Summaries.{all_open, summaries, summary_of}
+use Rattle.h5_names.specs.declared.qualified.QualName.{QualName}
+use Rattle.h5_stack.proofs.ItemLaws.{length-values}
+use Rattle.h5_state.specs.Numbers.{name_number}
+use Rattle.h5_state.specs.Summaries.{IsKept, all_open, summaries, summary_of}
 use Rattle.h5_state.specs.View.{open_node}
 use Rattle.h5_state.specs.declared.open_element.OpenElement.{OpenElement}
+use Rattle.h5_state.specs.declared.open_element.OpenElements.{OpenElements}
 use Rattle.h5_state.specs.declared.open_element.Summary.{Summary}
 use Rattle.h5_state.proofs.StackLaws.{seen_pushed}
 use Rattle.h5_state.proofs.SummaryLaws.{kept, kept_newest, summaries_pushed, names}
@@ -62,3 +66,12 @@ values_removed {H} old new place e = map_removed (λ (one : Numbered (OpenElemen
 
 pub numbers_removed : {H : Type 0} (old new : List (Numbered (OpenElement H))) (place : ℕ) → new ≡ remove old place → numbers new ≡ take place (numbers old) ++ drop (place + 1) (numbers old)
 numbers_removed {H} old new place e = map_removed (λ (one : Numbered (OpenElement H)). one.number) old new place e
+
+-- the same numbers, and new summaries
+pub kept_renewed : {H : Type 0} (old new : OpenElements H) (all : List QualName) → numbers new.elements ≡ numbers old.elements → new.numbers ≡ old.numbers → length (values new.elements) < 2 ^ 32
+    → map Some (reverse (numbers old.elements)) ≡ map (name_number old.numbers) all → reverse (map (λ (element : OpenElement H). element.summary) (values new.elements)) ≡ summaries all → IsKept new all
+kept_renewed {H} old new all e n few h s = record {
+  summarized = s;
+  numbered = ap (λ (z : List ℕ). map Some (reverse z)) e ∙ h ∙ ap (λ N. map (name_number N) all) (sym n);
+  few = omega (arith, few, length-values new.elements);
+}

@@ -39,14 +39,14 @@ some_template (n ∷ ns) = ap (nat_lt 0) (one_more n ns) ∙ at (is_html_templat
     at false e = ap (nat_lt 0) (zero-add (open_templates ns)) ∙ e
 
 -- the older ones have the summaries of their names
-summaries_behind : (newer older : List QualName) (kept rest : List Summary) → length kept ≡ length newer → kept ++ rest ≡ summaries (newer ++ older) → rest ≡ summaries older
+pub summaries_behind : (newer older : List QualName) (kept rest : List Summary) → length kept ≡ length newer → kept ++ rest ≡ summaries (newer ++ older) → rest ≡ summaries older
 summaries_behind [] older [] rest e h = h
 summaries_behind [] older (s ∷ kept) rest e h = absurd (omega (arith, e))
 summaries_behind (n ∷ newer) older [] rest e h = absurd (omega (arith, e))
 summaries_behind (n ∷ newer) older (s ∷ kept) rest e h = let tail : kept ++ rest ≡ summaries (newer ++ older) = cc in summaries_behind newer older kept rest (omega (arith, e)) tail
 
 -- the newest first, cut in two
-cut_in_two : {X Y : Type 0} (f : X → Y) (xs : List X) (count : ℕ) → reverse (map f xs) ≡ reverse (map f (drop count xs)) ++ reverse (map f (take count xs))
+pub cut_in_two : {X Y : Type 0} (f : X → Y) (xs : List X) (count : ℕ) → reverse (map f xs) ≡ reverse (map f (drop count xs)) ++ reverse (map f (take count xs))
 cut_in_two f xs count =
     ap (λ z. reverse (map f z)) (sym (take-append-drop count xs)) ∙ ap reverse (map-append f (take count xs) (drop count xs)) ∙ reverse-append (map f (take count xs)) (map f (drop count xs))
 
@@ -127,7 +127,7 @@ number_removed N ns place newer older name h k e =
     ∙ ap (λ z. map (name_number N) newer ++ z) low
     ∙ sym (map-append (name_number N) newer older)
 
-numbers_grow : (N M : NameNumbers) (ms : List ℕ) (names : List QualName) → ((one : QualName) (m : ℕ) → name_number N one ≡ Some m → name_number M one ≡ Some m) → map Some ms ≡ map (name_number N) names
+pub numbers_grow : (N M : NameNumbers) (ms : List ℕ) (names : List QualName) → ((one : QualName) (m : ℕ) → name_number N one ≡ Some m → name_number M one ≡ Some m) → map Some ms ≡ map (name_number N) names
     → map Some ms ≡ map (name_number M) names
 numbers_grow N M [] [] stay e = refl
 numbers_grow N M [] (n ∷ ns) stay e = absurd (cc)

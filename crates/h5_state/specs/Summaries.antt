@@ -1,10 +1,13 @@
 -- What is kept beside the open elements, by their names.
-use Rattle.std.specs.Prelude.{◌≡◌, ◌<◌, ◌^◌, ℕ, List, [], ◌∷◌, Some, codes, length, map, reverse}
+use Rattle.std.specs.Prelude.{◌≡◌, ◌<◌, ◌^◌, ◌||◌, ℕ, List, [], ◌∷◌, Some, codes, length, map, reverse}
 use Rattle.std.specs.List.{count_by}
 use Rattle.h5_names.specs.declared.qualified.QualName.{QualName}
 use Rattle.h5_interface.specs.NewElement.{is_html_template}
 use Rattle.h5_stack.specs.Numbered.{numbers, values}
-use Rattle.h5_tag_sets.specs.TagSets.{is_default_scope, is_html_named, is_implied, is_special}
+use Rattle.h5_tag_sets.specs.NameSets.{has_flag}
+use Rattle.h5_tag_sets.specs.TagSets.{is_body_end_ok, is_button_scope, is_default_scope, is_html_named, is_implied, is_special}
+use Rattle.h5_tag_sets.specs.declared.name_sets.NameSet.TheVariants as set
+use Rattle.h5_tag_sets.specs.declared.name_sets.NameSets.{NameSets}
 use Rattle.h5_rules.specs.fitting.NamesFit.{is_html_element}
 use Rattle.h5_rules.specs.stack.Closing.{ends_item_search}
 use Rattle.h5_rules.specs.stack.Scope.{has_body_in_scope, has_p_in_button_scope, has_unclosed}
@@ -32,6 +35,13 @@ all_open names = record {
   html = newest_where is_html_element names;
   oldest_option = oldest_where (is_html_named (codes "option")) names;
 }
+
+-- these sets hold an element of this name, of those that what is known of all open elements is made of
+pub record AreSetsOf (name : QualName) (sets : NameSets) : Type 0 where
+  pub special : has_flag sets.flags set.Special ≡ is_special name
+  pub scope : has_flag sets.flags set.DefaultScope ≡ is_default_scope name
+  pub button : (has_flag sets.flags set.DefaultScope || has_flag sets.flags set.ButtonScope) ≡ is_button_scope name
+  pub body_end : has_flag sets.flags set.BodyEndOk ≡ is_body_end_ok name
 
 -- what is kept of an element of this name, above older ones of these names
 abbrev pub summary_of : QualName → List QualName → Summary

@@ -1,10 +1,12 @@
 -- What a builder's state and its sink mean together.
-use Rattle.std.specs.Prelude.{ℕ, List, map, reverse, take, option_map}
+use Rattle.std.specs.Prelude.{◌≡◌, ℕ, List, ◌++◌, drop, map, reverse, take, option_map}
 use Rattle.h5_names.specs.declared.qualified.QualName.{QualName}
+use Rattle.h5_interface.specs.Forest.{Forest}
 use Rattle.h5_interface.specs.Seen.{Seen}
 use Rattle.h5_rules.specs.World.{World, name_in}
 use Rattle.h5_stack.specs.Numbered.{values}
 use Rattle.h5_list.specs.Listed.{entries_of}
+use Rattle.h5_state.specs.Summaries.{summaries}
 use Rattle.h5_state.specs.declared.open_element.OpenElement.{OpenElement}
 use Rattle.h5_state.specs.declared.open_element.Summary.{Summary}
 use Rattle.h5_state.specs.declared.state.State.{State}
@@ -47,9 +49,19 @@ names_under sees node sink state count =
 unfoldable pub stack_under : {H : Type 0} → (H → ℕ) → State H → ℕ → List ℕ
 stack_under node state count = reverse (map (open_node node) (take count (elements_of state)))
 
+-- the others, which stand above those
+unfoldable pub stack_over : {H : Type 0} → (H → ℕ) → State H → ℕ → List ℕ
+stack_over node state count = reverse (map (open_node node) (drop count (elements_of state)))
+
 -- what is kept beside the oldest ones, so many of them
 unfoldable pub kept_under : {H : Type 0} → State H → ℕ → List Summary
 kept_under state count = reverse (map (λ element. element.summary) (take count (elements_of state)))
+
+-- what is kept beside open elements, the oldest first, is right above older ones of these names
+abbrev pub IsKeptOver : {H : Type 0} → (H → ℕ) → Forest → List (OpenElement H) → List QualName → Type 0
+IsKeptOver {H} node f elements older =
+    reverse (map (λ (element : OpenElement H). element.summary) elements) ++ summaries older
+    ≡ summaries (map (name_in f) (reverse (map (open_node node) elements)) ++ older)
 
 abbrev pub with_stack : List ℕ → World → World
 with_stack s w = record w { stack = s }

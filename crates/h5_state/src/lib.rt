@@ -1,11 +1,12 @@
 //! The state of a tree builder, and single steps over it (HTML standard, section 13.2.4, "Parse state").
 //!
 //! `state` has the state, and `open_element` an open element with what is kept beside it, so that questions about all
-//! open elements need no walk; `push` opens one, and `renew` makes anew what is kept. `name_numbers` has the numbers of
-//! names, `newest` where the newest element of a kind stands, `name_test` and `set_test` what is asked of a name, and
-//! `scopes` what is in scope (section 13.2.4.2). `open_elems` and `find` ask of the stack of open elements besides, and pop
-//! from it. `steps` changes one field or the current node, `errors` tells parse errors (section 13.2.2), `blanks` cuts texts
-//! into runs, and `pending_text` keeps text of a table back (section 13.2.6.4.10).
+//! open elements need no walk; `push` opens one, `replace` has some stand where others stood, and `renew` makes anew what is
+//! kept. `name_numbers` has the numbers of names, `newest` where the newest element of a kind stands, `name_test` and
+//! `set_test` what is asked of a name, and `scopes` what is in scope (section 13.2.4.2). `open_elems` and `find` ask of the
+//! stack of open elements besides, and pop from it. `steps` changes one field or the current node, and `turn` what a turn
+//! leaves for what follows it; `errors` tells parse errors (section 13.2.2), `blanks` cuts texts into runs, and
+//! `pending_text` keeps text of a table back (section 13.2.6.4.10).
 //!
 //! It stands on the definitions in `h5_rules`, and on `h5_stack` and `h5_list`. `h5_insertion` and `h5_closing` stand on
 //! it, and so do all crates with code of rules, and the builder. Begin with `specs/View.antt` (what state and sink mean
@@ -23,10 +24,12 @@ mod open_elems;
 mod pending_text;
 mod push;
 mod renew;
+mod replace;
 mod scopes;
 mod set_test;
 mod state;
 mod steps;
+mod turn;
 
 pub use blanks::{first_run, is_blank_text, set_frameset_ok_by_text};
 pub use errors::{tell_error, unexpected, unexpected_tag};
@@ -38,12 +41,13 @@ pub use open_element::{AllOpen, OpenElement, OpenElements, Summary};
 pub use open_elems::{
     all_open, check_body_end, find_named, generate_implied_end_except, has_body_in_scope,
     has_body_second, has_open_template, has_p_in_button_scope, is_current, is_current_html,
-    is_html_at, name_at, open_at, open_count, open_templates, pop_until_named, pop_while,
+    is_html_at, is_named, name_at, open_at, open_count, open_templates, pop_until_named, pop_while,
     root_node, truncate,
 };
 pub use pending_text::PendingText;
 pub use push::push_open;
 pub use renew::{all_under, renew_from};
+pub use replace::replace_open;
 pub use scopes::{find_before_special, find_in_scope, in_scope_named};
 pub use state::{State, Turn};
 pub use steps::{
@@ -51,3 +55,4 @@ pub use steps::{
     is_scripting, is_select_context, mark_started, pop, save_mode, saved_mode, set_foster,
     set_frameset_not_ok, set_ignore_lf, set_mode, set_quirks_mode, take_form,
 };
+pub use turn::{set_again, set_answer, take_again, take_answer};

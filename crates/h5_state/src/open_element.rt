@@ -4,17 +4,17 @@ ghost use Rattle.std.specs.Prelude.{◌≡◌, ◌==◌, ◌&&◌, ◌<◌, ◌�
 ghost use Rattle.h5_names.specs.declared.qualified.QualName.{QualName as NameText};
 ghost use Rattle.h5_tag_sets.specs.TagSets.{is_special};
 ghost use Rattle.h5_rules.specs.stack.Closing.{ends_item_search};
-ghost use Rattle.h5_state.specs.Summaries.{all_open, summary_of};
+ghost use Rattle.h5_state.specs.Summaries.{AreSetsOf, all_open, summary_of};
 
 use super::name_numbers::NameNumbers;
 use h5_names::{KnownName, QualName};
 use h5_stack::NumberedStack;
-use h5_tag_sets::{NameSet, sets_of};
+use h5_tag_sets::{NameSet, NameSets, sets_of};
 use std::alloc::Global;
 
 /// What is known of some open elements, from the root up to one of them. Places are counted from the root: what stands
 /// here of a place is one more than it, and 0 where there is none.
-#[derive(Clone, Copy)]
+#[derive(Clone, Copy, PartialEq, Eq)]
 pub struct AllOpen {
     /// Whether one may not be open where the body ends.
     pub unclosed: bool,
@@ -54,15 +54,15 @@ impl AllOpen {
         }
     }
 
-    /// What is known with one more, the newest, of this name at this place.
+    // What is known with one more, the newest, of this name at this place; these sets hold it.
     #[inline(always)]
-    pub fn with_newest(self, name: &QualName, place: u32) -> AllOpen
+    fn with_newest(self, name: &QualName, sets: NameSets, place: u32) -> AllOpen
         requires few { place + 1 < 2 ^ 32 }
         requires templates { self.templates ≤ place }
+        requires sets { AreSetsOf name.now sets }
         ensures { (older : List NameText) → self ≡ all_open older → place ≡ length older → result ≡ all_open (name.now ∷ older) }
     {
         let (html, local) = (name.ns.is_html(), &name.local);
-        let sets = sets_of(name);
         let special = sets.has(NameSet::Special);
         let ends_scope = sets.has(NameSet::DefaultScope);
         let ends_button_scope = ends_scope | sets.has(NameSet::ButtonScope);
@@ -111,7 +111,7 @@ impl Summary {
         Summary {
             special: sets.has(NameSet::Special),
             implied: sets.has(NameSet::CursoryImpliedEnd),
-            all: older.with_newest(name, place),
+            all: older.with_newest(name, sets, place),
         }
     }
 }

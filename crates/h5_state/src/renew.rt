@@ -1,12 +1,13 @@
 //! What is kept beside open elements is made anew, where the elements below them changed.
-ghost use Rattle.std.specs.Prelude.{◌≡◌, ◌<◌, ◌≤◌, ◌+◌, ◌^◌, Some, length, map, reverse};
+ghost use Rattle.std.specs.Prelude.{◌≡◌, ◌<◌, ◌≤◌, ◌+◌, ◌^◌, List, Some, drop, length, map, reverse};
+ghost use Rattle.h5_names.specs.declared.qualified.QualName.{QualName as NameText};
 ghost use Rattle.h5_stack.specs.Numbered.{numbers};
 ghost use Rattle.h5_rules.specs.Sound.{Sound};
 ghost use Rattle.h5_rules.specs.World.{names_of};
 ghost use Rattle.h5_state.specs.Numbers.{name_number};
 ghost use Rattle.h5_state.specs.Steps.{IsSound, world_of};
 ghost use Rattle.h5_state.specs.Summaries.{all_open, summaries};
-ghost use Rattle.h5_state.specs.View.{kept_under, names_under};
+ghost use Rattle.h5_state.specs.View.{IsKeptOver, elements_of, kept_under, names_under};
 
 use super::open_element::{AllOpen, OpenElement, Summary};
 use super::open_elems::open_count;
@@ -36,6 +37,7 @@ fn renew_at<S: TreeSink>(sink: &S, state: &mut State<S::Handle>, place: usize)
     requires kept { kept_under state.old place ≡ summaries (names_under S.sees S.node sink.now state.old place) }
     ensures world { world_of S.TreeSink sink.now state.new ≡ world_of S.TreeSink sink.now state.old }
     ensures kept { kept_under state.new (place + 1) ≡ summaries (names_under S.sees S.node sink.now state.new (place + 1)) }
+    ensures newer { drop (place + 1) (elements_of state.new) ≡ drop (place + 1) (elements_of state.old) }
     ensures numbers { numbers state.new.open_elems.elements ≡ numbers state.old.open_elems.elements }
     ensures same { state.new.open_elems.numbers ≡ state.old.open_elems.numbers }
 {
@@ -59,6 +61,32 @@ pub fn renew_from<S: TreeSink>(sink: &S, state: &mut State<S::Handle>, first: us
     let count = open_count(sink, state);
     let mut place = first;
     'up: while place < count {
+        renew_at(sink, state, place);
+        place += 1;
+    }
+}
+
+/// The summaries of the open elements from a place on are made anew, up to one that stays what it was, where those of all
+/// older ones are right, this was known of as many others, and what is kept from there on is right over those.
+pub fn renew_over<S: TreeSink>(
+    sink: &S,
+    state: &mut State<S::Handle>,
+    first: usize,
+    before: AllOpen,
+)
+    requires sound { Sound (world_of S.TreeSink sink.now state.old) }
+    requires first { first ≤ length (world_of S.TreeSink sink.now state.old).stack }
+    requires kept { kept_under state.old first ≡ summaries (names_under S.sees S.node sink.now state.old first) }
+    requires over { (older : List NameText) × (before ≡ all_open older) × (length older ≡ first) × IsKeptOver S.node (S.sees sink.now).forest (drop first (elements_of state.old)) older }
+    requires numbered { map Some (reverse (numbers state.old.open_elems.elements)) ≡ map (name_number state.old.open_elems.numbers) (names_of (world_of S.TreeSink sink.now state.old)) }
+    ensures world { world_of S.TreeSink sink.now state.new ≡ world_of S.TreeSink sink.now state.old }
+    ensures sound { IsSound S.TreeSink sink.now state.new }
+{
+    let count = open_count(sink, state);
+    let mut place = first;
+    let mut was = before;
+    'up: while place < count && was != all_under(sink, state, place) {
+        was = state.open_elems.elements.get(place).summary.all;
         renew_at(sink, state, place);
         place += 1;
     }

@@ -3,11 +3,12 @@ use super::open_element::OpenElements;
 use super::pending_text::PendingText;
 use h5_interface::QuirksMode;
 use h5_list::FormattingList;
-use h5_types::{InsertionMode, ProcessResult, TreeBuilderOpts};
+use h5_token::TokenSinkResult;
+use h5_types::{InsertionMode, ProcessResult, Token, TreeBuilderOpts};
 use std::alloc::{AllocError, Global};
 
 /// How a turn ended, unless memory was refused.
-pub type Turn<Handle> = Result<ProcessResult<Handle>, AllocError>;
+pub type Turn = Result<ProcessResult, AllocError>;
 
 /// The state of a tree builder (HTML standard, section 13.2.4, "Parse state").
 #[derive(Drop)]
@@ -32,5 +33,9 @@ pub struct State<Handle> {
     pub foster_parenting: bool,
     /// The context of a fragment.
     pub context_elem: Option<Handle>,
+    /// The token that takes another turn, where one does.
+    pub again: Token,
+    /// What is answered to a token, where that isn't "go on".
+    pub answer: TokenSinkResult<Handle>,
     pub alloc: Global,
 }

@@ -45,7 +45,9 @@ pub fn save_mode<S: TreeSink>(sink: &S, state: &mut State<S::Handle>)
 #[tactic(auto, unfolding(crate::specs::View::world, h5_rules::specs::World::names_of))]
 pub fn set_foster<S: TreeSink>(sink: &S, state: &mut State<S::Handle>, on: bool)
     requires { IsSound S.TreeSink sink.now state.old }
-    ensures { Makes S.TreeSink (SetFoster on) sink.now state.old sink.now state.new }
+    ensures made { Makes S.TreeSink (SetFoster on) sink.now state.old sink.now state.new }
+    ensures again { state.new.again ≡ state.old.again }
+    ensures answer { state.new.answer ≡ state.old.answer }
 {
     state.foster_parenting = on;
 }

@@ -1,8 +1,9 @@
 //! The parts of texts, tags and doctypes.
 use h5_markup::{
-    Kept, Seen, cleaned, escape, is_plain, make_doctype, make_name, newline, plain_len,
+    Keeping, Kept, Seen, SharedNames, cleaned, escape, is_plain, make_doctype, newline, plain_len,
     read_attributes, reference, text_of,
 };
+use h5_names::LocalName;
 use h5_token::Doctype;
 use std::alloc::{AllocError, Global};
 use std::fmt::Write;
@@ -42,7 +43,19 @@ fn whole_texts_are_read(rt: HostRuntime) -> Result<(), Fail> {
 
 #[test]
 fn names_are_read(rt: HostRuntime) -> Result<(), Fail> {
-    assert_eq!(rt; make_name(rt.alloc(), "aB\0")?.as_str(), "ab\u{fffd}");
+    let alloc = rt.alloc();
+    let mut names = SharedNames::new(alloc);
+    let rows = [
+        ("aB\0", "ab\u{fffd}"),
+        ("tAble", "table"),
+        ("x-y", "x-y"),
+        ("x-y", "x-y"),
+        ("X-Y", "x-y"),
+        ("x-z", "x-z"),
+    ];
+    for &(text, wanted) in &rows {
+        assert_eq!(rt; names.name(alloc, text)?.as_str(), wanted);
+    }
     Ok(())
 }
 
@@ -66,7 +79,8 @@ fn listed(alloc: Global, kept: &Kept) -> Result<String, AllocError> {
 #[test]
 fn attributes_are_kept_once(rt: HostRuntime) -> Result<(), Fail> {
     let alloc = rt.alloc();
-    let kept = read_attributes(alloc, " A=1 b = '>'/a=2 =c=\"&lt;\" e=/")?;
+    let mut names = SharedNames::new(alloc);
+    let kept = read_attributes(alloc, &mut names, " A=1 b = '>'/a=2 =c=\"&lt;\" e=/")?;
     assert!(rt; kept.duplicates);
     assert_eq!(rt; listed(alloc, &kept)?.as_str(), "a=1;b=>;=c=<;e=/;");
     Ok(())
@@ -85,9 +99,27 @@ fn many_attributes(alloc: Global) -> Result<String, AllocError> {
 #[test]
 fn many_attributes_are_kept_once(rt: HostRuntime) -> Result<(), Fail> {
     let alloc = rt.alloc();
-    let kept = read_attributes(alloc, many_attributes(alloc)?.as_str())?;
+    let mut names = SharedNames::new(alloc);
+    let kept = read_attributes(alloc, &mut names, many_attributes(alloc)?.as_str())?;
     assert!(rt; kept.duplicates);
     assert_eq!(rt; kept.attributes.len(), 50);
+    Ok(())
+}
+
+#[test]
+fn finished_values_are_kept_once(rt: HostRuntime) -> Result<(), Fail> {
+    let alloc = rt.alloc();
+    let mut keeping = Keeping::new(alloc, 1);
+    for &(name, value) in &[("a", "1"), ("b", "&lt;"), ("a", "2")] {
+        let name = LocalName::new(alloc, name)?;
+        keeping.keep_finished(name, String::from_str(alloc, value)?)?;
+    }
+    let kept = Kept {
+        attributes: keeping.attributes,
+        duplicates: keeping.duplicates,
+    };
+    assert!(rt; kept.duplicates);
+    assert_eq!(rt; listed(alloc, &kept)?.as_str(), "a=1;b=&lt;;");
     Ok(())
 }
 

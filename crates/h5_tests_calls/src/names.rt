@@ -88,7 +88,7 @@ fn local_names_are_those_known(rt: HostRuntime) -> Result<(), Fail> {
 
 #[test]
 fn local_names_are_made_of_texts(rt: HostRuntime) -> Result<(), Fail> {
-    let read = LocalName::from_string(String::from_str(rt.alloc(), "table")?);
+    let read = LocalName::from_string(String::from_str(rt.alloc(), "table")?)?;
     assert!(rt; read == LocalName::from_known(KnownName::Table));
     Ok(())
 }

@@ -42,13 +42,11 @@ fn the_newest_values_are_taken_off(rt: HostRuntime) -> Result<(), AllocError> {
 }
 
 #[test]
-fn a_value_in_the_middle_comes_and_goes(rt: HostRuntime) -> Result<(), AllocError> {
+fn a_value_in_the_middle_goes(rt: HostRuntime) -> Result<(), AllocError> {
     let mut stack = four(rt.alloc())?;
     assert!(rt; stack.len() == 4);
     assert!(rt; stack.remove(1) == b'b');
     assert!(rt; stack.newest(1) == 2 && stack.newest(2) == 0 && stack.newest(3) == 3);
-    stack.insert(0, 2, b'e')?;
-    assert!(rt; stack.newest(1) == 3 && stack.newest(2) == 1 && stack.newest(3) == 4);
     Ok(())
 }
 
@@ -58,6 +56,16 @@ fn a_value_is_changed(rt: HostRuntime) -> Result<(), AllocError> {
     assert!(rt; stack.len() == 4);
     stack.set(3, b'z');
     assert!(rt; stack.last() == Some(&b'z') && stack.newest(3) == 4);
+    Ok(())
+}
+
+#[test]
+fn a_value_gets_another_number(rt: HostRuntime) -> Result<(), AllocError> {
+    let mut stack = four(rt.alloc())?;
+    assert!(rt; stack.len() == 4);
+    stack.replace(2, 2, b'e')?;
+    assert!(rt; *stack.get(2) == b'e' && stack.number_at(2) == 2);
+    assert!(rt; stack.newest(1) == 1 && stack.newest(2) == 3 && stack.older(2) == 2);
     Ok(())
 }
 

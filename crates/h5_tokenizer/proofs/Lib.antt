@@ -1,7 +1,6 @@
 pub mod FrontStays
 pub mod FrontTakes
 pub mod PlainLaws
-pub mod PlainParts
 pub mod StepLaws
 pub mod PartLaws
 pub mod FrontKeeps

@@ -1,65 +1,11 @@
-//! Tags that are nothing but their names. Most tags are.
-ghost use Rattle.std.specs.Prelude.{◌≡◌, ◌<◌, false, true, IfSome, IfOk};
-ghost use Rattle.std.specs.Char.{is_ascii_alphabetic};
-ghost use Rattle.h5_token.specs.TokenText.{TagIs, tag_text};
-ghost use Rattle.h5_markup.specs.Cuts.{is_in};
+//! Tags that are nothing but their names, as the reader finds them.
+ghost use Rattle.std.specs.Prelude.{◌≡◌, IfSome};
 ghost use Rattle.h5_reading.specs.Lines.{newlines_passed};
-ghost use Rattle.h5_tokenizer.specs.Bare.{bare_tag, BeginsBare, IsBare, IsBareName};
+ghost use Rattle.h5_tokenizer.specs.Bare.{BeginsBare};
 
 use super::front::Mode;
 use super::state::Search;
-use h5_markup::{Class, make_name};
-use h5_token::{Tag, TagKind};
-use std::alloc::{AllocError, Global};
-
-// Whether a byte may stand in such a name: a letter, or behind the first byte a digit.
-fn is_name_byte(b: u8, first: bool) -> bool
-    ensures name { result ≡ true → is_in Class.NameEnd b ≡ false }
-    ensures high { result ≡ true → 13 < b }
-    ensures first { first ≡ true → result ≡ is_ascii_alphabetic b }
-{
-    b.is_ascii_alphabetic() || (!first && b.is_ascii_digit())
-}
-
-// The length of a name of letters and digits that a `>` follows, where there is one.
-fn bare_name(bytes: &[u8]) -> Option<usize>
-    ensures { IfSome result (λ n. IsBareName bytes.now n) }
-{
-    for (i, b) in bytes.iter().enumerate() {
-        if !is_name_byte(*b, i == 0) {
-            return if i > 0 && *b == b'>' { Some(i) } else { None };
-        }
-    }
-    None
-}
-
-// The tag behind its opening.
-fn cut_bare<'a>(kind: TagKind, text: &'a str) -> Option<(TagKind, &'a str, &'a str)>
-    ensures { IfSome result (λ tag. (tag.0 ≡ kind) × IsBare text.now tag.1.now tag.2.now) }
-{
-    let n = bare_name(text.as_bytes())?;
-    let (name, behind) = text.split_at(n);
-    let (_, rest) = behind.split_at(1);
-    Some((kind, name, rest))
-}
-
-// The tag, in the state "data".
-#[inline(always)]
-fn bare_in_data<'a>(text: &'a str) -> Option<(TagKind, &'a str, &'a str)>
-    ensures begins { IfSome result (λ tag. BeginsBare Mode.Data text.now tag.0 tag.1.now tag.2.now) }
-    ensures line { IfSome result (λ tag. newlines_passed text.now tag.2.now ≡ 0) }
-{
-    let bytes = text.as_bytes();
-    if bytes.len() < 2 || bytes[0] != b'<' {
-        return None;
-    }
-    if bytes[1] == b'/' {
-        let (_, inner) = text.split_at(2);
-        return cut_bare(TagKind::EndTag, inner);
-    }
-    let (_, inner) = text.split_at(1);
-    cut_bare(TagKind::StartTag, inner)
-}
+use h5_token::TagKind;
 
 /// The kind and the name of the tag at the front, and what follows it, where it is nothing but its name and its end
 /// wasn't looked for before.
@@ -76,20 +22,7 @@ pub fn find_bare<'a>(
         return None;
     }
     match mode {
-        Mode::Data => bare_in_data(text),
+        Mode::Data => h5_markup::find_bare(text),
         _ => None,
     }
-}
-
-/// Such a tag, by its name.
-pub fn make_bare(alloc: Global, kind: TagKind, name: &str) -> Result<Tag, AllocError>
-    ensures { IfOk result (λ tag. TagIs (tag_text tag) ≡ bare_tag kind name.now) }
-{
-    Ok(Tag {
-        kind,
-        name: make_name(alloc, name)?,
-        self_closing: false,
-        attrs: Vec::new(alloc),
-        had_duplicate_attributes: false,
-    })
 }

@@ -1,18 +1,17 @@
 //! Text, up to what is more than that.
-ghost use Rattle.std.specs.Prelude.{◌≡◌, List, [], ℕ, Bool, false, true, IfOk, IfSome, ◌<◌, ◌≤◌, length, slice_index, take};
+ghost use Rattle.std.specs.Prelude.{◌≡◌, List, [], ℕ, Bool, true, IfOk, IfSome, ◌<◌, ◌≤◌, length};
 ghost use Rattle.std.specs.String.{string_bytes};
 ghost use Rattle.std.specs.Option.{option_copied};
-ghost use Rattle.h5_markup.specs.Plain.{is_plain};
 ghost use Rattle.h5_markup.specs.Matching as m;
 ghost use Rattle.h5_markup.specs.Seen.{seen};
-ghost use Rattle.h5_reading.specs.Lines.{newlines, newlines_passed};
+ghost use Rattle.h5_reading.specs.Lines.{newlines_passed};
 ghost use Rattle.h5_tokenizer.specs.Front.{opening};
 ghost use Rattle.h5_tokenizer.specs.Openings.{opening_of};
 ghost use Rattle.h5_tokenizer.specs.Steps.{TakesBits, TakesSome, TakesMany};
 
 use super::front::{Mode, Opening, find_opening};
-use h5_markup::{Seen, are_plain, is_plain, plain_len};
-use h5_reading::few_newlines;
+use h5_markup::{Seen, plain_len};
+use h5_reading::count_plain;
 use memchr::memchr;
 use std::alloc::{AllocError, Global};
 
@@ -36,84 +35,6 @@ pub struct Plain<'a> {
     pub after: &'a str,
     /// How many newlines are in it.
     pub lines: u64,
-}
-
-// How many bytes at the front are text in every state, as far as 64 at once are, and how many newlines are among them.
-fn count_blocks(bytes: &[u8]) -> (usize, u64)
-    ensures within { result.0 ≤ length bytes.now }
-    ensures plain { (k : ℕ) → k < result.0 → is_plain (slice_index bytes.now k) ≡ true }
-    ensures lines { result.1 ≡ newlines false (take result.0 bytes.now) }
-{
-    let mut n = 0;
-    let mut lines: u64 = 0;
-    while bytes.len() - n > 63 {
-        let (_, rest) = bytes.split_at(n);
-        let (block, _) = rest.split_at(64);
-        if !are_plain(block) {
-            return (n, lines);
-        }
-        lines += few_newlines(block, false) as u64;
-        n += 64;
-    }
-    (n, lines)
-}
-
-// The index of the first byte that isn't text in every state, or the length where all are, and how many newlines come
-// before it.
-#[inline(always)]
-fn count_bytes(bytes: &[u8]) -> (usize, u64)
-    ensures within { result.0 ≤ length bytes.now }
-    ensures plain { (k : ℕ) → k < result.0 → is_plain (slice_index bytes.now k) ≡ true }
-    ensures stops { result.0 < length bytes.now → is_plain (slice_index bytes.now result.0) ≡ false }
-    ensures lines { result.1 ≡ newlines false (take result.0 bytes.now) }
-{
-    let mut lines: u64 = 0;
-    for (i, b) in bytes.iter().enumerate() {
-        // Most bytes are letters in lower case, and these are asked nothing else.
-        if *b <= b']' {
-            if !is_plain(*b) {
-                return (i, lines);
-            }
-            if *b == b'\n' {
-                lines += 1;
-            }
-        }
-    }
-    (bytes.len(), lines)
-}
-
-// The same, where many bytes are likely to be text.
-#[inline(never)]
-fn count_far(bytes: &[u8]) -> (usize, u64)
-    ensures within { result.0 ≤ length bytes.now }
-    ensures plain { (k : ℕ) → k < result.0 → is_plain (slice_index bytes.now k) ≡ true }
-    ensures stops { result.0 < length bytes.now → is_plain (slice_index bytes.now result.0) ≡ false }
-    ensures lines { result.1 ≡ newlines false (take result.0 bytes.now) }
-{
-    let (n, lines) = count_blocks(bytes);
-    let (_, rest) = bytes.split_at(n);
-    let (m, others) = count_bytes(rest);
-    (n + m, lines + others)
-}
-
-// How many bytes are looked at one by one, before those behind them are by blocks. Most texts are shorter.
-const NEAR: usize = 32;
-
-// How many bytes at the front are text in every state, and how many newlines are among them.
-fn count_plain(text: &str) -> (usize, u64)
-    ensures within { result.0 ≤ length text.now }
-    ensures plain { (k : ℕ) → k < result.0 → is_plain (slice_index text.now k) ≡ true }
-    ensures stops { result.0 < length text.now → is_plain (slice_index text.now result.0) ≡ false }
-    ensures lines { result.1 ≡ newlines false (take result.0 text.now) }
-{
-    let bytes = text.as_bytes();
-    let (front, rest) = bytes.split_at(bytes.len().min(NEAR));
-    let (n, lines) = count_bytes(front);
-    if n < front.len() {
-        return (n, lines);
-    }
-    let (m, others) = count_far(rest);
-    (n + m, lines + others)
 }
 
 /// The plain text at the front and what follows it, where there is some.

@@ -2,9 +2,8 @@
 ghost use Rattle.std.specs.Prelude.{◌≡◌};
 
 use super::front::Mode;
-use h5_markup::Inside;
-use h5_names::LocalName;
-use h5_reading::Stop;
+use h5_markup::{Inside, SharedNames};
+use h5_reading::{LastName, Stop};
 
 /// Where the reader is between two tokens.
 #[derive(Drop)]
@@ -13,9 +12,11 @@ pub struct State {
     pub at_start: bool,
     pub mode: Mode,
     /// The last start tag's name, or the empty text.
-    pub last: LocalName,
+    pub last: LastName,
     /// The line in which what comes next begins. It stays at the most a `u64` holds.
     pub line: u64,
+    /// The names that HTML doesn't know.
+    pub names: SharedNames,
 }
 
 /// How far the end of the construct at the front was looked for.

@@ -8,13 +8,13 @@ ghost use Rattle.h5_tokenizer.specs.Read.{chosen_mode};
 ghost use Rattle.h5_tokenizer.specs.Steps.{place_of, HandsOn, Makes, Pending, TakesBits, turn_of};
 ghost use Rattle.h5_token.specs.Reply.{reply};
 
-use super::bare::{find_bare, make_bare};
+use super::bare::find_bare;
 use super::front::{Construct, Mode, Opening, find_opening};
 use super::plain::{begin_long, begin_text, cut_plain, take_plain, take_texts};
 use super::state::{Search, State, Turn};
 use super::tokens::make_token;
-use h5_markup::{Inside, Seen, Sought, seek_end};
-use h5_reading::{Stop, ask, ask_of_tag, ask_of_text, newlines_passed, stop_of};
+use h5_markup::{Inside, Seen, Sought, make_bare, seek_end};
+use h5_reading::{LastName, Stop, ask, ask_of_tag, ask_of_text, newlines_passed, stop_of};
 use h5_token::{BuildFault, Tag, TagKind, Token, TokenSink, TokenSinkResult};
 use std::alloc::Global;
 
@@ -40,7 +40,7 @@ fn hand_on_tag<S: TokenSink>(
 {
     match tag.kind {
         TagKind::StartTag => {
-            state.last = tag.name.clone()?;
+            state.last = LastName::read(tag.name.clone()?);
             let answer = ask_of_tag(sink, tag, state.line)?;
             state.mode = chosen_mode(&answer);
             Ok(stop_of(answer))
@@ -188,7 +188,7 @@ fn construct_step<'a, S: TokenSink>(
             place,
         }))),
         Sought::End(text, after, place) => {
-            let token = make_token(alloc, construct, text, place)?;
+            let token = make_token(alloc, &mut state.names, construct, text, place)?;
             token_step(sink, state, rest, after, token)
         }
     }
@@ -278,7 +278,7 @@ pub fn step<'a, S: TokenSink>(
         return Ok(Turn::Waits(None));
     }
     if let Some((kind, name, after)) = find_bare(state.mode, search, rest) {
-        let tag = make_bare(alloc, kind, name)?;
+        let tag = make_bare(alloc, &mut state.names, kind, name)?;
         return tag_step(sink, state, rest, after, tag);
     }
     if let Some(plain) = cut_plain(rest) {

@@ -8,8 +8,8 @@ use super::ending::close;
 use super::front::Mode;
 use super::reader::{Reader, read};
 use super::state::State;
-use h5_names::LocalName;
-use h5_reading::{BufferQueue, Stage, TokenizerOpts, TokenizerResult};
+use h5_markup::SharedNames;
+use h5_reading::{BufferQueue, LastName, Stage, TokenizerOpts, TokenizerResult};
 use h5_token::{BuildFault, TokenSink, states};
 use std::alloc::Global;
 
@@ -50,15 +50,15 @@ impl<Sink: TokenSink> Tokenizer<Sink> {
             Some(name) => name,
             None => String::new(alloc),
         };
-        let last = LocalName::from_string(last);
         Tokenizer {
             sink,
             reader: Reader {
                 state: State {
                     at_start: discard_bom,
                     mode: mode_of(initial_state),
-                    last,
+                    last: LastName::given(last),
                     line: 1,
+                    names: SharedNames::new(alloc),
                 },
                 held: BufferQueue::new(alloc),
                 search: None,

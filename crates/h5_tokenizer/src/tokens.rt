@@ -6,7 +6,7 @@ ghost use Rattle.h5_markup.specs.Text.{text_of};
 ghost use Rattle.h5_tokenizer.specs.Tokens as s;
 
 use super::front::Construct;
-use h5_markup::{Class, Inside, cut_at, make_doctype, make_name, read_attributes, text_of};
+use h5_markup::{Class, Inside, SharedNames, cut_at, make_doctype, read_attributes, text_of};
 use h5_token::{Tag, TagKind, Token};
 use std::alloc::{AllocError, Global};
 
@@ -37,28 +37,33 @@ fn is_self_closing(text: &str, place: Inside) -> bool
     ends_in_slash(text) && is_between(place)
 }
 
-fn make_start_tag(alloc: Global, text: &str, place: Inside) -> Result<Token, AllocError>
+fn make_start_tag(
+    alloc: Global,
+    names: &mut SharedNames,
+    text: &str,
+    place: Inside,
+) -> Result<Token, AllocError>
     requires { place_after Inside.TagName text.now ≡ place }
     ensures { IfOk result (λ token. token_text token ≡ s.start_tag text.now) }
 {
     let (name, behind) = cut_at(text, Class::NameEnd);
-    let kept = read_attributes(alloc, behind)?;
+    let kept = read_attributes(alloc, names, behind)?;
     Ok(Token::TagToken(Tag {
         kind: TagKind::StartTag,
-        name: make_name(alloc, name)?,
+        name: names.name(alloc, name)?,
         self_closing: is_self_closing(text, place),
         attrs: kept.attributes,
         had_duplicate_attributes: kept.duplicates,
     }))
 }
 
-fn make_end_tag(alloc: Global, text: &str) -> Result<Token, AllocError>
+fn make_end_tag(alloc: Global, names: &mut SharedNames, text: &str) -> Result<Token, AllocError>
     ensures { IfOk result (λ token. token_text token ≡ s.end_tag text.now) }
 {
     let (name, _) = cut_at(text, Class::NameEnd);
     Ok(Token::TagToken(Tag {
         kind: TagKind::EndTag,
-        name: make_name(alloc, name)?,
+        name: names.name(alloc, name)?,
         self_closing: false,
         attrs: Vec::new(alloc),
         had_duplicate_attributes: false,
@@ -79,6 +84,7 @@ fn make_comment(alloc: Global, text: &str) -> Result<Token, AllocError>
 #[inline(always)]
 pub fn make_token(
     alloc: Global,
+    names: &mut SharedNames,
     construct: Construct,
     text: &str,
     place: Inside,
@@ -89,8 +95,8 @@ pub fn make_token(
     match construct {
         Construct::Comment => make_comment(alloc, text),
         Construct::Doctype => Ok(Token::DoctypeToken(make_doctype(alloc, text)?)),
-        Construct::StartTag => make_start_tag(alloc, text, place),
-        Construct::EndTag => make_end_tag(alloc, text),
-        Construct::RawEndTag => make_end_tag(alloc, text),
+        Construct::StartTag => make_start_tag(alloc, names, text, place),
+        Construct::EndTag => make_end_tag(alloc, names, text),
+        Construct::RawEndTag => make_end_tag(alloc, names, text),
     }
 }

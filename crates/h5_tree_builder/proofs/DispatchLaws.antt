@@ -3,6 +3,7 @@ use Rattle.std.proofs.Common.{◌≡◌, ℕ, List, true, false, Result, Ok, Err
 use Rattle.std.specs.declared.alloc.AllocError.{AllocError}
 use Rattle.h5_interface.specs.SinkChoices.{SinkChoices}
 use Rattle.h5_interface.specs.declared.sink.TreeSink.{Ghosts}
+use Rattle.h5_types.specs.TurnResult.{TurnResult}
 use Rattle.h5_types.specs.TurnText.{TurnText, turn_text}
 use Rattle.h5_types.specs.declared.turns.ProcessResult.{ProcessResult}
 use Rattle.h5_types.specs.declared.turns.Token.{Token}
@@ -18,7 +19,7 @@ use Rattle.h5_laws.proofs.modes.ForeignRowLaws.{any_has, dispatch_foreign, dispa
 use Rattle.h5_rules.proofs.rows.KeptLaws.{apply_append}
 use Rattle.h5_rules_foreign.specs.ForeignSteps.{EndedBy, LeftToMode}
 use Rattle.h5_state.specs.Steps.{IsSound, errors_of, world_of}
-use Rattle.h5_state.specs.Turn.{FollowsRule}
+use Rattle.h5_state.specs.Turn.{FollowsRule, turn_result}
 use Rattle.h5_state.specs.declared.state.State.{State}
 
 -- what a builder keeps is kept by the changes before it
@@ -43,7 +44,7 @@ kept_before choices t w h f =
 left_fitting : (choices : SinkChoices) (t : TurnText) (w v : World) (changes : List Change) → is_foreign choices t w ≡ true → foreign_step t w ≡ ByMode changes → v ≡ apply_all choices changes w → Fitting w → Fitting v
 left_fitting choices t w v changes h is e f = subst Fitting (sym e) (subst (KeptBefore choices w) is (kept_before choices t w h f))
 
-module _ {H : Type 0} (choices : SinkChoices) (node : H → ℕ) (t : TurnText) (w u : World) (a c : ℕ) (result : ProcessResult H) where
+module _ {H : Type 0} (choices : SinkChoices) (node : H → ℕ) (t : TurnText) (w u : World) (a c : ℕ) (result : TurnResult H) where
   -- the turn followed the row of the token, whichever it has
   follows_row : (r : Row) → is_foreign choices t w ≡ true → foreign_step t w ≡ HasRow r → Follows choices node r t w u a c result → Follows choices node (dispatch choices t w) t w u a c result
   follows_row r h is f = subst (λ x. Follows choices node x t w u a c result) (sym (dispatch_foreign choices t w h ∙ ap (λ x. row_of choices x t w) is)) f
@@ -73,16 +74,16 @@ module _ {S H O : Type 0} (law : Ghosts S H O) (t : TurnText) (sink : S) (state 
   abbrev here : World
   here = world_of law sink state
 
-  pub turns_by_mode : (new_sink : S) (new_state : State H) (result : Result (ProcessResult H) AllocError) → is_foreign law.choices t here ≡ false → FollowsRule law (rule here.mode t) t sink state new_sink new_state result → FollowsRule law (dispatch law.choices t) t sink state new_sink new_state result
+  pub turns_by_mode : (new_sink : S) (new_state : State H) (result : Result ProcessResult AllocError) → is_foreign law.choices t here ≡ false → FollowsRule law (rule here.mode t) t sink state new_sink new_state result → FollowsRule law (dispatch law.choices t) t sink state new_sink new_state result
   turns_by_mode new_sink new_state result h s = record {
-    follows = subst (λ x. IfOk result (λ r. Follows law.choices law.node x t here (world_of law new_sink new_state) (errors_of law sink) (errors_of law new_sink) r)) (sym (dispatch_html law.choices t here h)) s.follows;
+    follows = subst (λ x. IfOk result (λ r. Follows law.choices law.node x t here (world_of law new_sink new_state) (errors_of law sink) (errors_of law new_sink) (turn_result r new_state))) (sym (dispatch_html law.choices t here h)) s.follows;
     sound = s.sound;
   }
 
-  pub turns_in_foreign : (new_sink : S) (new_state : State H) (result : ProcessResult H) → is_foreign law.choices t here ≡ true → EndedBy law.choices law.node (foreign_step t here) t here (world_of law new_sink new_state) (errors_of law sink) (errors_of law new_sink) result
+  pub turns_in_foreign : (new_sink : S) (new_state : State H) (result : ProcessResult) → is_foreign law.choices t here ≡ true → EndedBy law.choices law.node (foreign_step t here) t here (world_of law new_sink new_state) (errors_of law sink) (errors_of law new_sink) (turn_result result new_state)
       → IsSound law new_sink new_state → FollowsRule law (dispatch law.choices t) t sink state new_sink new_state (Ok result)
   turns_in_foreign new_sink new_state result h e sound = record {
-    follows = follows_row law.choices law.node t here (world_of law new_sink new_state) (errors_of law sink) (errors_of law new_sink) result e.row h e.is e.follows;
+    follows = follows_row law.choices law.node t here (world_of law new_sink new_state) (errors_of law sink) (errors_of law new_sink) (turn_result result new_state) e.row h e.is e.follows;
     sound = sound;
   }
 
@@ -93,7 +94,7 @@ module _ {S H O : Type 0} (law : Ghosts S H O) (t : TurnText) (sink : S) (state 
     pub left_keeps : Fitting here → Fitting left
     left_keeps f = left_fitting law.choices t here left l.changes h l.is l.world f
 
-    pub turns_left : (new_sink : S) (new_state : State H) (result : Result (ProcessResult H) AllocError) → FollowsRule law (rule left.mode (turn_text again)) (turn_text again) left_sink left_state new_sink new_state result → FollowsRule law (dispatch law.choices t) t sink state new_sink new_state result
+    pub turns_left : (new_sink : S) (new_state : State H) (result : Result ProcessResult AllocError) → FollowsRule law (rule left.mode (turn_text again)) (turn_text again) left_sink left_state new_sink new_state result → FollowsRule law (dispatch law.choices t) t sink state new_sink new_state result
     turns_left new_sink new_state result s =
         let new = world_of law new_sink new_state in
         let a = errors_of law sink in
@@ -101,7 +102,7 @@ module _ {S H O : Type 0} (law : Ghosts S H O) (t : TurnText) (sink : S) (state 
         let d = errors_of law new_sink in
         record {
           follows =
-              if_ok result (λ r. Follows law.choices law.node (rule left.mode (turn_text again) left) (turn_text again) left new b d r) (λ r. Follows law.choices law.node (dispatch law.choices t here) t here new a d r)
-              (λ r f. follows_mode law.choices law.node t here new a d r left l.changes b h l.is l.world (subst (λ x. Follows law.choices law.node (rule left.mode x left) x left new b d r) l.token f)) s.follows;
+              if_ok result (λ r. Follows law.choices law.node (rule left.mode (turn_text again) left) (turn_text again) left new b d (turn_result r new_state)) (λ r. Follows law.choices law.node (dispatch law.choices t here) t here new a d (turn_result r new_state))
+              (λ r f. follows_mode law.choices law.node t here new a d (turn_result r new_state) left l.changes b h l.is l.world (subst (λ x. Follows law.choices law.node (rule left.mode x left) x left new b d (turn_result r new_state)) l.token f)) s.follows;
           sound = s.sound;
         }

@@ -26,7 +26,9 @@ use h5_rules_tables::{
 use h5_rules_templates::{
     step_after_after_frameset, step_after_frameset, step_in_frameset, step_in_template,
 };
-use h5_state::{State, Turn, current_mode, set_mode, tell_error, unexpected};
+use h5_state::{
+    State, Turn, current_mode, set_mode, take_again, take_answer, tell_error, unexpected,
+};
 use h5_token::{Tag, TagKind, TokenSinkResult};
 use h5_types::{InsertionMode, ProcessResult, Token};
 use std::alloc::AllocError;
@@ -37,7 +39,7 @@ pub fn step_by_any_mode<S: TreeSink>(
     sink: &mut S,
     state: &mut State<S::Handle>,
     token: Token,
-) -> Turn<S::Handle>
+) -> Turn
     requires ready { IsReady S.TreeSink sink.old state.old }
     requires text { HasText (turn_text token) }
     ensures { FollowsRule S.TreeSink (rule (world_of S.TreeSink sink.old state.old).mode (turn_text token)) (turn_text token) sink.old state.old sink.new state.new result }
@@ -69,11 +71,7 @@ pub fn step_by_any_mode<S: TreeSink>(
 
 // One turn, by the rule of the mode. Most tokens of a page come in the body.
 #[inline(always)]
-fn step_by_mode<S: TreeSink>(
-    sink: &mut S,
-    state: &mut State<S::Handle>,
-    token: Token,
-) -> Turn<S::Handle>
+fn step_by_mode<S: TreeSink>(sink: &mut S, state: &mut State<S::Handle>, token: Token) -> Turn
     requires ready { IsReady S.TreeSink sink.old state.old }
     requires text { HasText (turn_text token) }
     ensures { FollowsRule S.TreeSink (rule (world_of S.TreeSink sink.old state.old).mode (turn_text token)) (turn_text token) sink.old state.old sink.new state.new result }
@@ -86,11 +84,7 @@ fn step_by_mode<S: TreeSink>(
 
 // One turn in foreign content: by its rules, or by the rule of the mode after all.
 #[inline(never)]
-fn step_in_foreign<S: TreeSink>(
-    sink: &mut S,
-    state: &mut State<S::Handle>,
-    token: Token,
-) -> Turn<S::Handle>
+fn step_in_foreign<S: TreeSink>(sink: &mut S, state: &mut State<S::Handle>, token: Token) -> Turn
     requires ready { IsReady S.TreeSink sink.old state.old }
     requires text { HasText (turn_text token) }
     requires foreign { is_foreign S.choices (turn_text token) (world_of S.TreeSink sink.old state.old) ≡ true }
@@ -104,7 +98,7 @@ fn step_in_foreign<S: TreeSink>(
 
 // One turn: by the rules of foreign content, or by the rule of the mode.
 #[inline(always)]
-fn step<S: TreeSink>(sink: &mut S, state: &mut State<S::Handle>, token: Token) -> Turn<S::Handle>
+fn step<S: TreeSink>(sink: &mut S, state: &mut State<S::Handle>, token: Token) -> Turn
     requires ready { IsReady S.TreeSink sink.old state.old }
     requires text { HasText (turn_text token) }
     ensures { FollowsRule S.TreeSink (dispatch S.choices (turn_text token)) (turn_text token) sink.old state.old sink.new state.new result }
@@ -178,8 +172,12 @@ pub fn settle_token<S: TreeSink>(
                     answer: TokenSinkResult::Continue,
                 });
             }
-            ProcessResult::Answer(answer) => return Ok(Taken { turns, answer }),
-            ProcessResult::Reprocess(mode, again) => {
+            ProcessResult::Answer => {
+                let answer = take_answer(sink, state);
+                return Ok(Taken { turns, answer });
+            }
+            ProcessResult::Reprocess(mode) => {
+                let again = take_again(sink, state);
                 set_mode(sink, state, mode);
                 rest = again;
                 turns += 1;

@@ -7,7 +7,8 @@ ghost use Rattle.h5_tree_builder.specs.Builder.{first_world};
 use h5_interface::TreeSink;
 use h5_list::FormattingList;
 use h5_state::{OpenElements, PendingText, State};
-use h5_types::{InsertionMode, TreeBuilderOpts};
+use h5_token::TokenSinkResult;
+use h5_types::{InsertionMode, Token, TreeBuilderOpts};
 use std::alloc::Global;
 
 // Nothing is open, in the mode "initial".
@@ -31,6 +32,8 @@ pub fn first_state<S: TreeSink>(sink: &S, alloc: Global, opts: TreeBuilderOpts) 
         ignore_lf: false,
         foster_parenting: false,
         context_elem: None,
+        again: Token::Eof,
+        answer: TokenSinkResult::Continue,
         alloc,
     }
 }

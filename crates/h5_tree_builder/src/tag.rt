@@ -18,18 +18,14 @@ use h5_insertion::is_in_known_html;
 use h5_interface::TreeSink;
 use h5_rules_body::in_body_tag;
 use h5_rules_tables::{in_cell_tag, in_row_tag, in_table_body_tag, in_table_tag, leave_table_text};
-use h5_state::{State, Turn, current_mode, set_mode};
+use h5_state::{State, Turn, current_mode, set_mode, take_again, take_answer};
 use h5_token::{Tag, TokenSinkResult};
 use h5_types::{InsertionMode, ProcessResult, Token};
 use std::alloc::AllocError;
 
 // One turn of a tag, by the rule of the mode. Most tags of a page come in these.
 #[inline(always)]
-fn step_tag_by_mode<S: TreeSink>(
-    sink: &mut S,
-    state: &mut State<S::Handle>,
-    tag: Tag,
-) -> Turn<S::Handle>
+fn step_tag_by_mode<S: TreeSink>(sink: &mut S, state: &mut State<S::Handle>, tag: Tag) -> Turn
     requires { IsReady S.TreeSink sink.old state.old }
     ensures { FollowsRule S.TreeSink (rule (world_of S.TreeSink sink.old state.old).mode (TagTurn (tag_text tag))) (TagTurn (tag_text tag)) sink.old state.old sink.new state.new result }
 {
@@ -100,11 +96,13 @@ fn settle_tag_itself<S: TreeSink>(
             Ok(1)
         }
         ProcessResult::DoneAckSelfClosing => Ok(1),
-        ProcessResult::Answer(given) => {
+        ProcessResult::Answer => {
+            let given = take_answer(sink, state);
             *answer = given;
             Ok(1)
         }
-        ProcessResult::Reprocess(mode, again) => {
+        ProcessResult::Reprocess(mode) => {
+            let again = take_again(sink, state);
             set_mode(sink, state, mode);
             let rest = settle_token(sink, state, again)?;
             *answer = rest.answer;

@@ -1,2 +1,3 @@
 pub mod Options
+pub mod TurnResult
 pub mod TurnText

@@ -1,6 +1,6 @@
 //! What takes turns, and how a turn ends.
 use super::modes::{InsertionMode, SplitStatus};
-use h5_token::{Tag, TokenSinkResult};
+use h5_token::Tag;
 
 /// A token that takes turns: all but doctypes, parse errors and empty texts.
 #[derive(Drop)]
@@ -13,15 +13,16 @@ pub enum Token {
     Eof,
 }
 
-/// How a turn ends (HTML standard, section 13.2.6, "Tree construction").
-#[derive(Drop)]
-pub enum ProcessResult<Handle> {
+/// How a turn ends (HTML standard, section 13.2.6, "Tree construction"). The token that takes another turn and the answer
+/// stand in the state.
+#[derive(Clone, Copy, Debug, PartialEq, Eq)]
+pub enum ProcessResult {
     /// The token is done with.
     Done,
     /// The token is done with, and its self-closing flag was acknowledged.
     DoneAckSelfClosing,
     /// The token takes another turn, in this mode.
-    Reprocess(InsertionMode, Token),
-    /// The token is done with, and this is answered to it.
-    Answer(TokenSinkResult<Handle>),
+    Reprocess(InsertionMode),
+    /// The token is done with, and it is answered.
+    Answer,
 }

@@ -4,10 +4,10 @@ use Rattle.h5_names.specs.AttributeText.{AttributeText}
 use Rattle.h5_names.specs.declared.qualified.QualName.{QualName}
 use Rattle.h5_token.specs.TokenText.{TagText}
 use Rattle.h5_interface.specs.SinkChoices.{SinkChoices}
+use Rattle.h5_types.specs.TurnResult.{TurnResult}
+use Rattle.h5_types.specs.TurnResult as results
 use Rattle.h5_types.specs.TurnText.{HasText, TurnText}
 use Rattle.h5_types.specs.declared.modes.InsertionMode.{InsertionMode}
-use Rattle.h5_types.specs.declared.turns.ProcessResult.{ProcessResult}
-use Rattle.h5_types.specs.declared.turns.ProcessResult.TheVariants as results
 use Rattle.h5_types.specs.declared.modes.InsertionMode.TheVariants.{BeforeHtml, Initial}
 use Rattle.h5_rules.specs.fitting.Fits.{is_before_root}
 use Rattle.h5_rules.specs.fitting.Frames.{Frame}
@@ -167,7 +167,7 @@ dispatch_kept choices t w some f =
     (λ h. rule_kept choices t w some f)
 
 -- so a turn that followed its row leaves what fits
-follows_fits : {H : Type 0} (choices : SinkChoices) (node : H → ℕ) (t : TurnText) (w v : World) (a b : ℕ) (result : ProcessResult H) → Follows choices node (dispatch choices t w) t w v a b result → Sound w → HasText t → Fits w → FitsAfter (dispatch choices t w).ending v
+follows_fits : {H : Type 0} (choices : SinkChoices) (node : H → ℕ) (t : TurnText) (w v : World) (a b : ℕ) (result : TurnResult H) → Follows choices node (dispatch choices t w) t w v a b result → Sound w → HasText t → Fits w → FitsAfter (dispatch choices t w).ending v
 follows_fits choices node t w v a b result f k some h = subst (FitsAfter (dispatch choices t w).ending) (sym f.world) (dispatch_kept choices t w some (record { sound = k; fits = h })).fits
 
 pub fits_done : {H : Type 0} (choices : SinkChoices) (node : H → ℕ) (t : TurnText) (w v : World) (a b : ℕ) → Follows choices node (dispatch choices t w) t w v a b results.Done → Sound w → HasText t → Fits w → Fits v

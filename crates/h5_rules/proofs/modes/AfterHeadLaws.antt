@@ -11,10 +11,10 @@ use Rattle.h5_interface.specs.Forest.{ElementNode}
 use Rattle.h5_interface.specs.SinkChoices.{SinkChoices}
 use Rattle.h5_interface.proofs.ForestLaws.{node_of_kind}
 use Rattle.h5_tag_sets.specs.TagSets.{html_namespace, is_one_of}
-use Rattle.h5_types.specs.declared.modes.InsertionMode.TheVariants.{AfterHead, InTemplate, Text}
+use Rattle.h5_types.specs.TurnResult.{TurnResult}
+use Rattle.h5_types.specs.TurnResult as results
 use Rattle.h5_types.specs.TurnText.{TurnText}
-use Rattle.h5_types.specs.declared.turns.ProcessResult.{ProcessResult}
-use Rattle.h5_types.specs.declared.turns.ProcessResult.TheVariants as results
+use Rattle.h5_types.specs.declared.modes.InsertionMode.TheVariants.{AfterHead, InTemplate, Text}
 use Rattle.h5_rules.specs.formatting.FormattingList.{MarkerEntry}
 use Rattle.h5_rules.specs.formatting.FormattingNames.{html_name}
 use Rattle.h5_rules.specs.stack.Order.{last_or}
@@ -275,7 +275,7 @@ head_stays_known choices tag w k fit p =
     let v = push_head w in
     content_head choices v (sound_push_head w k (only_root w fit)) (in_head_start_tag tag v).changes (content_row tag v p).changes
 
-pub ends_anywhere : {H : Type 0} (node : H → ℕ) (t : TurnText) (result : ProcessResult H) (e : Ending) (u v : World) → ((x : World) → next_mode e x ≡ None) → EndsAs node t result e u → EndsAs node t result e v
+pub ends_anywhere : {H : Type 0} (node : H → ℕ) (t : TurnText) (result : TurnResult H) (e : Ending) (u v : World) → ((x : World) → next_mode e x ≡ None) → EndsAs node t result e u → EndsAs node t result e v
 ends_anywhere node t results.Done e u v none ends = ends
 ends_anywhere node t results.DoneAckSelfClosing e u v none ends = ends
 ends_anywhere node t (results.Reprocess mode token) e u v none ends = absurd (let clash : None ≡ Some mode = sym (none u) ∙ ends.0 in cc)

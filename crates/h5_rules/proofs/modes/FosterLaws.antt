@@ -15,10 +15,10 @@ use Rattle.h5_rules.specs.stack.Scope.{has_template}
 use Rattle.h5_token.specs.TokenText.{TagText}
 use Rattle.h5_token.specs.declared.tag.TagKind.{TagKind}
 use Rattle.h5_token.specs.declared.tag.TagKind.TheVariants.{EndTag, StartTag}
+use Rattle.h5_types.specs.TurnResult.{TurnResult}
+use Rattle.h5_types.specs.TurnResult as results
 use Rattle.h5_types.specs.TurnText.{CommentTurn, EofTurn, NullTurn, TagTurn, TextTurn, TurnText}
 use Rattle.h5_types.specs.declared.modes.InsertionMode.TheVariants.{AfterBody}
-use Rattle.h5_types.specs.declared.turns.ProcessResult.{ProcessResult}
-use Rattle.h5_types.specs.declared.turns.ProcessResult.TheVariants as results
 use Rattle.h5_rules.proofs.modes.BodyRowLaws.{EndsAtOnce, IsBodyRow, row_end_by, row_start}
 
 -- an ending that doesn't look at the foster flag
@@ -74,14 +74,14 @@ outright_next (Again mode) v k = refl
 outright_next (AgainBy mode) v k = ap Some (k v)
 outright_next (Answers answer) v k = refl
 
-outright_ends : {H : Type 0} (node : H → ℕ) (t : TurnText) (result : ProcessResult H) (e : Ending) (v : World) → IsOutright e → EndsAs node t result e v → EndsAs node t result e (set_foster false v)
+outright_ends : {H : Type 0} (node : H → ℕ) (t : TurnText) (result : TurnResult H) (e : Ending) (v : World) → IsOutright e → EndsAs node t result e v → EndsAs node t result e (set_foster false v)
 outright_ends node t results.Done e v k h = h
 outright_ends node t results.DoneAckSelfClosing e v k h = h
 outright_ends node t (results.Reprocess mode token) e v k h = (outright_next e v k ∙ h.0, h.1)
 outright_ends node t (results.Answer answer) e v k h = h
 
 -- a turn by the body while foster parenting is on, and the flag goes off behind it
-pub foster_follows : {H : Type 0} (choices : SinkChoices) (node : H → ℕ) (t : TurnText) (w v u : World) (a b c d : ℕ) (result : ProcessResult H) → Follows choices node (in_body t (set_foster true w)) t (set_foster true w) v a b result → u ≡ set_foster false v
+pub foster_follows : {H : Type 0} (choices : SinkChoices) (node : H → ℕ) (t : TurnText) (w v u : World) (a b c d : ℕ) (result : TurnResult H) → Follows choices node (in_body t (set_foster true w)) t (set_foster true w) v a b result → u ≡ set_foster false v
     → Follows choices node (foster in_body t w) t w u c d result
 foster_follows choices node t w v u a b c d result f e =
     let on = set_foster true w in

@@ -1,4 +1,5 @@
 use Rattle.std.proofs.Common.{◌≡◌, ◌++◌, ℕ, Vec, Global, ap, ◌∙◌, rules, string_bytes}
+use Rattle.std.proofs.lemmas.Result.{err_from_is_err_and}
 use Rattle.h5_arena.specs.ArenaModel.{arena_choices, place, seen_of}
 use Rattle.h5_lines.specs.Items.{item_texts}
 use Rattle.h5_tree_builder.specs.Builder.{ended_view}
@@ -24,3 +25,8 @@ returns-clause-prints c =
           ∙ ap (λ rs. text ++ reply_lines 1 (reply_texts place rs)) c.as_slice.ensures.value
           ∙ ap (λ rs. text ++ reply_lines 1 rs) (c.in_ok-replies.ensures.told ∙ ap (replies_to_items items) first);
     }
+
+pub returns-in_err-print_replies-clause-memory : goal.returns-in_err-print_replies-clause-memory
+returns-in_err-print_replies-clause-memory c =
+    let r = err_from_is_err_and c.from_residual-in_err-print_replies.result c.from_residual-in_err-print_replies.ensures.1 in
+    rw (r.1, r.2) c.in_err-print_replies.ensures.memory

@@ -14,6 +14,6 @@ returns c =
     let taken : kept c.take_calls.new.blocks ≡ after_each after_call (kept c.new-blocks.result) walk = search rules in
     record {
       arena = arena;
-      parsed = search rules;
+      parsed = c.in_ok-arena.ensures;
       text = c.in_ok-lines.ensures ∙ kept_lines (kept c.take_calls.new.blocks) walk (taken ∙ ap (λ k. after_each after_call k walk) c.new-blocks.ensures);
     }

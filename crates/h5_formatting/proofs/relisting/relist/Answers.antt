@@ -45,9 +45,9 @@ move_above-requires g c =
     let swapped = laws.swapped_world p.0 p.1 clones n c.args.at c.args.first c.args.block w p.2 v u walked c.swap_entry.ensures.done in
     laws.place_inside p.0 p.1 clones n c.args.at c.args.first c.args.block w p.2 (ElementEntry n p.0.tag) u swapped
 
-pub returns-else-not-is_empty : goal.returns-else-not-is_empty
+pub returns-else-not-is_empty-clause-done : goal.returns-else-not-is_empty-clause-done
 unfolding world
-returns-else-not-is_empty g c = λ f between r.
+returns-else-not-is_empty-clause-done g c = λ f between r.
     let node = g.S.TreeSink.node in
     let state = c.args.state.now in
     let w = world_of g.S.TreeSink c.args.sink.now state in
@@ -70,9 +70,9 @@ returns-else-not-is_empty g c = λ f between r.
           (laws.sound_round f between clones n c.args.at c.args.first c.args.block w r c.requires.sound.sound);
     }
 
-pub returns-then-not-is_empty : goal.returns-then-not-is_empty
+pub returns-then-not-is_empty-clause-done : goal.returns-then-not-is_empty-clause-done
 unfolding world
-returns-then-not-is_empty g c = λ f between r.
+returns-then-not-is_empty-clause-done g c = λ f between r.
     let node = g.S.TreeSink.node in
     let state = c.args.state.now in
     let w = world_of g.S.TreeSink c.args.sink.now state in

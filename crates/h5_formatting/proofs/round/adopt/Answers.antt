@@ -1,4 +1,4 @@
-use Rattle.std.proofs.Common.{◌≡◌, ◌∷◌, ◌++◌, ℕ, List, map, reverse, ap, sym, subst, ◌∙◌, refl, arith}
+use Rattle.std.proofs.Common.{◌≡◌, ◌∷◌, ◌++◌, ◌+◌, ℕ, List, length, map, reverse, ap, sym, subst, ◌∙◌, refl, arith}
 use Rattle.h5_token.specs.TokenText.{tag_text}
 use Rattle.h5_interface.specs.Seen.{Seen}
 use Rattle.h5_rules.specs.formatting.Adoption.{FormattingElement, FurthestBlock, older_than, round_list}
@@ -7,12 +7,14 @@ use Rattle.h5_rules.specs.formatting.AdoptionAgency.{Nest, adopt}
 use Rattle.h5_rules.specs.Sound.{AllStand}
 use Rattle.h5_rules.specs.World.{World}
 use Rattle.h5_rules.proofs.adoption.AdoptionForest.{block_is_open}
+use Rattle.h5_stack.specs.Numbered.{values}
 use Rattle.h5_state.specs.Steps.{world_of}
-use Rattle.h5_state.specs.View.{stack_under, world}
+use Rattle.h5_state.specs.View.{open_node, stack_over, stack_under, world}
+use Rattle.h5_state.specs.declared.open_element.OpenElements.{OpenElements}
 use Rattle.h5_formatting.specs.Rounds.{IsRound}
 use Rattle.h5_formatting.proofs.AdoptLaws.{adopted_told, all_after, block_moved, clones_made, may_move, may_relist, new_stack, refilled_and_told, world_relisted, world_seen}
 use Rattle.h5_formatting.proofs.CloneLaws.{newest_same}
-use Rattle.h5_formatting.proofs.RoundLaws.{block_inside, from_block, from_element, own_clone, round_forest, round_nest, round_split, under_length}
+use Rattle.h5_formatting.proofs.RoundLaws.{block_inside, from_block, from_element, own_clone, round_forest, round_nest}
 use Rattle.h5_formatting.proofs.round.adopt.Goals as goal
 
 pub make_clones-requires-clause-block : goal.make_clones-requires-clause-block
@@ -115,6 +117,15 @@ relist-requires-clause-relists g c =
     let rel = may_relist g.S.TreeSink c.args.sink.now state r c.tell_popped.new.sink (map node c.in_ok-clones.clones.made.items) (node c.in_ok-clone.clone) world4 made own in
     (c.requires.round.element, c.requires.round.furthest.between, rel)
 
+pub restack-requires-clause-block : goal.restack-requires-clause-block
+unfolding world
+restack-requires-clause-block g c =
+    let node = g.S.TreeSink.node in
+    let state = c.args.state.now in
+    let w = world_of g.S.TreeSink c.args.sink.now state in
+    let same = ap (λ (open_elems : OpenElements _). length (reverse (map (open_node node) (values open_elems.elements)))) c.relist.ensures.stack in
+    omega (arith, same, block_inside node state w refl c.requires.round.round)
+
 pub restack-requires-clause-sound : goal.restack-requires-clause-sound
 unfolding world
 restack-requires-clause-sound g c =
@@ -138,7 +149,7 @@ restack-requires-clause-sound g c =
     let world4 = world_seen g.S.TreeSink c.args.sink.now c.tell_popped.new.sink state (round_forest choices w r) forest4 quirks4 in
     let own : node c.in_ok-clone.clone ≡ own_clone choices w r = c.in_ok-clone.ensures.handle ∙ ap choices.fresh forest2 in
     let rel = may_relist g.S.TreeSink c.args.sink.now state r c.tell_popped.new.sink (map node c.in_ok-clones.clones.made.items) (node c.in_ok-clone.clone) world4 made own in
-    (c.relist.ensures c.requires.round.element c.requires.round.furthest.between rel).sound
+    (c.relist.ensures.done c.requires.round.element c.requires.round.furthest.between rel).sound
 
 pub restack-requires-clause-stands : goal.restack-requires-clause-stands
 unfolding world
@@ -167,11 +178,11 @@ restack-requires-clause-stands g c =
     let k = c.requires.round.furthest in
     let mid = world_of g.S.TreeSink c.tell_popped.new.sink state in
     let after = world_relisted g.S.TreeSink c.args.sink.now state r mid (world_of g.S.TreeSink c.tell_popped.new.sink c.relist.new.state) (map node c.in_ok-clones.clones.made.items) (node c.in_ok-clone.clone) world4 made own
-    (c.relist.ensures f k.between rel).world in
-    let handles : reverse (map node c.in_ok-handles.handles.items) ≡ k.newer ++ node c.in_ok-clone.clone ∷ k.block ∷ map node c.in_ok-clones.clones.made.items =
-    c.in_ok-handles.ensures k.newer k.block (k.between ++ f.node ∷ older_than f.node w.stack) (round_split node state w refl r) (under_length node state w refl r) in
+    (c.relist.ensures.done f k.between rel).world in
+    let handles : reverse (map node c.in_ok-handles.handles.items) ≡ node c.in_ok-clone.clone ∷ k.block ∷ map node c.in_ok-clones.clones.made.items =
+    c.in_ok-handles.ensures k.block (k.between ++ f.node ∷ older_than f.node w.stack) (from_block node state w refl r) in
     let stack = new_stack g.S.TreeSink c.args.sink.now state r c.relist.new.state (reverse (map node c.in_ok-handles.handles.items)) (map node c.in_ok-clones.clones.made.items) (node c.in_ok-clone.clone) (ap (λ (v : World). v.stack) after) made own handles in
-    subst (λ (v : World). AllStand v.forest (reverse (map node c.in_ok-handles.handles.items) ++ stack_under node c.relist.new.state c.args.place) v.formatting v.head v.form v.context) (sym after)
+    subst (λ (v : World). AllStand v.forest ((stack_over node c.relist.new.state (c.args.block + 1) ++ reverse (map node c.in_ok-handles.handles.items)) ++ stack_under node c.relist.new.state c.args.place) v.formatting v.head v.form v.context) (sym after)
     (subst (λ s. AllStand (round_forest choices w r) s (round_list f.node f.tag k.between (round_nest choices w r).clones (own_clone choices w r) w.formatting) w.head w.form w.context) (sym stack)
     (all_after g.S.TreeSink c.args.sink.now state r))
 
@@ -182,7 +193,7 @@ returns-clause-done g c =
     let state = c.args.state.now in
     let w = world_of g.S.TreeSink c.args.sink.now state in
     let w5 = world_of g.S.TreeSink c.tell_popped.new.sink c.relist.new.state in
-    let new_handles = reverse (map g.S.TreeSink.node c.in_ok-handles.handles.items) ++ stack_under g.S.TreeSink.node c.relist.new.state c.args.place in
+    let new_handles = (stack_over g.S.TreeSink.node c.relist.new.state (c.args.block + 1) ++ reverse (map g.S.TreeSink.node c.in_ok-handles.handles.items)) ++ stack_under g.S.TreeSink.node c.relist.new.state c.args.place in
     let all : (name : List ℕ) (f : FormattingElement) (k : FurthestBlock) → IsRound name f k c.args.place c.args.at c.args.block w → (record w5 { stack = new_handles }) ≡ adopt choices f k w = λ name f k r.
     let node = g.S.TreeSink.node in
     let choices = g.S.TreeSink.choices in
@@ -205,9 +216,9 @@ returns-clause-done g c =
     let rel = may_relist g.S.TreeSink c.args.sink.now state r c.tell_popped.new.sink (map node c.in_ok-clones.clones.made.items) (node c.in_ok-clone.clone) world4 made own in
     let mid = world_of g.S.TreeSink c.tell_popped.new.sink state in
     let after = world_relisted g.S.TreeSink c.args.sink.now state r mid (world_of g.S.TreeSink c.tell_popped.new.sink c.relist.new.state) (map node c.in_ok-clones.clones.made.items) (node c.in_ok-clone.clone) world4 made own
-    (c.relist.ensures f k.between rel).world in
-    let handles : reverse (map node c.in_ok-handles.handles.items) ≡ k.newer ++ node c.in_ok-clone.clone ∷ k.block ∷ map node c.in_ok-clones.clones.made.items =
-    c.in_ok-handles.ensures k.newer k.block (k.between ++ f.node ∷ older_than f.node w.stack) (round_split node state w refl r) (under_length node state w refl r) in
+    (c.relist.ensures.done f k.between rel).world in
+    let handles : reverse (map node c.in_ok-handles.handles.items) ≡ node c.in_ok-clone.clone ∷ k.block ∷ map node c.in_ok-clones.clones.made.items =
+    c.in_ok-handles.ensures k.block (k.between ++ f.node ∷ older_than f.node w.stack) (from_block node state w refl r) in
     let stack = new_stack g.S.TreeSink c.args.sink.now state r c.relist.new.state (reverse (map node c.in_ok-handles.handles.items)) (map node c.in_ok-clones.clones.made.items) (node c.in_ok-clone.clone) (ap (λ (v : World). v.stack) after) made own handles in
     ap (λ (v : World). record v { stack = new_handles }) after
     ∙ ap (λ s. record w { forest = round_forest choices w r; stack = s; formatting = round_list f.node f.tag k.between (round_nest choices w r).clones (own_clone choices w r) w.formatting }) stack in

@@ -1,6 +1,7 @@
-use Rattle.std.proofs.Common.{ap, arith, map, reverse, ◌∙◌, ◌∷◌, ◌≡◌}
-use Rattle.h5_state.specs.View.{stack_under, world}
+use Rattle.std.proofs.Common.{ap, arith, map, reverse, ◌+◌, ◌∙◌, ◌∷◌, ◌≡◌}
+use Rattle.h5_state.specs.View.{elements_of, open_node, stack_over, stack_under, world}
 use Rattle.h5_state.proofs.StackLaws.{seen_pushed}
+use Rattle.h5_state.proofs.SummaryLaws.{cut_in_two}
 use Rattle.h5_formatting.proofs.StackPushLaws.{carried_all, carried_more}
 use Rattle.h5_formatting.proofs.stack.push_newer.Goals as goal
 
@@ -15,7 +16,10 @@ up-preserved g c =
     }
 
 pub returns : goal.returns
-unfolding world
-returns g c = λ newer e.
-    let all : stack_under g.S.TreeSink.node c.args.state.now c.up.place ≡ _ = ap (stack_under g.S.TreeSink.node c.args.state.now) (omega (arith, c.up-test.false, c.up.invariant.place)) ∙ c.open_count-count.ensures.stack in
-    carried_all _ _ _ _ newer c.up.invariant.pushed (all ∙ e)
+unfolding world stack_over stack_under
+returns g c =
+    let node = g.S.TreeSink.node in
+    let state = c.args.state.now in
+    let count = c.args.block + 1 in
+    let all : stack_under node state c.up.place ≡ _ = ap (stack_under node state) (omega (arith, c.up-test.false, c.up.invariant.place)) ∙ c.open_count-count.ensures.stack in
+    carried_all _ _ _ _ (stack_over node state count) c.up.invariant.pushed (all ∙ cut_in_two (open_node node) (elements_of state) count)

@@ -1,8 +1,8 @@
 use Rattle.std.proofs.Common.{[], ◌∷◌, ap, length, refl, subst, sym, ◌∙◌}
 use Rattle.h5_tag_sets.specs.TagSets.{is_heading, is_html_named}
 use Rattle.h5_rules.specs.stack.Scope.{cut_through, first_passes}
+use Rattle.h5_types.specs.TurnResult.{Done}
 use Rattle.h5_types.specs.TurnText.{TagTurn}
-use Rattle.h5_types.specs.declared.turns.ProcessResult.TheVariants.{Done}
 use Rattle.h5_token.specs.TokenText.{tag_text}
 use Rattle.h5_rules.specs.stack.Closing.{pop_until_heading}
 use Rattle.h5_rules.specs.modes.InBody.{in_body_end_heading}

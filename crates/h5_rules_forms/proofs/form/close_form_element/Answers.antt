@@ -1,7 +1,7 @@
 use Rattle.std.proofs.Common.{◌≡◌, ap, false, refl, subst, sym, true, ◌∙◌}
 use Rattle.h5_token.specs.TokenText.{tag_text}
+use Rattle.h5_types.specs.TurnResult.{Done}
 use Rattle.h5_types.specs.TurnText.{TagTurn}
-use Rattle.h5_types.specs.declared.turns.ProcessResult.TheVariants.{Done}
 use Rattle.h5_interface.specs.Forest.{IsElement}
 use Rattle.h5_rules.specs.formatting.AdoptionAgency.{remove_from_stack}
 use Rattle.h5_rules.specs.stack.Closing.{generate_implied_end}

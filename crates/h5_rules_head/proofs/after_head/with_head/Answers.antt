@@ -1,14 +1,17 @@
 use Rattle.std.proofs.Common.{◌≡◌, ap, option_map, subst, sym, ◌∙◌}
+use Rattle.h5_token.specs.Reply.{reply}
 use Rattle.h5_token.specs.TokenText.{tag_text}
 use Rattle.h5_types.specs.TurnText.{TagTurn}
 use Rattle.h5_rules.specs.Changes.{push_head}
 use Rattle.h5_rules.specs.modes.InHead.{in_head_start_tag}
-use Rattle.h5_rules.specs.Rows.{Follows}
+use Rattle.h5_rules.specs.Rows.{Follows, apply_all}
+use Rattle.h5_rules.specs.modes.AfterHead.{removes_known}
 use Rattle.h5_rules.specs.Sound.{Sound}
 use Rattle.h5_rules.specs.World.{World, root}
 use Rattle.h5_rules.proofs.modes.AfterHeadLaws.{head_stays_above, head_stays_known}
 use Rattle.h5_rules.proofs.modes.PushHeadLaws.{only_root, sound_push_head}
 use Rattle.h5_state.specs.Steps.{errors_of, world_of}
+use Rattle.h5_state.specs.Turn.{turn_result}
 use Rattle.h5_state.specs.View.{world}
 use Rattle.h5_rules_head.proofs.HeadLaws.{apart_if_known, element_if_known, followed}
 use Rattle.h5_rules_head.proofs.after_head.with_head.Goals as goal
@@ -27,9 +30,10 @@ leave_head-requires-clause-root g c =
     let u = world_of law c.in_head_start_tag.new.sink c.in_head_start_tag.new.state in
     let known = c.known_head-head.ensures ∙ ap (λ (v : World). v.head) c.unexpected_tag.ensures.told.world in
     let pushed : x ≡ push_head w = c.in_ok-push_head.ensures.world ∙ ap push_head c.unexpected_tag.ensures.told.world in
-    let f = subst (λ y. Follows law.choices law.node (in_head_start_tag tag y) (TagTurn tag) y u (errors_of law c.unexpected_tag.new.sink) (errors_of law c.in_head_start_tag.new.sink) c.in_ok-result.result) pushed c.in_ok-result.ensures.follows in
-    apart_if_known law.node c.known_head-head.result w u known
-    (λ h e. subst (λ (v : World). h ≡ root v → ⊥) (sym f.world) (head_stays_above law.choices tag w c.requires.sound.sound c.requires.fits c.requires.name h e))
+    let f = subst (λ y. Follows law.choices law.node (in_head_start_tag tag y) (TagTurn tag) y u (errors_of law c.unexpected_tag.new.sink) (errors_of law c.in_head_start_tag.new.sink) (turn_result c.in_ok-result.result c.in_head_start_tag.new.state)) pushed c.in_ok-result.ensures.follows in
+    let left = world_of law c.in_head_start_tag.new.sink c.take_answer-answer.new.state in
+    apart_if_known law.node c.known_head-head.result w left known
+    (λ h e. subst (λ (v : World). h ≡ root v → ⊥) (sym (c.take_answer-answer.ensures.kept.world ∙ f.world)) (head_stays_above law.choices tag w c.requires.sound.sound c.requires.fits c.requires.name h e))
 
 pub leave_head-requires-clause-element : goal.leave_head-requires-clause-element
 unfolding world
@@ -41,7 +45,7 @@ leave_head-requires-clause-element g c =
     let u = world_of law c.in_head_start_tag.new.sink c.in_head_start_tag.new.state in
     let known = c.known_head-head.ensures ∙ ap (λ (v : World). v.head) c.unexpected_tag.ensures.told.world in
     let pushed : x ≡ push_head w = c.in_ok-push_head.ensures.world ∙ ap push_head c.unexpected_tag.ensures.told.world in
-    let f = subst (λ y. Follows law.choices law.node (in_head_start_tag tag y) (TagTurn tag) y u (errors_of law c.unexpected_tag.new.sink) (errors_of law c.in_head_start_tag.new.sink) c.in_ok-result.result) pushed c.in_ok-result.ensures.follows in
+    let f = subst (λ y. Follows law.choices law.node (in_head_start_tag tag y) (TagTurn tag) y u (errors_of law c.unexpected_tag.new.sink) (errors_of law c.in_head_start_tag.new.sink) (turn_result c.in_ok-result.result c.in_head_start_tag.new.state)) pushed c.in_ok-result.ensures.follows in
     element_if_known law.node c.known_head-head.result u c.in_head_start_tag.ensures.sound.sound
     (known ∙ sym (ap (λ (v : World). v.head) f.world ∙ head_stays_known law.choices tag w c.requires.sound.sound c.requires.fits c.requires.name))
 
@@ -52,11 +56,14 @@ returns g c =
     let w = world_of law c.args.sink.now c.args.state.now in
     let x = world_of law c.unexpected_tag.new.sink c.push_head.new.state in
     let u = world_of law c.in_head_start_tag.new.sink c.in_head_start_tag.new.state in
-    let v = world_of law c.leave_head.new.sink c.leave_head.new.state in
+    let v = world_of law c.leave_head.new.sink c.set_answer.new.state in
+    let head = option_map law.node c.known_head-head.result in
     let known = c.known_head-head.ensures ∙ ap (λ (y : World). y.head) c.unexpected_tag.ensures.told.world in
     let pushed : x ≡ push_head w = c.in_ok-push_head.ensures.world ∙ ap push_head c.unexpected_tag.ensures.told.world in
-    let f = subst (λ y. Follows law.choices law.node (in_head_start_tag tag y) (TagTurn tag) y u (errors_of law c.unexpected_tag.new.sink) (errors_of law c.in_head_start_tag.new.sink) c.in_ok-result.result) pushed c.in_ok-result.ensures.follows in
+    let f = subst (λ y. Follows law.choices law.node (in_head_start_tag tag y) (TagTurn tag) y u (errors_of law c.unexpected_tag.new.sink) (errors_of law c.in_head_start_tag.new.sink) (turn_result c.in_ok-result.result c.in_head_start_tag.new.state)) pushed c.in_ok-result.ensures.follows in
     record {
-      follows = followed law.choices law.node tag w u v (errors_of law c.args.sink.now) (errors_of law c.leave_head.new.sink) c.in_ok-result.result (option_map law.node c.known_head-head.result) c.requires.name known f.world f.ending c.leave_head.ensures.world;
-      sound = c.leave_head.ensures.sound;
+      follows = followed law.choices law.node tag w u v (errors_of law c.args.sink.now) (errors_of law c.leave_head.new.sink) c.in_ok-result.result c.in_head_start_tag.new.state c.set_answer.new.state head c.requires.name
+          (c.set_answer.ensures.answer ∙ ap (reply law.node) c.take_answer-answer.ensures.answer) known f.world f.ending
+          (c.set_answer.ensures.kept.world ∙ c.leave_head.ensures.world ∙ ap (apply_all law.choices (removes_known head)) c.take_answer-answer.ensures.kept.world);
+      sound = c.set_answer.ensures.kept.sound;
     }

@@ -3,8 +3,8 @@ use Rattle.h5_names.specs.declared.qualified.QualName.{QualName}
 use Rattle.h5_token.specs.TokenText.{tag_text}
 use Rattle.h5_interface.specs.SinkChoices.{SinkChoices}
 use Rattle.h5_tag_sets.specs.TagSets.{is_html_named, is_thorough_implied}
+use Rattle.h5_types.specs.TurnResult.{Done}
 use Rattle.h5_types.specs.TurnText.{TagTurn}
-use Rattle.h5_types.specs.declared.turns.ProcessResult.TheVariants.{Done}
 use Rattle.h5_rules.specs.stack.Scope.{first_passes}
 use Rattle.h5_rules.specs.stack.Closing.{generate_implied_end_thoroughly}
 use Rattle.h5_rules.specs.modes.InHead.{in_head_end_template}

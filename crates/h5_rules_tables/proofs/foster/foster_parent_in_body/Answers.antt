@@ -7,13 +7,14 @@ use Rattle.h5_rules.specs.Rows.{Follows}
 use Rattle.h5_rules.specs.Sound.{HasHtmlRoot}
 use Rattle.h5_rules.specs.World.{World}
 use Rattle.h5_state.specs.Steps.{errors_of, world_of}
+use Rattle.h5_state.specs.Turn.{turn_result}
 use Rattle.h5_rules_tables.proofs.FosterLaws.{foster_if_ok, ready_foster}
 use Rattle.h5_rules_tables.proofs.foster.foster_parent_in_body.Goals as goal
 
 pub step_in_body-turn-requires-clause-ready : goal.step_in_body-turn-requires-clause-ready
 step_in_body-turn-requires-clause-ready g c =
     let w = world_of g.S.TreeSink c.args.sink.now c.args.state.now in
-    subst HasHtmlRoot (sym (c.set_foster.ensures.world ∙ ap (set_foster true) c.unexpected.ensures.told.world)) (ready_foster w c.requires.ready)
+    subst HasHtmlRoot (sym (c.set_foster.ensures.made.world ∙ ap (set_foster true) c.unexpected.ensures.told.world)) (ready_foster w c.requires.ready)
 
 pub returns : goal.returns
 returns g c =
@@ -25,9 +26,9 @@ returns g c =
     let before = errors_of law c.unexpected.new.sink in
     let after = errors_of law c.step_in_body-turn.new.sink in
     record {
-      follows = foster_if_ok law.choices law.node t w v u before after (errors_of law c.args.sink.now) after c.step_in_body-turn.result
-          (subst (λ (x : World). IfOk c.step_in_body-turn.result (λ r. Follows law.choices law.node (in_body t x) t x v before after r))
-          (c.set_foster.ensures.world ∙ ap (set_foster true) c.unexpected.ensures.told.world) c.step_in_body-turn.ensures.follows)
-          c.set_foster-2.ensures.world;
-      sound = c.set_foster-2.ensures.sound;
+      follows = foster_if_ok law.choices law.node t w v u before after (errors_of law c.args.sink.now) after c.step_in_body-turn.new.state c.set_foster-2.new.state c.step_in_body-turn.result c.set_foster-2.ensures.again c.set_foster-2.ensures.answer
+          (subst (λ (x : World). IfOk c.step_in_body-turn.result (λ r. Follows law.choices law.node (in_body t x) t x v before after (turn_result r c.step_in_body-turn.new.state)))
+          (c.set_foster.ensures.made.world ∙ ap (set_foster true) c.unexpected.ensures.told.world) c.step_in_body-turn.ensures.follows)
+          c.set_foster-2.ensures.made.world;
+      sound = c.set_foster-2.ensures.made.sound;
     }

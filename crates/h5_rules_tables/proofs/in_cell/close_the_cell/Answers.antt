@@ -14,13 +14,13 @@ returns g c =
     let w = world_of law c.args.sink.now c.args.state.now in
     record {
       follows = record {
-        world = c.clear_active_formatting_to_marker.ensures.world
+        world = c.set_again.ensures.kept.world ∙ c.clear_active_formatting_to_marker.ensures.world
             ∙ ap (λ (x : World). clear_active_formatting_to_marker x) (c.pop_until_cell.ensures.world ∙ ap pop_until_cell (c.expect_to_close.ensures.told.world ∙ c.generate_implied_end.ensures.made.world));
-        ending = (refl, refl);
+        ending = (refl, c.set_again.ensures.token);
         quiet = λ h. c.expect_to_close.ensures.quiet
             (c.is_current_cell-expected.ensures ∙ ap (λ (x : World). first_passes is_cell (names_of x)) c.generate_implied_end.ensures.made.world
             ∙ stays_current law.choices is_cell w cell_not_implied h)
             ∙ c.generate_implied_end.ensures.made.quiet;
       };
-      sound = c.clear_active_formatting_to_marker.ensures.sound;
+      sound = c.set_again.ensures.kept.sound;
     }

@@ -1,9 +1,9 @@
 use Rattle.std.proofs.Common.{[], ◌∷◌, ap, length, refl, subst, sym, ◌∙◌}
 use Rattle.h5_tag_sets.specs.TagSets.{is_html_named}
 use Rattle.h5_rules.specs.stack.Scope.{cut_through, first_passes}
+use Rattle.h5_types.specs.TurnResult.{Done}
 use Rattle.h5_types.specs.TurnText.{TagTurn}
 use Rattle.h5_types.specs.declared.modes.InsertionMode.TheVariants.{InRow}
-use Rattle.h5_types.specs.declared.turns.ProcessResult.TheVariants.{Done}
 use Rattle.h5_token.specs.TokenText.{tag_text}
 use Rattle.h5_rules.specs.Changes.{pop_until_named, set_mode}
 use Rattle.h5_rules.specs.formatting.Formatting.{clear_active_formatting_to_marker}

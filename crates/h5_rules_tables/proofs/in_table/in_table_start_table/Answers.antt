@@ -1,9 +1,8 @@
 use Rattle.std.proofs.Common.{[], ◌∷◌, Some, ap, codes, refl, subst, sym, ◌∙◌}
 use Rattle.h5_tag_sets.specs.TagSets.{is_html_named, is_table_scope}
 use Rattle.h5_rules.specs.stack.Scope.{in_scope}
+use Rattle.h5_types.specs.TurnResult.{Done, Reprocess}
 use Rattle.h5_types.specs.TurnText.{TagTurn}
-use Rattle.h5_types.specs.declared.turns.ProcessResult.TheVariants.{Reprocess}
-use Rattle.h5_types.specs.declared.turns.Token.TheVariants.{Tag}
 use Rattle.h5_token.specs.TokenText.{tag_text}
 use Rattle.h5_rules.specs.Changes.{pop_until_named}
 use Rattle.h5_rules.specs.modes.InTable.{in_table_start_table}
@@ -20,16 +19,32 @@ returns-in-Some g c =
     let tag = tag_text c.args.tag in
     let w = world_of law c.args.sink.now c.args.state.now in
     let u = world_of law c.unexpected_tag.new.sink c.args.state.now in
-    let v = world_of law c.unexpected_tag.new.sink c.pop_until_named.new.state in
+    let v = world_of law c.unexpected_tag.new.sink c.set_again.new.state in
     record {
-      follows = subst (λ b. Follows law.choices law.node (choose b (errs (PopUntilNamed (codes "table") ∷ []) (AgainBy reset_mode)) ignored) (TagTurn tag) w v (errors_of law c.args.sink.now) (errors_of law c.unexpected_tag.new.sink) (Reprocess c.reset_insertion_mode-mode.result (Tag c.args.tag)))
+      follows = subst (λ b. Follows law.choices law.node (choose b (errs (PopUntilNamed (codes "table") ∷ []) (AgainBy reset_mode)) ignored) (TagTurn tag) w v (errors_of law c.args.sink.now) (errors_of law c.unexpected_tag.new.sink) (Reprocess c.reset_insertion_mode-mode.result c.set_again.new.state.again))
           (c.in-Some.ensures.found
           ∙ ap (λ local. in_scope (is_html_named local) is_table_scope (names_of u)) c.from_known-table.ensures
           ∙ ap (λ (x : World). in_scope (is_html_named (codes "table")) is_table_scope (names_of x)) c.unexpected_tag.ensures.told.world)
           (record {
-            world = c.pop_until_named.ensures.world ∙ ap (λ local. pop_until_named local u) c.from_known-table.ensures ∙ ap (pop_until_named (codes "table")) c.unexpected_tag.ensures.told.world;
-            ending = (ap Some (sym c.reset_insertion_mode-mode.ensures), refl);
+            world = c.set_again.ensures.kept.world ∙ c.pop_until_named.ensures.world ∙ ap (λ local. pop_until_named local u) c.from_known-table.ensures ∙ ap (pop_until_named (codes "table")) c.unexpected_tag.ensures.told.world;
+            ending = (ap (λ w. Some (reset_mode w)) c.set_again.ensures.kept.world ∙ ap Some (sym c.reset_insertion_mode-mode.ensures), c.set_again.ensures.token);
             quiet = λ h. absurd (cc);
           });
-      sound = c.pop_until_named.ensures.sound;
+      sound = c.set_again.ensures.kept.sound;
+    }
+
+pub returns-in-None : goal.returns-in-None
+unfolding in_table_start_table
+returns-in-None g c =
+    let law = g.S.TreeSink in
+    let tag = tag_text c.args.tag in
+    let w = world_of law c.args.sink.now c.args.state.now in
+    let u = world_of law c.unexpected_tag.new.sink c.args.state.now in
+    record {
+      follows = subst (λ b. Follows law.choices law.node (choose b (errs (PopUntilNamed (codes "table") ∷ []) (AgainBy reset_mode)) ignored) (TagTurn tag) w u (errors_of law c.args.sink.now) (errors_of law c.unexpected_tag.new.sink) Done)
+          (c.in-None.ensures.found
+          ∙ ap (λ local. in_scope (is_html_named local) is_table_scope (names_of u)) c.from_known-table.ensures
+          ∙ ap (λ (x : World). in_scope (is_html_named (codes "table")) is_table_scope (names_of x)) c.unexpected_tag.ensures.told.world)
+          (record { world = c.unexpected_tag.ensures.told.world; ending = refl; quiet = λ h. absurd (cc) });
+      sound = c.unexpected_tag.ensures.told.sound c.requires;
     }

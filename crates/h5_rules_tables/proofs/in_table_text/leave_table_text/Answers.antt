@@ -6,6 +6,7 @@ use Rattle.h5_rules.specs.modes.InTableText.{in_table_text_else, pending_text}
 use Rattle.h5_rules.specs.Rows.{Follows, Row, apply_all}
 use Rattle.h5_rules.specs.Sound.{HasHtmlRoot}
 use Rattle.h5_state.specs.Steps.{errors_of, world_of}
+use Rattle.h5_state.specs.Turn.{turn_result}
 use Rattle.h5_rules_tables.proofs.PendingLaws.{ready_taken, same_pending}
 use Rattle.h5_rules_tables.proofs.in_table_text.leave_table_text.Goals as goal
 
@@ -22,8 +23,8 @@ returns-clause-asks g c = λ token.
     let v = world_of law c.insert_pending_text.new.sink c.insert_pending_text.new.state in
     let pending = c.take_pending_text-pending.result in
     let r = pending_text w.pending w in
-    let inserted : Follows law.choices law.node r (TextTurn NotSplit pending) u v (errors_of law c.args.sink.now) (errors_of law c.insert_pending_text.new.sink) c.in_ok-insert_pending_text.field-0 =
-    subst (λ (x : Row). Follows law.choices law.node x (TextTurn NotSplit pending) u v (errors_of law c.args.sink.now) (errors_of law c.insert_pending_text.new.sink) c.in_ok-insert_pending_text.field-0)
+    let inserted : Follows law.choices law.node r (TextTurn NotSplit pending) u v (errors_of law c.args.sink.now) (errors_of law c.insert_pending_text.new.sink) (turn_result c.in_ok-insert_pending_text.field-0 c.insert_pending_text.new.state) =
+    subst (λ (x : Row). Follows law.choices law.node x (TextTurn NotSplit pending) u v (errors_of law c.args.sink.now) (errors_of law c.insert_pending_text.new.sink) (turn_result c.in_ok-insert_pending_text.field-0 c.insert_pending_text.new.state))
     (ap (pending_text pending) c.take_pending_text-pending.ensures.made.world
     ∙ ap (λ text. pending_text text (take_pending_text w)) c.take_pending_text-pending.ensures.text
     ∙ same_pending w.pending w)

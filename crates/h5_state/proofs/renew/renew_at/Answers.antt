@@ -1,4 +1,5 @@
-use Rattle.std.proofs.Common.{ap, arith, length, map, reverse, sym, subst, take, ◌+◌, ◌<◌, ◌∙◌, ◌≡◌}
+use Rattle.std.proofs.Common.{ap, arith, drop, length, map, reverse, sym, subst, take, ◌+◌, ◌<◌, ◌∙◌, ◌≡◌}
+use Rattle.std.proofs.lemmas.List.{drop-set-lt}
 use Rattle.h5_interface.specs.Forest.{IsElement}
 use Rattle.h5_rules.specs.World.{name_in}
 use Rattle.h5_stack.proofs.ItemLaws.{length-values}
@@ -53,3 +54,9 @@ returns-clause-kept g c =
 
 pub returns-clause-numbers : goal.returns-clause-numbers
 returns-clause-numbers g c = numbers_set c.args.state.now.open_elems.elements c.set.new.self c.args.place _ c.set.ensures
+
+pub returns-clause-newer : goal.returns-clause-newer
+returns-clause-newer g c =
+    let items = elements_of c.args.state.now in
+    let y : OpenElement _ = record { handle = c.clone_handle-handle.result; summary = c.new-summary.result } in
+    ap (drop (c.args.place + 1)) (values_set c.args.state.now.open_elems.elements c.set.new.self c.args.place _ y c.set.ensures) ∙ drop-set-lt (c.args.place + 1) items c.args.place y (omega arith)

@@ -1,13 +1,13 @@
-use Rattle.std.proofs.Common.{List, Some, ap, arith, length, map, reverse, subst, sym, ◌<◌, ◌≤◌, ◌∙◌, ◌≡◌, ℕ}
+use Rattle.std.proofs.Common.{ap, arith, length, map, reverse, subst, sym, ◌<◌, ◌≤◌, ◌^◌, ◌∙◌, ◌≡◌}
 use Rattle.std.proofs.lemmas.List.{take_all}
 use Rattle.h5_rules.specs.Sound.{Sound}
 use Rattle.h5_rules.specs.World.{World, name_in, names_of}
-use Rattle.h5_stack.proofs.ItemLaws.{length-values}
 use Rattle.h5_state.specs.Numbers.{name_number}
 use Rattle.h5_state.specs.Summaries.{summaries}
 use Rattle.h5_state.specs.View.{elements_of, names_under, open_node, world}
 use Rattle.h5_state.proofs.AttributeLaws.{open_length}
 use Rattle.h5_state.specs.View.{kept_under}
+use Rattle.h5_state.proofs.RenewLaws.{kept_renewed}
 use Rattle.h5_state.proofs.renew.renew_from.Goals as goal
 
 pub renew_at-requires-clause-sound : goal.renew_at-requires-clause-sound
@@ -32,21 +32,11 @@ returns-clause-sound g c =
     let node = g.S.TreeSink.node in
     let f = (g.S.TreeSink.sees c.args.sink.now).forest in
     let items = elements_of c.up.state in
-    let first = world g.S.TreeSink.sees node c.args.sink.now c.args.state.now in
+    let v = world g.S.TreeSink.sees node c.args.sink.now c.up.state in
+    let few : length items < 2 ^ 32 = omega (arith, c.open_count-count.ensures.few, c.up.invariant.count, ap (λ (w : World). length w.stack) c.up.invariant.world, open_length (open_node node) items) in
     let count : length items ≤ c.up.place = omega (arith, c.up-test.false, c.up.invariant.count, ap (λ (w : World). length w.stack) c.up.invariant.world, open_length (open_node node) items) in
     record {
       sound = subst Sound (sym c.up.invariant.world) c.requires.sound;
-      kept = record {
-        summarized = subst (λ xs. reverse (map (λ element. element.summary) xs) ≡ summaries (map (name_in f) (reverse (map (open_node node) xs)))) (take_all c.up.place items count) c.up.invariant.kept;
-        numbered = ap (λ (z : List ℕ). map Some (reverse z)) c.up.invariant.numbers ∙ c.requires.numbered
-            ∙ ap (λ N. map (name_number N) (names_of first)) (sym c.up.invariant.same) ∙ ap (λ (v : World). map (name_number c.up.state.open_elems.numbers) (names_of v)) (sym c.up.invariant.world);
-        few = omega (
-          arith,
-          c.open_count-count.ensures.few,
-          c.up.invariant.count,
-          ap (λ (v : World). length v.stack) c.up.invariant.world,
-          open_length (open_node node) items,
-          length-values c.up.state.open_elems.elements,
-        );
-      };
+      kept = kept_renewed c.args.state.now.open_elems c.up.state.open_elems (names_of v) c.up.invariant.numbers c.up.invariant.same few (c.requires.numbered ∙ ap (λ (w : World). map (name_number c.args.state.now.open_elems.numbers) (names_of w)) (sym c.up.invariant.world))
+          (subst (λ xs. reverse (map (λ element. element.summary) xs) ≡ summaries (map (name_in f) (reverse (map (open_node node) xs)))) (take_all c.up.place items count) c.up.invariant.kept);
     }

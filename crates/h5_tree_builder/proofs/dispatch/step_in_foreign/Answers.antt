@@ -13,7 +13,7 @@ step_by_any_mode-requires-clause-ready g c =
     let w = world_of law c.args.sink.now c.args.state.now in
     let v = world_of law c.step_foreign.new.sink c.step_foreign.new.state in
     let foreign = c.requires.foreign in
-    let came = subst (CameTo law.choices law.node (foreign_step t w) t w v (errors_of law c.args.sink.now) (errors_of law c.step_foreign.new.sink)) c.in-ByMode.is c.in_ok-result.ensures.came in
+    let came = subst (CameTo law.choices law.node (foreign_step t w) t w v (errors_of law c.args.sink.now) (errors_of law c.step_foreign.new.sink) c.step_foreign.new.state) c.in-ByMode.is c.in_ok-result.ensures.came in
     let kept = left_keeps law t c.args.sink.now c.args.state.now c.step_foreign.new.sink c.step_foreign.new.state c.in-ByMode.again foreign came (record { sound = c.requires.ready.sound.sound; fits = c.requires.ready.fits }) in
     record { sound = c.step_foreign.ensures.sound; fits = kept.fits }
 
@@ -24,7 +24,7 @@ returns-in-Ended g c =
     let w = world_of law c.args.sink.now c.args.state.now in
     let v = world_of law c.step_foreign.new.sink c.step_foreign.new.state in
     let foreign = c.requires.foreign in
-    let came = subst (CameTo law.choices law.node (foreign_step t w) t w v (errors_of law c.args.sink.now) (errors_of law c.step_foreign.new.sink)) c.in-Ended.is c.in_ok-result.ensures.came in
+    let came = subst (CameTo law.choices law.node (foreign_step t w) t w v (errors_of law c.args.sink.now) (errors_of law c.step_foreign.new.sink) c.step_foreign.new.state) c.in-Ended.is c.in_ok-result.ensures.came in
     turns_in_foreign law t c.args.sink.now c.args.state.now c.step_foreign.new.sink c.step_foreign.new.state c.in-Ended.result foreign came c.step_foreign.ensures.sound
 
 pub returns-in-ByMode : goal.returns-in-ByMode
@@ -34,6 +34,6 @@ returns-in-ByMode g c =
     let w = world_of law c.args.sink.now c.args.state.now in
     let v = world_of law c.step_foreign.new.sink c.step_foreign.new.state in
     let foreign = c.requires.foreign in
-    let came = subst (CameTo law.choices law.node (foreign_step t w) t w v (errors_of law c.args.sink.now) (errors_of law c.step_foreign.new.sink)) c.in-ByMode.is c.in_ok-result.ensures.came in
+    let came = subst (CameTo law.choices law.node (foreign_step t w) t w v (errors_of law c.args.sink.now) (errors_of law c.step_foreign.new.sink) c.step_foreign.new.state) c.in-ByMode.is c.in_ok-result.ensures.came in
     turns_left law t c.args.sink.now c.args.state.now c.step_foreign.new.sink c.step_foreign.new.state c.in-ByMode.again foreign came
     c.step_by_any_mode.new.sink c.step_by_any_mode.new.state c.step_by_any_mode.result c.step_by_any_mode.ensures

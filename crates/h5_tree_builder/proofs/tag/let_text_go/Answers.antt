@@ -1,8 +1,8 @@
 use Rattle.std.proofs.Common.{refl, sym, subst}
 use Rattle.h5_token.specs.TokenText.{tag_text}
+use Rattle.h5_types.specs.TurnResult.{Reprocess}
 use Rattle.h5_types.specs.TurnText.{EofTurn, TagTurn}
 use Rattle.h5_types.specs.declared.modes.InsertionMode.TheVariants.{InTableText}
-use Rattle.h5_types.specs.declared.turns.ProcessResult.TheVariants.{Reprocess}
 use Rattle.h5_types.specs.declared.turns.Token.TheVariants as tokens
 use Rattle.h5_rules.specs.modes.Modes.{rule}
 use Rattle.h5_rules.specs.Rows.{Follows}

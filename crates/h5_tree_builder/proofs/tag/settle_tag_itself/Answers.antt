@@ -1,7 +1,8 @@
-use Rattle.std.proofs.Common.{true, refl, sym, subst, arith}
+use Rattle.std.proofs.Common.{◌≡◌, true, ap, refl, sym, subst, ◌∙◌, arith}
 use Rattle.h5_token.specs.TokenText.{tag_text}
 use Rattle.h5_token.specs.declared.sink.TokenSinkResult.TheVariants.{Continue}
 use Rattle.h5_types.specs.TurnText.{TagTurn, turn_text}
+use Rattle.h5_rules.specs.Changes.{set_mode}
 use Rattle.h5_rules.specs.insertion.Foreign.{is_foreign}
 use Rattle.h5_rules.specs.modes.Modes.{rule}
 use Rattle.h5_rules.specs.Rows.{Follows}
@@ -9,6 +10,7 @@ use Rattle.h5_rules.specs.Settle.{settle}
 use Rattle.h5_rules.specs.Sound.{Fits}
 use Rattle.h5_laws.proofs.kept.ForeignFitLaws.{fits_acknowledged, fits_again, fits_answered, fits_done}
 use Rattle.h5_laws.proofs.turns.TurnLaws.{turns_few}
+use Rattle.h5_state.specs.Turn.{turn_result}
 use Rattle.h5_state.specs.View.{world}
 use Rattle.h5_tree_builder.specs.Chains.{CameTo}
 use Rattle.h5_tree_builder.proofs.BodyLaws.{follows_mode}
@@ -26,7 +28,7 @@ returns-in-Done g c =
     let a = (g.S.TreeSink.sees c.args.sink.now).errors in
     let b = (g.S.TreeSink.sees c.step_tag_by_mode.new.sink).errors in
     let d = (g.S.TreeSink.sees c.check_flag.new.sink).errors in
-    let f = follows_mode k node t w v a b _ (c.is_in_known_html.ensures c.if-not-is_in_known_html.false t) (subst (λ r. Follows k node (rule w.mode t w) t w v a b r) c.in-Done.is c.in_ok-step_tag_by_mode.ensures.follows) in
+    let f = follows_mode k node t w v a b _ (c.is_in_known_html.ensures c.if-not-is_in_known_html.false t) (subst (λ r. Follows k node (rule w.mode t w) t w v a b (turn_result r c.step_tag_by_mode.new.state)) c.in-Done.is c.in_ok-step_tag_by_mode.ensures.follows) in
     record {
       came = subst (λ x. CameTo node (settle k t w) true (world g.S.TreeSink.sees node c.check_flag.new.sink c.step_tag_by_mode.new.state) a d (record { turns = 1; answer = x })) (sym c.requires.goes_on)
           (subst (λ x. CameTo node (settle k t w) true x a d (record { turns = 1; answer = Continue })) (sym c.check_flag.ensures.told.world)
@@ -45,7 +47,7 @@ returns-in-DoneAckSelfClosing g c =
     let v = world g.S.TreeSink.sees node c.step_tag_by_mode.new.sink c.step_tag_by_mode.new.state in
     let a = (g.S.TreeSink.sees c.args.sink.now).errors in
     let b = (g.S.TreeSink.sees c.step_tag_by_mode.new.sink).errors in
-    let f = follows_mode k node t w v a b _ (c.is_in_known_html.ensures c.if-not-is_in_known_html.false t) (subst (λ r. Follows k node (rule w.mode t w) t w v a b r) c.in-DoneAckSelfClosing.is c.in_ok-step_tag_by_mode.ensures.follows) in
+    let f = follows_mode k node t w v a b _ (c.is_in_known_html.ensures c.if-not-is_in_known_html.false t) (subst (λ r. Follows k node (rule w.mode t w) t w v a b (turn_result r c.step_tag_by_mode.new.state)) c.in-DoneAckSelfClosing.is c.in_ok-step_tag_by_mode.ensures.follows) in
     record {
       came = subst (λ x. CameTo node (settle k t w) true v a b (record { turns = 1; answer = x })) (sym c.requires.goes_on) (acknowledged_last k node t w w v a a b 0 f (left_all k t w a));
       sound = c.step_tag_by_mode.ensures.sound;
@@ -62,18 +64,21 @@ returns-in-Answer g c =
     let v = world g.S.TreeSink.sees node c.step_tag_by_mode.new.sink c.step_tag_by_mode.new.state in
     let a = (g.S.TreeSink.sees c.args.sink.now).errors in
     let b = (g.S.TreeSink.sees c.step_tag_by_mode.new.sink).errors in
-    let f = follows_mode k node t w v a b _ (c.is_in_known_html.ensures c.if-not-is_in_known_html.false t) (subst (λ r. Follows k node (rule w.mode t w) t w v a b r) c.in-Answer.is c.in_ok-step_tag_by_mode.ensures.follows) in
+    let f = follows_mode k node t w v a b _ (c.is_in_known_html.ensures c.if-not-is_in_known_html.false t) (subst (λ r. Follows k node (rule w.mode t w) t w v a b (turn_result r c.step_tag_by_mode.new.state)) c.in-Answer.is c.in_ok-step_tag_by_mode.ensures.follows) in
+    let z = world g.S.TreeSink.sees node c.step_tag_by_mode.new.sink c.take_answer-given.new.state in
+    let given = c.step_tag_by_mode.new.state.answer in
     record {
-      came = answered_last k node t w w v a a b 0 c.in-Answer.given f (left_all k t w a);
-      sound = c.step_tag_by_mode.ensures.sound;
-      fits = fits_answered k node t w v a b c.in-Answer.given f c.requires.ready.sound.sound tt c.requires.ready.fits;
+      came = subst (λ x. CameTo node (settle k t w) true z a b (record { turns = 1; answer = x })) (sym c.take_answer-given.ensures.answer)
+          (subst (λ x. CameTo node (settle k t w) true x a b (record { turns = 1; answer = given })) (sym c.take_answer-given.ensures.kept.world) (answered_last k node t w w v a a b 0 given f (left_all k t w a)));
+      sound = c.take_answer-given.ensures.kept.sound;
+      fits = subst Fits (sym c.take_answer-given.ensures.kept.world) (fits_answered k node t w v a b given f c.requires.ready.sound.sound tt c.requires.ready.fits);
     }
 
 pub overflow_add-result : goal.overflow_add-result
 overflow_add-result g c =
     let k = g.S.TreeSink.choices in
     let node = g.S.TreeSink.node in
-    omega (arith, c.in_ok-rest-in-Reprocess.ensures.came.turns refl, turns_few k (turn_text c.in-Reprocess.again) (world g.S.TreeSink.sees node c.step_tag_by_mode.new.sink c.set_mode.new.state), few_open g.S.TreeSink c.step_tag_by_mode.new.sink c.set_mode.new.state c.set_mode.ensures.sound)
+    omega (arith, c.in_ok-rest-in-Reprocess.ensures.came.turns refl, turns_few k (turn_text c.take_again-again.result) (world g.S.TreeSink.sees node c.step_tag_by_mode.new.sink c.set_mode.new.state), few_open g.S.TreeSink c.step_tag_by_mode.new.sink c.set_mode.new.state c.set_mode.ensures.sound)
 
 pub returns-in_ok-rest-in-Reprocess : goal.returns-in_ok-rest-in-Reprocess
 unfolding is_foreign
@@ -89,10 +94,11 @@ returns-in_ok-rest-in-Reprocess g c =
     let b = (g.S.TreeSink.sees c.step_tag_by_mode.new.sink).errors in
     let e = (g.S.TreeSink.sees c.settle_token-in-Reprocess.new.sink).errors in
     let m = c.in-Reprocess.mode in
-    let token = c.in-Reprocess.again in
-    let f = follows_mode k node t w v a b _ (c.is_in_known_html.ensures c.if-not-is_in_known_html.false t) (subst (λ r. Follows k node (rule w.mode t w) t w v a b r) c.in-Reprocess.is c.in_ok-step_tag_by_mode.ensures.follows) in
-    let left = left_next k node t w w v u a a b 0 m token f c.set_mode.ensures.world c.requires.ready.sound.sound tt c.requires.ready.fits (left_all k t w a) in
-    let came : CameTo node (settle k t u) true last b e c.in_ok-rest-in-Reprocess.rest = subst (λ x. CameTo node (settle k x u) true last b e c.in_ok-rest-in-Reprocess.rest) f.ending.1 c.in_ok-rest-in-Reprocess.ensures.came in
+    let token = c.step_tag_by_mode.new.state.again in
+    let next : u ≡ set_mode m v = c.set_mode.ensures.world ∙ ap (set_mode m) c.take_again-again.ensures.kept.world in
+    let f = follows_mode k node t w v a b _ (c.is_in_known_html.ensures c.if-not-is_in_known_html.false t) (subst (λ r. Follows k node (rule w.mode t w) t w v a b (turn_result r c.step_tag_by_mode.new.state)) c.in-Reprocess.is c.in_ok-step_tag_by_mode.ensures.follows) in
+    let left = left_next k node t w w v u a a b 0 m token f next c.requires.ready.sound.sound tt c.requires.ready.fits (left_all k t w a) in
+    let came : CameTo node (settle k t u) true last b e c.in_ok-rest-in-Reprocess.rest = subst (λ x. CameTo node (settle k x u) true last b e c.in_ok-rest-in-Reprocess.rest) (ap turn_text c.take_again-again.ensures.token ∙ f.ending.1) c.in_ok-rest-in-Reprocess.ensures.came in
     record {
       came = left_came k node t w u last a b e 1 c.in_ok-rest-in-Reprocess.rest.turns c.in_ok-rest-in-Reprocess.rest.answer left came;
       sound = c.settle_token-in-Reprocess.ensures.sound;
@@ -111,9 +117,10 @@ settle_token-requires-in-Reprocess-clause-ready g c =
     let a = (g.S.TreeSink.sees c.args.sink.now).errors in
     let b = (g.S.TreeSink.sees c.step_tag_by_mode.new.sink).errors in
     let m = c.in-Reprocess.mode in
-    let token = c.in-Reprocess.again in
-    let f = follows_mode k node t w v a b _ (c.is_in_known_html.ensures c.if-not-is_in_known_html.false t) (subst (λ r. Follows k node (rule w.mode t w) t w v a b r) c.in-Reprocess.is c.in_ok-step_tag_by_mode.ensures.follows) in
+    let token = c.step_tag_by_mode.new.state.again in
+    let next : u ≡ set_mode m v = c.set_mode.ensures.world ∙ ap (set_mode m) c.take_again-again.ensures.kept.world in
+    let f = follows_mode k node t w v a b _ (c.is_in_known_html.ensures c.if-not-is_in_known_html.false t) (subst (λ r. Follows k node (rule w.mode t w) t w v a b (turn_result r c.step_tag_by_mode.new.state)) c.in-Reprocess.is c.in_ok-step_tag_by_mode.ensures.follows) in
     record {
       sound = c.set_mode.ensures.sound;
-      fits = fits_again k node t w v u a b m token f c.set_mode.ensures.world c.requires.ready.sound.sound tt c.requires.ready.fits;
+      fits = fits_again k node t w v u a b m token f next c.requires.ready.sound.sound tt c.requires.ready.fits;
     }

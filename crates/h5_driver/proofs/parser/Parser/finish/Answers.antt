@@ -1,8 +1,10 @@
-use Rattle.std.proofs.Common.{◌≡◌, ◌++◌, ap, subst, ◌∙◌, rules}
+use Rattle.std.proofs.Common.{◌≡◌, ◌++◌, ap, subst, ◌∙◌, rules, Err}
+use Rattle.std.proofs.lemmas.Result.{err_from_is_err_and}
 use Rattle.h5_interface.specs.Seen.{Seen}
 use Rattle.h5_state.specs.View.{world}
 use Rattle.h5_tree_builder.specs.Held.{building}
 use Rattle.h5_driver.specs.Parsing.{IsWorking, Parses, view_of}
+use Rattle.h5_driver.proofs.FaultLaws.{fault_of}
 use Rattle.h5_driver.proofs.ReadingLaws.{parsed}
 use Rattle.h5_driver.proofs.parser.Parser.finish.Goals as goal
 
@@ -22,3 +24,13 @@ returns-clause-parses g c =
     (parsed k first.reader.place fed.reader.place (building sees node first.sink).view (building sees node fed.sink).view (building sees node closed.sink).view
     (first.reader.held ++ c.self.inside.input_buffer) fed.reader.held told works c.in_ok-feed_all.ensures.takes c.in_ok-close.ensures.closed
     (ap (λ (s : Seen). s.forest) same) (ap (λ (s : Seen). s.quirks) same))
+
+pub returns-in_err-feed_all-clause-memory : goal.returns-in_err-feed_all-clause-memory
+returns-in_err-feed_all-clause-memory g c = λ _.
+    let r = err_from_is_err_and c.from_residual.result c.from_residual.ensures.1 in
+    rw (r.1, r.2) (ap (λ f. Err f) (ap fault_of c.in_err-feed_all.ensures.memory))
+
+pub returns-in_err-close-clause-memory : goal.returns-in_err-close-clause-memory
+returns-in_err-close-clause-memory g c = λ _.
+    let r = err_from_is_err_and c.from_residual-in_err-close.result c.from_residual-in_err-close.ensures.1 in
+    rw (r.1, r.2) (ap (λ f. Err f) (ap fault_of c.in_err-close.ensures.memory))

@@ -1,5 +1,7 @@
-use Rattle.std.proofs.Common.{◌++◌, string_bytes}
+use Rattle.std.proofs.Common.{◌++◌, string_bytes, Err, ap}
+use Rattle.std.proofs.lemmas.Result.{err_from_is_err_and}
 use Rattle.h5_tree_builder.specs.Held.{building}
+use Rattle.h5_driver.proofs.FaultLaws.{fault_of}
 use Rattle.h5_driver.proofs.PlainLaws.{brought_back}
 use Rattle.h5_driver.specs.Parsing.{view_of}
 use Rattle.h5_driver.proofs.ReadingLaws.{nothing_read_yet, piece_taken, told_behind}
@@ -24,3 +26,8 @@ returns-clause-plain g c =
     let first = c.args.self in
     brought_back g.Sink.TreeSink.choices g.Sink.TreeSink.told (building g.Sink.TreeSink.sees g.Sink.TreeSink.node first.builder) first.reader (first.reader.held ++ first.waiting) (string_bytes c.args.text) c.finish.result
     (returns-clause-parses g c)
+
+pub returns-in_err-process_owned-clause-memory : goal.returns-in_err-process_owned-clause-memory
+returns-in_err-process_owned-clause-memory g c = λ h.
+    let r = err_from_is_err_and c.from_residual.result c.from_residual.ensures.1 in
+    rw (r.1, r.2) (ap (λ f. Err f) (ap fault_of (c.in_err-process_owned.ensures.memory h)))

@@ -1,6 +1,8 @@
-use Rattle.std.proofs.Common.{◌++◌, map, string_bytes, rules, IfOk}
+use Rattle.std.proofs.Common.{◌++◌, map, string_bytes, rules, IfOk, Err, ap}
+use Rattle.std.proofs.lemmas.Result.{err_from_is_err_and}
 use Rattle.h5_tree_builder.specs.Held.{building}
 use Rattle.h5_driver.specs.Parsing.{IsWorking, Parses, joined, view_of}
+use Rattle.h5_driver.proofs.FaultLaws.{fault_of}
 use Rattle.h5_driver.proofs.PlainLaws.{brought_back}
 use Rattle.h5_driver.proofs.ReadingLaws.{told_behind}
 use Rattle.h5_driver.proofs.parser.Parser.process_pieces.Goals as goal
@@ -20,3 +22,8 @@ returns-clause-plain g c =
     let first = c.args.self in
     brought_back g.Sink.TreeSink.choices g.Sink.TreeSink.told (building g.Sink.TreeSink.sees g.Sink.TreeSink.node first.builder) first.reader (first.reader.held ++ first.waiting) (joined (map string_bytes c.args.pieces.now)) c.finish.result
     (returns-clause-parses g c)
+
+pub returns-in_err-process_each-clause-memory : goal.returns-in_err-process_each-clause-memory
+returns-in_err-process_each-clause-memory g c = λ h.
+    let r = err_from_is_err_and c.from_residual.result c.from_residual.ensures.1 in
+    rw (r.1, r.2) (ap (λ f. Err f) (ap fault_of (c.in_err-process_each.ensures.memory h)))

@@ -6,7 +6,7 @@ use Rattle.h5_state.proofs.open_element.AllOpen.with_newest.Goals as goal
 pub returns : goal.returns
 unfolding is_html_named html_namespace
 returns c = λ older e h.
-    let button : (c.has-ends_scope.result || c.has.result) ≡ is_button_scope c.args.name.now = rw (c.has-ends_scope.ensures, c.has.ensures) c.sets_of-sets.ensures.button in
+    let button : (c.has-ends_scope.result || c.has.result) ≡ is_button_scope c.args.name.now = rw (c.has-ends_scope.ensures, c.has.ensures) c.requires.sets.button in
     rw (
       c.still_in_scope.ensures,
       c.still_in_scope-2.ensures,
@@ -18,9 +18,9 @@ returns c = λ older e h.
       c.oldest.ensures,
       c.ends_item_search.ensures,
       button,
-      c.has-special.ensures ∙ c.sets_of-sets.ensures.special,
-      c.has-ends_scope.ensures ∙ c.sets_of-sets.ensures.scope,
-      c.has-2.ensures ∙ c.sets_of-sets.ensures.body_end,
+      c.has-special.ensures ∙ c.requires.sets.special,
+      c.has-ends_scope.ensures ∙ c.requires.sets.scope,
+      c.has-2.ensures ∙ c.requires.sets.body_end,
       c.is.ensures,
       c.is-2.ensures,
       c.is-3.ensures,

@@ -1,0 +1,17 @@
+pub mod CodeLaws
+pub mod DeedLaws
+pub mod FlushLaws
+pub mod QuietLaws
+pub mod ReferenceLaws
+pub mod AheadLaws
+pub mod AsciiLaws
+pub mod CountLaws
+pub mod CutLaws
+pub mod DoctypeLaws
+pub mod FoldLaws
+pub mod NameRunLaws
+pub mod PassLaws
+pub mod RunLaws
+pub mod TextLaws
+pub mod WordLaws
+pub mod WideLaws

@@ -1,0 +1,44 @@
+-- Where what a character reference stands for is flushed to.
+use Rattle.std.specs.Prelude.{◌≡◌, ◌==◌, ℕ, List, ◌++◌, Option, Some, None, if◌then◌else◌, codes}
+use Rattle.h5_states.specs.declared.errors.ParseError.TheVariants.{MissingSemicolonAfterCharacterReference}
+use Rattle.h5_states.specs.Signs.{semicolon}
+use Rattle.h5_states.specs.Construction.{Tag, value_further}
+use Rattle.h5_states.specs.States.{Return, NumericCharacterReferenceEnd}
+use Rattle.h5_states.specs.References.{Longest, is_historical, ended_by_semicolon}
+use Rattle.h5_states.specs.Turn.{Turn, again, wrong}
+use Rattle.h5_machine.specs.Parts.{Parts}
+use Rattle.h5_machine.specs.DeedOf.{Does}
+use Rattle.h5_machine.specs.declared.at.ReturnTo.{ReturnTo}
+use Rattle.h5_machine.specs.declared.at.ReturnTo.TheVariants as to
+use Rattle.h5_machine.specs.declared.moved.Moved.{Moved}
+
+-- a text is emitted, or added to the current value of the tag
+abbrev pub Flushes : ReturnTo → List ℕ → Tag → List ℕ → Tag → List ℕ → Type 0
+Flushes to.Data text tag old tag_now new = (new ≡ old ++ text) × (tag_now ≡ tag)
+Flushes to.Rcdata text tag old tag_now new = (new ≡ old ++ text) × (tag_now ≡ tag)
+Flushes (to.Value value) text tag old tag_now new = (new ≡ old) × (tag_now ≡ value_further text tag)
+
+-- what is flushed where this was the longest name in what was seen
+abbrev pub text_named : Return → List ℕ → ℕ → Option Longest → List ℕ
+text_named return seen x None = codes "&" ++ seen
+text_named return seen x (Some found) = if is_historical return found x then codes "&" ++ seen else found.text ++ found.rest
+
+-- a byte behind the digits of a number
+abbrev pub behind_digits : Return → ℕ → ℕ → Turn
+behind_digits return code x =
+    if x == semicolon then ended_by_semicolon return code
+    else wrong MissingSemicolonAfterCharacterReference (again (NumericCharacterReferenceEnd return code))
+
+-- A row of character references did what the definition's does, whatever else is under construction.
+abbrev pub DoesReference : Moved → List ℕ → List ℕ → Tag → List ℕ → ℕ → Turn → Type 0
+DoesReference moved old new tag seen code turn =
+    (parts : Parts) → Does moved old new (record parts { tag = tag; seen = seen; code = code }) turn
+
+abbrev pub DoesSeen : Moved → List ℕ → List ℕ → Tag → List ℕ → Turn → Type 0
+DoesSeen moved old new tag seen turn = (parts : Parts) → Does moved old new (record parts { tag = tag; seen = seen }) turn
+
+abbrev pub DoesCode : Moved → List ℕ → List ℕ → Tag → ℕ → Turn → Type 0
+DoesCode moved old new tag code turn = (parts : Parts) → Does moved old new (record parts { tag = tag; code = code }) turn
+
+abbrev pub DoesFlush : Moved → List ℕ → List ℕ → Tag → Turn → Type 0
+DoesFlush moved old new tag turn = (parts : Parts) → Does moved old new (record parts { tag = tag }) turn

@@ -1,0 +1,9 @@
+pub mod Parts
+pub mod StateOf
+pub mod DeedOf
+pub mod Signs
+pub mod Flushing
+pub mod MachineText
+pub mod Wide
+pub mod Ending
+pub mod Runs

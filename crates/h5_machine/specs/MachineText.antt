@@ -1,0 +1,109 @@
+-- What a machine is, and what it does with the byte at hand and with a run.
+use Rattle.std.specs.Prelude.{◌≡◌, ℕ, Bool, true, false, List, ◌++◌, ◌⊎◌}
+use Rattle.h5_states.specs.declared.kinds.TextKind.{TextKind}
+use Rattle.h5_states.specs.declared.kinds.TextKind.TheVariants.{CdataSection, Data}
+use Rattle.h5_states.specs.declared.errors.ParseError.TheVariants.{CdataInHtmlContent}
+use Rattle.h5_states.specs.States.{State, Text, MarkupDeclarationOpen}
+use Rattle.h5_states.specs.Turn.{Deed, Goes, Again, Hands, Asks}
+use Rattle.h5_states.specs.ReferenceTable.{references}
+use Rattle.h5_states.specs.Reading.{Place, deed, is_dropped, behind, behind_newline, in_state, Passes}
+use Rattle.h5_machine.specs.Parts.{Parts}
+use Rattle.h5_machine.specs.StateOf.{state_of}
+use Rattle.h5_machine.specs.DeedOf.{made_of}
+use Rattle.h5_machine.specs.declared.at.At.{At}
+use Rattle.h5_machine.specs.declared.at.At.TheVariants as at
+use Rattle.h5_machine.specs.declared.at.TextState.TheVariants as text
+use Rattle.h5_machine.specs.declared.moved.Construct.{Construct}
+use Rattle.h5_machine.specs.declared.machine.Taken.{Taken}
+use Rattle.h5_machine.specs.declared.machine.Taken.TheVariants as taken
+
+-- a state, what is under construction, and lines
+pub record MachineText : Type 0 where
+  pub at : At
+  pub parts : Parts
+  pub last : List ℕ
+  pub after_return : Bool
+  pub line : ℕ
+  pub began : ℕ
+
+-- where reading is, as the definition has it
+abbrev pub place_of : MachineText → Place
+place_of m = record {
+  state = state_of m.at m.parts;
+  last = m.last;
+  after_return = m.after_return;
+  line = m.line;
+  began = m.began;
+}
+
+-- a byte was consumed, and this text was emitted
+pub record Consumes (m : MachineText) (x : ℕ) (old new : List ℕ) (n : MachineText) : Type 0 where
+  pub text : List ℕ
+  pub state : State
+  pub not_dropped : is_dropped (place_of m) x ≡ false
+  pub deed : deed references (place_of m) x ≡ Goes text state
+  pub place : place_of n ≡ behind x state (place_of m)
+  pub put : new ≡ old ++ text
+
+-- a LINE FEED behind a CARRIAGE RETURN was passed
+pub record Drops (m : MachineText) (x : ℕ) (old new : List ℕ) (n : MachineText) : Type 0 where
+  pub dropped : is_dropped (place_of m) x ≡ true
+  pub place : place_of n ≡ behind_newline (place_of m)
+  pub put : new ≡ old
+
+-- a text was emitted, and a byte is still at hand
+pub record Reconsumes (m : MachineText) (x : ℕ) (old new : List ℕ) (n : MachineText) : Type 0 where
+  pub text : List ℕ
+  pub state : State
+  pub not_dropped : is_dropped (place_of m) x ≡ false
+  pub deed : deed references (place_of m) x ≡ Again text state
+  pub place : place_of n ≡ in_state state (place_of m)
+  pub put : new ≡ old ++ text
+
+-- a byte was consumed, and a token is complete, which began in this line. What follows is a text
+pub record Completes (m : MachineText) (x : ℕ) (old new : List ℕ) (n : MachineText) (construct : Construct) (told : ℕ) : Type 0 where
+  pub kind : TextKind
+  pub at : n.at ≡ at.Text (text.Text kind)
+  pub not_dropped : is_dropped (place_of m) x ≡ false
+  pub deed : deed references (place_of m) x ≡ Hands (made_of construct n.parts) (Text kind)
+  pub place : place_of n ≡ behind x (Text kind) (place_of m)
+  pub line : told ≡ m.began
+  pub put : new ≡ old
+
+-- a byte was consumed, and the adjusted current node is to be asked for; meanwhile it is in the HTML namespace
+pub record Wonders (m : MachineText) (x : ℕ) (old new : List ℕ) (n : MachineText) : Type 0 where
+  pub elsewhere : State
+  pub not_dropped : is_dropped (place_of m) x ≡ false
+  pub deed : deed references (place_of m) x ≡ Asks (Text CdataSection) CdataInHtmlContent elsewhere
+  pub place : place_of n ≡ behind x elsewhere (place_of m)
+  pub put : new ≡ old
+
+abbrev pub Takes : MachineText → ℕ → List ℕ → List ℕ → MachineText → Taken → Type 0
+Takes m x old new n taken.Consumed = Consumes m x old new n ⊎ Drops m x old new n
+Takes m x old new n taken.Reconsumed = Reconsumes m x old new n
+Takes m x old new n (taken.Hands construct line) = Completes m x old new n construct line
+Takes m x old new n taken.Asks = Wonders m x old new n
+
+-- From xs on, up to ys, bytes were passed that emit a text, which was put behind what had been there.
+pub record PassesRun (m : MachineText) (xs old new : List ℕ) (n : MachineText) (ys : List ℕ) : Type 0 where
+  pub text : List ℕ
+  pub passes : Passes references (place_of m) xs text (place_of n) ys
+  pub put : new ≡ old ++ text
+
+-- no token is handed on at a byte, and nothing is asked
+abbrev pub IsQuiet : Deed → Type 0
+IsQuiet (Goes text state) = Unit {0}
+IsQuiet (Again text state) = Unit {0}
+IsQuiet (Hands token state) = ⊥
+IsQuiet (Asks there error elsewhere) = ⊥
+
+-- where a NUL is handed on
+abbrev pub hands_null : State → Bool
+hands_null (Text Data) = true
+hands_null (Text CdataSection) = true
+hands_null state = false
+
+-- where a '[' may ask for the adjusted current node
+abbrev pub asks_in : State → Bool
+asks_in (MarkupDeclarationOpen seen) = true
+asks_in state = false

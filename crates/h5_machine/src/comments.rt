@@ -1,0 +1,239 @@
+//! The rows of comments and of what is taken for one (HTML standard, sections 13.2.5.41 to 13.2.5.52).
+
+ghost use Rattle.std.specs.Prelude.{◌≡◌, ◌<◌, ◌==◌, ◌&&◌, true, ℕ, List, [], ◌∷◌, ◌++◌, IfOk, IfSome, string_bytes, codes};
+ghost use Rattle.h5_states.specs.Comments as c;
+ghost use Rattle.h5_states.specs.Machine.{turn};
+ghost use Rattle.h5_states.specs.References.{Reference};
+ghost use Rattle.h5_machine.specs.DeedOf.{DoesComment};
+ghost use Rattle.h5_machine.specs.StateOf.{comment_state_of};
+ghost use Rattle.h5_machine.specs.Wide.{comment_takes_wide};
+
+use super::at::{At, CommentState, DoctypeState};
+use super::moved::{Construct, Moved, note, note_if};
+use super::signs::{begins, begins_folded, is_folded, is_word, pop_byte, push_byte, push_cleaned};
+use h5_states::{ParseError, TextKind};
+use std::alloc::AllocError;
+
+const HANDS: Moved = Moved::Hands(Construct::Comment, TextKind::Data);
+
+// 13.2.5.41 Bogus comment state
+fn bogus_comment(comment: &mut String, b: u8) -> Result<Moved, AllocError>
+    requires { b < 128 }
+    ensures { IfOk result (λ moved. DoesComment moved (string_bytes comment.new) (c.bogus_comment_state (string_bytes comment.old) b)) }
+{
+    if b == b'>' {
+        return Ok(HANDS);
+    }
+    note_if(b == 0, ParseError::UnexpectedNullCharacter);
+    push_cleaned(comment, b)?;
+    Ok(Moved::Goes(At::Comment(CommentState::BogusComment)))
+}
+
+// Whether one of the openings begins so.
+fn begins_opening(seen: &str) -> bool
+    ensures { result ≡ c.begins_opening seen.now }
+{
+    begins(seen, b"--") || begins_folded(seen, b"doctype") || begins(seen, b"[CDATA[")
+}
+
+// What was seen begins a comment.
+fn not_opened() -> Moved
+    ensures { result ≡ Moved.Again (At.Comment CommentState.BogusComment) }
+{
+    note(ParseError::IncorrectlyOpenedComment);
+    Moved::Again(At::Comment(CommentState::BogusComment))
+}
+
+// 13.2.5.42 Markup declaration open state. What was seen is kept as the comment that it begins where it is no opening.
+fn markup_declaration_open(seen: &mut String, b: u8) -> Result<Moved, AllocError>
+    ensures { IfOk result (λ moved. DoesComment moved (string_bytes seen.new) (c.markup_declaration_open_state (string_bytes seen.old) b)) }
+{
+    if b >= 128 {
+        return Ok(not_opened());
+    }
+    push_byte(seen, b)?;
+    if is_word(seen.as_str(), b"--") {
+        return Ok(Moved::Goes(At::Comment(CommentState::CommentStart)));
+    }
+    if is_folded(seen.as_str(), b"doctype") {
+        return Ok(Moved::Goes(At::Doctype(DoctypeState::BeginDoctype)));
+    }
+    if is_word(seen.as_str(), b"[CDATA[") {
+        return Ok(Moved::Asks);
+    }
+    if begins_opening(seen.as_str()) {
+        return Ok(Moved::Goes(At::Comment(CommentState::MarkupDeclarationOpen)));
+    }
+    pop_byte(seen);
+    Ok(not_opened())
+}
+
+// 13.2.5.43 Comment start state
+fn comment_start(comment: &mut String, b: u8) -> Moved
+    ensures { DoesComment result (string_bytes comment.new) (c.comment_start_state b) }
+{
+    comment.clear();
+    match b {
+        b'-' => Moved::Goes(At::Comment(CommentState::CommentStartDash)),
+        b'>' => {
+            note(ParseError::AbruptClosingOfEmptyComment);
+            HANDS
+        }
+        _ => Moved::Again(At::Comment(CommentState::Comment)),
+    }
+}
+
+// 13.2.5.44 Comment start dash state
+fn comment_start_dash(comment: &mut String, b: u8) -> Result<Moved, AllocError>
+    ensures { IfOk result (λ moved. DoesComment moved (string_bytes comment.new) (c.comment_start_dash_state b)) }
+{
+    comment.clear();
+    match b {
+        b'-' => Ok(Moved::Goes(At::Comment(CommentState::CommentEnd))),
+        b'>' => {
+            note(ParseError::AbruptClosingOfEmptyComment);
+            Ok(HANDS)
+        }
+        _ => {
+            comment.push_str("-")?;
+            Ok(Moved::Again(At::Comment(CommentState::Comment)))
+        }
+    }
+}
+
+// 13.2.5.45 Comment state
+fn comment(comment: &mut String, b: u8) -> Result<Moved, AllocError>
+    requires { b < 128 }
+    ensures { IfOk result (λ moved. DoesComment moved (string_bytes comment.new) (c.comment_state (string_bytes comment.old) b)) }
+{
+    match b {
+        b'<' => {
+            comment.push_str("<")?;
+            Ok(Moved::Goes(At::Comment(CommentState::CommentLessThanSign)))
+        }
+        b'-' => Ok(Moved::Goes(At::Comment(CommentState::CommentEndDash))),
+        _ => {
+            note_if(b == 0, ParseError::UnexpectedNullCharacter);
+            push_cleaned(comment, b)?;
+            Ok(Moved::Goes(At::Comment(CommentState::Comment)))
+        }
+    }
+}
+
+// 13.2.5.46 Comment less-than sign state
+fn comment_less_than_sign(comment: &mut String, b: u8) -> Result<Moved, AllocError>
+    ensures { IfOk result (λ moved. DoesComment moved (string_bytes comment.new) (c.comment_less_than_sign_state (string_bytes comment.old) b)) }
+{
+    match b {
+        b'!' => {
+            comment.push_str("!")?;
+            Ok(Moved::Goes(At::Comment(CommentState::CommentLessThanSignBang)))
+        }
+        b'<' => {
+            comment.push_str("<")?;
+            Ok(Moved::Goes(At::Comment(CommentState::CommentLessThanSign)))
+        }
+        _ => Ok(Moved::Again(At::Comment(CommentState::Comment))),
+    }
+}
+
+// 13.2.5.47 Comment less-than sign bang state
+fn comment_less_than_sign_bang(b: u8) -> Moved
+    ensures { (comment : List ℕ) → DoesComment result comment (c.comment_less_than_sign_bang_state comment b) }
+{
+    if b == b'-' {
+        return Moved::Goes(At::Comment(CommentState::CommentLessThanSignBangDash));
+    }
+    Moved::Again(At::Comment(CommentState::Comment))
+}
+
+// 13.2.5.48 Comment less-than sign bang dash state
+fn comment_less_than_sign_bang_dash(b: u8) -> Moved
+    ensures { (comment : List ℕ) → DoesComment result comment (c.comment_less_than_sign_bang_dash_state comment b) }
+{
+    if b == b'-' {
+        return Moved::Goes(At::Comment(CommentState::CommentLessThanSignBangDashDash));
+    }
+    Moved::Again(At::Comment(CommentState::CommentEndDash))
+}
+
+// 13.2.5.49 Comment less-than sign bang dash dash state
+fn comment_less_than_sign_bang_dash_dash(b: u8) -> Moved
+    ensures { (comment : List ℕ) → DoesComment result comment (c.comment_less_than_sign_bang_dash_dash_state comment b) }
+{
+    note_if(b != b'>', ParseError::NestedComment);
+    Moved::Again(At::Comment(CommentState::CommentEnd))
+}
+
+// 13.2.5.50 Comment end dash state
+fn comment_end_dash(comment: &mut String, b: u8) -> Result<Moved, AllocError>
+    ensures { IfOk result (λ moved. DoesComment moved (string_bytes comment.new) (c.comment_end_dash_state (string_bytes comment.old) b)) }
+{
+    if b == b'-' {
+        return Ok(Moved::Goes(At::Comment(CommentState::CommentEnd)));
+    }
+    comment.push_str("-")?;
+    Ok(Moved::Again(At::Comment(CommentState::Comment)))
+}
+
+// 13.2.5.51 Comment end state
+fn comment_end(comment: &mut String, b: u8) -> Result<Moved, AllocError>
+    ensures { IfOk result (λ moved. DoesComment moved (string_bytes comment.new) (c.comment_end_state (string_bytes comment.old) b)) }
+{
+    match b {
+        b'>' => Ok(HANDS),
+        b'!' => Ok(Moved::Goes(At::Comment(CommentState::CommentEndBang))),
+        b'-' => {
+            comment.push_str("-")?;
+            Ok(Moved::Goes(At::Comment(CommentState::CommentEnd)))
+        }
+        _ => {
+            comment.push_str("--")?;
+            Ok(Moved::Again(At::Comment(CommentState::Comment)))
+        }
+    }
+}
+
+// 13.2.5.52 Comment end bang state
+fn comment_end_bang(comment: &mut String, b: u8) -> Result<Moved, AllocError>
+    ensures { IfOk result (λ moved. DoesComment moved (string_bytes comment.new) (c.comment_end_bang_state (string_bytes comment.old) b)) }
+{
+    match b {
+        b'-' => {
+            comment.push_str("--!")?;
+            Ok(Moved::Goes(At::Comment(CommentState::CommentEndDash)))
+        }
+        b'>' => {
+            note(ParseError::IncorrectlyClosedComment);
+            Ok(HANDS)
+        }
+        _ => {
+            comment.push_str("--!")?;
+            Ok(Moved::Again(At::Comment(CommentState::Comment)))
+        }
+    }
+}
+
+/// The row of a state of comments.
+pub fn comment_turn(state: CommentState, text: &mut String, b: u8) -> Result<Moved, AllocError>
+    requires { comment_takes_wide state ≡ true → b < 128 }
+    ensures { IfOk result (λ moved. (table : List Reference) (last : List ℕ) → DoesComment moved (string_bytes text.new)
+        (turn table last (comment_state_of state (string_bytes text.old)) b)) }
+{
+    match state {
+        CommentState::BogusComment => bogus_comment(text, b),
+        CommentState::MarkupDeclarationOpen => markup_declaration_open(text, b),
+        CommentState::CommentStart => Ok(comment_start(text, b)),
+        CommentState::CommentStartDash => comment_start_dash(text, b),
+        CommentState::Comment => comment(text, b),
+        CommentState::CommentLessThanSign => comment_less_than_sign(text, b),
+        CommentState::CommentLessThanSignBang => Ok(comment_less_than_sign_bang(b)),
+        CommentState::CommentLessThanSignBangDash => Ok(comment_less_than_sign_bang_dash(b)),
+        CommentState::CommentLessThanSignBangDashDash => {
+            Ok(comment_less_than_sign_bang_dash_dash(b))
+        }
+        CommentState::CommentEndDash => comment_end_dash(text, b),
+        CommentState::CommentEnd => comment_end(text, b),
+        CommentState::CommentEndBang => comment_end_bang(text, b),
+    }
+}

@@ -1,0 +1,458 @@
+//! The rows of doctypes (HTML standard, sections 13.2.5.53 to 13.2.5.68).
+
+ghost use Rattle.std.specs.Prelude.{◌≡◌, ◌<◌, IfOk, OnOk, IfSome, IfNone, [], ◌∷◌, ◌++◌, List, ℕ, true, map, string_bytes};
+ghost use Rattle.std.specs.Char.{to_ascii_lowercase};
+ghost use Rattle.std.specs.Option.{option_map};
+ghost use Rattle.h5_token.specs.OptionalText.{optional_text};
+ghost use Rattle.h5_token.specs.TokenText.{DoctypeText, doctype_text};
+ghost use Rattle.h5_states.specs.Construction.{nameless, new_doctype, with_identifier, doctype_named_further, identifier_further, quirky};
+ghost use Rattle.h5_states.specs.Doctypes as d;
+ghost use Rattle.h5_states.specs.Machine.{turn};
+ghost use Rattle.h5_states.specs.References.{Reference};
+ghost use Rattle.h5_machine.specs.StateOf.{doctype_state_of};
+ghost use Rattle.h5_machine.specs.Wide.{doctype_takes_wide};
+ghost use Rattle.h5_machine.specs.DeedOf.{DoesDoctype, DoesDoctypeSeen, after_identifier};
+
+use super::at::{At, DoctypeState};
+use super::moved::{Construct, Moved, note, note_if};
+use super::signs::{
+    REPLACEMENT, begins_folded, is_blank, is_folded, push_byte, push_lowered, sign_of,
+};
+use h5_states::{Identifier, ParseError, Quote, TextKind};
+use h5_token::Doctype;
+use std::alloc::AllocError;
+
+const HANDS: Moved = Moved::Hands(Construct::Doctype, TextKind::Data);
+
+// The error of the one identifier, or of the other.
+fn chosen(id: Identifier, public: ParseError, system: ParseError) -> ParseError {
+    match id {
+        Identifier::Public => public,
+        Identifier::System => system,
+    }
+}
+
+fn goes(state: DoctypeState) -> Moved
+    ensures { result ≡ Moved.Goes (At.Doctype state) }
+{
+    Moved::Goes(At::Doctype(state))
+}
+
+/// A new doctype without a name. It takes no memory.
+pub fn nameless() -> Doctype
+    ensures { doctype_text result ≡ nameless }
+{
+    Doctype {
+        name: None,
+        public_id: None,
+        system_id: None,
+        force_quirks: true,
+    }
+}
+
+/// A new doctype, whose name is so far this one.
+pub fn new_doctype(name: String) -> Doctype
+    ensures { doctype_text result ≡ new_doctype (string_bytes name) }
+{
+    Doctype {
+        name: Some(name),
+        public_id: None,
+        system_id: None,
+        force_quirks: false,
+    }
+}
+
+// Sets an identifier to the empty one.
+fn begin_identifier(id: Identifier, doctype: &mut Doctype, empty: String)
+    requires { string_bytes empty ≡ [] }
+    ensures { doctype_text doctype.new ≡ with_identifier id (doctype_text doctype.old) }
+{
+    match id {
+        Identifier::Public => doctype.public_id = Some(empty),
+        Identifier::System => doctype.system_id = Some(empty),
+    }
+}
+
+// 13.2.5.53 DOCTYPE state
+fn begin_doctype(b: u8) -> Moved
+    ensures { (doctype : DoctypeText) → DoesDoctype result doctype (d.doctype_state b) }
+{
+    if is_blank(b) {
+        return goes(DoctypeState::BeforeDoctypeName);
+    }
+    note_if(b != b'>', ParseError::MissingWhitespaceBeforeDoctypeName);
+    Moved::Again(At::Doctype(DoctypeState::BeforeDoctypeName))
+}
+
+// 13.2.5.54 Before DOCTYPE name state
+fn before_doctype_name(doctype: &mut Doctype, empty: String, b: u8) -> Result<Moved, AllocError>
+    requires ascii { b < 128 }
+    requires empty { string_bytes empty ≡ [] }
+    ensures { IfOk result (λ moved. DoesDoctype moved (doctype_text doctype.new) (d.before_doctype_name_state b)) }
+{
+    if is_blank(b) {
+        return Ok(goes(DoctypeState::BeforeDoctypeName));
+    }
+    if b == b'>' {
+        note(ParseError::MissingDoctypeName);
+        *doctype = nameless();
+        return Ok(HANDS);
+    }
+    let mut name = empty;
+    if b == 0 {
+        note(ParseError::UnexpectedNullCharacter);
+        name.push_str(REPLACEMENT)?;
+    } else {
+        push_byte(&mut name, b.to_ascii_lowercase())?;
+    }
+    *doctype = new_doctype(name);
+    Ok(goes(DoctypeState::DoctypeName))
+}
+
+// 13.2.5.55 DOCTYPE name state
+fn doctype_name(doctype: &mut Doctype, seen: &mut String, b: u8) -> Result<Moved, AllocError>
+    requires { b < 128 }
+    ensures { IfOk result (λ moved. DoesDoctypeSeen moved (doctype_text doctype.new) (string_bytes seen.new) (d.doctype_name_state (doctype_text doctype.old) b)) }
+{
+    if is_blank(b) {
+        seen.clear();
+        return Ok(goes(DoctypeState::AfterDoctypeName));
+    }
+    if b == b'>' {
+        return Ok(HANDS);
+    }
+    if b == 0 {
+        note(ParseError::UnexpectedNullCharacter);
+        push_doctype_name(doctype, REPLACEMENT)?;
+    } else {
+        push_name_byte(doctype, b)?;
+    }
+    Ok(goes(DoctypeState::DoctypeName))
+}
+
+/// Its name goes on so, letters in lower case.
+pub fn push_doctype_name(doctype: &mut Doctype, more: &str) -> Result<(), AllocError>
+    ensures { OnOk result (doctype_text doctype.new ≡ doctype_named_further (map to_ascii_lowercase more.now) (doctype_text doctype.old)) }
+{
+    match &mut doctype.name {
+        Some(name) => push_lowered(name, more),
+        None => Ok(()),
+    }
+}
+
+// Its name goes on by an ASCII byte, a letter in lower case.
+fn push_name_byte(doctype: &mut Doctype, b: u8) -> Result<(), AllocError>
+    requires { b < 128 }
+    ensures { OnOk result (doctype_text doctype.new ≡ doctype_named_further (to_ascii_lowercase b ∷ []) (doctype_text doctype.old)) }
+{
+    match &mut doctype.name {
+        Some(name) => push_byte(name, b.to_ascii_lowercase()),
+        None => Ok(()),
+    }
+}
+
+// A part that is there goes on so.
+fn push_part(part: &mut Option<String>, more: &str) -> Result<(), AllocError>
+    ensures { OnOk result (optional_text part.new ≡ option_map (λ text. text ++ more.now) (optional_text part.old)) }
+{
+    match part {
+        Some(text) => text.push_str(more),
+        None => Ok(()),
+    }
+}
+
+// A part that is there goes on by an ASCII byte.
+fn push_part_byte(part: &mut Option<String>, b: u8) -> Result<(), AllocError>
+    requires { b < 128 }
+    ensures { OnOk result (optional_text part.new ≡ option_map (λ text. text ++ b ∷ []) (optional_text part.old)) }
+{
+    match part {
+        Some(text) => push_byte(text, b),
+        None => Ok(()),
+    }
+}
+
+/// Its identifier goes on so.
+pub fn push_identifier(id: Identifier, doctype: &mut Doctype, more: &str) -> Result<(), AllocError>
+    ensures { OnOk result (doctype_text doctype.new ≡ identifier_further id more.now (doctype_text doctype.old)) }
+{
+    match id {
+        Identifier::Public => push_part(&mut doctype.public_id, more),
+        Identifier::System => push_part(&mut doctype.system_id, more),
+    }
+}
+
+// Its identifier goes on by an ASCII byte.
+fn push_identifier_byte(id: Identifier, doctype: &mut Doctype, b: u8) -> Result<(), AllocError>
+    requires { b < 128 }
+    ensures { OnOk result (doctype_text doctype.new ≡ identifier_further id (b ∷ []) (doctype_text doctype.old)) }
+{
+    match id {
+        Identifier::Public => push_part_byte(&mut doctype.public_id, b),
+        Identifier::System => push_part_byte(&mut doctype.system_id, b),
+    }
+}
+
+// Whether one of the keywords begins so.
+fn begins_keyword(seen: &str) -> bool
+    ensures { result ≡ d.begins_keyword seen.now }
+{
+    begins_folded(seen, b"public") || begins_folded(seen, b"system")
+}
+
+// What was seen is neither keyword, nor does one begin so.
+fn without_keyword(doctype: &mut Doctype) -> Moved
+    ensures moved { result ≡ Moved.Again (At.Doctype DoctypeState.BogusDoctype) }
+    ensures doctype { doctype_text doctype.new ≡ quirky (doctype_text doctype.old) }
+{
+    note(ParseError::InvalidCharacterSequenceAfterDoctypeName);
+    doctype.force_quirks = true;
+    Moved::Again(At::Doctype(DoctypeState::BogusDoctype))
+}
+
+// 13.2.5.56 After DOCTYPE name state
+fn after_doctype_name(doctype: &mut Doctype, seen: &mut String, b: u8) -> Result<Moved, AllocError>
+    ensures { IfOk result (λ moved. DoesDoctypeSeen moved (doctype_text doctype.new) (string_bytes seen.new) (d.after_doctype_name_state (doctype_text doctype.old) (string_bytes seen.old) b)) }
+{
+    if seen.is_empty() && is_blank(b) {
+        return Ok(goes(DoctypeState::AfterDoctypeName));
+    }
+    if seen.is_empty() && b == b'>' {
+        return Ok(HANDS);
+    }
+    if b >= 128 {
+        return Ok(without_keyword(doctype));
+    }
+    push_byte(seen, b)?;
+    if is_folded(seen.as_str(), b"public") {
+        return Ok(goes(DoctypeState::AfterDoctypeKeyword(Identifier::Public)));
+    }
+    if is_folded(seen.as_str(), b"system") {
+        return Ok(goes(DoctypeState::AfterDoctypeKeyword(Identifier::System)));
+    }
+    if begins_keyword(seen.as_str()) {
+        return Ok(goes(DoctypeState::AfterDoctypeName));
+    }
+    Ok(without_keyword(doctype))
+}
+
+// An identifier in such quotes begins.
+fn begins_identifier(id: Identifier, quote: Quote, doctype: &mut Doctype, empty: String) -> Moved
+    requires { string_bytes empty ≡ [] }
+    ensures moved { result ≡ Moved.Goes (At.Doctype (DoctypeState.DoctypeIdentifier id quote)) }
+    ensures doctype { doctype_text doctype.new ≡ with_identifier id (doctype_text doctype.old) }
+{
+    begin_identifier(id, doctype, empty);
+    goes(DoctypeState::DoctypeIdentifier(id, quote))
+}
+
+// There is no identifier.
+fn without_identifier(id: Identifier, doctype: &mut Doctype) -> Moved
+    ensures moved { result ≡ HANDS }
+    ensures doctype { doctype_text doctype.new ≡ quirky (doctype_text doctype.old) }
+{
+    note(chosen(
+        id,
+        ParseError::MissingDoctypePublicIdentifier,
+        ParseError::MissingDoctypeSystemIdentifier,
+    ));
+    doctype.force_quirks = true;
+    HANDS
+}
+
+// There are no quotes.
+fn without_quote(id: Identifier, doctype: &mut Doctype) -> Moved
+    ensures moved { result ≡ Moved.Again (At.Doctype DoctypeState.BogusDoctype) }
+    ensures doctype { doctype_text doctype.new ≡ quirky (doctype_text doctype.old) }
+{
+    note(chosen(
+        id,
+        ParseError::MissingQuoteBeforeDoctypePublicIdentifier,
+        ParseError::MissingQuoteBeforeDoctypeSystemIdentifier,
+    ));
+    doctype.force_quirks = true;
+    Moved::Again(At::Doctype(DoctypeState::BogusDoctype))
+}
+
+// 13.2.5.57, 63: After DOCTYPE public keyword state, After DOCTYPE system keyword state
+fn after_doctype_keyword(id: Identifier, doctype: &mut Doctype, empty: String, b: u8) -> Moved
+    requires { string_bytes empty ≡ [] }
+    ensures { DoesDoctype result (doctype_text doctype.new) (d.after_doctype_keyword_state id (doctype_text doctype.old) b) }
+{
+    if is_blank(b) {
+        return goes(DoctypeState::BeforeDoctypeIdentifier(id));
+    }
+    let blank_missing = chosen(
+        id,
+        ParseError::MissingWhitespaceAfterDoctypePublicKeyword,
+        ParseError::MissingWhitespaceAfterDoctypeSystemKeyword,
+    );
+    match b {
+        b'"' => {
+            note(blank_missing);
+            begins_identifier(id, Quote::Double, doctype, empty)
+        }
+        b'\'' => {
+            note(blank_missing);
+            begins_identifier(id, Quote::Single, doctype, empty)
+        }
+        b'>' => without_identifier(id, doctype),
+        _ => without_quote(id, doctype),
+    }
+}
+
+// 13.2.5.58, 64: Before DOCTYPE public identifier state, Before DOCTYPE system identifier state
+fn before_doctype_identifier(id: Identifier, doctype: &mut Doctype, empty: String, b: u8) -> Moved
+    requires { string_bytes empty ≡ [] }
+    ensures { DoesDoctype result (doctype_text doctype.new) (d.before_doctype_identifier_state id (doctype_text doctype.old) b) }
+{
+    if is_blank(b) {
+        return goes(DoctypeState::BeforeDoctypeIdentifier(id));
+    }
+    match b {
+        b'"' => begins_identifier(id, Quote::Double, doctype, empty),
+        b'\'' => begins_identifier(id, Quote::Single, doctype, empty),
+        b'>' => without_identifier(id, doctype),
+        _ => without_quote(id, doctype),
+    }
+}
+
+fn after_identifier(id: Identifier) -> DoctypeState
+    ensures { result ≡ after_identifier id }
+{
+    match id {
+        Identifier::Public => DoctypeState::AfterDoctypePublicIdentifier,
+        Identifier::System => DoctypeState::AfterDoctypeSystemIdentifier,
+    }
+}
+
+// 13.2.5.59, 60, 65, 66: DOCTYPE public and system identifier (double-quoted) and (single-quoted) state
+fn doctype_identifier(
+    id: Identifier,
+    quote: Quote,
+    doctype: &mut Doctype,
+    b: u8,
+) -> Result<Moved, AllocError>
+    requires { b < 128 }
+    ensures { IfOk result (λ moved. DoesDoctype moved (doctype_text doctype.new) (d.doctype_identifier_state id quote (doctype_text doctype.old) b)) }
+{
+    if b == sign_of(quote) {
+        return Ok(goes(after_identifier(id)));
+    }
+    match b {
+        0 => {
+            note(ParseError::UnexpectedNullCharacter);
+            push_identifier(id, doctype, REPLACEMENT)?;
+            Ok(goes(DoctypeState::DoctypeIdentifier(id, quote)))
+        }
+        b'>' => {
+            note(chosen(
+                id,
+                ParseError::AbruptDoctypePublicIdentifier,
+                ParseError::AbruptDoctypeSystemIdentifier,
+            ));
+            doctype.force_quirks = true;
+            Ok(HANDS)
+        }
+        _ => {
+            push_identifier_byte(id, doctype, b)?;
+            Ok(goes(DoctypeState::DoctypeIdentifier(id, quote)))
+        }
+    }
+}
+
+// 13.2.5.61 After DOCTYPE public identifier state
+fn after_doctype_public_identifier(doctype: &mut Doctype, empty: String, b: u8) -> Moved
+    requires { string_bytes empty ≡ [] }
+    ensures { DoesDoctype result (doctype_text doctype.new) (d.after_doctype_public_identifier_state (doctype_text doctype.old) b) }
+{
+    if is_blank(b) {
+        return goes(DoctypeState::BetweenDoctypeIdentifiers);
+    }
+    match b {
+        b'>' => HANDS,
+        b'"' => {
+            note(ParseError::MissingWhitespaceBetweenDoctypePublicAndSystemIdentifiers);
+            begins_identifier(Identifier::System, Quote::Double, doctype, empty)
+        }
+        b'\'' => {
+            note(ParseError::MissingWhitespaceBetweenDoctypePublicAndSystemIdentifiers);
+            begins_identifier(Identifier::System, Quote::Single, doctype, empty)
+        }
+        _ => without_quote(Identifier::System, doctype),
+    }
+}
+
+// 13.2.5.62 Between DOCTYPE public and system identifiers state
+fn between_doctype_identifiers(doctype: &mut Doctype, empty: String, b: u8) -> Moved
+    requires { string_bytes empty ≡ [] }
+    ensures { DoesDoctype result (doctype_text doctype.new) (d.between_doctype_identifiers_state (doctype_text doctype.old) b) }
+{
+    if is_blank(b) {
+        return goes(DoctypeState::BetweenDoctypeIdentifiers);
+    }
+    match b {
+        b'>' => HANDS,
+        b'"' => begins_identifier(Identifier::System, Quote::Double, doctype, empty),
+        b'\'' => begins_identifier(Identifier::System, Quote::Single, doctype, empty),
+        _ => without_quote(Identifier::System, doctype),
+    }
+}
+
+// 13.2.5.67 After DOCTYPE system identifier state
+fn after_doctype_system_identifier(b: u8) -> Moved
+    ensures { (doctype : DoctypeText) → DoesDoctype result doctype (d.after_doctype_system_identifier_state doctype b) }
+{
+    if is_blank(b) {
+        return goes(DoctypeState::AfterDoctypeSystemIdentifier);
+    }
+    if b == b'>' {
+        return HANDS;
+    }
+    note(ParseError::UnexpectedCharacterAfterDoctypeSystemIdentifier);
+    Moved::Again(At::Doctype(DoctypeState::BogusDoctype))
+}
+
+// 13.2.5.68 Bogus DOCTYPE state
+fn bogus_doctype(b: u8) -> Moved
+    ensures { (doctype : DoctypeText) → DoesDoctype result doctype (d.bogus_doctype_state doctype b) }
+{
+    if b == b'>' {
+        return HANDS;
+    }
+    note_if(b == 0, ParseError::UnexpectedNullCharacter);
+    goes(DoctypeState::BogusDoctype)
+}
+
+/// The row of a state of doctypes.
+pub fn doctype_turn(
+    state: DoctypeState,
+    doctype: &mut Doctype,
+    seen: &mut String,
+    b: u8,
+) -> Result<Moved, AllocError>
+    requires { doctype_takes_wide state ≡ true → b < 128 }
+    ensures { IfOk result (λ moved. (table : List Reference) (last : List ℕ) → DoesDoctypeSeen moved (doctype_text doctype.new) (string_bytes seen.new)
+        (turn table last (doctype_state_of state (doctype_text doctype.old) (string_bytes seen.old)) b)) }
+{
+    let empty = String::new(*seen.allocator());
+    match state {
+        DoctypeState::BeginDoctype => Ok(begin_doctype(b)),
+        DoctypeState::BeforeDoctypeName => before_doctype_name(doctype, empty, b),
+        DoctypeState::DoctypeName => doctype_name(doctype, seen, b),
+        DoctypeState::AfterDoctypeName => after_doctype_name(doctype, seen, b),
+        DoctypeState::AfterDoctypeKeyword(id) => Ok(after_doctype_keyword(id, doctype, empty, b)),
+        DoctypeState::BeforeDoctypeIdentifier(id) => {
+            Ok(before_doctype_identifier(id, doctype, empty, b))
+        }
+        DoctypeState::DoctypeIdentifier(id, quote) => doctype_identifier(id, quote, doctype, b),
+        DoctypeState::AfterDoctypePublicIdentifier => {
+            Ok(after_doctype_public_identifier(doctype, empty, b))
+        }
+        DoctypeState::BetweenDoctypeIdentifiers => {
+            Ok(between_doctype_identifiers(doctype, empty, b))
+        }
+        DoctypeState::AfterDoctypeSystemIdentifier => Ok(after_doctype_system_identifier(b)),
+        DoctypeState::BogusDoctype => Ok(bogus_doctype(b)),
+    }
+}

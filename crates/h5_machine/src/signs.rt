@@ -1,0 +1,148 @@
+//! Bytes that the rows name, and what is added to a text.
+
+ghost use Rattle.std.specs.Prelude.{◌≡◌, ◌<◌, ◌==◌, ℕ, List, [], ◌∷◌, ◌++◌, OnOk, map, string_bytes};
+ghost use Rattle.std.specs.Char.{to_ascii_lowercase};
+ghost use Rattle.h5_names.specs.AttributeText.{is_same_text};
+ghost use Rattle.h5_states.specs.Signs.{is_blank, is_name_end, is_quote, sign_of, is_alphanumeric, is_hex_digit};
+ghost use Rattle.h5_states.specs.Words.{begins, is_all, same};
+ghost use Rattle.h5_machine.specs.Signs.{cleaned};
+
+use h5_states::Quote;
+use std::alloc::AllocError;
+
+/// TAB, LF, FF or SPACE: a CR was made a LF before.
+#[inline(always)]
+pub fn is_blank(b: u8) -> bool
+    ensures { result ≡ is_blank b }
+{
+    b == b'\t' || b == b'\n' || b == 0x0c || b == b' '
+}
+
+/// What ends a name.
+#[inline(always)]
+pub fn is_name_end(b: u8) -> bool
+    ensures { result ≡ is_name_end b }
+{
+    is_blank(b) || b == b'/' || b == b'>'
+}
+
+#[inline(always)]
+pub fn is_quote(b: u8) -> bool
+    ensures { result ≡ is_quote b }
+{
+    b == b'"' || b == b'\''
+}
+
+#[inline(always)]
+pub fn sign_of(quote: Quote) -> u8
+    ensures { result ≡ sign_of quote }
+{
+    match quote {
+        Quote::Double => b'"',
+        Quote::Single => b'\'',
+    }
+}
+
+#[inline(always)]
+pub fn is_alphanumeric(b: u8) -> bool
+    ensures { result ≡ is_alphanumeric b }
+{
+    b.is_ascii_digit() || b.is_ascii_alphabetic()
+}
+
+pub fn is_hex_digit(b: u8) -> bool
+    ensures { result ≡ is_hex_digit b }
+{
+    b.is_ascii_digit() || (b'A' <= b && b <= b'F') || (b'a' <= b && b <= b'f')
+}
+
+/// U+FFFD REPLACEMENT CHARACTER, which stands for a NUL.
+pub const REPLACEMENT: &str = "\u{fffd}";
+
+/// Adds an ASCII byte to a text.
+pub fn push_byte(text: &mut String, b: u8) -> Result<(), AllocError>
+    requires { b < 128 }
+    ensures { OnOk result (string_bytes text.new ≡ string_bytes text.old ++ b ∷ []) }
+{
+    text.push(b as char)
+}
+
+/// Adds an ASCII byte to a text, and U+FFFD for a NUL.
+pub fn push_cleaned(text: &mut String, b: u8) -> Result<(), AllocError>
+    requires { b < 128 }
+    ensures { OnOk result (string_bytes text.new ≡ string_bytes text.old ++ cleaned b) }
+{
+    if b == 0 {
+        return text.push_str(REPLACEMENT);
+    }
+    push_byte(text, b)
+}
+
+/// Takes an ASCII byte from a text's end.
+pub fn pop_byte(text: &mut String)
+    ensures { (front : List ℕ) (x : ℕ) → x < 128 → string_bytes text.old ≡ front ++ x ∷ [] → string_bytes text.new ≡ front }
+{
+    let _ = text.pop();
+}
+
+/// Whether a text is this one, once its letters are in lower case.
+pub fn is_lowered(text: &[u8], written: &[u8]) -> bool
+    ensures { result ≡ is_same_text text.now (map to_ascii_lowercase written.now) }
+{
+    if text.len() != written.len() {
+        return false;
+    }
+    for (i, b) in written.iter().enumerate() {
+        if text[i] != b.to_ascii_lowercase() {
+            return false;
+        }
+    }
+    true
+}
+
+/// Adds to a text, letters in lower case.
+pub fn push_lowered(text: &mut String, more: &str) -> Result<(), AllocError>
+    ensures { OnOk result (string_bytes text.new ≡ string_bytes text.old ++ map to_ascii_lowercase more.now) }
+{
+    // Most names are written so.
+    if is_lowered(more.as_bytes(), more.as_bytes()) {
+        return text.push_str(more);
+    }
+    let mut lower = String::from_str(*text.allocator(), more)?;
+    lower.make_ascii_lowercase();
+    text.push_str(lower.as_str())
+}
+
+/// Whether a word begins so, where the case of its letters doesn't count.
+pub fn begins_folded(seen: &str, word: &[u8]) -> bool
+    ensures { result ≡ begins to_ascii_lowercase seen.now word.now }
+{
+    let bytes = seen.as_bytes();
+    if word.len() < bytes.len() {
+        return false;
+    }
+    bytes.eq_ignore_ascii_case(&word[..bytes.len()])
+}
+
+/// Whether this is a word, where the case of its letters doesn't count.
+pub fn is_folded(seen: &str, word: &[u8]) -> bool
+    ensures { result ≡ is_all to_ascii_lowercase seen.now word.now }
+{
+    seen.as_bytes().eq_ignore_ascii_case(word)
+}
+
+/// Whether this is a word.
+#[tactic(auto, using(crate::proofs::FoldLaws::is_all_same))]
+pub fn is_word(seen: &str, word: &[u8]) -> bool
+    ensures { result ≡ is_all same seen.now word.now }
+{
+    seen.as_bytes() == word
+}
+
+/// Whether a word begins so.
+#[tactic(auto, using(crate::proofs::WordLaws::begins_same))]
+pub fn begins(seen: &str, word: &[u8]) -> bool
+    ensures { result ≡ begins same seen.now word.now }
+{
+    word.starts_with(seen.as_bytes())
+}

@@ -1,0 +1,176 @@
+//! A tag under construction.
+
+ghost use Rattle.std.specs.Prelude.{◌≡◌, ◌<◌, [], ◌∷◌, ◌++◌, OnOk, IfOk, map, string_bytes, encode_utf8};
+ghost use Rattle.std.specs.Char.{to_ascii_lowercase};
+
+use super::signs::{push_byte, push_lowered};
+use h5_markup::Keeping;
+use h5_names::LocalName;
+use h5_token::{Tag, TagKind};
+use std::alloc::{AllocError, Global};
+use std::marker::Model;
+use std::mem;
+
+/// A tag so far: its attributes that are complete, and its current one.
+#[derive(Drop)]
+pub struct OpenTag {
+    kind: TagKind,
+    name: String,
+    self_closing: bool,
+    kept: Keeping,
+    // Whether there is a current attribute.
+    in_attribute: bool,
+    attribute: String,
+    value: String,
+}
+
+impl Model for OpenTag {
+    ghost use Rattle.std.specs.Prelude.{string_bytes};
+    ghost use Rattle.h5_names.specs.AttributeText.{attribute_texts};
+    ghost use Rattle.h5_states.specs.Construction.{Tag};
+    ghost use Rattle.h5_machine.specs.Parts.{current_of};
+
+    ghost Value = { Tag };
+
+    ghost view = { λ t. record {
+      kind = t.kind;
+      name = string_bytes t.name;
+      self_closing = t.self_closing;
+      attrs = attribute_texts t.kept.attributes.items;
+      duplicates = t.kept.duplicates;
+      current = current_of t.in_attribute (string_bytes t.attribute) (string_bytes t.value);
+    } };
+}
+
+impl OpenTag {
+    ghost use Rattle.h5_token.specs.TokenText.{TagIs, tag_text};
+    ghost use Rattle.h5_token.specs.declared.tag.TagKind.TheVariants.{StartTag};
+    ghost use Rattle.h5_states.specs.Construction.{new_tag, named_further, attribute_named_further, value_further, completed, with_attribute, self_closed, token_of};
+
+    /// A start tag without a name. It takes no memory.
+    pub fn new(alloc: Global) -> OpenTag
+        ensures { result ≡ new_tag StartTag [] }
+    {
+        OpenTag {
+            kind: TagKind::StartTag,
+            name: String::new(alloc),
+            self_closing: false,
+            kept: Keeping::new(alloc, 1),
+            in_attribute: false,
+            attribute: String::new(alloc),
+            value: String::new(alloc),
+        }
+    }
+
+    /// A new tag, without a name.
+    pub fn begin(&mut self, kind: TagKind)
+        ensures { self.new ≡ new_tag kind [] }
+    {
+        let alloc = *self.name.allocator();
+        self.kind = kind;
+        self.name.clear();
+        self.self_closing = false;
+        self.kept = Keeping::new(alloc, 1);
+        self.in_attribute = false;
+    }
+
+    /// Its name goes on so, letters in lower case.
+    pub fn push_name(&mut self, more: &str) -> Result<(), AllocError>
+        ensures { OnOk result (self.new ≡ named_further (map to_ascii_lowercase more.now) self.old) }
+    {
+        push_lowered(&mut self.name, more)
+    }
+
+    /// Its name goes on by an ASCII byte, a letter in lower case.
+    pub fn push_name_byte(&mut self, b: u8) -> Result<(), AllocError>
+        requires { b < 128 }
+        ensures { OnOk result (self.new ≡ named_further (to_ascii_lowercase b ∷ []) self.old) }
+    {
+        push_byte(&mut self.name, b.to_ascii_lowercase())
+    }
+
+    /// The current attribute is complete. It is dropped where its name stands in the tag already.
+    pub fn complete(&mut self) -> Result<(), AllocError>
+        ensures { OnOk result (self.new ≡ completed self.old) }
+    {
+        if !self.in_attribute {
+            return Ok(());
+        }
+        let alloc = *self.name.allocator();
+        let name = LocalName::new(alloc, self.attribute.as_str())?;
+        let value = mem::replace(&mut self.value, String::new(alloc));
+        self.in_attribute = false;
+        self.kept.keep_finished(name, value)
+    }
+
+    /// A new attribute is started, without a name.
+    pub fn begin_attribute(&mut self) -> Result<(), AllocError>
+        ensures { OnOk result (self.new ≡ with_attribute [] self.old) }
+    {
+        self.complete()?;
+        self.in_attribute = true;
+        self.attribute.clear();
+        self.value.clear();
+        Ok(())
+    }
+
+    /// The current attribute's name goes on so, letters in lower case.
+    pub fn push_attribute(&mut self, more: &str) -> Result<(), AllocError>
+        ensures { OnOk result (self.new ≡ attribute_named_further (map to_ascii_lowercase more.now) self.old) }
+    {
+        push_lowered(&mut self.attribute, more)
+    }
+
+    /// The current attribute's name goes on by an ASCII byte, a letter in lower case.
+    pub fn push_attribute_byte(&mut self, b: u8) -> Result<(), AllocError>
+        requires { b < 128 }
+        ensures { OnOk result (self.new ≡ attribute_named_further (to_ascii_lowercase b ∷ []) self.old) }
+    {
+        push_byte(&mut self.attribute, b.to_ascii_lowercase())
+    }
+
+    /// The current attribute's value goes on so.
+    pub fn push_value(&mut self, more: &str) -> Result<(), AllocError>
+        ensures { OnOk result (self.new ≡ value_further more.now self.old) }
+    {
+        self.value.push_str(more)
+    }
+
+    /// The current attribute's value goes on by an ASCII byte.
+    pub fn push_value_byte(&mut self, b: u8) -> Result<(), AllocError>
+        requires { b < 128 }
+        ensures { OnOk result (self.new ≡ value_further (b ∷ []) self.old) }
+    {
+        push_byte(&mut self.value, b)
+    }
+
+    /// The current attribute's value goes on by a character.
+    pub fn push_value_char(&mut self, more: char) -> Result<(), AllocError>
+        ensures { OnOk result (self.new ≡ value_further (encode_utf8 more) self.old) }
+    {
+        self.value.push(more)
+    }
+
+    /// It closes itself.
+    pub fn close_itself(&mut self)
+        ensures { self.new ≡ self_closed self.old }
+    {
+        self.self_closing = true;
+    }
+
+    /// The tag, which is complete. What is left is a tag without attributes.
+    pub fn take(&mut self) -> Result<Tag, AllocError>
+        ensures { IfOk result (λ tag. TagIs (tag_text tag) ≡ token_of self.old) }
+    {
+        let alloc = *self.name.allocator();
+        let name = LocalName::new(alloc, self.name.as_str())?;
+        let kept = mem::replace(&mut self.kept, Keeping::new(alloc, 1));
+        Ok(Tag {
+            kind: self.kind,
+            self_closing: self.self_closing,
+            had_duplicate_attributes: kept.duplicates,
+            name,
+            attrs: kept.attributes,
+        })
+    }
+}

@@ -1,0 +1,322 @@
+//! The rows of tags (HTML standard, sections 13.2.5.6 to 13.2.5.8 and 13.2.5.32 to 13.2.5.40).
+
+ghost use Rattle.std.specs.Prelude.{◌≡◌, ◌<◌, true, IfOk, ℕ, List, string_bytes};
+ghost use Rattle.h5_states.specs.Machine.{turn};
+ghost use Rattle.h5_states.specs.References.{Reference};
+ghost use Rattle.h5_states.specs.Tags as g;
+ghost use Rattle.h5_machine.specs.DeedOf.{Does, DoesTag, DoesTagOrComment};
+ghost use Rattle.h5_machine.specs.Parts.{Parts};
+ghost use Rattle.h5_machine.specs.StateOf.{tag_state_of, value_of};
+ghost use Rattle.h5_machine.specs.Wide.{tag_takes_wide};
+ghost use Rattle.h5_states.specs.Turn.{hand_tag};
+
+use super::at::{At, CommentState, DATA, ReferenceState, ReturnTo, TagState, ValueKind};
+use super::moved::{Construct, Moved, note, note_if};
+use super::signs::{REPLACEMENT, is_blank, is_name_end, is_quote, sign_of};
+use super::tag::OpenTag;
+use h5_states::{ParseError, Quote, TextKind};
+use h5_token::TagKind;
+use std::alloc::AllocError;
+
+// Emits the current tag token.
+fn hand_tag(tag: &mut OpenTag) -> Result<Moved, AllocError>
+    ensures { IfOk result (λ moved. DoesTag moved tag.new (hand_tag tag.old)) }
+{
+    tag.complete()?;
+    Ok(Moved::Hands(Construct::Tag, TextKind::Data))
+}
+
+// 13.2.5.6 Tag open state
+fn tag_open(
+    tag: &mut OpenTag,
+    comment: &mut String,
+    out: &mut String,
+    b: u8,
+) -> Result<Moved, AllocError>
+    ensures { IfOk result (λ moved. (parts : Parts) → Does moved (string_bytes out.old) (string_bytes out.new)
+        (record parts { tag = tag.new; comment = string_bytes comment.new }) (g.tag_open_state b)) }
+{
+    match b {
+        b'!' => {
+            comment.clear();
+            Ok(Moved::Goes(At::Comment(CommentState::MarkupDeclarationOpen)))
+        }
+        b'/' => Ok(Moved::Goes(At::Tag(TagState::EndTagOpen))),
+        b'?' => {
+            note(ParseError::UnexpectedQuestionMarkInsteadOfTagName);
+            comment.clear();
+            Ok(Moved::Again(At::Comment(CommentState::BogusComment)))
+        }
+        _ => {
+            if b.is_ascii_alphabetic() {
+                tag.begin(TagKind::StartTag);
+                return Ok(Moved::Again(At::Tag(TagState::TagName)));
+            }
+            note(ParseError::InvalidFirstCharacterOfTagName);
+            out.push_str("<")?;
+            Ok(Moved::Again(DATA))
+        }
+    }
+}
+
+// 13.2.5.7 End tag open state
+fn end_tag_open(tag: &mut OpenTag, comment: &mut String, b: u8) -> Moved
+    ensures { DoesTagOrComment result tag.new (string_bytes comment.new) (g.end_tag_open_state b) }
+{
+    if b.is_ascii_alphabetic() {
+        tag.begin(TagKind::EndTag);
+        return Moved::Again(At::Tag(TagState::TagName));
+    }
+    if b == b'>' {
+        note(ParseError::MissingEndTagName);
+        return Moved::Goes(DATA);
+    }
+    note(ParseError::InvalidFirstCharacterOfTagName);
+    comment.clear();
+    Moved::Again(At::Comment(CommentState::BogusComment))
+}
+
+// 13.2.5.8 Tag name state
+fn tag_name(tag: &mut OpenTag, b: u8) -> Result<Moved, AllocError>
+    requires { b < 128 }
+    ensures { IfOk result (λ moved. DoesTag moved tag.new (g.tag_name_state tag.old b)) }
+{
+    if is_blank(b) {
+        return Ok(Moved::Goes(At::Tag(TagState::BeforeAttributeName)));
+    }
+    match b {
+        b'/' => Ok(Moved::Goes(At::Tag(TagState::SelfClosingStartTag))),
+        b'>' => hand_tag(tag),
+        0 => {
+            note(ParseError::UnexpectedNullCharacter);
+            tag.push_name(REPLACEMENT)?;
+            Ok(Moved::Goes(At::Tag(TagState::TagName)))
+        }
+        _ => {
+            tag.push_name_byte(b)?;
+            Ok(Moved::Goes(At::Tag(TagState::TagName)))
+        }
+    }
+}
+
+// 13.2.5.32 Before attribute name state
+fn before_attribute_name(tag: &mut OpenTag, b: u8) -> Result<Moved, AllocError>
+    ensures { IfOk result (λ moved. DoesTag moved tag.new (g.before_attribute_name_state tag.old b)) }
+{
+    if is_blank(b) {
+        return Ok(Moved::Goes(At::Tag(TagState::BeforeAttributeName)));
+    }
+    match b {
+        b'/' => Ok(Moved::Again(At::Tag(TagState::AfterAttributeName))),
+        b'>' => Ok(Moved::Again(At::Tag(TagState::AfterAttributeName))),
+        b'=' => {
+            note(ParseError::UnexpectedEqualsSignBeforeAttributeName);
+            tag.begin_attribute()?;
+            tag.push_attribute_byte(b)?;
+            Ok(Moved::Goes(At::Tag(TagState::AttributeName)))
+        }
+        _ => {
+            tag.begin_attribute()?;
+            Ok(Moved::Again(At::Tag(TagState::AttributeName)))
+        }
+    }
+}
+
+fn is_odd_in_name(b: u8) -> bool
+    ensures { result ≡ g.is_odd_in_name b }
+{
+    is_quote(b) || b == b'<'
+}
+
+// 13.2.5.33 Attribute name state: where it is left, a name that stands there already is an error
+fn attribute_name(tag: &mut OpenTag, b: u8) -> Result<Moved, AllocError>
+    requires { b < 128 }
+    ensures { IfOk result (λ moved. DoesTag moved tag.new (g.attribute_name_state tag.old b)) }
+{
+    if is_name_end(b) {
+        return Ok(Moved::Again(At::Tag(TagState::AfterAttributeName)));
+    }
+    if b == b'=' {
+        return Ok(Moved::Goes(At::Tag(TagState::BeforeAttributeValue)));
+    }
+    if b == 0 {
+        note(ParseError::UnexpectedNullCharacter);
+        tag.push_attribute(REPLACEMENT)?;
+    } else {
+        note_if(
+            is_odd_in_name(b),
+            ParseError::UnexpectedCharacterInAttributeName,
+        );
+        tag.push_attribute_byte(b)?;
+    }
+    Ok(Moved::Goes(At::Tag(TagState::AttributeName)))
+}
+
+// 13.2.5.34 After attribute name state
+fn after_attribute_name(tag: &mut OpenTag, b: u8) -> Result<Moved, AllocError>
+    ensures { IfOk result (λ moved. DoesTag moved tag.new (g.after_attribute_name_state tag.old b)) }
+{
+    if is_blank(b) {
+        return Ok(Moved::Goes(At::Tag(TagState::AfterAttributeName)));
+    }
+    match b {
+        b'/' => Ok(Moved::Goes(At::Tag(TagState::SelfClosingStartTag))),
+        b'=' => Ok(Moved::Goes(At::Tag(TagState::BeforeAttributeValue))),
+        b'>' => hand_tag(tag),
+        _ => {
+            tag.begin_attribute()?;
+            Ok(Moved::Again(At::Tag(TagState::AttributeName)))
+        }
+    }
+}
+
+fn value(kind: ValueKind) -> At
+    ensures { result ≡ At.Tag (TagState.AttributeValue kind) }
+{
+    At::Tag(TagState::AttributeValue(kind))
+}
+
+// 13.2.5.35 Before attribute value state
+fn before_attribute_value(tag: &mut OpenTag, b: u8) -> Result<Moved, AllocError>
+    ensures { IfOk result (λ moved. DoesTag moved tag.new (g.before_attribute_value_state tag.old b)) }
+{
+    if is_blank(b) {
+        return Ok(Moved::Goes(At::Tag(TagState::BeforeAttributeValue)));
+    }
+    match b {
+        b'"' => Ok(Moved::Goes(value(ValueKind::Quoted(Quote::Double)))),
+        b'\'' => Ok(Moved::Goes(value(ValueKind::Quoted(Quote::Single)))),
+        b'>' => {
+            note(ParseError::MissingAttributeValue);
+            hand_tag(tag)
+        }
+        _ => Ok(Moved::Again(value(ValueKind::Unquoted))),
+    }
+}
+
+// 13.2.5.36, 37: Attribute value (double-quoted) and (single-quoted) state
+fn attribute_value_quoted(quote: Quote, tag: &mut OpenTag, b: u8) -> Result<Moved, AllocError>
+    requires { b < 128 }
+    ensures { IfOk result (λ moved. DoesTag moved tag.new (g.attribute_value_quoted_state quote tag.old b)) }
+{
+    let kind = ValueKind::Quoted(quote);
+    if b == sign_of(quote) {
+        return Ok(Moved::Goes(At::Tag(TagState::AfterAttributeValueQuoted)));
+    }
+    match b {
+        b'&' => Ok(Moved::Goes(At::Reference(
+            ReferenceState::CharacterReference,
+            ReturnTo::Value(kind),
+        ))),
+        0 => {
+            note(ParseError::UnexpectedNullCharacter);
+            tag.push_value(REPLACEMENT)?;
+            Ok(Moved::Goes(value(kind)))
+        }
+        _ => {
+            tag.push_value_byte(b)?;
+            Ok(Moved::Goes(value(kind)))
+        }
+    }
+}
+
+fn is_odd_in_value(b: u8) -> bool
+    ensures { result ≡ g.is_odd_in_value b }
+{
+    is_quote(b) || b == b'<' || b == b'=' || b == b'`'
+}
+
+// 13.2.5.38 Attribute value (unquoted) state
+fn attribute_value_unquoted(tag: &mut OpenTag, b: u8) -> Result<Moved, AllocError>
+    requires { b < 128 }
+    ensures { IfOk result (λ moved. DoesTag moved tag.new (g.attribute_value_unquoted_state tag.old b)) }
+{
+    if is_blank(b) {
+        return Ok(Moved::Goes(At::Tag(TagState::BeforeAttributeName)));
+    }
+    match b {
+        b'&' => Ok(Moved::Goes(At::Reference(
+            ReferenceState::CharacterReference,
+            ReturnTo::Value(ValueKind::Unquoted),
+        ))),
+        b'>' => hand_tag(tag),
+        0 => {
+            note(ParseError::UnexpectedNullCharacter);
+            tag.push_value(REPLACEMENT)?;
+            Ok(Moved::Goes(value(ValueKind::Unquoted)))
+        }
+        _ => {
+            note_if(
+                is_odd_in_value(b),
+                ParseError::UnexpectedCharacterInUnquotedAttributeValue,
+            );
+            tag.push_value_byte(b)?;
+            Ok(Moved::Goes(value(ValueKind::Unquoted)))
+        }
+    }
+}
+
+fn attribute_value(kind: ValueKind, tag: &mut OpenTag, b: u8) -> Result<Moved, AllocError>
+    requires { b < 128 }
+    ensures { IfOk result (λ moved. DoesTag moved tag.new (g.attribute_value_state (value_of kind) tag.old b)) }
+{
+    match kind {
+        ValueKind::Quoted(quote) => attribute_value_quoted(quote, tag, b),
+        ValueKind::Unquoted => attribute_value_unquoted(tag, b),
+    }
+}
+
+// 13.2.5.39 After attribute value (quoted) state
+fn after_attribute_value_quoted(tag: &mut OpenTag, b: u8) -> Result<Moved, AllocError>
+    ensures { IfOk result (λ moved. DoesTag moved tag.new (g.after_attribute_value_quoted_state tag.old b)) }
+{
+    if is_blank(b) {
+        return Ok(Moved::Goes(At::Tag(TagState::BeforeAttributeName)));
+    }
+    match b {
+        b'/' => Ok(Moved::Goes(At::Tag(TagState::SelfClosingStartTag))),
+        b'>' => hand_tag(tag),
+        _ => {
+            note(ParseError::MissingWhitespaceBetweenAttributes);
+            Ok(Moved::Again(At::Tag(TagState::BeforeAttributeName)))
+        }
+    }
+}
+
+// 13.2.5.40 Self-closing start tag state
+fn self_closing_start_tag(tag: &mut OpenTag, b: u8) -> Result<Moved, AllocError>
+    ensures { IfOk result (λ moved. DoesTag moved tag.new (g.self_closing_start_tag_state tag.old b)) }
+{
+    if b == b'>' {
+        tag.close_itself();
+        return hand_tag(tag);
+    }
+    note(ParseError::UnexpectedSolidusInTag);
+    Ok(Moved::Again(At::Tag(TagState::BeforeAttributeName)))
+}
+
+/// The row of a state of tags. What it emits is added to a text.
+pub fn tag_turn(
+    state: TagState,
+    tag: &mut OpenTag,
+    comment: &mut String,
+    out: &mut String,
+    b: u8,
+) -> Result<Moved, AllocError>
+    requires { tag_takes_wide state ≡ true → b < 128 }
+    ensures { (table : List Reference) (last : List ℕ) → IfOk result (λ moved. (parts : Parts) → Does moved (string_bytes out.old) (string_bytes out.new)
+        (record parts { tag = tag.new; comment = string_bytes comment.new }) (turn table last (tag_state_of state tag.old) b)) }
+{
+    match state {
+        TagState::TagOpen => tag_open(tag, comment, out, b),
+        TagState::EndTagOpen => Ok(end_tag_open(tag, comment, b)),
+        TagState::TagName => tag_name(tag, b),
+        TagState::BeforeAttributeName => before_attribute_name(tag, b),
+        TagState::AttributeName => attribute_name(tag, b),
+        TagState::AfterAttributeName => after_attribute_name(tag, b),
+        TagState::BeforeAttributeValue => before_attribute_value(tag, b),
+        TagState::AttributeValue(kind) => attribute_value(kind, tag, b),
+        TagState::AfterAttributeValueQuoted => after_attribute_value_quoted(tag, b),
+        TagState::SelfClosingStartTag => self_closing_start_tag(tag, b),
+    }
+}

@@ -1,0 +1,43 @@
+use Rattle.std.proofs.Common.{string_bytes, ◌∙◌}
+use Rattle.std.proofs.lemmas.Result.{err_from_is_err_and}
+use Rattle.h5_machine.specs.MachineText.{place_of}
+use Rattle.h5_standard.proofs.TakeLaws.{holds_run, less_behind_run, none_held}
+use Rattle.h5_standard.proofs.steps.step.Goals as goal
+
+pub returns-in_default-clause-makes : goal.returns-in_default-clause-makes
+returns-in_default-clause-makes g c = λ p m xs h.
+    let S = g.S.TokenSink in
+    holds_run S.reply_to S.after S.is_foreign c.in_ok-rest.ensures.passes h
+
+pub returns-in_err-stop-clause-makes : goal.returns-in_err-stop-clause-makes
+returns-in_err-stop-clause-makes g c = λ p m xs h.
+    let S = g.S.TokenSink in
+    let r = err_from_is_err_and c.from_residual-in_err-stop.result c.from_residual-in_err-stop.ensures.1 in
+    rw (r.1, r.2)
+    (c.in_err-stop.ensures.handed p (place_of c.pass.new.machine) m xs c.in_ok-rest.rest.now (holds_run S.reply_to S.after S.is_foreign c.in_ok-rest.ensures.passes h))
+
+pub returns-in-Some-2-clause-makes : goal.returns-in-Some-2-clause-makes
+returns-in-Some-2-clause-makes g c = λ p m xs h.
+    let S = g.S.TokenSink in
+    let leads = c.in_ok-stop.ensures.handed p (place_of c.pass.new.machine) m xs c.in_ok-rest.rest.now (holds_run S.reply_to S.after S.is_foreign c.in_ok-rest.ensures.passes h) in
+    rw c.in-Some-2.is at leads
+
+pub returns-in-Some-find_bare-clause-makes : goal.returns-in-Some-find_bare-clause-makes
+returns-in-Some-find_bare-clause-makes g c = λ p m xs h.
+    let S = g.S.TokenSink in
+    let leads = c.in_ok-stop.ensures.handed p (place_of c.pass.new.machine) m xs c.in_ok-rest.rest.now (holds_run S.reply_to S.after S.is_foreign c.in_ok-rest.ensures.passes h) in
+    c.bare_step.ensures.makes p m xs (none_held S.reply_to S.after S.is_foreign c.in_ok-stop.ensures.text (c.hand_on.ensures.line ∙ c.began.ensures) (rw c.in_default-2.is at leads))
+
+pub returns-in-Some-find_bare-clause-less : goal.returns-in-Some-find_bare-clause-less
+returns-in-Some-find_bare-clause-less g c =
+    less_behind_run c.args.machine.now c.pass.new.machine c.args.rest.now c.in_ok-rest.rest.now (string_bytes c.args.emitted.now.text) (string_bytes c.pass.new.out) (place_of c.bare_step.new.machine) c.bare_step.result c.in_ok-rest.ensures.passes c.bare_step.ensures.less
+
+pub returns-clause-makes : goal.returns-clause-makes
+returns-clause-makes g c = λ p m xs h.
+    let S = g.S.TokenSink in
+    let leads = c.in_ok-stop.ensures.handed p (place_of c.pass.new.machine) m xs c.in_ok-rest.rest.now (holds_run S.reply_to S.after S.is_foreign c.in_ok-rest.ensures.passes h) in
+    c.byte_step.ensures.makes p m xs (none_held S.reply_to S.after S.is_foreign c.in_ok-stop.ensures.text (c.hand_on.ensures.line ∙ c.began.ensures) (rw c.in_default-2.is at leads))
+
+pub returns-clause-less : goal.returns-clause-less
+returns-clause-less g c =
+    less_behind_run c.args.machine.now c.pass.new.machine c.args.rest.now c.in_ok-rest.rest.now (string_bytes c.args.emitted.now.text) (string_bytes c.pass.new.out) (place_of c.byte_step.new.machine) c.byte_step.result c.in_ok-rest.ensures.passes c.byte_step.ensures.less

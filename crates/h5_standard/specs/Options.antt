@@ -1,0 +1,25 @@
+-- Options, and where a reader begins.
+use Rattle.std.specs.Prelude.{[], false, Option, Some, None, string_bytes}
+use Rattle.std.specs.Option.{option_map, unwrap_or}
+use Rattle.h5_token.specs.declared.states.State.{State}
+use Rattle.h5_token.specs.declared.states.State.TheVariants as state
+use Rattle.h5_reading.specs.declared.options.TokenizerOpts.{TokenizerOpts}
+use Rattle.h5_states.specs.declared.kinds.TextKind.{TextKind}
+use Rattle.h5_states.specs.declared.kinds.TextKind.TheVariants.{Data, Plaintext}
+use Rattle.h5_states.specs.States.{Text}
+use Rattle.h5_states.specs.Reading.{Place, raw_text}
+
+abbrev pub text_of : Option State → TextKind
+text_of None = Data
+text_of (Some state.Data) = Data
+text_of (Some (state.RawData kind)) = raw_text kind
+text_of (Some state.Plaintext) = Plaintext
+
+abbrev pub first_place : TokenizerOpts → Place
+first_place o = record {
+  state = Text (text_of o.initial_state);
+  last = unwrap_or (option_map string_bytes o.last_start_tag_name) [];
+  after_return = false;
+  line = 1;
+  began = 1;
+}

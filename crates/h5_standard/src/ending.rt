@@ -1,0 +1,56 @@
+//! The end of the input.
+
+ghost use Rattle.std.specs.Prelude.{◌≡◌, string_bytes};
+ghost use Rattle.h5_reading.specs.Told.{handed, told};
+ghost use Rattle.h5_states.specs.End.{Closes};
+ghost use Rattle.h5_states.specs.ReferenceTable.{references};
+ghost use Rattle.h5_machine.specs.Ending.{left_of};
+ghost use Rattle.h5_machine.specs.MachineText.{place_of};
+ghost use Rattle.h5_standard.specs.Closing.{TakesAll};
+
+use super::handing::take_token;
+use h5_machine::{Construct, Machine, end_of};
+use h5_reading::{finish, offer};
+use h5_token::{BuildFault, Token, TokenSink};
+use std::alloc::Global;
+
+// Hands a text on, unless it is empty.
+fn offer_text<S: TokenSink>(sink: &mut S, text: String, line: u64) -> Result<(), BuildFault>
+    ensures { TakesAll S.reply_to S.after S.ended (S.meaning sink.old) (told (string_bytes text)) line (S.meaning sink.new) result }
+{
+    if text.as_str().is_empty() {
+        return Ok(());
+    }
+    offer(sink, Token::CharacterTokens(text), line)
+}
+
+// Hands on what was under construction, where that is to be.
+fn offer_construct<S: TokenSink>(
+    sink: &mut S,
+    machine: &mut Machine,
+    construct: Option<Construct>,
+) -> Result<(), BuildFault>
+    ensures takes { TakesAll S.reply_to S.after S.ended (S.meaning sink.old) (handed (left_of construct machine.old.parts)) machine.old.began (S.meaning sink.new) result }
+    ensures line { machine.new.line ≡ machine.old.line }
+{
+    let Some(construct) = construct else {
+        return Ok(());
+    };
+    let token = take_token(machine, construct)?;
+    offer(sink, token, machine.began())
+}
+
+/// Hands on what the end makes of what is under construction, and the end of the file, and tells the sink.
+pub fn close<S: TokenSink>(
+    sink: &mut S,
+    machine: &mut Machine,
+    alloc: Global,
+) -> Result<(), BuildFault>
+    ensures { Closes S.reply_to S.after S.ended references (place_of machine.old) (S.meaning sink.old) (S.meaning sink.new) result }
+{
+    let mut text = String::new(alloc);
+    let construct = end_of(machine, &mut text)?;
+    offer_text(sink, text, machine.began())?;
+    offer_construct(sink, machine, construct)?;
+    finish(sink, machine.line())
+}

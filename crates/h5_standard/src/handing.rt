@@ -1,0 +1,110 @@
+//! What is handed on, and where the answer leads.
+
+ghost use Rattle.std.specs.Prelude.{◌≡◌, ℕ, IfOk, string_bytes};
+ghost use Rattle.h5_token.specs.Reply.{reply};
+ghost use Rattle.h5_token.specs.TokenText.{Characters, TagIs, tag_text, token_text};
+ghost use Rattle.h5_machine.specs.DeedOf.{made_of};
+ghost use Rattle.h5_machine.specs.declared.at.At.TheVariants as At;
+ghost use Rattle.h5_machine.specs.declared.at.TextState.TheVariants as TextState;
+ghost use Rattle.h5_machine.specs.MachineText.{place_of};
+ghost use Rattle.h5_states.specs.Reading.{Place, chosen_state, raw_text};
+ghost use Rattle.h5_states.specs.States.{Text};
+ghost use Rattle.h5_standard.specs.Steps.{HandsOn};
+
+use h5_machine::{Construct, Machine};
+use h5_reading::{Stop, ask, ask_of_tag, ask_of_text, stop_of};
+use h5_states::TextKind;
+use h5_token::states::RawKind;
+use h5_token::{BuildFault, Tag, TagKind, Token, TokenSink, TokenSinkResult};
+use std::alloc::AllocError;
+
+fn raw_text(kind: RawKind) -> TextKind
+    ensures { result ≡ raw_text kind }
+{
+    match kind {
+        RawKind::Rcdata => TextKind::Rcdata,
+        RawKind::Rawtext => TextKind::Rawtext,
+        RawKind::ScriptData => TextKind::ScriptData,
+    }
+}
+
+// The text that an answer to a start tag chooses.
+pub fn chosen_text<H>(answer: &TokenSinkResult<H>) -> TextKind
+    ensures { (node : H → ℕ) → Text result ≡ chosen_state (reply node answer.now) }
+{
+    match answer {
+        TokenSinkResult::Plaintext => TextKind::Plaintext,
+        TokenSinkResult::RawData(kind) => raw_text(*kind),
+        _ => TextKind::Data,
+    }
+}
+
+/// Hands a text on, which leads nowhere else.
+pub fn hand_on_text<S: TokenSink>(
+    sink: &mut S,
+    text: String,
+    line: u64,
+) -> Result<Option<Stop<S::Handle>>, BuildFault>
+    ensures { (p : Place) → HandsOn S.reply_to S.after S.node p (S.meaning sink.old) (Characters (string_bytes text)) line p (S.meaning sink.new) result }
+{
+    let answer = ask_of_text(sink, text, line)?;
+    Ok(stop_of(answer))
+}
+
+/// Hands a tag on, and goes where it and the answer lead.
+#[inline(always)]
+pub fn hand_on_tag<S: TokenSink>(
+    sink: &mut S,
+    machine: &mut Machine,
+    tag: Tag,
+    line: u64,
+) -> Result<Option<Stop<S::Handle>>, BuildFault>
+    ensures { HandsOn S.reply_to S.after S.node (place_of machine.old) (S.meaning sink.old) (TagIs (tag_text tag)) line
+        (place_of machine.new) (S.meaning sink.new) result }
+{
+    match tag.kind {
+        TagKind::StartTag => {
+            machine.set_last(tag.name.clone()?);
+            let answer = ask_of_tag(sink, tag, line)?;
+            machine.read_text(chosen_text(&answer));
+            Ok(stop_of(answer))
+        }
+        TagKind::EndTag => {
+            let answer = ask_of_tag(sink, tag, line)?;
+            Ok(stop_of(answer))
+        }
+    }
+}
+
+/// What is complete, as a token. What is left is in no state of a text.
+pub fn take_token(machine: &mut Machine, construct: Construct) -> Result<Token, AllocError>
+    ensures token { IfOk result (λ token. token_text token ≡ made_of construct machine.old.parts) }
+    ensures others { machine.new ≡ record machine.old { parts = machine.new.parts } }
+{
+    match construct {
+        Construct::Null => Ok(Token::NullCharacterToken),
+        Construct::Tag => Ok(Token::TagToken(machine.take_tag()?)),
+        Construct::Comment => Ok(Token::CommentToken(machine.take_comment())),
+        Construct::Doctype => Ok(Token::DoctypeToken(machine.take_doctype())),
+    }
+}
+
+/// Hands on what is complete, which began in this line.
+pub fn hand_on<S: TokenSink>(
+    sink: &mut S,
+    machine: &mut Machine,
+    construct: Construct,
+    line: u64,
+) -> Result<Option<Stop<S::Handle>>, BuildFault>
+    requires { (kind : TextKind) × (machine.old.at ≡ At.Text (TextState.Text kind)) }
+    ensures { HandsOn S.reply_to S.after S.node (place_of machine.old) (S.meaning sink.old) (made_of construct machine.old.parts) line
+        (place_of machine.new) (S.meaning sink.new) result }
+{
+    if construct == Construct::Tag {
+        let tag = machine.take_tag()?;
+        return hand_on_tag(sink, machine, tag, line);
+    }
+    let token = take_token(machine, construct)?;
+    let answer = ask(sink, token, line)?;
+    Ok(stop_of(answer))
+}

@@ -1,0 +1,89 @@
+//! The reader, apart from what takes its tokens.
+
+ghost use Rattle.std.specs.Prelude.{◌≡◌, [], ◌∷◌, true, false, length};
+ghost use Rattle.h5_standard.specs.Mark.{behind_mark, still_at_start};
+ghost use Rattle.h5_standard.specs.Outcome.{Feeds};
+
+use super::steps::{Halt, read_piece};
+use h5_machine::Machine;
+use h5_markup::{Seen, literal};
+use h5_reading::{BufferQueue, Stage, TokenizerResult, result_of};
+use h5_token::{BuildFault, TokenSink};
+use std::alloc::Global;
+use std::marker::Model;
+use std::mem;
+
+/// Where the reader is, and whether it still reads. It keeps nothing of its input.
+#[derive(Drop)]
+pub struct Reader {
+    // Whether a byte order mark may still come.
+    pub at_start: bool,
+    pub machine: Machine,
+    pub phase: Stage,
+}
+
+impl Model for Reader {
+    ghost use Rattle.h5_machine.specs.MachineText.{place_of};
+    ghost use Rattle.h5_standard.specs.ReaderText.{ReaderText};
+
+    ghost Value = { ReaderText };
+
+    ghost view = { λ r. record { at_start = r.at_start; place = place_of r.machine; stage = r.phase } };
+}
+
+impl Reader {
+    pub fn stage(&self) -> Stage
+        ensures { result ≡ self.now.stage }
+    {
+        self.phase
+    }
+}
+
+// Passes the byte order mark, where one may come and does.
+fn skip_mark<'a>(at_start: &mut bool, text: &'a str) -> &'a str
+    ensures rest { result.now ≡ behind_mark at_start.old text.entry.now }
+    ensures at_start { at_start.new ≡ still_at_start at_start.old text.entry.now }
+{
+    if !*at_start {
+        return text;
+    }
+    match literal(text, "\u{feff}") {
+        Seen::Open => text,
+        Seen::No => {
+            *at_start = false;
+            text
+        }
+        Seen::Found(_, rest) => {
+            *at_start = false;
+            rest
+        }
+    }
+}
+
+/// Reads what waits in the queue.
+pub fn read<S: TokenSink>(
+    sink: &mut S,
+    reader: &mut Reader,
+    alloc: Global,
+    input: &mut BufferQueue,
+) -> Result<TokenizerResult<S::Handle>, BuildFault>
+    ensures { Feeds S.reply_to S.after S.is_foreign S.node reader.old (S.meaning sink.old) input.old reader.new (S.meaning sink.new) input.new result }
+{
+    // Until the call has gone well.
+    reader.phase = Stage::Failed;
+    let mut buffer = mem::replace(input, BufferQueue::new(alloc));
+    let piece = skip_mark(&mut reader.at_start, buffer.as_str());
+    match read_piece(sink, &mut reader.machine, alloc, piece)? {
+        Halt::Done => {
+            reader.phase = Stage::Reading;
+            Ok(TokenizerResult::Done)
+        }
+        Halt::Stops(stop, rest) => {
+            let left = rest.as_bytes().len();
+            buffer.keep(left);
+            *input = buffer;
+            reader.phase = Stage::Reading;
+            Ok(result_of(stop))
+        }
+    }
+}

@@ -1,0 +1,257 @@
+//! A piece of the input, read to its end or to an answer that stops the reader.
+
+ghost use Rattle.std.specs.Prelude.{◌≡◌, ◌<◌, ◌⊎◌, ℕ, List, [], ◌∷◌, true, false, IfOk, OnOk, drop, length, slice_index, string_bytes};
+ghost use Rattle.h5_states.specs.ReferenceTable.{references};
+ghost use Rattle.h5_states.specs.Reading.{Place, deed, is_dropped};
+ghost use Rattle.h5_markup.specs.Bare.{IsBareTag};
+ghost use Rattle.h5_machine.specs.MachineText.{place_of, IsQuiet, PassesRun};
+ghost use Rattle.h5_machine.specs.declared.at.At.TheVariants as At;
+ghost use Rattle.h5_machine.specs.declared.at.TextState.TheVariants as TextState;
+ghost use Rattle.h5_states.specs.declared.kinds.TextKind.TheVariants as TextKind;
+ghost use Rattle.h5_standard.specs.Weight.{weight};
+ghost use Rattle.h5_machine.specs.Wide.{takes_wide};
+ghost use Rattle.h5_standard.specs.Steps.{Holds, Makes, Runs, IsLess, turn_of};
+
+use super::handing::{hand_on, hand_on_tag, hand_on_text};
+use h5_machine::{Machine, Taken};
+use h5_reading::Stop;
+use h5_token::{BuildFault, TagKind, TokenSink};
+use std::alloc::{AllocError, Global};
+use std::mem;
+
+/// Where reading of a piece comes to.
+#[derive(Drop)]
+pub enum Halt<'a, H> {
+    /// To its end.
+    Done,
+    /// To an answer that stops the reader, with this rest.
+    Stops(Stop<H>, &'a str),
+}
+
+/// Text that was emitted and not yet handed on, and the line in which it begins.
+#[derive(Drop)]
+struct Emitted {
+    text: String,
+    line: u64,
+}
+
+impl Emitted {
+    ghost use Rattle.std.specs.Prelude.{◌≡◌, ℕ, List, [], OnOk, string_bytes};
+    ghost use Rattle.h5_states.specs.Reading.{Place};
+    ghost use Rattle.h5_standard.specs.Steps.{Holds, Leads};
+
+    fn new(alloc: Global, line: u64) -> Emitted
+        ensures text { string_bytes result.text ≡ [] }
+        ensures line { result.line ≡ line }
+    {
+        Emitted {
+            text: String::new(alloc),
+            line,
+        }
+    }
+
+    // Hands it on, if there is some. What is emitted next begins in this line.
+    fn hand_on<S: TokenSink>(
+        &mut self,
+        sink: &mut S,
+        line: u64,
+    ) -> Result<Option<Stop<S::Handle>>, BuildFault>
+        ensures handed { (p q : Place) (m : S.Meaning) (xs ys : List ℕ)
+            → Holds S.reply_to S.after S.is_foreign p m xs (string_bytes self.old.text) self.old.line q (S.meaning sink.old) ys
+            → Leads S.reply_to S.after S.is_foreign S.node p m xs q ys (S.meaning sink.new) result }
+        ensures text { OnOk result (string_bytes self.new.text ≡ []) }
+        ensures line { self.new.line ≡ line }
+    {
+        let began = mem::replace(&mut self.line, line);
+        if self.text.as_str().is_empty() {
+            return Ok(None);
+        }
+        let alloc = *self.text.allocator();
+        let text = mem::replace(&mut self.text, String::new(alloc));
+        hand_on_text(sink, text, began)
+    }
+}
+
+// What a step comes to.
+#[derive(Drop)]
+enum Turn<'a, H> {
+    Goes(&'a str),
+    Stops(Stop<H>, &'a str),
+}
+
+fn turn_of<'a, H: Drop>(stopped: Option<Stop<H>>, rest: &'a str) -> Turn<'a, H>
+    ensures { result ≡ turn_of stopped rest.entry }
+{
+    match stopped {
+        Some(stop) => Turn::Stops(stop, rest),
+        None => Turn::Goes(rest),
+    }
+}
+
+// What follows the byte at the front, which is ASCII.
+fn behind_byte<'a>(rest: &'a str) -> &'a str
+    requires some { 0 < length rest.now }
+    requires ascii { slice_index rest.now 0 < 128 }
+    ensures { result.now ≡ drop 1 rest.entry.now }
+{
+    // That it is text holds for where it may be cut.
+    let _bytes = rest.as_bytes();
+    rest.split_at(1).1
+}
+
+// One byte is taken, at the front of a rest. A text is held only where no token comes of it, and no question.
+fn byte_step<'a, S: TokenSink>(
+    sink: &mut S,
+    machine: &mut Machine,
+    emitted: &mut Emitted,
+    b: u8,
+    rest: &'a str,
+) -> Result<Turn<'a, S::Handle>, BuildFault>
+    requires front { rest.now ≡ b ∷ drop 1 rest.now }
+    requires narrow { takes_wide machine.old.at ≡ true → b < 128 }
+    requires quiet { is_dropped (place_of machine.old) b ≡ false
+        → IsQuiet (deed references (place_of machine.old) b) ⊎ (string_bytes emitted.old.text ≡ []) }
+    ensures makes { (p : Place) (m : S.Meaning) (xs : List ℕ)
+        → Holds S.reply_to S.after S.is_foreign p m xs (string_bytes emitted.old.text) emitted.old.line (place_of machine.old) (S.meaning sink.old) rest.now
+        → Makes S.reply_to S.after S.is_foreign S.node p m xs (string_bytes emitted.new.text) emitted.new.line (place_of machine.new) (S.meaning sink.new) result }
+    ensures less { IsLess (place_of machine.old) rest.now (place_of machine.new) result }
+{
+    match machine.take(b, &mut emitted.text)? {
+        Taken::Reconsumed => Ok(Turn::Goes(rest)),
+        Taken::Consumed => Ok(Turn::Goes(behind_byte(rest))),
+        Taken::Hands(construct, line) => {
+            let stopped = hand_on(sink, machine, construct, line)?;
+            emitted.line = machine.began();
+            Ok(turn_of(stopped, behind_byte(rest)))
+        }
+        Taken::Asks => {
+            if sink.adjusted_current_node_present_but_not_in_html_namespace() {
+                machine.begin_cdata_section();
+            }
+            emitted.line = machine.began();
+            Ok(Turn::Goes(behind_byte(rest)))
+        }
+    }
+}
+
+// One byte is taken, of which no token comes, and no question. What it emits is added to a text.
+fn quiet_step<'a>(
+    machine: &mut Machine,
+    out: &mut String,
+    b: u8,
+    rest: &'a str,
+) -> Result<&'a str, AllocError>
+    requires front { rest.now ≡ b ∷ drop 1 rest.now }
+    requires narrow { takes_wide machine.old.at ≡ true → b < 128 }
+    requires quiet { is_dropped (place_of machine.old) b ≡ false → IsQuiet (deed references (place_of machine.old) b) }
+    ensures passes { IfOk result (λ after. PassesRun machine.old rest.now (string_bytes out.old) (string_bytes out.new) machine.new after.now) }
+    ensures less { IfOk result (λ after. weight (place_of machine.new) after.now < weight (place_of machine.old) rest.now) }
+{
+    match machine.take(b, out)? {
+        Taken::Reconsumed => Ok(rest),
+        Taken::Consumed => Ok(behind_byte(rest)),
+        Taken::Hands(_, _) => unreachable!(),
+        Taken::Asks => unreachable!(),
+    }
+}
+
+// Reads on, up to where a token may be handed on or a question asked, or to the end of a piece.
+fn pass<'a>(machine: &mut Machine, out: &mut String, piece: &'a str) -> Result<&'a str, AllocError>
+    ensures passes { IfOk result (λ after. PassesRun machine.old piece.now (string_bytes out.old) (string_bytes out.new) machine.new after.now) }
+    ensures narrow { IfOk result (λ after. takes_wide machine.new.at ≡ true → 0 < length after.now → slice_index after.now 0 < 128) }
+{
+    let mut rest = piece;
+    'bytes: loop {
+        let behind = machine.take_run(rest, out)?;
+        let Some(b) = behind.as_bytes().first() else {
+            return Ok(behind);
+        };
+        if machine.may_hand(*b) || machine.may_be_bare(behind) {
+            return Ok(behind);
+        }
+        let after = quiet_step(machine, out, *b, behind)?;
+        // That it is text holds for the loop's next turn.
+        let _bytes = after.as_bytes();
+        rest = after;
+    }
+}
+
+// A tag that is nothing but its name stands at the front, and no text is held.
+#[inline(never)]
+fn bare_step<'a, S: TokenSink>(
+    sink: &mut S,
+    machine: &mut Machine,
+    emitted: &mut Emitted,
+    kind: TagKind,
+    name: &str,
+    rest: &'a str,
+    after: &'a str,
+) -> Result<Turn<'a, S::Handle>, BuildFault>
+    requires data { machine.old.at ≡ At.Text (TextState.Text TextKind.Data) }
+    requires tag { IsBareTag rest.now kind name.now after.now }
+    requires none { string_bytes emitted.old.text ≡ [] }
+    ensures makes { (p : Place) (m : S.Meaning) (xs : List ℕ)
+        → Holds S.reply_to S.after S.is_foreign p m xs (string_bytes emitted.old.text) emitted.old.line (place_of machine.old) (S.meaning sink.old) rest.now
+        → Makes S.reply_to S.after S.is_foreign S.node p m xs (string_bytes emitted.new.text) emitted.new.line (place_of machine.new) (S.meaning sink.new) result }
+    ensures less { IsLess (place_of machine.old) rest.now (place_of machine.new) result }
+{
+    let _rest = rest;
+    let line = machine.began();
+    let tag = machine.pass_bare(kind, name)?;
+    let stopped = hand_on_tag(sink, machine, tag, line)?;
+    emitted.line = machine.began();
+    Ok(turn_of(stopped, after))
+}
+
+// One step, off a rest that isn't empty: all up to what may be handed on, and that.
+fn step<'a, S: TokenSink>(
+    sink: &mut S,
+    machine: &mut Machine,
+    emitted: &mut Emitted,
+    rest: &'a str,
+) -> Result<Turn<'a, S::Handle>, BuildFault>
+    requires { 0 < length rest.now }
+    ensures makes { (p : Place) (m : S.Meaning) (xs : List ℕ)
+        → Holds S.reply_to S.after S.is_foreign p m xs (string_bytes emitted.old.text) emitted.old.line (place_of machine.old) (S.meaning sink.old) rest.now
+        → Makes S.reply_to S.after S.is_foreign S.node p m xs (string_bytes emitted.new.text) emitted.new.line (place_of machine.new) (S.meaning sink.new) result }
+    ensures less { IsLess (place_of machine.old) rest.now (place_of machine.new) result }
+{
+    let rest = pass(machine, &mut emitted.text, rest)?;
+    let Some(b) = rest.as_bytes().first() else {
+        return Ok(Turn::Goes(rest));
+    };
+    if let Some(stop) = emitted.hand_on(sink, machine.began())? {
+        return Ok(Turn::Stops(stop, rest));
+    }
+    if let Some((kind, name, after)) = machine.find_bare(rest) {
+        return bare_step(sink, machine, emitted, kind, name, rest, after);
+    }
+    byte_step(sink, machine, emitted, *b, rest)
+}
+
+/// Reads a piece. All that it emits is handed on.
+pub fn read_piece<'a, S: TokenSink>(
+    sink: &mut S,
+    machine: &mut Machine,
+    alloc: Global,
+    piece: &'a str,
+) -> Result<Halt<'a, S::Handle>, BuildFault>
+    ensures { Runs S.reply_to S.after S.is_foreign S.node (place_of machine.old) (S.meaning sink.old) piece.now (place_of machine.new) (S.meaning sink.new) result }
+{
+    let mut emitted = Emitted::new(alloc, machine.began());
+    let mut rest = piece;
+    'steps: while !rest.is_empty() {
+        match step(sink, machine, &mut emitted, rest)? {
+            Turn::Goes(after) => {
+                // That it is text holds for the loop's next turn.
+                let _bytes = after.as_bytes();
+                rest = after;
+            }
+            Turn::Stops(stop, after) => return Ok(Halt::Stops(stop, after)),
+        }
+    }
+    match emitted.hand_on(sink, machine.began())? {
+        Some(stop) => Ok(Halt::Stops(stop, rest)),
+        None => Ok(Halt::Done),
+    }
+}

@@ -1,0 +1,82 @@
+use Rattle.std.proofs.Common.{ap, arith, drop, map, refl, reverse, subst, sym, ◌++◌, ◌+◌, ◌∙◌, ◌≡◌}
+use Rattle.h5_rules.specs.Sound.{Sound}
+use Rattle.h5_rules.specs.World.{names_of}
+use Rattle.h5_rules.proofs.entries.PairLaws.{in_left, in_right}
+use Rattle.h5_stack.specs.Numbered.{values}
+use Rattle.h5_state.specs.View.{IsKeptOver, elements_of, kept_under, names_under, open_node, stack_over, stack_under, with_stack, world}
+use Rattle.h5_state.specs.declared.open_element.OpenElements.{OpenElements}
+use Rattle.h5_state.proofs.OverLaws.{over_cut}
+use Rattle.h5_state.proofs.ReplacedLaws.{in_reverse, stack_put}
+use Rattle.h5_state.proofs.SummaryLaws.{cut_values, kept_cut, kept_grown}
+use Rattle.h5_state.proofs.SummaryLaws as summary
+use Rattle.h5_state.proofs.WalkLaws.{names_count}
+use Rattle.h5_state.proofs.replace.replace_open.Goals as goal
+
+pub all_under-before-requires-clause-kept : goal.all_under-before-requires-clause-kept
+unfolding world names_of names_under kept_under
+all_under-before-requires-clause-kept g c =
+    summary.kept_under g.S.TreeSink.node (g.S.TreeSink.sees c.args.sink.now).forest (elements_of c.args.state.now) (c.args.place + c.len.result) c.requires.sound.kept.summarized
+
+pub put_all-requires-clause-elements : goal.put_all-requires-clause-elements
+unfolding world
+put_all-requires-clause-elements g c = λ n i.
+    let node = g.S.TreeSink.node in
+    let state = c.args.state.now in
+    let above = stack_over node state (c.args.place + c.args.handles.len) in
+    let put = reverse (map node c.args.handles.items) in
+    c.requires.stands.stands.elements n (in_left n (above ++ put) (stack_under node state c.args.place) (in_right n above put (in_reverse n (map node c.args.handles.items) i)))
+
+pub renew_over-requires-clause-sound : goal.renew_over-requires-clause-sound
+unfolding world
+renew_over-requires-clause-sound g c =
+    let node = g.S.TreeSink.node in
+    let state = c.args.state.now in
+    let w = world g.S.TreeSink.sees node c.args.sink.now state in
+    let end = c.args.place + c.args.handles.len in
+    subst Sound (sym (c.put_all.ensures.world ∙ ap (λ s. with_stack s w) (stack_put node state c.put_all.new.state c.args.place end (map node c.args.handles.items) c.in-Ok.ensures.ok))) c.requires.stands
+
+pub renew_over-requires-clause-over : goal.renew_over-requires-clause-over
+unfolding world names_of names_under
+renew_over-requires-clause-over g c =
+    let node = g.S.TreeSink.node in
+    let f = (g.S.TreeSink.sees c.args.sink.now).forest in
+    let items = elements_of c.args.state.now in
+    let end = c.args.place + c.len.result in
+    let older = names_under g.S.TreeSink.sees node c.args.sink.now c.args.state.now end in
+    let newer : drop end (elements_of c.put_all.new.state) ≡ drop end items = subst (λ k. drop (c.args.place + k) (elements_of c.put_all.new.state) ≡ drop (c.args.place + k) items) (sym c.len.ensures) c.in-Ok.ensures.newer in (
+      older,
+      c.all_under-before.ensures.known,
+      names_count g.S.TreeSink.sees node c.args.sink.now c.args.state.now end (omega (arith, c.requires.inside, c.len.ensures)),
+      subst (λ xs. IsKeptOver node f xs older) (sym newer) (over_cut node f items end c.requires.sound.kept.summarized),
+    )
+
+pub renew_over-requires-clause-numbered : goal.renew_over-requires-clause-numbered
+unfolding world names_of
+renew_over-requires-clause-numbered g c = c.in-Ok.ensures.numbered
+
+pub returns-in-Ok-clause-ok : goal.returns-in-Ok-clause-ok
+unfolding world
+returns-in-Ok-clause-ok g c =
+    let node = g.S.TreeSink.node in
+    let state = c.args.state.now in
+    let w = world g.S.TreeSink.sees node c.args.sink.now state in
+    let end = c.args.place + c.args.handles.len in
+    c.renew_over.ensures.world ∙ c.put_all.ensures.world ∙ ap (λ s. with_stack s w) (stack_put node state c.put_all.new.state c.args.place end (map node c.args.handles.items) c.in-Ok.ensures.ok)
+
+pub returns-in-Err-clause-err : goal.returns-in-Err-clause-err
+unfolding world stack_under
+returns-in-Err-clause-err g c =
+    let node = g.S.TreeSink.node in
+    let w = world g.S.TreeSink.sees node c.args.sink.now c.args.state.now in
+    let cut = cut_values c.args.state.now.open_elems.elements c.truncate.new.self c.args.place (c.truncate.ensures ∙ c.put_all.ensures.older) in
+    ap (with_stack (reverse (map (open_node node) (values c.truncate.new.self)))) c.put_all.ensures.world ∙ ap (λ xs. with_stack (reverse (map (open_node node) xs)) w) cut
+
+pub returns-in-Err-clause-kept : goal.returns-in-Err-clause-kept
+unfolding world names_of
+returns-in-Err-clause-kept g c =
+    let node = g.S.TreeSink.node in
+    let f = (g.S.TreeSink.sees c.args.sink.now).forest in
+    let old = c.args.state.now.open_elems in
+    let cut : OpenElements _ = record { elements = c.truncate.new.self; numbers = old.numbers } in
+    let new : OpenElements _ = record { elements = c.truncate.new.self; numbers = c.put_all.new.state.open_elems.numbers } in
+    kept_grown cut new _ refl c.put_all.ensures.stay (kept_cut node f old c.args.place c.requires.sound.kept cut (c.truncate.ensures ∙ c.put_all.ensures.older) refl)

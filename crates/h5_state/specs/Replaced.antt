@@ -1,0 +1,33 @@
+-- Open elements stand in place of others.
+use Rattle.std.specs.Prelude.{◌≡◌, ℕ, List, Some, map, reverse, slice_set, take}
+use Rattle.h5_names.specs.declared.qualified.QualName.{QualName}
+use Rattle.h5_interface.specs.Forest.{Forest}
+use Rattle.h5_rules.specs.World.{name_in}
+use Rattle.h5_stack.specs.Numbered.{numbers, one_of, values}
+use Rattle.h5_state.specs.Numbers.{name_number}
+use Rattle.h5_state.specs.Summaries.{summary_of}
+use Rattle.h5_state.specs.View.{open_node}
+use Rattle.h5_state.specs.declared.name_numbers.NameNumbers.{NameNumbers}
+use Rattle.h5_state.specs.declared.open_element.OpenElement.{OpenElement}
+use Rattle.h5_state.specs.declared.open_element.OpenElements.{OpenElements}
+
+-- the names of open elements, the oldest first, the newest name first
+abbrev pub names_in : {H : Type 0} → (H → ℕ) → Forest → List (OpenElement H) → List QualName
+names_in node f elements = map (name_in f) (reverse (map (open_node node) elements))
+
+-- the elements' numbers are those of their names
+abbrev pub AreNumbered : {H : Type 0} → (H → ℕ) → Forest → OpenElements H → Type 0
+AreNumbered node f open_elems = map Some (reverse (numbers open_elems.elements)) ≡ map (name_number open_elems.numbers) (names_in node f (values open_elems.elements))
+
+-- a name that has a number keeps it
+abbrev pub StayNumbered : NameNumbers → NameNumbers → Type 0
+StayNumbered old new = (name : QualName) (number : ℕ) → name_number old name ≡ Some number → name_number new name ≡ Some number
+
+-- a node stands at a place, with its number, and with what is kept of it above those that are older
+pub record IsPut {H : Type 0} (node : H → ℕ) (f : Forest) (n place : ℕ) (old new : OpenElements H) : Type 0 where
+  pub element : OpenElement H
+  pub number : ℕ
+  pub elements : new.elements ≡ slice_set old.elements place (one_of number element)
+  pub here : node element.handle ≡ n
+  pub summary : element.summary ≡ summary_of (name_in f n) (names_in node f (take place (values old.elements)))
+  pub numbered : name_number new.numbers (name_in f n) ≡ Some number

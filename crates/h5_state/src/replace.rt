@@ -1,0 +1,103 @@
+//! Open elements come to stand where others stood.
+ghost use Rattle.std.specs.Prelude.{◌≡◌, ◌<◌, ◌≤◌, ◌+◌, ◌^◌, ◌++◌, ℕ, OnErr, OnOk, drop, length, map, reverse, take, vec_len};
+ghost use Rattle.h5_stack.specs.Numbered.{values};
+ghost use Rattle.h5_interface.specs.Forest.{IsElement};
+ghost use Rattle.h5_rules.specs.Sound.{Sound};
+ghost use Rattle.h5_rules.specs.World.{names_of};
+ghost use Rattle.h5_rules.specs.stack.Order.{IsIn};
+ghost use Rattle.h5_state.specs.Replaced.{AreNumbered, IsPut, StayNumbered};
+ghost use Rattle.h5_state.specs.Steps.{IsSound, world_of};
+ghost use Rattle.h5_state.specs.Summaries.{IsKept, summaries};
+ghost use Rattle.h5_state.specs.View.{elements_of, kept_under, names_under, open_node, stack_over, stack_under, with_stack};
+
+use super::open_element::{OpenElement, Summary};
+use super::renew::{all_under, renew_over};
+use super::state::State;
+use h5_interface::TreeSink;
+use std::alloc::AllocError;
+
+// An element stands at a place in place of another, where what is kept of all older ones is right.
+#[tactic(auto, unfolding(crate::specs::View::world))]
+fn put_at<S: TreeSink>(
+    sink: &S,
+    state: &mut State<S::Handle>,
+    place: usize,
+    handle: S::Handle,
+) -> Result<(), AllocError>
+    requires element { IsElement (S.sees sink.now).forest (S.node handle) }
+    requires place { place < length (world_of S.TreeSink sink.now state.old).stack }
+    requires few { place + 1 < 2 ^ 32 }
+    requires kept { kept_under state.old place ≡ summaries (names_under S.sees S.node sink.now state.old place) }
+    ensures ok { OnOk result (IsPut S.node (S.sees sink.now).forest (S.node handle) place state.old.open_elems state.new.open_elems) }
+    ensures err { OnErr result (state.new.open_elems.elements ≡ state.old.open_elems.elements) }
+    ensures stay { StayNumbered state.old.open_elems.numbers state.new.open_elems.numbers }
+    ensures world { world_of S.TreeSink sink.now state.new ≡ with_stack (world_of S.TreeSink sink.now state.new).stack (world_of S.TreeSink sink.now state.old) }
+{
+    let all = all_under(sink, state, place);
+    let name = sink.elem_name(&handle);
+    let number = state.open_elems.numbers.number(name)?;
+    let summary = Summary::new(name, all, place as u32);
+    let element = OpenElement { handle, summary };
+    state.open_elems.elements.replace(place, number, element)?;
+    Ok(())
+}
+
+// Elements stand at the places from one on, in place of as many others; what is kept of those above isn't made anew yet.
+#[tactic(auto, unfolding(crate::specs::View::world))]
+fn put_all<S: TreeSink>(
+    sink: &S,
+    state: &mut State<S::Handle>,
+    first: usize,
+    handles: Vec<S::Handle>,
+) -> Result<(), AllocError>
+    requires sound { IsSound S.TreeSink sink.now state.old }
+    requires elements { (n : ℕ) → IsIn n (map S.node handles.items) → IsElement (S.sees sink.now).forest n }
+    requires inside { first + vec_len handles ≤ length (world_of S.TreeSink sink.now state.old).stack }
+    ensures ok { OnOk result (map (open_node S.node) (elements_of state.new)
+        ≡ map (open_node S.node) (take first (elements_of state.old)) ++ (map S.node handles.items ++ map (open_node S.node) (drop (first + vec_len handles) (elements_of state.old)))) }
+    ensures kept { OnOk result (kept_under state.new (first + vec_len handles) ≡ summaries (names_under S.sees S.node sink.now state.new (first + vec_len handles))) }
+    ensures newer { OnOk result (drop (first + vec_len handles) (elements_of state.new) ≡ drop (first + vec_len handles) (elements_of state.old)) }
+    ensures numbered { OnOk result (AreNumbered S.node (S.sees sink.now).forest state.new.open_elems) }
+    ensures older { take first state.new.open_elems.elements ≡ take first state.old.open_elems.elements }
+    ensures stay { StayNumbered state.old.open_elems.numbers state.new.open_elems.numbers }
+    ensures world { world_of S.TreeSink sink.now state.new ≡ with_stack (world_of S.TreeSink sink.now state.new).stack (world_of S.TreeSink sink.now state.old) }
+{
+    let mut place = first;
+    for handle in handles {
+        put_at(sink, state, place, handle)?;
+        place += 1;
+    }
+    Ok(())
+}
+
+/// Elements come to stand from a place on, in place of as many others; the sink isn't told. It takes a step for each of them,
+/// and for each above of which something else is known then. It is refused where memory is: then those below the place are
+/// left.
+#[tactic(auto, unfolding(crate::specs::View::world))]
+pub fn replace_open<S: TreeSink>(
+    sink: &S,
+    state: &mut State<S::Handle>,
+    place: usize,
+    handles: Vec<S::Handle>,
+) -> Result<(), AllocError>
+    requires sound { IsSound S.TreeSink sink.now state.old }
+    requires inside { place + vec_len handles ≤ length (world_of S.TreeSink sink.now state.old).stack }
+    requires stands { Sound (with_stack ((stack_over S.node state.old (place + vec_len handles) ++ reverse (map S.node handles.items)) ++ stack_under S.node state.old place) (world_of S.TreeSink sink.now state.old)) }
+    ensures ok { OnOk result (world_of S.TreeSink sink.now state.new
+        ≡ with_stack ((stack_over S.node state.old (place + vec_len handles) ++ reverse (map S.node handles.items)) ++ stack_under S.node state.old place) (world_of S.TreeSink sink.now state.old)) }
+    ensures err { OnErr result (world_of S.TreeSink sink.now state.new ≡ with_stack (stack_under S.node state.old place) (world_of S.TreeSink sink.now state.old)) }
+    ensures kept { IsKept state.new.open_elems (names_of (world_of S.TreeSink sink.now state.new)) }
+{
+    let end = place + handles.len();
+    let before = all_under(sink, state, end);
+    match put_all(sink, state, place, handles) {
+        Ok(()) => {
+            renew_over(sink, state, end, before);
+            Ok(())
+        }
+        Err(refused) => {
+            state.open_elems.elements.truncate(place);
+            Err(refused)
+        }
+    }
+}

@@ -1,0 +1,63 @@
+//! The token that takes another turn, and what is answered: a turn puts them into the state, and they are taken from it.
+ghost use Rattle.std.specs.Prelude.{◌≡◌};
+ghost use Rattle.h5_token.specs.Reply.{reply};
+ghost use Rattle.h5_types.specs.TurnText.{turn_text};
+ghost use Rattle.h5_state.specs.Steps.{IsSound};
+ghost use Rattle.h5_state.specs.Turn.{KeepsWorld};
+
+use super::state::State;
+use h5_interface::TreeSink;
+use h5_token::TokenSinkResult;
+use h5_types::Token;
+use std::mem;
+
+/// This token takes another turn.
+#[tactic(auto, unfolding(crate::specs::View::world))]
+#[inline(always)]
+pub fn set_again<S: TreeSink>(sink: &S, state: &mut State<S::Handle>, token: Token)
+    requires { IsSound S.TreeSink sink.now state.old }
+    ensures kept { KeepsWorld S.TreeSink sink.now state.old state.new }
+    ensures token { turn_text state.new.again ≡ turn_text token }
+{
+    state.again = token;
+}
+
+/// The token that takes another turn.
+#[tactic(auto, unfolding(crate::specs::View::world))]
+#[inline(always)]
+pub fn take_again<S: TreeSink>(sink: &S, state: &mut State<S::Handle>) -> Token
+    requires { IsSound S.TreeSink sink.now state.old }
+    ensures kept { KeepsWorld S.TreeSink sink.now state.old state.new }
+    ensures token { result ≡ state.old.again }
+{
+    mem::replace(&mut state.again, Token::Eof)
+}
+
+/// This is answered.
+#[tactic(auto, unfolding(crate::specs::View::world))]
+#[inline(always)]
+pub fn set_answer<S: TreeSink>(
+    sink: &S,
+    state: &mut State<S::Handle>,
+    answer: TokenSinkResult<S::Handle>,
+)
+    requires { IsSound S.TreeSink sink.now state.old }
+    ensures kept { KeepsWorld S.TreeSink sink.now state.old state.new }
+    ensures answer { reply S.node state.new.answer ≡ reply S.node answer }
+{
+    state.answer = answer;
+}
+
+/// What is answered.
+#[tactic(auto, unfolding(crate::specs::View::world))]
+#[inline(always)]
+pub fn take_answer<S: TreeSink>(
+    sink: &S,
+    state: &mut State<S::Handle>,
+) -> TokenSinkResult<S::Handle>
+    requires { IsSound S.TreeSink sink.now state.old }
+    ensures kept { KeepsWorld S.TreeSink sink.now state.old state.new }
+    ensures answer { result ≡ state.old.answer }
+{
+    mem::replace(&mut state.answer, TokenSinkResult::Continue)
+}
