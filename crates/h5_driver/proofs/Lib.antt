@@ -5,5 +5,6 @@ pub mod OneTree
 pub mod RawLaws
 pub mod ReadingLaws
 pub mod StreamLaws
+pub mod TakenLaws
 pub mod PlainLaws
 pub mod ByteLaws

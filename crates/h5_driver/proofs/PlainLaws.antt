@@ -1,10 +1,9 @@
 -- The text of a plain document, taken by a parser.
 use Rattle.std.proofs.Common.{◌≡◌, ℕ, List, [], ◌∷◌, ◌++◌, map, refl, sym, ap, ◌∙◌, subst, Option, Some, None as Nothing, codes, Result, Ok, Err, IfOk}
-use Rattle.h5_names.specs.AttributeText.{AttributeText}
 use Rattle.h5_token.specs.TokenText.{TokenText}
 use Rattle.h5_token.specs.declared.fault.BuildFault.{BuildFault}
 use Rattle.h5_interface.specs.Changes.{mark}
-use Rattle.h5_interface.specs.Forest.{Child, ChildNode, ChildText, DoctypeNode, DocumentNode, ElementNode, Forest, Kind, Marks, Node, children_of}
+use Rattle.h5_interface.specs.Forest.{Child, ChildNode, ChildText, DoctypeNode, DocumentNode, ElementNode, Forest, Marks, Node, children_of}
 use Rattle.h5_interface.specs.Seen.{Seen}
 use Rattle.h5_interface.specs.SinkChoices.{SinkChoices}
 use Rattle.h5_interface.specs.declared.marks.QuirksMode.TheVariants.{NoQuirks}
@@ -21,7 +20,7 @@ use Rattle.h5_driver.specs.Options.{default_options}
 use Rattle.h5_driver.specs.Parsing.{Parses, after, ended, foreign, replies}
 use Rattle.h5_driver.specs.Texts.{ParsesDocument}
 use Rattle.h5_round.specs.Readable.{IsReadableDocument}
-use Rattle.h5_driver.specs.PlainTexts.{BringsBack, ComesBack, IsNew}
+use Rattle.h5_driver.specs.PlainTexts.{BringsBack, ComesBack}
 use Rattle.h5_round.specs.Written.{written_of}
 use Rattle.h5_reading.specs.Options as reading
 use Rattle.h5_tokenizer.specs.Options as reader
@@ -74,21 +73,44 @@ unfolding pop
 popped choices d [] w s q = (s, q)
 popped choices d (n ∷ ns) w s q = popped choices d ns (pop choices w) (document_marked w.forest _ d s) q
 
+-- a builder that took nothing yet rebuilds a plain document
+record Rebuilt (choices : SinkChoices) (seen : Seen) (d : PlainDocument) : Type 0 where
+  answers : Answers (replies choices) (after choices) (first_building seen types.default_options).view (document_tokens d)
+  stands : DocumentStands (after_all choices (document_tokens d) (first_building seen types.default_options).view).world.forest d
+  quirks : (after_all choices (document_tokens d) (first_building seen types.default_options).view).world.seen_quirks ≡ NoQuirks
+
+rebuilt : (choices : SinkChoices) (seen : Seen) (d : PlainDocument) → HoldsDocument seen.forest → Rebuilt choices seen d
+rebuilt choices seen d holds =
+    let v = (first_building seen types.default_options).view in
+    let ts = document_tokens d in
+    let start : IsStart v.world = record { holds = holds; options = refl; mode = refl; none_open = refl; none_listed = refl; ignore_lf = refl; no_foster = refl; no_template_modes = refl; no_head = refl; no_form = refl; no_context = refl } in
+    let built = rebuilds_all choices ts v d start refl refl (document_joined d) in
+    record { answers = answers_by choices ts v built.answers; stands = built.stands; quirks = built.quirks }
+
+-- it answers as to a plain document's tokens
+pub document_answers : (choices : SinkChoices) (seen : Seen) (d : PlainDocument) → HoldsDocument seen.forest → Answers (replies choices) (after choices) (first_building seen types.default_options).view (document_tokens d)
+document_answers choices seen d holds = (rebuilt choices seen d holds).answers
+
+-- and the document stands in what its sink tells after them and the end
+pub document_stands : (choices : SinkChoices) (seen told : Seen) (d : PlainDocument) (n : View) → HoldsDocument seen.forest → n ≡ ended choices (after_all choices (document_tokens d) (first_building seen types.default_options).view)
+    → told.forest ≡ n.world.forest → told.quirks ≡ n.world.seen_quirks → ComesBack told d
+document_stands choices seen told d n holds same forest quirks =
+    let w = (after_all choices (document_tokens d) (first_building seen types.default_options).view).world in
+    let built = rebuilt choices seen d holds in
+    let end = popped choices d w.stack w built.stands built.quirks in
+    record {
+      stands = subst (λ (f : Forest). DocumentStands f d) (sym (forest ∙ ap (λ (u : View). u.world.forest) same)) end.0;
+      quirks = quirks ∙ ap (λ (u : View). u.world.seen_quirks) same ∙ end.1;
+    }
+
 -- what a parser makes of a document's text
 document_parsed : (choices : SinkChoices) (seen told : Seen) (d : PlainDocument) → HoldsDocument seen.forest → IsReadableDocument d
     → ParsesDocument choices seen default_options (written_of d) told → ComesBack told d
 document_parsed choices seen told d holds readable parses =
     let v = (first_building seen types.default_options).view in
-    let ts = document_tokens d in
-    let start : IsStart v.world = record { holds = holds; options = refl; mode = refl; none_open = refl; none_listed = refl; ignore_lf = refl; no_foster = refl; no_template_modes = refl; no_head = refl; no_form = refl; no_context = refl } in
-    let built = rebuilds_all choices ts v d start refl refl (document_joined d) in
-    let read = document_read (replies choices) (after choices) foreign (ended choices) d v readable (answers_by choices ts v built.answers) in
-    let same = parses.any ts read.0 read.1 in
-    let end = popped choices d (after_all choices ts v).world.stack (after_all choices ts v).world built.stands built.quirks in
-    record {
-      stands = subst (λ (f : Forest). DocumentStands f d) (sym (same.1.0 ∙ ap (λ (u : View). u.world.forest) same.0)) end.0;
-      quirks = same.1.1 ∙ ap (λ (u : View). u.world.seen_quirks) same.0 ∙ end.1;
-    }
+    let read = document_read (replies choices) (after choices) foreign (ended choices) d v readable (document_answers choices seen d holds) in
+    let same = parses.any (document_tokens d) read.0 read.1 in
+    document_stands choices seen told d read.0 holds same.0 same.1.0 same.1.1
 
 -- so does a parser that took nothing yet, however the text is cut
 pub brings_back : (choices : SinkChoices) (b : Building) (r : ReaderText) (unread text : List ℕ) (told : Seen) → Parses choices r.place b.view (unread ++ text) told → BringsBack b r unread text told

@@ -1,8 +1,8 @@
 -- Readings over a builder that works.
 use Rattle.std.proofs.Common.{◌≡◌, ◌++◌, ℕ, true, false, List, [], Option, Some, None, Result, Ok, Err, IfOk, OnErr, inl, inr, refl, ap, sym, subst, ◌∙◌, append_assoc}
 use Rattle.std.proofs.lemmas.List.{append-nil}
-use Rattle.h5_token.specs.Reply.{Refuses, Reply}
-use Rattle.h5_token.specs.TokenText.{TokenText, Characters, EndOfFile}
+use Rattle.h5_token.specs.Reply.{Reply}
+use Rattle.h5_token.specs.TokenText.{TokenText, Characters}
 use Rattle.h5_token.specs.declared.fault.BuildFault.{BuildFault}
 use Rattle.h5_token.specs.declared.fault.BuildFault.TheVariants.{AfterEnd, Failed, Memory, NotInText}
 use Rattle.h5_interface.specs.Seen.{Seen}
@@ -12,7 +12,7 @@ use Rattle.h5_laws.proofs.cuts.JoinLaws.{view_joins}
 use Rattle.h5_laws.proofs.kept.FittingLaws.{token_fitting}
 use Rattle.h5_laws.proofs.cuts.RunLaws.{takes_text, token_cut}
 use Rattle.h5_tokenizer.specs.End.{Closes, settle}
-use Rattle.h5_reading.specs.Taking.{ClosesWith, Finishes, Takes}
+use Rattle.h5_reading.specs.Taking.{ClosesWith}
 use Rattle.h5_reading.specs.Told.{handed}
 use Rattle.h5_reading.specs.Answers.{refuses}
 use Rattle.h5_tokenizer.specs.Front.{Place}
@@ -24,8 +24,9 @@ use Rattle.h5_tokenizer.specs.Whole.{Readings, after_closing, closing, more_read
 use Rattle.h5_tokenizer.proofs.KeptLaws.{readings_agree}
 use Rattle.h5_tokenizer.proofs.WholeLaws.{end_ends, readings_go_on}
 use Rattle.h5_driver.specs.Parsing.{Advances, IsWorking, Parses, Reads, TakesAll, after, ended, foreign, replies}
-use Rattle.h5_driver.proofs.AnswerLaws.{comes, token_works, works_at}
+use Rattle.h5_driver.proofs.AnswerLaws.{token_works, works_at}
 use Rattle.h5_driver.proofs.RawLaws.{raw_rest, raw_stays, raw_token}
+use Rattle.h5_driver.proofs.TakenLaws.{comes, finishes_memory, takes_memory}
 
 step_works : (choices : SinkChoices) {p : Place} {m : View} {xs : List ℕ} {ts : List TokenText} {reply : Reply} {q : Place} {n : View} {ys : List ℕ} → Step (replies choices) (after choices) foreign p m xs ts reply q n ys → IsWorking p m → IsWorking q n × (refuses reply ≡ false)
 step_works choices {p = p} {m = m} (marked e f) w = (works_at p (started p) m refl w, refl)
@@ -36,11 +37,7 @@ step_works choices {p = p} {m = m} {xs = xs} {ys = rest} (token_step token e f) 
     (works_at q (behind q xs rest) (after_token choices token m) refl k.works, k.takes)
 step_works choices {p = p} {m = m} {xs = xs} {ys = rest} (switch_step mode e f) w = (
   record {
-    unfailed = w.unfailed;
-    unended = w.unended;
-    fitting = w.fitting;
-    saved = w.saved;
-    kinds = w.kinds;
+    ready = w.ready;
     text = λ i. absurd (raw_stays p.mode p.last (foreign m) xs rest mode f (w.text i));
   },
   refl,
@@ -88,7 +85,7 @@ reads_run choices p m xs ts n r =
 -- however a text is read by a builder that works, it means the same in the end
 same_reads : (choices : SinkChoices) {p : Place} {m : View} {xs : List ℕ} {ts us : List TokenText} {n o : View} → IsWorking p m → Reads choices p m xs ts n → Reads choices p m xs us o → n ≡ o
 same_reads choices w a b =
-    readings_agree (replies choices) (after choices) foreign IsFitting (λ v t line h. token_fitting choices t v h) (ended choices) (λ v t k l. refl) (λ v x y xs ys j k l h. token_cut choices x xs y ys v h) (record { fitting = λ f e. w.fitting }) a b
+    readings_agree (replies choices) (after choices) foreign IsFitting (λ v t line h. token_fitting choices t v h) (ended choices) (λ v t k l. refl) (λ v x y xs ys j k l h. token_cut choices x xs y ys v h) (record { fitting = λ f e. w.ready.fitting }) a b
 
 -- what `feed` did after readings
 module _ (choices : SinkChoices) (p0 : Place) (m0 : View) (xs0 : List ℕ) (p : Place) (m : View) (xs : List ℕ) (a : Advances choices p0 m0 xs0 p m xs) (w : IsWorking p m) where
@@ -123,30 +120,12 @@ fault_is_memory choices node p m xs new n queue NotInText w h = absurd (never_re
 fault_is_memory choices node p m xs new n queue Failed w h = absurd (never_refused choices p m xs Failed new n w h)
 
 -- the end of a builder that works: a fault is want of memory
-no_refusal : (r : Reply) (f : BuildFault) → refuses r ≡ false → r ≡ Refuses f → ⊥
-no_refusal r f h e = let i : refuses r ≡ true = ap refuses e in cc
-
-takes_memory : (choices : SinkChoices) (m n : View) (t : TokenText) (line : ℕ) (f : BuildFault) → refuses (reply_to choices t m) ≡ false → Takes (replies choices) (after choices) (ended choices) m t line n (Err f) → f ≡ Memory
-takes_memory choices m n t line Memory w h = refl
-takes_memory choices m n t line AfterEnd w h = absurd (no_refusal (reply_to choices t m) AfterEnd w h.0)
-takes_memory choices m n t line NotInText w h = absurd (no_refusal (reply_to choices t m) NotInText w h.0)
-takes_memory choices m n t line Failed w h = absurd (no_refusal (reply_to choices t m) Failed w h.0)
-
-finishes_memory : (choices : SinkChoices) (p : Place) (m n : View) (line : ℕ) (f : BuildFault) → IsWorking p m → Finishes (replies choices) (after choices) (ended choices) m line n (Err f) → f ≡ Memory
-finishes_memory choices p m n line f w h = at f (token_works choices p EndOfFile m w (comes m.world.mode EndOfFile (λ i. refl))).takes h
-  where
-    at : (x : BuildFault) → refuses (reply_to choices EndOfFile m) ≡ false → Finishes (replies choices) (after choices) (ended choices) m line n (Err x) → x ≡ Memory
-    at Memory k i = refl
-    at AfterEnd k i = absurd (no_refusal (reply_to choices EndOfFile m) AfterEnd k i.0)
-    at NotInText k i = absurd (no_refusal (reply_to choices EndOfFile m) NotInText k i.0)
-    at Failed k i = absurd (no_refusal (reply_to choices EndOfFile m) Failed k i.0)
-
 closes_memory : (choices : SinkChoices) (p : Place) (m n : View) (o : Option TokenText) (line last : ℕ) (f : BuildFault) → IsWorking p m → ((t : TokenText) → o ≡ Some t → refuses_in m.world.mode t ≡ false)
     → ClosesWith (replies choices) (after choices) (ended choices) m (handed o) line last n (Err f) → f ≡ Memory
-closes_memory choices p m n None line last f w c h = finishes_memory choices p m n last f w h
+closes_memory choices p m n None line last f w c h = finishes_memory choices m n last f w.ready h
 closes_memory choices p m n (Some t) line last f w c (inl h) = takes_memory choices m n t line f (token_works choices p t m w (c t refl)).takes h
 closes_memory choices p m n (Some t) line last f w c (inr h) =
-    finishes_memory choices (next_place p t (reply_to choices t m)) (after_token choices t m) n last f (token_works choices p t m w (c t refl)).works h.1
+    finishes_memory choices (after_token choices t m) n last f (token_works choices p t m w (c t refl)).works.ready h.1
 
 -- one list of readings, and then another
 chain : (choices : SinkChoices) {p q r : Place} {m n o : View} {xs ys zs : List ℕ} {ts us : List TokenText} → Readings (replies choices) (after choices) foreign p m xs ts q n ys → Readings (replies choices) (after choices) foreign q n ys us r o zs → Readings (replies choices) (after choices) foreign p m xs (ts ++ us) r o zs

@@ -1,8 +1,7 @@
 -- Where the builder and the reader of a fragment begin (HTML standard, section 13.4).
-use Rattle.std.specs.Prelude.{Bool, false, List, None, Some}
+use Rattle.std.specs.Prelude.{Bool, false, List, None}
 use Rattle.h5_names.specs.AttributeText.{AttributeText}
 use Rattle.h5_names.specs.declared.qualified.QualName.{QualName}
-use Rattle.h5_token.specs.declared.states.State.{State}
 use Rattle.h5_interface.specs.NewElement.{flags_of}
 use Rattle.h5_interface.specs.Seen.{Seen, after_create_element}
 use Rattle.h5_interface.specs.SinkChoices.{SinkChoices}
@@ -10,6 +9,7 @@ use Rattle.h5_types.specs.declared.options.TreeBuilderOpts.{TreeBuilderOpts}
 use Rattle.h5_rules.specs.World.{World}
 use Rattle.h5_tokenizer.specs.Front.{Place}
 use Rattle.h5_tokenizer.specs.Options.{first_place}
+use Rattle.h5_reading.specs.Options.{beginning_in}
 use Rattle.h5_reading.specs.declared.options.TokenizerOpts.{TokenizerOpts}
 use Rattle.h5_tree_builder.specs.Builder.{Building}
 use Rattle.h5_tree_builder.specs.Fragment.{first_fragment, state_by_context}
@@ -18,10 +18,6 @@ use Rattle.h5_tree_builder.specs.Fragment.{first_fragment, state_by_context}
 unfoldable pub first_in_new : SinkChoices → Seen → QualName → List AttributeText → TreeBuilderOpts → Building
 first_in_new choices seen name attrs opts =
     first_fragment choices (after_create_element choices name attrs (flags_of name attrs false) seen) (choices.fresh seen.forest) None opts
-
--- the same options, with a state to begin in
-abbrev pub beginning_in : State → TokenizerOpts → TokenizerOpts
-beginning_in state opts = record opts { initial_state = Some state }
 
 -- in the state that the context of a builder tells
 abbrev pub place_in_context : (allows_scripting : Bool) → World → TokenizerOpts → Place

@@ -46,15 +46,19 @@ abbrev pub IsRaw : Mode → Type 0
 IsRaw (RawData kind) = Unit {0}
 IsRaw mode = ⊥
 
--- it takes the tokens that a reader hands on at this place, and has what a builder keeps between tokens. It is in the mode
--- "text", which refuses start tags, comments and nulls, only while the reader hands on none of them; and no mode that it
--- keeps to go back to is "text": neither the one that it left, nor one of a template
-pub record IsWorking (p : Place) (v : View) : Type 0 where
+-- what a builder keeps between tokens. No mode that it keeps to go back to is "text": neither the one that it left, nor one of
+-- a template
+pub record IsReady (v : View) : Type 0 where
   pub unfailed : v.failed ≡ false
   pub unended : v.ended ≡ false
   pub fitting : Fitting v.world
   pub saved : saved_mode v.world ≢ Text
   pub kinds : AllKinds v.world.template_modes
+
+-- it takes the tokens that a reader hands on at this place: it is in the mode "text", which refuses start tags, comments and
+-- nulls, only while the reader hands on none of them
+pub record IsWorking (p : Place) (v : View) : Type 0 where
+  pub ready : IsReady v
   pub text : v.world.mode ≡ Text → IsRaw p.mode
 
 -- what the builder of a parser means

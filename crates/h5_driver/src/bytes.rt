@@ -7,8 +7,9 @@ ghost use Rattle.h5_driver.specs.Bytes.{AdvancesBytes, ProcessedBytes};
 ghost use Rattle.h5_driver.specs.Parsing.{Parses, unread, view_of};
 ghost use Rattle.h5_driver.specs.PlainTexts.{BringsBack};
 
-use super::parser::{Parser, part_size};
+use super::parser::Parser;
 use h5_interface::TreeSink;
+use h5_reading::part_size;
 use h5_token::BuildFault;
 use h5_utf8::Utf8LossyDecoder;
 use std::alloc::Global;

@@ -5,35 +5,15 @@ ghost use Rattle.h5_interface.specs.Forest.{IsElement};
 ghost use Rattle.h5_reading.specs.declared.stage.Stage.TheVariants.{Reading};
 ghost use Rattle.h5_tree_builder.specs.Fragment.{first_fragment};
 ghost use Rattle.h5_tree_builder.specs.Held.{building};
-ghost use Rattle.h5_driver.specs.Fragments.{beginning_in, first_in_new, place_in_context};
+ghost use Rattle.h5_driver.specs.Fragments.{first_in_new, place_in_context};
 
 use super::options::ParseOpts;
 use super::parser::{Parser, parser_over};
 use h5_interface::{TreeSink, create_element};
 use h5_names::{Attribute, QualName};
 use h5_token::BuildFault;
-use h5_token::states::State;
-use h5_tokenizer::TokenizerOpts;
 use h5_tree_builder::TreeBuilder;
 use std::alloc::Global;
-
-// The same options, with this state to begin in.
-fn beginning_in(opts: TokenizerOpts, state: State) -> TokenizerOpts
-    ensures { result ≡ beginning_in state opts }
-{
-    let TokenizerOpts {
-        exact_errors,
-        discard_bom,
-        initial_state: _,
-        last_start_tag_name,
-    } = opts;
-    TokenizerOpts {
-        exact_errors,
-        discard_bom,
-        initial_state: Some(state),
-        last_start_tag_name,
-    }
-}
 
 /// A parser of a fragment in this context, an element of the sink, that took nothing yet. The form, where there is one, is
 /// the form element. The text is read as the name of the context says, whatever initial state the options have.
@@ -67,7 +47,7 @@ pub fn parse_fragment_for_element<Sink: TreeSink + Drop>(
         tree_builder,
     )?;
     let state = builder.tokenizer_state_for_context_elem(context_element_allows_scripting);
-    Ok(parser_over(alloc, builder, beginning_in(tokenizer, state)))
+    Ok(parser_over(alloc, builder, tokenizer.beginning_in(state)))
 }
 
 /// A parser of a fragment in a context of this name and with these attributes, that took nothing yet: the context is made

@@ -12,6 +12,7 @@ ghost use Rattle.h5_driver.specs.Parsing.{Advances, IsParsing, IsWorking, Parses
 use super::bytes::{Utf8Parser, bytes_over};
 use super::options::ParseOpts;
 use h5_interface::TreeSink;
+use h5_reading::part_size;
 use h5_token::{BuildFault, TokenSink};
 use h5_tokenizer::{BufferQueue, Tokenizer, TokenizerOpts, TokenizerResult};
 use h5_tree_builder::TreeBuilder;
@@ -53,14 +54,6 @@ fn close<Sink: TreeSink + Drop>(
     ensures memory { OnErr result (result ≡ Err BuildFault.Memory) }
 {
     tokenizer.end()
-}
-
-// How many bytes of a text are copied at a time: a 128th of it, so that memory doesn't hold it twice and its parts stay few, and
-// 64 KiB at the least.
-pub(super) fn part_size(length: usize) -> usize
-    ensures { 0 < result }
-{
-    (length / 128).max(65_536)
 }
 
 /// A parser of a document: the reader over the tree builder over a sink.

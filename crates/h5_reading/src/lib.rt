@@ -1,7 +1,7 @@
 //! What readers of HTML have in common, whatever of it they read.
 //!
-//! `buffer` has text that waits, `options` and `result` what a reader is told and answers, and `stage` whether it still
-//! reads. `last_name` has the name of the last start tag. `stop` has the answers of a taker of tokens that stop a reader, and
+//! `buffer` has text that waits, `parts` how much of a text is copied at a time, `options` and `result` what a reader is told
+//! and answers, and `stage` whether it still reads. `last_name` has the name of the last start tag. `stop` has the answers of a taker of tokens that stop a reader, and
 //! `taking` what is asked of one, up to the end. `lines` counts lines, and `plain` the bytes and the newlines of text that
 //! stands for itself. `likeness` is for the law that no cut of the input matters to a taker that doesn't see how texts are cut.
 //!
@@ -16,6 +16,7 @@ mod last_name;
 mod likeness;
 mod lines;
 mod options;
+mod parts;
 mod plain;
 mod result;
 mod stage;
@@ -27,6 +28,7 @@ pub use last_name::LastName;
 pub use likeness::Likeness;
 pub use lines::{few_newlines, line_behind, newlines_passed};
 pub use options::TokenizerOpts;
+pub use parts::part_size;
 pub use plain::count_plain;
 pub use result::TokenizerResult;
 pub use stage::Stage;

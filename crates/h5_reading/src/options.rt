@@ -1,6 +1,6 @@
 //! Options of the reader.
 ghost use Rattle.std.specs.Prelude.{◌≡◌, IfOk};
-ghost use Rattle.h5_reading.specs.Options.{options_text};
+ghost use Rattle.h5_reading.specs.Options.{beginning_in, options_text};
 
 use h5_token::states::State;
 use std::alloc::AllocError;
@@ -49,5 +49,23 @@ impl TokenizerOpts {
             initial_state: self.initial_state,
             last_start_tag_name,
         })
+    }
+
+    /// The same options, with this state to begin in.
+    pub fn beginning_in(self, state: State) -> TokenizerOpts
+        ensures { result ≡ beginning_in state self }
+    {
+        let TokenizerOpts {
+            exact_errors,
+            discard_bom,
+            initial_state: _,
+            last_start_tag_name,
+        } = self;
+        TokenizerOpts {
+            exact_errors,
+            discard_bom,
+            initial_state: Some(state),
+            last_start_tag_name,
+        }
     }
 }

@@ -1,9 +1,12 @@
-//! Tests: what the standard reader hands on, over a sink that writes it down, and what its calls answer.
+//! Tests: what the standard reader hands on, over a sink that writes it down, what its calls answer, and the parser over it.
 //!
-//! `rows` has texts and what is handed on of them, and `calls` what the calls answer. Begin with `src/rows.rt`.
+//! `rows` has texts and what is handed on of them, `calls` what the calls answer, and `parser` has trees in arenas. Begin with
+//! `src/rows.rt`.
 #![tactic(auto)]
 
 #[cfg(test)]
 mod calls;
+#[cfg(test)]
+mod parser;
 #[cfg(test)]
 mod rows;

@@ -8,6 +8,7 @@
 
 pub mod encoding;
 pub mod laws;
+pub mod standard;
 
 pub use h5_arena as arena;
 pub use h5_arena::{Arena, NodeId};

@@ -1,7 +1,7 @@
-use Rattle.std.proofs.Common.{◌++◌, map, string_bytes, rules, IfOk, Err, ap}
+use Rattle.std.proofs.Common.{◌++◌, map, string_bytes, rules, Err, ap}
 use Rattle.std.proofs.lemmas.Result.{err_from_is_err_and}
 use Rattle.h5_tree_builder.specs.Held.{building}
-use Rattle.h5_driver.specs.Parsing.{IsWorking, Parses, joined, view_of}
+use Rattle.h5_driver.specs.Parsing.{IsWorking, joined, view_of}
 use Rattle.h5_driver.proofs.FaultLaws.{fault_of}
 use Rattle.h5_driver.proofs.PlainLaws.{brought_back}
 use Rattle.h5_driver.proofs.ReadingLaws.{told_behind}

@@ -1,0 +1,11 @@
+pub mod EndLaws
+pub mod FragmentLaws
+pub mod KeptLaws
+pub mod MarkLaws
+pub mod OneTree
+pub mod PlainLaws
+pub mod ReadLaws
+pub mod ReadingLaws
+pub mod StreamLaws
+pub mod WorkLaws
+pub mod ByteLaws

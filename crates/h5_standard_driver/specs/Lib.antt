@@ -1,0 +1,5 @@
+pub mod Bytes
+pub mod Fragments
+pub mod Parsing
+pub mod PlainTexts
+pub mod Texts

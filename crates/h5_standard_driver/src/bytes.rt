@@ -1,0 +1,130 @@
+//! A parser of bytes.
+ghost use Rattle.std.specs.Prelude.{◌≡◌, ◌++◌, [], true, false, Ok, Err, IfOk, OnErr, OnOk};
+ghost use Rattle.std.specs.Str.Lossy.{utf8_lossy};
+ghost use Rattle.h5_rules.specs.Run.{View};
+ghost use Rattle.h5_tree_builder.specs.Held.{building};
+ghost use Rattle.h5_standard_driver.specs.Bytes.{AdvancesBytes, ProcessedBytes};
+ghost use Rattle.h5_standard_driver.specs.Parsing.{Parses, ahead, view_of};
+ghost use Rattle.h5_standard_driver.specs.PlainTexts.{BringsBack};
+
+use super::parser::Parser;
+use h5_interface::TreeSink;
+use h5_reading::part_size;
+use h5_token::BuildFault;
+use h5_utf8::Utf8LossyDecoder;
+use std::alloc::Global;
+use std::marker::Model;
+
+/// A parser of a document from bytes in UTF-8, over a parser of text; `Parser::from_utf8` makes it.
+///
+/// It takes bytes in chunks, and how they are cut into chunks doesn't matter, also in the middle of a character: it keeps the bytes
+/// of a character that isn't finished, three at the most. U+FFFD stands for each error, by the rule of `Utf8LossyDecoder`. A byte
+/// order mark is a character of the text; so the reader's option `discard_bom` says what becomes of it.
+///
+/// Contracts see it as its parser and the bytes that it keeps. It has failed where its parser has.
+#[derive(Drop)]
+pub struct Utf8Parser<Sink: TreeSink + Drop> {
+    parser: Parser<Sink>,
+    decoder: Utf8LossyDecoder,
+}
+
+impl<Sink: TreeSink + Drop> Model for Utf8Parser<Sink> {
+    ghost use Rattle.std.specs.Coded.{codes};
+    ghost use Rattle.h5_stack.specs.contracts.numbering.Numbering as numbering;
+    ghost use Rattle.h5_standard_driver.specs.Bytes.{ParsingBytes};
+    ghost use Rattle.h5_standard_driver.specs.Parsing.{IsParsing};
+
+    ghost Value = { ParsingBytes Sink Sink.Handle };
+
+    ghost coded = { Prim.hlevel (codes, Sink.code, Sink.Handle.code, numbering.the_row.coded) };
+
+    ghost view = { λ p. record { parser = p.parser; unfinished = p.decoder } };
+
+    ghost invariant = { λ p. IsParsing Sink.sees Sink.node p.parser };
+}
+
+// A parser of bytes that took nothing yet, over a parser of text.
+pub(super) fn bytes_over<Sink: TreeSink + Drop>(
+    alloc: Global,
+    parser: Parser<Sink>,
+) -> Utf8Parser<Sink>
+    ensures parser { result.parser ≡ parser }
+    ensures unfinished { result.unfinished ≡ [] }
+{
+    Utf8Parser {
+        parser,
+        decoder: Utf8LossyDecoder::new(alloc),
+    }
+}
+
+impl<Sink: TreeSink + Drop> Utf8Parser<Sink> {
+    /// Takes the next chunk of the bytes: its text, as far as that is decided, as `Parser::process` takes a piece.
+    ///
+    /// It answers `Memory` where memory is refused, and `Failed` after that; then nothing has changed.
+    pub fn process(&mut self, bytes: &[u8]) -> Result<(), BuildFault>
+        ensures takes { OnOk result (ProcessedBytes Sink.choices Sink.sees Sink.node bytes.now self.old self.new) }
+        ensures works { OnOk result (self.new.parser.failed ≡ false) }
+        ensures failed { self.old.parser.failed ≡ true → (result ≡ Err BuildFault.Failed) × (self.new ≡ self.old) }
+        ensures memory { self.old.parser.failed ≡ false → OnErr result (result ≡ Err BuildFault.Memory) }
+        ensures fails { OnErr result (self.new.parser.failed ≡ true) }
+    {
+        if self.parser.has_failed() {
+            return Err(BuildFault::Failed);
+        }
+        match self.decoder.decode(bytes) {
+            Ok(text) => {
+                let result = self.parser.process_owned(text);
+                self.parser.stands();
+                result
+            }
+            Err(_) => {
+                self.parser.fail();
+                Err(BuildFault::Memory)
+            }
+        }
+    }
+
+    /// The end of the bytes: what the sink gives. U+FFFD stands for a character that isn't finished.
+    ///
+    /// It has built what the tokens of the text of all bytes build, by the rules of tree construction. It answers `Memory` where
+    /// memory is refused, and `Failed` where that was before.
+    pub fn finish(self) -> Result<Sink::Output, BuildFault>
+        ensures parses { IfOk result (λ output. Parses Sink.choices self.parser.reader.place (view_of Sink.sees Sink.node self.parser) (ahead self.parser.reader (self.parser.waiting ++ utf8_lossy self.unfinished)) (Sink.told output)) }
+        ensures failed { self.parser.failed ≡ true → result ≡ Err BuildFault.Failed }
+        ensures memory { self.parser.failed ≡ false → OnErr result (result ≡ Err BuildFault.Memory) }
+    {
+        let Utf8Parser { parser, decoder } = self;
+        parser.one(decoder.finish())
+    }
+
+    // Takes bytes in parts.
+    fn process_parts(&mut self, bytes: &[u8]) -> Result<(), BuildFault>
+        ensures takes { OnOk result (AdvancesBytes Sink.choices Sink.sees Sink.node bytes.now self.old self.new) }
+        ensures works { OnOk result (self.new.parser.failed ≡ self.old.parser.failed) }
+        ensures memory { self.old.parser.failed ≡ false → OnErr result (result ≡ Err BuildFault.Memory) }
+    {
+        let size = part_size(bytes.len());
+        let mut left = bytes;
+        'parts: while !left.is_empty() {
+            let (part, rest) = left.split_at(size.min(left.len()));
+            self.process(part)?;
+            left = rest;
+        }
+        Ok(())
+    }
+
+    /// Takes all bytes, and their end: `process` on parts of them, and `finish`.
+    pub fn one(self, bytes: &[u8]) -> Result<Sink::Output, BuildFault>
+        ensures parses { IfOk result (λ output. Parses Sink.choices self.parser.reader.place (view_of Sink.sees Sink.node self.parser) (ahead self.parser.reader (self.parser.waiting ++ utf8_lossy (self.unfinished ++ bytes.now))) (Sink.told output)) }
+        ensures plain { IfOk result (λ output. BringsBack (building Sink.sees Sink.node self.parser.builder) self.parser.reader self.parser.waiting (utf8_lossy (self.unfinished ++ bytes.now)) (Sink.told output)) }
+        ensures failed { self.parser.failed ≡ true → result ≡ Err BuildFault.Failed }
+        ensures memory { self.parser.failed ≡ false → OnErr result (result ≡ Err BuildFault.Memory) }
+    {
+        if self.parser.has_failed() {
+            return Err(BuildFault::Failed);
+        }
+        let mut parser = self;
+        parser.process_parts(bytes)?;
+        parser.finish()
+    }
+}

@@ -1,0 +1,5 @@
+pub mod RunLaws
+pub mod ReferenceLaws
+pub mod TextLaws
+pub mod TagLaws
+pub mod ReadingLaws

@@ -1,0 +1,42 @@
+//! The laws over whole runs of the standard reader, each the contract of a function that does nothing.
+ghost use Rattle.std.specs.Prelude.{◌≡◌, ℕ, false, None, List};
+ghost use Rattle.h5_interface.specs.Forest.{Forest, IsForest};
+ghost use Rattle.h5_interface.specs.Seen.{Seen};
+ghost use Rattle.h5_serialize.specs.Standing.{new_standing, walk_text};
+ghost use Rattle.h5_serialize.specs.declared.options.SerializeOpts.{SerializeOpts};
+ghost use Rattle.h5_serialize.specs.declared.options.TraversalScope.TheVariants.{ChildrenOnly};
+ghost use Rattle.h5_arena.specs.NodeCalls.{walk_of};
+ghost use Rattle.h5_plain.specs.Plain.{PlainDocument};
+ghost use Rattle.h5_plain.specs.Rebuilding.{DocumentStands, HoldsDocument};
+ghost use Rattle.h5_tree_builder.specs.Held.{building};
+ghost use Rattle.h5_round.specs.Readable.{IsReadableDocument};
+ghost use Rattle.h5_driver.specs.Parsing.{joined};
+ghost use Rattle.h5_driver.specs.PlainTexts.{ComesBack};
+ghost use Rattle.h5_standard_driver.specs.Parsing.{Parses, Parsing, ProcessedAll, ahead, view_of};
+ghost use Rattle.h5_standard_driver.specs.PlainTexts.{IsNew};
+
+use h5_interface::TreeSink;
+use h5_round::laws::documents_are_written;
+pub use h5_standard_driver::laws::{
+    a_text_has_one_tree, chunks_then_finish, documents_come_back, pieces_then_finish,
+};
+pub use h5_standard_round::laws::documents_are_read;
+
+/// What is written of a plain document comes back. Where one that can be read stands in a forest, and what a serializer
+/// writes of it comes in pieces, whatever they are, to a parser of documents with the default options, over a sink that
+/// holds its document alone, that takes the pieces by `process` and then `finish`, that document stands in what the sink
+/// tells, in no quirks; and what is written of that tree is the same text.
+pub fn written_documents_come_back<Sink: TreeSink + Drop>()
+    ensures { (f : Forest) (d : PlainDocument) (opts : SerializeOpts) (pieces : List (List ℕ)) (first last : Parsing Sink Sink.Handle) (seen told : Seen) →
+        IsForest f → DocumentStands f d → IsReadableDocument d
+        → opts.traversal_scope ≡ ChildrenOnly None → opts.create_missing_parent ≡ false
+        → joined pieces ≡ walk_text (new_standing opts) (walk_of f f.document opts.traversal_scope)
+        → IsNew (building Sink.sees Sink.node first.builder) first.reader first.waiting seen → HoldsDocument seen.forest
+        → ProcessedAll Sink.choices Sink.sees Sink.node pieces first last
+        → Parses Sink.choices last.reader.place (view_of Sink.sees Sink.node last) (ahead last.reader last.waiting) told
+        → ComesBack told d
+        × (IsForest told.forest → walk_text (new_standing opts) (walk_of told.forest told.forest.document opts.traversal_scope) ≡ joined pieces) }
+{
+    documents_are_written();
+    documents_come_back::<Sink>();
+}
