@@ -6,12 +6,12 @@ ghost use Rattle.h5_arena.specs.ArenaModel.{arena_choices, forest_seen, new_aren
 ghost use Rattle.h5_arena.specs.NodeCalls.{walk_of};
 ghost use Rattle.h5_driver.specs.Options.{default_options};
 ghost use Rattle.h5_standard_driver.specs.Texts.{ParsesDocument};
-ghost use Rattle.h5_example_links.specs.Links.{after_call, kept, link_texts};
+ghost use Rattle.h5_example_links.specs.Links.{after_call, kept, link_texts, links_of};
 ghost use Rattle.h5_example_links.specs.Page.{AreLinksOf};
 
 use super::links::{Link, Links};
 use html_tree_builder::ParseOpts;
-use html_tree_builder::arena::Arena;
+use html_tree_builder::arena::{Arena, NodeRef};
 use html_tree_builder::serialize::laws::calls_are_taken_in_turn;
 use html_tree_builder::serialize::{Serialize, SerializeFault, TraversalScope};
 use html_tree_builder::standard::parse_document;
@@ -22,14 +22,23 @@ fn refused<F: Drop>(_fault: F) -> AllocError {
     AllocError
 }
 
-// Takes the calls that tell of a tree.
-fn take_calls(links: &mut Links, arena: &Arena) -> Result<(), SerializeFault>
-    ensures { OnOk result (kept links.new ≡ after_each after_call (kept links.old) (walk_of (forest_seen arena.now) 0 (ChildrenOnly None))) }
+// Takes the calls that tell of a node's children.
+fn take_calls(links: &mut Links, node: &NodeRef<'_>) -> Result<(), SerializeFault>
+    ensures { OnOk result (kept links.new ≡ after_each after_call (kept links.old) (walk_of (forest_seen node.now.arena.now) node.now.id.index (ChildrenOnly None))) }
 {
-    let document = arena.at(arena.document());
-    document.serialize(links, TraversalScope::ChildrenOnly(None))?;
+    node.serialize(links, TraversalScope::ChildrenOnly(None))?;
     calls_are_taken_in_turn::<Links>();
     Ok(())
+}
+
+/// The links of what stands below a node, in its order. An `AllocError` where memory is refused.
+pub fn links_of(alloc: Global, node: &NodeRef<'_>) -> Result<Vec<Link>, AllocError>
+    ensures { IfOk result (λ links. link_texts links.items ≡ links_of (walk_of (forest_seen node.now.arena.now) node.now.id.index (ChildrenOnly None))) }
+{
+    let mut links = Links::new(alloc);
+    take_calls(&mut links, node).map_err(refused)?;
+    let list = links.into_list()?;
+    Ok(list)
 }
 
 // The tree of a page.
@@ -46,8 +55,6 @@ pub fn links_of_page(alloc: Global, page: &str) -> Result<Vec<Link>, AllocError>
     ensures { IfOk result (λ links. AreLinksOf page.now (link_texts links.items)) }
 {
     let arena = tree_of(alloc, page)?;
-    let mut links = Links::new(alloc);
-    take_calls(&mut links, &arena).map_err(refused)?;
-    let list = links.into_list()?;
-    Ok(list)
+    let links = links_of(alloc, &arena.at(arena.document()))?;
+    Ok(links)
 }

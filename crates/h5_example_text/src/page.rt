@@ -6,12 +6,12 @@ ghost use Rattle.h5_arena.specs.ArenaModel.{arena_choices, forest_seen, new_aren
 ghost use Rattle.h5_driver.specs.Options.{default_options};
 ghost use Rattle.h5_standard_driver.specs.Texts.{ParsesDocument};
 ghost use Rattle.h5_arena.specs.NodeCalls.{walk_of};
-ghost use Rattle.h5_example_text.specs.Blocks.{after_call, kept};
+ghost use Rattle.h5_example_text.specs.Blocks.{after_call, kept, lines_of};
 ghost use Rattle.h5_example_text.specs.Page.{IsTextOf};
 
 use super::blocks::Blocks;
 use html_tree_builder::ParseOpts;
-use html_tree_builder::arena::Arena;
+use html_tree_builder::arena::{Arena, NodeRef};
 use html_tree_builder::serialize::laws::calls_are_taken_in_turn;
 use html_tree_builder::serialize::{Serialize, SerializeFault, TraversalScope};
 use html_tree_builder::standard::parse_document;
@@ -22,14 +22,23 @@ fn refused<F: Drop>(_fault: F) -> AllocError {
     AllocError
 }
 
-// Takes the calls that tell of a tree.
-fn take_calls(blocks: &mut Blocks, arena: &Arena) -> Result<(), SerializeFault>
-    ensures { OnOk result (kept blocks.new ≡ after_each after_call (kept blocks.old) (walk_of (forest_seen arena.now) 0 (ChildrenOnly None))) }
+// Takes the calls that tell of a node's children.
+fn take_calls(blocks: &mut Blocks, node: &NodeRef<'_>) -> Result<(), SerializeFault>
+    ensures { OnOk result (kept blocks.new ≡ after_each after_call (kept blocks.old) (walk_of (forest_seen node.now.arena.now) node.now.id.index (ChildrenOnly None))) }
 {
-    let document = arena.at(arena.document());
-    document.serialize(blocks, TraversalScope::ChildrenOnly(None))?;
+    node.serialize(blocks, TraversalScope::ChildrenOnly(None))?;
     calls_are_taken_in_turn::<Blocks>();
     Ok(())
+}
+
+/// The text of what stands below a node: a line for each block in which there is any. An `AllocError` where memory is refused.
+pub fn text_of(alloc: Global, node: &NodeRef<'_>) -> Result<String, AllocError>
+    ensures { IfOk result (λ text. string_bytes text ≡ lines_of (walk_of (forest_seen node.now.arena.now) node.now.id.index (ChildrenOnly None))) }
+{
+    let mut blocks = Blocks::new(alloc);
+    take_calls(&mut blocks, node).map_err(refused)?;
+    let lines = blocks.into_lines()?;
+    Ok(lines)
 }
 
 // The tree of a page.
@@ -46,8 +55,6 @@ pub fn text_of_page(alloc: Global, page: String) -> Result<String, AllocError>
     ensures { IfOk result (λ text. IsTextOf (string_bytes page) (string_bytes text)) }
 {
     let arena = tree_of(alloc, page)?;
-    let mut blocks = Blocks::new(alloc);
-    take_calls(&mut blocks, &arena).map_err(refused)?;
-    let lines = blocks.into_lines()?;
-    Ok(lines)
+    let text = text_of(alloc, &arena.at(arena.document()))?;
+    Ok(text)
 }

@@ -37,7 +37,7 @@ use Rattle.h5_round.proofs.AttributeLaws.{all_distinct, attributes_read, no_dupl
 
 -- ---- where a tag ends
 
-walk_none : (place : Inside) (stop : ℕ → Bool) (xs : List ℕ) → Stays place stop → None stop xs → walk place xs ≡ Some place
+pub walk_none : (place : Inside) (stop : ℕ → Bool) (xs : List ℕ) → Stays place stop → None stop xs → walk place xs ≡ Some place
 walk_none place stop [] s h = refl
 walk_none place stop (x ∷ xs) s h = rw (s.goes_on x h.0, s.same x h.0) (walk_none place stop xs s h.1)
 

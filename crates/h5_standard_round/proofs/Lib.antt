@@ -3,3 +3,5 @@ pub mod ReferenceLaws
 pub mod TextLaws
 pub mod TagLaws
 pub mod ReadingLaws
+pub mod MarkupLaws
+pub mod PlainMarkupLaws

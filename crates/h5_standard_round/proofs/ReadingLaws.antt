@@ -29,7 +29,7 @@ use Rattle.h5_standard_round.proofs.TagLaws.{HandsToken, doctype_handed, end_han
 use Rattle.h5_standard_round.proofs.TextLaws.{text_reads}
 
 -- in data, or in the text of a title
-abbrev In : (title : Bool) → Place → Type 0
+abbrev pub In : (title : Bool) → Place → Type 0
 In false p = IsIn p (TextState text.Data)
 In true p = IsIn p (TextState text.Rcdata) × (p.last ≡ codes "title")
 
@@ -51,7 +51,7 @@ plain_goes EndOfFile = refl
 plain_goes (ParseErrorIs d) = refl
 
 -- the place behind a start tag, and behind others
-abbrev behind_token : Place → ℕ → TokenText → Reply → Place
+abbrev pub behind_token : Place → ℕ → TokenText → Reply → Place
 behind_token p byte t reply = after_token t reply (behind byte (TextState text.Data) p)
 
 behind_start : (q : Place) (byte : ℕ) (name : List ℕ) (attrs : List AttributeText) (reply : Reply) → is_same_text name (codes "title") ≡ false → eqb byte 13 ≡ false → reply ≡ plain_reply (start_tag name attrs) → In false (behind_token q byte (start_tag name attrs) reply)
@@ -68,12 +68,12 @@ behind_doctype : (q : Place) (byte : ℕ) (reply : Reply) → eqb byte 13 ≡ fa
 behind_doctype q byte reply c = record { at = refl; after_return = c }
 
 -- something follows
-record IsSome (xs : List ℕ) : Type 0 where
-  first : ℕ
-  more : List ℕ
-  is : xs ≡ first ∷ more
+pub record IsSome (xs : List ℕ) : Type 0 where
+  pub first : ℕ
+  pub more : List ℕ
+  pub is : xs ≡ first ∷ more
 
-some_behind : (xs ys : List ℕ) → IsSome ys → IsSome (xs ++ ys)
+pub some_behind : (xs ys : List ℕ) → IsSome ys → IsSome (xs ++ ys)
 some_behind [] ys h = h
 some_behind (x ∷ xs) ys h = record { first = x; more = xs ++ ys; is = refl }
 
@@ -95,19 +95,19 @@ room (ElementThen name attrs inner others) rest h = room others rest h
 
 module _ {M : Type 0} (reply_to : M → TokenText → Reply) (after : M → TokenText → ℕ → M) (foreign : M → Bool) (ended : M → M) where
   -- from a place on some of all tokens were read; more of them, and this text, are left
-  record Reached (p : Place) (m : M) (xs : List ℕ) (all : List TokenText) (title : Bool) (more : List TokenText) (rest : List ℕ) : Type 0 where
-    place : Place
-    meaning : M
-    handed : List TokenText
-    reply : Reply
-    goes : goes_on reply ≡ true
-    read : Read references reply_to after foreign p m xs handed reply place meaning rest
-    is_in : In title place
-    answers : Answers reply_to after meaning more
-    whole : handed ++ more ≡ all
+  pub record Reached (p : Place) (m : M) (xs : List ℕ) (all : List TokenText) (title : Bool) (more : List TokenText) (rest : List ℕ) : Type 0 where
+    pub place : Place
+    pub meaning : M
+    pub handed : List TokenText
+    pub reply : Reply
+    pub goes : goes_on reply ≡ true
+    pub read : Read references reply_to after foreign p m xs handed reply place meaning rest
+    pub is_in : In title place
+    pub answers : Answers reply_to after meaning more
+    pub whole : handed ++ more ≡ all
 
   module _ (p : Place) (m : M) (xs : List ℕ) (all : List TokenText) where
-    token_taken : (title next : Bool) (t : TokenText) (more : List TokenText) (written rest : List ℕ)
+    pub token_taken : (title next : Bool) (t : TokenText) (more : List TokenText) (written rest : List ℕ)
         → ((q : Place) → In title q → HandsToken q written t rest)
         → ((q : Place) (byte : ℕ) (reply : Reply) → eqb byte 13 ≡ false → reply ≡ plain_reply t → In next (behind_token q byte t reply))
         → Reached p m xs all title (t ∷ more) written → Reached p m xs all next more rest
@@ -137,7 +137,7 @@ module _ {M : Type 0} (reply_to : M → TokenText → Reply) (after : M → Toke
     in_behind false q r h i l = i
     in_behind true q r h i l = (i, l ∙ h.1)
 
-    text_taken : (title : Bool) (x : ℕ) (words : List ℕ) (more : List TokenText) (rest : List ℕ) → IsReadable (x ∷ words) → IsSome rest
+    pub text_taken : (title : Bool) (x : ℕ) (words : List ℕ) (more : List TokenText) (rest : List ℕ) → IsReadable (x ∷ words) → IsSome rest
         → Reached p m xs all title (Characters (x ∷ words) ∷ more) (escape false (x ∷ words) ++ rest) → Reached p m xs all title more rest
     text_taken title x words more rest readable some r =
         let written = escape false (x ∷ words) in
@@ -155,7 +155,7 @@ module _ {M : Type 0} (reply_to : M → TokenText → Reply) (after : M → Toke
           whole = append_assoc r.handed (Characters (x ∷ words) ∷ []) more ∙ r.whole;
         }
 
-    start_taken : (name : List ℕ) (attrs : List AttributeText) (more : List TokenText) (rest : List ℕ) → IsTagName name → is_same_text name (codes "title") ≡ false → ArePlain attrs → AreReadable attrs
+    pub start_taken : (name : List ℕ) (attrs : List AttributeText) (more : List TokenText) (rest : List ℕ) → IsTagName name → is_same_text name (codes "title") ≡ false → ArePlain attrs → AreReadable attrs
         → Reached p m xs all false (start_tag name attrs ∷ more) (codes "<" ++ (tag_written name attrs ++ (codes ">" ++ rest))) → Reached p m xs all false more rest
     start_taken name attrs more rest tag other plain readable r =
         token_taken false false (start_tag name attrs) more (codes "<" ++ (tag_written name attrs ++ (codes ">" ++ rest))) rest
@@ -163,7 +163,7 @@ module _ {M : Type 0} (reply_to : M → TokenText → Reply) (after : M → Toke
         (λ q byte reply c e. behind_start q byte name attrs reply other c e)
         r
 
-    title_taken : (attrs : List AttributeText) (more : List TokenText) (rest : List ℕ) → ArePlain attrs → AreReadable attrs
+    pub title_taken : (attrs : List AttributeText) (more : List TokenText) (rest : List ℕ) → ArePlain attrs → AreReadable attrs
         → Reached p m xs all false (start_tag (codes "title") attrs ∷ more) (codes "<" ++ (tag_written (codes "title") attrs ++ (codes ">" ++ rest))) → Reached p m xs all true more rest
     title_taken attrs more rest plain readable r =
         token_taken false true (start_tag (codes "title") attrs) more (codes "<" ++ (tag_written (codes "title") attrs ++ (codes ">" ++ rest))) rest
@@ -171,7 +171,7 @@ module _ {M : Type 0} (reply_to : M → TokenText → Reply) (after : M → Toke
         (λ q byte reply c e. behind_title q byte attrs reply c e)
         r
 
-    end_taken : (name : List ℕ) (more : List TokenText) (rest : List ℕ) → IsTagName name
+    pub end_taken : (name : List ℕ) (more : List TokenText) (rest : List ℕ) → IsTagName name
         → Reached p m xs all false (end_tag name ∷ more) (codes "</" ++ (name ++ (codes ">" ++ rest))) → Reached p m xs all false more rest
     end_taken name more rest tag r =
         token_taken false false (end_tag name) more (codes "</" ++ (name ++ (codes ">" ++ rest))) rest
@@ -179,7 +179,7 @@ module _ {M : Type 0} (reply_to : M → TokenText → Reply) (after : M → Toke
         (λ q byte reply c e. behind_end q byte name reply c)
         r
 
-    title_end_taken : (more : List TokenText) (rest : List ℕ)
+    pub title_end_taken : (more : List TokenText) (rest : List ℕ)
         → Reached p m xs all true (end_tag (codes "title") ∷ more) (codes "</title>" ++ rest) → Reached p m xs all false more rest
     title_end_taken more rest r =
         token_taken true false (end_tag (codes "title")) more (codes "</title>" ++ rest) rest
@@ -187,7 +187,7 @@ module _ {M : Type 0} (reply_to : M → TokenText → Reply) (after : M → Toke
         (λ q byte reply c e. behind_end q byte (codes "title") reply c)
         r
 
-    doctype_taken : (more : List TokenText) (rest : List ℕ)
+    pub doctype_taken : (more : List TokenText) (rest : List ℕ)
         → Reached p m xs all false (plain_doctype ∷ more) (codes "<!DOCTYPE html>" ++ rest) → Reached p m xs all false more rest
     doctype_taken more rest r =
         token_taken false false plain_doctype more (codes "<!DOCTYPE html>" ++ rest) rest
@@ -232,7 +232,7 @@ module _ {M : Type 0} (reply_to : M → TokenText → Reply) (after : M → Toke
   none_left place i = ap (λ s. told (at_end references s).text ++ handed (at_end references s).token) i.at
 
   -- the end
-  ends : (p : Place) (m : M) (xs : List ℕ) (all : List TokenText) → Reached p m xs all false (EndOfFile ∷ []) [] → (n : M) × ReadsToEnd references reply_to after foreign ended p m xs all n
+  pub ends : (p : Place) (m : M) (xs : List ℕ) (all : List TokenText) → Reached p m xs all false (EndOfFile ∷ []) [] → (n : M) × ReadsToEnd references reply_to after foreign ended p m xs all n
   ends p m xs all r =
       let none = none_left r.place r.is_in in (
         ended (after (after_all after r.meaning (last_tokens references r.place) r.place.began) EndOfFile r.place.line),

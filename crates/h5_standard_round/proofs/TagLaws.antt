@@ -200,7 +200,7 @@ pub record HandsToken (p : Place) (xs : List ℕ) (token : TokenText) (ys : List
   pub no_return : eqb byte 13 ≡ false
   pub last : place.last ≡ p.last
 
-handed : (p : Place) (xs : List ℕ) (s : State) (byte : ℕ) (token : TokenText) (ys : List ℕ) → eqb byte 13 ≡ false → ((last : List ℕ) → last ≡ p.last → (turn references last s byte).deed ≡ Hands token (Text Data)) → Moves p xs [] s (byte ∷ ys) → HandsToken p xs token ys
+pub handed : (p : Place) (xs : List ℕ) (s : State) (byte : ℕ) (token : TokenText) (ys : List ℕ) → eqb byte 13 ≡ false → ((last : List ℕ) → last ≡ p.last → (turn references last s byte).deed ≡ Hands token (Text Data)) → Moves p xs [] s (byte ∷ ys) → HandsToken p xs token ys
 handed p xs s byte token ys c row m = record {
   place = m.place;
   byte = byte;

@@ -1,5 +1,8 @@
-//! The law of reading, as the contract of a function that does nothing.
+//! The laws of reading, each the contract of a function that does nothing.
+ghost use Rattle.std.specs.Prelude.{List};
 ghost use Rattle.h5_reading.specs.Options.{default_options};
+ghost use Rattle.h5_tokenizer.specs.Options as plain;
+ghost use Rattle.h5_tokenizer.specs.Whole as plain_reader;
 ghost use Rattle.h5_states.specs.ReferenceTable.{references};
 ghost use Rattle.h5_states.specs.Whole.{ReadsToEnd};
 ghost use Rattle.h5_standard.specs.Options.{first_place};
@@ -7,6 +10,7 @@ ghost use Rattle.h5_plain.specs.Plain.{PlainDocument, document_tokens};
 ghost use Rattle.h5_round.specs.Answers.{Answers};
 ghost use Rattle.h5_round.specs.Readable.{IsReadableDocument};
 ghost use Rattle.h5_round.specs.Written.{written_of};
+ghost use Rattle.h5_standard_round.specs.Markup.{AreMarks, Mark, page_tokens, written_page};
 
 use h5_token::TokenSink;
 
@@ -16,4 +20,13 @@ use h5_token::TokenSink;
 pub fn documents_are_read<S: TokenSink>()
     ensures { (d : PlainDocument) (m : S.Meaning) → IsReadableDocument d → Answers S.reply_to S.after m (document_tokens d)
         → (n : S.Meaning) × ReadsToEnd references S.reply_to S.after S.is_foreign S.ended (first_place default_options) m (written_of d) (document_tokens d) n }
+{}
+
+/// Both readers read markup alike that is written as a serializer writes it: of its text the plain reader and the standard's
+/// states hand on the same tokens, over a taker that goes on, and turns to the text of a title behind its start tag. Nothing is
+/// asked of how elements are nested.
+pub fn markup_is_read_alike<S: TokenSink>()
+    ensures { (marks : List Mark) (m : S.Meaning) → AreMarks marks → Answers S.reply_to S.after m (page_tokens marks)
+        → ((n : S.Meaning) × plain_reader.ReadsToEnd S.reply_to S.after S.is_foreign S.ended (plain.first_place default_options) m (written_page marks) (page_tokens marks) n)
+        × ((n : S.Meaning) × ReadsToEnd references S.reply_to S.after S.is_foreign S.ended (first_place default_options) m (written_page marks) (page_tokens marks) n) }
 {}

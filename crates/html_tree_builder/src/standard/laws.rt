@@ -20,7 +20,7 @@ use h5_round::laws::documents_are_written;
 pub use h5_standard_driver::laws::{
     a_text_has_one_tree, chunks_then_finish, documents_come_back, pieces_then_finish,
 };
-pub use h5_standard_round::laws::documents_are_read;
+pub use h5_standard_round::laws::{documents_are_read, markup_is_read_alike};
 
 /// What is written of a plain document comes back. Where one that can be read stands in a forest, and what a serializer
 /// writes of it comes in pieces, whatever they are, to a parser of documents with the default options, over a sink that

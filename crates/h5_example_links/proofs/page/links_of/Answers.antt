@@ -1,0 +1,14 @@
+use Rattle.std.proofs.Common.{◌≡◌, None, ap, ◌∙◌, rules}
+use Rattle.h5_serialize.specs.Walk.{after_each}
+use Rattle.h5_serialize.specs.declared.options.TraversalScope.TheVariants.{ChildrenOnly}
+use Rattle.h5_arena.specs.ArenaModel.{forest_seen}
+use Rattle.h5_arena.specs.NodeCalls.{walk_of}
+use Rattle.h5_example_links.specs.Links.{after_call, kept}
+use Rattle.h5_example_links.proofs.LinkLaws.{kept_links}
+use Rattle.h5_example_links.proofs.page.links_of.Goals as goal
+
+pub returns : goal.returns
+returns c =
+    let walk = walk_of (forest_seen c.args.node.now.arena.now) c.args.node.now.id.index (ChildrenOnly None) in
+    let taken : kept c.take_calls.new.links ≡ after_each after_call (kept c.new-links.result) walk = search rules in
+    c.in_ok-list.ensures ∙ kept_links (kept c.take_calls.new.links) walk (taken ∙ ap (λ k. after_each after_call k walk) c.new-links.ensures)

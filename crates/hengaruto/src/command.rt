@@ -1,0 +1,77 @@
+//! The command line.
+use clap::{Arg, ArgAction, Command};
+use std::alloc::{AllocError, Global};
+
+/// What is printed of a page.
+#[derive(Clone, Copy)]
+pub enum What {
+    /// Its tree, a line for each node, and its quirks mode.
+    Tree,
+    /// Its tree, written as HTML.
+    Html,
+    /// Its text, a line for each block.
+    Text,
+    /// Its links, a line for each, with a tab in front of the text.
+    Links,
+    /// Its tokens, a line for each.
+    Tokens,
+}
+
+const ABOUT: &str = "Shows what a page of HTML is made of, as a browser reads it";
+
+const AFTER: &str =
+    "Without a FILE, or where FILE is -, standard input is read. Input is UTF-8; U+FFFD stands for what isn't.";
+
+fn part<'a>(alloc: Global, name: &'a str, about: &'a str) -> Result<Command<'a>, AllocError> {
+    let context = Arg::new(alloc, "fragment")
+        .long("fragment")
+        .short('f')
+        .value_name("CONTEXT")
+        .help(
+            "Reads fragments, as inside of an element of this name; svg or math and a space may stand before it",
+        );
+    let files = Arg::new(alloc, "file")
+        .value_name("FILE")
+        .action(ArgAction::Append)
+        .num_args(0..)
+        .help("The files to read");
+    Command::new(alloc, name)
+        .about(about)
+        .after_help(AFTER)
+        .arg(context)?
+        .arg(files)
+}
+
+/// The command line of the program.
+pub fn command<'a>(alloc: Global) -> Result<Command<'a>, AllocError> {
+    Command::new(alloc, "hengaruto")
+        .version("0.1.0")
+        .about(ABOUT)
+        .after_help(AFTER)
+        .subcommand_required(true)
+        .arg_required_else_help(true)
+        .subcommand(part(
+            alloc,
+            "tree",
+            "Prints the tree, a line for each node, and the quirks mode",
+        )?)?
+        .subcommand(part(alloc, "html", "Prints the tree as HTML")?)?
+        .subcommand(part(alloc, "text", "Prints the text, a line for each block")?)?
+        .subcommand(part(
+            alloc,
+            "links",
+            "Prints the links, a line for each: where it leads, a tab, and its text",
+        )?)?
+        .subcommand(part(alloc, "tokens", "Prints the tokens, a line for each")?)
+}
+
+/// What the name of a subcommand asks for.
+pub fn what_named(name: &str) -> What {
+    match name {
+        "tree" => What::Tree,
+        "html" => What::Html,
+        "text" => What::Text,
+        "links" => What::Links,
+        _ => What::Tokens,
+    }
+}

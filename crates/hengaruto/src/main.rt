@@ -1,0 +1,32 @@
+//! The program `hengaruto`: what a page is made of, for people.
+//!
+//! `command` has the command line, `page` reads pages, `tokens` writes down tokens on their way, `answer` has what is printed of a
+//! page, and `progress` tells how far a long input is. It stands on the library `html_tree_builder`, whose standard reader reads all of
+//! HTML. Begin with `src/command.rt`.
+#![tactic(auto)]
+
+mod answer;
+mod command;
+mod fault;
+mod page;
+mod progress;
+mod run;
+mod tokens;
+
+use command::command;
+use run::run;
+use std::env;
+use std::process::ExitCode;
+
+fn main(rt: HostRuntime) -> anyhow::Result<ExitCode> {
+    let alloc = rt.alloc();
+    let words: Vec<String> = env::args(&rt)?.collect(alloc)?;
+    let matches = match command(alloc)?.try_get_matches_from(words.as_slice()) {
+        Ok(matches) => matches,
+        Err(error) => {
+            error.print(&rt)?;
+            return Ok(ExitCode::from(error.exit_code() as u8));
+        }
+    };
+    Ok(run(&rt, &matches))
+}

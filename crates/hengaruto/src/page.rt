@@ -1,0 +1,166 @@
+//! Pages that are read.
+use super::fault::Fault;
+use super::progress::Progress;
+use super::tokens::Written;
+use html_tree_builder::interface::create_element;
+use html_tree_builder::standard::{
+    BufferQueue, Parser, Tokenizer, TokenizerOpts, TokenizerResult, Utf8Parser, parse_document,
+    parse_fragment,
+};
+use html_tree_builder::tree_builder::TreeBuilder;
+use html_tree_builder::utf8::Utf8LossyDecoder;
+use html_tree_builder::{Arena, LocalName, Namespace, NodeId, ParseOpts, QualName, namespaces};
+use std::alloc::{AllocError, Global};
+use std::io::Read;
+
+// The name of a context: HTML's, or behind `svg ` or `math ` one of SVG or MathML.
+fn context_name(alloc: Global, text: &str) -> Result<QualName, AllocError> {
+    let (url, local) = match text.split_once(' ') {
+        Some(("svg", local)) => (namespaces::SVG, local),
+        Some(("math", local)) => (namespaces::MATHML, local),
+        _ => (namespaces::HTML, text),
+    };
+    let local = LocalName::new(alloc, local)?;
+    Ok(QualName::new(None, Namespace::new(alloc, url)?, local))
+}
+
+// A parser of a document, or of a fragment in this context.
+fn parser_in(alloc: Global, context: Option<&str>) -> Result<Parser<Arena>, Fault> {
+    let arena = Arena::without_errors(alloc)?;
+    let opts = ParseOpts::default();
+    match context {
+        None => Ok(parse_document(alloc, arena, opts)),
+        Some(context) => {
+            let name = context_name(alloc, context)?;
+            let parser = parse_fragment(alloc, arena, opts, name, Vec::new(alloc), true)?;
+            Ok(parser)
+        }
+    }
+}
+
+// The next bytes of an input, which are put into this memory; none at its end.
+fn next_bytes<'c, R: Read>(input: &mut R, chunk: &'c mut Vec<u8>) -> Result<&'c [u8], Fault> {
+    let count = input.read(chunk.as_mut_slice()).map_err(Fault::Read)?;
+    Ok(&chunk.as_slice()[..count])
+}
+
+// Hands all that can be read to a parser.
+fn read_all<R: Read>(
+    rt: &HostRuntime,
+    parser: &mut Utf8Parser<Arena>,
+    input: &mut R,
+) -> Result<(), Fault> {
+    let mut chunk = vec![in rt.alloc(); 0u8; 65_536]?;
+    let mut progress = Progress::new(rt);
+    for _ in 0..u64::MAX {
+        let bytes = next_bytes(input, &mut chunk)?;
+        if bytes.is_empty() {
+            break;
+        }
+        progress.add(rt, bytes.len());
+        parser.process(bytes)?;
+    }
+    progress.finish(rt);
+    Ok(())
+}
+
+/// The tree of a page.
+pub fn tree_of<R: Read>(
+    rt: &HostRuntime,
+    context: Option<&str>,
+    input: &mut R,
+) -> Result<Arena, Fault> {
+    let mut parser = parser_in(rt.alloc(), context)?.from_utf8();
+    read_all(rt, &mut parser, input)?;
+    Ok(parser.finish()?)
+}
+
+type Builder = TreeBuilder<NodeId, Arena>;
+
+type Reader = Tokenizer<Written<Builder>>;
+
+fn reader_over(alloc: Global, builder: Builder, opts: TokenizerOpts) -> Reader {
+    let sink = Written {
+        sink: builder,
+        text: String::new(alloc),
+    };
+    Tokenizer::new(alloc, sink, opts)
+}
+
+// A reader over a builder of a fragment in this element, whose state the context tells.
+fn reader_in_element(alloc: Global, arena: Arena, element: NodeId) -> Result<Reader, Fault> {
+    let opts = ParseOpts::default();
+    if !arena.holds(element) {
+        return Err(Fault::Memory);
+    }
+    match arena.name(element) {
+        Some(_) => {
+            let builder = TreeBuilder::new_for_fragment(
+                alloc,
+                arena,
+                element,
+                None,
+                opts.tree_builder,
+            )?;
+            let state = builder.tokenizer_state_for_context_elem(true);
+            Ok(reader_over(alloc, builder, opts.tokenizer.beginning_in(state)))
+        }
+        None => Err(Fault::Memory),
+    }
+}
+
+fn reader_in(alloc: Global, context: Option<&str>) -> Result<Reader, Fault> {
+    let mut arena = Arena::without_errors(alloc)?;
+    match context {
+        None => {
+            let opts = ParseOpts::default();
+            let builder = TreeBuilder::new(alloc, arena, opts.tree_builder);
+            Ok(reader_over(alloc, builder, opts.tokenizer))
+        }
+        Some(context) => {
+            let name = context_name(alloc, context)?;
+            let element = create_element(&mut arena, name, Vec::new(alloc))?;
+            reader_in_element(alloc, arena, element)
+        }
+    }
+}
+
+// Feeds a piece, and again where an answer stopped the reader.
+fn feed(reader: &mut Reader, queue: &mut BufferQueue, piece: String) -> Result<(), Fault> {
+    queue.push_back(piece)?;
+    for _ in 0..u64::MAX {
+        if let TokenizerResult::Done = reader.feed(queue)? {
+            break;
+        }
+    }
+    Ok(())
+}
+
+// Feeds all that can be read.
+fn feed_all<R: Read>(rt: &HostRuntime, reader: &mut Reader, input: &mut R) -> Result<(), Fault> {
+    let alloc = rt.alloc();
+    let mut chunk = vec![in alloc; 0u8; 65_536]?;
+    let mut decoder = Utf8LossyDecoder::new(alloc);
+    let mut queue = BufferQueue::new(alloc);
+    for _ in 0..u64::MAX {
+        let bytes = next_bytes(input, &mut chunk)?;
+        if bytes.is_empty() {
+            break;
+        }
+        feed(reader, &mut queue, decoder.decode(bytes)?)?;
+    }
+    let rest = String::from_str(alloc, decoder.finish())?;
+    feed(reader, &mut queue, rest)?;
+    Ok(reader.end()?)
+}
+
+/// The tokens of a page, a line for each.
+pub fn tokens_of<R: Read>(
+    rt: &HostRuntime,
+    context: Option<&str>,
+    input: &mut R,
+) -> Result<Vec<u8>, Fault> {
+    let mut reader = reader_in(rt.alloc(), context)?;
+    feed_all(rt, &mut reader, input)?;
+    Ok(reader.sink.text.into_bytes())
+}
