@@ -2,6 +2,7 @@ pub mod CodeLaws
 pub mod DeedLaws
 pub mod FlushLaws
 pub mod QuietLaws
+pub mod QuotedLaws
 pub mod ReferenceLaws
 pub mod AheadLaws
 pub mod AsciiLaws
@@ -9,7 +10,9 @@ pub mod CountLaws
 pub mod CutLaws
 pub mod DoctypeLaws
 pub mod FoldLaws
+pub mod NameLaws
 pub mod NameRunLaws
+pub mod MoreLaws
 pub mod PassLaws
 pub mod RunLaws
 pub mod TextLaws

@@ -35,7 +35,7 @@ use Rattle.h5_machine.specs.Runs.{is_in, run_of, run_of_text, run_of_text_state,
 use Rattle.h5_machine.proofs.AsciiLaws.{wide_not, wide_blank}
 use Rattle.h5_machine.proofs.TextLaws.{not_ended}
 
-neither : (a b : Bool) → (a || b) ≡ false → (a ≡ false) × (b ≡ false)
+pub neither : (a b : Bool) → (a || b) ≡ false → (a ≡ false) × (b ≡ false)
 neither true b h = absurd (false≢true (sym h))
 neither false b h = (refl, h)
 

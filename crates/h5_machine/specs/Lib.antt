@@ -7,3 +7,4 @@ pub mod MachineText
 pub mod Wide
 pub mod Ending
 pub mod Runs
+pub mod Quoted

@@ -17,3 +17,8 @@ pub record Parts : Type 0 where
 abbrev pub current_of : Bool → List ℕ → List ℕ → Option Attribute
 current_of true name value = Some (record { name = name; value = value })
 current_of false name value = None
+
+-- a name so far: what was made of it, or else what came of it
+abbrev pub name_so_far : Option (List ℕ) → List ℕ → List ℕ
+name_so_far (Some name) text = name
+name_so_far None text = text

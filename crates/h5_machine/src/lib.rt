@@ -1,9 +1,10 @@
 //! The machine that reads all of HTML: the standard's 80 states, in code (HTML standard, section 13.2.5).
 //!
 //! `at` has the states, and `moved` what a row does. `texts`, `tags`, `comments`, `doctypes` and `references` have the rows,
-//! as the pages of `h5_states` of the same names have them: a row takes one byte. `tag` has a tag under construction, and
-//! `codes` what numbers stand for. `machine` has a state with what is under construction in it, and `ending` what it leaves at
-//! the end. `runs` has the bytes that a state only adds, which are taken at once.
+//! as the pages of `h5_states` of the same names have them: a row takes one byte. `tag` has a tag under construction,
+//! `open_name` a name so far, and `codes` what numbers stand for. `machine` has a state with what is under construction in it, and
+//! `ending` what it leaves at the end. `runs` has the bytes that a state only adds, which are taken at once, and `quoted` the
+//! attributes that are.
 //!
 //! It hands nothing on itself: `h5_standard` does. Begin with `src/machine.rt`, then read a chapter beside its definition.
 #![tactic(auto)]
@@ -15,6 +16,8 @@ mod doctypes;
 mod ending;
 mod machine;
 mod moved;
+mod open_name;
+mod quoted;
 mod references;
 mod runs;
 mod signs;

@@ -12,7 +12,7 @@ ghost use Rattle.h5_states.specs.States.{Text};
 ghost use Rattle.h5_machine.specs.DeedOf.{Does};
 ghost use Rattle.h5_machine.specs.MachineText.{asks_in, hands_null, place_of, Takes, PassesRun, IsQuiet};
 ghost use Rattle.h5_machine.specs.Parts.{Parts};
-ghost use Rattle.h5_machine.specs.Runs.{at_behind, parts_behind, put_by, place_behind_run};
+ghost use Rattle.h5_machine.specs.Runs.{are_in, at_behind, parts_behind, put_by, place_behind_run, run_of};
 ghost use Rattle.h5_machine.specs.StateOf.{state_of};
 ghost use Rattle.h5_machine.specs.Wide.{takes_wide};
 
@@ -22,6 +22,7 @@ use super::at::{
 use super::comments::comment_turn;
 use super::doctypes::{doctype_turn, nameless};
 use super::moved::{Construct, Moved};
+use super::quoted::find_quoted;
 use super::references::{OpenReference, reference_turn};
 use super::runs::{
     add_doctype_run, add_reference_run, add_tag_run, add_text_run, at_behind, count_run, run_of,
@@ -349,12 +350,13 @@ impl Machine {
 
     // Adds a run to a text or to what is under construction.
     fn add_run(&mut self, front: &str, out: &mut String) -> Result<(), AllocError>
+        requires { are_in (run_of self.old.at) front.now ≡ true }
         ensures parts { OnOk result (self.new ≡ record self.old { parts = parts_behind self.old.at front.now self.old.parts }) }
         ensures put { OnOk result (string_bytes out.new ≡ string_bytes out.old ++ put_by self.old.at front.now) }
     {
         match self.at {
             At::Text(state) => add_text_run(state, front, &mut self.buffer, out),
-            At::Tag(state) => add_tag_run(state, front, &mut self.tag),
+            At::Tag(state) => add_tag_run(state, front, &mut self.tag, &mut self.names),
             At::Comment(_) => self.comment.push_str(front),
             At::Doctype(state) => {
                 let empty = String::new(*self.comment.allocator());
@@ -402,8 +404,8 @@ impl Machine {
         Ok(behind)
     }
 
-    /// Takes the run at the front, and gives what follows it. What it emits is added to a text.
-    pub fn take_run<'a>(&mut self, rest: &'a str, out: &mut String) -> Result<&'a str, AllocError>
+    // Takes the run at the front, and gives what follows it. What it emits is added to a text.
+    fn take_bytes<'a>(&mut self, rest: &'a str, out: &mut String) -> Result<&'a str, AllocError>
         ensures passes { IfOk result (λ after. PassesRun self.old rest.now (string_bytes out.old) (string_bytes out.new) self.new after.now) }
         ensures narrow { IfOk result (λ after. takes_wide self.new.at ≡ true → 0 < length after.now → slice_index after.now 0 < 128) }
     {
@@ -423,6 +425,36 @@ impl Machine {
         Ok(behind)
     }
 
+    // Takes the attribute at the front, where it is written with quotes, and gives what follows it.
+    fn take_quoted<'a>(&mut self, rest: &'a str) -> Result<&'a str, AllocError>
+        requires { self.old.at ≡ At.Tag TagState.BeforeAttributeName }
+        ensures passes { IfOk result (λ after. (out : List ℕ) → PassesRun self.old rest.now out out self.new after.now) }
+        ensures narrow { OnOk result (takes_wide self.new.at ≡ false) }
+    {
+        let Some(found) = find_quoted(rest) else {
+            return Ok(rest);
+        };
+        self.tag
+            .push_quoted(&mut self.names, found.name, found.value)?;
+        self.after_return = false;
+        self.line = self.line().saturating_add(found.lines);
+        self.at = At::Tag(TagState::AfterAttributeValueQuoted);
+        Ok(found.rest)
+    }
+
+    /// Takes the run at the front, and an attribute behind it that is written with quotes, and gives what follows. What they
+    /// emit is added to a text.
+    pub fn take_run<'a>(&mut self, rest: &'a str, out: &mut String) -> Result<&'a str, AllocError>
+        ensures passes { IfOk result (λ after. PassesRun self.old rest.now (string_bytes out.old) (string_bytes out.new) self.new after.now) }
+        ensures narrow { IfOk result (λ after. takes_wide self.new.at ≡ true → 0 < length after.now → slice_index after.now 0 < 128) }
+    {
+        let behind = self.take_bytes(rest, out)?;
+        match self.at {
+            At::Tag(TagState::BeforeAttributeName) => self.take_quoted(behind),
+            _ => Ok(behind),
+        }
+    }
+
     // Whether the state is that of data.
     fn is_in_data(&self) -> bool
         ensures { result ≡ true → self.now.at ≡ At.Text (TextState.Text TextKind.Data) }
@@ -435,7 +467,9 @@ impl Machine {
 
     /// Whether a tag that is nothing but its name may stand at the front. Such a tag is passed at once.
     #[inline(always)]
-    pub fn may_be_bare(&self, rest: &str) -> bool {
+    pub fn may_be_bare(&self, rest: &str) -> bool
+        ensures { result ≡ true → self.now.at ≡ At.Text (TextState.Text TextKind.Data) }
+    {
         match rest.as_bytes() {
             [b'<', b'/', ..] => self.is_in_data(),
             [b'<', b, ..] => b.is_ascii_alphabetic() && self.is_in_data(),

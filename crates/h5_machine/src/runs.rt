@@ -13,6 +13,7 @@ use super::at::{
 use super::doctypes::{new_doctype, push_doctype_name, push_identifier};
 use super::signs::{is_alphanumeric, is_blank, is_name_end, push_lowered, sign_of};
 use super::tag::OpenTag;
+use h5_markup::SharedNames;
 use h5_reading::count_plain;
 use h5_states::{Quote, TextKind};
 use h5_token::Doctype;
@@ -292,12 +293,18 @@ pub fn add_text_run(
 }
 
 /// Adds a run to a tag. Blanks are added nowhere.
-pub fn add_tag_run(state: TagState, front: &str, tag: &mut OpenTag) -> Result<(), AllocError>
+pub fn add_tag_run(
+    state: TagState,
+    front: &str,
+    tag: &mut OpenTag,
+    names: &mut SharedNames,
+) -> Result<(), AllocError>
+    requires { are_in (run_of_tag state) front.now ≡ true }
     ensures { OnOk result (tag.new ≡ tag_behind state front.now tag.old) }
 {
     match state {
-        TagState::TagName => tag.push_name(front),
-        TagState::AttributeName => tag.push_attribute(front),
+        TagState::TagName => tag.push_name_run(names, front),
+        TagState::AttributeName => tag.push_attribute_run(names, front),
         TagState::AttributeValue(_) => tag.push_value(front),
         _ => Ok(()),
     }

@@ -1,11 +1,13 @@
 //! A tag under construction.
 
-ghost use Rattle.std.specs.Prelude.{◌≡◌, ◌<◌, [], ◌∷◌, ◌++◌, OnOk, IfOk, map, string_bytes, encode_utf8};
+ghost use Rattle.std.specs.Prelude.{◌≡◌, ◌<◌, true, [], ◌∷◌, ◌++◌, OnOk, IfOk, map, encode_utf8};
 ghost use Rattle.std.specs.Char.{to_ascii_lowercase};
+ghost use Rattle.h5_machine.specs.Runs.{are_in};
 
-use super::signs::{push_byte, push_lowered};
-use h5_markup::Keeping;
-use h5_names::LocalName;
+use super::open_name::OpenName;
+use super::runs::Run;
+use super::signs::push_byte;
+use h5_markup::{Keeping, SharedNames};
 use h5_token::{Tag, TagKind};
 use std::alloc::{AllocError, Global};
 use std::marker::Model;
@@ -15,12 +17,12 @@ use std::mem;
 #[derive(Drop)]
 pub struct OpenTag {
     kind: TagKind,
-    name: String,
+    name: OpenName,
     self_closing: bool,
     kept: Keeping,
     // Whether there is a current attribute.
     in_attribute: bool,
-    attribute: String,
+    attribute: OpenName,
     value: String,
 }
 
@@ -34,11 +36,11 @@ impl Model for OpenTag {
 
     ghost view = { λ t. record {
       kind = t.kind;
-      name = string_bytes t.name;
+      name = t.name;
       self_closing = t.self_closing;
       attrs = attribute_texts t.kept.attributes.items;
       duplicates = t.kept.duplicates;
-      current = current_of t.in_attribute (string_bytes t.attribute) (string_bytes t.value);
+      current = current_of t.in_attribute t.attribute (string_bytes t.value);
     } };
 }
 
@@ -53,11 +55,11 @@ impl OpenTag {
     {
         OpenTag {
             kind: TagKind::StartTag,
-            name: String::new(alloc),
+            name: OpenName::new(alloc),
             self_closing: false,
             kept: Keeping::new(alloc, 1),
             in_attribute: false,
-            attribute: String::new(alloc),
+            attribute: OpenName::new(alloc),
             value: String::new(alloc),
         }
     }
@@ -66,7 +68,7 @@ impl OpenTag {
     pub fn begin(&mut self, kind: TagKind)
         ensures { self.new ≡ new_tag kind [] }
     {
-        let alloc = *self.name.allocator();
+        let alloc = *self.value.allocator();
         self.kind = kind;
         self.name.clear();
         self.self_closing = false;
@@ -78,7 +80,15 @@ impl OpenTag {
     pub fn push_name(&mut self, more: &str) -> Result<(), AllocError>
         ensures { OnOk result (self.new ≡ named_further (map to_ascii_lowercase more.now) self.old) }
     {
-        push_lowered(&mut self.name, more)
+        self.name.push(more)
+    }
+
+    /// Its name goes on by a run, letters in lower case.
+    pub fn push_name_run(&mut self, names: &mut SharedNames, run: &str) -> Result<(), AllocError>
+        requires { are_in Run.Name run.now ≡ true }
+        ensures { OnOk result (self.new ≡ named_further (map to_ascii_lowercase run.now) self.old) }
+    {
+        self.name.push_run(names, run)
     }
 
     /// Its name goes on by an ASCII byte, a letter in lower case.
@@ -86,7 +96,7 @@ impl OpenTag {
         requires { b < 128 }
         ensures { OnOk result (self.new ≡ named_further (to_ascii_lowercase b ∷ []) self.old) }
     {
-        push_byte(&mut self.name, b.to_ascii_lowercase())
+        self.name.push_byte(b)
     }
 
     /// The current attribute is complete. It is dropped where its name stands in the tag already.
@@ -96,8 +106,8 @@ impl OpenTag {
         if !self.in_attribute {
             return Ok(());
         }
-        let alloc = *self.name.allocator();
-        let name = LocalName::new(alloc, self.attribute.as_str())?;
+        let alloc = *self.value.allocator();
+        let name = self.attribute.take()?;
         let value = mem::replace(&mut self.value, String::new(alloc));
         self.in_attribute = false;
         self.kept.keep_finished(name, value)
@@ -118,7 +128,34 @@ impl OpenTag {
     pub fn push_attribute(&mut self, more: &str) -> Result<(), AllocError>
         ensures { OnOk result (self.new ≡ attribute_named_further (map to_ascii_lowercase more.now) self.old) }
     {
-        push_lowered(&mut self.attribute, more)
+        self.attribute.push(more)
+    }
+
+    /// The current attribute's name goes on by a run, letters in lower case.
+    pub fn push_attribute_run(
+        &mut self,
+        names: &mut SharedNames,
+        run: &str,
+    ) -> Result<(), AllocError>
+        requires { are_in Run.Name run.now ≡ true }
+        ensures { OnOk result (self.new ≡ attribute_named_further (map to_ascii_lowercase run.now) self.old) }
+    {
+        self.attribute.push_run(names, run)
+    }
+
+    /// A new attribute is started, of this name and this value.
+    pub fn push_quoted(
+        &mut self,
+        names: &mut SharedNames,
+        name: &str,
+        value: &str,
+    ) -> Result<(), AllocError>
+        requires { are_in Run.Name name.now ≡ true }
+        ensures { OnOk result (self.new ≡ value_further value.now (attribute_named_further (map to_ascii_lowercase name.now) (with_attribute [] self.old))) }
+    {
+        self.begin_attribute()?;
+        self.push_attribute_run(names, name)?;
+        self.push_value(value)
     }
 
     /// The current attribute's name goes on by an ASCII byte, a letter in lower case.
@@ -126,7 +163,7 @@ impl OpenTag {
         requires { b < 128 }
         ensures { OnOk result (self.new ≡ attribute_named_further (to_ascii_lowercase b ∷ []) self.old) }
     {
-        push_byte(&mut self.attribute, b.to_ascii_lowercase())
+        self.attribute.push_byte(b)
     }
 
     /// The current attribute's value goes on so.
@@ -162,8 +199,8 @@ impl OpenTag {
     pub fn take(&mut self) -> Result<Tag, AllocError>
         ensures { IfOk result (λ tag. TagIs (tag_text tag) ≡ token_of self.old) }
     {
-        let alloc = *self.name.allocator();
-        let name = LocalName::new(alloc, self.name.as_str())?;
+        let alloc = *self.value.allocator();
+        let name = self.name.take()?;
         let kept = mem::replace(&mut self.kept, Keeping::new(alloc, 1));
         Ok(Tag {
             kind: self.kind,

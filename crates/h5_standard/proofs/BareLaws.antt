@@ -1,6 +1,6 @@
 -- The rows over a tag that is nothing but its name hand that tag on.
 use Rattle.std.specs.Borrow.{Bor}
-use Rattle.std.proofs.Common.{◌≡◌, ℕ, zero, suc, ◌-◌, ◌^◌, ◌<◌, ◌≤◌, Bool, true, false, ◌==◌, ◌&&◌, List, [], ◌∷◌, ◌++◌, length, map, take, drop, slice_index, refl, sym, ap, ◌∙◌, subst, arith, inl, length-drop, if◌then◌else◌, Result, Ok, Err, Option, Some, None}
+use Rattle.std.proofs.Common.{◌≡◌, ℕ, zero, suc, ◌-◌, ◌^◌, ◌<◌, ◌≤◌, Bool, true, false, ◌==◌, ◌&&◌, List, [], ◌∷◌, ◌++◌, length, map, take, drop, slice_index, refl, sym, ap, ◌∙◌, subst, arith, length-drop, if◌then◌else◌, Result, Ok, Err, Option, Some, None}
 use Rattle.std.proofs.lemmas.Bool.Decides.{nat_tests}
 use Rattle.std.proofs.lemmas.List.{length-take-le}
 use Rattle.std.specs.Char.{is_ascii_alphabetic, to_ascii_lowercase}
@@ -11,10 +11,7 @@ use Rattle.h5_token.specs.declared.tag.TagKind.{TagKind}
 use Rattle.h5_token.specs.declared.tag.TagKind.TheVariants.{StartTag, EndTag}
 use Rattle.h5_markup.specs.Bare.{bare_tag, IsBare, IsBareTag}
 use Rattle.h5_markup.specs.Cuts.{is_in}
-use Rattle.h5_markup.specs.Matching.{No}
-use Rattle.h5_markup.specs.Text.{text_of, escape}
 use Rattle.h5_markup.specs.declared.cut.Class.TheVariants.{NameEnd}
-use Rattle.h5_markup.proofs.TextLaws.{one_byte, text_nil}
 use Rattle.h5_reading.specs.declared.stop.Stop.{Stop}
 use Rattle.h5_reading.specs.Lines.{newlines}
 use Rattle.h5_reading.proofs.LineLaws.{line_none}
@@ -34,6 +31,7 @@ use Rattle.h5_machine.specs.declared.at.At.TheVariants as at
 use Rattle.h5_machine.specs.declared.at.TextState.TheVariants as text_state
 use Rattle.h5_machine.specs.declared.at.TagState.TheVariants as g
 use Rattle.h5_machine.specs.declared.runs.Run.TheVariants as run
+use Rattle.h5_machine.proofs.NameLaws.{name_is_lowered}
 use Rattle.h5_machine.proofs.PassLaws.{behind_run, run_passed}
 use Rattle.h5_standard.specs.Steps.{Holds, HandsOn, Leads, Fails, Makes, IsLess, turn_of}
 use Rattle.h5_standard.proofs.HoldLaws.{holds_more, no_text_is_handed_on, token_is_handed_on, leads}
@@ -67,13 +65,6 @@ no_feed x h = grind (arith, nat_tests)
 
 not_ended : (x : ℕ) → is_in NameEnd x ≡ false → is_name_end x ≡ false
 not_ended x h = grind (arith, nat_tests)
-
--- a name is read as it is written, in lower case
-name_text : (xs : List ℕ) → AreNameBytes xs → text_of false xs ≡ xs
-name_text [] h = text_nil false
-name_text (x ∷ xs) h =
-    let none : escape false (x ∷ xs) ≡ No = simp (no_return x h.0.high, no_nul x h.0.high) in
-    one_byte false x xs (inl none) ∙ ap (λ l. x ∷ l) (name_text xs h.1)
 
 in_name : (xs : List ℕ) → AreNameBytes xs → are_in run.Name xs ≡ true
 in_name [] h = refl
@@ -197,7 +188,7 @@ bare_shorter xs EndTag name rest t =
 
 -- its token
 made_bare : (kind : TagKind) (xs inner name rest : List ℕ) → AreNameBytes name → token_of (new_tag kind (map to_ascii_lowercase name)) ≡ bare_tag kind name
-made_bare kind xs inner name rest h = ap (λ l. token_of (new_tag kind (map to_ascii_lowercase l))) (sym (name_text name h))
+made_bare kind xs inner name rest h = ap (λ l. token_of (new_tag kind l)) (sym (name_is_lowered name (in_name name h)))
 
 name_of_bare : (xs : List ℕ) (kind : TagKind) (name rest : List ℕ) → IsBareTag xs kind name rest → AreNameBytes name
 name_of_bare xs kind name rest t = (parted t.inner name rest t.bare).bytes

@@ -1,5 +1,5 @@
 -- A text that is held grows, and is handed on.
-use Rattle.std.proofs.Common.{◌≡◌, ℕ, Bool, false, List, [], ◌∷◌, ◌++◌, refl, sym, subst, append_assoc, if◌then◌else◌, Result, Ok, Err, Option, Some, None}
+use Rattle.std.proofs.Common.{◌≡◌, ℕ, Bool, false, List, [], ◌∷◌, ◌++◌, refl, sym, subst, if◌then◌else◌, Result, Ok, Err, Option, Some, None}
 use Rattle.h5_token.specs.TokenText.{TokenText, Characters}
 use Rattle.h5_token.specs.Reply.{Reply, Continues, Refuses}
 use Rattle.h5_token.specs.declared.fault.BuildFault.{BuildFault}
@@ -9,16 +9,9 @@ use Rattle.h5_states.specs.ReferenceTable.{references}
 use Rattle.h5_states.specs.declared.errors.ParseError.{ParseError}
 use Rattle.h5_states.specs.Turn.{Hands, Asks}
 use Rattle.h5_states.specs.States.{State}
-use Rattle.h5_states.specs.Reading.{Place, Passes, passed, drops, goes, again, Step, quiet_step, text_step, token_step, ask_step, nothing_read, read_on, is_dropped, deed, behind, after_token}
+use Rattle.h5_states.specs.Reading.{Place, Passes, passed, Step, quiet_step, text_step, token_step, ask_step, nothing_read, read_on, is_dropped, deed, behind, after_token}
+use Rattle.h5_machine.proofs.MoreLaws.{passes_more}
 use Rattle.h5_standard.specs.Steps.{Stopped, ReadsOn, Holds, RefusedAt, HandsOn, Leads}
-
--- bytes that are passed, and then more
-pub passes_more : {p q r : Place} {xs ys zs text more : List ℕ} → Passes references p xs text q ys → Passes references q ys more r zs
-    → Passes references p xs (text ++ more) r zs
-passes_more passed h = h
-passes_more (drops d g) h = drops d (passes_more g h)
-passes_more (goes text state d e g) h = rw append_assoc (goes text state d e (passes_more g h))
-passes_more (again text state d e g) h = rw append_assoc (again text state d e (passes_more g h))
 
 module _ {M : Type 0} (reply_to : M → TokenText → Reply) (after : M → TokenText → ℕ → M) (foreign : M → Bool) where
   -- a reading, and a step behind it

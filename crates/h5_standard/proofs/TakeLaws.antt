@@ -1,7 +1,7 @@
 -- What the machine does with a byte, and with a run, as reading.
 use Rattle.std.specs.Borrow.{Bor}
 use Rattle.std.proofs.lemmas.Bool.{and_parts, cases_lt, eqb-true}
-use Rattle.std.proofs.Common.{◌≡◌, ◌⊎◌, ⊎_elim, inl, inr, ℕ, ◌<◌, ◌≤◌, ◌==◌, ap, arith, drop, slice_index, Bool, true, false, List, [], ◌∷◌, ◌++◌, refl, sym, subst, append-nil, append_assoc, ◌∙◌, Result, Ok, Err, Option, Some, None, if◌then◌else◌}
+use Rattle.std.proofs.Common.{◌≡◌, ◌⊎◌, ⊎_elim, inl, inr, ℕ, ◌<◌, ◌≤◌, ◌==◌, ap, arith, drop, slice_index, Bool, true, false, List, [], ◌∷◌, refl, sym, subst, append-nil, ◌∙◌, Result, Ok, Err, Option, Some, None, if◌then◌else◌}
 use Rattle.h5_token.specs.TokenText.{TokenText}
 use Rattle.h5_token.specs.Reply.{Reply}
 use Rattle.h5_token.specs.declared.fault.BuildFault.{BuildFault}
@@ -25,7 +25,7 @@ use Rattle.h5_standard.specs.Steps.{ReadsOn, Holds, HandsOn, Fails, Leads, Makes
 use Rattle.h5_standard.specs.declared.steps.Turn.{Turn}
 use Rattle.h5_standard.specs.declared.steps.Turn.TheVariants as turn
 use Rattle.h5_standard.proofs.WeightLaws.{passes_is_no_more, reconsumed_is_less}
-use Rattle.h5_standard.proofs.HoldLaws.{passes_more, holds_more, holds_none, empty_is_handed_on, token_is_handed_on, node_is_asked_for, leads}
+use Rattle.h5_standard.proofs.HoldLaws.{holds_more, holds_none, empty_is_handed_on, token_is_handed_on, node_is_asked_for, leads}
 
 passes_to : {p q r : Place} {xs text more ys : List ℕ} → r ≡ q → more ≡ text → Passes references p xs text q ys → Passes references p xs more r ys
 passes_to {p} {q} {r} {xs} {text} {more} {ys} e f h = subst (λ s. Passes references p xs more s ys) (sym e) (subst (λ t. Passes references p xs t q ys) (sym f) h)
@@ -61,16 +61,6 @@ took_reconsumed m n x old new rest front c = record {
   passes = subst (λ r. Passes references (place_of m) r c.text (place_of n) r) (sym front) (reconsumed_passes (drop 1 rest) c);
   put = c.put;
 }
-
-pub took_more : {m n o : MachineText} {xs ys zs old mid new : List ℕ} → PassesRun m xs old mid n ys → PassesRun n ys mid new o zs → PassesRun m xs old new o zs
-took_more {old} a b = record {
-  text = a.text ++ b.text;
-  passes = passes_more a.passes b.passes;
-  put = b.put ∙ ap (λ l. l ++ b.text) a.put ∙ append_assoc old a.text b.text;
-}
-
-pub took_none : (m : MachineText) (xs old : List ℕ) → PassesRun m xs old old m xs
-took_none m xs old = record { text = []; passes = passed; put = sym (append-nil old) }
 
 pub passes_less : {m n : MachineText} {xs ys old new : List ℕ} → PassesRun m xs old new n ys → weight (place_of n) ys ≤ weight (place_of m) xs
 passes_less c = passes_is_no_more c.passes

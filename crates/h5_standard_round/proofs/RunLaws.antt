@@ -6,7 +6,7 @@ use Rattle.h5_states.specs.Machine.{turn}
 use Rattle.h5_states.specs.Reading.{Place, Passes, passed, goes, again, behind, in_state, is_dropped, deed}
 use Rattle.h5_states.specs.States.{State}
 use Rattle.h5_states.specs.Turn.{Again, Asks, Deed, Goes, Hands}
-use Rattle.h5_standard.proofs.HoldLaws.{passes_more}
+use Rattle.h5_machine.proofs.MoreLaws.{passes_more}
 
 -- a place in a state, where the byte before was no CR
 pub record IsIn (p : Place) (state : State) : Type 0 where

@@ -28,7 +28,7 @@ use Rattle.h5_round.proofs.AttributeLaws.{no_duplicates, written_plain}
 use Rattle.h5_round.proofs.NameLaws.{NameByte, name_byte}
 use Rattle.h5_round.proofs.TagLaws.{IsTagName}
 use Rattle.h5_standard_round.proofs.ReferenceLaws.{InValue}
-use Rattle.h5_standard.proofs.HoldLaws.{passes_more}
+use Rattle.h5_machine.proofs.MoreLaws.{passes_more}
 use Rattle.h5_standard_round.proofs.RunLaws.{IsIn, Moves, again_by, deed_at, goes_by, kept, moves_then, rows, rows_move, stays}
 use Rattle.h5_standard_round.proofs.TextLaws.{text_reads}
 

@@ -1,9 +1,11 @@
 use Rattle.std.proofs.Common.{IsUtf8, subst, arith}
-use Rattle.h5_standard.proofs.TakeLaws.{passes_less, took_more, took_none}
+use Rattle.h5_machine.proofs.MoreLaws.{took_more}
+use Rattle.h5_machine.proofs.PassLaws.{took_nothing}
+use Rattle.h5_standard.proofs.TakeLaws.{passes_less}
 use Rattle.h5_standard.proofs.steps.pass.Goals as goal
 
 pub bytes-init : goal.bytes-init
-bytes-init c = record { utf8 = c.utf8.piece; passes = took_none _ _ _ }
+bytes-init c = record { utf8 = c.utf8.piece; passes = took_nothing _ _ _ }
 
 pub returns-in_default-clause-passes : goal.returns-in_default-clause-passes
 returns-in_default-clause-passes c = took_more c.bytes.invariant.passes c.in_ok-behind.ensures.passes

@@ -1,0 +1,110 @@
+//! A name under construction.
+
+ghost use Rattle.std.specs.Prelude.{◌≡◌, ◌<◌, true, [], ◌∷◌, ◌++◌, None, OnOk, IfOk, map, string_bytes};
+ghost use Rattle.std.specs.Char.{to_ascii_lowercase};
+ghost use Rattle.h5_machine.specs.Parts.{name_so_far};
+ghost use Rattle.h5_machine.specs.Runs.{are_in};
+
+use super::runs::Run;
+use super::signs::{push_byte, push_lowered};
+use h5_markup::SharedNames;
+use h5_names::LocalName;
+use std::alloc::{AllocError, Global};
+use std::marker::Model;
+
+/// A name so far, letters in lower case. One that comes at once is made at once: it takes no memory where HTML knows it.
+#[derive(Drop)]
+pub struct OpenName {
+    // The name, where it came at once.
+    made: Option<LocalName>,
+    // What came of it, where it didn't.
+    text: String,
+}
+
+impl Model for OpenName {
+    ghost use Rattle.std.specs.Prelude.{ℕ, List, string_bytes};
+    ghost use Rattle.h5_machine.specs.Parts.{name_so_far};
+
+    ghost Value = { List ℕ };
+
+    ghost view = { λ n. name_so_far n.made (string_bytes n.text) };
+}
+
+// A name that was made is written down, so that it may go on.
+fn write_down(made: &mut Option<LocalName>, text: &mut String) -> Result<(), AllocError>
+    ensures made { OnOk result (made.new ≡ None) }
+    ensures text { OnOk result (string_bytes text.new ≡ name_so_far made.old (string_bytes text.old)) }
+{
+    if let Some(name) = made.take() {
+        text.clear();
+        text.push_str(name.as_str())?;
+    }
+    Ok(())
+}
+
+impl OpenName {
+    /// No name yet. It takes no memory.
+    pub fn new(alloc: Global) -> OpenName
+        ensures { result ≡ [] }
+    {
+        OpenName {
+            made: None,
+            text: String::new(alloc),
+        }
+    }
+
+    /// A new name, of which nothing came.
+    pub fn clear(&mut self)
+        ensures { self.new ≡ [] }
+    {
+        self.made = None;
+        self.text.clear();
+    }
+
+    // Whether nothing came of it.
+    fn is_empty(&self) -> bool
+        ensures { result ≡ true → self.now ≡ [] }
+    {
+        self.made.is_none() && self.text.is_empty()
+    }
+
+    /// It goes on so, letters in lower case.
+    pub fn push(&mut self, more: &str) -> Result<(), AllocError>
+        ensures { OnOk result (self.new ≡ self.old ++ map to_ascii_lowercase more.now) }
+    {
+        write_down(&mut self.made, &mut self.text)?;
+        push_lowered(&mut self.text, more)
+    }
+
+    /// It goes on by an ASCII byte, a letter in lower case.
+    pub fn push_byte(&mut self, b: u8) -> Result<(), AllocError>
+        requires { b < 128 }
+        ensures { OnOk result (self.new ≡ self.old ++ to_ascii_lowercase b ∷ []) }
+    {
+        write_down(&mut self.made, &mut self.text)?;
+        push_byte(&mut self.text, b.to_ascii_lowercase())
+    }
+
+    /// It goes on by a run of bytes that end no name, letters in lower case.
+    pub fn push_run(&mut self, names: &mut SharedNames, run: &str) -> Result<(), AllocError>
+        requires { are_in Run.Name run.now ≡ true }
+        ensures { OnOk result (self.new ≡ self.old ++ map to_ascii_lowercase run.now) }
+    {
+        if !self.is_empty() {
+            return self.push(run);
+        }
+        let alloc = *self.text.allocator();
+        self.made = Some(names.name(alloc, run)?);
+        Ok(())
+    }
+
+    /// The name, which is complete.
+    pub fn take(&mut self) -> Result<LocalName, AllocError>
+        ensures { IfOk result (λ name. name ≡ self.old) }
+    {
+        match self.made.take() {
+            Some(name) => Ok(name),
+            None => LocalName::new(*self.text.allocator(), self.text.as_str()),
+        }
+    }
+}
