@@ -142,13 +142,16 @@ fn feed_all<R: Read>(rt: &HostRuntime, reader: &mut Reader, input: &mut R) -> Re
     let mut chunk = vec![in alloc; 0u8; 65_536]?;
     let mut decoder = Utf8LossyDecoder::new(alloc);
     let mut queue = BufferQueue::new(alloc);
+    let mut progress = Progress::new(rt);
     for _ in 0..u64::MAX {
         let bytes = next_bytes(input, &mut chunk)?;
         if bytes.is_empty() {
             break;
         }
+        progress.add(rt, bytes.len());
         feed(reader, &mut queue, decoder.decode(bytes)?)?;
     }
+    progress.finish(rt);
     let rest = String::from_str(alloc, decoder.finish())?;
     feed(reader, &mut queue, rest)?;
     Ok(reader.end()?)
