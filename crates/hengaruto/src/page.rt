@@ -2,12 +2,14 @@
 use super::fault::Fault;
 use super::progress::Progress;
 use super::tokens::Written;
-use html_tree_builder::interface::create_element;
+use html_tree_builder::interface::{TreeSink, create_element};
 use html_tree_builder::standard::{
     BufferQueue, Parser, Tokenizer, TokenizerOpts, TokenizerResult, Utf8Parser, parse_document,
     parse_fragment,
 };
-use html_tree_builder::tree_builder::TreeBuilder;
+use html_tree_builder::token::BuildFault;
+use html_tree_builder::token::states::State;
+use html_tree_builder::tree_builder::{TreeBuilder, TreeBuilderOpts};
 use html_tree_builder::utf8::Utf8LossyDecoder;
 use html_tree_builder::{Arena, LocalName, Namespace, NodeId, ParseOpts, QualName, namespaces};
 use std::alloc::{AllocError, Global};
@@ -87,40 +89,34 @@ fn reader_over(alloc: Global, builder: Builder, opts: TokenizerOpts) -> Reader {
     Tokenizer::new(alloc, sink, opts)
 }
 
-// A reader over a builder of a fragment in this element, whose state the context tells.
-fn reader_in_element(alloc: Global, arena: Arena, element: NodeId) -> Result<Reader, Fault> {
-    let opts = ParseOpts::default();
-    if !arena.holds(element) {
-        return Err(Fault::Memory);
-    }
-    match arena.name(element) {
-        Some(_) => {
-            let builder = TreeBuilder::new_for_fragment(
-                alloc,
-                arena,
-                element,
-                None,
-                opts.tree_builder,
-            )?;
-            let state = builder.tokenizer_state_for_context_elem(true);
-            Ok(reader_over(alloc, builder, opts.tokenizer.beginning_in(state)))
-        }
-        None => Err(Fault::Memory),
-    }
+// A builder of a fragment in a new element of this name, and the state in which the fragment is read.
+fn builder_in<Sink: TreeSink + Drop>(
+    alloc: Global,
+    sink: Sink,
+    name: QualName,
+    opts: TreeBuilderOpts,
+) -> Result<(TreeBuilder<Sink::Handle, Sink>, State), BuildFault> {
+    let _document = sink.get_document();
+    let mut sink = sink;
+    let context = create_element(&mut sink, name, Vec::new(alloc))?;
+    let builder = TreeBuilder::new_for_fragment(alloc, sink, context, None, opts)?;
+    let state = builder.tokenizer_state_for_context_elem(true);
+    Ok((builder, state))
 }
 
+// A reader over a builder of a document, or of a fragment in this context.
 fn reader_in(alloc: Global, context: Option<&str>) -> Result<Reader, Fault> {
-    let mut arena = Arena::without_errors(alloc)?;
+    let arena = Arena::without_errors(alloc)?;
+    let opts = ParseOpts::default();
     match context {
         None => {
-            let opts = ParseOpts::default();
             let builder = TreeBuilder::new(alloc, arena, opts.tree_builder);
             Ok(reader_over(alloc, builder, opts.tokenizer))
         }
         Some(context) => {
             let name = context_name(alloc, context)?;
-            let element = create_element(&mut arena, name, Vec::new(alloc))?;
-            reader_in_element(alloc, arena, element)
+            let (builder, state) = builder_in(alloc, arena, name, opts.tree_builder)?;
+            Ok(reader_over(alloc, builder, opts.tokenizer.beginning_in(state)))
         }
     }
 }
