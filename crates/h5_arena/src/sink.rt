@@ -1,10 +1,10 @@
 //! The arena as a sink of a tree builder.
-ghost use Rattle.std.specs.Prelude.{◌≡◌, ◌≤◌, ◌<◌, ◌⊎◌, ◌++◌, ◌∷◌, [], IfOk, OnOk, OnErr, string_bytes, false, true};
+ghost use Rattle.std.specs.Prelude.{◌≡◌, ◌≤◌, ◌<◌, ◌⊎◌, ◌++◌, ◌∷◌, [], IfOk, MatchOption, OnOk, OnErr, string_bytes, false, true};
 ghost use Rattle.std.specs.Option.{option_map};
 ghost use Rattle.h5_names.specs.AttributeText.{attribute_texts};
 ghost use Rattle.h5_interface.specs.Forest.{CommentNode, InstructionNode, IsElement, IsNode};
 ghost use Rattle.h5_interface.specs.Seen.{CanAppend, CanAppendBasedOnParent, CanDetach, CanInsertBefore, CanReparent, after_add_attrs, after_append, after_append_before, after_append_by, after_append_doctype, after_associate, after_attach, after_create, after_create_element, after_option_copy, after_quirks, after_remove, after_reparent, after_started, child_of};
-ghost use Rattle.h5_arena.specs.ArenaModel.{ArenaView, KeepsErrors, arena_choices, place, seen_of};
+ghost use Rattle.h5_arena.specs.ArenaModel.{ArenaView, KeepsErrors, arena_choices, forest_seen, place, seen_of};
 
 use super::link::Link;
 use super::nodes::{Kind, NodeId};
@@ -87,6 +87,7 @@ impl TreeSink for Arena {
         }
     }
 
+    /// The new node is an element of the arena.
     fn create_element(
         &mut self,
         name: QualName,
@@ -94,6 +95,7 @@ impl TreeSink for Arena {
         flags: ElementFlags,
     ) -> Result<NodeId, AllocError>
         ensures handle { IfOk result (λ handle. handle.index ≡ arena_choices.fresh (seen_of self.old).forest) }
+        ensures element { IfOk result (λ handle. IsElement (forest_seen self.new) handle.index) }
         ensures ok { OnOk result
             (seen_of self.new ≡ after_create_element arena_choices name (attribute_texts attrs.items) flags (seen_of self.old)) }
         ensures err { OnErr result (seen_of self.new ≡ seen_of self.old) }
@@ -278,6 +280,7 @@ impl TreeSink for Arena {
         requires target { IsElement (seen_of self.old).forest target.now.index }
         requires form { IsNode (seen_of self.old).forest form.now.index }
         requires place { IsNode (seen_of self.old).forest nodes.0.now.index }
+        requires outer { MatchOption nodes.1 (Unit {0}) (λ outer. IsNode (seen_of self.old).forest outer.now.index) }
         ensures associated { seen_of self.new ≡ after_associate arena_choices target.now.index form.now.index nodes.entry.0.now.index
             (option_map (λ outer. outer.now.index) nodes.entry.1) (seen_of self.old) }
         ensures errors { KeepsErrors self.old self.new }

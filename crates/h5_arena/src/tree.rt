@@ -1,5 +1,5 @@
 //! The arena, and the calls that read it.
-ghost use Rattle.std.specs.Prelude.{◌≡◌, ◌<◌, All, IfOk, IfSome, Some, length, nat_lt, option_copied};
+ghost use Rattle.std.specs.Prelude.{◌≡◌, ◌<◌, All, IfOk, IfSome, Some, length, nat_lt, option_copied, true};
 ghost use Rattle.h5_names.specs.AttributeText.{attribute_texts};
 
 use super::attribute_names::AttributeNames;
@@ -37,7 +37,8 @@ impl Model for Arena {
     ghost invariant = { λ a. IsArena a.names (forest_in a.nodes.items) };
 }
 
-ghost use Rattle.h5_arena.specs.ArenaModel.{ArenaView, IsChildHeld, IsHeld, at_node, child_parent, child_views, fragment_root, id_at, kind_view, name_of_kind, new_arena, optional_place, silent_arena, texts_of, value_of};
+ghost use Rattle.h5_interface.specs.Forest.{IsElement, IsNode};
+ghost use Rattle.h5_arena.specs.ArenaModel.{ArenaView, IsChildHeld, IsHeld, at_node, child_parent, child_views, forest_seen, fragment_root, id_at, kind_view, name_of_kind, new_arena, optional_place, silent_arena, texts_of, value_of};
 
 impl Arena {
     /// An arena that holds its document alone, with NoQuirks and no error, or an `AllocError` where memory
@@ -76,7 +77,8 @@ impl Arena {
 
     /// Whether this is a node of the arena.
     pub fn holds(&self, id: NodeId) -> bool
-        ensures { result ≡ nat_lt id.index (length self.now.nodes) }
+        ensures held { result ≡ nat_lt id.index (length self.now.nodes) }
+        ensures node { result ≡ true → IsNode (forest_seen self.now) id.index }
     {
         id.index < self.len()
     }
@@ -116,10 +118,11 @@ impl Arena {
         &*self.nodes[id.index].kind
     }
 
-    /// The name of an element, and nothing of any other node.
+    /// The name of an element, and nothing of any other node. What has a name is an element.
     pub fn name(&self, id: NodeId) -> Option<&QualName>
         requires { IsHeld self.now id }
-        ensures { at_node (λ d. name_of_kind d.kind) self.now id ≡ Some (option_copied result) }
+        ensures name { at_node (λ d. name_of_kind d.kind) self.now id ≡ Some (option_copied result) }
+        ensures element { IfSome result (λ _. IsElement (forest_seen self.now) id.index) }
     {
         let node = &self.nodes[id.index];
         match &*node.kind {

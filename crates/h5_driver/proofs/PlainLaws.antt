@@ -1,15 +1,16 @@
 -- The text of a plain document, taken by a parser.
-use Rattle.std.proofs.Common.{◌≡◌, ℕ, List, [], ◌∷◌, ◌++◌, map, refl, sym, ap, ◌∙◌, subst, Option, Some, None as Nothing, codes, Result, Ok, Err, IfOk}
+use Rattle.std.proofs.Common.{◌≡◌, ℕ, List, [], ◌∷◌, ◌++◌, map, refl, sym, ap, ◌∙◌, subst, Option, Some, None as Nothing, codes, false, Result, Ok, Err, IfOk}
 use Rattle.h5_token.specs.TokenText.{TokenText}
 use Rattle.h5_token.specs.declared.fault.BuildFault.{BuildFault}
 use Rattle.h5_interface.specs.Changes.{mark}
-use Rattle.h5_interface.specs.Forest.{Child, ChildNode, ChildText, DoctypeNode, DocumentNode, ElementNode, Forest, Marks, Node, children_of}
+use Rattle.h5_interface.specs.Forest.{Child, ChildNode, ChildText, DoctypeNode, DocumentNode, ElementNode, Forest, IsForest, Marks, Node, children_of}
 use Rattle.h5_interface.specs.Seen.{Seen}
 use Rattle.h5_interface.specs.SinkChoices.{SinkChoices}
 use Rattle.h5_interface.specs.declared.marks.QuirksMode.TheVariants.{NoQuirks}
 use Rattle.h5_rules.specs.Changes.{pop}
 use Rattle.h5_rules.specs.Run as r
-use Rattle.h5_rules.specs.Run.{View, after_all, after_token, run}
+use Rattle.h5_rules.specs.Run.{IsFitting, View, after_all, after_token, refusal, run, take_or_refuse}
+use Rattle.h5_rules.specs.Sound.{Sound}
 use Rattle.h5_rules.specs.formatting.FormattingNames.{html_name}
 use Rattle.h5_rules.specs.World.{World}
 use Rattle.h5_types.specs.Options as types
@@ -27,8 +28,12 @@ use Rattle.h5_tokenizer.specs.Options as reader
 use Rattle.h5_tokenizer.specs.ReaderText.{ReaderText}
 use Rattle.h5_reading.specs.declared.stage.Stage.TheVariants.{Reading}
 use Rattle.h5_tree_builder.specs.Builder.{Building}
+use Rattle.h5_rules.proofs.changes.ClosingLaws.{pop_sound}
+use Rattle.h5_laws.proofs.kept.FittingLaws.{token_fitting}
 use Rattle.h5_plain.proofs.LooksLaws.{looks_marked}
+use Rattle.h5_plain.proofs.StartLaws.{all_none}
 use Rattle.h5_plain.proofs.WholeLaws.{rebuilds_all}
+use Rattle.h5_tree_builder.proofs.BuilderLaws.{fits_first}
 use Rattle.h5_round.proofs.JoinedLaws.{document_joined}
 use Rattle.h5_round.specs.Answers.{Answers}
 use Rattle.h5_round.proofs.ReadingLaws.{document_read}
@@ -73,6 +78,33 @@ unfolding pop
 popped choices d [] w s q = (s, q)
 popped choices d (n ∷ ns) w s q = popped choices d ns (pop choices w) (document_marked w.forest _ d s) q
 
+-- ---- and what is there is a forest
+
+-- a token leaves whether a builder has failed or ended
+same_standing : (choices : SinkChoices) (t : TokenText) (v : View) → ((after_token choices t v).failed ≡ v.failed) × ((after_token choices t v).ended ≡ v.ended)
+same_standing choices t v = at (refusal v t)
+  where
+    at : (o : Option BuildFault) → ((take_or_refuse choices t o v).failed ≡ v.failed) × ((take_or_refuse choices t o v).ended ≡ v.ended)
+    at (Some fault) = (refl, refl)
+    at Nothing = (refl, refl)
+
+sound_after : (choices : SinkChoices) (ts : List TokenText) (v : View) → IsFitting v → v.failed ≡ false → v.ended ≡ false → Sound (after_all choices ts v).world
+unfolding run
+sound_after choices [] v k f e = (k.fitting f e).sound
+sound_after choices (t ∷ ts) v k f e =
+    let s = same_standing choices t v in sound_after choices ts (after_token choices t v) (token_fitting choices t v k) (s.0 ∙ f) (s.1 ∙ e)
+
+sound_popped : (choices : SinkChoices) (ns : List ℕ) (w : World) → Sound w → Sound (pop_each choices ns w)
+sound_popped choices [] w k = k
+sound_popped choices (n ∷ ns) w k = sound_popped choices ns (pop choices w) (pop_sound choices w k)
+
+forest_told : (choices : SinkChoices) (seen : Seen) (ts : List TokenText) → HoldsDocument seen.forest → IsForest (ended choices (after_all choices ts (first_building seen types.default_options).view)).world.forest
+forest_told choices seen ts holds =
+    let v = (first_building seen types.default_options).view in
+    let w = (after_all choices ts v).world in
+    let first : IsFitting v = record { fitting = λ f e. record { sound = all_none seen.forest holds.is_forest; fits = fits_first seen types.default_options } } in
+    (sound_popped choices w.stack w (sound_after choices ts v first refl refl)).stands.is_forest
+
 -- a builder that took nothing yet rebuilds a plain document
 record Rebuilt (choices : SinkChoices) (seen : Seen) (d : PlainDocument) : Type 0 where
   answers : Answers (replies choices) (after choices) (first_building seen types.default_options).view (document_tokens d)
@@ -99,6 +131,7 @@ document_stands choices seen told d n holds same forest quirks =
     let built = rebuilt choices seen d holds in
     let end = popped choices d w.stack w built.stands built.quirks in
     record {
+      is_forest = subst IsForest (sym (forest ∙ ap (λ (u : View). u.world.forest) same)) (forest_told choices seen (document_tokens d) holds);
       stands = subst (λ (f : Forest). DocumentStands f d) (sym (forest ∙ ap (λ (u : View). u.world.forest) same)) end.0;
       quirks = quirks ∙ ap (λ (u : View). u.world.seen_quirks) same ∙ end.1;
     }

@@ -1,5 +1,6 @@
 -- What a parser makes of the text of a plain document.
 use Rattle.std.specs.Prelude.{◌≡◌, ℕ, List, []}
+use Rattle.h5_interface.specs.Forest.{IsForest}
 use Rattle.h5_interface.specs.Seen.{Seen}
 use Rattle.h5_interface.specs.declared.marks.QuirksMode.TheVariants.{NoQuirks}
 use Rattle.h5_types.specs.Options.{default_options as of_builder}
@@ -20,8 +21,9 @@ pub record IsNew (b : Building) (r : ReaderText) (unread : List ℕ) (seen : See
   pub reader : r ≡ record { place = first_place of_reader; held = []; stage = Reading }
   pub none_waits : unread ≡ []
 
--- the document stands in what a sink tells, in no quirks
+-- the document stands in what a sink tells, which is a forest, in no quirks
 pub record ComesBack (told : Seen) (d : PlainDocument) : Type 0 where
+  pub is_forest : IsForest told.forest
   pub stands : DocumentStands told.forest d
   pub quirks : told.quirks ≡ NoQuirks
 

@@ -1,5 +1,5 @@
 //! A page, cleaned.
-ghost use Rattle.std.specs.Prelude.{◌≡◌, None, IfOk};
+ghost use Rattle.std.specs.Prelude.{◌≡◌, ℕ, List, None, IfOk};
 ghost use Rattle.h5_serialize.specs.declared.options.TraversalScope.TheVariants.{ChildrenOnly};
 ghost use Rattle.h5_arena.specs.ArenaModel.{arena_choices, forest_seen, new_arena, seen_of};
 ghost use Rattle.h5_arena.specs.NodeCalls.{walk_of};
@@ -42,6 +42,11 @@ fn clean_tree(alloc: Global, arena: &Arena) -> Result<Vec<u8>, SerializeFault>
     Ok(cleaner.into_html())
 }
 
+/// What is left of a page is one text.
+pub fn a_page_has_one_cleaned_text()
+    ensures { (page x y : List ℕ) → IsCleanOf page x → IsCleanOf page y → x ≡ y }
+{}
+
 /// The HTML of what the policy allows of a page, in which neither `<script` nor `<style` stands. An `AllocError` where
 /// memory is refused.
 pub fn clean_page(alloc: Global, page: &str) -> Result<Vec<u8>, AllocError>
@@ -51,5 +56,6 @@ pub fn clean_page(alloc: Global, page: &str) -> Result<Vec<u8>, AllocError>
     let arena = tree_of(alloc, page)?;
     let html = clean_tree(alloc, &arena).map_err(refused)?;
     escaped_text_holds_no_mark();
+    a_page_has_one_cleaned_text();
     Ok(html)
 }

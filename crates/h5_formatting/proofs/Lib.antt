@@ -8,6 +8,7 @@ pub mod ListLaws
 pub mod MoveLaws
 pub mod NamedLaws
 pub mod NestLaws
+pub mod NodeLaws
 pub mod OpenLaws
 pub mod RelistLaws
 pub mod RelistsLaws

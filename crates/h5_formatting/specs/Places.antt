@@ -2,9 +2,10 @@
 -- entry.
 use Rattle.std.specs.Prelude.{◌≡◌, ◌⊎◌, ℕ, ◌+◌, List, ◌∷◌, ◌++◌, length, Some}
 use Rattle.h5_token.specs.TokenText.{TagText}
+use Rattle.h5_interface.specs.Forest.{Forest, IsNode}
 use Rattle.h5_tag_sets.specs.TagSets.{is_special}
 use Rattle.h5_rules.specs.formatting.Adoption.{FurthestBlock, furthest_block, newer_than}
-use Rattle.h5_rules.specs.formatting.FormattingList.{ElementEntry, Entry, nodes_of}
+use Rattle.h5_rules.specs.formatting.FormattingList.{ElementEntry, Entry, MarkerEntry, nodes_of}
 use Rattle.h5_rules.specs.stack.Order.{IsIn}
 use Rattle.h5_list.specs.Listed.{IsNewestNamedAt}
 use Rattle.h5_rules.specs.World.{World, name_in}
@@ -31,3 +32,12 @@ pub record IsBlockAt (n place at : ℕ) (w : World) : Type 0 where
   pub furthest : FurthestBlock
   pub found : furthest_block (λ m. is_special (name_in w.forest m)) (newer_than n w.stack) ≡ Some furthest
   pub here : at ≡ place + 1 + length furthest.between
+
+-- all of these are nodes
+abbrev pub AreNodes : Forest → List ℕ → Type 0
+AreNodes f ns = (n : ℕ) → IsIn n ns → IsNode f n
+
+-- an entry's element is a node
+abbrev pub IsNodeIn : Forest → Entry → Type 0
+IsNodeIn f MarkerEntry = Unit {0}
+IsNodeIn f (ElementEntry n tag) = IsNode f n

@@ -1,6 +1,7 @@
 //! The adoption agency, and what calls it (HTML standard, section 13.2.6.4.7, "adoption agency algorithm").
 ghost use Rattle.std.specs.Prelude.{◌≡◌, ◌<◌, ℕ, Bool, List, IfOk, OnOk, Some, codes, false, length};
 ghost use Rattle.h5_names.specs.AttributeText.{is_same_text};
+ghost use Rattle.h5_interface.specs.Forest.{IsNode};
 ghost use Rattle.h5_rules.specs.formatting.Adoption.{FormattingElement, newest_named, older_than};
 ghost use Rattle.h5_rules.specs.formatting.FormattingList.{without_entry};
 ghost use Rattle.h5_rules.specs.formatting.AdoptionAgency.{adopt_by, adopt_within};
@@ -156,6 +157,7 @@ pub fn adoption_agency<S: TreeSink>(
 // The entry at a place goes, where it is that of an element, which is listed there or nowhere.
 fn unlist_where<S: TreeSink>(sink: &S, state: &mut State<S::Handle>, at: usize, element: &S::Handle)
     requires sound { IsSound S.TreeSink sink.now state.old }
+    requires element { IsNode (S.sees sink.now).forest (S.node element.now) }
     requires listed { IsListedOnlyAt (S.node element.now) at (world_of S.TreeSink sink.now state.old) }
     ensures { Becomes S.TreeSink (λ w. record w { formatting = without_entry (S.node element.now) w.formatting }) sink.now state.old sink.now state.new }
 {

@@ -1,11 +1,12 @@
 //! The clones of elements between the formatting element and its furthest block.
-ghost use Rattle.std.specs.Prelude.{◌≡◌, ◌≤◌, ◌<◌, ◌+◌, ◌∷◌, ℕ, List, IfOk, OnOk, length};
+ghost use Rattle.std.specs.Prelude.{◌≡◌, ◌≤◌, ◌<◌, ◌+◌, ◌∷◌, ℕ, List, IfOk, OnOk, length, map};
 ghost use Rattle.h5_token.specs.TokenText.{tag_text};
 ghost use Rattle.h5_rules.specs.formatting.Adoption.{to_clone};
 ghost use Rattle.h5_rules.specs.formatting.AdoptionAgency.{IsLoose, nest, tag_in, wrapped, KeepsKinds};
 ghost use Rattle.h5_state.specs.Steps.{IsSound, errors_of, world_of};
 ghost use Rattle.h5_state.specs.View.{stack_under};
 ghost use Rattle.h5_formatting.specs.Hanging.{IsLooseOver, nest_of, open_between, with_clone, with_clone_by};
+ghost use Rattle.h5_formatting.specs.Places.{AreNodes};
 
 use super::find::find_entry;
 use super::hang::wrap;
@@ -38,6 +39,7 @@ fn add_clone<S: TreeSink>(
     ensures quirks { OnOk result ((S.sees sink.new).quirks ≡ (S.sees sink.old).quirks) }
     ensures sound { IsSound S.TreeSink sink.new state.now }
     ensures kinds { KeepsKinds (S.sees sink.old).forest (S.sees sink.new).forest }
+    ensures nodes { OnOk result (AreNodes (S.sees sink.old).forest (map S.node clones.old.made.items) → AreNodes (S.sees sink.new).forest (map S.node clones.new.made.items)) }
     ensures loose { OnOk result ((block : ℕ) → IsLoose (S.sees sink.old).forest (world_of S.TreeSink sink.old state.now).stack block (S.node clones.old.outermost)
         → IsLoose (S.sees sink.new).forest (world_of S.TreeSink sink.old state.now).stack block (S.node clones.new.outermost)) }
 {
@@ -64,6 +66,7 @@ fn clone_at<S: TreeSink>(
     ensures quirks { OnOk result ((S.sees sink.new).quirks ≡ (S.sees sink.old).quirks) }
     ensures sound { IsSound S.TreeSink sink.new state.now }
     ensures kinds { KeepsKinds (S.sees sink.old).forest (S.sees sink.new).forest }
+    ensures nodes { OnOk result (AreNodes (S.sees sink.old).forest (map S.node clones.old.made.items) → AreNodes (S.sees sink.new).forest (map S.node clones.new.made.items)) }
     ensures loose { OnOk result ((block : ℕ) → IsLoose (S.sees sink.old).forest (world_of S.TreeSink sink.old state.now).stack block (S.node clones.old.outermost)
         → IsLoose (S.sees sink.new).forest (world_of S.TreeSink sink.old state.now).stack block (S.node clones.new.outermost)) }
 {
@@ -95,6 +98,7 @@ pub fn make_clones<S: TreeSink>(
     ensures quirks { OnOk result ((S.sees sink.new).quirks ≡ (S.sees sink.old).quirks) }
     ensures sound { IsSound S.TreeSink sink.new state.now }
     ensures kinds { KeepsKinds (S.sees sink.old).forest (S.sees sink.new).forest }
+    ensures nodes { IfOk result (λ clones. AreNodes (S.sees sink.new).forest (map S.node clones.made.items)) }
     ensures loose { IfOk result (λ clones. (n : ℕ) (older : List ℕ) → stack_under S.node state.now (block + 1) ≡ n ∷ older →
         IsLoose (S.sees sink.new).forest (world_of S.TreeSink sink.old state.now).stack n (S.node clones.outermost)) }
 {

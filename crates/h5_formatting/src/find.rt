@@ -1,6 +1,7 @@
 //! What the adoption agency looks for in the stack of open elements and in the list of active formatting elements.
 ghost use Rattle.std.specs.Prelude.{◌≡◌, ◌<◌, ◌+◌, ◌∷◌, ℕ, MatchOption, None, is_some, length};
 ghost use Rattle.std.specs.List.{list_any};
+ghost use Rattle.h5_interface.specs.Forest.{IsNode};
 ghost use Rattle.h5_tag_sets.specs.TagSets.{is_default_scope, is_special};
 ghost use Rattle.h5_rules.specs.formatting.Adoption.{furthest_block, newer_than, newest_named};
 ghost use Rattle.h5_rules.specs.formatting.FormattingList.{nodes_of};
@@ -8,7 +9,7 @@ ghost use Rattle.h5_rules.specs.stack.Order.{is_in};
 ghost use Rattle.h5_rules.specs.World.{name_in};
 ghost use Rattle.h5_state.specs.Steps.{IsSound, world_of};
 ghost use Rattle.h5_state.specs.OpenPlaces.{IsOpenAt};
-ghost use Rattle.h5_formatting.specs.Places.{IsBlockAt, IsEntryAt, IsListedAt};
+ghost use Rattle.h5_formatting.specs.Places.{AreNodes, IsBlockAt, IsEntryAt, IsListedAt};
 
 use super::walk::{entry_at, entry_count};
 use h5_interface::TreeSink;
@@ -36,6 +37,8 @@ pub fn find_entry<S: TreeSink>(
     state: &State<S::Handle>,
     handle: &S::Handle,
 ) -> Option<usize>
+    requires listed { AreNodes (S.sees sink.now).forest (nodes_of (world_of S.TreeSink sink.now state.now).formatting) }
+    requires handle { IsNode (S.sees sink.now).forest (S.node handle.now) }
     ensures found { is_some result ≡ is_in (S.node handle.now) (nodes_of (world_of S.TreeSink sink.now state.now).formatting) }
     ensures place { MatchOption result (Unit {0}) (λ place. IsEntryAt (S.node handle.now) place (world_of S.TreeSink sink.now state.now)) }
     ensures inside { MatchOption result (Unit {0}) (λ place. place < length (world_of S.TreeSink sink.now state.now).formatting) }

@@ -2,7 +2,7 @@
 ghost use Rattle.std.specs.Prelude.{◌≡◌, IfOk, OnOk};
 ghost use Rattle.h5_token.specs.TokenText.{tag_text};
 ghost use Rattle.h5_interface.specs.Changes.{detach, reparent};
-ghost use Rattle.h5_interface.specs.Forest.{ChildNode};
+ghost use Rattle.h5_interface.specs.Forest.{ChildNode, IsNode};
 ghost use Rattle.h5_interface.specs.Seen.{changed, with_last_child};
 ghost use Rattle.h5_rules.specs.formatting.AdoptionAgency.{make_for, KeepsKinds};
 ghost use Rattle.h5_rules.specs.insertion.Place.{appropriate_place, put};
@@ -55,6 +55,7 @@ pub fn refill<S: TreeSink>(
     requires sound { IsSound S.TreeSink sink.old state.now }
     requires block { IsIn (S.node block.now) (world_of S.TreeSink sink.old state.now).stack }
     ensures handle { IfOk result (λ clone. S.node clone ≡ S.choices.fresh (S.sees sink.old).forest) }
+    ensures node { IfOk result (λ clone. IsNode (S.sees sink.new).forest (S.node clone)) }
     ensures done { OnOk result (S.sees sink.new ≡ changed (λ f.
         with_last_child (S.node block.now) (ChildNode (S.choices.fresh f)) (reparent (S.node block.now) (S.choices.fresh f) (make_for S.choices (tag_text tag.now) f))) (S.sees sink.old)) }
     ensures quiet { errors_of S.TreeSink sink.new ≡ errors_of S.TreeSink sink.old }

@@ -1,5 +1,6 @@
 //! Questions that are asked where formatting elements are closed.
 ghost use Rattle.std.specs.Prelude.{◌≡◌, is_some};
+ghost use Rattle.h5_interface.specs.Forest.{IsNode};
 ghost use Rattle.h5_rules.specs.formatting.AdoptionAgency.{closes_current, closes_one, is_current_unlisted};
 ghost use Rattle.h5_rules.specs.formatting.Adoption.{newest_named};
 ghost use Rattle.h5_rules.specs.formatting.FormattingList.{nodes_of};
@@ -8,6 +9,7 @@ ghost use Rattle.h5_rules.specs.World.{name_in};
 ghost use Rattle.h5_state.specs.Steps.{IsSound, world_of};
 ghost use Rattle.h5_list.specs.Listed.{entry_of};
 ghost use Rattle.h5_formatting.specs.EntryPlaces.{entry_at, is_entry_of};
+ghost use Rattle.h5_formatting.specs.Places.{IsNodeIn};
 
 use super::find::find_formatting_element;
 use super::walk::{entry_at, entry_count};
@@ -18,6 +20,8 @@ use h5_types::FormatEntry;
 
 // Whether an entry is that of an element.
 fn is_entry_of<S: TreeSink>(sink: &S, entry: &FormatEntry<S::Handle>, handle: &S::Handle) -> bool
+    requires entry { IsNodeIn (S.sees sink.now).forest (entry_of S.node entry.now) }
+    requires handle { IsNode (S.sees sink.now).forest (S.node handle.now) }
     ensures { result ≡ is_entry_of (S.node handle.now) (entry_of S.node entry.now) }
 {
     match entry {
@@ -33,6 +37,8 @@ pub fn is_listed_at<S: TreeSink>(
     at: usize,
     handle: &S::Handle,
 ) -> bool
+    requires sound { IsSound S.TreeSink sink.now state.now }
+    requires handle { IsNode (S.sees sink.now).forest (S.node handle.now) }
     ensures { result ≡ is_entry_of (S.node handle.now) (entry_at at (world_of S.TreeSink sink.now state.now).formatting) }
 {
     at < entry_count(sink, state) && is_entry_of(sink, entry_at(sink, state, at), handle)
@@ -40,6 +46,7 @@ pub fn is_listed_at<S: TreeSink>(
 
 /// Whether the current node is the formatting element of a name.
 pub fn closes_current<S: TreeSink>(sink: &S, state: &State<S::Handle>, name: &LocalName) -> bool
+    requires { IsSound S.TreeSink sink.now state.now }
     ensures { result ≡ closes_current name.now (world_of S.TreeSink sink.now state.now) }
 {
     match find_formatting_element(sink, state, name) {
@@ -61,6 +68,7 @@ fn is_listed<S: TreeSink>(
     handle: &S::Handle,
 ) -> bool
     requires sound { IsSound S.TreeSink sink.now state.now }
+    requires handle { IsNode (S.sees sink.now).forest (S.node handle.now) }
     requires named { (name_in (S.sees sink.now).forest (S.node handle.now)).local ≡ name.now }
     ensures { result ≡ is_in (S.node handle.now) (nodes_of (world_of S.TreeSink sink.now state.now).formatting) }
 {

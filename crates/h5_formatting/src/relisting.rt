@@ -1,6 +1,7 @@
 //! The list of active formatting elements after a round of the adoption agency.
 ghost use Rattle.std.specs.Prelude.{◌≡◌, ◌<◌, ◌≤◌, ◌+◌, ◌-◌, ◌∷◌, ◌++◌, ℕ, zero, suc, List, IsOk, drop, length, map, take};
 ghost use Rattle.h5_token.specs.TokenText.{TagText};
+ghost use Rattle.h5_interface.specs.Forest.{IsNode};
 ghost use Rattle.h5_rules.specs.formatting.Adoption.{FormattingElement, round_list};
 ghost use Rattle.h5_rules.specs.formatting.FormattingList.{ElementEntry, Entry, nodes_of};
 ghost use Rattle.h5_rules.specs.formatting.InnerLoop.{walked};
@@ -8,6 +9,7 @@ ghost use Rattle.h5_rules.specs.stack.Order.{IsIn};
 ghost use Rattle.h5_state.specs.Steps.{Becomes, IsSound, world_of};
 ghost use Rattle.h5_state.specs.View.{stack_under};
 ghost use Rattle.h5_formatting.specs.Relists.{Relists};
+ghost use Rattle.h5_formatting.specs.Places.{AreNodes};
 
 use super::find::find_entry;
 use h5_interface::TreeSink;
@@ -46,7 +48,9 @@ fn move_entry<S: TreeSink>(sink: &S, state: &mut State<S::Handle>, from: usize, 
 
 // The entry at a place comes to stand right above that of an element, which is higher.
 fn move_above<S: TreeSink>(sink: &S, state: &mut State<S::Handle>, from: usize, handle: &S::Handle)
-    requires { from < length (world_of S.TreeSink sink.now state.old).formatting }
+    requires from { from < length (world_of S.TreeSink sink.now state.old).formatting }
+    requires listed { AreNodes (S.sees sink.now).forest (nodes_of (world_of S.TreeSink sink.now state.old).formatting) }
+    requires handle { IsNode (S.sees sink.now).forest (S.node handle.now) }
     ensures done { (newer middle older : List Entry) → (tag : TagText) → (e : Entry) → (world_of S.TreeSink sink.now state.old).formatting ≡ newer ++ ElementEntry (S.node handle.now) tag ∷ (middle ++ e ∷ older)
         → ¬ (IsIn (S.node handle.now) (nodes_of newer)) → from ≡ length older
         → world_of S.TreeSink sink.now state.new ≡ record (world_of S.TreeSink sink.now state.old) { formatting = newer ++ e ∷ ElementEntry (S.node handle.now) tag ∷ (middle ++ older) } }
@@ -70,6 +74,10 @@ fn relist_near<S: TreeSink>(
 ) -> usize
     requires place { place < length (world_of S.TreeSink sink.now state.old).stack }
     requires used { used ≤ length clones.now.items }
+    requires clones { AreNodes (S.sees sink.now).forest (map S.node clones.now.items) }
+    requires open { AreNodes (S.sees sink.now).forest (world_of S.TreeSink sink.now state.old).stack }
+    requires listed { AreNodes (S.sees sink.now).forest (nodes_of (world_of S.TreeSink sink.now state.old).formatting) }
+    ensures listed { AreNodes (S.sees sink.now).forest (nodes_of (world_of S.TreeSink sink.now state.new).formatting) }
     ensures used { result ≤ length clones.now.items }
     ensures walked { (n : ℕ) → (older : List ℕ) → stack_under S.node state.old (place + 1) ≡ n ∷ older → (k : ℕ) → (ns : List ℕ)
         → walked (suc k) (n ∷ ns) (drop used (map S.node clones.now.items)) (world_of S.TreeSink sink.now state.old).formatting
@@ -88,7 +96,10 @@ fn relist_near<S: TreeSink>(
 
 // A listed element between the two, which isn't near to the furthest block, leaves the list.
 fn relist_far<S: TreeSink>(sink: &S, state: &mut State<S::Handle>, place: usize)
-    requires { place < length (world_of S.TreeSink sink.now state.old).stack }
+    requires place { place < length (world_of S.TreeSink sink.now state.old).stack }
+    requires open { AreNodes (S.sees sink.now).forest (world_of S.TreeSink sink.now state.old).stack }
+    requires listed { AreNodes (S.sees sink.now).forest (nodes_of (world_of S.TreeSink sink.now state.old).formatting) }
+    ensures listed { AreNodes (S.sees sink.now).forest (nodes_of (world_of S.TreeSink sink.now state.new).formatting) }
     ensures walked { (n : ℕ) → (older : List ℕ) → stack_under S.node state.old (place + 1) ≡ n ∷ older → (ns ys : List ℕ)
         → walked zero (n ∷ ns) ys (world_of S.TreeSink sink.now state.old).formatting ≡ walked zero ns ys (world_of S.TreeSink sink.now state.new).formatting }
     ensures world { world_of S.TreeSink sink.now state.new ≡ record (world_of S.TreeSink sink.now state.old) { formatting = (world_of S.TreeSink sink.now state.new).formatting } }
@@ -107,7 +118,11 @@ fn relist_between<S: TreeSink>(
     block: usize,
     clones: &Vec<S::Handle>,
 )
-    requires { block ≤ length (world_of S.TreeSink sink.now state.old).stack }
+    requires block { block ≤ length (world_of S.TreeSink sink.now state.old).stack }
+    requires clones { AreNodes (S.sees sink.now).forest (map S.node clones.now.items) }
+    requires open { AreNodes (S.sees sink.now).forest (world_of S.TreeSink sink.now state.old).stack }
+    requires listed { AreNodes (S.sees sink.now).forest (nodes_of (world_of S.TreeSink sink.now state.old).formatting) }
+    ensures listed { AreNodes (S.sees sink.now).forest (nodes_of (world_of S.TreeSink sink.now state.new).formatting) }
     ensures world { world_of S.TreeSink sink.now state.new ≡ record (world_of S.TreeSink sink.now state.old) {
       formatting = walked 3 (take (block - first) (stack_under S.node state.old block)) (map S.node clones.now.items) (world_of S.TreeSink sink.now state.old).formatting;
     } }
@@ -137,6 +152,8 @@ pub fn relist<S: TreeSink>(
     clone: S::Handle,
 )
     requires sound { IsSound S.TreeSink sink.now state.old }
+    requires clones { AreNodes (S.sees sink.now).forest (map S.node clones.now.items) }
+    requires clone { IsNode (S.sees sink.now).forest (S.node clone) }
     requires relists { (f : FormattingElement) × (between : List ℕ) × Relists f between (map S.node clones.now.items) (S.node clone) at first block (world_of S.TreeSink sink.now state.old) }
     ensures done { (f : FormattingElement) → (between : List ℕ) → Relists f between (map S.node clones.now.items) (S.node clone) at first block (world_of S.TreeSink sink.now state.old)
         → Becomes S.TreeSink (λ w. record w { formatting = round_list f.node f.tag between (map S.node clones.now.items) (S.node clone) w.formatting }) sink.now state.old sink.now state.new }

@@ -1,8 +1,10 @@
 //! The stack of open elements after a round of the adoption agency.
 ghost use Rattle.std.specs.Prelude.{◌≡◌, ◌<◌, ◌≤◌, ◌+◌, ◌∷◌, ◌++◌, ℕ, List, IfOk, OnOk, length, map, reverse, vec_len};
+ghost use Rattle.h5_interface.specs.Forest.{IsNode};
 ghost use Rattle.h5_rules.specs.Sound.{AllStand, Sound};
 ghost use Rattle.h5_state.specs.Steps.{Becomes, BecomesIfOk, IsSound, world_of};
 ghost use Rattle.h5_state.specs.View.{stack_over, stack_under, with_stack};
+ghost use Rattle.h5_formatting.specs.Places.{AreNodes};
 
 use h5_interface::TreeSink;
 use h5_state::{State, handle_at, open_count, push_open, replace_open, truncate};
@@ -14,6 +16,7 @@ fn push_clones<S: TreeSink>(
     clones: &Vec<S::Handle>,
     handles: &mut Vec<S::Handle>,
 ) -> Result<(), AllocError>
+    requires { AreNodes (S.sees sink.now).forest (map S.node clones.now.items) }
     ensures { OnOk result (reverse (map S.node handles.new.items) ≡ map S.node clones.now.items ++ reverse (map S.node handles.old.items)) }
 {
     let mut left = clones.len();
@@ -31,7 +34,8 @@ fn push_newer<S: TreeSink>(
     block: usize,
     handles: &mut Vec<S::Handle>,
 ) -> Result<(), AllocError>
-    requires { block < length (world_of S.TreeSink sink.now state.now).stack }
+    requires sound { IsSound S.TreeSink sink.now state.now }
+    requires block { block < length (world_of S.TreeSink sink.now state.now).stack }
     ensures { OnOk result (reverse (map S.node handles.new.items) ≡ stack_over S.node state.now (block + 1) ++ reverse (map S.node handles.old.items)) }
 {
     let count = open_count(sink, state);
@@ -52,7 +56,10 @@ pub fn round_handles<S: TreeSink>(
     clones: &Vec<S::Handle>,
     clone: &S::Handle,
 ) -> Result<Vec<S::Handle>, AllocError>
-    requires { block < length (world_of S.TreeSink sink.now state.now).stack }
+    requires sound { IsSound S.TreeSink sink.now state.now }
+    requires block { block < length (world_of S.TreeSink sink.now state.now).stack }
+    requires clones { AreNodes (S.sees sink.now).forest (map S.node clones.now.items) }
+    requires clone { IsNode (S.sees sink.now).forest (S.node clone.now) }
     ensures { IfOk result (λ handles. (b : ℕ) → (older : List ℕ) → stack_under S.node state.now (block + 1) ≡ b ∷ older
         → reverse (map S.node handles.items) ≡ S.node clone.now ∷ b ∷ map S.node clones.now.items) }
 {

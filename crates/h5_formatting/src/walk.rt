@@ -1,7 +1,8 @@
 //! Whether an element ends a scope, and walks over the list of active formatting elements: places are counted from the oldest.
 ghost use Rattle.std.specs.Prelude.{◌≡◌, ◌<◌, ◌+◌, ◌∷◌, ◌++◌, [], ℕ, List, length};
 ghost use Rattle.h5_token.specs.TokenText.{TagText};
-ghost use Rattle.h5_rules.specs.formatting.FormattingList.{ElementEntry, Entry};
+ghost use Rattle.h5_rules.specs.formatting.FormattingList.{ElementEntry, Entry, nodes_of};
+ghost use Rattle.h5_rules.specs.stack.Order.{IsIn};
 ghost use Rattle.h5_formatting.specs.Rounds.{IsElementEntry};
 ghost use Rattle.h5_interface.specs.Forest.{IsElement};
 ghost use Rattle.h5_tag_sets.specs.TagSets.{is_default_scope};
@@ -43,6 +44,7 @@ pub fn entry_at<'a, S: TreeSink>(
     requires { place < length (world_of S.TreeSink sink.now state.now).formatting }
     ensures list { list_under S.node state.now (place + 1) ≡ entry_of S.node result.now ∷ list_under S.node state.now place }
     ensures count { length (list_under S.node state.now place) ≡ place }
+    ensures listed { (n : ℕ) → (tag : TagText) → entry_of S.node result.now ≡ ElementEntry n tag → IsIn n (nodes_of (world_of S.TreeSink sink.now state.now).formatting) }
 {
     state.active_formatting.get(place)
 }
@@ -54,7 +56,8 @@ pub fn element_at<'a, S: TreeSink>(
     at: usize,
 ) -> &'a S::Handle
     requires { IsElementEntry at (world_of S.TreeSink sink.now state.now) }
-    ensures { (newer older : List Entry) → (n : ℕ) → (tag : TagText) → (world_of S.TreeSink sink.now state.now).formatting ≡ newer ++ ElementEntry n tag ∷ older → at ≡ length older
+    ensures listed { IsIn (S.node result.now) (nodes_of (world_of S.TreeSink sink.now state.now).formatting) }
+    ensures node { (newer older : List Entry) → (n : ℕ) → (tag : TagText) → (world_of S.TreeSink sink.now state.now).formatting ≡ newer ++ ElementEntry n tag ∷ older → at ≡ length older
         → S.node result.now ≡ n }
 {
     match entry_at(sink, state, at) {

@@ -1,20 +1,23 @@
 -- What is put at a place, as it is seen.
-use Rattle.std.proofs.Common.{◌≡◌, ℕ, Bool, List, Result, Ok, Err, OnOk, OnErr, refl, ap, sym, subst, ◌∙◌}
+use Rattle.std.proofs.Common.{◌≡◌, ℕ, Bool, List, None, Option, Some, Result, Ok, Err, OnOk, OnErr, refl, ap, sym, subst, ◌∙◌}
+use Rattle.std.specs.Prelude.{MatchOption, option_map}
+use Rattle.std.proofs.lemmas.Option.{same_Some}
 use Rattle.h5_names.specs.declared.qualified.QualName.{QualName}
 use Rattle.h5_names.specs.AttributeText.{AttributeText}
-use Rattle.h5_interface.specs.Forest.{ChildNode, CommentNode, Forest, IsElement, IsForest, kind_of}
+use Rattle.h5_interface.specs.Changes.{mark}
+use Rattle.h5_interface.specs.Forest.{ChildNode, CommentNode, Forest, IsElement, IsForest, IsNode, kind_of}
 use Rattle.h5_interface.specs.NewElement.{flags_of}
 use Rattle.h5_interface.specs.Seen.{Seen, changed, make, make_element, plain}
 use Rattle.h5_interface.specs.SinkChoices.{Rearranges, SinkChoices}
-use Rattle.h5_interface.proofs.MakingLaws.{made_kind, make_element_rearranges, make_rearranges}
+use Rattle.h5_interface.proofs.MakingLaws.{made_kind, make_element_rearranges, make_rearranges, mark_rearranges}
 use Rattle.h5_rules.specs.insertion.Place.{CanPut, IsPlaceIn, LastChild, Place, TableFosterParenting, put}
 use Rattle.h5_rules.specs.World.{World}
 use Rattle.h5_rules.proofs.changes.PlaceLaws.{comment_can_be_put, element_can_be_put, made_rearranges, new_comment_rearranges}
 use Rattle.h5_state.proofs.StackLaws.{seen_world}
 use Rattle.h5_rules.specs.Changes.{new_element}
-use Rattle.h5_rules.specs.insertion.FormOwner.{Marking, marked_by}
+use Rattle.h5_rules.specs.insertion.FormOwner.{Marking, marked_by, stands_else_in}
 use Rattle.h5_interface.proofs.ForestLaws.{rearranged_node}
-use Rattle.h5_rules.proofs.changes.SoundLaws.{element_kept}
+use Rattle.h5_rules.proofs.changes.SoundLaws.{element_is_node, element_kept}
 
 -- what is seen is a rearrangement
 pub seen_rearranged : (old new : Seen) (change : Forest → Forest) → new ≡ changed change old → Rearranges old.forest (change old.forest) → Rearranges old.forest new.forest
@@ -23,6 +26,17 @@ seen_rearranged old new change e r = subst (λ (s : Seen). Rearranges old.forest
 place_rearranged : (f g : Forest) (p : Place) → Rearranges f g → IsPlaceIn f p → IsPlaceIn g p
 place_rearranged f g (LastChild n) r there = rearranged_node f g n r there
 place_rearranged f g (TableFosterParenting element prev) r there = (element_kept f g element r there.0, rearranged_node f g prev r there.1)
+
+-- what a place stands else in is a node
+pub outer_is_node : {X : Type 0} (f : Forest) (node : X → ℕ) (o : Option X) (p : Place) → option_map node o ≡ stands_else_in p → IsPlaceIn f p → MatchOption o (Unit {0}) (λ x. IsNode f (node x))
+outer_is_node f node None p e there = tt
+outer_is_node f node (Some x) (LastChild n) e there = absurd (cc)
+outer_is_node f node (Some x) (TableFosterParenting element prev) e there = subst (IsNode f) (sym (same_Some (node x) prev e)) there.1
+
+-- a node stays one where nodes are marked
+marked_is_node : (f : Forest) (n : ℕ) (marking : Marking) → IsForest f → IsNode f n → IsNode (marked_by marking f) n
+marked_is_node f n None k there = there
+marked_is_node f n (Some marks) k there = rearranged_node f (mark (marks f) f) n (mark_rearranges f (marks f) k) there
 
 -- a new element, as it was made, marked and put at a place
 module _ (choices : SinkChoices) (old mid : Seen) (p : Place) (n : ℕ) (name : QualName) (attrs : List AttributeText) (duplicates : Bool) (marking : ℕ → Place → Marking)
@@ -48,6 +62,10 @@ module _ (choices : SinkChoices) (old mid : Seen) (p : Place) (n : ℕ) (name : 
     element_may m same k there =
         subst (λ (s : Seen). CanPut s.forest p (ChildNode m)) (sym marked_seen)
         (subst (λ i. CanPut (marked_by marks (make_element choices name attrs (flags_of name attrs duplicates) old.forest)) p (ChildNode i)) (sym (same ∙ is)) (element_can_be_put choices old.forest p name attrs duplicates marks k there))
+
+    pub element_is_there : IsForest old.forest → IsNode marked.forest n
+    element_is_there k =
+        subst (λ (s : Seen). IsNode s.forest n) (sym e) (marked_is_node mid.forest n (marking n p) (mid_rearranged k).is_forest (element_is_node mid.forest n (mid_element k)))
 
     pub marked_rearranged : IsForest old.forest → IsPlaceIn old.forest p → Rearranges old.forest marked.forest
     marked_rearranged k there = seen_rearranged old marked (λ f. marked_by marks (make_element choices name attrs (flags_of name attrs duplicates) f)) marked_seen (made_rearranges choices old.forest p name attrs duplicates marks k there)

@@ -14,6 +14,7 @@ use std::alloc::AllocError;
 /// A handle of the head element, where there is one.
 #[tactic(auto, unfolding(h5_state::specs::View::world))]
 pub fn known_head<S: TreeSink>(sink: &S, state: &State<S::Handle>) -> Option<S::Handle>
+    requires { IsSound S.TreeSink sink.now state.now }
     ensures { option_map S.node result ≡ (world_of S.TreeSink sink.now state.now).head }
 {
     match &state.head_elem {

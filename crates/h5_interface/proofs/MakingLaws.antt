@@ -1,14 +1,15 @@
 -- New nodes, contents and marks keep a forest, and give no old node a parent.
 use Rattle.std.proofs.Common.{◌≡◌, ◌≢◌, ◌∙◌, ℕ, ◌+◌, ◌≤◌, Bool, true, false, cond, List, [], arith, inl, inr, max, refl, subst, sym}
-use Rattle.std.specs.Prelude.{◌==◌, if◌then◌else◌, Option, None, Some}
+use Rattle.std.specs.Prelude.{◌==◌, if◌then◌else◌, IfOk, OnOk, Option, None, Some, Result, Ok, Err}
+use Rattle.std.specs.declared.alloc.AllocError.{AllocError}
 use Rattle.std.proofs.lemmas.Bool.{eq-eqb, eqb-true}
 use Rattle.h5_names.specs.declared.qualified.QualName.{QualName}
 use Rattle.h5_names.specs.AttributeText.{AttributeText}
 use Rattle.h5_interface.specs.declared.marks.ElementFlags.{ElementFlags}
 use Rattle.h5_interface.specs.Ancestors.{AtOrAbove}
 use Rattle.h5_interface.specs.Changes.{add_missing_attributes, add_node, append_node, host, mark}
-use Rattle.h5_interface.specs.Forest.{AreParted, DoctypeNode, DocumentNode, ElementNode, Forest, FragmentNode, HasContents, IsForest, IsNode, Kind, Marks, Node, below_of, children_of, contents_of, count, is_at, kind_of, parent_of}
-use Rattle.h5_interface.specs.Seen.{IsFreeFor, append_doctype, element, make, make_contents, make_element, plain, with_contents}
+use Rattle.h5_interface.specs.Forest.{AreParted, DoctypeNode, DocumentNode, ElementNode, Forest, FragmentNode, HasContents, IsElement, IsForest, IsNode, Kind, Marks, Node, below_of, children_of, contents_of, count, is_at, kind_of, parent_of}
+use Rattle.h5_interface.specs.Seen.{IsFreeFor, Seen, after_create_element, append_doctype, element, make, make_contents, make_element, plain, with_contents}
 use Rattle.h5_interface.specs.SinkChoices.{Rearranges, SinkChoices}
 use Rattle.h5_interface.proofs.AncestorLaws.{ancestor_fewer}
 use Rattle.h5_interface.proofs.ChildLaws.{count-append}
@@ -263,6 +264,13 @@ made_kind choices f name attrs flags k = at flags.template
     at : (b : Bool) → kind_of (with_contents b choices (choices.fresh f) g) (choices.fresh f) ≡ Some (ElementNode name)
     at true = (make_contents_rearranges choices g (choices.fresh f) kept there (rw (eq-eqb (choices.fresh f) (choices.fresh f) refl) refl)).same_kind (choices.fresh f) there ∙ new_kind f (choices.fresh f) (element name attrs flags)
     at false = new_kind f (choices.fresh f) (element name attrs flags)
+
+-- a call that makes an element gives a handle of an element
+pub gives_element : {H : Type 0} (node : H → ℕ) (choices : SinkChoices) (name : QualName) (attrs : List AttributeText) (flags : ElementFlags) (old new : Seen) (r : Result H AllocError) → IsForest old.forest
+    → IfOk r (λ h. node h ≡ choices.fresh old.forest) → OnOk r (new ≡ after_create_element choices name attrs flags old) → IfOk r (λ h. IsElement new.forest (node h))
+gives_element node choices name attrs flags old new (Ok h) k at made =
+    subst (λ (s : Seen). IsElement s.forest (node h)) (sym made) (subst (λ n. IsElement (make_element choices name attrs flags old.forest) n) (sym at) (name, made_kind choices old.forest name attrs flags k))
+gives_element node choices name attrs flags old new (Err e) k at made = tt
 
 pub made_parent : (choices : SinkChoices) (f : Forest) (name : QualName) (attrs : List AttributeText) (flags : ElementFlags) → IsForest f → parent_of (make_element choices name attrs flags f) (choices.fresh f) ≡ None
 made_parent choices f name attrs flags k = at flags.template

@@ -3,6 +3,7 @@
 ghost use Rattle.std.specs.Prelude.{◌≡◌, ◌&&◌, ℕ, List, false, IfOk, OnOk, OnErr};
 ghost use Rattle.std.specs.List.{list_any};
 ghost use Rattle.h5_names.specs.AttributeText.{attribute_text, attribute_texts};
+ghost use Rattle.h5_interface.specs.Forest.{IsElement};
 ghost use Rattle.h5_interface.specs.NewElement.{flags_of, is_annotation_xml, is_expanded, is_html_encoding, is_html_template};
 ghost use Rattle.h5_interface.specs.Seen.{after_create_element};
 
@@ -20,6 +21,7 @@ pub fn create_element<S: TreeSink>(
     attrs: Vec<Attribute>,
 ) -> Result<S::Handle, AllocError>
     ensures handle { IfOk result (λ handle. S.node handle ≡ S.choices.fresh (S.sees sink.old).forest) }
+    ensures element { IfOk result (λ handle. IsElement (S.sees sink.new).forest (S.node handle)) }
     ensures ok { OnOk result
         (S.sees sink.new ≡ after_create_element S.choices name (attribute_texts attrs.items) (flags_of name (attribute_texts attrs.items) false) (S.sees sink.old)) }
     ensures err { OnErr result (S.sees sink.new ≡ S.sees sink.old) }
@@ -36,10 +38,12 @@ pub fn create_element_with_flags<S: TreeSink>(
     had_duplicate_attributes: bool,
 ) -> Result<S::Handle, AllocError>
     ensures handle { IfOk result (λ handle. S.node handle ≡ S.choices.fresh (S.sees sink.old).forest) }
+    ensures element { IfOk result (λ handle. IsElement (S.sees sink.new).forest (S.node handle)) }
     ensures ok { OnOk result
         (S.sees sink.new ≡ after_create_element S.choices name (attribute_texts attrs.items) (flags_of name (attribute_texts attrs.items) had_duplicate_attributes) (S.sees sink.old)) }
     ensures err { OnErr result (S.sees sink.new ≡ S.sees sink.old) }
 {
+    let _document = sink.get_document();
     let flags = flags_for(&name, attrs.as_slice(), had_duplicate_attributes);
     sink.create_element(name, attrs, flags)
 }

@@ -1,5 +1,5 @@
 //! The trees that a tree builder builds.
-ghost use Rattle.std.specs.Prelude.{◌≡◌, ◌≤◌, ◌<◌, ◌==◌, ℕ, List, Option, IfOk, OnOk, OnErr, string_bytes};
+ghost use Rattle.std.specs.Prelude.{◌≡◌, ◌≤◌, ◌<◌, ◌==◌, ℕ, List, Option, IfOk, MatchOption, OnOk, OnErr, string_bytes};
 ghost use Rattle.std.specs.Option.{option_map};
 ghost use Rattle.h5_names.specs.AttributeText.{attribute_texts};
 ghost use Rattle.h5_interface.specs.Forest.{CommentNode, ElementNode, HasContents, InstructionNode, IsElement, IsForest, IsNode, contents_of, kind_of};
@@ -68,10 +68,13 @@ pub trait TreeSink {
 
     /// Whether two handles are of the same node.
     fn same_node(&self, x: &Self::Handle, y: &Self::Handle) -> bool
+        requires x { IsNode (sees self.now).forest (node x.now) }
+        requires y { IsNode (sees self.now).forest (node y.now) }
         ensures { result ≡ (node x.now == node y.now) };
 
     /// Another handle of the same node.
     fn clone_handle(&self, handle: &Self::Handle) -> Self::Handle
+        requires { IsNode (sees self.now).forest (node handle.now) }
         ensures { node result ≡ node handle.now };
 
     /// The contents of a template (HTML standard, section 4.12.3, "The template element").
@@ -199,6 +202,7 @@ pub trait TreeSink {
         requires target { IsElement (sees self.old).forest (node target.now) }
         requires form { IsNode (sees self.old).forest (node form.now) }
         requires place { IsNode (sees self.old).forest (node nodes.0.now) }
+        requires outer { MatchOption nodes.1 (Unit {0}) (λ outer. IsNode (sees self.old).forest (node outer.now)) }
         ensures { sees self.new ≡ after_associate choices (node target.now) (node form.now) (node nodes.entry.0.now)
             (option_map (λ outer. node outer.now) nodes.entry.1) (sees self.old) };
 

@@ -67,9 +67,11 @@ impl BufferQueue {
         waiting
     }
 
-    /// Puts what waits in another queue, which is empty then, behind what waits here.
+    /// Puts what waits in another queue, which is empty then, behind what waits here. Where memory is refused both stay as they
+    /// are.
     pub fn append(&mut self, other: &mut BufferQueue) -> Result<(), AllocError>
         ensures ok { OnOk result ((self.new ≡ self.old ++ other.old) × (other.new ≡ [])) }
+        ensures err { OnErr result ((self.new ≡ self.old) × (other.new ≡ other.old)) }
     {
         if self.is_empty() {
             mem::swap(self, other);

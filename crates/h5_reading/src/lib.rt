@@ -33,4 +33,4 @@ pub use plain::count_plain;
 pub use result::TokenizerResult;
 pub use stage::Stage;
 pub use stop::{Stop, result_of, stop_of};
-pub use taking::{ask, ask_of_tag, ask_of_text, finish, offer};
+pub use taking::{ask, finish, offer};

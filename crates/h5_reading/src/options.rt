@@ -14,7 +14,8 @@ pub struct TokenizerOpts {
     pub discard_bom: bool,
     /// The state to begin in, in place of Data.
     pub initial_state: Option<State>,
-    /// What is taken for the name of a start tag that came before. The empty text is no name.
+    /// What is taken for the name of a start tag that came before. The empty text is no name. The plain reader compares it in any
+    /// case. The standard reader compares it as it stands with names in lower case, so a name with capitals ends no text there.
     pub last_start_tag_name: Option<String>,
 }
 

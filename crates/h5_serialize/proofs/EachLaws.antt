@@ -15,6 +15,12 @@ text_more after writes m [] call = append-nil (writes m call)
 text_more after writes m (first ∷ calls) call =
     ap (λ l. writes m first ++ l) (text_more after writes (after m first) calls call) ∙ sym (append_assoc (writes m first) _ _)
 
+-- first these calls, then those
+pub text_split : {M : Type 0} (after : M → Call → M) (writes : M → Call → List ℕ) (m : M) (xs ys : List Call) → text_of_each after writes m (xs ++ ys) ≡ text_of_each after writes m xs ++ text_of_each after writes (after_each after m xs) ys
+text_split after writes m [] ys = refl
+text_split after writes m (x ∷ xs) ys =
+    ap (λ l. writes m x ++ l) (text_split after writes (after m x) xs ys) ∙ sym (append_assoc (writes m x) (text_of_each after writes (after m x) xs) (text_of_each after writes (after_each after (after m x) xs) ys))
+
 module _ {M : Type 0} (answer : M → Call → Result (Unit {0}) SerializeFault) (after : M → Call → M) (writes : M → Call → List ℕ) (breaks : M → Option (List ℕ) → Call → SerializeFault → M → Option (List ℕ) → Type 0) where
   pub made_means : {m : M} {t : Option (List ℕ)} {calls : List Call} {n : M} {u : Option (List ℕ)} → AreMade answer after writes breaks m t calls n u → n ≡ after_each after m calls
   made_means NoCall = refl

@@ -122,7 +122,7 @@ not_true true h = absurd (h refl)
 not_true false h = refl
 
 -- what lies behind a place
-rest_same : (xs : List ℕ) (from : ℕ) → take (length xs - from) (drop from xs) ≡ drop from xs
+pub rest_same : (xs : List ℕ) (from : ℕ) → take (length xs - from) (drop from xs) ≡ drop from xs
 rest_same xs from = take_all (length xs - from) (drop from xs) (omega (arith, length-drop from xs))
 
 pub rest_length : (xs : List ℕ) (from : ℕ) → length (take (length xs - from) (drop from xs)) ≡ length xs - from

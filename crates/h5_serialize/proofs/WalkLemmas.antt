@@ -2,11 +2,13 @@
 use Rattle.std.proofs.Common.{◌≡◌, ℕ, Bool, true, false, ◌||◌, cond, List, [], ◌∷◌, ◌++◌, Option, Result, Ok, Err, refl, sym, ap, ◌∙◌, subst}
 use Rattle.h5_serialize.specs.Call.{Call}
 use Rattle.h5_serialize.specs.Openers.{lacks_parent}
-use Rattle.h5_serialize.specs.Standing.{Standing, Broken, Working, answer_to, standing_after, text_written, IsBrokenBy, is_orphan, has_orphan}
+use Rattle.h5_serialize.specs.Standing.{Standing, Broken, Working, answer_to, standing_after, text_written, IsBrokenBy, is_orphan, has_orphan, walk_text}
 use Rattle.h5_serialize.specs.Walk.{Makes, AreMade, NoCall, OneMore, IsStopped, Starved, Refused, after_each}
 use Rattle.h5_serialize.specs.declared.fault.SerializeFault.{SerializeFault}
-use Rattle.h5_serialize.specs.declared.fault.SerializeFault.TheVariants.{NoParent, Failed}
-use Rattle.h5_serialize.proofs.EachLaws.{made_means}
+use Rattle.h5_serialize.specs.declared.fault.SerializeFault.TheVariants.{NoParent, Memory, Write, Failed}
+use Rattle.h5_serialize.specs.Fronts.{AppendsFront}
+use Rattle.h5_serialize.proofs.EachLaws.{made_means, made_writes, text_split}
+use Rattle.h5_serialize.proofs.FrontLaws.{front_first, front_later, front_none, front_whole}
 
 -- how it stands after these calls
 abbrev pub after_all : Standing → List Call → Standing
@@ -87,3 +89,22 @@ never_stopped {m} {t} (Refused made call left {k} {n} {v} {u} {fault} e h makes)
     let P : SerializeFault → Type 0 = λ f. Makes answer_to standing_after text_written IsBrokenBy call k v (Err f) n u in
     let answered = (subst P is makes).answered in
     works k call (subst IsWorking (sym standing) (working_after m made working)) answered
+
+-- a call that is refused has written a front of its text
+refused_front : {call : Call} {k n : Standing} {v u : Option (List ℕ)} (fault : SerializeFault) → Makes answer_to standing_after text_written IsBrokenBy call k v (Err fault) n u → AppendsFront v u (text_written k call)
+refused_front {call} {k} {n} {v} {u} NoParent makes = front_whole v u (text_written k call) makes.written
+refused_front {call} {k} {n} {v} {u} Memory makes = front_none v u (text_written k call) makes.broken.3
+refused_front {call} {k} {n} {v} {u} Write makes = makes.broken.2
+refused_front {call} {k} {n} {v} {u} Failed makes = front_whole v u (text_written k call) makes.written
+
+-- so has a walk that is stopped
+pub stopped_front : {m : Standing} {t : Option (List ℕ)} {calls : List Call} {fault : SerializeFault} {n : Standing} {u : Option (List ℕ)} → IsStopped answer_to standing_after text_written IsBrokenBy calls m t fault n u → AppendsFront t u (walk_text m calls)
+stopped_front {m} {t} {calls} {fault} {n} {u} (Starved made left e h) =
+    let parts = ap (walk_text m) e ∙ text_split standing_after text_written m made left in
+    front_first (walk_text m made) (walk_text (after_all m made) left) (walk_text m calls) parts (front_whole t u (walk_text m made) (made_writes answer_to standing_after text_written IsBrokenBy h))
+stopped_front {m} {t} {calls} (Refused made call left {k} {n} {v} {u} {fault} e h makes) =
+    let Behind : Standing → List ℕ = λ s. text_written s call ++ walk_text (standing_after s call) left in
+    let standing = made_means answer_to standing_after text_written IsBrokenBy h in
+    let parts = ap (walk_text m) e ∙ text_split standing_after text_written m made (call ∷ left) ∙ ap (λ s. walk_text m made ++ Behind s) (sym standing) in
+    let one = front_first (text_written k call) (walk_text (standing_after k call) left) (Behind k) refl (refused_front fault makes) in
+    front_later (walk_text m made) (Behind k) (walk_text m calls) parts (made_writes answer_to standing_after text_written IsBrokenBy h) one

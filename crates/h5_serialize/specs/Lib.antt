@@ -1,6 +1,7 @@
 pub mod Call
 pub mod Entries
 pub mod Escape
+pub mod Fronts
 pub mod Openers
 pub mod Places
 pub mod Names

@@ -1,6 +1,7 @@
 -- How the HTML serializer stands between two calls, and what it answers, writes and keeps.
 use Rattle.std.specs.Prelude.{◌≡◌, ◌||◌, ℕ, Bool, true, false, List, [], ◌∷◌, Option, Result, Ok, Err, if◌then◌else◌}
 use Rattle.h5_serialize.specs.Call.{Call, StartOf, EndOf, TextOf, CommentOf, DoctypeOf, InstructionOf}
+use Rattle.h5_serialize.specs.Fronts.{AppendsFront}
 use Rattle.h5_serialize.specs.Openers.{base_of, lacks_parent, openers_of, openers_left}
 use Rattle.h5_serialize.specs.Walk.{text_of_each}
 use Rattle.h5_serialize.specs.Writing.{written}
@@ -52,13 +53,14 @@ takes_memory (CommentOf text) = false
 takes_memory (DoctypeOf name) = false
 takes_memory (InstructionOf target content) = false
 
--- want of memory comes in such a call alone, before its first byte; how much a failing writer took isn't said. Either
--- comes in a call that had been answered Ok, and leaves the serializer broken. So after Memory or Write every call answers
--- Failed and writes nothing, and NoParent comes exactly where a parent lacks, whatever memory and writer do
+-- want of memory comes in such a call alone, before its first byte; a failing writer took a front of the call's text, and
+-- nothing behind that. Either comes in a call that had been answered Ok, and leaves the serializer broken. So after Memory or
+-- Write every call answers Failed and writes nothing, and NoParent comes exactly where a parent lacks, whatever memory and
+-- writer do
 abbrev pub IsBrokenBy : Standing → Option (List ℕ) → Call → SerializeFault → Standing → Option (List ℕ) → Type 0
 IsBrokenBy m t call NoParent n u = ⊥
 IsBrokenBy m t call Memory n u = (answer_to m call ≡ Ok tt) × (takes_memory call ≡ true) × (n ≡ Broken) × (u ≡ t)
-IsBrokenBy m t call Write n u = (answer_to m call ≡ Ok tt) × (n ≡ Broken)
+IsBrokenBy m t call Write n u = (answer_to m call ≡ Ok tt) × (n ≡ Broken) × AppendsFront t u (text_written m call)
 IsBrokenBy m t call Failed n u = ⊥
 
 -- the text of a walk

@@ -4,34 +4,64 @@
 //! before is written as it stands. It is searched for `&`, `<` and `>` first, and each segment between
 //! these for the others, so that no byte is searched more than twice. A short text is looked at byte by
 //! byte before that, since most need no escape.
-ghost use Rattle.std.specs.Prelude.{◌≡◌, ℕ, true, false, ◌<◌, ◌≤◌, ◌+◌, ◌++◌, ◌||◌, List, length, slice_index, OnOk, IfOk, IsOkUnless, MatchOption};
+ghost use Rattle.std.specs.Prelude.{◌≡◌, ℕ, true, false, ◌<◌, ◌≤◌, ◌+◌, ◌++◌, ◌||◌, List, length, slice_index, OnErr, IfOk, IsOkUnless, MatchOption};
 ghost use Rattle.std.specs.Char.{encode_utf8};
 ghost use Rattle.std.specs.Io.KnownBytes.{Appends};
 ghost use Rattle.memchr.specs.Find.{IsFirstByte, is_byte3};
 ghost use Rattle.h5_serialize.specs.Escape.{escape, escape_char};
+ghost use Rattle.h5_serialize.specs.Fronts.{AppendsFront, Writes};
 ghost use Rattle.h5_serialize.specs.Places.{reference_at, is_candidate, IsPlainBefore, HasNoMarkBefore};
 
 use super::fault::SerializeFault;
 use memchr::{memchr, memchr2, memchr3};
-use std::io::Write;
+use std::io::{ErrorKind, Write};
 
-/// Writes bytes. The fault is `Write`, where the writer fails.
+/// Writes bytes. The fault is `Write`, where the writer fails; it has taken a front of them then.
 pub fn write_bytes<Wr: Write>(writer: &mut Wr, bytes: &[u8]) -> Result<(), SerializeFault>
-    ensures bytes { OnOk result (Appends (Wr.contents writer.old) (Wr.contents writer.new) bytes.now) }
+    ensures bytes { Writes result (Wr.contents writer.old) (Wr.contents writer.new) bytes.now }
     ensures fault { IsOkUnless result SerializeFault.Write }
 {
-    match writer.write_all(bytes) {
-        Ok(()) => Ok(()),
-        Err(_) => Err(SerializeFault::Write),
+    let mut rest = bytes;
+    for _ in 0..u64::MAX {
+        if rest.is_empty() {
+            return Ok(());
+        }
+        match writer.write(rest) {
+            Ok(0) => return Err(SerializeFault::Write),
+            Ok(n) => rest = &rest[n..],
+            Err(error) => {
+                if error.kind() != ErrorKind::Interrupted {
+                    return Err(SerializeFault::Write);
+                }
+            }
+        }
     }
+    Err(SerializeFault::Write)
 }
 
-/// Writes a text as it stands. The fault is `Write`, where the writer fails.
+/// Writes a text as it stands. The fault is `Write`, where the writer fails; it has taken a front of it then.
 pub fn write_verbatim<Wr: Write>(writer: &mut Wr, text: &str) -> Result<(), SerializeFault>
-    ensures text { OnOk result (Appends (Wr.contents writer.old) (Wr.contents writer.new) text.now) }
+    ensures text { Writes result (Wr.contents writer.old) (Wr.contents writer.new) text.now }
     ensures fault { IsOkUnless result SerializeFault.Write }
 {
     write_bytes(writer, text.as_bytes())
+}
+
+/// Writes a text with what comes before and after it. The fault is `Write`, where the writer fails; it has taken a front
+/// of the three then.
+pub fn write_between<Wr: Write>(
+    writer: &mut Wr,
+    before: &str,
+    text: &str,
+    after: &str,
+) -> Result<(), SerializeFault>
+    ensures text { Writes result (Wr.contents writer.old) (Wr.contents writer.new)
+        (before.now ++ text.now ++ after.now) }
+    ensures fault { IsOkUnless result SerializeFault.Write }
+{
+    write_verbatim(writer, before)?;
+    write_verbatim(writer, text)?;
+    write_verbatim(writer, after)
 }
 
 // The place of the first `&`, `<` or `>`, or the length.
@@ -118,8 +148,7 @@ fn reference(attr_mode: bool, c: char) -> Option<&'static str>
 
 // Writes one character with its escape.
 fn write_char<Wr: Write>(writer: &mut Wr, attr_mode: bool, c: char) -> Result<(), SerializeFault>
-    ensures text { OnOk result
-        (Appends (Wr.contents writer.old) (Wr.contents writer.new) (escape_char attr_mode c)) }
+    ensures text { Writes result (Wr.contents writer.old) (Wr.contents writer.new) (escape_char attr_mode c) }
     ensures fault { IsOkUnless result SerializeFault.Write }
 {
     match reference(attr_mode, c) {
@@ -144,6 +173,8 @@ fn write_front<'a, Wr: Write>(
         (λ rest. (part : List ℕ) × Appends (Wr.contents writer.old) (Wr.contents writer.new) part
         × (escape attr_mode text.now ≡ part ++ escape attr_mode rest.now) × (length rest.now < length text.now)
         × HasNoMarkBefore rest.now (length rest.now))) }
+    ensures front { OnErr result
+        (AppendsFront (Wr.contents writer.old) (Wr.contents writer.new) (escape attr_mode text.now)) }
     ensures fault { IsOkUnless result SerializeFault.Write }
 {
     let n = first_reference(attr_mode, text.as_bytes());
@@ -168,8 +199,7 @@ fn write_segment<Wr: Write>(
     text: &str,
 ) -> Result<(), SerializeFault>
     requires { HasNoMarkBefore text.now (length text.now) }
-    ensures text { OnOk result
-        (Appends (Wr.contents writer.old) (Wr.contents writer.new) (escape attr_mode text.now)) }
+    ensures text { Writes result (Wr.contents writer.old) (Wr.contents writer.new) (escape attr_mode text.now) }
     ensures fault { IsOkUnless result SerializeFault.Write }
 {
     let mut rest = text;
@@ -191,6 +221,8 @@ fn write_to_mark<'a, Wr: Write>(
         (Appends (Wr.contents writer.old) (Wr.contents writer.new) (escape attr_mode text.now))
         (λ rest. (part : List ℕ) × Appends (Wr.contents writer.old) (Wr.contents writer.new) part
         × (escape attr_mode text.now ≡ part ++ escape attr_mode rest.now) × (length rest.now < length text.now))) }
+    ensures front { OnErr result
+        (AppendsFront (Wr.contents writer.old) (Wr.contents writer.new) (escape attr_mode text.now)) }
     ensures fault { IsOkUnless result SerializeFault.Write }
 {
     let n = first_mark(text.as_bytes());
@@ -237,14 +269,14 @@ fn is_short_and_plain(attr_mode: bool, text: &str) -> bool
     text.len() < 64 && plain_len(attr_mode, text.as_bytes()) == text.len()
 }
 
-/// Writes a text with its escapes. The fault is `Write`, where the writer fails.
+/// Writes a text with its escapes. The fault is `Write`, where the writer fails; it has taken a front of the escaped text
+/// then.
 pub fn write_escaped<Wr: Write>(
     writer: &mut Wr,
     text: &str,
     attr_mode: bool,
 ) -> Result<(), SerializeFault>
-    ensures text { OnOk result
-        (Appends (Wr.contents writer.old) (Wr.contents writer.new) (escape attr_mode text.now)) }
+    ensures text { Writes result (Wr.contents writer.old) (Wr.contents writer.new) (escape attr_mode text.now) }
     ensures fault { IsOkUnless result SerializeFault.Write }
 {
     if is_short_and_plain(attr_mode, text) {

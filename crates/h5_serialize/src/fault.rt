@@ -14,7 +14,7 @@ pub enum SerializeFault {
     /// Memory was refused. Of the call nothing was written, and every later call fails.
     #[error("out of memory")]
     Memory,
-    /// The writer failed. How much it took isn't known, and every later call fails.
+    /// The writer failed. It took a front of the call's text, and nothing behind that; every later call fails.
     #[error("the writer failed")]
     Write,
     /// An earlier call met a fault. Nothing was written.

@@ -1,13 +1,13 @@
 //! The serializer that writes HTML.
-ghost use Rattle.std.specs.Prelude.{◌≡◌, ◌++◌, ◌∷◌, [], OnOk, IfOk, IsOkUnless};
-ghost use Rattle.std.specs.Io.KnownBytes.{Appends};
+ghost use Rattle.std.specs.Prelude.{◌≡◌, ◌++◌, ◌∷◌, [], codes, IfOk, IsOkUnless};
 ghost use Rattle.std.specs.Iterator.{Drains, IsFinite};
 ghost use Rattle.h5_serialize.specs.Call.{EndOf};
+ghost use Rattle.h5_serialize.specs.Fronts.{Writes};
 ghost use Rattle.h5_serialize.specs.Standing.{IsBrokenBy, answer_to, new_standing, parent_answer, standing_after, text_written};
 ghost use Rattle.h5_serialize.specs.Walk.{Makes, MakesStart, Walks, WalksStart};
 
 use super::attributes::AttrRef;
-use super::escape::{write_escaped, write_verbatim};
+use super::escape::{write_between, write_escaped, write_verbatim};
 use super::fault::SerializeFault;
 use super::openers::{Opener, Openers};
 use super::options::SerializeOpts;
@@ -22,8 +22,8 @@ use std::marker::Model;
 ///
 /// A contract sees how it stands, that is its openers and options or that it is broken, and what its
 /// writer holds, where the writer tells that. Once a call has answered `Memory` or `Write` every call
-/// answers `Failed` and writes nothing. Only `start_elem` and `write_text` take memory, before their first
-/// byte.
+/// answers `Failed` and writes nothing; a call that answers `Write` has written a front of its text, and nothing
+/// behind that. Only `start_elem` and `write_text` take memory, before their first byte.
 #[derive(Drop)]
 pub struct HtmlSerializer<Wr: Write + Drop> {
     pub writer: Wr,
@@ -125,20 +125,18 @@ impl<Wr: Write + Drop> HtmlSerializer<Wr> {
     }
 }
 
-// Writes a text with what comes before and after it.
-fn write_between<Wr: Write>(
+// Writes a processing instruction.
+fn write_instruction<Wr: Write>(
     writer: &mut Wr,
-    before: &str,
-    text: &str,
-    after: &str,
+    target: &str,
+    content: &str,
 ) -> Result<(), SerializeFault>
-    ensures text { OnOk result (Appends (Wr.contents writer.old) (Wr.contents writer.new)
-        (before.now ++ text.now ++ after.now)) }
+    ensures text { Writes result (Wr.contents writer.old) (Wr.contents writer.new)
+        (codes "<?" ++ target.now ++ codes " " ++ content.now ++ codes ">") }
     ensures fault { IsOkUnless result SerializeFault.Write }
 {
-    write_verbatim(writer, before)?;
-    write_verbatim(writer, text)?;
-    write_verbatim(writer, after)
+    write_between(writer, "<?", target, " ")?;
+    write_between(writer, "", content, ">")
 }
 
 impl<Wr: Write + Drop> Serializer for HtmlSerializer<Wr> {
@@ -245,8 +243,7 @@ impl<Wr: Write + Drop> Serializer for HtmlSerializer<Wr> {
             return Err(SerializeFault::Failed);
         }
         self.failed = true;
-        write_between(&mut self.writer, "<?", target, " ")?;
-        write_between(&mut self.writer, "", content, ">")?;
+        write_instruction(&mut self.writer, target, content)?;
         self.failed = false;
         Ok(())
     }

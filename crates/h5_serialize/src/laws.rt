@@ -9,7 +9,9 @@ ghost use Rattle.h5_names.specs.declared.qualified.Attribute.{Attribute};
 ghost use Rattle.h5_names.specs.declared.qualified.QualName.{QualName};
 ghost use Rattle.h5_serialize.specs.Call.{Call, StartOf};
 ghost use Rattle.h5_serialize.specs.Escape.{escape};
-ghost use Rattle.h5_serialize.specs.Walk.{AreMade, Makes, MakesStart, Walks, WalksStart, after_each, text_of_each};
+ghost use Rattle.h5_serialize.specs.Fronts.{AppendsFront};
+ghost use Rattle.h5_serialize.specs.Standing.{IsBrokenBy, Standing, answer_to, standing_after, text_written, walk_text};
+ghost use Rattle.h5_serialize.specs.Walk.{AreMade, IsStopped, Makes, MakesStart, Walks, WalksStart, after_each, text_of_each};
 ghost use Rattle.h5_serialize.specs.declared.fault.SerializeFault.{SerializeFault};
 
 use super::serializer::Serializer;
@@ -40,6 +42,13 @@ pub fn calls_are_taken_in_turn<S: Serializer>()
 pub fn texts_are_written_in_turn<S: Serializer>()
     ensures { (calls : List Call) (m n : S.Meaning) (t u : Option (List ℕ)) →
         AreMade S.answer S.after S.writes S.breaks m t calls n u → Appends t u (text_of_each S.after S.writes m calls) }
+{}
+
+/// Where a walk of the serializer of HTML stops at a fault, its writer holds what it held before and a front of the text of the
+/// walk, and nothing behind that. Where nothing is known of the writer, nothing is said.
+pub fn a_stopped_walk_has_written_a_front()
+    ensures { (calls : List Call) (m n : Standing) (t u : Option (List ℕ)) (fault : SerializeFault) →
+        IsStopped answer_to standing_after text_written IsBrokenBy calls m t fault n u → AppendsFront t u (walk_text m calls) }
 {}
 
 /// A start that is made with the attributes of a slice, as in `start_elem(name, attrs.iter())` or

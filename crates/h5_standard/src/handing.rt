@@ -12,7 +12,7 @@ ghost use Rattle.h5_states.specs.States.{Text};
 ghost use Rattle.h5_standard.specs.Steps.{HandsOn};
 
 use h5_machine::{Construct, Machine};
-use h5_reading::{Stop, ask, ask_of_tag, ask_of_text, stop_of};
+use h5_reading::{Stop, ask, stop_of};
 use h5_states::TextKind;
 use h5_token::states::RawKind;
 use h5_token::{BuildFault, Tag, TagKind, Token, TokenSink, TokenSinkResult};
@@ -47,12 +47,12 @@ pub fn hand_on_text<S: TokenSink>(
 ) -> Result<Option<Stop<S::Handle>>, BuildFault>
     ensures { (p : Place) → HandsOn S.reply_to S.after S.node p (S.meaning sink.old) (Characters (string_bytes text)) line p (S.meaning sink.new) result }
 {
-    let answer = ask_of_text(sink, text, line)?;
+    let answer = ask(sink, Token::CharacterTokens(text), line)?;
     Ok(stop_of(answer))
 }
 
 /// Hands a tag on, and goes where it and the answer lead.
-#[inline(always)]
+#[inline(never)]
 pub fn hand_on_tag<S: TokenSink>(
     sink: &mut S,
     machine: &mut Machine,
@@ -65,12 +65,12 @@ pub fn hand_on_tag<S: TokenSink>(
     match tag.kind {
         TagKind::StartTag => {
             machine.set_last(tag.name.clone()?);
-            let answer = ask_of_tag(sink, tag, line)?;
+            let answer = ask(sink, Token::TagToken(tag), line)?;
             machine.read_text(chosen_text(&answer));
             Ok(stop_of(answer))
         }
         TagKind::EndTag => {
-            let answer = ask_of_tag(sink, tag, line)?;
+            let answer = ask(sink, Token::TagToken(tag), line)?;
             Ok(stop_of(answer))
         }
     }

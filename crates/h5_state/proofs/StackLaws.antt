@@ -15,10 +15,10 @@ use Rattle.h5_interface.specs.Changes.{mark}
 use Rattle.h5_interface.specs.Seen.{Seen, after_pop}
 use Rattle.h5_interface.specs.SinkChoices.{SinkChoices}
 use Rattle.h5_rules.specs.Changes.{pop}
-use Rattle.h5_interface.specs.Forest.{ElementNode, Forest, IsElement, Marks, contents_of, kind_of}
+use Rattle.h5_interface.specs.Forest.{ElementNode, Forest, IsElement, IsNode, Marks, contents_of, kind_of}
 use Rattle.h5_interface.proofs.MakingLaws.{mark_rearranges}
-use Rattle.h5_rules.specs.Sound.{AllStand}
-use Rattle.h5_rules.proofs.changes.SoundLaws.{all_rearranged, all_tail}
+use Rattle.h5_rules.specs.Sound.{AllStand, Sound}
+use Rattle.h5_rules.proofs.changes.SoundLaws.{all_rearranged, all_tail, element_is_node}
 use Rattle.h5_rules.proofs.entries.PairLaws.{in_left, in_right}
 use Rattle.h5_rules.proofs.changes.RemovalLaws.{last_or-append}
 
@@ -113,6 +113,10 @@ seen_at node (y ∷ ys) (suc i) x h e =
 pub element_at : {H : Type 0} (node : H → ℕ) (xs : List H) (f : Forest) (i : ℕ) (x : H) → ((n : ℕ) → IsIn n (reverse (map node xs)) → IsElement f n) → i < length (reverse (map node xs)) → x ≡ get_or xs i x → IsElement f (node x)
 element_at node xs f i x k h e =
     k (node x) (seen_at node xs i x (omega (arith, h, length-reverse (map node xs), length-map xs node)) e)
+
+-- an open element is a node
+pub open_is_node : (w : World) (n : ℕ) → Sound w → IsIn n w.stack → IsNode w.forest n
+open_is_node w n k h = element_is_node w.forest n (k.stands.elements n h)
 
 -- one element more
 pub stack_step : {H : Type 0} (node : H → ℕ) (xs : List H) (i : ℕ) (x : H) → i < length xs → x ≡ get_or xs i x → reverse (map node (take (i + 1) xs)) ≡ node x ∷ reverse (map node (take i xs))

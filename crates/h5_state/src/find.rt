@@ -2,7 +2,7 @@
 ghost use Rattle.std.specs.Prelude.{◌≡◌, ◌<◌, ◌+◌, ◌∷◌, MatchOption, Some, is_some, length};
 ghost use Rattle.h5_interface.specs.Forest.{IsElement};
 ghost use Rattle.h5_tag_sets.specs.TagSets.{is_default_scope};
-ghost use Rattle.h5_rules.specs.stack.Order.{is_in};
+ghost use Rattle.h5_rules.specs.stack.Order.{IsIn, is_in};
 ghost use Rattle.h5_rules.specs.stack.Scope.{node_in_scope};
 ghost use Rattle.h5_rules.specs.World.{name_in, names_of};
 ghost use Rattle.h5_state.specs.Numbers.{name_number};
@@ -25,6 +25,7 @@ pub fn handle_at<'a, S: TreeSink>(
     requires { place < length (world_of S.TreeSink sink.now state.now).stack }
     ensures stack { stack_under S.node state.now (place + 1) ≡ S.node result.now ∷ stack_under S.node state.now place }
     ensures count { length (stack_under S.node state.now place) ≡ place }
+    ensures open { IsIn (S.node result.now) (world_of S.TreeSink sink.now state.now).stack }
 {
     &state.open_elems.elements.get(place).handle
 }
@@ -33,11 +34,14 @@ pub fn handle_at<'a, S: TreeSink>(
 const FEW: usize = 16;
 
 // Where an element is open; the walk begins at the current node.
+#[tactic(auto, using(h5_rules::proofs::changes::SoundLaws::element_is_node))]
 fn find_among_all<S: TreeSink>(
     sink: &S,
     state: &State<S::Handle>,
     handle: &S::Handle,
 ) -> Option<usize>
+    requires sound { IsSound S.TreeSink sink.now state.now }
+    requires element { IsElement (S.sees sink.now).forest (S.node handle.now) }
     ensures found { is_some result ≡ is_in (S.node handle.now) (world_of S.TreeSink sink.now state.now).stack }
     ensures place { MatchOption result (Unit {0}) (λ place. IsOpenAt (S.node handle.now) place (world_of S.TreeSink sink.now state.now)) }
     ensures inside { MatchOption result (Unit {0}) (λ place. place < length (world_of S.TreeSink sink.now state.now).stack) }
@@ -54,6 +58,7 @@ fn find_among_all<S: TreeSink>(
 
 // Where an element is open whose name has this number: the walk goes from the newest open element of the number to ever
 // older ones.
+#[tactic(auto, using(h5_rules::proofs::changes::SoundLaws::element_is_node))]
 fn find_numbered<S: TreeSink>(
     sink: &S,
     state: &State<S::Handle>,
@@ -61,6 +66,7 @@ fn find_numbered<S: TreeSink>(
     number: u32,
 ) -> Option<usize>
     requires sound { IsSound S.TreeSink sink.now state.now }
+    requires element { IsElement (S.sees sink.now).forest (S.node handle.now) }
     requires number { name_number state.now.open_elems.numbers (name_in (S.sees sink.now).forest (S.node handle.now)) ≡ Some number }
     ensures found { is_some result ≡ is_in (S.node handle.now) (world_of S.TreeSink sink.now state.now).stack }
     ensures place { MatchOption result (Unit {0}) (λ place. IsOpenAt (S.node handle.now) place (world_of S.TreeSink sink.now state.now)) }
@@ -102,8 +108,10 @@ pub fn find_open<S: TreeSink>(
 }
 
 /// Whether this element is open and in scope.
+#[tactic(auto, using(h5_rules::proofs::changes::SoundLaws::element_is_node))]
 pub fn is_node_in_scope<S: TreeSink>(sink: &S, state: &State<S::Handle>, handle: &S::Handle) -> bool
-    requires { IsSound S.TreeSink sink.now state.now }
+    requires sound { IsSound S.TreeSink sink.now state.now }
+    requires element { IsElement (S.sees sink.now).forest (S.node handle.now) }
     ensures { result ≡ node_in_scope (S.node handle.now) is_default_scope (names_of (world_of S.TreeSink sink.now state.now)) (world_of S.TreeSink sink.now state.now).stack }
 {
     let mut place = open_count(sink, state);

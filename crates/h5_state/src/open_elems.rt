@@ -192,6 +192,7 @@ pub fn check_body_end<S: TreeSink>(sink: &mut S, state: &State<S::Handle>)
 /// A handle of the root, or of the document where no element is open.
 #[tactic(auto, unfolding(crate::specs::View::world))]
 pub fn root_node<S: TreeSink>(sink: &S, state: &State<S::Handle>) -> S::Handle
+    requires { IsSound S.TreeSink sink.now state.now }
     ensures { S.node result ≡ root (world_of S.TreeSink sink.now state.now) }
 {
     match state.open_elems.elements.first() {

@@ -2,6 +2,7 @@
 ghost use Rattle.std.specs.Prelude.{◌≡◌, codes, is_some};
 ghost use Rattle.std.specs.Option.{option_map};
 ghost use Rattle.h5_tag_sets.specs.TagSets.{is_html_named};
+ghost use Rattle.h5_interface.specs.Forest.{IsNode};
 ghost use Rattle.h5_rules.specs.modes.InBody.{is_quirks};
 ghost use Rattle.h5_rules.specs.modes.InTableText.{saved_mode};
 ghost use Rattle.h5_rules.specs.Rows.{ClearForm, MarkStarted, Pop, SaveMode, SetFoster, SetFramesetNotOk, SetIgnoreLf, SetMode, SetQuirksMode};
@@ -83,7 +84,9 @@ pub fn set_quirks_mode<S: TreeSink>(sink: &mut S, state: &mut State<S::Handle>, 
 /// A handle of the current node, or of the document where no element is open.
 #[tactic(auto, unfolding(crate::specs::View::world))]
 pub fn current_node<S: TreeSink>(sink: &S, state: &State<S::Handle>) -> S::Handle
-    ensures { S.node result ≡ current (world_of S.TreeSink sink.now state.now) }
+    requires { IsSound S.TreeSink sink.now state.now }
+    ensures current { S.node result ≡ current (world_of S.TreeSink sink.now state.now) }
+    ensures node { IsNode (S.sees sink.now).forest (S.node result) }
 {
     match state.open_elems.elements.last() {
         Some(element) => sink.clone_handle(&element.handle),

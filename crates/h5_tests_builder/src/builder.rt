@@ -3,12 +3,11 @@ use super::feeding::{
     ArenaBuilder, end, new_builder, start, taking, with_end, with_start, with_text,
 };
 use h5_arena::{Arena, NodeId};
-use h5_names::LocalName;
-use h5_tests_sinks::{Agreeing, html_of};
-use h5_token::{Doctype, Tag, TagKind, Token, TokenSink, TokenSinkResult};
+use h5_tests_sinks::Agreeing;
+use h5_token::{Doctype, Tag, Token, TokenSink, TokenSinkResult};
 use h5_tree_builder::{TreeBuilder, html_elem};
 use h5_types::TreeBuilderOpts;
-use std::alloc::{AllocError, Global};
+use std::alloc::Global;
 use std::test::Fail;
 
 #[test]
@@ -21,30 +20,6 @@ fn a_builder_takes_tokens_as_any_sink_of_them(rt: HostRuntime) -> Result<(), Fai
     assert!(rt; !TokenSink::adjusted_current_node_present_but_not_in_html_namespace(&builder));
     TokenSink::end(&mut builder);
     assert!(rt; TokenSink::process_token(&mut builder, Token::EOFToken, 1).is_err());
-    Ok(())
-}
-
-// A tag without attributes.
-fn tag(alloc: Global, kind: TagKind, name: &str) -> Result<Tag, AllocError> {
-    Ok(Tag {
-        kind,
-        name: LocalName::new(alloc, name)?,
-        self_closing: false,
-        attrs: Vec::new(alloc),
-        had_duplicate_attributes: false,
-    })
-}
-
-#[test]
-fn a_builder_takes_tags_and_texts_as_they_are(rt: HostRuntime) -> Result<(), Fail> {
-    let alloc = rt.alloc();
-    let mut builder = new_builder(alloc)?;
-    builder.process_tag(tag(alloc, TagKind::StartTag, "p")?, 1)?;
-    builder.process_characters(String::from_str(alloc, "x")?, 2)?;
-    builder.process_tag(tag(alloc, TagKind::EndTag, "p")?, 2)?;
-    let html = html_of(alloc, &builder.sink)?;
-    let page = "<html><head></head><body><p>x</p></body></html>";
-    assert_eq!(rt; html.as_slice(), page.as_bytes());
     Ok(())
 }
 

@@ -1,12 +1,10 @@
 //! What takes tokens.
 ghost use Rattle.std.specs.Prelude.{◌≡◌, ◌⊎◌, ℕ, Bool, Err};
-ghost use Rattle.std.specs.String.{string_bytes};
-ghost use Rattle.h5_token.specs.TokenText.{Characters, TagIs, TokenText, tag_text, token_text};
+ghost use Rattle.h5_token.specs.TokenText.{TokenText, token_text};
 ghost use Rattle.h5_token.specs.Reply.{Reply, Answers};
 
 use super::fault::BuildFault;
 use super::states::RawKind;
-use super::tag::Tag;
 use super::tokens::Token;
 
 /// What a taker of tokens asks of the reader.
@@ -62,33 +60,6 @@ pub trait TokenSink {
         ensures answer { Answers node result (reply_to (meaning self.old) (token_text token)) }
         ensures after { (result ≡ Err BuildFault.Memory)
             ⊎ (meaning self.new ≡ after (meaning self.old) (token_text token) line_number) };
-
-    /// Takes a tag that began in this line, as `process_token` takes it in a token. Most of a page are tags and
-    /// texts, and a taker may have ways of its own for them.
-    fn process_tag(
-        &mut self,
-        tag: Tag,
-        line_number: u64,
-    ) -> Result<TokenSinkResult<Self::Handle>, BuildFault>
-        ensures answer { Answers node result (reply_to (meaning self.old) (TagIs (tag_text tag))) }
-        ensures after { (result ≡ Err BuildFault.Memory)
-            ⊎ (meaning self.new ≡ after (meaning self.old) (TagIs (tag_text tag)) line_number) }
-    {
-        self.process_token(Token::TagToken(tag), line_number)
-    }
-
-    /// Takes a text that began in this line, as `process_token` takes it in a token.
-    fn process_characters(
-        &mut self,
-        text: String,
-        line_number: u64,
-    ) -> Result<TokenSinkResult<Self::Handle>, BuildFault>
-        ensures answer { Answers node result (reply_to (meaning self.old) (Characters (string_bytes text))) }
-        ensures after { (result ≡ Err BuildFault.Memory)
-            ⊎ (meaning self.new ≡ after (meaning self.old) (Characters (string_bytes text)) line_number) }
-    {
-        self.process_token(Token::CharacterTokens(text), line_number)
-    }
 
     /// Takes note that no token comes any more.
     fn end(&mut self)

@@ -14,7 +14,7 @@ use super::plain::{begin_long, begin_text, cut_plain, take_plain, take_texts};
 use super::state::{Search, State, Turn};
 use super::tokens::make_token;
 use h5_markup::{Inside, Seen, Sought, make_bare, seek_end};
-use h5_reading::{LastName, Stop, ask, ask_of_tag, ask_of_text, newlines_passed, stop_of};
+use h5_reading::{LastName, Stop, ask, newlines_passed, stop_of};
 use h5_token::{BuildFault, Tag, TagKind, Token, TokenSink, TokenSinkResult};
 use std::alloc::Global;
 
@@ -29,7 +29,7 @@ fn chosen_mode<H>(answer: &TokenSinkResult<H>) -> Mode
 }
 
 // Hands a tag on, and goes where it and the answer lead.
-#[inline(always)]
+#[inline(never)]
 fn hand_on_tag<S: TokenSink>(
     sink: &mut S,
     state: &mut State,
@@ -41,12 +41,12 @@ fn hand_on_tag<S: TokenSink>(
     match tag.kind {
         TagKind::StartTag => {
             state.last = LastName::read(tag.name.clone()?);
-            let answer = ask_of_tag(sink, tag, state.line)?;
+            let answer = ask(sink, Token::TagToken(tag), state.line)?;
             state.mode = chosen_mode(&answer);
             Ok(stop_of(answer))
         }
         TagKind::EndTag => {
-            let answer = ask_of_tag(sink, tag, state.line)?;
+            let answer = ask(sink, Token::TagToken(tag), state.line)?;
             state.mode = Mode::Data;
             Ok(stop_of(answer))
         }
@@ -80,7 +80,7 @@ fn hand_on_text<S: TokenSink>(
     ensures { HandsOn S.reply_to S.after S.node (place_of state.now) (S.meaning sink.old) (Characters (string_bytes text))
         (place_of state.now) (S.meaning sink.new) result }
 {
-    let answer = ask_of_text(sink, text, state.line)?;
+    let answer = ask(sink, Token::CharacterTokens(text), state.line)?;
     Ok(stop_of(answer))
 }
 

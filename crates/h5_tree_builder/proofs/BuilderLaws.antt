@@ -24,7 +24,7 @@ use Rattle.h5_tree_builder.specs.Chains.{CameTo}
 use Rattle.h5_tree_builder.specs.Held.{IsKept}
 use Rattle.h5_tree_builder.specs.declared.turns_taken.Taken.{Taken}
 
-fits_first : (seen : Seen) (opts : TreeBuilderOpts) → Fits (first_world seen opts)
+pub fits_first : (seen : Seen) (opts : TreeBuilderOpts) → Fits (first_world seen opts)
 unfolding names_of
 fits_first seen opts = record { mode = fits_none (first_world seen opts) refl refl; lists = lists_none }
 

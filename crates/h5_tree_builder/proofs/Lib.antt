@@ -1,5 +1,4 @@
 pub mod ActiveFormattingLaws
-pub mod BodyLaws
 pub mod BuilderLaws
 pub mod ChainLaws
 pub mod DispatchLaws
@@ -7,6 +6,5 @@ pub mod EndLaws
 pub mod FragmentLaws
 pub mod RootLaws
 pub mod SettledLaws
-pub mod TableTextLaws
 pub mod TextLaws
 pub mod WholeLaws

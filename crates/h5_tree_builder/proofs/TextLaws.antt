@@ -1,5 +1,5 @@
 -- The chain of turns of one run is the text rule on it.
-use Rattle.std.proofs.Common.{◌≡◌, ◌≢◌, ℕ, zero, suc, ◌<◌, Bool, true, false, cond, codes, List, [], ◌∷◌, ◌++◌, Option, Some, None, take, drop, refl, ap, sym, subst, ◌∙◌, arith}
+use Rattle.std.proofs.Common.{◌≡◌, ◌≢◌, ℕ, zero, suc, ◌<◌, Bool, true, false, cond, codes, List, [], ◌∷◌, ◌++◌, Option, Some, None, take, drop, refl, ap, sym, ◌∙◌, arith}
 use Rattle.std.proofs.lemmas.List.{append-nil, take-append-drop}
 use Rattle.h5_token.specs.declared.sink.TokenSinkResult.TheVariants.{Continue}
 use Rattle.h5_interface.specs.SinkChoices.{SinkChoices}
@@ -28,13 +28,13 @@ use Rattle.h5_rules.specs.Settle.{Settled, by_row, ends_with, settle, then_turns
 use Rattle.h5_rules.specs.modes.Shared.{current_is, in_body_text}
 use Rattle.h5_rules.specs.Text.{IsRun, after_row, all_blanks, by_else, closes_column_group, foreign_text, fostered_text, text_in_column_group, text_in_table, text_in_table_text, dropped, in_next, if_any, split, text_after_body, text_after_head, text_any, text_before_head, text_before_html, text_in, text_in_body, text_in_head, text_in_head_noscript, text_initial, text_rule, is_quiet_text, unless_foreign}
 use Rattle.h5_rules.specs.Run.{is_empty_text, text_step}
-use Rattle.h5_rules.specs.Sound.{Fits, Fitting}
+use Rattle.h5_rules.specs.Sound.{Fitting}
 use Rattle.h5_rules.specs.modes.Tables.{foster}
 use Rattle.h5_rules.specs.World.{World}
 use Rattle.h5_laws.proofs.cuts.CutLaws.{by_foreign, by_mode, text_cut}
 use Rattle.h5_laws.proofs.modes.ForeignRowLaws.{dispatch_foreign}
 use Rattle.h5_laws.proofs.cuts.ForeignTextLaws.{kept_back_foreign}
-use Rattle.h5_laws.proofs.turns.SettleLaws.{settle-text-row, settle-text-turn, settle_fitting}
+use Rattle.h5_laws.proofs.turns.SettleLaws.{settle-text-row, settle-text-turn}
 use Rattle.h5_rules.proofs.changes.TreeLaws.{tree_reconstruct}
 use Rattle.h5_tree_builder.specs.Chains.{CameTo}
 use Rattle.h5_plain.proofs.CutGoesLaws.{body_mode}
@@ -330,12 +330,6 @@ module _ (choices : SinkChoices) (b : ℕ) (t : List ℕ) where
 pub run_is : (choices : SinkChoices) (s : SplitStatus) (run : List ℕ) (w v : World) → run ≢ [] → IsRun w.mode (is_foreign_text choices w) s run → v ≡ (settle choices (TextTurn s run) w).world → v ≡ text_any choices run w
 run_is choices s [] w v some r f = absurd (some refl)
 run_is choices s (b ∷ x) w v some r f = f ∙ run_meets choices b x s w r
-
--- what holds at every turn holds after a run
-pub run_fits : (choices : SinkChoices) (s : SplitStatus) (run : List ℕ) (w v : World) → run ≢ [] → IsRun w.mode (is_foreign_text choices w) s run → Fitting w → v ≡ text_any choices run w → Fits v
-run_fits choices s run w v some r k e =
-    let settled = (settle choices (TextTurn s run) w).world in
-    subst Fits (run_is choices s run w settled some r refl ∙ sym e) (settle_fitting choices (TextTurn s run) some w k).fits
 
 pub run_is_quiet : (choices : SinkChoices) (s : SplitStatus) (run : List ℕ) (w : World) → run ≢ [] → is_quiet_text w.mode ≡ true → (settle choices (TextTurn s run) w).quiet ≡ true
 run_is_quiet choices s [] w some q = absurd (some refl)

@@ -1,8 +1,7 @@
 -- What code that lets turns follow each other did.
-use Rattle.std.specs.Prelude.{◌≡◌, ℕ, ◌+◌, Bool, true, false, Result, Ok, Err, IfOk, OnOk}
+use Rattle.std.specs.Prelude.{◌≡◌, ℕ, ◌+◌, Bool, true, false, Result, IfOk, OnOk}
 use Rattle.std.specs.declared.alloc.AllocError.{AllocError}
 use Rattle.h5_token.specs.Reply.{reply}
-use Rattle.h5_token.specs.declared.sink.TokenSinkResult.{TokenSinkResult}
 use Rattle.h5_token.specs.TokenText.{TokenText, Characters, ParseErrorIs}
 use Rattle.h5_interface.specs.SinkChoices.{SinkChoices}
 use Rattle.h5_interface.specs.declared.sink.TreeSink.{Ghosts}
@@ -33,15 +32,6 @@ pub record Settles {S H O : Type 0} (law : Ghosts S H O) (defined : World → Se
   pub came : IfOk result (λ r. CameTo law.node (defined (world_of law old_sink old_state)) counted (world_of law new_sink new_state) (errors_of law old_sink) (errors_of law new_sink) r)
   pub sound : IsSound law new_sink new_state
   pub fits : OnOk result (Fits (world_of law new_sink new_state))
-
--- what was taken, where the answer stands apart from the turns
-abbrev pub taken_by : {H : Type 0} → TokenSinkResult H → Result ℕ AllocError → Result (Taken H) AllocError
-taken_by answer (Ok turns) = Ok (record { turns = turns; answer = answer })
-taken_by answer (Err e) = Err e
-
--- the same as `Settles`, of these
-abbrev pub SettlesApart : {S H O : Type 0} → Ghosts S H O → (World → Settled) → Bool → S → State H → S → State H → TokenSinkResult H → Result ℕ AllocError → Type 0
-SettlesApart law defined counted old_sink old_state new_sink new_state answer result = Settles law defined counted old_sink old_state new_sink new_state (taken_by answer result)
 
 -- after so many turns: the chain of the first world ends as that of this one
 pub record Left (choices : SinkChoices) (t : TurnText) (first now : World) (first_errors errors count : ℕ) : Type 0 where

@@ -3,6 +3,4 @@ pub mod Builder
 pub mod Chains
 pub mod Fragment
 pub mod Held
-pub mod TextInBody
-pub mod TextInTable
 pub mod Replies

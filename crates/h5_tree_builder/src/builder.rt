@@ -1,5 +1,5 @@
 //! The tree builder.
-ghost use Rattle.std.specs.Prelude.{◌≡◌, ◌++◌, [], ◌∷◌, false, true, IfErr, IfOk, MatchOption, option_map};
+ghost use Rattle.std.specs.Prelude.{◌≡◌, ◌++◌, [], ◌∷◌, false, true, IfErr, IfOk, MatchOption, is_some, option_map};
 ghost use Rattle.h5_interface.specs.Forest.{ChildNode, IsElement, children_of};
 ghost use Rattle.h5_token.specs.TokenText.{token_text};
 ghost use Rattle.h5_rules.specs.Sound.{Fits, Fitting, HasLists, Sound};
@@ -88,6 +88,7 @@ impl<Handle: Drop, Sink: TreeSink<Handle = Handle> + Drop> TreeBuilder<Handle, S
         requires context { IsElement (Sink.sees sink).forest (Sink.node context_elem) }
         requires form { MatchOption form_elem (Unit {0}) (λ form. IsElement (Sink.sees sink).forest (Sink.node form)) }
         ensures first { IfOk result (λ builder. building Sink.sees Sink.node builder ≡ first_fragment Sink.choices (Sink.sees sink) (Sink.node context_elem) (option_map (λ form. Sink.node form) form_elem) opts) }
+        ensures fragment { IfOk result (λ builder. is_some (building Sink.sees Sink.node builder).view.world.context ≡ true) }
         ensures last { IfOk result (λ builder. children_of (building Sink.sees Sink.node builder).view.world.forest (Sink.sees sink).forest.document ≡ children_of (Sink.sees sink).forest (Sink.sees sink).forest.document ++ ChildNode (Sink.choices.fresh (Sink.sees sink).forest) ∷ []) }
         ensures fitting { IfOk result (λ builder. Fitting (building Sink.sees Sink.node builder).view.world) }
         ensures memory { IfErr result (λ fault. fault ≡ BuildFault.Memory) }
@@ -115,6 +116,7 @@ impl<Handle: Drop, Sink: TreeSink<Handle = Handle> + Drop> TreeBuilder<Handle, S
     /// After want of memory it answers `Failed`, after the end `AfterEnd`, and to a start tag, a comment or a
     /// null in the mode "text" `NotInText`; and then nothing has changed, in the sink neither. Where memory is
     /// refused now it answers `Memory`, and the turns stay those of the token before.
+    #[inline(always)]
     pub fn process_token(
         &mut self,
         token: Token,

@@ -1,7 +1,6 @@
 //! The turns of one token (HTML standard, section 13.2.6, "the tree construction dispatcher").
 ghost use Rattle.std.specs.Prelude.{◌≡◌, ◌<◌, false, true, IfOk};
-ghost use Rattle.h5_token.specs.TokenText.{tag_text};
-ghost use Rattle.h5_types.specs.TurnText.{HasText, TagTurn, is_self_closing as is_closing_turn, turn_text};
+ghost use Rattle.h5_types.specs.TurnText.{HasText, is_self_closing as is_closing_turn, turn_text};
 ghost use Rattle.h5_rules.specs.insertion.Foreign.{is_foreign};
 ghost use Rattle.h5_rules.specs.modes.ForeignContent.{dispatch};
 ghost use Rattle.h5_rules.specs.modes.Modes.{rule};
@@ -29,17 +28,12 @@ use h5_rules_templates::{
 use h5_state::{
     State, Turn, current_mode, set_mode, take_again, take_answer, tell_error, unexpected,
 };
-use h5_token::{Tag, TagKind, TokenSinkResult};
+use h5_token::{TagKind, TokenSinkResult};
 use h5_types::{InsertionMode, ProcessResult, Token};
 use std::alloc::AllocError;
 
-/// One turn, by the rule of the mode, whichever it is.
-#[inline(never)]
-pub fn step_by_any_mode<S: TreeSink>(
-    sink: &mut S,
-    state: &mut State<S::Handle>,
-    token: Token,
-) -> Turn
+// One turn, by the rule of the mode.
+fn step_by_mode<S: TreeSink>(sink: &mut S, state: &mut State<S::Handle>, token: Token) -> Turn
     requires ready { IsReady S.TreeSink sink.old state.old }
     requires text { HasText (turn_text token) }
     ensures { FollowsRule S.TreeSink (rule (world_of S.TreeSink sink.old state.old).mode (turn_text token)) (turn_text token) sink.old state.old sink.new state.new result }
@@ -69,19 +63,6 @@ pub fn step_by_any_mode<S: TreeSink>(
     }
 }
 
-// One turn, by the rule of the mode. Most tokens of a page come in the body.
-#[inline(always)]
-fn step_by_mode<S: TreeSink>(sink: &mut S, state: &mut State<S::Handle>, token: Token) -> Turn
-    requires ready { IsReady S.TreeSink sink.old state.old }
-    requires text { HasText (turn_text token) }
-    ensures { FollowsRule S.TreeSink (rule (world_of S.TreeSink sink.old state.old).mode (turn_text token)) (turn_text token) sink.old state.old sink.new state.new result }
-{
-    match current_mode(sink, state) {
-        InsertionMode::InBody => step_in_body(sink, state, token),
-        _ => step_by_any_mode(sink, state, token),
-    }
-}
-
 // One turn in foreign content: by its rules, or by the rule of the mode after all.
 #[inline(never)]
 fn step_in_foreign<S: TreeSink>(sink: &mut S, state: &mut State<S::Handle>, token: Token) -> Turn
@@ -92,7 +73,7 @@ fn step_in_foreign<S: TreeSink>(sink: &mut S, state: &mut State<S::Handle>, toke
 {
     match step_foreign(sink, state, token)? {
         ForeignStep::Ended(result) => Ok(result),
-        ForeignStep::ByMode(again) => step_by_any_mode(sink, state, again),
+        ForeignStep::ByMode(again) => step_by_mode(sink, state, again),
     }
 }
 
@@ -110,25 +91,18 @@ fn step<S: TreeSink>(sink: &mut S, state: &mut State<S::Handle>, token: Token) -
     }
 }
 
-/// Whether a tag is a start tag with the self-closing flag.
-pub fn is_self_closing_tag(tag: &Tag) -> bool
-    ensures { result ≡ is_closing_turn (TagTurn (tag_text tag.now)) }
-{
-    tag.kind == TagKind::StartTag && tag.self_closing
-}
-
-// Whether a token is one.
+// Whether a token is a start tag with the self-closing flag.
 fn is_self_closing(token: &Token) -> bool
     ensures { result ≡ is_closing_turn (turn_text token.now) }
 {
     match token {
-        Token::Tag(tag) => is_self_closing_tag(tag),
+        Token::Tag(tag) => tag.kind == TagKind::StartTag && tag.self_closing,
         _ => false,
     }
 }
 
-/// A self-closing flag that nobody acknowledged is a parse error.
-pub fn check_flag<S: TreeSink>(sink: &mut S, state: &State<S::Handle>, self_closing: bool)
+// A self-closing flag that nobody acknowledged is a parse error.
+fn check_flag<S: TreeSink>(sink: &mut S, state: &State<S::Handle>, self_closing: bool)
     requires { IsSound S.TreeSink sink.old state.now }
     ensures told { TellsErrors S.TreeSink sink.old sink.new state.now }
     ensures quiet { self_closing ≡ false → errors_of S.TreeSink sink.new ≡ errors_of S.TreeSink sink.old }
@@ -145,7 +119,8 @@ pub fn check_flag<S: TreeSink>(sink: &mut S, state: &State<S::Handle>, self_clos
 
 /// The chain of a token: turn after turn, as long as they end in "again". It gives how many turns there were and
 /// what is answered, or an `AllocError` where memory is refused; what was built so far is sound then.
-pub fn settle_token<S: TreeSink>(
+#[inline(always)]
+pub fn process_to_completion<S: TreeSink>(
     sink: &mut S,
     state: &mut State<S::Handle>,
     token: Token,

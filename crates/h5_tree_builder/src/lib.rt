@@ -1,9 +1,8 @@
 //! The tree builder (HTML standard, section 13.2.6, "Tree construction").
 //!
 //! `builder` has the builder over a sink, and `token_sink` how it takes the tokens of a reader. `process_token` takes a
-//! token by its kind, `process_tag` a tag or a text without a token around it, and `process_all` a list of tokens.
-//! `dispatch` has the turns of a token, `tag` those of a tag, and `text` the runs of a text; `doctype` takes doctypes,
-//! `refusal` tells which tokens don't come in a text, and `end` has the end. `first_state` and `fragment` have where a
+//! token by its kind, and `process_all` a list of tokens. `dispatch` has the turns of a token, and `text` the runs of a text;
+//! `doctype` takes doctypes, `refusal` tells which tokens don't come in a text, and `end` has the end. `first_state` and `fragment` have where a
 //! builder of a document or of a fragment begins (section 13.4), and `queries` what a builder is asked.
 //!
 //! It stands on `h5_state`, on the crates of rules, whose steps it takes, and on `h5_laws` and `h5_plain`. The parser
@@ -21,12 +20,10 @@ mod foreign;
 mod fragment;
 mod open_elems;
 mod process_all;
-mod process_tag;
 mod process_token;
 mod queries;
 mod refusal;
 mod replies;
-mod tag;
 mod text;
 mod token_sink;
 mod turns_taken;

@@ -1,23 +1,17 @@
 //! Tokens that don't come in a text (HTML standard, section 13.2.6.4.8): its reader gives no tags but the end tag, no
 //! comments and no nulls.
 ghost use Rattle.std.specs.Prelude.{◌≡◌};
-ghost use Rattle.h5_token.specs.TokenText.{TagIs, tag_text, token_text};
+ghost use Rattle.h5_token.specs.TokenText.{token_text};
 ghost use Rattle.h5_rules.specs.Run.{is_refused_in_text, refuses_in};
 
-use h5_token::{Tag, TagKind, Token};
+use h5_token::{TagKind, Token};
 use h5_types::InsertionMode;
-
-fn is_refused_tag(tag: &Tag) -> bool
-    ensures { result ≡ is_refused_in_text (TagIs (tag_text tag.now)) }
-{
-    tag.kind == TagKind::StartTag
-}
 
 fn is_refused_in_text(token: &Token) -> bool
     ensures { result ≡ is_refused_in_text (token_text token.now) }
 {
     match token {
-        Token::TagToken(tag) => is_refused_tag(tag),
+        Token::TagToken(tag) => tag.kind == TagKind::StartTag,
         Token::CommentToken(_) | Token::NullCharacterToken => true,
         _ => false,
     }
@@ -30,17 +24,6 @@ pub fn refuses_in(mode: InsertionMode, token: &Token) -> bool
 {
     match mode {
         InsertionMode::Text => is_refused_in_text(token),
-        _ => false,
-    }
-}
-
-/// Whether a tag is refused in a mode.
-#[inline(always)]
-pub fn refuses_tag_in(mode: InsertionMode, tag: &Tag) -> bool
-    ensures { result ≡ refuses_in mode (TagIs (tag_text tag.now)) }
-{
-    match mode {
-        InsertionMode::Text => is_refused_tag(tag),
         _ => false,
     }
 }

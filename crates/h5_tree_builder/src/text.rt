@@ -2,8 +2,6 @@
 //! that a rule takes alike is taken at once).
 ghost use Rattle.std.specs.Prelude.{◌≡◌, ◌≢◌, ◌<◌, [], length, take, true, IfOk, IsOk, OnOk, string_bytes};
 ghost use Rattle.std.specs.Str.{IsCharBoundary};
-ghost use Rattle.h5_types.specs.declared.modes.InsertionMode.TheVariants.{InTableText};
-ghost use Rattle.h5_rules.specs.Changes.{append_pending_text, save_mode, set_mode};
 ghost use Rattle.h5_rules.specs.insertion.Foreign.{is_foreign_text};
 ghost use Rattle.h5_rules.specs.Run.{is_empty_text, text_step, without_lf};
 ghost use Rattle.h5_rules.specs.Sound.{Fits};
@@ -11,19 +9,14 @@ ghost use Rattle.h5_rules.specs.Text.{IsRun, is_quiet_text, text_any};
 ghost use Rattle.h5_types.specs.declared.modes.SplitStatus.TheVariants.{NotSplit};
 ghost use Rattle.h5_state.specs.Steps.{IsSound, errors_of, world_of};
 ghost use Rattle.h5_tree_builder.specs.Chains.{IsReady, Settles};
-ghost use Rattle.h5_tree_builder.specs.TextInBody.{TakesTextByBody};
-ghost use Rattle.h5_tree_builder.specs.TextInTable.{KeepsTextBack};
 
-use super::dispatch::settle_token;
+use super::dispatch::process_to_completion;
 use super::turns_taken::Taken;
-use h5_closing::is_current_table_outer;
-use h5_insertion::{is_foreign_text, is_in_known_html};
+use h5_insertion::is_foreign_text;
 use h5_interface::TreeSink;
-use h5_rules_body::in_body_text;
-use h5_rules_tables::{begin_table_text, keep_table_text};
-use h5_state::{State, current_mode, first_run, set_mode};
+use h5_state::{State, current_mode, first_run};
 use h5_token::TokenSinkResult;
-use h5_types::{InsertionMode, SplitStatus, Token};
+use h5_types::{SplitStatus, Token};
 use std::alloc::AllocError;
 
 // The first run of a text: whole in foreign content, where a text isn't split.
@@ -42,52 +35,9 @@ fn next_run<S: TreeSink>(sink: &S, state: &State<S::Handle>, text: &str) -> (Spl
     }
 }
 
-// Whether texts go by the rule of "in body". It may answer no where they do, too.
-#[tactic(auto, unfolding(h5_rules::specs::insertion::Foreign::is_foreign))]
+// A run of a text.
 #[inline(always)]
-fn takes_text_by_body<S: TreeSink>(sink: &S, state: &State<S::Handle>) -> bool
-    requires { IsSound S.TreeSink sink.now state.now }
-    ensures { result ≡ true → TakesTextByBody S.choices (world_of S.TreeSink sink.now state.now) }
-{
-    match current_mode(sink, state) {
-        InsertionMode::InBody | InsertionMode::InCell => is_in_known_html(sink, state),
-        _ => false,
-    }
-}
-
-// Whether texts are kept back until the table goes on. It may answer no where they are, too.
-#[tactic(auto, unfolding(h5_rules::specs::insertion::Foreign::is_foreign))]
-#[inline(always)]
-fn keeps_text_back<S: TreeSink>(sink: &S, state: &State<S::Handle>) -> bool
-    requires { IsSound S.TreeSink sink.now state.now }
-    ensures { result ≡ true → KeepsTextBack S.choices (world_of S.TreeSink sink.now state.now) }
-{
-    match current_mode(sink, state) {
-        InsertionMode::InTable | InsertionMode::InTableBody | InsertionMode::InRow => {
-            is_in_known_html(sink, state) && is_current_table_outer(sink, state)
-        }
-        _ => false,
-    }
-}
-
-// Keeps a text back, as two turns do.
-fn keep_text_back<S: TreeSink>(
-    sink: &S,
-    state: &mut State<S::Handle>,
-    run: String,
-) -> Result<(), AllocError>
-    requires { IsSound S.TreeSink sink.now state.old }
-    ensures kept { OnOk result (world_of S.TreeSink sink.now state.new ≡ append_pending_text (string_bytes run) (set_mode InTableText (save_mode (world_of S.TreeSink sink.now state.old)))) }
-    ensures sound { IsSound S.TreeSink sink.now state.new }
-{
-    let mode = begin_table_text(sink, state);
-    set_mode(sink, state, mode);
-    keep_table_text(sink, state, run)
-}
-
-// The chain of a run. In the body it is one turn, and mostly two in a table.
-#[inline(always)]
-fn settle_run<S: TreeSink>(
+fn process_run<S: TreeSink>(
     sink: &mut S,
     state: &mut State<S::Handle>,
     status: SplitStatus,
@@ -101,15 +51,7 @@ fn settle_run<S: TreeSink>(
     ensures sound { IsSound S.TreeSink sink.new state.new }
     ensures fits { OnOk result (Fits (world_of S.TreeSink sink.new state.new)) }
 {
-    if takes_text_by_body(sink, state) {
-        in_body_text(sink, state, status, run)?;
-        return Ok(1);
-    }
-    if keeps_text_back(sink, state) {
-        keep_text_back(sink, state, run)?;
-        return Ok(2);
-    }
-    let taken = settle_token(sink, state, Token::Characters(status, run))?;
+    let taken = process_to_completion(sink, state, Token::Characters(status, run))?;
     Ok(taken.turns)
 }
 
@@ -132,7 +74,7 @@ fn process_runs<S: TreeSink>(
         let (status, length) = next_run(sink, state, rest);
         let (run, tail) = rest.split_at(length);
         let run = String::from_str(state.alloc, run)?;
-        turns = turns.saturating_add(settle_run(sink, state, status, run)?);
+        turns = turns.saturating_add(process_run(sink, state, status, run)?);
         rest = tail;
     }
     Ok(turns)
@@ -158,7 +100,7 @@ fn process_text<S: TreeSink>(
     }
     let (status, length) = next_run(sink, state, text.as_str());
     if length == text.len() {
-        settle_run(sink, state, status, text)
+        process_run(sink, state, status, text)
     } else {
         process_runs(sink, state, text.as_str())
     }

@@ -1,7 +1,7 @@
 //! A tree builder takes the tokens of a reader.
 use super::builder::TreeBuilder;
 use h5_interface::TreeSink;
-use h5_token::{BuildFault, Tag, Token, TokenSink, TokenSinkResult};
+use h5_token::{BuildFault, Token, TokenSink, TokenSinkResult};
 
 impl<Handle: Drop, Sink: TreeSink<Handle = Handle> + Drop> TokenSink for TreeBuilder<Handle, Sink> {
     ghost use Rattle.h5_rules.specs.Run.{View, after_token, reply_to as reply_of};
@@ -25,28 +25,13 @@ impl<Handle: Drop, Sink: TreeSink<Handle = Handle> + Drop> TokenSink for TreeBui
 
     ghost is_foreign = { λ v. is_foreign_in v.world };
 
+    #[inline(always)]
     fn process_token(
         &mut self,
         token: Token,
         line_number: u64,
     ) -> Result<TokenSinkResult<Handle>, BuildFault> {
         TreeBuilder::process_token(self, token, line_number)
-    }
-
-    fn process_tag(
-        &mut self,
-        tag: Tag,
-        line_number: u64,
-    ) -> Result<TokenSinkResult<Handle>, BuildFault> {
-        TreeBuilder::process_tag(self, tag, line_number)
-    }
-
-    fn process_characters(
-        &mut self,
-        text: String,
-        line_number: u64,
-    ) -> Result<TokenSinkResult<Handle>, BuildFault> {
-        TreeBuilder::process_characters(self, text, line_number)
     }
 
     fn end(&mut self) {

@@ -82,11 +82,7 @@ type Builder = TreeBuilder<NodeId, Arena>;
 type Reader = Tokenizer<Written<Builder>>;
 
 fn reader_over(alloc: Global, builder: Builder, opts: TokenizerOpts) -> Reader {
-    let sink = Written {
-        sink: builder,
-        text: String::new(alloc),
-    };
-    Tokenizer::new(alloc, sink, opts)
+    Tokenizer::new(alloc, Written::new(alloc, builder), opts)
 }
 
 // A builder of a fragment in a new element of this name, and the state in which the fragment is read.
@@ -96,7 +92,6 @@ fn builder_in<Sink: TreeSink + Drop>(
     name: QualName,
     opts: TreeBuilderOpts,
 ) -> Result<(TreeBuilder<Sink::Handle, Sink>, State), BuildFault> {
-    let _document = sink.get_document();
     let mut sink = sink;
     let context = create_element(&mut sink, name, Vec::new(alloc))?;
     let builder = TreeBuilder::new_for_fragment(alloc, sink, context, None, opts)?;

@@ -35,7 +35,7 @@ pub fn written_documents_come_back<Sink: TreeSink + Drop>()
         → ProcessedAll Sink.choices Sink.sees Sink.node pieces first last
         → Parses Sink.choices last.reader.place (view_of Sink.sees Sink.node last) (ahead last.reader last.waiting) told
         → ComesBack told d
-        × (IsForest told.forest → walk_text (new_standing opts) (walk_of told.forest told.forest.document opts.traversal_scope) ≡ joined pieces) }
+        × (walk_text (new_standing opts) (walk_of told.forest told.forest.document opts.traversal_scope) ≡ joined pieces) }
 {
     documents_are_written();
     documents_come_back::<Sink>();

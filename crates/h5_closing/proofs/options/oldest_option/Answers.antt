@@ -2,6 +2,7 @@ use Rattle.std.proofs.Common.{Some, ap, ◌++◌, arith, codes, drop, map, rever
 use Rattle.h5_tag_sets.specs.TagSets.{is_html_named}
 use Rattle.h5_rules.specs.World.{names_of}
 use Rattle.h5_rules.proofs.changes.PopLaws.{names_length}
+use Rattle.h5_rules.proofs.changes.SoundLaws.{element_is_node}
 use Rattle.h5_state.specs.Newest.{oldest_where}
 use Rattle.h5_state.specs.View.{elements_of, open_node, stack_under, world}
 use Rattle.h5_state.specs.declared.open_element.AllOpen.{AllOpen}
@@ -19,6 +20,10 @@ open_at-requires-clause-place g c =
     let w = world g.S.TreeSink.sees g.S.TreeSink.node c.args.sink.now c.args.state.now in
     let is = is_html_named (codes "option") in
     omega (arith, c.if-place-eq0.false, ap (λ (a : AllOpen). a.oldest_option) c.all_open-place.ensures.known, oldest_le is (names_of w), names_length w)
+
+pub clone_handle-requires : goal.clone_handle-requires
+clone_handle-requires g c =
+    element_is_node (g.S.TreeSink.sees c.args.sink.now).forest (g.S.TreeSink.node c.open_at.result.now.handle) c.open_at.ensures.element
 
 pub returns-clause-oldest : goal.returns-clause-oldest
 unfolding world stack_under

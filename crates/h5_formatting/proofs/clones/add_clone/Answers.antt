@@ -1,8 +1,11 @@
+use Rattle.std.proofs.Common.{subst, sym}
 use Rattle.h5_token.specs.TokenText.{tag_text}
+use Rattle.h5_interface.specs.Forest.{IsNode}
 use Rattle.h5_state.specs.View.{world}
 use Rattle.h5_state.proofs.StepLaws.{sound_rearranged}
 use Rattle.h5_formatting.proofs.CloneLaws.{cloned_kinds, cloned_loose, cloned_sound}
 use Rattle.h5_formatting.proofs.HangLaws.{may_hang}
+use Rattle.h5_formatting.proofs.NodeLaws.{nodes_kept, nodes_pushed}
 use Rattle.h5_formatting.proofs.clones.add_clone.Goals as goal
 
 pub wrap-requires-clause-is_forest : goal.wrap-requires-clause-is_forest
@@ -31,6 +34,14 @@ returns-in_err-push-clause-sound g c =
 pub returns-clause-sound : goal.returns-clause-sound
 returns-clause-sound g c =
     cloned_sound g.S.TreeSink c.args.sink.now c.wrap.new.sink c.args.state.now (tag_text c.args.tag.now) (g.S.TreeSink.node c.args.clones.now.outermost) c.requires.sound c.requires.may c.in_ok-outer.ensures.ok
+
+pub returns-clause-nodes : goal.returns-clause-nodes
+returns-clause-nodes g c = λ there.
+    let node = g.S.TreeSink.node in
+    let old = (g.S.TreeSink.sees c.args.sink.now).forest in
+    let new = (g.S.TreeSink.sees c.wrap.new.sink).forest in
+    let kinds = cloned_kinds g.S.TreeSink c.args.sink.now c.wrap.new.sink c.args.state.now (tag_text c.args.tag.now) (node c.args.clones.now.outermost) c.requires.sound c.requires.may c.in_ok-outer.ensures.ok in
+    nodes_pushed node new c.args.clones.now.made.items _ _ c.in_ok-push.ensures.items (nodes_kept old new _ kinds there) (subst (IsNode new) (sym c.clone_handle-copy.ensures) c.in_ok-outer.ensures.node)
 
 pub returns-clause-loose : goal.returns-clause-loose
 returns-clause-loose g c = λ block loose.

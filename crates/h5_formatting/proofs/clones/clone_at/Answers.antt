@@ -7,7 +7,16 @@ use Rattle.h5_state.specs.View.{world}
 use Rattle.h5_list.specs.Listed.{entry_of}
 use Rattle.h5_formatting.specs.Hanging.{nest_of, with_clone_by}
 use Rattle.h5_formatting.proofs.CloneLaws.{EntryIs, entry_is, entry_no_marker, entry_tag, newest_same, clone_told, tag_none}
+use Rattle.h5_formatting.proofs.NodeLaws.{listed_nodes, open_nodes}
 use Rattle.h5_formatting.proofs.clones.clone_at.Goals as goal
+
+pub find_entry-requires-clause-listed : goal.find_entry-requires-clause-listed
+unfolding world
+find_entry-requires-clause-listed g c = listed_nodes (world_of g.S.TreeSink c.args.sink.now c.args.state.now) c.requires.sound.sound
+
+pub find_entry-requires-clause-handle : goal.find_entry-requires-clause-handle
+unfolding world
+find_entry-requires-clause-handle g c = open_nodes (world_of g.S.TreeSink c.args.sink.now c.args.state.now) c.requires.sound.sound (g.S.TreeSink.node c.handle_at.result.now) c.handle_at.ensures.open
 
 pub returns-in-Element-clause-done : goal.returns-in-Element-clause-done
 unfolding world

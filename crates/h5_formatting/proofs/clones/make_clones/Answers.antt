@@ -2,6 +2,7 @@ use Rattle.std.proofs.Common.{◌≡◌, ◌<◌, ◌+◌, ◌-◌, ◌∷◌, s
 use Rattle.h5_rules.specs.formatting.InnerLoop.{picked}
 use Rattle.h5_rules.proofs.entries.PairLaws.{before_first}
 use Rattle.h5_rules.specs.formatting.AdoptionAgency.{IsLoose}
+use Rattle.h5_rules.specs.stack.Order.{IsIn}
 use Rattle.h5_rules.proofs.adoption.AdoptionForest.{kinds_refl, kinds_trans, loose_block}
 use Rattle.h5_state.specs.Steps.{world_of}
 use Rattle.h5_state.specs.View.{elements_of, open_node, world}
@@ -9,8 +10,13 @@ use Rattle.h5_state.proofs.AttributeLaws.{open_length}
 use Rattle.h5_formatting.specs.Hanging.{nest_of, open_between}
 use Rattle.h5_formatting.proofs.CloneLaws.{newest_same}
 use Rattle.h5_formatting.proofs.NestLaws.{between_more, between_none, grown, grown_first, grown_more, grown_none, has_older, picked_gone, under_more}
+use Rattle.h5_formatting.proofs.NodeLaws.{open_nodes}
 use Rattle.h5_formatting.proofs.clones.make_clones.Goals.{then-near-test+else-left-gt0, else-near-test}
 use Rattle.h5_formatting.proofs.clones.make_clones.Goals as goal
+
+pub clone_handle-outermost-requires : goal.clone_handle-outermost-requires
+unfolding world
+clone_handle-outermost-requires g c = open_nodes (world_of g.S.TreeSink c.args.sink.now c.args.state.now) c.requires.sound.sound (g.S.TreeSink.node c.handle_at.result.now) c.handle_at.ensures.open
 
 pub near-init : goal.near-init
 unfolding world
@@ -27,6 +33,7 @@ near-init g c =
       kinds = kinds_refl f;
       quiet = refl;
       quirks = refl;
+      nodes = λ n i. absurd (subst (λ xs. IsIn n (map node xs)) c.new-made.ensures.items i);
       loose = λ n rest e.
           let same = newest_same _ n _ _ rest c.handle_at.ensures.stack e in
           subst (λ m. IsLoose f w.stack m (node c.clone_handle-outermost.result)) same
@@ -72,6 +79,7 @@ near-preserved g c =
       kinds = kinds_trans (g.S.TreeSink.sees c.args.sink.now).forest (g.S.TreeSink.sees c.near.sink).forest (g.S.TreeSink.sees c.clone_at.new.sink).forest c.near.invariant.kinds c.clone_at.ensures.kinds;
       quiet = c.clone_at.ensures.quiet ∙ c.near.invariant.quiet;
       quirks = c.in_ok-clone_at.ensures.quirks ∙ c.near.invariant.quirks;
+      nodes = c.in_ok-clone_at.ensures.nodes c.near.invariant.nodes;
       loose = λ n older e. c.in_ok-clone_at.ensures.loose n (c.near.invariant.loose n older e);
       left = λ n older e.
           ap (grown choices l (picked (c.near.left - 1) l (open_between node state first place))) (c.in_ok-clone_at.ensures.done under.element _ under.step)

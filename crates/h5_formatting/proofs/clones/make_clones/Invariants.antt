@@ -1,10 +1,11 @@
-use Rattle.std.proofs.Common.{◌≡◌, ◌≤◌, ◌+◌, ◌-◌, ◌∷◌, ℕ, List}
+use Rattle.std.proofs.Common.{◌≡◌, ◌≤◌, ◌+◌, ◌-◌, ◌∷◌, ℕ, List, map}
 use Rattle.h5_rules.specs.formatting.Adoption.{to_clone}
 use Rattle.h5_rules.specs.formatting.InnerLoop.{picked}
 use Rattle.h5_rules.specs.formatting.AdoptionAgency.{IsLoose, nest, KeepsKinds}
 use Rattle.h5_state.specs.Steps.{IsSound, world_of}
 use Rattle.h5_state.specs.View.{stack_under}
 use Rattle.h5_formatting.specs.Hanging.{nest_of, open_between}
+use Rattle.h5_formatting.specs.Places.{AreNodes}
 use Rattle.h5_formatting.proofs.NestLaws.{grown}
 use Rattle.h5_formatting.proofs.clones.make_clones.Given as goal
 
@@ -23,6 +24,7 @@ invariant-near g l =
       kinds : KeepsKinds was.forest seen.forest;
       quiet : seen.errors ≡ was.errors;
       quirks : seen.quirks ≡ was.quirks;
+      nodes : AreNodes seen.forest (map node l.clones.made.items);
       loose : (n : ℕ) (older : List ℕ) → stack_under node l.state (l.block + 1) ≡ n ∷ older → IsLoose seen.forest w.stack n (node l.clones.outermost);
       left : (n : ℕ) (older : List ℕ) → stack_under node l.state (l.block + 1) ≡ n ∷ older →
           grown choices w.formatting (picked l.left w.formatting (open_between node l.state l.first l.place)) (nest_of node seen.forest l.clones)

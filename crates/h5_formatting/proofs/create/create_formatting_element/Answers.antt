@@ -24,7 +24,7 @@ returns g c =
     let new = with_list (entries_of node c.push_formatting.new.entries) v in
     let made : v ≡ insert_for choices t w = c.in_ok-insert_element.ensures.world ∙ ap (λ u. insert_for choices u w) c.in_ok-copy.ensures in
     let pushed : ((m : _ → ℕ) → _) → new ≡ create_formatting_element choices t w = λ e.
-    ap (λ l. with_list l v) (e node ∙ ap (λ n. push_formatting n t v.formatting) c.current_node-handle.ensures) ∙ ap (with_pushed t) made in
+    ap (λ l. with_list l v) (e node ∙ ap (λ n. push_formatting n t v.formatting) c.current_node-handle.ensures.current) ∙ ap (with_pushed t) made in
     record {
       world = ok_then c.push_formatting.result pushed c.push_formatting.ensures.ok;
       quiet = c.insert_element.ensures.quiet;

@@ -8,6 +8,12 @@ use Rattle.h5_formatting.specs.View.{list_under}
 use Rattle.h5_formatting.proofs.EntryLaws.{other_entry, passed_more}
 use Rattle.h5_formatting.proofs.find.find_entry.Goals as goal
 
+pub same_node-requires-clause-x : goal.same_node-requires-clause-x
+same_node-requires-clause-x g c =
+    let node = g.S.TreeSink.node in
+    let m = node c.in-Element.listed in
+    c.requires.listed m (c.entry_at.ensures.listed m (tag_text c.in-Element.field-1) (ap (entry_of node) c.in-Element.is))
+
 pub down-preserved-else-same_node : goal.down-preserved-else-same_node
 down-preserved-else-same_node g c =
     let node = g.S.TreeSink.node in

@@ -1,7 +1,7 @@
 use Rattle.std.proofs.Common.{ap, sym, subst, ◌∙◌, refl, arith}
 use Rattle.h5_rules.specs.formatting.AdoptionAgency.{KeepsKinds}
 use Rattle.h5_interface.specs.Changes.{detach}
-use Rattle.h5_interface.specs.Forest.{ChildNode, Forest}
+use Rattle.h5_interface.specs.Forest.{ChildNode, Forest, IsNode}
 use Rattle.h5_interface.specs.Seen.{Seen, changed}
 use Rattle.h5_rules.specs.insertion.Place.{CanPut, appropriate_place, put}
 use Rattle.h5_rules.proofs.adoption.AdoptionForest.{can_detach, detached_all, detached_kinds}
@@ -14,6 +14,7 @@ use Rattle.h5_state.specs.View.{stack_under, world}
 use Rattle.h5_formatting.proofs.MoveLaws.{next_is_first, next_is_older, next_is_open, not_lowest, place_inside}
 use Rattle.h5_rules.specs.Sound.{AllStand}
 use Rattle.h5_formatting.proofs.HangLaws.{err_then, ok_then, on_either}
+use Rattle.h5_formatting.proofs.NodeLaws.{node_kept}
 use Rattle.h5_formatting.proofs.ViewLaws.{sound_by, sound_rehung}
 use Rattle.h5_formatting.proofs.moved_block.move_block.Given as given
 use Rattle.h5_formatting.proofs.moved_block.move_block.Goals as goal
@@ -60,6 +61,16 @@ pub returns-in_err-remove_from_parent-clause-sound : goal.returns-in_err-remove_
 unfolding world
 returns-in_err-remove_from_parent-clause-sound g c =
     sound_by g.S.TreeSink c.args.sink.now c.remove_from_parent.new.self c.args.state.now (λ f. f) c.in_err-remove_from_parent.ensures.err c.requires.sound c.requires.sound.sound (λ n there. refl)
+
+pub clone_handle-requires : goal.clone_handle-requires
+unfolding world
+clone_handle-requires g c =
+    let may = c.requires.may in
+    let seen = g.S.TreeSink.sees c.args.sink.now in
+    let w = world_of g.S.TreeSink c.args.sink.now c.args.state.now in
+    let last = g.S.TreeSink.node c.args.outermost.now in
+    subst (λ (s : Seen). IsNode s.forest last) (sym c.in_ok-remove_from_parent.ensures.ok)
+    (node_kept seen.forest (detach last seen.forest) last (detached_kinds seen.forest w.stack may.furthest.block last c.requires.sound.sound.stands.is_forest may.loose) may.loose.is_node)
 
 pub insert_at-requires : goal.insert_at-requires
 unfolding world

@@ -2,7 +2,7 @@ use Rattle.std.proofs.Common.{ap, sym, ◌++◌, ◌+◌, ◌∙◌, ◌≡◌, 
 use Rattle.std.specs.Prelude.{◌==◌}
 use Rattle.h5_rules.specs.formatting.AdoptionAgency.{is_formatting_element}
 use Rattle.h5_rules.specs.World.{current}
-use Rattle.h5_rules.specs.formatting.FormattingList.{ElementEntry}
+use Rattle.h5_rules.specs.formatting.FormattingList.{ElementEntry, nodes_of}
 use Rattle.h5_state.specs.Steps.{world_of}
 use Rattle.h5_state.specs.View.{world}
 use Rattle.h5_list.specs.Listed.{entry_of}
@@ -10,7 +10,14 @@ use Rattle.h5_formatting.specs.EntryPlaces.{is_entry_of}
 use Rattle.h5_formatting.specs.View.{list_under}
 use Rattle.h5_formatting.proofs.EntryLaws.{list_cut}
 use Rattle.h5_state.proofs.SeenLaws.{same_tail}
+use Rattle.h5_formatting.proofs.NodeLaws.{entry_is_node, listed_nodes}
 use Rattle.h5_formatting.proofs.questions.closes_current.Goals as goal
+
+pub is_entry_of-requires-clause-entry : goal.is_entry_of-requires-clause-entry
+unfolding world
+is_entry_of-requires-clause-entry g c =
+    let w = world_of g.S.TreeSink c.args.sink.now c.args.state.now in
+    entry_is_node w.forest (nodes_of w.formatting) (entry_of g.S.TreeSink.node c.entry_at.result.now) (listed_nodes w c.requires.sound) c.entry_at.ensures.listed
 
 pub returns-in-Some : goal.returns-in-Some
 unfolding world
@@ -26,5 +33,5 @@ returns-in-Some g c =
     let first : entry_of node c.entry_at.result.now ≡ ElementEntry k.element.node k.element.tag = cc (same.1) in
     c.is_entry_of.ensures
     ∙ ap (is_entry_of (node c.current_node.result)) first
-    ∙ ap (λ n. n == k.element.node) c.current_node.ensures
+    ∙ ap (λ n. n == k.element.node) c.current_node.ensures.current
     ∙ ap (is_formatting_element (current w)) (sym k.newest)

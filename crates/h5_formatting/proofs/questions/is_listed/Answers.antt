@@ -5,6 +5,8 @@ use Rattle.h5_state.specs.View.{world}
 use Rattle.h5_list.specs.Listed.{entry_of}
 use Rattle.h5_list.proofs.WalkLaws.{under, under_all, under_more}
 use Rattle.h5_formatting.specs.View.{list_under}
+use Rattle.h5_formatting.proofs.ListLaws.{entries_cut}
+use Rattle.h5_formatting.proofs.NodeLaws.{entry_in, entry_is_node, listed_nodes}
 use Rattle.h5_formatting.proofs.NamedLaws.{is_here, is_older, passed_others}
 use Rattle.h5_formatting.proofs.questions.is_listed.Goals as goal
 
@@ -20,6 +22,18 @@ down-init g c =
       place = omega (arith, c.pass_others-place.ensures.within, c.len.ensures);
       left = passed ∙ ap (λ l. is_in n (nodes_of l)) (under_all node items c.len.result c.len.ensures);
     }
+
+pub is_entry_of-requires-clause-entry : goal.is_entry_of-requires-clause-entry
+unfolding world
+is_entry_of-requires-clause-entry g c =
+    let node = g.S.TreeSink.node in
+    let w = world g.S.TreeSink.sees node c.args.sink.now c.args.state.now in
+    let items = c.args.state.now.active_formatting in
+    let place : _ = c.down.place - 1 in
+    let x = c.get.result.now in
+    let there : place < length items = omega (arith, c.down-test.true, c.down.invariant.place) in
+    entry_is_node w.forest (nodes_of w.formatting) (entry_of node x) (listed_nodes w c.requires.sound.sound)
+    (λ n t e. entry_in w.formatting _ _ (entry_of node x) n t (entries_cut node items place x there c.get.ensures) e)
 
 pub returns-then-is_entry_of : goal.returns-then-is_entry_of
 unfolding world list_under

@@ -1,5 +1,6 @@
 use Rattle.std.proofs.Common.{ap, length, sym, ◌++◌, ◌+◌, ◌∙◌, ◌≤◌, arith}
 use Rattle.std.proofs.lemmas.Bool.{le-ltb}
+use Rattle.h5_rules.specs.formatting.FormattingList.{nodes_of}
 use Rattle.h5_state.specs.Steps.{world_of}
 use Rattle.h5_state.specs.View.{world}
 use Rattle.h5_list.specs.Listed.{entry_of}
@@ -8,7 +9,14 @@ use Rattle.h5_formatting.specs.View.{list_under}
 use Rattle.h5_formatting.proofs.EntryLaws.{list_cut}
 use Rattle.h5_formatting.proofs.GoneLaws.{no_entry_past}
 use Rattle.h5_formatting.proofs.ListLaws.{entry_at_cut}
+use Rattle.h5_formatting.proofs.NodeLaws.{entry_is_node, listed_nodes}
 use Rattle.h5_formatting.proofs.questions.is_listed_at.Goals as goal
+
+pub is_entry_of-requires-clause-entry : goal.is_entry_of-requires-clause-entry
+unfolding world
+is_entry_of-requires-clause-entry g c =
+    let w = world_of g.S.TreeSink c.args.sink.now c.args.state.now in
+    entry_is_node w.forest (nodes_of w.formatting) (entry_of g.S.TreeSink.node c.entry_at.result.now) (listed_nodes w c.requires.sound.sound) c.entry_at.ensures.listed
 
 pub returns-then-at-entry_count : goal.returns-then-at-entry_count
 unfolding world

@@ -32,7 +32,7 @@ returns-in_ok-insert_element-clause-world g c =
     let list = ap (λ (z : World). length z.formatting) c.in_ok-insert_element.ensures.world ∙ ap length (formatting-insert_for choices (tag_text c.in_ok-copy.copy) w) in
     let inside : c.args.place < length c.insert_element.new.state.active_formatting = omega (arith, c.requires.place, list, length_entries node c.insert_element.new.state.active_formatting) in
     let handed = entry_set node c.insert_element.new.state.active_formatting _ c.args.place (node c.current_node-handle.result) over.entry _ inside over.was over.is (entry_handed node c.current_node-handle.result over.entry) in
-    let is = ap (λ l. with_list l v) (handed ∙ ap (λ n. with_node_at c.args.place n v.formatting) c.current_node-handle.ensures) in
+    let is = ap (λ l. with_list l v) (handed ∙ ap (λ n. with_node_at c.args.place n v.formatting) c.current_node-handle.ensures.current) in
     let there = entry_there node items c.args.place c.get.result.now (omega (arith, c.requires.place, length_entries node items)) c.get.ensures ∙ ap (entry_of node) c.in-Element.is in
     is ∙ ap (with_current_at c.args.place) was ∙ sym (ap (λ e. renewed_by choices c.args.place e w) there)
 
@@ -49,7 +49,7 @@ returns-in_ok-insert_element-clause-sound g c =
     let list = ap (λ (z : World). length z.formatting) c.in_ok-insert_element.ensures.world ∙ ap length (formatting-insert_for choices (tag_text c.in_ok-copy.copy) w) in
     let inside : c.args.place < length c.insert_element.new.state.active_formatting = omega (arith, c.requires.place, list, length_entries node c.insert_element.new.state.active_formatting) in
     let handed = entry_set node c.insert_element.new.state.active_formatting _ c.args.place (node c.current_node-handle.result) over.entry _ inside over.was over.is (entry_handed node c.current_node-handle.result over.entry) in
-    let is = ap (λ l. with_list l v) (handed ∙ ap (λ n. with_node_at c.args.place n v.formatting) c.current_node-handle.ensures) in
+    let is = ap (λ l. with_list l v) (handed ∙ ap (λ n. with_node_at c.args.place n v.formatting) c.current_node-handle.ensures.current) in
     let there = entry_there node items c.args.place c.get.result.now (omega (arith, c.requires.place, length_entries node items)) c.get.ensures ∙ ap (entry_of node) c.in-Element.is in
     sound_with_current choices (tag_text c.in-Element.tag) w g.S.TreeSink c.insert_element.new.sink c.insert_element.new.state _ c.args.place (node c.in-Element.field-0) there c.requires.sound.sound was is refl
     c.insert_element.ensures.sound

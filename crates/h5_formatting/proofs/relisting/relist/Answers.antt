@@ -1,18 +1,28 @@
-use Rattle.std.proofs.Common.{[], ap, append_assoc, arith, drop, length, map, refl, sym, take, ◌++◌, ◌-◌, ◌<◌, ◌∙◌, ◌∷◌, ◌≡◌}
+use Rattle.std.proofs.Common.{[], ap, append_assoc, arith, drop, length, map, refl, subst, sym, take, ◌++◌, ◌-◌, ◌<◌, ◌∙◌, ◌∷◌, ◌≡◌}
 use Rattle.std.proofs.lemmas.Bool.{eqb-false, eqb-true}
 use Rattle.std.proofs.lemmas.List.{nil_from_length}
 use Rattle.std.specs.Prelude.{vec_len}
 use Rattle.h5_rules.specs.World.{World}
 use Rattle.h5_rules.specs.formatting.Adoption.{round_list}
-use Rattle.h5_rules.specs.formatting.FormattingList.{ElementEntry}
+use Rattle.h5_rules.specs.formatting.FormattingList.{ElementEntry, nodes_of}
 use Rattle.h5_state.specs.Steps.{world_of}
 use Rattle.h5_state.specs.View.{stack_under, world}
+use Rattle.h5_formatting.specs.Places.{AreNodes}
+use Rattle.h5_formatting.proofs.NodeLaws.{handle_in, listed_nodes, nodes_swapped, open_nodes}
 use Rattle.h5_formatting.proofs.RelistsLaws as laws
 use Rattle.h5_state.proofs.SeenLaws.{drop_more}
 use Rattle.h5_formatting.proofs.relisting.relist.Goals as goal
 
-pub relist_between-requires : goal.relist_between-requires
-relist_between-requires g c =
+pub relist_between-requires-clause-open : goal.relist_between-requires-clause-open
+unfolding world
+relist_between-requires-clause-open g c = open_nodes (world_of g.S.TreeSink c.args.sink.now c.args.state.now) c.requires.sound.sound
+
+pub relist_between-requires-clause-listed : goal.relist_between-requires-clause-listed
+unfolding world
+relist_between-requires-clause-listed g c = listed_nodes (world_of g.S.TreeSink c.args.sink.now c.args.state.now) c.requires.sound.sound
+
+pub relist_between-requires-clause-block : goal.relist_between-requires-clause-block
+relist_between-requires-clause-block g c =
     let r = c.requires.relists in
     laws.block_inside r.0 r.1 _ _ _ _ _ _ r.2
 
@@ -29,9 +39,9 @@ swap_entry-requires g c =
     (laws.between_taken p.0 p.1 clones n c.args.at c.args.first c.args.block w p.2 node state refl) c.relist_between.ensures.world in
     laws.place_inside p.0 p.1 clones n c.args.at c.args.first c.args.block w p.2 _ _ walked
 
-pub move_above-requires : goal.move_above-requires
+pub move_above-requires-clause-from : goal.move_above-requires-clause-from
 unfolding world
-move_above-requires g c =
+move_above-requires-clause-from g c =
     let node = g.S.TreeSink.node in
     let state = c.args.state.now in
     let w = world_of g.S.TreeSink c.args.sink.now state in
@@ -44,6 +54,34 @@ move_above-requires g c =
     (laws.between_taken p.0 p.1 clones n c.args.at c.args.first c.args.block w p.2 node state refl) c.relist_between.ensures.world in
     let swapped = laws.swapped_world p.0 p.1 clones n c.args.at c.args.first c.args.block w p.2 v u walked c.swap_entry.ensures.done in
     laws.place_inside p.0 p.1 clones n c.args.at c.args.first c.args.block w p.2 (ElementEntry n p.0.tag) u swapped
+
+pub move_above-requires-clause-listed : goal.move_above-requires-clause-listed
+unfolding world
+move_above-requires-clause-listed g c =
+    let node = g.S.TreeSink.node in
+    let state = c.args.state.now in
+    let w = world_of g.S.TreeSink c.args.sink.now state in
+    let v = world_of g.S.TreeSink c.args.sink.now c.relist_between.new.state in
+    let u = world_of g.S.TreeSink c.args.sink.now c.swap_entry.new.state in
+    let clones = map node c.args.clones.now.items in
+    let n = node c.args.clone in
+    let p = c.requires.relists in
+    let walked = laws.walked_world p.0 p.1 clones n c.args.at c.args.first c.args.block w p.2 (take (c.args.block - c.args.first) (stack_under node state c.args.block)) v
+    (laws.between_taken p.0 p.1 clones n c.args.at c.args.first c.args.block w p.2 node state refl) c.relist_between.ensures.world in
+    let swapped = laws.swapped_world p.0 p.1 clones n c.args.at c.args.first c.args.block w p.2 v u walked c.swap_entry.ensures.done in
+    let f = (g.S.TreeSink.sees c.args.sink.now).forest in
+    let r = p.2 in
+    subst (λ (z : World). AreNodes f (nodes_of z.formatting)) (sym swapped)
+    (nodes_swapped f (laws.walk p.0 p.1 clones n c.args.at c.args.first c.args.block w r) r.older p.0.node n p.0.tag (subst (λ (z : World). AreNodes f (nodes_of z.formatting)) walked c.relist_between.ensures.listed) c.requires.clone)
+
+pub move_above-requires-clause-handle : goal.move_above-requires-clause-handle
+move_above-requires-clause-handle g c =
+    let node = g.S.TreeSink.node in
+    let items = c.args.clones.now.items in
+    let x = c.index.result.now in
+    let nonempty = eqb-false (vec_len c.args.clones.now) 0 (sym c.is_empty.ensures ∙ c.if-not-is_empty.true) in
+    let inside : 0 < length items = omega (arith, nonempty, c.args.clones.now.ok.0) in
+    c.requires.clones (node x) (handle_in node items 0 x inside c.index.ensures)
 
 pub returns-else-not-is_empty-clause-done : goal.returns-else-not-is_empty-clause-done
 unfolding world

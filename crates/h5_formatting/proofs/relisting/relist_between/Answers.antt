@@ -1,8 +1,9 @@
-use Rattle.std.proofs.Common.{ap, arith, drop, length, map, refl, reverse, suc, sym, take, ◌+◌, ◌-◌, ◌<◌, ◌∙◌, ◌∷◌, ◌≡◌}
+use Rattle.std.proofs.Common.{ap, arith, drop, length, map, refl, reverse, subst, suc, sym, take, ◌+◌, ◌-◌, ◌<◌, ◌∙◌, ◌∷◌, ◌≡◌}
 use Rattle.h5_rules.specs.World.{World}
 use Rattle.h5_rules.specs.formatting.InnerLoop.{walked}
 use Rattle.h5_state.specs.Steps.{world_of}
 use Rattle.h5_state.specs.View.{elements_of, open_node, stack_under, world}
+use Rattle.h5_formatting.specs.Places.{AreNodes}
 use Rattle.h5_formatting.proofs.OpenLaws.{same_under, under_more}
 use Rattle.h5_formatting.proofs.RelistLaws.{walked_none}
 use Rattle.h5_formatting.proofs.relisting.relist_between.Goals as goal
@@ -16,9 +17,18 @@ down-init g c =
       place = omega arith;
       used = omega arith;
       stack = refl;
+      listed = c.requires.listed;
       world = refl;
       left = ap (λ i. walked (3 - i) (take (c.args.block - c.args.first) (stack_under node c.args.state.now c.args.block)) (map node c.args.clones.now.items) w.formatting) none;
     }
+
+pub relist_near-used-requires-clause-open : goal.relist_near-used-requires-clause-open
+relist_near-used-requires-clause-open g c =
+    subst (λ (u : World). AreNodes (g.S.TreeSink.sees c.args.sink.now).forest u.stack) (sym c.down.invariant.world) c.requires.open
+
+pub relist_far-requires-clause-open : goal.relist_far-requires-clause-open
+relist_far-requires-clause-open g c =
+    subst (λ (u : World). AreNodes (g.S.TreeSink.sees c.args.sink.now).forest u.stack) (sym c.down.invariant.world) c.requires.open
 
 pub down-preserved-then-block-place-le3 : goal.down-preserved-then-block-place-le3
 unfolding world
@@ -29,7 +39,7 @@ down-preserved-then-block-place-le3 g c =
     let ys = drop c.down.used (map node c.args.clones.now.items) in
     let first = c.args.first in
     let v = world_of g.S.TreeSink c.args.sink.now c.down.state in
-    let inside : place < length (reverse (map (open_node node) (elements_of c.args.state.now))) = omega (arith, c.down-test.true, c.down.invariant.place, c.requires) in
+    let inside : place < length (reverse (map (open_node node) (elements_of c.args.state.now))) = omega (arith, c.down-test.true, c.down.invariant.place, c.requires.block) in
     let here : c.down.place ≡ place + 1 = omega (arith, c.down-test.true) in
     let more = under_more node c.args.state.now place inside in
     let step = c.relist_near-used.ensures.walked more.0 (s place) (same_under node c.down.state c.args.state.now (place + 1) c.down.invariant.stack ∙ more.1) (3 - (c.args.block - place)) (take (place - first) (s place)) in
@@ -40,6 +50,7 @@ down-preserved-then-block-place-le3 g c =
       place = omega (arith, c.down.invariant.place);
       used = c.relist_near-used.ensures.used;
       stack = c.relist_near-used.ensures.stack ∙ c.down.invariant.stack;
+      listed = c.relist_near-used.ensures.listed;
       world = c.relist_near-used.ensures.world ∙ ap (λ (u : World). record u { formatting = (world_of g.S.TreeSink c.args.sink.now c.relist_near-used.new.state).formatting }) c.down.invariant.world;
       left = sym step ∙ sym (ap (λ i. walked i (more.0 ∷ take (place - first) (s place)) ys v.formatting) count) ∙ sym (ap (λ z. walked (3 - (c.args.block - c.down.place)) z ys v.formatting) front) ∙ c.down.invariant.left;
     }
@@ -54,7 +65,7 @@ down-preserved g c =
     let first = c.args.first in
     let v = world_of g.S.TreeSink c.args.sink.now c.down.state in
     let u = world_of g.S.TreeSink c.args.sink.now c.relist_far.new.state in
-    let inside : place < length (reverse (map (open_node node) (elements_of c.args.state.now))) = omega (arith, c.down-test.true, c.down.invariant.place, c.requires) in
+    let inside : place < length (reverse (map (open_node node) (elements_of c.args.state.now))) = omega (arith, c.down-test.true, c.down.invariant.place, c.requires.block) in
     let here : c.down.place ≡ place + 1 = omega (arith, c.down-test.true) in
     let more = under_more node c.args.state.now place inside in
     let rest = take (place - first) (s place) in
@@ -67,6 +78,7 @@ down-preserved g c =
       place = omega (arith, c.down.invariant.place);
       used = c.down.invariant.used;
       stack = c.relist_far.ensures.stack ∙ c.down.invariant.stack;
+      listed = c.relist_far.ensures.listed;
       world = c.relist_far.ensures.world ∙ ap (λ (x : World). record x { formatting = u.formatting }) c.down.invariant.world;
       left = ap (λ i. walked i rest ys u.formatting) later ∙ sym step ∙ sym (ap (λ i. walked i (more.0 ∷ rest) ys v.formatting) count) ∙ sym (ap (λ z. walked (3 - (c.args.block - c.down.place)) z ys v.formatting) front) ∙ c.down.invariant.left;
     }

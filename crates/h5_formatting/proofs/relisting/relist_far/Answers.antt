@@ -1,4 +1,4 @@
-use Rattle.std.proofs.Common.{ap, sym, zero, ◌∙◌, ◌≡◌}
+use Rattle.std.proofs.Common.{ap, subst, sym, zero, ◌∙◌, ◌≡◌}
 use Rattle.std.proofs.lemmas.Bool.{false≢true}
 use Rattle.h5_rules.specs.World.{World}
 use Rattle.h5_rules.specs.formatting.FormattingList.{ElementEntry, nodes_of, without_entry}
@@ -7,7 +7,20 @@ use Rattle.h5_rules.proofs.entries.KeptListsLaws.{without_entry_none}
 use Rattle.h5_rules.proofs.entries.PairLaws.{is_in_telling}
 use Rattle.h5_rules.proofs.entries.RoundLaws.{without_entry_at}
 use Rattle.h5_state.specs.Steps.{world_of}
+use Rattle.h5_formatting.specs.Places.{AreNodes}
+use Rattle.h5_formatting.proofs.NodeLaws.{nodes_dropped}
 use Rattle.h5_formatting.proofs.relisting.relist_far.Goals as goal
+
+pub find_entry-requires-clause-handle : goal.find_entry-requires-clause-handle
+find_entry-requires-clause-handle g c = c.requires.open (g.S.TreeSink.node c.handle_at.result.now) c.handle_at.ensures.open
+
+pub returns-in-Some-clause-listed : goal.returns-in-Some-clause-listed
+returns-in-Some-clause-listed g c =
+    let f = (g.S.TreeSink.sees c.args.sink.now).forest in
+    let k = c.in-Some.ensures.place in
+    let e = ElementEntry (g.S.TreeSink.node c.handle_at.result.now) k.tag in
+    subst (λ (u : World). AreNodes f (nodes_of u.formatting)) (sym (c.drop_entry.ensures.done k.newer k.older e k.cut k.here))
+    (nodes_dropped f k.newer k.older e (subst (λ l. AreNodes f (nodes_of l)) k.cut c.requires.listed))
 
 pub returns-in-Some-clause-walked : goal.returns-in-Some-clause-walked
 returns-in-Some-clause-walked g c = λ n older e ns ys.

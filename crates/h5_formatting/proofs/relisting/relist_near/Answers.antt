@@ -1,12 +1,35 @@
-use Rattle.std.proofs.Common.{ap, arith, drop, map, sym, ◌+◌, ◌++◌, ◌∙◌, ◌∷◌, ◌≡◌}
+use Rattle.std.proofs.Common.{ap, arith, drop, map, subst, sym, ◌+◌, ◌++◌, ◌∙◌, ◌∷◌, ◌≡◌}
+use Rattle.h5_interface.specs.Forest.{IsNode}
 use Rattle.h5_rules.specs.World.{World}
 use Rattle.h5_rules.specs.formatting.FormattingList.{ElementEntry, nodes_of}
 use Rattle.h5_rules.specs.formatting.InnerLoop.{swapped, walked}
 use Rattle.h5_rules.specs.stack.Order.{is_in}
 use Rattle.h5_state.specs.Steps.{world_of}
+use Rattle.h5_formatting.specs.Places.{AreNodes}
+use Rattle.h5_formatting.proofs.NodeLaws.{handle_in, nodes_swapped}
 use Rattle.h5_formatting.proofs.RelistLaws.{swapped_at, walked_onto}
 use Rattle.h5_state.proofs.SeenLaws.{drop_more}
 use Rattle.h5_formatting.proofs.relisting.relist_near.Goals as goal
+
+pub find_entry-requires-clause-handle : goal.find_entry-requires-clause-handle
+find_entry-requires-clause-handle g c = c.requires.open (g.S.TreeSink.node c.handle_at.result.now) c.handle_at.ensures.open
+
+pub clone_handle-requires : goal.clone_handle-requires
+clone_handle-requires g c =
+    let node = g.S.TreeSink.node in
+    let x = c.index.result.now in
+    c.requires.clones (node x) (handle_in node c.args.clones.now.items c.args.used x (omega (arith, c.if-used-len.true, c.len.ensures, c.args.clones.now.ok.0)) c.index.ensures)
+
+pub returns-in-Some-clause-listed : goal.returns-in-Some-clause-listed
+returns-in-Some-clause-listed g c =
+    let node = g.S.TreeSink.node in
+    let f = (g.S.TreeSink.sees c.args.sink.now).forest in
+    let m = node c.handle_at.result.now in
+    let x = c.index.result.now in
+    let place = c.in-Some.ensures.place in
+    let there = c.requires.clones (node x) (handle_in node c.args.clones.now.items c.args.used x (omega (arith, c.if-used-len.true, c.len.ensures, c.args.clones.now.ok.0)) c.index.ensures) in
+    subst (λ (u : World). AreNodes f (nodes_of u.formatting)) (sym (c.swap_entry.ensures.done place.newer place.older m place.tag place.cut place.here))
+    (nodes_swapped f place.newer place.older m (node c.clone_handle.result) place.tag (subst (λ l. AreNodes f (nodes_of l)) place.cut c.requires.listed) (subst (IsNode f) (sym c.clone_handle.ensures) there))
 
 pub returns-in-Some-clause-walked : goal.returns-in-Some-clause-walked
 returns-in-Some-clause-walked g c = λ n older e k ns.

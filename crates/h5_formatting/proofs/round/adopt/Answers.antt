@@ -14,6 +14,7 @@ use Rattle.h5_state.specs.declared.open_element.OpenElements.{OpenElements}
 use Rattle.h5_formatting.specs.Rounds.{IsRound}
 use Rattle.h5_formatting.proofs.AdoptLaws.{adopted_told, all_after, block_moved, clones_made, may_move, may_relist, new_stack, refilled_and_told, world_relisted, world_seen}
 use Rattle.h5_formatting.proofs.CloneLaws.{newest_same}
+use Rattle.h5_formatting.proofs.NodeLaws.{node_kept, nodes_kept}
 use Rattle.h5_formatting.proofs.RoundLaws.{block_inside, from_block, from_element, own_clone, round_forest, round_nest}
 use Rattle.h5_formatting.proofs.round.adopt.Goals as goal
 
@@ -82,9 +83,35 @@ tell_popped-requires-clause-place g c =
     let r = c.requires.round.round in
     omega (arith, block_inside node state w refl r, r.block_at)
 
-pub round_handles-requires : goal.round_handles-requires
+pub round_handles-requires-clause-clones : goal.round_handles-requires-clause-clones
+round_handles-requires-clause-clones g c =
+    let f1 = (g.S.TreeSink.sees c.make_clones.new.sink).forest in
+    let f2 = (g.S.TreeSink.sees c.move_block.new.sink).forest in
+    let f3 = (g.S.TreeSink.sees c.refill.new.sink).forest in
+    let f4 = (g.S.TreeSink.sees c.tell_popped.new.sink).forest in
+    let ns = map g.S.TreeSink.node c.in_ok-clones.clones.made.items in
+    nodes_kept f3 f4 ns c.tell_popped.ensures.kinds (nodes_kept f2 f3 ns c.refill.ensures.kinds (nodes_kept f1 f2 ns c.move_block.ensures.kinds c.in_ok-clones.ensures.nodes))
+
+pub round_handles-requires-clause-clone : goal.round_handles-requires-clause-clone
+round_handles-requires-clause-clone g c =
+    node_kept (g.S.TreeSink.sees c.refill.new.sink).forest (g.S.TreeSink.sees c.tell_popped.new.sink).forest (g.S.TreeSink.node c.in_ok-clone.clone) c.tell_popped.ensures.kinds c.in_ok-clone.ensures.node
+
+pub relist-requires-clause-clones : goal.relist-requires-clause-clones
+relist-requires-clause-clones g c =
+    let f1 = (g.S.TreeSink.sees c.make_clones.new.sink).forest in
+    let f2 = (g.S.TreeSink.sees c.move_block.new.sink).forest in
+    let f3 = (g.S.TreeSink.sees c.refill.new.sink).forest in
+    let f4 = (g.S.TreeSink.sees c.tell_popped.new.sink).forest in
+    let ns = map g.S.TreeSink.node c.in_ok-clones.clones.made.items in
+    nodes_kept f3 f4 ns c.tell_popped.ensures.kinds (nodes_kept f2 f3 ns c.refill.ensures.kinds (nodes_kept f1 f2 ns c.move_block.ensures.kinds c.in_ok-clones.ensures.nodes))
+
+pub relist-requires-clause-clone : goal.relist-requires-clause-clone
+relist-requires-clause-clone g c =
+    node_kept (g.S.TreeSink.sees c.refill.new.sink).forest (g.S.TreeSink.sees c.tell_popped.new.sink).forest (g.S.TreeSink.node c.in_ok-clone.clone) c.tell_popped.ensures.kinds c.in_ok-clone.ensures.node
+
+pub round_handles-requires-clause-block : goal.round_handles-requires-clause-block
 unfolding world
-round_handles-requires g c =
+round_handles-requires-clause-block g c =
     let node = g.S.TreeSink.node in
     let choices = g.S.TreeSink.choices in
     let state = c.args.state.now in

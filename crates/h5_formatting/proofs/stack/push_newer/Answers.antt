@@ -1,9 +1,15 @@
 use Rattle.std.proofs.Common.{ap, arith, map, reverse, ◌+◌, ◌∙◌, ◌∷◌, ◌≡◌}
+use Rattle.h5_state.specs.Steps.{world_of}
 use Rattle.h5_state.specs.View.{elements_of, open_node, stack_over, stack_under, world}
 use Rattle.h5_state.proofs.StackLaws.{seen_pushed}
 use Rattle.h5_state.proofs.SummaryLaws.{cut_in_two}
+use Rattle.h5_formatting.proofs.NodeLaws.{open_nodes}
 use Rattle.h5_formatting.proofs.StackPushLaws.{carried_all, carried_more}
 use Rattle.h5_formatting.proofs.stack.push_newer.Goals as goal
+
+pub clone_handle-requires : goal.clone_handle-requires
+unfolding world
+clone_handle-requires g c = open_nodes (world_of g.S.TreeSink c.args.sink.now c.args.state.now) c.requires.sound.sound (g.S.TreeSink.node c.handle_at.result.now) c.handle_at.ensures.open
 
 pub up-preserved : goal.up-preserved
 up-preserved g c =

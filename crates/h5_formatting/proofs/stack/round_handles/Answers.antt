@@ -1,7 +1,14 @@
 use Rattle.std.proofs.Common.{[], ap, map, reverse, sym, ◌++◌, ◌∙◌, ◌∷◌, ◌≡◌}
 use Rattle.std.proofs.lemmas.List.{append-nil}
+use Rattle.h5_state.specs.Steps.{world_of}
+use Rattle.h5_state.specs.View.{world}
 use Rattle.h5_state.proofs.StackLaws.{seen_pushed}
+use Rattle.h5_formatting.proofs.NodeLaws.{open_nodes}
 use Rattle.h5_formatting.proofs.stack.round_handles.Goals as goal
+
+pub clone_handle-requires : goal.clone_handle-requires
+unfolding world
+clone_handle-requires g c = open_nodes (world_of g.S.TreeSink c.args.sink.now c.args.state.now) c.requires.sound.sound (g.S.TreeSink.node c.handle_at.result.now) c.handle_at.ensures.open
 
 pub returns : goal.returns
 returns g c = λ b older e.

@@ -13,9 +13,13 @@ unreachable-requires g c =
     let e : ElementEntry c.requires.node c.requires.tag ≡ MarkerEntry = here ∙ ap (entry_of g.S.TreeSink.node) c.in-Marker.is in
     cc
 
-pub returns : goal.returns
+pub returns-clause-listed : goal.returns-clause-listed
+returns-clause-listed g c =
+    c.entry_at.ensures.listed (g.S.TreeSink.node c.in-Element.element) (tag_text c.in-Element.field-1) (ap (entry_of g.S.TreeSink.node) c.in-Element.is)
+
+pub returns-clause-node : goal.returns-clause-node
 unfolding world
-returns g c = λ newer older n tag cut here.
+returns-clause-node g c = λ newer older n tag cut here.
     let e : ElementEntry n tag ≡ ElementEntry (g.S.TreeSink.node c.in-Element.element) (tag_text c.in-Element.field-1) =
     entry_here g.S.TreeSink.node c.args.state.now c.args.at _ _ newer older cut here c.entry_at.ensures.list c.entry_at.ensures.count ∙ ap (entry_of g.S.TreeSink.node) c.in-Element.is in
     cc

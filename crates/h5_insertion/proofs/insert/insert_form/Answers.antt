@@ -18,7 +18,7 @@ returns-then-not-in_template g c =
     let flag = c.args.had_duplicate_attributes in
     let inserted : u ≡ insert_element choices (codes "form") attrs flag w = c.in_ok-insert_element.ensures.world ∙ ap (λ local. insert_element choices local attrs flag w) c.from_known-form.ensures in
     let pushed = insert_element choices (codes "form") attrs flag w in
-    let same : with_form u (Some (node c.current_node.result)) ≡ with_form pushed (Some (choices.fresh w.forest)) = ap (λ n. with_form u (Some n)) c.current_node.ensures ∙ ap (λ (v : World). with_form v (Some (current v))) inserted in
+    let same : with_form u (Some (node c.current_node.result)) ≡ with_form pushed (Some (choices.fresh w.forest)) = ap (λ n. with_form u (Some n)) c.current_node.ensures.current ∙ ap (λ (v : World). with_form v (Some (current v))) inserted in
     record {
       world = same ∙ form_set choices attrs flag w (sym c.has_open_template-in_template.ensures ∙ c.if-not-in_template.true);
       quiet = c.insert_element.ensures.quiet;

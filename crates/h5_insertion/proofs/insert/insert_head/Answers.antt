@@ -20,7 +20,7 @@ returns g c =
     let attrs = attribute_texts c.args.attrs.items in
     let flag = c.args.had_duplicate_attributes in
     let inserted : u ≡ insert_element choices (codes "head") attrs flag w = c.in_ok-insert_element.ensures.world ∙ ap (λ local. insert_element choices local attrs flag w) c.from_known-head.ensures in
-    let same : with_head u (node c.current_node.result) ≡ insert_head choices attrs flag w = ap (with_head u) c.current_node.ensures ∙ ap (λ (v : World). with_head v (current v)) inserted in
+    let same : with_head u (node c.current_node.result) ≡ insert_head choices attrs flag w = ap (with_head u) c.current_node.ensures.current ∙ ap (λ (v : World). with_head v (current v)) inserted in
     record {
       world = same;
       quiet = c.insert_element.ensures.quiet;

@@ -1,8 +1,9 @@
-use Rattle.std.proofs.Common.{◌<◌, ap, arith, cond, get_or, length, map, sym, ◌∙◌}
+use Rattle.std.proofs.Common.{◌-◌, ◌<◌, ap, arith, cond, get_or, length, map, sym, ◌∙◌}
 use Rattle.std.proofs.lemmas.List.{length-map, length-reverse}
 use Rattle.h5_rules.specs.insertion.Place.{LastChild, TableFosterParenting, foster_place, inside}
 use Rattle.h5_rules.specs.World.{root}
 use Rattle.h5_rules.specs.stack.Order.{first_or}
+use Rattle.h5_rules.proofs.changes.SoundLaws.{element_is_node}
 use Rattle.h5_state.specs.View.{elements_of, open_node, stack_under, world}
 use Rattle.h5_state.proofs.StackLaws.{below_first, element_at, seen_at, stack_step, template_test}
 use Rattle.h5_insertion.proofs.place.foster_place_at.Goals as goal
@@ -17,6 +18,22 @@ unfolding world
 inside-requires-clause-open g c =
     let items = (elements_of c.args.state.now) in
     seen_at (open_node g.S.TreeSink.node) items c.args.at c.get-element.result.now (omega (arith, c.requires.at, length-reverse (map (open_node g.S.TreeSink.node) items), length-map items (open_node g.S.TreeSink.node))) c.get-element.ensures
+
+pub clone_handle-requires : goal.clone_handle-requires
+unfolding world
+clone_handle-requires g c =
+    let f = (g.S.TreeSink.sees c.args.sink.now).forest in
+    element_is_node f (g.S.TreeSink.node c.get-element.result.now.handle)
+    (element_at (open_node g.S.TreeSink.node) (elements_of c.args.state.now) f c.args.at c.get-element.result.now c.requires.sound.sound.stands.elements c.requires.at c.get-element.ensures)
+
+pub clone_handle-requires-else-is_html_known : goal.clone_handle-requires-else-is_html_known
+unfolding world
+clone_handle-requires-else-is_html_known g c =
+    let f = (g.S.TreeSink.sees c.args.sink.now).forest in
+    let below = c.get-below.result.now in
+    element_is_node f (g.S.TreeSink.node below.handle)
+    (element_at (open_node g.S.TreeSink.node) (elements_of c.args.state.now) f (c.args.at - 1) below c.requires.sound.sound.stands.elements (omega (arith, c.requires.at))
+    (c.get-below.ensures ∙ ap (λ k. get_or (elements_of c.args.state.now) k below) c.saturating_sub.ensures))
 
 pub returns-then-is_html_known : goal.returns-then-is_html_known
 unfolding world stack_under

@@ -1,11 +1,16 @@
 use Rattle.std.proofs.Common.{sym, ◌∙◌}
 use Rattle.h5_state.specs.View.{world}
-use Rattle.h5_state.proofs.StackLaws.{inside_other, inside_template}
+use Rattle.h5_state.proofs.StackLaws.{inside_other, inside_template, open_is_node}
 use Rattle.h5_insertion.proofs.place.inside_of.Goals as goal
 
 pub get_template_contents-requires : goal.get_template_contents-requires
 unfolding world
 get_template_contents-requires g c = c.requires.sound.sound.stands.templates (g.S.TreeSink.node c.args.target.now) c.requires.open (sym c.requires.template ∙ c.if-is_template.true)
+
+pub clone_handle-requires : goal.clone_handle-requires
+unfolding world
+clone_handle-requires g c =
+    open_is_node (world g.S.TreeSink.sees g.S.TreeSink.node c.args.sink.now c.args.state.now) (g.S.TreeSink.node c.args.target.now) c.requires.sound.sound c.requires.open
 
 pub returns-then-is_template : goal.returns-then-is_template
 unfolding world

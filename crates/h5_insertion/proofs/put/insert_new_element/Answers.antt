@@ -3,18 +3,18 @@ use Rattle.h5_rules.specs.Changes.{new_element}
 use Rattle.h5_rules.proofs.changes.PlaceLaws.{new_element_rearranges}
 use Rattle.h5_insertion.specs.Notices.{marking_of}
 use Rattle.h5_insertion.specs.Places.{place_of}
-use Rattle.h5_insertion.proofs.PutLaws.{element_may, element_seen, marked_rearranged, mid_element, place_in_mid, same_seen, seen_rearranged}
+use Rattle.h5_insertion.proofs.PutLaws.{element_is_there, element_may, element_seen, marked_rearranged, place_in_mid, same_seen, seen_rearranged}
 use Rattle.h5_insertion.proofs.put.insert_new_element.Goals as goal
-
-pub notify-requires-clause-element : goal.notify-requires-clause-element
-notify-requires-clause-element g c =
-    mid_element g.S.TreeSink.choices (g.S.TreeSink.sees c.args.sink.now) (g.S.TreeSink.sees c.create_element_with_flags.new.sink) (place_of g.S.TreeSink.node c.args.place.now) (g.S.TreeSink.node c.in_ok-element.element) c.args.name (attribute_texts c.args.attrs.items) c.args.had_duplicate_attributes (marking_of g.S.TreeSink.node g.S.TreeSink.choices c.args.notice)
-    c.in_ok-element.ensures.ok c.in_ok-element.ensures.handle c.requires.is_forest
 
 pub notify-requires-clause-place : goal.notify-requires-clause-place
 notify-requires-clause-place g c =
     place_in_mid g.S.TreeSink.choices (g.S.TreeSink.sees c.args.sink.now) (g.S.TreeSink.sees c.create_element_with_flags.new.sink) (place_of g.S.TreeSink.node c.args.place.now) (g.S.TreeSink.node c.in_ok-element.element) c.args.name (attribute_texts c.args.attrs.items) c.args.had_duplicate_attributes (marking_of g.S.TreeSink.node g.S.TreeSink.choices c.args.notice)
     c.in_ok-element.ensures.ok c.in_ok-element.ensures.handle c.requires.is_forest c.requires.place
+
+pub clone_handle-child-requires : goal.clone_handle-child-requires
+clone_handle-child-requires g c =
+    element_is_there g.S.TreeSink.choices (g.S.TreeSink.sees c.args.sink.now) (g.S.TreeSink.sees c.create_element_with_flags.new.sink) (place_of g.S.TreeSink.node c.args.place.now) (g.S.TreeSink.node c.in_ok-element.element) c.args.name (attribute_texts c.args.attrs.items) c.args.had_duplicate_attributes (marking_of g.S.TreeSink.node g.S.TreeSink.choices c.args.notice)
+    c.in_ok-element.ensures.ok c.in_ok-element.ensures.handle (g.S.TreeSink.sees c.notify.new.sink) c.notify.ensures c.requires.is_forest
 
 pub insert_at-requires : goal.insert_at-requires
 insert_at-requires g c =

@@ -23,7 +23,7 @@ attach_or_put-requires-clause-host g c =
     let attrs = attribute_texts c.in_ok-copy.copy.attrs.items in
     let flag = c.args.tag.had_duplicate_attributes in
     subst (λ (v : World). IsNode v.forest (g.S.TreeSink.node c.current_node-host.result)) (sym c.in_ok-template.ensures.done)
-    (subst (IsNode (push_loose_template g.S.TreeSink.choices attrs flag w).forest) (sym c.current_node-host.ensures) (host_is_node g.S.TreeSink.choices attrs flag w c.requires.sound))
+    (subst (IsNode (push_loose_template g.S.TreeSink.choices attrs flag w).forest) (sym c.current_node-host.ensures.current) (host_is_node g.S.TreeSink.choices attrs flag w c.requires.sound))
 
 pub attach_or_put-requires-clause-template : goal.attach_or_put-requires-clause-template
 attach_or_put-requires-clause-template g c =

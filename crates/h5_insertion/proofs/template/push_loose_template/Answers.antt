@@ -6,6 +6,7 @@ use Rattle.h5_interface.proofs.MakingLaws.{make_element_rearranges}
 use Rattle.h5_rules.specs.formatting.FormattingNames.{html_name}
 use Rattle.h5_rules.specs.Sound.{AllStand}
 use Rattle.h5_rules.specs.insertion.Templates.{push_loose_template}
+use Rattle.h5_rules.proofs.changes.SoundLaws.{element_is_node}
 use Rattle.h5_rules.proofs.changes.TemplateLaws.{loose_stands}
 use Rattle.h5_state.specs.View.{world}
 use Rattle.h5_insertion.proofs.PutLaws.{same_world, seen_rearranged}
@@ -18,6 +19,10 @@ unfolding world
 returns-in_err-handle-clause-sound g c =
     let w = world g.S.TreeSink.sees g.S.TreeSink.node c.args.sink.now c.args.state.now in
     sound_told g.S.TreeSink c.args.sink.now _ c.args.state.now (ap (λ s. seen_world w s w.stack) c.in_err-handle.ensures.err) c.requires
+
+pub clone_handle-template-requires : goal.clone_handle-template-requires
+clone_handle-template-requires g c =
+    element_is_node (g.S.TreeSink.sees c.create_element_with_flags.new.sink).forest (g.S.TreeSink.node c.in_ok-handle.handle) c.in_ok-handle.ensures.element
 
 pub push_open-requires-clause-sound : goal.push_open-requires-clause-sound
 unfolding world

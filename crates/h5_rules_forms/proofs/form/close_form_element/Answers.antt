@@ -8,10 +8,26 @@ use Rattle.h5_rules.specs.stack.Closing.{generate_implied_end}
 use Rattle.h5_rules.specs.modes.InBody.{form_in_scope}
 use Rattle.h5_rules.specs.Rows.{Follows}
 use Rattle.h5_rules.specs.World.{World, names_of, root}
+use Rattle.h5_rules.proofs.changes.SoundLaws.{element_is_node}
 use Rattle.h5_state.specs.Steps.{errors_of, world_of}
 use Rattle.h5_state.specs.View.{world}
 use Rattle.h5_rules_forms.proofs.EndLaws.{closes_scoped, closes_unscoped, form_not_root, form_stays_element}
 use Rattle.h5_rules_forms.proofs.form.close_form_element.Goals as goal
+
+pub is_node_in_scope-requires-clause-element : goal.is_node_in_scope-requires-clause-element
+unfolding world
+is_node_in_scope-requires-clause-element g c = c.requires.sound.sound.form_node (g.S.TreeSink.node c.in-Some.form) (sym c.in-Some.ensures.form)
+
+pub same_node-expected-requires-clause-y : goal.same_node-expected-requires-clause-y
+unfolding world
+same_node-expected-requires-clause-y g c =
+    let law = g.S.TreeSink in
+    let w = world_of law c.args.sink.now c.args.state.now in
+    let form = law.node c.in-Some.form in
+    let v = world_of law c.generate_implied_end.new.sink c.generate_implied_end.new.state in
+    element_is_node v.forest form
+    (subst (λ (x : World). IsElement x.forest form) (sym (c.generate_implied_end.ensures.made.world ∙ ap (generate_implied_end law.choices) c.take_form.ensures.made.world))
+    (form_stays_element law.choices w form c.requires.sound.sound (sym c.in-Some.ensures.form)))
 
 pub returns-then-not-is_node_in_scope : goal.returns-then-not-is_node_in_scope
 unfolding names_of

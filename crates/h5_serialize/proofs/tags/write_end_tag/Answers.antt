@@ -1,6 +1,6 @@
-use Rattle.std.proofs.Common.{◌++◌, ◌∷◌, ℕ, List, [], OnOk, ap, subst, ◌∙◌}
-use Rattle.std.specs.Io.KnownBytes.{Appends}
+use Rattle.std.proofs.Common.{◌++◌, ◌∷◌, ℕ, List, [], ap, subst, ◌∙◌}
 use Rattle.h5_names.proofs.KnownNameLemmas.{text_of_name}
+use Rattle.h5_serialize.specs.Fronts.{Writes}
 use Rattle.h5_serialize.proofs.tags.write_end_tag.Goals as goal
 
 pub returns-in_default : goal.returns-in_default
@@ -8,7 +8,7 @@ returns-in_default g c =
     let same = text_of_name c.args.name.now.local c.known.result c.known.ensures c.in_default.not-Other in
     let contents = g.Wr.Write.contents in
     record {
-      text = subst (λ bytes. OnOk c.write_bytes.result (Appends (contents c.args.writer.now) (contents c.write_bytes.new.writer) bytes))
+      text = subst (λ bytes. Writes c.write_bytes.result (contents c.args.writer.now) (contents c.write_bytes.new.writer) bytes)
           (c.end_of.ensures ∙ ap (λ (text : List ℕ). 60 ∷ 47 ∷ (text ++ 62 ∷ [])) same) c.write_bytes.ensures.bytes;
       fault = c.write_bytes.ensures.fault;
     }

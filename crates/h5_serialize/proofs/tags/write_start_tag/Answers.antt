@@ -1,30 +1,29 @@
-use Rattle.std.proofs.Common.{◌++◌, ◌∷◌, ◌≡◌, ℕ, List, [], Result, Ok, Err, OnOk, ap, append_assoc, map, subst, ◌∙◌}
-use Rattle.std.proofs.KnownBytes.{Appends-trans}
-use Rattle.std.specs.Io.KnownBytes.{Appends}
+use Rattle.std.proofs.Common.{◌++◌, ◌∷◌, ◌≡◌, ℕ, List, [], map, refl}
 use Rattle.std.specs.Iterator.{Drains}
 use Rattle.std.specs.List.{flat_map}
+use Rattle.std.specs.Prelude.{codes}
 use Rattle.h5_serialize.specs.Writing.{attribute_written}
+use Rattle.h5_serialize.proofs.FrontLaws.{front_first, goes_on, stops}
 use Rattle.h5_serialize.proofs.tags.write_start_tag.Goals as goal
 
-on_ok : {T E : Type 0} (r : Result T E) (P Q : Type 0) → (P → Q) → OnOk r P → OnOk r Q
-on_ok (Ok x) P Q f h = f h
-on_ok (Err x) P Q f h = tt
+-- what stands before the end of a start tag
+split : (name attrs : List ℕ) → 60 ∷ ((name ++ attrs) ++ 62 ∷ []) ≡ ((60 ∷ name) ++ attrs) ++ 62 ∷ []
+split name attrs = refl
 
-joined : (name first rest : List ℕ) → ((60 ∷ name ++ first) ++ rest) ++ 62 ∷ [] ≡ 60 ∷ (name ++ (first ++ rest) ++ 62 ∷ [])
-joined name first rest = ap (λ z. 60 ∷ (z ++ 62 ∷ [])) (append_assoc name first rest)
+pub returns-in_err-write_open-in-Some-clause-text : goal.returns-in_err-write_open-in-Some-clause-text
+returns-in_err-write_open-in-Some-clause-text g c =
+    let open_tag = c.in_err-write_open-in-Some.ensures.text in
+    let all = c.in-Some.first ∷ open_tag.0 in
+    let drains : Drains g.I.Iterator.next_gives c.args.attrs all =
+    (open_tag.1.0, (open_tag.1.1.0, (c.next.new.self, c.in-Some.ensures.steps, open_tag.1.1.1), open_tag.1.1.2)) in
+    let attrs = flat_map attribute_written (map g.T.AttrRef.attribute all) in
+    (all, drains, stops _ {b = g.Wr.Write.contents c.write_open.new.writer} _ c.from_residual.ensures.1 (front_first ((codes "<" ++ c.args.name.now.local) ++ attrs) (codes ">") _ (split c.args.name.now.local attrs) open_tag.2))
 
-pub returns-in_ok-write_attributes-in-Some-clause-text : goal.returns-in_ok-write_attributes-in-Some-clause-text
-returns-in_ok-write_attributes-in-Some-clause-text g c =
-    let contents = g.Wr.Write.contents in
-    let rest = c.in_ok-write_attributes-in-Some.ensures.text in
-    let drains : Drains g.I.Iterator.next_gives c.args.attrs (c.in-Some.first ∷ rest.0) =
-    (rest.1.0, (rest.1.1.0, (c.next.new.self, c.in-Some.ensures.steps, rest.1.1.1), rest.1.1.2)) in
-    let attribute : _ ≡ g.T.AttrRef.attribute c.in-Some.first = ap (λ (n : _). record { name = n; value = c.value.result.now }) c.name.ensures ∙ ap (λ (v : List ℕ). record { name = (g.T.AttrRef.attribute c.in-Some.first).name; value = v }) c.value.ensures in
-    let one = subst (λ a. Appends (contents c.write_start.new.writer) (contents c.write_attribute.new.writer) (attribute_written a)) attribute c.in_ok-write_attribute-in-Some.ensures.text in
-    let all = Appends-trans _ _ _ _ _ (Appends-trans _ _ _ _ _ c.in_ok-write_start-in-Some.ensures.text one) rest.2 in
-    on_ok c.write_verbatim.result _ _ (λ end. (
-      c.in-Some.first ∷ rest.0,
-      drains,
-      subst (Appends (contents c.args.writer.now) (contents c.write_verbatim.new.writer)) (joined c.args.name.now.local (attribute_written (g.T.AttrRef.attribute c.in-Some.first)) (flat_map attribute_written (map g.T.AttrRef.attribute rest.0)))
-          (Appends-trans _ _ _ _ _ all end),
-    )) c.write_verbatim.ensures.text
+pub returns-in_ok-write_open-in-Some-clause-text : goal.returns-in_ok-write_open-in-Some-clause-text
+returns-in_ok-write_open-in-Some-clause-text g c =
+    let open_tag = c.in_ok-write_open-in-Some.ensures.text in
+    let all = c.in-Some.first ∷ open_tag.0 in
+    let drains : Drains g.I.Iterator.next_gives c.args.attrs all =
+    (open_tag.1.0, (open_tag.1.1.0, (c.next.new.self, c.in-Some.ensures.steps, open_tag.1.1.1), open_tag.1.1.2)) in
+    let attrs = flat_map attribute_written (map g.T.AttrRef.attribute all) in
+    (all, drains, goes_on _ _ _ c.write_verbatim.result ((codes "<" ++ c.args.name.now.local) ++ attrs) (codes ">") _ (split c.args.name.now.local attrs) open_tag.2 c.write_verbatim.ensures.text)

@@ -1,8 +1,14 @@
 use Rattle.std.proofs.Common.{ap, arith, length, sym, ◌+◌, ◌-◌, ◌∙◌, ◌≡◌, ◌∷◌}
 use Rattle.h5_rules.proofs.entries.PairLaws.{is_in_telling, is_in_true}
-use Rattle.h5_state.specs.View.{stack_under}
+use Rattle.h5_state.specs.View.{stack_under, world}
 use Rattle.h5_state.proofs.FoundLaws.{found_first}
+use Rattle.h5_state.proofs.StackLaws.{open_is_node}
 use Rattle.h5_state.proofs.find.find_among_all.Goals as goal
+
+pub same_node-requires-clause-x : goal.same_node-requires-clause-x
+unfolding world
+same_node-requires-clause-x g c =
+    open_is_node (world g.S.TreeSink.sees g.S.TreeSink.node c.args.sink.now c.args.state.now) (g.S.TreeSink.node c.handle_at.result.now) c.requires.sound.sound c.handle_at.ensures.open
 
 pub returns-then-same_node-clause-place : goal.returns-then-same_node-clause-place
 returns-then-same_node-clause-place g c =

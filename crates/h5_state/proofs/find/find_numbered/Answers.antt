@@ -6,6 +6,7 @@ use Rattle.h5_stack.proofs.ItemLaws.{length-values}
 use Rattle.h5_state.specs.View.{elements_of, open_node, stack_under, world}
 use Rattle.h5_state.proofs.AttributeLaws.{open_length}
 use Rattle.h5_state.proofs.ChainLaws.{under, walk_begins, walk_finds, walk_goes_on}
+use Rattle.h5_state.proofs.StackLaws.{open_is_node}
 use Rattle.h5_state.proofs.find.find_numbered.Goals as goal
 
 pub down-init : goal.down-init
@@ -21,6 +22,11 @@ pub handle_at-requires : goal.handle_at-requires
 unfolding world
 handle_at-requires g c =
     omega (arith, c.down-test.true, c.down.invariant.within, open_length (open_node g.S.TreeSink.node) (elements_of c.args.state.now), length-values c.args.state.now.open_elems.elements)
+
+pub same_node-requires-clause-x : goal.same_node-requires-clause-x
+unfolding world
+same_node-requires-clause-x g c =
+    open_is_node (world g.S.TreeSink.sees g.S.TreeSink.node c.args.sink.now c.args.state.now) (g.S.TreeSink.node c.handle_at.result.now) c.requires.sound.sound c.handle_at.ensures.open
 
 pub returns-then-same_node-clause-found : goal.returns-then-same_node-clause-found
 unfolding stack_under

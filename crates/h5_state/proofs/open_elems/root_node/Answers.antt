@@ -1,8 +1,16 @@
-use Rattle.std.proofs.Common.{ap, map, reverse, sym, ◌∙◌}
+use Rattle.std.proofs.Common.{ap, map, reverse, subst, sym, ◌∙◌}
+use Rattle.h5_interface.specs.Forest.{IsNode}
+use Rattle.h5_rules.proofs.changes.SoundLaws.{root_is_node}
 use Rattle.h5_rules.specs.stack.Order.{last_or}
 use Rattle.h5_state.specs.View.{elements_of, open_node, world}
 use Rattle.h5_state.proofs.StackLaws.{first_none, seen_root}
 use Rattle.h5_state.proofs.open_elems.root_node.Goals as goal
+
+pub clone_handle-requires : goal.clone_handle-requires
+unfolding world
+clone_handle-requires g c =
+    let w = world g.S.TreeSink.sees g.S.TreeSink.node c.args.sink.now c.args.state.now in
+    subst (IsNode w.forest) (seen_root (open_node g.S.TreeSink.node) w.forest.document (elements_of c.args.state.now) c.in-Some.element.now c.in-Some.ensures) (root_is_node w c.requires.sound)
 
 pub returns-in-Some : goal.returns-in-Some
 unfolding world

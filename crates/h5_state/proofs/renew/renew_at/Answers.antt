@@ -2,6 +2,7 @@ use Rattle.std.proofs.Common.{ap, arith, drop, length, map, reverse, sym, subst,
 use Rattle.std.proofs.lemmas.List.{drop-set-lt}
 use Rattle.h5_interface.specs.Forest.{IsElement}
 use Rattle.h5_rules.specs.World.{name_in}
+use Rattle.h5_rules.proofs.changes.SoundLaws.{element_is_node}
 use Rattle.h5_stack.proofs.ItemLaws.{length-values}
 use Rattle.h5_state.specs.Summaries.{summaries, summary_of}
 use Rattle.h5_state.specs.View.{elements_of, kept_under, names_under, open_node, world}
@@ -15,6 +16,13 @@ use Rattle.h5_state.proofs.renew.renew_at.Goals as goal
 pub get-requires : goal.get-requires
 unfolding world
 get-requires g c = omega (arith, c.requires.place, open_length (open_node g.S.TreeSink.node) (elements_of c.args.state.now), length-values c.args.state.now.open_elems.elements)
+
+pub clone_handle-handle-requires : goal.clone_handle-handle-requires
+unfolding world
+clone_handle-handle-requires g c =
+    let f = (g.S.TreeSink.sees c.args.sink.now).forest in
+    element_is_node f (g.S.TreeSink.node c.get.result.now.handle)
+    (element_at (open_node g.S.TreeSink.node) (elements_of c.args.state.now) f c.args.place c.get.result.now c.requires.sound.stands.elements c.requires.place c.get.ensures)
 
 pub set-requires : goal.set-requires
 unfolding world

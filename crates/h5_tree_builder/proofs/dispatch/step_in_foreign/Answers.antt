@@ -6,8 +6,8 @@ use Rattle.h5_state.specs.Steps.{errors_of, world_of}
 use Rattle.h5_tree_builder.proofs.DispatchLaws.{left_keeps, turns_in_foreign, turns_left}
 use Rattle.h5_tree_builder.proofs.dispatch.step_in_foreign.Goals as goal
 
-pub step_by_any_mode-requires-clause-ready : goal.step_by_any_mode-requires-clause-ready
-step_by_any_mode-requires-clause-ready g c =
+pub step_by_mode-requires-clause-ready : goal.step_by_mode-requires-clause-ready
+step_by_mode-requires-clause-ready g c =
     let law = g.S.TreeSink in
     let t = turn_text c.args.token in
     let w = world_of law c.args.sink.now c.args.state.now in
@@ -36,4 +36,4 @@ returns-in-ByMode g c =
     let foreign = c.requires.foreign in
     let came = subst (CameTo law.choices law.node (foreign_step t w) t w v (errors_of law c.args.sink.now) (errors_of law c.step_foreign.new.sink) c.step_foreign.new.state) c.in-ByMode.is c.in_ok-result.ensures.came in
     turns_left law t c.args.sink.now c.args.state.now c.step_foreign.new.sink c.step_foreign.new.state c.in-ByMode.again foreign came
-    c.step_by_any_mode.new.sink c.step_by_any_mode.new.state c.step_by_any_mode.result c.step_by_any_mode.ensures
+    c.step_by_mode.new.sink c.step_by_mode.new.state c.step_by_mode.result c.step_by_mode.ensures

@@ -15,32 +15,32 @@ unfolding step
 returns-in-TagToken-clause-settles g c =
     let law = g.S.TreeSink in
     let w = world_of law c.args.sink.now c.args.state.now in
-    subst (λ x. Settles law (step law.choices (token_text x)) (is_counted (token_text x) w) c.args.sink.now c.args.state.now c.take_tag_token.new.sink c.take_tag_token.new.state c.take_tag_token.result) (sym c.in-TagToken.is)
-    (settles_as law (settle law.choices (TagTurn (tag_text c.in-TagToken.tag))) _ _ _ _ _ _ _ _ _ (ap (settle law.choices (TagTurn (tag_text c.in-TagToken.tag))) c.take_lf-ignore_lf.ensures.done) refl c.take_tag_token.ensures)
+    subst (λ x. Settles law (step law.choices (token_text x)) (is_counted (token_text x) w) c.args.sink.now c.args.state.now c.process_to_completion.new.sink c.process_to_completion.new.state c.process_to_completion.result) (sym c.in-TagToken.is)
+    (settles_as law (settle law.choices (TagTurn (tag_text c.in-TagToken.tag))) _ _ _ _ _ _ _ _ _ (ap (settle law.choices (TagTurn (tag_text c.in-TagToken.tag))) c.take_lf-ignore_lf.ensures.done) refl c.process_to_completion.ensures)
 
 pub returns-in-CommentToken-clause-settles : goal.returns-in-CommentToken-clause-settles
 unfolding step
 returns-in-CommentToken-clause-settles g c =
     let law = g.S.TreeSink in
     let w = world_of law c.args.sink.now c.args.state.now in
-    subst (λ x. Settles law (step law.choices (token_text x)) (is_counted (token_text x) w) c.args.sink.now c.args.state.now c.take_comment.new.sink c.take_comment.new.state c.take_comment.result) (sym c.in-CommentToken.is)
-    (settles_as law (settle law.choices (CommentTurn (string_bytes c.in-CommentToken.text))) _ _ _ _ _ _ _ _ _ (ap (settle law.choices (CommentTurn (string_bytes c.in-CommentToken.text))) c.take_lf-ignore_lf.ensures.done) refl c.take_comment.ensures)
+    subst (λ x. Settles law (step law.choices (token_text x)) (is_counted (token_text x) w) c.args.sink.now c.args.state.now c.process_to_completion-in-CommentToken.new.sink c.process_to_completion-in-CommentToken.new.state c.process_to_completion-in-CommentToken.result) (sym c.in-CommentToken.is)
+    (settles_as law (settle law.choices (CommentTurn (string_bytes c.in-CommentToken.text))) _ _ _ _ _ _ _ _ _ (ap (settle law.choices (CommentTurn (string_bytes c.in-CommentToken.text))) c.take_lf-ignore_lf.ensures.done) refl c.process_to_completion-in-CommentToken.ensures)
 
 pub returns-in-NullCharacterToken-clause-settles : goal.returns-in-NullCharacterToken-clause-settles
 unfolding step
 returns-in-NullCharacterToken-clause-settles g c =
     let law = g.S.TreeSink in
     let w = world_of law c.args.sink.now c.args.state.now in
-    subst (λ x. Settles law (step law.choices (token_text x)) (is_counted (token_text x) w) c.args.sink.now c.args.state.now c.take_null.new.sink c.take_null.new.state c.take_null.result) (sym c.in-NullCharacterToken.is)
-    (settles_as law (settle law.choices NullTurn) _ _ _ _ _ _ _ _ _ (ap (settle law.choices NullTurn) c.take_lf-ignore_lf.ensures.done) refl c.take_null.ensures)
+    subst (λ x. Settles law (step law.choices (token_text x)) (is_counted (token_text x) w) c.args.sink.now c.args.state.now c.process_to_completion-in-NullCharacterToken.new.sink c.process_to_completion-in-NullCharacterToken.new.state c.process_to_completion-in-NullCharacterToken.result) (sym c.in-NullCharacterToken.is)
+    (settles_as law (settle law.choices NullTurn) _ _ _ _ _ _ _ _ _ (ap (settle law.choices NullTurn) c.take_lf-ignore_lf.ensures.done) refl c.process_to_completion-in-NullCharacterToken.ensures)
 
 pub returns-in-EOFToken-clause-settles : goal.returns-in-EOFToken-clause-settles
 unfolding step
 returns-in-EOFToken-clause-settles g c =
     let law = g.S.TreeSink in
     let w = world_of law c.args.sink.now c.args.state.now in
-    subst (λ x. Settles law (step law.choices (token_text x)) (is_counted (token_text x) w) c.args.sink.now c.args.state.now c.take_eof.new.sink c.take_eof.new.state c.take_eof.result) (sym c.in-EOFToken.is)
-    (settles_as law (settle law.choices EofTurn) _ _ _ _ _ _ _ _ _ (ap (settle law.choices EofTurn) c.take_lf-ignore_lf.ensures.done) refl c.take_eof.ensures)
+    subst (λ x. Settles law (step law.choices (token_text x)) (is_counted (token_text x) w) c.args.sink.now c.args.state.now c.process_to_completion-in-EOFToken.new.sink c.process_to_completion-in-EOFToken.new.state c.process_to_completion-in-EOFToken.result) (sym c.in-EOFToken.is)
+    (settles_as law (settle law.choices EofTurn) _ _ _ _ _ _ _ _ _ (ap (settle law.choices EofTurn) c.take_lf-ignore_lf.ensures.done) refl c.process_to_completion-in-EOFToken.ensures)
 
 pub returns-in-DoctypeToken-clause-settles : goal.returns-in-DoctypeToken-clause-settles
 unfolding step

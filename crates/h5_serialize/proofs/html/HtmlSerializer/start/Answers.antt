@@ -11,7 +11,7 @@ pub returns-in_err-push : goal.returns-in_err-push
 returns-in_err-push g c = inr (λ attrs. search rules)
 
 pub returns-in_err-write_start_tag : goal.returns-in_err-write_start_tag
-returns-in_err-write_start_tag g c = inr (λ attrs. search rules)
+returns-in_err-write_start_tag g c = let written = c.in_err-write_start_tag.ensures.text in inl (written.0, written.1, search rules)
 
 pub returns : goal.returns
 returns g c = let written = c.in_ok-write_start_tag.ensures.text in inl (written.0, written.1, search rules)

@@ -1,5 +1,6 @@
-use Rattle.std.proofs.Common.{option_map, ap, refl, ◌∙◌}
+use Rattle.std.proofs.Common.{is_some, option_map, ap, refl, ◌∙◌}
 use Rattle.h5_interface.specs.Forest.{children_of}
+use Rattle.h5_rules.specs.Changes.{create_root}
 use Rattle.h5_rules.specs.World.{World}
 use Rattle.h5_tree_builder.specs.Fragment.{context_world}
 use Rattle.h5_tree_builder.proofs.FragmentLaws.{form_is_there, fragment_kept}
@@ -20,6 +21,10 @@ returns-clause-fitting g c =
     let k = fragment_kept law c.fragment_state.new.sink c.in_ok-state.state law.choices seen (law.node c.args.context_elem) (option_map law.node c.args.form_elem) c.args.opts c.get_document-document.ensures.is_forest c.requires.context
     (form_is_there law.node seen.forest c.args.form_elem c.requires.form) c.in_ok-state.ensures.sound c.in_ok-state.ensures.world in
     record { sound = k.sound.sound; fits = k.fits refl refl }
+
+pub returns-clause-fragment : goal.returns-clause-fragment
+unfolding create_root
+returns-clause-fragment g c = ap (λ (w : World). is_some w.context) c.in_ok-state.ensures.world
 
 pub returns-clause-last : goal.returns-clause-last
 returns-clause-last g c =

@@ -1,5 +1,0 @@
-use Rattle.h5_arena.proofs.CallConditions.{element_of}
-use Rattle.h5_tests_builder.proofs.fragments.parser_in_element.Goals as goal
-
-pub parse_fragment_for_element-requires-clause-context : goal.parse_fragment_for_element-requires-clause-context
-parse_fragment_for_element-requires-clause-context g c = element_of c.args.arena c.args.element _ c.in-Some.ensures
