@@ -3,8 +3,8 @@
 ghost use Rattle.std.specs.Prelude.{◌≡◌, Bool, MatchOption, codes, false, if◌then◌else◌, is_some, length, true};
 ghost use Rattle.h5_names.specs.declared.qualified.QualName.{QualName as NameText};
 ghost use Rattle.h5_tag_sets.specs.TagSets.{is_default_scope, is_heading, is_html_named, is_implied};
-ghost use Rattle.h5_rules.specs.stack.Scope.{cut_through, first_passes, has_p_in_button_scope, in_scope};
-ghost use Rattle.h5_rules.specs.Changes.{generate_implied_end_except};
+ghost use Rattle.h5_rules.specs.stack.Expected.{is_expected, is_expected_p, names_behind_p};
+ghost use Rattle.h5_rules.specs.stack.Scope.{cut_through, drop_while, first_passes, in_scope, is_implied_but};
 ghost use Rattle.h5_rules.specs.Rows.{ClosePElement, ClosePElementInButtonScope, GenerateImpliedEnd, GenerateImpliedEndInSelect, PopHeading, PopUntilHeading};
 ghost use Rattle.h5_rules.specs.World.{names_of};
 ghost use Rattle.h5_state.specs.Steps.{IsSound, Makes, world_of};
@@ -57,6 +57,7 @@ pub fn generate_implied_end<S: TreeSink>(sink: &mut S, state: &mut State<S::Hand
     ensures older { (is : NameText → Bool) → ((name : NameText) → is_implied name ≡ true → is name ≡ false)
         → cut_through is (names_of (world_of S.TreeSink sink.new state.new)) (world_of S.TreeSink sink.new state.new).stack
         ≡ cut_through is (names_of (world_of S.TreeSink sink.old state.old)) (world_of S.TreeSink sink.old state.old).stack }
+    ensures names { names_of (world_of S.TreeSink sink.new state.new) ≡ drop_while is_implied (names_of (world_of S.TreeSink sink.old state.old)) }
 {
     pop_while(sink, state, &ElementSet::CursoryImpliedEnd);
 }
@@ -65,7 +66,9 @@ pub fn generate_implied_end<S: TreeSink>(sink: &mut S, state: &mut State<S::Hand
 #[tactic(auto, unfolding(h5_rules::specs::stack::Closing::generate_implied_end_in_select))]
 pub fn generate_implied_end_in_select<S: TreeSink>(sink: &mut S, state: &mut State<S::Handle>)
     requires { IsSound S.TreeSink sink.old state.old }
-    ensures { Makes S.TreeSink GenerateImpliedEndInSelect sink.old state.old sink.new state.new }
+    ensures made { Makes S.TreeSink GenerateImpliedEndInSelect sink.old state.old sink.new state.new }
+    ensures names { names_of (world_of S.TreeSink sink.new state.new) ≡ (if in_scope (is_html_named (codes "select")) is_default_scope (names_of (world_of S.TreeSink sink.old state.old))
+        then drop_while is_implied (names_of (world_of S.TreeSink sink.old state.old)) else names_of (world_of S.TreeSink sink.old state.old)) }
 {
     if in_scope_named(sink, state, KnownName::Select) {
         generate_implied_end(sink, state);
@@ -78,7 +81,7 @@ pub fn generate_implied_end_in_select<S: TreeSink>(sink: &mut S, state: &mut Sta
 pub fn close_p_element<S: TreeSink>(sink: &mut S, state: &mut State<S::Handle>) -> bool
     requires { IsSound S.TreeSink sink.old state.old }
     ensures made { Makes S.TreeSink ClosePElement sink.old state.old sink.new state.new }
-    ensures expected { result ≡ first_passes (is_html_named (codes "p")) (names_of (generate_implied_end_except S.choices (codes "p") (world_of S.TreeSink sink.old state.old))) }
+    ensures expected { result ≡ is_expected (is_implied_but (codes "p")) (is_html_named (codes "p")) (names_of (world_of S.TreeSink sink.old state.old)) }
 {
     let p = LocalName::from_known(KnownName::P);
     generate_implied_end_except(sink, state, &p);
@@ -89,15 +92,15 @@ pub fn close_p_element<S: TreeSink>(sink: &mut S, state: &mut State<S::Handle>) 
 }
 
 /// The same, where an HTML `p` is in button scope. Where none is, nothing changes, and that is no parse error.
-#[tactic(auto, unfolding(h5_rules::specs::stack::Closing::close_p_element_in_button_scope))]
+#[tactic(auto, unfolding(h5_rules::specs::stack::Closing::close_p_element_in_button_scope, h5_rules::specs::stack::Expected::is_expected_p))]
 pub fn close_p_element_in_button_scope<S: TreeSink>(
     sink: &mut S,
     state: &mut State<S::Handle>,
 ) -> bool
     requires { IsSound S.TreeSink sink.old state.old }
     ensures made { Makes S.TreeSink ClosePElementInButtonScope sink.old state.old sink.new state.new }
-    ensures expected { result ≡ (if has_p_in_button_scope (names_of (world_of S.TreeSink sink.old state.old))
-        then first_passes (is_html_named (codes "p")) (names_of (generate_implied_end_except S.choices (codes "p") (world_of S.TreeSink sink.old state.old))) else true) }
+    ensures expected { result ≡ is_expected_p (names_of (world_of S.TreeSink sink.old state.old)) }
+    ensures names { names_of (world_of S.TreeSink sink.new state.new) ≡ names_behind_p (names_of (world_of S.TreeSink sink.old state.old)) }
 {
     if has_p_in_button_scope(sink, state) {
         close_p_element(sink, state)

@@ -9,6 +9,7 @@ ghost use Rattle.h5_rules.specs.Rows.{CloseListItem};
 ghost use Rattle.h5_rules.specs.World.{names_of};
 ghost use Rattle.h5_closing.specs.Items.{item_names};
 ghost use Rattle.h5_state.specs.Steps.{IsSound, Makes, world_of};
+ghost use Rattle.h5_rules.specs.stack.Expected.{is_expected_item, names_behind_item};
 
 use h5_interface::TreeSink;
 use h5_names::{KnownName, LocalName, QualName};
@@ -58,7 +59,7 @@ fn find_item<S: TreeSink>(sink: &S, state: &State<S::Handle>, kind: ItemKind) ->
 
 /// Closes the newest item of this kind, if it comes before any element that ends the search. Whether it was the current
 /// node once implied end tags were popped, or there is none: where it wasn't, this is a parse error.
-#[tactic(auto, unfolding(h5_rules::specs::stack::Closing::close_list_item))]
+#[tactic(auto, unfolding(h5_rules::specs::stack::Closing::close_list_item, h5_rules::specs::stack::Expected::is_expected_item))]
 pub fn close_list_item<S: TreeSink>(
     sink: &mut S,
     state: &mut State<S::Handle>,
@@ -66,7 +67,8 @@ pub fn close_list_item<S: TreeSink>(
 ) -> bool
     requires { IsSound S.TreeSink sink.old state.old }
     ensures made { Makes S.TreeSink (CloseListItem (item_names kind)) sink.old state.old sink.new state.new }
-    ensures expected { is_none (newest_item (item_names kind) (names_of (world_of S.TreeSink sink.old state.old))) ≡ true → result ≡ true }
+    ensures expected { result ≡ is_expected_item (item_names kind) (names_of (world_of S.TreeSink sink.old state.old)) }
+    ensures names { names_of (world_of S.TreeSink sink.new state.new) ≡ names_behind_item (item_names kind) (names_of (world_of S.TreeSink sink.old state.old)) }
 {
     match find_item(sink, state, kind) {
         Some(known) => {

@@ -1,7 +1,11 @@
 //! What closes elements before a template ends (HTML standard, section 13.2.6.3, "generate all implied end tags
 //! thoroughly").
+ghost use Rattle.std.specs.Prelude.{◌≡◌};
 ghost use Rattle.h5_rules.specs.Rows.{GenerateImpliedEndThoroughly};
-ghost use Rattle.h5_state.specs.Steps.{IsSound, Makes};
+ghost use Rattle.h5_state.specs.Steps.{IsSound, Makes, world_of};
+ghost use Rattle.h5_rules.specs.stack.Scope.{drop_while};
+ghost use Rattle.h5_tag_sets.specs.TagSets.{is_thorough_implied};
+ghost use Rattle.h5_rules.specs.World.{names_of};
 
 use h5_interface::TreeSink;
 use h5_state::{State, pop_while};
@@ -10,7 +14,8 @@ use h5_tag_sets::ElementSet;
 /// Pops elements whose end tags are implied, those of parts of tables too.
 pub fn generate_implied_end_thoroughly<S: TreeSink>(sink: &mut S, state: &mut State<S::Handle>)
     requires { IsSound S.TreeSink sink.old state.old }
-    ensures { Makes S.TreeSink GenerateImpliedEndThoroughly sink.old state.old sink.new state.new }
+    ensures made { Makes S.TreeSink GenerateImpliedEndThoroughly sink.old state.old sink.new state.new }
+    ensures names { names_of (world_of S.TreeSink sink.new state.new) ≡ drop_while is_thorough_implied (names_of (world_of S.TreeSink sink.old state.old)) }
 {
     pop_while(sink, state, &ElementSet::ThoroughImpliedEnd);
 }

@@ -11,6 +11,7 @@ use Rattle.h5_print.specs.Replies.{quirks_line}
 use Rattle.h5_print.proofs.OneText.{one_tree_text}
 use Rattle.h5_tree_builder.specs.Builder.{ended_view}
 use Rattle.h5_driver.specs.Options.{default_options}
+use Rattle.h5_driver.specs.PlainReader.{Reads, first}
 use Rattle.h5_driver.proofs.OneTree.{one_fragment, one_tree}
 use Rattle.h5_commands.specs.Outcome.{Prints}
 use Rattle.h5_commands.specs.Printed.{FragmentPrints, HtmlPrints, IsTreeOutput, ItemsPrint, TreePrints, after_items, default_serializing, first_view, html_name, replies_to_items, reply_lines}
@@ -62,7 +63,7 @@ tree_prints text x y p q =
 
 fragment_prints : (context text x y : List ℕ) → FragmentPrints context text x → FragmentPrints context text y → x ≡ y
 fragment_prints context text x y p q =
-    let same = one_fragment arena_choices (seen_of new_arena) default_options (html_name context) [] true text (seen_of p.arena) (seen_of q.arena) p.parsed q.parsed in
+    let same = one_fragment (Reads arena_choices) first arena_choices (seen_of new_arena) default_options (html_name context) [] true text (seen_of p.arena) (seen_of q.arena) p.parsed q.parsed in
     output_same p.arena q.arena x y same.0 same.1 p.is_tree q.is_tree
 
 html_prints : (text x y : List ℕ) → HtmlPrints text x → HtmlPrints text y → x ≡ y

@@ -1,8 +1,9 @@
 //! What an input makes.
 ghost use Rattle.std.specs.Prelude.{◌≡◌, ◌++◌, [], true, Err, IfErr, IfOk, OnOk, string_bytes};
 ghost use Rattle.h5_arena.specs.ArenaModel.{arena_choices, new_arena, place, seen_of};
-ghost use Rattle.h5_driver.specs.Fragments.{first_in_new, place_in_context};
+ghost use Rattle.h5_driver.specs.Fragments.{first_in_new, opts_in_context};
 ghost use Rattle.h5_driver.specs.Options.{default_options};
+ghost use Rattle.h5_driver.specs.PlainReader.{first};
 ghost use Rattle.h5_lines.specs.Items.{item_texts};
 ghost use Rattle.h5_rules.specs.Run.{after_all, replies as replies_to};
 ghost use Rattle.h5_print.specs.Replies.{reply_line};
@@ -148,9 +149,8 @@ fn parse(alloc: Global, text: &str) -> Result<Arena, Fault>
 
 // A parser in an HTML element of this name, without attributes, where scripts are allowed.
 fn parser_in(alloc: Global, context: &str) -> Result<Parser<Arena>, Fault>
-    ensures builder { IfOk result (λ parser. building seen_of place parser.builder ≡ first_in_new arena_choices (seen_of new_arena) (html_name context.now) [] default_options.tree_builder) }
-    ensures begins { IfOk result (λ parser. parser.reader.place ≡ place_in_context true (building seen_of place parser.builder).view.world default_options.tokenizer) }
-    ensures held { IfOk result (λ parser. parser.reader.held ≡ []) }
+    ensures builder { IfOk result (λ parser. building seen_of place parser.tokenizer.sink ≡ first_in_new arena_choices (seen_of new_arena) (html_name context.now) [] default_options.tree_builder) }
+    ensures reader { IfOk result (λ parser. parser.tokenizer.reader ≡ first (opts_in_context true (building seen_of place parser.tokenizer.sink).view.world default_options.tokenizer)) }
     ensures waiting { IfOk result (λ parser. parser.waiting ≡ []) }
     ensures memory { IfErr result (λ fault. fault ≡ Fault.Memory) }
 {

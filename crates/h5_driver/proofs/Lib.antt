@@ -1,10 +1,10 @@
-pub mod AnswerLaws
+pub mod BeginningLaws
+pub mod ByteLaws
 pub mod FaultLaws
-pub mod FragmentLaws
 pub mod OneTree
-pub mod RawLaws
+pub mod PlainLaws
 pub mod ReadingLaws
 pub mod StreamLaws
 pub mod TakenLaws
-pub mod PlainLaws
-pub mod ByteLaws
+pub mod plain_reader
+pub mod standard_reader

@@ -17,26 +17,21 @@ use Rattle.h5_types.specs.Options as types
 use Rattle.h5_plain.specs.Plain.{ElementThen, End, Nodes, PlainDocument, TextThen, document_tokens, plain_reply, root_of}
 use Rattle.h5_plain.specs.Rebuilding.{DocumentStands, HoldsDocument, IsStart, Looks, Stands}
 use Rattle.h5_tree_builder.specs.Builder.{first_building, pop_each}
-use Rattle.h5_driver.specs.Options.{default_options}
-use Rattle.h5_driver.specs.Parsing.{Parses, after, ended, foreign, replies}
-use Rattle.h5_driver.specs.Texts.{ParsesDocument}
-use Rattle.h5_round.specs.Readable.{IsReadableDocument}
-use Rattle.h5_driver.specs.PlainTexts.{BringsBack, ComesBack}
-use Rattle.h5_round.specs.Written.{written_of}
+use Rattle.h5_driver.specs.Reading.{AreReadings, Parses}
+use Rattle.h5_driver.specs.Working.{after, ended, replies}
+use Rattle.h5_round_trip.specs.Readable.{IsReadableDocument}
+use Rattle.h5_driver.specs.PlainDocuments.{BringsBack, ComesBack}
+use Rattle.h5_round_trip.specs.Written.{written_of}
 use Rattle.h5_reading.specs.Options as reading
-use Rattle.h5_tokenizer.specs.Options as reader
-use Rattle.h5_tokenizer.specs.ReaderText.{ReaderText}
-use Rattle.h5_reading.specs.declared.stage.Stage.TheVariants.{Reading}
-use Rattle.h5_tree_builder.specs.Builder.{Building}
+use Rattle.h5_reading.specs.declared.options.TokenizerOpts.{TokenizerOpts}
 use Rattle.h5_rules.proofs.changes.ClosingLaws.{pop_sound}
 use Rattle.h5_laws.proofs.kept.FittingLaws.{token_fitting}
 use Rattle.h5_plain.proofs.LooksLaws.{looks_marked}
 use Rattle.h5_plain.proofs.StartLaws.{all_none}
 use Rattle.h5_plain.proofs.WholeLaws.{rebuilds_all}
 use Rattle.h5_tree_builder.proofs.BuilderLaws.{fits_first}
-use Rattle.h5_round.proofs.JoinedLaws.{document_joined}
-use Rattle.h5_round.specs.Answers.{Answers}
-use Rattle.h5_round.proofs.ReadingLaws.{document_read}
+use Rattle.h5_round_trip.proofs.JoinedLaws.{document_joined}
+use Rattle.h5_round_trip.specs.Answers.{Answers}
 
 -- the builder answers as to a plain document's tokens
 answers_by : (choices : SinkChoices) (ts : List TokenText) (v : View) → r.replies choices ts v ≡ map plain_reply ts → Answers (replies choices) (after choices) v ts
@@ -136,27 +131,29 @@ document_stands choices seen told d n holds same forest quirks =
       quirks = quirks ∙ ap (λ (u : View). u.world.seen_quirks) same ∙ end.1;
     }
 
--- what a parser makes of a document's text
-document_parsed : (choices : SinkChoices) (seen told : Seen) (d : PlainDocument) → HoldsDocument seen.forest → IsReadableDocument d
-    → ParsesDocument choices seen default_options (written_of d) told → ComesBack told d
-document_parsed choices seen told d holds readable parses =
-    let v = (first_building seen types.default_options).view in
-    let read = document_read (replies choices) (after choices) foreign (ended choices) d v readable (document_answers choices seen d holds) in
-    let same = parses.any (document_tokens d) read.0 read.1 in
-    document_stands choices seen told d read.0 holds same.0 same.1.0 same.1.1
+module _ {T : Type 0} {choices : SinkChoices} {first : TokenizerOpts → T} {Readings : T → View → List ℕ → List TokenText → T → View → List ℕ → Type 0} {Reads : T → View → List ℕ → List TokenText → View → Type 0}
+    (law : AreReadings choices first Readings Reads) where
+  -- what a parser makes of a document's text
+  document_parsed : (seen told : Seen) (d : PlainDocument) → HoldsDocument seen.forest → IsReadableDocument d
+      → Parses Reads choices (first reading.default_options) (first_building seen types.default_options).view (written_of d) told → ComesBack told d
+  document_parsed seen told d holds readable parses =
+      let read = law.documents d (first_building seen types.default_options).view readable (document_answers choices seen d holds) in
+      let same = parses.any (document_tokens d) read.0 read.1 in
+      document_stands choices seen told d read.0 holds same.0 same.1.0 same.1.1
 
--- so does a parser that took nothing yet, however the text is cut
-pub brings_back : (choices : SinkChoices) (b : Building) (r : ReaderText) (unread text : List ℕ) (told : Seen) → Parses choices r.place b.view (unread ++ text) told → BringsBack b r unread text told
-brings_back choices b r unread text told parses = λ d seen new holds readable same.
-    let P : Building → ReaderText → List ℕ → List ℕ → Type 0 = λ c q u t. Parses choices q.place c.view (u ++ t) told in
-    let first = first_building seen types.default_options in
-    let fresh : ReaderText = record { place = reader.first_place reading.default_options; held = []; stage = Reading } in
-    document_parsed choices seen told d holds readable
-    (subst (P first fresh []) same
-    (subst (λ u. P first fresh u text) new.none_waits
-    (subst (λ q. P first q unread text) new.reader
-    (subst (λ c. P c r unread text) new.builder parses))))
+  -- so does a parser that took nothing yet, however the text is cut
+  pub brings_back : (r : T) (v : View) (waiting text : List ℕ) (told : Seen) → Parses Reads choices r v (waiting ++ text) told → BringsBack first r v waiting text told
+  brings_back r v waiting text told parses = λ d seen new holds readable same.
+      let P : T → View → List ℕ → List ℕ → Type 0 = λ s w u t. Parses Reads choices s w (u ++ t) told in
+      let fresh = first reading.default_options in
+      let view = (first_building seen types.default_options).view in
+      document_parsed seen told d holds readable
+      (subst (P fresh view []) same
+      (subst (λ u. P fresh view u text) new.none_waits
+      (subst (λ w. P fresh w waiting text) new.builder
+      (subst (λ s. P s v waiting text) new.reader parses))))
 
-pub brought_back : {O : Type 0} (choices : SinkChoices) (told : O → Seen) (b : Building) (r : ReaderText) (unread text : List ℕ) (result : Result O BuildFault) → IfOk result (λ o. Parses choices r.place b.view (unread ++ text) (told o)) → IfOk result (λ o. BringsBack b r unread text (told o))
-brought_back choices told b r unread text (Ok o) h = brings_back choices b r unread text (told o) h
-brought_back choices told b r unread text (Err e) h = h
+  pub brought_back : {O : Type 0} (told : O → Seen) (r : T) (v : View) (waiting text : List ℕ) (result : Result O BuildFault)
+      → IfOk result (λ o. Parses Reads choices r v (waiting ++ text) (told o)) → IfOk result (λ o. BringsBack first r v waiting text (told o))
+  brought_back told r v waiting text (Ok o) h = brings_back r v waiting text (told o) h
+  brought_back told r v waiting text (Err e) h = h

@@ -17,7 +17,7 @@ use Rattle.h5_laws.proofs.replies.TextReadLaws.{IsCalm, Leads, TagLeads, TokenLe
 use Rattle.h5_rules.proofs.rows.ToldLaws.{NoTextBehind, is_text}
 use Rattle.h5_reading.specs.Answers.{refuses}
 use Rattle.h5_reading.specs.Taking.{Finishes, Takes}
-use Rattle.h5_driver.specs.Parsing.{IsReady, after, ended, replies}
+use Rattle.h5_driver.specs.Working.{IsReady, after, ended, replies}
 
 -- what isn't refused in a text, or comes in no text, isn't refused
 pub comes : (m : InsertionMode) (t : TokenText) → (m ≡ Text → is_refused_in_text t ≡ false) → refuses_in m t ≡ false

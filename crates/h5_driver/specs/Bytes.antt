@@ -1,28 +1,29 @@
 -- What contracts see of a parser of bytes, and what its calls do.
 use Rattle.std.specs.Prelude.{◌≡◌, ℕ, List, [], ◌∷◌, ◌++◌}
-use Rattle.h5_interface.specs.Seen.{Seen}
-use Rattle.h5_interface.specs.SinkChoices.{SinkChoices}
 use Rattle.h5_utf8.specs.Decoding.{IsDecoded, Decodes}
-use Rattle.h5_driver.specs.Parsing.{Advances, Parsing, Processed, unread, view_of}
+use Rattle.h5_driver.specs.Parsing.{Parsing, Processed, text_of, view_of}
+use Rattle.h5_driver.specs.Reading.{Advances}
+use Rattle.h5_driver.specs.declared.reader.Reader.{Ghosts}
 
 -- its parser, and the bytes of a character that isn't finished
-pub record ParsingBytes (S H : Type 0) : Type 0 where
-  pub parser : Parsing S H
+pub record ParsingBytes (R : Type 0) : Type 0 where
+  pub parser : Parsing R
   pub unfinished : List ℕ
 
--- a chunk was taken: what is decided of its text was taken as a piece
-pub record ProcessedBytes {S H : Type 0} (choices : SinkChoices) (sees : S → Seen) (node : H → ℕ) (bytes : List ℕ) (old new : ParsingBytes S H) : Type 0 where
-  pub text : List ℕ
-  pub decoded : IsDecoded (old.unfinished ++ bytes) text new.unfinished
-  pub processed : Processed choices sees node text old.parser new.parser
+module _ {R S H O : Type 0} (reader : Ghosts R S H O) where
+  -- a chunk was taken: what is decided of its text was taken as a piece
+  pub record ProcessedBytes (bytes : List ℕ) (old new : ParsingBytes R) : Type 0 where
+    pub text : List ℕ
+    pub decoded : IsDecoded (old.unfinished ++ bytes) text new.unfinished
+    pub processed : Processed reader text old.parser new.parser
 
--- chunks were taken, one after the other
-abbrev pub ProcessedAllBytes : {S H : Type 0} → SinkChoices → (S → Seen) → (H → ℕ) → List (List ℕ) → ParsingBytes S H → ParsingBytes S H → Type 0
-ProcessedAllBytes choices sees node [] old new = old ≡ new
-ProcessedAllBytes {S} {H} choices sees node (bytes ∷ chunks) old new = (now : ParsingBytes S H) × (ProcessedBytes choices sees node bytes old now × ProcessedAllBytes choices sees node chunks now new)
+  -- chunks were taken, one after the other
+  abbrev pub ProcessedAllBytes : List (List ℕ) → ParsingBytes R → ParsingBytes R → Type 0
+  ProcessedAllBytes [] old new = old ≡ new
+  ProcessedAllBytes (bytes ∷ chunks) old new = (now : ParsingBytes R) × (ProcessedBytes bytes old now × ProcessedAllBytes chunks now new)
 
--- bytes were taken, in whatever chunks: their text was read, up to what the parser has not read yet and an unfinished character
-pub record AdvancesBytes {S H : Type 0} (choices : SinkChoices) (sees : S → Seen) (node : H → ℕ) (bytes : List ℕ) (old new : ParsingBytes S H) : Type 0 where
-  pub text : List ℕ
-  pub decodes : Decodes (old.unfinished ++ bytes) text new.unfinished
-  pub advances : Advances choices old.parser.reader.place (view_of sees node old.parser) (unread old.parser ++ text) new.parser.reader.place (view_of sees node new.parser) (unread new.parser)
+  -- bytes were taken, in whatever chunks: their text was read, up to what waits and an unfinished character
+  pub record AdvancesBytes (bytes : List ℕ) (old new : ParsingBytes R) : Type 0 where
+    pub text : List ℕ
+    pub decodes : Decodes (old.unfinished ++ bytes) text new.unfinished
+    pub advances : Advances reader.Readings (text_of reader old.parser) (view_of reader old.parser) (old.parser.waiting ++ text) (text_of reader new.parser) (view_of reader new.parser) new.parser.waiting

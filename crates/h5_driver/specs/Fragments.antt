@@ -7,8 +7,6 @@ use Rattle.h5_interface.specs.Seen.{Seen, after_create_element}
 use Rattle.h5_interface.specs.SinkChoices.{SinkChoices}
 use Rattle.h5_types.specs.declared.options.TreeBuilderOpts.{TreeBuilderOpts}
 use Rattle.h5_rules.specs.World.{World}
-use Rattle.h5_tokenizer.specs.Front.{Place}
-use Rattle.h5_tokenizer.specs.Options.{first_place}
 use Rattle.h5_reading.specs.Options.{beginning_in}
 use Rattle.h5_reading.specs.declared.options.TokenizerOpts.{TokenizerOpts}
 use Rattle.h5_tree_builder.specs.Builder.{Building}
@@ -19,6 +17,6 @@ unfoldable pub first_in_new : SinkChoices → Seen → QualName → List Attribu
 first_in_new choices seen name attrs opts =
     first_fragment choices (after_create_element choices name attrs (flags_of name attrs false) seen) (choices.fresh seen.forest) None opts
 
--- in the state that the context of a builder tells
-abbrev pub place_in_context : (allows_scripting : Bool) → World → TokenizerOpts → Place
-place_in_context allows_scripting w opts = first_place (beginning_in (state_by_context allows_scripting w w.context) opts)
+-- the reader's options, with the state that the context of a builder tells
+abbrev pub opts_in_context : (allows_scripting : Bool) → World → TokenizerOpts → TokenizerOpts
+opts_in_context allows_scripting w opts = beginning_in (state_by_context allows_scripting w w.context) opts

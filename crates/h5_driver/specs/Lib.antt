@@ -1,6 +1,15 @@
 pub mod Bytes
 pub mod Fragments
+pub mod KeptReadings
 pub mod Options
 pub mod Parsing
-pub mod PlainTexts
+pub mod PlainDocuments
+pub mod PlainReader
+pub mod PlainReaderLaws
+pub mod Reading
+pub mod StandardReader
+pub mod StandardReaderLaws
+pub mod StandardTexts
 pub mod Texts
+pub mod WholeTexts
+pub mod Working

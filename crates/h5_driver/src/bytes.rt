@@ -1,13 +1,13 @@
 //! A parser of bytes.
 ghost use Rattle.std.specs.Prelude.{◌≡◌, ◌++◌, [], true, false, Ok, Err, IfOk, OnErr, OnOk};
 ghost use Rattle.std.specs.Str.Lossy.{utf8_lossy};
-ghost use Rattle.h5_rules.specs.Run.{View};
-ghost use Rattle.h5_tree_builder.specs.Held.{building};
 ghost use Rattle.h5_driver.specs.Bytes.{AdvancesBytes, ProcessedBytes};
-ghost use Rattle.h5_driver.specs.Parsing.{Parses, unread, view_of};
-ghost use Rattle.h5_driver.specs.PlainTexts.{BringsBack};
+ghost use Rattle.h5_driver.specs.Parsing.{text_of, view_of};
+ghost use Rattle.h5_driver.specs.PlainDocuments.{BringsBack};
+ghost use Rattle.h5_driver.specs.Reading.{Parses};
 
 use super::parser::Parser;
+use super::reader::Reader;
 use h5_interface::TreeSink;
 use h5_reading::part_size;
 use h5_token::BuildFault;
@@ -23,31 +23,27 @@ use std::marker::Model;
 ///
 /// Contracts see it as its parser and the bytes that it keeps. It has failed where its parser has.
 #[derive(Drop)]
-pub struct Utf8Parser<Sink: TreeSink + Drop> {
-    parser: Parser<Sink>,
+pub struct Utf8Parser<R: Reader + Drop> {
+    parser: Parser<R>,
     decoder: Utf8LossyDecoder,
 }
 
-impl<Sink: TreeSink + Drop> Model for Utf8Parser<Sink> {
+impl<R: Reader + Drop> Model for Utf8Parser<R> {
     ghost use Rattle.std.specs.Coded.{codes};
-    ghost use Rattle.h5_stack.specs.contracts.numbering.Numbering as numbering;
     ghost use Rattle.h5_driver.specs.Bytes.{ParsingBytes};
     ghost use Rattle.h5_driver.specs.Parsing.{IsParsing};
 
-    ghost Value = { ParsingBytes Sink Sink.Handle };
+    ghost Value = { ParsingBytes R };
 
-    ghost coded = { Prim.hlevel (codes, Sink.code, Sink.Handle.code, numbering.the_row.coded) };
+    ghost coded = { Prim.hlevel (codes, R.code) };
 
     ghost view = { λ p. record { parser = p.parser; unfinished = p.decoder } };
 
-    ghost invariant = { λ p. IsParsing Sink.sees Sink.node p.parser };
+    ghost invariant = { λ p. IsParsing R.Reader p.parser };
 }
 
 // A parser of bytes that took nothing yet, over a parser of text.
-pub(super) fn bytes_over<Sink: TreeSink + Drop>(
-    alloc: Global,
-    parser: Parser<Sink>,
-) -> Utf8Parser<Sink>
+pub(super) fn bytes_over<R: Reader + Drop>(alloc: Global, parser: Parser<R>) -> Utf8Parser<R>
     ensures parser { result.parser ≡ parser }
     ensures unfinished { result.unfinished ≡ [] }
 {
@@ -57,12 +53,12 @@ pub(super) fn bytes_over<Sink: TreeSink + Drop>(
     }
 }
 
-impl<Sink: TreeSink + Drop> Utf8Parser<Sink> {
+impl<R: Reader + Drop> Utf8Parser<R> {
     /// Takes the next chunk of the bytes: its text, as far as that is decided, as `Parser::process` takes a piece.
     ///
     /// It answers `Memory` where memory is refused, and `Failed` after that; then nothing has changed.
     pub fn process(&mut self, bytes: &[u8]) -> Result<(), BuildFault>
-        ensures takes { OnOk result (ProcessedBytes Sink.choices Sink.sees Sink.node bytes.now self.old self.new) }
+        ensures takes { OnOk result (ProcessedBytes R.Reader bytes.now self.old self.new) }
         ensures works { OnOk result (self.new.parser.failed ≡ false) }
         ensures failed { self.old.parser.failed ≡ true → (result ≡ Err BuildFault.Failed) × (self.new ≡ self.old) }
         ensures memory { self.old.parser.failed ≡ false → OnErr result (result ≡ Err BuildFault.Memory) }
@@ -88,8 +84,8 @@ impl<Sink: TreeSink + Drop> Utf8Parser<Sink> {
     ///
     /// It has built what the tokens of the text of all bytes build, by the rules of tree construction. It answers `Memory` where
     /// memory is refused, and `Failed` where that was before.
-    pub fn finish(self) -> Result<Sink::Output, BuildFault>
-        ensures parses { IfOk result (λ output. Parses Sink.choices self.parser.reader.place (view_of Sink.sees Sink.node self.parser) (unread self.parser ++ utf8_lossy self.unfinished) (Sink.told output)) }
+    pub fn finish(self) -> Result<<R::Sink as TreeSink>::Output, BuildFault>
+        ensures parses { IfOk result (λ output. Parses R.Reads R.Sink.choices (text_of R.Reader self.parser) (view_of R.Reader self.parser) (self.parser.waiting ++ utf8_lossy self.unfinished) (R.Sink.told output)) }
         ensures failed { self.parser.failed ≡ true → result ≡ Err BuildFault.Failed }
         ensures memory { self.parser.failed ≡ false → OnErr result (result ≡ Err BuildFault.Memory) }
     {
@@ -99,7 +95,7 @@ impl<Sink: TreeSink + Drop> Utf8Parser<Sink> {
 
     // Takes bytes in parts.
     fn process_parts(&mut self, bytes: &[u8]) -> Result<(), BuildFault>
-        ensures takes { OnOk result (AdvancesBytes Sink.choices Sink.sees Sink.node bytes.now self.old self.new) }
+        ensures takes { OnOk result (AdvancesBytes R.Reader bytes.now self.old self.new) }
         ensures works { OnOk result (self.new.parser.failed ≡ self.old.parser.failed) }
         ensures memory { self.old.parser.failed ≡ false → OnErr result (result ≡ Err BuildFault.Memory) }
     {
@@ -115,9 +111,9 @@ impl<Sink: TreeSink + Drop> Utf8Parser<Sink> {
 
     /// Takes all bytes, and their end: `process` on parts of them, and `finish`. The text of a plain document gives that document,
     /// as by `Parser::process_pieces`.
-    pub fn one(self, bytes: &[u8]) -> Result<Sink::Output, BuildFault>
-        ensures parses { IfOk result (λ output. Parses Sink.choices self.parser.reader.place (view_of Sink.sees Sink.node self.parser) (unread self.parser ++ utf8_lossy (self.unfinished ++ bytes.now)) (Sink.told output)) }
-        ensures plain { IfOk result (λ output. BringsBack (building Sink.sees Sink.node self.parser.builder) self.parser.reader (unread self.parser) (utf8_lossy (self.unfinished ++ bytes.now)) (Sink.told output)) }
+    pub fn one(self, bytes: &[u8]) -> Result<<R::Sink as TreeSink>::Output, BuildFault>
+        ensures parses { IfOk result (λ output. Parses R.Reads R.Sink.choices (text_of R.Reader self.parser) (view_of R.Reader self.parser) (self.parser.waiting ++ utf8_lossy (self.unfinished ++ bytes.now)) (R.Sink.told output)) }
+        ensures plain { IfOk result (λ output. BringsBack R.first (text_of R.Reader self.parser) (view_of R.Reader self.parser) self.parser.waiting (utf8_lossy (self.unfinished ++ bytes.now)) (R.Sink.told output)) }
         ensures failed { self.parser.failed ≡ true → result ≡ Err BuildFault.Failed }
         ensures memory { self.parser.failed ≡ false → OnErr result (result ≡ Err BuildFault.Memory) }
     {

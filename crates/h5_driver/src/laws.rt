@@ -3,49 +3,48 @@ ghost use Rattle.std.specs.Prelude.{◌≡◌, ℕ, List, ◌++◌};
 ghost use Rattle.std.specs.Str.Lossy.{utf8_lossy};
 ghost use Rattle.h5_interface.specs.Seen.{Seen};
 ghost use Rattle.h5_rules.specs.Run.{View};
-ghost use Rattle.h5_tokenizer.specs.Front.{Place};
 ghost use Rattle.h5_driver.specs.Bytes.{ParsingBytes, ProcessedAllBytes};
-ghost use Rattle.h5_driver.specs.Parsing.{Parses, Parsing, ProcessedAll, joined, unread, view_of};
-ghost use Rattle.h5_driver.specs.PlainTexts.{BringsBack};
-ghost use Rattle.h5_tree_builder.specs.Held.{building};
+ghost use Rattle.h5_driver.specs.Parsing.{Parsing, ProcessedAll, joined, text_of, view_of};
+ghost use Rattle.h5_driver.specs.PlainDocuments.{BringsBack};
+ghost use Rattle.h5_driver.specs.Reading.{Parses};
 
-use h5_interface::TreeSink;
+use super::reader::Reader;
 
 /// `process` on each of some pieces, and then `finish`: what the sink tells at the end is what it tells of the whole
 /// text, read from where the first piece found the parser. So it is the forest and the quirks mode of the run of
 /// a list of tokens that reads the whole text, and of any such list.
-pub fn pieces_then_finish<Sink: TreeSink + Drop>()
-    ensures { (pieces : List (List ℕ)) (first last : Parsing Sink Sink.Handle) (told : Seen) →
-        ProcessedAll Sink.choices Sink.sees Sink.node pieces first last
-        → Parses Sink.choices last.reader.place (view_of Sink.sees Sink.node last) (unread last) told
-        → Parses Sink.choices first.reader.place (view_of Sink.sees Sink.node first) (unread first ++ joined pieces) told }
+pub fn pieces_then_finish<R: Reader>()
+    ensures { (pieces : List (List ℕ)) (first last : Parsing R) (told : Seen) →
+        ProcessedAll R.Reader pieces first last
+        → Parses R.Reads R.Sink.choices (text_of R.Reader last) (view_of R.Reader last) last.waiting told
+        → Parses R.Reads R.Sink.choices (text_of R.Reader first) (view_of R.Reader first) (first.waiting ++ joined pieces) told }
 {}
 
 /// The same of bytes in UTF-8: `process` on each of some chunks, and then `finish`, by a parser of bytes. What the sink tells at
 /// the end is what it tells of the text of all bytes together, with U+FFFD for each error in them.
-pub fn chunks_then_finish<Sink: TreeSink + Drop>()
-    ensures { (chunks : List (List ℕ)) (first last : ParsingBytes Sink Sink.Handle) (told : Seen) →
-        ProcessedAllBytes Sink.choices Sink.sees Sink.node chunks first last
-        → Parses Sink.choices last.parser.reader.place (view_of Sink.sees Sink.node last.parser) (unread last.parser ++ utf8_lossy last.unfinished) told
-        → Parses Sink.choices first.parser.reader.place (view_of Sink.sees Sink.node first.parser) (unread first.parser ++ utf8_lossy (first.unfinished ++ joined chunks)) told }
+pub fn chunks_then_finish<R: Reader>()
+    ensures { (chunks : List (List ℕ)) (first last : ParsingBytes R) (told : Seen) →
+        ProcessedAllBytes R.Reader chunks first last
+        → Parses R.Reads R.Sink.choices (text_of R.Reader last.parser) (view_of R.Reader last.parser) (last.parser.waiting ++ utf8_lossy last.unfinished) told
+        → Parses R.Reads R.Sink.choices (text_of R.Reader first.parser) (view_of R.Reader first.parser) (first.parser.waiting ++ utf8_lossy (first.unfinished ++ joined chunks)) told }
 {}
 
-/// What is made of a text is one forest and one quirks mode, from one place of the reader and one view of the builder. So
+/// What is made of a text is one forest and one quirks mode, from one reader and one view of the builder. So
 /// two parsers of documents, or of fragments, that begin alike make the same of a text, however each takes it in pieces.
-pub fn a_text_has_one_tree<Sink: TreeSink + Drop>()
-    ensures { (place : Place) (view : View) (text : List ℕ) (one other : Seen) →
-        Parses Sink.choices place view text one → Parses Sink.choices place view text other
+pub fn a_text_has_one_tree<R: Reader>()
+    ensures { (reader : R.Text) (view : View) (text : List ℕ) (one other : Seen) →
+        Parses R.Reads R.Sink.choices reader view text one → Parses R.Reads R.Sink.choices reader view text other
         → (one.forest ≡ other.forest) × (one.quirks ≡ other.quirks) }
 {}
 
 /// The text of a plain document comes back, in whatever pieces it comes. Where a parser of documents with the default
 /// options, over a sink that holds its document alone, takes the pieces by `process`, one after the other, and then
 /// `finish`, that document stands in what the sink tells, in no quirks.
-pub fn documents_come_back<Sink: TreeSink + Drop>()
-    ensures { (pieces : List (List ℕ)) (first last : Parsing Sink Sink.Handle) (told : Seen) →
-        ProcessedAll Sink.choices Sink.sees Sink.node pieces first last
-        → Parses Sink.choices last.reader.place (view_of Sink.sees Sink.node last) (unread last) told
-        → BringsBack (building Sink.sees Sink.node first.builder) first.reader (unread first) (joined pieces) told }
+pub fn documents_come_back<R: Reader>()
+    ensures { (pieces : List (List ℕ)) (first last : Parsing R) (told : Seen) →
+        ProcessedAll R.Reader pieces first last
+        → Parses R.Reads R.Sink.choices (text_of R.Reader last) (view_of R.Reader last) last.waiting told
+        → BringsBack R.first (text_of R.Reader first) (view_of R.Reader first) first.waiting (joined pieces) told }
 {
-    pieces_then_finish::<Sink>();
+    pieces_then_finish::<R>();
 }

@@ -1,36 +1,28 @@
 //! The parser.
 ghost use Rattle.std.specs.Prelude.{◌≡◌, ◌++◌, ◌<◌, [], map, string_bytes, true, false, Ok, Err, IfOk, OnErr, OnOk};
-ghost use Rattle.h5_rules.specs.Run.{View};
-ghost use Rattle.h5_tree_builder.specs.Held.{building};
 ghost use Rattle.h5_reading.specs.declared.stage.Stage.TheVariants.{Reading};
-ghost use Rattle.h5_tokenizer.specs.End.{Closes};
-ghost use Rattle.h5_tokenizer.specs.Options.{first_place};
-ghost use Rattle.h5_tree_builder.specs.Builder.{first_building};
-ghost use Rattle.h5_driver.specs.PlainTexts.{BringsBack};
-ghost use Rattle.h5_driver.specs.Parsing.{Advances, IsParsing, IsWorking, Parses, Processed, TakesAll, after, ended, foreign, joined, replies, view_of};
+ghost use Rattle.h5_driver.specs.Parsing.{IsParsing, Processed, joined, text_of, view_of};
+ghost use Rattle.h5_driver.specs.PlainDocuments.{BringsBack};
+ghost use Rattle.h5_driver.specs.Reading.{Advances, IsReadToEnd, Parses};
+ghost use Rattle.h5_driver.specs.Working.{IsWorking};
 
 use super::bytes::{Utf8Parser, bytes_over};
-use super::options::ParseOpts;
+use super::reader::Reader;
 use h5_interface::TreeSink;
-use h5_reading::part_size;
-use h5_token::{BuildFault, TokenSink};
-use h5_tokenizer::{BufferQueue, Tokenizer, TokenizerOpts, TokenizerResult};
-use h5_tree_builder::TreeBuilder;
+use h5_reading::{BufferQueue, TokenizerResult, part_size};
+use h5_token::BuildFault;
 use std::alloc::Global;
 use std::marker::Model;
 
 // Feeds the reader until all that waits is read, whatever else it answers.
-fn feed_all<Sink: TreeSink + Drop>(
-    tokenizer: &mut Tokenizer<TreeBuilder<Sink::Handle, Sink>>,
-    queue: &mut BufferQueue,
-) -> Result<(), BuildFault>
-    requires reading { tokenizer.old.reader.stage ≡ Reading }
-    requires works { IsWorking tokenizer.old.reader.place (building Sink.sees Sink.node tokenizer.old.sink).view }
-    ensures takes { OnOk result (TakesAll Sink.choices tokenizer.old.reader.place (building Sink.sees Sink.node tokenizer.old.sink).view (tokenizer.old.reader.held ++ queue.old)
-        tokenizer.new.reader.place (building Sink.sees Sink.node tokenizer.new.sink).view tokenizer.new.reader.held) }
+fn feed_all<R: Reader>(tokenizer: &mut R, queue: &mut BufferQueue) -> Result<(), BuildFault>
+    requires reading { R.stage (R.text tokenizer.old) ≡ Reading }
+    requires works { IsWorking R.IsRaw (R.text tokenizer.old) (R.building tokenizer.old).view }
+    ensures advances { OnOk result (Advances R.Readings (R.text tokenizer.old) (R.building tokenizer.old).view queue.old (R.text tokenizer.new) (R.building tokenizer.new).view []) }
+    ensures undecided { OnOk result (R.IsUndecided (R.text tokenizer.new) (R.building tokenizer.new).view) }
     ensures none_waits { OnOk result (queue.new ≡ []) }
-    ensures reading { OnOk result (tokenizer.new.reader.stage ≡ Reading) }
-    ensures works { OnOk result (IsWorking tokenizer.new.reader.place (building Sink.sees Sink.node tokenizer.new.sink).view) }
+    ensures reading { OnOk result (R.stage (R.text tokenizer.new) ≡ Reading) }
+    ensures works { OnOk result (IsWorking R.IsRaw (R.text tokenizer.new) (R.building tokenizer.new).view) }
     ensures memory { OnErr result (result ≡ Err BuildFault.Memory) }
 {
     'pieces: loop {
@@ -42,93 +34,56 @@ fn feed_all<Sink: TreeSink + Drop>(
     }
 }
 
-// Tells the reader of the end.
-fn close<Sink: TreeSink + Drop>(
-    tokenizer: &mut Tokenizer<TreeBuilder<Sink::Handle, Sink>>,
-) -> Result<(), BuildFault>
-    requires reading { tokenizer.old.reader.stage ≡ Reading }
-    requires works { IsWorking tokenizer.old.reader.place (building Sink.sees Sink.node tokenizer.old.sink).view }
-    ensures closed { OnOk result (Closes (replies Sink.choices) (after Sink.choices) foreign (ended Sink.choices) tokenizer.old.reader.place
-        (building Sink.sees Sink.node tokenizer.old.sink).view tokenizer.old.reader.held
-        (building Sink.sees Sink.node tokenizer.new.sink).view (Ok tt)) }
-    ensures memory { OnErr result (result ≡ Err BuildFault.Memory) }
-{
-    tokenizer.end()
-}
-
-/// A parser of a document: the reader over the tree builder over a sink.
+/// A parser of a document: a reader over the tree builder over a sink.
 ///
-/// It takes text in pieces, and how a text is cut into pieces doesn't matter. Contracts see it as its
-/// builder, its reader, the text that waits, and whether it has failed: it has after want of memory, and
-/// then every call answers `Failed`.
+/// It takes text in pieces, and how a text is cut into pieces doesn't matter. Contracts see it as its reader, the text that waits,
+/// and whether it has failed: it has after want of memory, and then every call answers `Failed`.
 #[derive(Drop)]
-pub struct Parser<Sink: TreeSink + Drop> {
+pub struct Parser<R: Reader + Drop> {
     /// The reader, over the builder.
-    pub tokenizer: Tokenizer<TreeBuilder<Sink::Handle, Sink>>,
+    pub tokenizer: R,
     /// The text that waits.
     pub input_buffer: BufferQueue,
     failed: bool,
     alloc: Global,
 }
 
-impl<Sink: TreeSink + Drop> Model for Parser<Sink> {
+impl<R: Reader + Drop> Model for Parser<R> {
     ghost use Rattle.std.specs.Coded.{codes};
-    ghost use Rattle.h5_stack.specs.contracts.numbering.Numbering as numbering;
     ghost use Rattle.h5_driver.specs.Parsing.{IsParsing, Parsing};
 
-    ghost Value = { Parsing Sink Sink.Handle };
+    ghost Value = { Parsing R };
 
-    ghost coded = { Prim.hlevel (codes, Sink.code, Sink.Handle.code, numbering.the_row.coded) };
+    ghost coded = { Prim.hlevel (codes, R.code) };
 
-    ghost view = { λ p. record { builder = p.tokenizer.sink; reader = p.tokenizer.reader; waiting = p.input_buffer; failed = p.failed } };
+    ghost view = { λ p. record { tokenizer = p.tokenizer; waiting = p.input_buffer; failed = p.failed } };
 
-    ghost invariant = { λ p. IsParsing Sink.sees Sink.node (record { builder = p.tokenizer.sink; reader = p.tokenizer.reader; waiting = p.input_buffer; failed = p.failed }) };
+    ghost invariant = { λ p. IsParsing R.Reader (record { tokenizer = p.tokenizer; waiting = p.input_buffer; failed = p.failed }) };
 }
 
-// A parser over a builder that works.
-pub(super) fn parser_over<Sink: TreeSink + Drop>(
-    alloc: Global,
-    builder: TreeBuilder<Sink::Handle, Sink>,
-    opts: TokenizerOpts,
-) -> Parser<Sink>
-    requires works { IsWorking (first_place opts) (building Sink.sees Sink.node builder).view }
-    ensures builder { result.builder ≡ builder }
-    ensures reader { result.reader ≡ record { place = first_place opts; held = []; stage = Reading } }
+// A parser over a reader whose builder works.
+pub(super) fn parser_over<R: Reader + Drop>(alloc: Global, tokenizer: R) -> Parser<R>
+    requires reading { R.stage (R.text tokenizer) ≡ Reading }
+    requires works { IsWorking R.IsRaw (R.text tokenizer) (R.building tokenizer).view }
+    ensures reader { result.tokenizer ≡ tokenizer }
     ensures waiting { result.waiting ≡ [] }
     ensures failed { result.failed ≡ false }
 {
     Parser {
-        tokenizer: Tokenizer::new(alloc, builder, opts),
+        tokenizer,
         input_buffer: BufferQueue::new(alloc),
         failed: false,
         alloc,
     }
 }
 
-/// A parser of a document, into a sink, that took nothing yet. It takes no memory, and the sink stays as it
-/// is.
-pub fn parse_document<Sink: TreeSink + Drop>(
-    alloc: Global,
-    sink: Sink,
-    opts: ParseOpts,
-) -> Parser<Sink>
-    ensures builder { building Sink.sees Sink.node result.builder ≡ first_building (Sink.sees sink) opts.tree_builder }
-    ensures sink { result.builder.sink ≡ sink }
-    ensures reader { result.reader ≡ record { place = first_place opts.tokenizer; held = []; stage = Reading } }
-    ensures waiting { result.waiting ≡ [] }
-    ensures failed { result.failed ≡ false }
-{
-    let builder = TreeBuilder::new(alloc, sink, opts.tree_builder);
-    parser_over(alloc, builder, opts.tokenizer)
-}
-
-impl<Sink: TreeSink + Drop> Parser<Sink> {
+impl<R: Reader + Drop> Parser<R> {
     /// Takes the next piece of the text: it is read as far as that is decided, whatever the reader answers
     /// besides.
     ///
     /// It answers `Memory` where memory is refused, and `Failed` after that; then nothing has changed.
     pub fn process(&mut self, text: &str) -> Result<(), BuildFault>
-        ensures takes { OnOk result (Processed Sink.choices Sink.sees Sink.node text.now self.old self.new) }
+        ensures takes { OnOk result (Processed R.Reader text.now self.old self.new) }
         ensures works { OnOk result (self.new.failed ≡ false) }
         ensures failed { self.old.failed ≡ true → (result ≡ Err BuildFault.Failed) × (self.new ≡ self.old) }
         ensures memory { self.old.failed ≡ false → OnErr result (result ≡ Err BuildFault.Memory) }
@@ -148,7 +103,7 @@ impl<Sink: TreeSink + Drop> Parser<Sink> {
     ///
     /// It answers `Memory` where memory is refused, and `Failed` after that; then nothing has changed.
     pub fn process_owned(&mut self, text: String) -> Result<(), BuildFault>
-        ensures takes { OnOk result (Processed Sink.choices Sink.sees Sink.node (string_bytes text) self.old self.new) }
+        ensures takes { OnOk result (Processed R.Reader (string_bytes text) self.old self.new) }
         ensures works { OnOk result (self.new.failed ≡ false) }
         ensures failed { self.old.failed ≡ true → (result ≡ Err BuildFault.Failed) × (self.new ≡ self.old) }
         ensures memory { self.old.failed ≡ false → OnErr result (result ≡ Err BuildFault.Memory) }
@@ -168,8 +123,8 @@ impl<Sink: TreeSink + Drop> Parser<Sink> {
     ///
     /// It has built what the tokens of the whole text build, by the rules of tree construction. It answers
     /// `Memory` where memory is refused, and `Failed` where that was before.
-    pub fn finish(self) -> Result<Sink::Output, BuildFault>
-        ensures parses { IfOk result (λ output. Parses Sink.choices self.reader.place (view_of Sink.sees Sink.node self) (self.reader.held ++ self.waiting) (Sink.told output)) }
+    pub fn finish(self) -> Result<<R::Sink as TreeSink>::Output, BuildFault>
+        ensures parses { IfOk result (λ output. Parses R.Reads R.Sink.choices (text_of R.Reader self) (view_of R.Reader self) self.waiting (R.Sink.told output)) }
         ensures failed { self.failed ≡ true → result ≡ Err BuildFault.Failed }
         ensures memory { self.failed ≡ false → OnErr result (result ≡ Err BuildFault.Memory) }
     {
@@ -185,14 +140,14 @@ impl<Sink: TreeSink + Drop> Parser<Sink> {
         let mut tokenizer = tokenizer;
         let mut queue = input_buffer;
         feed_all(&mut tokenizer, &mut queue)?;
-        close(&mut tokenizer)?;
-        Ok(tokenizer.sink.into_sink().finish())
+        tokenizer.end()?;
+        Ok(tokenizer.into_sink().finish())
     }
 
     // Takes pieces, one after the other.
     fn process_each(&mut self, pieces: &[String]) -> Result<(), BuildFault>
-        ensures takes { OnOk result (Advances Sink.choices self.old.reader.place (view_of Sink.sees Sink.node self.old) ((self.old.reader.held ++ self.old.waiting) ++ joined (map string_bytes pieces.now))
-            self.new.reader.place (view_of Sink.sees Sink.node self.new) (self.new.reader.held ++ self.new.waiting)) }
+        ensures takes { OnOk result (Advances R.Readings (text_of R.Reader self.old) (view_of R.Reader self.old) (self.old.waiting ++ joined (map string_bytes pieces.now))
+            (text_of R.Reader self.new) (view_of R.Reader self.new) self.new.waiting) }
         ensures works { OnOk result (self.new.failed ≡ self.old.failed) }
         ensures memory { self.old.failed ≡ false → OnErr result (result ≡ Err BuildFault.Memory) }
         ensures failed { self.old.failed ≡ true → OnErr result (result ≡ Err BuildFault.Failed) }
@@ -214,9 +169,12 @@ impl<Sink: TreeSink + Drop> Parser<Sink> {
     /// From the text of a plain document it gives that document, in no quirks: by a parser of documents that took nothing
     /// yet, with the default options, over a sink that holds its document alone, and of a document whose texts and values
     /// hold neither NUL nor CR, and whose attributes have names that are read as they are written.
-    pub fn process_pieces(self, pieces: &[String]) -> Result<Sink::Output, BuildFault>
-        ensures parses { IfOk result (λ output. Parses Sink.choices self.reader.place (view_of Sink.sees Sink.node self) ((self.reader.held ++ self.waiting) ++ joined (map string_bytes pieces.now)) (Sink.told output)) }
-        ensures plain { IfOk result (λ output. BringsBack (building Sink.sees Sink.node self.builder) self.reader (self.reader.held ++ self.waiting) (joined (map string_bytes pieces.now)) (Sink.told output)) }
+    pub fn process_pieces(
+        self,
+        pieces: &[String],
+    ) -> Result<<R::Sink as TreeSink>::Output, BuildFault>
+        ensures parses { IfOk result (λ output. Parses R.Reads R.Sink.choices (text_of R.Reader self) (view_of R.Reader self) (self.waiting ++ joined (map string_bytes pieces.now)) (R.Sink.told output)) }
+        ensures plain { IfOk result (λ output. BringsBack R.first (text_of R.Reader self) (view_of R.Reader self) self.waiting (joined (map string_bytes pieces.now)) (R.Sink.told output)) }
         ensures failed { self.failed ≡ true → result ≡ Err BuildFault.Failed }
         ensures memory { self.failed ≡ false → OnErr result (result ≡ Err BuildFault.Memory) }
     {
@@ -230,8 +188,8 @@ impl<Sink: TreeSink + Drop> Parser<Sink> {
 
     // Takes a text in parts, each of which is copied.
     fn process_parts(&mut self, text: &str) -> Result<(), BuildFault>
-        ensures takes { OnOk result (Advances Sink.choices self.old.reader.place (view_of Sink.sees Sink.node self.old) ((self.old.reader.held ++ self.old.waiting) ++ text.now)
-            self.new.reader.place (view_of Sink.sees Sink.node self.new) (self.new.reader.held ++ self.new.waiting)) }
+        ensures takes { OnOk result (Advances R.Readings (text_of R.Reader self.old) (view_of R.Reader self.old) (self.old.waiting ++ text.now)
+            (text_of R.Reader self.new) (view_of R.Reader self.new) self.new.waiting) }
         ensures works { OnOk result (self.new.failed ≡ self.old.failed) }
         ensures memory { self.old.failed ≡ false → OnErr result (result ≡ Err BuildFault.Memory) }
         ensures failed { self.old.failed ≡ true → OnErr result (result ≡ Err BuildFault.Failed) }
@@ -248,9 +206,9 @@ impl<Sink: TreeSink + Drop> Parser<Sink> {
 
     /// Takes a whole text, and its end: `process` on parts of it, and `finish`. The parts are copied, one at a time. The text
     /// of a plain document gives that document, as by `process_pieces`.
-    pub fn one(self, text: &str) -> Result<Sink::Output, BuildFault>
-        ensures parses { IfOk result (λ output. Parses Sink.choices self.reader.place (view_of Sink.sees Sink.node self) ((self.reader.held ++ self.waiting) ++ text.now) (Sink.told output)) }
-        ensures plain { IfOk result (λ output. BringsBack (building Sink.sees Sink.node self.builder) self.reader (self.reader.held ++ self.waiting) text.now (Sink.told output)) }
+    pub fn one(self, text: &str) -> Result<<R::Sink as TreeSink>::Output, BuildFault>
+        ensures parses { IfOk result (λ output. Parses R.Reads R.Sink.choices (text_of R.Reader self) (view_of R.Reader self) (self.waiting ++ text.now) (R.Sink.told output)) }
+        ensures plain { IfOk result (λ output. BringsBack R.first (text_of R.Reader self) (view_of R.Reader self) self.waiting text.now (R.Sink.told output)) }
         ensures failed { self.failed ≡ true → result ≡ Err BuildFault.Failed }
         ensures memory { self.failed ≡ false → OnErr result (result ≡ Err BuildFault.Memory) }
     {
@@ -264,9 +222,9 @@ impl<Sink: TreeSink + Drop> Parser<Sink> {
 
     /// Takes a whole text of its own, and its end: `process_owned`, and `finish`. The text isn't copied where nothing
     /// waits. That of a plain document gives that document, as by `process_pieces`.
-    pub fn one_owned(self, text: String) -> Result<Sink::Output, BuildFault>
-        ensures parses { IfOk result (λ output. Parses Sink.choices self.reader.place (view_of Sink.sees Sink.node self) ((self.reader.held ++ self.waiting) ++ string_bytes text) (Sink.told output)) }
-        ensures plain { IfOk result (λ output. BringsBack (building Sink.sees Sink.node self.builder) self.reader (self.reader.held ++ self.waiting) (string_bytes text) (Sink.told output)) }
+    pub fn one_owned(self, text: String) -> Result<<R::Sink as TreeSink>::Output, BuildFault>
+        ensures parses { IfOk result (λ output. Parses R.Reads R.Sink.choices (text_of R.Reader self) (view_of R.Reader self) (self.waiting ++ string_bytes text) (R.Sink.told output)) }
+        ensures plain { IfOk result (λ output. BringsBack R.first (text_of R.Reader self) (view_of R.Reader self) self.waiting (string_bytes text) (R.Sink.told output)) }
         ensures failed { self.failed ≡ true → result ≡ Err BuildFault.Failed }
         ensures memory { self.failed ≡ false → OnErr result (result ≡ Err BuildFault.Memory) }
     {
@@ -279,7 +237,7 @@ impl<Sink: TreeSink + Drop> Parser<Sink> {
     }
 
     /// A parser of bytes in UTF-8 that goes on where this one is. It takes no memory.
-    pub fn from_utf8(self) -> Utf8Parser<Sink>
+    pub fn from_utf8(self) -> Utf8Parser<R>
         ensures parser { result.parser ≡ self }
         ensures unfinished { result.unfinished ≡ [] }
     {
@@ -288,7 +246,7 @@ impl<Sink: TreeSink + Drop> Parser<Sink> {
 
     // What holds of a parser at every moment, of this one.
     pub(super) fn stands(&self)
-        ensures { IsParsing Sink.sees Sink.node self.now }
+        ensures { IsParsing R.Reader self.now }
     {
         let _reader = &self.tokenizer;
     }
@@ -309,12 +267,12 @@ impl<Sink: TreeSink + Drop> Parser<Sink> {
 
     /// Tells the sink of an error that was met outside. Nothing else changes.
     pub fn error(&mut self, message: &str)
-        ensures noted { 0 < (building Sink.sees Sink.node self.new.builder).errors }
-        ensures view { view_of Sink.sees Sink.node self.new ≡ view_of Sink.sees Sink.node self.old }
-        ensures reader { self.new.reader ≡ self.old.reader }
+        ensures noted { 0 < (R.building self.new.tokenizer).errors }
+        ensures view { view_of R.Reader self.new ≡ view_of R.Reader self.old }
+        ensures reader { text_of R.Reader self.new ≡ text_of R.Reader self.old }
         ensures waiting { self.new.waiting ≡ self.old.waiting }
         ensures failed { self.new.failed ≡ self.old.failed }
     {
-        self.tokenizer.sink.tell_error(message);
+        self.tokenizer.tell_error(message);
     }
 }

@@ -2,13 +2,12 @@
 use Rattle.std.proofs.Common.{◌≡◌, ℕ, ◌+◌, Bool, true, false, if◌then◌else◌, List, [], ◌∷◌, ◌++◌, Option, None, Some, Result, Ok, Err, refl, sym, ap, ◌∙◌, subst}
 use Rattle.std.specs.Io.KnownBytes.{Appends}
 use Rattle.std.specs.Option.{option_map_or, option_to_list}
-use Rattle.h5_names.specs.AttributeText.{AttributeText}
-use Rattle.h5_names.specs.declared.qualified.QualName.{QualName}
-use Rattle.h5_serialize.specs.Call.{Call, StartOf}
-use Rattle.h5_serialize.specs.Standing.{Standing, IsBrokenBy, answer_to, standing_after, text_written, walk_text}
-use Rattle.h5_serialize.specs.Walk.{Makes, UnlessBroken, WhereBroken, text_of_each}
-use Rattle.h5_serialize.specs.declared.fault.SerializeFault.{SerializeFault}
-use Rattle.h5_serialize.specs.declared.fault.SerializeFault.TheVariants.{NoParent, Memory, Write, Failed}
+use Rattle.html_tree_builder.specs.AttributeText.{AttributeText}
+use Rattle.html_tree_builder.specs.Types.{QualName, SerializeFault}
+use Rattle.html_tree_builder.specs.Call.{Call, StartOf}
+use Rattle.html_tree_builder.specs.Standing.{Standing, IsBrokenBy, answer_to, standing_after, text_written, walk_text}
+use Rattle.html_tree_builder.specs.Walk.{Makes, UnlessBroken, WhereBroken, text_of_each}
+use Rattle.html_tree_builder.specs.SerializeFaults.{NoParent, Memory, Write, Failed}
 use Rattle.h5_example_clean.specs.Calls.{Kept, after_call, all_handed, answer_of, dropped_after, first_standing, cleaned_text, handed, is_handed_on, text_of}
 use Rattle.h5_example_clean.specs.Policy.{allowed_of, is_allowed_attribute, is_dropped_name}
 

@@ -4,16 +4,15 @@ use Rattle.std.proofs.lemmas.Bool.{and_parts, and_right, eq-eqb, eqb-true, false
 use Rattle.std.proofs.lemmas.Slice.Eq.{bytes_eq-Decides}
 use Rattle.std.specs.List.{Contains, flat_map, list_all, list_any}
 use Rattle.std.specs.Option.{option_to_list}
-use Rattle.h5_names.specs.AttributeText.{AttributeText, is_same_text}
-use Rattle.h5_names.specs.declared.qualified.QualName.{QualName}
-use Rattle.h5_serialize.specs.Call.{Call, StartOf, EndOf, TextOf, CommentOf, DoctypeOf, InstructionOf}
-use Rattle.h5_serialize.specs.Escape.{escape}
-use Rattle.h5_serialize.specs.Names.{is_html, is_raw_name}
-use Rattle.h5_serialize.specs.Openers.{are_hidden, is_raw, lacks_parent, openers_left, openers_of, needs_parent, with_parent}
-use Rattle.h5_serialize.specs.Standing.{Standing, Broken, Working, standing_after, text_written, walk_text}
-use Rattle.h5_serialize.specs.Writing.{attribute_prefix, attribute_written, end_tag, start_tag, written}
-use Rattle.h5_serialize.specs.declared.openers.Opener.{Opener}
-use Rattle.h5_tag_sets.specs.TagSets.{raw_names}
+use Rattle.html_tree_builder.specs.AttributeText.{AttributeText, is_same_text}
+use Rattle.html_tree_builder.specs.Types.{QualName, Opener}
+use Rattle.html_tree_builder.specs.Call.{Call, StartOf, EndOf, TextOf, CommentOf, DoctypeOf, InstructionOf}
+use Rattle.html_tree_builder.specs.Escape.{escape}
+use Rattle.html_tree_builder.specs.Names.{is_html, is_raw_name}
+use Rattle.html_tree_builder.specs.Openers.{are_hidden, is_raw, lacks_parent, openers_left, openers_of, needs_parent, with_parent}
+use Rattle.html_tree_builder.specs.Standing.{Standing, Broken, Working, standing_after, text_written, walk_text}
+use Rattle.html_tree_builder.specs.Writing.{attribute_prefix, attribute_written, end_tag, start_tag, written}
+use Rattle.html_tree_builder.specs.TagSets.{raw_names}
 use Rattle.h5_example_clean.specs.Calls.{all_handed, cleaned_text, dropped_after, first_standing, handed, is_handed_on}
 use Rattle.h5_example_clean.specs.Policy.{allowed_of, block_names, is_allowed, is_allowed_attribute, is_allowed_name, is_allowed_url, is_dropped_name, is_one_of, phrase_names}
 use Rattle.h5_example_clean.specs.Safe.{HoldsNoStart, IsSafe}

@@ -1,11 +1,9 @@
 -- The calls of a page that are handed on, and what stands between two calls.
 use Rattle.std.specs.Prelude.{ℕ, ◌+◌, ◌-◌, ◌==◌, ◌&&◌, Bool, true, false, List, [], ◌∷◌, ◌++◌, Option, Some, None, Result, Ok, if◌then◌else◌}
 use Rattle.std.specs.Option.{option_map_or, option_to_list}
-use Rattle.h5_names.specs.declared.qualified.QualName.{QualName}
-use Rattle.h5_serialize.specs.Call.{Call, StartOf, EndOf, TextOf}
-use Rattle.h5_serialize.specs.Standing.{Standing, answer_to, new_standing, standing_after, text_written, walk_text}
-use Rattle.h5_serialize.specs.declared.fault.SerializeFault.{SerializeFault}
-use Rattle.h5_serialize.specs.declared.options.TraversalScope.TheVariants.{ChildrenOnly}
+use Rattle.html_tree_builder.specs.Types.{QualName, SerializeFault, ChildrenOnly}
+use Rattle.html_tree_builder.specs.Call.{Call, StartOf, EndOf, TextOf}
+use Rattle.html_tree_builder.specs.Standing.{Standing, answer_to, new_standing, standing_after, text_written, walk_text}
 use Rattle.h5_example_clean.specs.Policy.{allowed_of, is_allowed, is_dropped_name}
 use Rattle.h5_example_clean.specs.declared.cleaner.Cleaner.{Cleaner}
 

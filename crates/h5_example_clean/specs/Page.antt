@@ -1,10 +1,10 @@
 -- What is left of a page.
 use Rattle.std.specs.Prelude.{◌≡◌, ℕ, List, None}
-use Rattle.h5_serialize.specs.declared.options.TraversalScope.TheVariants.{ChildrenOnly}
-use Rattle.h5_arena.specs.ArenaModel.{ArenaView, arena_choices, forest_seen, new_arena, seen_of}
-use Rattle.h5_arena.specs.NodeCalls.{walk_of}
-use Rattle.h5_driver.specs.Options.{default_options}
-use Rattle.h5_standard_driver.specs.Texts.{ParsesDocument}
+use Rattle.html_tree_builder.specs.Types.{ChildrenOnly}
+use Rattle.html_tree_builder.specs.ArenaModel.{ArenaView, arena_choices, forest_seen, new_arena, seen_of}
+use Rattle.html_tree_builder.specs.NodeCalls.{walk_of}
+use Rattle.html_tree_builder.specs.Options.{default_options}
+use Rattle.html_tree_builder.specs.StandardTexts.{ParsesDocument}
 use Rattle.h5_example_clean.specs.Calls.{cleaned_text}
 
 -- HTML is what the policy leaves of a page: of the tree that a parser with the default options makes of it

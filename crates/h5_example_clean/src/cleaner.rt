@@ -1,7 +1,7 @@
 //! A serializer that hands on what the policy allows to the one that writes HTML.
 ghost use Rattle.std.specs.Prelude.{◌≡◌, ◌∷◌, ◌++◌, [], List, Some, map, IfOk, OnOk};
 ghost use Rattle.std.specs.Iterator.{Drains, IsFinite};
-ghost use Rattle.h5_names.specs.AttributeText.{attribute_text, attribute_texts};
+ghost use Rattle.html_tree_builder.specs.AttributeText.{attribute_text, attribute_texts};
 ghost use Rattle.h5_example_clean.specs.Calls.{first_standing, is_handed_on, kept};
 ghost use Rattle.h5_example_clean.specs.Policy.{allowed_of};
 

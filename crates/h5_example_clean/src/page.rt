@@ -1,20 +1,19 @@
 //! A page, cleaned.
 ghost use Rattle.std.specs.Prelude.{◌≡◌, ℕ, List, None, IfOk};
-ghost use Rattle.h5_serialize.specs.declared.options.TraversalScope.TheVariants.{ChildrenOnly};
-ghost use Rattle.h5_arena.specs.ArenaModel.{arena_choices, forest_seen, new_arena, seen_of};
-ghost use Rattle.h5_arena.specs.NodeCalls.{walk_of};
-ghost use Rattle.h5_driver.specs.Options.{default_options};
-ghost use Rattle.h5_standard_driver.specs.Texts.{ParsesDocument};
+ghost use Rattle.html_tree_builder.specs.Types.{ChildrenOnly};
+ghost use Rattle.html_tree_builder.specs.ArenaModel.{arena_choices, forest_seen, new_arena, seen_of};
+ghost use Rattle.html_tree_builder.specs.NodeCalls.{walk_of};
+ghost use Rattle.html_tree_builder.specs.Options.{default_options};
+ghost use Rattle.html_tree_builder.specs.StandardTexts.{ParsesDocument};
 ghost use Rattle.h5_example_clean.specs.Calls.{cleaned_text};
 ghost use Rattle.h5_example_clean.specs.Page.{IsCleanOf};
 ghost use Rattle.h5_example_clean.specs.Safe.{IsSafe};
 
 use super::cleaner::Cleaner;
-use html_tree_builder::ParseOpts;
-use html_tree_builder::arena::Arena;
+use html_tree_builder::laws::a_text_has_one_tree;
 use html_tree_builder::serialize::laws::{escaped_text_holds_no_mark, texts_are_written_in_turn};
 use html_tree_builder::serialize::{Serialize, SerializeFault, TraversalScope};
-use html_tree_builder::standard::parse_document;
+use html_tree_builder::{Arena, ParseOpts, StandardReader, parse_document};
 use std::alloc::{AllocError, Global};
 
 // A parser of text that hasn't failed, and a serializer over memory, meet no other fault.
@@ -45,7 +44,9 @@ fn clean_tree(alloc: Global, arena: &Arena) -> Result<Vec<u8>, SerializeFault>
 /// What is left of a page is one text.
 pub fn a_page_has_one_cleaned_text()
     ensures { (page x y : List ℕ) → IsCleanOf page x → IsCleanOf page y → x ≡ y }
-{}
+{
+    a_text_has_one_tree::<StandardReader<Arena>>();
+}
 
 /// The HTML of what the policy allows of a page, in which neither `<script` nor `<style` stands. An `AllocError` where
 /// memory is refused.

@@ -1,8 +1,8 @@
 -- The links that are kept after the calls of a page are its links.
 use Rattle.std.proofs.Common.{◌≡◌, ℕ, Bool, true, false, if◌then◌else◌, List, [], ◌∷◌, ◌++◌, Option, None, Some, refl, sym, ap, ◌∙◌, append_assoc, append-nil, bytes_eq, codes}
-use Rattle.h5_names.specs.AttributeText.{AttributeText}
-use Rattle.h5_serialize.specs.Call.{Call, StartOf, EndOf, TextOf, CommentOf, DoctypeOf, InstructionOf}
-use Rattle.h5_serialize.specs.Walk.{after_each}
+use Rattle.html_tree_builder.specs.AttributeText.{AttributeText}
+use Rattle.html_tree_builder.specs.Call.{Call, StartOf, EndOf, TextOf, CommentOf, DoctypeOf, InstructionOf}
+use Rattle.html_tree_builder.specs.Walk.{after_each}
 use Rattle.h5_example_links.specs.Links.{Kept, LinkText, after_call, begun, closed, href_of, is_link, linked_text, links_of, nothing_kept, one_or_none, or_next, with_link}
 
 -- the open link with the text that comes, and the links that come

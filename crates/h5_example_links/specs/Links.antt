@@ -1,8 +1,8 @@
 -- The links of a page: by the calls that tell of the page, and as they are kept between calls.
 use Rattle.std.specs.Prelude.{ℕ, Bool, if◌then◌else◌, List, [], ◌∷◌, ◌++◌, map, Option, None, Some, option_map, bytes_eq, codes, string_bytes}
-use Rattle.h5_names.specs.AttributeText.{AttributeText}
-use Rattle.h5_names.specs.declared.qualified.QualName.{QualName}
-use Rattle.h5_serialize.specs.Call.{Call, StartOf, EndOf, TextOf}
+use Rattle.html_tree_builder.specs.AttributeText.{AttributeText}
+use Rattle.html_tree_builder.specs.Types.{QualName}
+use Rattle.html_tree_builder.specs.Call.{Call, StartOf, EndOf, TextOf}
 use Rattle.h5_example_links.specs.declared.links.Link.{Link}
 use Rattle.h5_example_links.specs.declared.links.Links.{Links}
 

@@ -110,7 +110,7 @@ impl Links {
 
 impl Serializer for Links {
     ghost use Rattle.std.specs.Prelude.{◌≡◌, [], None, Ok};
-    ghost use Rattle.h5_serialize.specs.declared.fault.SerializeFault.TheVariants.{Memory};
+    ghost use Rattle.html_tree_builder.specs.SerializeFaults.{Memory};
     ghost use Rattle.h5_example_links.specs.Links.{Kept, after_call, kept};
 
     ghost Meaning = { Kept };

@@ -1,20 +1,19 @@
 //! The links of a page.
 ghost use Rattle.std.specs.Prelude.{◌≡◌, None, IfOk, OnOk};
-ghost use Rattle.h5_serialize.specs.Walk.{after_each};
-ghost use Rattle.h5_serialize.specs.declared.options.TraversalScope.TheVariants.{ChildrenOnly};
-ghost use Rattle.h5_arena.specs.ArenaModel.{arena_choices, forest_seen, new_arena, seen_of};
-ghost use Rattle.h5_arena.specs.NodeCalls.{walk_of};
-ghost use Rattle.h5_driver.specs.Options.{default_options};
-ghost use Rattle.h5_standard_driver.specs.Texts.{ParsesDocument};
+ghost use Rattle.html_tree_builder.specs.Walk.{after_each};
+ghost use Rattle.html_tree_builder.specs.Types.{ChildrenOnly};
+ghost use Rattle.html_tree_builder.specs.ArenaModel.{arena_choices, forest_seen, new_arena, seen_of};
+ghost use Rattle.html_tree_builder.specs.NodeCalls.{walk_of};
+ghost use Rattle.html_tree_builder.specs.Options.{default_options};
+ghost use Rattle.html_tree_builder.specs.StandardTexts.{ParsesDocument};
 ghost use Rattle.h5_example_links.specs.Links.{after_call, kept, link_texts, links_of};
 ghost use Rattle.h5_example_links.specs.Page.{AreLinksOf};
 
 use super::links::{Link, Links};
-use html_tree_builder::ParseOpts;
 use html_tree_builder::arena::{Arena, NodeRef};
 use html_tree_builder::serialize::laws::calls_are_taken_in_turn;
 use html_tree_builder::serialize::{Serialize, SerializeFault, TraversalScope};
-use html_tree_builder::standard::parse_document;
+use html_tree_builder::{ParseOpts, parse_document};
 use std::alloc::{AllocError, Global};
 
 // A parser of text that hasn't failed, and a serializer over memory, meet no other fault.

@@ -1,8 +1,8 @@
 -- The lines that are kept after the calls of a page are its lines.
 use Rattle.std.proofs.Common.{◌≡◌, ℕ, Bool, true, false, if◌then◌else◌, List, [], ◌∷◌, ◌++◌, refl, sym, ap, ◌∙◌, append_assoc, append-nil}
 use Rattle.std.specs.List.{flat_map}
-use Rattle.h5_serialize.specs.Call.{Call, StartOf, EndOf, TextOf, CommentOf, DoctypeOf, InstructionOf}
-use Rattle.h5_serialize.specs.Walk.{after_each}
+use Rattle.html_tree_builder.specs.Call.{Call, StartOf, EndOf, TextOf, CommentOf, DoctypeOf, InstructionOf}
+use Rattle.html_tree_builder.specs.Walk.{after_each}
 use Rattle.h5_example_text.specs.Blocks.{Kept, after_call, block_ended, blocks_of, in_front, is_block, is_raw, line, lines_of, nothing_kept}
 
 -- the lines of what is kept, with calls that come

@@ -2,8 +2,8 @@
 use Rattle.std.specs.Prelude.{ℕ, Bool, false, ◌||◌, if◌then◌else◌, List, [], ◌∷◌, ◌++◌, bytes_eq, codes, string_bytes}
 use Rattle.std.specs.List.{flat_map}
 use Rattle.std.specs.Str.{trim}
-use Rattle.h5_names.specs.declared.qualified.QualName.{QualName}
-use Rattle.h5_serialize.specs.Call.{Call, StartOf, EndOf, TextOf}
+use Rattle.html_tree_builder.specs.Types.{QualName}
+use Rattle.html_tree_builder.specs.Call.{Call, StartOf, EndOf, TextOf}
 use Rattle.h5_example_text.specs.declared.blocks.Blocks.{Blocks}
 
 -- parts of a page, headings, and what is a line or several

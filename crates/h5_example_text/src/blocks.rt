@@ -119,7 +119,7 @@ impl Blocks {
 
 impl Serializer for Blocks {
     ghost use Rattle.std.specs.Prelude.{◌≡◌, [], None, Ok};
-    ghost use Rattle.h5_serialize.specs.declared.fault.SerializeFault.TheVariants.{Memory};
+    ghost use Rattle.html_tree_builder.specs.SerializeFaults.{Memory};
     ghost use Rattle.h5_example_text.specs.Blocks.{Kept, after_call, kept};
 
     ghost Meaning = { Kept };

@@ -12,7 +12,7 @@ use Rattle.h5_interface.specs.Changes.{add_missing_attributes, add_node, append_
 use Rattle.h5_interface.specs.Forest.{Child, ChildNode, ChildText, CommentNode, DoctypeNode, DocumentNode, ElementNode, Forest, FragmentNode, InstructionNode, IsNode, Kind, Marks, Node, kind_of, parent_of}
 use Rattle.h5_interface.specs.SinkChoices.{SinkChoices}
 
--- `errors` grows with each parse error that is told, and with nothing else
+-- `errors` is a mark that no parse error makes less, that isn't 0 behind one, and that nothing else changes
 pub record Seen : Type 0 where
   pub forest : Forest
   pub quirks : QuirksMode

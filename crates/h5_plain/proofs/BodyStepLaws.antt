@@ -33,6 +33,8 @@ use Rattle.h5_plain.proofs.HtmlLaws.{AtHtml}
 use Rattle.h5_plain.proofs.GrowthLaws.{with_element}
 use Rattle.h5_plain.proofs.ModeLaws.{GoesByBody, IsOutside, end_by_body, start_by_body}
 use Rattle.h5_plain.proofs.RuleLaws.{end, start}
+use Rattle.h5_rules.specs.stack.Expected.{is_expected, names_behind_p}
+use Rattle.h5_rules.proofs.changes.ExpectedLaws.{current_expected, no_p_behind, no_p_expected}
 
 module _ (choices : SinkChoices) {w : World} {p : ℕ} {d : Face} {names : List QualName} {path : List OpenFormat} {under : List ℕ} {base : List Entry} (c : Calm w p d names path under base) where
   -- a new element is put below the current node
@@ -54,7 +56,7 @@ module _ (choices : SinkChoices) {w : World} {p : ℕ} {d : Face} {names : List 
       → Moves choices (start_tag name attrs) w (opened choices w p name attrs w.mode w.formatting w.frameset_ok)
   starts_block name attrs m k o h e =
       moves_row choices (start name attrs) w (opened choices w p name attrs w.mode w.formatting w.frameset_ok) w.mode (ClosePElementInButtonScope ∷ InsertElement name attrs false ∷ []) refl c.ignore_lf (calm_html c)
-      (start_by_body m name attrs w o.no_structure ∙ e ∙ ap (λ b. row_if (not b) (ClosePElementInButtonScope ∷ InsertElement name attrs false ∷ []) IsDone) (no_p h)) refl k.no_title
+      (start_by_body m name attrs w o.no_structure ∙ e ∙ ap (λ b. row_if b (ClosePElementInButtonScope ∷ InsertElement name attrs false ∷ []) IsDone) (no_p_expected (names_of w) (no_p h))) refl k.no_title
       (ap (insert_element choices name attrs false) (none_closed h) ∙ insert_is name attrs)
 
   -- the start tag of a heading
@@ -70,7 +72,8 @@ module _ (choices : SinkChoices) {w : World} {p : ℕ} {d : Face} {names : List 
       moves_row choices (start name attrs) w (opened choices w p name attrs w.mode w.formatting w.frameset_ok) w.mode changes refl c.ignore_lf (calm_html c)
       (start_by_body m name attrs w k.outside.no_structure
       ∙ k.starts attrs w
-      ∙ ap (λ b. row_if (not b && not (first_passes is_heading (names_of w))) changes IsDone) (no_p h)
+      ∙ ap (λ b. row_if (b && not (first_passes is_heading (names_behind_p (names_of w)))) changes IsDone) (no_p_expected (names_of w) (no_p h))
+      ∙ ap (λ ns. row_if (not (first_passes is_heading ns)) changes IsDone) (no_p_behind (names_of w) (no_p h))
       ∙ ap (λ b. row_if (not b) changes IsDone) (ap (first_passes is_heading) (names_are w c.named) ∙ i)) refl k.holds.no_title
       (ap (λ v. insert_element choices name attrs false (pop_heading choices v)) (none_closed h)
       ∙ ap (insert_element choices name attrs false) (none_popped i)
@@ -121,8 +124,9 @@ module _ (choices : SinkChoices) (w : World) (names : List QualName) (m : GoesBy
       moves_row choices (end name) w left w.mode changes refl i j
       (end_by_body m name w k.outside
       ∙ k.ends w
-      ∙ ap (λ ns. choose (in_scope (is_html_named name) is_default_scope ns) (row_if (first_passes (is_html_named name) ns) changes IsDone) ignored) e
-      ∙ ap (λ b. choose (cond b true (cond (is_default_scope (html_name name)) false (in_scope (is_html_named name) is_default_scope names))) (row_if b changes IsDone) ignored) k.itself) refl refl
+      ∙ ap (λ ns. choose (in_scope (is_html_named name) is_default_scope ns) (row_if (is_expected is_implied (is_html_named name) ns) changes IsDone) ignored) e
+      ∙ ap (λ b. choose (cond b true (cond (is_default_scope (html_name name)) false (in_scope (is_html_named name) is_default_scope names))) (row_if (is_expected is_implied (is_html_named name) (html_name name ∷ names)) changes IsDone) ignored) k.itself
+      ∙ ap (λ b. row_if b changes IsDone) (current_expected is_implied (is_html_named name) (html_name name) names k.not_implied k.itself)) refl refl
       (ap (pop_until_named name) (all_implied_none choices w (ap (first_passes is_implied) e ∙ k.not_implied))
       ∙ cut_at w names (is_html_named name) (html_name name) e k.itself)
 
@@ -133,7 +137,7 @@ module _ (choices : SinkChoices) (w : World) (names : List QualName) (m : GoesBy
       moves_row choices (end (codes "p")) w left w.mode (ClosePElement ∷ []) refl i j
       (end_by_body m (codes "p") w p_outside
       ∙ p_end_rule w
-      ∙ ap (λ ns. choose (has_p_in_button_scope ns) (row_if (first_passes (is_html_named (codes "p")) ns) (ClosePElement ∷ []) IsDone) (errs (InsertElement (codes "p") [] false ∷ ClosePElement ∷ []) IsDone)) e) refl refl
+      ∙ ap (λ ns. choose (has_p_in_button_scope ns) (row_if (is_expected (is_implied_but (codes "p")) (is_html_named (codes "p")) ns) (ClosePElement ∷ []) IsDone) (errs (InsertElement (codes "p") [] false ∷ ClosePElement ∷ []) IsDone)) e) refl refl
       (ap (pop_until_named (codes "p")) (implied_none choices (codes "p") w (ap (first_passes (is_implied_but (codes "p"))) e))
       ∙ cut_at w names (is_html_named (codes "p")) (html_name (codes "p")) e refl)
 
@@ -145,8 +149,8 @@ module _ (choices : SinkChoices) (w : World) (names : List QualName) (m : GoesBy
       moves_row choices (end name) w left w.mode changes refl i j
       (end_by_body m name w k.outside
       ∙ k.ends w
-      ∙ ap (λ ns. choose (in_scope is_heading is_default_scope ns) (row_if (first_passes (is_html_named name) ns) changes IsDone) ignored) e
-      ∙ ap (λ b. choose (cond b true (cond (is_default_scope (html_name name)) false (in_scope is_heading is_default_scope names))) (row_if (is_html_named name (html_name name)) changes IsDone) ignored) k.heading
-      ∙ ap (λ b. row_if b changes IsDone) k.itself) refl refl
+      ∙ ap (λ ns. choose (in_scope is_heading is_default_scope ns) (row_if (is_expected is_implied (is_html_named name) ns) changes IsDone) ignored) e
+      ∙ ap (λ b. choose (cond b true (cond (is_default_scope (html_name name)) false (in_scope is_heading is_default_scope names))) (row_if (is_expected is_implied (is_html_named name) (html_name name ∷ names)) changes IsDone) ignored) k.heading
+      ∙ ap (λ b. row_if b changes IsDone) (current_expected is_implied (is_html_named name) (html_name name) names k.not_implied k.itself)) refl refl
       (ap pop_until_heading (all_implied_none choices w (ap (first_passes is_implied) e ∙ k.not_implied))
       ∙ cut_at w names is_heading (html_name name) e k.heading)

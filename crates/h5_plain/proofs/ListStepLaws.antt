@@ -1,5 +1,5 @@
 -- What a tag of a list, or of an item of one, does in the body, or in a cell, which goes by the body for it.
-use Rattle.std.proofs.Common.{◌≡◌, ◌∙◌, ℕ, true, false, ◌&&◌, not, is_none, List, [], ◌∷◌, None, codes, refl, ap}
+use Rattle.std.proofs.Common.{◌≡◌, ◌∙◌, ℕ, false, ◌&&◌, List, [], ◌∷◌, None, codes, refl, ap}
 use Rattle.h5_names.specs.AttributeText.{AttributeText}
 use Rattle.h5_names.specs.declared.qualified.QualName.{QualName}
 use Rattle.h5_interface.specs.Forest.{IsForest}
@@ -25,6 +25,8 @@ use Rattle.h5_plain.proofs.ListedLaws.{OpenFormat}
 use Rattle.h5_plain.proofs.ModeLaws.{GoesByBody, end_by_body, start_by_body}
 use Rattle.h5_plain.proofs.RuleLaws.{end, start}
 use Rattle.h5_plain.proofs.TableStepLaws.{Ends}
+use Rattle.h5_rules.specs.stack.Expected.{is_expected, is_expected_p, names_behind_item}
+use Rattle.h5_rules.proofs.changes.ExpectedLaws.{no_item_behind, no_item_expected, no_p_expected}
 
 module _ (choices : SinkChoices) {w : World} {p : ℕ} {d : Face} {names : List QualName} {path : List OpenFormat} {under : List ℕ} {base : List Entry} (c : Calm w p d names path under base) where
   -- the frameset flag plays no part
@@ -60,12 +62,13 @@ pub starts_item : (choices : SinkChoices) {w : World} {p : ℕ} {d : Face} {name
 starts_item choices {w} {p} {d} {names} c attrs m h i =
     let changes : List Change = SetFramesetNotOk ∷ CloseListItem list_item_names ∷ ClosePElementInButtonScope ∷ InsertElement (codes "li") attrs false ∷ [] in
     let flagged = calm_flagged choices c in
+    let none : newest_item list_item_names (names_of w) ≡ None = ap (newest_item list_item_names) (names_are w c.named) ∙ i in
     moves_row choices (start (codes "li") attrs) w (opened choices w p (codes "li") attrs w.mode w.formatting false) w.mode changes refl c.ignore_lf (calm_html c)
     (start_by_body m (codes "li") attrs w item_outside.no_structure
     ∙ item_rule attrs w
-    ∙ ap (λ b. row_if (is_none (newest_item list_item_names (names_of w)) && not b) changes IsDone) (no_p choices c h)
-    ∙ ap (λ ns. row_if (is_none (newest_item list_item_names ns) && true) changes IsDone) (names_are w c.named)
-    ∙ ap (λ o. row_if (is_none o && true) changes IsDone) i) refl refl
+    ∙ ap (λ b. row_if (b && is_expected_p (names_behind_item list_item_names (names_of w))) changes IsDone) (no_item_expected list_item_names (names_of w) none)
+    ∙ ap (λ ns. row_if (is_expected_p ns) changes IsDone) (no_item_behind list_item_names (names_of w) none)
+    ∙ ap (λ b. row_if b changes IsDone) (no_p_expected (names_of w) (no_p choices c h))) refl refl
     (ap (λ v. insert_element choices (codes "li") attrs false (close_p_element_in_button_scope choices v)) (no_item_closed choices flagged i)
     ∙ ap (insert_element choices (codes "li") attrs false) (none_closed choices flagged h)
     ∙ insert_is choices flagged (codes "li") attrs)
@@ -80,7 +83,7 @@ module _ (choices : SinkChoices) (w : World) (names : List QualName) (m : GoesBy
       moves_row choices (end (codes "li")) w (left choices w names m i j) w.mode changes refl i j
       (end_by_body m (codes "li") w item_outside
       ∙ item_end_rule w
-      ∙ ap (λ ns. choose (in_scope (is_html_named (codes "li")) is_list_item_scope ns) (row_if (first_passes (is_html_named (codes "li")) ns) changes IsDone) ignored) e) refl refl
+      ∙ ap (λ ns. choose (in_scope (is_html_named (codes "li")) is_list_item_scope ns) (row_if (is_expected (is_implied_but (codes "li")) (is_html_named (codes "li")) ns) changes IsDone) ignored) e) refl refl
       (ap (pop_until_named (codes "li")) (implied_none choices (codes "li") w (ap (first_passes (is_implied_but (codes "li"))) e))
       ∙ cut_at w names (is_html_named (codes "li")) (html_name (codes "li")) e refl)
 

@@ -1,5 +1,5 @@
 -- What a tag of a table does in its mode.
-use Rattle.std.proofs.Common.{◌≡◌, ◌∙◌, ℕ, Bool, true, false, not, cond, List, [], ◌∷◌, map, codes, refl, ap}
+use Rattle.std.proofs.Common.{◌≡◌, ◌∙◌, ℕ, Bool, true, false, cond, List, [], ◌∷◌, map, codes, refl, ap}
 use Rattle.h5_names.specs.AttributeText.{AttributeText}
 use Rattle.h5_names.specs.declared.qualified.QualName.{QualName}
 use Rattle.h5_interface.specs.Changes.{mark}
@@ -38,6 +38,8 @@ use Rattle.h5_plain.proofs.LooksLaws.{looks_marked}
 use Rattle.h5_plain.proofs.ModeLaws.{GoesByBody, ResetsTo, resets_in, start_by_body}
 use Rattle.h5_plain.proofs.RuleLaws.{end, start}
 use Rattle.h5_plain.proofs.TableRuleLaws.{IsCellName, row_end_rule, section_end_rule, table_end_rule, table_is_no_part, table_rule}
+use Rattle.h5_rules.specs.stack.Expected.{is_expected, is_expected_p}
+use Rattle.h5_rules.proofs.changes.ExpectedLaws.{current_expected, no_p_expected}
 
 -- where the current node is such a context, nothing is cleared
 cut_none : (is : QualName → Bool) (names : List QualName) (s : List ℕ) → first_passes is names ≡ true → cut_above is names s ≡ s
@@ -65,7 +67,7 @@ module _ (choices : SinkChoices) {w : World} {p : ℕ} {d : Face} {names : List 
       opens = InsertElement (codes "table") attrs false ∷ SetFramesetNotOk ∷ SetMode InTable ∷ []
 
       by_rule : rule w.mode (TagTurn (start (codes "table") attrs)) w
-          ≡ choose (is_quirks w.quirks) (row opens IsDone) (row_if (not (has_p_in_button_scope (names_of w))) (ClosePElementInButtonScope ∷ opens) IsDone)
+          ≡ choose (is_quirks w.quirks) (row opens IsDone) (row_if (is_expected_p (names_of w)) (ClosePElementInButtonScope ∷ opens) IsDone)
       by_rule = start_by_body m (codes "table") attrs w table_is_no_part ∙ table_rule attrs w
 
       done : set_mode InTable (set_frameset_not_ok (insert_element choices (codes "table") attrs false w)) ≡ inside
@@ -74,12 +76,12 @@ module _ (choices : SinkChoices) {w : World} {p : ℕ} {d : Face} {names : List 
       at : (b : Bool) → is_quirks w.quirks ≡ b → Moves choices (start_tag (codes "table") attrs) w inside
       at true e =
           moves_row choices (start (codes "table") attrs) w inside w.mode opens refl c.ignore_lf (calm_html c)
-          (by_rule ∙ ap (λ b. choose b (row opens IsDone) (row_if (not (has_p_in_button_scope (names_of w))) (ClosePElementInButtonScope ∷ opens) IsDone)) e) refl refl done
+          (by_rule ∙ ap (λ b. choose b (row opens IsDone) (row_if (is_expected_p (names_of w)) (ClosePElementInButtonScope ∷ opens) IsDone)) e) refl refl done
       at false e =
           moves_row choices (start (codes "table") attrs) w inside w.mode (ClosePElementInButtonScope ∷ opens) refl c.ignore_lf (calm_html c)
           (by_rule
-          ∙ ap (λ b. choose b (row opens IsDone) (row_if (not (has_p_in_button_scope (names_of w))) (ClosePElementInButtonScope ∷ opens) IsDone)) e
-          ∙ ap (λ b. row_if (not b) (ClosePElementInButtonScope ∷ opens) IsDone) (no_p choices c h)) refl refl
+          ∙ ap (λ b. choose b (row opens IsDone) (row_if (is_expected_p (names_of w)) (ClosePElementInButtonScope ∷ opens) IsDone)) e
+          ∙ ap (λ b. row_if b (ClosePElementInButtonScope ∷ opens) IsDone) (no_p_expected (names_of w) (no_p choices c h))) refl refl
           (ap (λ v. set_mode InTable (set_frameset_not_ok (insert_element choices (codes "table") attrs false v))) (none_closed choices c h) ∙ done)
 
   -- of a `tbody` and a `tr`
@@ -172,7 +174,8 @@ module _ (choices : SinkChoices) (w : World) (names : List QualName) (k : IsFore
       let changes : List Change = GenerateImpliedEnd ∷ PopUntilNamed name ∷ ClearActiveFormattingToMarker ∷ SetMode InRow ∷ [] in
       moves_row choices (end name) w (record w { formatting = clear_to_marker w.formatting; mode = InRow; stack = but_first w.stack }) InCell changes t i j
       (c.ends w
-      ∙ ap (λ ns. choose (in_scope (is_html_named name) is_table_scope ns) (row_if (first_passes (is_html_named name) ns) changes IsDone) ignored) e
-      ∙ ap (λ b. choose (cond b true (cond (is_table_scope (html_name name)) false (in_scope (is_html_named name) is_table_scope names))) (row_if b changes IsDone) ignored) c.itself) refl refl
+      ∙ ap (λ ns. choose (in_scope (is_html_named name) is_table_scope ns) (row_if (is_expected is_implied (is_html_named name) ns) changes IsDone) ignored) e
+      ∙ ap (λ b. choose (cond b true (cond (is_table_scope (html_name name)) false (in_scope (is_html_named name) is_table_scope names))) (row_if (is_expected is_implied (is_html_named name) (html_name name ∷ names)) changes IsDone) ignored) c.itself
+      ∙ ap (λ b. row_if b changes IsDone) (current_expected is_implied (is_html_named name) (html_name name) names c.not_implied c.itself)) refl refl
       (ap (λ v. set_mode InRow (clear_active_formatting_to_marker (pop_until_named name v))) (all_implied_none choices w (ap (first_passes is_implied) e ∙ c.not_implied))
       ∙ ap (λ v. set_mode InRow (clear_active_formatting_to_marker v)) (cut_at w names (is_html_named name) (html_name name) e c.itself))

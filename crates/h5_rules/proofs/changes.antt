@@ -1,6 +1,7 @@
 -- What each change leaves of a world.
 pub mod ClosingLaws
 pub mod ForeignLaws
+pub mod ExpectedLaws
 pub mod FormattingLaws
 pub mod FramesetLaws
 pub mod ListsLaws

@@ -3,4 +3,5 @@ pub mod ByNameLaws
 pub mod KeptLaws
 pub mod KnownRuleLaws
 pub mod ListedLaws
+pub mod MarkLaws
 pub mod ToldLaws

@@ -1,5 +1,5 @@
 -- A rule of tree construction: changes in order, and one ending (HTML standard, section 13.2.6.4).
-use Rattle.std.specs.Prelude.{◌≡◌, ℕ, Bool, true, false, if◌then◌else◌, List, [], ◌∷◌, Option, Some, None}
+use Rattle.std.specs.Prelude.{◌≡◌, ℕ, Bool, true, false, if◌then◌else◌, List, [], ◌∷◌, Option, Some, None, ◌<◌}
 use Rattle.h5_names.specs.AttributeText.{AttributeText}
 use Rattle.h5_names.specs.declared.qualified.QualName.{QualName}
 use Rattle.h5_token.specs.Reply.{Reply, reply}
@@ -158,7 +158,7 @@ next_mode (Again mode) w = Some mode
 next_mode (AgainBy mode) w = Some (mode w)
 next_mode (Answers answer) w = None
 
--- in a quiet row no parse error is told
+-- in a quiet row no parse error is told, and in any other one is
 pub record Row : Type 0 where
   pub changes : List Change
   pub ending : Ending
@@ -168,15 +168,15 @@ pub record Row : Type 0 where
 abbrev pub row : List Change → Ending → Row
 row changes ending = record { changes = changes; ending = ending; quiet = true }
 
--- a row that may tell one
+-- a row that tells one
 abbrev pub errs : List Change → Ending → Row
 errs changes ending = record { changes = changes; ending = ending; quiet = false }
 
--- a row that tells none, where this is so
+-- a row that tells none exactly where this is so
 abbrev pub row_if : Bool → List Change → Ending → Row
 row_if quiet changes ending = record { changes = changes; ending = ending; quiet = quiet }
 
--- nothing changes, and a parse error may be told
+-- nothing changes, and a parse error is told
 abbrev pub ignored : Row
 ignored = errs [] IsDone
 
@@ -201,3 +201,4 @@ pub record Follows {H : Type 0} (choices : SinkChoices) (node : H → ℕ) (r : 
   pub world : new ≡ apply_all choices r.changes old
   pub ending : EndsAs node t result r.ending new
   pub quiet : r.quiet ≡ true → new_errors ≡ old_errors
+  pub noted : r.quiet ≡ false → 0 < new_errors

@@ -1,3 +1,0 @@
-pub mod BlockLaws
-pub mod FormatLaws
-pub mod ItemLaws

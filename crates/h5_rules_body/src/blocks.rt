@@ -1,5 +1,5 @@
 //! Blocks, paragraphs and headings in the body (HTML standard, section 13.2.6.4.7).
-ghost use Rattle.std.specs.Prelude.{◌≡◌, false, true};
+ghost use Rattle.std.specs.Prelude.{◌<◌, ◌≡◌, false, true};
 ghost use Rattle.h5_tag_sets.specs.TagSets.{block_end_names, heading_names, is_heading, is_one_of};
 ghost use Rattle.h5_rules.specs.stack.Scope.{first_passes};
 ghost use Rattle.h5_rules.specs.modes.InBody.{in_body_end_block, in_body_end_heading, in_body_end_p, in_body_start_block, in_body_start_heading, in_body_start_preformatted};
@@ -60,6 +60,7 @@ pub(crate) fn in_body_start_preformatted<S: TreeSink>(
 fn check_heading<S: TreeSink>(sink: &mut S, state: &State<S::Handle>)
     requires { IsSound S.TreeSink sink.old state.now }
     ensures told { TellsErrors S.TreeSink sink.old sink.new state.now }
+    ensures noted { first_passes is_heading (names_of (world_of S.TreeSink sink.old state.now)) ≡ true → 0 < errors_of S.TreeSink sink.new }
     ensures quiet { first_passes is_heading (names_of (world_of S.TreeSink sink.old state.now)) ≡ false → errors_of S.TreeSink sink.new ≡ errors_of S.TreeSink sink.old }
 {
     if is_current_heading(sink, state) {

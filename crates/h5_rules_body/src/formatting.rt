@@ -1,5 +1,5 @@
 //! Formatting elements and elements without contents in the body (HTML standard, section 13.2.6.4.7).
-ghost use Rattle.std.specs.Prelude.{◌≡◌, [], ◌∷◌, false, true, OnOk, IsTrue, codes};
+ghost use Rattle.std.specs.Prelude.{◌<◌, ◌∷◌, ◌≡◌, IsTrue, OnOk, [], codes, false, true};
 ghost use Rattle.h5_names.specs.AttributeText.{attribute_texts};
 ghost use Rattle.h5_tag_sets.specs.TagSets.{formatting_names, is_default_scope, is_html_named, is_one_of};
 ghost use Rattle.h5_rules.specs.stack.Scope.{in_scope};
@@ -26,6 +26,7 @@ use std::alloc::AllocError;
 // An `a` isn't expected where one is listed.
 fn check_a<S: TreeSink>(sink: &mut S, state: &State<S::Handle>, tag: &Tag)
     ensures told { TellsErrors S.TreeSink sink.old sink.new state.now }
+    ensures noted { is_named_listed (codes "a") (world_of S.TreeSink sink.old state.now) ≡ true → 0 < errors_of S.TreeSink sink.new }
     ensures quiet { is_named_listed (codes "a") (world_of S.TreeSink sink.old state.now) ≡ false → errors_of S.TreeSink sink.new ≡ errors_of S.TreeSink sink.old }
 {
     let a = LocalName::from_known(KnownName::A);
@@ -61,6 +62,7 @@ fn handle_misnested_nobr_tags<S: TreeSink>(
     requires sound { IsSound S.TreeSink sink.old state.old }
     requires ready { HasHtmlRoot (world_of S.TreeSink sink.old state.old) }
     ensures done { OnOk result (world_of S.TreeSink sink.new state.new ≡ handle_misnested_nobr_tags S.choices (world_of S.TreeSink sink.old state.old)) }
+    ensures noted { OnOk result (in_scope (is_html_named (codes "nobr")) is_default_scope (names_of (world_of S.TreeSink sink.old state.old)) ≡ true → 0 < errors_of S.TreeSink sink.new) }
     ensures quiet { in_scope (is_html_named (codes "nobr")) is_default_scope (names_of (world_of S.TreeSink sink.old state.old)) ≡ false → errors_of S.TreeSink sink.new ≡ errors_of S.TreeSink sink.old }
     ensures sound { IsSound S.TreeSink sink.new state.new }
 {
@@ -110,6 +112,7 @@ pub(crate) fn in_body_start_formatting<S: TreeSink>(
 fn check_closing<S: TreeSink>(sink: &mut S, state: &State<S::Handle>, tag: &Tag)
     requires { IsSound S.TreeSink sink.old state.now }
     ensures told { TellsErrors S.TreeSink sink.old sink.new state.now }
+    ensures noted { closes_one tag.now.name (world_of S.TreeSink sink.old state.now) ≡ false → 0 < errors_of S.TreeSink sink.new }
     ensures quiet { closes_one tag.now.name (world_of S.TreeSink sink.old state.now) ≡ true → errors_of S.TreeSink sink.new ≡ errors_of S.TreeSink sink.old }
 {
     if !closes_one(sink, state, &tag.name) {

@@ -1,10 +1,14 @@
 //! The mode "in body" (HTML standard, section 13.2.6.4.7, "The 'in body' insertion mode").
+ghost use Rattle.std.specs.Prelude.{◌<◌, ◌≡◌, false, true};
 ghost use Rattle.h5_types.specs.TurnText.{HasText, turn_text};
 ghost use Rattle.h5_rules.specs.ByName.{by_known};
 ghost use Rattle.h5_rules.specs.modes.InBody.{in_body, in_body_end_blocks, in_body_end_body, in_body_end_html, in_body_end_inline, in_body_end_other, in_body_start_blocks, in_body_start_body, in_body_start_embedded, in_body_start_frameset, in_body_start_inline, in_body_start_other, in_body_start_table, in_body_tag};
 ghost use Rattle.h5_rules.specs.Sound.{HasHtmlRoot};
-ghost use Rattle.h5_state.specs.Steps.{IsSound, TellsErrors, world_of};
+ghost use Rattle.h5_state.specs.Steps.{IsSound, TellsErrors, errors_of, world_of};
 ghost use Rattle.h5_state.specs.Turn.{TakesTag, TakesToken};
+ghost use Rattle.h5_rules.specs.stack.Scope.{first_passes};
+ghost use Rattle.h5_tag_sets.specs.TagSets.{is_html_named};
+ghost use Rattle.h5_rules.specs.World.{names_of};
 
 use super::blocks::{
     in_body_end_block, in_body_end_heading, in_body_end_p, in_body_start_block,
@@ -121,7 +125,9 @@ fn in_body_end_html<S: TreeSink>(sink: &mut S, state: &mut State<S::Handle>, tag
 // An end tag that closes another element than the current node isn't expected.
 fn check_nesting<S: TreeSink>(sink: &mut S, state: &State<S::Handle>, tag: &Tag)
     requires { IsSound S.TreeSink sink.old state.now }
-    ensures { TellsErrors S.TreeSink sink.old sink.new state.now }
+    ensures told { TellsErrors S.TreeSink sink.old sink.new state.now }
+    ensures noted { first_passes (is_html_named tag.now.name) (names_of (world_of S.TreeSink sink.old state.now)) ≡ false → 0 < errors_of S.TreeSink sink.new }
+    ensures quiet { first_passes (is_html_named tag.now.name) (names_of (world_of S.TreeSink sink.old state.now)) ≡ true → errors_of S.TreeSink sink.new ≡ errors_of S.TreeSink sink.old }
 {
     if !is_current_html(sink, state, &tag.name) {
         unexpected_tag(sink, state, tag);

@@ -1,14 +1,14 @@
 //! Items of lists in the body (HTML standard, section 13.2.6.4.7).
-ghost use Rattle.std.specs.Prelude.{◌≡◌, [], ◌∷◌, true, length};
+ghost use Rattle.std.specs.Prelude.{◌<◌, ◌∷◌, ◌≡◌, [], false, length, true};
 ghost use Rattle.h5_tag_sets.specs.TagSets.{is_html_named};
-ghost use Rattle.h5_rules.specs.stack.Scope.{cut_through};
+ghost use Rattle.h5_rules.specs.stack.Scope.{cut_through, is_implied_but};
 ghost use Rattle.h5_rules.specs.modes.InBody.{in_body_end_description, in_body_end_li, in_body_start_item};
 ghost use Rattle.h5_rules.specs.Rows.{GenerateImpliedEndExcept, PopUntilNamed, apply_all};
-ghost use Rattle.h5_rules.specs.modes.Shared.{current_is};
 ghost use Rattle.h5_rules.specs.World.{names_of};
 ghost use Rattle.h5_closing.specs.Items.{item_names};
 ghost use Rattle.h5_state.specs.Steps.{IsSound, errors_of, world_of};
 ghost use Rattle.h5_state.specs.Turn.{TakesTag};
+ghost use Rattle.h5_rules.specs.stack.Expected.{is_expected};
 
 use h5_closing::{
     ItemKind, close_list_item, close_p_element_in_button_scope, expect_to_close,
@@ -54,7 +54,8 @@ fn close_item<S: TreeSink>(
     requires sound { IsSound S.TreeSink sink.old state.old }
     requires place { place ≡ length (cut_through (is_html_named local.now) (names_of (world_of S.TreeSink sink.old state.old)) (world_of S.TreeSink sink.old state.old).stack) }
     ensures world { world_of S.TreeSink sink.new state.new ≡ apply_all S.choices (GenerateImpliedEndExcept local.now ∷ PopUntilNamed local.now ∷ []) (world_of S.TreeSink sink.old state.old) }
-    ensures quiet { current_is local.now (world_of S.TreeSink sink.old state.old) ≡ true → errors_of S.TreeSink sink.new ≡ errors_of S.TreeSink sink.old }
+    ensures noted { is_expected (is_implied_but local.now) (is_html_named local.now) (names_of (world_of S.TreeSink sink.old state.old)) ≡ false → 0 < errors_of S.TreeSink sink.new }
+    ensures quiet { is_expected (is_implied_but local.now) (is_html_named local.now) (names_of (world_of S.TreeSink sink.old state.old)) ≡ true → errors_of S.TreeSink sink.new ≡ errors_of S.TreeSink sink.old }
     ensures sound { IsSound S.TreeSink sink.new state.new }
 {
     generate_implied_end_except(sink, state, local);

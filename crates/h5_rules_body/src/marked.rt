@@ -1,14 +1,14 @@
 //! Elements that keep formatting elements apart, by a marker (HTML standard, section 13.2.6.4.7, tags "applet",
 //! "marquee" and "object").
-ghost use Rattle.std.specs.Prelude.{◌≡◌, [], ◌∷◌, true, length};
-ghost use Rattle.h5_tag_sets.specs.TagSets.{is_html_named, is_one_of};
+ghost use Rattle.std.specs.Prelude.{◌<◌, ◌∷◌, ◌≡◌, [], false, length, true};
+ghost use Rattle.h5_tag_sets.specs.TagSets.{is_html_named, is_implied, is_one_of};
 ghost use Rattle.h5_rules.specs.stack.Scope.{cut_through};
 ghost use Rattle.h5_rules.specs.modes.InBody.{in_body_end_marked, in_body_marked, in_body_start_marked};
 ghost use Rattle.h5_rules.specs.Rows.{ClearActiveFormattingToMarker, GenerateImpliedEnd, PopUntilNamed, apply_all};
-ghost use Rattle.h5_rules.specs.modes.Shared.{current_is};
 ghost use Rattle.h5_rules.specs.World.{names_of};
 ghost use Rattle.h5_state.specs.Steps.{IsSound, errors_of, world_of};
 ghost use Rattle.h5_state.specs.Turn.{TakesTag};
+ghost use Rattle.h5_rules.specs.stack.Expected.{is_expected};
 
 use h5_closing::{expect_to_close, find_in_default_scope, generate_implied_end};
 use h5_formatting::{
@@ -51,7 +51,8 @@ fn close_marked<S: TreeSink>(
     requires name { is_one_of in_body_marked local.now ≡ true }
     requires place { place ≡ length (cut_through (is_html_named local.now) (names_of (world_of S.TreeSink sink.old state.old)) (world_of S.TreeSink sink.old state.old).stack) }
     ensures world { world_of S.TreeSink sink.new state.new ≡ apply_all S.choices (GenerateImpliedEnd ∷ PopUntilNamed local.now ∷ ClearActiveFormattingToMarker ∷ []) (world_of S.TreeSink sink.old state.old) }
-    ensures quiet { current_is local.now (world_of S.TreeSink sink.old state.old) ≡ true → errors_of S.TreeSink sink.new ≡ errors_of S.TreeSink sink.old }
+    ensures noted { is_expected is_implied (is_html_named local.now) (names_of (world_of S.TreeSink sink.old state.old)) ≡ false → 0 < errors_of S.TreeSink sink.new }
+    ensures quiet { is_expected is_implied (is_html_named local.now) (names_of (world_of S.TreeSink sink.old state.old)) ≡ true → errors_of S.TreeSink sink.new ≡ errors_of S.TreeSink sink.old }
     ensures sound { IsSound S.TreeSink sink.new state.new }
 {
     generate_implied_end(sink, state);

@@ -1,9 +1,12 @@
 //! Parts of ruby annotations in the body (HTML standard, section 13.2.6.4.7, start tags "rb", "rtc", "rp" and "rt").
-ghost use Rattle.std.specs.Prelude.{codes};
-ghost use Rattle.h5_rules.specs.modes.InBody.{in_body_start_ruby};
+ghost use Rattle.std.specs.Prelude.{◌<◌, ◌≡◌, codes, false, true};
+ghost use Rattle.h5_rules.specs.modes.InBody.{in_body_start_ruby_base, in_body_start_ruby_text, is_ruby_or_rtc};
 ghost use Rattle.h5_rules.specs.Rows.{GenerateImpliedEnd, GenerateImpliedEndExcept};
-ghost use Rattle.h5_state.specs.Steps.{IsSound, TellsErrors};
+ghost use Rattle.h5_state.specs.Steps.{IsSound, TellsErrors, errors_of, world_of};
 ghost use Rattle.h5_state.specs.Turn.{TakesTag};
+ghost use Rattle.h5_rules.specs.stack.Scope.{first_passes};
+ghost use Rattle.h5_tag_sets.specs.TagSets.{is_html_named};
+ghost use Rattle.h5_rules.specs.World.{names_of};
 
 use h5_closing::generate_implied_end;
 use h5_insertion::insert_element;
@@ -18,7 +21,9 @@ use h5_types::ProcessResult;
 // A part of a `ruby` isn't expected in another element.
 fn check_in_ruby<S: TreeSink>(sink: &mut S, state: &State<S::Handle>, tag: &Tag)
     requires { IsSound S.TreeSink sink.old state.now }
-    ensures { TellsErrors S.TreeSink sink.old sink.new state.now }
+    ensures told { TellsErrors S.TreeSink sink.old sink.new state.now }
+    ensures noted { first_passes (is_html_named (codes "ruby")) (names_of (world_of S.TreeSink sink.old state.now)) ≡ false → 0 < errors_of S.TreeSink sink.new }
+    ensures quiet { first_passes (is_html_named (codes "ruby")) (names_of (world_of S.TreeSink sink.old state.now)) ≡ true → errors_of S.TreeSink sink.new ≡ errors_of S.TreeSink sink.old }
 {
     if !is_current_html(sink, state, &LocalName::from_known(KnownName::Ruby)) {
         unexpected_tag(sink, state, tag);
@@ -28,7 +33,9 @@ fn check_in_ruby<S: TreeSink>(sink: &mut S, state: &State<S::Handle>, tag: &Tag)
 // The same, but for an `rtc`.
 fn check_in_ruby_or_rtc<S: TreeSink>(sink: &mut S, state: &State<S::Handle>, tag: &Tag)
     requires { IsSound S.TreeSink sink.old state.now }
-    ensures { TellsErrors S.TreeSink sink.old sink.new state.now }
+    ensures told { TellsErrors S.TreeSink sink.old sink.new state.now }
+    ensures noted { first_passes is_ruby_or_rtc (names_of (world_of S.TreeSink sink.old state.now)) ≡ false → 0 < errors_of S.TreeSink sink.new }
+    ensures quiet { first_passes is_ruby_or_rtc (names_of (world_of S.TreeSink sink.old state.now)) ≡ true → errors_of S.TreeSink sink.new ≡ errors_of S.TreeSink sink.old }
 {
     if !is_current_html(sink, state, &LocalName::from_known(KnownName::Rtc)) {
         check_in_ruby(sink, state, tag);
@@ -42,7 +49,7 @@ pub(crate) fn in_body_start_ruby_base<S: TreeSink>(
     tag: Tag,
 ) -> Turn
     requires { IsSound S.TreeSink sink.old state.old }
-    ensures { TakesTag S.TreeSink (in_body_start_ruby GenerateImpliedEnd) tag sink.old state.old sink.new state.new result }
+    ensures { TakesTag S.TreeSink in_body_start_ruby_base tag sink.old state.old sink.new state.new result }
 {
     if in_scope_named(sink, state, KnownName::Ruby) {
         generate_implied_end(sink, state);
@@ -60,7 +67,7 @@ pub(crate) fn in_body_start_ruby_text<S: TreeSink>(
     tag: Tag,
 ) -> Turn
     requires { IsSound S.TreeSink sink.old state.old }
-    ensures { TakesTag S.TreeSink (in_body_start_ruby (GenerateImpliedEndExcept (codes "rtc"))) tag sink.old state.old sink.new state.new result }
+    ensures { TakesTag S.TreeSink in_body_start_ruby_text tag sink.old state.old sink.new state.new result }
 {
     let rtc = LocalName::from_known(KnownName::Rtc);
     if in_scope_named(sink, state, KnownName::Ruby) {

@@ -1,5 +1,5 @@
 -- What a token in foreign content came to, as contracts say it.
-use Rattle.std.specs.Prelude.{◌≡◌, ℕ, List, Result, IfOk}
+use Rattle.std.specs.Prelude.{◌≡◌, ◌<◌, ℕ, Bool, true, false, List, Result, IfOk}
 use Rattle.std.specs.declared.alloc.AllocError.{AllocError}
 use Rattle.h5_interface.specs.SinkChoices.{SinkChoices}
 use Rattle.h5_interface.specs.declared.sink.TreeSink.{Ghosts}
@@ -21,16 +21,19 @@ pub record EndedBy {H : Type 0} (choices : SinkChoices) (node : H → ℕ) (step
   pub is : step ≡ HasRow row
   pub follows : Follows choices node row t old new old_errors new_errors result
 
--- it goes by the rules of the current mode, and these changes were made before
-pub record LeftToMode (choices : SinkChoices) (step : ForeignStep) (t : TurnText) (old new : World) (again : Token) : Type 0 where
+-- it goes by the rules of the current mode, and these changes were made before, with a parse error or quietly
+pub record LeftToMode (choices : SinkChoices) (step : ForeignStep) (t : TurnText) (old new : World) (old_errors new_errors : ℕ) (again : Token) : Type 0 where
   pub changes : List Change
-  pub is : step ≡ ByMode changes
+  pub is_quiet : Bool
+  pub is : step ≡ ByMode is_quiet changes
+  pub quiet : is_quiet ≡ true → new_errors ≡ old_errors
+  pub noted : is_quiet ≡ false → 0 < new_errors
   pub world : new ≡ apply_all choices changes old
   pub token : turn_text again ≡ t
 
 abbrev pub CameTo : {H : Type 0} → SinkChoices → (H → ℕ) → ForeignStep → TurnText → (old new : World) → (old_errors new_errors : ℕ) → State H → Came → Type 0
 CameTo choices node step t old new old_errors new_errors state (came.Ended result) = EndedBy choices node step t old new old_errors new_errors (turn_result result state)
-CameTo choices node step t old new old_errors new_errors state (came.ByMode again) = LeftToMode choices step t old new again
+CameTo choices node step t old new old_errors new_errors state (came.ByMode again) = LeftToMode choices step t old new old_errors new_errors again
 
 -- a token took this step, unless it was refused memory; what there is then is sound, too
 pub record Steps {S H O : Type 0} (law : Ghosts S H O) (step : World → ForeignStep) (t : TurnText) (old_sink : S) (old_state : State H) (new_sink : S) (new_state : State H) (result : Result Came AllocError) : Type 0 where

@@ -1,10 +1,8 @@
 //! End tags in foreign content.
-ghost use Rattle.std.specs.Prelude.{◌≡◌, true};
+ghost use Rattle.std.specs.Prelude.{◌<◌, ◌≡◌, false, true};
 ghost use Rattle.h5_token.specs.TokenText.{tag_text};
 ghost use Rattle.h5_types.specs.TurnText.{TagTurn};
-ghost use Rattle.h5_rules.specs.stack.Scope.{first_passes};
-ghost use Rattle.h5_rules.specs.insertion.Foreign.{is_named_in_any_case};
-ghost use Rattle.h5_rules.specs.modes.ForeignContent.{foreign_end, foreign_end_by, search_end};
+ghost use Rattle.h5_rules.specs.modes.ForeignContent.{foreign_end, foreign_end_by, is_expected_end, search_end};
 ghost use Rattle.h5_rules.specs.World.{names_of};
 ghost use Rattle.h5_rules_foreign.specs.ForeignSteps.{CameTo};
 ghost use Rattle.h5_state.specs.Steps.{IsSound, TellsErrors, errors_of, world_of};
@@ -14,17 +12,31 @@ use super::start_tags::unexpected_in_foreign_content;
 use super::step::ForeignStep;
 use h5_closing::{EndSearch, is_current_in_any_case, pop_until_named_in_any_case, search_end};
 use h5_interface::TreeSink;
+use h5_names::LocalName;
 use h5_state::{State, open_count, unexpected_tag};
 use h5_token::Tag;
 use h5_types::{ProcessResult, Token};
 
-// An end tag of another name than the current node's isn't expected, unless that is the root.
+// Whether an end tag of this name is expected: the current node has it, or is the root.
+fn is_expected_end<S: TreeSink>(sink: &S, state: &State<S::Handle>, local: &LocalName) -> bool
+    requires { IsSound S.TreeSink sink.now state.now }
+    ensures { result ≡ is_expected_end local.now (names_of (world_of S.TreeSink sink.now state.now)) }
+{
+    if open_count(sink, state) > 1 {
+        is_current_in_any_case(sink, state, local)
+    } else {
+        true
+    }
+}
+
+// An end tag that isn't expected is an error.
 fn check_end_tag<S: TreeSink>(sink: &mut S, state: &State<S::Handle>, tag: &Tag)
     requires { IsSound S.TreeSink sink.old state.now }
     ensures told { TellsErrors S.TreeSink sink.old sink.new state.now }
-    ensures quiet { first_passes (is_named_in_any_case tag.now.name) (names_of (world_of S.TreeSink sink.old state.now)) ≡ true → errors_of S.TreeSink sink.new ≡ errors_of S.TreeSink sink.old }
+    ensures noted { is_expected_end tag.now.name (names_of (world_of S.TreeSink sink.old state.now)) ≡ false → 0 < errors_of S.TreeSink sink.new }
+    ensures quiet { is_expected_end tag.now.name (names_of (world_of S.TreeSink sink.old state.now)) ≡ true → errors_of S.TreeSink sink.new ≡ errors_of S.TreeSink sink.old }
 {
-    if open_count(sink, state) > 1 && !is_current_in_any_case(sink, state, &tag.name) {
+    if !is_expected_end(sink, state, &tag.name) {
         unexpected_tag(sink, state, tag);
     }
 }

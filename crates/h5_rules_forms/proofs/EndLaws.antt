@@ -1,22 +1,23 @@
 -- Open elements that are closed by their handles, or copied after that.
-use Rattle.std.proofs.Common.{◌≡◌, ◌≢◌, inl, inr, ℕ, Bool, true, false, ◌==◌, cond, List, [], ◌∷◌, map, codes, MatchOption, None, Option, Some, refl, ap, sym, subst, ◌∙◌}
-use Rattle.std.proofs.lemmas.Bool.{eqb-true}
+use Rattle.std.proofs.Common.{◌≡◌, ◌≢◌, ℕ, true, false, ◌==◌, List, [], ◌∷◌, map, codes, MatchOption, None, Option, Some, refl, ap, sym, subst, ◌∙◌}
 use Rattle.h5_names.specs.declared.qualified.QualName.{QualName}
-use Rattle.h5_interface.specs.Forest.{ElementNode, IsElement, kind_of}
+use Rattle.h5_interface.specs.Forest.{ElementNode, Forest, IsElement, kind_of}
 use Rattle.h5_interface.specs.SinkChoices.{SinkChoices}
 use Rattle.h5_tag_sets.specs.TagSets.{html_namespace, implied_names, is_default_scope, is_html_named, is_implied, is_one_of}
 use Rattle.h5_rules.specs.formatting.FormattingNames.{html_name}
-use Rattle.h5_rules.specs.stack.Order.{IsIn, last_or}
+use Rattle.h5_rules.specs.stack.Order.{first_or, last_or}
 use Rattle.h5_rules.specs.stack.Scope.{is_implied_but, node_in_scope}
+use Rattle.h5_rules.specs.stack.Expected.{first_is, is_expected_node}
 use Rattle.h5_rules.specs.stack.Root.{IsRootOpen}
 use Rattle.h5_rules.proofs.fitting.OpenLaws.{open_while}
 use Rattle.h5_rules.specs.Changes.{clear_form, generate_implied_end_except, pop, pop_until_named}
 use Rattle.h5_rules.specs.stack.Closing.{generate_implied_end}
 use Rattle.h5_rules.specs.modes.InBody.{close_the_form, form_in_scope}
-use Rattle.h5_rules.specs.Rows.{ClearForm, GenerateImpliedEnd, IsDone, RemoveFromStack, choose, errs}
+use Rattle.h5_rules.specs.Rows.{ClearForm, GenerateImpliedEnd, IsDone, RemoveFromStack, Row, choose, errs, row_if}
 use Rattle.h5_rules.specs.Sound.{Sound}
 use Rattle.h5_rules.specs.World.{World, current, name_in, name_of_found, names_of, root}
 use Rattle.h5_rules.proofs.changes.ClosingLaws.{named_not_implied, names-all_implied, while_holds}
+use Rattle.h5_rules.proofs.changes.ExpectedLaws.{first_implied}
 use Rattle.h5_rules.proofs.changes.PlaceLaws.{marked_kind}
 use Rattle.h5_rules.proofs.modes.CloseInLaws.{node_in_stack}
 use Rattle.h5_rules.proofs.roles.SetLaws.{implied_not_html}
@@ -73,11 +74,26 @@ form_not_root choices w n k root_open is_form scope e =
 pub form_stays_element : (choices : SinkChoices) (w : World) (n : ℕ) → Sound w → w.form ≡ Some n → IsElement (generate_implied_end choices (clear_form w)).forest n
 form_stays_element choices w n k is_form = let e = k.form_node n is_form in (e.0, implied_kind choices (clear_form w) n ∙ e.1)
 
+-- whether it is the current node then
+pub form_expected : (choices : SinkChoices) (w v : World) (n : ℕ) → IsRootOpen (names_of w) → v ≡ generate_implied_end choices (clear_form w) → (current v == n) ≡ is_expected_node n (names_of w) w.stack
+unfolding names_of
+form_expected choices w v n root_open e =
+    let u = generate_implied_end choices (clear_form w) in
+    let still : IsRootOpen (names_of u) = subst IsRootOpen (sym (names-all_implied choices (clear_form w))) (open_while is_implied (names_of w) implied_not_html root_open) in
+    ap (λ (x : World). current x == n) e ∙ at u.forest u.stack still ∙ first_implied choices n (clear_form w)
+  where
+    at : (f : Forest) (s : List ℕ) → IsRootOpen (map (name_in f) s) → (first_or f.document s == n) ≡ first_is n s
+    at f [] h = absurd h
+    at f (m ∷ s) h = refl
+
 -- the row of the end tag, where there is a form element
-pub closes_scoped : (form : ℕ) (w : World) → w.form ≡ Some form → form_in_scope form w ≡ true → close_the_form w.form w ≡ errs (ClearForm ∷ GenerateImpliedEnd ∷ RemoveFromStack form ∷ []) IsDone
+abbrev pub scoped_row : ℕ → World → Row
+scoped_row form w = row_if (is_expected_node form (names_of w) w.stack) (ClearForm ∷ GenerateImpliedEnd ∷ RemoveFromStack form ∷ []) IsDone
+
+pub closes_scoped : (form : ℕ) (w : World) → w.form ≡ Some form → form_in_scope form w ≡ true → close_the_form w.form w ≡ scoped_row form w
 unfolding close_the_form
-closes_scoped form w e scope = ap (λ o. close_the_form o w) e ∙ ap (λ b. choose b (errs (ClearForm ∷ GenerateImpliedEnd ∷ RemoveFromStack form ∷ []) IsDone) (errs (ClearForm ∷ []) IsDone)) scope
+closes_scoped form w e scope = ap (λ o. close_the_form o w) e ∙ ap (λ b. choose b (scoped_row form w) (errs (ClearForm ∷ []) IsDone)) scope
 
 pub closes_unscoped : (form : ℕ) (w : World) → w.form ≡ Some form → form_in_scope form w ≡ false → close_the_form w.form w ≡ errs (ClearForm ∷ []) IsDone
 unfolding close_the_form
-closes_unscoped form w e scope = ap (λ o. close_the_form o w) e ∙ ap (λ b. choose b (errs (ClearForm ∷ GenerateImpliedEnd ∷ RemoveFromStack form ∷ []) IsDone) (errs (ClearForm ∷ []) IsDone)) scope
+closes_unscoped form w e scope = ap (λ o. close_the_form o w) e ∙ ap (λ b. choose b (scoped_row form w) (errs (ClearForm ∷ []) IsDone)) scope

@@ -1,3 +1,3 @@
 pub mod EndLaws
 pub mod HiddenLaws
-pub mod QuietLaws
+pub mod RuleLaws

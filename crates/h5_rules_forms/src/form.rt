@@ -1,7 +1,7 @@
 //! Forms in the body (HTML standard, section 13.2.6.4.7).
 ghost use Rattle.std.specs.Prelude.{◌≡◌, ◌∷◌, [], codes};
-ghost use Rattle.h5_rules.specs.modes.InBody.{close_the_form, in_body_end_form, in_body_start_form, named_in_scope};
-ghost use Rattle.h5_rules.specs.Rows.{GenerateImpliedEnd, IsDone, PopUntilNamed, choose, errs, ignored};
+ghost use Rattle.h5_rules.specs.modes.InBody.{close_open_form, close_the_form, in_body_end_form, in_body_start_form, named_in_scope};
+ghost use Rattle.h5_rules.specs.Rows.{GenerateImpliedEnd, PopUntilNamed};
 ghost use Rattle.h5_rules.specs.Sound.{HasHtmlRoot};
 ghost use Rattle.h5_state.specs.Steps.{IsSound, world_of};
 ghost use Rattle.h5_state.specs.Turn.{TakesTag};
@@ -63,9 +63,10 @@ fn close_form_element<S: TreeSink>(sink: &mut S, state: &mut State<S::Handle>, t
 }
 
 // In a template, an open HTML `form` is closed, where one is in scope.
+#[tactic(auto, unfolding(h5_rules::specs::modes::InBody::close_open_form))]
 fn close_open_form<S: TreeSink>(sink: &mut S, state: &mut State<S::Handle>, tag: Tag) -> Turn
     requires { IsSound S.TreeSink sink.old state.old }
-    ensures { TakesTag S.TreeSink (λ tag w. choose (named_in_scope (codes "form") w) (errs (GenerateImpliedEnd ∷ PopUntilNamed (codes "form") ∷ []) IsDone) ignored) tag sink.old state.old sink.new state.new result }
+    ensures { TakesTag S.TreeSink (λ tag w. close_open_form w) tag sink.old state.old sink.new state.new result }
 {
     let _ = tag;
     let form = LocalName::from_known(KnownName::Form);

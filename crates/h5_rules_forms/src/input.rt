@@ -1,11 +1,12 @@
 //! Elements without content, in forms and beside them (HTML standard, section 13.2.6.4.7).
-ghost use Rattle.std.specs.Prelude.{◌≡◌, ◌∷◌, OnOk, codes, false};
+ghost use Rattle.std.specs.Prelude.{◌&&◌, ◌<◌, ◌∷◌, ◌≡◌, OnOk, codes, false, true};
 ghost use Rattle.h5_names.specs.AttributeText.{attribute_texts};
-ghost use Rattle.h5_rules.specs.modes.InBody.{in_body_start_hr, in_body_start_image, in_body_start_input, in_body_start_part, named_in_scope, unless_hidden};
+ghost use Rattle.h5_rules.specs.modes.InBody.{has_option_in_scope, in_body_start_hr, in_body_start_image, in_body_start_input, in_body_start_part, named_in_scope, unless_hidden};
 ghost use Rattle.h5_rules.specs.stack.Closing.{generate_implied_end_in_select};
 ghost use Rattle.h5_rules.specs.Rows.{InsertAndPopElement, ReconstructActiveFormattingElements, apply_all};
 ghost use Rattle.h5_state.specs.Steps.{IsSound, TellsErrors, errors_of, world_of};
 ghost use Rattle.h5_state.specs.Turn.{TakesTag};
+ghost use Rattle.h5_rules.specs.World.{names_of};
 
 use super::hidden::is_type_hidden;
 use super::select::is_option_in_scope;
@@ -103,7 +104,8 @@ pub fn in_body_start_input<S: TreeSink>(
 fn check_rule<S: TreeSink>(sink: &mut S, state: &State<S::Handle>, in_select: bool)
     requires { IsSound S.TreeSink sink.old state.now }
     ensures told { TellsErrors S.TreeSink sink.old sink.new state.now }
-    ensures quiet { in_select ≡ false → errors_of S.TreeSink sink.new ≡ errors_of S.TreeSink sink.old }
+    ensures noted { (in_select && has_option_in_scope (names_of (world_of S.TreeSink sink.old state.now))) ≡ true → 0 < errors_of S.TreeSink sink.new }
+    ensures quiet { (in_select && has_option_in_scope (names_of (world_of S.TreeSink sink.old state.now))) ≡ false → errors_of S.TreeSink sink.new ≡ errors_of S.TreeSink sink.old }
 {
     if in_select && is_option_in_scope(sink, state) {
         tell_error(sink, state, "hr in option");

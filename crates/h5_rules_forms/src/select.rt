@@ -1,10 +1,11 @@
 //! `select`, and what stands in it (HTML standard, section 13.2.6.4.7).
-ghost use Rattle.std.specs.Prelude.{◌≡◌, ◌||◌, MatchOption, OnOk, codes, option_map};
+ghost use Rattle.std.specs.Prelude.{◌<◌, ◌||◌, ◌≡◌, MatchOption, OnOk, codes, false, option_map, true};
 ghost use Rattle.h5_interface.specs.Forest.{IsElement};
-ghost use Rattle.h5_rules.specs.modes.InBody.{copies_option, in_body_end_option, in_body_start_optgroup, in_body_start_option, in_body_start_select, named_in_scope};
+ghost use Rattle.h5_rules.specs.modes.InBody.{copies_option, has_option_in_scope, in_body_end_option, in_body_start_optgroup, in_body_start_option, in_body_start_select, named_in_scope};
 ghost use Rattle.h5_rules.specs.Rows.{apply_all};
-ghost use Rattle.h5_state.specs.Steps.{IsSound, TellsErrors, world_of};
+ghost use Rattle.h5_state.specs.Steps.{IsSound, TellsErrors, errors_of, world_of};
 ghost use Rattle.h5_state.specs.Turn.{TakesTag};
+ghost use Rattle.h5_rules.specs.World.{names_of};
 
 use super::opens::{open_control, open_element};
 use h5_closing::{
@@ -52,7 +53,7 @@ pub fn in_body_start_select<S: TreeSink>(
 /// Whether an HTML `option` or `optgroup` is in scope.
 pub(crate) fn is_option_in_scope<S: TreeSink>(sink: &S, state: &State<S::Handle>) -> bool
     requires { IsSound S.TreeSink sink.now state.now }
-    ensures { result ≡ (named_in_scope (codes "option") (world_of S.TreeSink sink.now state.now) || named_in_scope (codes "optgroup") (world_of S.TreeSink sink.now state.now)) }
+    ensures { result ≡ has_option_in_scope (names_of (world_of S.TreeSink sink.now state.now)) }
 {
     in_scope_named(sink, state, KnownName::Option)
         || in_scope_named(sink, state, KnownName::Optgroup)
@@ -61,7 +62,9 @@ pub(crate) fn is_option_in_scope<S: TreeSink>(sink: &S, state: &State<S::Handle>
 // An option isn't expected where one is open.
 fn check_option<S: TreeSink>(sink: &mut S, state: &State<S::Handle>)
     requires { IsSound S.TreeSink sink.old state.now }
-    ensures { TellsErrors S.TreeSink sink.old sink.new state.now }
+    ensures told { TellsErrors S.TreeSink sink.old sink.new state.now }
+    ensures noted { named_in_scope (codes "option") (world_of S.TreeSink sink.old state.now) ≡ true → 0 < errors_of S.TreeSink sink.new }
+    ensures quiet { named_in_scope (codes "option") (world_of S.TreeSink sink.old state.now) ≡ false → errors_of S.TreeSink sink.new ≡ errors_of S.TreeSink sink.old }
 {
     if in_scope_named(sink, state, KnownName::Option) {
         tell_error(sink, state, "nested options");
@@ -71,7 +74,9 @@ fn check_option<S: TreeSink>(sink: &mut S, state: &State<S::Handle>)
 // A group of options isn't expected where an option or a group is open.
 fn check_optgroup<S: TreeSink>(sink: &mut S, state: &State<S::Handle>)
     requires { IsSound S.TreeSink sink.old state.now }
-    ensures { TellsErrors S.TreeSink sink.old sink.new state.now }
+    ensures told { TellsErrors S.TreeSink sink.old sink.new state.now }
+    ensures noted { has_option_in_scope (names_of (world_of S.TreeSink sink.old state.now)) ≡ true → 0 < errors_of S.TreeSink sink.new }
+    ensures quiet { has_option_in_scope (names_of (world_of S.TreeSink sink.old state.now)) ≡ false → errors_of S.TreeSink sink.new ≡ errors_of S.TreeSink sink.old }
 {
     if is_option_in_scope(sink, state) {
         tell_error(sink, state, "nested options");
@@ -143,6 +148,7 @@ fn copy_option<S: TreeSink>(
     requires element { MatchOption option.now (Unit {0}) (λ handle. IsElement (S.sees sink.old).forest (S.node handle)) }
     ensures done { OnOk result
         (world_of S.TreeSink sink.new state.now ≡ apply_all S.choices (copies_option (option_map S.node option.now)) (world_of S.TreeSink sink.old state.now)) }
+    ensures quiet { errors_of S.TreeSink sink.new ≡ errors_of S.TreeSink sink.old }
     ensures sound { IsSound S.TreeSink sink.new state.now }
 {
     match option {

@@ -1,5 +1,5 @@
 -- Head content after the head: what its row comes to, once the head element has left the stack again.
-use Rattle.std.proofs.Common.{◌≡◌, ◌≢◌, ◌<◌, ℕ, MatchOption, None, Option, Some, option_map, codes, true, ap, length, subst, sym, ◌∙◌, arith}
+use Rattle.std.proofs.Common.{◌≡◌, ◌≢◌, ◌<◌, ℕ, MatchOption, None, Option, Some, option_map, codes, true, ap, sym, ◌∙◌}
 use Rattle.h5_token.specs.Reply.{reply}
 use Rattle.h5_token.specs.TokenText.{TagText}
 use Rattle.h5_interface.specs.Forest.{IsElement}
@@ -18,7 +18,6 @@ use Rattle.h5_rules.specs.modes.Shared.{head_start_names}
 use Rattle.h5_rules.specs.World.{World, root}
 use Rattle.h5_rules.proofs.modes.AfterHeadLaws.{content_row, ends_anywhere}
 use Rattle.h5_rules.proofs.rows.KeptLaws.{apply_append}
-use Rattle.h5_rules.proofs.modes.PushHeadLaws.{OnlyRoot, stack_push_head}
 use Rattle.h5_state.specs.Turn.{turn_result}
 use Rattle.h5_state.specs.declared.state.State.{State}
 
@@ -33,9 +32,9 @@ ends_alike node t ended.Answer s z e v none same ends = ends ∙ ap Answers (sym
 -- the row of the head, and then the head element leaves the stack, where there is one
 pub followed : {H : Type 0} (choices : SinkChoices) (node : H → ℕ) (tag : TagText) (w u v : World) (a b : ℕ) (result : ProcessResult) (s z : State H) (known : Option ℕ) → is_one_of head_start_names tag.name ≡ true → reply node z.answer ≡ reply node s.answer
     → known ≡ w.head → u ≡ apply_all choices (in_head_start_tag tag (push_head w)).changes (push_head w) → EndsAs node (TagTurn tag) (turn_result result s) (in_head_start_tag tag (push_head w)).ending u
-    → v ≡ apply_all choices (removes_known known) u → Follows choices node (with_head in_head_start_tag tag w) (TagTurn tag) w v a b (turn_result result z)
+    → v ≡ apply_all choices (removes_known known) u → 0 < b → Follows choices node (with_head in_head_start_tag tag w) (TagTurn tag) w v a b (turn_result result z)
 unfolding with_head
-followed choices node tag w u v a b result s z known name same is done ends left =
+followed choices node tag w u v a b result s z known name same is done ends left told =
     let x = push_head w in
     let r = in_head_start_tag tag x in
     let none = (content_row tag x name).ends in
@@ -43,6 +42,7 @@ followed choices node tag w u v a b result s z known name same is done ends left
       world = left ∙ ap (λ o. apply_all choices (removes_known o) u) is ∙ ap (apply_all choices (removes_known w.head)) done ∙ sym (apply_append choices r.changes (removes_known w.head) x);
       ending = ends_alike node (TagTurn tag) result s z r.ending v none same (ends_anywhere node (TagTurn tag) (turn_result result s) r.ending u v none ends);
       quiet = λ h. absurd (cc);
+      noted = λ h. told;
     }
 
 -- the head element isn't the root, where there is one

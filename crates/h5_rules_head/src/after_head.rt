@@ -10,7 +10,7 @@ ghost use Rattle.h5_rules.specs.Rows.{apply_all};
 ghost use Rattle.h5_rules.specs.modes.Shared.{head_start_names};
 ghost use Rattle.h5_rules.specs.World.{root};
 ghost use Rattle.h5_rules_head.specs.Fits.{FitsAfterHead};
-ghost use Rattle.h5_state.specs.Steps.{IsOpen, IsSound, world_of};
+ghost use Rattle.h5_state.specs.Steps.{IsOpen, IsSound, errors_of, world_of};
 ghost use Rattle.h5_state.specs.Turn.{TakesTag, TakesToken};
 
 use super::html_start_tag::in_body_start_html;
@@ -62,6 +62,7 @@ fn leave_head<S: TreeSink>(sink: &mut S, state: &mut State<S::Handle>, head: &Op
     requires element { MatchOption head.now (Unit {0}) (λ element. IsElement (S.sees sink.old).forest (S.node element)) }
     requires root { MatchOption head.now (Unit {0}) (λ element. S.node element ≢ root (world_of S.TreeSink sink.old state.old)) }
     ensures world { world_of S.TreeSink sink.new state.new ≡ apply_all S.choices (removes_known (option_map S.node head.now)) (world_of S.TreeSink sink.old state.old) }
+    ensures quiet { errors_of S.TreeSink sink.new ≡ errors_of S.TreeSink sink.old }
     ensures sound { IsSound S.TreeSink sink.new state.new }
 {
     if let Some(element) = head {

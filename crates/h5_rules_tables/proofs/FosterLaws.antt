@@ -1,5 +1,5 @@
 -- A turn with foster parenting on.
-use Rattle.std.proofs.Common.{◌≡◌, ℕ, true, false, Result, Ok, Err, ap, refl, subst, sym}
+use Rattle.std.proofs.Common.{◌<◌, ◌≡◌, ℕ, true, false, Result, Ok, Err, ap, refl, subst, sym}
 use Rattle.std.specs.Prelude.{IfOk}
 use Rattle.std.specs.declared.alloc.AllocError.{AllocError}
 use Rattle.h5_interface.specs.SinkChoices.{SinkChoices}
@@ -32,8 +32,8 @@ kept_result ended.Answer s z again answer = ap (λ x. results.Answer x) (sym ans
 -- a turn by the body that wasn't refused memory is one with the flag on
 pub foster_if_ok : {H : Type 0} (choices : SinkChoices) (node : H → ℕ) (t : TurnText) (w v u : World) (a b c d : ℕ) (s z : State H) (result : Result ProcessResult AllocError) → z.again ≡ s.again → z.answer ≡ s.answer
     → IfOk result (λ r. Follows choices node (in_body t (set_foster true w)) t (set_foster true w) v a b (turn_result r s)) → u ≡ set_foster false v
-    → IfOk result (λ r. Follows choices node (foster in_body t w) t w u c d (turn_result r z))
-foster_if_ok choices node t w v u a b c d s z (Ok r) again answer f e =
+    → 0 < a → d ≡ b → IfOk result (λ r. Follows choices node (foster in_body t w) t w u c d (turn_result r z))
+foster_if_ok choices node t w v u a b c d s z (Ok r) again answer f e told same =
     let on = set_foster true w in
-    foster_follows choices node t w v u a b c d (turn_result r z) (subst (Follows choices node (in_body t on) t on v a b) (kept_result r s z again answer) f) e
-foster_if_ok choices node t w v u a b c d s z (Err refused) again answer f e = f
+    foster_follows choices node t w v u a b c d (turn_result r z) (subst (Follows choices node (in_body t on) t on v a b) (kept_result r s z again answer) f) e told same
+foster_if_ok choices node t w v u a b c d s z (Err refused) again answer f e told same = f

@@ -1,17 +1,17 @@
 //! The mode "in caption" (HTML standard, section 13.2.6.4.11).
-ghost use Rattle.std.specs.Prelude.{◌≡◌, [], ◌∷◌, true, codes, length};
+ghost use Rattle.std.specs.Prelude.{◌<◌, ◌∷◌, ◌≡◌, [], codes, false, length, true};
 ghost use Rattle.h5_types.specs.TurnText.{HasText, turn_text};
-ghost use Rattle.h5_tag_sets.specs.TagSets.{is_html_named};
+ghost use Rattle.h5_tag_sets.specs.TagSets.{is_html_named, is_implied};
 ghost use Rattle.h5_rules.specs.stack.Scope.{cut_through};
 ghost use Rattle.h5_rules.specs.ByName.{by_known, of_tag};
 ghost use Rattle.h5_rules.specs.modes.InBody.{in_body};
-ghost use Rattle.h5_rules.specs.modes.Shared.{current_is};
 ghost use Rattle.h5_rules.specs.modes.InCaption.{in_caption, in_caption_close, in_caption_end, in_caption_end_caption, in_caption_start, in_caption_tag};
 ghost use Rattle.h5_rules.specs.Rows.{ClearActiveFormattingToMarker, GenerateImpliedEnd, PopUntilNamed, apply_all};
 ghost use Rattle.h5_rules.specs.Sound.{HasHtmlRoot};
 ghost use Rattle.h5_rules.specs.World.{names_of};
 ghost use Rattle.h5_state.specs.Steps.{IsSound, errors_of, world_of};
 ghost use Rattle.h5_state.specs.Turn.{TakesTag, TakesToken};
+ghost use Rattle.h5_rules.specs.stack.Expected.{is_expected};
 
 use h5_closing::{expect_to_close, find_in_table_scope, generate_implied_end};
 use h5_formatting::clear_active_formatting_to_marker;
@@ -30,7 +30,8 @@ fn close_the_caption<S: TreeSink>(sink: &mut S, state: &mut State<S::Handle>, pl
     requires sound { IsSound S.TreeSink sink.old state.old }
     requires place { place ≡ length (cut_through (is_html_named (codes "caption")) (names_of (world_of S.TreeSink sink.old state.old)) (world_of S.TreeSink sink.old state.old).stack) }
     ensures world { world_of S.TreeSink sink.new state.new ≡ apply_all S.choices (GenerateImpliedEnd ∷ PopUntilNamed (codes "caption") ∷ ClearActiveFormattingToMarker ∷ []) (world_of S.TreeSink sink.old state.old) }
-    ensures quiet { current_is (codes "caption") (world_of S.TreeSink sink.old state.old) ≡ true → errors_of S.TreeSink sink.new ≡ errors_of S.TreeSink sink.old }
+    ensures noted { is_expected is_implied (is_html_named (codes "caption")) (names_of (world_of S.TreeSink sink.old state.old)) ≡ false → 0 < errors_of S.TreeSink sink.new }
+    ensures quiet { is_expected is_implied (is_html_named (codes "caption")) (names_of (world_of S.TreeSink sink.old state.old)) ≡ true → errors_of S.TreeSink sink.new ≡ errors_of S.TreeSink sink.old }
     ensures sound { IsSound S.TreeSink sink.new state.new }
 {
     let caption = LocalName::from_known(KnownName::Caption);

@@ -1,6 +1,6 @@
 -- What a step of a rule does, as contracts say it. `law` is the law of the sink: what a sink shows, which node a handle
 -- names, and what the sink chooses.
-use Rattle.std.specs.Prelude.{◌≡◌, ◌<◌, ℕ, length, Result, OnOk}
+use Rattle.std.specs.Prelude.{◌≡◌, ◌<◌, ◌≤◌, ℕ, length, Result, OnOk}
 use Rattle.h5_interface.specs.declared.sink.TreeSink.{Ghosts}
 use Rattle.h5_rules.specs.Rows.{Change, apply}
 use Rattle.h5_rules.specs.Sound.{Sound}
@@ -46,7 +46,8 @@ Makes law change old_sink old_state new_sink new_state = Becomes law (apply law.
 abbrev pub MakesIfOk : {S H O T E : Type 0} → Ghosts S H O → Change → S → State H → S → State H → Result T E → Type 0
 MakesIfOk law change old_sink old_state new_sink new_state result = BecomesIfOk law (apply law.choices change) old_sink old_state new_sink new_state result
 
--- nothing changes but, perhaps, the mark of parse errors
+-- nothing changes but, perhaps, the mark of parse errors, which becomes no less
 pub record TellsErrors {S H O : Type 0} (law : Ghosts S H O) (old_sink new_sink : S) (state : State H) : Type 0 where
   pub world : world_of law new_sink state ≡ world_of law old_sink state
+  pub rises : errors_of law old_sink ≤ errors_of law new_sink
   pub sound : IsSound law old_sink state → IsSound law new_sink state

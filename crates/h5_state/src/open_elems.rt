@@ -3,11 +3,11 @@
 ghost use Rattle.std.specs.Prelude.{◌≡◌, ◌<◌, ◌≤◌, ◌+◌, ◌^◌, ◌∷◌, [], ℕ, Bool, List, Some, true, false, length, codes, MatchOption, is_some};
 ghost use Rattle.h5_names.specs.declared.qualified.QualName.{QualName as NameText};
 ghost use Rattle.h5_interface.specs.Forest.{IsElement};
-ghost use Rattle.h5_tag_sets.specs.TagSets.{is_default_scope, is_html_named, is_implied, is_special};
+ghost use Rattle.h5_tag_sets.specs.TagSets.{is_html_named, is_implied, is_special};
 ghost use Rattle.h5_rules.specs.Changes.{pop_while};
 ghost use Rattle.h5_rules.specs.fitting.NamesFit.{is_html_element};
 ghost use Rattle.h5_rules.specs.stack.Order.{but_first};
-ghost use Rattle.h5_rules.specs.stack.Scope.{comes_before_special, cut_through, first_passes, has_body_in_scope, has_p_in_button_scope, has_template, has_unclosed, in_scope, second_is};
+ghost use Rattle.h5_rules.specs.stack.Scope.{comes_before_special, cut_through, drop_while, first_passes, has_body_in_scope, has_p_in_button_scope, has_template, has_unclosed, is_implied_but, second_is};
 ghost use Rattle.h5_rules.specs.Rows.{GenerateImpliedEndExcept, PopUntilNamed};
 ghost use Rattle.h5_rules.specs.World.{name_in, names_of, root};
 ghost use Rattle.h5_state.specs.Steps.{IsSound, Makes, TellsErrors, errors_of, world_of};
@@ -266,6 +266,7 @@ pub fn generate_implied_end_except<S: TreeSink>(
     ensures made { Makes S.TreeSink (GenerateImpliedEndExcept local.now) sink.old state.old sink.new state.new }
     ensures older { cut_through (is_html_named local.now) (names_of (world_of S.TreeSink sink.new state.new)) (world_of S.TreeSink sink.new state.new).stack
         ≡ cut_through (is_html_named local.now) (names_of (world_of S.TreeSink sink.old state.old)) (world_of S.TreeSink sink.old state.old).stack }
+    ensures names { names_of (world_of S.TreeSink sink.new state.new) ≡ drop_while (is_implied_but local.now) (names_of (world_of S.TreeSink sink.old state.old)) }
 {
     pop_while(sink, state, &ImpliedBut(local));
 }

@@ -1,26 +1,13 @@
-//! Tests of the builder and the parser over an arena: their public calls, lists of tokens that are long, or all that
-//! are short, and sinks that are refused memory.
+//! Tests of the builder and the parser that no case of `h5_vectors` can say: calls that no text makes, and builders over
+//! sinks of other types.
 //!
-//! `builder`, `parser`, `fragments` and `templates` have the calls, `large` the long lists and `every_list` the short
-//! ones, `refused` and `refused_texts` the sinks that are refused memory at each call in turn. `feeding` has builders
-//! and parsers that take one thing. Begin with `src/feeding.rt`.
+//! `calls` has the calls, `attaching` the builders over sinks that attach shadow roots, and `feeding` builders that take
+//! lines of tokens. Begin with `src/feeding.rt`.
 #![tactic(auto)]
 
 #[cfg(test)]
-mod builder;
+mod attaching;
 #[cfg(test)]
-mod every_list;
+mod calls;
 #[cfg(test)]
 mod feeding;
-#[cfg(test)]
-mod fragments;
-#[cfg(test)]
-mod large;
-#[cfg(test)]
-mod parser;
-#[cfg(test)]
-mod refused;
-#[cfg(test)]
-mod refused_texts;
-#[cfg(test)]
-mod templates;

@@ -93,7 +93,7 @@ fn other_words_are_no_command(rt: HostRuntime) -> Result<(), Fail> {
         &["tokens", "p"],
         &["tree", "p", "q"],
     ];
-    for words in words {
+    for &words in &words {
         runs(&rt, rt.alloc(), words, b"", 2, "", usage)?;
     }
     Ok(())

@@ -1,9 +1,9 @@
 //! Calls of the parser over an arena.
 use h5_arena::{Arena, NodeId};
 use h5_driver::ParseOpts;
+use h5_driver::standard::{Parser, parse_document, parse_fragment, parse_fragment_for_element};
 use h5_interface::create_element;
 use h5_names::{LocalName, Namespace, QualName};
-use h5_standard_driver::{Parser, parse_document, parse_fragment, parse_fragment_for_element};
 use h5_tests_sinks::html_of;
 use std::alloc::{AllocError, Global};
 use std::process::Abort;

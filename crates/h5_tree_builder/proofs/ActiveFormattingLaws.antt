@@ -1,8 +1,7 @@
 -- What an iterator over the list of active formatting elements gives.
 use Rattle.std.proofs.Common.{◌≡◌, ℕ, List, [], ◌∷◌, ◌++◌, length, map, reverse, refl, ap, sym, ◌∙◌}
-use Rattle.std.proofs.lemmas.List.{length-map, length-reverse, map-append, reverse-append}
+use Rattle.std.proofs.lemmas.List.{length-map, map-append, reverse-append}
 use Rattle.h5_token.specs.TokenText.{tag_text}
-use Rattle.h5_token.specs.declared.tag.Tag.{Tag}
 use Rattle.h5_types.specs.declared.entry.FormatEntry.{FormatEntry}
 use Rattle.h5_types.specs.declared.entry.FormatEntry.TheVariants.{Element, Marker}
 use Rattle.h5_rules.specs.formatting.FormattingList.{ElementEntry, after_marker}

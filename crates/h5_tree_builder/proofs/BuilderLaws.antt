@@ -7,7 +7,7 @@ use Rattle.h5_interface.specs.Seen.{Seen}
 use Rattle.h5_interface.specs.SinkChoices.{SinkChoices}
 use Rattle.h5_types.specs.TurnText.{TagTurn, CommentTurn, NullTurn, EofTurn}
 use Rattle.h5_types.specs.declared.modes.InsertionMode.{InsertionMode}
-use Rattle.h5_types.specs.declared.modes.InsertionMode.TheVariants.{Initial, Text}
+use Rattle.h5_types.specs.declared.modes.InsertionMode.TheVariants.{Initial}
 use Rattle.h5_types.specs.declared.options.TreeBuilderOpts.{TreeBuilderOpts}
 use Rattle.h5_rules.specs.Run.{doctype_in, is_counted, refuses_in, step, take_or_refuse, taken, tell_or_refuse, text_step, without_lf}
 use Rattle.h5_interface.specs.declared.sink.TreeSink.{Ghosts}
@@ -74,6 +74,7 @@ answered choices node t old new taken f e comes same n s =
       turns = λ h. n ∙ s.turns h;
       few = λ h. omega (arith, n, s.turns h, step_few choices t v.world);
       quiet = λ h. s.quiet (sym (ap (λ o. (tell_or_refuse choices t o v).quiet) r) ∙ h);
+      noted = λ counted h. s.noted counted (sym (ap (λ o. (tell_or_refuse choices t o v).quiet) r) ∙ h);
       working = f;
       unended = e;
       comes = comes;

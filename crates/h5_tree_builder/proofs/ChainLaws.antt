@@ -1,15 +1,18 @@
 -- Turn after turn: what is left of a chain.
-use Rattle.std.proofs.Common.{◌≡◌, ◌+◌, ◌<◌, ◌^◌, ◌&&◌, not, ℕ, length, map, Bool, true, false, refl, ap, sym, subst, ◌∙◌, arith}
+use Rattle.std.proofs.Common.{◌≡◌, ◌+◌, ◌<◌, ◌≤◌, ◌^◌, ◌&&◌, not, ℕ, length, Bool, true, false, refl, ap, sym, subst, ◌∙◌, arith}
+use Rattle.std.proofs.lemmas.Bool.{not-false, not-true}
 use Rattle.h5_token.specs.Reply.{reply}
 use Rattle.h5_token.specs.declared.sink.TokenSinkResult.{TokenSinkResult}
 use Rattle.h5_token.specs.declared.sink.TokenSinkResult.TheVariants.{Continue}
 use Rattle.h5_interface.specs.SinkChoices.{SinkChoices}
 use Rattle.h5_types.specs.TurnResult as results
+use Rattle.h5_types.specs.TurnResult.{TurnResult}
 use Rattle.h5_types.specs.TurnText.{HasText, TurnText, is_self_closing}
 use Rattle.h5_types.specs.declared.modes.InsertionMode.{InsertionMode}
 use Rattle.h5_rules.specs.fitting.Fits.{is_before_root}
 use Rattle.h5_rules.specs.fitting.NamesFit.{NamesFit}
 use Rattle.h5_rules.proofs.fitting.OpenLaws.{names_root_open}
+use Rattle.h5_rules.proofs.rows.MarkLaws.{still_told}
 use Rattle.h5_rules.specs.Changes.{set_mode}
 use Rattle.h5_rules.specs.modes.ForeignContent.{dispatch}
 use Rattle.h5_rules.specs.Rows.{Follows}
@@ -23,7 +26,6 @@ use Rattle.h5_state.specs.Steps.{IsSound}
 use Rattle.h5_state.specs.View.{elements_of, open_node, world}
 use Rattle.h5_state.proofs.AttributeLaws.{open_length}
 use Rattle.h5_state.specs.declared.state.State.{State}
-use Rattle.h5_interface.specs.Seen.{Seen}
 use Rattle.h5_tree_builder.specs.Chains.{CameTo, Left}
 
 -- once the root has been made builder and sink are ready
@@ -40,7 +42,7 @@ unfolding world
 few_open law sink state k = omega (arith, k.kept.few, open_length (open_node law.node) (elements_of state), length-values state.open_elems.elements)
 
 pub left_all : (choices : SinkChoices) (t : TurnText) (w : World) (a : ℕ) → Left choices t w w a a 0
-left_all choices t w a = record { world = refl; turns = omega arith; reply = refl; quiet = λ h. (h, refl) }
+left_all choices t w a = record { world = refl; turns = omega arith; reply = refl; quiet = λ h. (h, refl); noted = λ h k. absurd (let clash : true ≡ false = sym k ∙ h in cc) }
 
 pub and_left : (a b : Bool) → (a && b) ≡ true → a ≡ true
 and_left true b h = refl
@@ -62,39 +64,63 @@ module _ {H : Type 0} (choices : SinkChoices) (node : H → ℕ) (t : TurnText) 
         reply = l.reply ∙ ap (λ (s : Settled). s.reply) e;
         quiet = λ all. let before = l.quiet all in let q = sym (ap (λ (s : Settled). s.quiet) e) ∙ before.0 in
             (and_right r.quiet (settle choices t u).quiet q, f.quiet (and_left r.quiet (settle choices t u).quiet q) ∙ before.1);
+        noted = λ all q. told r.quiet refl (λ k. l.noted all (ap (λ (s : Settled). s.quiet) e ∙ ap (λ x. x && (settle choices t u).quiet) k ∙ q));
       }
+    where
+      told : (k : Bool) → (dispatch choices t w).quiet ≡ k → ((dispatch choices t w).quiet ≡ true → 0 < b) → 0 < c
+      told true h before = still_told choices node (dispatch choices t w) t w v b c (results.Reprocess m token) f (before h)
+      told false h before = f.noted h
+
+  -- what the last turn does to the mark, from before it to behind it, and what is told of the flag then
+  record Ends (q : Bool) (b c d : ℕ) : Type 0 where
+    quiet : (dispatch choices t w).quiet ≡ true → c ≡ b
+    noted : (dispatch choices t w).quiet ≡ false → 0 < c
+    keeps : 0 < b → 0 < c
+    kept : q ≡ true → d ≡ c
+    told : q ≡ false → 0 < d
+    rises : c ≤ d
 
   -- the last turn, where no error is told after it but if the chain isn't quiet
-  last : (a b c d n : ℕ) (answer : TokenSinkResult H) (q : Bool) → settle choices t w ≡ record { world = v; turns = 1; reply = reply node answer; quiet = (dispatch choices t w).quiet && q } → ((dispatch choices t w).quiet ≡ true → c ≡ b) → (q ≡ true → d ≡ c)
+  last : (a b c d n : ℕ) (answer : TokenSinkResult H) (q : Bool) → settle choices t w ≡ record { world = v; turns = 1; reply = reply node answer; quiet = (dispatch choices t w).quiet && q } → Ends q b c d
       → Left choices t first w a b n → CameTo node (settle choices t first) true v a d (record { turns = n + 1; answer = answer })
-  last a b c d n answer q e quiet flag l =
+  last a b c d n answer q e ends l =
       let r = dispatch choices t w in
       let tells : (settle choices t w).quiet ≡ (r.quiet && q) = ap (λ (s : Settled). s.quiet) e in
       record {
         world = sym (l.world ∙ ap (λ (s : Settled). s.world) e);
         turns = λ h. omega (arith, l.turns, ap (λ (s : Settled). s.turns) e);
         reply = sym (l.reply ∙ ap (λ (s : Settled). s.reply) e);
-        quiet = λ h. let k = l.quiet h in let both = sym tells ∙ k.0 in flag (and_right r.quiet q both) ∙ quiet (and_left r.quiet q both) ∙ k.1;
+        quiet = λ h. let k = l.quiet h in let both = sym tells ∙ k.0 in ends.kept (and_right r.quiet q both) ∙ ends.quiet (and_left r.quiet q both) ∙ k.1;
+        noted = λ h all. behind r.quiet q refl refl (λ k. l.noted all (tells ∙ k));
       }
+    where
+      later : 0 < c → 0 < d
+      later k = let rises = ends.rises in omega (arith, k, rises)
 
-  not_true : (b : Bool) → not b ≡ true → b ≡ false
-  not_true true h = absurd (cc)
-  not_true false h = refl
+      behind : (x y : Bool) → (dispatch choices t w).quiet ≡ x → q ≡ y → (((dispatch choices t w).quiet && q) ≡ true → 0 < b) → 0 < d
+      behind false y i j before = later (ends.noted i)
+      behind true false i j before = ends.told j
+      behind true true i j before = later (ends.keeps (before (ap (λ k. k && q) i ∙ j)))
 
-  pub done_last : (a b c d n : ℕ) (flag : Bool) → Follows choices node (dispatch choices t w) t w v b c results.Done → flag ≡ is_self_closing t → (flag ≡ false → d ≡ c) → Left choices t first w a b n → CameTo node (settle choices t first) true v a d (record { turns = n + 1; answer = Continue })
-  done_last a b c d n flag f is told l = last a b c d n Continue (not (is_self_closing t)) (ends_here choices node t w v b c f) f.quiet (λ h. told (is ∙ not_true (is_self_closing t) h)) l
+  pub done_last : (a b c d n : ℕ) (flag : Bool) → Follows choices node (dispatch choices t w) t w v b c results.Done → flag ≡ is_self_closing t → (flag ≡ false → d ≡ c) → (flag ≡ true → 0 < d) → c ≤ d → Left choices t first w a b n
+      → CameTo node (settle choices t first) true v a d (record { turns = n + 1; answer = Continue })
+  done_last a b c d n flag f is kept told rises l =
+      last a b c d n Continue (not (is_self_closing t)) (ends_here choices node t w v b c f)
+      (record {
+        quiet = f.quiet;
+        noted = f.noted;
+        keeps = still_told choices node (dispatch choices t w) t w v b c results.Done f;
+        kept = λ h. kept (is ∙ not-true (is_self_closing t) h);
+        told = λ h. told (is ∙ not-false (is_self_closing t) h);
+        rises = rises;
+      }) l
+
+  -- where nothing is told of a flag
+  unflagged : (b c : ℕ) (result : TurnResult H) → Follows choices node (dispatch choices t w) t w v b c result → Ends true b c c
+  unflagged b c result f = record { quiet = f.quiet; noted = f.noted; keeps = still_told choices node (dispatch choices t w) t w v b c result f; kept = λ h. refl; told = λ h. absurd (cc); rises = omega arith }
 
   pub acknowledged_last : (a b c n : ℕ) → Follows choices node (dispatch choices t w) t w v b c results.DoneAckSelfClosing → Left choices t first w a b n → CameTo node (settle choices t first) true v a c (record { turns = n + 1; answer = Continue })
-  acknowledged_last a b c n f l = last a b c c n Continue true (acknowledged_here choices node t w v b c f) f.quiet (λ h. refl) l
+  acknowledged_last a b c n f l = last a b c c n Continue true (acknowledged_here choices node t w v b c f) (unflagged b c results.DoneAckSelfClosing f) l
 
   pub answered_last : (a b c n : ℕ) (answer : TokenSinkResult H) → Follows choices node (dispatch choices t w) t w v b c (results.Answer answer) → Left choices t first w a b n → CameTo node (settle choices t first) true v a c (record { turns = n + 1; answer = answer })
-  answered_last a b c n answer f l = last a b c c n answer true (answered_here choices node t w v b c answer f) f.quiet (λ h. refl) l
-
-  -- what is left of a chain came to what is defined, and so did all of it
-  pub left_came : (a b e n turns : ℕ) (answer : TokenSinkResult H) → Left choices t first w a b n → CameTo node (settle choices t w) true v b e (record { turns = turns; answer = answer }) → CameTo node (settle choices t first) true v a e (record { turns = turns + n; answer = answer })
-  left_came a b e n turns answer l c = record {
-    world = c.world ∙ sym l.world;
-    turns = λ h. omega (arith, c.turns h, l.turns);
-    reply = c.reply ∙ sym l.reply;
-    quiet = λ h. let q = l.quiet h in c.quiet q.0 ∙ q.1;
-  }
+  answered_last a b c n answer f l = last a b c c n answer true (answered_here choices node t w v b c answer f) (unflagged b c (results.Answer answer) f) l

@@ -1,7 +1,6 @@
 -- The chain of turns of one run is the text rule on it.
 use Rattle.std.proofs.Common.{◌≡◌, ◌≢◌, ℕ, zero, suc, ◌<◌, Bool, true, false, cond, codes, List, [], ◌∷◌, ◌++◌, Option, Some, None, take, drop, refl, ap, sym, ◌∙◌, arith}
 use Rattle.std.proofs.lemmas.List.{append-nil, take-append-drop}
-use Rattle.h5_token.specs.declared.sink.TokenSinkResult.TheVariants.{Continue}
 use Rattle.h5_interface.specs.SinkChoices.{SinkChoices}
 use Rattle.h5_types.specs.TurnText.{TextTurn, TurnText}
 use Rattle.h5_types.specs.declared.modes.InsertionMode.{InsertionMode}
@@ -27,7 +26,6 @@ use Rattle.h5_rules.specs.Rows.{Again, AppendPendingText, AppendText, IsDone, Po
 use Rattle.h5_rules.specs.Settle.{Settled, by_row, ends_with, settle, then_turns}
 use Rattle.h5_rules.specs.modes.Shared.{current_is, in_body_text}
 use Rattle.h5_rules.specs.Text.{IsRun, after_row, all_blanks, by_else, closes_column_group, foreign_text, fostered_text, text_in_column_group, text_in_table, text_in_table_text, dropped, in_next, if_any, split, text_after_body, text_after_head, text_any, text_before_head, text_before_html, text_in, text_in_body, text_in_head, text_in_head_noscript, text_initial, text_rule, is_quiet_text, unless_foreign}
-use Rattle.h5_rules.specs.Run.{is_empty_text, text_step}
 use Rattle.h5_rules.specs.Sound.{Fitting}
 use Rattle.h5_rules.specs.modes.Tables.{foster}
 use Rattle.h5_rules.specs.World.{World}
@@ -35,8 +33,6 @@ use Rattle.h5_laws.proofs.cuts.CutLaws.{by_foreign, by_mode, text_cut}
 use Rattle.h5_laws.proofs.modes.ForeignRowLaws.{dispatch_foreign}
 use Rattle.h5_laws.proofs.cuts.ForeignTextLaws.{kept_back_foreign}
 use Rattle.h5_laws.proofs.turns.SettleLaws.{settle-text-row, settle-text-turn}
-use Rattle.h5_rules.proofs.changes.TreeLaws.{tree_reconstruct}
-use Rattle.h5_tree_builder.specs.Chains.{CameTo}
 use Rattle.h5_plain.proofs.CutGoesLaws.{body_mode}
 
 blank_all : (t : List ℕ) → rest_of t ≡ [] → blanks_of t ≡ t

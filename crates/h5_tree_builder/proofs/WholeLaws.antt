@@ -1,16 +1,14 @@
 -- A list of tokens, taken one after the other.
-use Rattle.std.proofs.Common.{◌≡◌, ℕ, ◌&&◌, ◌++◌, Bool, true, false, List, [], ◌∷◌, refl, ap, sym, subst, ◌∙◌, append_assoc}
+use Rattle.std.proofs.Common.{◌≡◌, ℕ, ◌++◌, true, List, [], ◌∷◌, refl, ap, sym, subst, ◌∙◌, append_assoc}
 use Rattle.std.proofs.lemmas.List.{append-nil}
-use Rattle.h5_token.specs.Reply.{Refuses, Reply}
+use Rattle.h5_token.specs.Reply.{Reply}
 use Rattle.h5_token.specs.TokenText.{TokenText}
-use Rattle.h5_token.specs.declared.fault.BuildFault.{BuildFault}
 use Rattle.h5_interface.specs.SinkChoices.{SinkChoices}
-use Rattle.h5_rules.specs.Run.{CountsTurns, IsFitting, Took, Turns, Untold, View, WasRefused, after_all, after_token, all_quiet, is_counted, is_quiet, last_turns, later_turns, replies, reply_to, run, step, take_or_refuse, tell, tell_or_refuse, told_all, told_of}
-use Rattle.h5_rules.specs.Settle.{Settled}
-use Rattle.h5_laws.proofs.cuts.RunLaws.{cuts_agree, is_taken}
+use Rattle.h5_rules.specs.Run.{CountsTurns, IsFitting, Took, Turns, Untold, View, WasRefused, after_all, after_token, all_quiet, is_quiet, last_turns, later_turns, replies, reply_to, run, told_all, told_of}
+use Rattle.h5_laws.proofs.cuts.RunLaws.{cuts_agree}
 use Rattle.h5_plain.specs.Rebuilding.{DocumentStands, IsStart}
 use Rattle.h5_plain.proofs.WholeLaws.{rebuilds_all}
-use Rattle.h5_tree_builder.specs.Builder.{Answered, Building, RanAll, Refused, RebuildsPlain, Replied}
+use Rattle.h5_tree_builder.specs.Builder.{Building, RanAll, RebuildsPlain, Replied}
 use Rattle.h5_tree_builder.proofs.ChainLaws.{and_left, and_right}
 
 -- a count after two tokens

@@ -1,5 +1,5 @@
 -- What contracts see of a tree builder.
-use Rattle.std.specs.Prelude.{◌≡◌, ◌≤◌, ⊤, ℕ, ◌+◌, Bool, true, false, not, List, [], ◌∷◌, length, map, Option, None, Some, Result, Ok, Err}
+use Rattle.std.specs.Prelude.{◌≡◌, ◌<◌, ◌≤◌, ⊤, ℕ, ◌+◌, Bool, true, false, not, List, [], ◌∷◌, length, map, Option, None, Some, Result, Ok, Err}
 use Rattle.h5_names.specs.AttributeText.{is_same_text}
 use Rattle.h5_token.specs.Reply.{Reply, reply}
 use Rattle.h5_token.specs.TokenText.{TokenText}
@@ -84,6 +84,7 @@ pub record Answered (choices : SinkChoices) (t : TokenText) (old new : Building)
   pub turns : is_counted t old.view.world ≡ true → new.turns ≡ (step choices t old.view.world).turns
   pub few : is_counted t old.view.world ≡ true → new.turns ≤ 16 + length old.view.world.stack
   pub quiet : is_quiet choices t old.view ≡ true → new.errors ≡ old.errors
+  pub noted : is_counted t old.view.world ≡ true → is_quiet choices t old.view ≡ false → 0 < new.errors
   pub working : old.view.failed ≡ false
   pub unended : old.view.ended ≡ false
   pub comes : refuses_in old.view.world.mode t ≡ false

@@ -1,5 +1,5 @@
 -- What code that lets turns follow each other did.
-use Rattle.std.specs.Prelude.{◌≡◌, ℕ, ◌+◌, Bool, true, false, Result, IfOk, OnOk}
+use Rattle.std.specs.Prelude.{◌≡◌, ◌<◌, ℕ, ◌+◌, Bool, true, false, Result, IfOk, OnOk}
 use Rattle.std.specs.declared.alloc.AllocError.{AllocError}
 use Rattle.h5_token.specs.Reply.{reply}
 use Rattle.h5_token.specs.TokenText.{TokenText, Characters, ParseErrorIs}
@@ -19,13 +19,14 @@ pub record IsReady {S H O : Type 0} (law : Ghosts S H O) (sink : S) (state : Sta
   pub sound : IsSound law sink state
   pub fits : Fits (world_of law sink state)
 
--- a token came to what is defined: the world, the turns where they are told, the answer, and no error where none is
--- told
+-- a token came to what is defined: the world, the turns where they are told, the answer, no error where none is told,
+-- and one where one is, if its turns are
 pub record CameTo {H : Type 0} (node : H → ℕ) (s : Settled) (counted : Bool) (new : World) (old_errors new_errors : ℕ) (taken : Taken H) : Type 0 where
   pub world : new ≡ s.world
   pub turns : counted ≡ true → taken.turns ≡ s.turns
   pub reply : reply node taken.answer ≡ s.reply
   pub quiet : s.quiet ≡ true → new_errors ≡ old_errors
+  pub noted : counted ≡ true → s.quiet ≡ false → 0 < new_errors
 
 -- so it did, unless memory was refused; what there is then is sound, too
 pub record Settles {S H O : Type 0} (law : Ghosts S H O) (defined : World → Settled) (counted : Bool) (old_sink : S) (old_state : State H) (new_sink : S) (new_state : State H) (result : Result (Taken H) AllocError) : Type 0 where
@@ -39,6 +40,7 @@ pub record Left (choices : SinkChoices) (t : TurnText) (first now : World) (firs
   pub turns : (settle choices t first).turns ≡ (settle choices t now).turns + count
   pub reply : (settle choices t first).reply ≡ (settle choices t now).reply
   pub quiet : (settle choices t first).quiet ≡ true → ((settle choices t now).quiet ≡ true) × (errors ≡ first_errors)
+  pub noted : (settle choices t first).quiet ≡ false → (settle choices t now).quiet ≡ true → 0 < errors
 
 -- a parse error, and a text that is or becomes empty, take no memory
 abbrev pub is_free : TokenText → World → Bool

@@ -1,5 +1,5 @@
 //! Doctypes (HTML standard, section 13.2.6.4.1, "The 'initial' insertion mode").
-ghost use Rattle.std.specs.Prelude.{◌≡◌, ℕ, List, [], Option, Some, None, true, IfOk, OnOk, option_map, string_bytes, unwrap_or};
+ghost use Rattle.std.specs.Prelude.{◌<◌, ◌≡◌, IfOk, List, None, OnOk, Option, Some, [], false, option_map, string_bytes, true, unwrap_or, ℕ};
 ghost use Rattle.h5_token.specs.TokenText.{doctype_text};
 ghost use Rattle.h5_data.specs.Doctypes.{is_good_doctype, quirks_of};
 ghost use Rattle.h5_rules.specs.Run.{doctype_in, judged, with_doctype};
@@ -61,7 +61,8 @@ fn exact_bad<H>(state: &State<H>, doctype: &Doctype) -> Option<String> {
 }
 
 fn tell_bad<S: TreeSink>(sink: &mut S, state: &State<S::Handle>, doctype: &Doctype)
-    ensures { TellsErrors S.TreeSink sink.old sink.new state.now }
+    ensures told { TellsErrors S.TreeSink sink.old sink.new state.now }
+    ensures noted { 0 < errors_of S.TreeSink sink.new }
 {
     match exact_bad(state, doctype) {
         Some(message) => tell_error(sink, state, message.as_str()),
@@ -79,7 +80,8 @@ fn exact_late<H>(state: &State<H>) -> Option<String> {
 }
 
 fn tell_late<S: TreeSink>(sink: &mut S, state: &State<S::Handle>)
-    ensures { TellsErrors S.TreeSink sink.old sink.new state.now }
+    ensures told { TellsErrors S.TreeSink sink.old sink.new state.now }
+    ensures noted { 0 < errors_of S.TreeSink sink.new }
 {
     match exact_late(state) {
         Some(message) => tell_error(sink, state, message.as_str()),
@@ -96,6 +98,7 @@ fn judge_doctype<S: TreeSink>(
 ) -> Result<(), AllocError>
     requires sound { IsSound S.TreeSink sink.old state.old }
     ensures done { OnOk result (world_of S.TreeSink sink.new state.new ≡ judged S.choices (doctype_text doctype) (world_of S.TreeSink sink.old state.old)) }
+    ensures noted { OnOk result (is_good_doctype (doctype_text doctype) ≡ false → 0 < errors_of S.TreeSink sink.new) }
     ensures quiet { OnOk result (is_good_doctype (doctype_text doctype) ≡ true → errors_of S.TreeSink sink.new ≡ errors_of S.TreeSink sink.old) }
     ensures sound { IsSound S.TreeSink sink.new state.new }
 {

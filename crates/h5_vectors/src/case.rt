@@ -8,8 +8,12 @@ pub enum Input {
     Text(String),
     /// A text in pieces.
     Pieces(Vec<String>),
+    /// Bytes in chunks.
+    Chunks(Vec<Vec<u8>>),
     /// Lines of tokens.
     Tokens(String),
+    /// Lines of a token each, of which every list of three is taken.
+    ListsOfThree(String),
 }
 
 /// A part of what is made.
@@ -18,18 +22,33 @@ pub enum Part {
     Document,
     Html,
     Quirks,
+    State,
     Errors,
+    Messages,
+    Nodes,
+    Loose,
+    Started,
     Replies,
     Turns,
+    Pops,
+    /// The replies that there were in any list of three.
+    AnyReplies,
 }
 
 impl Part {
+    /// Whether it is told of a tree, whatever made that.
+    pub fn is_of_tree(self) -> bool {
+        matches!(self, Part::Document | Part::Html | Part::Quirks)
+    }
+
+    /// Whether it is told of the answers to tokens.
+    pub fn is_of_tokens(self) -> bool {
+        matches!(self, Part::Replies | Part::Turns | Part::Pops)
+    }
+
     /// Whether it is the same however texts are cut.
     pub fn is_of_any_cut(self) -> bool {
-        match self {
-            Part::Document | Part::Html | Part::Quirks | Part::Replies => true,
-            Part::Errors | Part::Turns => false,
-        }
+        !matches!(self, Part::Errors | Part::Messages | Part::Turns)
     }
 }
 
@@ -39,9 +58,16 @@ impl fmt::Display for Part {
             Part::Document => write!(f, "document"),
             Part::Html => write!(f, "html"),
             Part::Quirks => write!(f, "quirks"),
+            Part::State => write!(f, "state"),
             Part::Errors => write!(f, "errors"),
+            Part::Messages => write!(f, "messages"),
+            Part::Nodes => write!(f, "nodes"),
+            Part::Loose => write!(f, "loose"),
+            Part::Started => write!(f, "started"),
             Part::Replies => write!(f, "replies"),
             Part::Turns => write!(f, "turns"),
+            Part::Pops => write!(f, "pops"),
+            Part::AnyReplies => write!(f, "any-replies"),
         }
     }
 }

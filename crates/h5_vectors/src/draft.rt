@@ -1,9 +1,10 @@
 //! A case whose sections are being read.
 use super::case::{Case, Expected, Input, Part};
+use super::inputs::input_of;
+use super::repeats::{Repeat, expand, repeats_of};
 use super::sections::{Heading, Section};
-use super::settings::Settings;
+use super::settings::{Context, Maker, Settings};
 use anyhow::{Result, bail, ensure};
-use h5_lines::{LineFault, parse, read_escapes};
 use std::alloc::{AllocError, Global};
 
 /// What the sections of a case said so far.
@@ -11,6 +12,7 @@ use std::alloc::{AllocError, Global};
 pub struct Draft {
     line: u64,
     about: String,
+    repeats: Vec<Repeat>,
     input: Option<Input>,
     settings: Settings,
     expected: Vec<Expected>,
@@ -20,30 +22,6 @@ pub struct Draft {
 // The HTML of a page whose body holds this.
 fn page_of(alloc: Global, body: &str) -> Result<String, AllocError> {
     format!(in alloc; "<html><head></head><body>{body}</body></html>")
-}
-
-// The input that lines of tokens are, which stand below the line of this number.
-fn tokens_of(alloc: Global, line: u64, lines: String) -> Result<Input> {
-    match parse(alloc, lines.as_str()) {
-        Ok(_) => Ok(Input::Tokens(lines)),
-        Err(LineFault::Bad(number)) => {
-            let bad = line.saturating_add(number);
-            bail!("line {bad}: it is no line of tokens")
-        }
-        Err(LineFault::Memory) => bail!("out of memory"),
-    }
-}
-
-// The input that pieces of a text are, one a line.
-fn pieces_of(alloc: Global, line: u64, lines: &str) -> Result<Input> {
-    let mut pieces = Vec::new(alloc);
-    for piece in lines.split('\n') {
-        match read_escapes(alloc, piece)? {
-            Some(text) => pieces.push(text)?,
-            None => bail!("line {line}: a piece below has an escape that there isn't"),
-        }
-    }
-    Ok(Input::Pieces(pieces))
 }
 
 impl Draft {
@@ -56,11 +34,21 @@ impl Draft {
         Ok(Draft {
             line,
             about: String::from_str(alloc, about)?,
+            repeats: Vec::new(alloc),
             input: None,
             settings: Settings::new(),
             expected: Vec::new(alloc),
             alloc,
         })
+    }
+
+    fn set_repeats(&mut self, line: u64, lines: &str) -> Result<()> {
+        ensure!(
+            self.repeats.is_empty(),
+            "line {line}: what is repeated was said before"
+        );
+        self.repeats = repeats_of(self.alloc, line, lines)?;
+        Ok(())
     }
 
     fn set_input(&mut self, line: u64, input: Input) -> Result<()> {
@@ -69,12 +57,12 @@ impl Draft {
         Ok(())
     }
 
-    fn set_context(&mut self, line: u64, name: String) -> Result<()> {
+    fn set_context(&mut self, line: u64, name: String, maker: Maker) -> Result<()> {
         ensure!(
             self.settings.context.is_none(),
             "line {line}: a second context"
         );
-        self.settings.context = Some(name);
+        self.settings.context = Some(Context { name, maker });
         Ok(())
     }
 
@@ -89,26 +77,21 @@ impl Draft {
         Ok(())
     }
 
-    /// Takes the next section. An error says where it can't stand there.
-    pub fn take(&mut self, section: Section) -> Result<()> {
-        let Section {
-            heading,
-            line,
-            text,
-        } = section;
+    // Takes the next section, whose words stand for nothing any more.
+    fn take_expanded(&mut self, heading: Heading, line: u64, text: String) -> Result<()> {
         match heading {
-            Heading::Data => self.set_input(line, Input::Text(text)),
-            Heading::Pieces => {
-                let input = pieces_of(self.alloc, line, text.as_str())?;
+            Heading::Repeat => self.set_repeats(line, text.as_str()),
+            Heading::Input(form) => {
+                let input = input_of(self.alloc, form, line, text)?;
                 self.set_input(line, input)
             }
-            Heading::Tokens => {
-                let input = tokens_of(self.alloc, line, text)?;
-                self.set_input(line, input)
-            }
-            Heading::DocumentFragment => self.set_context(line, text),
+            Heading::Context(maker) => self.set_context(line, text, maker),
             Heading::ScriptOff => {
                 self.settings.tree_builder.scripting_enabled = false;
+                Ok(())
+            }
+            Heading::RefuseEach => {
+                self.settings.refuses_each = true;
                 Ok(())
             }
             Heading::Options => self.settings.set_options(line, text.as_str()),
@@ -120,40 +103,105 @@ impl Draft {
         }
     }
 
+    /// Takes the next section. An error says where it can't stand there.
+    pub fn take(&mut self, section: Section) -> Result<()> {
+        let Section {
+            heading,
+            line,
+            text,
+        } = section;
+        let text = expand(self.alloc, self.repeats.as_slice(), text)?;
+        self.take_expanded(heading, line, text)
+    }
+
+    // Whether a tree is wanted.
+    fn expects_tree(&self) -> bool {
+        self.expects(Part::Document) || self.expects(Part::Html)
+    }
+
     // Tokens that nothing is said of the answers to are all to be answered by "go on".
-    fn expect_of_tokens(&mut self) -> Result<()> {
+    fn expect_replies(&mut self) -> Result<()> {
+        if self.expects(Part::Replies) {
+            return Ok(());
+        }
+        let text = String::new(self.alloc);
+        self.expect(self.line, Part::Replies, text)
+    }
+
+    // Checks that no call of the sink is refused.
+    fn check_unrefused(&self) -> Result<()> {
         let line = self.line;
         ensure!(
-            self.settings.context.is_none(),
-            "line {line}: a fragment's input is a text"
+            !self.settings.refuses_each,
+            "line {line}: calls are refused of a text or of tokens"
         );
-        if !self.expects(Part::Replies) {
-            let text = String::new(self.alloc);
-            self.expected.push(Expected {
-                part: Part::Replies,
-                text,
-            })?;
-        }
         Ok(())
+    }
+
+    // Checks what is wanted of an input that is no lists of tokens.
+    fn check_tree(&self) -> Result<()> {
+        let line = self.line;
+        ensure!(self.expects_tree(), "line {line}: no tree is wanted");
+        ensure!(
+            !self.expects(Part::AnyReplies),
+            "line {line}: any replies are those of lists"
+        );
+        Ok(())
+    }
+
+    // Checks what is wanted of a text.
+    fn check_text(&self) -> Result<()> {
+        let line = self.line;
+        self.check_tree()?;
+        let asks_tokens = self
+            .expected
+            .iter()
+            .any(|expected| expected.part.is_of_tokens());
+        ensure!(
+            !asks_tokens,
+            "line {line}: replies, turns and pops are those of tokens"
+        );
+        Ok(())
+    }
+
+    // Checks what is wanted of lists of three tokens.
+    fn check_lists(&self) -> Result<()> {
+        let line = self.line;
+        self.check_unrefused()?;
+        let asks_else = self
+            .expected
+            .iter()
+            .any(|expected| expected.part != Part::AnyReplies);
+        ensure!(
+            self.expects(Part::AnyReplies) && !asks_else,
+            "line {line}: of lists any replies are wanted, and nothing else"
+        );
+        Ok(())
+    }
+
+    // Completes and checks what is wanted.
+    fn check(&mut self) -> Result<()> {
+        match &self.input {
+            Some(Input::Tokens(_)) => {
+                self.check_tree()?;
+                self.expect_replies()
+            }
+            Some(Input::ListsOfThree(_)) => self.check_lists(),
+            Some(Input::Chunks(_)) => {
+                self.check_unrefused()?;
+                self.check_text()
+            }
+            Some(Input::Text(_) | Input::Pieces(_)) => self.check_text(),
+            None => Ok(()),
+        }
     }
 
     /// The case. An error says what it lacks.
     pub fn finish(self) -> Result<Case> {
         let mut draft = self;
-        let line = draft.line;
-        ensure!(
-            draft.expects(Part::Document) || draft.expects(Part::Html),
-            "line {line}: no tree is wanted"
-        );
-        if let Some(Input::Tokens(_)) = &draft.input {
-            draft.expect_of_tokens()?;
-        } else {
-            ensure!(
-                !draft.expects(Part::Replies) && !draft.expects(Part::Turns),
-                "line {line}: replies and turns are those of tokens"
-            );
-        }
+        draft.check()?;
         let Draft {
+            line,
             about,
             input,
             settings,

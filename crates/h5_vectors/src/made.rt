@@ -1,80 +1,96 @@
 //! What a run made.
 use super::case::Part;
+use super::trees::{count_started, document_of, loose_of, messages_of};
 use anyhow::Result;
 use h5_arena::Arena;
-use h5_lines::read_escapes;
-use h5_print::print_tree;
 use h5_tests_sinks::html_of;
+use h5_token::states::State;
 use std::alloc::{AllocError, Global};
 
-/// What a run made: each part as its section would say it.
+/// What a run made.
 #[derive(Drop)]
 pub struct Made {
-    document: String,
-    html: String,
-    quirks: String,
-    errors: String,
+    arena: Arena,
+    /// How the text of a fragment is read.
+    state: Option<State>,
+    /// Lines of replies.
     replies: String,
+    /// Lines of turns.
     turns: String,
+    /// How many elements the sink was told of at the end.
+    pops: usize,
 }
 
-// Puts a line of a printed tree to a document: behind `| `, with its escapes undone, and below a line end if it isn't the first.
-fn put_line(alloc: Global, document: &mut String, line: &str) -> Result<(), AllocError> {
-    if !document.is_empty() {
-        document.push('\n')?;
-    }
-    document.push_str("| ")?;
-    match read_escapes(alloc, line)? {
-        Some(text) => document.push_str(text.as_str()),
-        None => document.push_str(line),
+// How a text is read, where that is told.
+fn text_of_state(alloc: Global, state: Option<State>) -> Result<String, AllocError> {
+    match state {
+        Some(state) => format!(in alloc; "{state:?}"),
+        None => Ok(String::new(alloc)),
     }
 }
 
-// The tree of a document, or what the root of a fragment holds: the printed lines that begin with this indent, without it.
-fn document_of(alloc: Global, arena: &Arena, indent: &str) -> Result<String, AllocError> {
-    let tree = print_tree(alloc, arena)?;
-    let mut document = String::new(alloc);
-    for line in tree.as_str().lines() {
-        if let Some(line) = line.strip_prefix(indent) {
-            put_line(alloc, &mut document, line)?;
-        }
-    }
-    Ok(document)
+// Lines, without the last line end.
+fn without_end(alloc: Global, lines: &str) -> Result<String, AllocError> {
+    String::from_str(alloc, lines.strip_suffix("\n").unwrap_or(lines))
 }
 
 impl Made {
-    /// What stands in an arena, which holds the root of a fragment or a document.
-    pub fn of_arena(alloc: Global, arena: &Arena, is_fragment: bool) -> Result<Made> {
-        let indent = if is_fragment { "  " } else { "" };
-        let mode = arena.quirks();
-        Ok(Made {
-            document: document_of(alloc, arena, indent)?,
-            html: String::from_utf8(html_of(alloc, arena)?)?,
-            quirks: format!(in alloc; "{mode:?}")?,
-            errors: arena.errors().len().to_string(alloc)?,
+    /// A tree, by a text. A fragment tells how that is read.
+    pub fn by_text(alloc: Global, arena: Arena, state: Option<State>) -> Made {
+        Made {
+            arena,
+            state,
             replies: String::new(alloc),
             turns: String::new(alloc),
-        })
+            pops: 0,
+        }
     }
 
-    /// The same with lines of replies, and of turns.
-    pub fn with_answers(self, replies: String, turns: String) -> Made {
+    /// A tree, by tokens, with the lines of replies and of turns, and how many elements the sink was told of at the end.
+    pub fn by_tokens(
+        arena: Arena,
+        state: Option<State>,
+        replies: String,
+        turns: String,
+        pops: usize,
+    ) -> Made {
         Made {
+            arena,
+            state,
             replies,
             turns,
-            ..self
+            pops,
         }
     }
 
-    /// A part, without a line end behind it.
-    pub fn part(&self, part: Part) -> &str {
-        match part {
-            Part::Document => self.document.as_str(),
-            Part::Html => self.html.as_str(),
-            Part::Quirks => self.quirks.as_str(),
-            Part::Errors => self.errors.as_str(),
-            Part::Replies => self.replies.as_str().trim_ascii_end(),
-            Part::Turns => self.turns.as_str().trim_ascii_end(),
+    // What stands before each line of a printed tree that is looked at: all of a document, what the root of a fragment holds.
+    fn indent(&self) -> &'static str {
+        match self.state {
+            Some(_) => "  ",
+            None => "",
         }
+    }
+
+    /// A part, as its section would say it.
+    pub fn part(&self, alloc: Global, part: Part) -> Result<String> {
+        let arena = &self.arena;
+        let text = match part {
+            Part::Document => document_of(alloc, arena, self.indent())?,
+            Part::Html => String::from_utf8(html_of(alloc, arena)?)?,
+            Part::Quirks => {
+                let mode = arena.quirks();
+                format!(in alloc; "{mode:?}")?
+            }
+            Part::State => text_of_state(alloc, self.state)?,
+            Part::Errors => arena.errors().len().to_string(alloc)?,
+            Part::Messages => without_end(alloc, messages_of(alloc, arena)?.as_str())?,
+            Part::Nodes => arena.len().to_string(alloc)?,
+            Part::Loose => without_end(alloc, loose_of(alloc, arena)?.as_str())?,
+            Part::Started => count_started(arena).to_string(alloc)?,
+            Part::Replies | Part::AnyReplies => without_end(alloc, self.replies.as_str())?,
+            Part::Turns => without_end(alloc, self.turns.as_str())?,
+            Part::Pops => self.pops.to_string(alloc)?,
+        };
+        Ok(text)
     }
 }

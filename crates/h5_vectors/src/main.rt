@@ -1,21 +1,29 @@
-//! Runs the cases that stand in files, `h5_vectors FILE..`: each as it stands, with every text in single characters,
-//! and a whole text in two pieces, at each of its places. What differs is printed, and then how many cases there are
-//! and how many differ. `data/README.md` has the layout.
+//! Runs the cases that stand in files, `h5_vectors FILE..`: each as it stands, with every text in single characters and
+//! in single bytes, a whole text in two pieces, at each of its places, and tokens as a list; and where a case says so,
+//! with each call of the sink refused in turn. What differs is printed, and then how many cases there are and how many
+//! differ. `data/README.md` has the layout.
 //!
-//! `cases`, `sections` and `draft` read a file to cases, `settings` has how a case is parsed, `parsers`, `tokens` and
-//! `run` run it, and `compare` judges what was made. Begin with `src/case.rt`, then `src/compare.rt`.
+//! `cases`, `sections`, `repeats`, `inputs` and `draft` read a file to cases, `settings` has how a case is parsed.
+//! `parsers`, `texts`, `tokens`, `lists` and `run` run it, `refusals` with calls that are refused; `trees` and `made` have
+//! what was made, and `compare` judges it. Begin with `src/case.rt`, then `src/compare.rt`.
 #![tactic(auto)]
 
 mod case;
 mod cases;
 mod compare;
 mod draft;
+mod inputs;
+mod lists;
 mod made;
 mod parsers;
+mod refusals;
+mod repeats;
 mod run;
 mod sections;
 mod settings;
+mod texts;
 mod tokens;
+mod trees;
 
 use anyhow::{Context, Result};
 use cases::cases_of;

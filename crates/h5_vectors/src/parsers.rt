@@ -1,16 +1,30 @@
-//! Parsers over an arena, and texts that come in characters.
-use super::settings::Settings;
-use anyhow::Result;
-use h5_arena::Arena;
-use h5_driver::{Parser, parse_document, parse_fragment};
+//! Builders and parsers over an arena, of which one call can be refused.
+use super::settings::{Context, Maker, Settings};
+use h5_arena::{Arena, NodeId};
+use h5_driver::{ParseOpts, Parser, parse_document, parse_fragment, parse_fragment_for_element};
+use h5_interface::{TreeSink, create_element};
 use h5_names::{LocalName, Namespace, QualName, namespaces};
+use h5_tests_sinks::Starved;
 use h5_token::BuildFault;
+use h5_token::states::State;
+use h5_tree_builder::TreeBuilder;
+use h5_types::TreeBuilderOpts;
 use std::alloc::{AllocError, Global};
 
-pub type ArenaParser = Parser<Arena>;
+/// An arena of whose calls one can be refused, and of which the calls of `pop` are counted.
+pub type Sink = Starved<Arena>;
 
-/// The name of a context: HTML's, or behind `svg ` or `math ` one of SVG or MathML.
-pub fn context_name(alloc: Global, name: &str) -> Result<QualName, AllocError> {
+pub type Builder = TreeBuilder<NodeId, Sink>;
+
+pub type TextParser = Parser<Sink>;
+
+// An empty sink, of whose calls that may find no memory the one after so many others is refused.
+fn new_sink(alloc: Global, before: usize) -> Result<Sink, AllocError> {
+    Ok(Starved::new(Arena::new(alloc)?, before))
+}
+
+// The name of a context: HTML's, or behind `svg ` or `math ` one of SVG or MathML.
+fn context_name(alloc: Global, name: &str) -> Result<QualName, AllocError> {
     let (ns, local) = match name.split_once(' ') {
         Some(("svg", local)) => (namespaces::SVG, local),
         Some(("math", local)) => (namespaces::MATHML, local),
@@ -20,26 +34,86 @@ pub fn context_name(alloc: Global, name: &str) -> Result<QualName, AllocError> {
     Ok(QualName::new(None, ns, LocalName::new(alloc, local)?))
 }
 
-/// A parser with these settings, into a new arena.
-pub fn new_parser(alloc: Global, settings: &Settings) -> Result<ArenaParser, BuildFault> {
-    let arena = Arena::new(alloc)?;
-    let opts = settings.parse_opts();
+// A builder of a fragment in a new element of this name.
+fn builder_in<S: TreeSink + Drop>(
+    alloc: Global,
+    sink: S,
+    name: QualName,
+    opts: TreeBuilderOpts,
+) -> Result<TreeBuilder<S::Handle, S>, BuildFault> {
+    let _document = sink.get_document();
+    let mut sink = sink;
+    let element = create_element(&mut sink, name, Vec::new(alloc))?;
+    TreeBuilder::new_for_fragment(alloc, sink, element, None, opts)
+}
+
+// A parser of a fragment in a new element of this name, which it is handed.
+fn parser_in<S: TreeSink + Drop>(
+    alloc: Global,
+    sink: S,
+    name: QualName,
+    opts: ParseOpts,
+    scripting: bool,
+) -> Result<Parser<S>, BuildFault> {
+    let _document = sink.get_document();
+    let mut sink = sink;
+    let element = create_element(&mut sink, name, Vec::new(alloc))?;
+    parse_fragment_for_element(alloc, sink, opts, element, scripting, None)
+}
+
+/// A builder with these settings, over a new sink, of whose calls that may find no memory the one after so many others is refused.
+pub fn new_builder(
+    alloc: Global,
+    settings: &Settings,
+    before: usize,
+) -> Result<Builder, BuildFault> {
+    let opts = settings.tree_builder;
     match &settings.context {
-        Some(name) => {
-            let name = context_name(alloc, name.as_str())?;
-            let scripting = settings.tree_builder.scripting_enabled;
-            parse_fragment(alloc, arena, opts, name, Vec::new(alloc), scripting)
+        Some(context) => {
+            let name = context_name(alloc, context.name.as_str())?;
+            builder_in(alloc, new_sink(alloc, before)?, name, opts)
         }
-        None => Ok(parse_document(alloc, arena, opts)),
+        None => Ok(TreeBuilder::new(alloc, new_sink(alloc, before)?, opts)),
     }
 }
 
-/// The tree of a text whose characters come one by one, and then the end.
-pub fn parse_characters(parser: ArenaParser, text: &str) -> Result<Arena, BuildFault> {
-    let mut parser = parser;
-    let mut buffer = [0; 4];
-    for character in text.chars() {
-        parser.process(character.encode_utf8(&mut buffer))?;
+// A parser of a fragment in this context.
+fn new_fragment_parser(
+    alloc: Global,
+    context: &Context,
+    settings: &Settings,
+    before: usize,
+) -> Result<TextParser, BuildFault> {
+    let opts = settings.parse_opts();
+    let scripting = settings.scripting();
+    let name = context_name(alloc, context.name.as_str())?;
+    let sink = new_sink(alloc, before)?;
+    match context.maker {
+        Maker::Parser => parse_fragment(alloc, sink, opts, name, Vec::new(alloc), scripting),
+        Maker::Caller => parser_in(alloc, sink, name, opts, scripting),
     }
-    parser.finish()
+}
+
+/// A parser with these settings, over such a sink.
+pub fn new_parser(
+    alloc: Global,
+    settings: &Settings,
+    before: usize,
+) -> Result<TextParser, BuildFault> {
+    match &settings.context {
+        Some(context) => new_fragment_parser(alloc, context, settings, before),
+        None => {
+            let opts = settings.parse_opts();
+            Ok(parse_document(alloc, new_sink(alloc, before)?, opts))
+        }
+    }
+}
+
+/// How the text of a fragment is read in the context of its builder. A builder of a document tells nothing.
+pub fn state_in(builder: &Builder, settings: &Settings) -> Option<State> {
+    if builder.is_fragment() {
+        Some(builder.tokenizer_state_for_context_elem(settings.scripting()))
+    } else {
+        None
+    }
 }

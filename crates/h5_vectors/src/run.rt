@@ -1,8 +1,10 @@
 //! Runs of a case.
 use super::case::{Case, Input};
+use super::lists::run_lists;
 use super::made::Made;
-use super::parsers::{ArenaParser, new_parser, parse_characters};
+use super::parsers::{TextParser, new_parser, state_in};
 use super::settings::Settings;
+use super::texts::{parse_bytes, parse_characters, parse_chunks, parse_owned, parse_two};
 use super::tokens;
 use anyhow::Result;
 use h5_arena::Arena;
@@ -10,17 +12,23 @@ use h5_token::BuildFault;
 use std::alloc::Global;
 use std::fmt;
 
-/// How texts come.
+/// How an input comes.
 #[derive(Clone, Copy, Debug, PartialEq, Eq)]
 pub enum Cut {
-    /// As they stand.
+    /// As it stands: tokens one by one.
     Whole,
-    /// A text that is given in pieces, in these.
+    /// What is given in pieces or in chunks, in these.
     Pieces,
-    /// In single characters.
+    /// A text that is given in pieces, in these, each a text of its own.
+    OwnPieces,
+    /// Texts in single characters.
     Characters,
-    /// In two pieces, the first of which has so many bytes, or a few more where a character would be cut.
+    /// A text in single bytes.
+    Bytes,
+    /// A text in two pieces, the first of which has so many bytes, or a few more where a character would be cut.
     After(usize),
+    /// Tokens as a list.
+    List,
 }
 
 impl fmt::Display for Cut {
@@ -28,8 +36,11 @@ impl fmt::Display for Cut {
         match self {
             Cut::Whole => write!(f, "whole"),
             Cut::Pieces => write!(f, "in its pieces"),
+            Cut::OwnPieces => write!(f, "in its pieces, each a text of its own"),
             Cut::Characters => write!(f, "in single characters"),
+            Cut::Bytes => write!(f, "in single bytes"),
             Cut::After(bytes) => write!(f, "in two pieces, cut behind {bytes} bytes"),
+            Cut::List => write!(f, "as a list"),
         }
     }
 }
@@ -37,8 +48,17 @@ impl fmt::Display for Cut {
 /// In which cuts an input comes, but for those in two pieces.
 pub fn cuts_of(input: &Input) -> &'static [Cut] {
     match input {
-        Input::Pieces(_) => &[Cut::Whole, Cut::Pieces, Cut::Characters],
-        Input::Text(_) | Input::Tokens(_) => &[Cut::Whole, Cut::Characters],
+        Input::Text(_) => &[Cut::Whole, Cut::Characters, Cut::Bytes],
+        Input::Pieces(_) => &[
+            Cut::Whole,
+            Cut::Pieces,
+            Cut::OwnPieces,
+            Cut::Characters,
+            Cut::Bytes,
+        ],
+        Input::Chunks(_) => &[Cut::Whole, Cut::Pieces, Cut::Bytes],
+        Input::Tokens(_) => &[Cut::Whole, Cut::Characters, Cut::List],
+        Input::ListsOfThree(_) => &[Cut::Whole],
     }
 }
 
@@ -46,17 +66,25 @@ pub fn cuts_of(input: &Input) -> &'static [Cut] {
 pub fn places_of(input: &Input) -> usize {
     match input {
         Input::Text(text) => text.len(),
-        Input::Pieces(_) | Input::Tokens(_) => 0,
+        _ => 0,
     }
 }
 
-// The tree of a text that comes in two pieces.
-fn parse_two(parser: ArenaParser, text: &str, bytes: usize) -> Result<Arena, BuildFault> {
-    let (first, second) = text.split_at(text.ceil_char_boundary(bytes));
-    let mut parser = parser;
-    parser.process(first)?;
-    parser.process(second)?;
-    parser.finish()
+// The tree of a text, which comes in this cut, or in these pieces.
+fn parse_text(
+    parser: TextParser,
+    text: &str,
+    pieces: &[String],
+    cut: Cut,
+) -> Result<Arena, BuildFault> {
+    match cut {
+        Cut::Whole | Cut::List => parser.one(text),
+        Cut::Pieces => parser.process_pieces(pieces),
+        Cut::OwnPieces => parse_owned(parser, pieces),
+        Cut::Characters => parse_characters(parser, text),
+        Cut::Bytes => parse_bytes(parser, text.as_bytes()),
+        Cut::After(bytes) => parse_two(parser, text, bytes),
+    }
 }
 
 // What a text makes, which comes in this cut, or in these pieces.
@@ -67,21 +95,31 @@ fn run_text(
     pieces: &[String],
     cut: Cut,
 ) -> Result<Made> {
-    let parser = new_parser(alloc, settings)?;
+    let parser = new_parser(alloc, settings, usize::MAX)?;
+    let state = state_in(&parser.tokenizer.sink, settings);
+    let arena = parse_text(parser, text, pieces, cut)?;
+    Ok(Made::by_text(alloc, arena, state))
+}
+
+// What bytes make, which come in this cut, or in these chunks.
+fn run_bytes(alloc: Global, settings: &Settings, chunks: &[Vec<u8>], cut: Cut) -> Result<Made> {
+    let bytes: Vec<u8> = chunks.concat(alloc)?;
+    let parser = new_parser(alloc, settings, usize::MAX)?;
+    let state = state_in(&parser.tokenizer.sink, settings);
     let arena = match cut {
-        Cut::Whole => parser.one(text)?,
-        Cut::Pieces => parser.process_pieces(pieces)?,
-        Cut::Characters => parse_characters(parser, text)?,
-        Cut::After(bytes) => parse_two(parser, text, bytes)?,
+        Cut::Pieces => parse_chunks(parser, chunks)?,
+        Cut::Bytes => parse_bytes(parser, bytes.as_slice())?,
+        _ => parser.from_utf8().one(bytes.as_slice())?,
     };
-    Made::of_arena(alloc, &arena, settings.context.is_some())
+    Ok(Made::by_text(alloc, arena, state))
 }
 
 // What lines of tokens make.
 fn run_tokens(alloc: Global, settings: &Settings, lines: &str, cut: Cut) -> Result<Made> {
     match cut {
-        Cut::Whole | Cut::Pieces | Cut::After(_) => tokens::run_whole(alloc, settings, lines),
+        Cut::List => tokens::run_list(alloc, settings, lines),
         Cut::Characters => tokens::run_characters(alloc, settings, lines),
+        _ => tokens::run_whole(alloc, settings, lines),
     }
 }
 
@@ -94,6 +132,8 @@ pub fn run(alloc: Global, case: &Case, cut: Cut) -> Result<Made> {
             let text: String = pieces.concat(alloc)?;
             run_text(alloc, settings, text.as_str(), pieces.as_slice(), cut)
         }
+        Input::Chunks(chunks) => run_bytes(alloc, settings, chunks.as_slice(), cut),
         Input::Tokens(lines) => run_tokens(alloc, settings, lines.as_str(), cut),
+        Input::ListsOfThree(lines) => run_lists(alloc, settings, lines.as_str()),
     }
 }

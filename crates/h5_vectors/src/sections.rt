@@ -1,16 +1,28 @@
 //! The sections of a case.
 use super::case::Part;
+use super::settings::Maker;
 use anyhow::{Result, bail};
 use std::alloc::Global;
+
+/// In which form an input is said.
+#[derive(Clone, Copy, Debug, PartialEq, Eq)]
+pub enum Form {
+    Text,
+    Pieces,
+    Chunks,
+    Tokens,
+    ListsOfThree,
+}
 
 /// What a section says.
 #[derive(Clone, Copy, Debug, PartialEq, Eq)]
 pub enum Heading {
-    Data,
-    Pieces,
-    Tokens,
-    DocumentFragment,
+    /// What words stand for in the sections below.
+    Repeat,
+    Input(Form),
+    Context(Maker),
     ScriptOff,
+    RefuseEach,
     Options,
     /// What the body of a page holds, with nothing else in the page.
     Body,
@@ -26,23 +38,42 @@ pub struct Section {
     pub text: String,
 }
 
+// The part of this name.
+fn part_named(word: &str) -> Option<Part> {
+    match word {
+        "document" => Some(Part::Document),
+        "html" => Some(Part::Html),
+        "quirks" => Some(Part::Quirks),
+        "state" => Some(Part::State),
+        "errors" => Some(Part::Errors),
+        "messages" => Some(Part::Messages),
+        "nodes" => Some(Part::Nodes),
+        "loose" => Some(Part::Loose),
+        "started" => Some(Part::Started),
+        "replies" => Some(Part::Replies),
+        "turns" => Some(Part::Turns),
+        "pops" => Some(Part::Pops),
+        "any-replies" => Some(Part::AnyReplies),
+        _ => None,
+    }
+}
+
 // The heading of this word, which stands behind a `#`.
 fn heading_named(word: &str) -> Option<Heading> {
     match word {
-        "data" => Some(Heading::Data),
-        "pieces" => Some(Heading::Pieces),
-        "tokens" => Some(Heading::Tokens),
-        "document-fragment" => Some(Heading::DocumentFragment),
+        "repeat" => Some(Heading::Repeat),
+        "data" => Some(Heading::Input(Form::Text)),
+        "pieces" => Some(Heading::Input(Form::Pieces)),
+        "bytes" => Some(Heading::Input(Form::Chunks)),
+        "tokens" => Some(Heading::Input(Form::Tokens)),
+        "lists-of-three" => Some(Heading::Input(Form::ListsOfThree)),
+        "document-fragment" => Some(Heading::Context(Maker::Parser)),
+        "context-element" => Some(Heading::Context(Maker::Caller)),
         "script-off" => Some(Heading::ScriptOff),
+        "refuse-each" => Some(Heading::RefuseEach),
         "options" => Some(Heading::Options),
         "body" => Some(Heading::Body),
-        "document" => Some(Heading::Part(Part::Document)),
-        "html" => Some(Heading::Part(Part::Html)),
-        "quirks" => Some(Heading::Part(Part::Quirks)),
-        "errors" => Some(Heading::Part(Part::Errors)),
-        "replies" => Some(Heading::Part(Part::Replies)),
-        "turns" => Some(Heading::Part(Part::Turns)),
-        _ => None,
+        _ => Some(Heading::Part(part_named(word)?)),
     }
 }
 

@@ -5,13 +5,31 @@ use h5_interface::QuirksMode;
 use h5_tokenizer::TokenizerOpts;
 use h5_types::TreeBuilderOpts;
 
+/// Who makes the element that is a context.
+#[derive(Clone, Copy, Debug, PartialEq, Eq)]
+pub enum Maker {
+    /// The parser, which is told its name.
+    Parser,
+    /// The caller, who hands it to the parser.
+    Caller,
+}
+
+/// The context of a fragment.
+#[derive(Drop)]
+pub struct Context {
+    /// Its name, behind `svg ` or `math ` where it is such an element.
+    pub name: String,
+    pub maker: Maker,
+}
+
 /// The context of a fragment, where there is one, and options.
 #[derive(Drop)]
 pub struct Settings {
-    /// The context's name, behind `svg ` or `math ` where it is such an element.
-    pub context: Option<String>,
+    pub context: Option<Context>,
     pub discard_bom: bool,
     pub tree_builder: TreeBuilderOpts,
+    /// Whether each call of the sink that may find no memory is refused in turn, too.
+    pub refuses_each: bool,
 }
 
 impl Settings {
@@ -21,6 +39,7 @@ impl Settings {
             context: None,
             discard_bom: true,
             tree_builder: TreeBuilderOpts::default(),
+            refuses_each: false,
         }
     }
 
@@ -44,6 +63,11 @@ impl Settings {
             self.set_option(line, word)?;
         }
         Ok(())
+    }
+
+    /// Whether scripts run, also in a context.
+    pub fn scripting(&self) -> bool {
+        self.tree_builder.scripting_enabled
     }
 
     /// The options, as a parser takes them.

@@ -1,25 +1,33 @@
 //! A builder that takes tokens, and what it answered.
 use super::made::Made;
+use super::parsers::{Builder, new_builder, state_in};
 use super::settings::Settings;
 use anyhow::{Result, bail};
-use h5_arena::{Arena, NodeId};
+use h5_arena::NodeId;
 use h5_interface::TreeSink;
 use h5_lines::{Item, parse};
-use h5_print::{print_answer, print_refusal};
+use h5_print::{print_answer, print_refusal, print_tree};
+use h5_tests_sinks::is_forest;
+use h5_token::states::State;
 use h5_token::{BuildFault, Token};
-use h5_tree_builder::{Reply, TreeBuilder};
+use h5_tree_builder::Reply;
 use std::alloc::{AllocError, Global};
 use std::fmt::Write;
-
-pub type ArenaBuilder = TreeBuilder<NodeId, Arena>;
+use std::mem;
 
 /// A builder, how many tokens came, and the lines of replies and of turns.
 #[derive(Drop)]
 struct Taker {
-    builder: ArenaBuilder,
+    builder: Builder,
+    /// How the text of a fragment is read.
+    state: Option<State>,
     number: u64,
+    /// Tokens that are taken as a list, once all of it is there.
+    waiting: Vec<(Token, u64)>,
     replies: String,
     turns: String,
+    /// How many elements the sink was told of at the end.
+    pops: usize,
     alloc: Global,
 }
 
@@ -49,12 +57,17 @@ fn characters_of(alloc: Global, token: Token, line: u64) -> Result<Vec<(Token, u
 }
 
 impl Taker {
-    fn new(alloc: Global, settings: &Settings) -> Result<Taker, AllocError> {
+    // A builder with these settings, which took nothing yet.
+    fn new(alloc: Global, settings: &Settings) -> Result<Taker> {
+        let builder = new_builder(alloc, settings, usize::MAX)?;
         Ok(Taker {
-            builder: TreeBuilder::new(alloc, Arena::new(alloc)?, settings.tree_builder),
+            state: state_in(&builder, settings),
+            builder,
             number: 0,
+            waiting: Vec::new(alloc),
             replies: String::new(alloc),
             turns: String::new(alloc),
+            pops: 0,
             alloc,
         })
     }
@@ -70,8 +83,15 @@ impl Taker {
         Ok(line)
     }
 
-    // Notes replies to one token, each other one once.
-    fn note(&mut self, replies: &[Reply<NodeId>]) -> Result<()> {
+    // Notes the reply to a token.
+    fn note(&mut self, reply: &Reply<NodeId>) -> Result<()> {
+        let line = self.line_of(reply)?;
+        self.replies.push_str(line.as_str())?;
+        Ok(())
+    }
+
+    // Notes replies to the characters of one token, each other one once.
+    fn note_each(&mut self, replies: &[Reply<NodeId>]) -> Result<()> {
         let mut last = String::new(self.alloc);
         for reply in replies {
             let line = self.line_of(reply)?;
@@ -90,7 +110,7 @@ impl Taker {
             Ok(answer) => Reply::Answer(answer),
             Err(fault) => Reply::Refused(fault),
         };
-        self.note(&[reply])?;
+        self.note(&reply)?;
         let (number, turns) = (self.number, self.builder.turns());
         writeln!(self.turns, "{number} {turns}")?;
         Ok(())
@@ -101,23 +121,42 @@ impl Taker {
         self.number = self.number.saturating_add(1);
         let tokens = characters_of(self.alloc, token, line)?;
         let replies = self.builder.process_all(tokens)?;
-        self.note(replies.as_slice())
+        self.note_each(replies.as_slice())
+    }
+
+    // Takes the tokens that wait, as a list.
+    fn take_waiting(&mut self) -> Result<()> {
+        let tokens = mem::replace(&mut self.waiting, Vec::new(self.alloc));
+        let replies = self.builder.process_all(tokens)?;
+        for reply in &replies {
+            self.number = self.number.saturating_add(1);
+            self.note(reply)?;
+        }
+        Ok(())
+    }
+
+    // Tells the builder of the end.
+    fn end(&mut self) {
+        let before = self.builder.sink.pops();
+        self.builder.end();
+        let told = self.builder.sink.pops().saturating_sub(before);
+        self.pops = self.pops.saturating_add(told);
     }
 
     // Tells the builder of the end, and gives what was made.
-    fn finish(self) -> Result<Made> {
+    fn finish(self) -> Made {
+        let mut taker = self;
+        taker.end();
         let Taker {
             builder,
+            state,
             replies,
             turns,
-            alloc,
+            pops,
             ..
-        } = self;
-        let mut builder = builder;
-        builder.end();
+        } = taker;
         let arena = builder.into_sink().finish();
-        let made = Made::of_arena(alloc, &arena, false)?;
-        Ok(made.with_answers(replies, turns))
+        Made::by_tokens(arena, state, replies, turns, pops)
     }
 }
 
@@ -127,10 +166,10 @@ pub fn run_whole(alloc: Global, settings: &Settings, lines: &str) -> Result<Made
     for item in parse(alloc, lines)? {
         match item {
             Item::Token(token, line) => taker.take_whole(token, line)?,
-            Item::End => taker.builder.end(),
+            Item::End => taker.end(),
         }
     }
-    taker.finish()
+    Ok(taker.finish())
 }
 
 /// What the tokens of lines make, where each text comes by its characters.
@@ -139,8 +178,24 @@ pub fn run_characters(alloc: Global, settings: &Settings, lines: &str) -> Result
     for item in parse(alloc, lines)? {
         match item {
             Item::Token(token, line) => taker.take_characters(token, line)?,
-            Item::End => taker.builder.end(),
+            Item::End => taker.end(),
         }
     }
-    taker.finish()
+    Ok(taker.finish())
+}
+
+/// What the tokens of lines make, where all tokens up to an end come as a list.
+pub fn run_list(alloc: Global, settings: &Settings, lines: &str) -> Result<Made> {
+    let mut taker = Taker::new(alloc, settings)?;
+    for item in parse(alloc, lines)? {
+        match item {
+            Item::Token(token, line) => taker.waiting.push((token, line))?,
+            Item::End => {
+                taker.take_waiting()?;
+                taker.end();
+            }
+        }
+    }
+    taker.take_waiting()?;
+    Ok(taker.finish())
 }

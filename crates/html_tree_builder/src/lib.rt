@@ -2,8 +2,14 @@
 //! most callers need.
 //!
 //! ```text
-//! text -> driver::Parser -> a sink of trees (arena::Arena) -> serialize::serialize -> text
+//! text or bytes -> Parser -> a sink of trees (Arena) -> serialize::serialize -> text
 //! ```
+//!
+//! The parser at the root is over the standard reader: all of HTML, as the WHATWG standard's section 13.2.5 has it. The parser
+//! over the plain reader, which reads one exact subset, stands in `driver` under the same names, and the plain reader itself
+//! in `tokenizer`; the standard reader stands in `standard`.
+//!
+//! What contracts cite is handed on in `specs/Lib.antt`, so a caller with a contract names this crate alone.
 #![tactic(auto)]
 
 pub mod encoding;
@@ -14,9 +20,10 @@ pub use h5_arena as arena;
 pub use h5_arena::{Arena, NodeId};
 pub use h5_data as data;
 pub use h5_driver as driver;
-pub use h5_driver::{
-    ParseOpts, Parser, Utf8Parser, parse_document, parse_fragment, parse_fragment_for_element,
+pub use h5_driver::standard::{
+    Parser, StandardReader, Utf8Parser, parse_document, parse_fragment, parse_fragment_for_element,
 };
+pub use h5_driver::{ParseOpts, Reader};
 pub use h5_interface as interface;
 pub use h5_interface::{NodeOrText, QuirksMode, TreeSink};
 pub use h5_names as names;

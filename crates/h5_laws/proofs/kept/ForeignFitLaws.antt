@@ -132,8 +132,8 @@ rule_kept choices t w some f = record {
 }
 
 -- by the mode, after changes
-mode_kept : (choices : SinkChoices) (xs : List Change) (t : TurnText) (w : World) → HasText t → Fitting (apply_all choices xs w) → KeptBy choices (by_mode choices xs t w) w
-mode_kept choices xs t w some f =
+mode_kept : (choices : SinkChoices) (quiet : Bool) (xs : List Change) (t : TurnText) (w : World) → HasText t → Fitting (apply_all choices xs w) → KeptBy choices (by_mode choices quiet xs t w) w
+mode_kept choices quiet xs t w some f =
     let v = apply_all choices xs w in
     let r = rule v.mode t v in
     let kept = rule_kept choices t v some f in
@@ -146,9 +146,9 @@ chosen_kept choices false r s w f g = g
 
 steps_kept : (choices : SinkChoices) (t : TurnText) (w : World) → HasText t → Standing w → is_html_element (foreign_name (adjusted_namespace w) []) ≡ false → Steps w (λ x. x ≢ []) (λ x. KeptBy choices (row_of choices x t w) w)
 steps_kept choices t w some k foreign = record {
-  leaves = mode_kept choices (LeaveForeignContent ∷ []) t w some (leaves_fitting choices w k);
-  stays = mode_kept choices [] t w some k.fitting;
-  ignores = record { sound = k.fitting.sound; fits = k.fitting.fits };
+  leaves = mode_kept choices false (LeaveForeignContent ∷ []) t w some (leaves_fitting choices w k);
+  stays = λ quiet. mode_kept choices quiet [] t w some k.fitting;
+  ignores = λ quiet. record { sound = k.fitting.sound; fits = k.fitting.fits };
   starts = λ tag. chosen_kept choices tag.self_closing _ _ w
       (ends_kept choices _ w refl (leaf_fitting choices w k _ _ _))
       (ends_kept choices _ w refl (inserts_fitting choices w k (foreign_name (adjusted_namespace w) (adjusted_local (adjusted_namespace w) tag.name)) _ _ foreign));

@@ -7,12 +7,12 @@ use Rattle.h5_token.specs.TokenText.{TagText}
 use Rattle.h5_token.specs.declared.tag.TagKind.{TagKind}
 use Rattle.h5_token.specs.declared.tag.TagKind.TheVariants.{StartTag, EndTag}
 use Rattle.h5_interface.specs.SinkChoices.{SinkChoices}
-use Rattle.h5_tag_sets.specs.TagSets.{block_end_names, block_start_names, formatting_names, heading_names, is_default_scope, is_heading, is_html_named, is_list_item_scope, is_one_of, mathml_namespace, svg_namespace}
+use Rattle.h5_tag_sets.specs.TagSets.{block_end_names, block_start_names, formatting_names, heading_names, is_default_scope, is_heading, is_html_named, is_implied, is_list_item_scope, is_one_of, mathml_namespace, svg_namespace}
 use Rattle.h5_types.specs.TurnText.{CommentTurn, EofTurn, HasText, NullTurn, TagTurn, TextTurn, TurnText}
 use Rattle.h5_types.specs.declared.modes.InsertionMode.{InsertionMode}
 use Rattle.h5_types.specs.declared.modes.InsertionMode.TheVariants.{AfterBody, InBody, InTable, Text}
 use Rattle.h5_rules.specs.formatting.FormattingNames.{html_name}
-use Rattle.h5_rules.specs.stack.Scope.{comes_before_special, cut_names, has_p_in_button_scope, has_template, in_scope, second_is}
+use Rattle.h5_rules.specs.stack.Scope.{comes_before_special, cut_names, has_p_in_button_scope, has_template, in_scope, is_implied_but, second_is}
 use Rattle.h5_rules.specs.fitting.Fits.{goes_by_body}
 use Rattle.h5_rules.specs.fitting.NamesFit.{NamesFit, is_html_element}
 use Rattle.h5_rules.specs.fitting.Roles.{BodyRole, CaptionRole, CellRole, ColgroupRole, FramesetRole, HeadRole, HtmlRole, PlainRole, Role, RowRole, SectionRole, TableRole, TemplateRole, is_table_part, role_of_local}
@@ -26,7 +26,7 @@ use Rattle.h5_rules.specs.Changes.{generate_implied_end_except, insert_element, 
 use Rattle.h5_rules.specs.stack.Closing.{close_p_element_in_button_scope, pop_heading}
 use Rattle.h5_rules.specs.formatting.AdoptionAgency.{handle_misnested_a_tags, handle_misnested_nobr_tags}
 use Rattle.h5_rules.specs.formatting.Formatting.{reconstruct_active_formatting_elements}
-use Rattle.h5_rules.specs.modes.InBody.{body_ends, body_in_scope, close_the_form, copies_option, description_names, form_in_scope, if_body_in_scope, in_body, in_body_end, in_body_end_block, in_body_end_blocks, in_body_end_br, in_body_end_description, in_body_end_form, in_body_end_formatting, in_body_end_heading, in_body_end_inline, in_body_end_li, in_body_end_marked, in_body_end_option, in_body_end_other, in_body_end_p, in_body_ignored_starts, in_body_marked, in_body_ruby_bases, in_body_ruby_texts, in_body_start, in_body_start_a, in_body_start_block, in_body_start_blocks, in_body_start_body, in_body_start_button, in_body_start_embedded, in_body_start_foreign, in_body_start_form, in_body_start_formatting, in_body_start_heading, in_body_start_iframe, in_body_start_inline, in_body_start_input, in_body_start_nobr, in_body_start_noembed, in_body_start_noscript, in_body_start_optgroup, in_body_start_option, in_body_start_other, in_body_start_plaintext, in_body_start_ruby, in_body_start_select, in_body_start_table, in_body_start_textarea, in_body_start_void, in_body_start_xmp, in_body_tag, is_quirks, named_in_scope, no_template_mode, oldest_option, outside_names, unless_hidden}
+use Rattle.h5_rules.specs.modes.InBody.{body_ends, body_in_scope, close_open_form, close_the_form, copies_option, description_names, form_in_scope, if_body_in_scope, in_body, in_body_end, in_body_end_block, in_body_end_blocks, in_body_end_br, in_body_end_description, in_body_end_form, in_body_end_formatting, in_body_end_heading, in_body_end_inline, in_body_end_li, in_body_end_marked, in_body_end_option, in_body_end_other, in_body_end_p, in_body_ignored_starts, in_body_marked, in_body_ruby_bases, in_body_ruby_texts, in_body_start, in_body_start_a, in_body_start_block, in_body_start_blocks, in_body_start_body, in_body_start_button, in_body_start_embedded, in_body_start_foreign, in_body_start_form, in_body_start_formatting, in_body_start_heading, in_body_start_iframe, in_body_start_inline, in_body_start_input, in_body_start_nobr, in_body_start_noembed, in_body_start_noscript, in_body_start_optgroup, in_body_start_option, in_body_start_other, in_body_start_plaintext, in_body_start_ruby_base, in_body_start_ruby_text, in_body_start_select, in_body_start_table, in_body_start_textarea, in_body_start_void, in_body_start_xmp, in_body_tag, is_quirks, named_in_scope, no_template_mode, oldest_option, outside_names, unless_hidden}
 use Rattle.h5_rules.specs.Rows.{AddAttrsToSecond, Again, AgainBy, Answers, Change, ClosePElement, ClosePElementInButtonScope, Ending, GenerateImpliedEnd, GenerateImpliedEndExcept, InsertElement, IsAcknowledged, IsDone, PopUntilHeading, PopUntilNamed, ReconstructActiveFormattingElements, Row, SetFramesetNotOk, SetMode, apply_all, choose, errs, ignored, next_mode, row, row_if}
 use Rattle.h5_rules.specs.modes.Shared.{current_is, in_body_text, inserts, is_context, is_type_hidden, table_structure_names, head_start_names}
 use Rattle.h5_rules.specs.Sound.{situation_of}
@@ -56,6 +56,7 @@ use Rattle.h5_rules.proofs.modes.CloseInLaws.{in_ignore_lf}
 use Rattle.h5_rules.specs.fitting.Reset.{reset_mode}
 use Rattle.h5_rules.specs.insertion.Foreign.{foreign_name}
 use Rattle.h5_rules.proofs.changes.ForeignLaws.{mathml_no_html, svg_no_html}
+use Rattle.h5_rules.specs.stack.Expected.{is_expected, is_expected_p}
 
 -- NAMES
 
@@ -231,7 +232,7 @@ module _ (choices : SinkChoices) (w : World) (steady : IsSteady w) (m : Insertio
   unfolding in_body_start_table names_of
   kept_start_table tag p =
       let opens : List Change = inserts tag ∷ SetFramesetNotOk ∷ SetMode InTable ∷ [] in
-      holds_chosen KeptIn (is_quirks w.quirks) (row opens IsDone) (row_if (not (has_p_in_button_scope (names_of w))) (ClosePElementInButtonScope ∷ opens) IsDone)
+      holds_chosen KeptIn (is_quirks w.quirks) (row opens IsDone) (row_if (is_expected_p (names_of w)) (ClosePElementInButtonScope ∷ opens) IsDone)
       (λ e h. table_put w tag p (ready h)) (λ e h. table_put closed tag p (closed_ready h))
 
   -- the body ends
@@ -252,18 +253,18 @@ module _ (choices : SinkChoices) (w : World) (steady : IsSteady w) (m : Insertio
   -- elements are closed
   kept_end_block : (tag : TagText) → is_one_of block_end_names tag.name ≡ true → KeptIn (in_body_end_block tag w)
   unfolding in_body_end_block
-  kept_end_block tag p = holds_chosen KeptIn (in_scope (is_html_named tag.name) is_default_scope (names_of w)) (row_if (current_is tag.name w) (GenerateImpliedEnd ∷ PopUntilNamed tag.name ∷ []) IsDone) ignored
+  kept_end_block tag p = holds_chosen KeptIn (in_scope (is_html_named tag.name) is_default_scope (names_of w)) (row_if (is_expected is_implied (is_html_named tag.name) (names_of w)) (GenerateImpliedEnd ∷ PopUntilNamed tag.name ∷ []) IsDone) ignored
       (λ e h. (in_close_named choices m goes w (ready h) tag.name (block_end_plain tag.name p) (block_not_implied tag.name p) e).fit) (λ e h. h)
 
   kept_end_heading : (tag : TagText) → KeptIn (in_body_end_heading tag w)
   unfolding in_body_end_heading
-  kept_end_heading tag = holds_chosen KeptIn (in_scope is_heading is_default_scope (names_of w)) (row_if (current_is tag.name w) (GenerateImpliedEnd ∷ PopUntilHeading ∷ []) IsDone) ignored
+  kept_end_heading tag = holds_chosen KeptIn (in_scope is_heading is_default_scope (names_of w)) (row_if (is_expected is_implied (is_html_named tag.name) (names_of w)) (GenerateImpliedEnd ∷ PopUntilHeading ∷ []) IsDone) ignored
       (λ e h. (in_close_heading choices m goes w (ready h) heading_not_implied e).fit) (λ e h. h)
 
   -- the `p` that ends is open, or made
   kept_end_p : (tag : TagText) → KeptIn (in_body_end_p tag w)
   unfolding in_body_end_p
-  kept_end_p tag = holds_chosen KeptIn (has_p_in_button_scope (names_of w)) (row_if (current_is (codes "p") w) (ClosePElement ∷ []) IsDone) (errs (InsertElement (codes "p") [] false ∷ ClosePElement ∷ []) IsDone)
+  kept_end_p tag = holds_chosen KeptIn (has_p_in_button_scope (names_of w)) (row_if (is_expected (is_implied_but (codes "p")) (is_html_named (codes "p")) (names_of w)) (ClosePElement ∷ []) IsDone) (errs (InsertElement (codes "p") [] false ∷ ClosePElement ∷ []) IsDone)
       (λ e h. (in_close_p choices m goes w (ready h) e).fit)
       (λ e h.
       let v = insert_element choices (codes "p") [] false w in
@@ -278,7 +279,7 @@ module _ (choices : SinkChoices) (w : World) (steady : IsSteady w) (m : Insertio
 
   kept_end_other : (tag : TagText) → MayEnd m (role_of_local tag.name) → KeptIn (in_body_end_other tag w)
   unfolding in_body_end_other
-  kept_end_other tag may = holds_chosen KeptIn (comes_before_special tag.name (names_of w)) (errs (GenerateImpliedEndExcept tag.name ∷ PopUntilNamed tag.name ∷ []) IsDone) ignored
+  kept_end_other tag may = holds_chosen KeptIn (comes_before_special tag.name (names_of w)) (row_if (is_expected (is_implied_but tag.name) (is_html_named tag.name) (names_of w)) (GenerateImpliedEndExcept tag.name ∷ PopUntilNamed tag.name ∷ []) IsDone) ignored
       (λ e h.
       let v = pop_until_named tag.name (generate_implied_end_except choices tag.name w) in
       fits_at m w v steady.sound (end_situation tag.name)
@@ -352,20 +353,20 @@ module _ (choices : SinkChoices) (w : World) (steady : IsSteady w) (m : Insertio
       one : Still (in_body_start_optgroup tag w)
       one = still (named_in_scope (codes "select") w) _ _ (λ v. refl) (still (current_is (codes "option") w) _ _ (λ v. refl) (λ v. refl))
 
-  kept_start_ruby_base : (tag : TagText) → is_one_of in_body_ruby_bases tag.name ≡ true → KeptIn (in_body_start_ruby GenerateImpliedEnd tag w)
+  kept_start_ruby_base : (tag : TagText) → is_one_of in_body_ruby_bases tag.name ≡ true → KeptIn (in_body_start_ruby_base tag w)
   kept_start_ruby_base tag p =
-      in_mode (in_body_start_ruby GenerateImpliedEnd tag w) (still (named_in_scope (codes "ruby") w) _ _ (λ v. refl) (λ v. refl)) (λ r. in_start_ruby_base choices m goes w r tag p)
+      in_mode (in_body_start_ruby_base tag w) (still (named_in_scope (codes "ruby") w) _ _ (λ v. refl) (λ v. refl)) (λ r. in_start_ruby_base choices m goes w r tag p)
 
-  kept_start_ruby_text : (tag : TagText) → is_one_of in_body_ruby_texts tag.name ≡ true → KeptIn (in_body_start_ruby (GenerateImpliedEndExcept (codes "rtc")) tag w)
+  kept_start_ruby_text : (tag : TagText) → is_one_of in_body_ruby_texts tag.name ≡ true → KeptIn (in_body_start_ruby_text tag w)
   kept_start_ruby_text tag p =
-      in_mode (in_body_start_ruby (GenerateImpliedEndExcept (codes "rtc")) tag w) (still (named_in_scope (codes "ruby") w) _ _ (λ v. refl) (λ v. refl)) (λ r. in_start_ruby_text choices m goes w r tag p)
+      in_mode (in_body_start_ruby_text tag w) (still (named_in_scope (codes "ruby") w) _ _ (λ v. refl) (λ v. refl)) (λ r. in_start_ruby_text choices m goes w r tag p)
 
   kept_start_foreign : (namespace : List ℕ) (tag : TagText) → is_html_element (foreign_name namespace tag.name) ≡ false → KeptIn (in_body_start_foreign namespace tag w)
   kept_start_foreign namespace tag foreign =
       in_mode (in_body_start_foreign namespace tag w) (still tag.self_closing _ _ (λ v. refl) (λ v. refl)) (λ r. in_start_foreign choices m goes w r tag namespace foreign)
 
   kept_end_form : (tag : TagText) → KeptIn (in_body_end_form tag w)
-  unfolding in_body_end_form close_the_form
+  unfolding in_body_end_form close_open_form close_the_form
   kept_end_form tag = in_mode (in_body_end_form tag w) one (λ r. in_end_form choices m goes w r tag)
     where
       closing : (o : Option ℕ) → Still (close_the_form o w)

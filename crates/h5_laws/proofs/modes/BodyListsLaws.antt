@@ -7,15 +7,15 @@ use Rattle.h5_token.specs.declared.tag.TagKind.TheVariants.{StartTag, EndTag}
 use Rattle.h5_interface.specs.SinkChoices.{SinkChoices}
 use Rattle.h5_types.specs.TurnText.{TurnText, TagTurn, CommentTurn, TextTurn, NullTurn, EofTurn, HasText}
 use Rattle.h5_types.specs.declared.modes.InsertionMode.{InsertionMode}
-use Rattle.h5_tag_sets.specs.TagSets.{is_default_scope, is_heading, is_html_named, mathml_namespace, svg_namespace}
+use Rattle.h5_tag_sets.specs.TagSets.{is_default_scope, is_heading, is_html_named, is_implied, mathml_namespace, svg_namespace}
 use Rattle.h5_types.specs.declared.modes.InsertionMode.TheVariants.{AfterBody, InTable, InFrameset}
 use Rattle.h5_rules.specs.fitting.Fits.{goes_by_body}
 use Rattle.h5_rules.proofs.fitting.OpenLaws.{goes_after_root, names_root_open}
-use Rattle.h5_rules.specs.stack.Scope.{comes_before_special, has_p_in_button_scope, has_template, in_scope, second_is}
+use Rattle.h5_rules.specs.stack.Scope.{comes_before_special, has_p_in_button_scope, has_template, in_scope, is_implied_but, second_is}
 use Rattle.h5_rules.specs.ByName.{NonePasses, by_kind, by_name, of_tag}
 use Rattle.h5_rules.specs.modes.InBody.{body_ends, body_in_scope, if_body_in_scope, in_body, in_body_end, in_body_end_block, in_body_end_blocks, in_body_end_br, in_body_end_heading, in_body_end_inline, in_body_end_other, in_body_end_p, in_body_start, in_body_start_block, in_body_start_blocks, in_body_start_body, in_body_start_embedded, in_body_start_frameset, in_body_start_heading, in_body_start_iframe, in_body_start_inline, in_body_start_noembed, in_body_start_noscript, in_body_start_other, in_body_start_part, in_body_start_plaintext, in_body_start_table, in_body_start_textarea, in_body_start_void, in_body_start_xmp, in_body_tag, is_quirks, no_template_mode}
 use Rattle.h5_rules.specs.Rows.{AddAttrsToHtml, AddAttrsToSecond, Again, AppendComment, Change, ClosePElement, ClosePElementInButtonScope, GenerateImpliedEnd, GenerateImpliedEndExcept, InsertElement, IsDone, PopUntilHeading, PopUntilNamed, Row, SetFramesetNotOk, SetMode, apply_all, choose, errs, ignored, row, row_if, RemoveBody}
-use Rattle.h5_rules.specs.modes.Shared.{current_is, in_body_start_html, in_body_text, inserts}
+use Rattle.h5_rules.specs.modes.Shared.{in_body_start_html, in_body_text, inserts}
 use Rattle.h5_rules.specs.Sound.{HasHtmlRoot, situation_of}
 use Rattle.h5_rules.specs.World.{World, names_of}
 use Rattle.h5_rules.proofs.rows.ByNameLaws.{holds_by_name, holds_chosen}
@@ -27,6 +27,7 @@ use Rattle.h5_rules.proofs.modes.ReadyInLaws.{ReadyIn, ready_in}
 use Rattle.h5_rules.specs.modes.InHead.{in_head_else, in_head_start, in_head_start_link, in_head_start_meta, in_head_start_noscript, in_head_start_raw, in_head_start_script, in_head_start_tag, in_head_start_title, in_head_start_template, in_head_end_template, template_eof}
 use Rattle.h5_rules.proofs.modes.BodyRowLaws.{head_start_passes}
 use Rattle.h5_rules.proofs.changes.ForeignLaws.{mathml_no_html, svg_no_html}
+use Rattle.h5_rules.specs.stack.Expected.{is_expected, is_expected_p}
 
 module _ (choices : SinkChoices) (w : World) (k : IsSteady w) where
   -- after a row in a mode, where the open elements fit the mode
@@ -74,25 +75,25 @@ module _ (choices : SinkChoices) (w : World) (k : IsSteady w) where
 
   stays_end_block : (m : InsertionMode) (tag : TagText) → Stays m (in_body_end_block tag w)
   unfolding in_body_end_block
-  stays_end_block m tag = stays_chosen m (in_scope (is_html_named tag.name) is_default_scope (names_of w)) (row_if (current_is tag.name w) (GenerateImpliedEnd ∷ PopUntilNamed tag.name ∷ []) IsDone) ignored (tt, (tt, tt)) tt
+  stays_end_block m tag = stays_chosen m (in_scope (is_html_named tag.name) is_default_scope (names_of w)) (row_if (is_expected is_implied (is_html_named tag.name) (names_of w)) (GenerateImpliedEnd ∷ PopUntilNamed tag.name ∷ []) IsDone) ignored (tt, (tt, tt)) tt
 
   stays_end_heading : (m : InsertionMode) (tag : TagText) → Stays m (in_body_end_heading tag w)
   unfolding in_body_end_heading
-  stays_end_heading m tag = stays_chosen m (in_scope is_heading is_default_scope (names_of w)) (row_if (current_is tag.name w) (GenerateImpliedEnd ∷ PopUntilHeading ∷ []) IsDone) ignored (tt, (tt, tt)) tt
+  stays_end_heading m tag = stays_chosen m (in_scope is_heading is_default_scope (names_of w)) (row_if (is_expected is_implied (is_html_named tag.name) (names_of w)) (GenerateImpliedEnd ∷ PopUntilHeading ∷ []) IsDone) ignored (tt, (tt, tt)) tt
 
   stays_end_p : (m : InsertionMode) (tag : TagText) → Stays m (in_body_end_p tag w)
   unfolding in_body_end_p
-  stays_end_p m tag = stays_chosen m (has_p_in_button_scope (names_of w)) (row_if (current_is (codes "p") w) (ClosePElement ∷ []) IsDone) (errs (InsertElement (codes "p") [] false ∷ ClosePElement ∷ []) IsDone) (tt, tt) (tt, (tt, tt))
+  stays_end_p m tag = stays_chosen m (has_p_in_button_scope (names_of w)) (row_if (is_expected (is_implied_but (codes "p")) (is_html_named (codes "p")) (names_of w)) (ClosePElement ∷ []) IsDone) (errs (InsertElement (codes "p") [] false ∷ ClosePElement ∷ []) IsDone) (tt, tt) (tt, (tt, tt))
 
   stays_end_other : (m : InsertionMode) (tag : TagText) → Stays m (in_body_end_other tag w)
   unfolding in_body_end_other
-  stays_end_other m tag = stays_chosen m (comes_before_special tag.name (names_of w)) (errs (GenerateImpliedEndExcept tag.name ∷ PopUntilNamed tag.name ∷ []) IsDone) ignored (tt, (tt, tt)) tt
+  stays_end_other m tag = stays_chosen m (comes_before_special tag.name (names_of w)) (row_if (is_expected (is_implied_but tag.name) (is_html_named tag.name) (names_of w)) (GenerateImpliedEndExcept tag.name ∷ PopUntilNamed tag.name ∷ []) IsDone) ignored (tt, (tt, tt)) tt
 
   stays_start_table : (m : InsertionMode) (tag : TagText) → Stays m (in_body_start_table tag w)
   unfolding in_body_start_table
   stays_start_table m tag =
       let opens : List Change = inserts tag ∷ SetFramesetNotOk ∷ SetMode InTable ∷ [] in
-      stays_chosen m (is_quirks w.quirks) (row opens IsDone) (row_if (not (has_p_in_button_scope (names_of w))) (ClosePElementInButtonScope ∷ opens) IsDone) (tt, (tt, (tt, tt))) (tt, (tt, (tt, (tt, tt))))
+      stays_chosen m (is_quirks w.quirks) (row opens IsDone) (row_if (is_expected_p (names_of w)) (ClosePElementInButtonScope ∷ opens) IsDone) (tt, (tt, (tt, tt))) (tt, (tt, (tt, (tt, tt))))
 
   stays_noscript : (m : InsertionMode) (tag : TagText) → Stays m (in_body_start_noscript tag w)
   unfolding in_body_start_noscript

@@ -42,6 +42,7 @@ use Rattle.h5_rules.proofs.modes.ReadyInLaws.{in_implied, ready_in}
 use Rattle.h5_rules.proofs.changes.SituationLaws.{situation_leaf, situation_pop}
 use Rattle.h5_laws.proofs.modes.TableFitsLaws.{cell_local}
 use Rattle.h5_rules.proofs.modes.TemplateRowLaws.{kept_end_template}
+use Rattle.h5_rules.specs.stack.Expected.{is_expected}
 
 -- NAMES
 
@@ -127,12 +128,12 @@ module _ (choices : SinkChoices) (w : World) (steady : IsSteady w) where
   kept_close_caption : Kept choices w InCaption (close_the_caption [] (Again InTable) w)
   unfolding close_the_caption
   kept_close_caption = holds_chosen (Kept choices w InCaption) (named_in_table_scope (codes "caption") w)
-      (row_if (current_is (codes "caption") w) (GenerateImpliedEnd ∷ PopUntilNamed (codes "caption") ∷ ClearActiveFormattingToMarker ∷ []) (Again InTable)) ignored caption_closed (λ e h. h)
+      (row_if (is_expected is_implied (is_html_named (codes "caption")) (names_of w)) (GenerateImpliedEnd ∷ PopUntilNamed (codes "caption") ∷ ClearActiveFormattingToMarker ∷ []) (Again InTable)) ignored caption_closed (λ e h. h)
 
   kept_end_caption : Kept choices w InCaption (close_the_caption (SetMode InTable ∷ []) IsDone w)
   unfolding close_the_caption names_of
   kept_end_caption = holds_chosen (Kept choices w InCaption) (named_in_table_scope (codes "caption") w)
-      (row_if (current_is (codes "caption") w) (GenerateImpliedEnd ∷ PopUntilNamed (codes "caption") ∷ ClearActiveFormattingToMarker ∷ SetMode InTable ∷ []) IsDone) ignored caption_closed (λ e h. h)
+      (row_if (is_expected is_implied (is_html_named (codes "caption")) (names_of w)) (GenerateImpliedEnd ∷ PopUntilNamed (codes "caption") ∷ ClearActiveFormattingToMarker ∷ SetMode InTable ∷ []) IsDone) ignored caption_closed (λ e h. h)
 
   kept_caption_tag : w.mode ≡ InCaption → (kind : TagKind) (tag : TagText) → tag.kind ≡ kind → Kept choices w InCaption (by_kind kind (by_name in_caption_start (of_tag in_body) tag w) (by_name in_caption_end (of_tag in_body) tag w))
   unfolding in_caption_start in_caption_end
@@ -209,7 +210,7 @@ module _ (choices : SinkChoices) (w : World) (steady : IsSteady w) where
   kept_end_cell : (tag : TagText) → is_one_of cell_names tag.name ≡ true → Kept choices w InCell (in_cell_end_cell tag w)
   unfolding in_cell_end_cell names_of
   kept_end_cell tag p = holds_chosen (Kept choices w InCell) (named_in_table_scope tag.name w)
-      (row_if (current_is tag.name w) (GenerateImpliedEnd ∷ PopUntilNamed tag.name ∷ ClearActiveFormattingToMarker ∷ SetMode InRow ∷ []) IsDone) ignored (cell_ended tag.name p) (λ e h. h)
+      (row_if (is_expected is_implied (is_html_named tag.name) (names_of w)) (GenerateImpliedEnd ∷ PopUntilNamed tag.name ∷ ClearActiveFormattingToMarker ∷ SetMode InRow ∷ []) IsDone) ignored (cell_ended tag.name p) (λ e h. h)
 
   kept_close_cell : Kept choices w InCell (close_the_cell w)
   kept_close_cell h =

@@ -6,16 +6,15 @@ use Rattle.h5_token.specs.declared.tag.TagKind.TheVariants.{EndTag, StartTag}
 use Rattle.h5_interface.specs.SinkChoices.{SinkChoices}
 use Rattle.h5_tag_sets.specs.TagSets.{is_one_of}
 use Rattle.h5_types.specs.TurnText.{CommentTurn, EofTurn, HasText, NullTurn, TagTurn, TextTurn, TurnText}
-use Rattle.h5_rules.specs.stack.Scope.{first_passes}
-use Rattle.h5_rules.specs.insertion.Foreign.{is_foreign, is_named_in_any_case}
-use Rattle.h5_rules.specs.modes.ForeignContent.{ByMode, EndSearch, Finds, ForeignStep, HasRow, ReachesHtml, ReachesRoot, breaks_out, dispatch, foreign_breakout_end_names, foreign_end, foreign_end_by, foreign_start, foreign_start_other, foreign_step, foreign_tag, foreign_text_row, replacement_text, row_of, search_end, unexpected_in_foreign_content}
+use Rattle.h5_rules.specs.insertion.Foreign.{is_foreign}
+use Rattle.h5_rules.specs.modes.ForeignContent.{ByMode, EndSearch, Finds, ForeignStep, HasRow, ReachesHtml, ReachesRoot, breaks_out, dispatch, foreign_breakout_end_names, foreign_end, foreign_end_by, foreign_start, foreign_start_other, foreign_step, foreign_tag, foreign_text_row, is_expected_end, replacement_text, row_of, search_end, unexpected_in_foreign_content}
 use Rattle.h5_rules.specs.modes.Modes.{rule}
-use Rattle.h5_rules.specs.Rows.{AppendComment, AppendText, IsDone, PopUntilNamedInAnyCase, Row, choose, errs, ignored, row, row_if}
+use Rattle.h5_rules.specs.Rows.{AppendComment, AppendText, IsDone, PopUntilNamedInAnyCase, Row, choose, errs, row, row_if}
 use Rattle.h5_rules.specs.World.{World, names_of}
 
 -- the row of an end tag that finds its element
 abbrev pub foreign_end_found : TagText → World → Row
-foreign_end_found tag w = row_if (first_passes (is_named_in_any_case tag.name) (names_of w)) (PopUntilNamedInAnyCase tag.name ∷ []) IsDone
+foreign_end_found tag w = row_if (is_expected_end tag.name (names_of w)) (PopUntilNamedInAnyCase tag.name ∷ []) IsDone
 
 -- what is known of a text
 abbrev pub Has : (List ℕ → Type 0) → TurnText → Type 0
@@ -36,8 +35,8 @@ any_has EofTurn = tt
 -- what is to be shown of the steps of foreign content
 pub record Steps (w : World) (Q : List ℕ → Type 0) (P : ForeignStep → Type 0) : Type 0 where
   pub leaves : P unexpected_in_foreign_content
-  pub stays : P (ByMode [])
-  pub ignores : P (HasRow ignored)
+  pub stays : (quiet : Bool) → P (ByMode quiet [])
+  pub ignores : (quiet : Bool) → P (HasRow (row_if quiet [] IsDone))
   pub starts : (tag : TagText) → P (HasRow (foreign_start_other tag w))
   pub ends : (tag : TagText) → search_end tag.name (names_of w) ≡ Finds → P (HasRow (foreign_end_found tag w))
   pub comments : (x : List ℕ) → P (HasRow (row (AppendComment x ∷ []) IsDone))
@@ -54,8 +53,8 @@ module _ (w : World) (Q : List ℕ → Type 0) (P : ForeignStep → Type 0) (s :
       at false = s.starts tag
 
   end_found : (tag : TagText) (x : EndSearch) → search_end tag.name (names_of w) ≡ x → P (foreign_end_by x tag w)
-  end_found tag ReachesRoot e = s.ignores
-  end_found tag ReachesHtml e = s.stays
+  end_found tag ReachesRoot e = s.ignores (is_expected_end tag.name (names_of w))
+  end_found tag ReachesHtml e = s.stays (is_expected_end tag.name (names_of w))
   end_found tag Finds e = s.ends tag e
 
   end_step : (tag : TagText) → P (foreign_end tag w)
@@ -75,7 +74,7 @@ module _ (w : World) (Q : List ℕ → Type 0) (P : ForeignStep → Type 0) (s :
   each_step (CommentTurn x) h = s.comments x
   each_step (TextTurn status x) h = s.texts x h
   each_step NullTurn h = s.nulls
-  each_step EofTurn h = s.ignores
+  each_step EofTurn h = s.ignores true
 
 -- THE RULE of a token: of foreign content, or of the mode
 pub dispatch_holds : (P : Row → Type 0) (choices : SinkChoices) (t : TurnText) (w : World) → (is_foreign choices t w ≡ true → P (row_of choices (foreign_step t w) t w)) → (is_foreign choices t w ≡ false → P (rule w.mode t w)) → P (dispatch choices t w)

@@ -7,7 +7,7 @@ use Rattle.h5_token.specs.declared.tag.TagKind.TheVariants.{StartTag, EndTag}
 use Rattle.h5_interface.specs.SinkChoices.{SinkChoices}
 use Rattle.h5_types.specs.TurnText.{TurnText, TagTurn, CommentTurn, TextTurn, NullTurn, EofTurn, HasText}
 use Rattle.h5_types.specs.declared.modes.InsertionMode.{InsertionMode}
-use Rattle.h5_tag_sets.specs.TagSets.{is_cell, is_table_body_context, is_table_row_context}
+use Rattle.h5_tag_sets.specs.TagSets.{is_cell, is_html_named, is_implied, is_table_body_context, is_table_row_context}
 use Rattle.h5_types.specs.declared.modes.InsertionMode.TheVariants.{InCaption, InCell, InColumnGroup, InRow, InTable, InTableBody, InTableText}
 use Rattle.h5_types.specs.declared.modes.SplitStatus.TheVariants.{NotSplit, NotWhitespace, Whitespace}
 use Rattle.h5_rules.specs.fitting.Fits.{goes_by_body, is_table_mode}
@@ -34,6 +34,7 @@ use Rattle.h5_rules.proofs.modes.BodyRowLaws.{table_text_passes, template_passes
 use Rattle.h5_rules.proofs.rows.ByNameLaws.{holds_by_name, holds_chosen}
 use Rattle.h5_rules.proofs.rows.KeptLaws.{FitsAs, apply_append}
 use Rattle.h5_rules.proofs.changes.ListsLaws.{IsSteady, NeedsOfAll, steady_changes}
+use Rattle.h5_rules.specs.stack.Expected.{is_expected}
 
 -- rules of the body with foster parenting on
 stays_fostered : (choices : SinkChoices) (w : World) (k : IsSteady w) (m : InsertionMode) → goes_by_body m ≡ true → (t : TurnText) → HasText t → Stays choices w k m (foster in_body t w)
@@ -135,7 +136,7 @@ module _ (choices : SinkChoices) (w : World) (k : IsSteady w) where
   stays_close_caption : (changes : List Change) (ending : Ending) → NeedsOfAll changes → Stays choices w k InCaption (close_the_caption changes ending w)
   unfolding close_the_caption
   stays_close_caption changes ending needs =
-      chosen InCaption (named_in_table_scope (codes "caption") w) (row_if (current_is (codes "caption") w) (GenerateImpliedEnd ∷ PopUntilNamed (codes "caption") ∷ ClearActiveFormattingToMarker ∷ changes) ending) (tt, (tt, (tt, needs)))
+      chosen InCaption (named_in_table_scope (codes "caption") w) (row_if (is_expected is_implied (is_html_named (codes "caption")) (names_of w)) (GenerateImpliedEnd ∷ PopUntilNamed (codes "caption") ∷ ClearActiveFormattingToMarker ∷ changes) ending) (tt, (tt, (tt, needs)))
 
   stays_caption_tag : (kind : TagKind) (tag : TagText) → Stays choices w k InCaption (by_kind kind (by_name in_caption_start (of_tag in_body) tag w) (by_name in_caption_end (of_tag in_body) tag w))
   unfolding in_caption_start in_caption_end
@@ -227,7 +228,7 @@ module _ (choices : SinkChoices) (w : World) (k : IsSteady w) where
   -- in a cell
   stays_end_cell : (tag : TagText) → Stays choices w k InCell (in_cell_end_cell tag w)
   unfolding in_cell_end_cell
-  stays_end_cell tag = chosen InCell (named_in_table_scope tag.name w) (row_if (current_is tag.name w) (GenerateImpliedEnd ∷ PopUntilNamed tag.name ∷ ClearActiveFormattingToMarker ∷ SetMode InRow ∷ []) IsDone) (tt, (tt, (tt, (tt, tt))))
+  stays_end_cell tag = chosen InCell (named_in_table_scope tag.name w) (row_if (is_expected is_implied (is_html_named tag.name) (names_of w)) (GenerateImpliedEnd ∷ PopUntilNamed tag.name ∷ ClearActiveFormattingToMarker ∷ SetMode InRow ∷ []) IsDone) (tt, (tt, (tt, (tt, tt))))
 
   stays_start_structure : (tag : TagText) → Stays choices w k InCell (in_cell_start_structure tag w)
   unfolding in_cell_start_structure

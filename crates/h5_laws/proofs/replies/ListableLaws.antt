@@ -4,7 +4,7 @@ use Rattle.h5_token.specs.TokenText.{TagText}
 use Rattle.h5_token.specs.declared.tag.TagKind.{TagKind}
 use Rattle.h5_token.specs.declared.tag.TagKind.TheVariants.{StartTag, EndTag}
 use Rattle.h5_interface.specs.declared.marks.QuirksMode.TheVariants.{Quirks}
-use Rattle.h5_tag_sets.specs.TagSets.{is_cell, is_one_of, is_table_body_context, is_table_row_context}
+use Rattle.h5_tag_sets.specs.TagSets.{is_cell, is_html_named, is_implied, is_one_of, is_table_body_context, is_table_row_context}
 use Rattle.h5_rules.specs.stack.Scope.{has_template}
 use Rattle.h5_types.specs.TurnText.{TurnText, TagTurn, CommentTurn, TextTurn, NullTurn, EofTurn}
 use Rattle.h5_types.specs.declared.modes.InsertionMode.{InsertionMode}
@@ -44,6 +44,7 @@ use Rattle.h5_rules.specs.modes.InTemplate.{in_template_as, in_template_end, in_
 use Rattle.h5_rules.specs.modes.InFrameset.{in_frameset_end, in_frameset_end_frameset, in_frameset_start, in_frameset_tag, is_in_frameset, is_root_alone}
 use Rattle.h5_rules.specs.modes.AfterFrameset.{after_frameset_end, after_frameset_start, after_frameset_tag}
 use Rattle.h5_rules.specs.modes.AfterAfterFrameset.{after_after_frameset_tag}
+use Rattle.h5_rules.specs.stack.Expected.{is_expected}
 
 -- BEFORE the body, and after it
 told_html : (tag : TagText) (w : World) → IsTold (in_body_start_html tag w)
@@ -241,7 +242,7 @@ module _ (tag : TagText) (w : World) where
   unfolding close_the_caption
   caption_close changes x h =
       told_chosen (named_in_table_scope (codes "caption") w)
-      (row_if (current_is (codes "caption") w) (GenerateImpliedEnd ∷ PopUntilNamed (codes "caption") ∷ ClearActiveFormattingToMarker ∷ changes) x) ignored (closes x changes h) (tt, tt)
+      (row_if (is_expected is_implied (is_html_named (codes "caption")) (names_of w)) (GenerateImpliedEnd ∷ PopUntilNamed (codes "caption") ∷ ClearActiveFormattingToMarker ∷ changes) x) ignored (closes x changes h) (tt, tt)
     where
       closes : (y : Ending) (xs : List Change) → AllListable xs × Tells y xs
           → AllListable (GenerateImpliedEnd ∷ PopUntilNamed (codes "caption") ∷ ClearActiveFormattingToMarker ∷ xs) × Tells y (GenerateImpliedEnd ∷ PopUntilNamed (codes "caption") ∷ ClearActiveFormattingToMarker ∷ xs)
@@ -289,7 +290,7 @@ module _ (tag : TagText) (w : World) where
   cell_rows StartTag = holds_by_name IsTold in_cell_start (of_tag in_body) tag w ((λ p. told_chosen (in_table_scope is_cell w) (close_the_cell w) ignored (tt, (refl, tt)) (tt, tt)), tt) (λ n. body_tag_rows tag w)
   cell_rows EndTag =
       holds_by_name IsTold in_cell_end (of_tag in_body) tag w (
-        (λ p. told_chosen (named_in_table_scope tag.name w) (row_if (current_is tag.name w) (GenerateImpliedEnd ∷ PopUntilNamed tag.name ∷ ClearActiveFormattingToMarker ∷ SetMode InRow ∷ []) IsDone) ignored (tt, (refl, tt)) (tt, tt)),
+        (λ p. told_chosen (named_in_table_scope tag.name w) (row_if (is_expected is_implied (is_html_named tag.name) (names_of w)) (GenerateImpliedEnd ∷ PopUntilNamed tag.name ∷ ClearActiveFormattingToMarker ∷ SetMode InRow ∷ []) IsDone) ignored (tt, (refl, tt)) (tt, tt)),
         ((λ p. told_chosen (named_in_table_scope tag.name w) (close_the_cell w) ignored (tt, (refl, tt)) (tt, tt)), ((λ p. (tt, tt)), tt)),
       )
       (λ n. body_tag_rows tag w)

@@ -17,7 +17,7 @@ use Rattle.h5_rules.specs.modes.BeforeHead.{before_head_end, before_head_tag}
 use Rattle.h5_rules.specs.modes.BeforeHtml.{before_html_end, before_html_tag}
 use Rattle.h5_rules.specs.ByName.{Rules, by_kind, by_name, ignored_tag, is_among, of_tag}
 use Rattle.h5_rules.specs.Changes.{set_foster}
-use Rattle.h5_rules.specs.modes.InBody.{body_ends, body_in_scope, close_the_form, form_in_scope, if_body_in_scope, in_body, in_body_end, in_body_end_block, in_body_end_blocks, in_body_end_description, in_body_end_form, in_body_end_heading, in_body_end_inline, in_body_end_li, in_body_end_marked, in_body_end_option, in_body_end_other, in_body_end_p, in_body_tag, named_in_scope, no_template_mode}
+use Rattle.h5_rules.specs.modes.InBody.{body_ends, body_in_scope, close_open_form, close_the_form, form_in_scope, if_body_in_scope, in_body, in_body_end, in_body_end_block, in_body_end_blocks, in_body_end_description, in_body_end_form, in_body_end_heading, in_body_end_inline, in_body_end_li, in_body_end_marked, in_body_end_option, in_body_end_other, in_body_end_p, in_body_tag, named_in_scope, no_template_mode}
 use Rattle.h5_rules.specs.modes.InCaption.{close_the_caption, in_caption_end, in_caption_tag}
 use Rattle.h5_rules.specs.modes.InCell.{close_the_cell, in_cell_end, in_cell_end_cell, in_cell_end_structure, in_cell_tag}
 use Rattle.h5_rules.specs.modes.InColumnGroup.{close_the_column_group, in_column_group_else, in_column_group_end, in_column_group_tag}
@@ -90,7 +90,7 @@ closes_form None w = tt
 closes_form (Some form) w = chosen (form_in_scope form w) _ _ tt tt
 
 body_end : (tag : TagText) (w : World) → Silent (by_name in_body_end in_body_end_other tag w).ending
-unfolding in_body_end in_body_end_blocks in_body_end_inline in_body_end_block in_body_end_form in_body_end_option in_body_end_p in_body_end_li in_body_end_description in_body_end_heading in_body_end_marked in_body_end_other
+unfolding in_body_end in_body_end_blocks in_body_end_inline in_body_end_block in_body_end_form close_open_form in_body_end_option in_body_end_p in_body_end_li in_body_end_description in_body_end_heading in_body_end_marked in_body_end_other
 body_end tag w =
     named_silent in_body_end in_body_end_other tag w (
       if_in_scope (body_ends [] (Again AfterBody) w) w tt,

@@ -52,8 +52,8 @@ step_told choices t w n = record {
   leaves =
       let v = leave_foreign_content choices w in
       let told = (lawful v.mode).told t v (ap is_text (left_mode choices w) ∙ n) in (told.0, tells_left (rule v.mode t v).ending (rule v.mode t v).changes told.1);
-  stays = (lawful w.mode).told t w n;
-  ignores = (tt, tt);
+  stays = λ quiet. (lawful w.mode).told t w n;
+  ignores = λ quiet. (tt, tt);
   starts = λ tag. chosen tag.self_closing _ _ (tt, tt) (tt, tt);
   ends = λ tag e. (tt, tt);
   comments = λ x. (tt, tt);
@@ -75,8 +75,8 @@ dispatch_told choices t w n =
 step_silent : (choices : SinkChoices) (t : TurnText) (w : World) → is_text w.mode ≡ false → is_start_turn t ≡ false → Steps w (λ x. Unit {0}) (λ x. Silent (row_of choices x t w).ending)
 step_silent choices t w n s = record {
   leaves = (lawful (leave_foreign_content choices w).mode).silent t (leave_foreign_content choices w) (ap is_text (left_mode choices w) ∙ n) s;
-  stays = (lawful w.mode).silent t w n s;
-  ignores = tt;
+  stays = λ quiet. (lawful w.mode).silent t w n s;
+  ignores = λ quiet. tt;
   starts = λ tag. chosen tag.self_closing _ _ tt tt;
   ends = λ tag e. tt;
   comments = λ x. tt;
@@ -135,8 +135,8 @@ left_rank choices t w h =
 abbrev pub FallsIn : SinkChoices → TurnText → World → Row → Type 0
 FallsIn choices t w r = (k : InsertionMode) → next_mode r.ending (changed_by choices r w) ≡ Some k → rank_of t (set_mode k (changed_by choices r w)) < rank_of t w
 
-mode_falls : (choices : SinkChoices) (xs : List Change) (t : TurnText) (w : World) → let v = apply_all choices xs w in rank_of t v ≡ rank_of t w → FallsIn choices t v (rule v.mode t v) → FallsIn choices t w (by_mode choices xs t w)
-mode_falls choices xs t w same f =
+mode_falls : (choices : SinkChoices) (quiet : Bool) (xs : List Change) (t : TurnText) (w : World) → let v = apply_all choices xs w in rank_of t v ≡ rank_of t w → FallsIn choices t v (rule v.mode t v) → FallsIn choices t w (by_mode choices quiet xs t w)
+mode_falls choices quiet xs t w same f =
     let v = apply_all choices xs w in
     let r = rule v.mode t v in
     subst (λ (u : World). (k : InsertionMode) → next_mode r.ending u ≡ Some k → rank_of t (set_mode k u) < rank_of t w) (sym (apply_append choices xs r.changes w))
@@ -149,9 +149,9 @@ chosen_falls choices t w false r s f g = g
 steps_fall : (choices : SinkChoices) (t : TurnText) (w : World) → is_eof (kind_of_turn t) ≡ false → FallsIn choices t w (rule w.mode t w) → (let v = leave_foreign_content choices w in FallsIn choices t v (rule v.mode t v))
     → Steps w (λ x. Unit {0}) (λ x. FallsIn choices t w (row_of choices x t w))
 steps_fall choices t w h f g = record {
-  leaves = mode_falls choices (LeaveForeignContent ∷ []) t w (left_rank choices t w h) g;
-  stays = mode_falls choices [] t w refl f;
-  ignores = λ k e. absurd (cc);
+  leaves = mode_falls choices false (LeaveForeignContent ∷ []) t w (left_rank choices t w h) g;
+  stays = λ quiet. mode_falls choices quiet [] t w refl f;
+  ignores = λ quiet k e. absurd (cc);
   starts = λ tag. chosen_falls choices t w tag.self_closing _ _ (λ k e. absurd (cc)) (λ k e. absurd (cc));
   ends = λ tag e k d. absurd (cc);
   comments = λ x k e. absurd (cc);

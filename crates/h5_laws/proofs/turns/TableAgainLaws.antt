@@ -9,7 +9,7 @@ use Rattle.h5_token.specs.Reply.{RunsScript}
 use Rattle.h5_token.specs.TokenText.{TagText}
 use Rattle.h5_token.specs.declared.tag.TagKind.{TagKind}
 use Rattle.h5_token.specs.declared.tag.TagKind.TheVariants.{StartTag, EndTag}
-use Rattle.h5_tag_sets.specs.TagSets.{cell_names, is_cell, is_one_of, is_table_body_context, is_table_row_context}
+use Rattle.h5_tag_sets.specs.TagSets.{cell_names, is_cell, is_html_named, is_implied, is_one_of, is_table_body_context, is_table_row_context}
 use Rattle.h5_rules.specs.stack.Scope.{has_template}
 use Rattle.h5_types.specs.TurnText.{TurnText, TagTurn, CommentTurn, TextTurn, NullTurn, EofTurn}
 use Rattle.h5_types.specs.declared.modes.InsertionMode.{InsertionMode}
@@ -50,6 +50,7 @@ use Rattle.h5_rules.specs.World.{World, current, names_of}
 use Rattle.h5_laws.proofs.turns.AgainLaws.{Leads, RowStops, Stops, kind_of_end, kind_of_start, kind_of_tag, kind_of_turn, leads_after_after_body, leads_after_body, leads_after_head, leads_before_head, leads_before_html, leads_in_body, leads_in_head, leads_in_head_noscript, leads_initial_else, part_end_names, part_names, row_stops, stops_body_tag, stops_choose, stops_leads}
 use Rattle.h5_rules.proofs.modes.BodyRowLaws.{head_start_passes, noframes_passes, row_end_template, row_head_start, table_text_passes, template_passes}
 use Rattle.h5_rules.proofs.rows.ByNameLaws.{holds_by_name, holds_chosen, of_named, HoldsOfAll}
+use Rattle.h5_rules.specs.stack.Expected.{is_expected}
 
 of_set : (P : List ℕ → Type 0) (set : List (List ℕ)) (l : List ℕ) → HoldsOfAll P set → is_one_of set l ≡ true → P l
 of_set P [] l a h = absurd (cc)
@@ -314,7 +315,7 @@ module _ (tag : TagText) (w : World) where
   unfolding close_the_caption
   caption_close c changes x l =
       one_or_ignored c InCaption w (named_in_table_scope (codes "caption") w)
-      (row_if (current_is (codes "caption") w) (GenerateImpliedEnd ∷ PopUntilNamed (codes "caption") ∷ ClearActiveFormattingToMarker ∷ changes) x) l
+      (row_if (is_expected is_implied (is_html_named (codes "caption")) (names_of w)) (GenerateImpliedEnd ∷ PopUntilNamed (codes "caption") ∷ ClearActiveFormattingToMarker ∷ changes) x) l
 
   cell_start : edges.Again s InCell InRow → RowLeads s InCell w (in_cell_start_structure tag w)
   unfolding in_cell_start_structure
@@ -328,7 +329,7 @@ module _ (tag : TagText) (w : World) where
   unfolding in_cell_end_cell
   cell_end_cell =
       one_or_ignored e InCell w (named_in_table_scope name w)
-      (row_if (current_is name w) (GenerateImpliedEnd ∷ PopUntilNamed name ∷ ClearActiveFormattingToMarker ∷ SetMode InRow ∷ []) IsDone) tt
+      (row_if (is_expected is_implied (is_html_named name) (names_of w)) (GenerateImpliedEnd ∷ PopUntilNamed name ∷ ClearActiveFormattingToMarker ∷ SetMode InRow ∷ []) IsDone) tt
 
   column_close : (c : TurnKind) (changes : List Change) (x : Ending) → Leads c InColumnGroup x → RowLeads c InColumnGroup w (close_the_column_group changes x w)
   unfolding close_the_column_group

@@ -9,12 +9,12 @@ use Rattle.h5_tag_sets.specs.TagSets.{implied_names, is_default_scope, is_html_n
 use Rattle.h5_types.specs.declared.modes.InsertionMode.{InsertionMode}
 use Rattle.h5_rules.specs.stack.Closing.{close_list_item, close_p_element_in_button_scope, generate_implied_end, generate_implied_end_in_select}
 use Rattle.h5_rules.proofs.modes.ReadyInLaws.{ReadyIn, in_close_named, in_close_p_in_scope, in_frameset_off, in_implied, in_insert, in_insert_foreign, in_leaf, in_leaf_foreign, in_reconstruct}
-use Rattle.h5_rules.specs.modes.InBody.{close_the_form, copies_option, description_names, form_in_scope, in_body_end_description, in_body_end_form, in_body_end_li, in_body_end_marked, in_body_end_option, in_body_marked, in_body_opens, in_body_preformatted, in_body_ruby_bases, in_body_ruby_texts, in_body_start_button, in_body_start_foreign, in_body_start_form, in_body_start_hr, in_body_start_image, in_body_start_input, in_body_start_item, in_body_start_marked, in_body_start_optgroup, in_body_start_option, in_body_start_preformatted, in_body_start_ruby, in_body_start_select, list_item_names, named_in_scope, oldest_option, unless_hidden}
+use Rattle.h5_rules.specs.modes.InBody.{close_open_form, close_the_form, copies_option, description_names, form_in_scope, in_body_end_description, in_body_end_form, in_body_end_li, in_body_end_marked, in_body_end_option, in_body_marked, in_body_opens, in_body_preformatted, in_body_ruby_bases, in_body_ruby_texts, in_body_start_button, in_body_start_foreign, in_body_start_form, in_body_start_hr, in_body_start_image, in_body_start_input, in_body_start_item, in_body_start_marked, in_body_start_optgroup, in_body_start_option, in_body_start_preformatted, in_body_start_ruby_base, in_body_start_ruby_text, in_body_start_select, list_item_names, named_in_scope, oldest_option, unless_hidden}
 use Rattle.h5_rules.proofs.modes.CloseInLaws.{all_implied_keeps, in_cleared, in_close_except, in_close_other, in_copy, in_ignore_lf, in_implied_except, in_insert_form, in_list_item, in_marker, in_no_form, in_pop, in_remove_form, in_select, in_until, node_in_stack, oldest_is_open}
 use Rattle.h5_rules.specs.ByName.{named}
 use Rattle.h5_rules.specs.fitting.Fits.{goes_by_body}
 use Rattle.h5_rules.specs.formatting.Formatting.{reconstruct_active_formatting_elements}
-use Rattle.h5_rules.specs.Rows.{GenerateImpliedEnd, GenerateImpliedEndExcept, IsDone, Pop, Row, SetFramesetNotOk, apply_all, choose, ignored, row}
+use Rattle.h5_rules.specs.Rows.{IsDone, Pop, Row, SetFramesetNotOk, apply_all, choose, ignored, row}
 use Rattle.h5_rules.specs.Changes.{clear_form, generate_implied_end_except, insert_and_pop_element, insert_element, pop, pop_until_named, set_frameset_not_ok}
 use Rattle.h5_rules.specs.World.{World, names_of}
 use Rattle.h5_rules.specs.formatting.AdoptionAgency.{KeepsKinds, remove_from_stack}
@@ -225,12 +225,12 @@ module _ (choices : SinkChoices) (m : InsertionMode) (goes : goes_by_body m ≡ 
   in_start_foreign namespace foreign =
       chosen tag.self_closing _ _ (λ e. in_leaf_foreign choices m goes renewed renewed_ready _ _ _) (λ e. in_insert_foreign choices m goes renewed renewed_ready _ _ _ foreign)
 
-  pub in_start_ruby_base : is_one_of in_body_ruby_bases tag.name ≡ true → After (in_body_start_ruby GenerateImpliedEnd tag w)
+  pub in_start_ruby_base : is_one_of in_body_ruby_bases tag.name ≡ true → After (in_body_start_ruby_base tag w)
   in_start_ruby_base p =
       let plain = ruby_base_plain tag.name p in
       chosen (named_in_scope (codes "ruby") w) _ _ (λ e. opened (generate_implied_end choices w) (in_implied choices m goes w r) plain) (λ e. opened w r plain)
 
-  pub in_start_ruby_text : is_one_of in_body_ruby_texts tag.name ≡ true → After (in_body_start_ruby (GenerateImpliedEndExcept (codes "rtc")) tag w)
+  pub in_start_ruby_text : is_one_of in_body_ruby_texts tag.name ≡ true → After (in_body_start_ruby_text tag w)
   in_start_ruby_text p =
       let plain = ruby_text_plain tag.name p in
       chosen (named_in_scope (codes "ruby") w) _ _ (λ e. opened (generate_implied_end_except choices (codes "rtc") w) (in_implied_except choices m goes w r (codes "rtc")) plain) (λ e. opened w r plain)
@@ -252,7 +252,7 @@ module _ (choices : SinkChoices) (m : InsertionMode) (goes : goes_by_body m ≡ 
   closes_form (Some n) e = chosen (form_in_scope n w) _ _ (λ f. the_form n e (node_in_stack n is_default_scope (names_of w) w.stack f)) (λ f. in_no_form m goes w r)
 
   pub in_end_form : After (in_body_end_form tag w)
-  unfolding in_body_end_form
+  unfolding in_body_end_form close_open_form
   in_end_form = chosen (has_template (names_of w)) _ _
       (λ e. chosen (named_in_scope (codes "form") w) _ ignored (λ f. in_close_named choices m goes w r (codes "form") form_plain form_not_implied f) (λ f. r))
       (λ e. closes_form w.form refl)

@@ -5,9 +5,10 @@ use Rattle.h5_names.specs.AttributeText.{AttributeText}
 use Rattle.h5_names.specs.declared.known_name.KnownName.TheVariants.{Html, Noframes, Template}
 use Rattle.h5_types.specs.declared.modes.InsertionMode.TheVariants.{AfterBody}
 use Rattle.h5_token.specs.TokenText.{TagText}
-use Rattle.h5_tag_sets.specs.TagSets.{is_default_scope, is_heading, is_html_named, is_list_item_scope, is_one_of, mathml_namespace, svg_namespace}
-use Rattle.h5_rules.specs.modes.InBody.{body_ends, body_in_scope, close_the_form, copies_option, form_in_scope, if_body_in_scope, in_body_end, in_body_end_block, in_body_end_blocks, in_body_end_body, in_body_end_br, in_body_end_description, in_body_end_form, in_body_end_formatting, in_body_end_heading, in_body_end_html, in_body_end_inline, in_body_end_li, in_body_end_marked, in_body_end_option, in_body_end_other, in_body_end_p, in_body_start, in_body_start_blocks, in_body_start_body, in_body_start_button, in_body_start_embedded, in_body_start_foreign, in_body_start_form, in_body_start_frameset, in_body_start_inline, in_body_start_input, in_body_start_noscript, in_body_start_optgroup, in_body_start_option, in_body_start_other, in_body_start_ruby, in_body_start_select, in_body_start_table, is_quirks, named_in_scope, oldest_option, unless_hidden}
-use Rattle.h5_rules.specs.stack.Scope.{comes_before_special, has_p_in_button_scope, has_template, in_scope, second_is}
+use Rattle.h5_tag_sets.specs.TagSets.{is_default_scope, is_heading, is_html_named, is_implied, is_list_item_scope, is_one_of, mathml_namespace, svg_namespace}
+use Rattle.h5_names.specs.declared.qualified.QualName.{QualName}
+use Rattle.h5_rules.specs.modes.InBody.{body_ends, body_in_scope, close_open_form, close_the_form, copies_option, form_in_scope, if_body_in_scope, in_body_end, in_body_end_block, in_body_end_blocks, in_body_end_body, in_body_end_br, in_body_end_description, in_body_end_form, in_body_end_formatting, in_body_end_heading, in_body_end_html, in_body_end_inline, in_body_end_li, in_body_end_marked, in_body_end_option, in_body_end_other, in_body_end_p, in_body_start, in_body_start_blocks, in_body_start_body, in_body_start_button, in_body_start_embedded, in_body_start_foreign, in_body_start_form, in_body_start_frameset, in_body_start_inline, in_body_start_input, in_body_start_noscript, in_body_start_optgroup, in_body_start_option, in_body_start_other, in_body_start_ruby, in_body_start_select, in_body_start_table, is_quirks, is_ruby_or_rtc, named_in_scope, oldest_option, unless_hidden}
+use Rattle.h5_rules.specs.stack.Scope.{comes_before_special, has_p_in_button_scope, has_template, in_scope, is_implied_but, second_is}
 use Rattle.h5_rules.specs.Rows.{AddAttrsToHtml, AddAttrsToSecond, Answers, Change, Ending, GenerateImpliedEnd, GenerateImpliedEndExcept, InsertAndPopElement, IsAcknowledged, IsDone, Row, SetFramesetNotOk, SetMode, choose, errs, ignored, row}
 use Rattle.h5_rules.specs.modes.Shared.{current_is, head_start_names, in_body_start_html, inserts, is_context, is_type_hidden}
 use Rattle.h5_rules.specs.World.{World, names_of}
@@ -114,8 +115,8 @@ module _ (tag : TagText) (w : World) where
   row_start_foreign : (namespace : List ℕ) → IsBodyRow (in_body_start_foreign namespace tag w)
   row_start_foreign namespace = chosen_row tag.self_closing _ _ (is_row _ tt (tt, tt)) (is_row _ tt (tt, tt))
 
-  row_start_ruby : (implied : Change) → AllListable (implied ∷ inserts tag ∷ []) × NoText (implied ∷ inserts tag ∷ []) → IsBodyRow (in_body_start_ruby implied tag w)
-  row_start_ruby implied l = chosen_row (named_in_scope (codes "ruby") w) _ _ (is_row _ tt l) (is_row _ tt (tt, tt))
+  row_start_ruby : (implied : Change) (popped is : QualName → Bool) → AllListable (implied ∷ inserts tag ∷ []) × NoText (implied ∷ inserts tag ∷ []) → IsBodyRow (in_body_start_ruby implied popped is tag w)
+  row_start_ruby implied popped is l = chosen_row (named_in_scope (codes "ruby") w) _ _ (is_row _ tt l) (is_row _ tt (tt, tt))
 
   row_start_noscript : IsBodyRow (in_body_start_noscript tag w)
   unfolding in_body_start_noscript
@@ -225,9 +226,9 @@ module _ (tag : TagText) (w : World) where
                                                             (
                                                               (λ p. row_start_optgroup),
                                                               (
-                                                                (λ p. row_start_ruby GenerateImpliedEnd (tt, tt)),
+                                                                (λ p. row_start_ruby GenerateImpliedEnd is_implied (is_html_named (codes "ruby")) (tt, tt)),
                                                                 (
-                                                                  (λ p. row_start_ruby (GenerateImpliedEndExcept (codes "rtc")) (tt, tt)),
+                                                                  (λ p. row_start_ruby (GenerateImpliedEndExcept (codes "rtc")) (is_implied_but (codes "rtc")) is_ruby_or_rtc (tt, tt)),
                                                                   ((λ p. row_start_foreign mathml_namespace), ((λ p. row_start_foreign svg_namespace), ((λ p. ignored_row), tt))),
                                                                 ),
                                                               ),
@@ -277,7 +278,7 @@ module _ (tag : TagText) (w : World) where
   close_form_row (Some form) = chosen_row (form_in_scope form w) _ _ (is_row _ tt (tt, tt)) (is_row _ tt (tt, tt))
 
   row_end_form : IsBodyRow (in_body_end_form tag w)
-  unfolding in_body_end_form
+  unfolding in_body_end_form close_open_form
   row_end_form = chosen_row (has_template (names_of w)) _ _ (chosen_row (named_in_scope (codes "form") w) _ ignored (is_row _ tt (tt, tt)) ignored_row) (close_form_row w.form)
 
   copies_told : (o : Option ℕ) → AllListable (copies_option o) × NoText (copies_option o)

@@ -1,8 +1,9 @@
 -- A token that goes by the rule of the body, with foster parenting on.
-use Rattle.std.proofs.Common.{◌≡◌, ℕ, true, false, [], ◌∷◌, Some, refl, sym, subst, ap, ◌∙◌, codes}
+use Rattle.std.proofs.Common.{◌≡◌, ◌<◌, ℕ, true, false, [], ◌∷◌, Some, refl, sym, subst, ap, ◌∙◌, codes}
 use Rattle.h5_interface.specs.SinkChoices.{SinkChoices}
 use Rattle.h5_rules.proofs.rows.ByNameLaws.{holds_chosen}
 use Rattle.h5_rules.proofs.rows.KeptLaws.{apply_append}
+use Rattle.h5_rules.proofs.rows.MarkLaws.{still_told}
 use Rattle.h5_rules.specs.ByName.{by_kind, by_name}
 use Rattle.h5_rules.specs.Changes.{set_foster}
 use Rattle.h5_rules.specs.modes.InBody.{body_ends, body_in_scope, if_body_in_scope, in_body, in_body_end, in_body_end_other, in_body_start, in_body_start_other, in_body_tag, no_template_mode}
@@ -82,12 +83,13 @@ outright_ends node t (results.Answer answer) e v k h = h
 
 -- a turn by the body while foster parenting is on, and the flag goes off behind it
 pub foster_follows : {H : Type 0} (choices : SinkChoices) (node : H → ℕ) (t : TurnText) (w v u : World) (a b c d : ℕ) (result : TurnResult H) → Follows choices node (in_body t (set_foster true w)) t (set_foster true w) v a b result → u ≡ set_foster false v
-    → Follows choices node (foster in_body t w) t w u c d result
-foster_follows choices node t w v u a b c d result f e =
+    → 0 < a → d ≡ b → Follows choices node (foster in_body t w) t w u c d result
+foster_follows choices node t w v u a b c d result f e told same =
     let on = set_foster true w in
     let r = in_body t on in
     record {
       world = e ∙ ap (set_foster false) f.world ∙ sym (apply_append choices r.changes (SetFoster false ∷ []) on);
       ending = subst (EndsAs node t result r.ending) (sym e) (outright_ends node t result r.ending v (body_is_outright t on) f.ending);
       quiet = λ h. absurd (cc);
+      noted = λ h. subst (λ n. 0 < n) (sym same) (still_told choices node r t on v a b result f told);
     }

@@ -4,7 +4,9 @@ use Rattle.h5_token.specs.TokenText.{TagText}
 use Rattle.h5_interface.specs.SinkChoices.{SinkChoices}
 use Rattle.h5_rules.specs.formatting.FormattingList.{Entry, ElementEntry, MarkerEntry, clear_to_marker, closed_front, push_formatting, reconstructed}
 use Rattle.h5_rules.specs.Changes.{insert_element}
-use Rattle.h5_rules.specs.World.{World, current}
+use Rattle.h5_rules.specs.World.{World, current, names_of}
+use Rattle.h5_rules.specs.formatting.FormattingNames.{html_name}
+use Rattle.h5_names.specs.declared.qualified.QualName.{QualName}
 
 -- an HTML element for a tag, at the place of insertion, pushed
 abbrev pub insert_for : SinkChoices → TagText → World → World
@@ -32,6 +34,15 @@ reconstruct_active_formatting_elements choices w =
     let front = closed_front w.stack w.formatting in
     let v = insert_anew choices front w in
     record v { formatting = reconstructed (take (length front) v.stack) w.stack w.formatting }
+
+-- the names of open elements, once entries' elements were made anew
+abbrev pub names_made_anew : List Entry → List QualName → List QualName
+names_made_anew [] names = names
+names_made_anew (MarkerEntry ∷ l) names = names_made_anew l names
+names_made_anew (ElementEntry n tag ∷ l) names = html_name tag.name ∷ names_made_anew l names
+
+unfoldable pub names_anew : World → List QualName
+names_anew w = names_made_anew (closed_front w.stack w.formatting) (names_of w)
 
 -- whether reconstructing changes nothing
 abbrev pub is_reconstructed : World → Bool

@@ -1,5 +1,5 @@
 -- HTML standard, section 13.2.6.5, "The rules for parsing tokens in foreign content".
-use Rattle.std.specs.Prelude.{ℕ, Bool, ◌&&◌, ◌||◌, if◌then◌else◌, List, [], ◌∷◌, ◌++◌, codes}
+use Rattle.std.specs.Prelude.{ℕ, Bool, ◌&&◌, ◌||◌, if◌then◌else◌, List, [], ◌∷◌, ◌++◌, codes, true, false}
 use Rattle.std.specs.List.{list_any}
 use Rattle.h5_names.specs.AttributeText.{AttributeText, is_same_text}
 use Rattle.h5_names.specs.declared.qualified.QualName.{QualName}
@@ -9,18 +9,18 @@ use Rattle.h5_token.specs.declared.tag.TagKind.TheVariants.{EndTag, StartTag}
 use Rattle.h5_interface.specs.SinkChoices.{SinkChoices}
 use Rattle.h5_tag_sets.specs.TagSets.{is_one_of}
 use Rattle.h5_types.specs.TurnText.{CommentTurn, EofTurn, NullTurn, TagTurn, TextTurn, TurnText}
-use Rattle.h5_rules.specs.stack.Scope.{first_passes}
 use Rattle.h5_rules.specs.fitting.NamesFit.{is_html_element}
 use Rattle.h5_rules.specs.insertion.Foreign.{adjusted_attributes, adjusted_local, adjusted_namespace, foreign_name, is_foreign, is_named_in_any_case}
 use Rattle.h5_rules.specs.modes.Modes.{rule}
-use Rattle.h5_rules.specs.Rows.{AppendComment, AppendText, Change, IsDone, LeaveForeignContent, PopUntilNamedInAnyCase, Row, SetFramesetOkByText, apply_all, choose, errs, ignored, row, row_if}
+use Rattle.h5_rules.specs.Rows.{AppendComment, AppendText, Change, IsDone, LeaveForeignContent, PopUntilNamedInAnyCase, Row, SetFramesetOkByText, apply_all, choose, errs, row, row_if}
 use Rattle.h5_rules.specs.modes.Shared.{inserts_foreign}
 use Rattle.h5_rules.specs.World.{World, names_of}
 
--- a token in foreign content has a row of its own, or, after some changes, goes by the rules of the current mode
+-- a token in foreign content has a row of its own, or goes by the rules of the current mode after some changes, with a
+-- parse error or quietly
 pub data ForeignStep : Type 0 where
   HasRow : (row : Row) → ForeignStep
-  ByMode : (changes : List Change) → ForeignStep
+  ByMode : (quiet : Bool) → (changes : List Change) → ForeignStep
 
 -- start tags that leave foreign content
 unfoldable pub foreign_breakout_names : List (List ℕ)
@@ -47,7 +47,7 @@ unfoldable pub foreign_breakout_end_names : List (List ℕ)
 foreign_breakout_end_names = codes "br" ∷ codes "p" ∷ []
 
 abbrev pub unexpected_in_foreign_content : ForeignStep
-unexpected_in_foreign_content = ByMode (LeaveForeignContent ∷ [])
+unexpected_in_foreign_content = ByMode false (LeaveForeignContent ∷ [])
 
 -- any other start tag: an element in the namespace of the adjusted current node
 abbrev pub foreign_start_other : TagText → World → Row
@@ -70,11 +70,16 @@ search_end local (n ∷ []) = ReachesRoot
 search_end local (n ∷ m ∷ ns) =
     if is_html_element n then ReachesHtml else (if is_named_in_any_case local n then Finds else search_end local (m ∷ ns))
 
+-- the current node is expected to have its name, unless that is the root
+abbrev pub is_expected_end : List ℕ → List QualName → Bool
+is_expected_end local [] = true
+is_expected_end local (n ∷ []) = true
+is_expected_end local (n ∷ m ∷ ns) = is_named_in_any_case local n
+
 abbrev pub foreign_end_by : EndSearch → TagText → World → ForeignStep
-foreign_end_by ReachesRoot tag w = HasRow ignored
-foreign_end_by ReachesHtml tag w = ByMode []
-foreign_end_by Finds tag w =
-    HasRow (row_if (first_passes (is_named_in_any_case tag.name) (names_of w)) (PopUntilNamedInAnyCase tag.name ∷ []) IsDone)
+foreign_end_by ReachesRoot tag w = HasRow (row_if (is_expected_end tag.name (names_of w)) [] IsDone)
+foreign_end_by ReachesHtml tag w = ByMode (is_expected_end tag.name (names_of w)) []
+foreign_end_by Finds tag w = HasRow (row_if (is_expected_end tag.name (names_of w)) (PopUntilNamedInAnyCase tag.name ∷ []) IsDone)
 
 unfoldable pub foreign_end : TagText → World → ForeignStep
 foreign_end tag w =
@@ -97,19 +102,19 @@ foreign_step (TagTurn tag) w = foreign_tag tag.kind tag w
 foreign_step (CommentTurn text) w = HasRow (row (AppendComment text ∷ []) IsDone)
 foreign_step (TextTurn status text) w = HasRow (foreign_text_row text)
 foreign_step NullTurn w = HasRow (errs (AppendText replacement_text ∷ []) IsDone)
-foreign_step EofTurn w = HasRow ignored
+foreign_step EofTurn w = HasRow (row [] IsDone)
 
 -- "reprocess the token according to the rules given in the section corresponding to the current insertion mode", in the
 -- same turn, in the world after these changes
-abbrev pub by_mode : SinkChoices → List Change → TurnText → World → Row
-by_mode choices changes t w =
+abbrev pub by_mode : SinkChoices → Bool → List Change → TurnText → World → Row
+by_mode choices quiet changes t w =
     let v = apply_all choices changes w in
     let r = rule v.mode t v in
-    errs (changes ++ r.changes) r.ending
+    row_if (quiet && r.quiet) (changes ++ r.changes) r.ending
 
 abbrev pub row_of : SinkChoices → ForeignStep → TurnText → World → Row
 row_of choices (HasRow row) t w = row
-row_of choices (ByMode changes) t w = by_mode choices changes t w
+row_of choices (ByMode quiet changes) t w = by_mode choices quiet changes t w
 
 -- THE RULE of a token, whichever it goes by ("the tree construction dispatcher")
 unfoldable pub dispatch : SinkChoices → TurnText → World → Row

@@ -1,11 +1,12 @@
 -- HTML standard, section 13.2.6.4.7, the "in body" insertion mode.
-use Rattle.std.specs.Prelude.{ℕ, Bool, true, false, not, ◌&&◌, if◌then◌else◌, is_none, is_some, List, [], ◌∷◌, ◌++◌, Option, None, Some, codes}
+use Rattle.std.specs.Prelude.{ℕ, Bool, true, false, not, ◌&&◌, if◌then◌else◌, is_some, List, [], ◌∷◌, ◌++◌, Option, None, Some, codes, ◌||◌}
+use Rattle.h5_names.specs.declared.qualified.QualName.{QualName}
 use Rattle.h5_token.specs.TokenText.{TagText}
 use Rattle.h5_token.specs.declared.states.RawKind.TheVariants.{Rawtext, Rcdata}
 use Rattle.h5_names.specs.declared.known_name.KnownName.TheVariants.{A, Body, Br, Button, Form, Frameset, Hr, Html, Iframe, Image, Input, Math, Nobr, Noembed, Noscript, Optgroup, P, Plaintext, Select, Svg, Table, Template, Textarea, Xmp}
 use Rattle.h5_names.specs.declared.known_name.KnownName.TheVariants as known
-use Rattle.h5_tag_sets.specs.TagSets.{block_end_names, block_start_names, formatting_names, heading_names, is_default_scope, is_heading, is_html_named, is_list_item_scope, mathml_namespace, svg_namespace}
-use Rattle.h5_rules.specs.stack.Scope.{comes_before_special, first_passes, has_body_in_scope, has_p_in_button_scope, has_template, has_unclosed, in_scope, node_in_scope, oldest_passing, second_is}
+use Rattle.h5_tag_sets.specs.TagSets.{block_end_names, block_start_names, formatting_names, heading_names, is_default_scope, is_heading, is_html_named, is_implied, is_list_item_scope, mathml_namespace, svg_namespace}
+use Rattle.h5_rules.specs.stack.Scope.{comes_before_special, drop_while, first_passes, has_body_in_scope, has_p_in_button_scope, has_template, has_unclosed, in_scope, is_implied_but, node_in_scope, oldest_passing, second_is}
 use Rattle.h5_interface.specs.declared.marks.QuirksMode.{QuirksMode}
 use Rattle.h5_interface.specs.declared.marks.QuirksMode.TheVariants.{Quirks}
 use Rattle.h5_types.specs.TurnText.{CommentTurn, EofTurn, NullTurn, TagTurn, TextTurn, TurnText}
@@ -13,15 +14,15 @@ use Rattle.h5_types.specs.declared.modes.InsertionMode.TheVariants.{AfterBody, I
 use Rattle.h5_rules.specs.formatting.AdoptionAgency.{closes_one, is_named_listed}
 use Rattle.h5_rules.specs.ByName.{AnyOf, Only, Rules, by_kind, by_name, ignored_tag}
 use Rattle.h5_rules.specs.insertion.Foreign.{adjusted_attributes, foreign_name}
-use Rattle.h5_rules.specs.formatting.Formatting.{is_reconstructed}
+use Rattle.h5_rules.specs.formatting.Formatting.{names_anew}
 use Rattle.h5_rules.specs.Rows.{AddAttrsToSecond, AdoptionAgency, Again, Answers, AppendComment, Change, ClearActiveFormattingToMarker, ClearForm, CloseListItem, ClosePElement, ClosePElementInButtonScope, CopyClosedOption, CreateFormattingElement, Ending, GenerateImpliedEnd, GenerateImpliedEndExcept, GenerateImpliedEndInSelect, HandleMisnestedATags, HandleMisnestedNobrTags, InsertAndPopElement, InsertElement, InsertForm, InsertMarker, IsAcknowledged, IsDone, Pop, PopHeading, PopUntilHeading, PopUntilNamed, ReconstructActiveFormattingElements, RemoveBody, RemoveFromStack, Row, SetFramesetNotOk, SetIgnoreLf, SetMode, choose, errs, ignored, row, row_if}
 use Rattle.h5_rules.specs.modes.Shared.{current_is, head_start_names, in_body_start_html, in_body_text, inserts, inserts_foreign, is_context, is_type_hidden, raw_text, table_structure_names}
 use Rattle.h5_rules.specs.World.{World, names_of}
 use Rattle.h5_names.specs.AttributeText.{AttributeText}
-use Rattle.h5_rules.specs.stack.Closing.{newest_item}
 use Rattle.h5_rules.specs.modes.InHead.{in_head_end_template, in_head_start_tag, template_eof}
 use Rattle.h5_token.specs.Reply.{TurnsPlain, TurnsRaw}
 use Rattle.h5_types.specs.declared.modes.InsertionMode.{InsertionMode}
+use Rattle.h5_rules.specs.stack.Expected.{is_expected, is_expected_item, is_expected_node, is_expected_p, names_behind_item, names_behind_p}
 
 -- a start tag "body"
 unfoldable pub in_body_start_body : TagText → World → Row
@@ -50,31 +51,31 @@ in_body_end_html tag w = if_body_in_scope (body_ends [] (Again AfterBody) w) w
 
 -- a start tag "address", "article", .., "ul"
 abbrev pub in_body_start_block : TagText → World → Row
-in_body_start_block tag w = row_if (not (has_p_in_button_scope (names_of w))) (ClosePElementInButtonScope ∷ inserts tag ∷ []) IsDone
+in_body_start_block tag w = row_if (is_expected_p (names_of w)) (ClosePElementInButtonScope ∷ inserts tag ∷ []) IsDone
 
 -- a start tag "h1" to "h6"
 abbrev pub in_body_start_heading : TagText → World → Row
 in_body_start_heading tag w =
-    row_if (not (has_p_in_button_scope (names_of w)) && not (first_passes is_heading (names_of w)))
+    row_if (is_expected_p (names_of w) && not (first_passes is_heading (names_behind_p (names_of w))))
     (ClosePElementInButtonScope ∷ PopHeading ∷ inserts tag ∷ []) IsDone
 
 -- an end tag "address", "article", .., "ul"
 unfoldable pub in_body_end_block : TagText → World → Row
 in_body_end_block tag w =
     choose (in_scope (is_html_named tag.name) is_default_scope (names_of w))
-    (row_if (current_is tag.name w) (GenerateImpliedEnd ∷ PopUntilNamed tag.name ∷ []) IsDone) ignored
+    (row_if (is_expected is_implied (is_html_named tag.name) (names_of w)) (GenerateImpliedEnd ∷ PopUntilNamed tag.name ∷ []) IsDone) ignored
 
 -- an end tag "h1" to "h6"
 unfoldable pub in_body_end_heading : TagText → World → Row
 in_body_end_heading tag w =
     choose (in_scope is_heading is_default_scope (names_of w))
-    (row_if (current_is tag.name w) (GenerateImpliedEnd ∷ PopUntilHeading ∷ []) IsDone) ignored
+    (row_if (is_expected is_implied (is_html_named tag.name) (names_of w)) (GenerateImpliedEnd ∷ PopUntilHeading ∷ []) IsDone) ignored
 
 -- an end tag "p"
 unfoldable pub in_body_end_p : TagText → World → Row
 in_body_end_p tag w =
     choose (has_p_in_button_scope (names_of w))
-    (row_if (current_is (codes "p") w) (ClosePElement ∷ []) IsDone)
+    (row_if (is_expected (is_implied_but (codes "p")) (is_html_named (codes "p")) (names_of w)) (ClosePElement ∷ []) IsDone)
     (errs (InsertElement (codes "p") [] false ∷ ClosePElement ∷ []) IsDone)
 
 -- a start tag "a"
@@ -89,7 +90,7 @@ in_body_start_formatting tag w = row (ReconstructActiveFormattingElements ∷ Cr
 -- a start tag "nobr"
 abbrev pub in_body_start_nobr : TagText → World → Row
 in_body_start_nobr tag w =
-    row_if (is_reconstructed w && not (in_scope (is_html_named (codes "nobr")) is_default_scope (names_of w)))
+    row_if (not (in_scope (is_html_named (codes "nobr")) is_default_scope (names_anew w)))
     (ReconstructActiveFormattingElements ∷ HandleMisnestedNobrTags ∷ CreateFormattingElement tag ∷ []) IsDone
 
 -- an end tag "a", "b", .., "u"
@@ -117,7 +118,7 @@ is_quirks _ = false
 unfoldable pub in_body_start_table : TagText → World → Row
 in_body_start_table tag w =
     let opens : List Change = inserts tag ∷ SetFramesetNotOk ∷ SetMode InTable ∷ [] in
-    choose (is_quirks w.quirks) (row opens IsDone) (row_if (not (has_p_in_button_scope (names_of w))) (ClosePElementInButtonScope ∷ opens) IsDone)
+    choose (is_quirks w.quirks) (row opens IsDone) (row_if (is_expected_p (names_of w)) (ClosePElementInButtonScope ∷ opens) IsDone)
 
 -- start tags of what stands in tables, or before the body, are ignored
 unfoldable pub outside_names : List (List ℕ)
@@ -141,13 +142,13 @@ in_body_preformatted = codes "pre" ∷ codes "listing" ∷ []
 
 abbrev pub in_body_start_preformatted : TagText → World → Row
 in_body_start_preformatted tag w =
-    row_if (not (has_p_in_button_scope (names_of w))) (ClosePElementInButtonScope ∷ inserts tag ∷ SetIgnoreLf ∷ SetFramesetNotOk ∷ []) IsDone
+    row_if (is_expected_p (names_of w)) (ClosePElementInButtonScope ∷ inserts tag ∷ SetIgnoreLf ∷ SetFramesetNotOk ∷ []) IsDone
 
 -- a start tag "form"
 unfoldable pub in_body_start_form : TagText → World → Row
 in_body_start_form tag w =
     choose (is_some w.form && not (has_template (names_of w))) ignored
-    (row_if (not (has_p_in_button_scope (names_of w))) (ClosePElementInButtonScope ∷ InsertForm tag.attrs tag.had_duplicate_attributes ∷ []) IsDone)
+    (row_if (is_expected_p (names_of w)) (ClosePElementInButtonScope ∷ InsertForm tag.attrs tag.had_duplicate_attributes ∷ []) IsDone)
 
 -- a start tag "li", and a start tag "dd", "dt"
 unfoldable pub list_item_names : List (List ℕ)
@@ -158,19 +159,20 @@ description_names = codes "dd" ∷ codes "dt" ∷ []
 
 abbrev pub in_body_start_item : List (List ℕ) → TagText → World → Row
 in_body_start_item locals tag w =
-    row_if (is_none (newest_item locals (names_of w)) && not (has_p_in_button_scope (names_of w)))
+    row_if (is_expected_item locals (names_of w) && is_expected_p (names_behind_item locals (names_of w)))
     (SetFramesetNotOk ∷ CloseListItem locals ∷ ClosePElementInButtonScope ∷ inserts tag ∷ []) IsDone
 
 -- an end tag "li"
 unfoldable pub in_body_end_li : TagText → World → Row
 in_body_end_li tag w =
     choose (in_scope (is_html_named (codes "li")) is_list_item_scope (names_of w))
-    (row_if (current_is (codes "li") w) (GenerateImpliedEndExcept (codes "li") ∷ PopUntilNamed (codes "li") ∷ []) IsDone) ignored
+    (row_if (is_expected (is_implied_but (codes "li")) (is_html_named (codes "li")) (names_of w)) (GenerateImpliedEndExcept (codes "li") ∷ PopUntilNamed (codes "li") ∷ []) IsDone) ignored
 
 -- an end tag "dd", "dt"
 unfoldable pub in_body_end_description : TagText → World → Row
 in_body_end_description tag w =
-    choose (named_in_scope tag.name w) (row_if (current_is tag.name w) (GenerateImpliedEndExcept tag.name ∷ PopUntilNamed tag.name ∷ []) IsDone) ignored
+    choose (named_in_scope tag.name w)
+    (row_if (is_expected (is_implied_but tag.name) (is_html_named tag.name) (names_of w)) (GenerateImpliedEndExcept tag.name ∷ PopUntilNamed tag.name ∷ []) IsDone) ignored
 
 -- a start tag "button"
 unfoldable pub in_body_start_button : TagText → World → Row
@@ -185,12 +187,19 @@ form_in_scope form w = node_in_scope form is_default_scope (names_of w) w.stack
 unfoldable pub close_the_form : Option ℕ → World → Row
 close_the_form None w = ignored
 close_the_form (Some form) w =
-    choose (form_in_scope form w) (errs (ClearForm ∷ GenerateImpliedEnd ∷ RemoveFromStack form ∷ []) IsDone) (errs (ClearForm ∷ []) IsDone)
+    choose (form_in_scope form w)
+    (row_if (is_expected_node form (names_of w) w.stack) (ClearForm ∷ GenerateImpliedEnd ∷ RemoveFromStack form ∷ []) IsDone) (errs (ClearForm ∷ []) IsDone)
+
+-- in a template, the form that is in scope
+unfoldable pub close_open_form : World → Row
+close_open_form w =
+    choose (named_in_scope (codes "form") w)
+    (row_if (is_expected is_implied (is_html_named (codes "form")) (names_of w)) (GenerateImpliedEnd ∷ PopUntilNamed (codes "form") ∷ []) IsDone) ignored
 
 unfoldable pub in_body_end_form : TagText → World → Row
 in_body_end_form tag w =
     choose (has_template (names_of w))
-    (choose (named_in_scope (codes "form") w) (errs (GenerateImpliedEnd ∷ PopUntilNamed (codes "form") ∷ []) IsDone) ignored)
+    (close_open_form w)
     (close_the_form w.form w)
 
 -- a start tag "applet", "marquee", "object", and their end tags
@@ -202,7 +211,8 @@ in_body_start_marked tag w = row (ReconstructActiveFormattingElements ∷ insert
 
 unfoldable pub in_body_end_marked : TagText → World → Row
 in_body_end_marked tag w =
-    choose (named_in_scope tag.name w) (row_if (current_is tag.name w) (GenerateImpliedEnd ∷ PopUntilNamed tag.name ∷ ClearActiveFormattingToMarker ∷ []) IsDone) ignored
+    choose (named_in_scope tag.name w)
+    (row_if (is_expected is_implied (is_html_named tag.name) (names_of w)) (GenerateImpliedEnd ∷ PopUntilNamed tag.name ∷ ClearActiveFormattingToMarker ∷ []) IsDone) ignored
 
 -- a start tag "image", which is taken for "img"
 abbrev pub in_body_start_image : TagText → World → Row
@@ -225,10 +235,16 @@ in_body_parts = codes "param" ∷ codes "source" ∷ codes "track" ∷ []
 abbrev pub in_body_start_part : TagText → World → Row
 in_body_start_part tag w = row (InsertAndPopElement tag.name tag.attrs tag.had_duplicate_attributes ∷ []) IsAcknowledged
 
--- a start tag "hr"
+-- a start tag "hr": in a `select` no option is expected to stay open
+abbrev pub has_option_in_scope : List QualName → Bool
+has_option_in_scope names = in_scope (is_html_named (codes "option")) is_default_scope names || in_scope (is_html_named (codes "optgroup")) is_default_scope names
+
+unfoldable pub is_expected_rule : List QualName → Bool
+is_expected_rule names = not (in_scope (is_html_named (codes "select")) is_default_scope names) || not (has_option_in_scope (drop_while is_implied names))
+
 abbrev pub in_body_start_hr : TagText → World → Row
 in_body_start_hr tag w =
-    row_if (not (has_p_in_button_scope (names_of w)) && not (named_in_scope (codes "select") w))
+    row_if (is_expected_p (names_of w) && is_expected_rule (names_behind_p (names_of w)))
     (ClosePElementInButtonScope ∷ GenerateImpliedEndInSelect ∷ InsertAndPopElement tag.name tag.attrs tag.had_duplicate_attributes ∷ SetFramesetNotOk ∷ []) IsAcknowledged
 
 -- a start tag "select"
@@ -242,16 +258,18 @@ in_body_start_select tag w =
 abbrev pub in_body_opens : TagText → List Change
 in_body_opens tag = ReconstructActiveFormattingElements ∷ inserts tag ∷ []
 
-abbrev pub in_body_start_in_select : List Change → TagText → World → Row
-in_body_start_in_select implied tag w =
-    choose (named_in_scope (codes "select") w) (errs (implied ++ in_body_opens tag) IsDone)
+abbrev pub in_body_start_in_select : List Change → Bool → TagText → World → Row
+in_body_start_in_select implied expected tag w =
+    choose (named_in_scope (codes "select") w) (row_if expected (implied ++ in_body_opens tag) IsDone)
     (choose (current_is (codes "option") w) (row (Pop ∷ in_body_opens tag) IsDone) (row (in_body_opens tag) IsDone))
 
 unfoldable pub in_body_start_option : TagText → World → Row
-in_body_start_option = in_body_start_in_select (GenerateImpliedEndExcept (codes "optgroup") ∷ [])
+in_body_start_option tag w =
+    in_body_start_in_select (GenerateImpliedEndExcept (codes "optgroup") ∷ [])
+    (not (in_scope (is_html_named (codes "option")) is_default_scope (drop_while (is_implied_but (codes "optgroup")) (names_of w)))) tag w
 
 unfoldable pub in_body_start_optgroup : TagText → World → Row
-in_body_start_optgroup = in_body_start_in_select (GenerateImpliedEnd ∷ [])
+in_body_start_optgroup tag w = in_body_start_in_select (GenerateImpliedEnd ∷ []) (not (has_option_in_scope (drop_while is_implied (names_of w)))) tag w
 
 -- an end tag "option": where the option that is nearest the root was closed, it is copied
 abbrev pub copies_option : Option ℕ → List Change
@@ -264,7 +282,7 @@ oldest_option w = oldest_passing (is_html_named (codes "option")) (names_of w) w
 unfoldable pub in_body_end_option : TagText → World → Row
 in_body_end_option tag w =
     choose (comes_before_special tag.name (names_of w))
-    (errs (GenerateImpliedEndExcept tag.name ∷ PopUntilNamed tag.name ∷ copies_option (oldest_option w)) IsDone) ignored
+    (row_if (is_expected (is_implied_but tag.name) (is_html_named tag.name) (names_of w)) (GenerateImpliedEndExcept tag.name ∷ PopUntilNamed tag.name ∷ copies_option (oldest_option w)) IsDone) ignored
 
 -- a start tag "rb", "rtc", and a start tag "rp", "rt"
 unfoldable pub in_body_ruby_bases : List (List ℕ)
@@ -273,8 +291,20 @@ in_body_ruby_bases = codes "rb" ∷ codes "rtc" ∷ []
 unfoldable pub in_body_ruby_texts : List (List ℕ)
 in_body_ruby_texts = codes "rp" ∷ codes "rt" ∷ []
 
-abbrev pub in_body_start_ruby : Change → TagText → World → Row
-in_body_start_ruby implied tag w = choose (named_in_scope (codes "ruby") w) (errs (implied ∷ inserts tag ∷ []) IsDone) (errs (inserts tag ∷ []) IsDone)
+abbrev pub in_body_start_ruby : Change → (popped is : QualName → Bool) → TagText → World → Row
+in_body_start_ruby implied popped is tag w =
+    choose (named_in_scope (codes "ruby") w)
+    (row_if (is_expected popped is (names_of w)) (implied ∷ inserts tag ∷ []) IsDone)
+    (row_if (first_passes is (names_of w)) (inserts tag ∷ []) IsDone)
+
+abbrev pub in_body_start_ruby_base : TagText → World → Row
+in_body_start_ruby_base = in_body_start_ruby GenerateImpliedEnd is_implied (is_html_named (codes "ruby"))
+
+abbrev pub is_ruby_or_rtc : QualName → Bool
+is_ruby_or_rtc n = is_html_named (codes "rtc") n || is_html_named (codes "ruby") n
+
+abbrev pub in_body_start_ruby_text : TagText → World → Row
+in_body_start_ruby_text = in_body_start_ruby (GenerateImpliedEndExcept (codes "rtc")) (is_implied_but (codes "rtc")) is_ruby_or_rtc
 
 -- a start tag "math", and a start tag "svg"
 abbrev pub in_body_start_foreign : (namespace : List ℕ) → TagText → World → Row
@@ -283,14 +313,14 @@ in_body_start_foreign namespace tag w =
 
 -- a start tag "plaintext": the reader takes all that follows for text
 abbrev pub in_body_start_plaintext : TagText → World → Row
-in_body_start_plaintext tag w = row_if (not (has_p_in_button_scope (names_of w))) (ClosePElementInButtonScope ∷ inserts tag ∷ []) (Answers TurnsPlain)
+in_body_start_plaintext tag w = row_if (is_expected_p (names_of w)) (ClosePElementInButtonScope ∷ inserts tag ∷ []) (Answers TurnsPlain)
 
 -- a start tag "textarea", and a start tag "xmp", "iframe", "noembed"
 abbrev pub in_body_start_textarea : TagText → World → Row
 in_body_start_textarea tag w = raw_text Rcdata (SetIgnoreLf ∷ SetFramesetNotOk ∷ inserts tag ∷ [])
 
 abbrev pub in_body_start_xmp : TagText → World → Row
-in_body_start_xmp tag w = row_if (not (has_p_in_button_scope (names_of w))) (ClosePElementInButtonScope ∷ ReconstructActiveFormattingElements ∷ SetFramesetNotOk ∷ (raw_text Rawtext (inserts tag ∷ [])).changes) (Answers (TurnsRaw Rawtext))
+in_body_start_xmp tag w = row_if (is_expected_p (names_of w)) (ClosePElementInButtonScope ∷ ReconstructActiveFormattingElements ∷ SetFramesetNotOk ∷ (raw_text Rawtext (inserts tag ∷ [])).changes) (Answers (TurnsRaw Rawtext))
 
 abbrev pub in_body_start_iframe : TagText → World → Row
 in_body_start_iframe tag w = raw_text Rawtext (SetFramesetNotOk ∷ inserts tag ∷ [])
@@ -310,7 +340,8 @@ in_body_start_other tag w = row (ReconstructActiveFormattingElements ∷ inserts
 -- any other end tag
 unfoldable pub in_body_end_other : TagText → World → Row
 in_body_end_other tag w =
-    choose (comes_before_special tag.name (names_of w)) (errs (GenerateImpliedEndExcept tag.name ∷ PopUntilNamed tag.name ∷ []) IsDone) ignored
+    choose (comes_before_special tag.name (names_of w))
+    (row_if (is_expected (is_implied_but tag.name) (is_html_named tag.name) (names_of w)) (GenerateImpliedEndExcept tag.name ∷ PopUntilNamed tag.name ∷ []) IsDone) ignored
 
 -- start tags: those of the page and its blocks, those of what stands in a line, those of what is put in, and others
 unfoldable pub in_body_start_blocks : Rules
@@ -351,8 +382,8 @@ in_body_start_embedded =
     (Only Select, in_body_start_select) ∷
     (Only known.Option, in_body_start_option) ∷
     (Only Optgroup, in_body_start_optgroup) ∷
-    (AnyOf in_body_ruby_bases, in_body_start_ruby GenerateImpliedEnd) ∷
-    (AnyOf in_body_ruby_texts, in_body_start_ruby (GenerateImpliedEndExcept (codes "rtc"))) ∷
+    (AnyOf in_body_ruby_bases, in_body_start_ruby_base) ∷
+    (AnyOf in_body_ruby_texts, in_body_start_ruby_text) ∷
     (Only Math, in_body_start_foreign mathml_namespace) ∷
     (Only Svg, in_body_start_foreign svg_namespace) ∷
     (AnyOf in_body_ignored_starts, ignored_tag) ∷ []

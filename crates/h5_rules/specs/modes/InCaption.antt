@@ -7,15 +7,17 @@ use Rattle.h5_types.specs.declared.modes.InsertionMode.TheVariants.{InTable}
 use Rattle.h5_rules.specs.ByName.{AnyOf, Only, Rules, by_kind, by_name, ignored_tag, of_tag}
 use Rattle.h5_rules.specs.modes.InBody.{in_body}
 use Rattle.h5_rules.specs.Rows.{Again, Change, ClearActiveFormattingToMarker, Ending, GenerateImpliedEnd, IsDone, PopUntilNamed, Row, SetMode, choose, ignored, row_if}
-use Rattle.h5_rules.specs.modes.Shared.{current_is, table_structure_names}
+use Rattle.h5_rules.specs.modes.Shared.{table_structure_names}
 use Rattle.h5_rules.specs.modes.Tables.{named_in_table_scope}
-use Rattle.h5_rules.specs.World.{World}
+use Rattle.h5_rules.specs.World.{World, names_of}
+use Rattle.h5_rules.specs.stack.Expected.{is_expected}
+use Rattle.h5_tag_sets.specs.TagSets.{is_html_named, is_implied}
 
 -- the caption is closed, where table scope has one
 unfoldable pub close_the_caption : List Change → Ending → World → Row
 close_the_caption changes ending w =
     choose (named_in_table_scope (codes "caption") w)
-    (row_if (current_is (codes "caption") w) (GenerateImpliedEnd ∷ PopUntilNamed (codes "caption") ∷ ClearActiveFormattingToMarker ∷ changes) ending)
+    (row_if (is_expected is_implied (is_html_named (codes "caption")) (names_of w)) (GenerateImpliedEnd ∷ PopUntilNamed (codes "caption") ∷ ClearActiveFormattingToMarker ∷ changes) ending)
     ignored
 
 -- an end tag "caption"

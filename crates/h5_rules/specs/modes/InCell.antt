@@ -1,28 +1,28 @@
 -- HTML standard, section 13.2.6.4.15, the "in cell" insertion mode.
 use Rattle.std.specs.Prelude.{List, [], ◌∷◌, ℕ, codes}
 use Rattle.h5_token.specs.TokenText.{TagText}
-use Rattle.h5_tag_sets.specs.TagSets.{cell_names, is_cell}
-use Rattle.h5_rules.specs.stack.Scope.{first_passes}
+use Rattle.h5_tag_sets.specs.TagSets.{cell_names, is_cell, is_html_named, is_implied}
 use Rattle.h5_types.specs.TurnText.{CommentTurn, EofTurn, NullTurn, TagTurn, TextTurn, TurnText}
 use Rattle.h5_types.specs.declared.modes.InsertionMode.TheVariants.{InRow}
 use Rattle.h5_rules.specs.ByName.{AnyOf, Rules, by_kind, by_name, ignored_tag, of_tag}
 use Rattle.h5_rules.specs.modes.InBody.{in_body}
 use Rattle.h5_rules.specs.Rows.{Again, ClearActiveFormattingToMarker, GenerateImpliedEnd, IsDone, PopUntilCell, PopUntilNamed, Row, SetMode, choose, ignored, row_if}
-use Rattle.h5_rules.specs.modes.Shared.{current_is, table_structure_names}
+use Rattle.h5_rules.specs.modes.Shared.{table_structure_names}
 use Rattle.h5_rules.specs.modes.Tables.{in_table_scope, named_in_table_scope}
 use Rattle.h5_rules.specs.World.{World, names_of}
+use Rattle.h5_rules.specs.stack.Expected.{is_expected}
 
 -- an end tag "td", "th"
 unfoldable pub in_cell_end_cell : TagText → World → Row
 in_cell_end_cell tag w =
     choose (named_in_table_scope tag.name w)
-    (row_if (current_is tag.name w) (GenerateImpliedEnd ∷ PopUntilNamed tag.name ∷ ClearActiveFormattingToMarker ∷ SetMode InRow ∷ []) IsDone)
+    (row_if (is_expected is_implied (is_html_named tag.name) (names_of w)) (GenerateImpliedEnd ∷ PopUntilNamed tag.name ∷ ClearActiveFormattingToMarker ∷ SetMode InRow ∷ []) IsDone)
     ignored
 
 -- "close the cell", and the token goes by the row
 abbrev pub close_the_cell : World → Row
 close_the_cell w =
-    row_if (first_passes is_cell (names_of w)) (GenerateImpliedEnd ∷ PopUntilCell ∷ ClearActiveFormattingToMarker ∷ []) (Again InRow)
+    row_if (is_expected is_implied is_cell (names_of w)) (GenerateImpliedEnd ∷ PopUntilCell ∷ ClearActiveFormattingToMarker ∷ []) (Again InRow)
 
 -- a start tag "caption", "col", .., "tr"
 unfoldable pub in_cell_start_structure : TagText → World → Row

@@ -9,10 +9,12 @@ use Rattle.h5_types.specs.declared.modes.SplitStatus.TheVariants.{NotSplit, NotW
 use Rattle.h5_rules.specs.ByName.{AnyOf, Only, Rules, by_kind, by_name, ignored_tag, of_tag, outer_names}
 use Rattle.h5_rules.specs.NamedEncoding.{indicates, named_encoding}
 use Rattle.h5_rules.specs.Rows.{Again, AgainBy, AppendComment, AppendText, ClearActiveFormattingToMarker, GenerateImpliedEndThoroughly, InsertAndPopElement, InsertMarker, InsertScript, InsertTemplate, IsAcknowledged, IsDone, Pop, PopTemplateMode, PopUntilNamed, PushTemplateMode, ResetMode, Row, SetFramesetNotOk, SetMode, choose, errs, ignored, row, row_if}
-use Rattle.h5_rules.specs.modes.Shared.{current_is, in_body_start_html, inserts, raw_text}
+use Rattle.h5_rules.specs.modes.Shared.{in_body_start_html, inserts, raw_text}
 use Rattle.h5_rules.specs.fitting.Reset.{reset_mode}
 use Rattle.h5_rules.specs.World.{World, names_of}
 use Rattle.h5_rules.specs.stack.Scope.{has_template}
+use Rattle.h5_rules.specs.stack.Expected.{is_expected}
+use Rattle.h5_tag_sets.specs.TagSets.{is_html_named, is_thorough_implied}
 
 -- an end tag "head"
 abbrev pub in_head_end_head : TagText → World → Row
@@ -58,7 +60,7 @@ in_head_start_template tag w =
 unfoldable pub in_head_end_template : TagText → World → Row
 in_head_end_template tag w =
     choose (has_template (names_of w))
-    (row_if (current_is (codes "template") w)
+    (row_if (is_expected is_thorough_implied (is_html_named (codes "template")) (names_of w))
     (GenerateImpliedEndThoroughly ∷ PopUntilNamed (codes "template") ∷ ClearActiveFormattingToMarker ∷ PopTemplateMode ∷ ResetMode ∷ []) IsDone)
     ignored
 

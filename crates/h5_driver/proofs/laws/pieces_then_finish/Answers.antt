@@ -2,4 +2,4 @@ use Rattle.h5_driver.proofs.StreamLaws.{streamed}
 use Rattle.h5_driver.proofs.laws.pieces_then_finish.Goals as goal
 
 pub returns : goal.returns
-returns g c = λ pieces first last told took parses. streamed g.Sink.TreeSink.choices g.Sink.TreeSink.sees g.Sink.TreeSink.node pieces first last told took parses
+returns g c = streamed g.R.Reader g.met.R.Reader.lawful

@@ -1,68 +1,33 @@
-use Rattle.std.proofs.Common.{◌≡◌, ◌++◌, [], Ok, string_bytes, ap, subst, ◌∙◌, rules}
-use Rattle.h5_token.specs.Reply.{Indicates, RunsScript}
-use Rattle.h5_tree_builder.specs.Held.{building}
-use Rattle.h5_token.specs.declared.fault.BuildFault.TheVariants.{Memory}
-use Rattle.h5_tokenizer.specs.Outcome.{Feeds, StopsAt}
-use Rattle.h5_tokenizer.specs.Whole.{no_reading}
-use Rattle.h5_driver.specs.Parsing.{after, foreign, replies}
-use Rattle.h5_driver.proofs.ReadingLaws.{all_read, fault_is_memory, stopped}
+use Rattle.std.proofs.Common.{Ok, ap, subst, ◌∙◌}
+use Rattle.h5_driver.specs.Reading.{Advances}
+use Rattle.h5_driver.proofs.ReadingLaws.{nothing_read, read_further}
 use Rattle.h5_driver.proofs.parser.feed_all.Goals as goal
 
 pub pieces-init : goal.pieces-init
-pieces-init g c = record { reading = c.requires.reading; works = c.requires.works; advances = record { tokens = []; readings = no_reading } }
+pieces-init g c =
+    let reader = g.R.Reader in
+    let first = c.args.tokenizer.now in
+    record { reading = c.requires.reading; works = c.requires.works; advances = nothing_read g.met.R.Reader.lawful (reader.text first) (reader.building first).view c.args.queue.now }
 
-pub returns-in-Done-clause-takes : goal.returns-in-Done-clause-takes
-returns-in-Done-clause-takes g c =
-    let k = g.Sink.TreeSink.choices in
-    let old = (building g.Sink.TreeSink.sees g.Sink.TreeSink.node c.pieces.tokenizer.sink).view in
-    let new = (building g.Sink.TreeSink.sees g.Sink.TreeSink.node c.feed.new.self.sink).view in
-    let fed : Feeds (replies k) (after k) foreign g.Sink.TreeSink.node c.pieces.tokenizer.reader.place old (c.pieces.tokenizer.reader.held ++ c.pieces.queue) c.feed.new.self.reader new c.feed.new.input (Ok c.in_ok-feed.field-0) =
-    subst (λ r. Feeds (replies k) (after k) foreign g.Sink.TreeSink.node c.pieces.tokenizer.reader.place old (c.pieces.tokenizer.reader.held ++ c.pieces.queue) c.feed.new.self.reader new c.feed.new.input r) c.in_ok-feed.was (c.feed.ensures.read c.pieces.invariant.reading) in
-    (all_read k _ _ _ _ _ _ c.pieces.invariant.advances c.pieces.invariant.works c.feed.new.self.reader new c.feed.new.input
-    (subst (λ r. Feeds (replies k) (after k) foreign g.Sink.TreeSink.node c.pieces.tokenizer.reader.place old (c.pieces.tokenizer.reader.held ++ c.pieces.queue) c.feed.new.self.reader new c.feed.new.input (Ok r)) c.in-Done.is fed)).0
-
-pub returns-in-Done-clause-works : goal.returns-in-Done-clause-works
-returns-in-Done-clause-works g c =
-    let k = g.Sink.TreeSink.choices in
-    let old = (building g.Sink.TreeSink.sees g.Sink.TreeSink.node c.pieces.tokenizer.sink).view in
-    let new = (building g.Sink.TreeSink.sees g.Sink.TreeSink.node c.feed.new.self.sink).view in
-    let fed : Feeds (replies k) (after k) foreign g.Sink.TreeSink.node c.pieces.tokenizer.reader.place old (c.pieces.tokenizer.reader.held ++ c.pieces.queue) c.feed.new.self.reader new c.feed.new.input (Ok c.in_ok-feed.field-0) =
-    subst (λ r. Feeds (replies k) (after k) foreign g.Sink.TreeSink.node c.pieces.tokenizer.reader.place old (c.pieces.tokenizer.reader.held ++ c.pieces.queue) c.feed.new.self.reader new c.feed.new.input r) c.in_ok-feed.was (c.feed.ensures.read c.pieces.invariant.reading) in
-    (all_read k _ _ _ _ _ _ c.pieces.invariant.advances c.pieces.invariant.works c.feed.new.self.reader new c.feed.new.input
-    (subst (λ r. Feeds (replies k) (after k) foreign g.Sink.TreeSink.node c.pieces.tokenizer.reader.place old (c.pieces.tokenizer.reader.held ++ c.pieces.queue) c.feed.new.self.reader new c.feed.new.input (Ok r)) c.in-Done.is fed)).1
-
-pub returns-in_err-feed-clause-memory : goal.returns-in_err-feed-clause-memory
-returns-in_err-feed-clause-memory g c =
-    let k = g.Sink.TreeSink.choices in
-    let old = (building g.Sink.TreeSink.sees g.Sink.TreeSink.node c.pieces.tokenizer.sink).view in
-    let new = (building g.Sink.TreeSink.sees g.Sink.TreeSink.node c.feed.new.self.sink).view in
-    let xs = c.pieces.tokenizer.reader.held ++ c.pieces.queue in
-    let f = c.in_err-feed.field-0.0 in
-    let is : f ≡ Memory =
-    fault_is_memory k g.Sink.TreeSink.node c.pieces.tokenizer.reader.place old xs c.feed.new.self.reader new c.feed.new.input f c.pieces.invariant.works
-    (subst (λ r. Feeds (replies k) (after k) foreign g.Sink.TreeSink.node c.pieces.tokenizer.reader.place old xs c.feed.new.self.reader new c.feed.new.input r) c.in_err-feed.was (c.feed.ensures.read c.pieces.invariant.reading)) in
-    search rules
+pub returns-in-Done-clause-advances : goal.returns-in-Done-clause-advances
+returns-in-Done-clause-advances g c =
+    let reader = g.R.Reader in
+    let first = c.args.tokenizer.now in
+    let new = c.feed.new.self in
+    let all = c.feed.ensures.done (c.in_ok-feed.was ∙ ap Ok c.in-Done.is) in
+    subst (λ ys. Advances reader.Readings (reader.text first) (reader.building first).view c.args.queue.now (reader.text new) (reader.building new).view ys) all.0
+    (read_further g.met.R.Reader.lawful c.pieces.invariant.advances c.in_ok-feed.ensures.advances)
 
 pub pieces-preserved-in-Script : goal.pieces-preserved-in-Script
-pieces-preserved-in-Script g c =
-    let k = g.Sink.TreeSink.choices in
-    let old = (building g.Sink.TreeSink.sees g.Sink.TreeSink.node c.pieces.tokenizer.sink).view in
-    let new = (building g.Sink.TreeSink.sees g.Sink.TreeSink.node c.feed.new.self.sink).view in
-    let xs = c.pieces.tokenizer.reader.held ++ c.pieces.queue in
-    let reply = RunsScript (g.Sink.TreeSink.node c.in-Script._script) in
-    let stops : StopsAt (replies k) (after k) foreign c.pieces.tokenizer.reader.place old xs reply c.feed.new.self.reader new c.feed.new.input =
-    subst (λ r. Feeds (replies k) (after k) foreign g.Sink.TreeSink.node c.pieces.tokenizer.reader.place old xs c.feed.new.self.reader new c.feed.new.input r) (c.in_ok-feed.was ∙ ap Ok c.in-Script.is) (c.feed.ensures.read c.pieces.invariant.reading) in
-    let all = stopped k c.args.tokenizer.now.reader.place (building g.Sink.TreeSink.sees g.Sink.TreeSink.node c.args.tokenizer.now.sink).view (c.args.tokenizer.now.reader.held ++ c.args.queue.now) c.pieces.tokenizer.reader.place old xs c.pieces.invariant.advances c.pieces.invariant.works reply c.feed.new.self.reader new c.feed.new.input stops in
-    record { reading = stops.stage; works = all.1; advances = all.0 }
+pieces-preserved-in-Script g c = record {
+  reading = c.in_ok-feed.ensures.reading;
+  works = c.in_ok-feed.ensures.works;
+  advances = read_further g.met.R.Reader.lawful c.pieces.invariant.advances c.in_ok-feed.ensures.advances;
+}
 
 pub pieces-preserved : goal.pieces-preserved
-pieces-preserved g c =
-    let k = g.Sink.TreeSink.choices in
-    let old = (building g.Sink.TreeSink.sees g.Sink.TreeSink.node c.pieces.tokenizer.sink).view in
-    let new = (building g.Sink.TreeSink.sees g.Sink.TreeSink.node c.feed.new.self.sink).view in
-    let xs = c.pieces.tokenizer.reader.held ++ c.pieces.queue in
-    let reply = Indicates (string_bytes c.in-EncodingIndicator._encoding) in
-    let stops : StopsAt (replies k) (after k) foreign c.pieces.tokenizer.reader.place old xs reply c.feed.new.self.reader new c.feed.new.input =
-    subst (λ r. Feeds (replies k) (after k) foreign g.Sink.TreeSink.node c.pieces.tokenizer.reader.place old xs c.feed.new.self.reader new c.feed.new.input r) (c.in_ok-feed.was ∙ ap Ok c.in-EncodingIndicator.is) (c.feed.ensures.read c.pieces.invariant.reading) in
-    let all = stopped k c.args.tokenizer.now.reader.place (building g.Sink.TreeSink.sees g.Sink.TreeSink.node c.args.tokenizer.now.sink).view (c.args.tokenizer.now.reader.held ++ c.args.queue.now) c.pieces.tokenizer.reader.place old xs c.pieces.invariant.advances c.pieces.invariant.works reply c.feed.new.self.reader new c.feed.new.input stops in
-    record { reading = stops.stage; works = all.1; advances = all.0 }
+pieces-preserved g c = record {
+  reading = c.in_ok-feed.ensures.reading;
+  works = c.in_ok-feed.ensures.works;
+  advances = read_further g.met.R.Reader.lawful c.pieces.invariant.advances c.in_ok-feed.ensures.advances;
+}

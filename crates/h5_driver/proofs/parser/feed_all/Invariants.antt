@@ -1,18 +1,19 @@
-use Rattle.std.proofs.Common.{◌≡◌, ◌++◌, length}
-use Rattle.h5_tree_builder.specs.Held.{building}
+use Rattle.std.proofs.Common.{◌≡◌}
 use Rattle.h5_reading.specs.declared.stage.Stage.TheVariants.{Reading}
-use Rattle.h5_driver.specs.Parsing.{Advances, IsWorking}
+use Rattle.h5_driver.specs.Reading.{Advances}
+use Rattle.h5_driver.specs.Working.{IsWorking}
 use Rattle.h5_driver.proofs.parser.feed_all.Given as goal
 
 abbrev pub invariant-pieces : goal.invariant-pieces
 invariant-pieces g l =
-    let now = (building g.Sink.TreeSink.sees g.Sink.TreeSink.node l.tokenizer.sink).view in
-    let first = (building g.Sink.TreeSink.sees g.Sink.TreeSink.node l.fn.tokenizer.sink).view in
+    let reader = g.R.Reader in
+    let now = l.tokenizer in
+    let first = l.fn.tokenizer in
     record {
-      reading : l.tokenizer.reader.stage ≡ Reading;
-      works : IsWorking l.tokenizer.reader.place now;
-      advances : Advances g.Sink.TreeSink.choices l.fn.tokenizer.reader.place first (l.fn.tokenizer.reader.held ++ l.fn.queue) l.tokenizer.reader.place now (l.tokenizer.reader.held ++ l.queue);
+      reading : reader.stage (reader.text now) ≡ Reading;
+      works : IsWorking reader.IsRaw (reader.text now) (reader.building now).view;
+      advances : Advances reader.Readings (reader.text first) (reader.building first).view l.fn.queue (reader.text now) (reader.building now).view l.queue;
     }
 
 abbrev pub decreases-pieces : goal.decreases-pieces
-decreases-pieces g l = length (l.tokenizer.reader.held ++ l.queue)
+decreases-pieces g l = g.R.Reader.left (g.R.Reader.text l.tokenizer) l.queue

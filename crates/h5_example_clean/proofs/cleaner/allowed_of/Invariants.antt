@@ -1,5 +1,5 @@
 use Rattle.std.proofs.Common.{◌≡◌, map}
-use Rattle.h5_names.specs.AttributeText.{attribute_texts}
+use Rattle.html_tree_builder.specs.AttributeText.{attribute_texts}
 use Rattle.h5_example_clean.specs.Policy.{allowed_of}
 use Rattle.h5_example_clean.proofs.cleaner.allowed_of.Given as goal
 

@@ -1,13 +1,11 @@
 use Rattle.std.proofs.Common.{ap, sym, ◌∙◌}
 use Rattle.std.specs.Prelude.{None}
-use Rattle.h5_serialize.specs.declared.options.TraversalScope.TheVariants.{ChildrenOnly}
-use Rattle.h5_arena.specs.ArenaModel.{arena_choices}
-use Rattle.h5_arena.specs.NodeCalls.{walk_of}
-use Rattle.h5_standard_driver.proofs.OneTree.{one_tree}
+use Rattle.html_tree_builder.specs.Types.{ChildrenOnly}
+use Rattle.html_tree_builder.specs.NodeCalls.{walk_of}
 use Rattle.h5_example_clean.specs.Calls.{cleaned_text}
 use Rattle.h5_example_clean.proofs.page.a_page_has_one_cleaned_text.Goals as goal
 
 pub returns : goal.returns
 returns c = λ page x y p q.
-    let same = one_tree arena_choices _ _ _ _ _ p.parsed q.parsed in
+    let same = c.a_text_has_one_tree.ensures _ _ page _ _ p.parsed q.parsed in
     p.text ∙ ap (λ f. cleaned_text (walk_of f 0 (ChildrenOnly None))) same.0 ∙ sym q.text

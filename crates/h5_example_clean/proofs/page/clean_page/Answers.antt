@@ -1,7 +1,7 @@
 use Rattle.std.proofs.Common.{◌≡◌, None, rules, subst, sym}
-use Rattle.h5_serialize.specs.declared.options.TraversalScope.TheVariants.{ChildrenOnly}
-use Rattle.h5_arena.specs.ArenaModel.{forest_seen}
-use Rattle.h5_arena.specs.NodeCalls.{walk_of}
+use Rattle.html_tree_builder.specs.Types.{ChildrenOnly}
+use Rattle.html_tree_builder.specs.ArenaModel.{forest_seen}
+use Rattle.html_tree_builder.specs.NodeCalls.{walk_of}
 use Rattle.h5_example_clean.specs.Calls.{cleaned_text}
 use Rattle.h5_example_clean.specs.Safe.{IsSafe}
 use Rattle.h5_example_clean.proofs.SafeLaws.{cleaned_is_safe}

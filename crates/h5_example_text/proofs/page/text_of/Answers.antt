@@ -1,8 +1,8 @@
 use Rattle.std.proofs.Common.{◌≡◌, None, ap, ◌∙◌, rules}
-use Rattle.h5_serialize.specs.Walk.{after_each}
-use Rattle.h5_serialize.specs.declared.options.TraversalScope.TheVariants.{ChildrenOnly}
-use Rattle.h5_arena.specs.ArenaModel.{forest_seen}
-use Rattle.h5_arena.specs.NodeCalls.{walk_of}
+use Rattle.html_tree_builder.specs.Walk.{after_each}
+use Rattle.html_tree_builder.specs.Types.{ChildrenOnly}
+use Rattle.html_tree_builder.specs.ArenaModel.{forest_seen}
+use Rattle.html_tree_builder.specs.NodeCalls.{walk_of}
 use Rattle.h5_example_text.specs.Blocks.{after_call, kept}
 use Rattle.h5_example_text.proofs.LineLaws.{kept_lines}
 use Rattle.h5_example_text.proofs.page.text_of.Goals as goal

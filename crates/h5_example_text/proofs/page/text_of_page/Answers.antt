@@ -1,8 +1,7 @@
 use Rattle.std.proofs.Common.{None, ap, ◌∙◌}
-use Rattle.h5_serialize.specs.declared.options.TraversalScope.TheVariants.{ChildrenOnly}
-use Rattle.h5_arena.specs.ArenaModel.{ArenaView, forest_seen}
-use Rattle.h5_arena.specs.NodeCalls.{walk_of}
-use Rattle.h5_arena.specs.declared.nodes.NodeId.{NodeId}
+use Rattle.html_tree_builder.specs.Types.{ChildrenOnly, NodeId}
+use Rattle.html_tree_builder.specs.ArenaModel.{ArenaView, forest_seen}
+use Rattle.html_tree_builder.specs.NodeCalls.{walk_of}
 use Rattle.h5_example_text.specs.Blocks.{lines_of}
 use Rattle.h5_example_text.proofs.page.text_of_page.Goals as goal
 

@@ -1,15 +1,15 @@
 use Rattle.std.proofs.Common.{[], ◌∷◌, ap, length, refl, subst, sym, ◌∙◌}
-use Rattle.h5_tag_sets.specs.TagSets.{is_heading, is_html_named}
+use Rattle.h5_tag_sets.specs.TagSets.{is_heading, is_html_named, is_implied}
 use Rattle.h5_rules.specs.stack.Scope.{cut_through, first_passes}
 use Rattle.h5_types.specs.TurnResult.{Done}
 use Rattle.h5_types.specs.TurnText.{TagTurn}
 use Rattle.h5_token.specs.TokenText.{tag_text}
 use Rattle.h5_rules.specs.stack.Closing.{pop_until_heading}
 use Rattle.h5_rules.specs.modes.InBody.{in_body_end_heading}
-use Rattle.h5_rules.specs.modes.Shared.{current_is}
+use Rattle.h5_rules.specs.stack.Expected.{is_expected}
 use Rattle.h5_rules.specs.Rows.{Follows, GenerateImpliedEnd, IsDone, PopUntilHeading, choose, ignored, row_if}
 use Rattle.h5_rules.specs.World.{World, names_of}
-use Rattle.h5_rules.proofs.changes.ClosingLaws.{heading_not_implied, heading_stays_current}
+use Rattle.h5_rules.proofs.changes.ClosingLaws.{heading_not_implied}
 use Rattle.h5_state.specs.Steps.{errors_of, world_of}
 use Rattle.h5_rules_body.proofs.blocks.in_body_end_heading.Goals as goal
 
@@ -26,15 +26,15 @@ returns-in-Some g c =
     let tag = tag_text c.args.tag in
     let w = world_of law c.args.sink.now c.args.state.now in
     let v = world_of law c.expect_to_close.new.sink c.pop_until_heading.new.state in
+    let expected = c.is_current_html-expected.ensures ∙ ap (first_passes (is_html_named tag.name)) c.generate_implied_end.ensures.names in
     record {
-      follows = subst (λ b. Follows law.choices law.node (choose b (row_if (current_is tag.name w) (GenerateImpliedEnd ∷ PopUntilHeading ∷ []) IsDone) ignored) (TagTurn tag) w v (errors_of law c.args.sink.now) (errors_of law c.expect_to_close.new.sink) Done)
+      follows = subst (λ b. Follows law.choices law.node (choose b (row_if (is_expected is_implied (is_html_named tag.name) (names_of w)) (GenerateImpliedEnd ∷ PopUntilHeading ∷ []) IsDone) ignored) (TagTurn tag) w v (errors_of law c.args.sink.now) (errors_of law c.expect_to_close.new.sink) Done)
           c.in-Some.ensures.found
           (record {
             world = c.pop_until_heading.ensures.world ∙ ap pop_until_heading (c.expect_to_close.ensures.told.world ∙ c.generate_implied_end.ensures.made.world);
             ending = refl;
-            quiet = λ h. c.expect_to_close.ensures.quiet
-                (c.is_current_html-expected.ensures ∙ ap (λ (x : World). first_passes (is_html_named tag.name) (names_of x)) c.generate_implied_end.ensures.made.world ∙ heading_stays_current law.choices tag.name w c.requires.name h)
-                ∙ c.generate_implied_end.ensures.made.quiet;
+            quiet = λ h. c.expect_to_close.ensures.quiet (expected ∙ h) ∙ c.generate_implied_end.ensures.made.quiet;
+            noted = λ h. c.expect_to_close.ensures.noted (expected ∙ h);
           });
       sound = c.pop_until_heading.ensures.sound;
     }

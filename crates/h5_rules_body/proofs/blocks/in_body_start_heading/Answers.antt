@@ -1,28 +1,36 @@
-use Rattle.std.proofs.Common.{ap, rules, ◌∙◌}
+use Rattle.std.proofs.Common.{◌<◌, ap, not, rules, subst, sym, ◌∙◌}
 use Rattle.h5_tag_sets.specs.TagSets.{is_heading}
-use Rattle.h5_rules.specs.stack.Scope.{first_passes, has_p_in_button_scope}
-use Rattle.h5_rules.specs.World.{World, names_of}
-use Rattle.h5_state.specs.Steps.{world_of}
-use Rattle.h5_rules_body.proofs.BlockLaws.{same_current}
+use Rattle.h5_rules.specs.stack.Expected.{is_expected_p, names_behind_p}
+use Rattle.h5_rules.specs.stack.Scope.{first_passes}
+use Rattle.h5_rules.specs.World.{names_of}
+use Rattle.h5_rules.proofs.BoolLaws.{and_not}
+use Rattle.std.proofs.lemmas.Bool.{not-false}
+use Rattle.h5_rules.proofs.changes.ExpectedLaws.{told_either}
+use Rattle.h5_state.specs.Steps.{errors_of, world_of}
 use Rattle.h5_rules_body.proofs.blocks.in_body_start_heading.Goals as goal
-use Rattle.h5_rules.proofs.fitting.TableModeLaws.{neither}
-use Rattle.h5_rules_forms.proofs.QuietLaws.{nothing_unexpected}
 
 pub returns : goal.returns
 returns g c =
     let law = g.S.TreeSink in
-    let w = world_of law c.args.sink.now c.args.state.now in
+    let names = names_of (world_of law c.args.sink.now c.args.state.now) in
     let closed = c.close_p_element_in_button_scope-expected in
+    let behind = ap names_of c.expect_to_close.ensures.told.world ∙ closed.ensures.names in
+    let heading = first_passes is_heading (names_behind_p names) in
     record {
       follows = record {
         world = search rules;
         ending = search rules;
         quiet = λ h.
-            let none = neither (has_p_in_button_scope (names_of w)) (first_passes is_heading (names_of w)) h in
+            let none = and_not (is_expected_p names) heading h in
             c.insert_element.ensures.quiet ∙ c.pop_heading.ensures.quiet
-            ∙ c.check_heading.ensures.quiet (ap (λ (x : World). first_passes is_heading (names_of x)) (c.expect_to_close.ensures.told.world ∙ closed.ensures.made.world) ∙ same_current law.choices w none.0 none.1)
-            ∙ c.expect_to_close.ensures.quiet (closed.ensures.expected ∙ nothing_unexpected law.choices w none.0)
+            ∙ c.check_heading.ensures.quiet (ap (first_passes is_heading) behind ∙ none.1)
+            ∙ c.expect_to_close.ensures.quiet (closed.ensures.expected ∙ none.0)
             ∙ closed.ensures.made.quiet;
+        noted = λ h.
+            subst (λ n. 0 < n) (sym (c.insert_element.ensures.quiet ∙ c.pop_heading.ensures.quiet))
+            (told_either (is_expected_p names) (not heading) (errors_of law c.expect_to_close.new.sink) (errors_of law c.check_heading.new.sink)
+            (λ e. c.expect_to_close.ensures.noted (closed.ensures.expected ∙ e)) c.check_heading.ensures.told.rises
+            (λ e. c.check_heading.ensures.noted (ap (first_passes is_heading) behind ∙ not-false heading e)) h);
       };
       sound = search rules;
     }

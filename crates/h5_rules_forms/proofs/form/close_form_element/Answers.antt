@@ -1,4 +1,4 @@
-use Rattle.std.proofs.Common.{◌≡◌, ap, false, refl, subst, sym, true, ◌∙◌}
+use Rattle.std.proofs.Common.{◌≡◌, ◌==◌, ◌<◌, ap, false, refl, subst, sym, true, ◌∙◌}
 use Rattle.h5_token.specs.TokenText.{tag_text}
 use Rattle.h5_types.specs.TurnResult.{Done}
 use Rattle.h5_types.specs.TurnText.{TagTurn}
@@ -11,7 +11,7 @@ use Rattle.h5_rules.specs.World.{World, names_of, root}
 use Rattle.h5_rules.proofs.changes.SoundLaws.{element_is_node}
 use Rattle.h5_state.specs.Steps.{errors_of, world_of}
 use Rattle.h5_state.specs.View.{world}
-use Rattle.h5_rules_forms.proofs.EndLaws.{closes_scoped, closes_unscoped, form_not_root, form_stays_element}
+use Rattle.h5_rules_forms.proofs.EndLaws.{closes_scoped, closes_unscoped, form_expected, form_not_root, form_stays_element}
 use Rattle.h5_rules_forms.proofs.form.close_form_element.Goals as goal
 
 pub is_node_in_scope-requires-clause-element : goal.is_node_in_scope-requires-clause-element
@@ -44,6 +44,7 @@ returns-then-not-is_node_in_scope g c =
             world = c.tell_error-then-not-is_node_in_scope.ensures.told.world ∙ c.take_form.ensures.made.world;
             ending = refl;
             quiet = λ h. absurd (cc);
+            noted = λ h. c.tell_error-then-not-is_node_in_scope.ensures.noted;
           });
       sound = c.tell_error-then-not-is_node_in_scope.ensures.told.sound c.take_form.ensures.made.sound;
     }
@@ -76,13 +77,19 @@ returns g c =
     let v = world_of law c.remove_from_stack.new.sink c.remove_from_stack.new.state in
     let form = law.node c.in-Some.form in
     let scope : form_in_scope form w ≡ true = ap (λ (x : World). form_in_scope form x) (sym c.take_form.ensures.made.world) ∙ sym c.is_node_in_scope.ensures ∙ c.if-not-is_node_in_scope.false in
+    let left = world_of law c.generate_implied_end.new.sink c.generate_implied_end.new.state in
+    let expected =
+    c.same_node-expected.ensures
+    ∙ ap (λ n. n == form) c.current_node-current.ensures.current
+    ∙ form_expected law.choices w left form c.requires.ready.root (c.generate_implied_end.ensures.made.world ∙ ap (generate_implied_end law.choices) c.take_form.ensures.made.world) in
     record {
       follows = subst (λ r. Follows law.choices law.node r (TagTurn (tag_text c.args.tag)) w v (errors_of law c.args.sink.now) (errors_of law c.remove_from_stack.new.sink) Done)
           (sym (closes_scoped form w (sym c.in-Some.ensures.form) scope))
           (record {
             world = c.remove_from_stack.ensures.world ∙ ap (remove_from_stack law.choices form) (c.expect_to_close.ensures.told.world ∙ c.generate_implied_end.ensures.made.world ∙ ap (generate_implied_end law.choices) c.take_form.ensures.made.world);
             ending = refl;
-            quiet = λ h. absurd (cc);
+            quiet = λ h. c.remove_from_stack.ensures.quiet ∙ c.expect_to_close.ensures.quiet (expected ∙ h) ∙ c.generate_implied_end.ensures.made.quiet ∙ c.take_form.ensures.made.quiet;
+            noted = λ h. subst (λ n. 0 < n) (sym c.remove_from_stack.ensures.quiet) (c.expect_to_close.ensures.noted (expected ∙ h));
           });
       sound = c.remove_from_stack.ensures.sound;
     }

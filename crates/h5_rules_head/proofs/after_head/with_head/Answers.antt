@@ -1,4 +1,4 @@
-use Rattle.std.proofs.Common.{◌≡◌, ap, option_map, subst, sym, ◌∙◌}
+use Rattle.std.proofs.Common.{◌≡◌, ◌<◌, ap, option_map, subst, sym, ◌∙◌}
 use Rattle.h5_token.specs.Reply.{reply}
 use Rattle.h5_token.specs.TokenText.{tag_text}
 use Rattle.h5_types.specs.TurnText.{TagTurn}
@@ -8,6 +8,7 @@ use Rattle.h5_rules.specs.Rows.{Follows, apply_all}
 use Rattle.h5_rules.specs.modes.AfterHead.{removes_known}
 use Rattle.h5_rules.specs.Sound.{Sound}
 use Rattle.h5_rules.specs.World.{World, root}
+use Rattle.h5_rules.proofs.rows.MarkLaws.{still_told}
 use Rattle.h5_rules.proofs.modes.AfterHeadLaws.{head_stays_above, head_stays_known}
 use Rattle.h5_rules.proofs.modes.PushHeadLaws.{only_root, sound_push_head}
 use Rattle.h5_state.specs.Steps.{errors_of, world_of}
@@ -64,6 +65,8 @@ returns g c =
     record {
       follows = followed law.choices law.node tag w u v (errors_of law c.args.sink.now) (errors_of law c.leave_head.new.sink) c.in_ok-result.result c.in_head_start_tag.new.state c.set_answer.new.state head c.requires.name
           (c.set_answer.ensures.answer ∙ ap (reply law.node) c.take_answer-answer.ensures.answer) known f.world f.ending
-          (c.set_answer.ensures.kept.world ∙ c.leave_head.ensures.world ∙ ap (apply_all law.choices (removes_known head)) c.take_answer-answer.ensures.kept.world);
+          (c.set_answer.ensures.kept.world ∙ c.leave_head.ensures.world ∙ ap (apply_all law.choices (removes_known head)) c.take_answer-answer.ensures.kept.world)
+          (subst (λ n. 0 < n) (sym c.leave_head.ensures.quiet)
+          (still_told law.choices law.node (in_head_start_tag tag (push_head w)) (TagTurn tag) (push_head w) u (errors_of law c.unexpected_tag.new.sink) (errors_of law c.in_head_start_tag.new.sink) (turn_result c.in_ok-result.result c.in_head_start_tag.new.state) f c.unexpected_tag.ensures.noted));
       sound = c.set_answer.ensures.kept.sound;
     }

@@ -1,4 +1,4 @@
-use Rattle.std.proofs.Common.{subst, sym, ap, true, ◌∙◌}
+use Rattle.std.proofs.Common.{refl, subst, sym, ap, true, ◌∙◌}
 use Rattle.std.specs.Prelude.{IfOk}
 use Rattle.h5_types.specs.TurnText.{turn_text}
 use Rattle.h5_rules.specs.Changes.{set_foster}
@@ -29,6 +29,6 @@ returns g c =
       follows = foster_if_ok law.choices law.node t w v u before after (errors_of law c.args.sink.now) after c.step_in_body-turn.new.state c.set_foster-2.new.state c.step_in_body-turn.result c.set_foster-2.ensures.again c.set_foster-2.ensures.answer
           (subst (λ (x : World). IfOk c.step_in_body-turn.result (λ r. Follows law.choices law.node (in_body t x) t x v before after (turn_result r c.step_in_body-turn.new.state)))
           (c.set_foster.ensures.made.world ∙ ap (set_foster true) c.unexpected.ensures.told.world) c.step_in_body-turn.ensures.follows)
-          c.set_foster-2.ensures.made.world;
+          c.set_foster-2.ensures.made.world c.unexpected.ensures.noted refl;
       sound = c.set_foster-2.ensures.made.sound;
     }

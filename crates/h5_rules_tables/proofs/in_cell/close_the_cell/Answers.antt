@@ -3,24 +3,19 @@ use Rattle.h5_tag_sets.specs.TagSets.{is_cell}
 use Rattle.h5_rules.specs.stack.Scope.{first_passes}
 use Rattle.h5_rules.specs.stack.Closing.{pop_until_cell}
 use Rattle.h5_rules.specs.formatting.Formatting.{clear_active_formatting_to_marker}
-use Rattle.h5_rules.specs.World.{World, names_of}
-use Rattle.h5_state.specs.Steps.{world_of}
-use Rattle.h5_rules_tables.proofs.ClosingLaws.{cell_not_implied, stays_current}
+use Rattle.h5_rules.specs.World.{World}
 use Rattle.h5_rules_tables.proofs.in_cell.close_the_cell.Goals as goal
 
 pub returns : goal.returns
 returns g c =
-    let law = g.S.TreeSink in
-    let w = world_of law c.args.sink.now c.args.state.now in
+    let expected = c.is_current_cell-expected.ensures ∙ ap (first_passes is_cell) c.generate_implied_end.ensures.names in
     record {
       follows = record {
         world = c.set_again.ensures.kept.world ∙ c.clear_active_formatting_to_marker.ensures.world
             ∙ ap (λ (x : World). clear_active_formatting_to_marker x) (c.pop_until_cell.ensures.world ∙ ap pop_until_cell (c.expect_to_close.ensures.told.world ∙ c.generate_implied_end.ensures.made.world));
         ending = (refl, c.set_again.ensures.token);
-        quiet = λ h. c.expect_to_close.ensures.quiet
-            (c.is_current_cell-expected.ensures ∙ ap (λ (x : World). first_passes is_cell (names_of x)) c.generate_implied_end.ensures.made.world
-            ∙ stays_current law.choices is_cell w cell_not_implied h)
-            ∙ c.generate_implied_end.ensures.made.quiet;
+        quiet = λ h. c.expect_to_close.ensures.quiet (expected ∙ h) ∙ c.generate_implied_end.ensures.made.quiet;
+        noted = λ h. c.expect_to_close.ensures.noted (expected ∙ h);
       };
       sound = c.set_again.ensures.kept.sound;
     }

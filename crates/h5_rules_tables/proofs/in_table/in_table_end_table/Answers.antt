@@ -29,6 +29,7 @@ returns-in-Some g c =
                 ∙ ap (λ (x : World). set_mode (reset_mode x) x) (c.pop_until_named.ensures.world ∙ ap (λ local. pop_until_named local w) c.from_known-table.ensures);
             ending = refl;
             quiet = λ h. refl;
+            noted = λ h. absurd (cc);
           });
       sound = c.set_mode.ensures.sound;
     }
@@ -43,6 +44,6 @@ returns g c =
     record {
       follows = subst (λ b. Follows law.choices law.node (choose b (row (PopUntilNamed (codes "table") ∷ ResetMode ∷ []) IsDone) ignored) (TagTurn tag) w v (errors_of law c.args.sink.now) (errors_of law c.unexpected_tag.new.sink) Done)
           (c.in-None.ensures.found ∙ ap (λ local. in_scope (is_html_named local) is_table_scope (names_of w)) c.from_known-table.ensures)
-          (record { world = c.unexpected_tag.ensures.told.world; ending = refl; quiet = λ h. absurd (cc) });
+          (record { world = c.unexpected_tag.ensures.told.world; ending = refl; quiet = λ h. absurd (cc); noted = λ h. c.unexpected_tag.ensures.noted });
       sound = c.unexpected_tag.ensures.told.sound c.requires;
     }

@@ -29,6 +29,7 @@ returns-in-Some g c =
             world = c.set_again.ensures.kept.world ∙ c.pop_until_named.ensures.world ∙ ap (λ local. pop_until_named local u) c.from_known-table.ensures ∙ ap (pop_until_named (codes "table")) c.unexpected_tag.ensures.told.world;
             ending = (ap (λ w. Some (reset_mode w)) c.set_again.ensures.kept.world ∙ ap Some (sym c.reset_insertion_mode-mode.ensures), c.set_again.ensures.token);
             quiet = λ h. absurd (cc);
+            noted = λ h. c.unexpected_tag.ensures.noted;
           });
       sound = c.set_again.ensures.kept.sound;
     }
@@ -45,6 +46,6 @@ returns-in-None g c =
           (c.in-None.ensures.found
           ∙ ap (λ local. in_scope (is_html_named local) is_table_scope (names_of u)) c.from_known-table.ensures
           ∙ ap (λ (x : World). in_scope (is_html_named (codes "table")) is_table_scope (names_of x)) c.unexpected_tag.ensures.told.world)
-          (record { world = c.unexpected_tag.ensures.told.world; ending = refl; quiet = λ h. absurd (cc) });
+          (record { world = c.unexpected_tag.ensures.told.world; ending = refl; quiet = λ h. absurd (cc); noted = λ h. c.unexpected_tag.ensures.noted });
       sound = c.unexpected_tag.ensures.told.sound c.requires;
     }

@@ -33,4 +33,5 @@ returns-clause-asks g c = λ token.
       world = inserted.world ∙ ap (apply_all law.choices r.changes) c.take_pending_text-pending.ensures.made.world;
       ending = (ap Some (sym c.saved_mode.ensures), refl);
       quiet = inserted.quiet;
+      noted = inserted.noted;
     }

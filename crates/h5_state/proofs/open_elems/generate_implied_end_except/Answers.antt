@@ -1,4 +1,8 @@
+use Rattle.std.proofs.Common.{ap, ◌∙◌}
 use Rattle.h5_rules.specs.Changes.{generate_implied_end_except}
+use Rattle.h5_rules.specs.World.{names_of}
+use Rattle.h5_rules.proofs.changes.NameLaws.{names-implied}
+use Rattle.h5_state.specs.Steps.{world_of}
 use Rattle.h5_tag_sets.specs.TagSets.{is_html_named, is_implied}
 use Rattle.h5_rules.proofs.BoolLaws.{and_not}
 use Rattle.h5_state.proofs.open_elems.generate_implied_end_except.Goals as goal
@@ -10,3 +14,8 @@ returns-clause-made g c = record { world = c.pop_while.ensures.world; quiet = c.
 pub returns-clause-older : goal.returns-clause-older
 returns-clause-older g c =
     c.pop_while.ensures.older (is_html_named c.args.local.now) (λ n h. (and_not (is_implied n) (is_html_named c.args.local.now n) h).1)
+
+pub returns-clause-names : goal.returns-clause-names
+unfolding generate_implied_end_except
+returns-clause-names g c =
+    ap names_of c.pop_while.ensures.world ∙ names-implied g.S.TreeSink.choices c.args.local.now (world_of g.S.TreeSink c.args.sink.now c.args.state.now)

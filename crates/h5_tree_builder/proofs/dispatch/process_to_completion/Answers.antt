@@ -33,7 +33,7 @@ returns-in-Done g c =
     record {
       came = subst (λ x. CameTo node (settle k t first) true x e d (record { turns = c.turns.turns; answer = Continue })) (sym c.check_flag.ensures.told.world)
           (subst (λ n. CameTo node (settle k t first) true v e d (record { turns = n; answer = Continue })) (omega (arith, c.turns.invariant.some))
-          (done_last k node t first w v e a b d (c.turns.turns - 1) c.is_self_closing-self_closing.result f c.is_self_closing-self_closing.ensures c.check_flag.ensures.quiet c.turns.invariant.left));
+          (done_last k node t first w v e a b d (c.turns.turns - 1) c.is_self_closing-self_closing.result f c.is_self_closing-self_closing.ensures c.check_flag.ensures.quiet c.check_flag.ensures.noted c.check_flag.ensures.told.rises c.turns.invariant.left));
       sound = c.check_flag.ensures.told.sound c.step.ensures.sound;
       fits = subst Fits (sym c.check_flag.ensures.told.world) (fits_done k node t w v a b f c.turns.invariant.sound.sound c.requires.text c.turns.invariant.fits);
     }

@@ -15,7 +15,7 @@ returns-clause-done g c =
     let d = doctype_text c.args.doctype in
     let told : world_of law c.if-is_error.sink c.args.state.now ≡ world_of law c.args.sink.now c.args.state.now =
     elim c.if-is_error.branch [
-      | then-is_error w ↦ ap (λ s. world_of law s c.args.state.now) w.sink-is ∙ w.tell_bad.ensures.world
+      | then-is_error w ↦ ap (λ s. world_of law s c.args.state.now) w.sink-is ∙ w.tell_bad.ensures.told.world
       | else-is_error w ↦ ap (λ s. world_of law s c.args.state.now) w.sink-is
     ] in
     c.set_mode.ensures.world

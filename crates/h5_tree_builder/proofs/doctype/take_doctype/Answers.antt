@@ -16,7 +16,7 @@ returns-in_ok-judge_doctype-in-Initial g c =
     let judged = c.in_ok-judge_doctype-in-Initial.ensures in
     record {
       came = subst (λ m. CameTo law.node (doctype_in m law.choices (doctype_text c.args.doctype) w) true v (errors_of law c.args.sink.now) (errors_of law c.judge_doctype.new.sink) (record { turns = 0; answer = Continue }))
-          (sym c.in-Initial.is ∙ c.current_mode.ensures) (record { world = judged.done; turns = λ h. refl; reply = refl; quiet = judged.quiet });
+          (sym c.in-Initial.is ∙ c.current_mode.ensures) (record { world = judged.done; turns = λ h. refl; reply = refl; quiet = judged.quiet; noted = λ h k. judged.noted k });
       sound = c.judge_doctype.ensures.sound;
       fits = subst Fits (sym judged.done) (fits_judged _ _ _ (sym c.current_mode.ensures ∙ c.in-Initial.is) c.requires.sound.sound c.requires.fits);
     }

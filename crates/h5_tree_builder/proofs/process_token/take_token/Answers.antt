@@ -71,7 +71,7 @@ returns-in-ParseError-clause-settles g c =
     let ready : IsReady law c.args.sink.now c.take_lf-ignore_lf.new.state = c.take_lf-ignore_lf.ensures.ready c.requires in
     subst (λ x. Settles law (step law.choices (token_text x)) (is_counted (token_text x) w) c.args.sink.now c.args.state.now c.tell_error.new.sink c.take_lf-ignore_lf.new.state _) (sym c.in-ParseError.is)
     (record {
-      came = record { world = c.tell_error.ensures.told.world ∙ c.take_lf-ignore_lf.ensures.done; turns = λ h. refl; reply = refl; quiet = λ h. absurd (cc) };
+      came = record { world = c.tell_error.ensures.told.world ∙ c.take_lf-ignore_lf.ensures.done; turns = λ h. refl; reply = refl; quiet = λ h. absurd (cc); noted = λ h k. c.tell_error.ensures.noted };
       sound = c.tell_error.ensures.told.sound ready.sound;
       fits = subst Fits (sym c.tell_error.ensures.told.world) ready.fits;
     })

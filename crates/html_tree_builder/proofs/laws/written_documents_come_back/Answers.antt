@@ -1,5 +1,5 @@
 use Rattle.std.proofs.Common.{sym, ◌∙◌}
-use Rattle.h5_driver.specs.PlainTexts.{ComesBack}
+use Rattle.h5_driver.specs.PlainDocuments.{ComesBack}
 use Rattle.html_tree_builder.proofs.laws.written_documents_come_back.Goals as goal
 
 pub returns : goal.returns

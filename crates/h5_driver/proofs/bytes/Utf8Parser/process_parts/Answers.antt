@@ -3,7 +3,7 @@ use Rattle.h5_driver.proofs.ByteLaws.{chunk_taken, nothing_taken}
 use Rattle.h5_driver.proofs.bytes.Utf8Parser.process_parts.Goals as goal
 
 pub parts-init : goal.parts-init
-parts-init g c = record { flag = refl; advances = ([], (nothing_taken g.Sink.TreeSink.choices g.Sink.TreeSink.sees g.Sink.TreeSink.node c.args.self.now, refl)) }
+parts-init g c = record { flag = refl; advances = ([], (nothing_taken g.R.Reader g.met.R.Reader.lawful c.args.self.now, refl)) }
 
 pub parts-preserved : goal.parts-preserved
 parts-preserved g c =
@@ -15,7 +15,7 @@ parts-preserved g c =
       advances = (
         taken ++ part,
         (
-          chunk_taken g.Sink.TreeSink.choices g.Sink.TreeSink.sees g.Sink.TreeSink.node taken part c.args.self.now c.parts.self c.process.new.self c.parts.invariant.advances.1.0 c.in_ok-process.ensures.takes,
+          chunk_taken g.R.Reader g.met.R.Reader.lawful taken part c.args.self.now c.parts.self c.process.new.self c.parts.invariant.advances.1.0 c.in_ok-process.ensures.takes,
           append_assoc taken part rest ∙ ap (λ z. taken ++ z) (sym c.split_at.ensures.by_index.0) ∙ c.parts.invariant.advances.1.1,
         ),
       );

@@ -1,31 +1,23 @@
-use Rattle.std.proofs.Common.{◌++◌, string_bytes, Err, ap}
+use Rattle.std.proofs.Common.{string_bytes, Err, ap}
 use Rattle.std.proofs.lemmas.Result.{err_from_is_err_and}
-use Rattle.h5_tree_builder.specs.Held.{building}
+use Rattle.h5_driver.specs.Parsing.{text_of, view_of}
 use Rattle.h5_driver.proofs.FaultLaws.{fault_of}
 use Rattle.h5_driver.proofs.PlainLaws.{brought_back}
-use Rattle.h5_driver.specs.Parsing.{view_of}
-use Rattle.h5_driver.proofs.ReadingLaws.{nothing_read_yet, piece_taken, told_behind}
+use Rattle.h5_driver.proofs.ReadingLaws.{nothing_read, piece_taken, told_behind}
 use Rattle.h5_driver.proofs.parser.Parser.one_owned.Goals as goal
 
 pub returns-clause-parses : goal.returns-clause-parses
 returns-clause-parses g c =
-    let k = g.Sink.TreeSink.choices in
-    let sees = g.Sink.TreeSink.sees in
-    let node = g.Sink.TreeSink.node in
     let first = c.args.self in
-    let now = c.process_owned.new.self in
-    let base = first.reader.held ++ first.waiting in
     let took = c.in_ok-process_owned.ensures.takes in
-    told_behind k g.Sink.TreeSink.told first.reader.place now.reader.place (view_of sees node first) (view_of sees node now) (base ++ string_bytes c.args.text) (now.reader.held ++ now.waiting) took.worked
-    (piece_taken k first.reader.place first.reader.place now.reader.place (view_of sees node first) (view_of sees node first) (view_of sees node now) base first.reader.held first.waiting (string_bytes c.args.text) now.reader.held now.waiting
-    (nothing_read_yet k first.reader.place (view_of sees node first) base) took.takes took.none_waits)
+    told_behind g.met.R.Reader.lawful g.R.Sink.TreeSink.told took.worked.ready
+    (piece_taken g.met.R.Reader.lawful (string_bytes c.args.text) (nothing_read g.met.R.Reader.lawful (text_of g.R.Reader first) (view_of g.R.Reader first) first.waiting) took.advances took.none_waits)
     c.finish.result c.finish.ensures.parses
 
 pub returns-clause-plain : goal.returns-clause-plain
 returns-clause-plain g c =
     let first = c.args.self in
-    brought_back g.Sink.TreeSink.choices g.Sink.TreeSink.told (building g.Sink.TreeSink.sees g.Sink.TreeSink.node first.builder) first.reader (first.reader.held ++ first.waiting) (string_bytes c.args.text) c.finish.result
-    (returns-clause-parses g c)
+    brought_back g.met.R.Reader.lawful g.R.Sink.TreeSink.told (text_of g.R.Reader first) (view_of g.R.Reader first) first.waiting (string_bytes c.args.text) c.finish.result (returns-clause-parses g c)
 
 pub returns-in_err-process_owned-clause-memory : goal.returns-in_err-process_owned-clause-memory
 returns-in_err-process_owned-clause-memory g c = λ h.

@@ -1,23 +1,16 @@
 use Rattle.std.proofs.Common.{◌≡◌, ◌++◌, take, refl, ap, ◌∙◌, append_assoc, rules}
 use Rattle.std.proofs.lemmas.List.{take-append-drop}
-use Rattle.h5_driver.specs.Parsing.{view_of}
-use Rattle.h5_driver.proofs.ReadingLaws.{nothing_read_yet, piece_taken}
+use Rattle.h5_driver.specs.Parsing.{text_of, view_of}
+use Rattle.h5_driver.proofs.ReadingLaws.{nothing_read, piece_taken}
 use Rattle.h5_driver.proofs.parser.Parser.process_parts.Goals as goal
 
 pub parts-init : goal.parts-init
 parts-init g c =
     let first = c.args.self.now in
-    let base = first.reader.held ++ first.waiting in
-    record { utf8 = search rules; flag = refl; advances = (base, (nothing_read_yet g.Sink.TreeSink.choices first.reader.place (view_of g.Sink.TreeSink.sees g.Sink.TreeSink.node first) base, refl)) }
+    record { utf8 = search rules; flag = refl; advances = (first.waiting, (nothing_read g.met.R.Reader.lawful (text_of g.R.Reader first) (view_of g.R.Reader first) first.waiting, refl)) }
 
 pub parts-preserved : goal.parts-preserved
 parts-preserved g c =
-    let k = g.Sink.TreeSink.choices in
-    let sees = g.Sink.TreeSink.sees in
-    let node = g.Sink.TreeSink.node in
-    let first = c.args.self.now in
-    let now = c.parts.self in
-    let new = c.process.new.self in
     let left = c.parts.left.now in
     let n = c.ceil_char_boundary.result in
     let part = c.split_at.result.0.now in
@@ -31,8 +24,7 @@ parts-preserved g c =
       advances = (
         before ++ part,
         (
-          piece_taken k first.reader.place now.reader.place new.reader.place (view_of sees node first) (view_of sees node now) (view_of sees node new) before now.reader.held now.waiting part new.reader.held new.waiting
-              c.parts.invariant.advances.1.0 took.takes took.none_waits,
+          piece_taken g.met.R.Reader.lawful part c.parts.invariant.advances.1.0 took.advances took.none_waits,
           append_assoc before part rest ∙ ap (λ z. before ++ z) whole ∙ c.parts.invariant.advances.1.1,
         ),
       );

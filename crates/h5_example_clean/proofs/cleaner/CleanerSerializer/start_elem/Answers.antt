@@ -1,8 +1,8 @@
 use Rattle.std.proofs.Common.{◌≡◌, true, false, List, ap, subst, ◌∙◌, inl, rules}
-use Rattle.h5_names.specs.AttributeText.{AttributeText, attribute_texts}
-use Rattle.h5_serialize.specs.Call.{StartOf}
-use Rattle.h5_serialize.specs.Standing.{IsBrokenBy, answer_to, standing_after, text_written}
-use Rattle.h5_serialize.specs.Walk.{Makes}
+use Rattle.html_tree_builder.specs.AttributeText.{AttributeText, attribute_texts}
+use Rattle.html_tree_builder.specs.Call.{StartOf}
+use Rattle.html_tree_builder.specs.Standing.{IsBrokenBy, answer_to, standing_after, text_written}
+use Rattle.html_tree_builder.specs.Walk.{Makes}
 use Rattle.h5_example_clean.specs.Calls.{is_handed_on}
 use Rattle.h5_example_clean.specs.Policy.{is_dropped_name}
 use Rattle.h5_example_clean.proofs.HandedLaws.{makes_start}

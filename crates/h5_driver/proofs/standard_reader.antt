@@ -1,0 +1,6 @@
+-- The standard reader over a builder.
+pub mod EndLaws
+pub mod FeedingLaws
+pub mod MarkLaws
+pub mod ReadLaws
+pub mod WorkLaws

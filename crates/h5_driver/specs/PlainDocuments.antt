@@ -1,0 +1,32 @@
+-- What a parser makes of the text of a plain document.
+use Rattle.std.specs.Prelude.{◌≡◌, ℕ, List, []}
+use Rattle.h5_interface.specs.Forest.{IsForest}
+use Rattle.h5_interface.specs.Seen.{Seen}
+use Rattle.h5_interface.specs.declared.marks.QuirksMode.TheVariants.{NoQuirks}
+use Rattle.h5_types.specs.Options.{default_options as of_builder}
+use Rattle.h5_rules.specs.Run.{View}
+use Rattle.h5_reading.specs.Options.{default_options as of_reader}
+use Rattle.h5_reading.specs.declared.options.TokenizerOpts.{TokenizerOpts}
+use Rattle.h5_plain.specs.Plain.{PlainDocument}
+use Rattle.h5_plain.specs.Rebuilding.{DocumentStands, HoldsDocument}
+use Rattle.h5_tree_builder.specs.Builder.{first_building}
+use Rattle.h5_round_trip.specs.Readable.{IsReadableDocument}
+use Rattle.h5_round_trip.specs.Written.{written_of}
+
+-- the reader and the builder of a parser of documents that took nothing yet, with the options that hold where nothing
+-- else is said, over a sink that shows this, and what waits
+pub record IsNew {T : Type 0} (first : TokenizerOpts → T) (r : T) (v : View) (waiting : List ℕ) (seen : Seen) : Type 0 where
+  pub reader : r ≡ first of_reader
+  pub builder : v ≡ (first_building seen of_builder).view
+  pub none_waits : waiting ≡ []
+
+-- the document stands in what a sink tells, which is a forest, in no quirks
+pub record ComesBack (told : Seen) (d : PlainDocument) : Type 0 where
+  pub is_forest : IsForest told.forest
+  pub stands : DocumentStands told.forest d
+  pub quirks : told.quirks ≡ NoQuirks
+
+-- so it is where such a parser over a sink that holds its document alone takes the text of a document that can be read
+abbrev pub BringsBack : {T : Type 0} → (TokenizerOpts → T) → T → View → (waiting text : List ℕ) → (told : Seen) → Type 0
+BringsBack first r v waiting text told =
+    (d : PlainDocument) (seen : Seen) → IsNew first r v waiting seen → HoldsDocument seen.forest → IsReadableDocument d → text ≡ written_of d → ComesBack told d

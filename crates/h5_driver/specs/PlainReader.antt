@@ -1,0 +1,41 @@
+-- The plain reader over a builder.
+use Rattle.std.specs.Prelude.{ℕ, List, [], ◌++◌, length}
+use Rattle.h5_token.specs.TokenText.{TokenText}
+use Rattle.h5_interface.specs.SinkChoices.{SinkChoices}
+use Rattle.h5_rules.specs.Run.{View}
+use Rattle.h5_reading.specs.declared.options.TokenizerOpts.{TokenizerOpts}
+use Rattle.h5_reading.specs.declared.stage.Stage.TheVariants.{Reading}
+use Rattle.h5_tokenizer.specs.Options.{first_place}
+use Rattle.h5_tokenizer.specs.Read as reader
+use Rattle.h5_tokenizer.specs.ReaderText.{ReaderText}
+use Rattle.h5_tokenizer.specs.Whole as whole
+use Rattle.h5_tokenizer.specs.declared.front.Mode.{Mode}
+use Rattle.h5_tokenizer.specs.declared.front.Mode.TheVariants.{RawData}
+use Rattle.h5_driver.specs.Working.{after, ended, foreign, replies}
+
+-- before it has read anything
+abbrev pub first : TokenizerOpts → ReaderText
+first opts = record { place = first_place opts; held = []; stage = Reading }
+
+-- in one of these states it takes all for text but the end tag of the element that it reads
+abbrev pub IsRawMode : Mode → Type 0
+IsRawMode (RawData kind) = Unit {0}
+IsRawMode mode = ⊥
+
+abbrev pub IsRaw : ReaderText → Type 0
+IsRaw r = IsRawMode r.place.mode
+
+-- what it holds is undecided
+abbrev pub IsUndecided : ReaderText → View → Type 0
+IsUndecided r v = reader.IsUndecided r.place (foreign v) r.held
+
+-- it reads what it holds, and then its input
+abbrev pub Readings : SinkChoices → ReaderText → View → List ℕ → List TokenText → ReaderText → View → List ℕ → Type 0
+Readings choices r v xs ts s w ys = whole.Readings (replies choices) (after choices) foreign r.place v (r.held ++ xs) ts s.place w (s.held ++ ys)
+
+abbrev pub Reads : SinkChoices → ReaderText → View → List ℕ → List TokenText → View → Type 0
+Reads choices r v xs ts n = whole.ReadsToEnd (replies choices) (after choices) foreign (ended choices) r.place v (r.held ++ xs) ts n
+
+-- how much is left to read
+abbrev pub left : ReaderText → List ℕ → ℕ
+left r xs = length (r.held ++ xs)

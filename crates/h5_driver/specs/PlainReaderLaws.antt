@@ -1,0 +1,91 @@
+-- What holds of readings by the plain reader over a builder.
+use Rattle.std.specs.Prelude.{◌≡◌, ◌++◌, ℕ, List, [], Option, Some, None}
+use Rattle.std.proofs.Common.{refl, ap, sym, subst, ◌∙◌, append_assoc}
+use Rattle.std.proofs.lemmas.List.{append-nil}
+use Rattle.h5_token.specs.Reply.{Reply}
+use Rattle.h5_token.specs.TokenText.{TokenText}
+use Rattle.h5_interface.specs.SinkChoices.{SinkChoices}
+use Rattle.h5_rules.specs.Run.{IsFitting, View, after_all, run}
+use Rattle.h5_laws.proofs.cuts.JoinLaws.{view_joins}
+use Rattle.h5_laws.proofs.cuts.RunLaws.{token_cut}
+use Rattle.h5_laws.proofs.kept.FittingLaws.{token_fitting}
+use Rattle.h5_reading.specs.Lines.{line_behind}
+use Rattle.h5_tokenizer.specs.End.{settle}
+use Rattle.h5_tokenizer.specs.Front.{Place}
+use Rattle.h5_tokenizer.specs.Read.{Read, Step, marked, nothing_read, read_on, switch_step, text_step, token_step, unmarked}
+use Rattle.h5_tokenizer.specs.Whole.{Readings, ReadsToEnd, after_closing, closing, more_reading, no_reading}
+use Rattle.h5_tokenizer.proofs.KeptLaws.{readings_agree}
+use Rattle.h5_tokenizer.proofs.WholeLaws.{readings_go_on}
+use Rattle.h5_round_trip.proofs.ReadingLaws.{document_read}
+use Rattle.h5_driver.specs.PlainReader as reader
+use Rattle.h5_driver.specs.Reading.{AreReadings}
+use Rattle.h5_driver.specs.Working.{after, ended, foreign, replies}
+
+-- a text is read to its end, from a place
+abbrev ReadsAt : SinkChoices → Place → View → List ℕ → List TokenText → View → Type 0
+ReadsAt choices p v xs ts n = ReadsToEnd (replies choices) (after choices) foreign (ended choices) p v xs ts n
+
+-- what it means then is what the run of the tokens leaves
+step_runs : (choices : SinkChoices) {p : Place} {m : View} {xs : List ℕ} {ts : List TokenText} {reply : Reply} {q : Place} {n : View} {ys : List ℕ} → Step (replies choices) (after choices) foreign p m xs ts reply q n ys → n ≡ after_all choices ts m
+unfolding run
+step_runs choices (marked e f) = refl
+step_runs choices (unmarked e f) = refl
+step_runs choices (token_step token e f) = refl
+step_runs choices (switch_step mode e f) = refl
+step_runs choices (text_step text e l b) = refl
+
+read_runs : (choices : SinkChoices) {p : Place} {m : View} {xs : List ℕ} {ts : List TokenText} {reply : Reply} {q : Place} {n : View} {ys : List ℕ} → Read (replies choices) (after choices) foreign p m xs ts reply q n ys → n ≡ after_all choices ts m
+unfolding run
+read_runs choices nothing_read = refl
+read_runs choices {m = m} (read_on {ts = ts} {us = us} r g s) = step_runs choices s ∙ ap (after_all choices us) (read_runs choices r) ∙ sym (view_joins choices ts us m)
+
+readings_run : (choices : SinkChoices) {p q : Place} {m n : View} {xs ys : List ℕ} {ts : List TokenText} → Readings (replies choices) (after choices) foreign p m xs ts q n ys → n ≡ after_all choices ts m
+unfolding run
+readings_run choices no_reading = refl
+readings_run choices {m = m} (more_reading {ts = ts} {us = us} r s g) = read_runs choices s ∙ ap (after_all choices us) (readings_run choices r) ∙ sym (view_joins choices ts us m)
+
+same_run : (choices : SinkChoices) (s : Option TokenText) (line last : ℕ) (v : View) → after_closing (after choices) v s line last ≡ after_all choices (closing s) v
+unfolding run
+same_run choices None line last v = refl
+same_run choices (Some t) line last v = refl
+
+-- a reading to the end leaves what the run of its tokens, and then the end, leave
+reads_run : (choices : SinkChoices) (p : Place) (m : View) (xs : List ℕ) (ts : List TokenText) (n : View) → ReadsAt choices p m xs ts n → n ≡ ended choices (after_all choices ts m)
+reads_run choices p m xs ts n r =
+    let rest = settle r.place.mode r.place.last (foreign r.meaning) r.rest in
+    let last = closing rest in
+    r.closed
+    ∙ ap (ended choices) (same_run choices rest r.place.line (line_behind r.place.line r.rest []) r.meaning ∙ ap (after_all choices last) (readings_run choices r.readings) ∙ sym (view_joins choices r.handed last m) ∙ ap (λ x. after_all choices x m) (sym r.tokens))
+
+-- one list of readings, and then another
+chain : (choices : SinkChoices) {p q r : Place} {m n o : View} {xs ys zs : List ℕ} {ts us : List TokenText} → Readings (replies choices) (after choices) foreign p m xs ts q n ys → Readings (replies choices) (after choices) foreign q n ys us r o zs → Readings (replies choices) (after choices) foreign p m xs (ts ++ us) r o zs
+chain choices {p = p} {q = q} {m = m} {n = n} {xs = xs} {ys = ys} {ts = ts} a no_reading = subst (λ x. Readings (replies choices) (after choices) foreign p m xs x q n ys) (sym (append-nil ts)) a
+chain choices {p = p} {r = r} {m = m} {o = o} {xs = xs} {zs = zs} {ts = ts} a (more_reading {ts = us} {us = vs} b s g) =
+    subst (λ x. Readings (replies choices) (after choices) foreign p m xs x r o zs) (append_assoc ts us vs) (more_reading (chain choices a b) s g)
+
+-- what was read before, and then the rest
+reads_behind : (choices : SinkChoices) {p q : Place} {m n o : View} {xs ys : List ℕ} {ts us : List TokenText} → Readings (replies choices) (after choices) foreign p m xs ts q n ys → ReadsAt choices q n ys us o → ReadsAt choices p m xs (ts ++ us) o
+reads_behind choices {ts = ts} a r = record {
+  handed = ts ++ r.handed;
+  place = r.place;
+  meaning = r.meaning;
+  rest = r.rest;
+  readings = chain choices a r.readings;
+  undecided = r.undecided;
+  tokens = ap (λ x. ts ++ x) r.tokens ∙ sym (append_assoc ts r.handed (closing (settle r.place.mode r.place.last (foreign r.meaning) r.rest)));
+  closed = r.closed;
+}
+
+pub are_readings : (choices : SinkChoices) → AreReadings choices reader.first (reader.Readings choices) (reader.Reads choices)
+are_readings choices = record {
+  nothing = λ r v xs. no_reading;
+  followed = λ r s v w xs ys ts more h.
+      subst (λ zs. Readings (replies choices) (after choices) foreign r.place v zs ts s.place w (s.held ++ (ys ++ more))) (append_assoc r.held xs more)
+      (subst (λ zs. Readings (replies choices) (after choices) foreign r.place v ((r.held ++ xs) ++ more) ts s.place w zs) (append_assoc s.held ys more) (readings_go_on (replies choices) (after choices) foreign more h));
+  chained = λ r s t v w x xs ys zs ts us a b. chain choices a b;
+  to_end = λ r s v w n xs ys ts us a h. reads_behind choices a h;
+  runs = λ r v n xs ts h. reads_run choices r.place v (r.held ++ xs) ts n h;
+  agree = λ r v n o xs ts us ready a b.
+      readings_agree (replies choices) (after choices) foreign IsFitting (λ w t line h. token_fitting choices t w h) (ended choices) (λ w t k l. refl) (λ w x y ys zs j k l h. token_cut choices x ys y zs w h) (record { fitting = λ f e. ready.fitting }) a b;
+  documents = λ d v readable answers. document_read (replies choices) (after choices) foreign (ended choices) d v readable answers;
+}

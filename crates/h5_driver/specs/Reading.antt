@@ -1,0 +1,42 @@
+-- What a reader reads, whichever it is: readings up to a rest, and readings to the end.
+use Rattle.std.specs.Prelude.{◌≡◌, ℕ, List, [], ◌++◌}
+use Rattle.h5_token.specs.TokenText.{TokenText}
+use Rattle.h5_interface.specs.Seen.{Seen}
+use Rattle.h5_interface.specs.SinkChoices.{SinkChoices}
+use Rattle.h5_rules.specs.Run.{View, after_all}
+use Rattle.h5_reading.specs.Options.{default_options}
+use Rattle.h5_reading.specs.declared.options.TokenizerOpts.{TokenizerOpts}
+use Rattle.h5_plain.specs.Plain.{PlainDocument, document_tokens}
+use Rattle.h5_round_trip.specs.Answers.{Answers}
+use Rattle.h5_round_trip.specs.Readable.{IsReadableDocument}
+use Rattle.h5_round_trip.specs.Written.{written_of}
+use Rattle.h5_driver.specs.Working.{IsReady, after, ended, replies}
+
+-- from a reader, a view and an input, some tokens are read, up to a reader, a view and the rest of the input
+pub record Advances {T : Type 0} (Readings : T → View → List ℕ → List TokenText → T → View → List ℕ → Type 0) (r : T) (v : View) (xs : List ℕ) (s : T) (w : View) (ys : List ℕ) : Type 0 where
+  pub tokens : List TokenText
+  pub readings : Readings r v xs tokens s w ys
+
+-- an input is read to its end by some tokens
+pub record IsReadToEnd {T : Type 0} (Reads : T → View → List ℕ → List TokenText → View → Type 0) (r : T) (v : View) (xs : List ℕ) (n : View) : Type 0 where
+  pub tokens : List TokenText
+  pub reads : Reads r v xs tokens n
+
+-- what a parser built of a text: the forest and the quirks mode of the run of a list of tokens that reads it, and of any such
+-- list
+pub record Parses {T : Type 0} (Reads : T → View → List ℕ → List TokenText → View → Type 0) (choices : SinkChoices) (r : T) (v : View) (xs : List ℕ) (told : Seen) : Type 0 where
+  pub tokens : List TokenText
+  pub reads : Reads r v xs tokens (ended choices (after_all choices tokens v))
+  pub any : (ts : List TokenText) (n : View) → Reads r v xs ts n → (n ≡ ended choices (after_all choices ts v)) × ((told.forest ≡ n.world.forest) × (told.quirks ≡ n.world.seen_quirks))
+
+-- What holds of readings over a builder. Of nothing nothing is read; whatever follows, the same is read; and one reading goes on
+-- where another stopped, also to the end. What is meant then is what the run of the tokens leaves, and it is the same for all
+-- lists of tokens by which a text is read. The text of a plain document is read by its tokens.
+pub record AreReadings {T : Type 0} (choices : SinkChoices) (first : TokenizerOpts → T) (Readings : T → View → List ℕ → List TokenText → T → View → List ℕ → Type 0) (Reads : T → View → List ℕ → List TokenText → View → Type 0) : Type 0 where
+  pub nothing : (r : T) (v : View) (xs : List ℕ) → Readings r v xs [] r v xs
+  pub followed : (r s : T) (v w : View) (xs ys : List ℕ) (ts : List TokenText) (more : List ℕ) → Readings r v xs ts s w ys → Readings r v (xs ++ more) ts s w (ys ++ more)
+  pub chained : (r s t : T) (v w x : View) (xs ys zs : List ℕ) (ts us : List TokenText) → Readings r v xs ts s w ys → Readings s w ys us t x zs → Readings r v xs (ts ++ us) t x zs
+  pub to_end : (r s : T) (v w n : View) (xs ys : List ℕ) (ts us : List TokenText) → Readings r v xs ts s w ys → Reads s w ys us n → Reads r v xs (ts ++ us) n
+  pub runs : (r : T) (v n : View) (xs : List ℕ) (ts : List TokenText) → Reads r v xs ts n → n ≡ ended choices (after_all choices ts v)
+  pub agree : (r : T) (v n o : View) (xs : List ℕ) (ts us : List TokenText) → IsReady v → Reads r v xs ts n → Reads r v xs us o → n ≡ o
+  pub documents : (d : PlainDocument) (v : View) → IsReadableDocument d → Answers (replies choices) (after choices) v (document_tokens d) → (n : View) × Reads (first default_options) v (written_of d) (document_tokens d) n

@@ -1,0 +1,43 @@
+-- The standard reader over a builder.
+use Rattle.std.specs.Prelude.{ℕ, List, ◌++◌}
+use Rattle.h5_token.specs.TokenText.{TokenText}
+use Rattle.h5_interface.specs.SinkChoices.{SinkChoices}
+use Rattle.h5_rules.specs.Run.{View}
+use Rattle.h5_reading.specs.declared.options.TokenizerOpts.{TokenizerOpts}
+use Rattle.h5_reading.specs.declared.stage.Stage.TheVariants.{Reading}
+use Rattle.h5_states.specs.RawTexts as states
+use Rattle.h5_states.specs.ReferenceTable.{references}
+use Rattle.h5_states.specs.Whole as whole
+use Rattle.h5_standard.specs.Mark.{behind_mark}
+use Rattle.h5_standard.specs.Options.{first_place}
+use Rattle.h5_standard.specs.ReaderText.{ReaderText}
+use Rattle.h5_standard.specs.Weight.{weight}
+use Rattle.h5_driver.specs.Working.{after, ended, foreign, replies}
+
+-- before it has read anything
+abbrev pub first : TokenizerOpts → ReaderText
+first opts = record { at_start = opts.discard_bom; place = first_place opts; stage = Reading }
+
+-- in a state of raw text it takes all for text but the end tag of the element that it reads
+abbrev pub IsRaw : ReaderText → Type 0
+IsRaw r = states.IsRaw r.place.state
+
+-- it holds nothing
+abbrev pub IsUndecided : ReaderText → View → Type 0
+IsUndecided r v = Unit {0}
+
+-- it reads all of its input, but for a byte order mark where one may come
+abbrev pub ahead : ReaderText → List ℕ → List ℕ
+ahead r xs = behind_mark r.at_start xs
+
+-- whatever follows
+abbrev pub Readings : SinkChoices → ReaderText → View → List ℕ → List TokenText → ReaderText → View → List ℕ → Type 0
+Readings choices r v xs ts s w ys =
+    (more : List ℕ) → whole.Readings references (replies choices) (after choices) foreign r.place v (ahead r (xs ++ more)) ts s.place w (ahead s (ys ++ more))
+
+abbrev pub Reads : SinkChoices → ReaderText → View → List ℕ → List TokenText → View → Type 0
+Reads choices r v xs ts n = whole.ReadsToEnd references (replies choices) (after choices) foreign (ended choices) r.place v (ahead r xs) ts n
+
+-- how much is left to do
+abbrev pub left : ReaderText → List ℕ → ℕ
+left r xs = weight r.place (ahead r xs)

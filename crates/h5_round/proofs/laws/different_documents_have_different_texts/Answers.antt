@@ -1,5 +1,0 @@
-use Rattle.h5_round.proofs.TellsLaws.{texts_tell}
-use Rattle.h5_round.proofs.laws.different_documents_have_different_texts.Goals as goal
-
-pub returns : goal.returns
-returns c = texts_tell

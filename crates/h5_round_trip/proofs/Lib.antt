@@ -1,0 +1,10 @@
+pub mod CharLaws
+pub mod NameLaws
+pub mod AttributeLaws
+pub mod TagLaws
+pub mod ShapeLaws
+pub mod ReadingLaws
+pub mod JoinedLaws
+pub mod WrittenLaws
+pub mod TellsLaws
+pub mod standard

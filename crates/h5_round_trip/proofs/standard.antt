@@ -1,0 +1,8 @@
+-- Plain documents, read by the standard's tokenization.
+pub mod RunLaws
+pub mod ReferenceLaws
+pub mod TextLaws
+pub mod TagLaws
+pub mod ReadingLaws
+pub mod MarkupLaws
+pub mod PlainMarkupLaws

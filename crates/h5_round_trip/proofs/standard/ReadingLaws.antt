@@ -1,0 +1,268 @@
+-- A plain document is read back by the standard's tokenization.
+use Rattle.std.proofs.Common.{◌≡◌, ℕ, Bool, true, false, List, [], ◌∷◌, ◌++◌, cond, eqb, append-nil, refl, sym, ap, ◌∙◌, subst, append_assoc, codes}
+use Rattle.h5_names.specs.AttributeText.{AttributeText, is_same_text}
+use Rattle.h5_token.specs.TokenText.{TokenText, DoctypeIs, TagIs, CommentIs, Characters, NullCharacter, EndOfFile, ParseErrorIs}
+use Rattle.h5_token.specs.Reply.{Reply, Continues, TurnsRaw}
+use Rattle.h5_token.specs.declared.states.RawKind.TheVariants.{Rcdata}
+use Rattle.h5_serialize.specs.Escape.{escape}
+use Rattle.h5_reading.specs.Answers.{goes_on}
+use Rattle.h5_reading.specs.Options.{default_options}
+use Rattle.h5_reading.specs.Told.{after_all, handed, told}
+use Rattle.h5_reading.proofs.AnswerLaws.{unrefused}
+use Rattle.h5_states.specs.declared.kinds.TextKind.TheVariants as text
+use Rattle.h5_states.specs.End.{last_tokens}
+use Rattle.h5_states.specs.AtEnd.{at_end}
+use Rattle.h5_states.specs.Reading.{Place, Read, after_token, behind, chosen_state, nothing_read, quiet_step, read_on, text_step, token_step}
+use Rattle.h5_states.specs.ReferenceTable.{references}
+use Rattle.h5_states.specs.States.{Text as TextState}
+use Rattle.h5_states.specs.Whole.{ReadsToEnd, more_reading, no_reading}
+use Rattle.h5_standard.specs.Options.{first_place}
+use Rattle.h5_plain.specs.Plain.{ArePlain, ElementThen, End, Nodes, PlainDocument, TextThen, document_tokens, end_tag, has_end_tag, is_start_of_title, plain_doctype, plain_reply, root_of, start_tag, tokens_before}
+use Rattle.h5_round_trip.specs.Answers.{Answers}
+use Rattle.h5_round_trip.specs.Readable.{AreReadable, CanBeRead, IsReadable, IsReadableDocument}
+use Rattle.h5_round_trip.specs.Written.{tag_written, written_before, written_of}
+use Rattle.h5_round_trip.proofs.ShapeLaws.{Element, None, Shape, Text, Title, Void, document_shape, is_title}
+use Rattle.h5_round_trip.proofs.TagLaws.{IsTagName}
+use Rattle.h5_round_trip.proofs.standard.ReferenceLaws.{InData, InTitle, Where, state_of}
+use Rattle.h5_round_trip.proofs.standard.RunLaws.{IsIn, Moves}
+use Rattle.h5_round_trip.proofs.standard.TagLaws.{HandsToken, doctype_handed, end_handed, start_handed, title_end_handed}
+use Rattle.h5_round_trip.proofs.standard.TextLaws.{text_reads}
+
+-- in data, or in the text of a title
+abbrev pub In : (title : Bool) → Place → Type 0
+In false p = IsIn p (TextState text.Data)
+In true p = IsIn p (TextState text.Rcdata) × (p.last ≡ codes "title")
+
+abbrev where_in : (title : Bool) → Where
+where_in false = InData
+where_in true = InTitle
+
+plain_goes : (t : TokenText) → goes_on (plain_reply t) ≡ true
+plain_goes (TagIs tag) = by (is_start_of_title tag)
+  where
+    by : (b : Bool) → goes_on (cond b (TurnsRaw Rcdata) Continues) ≡ true
+    by true = refl
+    by false = refl
+plain_goes (DoctypeIs d) = refl
+plain_goes (CommentIs d) = refl
+plain_goes (Characters d) = refl
+plain_goes NullCharacter = refl
+plain_goes EndOfFile = refl
+plain_goes (ParseErrorIs d) = refl
+
+-- the place behind a start tag, and behind others
+abbrev pub behind_token : Place → ℕ → TokenText → Reply → Place
+behind_token p byte t reply = after_token t reply (behind byte (TextState text.Data) p)
+
+behind_start : (q : Place) (byte : ℕ) (name : List ℕ) (attrs : List AttributeText) (reply : Reply) → is_same_text name (codes "title") ≡ false → eqb byte 13 ≡ false → reply ≡ plain_reply (start_tag name attrs) → In false (behind_token q byte (start_tag name attrs) reply)
+behind_start q byte name attrs reply other c e =
+    record { at = ap chosen_state e ∙ ap (λ b. chosen_state (cond b (TurnsRaw Rcdata) Continues)) other; after_return = c }
+
+behind_title : (q : Place) (byte : ℕ) (attrs : List AttributeText) (reply : Reply) → eqb byte 13 ≡ false → reply ≡ plain_reply (start_tag (codes "title") attrs) → In true (behind_token q byte (start_tag (codes "title") attrs) reply)
+behind_title q byte attrs reply c e = (record { at = ap chosen_state e; after_return = c }, refl)
+
+behind_end : (q : Place) (byte : ℕ) (name : List ℕ) (reply : Reply) → eqb byte 13 ≡ false → In false (behind_token q byte (end_tag name) reply)
+behind_end q byte name reply c = record { at = refl; after_return = c }
+
+behind_doctype : (q : Place) (byte : ℕ) (reply : Reply) → eqb byte 13 ≡ false → In false (behind_token q byte plain_doctype reply)
+behind_doctype q byte reply c = record { at = refl; after_return = c }
+
+-- something follows
+pub record IsSome (xs : List ℕ) : Type 0 where
+  pub first : ℕ
+  pub more : List ℕ
+  pub is : xs ≡ first ∷ more
+
+pub some_behind : (xs ys : List ℕ) → IsSome ys → IsSome (xs ++ ys)
+some_behind [] ys h = h
+some_behind (x ∷ xs) ys h = record { first = x; more = xs ++ ys; is = refl }
+
+some_before : (ns : Nodes) (rest : List ℕ) → IsSome rest → IsSome (written_before ns rest)
+some_before End rest h = h
+some_before (TextThen text others) rest h = some_behind (escape false text) (written_before others rest) (some_before others rest h)
+some_before (ElementThen name attrs inner others) rest h = record { first = 60; more = _; is = refl }
+
+-- something follows each text
+abbrev Room : Nodes → List ℕ → Type 0
+Room End rest = Unit {0}
+Room (TextThen text others) rest = IsSome (written_before others rest) × Room others rest
+Room (ElementThen name attrs inner others) rest = Room others rest
+
+room : (ns : Nodes) (rest : List ℕ) → IsSome rest → Room ns rest
+room End rest h = tt
+room (TextThen text others) rest h = (some_before others rest h, room others rest h)
+room (ElementThen name attrs inner others) rest h = room others rest h
+
+module _ {M : Type 0} (reply_to : M → TokenText → Reply) (after : M → TokenText → ℕ → M) (foreign : M → Bool) (ended : M → M) where
+  -- from a place on some of all tokens were read; more of them, and this text, are left
+  pub record Reached (p : Place) (m : M) (xs : List ℕ) (all : List TokenText) (title : Bool) (more : List TokenText) (rest : List ℕ) : Type 0 where
+    pub place : Place
+    pub meaning : M
+    pub handed : List TokenText
+    pub reply : Reply
+    pub goes : goes_on reply ≡ true
+    pub read : Read references reply_to after foreign p m xs handed reply place meaning rest
+    pub is_in : In title place
+    pub answers : Answers reply_to after meaning more
+    pub whole : handed ++ more ≡ all
+
+  module _ (p : Place) (m : M) (xs : List ℕ) (all : List TokenText) where
+    pub token_taken : (title next : Bool) (t : TokenText) (more : List TokenText) (written rest : List ℕ)
+        → ((q : Place) → In title q → HandsToken q written t rest)
+        → ((q : Place) (byte : ℕ) (reply : Reply) → eqb byte 13 ≡ false → reply ≡ plain_reply t → In next (behind_token q byte t reply))
+        → Reached p m xs all title (t ∷ more) written → Reached p m xs all next more rest
+    token_taken title next t more written rest here leads r =
+        let h = here r.place r.is_in in
+        record {
+          place = behind_token h.place h.byte t (reply_to r.meaning t);
+          meaning = after r.meaning t h.place.began;
+          handed = (r.handed ++ []) ++ t ∷ [];
+          reply = reply_to r.meaning t;
+          goes = ap goes_on r.answers.0 ∙ plain_goes t;
+          read = read_on (read_on r.read r.goes (quiet_step h.passes)) refl (token_step t (TextState text.Data) h.kept h.deed);
+          is_in = leads h.place h.byte (reply_to r.meaning t) h.no_return r.answers.0;
+          answers = r.answers.1 h.place.began;
+          whole = ap (λ l. (l ++ t ∷ []) ++ more) (append-nil r.handed) ∙ append_assoc r.handed (t ∷ []) more ∙ r.whole;
+        }
+
+    in_text : (title : Bool) (q : Place) → In title q → IsIn q (state_of (where_in title))
+    in_text false q h = h
+    in_text true q h = h.0
+
+    text_so : (title : Bool) (q : Place) (x : ℕ) (words : List ℕ) (y : ℕ) (ys : List ℕ) → IsReadable (x ∷ words) → In title q → Moves q (escape false (x ∷ words) ++ y ∷ ys) (x ∷ words) (state_of (where_in title)) (y ∷ ys)
+    text_so false q x words y ys readable h = text_reads q InData (x ∷ words) y ys readable h
+    text_so true q x words y ys readable h = text_reads q InTitle (x ∷ words) y ys readable h.0
+
+    in_behind : (title : Bool) (q r : Place) → In title q → IsIn r (state_of (where_in title)) → r.last ≡ q.last → In title r
+    in_behind false q r h i l = i
+    in_behind true q r h i l = (i, l ∙ h.1)
+
+    pub text_taken : (title : Bool) (x : ℕ) (words : List ℕ) (more : List TokenText) (rest : List ℕ) → IsReadable (x ∷ words) → IsSome rest
+        → Reached p m xs all title (Characters (x ∷ words) ∷ more) (escape false (x ∷ words) ++ rest) → Reached p m xs all title more rest
+    text_taken title x words more rest readable some r =
+        let written = escape false (x ∷ words) in
+        let moves : Moves r.place (written ++ rest) (x ∷ words) (state_of (where_in title)) rest =
+        subst (λ zs. Moves r.place (written ++ zs) (x ∷ words) (state_of (where_in title)) zs) (sym some.is) (text_so title r.place x words some.first some.more readable r.is_in) in
+        record {
+          place = moves.place;
+          meaning = after r.meaning (Characters (x ∷ words)) r.place.began;
+          handed = r.handed ++ Characters (x ∷ words) ∷ [];
+          reply = reply_to r.meaning (Characters (x ∷ words));
+          goes = ap goes_on r.answers.0;
+          read = read_on r.read r.goes (text_step moves.passes);
+          is_in = in_behind title r.place moves.place r.is_in moves.is_in moves.last;
+          answers = r.answers.1 r.place.began;
+          whole = append_assoc r.handed (Characters (x ∷ words) ∷ []) more ∙ r.whole;
+        }
+
+    pub start_taken : (name : List ℕ) (attrs : List AttributeText) (more : List TokenText) (rest : List ℕ) → IsTagName name → is_same_text name (codes "title") ≡ false → ArePlain attrs → AreReadable attrs
+        → Reached p m xs all false (start_tag name attrs ∷ more) (codes "<" ++ (tag_written name attrs ++ (codes ">" ++ rest))) → Reached p m xs all false more rest
+    start_taken name attrs more rest tag other plain readable r =
+        token_taken false false (start_tag name attrs) more (codes "<" ++ (tag_written name attrs ++ (codes ">" ++ rest))) rest
+        (λ q i. start_handed q name attrs rest tag plain readable i)
+        (λ q byte reply c e. behind_start q byte name attrs reply other c e)
+        r
+
+    pub title_taken : (attrs : List AttributeText) (more : List TokenText) (rest : List ℕ) → ArePlain attrs → AreReadable attrs
+        → Reached p m xs all false (start_tag (codes "title") attrs ∷ more) (codes "<" ++ (tag_written (codes "title") attrs ++ (codes ">" ++ rest))) → Reached p m xs all true more rest
+    title_taken attrs more rest plain readable r =
+        token_taken false true (start_tag (codes "title") attrs) more (codes "<" ++ (tag_written (codes "title") attrs ++ (codes ">" ++ rest))) rest
+        (λ q i. start_handed q (codes "title") attrs rest is_title.tag plain readable i)
+        (λ q byte reply c e. behind_title q byte attrs reply c e)
+        r
+
+    pub end_taken : (name : List ℕ) (more : List TokenText) (rest : List ℕ) → IsTagName name
+        → Reached p m xs all false (end_tag name ∷ more) (codes "</" ++ (name ++ (codes ">" ++ rest))) → Reached p m xs all false more rest
+    end_taken name more rest tag r =
+        token_taken false false (end_tag name) more (codes "</" ++ (name ++ (codes ">" ++ rest))) rest
+        (λ q i. end_handed q name rest tag i)
+        (λ q byte reply c e. behind_end q byte name reply c)
+        r
+
+    pub title_end_taken : (more : List TokenText) (rest : List ℕ)
+        → Reached p m xs all true (end_tag (codes "title") ∷ more) (codes "</title>" ++ rest) → Reached p m xs all false more rest
+    title_end_taken more rest r =
+        token_taken true false (end_tag (codes "title")) more (codes "</title>" ++ rest) rest
+        (λ q i. title_end_handed q rest i.0 i.1)
+        (λ q byte reply c e. behind_end q byte (codes "title") reply c)
+        r
+
+    pub doctype_taken : (more : List TokenText) (rest : List ℕ)
+        → Reached p m xs all false (plain_doctype ∷ more) (codes "<!DOCTYPE html>" ++ rest) → Reached p m xs all false more rest
+    doctype_taken more rest r =
+        token_taken false false plain_doctype more (codes "<!DOCTYPE html>" ++ rest) rest
+        (λ q i. doctype_handed q rest i)
+        (λ q byte reply c e. behind_doctype q byte reply c)
+        r
+
+    -- where it is known whether an element has an end tag
+    known : (b : Bool) (name : List ℕ) (attrs : List AttributeText) (inner others : Nodes) (more : List TokenText) (rest : List ℕ) → has_end_tag name ≡ b
+        → Reached p m xs all false (tokens_before (ElementThen name attrs inner others) more) (written_before (ElementThen name attrs inner others) rest)
+        → Reached p m xs all false
+        (start_tag name attrs ∷ cond b (tokens_before inner (end_tag name ∷ tokens_before others more)) (tokens_before others more))
+        (codes "<" ++ (tag_written name attrs ++ (codes ">" ++ cond b (written_before inner (codes "</" ++ (name ++ (codes ">" ++ written_before others rest)))) (written_before others rest))))
+    known b name attrs inner others more rest e r =
+        subst (λ (c : Bool). Reached p m xs all false
+        (start_tag name attrs ∷ cond c (tokens_before inner (end_tag name ∷ tokens_before others more)) (tokens_before others more))
+        (codes "<" ++ (tag_written name attrs ++ (codes ">" ++ cond c (written_before inner (codes "</" ++ (name ++ (codes ">" ++ written_before others rest)))) (written_before others rest))))) e r
+
+    nodes_taken : {b : Bool} (ns : Nodes) (more : List TokenText) (rest : List ℕ) → Shape b ns → CanBeRead ns → Room ns rest
+        → Reached p m xs all false (tokens_before ns more) (written_before ns rest) → Reached p m xs all false more rest
+    nodes_taken End more rest None c k r = r
+    nodes_taken _ more rest (Text {first} {more = words} {rest = others} s) c k r =
+        nodes_taken others more rest s c.1 k.1 (text_taken false first words (tokens_before others more) (written_before others rest) c.0 k.0 r)
+    nodes_taken _ more rest (Void {name} {attrs} {rest = others} v plain s) c k r =
+        nodes_taken others more rest s c.1.1 k
+        (start_taken name attrs (tokens_before others more) (written_before others rest) v.tag v.other plain c.0 (known false name attrs End others more rest v.ends r))
+    nodes_taken _ more rest (Element {name} {attrs} {inner} {rest = others} o plain i s) c k r =
+        let ending = codes "</" ++ (name ++ (codes ">" ++ written_before others rest)) in
+        nodes_taken others more rest s c.1.1 k
+        (end_taken name (tokens_before others more) (written_before others rest) o.tag
+        (nodes_taken inner (end_tag name ∷ tokens_before others more) ending i c.1.0 (room inner ending (record { first = 60; more = _; is = refl }))
+        (start_taken name attrs (tokens_before inner (end_tag name ∷ tokens_before others more)) (written_before inner ending) o.tag o.other plain c.0 (known true name attrs inner others more rest o.ends r))))
+    nodes_taken _ more rest (Title {attrs} {first} {more = words} {rest = others} plain s) c k r =
+        let ending = codes "</title>" ++ written_before others rest in
+        nodes_taken others more rest s c.1.1 k
+        (title_end_taken (tokens_before others more) (written_before others rest)
+        (text_taken true first words (end_tag (codes "title") ∷ tokens_before others more) ending c.1.0.0 (record { first = 60; more = _; is = refl })
+        (title_taken attrs (Characters (first ∷ words) ∷ end_tag (codes "title") ∷ tokens_before others more) (escape false (first ∷ words) ++ ending) plain c.0
+        (known true (codes "title") attrs (TextThen (first ∷ words) End) others more rest is_title.ends r))))
+
+  none_left : (place : Place) → In false place → last_tokens references place ≡ []
+  none_left place i = ap (λ s. told (at_end references s).text ++ handed (at_end references s).token) i.at
+
+  -- the end
+  pub ends : (p : Place) (m : M) (xs : List ℕ) (all : List TokenText) → Reached p m xs all false (EndOfFile ∷ []) [] → (n : M) × ReadsToEnd references reply_to after foreign ended p m xs all n
+  ends p m xs all r =
+      let none = none_left r.place r.is_in in (
+        ended (after (after_all after r.meaning (last_tokens references r.place) r.place.began) EndOfFile r.place.line),
+        record {
+          handed = r.handed;
+          place = r.place;
+          meaning = r.meaning;
+          readings = more_reading no_reading r.read (unrefused r.reply r.goes);
+          tokens = sym r.whole ∙ ap (λ o. r.handed ++ (o ++ EndOfFile ∷ [])) (sym none);
+          closed = refl;
+        },
+      )
+
+  -- a document's text is read to its end, as the tokens of the document
+  pub document_read : (d : PlainDocument) (m : M) → IsReadableDocument d → Answers reply_to after m (document_tokens d) → (n : M) × ReadsToEnd references reply_to after foreign ended (first_place default_options) m (written_of d) (document_tokens d) n
+  document_read d m readable answers =
+      let p = first_place default_options in
+      let xs = written_of d in
+      let all = document_tokens d in
+      let first : Reached p m xs all false (document_tokens d) xs = record {
+        place = p;
+        meaning = m;
+        handed = [];
+        reply = Continues;
+        goes = refl;
+        read = nothing_read;
+        is_in = record { at = refl; after_return = refl };
+        answers = answers;
+        whole = refl;
+      } in
+      ends p m xs all
+      (nodes_taken p m xs all (root_of d) (EndOfFile ∷ []) [] (document_shape d) readable tt
+      (doctype_taken p m xs all (tokens_before (root_of d) (EndOfFile ∷ [])) (written_before (root_of d) []) first))

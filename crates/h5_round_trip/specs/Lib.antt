@@ -1,0 +1,4 @@
+pub mod Written
+pub mod Readable
+pub mod Answers
+pub mod Markup

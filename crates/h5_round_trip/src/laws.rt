@@ -1,0 +1,54 @@
+//! The laws of writing and reading, each the contract of a function that does nothing.
+ghost use Rattle.std.specs.Prelude.{◌≡◌, ℕ, true, false, None, List};
+ghost use Rattle.h5_token.specs.Joins.{join};
+ghost use Rattle.h5_interface.specs.Forest.{Forest, IsForest};
+ghost use Rattle.h5_markup.specs.Text.{text_of};
+ghost use Rattle.h5_reading.specs.Options.{default_options};
+ghost use Rattle.h5_tokenizer.specs.Options.{first_place};
+ghost use Rattle.h5_tokenizer.specs.Whole.{ReadsToEnd};
+ghost use Rattle.h5_serialize.specs.Escape.{escape};
+ghost use Rattle.h5_serialize.specs.Standing.{new_standing, walk_text};
+ghost use Rattle.h5_serialize.specs.declared.options.SerializeOpts.{SerializeOpts};
+ghost use Rattle.h5_serialize.specs.declared.options.TraversalScope.TheVariants.{ChildrenOnly};
+ghost use Rattle.h5_arena.specs.NodeCalls.{walk_of};
+ghost use Rattle.h5_plain.specs.Plain.{PlainDocument, document_tokens, root_of};
+ghost use Rattle.h5_plain.specs.Rebuilding.{DocumentStands};
+ghost use Rattle.h5_round_trip.specs.Answers.{Answers};
+ghost use Rattle.h5_round_trip.specs.Readable.{IsReadable, IsReadableDocument};
+ghost use Rattle.h5_round_trip.specs.Written.{written_of};
+
+pub mod standard;
+
+use h5_arena::laws::calls_stand_around_those_of_children;
+use h5_token::TokenSink;
+
+/// A value that was escaped is read back, if it is a text with neither NUL nor CR.
+pub fn values_are_read_back()
+    ensures { (value : List ℕ) → IsReadable value → text_of true (escape true value) ≡ value }
+{}
+
+/// The tokens of a plain document have no two texts beside each other.
+pub fn texts_of_documents_stand_apart()
+    ensures { (d : PlainDocument) → join (document_tokens d) ≡ document_tokens d }
+{}
+
+/// What a serializer writes of the children of a document in which a plain document stands is that document's text.
+pub fn documents_are_written()
+    ensures { (f : Forest) (d : PlainDocument) (opts : SerializeOpts) → IsForest f → DocumentStands f d
+        → opts.traversal_scope ≡ ChildrenOnly None → opts.create_missing_parent ≡ false
+        → walk_text (new_standing opts) (walk_of f f.document opts.traversal_scope) ≡ written_of d }
+{
+    calls_stand_around_those_of_children();
+}
+
+/// Different documents have different texts: two that can be read and have one text hold the same nodes.
+pub fn different_documents_have_different_texts()
+    ensures { (d e : PlainDocument) → IsReadableDocument d → IsReadableDocument e → written_of d ≡ written_of e → root_of d ≡ root_of e }
+{}
+
+/// The text of a plain document that can be read is read to its end, and its tokens are handed on, over every taker of
+/// tokens that answers them as a builder does: "go on", and to the start tag of a title that its text follows.
+pub fn documents_are_read<S: TokenSink>()
+    ensures { (d : PlainDocument) (m : S.Meaning) → IsReadableDocument d → Answers S.reply_to S.after m (document_tokens d)
+        → (n : S.Meaning) × ReadsToEnd S.reply_to S.after S.is_foreign S.ended (first_place default_options) m (written_of d) (document_tokens d) n }
+{}

@@ -1,0 +1,32 @@
+//! The laws of reading by the standard, each the contract of a function that does nothing.
+ghost use Rattle.std.specs.Prelude.{List};
+ghost use Rattle.h5_reading.specs.Options.{default_options};
+ghost use Rattle.h5_tokenizer.specs.Options as plain;
+ghost use Rattle.h5_tokenizer.specs.Whole as plain_reader;
+ghost use Rattle.h5_states.specs.ReferenceTable.{references};
+ghost use Rattle.h5_states.specs.Whole.{ReadsToEnd};
+ghost use Rattle.h5_standard.specs.Options.{first_place};
+ghost use Rattle.h5_plain.specs.Plain.{PlainDocument, document_tokens};
+ghost use Rattle.h5_round_trip.specs.Answers.{Answers};
+ghost use Rattle.h5_round_trip.specs.Readable.{IsReadableDocument};
+ghost use Rattle.h5_round_trip.specs.Written.{written_of};
+ghost use Rattle.h5_round_trip.specs.Markup.{AreMarks, Mark, page_tokens, written_page};
+
+use h5_token::TokenSink;
+
+/// The text of a plain document is read by the standard's states as the document's tokens, over a taker that answers as a
+/// builder does that rebuilds the document, if its texts and values hold neither NUL nor CR, and its attributes have names that
+/// are read as they are written.
+pub fn documents_are_read<S: TokenSink>()
+    ensures { (d : PlainDocument) (m : S.Meaning) → IsReadableDocument d → Answers S.reply_to S.after m (document_tokens d)
+        → (n : S.Meaning) × ReadsToEnd references S.reply_to S.after S.is_foreign S.ended (first_place default_options) m (written_of d) (document_tokens d) n }
+{}
+
+/// Both readers read markup alike that is written as a serializer writes it: of its text the plain reader and the standard's
+/// states hand on the same tokens, over a taker that goes on, and turns to the text of a title behind its start tag. Nothing is
+/// asked of how elements are nested.
+pub fn markup_is_read_alike<S: TokenSink>()
+    ensures { (marks : List Mark) (m : S.Meaning) → AreMarks marks → Answers S.reply_to S.after m (page_tokens marks)
+        → ((n : S.Meaning) × plain_reader.ReadsToEnd S.reply_to S.after S.is_foreign S.ended (plain.first_place default_options) m (written_page marks) (page_tokens marks) n)
+        × ((n : S.Meaning) × ReadsToEnd references S.reply_to S.after S.is_foreign S.ended (first_place default_options) m (written_page marks) (page_tokens marks) n) }
+{}

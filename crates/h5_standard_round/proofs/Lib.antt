@@ -1,7 +1,0 @@
-pub mod RunLaws
-pub mod ReferenceLaws
-pub mod TextLaws
-pub mod TagLaws
-pub mod ReadingLaws
-pub mod MarkupLaws
-pub mod PlainMarkupLaws

@@ -1,5 +1,0 @@
-use Rattle.h5_standard_round.proofs.ReadingLaws.{document_read}
-use Rattle.h5_standard_round.proofs.laws.documents_are_read.Goals as goal
-
-pub returns : goal.returns
-returns g c = document_read g.S.TokenSink.reply_to g.S.TokenSink.after g.S.TokenSink.is_foreign g.S.TokenSink.ended

@@ -1,0 +1,78 @@
+//! What an arena shows.
+use h5_arena::Arena;
+use h5_lines::read_escapes;
+use h5_print::print_tree;
+use std::alloc::{AllocError, Global};
+use std::fmt::Write;
+
+// Puts a line of a printed tree to a document: behind `| `, with its escapes undone, and below a line end if it isn't the first.
+fn put_line(alloc: Global, document: &mut String, line: &str) -> Result<(), AllocError> {
+    if !document.is_empty() {
+        document.push('\n')?;
+    }
+    document.push_str("| ")?;
+    match read_escapes(alloc, line)? {
+        Some(text) => document.push_str(text.as_str()),
+        None => document.push_str(line),
+    }
+}
+
+/// The tree of a document, or what the root of a fragment holds: the printed lines that begin with this indent, without it.
+pub fn document_of(alloc: Global, arena: &Arena, indent: &str) -> Result<String, AllocError> {
+    let tree = print_tree(alloc, arena)?;
+    let mut document = String::new(alloc);
+    for line in tree.as_str().lines() {
+        if let Some(line) = line.strip_prefix(indent) {
+            put_line(alloc, &mut document, line)?;
+        }
+    }
+    Ok(document)
+}
+
+/// The lines of what parse errors say.
+pub fn messages_of(alloc: Global, arena: &Arena) -> Result<String, AllocError> {
+    let mut lines = String::new(alloc);
+    for message in arena.errors() {
+        writeln!(lines, "{message}")?;
+    }
+    Ok(lines)
+}
+
+// The name of the element of this number that has no parent.
+fn loose_name(arena: &Arena, number: usize) -> Option<&str> {
+    let node = arena.id(number)?;
+    match (arena.parent(node), arena.name(node)) {
+        (None, Some(name)) => Some(name.local.as_str()),
+        _ => None,
+    }
+}
+
+/// The lines of the elements that have no parent: their numbers, by the order in which nodes were made, and names.
+pub fn loose_of(alloc: Global, arena: &Arena) -> Result<String, AllocError> {
+    let mut lines = String::new(alloc);
+    for number in 0..arena.len() {
+        if let Some(name) = loose_name(arena, number) {
+            writeln!(lines, "{number} {name}")?;
+        }
+    }
+    Ok(lines)
+}
+
+// Whether the node of this number is a script that has started.
+fn has_started(arena: &Arena, number: usize) -> bool {
+    match arena.id(number) {
+        Some(node) => arena.started(node),
+        None => false,
+    }
+}
+
+/// How many scripts have started.
+pub fn count_started(arena: &Arena) -> usize {
+    let mut count: usize = 0;
+    for number in 0..arena.len() {
+        if has_started(arena, number) {
+            count = count.saturating_add(1);
+        }
+    }
+    count
+}

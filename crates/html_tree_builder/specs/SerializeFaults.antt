@@ -1,0 +1,2 @@
+-- What a serializer may fail of.
+pub use Rattle.h5_serialize.specs.declared.fault.SerializeFault.TheVariants.{NoParent, Memory, Write, Failed}
