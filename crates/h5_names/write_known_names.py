@@ -314,10 +314,10 @@ def files_of(names, sets, fronts):
         ("h5_names/specs/KnownNames.antt", lambda text: write_definitions(names, factors, text)),
         ("h5_names/proofs/KnownNameLemmas.antt", lambda text: write_count(names, text)),
         ("h5_names/proofs/known_slots/name_of_number/Answers.antt", lambda text: write_count(names, text)),
-        ("h5_tag_sets/src/name_sets.rt", lambda text: write_flags(names, sets, text)),
-        ("h5_tag_sets/specs/NameSets.antt", lambda text: write_set_definitions(sets, text)),
-        ("h5_tag_sets/specs/TagSets.antt", lambda text: write_lists(names, sets, fronts, text)),
-        ("h5_tag_sets/proofs/NameLemmas.antt", lambda text: write_set_lemmas(sets, text)),
+        ("h5_tables/src/name_sets.rt", lambda text: write_flags(names, sets, text)),
+        ("h5_tables/specs/NameSets.antt", lambda text: write_set_definitions(sets, text)),
+        ("h5_tables/specs/TagSets.antt", lambda text: write_lists(names, sets, fronts, text)),
+        ("h5_tables/proofs/NameLemmas.antt", lambda text: write_set_lemmas(sets, text)),
         ("h5_serialize/src/known_tags.rt", lambda text: write_tags(names, text)),
     ):
         yield path, write(read_file(path))

@@ -1,10 +1,11 @@
 #!/usr/bin/env python3
-"""Writes src/numbers.rt, the table of named character references, out of the definition's list.
+"""Writes the table of named character references out of the definition's list, and what tells the common ones by their numbers.
 
-    write_table.py           writes the file if it differs
-    write_table.py --check   writes nothing; the status is 1 where the file differs
+    write_table.py           writes the files that differ
+    write_table.py --check   writes nothing; the status is 1 where a file differs
 
-The list is crates/h5_states/specs/ReferenceTable.antt. All of src/numbers.rt is written here.
+The list is crates/h5_states/specs/ReferenceTable.antt. All of src/numbers.rt, src/common.rt and proofs/CommonLemmas.antt is
+written here.
 """
 import os
 import re
@@ -13,6 +14,40 @@ import sys
 CRATES = os.path.dirname(os.path.dirname(os.path.abspath(__file__)))
 LIST = "h5_states/specs/ReferenceTable.antt"
 NUMBERS = "h5_references/src/numbers.rt"
+COMMON = "h5_references/src/common.rt"
+LEMMAS = "h5_references/proofs/CommonLemmas.antt"
+# The names that texts have most.
+COMMON_NAMES = ["amp;", "lt;", "gt;", "quot;", "nbsp;"]
+
+COMMON_HEAD = """//! The names that texts have most, told by their bytes alone. `write_table.py` writes this file.
+ghost use Rattle.std.specs.Prelude.{◌≡◌, ◌<◌, true, IfSome};
+ghost use Rattle.h5_states.specs.References.{ends_in};
+ghost use Rattle.h5_states.specs.Signs.{semicolon};
+ghost use Rattle.h5_states.specs.Words.{begins, same};
+ghost use Rattle.h5_references.specs.Numbered.{how_many, name_of};
+
+/// The number of a common name that a text begins with. The name ends in a semicolon, so it is the longest one there.
+#[tactic(auto, using(crate::proofs::CommonLemmas::common_names))]
+pub fn common(text: &[u8]) -> Option<usize>
+    ensures within_table { IfSome result (λ number. number < how_many) }
+    ensures closed { IfSome result (λ number. ends_in semicolon (name_of number) ≡ true) }
+    ensures in_front { IfSome result (λ number. begins same (name_of number) text.now ≡ true) }
+{
+    // each name, with its number in the table
+    match text {
+"""
+COMMON_END = """        _ => None,
+    }
+}
+"""
+
+LEMMAS_HEAD = """-- The common names by their numbers, and the bytes by which they are told. `write_table.py` writes this file.
+use Rattle.std.proofs.Common.{◌≡◌, ℕ, ◌≤◌, true, refl, ap, ◌∙◌, List, length, get_or, codes}
+use Rattle.h5_states.specs.ReferenceTable.{references}
+use Rattle.h5_states.specs.Words.{begins, same}
+use Rattle.h5_references.specs.Numbered.{name_of}
+use Rattle.h5_references.proofs.HasBytes.{has_begins}
+"""
 
 WIDTH = 100
 INDENT = " " * 4
@@ -100,18 +135,60 @@ pub static TEXT_BEGINS: [u16; {len(text_begins)}] = {listed(text_begins)};
 """
 
 
-def main(words):
-    text = written(read())
-    path = f"{CRATES}/{NUMBERS}"
+def arm(name, number):
+    """The arm of the match that tells a name by its bytes."""
+    letters = ", ".join(f"b'{letter}'" for letter in name)
+    return f"        [{letters}, ..] => Some({number}),\n"
+
+
+def lemmas(name, number):
+    """That a name has its number, and that a text with its bytes begins with it."""
+    word = name.rstrip(";")
+    bytes_there = " → ".join(f"get_or text {at} 0 ≡ {ord(letter)}" for at, letter in enumerate(name))
+    facts = [f"at{at}" for at in range(len(name))]
+    found = "le"
+    for fact in reversed(facts):
+        found = f"({fact}, {found})"
+    return f"""
+pub {word}_stands : name_of {number} ≡ codes "{name}"
+unfolding references
+{word}_stands = refl
+
+pub {word}_in_front : (text : List ℕ) → {len(name)} ≤ length text → {bytes_there} → begins same (name_of {number}) text ≡ true
+{word}_in_front text le {" ".join(facts)} = ap (λ name. begins same name text) {word}_stands ∙ has_begins (codes "{name}") text {found}
+"""
+
+
+def written_common(references):
+    """The code and the lemmas of the common names."""
+    numbers = {name.decode(): number for number, (name, _) in enumerate(references)}
+    found = [(name, numbers[name]) for name in COMMON_NAMES]
+    words = [name.rstrip(";") for name, _ in found]
+    named = ", ".join([f"{word}_stands" for word in words] + [f"{word}_in_front" for word in words])
+    code = COMMON_HEAD + "".join(arm(*it) for it in found) + COMMON_END
+    return code, LEMMAS_HEAD + "".join(lemmas(*it) for it in found) + f"\n-- by which each arm of the match is proved\npub ruleset common_names = ({named})\n"
+
+
+def differs(name, text, writes):
+    """Whether a file isn't what is written here; then it is written, unless it is only looked at."""
+    path = f"{CRATES}/{name}"
     if os.path.exists(path):
         with open(path, encoding="utf-8") as file:
             if file.read() == text:
-                return 0
-    print(f"crates/{NUMBERS} {'is not what' if words else 'is written anew, as'} crates/{LIST} says")
-    if not words:
+                return False
+    print(f"crates/{name} {'is written anew, as' if writes else 'is not what'} crates/{LIST} says")
+    if writes:
         with open(path, "w", encoding="utf-8") as file:
             file.write(text)
-    return 1 if words else 0
+    return True
+
+
+def main(words):
+    references = read()
+    code, proofs = written_common(references)
+    files = [(NUMBERS, written(references)), (COMMON, code), (LEMMAS, proofs)]
+    other = [differs(name, text, not words) for name, text in files]
+    return 1 if words and any(other) else 0
 
 
 if sys.argv[1:] not in ([], ["--check"]):

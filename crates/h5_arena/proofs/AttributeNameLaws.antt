@@ -45,15 +45,6 @@ name_put xs i x name old mid new within e w put so_far q =
     ∙ put_last (contains name_cmp old q) (is_same_name (get_or xs i x).name q) (list_any (λ a. is_same_name a.name q) (take i xs))
     ∙ ap (λ b. contains name_cmp old q || b) (sym (list_any_more (λ (a : Attribute). is_same_name a.name q) xs i x within))
 
--- a set begins without names
-pub no_names : (new names : BTreeSet QualName) (attrs : List AttributeText) → IsEmpty new → ((q : QualName) → contains name_cmp names q ≡ (contains name_cmp new q || has_attribute q attrs)) → AreNames names attrs
-no_names new names attrs none h q = h q ∙ ap (λ ks. list_any (λ k. is_eq (name_cmp q k)) ks || has_attribute q attrs) none
-
--- the names of more attributes come to those of others
-pub more_names : (names news : BTreeSet QualName) (attrs more : List AttributeText) → AreNames names attrs → ((q : QualName) → contains name_cmp news q ≡ (contains name_cmp names q || has_attribute q more)) → AreNames news (attrs ++ more)
-more_names names news attrs more known h q =
-    h q ∙ ap (λ b. b || has_attribute q more) (known q) ∙ sym (list_any-append (λ (a : AttributeText). is_same_name a.name q) attrs more)
-
 -- all names are there in the end
 pub all_names : (xs : List Attribute) (i : ℕ) (q : QualName) → length xs ≤ i → list_any (λ a. is_same_name a.name q) (take i xs) ≡ has_attribute q (attribute_texts xs)
 all_names xs i q past = ap (list_any (λ (a : Attribute). is_same_name a.name q)) (take_all i xs past) ∙ sym (any_of_texts (λ a. is_same_name a.name q) xs)

@@ -138,19 +138,3 @@ element_within ns n e = node_exists ns n (node_of_kind (forest_in ns) n (Element
 -- what is seen, where the forest alone changed
 pub seen_after : (f g : Forest) (q : QuirksMode) (e : ℕ) → f ≡ g → ◌≡◌ {A = Seen} (record { forest = f; quirks = q; errors = e }) (record { forest = g; quirks = q; errors = e })
 seen_after f g q e w = ap (λ h. record { forest = h; quirks = q; errors = e }) w
-
--- what has a name is an element
-pub named_element : (a : ArenaView) (id : NodeId) (q : QualName) → at_node (λ d. name_of_kind d.kind) a id ≡ Some (Some q) → kind_of (forest_of a.nodes) id.index ≡ Some (ElementNode q)
-named_element a id q e = at (slice_get a.nodes id.index) refl
-  where
-    kind : (k : Kind) → Some (name_of_kind k) ≡ Some (Some q) → k ≡ ElementNode q
-    kind DocumentNode w = cc
-    kind (DoctypeNode name public_id system_id) w = cc
-    kind (ElementNode name) w = let v : name ≡ q = cc in ap ElementNode v
-    kind (CommentNode text) w = cc
-    kind (InstructionNode target text) w = cc
-    kind FragmentNode w = cc
-
-    at : (o : Option Node) → slice_get a.nodes id.index ≡ o → kind_of (forest_of a.nodes) id.index ≡ Some (ElementNode q)
-    at None w = let v = (rw w at e) in cc
-    at (Some d) w = rw w (ap (λ k. Some k) (kind d.kind (rw w at e)))

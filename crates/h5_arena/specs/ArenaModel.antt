@@ -1,5 +1,5 @@
 -- What an arena holds: its nodes in the order in which they were made, and the forest that they are.
-use Rattle.std.specs.Prelude.{◌≡◌, ◌<◌, ◌+◌, ℕ, ◌-◌, ◌==◌, ◌&&◌, Bool, true, false, cond, length, List, [], ◌∷◌, map, Option, None, Some, String, slice_get, string_bytes, refl}
+use Rattle.std.specs.Prelude.{◌≡◌, ◌≢◌, ◌<◌, ◌+◌, ℕ, ◌-◌, ◌==◌, ◌&&◌, Bool, true, false, cond, length, List, [], ◌∷◌, map, Option, None, Some, String, slice_get, string_bytes, refl}
 use Rattle.std.specs.BTreeSet.{BTreeSet}
 use Rattle.std.specs.List.{find}
 use Rattle.std.specs.Option.{option_and_then, option_map, option_map_or}
@@ -174,6 +174,15 @@ child_parent_of_kind FragmentNode parent = None
 
 abbrev pub child_parent : Node → Option ℕ
 child_parent d = child_parent_of_kind d.kind d.parent
+
+-- a node is a child of this one
+pub record IsChildOf (f : Forest) (n p : ℕ) : Type 0 where
+  pub parent : forest.parent_of f n ≡ Some p
+  pub no_fragment : forest.kind_of f n ≢ Some FragmentNode
+
+-- a node is nobody's child: it has no parent, unless it is the contents of a template
+abbrev pub IsNoChild : Forest → ℕ → Type 0
+IsNoChild f n = forest.kind_of f n ≢ Some FragmentNode → forest.parent_of f n ≡ None
 
 -- what an arena knows of a node
 abbrev pub at_node : {T : Type 0} → (Node → T) → ArenaView → NodeId → Option T

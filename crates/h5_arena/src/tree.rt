@@ -1,5 +1,5 @@
 //! The arena, and the calls that read it.
-ghost use Rattle.std.specs.Prelude.{◌≡◌, ◌<◌, All, IfOk, IfSome, Some, length, nat_lt, option_copied, true};
+ghost use Rattle.std.specs.Prelude.{◌≡◌, ◌<◌, All, IfNone, IfOk, IfSome, Some, length, nat_lt, option_copied, true};
 ghost use Rattle.h5_names.specs.AttributeText.{attribute_texts};
 
 use super::attribute_names::AttributeNames;
@@ -38,7 +38,7 @@ impl Model for Arena {
 }
 
 ghost use Rattle.h5_interface.specs.Forest.{IsElement, IsNode};
-ghost use Rattle.h5_arena.specs.ArenaModel.{ArenaView, IsChildHeld, IsHeld, at_node, child_parent, child_views, forest_seen, fragment_root, id_at, kind_view, name_of_kind, new_arena, optional_place, silent_arena, texts_of, value_of};
+ghost use Rattle.h5_arena.specs.ArenaModel.{ArenaView, IsChildHeld, IsChildOf, IsHeld, IsNoChild, at_node, child_parent, child_views, forest_seen, fragment_root, id_at, kind_view, name_of_kind, new_arena, optional_place, silent_arena, texts_of, value_of};
 
 impl Arena {
     /// An arena that holds its document alone, with NoQuirks and no error, or an `AllocError` where memory
@@ -159,6 +159,17 @@ impl Arena {
 
     /// Whose child a node is. The contents of a template are nobody's child.
     pub fn parent(&self, id: NodeId) -> Option<NodeId>
+        requires { IsHeld self.now id }
+        ensures parent { at_node child_parent self.now id ≡ Some (optional_place result) }
+        ensures held { IfSome result (IsHeld self.now) }
+        ensures child { IfSome result (λ parent. IsChildOf (forest_seen self.now) id.index parent.index) }
+        ensures no_child { IfNone result (IsNoChild (forest_seen self.now) id.index) }
+    {
+        self.child_parent(id)
+    }
+
+    // Whose child a node is, as it is kept beside the node.
+    fn child_parent(&self, id: NodeId) -> Option<NodeId>
         requires { IsHeld self.now id }
         ensures parent { at_node child_parent self.now id ≡ Some (optional_place result) }
         ensures held { IfSome result (IsHeld self.now) }

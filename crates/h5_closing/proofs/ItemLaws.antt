@@ -2,7 +2,7 @@
 use Rattle.std.proofs.Common.{◌≡◌, ◌+◌, ◌≤◌, arith, length, length-append, sym, ℕ, Bool, true, false, cond, not, ◌&&◌, ◌||◌, Some, None, List, [], ◌∷◌, ◌++◌, refl, ap, ◌∙◌}
 use Rattle.h5_names.specs.AttributeText.{is_same_text}
 use Rattle.h5_names.specs.declared.qualified.QualName.{QualName}
-use Rattle.h5_tag_sets.specs.TagSets.{html_namespace, is_foreign_special, is_one_of, is_special, special_names}
+use Rattle.h5_tables.specs.TagSets.{html_namespace, is_foreign_special, is_one_of, is_special, special_names}
 use Rattle.h5_rules.specs.stack.Closing.{ends_item_search, is_html_among, newest_item, passed_names}
 use Rattle.h5_rules.specs.modes.InBody.{description_names, list_item_names}
 use Rattle.std.specs.List.{list_any}

@@ -2,15 +2,15 @@
 use Rattle.std.proofs.Common.{◌≡◌, ◌<◌, ◌≤◌, ◌+◌, ◌&&◌, ◌||◌, Bool, codes, cond, not, true, false, ℕ, List, [], ◌∷◌, ◌++◌, length, length-append, Some, None, refl, ap, sym, ◌∙◌, arith}
 use Rattle.h5_names.specs.AttributeText.{is_same_text}
 use Rattle.h5_names.specs.declared.qualified.QualName.{QualName}
-use Rattle.h5_tag_sets.specs.TagSets.{html_namespace, is_one_of}
-use Rattle.h5_types.specs.declared.modes.InsertionMode.{InsertionMode}
+use Rattle.h5_tables.specs.TagSets.{html_namespace, is_one_of}
+use Rattle.h5_tables.specs.declared.modes.InsertionMode.{InsertionMode}
 use Rattle.h5_rules.specs.stack.Closing.{is_html_among}
 use Rattle.h5_state.specs.Newest.{newest_where}
 use Rattle.h5_state.proofs.NewestLaws.{newest_le, same_text-sym}
 use Rattle.h5_rules.specs.fitting.Fits.{Situation}
 use Rattle.h5_rules.specs.fitting.ResetByRoles.{context_or, decide, decide_root, reset}
 use Rattle.h5_rules.specs.fitting.Roles.{BodyRole, CaptionRole, CellRole, ColgroupRole, FramesetRole, HeadRole, HtmlRole, PlainRole, Role, RowRole, SectionRole, TableRole, TemplateRole, is_cell_role, is_head, is_plain, role_of, role_of_local, roles}
-use Rattle.h5_types.specs.declared.modes.InsertionMode.TheVariants.{InBody}
+use Rattle.h5_tables.specs.declared.modes.InsertionMode.TheVariants.{InBody}
 
 -- at the root the others decide as elsewhere
 pub root_decides : (s : Situation) (r : Role) → (is_cell_role r || is_head r) ≡ false → decide_root s r ≡ decide s r InBody

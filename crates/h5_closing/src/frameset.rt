@@ -12,7 +12,7 @@ ghost use Rattle.h5_state.specs.Steps.{IsSound, MakesIfOk, errors_of, world_of};
 use h5_interface::TreeSink;
 use h5_names::KnownName;
 use h5_state::{State, truncate};
-use h5_tag_sets::is_html_known;
+use h5_tables::is_html_known;
 use std::alloc::AllocError;
 
 /// Whether only the root is open.

@@ -2,7 +2,7 @@
 //! 13.2.6.4.7).
 ghost use Rattle.std.specs.Prelude.{◌≡◌, Bool, MatchOption, codes, false, if◌then◌else◌, is_some, length, true};
 ghost use Rattle.h5_names.specs.declared.qualified.QualName.{QualName as NameText};
-ghost use Rattle.h5_tag_sets.specs.TagSets.{is_default_scope, is_heading, is_html_named, is_implied};
+ghost use Rattle.h5_tables.specs.TagSets.{is_default_scope, is_heading, is_html_named, is_implied};
 ghost use Rattle.h5_rules.specs.stack.Expected.{is_expected, is_expected_p, names_behind_p};
 ghost use Rattle.h5_rules.specs.stack.Scope.{cut_through, drop_while, first_passes, in_scope, is_implied_but};
 ghost use Rattle.h5_rules.specs.Rows.{ClosePElement, ClosePElementInButtonScope, GenerateImpliedEnd, GenerateImpliedEndInSelect, PopHeading, PopUntilHeading};
@@ -16,7 +16,7 @@ use h5_state::{
     has_p_in_button_scope, in_scope_named, is_current, is_current_html, pop, pop_until_named,
     pop_while, truncate,
 };
-use h5_tag_sets::ElementSet;
+use h5_tables::ElementSet;
 
 /// Where the first HTML element of this name stands, from the current node on, if it is in scope: so many elements are
 /// older.
@@ -51,7 +51,7 @@ pub fn is_current_heading<S: TreeSink>(sink: &S, state: &State<S::Handle>) -> bo
 
 /// Pops elements whose end tags are implied (HTML standard, section 13.2.6.3, "generate implied end tags"). What is older
 /// than the first element of a kind that has no implied end tag stays.
-pub fn generate_implied_end<S: TreeSink>(sink: &mut S, state: &mut State<S::Handle>)
+pub fn generate_implied_end_tags<S: TreeSink>(sink: &mut S, state: &mut State<S::Handle>)
     requires { IsSound S.TreeSink sink.old state.old }
     ensures made { Makes S.TreeSink GenerateImpliedEnd sink.old state.old sink.new state.new }
     ensures older { (is : NameText → Bool) → ((name : NameText) → is_implied name ≡ true → is name ≡ false)
@@ -71,7 +71,7 @@ pub fn generate_implied_end_in_select<S: TreeSink>(sink: &mut S, state: &mut Sta
         then drop_while is_implied (names_of (world_of S.TreeSink sink.old state.old)) else names_of (world_of S.TreeSink sink.old state.old)) }
 {
     if in_scope_named(sink, state, KnownName::Select) {
-        generate_implied_end(sink, state);
+        generate_implied_end_tags(sink, state);
     }
 }
 

@@ -27,7 +27,7 @@ pub use expected::expect_to_close;
 pub use frameset::{is_below_frameset, is_root_alone, remove_body};
 pub use implied_ends::{
     close_p_element, close_p_element_in_button_scope, find_heading_in_scope, find_in_default_scope,
-    generate_implied_end, generate_implied_end_in_select, is_current_heading, pop_heading,
+    generate_implied_end_in_select, generate_implied_end_tags, is_current_heading, pop_heading,
     pop_until_heading,
 };
 pub use leaving_foreign::{

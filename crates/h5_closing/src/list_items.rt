@@ -2,7 +2,7 @@
 ghost use Rattle.std.specs.Prelude.{◌≡◌, MatchOption, None, Some, codes, if◌then◌else◌, is_none, is_some, length, true};
 ghost use Rattle.std.specs.Option.{option_map};
 ghost use Rattle.h5_names.specs.KnownNames.{name_text};
-ghost use Rattle.h5_tag_sets.specs.TagSets.{is_html_named, is_list_item_scope};
+ghost use Rattle.h5_tables.specs.TagSets.{is_html_named, is_list_item_scope};
 ghost use Rattle.h5_rules.specs.stack.Scope.{cut_through, in_scope};
 ghost use Rattle.h5_rules.specs.stack.Closing.{is_html_among, newest_item};
 ghost use Rattle.h5_rules.specs.Rows.{CloseListItem};
@@ -17,7 +17,7 @@ use h5_state::{
     Known, State, all_open, find_in_scope, find_named, generate_implied_end_except,
     is_current_html, name_at, pop_until_named,
 };
-use h5_tag_sets::ElementSet;
+use h5_tables::ElementSet;
 
 /// Items that close one another.
 #[derive(Clone, Copy)]
@@ -29,7 +29,7 @@ pub enum ItemKind {
 }
 
 // Which item of this kind has this name, if one does.
-#[tactic(auto, unfolding(h5_rules::specs::modes::InBody::list_item_names, h5_rules::specs::modes::InBody::description_names, h5_tag_sets::specs::TagSets::html_namespace))]
+#[tactic(auto, unfolding(h5_rules::specs::modes::InBody::list_item_names, h5_rules::specs::modes::InBody::description_names, h5_tables::specs::TagSets::html_namespace))]
 fn item_of(name: &QualName, kind: ItemKind) -> Option<KnownName>
     ensures { option_map name_text result ≡ (if is_html_among (item_names kind) name.now then Some name.now.local else None) }
 {

@@ -4,7 +4,7 @@ ghost use Rattle.h5_names.specs.declared.qualified.QualName.{QualName as NameTex
 ghost use Rattle.h5_rules.specs.fitting.ResetByRoles.{decide, decide_root, first_mode, reset};
 ghost use Rattle.h5_rules.specs.fitting.Roles.{is_cell_role, is_head, role_of, role_of_local, roles};
 ghost use Rattle.h5_rules.specs.World.{names_of};
-ghost use Rattle.h5_types.specs.declared.modes.InsertionMode.{InsertionMode as Mode};
+ghost use Rattle.h5_tables.specs.declared.modes.InsertionMode.{InsertionMode as Mode};
 ghost use Rattle.h5_rules.specs.fitting.Reset.{reset_mode};
 ghost use Rattle.h5_rules.specs.Sound.{situation_of};
 ghost use Rattle.h5_closing.specs.Reset.{role_as};
@@ -13,7 +13,7 @@ ghost use Rattle.h5_state.specs.Steps.{IsSound, world_of};
 use h5_interface::TreeSink;
 use h5_names::{KnownName, LocalName, QualName};
 use h5_state::{State, name_at, newest_among, open_count};
-use h5_types::InsertionMode;
+use h5_tables::InsertionMode;
 
 // What a name is to a reset: plain, or one that decides.
 #[derive(Clone, Copy)]
@@ -91,7 +91,7 @@ fn role_of_local(local: &LocalName) -> Role
 }
 
 // A foreign element is plain.
-#[tactic(auto, unfolding(h5_rules::specs::fitting::Roles::role_of, h5_tag_sets::specs::TagSets::html_namespace))]
+#[tactic(auto, unfolding(h5_rules::specs::fitting::Roles::role_of, h5_tables::specs::TagSets::html_namespace))]
 fn role_of(name: &QualName) -> Role
     ensures { role_as result ≡ role_of name.now }
 {

@@ -1,7 +1,7 @@
 //! What the modes of tables ask of the open elements, and how they close them (HTML standard, sections 13.2.6.4.9 to
 //! 13.2.6.4.15).
 ghost use Rattle.std.specs.Prelude.{◌≡◌, MatchOption, is_some, length};
-ghost use Rattle.h5_tag_sets.specs.TagSets.{is_cell, is_table_outer, is_table_scope};
+ghost use Rattle.h5_tables.specs.TagSets.{is_cell, is_table_outer, is_table_scope};
 ghost use Rattle.h5_rules.specs.stack.Scope.{cut_above, cut_through, first_passes, in_scope};
 ghost use Rattle.h5_rules.specs.Rows.{PopUntilCell, PopUntilCurrent};
 ghost use Rattle.h5_rules.specs.World.{names_of};
@@ -9,7 +9,7 @@ ghost use Rattle.h5_state.specs.Steps.{IsSound, Makes, world_of};
 
 use h5_interface::TreeSink;
 use h5_state::{NewestTest, State, find_in_scope, is_current, truncate};
-use h5_tag_sets::ElementSet;
+use h5_tables::ElementSet;
 
 /// Where the first element whose name passes stands, from the current node on, if it is in table scope: so many elements
 /// are older.

@@ -6,7 +6,7 @@ ghost use Rattle.h5_state.specs.Steps.{IsSound, Makes, MakesIfOk, world_of};
 
 use h5_interface::TreeSink;
 use h5_state::State;
-use h5_types::InsertionMode;
+use h5_tables::InsertionMode;
 use std::alloc::AllocError;
 
 /// Whether there is a template insertion mode.

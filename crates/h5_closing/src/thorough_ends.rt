@@ -4,12 +4,12 @@ ghost use Rattle.std.specs.Prelude.{◌≡◌};
 ghost use Rattle.h5_rules.specs.Rows.{GenerateImpliedEndThoroughly};
 ghost use Rattle.h5_state.specs.Steps.{IsSound, Makes, world_of};
 ghost use Rattle.h5_rules.specs.stack.Scope.{drop_while};
-ghost use Rattle.h5_tag_sets.specs.TagSets.{is_thorough_implied};
+ghost use Rattle.h5_tables.specs.TagSets.{is_thorough_implied};
 ghost use Rattle.h5_rules.specs.World.{names_of};
 
 use h5_interface::TreeSink;
 use h5_state::{State, pop_while};
-use h5_tag_sets::ElementSet;
+use h5_tables::ElementSet;
 
 /// Pops elements whose end tags are implied, those of parts of tables too.
 pub fn generate_implied_end_thoroughly<S: TreeSink>(sink: &mut S, state: &mut State<S::Handle>)

@@ -40,9 +40,6 @@ wrote_more a b c text rest after n w h e = record {
   appends = both a b c (take w.count text) (take n rest) (take (w.count + n) text) w.appends h (ap (λ l. take w.count text ++ take n l) w.left ∙ sym (take-add w.count n text));
 }
 
-pub wrote_front : (a b : Option (List ℕ)) (text rest : List ℕ) → Wrote a b text rest → AppendsFront a b text
-wrote_front a b text rest w = (w.count, w.appends)
-
 empty : (xs : List ℕ) → length xs ≡ 0 → xs ≡ []
 empty [] e = refl
 empty (x ∷ xs) e = absurd (omega arith)

@@ -8,7 +8,7 @@ use Rattle.h5_arena.specs.declared.nodes.NodeId.{NodeId}
 use Rattle.h5_state.specs.View.{world}
 use Rattle.h5_state.specs.declared.state.State.{State}
 use Rattle.h5_tree_builder.specs.Builder.{ended_view}
-use Rattle.h5_lines.specs.Items.{ItemText, TheEnd, TokenAt}
+use Rattle.h5_print.specs.Items.{ItemText, TheEnd, TokenAt}
 use Rattle.h5_commands.specs.Printed.{IsBuilt, after_items, replies_to_items}
 
 -- a run of some tokens, and one more
@@ -50,13 +50,6 @@ end_is_told items left first now next told more waiting l e r = record {
       ∙ append_assoc told (replies arena_choices waiting now) (replies_to_items left (ended_view arena_choices (after_all arena_choices waiting now)))
       ∙ l.replies;
 }
-
--- nothing is left but what waits
-pub last_waits : (items : List ItemText) (first now : View) (told : List Reply) (waiting : List TokenText) → Left items first now told waiting [] → after_all arena_choices waiting now ≡ after_items items first
-last_waits items first now told waiting l = l.meaning
-
-pub last_told : (items : List ItemText) (first now : View) (told : List Reply) (waiting : List TokenText) → Left items first now told waiting [] → told ++ replies arena_choices waiting now ≡ replies_to_items items first
-last_told items first now told waiting l = ap (λ rs. told ++ rs) (sym (append-nil (replies arena_choices waiting now))) ∙ l.replies
 
 -- the sink of a builder that means this is what was built
 pub sink_is_built : (sink : ArenaView) (state : State NodeId) (ended failed : Bool) (v : View) → record { world = world seen_of place sink state; ended = ended; failed = failed } ≡ v → IsBuilt v sink

@@ -5,7 +5,7 @@ use Rattle.h5_arena.specs.ArenaModel.{ArenaView, arena_choices, forest_seen, new
 use Rattle.h5_arena.specs.NodeCalls.{walk_of}
 use Rattle.h5_serialize.specs.Standing.{new_standing, walk_text}
 use Rattle.h5_serialize.specs.declared.options.TraversalScope.TheVariants.{ChildrenOnly}
-use Rattle.h5_lines.specs.Items.{ItemText, items_of}
+use Rattle.h5_print.specs.Items.{ItemText, items_of}
 use Rattle.h5_print.specs.Printed.{IsTreeText, NoChild, NodeChild, Printed, TemplateChild, TextChild}
 use Rattle.h5_print.specs.Replies.{quirks_line}
 use Rattle.h5_print.proofs.OneText.{one_tree_text}

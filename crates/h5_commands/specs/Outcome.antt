@@ -3,8 +3,8 @@ use Rattle.std.specs.Prelude.{◌≡◌, ◌⊎◌, ℕ, List, take, Option, Som
 use Rattle.std.specs.Io.KnownBytes.{Appends, Keeps}
 use Rattle.std.specs.declared.alloc.Global.{Global}
 use Rattle.std.specs.declared.io.ErrorKind.{ErrorKind}
-use Rattle.h5_lines.specs.Items.{ItemText, item_texts, items_of}
-use Rattle.h5_lines.specs.declared.items.Item.{Item}
+use Rattle.h5_print.specs.Items.{ItemText, item_texts, items_of}
+use Rattle.h5_print.specs.declared.items.Item.{Item}
 use Rattle.h5_commands.specs.Faults.{IsBadLine, IsReadFault, message_of, status_of, words_fault}
 use Rattle.h5_commands.specs.Printed.{FragmentPrints, HtmlPrints, ItemsPrint, TreePrints}
 use Rattle.h5_commands.specs.Words.{CommandText, Fragment, Html, Tokens, Tree, command_of}

@@ -11,7 +11,7 @@ use Rattle.h5_rules.specs.Run.{View, after_token, reply_to}
 use Rattle.h5_tree_builder.specs.Builder.{ended_view, first_building}
 use Rattle.h5_driver.specs.Options.{default_options}
 use Rattle.h5_driver.specs.Texts.{ParsesDocument, ParsesFragment}
-use Rattle.h5_lines.specs.Items.{ItemText, TheEnd, TokenAt}
+use Rattle.h5_print.specs.Items.{ItemText, TheEnd, TokenAt}
 use Rattle.h5_print.specs.Printed.{IsTreeText}
 use Rattle.h5_print.specs.Replies.{quirks_line, reply_line}
 

@@ -4,7 +4,7 @@ ghost use Rattle.h5_arena.specs.ArenaModel.{arena_choices, new_arena, place, see
 ghost use Rattle.h5_driver.specs.Fragments.{first_in_new, opts_in_context};
 ghost use Rattle.h5_driver.specs.Options.{default_options};
 ghost use Rattle.h5_driver.specs.PlainReader.{first};
-ghost use Rattle.h5_lines.specs.Items.{item_texts};
+ghost use Rattle.h5_print.specs.Items.{item_texts};
 ghost use Rattle.h5_rules.specs.Run.{after_all, replies as replies_to};
 ghost use Rattle.h5_print.specs.Replies.{reply_line};
 ghost use Rattle.h5_tree_builder.specs.Builder.{ended_view};
@@ -16,13 +16,12 @@ use super::fault::Fault;
 use h5_arena::laws::no_call_lacks_a_parent;
 use h5_arena::{Arena, NodeId};
 use h5_driver::{ParseOpts, Parser, parse_document, parse_fragment};
-use h5_lines::Item;
 use h5_names::{LocalName, Namespace, QualName};
-use h5_print::{print_answer, print_quirks, print_refusal, print_tree};
+use h5_print::{Item, print_answer, print_quirks, print_refusal, print_tree};
 use h5_serialize::{SerializeFault, SerializeOpts, serialize};
+use h5_tables::TreeBuilderOpts;
 use h5_token::{BuildFault, Token};
 use h5_tree_builder::{Reply, TreeBuilder};
-use h5_types::TreeBuilderOpts;
 use std::alloc::Global;
 use std::mem;
 

@@ -9,7 +9,7 @@ use super::build::{build, fragment_output, html_output, tree_output};
 use super::fault::{Fault, bad_line, fault_of_read, fault_of_words};
 use super::output::write_bytes;
 use super::words::{Command, command_of};
-use h5_lines::{Item, LineFault, parse};
+use h5_print::{Item, LineFault, parse};
 use std::alloc::Global;
 use std::io::{self, Read, Write};
 

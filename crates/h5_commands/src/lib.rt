@@ -5,7 +5,7 @@
 //! `fault` has what can go wrong, what is said of it, and the exit status. `laws` tells that an input has one output at
 //! the most.
 //!
-//! It stands on the builder, the parser in `h5_driver`, `h5_lines` and `h5_print`; the program `h5` stands on it. Begin
+//! It stands on the builder, on the parser in `h5_driver` and on `h5_print`; the program `h5` stands on it. Begin
 //! with `specs/Words.antt`, `specs/Printed.antt` (what is printed of an input) and `specs/Outcome.antt` (what a run
 //! comes to), then `src/command.rt`.
 #![tactic(auto)]

@@ -2,8 +2,8 @@
 use Rattle.std.proofs.Common.{◌≡◌, ◌≢◌, ℕ, Option, true, refl, ap}
 use Rattle.h5_interface.specs.Seen.{Seen}
 use Rattle.h5_interface.specs.SinkChoices.{SinkChoices}
-use Rattle.h5_types.specs.declared.modes.InsertionMode.TheVariants.{InTable, Text}
-use Rattle.h5_types.specs.declared.options.TreeBuilderOpts.{TreeBuilderOpts}
+use Rattle.h5_tables.specs.declared.modes.InsertionMode.TheVariants.{InTable, Text}
+use Rattle.h5_tables.specs.declared.options.TreeBuilderOpts.{TreeBuilderOpts}
 use Rattle.h5_rules.specs.Changes.{create_root}
 use Rattle.h5_rules.specs.fitting.Reset.{reset_mode}
 use Rattle.h5_rules.specs.Run.{View}
@@ -51,6 +51,6 @@ fragment_no_text choices seen context form opts f e =
 pub fragment_begins : (choices : SinkChoices) (seen : Seen) (context : ℕ) (form : Option ℕ) (opts : TreeBuilderOpts) → (let b = first_fragment choices seen context form opts in Fitting b.view.world → Begins b.view)
 fragment_begins choices seen context form opts f = record { ready = fragment_ready choices seen context form opts f; no_text = fragment_no_text choices seen context form opts f }
 
--- so it works wherever its reader begins
+-- a builder that begins works, whatever the reader
 pub begins_works : {T : Type 0} (IsRaw : T → Type 0) (r : T) (v : View) → Begins v → IsWorking IsRaw r v
 begins_works IsRaw r v b = record { ready = b.ready; text = λ e. absurd (b.no_text e) }

@@ -4,8 +4,8 @@ use Rattle.std.specs.Str.Lossy.{utf8_lossy}
 use Rattle.h5_token.specs.declared.fault.BuildFault.{BuildFault}
 use Rattle.h5_interface.specs.Seen.{Seen}
 use Rattle.h5_interface.specs.SinkChoices.{SinkChoices}
-use Rattle.h5_utf8.specs.Decoding.{Decodes}
-use Rattle.h5_utf8.proofs.DecodingLaws.{decodes_before, decodes_then}
+use Rattle.h5_reading.specs.Decoding.{Decodes}
+use Rattle.h5_reading.proofs.DecodingLaws.{decodes_before, decodes_then}
 use Rattle.h5_driver.specs.Bytes.{AdvancesBytes, ParsingBytes, ProcessedAllBytes, ProcessedBytes}
 use Rattle.h5_driver.specs.Parsing.{Parsing, joined, text_of, view_of}
 use Rattle.h5_driver.specs.Reading.{Advances, AreReadings, Parses}

@@ -13,7 +13,7 @@ use Rattle.h5_rules.specs.Run.{IsFitting, View, after_all, after_token, refusal,
 use Rattle.h5_rules.specs.Sound.{Sound}
 use Rattle.h5_rules.specs.formatting.FormattingNames.{html_name}
 use Rattle.h5_rules.specs.World.{World}
-use Rattle.h5_types.specs.Options as types
+use Rattle.h5_tables.specs.Options as types
 use Rattle.h5_plain.specs.Plain.{ElementThen, End, Nodes, PlainDocument, TextThen, document_tokens, plain_reply, root_of}
 use Rattle.h5_plain.specs.Rebuilding.{DocumentStands, HoldsDocument, IsStart, Looks, Stands}
 use Rattle.h5_tree_builder.specs.Builder.{first_building, pop_each}
@@ -110,7 +110,7 @@ rebuilt : (choices : SinkChoices) (seen : Seen) (d : PlainDocument) → HoldsDoc
 rebuilt choices seen d holds =
     let v = (first_building seen types.default_options).view in
     let ts = document_tokens d in
-    let start : IsStart v.world = record { holds = holds; options = refl; mode = refl; none_open = refl; none_listed = refl; ignore_lf = refl; no_foster = refl; no_template_modes = refl; no_head = refl; no_form = refl; no_context = refl } in
+    let start : IsStart v.world = record { holds = holds; options = refl; mode = refl; none_open = refl; none_listed = refl; ignore_lf = refl; no_foster = refl; no_pending = refl; no_template_modes = refl; no_head = refl; no_form = refl; no_context = refl } in
     let built = rebuilds_all choices ts v d start refl refl (document_joined d) in
     record { answers = answers_by choices ts v built.answers; stands = built.stands; quirks = built.quirks }
 

@@ -7,8 +7,8 @@ use Rattle.h5_token.specs.declared.fault.BuildFault.TheVariants.{AfterEnd, Faile
 use Rattle.h5_token.specs.declared.tag.TagKind.{TagKind}
 use Rattle.h5_token.specs.declared.tag.TagKind.TheVariants.{EndTag, StartTag}
 use Rattle.h5_interface.specs.SinkChoices.{SinkChoices}
-use Rattle.h5_types.specs.declared.modes.InsertionMode.{InsertionMode}
-use Rattle.h5_types.specs.declared.modes.InsertionMode.TheVariants.{Text}
+use Rattle.h5_tables.specs.declared.modes.InsertionMode.{InsertionMode}
+use Rattle.h5_tables.specs.declared.modes.InsertionMode.TheVariants.{Text}
 use Rattle.h5_rules.specs.modes.InTableText.{saved_mode}
 use Rattle.h5_rules.specs.Run.{View, after_token, is_refused_in_text, refuses_in, reply_to, step, take_or_refuse, tell_or_refuse}
 use Rattle.h5_laws.proofs.kept.FittingLaws.{step_fitting}

@@ -1,6 +1,6 @@
 -- What contracts see of a parser of bytes, and what its calls do.
 use Rattle.std.specs.Prelude.{◌≡◌, ℕ, List, [], ◌∷◌, ◌++◌}
-use Rattle.h5_utf8.specs.Decoding.{IsDecoded, Decodes}
+use Rattle.h5_reading.specs.Decoding.{IsDecoded, Decodes}
 use Rattle.h5_driver.specs.Parsing.{Parsing, Processed, text_of, view_of}
 use Rattle.h5_driver.specs.Reading.{Advances}
 use Rattle.h5_driver.specs.declared.reader.Reader.{Ghosts}

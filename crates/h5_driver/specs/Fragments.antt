@@ -5,7 +5,7 @@ use Rattle.h5_names.specs.declared.qualified.QualName.{QualName}
 use Rattle.h5_interface.specs.NewElement.{flags_of}
 use Rattle.h5_interface.specs.Seen.{Seen, after_create_element}
 use Rattle.h5_interface.specs.SinkChoices.{SinkChoices}
-use Rattle.h5_types.specs.declared.options.TreeBuilderOpts.{TreeBuilderOpts}
+use Rattle.h5_tables.specs.declared.options.TreeBuilderOpts.{TreeBuilderOpts}
 use Rattle.h5_rules.specs.World.{World}
 use Rattle.h5_reading.specs.Options.{beginning_in}
 use Rattle.h5_reading.specs.declared.options.TokenizerOpts.{TokenizerOpts}

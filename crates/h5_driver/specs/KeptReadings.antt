@@ -5,7 +5,7 @@ use Rattle.h5_token.specs.Reply.{Reply}
 use Rattle.h5_reading.specs.Blindness.{IsBlindToCuts}
 use Rattle.h5_reading.specs.Told.{after_all}
 use Rattle.h5_states.specs.References.{Reference}
-use Rattle.h5_states.specs.Reading.{Place, Step, quiet_step, text_step, token_step, ask_step, Read, nothing_read, read_on}
+use Rattle.h5_states.specs.Reading.{ReaderPlace, Step, quiet_step, text_step, token_step, ask_step, Read, nothing_read, read_on}
 use Rattle.h5_states.specs.End.{last_tokens}
 use Rattle.h5_states.specs.Whole.{Readings, ReadsToEnd, more_reading, no_reading}
 use Rattle.h5_states.proofs.CutLaws.{cuts_agree}
@@ -28,29 +28,29 @@ module _ (table : List Reference) {M : Type 0} (reply_to : M → TokenText → R
   abbrev pub kept_foreign : Kept M Holds → Bool
   kept_foreign k = foreign k.meaning
 
-  pub record KeptStep (p : Place) (m : M) (xs : List ℕ) (ts : List TokenText) (reply : Reply) (q : Place) (n : M) (ys : List ℕ) (h : Holds m) : Type 0 where
+  pub record KeptStep (p : ReaderPlace) (m : M) (xs : List ℕ) (ts : List TokenText) (reply : Reply) (q : ReaderPlace) (n : M) (ys : List ℕ) (h : Holds m) : Type 0 where
     pub holds : Holds n
     pub step : Step table kept_reply kept_after kept_foreign p (kept m h) xs ts reply q (kept n holds) ys
 
-  pub record KeptRead (p : Place) (m : M) (xs : List ℕ) (ts : List TokenText) (reply : Reply) (q : Place) (n : M) (ys : List ℕ) (h : Holds m) : Type 0 where
+  pub record KeptRead (p : ReaderPlace) (m : M) (xs : List ℕ) (ts : List TokenText) (reply : Reply) (q : ReaderPlace) (n : M) (ys : List ℕ) (h : Holds m) : Type 0 where
     pub holds : Holds n
     pub read : Read table kept_reply kept_after kept_foreign p (kept m h) xs ts reply q (kept n holds) ys
 
-  pub record KeptReadings (p : Place) (m : M) (xs : List ℕ) (ts : List TokenText) (q : Place) (n : M) (ys : List ℕ) (h : Holds m) : Type 0 where
+  pub record KeptReadings (p : ReaderPlace) (m : M) (xs : List ℕ) (ts : List TokenText) (q : ReaderPlace) (n : M) (ys : List ℕ) (h : Holds m) : Type 0 where
     pub holds : Holds n
     pub readings : Readings table kept_reply kept_after kept_foreign p (kept m h) xs ts q (kept n holds) ys
 
-  step_kept : {p : Place} {m : M} {xs : List ℕ} {ts : List TokenText} {reply : Reply} {q : Place} {n : M} {ys : List ℕ} → Step table reply_to after foreign p m xs ts reply q n ys → (h : Holds m) → KeptStep p m xs ts reply q n ys h
+  step_kept : {p : ReaderPlace} {m : M} {xs : List ℕ} {ts : List TokenText} {reply : Reply} {q : ReaderPlace} {n : M} {ys : List ℕ} → Step table reply_to after foreign p m xs ts reply q n ys → (h : Holds m) → KeptStep p m xs ts reply q n ys h
   step_kept (quiet_step passes) h = record { holds = h; step = quiet_step passes }
   step_kept {p = p} {m = m} (text_step passes) h = record { holds = keeps m _ p.began h; step = text_step passes }
   step_kept {p = p} {m = m} (token_step token state d e) h = record { holds = keeps m token p.began h; step = token_step token state d e }
   step_kept (ask_step there error elsewhere d e) h = record { holds = h; step = ask_step there error elsewhere d e }
 
-  read_kept : {p : Place} {m : M} {xs : List ℕ} {ts : List TokenText} {reply : Reply} {q : Place} {n : M} {ys : List ℕ} → Read table reply_to after foreign p m xs ts reply q n ys → (h : Holds m) → KeptRead p m xs ts reply q n ys h
+  read_kept : {p : ReaderPlace} {m : M} {xs : List ℕ} {ts : List TokenText} {reply : Reply} {q : ReaderPlace} {n : M} {ys : List ℕ} → Read table reply_to after foreign p m xs ts reply q n ys → (h : Holds m) → KeptRead p m xs ts reply q n ys h
   read_kept nothing_read h = record { holds = h; read = nothing_read }
   read_kept (read_on r g s) h = let k = read_kept r h in let l = step_kept s k.holds in record { holds = l.holds; read = read_on k.read g l.step }
 
-  pub readings_kept : {p : Place} {m : M} {xs : List ℕ} {ts : List TokenText} {q : Place} {n : M} {ys : List ℕ} → Readings table reply_to after foreign p m xs ts q n ys → (h : Holds m) → KeptReadings p m xs ts q n ys h
+  pub readings_kept : {p : ReaderPlace} {m : M} {xs : List ℕ} {ts : List TokenText} {q : ReaderPlace} {n : M} {ys : List ℕ} → Readings table reply_to after foreign p m xs ts q n ys → (h : Holds m) → KeptReadings p m xs ts q n ys h
   readings_kept no_reading h = record { holds = h; readings = no_reading }
   readings_kept (more_reading a r f) h = let k = readings_kept a h in let l = read_kept r k.holds in record { holds = l.holds; readings = more_reading k.readings l.read f }
 
@@ -65,15 +65,15 @@ module _ (table : List Reference) {M : Type 0} (reply_to : M → TokenText → R
   all_kept m (t ∷ ts) line h = all_kept (after m t line) ts line (keeps m t line h)
 
   -- and to the end, but for what the end itself does
-  pub record KeptEnd (p : Place) (m : M) (xs : List ℕ) (ts : List TokenText) (n : M) (h : Holds m) : Type 0 where
+  pub record KeptEnd (p : ReaderPlace) (m : M) (xs : List ℕ) (ts : List TokenText) (n : M) (h : Holds m) : Type 0 where
     pub holds : Holds n
     pub reads : ReadsToEnd table kept_reply kept_after kept_foreign (λ k. k) p (kept m h) xs ts (kept n holds)
 
   -- what is meant right before the end
-  abbrev before_end : {ended : M → M} {p : Place} {m : M} {xs : List ℕ} {ts : List TokenText} {n : M} → ReadsToEnd table reply_to after foreign ended p m xs ts n → M
+  abbrev before_end : {ended : M → M} {p : ReaderPlace} {m : M} {xs : List ℕ} {ts : List TokenText} {n : M} → ReadsToEnd table reply_to after foreign ended p m xs ts n → M
   before_end r = after (after_all after r.meaning (last_tokens table r.place) r.place.began) EndOfFile r.place.line
 
-  reads_kept : {ended : M → M} {p : Place} {m : M} {xs : List ℕ} {ts : List TokenText} {n : M} (r : ReadsToEnd table reply_to after foreign ended p m xs ts n) (h : Holds m) → KeptEnd p m xs ts (before_end r) h
+  reads_kept : {ended : M → M} {p : ReaderPlace} {m : M} {xs : List ℕ} {ts : List TokenText} {n : M} (r : ReadsToEnd table reply_to after foreign ended p m xs ts n) (h : Holds m) → KeptEnd p m xs ts (before_end r) h
   reads_kept r h =
       let k = readings_kept r.readings h in
       let last = last_tokens table r.place in
@@ -108,7 +108,7 @@ module _ (table : List Reference) {M : Type 0} (reply_to : M → TokenText → R
       cut = λ m x y xs ys j k l. cut m.meaning x y xs ys j k l m.holds;
     }
 
-    pub readings_agree : {p : Place} {m : M} {xs : List ℕ} {ts us : List TokenText} {n o : M} → Holds m
+    pub readings_agree : {p : ReaderPlace} {m : M} {xs : List ℕ} {ts us : List TokenText} {n o : M} → Holds m
         → ReadsToEnd table reply_to after foreign ended p m xs ts n → ReadsToEnd table reply_to after foreign ended p m xs us o → n ≡ o
     readings_agree {p = p} {m = m} {xs = xs} {ts = ts} {us = us} h a b =
         let j = reads_kept a h in

@@ -1,5 +1,5 @@
 -- The options that hold where nothing else is said.
-use Rattle.h5_types.specs.Options.{default_options as of_builder}
+use Rattle.h5_tables.specs.Options.{default_options as of_builder}
 use Rattle.h5_reading.specs.Options.{default_options as of_reader}
 use Rattle.h5_driver.specs.declared.options.ParseOpts.{ParseOpts}
 

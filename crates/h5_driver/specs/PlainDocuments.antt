@@ -3,7 +3,7 @@ use Rattle.std.specs.Prelude.{◌≡◌, ℕ, List, []}
 use Rattle.h5_interface.specs.Forest.{IsForest}
 use Rattle.h5_interface.specs.Seen.{Seen}
 use Rattle.h5_interface.specs.declared.marks.QuirksMode.TheVariants.{NoQuirks}
-use Rattle.h5_types.specs.Options.{default_options as of_builder}
+use Rattle.h5_tables.specs.Options.{default_options as of_builder}
 use Rattle.h5_rules.specs.Run.{View}
 use Rattle.h5_reading.specs.Options.{default_options as of_reader}
 use Rattle.h5_reading.specs.declared.options.TokenizerOpts.{TokenizerOpts}

@@ -11,7 +11,7 @@ use Rattle.h5_laws.proofs.cuts.RunLaws.{token_cut}
 use Rattle.h5_laws.proofs.kept.FittingLaws.{token_fitting}
 use Rattle.h5_reading.specs.Lines.{line_behind}
 use Rattle.h5_tokenizer.specs.End.{settle}
-use Rattle.h5_tokenizer.specs.Front.{Place}
+use Rattle.h5_tokenizer.specs.Front.{ReaderPlace}
 use Rattle.h5_tokenizer.specs.Read.{Read, Step, marked, nothing_read, read_on, switch_step, text_step, token_step, unmarked}
 use Rattle.h5_tokenizer.specs.Whole.{Readings, ReadsToEnd, after_closing, closing, more_reading, no_reading}
 use Rattle.h5_tokenizer.proofs.KeptLaws.{readings_agree}
@@ -22,11 +22,11 @@ use Rattle.h5_driver.specs.Reading.{AreReadings}
 use Rattle.h5_driver.specs.Working.{after, ended, foreign, replies}
 
 -- a text is read to its end, from a place
-abbrev ReadsAt : SinkChoices → Place → View → List ℕ → List TokenText → View → Type 0
+abbrev ReadsAt : SinkChoices → ReaderPlace → View → List ℕ → List TokenText → View → Type 0
 ReadsAt choices p v xs ts n = ReadsToEnd (replies choices) (after choices) foreign (ended choices) p v xs ts n
 
 -- what it means then is what the run of the tokens leaves
-step_runs : (choices : SinkChoices) {p : Place} {m : View} {xs : List ℕ} {ts : List TokenText} {reply : Reply} {q : Place} {n : View} {ys : List ℕ} → Step (replies choices) (after choices) foreign p m xs ts reply q n ys → n ≡ after_all choices ts m
+step_runs : (choices : SinkChoices) {p : ReaderPlace} {m : View} {xs : List ℕ} {ts : List TokenText} {reply : Reply} {q : ReaderPlace} {n : View} {ys : List ℕ} → Step (replies choices) (after choices) foreign p m xs ts reply q n ys → n ≡ after_all choices ts m
 unfolding run
 step_runs choices (marked e f) = refl
 step_runs choices (unmarked e f) = refl
@@ -34,12 +34,12 @@ step_runs choices (token_step token e f) = refl
 step_runs choices (switch_step mode e f) = refl
 step_runs choices (text_step text e l b) = refl
 
-read_runs : (choices : SinkChoices) {p : Place} {m : View} {xs : List ℕ} {ts : List TokenText} {reply : Reply} {q : Place} {n : View} {ys : List ℕ} → Read (replies choices) (after choices) foreign p m xs ts reply q n ys → n ≡ after_all choices ts m
+read_runs : (choices : SinkChoices) {p : ReaderPlace} {m : View} {xs : List ℕ} {ts : List TokenText} {reply : Reply} {q : ReaderPlace} {n : View} {ys : List ℕ} → Read (replies choices) (after choices) foreign p m xs ts reply q n ys → n ≡ after_all choices ts m
 unfolding run
 read_runs choices nothing_read = refl
 read_runs choices {m = m} (read_on {ts = ts} {us = us} r g s) = step_runs choices s ∙ ap (after_all choices us) (read_runs choices r) ∙ sym (view_joins choices ts us m)
 
-readings_run : (choices : SinkChoices) {p q : Place} {m n : View} {xs ys : List ℕ} {ts : List TokenText} → Readings (replies choices) (after choices) foreign p m xs ts q n ys → n ≡ after_all choices ts m
+readings_run : (choices : SinkChoices) {p q : ReaderPlace} {m n : View} {xs ys : List ℕ} {ts : List TokenText} → Readings (replies choices) (after choices) foreign p m xs ts q n ys → n ≡ after_all choices ts m
 unfolding run
 readings_run choices no_reading = refl
 readings_run choices {m = m} (more_reading {ts = ts} {us = us} r s g) = read_runs choices s ∙ ap (after_all choices us) (readings_run choices r) ∙ sym (view_joins choices ts us m)
@@ -50,7 +50,7 @@ same_run choices None line last v = refl
 same_run choices (Some t) line last v = refl
 
 -- a reading to the end leaves what the run of its tokens, and then the end, leave
-reads_run : (choices : SinkChoices) (p : Place) (m : View) (xs : List ℕ) (ts : List TokenText) (n : View) → ReadsAt choices p m xs ts n → n ≡ ended choices (after_all choices ts m)
+reads_run : (choices : SinkChoices) (p : ReaderPlace) (m : View) (xs : List ℕ) (ts : List TokenText) (n : View) → ReadsAt choices p m xs ts n → n ≡ ended choices (after_all choices ts m)
 reads_run choices p m xs ts n r =
     let rest = settle r.place.mode r.place.last (foreign r.meaning) r.rest in
     let last = closing rest in
@@ -58,13 +58,13 @@ reads_run choices p m xs ts n r =
     ∙ ap (ended choices) (same_run choices rest r.place.line (line_behind r.place.line r.rest []) r.meaning ∙ ap (after_all choices last) (readings_run choices r.readings) ∙ sym (view_joins choices r.handed last m) ∙ ap (λ x. after_all choices x m) (sym r.tokens))
 
 -- one list of readings, and then another
-chain : (choices : SinkChoices) {p q r : Place} {m n o : View} {xs ys zs : List ℕ} {ts us : List TokenText} → Readings (replies choices) (after choices) foreign p m xs ts q n ys → Readings (replies choices) (after choices) foreign q n ys us r o zs → Readings (replies choices) (after choices) foreign p m xs (ts ++ us) r o zs
+chain : (choices : SinkChoices) {p q r : ReaderPlace} {m n o : View} {xs ys zs : List ℕ} {ts us : List TokenText} → Readings (replies choices) (after choices) foreign p m xs ts q n ys → Readings (replies choices) (after choices) foreign q n ys us r o zs → Readings (replies choices) (after choices) foreign p m xs (ts ++ us) r o zs
 chain choices {p = p} {q = q} {m = m} {n = n} {xs = xs} {ys = ys} {ts = ts} a no_reading = subst (λ x. Readings (replies choices) (after choices) foreign p m xs x q n ys) (sym (append-nil ts)) a
 chain choices {p = p} {r = r} {m = m} {o = o} {xs = xs} {zs = zs} {ts = ts} a (more_reading {ts = us} {us = vs} b s g) =
     subst (λ x. Readings (replies choices) (after choices) foreign p m xs x r o zs) (append_assoc ts us vs) (more_reading (chain choices a b) s g)
 
 -- what was read before, and then the rest
-reads_behind : (choices : SinkChoices) {p q : Place} {m n o : View} {xs ys : List ℕ} {ts us : List TokenText} → Readings (replies choices) (after choices) foreign p m xs ts q n ys → ReadsAt choices q n ys us o → ReadsAt choices p m xs (ts ++ us) o
+reads_behind : (choices : SinkChoices) {p q : ReaderPlace} {m n o : View} {xs ys : List ℕ} {ts us : List TokenText} → Readings (replies choices) (after choices) foreign p m xs ts q n ys → ReadsAt choices q n ys us o → ReadsAt choices p m xs (ts ++ us) o
 reads_behind choices {ts = ts} a r = record {
   handed = ts ++ r.handed;
   place = r.place;

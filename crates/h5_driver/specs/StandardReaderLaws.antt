@@ -11,7 +11,7 @@ use Rattle.h5_laws.proofs.kept.FittingLaws.{token_fitting}
 use Rattle.h5_reading.specs.Told as told
 use Rattle.h5_states.specs.End.{last_tokens}
 use Rattle.h5_states.specs.ReferenceTable.{references}
-use Rattle.h5_states.specs.Reading.{Place, Step, quiet_step, text_step, token_step, ask_step, Read, nothing_read, read_on}
+use Rattle.h5_states.specs.Reading.{ReaderPlace, Step, quiet_step, text_step, token_step, ask_step, Read, nothing_read, read_on}
 use Rattle.h5_states.specs.Whole.{Readings, ReadsToEnd, more_reading, no_reading}
 use Rattle.h5_round_trip.proofs.standard.ReadingLaws.{document_read}
 use Rattle.h5_driver.specs.KeptReadings.{readings_agree}
@@ -21,26 +21,26 @@ use Rattle.h5_driver.specs.StandardReader.{ahead}
 use Rattle.h5_driver.specs.Working.{after, ended, foreign, replies}
 
 -- readings from a place, and a text that is read to its end
-abbrev ReadingsAt : SinkChoices → Place → View → List ℕ → List TokenText → Place → View → List ℕ → Type 0
+abbrev ReadingsAt : SinkChoices → ReaderPlace → View → List ℕ → List TokenText → ReaderPlace → View → List ℕ → Type 0
 ReadingsAt choices p v xs ts q w ys = Readings references (replies choices) (after choices) foreign p v xs ts q w ys
 
-abbrev ReadsAt : SinkChoices → Place → View → List ℕ → List TokenText → View → Type 0
+abbrev ReadsAt : SinkChoices → ReaderPlace → View → List ℕ → List TokenText → View → Type 0
 ReadsAt choices p v xs ts n = ReadsToEnd references (replies choices) (after choices) foreign (ended choices) p v xs ts n
 
 -- what it means then is what the run of the tokens leaves
-step_runs : (choices : SinkChoices) {p : Place} {m : View} {xs : List ℕ} {ts : List TokenText} {reply : Reply} {q : Place} {n : View} {ys : List ℕ} → Step references (replies choices) (after choices) foreign p m xs ts reply q n ys → n ≡ after_all choices ts m
+step_runs : (choices : SinkChoices) {p : ReaderPlace} {m : View} {xs : List ℕ} {ts : List TokenText} {reply : Reply} {q : ReaderPlace} {n : View} {ys : List ℕ} → Step references (replies choices) (after choices) foreign p m xs ts reply q n ys → n ≡ after_all choices ts m
 unfolding run
 step_runs choices (quiet_step h) = refl
 step_runs choices (text_step h) = refl
 step_runs choices (token_step token state d e) = refl
 step_runs choices (ask_step there error elsewhere d e) = refl
 
-read_runs : (choices : SinkChoices) {p : Place} {m : View} {xs : List ℕ} {ts : List TokenText} {reply : Reply} {q : Place} {n : View} {ys : List ℕ} → Read references (replies choices) (after choices) foreign p m xs ts reply q n ys → n ≡ after_all choices ts m
+read_runs : (choices : SinkChoices) {p : ReaderPlace} {m : View} {xs : List ℕ} {ts : List TokenText} {reply : Reply} {q : ReaderPlace} {n : View} {ys : List ℕ} → Read references (replies choices) (after choices) foreign p m xs ts reply q n ys → n ≡ after_all choices ts m
 unfolding run
 read_runs choices nothing_read = refl
 read_runs choices {m = m} (read_on {ts = ts} {us = us} r g s) = step_runs choices s ∙ ap (after_all choices us) (read_runs choices r) ∙ sym (view_joins choices ts us m)
 
-readings_run : (choices : SinkChoices) {p q : Place} {m n : View} {xs ys : List ℕ} {ts : List TokenText} → ReadingsAt choices p m xs ts q n ys → n ≡ after_all choices ts m
+readings_run : (choices : SinkChoices) {p q : ReaderPlace} {m n : View} {xs ys : List ℕ} {ts : List TokenText} → ReadingsAt choices p m xs ts q n ys → n ≡ after_all choices ts m
 unfolding run
 readings_run choices no_reading = refl
 readings_run choices {m = m} (more_reading {ts = ts} {us = us} r s g) = read_runs choices s ∙ ap (after_all choices us) (readings_run choices r) ∙ sym (view_joins choices ts us m)
@@ -51,7 +51,7 @@ same_run choices [] line v = refl
 same_run choices (t ∷ ts) line v = same_run choices ts line (after_token choices t v)
 
 -- a reading to the end leaves what the run of its tokens, and then the end, leave
-reads_run : (choices : SinkChoices) (p : Place) (m : View) (xs : List ℕ) (ts : List TokenText) (n : View) → ReadsAt choices p m xs ts n → n ≡ ended choices (after_all choices ts m)
+reads_run : (choices : SinkChoices) (p : ReaderPlace) (m : View) (xs : List ℕ) (ts : List TokenText) (n : View) → ReadsAt choices p m xs ts n → n ≡ ended choices (after_all choices ts m)
 unfolding run
 reads_run choices p m xs ts n r =
     let last = last_tokens references r.place in
@@ -63,13 +63,13 @@ reads_run choices p m xs ts n r =
     ∙ ap (ended choices) (sym (view_joins choices r.handed all m)) ∙ ap (λ x. ended choices (after_all choices x m)) (sym r.tokens)
 
 -- one list of readings, and then another
-chain : (choices : SinkChoices) {p q r : Place} {m n o : View} {xs ys zs : List ℕ} {ts us : List TokenText} → ReadingsAt choices p m xs ts q n ys → ReadingsAt choices q n ys us r o zs → ReadingsAt choices p m xs (ts ++ us) r o zs
+chain : (choices : SinkChoices) {p q r : ReaderPlace} {m n o : View} {xs ys zs : List ℕ} {ts us : List TokenText} → ReadingsAt choices p m xs ts q n ys → ReadingsAt choices q n ys us r o zs → ReadingsAt choices p m xs (ts ++ us) r o zs
 chain choices {p = p} {q = q} {m = m} {n = n} {xs = xs} {ys = ys} {ts = ts} a no_reading = subst (λ x. ReadingsAt choices p m xs x q n ys) (sym (append-nil ts)) a
 chain choices {p = p} {r = r} {m = m} {o = o} {xs = xs} {zs = zs} {ts = ts} a (more_reading {ts = us} {us = vs} b s g) =
     subst (λ x. ReadingsAt choices p m xs x r o zs) (append_assoc ts us vs) (more_reading (chain choices a b) s g)
 
 -- what was read before, and then the rest
-reads_behind : (choices : SinkChoices) {p q : Place} {m n o : View} {xs ys : List ℕ} {ts us : List TokenText} → ReadingsAt choices p m xs ts q n ys → ReadsAt choices q n ys us o → ReadsAt choices p m xs (ts ++ us) o
+reads_behind : (choices : SinkChoices) {p q : ReaderPlace} {m n o : View} {xs ys : List ℕ} {ts us : List TokenText} → ReadingsAt choices p m xs ts q n ys → ReadsAt choices q n ys us o → ReadsAt choices p m xs (ts ++ us) o
 reads_behind choices {ts = ts} a r = record {
   handed = ts ++ r.handed;
   place = r.place;

@@ -12,9 +12,9 @@ use super::options::ParseOpts;
 use h5_interface::{TreeSink, create_element};
 use h5_names::{Attribute, QualName};
 use h5_reading::TokenizerOpts;
+use h5_tables::TreeBuilderOpts;
 use h5_token::BuildFault;
 use h5_tree_builder::TreeBuilder;
-use h5_types::TreeBuilderOpts;
 use std::alloc::Global;
 
 /// A builder of a document, which took nothing yet.

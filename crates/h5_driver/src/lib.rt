@@ -8,7 +8,7 @@
 //! The parser over the plain reader stands at the root, and the one over the standard reader in `standard`, each with the sink
 //! as its one parameter.
 //!
-//! It stands on `h5_tokenizer`, `h5_standard` and `h5_tree_builder`, on `h5_utf8` for bytes, and on `h5_round_trip` for plain
+//! It stands on `h5_tokenizer`, `h5_standard` and `h5_tree_builder`, on `h5_reading` for bytes, and on `h5_round_trip` for plain
 //! documents. The library `html_tree_builder` and the program's `h5_commands` stand on it. Begin with `src/reader.rt`, what a parser
 //! asks of a reader, `specs/Reading.antt` and `specs/Parsing.antt`, what contracts see of a parser and what its calls do, and
 //! `src/parser.rt`.

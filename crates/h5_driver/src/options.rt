@@ -2,8 +2,8 @@
 ghost use Rattle.std.specs.Prelude.{◌≡◌, IfOk};
 ghost use Rattle.h5_reading.specs.Options.{options_text};
 
+use h5_tables::TreeBuilderOpts;
 use h5_tokenizer::TokenizerOpts;
-use h5_types::TreeBuilderOpts;
 use std::alloc::AllocError;
 
 /// Options of a parser: those of its reader, and those of its tree builder.

@@ -2,7 +2,7 @@
 use Rattle.std.proofs.Common.{◌<◌, ◌≢◌, arith, ◌≡◌, ℕ, suc, Bool, true, false, cond, not, List, [], ◌∷◌, length, map, codes, Option, Some, None, is_some, Result, Ok, Err, IfOk, inl, refl, ap, sym, subst, ◌∙◌}
 use Rattle.std.specs.List.{list_any}
 use Rattle.h5_interface.specs.SinkChoices.{SinkChoices}
-use Rattle.h5_tag_sets.specs.TagSets.{is_default_scope, is_special}
+use Rattle.h5_tables.specs.TagSets.{is_default_scope, is_special}
 use Rattle.h5_rules.specs.formatting.Adoption.{FormattingElement, FurthestBlock, furthest_block, newer_than, newest_named}
 use Rattle.h5_rules.specs.formatting.FormattingList.{ElementEntry, nodes_of, without_entry}
 use Rattle.h5_rules.specs.stack.Order.{Before, is_in}
@@ -13,7 +13,7 @@ use Rattle.h5_rules.specs.formatting.AdoptionAgency.{adopt_at, adopt_by, adopt_w
 use Rattle.h5_names.specs.declared.qualified.QualName.{QualName}
 use Rattle.h5_interface.specs.Forest.{ElementNode, IsElement, kind_of}
 use Rattle.h5_interface.proofs.ForestLaws.{node_of_kind}
-use Rattle.h5_tag_sets.specs.TagSets.{is_html_named}
+use Rattle.h5_tables.specs.TagSets.{is_html_named}
 use Rattle.h5_rules.specs.stack.Root.{IsRootOpen}
 use Rattle.h5_rules.specs.formatting.FormattingNames.{html_name}
 use Rattle.h5_rules.specs.stack.Order.{last_or}

@@ -12,7 +12,7 @@ use Rattle.h5_rules.specs.World.{World}
 use Rattle.h5_rules.specs.Sound.{AllStand}
 use Rattle.h5_rules.proofs.adoption.AdoptionForest.{wrapped_all, wrapped_kinds, wrapped_loose}
 use Rattle.h5_state.specs.Steps.{IsSound, world_of}
-use Rattle.h5_state.specs.View.{world}
+use Rattle.h5_state.specs.View.{listed_node, world}
 use Rattle.h5_list.specs.Listed.{entry_of}
 use Rattle.h5_state.specs.declared.state.State.{State}
 use Rattle.h5_formatting.specs.Hanging.{IsLooseOver, with_clone, with_clone_by}
@@ -88,7 +88,7 @@ pub record EntryIs (n : ℕ) (e : Entry) (l : List Entry) : Type 0 where
   pub entry : ElementEntry n tag ≡ e
   pub listed : tag_in l n ≡ Some tag
 
-pub entry_here : {H : Type 0} (node : H → ℕ) (state : State H) (place : ℕ) (e x : Entry) (newer older : List Entry) → reverse (map (entry_of node) state.active_formatting) ≡ newer ++ x ∷ older → place ≡ length older
+pub entry_here : {H : Type 0} (node : H → ℕ) (state : State H) (place : ℕ) (e x : Entry) (newer older : List Entry) → reverse (map (entry_of (listed_node node)) state.active_formatting) ≡ newer ++ x ∷ older → place ≡ length older
     → list_under node state (place + 1) ≡ e ∷ list_under node state place → length (list_under node state place) ≡ place → x ≡ e
 entry_here node state place e x newer older cut here step count =
     let split = list_cut node state (place + 1) in
@@ -99,7 +99,7 @@ entry_here node state place e x newer older cut here step count =
     first_same : (x e : Entry) (r q : List Entry) → x ∷ r ≡ e ∷ q → x ≡ e
     first_same x e r q h = cc
 
-pub entry_is : {H : Type 0} (node : H → ℕ) (state : State H) (n place : ℕ) (e : Entry) (w : World) → w.formatting ≡ reverse (map (entry_of node) state.active_formatting) → IsEntryAt n place w
+pub entry_is : {H : Type 0} (node : H → ℕ) (state : State H) (n place : ℕ) (e : Entry) (w : World) → w.formatting ≡ reverse (map (entry_of (listed_node node)) state.active_formatting) → IsEntryAt n place w
     → list_under node state (place + 1) ≡ e ∷ list_under node state place → length (list_under node state place) ≡ place → EntryIs n e w.formatting
 entry_is node state n place e w same k step count =
     record {

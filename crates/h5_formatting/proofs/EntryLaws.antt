@@ -9,6 +9,7 @@ use Rattle.h5_rules.proofs.entries.EntryLaws.{nodes_of-append}
 use Rattle.h5_rules.proofs.entries.PairLaws.{in_split}
 use Rattle.h5_list.specs.Listed.{entry_of}
 use Rattle.h5_state.specs.declared.state.State.{State}
+use Rattle.h5_state.specs.View.{listed_node}
 use Rattle.h5_formatting.specs.View.{list_under}
 
 -- newer entries, before what is left, aren't those of an element
@@ -29,15 +30,15 @@ pub record CutAt (l left : List Entry) : Type 0 where
   pub newer : List Entry
   pub cut : l ≡ newer ++ left
 
-pub list_cut : {H : Type 0} (node : H → ℕ) (state : State H) (count : ℕ) → CutAt (reverse (map (entry_of node) state.active_formatting)) (list_under node state count)
+pub list_cut : {H : Type 0} (node : H → ℕ) (state : State H) (count : ℕ) → CutAt (reverse (map (entry_of (listed_node node)) state.active_formatting)) (list_under node state count)
 unfolding list_under
 list_cut node state count =
     let items = state.active_formatting in
     record {
-      newer = reverse (map (entry_of node) (drop count items));
-      cut = ap (λ z. reverse (map (entry_of node) z)) (sym (take-append-drop count items))
-          ∙ ap reverse (map-append (entry_of node) (take count items) (drop count items))
-          ∙ reverse-append (map (entry_of node) (take count items)) (map (entry_of node) (drop count items));
+      newer = reverse (map (entry_of (listed_node node)) (drop count items));
+      cut = ap (λ z. reverse (map (entry_of (listed_node node)) z)) (sym (take-append-drop count items))
+          ∙ ap reverse (map-append (entry_of (listed_node node)) (take count items) (drop count items))
+          ∙ reverse-append (map (entry_of (listed_node node)) (take count items)) (map (entry_of (listed_node node)) (drop count items));
     }
 
 -- an element that isn't that of the next entry is listed where it is among the rest

@@ -7,7 +7,7 @@ use Rattle.h5_token.specs.TokenText.{TagText}
 use Rattle.h5_interface.specs.Forest.{ElementNode, IsNode}
 use Rattle.h5_interface.specs.SinkChoices.{SinkChoices}
 use Rattle.h5_interface.proofs.ForestLaws.{node_of_kind, there_alike}
-use Rattle.h5_tag_sets.specs.TagSets.{is_default_scope, is_special}
+use Rattle.h5_tables.specs.TagSets.{is_default_scope, is_special}
 use Rattle.h5_rules.specs.Changes.{generate_implied_end_except, pop, pop_until_named}
 use Rattle.h5_rules.specs.Sound.{HasHtmlRoot}
 use Rattle.h5_rules.specs.World.{World, name_in, names_of}

@@ -2,6 +2,7 @@ pub mod AdoptLaws
 pub mod AgencyLaws
 pub mod CloneLaws
 pub mod EntryLaws
+pub mod EntryStampLaws
 pub mod GoneLaws
 pub mod HangLaws
 pub mod ListLaws

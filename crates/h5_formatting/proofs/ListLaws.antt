@@ -4,8 +4,8 @@ use Rattle.std.specs.List.{remove}
 use Rattle.std.proofs.lemmas.Bool.{eq-eqb, ne_eqb}
 use Rattle.std.proofs.lemmas.List.{drop-set-lt, length-map, length-reverse, length-take-le, map-append, reverse-append, take-append-drop, take_more, take_more_set}
 use Rattle.h5_token.specs.TokenText.{TagText}
-use Rattle.h5_types.specs.declared.entry.FormatEntry.{FormatEntry}
-use Rattle.h5_types.specs.declared.entry.FormatEntry.TheVariants.{Element, Marker}
+use Rattle.h5_tables.specs.declared.entry.FormatEntry.{FormatEntry}
+use Rattle.h5_tables.specs.declared.entry.FormatEntry.TheVariants.{Element, Marker}
 use Rattle.h5_rules.specs.formatting.FormattingList.{EachEntry, ElementEntry, Entry, MarkerEntry, count_alike, push_formatting, without_earliest}
 use Rattle.h5_rules.proofs.entries.PushLaws.{push_full}
 use Rattle.h5_list.specs.Listed.{entries_of, entry_of, with_handle, without_place}

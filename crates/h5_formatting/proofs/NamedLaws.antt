@@ -6,9 +6,9 @@ use Rattle.std.proofs.lemmas.Slice.Eq.{bytes_eq-Decides}
 use Rattle.h5_names.specs.AttributeText.{is_same_text}
 use Rattle.h5_token.specs.TokenText.{TagText, tag_text}
 use Rattle.h5_interface.specs.Forest.{ElementNode, Forest, kind_of}
-use Rattle.h5_tag_sets.specs.TagSets.{html_namespace, is_html_named}
-use Rattle.h5_types.specs.declared.entry.FormatEntry.{FormatEntry}
-use Rattle.h5_types.specs.declared.entry.FormatEntry.TheVariants.{Element, Marker}
+use Rattle.h5_tables.specs.TagSets.{html_namespace, is_html_named}
+use Rattle.h5_tables.specs.declared.entry.FormatEntry.{FormatEntry}
+use Rattle.h5_tables.specs.declared.entry.FormatEntry.TheVariants.{Element, Marker}
 use Rattle.h5_rules.specs.formatting.FormattingList.{EachEntry, ElementEntry, Entry, MarkerEntry, nodes_of}
 use Rattle.h5_rules.specs.formatting.FormattingNames.{IsOfTag, html_name}
 use Rattle.h5_rules.specs.stack.Order.{first_or, is_in}

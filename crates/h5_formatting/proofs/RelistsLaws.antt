@@ -1,5 +1,5 @@
 -- A round goes over the list.
-use Rattle.std.proofs.Common.{◌≡◌, ◌-◌, ◌<◌, ◌≤◌, ℕ, List, [], ◌∷◌, ◌++◌, length, length-append, map, reverse, take, inl, inr, ap, sym, subst, ◌∙◌, arith}
+use Rattle.std.proofs.Common.{◌≡◌, ◌+◌, ◌-◌, ◌<◌, ◌≤◌, ℕ, List, [], ◌∷◌, ◌++◌, append_assoc, length, length-append, map, reverse, take, inl, inr, ap, sym, subst, ◌∙◌, arith}
 use Rattle.std.specs.Prelude.{Some}
 use Rattle.std.proofs.Math.Seq.{take-append_seam}
 use Rattle.h5_token.specs.TokenText.{TagText}
@@ -14,6 +14,7 @@ use Rattle.h5_rules.proofs.entries.KeptListsLaws.{EntryCut, entry_cut}
 use Rattle.h5_rules.proofs.entries.RoundLaws.{replaced_by_which}
 use Rattle.h5_rules.specs.Sound.{Sound}
 use Rattle.h5_rules.specs.World.{World, names_of}
+use Rattle.h5_state.specs.Stamps.{AreStamped}
 use Rattle.h5_state.specs.Steps.{IsSound, world_of}
 use Rattle.h5_state.specs.Summaries.{IsKept}
 use Rattle.h5_state.specs.View.{elements_of, open_node, stack_under}
@@ -24,11 +25,12 @@ use Rattle.h5_state.proofs.SeenLaws.{seen_at}
 
 -- all stands still, where the list alone changed
 pub sound_relisted : {S H O : Type 0} (law : Ghosts S H O) (sink : S) (old new : State H) (l : List Entry) → new.open_elems ≡ old.open_elems
-    → world_of law sink new ≡ record (world_of law sink old) { formatting = l } → IsSound law sink old → Sound (record (world_of law sink old) { formatting = l }) → IsSound law sink new
+    → world_of law sink new ≡ record (world_of law sink old) { formatting = l } → IsSound law sink old → Sound (record (world_of law sink old) { formatting = l }) → AreStamped law.node old.open_elems new.active_formatting → IsSound law sink new
 unfolding names_of
-sound_relisted law sink old new l same is k stands = record {
+sound_relisted law sink old new l same is k stands stamped = record {
   sound = subst Sound (sym is) stands;
   kept = subst (λ open_elems. IsKept open_elems (names_of (world_of law sink new))) (sym same) (subst (λ (u : World). IsKept old.open_elems (names_of u)) (sym is) k.kept);
+  stamped = subst (λ open_elems. AreStamped law.node open_elems new.active_formatting) (sym same) stamped;
 }
 
 module _ (f : FormattingElement) (between clones : List ℕ) (clone at first block : ℕ) (w : World) (r : Relists f between clones clone at first block w) where
@@ -45,6 +47,18 @@ module _ (f : FormattingElement) (between clones : List ℕ) (clone at first blo
       let under = seen_at (open_node node) (elements_of state) block r.from_block low (sym e ∙ r.stack) (omega (arith, r.highest, r.lowest, length-append between (f.node ∷ r.below))) in
       let count : block - first ≡ length between = omega (arith, r.highest) in
       ap (take (block - first)) (sym under.1) ∙ ap (λ i. take i low) count ∙ take-append_seam between (f.node ∷ r.below)
+
+  -- the formatting element, and what is older
+  pub element_under : {H : Type 0} (node : H → ℕ) (state : State H) → w.stack ≡ reverse (map (open_node node) (elements_of state)) → stack_under node state (first - 1 + 1) ≡ f.node ∷ r.below
+  unfolding stack_under
+  element_under node state e =
+      let low = f.node ∷ r.below in
+      sym (seen_at (open_node node) (elements_of state) (first - 1 + 1) (r.from_block ++ between) low (sym e ∙ r.stack ∙ sym (append_assoc r.from_block between low)) (omega (arith, r.lowest))).1
+
+  -- no clone is listed
+  pub none_listed : (n : ℕ) → IsIn n (clone ∷ clones) → ¬ (IsIn n (nodes_of w.formatting))
+  none_listed n (inl e) = subst (λ m. ¬ (IsIn m (nodes_of w.formatting))) (sym e) r.new
+  none_listed n (inr i) = r.may_walk.new n i
 
   may : MayWalk 3 between clones (r.newer ++ ElementEntry f.node f.tag ∷ r.older)
   may = subst (MayWalk 3 between clones) r.cut r.may_walk

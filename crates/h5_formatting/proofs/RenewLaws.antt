@@ -4,7 +4,7 @@ use Rattle.std.proofs.lemmas.List.{append-nil, append_assoc}
 use Rattle.h5_token.specs.TokenText.{TagText}
 use Rattle.h5_interface.specs.SinkChoices.{SinkChoices}
 use Rattle.h5_interface.specs.declared.sink.TreeSink.{Ghosts}
-use Rattle.h5_tag_sets.specs.TagSets.{formatting_names, is_one_of}
+use Rattle.h5_tables.specs.TagSets.{formatting_names, is_one_of}
 use Rattle.h5_rules.specs.formatting.FormattingList.{ElementEntry, Entry, MarkerEntry, closed_front, made_anew, open_rest}
 use Rattle.h5_rules.specs.formatting.FormattingNames.{AllFormatting, AllOfTags, IsOfTag}
 use Rattle.h5_rules.specs.formatting.Places.{NoMarker}
@@ -16,6 +16,7 @@ use Rattle.h5_rules.specs.insertion.Place.{appropriate_place}
 use Rattle.h5_rules.specs.Sound.{Sound}
 use Rattle.h5_rules.specs.World.{World, current, names_of}
 use Rattle.h5_rules.proofs.changes.FormattingLaws.{all_listed, kind-insert_for, made_nodes, reconstruct_as_made, sound_insert_for}
+use Rattle.h5_state.specs.Stamps.{AreStamped}
 use Rattle.h5_state.specs.Steps.{IsSound, world_of}
 use Rattle.h5_state.specs.Summaries.{IsKept}
 use Rattle.h5_state.specs.declared.state.State.{State}
@@ -28,13 +29,14 @@ abbrev pub with_list : List Entry → World → World
 with_list l w = record w { formatting = l }
 
 pub sound_with_list : {S H O : Type 0} (law : Ghosts S H O) (sink : S) (old new : State H) (l : List Entry) → world_of law sink new ≡ with_list l (world_of law sink old) → new.open_elems ≡ old.open_elems
-    → AllOfTags (world_of law sink old).forest l → AllFormatting l → IsSound law sink old → IsSound law sink new
+    → AllOfTags (world_of law sink old).forest l → AllFormatting l → AreStamped law.node old.open_elems new.active_formatting → IsSound law sink old → IsSound law sink new
 unfolding names_of
-sound_with_list law sink old new l e h listed formatting k =
+sound_with_list law sink old new l e h listed formatting stamped k =
     let w = world_of law sink old in
     record {
       sound = subst Sound (sym e) (all_listed w.forest w.stack w.formatting l k.sound listed formatting);
       kept = subst (λ open_elems. IsKept open_elems (names_of (world_of law sink new))) (sym h) (subst (λ (v : World). IsKept old.open_elems (names_of v)) (sym e) k.kept);
+      stamped = subst (λ open_elems. AreStamped law.node open_elems new.active_formatting) (sym h) stamped;
     }
 
 -- the element at a place is made anew: the one that became the current node
@@ -61,12 +63,12 @@ module _ (choices : SinkChoices) (t : TagText) (w : World) where
 
   -- a sink and a state that mean this are sound
   pub sound_with_current : {S H O : Type 0} (law : Ghosts S H O) (sink : S) (old new : State H) (i n : ℕ) → entry_at i w.formatting ≡ ElementEntry n t → Sound w → world_of law sink old ≡ open_more
-      → world_of law sink new ≡ with_current_at i (world_of law sink old) → new.open_elems ≡ old.open_elems → IsSound law sink old → IsSound law sink new
-  sound_with_current law sink old new i n e k was is kept sound =
+      → world_of law sink new ≡ with_current_at i (world_of law sink old) → new.open_elems ≡ old.open_elems → AreStamped law.node old.open_elems new.active_formatting → IsSound law sink old → IsSound law sink new
+  sound_with_current law sink old new i n e k was is kept stamped sound =
       sound_with_list law sink old new (with_current_at i (world_of law sink old)).formatting is kept
       (subst (λ (v : World). AllOfTags v.forest (with_current_at i v).formatting) (sym was) (listed_with_current i n e k))
       (subst (λ (v : World). AllFormatting (with_current_at i v).formatting) (sym was) (formatting_with_current i k))
-      sound
+      stamped sound
 
 -- WHILE elements are made anew, from the oldest entry on: `done` are the entries whose elements were made, `todo` the newer ones
 abbrev pub partly : SinkChoices → List Entry → List Entry → World → World
@@ -216,3 +218,7 @@ ok_then (Err e) f a = tt
 pub ok_or_err : {T E A B C : Type 0} (r : Result T E) → OnOk r A → OnErr r B → (A → C) → (B → C) → C
 ok_or_err (Ok x) a b f g = f a
 ok_or_err (Err e) a b f g = g b
+
+pub both_ok : {T E : Type 0} (A B : Type 0) (r : Result T E) → OnOk r A → OnOk r B → OnOk r (A × B)
+both_ok A B (Ok x) a b = (a, b)
+both_ok A B (Err e) a b = tt

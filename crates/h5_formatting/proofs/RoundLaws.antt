@@ -150,6 +150,7 @@ module _ (choices : SinkChoices) {name : List ℕ} {f : FormattingElement} {k : 
     may_walk = walk;
     above = λ x i h. above x i h;
     new = fresh.unlisted own_clone (inl refl);
+    unopened = λ y i. fresh.unopened y i;
     alike = λ y x h.
         let tag = tagged w.formatting x (to_clone_is_listed w.formatting k.between x (original_in (to_clone w.formatting k.between) round_nest.clones y x h)) in
         clones_of_tags choices w r.ready r.may y x tag.0 h tag.1 ∙ sym (of_tag x tag.0 tag.1);

@@ -28,6 +28,7 @@ unfolding world names_of
 sound_rehung law old new state k all same = record {
   sound = all;
   kept = subst (IsKept state.open_elems) (sym (names_same (law.sees old).forest (law.sees new).forest (world_of law old state).stack k.sound.stands.elements same)) k.kept;
+  stamped = k.stamped;
 }
 
 -- the same where it is known what the forest became

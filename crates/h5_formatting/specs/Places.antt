@@ -3,7 +3,7 @@
 use Rattle.std.specs.Prelude.{◌≡◌, ◌⊎◌, ℕ, ◌+◌, List, ◌∷◌, ◌++◌, length, Some}
 use Rattle.h5_token.specs.TokenText.{TagText}
 use Rattle.h5_interface.specs.Forest.{Forest, IsNode}
-use Rattle.h5_tag_sets.specs.TagSets.{is_special}
+use Rattle.h5_tables.specs.TagSets.{is_special}
 use Rattle.h5_rules.specs.formatting.Adoption.{FurthestBlock, furthest_block, newer_than}
 use Rattle.h5_rules.specs.formatting.FormattingList.{ElementEntry, Entry, MarkerEntry, nodes_of}
 use Rattle.h5_rules.specs.stack.Order.{IsIn}

@@ -9,7 +9,7 @@ use Rattle.h5_rules.specs.World.{World}
 
 -- The formatting element's entry stands at a place of the list. Of the stack, these elements are between it, which is right
 -- below the first place, and its furthest block. There are clones of those that are to have one, and one of it; each is of
--- its original's kind, and none is listed.
+-- its original's kind, and none is listed or open.
 pub record Relists (f : FormattingElement) (between clones : List ℕ) (clone at first block : ℕ) (w : World) : Type 0 where
   pub newer : List Entry
   pub older : List Entry
@@ -23,5 +23,6 @@ pub record Relists (f : FormattingElement) (between clones : List ℕ) (clone at
   pub may_walk : MayWalk 3 between clones w.formatting
   pub above : (n : ℕ) → IsIn n between → ¬ (IsIn n (nodes_of (ElementEntry f.node f.tag ∷ older)))
   pub new : ¬ (IsIn clone (nodes_of w.formatting))
+  pub unopened : (n : ℕ) → IsIn n (clone ∷ clones) → ¬ (IsIn n w.stack)
   pub alike : (y x : ℕ) → IsCloneOf (to_clone w.formatting between) clones y x → kind_of w.forest y ≡ kind_of w.forest x
   pub own : kind_of w.forest clone ≡ kind_of w.forest f.node

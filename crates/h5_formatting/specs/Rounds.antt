@@ -3,7 +3,7 @@ use Rattle.std.specs.Prelude.{◌≡◌, ℕ, ◌+◌, Bool, if◌then◌else◌
 use Rattle.std.specs.List.{list_any}
 use Rattle.h5_token.specs.TokenText.{TagText}
 use Rattle.h5_interface.specs.SinkChoices.{SinkChoices}
-use Rattle.h5_tag_sets.specs.TagSets.{is_default_scope, is_special}
+use Rattle.h5_tables.specs.TagSets.{is_default_scope, is_special}
 use Rattle.h5_rules.specs.formatting.Adoption.{FormattingElement, FurthestBlock, furthest_block, newer_than, newest_named, older_than}
 use Rattle.h5_rules.specs.formatting.FormattingList.{ElementEntry, Entry}
 use Rattle.h5_rules.specs.formatting.AdoptionAgency.{MayAdopt, adopt_at}

@@ -2,8 +2,9 @@
 use Rattle.std.specs.Prelude.{ℕ, List, take}
 use Rattle.h5_rules.specs.formatting.FormattingList.{Entry}
 use Rattle.h5_list.specs.Listed.{entries_of}
+use Rattle.h5_state.specs.View.{listed_node}
 use Rattle.h5_state.specs.declared.state.State.{State}
 
 -- the oldest entries, so many of them, the newest first
 unfoldable pub list_under : {H : Type 0} → (H → ℕ) → State H → ℕ → List Entry
-list_under node state count = entries_of node (take count state.active_formatting)
+list_under node state count = entries_of (listed_node node) (take count state.active_formatting)

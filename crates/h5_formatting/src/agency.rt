@@ -8,6 +8,7 @@ ghost use Rattle.h5_rules.specs.formatting.AdoptionAgency.{adopt_by, adopt_withi
 ghost use Rattle.h5_rules.specs.Rows.{AdoptionAgency, HandleMisnestedATags};
 ghost use Rattle.h5_rules.specs.Sound.{HasHtmlRoot};
 ghost use Rattle.h5_rules.specs.World.{World};
+ghost use Rattle.h5_state.specs.Stamps.{IsAbove, stamps_of};
 ghost use Rattle.h5_state.specs.Steps.{Becomes, BecomesIfOk, IsSound, MakesIfOk, errors_of, world_of};
 ghost use Rattle.h5_formatting.specs.Places.{IsListedOnlyAt};
 ghost use Rattle.h5_formatting.specs.Rounds.{IsFound, SomeFound, SomeOpen, adopt_open, then_again};
@@ -17,11 +18,11 @@ use super::ends::{close_named, close_through, unlist};
 use super::find::{find_block, find_formatting_element, scope_ends_above};
 use super::questions::{is_current_unlisted, is_listed_at};
 use super::round::adopt;
-use super::walk::element_at;
+use super::walk::{element_at, listed_at};
 use h5_closing::remove_from_stack;
 use h5_interface::TreeSink;
 use h5_names::{KnownName, LocalName};
-use h5_state::{State, find_open, pop};
+use h5_state::{Listed, State, find_listed, pop};
 use std::alloc::AllocError;
 
 // Where the formatting element has no furthest block, the elements up to and with it are popped, and its entry goes.
@@ -69,16 +70,17 @@ fn round_listed<S: TreeSink>(
     sink: &mut S,
     state: &mut State<S::Handle>,
     at: usize,
-    element: &S::Handle,
+    element: &Listed<S::Handle>,
 ) -> Result<bool, AllocError>
     requires sound { IsSound S.TreeSink sink.old state.old }
-    requires found { SomeFound (S.node element.now) at (world_of S.TreeSink sink.old state.old) }
-    ensures done { IfOk result (λ more. (name : List ℕ) → (f : FormattingElement) → IsFound name f at (world_of S.TreeSink sink.old state.old) → f.node ≡ S.node element.now
+    requires found { SomeFound (S.node element.now.handle) at (world_of S.TreeSink sink.old state.old) }
+    requires above { IsAbove (S.node element.now.handle) element.now.stamp (stamps_of S.node state.old.open_elems) }
+    ensures done { IfOk result (λ more. (name : List ℕ) → (f : FormattingElement) → IsFound name f at (world_of S.TreeSink sink.old state.old) → f.node ≡ S.node element.now.handle
         → (again : World → World) → adopt_by again S.choices name (Some f) (world_of S.TreeSink sink.old state.old) ≡ then_again more again (world_of S.TreeSink sink.new state.new)) }
     ensures quiet { errors_of S.TreeSink sink.new ≡ errors_of S.TreeSink sink.old }
     ensures sound { IsSound S.TreeSink sink.new state.new }
 {
-    match find_open(sink, state, element) {
+    match find_listed(sink, state, element) {
         Some(place) => round_open(sink, state, at, place),
         None => {
             unlist(sink, state, at);
@@ -102,7 +104,9 @@ fn round<S: TreeSink>(
 {
     match find_formatting_element(sink, state, name) {
         Some(at) => {
-            let element = sink.clone_handle(element_at(sink, state, at));
+            let listed = listed_at(sink, state, at);
+            let (handle, stamp) = (sink.clone_handle(&listed.handle), listed.stamp);
+            let element = Listed { handle, stamp };
             round_listed(sink, state, at, &element)
         }
         None => {

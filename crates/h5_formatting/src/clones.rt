@@ -13,8 +13,8 @@ use super::hang::wrap;
 use super::walk::entry_at;
 use h5_interface::TreeSink;
 use h5_state::{State, handle_at};
+use h5_tables::FormatEntry;
 use h5_token::Tag;
-use h5_types::FormatEntry;
 use std::alloc::AllocError;
 
 /// Clones around a node, that of the element next to it first.

@@ -1,18 +1,19 @@
 //! New formatting elements.
 ghost use Rattle.std.specs.Prelude.{◌≡◌, ◌<◌, ◌≤◌, ℕ, IsTrue, MatchOption, OnErr, OnOk, length};
 ghost use Rattle.h5_token.specs.TokenText.{tag_text};
-ghost use Rattle.h5_tag_sets.specs.TagSets.{formatting_names, is_one_of};
+ghost use Rattle.h5_tables.specs.TagSets.{formatting_names, is_one_of};
 ghost use Rattle.h5_rules.specs.formatting.FormattingList.{push_formatting};
 ghost use Rattle.h5_rules.specs.Rows.{CreateFormattingElement};
 ghost use Rattle.h5_list.specs.Listed.{entries_of};
 ghost use Rattle.h5_state.specs.Steps.{IsSound, MakesIfOk};
+ghost use Rattle.h5_formatting.specs.Restacks.{IsPushed};
 
 use h5_insertion::insert_element;
 use h5_interface::TreeSink;
 use h5_list::FormattingList;
-use h5_state::{State, current_node};
+use h5_state::{State, current_listed};
+use h5_tables::FormatEntry;
 use h5_token::Tag;
-use h5_types::FormatEntry;
 use std::alloc::AllocError;
 
 // Pushes an element and its tag onto the list. Where three after the last marker are alike already, the earliest of them
@@ -23,6 +24,7 @@ fn push_formatting<Handle: Drop>(
     tag: Tag,
 ) -> Result<(), AllocError>
     ensures ok { OnOk result ((node : Handle → ℕ) → entries_of node entries.new ≡ push_formatting (node handle) (tag_text tag) (entries_of node entries.old)) }
+    ensures pushed { OnOk result (IsPushed (FormatEntry.Element handle tag) entries.old entries.new) }
     ensures err { OnErr result (entries.new ≡ entries.old) }
 {
     let surplus = entries.find_surplus(&tag);
@@ -53,6 +55,6 @@ pub fn create_formatting_element<S: TreeSink>(
         copy.attrs,
         copy.had_duplicate_attributes,
     )?;
-    let handle = current_node(sink, state);
-    push_formatting(&mut state.active_formatting, handle, tag)
+    let current = current_listed(sink, state);
+    push_formatting(&mut state.active_formatting, current, tag)
 }

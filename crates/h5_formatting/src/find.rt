@@ -2,7 +2,7 @@
 ghost use Rattle.std.specs.Prelude.{◌≡◌, ◌<◌, ◌+◌, ◌∷◌, ℕ, MatchOption, None, is_some, length};
 ghost use Rattle.std.specs.List.{list_any};
 ghost use Rattle.h5_interface.specs.Forest.{IsNode};
-ghost use Rattle.h5_tag_sets.specs.TagSets.{is_default_scope, is_special};
+ghost use Rattle.h5_tables.specs.TagSets.{is_default_scope, is_special};
 ghost use Rattle.h5_rules.specs.formatting.Adoption.{furthest_block, newer_than, newest_named};
 ghost use Rattle.h5_rules.specs.formatting.FormattingList.{nodes_of};
 ghost use Rattle.h5_rules.specs.stack.Order.{is_in};
@@ -15,7 +15,7 @@ use super::walk::{entry_at, entry_count};
 use h5_interface::TreeSink;
 use h5_names::LocalName;
 use h5_state::{State, newest_scope_end, open_at, open_count};
-use h5_types::FormatEntry;
+use h5_tables::FormatEntry;
 
 /// Where the formatting element of a name is listed: the newest entry of the name after the last marker.
 #[tactic(auto, unfolding(h5_state::specs::View::world))]
@@ -47,7 +47,7 @@ pub fn find_entry<S: TreeSink>(
     'down: while place > 0 {
         place -= 1;
         if let FormatEntry::Element(listed, _) = entry_at(sink, state, place) {
-            if sink.same_node(listed, handle) {
+            if sink.same_node(&listed.handle, handle) {
                 return Some(place);
             }
         }

@@ -1,5 +1,6 @@
 //! Markers in the list of active formatting elements.
-ghost use Rattle.std.specs.Prelude.{◌≡◌, ℕ, OnErr};
+ghost use Rattle.std.specs.Prelude.{◌≡◌, ◌++◌, ℕ, List, OnErr};
+ghost use Rattle.h5_tables.specs.declared.entry.FormatEntry.{FormatEntry as EntryAt};
 ghost use Rattle.h5_rules.specs.formatting.FormattingList.{clear_to_marker};
 ghost use Rattle.h5_rules.specs.Rows.{ClearActiveFormattingToMarker, InsertMarker};
 ghost use Rattle.h5_list.specs.Listed.{entries_of};
@@ -8,7 +9,7 @@ ghost use Rattle.h5_state.specs.Steps.{IsSound, Makes, MakesIfOk, world_of};
 use h5_interface::TreeSink;
 use h5_list::FormattingList;
 use h5_state::State;
-use h5_types::FormatEntry;
+use h5_tables::FormatEntry;
 use std::alloc::AllocError;
 
 /// A marker becomes the newest entry of the list. An Err leaves the list.
@@ -24,7 +25,8 @@ pub fn insert_marker<S: TreeSink>(sink: &S, state: &mut State<S::Handle>) -> Res
 
 // Takes entries off, the newest first, until a marker was taken off.
 fn clear_to_marker<Handle: Drop>(entries: &mut FormattingList<Handle>)
-    ensures { (node : Handle → ℕ) → entries_of node entries.new ≡ clear_to_marker (entries_of node entries.old) }
+    ensures cleared { (node : Handle → ℕ) → entries_of node entries.new ≡ clear_to_marker (entries_of node entries.old) }
+    ensures older { (newer : List (EntryAt Handle)) × (entries.old ≡ entries.new ++ newer) }
 {
     'clear: while let Some(entry) = entries.pop() {
         if let FormatEntry::Marker = entry {

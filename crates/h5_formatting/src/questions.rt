@@ -6,6 +6,7 @@ ghost use Rattle.h5_rules.specs.formatting.Adoption.{newest_named};
 ghost use Rattle.h5_rules.specs.formatting.FormattingList.{nodes_of};
 ghost use Rattle.h5_rules.specs.stack.Order.{is_in};
 ghost use Rattle.h5_rules.specs.World.{name_in};
+ghost use Rattle.h5_state.specs.View.{listed_node};
 ghost use Rattle.h5_state.specs.Steps.{IsSound, world_of};
 ghost use Rattle.h5_list.specs.Listed.{entry_of};
 ghost use Rattle.h5_formatting.specs.EntryPlaces.{entry_at, is_entry_of};
@@ -15,17 +16,21 @@ use super::find::find_formatting_element;
 use super::walk::{entry_at, entry_count};
 use h5_interface::TreeSink;
 use h5_names::LocalName;
-use h5_state::{State, current_node, is_current_html};
-use h5_types::FormatEntry;
+use h5_state::{Listed, State, current_node, is_current_html};
+use h5_tables::FormatEntry;
 
 // Whether an entry is that of an element.
-fn is_entry_of<S: TreeSink>(sink: &S, entry: &FormatEntry<S::Handle>, handle: &S::Handle) -> bool
-    requires entry { IsNodeIn (S.sees sink.now).forest (entry_of S.node entry.now) }
+fn is_entry_of<S: TreeSink>(
+    sink: &S,
+    entry: &FormatEntry<Listed<S::Handle>>,
+    handle: &S::Handle,
+) -> bool
+    requires entry { IsNodeIn (S.sees sink.now).forest (entry_of (listed_node S.node) entry.now) }
     requires handle { IsNode (S.sees sink.now).forest (S.node handle.now) }
-    ensures { result ≡ is_entry_of (S.node handle.now) (entry_of S.node entry.now) }
+    ensures { result ≡ is_entry_of (S.node handle.now) (entry_of (listed_node S.node) entry.now) }
 {
     match entry {
-        FormatEntry::Element(listed, _) => sink.same_node(handle, listed),
+        FormatEntry::Element(listed, _) => sink.same_node(handle, &listed.handle),
         FormatEntry::Marker => false,
     }
 }

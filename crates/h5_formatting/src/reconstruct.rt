@@ -8,8 +8,8 @@ ghost use Rattle.h5_state.specs.Steps.{IsSound, MakesIfOk, errors_of, world_of};
 
 use h5_insertion::insert_element;
 use h5_interface::TreeSink;
-use h5_state::{State, current_node, find_open};
-use h5_types::FormatEntry;
+use h5_state::{State, current_listed, find_listed};
+use h5_tables::FormatEntry;
 use std::alloc::AllocError;
 
 // How many entries stay as they are: the oldest ones, up to the last marker or the last element that is open.
@@ -21,8 +21,8 @@ fn count_staying<S: TreeSink>(sink: &S, state: &State<S::Handle>) -> usize
     let mut place = state.active_formatting.len();
     'rewind: while place > 0 {
         match state.active_formatting.get(place - 1) {
-            FormatEntry::Element(handle, _) => {
-                if find_open(sink, state, handle).is_some() {
+            FormatEntry::Element(listed, _) => {
+                if find_listed(sink, state, listed).is_some() {
                     return place;
                 }
             }
@@ -55,8 +55,8 @@ fn make_anew<S: TreeSink>(
             copy.attrs,
             copy.had_duplicate_attributes,
         )?;
-        let handle = current_node(sink, state);
-        state.active_formatting.set_handle(place, handle);
+        let current = current_listed(sink, state);
+        state.active_formatting.set_handle(place, current);
     }
     Ok(())
 }

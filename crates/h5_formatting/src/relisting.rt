@@ -9,20 +9,29 @@ ghost use Rattle.h5_rules.specs.stack.Order.{IsIn};
 ghost use Rattle.h5_state.specs.Steps.{Becomes, IsSound, world_of};
 ghost use Rattle.h5_state.specs.View.{stack_under};
 ghost use Rattle.h5_formatting.specs.Relists.{Relists};
+ghost use Rattle.h5_formatting.specs.Restacks.{MayRestack};
+ghost use Rattle.h5_formatting.specs.Rounds.{IsElementEntry};
 ghost use Rattle.h5_formatting.specs.Places.{AreNodes};
 
 use super::find::find_entry;
+use super::walk::listed_at;
 use h5_interface::TreeSink;
-use h5_state::{State, handle_at};
+use h5_state::{Listed, State, handle_at};
 
-// The entry at a place becomes that of another element, with its tag.
+// The entry at a place becomes that of another element, with its tag and its stamp.
 fn swap_entry<S: TreeSink>(sink: &S, state: &mut State<S::Handle>, at: usize, handle: S::Handle)
-    requires { at < length (world_of S.TreeSink sink.now state.old).formatting }
+    requires { IsElementEntry at (world_of S.TreeSink sink.now state.old) }
     ensures done { (newer older : List Entry) → (n : ℕ) → (tag : TagText) → (world_of S.TreeSink sink.now state.old).formatting ≡ newer ++ ElementEntry n tag ∷ older → at ≡ length older
         → world_of S.TreeSink sink.now state.new ≡ record (world_of S.TreeSink sink.now state.old) { formatting = newer ++ ElementEntry (S.node handle) tag ∷ older } }
     ensures stack { state.new.open_elems ≡ state.old.open_elems }
+    ensures restack { (block place : ℕ) (ns below : List ℕ) (newer older : List Entry) (n : ℕ) (tag : TagText) → (world_of S.TreeSink sink.now state.old).formatting ≡ newer ++ ElementEntry n tag ∷ older → at ≡ length older
+        → stack_under S.node state.old (place + 1) ≡ n ∷ below → place ≤ block → ¬ (IsIn (S.node handle) (world_of S.TreeSink sink.now state.old).stack)
+        → MayRestack S.node state.old.open_elems block ns state.old.active_formatting → MayRestack S.node state.old.open_elems block ns state.new.active_formatting }
 {
-    state.active_formatting.set_handle(at, handle);
+    let stamp = listed_at(sink, state, at).stamp;
+    state
+        .active_formatting
+        .set_handle(at, Listed { handle, stamp });
 }
 
 /// The entry at a place goes.
@@ -31,6 +40,7 @@ pub fn drop_entry<S: TreeSink>(sink: &S, state: &mut State<S::Handle>, at: usize
     ensures done { (newer older : List Entry) → (e : Entry) → (world_of S.TreeSink sink.now state.old).formatting ≡ newer ++ e ∷ older → at ≡ length older
         → world_of S.TreeSink sink.now state.new ≡ record (world_of S.TreeSink sink.now state.old) { formatting = newer ++ older } }
     ensures stack { state.new.open_elems ≡ state.old.open_elems }
+    ensures restack { (block : ℕ) (ns : List ℕ) → MayRestack S.node state.old.open_elems block ns state.old.active_formatting → MayRestack S.node state.old.open_elems block ns state.new.active_formatting }
 {
     let _ = state.active_formatting.remove(at);
 }
@@ -42,6 +52,7 @@ fn move_entry<S: TreeSink>(sink: &S, state: &mut State<S::Handle>, from: usize, 
     ensures done { (newer middle older : List Entry) → (e x : Entry) → (world_of S.TreeSink sink.now state.old).formatting ≡ newer ++ x ∷ (middle ++ e ∷ older) → from ≡ length older → to ≡ length (middle ++ e ∷ older)
         → world_of S.TreeSink sink.now state.new ≡ record (world_of S.TreeSink sink.now state.old) { formatting = newer ++ e ∷ x ∷ (middle ++ older) } }
     ensures stack { state.new.open_elems ≡ state.old.open_elems }
+    ensures restack { (block : ℕ) (ns : List ℕ) → MayRestack S.node state.old.open_elems block ns state.old.active_formatting → MayRestack S.node state.old.open_elems block ns state.new.active_formatting }
 {
     state.active_formatting.move_up(from, to);
 }
@@ -55,6 +66,7 @@ fn move_above<S: TreeSink>(sink: &S, state: &mut State<S::Handle>, from: usize, 
         → ¬ (IsIn (S.node handle.now) (nodes_of newer)) → from ≡ length older
         → world_of S.TreeSink sink.now state.new ≡ record (world_of S.TreeSink sink.now state.old) { formatting = newer ++ e ∷ ElementEntry (S.node handle.now) tag ∷ (middle ++ older) } }
     ensures stack { state.new.open_elems ≡ state.old.open_elems }
+    ensures restack { (block : ℕ) (ns : List ℕ) → MayRestack S.node state.old.open_elems block ns state.old.active_formatting → MayRestack S.node state.old.open_elems block ns state.new.active_formatting }
 {
     if let Some(to) = find_entry(sink, state, handle) {
         if from <= to {
@@ -76,6 +88,7 @@ fn relist_near<S: TreeSink>(
     requires used { used ≤ length clones.now.items }
     requires clones { AreNodes (S.sees sink.now).forest (map S.node clones.now.items) }
     requires open { AreNodes (S.sees sink.now).forest (world_of S.TreeSink sink.now state.old).stack }
+    requires unopened { (n : ℕ) → IsIn n (map S.node clones.now.items) → ¬ (IsIn n (world_of S.TreeSink sink.now state.old).stack) }
     requires listed { AreNodes (S.sees sink.now).forest (nodes_of (world_of S.TreeSink sink.now state.old).formatting) }
     ensures listed { AreNodes (S.sees sink.now).forest (nodes_of (world_of S.TreeSink sink.now state.new).formatting) }
     ensures used { result ≤ length clones.now.items }
@@ -84,6 +97,7 @@ fn relist_near<S: TreeSink>(
         ≡ walked k ns (drop result (map S.node clones.now.items)) (world_of S.TreeSink sink.now state.new).formatting }
     ensures world { world_of S.TreeSink sink.now state.new ≡ record (world_of S.TreeSink sink.now state.old) { formatting = (world_of S.TreeSink sink.now state.new).formatting } }
     ensures stack { state.new.open_elems ≡ state.old.open_elems }
+    ensures restack { (block : ℕ) (ns : List ℕ) → place ≤ block → MayRestack S.node state.old.open_elems block ns state.old.active_formatting → MayRestack S.node state.old.open_elems block ns state.new.active_formatting }
 {
     match find_entry(sink, state, handle_at(sink, state, place)) {
         Some(at) if used < clones.len() => {
@@ -104,6 +118,7 @@ fn relist_far<S: TreeSink>(sink: &S, state: &mut State<S::Handle>, place: usize)
         → walked zero (n ∷ ns) ys (world_of S.TreeSink sink.now state.old).formatting ≡ walked zero ns ys (world_of S.TreeSink sink.now state.new).formatting }
     ensures world { world_of S.TreeSink sink.now state.new ≡ record (world_of S.TreeSink sink.now state.old) { formatting = (world_of S.TreeSink sink.now state.new).formatting } }
     ensures stack { state.new.open_elems ≡ state.old.open_elems }
+    ensures restack { (block : ℕ) (ns : List ℕ) → MayRestack S.node state.old.open_elems block ns state.old.active_formatting → MayRestack S.node state.old.open_elems block ns state.new.active_formatting }
 {
     if let Some(at) = find_entry(sink, state, handle_at(sink, state, place)) {
         drop_entry(sink, state, at);
@@ -121,12 +136,14 @@ fn relist_between<S: TreeSink>(
     requires block { block ≤ length (world_of S.TreeSink sink.now state.old).stack }
     requires clones { AreNodes (S.sees sink.now).forest (map S.node clones.now.items) }
     requires open { AreNodes (S.sees sink.now).forest (world_of S.TreeSink sink.now state.old).stack }
+    requires unopened { (n : ℕ) → IsIn n (map S.node clones.now.items) → ¬ (IsIn n (world_of S.TreeSink sink.now state.old).stack) }
     requires listed { AreNodes (S.sees sink.now).forest (nodes_of (world_of S.TreeSink sink.now state.old).formatting) }
     ensures listed { AreNodes (S.sees sink.now).forest (nodes_of (world_of S.TreeSink sink.now state.new).formatting) }
     ensures world { world_of S.TreeSink sink.now state.new ≡ record (world_of S.TreeSink sink.now state.old) {
       formatting = walked 3 (take (block - first) (stack_under S.node state.old block)) (map S.node clones.now.items) (world_of S.TreeSink sink.now state.old).formatting;
     } }
     ensures stack { state.new.open_elems ≡ state.old.open_elems }
+    ensures restack { (ns : List ℕ) → MayRestack S.node state.old.open_elems block ns state.old.active_formatting → MayRestack S.node state.old.open_elems block ns state.new.active_formatting }
 {
     let mut place = block;
     let mut used = 0;
@@ -158,6 +175,7 @@ pub fn relist<S: TreeSink>(
     ensures done { (f : FormattingElement) → (between : List ℕ) → Relists f between (map S.node clones.now.items) (S.node clone) at first block (world_of S.TreeSink sink.now state.old)
         → Becomes S.TreeSink (λ w. record w { formatting = round_list f.node f.tag between (map S.node clones.now.items) (S.node clone) w.formatting }) sink.now state.old sink.now state.new }
     ensures stack { state.new.open_elems ≡ state.old.open_elems }
+    ensures restack { MayRestack S.node state.old.open_elems block (S.node clone ∷ map S.node clones.now.items) state.new.active_formatting }
 {
     relist_between(sink, state, first, block, clones);
     swap_entry(sink, state, at, clone);

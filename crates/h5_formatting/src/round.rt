@@ -19,8 +19,8 @@ use super::stack::{restack, round_handles};
 use super::walk::entry_at;
 use h5_interface::TreeSink;
 use h5_state::{State, handle_at, open_at};
+use h5_tables::FormatEntry;
 use h5_token::Tag;
-use h5_types::FormatEntry;
 use std::alloc::AllocError;
 
 // The tag of the element that is listed at a place.

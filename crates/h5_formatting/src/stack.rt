@@ -1,7 +1,8 @@
 //! The stack of open elements after a round of the adoption agency.
-ghost use Rattle.std.specs.Prelude.{◌≡◌, ◌<◌, ◌≤◌, ◌+◌, ◌∷◌, ◌++◌, ℕ, List, IfOk, OnOk, length, map, reverse, vec_len};
+ghost use Rattle.std.specs.Prelude.{◌≡◌, ◌<◌, ◌≤◌, ◌+◌, ◌-◌, ◌∷◌, ◌++◌, ℕ, All, List, IfOk, OnOk, drop, length, map, reverse, vec_len};
 ghost use Rattle.h5_interface.specs.Forest.{IsNode};
 ghost use Rattle.h5_rules.specs.Sound.{AllStand, Sound};
+ghost use Rattle.h5_state.specs.Stamps.{MayStandBelow, stamps_of};
 ghost use Rattle.h5_state.specs.Steps.{Becomes, BecomesIfOk, IsSound, world_of};
 ghost use Rattle.h5_state.specs.View.{stack_over, stack_under, with_stack};
 ghost use Rattle.h5_formatting.specs.Places.{AreNodes};
@@ -106,7 +107,9 @@ fn replace<S: TreeSink>(
     handles: Vec<S::Handle>,
 ) -> Result<(), AllocError>
     requires sound { IsSound S.TreeSink sink.now state.old }
+    requires some { 0 < vec_len handles }
     requires inside { place + vec_len handles ≤ length (world_of S.TreeSink sink.now state.old).stack }
+    requires below { All (MayStandBelow S.node (drop (place + vec_len handles - 1) (stamps_of S.node state.old.open_elems)) (map S.node handles.items)) state.old.active_formatting }
     requires stands { Sound (with_stack ((stack_over S.node state.old (place + vec_len handles) ++ reverse (map S.node handles.items)) ++ stack_under S.node state.old place) (world_of S.TreeSink sink.now state.old)) }
     ensures { BecomesIfOk S.TreeSink (with_stack ((stack_over S.node state.old (place + vec_len handles) ++ reverse (map S.node handles.items)) ++ stack_under S.node state.old place)) sink.now state.old sink.now state.new result }
 {
@@ -125,6 +128,7 @@ pub fn restack<S: TreeSink>(
     requires sound { IsSound S.TreeSink sink.now state.old }
     requires place { place ≤ block }
     requires block { block < length (world_of S.TreeSink sink.now state.old).stack }
+    requires below { All (MayStandBelow S.node (drop block (stamps_of S.node state.old.open_elems)) (map S.node handles.items)) state.old.active_formatting }
     requires stands { Sound (with_stack ((stack_over S.node state.old (block + 1) ++ reverse (map S.node handles.items)) ++ stack_under S.node state.old place) (world_of S.TreeSink sink.now state.old)) }
     ensures { BecomesIfOk S.TreeSink (with_stack ((stack_over S.node state.old (block + 1) ++ reverse (map S.node handles.items)) ++ stack_under S.node state.old place)) sink.now state.old sink.now state.new result }
 {

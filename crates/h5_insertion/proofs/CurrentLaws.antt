@@ -6,8 +6,8 @@ use Rattle.h5_token.specs.declared.tag.TagKind.TheVariants.{EndTag}
 use Rattle.h5_interface.specs.Forest.{ElementNode, Forest, IsElement, kind_of}
 use Rattle.h5_interface.specs.NewElement.{is_annotation_xml}
 use Rattle.h5_interface.specs.SinkChoices.{SinkChoices}
-use Rattle.h5_tag_sets.specs.TagSets.{is_mathml_text_point, is_svg_html_point}
-use Rattle.h5_types.specs.TurnText.{CommentTurn, TagTurn, TurnText}
+use Rattle.h5_tables.specs.TagSets.{is_mathml_text_point, is_svg_html_point}
+use Rattle.h5_tables.specs.TurnText.{CommentTurn, TagTurn, TurnText}
 use Rattle.h5_rules.specs.fitting.NamesFit.{is_html_element}
 use Rattle.h5_rules.specs.stack.Order.{IsIn}
 use Rattle.h5_rules.specs.insertion.Foreign.{adjusted_current_node, adjusted_of, is_foreign_at, is_taken_in}

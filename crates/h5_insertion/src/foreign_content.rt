@@ -2,10 +2,10 @@
 ghost use Rattle.std.specs.Prelude.{◌≡◌, ◌&&◌, ◌||◌, [], false, not, option_map, true};
 ghost use Rattle.h5_interface.specs.Forest.{IsElement};
 ghost use Rattle.h5_interface.specs.NewElement.{is_annotation_xml};
-ghost use Rattle.h5_tag_sets.specs.TagSets.{is_mathml_text_point, is_one_of, is_svg_html_point};
+ghost use Rattle.h5_tables.specs.TagSets.{is_mathml_text_point, is_one_of, is_svg_html_point};
 ghost use Rattle.h5_rules.specs.fitting.NamesFit.{is_html_element};
 ghost use Rattle.h5_token.specs.TokenText.{TagText};
-ghost use Rattle.h5_types.specs.TurnText.{TagTurn, TextTurn, TurnText, turn_text};
+ghost use Rattle.h5_tables.specs.TurnText.{TagTurn, TextTurn, TurnText, turn_text};
 ghost use Rattle.h5_rules.specs.insertion.Foreign.{adjusted_current_node, glyph_names, is_foreign, is_foreign_at, is_foreign_text, is_left, is_taken_in};
 ghost use Rattle.h5_insertion.specs.Leaving.{is_current_left};
 ghost use Rattle.h5_state.specs.Steps.{IsSound, world_of};
@@ -13,9 +13,8 @@ ghost use Rattle.h5_state.specs.Steps.{IsSound, world_of};
 use h5_interface::TreeSink;
 use h5_names::{KnownName, LocalName, QualName};
 use h5_state::{State, handle_at, is_html_at, open_at, open_count};
-use h5_tag_sets::{mathml_text_integration_point, svg_html_integration_point};
+use h5_tables::{SplitStatus, Token, mathml_text_integration_point, svg_html_integration_point};
 use h5_token::TagKind;
-use h5_types::{SplitStatus, Token};
 
 /// The adjusted current node: the context where only the root of a fragment is open, else the current node.
 #[tactic(auto, unfolding(h5_state::specs::View::world))]
@@ -39,7 +38,7 @@ pub fn adjusted_current_node<'a, S: TreeSink>(
 /// Whether no element is open, or the current node is the adjusted one, and is an element of HTML; no token is for foreign
 /// content then. It may answer no where that holds, too.
 #[tactic(auto, unfolding(h5_state::specs::View::world))]
-pub fn is_in_known_html<S: TreeSink>(sink: &S, state: &State<S::Handle>) -> bool
+pub fn is_current_node_surely_html<S: TreeSink>(sink: &S, state: &State<S::Handle>) -> bool
     requires { IsSound S.TreeSink sink.now state.now }
     ensures { result ≡ true → (t : TurnText) → is_foreign_at S.choices t (world_of S.TreeSink sink.now state.now).forest (adjusted_current_node (world_of S.TreeSink sink.now state.now)) ≡ false }
 {
@@ -70,7 +69,7 @@ fn is_glyph(name: &LocalName) -> bool
 }
 
 // Whether an element takes texts as HTML by its name: it is of HTML, or an integration point, whatever its attributes.
-#[tactic(auto, unfolding(h5_tag_sets::specs::TagSets::html_namespace))]
+#[tactic(auto, unfolding(h5_tables::specs::TagSets::html_namespace))]
 fn is_html_or_point(name: &QualName) -> bool
     ensures { result ≡ (is_html_element name.now || (is_mathml_text_point name.now || is_svg_html_point name.now)) }
 {
@@ -78,7 +77,7 @@ fn is_html_or_point(name: &QualName) -> bool
 }
 
 // Whether it takes start tags of this name so.
-#[tactic(auto, unfolding(h5_tag_sets::specs::TagSets::html_namespace))]
+#[tactic(auto, unfolding(h5_tables::specs::TagSets::html_namespace))]
 fn is_html_or_point_for(name: &QualName, local: &LocalName) -> bool
     ensures { result ≡ (is_html_element name.now || ((is_mathml_text_point name.now && not (is_one_of glyph_names local.now)) || is_svg_html_point name.now)) }
 {
@@ -158,7 +157,7 @@ pub fn is_foreign<S: TreeSink>(sink: &S, state: &State<S::Handle>, token: &Token
     requires { IsSound S.TreeSink sink.now state.now }
     ensures { result ≡ is_foreign S.choices (turn_text token.now) (world_of S.TreeSink sink.now state.now) }
 {
-    if is_in_known_html(sink, state) {
+    if is_current_node_surely_html(sink, state) {
         return false;
     }
     match token {
@@ -175,7 +174,7 @@ pub fn is_foreign_text<S: TreeSink>(sink: &S, state: &State<S::Handle>) -> bool
     requires { IsSound S.TreeSink sink.now state.now }
     ensures { result ≡ is_foreign_text S.choices (world_of S.TreeSink sink.now state.now) }
 {
-    if is_in_known_html(sink, state) {
+    if is_current_node_surely_html(sink, state) {
         return false;
     }
     match adjusted_current_node(sink, state) {

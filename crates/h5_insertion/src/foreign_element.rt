@@ -1,8 +1,8 @@
 //! Elements of SVG and MathML are made (HTML standard, section 13.2.6.1, "Creating and inserting nodes").
 ghost use Rattle.std.specs.Prelude.{◌≡◌, IfOk, if◌then◌else◌, map};
 ghost use Rattle.h5_names.specs.AttributeText.{attribute_texts, is_same_text};
-ghost use Rattle.h5_tag_sets.specs.TagSets.{mathml_namespace, svg_namespace};
-ghost use Rattle.h5_data.specs.AdjustedNames.{mathml_attributes, renamed, svg_attributes};
+ghost use Rattle.h5_tables.specs.TagSets.{mathml_namespace, svg_namespace};
+ghost use Rattle.h5_tables.specs.AdjustedNames.{mathml_attributes, renamed, svg_attributes};
 ghost use Rattle.h5_insertion.specs.ForeignInserts.{inserts_foreign_in};
 ghost use Rattle.h5_rules.specs.insertion.Foreign.{adjusted_attributes};
 ghost use Rattle.h5_rules.specs.Rows.{InsertAndPopForeignElement, InsertForeignElement};
@@ -11,12 +11,13 @@ ghost use Rattle.h5_state.specs.Turn.{TakesTag};
 
 use super::place::current_place;
 use super::put::{Notice, insert_new_element};
-use h5_data::{adjust_foreign_attributes, adjust_mathml_attributes, adjust_svg_attributes};
 use h5_interface::TreeSink;
 use h5_names::{Attribute, Namespace, QualName};
 use h5_state::{State, Turn, push_open};
+use h5_tables::{
+    ProcessResult, adjust_foreign_attributes, adjust_mathml_attributes, adjust_svg_attributes,
+};
 use h5_token::Tag;
-use h5_types::ProcessResult;
 use std::alloc::{AllocError, Global};
 
 /// An element of this name at the place of insertion; it becomes the current node. After an Err it isn't open, and open
@@ -69,7 +70,7 @@ pub fn insert_and_pop_foreign_element<S: TreeSink>(
 }
 
 // Attributes get the names that MathML, or SVG, has for them.
-#[tactic(auto, unfolding(h5_tag_sets::specs::TagSets::mathml_namespace, h5_tag_sets::specs::TagSets::svg_namespace))]
+#[tactic(auto, unfolding(h5_tables::specs::TagSets::mathml_namespace, h5_tables::specs::TagSets::svg_namespace))]
 fn adjust_own_attributes(
     alloc: Global,
     namespace: &Namespace,

@@ -5,7 +5,7 @@ ghost use Rattle.h5_names.specs.AttributeText.{attribute_text, attribute_texts, 
 ghost use Rattle.h5_names.specs.KnownNames.{name_text};
 ghost use Rattle.h5_interface.specs.Forest.{IsNode};
 ghost use Rattle.h5_interface.specs.NewElement.{is_expanded};
-ghost use Rattle.h5_tag_sets.specs.TagSets.{is_one_of};
+ghost use Rattle.h5_tables.specs.TagSets.{is_one_of};
 ghost use Rattle.h5_rules.specs.insertion.FormOwner.{form_associatable_names, form_owner, may_have_owner, names_a_form};
 ghost use Rattle.h5_state.specs.Steps.{IsSound, world_of};
 

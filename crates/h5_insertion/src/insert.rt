@@ -29,7 +29,7 @@ pub fn html_qual_name(local: LocalName) -> QualName
 }
 
 // A form owner is told, where there is one.
-fn of_owner<Handle>(owner: Option<Handle>) -> Notice<Handle>
+fn associated_with<Handle>(owner: Option<Handle>) -> Notice<Handle>
     ensures marking { (node : Handle → ℕ) (choices : SinkChoices) (element : ℕ) (p : Place) → marking_of node choices result element p ≡ associates choices element p (option_map node owner) }
     ensures form { (node : Handle → ℕ) (f : Forest) → MatchOption owner (Unit {0}) (λ form. IsNode f (node form)) → IsNodeIfTold node f result }
 {
@@ -43,7 +43,7 @@ fn of_owner<Handle>(owner: Option<Handle>) -> Notice<Handle>
 // node. Where none is open, the place is in the document.
 #[tactic(auto, unfolding(h5_state::specs::View::world))]
 #[inline(always)]
-fn push_at<S: TreeSink>(
+fn push_element_at<S: TreeSink>(
     sink: &mut S,
     state: &mut State<S::Handle>,
     place: &InsertionPoint<S::Handle>,
@@ -81,8 +81,8 @@ pub fn insert_element<S: TreeSink>(
     ensures { MakesIfOk S.TreeSink (InsertElement local (attribute_texts attrs.items) had_duplicate_attributes) sink.old state.old sink.new state.new result }
 {
     let place = current_place(sink, state);
-    let notice = of_owner(form_owner(sink, state, &local, attrs.as_slice()));
-    push_at(
+    let notice = associated_with(form_owner(sink, state, &local, attrs.as_slice()));
+    push_element_at(
         sink,
         state,
         &place,
@@ -106,7 +106,7 @@ pub fn insert_and_pop_element<S: TreeSink>(
     ensures { MakesIfOk S.TreeSink (InsertAndPopElement local (attribute_texts attrs.items) had_duplicate_attributes) sink.old state.now sink.new state.now result }
 {
     let place = current_place(sink, state);
-    let notice = of_owner(form_owner(sink, state, &local, attrs.as_slice()));
+    let notice = associated_with(form_owner(sink, state, &local, attrs.as_slice()));
     let name = html_qual_name(local);
     insert_new_element(sink, &place, name, attrs, had_duplicate_attributes, notice)?;
     Ok(())
@@ -183,7 +183,7 @@ pub fn create_root<S: TreeSink>(
     ensures { MakesIfOk S.TreeSink (CreateRoot (attribute_texts attrs.items)) sink.old state.old sink.new state.new result }
 {
     let place = InsertionPoint::LastChild(sink.get_document());
-    push_at(
+    push_element_at(
         sink,
         state,
         &place,
@@ -237,7 +237,7 @@ pub fn insert_script<S: TreeSink>(
 {
     let place = current_place(sink, state);
     let notice = script_notice(sink, state);
-    push_at(
+    push_element_at(
         sink,
         state,
         &place,

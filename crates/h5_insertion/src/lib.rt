@@ -24,7 +24,8 @@ mod template;
 
 pub use attributes::{add_attrs_to_html, add_attrs_to_second};
 pub use foreign_content::{
-    adjusted_current_node, is_current_left, is_foreign, is_foreign_text, is_in_known_html,
+    adjusted_current_node, is_current_left, is_current_node_surely_html, is_foreign,
+    is_foreign_text,
 };
 pub use foreign_element::{
     insert_and_pop_foreign_element, insert_foreign_element, insert_foreign_for,

@@ -1,7 +1,7 @@
 //! The place of insertion (HTML standard, section 13.2.6.1, "Creating and inserting nodes").
 ghost use Rattle.std.specs.Prelude.{◌≡◌, ◌<◌, ◌+◌, ◌&&◌, length};
 ghost use Rattle.h5_interface.specs.NewElement.{is_html_template};
-ghost use Rattle.h5_tag_sets.specs.TagSets.{is_table_outer};
+ghost use Rattle.h5_tables.specs.TagSets.{is_table_outer};
 ghost use Rattle.h5_rules.specs.insertion.Place.{appropriate_place, foster_place, from_foster_parent, inside, place};
 ghost use Rattle.h5_rules.specs.World.{name_in, root};
 ghost use Rattle.h5_rules.specs.stack.Order.{IsIn};
@@ -14,7 +14,7 @@ use h5_names::{KnownName, LocalName};
 use h5_state::{
     FosterParent, Nothing, State, find_in_scope, handle_at, is_named, open_count, root_node,
 };
-use h5_tag_sets::{is_html_known, table_outer};
+use h5_tables::{is_html_known, table_outer};
 
 /// Where a node or a text is put.
 #[derive(Drop)]
@@ -29,7 +29,7 @@ pub enum InsertionPoint<Handle> {
 // What is put into an open element, which is a template or not, is put here: into its contents, where it is one.
 #[tactic(auto, unfolding(h5_state::specs::View::world))]
 #[inline(always)]
-fn inside_of<S: TreeSink>(
+fn last_child_place<S: TreeSink>(
     sink: &S,
     state: &State<S::Handle>,
     target: &S::Handle,
@@ -56,7 +56,7 @@ fn inside<S: TreeSink>(sink: &S, state: &State<S::Handle>, target: &S::Handle) -
     ensures { S.node result ≡ inside (world_of S.TreeSink sink.now state.now).forest (S.node target.now) }
 {
     let is_template = is_html_known(sink.elem_name(target), KnownName::Template);
-    inside_of(sink, state, target, is_template)
+    last_child_place(sink, state, target, is_template)
 }
 
 // The place of what is foster-parented.
@@ -139,5 +139,5 @@ pub fn current_place<S: TreeSink>(sink: &S, state: &State<S::Handle>) -> Inserti
     }
     let template = LocalName::from_known(KnownName::Template);
     let is_template = is_named(sink, state, count - 1, &template);
-    InsertionPoint::LastChild(inside_of(sink, state, target, is_template))
+    InsertionPoint::LastChild(last_child_place(sink, state, target, is_template))
 }

@@ -61,7 +61,7 @@ pub enum Notice<Handle> {
 
 // The sink is told of a new element, and, with its form owner, where it is to stand.
 #[inline(always)]
-fn notify<S: TreeSink>(
+fn tell_sink_of_element<S: TreeSink>(
     sink: &mut S,
     element: &S::Handle,
     place: &InsertionPoint<S::Handle>,
@@ -103,7 +103,7 @@ pub fn insert_new_element<S: TreeSink>(
     ensures rearranged { Rearranges (S.sees sink.old).forest (S.sees sink.new).forest }
 {
     let element = create_element_with_flags(sink, name, attrs, had_duplicate_attributes)?;
-    notify(sink, &element, place, &notice);
+    tell_sink_of_element(sink, &element, place, &notice);
     let child = sink.clone_handle(&element);
     insert_at(sink, place, NodeOrText::AppendNode(child))?;
     Ok(element)

@@ -1,8 +1,8 @@
 -- What is proved of the rule of each mode, in one record: a new rule has to meet it.
 use Rattle.std.proofs.Common.{◌≡◌, false, subst}
 use Rattle.h5_interface.specs.SinkChoices.{SinkChoices}
-use Rattle.h5_types.specs.TurnText.{HasText, TurnText}
-use Rattle.h5_types.specs.declared.modes.InsertionMode.{InsertionMode}
+use Rattle.h5_tables.specs.TurnText.{HasText, TurnText}
+use Rattle.h5_tables.specs.declared.modes.InsertionMode.{InsertionMode}
 use Rattle.h5_rules.specs.Rows.{apply_all}
 use Rattle.h5_rules.specs.Sound.{Fits, Sound}
 use Rattle.h5_rules.specs.World.{World}

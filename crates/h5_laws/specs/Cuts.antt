@@ -6,12 +6,6 @@ use Rattle.h5_token.specs.TokenText.{TokenText, Characters}
 use Rattle.h5_interface.specs.SinkChoices.{SinkChoices}
 use Rattle.h5_rules.specs.Run.{View, after_all, replies}
 
--- no text is empty
-abbrev pub NoEmptyText : List TokenText → Type 0
-NoEmptyText [] = Unit {0}
-NoEmptyText (Characters t ∷ ts) = (t ≢ []) × NoEmptyText ts
-NoEmptyText (t ∷ ts) = NoEmptyText ts
-
 -- whether a text, and the token that follows, belong to one run
 abbrev pub goes_on : List ℕ → List TokenText → Bool
 goes_on (b ∷ t) (Characters (d ∷ u) ∷ ts) = true

@@ -3,7 +3,7 @@ use Rattle.std.proofs.Common.{◌≡◌, ◌<◌, ℕ, List, get_or, length, tak
 use Rattle.std.specs.List.{insert, remove}
 use Rattle.std.specs.Result.{OnErr}
 use Rattle.std.proofs.lemmas.List.{get_or_default}
-use Rattle.h5_types.specs.declared.entry.FormatEntry.{FormatEntry}
+use Rattle.h5_tables.specs.declared.entry.FormatEntry.{FormatEntry}
 use Rattle.h5_stack.specs.Numbered.{Numbered}
 use Rattle.h5_stack.proofs.StackLaws.{item_at}
 use Rattle.h5_list.specs.declared.index.Index.{Index}

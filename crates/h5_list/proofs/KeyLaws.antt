@@ -5,8 +5,8 @@ use Rattle.std.proofs.lemmas.List.{drop-map, get_or-map, length-map, map-append,
 use Rattle.h5_token.specs.Keys.{IsKeyOf}
 use Rattle.h5_token.specs.TokenText.{IsAlike, TagText, tag_text}
 use Rattle.h5_token.proofs.KeyLaws.{keys_are_equal}
-use Rattle.h5_types.specs.declared.entry.FormatEntry.{FormatEntry}
-use Rattle.h5_types.specs.declared.entry.FormatEntry.TheVariants.{Element, Marker}
+use Rattle.h5_tables.specs.declared.entry.FormatEntry.{FormatEntry}
+use Rattle.h5_tables.specs.declared.entry.FormatEntry.TheVariants.{Element, Marker}
 use Rattle.h5_rules.specs.formatting.FormattingList.{is_alike}
 use Rattle.h5_rules.proofs.entries.AlikeLaws.{alike_told}
 use Rattle.h5_stack.specs.Numbered.{Numbered, numbers, one_of}

@@ -4,8 +4,8 @@ use Rattle.std.specs.List.{insert, remove}
 use Rattle.std.proofs.lemmas.List.{drop-map, get_or-map, length-map, map-append, map-set, set-get_or, take-map}
 use Rattle.h5_stack.specs.Numbered.{Numbered, numbers, one_of}
 use Rattle.h5_stack.proofs.StackLaws.{item_at}
-use Rattle.h5_types.specs.declared.entry.FormatEntry.{FormatEntry}
-use Rattle.h5_types.specs.declared.entry.FormatEntry.TheVariants.{Element, Marker}
+use Rattle.h5_tables.specs.declared.entry.FormatEntry.{FormatEntry}
+use Rattle.h5_tables.specs.declared.entry.FormatEntry.TheVariants.{Element, Marker}
 use Rattle.h5_list.specs.Listed.{with_handle}
 use Rattle.h5_list.specs.Numbers.{AreNumbered, entry_number}
 

@@ -3,8 +3,8 @@ use Rattle.std.proofs.Common.{◌≡◌, ◌≢◌, ◌+◌, ◌-◌, ◌<◌, �
 use Rattle.std.proofs.lemmas.Bool.{cases_lt}
 use Rattle.std.proofs.lemmas.List.{get_or_default}
 use Rattle.h5_token.specs.TokenText.{TagText}
-use Rattle.h5_types.specs.declared.entry.FormatEntry.{FormatEntry}
-use Rattle.h5_types.specs.declared.entry.FormatEntry.TheVariants.{Element, Marker}
+use Rattle.h5_tables.specs.declared.entry.FormatEntry.{FormatEntry}
+use Rattle.h5_tables.specs.declared.entry.FormatEntry.TheVariants.{Element, Marker}
 use Rattle.h5_rules.specs.formatting.FormattingList.{Entry}
 use Rattle.h5_stack.specs.Numbered.{newest_of}
 use Rattle.h5_list.specs.declared.surplus.Alike.{Alike}

@@ -3,8 +3,8 @@ use Rattle.std.specs.Prelude.{◌≡◌, ◌≢◌, ◌<◌, ℕ, false, IfSome,
 use Rattle.std.specs.List.{AllZip}
 use Rattle.h5_token.specs.Keys.{IsKeyOf}
 use Rattle.h5_token.specs.TokenText.{IsAlike, TagText, tag_text}
-use Rattle.h5_types.specs.declared.entry.FormatEntry.{FormatEntry}
-use Rattle.h5_types.specs.declared.entry.FormatEntry.TheVariants.{Element, Marker}
+use Rattle.h5_tables.specs.declared.entry.FormatEntry.{FormatEntry}
+use Rattle.h5_tables.specs.declared.entry.FormatEntry.TheVariants.{Element, Marker}
 use Rattle.h5_stack.specs.Numbered.{Numbered, numbers}
 use Rattle.h5_stack.specs.Numbering.{number_of}
 use Rattle.h5_list.specs.declared.index.Index.{Index}

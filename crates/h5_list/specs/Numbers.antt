@@ -3,8 +3,8 @@ use Rattle.std.specs.Prelude.{◌≡◌, ◌≢◌, ℕ, ◌+◌, ◌<◌, ◌�
 use denote.Enum.Declared.{tag_of}
 use Rattle.h5_names.specs.KnownNames.{known_name_of}
 use Rattle.h5_names.specs.contracts.known_name.KnownName.{the_type}
-use Rattle.h5_types.specs.declared.entry.FormatEntry.{FormatEntry}
-use Rattle.h5_types.specs.declared.entry.FormatEntry.TheVariants.{Element, Marker}
+use Rattle.h5_tables.specs.declared.entry.FormatEntry.{FormatEntry}
+use Rattle.h5_tables.specs.declared.entry.FormatEntry.TheVariants.{Element, Marker}
 use Rattle.h5_stack.specs.Numbered.{Numbered, numbers}
 
 -- a number of a name: equal names have equal numbers, and others may share one

@@ -12,8 +12,8 @@ use super::named::{find_newest_named, pass_others};
 use super::surplus::find_alike;
 use h5_names::LocalName;
 use h5_stack::move_up;
+use h5_tables::FormatEntry;
 use h5_token::Tag;
-use h5_types::FormatEntry;
 use std::alloc::{AllocError, Global};
 use std::marker::Model;
 
@@ -43,7 +43,7 @@ pub struct FormattingList<Handle> {
 impl<Handle> Model for FormattingList<Handle> {
     ghost use Rattle.std.specs.Prelude.{List};
     ghost use Rattle.h5_list.specs.Keys.{IsIndexed};
-    ghost use Rattle.h5_types.specs.declared.entry.FormatEntry.{FormatEntry};
+    ghost use Rattle.h5_tables.specs.declared.entry.FormatEntry.{FormatEntry};
 
     ghost Value = { List (FormatEntry Handle) };
 
@@ -53,7 +53,7 @@ impl<Handle> Model for FormattingList<Handle> {
 }
 
 impl<Handle> FormattingList<Handle> {
-    ghost use Rattle.h5_types.specs.declared.entry.FormatEntry.{FormatEntry as EntryAt};
+    ghost use Rattle.h5_tables.specs.declared.entry.FormatEntry.{FormatEntry as EntryAt};
 
     /// An empty list.
     pub fn new(alloc: Global) -> FormattingList<Handle>

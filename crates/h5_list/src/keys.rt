@@ -3,8 +3,8 @@ ghost use Rattle.std.specs.Prelude.{◌≡◌, ◌<◌, IfOk, length};
 ghost use Rattle.h5_stack.specs.Numbering.{base_of};
 
 use h5_stack::Numbering;
+use h5_tables::FormatEntry;
 use h5_token::{Tag, tag_key};
-use h5_types::FormatEntry;
 use std::alloc::{AllocError, Global};
 
 // The number of an entry that has no key.

@@ -8,7 +8,7 @@ ghost use Rattle.h5_list.specs.Numbers.{IsAfterMarkers};
 use super::index::Index;
 use super::numbers::{MARKER, after_markers, is_named, name_number};
 use h5_names::LocalName;
-use h5_types::FormatEntry;
+use h5_tables::FormatEntry;
 
 // By the index, from the newest entry of the name's number to ever older ones.
 fn find_numbered<Handle>(

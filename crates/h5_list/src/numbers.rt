@@ -4,7 +4,7 @@ ghost use Rattle.h5_list.specs.Listed.{is_named};
 ghost use Rattle.h5_list.specs.Numbers.{IsAfterMarkers, entry_number, name_number};
 
 use h5_names::LocalName;
-use h5_types::FormatEntry;
+use h5_tables::FormatEntry;
 
 // The number of markers.
 pub(super) const MARKER: u32 = 0;

@@ -11,8 +11,8 @@ use super::index::Index;
 use super::keys::{FEW, NO_KEY};
 use super::numbers::{MARKER, after_markers};
 use h5_stack::NumberedStack;
+use h5_tables::FormatEntry;
 use h5_token::Tag;
-use h5_types::FormatEntry;
 
 /// How many entries are alike to a tag, and the place of the earliest of them.
 #[derive(Clone, Copy)]

@@ -8,18 +8,18 @@ use Rattle.h5_states.specs.Signs.{greater_than_sign}
 use Rattle.h5_states.specs.Words.{same}
 use Rattle.h5_states.specs.Construction.{quirky}
 use Rattle.h5_states.specs.States.{BogusComment, BogusDoctype}
-use Rattle.h5_states.specs.Turn.{Again}
+use Rattle.h5_states.specs.Turn.{Reconsumed}
 use Rattle.h5_states.specs.Comments.{markup_declaration_open_state}
 use Rattle.h5_states.specs.Doctypes.{after_doctype_name_state}
 use Rattle.h5_machine.proofs.AsciiLaws.{lower_wide, wide_blank, wide_not}
 use Rattle.h5_machine.proofs.FoldLaws.{begins_wide}
 
-pub opens_nothing : (seen : List ℕ) (x : ℕ) → 128 ≤ x → (markup_declaration_open_state seen x).deed ≡ Again [] (BogusComment seen)
+pub opens_nothing : (seen : List ℕ) (x : ℕ) → 128 ≤ x → (markup_declaration_open_state seen x).outcome ≡ Reconsumed [] (BogusComment seen)
 opens_nothing seen x h =
     let low : 128 ≤ to_ascii_lowercase x = rw (lower_wide x h) h in
     rw (begins_wide same seen x (codes "--") h refl, begins_wide to_ascii_lowercase seen x (codes "doctype") low refl, begins_wide same seen x (codes "[CDATA[") h refl) refl
 
-pub ends_no_keyword : (doctype : DoctypeText) (seen : List ℕ) (x : ℕ) → 128 ≤ x → (after_doctype_name_state doctype seen x).deed ≡ Again [] (BogusDoctype (quirky doctype))
+pub ends_no_keyword : (doctype : DoctypeText) (seen : List ℕ) (x : ℕ) → 128 ≤ x → (after_doctype_name_state doctype seen x).outcome ≡ Reconsumed [] (BogusDoctype (quirky doctype))
 ends_no_keyword doctype seen x h =
     let low : 128 ≤ to_ascii_lowercase x = rw (lower_wide x h) h in
     rw (

@@ -9,18 +9,18 @@ use Rattle.std.specs.Str.{IsCharBoundary}
 use Rattle.h5_states.specs.declared.kinds.TextKind.{TextKind}
 use Rattle.h5_states.specs.declared.kinds.TextKind.TheVariants as kind
 use Rattle.h5_states.specs.Signs.{null, ampersand, hyphen, less_than_sign, equals_sign, greater_than_sign, right_square_bracket, is_blank, is_alphanumeric}
-use Rattle.h5_machine.specs.declared.at.At.{At}
-use Rattle.h5_machine.specs.declared.at.At.TheVariants as at
-use Rattle.h5_machine.specs.declared.at.TextState.{TextState}
-use Rattle.h5_machine.specs.declared.at.TextState.TheVariants as t
-use Rattle.h5_machine.specs.declared.at.TagState.{TagState}
-use Rattle.h5_machine.specs.declared.at.TagState.TheVariants as g
-use Rattle.h5_machine.specs.declared.at.ValueKind.{ValueKind}
-use Rattle.h5_machine.specs.declared.at.ValueKind.TheVariants as v
-use Rattle.h5_machine.specs.declared.at.CommentState.{CommentState}
-use Rattle.h5_machine.specs.declared.at.CommentState.TheVariants as c
-use Rattle.h5_machine.specs.declared.at.DoctypeState.{DoctypeState}
-use Rattle.h5_machine.specs.declared.at.DoctypeState.TheVariants as d
+use Rattle.h5_machine.specs.declared.machine_state.MachineState.{MachineState}
+use Rattle.h5_machine.specs.declared.machine_state.MachineState.TheVariants as at
+use Rattle.h5_machine.specs.declared.machine_state.TextState.{TextState}
+use Rattle.h5_machine.specs.declared.machine_state.TextState.TheVariants as t
+use Rattle.h5_machine.specs.declared.machine_state.TagState.{TagState}
+use Rattle.h5_machine.specs.declared.machine_state.TagState.TheVariants as g
+use Rattle.h5_machine.specs.declared.machine_state.ValueKind.{ValueKind}
+use Rattle.h5_machine.specs.declared.machine_state.ValueKind.TheVariants as v
+use Rattle.h5_machine.specs.declared.machine_state.CommentState.{CommentState}
+use Rattle.h5_machine.specs.declared.machine_state.CommentState.TheVariants as c
+use Rattle.h5_machine.specs.declared.machine_state.DoctypeState.{DoctypeState}
+use Rattle.h5_machine.specs.declared.machine_state.DoctypeState.TheVariants as d
 use Rattle.h5_machine.specs.declared.runs.Run.{Run}
 use Rattle.h5_machine.specs.declared.runs.Run.TheVariants as run
 use Rattle.h5_machine.specs.Runs.{is_in, are_in, run_of, run_of_text, run_of_text_state, run_of_value, run_of_tag, run_of_comment, run_of_doctype, at_behind, text_behind, doctype_behind}
@@ -108,14 +108,14 @@ doctype_wide (d.DoctypeIdentifier id quote) h = refl
 doctype_wide d.BogusDoctype h = refl
 doctype_wide state h = absurd (false≢true h)
 
-run_wide : (at : At) → takes_wide at ≡ true → is_narrow (run_of at) ≡ false
+run_wide : (at : MachineState) → takes_wide at ≡ true → is_narrow (run_of at) ≡ false
 run_wide (at.Text state) h = text_wide state h
 run_wide (at.Tag state) h = tag_wide state h
 run_wide (at.Comment state) h = comment_wide state h
 run_wide (at.Doctype state) h = doctype_wide state h
 run_wide (at.Reference state return_to) h = absurd (false≢true h)
 
-ends_narrow : (at : At) (x : ℕ) → takes_wide at ≡ true → is_in (run_of at) x ≡ false → x < 128
+ends_narrow : (at : MachineState) (x : ℕ) → takes_wide at ≡ true → is_in (run_of at) x ≡ false → x < 128
 ends_narrow at x wide h = behind_wide (run_of at) x (run_wide at wide) h
 
 text_wide_behind : (state : TextState) → text_takes_wide (text_behind state) ≡ text_takes_wide state
@@ -126,7 +126,7 @@ doctype_wide_behind : (state : DoctypeState) → doctype_takes_wide (doctype_beh
 doctype_wide_behind d.BeforeDoctypeName = refl
 doctype_wide_behind state = refl
 
-wide_behind : (at : At) → takes_wide (at_behind at) ≡ takes_wide at
+wide_behind : (at : MachineState) → takes_wide (at_behind at) ≡ takes_wide at
 wide_behind (at.Text state) = text_wide_behind state
 wide_behind (at.Tag state) = refl
 wide_behind (at.Comment state) = refl
@@ -157,12 +157,12 @@ dropped_narrow true x h = grind (arith, nat_tests)
 dropped_narrow false x h = absurd (false≢true h)
 
 -- and what follows a run is ASCII where the state takes bytes past it
-pub narrow_here : (at : At) (run : Run) (bytes xs : List ℕ) (n : ℕ) → run ≡ run_of at → bytes ≡ xs → n ≡ 0 → (n < length bytes → is_in run (slice_index bytes n) ≡ false)
+pub narrow_here : (at : MachineState) (run : Run) (bytes xs : List ℕ) (n : ℕ) → run ≡ run_of at → bytes ≡ xs → n ≡ 0 → (n < length bytes → is_in run (slice_index bytes n) ≡ false)
     → takes_wide at ≡ true → 0 < length xs → slice_index xs 0 < 128
 narrow_here at run bytes xs n is_run e none stops wide some =
     let stop = rw (is_run, e, none) at stops in ends_narrow at (slice_index xs 0) wide (stop some)
 
-pub narrow_behind : (at mid new : At) (run : Run) (bytes xs ys : List ℕ) (n : ℕ) → run ≡ run_of at → bytes ≡ xs → ys ≡ drop n xs → mid ≡ at → new ≡ at_behind mid
+pub narrow_behind : (at mid new : MachineState) (run : Run) (bytes xs ys : List ℕ) (n : ℕ) → run ≡ run_of at → bytes ≡ xs → ys ≡ drop n xs → mid ≡ at → new ≡ at_behind mid
     → (n < length bytes → is_in run (slice_index bytes n) ≡ false) → takes_wide new ≡ true → 0 < length ys → slice_index ys 0 < 128
 narrow_behind at mid new run bytes xs ys n is_run e is_rest same is_new stops wide some =
     let stop = rw (is_run, e) at stops in

@@ -5,12 +5,12 @@ use Rattle.std.specs.declared.alloc.AllocError.{AllocError}
 use Rattle.h5_token.specs.TokenText.{DoctypeText}
 use Rattle.h5_states.specs.References.{Reference}
 use Rattle.h5_states.specs.Turn.{Turn}
-use Rattle.h5_machine.specs.DeedOf.{DoesDoctype, DoesDoctypeSeen}
-use Rattle.h5_machine.specs.declared.moved.Moved.{Moved}
+use Rattle.h5_machine.specs.OutcomeOf.{DoesDoctype, DoesDoctypeSeen}
+use Rattle.h5_machine.specs.declared.transition.Transition.{Transition}
 
 -- a row that leaves the buffer alone does so whatever is in it
-pub doctype_turned : (r : Result Moved AllocError) (doctype : DoctypeText) (seen : List ℕ) (row : Turn) → IfOk r (λ moved. DoesDoctype moved doctype row)
-    → IfOk r (λ moved. (table : List Reference) (last : List ℕ) → DoesDoctypeSeen moved doctype seen row)
+pub doctype_turned : (r : Result Transition AllocError) (doctype : DoctypeText) (seen : List ℕ) (row : Turn) → IfOk r (λ transition. DoesDoctype transition doctype row)
+    → IfOk r (λ transition. (table : List Reference) (last : List ℕ) → DoesDoctypeSeen transition doctype seen row)
 doctype_turned r doctype seen row =
-    IfOk-weaker r (λ moved. DoesDoctype moved doctype row) (λ moved. (table : List Reference) (last : List ℕ) → DoesDoctypeSeen moved doctype seen row)
-    (λ moved does table last parts. does (record parts { buffer = seen }))
+    IfOk-weaker r (λ transition. DoesDoctype transition doctype row) (λ transition. (table : List Reference) (last : List ℕ) → DoesDoctypeSeen transition doctype seen row)
+    (λ transition does table last parts. does (record parts { buffer = seen }))

@@ -5,21 +5,21 @@ use Rattle.std.specs.Prelude.{Option, Some, None, codes, if◌then◌else◌, is
 use Rattle.h5_states.specs.declared.errors.ParseError.{ParseError}
 use Rattle.h5_states.specs.Construction.{Tag}
 use Rattle.h5_states.specs.States.{Return, ToValue, returned, AmbiguousAmpersand, AttributeValue, NamedCharacterReference}
-use Rattle.h5_states.specs.Turn.{Turn, Again, Goes, flush_again, to, wrong_if}
+use Rattle.h5_states.specs.Turn.{Turn, Reconsumed, Consumed, flush_again, to, wrong_if}
 use Rattle.h5_states.specs.References.{Longest, ends_in, is_beginning, is_historical, longest, named, named_character_reference_state, unnamed}
 use Rattle.h5_states.specs.ReferenceTable.{references}
-use Rattle.h5_machine.specs.declared.at.At.{At}
-use Rattle.h5_machine.specs.declared.at.At.TheVariants as at
-use Rattle.h5_machine.specs.declared.at.ReferenceState.TheVariants as at_reference
-use Rattle.h5_machine.specs.declared.at.ReturnTo.{ReturnTo}
-use Rattle.h5_machine.specs.declared.at.ReturnTo.TheVariants as return_to
-use Rattle.h5_machine.specs.declared.moved.Moved.{Moved}
-use Rattle.h5_machine.specs.declared.moved.Moved.TheVariants as moved
+use Rattle.h5_machine.specs.declared.machine_state.MachineState.{MachineState}
+use Rattle.h5_machine.specs.declared.machine_state.MachineState.TheVariants as at
+use Rattle.h5_machine.specs.declared.machine_state.ReferenceState.TheVariants as at_reference
+use Rattle.h5_machine.specs.declared.machine_state.ReturnTo.{ReturnTo}
+use Rattle.h5_machine.specs.declared.machine_state.ReturnTo.TheVariants as return_to
+use Rattle.h5_machine.specs.declared.transition.Transition.{Transition}
+use Rattle.h5_machine.specs.declared.transition.Transition.TheVariants as transition
 use Rattle.h5_machine.specs.Parts.{Parts}
 use Rattle.h5_machine.specs.StateOf.{return_of, state_of, value_of}
-use Rattle.h5_machine.specs.DeedOf.{Does, deed_of}
+use Rattle.h5_machine.specs.OutcomeOf.{Does, outcome_of}
 use Rattle.h5_machine.specs.Flushing.{DoesSeen, Flushes, text_named}
-use Rattle.h5_machine.proofs.DeedLaws.{does_same, nothing_more}
+use Rattle.h5_machine.proofs.OutcomeLaws.{does_same, nothing_more}
 
 -- a name and what is behind it, as a record
 abbrev found_as : List ℕ → List ℕ → List ℕ → Longest
@@ -44,77 +44,77 @@ text_of_found return seen x text name rest name_now rest_now e f h =
     ap (λ r. text ++ r) f ∙ sym (cond-false (is_historical return (found_as name text rest) x) (codes "&" ++ seen) (text ++ rest) same)
 
 -- where a text was flushed, and the return state is next
-flushed_again : (return_to : ReturnTo) (text : List ℕ) (tag : Tag) (old : List ℕ) (now : Tag) (new : List ℕ) (next : At)
+flushed_again : (return_to : ReturnTo) (text : List ℕ) (tag : Tag) (old : List ℕ) (now : Tag) (new : List ℕ) (next : MachineState)
     → ((parts : Parts) → state_of next parts ≡ returned (return_of return_to parts.tag)) → Flushes return_to text tag old now new
-    → (parts : Parts) → Does (moved.Again next) old new (record parts { tag = now }) (flush_again (return_of return_to tag) text)
-flushed_again return_to.Data text tag old now new next is h parts = (h.0, ap (Again text) (is (record parts { tag = now })))
-flushed_again return_to.Rcdata text tag old now new next is h parts = (h.0, ap (Again text) (is (record parts { tag = now })))
+    → (parts : Parts) → Does (transition.Reconsumed next) old new (record parts { tag = now }) (flush_again (return_of return_to tag) text)
+flushed_again return_to.Data text tag old now new next is h parts = (h.0, ap (Reconsumed text) (is (record parts { tag = now })))
+flushed_again return_to.Rcdata text tag old now new next is h parts = (h.0, ap (Reconsumed text) (is (record parts { tag = now })))
 flushed_again (return_to.Value kind) text tag old now new next is h parts =
-    (nothing_more old new h.0, ap (Again []) (is (record parts { tag = now }) ∙ ap (AttributeValue (value_of kind)) h.1))
+    (nothing_more old new h.0, ap (Reconsumed []) (is (record parts { tag = now }) ∙ ap (AttributeValue (value_of kind)) h.1))
 
 -- the same where the ambiguous ampersand state is next
 flushed_ambiguous : (return_to : ReturnTo) (text : List ℕ) (tag : Tag) (old : List ℕ) (now : Tag) (new : List ℕ) → Flushes return_to text tag old now new
-    → (parts : Parts) → Does (moved.Again (at.Reference at_reference.AmbiguousAmpersand return_to)) old new (record parts { tag = now }) (unnamed (return_of return_to tag) text)
+    → (parts : Parts) → Does (transition.Reconsumed (at.Reference at_reference.AmbiguousAmpersand return_to)) old new (record parts { tag = now }) (unnamed (return_of return_to tag) text)
 flushed_ambiguous return_to.Data text tag old now new h parts = (h.0, refl)
 flushed_ambiguous return_to.Rcdata text tag old now new h parts = (h.0, refl)
 flushed_ambiguous (return_to.Value kind) text tag old now new h parts =
-    (nothing_more old new h.0, ap (λ (t : Tag). Again [] (AmbiguousAmpersand (ToValue (value_of kind) t))) h.1)
+    (nothing_more old new h.0, ap (λ (t : Tag). Reconsumed [] (AmbiguousAmpersand (ToValue (value_of kind) t))) h.1)
 
 flushed_by : (b : Bool) (return : Return) (text other : List ℕ) (wrong : Bool) (e : ParseError)
-    → (if b then flush_again return text else wrong_if wrong e (flush_again return other)).deed ≡ (flush_again return (if b then text else other)).deed
+    → (if b then flush_again return text else wrong_if wrong e (flush_again return other)).outcome ≡ (flush_again return (if b then text else other)).outcome
 flushed_by true return text other wrong e = refl
 flushed_by false return text other wrong e = refl
 
 named_found : (return : Return) (seen : List ℕ) (x : ℕ) (found : Option Longest) → true ≡ is_some found
-    → (named return seen x found).deed ≡ (flush_again return (text_named return seen x found)).deed
+    → (named return seen x found).outcome ≡ (flush_again return (text_named return seen x found)).outcome
 named_found return seen x None h = absurd (true≢false h)
 named_found return seen x (Some found) h = flushed_by (is_historical return found x) return (codes "&" ++ seen) (found.text ++ found.rest) _ _
 
 named_none : (return : Return) (seen : List ℕ) (x : ℕ) (found : Option Longest) → false ≡ is_some found
-    → (named return seen x found).deed ≡ (unnamed return (text_named return seen x found)).deed
+    → (named return seen x found).outcome ≡ (unnamed return (text_named return seen x found)).outcome
 named_none return seen x None h = refl
 named_none return seen x (Some found) h = absurd (false≢true h)
 
 -- where no name begins with what was seen and the byte at hand
 not_further : (return : Return) (seen : List ℕ) (x : ℕ) → is_beginning references (seen ++ x ∷ []) ≡ false
-    → (named_character_reference_state references return seen x).deed ≡ (named return seen x (longest references seen)).deed
+    → (named_character_reference_state references return seen x).outcome ≡ (named return seen x (longest references seen)).outcome
 not_further return seen x fails =
-    ap (λ (t : Turn). t.deed) (cond-false (is_beginning references (seen ++ x ∷ [])) (to (NamedCharacterReference return (seen ++ x ∷ []))) (named return seen x (longest references seen)) fails)
+    ap (λ (t : Turn). t.outcome) (cond-false (is_beginning references (seen ++ x ∷ [])) (to (NamedCharacterReference return (seen ++ x ∷ []))) (named return seen x (longest references seen)) fails)
 
 -- a name still begins so
-pub goes_further : (return_to : ReturnTo) (seen now : List ℕ) (x : ℕ) (tag : Tag) (out : List ℕ) (does : Moved)
-    → does ≡ moved.Goes (at.Reference at_reference.NamedCharacterReference return_to) → is_beginning references (seen ++ x ∷ []) ≡ true → now ≡ seen ++ x ∷ []
+pub goes_further : (return_to : ReturnTo) (seen now : List ℕ) (x : ℕ) (tag : Tag) (out : List ℕ) (does : Transition)
+    → does ≡ transition.Consumed (at.Reference at_reference.NamedCharacterReference return_to) → is_beginning references (seen ++ x ∷ []) ≡ true → now ≡ seen ++ x ∷ []
     → DoesSeen does out out tag now (named_character_reference_state references (return_of return_to tag) seen x)
 goes_further return_to seen now x tag out does is further same parts =
     let return = return_of return_to tag in
     let next = NamedCharacterReference return (seen ++ x ∷ []) in
     does_same does out out (record parts { tag = tag; seen = now }) (named_character_reference_state references return seen x) (to next)
-    (ap (λ (t : Turn). t.deed) (cond-true (is_beginning references (seen ++ x ∷ [])) (to next) (named return seen x (longest references seen)) further))
-    (nothing_more out out refl, ap (λ (m : Moved). deed_of m [] (record parts { tag = tag; seen = now })) is ∙ ap (λ s. Goes [] (NamedCharacterReference return s)) same)
+    (ap (λ (t : Turn). t.outcome) (cond-true (is_beginning references (seen ++ x ∷ [])) (to next) (named return seen x (longest references seen)) further))
+    (nothing_more out out refl, ap (λ (m : Transition). outcome_of m [] (record parts { tag = tag; seen = now })) is ∙ ap (λ s. Consumed [] (NamedCharacterReference return s)) same)
 
 -- a name was found
-pub flushes_named : (return_to : ReturnTo) (seen now : List ℕ) (x : ℕ) (tag : Tag) (old : List ℕ) (tag_now : Tag) (new : List ℕ) (next : At)
+pub flushes_named : (return_to : ReturnTo) (seen now : List ℕ) (x : ℕ) (tag : Tag) (old : List ℕ) (tag_now : Tag) (new : List ℕ) (next : MachineState)
     → ((parts : Parts) → state_of next parts ≡ returned (return_of return_to parts.tag)) → is_beginning references (seen ++ x ∷ []) ≡ false → now ≡ seen
     → true ≡ is_some (longest references now) → Flushes return_to (text_named (return_of return_to tag) now x (longest references now)) tag old tag_now new
-    → DoesSeen (moved.Again next) old new tag_now now (named_character_reference_state references (return_of return_to tag) seen x)
+    → DoesSeen (transition.Reconsumed next) old new tag_now now (named_character_reference_state references (return_of return_to tag) seen x)
 flushes_named return_to seen now x tag old tag_now new next is fails same found flushes parts =
     let return = return_of return_to tag in
-    does_same (moved.Again next) old new (record parts { tag = tag_now; seen = now }) (named_character_reference_state references return seen x)
+    does_same (transition.Reconsumed next) old new (record parts { tag = tag_now; seen = now }) (named_character_reference_state references return seen x)
     (flush_again return (text_named return now x (longest references now)))
-    (not_further return seen x fails ∙ (ap (λ s. (named return s x (longest references s)).deed) (sym same) ∙ named_found return now x (longest references now) found))
+    (not_further return seen x fails ∙ (ap (λ s. (named return s x (longest references s)).outcome) (sym same) ∙ named_found return now x (longest references now) found))
     (flushed_again return_to _ tag old tag_now new next is flushes (record parts { seen = now }))
 
 -- none was found
-pub flushes_seen : (return_to : ReturnTo) (seen now : List ℕ) (x : ℕ) (tag : Tag) (old : List ℕ) (tag_now : Tag) (new : List ℕ) (does : Moved)
-    → does ≡ moved.Again (at.Reference at_reference.AmbiguousAmpersand return_to) → is_beginning references (seen ++ x ∷ []) ≡ false → now ≡ seen
+pub flushes_seen : (return_to : ReturnTo) (seen now : List ℕ) (x : ℕ) (tag : Tag) (old : List ℕ) (tag_now : Tag) (new : List ℕ) (does : Transition)
+    → does ≡ transition.Reconsumed (at.Reference at_reference.AmbiguousAmpersand return_to) → is_beginning references (seen ++ x ∷ []) ≡ false → now ≡ seen
     → false ≡ is_some (longest references now) → Flushes return_to (text_named (return_of return_to tag) now x (longest references now)) tag old tag_now new
     → DoesSeen does old new tag_now now (named_character_reference_state references (return_of return_to tag) seen x)
 flushes_seen return_to seen now x tag old tag_now new does is fails same none flushes parts =
     let return = return_of return_to tag in
     let text = text_named return now x (longest references now) in
     does_same does old new (record parts { tag = tag_now; seen = now }) (named_character_reference_state references return seen x) (unnamed return text)
-    (not_further return seen x fails ∙ (ap (λ s. (named return s x (longest references s)).deed) (sym same) ∙ named_none return now x (longest references now) none))
-    (subst (λ (m : Moved). Does m old new (record parts { tag = tag_now; seen = now }) (unnamed return text)) (sym is)
+    (not_further return seen x fails ∙ (ap (λ s. (named return s x (longest references s)).outcome) (sym same) ∙ named_none return now x (longest references now) none))
+    (subst (λ (m : Transition). Does m old new (record parts { tag = tag_now; seen = now }) (unnamed return text)) (sym is)
     (flushed_ambiguous return_to text tag old tag_now new flushes (record parts { seen = now })))
 
 -- the last byte of a text

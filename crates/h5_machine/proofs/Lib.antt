@@ -1,5 +1,5 @@
 pub mod CodeLaws
-pub mod DeedLaws
+pub mod OutcomeLaws
 pub mod FlushLaws
 pub mod QuietLaws
 pub mod QuotedLaws

@@ -1,10 +1,10 @@
 -- Bytes are passed, and then more.
 use Rattle.std.proofs.Common.{ℕ, List, ◌++◌, ap, ◌∙◌, append_assoc}
 use Rattle.h5_states.specs.ReferenceTable.{references}
-use Rattle.h5_states.specs.Reading.{Place, Passes, passed, drops, goes, again}
+use Rattle.h5_states.specs.Reading.{ReaderPlace, Passes, passed, drops, goes, again}
 use Rattle.h5_machine.specs.MachineText.{MachineText, PassesRun}
 
-pub passes_more : {p q r : Place} {xs ys zs text more : List ℕ} → Passes references p xs text q ys → Passes references q ys more r zs
+pub passes_more : {p q r : ReaderPlace} {xs ys zs text more : List ℕ} → Passes references p xs text q ys → Passes references q ys more r zs
     → Passes references p xs (text ++ more) r zs
 passes_more passed h = h
 passes_more (drops d g) h = drops d (passes_more g h)

@@ -8,17 +8,17 @@ use Rattle.std.specs.List.{list_all}
 use Rattle.std.specs.Str.{IsCharBoundary}
 use Rattle.h5_states.specs.References.{is_beginning, longest, named}
 use Rattle.h5_states.specs.ReferenceTable.{references}
-use Rattle.h5_states.specs.Reading.{Place, Passes, passed, goes, deed, behind, is_dropped}
+use Rattle.h5_states.specs.Reading.{ReaderPlace, Passes, passed, goes, outcome, behind, is_dropped}
 use Rattle.h5_states.specs.States.{NamedCharacterReference, Return}
 use Rattle.h5_states.specs.Machine.{turn}
-use Rattle.h5_states.specs.Turn.{Goes, to}
+use Rattle.h5_states.specs.Turn.{Consumed, to}
 use Rattle.h5_references.proofs.LongestLemmas.{beginning_shorter}
 use Rattle.h5_references.proofs.NameLaws.{is_name_byte, beginning_has_name_bytes}
 use Rattle.h5_machine.specs.MachineText.{MachineText, place_of, PassesRun}
 use Rattle.h5_machine.specs.StateOf.{return_of}
-use Rattle.h5_machine.specs.declared.at.At.TheVariants as at
-use Rattle.h5_machine.specs.declared.at.ReferenceState.TheVariants as r
-use Rattle.h5_machine.specs.declared.at.ReturnTo.{ReturnTo}
+use Rattle.h5_machine.specs.declared.machine_state.MachineState.TheVariants as at
+use Rattle.h5_machine.specs.declared.machine_state.ReferenceState.TheVariants as r
+use Rattle.h5_machine.specs.declared.machine_state.ReturnTo.{ReturnTo}
 
 -- what is known of a byte of a name
 record NameByte (x : ℕ) : Type 0 where
@@ -47,7 +47,7 @@ byte_behind : (seen : List ℕ) (x : ℕ) (xs : List ℕ) → is_beginning refer
 byte_behind seen x xs h = name_byte x (last_of seen x xs (beginning_has_name_bytes (seen ++ x ∷ xs) h))
 
 -- where more was seen
-abbrev pub with_seen : Place → Return → List ℕ → Place
+abbrev pub with_seen : ReaderPlace → Return → List ℕ → ReaderPlace
 with_seen p return seen = record p { state = NamedCharacterReference return seen; after_return = false }
 
 by_one : (seen : List ℕ) (x : ℕ) (xs : List ℕ) → (seen ++ x ∷ []) ++ xs ≡ seen ++ x ∷ xs
@@ -56,32 +56,32 @@ by_one seen x xs = append_assoc seen (x ∷ []) xs
 begins_so : (seen : List ℕ) (x : ℕ) (xs : List ℕ) → is_beginning references (seen ++ x ∷ xs) ≡ true → is_beginning references (seen ++ x ∷ []) ≡ true
 begins_so seen x xs h = beginning_shorter references (seen ++ x ∷ []) xs (ap (is_beginning references) (by_one seen x xs) ∙ h)
 
-deed_of_name : (p : Place) (return : Return) (seen : List ℕ) (x : ℕ) → p.state ≡ NamedCharacterReference return seen → NameByte x → is_beginning references (seen ++ x ∷ []) ≡ true
-    → deed references p x ≡ Goes [] (NamedCharacterReference return (seen ++ x ∷ []))
-deed_of_name p return seen x e b h =
-    ap (λ (c : Bool). (turn references p.last p.state (if c then 10 else x)).deed) b.return
-    ∙ ap (λ s. (turn references p.last s x).deed) e
-    ∙ ap (λ (c : Bool). (if c then to (NamedCharacterReference return (seen ++ x ∷ [])) else named return seen x (longest references seen)).deed) h
+outcome_of_name : (p : ReaderPlace) (return : Return) (seen : List ℕ) (x : ℕ) → p.state ≡ NamedCharacterReference return seen → NameByte x → is_beginning references (seen ++ x ∷ []) ≡ true
+    → outcome references p x ≡ Consumed [] (NamedCharacterReference return (seen ++ x ∷ []))
+outcome_of_name p return seen x e b h =
+    ap (λ (c : Bool). (turn references p.last p.state (if c then 10 else x)).outcome) b.return
+    ∙ ap (λ s. (turn references p.last s x).outcome) e
+    ∙ ap (λ (c : Bool). (if c then to (NamedCharacterReference return (seen ++ x ∷ [])) else named return seen x (longest references seen)).outcome) h
 
-behind_name : (p : Place) (return : Return) (seen : List ℕ) (x : ℕ) → NameByte x → behind x (NamedCharacterReference return seen) p ≡ with_seen p return seen
+behind_name : (p : ReaderPlace) (return : Return) (seen : List ℕ) (x : ℕ) → NameByte x → behind x (NamedCharacterReference return seen) p ≡ with_seen p return seen
 behind_name p return seen x b = rw (b.return, b.feed) refl
 
-passes_name : (p : Place) (return : Return) (seen : List ℕ) (x : ℕ) (xs ys : List ℕ) → p.state ≡ NamedCharacterReference return seen → is_dropped p x ≡ false
+passes_name : (p : ReaderPlace) (return : Return) (seen : List ℕ) (x : ℕ) (xs ys : List ℕ) → p.state ≡ NamedCharacterReference return seen → is_dropped p x ≡ false
     → is_beginning references (seen ++ x ∷ xs) ≡ true → Passes references p (x ∷ (xs ++ ys)) [] (with_seen p return (seen ++ x ∷ xs)) ys
 passes_name p return seen x [] ys e kept h =
     let b = byte_behind seen x [] h in
-    goes [] (NamedCharacterReference return (seen ++ x ∷ [])) kept (deed_of_name p return seen x e b h)
+    goes [] (NamedCharacterReference return (seen ++ x ∷ [])) kept (outcome_of_name p return seen x e b h)
     (subst (λ q. Passes references (behind x (NamedCharacterReference return (seen ++ x ∷ [])) p) ys [] q ys) (behind_name p return (seen ++ x ∷ []) x b) passed)
 passes_name p return seen x (y ∷ xs) ys e kept h =
     let b = byte_behind seen x (y ∷ xs) h in
     let here = begins_so seen x (y ∷ xs) h in
     let now = seen ++ x ∷ [] in
-    goes [] (NamedCharacterReference return now) kept (deed_of_name p return seen x e b here)
+    goes [] (NamedCharacterReference return now) kept (outcome_of_name p return seen x e b here)
     (subst (λ q. Passes references q (y ∷ (xs ++ ys)) [] (with_seen p return (seen ++ x ∷ (y ∷ xs))) ys) (sym (behind_name p return now x b))
     (subst (λ l. Passes references (with_seen p return now) (y ∷ (xs ++ ys)) [] (with_seen p return l) ys) (by_one seen x (y ∷ xs))
     (passes_name (with_seen p return now) return now y xs ys refl refl (ap (is_beginning references) (by_one seen x (y ∷ xs)) ∙ h))))
 
-name_passed : (p : Place) (return : Return) (seen front ys xs : List ℕ) → xs ≡ front ++ ys → 0 < length front → p.state ≡ NamedCharacterReference return seen → is_dropped p (slice_index xs 0) ≡ false
+name_passed : (p : ReaderPlace) (return : Return) (seen front ys xs : List ℕ) → xs ≡ front ++ ys → 0 < length front → p.state ≡ NamedCharacterReference return seen → is_dropped p (slice_index xs 0) ≡ false
     → is_beginning references (seen ++ front) ≡ true → Passes references p xs [] (with_seen p return (seen ++ front)) ys
 name_passed p return seen [] ys xs split some e kept h = absurd (omega arith)
 name_passed p return seen (x ∷ front) ys xs split some e kept h =

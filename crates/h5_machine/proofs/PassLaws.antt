@@ -14,28 +14,28 @@ use Rattle.h5_states.specs.declared.kinds.Identifier.{Identifier}
 use Rattle.h5_states.specs.declared.kinds.Identifier.TheVariants.{Public, System}
 use Rattle.h5_states.specs.Signs.{null, ampersand, hyphen, less_than_sign, equals_sign, greater_than_sign, right_square_bracket, is_blank, is_name_end, is_alphanumeric, sign_of}
 use Rattle.h5_states.specs.Construction.{Tag, Attribute, attribute_named_further, value_further, identifier_further}
-use Rattle.h5_states.specs.Turn.{Goes}
+use Rattle.h5_states.specs.Turn.{Consumed}
 use Rattle.h5_states.specs.References.{Reference}
 use Rattle.h5_states.specs.ReferenceTable.{references}
 use Rattle.h5_states.specs.Machine.{turn}
-use Rattle.h5_states.specs.Reading.{Place, Passes, passed, goes, deed, behind, beginning, line_after, is_dropped, is_all_emitted}
+use Rattle.h5_states.specs.Reading.{ReaderPlace, Passes, passed, goes, outcome, behind, beginning, line_after, is_dropped, is_all_emitted}
 use Rattle.h5_machine.specs.Parts.{Parts}
 use Rattle.h5_machine.specs.MachineText.{MachineText, place_of, PassesRun}
 use Rattle.h5_machine.specs.StateOf.{state_of, text_state_of}
-use Rattle.h5_machine.specs.declared.at.At.{At}
-use Rattle.h5_machine.specs.declared.at.At.TheVariants as at
-use Rattle.h5_machine.specs.declared.at.TextState.{TextState}
-use Rattle.h5_machine.specs.declared.at.TextState.TheVariants as t
-use Rattle.h5_machine.specs.declared.at.TagState.{TagState}
-use Rattle.h5_machine.specs.declared.at.TagState.TheVariants as g
-use Rattle.h5_machine.specs.declared.at.CommentState.{CommentState}
-use Rattle.h5_machine.specs.declared.at.CommentState.TheVariants as c
-use Rattle.h5_machine.specs.declared.at.DoctypeState.{DoctypeState}
-use Rattle.h5_machine.specs.declared.at.DoctypeState.TheVariants as d
-use Rattle.h5_machine.specs.declared.at.ReferenceState.{ReferenceState}
-use Rattle.h5_machine.specs.declared.at.ReferenceState.TheVariants as r
-use Rattle.h5_machine.specs.declared.at.ReturnTo.{ReturnTo}
-use Rattle.h5_machine.specs.declared.at.ReturnTo.TheVariants as to
+use Rattle.h5_machine.specs.declared.machine_state.MachineState.{MachineState}
+use Rattle.h5_machine.specs.declared.machine_state.MachineState.TheVariants as at
+use Rattle.h5_machine.specs.declared.machine_state.TextState.{TextState}
+use Rattle.h5_machine.specs.declared.machine_state.TextState.TheVariants as t
+use Rattle.h5_machine.specs.declared.machine_state.TagState.{TagState}
+use Rattle.h5_machine.specs.declared.machine_state.TagState.TheVariants as g
+use Rattle.h5_machine.specs.declared.machine_state.CommentState.{CommentState}
+use Rattle.h5_machine.specs.declared.machine_state.CommentState.TheVariants as c
+use Rattle.h5_machine.specs.declared.machine_state.DoctypeState.{DoctypeState}
+use Rattle.h5_machine.specs.declared.machine_state.DoctypeState.TheVariants as d
+use Rattle.h5_machine.specs.declared.machine_state.ReferenceState.{ReferenceState}
+use Rattle.h5_machine.specs.declared.machine_state.ReferenceState.TheVariants as r
+use Rattle.h5_machine.specs.declared.machine_state.ReturnTo.{ReturnTo}
+use Rattle.h5_machine.specs.declared.machine_state.ReturnTo.TheVariants as to
 use Rattle.h5_machine.specs.declared.runs.Run.{Run}
 use Rattle.h5_machine.specs.declared.runs.Run.TheVariants as run
 use Rattle.h5_machine.specs.Runs.{is_in, are_in, run_of, run_of_text_state, run_of_doctype, at_behind, text_behind, doctype_behind, parts_behind, buffer_behind, tag_behind, doctype_text_behind, tag_flushed, put_by, text_put, text_flushed, place_behind_run}
@@ -53,14 +53,14 @@ doctype_stays : (state : DoctypeState) (x : ℕ) → is_in (run_of_doctype state
 doctype_stays d.BeforeDoctypeName x h = wide_in run.DoctypeName x refl h
 doctype_stays state x h = h
 
-stays : (at : At) (x : ℕ) → is_in (run_of at) x ≡ true → is_in (run_of (at_behind at)) x ≡ true
+stays : (at : MachineState) (x : ℕ) → is_in (run_of at) x ≡ true → is_in (run_of (at_behind at)) x ≡ true
 stays (at.Text state) x h = text_stays state x h
 stays (at.Tag state) x h = h
 stays (at.Comment state) x h = h
 stays (at.Doctype state) x h = doctype_stays state x h
 stays (at.Reference state return_to) x h = h
 
-all_stay : (at : At) (xs : List ℕ) → are_in (run_of at) xs ≡ true → are_in (run_of (at_behind at)) xs ≡ true
+all_stay : (at : MachineState) (xs : List ℕ) → are_in (run_of at) xs ≡ true → are_in (run_of (at_behind at)) xs ≡ true
 all_stay at [] h = refl
 all_stay at (x ∷ xs) h = let p = and_parts (is_in (run_of at) x) (are_in (run_of at) xs) h in rw (stays at x p.0, all_stay at xs p.1) refl
 
@@ -106,7 +106,7 @@ flushed_twice to.Data x ys tag = refl
 flushed_twice to.Rcdata x ys tag = refl
 flushed_twice (to.Value value) x ys tag = value_twice (x ∷ []) ys tag
 
-parts_twice : (at : At) (x : ℕ) (ys : List ℕ) (parts : Parts) → parts_behind (at_behind at) ys (parts_behind at (x ∷ []) parts) ≡ parts_behind at (x ∷ ys) parts
+parts_twice : (at : MachineState) (x : ℕ) (ys : List ℕ) (parts : Parts) → parts_behind (at_behind at) ys (parts_behind at (x ∷ []) parts) ≡ parts_behind at (x ∷ ys) parts
 parts_twice (at.Text state) x ys parts = ap (λ l. record parts { buffer = l }) (buffer_twice state x ys parts.buffer)
 parts_twice (at.Tag state) x ys parts = ap (λ tag. record parts { tag = tag }) (tag_twice state x ys parts.tag)
 parts_twice (at.Comment state) x ys parts = ap (λ l. record parts { comment = l }) (append_assoc parts.comment (x ∷ []) ys)
@@ -122,7 +122,7 @@ text_flushed_twice to.Data x ys = refl
 text_flushed_twice to.Rcdata x ys = refl
 text_flushed_twice (to.Value value) x ys = refl
 
-put_twice : (at : At) (x : ℕ) (ys : List ℕ) → put_by at (x ∷ []) ++ put_by (at_behind at) ys ≡ put_by at (x ∷ ys)
+put_twice : (at : MachineState) (x : ℕ) (ys : List ℕ) → put_by at (x ∷ []) ++ put_by (at_behind at) ys ≡ put_by at (x ∷ ys)
 put_twice (at.Text state) x ys = text_put_twice state x ys
 put_twice (at.Tag state) x ys = refl
 put_twice (at.Comment state) x ys = refl
@@ -137,7 +137,7 @@ doctype_at_twice : (state : DoctypeState) → doctype_behind (doctype_behind sta
 doctype_at_twice d.BeforeDoctypeName = refl
 doctype_at_twice state = refl
 
-at_twice : (at : At) → at_behind (at_behind at) ≡ at_behind at
+at_twice : (at : MachineState) → at_behind (at_behind at) ≡ at_behind at
 at_twice (at.Text state) = ap (λ state. at.Text state) (text_at_twice state)
 at_twice (at.Tag state) = refl
 at_twice (at.Comment state) = refl
@@ -170,7 +170,7 @@ reference_emitted : (state : ReferenceState) (return_to : ReturnTo) (a b : Parts
 reference_emitted r.AmbiguousAmpersand return_to a b = ampersand_emitted return_to a b
 reference_emitted state return_to a b = refl
 
-emitted_alike : (at : At) (a b : Parts) → is_all_emitted (state_of at a) ≡ is_all_emitted (state_of at b)
+emitted_alike : (at : MachineState) (a b : Parts) → is_all_emitted (state_of at a) ≡ is_all_emitted (state_of at b)
 emitted_alike (at.Text state) a b = text_emitted state a.buffer b.buffer
 emitted_alike (at.Tag state) a b = tag_emitted state a b
 emitted_alike (at.Comment state) a b = comment_emitted state a b
@@ -178,7 +178,7 @@ emitted_alike (at.Doctype state) a b = doctype_emitted state a b
 emitted_alike (at.Reference state return_to) a b = reference_emitted state return_to a b
 
 -- behind a run
-abbrev pub behind_run : Place → At → Parts → List ℕ → Place
+abbrev pub behind_run : ReaderPlace → MachineState → Parts → List ℕ → ReaderPlace
 behind_run p at parts xs = place_behind_run p (state_of (at_behind at) (parts_behind at xs parts)) (newlines false xs)
 
 counted : (n : Bool) (l m : ℕ) → u64_saturate ((if n then u64_saturate (l + 1) else l) + m) ≡ u64_saturate (l + (if n && true then 1 + m else m))
@@ -189,16 +189,16 @@ fits_after : (n : Bool) (l : ℕ) → l ≤ 2 ^ 64 - 1 → (if n then u64_satura
 fits_after true l h = omega arith
 fits_after false l h = h
 
-line_step : (p : Place) (x : ℕ) (xs : List ℕ) → (x == 13) ≡ false → u64_saturate (line_after p x + newlines false xs) ≡ u64_saturate (p.line + newlines false (x ∷ xs))
+line_step : (p : ReaderPlace) (x : ℕ) (xs : List ℕ) → (x == 13) ≡ false → u64_saturate (line_after p x + newlines false xs) ≡ u64_saturate (p.line + newlines false (x ∷ xs))
 line_step p x xs e = rw e (counted (x == 10) p.line (newlines false xs))
 
-line_fits_after : (p : Place) (x : ℕ) → p.line ≤ 2 ^ 64 - 1 → line_after p x ≤ 2 ^ 64 - 1
+line_fits_after : (p : ReaderPlace) (x : ℕ) → p.line ≤ 2 ^ 64 - 1 → line_after p x ≤ 2 ^ 64 - 1
 line_fits_after p x h = fits_after _ p.line h
 
-line_last : (p : Place) (x : ℕ) → (x == 13) ≡ false → p.line ≤ 2 ^ 64 - 1 → line_after p x ≡ u64_saturate (p.line + newlines false (x ∷ []))
+line_last : (p : ReaderPlace) (x : ℕ) → (x == 13) ≡ false → p.line ≤ 2 ^ 64 - 1 → line_after p x ≡ u64_saturate (p.line + newlines false (x ∷ []))
 line_last p x e fits = line_none (line_after p x) 0 (line_fits_after p x fits) refl ∙ line_step p x [] e
 
-last_place : (p : Place) (at : At) (parts : Parts) (x : ℕ) → (x == 13) ≡ false → p.line ≤ 2 ^ 64 - 1
+last_place : (p : ReaderPlace) (at : MachineState) (parts : Parts) (x : ℕ) → (x == 13) ≡ false → p.line ≤ 2 ^ 64 - 1
     → behind x (state_of (at_behind at) (parts_behind at (x ∷ []) parts)) p ≡ behind_run p at parts (x ∷ [])
 last_place p at parts x e fits = λ i. record {
   state = state_of (at_behind at) (parts_behind at (x ∷ []) parts);
@@ -214,7 +214,7 @@ began_twice false true l m k e = refl
 began_twice true false l m k e = absurd (false≢true (sym e))
 began_twice false false l m k e = refl
 
-next_place : (p : Place) (at : At) (parts : Parts) (x : ℕ) (xs : List ℕ) → (x == 13) ≡ false
+next_place : (p : ReaderPlace) (at : MachineState) (parts : Parts) (x : ℕ) (xs : List ℕ) → (x == 13) ≡ false
     → behind_run (behind x (state_of (at_behind at) (parts_behind at (x ∷ []) parts)) p) (at_behind at) (parts_behind at (x ∷ []) parts) xs ≡ behind_run p at parts (x ∷ xs)
 next_place p at parts x xs e =
     let first = state_of (at_behind at) (parts_behind at (x ∷ []) parts) in
@@ -260,22 +260,22 @@ not_return run.Bogus x h = (none_of_three (x == greater_than_sign) (x == null) (
 not_return run.DoctypeName x h = (none_of_four (is_blank x) (x == greater_than_sign) (x == null) (x == 13) h).3
 not_return (run.Identifier quote) x h = (none_of_four (x == sign_of quote) (x == greater_than_sign) (x == null) (x == 13) h).3
 
-told_so : (table : List Reference) (p q r : Place) (xs text more ys : List ℕ) → Passes table p xs text q ys → text ≡ more → q ≡ r → Passes table p xs more r ys
+told_so : (table : List Reference) (p q r : ReaderPlace) (xs text more ys : List ℕ) → Passes table p xs text q ys → text ≡ more → q ≡ r → Passes table p xs more r ys
 told_so table p q r xs text more ys h e f = subst (λ l. Passes table p xs l r ys) e (subst (λ o. Passes table p xs text o ys) f h)
 
-deed_of_run : (table : List Reference) (p : Place) (at : At) (parts : Parts) (x : ℕ) → p.state ≡ state_of at parts → is_in (run_of at) x ≡ true
-    → deed table p x ≡ Goes (put_by at (x ∷ [])) (state_of (at_behind at) (parts_behind at (x ∷ []) parts))
-deed_of_run table p at parts x e h =
-    ap (λ (b : Bool). (turn table p.last p.state (if b then 10 else x)).deed) (not_return (run_of at) x h)
-    ∙ ap (λ s. (turn table p.last s x).deed) e ∙ adds table p.last at parts x h
+outcome_of_run : (table : List Reference) (p : ReaderPlace) (at : MachineState) (parts : Parts) (x : ℕ) → p.state ≡ state_of at parts → is_in (run_of at) x ≡ true
+    → outcome table p x ≡ Consumed (put_by at (x ∷ [])) (state_of (at_behind at) (parts_behind at (x ∷ []) parts))
+outcome_of_run table p at parts x e h =
+    ap (λ (b : Bool). (turn table p.last p.state (if b then 10 else x)).outcome) (not_return (run_of at) x h)
+    ∙ ap (λ s. (turn table p.last s x).outcome) e ∙ adds table p.last at parts x h
 
-passes_run : (table : List Reference) (p : Place) (at : At) (parts : Parts) (x : ℕ) (xs ys : List ℕ) → p.state ≡ state_of at parts → p.line ≤ 2 ^ 64 - 1 → is_dropped p x ≡ false
+passes_run : (table : List Reference) (p : ReaderPlace) (at : MachineState) (parts : Parts) (x : ℕ) (xs ys : List ℕ) → p.state ≡ state_of at parts → p.line ≤ 2 ^ 64 - 1 → is_dropped p x ≡ false
     → are_in (run_of at) (x ∷ xs) ≡ true → Passes table p (x ∷ (xs ++ ys)) (put_by at (x ∷ xs)) (behind_run p at parts (x ∷ xs)) ys
 passes_run table p at parts x [] ys e fits kept h =
     let here = (and_parts (is_in (run_of at) x) true h).0 in
     let state = state_of (at_behind at) (parts_behind at (x ∷ []) parts) in
     told_so table p (behind x state p) (behind_run p at parts (x ∷ [])) (x ∷ ys) (put_by at (x ∷ []) ++ []) (put_by at (x ∷ [])) ys
-    (goes (put_by at (x ∷ [])) state kept (deed_of_run table p at parts x e here) passed) (append-nil (put_by at (x ∷ []))) (last_place p at parts x (not_return (run_of at) x here) fits)
+    (goes (put_by at (x ∷ [])) state kept (outcome_of_run table p at parts x e here) passed) (append-nil (put_by at (x ∷ []))) (last_place p at parts x (not_return (run_of at) x here) fits)
 passes_run table p at parts x (y ∷ xs) ys e fits kept h =
     let all = and_parts (is_in (run_of at) x) (are_in (run_of at) (y ∷ xs)) h in
     let ret = not_return (run_of at) x all.0 in
@@ -283,12 +283,12 @@ passes_run table p at parts x (y ∷ xs) ys e fits kept h =
     let state = state_of (at_behind at) more in
     told_so table p (behind_run (behind x state p) (at_behind at) more (y ∷ xs)) (behind_run p at parts (x ∷ (y ∷ xs))) (x ∷ (y ∷ (xs ++ ys)))
     (put_by at (x ∷ []) ++ put_by (at_behind at) (y ∷ xs)) (put_by at (x ∷ (y ∷ xs))) ys
-    (goes (put_by at (x ∷ [])) state kept (deed_of_run table p at parts x e all.0)
+    (goes (put_by at (x ∷ [])) state kept (outcome_of_run table p at parts x e all.0)
     (passes_run table (behind x state p) (at_behind at) more y xs ys refl (line_fits_after p x fits) (and_left (x == 13) (y == 10) ret) (all_stay at (y ∷ xs) all.1)))
     (put_twice at x (y ∷ xs)) (next_place p at parts x (y ∷ xs) ret)
 
 -- bytes of a run are passed
-pub run_passed : (table : List Reference) (p : Place) (at : At) (parts : Parts) (front ys xs : List ℕ) → xs ≡ front ++ ys → 0 < length front → p.state ≡ state_of at parts → p.line ≤ 2 ^ 64 - 1
+pub run_passed : (table : List Reference) (p : ReaderPlace) (at : MachineState) (parts : Parts) (front ys xs : List ℕ) → xs ≡ front ++ ys → 0 < length front → p.state ≡ state_of at parts → p.line ≤ 2 ^ 64 - 1
     → is_dropped p (slice_index xs 0) ≡ false → are_in (run_of at) front ≡ true → Passes table p xs (put_by at front) (behind_run p at parts front) ys
 run_passed table p at parts [] ys xs split some e fits kept h = absurd (omega arith)
 run_passed table p at parts (x ∷ front) ys xs split some e fits kept h =

@@ -26,16 +26,16 @@ use Rattle.h5_states.specs.References as r
 use Rattle.h5_states.specs.References.{Reference, Longest, ends_in, is_beginning, is_historical, longest}
 use Rattle.h5_states.specs.Machine.{turn}
 use Rattle.h5_states.specs.Lines.{normal}
-use Rattle.h5_states.specs.Reading.{deed}
+use Rattle.h5_states.specs.Reading.{outcome}
 use Rattle.h5_states.specs.ReferenceTable.{references}
 use Rattle.h5_machine.specs.MachineText.{IsQuiet, MachineText, asks_in, hands_null, place_of}
 use Rattle.h5_machine.specs.StateOf.{state_of}
 
 record Quiet (turn : Turn) : Type 0 where
-  pub deed : IsQuiet turn.deed
+  pub outcome : IsQuiet turn.outcome
 
-quiet : {turn : Turn} → IsQuiet turn.deed → Quiet turn
-quiet h = record { deed = h }
+quiet : {turn : Turn} → IsQuiet turn.outcome → Quiet turn
+quiet h = record { outcome = h }
 
 -- what doesn't come
 never : {turn : Turn} (b : Bool) → b ≡ true → b ≡ false → Quiet turn
@@ -255,7 +255,7 @@ unnamed_quiet (ToValue value tag) text = quiet tt
 named_quiet : (return : Return) (seen : List ℕ) (x : ℕ) (found : Option Longest) → Quiet (r.named return seen x found)
 named_quiet return seen x None = unnamed_quiet return (codes "&" ++ seen)
 named_quiet return seen x (Some found) =
-    either (is_historical return found x) _ _ (λ _. flush_again_quiet return (codes "&" ++ seen)) (λ _. quiet (flush_again_quiet return (found.text ++ found.rest)).deed)
+    either (is_historical return found x) _ _ (λ _. flush_again_quiet return (codes "&" ++ seen)) (λ _. quiet (flush_again_quiet return (found.text ++ found.rest)).outcome)
 
 named_reference_quiet : (table : List Reference) (return : Return) (seen : List ℕ) (x : ℕ) → Quiet (r.named_character_reference_state table return seen x)
 named_reference_quiet table return seen x = either (is_beginning table (seen ++ (x ∷ []))) _ _ (λ _. quiet tt) (λ _. named_quiet return seen x (longest table seen))
@@ -272,18 +272,18 @@ numeric_quiet : (return : Return) (x : ℕ) → Quiet (r.numeric_character_refer
 numeric_quiet return x = search (either, quiet)
 
 hexadecimal_start_quiet : (return : Return) (buffer : List ℕ) (x : ℕ) → Quiet (r.hexadecimal_start_state return buffer x)
-hexadecimal_start_quiet return buffer x = either (is_hex_digit x) _ _ (λ _. quiet tt) (λ _. quiet (flush_again_quiet return (codes "&#" ++ buffer)).deed)
+hexadecimal_start_quiet return buffer x = either (is_hex_digit x) _ _ (λ _. quiet tt) (λ _. quiet (flush_again_quiet return (codes "&#" ++ buffer)).outcome)
 
 decimal_start_quiet : (return : Return) (x : ℕ) → Quiet (r.decimal_start_state return x)
-decimal_start_quiet return x = either (is_ascii_digit x) _ _ (λ _. quiet tt) (λ _. quiet (flush_again_quiet return (codes "&#")).deed)
+decimal_start_quiet return x = either (is_ascii_digit x) _ _ (λ _. quiet tt) (λ _. quiet (flush_again_quiet return (codes "&#")).outcome)
 
 hexadecimal_quiet : (return : Return) (code x : ℕ) → Quiet (r.hexadecimal_state return code x)
 hexadecimal_quiet return code x =
-    either (is_hex_digit x) _ _ (λ _. quiet tt) (λ _. either (x == semicolon) _ _ (λ _. quiet (flush_quiet return (r.code_point code)).deed) (λ _. quiet tt))
+    either (is_hex_digit x) _ _ (λ _. quiet tt) (λ _. either (x == semicolon) _ _ (λ _. quiet (flush_quiet return (r.code_point code)).outcome) (λ _. quiet tt))
 
 decimal_quiet : (return : Return) (code x : ℕ) → Quiet (r.decimal_state return code x)
 decimal_quiet return code x =
-    either (is_ascii_digit x) _ _ (λ _. quiet tt) (λ _. either (x == semicolon) _ _ (λ _. quiet (flush_quiet return (r.code_point code)).deed) (λ _. quiet tt))
+    either (is_ascii_digit x) _ _ (λ _. quiet tt) (λ _. either (x == semicolon) _ _ (λ _. quiet (flush_quiet return (r.code_point code)).outcome) (λ _. quiet tt))
 
 turn_quiet : (table : List Reference) (last : List ℕ) (state : State) (x : ℕ) → (x == greater_than_sign) ≡ false → (hands_null state ≡ true → (x == null) ≡ false)
     → (asks_in state ≡ true → (x == 91) ≡ false) → Quiet (turn table last state x)
@@ -342,24 +342,24 @@ turn_quiet table last (s.HexadecimalStart return buffer) x h null_apart bracket_
 turn_quiet table last (s.DecimalStart return) x h null_apart bracket_apart = decimal_start_quiet return x
 turn_quiet table last (s.Hexadecimal return code) x h null_apart bracket_apart = hexadecimal_quiet return code x
 turn_quiet table last (s.Decimal return code) x h null_apart bracket_apart = decimal_quiet return code x
-turn_quiet table last (s.NumericCharacterReferenceEnd return code) x h null_apart bracket_apart = quiet (flush_again_quiet return (r.code_point code)).deed
+turn_quiet table last (s.NumericCharacterReferenceEnd return code) x h null_apart bracket_apart = quiet (flush_again_quiet return (r.code_point code)).outcome
 
 normal_apart : (b : Bool) (x other : ℕ) → (10 == other) ≡ false → (x ≡ other → ⊥) → ((if b then 10 else x) == other) ≡ false
 normal_apart true x other h g = h
 normal_apart false x other h g = ne_eqb x other g
 
 -- at each other byte
-pub quiet_byte : (m : MachineText) (x : ℕ) → (x ≡ 62 → ⊥) → (x ≡ 91 → ⊥) → (x ≡ 0 → ⊥) → IsQuiet (deed references (place_of m) x)
+pub quiet_byte : (m : MachineText) (x : ℕ) → (x ≡ 62 → ⊥) → (x ≡ 91 → ⊥) → (x ≡ 0 → ⊥) → IsQuiet (outcome references (place_of m) x)
 quiet_byte m x greater bracket zero =
     (turn_quiet references m.last (state_of m.at m.parts) (normal x) (normal_apart (x == 13) x 62 refl greater) (λ _. normal_apart (x == 13) x 0 refl zero)
-    (λ _. normal_apart (x == 13) x 91 refl bracket)).deed
+    (λ _. normal_apart (x == 13) x 91 refl bracket)).outcome
 
-pub quiet_bracket : (m : MachineText) (x : ℕ) (asks : Bool) → x ≡ 91 → asks ≡ asks_in (state_of m.at m.parts) → asks ≡ false → IsQuiet (deed references (place_of m) x)
+pub quiet_bracket : (m : MachineText) (x : ℕ) (asks : Bool) → x ≡ 91 → asks ≡ asks_in (state_of m.at m.parts) → asks ≡ false → IsQuiet (outcome references (place_of m) x)
 quiet_bracket m x asks is same h =
-    subst (λ y. IsQuiet (deed references (place_of m) y)) (sym is)
-    (turn_quiet references m.last (state_of m.at m.parts) 91 refl (λ _. refl) (λ g. absurd (true≢false (sym g ∙ (sym same ∙ h))))).deed
+    subst (λ y. IsQuiet (outcome references (place_of m) y)) (sym is)
+    (turn_quiet references m.last (state_of m.at m.parts) 91 refl (λ _. refl) (λ g. absurd (true≢false (sym g ∙ (sym same ∙ h))))).outcome
 
-pub quiet_null : (m : MachineText) (x : ℕ) (hands : Bool) → x ≡ 0 → hands ≡ hands_null (state_of m.at m.parts) → hands ≡ false → IsQuiet (deed references (place_of m) x)
+pub quiet_null : (m : MachineText) (x : ℕ) (hands : Bool) → x ≡ 0 → hands ≡ hands_null (state_of m.at m.parts) → hands ≡ false → IsQuiet (outcome references (place_of m) x)
 quiet_null m x hands is same h =
-    subst (λ y. IsQuiet (deed references (place_of m) y)) (sym is)
-    (turn_quiet references m.last (state_of m.at m.parts) 0 refl (λ g. absurd (true≢false (sym g ∙ (sym same ∙ h)))) (λ _. refl)).deed
+    subst (λ y. IsQuiet (outcome references (place_of m) y)) (sym is)
+    (turn_quiet references m.last (state_of m.at m.parts) 0 refl (λ g. absurd (true≢false (sym g ∙ (sym same ∙ h)))) (λ _. refl)).outcome

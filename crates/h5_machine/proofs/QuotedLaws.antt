@@ -12,26 +12,26 @@ use Rattle.h5_states.specs.declared.kinds.Quote.TheVariants.{Double, Single}
 use Rattle.h5_states.specs.Construction.{Tag, with_attribute, attribute_named_further, value_further, nameless}
 use Rattle.h5_states.specs.Machine.{turn}
 use Rattle.h5_states.specs.ReferenceTable.{references}
-use Rattle.h5_states.specs.Reading.{Place, Passes, passed, goes, again, deed, in_state}
+use Rattle.h5_states.specs.Reading.{ReaderPlace, Passes, passed, goes, again, outcome, in_state}
 use Rattle.h5_states.specs.Signs.{equals_sign, solidus, greater_than_sign, is_blank, is_name_end, sign_of}
 use Rattle.h5_states.specs.States.{State, BeforeAttributeName, AttributeName, BeforeAttributeValue, AttributeValue, AfterAttributeValueQuoted, Quoted}
 use Rattle.h5_states.specs.Tags.{before_attribute_name_state}
-use Rattle.h5_states.specs.Turn.{Again}
+use Rattle.h5_states.specs.Turn.{Reconsumed}
 use Rattle.h5_machine.specs.MachineText.{MachineText, place_of, PassesRun}
 use Rattle.h5_machine.specs.Parts.{Parts}
 use Rattle.h5_machine.specs.Quoted.{IsQuoted}
 use Rattle.h5_machine.specs.Runs.{is_in, are_in}
 use Rattle.h5_machine.specs.StateOf.{state_of}
-use Rattle.h5_machine.specs.declared.at.At.TheVariants as at
-use Rattle.h5_machine.specs.declared.at.TagState.TheVariants as g
-use Rattle.h5_machine.specs.declared.at.ValueKind.TheVariants as v
+use Rattle.h5_machine.specs.declared.machine_state.MachineState.TheVariants as at
+use Rattle.h5_machine.specs.declared.machine_state.TagState.TheVariants as g
+use Rattle.h5_machine.specs.declared.machine_state.ValueKind.TheVariants as v
 use Rattle.h5_machine.specs.declared.runs.Run.TheVariants as run
 use Rattle.h5_machine.proofs.MoreLaws.{passes_more}
 use Rattle.h5_machine.proofs.PassLaws.{behind_run, run_passed}
 use Rattle.h5_machine.proofs.RunLaws.{none_of_four, neither}
 
 -- the place in such a state, behind a byte that is no CARRIAGE RETURN, in this line
-abbrev here : Place → State → ℕ → Place
+abbrev here : ReaderPlace → State → ℕ → ReaderPlace
 here p state line = record p { state = state; after_return = false; line = line }
 
 -- what is known of a byte of an attribute's name
@@ -49,17 +49,17 @@ attribute_byte x h =
     let n = none_of_four (is_name_end x) (x == equals_sign) (x == 0) (x == 13) h in
     record { end = n.0; equals = n.1; return = n.3; feed = no_feed x n.0 }
 
-first_row : (tag : Tag) (x : ℕ) → AttributeByte x → (before_attribute_name_state tag x).deed ≡ Again [] (AttributeName (with_attribute [] tag))
+first_row : (tag : Tag) (x : ℕ) → AttributeByte x → (before_attribute_name_state tag x).outcome ≡ Reconsumed [] (AttributeName (with_attribute [] tag))
 first_row tag x n =
     let no_end = neither (is_blank x) (x == solidus || x == greater_than_sign) n.end in
     let other = neither (x == solidus) (x == greater_than_sign) no_end.1 in
     rw (no_end.0, other.0, other.1, n.equals) refl
 
 -- at the first byte of a name
-first_deed : (p : Place) (tag : Tag) (x : ℕ) → p.state ≡ BeforeAttributeName tag → AttributeByte x → deed references p x ≡ Again [] (AttributeName (with_attribute [] tag))
-first_deed p tag x e n =
-    ap (λ s. (turn references p.last s (if x == 13 then 10 else x)).deed) e
-    ∙ ap (λ (b : Bool). (turn references p.last (BeforeAttributeName tag) (if b then 10 else x)).deed) n.return
+first_outcome : (p : ReaderPlace) (tag : Tag) (x : ℕ) → p.state ≡ BeforeAttributeName tag → AttributeByte x → outcome references p x ≡ Reconsumed [] (AttributeName (with_attribute [] tag))
+first_outcome p tag x e n =
+    ap (λ s. (turn references p.last s (if x == 13 then 10 else x)).outcome) e
+    ∙ ap (λ (b : Bool). (turn references p.last (BeforeAttributeName tag) (if b then 10 else x)).outcome) n.return
     ∙ first_row tag x n
 
 -- what is under construction where a tag is
@@ -73,26 +73,26 @@ in_line (x ∷ xs) h =
     let n = attribute_byte x all.0 in
     rw (n.return, n.feed) (in_line xs all.1)
 
-name_passed : (p : Place) (tag : Tag) (x : ℕ) (name ys : List ℕ) → p.line ≤ 2 ^ 64 - 1 → are_in run.AttributeName (x ∷ name) ≡ true → AttributeByte x
+name_passed : (p : ReaderPlace) (tag : Tag) (x : ℕ) (name ys : List ℕ) → p.line ≤ 2 ^ 64 - 1 → are_in run.AttributeName (x ∷ name) ≡ true → AttributeByte x
     → Passes references (in_state (AttributeName tag) p) (x ∷ (name ++ ys)) [] (here p (AttributeName (attribute_named_further (map to_ascii_lowercase (x ∷ name)) tag)) p.line) ys
 name_passed p tag x name ys fits h n =
-    let q : Place = in_state (AttributeName tag) p in
+    let q : ReaderPlace = in_state (AttributeName tag) p in
     let there : behind_run q (at.Tag g.AttributeName) (only tag) (x ∷ name) ≡ here p (AttributeName (attribute_named_further (map to_ascii_lowercase (x ∷ name)) tag)) p.line =
     ap (here p (AttributeName (attribute_named_further (map to_ascii_lowercase (x ∷ name)) tag))) (sym (line_none p.line (newlines false (x ∷ name)) fits (in_line (x ∷ name) h))) in
     subst (λ r. Passes references q (x ∷ (name ++ ys)) [] r ys) there
     (run_passed references q (at.Tag g.AttributeName) (only tag) (x ∷ name) ys (x ∷ (name ++ ys)) refl (omega arith) refl fits (and_right p.after_return (x == 10) n.feed) h)
 
-opens : (p : Place) (quote : Quote) (tag : Tag) (line : ℕ) (ys : List ℕ)
+opens : (p : ReaderPlace) (quote : Quote) (tag : Tag) (line : ℕ) (ys : List ℕ)
     → Passes references (here p (AttributeName tag) line) (equals_sign ∷ (sign_of quote ∷ ys)) [] (here p (AttributeValue (Quoted quote) tag) line) ys
 opens p Double tag line ys = goes [] (BeforeAttributeValue tag) refl refl (goes [] (AttributeValue (Quoted Double) tag) refl refl passed)
 opens p Single tag line ys = goes [] (BeforeAttributeValue tag) refl refl (goes [] (AttributeValue (Quoted Single) tag) refl refl passed)
 
-closes : (p : Place) (quote : Quote) (tag : Tag) (line : ℕ) (ys : List ℕ)
+closes : (p : ReaderPlace) (quote : Quote) (tag : Tag) (line : ℕ) (ys : List ℕ)
     → Passes references (here p (AttributeValue (Quoted quote) tag) line) (sign_of quote ∷ ys) [] (here p (AfterAttributeValueQuoted tag) line) ys
 closes p Double tag line ys = goes [] (AfterAttributeValueQuoted tag) refl refl passed
 closes p Single tag line ys = goes [] (AfterAttributeValueQuoted tag) refl refl passed
 
-value_passed : (p : Place) (quote : Quote) (tag : Tag) (value ys : List ℕ) → p.line ≤ 2 ^ 64 - 1 → value_further [] tag ≡ tag → are_in (run.Quoted quote) value ≡ true
+value_passed : (p : ReaderPlace) (quote : Quote) (tag : Tag) (value ys : List ℕ) → p.line ≤ 2 ^ 64 - 1 → value_further [] tag ≡ tag → are_in (run.Quoted quote) value ≡ true
     → Passes references (here p (AttributeValue (Quoted quote) tag) p.line) (value ++ ys) [] (here p (AttributeValue (Quoted quote) (value_further value tag)) (u64_saturate (p.line + newlines false value))) ys
 value_passed p quote tag [] ys fits none h =
     subst (λ q. Passes references (here p (AttributeValue (Quoted quote) tag) p.line) ys [] q ys) (λ i. here p (AttributeValue (Quoted quote) (sym none i)) (line_none p.line 0 fits refl i)) passed
@@ -103,7 +103,7 @@ value_passed p quote tag (x ∷ value) ys fits none h =
 abbrev pub with_quoted : List ℕ → List ℕ → Tag → Tag
 with_quoted name value tag = value_further value (attribute_named_further (map to_ascii_lowercase name) (with_attribute [] tag))
 
-passes_quoted : (p : Place) (quote : Quote) (tag : Tag) (name value rest : List ℕ) → p.state ≡ BeforeAttributeName tag → p.line ≤ 2 ^ 64 - 1 → 0 < length name
+passes_quoted : (p : ReaderPlace) (quote : Quote) (tag : Tag) (name value rest : List ℕ) → p.state ≡ BeforeAttributeName tag → p.line ≤ 2 ^ 64 - 1 → 0 < length name
     → are_in run.AttributeName name ≡ true → are_in (run.Quoted quote) value ≡ true
     → Passes references p (name ++ equals_sign ∷ (sign_of quote ∷ (value ++ sign_of quote ∷ rest))) []
     (here p (AfterAttributeValueQuoted (with_quoted name value tag)) (u64_saturate (p.line + newlines false value))) rest
@@ -112,7 +112,7 @@ passes_quoted p quote tag (x ∷ name) value rest e fits some named valued =
     let n = attribute_byte x (and_parts (is_in run.AttributeName x) (are_in run.AttributeName name) named).0 in
     let named_so = attribute_named_further (map to_ascii_lowercase (x ∷ name)) (with_attribute [] tag) in
     let line = u64_saturate (p.line + newlines false value) in
-    again [] (AttributeName (with_attribute [] tag)) (and_right p.after_return (x == 10) n.feed) (first_deed p tag x e n)
+    again [] (AttributeName (with_attribute [] tag)) (and_right p.after_return (x == 10) n.feed) (first_outcome p tag x e n)
     (passes_more (name_passed p (with_attribute [] tag) x name (equals_sign ∷ (sign_of quote ∷ (value ++ sign_of quote ∷ rest))) fits named n)
     (passes_more (opens p quote named_so p.line (value ++ sign_of quote ∷ rest))
     (passes_more (value_passed p quote named_so value (sign_of quote ∷ rest) fits refl valued)

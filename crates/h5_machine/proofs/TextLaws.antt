@@ -14,31 +14,31 @@ use Rattle.h5_states.specs.Signs.{is_blank, is_name_end, solidus, greater_than_s
 use Rattle.h5_token.specs.declared.tag.TagKind.TheVariants.{EndTag}
 use Rattle.h5_states.specs.Construction.{Tag, new_tag}
 use Rattle.h5_states.specs.States.{State, text_of}
-use Rattle.h5_states.specs.Turn.{Turn, Deed, Again, to, hand_tag}
+use Rattle.h5_states.specs.Turn.{Turn, Outcome, Reconsumed, to, hand_tag}
 use Rattle.h5_states.specs.References.{Reference}
 use Rattle.h5_states.specs.Texts.{raw_end_tag_name_state, is_appropriate}
 use Rattle.h5_machine.specs.Parts.{Parts}
-use Rattle.h5_machine.specs.DeedOf.{Does, DoesTag, DoesText, DoesBuffer, deed_of, emitted, end_tag_behind}
+use Rattle.h5_machine.specs.OutcomeOf.{Does, DoesTag, DoesText, DoesBuffer, outcome_of, emitted, end_tag_behind}
 use Rattle.h5_machine.specs.StateOf.{state_of}
-use Rattle.h5_machine.specs.declared.at.At.{At}
-use Rattle.h5_machine.specs.declared.moved.Moved.{Moved}
-use Rattle.h5_machine.specs.declared.moved.Moved.TheVariants as moved
+use Rattle.h5_machine.specs.declared.machine_state.MachineState.{MachineState}
+use Rattle.h5_machine.specs.declared.transition.Transition.{Transition}
+use Rattle.h5_machine.specs.declared.transition.Transition.TheVariants as transition
 
 -- a row that adds to a text does so whatever the buffer and the tag
-pub text_turned : (r : Result Moved AllocError) (old new buffer : List ℕ) (tag : Tag) (row : Turn) → IfOk r (λ moved. DoesText moved old new row)
-    → IfOk r (λ moved. (table : List Reference) (parts : Parts) → Does moved old new (record parts { buffer = buffer; tag = tag }) row)
-text_turned r old new buffer tag row = IfOk-weaker r (λ moved. DoesText moved old new row) (λ moved. (table : List Reference) (parts : Parts) → Does moved old new (record parts { buffer = buffer; tag = tag }) row) (λ moved does table parts. does (record parts { buffer = buffer; tag = tag }))
+pub text_turned : (r : Result Transition AllocError) (old new buffer : List ℕ) (tag : Tag) (row : Turn) → IfOk r (λ transition. DoesText transition old new row)
+    → IfOk r (λ transition. (table : List Reference) (parts : Parts) → Does transition old new (record parts { buffer = buffer; tag = tag }) row)
+text_turned r old new buffer tag row = IfOk-weaker r (λ transition. DoesText transition old new row) (λ transition. (table : List Reference) (parts : Parts) → Does transition old new (record parts { buffer = buffer; tag = tag }) row) (λ transition does table parts. does (record parts { buffer = buffer; tag = tag }))
 
-pub buffer_turned : (r : Result Moved AllocError) (old new buffer : List ℕ) (tag : Tag) (row : Turn) → IfOk r (λ moved. DoesBuffer moved old new buffer row)
-    → IfOk r (λ moved. (table : List Reference) (parts : Parts) → Does moved old new (record parts { buffer = buffer; tag = tag }) row)
-buffer_turned r old new buffer tag row = IfOk-weaker r (λ moved. DoesBuffer moved old new buffer row) (λ moved. (table : List Reference) (parts : Parts) → Does moved old new (record parts { buffer = buffer; tag = tag }) row) (λ moved does table parts. does (record parts { tag = tag }))
+pub buffer_turned : (r : Result Transition AllocError) (old new buffer : List ℕ) (tag : Tag) (row : Turn) → IfOk r (λ transition. DoesBuffer transition old new buffer row)
+    → IfOk r (λ transition. (table : List Reference) (parts : Parts) → Does transition old new (record parts { buffer = buffer; tag = tag }) row)
+buffer_turned r old new buffer tag row = IfOk-weaker r (λ transition. DoesBuffer transition old new buffer row) (λ transition. (table : List Reference) (parts : Parts) → Does transition old new (record parts { buffer = buffer; tag = tag }) row) (λ transition does table parts. does (record parts { tag = tag }))
 
-pub whole_turned : (r : Result Moved AllocError) (old new buffer : List ℕ) (tag : Tag) (row : Turn) → IfOk r (λ moved. (parts : Parts) → Does moved old new (record parts { buffer = buffer; tag = tag }) row)
-    → IfOk r (λ moved. (table : List Reference) (parts : Parts) → Does moved old new (record parts { buffer = buffer; tag = tag }) row)
-whole_turned r old new buffer tag row = IfOk-weaker r (λ moved. (parts : Parts) → Does moved old new (record parts { buffer = buffer; tag = tag }) row) (λ moved. (table : List Reference) (parts : Parts) → Does moved old new (record parts { buffer = buffer; tag = tag }) row) (λ moved does table parts. does parts)
+pub whole_turned : (r : Result Transition AllocError) (old new buffer : List ℕ) (tag : Tag) (row : Turn) → IfOk r (λ transition. (parts : Parts) → Does transition old new (record parts { buffer = buffer; tag = tag }) row)
+    → IfOk r (λ transition. (table : List Reference) (parts : Parts) → Does transition old new (record parts { buffer = buffer; tag = tag }) row)
+whole_turned r old new buffer tag row = IfOk-weaker r (λ transition. (parts : Parts) → Does transition old new (record parts { buffer = buffer; tag = tag }) row) (λ transition. (table : List Reference) (parts : Parts) → Does transition old new (record parts { buffer = buffer; tag = tag }) row) (λ transition does table parts. does parts)
 
-pub text_kept : (r : Result Moved AllocError) (old new buffer : List ℕ) (row : Turn) → IfOk r (λ moved. DoesText moved old new row) → IfOk r (λ moved. DoesBuffer moved old new buffer row)
-text_kept r old new buffer row = IfOk-weaker r (λ moved. DoesText moved old new row) (λ moved. DoesBuffer moved old new buffer row) (λ moved does parts. does (record parts { buffer = buffer }))
+pub text_kept : (r : Result Transition AllocError) (old new buffer : List ℕ) (row : Turn) → IfOk r (λ transition. DoesText transition old new row) → IfOk r (λ transition. DoesBuffer transition old new buffer row)
+text_kept r old new buffer row = IfOk-weaker r (λ transition. DoesText transition old new row) (λ transition. DoesBuffer transition old new buffer row) (λ transition does parts. does (record parts { buffer = buffer }))
 
 -- texts that differ at an index are not the same, and those that differ at none are
 pub differs_at : (xs ys : List ℕ) (i : ℕ) → i < length ys → get_or xs i 0 ≢ to_ascii_lowercase (get_or ys i 0) → false ≡ is_same_text xs (map to_ascii_lowercase ys)
@@ -75,32 +75,32 @@ pub ends_name : (last : List ℕ) (kind : RawTextKind) (buffer : List ℕ) (x : 
 ends_name last kind buffer x h = ended (is_blank x) (x == solidus) (x == greater_than_sign) (is_appropriate last buffer) _ _ _ _ h
 
 pub no_end_tag : (last : List ℕ) (kind : RawTextKind) (buffer : List ℕ) (x : ℕ) → (is_name_end x && is_appropriate last buffer) ≡ false → is_ascii_alphabetic x ≡ false
-    → (raw_end_tag_name_state last kind buffer x).deed ≡ Again (codes "</" ++ buffer) (text_of kind)
+    → (raw_end_tag_name_state last kind buffer x).outcome ≡ Reconsumed (codes "</" ++ buffer) (text_of kind)
 no_end_tag last kind buffer x h letter =
-    ap (λ (row : Turn). row.deed) (not_ended (is_blank x) (x == solidus) (x == greater_than_sign) (is_appropriate last buffer) _ _ _ _ h) ∙ rw letter refl
+    ap (λ (row : Turn). row.outcome) (not_ended (is_blank x) (x == solidus) (x == greater_than_sign) (is_appropriate last buffer) _ _ _ _ h) ∙ rw letter refl
 
-quiet : (a b : Bool) (first second : State) (tag : Tag) → emitted (if a then to first else if b then to second else hand_tag tag).deed ≡ []
+quiet : (a b : Bool) (first second : State) (tag : Tag) → emitted (if a then to first else if b then to second else hand_tag tag).outcome ≡ []
 quiet true b first second tag = refl
 quiet false true first second tag = refl
 quiet false false first second tag = refl
 
-quietly : (moved : Moved) (old : List ℕ) (parts : Parts) (turn : Turn) → emitted turn.deed ≡ [] → deed_of moved [] parts ≡ turn.deed → Does moved old old parts turn
-quietly moved old parts turn none e =
-    (sym (append-nil old) ∙ ap (λ l. old ++ l) (sym none), ap (λ l. deed_of moved l parts) none ∙ e)
+quietly : (transition : Transition) (old : List ℕ) (parts : Parts) (turn : Turn) → emitted turn.outcome ≡ [] → outcome_of transition [] parts ≡ turn.outcome → Does transition old old parts turn
+quietly transition old parts turn none e =
+    (sym (append-nil old) ∙ ap (λ l. old ++ l) (sym none), ap (λ l. outcome_of transition l parts) none ∙ e)
 
-pub does_end_tag : (r : Result Moved AllocError) (old name buffer last : List ℕ) (kind : RawTextKind) (tag : Tag) (x : ℕ) → name ≡ buffer → (is_name_end x && is_appropriate last buffer) ≡ true
-    → IfOk r (λ moved. DoesTag moved tag (end_tag_behind name x)) → IfOk r (λ moved. (parts : Parts) → Does moved old old (record parts { buffer = buffer; tag = tag }) (raw_end_tag_name_state last kind buffer x))
+pub does_end_tag : (r : Result Transition AllocError) (old name buffer last : List ℕ) (kind : RawTextKind) (tag : Tag) (x : ℕ) → name ≡ buffer → (is_name_end x && is_appropriate last buffer) ≡ true
+    → IfOk r (λ transition. DoesTag transition tag (end_tag_behind name x)) → IfOk r (λ transition. (parts : Parts) → Does transition old old (record parts { buffer = buffer; tag = tag }) (raw_end_tag_name_state last kind buffer x))
 does_end_tag r old name buffer last kind tag x e h =
-    IfOk-weaker r (λ moved. DoesTag moved tag (end_tag_behind name x)) (λ moved. (parts : Parts) → Does moved old old (record parts { buffer = buffer; tag = tag }) (raw_end_tag_name_state last kind buffer x))
-    (λ moved does parts.
-    subst (λ (turn : Turn). Does moved old old (record parts { buffer = buffer; tag = tag }) turn) (ap (λ l. end_tag_behind l x) e ∙ sym (ends_name last kind buffer x h))
-    (quietly moved old (record parts { buffer = buffer; tag = tag }) (end_tag_behind name x) (quiet (is_blank x) (x == solidus) _ _ (new_tag EndTag (map to_ascii_lowercase name))) (does (record parts { buffer = buffer }))))
+    IfOk-weaker r (λ transition. DoesTag transition tag (end_tag_behind name x)) (λ transition. (parts : Parts) → Does transition old old (record parts { buffer = buffer; tag = tag }) (raw_end_tag_name_state last kind buffer x))
+    (λ transition does parts.
+    subst (λ (turn : Turn). Does transition old old (record parts { buffer = buffer; tag = tag }) turn) (ap (λ l. end_tag_behind l x) e ∙ sym (ends_name last kind buffer x h))
+    (quietly transition old (record parts { buffer = buffer; tag = tag }) (end_tag_behind name x) (quiet (is_blank x) (x == solidus) _ _ (new_tag EndTag (map to_ascii_lowercase name))) (does (record parts { buffer = buffer }))))
 
-pub does_no_end_tag : (at : At) (old mid new name buffer last : List ℕ) (kind : RawTextKind) (tag : Tag) (x : ℕ) → (is_name_end x && is_appropriate last buffer) ≡ false → is_ascii_alphabetic x ≡ false
+pub does_no_end_tag : (at : MachineState) (old mid new name buffer last : List ℕ) (kind : RawTextKind) (tag : Tag) (x : ℕ) → (is_name_end x && is_appropriate last buffer) ≡ false → is_ascii_alphabetic x ≡ false
     → mid ≡ old ++ codes "</" → new ≡ mid ++ name → name ≡ buffer → ((parts : Parts) → state_of at parts ≡ text_of kind)
-    → (parts : Parts) → Does (moved.Again at) old new (record parts { buffer = buffer; tag = tag }) (raw_end_tag_name_state last kind buffer x)
+    → (parts : Parts) → Does (transition.Reconsumed at) old new (record parts { buffer = buffer; tag = tag }) (raw_end_tag_name_state last kind buffer x)
 does_no_end_tag at old mid new name buffer last kind tag x h letter first more e here parts =
     let row = no_end_tag last kind buffer x h letter in (
-      more ∙ ap (λ l. l ++ name) first ∙ append_assoc old (codes "</") name ∙ ap (λ l. old ++ (codes "</" ++ l)) e ∙ ap (λ (d : Deed). old ++ emitted d) (sym row),
-      ap (λ (d : Deed). Again (emitted d) (state_of at (record parts { buffer = buffer; tag = tag }))) row ∙ ap (λ s. Again (codes "</" ++ buffer) s) (here (record parts { buffer = buffer; tag = tag })) ∙ sym row,
+      more ∙ ap (λ l. l ++ name) first ∙ append_assoc old (codes "</") name ∙ ap (λ l. old ++ (codes "</" ++ l)) e ∙ ap (λ (d : Outcome). old ++ emitted d) (sym row),
+      ap (λ (d : Outcome). Reconsumed (emitted d) (state_of at (record parts { buffer = buffer; tag = tag }))) row ∙ ap (λ s. Reconsumed (codes "</" ++ buffer) s) (here (record parts { buffer = buffer; tag = tag })) ∙ sym row,
     )

@@ -12,16 +12,16 @@ use Rattle.h5_states.specs.declared.kinds.RawTextKind.TheVariants as raw
 use Rattle.h5_machine.specs.Parts.{Parts}
 use Rattle.h5_machine.specs.StateOf.{state_of, value_of}
 use Rattle.h5_machine.specs.Wide.{takes_wide, IsReconsumed}
-use Rattle.h5_machine.specs.declared.at.At.{At}
-use Rattle.h5_machine.specs.declared.at.At.TheVariants as at
-use Rattle.h5_machine.specs.declared.at.TextState.TheVariants as t
-use Rattle.h5_machine.specs.declared.at.TagState.TheVariants as g
-use Rattle.h5_machine.specs.declared.at.CommentState.TheVariants as c
-use Rattle.h5_machine.specs.declared.at.DoctypeState.TheVariants as d
-use Rattle.h5_machine.specs.declared.at.ReferenceState.TheVariants as r
-use Rattle.h5_machine.specs.declared.at.ReturnTo.TheVariants as to
+use Rattle.h5_machine.specs.declared.machine_state.MachineState.{MachineState}
+use Rattle.h5_machine.specs.declared.machine_state.MachineState.TheVariants as at
+use Rattle.h5_machine.specs.declared.machine_state.TextState.TheVariants as t
+use Rattle.h5_machine.specs.declared.machine_state.TagState.TheVariants as g
+use Rattle.h5_machine.specs.declared.machine_state.CommentState.TheVariants as c
+use Rattle.h5_machine.specs.declared.machine_state.DoctypeState.TheVariants as d
+use Rattle.h5_machine.specs.declared.machine_state.ReferenceState.TheVariants as r
+use Rattle.h5_machine.specs.declared.machine_state.ReturnTo.TheVariants as to
 
-named_is_reconsumed : (return : Return) (seen : List ℕ) (x : ℕ) (found : Option Longest) → IsReconsumed (named return seen x found).deed
+named_is_reconsumed : (return : Return) (seen : List ℕ) (x : ℕ) (found : Option Longest) → IsReconsumed (named return seen x found).outcome
 named_is_reconsumed s.ToData seen x None = tt
 named_is_reconsumed s.ToRcdata seen x None = tt
 named_is_reconsumed (s.ToValue value tag) seen x None = tt
@@ -29,8 +29,8 @@ named_is_reconsumed s.ToData seen x (Some found) = grind arith
 named_is_reconsumed s.ToRcdata seen x (Some found) = grind arith
 named_is_reconsumed (s.ToValue value tag) seen x (Some found) = grind arith
 
-pub wide_is_reconsumed : (last : List ℕ) (state : At) (parts : Parts) (x : ℕ) → takes_wide state ≡ false → 128 ≤ x
-    → IsReconsumed (turn references last (state_of state parts) x).deed
+pub wide_is_reconsumed : (last : List ℕ) (state : MachineState) (parts : Parts) (x : ℕ) → takes_wide state ≡ false → 128 ≤ x
+    → IsReconsumed (turn references last (state_of state parts) x).outcome
 wide_is_reconsumed last (at.Text (t.RawLessThanSign raw.Rcdata)) parts x h w = grind (arith)
 wide_is_reconsumed last (at.Text (t.RawLessThanSign raw.Rawtext)) parts x h w = grind (arith)
 wide_is_reconsumed last (at.Text (t.RawLessThanSign raw.ScriptData)) parts x h w = grind (arith)

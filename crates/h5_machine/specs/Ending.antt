@@ -5,15 +5,15 @@ use Rattle.h5_states.specs.AtEnd.{at_end}
 use Rattle.h5_states.specs.ReferenceTable.{references}
 use Rattle.h5_states.specs.States.{State}
 use Rattle.h5_machine.specs.Parts.{Parts}
-use Rattle.h5_machine.specs.DeedOf.{made_of}
-use Rattle.h5_machine.specs.declared.moved.Construct.{Construct}
+use Rattle.h5_machine.specs.OutcomeOf.{made_of}
+use Rattle.h5_machine.specs.declared.transition.CurrentToken.{CurrentToken}
 
 -- what is to be handed on, as a token
-abbrev pub left_of : Option Construct → Parts → Option TokenText
+abbrev pub left_of : Option CurrentToken → Parts → Option TokenText
 left_of None parts = None
 left_of (Some construct) parts = Some (made_of construct parts)
 
 -- The end, in a state: this was put behind what had been there, and this is to be handed on, of what is under construction.
-pub record Ends (state : State) (old new : List ℕ) (left : Option Construct) (parts : Parts) : Type 0 where
+pub record Ends (state : State) (old new : List ℕ) (left : Option CurrentToken) (parts : Parts) : Type 0 where
   pub text : new ≡ old ++ (at_end references state).text
   pub token : left_of left parts ≡ (at_end references state).token

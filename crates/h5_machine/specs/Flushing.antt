@@ -7,10 +7,10 @@ use Rattle.h5_states.specs.States.{Return, NumericCharacterReferenceEnd}
 use Rattle.h5_states.specs.References.{Longest, is_historical, ended_by_semicolon}
 use Rattle.h5_states.specs.Turn.{Turn, again, wrong}
 use Rattle.h5_machine.specs.Parts.{Parts}
-use Rattle.h5_machine.specs.DeedOf.{Does}
-use Rattle.h5_machine.specs.declared.at.ReturnTo.{ReturnTo}
-use Rattle.h5_machine.specs.declared.at.ReturnTo.TheVariants as to
-use Rattle.h5_machine.specs.declared.moved.Moved.{Moved}
+use Rattle.h5_machine.specs.OutcomeOf.{Does}
+use Rattle.h5_machine.specs.declared.machine_state.ReturnTo.{ReturnTo}
+use Rattle.h5_machine.specs.declared.machine_state.ReturnTo.TheVariants as to
+use Rattle.h5_machine.specs.declared.transition.Transition.{Transition}
 
 -- a text is emitted, or added to the current value of the tag
 abbrev pub Flushes : ReturnTo → List ℕ → Tag → List ℕ → Tag → List ℕ → Type 0
@@ -30,15 +30,15 @@ behind_digits return code x =
     else wrong MissingSemicolonAfterCharacterReference (again (NumericCharacterReferenceEnd return code))
 
 -- A row of character references did what the definition's does, whatever else is under construction.
-abbrev pub DoesReference : Moved → List ℕ → List ℕ → Tag → List ℕ → ℕ → Turn → Type 0
-DoesReference moved old new tag seen code turn =
-    (parts : Parts) → Does moved old new (record parts { tag = tag; seen = seen; code = code }) turn
+abbrev pub DoesReference : Transition → List ℕ → List ℕ → Tag → List ℕ → ℕ → Turn → Type 0
+DoesReference transition old new tag seen code turn =
+    (parts : Parts) → Does transition old new (record parts { tag = tag; seen = seen; code = code }) turn
 
-abbrev pub DoesSeen : Moved → List ℕ → List ℕ → Tag → List ℕ → Turn → Type 0
-DoesSeen moved old new tag seen turn = (parts : Parts) → Does moved old new (record parts { tag = tag; seen = seen }) turn
+abbrev pub DoesSeen : Transition → List ℕ → List ℕ → Tag → List ℕ → Turn → Type 0
+DoesSeen transition old new tag seen turn = (parts : Parts) → Does transition old new (record parts { tag = tag; seen = seen }) turn
 
-abbrev pub DoesCode : Moved → List ℕ → List ℕ → Tag → ℕ → Turn → Type 0
-DoesCode moved old new tag code turn = (parts : Parts) → Does moved old new (record parts { tag = tag; code = code }) turn
+abbrev pub DoesCode : Transition → List ℕ → List ℕ → Tag → ℕ → Turn → Type 0
+DoesCode transition old new tag code turn = (parts : Parts) → Does transition old new (record parts { tag = tag; code = code }) turn
 
-abbrev pub DoesFlush : Moved → List ℕ → List ℕ → Tag → Turn → Type 0
-DoesFlush moved old new tag turn = (parts : Parts) → Does moved old new (record parts { tag = tag }) turn
+abbrev pub DoesFlush : Transition → List ℕ → List ℕ → Tag → Turn → Type 0
+DoesFlush transition old new tag turn = (parts : Parts) → Does transition old new (record parts { tag = tag }) turn

@@ -1,6 +1,6 @@
 pub mod Parts
 pub mod StateOf
-pub mod DeedOf
+pub mod OutcomeOf
 pub mod Signs
 pub mod Flushing
 pub mod MachineText

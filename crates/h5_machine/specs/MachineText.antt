@@ -4,22 +4,22 @@ use Rattle.h5_states.specs.declared.kinds.TextKind.{TextKind}
 use Rattle.h5_states.specs.declared.kinds.TextKind.TheVariants.{CdataSection, Data}
 use Rattle.h5_states.specs.declared.errors.ParseError.TheVariants.{CdataInHtmlContent}
 use Rattle.h5_states.specs.States.{State, Text, MarkupDeclarationOpen}
-use Rattle.h5_states.specs.Turn.{Deed, Goes, Again, Hands, Asks}
+use Rattle.h5_states.specs.Turn.{Outcome, Consumed, Reconsumed, Emitted, Asks}
 use Rattle.h5_states.specs.ReferenceTable.{references}
-use Rattle.h5_states.specs.Reading.{Place, deed, is_dropped, behind, behind_newline, in_state, Passes}
+use Rattle.h5_states.specs.Reading.{ReaderPlace, outcome, is_dropped, behind, behind_newline, in_state, Passes}
 use Rattle.h5_machine.specs.Parts.{Parts}
 use Rattle.h5_machine.specs.StateOf.{state_of}
-use Rattle.h5_machine.specs.DeedOf.{made_of}
-use Rattle.h5_machine.specs.declared.at.At.{At}
-use Rattle.h5_machine.specs.declared.at.At.TheVariants as at
-use Rattle.h5_machine.specs.declared.at.TextState.TheVariants as text
-use Rattle.h5_machine.specs.declared.moved.Construct.{Construct}
-use Rattle.h5_machine.specs.declared.machine.Taken.{Taken}
-use Rattle.h5_machine.specs.declared.machine.Taken.TheVariants as taken
+use Rattle.h5_machine.specs.OutcomeOf.{made_of}
+use Rattle.h5_machine.specs.declared.machine_state.MachineState.{MachineState}
+use Rattle.h5_machine.specs.declared.machine_state.MachineState.TheVariants as at
+use Rattle.h5_machine.specs.declared.machine_state.TextState.TheVariants as text
+use Rattle.h5_machine.specs.declared.transition.CurrentToken.{CurrentToken}
+use Rattle.h5_machine.specs.declared.machine.Step.{Step}
+use Rattle.h5_machine.specs.declared.machine.Step.TheVariants as taken
 
 -- a state, what is under construction, and lines
 pub record MachineText : Type 0 where
-  pub at : At
+  pub at : MachineState
   pub parts : Parts
   pub last : List ℕ
   pub after_return : Bool
@@ -27,7 +27,7 @@ pub record MachineText : Type 0 where
   pub began : ℕ
 
 -- where reading is, as the definition has it
-abbrev pub place_of : MachineText → Place
+abbrev pub place_of : MachineText → ReaderPlace
 place_of m = record {
   state = state_of m.at m.parts;
   last = m.last;
@@ -41,7 +41,7 @@ pub record Consumes (m : MachineText) (x : ℕ) (old new : List ℕ) (n : Machin
   pub text : List ℕ
   pub state : State
   pub not_dropped : is_dropped (place_of m) x ≡ false
-  pub deed : deed references (place_of m) x ≡ Goes text state
+  pub outcome : outcome references (place_of m) x ≡ Consumed text state
   pub place : place_of n ≡ behind x state (place_of m)
   pub put : new ≡ old ++ text
 
@@ -56,16 +56,16 @@ pub record Reconsumes (m : MachineText) (x : ℕ) (old new : List ℕ) (n : Mach
   pub text : List ℕ
   pub state : State
   pub not_dropped : is_dropped (place_of m) x ≡ false
-  pub deed : deed references (place_of m) x ≡ Again text state
+  pub outcome : outcome references (place_of m) x ≡ Reconsumed text state
   pub place : place_of n ≡ in_state state (place_of m)
   pub put : new ≡ old ++ text
 
 -- a byte was consumed, and a token is complete, which began in this line. What follows is a text
-pub record Completes (m : MachineText) (x : ℕ) (old new : List ℕ) (n : MachineText) (construct : Construct) (told : ℕ) : Type 0 where
+pub record Completes (m : MachineText) (x : ℕ) (old new : List ℕ) (n : MachineText) (construct : CurrentToken) (told : ℕ) : Type 0 where
   pub kind : TextKind
   pub at : n.at ≡ at.Text (text.Text kind)
   pub not_dropped : is_dropped (place_of m) x ≡ false
-  pub deed : deed references (place_of m) x ≡ Hands (made_of construct n.parts) (Text kind)
+  pub outcome : outcome references (place_of m) x ≡ Emitted (made_of construct n.parts) (Text kind)
   pub place : place_of n ≡ behind x (Text kind) (place_of m)
   pub line : told ≡ m.began
   pub put : new ≡ old
@@ -74,14 +74,14 @@ pub record Completes (m : MachineText) (x : ℕ) (old new : List ℕ) (n : Machi
 pub record Wonders (m : MachineText) (x : ℕ) (old new : List ℕ) (n : MachineText) : Type 0 where
   pub elsewhere : State
   pub not_dropped : is_dropped (place_of m) x ≡ false
-  pub deed : deed references (place_of m) x ≡ Asks (Text CdataSection) CdataInHtmlContent elsewhere
+  pub outcome : outcome references (place_of m) x ≡ Asks (Text CdataSection) CdataInHtmlContent elsewhere
   pub place : place_of n ≡ behind x elsewhere (place_of m)
   pub put : new ≡ old
 
-abbrev pub Takes : MachineText → ℕ → List ℕ → List ℕ → MachineText → Taken → Type 0
+abbrev pub Takes : MachineText → ℕ → List ℕ → List ℕ → MachineText → Step → Type 0
 Takes m x old new n taken.Consumed = Consumes m x old new n ⊎ Drops m x old new n
 Takes m x old new n taken.Reconsumed = Reconsumes m x old new n
-Takes m x old new n (taken.Hands construct line) = Completes m x old new n construct line
+Takes m x old new n (taken.Emitted construct line) = Completes m x old new n construct line
 Takes m x old new n taken.Asks = Wonders m x old new n
 
 -- From xs on, up to ys, bytes were passed that emit a text, which was put behind what had been there.
@@ -91,10 +91,10 @@ pub record PassesRun (m : MachineText) (xs old new : List ℕ) (n : MachineText)
   pub put : new ≡ old ++ text
 
 -- no token is handed on at a byte, and nothing is asked
-abbrev pub IsQuiet : Deed → Type 0
-IsQuiet (Goes text state) = Unit {0}
-IsQuiet (Again text state) = Unit {0}
-IsQuiet (Hands token state) = ⊥
+abbrev pub IsQuiet : Outcome → Type 0
+IsQuiet (Consumed text state) = Unit {0}
+IsQuiet (Reconsumed text state) = Unit {0}
+IsQuiet (Emitted token state) = ⊥
 IsQuiet (Asks there error elsewhere) = ⊥
 
 -- where a NUL is handed on

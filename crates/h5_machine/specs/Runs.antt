@@ -9,24 +9,24 @@ use Rattle.h5_states.specs.declared.kinds.TextKind.TheVariants as kind
 use Rattle.h5_states.specs.Signs.{null, ampersand, hyphen, less_than_sign, equals_sign, greater_than_sign, right_square_bracket, is_blank, is_name_end, is_alphanumeric, sign_of}
 use Rattle.h5_states.specs.Construction.{Tag, named_further, attribute_named_further, value_further, new_doctype, doctype_named_further, identifier_further}
 use Rattle.h5_states.specs.States.{State}
-use Rattle.h5_states.specs.Reading.{Place, beginning}
+use Rattle.h5_states.specs.Reading.{ReaderPlace, beginning}
 use Rattle.h5_machine.specs.Parts.{Parts}
-use Rattle.h5_machine.specs.declared.at.At.{At}
-use Rattle.h5_machine.specs.declared.at.At.TheVariants as at
-use Rattle.h5_machine.specs.declared.at.TextState.{TextState}
-use Rattle.h5_machine.specs.declared.at.TextState.TheVariants as t
-use Rattle.h5_machine.specs.declared.at.TagState.{TagState}
-use Rattle.h5_machine.specs.declared.at.TagState.TheVariants as g
-use Rattle.h5_machine.specs.declared.at.CommentState.{CommentState}
-use Rattle.h5_machine.specs.declared.at.CommentState.TheVariants as c
-use Rattle.h5_machine.specs.declared.at.DoctypeState.{DoctypeState}
-use Rattle.h5_machine.specs.declared.at.DoctypeState.TheVariants as d
-use Rattle.h5_machine.specs.declared.at.ReferenceState.{ReferenceState}
-use Rattle.h5_machine.specs.declared.at.ReferenceState.TheVariants as r
-use Rattle.h5_machine.specs.declared.at.ReturnTo.{ReturnTo}
-use Rattle.h5_machine.specs.declared.at.ReturnTo.TheVariants as to
-use Rattle.h5_machine.specs.declared.at.ValueKind.{ValueKind}
-use Rattle.h5_machine.specs.declared.at.ValueKind.TheVariants as v
+use Rattle.h5_machine.specs.declared.machine_state.MachineState.{MachineState}
+use Rattle.h5_machine.specs.declared.machine_state.MachineState.TheVariants as at
+use Rattle.h5_machine.specs.declared.machine_state.TextState.{TextState}
+use Rattle.h5_machine.specs.declared.machine_state.TextState.TheVariants as t
+use Rattle.h5_machine.specs.declared.machine_state.TagState.{TagState}
+use Rattle.h5_machine.specs.declared.machine_state.TagState.TheVariants as g
+use Rattle.h5_machine.specs.declared.machine_state.CommentState.{CommentState}
+use Rattle.h5_machine.specs.declared.machine_state.CommentState.TheVariants as c
+use Rattle.h5_machine.specs.declared.machine_state.DoctypeState.{DoctypeState}
+use Rattle.h5_machine.specs.declared.machine_state.DoctypeState.TheVariants as d
+use Rattle.h5_machine.specs.declared.machine_state.ReferenceState.{ReferenceState}
+use Rattle.h5_machine.specs.declared.machine_state.ReferenceState.TheVariants as r
+use Rattle.h5_machine.specs.declared.machine_state.ReturnTo.{ReturnTo}
+use Rattle.h5_machine.specs.declared.machine_state.ReturnTo.TheVariants as to
+use Rattle.h5_machine.specs.declared.machine_state.ValueKind.{ValueKind}
+use Rattle.h5_machine.specs.declared.machine_state.ValueKind.TheVariants as v
 use Rattle.h5_machine.specs.declared.runs.Run.{Run}
 use Rattle.h5_machine.specs.declared.runs.Run.TheVariants as run
 
@@ -108,7 +108,7 @@ run_of_reference r.AmbiguousAmpersand = run.Alphanumerics
 run_of_reference state = run.Nothing
 
 -- the run that a state takes
-abbrev pub run_of : At → Run
+abbrev pub run_of : MachineState → Run
 run_of (at.Text state) = run_of_text_state state
 run_of (at.Tag state) = run_of_tag state
 run_of (at.Comment state) = run_of_comment state
@@ -125,7 +125,7 @@ doctype_behind d.BeforeDoctypeName = d.DoctypeName
 doctype_behind state = state
 
 -- the state behind a run
-abbrev pub at_behind : At → At
+abbrev pub at_behind : MachineState → MachineState
 at_behind (at.Text state) = at.Text (text_behind state)
 at_behind (at.Tag state) = at.Tag state
 at_behind (at.Comment state) = at.Comment state
@@ -154,7 +154,7 @@ tag_flushed to.Rcdata xs tag = tag
 tag_flushed (to.Value value) xs tag = value_further xs tag
 
 -- what is under construction behind a run
-abbrev pub parts_behind : At → List ℕ → Parts → Parts
+abbrev pub parts_behind : MachineState → List ℕ → Parts → Parts
 parts_behind (at.Text state) xs parts = record parts { buffer = buffer_behind state xs parts.buffer }
 parts_behind (at.Tag state) xs parts = record parts { tag = tag_behind state xs parts.tag }
 parts_behind (at.Comment state) xs parts = record parts { comment = parts.comment ++ xs }
@@ -171,7 +171,7 @@ text_flushed to.Rcdata xs = xs
 text_flushed (to.Value value) xs = []
 
 -- what a run emits
-abbrev pub put_by : At → List ℕ → List ℕ
+abbrev pub put_by : MachineState → List ℕ → List ℕ
 put_by (at.Text state) xs = text_put state xs
 put_by (at.Tag state) xs = []
 put_by (at.Comment state) xs = []
@@ -183,7 +183,7 @@ abbrev pub are_in : Run → List ℕ → Bool
 are_in run xs = list_all (is_in run) xs
 
 -- behind a run, in this state, in which there are so many newlines
-abbrev pub place_behind_run : Place → State → ℕ → Place
+abbrev pub place_behind_run : ReaderPlace → State → ℕ → ReaderPlace
 place_behind_run p state n = record {
   state = state;
   last = p.last;

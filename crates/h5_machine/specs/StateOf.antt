@@ -5,22 +5,22 @@ use Rattle.h5_states.specs.Construction.{Tag}
 use Rattle.h5_states.specs.States as s
 use Rattle.h5_states.specs.States.{State, Value, Return}
 use Rattle.h5_machine.specs.Parts.{Parts}
-use Rattle.h5_machine.specs.declared.at.At.{At}
-use Rattle.h5_machine.specs.declared.at.At.TheVariants as at
-use Rattle.h5_machine.specs.declared.at.TextState.{TextState}
-use Rattle.h5_machine.specs.declared.at.TextState.TheVariants as t
-use Rattle.h5_machine.specs.declared.at.TagState.{TagState}
-use Rattle.h5_machine.specs.declared.at.TagState.TheVariants as g
-use Rattle.h5_machine.specs.declared.at.CommentState.{CommentState}
-use Rattle.h5_machine.specs.declared.at.CommentState.TheVariants as c
-use Rattle.h5_machine.specs.declared.at.DoctypeState.{DoctypeState}
-use Rattle.h5_machine.specs.declared.at.DoctypeState.TheVariants as d
-use Rattle.h5_machine.specs.declared.at.ReferenceState.{ReferenceState}
-use Rattle.h5_machine.specs.declared.at.ReferenceState.TheVariants as r
-use Rattle.h5_machine.specs.declared.at.ReturnTo.{ReturnTo}
-use Rattle.h5_machine.specs.declared.at.ReturnTo.TheVariants as to
-use Rattle.h5_machine.specs.declared.at.ValueKind.{ValueKind}
-use Rattle.h5_machine.specs.declared.at.ValueKind.TheVariants as v
+use Rattle.h5_machine.specs.declared.machine_state.MachineState.{MachineState}
+use Rattle.h5_machine.specs.declared.machine_state.MachineState.TheVariants as at
+use Rattle.h5_machine.specs.declared.machine_state.TextState.{TextState}
+use Rattle.h5_machine.specs.declared.machine_state.TextState.TheVariants as t
+use Rattle.h5_machine.specs.declared.machine_state.TagState.{TagState}
+use Rattle.h5_machine.specs.declared.machine_state.TagState.TheVariants as g
+use Rattle.h5_machine.specs.declared.machine_state.CommentState.{CommentState}
+use Rattle.h5_machine.specs.declared.machine_state.CommentState.TheVariants as c
+use Rattle.h5_machine.specs.declared.machine_state.DoctypeState.{DoctypeState}
+use Rattle.h5_machine.specs.declared.machine_state.DoctypeState.TheVariants as d
+use Rattle.h5_machine.specs.declared.machine_state.ReferenceState.{ReferenceState}
+use Rattle.h5_machine.specs.declared.machine_state.ReferenceState.TheVariants as r
+use Rattle.h5_machine.specs.declared.machine_state.ReturnTo.{ReturnTo}
+use Rattle.h5_machine.specs.declared.machine_state.ReturnTo.TheVariants as to
+use Rattle.h5_machine.specs.declared.machine_state.ValueKind.{ValueKind}
+use Rattle.h5_machine.specs.declared.machine_state.ValueKind.TheVariants as v
 
 abbrev pub value_of : ValueKind → Value
 value_of (v.Quoted quote) = s.Quoted quote
@@ -97,7 +97,7 @@ reference_state_of r.Hexadecimal return seen code = s.Hexadecimal return code
 reference_state_of r.Decimal return seen code = s.Decimal return code
 reference_state_of r.NumericCharacterReferenceEnd return seen code = s.NumericCharacterReferenceEnd return code
 
-abbrev pub state_of : At → Parts → State
+abbrev pub state_of : MachineState → Parts → State
 state_of (at.Text state) parts = text_state_of state parts.buffer
 state_of (at.Tag state) parts = tag_state_of state parts.tag
 state_of (at.Comment state) parts = comment_state_of state parts.comment

@@ -1,16 +1,16 @@
 -- States that take bytes that are no ASCII as they are: in these, such bytes are taken as a run.
 use Rattle.std.specs.Prelude.{Bool, true, false}
-use Rattle.h5_states.specs.Turn.{Deed, Goes, Again, Hands, Asks}
-use Rattle.h5_machine.specs.declared.at.At.{At}
-use Rattle.h5_machine.specs.declared.at.At.TheVariants as at
-use Rattle.h5_machine.specs.declared.at.TextState.{TextState}
-use Rattle.h5_machine.specs.declared.at.TextState.TheVariants as t
-use Rattle.h5_machine.specs.declared.at.TagState.{TagState}
-use Rattle.h5_machine.specs.declared.at.TagState.TheVariants as g
-use Rattle.h5_machine.specs.declared.at.CommentState.{CommentState}
-use Rattle.h5_machine.specs.declared.at.CommentState.TheVariants as c
-use Rattle.h5_machine.specs.declared.at.DoctypeState.{DoctypeState}
-use Rattle.h5_machine.specs.declared.at.DoctypeState.TheVariants as d
+use Rattle.h5_states.specs.Turn.{Outcome, Consumed, Reconsumed, Emitted, Asks}
+use Rattle.h5_machine.specs.declared.machine_state.MachineState.{MachineState}
+use Rattle.h5_machine.specs.declared.machine_state.MachineState.TheVariants as at
+use Rattle.h5_machine.specs.declared.machine_state.TextState.{TextState}
+use Rattle.h5_machine.specs.declared.machine_state.TextState.TheVariants as t
+use Rattle.h5_machine.specs.declared.machine_state.TagState.{TagState}
+use Rattle.h5_machine.specs.declared.machine_state.TagState.TheVariants as g
+use Rattle.h5_machine.specs.declared.machine_state.CommentState.{CommentState}
+use Rattle.h5_machine.specs.declared.machine_state.CommentState.TheVariants as c
+use Rattle.h5_machine.specs.declared.machine_state.DoctypeState.{DoctypeState}
+use Rattle.h5_machine.specs.declared.machine_state.DoctypeState.TheVariants as d
 
 abbrev pub text_takes_wide : TextState → Bool
 text_takes_wide (t.Text kind) = true
@@ -37,7 +37,7 @@ doctype_takes_wide (d.DoctypeIdentifier id quote) = true
 doctype_takes_wide d.BogusDoctype = true
 doctype_takes_wide state = false
 
-abbrev pub takes_wide : At → Bool
+abbrev pub takes_wide : MachineState → Bool
 takes_wide (at.Text state) = text_takes_wide state
 takes_wide (at.Tag state) = tag_takes_wide state
 takes_wide (at.Comment state) = comment_takes_wide state
@@ -45,8 +45,8 @@ takes_wide (at.Doctype state) = doctype_takes_wide state
 takes_wide (at.Reference state return_to) = false
 
 -- a byte is reconsumed
-abbrev pub IsReconsumed : Deed → Type 0
-IsReconsumed (Goes text state) = ⊥
-IsReconsumed (Again text state) = Unit {0}
-IsReconsumed (Hands token state) = ⊥
+abbrev pub IsReconsumed : Outcome → Type 0
+IsReconsumed (Consumed text state) = ⊥
+IsReconsumed (Reconsumed text state) = Unit {0}
+IsReconsumed (Emitted token state) = ⊥
 IsReconsumed (Asks there error elsewhere) = ⊥

@@ -4,7 +4,7 @@ ghost use Rattle.std.specs.Prelude.{◌≡◌, ◌<◌, ◌≤◌, ◌-◌, ◌+
 ghost use Rattle.h5_states.specs.References as r;
 ghost use Rattle.h5_states.specs.Signs.{is_hex_digit, replacement};
 
-use super::moved::{note, note_if};
+use super::transition::{note, note_if};
 use h5_states::ParseError;
 
 // The code points that references to 0x80 to 0x9F stand for, 0 where they stand for themselves.

@@ -4,29 +4,29 @@ ghost use Rattle.std.specs.Prelude.{◌≡◌, ◌<◌, ◌==◌, ◌&&◌, true
 ghost use Rattle.h5_states.specs.Comments as c;
 ghost use Rattle.h5_states.specs.Machine.{turn};
 ghost use Rattle.h5_states.specs.References.{Reference};
-ghost use Rattle.h5_machine.specs.DeedOf.{DoesComment};
+ghost use Rattle.h5_machine.specs.OutcomeOf.{DoesComment};
 ghost use Rattle.h5_machine.specs.StateOf.{comment_state_of};
 ghost use Rattle.h5_machine.specs.Wide.{comment_takes_wide};
 
-use super::at::{At, CommentState, DoctypeState};
-use super::moved::{Construct, Moved, note, note_if};
+use super::machine_state::{CommentState, DoctypeState, MachineState};
 use super::signs::{begins, begins_folded, is_folded, is_word, pop_byte, push_byte, push_cleaned};
+use super::transition::{CurrentToken, Transition, note, note_if};
 use h5_states::{ParseError, TextKind};
 use std::alloc::AllocError;
 
-const HANDS: Moved = Moved::Hands(Construct::Comment, TextKind::Data);
+const HANDS: Transition = Transition::Emitted(CurrentToken::Comment, TextKind::Data);
 
 // 13.2.5.41 Bogus comment state
-fn bogus_comment(comment: &mut String, b: u8) -> Result<Moved, AllocError>
+fn bogus_comment(comment: &mut String, b: u8) -> Result<Transition, AllocError>
     requires { b < 128 }
-    ensures { IfOk result (λ moved. DoesComment moved (string_bytes comment.new) (c.bogus_comment_state (string_bytes comment.old) b)) }
+    ensures { IfOk result (λ transition. DoesComment transition (string_bytes comment.new) (c.bogus_comment_state (string_bytes comment.old) b)) }
 {
     if b == b'>' {
         return Ok(HANDS);
     }
     note_if(b == 0, ParseError::UnexpectedNullCharacter);
     push_cleaned(comment, b)?;
-    Ok(Moved::Goes(At::Comment(CommentState::BogusComment)))
+    Ok(Transition::Consumed(MachineState::Comment(CommentState::BogusComment)))
 }
 
 // Whether one of the openings begins so.
@@ -37,171 +37,175 @@ fn begins_opening(seen: &str) -> bool
 }
 
 // What was seen begins a comment.
-fn not_opened() -> Moved
-    ensures { result ≡ Moved.Again (At.Comment CommentState.BogusComment) }
+fn not_opened() -> Transition
+    ensures { result ≡ Transition.Reconsumed (MachineState.Comment CommentState.BogusComment) }
 {
     note(ParseError::IncorrectlyOpenedComment);
-    Moved::Again(At::Comment(CommentState::BogusComment))
+    Transition::Reconsumed(MachineState::Comment(CommentState::BogusComment))
 }
 
 // 13.2.5.42 Markup declaration open state. What was seen is kept as the comment that it begins where it is no opening.
-fn markup_declaration_open(seen: &mut String, b: u8) -> Result<Moved, AllocError>
-    ensures { IfOk result (λ moved. DoesComment moved (string_bytes seen.new) (c.markup_declaration_open_state (string_bytes seen.old) b)) }
+fn markup_declaration_open(seen: &mut String, b: u8) -> Result<Transition, AllocError>
+    ensures { IfOk result (λ transition. DoesComment transition (string_bytes seen.new) (c.markup_declaration_open_state (string_bytes seen.old) b)) }
 {
     if b >= 128 {
         return Ok(not_opened());
     }
     push_byte(seen, b)?;
     if is_word(seen.as_str(), b"--") {
-        return Ok(Moved::Goes(At::Comment(CommentState::CommentStart)));
+        return Ok(Transition::Consumed(MachineState::Comment(CommentState::CommentStart)));
     }
     if is_folded(seen.as_str(), b"doctype") {
-        return Ok(Moved::Goes(At::Doctype(DoctypeState::BeginDoctype)));
+        return Ok(Transition::Consumed(MachineState::Doctype(DoctypeState::BeginDoctype)));
     }
     if is_word(seen.as_str(), b"[CDATA[") {
-        return Ok(Moved::Asks);
+        return Ok(Transition::Asks);
     }
     if begins_opening(seen.as_str()) {
-        return Ok(Moved::Goes(At::Comment(CommentState::MarkupDeclarationOpen)));
+        return Ok(Transition::Consumed(MachineState::Comment(CommentState::MarkupDeclarationOpen)));
     }
     pop_byte(seen);
     Ok(not_opened())
 }
 
 // 13.2.5.43 Comment start state
-fn comment_start(comment: &mut String, b: u8) -> Moved
+fn comment_start(comment: &mut String, b: u8) -> Transition
     ensures { DoesComment result (string_bytes comment.new) (c.comment_start_state b) }
 {
     comment.clear();
     match b {
-        b'-' => Moved::Goes(At::Comment(CommentState::CommentStartDash)),
+        b'-' => Transition::Consumed(MachineState::Comment(CommentState::CommentStartDash)),
         b'>' => {
             note(ParseError::AbruptClosingOfEmptyComment);
             HANDS
         }
-        _ => Moved::Again(At::Comment(CommentState::Comment)),
+        _ => Transition::Reconsumed(MachineState::Comment(CommentState::Comment)),
     }
 }
 
 // 13.2.5.44 Comment start dash state
-fn comment_start_dash(comment: &mut String, b: u8) -> Result<Moved, AllocError>
-    ensures { IfOk result (λ moved. DoesComment moved (string_bytes comment.new) (c.comment_start_dash_state b)) }
+fn comment_start_dash(comment: &mut String, b: u8) -> Result<Transition, AllocError>
+    ensures { IfOk result (λ transition. DoesComment transition (string_bytes comment.new) (c.comment_start_dash_state b)) }
 {
     comment.clear();
     match b {
-        b'-' => Ok(Moved::Goes(At::Comment(CommentState::CommentEnd))),
+        b'-' => Ok(Transition::Consumed(MachineState::Comment(CommentState::CommentEnd))),
         b'>' => {
             note(ParseError::AbruptClosingOfEmptyComment);
             Ok(HANDS)
         }
         _ => {
             comment.push_str("-")?;
-            Ok(Moved::Again(At::Comment(CommentState::Comment)))
+            Ok(Transition::Reconsumed(MachineState::Comment(CommentState::Comment)))
         }
     }
 }
 
 // 13.2.5.45 Comment state
-fn comment(comment: &mut String, b: u8) -> Result<Moved, AllocError>
+fn comment(comment: &mut String, b: u8) -> Result<Transition, AllocError>
     requires { b < 128 }
-    ensures { IfOk result (λ moved. DoesComment moved (string_bytes comment.new) (c.comment_state (string_bytes comment.old) b)) }
+    ensures { IfOk result (λ transition. DoesComment transition (string_bytes comment.new) (c.comment_state (string_bytes comment.old) b)) }
 {
     match b {
         b'<' => {
             comment.push_str("<")?;
-            Ok(Moved::Goes(At::Comment(CommentState::CommentLessThanSign)))
+            Ok(Transition::Consumed(MachineState::Comment(CommentState::CommentLessThanSign)))
         }
-        b'-' => Ok(Moved::Goes(At::Comment(CommentState::CommentEndDash))),
+        b'-' => Ok(Transition::Consumed(MachineState::Comment(CommentState::CommentEndDash))),
         _ => {
             note_if(b == 0, ParseError::UnexpectedNullCharacter);
             push_cleaned(comment, b)?;
-            Ok(Moved::Goes(At::Comment(CommentState::Comment)))
+            Ok(Transition::Consumed(MachineState::Comment(CommentState::Comment)))
         }
     }
 }
 
 // 13.2.5.46 Comment less-than sign state
-fn comment_less_than_sign(comment: &mut String, b: u8) -> Result<Moved, AllocError>
-    ensures { IfOk result (λ moved. DoesComment moved (string_bytes comment.new) (c.comment_less_than_sign_state (string_bytes comment.old) b)) }
+fn comment_less_than_sign(comment: &mut String, b: u8) -> Result<Transition, AllocError>
+    ensures { IfOk result (λ transition. DoesComment transition (string_bytes comment.new) (c.comment_less_than_sign_state (string_bytes comment.old) b)) }
 {
     match b {
         b'!' => {
             comment.push_str("!")?;
-            Ok(Moved::Goes(At::Comment(CommentState::CommentLessThanSignBang)))
+            Ok(Transition::Consumed(MachineState::Comment(CommentState::CommentLessThanSignBang)))
         }
         b'<' => {
             comment.push_str("<")?;
-            Ok(Moved::Goes(At::Comment(CommentState::CommentLessThanSign)))
+            Ok(Transition::Consumed(MachineState::Comment(CommentState::CommentLessThanSign)))
         }
-        _ => Ok(Moved::Again(At::Comment(CommentState::Comment))),
+        _ => Ok(Transition::Reconsumed(MachineState::Comment(CommentState::Comment))),
     }
 }
 
 // 13.2.5.47 Comment less-than sign bang state
-fn comment_less_than_sign_bang(b: u8) -> Moved
+fn comment_less_than_sign_bang(b: u8) -> Transition
     ensures { (comment : List ℕ) → DoesComment result comment (c.comment_less_than_sign_bang_state comment b) }
 {
     if b == b'-' {
-        return Moved::Goes(At::Comment(CommentState::CommentLessThanSignBangDash));
+        return Transition::Consumed(MachineState::Comment(
+            CommentState::CommentLessThanSignBangDash,
+        ));
     }
-    Moved::Again(At::Comment(CommentState::Comment))
+    Transition::Reconsumed(MachineState::Comment(CommentState::Comment))
 }
 
 // 13.2.5.48 Comment less-than sign bang dash state
-fn comment_less_than_sign_bang_dash(b: u8) -> Moved
+fn comment_less_than_sign_bang_dash(b: u8) -> Transition
     ensures { (comment : List ℕ) → DoesComment result comment (c.comment_less_than_sign_bang_dash_state comment b) }
 {
     if b == b'-' {
-        return Moved::Goes(At::Comment(CommentState::CommentLessThanSignBangDashDash));
+        return Transition::Consumed(MachineState::Comment(
+            CommentState::CommentLessThanSignBangDashDash,
+        ));
     }
-    Moved::Again(At::Comment(CommentState::CommentEndDash))
+    Transition::Reconsumed(MachineState::Comment(CommentState::CommentEndDash))
 }
 
 // 13.2.5.49 Comment less-than sign bang dash dash state
-fn comment_less_than_sign_bang_dash_dash(b: u8) -> Moved
+fn comment_less_than_sign_bang_dash_dash(b: u8) -> Transition
     ensures { (comment : List ℕ) → DoesComment result comment (c.comment_less_than_sign_bang_dash_dash_state comment b) }
 {
     note_if(b != b'>', ParseError::NestedComment);
-    Moved::Again(At::Comment(CommentState::CommentEnd))
+    Transition::Reconsumed(MachineState::Comment(CommentState::CommentEnd))
 }
 
 // 13.2.5.50 Comment end dash state
-fn comment_end_dash(comment: &mut String, b: u8) -> Result<Moved, AllocError>
-    ensures { IfOk result (λ moved. DoesComment moved (string_bytes comment.new) (c.comment_end_dash_state (string_bytes comment.old) b)) }
+fn comment_end_dash(comment: &mut String, b: u8) -> Result<Transition, AllocError>
+    ensures { IfOk result (λ transition. DoesComment transition (string_bytes comment.new) (c.comment_end_dash_state (string_bytes comment.old) b)) }
 {
     if b == b'-' {
-        return Ok(Moved::Goes(At::Comment(CommentState::CommentEnd)));
+        return Ok(Transition::Consumed(MachineState::Comment(CommentState::CommentEnd)));
     }
     comment.push_str("-")?;
-    Ok(Moved::Again(At::Comment(CommentState::Comment)))
+    Ok(Transition::Reconsumed(MachineState::Comment(CommentState::Comment)))
 }
 
 // 13.2.5.51 Comment end state
-fn comment_end(comment: &mut String, b: u8) -> Result<Moved, AllocError>
-    ensures { IfOk result (λ moved. DoesComment moved (string_bytes comment.new) (c.comment_end_state (string_bytes comment.old) b)) }
+fn comment_end(comment: &mut String, b: u8) -> Result<Transition, AllocError>
+    ensures { IfOk result (λ transition. DoesComment transition (string_bytes comment.new) (c.comment_end_state (string_bytes comment.old) b)) }
 {
     match b {
         b'>' => Ok(HANDS),
-        b'!' => Ok(Moved::Goes(At::Comment(CommentState::CommentEndBang))),
+        b'!' => Ok(Transition::Consumed(MachineState::Comment(CommentState::CommentEndBang))),
         b'-' => {
             comment.push_str("-")?;
-            Ok(Moved::Goes(At::Comment(CommentState::CommentEnd)))
+            Ok(Transition::Consumed(MachineState::Comment(CommentState::CommentEnd)))
         }
         _ => {
             comment.push_str("--")?;
-            Ok(Moved::Again(At::Comment(CommentState::Comment)))
+            Ok(Transition::Reconsumed(MachineState::Comment(CommentState::Comment)))
         }
     }
 }
 
 // 13.2.5.52 Comment end bang state
-fn comment_end_bang(comment: &mut String, b: u8) -> Result<Moved, AllocError>
-    ensures { IfOk result (λ moved. DoesComment moved (string_bytes comment.new) (c.comment_end_bang_state (string_bytes comment.old) b)) }
+fn comment_end_bang(comment: &mut String, b: u8) -> Result<Transition, AllocError>
+    ensures { IfOk result (λ transition. DoesComment transition (string_bytes comment.new) (c.comment_end_bang_state (string_bytes comment.old) b)) }
 {
     match b {
         b'-' => {
             comment.push_str("--!")?;
-            Ok(Moved::Goes(At::Comment(CommentState::CommentEndDash)))
+            Ok(Transition::Consumed(MachineState::Comment(CommentState::CommentEndDash)))
         }
         b'>' => {
             note(ParseError::IncorrectlyClosedComment);
@@ -209,15 +213,15 @@ fn comment_end_bang(comment: &mut String, b: u8) -> Result<Moved, AllocError>
         }
         _ => {
             comment.push_str("--!")?;
-            Ok(Moved::Again(At::Comment(CommentState::Comment)))
+            Ok(Transition::Reconsumed(MachineState::Comment(CommentState::Comment)))
         }
     }
 }
 
 /// The row of a state of comments.
-pub fn comment_turn(state: CommentState, text: &mut String, b: u8) -> Result<Moved, AllocError>
+pub fn comment_turn(state: CommentState, text: &mut String, b: u8) -> Result<Transition, AllocError>
     requires { comment_takes_wide state ≡ true → b < 128 }
-    ensures { IfOk result (λ moved. (table : List Reference) (last : List ℕ) → DoesComment moved (string_bytes text.new)
+    ensures { IfOk result (λ transition. (table : List Reference) (last : List ℕ) → DoesComment transition (string_bytes text.new)
         (turn table last (comment_state_of state (string_bytes text.old)) b)) }
 {
     match state {

@@ -11,18 +11,18 @@ ghost use Rattle.h5_states.specs.Machine.{turn};
 ghost use Rattle.h5_states.specs.References.{Reference};
 ghost use Rattle.h5_machine.specs.StateOf.{doctype_state_of};
 ghost use Rattle.h5_machine.specs.Wide.{doctype_takes_wide};
-ghost use Rattle.h5_machine.specs.DeedOf.{DoesDoctype, DoesDoctypeSeen, after_identifier};
+ghost use Rattle.h5_machine.specs.OutcomeOf.{DoesDoctype, DoesDoctypeSeen, after_identifier};
 
-use super::at::{At, DoctypeState};
-use super::moved::{Construct, Moved, note, note_if};
+use super::machine_state::{DoctypeState, MachineState};
 use super::signs::{
     REPLACEMENT, begins_folded, is_blank, is_folded, push_byte, push_lowered, sign_of,
 };
+use super::transition::{CurrentToken, Transition, note, note_if};
 use h5_states::{Identifier, ParseError, Quote, TextKind};
 use h5_token::Doctype;
 use std::alloc::AllocError;
 
-const HANDS: Moved = Moved::Hands(Construct::Doctype, TextKind::Data);
+const HANDS: Transition = Transition::Emitted(CurrentToken::Doctype, TextKind::Data);
 
 // The error of the one identifier, or of the other.
 fn chosen(id: Identifier, public: ParseError, system: ParseError) -> ParseError {
@@ -32,10 +32,10 @@ fn chosen(id: Identifier, public: ParseError, system: ParseError) -> ParseError 
     }
 }
 
-fn goes(state: DoctypeState) -> Moved
-    ensures { result ≡ Moved.Goes (At.Doctype state) }
+fn goes(state: DoctypeState) -> Transition
+    ensures { result ≡ Transition.Consumed (MachineState.Doctype state) }
 {
-    Moved::Goes(At::Doctype(state))
+    Transition::Consumed(MachineState::Doctype(state))
 }
 
 /// A new doctype without a name. It takes no memory.
@@ -74,21 +74,25 @@ fn begin_identifier(id: Identifier, doctype: &mut Doctype, empty: String)
 }
 
 // 13.2.5.53 DOCTYPE state
-fn begin_doctype(b: u8) -> Moved
+fn begin_doctype(b: u8) -> Transition
     ensures { (doctype : DoctypeText) → DoesDoctype result doctype (d.doctype_state b) }
 {
     if is_blank(b) {
         return goes(DoctypeState::BeforeDoctypeName);
     }
     note_if(b != b'>', ParseError::MissingWhitespaceBeforeDoctypeName);
-    Moved::Again(At::Doctype(DoctypeState::BeforeDoctypeName))
+    Transition::Reconsumed(MachineState::Doctype(DoctypeState::BeforeDoctypeName))
 }
 
 // 13.2.5.54 Before DOCTYPE name state
-fn before_doctype_name(doctype: &mut Doctype, empty: String, b: u8) -> Result<Moved, AllocError>
+fn before_doctype_name(
+    doctype: &mut Doctype,
+    empty: String,
+    b: u8,
+) -> Result<Transition, AllocError>
     requires ascii { b < 128 }
     requires empty { string_bytes empty ≡ [] }
-    ensures { IfOk result (λ moved. DoesDoctype moved (doctype_text doctype.new) (d.before_doctype_name_state b)) }
+    ensures { IfOk result (λ transition. DoesDoctype transition (doctype_text doctype.new) (d.before_doctype_name_state b)) }
 {
     if is_blank(b) {
         return Ok(goes(DoctypeState::BeforeDoctypeName));
@@ -110,9 +114,9 @@ fn before_doctype_name(doctype: &mut Doctype, empty: String, b: u8) -> Result<Mo
 }
 
 // 13.2.5.55 DOCTYPE name state
-fn doctype_name(doctype: &mut Doctype, seen: &mut String, b: u8) -> Result<Moved, AllocError>
+fn doctype_name(doctype: &mut Doctype, seen: &mut String, b: u8) -> Result<Transition, AllocError>
     requires { b < 128 }
-    ensures { IfOk result (λ moved. DoesDoctypeSeen moved (doctype_text doctype.new) (string_bytes seen.new) (d.doctype_name_state (doctype_text doctype.old) b)) }
+    ensures { IfOk result (λ transition. DoesDoctypeSeen transition (doctype_text doctype.new) (string_bytes seen.new) (d.doctype_name_state (doctype_text doctype.old) b)) }
 {
     if is_blank(b) {
         seen.clear();
@@ -201,18 +205,22 @@ fn begins_keyword(seen: &str) -> bool
 }
 
 // What was seen is neither keyword, nor does one begin so.
-fn without_keyword(doctype: &mut Doctype) -> Moved
-    ensures moved { result ≡ Moved.Again (At.Doctype DoctypeState.BogusDoctype) }
+fn without_keyword(doctype: &mut Doctype) -> Transition
+    ensures transition { result ≡ Transition.Reconsumed (MachineState.Doctype DoctypeState.BogusDoctype) }
     ensures doctype { doctype_text doctype.new ≡ quirky (doctype_text doctype.old) }
 {
     note(ParseError::InvalidCharacterSequenceAfterDoctypeName);
     doctype.force_quirks = true;
-    Moved::Again(At::Doctype(DoctypeState::BogusDoctype))
+    Transition::Reconsumed(MachineState::Doctype(DoctypeState::BogusDoctype))
 }
 
 // 13.2.5.56 After DOCTYPE name state
-fn after_doctype_name(doctype: &mut Doctype, seen: &mut String, b: u8) -> Result<Moved, AllocError>
-    ensures { IfOk result (λ moved. DoesDoctypeSeen moved (doctype_text doctype.new) (string_bytes seen.new) (d.after_doctype_name_state (doctype_text doctype.old) (string_bytes seen.old) b)) }
+fn after_doctype_name(
+    doctype: &mut Doctype,
+    seen: &mut String,
+    b: u8,
+) -> Result<Transition, AllocError>
+    ensures { IfOk result (λ transition. DoesDoctypeSeen transition (doctype_text doctype.new) (string_bytes seen.new) (d.after_doctype_name_state (doctype_text doctype.old) (string_bytes seen.old) b)) }
 {
     if seen.is_empty() && is_blank(b) {
         return Ok(goes(DoctypeState::AfterDoctypeName));
@@ -237,9 +245,14 @@ fn after_doctype_name(doctype: &mut Doctype, seen: &mut String, b: u8) -> Result
 }
 
 // An identifier in such quotes begins.
-fn begins_identifier(id: Identifier, quote: Quote, doctype: &mut Doctype, empty: String) -> Moved
+fn begins_identifier(
+    id: Identifier,
+    quote: Quote,
+    doctype: &mut Doctype,
+    empty: String,
+) -> Transition
     requires { string_bytes empty ≡ [] }
-    ensures moved { result ≡ Moved.Goes (At.Doctype (DoctypeState.DoctypeIdentifier id quote)) }
+    ensures transition { result ≡ Transition.Consumed (MachineState.Doctype (DoctypeState.DoctypeIdentifier id quote)) }
     ensures doctype { doctype_text doctype.new ≡ with_identifier id (doctype_text doctype.old) }
 {
     begin_identifier(id, doctype, empty);
@@ -247,8 +260,8 @@ fn begins_identifier(id: Identifier, quote: Quote, doctype: &mut Doctype, empty:
 }
 
 // There is no identifier.
-fn without_identifier(id: Identifier, doctype: &mut Doctype) -> Moved
-    ensures moved { result ≡ HANDS }
+fn without_identifier(id: Identifier, doctype: &mut Doctype) -> Transition
+    ensures transition { result ≡ HANDS }
     ensures doctype { doctype_text doctype.new ≡ quirky (doctype_text doctype.old) }
 {
     note(chosen(
@@ -261,8 +274,8 @@ fn without_identifier(id: Identifier, doctype: &mut Doctype) -> Moved
 }
 
 // There are no quotes.
-fn without_quote(id: Identifier, doctype: &mut Doctype) -> Moved
-    ensures moved { result ≡ Moved.Again (At.Doctype DoctypeState.BogusDoctype) }
+fn without_quote(id: Identifier, doctype: &mut Doctype) -> Transition
+    ensures transition { result ≡ Transition.Reconsumed (MachineState.Doctype DoctypeState.BogusDoctype) }
     ensures doctype { doctype_text doctype.new ≡ quirky (doctype_text doctype.old) }
 {
     note(chosen(
@@ -271,11 +284,11 @@ fn without_quote(id: Identifier, doctype: &mut Doctype) -> Moved
         ParseError::MissingQuoteBeforeDoctypeSystemIdentifier,
     ));
     doctype.force_quirks = true;
-    Moved::Again(At::Doctype(DoctypeState::BogusDoctype))
+    Transition::Reconsumed(MachineState::Doctype(DoctypeState::BogusDoctype))
 }
 
 // 13.2.5.57, 63: After DOCTYPE public keyword state, After DOCTYPE system keyword state
-fn after_doctype_keyword(id: Identifier, doctype: &mut Doctype, empty: String, b: u8) -> Moved
+fn after_doctype_keyword(id: Identifier, doctype: &mut Doctype, empty: String, b: u8) -> Transition
     requires { string_bytes empty ≡ [] }
     ensures { DoesDoctype result (doctype_text doctype.new) (d.after_doctype_keyword_state id (doctype_text doctype.old) b) }
 {
@@ -302,7 +315,12 @@ fn after_doctype_keyword(id: Identifier, doctype: &mut Doctype, empty: String, b
 }
 
 // 13.2.5.58, 64: Before DOCTYPE public identifier state, Before DOCTYPE system identifier state
-fn before_doctype_identifier(id: Identifier, doctype: &mut Doctype, empty: String, b: u8) -> Moved
+fn before_doctype_identifier(
+    id: Identifier,
+    doctype: &mut Doctype,
+    empty: String,
+    b: u8,
+) -> Transition
     requires { string_bytes empty ≡ [] }
     ensures { DoesDoctype result (doctype_text doctype.new) (d.before_doctype_identifier_state id (doctype_text doctype.old) b) }
 {
@@ -332,9 +350,9 @@ fn doctype_identifier(
     quote: Quote,
     doctype: &mut Doctype,
     b: u8,
-) -> Result<Moved, AllocError>
+) -> Result<Transition, AllocError>
     requires { b < 128 }
-    ensures { IfOk result (λ moved. DoesDoctype moved (doctype_text doctype.new) (d.doctype_identifier_state id quote (doctype_text doctype.old) b)) }
+    ensures { IfOk result (λ transition. DoesDoctype transition (doctype_text doctype.new) (d.doctype_identifier_state id quote (doctype_text doctype.old) b)) }
 {
     if b == sign_of(quote) {
         return Ok(goes(after_identifier(id)));
@@ -362,7 +380,7 @@ fn doctype_identifier(
 }
 
 // 13.2.5.61 After DOCTYPE public identifier state
-fn after_doctype_public_identifier(doctype: &mut Doctype, empty: String, b: u8) -> Moved
+fn after_doctype_public_identifier(doctype: &mut Doctype, empty: String, b: u8) -> Transition
     requires { string_bytes empty ≡ [] }
     ensures { DoesDoctype result (doctype_text doctype.new) (d.after_doctype_public_identifier_state (doctype_text doctype.old) b) }
 {
@@ -384,7 +402,7 @@ fn after_doctype_public_identifier(doctype: &mut Doctype, empty: String, b: u8) 
 }
 
 // 13.2.5.62 Between DOCTYPE public and system identifiers state
-fn between_doctype_identifiers(doctype: &mut Doctype, empty: String, b: u8) -> Moved
+fn between_doctype_identifiers(doctype: &mut Doctype, empty: String, b: u8) -> Transition
     requires { string_bytes empty ≡ [] }
     ensures { DoesDoctype result (doctype_text doctype.new) (d.between_doctype_identifiers_state (doctype_text doctype.old) b) }
 {
@@ -400,7 +418,7 @@ fn between_doctype_identifiers(doctype: &mut Doctype, empty: String, b: u8) -> M
 }
 
 // 13.2.5.67 After DOCTYPE system identifier state
-fn after_doctype_system_identifier(b: u8) -> Moved
+fn after_doctype_system_identifier(b: u8) -> Transition
     ensures { (doctype : DoctypeText) → DoesDoctype result doctype (d.after_doctype_system_identifier_state doctype b) }
 {
     if is_blank(b) {
@@ -410,11 +428,11 @@ fn after_doctype_system_identifier(b: u8) -> Moved
         return HANDS;
     }
     note(ParseError::UnexpectedCharacterAfterDoctypeSystemIdentifier);
-    Moved::Again(At::Doctype(DoctypeState::BogusDoctype))
+    Transition::Reconsumed(MachineState::Doctype(DoctypeState::BogusDoctype))
 }
 
 // 13.2.5.68 Bogus DOCTYPE state
-fn bogus_doctype(b: u8) -> Moved
+fn bogus_doctype(b: u8) -> Transition
     ensures { (doctype : DoctypeText) → DoesDoctype result doctype (d.bogus_doctype_state doctype b) }
 {
     if b == b'>' {
@@ -430,9 +448,9 @@ pub fn doctype_turn(
     doctype: &mut Doctype,
     seen: &mut String,
     b: u8,
-) -> Result<Moved, AllocError>
+) -> Result<Transition, AllocError>
     requires { doctype_takes_wide state ≡ true → b < 128 }
-    ensures { IfOk result (λ moved. (table : List Reference) (last : List ℕ) → DoesDoctypeSeen moved (doctype_text doctype.new) (string_bytes seen.new)
+    ensures { IfOk result (λ transition. (table : List Reference) (last : List ℕ) → DoesDoctypeSeen transition (doctype_text doctype.new) (string_bytes seen.new)
         (turn table last (doctype_state_of state (doctype_text doctype.old) (string_bytes seen.old)) b)) }
 {
     let empty = String::new(*seen.allocator());

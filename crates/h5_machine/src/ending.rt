@@ -6,13 +6,15 @@ ghost use Rattle.h5_machine.specs.Ending.{Ends};
 ghost use Rattle.h5_machine.specs.Parts.{Parts};
 ghost use Rattle.h5_machine.specs.StateOf.{comment_state_of, doctype_state_of, reference_state_of, return_of, state_of, tag_state_of, text_state_of};
 
-use super::at::{At, CommentState, DoctypeState, ReferenceState, ReturnTo, TagState, TextState};
 use super::codes::code_point;
 use super::doctypes::nameless;
 use super::machine::Machine;
-use super::moved::{Construct, note};
+use super::machine_state::{
+    CommentState, DoctypeState, MachineState, ReferenceState, ReturnTo, TagState, TextState,
+};
 use super::references::{OpenReference, flush, flush_char, flush_digitless, flush_named};
 use super::tag::OpenTag;
+use super::transition::{CurrentToken, note};
 use h5_states::{ParseError, TextKind};
 use h5_token::Doctype;
 use std::alloc::AllocError;
@@ -74,7 +76,7 @@ fn end_tag(state: TagState, out: &mut String) -> Result<(), AllocError>
 // In a comment, which is handed on.
 fn end_comment(state: CommentState, comment: &mut String)
     ensures { (parts : Parts) → (out : List ℕ) → Ends (comment_state_of state (string_bytes comment.old)) out out
-        (Some Construct.Comment) (record parts { comment = string_bytes comment.new }) }
+        (Some CurrentToken.Comment) (record parts { comment = string_bytes comment.new }) }
 {
     match state {
         CommentState::BogusComment => {}
@@ -94,7 +96,7 @@ fn end_comment(state: CommentState, comment: &mut String)
 // In a doctype, which is handed on.
 fn end_doctype(state: DoctypeState, doctype: &mut Doctype)
     ensures { (parts : Parts) → (out : List ℕ) → Ends (doctype_state_of state (doctype_text doctype.old) parts.buffer) out out
-        (Some Construct.Doctype) (record parts { doctype = doctype_text doctype.new }) }
+        (Some CurrentToken.Doctype) (record parts { doctype = doctype_text doctype.new }) }
 {
     match state {
         DoctypeState::BogusDoctype => {}
@@ -146,28 +148,28 @@ fn end_reference(
 }
 
 /// What the end makes of what is under construction: a text, which is added to one, or what is to be handed on.
-pub fn end_of(machine: &mut Machine, out: &mut String) -> Result<Option<Construct>, AllocError>
+pub fn end_of(machine: &mut Machine, out: &mut String) -> Result<Option<CurrentToken>, AllocError>
     ensures ending { IfOk result (λ left. Ends (state_of machine.old.at machine.old.parts) (string_bytes out.old) (string_bytes out.new) left machine.new.parts) }
     ensures others { machine.new ≡ record machine.old { parts = machine.new.parts } }
 {
     match machine.at {
-        At::Text(state) => {
+        MachineState::Text(state) => {
             end_text(state, machine.buffer.as_str(), out)?;
             Ok(None)
         }
-        At::Tag(state) => {
+        MachineState::Tag(state) => {
             end_tag(state, out)?;
             Ok(None)
         }
-        At::Comment(state) => {
+        MachineState::Comment(state) => {
             end_comment(state, &mut machine.comment);
-            Ok(Some(Construct::Comment))
+            Ok(Some(CurrentToken::Comment))
         }
-        At::Doctype(state) => {
+        MachineState::Doctype(state) => {
             end_doctype(state, &mut machine.doctype);
-            Ok(Some(Construct::Doctype))
+            Ok(Some(CurrentToken::Doctype))
         }
-        At::Reference(state, return_to) => {
+        MachineState::Reference(state, return_to) => {
             end_reference(state, return_to, &machine.reference, &mut machine.tag, out)?;
             Ok(None)
         }

@@ -1,6 +1,6 @@
 //! The machine that reads all of HTML: the standard's 80 states, in code (HTML standard, section 13.2.5).
 //!
-//! `at` has the states, and `moved` what a row does. `texts`, `tags`, `comments`, `doctypes` and `references` have the rows,
+//! `machine_state` has the states, and `transition` what a row does. `texts`, `tags`, `comments`, `doctypes` and `references` have the rows,
 //! as the pages of `h5_states` of the same names have them: a row takes one byte. `tag` has a tag under construction,
 //! `open_name` a name so far, and `codes` what numbers stand for. `machine` has a state with what is under construction in it, and
 //! `ending` what it leaves at the end. `runs` has the bytes that a state only adds, which are taken at once, and `quoted` the
@@ -9,13 +9,12 @@
 //! It hands nothing on itself: `h5_standard` does. Begin with `src/machine.rt`, then read a chapter beside its definition.
 #![tactic(auto)]
 
-mod at;
 mod codes;
 mod comments;
 mod doctypes;
 mod ending;
 mod machine;
-mod moved;
+mod machine_state;
 mod open_name;
 mod quoted;
 mod references;
@@ -24,7 +23,8 @@ mod signs;
 mod tag;
 mod tags;
 mod texts;
+mod transition;
 
 pub use ending::end_of;
-pub use machine::{Machine, Taken};
-pub use moved::Construct;
+pub use machine::{Machine, Step};
+pub use transition::CurrentToken;

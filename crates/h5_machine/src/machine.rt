@@ -9,19 +9,18 @@ ghost use Rattle.h5_states.specs.Machine.{turn};
 ghost use Rattle.h5_states.specs.ReferenceTable.{references};
 ghost use Rattle.h5_states.specs.Reading as reading;
 ghost use Rattle.h5_states.specs.States.{Text};
-ghost use Rattle.h5_machine.specs.DeedOf.{Does};
+ghost use Rattle.h5_machine.specs.OutcomeOf.{Does};
 ghost use Rattle.h5_machine.specs.MachineText.{asks_in, hands_null, place_of, Takes, PassesRun, IsQuiet};
 ghost use Rattle.h5_machine.specs.Parts.{Parts};
 ghost use Rattle.h5_machine.specs.Runs.{are_in, at_behind, parts_behind, put_by, place_behind_run, run_of};
 ghost use Rattle.h5_machine.specs.StateOf.{state_of};
 ghost use Rattle.h5_machine.specs.Wide.{takes_wide};
 
-use super::at::{
-    At, CommentState, DoctypeState, ReferenceState, ReturnTo, TagState, TextState, text,
-};
 use super::comments::comment_turn;
 use super::doctypes::{doctype_turn, nameless};
-use super::moved::{Construct, Moved};
+use super::machine_state::{
+    CommentState, DoctypeState, MachineState, ReferenceState, ReturnTo, TagState, TextState, text,
+};
 use super::quoted::find_quoted;
 use super::references::{OpenReference, reference_turn};
 use super::runs::{
@@ -30,6 +29,7 @@ use super::runs::{
 use super::tag::OpenTag;
 use super::tags::tag_turn;
 use super::texts::text_turn;
+use super::transition::{CurrentToken, Transition};
 use h5_markup::{SharedNames, find_bare, make_bare};
 use h5_names::LocalName;
 use h5_reading::LastName;
@@ -43,7 +43,7 @@ use std::mem;
 /// The machine of the standard's section 13.2.5.
 #[derive(Drop)]
 pub struct Machine {
-    pub(crate) at: At,
+    pub(crate) at: MachineState,
     // The last start tag's name, or the empty text.
     pub(crate) last: LastName,
     // The names that HTML doesn't know.
@@ -88,23 +88,23 @@ impl Model for Machine {
 
 /// What became of the byte at hand.
 #[derive(Clone, Copy, Debug, PartialEq, Eq)]
-pub enum Taken {
+pub enum Step {
     /// It was consumed.
     Consumed,
     /// It is still at hand.
     Reconsumed,
     /// It was consumed, and this is to be handed on, which began in this line.
-    Hands(Construct, u64),
+    Emitted(CurrentToken, u64),
     /// It was consumed, and the adjusted current node is to be asked for.
     Asks,
 }
 
 // Whether all that was consumed has been emitted.
-fn is_all_emitted(at: At) -> bool
+fn is_all_emitted(at: MachineState) -> bool
     ensures { (parts : Parts) → result ≡ reading.is_all_emitted (state_of at parts) }
 {
     match at {
-        At::Text(state) => match state {
+        MachineState::Text(state) => match state {
             TextState::RawLessThanSign(_) => false,
             TextState::RawEndTagOpen(_) => false,
             TextState::RawEndTagName(_) => false,
@@ -112,7 +112,7 @@ fn is_all_emitted(at: At) -> bool
             TextState::CdataSectionEnd => false,
             _ => true,
         },
-        At::Reference(ReferenceState::AmbiguousAmpersand, return_to) => match return_to {
+        MachineState::Reference(ReferenceState::AmbiguousAmpersand, return_to) => match return_to {
             ReturnTo::Value(_) => false,
             _ => true,
         },
@@ -121,11 +121,11 @@ fn is_all_emitted(at: At) -> bool
 }
 
 // Whether a NUL is handed on.
-fn hands_null(at: At) -> bool
+fn hands_null(at: MachineState) -> bool
     ensures { (parts : Parts) → result ≡ hands_null (state_of at parts) }
 {
     match at {
-        At::Text(state) => match state {
+        MachineState::Text(state) => match state {
             TextState::Text(TextKind::Data) => true,
             TextState::Text(TextKind::CdataSection) => true,
             _ => false,
@@ -135,11 +135,11 @@ fn hands_null(at: At) -> bool
 }
 
 // Whether a '[' may ask for the adjusted current node.
-fn asks_in(at: At) -> bool
+fn asks_in(at: MachineState) -> bool
     ensures { (parts : Parts) → result ≡ asks_in (state_of at parts) }
 {
     match at {
-        At::Comment(state) => match state {
+        MachineState::Comment(state) => match state {
             CommentState::MarkupDeclarationOpen => true,
             _ => false,
         },
@@ -192,14 +192,14 @@ impl Machine {
     }
 
     // The row of the state, at a byte that was made normal.
-    fn turn(&mut self, b: u8, out: &mut String) -> Result<Moved, AllocError>
+    fn turn(&mut self, b: u8, out: &mut String) -> Result<Transition, AllocError>
         requires { takes_wide self.old.at ≡ true → b < 128 }
-        ensures row { IfOk result (λ moved. Does moved (string_bytes out.old) (string_bytes out.new) self.new.parts
+        ensures row { IfOk result (λ transition. Does transition (string_bytes out.old) (string_bytes out.new) self.new.parts
             (turn references self.old.last (state_of self.old.at self.old.parts) b)) }
         ensures others { self.new ≡ record self.old { parts = self.new.parts } }
     {
         match self.at {
-            At::Text(state) => text_turn(
+            MachineState::Text(state) => text_turn(
                 state,
                 &self.last,
                 &mut self.buffer,
@@ -207,10 +207,15 @@ impl Machine {
                 out,
                 b,
             ),
-            At::Tag(state) => tag_turn(state, &mut self.tag, &mut self.comment, out, b),
-            At::Comment(state) => comment_turn(state, &mut self.comment, b),
-            At::Doctype(state) => doctype_turn(state, &mut self.doctype, &mut self.buffer, b),
-            At::Reference(state, return_to) => reference_turn(
+            MachineState::Tag(state) => tag_turn(state, &mut self.tag, &mut self.comment, out, b),
+            MachineState::Comment(state) => comment_turn(state, &mut self.comment, b),
+            MachineState::Doctype(state) => doctype_turn(
+                state,
+                &mut self.doctype,
+                &mut self.buffer,
+                b,
+            ),
+            MachineState::Reference(state, return_to) => reference_turn(
                 state,
                 return_to,
                 &mut self.reference,
@@ -222,7 +227,7 @@ impl Machine {
     }
 
     // Goes to a state. What is emitted next begins in the line of what comes next, where all was emitted.
-    fn go(&mut self, at: At)
+    fn go(&mut self, at: MachineState)
         ensures place { place_of self.new ≡ reading.in_state (state_of at self.old.parts) (place_of self.old) }
         ensures at { self.new.at ≡ at }
         ensures parts { self.new.parts ≡ self.old.parts }
@@ -234,7 +239,7 @@ impl Machine {
     }
 
     // Goes behind a byte that was consumed.
-    fn go_behind(&mut self, b: u8, at: At)
+    fn go_behind(&mut self, b: u8, at: MachineState)
         ensures place { place_of self.new ≡ reading.behind b (state_of at self.old.parts) (place_of self.old) }
         ensures at { self.new.at ≡ at }
         ensures parts { self.new.parts ≡ self.old.parts }
@@ -248,15 +253,15 @@ impl Machine {
 
     /// Whether a token may be handed on at this byte, or a question asked. Then what was emitted before is to be handed on.
     pub fn may_hand(&self, b: u8) -> bool
-        ensures { result ≡ false → reading.is_dropped (place_of self.now) b ≡ false → IsQuiet (reading.deed references (place_of self.now) b) }
+        ensures { result ≡ false → reading.is_dropped (place_of self.now) b ≡ false → IsQuiet (reading.outcome references (place_of self.now) b) }
     {
         match b {
             b'>' => match self.at {
-                At::Text(TextState::RawEndTagName(_)) => true,
-                At::Text(_) => false,
-                At::Tag(TagState::TagOpen) => false,
-                At::Tag(TagState::EndTagOpen) => false,
-                At::Reference(_, _) => false,
+                MachineState::Text(TextState::RawEndTagName(_)) => true,
+                MachineState::Text(_) => false,
+                MachineState::Tag(TagState::TagOpen) => false,
+                MachineState::Tag(TagState::EndTagOpen) => false,
+                MachineState::Reference(_, _) => false,
                 _ => true,
             },
             b'[' => asks_in(self.at),
@@ -273,31 +278,31 @@ impl Machine {
     }
 
     /// Takes the byte at hand. What it emits is added to a text.
-    pub fn take(&mut self, b: u8, out: &mut String) -> Result<Taken, AllocError>
+    pub fn take(&mut self, b: u8, out: &mut String) -> Result<Step, AllocError>
         requires { takes_wide self.old.at ≡ true → b < 128 }
         ensures { IfOk result (λ taken. Takes self.old b (string_bytes out.old) (string_bytes out.new) self.new taken) }
     {
         if self.is_dropped(b) {
             self.after_return = false;
-            return Ok(Taken::Consumed);
+            return Ok(Step::Consumed);
         }
         let began = self.began;
         match self.turn(normal(b), out)? {
-            Moved::Goes(at) => {
+            Transition::Consumed(at) => {
                 self.go_behind(b, at);
-                Ok(Taken::Consumed)
+                Ok(Step::Consumed)
             }
-            Moved::Again(at) => {
+            Transition::Reconsumed(at) => {
                 self.go(at);
-                Ok(Taken::Reconsumed)
+                Ok(Step::Reconsumed)
             }
-            Moved::Hands(construct, kind) => {
+            Transition::Emitted(construct, kind) => {
                 self.go_behind(b, text(kind));
-                Ok(Taken::Hands(construct, began))
+                Ok(Step::Emitted(construct, began))
             }
-            Moved::Asks => {
-                self.go_behind(b, At::Comment(CommentState::BogusComment));
-                Ok(Taken::Asks)
+            Transition::Asks => {
+                self.go_behind(b, MachineState::Comment(CommentState::BogusComment));
+                Ok(Step::Asks)
             }
         }
     }
@@ -355,14 +360,19 @@ impl Machine {
         ensures put { OnOk result (string_bytes out.new ≡ string_bytes out.old ++ put_by self.old.at front.now) }
     {
         match self.at {
-            At::Text(state) => add_text_run(state, front, &mut self.buffer, out),
-            At::Tag(state) => add_tag_run(state, front, &mut self.tag, &mut self.names),
-            At::Comment(_) => self.comment.push_str(front),
-            At::Doctype(state) => {
+            MachineState::Text(state) => add_text_run(state, front, &mut self.buffer, out),
+            MachineState::Tag(state) => add_tag_run(state, front, &mut self.tag, &mut self.names),
+            MachineState::Comment(_) => self.comment.push_str(front),
+            MachineState::Doctype(state) => {
                 let empty = String::new(*self.comment.allocator());
                 add_doctype_run(state, front, &mut self.doctype, empty)
             }
-            At::Reference(_, return_to) => add_reference_run(return_to, front, &mut self.tag, out),
+            MachineState::Reference(_, return_to) => add_reference_run(
+                return_to,
+                front,
+                &mut self.tag,
+                out,
+            ),
         }
     }
 
@@ -389,7 +399,7 @@ impl Machine {
 
     // Takes the bytes with which the name of a reference goes on, and gives what follows them.
     fn take_name<'a>(&mut self, rest: &'a str) -> Result<&'a str, AllocError>
-        requires named { (return_to : ReturnTo) × (self.old.at ≡ At.Reference ReferenceState.NamedCharacterReference return_to) }
+        requires named { (return_to : ReturnTo) × (self.old.at ≡ MachineState.Reference ReferenceState.NamedCharacterReference return_to) }
         requires kept { reading.is_dropped (place_of self.old) (slice_index rest.now 0) ≡ false }
         ensures passes { IfOk result (λ after. (out : List ℕ) → PassesRun self.old rest.now out out self.new after.now) }
         ensures at { self.new.at ≡ self.old.at }
@@ -412,7 +422,7 @@ impl Machine {
         if self.drops_next(rest) {
             return Ok(rest);
         }
-        if let At::Reference(ReferenceState::NamedCharacterReference, _) = self.at {
+        if let MachineState::Reference(ReferenceState::NamedCharacterReference, _) = self.at {
             return self.take_name(rest);
         }
         let (n, lines) = count_run(run_of(self.at), rest);
@@ -427,7 +437,7 @@ impl Machine {
 
     // Takes the attribute at the front, where it is written with quotes, and gives what follows it.
     fn take_quoted<'a>(&mut self, rest: &'a str) -> Result<&'a str, AllocError>
-        requires { self.old.at ≡ At.Tag TagState.BeforeAttributeName }
+        requires { self.old.at ≡ MachineState.Tag TagState.BeforeAttributeName }
         ensures passes { IfOk result (λ after. (out : List ℕ) → PassesRun self.old rest.now out out self.new after.now) }
         ensures narrow { OnOk result (takes_wide self.new.at ≡ false) }
     {
@@ -438,7 +448,7 @@ impl Machine {
             .push_quoted(&mut self.names, found.name, found.value)?;
         self.after_return = false;
         self.line = self.line().saturating_add(found.lines);
-        self.at = At::Tag(TagState::AfterAttributeValueQuoted);
+        self.at = MachineState::Tag(TagState::AfterAttributeValueQuoted);
         Ok(found.rest)
     }
 
@@ -450,17 +460,17 @@ impl Machine {
     {
         let behind = self.take_bytes(rest, out)?;
         match self.at {
-            At::Tag(TagState::BeforeAttributeName) => self.take_quoted(behind),
+            MachineState::Tag(TagState::BeforeAttributeName) => self.take_quoted(behind),
             _ => Ok(behind),
         }
     }
 
     // Whether the state is that of data.
     fn is_in_data(&self) -> bool
-        ensures { result ≡ true → self.now.at ≡ At.Text (TextState.Text TextKind.Data) }
+        ensures { result ≡ true → self.now.at ≡ MachineState.Text (TextState.Text TextKind.Data) }
     {
         match self.at {
-            At::Text(TextState::Text(TextKind::Data)) => true,
+            MachineState::Text(TextState::Text(TextKind::Data)) => true,
             _ => false,
         }
     }
@@ -468,7 +478,7 @@ impl Machine {
     /// Whether a tag that is nothing but its name may stand at the front. Such a tag is passed at once.
     #[inline(always)]
     pub fn may_be_bare(&self, rest: &str) -> bool
-        ensures { result ≡ true → self.now.at ≡ At.Text (TextState.Text TextKind.Data) }
+        ensures { result ≡ true → self.now.at ≡ MachineState.Text (TextState.Text TextKind.Data) }
     {
         match rest.as_bytes() {
             [b'<', b'/', ..] => self.is_in_data(),
@@ -480,7 +490,7 @@ impl Machine {
     /// The kind and the name of the tag at the front, and what follows it, where that is passed at once.
     #[inline(always)]
     pub fn find_bare<'a>(&self, rest: &'a str) -> Option<(TagKind, &'a str, &'a str)>
-        ensures { IfSome result (λ tag. (self.now.at ≡ At.Text (TextState.Text TextKind.Data)) × IsBareTag rest.now tag.0 tag.1.now tag.2.now) }
+        ensures { IfSome result (λ tag. (self.now.at ≡ MachineState.Text (TextState.Text TextKind.Data)) × IsBareTag rest.now tag.0 tag.1.now tag.2.now) }
     {
         if !self.is_in_data() {
             return None;

@@ -11,11 +11,11 @@ ghost use Rattle.h5_references.specs.Found.{found_in};
 ghost use Rattle.h5_machine.specs.StateOf.{reference_state_of, return_of};
 ghost use Rattle.h5_machine.specs.Flushing.{Flushes, DoesReference, DoesSeen, DoesCode, DoesFlush, behind_digits, text_named};
 
-use super::at::{At, ReferenceState, ReturnTo, returned};
 use super::codes::{code_point, with_digit};
-use super::moved::{Moved, note, note_if};
+use super::machine_state::{MachineState, ReferenceState, ReturnTo, returned};
 use super::signs::{is_alphanumeric, is_hex_digit, push_byte};
 use super::tag::OpenTag;
+use super::transition::{Transition, note, note_if};
 use h5_references::{Named, is_beginning, longest};
 use h5_states::ParseError;
 use std::alloc::AllocError;
@@ -28,16 +28,16 @@ pub struct OpenReference {
     pub code: u32,
 }
 
-fn goes(state: ReferenceState, return_to: ReturnTo) -> Moved
-    ensures { result ≡ Moved.Goes (At.Reference state return_to) }
+fn goes(state: ReferenceState, return_to: ReturnTo) -> Transition
+    ensures { result ≡ Transition.Consumed (MachineState.Reference state return_to) }
 {
-    Moved::Goes(At::Reference(state, return_to))
+    Transition::Consumed(MachineState::Reference(state, return_to))
 }
 
-fn again(state: ReferenceState, return_to: ReturnTo) -> Moved
-    ensures { result ≡ Moved.Again (At.Reference state return_to) }
+fn again(state: ReferenceState, return_to: ReturnTo) -> Transition
+    ensures { result ≡ Transition.Reconsumed (MachineState.Reference state return_to) }
 {
-    Moved::Again(At::Reference(state, return_to))
+    Transition::Reconsumed(MachineState::Reference(state, return_to))
 }
 
 /// Flushes code points consumed as a character reference.
@@ -89,8 +89,8 @@ fn character_reference(
     tag: &mut OpenTag,
     out: &mut String,
     b: u8,
-) -> Result<Moved, AllocError>
-    ensures { IfOk result (λ moved. DoesReference moved (string_bytes out.old) (string_bytes out.new) tag.new (string_bytes reference.new.seen) reference.new.code (r.character_reference_state (return_of return_to tag.old) b)) }
+) -> Result<Transition, AllocError>
+    ensures { IfOk result (λ transition. DoesReference transition (string_bytes out.old) (string_bytes out.new) tag.new (string_bytes reference.new.seen) reference.new.code (r.character_reference_state (return_of return_to tag.old) b)) }
 {
     if is_alphanumeric(b) {
         reference.seen.clear();
@@ -100,7 +100,7 @@ fn character_reference(
         return Ok(goes(ReferenceState::NumericCharacterReference, return_to));
     }
     flush(return_to, tag, out, "&")?;
-    Ok(Moved::Again(returned(return_to)))
+    Ok(Transition::Reconsumed(returned(return_to)))
 }
 
 // The first byte of what follows, or the byte at hand.
@@ -225,14 +225,14 @@ fn named_character_reference(
     tag: &mut OpenTag,
     out: &mut String,
     b: u8,
-) -> Result<Moved, AllocError>
-    ensures { IfOk result (λ moved. DoesSeen moved (string_bytes out.old) (string_bytes out.new) tag.new (string_bytes seen.new) (r.named_character_reference_state references (return_of return_to tag.old) (string_bytes seen.old) b)) }
+) -> Result<Transition, AllocError>
+    ensures { IfOk result (λ transition. DoesSeen transition (string_bytes out.old) (string_bytes out.new) tag.new (string_bytes seen.new) (r.named_character_reference_state references (return_of return_to tag.old) (string_bytes seen.old) b)) }
 {
     if goes_on(seen, b)? {
         return Ok(goes(ReferenceState::NamedCharacterReference, return_to));
     }
     if flush_named(return_to, seen.as_str(), tag, out, b)? {
-        return Ok(Moved::Again(returned(return_to)));
+        return Ok(Transition::Reconsumed(returned(return_to)));
     }
     Ok(again(ReferenceState::AmbiguousAmpersand, return_to))
 }
@@ -243,15 +243,15 @@ fn ambiguous_ampersand(
     tag: &mut OpenTag,
     out: &mut String,
     b: u8,
-) -> Result<Moved, AllocError>
-    ensures { IfOk result (λ moved. DoesFlush moved (string_bytes out.old) (string_bytes out.new) tag.new (r.ambiguous_ampersand_state (return_of return_to tag.old) b)) }
+) -> Result<Transition, AllocError>
+    ensures { IfOk result (λ transition. DoesFlush transition (string_bytes out.old) (string_bytes out.new) tag.new (r.ambiguous_ampersand_state (return_of return_to tag.old) b)) }
 {
     if is_alphanumeric(b) {
         flush_char(return_to, tag, out, b as char)?;
         return Ok(goes(ReferenceState::AmbiguousAmpersand, return_to));
     }
     note_if(b == b';', ParseError::UnknownNamedCharacterReference);
-    Ok(Moved::Again(returned(return_to)))
+    Ok(Transition::Reconsumed(returned(return_to)))
 }
 
 // 13.2.5.75 Numeric character reference state
@@ -259,8 +259,8 @@ fn numeric_character_reference(
     return_to: ReturnTo,
     seen: &mut String,
     b: u8,
-) -> Result<Moved, AllocError>
-    ensures { IfOk result (λ moved. (tag : Tag) (out : List ℕ) → DoesSeen moved out out tag (string_bytes seen.new)
+) -> Result<Transition, AllocError>
+    ensures { IfOk result (λ transition. (tag : Tag) (out : List ℕ) → DoesSeen transition out out tag (string_bytes seen.new)
         (r.numeric_character_reference_state (return_of return_to tag) b)) }
 {
     if b == b'x' || b == b'X' {
@@ -291,15 +291,15 @@ fn hexadecimal_start(
     tag: &mut OpenTag,
     out: &mut String,
     b: u8,
-) -> Result<Moved, AllocError>
-    ensures { IfOk result (λ moved. DoesReference moved (string_bytes out.old) (string_bytes out.new) tag.new (string_bytes reference.new.seen) reference.new.code (r.hexadecimal_start_state (return_of return_to tag.old) (string_bytes reference.old.seen) b)) }
+) -> Result<Transition, AllocError>
+    ensures { IfOk result (λ transition. DoesReference transition (string_bytes out.old) (string_bytes out.new) tag.new (string_bytes reference.new.seen) reference.new.code (r.hexadecimal_start_state (return_of return_to tag.old) (string_bytes reference.old.seen) b)) }
 {
     if is_hex_digit(b) {
         reference.code = 0;
         return Ok(again(ReferenceState::Hexadecimal, return_to));
     }
     flush_digitless(return_to, reference.seen.as_str(), tag, out)?;
-    Ok(Moved::Again(returned(return_to)))
+    Ok(Transition::Reconsumed(returned(return_to)))
 }
 
 // 13.2.5.77 Decimal character reference start state
@@ -309,15 +309,15 @@ fn decimal_start(
     tag: &mut OpenTag,
     out: &mut String,
     b: u8,
-) -> Result<Moved, AllocError>
-    ensures { IfOk result (λ moved. DoesCode moved (string_bytes out.old) (string_bytes out.new) tag.new code.new (r.decimal_start_state (return_of return_to tag.old) b)) }
+) -> Result<Transition, AllocError>
+    ensures { IfOk result (λ transition. DoesCode transition (string_bytes out.old) (string_bytes out.new) tag.new code.new (r.decimal_start_state (return_of return_to tag.old) b)) }
 {
     if b.is_ascii_digit() {
         *code = 0;
         return Ok(again(ReferenceState::Decimal, return_to));
     }
     flush_digitless(return_to, "", tag, out)?;
-    Ok(Moved::Again(returned(return_to)))
+    Ok(Transition::Reconsumed(returned(return_to)))
 }
 
 // A number ends here, in a ';' or without one.
@@ -327,12 +327,12 @@ fn behind_digits(
     tag: &mut OpenTag,
     out: &mut String,
     b: u8,
-) -> Result<Moved, AllocError>
-    ensures { IfOk result (λ moved. DoesCode moved (string_bytes out.old) (string_bytes out.new) tag.new code (behind_digits (return_of return_to tag.old) code b)) }
+) -> Result<Transition, AllocError>
+    ensures { IfOk result (λ transition. DoesCode transition (string_bytes out.old) (string_bytes out.new) tag.new code (behind_digits (return_of return_to tag.old) code b)) }
 {
     if b == b';' {
         flush_char(return_to, tag, out, code_point(code))?;
-        return Ok(Moved::Goes(returned(return_to)));
+        return Ok(Transition::Consumed(returned(return_to)));
     }
     note(ParseError::MissingSemicolonAfterCharacterReference);
     Ok(again(ReferenceState::NumericCharacterReferenceEnd, return_to))
@@ -345,8 +345,8 @@ fn hexadecimal(
     tag: &mut OpenTag,
     out: &mut String,
     b: u8,
-) -> Result<Moved, AllocError>
-    ensures { IfOk result (λ moved. DoesCode moved (string_bytes out.old) (string_bytes out.new) tag.new code.new (r.hexadecimal_state (return_of return_to tag.old) code.old b)) }
+) -> Result<Transition, AllocError>
+    ensures { IfOk result (λ transition. DoesCode transition (string_bytes out.old) (string_bytes out.new) tag.new code.new (r.hexadecimal_state (return_of return_to tag.old) code.old b)) }
 {
     if is_hex_digit(b) {
         *code = with_digit(*code, 16, b);
@@ -362,8 +362,8 @@ fn decimal(
     tag: &mut OpenTag,
     out: &mut String,
     b: u8,
-) -> Result<Moved, AllocError>
-    ensures { IfOk result (λ moved. DoesCode moved (string_bytes out.old) (string_bytes out.new) tag.new code.new (r.decimal_state (return_of return_to tag.old) code.old b)) }
+) -> Result<Transition, AllocError>
+    ensures { IfOk result (λ transition. DoesCode transition (string_bytes out.old) (string_bytes out.new) tag.new code.new (r.decimal_state (return_of return_to tag.old) code.old b)) }
 {
     if b.is_ascii_digit() {
         *code = with_digit(*code, 10, b);
@@ -378,11 +378,11 @@ fn numeric_character_reference_end(
     code: u32,
     tag: &mut OpenTag,
     out: &mut String,
-) -> Result<Moved, AllocError>
-    ensures { IfOk result (λ moved. DoesFlush moved (string_bytes out.old) (string_bytes out.new) tag.new (r.numeric_character_reference_end_state (return_of return_to tag.old) code)) }
+) -> Result<Transition, AllocError>
+    ensures { IfOk result (λ transition. DoesFlush transition (string_bytes out.old) (string_bytes out.new) tag.new (r.numeric_character_reference_end_state (return_of return_to tag.old) code)) }
 {
     flush_char(return_to, tag, out, code_point(code))?;
-    Ok(Moved::Again(returned(return_to)))
+    Ok(Transition::Reconsumed(returned(return_to)))
 }
 
 /// The row of a state of character references. What it emits is added to a text.
@@ -393,8 +393,8 @@ pub fn reference_turn(
     tag: &mut OpenTag,
     out: &mut String,
     b: u8,
-) -> Result<Moved, AllocError>
-    ensures { (last : List ℕ) → IfOk result (λ moved. DoesReference moved (string_bytes out.old) (string_bytes out.new) tag.new (string_bytes reference.new.seen) reference.new.code
+) -> Result<Transition, AllocError>
+    ensures { (last : List ℕ) → IfOk result (λ transition. DoesReference transition (string_bytes out.old) (string_bytes out.new) tag.new (string_bytes reference.new.seen) reference.new.code
         (turn references last (reference_state_of state (return_of return_to tag.old) (string_bytes reference.old.seen) reference.old.code) b)) }
 {
     match state {

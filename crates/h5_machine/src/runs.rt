@@ -7,10 +7,11 @@ ghost use Rattle.h5_reading.specs.Lines.{newlines};
 ghost use Rattle.h5_states.specs.Construction as construction;
 ghost use Rattle.h5_machine.specs.Runs.{is_changed, is_in, are_in, run_of, run_of_text, run_of_text_state, run_of_value, run_of_tag, run_of_comment, run_of_doctype, run_of_reference, at_behind, text_behind, doctype_behind, buffer_behind, tag_behind, doctype_text_behind, tag_flushed, text_put, text_flushed};
 
-use super::at::{
-    At, CommentState, DoctypeState, ReferenceState, ReturnTo, TagState, TextState, ValueKind,
-};
 use super::doctypes::{new_doctype, push_doctype_name, push_identifier};
+use super::machine_state::{
+    CommentState, DoctypeState, MachineState, ReferenceState, ReturnTo, TagState, TextState,
+    ValueKind,
+};
 use super::signs::{is_alphanumeric, is_blank, is_name_end, push_lowered, sign_of};
 use super::tag::OpenTag;
 use h5_markup::SharedNames;
@@ -176,15 +177,15 @@ fn run_of_reference(state: ReferenceState) -> Run
 }
 
 /// The run that a state takes.
-pub fn run_of(at: At) -> Run
+pub fn run_of(at: MachineState) -> Run
     ensures { result ≡ run_of at }
 {
     match at {
-        At::Text(state) => run_of_text(state),
-        At::Tag(state) => run_of_tag(state),
-        At::Comment(state) => run_of_comment(state),
-        At::Doctype(state) => run_of_doctype(state),
-        At::Reference(state, _) => run_of_reference(state),
+        MachineState::Text(state) => run_of_text(state),
+        MachineState::Tag(state) => run_of_tag(state),
+        MachineState::Comment(state) => run_of_comment(state),
+        MachineState::Doctype(state) => run_of_doctype(state),
+        MachineState::Reference(state, _) => run_of_reference(state),
     }
 }
 
@@ -264,15 +265,15 @@ fn doctype_behind(state: DoctypeState) -> DoctypeState
 }
 
 /// The state behind a run.
-pub fn at_behind(at: At) -> At
+pub fn at_behind(at: MachineState) -> MachineState
     ensures { result ≡ at_behind at }
 {
     match at {
-        At::Text(state) => At::Text(text_behind(state)),
-        At::Tag(state) => At::Tag(state),
-        At::Comment(state) => At::Comment(state),
-        At::Doctype(state) => At::Doctype(doctype_behind(state)),
-        At::Reference(state, return_to) => At::Reference(state, return_to),
+        MachineState::Text(state) => MachineState::Text(text_behind(state)),
+        MachineState::Tag(state) => MachineState::Tag(state),
+        MachineState::Comment(state) => MachineState::Comment(state),
+        MachineState::Doctype(state) => MachineState::Doctype(doctype_behind(state)),
+        MachineState::Reference(state, return_to) => MachineState::Reference(state, return_to),
     }
 }
 

@@ -4,26 +4,28 @@ ghost use Rattle.std.specs.Prelude.{◌≡◌, ◌<◌, true, IfOk, ℕ, List, s
 ghost use Rattle.h5_states.specs.Machine.{turn};
 ghost use Rattle.h5_states.specs.References.{Reference};
 ghost use Rattle.h5_states.specs.Tags as g;
-ghost use Rattle.h5_machine.specs.DeedOf.{Does, DoesTag, DoesTagOrComment};
+ghost use Rattle.h5_machine.specs.OutcomeOf.{Does, DoesTag, DoesTagOrComment};
 ghost use Rattle.h5_machine.specs.Parts.{Parts};
 ghost use Rattle.h5_machine.specs.StateOf.{tag_state_of, value_of};
 ghost use Rattle.h5_machine.specs.Wide.{tag_takes_wide};
 ghost use Rattle.h5_states.specs.Turn.{hand_tag};
 
-use super::at::{At, CommentState, DATA, ReferenceState, ReturnTo, TagState, ValueKind};
-use super::moved::{Construct, Moved, note, note_if};
+use super::machine_state::{
+    CommentState, DATA, MachineState, ReferenceState, ReturnTo, TagState, ValueKind,
+};
 use super::signs::{REPLACEMENT, is_blank, is_name_end, is_quote, sign_of};
 use super::tag::OpenTag;
+use super::transition::{CurrentToken, Transition, note, note_if};
 use h5_states::{ParseError, Quote, TextKind};
 use h5_token::TagKind;
 use std::alloc::AllocError;
 
 // Emits the current tag token.
-fn hand_tag(tag: &mut OpenTag) -> Result<Moved, AllocError>
-    ensures { IfOk result (λ moved. DoesTag moved tag.new (hand_tag tag.old)) }
+fn hand_tag(tag: &mut OpenTag) -> Result<Transition, AllocError>
+    ensures { IfOk result (λ transition. DoesTag transition tag.new (hand_tag tag.old)) }
 {
     tag.complete()?;
-    Ok(Moved::Hands(Construct::Tag, TextKind::Data))
+    Ok(Transition::Emitted(CurrentToken::Tag, TextKind::Data))
 }
 
 // 13.2.5.6 Tag open state
@@ -32,92 +34,92 @@ fn tag_open(
     comment: &mut String,
     out: &mut String,
     b: u8,
-) -> Result<Moved, AllocError>
-    ensures { IfOk result (λ moved. (parts : Parts) → Does moved (string_bytes out.old) (string_bytes out.new)
+) -> Result<Transition, AllocError>
+    ensures { IfOk result (λ transition. (parts : Parts) → Does transition (string_bytes out.old) (string_bytes out.new)
         (record parts { tag = tag.new; comment = string_bytes comment.new }) (g.tag_open_state b)) }
 {
     match b {
         b'!' => {
             comment.clear();
-            Ok(Moved::Goes(At::Comment(CommentState::MarkupDeclarationOpen)))
+            Ok(Transition::Consumed(MachineState::Comment(CommentState::MarkupDeclarationOpen)))
         }
-        b'/' => Ok(Moved::Goes(At::Tag(TagState::EndTagOpen))),
+        b'/' => Ok(Transition::Consumed(MachineState::Tag(TagState::EndTagOpen))),
         b'?' => {
             note(ParseError::UnexpectedQuestionMarkInsteadOfTagName);
             comment.clear();
-            Ok(Moved::Again(At::Comment(CommentState::BogusComment)))
+            Ok(Transition::Reconsumed(MachineState::Comment(CommentState::BogusComment)))
         }
         _ => {
             if b.is_ascii_alphabetic() {
                 tag.begin(TagKind::StartTag);
-                return Ok(Moved::Again(At::Tag(TagState::TagName)));
+                return Ok(Transition::Reconsumed(MachineState::Tag(TagState::TagName)));
             }
             note(ParseError::InvalidFirstCharacterOfTagName);
             out.push_str("<")?;
-            Ok(Moved::Again(DATA))
+            Ok(Transition::Reconsumed(DATA))
         }
     }
 }
 
 // 13.2.5.7 End tag open state
-fn end_tag_open(tag: &mut OpenTag, comment: &mut String, b: u8) -> Moved
+fn end_tag_open(tag: &mut OpenTag, comment: &mut String, b: u8) -> Transition
     ensures { DoesTagOrComment result tag.new (string_bytes comment.new) (g.end_tag_open_state b) }
 {
     if b.is_ascii_alphabetic() {
         tag.begin(TagKind::EndTag);
-        return Moved::Again(At::Tag(TagState::TagName));
+        return Transition::Reconsumed(MachineState::Tag(TagState::TagName));
     }
     if b == b'>' {
         note(ParseError::MissingEndTagName);
-        return Moved::Goes(DATA);
+        return Transition::Consumed(DATA);
     }
     note(ParseError::InvalidFirstCharacterOfTagName);
     comment.clear();
-    Moved::Again(At::Comment(CommentState::BogusComment))
+    Transition::Reconsumed(MachineState::Comment(CommentState::BogusComment))
 }
 
 // 13.2.5.8 Tag name state
-fn tag_name(tag: &mut OpenTag, b: u8) -> Result<Moved, AllocError>
+fn tag_name(tag: &mut OpenTag, b: u8) -> Result<Transition, AllocError>
     requires { b < 128 }
-    ensures { IfOk result (λ moved. DoesTag moved tag.new (g.tag_name_state tag.old b)) }
+    ensures { IfOk result (λ transition. DoesTag transition tag.new (g.tag_name_state tag.old b)) }
 {
     if is_blank(b) {
-        return Ok(Moved::Goes(At::Tag(TagState::BeforeAttributeName)));
+        return Ok(Transition::Consumed(MachineState::Tag(TagState::BeforeAttributeName)));
     }
     match b {
-        b'/' => Ok(Moved::Goes(At::Tag(TagState::SelfClosingStartTag))),
+        b'/' => Ok(Transition::Consumed(MachineState::Tag(TagState::SelfClosingStartTag))),
         b'>' => hand_tag(tag),
         0 => {
             note(ParseError::UnexpectedNullCharacter);
             tag.push_name(REPLACEMENT)?;
-            Ok(Moved::Goes(At::Tag(TagState::TagName)))
+            Ok(Transition::Consumed(MachineState::Tag(TagState::TagName)))
         }
         _ => {
             tag.push_name_byte(b)?;
-            Ok(Moved::Goes(At::Tag(TagState::TagName)))
+            Ok(Transition::Consumed(MachineState::Tag(TagState::TagName)))
         }
     }
 }
 
 // 13.2.5.32 Before attribute name state
-fn before_attribute_name(tag: &mut OpenTag, b: u8) -> Result<Moved, AllocError>
-    ensures { IfOk result (λ moved. DoesTag moved tag.new (g.before_attribute_name_state tag.old b)) }
+fn before_attribute_name(tag: &mut OpenTag, b: u8) -> Result<Transition, AllocError>
+    ensures { IfOk result (λ transition. DoesTag transition tag.new (g.before_attribute_name_state tag.old b)) }
 {
     if is_blank(b) {
-        return Ok(Moved::Goes(At::Tag(TagState::BeforeAttributeName)));
+        return Ok(Transition::Consumed(MachineState::Tag(TagState::BeforeAttributeName)));
     }
     match b {
-        b'/' => Ok(Moved::Again(At::Tag(TagState::AfterAttributeName))),
-        b'>' => Ok(Moved::Again(At::Tag(TagState::AfterAttributeName))),
+        b'/' => Ok(Transition::Reconsumed(MachineState::Tag(TagState::AfterAttributeName))),
+        b'>' => Ok(Transition::Reconsumed(MachineState::Tag(TagState::AfterAttributeName))),
         b'=' => {
             note(ParseError::UnexpectedEqualsSignBeforeAttributeName);
             tag.begin_attribute()?;
             tag.push_attribute_byte(b)?;
-            Ok(Moved::Goes(At::Tag(TagState::AttributeName)))
+            Ok(Transition::Consumed(MachineState::Tag(TagState::AttributeName)))
         }
         _ => {
             tag.begin_attribute()?;
-            Ok(Moved::Again(At::Tag(TagState::AttributeName)))
+            Ok(Transition::Reconsumed(MachineState::Tag(TagState::AttributeName)))
         }
     }
 }
@@ -129,15 +131,15 @@ fn is_odd_in_name(b: u8) -> bool
 }
 
 // 13.2.5.33 Attribute name state: where it is left, a name that stands there already is an error
-fn attribute_name(tag: &mut OpenTag, b: u8) -> Result<Moved, AllocError>
+fn attribute_name(tag: &mut OpenTag, b: u8) -> Result<Transition, AllocError>
     requires { b < 128 }
-    ensures { IfOk result (λ moved. DoesTag moved tag.new (g.attribute_name_state tag.old b)) }
+    ensures { IfOk result (λ transition. DoesTag transition tag.new (g.attribute_name_state tag.old b)) }
 {
     if is_name_end(b) {
-        return Ok(Moved::Again(At::Tag(TagState::AfterAttributeName)));
+        return Ok(Transition::Reconsumed(MachineState::Tag(TagState::AfterAttributeName)));
     }
     if b == b'=' {
-        return Ok(Moved::Goes(At::Tag(TagState::BeforeAttributeValue)));
+        return Ok(Transition::Consumed(MachineState::Tag(TagState::BeforeAttributeValue)));
     }
     if b == 0 {
         note(ParseError::UnexpectedNullCharacter);
@@ -149,73 +151,73 @@ fn attribute_name(tag: &mut OpenTag, b: u8) -> Result<Moved, AllocError>
         );
         tag.push_attribute_byte(b)?;
     }
-    Ok(Moved::Goes(At::Tag(TagState::AttributeName)))
+    Ok(Transition::Consumed(MachineState::Tag(TagState::AttributeName)))
 }
 
 // 13.2.5.34 After attribute name state
-fn after_attribute_name(tag: &mut OpenTag, b: u8) -> Result<Moved, AllocError>
-    ensures { IfOk result (λ moved. DoesTag moved tag.new (g.after_attribute_name_state tag.old b)) }
+fn after_attribute_name(tag: &mut OpenTag, b: u8) -> Result<Transition, AllocError>
+    ensures { IfOk result (λ transition. DoesTag transition tag.new (g.after_attribute_name_state tag.old b)) }
 {
     if is_blank(b) {
-        return Ok(Moved::Goes(At::Tag(TagState::AfterAttributeName)));
+        return Ok(Transition::Consumed(MachineState::Tag(TagState::AfterAttributeName)));
     }
     match b {
-        b'/' => Ok(Moved::Goes(At::Tag(TagState::SelfClosingStartTag))),
-        b'=' => Ok(Moved::Goes(At::Tag(TagState::BeforeAttributeValue))),
+        b'/' => Ok(Transition::Consumed(MachineState::Tag(TagState::SelfClosingStartTag))),
+        b'=' => Ok(Transition::Consumed(MachineState::Tag(TagState::BeforeAttributeValue))),
         b'>' => hand_tag(tag),
         _ => {
             tag.begin_attribute()?;
-            Ok(Moved::Again(At::Tag(TagState::AttributeName)))
+            Ok(Transition::Reconsumed(MachineState::Tag(TagState::AttributeName)))
         }
     }
 }
 
-fn value(kind: ValueKind) -> At
-    ensures { result ≡ At.Tag (TagState.AttributeValue kind) }
+fn value(kind: ValueKind) -> MachineState
+    ensures { result ≡ MachineState.Tag (TagState.AttributeValue kind) }
 {
-    At::Tag(TagState::AttributeValue(kind))
+    MachineState::Tag(TagState::AttributeValue(kind))
 }
 
 // 13.2.5.35 Before attribute value state
-fn before_attribute_value(tag: &mut OpenTag, b: u8) -> Result<Moved, AllocError>
-    ensures { IfOk result (λ moved. DoesTag moved tag.new (g.before_attribute_value_state tag.old b)) }
+fn before_attribute_value(tag: &mut OpenTag, b: u8) -> Result<Transition, AllocError>
+    ensures { IfOk result (λ transition. DoesTag transition tag.new (g.before_attribute_value_state tag.old b)) }
 {
     if is_blank(b) {
-        return Ok(Moved::Goes(At::Tag(TagState::BeforeAttributeValue)));
+        return Ok(Transition::Consumed(MachineState::Tag(TagState::BeforeAttributeValue)));
     }
     match b {
-        b'"' => Ok(Moved::Goes(value(ValueKind::Quoted(Quote::Double)))),
-        b'\'' => Ok(Moved::Goes(value(ValueKind::Quoted(Quote::Single)))),
+        b'"' => Ok(Transition::Consumed(value(ValueKind::Quoted(Quote::Double)))),
+        b'\'' => Ok(Transition::Consumed(value(ValueKind::Quoted(Quote::Single)))),
         b'>' => {
             note(ParseError::MissingAttributeValue);
             hand_tag(tag)
         }
-        _ => Ok(Moved::Again(value(ValueKind::Unquoted))),
+        _ => Ok(Transition::Reconsumed(value(ValueKind::Unquoted))),
     }
 }
 
 // 13.2.5.36, 37: Attribute value (double-quoted) and (single-quoted) state
-fn attribute_value_quoted(quote: Quote, tag: &mut OpenTag, b: u8) -> Result<Moved, AllocError>
+fn attribute_value_quoted(quote: Quote, tag: &mut OpenTag, b: u8) -> Result<Transition, AllocError>
     requires { b < 128 }
-    ensures { IfOk result (λ moved. DoesTag moved tag.new (g.attribute_value_quoted_state quote tag.old b)) }
+    ensures { IfOk result (λ transition. DoesTag transition tag.new (g.attribute_value_quoted_state quote tag.old b)) }
 {
     let kind = ValueKind::Quoted(quote);
     if b == sign_of(quote) {
-        return Ok(Moved::Goes(At::Tag(TagState::AfterAttributeValueQuoted)));
+        return Ok(Transition::Consumed(MachineState::Tag(TagState::AfterAttributeValueQuoted)));
     }
     match b {
-        b'&' => Ok(Moved::Goes(At::Reference(
+        b'&' => Ok(Transition::Consumed(MachineState::Reference(
             ReferenceState::CharacterReference,
             ReturnTo::Value(kind),
         ))),
         0 => {
             note(ParseError::UnexpectedNullCharacter);
             tag.push_value(REPLACEMENT)?;
-            Ok(Moved::Goes(value(kind)))
+            Ok(Transition::Consumed(value(kind)))
         }
         _ => {
             tag.push_value_byte(b)?;
-            Ok(Moved::Goes(value(kind)))
+            Ok(Transition::Consumed(value(kind)))
         }
     }
 }
@@ -227,15 +229,15 @@ fn is_odd_in_value(b: u8) -> bool
 }
 
 // 13.2.5.38 Attribute value (unquoted) state
-fn attribute_value_unquoted(tag: &mut OpenTag, b: u8) -> Result<Moved, AllocError>
+fn attribute_value_unquoted(tag: &mut OpenTag, b: u8) -> Result<Transition, AllocError>
     requires { b < 128 }
-    ensures { IfOk result (λ moved. DoesTag moved tag.new (g.attribute_value_unquoted_state tag.old b)) }
+    ensures { IfOk result (λ transition. DoesTag transition tag.new (g.attribute_value_unquoted_state tag.old b)) }
 {
     if is_blank(b) {
-        return Ok(Moved::Goes(At::Tag(TagState::BeforeAttributeName)));
+        return Ok(Transition::Consumed(MachineState::Tag(TagState::BeforeAttributeName)));
     }
     match b {
-        b'&' => Ok(Moved::Goes(At::Reference(
+        b'&' => Ok(Transition::Consumed(MachineState::Reference(
             ReferenceState::CharacterReference,
             ReturnTo::Value(ValueKind::Unquoted),
         ))),
@@ -243,7 +245,7 @@ fn attribute_value_unquoted(tag: &mut OpenTag, b: u8) -> Result<Moved, AllocErro
         0 => {
             note(ParseError::UnexpectedNullCharacter);
             tag.push_value(REPLACEMENT)?;
-            Ok(Moved::Goes(value(ValueKind::Unquoted)))
+            Ok(Transition::Consumed(value(ValueKind::Unquoted)))
         }
         _ => {
             note_if(
@@ -251,14 +253,14 @@ fn attribute_value_unquoted(tag: &mut OpenTag, b: u8) -> Result<Moved, AllocErro
                 ParseError::UnexpectedCharacterInUnquotedAttributeValue,
             );
             tag.push_value_byte(b)?;
-            Ok(Moved::Goes(value(ValueKind::Unquoted)))
+            Ok(Transition::Consumed(value(ValueKind::Unquoted)))
         }
     }
 }
 
-fn attribute_value(kind: ValueKind, tag: &mut OpenTag, b: u8) -> Result<Moved, AllocError>
+fn attribute_value(kind: ValueKind, tag: &mut OpenTag, b: u8) -> Result<Transition, AllocError>
     requires { b < 128 }
-    ensures { IfOk result (λ moved. DoesTag moved tag.new (g.attribute_value_state (value_of kind) tag.old b)) }
+    ensures { IfOk result (λ transition. DoesTag transition tag.new (g.attribute_value_state (value_of kind) tag.old b)) }
 {
     match kind {
         ValueKind::Quoted(quote) => attribute_value_quoted(quote, tag, b),
@@ -267,32 +269,32 @@ fn attribute_value(kind: ValueKind, tag: &mut OpenTag, b: u8) -> Result<Moved, A
 }
 
 // 13.2.5.39 After attribute value (quoted) state
-fn after_attribute_value_quoted(tag: &mut OpenTag, b: u8) -> Result<Moved, AllocError>
-    ensures { IfOk result (λ moved. DoesTag moved tag.new (g.after_attribute_value_quoted_state tag.old b)) }
+fn after_attribute_value_quoted(tag: &mut OpenTag, b: u8) -> Result<Transition, AllocError>
+    ensures { IfOk result (λ transition. DoesTag transition tag.new (g.after_attribute_value_quoted_state tag.old b)) }
 {
     if is_blank(b) {
-        return Ok(Moved::Goes(At::Tag(TagState::BeforeAttributeName)));
+        return Ok(Transition::Consumed(MachineState::Tag(TagState::BeforeAttributeName)));
     }
     match b {
-        b'/' => Ok(Moved::Goes(At::Tag(TagState::SelfClosingStartTag))),
+        b'/' => Ok(Transition::Consumed(MachineState::Tag(TagState::SelfClosingStartTag))),
         b'>' => hand_tag(tag),
         _ => {
             note(ParseError::MissingWhitespaceBetweenAttributes);
-            Ok(Moved::Again(At::Tag(TagState::BeforeAttributeName)))
+            Ok(Transition::Reconsumed(MachineState::Tag(TagState::BeforeAttributeName)))
         }
     }
 }
 
 // 13.2.5.40 Self-closing start tag state
-fn self_closing_start_tag(tag: &mut OpenTag, b: u8) -> Result<Moved, AllocError>
-    ensures { IfOk result (λ moved. DoesTag moved tag.new (g.self_closing_start_tag_state tag.old b)) }
+fn self_closing_start_tag(tag: &mut OpenTag, b: u8) -> Result<Transition, AllocError>
+    ensures { IfOk result (λ transition. DoesTag transition tag.new (g.self_closing_start_tag_state tag.old b)) }
 {
     if b == b'>' {
         tag.close_itself();
         return hand_tag(tag);
     }
     note(ParseError::UnexpectedSolidusInTag);
-    Ok(Moved::Again(At::Tag(TagState::BeforeAttributeName)))
+    Ok(Transition::Reconsumed(MachineState::Tag(TagState::BeforeAttributeName)))
 }
 
 /// The row of a state of tags. What it emits is added to a text.
@@ -302,9 +304,9 @@ pub fn tag_turn(
     comment: &mut String,
     out: &mut String,
     b: u8,
-) -> Result<Moved, AllocError>
+) -> Result<Transition, AllocError>
     requires { tag_takes_wide state ≡ true → b < 128 }
-    ensures { (table : List Reference) (last : List ℕ) → IfOk result (λ moved. (parts : Parts) → Does moved (string_bytes out.old) (string_bytes out.new)
+    ensures { (table : List Reference) (last : List ℕ) → IfOk result (λ transition. (parts : Parts) → Does transition (string_bytes out.old) (string_bytes out.new)
         (record parts { tag = tag.new; comment = string_bytes comment.new }) (turn table last (tag_state_of state tag.old) b)) }
 {
     match state {

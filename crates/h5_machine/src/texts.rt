@@ -11,110 +11,121 @@ ghost use Rattle.h5_machine.specs.Parts.{Parts};
 ghost use Rattle.h5_machine.specs.Signs.{cleaned};
 ghost use Rattle.h5_machine.specs.StateOf.{state_of, text_state_of};
 ghost use Rattle.h5_machine.specs.Wide.{text_takes_wide};
-ghost use Rattle.h5_machine.specs.DeedOf.{Does, DoesTag, DoesText, DoesBuffer, end_tag_behind, plain_less_than_sign_state};
+ghost use Rattle.h5_machine.specs.OutcomeOf.{Does, DoesTag, DoesText, DoesBuffer, end_tag_behind, plain_less_than_sign_state};
 
-use super::at::{At, DATA, ReferenceState, ReturnTo, TagState, TextState, text, text_of};
-use super::moved::{Construct, Moved, note, note_if};
+use super::machine_state::{
+    DATA, MachineState, ReferenceState, ReturnTo, TagState, TextState, text, text_of,
+};
 use super::signs::{is_blank, is_lowered, is_name_end, push_byte, push_cleaned};
 use super::tag::OpenTag;
+use super::transition::{CurrentToken, Transition, note, note_if};
 use h5_reading::LastName;
 use h5_states::{Escape, ParseError, RawTextKind, TextKind};
 use h5_token::TagKind;
 use std::alloc::AllocError;
 
 // 13.2.5.1 Data state
-fn data(out: &mut String, b: u8) -> Result<Moved, AllocError>
+fn data(out: &mut String, b: u8) -> Result<Transition, AllocError>
     requires { b < 128 }
-    ensures { IfOk result (λ moved. DoesText moved (string_bytes out.old) (string_bytes out.new) (t.data_state b)) }
+    ensures { IfOk result (λ transition. DoesText transition (string_bytes out.old) (string_bytes out.new) (t.data_state b)) }
 {
     match b {
-        b'&' => Ok(Moved::Goes(At::Reference(ReferenceState::CharacterReference, ReturnTo::Data))),
-        b'<' => Ok(Moved::Goes(At::Tag(TagState::TagOpen))),
+        b'&' => Ok(Transition::Consumed(MachineState::Reference(
+            ReferenceState::CharacterReference,
+            ReturnTo::Data,
+        ))),
+        b'<' => Ok(Transition::Consumed(MachineState::Tag(TagState::TagOpen))),
         0 => {
             note(ParseError::UnexpectedNullCharacter);
-            Ok(Moved::Hands(Construct::Null, TextKind::Data))
+            Ok(Transition::Emitted(CurrentToken::Null, TextKind::Data))
         }
         _ => {
             push_byte(out, b)?;
-            Ok(Moved::Goes(DATA))
+            Ok(Transition::Consumed(DATA))
         }
     }
 }
 
 // A text in which NUL is replaced.
-fn replacing(out: &mut String, b: u8, state: TextState) -> Result<Moved, AllocError>
+fn replacing(out: &mut String, b: u8, state: TextState) -> Result<Transition, AllocError>
     requires { b < 128 }
-    ensures moved { IfOk result (λ moved. moved ≡ Moved.Goes (At.Text state)) }
+    ensures transition { IfOk result (λ transition. transition ≡ Transition.Consumed (MachineState.Text state)) }
     ensures text { OnOk result (string_bytes out.new ≡ string_bytes out.old ++ cleaned b) }
 {
     note_if(b == 0, ParseError::UnexpectedNullCharacter);
     push_cleaned(out, b)?;
-    Ok(Moved::Goes(At::Text(state)))
+    Ok(Transition::Consumed(MachineState::Text(state)))
 }
 
 // 13.2.5.2 RCDATA state
-fn rcdata(out: &mut String, b: u8) -> Result<Moved, AllocError>
+fn rcdata(out: &mut String, b: u8) -> Result<Transition, AllocError>
     requires { b < 128 }
-    ensures { IfOk result (λ moved. DoesText moved (string_bytes out.old) (string_bytes out.new) (t.rcdata_state b)) }
+    ensures { IfOk result (λ transition. DoesText transition (string_bytes out.old) (string_bytes out.new) (t.rcdata_state b)) }
 {
     match b {
-        b'&' => Ok(Moved::Goes(At::Reference(
+        b'&' => Ok(Transition::Consumed(MachineState::Reference(
             ReferenceState::CharacterReference,
             ReturnTo::Rcdata,
         ))),
-        b'<' => Ok(Moved::Goes(At::Text(TextState::RawLessThanSign(RawTextKind::Rcdata)))),
+        b'<' => Ok(Transition::Consumed(MachineState::Text(TextState::RawLessThanSign(
+            RawTextKind::Rcdata,
+        )))),
         _ => replacing(out, b, TextState::Text(TextKind::Rcdata)),
     }
 }
 
 // 13.2.5.3 RAWTEXT state
-fn rawtext(out: &mut String, b: u8) -> Result<Moved, AllocError>
+fn rawtext(out: &mut String, b: u8) -> Result<Transition, AllocError>
     requires { b < 128 }
-    ensures { IfOk result (λ moved. DoesText moved (string_bytes out.old) (string_bytes out.new) (t.rawtext_state b)) }
+    ensures { IfOk result (λ transition. DoesText transition (string_bytes out.old) (string_bytes out.new) (t.rawtext_state b)) }
 {
     match b {
-        b'<' => Ok(Moved::Goes(At::Text(TextState::RawLessThanSign(RawTextKind::Rawtext)))),
+        b'<' => Ok(Transition::Consumed(MachineState::Text(TextState::RawLessThanSign(
+            RawTextKind::Rawtext,
+        )))),
         _ => replacing(out, b, TextState::Text(TextKind::Rawtext)),
     }
 }
 
 // 13.2.5.4 Script data state
-fn script_data(out: &mut String, b: u8) -> Result<Moved, AllocError>
+fn script_data(out: &mut String, b: u8) -> Result<Transition, AllocError>
     requires { b < 128 }
-    ensures { IfOk result (λ moved. DoesText moved (string_bytes out.old) (string_bytes out.new) (t.script_data_state b)) }
+    ensures { IfOk result (λ transition. DoesText transition (string_bytes out.old) (string_bytes out.new) (t.script_data_state b)) }
 {
     match b {
-        b'<' => Ok(Moved::Goes(At::Text(TextState::RawLessThanSign(RawTextKind::ScriptData)))),
+        b'<' => Ok(Transition::Consumed(MachineState::Text(TextState::RawLessThanSign(
+            RawTextKind::ScriptData,
+        )))),
         _ => replacing(out, b, TextState::Text(TextKind::ScriptData)),
     }
 }
 
 // 13.2.5.5 PLAINTEXT state
-fn plaintext(out: &mut String, b: u8) -> Result<Moved, AllocError>
+fn plaintext(out: &mut String, b: u8) -> Result<Transition, AllocError>
     requires { b < 128 }
-    ensures { IfOk result (λ moved. DoesText moved (string_bytes out.old) (string_bytes out.new) (t.plaintext_state b)) }
+    ensures { IfOk result (λ transition. DoesText transition (string_bytes out.old) (string_bytes out.new) (t.plaintext_state b)) }
 {
     replacing(out, b, TextState::Text(TextKind::Plaintext))
 }
 
 // 13.2.5.69 CDATA section state: a NUL goes to the tree builder as it is
-fn cdata_section(out: &mut String, b: u8) -> Result<Moved, AllocError>
+fn cdata_section(out: &mut String, b: u8) -> Result<Transition, AllocError>
     requires { b < 128 }
-    ensures { IfOk result (λ moved. DoesText moved (string_bytes out.old) (string_bytes out.new) (t.cdata_section_state b)) }
+    ensures { IfOk result (λ transition. DoesText transition (string_bytes out.old) (string_bytes out.new) (t.cdata_section_state b)) }
 {
     match b {
-        b']' => Ok(Moved::Goes(At::Text(TextState::CdataSectionBracket))),
-        0 => Ok(Moved::Hands(Construct::Null, TextKind::CdataSection)),
+        b']' => Ok(Transition::Consumed(MachineState::Text(TextState::CdataSectionBracket))),
+        0 => Ok(Transition::Emitted(CurrentToken::Null, TextKind::CdataSection)),
         _ => {
             push_byte(out, b)?;
-            Ok(Moved::Goes(text(TextKind::CdataSection)))
+            Ok(Transition::Consumed(text(TextKind::CdataSection)))
         }
     }
 }
 
-fn any_text(kind: TextKind, out: &mut String, b: u8) -> Result<Moved, AllocError>
+fn any_text(kind: TextKind, out: &mut String, b: u8) -> Result<Transition, AllocError>
     requires { b < 128 }
-    ensures { IfOk result (λ moved. DoesText moved (string_bytes out.old) (string_bytes out.new) (t.text_state kind b)) }
+    ensures { IfOk result (λ transition. DoesText transition (string_bytes out.old) (string_bytes out.new) (t.text_state kind b)) }
 {
     match kind {
         TextKind::Data => data(out, b),
@@ -127,46 +138,60 @@ fn any_text(kind: TextKind, out: &mut String, b: u8) -> Result<Moved, AllocError
 }
 
 // 13.2.5.9, 12: RCDATA and RAWTEXT less-than sign state
-fn plain_less_than_sign(kind: RawTextKind, out: &mut String, b: u8) -> Result<Moved, AllocError>
-    ensures { IfOk result (λ moved. DoesText moved (string_bytes out.old) (string_bytes out.new) (plain_less_than_sign_state kind b)) }
+fn plain_less_than_sign(
+    kind: RawTextKind,
+    out: &mut String,
+    b: u8,
+) -> Result<Transition, AllocError>
+    ensures { IfOk result (λ transition. DoesText transition (string_bytes out.old) (string_bytes out.new) (plain_less_than_sign_state kind b)) }
 {
     if b == b'/' {
-        return Ok(Moved::Goes(At::Text(TextState::RawEndTagOpen(kind))));
+        return Ok(Transition::Consumed(MachineState::Text(TextState::RawEndTagOpen(kind))));
     }
     out.push_str("<")?;
-    Ok(Moved::Again(text_of(kind)))
+    Ok(Transition::Reconsumed(text_of(kind)))
 }
 
 // 13.2.5.15 Script data less-than sign state
-fn script_data_less_than_sign(out: &mut String, b: u8) -> Result<Moved, AllocError>
-    ensures { IfOk result (λ moved. DoesText moved (string_bytes out.old) (string_bytes out.new) (t.raw_less_than_sign_state RawTextKind.ScriptData b)) }
+fn script_data_less_than_sign(out: &mut String, b: u8) -> Result<Transition, AllocError>
+    ensures { IfOk result (λ transition. DoesText transition (string_bytes out.old) (string_bytes out.new) (t.raw_less_than_sign_state RawTextKind.ScriptData b)) }
 {
     match b {
-        b'/' => Ok(Moved::Goes(At::Text(TextState::RawEndTagOpen(RawTextKind::ScriptData)))),
+        b'/' => Ok(Transition::Consumed(MachineState::Text(TextState::RawEndTagOpen(
+            RawTextKind::ScriptData,
+        )))),
         b'!' => {
             out.push_str("<!")?;
-            Ok(Moved::Goes(At::Text(TextState::ScriptDataEscapeStart)))
+            Ok(Transition::Consumed(MachineState::Text(TextState::ScriptDataEscapeStart)))
         }
         _ => {
             out.push_str("<")?;
-            Ok(Moved::Again(text(TextKind::ScriptData)))
+            Ok(Transition::Reconsumed(text(TextKind::ScriptData)))
         }
     }
 }
 
 // 13.2.5.23 Script data escaped less-than sign state
-fn escaped_less_than_sign(buffer: &mut String, out: &mut String, b: u8) -> Result<Moved, AllocError>
-    ensures { IfOk result (λ moved. DoesBuffer moved (string_bytes out.old) (string_bytes out.new) (string_bytes buffer.new) (t.raw_less_than_sign_state RawTextKind.EscapedScriptData b)) }
+fn escaped_less_than_sign(
+    buffer: &mut String,
+    out: &mut String,
+    b: u8,
+) -> Result<Transition, AllocError>
+    ensures { IfOk result (λ transition. DoesBuffer transition (string_bytes out.old) (string_bytes out.new) (string_bytes buffer.new) (t.raw_less_than_sign_state RawTextKind.EscapedScriptData b)) }
 {
     if b == b'/' {
-        return Ok(Moved::Goes(At::Text(TextState::RawEndTagOpen(RawTextKind::EscapedScriptData))));
+        return Ok(Transition::Consumed(MachineState::Text(TextState::RawEndTagOpen(
+            RawTextKind::EscapedScriptData,
+        ))));
     }
     out.push_str("<")?;
     if b.is_ascii_alphabetic() {
         buffer.clear();
-        return Ok(Moved::Again(At::Text(TextState::ScriptDataDoubleEscapeStart)));
+        return Ok(Transition::Reconsumed(MachineState::Text(
+            TextState::ScriptDataDoubleEscapeStart,
+        )));
     }
-    Ok(Moved::Again(At::Text(TextState::ScriptDataEscaped(Escape::Escaped))))
+    Ok(Transition::Reconsumed(MachineState::Text(TextState::ScriptDataEscaped(Escape::Escaped))))
 }
 
 // 13.2.5.9, 12, 15, 23: RCDATA, RAWTEXT, Script data and Script data escaped less-than sign state
@@ -175,8 +200,8 @@ fn raw_less_than_sign(
     buffer: &mut String,
     out: &mut String,
     b: u8,
-) -> Result<Moved, AllocError>
-    ensures { IfOk result (λ moved. DoesBuffer moved (string_bytes out.old) (string_bytes out.new) (string_bytes buffer.new) (t.raw_less_than_sign_state kind b)) }
+) -> Result<Transition, AllocError>
+    ensures { IfOk result (λ transition. DoesBuffer transition (string_bytes out.old) (string_bytes out.new) (string_bytes buffer.new) (t.raw_less_than_sign_state kind b)) }
 {
     match kind {
         RawTextKind::ScriptData => script_data_less_than_sign(out, b),
@@ -192,15 +217,15 @@ fn raw_end_tag_open(
     buffer: &mut String,
     out: &mut String,
     b: u8,
-) -> Result<Moved, AllocError>
-    ensures { IfOk result (λ moved. DoesBuffer moved (string_bytes out.old) (string_bytes out.new) (string_bytes buffer.new) (t.raw_end_tag_open_state kind b)) }
+) -> Result<Transition, AllocError>
+    ensures { IfOk result (λ transition. DoesBuffer transition (string_bytes out.old) (string_bytes out.new) (string_bytes buffer.new) (t.raw_end_tag_open_state kind b)) }
 {
     if b.is_ascii_alphabetic() {
         buffer.clear();
-        return Ok(Moved::Again(At::Text(TextState::RawEndTagName(kind))));
+        return Ok(Transition::Reconsumed(MachineState::Text(TextState::RawEndTagName(kind))));
     }
     out.push_str("</")?;
-    Ok(Moved::Again(text_of(kind)))
+    Ok(Transition::Reconsumed(text_of(kind)))
 }
 
 // Whether an end tag token of this name is appropriate: there was a start tag, and the last one has this name.
@@ -212,18 +237,18 @@ fn is_appropriate(last: &LastName, buffer: &String) -> bool
 }
 
 // An appropriate end tag, whose name ends in this byte.
-fn appropriate_end_tag(tag: &mut OpenTag, name: &str, b: u8) -> Result<Moved, AllocError>
-    ensures { IfOk result (λ moved. DoesTag moved tag.new (end_tag_behind name.now b)) }
+fn appropriate_end_tag(tag: &mut OpenTag, name: &str, b: u8) -> Result<Transition, AllocError>
+    ensures { IfOk result (λ transition. DoesTag transition tag.new (end_tag_behind name.now b)) }
 {
     tag.begin(TagKind::EndTag);
     tag.push_name(name)?;
     if is_blank(b) {
-        return Ok(Moved::Goes(At::Tag(TagState::BeforeAttributeName)));
+        return Ok(Transition::Consumed(MachineState::Tag(TagState::BeforeAttributeName)));
     }
     if b == b'/' {
-        return Ok(Moved::Goes(At::Tag(TagState::SelfClosingStartTag)));
+        return Ok(Transition::Consumed(MachineState::Tag(TagState::SelfClosingStartTag)));
     }
-    Ok(Moved::Hands(Construct::Tag, TextKind::Data))
+    Ok(Transition::Emitted(CurrentToken::Tag, TextKind::Data))
 }
 
 // Whether this byte ends the name of an appropriate end tag.
@@ -242,68 +267,72 @@ fn raw_end_tag_name(
     tag: &mut OpenTag,
     out: &mut String,
     b: u8,
-) -> Result<Moved, AllocError>
-    ensures { IfOk result (λ moved. (parts : Parts) → Does moved (string_bytes out.old) (string_bytes out.new)
+) -> Result<Transition, AllocError>
+    ensures { IfOk result (λ transition. (parts : Parts) → Does transition (string_bytes out.old) (string_bytes out.new)
         (record parts { buffer = string_bytes buffer.new; tag = tag.new }) (t.raw_end_tag_name_state last.now kind (string_bytes buffer.old) b)) }
 {
     if b.is_ascii_alphabetic() {
         push_byte(buffer, b)?;
-        return Ok(Moved::Goes(At::Text(TextState::RawEndTagName(kind))));
+        return Ok(Transition::Consumed(MachineState::Text(TextState::RawEndTagName(kind))));
     }
     if ends_end_tag(last, buffer, b) {
         return appropriate_end_tag(tag, buffer.as_str(), b);
     }
     out.push_str("</")?;
     out.push_str(buffer.as_str())?;
-    Ok(Moved::Again(text_of(kind)))
+    Ok(Transition::Reconsumed(text_of(kind)))
 }
 
 // 13.2.5.18 Script data escape start state
-fn script_data_escape_start(out: &mut String, b: u8) -> Result<Moved, AllocError>
-    ensures { IfOk result (λ moved. DoesText moved (string_bytes out.old) (string_bytes out.new) (t.script_data_escape_start_state b)) }
+fn script_data_escape_start(out: &mut String, b: u8) -> Result<Transition, AllocError>
+    ensures { IfOk result (λ transition. DoesText transition (string_bytes out.old) (string_bytes out.new) (t.script_data_escape_start_state b)) }
 {
     if b == b'-' {
         out.push_str("-")?;
-        return Ok(Moved::Goes(At::Text(TextState::ScriptDataEscapeStartDash)));
+        return Ok(Transition::Consumed(MachineState::Text(TextState::ScriptDataEscapeStartDash)));
     }
-    Ok(Moved::Again(text(TextKind::ScriptData)))
+    Ok(Transition::Reconsumed(text(TextKind::ScriptData)))
 }
 
 // 13.2.5.19 Script data escape start dash state
-fn script_data_escape_start_dash(out: &mut String, b: u8) -> Result<Moved, AllocError>
-    ensures { IfOk result (λ moved. DoesText moved (string_bytes out.old) (string_bytes out.new) (t.script_data_escape_start_dash_state b)) }
+fn script_data_escape_start_dash(out: &mut String, b: u8) -> Result<Transition, AllocError>
+    ensures { IfOk result (λ transition. DoesText transition (string_bytes out.old) (string_bytes out.new) (t.script_data_escape_start_dash_state b)) }
 {
     if b == b'-' {
         out.push_str("-")?;
-        return Ok(Moved::Goes(At::Text(TextState::ScriptDataEscapedDashDash(Escape::Escaped))));
+        return Ok(Transition::Consumed(MachineState::Text(TextState::ScriptDataEscapedDashDash(
+            Escape::Escaped,
+        ))));
     }
-    Ok(Moved::Again(text(TextKind::ScriptData)))
+    Ok(Transition::Reconsumed(text(TextKind::ScriptData)))
 }
 
 // A '<' in an escaped script, and in a script escaped twice.
-fn less_than_sign(depth: Escape, out: &mut String) -> Result<Moved, AllocError>
-    ensures { IfOk result (λ moved. DoesText moved (string_bytes out.old) (string_bytes out.new) (t.escaped_less_than_sign depth)) }
+fn less_than_sign(depth: Escape, out: &mut String) -> Result<Transition, AllocError>
+    ensures { IfOk result (λ transition. DoesText transition (string_bytes out.old) (string_bytes out.new) (t.escaped_less_than_sign depth)) }
 {
     match depth {
-        Escape::Escaped => Ok(Moved::Goes(At::Text(TextState::RawLessThanSign(
+        Escape::Escaped => Ok(Transition::Consumed(MachineState::Text(TextState::RawLessThanSign(
             RawTextKind::EscapedScriptData,
         )))),
         Escape::DoubleEscaped => {
             out.push_str("<")?;
-            Ok(Moved::Goes(At::Text(TextState::ScriptDataDoubleEscapedLessThanSign)))
+            Ok(Transition::Consumed(MachineState::Text(
+                TextState::ScriptDataDoubleEscapedLessThanSign,
+            )))
         }
     }
 }
 
 // 13.2.5.20, 27: Script data escaped state, Script data double escaped state
-fn script_data_escaped(depth: Escape, out: &mut String, b: u8) -> Result<Moved, AllocError>
+fn script_data_escaped(depth: Escape, out: &mut String, b: u8) -> Result<Transition, AllocError>
     requires { b < 128 }
-    ensures { IfOk result (λ moved. DoesText moved (string_bytes out.old) (string_bytes out.new) (t.script_data_escaped_state depth b)) }
+    ensures { IfOk result (λ transition. DoesText transition (string_bytes out.old) (string_bytes out.new) (t.script_data_escaped_state depth b)) }
 {
     match b {
         b'-' => {
             out.push_str("-")?;
-            Ok(Moved::Goes(At::Text(TextState::ScriptDataEscapedDash(depth))))
+            Ok(Transition::Consumed(MachineState::Text(TextState::ScriptDataEscapedDash(depth))))
         }
         b'<' => less_than_sign(depth, out),
         _ => replacing(out, b, TextState::ScriptDataEscaped(depth)),
@@ -311,14 +340,20 @@ fn script_data_escaped(depth: Escape, out: &mut String, b: u8) -> Result<Moved, 
 }
 
 // 13.2.5.21, 28: Script data escaped dash state, Script data double escaped dash state
-fn script_data_escaped_dash(depth: Escape, out: &mut String, b: u8) -> Result<Moved, AllocError>
+fn script_data_escaped_dash(
+    depth: Escape,
+    out: &mut String,
+    b: u8,
+) -> Result<Transition, AllocError>
     requires { b < 128 }
-    ensures { IfOk result (λ moved. DoesText moved (string_bytes out.old) (string_bytes out.new) (t.script_data_escaped_dash_state depth b)) }
+    ensures { IfOk result (λ transition. DoesText transition (string_bytes out.old) (string_bytes out.new) (t.script_data_escaped_dash_state depth b)) }
 {
     match b {
         b'-' => {
             out.push_str("-")?;
-            Ok(Moved::Goes(At::Text(TextState::ScriptDataEscapedDashDash(depth))))
+            Ok(Transition::Consumed(MachineState::Text(TextState::ScriptDataEscapedDashDash(
+                depth,
+            ))))
         }
         b'<' => less_than_sign(depth, out),
         _ => replacing(out, b, TextState::ScriptDataEscaped(depth)),
@@ -330,31 +365,33 @@ fn script_data_escaped_dash_dash(
     depth: Escape,
     out: &mut String,
     b: u8,
-) -> Result<Moved, AllocError>
+) -> Result<Transition, AllocError>
     requires { b < 128 }
-    ensures { IfOk result (λ moved. DoesText moved (string_bytes out.old) (string_bytes out.new) (t.script_data_escaped_dash_dash_state depth b)) }
+    ensures { IfOk result (λ transition. DoesText transition (string_bytes out.old) (string_bytes out.new) (t.script_data_escaped_dash_dash_state depth b)) }
 {
     match b {
         b'-' => {
             out.push_str("-")?;
-            Ok(Moved::Goes(At::Text(TextState::ScriptDataEscapedDashDash(depth))))
+            Ok(Transition::Consumed(MachineState::Text(TextState::ScriptDataEscapedDashDash(
+                depth,
+            ))))
         }
         b'<' => less_than_sign(depth, out),
         b'>' => {
             out.push_str(">")?;
-            Ok(Moved::Goes(text(TextKind::ScriptData)))
+            Ok(Transition::Consumed(text(TextKind::ScriptData)))
         }
         _ => replacing(out, b, TextState::ScriptDataEscaped(depth)),
     }
 }
 
-fn escaped_after(is_script: bool) -> At
+fn escaped_after(is_script: bool) -> MachineState
     ensures { (parts : Parts) → state_of result parts ≡ ScriptDataEscaped (t.escaped_after is_script) }
 {
     if is_script {
-        At::Text(TextState::ScriptDataEscaped(Escape::DoubleEscaped))
+        MachineState::Text(TextState::ScriptDataEscaped(Escape::DoubleEscaped))
     } else {
-        At::Text(TextState::ScriptDataEscaped(Escape::Escaped))
+        MachineState::Text(TextState::ScriptDataEscaped(Escape::Escaped))
     }
 }
 
@@ -363,19 +400,19 @@ fn script_data_double_escape_start(
     buffer: &mut String,
     out: &mut String,
     b: u8,
-) -> Result<Moved, AllocError>
-    ensures { IfOk result (λ moved. DoesBuffer moved (string_bytes out.old) (string_bytes out.new) (string_bytes buffer.new) (t.script_data_double_escape_start_state (string_bytes buffer.old) b)) }
+) -> Result<Transition, AllocError>
+    ensures { IfOk result (λ transition. DoesBuffer transition (string_bytes out.old) (string_bytes out.new) (string_bytes buffer.new) (t.script_data_double_escape_start_state (string_bytes buffer.old) b)) }
 {
     if is_name_end(b) {
         push_byte(out, b)?;
-        return Ok(Moved::Goes(escaped_after(buffer.as_str() == "script")));
+        return Ok(Transition::Consumed(escaped_after(buffer.as_str() == "script")));
     }
     if b.is_ascii_alphabetic() {
         push_byte(out, b)?;
         push_byte(buffer, b.to_ascii_lowercase())?;
-        return Ok(Moved::Goes(At::Text(TextState::ScriptDataDoubleEscapeStart)));
+        return Ok(Transition::Consumed(MachineState::Text(TextState::ScriptDataDoubleEscapeStart)));
     }
-    Ok(Moved::Again(At::Text(TextState::ScriptDataEscaped(Escape::Escaped))))
+    Ok(Transition::Reconsumed(MachineState::Text(TextState::ScriptDataEscaped(Escape::Escaped))))
 }
 
 // 13.2.5.30 Script data double escaped less-than sign state
@@ -383,15 +420,17 @@ fn script_data_double_escaped_less_than_sign(
     buffer: &mut String,
     out: &mut String,
     b: u8,
-) -> Result<Moved, AllocError>
-    ensures { IfOk result (λ moved. DoesBuffer moved (string_bytes out.old) (string_bytes out.new) (string_bytes buffer.new) (t.script_data_double_escaped_less_than_sign_state b)) }
+) -> Result<Transition, AllocError>
+    ensures { IfOk result (λ transition. DoesBuffer transition (string_bytes out.old) (string_bytes out.new) (string_bytes buffer.new) (t.script_data_double_escaped_less_than_sign_state b)) }
 {
     if b == b'/' {
         out.push_str("/")?;
         buffer.clear();
-        return Ok(Moved::Goes(At::Text(TextState::ScriptDataDoubleEscapeEnd)));
+        return Ok(Transition::Consumed(MachineState::Text(TextState::ScriptDataDoubleEscapeEnd)));
     }
-    Ok(Moved::Again(At::Text(TextState::ScriptDataEscaped(Escape::DoubleEscaped))))
+    Ok(Transition::Reconsumed(MachineState::Text(TextState::ScriptDataEscaped(
+        Escape::DoubleEscaped,
+    ))))
 }
 
 // 13.2.5.31 Script data double escape end state
@@ -399,45 +438,47 @@ fn script_data_double_escape_end(
     buffer: &mut String,
     out: &mut String,
     b: u8,
-) -> Result<Moved, AllocError>
-    ensures { IfOk result (λ moved. DoesBuffer moved (string_bytes out.old) (string_bytes out.new) (string_bytes buffer.new) (t.script_data_double_escape_end_state (string_bytes buffer.old) b)) }
+) -> Result<Transition, AllocError>
+    ensures { IfOk result (λ transition. DoesBuffer transition (string_bytes out.old) (string_bytes out.new) (string_bytes buffer.new) (t.script_data_double_escape_end_state (string_bytes buffer.old) b)) }
 {
     if is_name_end(b) {
         push_byte(out, b)?;
-        return Ok(Moved::Goes(escaped_after(buffer.as_str() != "script")));
+        return Ok(Transition::Consumed(escaped_after(buffer.as_str() != "script")));
     }
     if b.is_ascii_alphabetic() {
         push_byte(out, b)?;
         push_byte(buffer, b.to_ascii_lowercase())?;
-        return Ok(Moved::Goes(At::Text(TextState::ScriptDataDoubleEscapeEnd)));
+        return Ok(Transition::Consumed(MachineState::Text(TextState::ScriptDataDoubleEscapeEnd)));
     }
-    Ok(Moved::Again(At::Text(TextState::ScriptDataEscaped(Escape::DoubleEscaped))))
+    Ok(Transition::Reconsumed(MachineState::Text(TextState::ScriptDataEscaped(
+        Escape::DoubleEscaped,
+    ))))
 }
 
 // 13.2.5.70 CDATA section bracket state
-fn cdata_section_bracket(out: &mut String, b: u8) -> Result<Moved, AllocError>
-    ensures { IfOk result (λ moved. DoesText moved (string_bytes out.old) (string_bytes out.new) (t.cdata_section_bracket_state b)) }
+fn cdata_section_bracket(out: &mut String, b: u8) -> Result<Transition, AllocError>
+    ensures { IfOk result (λ transition. DoesText transition (string_bytes out.old) (string_bytes out.new) (t.cdata_section_bracket_state b)) }
 {
     if b == b']' {
-        return Ok(Moved::Goes(At::Text(TextState::CdataSectionEnd)));
+        return Ok(Transition::Consumed(MachineState::Text(TextState::CdataSectionEnd)));
     }
     out.push_str("]")?;
-    Ok(Moved::Again(text(TextKind::CdataSection)))
+    Ok(Transition::Reconsumed(text(TextKind::CdataSection)))
 }
 
 // 13.2.5.71 CDATA section end state
-fn cdata_section_end(out: &mut String, b: u8) -> Result<Moved, AllocError>
-    ensures { IfOk result (λ moved. DoesText moved (string_bytes out.old) (string_bytes out.new) (t.cdata_section_end_state b)) }
+fn cdata_section_end(out: &mut String, b: u8) -> Result<Transition, AllocError>
+    ensures { IfOk result (λ transition. DoesText transition (string_bytes out.old) (string_bytes out.new) (t.cdata_section_end_state b)) }
 {
     match b {
         b']' => {
             out.push_str("]")?;
-            Ok(Moved::Goes(At::Text(TextState::CdataSectionEnd)))
+            Ok(Transition::Consumed(MachineState::Text(TextState::CdataSectionEnd)))
         }
-        b'>' => Ok(Moved::Goes(DATA)),
+        b'>' => Ok(Transition::Consumed(DATA)),
         _ => {
             out.push_str("]]")?;
-            Ok(Moved::Again(text(TextKind::CdataSection)))
+            Ok(Transition::Reconsumed(text(TextKind::CdataSection)))
         }
     }
 }
@@ -450,9 +491,9 @@ pub fn text_turn(
     tag: &mut OpenTag,
     out: &mut String,
     b: u8,
-) -> Result<Moved, AllocError>
+) -> Result<Transition, AllocError>
     requires { text_takes_wide state ≡ true → b < 128 }
-    ensures { IfOk result (λ moved. (table : List Reference) (parts : Parts) → Does moved (string_bytes out.old) (string_bytes out.new)
+    ensures { IfOk result (λ transition. (table : List Reference) (parts : Parts) → Does transition (string_bytes out.old) (string_bytes out.new)
         (record parts { buffer = string_bytes buffer.new; tag = tag.new }) (turn table last.now (text_state_of state (string_bytes buffer.old)) b)) }
 {
     match state {

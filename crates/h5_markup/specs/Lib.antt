@@ -4,10 +4,10 @@ pub mod Cuts
 pub mod Doctypes
 pub mod Ending
 pub mod Later
+pub mod MatchOf
 pub mod Matching
 pub mod Plain
 pub mod Quoting
-pub mod Seen
 pub mod Sought
 pub mod Spelled
 pub mod Text

@@ -8,8 +8,8 @@ ghost use Rattle.h5_markup.specs.Text as t;
 
 use super::cut::{Class, cut_at, cut_name, cut_past, skip};
 use super::keeping::Keeping;
+use super::matches::Match;
 use super::needle::literal;
-use super::seen::Seen;
 use super::shared_names::SharedNames;
 use h5_names::Attribute;
 use std::alloc::{AllocError, Global};
@@ -41,12 +41,12 @@ fn cut_value<'a>(name: &'a str, text: &'a str) -> Written<'a>
     ensures { written result ≡ a.valued name.entry.now text.entry.now }
 {
     match literal(text, "\"") {
-        Seen::Found(_, inner) => cut_quoted(name, inner, Class::DoubleQuote),
-        Seen::Open => cut_unquoted(name, text),
-        Seen::No => match literal(text, "'") {
-            Seen::Found(_, inner) => cut_quoted(name, inner, Class::SingleQuote),
-            Seen::Open => cut_unquoted(name, text),
-            Seen::No => cut_unquoted(name, text),
+        Match::Found(_, inner) => cut_quoted(name, inner, Class::DoubleQuote),
+        Match::Open => cut_unquoted(name, text),
+        Match::No => match literal(text, "'") {
+            Match::Found(_, inner) => cut_quoted(name, inner, Class::SingleQuote),
+            Match::Open => cut_unquoted(name, text),
+            Match::No => cut_unquoted(name, text),
         },
     }
 }
@@ -56,13 +56,13 @@ fn cut_rest<'a>(name: &'a str, text: &'a str) -> Written<'a>
     ensures { written result ≡ a.with_value name.entry.now text.entry.now }
 {
     match literal(text, "=") {
-        Seen::Found(_, inner) => cut_value(name, skip(inner, Class::Blank)),
-        Seen::Open => Written {
+        Match::Found(_, inner) => cut_value(name, skip(inner, Class::Blank)),
+        Match::Open => Written {
             name,
             value: "",
             rest: text,
         },
-        Seen::No => Written {
+        Match::No => Written {
             name,
             value: "",
             rest: text,

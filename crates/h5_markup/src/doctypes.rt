@@ -9,8 +9,8 @@ ghost use Rattle.h5_markup.specs.Doctypes as d;
 ghost use Rattle.h5_markup.specs.Quoting.{quoted_of, identifiers_of};
 
 use super::cut::{Class, cut_at, cut_past, skip};
+use super::matches::Match;
 use super::needle::{literal, word};
-use super::seen::Seen;
 use super::text::text_of;
 use h5_token::Doctype;
 use std::alloc::{AllocError, Global};
@@ -49,12 +49,12 @@ fn cut_quoted<'a>(text: &'a str) -> Option<Quoted<'a>>
     ensures { option_map quoted_of result ≡ d.quoted text.entry.now }
 {
     match literal(text, "\"") {
-        Seen::Found(_, inner) => closed_by(inner, Class::DoubleQuote),
-        Seen::Open => None,
-        Seen::No => match literal(text, "'") {
-            Seen::Found(_, inner) => closed_by(inner, Class::SingleQuote),
-            Seen::Open => None,
-            Seen::No => None,
+        Match::Found(_, inner) => closed_by(inner, Class::DoubleQuote),
+        Match::Open => None,
+        Match::No => match literal(text, "'") {
+            Match::Found(_, inner) => closed_by(inner, Class::SingleQuote),
+            Match::Open => None,
+            Match::No => None,
         },
     }
 }
@@ -120,12 +120,12 @@ fn cut_identifiers<'a>(text: &'a str) -> Option<Identifiers<'a>>
         });
     }
     match word(text, "PUBLIC") {
-        Seen::Found(_, rest) => public_ids(skip(rest, Class::Blank)),
-        Seen::Open => None,
-        Seen::No => match word(text, "SYSTEM") {
-            Seen::Found(_, rest) => with_system(None, last(cut_quoted(skip(rest, Class::Blank)))),
-            Seen::Open => None,
-            Seen::No => None,
+        Match::Found(_, rest) => public_ids(skip(rest, Class::Blank)),
+        Match::Open => None,
+        Match::No => match word(text, "SYSTEM") {
+            Match::Found(_, rest) => with_system(None, last(cut_quoted(skip(rest, Class::Blank)))),
+            Match::Open => None,
+            Match::No => None,
         },
     }
 }

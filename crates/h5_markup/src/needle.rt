@@ -3,22 +3,22 @@ ghost use Rattle.std.specs.Prelude.{◌≡◌, ◌<◌, ◌-◌, length, slice_i
 ghost use Rattle.std.specs.Char.{is_ascii_alphabetic};
 ghost use Rattle.h5_markup.specs.Matching.{and_then, ahead, literal, peek, word};
 ghost use Rattle.h5_markup.specs.Cuts.{is_in};
-ghost use Rattle.h5_markup.specs.Seen.{seen};
+ghost use Rattle.h5_markup.specs.MatchOf.{match_of};
 ghost use Rattle.h5_markup.specs.Spelled.{Spells};
 
 use super::cut::Class;
-use super::seen::Seen;
+use super::matches::Match;
 
 /// Whether the text begins with the needle.
-pub fn literal<'a>(text: &'a str, needle: &str) -> Seen<'a, ()>
-    ensures { seen (λ _. tt) result ≡ literal needle.now text.now }
+pub fn literal<'a>(text: &'a str, needle: &str) -> Match<'a, ()>
+    ensures { match_of (λ _. tt) result ≡ literal needle.now text.now }
 {
     if let Some(rest) = text.strip_prefix(needle) {
-        Seen::Found((), rest)
+        Match::Found((), rest)
     } else if needle.starts_with(text) {
-        Seen::Open
+        Match::Open
     } else {
-        Seen::No
+        Match::No
     }
 }
 
@@ -48,17 +48,17 @@ fn compare(text: &[u8], needle: &[u8]) -> Spelled
 }
 
 /// Whether the text begins with the needle, in any ASCII case.
-pub fn word<'a>(text: &'a str, needle: &str) -> Seen<'a, ()>
+pub fn word<'a>(text: &'a str, needle: &str) -> Match<'a, ()>
     requires some { 0 < length needle.now }
     requires ascii { slice_index needle.now (length needle.now - 1) < 128 }
-    ensures { seen (λ _. tt) result ≡ word needle.now text.now }
+    ensures { match_of (λ _. tt) result ≡ word needle.now text.now }
 {
     match compare(text.as_bytes(), needle.as_bytes()) {
-        Spelled::Partly => Seen::Open,
-        Spelled::Otherwise => Seen::No,
+        Spelled::Partly => Match::Open,
+        Spelled::Otherwise => Match::No,
         Spelled::Whole => {
             let (_, rest) = text.split_at(needle.len());
-            Seen::Found((), rest)
+            Match::Found((), rest)
         }
     }
 }
@@ -71,20 +71,20 @@ pub fn ends_name(b: u8) -> bool
 }
 
 /// Whether the text begins with this name, in any ASCII case, and the name ends there. All of it is left.
-pub fn name_is<'a>(text: &'a str, name: &str) -> Seen<'a, ()>
-    ensures { seen (λ _. tt) result
+pub fn name_is<'a>(text: &'a str, name: &str) -> Match<'a, ()>
+    ensures { match_of (λ _. tt) result
         ≡ ahead (and_then (word name.now text.now) (λ _ rest. peek (is_in Class.NameEnd) rest)) text.now }
 {
     match compare(text.as_bytes(), name.as_bytes()) {
-        Spelled::Partly => Seen::Open,
-        Spelled::Otherwise => Seen::No,
+        Spelled::Partly => Match::Open,
+        Spelled::Otherwise => Match::No,
         Spelled::Whole => match text.as_bytes().get(name.len()) {
-            None => Seen::Open,
+            None => Match::Open,
             Some(b) => {
                 if ends_name(*b) {
-                    Seen::Found((), text)
+                    Match::Found((), text)
                 } else {
-                    Seen::No
+                    Match::No
                 }
             }
         },
@@ -92,16 +92,16 @@ pub fn name_is<'a>(text: &'a str, name: &str) -> Seen<'a, ()>
 }
 
 /// Whether the text begins with an ASCII letter. All of it is left.
-pub fn peek_letter<'a>(text: &'a str) -> Seen<'a, ()>
-    ensures { seen (λ _. tt) result ≡ peek is_ascii_alphabetic text.now }
+pub fn peek_letter<'a>(text: &'a str) -> Match<'a, ()>
+    ensures { match_of (λ _. tt) result ≡ peek is_ascii_alphabetic text.now }
 {
     match text.as_bytes() {
-        [] => Seen::Open,
+        [] => Match::Open,
         [b, ..] => {
             if b.is_ascii_alphabetic() {
-                Seen::Found((), text)
+                Match::Found((), text)
             } else {
-                Seen::No
+                Match::No
             }
         }
     }

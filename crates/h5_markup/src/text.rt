@@ -1,69 +1,69 @@
 //! What stands for something else in a text, and whole texts.
 ghost use Rattle.std.specs.Prelude.{◌≡◌};
-ghost use Rattle.h5_markup.specs.Seen.{seen};
+ghost use Rattle.h5_markup.specs.MatchOf.{match_of};
 ghost use Rattle.h5_markup.specs.Text as t;
 
+use super::matches::Match;
 use super::needle::literal;
 use super::plain::plain_len;
-use super::seen::Seen;
 use std::alloc::{AllocError, Global};
 
-fn gives<'a>(bytes: &'static str, found: Seen<'a, ()>) -> Seen<'a, &'static str>
-    ensures { seen (λ text. text.now) result ≡ t.gives bytes.entry.now (seen {B = Unit {0}} (λ _. tt) found.entry) }
+fn gives<'a>(bytes: &'static str, found: Match<'a, ()>) -> Match<'a, &'static str>
+    ensures { match_of (λ text. text.now) result ≡ t.gives bytes.entry.now (match_of {B = Unit {0}} (λ _. tt) found.entry) }
 {
     match found {
-        Seen::Open => Seen::Open,
-        Seen::No => Seen::No,
-        Seen::Found(_, rest) => Seen::Found(bytes, rest),
+        Match::Open => Match::Open,
+        Match::No => Match::No,
+        Match::Found(_, rest) => Match::Found(bytes, rest),
     }
 }
 
 /// One of the five character references that are read, at the front of a text: the character that it
 /// stands for, and what follows. `Open` where what follows decides whether there is one (HTML standard,
 /// section 13.2.5.73, "Named character reference state").
-pub fn reference<'a>(text: &'a str) -> Seen<'a, &'static str>
-    ensures { seen (λ text. text.now) result ≡ t.reference text.now }
+pub fn reference<'a>(text: &'a str) -> Match<'a, &'static str>
+    ensures { match_of (λ text. text.now) result ≡ t.reference text.now }
 {
     match text.as_bytes() {
-        [] => Seen::Open,
-        [b'&'] => Seen::Open,
+        [] => Match::Open,
+        [b'&'] => Match::Open,
         [b'&', b'a', ..] => gives("&", literal(text, "&amp;")),
         [b'&', b'l', ..] => gives("<", literal(text, "&lt;")),
         [b'&', b'g', ..] => gives(">", literal(text, "&gt;")),
         [b'&', b'q', ..] => gives("\"", literal(text, "&quot;")),
         [b'&', b'n', ..] => gives("\u{a0}", literal(text, "&nbsp;")),
-        _ => Seen::No,
+        _ => Match::No,
     }
 }
 
 /// CR LF or CR at the front of a text, which become LF, and what follows. A CR that ends the text is
 /// `Open` (HTML standard, section 13.2.3.5, "Preprocessing the input stream").
-pub fn newline<'a>(text: &'a str) -> Seen<'a, &'static str>
-    ensures { seen (λ text. text.now) result ≡ t.newline text.now }
+pub fn newline<'a>(text: &'a str) -> Match<'a, &'static str>
+    ensures { match_of (λ text. text.now) result ≡ t.newline text.now }
 {
     match gives("\n", literal(text, "\r\n")) {
-        Seen::No => gives("\n", literal(text, "\r")),
+        Match::No => gives("\n", literal(text, "\r")),
         found => found,
     }
 }
 
 /// A newline at the front of a text, or a NUL, which becomes U+FFFD, and what follows. A CR that ends the
 /// text is `Open` (HTML standard, section 13.2.5, "Tokenization").
-pub fn cleaned<'a>(text: &'a str) -> Seen<'a, &'static str>
-    ensures { seen (λ text. text.now) result ≡ t.cleaned text.now }
+pub fn cleaned<'a>(text: &'a str) -> Match<'a, &'static str>
+    ensures { match_of (λ text. text.now) result ≡ t.cleaned text.now }
 {
     match text.as_bytes() {
-        [] => Seen::Open,
+        [] => Match::Open,
         [b'\r', ..] => newline(text),
         [0, ..] => gives("\u{fffd}", literal(text, "\0")),
-        _ => Seen::No,
+        _ => Match::No,
     }
 }
 
 /// What stands for something else at the front of a text: a newline, a NUL, and a reference where they are
 /// read. `Open` where what follows decides (HTML standard, section 13.2.5, "Tokenization").
-pub fn escape<'a>(references: bool, text: &'a str) -> Seen<'a, &'static str>
-    ensures { seen (λ text. text.now) result ≡ t.escape references text.now }
+pub fn escape<'a>(references: bool, text: &'a str) -> Match<'a, &'static str>
+    ensures { match_of (λ text. text.now) result ≡ t.escape references text.now }
 {
     if !references {
         return cleaned(text);
@@ -96,12 +96,12 @@ fn read_bit<'a>(references: bool, text: &'a str, out: &mut String) -> Result<&'a
     ensures { IfOk result (λ rest. ReadsBit references text.now rest.now (string_bytes out.old) (string_bytes out.new)) }
 {
     match escape(references, text) {
-        Seen::Found(bytes, rest) => {
+        Match::Found(bytes, rest) => {
             out.push_str(bytes)?;
             Ok(rest)
         }
-        Seen::No => read_plain(text, out),
-        Seen::Open => match text.strip_prefix("\r") {
+        Match::No => read_plain(text, out),
+        Match::Open => match text.strip_prefix("\r") {
             Some(rest) => {
                 out.push_str("\n")?;
                 Ok(rest)

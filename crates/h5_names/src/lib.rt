@@ -6,7 +6,7 @@
 //! them in lower case and with capitals. `namespaces` has the namespaces that HTML knows, and `laws` what holds of
 //! names as of their texts.
 //!
-//! It stands on no other crate, and all but `h5_utf8` stand on it. Begin with `specs/AttributeText.antt` and
+//! It stands on no other crate, and nearly all others stand on it. Begin with `specs/AttributeText.antt` and
 //! `src/qualified.rt`.
 #![tactic(auto)]
 

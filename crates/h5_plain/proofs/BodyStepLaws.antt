@@ -1,42 +1,41 @@
 -- What a tag or a text of a plain document does in the body, or in a cell, which goes by the body for it.
-use Rattle.std.proofs.Common.{◌≡◌, ◌∙◌, ℕ, Bool, true, false, ◌&&◌, not, cond, List, [], ◌∷◌, codes, None, refl, ap, subst}
+use Rattle.std.proofs.Common.{◌≡◌, ◌∙◌, ℕ, Bool, true, false, ◌&&◌, not, cond, List, [], ◌∷◌, codes, None, refl, ap, subst, Option}
 use Rattle.h5_names.specs.AttributeText.{AttributeText}
 use Rattle.h5_names.specs.declared.qualified.QualName.{QualName}
 use Rattle.h5_token.specs.TokenText.{Characters}
 use Rattle.h5_interface.specs.Changes.{append_text as append_text_to}
 use Rattle.h5_interface.specs.Forest.{ChildText}
 use Rattle.h5_interface.specs.SinkChoices.{SinkChoices}
-use Rattle.h5_tag_sets.specs.TagSets.{html_namespace, implied_names, is_default_scope, is_heading, is_html_named, is_implied}
-use Rattle.h5_types.specs.TurnText.{TagTurn}
-use Rattle.h5_types.specs.declared.modes.InsertionMode.TheVariants.{InBody}
+use Rattle.h5_tables.specs.TagSets.{html_namespace, implied_names, is_default_scope, is_heading, is_html_named, is_implied}
+use Rattle.h5_tables.specs.TurnText.{TagTurn}
+use Rattle.h5_tables.specs.declared.modes.InsertionMode.TheVariants.{InBody}
 use Rattle.h5_rules.specs.formatting.FormattingNames.{html_name}
+use Rattle.h5_rules.specs.fitting.Roles.{Role}
 use Rattle.h5_rules.specs.stack.Order.{but_first}
 use Rattle.h5_rules.specs.stack.Scope.{cut_through, first_passes, has_p_in_button_scope, in_scope, is_implied_but}
 use Rattle.h5_rules.specs.Blanks.{all_blank}
-use Rattle.h5_rules.specs.Changes.{append_text, insert_and_pop_element, insert_element, new_element, pop, pop_until_named, push_new, set_frameset_not_ok, set_frameset_ok_by_text}
+use Rattle.h5_rules.specs.Changes.{append_text, insert_element, pop, pop_until_named, push_new, set_frameset_not_ok, set_frameset_ok_by_text, set_ignore_lf}
 use Rattle.h5_rules.specs.stack.Closing.{close_p_element, close_p_element_in_button_scope, pop_heading, pop_until_heading}
 use Rattle.h5_rules.specs.modes.InBody.{in_body_end_block, in_body_end_heading, in_body_end_p, in_body_start_block}
 use Rattle.h5_rules.specs.modes.Modes.{rule}
 use Rattle.h5_rules.specs.insertion.Place.{place, put}
-use Rattle.h5_rules.specs.Rows.{Change, ClosePElement, ClosePElementInButtonScope, GenerateImpliedEnd, InsertAndPopElement, InsertElement, IsDone, PopHeading, PopUntilHeading, PopUntilNamed, ReconstructActiveFormattingElements, SetFramesetNotOk, choose, errs, ignored, row_if}
+use Rattle.h5_rules.specs.Rows.{Change, ClosePElement, ClosePElementInButtonScope, GenerateImpliedEnd, InsertElement, IsDone, PopHeading, PopUntilHeading, PopUntilNamed, SetFramesetNotOk, SetIgnoreLf, choose, errs, ignored, row_if}
 use Rattle.h5_rules.specs.World.{World, names_of}
-use Rattle.h5_rules.proofs.changes.FormattingLaws.{reconstruct_none}
 use Rattle.h5_rules.proofs.changes.PopLaws.{all_implied_none, implied_none}
 use Rattle.h5_plain.specs.Plain.{end_tag, start_tag}
-use Rattle.h5_plain.proofs.BodyRuleLaws.{IsBlockName, IsHeadingName, IsHolder, br_outside, br_rule, p_end_rule, p_outside}
+use Rattle.h5_plain.proofs.BodyRuleLaws.{IsBlockName, IsHeadingName, IsHolder, p_end_rule, p_outside, pre}
 use Rattle.h5_rules.specs.formatting.FormattingList.{Entry}
 use Rattle.h5_plain.proofs.ListedLaws.{OpenFormat}
 use Rattle.h5_plain.proofs.CalmLaws.{Calm, calm_html, after, calm_closed, names_are, opened, place_is, unowned}
 use Rattle.h5_plain.proofs.FilledLaws.{Face}
-use Rattle.h5_plain.proofs.GoesLaws.{Moves, moves_acknowledged, moves_row, moves_text}
+use Rattle.h5_plain.proofs.GoesLaws.{Moves, ignoring, moves_row, moves_text}
 use Rattle.h5_plain.proofs.HtmlLaws.{AtHtml}
-use Rattle.h5_plain.proofs.GrowthLaws.{with_element}
 use Rattle.h5_plain.proofs.ModeLaws.{GoesByBody, IsOutside, end_by_body, start_by_body}
 use Rattle.h5_plain.proofs.RuleLaws.{end, start}
 use Rattle.h5_rules.specs.stack.Expected.{is_expected, names_behind_p}
 use Rattle.h5_rules.proofs.changes.ExpectedLaws.{current_expected, no_p_behind, no_p_expected}
 
-module _ (choices : SinkChoices) {w : World} {p : ℕ} {d : Face} {names : List QualName} {path : List OpenFormat} {under : List ℕ} {base : List Entry} (c : Calm w p d names path under base) where
+module _ (choices : SinkChoices) {at_root : Option Role} {w : World} {p : ℕ} {d : Face} {names : List QualName} {path : List OpenFormat} {under : List ℕ} {base : List Entry} (c : Calm at_root w p d names path under base) where
   -- a new element is put below the current node
   pub insert_is : (name : List ℕ) (attrs : List AttributeText) → insert_element choices name attrs false w ≡ opened choices w p name attrs w.mode w.formatting w.frameset_ok
   unfolding insert_element
@@ -59,6 +58,15 @@ module _ (choices : SinkChoices) {w : World} {p : ℕ} {d : Face} {names : List 
       (start_by_body m name attrs w o.no_structure ∙ e ∙ ap (λ b. row_if b (ClosePElementInButtonScope ∷ InsertElement name attrs false ∷ []) IsDone) (no_p_expected (names_of w) (no_p h))) refl k.no_title
       (ap (insert_element choices name attrs false) (none_closed h) ∙ insert_is name attrs)
 
+  -- the start tag of a `pre`, which sets the newline flag
+  pub starts_pre : (attrs : List AttributeText) → GoesByBody w.mode → has_p_in_button_scope names ≡ false → Moves choices (start_tag (codes "pre") attrs) w (ignoring (opened choices w p (codes "pre") attrs w.mode w.formatting false))
+  starts_pre attrs m h =
+      let changes : List Change = ClosePElementInButtonScope ∷ InsertElement (codes "pre") attrs false ∷ SetIgnoreLf ∷ SetFramesetNotOk ∷ [] in
+      moves_row choices (start (codes "pre") attrs) w (ignoring (opened choices w p (codes "pre") attrs w.mode w.formatting false)) w.mode changes refl c.ignore_lf (calm_html c)
+      (start_by_body m (codes "pre") attrs w pre.outside.no_structure ∙ pre.starts attrs w ∙ ap (λ b. row_if b changes IsDone) (no_p_expected (names_of w) (no_p h))) refl pre.block.no_title
+      (ap (λ v. set_frameset_not_ok (set_ignore_lf (insert_element choices (codes "pre") attrs false v))) (none_closed h)
+      ∙ ap (λ v. set_frameset_not_ok (set_ignore_lf v)) (insert_is (codes "pre") attrs))
+
   -- the start tag of a heading
   none_popped : first_passes is_heading names ≡ false → pop_heading choices w ≡ w
   unfolding pop_heading
@@ -79,29 +87,15 @@ module _ (choices : SinkChoices) {w : World} {p : ℕ} {d : Face} {names : List 
       ∙ ap (insert_element choices name attrs false) (none_popped i)
       ∙ insert_is name attrs)
 
-  -- a `br`
-  break_is : (attrs : List AttributeText) → set_frameset_not_ok (insert_and_pop_element choices (codes "br") attrs false w) ≡ after w (with_element choices p (html_name (codes "br")) attrs w.forest) w.formatting false
-  unfolding insert_and_pop_element
-  break_is attrs =
-      ap (λ m. after w (new_element choices (place w) (html_name (codes "br")) attrs false m w.forest) w.formatting false) (unowned choices (codes "br") attrs w c.no_form)
-      ∙ ap (λ q. after w (new_element choices q (html_name (codes "br")) attrs false None w.forest) w.formatting false) (place_is w p d c.is_current c.shows c.no_foster c.no_template)
-
-  -- what it does
-  pub breaks : (attrs : List AttributeText) → GoesByBody w.mode → Moves choices (start_tag (codes "br") attrs) w (after w (with_element choices p (html_name (codes "br")) attrs w.forest) w.formatting false)
-  breaks attrs m =
-      moves_acknowledged choices (start (codes "br") attrs) w _ w.mode (ReconstructActiveFormattingElements ∷ InsertAndPopElement (codes "br") attrs false ∷ SetFramesetNotOk ∷ []) refl c.ignore_lf (calm_html c)
-      (start_by_body m (codes "br") attrs w br_outside.no_structure ∙ br_rule attrs w) refl
-      (ap (λ v. set_frameset_not_ok (insert_and_pop_element choices (codes "br") attrs false v)) (reconstruct_none choices w (calm_closed c)) ∙ break_is attrs)
-
   -- a text
-  text_is : (t : List ℕ) → append_text t (set_frameset_ok_by_text t w) ≡ after w (append_text_to p t w.forest) w.formatting (w.frameset_ok && all_blank t)
+  text_is : (t : List ℕ) → append_text t (set_frameset_ok_by_text t w) ≡ after w (append_text_to p t w.forest) w.formatting (w.frameset_ok && all_blank t) w.saved_mode
   unfolding append_text set_frameset_ok_by_text
   text_is t =
-      let v = after w w.forest w.formatting (w.frameset_ok && all_blank t) in
-      ap (λ q. after w (put q (ChildText t) w.forest) w.formatting (w.frameset_ok && all_blank t)) (place_is v p d c.is_current c.shows c.no_foster c.no_template)
+      let v = after w w.forest w.formatting (w.frameset_ok && all_blank t) w.saved_mode in
+      ap (λ q. after w (put q (ChildText t) w.forest) w.formatting (w.frameset_ok && all_blank t) w.saved_mode) (place_is v p d c.is_current c.shows c.no_foster c.no_template)
 
   -- what it does
-  pub writes : (b : ℕ) (t : List ℕ) → GoesByBody w.mode → Moves choices (Characters (b ∷ t)) w (after w (append_text_to p (b ∷ t) w.forest) w.formatting (w.frameset_ok && all_blank (b ∷ t)))
+  pub writes : (b : ℕ) (t : List ℕ) → GoesByBody w.mode → Moves choices (Characters (b ∷ t)) w (after w (append_text_to p (b ∷ t) w.forest) w.formatting (w.frameset_ok && all_blank (b ∷ t)) w.saved_mode)
   writes b t m = subst (Moves choices (Characters (b ∷ t)) w) (text_is (b ∷ t)) (moves_text choices b t w m c.ignore_lf (calm_html c) (calm_closed c))
 
 -- a cut at the current node leaves the others
@@ -129,6 +123,21 @@ module _ (choices : SinkChoices) (w : World) (names : List QualName) (m : GoesBy
       ∙ ap (λ b. row_if b changes IsDone) (current_expected is_implied (is_html_named name) (html_name name) names k.not_implied k.itself)) refl refl
       (ap (pop_until_named name) (all_implied_none choices w (ap (first_passes is_implied) e ∙ k.not_implied))
       ∙ cut_at w names (is_html_named name) (html_name name) e k.itself)
+
+  -- of a `pre`
+  pub ends_pre : names_of w ≡ html_name (codes "pre") ∷ names → Moves choices (end_tag (codes "pre")) w left
+  unfolding in_body_end_block pop_until_named
+  ends_pre e =
+      let name = codes "pre" in
+      let changes : List Change = GenerateImpliedEnd ∷ PopUntilNamed name ∷ [] in
+      moves_row choices (end name) w left w.mode changes refl i j
+      (end_by_body m name w pre.outside
+      ∙ pre.ends w
+      ∙ ap (λ ns. choose (in_scope (is_html_named name) is_default_scope ns) (row_if (is_expected is_implied (is_html_named name) ns) changes IsDone) ignored) e
+      ∙ ap (λ b. choose (cond b true (cond (is_default_scope (html_name name)) false (in_scope (is_html_named name) is_default_scope names))) (row_if (is_expected is_implied (is_html_named name) (html_name name ∷ names)) changes IsDone) ignored) pre.itself
+      ∙ ap (λ b. row_if b changes IsDone) (current_expected is_implied (is_html_named name) (html_name name) names pre.not_implied pre.itself)) refl refl
+      (ap (pop_until_named name) (all_implied_none choices w (ap (first_passes is_implied) e ∙ pre.not_implied))
+      ∙ cut_at w names (is_html_named name) (html_name name) e pre.itself)
 
   -- of a `p`
   pub ends_p : names_of w ≡ html_name (codes "p") ∷ names → Moves choices (end_tag (codes "p")) w left

@@ -1,223 +1,496 @@
 -- A plain list of nodes is built below the current node.
-use Rattle.std.proofs.Common.{◌≡◌, ℕ, Bool, true, false, ◌&&◌, ◌||◌, List, [], ◌∷◌, None, Some, codes, refl, ap, cond, subst, sym, ◌∙◌}
+use Rattle.std.proofs.Common.{◌≡◌, ℕ, Bool, true, false, ◌&&◌, ◌||◌, List, [], ◌∷◌, None, Some, codes, refl, ap, cond, subst, sym, ◌∙◌, Option, not}
 use Rattle.h5_names.specs.AttributeText.{AttributeText, is_same_text}
 use Rattle.h5_names.specs.declared.qualified.QualName.{QualName}
+use Rattle.h5_token.specs.TokenText.{Characters, TokenText}
 use Rattle.h5_interface.specs.Changes.{append_text, mark}
 use Rattle.h5_interface.specs.Forest.{Child, ChildNode, ChildText, Forest, IsForest}
+use Rattle.h5_interface.specs.NewElement.{is_html_template}
 use Rattle.h5_interface.specs.SinkChoices.{SinkChoices}
-use Rattle.h5_rules.specs.fitting.Roles.{role_of, role_of_local}
-use Rattle.h5_tag_sets.specs.TagSets.{button_scope_names, heading_names, html_namespace, is_button_scope, is_default_scope, is_foreign_special, is_heading, is_html_named, is_table_body_context, is_table_row_context, is_table_scope, mathml_namespace, scope_names, svg_namespace, table_body_context_names, table_row_context_names, table_scope_names, void_names}
-use Rattle.h5_types.specs.declared.modes.InsertionMode.{InsertionMode}
-use Rattle.h5_types.specs.declared.modes.InsertionMode.TheVariants.{InBody, InCell, InRow, InTable, InTableBody}
+use Rattle.h5_rules.specs.fitting.Roles.{PlainRole, Role, role_of, role_of_local}
+use Rattle.h5_tables.specs.TagSets.{button_scope_names, heading_names, html_namespace, is_button_scope, is_default_scope, is_foreign_special, is_heading, is_html_named, is_special, is_table_body_context, is_table_outer, is_table_row_context, is_table_scope, mathml_namespace, scope_names, special_names, svg_namespace, table_outer_names, table_row_context_names, table_scope_names, void_names}
+use Rattle.h5_tables.specs.declared.modes.InsertionMode.{InsertionMode}
+use Rattle.h5_tables.specs.declared.modes.InsertionMode.TheVariants.{InBody, InCaption, InCell, InColumnGroup, InRow, InTable, InTableBody}
 use Rattle.h5_rules.specs.formatting.FormattingNames.{html_name}
 use Rattle.h5_rules.specs.stack.Order.{but_first}
-use Rattle.h5_rules.specs.stack.Scope.{first_passes, has_p_in_button_scope}
+use Rattle.h5_rules.specs.stack.Scope.{first_passes, has_p_in_button_scope, in_scope}
 use Rattle.h5_rules.specs.Blanks.{all_blank}
-use Rattle.h5_rules.specs.stack.Closing.{ends_item_search, newest_item}
-use Rattle.h5_rules.specs.modes.InBody.{list_item_names}
+use Rattle.h5_rules.specs.stack.Closing.{ends_item_search, is_html_among, newest_item, passed_names}
+use Rattle.h5_rules.specs.modes.InBody.{description_names, list_item_names}
 use Rattle.h5_rules.specs.World.{World, names_of}
-use Rattle.h5_plain.specs.Plain.{Blocks, Break, Cell, Cells, Division, ElementThen, End, Formatted, Heading, Inlines, IsPlain, Item, ItemList, Items, Link, Nodes, Nothing, Paragraph, Rows, Section, Sections, Sort, Table, TableRow, TextThen, Words, end_tag, start_tag}
-use Rattle.h5_rules.specs.formatting.FormattingList.{Entry, MarkerEntry, push_formatting}
-use Rattle.h5_plain.proofs.ListedLaws.{Entries, Fewer, Formats, Kept, Lost, OpenFormat, has_link}
-use Rattle.h5_plain.proofs.BodyRuleLaws.{IsBlockName, IsHolder, is_division_name, is_heading_name, p_holds, p_outside, p_rule}
-use Rattle.h5_plain.proofs.BodyStepLaws.{breaks, ends_block, ends_heading, ends_p, starts_block, starts_heading, writes}
-use Rattle.h5_plain.proofs.CalmLaws.{Built, Calm, Closed, Opens, after, built_nothing, calm_after, calm_below, element_case, opened}
+use Rattle.h5_plain.specs.Plain.{Around, Barrier, Blank, Break, Caption, Cell, Cells, Column, ColumnBlank, ColumnGroup, Columns, Describing, Division, ElementThen, End, Flow, Formatted, Heading, IsPlain, Item, Link, Nodes, Nothing, Paragraph, Part, Phrase, Preformatted, Rows, Ruled, Section, Sections, Sort, Table, TablePart, TableRow, TextThen, Words, begins_with_newline, behind, end_tag, has_end_tag, nothing_open, start_tag, tokens_before, within}
+use Rattle.h5_rules.specs.formatting.FormattingList.{Entry, MarkerEntry, clear_to_marker, push_formatting}
+use Rattle.h5_plain.proofs.ListedLaws.{Entries, Fewer, Formats, Kept, Lost, OpenFormat, Other, Passed, has_link, passed}
+use Rattle.h5_plain.proofs.BodyRuleLaws.{IsBlockName, IsHeadingName, IsHolder, IsSeen, is_barrier, is_heading_name, is_open_block, p_holds, p_outside, p_rule, pre}
+use Rattle.h5_plain.proofs.BodyStepLaws.{ends_block, ends_heading, ends_p, ends_pre, starts_block, starts_heading, starts_pre, writes}
+use Rattle.h5_plain.proofs.CalmLaws.{Built, Calm, Closed, Opens, after, built_nothing, calm_after, calm_below, calm_html, element_case, names_are, opened, place_is}
 use Rattle.h5_plain.proofs.FilledLaws.{Face, face, filled_element, filled_nothing, filled_text, frame_element, frame_text, more, same_faces}
 use Rattle.h5_plain.proofs.FormatListLaws.{closed_fewer, entries_pushed, pushed_fewer, rest_fewer}
 use Rattle.h5_plain.proofs.FormatRuleLaws.{IsFormatName, a_formats, is_inline_name}
 use Rattle.h5_plain.proofs.FormatStepLaws.{ends_kept, ends_lost, formatted, starts_formatting, starts_link}
-use Rattle.h5_plain.proofs.GoesLaws.{Moves}
+use Rattle.h5_plain.proofs.GoesLaws.{BeginsOtherwise, BeginsWithTag, Goes, InColumns, IsTableMode, KeptBack, Moves, Straight, Takes, TheRow, TheSection, TheTable, goes_ignoring, ignoring}
 use Rattle.h5_plain.proofs.GrowthLaws.{body, html, with_element}
 use Rattle.h5_plain.proofs.HtmlLaws.{AtHtml}
-use Rattle.h5_plain.proofs.ListRuleLaws.{IsListName, is_list_name, item_holds}
-use Rattle.h5_plain.proofs.ListStepLaws.{ends_item, starts_item}
+use Rattle.h5_plain.proofs.ListRuleLaws.{IsTermName, is_term, item_holds, item_outside, item_rule, item_seen}
+use Rattle.h5_plain.proofs.ListStepLaws.{ends_item, ends_term, starts_item}
 use Rattle.h5_plain.proofs.LooksLaws.{ends_in_node, ends_in_text, unlike}
-use Rattle.h5_plain.proofs.ModeLaws.{GoesByBody, ResetsTo, TheBody, TheCell, resets_below, resets_to_cell}
+use Rattle.h5_plain.proofs.ModeLaws.{GoesByBody, ResetsTo, TheBody, TheCaption, TheCell, resets_below, resets_to_caption, resets_to_cell}
+use Rattle.h5_plain.proofs.PhraseRuleLaws.{is_mark, is_phrase}
+use Rattle.h5_plain.proofs.PhraseStepLaws.{ends_phrase, marked, marks, rules_off, starts_phrase}
 use Rattle.h5_plain.proofs.RuleLaws.{start}
-use Rattle.h5_plain.proofs.TableBuildsLaws.{cell_case, in_cell, in_part, part_case}
-use Rattle.h5_plain.proofs.TableRuleLaws.{IsCellName, is_cell_name, row_holds, row_rule, section_holds, section_rule, table_holds}
-use Rattle.h5_plain.proofs.TableStepLaws.{Ends, ends_row, ends_section, ends_table, same_marked, starts_part, starts_table}
+use Rattle.h5_plain.proofs.TableBuildsLaws.{in_marked, in_part, marked_case, part_case}
+use Rattle.h5_plain.proofs.TableRuleLaws.{IsCellName, caption, column_is_void, group_holds, group_rule, is_cell_name, is_part_name, row_holds, row_rule, table_holds}
+use Rattle.h5_plain.proofs.TableStepLaws.{Ends, ends_caption, ends_cell, ends_group, ends_row, ends_section, ends_table, puts_column, same_marked, starts_caption, starts_cell, starts_part, starts_table, writes_blank}
 
--- the mode and the names of the open elements where such nodes may come
-abbrev pub Fits : Sort → InsertionMode → List QualName → Type 0
-Fits Blocks m names = GoesByBody m × ((has_p_in_button_scope names ≡ false) × ((first_passes is_heading names ≡ false) × ResetsTo names m))
-Fits (Inlines after_text linked) m names = GoesByBody m
-Fits Items m names = GoesByBody m × ((has_p_in_button_scope names ≡ false) × ((newest_item list_item_names names ≡ None) × ResetsTo names m))
-Fits Sections m names = (m ≡ InTable) × (first_passes is_table_scope names ≡ true)
-Fits Rows m names = (m ≡ InTableBody) × (first_passes is_table_body_context names ≡ true)
-Fits Cells m names = (m ≡ InRow) × (first_passes is_table_row_context names ≡ true)
+-- where nothing is said to be open, nothing is found
+abbrev pub Free : Bool → Bool → Type 0
+Free b found = b ≡ false → found ≡ false
+
+abbrev pub NoneOf : Bool → List (List ℕ) → List QualName → Type 0
+NoneOf b locals names = b ≡ false → newest_item locals names ≡ None
+
+abbrev pub no_select : List QualName → Bool
+no_select = in_scope (is_html_named (codes "select")) is_default_scope
+
+-- the mode and the names of the open elements where nodes of flow may come
+pub record FitsFlow (at_root : Option Role) (o : Around) (m : InsertionMode) (names : List QualName) : Type 0 where
+  pub goes : GoesByBody m
+  pub resets : ResetsTo at_root names m
+  pub no_p : Free o.in_p (has_p_in_button_scope names)
+  pub no_heading : Free o.in_heading (first_passes is_heading names)
+  pub no_item : NoneOf o.in_item list_item_names names
+  pub no_description : NoneOf o.in_description description_names names
+  pub unselected : no_select names ≡ false
+
+-- where such nodes may come
+abbrev pub Fits : Option Role → Sort → InsertionMode → List QualName → Type 0
+Fits at_root (Flow after_text o) m names = FitsFlow at_root o m names
+Fits at_root (Part a Sections) m names = (m ≡ InTable) × ((first_passes is_table_scope names ≡ true) × (first_passes is_table_outer names ≡ true))
+Fits at_root (Columns a) m names = (m ≡ InColumnGroup) × (first_passes (is_html_named (codes "colgroup")) names ≡ true)
+Fits at_root (Part a Rows) m names = (m ≡ InTableBody) × ((first_passes is_table_body_context names ≡ true) × (first_passes is_table_outer names ≡ true))
+Fits at_root (Part a Cells) m names = (m ≡ InRow) × ((first_passes is_table_row_context names ≡ true) × (first_passes is_table_outer names ≡ true))
 
 -- a text may come
 abbrev pub Seam : Sort → List Child → Type 0
-Seam (Inlines false linked) cs = ends_in_text cs ≡ false
+Seam (Flow false o) cs = ends_in_text cs ≡ false
+Seam (Part false k) cs = ends_in_text cs ≡ false
+Seam (Columns false) cs = ends_in_text cs ≡ false
 Seam _ cs = Unit {0}
-
--- a block has a `p` in button scope only if one around it has
-still_no_p : (name : List ℕ) (names : List QualName) → IsBlockName name → has_p_in_button_scope names ≡ false → has_p_in_button_scope (html_name name ∷ names) ≡ false
-still_no_p name names k h =
-    ap (λ b. cond b true (cond (is_button_scope (html_name name)) false (has_p_in_button_scope names))) k.no_p
-    ∙ ap (λ b. cond b false (has_p_in_button_scope names)) k.no_scope
-    ∙ h
-
--- blocks may come in one that holds blocks
-in_division : (m : InsertionMode) (name : List ℕ) (names : List QualName) → IsBlockName name → Fits Blocks m names → Fits Blocks m (html_name name ∷ names)
-in_division m name names k f = (f.0, (still_no_p name names k f.1.0, (k.no_heading, resets_below (html_name name) names k.role f.1.1.1)))
-
--- items may come in a list, which ends the search for an item, and blocks in an item
-in_list : (m : InsertionMode) (name : List ℕ) (names : List QualName) → IsListName name → Fits Blocks m names → Fits Items m (html_name name ∷ names)
-in_list m name names k f = (
-  f.0,
-  (
-    still_no_p name names k.block f.1.0,
-    (
-      ap (λ b. cond b (Some name) (cond (ends_item_search (html_name name)) None (newest_item list_item_names names))) k.no_item
-          ∙ ap (λ b. cond b None (newest_item list_item_names names)) k.ends_search,
-      resets_below (html_name name) names k.block.role f.1.1.1,
-    ),
-  ),
-)
-
-in_item : (m : InsertionMode) (names : List QualName) → Fits Items m names → Fits Blocks m (html_name (codes "li") ∷ names)
-unfolding is_html_named is_button_scope is_default_scope is_foreign_special is_heading html_namespace mathml_namespace svg_namespace scope_names button_scope_names heading_names role_of role_of_local
-in_item m names f = (f.0, (f.1.0, (refl, resets_below (html_name (codes "li")) names refl f.1.1.1)))
-
--- blocks may come in the body
-pub body_fits : (m : InsertionMode) → m ≡ InBody → Fits Blocks m (body ∷ html ∷ [])
-unfolding is_html_named is_button_scope is_default_scope is_foreign_special is_heading html_namespace mathml_namespace svg_namespace scope_names button_scope_names heading_names role_of role_of_local
-body_fits m e = subst (λ k. Fits Blocks k (body ∷ html ∷ [])) (sym e) (TheBody, (refl, (refl, λ s. refl)))
-
--- what a table and its parts hold may come in them
-in_table : (names : List QualName) → Fits Sections InTable (html_name (codes "table") ∷ names)
-unfolding is_table_scope html_namespace table_scope_names
-in_table names = (refl, refl)
-
-in_section : (names : List QualName) → Fits Rows InTableBody (html_name (codes "tbody") ∷ names)
-unfolding is_table_body_context html_namespace table_body_context_names
-in_section names = (refl, refl)
-
-in_row : (names : List QualName) → Fits Cells InRow (html_name (codes "tr") ∷ names)
-unfolding is_table_row_context html_namespace table_row_context_names
-in_row names = (refl, refl)
-
--- blocks may come in a cell, which ends the scope of a `p`
-in_a_cell : (name : List ℕ) (names : List QualName) → IsCellName name → first_passes is_table_row_context names ≡ true → Fits Blocks InCell (html_name name ∷ names)
-in_a_cell name names k h = (
-  TheCell,
-  (
-    ap (λ b. cond b true (cond (is_button_scope (html_name name)) false (has_p_in_button_scope names))) k.no_p
-        ∙ ap (λ b. cond b false (has_p_in_button_scope names)) k.ends_scope,
-    (k.no_heading, resets_to_cell (html_name name) is_table_row_context names k.role h),
-  ),
-)
-
--- the open formatting elements that such nodes know of
-abbrev pub open_of : Sort → List OpenFormat → List OpenFormat
-open_of (Inlines after_text linked) path = path
-open_of _ path = []
 
 -- outside of a link none is open
 abbrev pub Unlinked : Sort → List OpenFormat → Type 0
-Unlinked (Inlines after_text false) path = has_link path ≡ false
+Unlinked (Flow a o) path = Free o.in_link (has_link path)
 Unlinked _ path = Unit {0}
 
-unlinked_in : (after_text linked : Bool) (n : ℕ) (name : List ℕ) (path : List OpenFormat) → is_same_text name (codes "a") ≡ false → Unlinked (Inlines after_text linked) path → Unlinked (Inlines false linked) (Formats n name ∷ path)
-unlinked_in after_text true n name path h u = tt
-unlinked_in after_text false n name path h u = ap (λ b. b || has_link path) h ∙ u
+-- one more open element, that isn't looked for
+more_p : (b : Bool) (n : QualName) (names : List QualName) → is_html_named (codes "p") n ≡ false → is_button_scope n ≡ false → Free b (has_p_in_button_scope names) → Free b (has_p_in_button_scope (n ∷ names))
+more_p b n names p s f e =
+    ap (λ x. cond x true (cond (is_button_scope n) false (has_p_in_button_scope names))) p
+    ∙ ap (λ x. cond x false (has_p_in_button_scope names)) s
+    ∙ f e
 
--- a block: the formatting list stays as it is
-module _ (choices : SinkChoices) {w : World} {p : ℕ} {d : Face} {names : List QualName} {under : List ℕ} {base : List Entry} (c : Calm w p d names [] under base) (name : List ℕ) (attrs : List AttributeText) where
+more_select : (n : QualName) (names : List QualName) → is_html_named (codes "select") n ≡ false → no_select names ≡ false → no_select (n ∷ names) ≡ false
+more_select n names p h = ap (λ x. cond x true (cond (is_default_scope n) false (no_select names))) p ∙ at (is_default_scope n)
+  where
+    at : (b : Bool) → cond b false (no_select names) ≡ false
+    at true = refl
+    at false = h
+
+seen_through : (locals : List (List ℕ)) (b : Bool) (n : QualName) (names : List QualName) → is_html_among locals n ≡ false → ends_item_search n ≡ false → NoneOf b locals names → NoneOf b locals (n ∷ names)
+seen_through locals b n names i s f e =
+    ap (λ x. cond x (Some n.local) (cond (ends_item_search n) None (newest_item locals names))) i
+    ∙ ap (λ x. cond x None (newest_item locals names)) s
+    ∙ f e
+
+hidden : (locals : List (List ℕ)) (n : QualName) (names : List QualName) → is_html_among locals n ≡ false → ends_item_search n ≡ true → newest_item locals (n ∷ names) ≡ None
+hidden locals n names i s =
+    ap (λ x. cond x (Some n.local) (cond (ends_item_search n) None (newest_item locals names))) i
+    ∙ ap (λ x. cond x None (newest_item locals names)) s
+
+-- inside of an element through which items are seen, and of one that hides them
+fits_within : {at_root : Option Role} (o : Around) (m : InsertionMode) (name : List ℕ) (names : List QualName) → IsSeen false name → FitsFlow at_root o m names → FitsFlow at_root (within o) m (html_name name ∷ names)
+fits_within o m name names k f = record {
+  goes = f.goes;
+  resets = resets_below (html_name name) names k.role f.resets;
+  no_p = more_p o.in_p (html_name name) names k.no_p k.no_scope f.no_p;
+  no_heading = λ e. k.no_heading;
+  no_item = seen_through list_item_names o.in_item (html_name name) names k.no_item k.search f.no_item;
+  no_description = seen_through description_names o.in_description (html_name name) names k.no_description k.search f.no_description;
+  unselected = more_select (html_name name) names k.no_select f.unselected;
+}
+
+fits_behind : {at_root : Option Role} (o : Around) (m : InsertionMode) (name : List ℕ) (names : List QualName) → IsSeen true name → FitsFlow at_root o m names → FitsFlow at_root (behind o) m (html_name name ∷ names)
+fits_behind o m name names k f = record {
+  goes = f.goes;
+  resets = resets_below (html_name name) names k.role f.resets;
+  no_p = more_p o.in_p (html_name name) names k.no_p k.no_scope f.no_p;
+  no_heading = λ e. k.no_heading;
+  no_item = λ e. hidden list_item_names (html_name name) names k.no_item k.search;
+  no_description = λ e. hidden description_names (html_name name) names k.no_description k.search;
+  unselected = more_select (html_name name) names k.no_select f.unselected;
+}
+
+-- inside of an `a`
+fits_in_link : {at_root : Option Role} (o : Around) (m : InsertionMode) (names : List QualName) → FitsFlow at_root o m names → FitsFlow at_root (record (within o) { in_link = true }) m (html_name (codes "a") ∷ names)
+fits_in_link o m names f = let g = fits_within o m (codes "a") names a_formats.seen f in record {
+  goes = g.goes;
+  resets = g.resets;
+  no_p = g.no_p;
+  no_heading = g.no_heading;
+  no_item = g.no_item;
+  no_description = g.no_description;
+  unselected = g.unselected;
+}
+
+-- of a `p`
+p_seen : (role_of (html_name (codes "p")) ≡ PlainRole) × ((is_heading (html_name (codes "p")) ≡ false) × ((is_html_named (codes "select") (html_name (codes "p")) ≡ false) × ((is_html_among list_item_names (html_name (codes "p")) ≡ false) × ((is_html_among description_names (html_name (codes "p")) ≡ false) × (ends_item_search (html_name (codes "p")) ≡ false)))))
+unfolding is_html_named is_default_scope is_foreign_special is_heading html_namespace mathml_namespace svg_namespace heading_names role_of role_of_local is_special special_names passed_names list_item_names description_names
+p_seen = (refl, (refl, (refl, (refl, (refl, refl)))))
+
+fits_in_p : {at_root : Option Role} (o : Around) (m : InsertionMode) (names : List QualName) → FitsFlow at_root o m names → FitsFlow at_root (record (within o) { in_p = true }) m (html_name (codes "p") ∷ names)
+fits_in_p o m names f =
+    let n = html_name (codes "p") in
+    let s = p_seen in
+    record {
+      goes = f.goes;
+      resets = resets_below n names s.0 f.resets;
+      no_p = λ e. absurd (cc);
+      no_heading = λ e. s.1.0;
+      no_item = seen_through list_item_names o.in_item n names s.1.1.1.0 s.1.1.1.1.1 f.no_item;
+      no_description = seen_through description_names o.in_description n names s.1.1.1.1.0 s.1.1.1.1.1 f.no_description;
+      unselected = more_select n names s.1.1.0 f.unselected;
+    }
+
+-- of a heading
+fits_in_heading : {at_root : Option Role} (o : Around) (m : InsertionMode) (name : List ℕ) (names : List QualName) → IsHeadingName name → FitsFlow at_root o m names → FitsFlow at_root (record (behind o) { in_heading = true }) m (html_name name ∷ names)
+fits_in_heading o m name names k f =
+    let n = html_name name in
+    record {
+      goes = f.goes;
+      resets = resets_below n names k.role f.resets;
+      no_p = more_p o.in_p n names k.no_p k.no_scope f.no_p;
+      no_heading = λ e. absurd (cc);
+      no_item = λ e. hidden list_item_names n names k.no_item k.search;
+      no_description = λ e. hidden description_names n names k.no_description k.search;
+      unselected = more_select n names k.no_select f.unselected;
+    }
+
+-- of a `li`, and of a `dd` or `dt`
+fits_in_item : {at_root : Option Role} (o : Around) (m : InsertionMode) (names : List QualName) → FitsFlow at_root o m names → FitsFlow at_root (record (behind o) { in_item = true }) m (html_name (codes "li") ∷ names)
+fits_in_item o m names f =
+    let n = html_name (codes "li") in
+    let s = item_seen in
+    record {
+      goes = f.goes;
+      resets = resets_below n names s.1.1.1.0 f.resets;
+      no_p = more_p o.in_p n names s.0 s.1.0 f.no_p;
+      no_heading = λ e. s.1.1.0;
+      no_item = λ e. absurd (cc);
+      no_description = λ e. hidden description_names n names s.1.1.1.1.1.0 s.1.1.1.1.1.1;
+      unselected = more_select n names s.1.1.1.1.0 f.unselected;
+    }
+
+fits_in_term : {at_root : Option Role} (o : Around) (m : InsertionMode) (name : List ℕ) (names : List QualName) → IsTermName name → FitsFlow at_root o m names → FitsFlow at_root (record (behind o) { in_description = true }) m (html_name name ∷ names)
+fits_in_term o m name names k f =
+    let n = html_name name in
+    record {
+      goes = f.goes;
+      resets = resets_below n names k.role f.resets;
+      no_p = more_p o.in_p n names k.no_p k.no_scope f.no_p;
+      no_heading = λ e. k.no_heading;
+      no_item = λ e. hidden list_item_names n names k.no_item k.search;
+      no_description = λ e. absurd (cc);
+      unselected = more_select n names k.no_select f.unselected;
+    }
+
+-- a `hr` has no end tag
+hr_is_void : (has_end_tag (codes "hr") ≡ false) × (is_html_template (html_name (codes "hr")) ≡ false)
+unfolding void_names
+hr_is_void = (refl, refl)
+
+-- nodes of flow may come in the body
+pub body_fits : (at_root : Option Role) (m : InsertionMode) → m ≡ InBody → Fits at_root (Flow false nothing_open) m (body ∷ html ∷ [])
+unfolding is_html_named is_button_scope is_default_scope is_foreign_special is_heading html_namespace mathml_namespace svg_namespace scope_names button_scope_names heading_names role_of role_of_local is_special special_names passed_names list_item_names description_names
+body_fits at_root m e = subst (λ k. Fits at_root (Flow false nothing_open) k (body ∷ html ∷ [])) (sym e)
+    (record { goes = TheBody; resets = λ s q. refl; no_p = λ q. refl; no_heading = λ q. refl; no_item = λ q. refl; no_description = λ q. refl; unselected = refl })
+
+-- what a table and its parts hold may come in them
+in_table : (at_root : Option Role) (names : List QualName) → Fits at_root (Part false Sections) InTable (html_name (codes "table") ∷ names)
+unfolding is_table_scope html_namespace table_scope_names is_table_outer table_outer_names
+in_table at_root names = (refl, (refl, refl))
+
+in_row : (at_root : Option Role) (names : List QualName) → Fits at_root (Part false Cells) InRow (html_name (codes "tr") ∷ names)
+unfolding is_table_row_context html_namespace table_row_context_names is_table_outer table_outer_names
+in_row at_root names = (refl, (refl, refl))
+
+-- nodes of flow may come in a cell, in which nothing is open: it ends the scope of a `p`, and hides items
+in_a_cell : (at_root : Option Role) (name : List ℕ) (names : List QualName) → IsCellName name → first_passes is_table_row_context names ≡ true → Fits at_root (Flow false nothing_open) InCell (html_name name ∷ names)
+in_a_cell at_root name names k h =
+    let n = html_name name in
+    record {
+      goes = TheCell;
+      resets = resets_to_cell at_root n is_table_row_context names k.role h;
+      no_p = λ e. ap (λ b. cond b true (cond (is_button_scope n) false (has_p_in_button_scope names))) k.no_p
+          ∙ ap (λ b. cond b false (has_p_in_button_scope names)) k.ends_scope;
+      no_heading = λ e. k.no_heading;
+      no_item = λ e. hidden list_item_names n names k.no_item k.search;
+      no_description = λ e. hidden description_names n names k.no_description k.search;
+      unselected = ap (λ b. cond b true (cond (is_default_scope n) false (no_select names))) k.no_select
+          ∙ ap (λ b. cond b false (no_select names)) k.ends_default;
+    }
+
+in_a_caption : (at_root : Option Role) (names : List QualName) → first_passes is_table_scope names ≡ true → Fits at_root (Flow false nothing_open) InCaption (html_name (codes "caption") ∷ names)
+in_a_caption at_root names h =
+    let n = html_name (codes "caption") in
+    let k = caption in
+    record {
+      goes = TheCaption;
+      resets = resets_to_caption at_root n is_table_scope names k.role h;
+      no_p = λ e. ap (λ b. cond b true (cond (is_button_scope n) false (has_p_in_button_scope names))) k.no_p
+          ∙ ap (λ b. cond b false (has_p_in_button_scope names)) k.ends_scope;
+      no_heading = λ e. k.no_heading;
+      no_item = λ e. hidden list_item_names n names k.no_item k.search;
+      no_description = λ e. hidden description_names n names k.no_description k.search;
+      unselected = ap (λ b. cond b true (cond (is_default_scope n) false (no_select names))) k.no_select
+          ∙ ap (λ b. cond b false (no_select names)) k.ends_default;
+    }
+
+-- a formatting element that is no link
+unlinked_in : (b : Bool) (n : ℕ) (name : List ℕ) (path : List OpenFormat) → is_same_text name (codes "a") ≡ false → Free b (has_link path) → Free b (has_link (Formats n name ∷ path))
+unlinked_in b n name path h u e = ap (λ x. x || has_link path) h ∙ u e
+
+-- an element that isn't listed: the formatting list stays as it is
+module _ (choices : SinkChoices) {at_root : Option Role} {w : World} {p : ℕ} {d : Face} {names : List QualName} {path : List OpenFormat} {under : List ℕ} {base : List Entry} (c : Calm at_root w p d names path under base) (name : List ℕ) (attrs : List AttributeText) where
   abbrev in_block : World
   in_block = opened choices w p name attrs w.mode w.formatting w.frameset_ok
 
-  opens_block : IsHolder name → Moves choices (start_tag name attrs) w in_block → Opens choices w p d name attrs w.mode w.formatting w.frameset_ok [] (choices.fresh w.forest ∷ w.stack) base
-  opens_block h m = record {
+  abbrev block : ℕ
+  block = choices.fresh w.forest
+
+  opens_block : IsHolder name → Opens choices w p d name attrs w.mode w.formatting w.frameset_ok (Other block ∷ path) under base
+  opens_block h = record {
     has_end = h.has_end;
     no_template = h.no_template;
-    moves = m;
-    are_open = refl;
+    are_open = ap (λ s. block ∷ s) c.are_open;
     is_base = c.is_base;
-    entries = c.entries;
+    entries = Passed c.entries;
     unlisted = λ n e x. e;
   }
 
-  block_case : (inner rest : Nodes) → IsHolder name → Moves choices (start_tag name attrs) w in_block
-      → (Calm in_block (choices.fresh w.forest) (face name attrs) (html_name name ∷ names) [] (choices.fresh w.forest ∷ w.stack) base → Built choices in_block (choices.fresh w.forest) (face name attrs) inner [] base)
+  block_case : {blanks : Bool} → (inner rest : Nodes) → IsHolder name → Moves choices (start_tag name attrs) w in_block
+      → (Calm at_root in_block block (face name attrs) (html_name name ∷ names) (Other block ∷ path) under base → Built blanks choices in_block block (face name attrs) inner (Other block ∷ path) base)
       → ((v : World) → v.mode ≡ w.mode → v.ignore_lf ≡ false → AtHtml v → names_of v ≡ html_name name ∷ names → Moves choices (end_tag name) v (record v { stack = but_first v.stack }))
-      → ((f : Forest) (k : List Entry) (b : Bool) → Calm (after w f k b) p (more d (ChildNode (choices.fresh w.forest) ∷ [])) names [] under base → Built choices (after w f k b) p (more d (ChildNode (choices.fresh w.forest) ∷ [])) rest [] base)
-      → Built choices w p d (ElementThen name attrs inner rest) [] base
+      → ((f : Forest) (k : List Entry) (b : Bool) (x : Option InsertionMode) → Calm at_root (after w f k b x) p (more d (ChildNode block ∷ [])) names path under base → Built blanks choices (after w f k b x) p (more d (ChildNode block ∷ [])) rest path base)
+      → Built blanks choices w p d (ElementThen name attrs inner rest) path base
   block_case inner rest h m fill ends next =
-      element_case choices w p d name attrs w.mode w.formatting w.frameset_ok [] (choices.fresh w.forest ∷ w.stack) base c (opens_block h m) inner rest fill
-      (λ i e j. record {
+      element_case choices w p d name attrs w.mode w.formatting w.frameset_ok (Other block ∷ path) under base c (opens_block h) inner rest (λ ts u g. (in_block, (Straight m, g))) fill
+      (λ i e j x. record {
         forest = i.forest;
         formatting = i.formatting;
-        moves = ends (after in_block i.forest i.formatting i.ok) refl c.ignore_lf j e;
+        moves = ends (after in_block i.forest i.formatting i.ok i.saved) refl c.ignore_lf j e;
         same = same_faces i.forest i.filled.frame.is_forest;
-        entries = i.entries;
+        entries = passed i.entries;
         fewer = i.fewer;
       })
       next
 
--- inlines: a text and the rest, a `br` and the rest
-module _ (choices : SinkChoices) {w : World} {p : ℕ} {d : Face} {names : List QualName} {path : List OpenFormat} {under : List ℕ} {base : List Entry} (c : Calm w p d names path under base) (m : GoesByBody w.mode) where
-  abbrev written : List ℕ → World
-  written t = after w (append_text p t w.forest) w.formatting (w.frameset_ok && all_blank t)
+  -- an element without an end tag, and the rest
+  abbrev put : Bool → World
+  put ok = after w (with_element choices p (html_name name) attrs w.forest) w.formatting ok w.saved_mode
 
-  words_case : (b : ℕ) (t : List ℕ) (rest : Nodes) → ends_in_text d.children ≡ false
-      → (Calm (written (b ∷ t)) p (more d (ChildText (b ∷ t) ∷ [])) names path under base → Built choices (written (b ∷ t)) p (more d (ChildText (b ∷ t) ∷ [])) rest path base)
-      → Built choices w p d (TextThen (b ∷ t) rest) path base
-  words_case b t rest z next =
-      let v = written (b ∷ t) in
-      let x = frame_text w.forest p (b ∷ t) d c.is_forest (λ e. cc) z c.shows in
-      let y = next (calm_after choices c v.forest w.formatting v.frameset_ok x c.entries (λ n h. h)) in
+  mark_case : {blanks : Bool} → (ok : Bool) (rest : Nodes) → has_end_tag name ≡ false → is_html_template (html_name name) ≡ false → Moves choices (start_tag name attrs) w (put ok)
+      → (Calm at_root (put ok) p (more d (ChildNode block ∷ [])) names path under base → Built blanks choices (put ok) p (more d (ChildNode block ∷ [])) rest path base)
+      → Built blanks choices w p d (ElementThen name attrs End rest) path base
+  mark_case {blanks} ok rest void untemplated m next =
+      let v = put ok in
+      let below = calm_below choices c name attrs untemplated in
+      let i = filled_nothing v.forest block (face name attrs) below.is_forest below.new in
+      let same = same_faces v.forest below.is_forest in
+      let x = frame_element choices w.forest p d name attrs below c.is_forest c.shows v.forest v.forest End i same in
+      let y = next (calm_after choices c v.forest w.formatting ok w.saved_mode x c.entries (λ k h. h)) in
       record {
         forest = y.forest;
         formatting = y.formatting;
         ok = y.ok;
-        goes = λ ts u g. (v, (writes choices c b t m, y.goes ts u g));
+        saved = y.saved;
+        goes = λ ts u z g. (v, (Straight m, subst (λ b. Goes blanks choices (cond b (tokens_before End (end_tag name ∷ tokens_before rest ts)) (tokens_before rest ts)) v u) (sym void) (y.goes ts u z g)));
+        filled = filled_element choices w.forest p d name attrs below c.is_forest c.shows v.forest v.forest y.forest End rest i same y.filled;
+        entries = y.entries;
+        fewer = y.fewer;
+      }
+
+  -- a `pre`
+  abbrev in_pre : World
+  in_pre = opened choices w p name attrs w.mode w.formatting false
+
+  pre_case : {blanks : Bool} → (inner rest : Nodes) → GoesByBody w.mode → IsHolder name → Moves choices (start_tag name attrs) w (ignoring in_pre) → ((ts : List TokenText) → BeginsOtherwise (tokens_before inner (end_tag name ∷ ts)))
+      → (Calm at_root in_pre block (face name attrs) (html_name name ∷ names) (Other block ∷ path) under base → Built blanks choices in_pre block (face name attrs) inner (Other block ∷ path) base)
+      → ((v : World) → v.mode ≡ w.mode → v.ignore_lf ≡ false → AtHtml v → names_of v ≡ html_name name ∷ names → Moves choices (end_tag name) v (record v { stack = but_first v.stack }))
+      → ((f : Forest) (k : List Entry) (b : Bool) (x : Option InsertionMode) → Calm at_root (after w f k b x) p (more d (ChildNode block ∷ [])) names path under base → Built blanks choices (after w f k b x) p (more d (ChildNode block ∷ [])) rest path base)
+      → Built blanks choices w p d (ElementThen name attrs inner rest) path base
+  pre_case {blanks} inner rest k1 h m other fill ends next =
+      let o : Opens choices w p d name attrs w.mode w.formatting false (Other block ∷ path) under base = record {
+        has_end = h.has_end;
+        no_template = h.no_template;
+        are_open = ap (λ s. block ∷ s) c.are_open;
+        is_base = c.is_base;
+        entries = Passed c.entries;
+        unlisted = λ n e x. e;
+      } in
+      element_case choices w p d name attrs w.mode w.formatting false (Other block ∷ path) under base c o inner rest
+      (λ ts u g. (ignoring in_pre, (Straight m, goes_ignoring blanks choices (tokens_before inner (end_tag name ∷ ts)) in_pre u k1 c.ignore_lf (other ts) g))) fill
+      (λ i e j x. record {
+        forest = i.forest;
+        formatting = i.formatting;
+        moves = ends (after in_pre i.forest i.formatting i.ok i.saved) refl c.ignore_lf j e;
+        same = same_faces i.forest i.filled.frame.is_forest;
+        entries = passed i.entries;
+        fewer = i.fewer;
+      })
+      next
+
+-- a blank text in a table or a part of one
+module _ (choices : SinkChoices) {at_root : Option Role} {w : World} {p : ℕ} {d : Face} {names : List QualName} {path : List OpenFormat} {under : List ℕ} {base : List Entry} (c : Calm at_root w p d names path under base) where
+  abbrev blanked : List ℕ → World
+  blanked t = after w (append_text p t w.forest) w.formatting w.frameset_ok (Some w.mode)
+
+  blank_case : {blanks : Bool} → (b : ℕ) (t : List ℕ) (rest : Nodes) → blanks ≡ true → IsTableMode w.mode → first_passes is_table_outer names ≡ true → all_blank (b ∷ t) ≡ true → ends_in_text d.children ≡ false
+      → ((ts : List TokenText) → BeginsWithTag ts → BeginsWithTag (tokens_before rest ts))
+      → (Calm at_root (blanked (b ∷ t)) p (more d (ChildText (b ∷ t) ∷ [])) names path under base → Built blanks choices (blanked (b ∷ t)) p (more d (ChildText (b ∷ t) ∷ [])) rest path base)
+      → Built blanks choices w p d (TextThen (b ∷ t) rest) path base
+  blank_case b t rest e m o a z tag next =
+      let v = blanked (b ∷ t) in
+      let x = frame_text w.forest p (b ∷ t) d c.is_forest (λ none. cc) z c.shows in
+      let y = next (calm_after choices c v.forest w.formatting w.frameset_ok (Some w.mode) x c.entries (λ n h. h)) in
+      record {
+        forest = y.forest;
+        formatting = y.formatting;
+        ok = y.ok;
+        saved = y.saved;
+        goes = λ ts u q g. (
+          v,
+          (
+            KeptBack e (tag ts (q m))
+                (record {
+                  ignore_lf = c.ignore_lf;
+                  none_pending = c.no_pending;
+                  html = calm_html c;
+                  keeps = ap (first_passes is_table_outer) (names_are w c.named) ∙ o;
+                  mode = m;
+                  blank = a;
+                  node = p;
+                  placed = place_is w p d c.is_current c.shows c.no_foster c.no_template;
+                  to = refl;
+                }),
+            y.goes ts u q g,
+          ),
+        );
         filled = filled_text w.forest v.forest y.forest p d (b ∷ t) rest x y.filled;
         entries = y.entries;
         fewer = y.fewer;
       }
 
-  abbrev broken : List AttributeText → World
-  broken attrs = after w (with_element choices p (html_name (codes "br")) attrs w.forest) w.formatting false
+-- a blank text in a `colgroup`
+module _ (choices : SinkChoices) {at_root : Option Role} {w : World} {p : ℕ} {d : Face} {names : List QualName} {path : List OpenFormat} {under : List ℕ} {base : List Entry} (c : Calm at_root w p d names path under base) where
+  abbrev put_blank : List ℕ → World
+  put_blank t = after w (append_text p t w.forest) w.formatting w.frameset_ok w.saved_mode
 
-  break_case : (attrs : List AttributeText) (rest : Nodes)
-      → (Calm (broken attrs) p (more d (ChildNode (choices.fresh w.forest) ∷ [])) names path under base → Built choices (broken attrs) p (more d (ChildNode (choices.fresh w.forest) ∷ [])) rest path base)
-      → Built choices w p d (ElementThen (codes "br") attrs End rest) path base
-  unfolding void_names
-  break_case attrs rest next =
-      let v = broken attrs in
-      let n = choices.fresh w.forest in
-      let below = calm_below choices c (codes "br") attrs refl in
-      let i = filled_nothing v.forest n (face (codes "br") attrs) below.is_forest below.new in
-      let same = same_faces v.forest below.is_forest in
-      let x = frame_element choices w.forest p d (codes "br") attrs below c.is_forest c.shows v.forest v.forest End i same in
-      let y = next (calm_after choices c v.forest w.formatting false x c.entries (λ k h. h)) in
+  column_blank_case : {blanks : Bool} → (b : ℕ) (t : List ℕ) (rest : Nodes) → blanks ≡ true → w.mode ≡ InColumnGroup → ends_in_text d.children ≡ false → Takes choices (Characters (b ∷ t)) w (put_blank (b ∷ t))
+      → (Calm at_root (put_blank (b ∷ t)) p (more d (ChildText (b ∷ t) ∷ [])) names path under base → Built blanks choices (put_blank (b ∷ t)) p (more d (ChildText (b ∷ t) ∷ [])) rest path base)
+      → Built blanks choices w p d (TextThen (b ∷ t) rest) path base
+  column_blank_case b t rest e i z m next =
+      let v = put_blank (b ∷ t) in
+      let x = frame_text w.forest p (b ∷ t) d c.is_forest (λ none. cc) z c.shows in
+      let y = next (calm_after choices c v.forest w.formatting w.frameset_ok w.saved_mode x c.entries (λ n h. h)) in
       record {
         forest = y.forest;
         formatting = y.formatting;
         ok = y.ok;
-        goes = λ ts u g. (v, (breaks choices c attrs m, y.goes ts u g));
-        filled = filled_element choices w.forest p d (codes "br") attrs below c.is_forest c.shows v.forest v.forest y.forest End rest i same y.filled;
+        saved = y.saved;
+        goes = λ ts u q g. (v, (InColumns e i m, y.goes ts u q g));
+        filled = filled_text w.forest v.forest y.forest p d (b ∷ t) rest x y.filled;
+        entries = y.entries;
+        fewer = y.fewer;
+      }
+
+group_named : is_html_named (codes "colgroup") (html_name (codes "colgroup")) ≡ true
+unfolding is_html_named html_namespace
+group_named = refl
+
+-- no text stands right behind a text
+abbrev behind_text : Sort → Bool
+behind_text (Flow a o) = a
+behind_text (Part a k) = a
+behind_text (Columns a) = a
+
+no_text : {blanks : Bool} → {s : Sort} {text : List ℕ} {rest : Nodes} → IsPlain blanks s (TextThen text rest) → behind_text s ≡ true → ⊥
+no_text (Words n r) e = absurd (let z : false ≡ true = e in cc)
+no_text (Blank q a n r) e = absurd (let z : false ≡ true = e in cc)
+no_text (ColumnBlank q a n r) e = absurd (let z : false ≡ true = e in cc)
+
+-- a tag follows a blank text in a table
+tag_next : {blanks : Bool} {part : TablePart} (rest : Nodes) → IsPlain blanks (Part true part) rest → (ts : List TokenText) → BeginsWithTag ts → BeginsWithTag (tokens_before rest ts)
+tag_next End k ts h = h
+tag_next (ElementThen name attrs inner rest) k ts h = tt
+tag_next (TextThen text rest) k ts h = absurd (no_text k refl)
+
+table_mode : (a : Bool) (at_root : Option Role) (part : TablePart) (m : InsertionMode) (names : List QualName) → Fits at_root (Part a part) m names → IsTableMode m
+table_mode a at_root Sections m names f = subst IsTableMode (sym f.0) TheTable
+table_mode a at_root Rows m names f = subst IsTableMode (sym f.0) TheSection
+table_mode a at_root Cells m names f = subst IsTableMode (sym f.0) TheRow
+
+table_outer : (a : Bool) (at_root : Option Role) (part : TablePart) (m : InsertionMode) (names : List QualName) → Fits at_root (Part a part) m names → first_passes is_table_outer names ≡ true
+table_outer a at_root Sections m names f = f.1.1
+table_outer a at_root Rows m names f = f.1.1
+table_outer a at_root Cells m names f = f.1.1
+
+same_place : (at_root : Option Role) (part : TablePart) (m : InsertionMode) (names : List QualName) → Fits at_root (Part false part) m names → Fits at_root (Part true part) m names
+same_place at_root Sections m names f = f
+same_place at_root Rows m names f = f
+same_place at_root Cells m names f = f
+
+-- what begins with no newline
+begins : {blanks : Bool} → {s : Sort} (inner : Nodes) → IsPlain blanks s inner → begins_with_newline inner ≡ false → (name : List ℕ) (ts : List TokenText) → BeginsOtherwise (tokens_before inner (end_tag name ∷ ts))
+begins End k h name ts = refl
+begins (TextThen [] rest) k h name ts = refl
+begins (TextThen (b ∷ t) rest) k h name ts = ap not h
+begins (ElementThen n a i r) k h name ts = refl
+
+-- a text and the rest
+module _ (choices : SinkChoices) {at_root : Option Role} {w : World} {p : ℕ} {d : Face} {names : List QualName} {path : List OpenFormat} {under : List ℕ} {base : List Entry} (c : Calm at_root w p d names path under base) (m : GoesByBody w.mode) where
+  abbrev written : List ℕ → World
+  written t = after w (append_text p t w.forest) w.formatting (w.frameset_ok && all_blank t) w.saved_mode
+
+  words_case : {blanks : Bool} → (b : ℕ) (t : List ℕ) (rest : Nodes) → ends_in_text d.children ≡ false
+      → (Calm at_root (written (b ∷ t)) p (more d (ChildText (b ∷ t) ∷ [])) names path under base → Built blanks choices (written (b ∷ t)) p (more d (ChildText (b ∷ t) ∷ [])) rest path base)
+      → Built blanks choices w p d (TextThen (b ∷ t) rest) path base
+  words_case b t rest z next =
+      let v = written (b ∷ t) in
+      let x = frame_text w.forest p (b ∷ t) d c.is_forest (λ e. cc) z c.shows in
+      let y = next (calm_after choices c v.forest w.formatting v.frameset_ok w.saved_mode x c.entries (λ n h. h)) in
+      record {
+        forest = y.forest;
+        formatting = y.formatting;
+        ok = y.ok;
+        saved = y.saved;
+        goes = λ ts u q g. (v, (Straight (writes choices c b t m), y.goes ts u q g));
+        filled = filled_text w.forest v.forest y.forest p d (b ∷ t) rest x y.filled;
         entries = y.entries;
         fewer = y.fewer;
       }
 
 -- a formatting element and the rest: it is listed while it is open, unless a fourth alike comes inside it
-module _ (choices : SinkChoices) {w : World} {p : ℕ} {d : Face} {names : List QualName} {path : List OpenFormat} {under : List ℕ} {base : List Entry} (c : Calm w p d names path under base) (name : List ℕ) (attrs : List AttributeText) where
+module _ (choices : SinkChoices) {at_root : Option Role} {w : World} {p : ℕ} {d : Face} {names : List QualName} {path : List OpenFormat} {under : List ℕ} {base : List Entry} (c : Calm at_root w p d names path under base) (name : List ℕ) (attrs : List AttributeText) where
   abbrev in_format : World
   in_format = formatted choices c name attrs
 
   abbrev its_node : ℕ
   its_node = choices.fresh w.forest
 
-  opens_format : IsHolder name → Moves choices (start_tag name attrs) w in_format
-      → Opens choices w p d name attrs w.mode (push_formatting its_node (start name attrs) w.formatting) w.frameset_ok (Formats its_node name ∷ path) under base
-  opens_format h m = record {
+  opens_format : IsHolder name → Opens choices w p d name attrs w.mode (push_formatting its_node (start name attrs) w.formatting) w.frameset_ok (Formats its_node name ∷ path) under base
+  opens_format h = record {
     has_end = h.has_end;
     no_template = h.no_template;
-    moves = m;
     are_open = ap (λ s. its_node ∷ s) c.are_open;
     is_base = c.is_base;
     entries = entries_pushed its_node name attrs c.is_base (c.unlisted its_node (choices.fresh_is_new w.forest c.is_forest)) c.entries;
@@ -225,112 +498,161 @@ module _ (choices : SinkChoices) {w : World} {p : ℕ} {d : Face} {names : List 
   }
 
   -- its end tag
-  closes_format : (f : Forest) (l : List Entry) (ok : Bool) → IsFormatName name → GoesByBody w.mode → IsForest f → names_of (after in_format f l ok) ≡ html_name name ∷ names → AtHtml (after in_format f l ok)
-      → Entries base (Formats its_node name ∷ path) l → Fewer l (push_formatting its_node (start name attrs) w.formatting) → Closed choices name (after in_format f l ok) w path base
-  closes_format f l ok k m i e j (Kept {attrs = a} {l = older} o r) x = record {
+  closes_format : (f : Forest) (l : List Entry) (ok : Bool) (saved : Option InsertionMode) → IsFormatName name → GoesByBody w.mode → IsForest f → names_of (after in_format f l ok saved) ≡ html_name name ∷ names → AtHtml (after in_format f l ok saved)
+      → Entries base (Formats its_node name ∷ path) l → Fewer l (push_formatting its_node (start name attrs) w.formatting) → Closed choices name (after in_format f l ok saved) w path base
+  closes_format f l ok saved k m i e j (Kept {attrs = a} {l = older} o r) x = record {
     forest = f;
     formatting = older;
-    moves = ends_kept choices (after in_format f l ok) its_node w.stack names name k m c.ignore_lf j refl e (start name a) older k.same refl;
+    moves = ends_kept choices (after in_format f l ok saved) its_node w.stack names name k m c.ignore_lf j refl e (start name a) older k.same refl;
     same = same_faces f i;
     entries = r;
     fewer = closed_fewer its_node (start name attrs) w.formatting older o (rest_fewer its_node (start name a) older (push_formatting its_node (start name attrs) w.formatting) x);
   }
-  closes_format f l ok k m i e j (Lost o r) x = record {
+  closes_format f l ok saved k m i e j (Lost o r) x = record {
     forest = mark (choices.marks_after_pop f its_node) f;
     formatting = l;
-    moves = ends_lost choices (after in_format f l ok) its_node w.stack names name k m c.ignore_lf j refl e o;
+    moves = ends_lost choices (after in_format f l ok saved) its_node w.stack names name k m c.ignore_lf j refl e o;
     same = same_marked f (choices.marks_after_pop f its_node) i;
     entries = r;
     fewer = closed_fewer its_node (start name attrs) w.formatting l o x;
   }
 
-  format_case : (inner rest : Nodes) → IsFormatName name → GoesByBody w.mode → Moves choices (start_tag name attrs) w in_format
-      → (Calm in_format its_node (face name attrs) (html_name name ∷ names) (Formats its_node name ∷ path) under base → Built choices in_format its_node (face name attrs) inner (Formats its_node name ∷ path) base)
-      → ((f : Forest) (k : List Entry) (b : Bool) → Calm (after w f k b) p (more d (ChildNode its_node ∷ [])) names path under base → Built choices (after w f k b) p (more d (ChildNode its_node ∷ [])) rest path base)
-      → Built choices w p d (ElementThen name attrs inner rest) path base
+  format_case : {blanks : Bool} → (inner rest : Nodes) → IsFormatName name → GoesByBody w.mode → Moves choices (start_tag name attrs) w in_format
+      → (Calm at_root in_format its_node (face name attrs) (html_name name ∷ names) (Formats its_node name ∷ path) under base → Built blanks choices in_format its_node (face name attrs) inner (Formats its_node name ∷ path) base)
+      → ((f : Forest) (k : List Entry) (b : Bool) (x : Option InsertionMode) → Calm at_root (after w f k b x) p (more d (ChildNode its_node ∷ [])) names path under base → Built blanks choices (after w f k b x) p (more d (ChildNode its_node ∷ [])) rest path base)
+      → Built blanks choices w p d (ElementThen name attrs inner rest) path base
   format_case inner rest k m moves fill next =
-      element_case choices w p d name attrs w.mode (push_formatting its_node (start name attrs) w.formatting) w.frameset_ok (Formats its_node name ∷ path) under base c (opens_format k.holds moves) inner rest fill
-      (λ i e j. closes_format i.forest i.formatting i.ok k m i.filled.frame.is_forest e j i.entries i.fewer)
+      element_case choices w p d name attrs w.mode (push_formatting its_node (start name attrs) w.formatting) w.frameset_ok (Formats its_node name ∷ path) under base c (opens_format k.holds) inner rest (λ ts u g. (in_format, (Straight moves, g))) fill
+      (λ i e j x. closes_format i.forest i.formatting i.ok i.saved k m i.filled.frame.is_forest e j i.entries i.fewer)
       next
 
 -- THE INDUCTION: from any calm builder, the tokens of plain nodes lead to it again, but for those nodes below its
 -- current node, the formatting list and the frameset flag
-pub builds : (choices : SinkChoices) {s : Sort} {nodes : Nodes} → IsPlain s nodes → (w : World) (p : ℕ) (d : Face) (names : List QualName) (path : List OpenFormat) (under : List ℕ) (base : List Entry)
-    → Fits s w.mode names → Seam s d.children → Unlinked s path → Calm w p d names (open_of s path) under base → Built choices w p d nodes (open_of s path) base
-builds choices Nothing w p d names path under base f z l c = built_nothing choices c
-builds choices (Division {name} {attrs} {inner} {rest} h a i r) w p d names path under base f z l c =
+pub builds : {blanks : Bool} → (choices : SinkChoices) {at_root : Option Role} {s : Sort} {nodes : Nodes} → IsPlain blanks s nodes → (w : World) (p : ℕ) (d : Face) (names : List QualName) (path : List OpenFormat) (under : List ℕ) (base : List Entry)
+    → Fits at_root s w.mode names → Seam s d.children → Unlinked s path → Calm at_root w p d names path under base → Built blanks choices w p d nodes path base
+builds choices {at_root} Nothing w p d names path under base f z l c = built_nothing choices c
+builds choices {at_root} (Words {o} {first} {more = further} {rest} a r) w p d names path under base f z l c =
+    words_case choices c f.goes first further rest z
+    (λ q. builds choices r (written choices c f.goes (first ∷ further)) p (more d (ChildText (first ∷ further) ∷ [])) names path under base f tt l q)
+builds choices {at_root} (Division {a} {o} {name} {attrs} {inner} {rest} h u y i r) w p d names path under base f z l c =
     let n = choices.fresh w.forest in
-    let x = is_division_name name h in
-    block_case choices c name attrs inner rest x.holds (starts_block choices c name attrs f.0 x.holds x.outside f.1.0 (x.starts attrs w))
-    (λ o. builds choices i (in_block choices c name attrs) n (face name attrs) (html_name name ∷ names) [] (n ∷ w.stack) base (in_division w.mode name names x f) tt tt o)
-    (λ v m k j e. ends_block choices v names (subst GoesByBody (sym m) f.0) k j name x e)
-    (λ g k b q. builds choices r (after w g k b) p (more d (ChildNode n ∷ [])) names path under base f tt tt q)
-builds choices (Paragraph {attrs} {inner} {rest} a i r) w p d names path under base f z l c =
+    let x = is_open_block name h in
+    block_case choices c name attrs inner rest x.block.holds (starts_block choices c name attrs f.goes x.block.holds x.block.outside (f.no_p u) (x.block.starts attrs w))
+    (λ q. builds choices i (in_block choices c name attrs) n (face name attrs) (html_name name ∷ names) (Other n ∷ path) under base (fits_within o w.mode name names x.seen f) refl l q)
+    (λ v m k j e. ends_block choices v names (subst GoesByBody (sym m) f.goes) k j name x.block e)
+    (λ g k b y1 q. builds choices r (after w g k b y1) p (more d (ChildNode n ∷ [])) names path under base f (ends_in_node n d.children) l q)
+builds choices {at_root} (Barrier {a} {o} {name} {attrs} {inner} {rest} h u y i r) w p d names path under base f z l c =
     let n = choices.fresh w.forest in
-    block_case choices c (codes "p") attrs inner rest p_holds (starts_block choices c (codes "p") attrs f.0 p_holds p_outside f.1.0 (p_rule attrs w))
-    (λ o. builds choices i (in_block choices c (codes "p") attrs) n (face (codes "p") attrs) (html_name (codes "p") ∷ names) [] (n ∷ w.stack) base f.0 refl refl o)
-    (λ v m k j e. ends_p choices v names (subst GoesByBody (sym m) f.0) k j e)
-    (λ g k b q. builds choices r (after w g k b) p (more d (ChildNode n ∷ [])) names path under base f tt tt q)
-builds choices (Heading {name} {attrs} {inner} {rest} h a i r) w p d names path under base f z l c =
+    let x = is_barrier name h in
+    block_case choices c name attrs inner rest x.block.holds (starts_block choices c name attrs f.goes x.block.holds x.block.outside (f.no_p u) (x.block.starts attrs w))
+    (λ q. builds choices i (in_block choices c name attrs) n (face name attrs) (html_name name ∷ names) (Other n ∷ path) under base (fits_behind o w.mode name names x.seen f) refl l q)
+    (λ v m k j e. ends_block choices v names (subst GoesByBody (sym m) f.goes) k j name x.block e)
+    (λ g k b y1 q. builds choices r (after w g k b y1) p (more d (ChildNode n ∷ [])) names path under base f (ends_in_node n d.children) l q)
+builds choices {at_root} (Paragraph {a} {o} {attrs} {inner} {rest} u y i r) w p d names path under base f z l c =
+    let n = choices.fresh w.forest in
+    block_case choices c (codes "p") attrs inner rest p_holds (starts_block choices c (codes "p") attrs f.goes p_holds p_outside (f.no_p u) (p_rule attrs w))
+    (λ q. builds choices i (in_block choices c (codes "p") attrs) n (face (codes "p") attrs) (html_name (codes "p") ∷ names) (Other n ∷ path) under base (fits_in_p o w.mode names f) refl l q)
+    (λ v m k j e. ends_p choices v names (subst GoesByBody (sym m) f.goes) k j e)
+    (λ g k b y1 q. builds choices r (after w g k b y1) p (more d (ChildNode n ∷ [])) names path under base f (ends_in_node n d.children) l q)
+builds choices {at_root} (Heading {a} {o} {name} {attrs} {inner} {rest} h u t y i r) w p d names path under base f z l c =
     let n = choices.fresh w.forest in
     let x = is_heading_name name h in
-    block_case choices c name attrs inner rest x.holds (starts_heading choices c name attrs x f.0 f.1.0 f.1.1.0)
-    (λ o. builds choices i (in_block choices c name attrs) n (face name attrs) (html_name name ∷ names) [] (n ∷ w.stack) base f.0 refl refl o)
-    (λ v m k j e. ends_heading choices v names (subst GoesByBody (sym m) f.0) k j name x e)
-    (λ g k b q. builds choices r (after w g k b) p (more d (ChildNode n ∷ [])) names path under base f tt tt q)
-builds choices (ItemList {name} {attrs} {inner} {rest} h a i r) w p d names path under base f z l c =
+    block_case choices c name attrs inner rest x.holds (starts_heading choices c name attrs x f.goes (f.no_p u) (f.no_heading t))
+    (λ q. builds choices i (in_block choices c name attrs) n (face name attrs) (html_name name ∷ names) (Other n ∷ path) under base (fits_in_heading o w.mode name names x f) refl l q)
+    (λ v m k j e. ends_heading choices v names (subst GoesByBody (sym m) f.goes) k j name x e)
+    (λ g k b y1 q. builds choices r (after w g k b y1) p (more d (ChildNode n ∷ [])) names path under base f (ends_in_node n d.children) l q)
+builds choices {at_root} (Phrase {a} {o} {name} {attrs} {inner} {rest} h y i r) w p d names path under base f z l c =
     let n = choices.fresh w.forest in
-    let x = is_list_name name h in
-    block_case choices c name attrs inner rest x.block.holds (starts_block choices c name attrs f.0 x.block.holds x.block.outside f.1.0 (x.block.starts attrs w))
-    (λ o. builds choices i (in_block choices c name attrs) n (face name attrs) (html_name name ∷ names) [] (n ∷ w.stack) base (in_list w.mode name names x f) tt tt o)
-    (λ v m k j e. ends_block choices v names (subst GoesByBody (sym m) f.0) k j name x.block e)
-    (λ g k b q. builds choices r (after w g k b) p (more d (ChildNode n ∷ [])) names path under base f tt tt q)
-builds choices (Item {attrs} {inner} {rest} a i r) w p d names path under base f z l c =
+    let x = is_phrase name h in
+    block_case choices c name attrs inner rest x.holds (starts_phrase choices c name attrs x f.goes)
+    (λ q. builds choices i (in_block choices c name attrs) n (face name attrs) (html_name name ∷ names) (Other n ∷ path) under base (fits_within o w.mode name names x.seen f) refl l q)
+    (λ v m k j e. ends_phrase choices v names (subst GoesByBody (sym m) f.goes) k j name x e)
+    (λ g k b y1 q. builds choices r (after w g k b y1) p (more d (ChildNode n ∷ [])) names path under base f (ends_in_node n d.children) l q)
+builds choices {at_root} (Item {a} {o} {attrs} {inner} {rest} u t y i r) w p d names path under base f z l c =
     let n = choices.fresh w.forest in
-    part_case choices c (codes "li") attrs w.mode false inner rest item_holds (starts_item choices c attrs f.0 f.1.0 f.1.1.0)
-    (λ o. builds choices i (in_part choices c (codes "li") attrs w.mode false) n (face (codes "li") attrs) (html_name (codes "li") ∷ names) [] (n ∷ w.stack) base (in_item w.mode names f) tt tt o)
-    (λ v g k j m e. subst (Ends choices (codes "li") v) m (ends_item choices v names (subst GoesByBody (sym m) f.0) k j g e))
-    (λ g k b q. builds choices r (after w g k b) p (more d (ChildNode n ∷ [])) names path under base f tt tt q)
-builds choices (Table {attrs} {inner} {rest} a i r) w p d names path under base f z l c =
+    part_case choices c (codes "li") attrs w.mode false inner rest item_holds (starts_item choices c list_item_names (codes "li") attrs item_holds item_outside (item_rule attrs) f.goes (f.no_p u) (f.no_item t))
+    (λ q. builds choices i (in_part choices c (codes "li") attrs w.mode false) n (face (codes "li") attrs) (html_name (codes "li") ∷ names) (Other n ∷ path) under base (fits_in_item o w.mode names f) refl l q)
+    (λ v g k j q m e. subst (Ends choices (codes "li") v) m (ends_item choices v names (subst GoesByBody (sym m) f.goes) k j g e))
+    (λ g k b y1 q. builds choices r (after w g k b y1) p (more d (ChildNode n ∷ [])) names path under base f (ends_in_node n d.children) l q)
+builds choices {at_root} (Describing {a} {o} {name} {attrs} {inner} {rest} h u t y i r) w p d names path under base f z l c =
     let n = choices.fresh w.forest in
-    part_case choices c (codes "table") attrs InTable false inner rest table_holds (starts_table choices c attrs f.0 f.1.0)
-    (λ o. builds choices i (in_part choices c (codes "table") attrs InTable false) n (face (codes "table") attrs) (html_name (codes "table") ∷ names) [] (n ∷ w.stack) base (in_table names) tt tt o)
-    (λ v g k j m e. ends_table choices v names g k j w.mode m e f.1.1.1)
-    (λ g k b q. builds choices r (after w g k b) p (more d (ChildNode n ∷ [])) names path under base f tt tt q)
-builds choices (Section {attrs} {inner} {rest} a i r) w p d names path under base f z l c =
+    let x = is_term name h in
+    part_case choices c name attrs w.mode false inner rest x.holds (starts_item choices c description_names name attrs x.holds x.outside (x.starts attrs) f.goes (f.no_p u) (f.no_description t))
+    (λ q. builds choices i (in_part choices c name attrs w.mode false) n (face name attrs) (html_name name ∷ names) (Other n ∷ path) under base (fits_in_term o w.mode name names x f) refl l q)
+    (λ v g k j q m e. subst (Ends choices name v) m (ends_term choices v names (subst GoesByBody (sym m) f.goes) k j name x g e))
+    (λ g k b y1 q. builds choices r (after w g k b y1) p (more d (ChildNode n ∷ [])) names path under base f (ends_in_node n d.children) l q)
+builds choices {at_root} (Table {a} {o} {attrs} {inner} {rest} u y i r) w p d names path under base f z l c =
     let n = choices.fresh w.forest in
-    part_case choices c (codes "tbody") attrs InTableBody w.frameset_ok inner rest section_holds
-    (starts_part choices c (codes "tbody") attrs InTable InTableBody is_table_scope section_holds f.0 f.1 (section_rule attrs w))
-    (λ o. builds choices i (in_part choices c (codes "tbody") attrs InTableBody w.frameset_ok) n (face (codes "tbody") attrs) (html_name (codes "tbody") ∷ names) [] (n ∷ w.stack) base (in_section names) tt tt o)
-    (λ v g k j m e. subst (Ends choices (codes "tbody") v) (sym f.0) (ends_section choices v names g k j m e))
-    (λ g k b q. builds choices r (after w g k b) p (more d (ChildNode n ∷ [])) names path under base f tt tt q)
-builds choices (TableRow {attrs} {inner} {rest} a i r) w p d names path under base f z l c =
+    part_case choices c (codes "table") attrs InTable false inner rest table_holds (starts_table choices c attrs f.goes (f.no_p u))
+    (λ q. builds choices i (in_part choices c (codes "table") attrs InTable false) n (face (codes "table") attrs) (html_name (codes "table") ∷ names) (Other n ∷ path) under base (in_table at_root names) refl tt q)
+    (λ v g k j x m e. ends_table choices v names g k j at_root w.mode x m e f.resets)
+    (λ g k b y1 q. builds choices r (after w g k b y1) p (more d (ChildNode n ∷ [])) names path under base f (ends_in_node n d.children) l q)
+builds choices {at_root} (Section {a} {name} {attrs} {inner} {rest} h y i r) w p d names path under base f z l c =
     let n = choices.fresh w.forest in
-    part_case choices c (codes "tr") attrs InRow w.frameset_ok inner rest row_holds
-    (starts_part choices c (codes "tr") attrs InTableBody InRow is_table_body_context row_holds f.0 f.1 (row_rule attrs w))
-    (λ o. builds choices i (in_part choices c (codes "tr") attrs InRow w.frameset_ok) n (face (codes "tr") attrs) (html_name (codes "tr") ∷ names) [] (n ∷ w.stack) base (in_row names) tt tt o)
-    (λ v g k j m e. subst (Ends choices (codes "tr") v) (sym f.0) (ends_row choices v names g k j m e))
-    (λ g k b q. builds choices r (after w g k b) p (more d (ChildNode n ∷ [])) names path under base f tt tt q)
-builds choices (Cell {name} {attrs} {inner} {rest} h a i r) w p d names path under base f z l c =
+    let x = is_part_name name h in
+    part_case choices c name attrs InTableBody w.frameset_ok inner rest x.holds (starts_part choices c name attrs InTable InTableBody is_table_scope x.holds f.0 f.1.0 (x.starts attrs w))
+    (λ q. builds choices i (in_part choices c name attrs InTableBody w.frameset_ok) n (face name attrs) (html_name name ∷ names) (Other n ∷ path) under base ((refl, (x.context, x.outer))) refl tt q)
+    (λ v g k j q m e. subst (Ends choices name v) (sym f.0) (ends_section choices v names g k j name x m e))
+    (λ g k b y1 q. builds choices r (after w g k b y1) p (more d (ChildNode n ∷ [])) names path under base f (ends_in_node n d.children) l q)
+builds choices {at_root} (TableRow {a} {attrs} {inner} {rest} y i r) w p d names path under base f z l c =
+    let n = choices.fresh w.forest in
+    part_case choices c (codes "tr") attrs InRow w.frameset_ok inner rest row_holds (starts_part choices c (codes "tr") attrs InTableBody InRow is_table_body_context row_holds f.0 f.1.0 (row_rule attrs w))
+    (λ q. builds choices i (in_part choices c (codes "tr") attrs InRow w.frameset_ok) n (face (codes "tr") attrs) (html_name (codes "tr") ∷ names) (Other n ∷ path) under base (in_row at_root names) refl tt q)
+    (λ v g k j q m e. subst (Ends choices (codes "tr") v) (sym f.0) (ends_row choices v names g k j m e))
+    (λ g k b y1 q. builds choices r (after w g k b y1) p (more d (ChildNode n ∷ [])) names path under base f (ends_in_node n d.children) l q)
+builds choices {at_root} (Cell {a} {name} {attrs} {inner} {rest} h y i r) w p d names path under base f z l c =
     let n = choices.fresh w.forest in
     let x = is_cell_name name h in
-    cell_case choices c name attrs inner rest x f.0 f.1
-    (λ o. builds choices i (in_cell choices c name attrs) n (face name attrs) (html_name name ∷ names) [] (n ∷ w.stack) (MarkerEntry ∷ w.formatting) (in_a_cell name names x f.1) tt tt o)
-    (λ g k b q. builds choices r (after w g k b) p (more d (ChildNode n ∷ [])) names path under base f tt tt q)
-builds choices (Words {linked} {first} {more = further} {rest} a r) w p d names path under base f z l c =
-    words_case choices c f first further rest z
-    (λ q. builds choices r (written choices c f (first ∷ further)) p (more d (ChildText (first ∷ further) ∷ [])) names path under base f tt l q)
-builds choices (Break {after_text} {linked} {attrs} {rest} a r) w p d names path under base f z l c =
-    break_case choices c f attrs rest
-    (λ q. builds choices r (broken choices c f attrs) p (more d (ChildNode (choices.fresh w.forest) ∷ [])) names path under base f (ends_in_node (choices.fresh w.forest) d.children) l q)
-builds choices (Formatted {after_text} {linked} {name} {attrs} {inner} {rest} h a i r) w p d names path under base f z l c =
+    marked_case choices c name attrs InCell inner rest x.holds (starts_cell choices c name attrs x f.0 f.1.0)
+    (λ q. builds choices i (in_marked choices c name attrs InCell) n (face name attrs) (html_name name ∷ names) [] (n ∷ w.stack) (MarkerEntry ∷ w.formatting) (in_a_cell at_root name names x f.1.0) refl (λ e. refl) q)
+    (λ v g k j m e. subst (λ k. Moves choices (end_tag name) v (record v { formatting = clear_to_marker v.formatting; mode = k; stack = but_first v.stack })) (sym f.0) (ends_cell choices v names g k j name x m e))
+    (λ g k b y1 q. builds choices r (after w g k b y1) p (more d (ChildNode n ∷ [])) names path under base f (ends_in_node n d.children) l q)
+builds choices {at_root} (Ruled {a} {o} {attrs} {rest} u y r) w p d names path under base f z l c =
+    let n = choices.fresh w.forest in
+    mark_case choices c (codes "hr") attrs false rest hr_is_void.0 hr_is_void.1 (rules_off choices c attrs f.goes (f.no_p u) f.unselected)
+    (λ q. builds choices r (put choices c (codes "hr") attrs false) p (more d (ChildNode n ∷ [])) names path under base f (ends_in_node n d.children) l q)
+builds choices {at_root} (Break {a} {o} {name} {attrs} {rest} h y r) w p d names path under base f z l c =
+    let n = choices.fresh w.forest in
+    let x = is_mark name h in
+    mark_case choices c name attrs false rest x.no_end x.no_template (marks choices c name attrs x f.goes)
+    (λ q. builds choices r (put choices c name attrs false) p (more d (ChildNode n ∷ [])) names path under base f (ends_in_node n d.children) l q)
+builds choices {at_root} (Formatted {a} {o} {name} {attrs} {inner} {rest} h y i r) w p d names path under base f z l c =
     let n = choices.fresh w.forest in
     let x = is_inline_name name h in
-    format_case choices c name attrs inner rest x.formats f (starts_formatting choices c name attrs x f)
-    (λ o. builds choices i (in_format choices c name attrs) n (face name attrs) (html_name name ∷ names) (Formats n name ∷ path) under base f refl (unlinked_in after_text linked n name path x.no_link l) o)
-    (λ g k b q. builds choices r (after w g k b) p (more d (ChildNode n ∷ [])) names path under base f (ends_in_node n d.children) l q)
-builds choices (Link {after_text} {attrs} {inner} {rest} a i r) w p d names path under base f z l c =
+    format_case choices c name attrs inner rest x.formats f.goes (starts_formatting choices c name attrs x f.goes)
+    (λ q. builds choices i (in_format choices c name attrs) n (face name attrs) (html_name name ∷ names) (Formats n name ∷ path) under base (fits_within o w.mode name names x.formats.seen f) refl (unlinked_in o.in_link n name path x.no_link l) q)
+    (λ g k b y1 q. builds choices r (after w g k b y1) p (more d (ChildNode n ∷ [])) names path under base f (ends_in_node n d.children) l q)
+builds choices {at_root} (Link {a} {o} {attrs} {inner} {rest} u y i r) w p d names path under base f z l c =
     let n = choices.fresh w.forest in
-    format_case choices c (codes "a") attrs inner rest a_formats f (starts_link choices c attrs f l)
-    (λ o. builds choices i (in_format choices c (codes "a") attrs) n (face (codes "a") attrs) (html_name (codes "a") ∷ names) (Formats n (codes "a") ∷ path) under base f refl tt o)
-    (λ g k b q. builds choices r (after w g k b) p (more d (ChildNode n ∷ [])) names path under base f (ends_in_node n d.children) l q)
+    format_case choices c (codes "a") attrs inner rest a_formats f.goes (starts_link choices c attrs f.goes (l u))
+    (λ q. builds choices i (in_format choices c (codes "a") attrs) n (face (codes "a") attrs) (html_name (codes "a") ∷ names) (Formats n (codes "a") ∷ path) under base (fits_in_link o w.mode names f) refl (λ e. absurd (cc)) q)
+    (λ g k b y1 q. builds choices r (after w g k b y1) p (more d (ChildNode n ∷ [])) names path under base f (ends_in_node n d.children) l q)
+builds choices {at_root} (Preformatted {a} {o} {attrs} {inner} {rest} u t y i r) w p d names path under base f z l c =
+    let n = choices.fresh w.forest in
+    pre_case choices c (codes "pre") attrs inner rest f.goes pre.block (starts_pre choices c attrs f.goes (f.no_p u)) (begins inner i t (codes "pre"))
+    (λ q. builds choices i (in_pre choices c (codes "pre") attrs) n (face (codes "pre") attrs) (html_name (codes "pre") ∷ names) (Other n ∷ path) under base (fits_behind o w.mode (codes "pre") names pre.seen f) refl l q)
+    (λ v m k j e. ends_pre choices v names (subst GoesByBody (sym m) f.goes) k j e)
+    (λ g k b y1 q. builds choices r (after w g k b y1) p (more d (ChildNode n ∷ [])) names path under base f (ends_in_node n d.children) l q)
+builds choices {at_root} (Caption {a} {attrs} {inner} {rest} y i r) w p d names path under base f z l c =
+    let n = choices.fresh w.forest in
+    let name = codes "caption" in
+    marked_case choices c name attrs InCaption inner rest caption.holds (starts_caption choices c attrs f.0 f.1.0)
+    (λ q. builds choices i (in_marked choices c name attrs InCaption) n (face name attrs) (html_name name ∷ names) [] (n ∷ w.stack) (MarkerEntry ∷ w.formatting) (in_a_caption at_root names f.1.0) refl (λ e. refl) q)
+    (λ v g k j m e. ends_caption choices v names g k j w.mode f.0 m e)
+    (λ g k b y1 q. builds choices r (after w g k b y1) p (more d (ChildNode n ∷ [])) names path under base f (ends_in_node n d.children) l q)
+builds choices {at_root} (ColumnGroup {a} {attrs} {inner} {rest} y i r) w p d names path under base f z l c =
+    let n = choices.fresh w.forest in
+    part_case choices c (codes "colgroup") attrs InColumnGroup w.frameset_ok inner rest group_holds (starts_part choices c (codes "colgroup") attrs InTable InColumnGroup is_table_scope group_holds f.0 f.1.0 (group_rule attrs w))
+    (λ q. builds choices i (in_part choices c (codes "colgroup") attrs InColumnGroup w.frameset_ok) n (face (codes "colgroup") attrs) (html_name (codes "colgroup") ∷ names) (Other n ∷ path) under base (refl, group_named) refl tt q)
+    (λ v g k j q m e. subst (Ends choices (codes "colgroup") v) (sym f.0) (ends_group choices v names g k j m e))
+    (λ g k b y1 q. builds choices r (after w g k b y1) p (more d (ChildNode n ∷ [])) names path under base f (ends_in_node n d.children) l q)
+builds choices {at_root} (Column {a} {attrs} {rest} y r) w p d names path under base f z l c =
+    let n = choices.fresh w.forest in
+    mark_case choices c (codes "col") attrs w.frameset_ok rest column_is_void.0 column_is_void.1 (puts_column choices c attrs f.0)
+    (λ q. builds choices r (put choices c (codes "col") attrs w.frameset_ok) p (more d (ChildNode n ∷ [])) names path under base f (ends_in_node n d.children) l q)
+builds choices {at_root} (Blank {part} {first} {more = further} {rest} e a n r) w p d names path under base f z l c =
+    blank_case choices c first further rest e (table_mode false at_root part w.mode names f) (table_outer false at_root part w.mode names f) a z (tag_next rest r)
+    (λ q. builds choices r (blanked choices c (first ∷ further)) p (more d (ChildText (first ∷ further) ∷ [])) names path under base (same_place at_root part w.mode names f) tt tt q)
+builds choices {at_root} (ColumnBlank {first} {more = further} {rest} e a n r) w p d names path under base f z l c =
+    column_blank_case choices c first further rest e f.0 z (writes_blank choices c first further f.0 f.1 a)
+    (λ q. builds choices r (put_blank choices c (first ∷ further)) p (more d (ChildText (first ∷ further) ∷ [])) names path under base f tt tt q)

@@ -2,8 +2,8 @@
 use Rattle.std.proofs.Common.{◌≡◌, ℕ, Bool, false, true, List, [], ◌∷◌, ◌++◌, refl, ap, sym, subst, ◌∙◌}
 use Rattle.h5_token.specs.TokenText.{TokenText, DoctypeIs, TagIs, CommentIs, Characters, NullCharacter, EndOfFile, ParseErrorIs}
 use Rattle.h5_interface.specs.SinkChoices.{SinkChoices}
-use Rattle.h5_types.specs.declared.modes.InsertionMode.{InsertionMode}
-use Rattle.h5_types.specs.declared.modes.InsertionMode.TheVariants.{InBody, InCaption, InCell, InTemplate, Text}
+use Rattle.h5_tables.specs.declared.modes.InsertionMode.{InsertionMode}
+use Rattle.h5_tables.specs.declared.modes.InsertionMode.TheVariants.{InBody, InCaption, InCell, InTemplate, Text}
 use Rattle.h5_token.specs.Joins.{glue, join}
 use Rattle.h5_rules.specs.Changes.{append_text, set_frameset_ok_by_text}
 use Rattle.h5_rules.specs.insertion.Foreign.{is_foreign_text}
@@ -15,7 +15,7 @@ use Rattle.h5_laws.proofs.cuts.CutLaws.{by_foreign, by_mode}
 use Rattle.h5_laws.proofs.kept.FittingLaws.{step_fitting}
 use Rattle.h5_laws.proofs.cuts.RunLaws.{step_cut, takes_text, without_lf-append, step_reply}
 use Rattle.h5_rules.proofs.changes.TreeLaws.{tree_reconstruct}
-use Rattle.h5_plain.proofs.GoesLaws.{Goes, Moves}
+use Rattle.h5_plain.proofs.GoesLaws.{Runs, Steps, Takes}
 
 -- in a mode in which texts tell no parse error, none does
 text_quiet : (choices : SinkChoices) (t : List ℕ) (w : World) → is_quiet_text w.mode ≡ true → (text_step choices t w).quiet ≡ true
@@ -70,46 +70,49 @@ module _ (choices : SinkChoices) (b : ℕ) (t : List ℕ) (d : ℕ) (u : List �
       quiet_mode choices (without_lf w.ignore_lf (b ∷ t)) u d (taken w)
       (ap (λ x. (text_step choices x (taken w)).quiet) (sym (without_lf-append w.ignore_lf b t (d ∷ u))) ∙ q)
 
-  cut_moves : (v : World) → Fitting w → Moves choices (Characters ((b ∷ t) ++ d ∷ u)) w v → Moves choices (Characters (b ∷ t)) w middle × Moves choices (Characters (d ∷ u)) middle v
+  cut_steps : {blanks : Bool} (v : World) → Fitting w → Steps blanks choices (Characters ((b ∷ t) ++ d ∷ u)) w v → Steps blanks choices (Characters (b ∷ t)) w middle × Steps blanks choices (Characters (d ∷ u)) middle v
   unfolding step
-  cut_moves v k m =
-      let q = mode_is_quiet m.quiet in (
-        record {
-          world = refl;
-          reply = step_reply choices (without_lf w.ignore_lf (b ∷ t)) (taken w);
-          quiet = text_quiet choices (without_lf w.ignore_lf (b ∷ t)) (taken w) q;
-          accepted = takes_text w.mode (b ∷ t);
-        },
-        record {
-          world = sym (step_cut choices b t d u w k) ∙ m.world;
-          reply = step_reply choices (without_lf middle.ignore_lf (d ∷ u)) (taken middle);
-          quiet = text_quiet choices (without_lf middle.ignore_lf (d ∷ u)) (taken middle) (still_quiet choices (without_lf w.ignore_lf (b ∷ t)) (taken w) q);
-          accepted = takes_text middle.mode (d ∷ u);
-        },
-      )
+  cut_steps v k m = (
+    record {
+      takes = record {
+        world = refl;
+        reply = step_reply choices (without_lf w.ignore_lf (b ∷ t)) (taken w);
+        accepted = takes_text w.mode (b ∷ t);
+      };
+      quiet = λ e. text_quiet choices (without_lf w.ignore_lf (b ∷ t)) (taken w) (mode_is_quiet (m.quiet e));
+    },
+    record {
+      takes = record {
+        world = sym (step_cut choices b t d u w k) ∙ m.takes.world;
+        reply = step_reply choices (without_lf middle.ignore_lf (d ∷ u)) (taken middle);
+        accepted = takes_text middle.mode (d ∷ u);
+      };
+      quiet = λ e. text_quiet choices (without_lf middle.ignore_lf (d ∷ u)) (taken middle) (still_quiet choices (without_lf w.ignore_lf (b ∷ t)) (taken w) (mode_is_quiet (m.quiet e)));
+    },
+  )
 
-unglued : (choices : SinkChoices) (t : List ℕ) (ts : List TokenText) (w u : World) → Fitting w → Goes choices (glue t ts) w u → Goes choices (Characters t ∷ ts) w u
-unglued choices [] ts w u k g = g
-unglued choices (b ∷ t) [] w u k g = g
-unglued choices (b ∷ t) (Characters [] ∷ ts) w u k g = g
-unglued choices (b ∷ t) (Characters (d ∷ r) ∷ ts) w u k (v, (m, g)) =
-    let both = cut_moves choices b t d r w v k m in
+unglued : (blanks : Bool) (choices : SinkChoices) (t : List ℕ) (ts : List TokenText) (w u : World) → Fitting w → Runs blanks choices (glue t ts) w u → Runs blanks choices (Characters t ∷ ts) w u
+unglued blanks choices [] ts w u k g = g
+unglued blanks choices (b ∷ t) [] w u k g = g
+unglued blanks choices (b ∷ t) (Characters [] ∷ ts) w u k g = g
+unglued blanks choices (b ∷ t) (Characters (d ∷ r) ∷ ts) w u k (v, (m, g)) =
+    let both = cut_steps choices b t d r w v k m in
     ((step choices (Characters (b ∷ t)) w).world, (both.0, (v, (both.1, g))))
-unglued choices (b ∷ t) (_ ∷ ts) w u k g = g
+unglued blanks choices (b ∷ t) (_ ∷ ts) w u k g = g
 
 -- a token that is taken leaves what a builder keeps
-fitting_moves : (choices : SinkChoices) (t : TokenText) (w v : World) → Fitting w → Moves choices t w v → Fitting v
-fitting_moves choices t w v k m = subst Fitting m.world (step_fitting choices t w k)
+pub fitting_takes : (choices : SinkChoices) (t : TokenText) (w v : World) → Fitting w → Takes choices t w v → Fitting v
+fitting_takes choices t w v k m = subst Fitting m.world (step_fitting choices t w k)
 
 -- the whole list, where a builder has what it keeps
-pub goes_cut : (choices : SinkChoices) (ts : List TokenText) (w u : World) → Fitting w → Goes choices (join ts) w u → Goes choices ts w u
-goes_cut choices [] w u k g = g
-goes_cut choices (Characters t ∷ ts) w u k g =
-    let h = unglued choices t (join ts) w u k g in
-    (h.0, (h.1.0, goes_cut choices ts h.0 u (fitting_moves choices (Characters t) w h.0 k h.1.0) h.1.1))
-goes_cut choices (DoctypeIs x ∷ ts) w u k (v, (m, g)) = (v, (m, goes_cut choices ts v u (fitting_moves choices (DoctypeIs x) w v k m) g))
-goes_cut choices (TagIs x ∷ ts) w u k (v, (m, g)) = (v, (m, goes_cut choices ts v u (fitting_moves choices (TagIs x) w v k m) g))
-goes_cut choices (CommentIs x ∷ ts) w u k (v, (m, g)) = (v, (m, goes_cut choices ts v u (fitting_moves choices (CommentIs x) w v k m) g))
-goes_cut choices (NullCharacter ∷ ts) w u k (v, (m, g)) = (v, (m, goes_cut choices ts v u (fitting_moves choices NullCharacter w v k m) g))
-goes_cut choices (EndOfFile ∷ ts) w u k (v, (m, g)) = (v, (m, goes_cut choices ts v u (fitting_moves choices EndOfFile w v k m) g))
-goes_cut choices (ParseErrorIs x ∷ ts) w u k (v, (m, g)) = (v, (m, goes_cut choices ts v u (fitting_moves choices (ParseErrorIs x) w v k m) g))
+pub goes_cut : (blanks : Bool) (choices : SinkChoices) (ts : List TokenText) (w u : World) → Fitting w → Runs blanks choices (join ts) w u → Runs blanks choices ts w u
+goes_cut blanks choices [] w u k g = g
+goes_cut blanks choices (Characters t ∷ ts) w u k g =
+    let h = unglued blanks choices t (join ts) w u k g in
+    (h.0, (h.1.0, goes_cut blanks choices ts h.0 u (fitting_takes choices (Characters t) w h.0 k h.1.0.takes) h.1.1))
+goes_cut blanks choices (DoctypeIs x ∷ ts) w u k (v, (m, g)) = (v, (m, goes_cut blanks choices ts v u (fitting_takes choices (DoctypeIs x) w v k m.takes) g))
+goes_cut blanks choices (TagIs x ∷ ts) w u k (v, (m, g)) = (v, (m, goes_cut blanks choices ts v u (fitting_takes choices (TagIs x) w v k m.takes) g))
+goes_cut blanks choices (CommentIs x ∷ ts) w u k (v, (m, g)) = (v, (m, goes_cut blanks choices ts v u (fitting_takes choices (CommentIs x) w v k m.takes) g))
+goes_cut blanks choices (NullCharacter ∷ ts) w u k (v, (m, g)) = (v, (m, goes_cut blanks choices ts v u (fitting_takes choices NullCharacter w v k m.takes) g))
+goes_cut blanks choices (EndOfFile ∷ ts) w u k (v, (m, g)) = (v, (m, goes_cut blanks choices ts v u (fitting_takes choices EndOfFile w v k m.takes) g))
+goes_cut blanks choices (ParseErrorIs x ∷ ts) w u k (v, (m, g)) = (v, (m, goes_cut blanks choices ts v u (fitting_takes choices (ParseErrorIs x) w v k m.takes) g))

@@ -6,7 +6,7 @@ use Rattle.h5_token.specs.TokenText.{TagText}
 use Rattle.h5_rules.specs.formatting.Adoption.{newest_named}
 use Rattle.h5_rules.specs.formatting.FormattingList.{ElementEntry, Entry, MarkerEntry, count_alike, is_alike, nodes_of, push_formatting, without_earliest}
 use Rattle.h5_rules.specs.stack.Order.{is_in}
-use Rattle.h5_plain.proofs.ListedLaws.{AtMarker, Bottom, Entries, Fewer, IsBase, Kept, Lost, NoEntry, OpenFormat, Formats, has_link}
+use Rattle.h5_plain.proofs.ListedLaws.{AtMarker, Bottom, Entries, Fewer, IsBase, Kept, Lost, NoEntry, Other, Passed, OpenFormat, Formats, has_link}
 use Rattle.h5_plain.proofs.RuleLaws.{start}
 use Rattle.h5_rules.proofs.BoolLaws.{neither_of}
 
@@ -32,6 +32,7 @@ dropped_fewer t (ElementEntry m u ∷ l) n h = at (dropped_fewer t l) (count_ali
 pub entries_dropped : {base : List Entry} {path : List OpenFormat} {l : List Entry} (t : TagText) → IsBase base → Entries base path l → Entries base path (without_earliest t l)
 entries_dropped t NoEntry Bottom = Bottom
 entries_dropped t AtMarker Bottom = Bottom
+entries_dropped t k (Passed r) = Passed (entries_dropped t k r)
 entries_dropped t k (Lost {n} {name} {path} {l} o r) = Lost (dropped_fewer t l n o) (entries_dropped t k r)
 entries_dropped {base} t k (Kept {n} {name} {attrs} {path} {l} o r) = at (entries_dropped t k r) (count_alike t l == 0) (is_alike t (start name attrs))
   where
@@ -74,6 +75,7 @@ rest_fewer n t l m f x h = (neither_of (x == n) (is_in x (nodes_of l)) (f x h)).
 pub no_link_listed : {base : List Entry} {path : List OpenFormat} {l : List Entry} → IsBase base → Entries base path l → has_link path ≡ false → newest_named (codes "a") l ≡ None
 no_link_listed NoEntry Bottom h = refl
 no_link_listed AtMarker Bottom h = refl
+no_link_listed k (Passed r) h = no_link_listed k r h
 no_link_listed k (Lost {n} {name} {path} {l} o r) h = at (no_link_listed k r) (is_same_text name (codes "a")) h
   where
     at : (has_link path ≡ false → newest_named (codes "a") l ≡ None) → (b : Bool) → (b || has_link path) ≡ false → newest_named (codes "a") l ≡ None

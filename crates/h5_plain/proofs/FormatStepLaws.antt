@@ -1,5 +1,5 @@
 -- What a tag of a formatting element does in the body, or in a cell, which goes by the body for it.
-use Rattle.std.proofs.Common.{◌≡◌, ◌∙◌, ℕ, ◌==◌, Bool, true, false, ◌&&◌, ◌||◌, not, is_some, cond, List, [], ◌∷◌, Some, codes, refl, ap}
+use Rattle.std.proofs.Common.{◌≡◌, ◌∙◌, ℕ, ◌==◌, Bool, true, false, ◌&&◌, ◌||◌, not, is_some, cond, List, [], ◌∷◌, Some, codes, refl, ap, Option}
 use Rattle.std.specs.List.{list_any}
 use Rattle.std.proofs.lemmas.Bool.{eq-eqb}
 use Rattle.h5_names.specs.AttributeText.{AttributeText, is_same_text}
@@ -7,10 +7,11 @@ use Rattle.h5_names.specs.declared.qualified.QualName.{QualName}
 use Rattle.h5_token.specs.TokenText.{TagText}
 use Rattle.h5_interface.specs.Changes.{mark}
 use Rattle.h5_interface.specs.SinkChoices.{SinkChoices}
-use Rattle.h5_tag_sets.specs.TagSets.{is_default_scope, is_html_named, is_special}
+use Rattle.h5_tables.specs.TagSets.{is_default_scope, is_html_named, is_special}
 use Rattle.h5_rules.specs.formatting.Adoption.{FormattingElement, furthest_block, newer_than, newest_named, older_than}
 use Rattle.h5_rules.specs.formatting.FormattingList.{ElementEntry, Entry, nodes_of, push_formatting, without_entry}
 use Rattle.h5_rules.specs.formatting.FormattingNames.{html_name}
+use Rattle.h5_rules.specs.fitting.Roles.{Role}
 use Rattle.h5_rules.specs.stack.Order.{but_first, first_or, is_in}
 use Rattle.h5_rules.specs.stack.Scope.{first_passes}
 use Rattle.h5_rules.specs.formatting.AdoptionAgency.{adopt_at, adopt_by, adopt_within, adoption_agency, close_misnested_a, closes_current, closes_one, handle_misnested_a_tags, is_current_unlisted, is_formatting_element}
@@ -32,7 +33,7 @@ use Rattle.h5_plain.proofs.ModeLaws.{GoesByBody, end_by_body, start_by_body}
 use Rattle.h5_plain.proofs.RuleLaws.{end, start}
 
 -- start tags: a new element below the current node, which is listed
-module _ (choices : SinkChoices) {w : World} {p : ℕ} {d : Face} {names : List QualName} {path : List OpenFormat} {under : List ℕ} {base : List Entry} (c : Calm w p d names path under base) where
+module _ (choices : SinkChoices) {at_root : Option Role} {w : World} {p : ℕ} {d : Face} {names : List QualName} {path : List OpenFormat} {under : List ℕ} {base : List Entry} (c : Calm at_root w p d names path under base) where
   -- inside it
   abbrev pub formatted : List ℕ → List AttributeText → World
   formatted name attrs = opened choices w p name attrs w.mode (push_formatting (choices.fresh w.forest) (start name attrs) w.formatting) w.frameset_ok

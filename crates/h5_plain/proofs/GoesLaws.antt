@@ -1,15 +1,15 @@
 -- Tokens that are taken one after the other, each in one turn.
-use Rattle.std.proofs.Common.{◌≡◌, ◌&&◌, not, ℕ, Bool, true, false, cond, List, [], ◌∷◌, map, refl, ap, sym, subst, ◌∙◌}
+use Rattle.std.proofs.Common.{◌≡◌, ◌&&◌, not, ℕ, ◌==◌, Bool, true, false, cond, List, [], ◌∷◌, map, refl, ap, sym, subst, ◌∙◌, Some}
 use Rattle.h5_token.specs.Reply.{Continues, TurnsRaw}
-use Rattle.h5_token.specs.TokenText.{TagText, TokenText, TagIs, Characters, EndOfFile}
+use Rattle.h5_token.specs.TokenText.{TagText, TokenText, TagIs, Characters, CommentIs, DoctypeIs, EndOfFile, NullCharacter, ParseErrorIs}
 use Rattle.h5_token.specs.declared.states.RawKind.TheVariants.{Rcdata}
 use Rattle.h5_token.specs.declared.tag.TagKind.{TagKind}
 use Rattle.h5_token.specs.declared.tag.TagKind.TheVariants.{StartTag, EndTag}
 use Rattle.h5_interface.specs.SinkChoices.{SinkChoices}
-use Rattle.h5_types.specs.TurnText.{EofTurn, TagTurn, TextTurn, TurnText, is_self_closing}
-use Rattle.h5_types.specs.declared.modes.InsertionMode.{InsertionMode}
-use Rattle.h5_types.specs.declared.modes.InsertionMode.TheVariants.{Text}
-use Rattle.h5_types.specs.declared.modes.SplitStatus.TheVariants.{NotSplit}
+use Rattle.h5_tables.specs.TurnText.{EofTurn, TagTurn, TextTurn, TurnText, is_self_closing}
+use Rattle.h5_tables.specs.declared.modes.InsertionMode.{InsertionMode}
+use Rattle.h5_tables.specs.declared.modes.InsertionMode.TheVariants.{InColumnGroup, InRow, InTable, InTableBody, Text}
+use Rattle.h5_tables.specs.declared.modes.SplitStatus.TheVariants.{NotSplit}
 use Rattle.h5_rules.specs.formatting.FormattingList.{closed_front}
 use Rattle.h5_rules.specs.ByName.{by_kind}
 use Rattle.h5_rules.specs.Changes.{append_text, set_frameset_ok_by_text}
@@ -19,6 +19,10 @@ use Rattle.h5_rules.specs.Rows.{Answers, Change, IsAcknowledged, IsDone, Row, ap
 use Rattle.h5_rules.specs.Kinds.{is_start}
 use Rattle.h5_rules.specs.Run.{View, after_all, after_token, all_quiet, is_quiet, refuses_in, replies, run, step, take_or_refuse, taken, tell_or_refuse, text_step, without_lf}
 use Rattle.h5_rules.specs.Settle.{Settled, settle}
+use Rattle.h5_rules.specs.Blanks.{all_blank}
+use Rattle.h5_rules.specs.insertion.Place.{LastChild, place}
+use Rattle.h5_rules.specs.modes.InTable.{keeps_text}
+use Rattle.h5_interface.specs.Changes.{append_text as append_text_to}
 use Rattle.h5_rules.specs.Text.{is_quiet_text, text_in_body, text_rule}
 use Rattle.h5_rules.specs.modes.TextMode.{text_end}
 use Rattle.h5_rules.specs.World.{World}
@@ -30,15 +34,23 @@ use Rattle.h5_laws.proofs.cuts.RunLaws.{is_taken, moved, taken_same, takes_text}
 use Rattle.h5_laws.proofs.turns.SettleLaws.{settle-done}
 use Rattle.h5_plain.specs.Plain.{is_start_of_title, plain_reply}
 use Rattle.h5_plain.proofs.HtmlLaws.{AtHtml, taken_html}
-use Rattle.h5_plain.proofs.ModeLaws.{GoesByBody, quiet_by_body, text_by_body}
+use Rattle.h5_plain.proofs.ModeLaws.{GoesByBody, TheBody, TheCaption, TheCell, quiet_by_body, text_by_body}
 
 -- a token that is taken, and that the mode doesn't refuse, leads to this world, with the answer to it in a plain document
--- and no parse error
+pub record Takes (choices : SinkChoices) (t : TokenText) (w v : World) : Type 0 where
+  pub world : (step choices t w).world ≡ v
+  pub reply : (step choices t w).reply ≡ plain_reply t
+  pub accepted : refuses_in w.mode t ≡ false
+
+-- the same, and no parse error is told
 pub record Moves (choices : SinkChoices) (t : TokenText) (w v : World) : Type 0 where
   pub world : (step choices t w).world ≡ v
   pub reply : (step choices t w).reply ≡ plain_reply t
   pub quiet : (step choices t w).quiet ≡ true
   pub accepted : refuses_in w.mode t ≡ false
+
+pub taken_so : {choices : SinkChoices} {t : TokenText} {w v : World} → Moves choices t w v → Takes choices t w v
+taken_so m = record { world = m.world; reply = m.reply; accepted = m.accepted }
 
 one_turn : (choices : SinkChoices) (t : TurnText) (w : World) (m : InsertionMode) (changes : List Change) → w.mode ≡ m → is_foreign choices t w ≡ false → rule m t w ≡ row changes IsDone → not (is_self_closing t) ≡ true
     → settle choices t w ≡ record { world = apply_all choices changes w; turns = 1; reply = Continues; quiet = true }
@@ -95,25 +107,69 @@ moves_end choices w m changes e f =
     record { world = ap (λ (x : Settled). x.world) one; reply = ap (λ (x : Settled). x.reply) one; quiet = ap (λ (x : Settled). x.quiet) one; accepted = takes_end w.mode }
 
 -- so does a list
-abbrev pub Goes : SinkChoices → List TokenText → World → World → Type 0
-Goes choices [] w u = w ≡ u
-Goes choices (t ∷ ts) w u = (v : World) × (Moves choices t w v × Goes choices ts v u)
+-- a token of such a list: where no blank text stands in a table, no parse error is told
+pub record Steps (blanks : Bool) (choices : SinkChoices) (t : TokenText) (w v : World) : Type 0 where
+  pub takes : Takes choices t w v
+  pub quiet : blanks ≡ false → (step choices t w).quiet ≡ true
+
+pub steps_of : {blanks : Bool} {choices : SinkChoices} {t : TokenText} {w v : World} → Moves choices t w v → Steps blanks choices t w v
+steps_of m = record { takes = taken_so m; quiet = λ e. m.quiet }
+
+pub steps_aside : {blanks : Bool} {choices : SinkChoices} {t : TokenText} {w v : World} → blanks ≡ true → Takes choices t w v → Steps blanks choices t w v
+steps_aside e m = record { takes = m; quiet = λ f. absurd (cc) }
+
+abbrev pub Runs : Bool → SinkChoices → List TokenText → World → World → Type 0
+Runs blanks choices [] w u = w ≡ u
+Runs blanks choices (t ∷ ts) w u = (v : World) × (Steps blanks choices t w v × Runs blanks choices ts v u)
+
+-- the modes in which the text of a table is kept back
+pub data IsTableMode : InsertionMode → Type 0 where
+  TheTable : IsTableMode InTable
+  TheSection : IsTableMode InTableBody
+  TheRow : IsTableMode InRow
+
+abbrev pub BeginsWithTag : List TokenText → Type 0
+BeginsWithTag (TagIs tag ∷ ts) = Unit {0}
+BeginsWithTag _ = ⊥
+
+-- a blank text in a table: it is kept back, and comes below the current node as the next tag does
+pub record Blanks (t : List ℕ) (w v : World) : Type 0 where
+  pub ignore_lf : w.ignore_lf ≡ false
+  pub none_pending : w.pending ≡ []
+  pub html : AtHtml w
+  pub keeps : keeps_text w ≡ true
+  pub mode : IsTableMode w.mode
+  pub blank : all_blank t ≡ true
+  pub node : ℕ
+  pub placed : place w ≡ LastChild node
+  pub to : v ≡ record w { forest = append_text_to node t w.forest; saved_mode = Some w.mode }
+
+-- a token leads on its own, or, where blank texts stand in tables, as such a text before a tag, or as one in a `colgroup`
+pub data Leads (blanks : Bool) (choices : SinkChoices) : TokenText → List TokenText → World → World → Type 0 where
+  Straight : {t : TokenText} {ts : List TokenText} {w v : World} → Moves choices t w v → Leads blanks choices t ts w v
+  InColumns : {t : TokenText} {ts : List TokenText} {w v : World} → blanks ≡ true → w.mode ≡ InColumnGroup → Takes choices t w v → Leads blanks choices t ts w v
+  KeptBack : {b : ℕ} {t : List ℕ} {ts : List TokenText} {w v : World} → blanks ≡ true → BeginsWithTag ts → Blanks (b ∷ t) w v → Leads blanks choices (Characters (b ∷ t)) ts w v
+
+abbrev pub Goes : Bool → SinkChoices → List TokenText → World → World → Type 0
+Goes blanks choices [] w u = w ≡ u
+Goes blanks choices (t ∷ ts) w u = (v : World) × (Leads blanks choices t ts w v × Goes blanks choices ts v u)
 
 -- a run of such a list
-pub record Arrives (choices : SinkChoices) (ts : List TokenText) (v : View) (u : World) : Type 0 where
+pub record Arrives (blanks : Bool) (choices : SinkChoices) (ts : List TokenText) (v : View) (u : World) : Type 0 where
   pub world : (after_all choices ts v).world ≡ u
   pub answers : replies choices ts v ≡ map plain_reply ts
-  pub quiet : all_quiet choices ts v ≡ true
+  pub quiet : blanks ≡ false → all_quiet choices ts v ≡ true
 
 both : (a b : Bool) → a ≡ true → b ≡ true → (a && b) ≡ true
 both true b p q = q
 both false b p q = absurd (cc)
 
 -- where a list leads, its run arrives
-pub arrives : (choices : SinkChoices) (ts : List TokenText) (v : View) (u : World) → v.failed ≡ false → v.ended ≡ false → Goes choices ts v.world u → Arrives choices ts v u
+pub arrives : {blanks : Bool} (choices : SinkChoices) (ts : List TokenText) (v : View) (u : World) → v.failed ≡ false → v.ended ≡ false → Runs blanks choices ts v.world u → Arrives blanks choices ts v u
 unfolding run
-arrives choices [] v u f e g = record { world = g; answers = refl; quiet = refl }
-arrives choices (t ∷ ts) v u f e (w, (m, g)) =
+arrives choices [] v u f e g = record { world = g; answers = refl; quiet = λ q. refl }
+arrives choices (t ∷ ts) v u f e (w, (s, g)) =
+    let m = s.takes in
     let r = is_taken v t f e m.accepted in
     let next : after_token choices t v ≡ moved v w = ap (λ o. take_or_refuse choices t o v) r ∙ ap (moved v) m.world in
     let rest = arrives choices ts (moved v w) u f e g in
@@ -122,7 +178,7 @@ arrives choices (t ∷ ts) v u f e (w, (m, g)) =
       answers = ap (λ x. x ∷ replies choices ts (after_token choices t v)) (ap (λ o. (tell_or_refuse choices t o v).reply) r ∙ m.reply)
           ∙ ap (λ x. plain_reply t ∷ replies choices ts x) next
           ∙ ap (λ xs. plain_reply t ∷ xs) rest.answers;
-      quiet = both (is_quiet choices t v) (all_quiet choices ts (after_token choices t v)) (ap (λ o. (tell_or_refuse choices t o v).quiet) r ∙ m.quiet) (ap (all_quiet choices ts) next ∙ rest.quiet);
+      quiet = λ q. both (is_quiet choices t v) (all_quiet choices ts (after_token choices t v)) (ap (λ o. (tell_or_refuse choices t o v).quiet) r ∙ s.quiet q) (ap (all_quiet choices ts) next ∙ rest.quiet q);
     }
 
 -- a token in the body, by the changes of its row
@@ -177,3 +233,77 @@ moves_raw_text choices b t w m e h = record {
   quiet = ap (λ l. (text_step choices (without_lf l (b ∷ t)) (taken w)).quiet) e ∙ ap is_quiet_text m;
   accepted = takes_text w.mode (b ∷ t);
 }
+
+-- where the newline flag is set, a token that isn't a text with a newline at its front moves as where it isn't
+abbrev pub ignoring : World → World
+ignoring w = record w { ignore_lf = true }
+
+abbrev pub begins_otherwise : TokenText → Bool
+begins_otherwise (TagIs tag) = true
+begins_otherwise (Characters []) = true
+begins_otherwise (Characters (b ∷ t)) = not (b == 10)
+begins_otherwise _ = false
+
+other_front : (b : Bool) → not b ≡ true → b ≡ false
+other_front true h = absurd (cc)
+other_front false h = refl
+
+pub moves_ignoring : (choices : SinkChoices) (t : TokenText) (w v : World) → w.ignore_lf ≡ false → begins_otherwise t ≡ true → Moves choices t w v → Moves choices t (ignoring w) v
+unfolding step
+moves_ignoring choices (TagIs tag) w v e h m = record { world = m.world; reply = m.reply; quiet = m.quiet; accepted = m.accepted }
+moves_ignoring choices (Characters (b ∷ t)) w v e h m =
+    let same : without_lf true (b ∷ t) ≡ without_lf w.ignore_lf (b ∷ t) = ap (λ c. cond c t (b ∷ t)) (other_front (b == 10) h) ∙ sym (ap (λ l. without_lf l (b ∷ t)) e) in
+    record {
+      world = ap (λ l. (text_step choices l (taken w)).world) same ∙ m.world;
+      reply = ap (λ l. (text_step choices l (taken w)).reply) same ∙ m.reply;
+      quiet = ap (λ l. (text_step choices l (taken w)).quiet) same ∙ m.quiet;
+      accepted = m.accepted;
+    }
+moves_ignoring choices (Characters []) w v e h m =
+    let same : without_lf true [] ≡ without_lf w.ignore_lf [] = sym (ap (λ l. without_lf l []) e) in
+    record {
+      world = ap (λ l. (text_step choices l (taken w)).world) same ∙ m.world;
+      reply = ap (λ l. (text_step choices l (taken w)).reply) same ∙ m.reply;
+      quiet = ap (λ l. (text_step choices l (taken w)).quiet) same ∙ m.quiet;
+      accepted = m.accepted;
+    }
+moves_ignoring choices (DoctypeIs x) w v e h m = absurd (cc)
+moves_ignoring choices (CommentIs x) w v e h m = absurd (cc)
+moves_ignoring choices NullCharacter w v e h m = absurd (cc)
+moves_ignoring choices EndOfFile w v e h m = absurd (cc)
+moves_ignoring choices (ParseErrorIs x) w v e h m = absurd (cc)
+
+-- so does a list that begins with such a token, in a mode that keeps no text back
+abbrev pub BeginsOtherwise : List TokenText → Type 0
+BeginsOtherwise [] = ⊥
+BeginsOtherwise (t ∷ ts) = begins_otherwise t ≡ true
+
+abbrev is_table_mode : InsertionMode → Bool
+is_table_mode InTable = true
+is_table_mode InTableBody = true
+is_table_mode InRow = true
+is_table_mode _ = false
+
+in_table_mode : {m : InsertionMode} → IsTableMode m → is_table_mode m ≡ true
+in_table_mode TheTable = refl
+in_table_mode TheSection = refl
+in_table_mode TheRow = refl
+
+by_body : {m : InsertionMode} → GoesByBody m → is_table_mode m ≡ false
+by_body TheBody = refl
+by_body TheCell = refl
+by_body TheCaption = refl
+
+pub no_table_mode : {m : InsertionMode} → GoesByBody m → IsTableMode m → ⊥
+no_table_mode k t = absurd (let e : true ≡ false = sym (in_table_mode t) ∙ by_body k in cc)
+
+no_columns : {m : InsertionMode} → GoesByBody m → m ≡ InColumnGroup → ⊥
+no_columns TheBody e = cc
+no_columns TheCell e = cc
+no_columns TheCaption e = cc
+
+pub goes_ignoring : (blanks : Bool) (choices : SinkChoices) (ts : List TokenText) (w u : World) → GoesByBody w.mode → w.ignore_lf ≡ false → BeginsOtherwise ts → Goes blanks choices ts w u → Goes blanks choices ts (ignoring w) u
+goes_ignoring blanks choices [] w u k e h g = absurd (h)
+goes_ignoring blanks choices (t ∷ ts) w u k e h (v, (Straight m, g)) = (v, (Straight (moves_ignoring choices t w v e h m), g))
+goes_ignoring blanks choices (t ∷ ts) w u k e h (v, (InColumns z x m, g)) = absurd (no_columns k x)
+goes_ignoring blanks choices (t ∷ ts) w u k e h (v, (KeptBack z x blank, g)) = absurd (no_table_mode k blank.mode)

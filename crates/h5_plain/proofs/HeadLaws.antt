@@ -3,7 +3,7 @@ use Rattle.std.proofs.Common.{◌≡◌, ◌≢◌, ◌∙◌, ℕ, true, false,
 use Rattle.h5_names.specs.AttributeText.{AttributeText}
 use Rattle.h5_names.specs.declared.qualified.QualName.{QualName}
 use Rattle.h5_interface.specs.Forest.{Child, ChildNode, ChildText, ElementNode, Forest, Kind}
-use Rattle.h5_tag_sets.specs.TagSets.{html_namespace, is_html_named}
+use Rattle.h5_tables.specs.TagSets.{html_namespace, is_html_named}
 use Rattle.h5_rules.specs.formatting.FormattingNames.{html_name}
 use Rattle.h5_rules.specs.World.{name_of_kind}
 use Rattle.h5_plain.specs.Plain.{ElementThen, End, Nodes, TextThen}

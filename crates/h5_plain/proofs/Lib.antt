@@ -9,13 +9,17 @@ mod FormatRuleLaws
 mod FormatStepLaws
 pub mod GoesLaws
 pub mod GrowthLaws
+pub mod FragmentLaws
 mod HeadLaws
 pub mod HtmlLaws
+mod KeptBackLaws
 mod ListRuleLaws
 mod ListStepLaws
 mod ListedLaws
 pub mod LooksLaws
 mod ModeLaws
+mod PhraseRuleLaws
+mod PhraseStepLaws
 mod TableBuildsLaws
 mod TableRuleLaws
 mod TableStepLaws

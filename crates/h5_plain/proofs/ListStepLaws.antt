@@ -1,17 +1,21 @@
 -- What a tag of a list, or of an item of one, does in the body, or in a cell, which goes by the body for it.
-use Rattle.std.proofs.Common.{◌≡◌, ◌∙◌, ℕ, false, ◌&&◌, List, [], ◌∷◌, None, codes, refl, ap}
+use Rattle.std.proofs.Common.{◌≡◌, ◌∙◌, ℕ, true, false, ◌&&◌, cond, List, [], ◌∷◌, None, codes, refl, ap, Option}
 use Rattle.h5_names.specs.AttributeText.{AttributeText}
 use Rattle.h5_names.specs.declared.qualified.QualName.{QualName}
 use Rattle.h5_interface.specs.Forest.{IsForest}
 use Rattle.h5_interface.specs.SinkChoices.{SinkChoices}
-use Rattle.h5_tag_sets.specs.TagSets.{html_namespace, implied_names, is_html_named, is_implied, is_list_item_scope}
+use Rattle.h5_tables.specs.TagSets.{html_namespace, implied_names, is_default_scope, is_html_named, is_implied, is_list_item_scope}
 use Rattle.h5_rules.specs.formatting.FormattingList.{Entry}
 use Rattle.h5_rules.specs.formatting.FormattingNames.{html_name}
 use Rattle.h5_rules.specs.stack.Scope.{first_passes, has_p_in_button_scope, in_scope, is_implied_but}
 use Rattle.h5_rules.specs.Changes.{insert_element, pop_until_named, set_frameset_not_ok}
 use Rattle.h5_rules.specs.stack.Closing.{close_item, close_list_item, close_p_element_in_button_scope, newest_item}
-use Rattle.h5_rules.specs.modes.InBody.{in_body_end_li, list_item_names}
+use Rattle.h5_rules.specs.modes.InBody.{in_body_end_description, in_body_end_li, in_body_start_item}
+use Rattle.h5_rules.specs.modes.Modes.{rule}
+use Rattle.h5_tables.specs.TurnText.{TagTurn}
+use Rattle.h5_tables.specs.declared.modes.InsertionMode.TheVariants.{InBody}
 use Rattle.h5_rules.specs.Rows.{Change, CloseListItem, ClosePElementInButtonScope, GenerateImpliedEndExcept, InsertElement, IsDone, PopUntilNamed, SetFramesetNotOk, choose, ignored, row_if}
+use Rattle.h5_rules.specs.fitting.Roles.{Role}
 use Rattle.h5_rules.specs.World.{World, names_of}
 use Rattle.h5_rules.proofs.changes.PopLaws.{implied_none}
 use Rattle.h5_plain.specs.Plain.{end_tag, start_tag}
@@ -20,17 +24,18 @@ use Rattle.h5_plain.proofs.CalmLaws.{Calm, calm_html, names_are, opened}
 use Rattle.h5_plain.proofs.FilledLaws.{Face, same_faces}
 use Rattle.h5_plain.proofs.GoesLaws.{Moves, moves_row}
 use Rattle.h5_plain.proofs.HtmlLaws.{AtHtml}
-use Rattle.h5_plain.proofs.ListRuleLaws.{item_end_rule, item_outside, item_rule}
+use Rattle.h5_plain.proofs.ListRuleLaws.{IsTermName, item_end_rule, item_outside}
+use Rattle.h5_plain.proofs.BodyRuleLaws.{IsHolder}
 use Rattle.h5_plain.proofs.ListedLaws.{OpenFormat}
-use Rattle.h5_plain.proofs.ModeLaws.{GoesByBody, end_by_body, start_by_body}
+use Rattle.h5_plain.proofs.ModeLaws.{GoesByBody, IsOutside, end_by_body, start_by_body}
 use Rattle.h5_plain.proofs.RuleLaws.{end, start}
 use Rattle.h5_plain.proofs.TableStepLaws.{Ends}
 use Rattle.h5_rules.specs.stack.Expected.{is_expected, is_expected_p, names_behind_item}
-use Rattle.h5_rules.proofs.changes.ExpectedLaws.{no_item_behind, no_item_expected, no_p_expected}
+use Rattle.h5_rules.proofs.changes.ExpectedLaws.{current_expected, no_item_behind, no_item_expected, no_p_expected}
 
-module _ (choices : SinkChoices) {w : World} {p : ℕ} {d : Face} {names : List QualName} {path : List OpenFormat} {under : List ℕ} {base : List Entry} (c : Calm w p d names path under base) where
+module _ (choices : SinkChoices) {at_root : Option Role} {w : World} {p : ℕ} {d : Face} {names : List QualName} {path : List OpenFormat} {under : List ℕ} {base : List Entry} (c : Calm at_root w p d names path under base) where
   -- the frameset flag plays no part
-  calm_flagged : Calm (set_frameset_not_ok w) p d names path under base
+  calm_flagged : Calm at_root (set_frameset_not_ok w) p d names path under base
   calm_flagged = record {
     is_forest = c.is_forest;
     ignore_lf = c.ignore_lf;
@@ -38,8 +43,10 @@ module _ (choices : SinkChoices) {w : World} {p : ℕ} {d : Face} {names : List 
     shows = c.shows;
     named = c.named;
     no_foster = c.no_foster;
+    no_pending = c.no_pending;
     no_form = c.no_form;
-    no_context = c.no_context;
+    context = c.context;
+    root_role = c.root_role;
     no_template = c.no_template;
     is_html = c.is_html;
     are_open = c.are_open;
@@ -49,29 +56,30 @@ module _ (choices : SinkChoices) {w : World} {p : ℕ} {d : Face} {names : List 
   }
 
   -- no item is open in this list
-  no_item_closed : newest_item list_item_names names ≡ None → close_list_item choices list_item_names w ≡ w
+  no_item_closed : (locals : List (List ℕ)) → newest_item locals names ≡ None → close_list_item choices locals w ≡ w
   unfolding close_list_item
-  no_item_closed h =
-      ap (λ ns. close_item choices (newest_item list_item_names ns) w) (names_are w c.named)
+  no_item_closed locals h =
+      ap (λ ns. close_item choices (newest_item locals ns) w) (names_are w c.named)
       ∙ ap (λ o. close_item choices o w) h
 
--- the start tag of a `li`: a new element below the current node
-pub starts_item : (choices : SinkChoices) {w : World} {p : ℕ} {d : Face} {names : List QualName} {path : List OpenFormat} {under : List ℕ} {base : List Entry} (c : Calm w p d names path under base)
-    (attrs : List AttributeText) → GoesByBody w.mode → has_p_in_button_scope names ≡ false → newest_item list_item_names names ≡ None
-    → Moves choices (start_tag (codes "li") attrs) w (opened choices w p (codes "li") attrs w.mode w.formatting false)
-starts_item choices {w} {p} {d} {names} c attrs m h i =
-    let changes : List Change = SetFramesetNotOk ∷ CloseListItem list_item_names ∷ ClosePElementInButtonScope ∷ InsertElement (codes "li") attrs false ∷ [] in
+-- the start tag of a `li`, `dd` or `dt`: a new element below the current node
+pub starts_item : (choices : SinkChoices) {at_root : Option Role} {w : World} {p : ℕ} {d : Face} {names : List QualName} {path : List OpenFormat} {under : List ℕ} {base : List Entry} (c : Calm at_root w p d names path under base)
+    (locals : List (List ℕ)) (name : List ℕ) (attrs : List AttributeText) → IsHolder name → IsOutside name → ((v : World) → rule InBody (TagTurn (start name attrs)) v ≡ in_body_start_item locals (start name attrs) v)
+    → GoesByBody w.mode → has_p_in_button_scope names ≡ false → newest_item locals names ≡ None
+    → Moves choices (start_tag name attrs) w (opened choices w p name attrs w.mode w.formatting false)
+starts_item choices {at_root} {w} {p} {d} {names} c locals name attrs k o r m h i =
+    let changes : List Change = SetFramesetNotOk ∷ CloseListItem locals ∷ ClosePElementInButtonScope ∷ InsertElement name attrs false ∷ [] in
     let flagged = calm_flagged choices c in
-    let none : newest_item list_item_names (names_of w) ≡ None = ap (newest_item list_item_names) (names_are w c.named) ∙ i in
-    moves_row choices (start (codes "li") attrs) w (opened choices w p (codes "li") attrs w.mode w.formatting false) w.mode changes refl c.ignore_lf (calm_html c)
-    (start_by_body m (codes "li") attrs w item_outside.no_structure
-    ∙ item_rule attrs w
-    ∙ ap (λ b. row_if (b && is_expected_p (names_behind_item list_item_names (names_of w))) changes IsDone) (no_item_expected list_item_names (names_of w) none)
-    ∙ ap (λ ns. row_if (is_expected_p ns) changes IsDone) (no_item_behind list_item_names (names_of w) none)
-    ∙ ap (λ b. row_if b changes IsDone) (no_p_expected (names_of w) (no_p choices c h))) refl refl
-    (ap (λ v. insert_element choices (codes "li") attrs false (close_p_element_in_button_scope choices v)) (no_item_closed choices flagged i)
-    ∙ ap (insert_element choices (codes "li") attrs false) (none_closed choices flagged h)
-    ∙ insert_is choices flagged (codes "li") attrs)
+    let none : newest_item locals (names_of w) ≡ None = ap (newest_item locals) (names_are w c.named) ∙ i in
+    moves_row choices (start name attrs) w (opened choices w p name attrs w.mode w.formatting false) w.mode changes refl c.ignore_lf (calm_html c)
+    (start_by_body m name attrs w o.no_structure
+    ∙ r w
+    ∙ ap (λ b. row_if (b && is_expected_p (names_behind_item locals (names_of w))) changes IsDone) (no_item_expected locals (names_of w) none)
+    ∙ ap (λ ns. row_if (is_expected_p ns) changes IsDone) (no_item_behind locals (names_of w) none)
+    ∙ ap (λ b. row_if b changes IsDone) (no_p_expected (names_of w) (no_p choices c h))) refl k.no_title
+    (ap (λ v. insert_element choices name attrs false (close_p_element_in_button_scope choices v)) (no_item_closed choices flagged locals i)
+    ∙ ap (insert_element choices name attrs false) (none_closed choices flagged h)
+    ∙ insert_is choices flagged name attrs)
 
 -- end tags: the current node leaves the stack, and nothing else changes
 module _ (choices : SinkChoices) (w : World) (names : List QualName) (m : GoesByBody w.mode) (i : w.ignore_lf ≡ false) (j : AtHtml w) where
@@ -86,6 +94,22 @@ module _ (choices : SinkChoices) (w : World) (names : List QualName) (m : GoesBy
       ∙ ap (λ ns. choose (in_scope (is_html_named (codes "li")) is_list_item_scope ns) (row_if (is_expected (is_implied_but (codes "li")) (is_html_named (codes "li")) ns) changes IsDone) ignored) e) refl refl
       (ap (pop_until_named (codes "li")) (implied_none choices (codes "li") w (ap (first_passes (is_implied_but (codes "li"))) e))
       ∙ cut_at w names (is_html_named (codes "li")) (html_name (codes "li")) e refl)
+
+  term_ends : (name : List ℕ) → IsTermName name → names_of w ≡ html_name name ∷ names → Moves choices (end_tag name) w (left choices w names m i j)
+  unfolding in_body_end_description pop_until_named
+  term_ends name k e =
+      let changes : List Change = GenerateImpliedEndExcept name ∷ PopUntilNamed name ∷ [] in
+      moves_row choices (end name) w (left choices w names m i j) w.mode changes refl i j
+      (end_by_body m name w k.outside
+      ∙ k.ends w
+      ∙ ap (λ ns. choose (in_scope (is_html_named name) is_default_scope ns) (row_if (is_expected (is_implied_but name) (is_html_named name) ns) changes IsDone) ignored) e
+      ∙ ap (λ b. choose (cond b true (cond (is_default_scope (html_name name)) false (in_scope (is_html_named name) is_default_scope names))) (row_if (is_expected (is_implied_but name) (is_html_named name) (html_name name ∷ names)) changes IsDone) ignored) k.itself
+      ∙ ap (λ b. row_if b changes IsDone) (current_expected (is_implied_but name) (is_html_named name) (html_name name) names k.not_implied k.itself)) refl refl
+      (ap (pop_until_named name) (implied_none choices name w (ap (first_passes (is_implied_but name)) e ∙ k.not_implied))
+      ∙ cut_at w names (is_html_named name) (html_name name) e k.itself)
+
+  pub ends_term : (name : List ℕ) → IsTermName name → IsForest w.forest → names_of w ≡ html_name name ∷ names → Ends choices name w w.mode
+  ends_term name t k e = record { forest = w.forest; same = same_faces w.forest k; moves = term_ends name t e }
 
   pub ends_item : IsForest w.forest → names_of w ≡ html_name (codes "li") ∷ names → Ends choices (codes "li") w w.mode
   ends_item k e = record { forest = w.forest; same = same_faces w.forest k; moves = item_ends e }

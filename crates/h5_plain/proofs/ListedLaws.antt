@@ -12,18 +12,21 @@ pub data IsBase : List Entry → Type 0 where
   NoEntry : IsBase []
   AtMarker : {l : List Entry} → IsBase (MarkerEntry ∷ l)
 
--- an open formatting element, and its name
+-- an open formatting element, and its name, or another open element
 pub data OpenFormat : Type 0 where
   Formats : (node : ℕ) → (name : List ℕ) → OpenFormat
+  Other : (node : ℕ) → OpenFormat
 
 abbrev pub open_nodes : List OpenFormat → List ℕ
 open_nodes [] = []
 open_nodes (Formats n name ∷ path) = n ∷ open_nodes path
+open_nodes (Other n ∷ path) = n ∷ open_nodes path
 
 -- whether a link is open
 abbrev pub has_link : List OpenFormat → Bool
 has_link [] = false
 has_link (Formats n name ∷ path) = is_same_text name (codes "a") || has_link path
+has_link (Other n ∷ path) = has_link path
 
 -- the entries above the base are of the open formatting elements, in their order; some may have gone as the fourth
 -- alike came
@@ -32,6 +35,11 @@ pub data Entries (base : List Entry) : List OpenFormat → List Entry → Type 0
   Kept : {n : ℕ} {name : List ℕ} {attrs : List AttributeText} {path : List OpenFormat} {l : List Entry} → is_in n (nodes_of l) ≡ false → Entries base path l
       → Entries base (Formats n name ∷ path) (ElementEntry n (start name attrs) ∷ l)
   Lost : {n : ℕ} {name : List ℕ} {path : List OpenFormat} {l : List Entry} → is_in n (nodes_of l) ≡ false → Entries base path l → Entries base (Formats n name ∷ path) l
+  Passed : {n : ℕ} {path : List OpenFormat} {l : List Entry} → Entries base path l → Entries base (Other n ∷ path) l
+
+-- of another element there is none
+pub passed : {base : List Entry} {n : ℕ} {path : List OpenFormat} {l : List Entry} → Entries base (Other n ∷ path) l → Entries base path l
+passed (Passed r) = r
 
 closed_pushed : (n : ℕ) (s : List ℕ) (l : List Entry) → closed_front s l ≡ [] → closed_front (n ∷ s) l ≡ []
 closed_pushed n s [] e = refl
@@ -52,6 +60,7 @@ entries_closed under k Bottom = base_closed under k
 entries_closed under k (Kept {n} {name} {attrs} {path} {l} o r) =
     ap (λ b. cond (cond b true (is_in n (open_nodes path ++ under))) [] (ElementEntry n (start name attrs) ∷ closed_front (n ∷ (open_nodes path ++ under)) l)) (eq-eqb n n refl)
 entries_closed under k (Lost {n} {name} {path} {l} o r) = closed_pushed n (open_nodes path ++ under) l (entries_closed under k r)
+entries_closed under k (Passed {n} {path} {l} r) = closed_pushed n (open_nodes path ++ under) l (entries_closed under k r)
 
 -- no element is listed that was not
 abbrev pub Fewer : List Entry → List Entry → Type 0

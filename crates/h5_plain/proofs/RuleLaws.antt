@@ -5,8 +5,8 @@ use Rattle.h5_token.specs.Reply.{TurnsRaw}
 use Rattle.h5_token.specs.TokenText.{TagText}
 use Rattle.h5_token.specs.declared.states.RawKind.TheVariants.{Rcdata}
 use Rattle.h5_token.specs.declared.tag.TagKind.TheVariants.{EndTag, StartTag}
-use Rattle.h5_types.specs.TurnText.{TagTurn}
-use Rattle.h5_types.specs.declared.modes.InsertionMode.TheVariants.{AfterAfterBody, AfterBody, AfterHead, BeforeHead, BeforeHtml, InBody, InHead, Text}
+use Rattle.h5_tables.specs.TurnText.{TagTurn}
+use Rattle.h5_tables.specs.declared.modes.InsertionMode.TheVariants.{AfterAfterBody, AfterBody, AfterHead, BeforeHead, BeforeHtml, InBody, InHead, Text}
 use Rattle.h5_rules.specs.modes.AfterBody.{after_body_end, after_body_tag}
 use Rattle.h5_rules.specs.modes.AfterHead.{after_head_start, after_head_tag}
 use Rattle.h5_rules.specs.modes.BeforeHead.{before_head_start, before_head_tag}

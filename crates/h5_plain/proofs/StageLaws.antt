@@ -1,5 +1,5 @@
 -- What a builder makes of the tokens of a document, one after the other.
-use Rattle.std.proofs.Common.{◌≡◌, ◌≢◌, ◌∙◌, ℕ, true, false, not, cond, List, [], ◌∷◌, ◌++◌, map, Some, None, codes, refl, ap, sym, subst}
+use Rattle.std.proofs.Common.{◌≡◌, ◌≢◌, ◌∙◌, ℕ, true, false, not, cond, List, [], ◌∷◌, ◌++◌, map, Some, None, codes, refl, ap, sym, subst, Bool}
 use Rattle.h5_names.specs.AttributeText.{AttributeText}
 use Rattle.h5_token.specs.TokenText.{DoctypeText, EndOfFile, TokenText}
 use Rattle.h5_interface.specs.Forest.{Child, ChildNode, ElementNode}
@@ -8,11 +8,11 @@ use Rattle.h5_rules.specs.formatting.FormattingList.{nodes_of}
 use Rattle.h5_plain.proofs.ListedLaws.{Bottom, Entries, NoEntry}
 use Rattle.h5_interface.specs.SinkChoices.{SinkChoices}
 use Rattle.h5_interface.specs.declared.marks.QuirksMode.TheVariants.{NoQuirks}
-use Rattle.h5_tag_sets.specs.TagSets.{body_end_names, html_namespace, is_body_end_ok, is_default_scope, is_html_named}
-use Rattle.h5_data.specs.Doctypes.{good_identifiers, quirks_of}
-use Rattle.h5_types.specs.declared.modes.InsertionMode.{InsertionMode}
-use Rattle.h5_types.specs.declared.modes.InsertionMode.TheVariants.{BeforeHtml, BeforeHead, InHead, AfterHead, InBody, AfterBody, AfterAfterBody}
-use Rattle.h5_types.specs.declared.options.TreeBuilderOpts.{TreeBuilderOpts}
+use Rattle.h5_tables.specs.TagSets.{body_end_names, html_namespace, is_body_end_ok, is_default_scope, is_html_named}
+use Rattle.h5_tables.specs.Doctypes.{good_identifiers, quirks_of}
+use Rattle.h5_tables.specs.declared.modes.InsertionMode.{InsertionMode}
+use Rattle.h5_tables.specs.declared.modes.InsertionMode.TheVariants.{BeforeHtml, BeforeHead, InHead, AfterHead, InBody, AfterBody, AfterAfterBody}
+use Rattle.h5_tables.specs.declared.options.TreeBuilderOpts.{TreeBuilderOpts}
 use Rattle.h5_rules.specs.Changes.{set_frameset_not_ok, set_mode, insert_element, insert_head, insert_doctype, new_element, create_root, pop, set_quirks_mode}
 use Rattle.h5_rules.specs.modes.InBody.{body_ends, body_in_scope, if_body_in_scope}
 use Rattle.h5_rules.specs.Rows.{SetFramesetNotOk, InsertElement, InsertHead, CreateRoot, IsDone, Pop, Row, SetMode, choose, ignored}
@@ -22,15 +22,17 @@ use Rattle.h5_rules.specs.insertion.Place.{LastChild, place}
 use Rattle.h5_rules.specs.World.{World, current, name_in, names_of}
 use Rattle.h5_rules.specs.formatting.FormattingNames.{html_name}
 use Rattle.h5_rules.specs.stack.Order.{but_first, first_or, is_in}
-use Rattle.h5_plain.specs.Plain.{Blocks, End, IsPlain, Nodes, end_tag, plain_doctype, start_tag, tokens_before}
+use Rattle.h5_plain.specs.Plain.{Flow, End, IsPlain, nothing_open, Nodes, end_tag, plain_doctype, start_tag, tokens_before}
 use Rattle.h5_plain.specs.Rebuilding.{IsStart, Looks, Stands}
 use Rattle.h5_plain.proofs.BuildsLaws.{body_fits, builds}
 use Rattle.h5_plain.proofs.CalmLaws.{Calm, Named, NoneOpen, OneOpen, after, unowned, place_is}
 use Rattle.h5_plain.proofs.FilledLaws.{face, rooted_framed, stands_from_new}
-use Rattle.h5_plain.proofs.GoesLaws.{Goes, Moves, moves_end, moves_tag}
+use Rattle.h5_plain.proofs.GoesLaws.{Goes, Moves, moves_end, moves_tag, no_table_mode}
+use Rattle.h5_plain.proofs.ModeLaws.{GoesByBody, TheBody}
 use Rattle.h5_plain.proofs.GrowthLaws.{Begun, Rooted, begun_first, body, head, html, kinds_apart, name_of, root_below, rooted_first, rooted_grown, rooted_marked, with_element}
 use Rattle.h5_plain.proofs.HeadLaws.{HeadHolds, HoldsNothing, head_kept, head_not_body, head_not_html, html_not_body, title, title_not_body, title_not_html}
-use Rattle.h5_plain.proofs.HtmlLaws.{AtHtml, at_element, at_none, html_is}
+use Rattle.h5_plain.proofs.HtmlLaws.{IsHtmlContext, AtHtml, at_element, at_none, html_is}
+use Rattle.h5_rules.specs.Sound.{role_at}
 use Rattle.h5_plain.proofs.LooksLaws.{looks_marked}
 use Rattle.h5_plain.proofs.RuleLaws.{body_end_rule, body_rule, head_end_rule, head_rule, html_end_rule, html_rule}
 
@@ -46,6 +48,7 @@ pub record AfterDoctype (w : World) : Type 0 where
   pub none_open : w.stack ≡ []
   pub none_listed : w.formatting ≡ []
   pub no_foster : w.foster ≡ false
+  pub no_pending : w.pending ≡ []
   pub no_form : w.form ≡ None
   pub no_context : w.context ≡ None
   pub quirks : w.seen_quirks ≡ NoQuirks
@@ -59,6 +62,7 @@ pub record AfterHtml (a : List AttributeText) (w : World) : Type 0 where
   pub is_open : w.stack ≡ root ∷ []
   pub none_listed : w.formatting ≡ []
   pub no_foster : w.foster ≡ false
+  pub no_pending : w.pending ≡ []
   pub no_form : w.form ≡ None
   pub no_context : w.context ≡ None
   pub quirks : w.seen_quirks ≡ NoQuirks
@@ -73,6 +77,7 @@ pub record WithHead (m : InsertionMode) (more : ℕ → List ℕ) (a b : List At
   pub are_open : w.stack ≡ (more header) ++ root ∷ []
   pub none_listed : w.formatting ≡ []
   pub no_foster : w.foster ≡ false
+  pub no_pending : w.pending ≡ []
   pub no_form : w.form ≡ None
   pub no_context : w.context ≡ None
   pub quirks : w.seen_quirks ≡ NoQuirks
@@ -104,6 +109,7 @@ pub record AtBody (a b c : List AttributeText) (h : Nodes) (w : World) : Type 0 
   pub with_body : WithBody InBody a b c h [] End w
   pub none_listed : w.formatting ≡ []
   pub no_foster : w.foster ≡ false
+  pub no_pending : w.pending ≡ []
   pub no_form : w.form ≡ None
   pub ignore_lf : w.ignore_lf ≡ false
 
@@ -130,7 +136,7 @@ unfolding set_quirks_mode insert_doctype
 doctype_next choices w s = record {
   after = set_mode BeforeHtml (set_quirks_mode NoQuirks (insert_doctype choices (codes "html") [] [] (taken w)));
   moves = doctype_moves choices w s;
-  holds = record { mode = refl; none_open = s.none_open; none_listed = s.none_listed; no_foster = s.no_foster; no_form = s.no_form; no_context = s.no_context; quirks = refl; doctype = choices.fresh w.forest; begun = begun_first choices w.forest s.holds };
+  holds = record { mode = refl; none_open = s.none_open; none_listed = s.none_listed; no_foster = s.no_foster; no_pending = s.no_pending; no_form = s.no_form; no_context = s.no_context; quirks = refl; doctype = choices.fresh w.forest; begun = begun_first choices w.forest s.holds };
 }
 
 pub html_next : (choices : SinkChoices) (a : List AttributeText) (w : World) → AfterDoctype w → Next choices (start_tag (codes "html") a) w (AfterHtml a)
@@ -144,6 +150,7 @@ html_next choices a w s = record {
     is_open = ap (λ r. choices.fresh w.forest ∷ r) s.none_open;
     none_listed = s.none_listed;
     no_foster = s.no_foster;
+    no_pending = s.no_pending;
     no_form = s.no_form;
     no_context = s.no_context;
     quirks = s.quirks;
@@ -179,6 +186,10 @@ pub insert_foster : (choices : SinkChoices) (local : List ℕ) (attrs : List Att
 unfolding insert_element
 insert_foster choices local attrs w = refl
 
+pub insert_pending : (choices : SinkChoices) (local : List ℕ) (attrs : List AttributeText) (w : World) → (insert_element choices local attrs false w).pending ≡ w.pending
+unfolding insert_element
+insert_pending choices local attrs w = refl
+
 pub insert_form : (choices : SinkChoices) (local : List ℕ) (attrs : List AttributeText) (w : World) → (insert_element choices local attrs false w).form ≡ w.form
 unfolding insert_element
 insert_form choices local attrs w = refl
@@ -211,6 +222,7 @@ head_next choices a b w s =
         are_open = insert_opens choices (codes "head") b (taken w) ∙ ap (λ r. n ∷ r) s.is_open;
         none_listed = insert_listed choices (codes "head") b (taken w) ∙ s.none_listed;
         no_foster = insert_foster choices (codes "head") b (taken w) ∙ s.no_foster;
+        no_pending = insert_pending choices (codes "head") b (taken w) ∙ s.no_pending;
         no_form = insert_form choices (codes "head") b (taken w) ∙ s.no_form;
         no_context = insert_context choices (codes "head") b (taken w) ∙ s.no_context;
         quirks = insert_quirks choices (codes "head") b (taken w) ∙ s.quirks;
@@ -241,6 +253,7 @@ head_end_next choices a b h w s = record {
     are_open = ap but_first s.are_open;
     none_listed = s.none_listed;
     no_foster = s.no_foster;
+    no_pending = s.no_pending;
     no_form = s.no_form;
     no_context = s.no_context;
     quirks = s.quirks;
@@ -282,13 +295,14 @@ body_next choices a b c h w s =
         };
         none_listed = insert_listed choices (codes "body") c (taken w) ∙ s.none_listed;
         no_foster = insert_foster choices (codes "body") c (taken w) ∙ s.no_foster;
+        no_pending = insert_pending choices (codes "body") c (taken w) ∙ s.no_pending;
         no_form = insert_form choices (codes "body") c (taken w) ∙ s.no_form;
         ignore_lf = insert_flag choices (codes "body") c (taken w);
       };
     }
 
 -- the body is filled
-at_body : (a b c : List AttributeText) (h : Nodes) (w : World) (s : AtBody a b c h w) → Calm w s.with_body.content (face (codes "body") c) (body ∷ html ∷ []) [] w.stack []
+at_body : (a b c : List AttributeText) (h : Nodes) (w : World) (s : AtBody a b c h w) → Calm None w s.with_body.content (face (codes "body") c) (body ∷ html ∷ []) [] w.stack []
 at_body a b c h w s =
     let t = s.with_body in
     record {
@@ -298,8 +312,10 @@ at_body a b c h w s =
       shows = t.is_body;
       named = subst (λ r. Named w.forest r (body ∷ html ∷ [])) (sym t.are_open) (OneOpen t.is_body.is_kind (OneOpen t.rooted.is_root.is_kind NoneOpen));
       no_foster = s.no_foster;
+      no_pending = s.no_pending;
       no_form = s.no_form;
-      no_context = t.no_context;
+      context = subst (IsHtmlContext w.forest) (sym t.no_context) tt;
+      root_role = ap (role_at w.forest) t.no_context;
       no_template = refl;
       is_html = html_is (codes "body");
       are_open = refl;
@@ -309,21 +325,21 @@ at_body a b c h w s =
     }
 
 -- what it leads to
-pub record BodyFilled (choices : SinkChoices) (a b c : List AttributeText) (h nodes : Nodes) (w : World) : Type 0 where
+pub record BodyFilled (blanks : Bool) (choices : SinkChoices) (a b c : List AttributeText) (h nodes : Nodes) (w : World) : Type 0 where
   pub after : World
-  pub goes : (ts : List TokenText) (u : World) → Goes choices ts after u → Goes choices (tokens_before nodes ts) w u
+  pub goes : (ts : List TokenText) (u : World) → Goes blanks choices ts after u → Goes blanks choices (tokens_before nodes ts) w u
   pub inner : List Child
   pub holds : WithBody InBody a b c h inner nodes after
 
 -- the blocks are built in it
-pub body_filled : (choices : SinkChoices) (a b c : List AttributeText) (h nodes : Nodes) (w : World) → IsPlain Blocks nodes → AtBody a b c h w → BodyFilled choices a b c h nodes w
+pub body_filled : {blanks : Bool} → (choices : SinkChoices) (a b c : List AttributeText) (h nodes : Nodes) (w : World) → IsPlain blanks (Flow false nothing_open) nodes → AtBody a b c h w → BodyFilled blanks choices a b c h nodes w
 body_filled choices a b c h nodes w plain s =
     let t = s.with_body in
-    let built = builds choices plain w t.content (face (codes "body") c) (body ∷ html ∷ []) [] w.stack [] (body_fits w.mode t.mode) tt tt (at_body a b c h w s) in
+    let built = builds choices plain w t.content (face (codes "body") c) (body ∷ html ∷ []) [] w.stack [] (body_fits None w.mode t.mode) refl (λ e. refl) (at_body a b c h w s) in
     let r = built.filled.frame in
     record {
-      after = after w built.forest built.formatting built.ok;
-      goes = built.goes;
+      after = after w built.forest built.formatting built.ok built.saved;
+      goes = λ ts u g. built.goes ts u (λ q. absurd (no_table_mode (subst GoesByBody (sym t.mode) TheBody) q)) g;
       inner = built.filled.added;
       holds = record {
         mode = t.mode;

@@ -2,7 +2,7 @@
 use Rattle.std.proofs.Common.{◌≡◌, ◌∙◌, ◌+◌, [], length, map, None, ap, refl, subst, sym}
 use Rattle.h5_interface.specs.Forest.{Forest, IsForest}
 use Rattle.h5_rules.specs.formatting.Lists.{Lists}
-use Rattle.h5_types.specs.declared.modes.InsertionMode.TheVariants.{Initial}
+use Rattle.h5_tables.specs.declared.modes.InsertionMode.TheVariants.{Initial}
 use Rattle.h5_rules.specs.fitting.Fits.{AllKinds, context_templates}
 use Rattle.h5_rules.specs.fitting.NamesFit.{NamesFit}
 use Rattle.h5_rules.specs.Sound.{AllStand, Fitting, Stands, role_at, situation_of}

@@ -1,13 +1,13 @@
 -- What a builder makes of the tokens of what a head holds: nothing, or a title of one text.
-use Rattle.std.proofs.Common.{◌≡◌, ◌∙◌, ℕ, false, List, [], ◌∷◌, Some, None, codes, refl, ap, subst, unwrap_or}
+use Rattle.std.proofs.Common.{◌≡◌, ◌∙◌, ℕ, false, List, [], ◌∷◌, Some, None, codes, refl, ap, subst, unwrap_or, Bool}
 use Rattle.h5_names.specs.AttributeText.{AttributeText}
 use Rattle.h5_token.specs.TokenText.{Characters, TokenText}
 use Rattle.h5_interface.specs.Changes.{append_text as append_text_to}
 use Rattle.h5_interface.specs.Forest.{Child, ChildNode, ChildText, ElementNode, Marks}
 use Rattle.h5_interface.specs.SinkChoices.{SinkChoices}
 use Rattle.h5_interface.specs.declared.marks.QuirksMode.TheVariants.{NoQuirks}
-use Rattle.h5_tag_sets.specs.TagSets.{void_names}
-use Rattle.h5_types.specs.declared.modes.InsertionMode.TheVariants.{InHead, InTable, Text}
+use Rattle.h5_tables.specs.TagSets.{void_names}
+use Rattle.h5_tables.specs.declared.modes.InsertionMode.TheVariants.{InHead, InTable, Text}
 use Rattle.h5_rules.specs.stack.Order.{but_first, first_or}
 use Rattle.h5_rules.specs.Changes.{append_text, insert_element, pop, save_mode, set_mode, with_forest}
 use Rattle.h5_rules.specs.insertion.Place.{LastChild, place, put}
@@ -18,13 +18,13 @@ use Rattle.h5_plain.specs.Plain.{ElementThen, End, IsHead, Nodes, TextThen, Titl
 use Rattle.h5_plain.specs.Rebuilding.{Looks}
 use Rattle.h5_plain.proofs.CalmLaws.{place_is}
 use Rattle.h5_plain.proofs.FilledLaws.{face, frame_inserted, frame_text, more, rooted_framed}
-use Rattle.h5_plain.proofs.GoesLaws.{Goes, Moves, moves_answered, moves_raw_text, moves_tag}
+use Rattle.h5_plain.proofs.GoesLaws.{Straight, Goes, Moves, moves_answered, moves_raw_text, moves_tag}
 use Rattle.h5_plain.proofs.GrowthLaws.{Rooted, element_below, head, kinds_apart, rooted_marked, with_element}
 use Rattle.h5_plain.proofs.HeadLaws.{HoldsTitle, head_not_title, html_not_head, html_not_title, nothing_held, title}
 use Rattle.h5_plain.proofs.HtmlLaws.{AtHtml, at_element}
 use Rattle.h5_plain.proofs.LooksLaws.{looks_marked, looks_node}
 use Rattle.h5_plain.proofs.RuleLaws.{end, start, title_end_rule, title_rule}
-use Rattle.h5_plain.proofs.StageLaws.{Next, WithHead, in_head, insert_flag, insert_context, insert_foster, insert_form, insert_listed, insert_mode, insert_opens, insert_quirks, inserted, one}
+use Rattle.h5_plain.proofs.StageLaws.{Next, WithHead, in_head, insert_flag, insert_context, insert_foster, insert_pending, insert_form, insert_listed, insert_mode, insert_opens, insert_quirks, inserted, one}
 
 -- in the title, which holds these children
 record InTitle (a b c : List AttributeText) (inner : List Child) (w : World) : Type 0 where
@@ -37,6 +37,7 @@ record InTitle (a b c : List AttributeText) (inner : List Child) (w : World) : T
   are_open : w.stack ≡ element ∷ header ∷ root ∷ []
   none_listed : w.formatting ≡ []
   no_foster : w.foster ≡ false
+  no_pending : w.pending ≡ []
   no_form : w.form ≡ None
   no_context : w.context ≡ None
   quirks : w.seen_quirks ≡ NoQuirks
@@ -71,6 +72,7 @@ title_next choices a b c w s =
         are_open = insert_opens choices (codes "title") c (taken w) ∙ ap (λ r. n ∷ r) s.are_open;
         none_listed = insert_listed choices (codes "title") c (taken w) ∙ s.none_listed;
         no_foster = insert_foster choices (codes "title") c (taken w) ∙ s.no_foster;
+        no_pending = insert_pending choices (codes "title") c (taken w) ∙ s.no_pending;
         no_form = insert_form choices (codes "title") c (taken w) ∙ s.no_form;
         no_context = insert_context choices (codes "title") c (taken w) ∙ s.no_context;
         quirks = insert_quirks choices (codes "title") c (taken w) ∙ s.quirks;
@@ -106,6 +108,7 @@ text_next choices a b c x t w s =
         are_open = s.are_open;
         none_listed = s.none_listed;
         no_foster = s.no_foster;
+        no_pending = s.no_pending;
         no_form = s.no_form;
         no_context = s.no_context;
         quirks = s.quirks;
@@ -134,6 +137,7 @@ title_end_next choices a b c t w s =
         are_open = ap but_first s.are_open;
         none_listed = s.none_listed;
         no_foster = s.no_foster;
+        no_pending = s.no_pending;
         no_form = s.no_form;
         no_context = s.no_context;
         quirks = s.quirks;
@@ -146,12 +150,12 @@ title_end_next choices a b c t w s =
     }
 
 -- what the tokens of what a head holds lead to
-pub record HeadFilled (choices : SinkChoices) (a b : List AttributeText) (h : Nodes) (w : World) : Type 0 where
+pub record HeadFilled (blanks : Bool) (choices : SinkChoices) (a b : List AttributeText) (h : Nodes) (w : World) : Type 0 where
   pub after : World
-  pub goes : (ts : List TokenText) (u : World) → Goes choices ts after u → Goes choices (tokens_before h ts) w u
+  pub goes : (ts : List TokenText) (u : World) → Goes blanks choices ts after u → Goes blanks choices (tokens_before h ts) w u
   pub holds : WithHead InHead one a b h after
 
-pub head_filled : (choices : SinkChoices) (a b : List AttributeText) {h : Nodes} (w : World) → IsHead h → WithHead InHead one a b End w → HeadFilled choices a b h w
+pub head_filled : {blanks : Bool} → (choices : SinkChoices) (a b : List AttributeText) {h : Nodes} (w : World) → IsHead h → WithHead InHead one a b End w → HeadFilled blanks choices a b h w
 unfolding void_names
 head_filled choices a b w Untitled s = record { after = w; goes = λ ts u g. g; holds = s }
 head_filled choices a b w (Titled {attrs} {first} {more = further} plain words) s =
@@ -160,6 +164,6 @@ head_filled choices a b w (Titled {attrs} {first} {more = further} plain words) 
     let n3 = title_end_next choices a b attrs (first ∷ further) n2.after n2.holds in
     record {
       after = n3.after;
-      goes = λ ts u g. (n1.after, (n1.moves, (n2.after, (n2.moves, (n3.after, (n3.moves, g))))));
+      goes = λ ts u g. (n1.after, (Straight n1.moves, (n2.after, (Straight n2.moves, (n3.after, (Straight n3.moves, g))))));
       holds = n3.holds;
     }

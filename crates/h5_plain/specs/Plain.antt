@@ -1,12 +1,13 @@
 -- Plain documents, as they are written. No mode of a tree builder is known here.
-use Rattle.std.specs.Prelude.{◌≡◌, ◌≢◌, ℕ, Bool, true, false, not, ◌&&◌, if◌then◌else◌, List, [], ◌∷◌, Some, None, codes}
+use Rattle.std.specs.Prelude.{◌≡◌, ◌≢◌, ℕ, ◌==◌, Bool, true, false, not, ◌&&◌, if◌then◌else◌, List, [], ◌∷◌, Some, None, codes}
 use Rattle.h5_names.specs.AttributeText.{AttributeText, is_same_text}
 use Rattle.h5_token.specs.Reply.{Continues, Reply, TurnsRaw}
 use Rattle.h5_token.specs.TokenText.{TagText, TokenText, DoctypeIs, TagIs, Characters, EndOfFile}
 use Rattle.h5_token.specs.declared.states.RawKind.TheVariants.{Rcdata}
 use Rattle.h5_token.specs.declared.tag.TagKind.TheVariants.{StartTag, EndTag}
 use Rattle.h5_interface.specs.Changes.{has_attribute}
-use Rattle.h5_tag_sets.specs.TagSets.{cell_names, heading_names, is_one_of, void_names}
+use Rattle.h5_tables.specs.TagSets.{cell_names, heading_names, is_one_of, void_names}
+use Rattle.h5_rules.specs.Blanks.{all_blank}
 use Rattle.h5_rules.specs.Kinds.{is_start}
 
 -- a list of nodes: texts, and HTML elements with what they hold
@@ -46,65 +47,129 @@ NoNul (b ∷ t) = (b ≢ 0) × NoNul t
 
 -- the formatting elements that may be nested in each other, and each in itself
 unfoldable pub inline_names : List (List ℕ)
-inline_names = codes "b" ∷ codes "i" ∷ codes "em" ∷ codes "code" ∷ []
+inline_names =
+    codes "b" ∷ codes "big" ∷ codes "code" ∷ codes "em" ∷ codes "font" ∷ codes "i" ∷ codes "s" ∷ codes "small" ∷
+    codes "strike" ∷ codes "strong" ∷ codes "tt" ∷ codes "u" ∷ []
 
--- the blocks that hold blocks
-unfoldable pub division_names : List (List ℕ)
-division_names = codes "div" ∷ codes "search" ∷ []
+-- elements without a rule of their own
+unfoldable pub phrase_names : List (List ℕ)
+phrase_names =
+    codes "abbr" ∷ codes "bdi" ∷ codes "bdo" ∷ codes "cite" ∷ codes "data" ∷ codes "del" ∷ codes "dfn" ∷ codes "ins" ∷
+    codes "kbd" ∷ codes "label" ∷ codes "mark" ∷ codes "meter" ∷ codes "output" ∷ codes "progress" ∷ codes "q" ∷ codes "samp" ∷
+    codes "span" ∷ codes "sub" ∷ codes "sup" ∷ codes "time" ∷ codes "var" ∷ []
 
--- lists of items
-unfoldable pub list_names : List (List ℕ)
-list_names = codes "ul" ∷ codes "ol" ∷ []
+-- blocks through which an item of a list is seen, and blocks that end the search for one
+unfoldable pub open_block_names : List (List ℕ)
+open_block_names = codes "address" ∷ codes "dialog" ∷ codes "div" ∷ []
 
--- what a list of nodes is for: what a block holds, text and what stands in it, what a list holds, what a table, its
--- sections and its rows hold. Of inlines: whether a text stands right before them, and whether they are in a link
+unfoldable pub barrier_names : List (List ℕ)
+barrier_names =
+    codes "article" ∷ codes "aside" ∷ codes "blockquote" ∷ codes "center" ∷ codes "details" ∷ codes "dir" ∷ codes "dl" ∷
+    codes "fieldset" ∷ codes "figcaption" ∷ codes "figure" ∷ codes "footer" ∷ codes "header" ∷ codes "hgroup" ∷ codes "main" ∷
+    codes "menu" ∷ codes "nav" ∷ codes "ol" ∷ codes "search" ∷ codes "section" ∷ codes "summary" ∷ codes "ul" ∷ []
+
+-- what has no end tag and stands in a line
+unfoldable pub mark_names : List (List ℕ)
+mark_names = codes "br" ∷ codes "img" ∷ codes "wbr" ∷ []
+
+-- terms and their descriptions, sections of a table
+unfoldable pub term_names : List (List ℕ)
+term_names = codes "dd" ∷ codes "dt" ∷ []
+
+unfoldable pub part_names : List (List ℕ)
+part_names = codes "tbody" ∷ codes "tfoot" ∷ codes "thead" ∷ []
+
+-- what is open where nodes stand, of what the rules of the body ask: a `p`; whether the parent is a heading; an `li`, and a `dd` or `dt`,
+-- that no other element hides; an `a`
+pub record Around : Type 0 where
+  pub in_p : Bool
+  pub in_heading : Bool
+  pub in_item : Bool
+  pub in_description : Bool
+  pub in_link : Bool
+
+abbrev pub nothing_open : Around
+nothing_open = record { in_p = false; in_heading = false; in_item = false; in_description = false; in_link = false }
+
+-- inside of an element through which an item is seen, and of one that hides it
+abbrev pub within : Around → Around
+within o = record o { in_heading = false }
+
+abbrev pub behind : Around → Around
+behind o = record o { in_heading = false; in_item = false; in_description = false }
+
+-- what a table, its sections and its rows hold
+pub data TablePart : Type 0 where
+  Sections : TablePart
+  Rows : TablePart
+  Cells : TablePart
+
+-- what a list of nodes is for: what stands in flow, whether a text stands right before it, and what is open there; what a table, its
+-- sections and its rows hold
 pub data Sort : Type 0 where
-  Blocks : Sort
-  Inlines : (after_text linked : Bool) → Sort
-  Items : Sort
-  Sections : Sort
-  Rows : Sort
-  Cells : Sort
+  Flow : (after_text : Bool) → (o : Around) → Sort
+  Part : (after_text : Bool) → (part : TablePart) → Sort
+  Columns : (after_text : Bool) → Sort
 
--- which lists of nodes are plain
-pub data IsPlain : Sort → Nodes → Type 0 where
-  Nothing : {s : Sort} → IsPlain s End
-  -- a `div` or `search` of blocks
-  Division : {name : List ℕ} {attrs : List AttributeText} {inner rest : Nodes} → is_one_of division_names name ≡ true → ArePlain attrs
-      → IsPlain Blocks inner → IsPlain Blocks rest → IsPlain Blocks (ElementThen name attrs inner rest)
-  -- a `p` of inlines
-  Paragraph : {attrs : List AttributeText} {inner rest : Nodes} → ArePlain attrs → IsPlain (Inlines false false) inner → IsPlain Blocks rest
-      → IsPlain Blocks (ElementThen (codes "p") attrs inner rest)
-  -- an `h1` to `h6` of inlines
-  Heading : {name : List ℕ} {attrs : List AttributeText} {inner rest : Nodes} → is_one_of heading_names name ≡ true → ArePlain attrs
-      → IsPlain (Inlines false false) inner → IsPlain Blocks rest → IsPlain Blocks (ElementThen name attrs inner rest)
-  -- a `ul` or `ol` of items, each a `li` of blocks
-  ItemList : {name : List ℕ} {attrs : List AttributeText} {inner rest : Nodes} → is_one_of list_names name ≡ true → ArePlain attrs
-      → IsPlain Items inner → IsPlain Blocks rest → IsPlain Blocks (ElementThen name attrs inner rest)
-  Item : {attrs : List AttributeText} {inner rest : Nodes} → ArePlain attrs → IsPlain Blocks inner → IsPlain Items rest
-      → IsPlain Items (ElementThen (codes "li") attrs inner rest)
-  -- a `table` of sections, each a `tbody` of rows, each a `tr` of cells, each a `td` or `th` of blocks
-  Table : {attrs : List AttributeText} {inner rest : Nodes} → ArePlain attrs → IsPlain Sections inner → IsPlain Blocks rest
-      → IsPlain Blocks (ElementThen (codes "table") attrs inner rest)
-  Section : {attrs : List AttributeText} {inner rest : Nodes} → ArePlain attrs → IsPlain Rows inner → IsPlain Sections rest
-      → IsPlain Sections (ElementThen (codes "tbody") attrs inner rest)
-  TableRow : {attrs : List AttributeText} {inner rest : Nodes} → ArePlain attrs → IsPlain Cells inner → IsPlain Rows rest
-      → IsPlain Rows (ElementThen (codes "tr") attrs inner rest)
-  Cell : {name : List ℕ} {attrs : List AttributeText} {inner rest : Nodes} → is_one_of cell_names name ≡ true → ArePlain attrs
-      → IsPlain Blocks inner → IsPlain Cells rest → IsPlain Cells (ElementThen name attrs inner rest)
+-- a text that begins with a newline comes first
+abbrev pub begins_with_newline : Nodes → Bool
+begins_with_newline (TextThen (b ∷ t) rest) = b == 10
+begins_with_newline _ = false
+
+-- which lists of nodes are plain; blank texts stand in tables where they may
+pub data IsPlain (blanks : Bool) : Sort → Nodes → Type 0 where
+  Nothing : {s : Sort} → IsPlain blanks s End
   -- a text, which isn't empty, and after which no other comes
-  Words : {linked : Bool} {first : ℕ} {more : List ℕ} {rest : Nodes} → NoNul (first ∷ more) → IsPlain (Inlines true linked) rest
-      → IsPlain (Inlines false linked) (TextThen (first ∷ more) rest)
-  -- a `br`
-  Break : {after_text linked : Bool} {attrs : List AttributeText} {rest : Nodes} → ArePlain attrs → IsPlain (Inlines false linked) rest
-      → IsPlain (Inlines after_text linked) (ElementThen (codes "br") attrs End rest)
-  -- a `b`, `i`, `em` or `code` of inlines
-  Formatted : {after_text linked : Bool} {name : List ℕ} {attrs : List AttributeText} {inner rest : Nodes} → is_one_of inline_names name ≡ true → ArePlain attrs
-      → IsPlain (Inlines false linked) inner → IsPlain (Inlines false linked) rest → IsPlain (Inlines after_text linked) (ElementThen name attrs inner rest)
-  -- a link, which is an `a` of inlines, outside of any other: the start tag of one in it would close it, and the document wouldn't
-  -- be rebuilt
-  Link : {after_text : Bool} {attrs : List AttributeText} {inner rest : Nodes} → ArePlain attrs
-      → IsPlain (Inlines false true) inner → IsPlain (Inlines false false) rest → IsPlain (Inlines after_text false) (ElementThen (codes "a") attrs inner rest)
+  Words : {o : Around} {first : ℕ} {more : List ℕ} {rest : Nodes} → NoNul (first ∷ more) → IsPlain blanks (Flow true o) rest
+      → IsPlain blanks (Flow false o) (TextThen (first ∷ more) rest)
+  -- a blank text in a table, or in a part of one
+  Blank : {part : TablePart} {first : ℕ} {more : List ℕ} {rest : Nodes} → blanks ≡ true → all_blank (first ∷ more) ≡ true → NoNul (first ∷ more) → IsPlain blanks (Part true part) rest
+      → IsPlain blanks (Part false part) (TextThen (first ∷ more) rest)
+  ColumnBlank : {first : ℕ} {more : List ℕ} {rest : Nodes} → blanks ≡ true → all_blank (first ∷ more) ≡ true → NoNul (first ∷ more) → IsPlain blanks (Columns true) rest
+      → IsPlain blanks (Columns false) (TextThen (first ∷ more) rest)
+  -- blocks, where no `p` is open
+  Division : {a : Bool} {o : Around} {name : List ℕ} {attrs : List AttributeText} {inner rest : Nodes} → is_one_of open_block_names name ≡ true → o.in_p ≡ false → ArePlain attrs
+      → IsPlain blanks (Flow false (within o)) inner → IsPlain blanks (Flow false o) rest → IsPlain blanks (Flow a o) (ElementThen name attrs inner rest)
+  Barrier : {a : Bool} {o : Around} {name : List ℕ} {attrs : List AttributeText} {inner rest : Nodes} → is_one_of barrier_names name ≡ true → o.in_p ≡ false → ArePlain attrs
+      → IsPlain blanks (Flow false (behind o)) inner → IsPlain blanks (Flow false o) rest → IsPlain blanks (Flow a o) (ElementThen name attrs inner rest)
+  Preformatted : {a : Bool} {o : Around} {attrs : List AttributeText} {inner rest : Nodes} → o.in_p ≡ false → begins_with_newline inner ≡ false → ArePlain attrs
+      → IsPlain blanks (Flow false (behind o)) inner → IsPlain blanks (Flow false o) rest → IsPlain blanks (Flow a o) (ElementThen (codes "pre") attrs inner rest)
+  Paragraph : {a : Bool} {o : Around} {attrs : List AttributeText} {inner rest : Nodes} → o.in_p ≡ false → ArePlain attrs
+      → IsPlain blanks (Flow false (record (within o) { in_p = true })) inner → IsPlain blanks (Flow false o) rest → IsPlain blanks (Flow a o) (ElementThen (codes "p") attrs inner rest)
+  Heading : {a : Bool} {o : Around} {name : List ℕ} {attrs : List AttributeText} {inner rest : Nodes} → is_one_of heading_names name ≡ true → o.in_p ≡ false → o.in_heading ≡ false → ArePlain attrs
+      → IsPlain blanks (Flow false (record (behind o) { in_heading = true })) inner → IsPlain blanks (Flow false o) rest → IsPlain blanks (Flow a o) (ElementThen name attrs inner rest)
+  Item : {a : Bool} {o : Around} {attrs : List AttributeText} {inner rest : Nodes} → o.in_p ≡ false → o.in_item ≡ false → ArePlain attrs
+      → IsPlain blanks (Flow false (record (behind o) { in_item = true })) inner → IsPlain blanks (Flow false o) rest → IsPlain blanks (Flow a o) (ElementThen (codes "li") attrs inner rest)
+  Describing : {a : Bool} {o : Around} {name : List ℕ} {attrs : List AttributeText} {inner rest : Nodes} → is_one_of term_names name ≡ true → o.in_p ≡ false → o.in_description ≡ false → ArePlain attrs
+      → IsPlain blanks (Flow false (record (behind o) { in_description = true })) inner → IsPlain blanks (Flow false o) rest → IsPlain blanks (Flow a o) (ElementThen name attrs inner rest)
+  -- a line between blocks
+  Ruled : {a : Bool} {o : Around} {attrs : List AttributeText} {rest : Nodes} → o.in_p ≡ false → ArePlain attrs → IsPlain blanks (Flow false o) rest
+      → IsPlain blanks (Flow a o) (ElementThen (codes "hr") attrs End rest)
+  -- a `br`, `img` or `wbr`
+  Break : {a : Bool} {o : Around} {name : List ℕ} {attrs : List AttributeText} {rest : Nodes} → is_one_of mark_names name ≡ true → ArePlain attrs → IsPlain blanks (Flow false o) rest
+      → IsPlain blanks (Flow a o) (ElementThen name attrs End rest)
+  -- formatting elements, and elements without a rule, wherever they stand
+  Formatted : {a : Bool} {o : Around} {name : List ℕ} {attrs : List AttributeText} {inner rest : Nodes} → is_one_of inline_names name ≡ true → ArePlain attrs
+      → IsPlain blanks (Flow false (within o)) inner → IsPlain blanks (Flow false o) rest → IsPlain blanks (Flow a o) (ElementThen name attrs inner rest)
+  Phrase : {a : Bool} {o : Around} {name : List ℕ} {attrs : List AttributeText} {inner rest : Nodes} → is_one_of phrase_names name ≡ true → ArePlain attrs
+      → IsPlain blanks (Flow false (within o)) inner → IsPlain blanks (Flow false o) rest → IsPlain blanks (Flow a o) (ElementThen name attrs inner rest)
+  -- a link, outside of any other
+  Link : {a : Bool} {o : Around} {attrs : List AttributeText} {inner rest : Nodes} → o.in_link ≡ false → ArePlain attrs
+      → IsPlain blanks (Flow false (record (within o) { in_link = true })) inner → IsPlain blanks (Flow false o) rest → IsPlain blanks (Flow a o) (ElementThen (codes "a") attrs inner rest)
+  -- a `table` of sections, each of rows, each of cells, in which nothing is open
+  Table : {a : Bool} {o : Around} {attrs : List AttributeText} {inner rest : Nodes} → o.in_p ≡ false → ArePlain attrs → IsPlain blanks (Part false Sections) inner → IsPlain blanks (Flow false o) rest
+      → IsPlain blanks (Flow a o) (ElementThen (codes "table") attrs inner rest)
+  Caption : {a : Bool} {attrs : List AttributeText} {inner rest : Nodes} → ArePlain attrs → IsPlain blanks (Flow false nothing_open) inner → IsPlain blanks (Part false Sections) rest
+      → IsPlain blanks (Part a Sections) (ElementThen (codes "caption") attrs inner rest)
+  ColumnGroup : {a : Bool} {attrs : List AttributeText} {inner rest : Nodes} → ArePlain attrs → IsPlain blanks (Columns false) inner → IsPlain blanks (Part false Sections) rest
+      → IsPlain blanks (Part a Sections) (ElementThen (codes "colgroup") attrs inner rest)
+  Column : {a : Bool} {attrs : List AttributeText} {rest : Nodes} → ArePlain attrs → IsPlain blanks (Columns false) rest → IsPlain blanks (Columns a) (ElementThen (codes "col") attrs End rest)
+  Section : {a : Bool} {name : List ℕ} {attrs : List AttributeText} {inner rest : Nodes} → is_one_of part_names name ≡ true → ArePlain attrs → IsPlain blanks (Part false Rows) inner → IsPlain blanks (Part false Sections) rest
+      → IsPlain blanks (Part a Sections) (ElementThen name attrs inner rest)
+  TableRow : {a : Bool} {attrs : List AttributeText} {inner rest : Nodes} → ArePlain attrs → IsPlain blanks (Part false Cells) inner → IsPlain blanks (Part false Rows) rest
+      → IsPlain blanks (Part a Rows) (ElementThen (codes "tr") attrs inner rest)
+  Cell : {a : Bool} {name : List ℕ} {attrs : List AttributeText} {inner rest : Nodes} → is_one_of cell_names name ≡ true → ArePlain attrs
+      → IsPlain blanks (Flow false nothing_open) inner → IsPlain blanks (Part false Cells) rest → IsPlain blanks (Part a Cells) (ElementThen name attrs inner rest)
 
 -- what a head holds: nothing, or a `title` of one text, which isn't empty
 pub data IsHead : Nodes → Type 0 where
@@ -123,7 +188,7 @@ pub record PlainDocument : Type 0 where
   pub head_is_plain : ArePlain head_attrs
   pub body_is_plain : ArePlain body_attrs
   pub is_head : IsHead head
-  pub are_blocks : IsPlain Blocks blocks
+  pub are_blocks : IsPlain true (Flow false nothing_open) blocks
 
 abbrev pub root_of : PlainDocument → Nodes
 root_of d =

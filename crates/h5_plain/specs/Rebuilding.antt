@@ -5,13 +5,20 @@ use Rattle.h5_token.specs.TokenText.{TokenText}
 use Rattle.h5_interface.specs.Forest.{Child, ChildNode, ChildText, DoctypeNode, DocumentNode, ElementNode, Forest, IsForest, Kind, attrs_of, children_of, contents_of, kind_of}
 use Rattle.h5_interface.specs.SinkChoices.{SinkChoices}
 use Rattle.h5_interface.specs.declared.marks.QuirksMode.TheVariants.{NoQuirks}
-use Rattle.h5_types.specs.Options.{default_options}
-use Rattle.h5_types.specs.declared.modes.InsertionMode.TheVariants.{Initial}
+use Rattle.h5_tables.specs.Options.{default_options}
+use Rattle.h5_tables.specs.declared.modes.InsertionMode.TheVariants.{InBody, Initial}
 use Rattle.h5_token.specs.Joins.{join}
 use Rattle.h5_rules.specs.Run.{View, after_all, all_quiet, replies}
 use Rattle.h5_rules.specs.World.{World}
 use Rattle.h5_rules.specs.formatting.FormattingNames.{html_name}
-use Rattle.h5_plain.specs.Plain.{ElementThen, End, Nodes, PlainDocument, TextThen, document_tokens, plain_reply, root_of}
+use Rattle.h5_plain.specs.Plain.{ElementThen, End, Flow, IsPlain, Nodes, PlainDocument, TextThen, document_tokens, nothing_open, plain_reply, root_of, tokens_before}
+use Rattle.h5_token.specs.TokenText.{EndOfFile}
+use Rattle.h5_names.specs.declared.qualified.QualName.{QualName}
+use Rattle.h5_rules.specs.fitting.Fits.{Situation}
+use Rattle.h5_rules.specs.fitting.NamesFit.{is_html_element}
+use Rattle.h5_rules.specs.fitting.ResetByRoles.{decide_root}
+use Rattle.h5_rules.specs.fitting.Roles.{role_of}
+use Rattle.h5_rules.specs.Sound.{Fitting}
 
 -- a node of this kind, with these attributes and children, and without contents. Its parent and its marks
 -- aren't looked at
@@ -52,19 +59,53 @@ pub record IsStart (w : World) : Type 0 where
   pub none_listed : w.formatting ≡ []
   pub ignore_lf : w.ignore_lf ≡ false
   pub no_foster : w.foster ≡ false
+  pub no_pending : w.pending ≡ []
   pub no_template_modes : w.template_modes ≡ []
   pub no_head : w.head ≡ None
   pub no_form : w.form ≡ None
   pub no_context : w.context ≡ None
 
 -- tokens, run from a view, rebuild a document: it stands, in no quirks, the answers are those to a plain document's
--- tokens, and no parse error is told
+-- tokens, and no parse error is told, if no blank text stands in a table
 pub record Rebuilds (choices : SinkChoices) (ts : List TokenText) (d : PlainDocument) (v : View) : Type 0 where
   pub stands : DocumentStands (after_all choices ts v).world.forest d
   pub quirks : (after_all choices ts v).world.seen_quirks ≡ NoQuirks
   pub answers : replies choices ts v ≡ map plain_reply ts
-  pub quiet : all_quiet choices ts v ≡ true
+  pub quiet : IsPlain false (Flow false nothing_open) d.blocks → all_quiet choices ts v ≡ true
 
 -- however the texts of a plain document's tokens are cut
 abbrev pub RebuildsAll : SinkChoices → List TokenText → View → Type 0
 RebuildsAll choices ts v = (d : PlainDocument) → IsStart v.world → v.ended ≡ false → v.failed ≡ false → join ts ≡ document_tokens d → Rebuilds choices ts d v
+
+-- a builder of a fragment that took nothing yet: its root, an `html` without children, is open alone, and its context is an element of
+-- HTML by which the mode is "in body", as a `div`, `body`, `span` or `li` is
+pub record IsFragmentStart (w : World) : Type 0 where
+  pub root : ℕ
+  pub is_forest : IsForest w.forest
+  pub is_root : Looks w.forest root (ElementNode (html_name (codes "html"))) [] []
+  pub mode : w.mode ≡ InBody
+  pub is_open : w.stack ≡ root ∷ []
+  pub none_listed : w.formatting ≡ []
+  pub ignore_lf : w.ignore_lf ≡ false
+  pub no_foster : w.foster ≡ false
+  pub no_pending : w.pending ≡ []
+  pub no_form : w.form ≡ None
+  pub no_template_modes : w.template_modes ≡ []
+  pub context : ℕ
+  pub context_name : QualName
+  pub in_context : w.context ≡ Some context
+  pub is_context : kind_of w.forest context ≡ Some (ElementNode context_name)
+  pub of_html : is_html_element context_name ≡ true
+  pub is_ordinary : (s : Situation) → decide_root s (role_of context_name) ≡ InBody
+
+-- tokens, run from a view, rebuild a fragment below this root
+pub record RebuildsFragment (choices : SinkChoices) (ts : List TokenText) (root : ℕ) (nodes : Nodes) (v : View) : Type 0 where
+  pub stands : Stands (after_all choices ts v).world.forest (children_of (after_all choices ts v).world.forest root) nodes
+  pub answers : replies choices ts v ≡ map plain_reply ts
+  pub quiet : IsPlain false (Flow false nothing_open) nodes → all_quiet choices ts v ≡ true
+
+-- however the texts of its tokens are cut
+abbrev pub RebuildsFragments : SinkChoices → List TokenText → View → Type 0
+RebuildsFragments choices ts v =
+    (nodes : Nodes) (s : IsFragmentStart v.world) → IsPlain true (Flow false nothing_open) nodes → Fitting v.world → v.ended ≡ false → v.failed ≡ false
+    → join ts ≡ tokens_before nodes (EndOfFile ∷ []) → RebuildsFragment choices ts s.root nodes v

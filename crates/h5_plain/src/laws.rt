@@ -3,16 +3,24 @@ ghost use Rattle.std.specs.Prelude.{◌≡◌, List};
 ghost use Rattle.h5_token.specs.TokenText.{TokenText};
 ghost use Rattle.h5_interface.specs.SinkChoices.{SinkChoices};
 ghost use Rattle.h5_rules.specs.Run.{View};
-ghost use Rattle.h5_plain.specs.Rebuilding.{RebuildsAll};
+ghost use Rattle.h5_plain.specs.Rebuilding.{RebuildsAll, RebuildsFragments};
 
 /// The tokens of a plain document, however its texts are cut, rebuild exactly that document: from a builder
 /// that took nothing yet, with the default options, over any sink that holds its document alone, in no
-/// quirks, without a parse error, and with no answer but "go on", and to the start tag of a title that its text follows.
+/// quirks, with no answer but "go on", and to the start tag of a title that its text follows. No parse error is told, if no
+/// blank text stands in a table.
 ///
-/// A plain document has a head, which is empty or holds a `title` of one text, and a body of blocks: `div`, which holds blocks, `p` and `h1` to
-/// `h6`, which hold inlines, `ul` and `ol`, which hold `li` of blocks, and `table`, which holds `tbody` of `tr` of
-/// `td` and `th`, which hold blocks. Inlines are texts, no two beside each other, `br`, and `b`, `i`, `em`, `code`
-/// and `a`, which hold inlines, to any depth, but no `a` stands in an `a`. Any number of them may be alike.
+/// A plain document has a head, which is empty or holds a `title` of one text, and a body of texts, no two beside each other, and
+/// elements of HTML, each of which fits where it stands: its start tag closes nothing that is open. So a block, a table, an `hr` or a
+/// paragraph stands in no `p`, a heading in no `p` and right inside of no heading, an `li` in no `li` that no block but `address`,
+/// `dialog` and `div` hides, a `dd` or `dt` likewise, and an `a` in no `a`. In a table stand captions, column groups, sections, rows and
+/// cells where they belong, and blank texts. Formatting elements, and phrases, which have no rule of their own, stand anywhere in flow.
 pub fn documents_are_rebuilt()
     ensures { (choices : SinkChoices) (tokens : List TokenText) (view : View) → RebuildsAll choices tokens view }
+{}
+
+/// The same of a fragment, in any context by which the mode is "in body", as `div` or `body`: the tokens of nodes that fit rebuild exactly
+/// these nodes below the root.
+pub fn fragments_are_rebuilt()
+    ensures { (choices : SinkChoices) (tokens : List TokenText) (view : View) → RebuildsFragments choices tokens view }
 {}

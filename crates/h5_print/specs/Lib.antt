@@ -1,4 +1,10 @@
+pub mod Escapes
+pub mod Items
+pub mod Lines
+pub mod Parts
+pub mod Words
 pub mod Frames
 pub mod Nodes
 pub mod Printed
 pub mod Replies
+pub mod Writing

@@ -3,7 +3,7 @@ use Rattle.std.specs.Prelude.{ℕ, zero, suc, Bool, true, false, ◌&&◌, List,
 use Rattle.std.specs.List.{flat_map}
 use Rattle.h5_names.specs.AttributeText.{AttributeText, is_same_text}
 use Rattle.h5_interface.specs.Forest.{Kind, DocumentNode, DoctypeNode, ElementNode, CommentNode, InstructionNode, FragmentNode}
-use Rattle.h5_lines.specs.Escapes.{escape}
+use Rattle.h5_print.specs.Escapes.{escape}
 
 -- two spaces a level
 abbrev pub indent : ℕ → List ℕ

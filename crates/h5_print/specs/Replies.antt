@@ -8,7 +8,7 @@ use Rattle.h5_token.specs.declared.fault.BuildFault.TheVariants as fault
 use Rattle.h5_token.specs.declared.states.RawKind.{RawKind}
 use Rattle.h5_token.specs.declared.states.RawKind.TheVariants as raw
 use Rattle.h5_token.specs.Reply.{Reply, Continues, RunsScript, TurnsPlain, TurnsRaw, Indicates, Refuses}
-use Rattle.h5_lines.specs.Escapes.{escape}
+use Rattle.h5_print.specs.Escapes.{escape}
 
 abbrev pub mode_name : QuirksMode → List ℕ
 mode_name mode.Quirks = codes "Quirks"

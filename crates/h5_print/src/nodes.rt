@@ -4,12 +4,12 @@ ghost use Rattle.std.specs.String.{string_bytes};
 ghost use Rattle.h5_names.specs.AttributeText.{attribute_text, attribute_texts};
 ghost use Rattle.h5_arena.specs.ArenaModel.{kind_view};
 ghost use Rattle.h5_interface.specs.Forest.{CommentNode, DoctypeNode, ElementNode, InstructionNode};
-ghost use Rattle.h5_lines.specs.Escapes.{escape};
+ghost use Rattle.h5_print.specs.Escapes.{escape};
 ghost use Rattle.h5_print.specs.Nodes.{attribute_line, attribute_lines, identifiers, indent, kind_line, line, quoted};
 
+use super::escapes::write_escapes;
 use super::names::{attribute_prefix, element_prefix};
 use h5_arena::Kind;
-use h5_lines::write_escapes;
 use h5_names::{Attribute, QualName};
 use std::alloc::AllocError;
 

@@ -3,11 +3,11 @@ ghost use Rattle.std.specs.Prelude.{◌≡◌, ◌++◌, ◌∷◌, [], codes, O
 ghost use Rattle.std.specs.Fmt.{decimal};
 ghost use Rattle.std.specs.String.{string_bytes};
 ghost use Rattle.h5_token.specs.Reply.{Refuses, reply};
-ghost use Rattle.h5_lines.specs.Escapes.{escape};
+ghost use Rattle.h5_print.specs.Escapes.{escape};
 ghost use Rattle.h5_print.specs.Replies.{fault_line, mode_name, numbered, quirks_line, raw_name, reply_line};
 
+use super::escapes::write_escapes;
 use h5_interface::QuirksMode;
-use h5_lines::write_escapes;
 use h5_token::states::RawKind;
 use h5_token::{BuildFault, TokenSinkResult};
 use std::alloc::AllocError;

@@ -1,14 +1,19 @@
 //! Trees as text.
-ghost use Rattle.std.specs.Prelude.{◌≡◌, ◌+◌, ◌++◌, ◌∷◌, [], IfOk, OnOk, vec_len};
+ghost use Rattle.std.specs.Prelude.{◌≡◌, ◌≤◌, ◌+◌, ◌++◌, ◌∷◌, [], IfOk, OnOk, string_len, vec_len};
 ghost use Rattle.std.specs.String.{string_bytes};
 ghost use Rattle.h5_arena.specs.ArenaModel.{IsHeld};
 ghost use Rattle.h5_print.specs.Frames.{AreHeld, GoesOn, Opens};
+ghost use Rattle.h5_print.specs.Writing.{PassesOn, WritesTree};
 ghost use Rattle.h5_print.specs.Printed.{IsTreeText};
 
 use super::nodes::{print_attributes, print_content, print_kind, print_text};
 use h5_arena::{Arena, Child, NodeId};
 use h5_interface::TreeSink;
 use std::alloc::{AllocError, Global};
+use std::io::{self, Write};
+
+// So many bytes of a text are kept before they are written.
+const PART: usize = 65_536;
 
 // A node whose first lines are printed, and how many of its children are.
 #[derive(Clone, Copy)]
@@ -101,4 +106,41 @@ pub fn print_tree(alloc: Global, arena: &Arena) -> Result<String, AllocError>
     }
     // No memory holds so many lines.
     Err(AllocError)
+}
+
+// Writes a text on and forgets it, where it has more bytes than that.
+fn write_part<W: Write>(part: &mut String, writer: &mut W, most: usize) -> io::Result<()>
+    ensures passes { OnOk result (PassesOn (string_bytes part.old) (string_bytes part.new) (W.contents writer.old) (W.contents writer.new)) }
+    ensures rest { OnOk result (string_len part.new ≤ most) }
+{
+    if part.len() <= most {
+        return Ok(());
+    }
+    writer.write_all(part.as_bytes())?;
+    part.clear();
+    Ok(())
+}
+
+/// Writes what `print_tree` gives of an arena, in parts, so that no more than a part of it stands in memory: a line for each node
+/// is indented by its depth, and a tree whose elements nest has a text that grows with the square of its depth.
+///
+/// An error is the writer's, or of the kind `OutOfMemory`. Nothing is said then of what was written.
+pub fn write_tree<W: Write>(alloc: Global, arena: &Arena, writer: &mut W) -> io::Result<()>
+    ensures { OnOk result (WritesTree arena.now (W.contents writer.old) (W.contents writer.new)) }
+{
+    let mut part = String::new(alloc);
+    let mut stack = Vec::new(alloc);
+    stack.push(Frame {
+        node: arena.get_document(),
+        printed: 0,
+    })?;
+    'frames: for _ in 0..u64::MAX {
+        let Some(frame) = stack.pop() else {
+            return write_part(&mut part, writer, 0);
+        };
+        print_next(arena, frame, &mut part, &mut stack)?;
+        write_part(&mut part, writer, PART)?;
+    }
+    // No memory holds so many lines.
+    Err(AllocError.into())
 }

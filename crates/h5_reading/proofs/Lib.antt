@@ -5,3 +5,6 @@ pub mod PlainParts
 pub mod ProperLaws
 pub mod JoinLaws
 pub mod BlindLaws
+pub mod Fronts
+pub mod Errors
+pub mod DecodingLaws

@@ -7,3 +7,4 @@ pub mod Proper
 pub mod Lines
 pub mod Blindness
 pub mod LastName
+pub mod Decoding

@@ -4,5 +4,6 @@ pub mod NarrowingLemmas
 pub mod LongestLemmas
 pub mod ShortLemmas
 pub mod NameLaws
+pub mod HasBytes
 pub mod CommonLemmas
 pub mod ClosedLemmas

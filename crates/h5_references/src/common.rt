@@ -1,4 +1,4 @@
-//! The names that texts have most, told by their bytes alone.
+//! The names that texts have most, told by their bytes alone. `write_table.py` writes this file.
 ghost use Rattle.std.specs.Prelude.{◌≡◌, ◌<◌, true, IfSome};
 ghost use Rattle.h5_states.specs.References.{ends_in};
 ghost use Rattle.h5_states.specs.Signs.{semicolon};

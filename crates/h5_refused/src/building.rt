@@ -2,12 +2,12 @@
 use super::outcome::{Outcome, bare};
 use super::tally::Tally;
 use h5_arena::{Arena, NodeId};
-use h5_lines::{Item, parse};
+use h5_print::{Item, parse};
 use h5_serialize::{SerializeOpts, serialize};
+use h5_tables::TreeBuilderOpts;
 use h5_tests_sinks::{Starved, is_forest};
 use h5_token::{BuildFault, Token};
 use h5_tree_builder::TreeBuilder;
-use h5_types::TreeBuilderOpts;
 use std::alloc::{AllocError, Global};
 use std::io;
 

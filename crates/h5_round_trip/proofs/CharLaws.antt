@@ -133,7 +133,7 @@ free_bits title last false [] rest text ys free bits some = absurd (some false�
 free_bits title last foreign (x ∷ bs) rest text ys free bits some =
     more_bits (x ∷ []) (free_bit title last foreign x (bs ++ rest) free.0) (free_bits title last true bs rest text ys free.1 bits (λ no. absurd (no refl)))
 
-byte_some : (c : ℕ) → encode_utf8 c ≡ [] → ⊥
+pub byte_some : (c : ℕ) → encode_utf8 c ≡ [] → ⊥
 unfolding encode_utf8
 byte_some c e = by (ltb c 128) (ltb c 2048) (ltb c 65536) e
   where
@@ -247,10 +247,6 @@ text_read title last foreign x text ys r =
 abbrev pub None : (ℕ → Bool) → List ℕ → Type 0
 None stop [] = Unit {0}
 None stop (x ∷ xs) = (stop x ≡ false) × None stop xs
-
-pub none_append : (stop : ℕ → Bool) (xs ys : List ℕ) → None stop xs → None stop ys → None stop (xs ++ ys)
-none_append stop [] ys h g = g
-none_append stop (x ∷ xs) ys h g = (h.0, none_append stop xs ys h.1 g)
 
 none_by : (n : ℕ) (xs : List ℕ) → has n xs ≡ false → None (λ x. eqb x n) xs
 none_by n [] h = tt

@@ -12,7 +12,7 @@ use Rattle.h5_tokenizer.specs.declared.front.Mode.TheVariants.{Data, RawData}
 use Rattle.h5_reading.specs.Answers.{goes_on}
 use Rattle.h5_reading.proofs.AnswerLaws.{unrefused}
 use Rattle.h5_tokenizer.specs.End.{settle}
-use Rattle.h5_tokenizer.specs.Front.{Piece, Place, Whole, front}
+use Rattle.h5_tokenizer.specs.Front.{Piece, ReaderPlace, Whole, front}
 use Rattle.h5_reading.specs.Options.{default_options}
 use Rattle.h5_tokenizer.specs.Options.{first_place}
 use Rattle.h5_tokenizer.specs.Read.{Bits, Read, behind, chosen_mode, next_place, nothing_read, read_on, started, text_step, token_step, unmarked}
@@ -27,19 +27,19 @@ use Rattle.h5_round_trip.proofs.ShapeLaws.{Element, None, Shape, Text, Title, Vo
 use Rattle.h5_round_trip.proofs.TagLaws.{IsTagName, doctype_read, end_read, start_read, title_end_read}
 
 -- in data, or in the text of a title
-abbrev pub In : (title : Bool) → Place → Type 0
+abbrev pub In : (title : Bool) → ReaderPlace → Type 0
 In false p = (p.at_start ≡ false) × (p.mode ≡ Data)
 In true p = (p.at_start ≡ false) × ((p.mode ≡ RawData Rcdata) × (p.last ≡ codes "title"))
 
-in_started : (title : Bool) (p : Place) → In title p → p.at_start ≡ false
+in_started : (title : Bool) (p : ReaderPlace) → In title p → p.at_start ≡ false
 in_started false p h = h.0
 in_started true p h = h.0
 
-in_text : (title : Bool) (p : Place) → In title p → p.mode ≡ text_mode title
+in_text : (title : Bool) (p : ReaderPlace) → In title p → p.mode ≡ text_mode title
 in_text false p h = h.1
 in_text true p h = h.1.0
 
-pub in_behind : (title : Bool) (p : Place) (xs ys : List ℕ) → In title p → In title (behind p xs ys)
+pub in_behind : (title : Bool) (p : ReaderPlace) (xs ys : List ℕ) → In title p → In title (behind p xs ys)
 in_behind false p xs ys h = h
 in_behind true p xs ys h = h
 
@@ -57,25 +57,25 @@ plain_goes EndOfFile = refl
 plain_goes (ParseErrorIs d) = refl
 
 -- the place behind a start tag, and behind an end tag
-behind_start : (q : Place) (name : List ℕ) (attrs : List AttributeText) (reply : Reply) (text rest : List ℕ) → is_same_text name (codes "title") ≡ false → In false q → reply ≡ plain_reply (start_tag name attrs) → In false (behind (next_place q (start_tag name attrs) reply) text rest)
+behind_start : (q : ReaderPlace) (name : List ℕ) (attrs : List AttributeText) (reply : Reply) (text rest : List ℕ) → is_same_text name (codes "title") ≡ false → In false q → reply ≡ plain_reply (start_tag name attrs) → In false (behind (next_place q (start_tag name attrs) reply) text rest)
 behind_start q name attrs reply text rest other i e = (i.0, ap chosen_mode e ∙ ap (λ b. chosen_mode (cond b (TurnsRaw Rcdata) Continues)) other)
 
-behind_title : (q : Place) (attrs : List AttributeText) (reply : Reply) (text rest : List ℕ) → In false q → reply ≡ plain_reply (start_tag (codes "title") attrs) → In true (behind (next_place q (start_tag (codes "title") attrs) reply) text rest)
+behind_title : (q : ReaderPlace) (attrs : List AttributeText) (reply : Reply) (text rest : List ℕ) → In false q → reply ≡ plain_reply (start_tag (codes "title") attrs) → In true (behind (next_place q (start_tag (codes "title") attrs) reply) text rest)
 behind_title q attrs reply text rest i e = (i.0, (ap chosen_mode e, refl))
 
-behind_end : (title : Bool) (q : Place) (name : List ℕ) (reply : Reply) (text rest : List ℕ) → In title q → In false (behind (next_place q (end_tag name) reply) text rest)
+behind_end : (title : Bool) (q : ReaderPlace) (name : List ℕ) (reply : Reply) (text rest : List ℕ) → In title q → In false (behind (next_place q (end_tag name) reply) text rest)
 behind_end title q name reply text rest i = (in_started title q i, refl)
 
-pub front_in : (q : Place) (mode : Mode) (foreign : Bool) (text : List ℕ) (piece : Match Piece) → q.mode ≡ mode → front mode q.last foreign text ≡ piece → front q.mode q.last foreign text ≡ piece
+pub front_in : (q : ReaderPlace) (mode : Mode) (foreign : Bool) (text : List ℕ) (piece : Match Piece) → q.mode ≡ mode → front mode q.last foreign text ≡ piece → front q.mode q.last foreign text ≡ piece
 front_in q mode foreign text piece e h = ap (λ m. front m q.last foreign text) e ∙ h
 
-front_title : (q : Place) (foreign : Bool) (text : List ℕ) (piece : Match Piece) → In true q → front (RawData Rcdata) (codes "title") foreign text ≡ piece → front q.mode q.last foreign text ≡ piece
+front_title : (q : ReaderPlace) (foreign : Bool) (text : List ℕ) (piece : Match Piece) → In true q → front (RawData Rcdata) (codes "title") foreign text ≡ piece → front q.mode q.last foreign text ≡ piece
 front_title q foreign text piece i h = (λ k. front (i.1.0 k) (i.1.1 k) foreign text) ∙ h
 
 module _ {M : Type 0} (reply_to : M → TokenText → Reply) (after : M → TokenText → ℕ → M) (foreign : M → Bool) (ended : M → M) where
   -- from a place on some of all tokens were read; more of them, and this text, are left
-  pub record Reached (p : Place) (m : M) (xs : List ℕ) (all : List TokenText) (title : Bool) (more : List TokenText) (rest : List ℕ) : Type 0 where
-    pub place : Place
+  pub record Reached (p : ReaderPlace) (m : M) (xs : List ℕ) (all : List TokenText) (title : Bool) (more : List TokenText) (rest : List ℕ) : Type 0 where
+    pub place : ReaderPlace
     pub meaning : M
     pub handed : List TokenText
     pub reply : Reply
@@ -85,10 +85,10 @@ module _ {M : Type 0} (reply_to : M → TokenText → Reply) (after : M → Toke
     pub answers : Answers reply_to after meaning more
     pub whole : handed ++ more ≡ all
 
-  module _ (p : Place) (m : M) (xs : List ℕ) (all : List TokenText) where
+  module _ (p : ReaderPlace) (m : M) (xs : List ℕ) (all : List TokenText) where
     pub token_taken : (title next : Bool) (t : TokenText) (more : List TokenText) (text rest : List ℕ)
-        → ((q : Place) (foreign : Bool) → In title q → front q.mode q.last foreign text ≡ Found (Whole t) rest)
-        → ((q : Place) (reply : Reply) → In title q → reply ≡ plain_reply t → In next (behind (next_place q t reply) text rest))
+        → ((q : ReaderPlace) (foreign : Bool) → In title q → front q.mode q.last foreign text ≡ Found (Whole t) rest)
+        → ((q : ReaderPlace) (reply : Reply) → In title q → reply ≡ plain_reply t → In next (behind (next_place q t reply) text rest))
         → Reached p m xs all title (t ∷ more) text → Reached p m xs all next more rest
     token_taken title next t more text rest here leads r = record {
       place = behind (next_place r.place t (reply_to r.meaning t)) text rest;
@@ -199,12 +199,12 @@ module _ {M : Type 0} (reply_to : M → TokenText → Reply) (after : M → Toke
         (title_taken attrs (Characters (first ∷ words) ∷ end_tag (codes "title") ∷ tokens_before others more) (escape false (first ∷ words) ++ ending) plain c.0
         (known true (codes "title") attrs (TextThen (first ∷ words) End) others more rest is_title.ends r))))
 
-  nothing_settled : (place : Place) (f : Bool) → In false place → settle place.mode place.last f [] ≡ Nothing
+  nothing_settled : (place : ReaderPlace) (f : Bool) → In false place → settle place.mode place.last f [] ≡ Nothing
   unfolding text_of
   nothing_settled place f i = ap (λ mode. settle mode place.last f []) i.1
 
   -- the end
-  pub ends : (p : Place) (m : M) (xs : List ℕ) (all : List TokenText) → Reached p m xs all false (EndOfFile ∷ []) [] → (n : M) × ReadsToEnd reply_to after foreign ended p m xs all n
+  pub ends : (p : ReaderPlace) (m : M) (xs : List ℕ) (all : List TokenText) → Reached p m xs all false (EndOfFile ∷ []) [] → (n : M) × ReadsToEnd reply_to after foreign ended p m xs all n
   ends p m xs all r =
       let none = nothing_settled r.place (foreign r.meaning) r.is_in in (
         ended (after_closing after r.meaning (settle r.place.mode r.place.last (foreign r.meaning) []) r.place.line (line_behind r.place.line [] [])),

@@ -4,7 +4,7 @@ use Rattle.std.specs.Prelude.{unwrap_or}
 use Rattle.std.proofs.lemmas.Bool.{false≢true}
 use Rattle.std.specs.List.{flat_map}
 use Rattle.h5_names.specs.AttributeText.{AttributeText, is_same_text}
-use Rattle.h5_tag_sets.specs.TagSets.{is_one_of, raw_names, void_names}
+use Rattle.h5_tables.specs.TagSets.{is_one_of, raw_names, void_names}
 use Rattle.h5_interface.specs.Forest.{Child, ChildNode, ChildText, DoctypeNode, ElementNode, Forest, Kind, Node, children_of}
 use Rattle.h5_rules.specs.formatting.FormattingNames.{html_name}
 use Rattle.h5_serialize.specs.Call.{Call, EndOf, StartOf, TextOf}

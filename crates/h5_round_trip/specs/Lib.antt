@@ -1,4 +1,5 @@
 pub mod Written
 pub mod Readable
 pub mod Answers
+pub mod Fragment
 pub mod Markup

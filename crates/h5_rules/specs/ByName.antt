@@ -6,8 +6,8 @@ use Rattle.h5_names.specs.declared.known_name.KnownName.{KnownName}
 use Rattle.h5_token.specs.TokenText.{TagText}
 use Rattle.h5_token.specs.declared.tag.TagKind.{TagKind}
 use Rattle.h5_token.specs.declared.tag.TagKind.TheVariants.{StartTag, EndTag}
-use Rattle.h5_tag_sets.specs.TagSets.{is_one_of}
-use Rattle.h5_types.specs.TurnText.{TagTurn, TurnText}
+use Rattle.h5_tables.specs.TagSets.{is_one_of}
+use Rattle.h5_tables.specs.TurnText.{TagTurn, TurnText}
 use Rattle.h5_rules.specs.Rows.{Row, ignored}
 use Rattle.h5_rules.specs.World.{World}
 

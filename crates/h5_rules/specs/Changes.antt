@@ -8,8 +8,8 @@ use Rattle.h5_interface.specs.NewElement.{flags_of}
 use Rattle.h5_interface.specs.Seen.{append_doctype, make, make_element, plain}
 use Rattle.h5_interface.specs.SinkChoices.{SinkChoices}
 use Rattle.h5_interface.specs.declared.marks.QuirksMode.{QuirksMode}
-use Rattle.h5_tag_sets.specs.TagSets.{is_html_named}
-use Rattle.h5_types.specs.declared.modes.InsertionMode.{InsertionMode}
+use Rattle.h5_tables.specs.TagSets.{is_html_named}
+use Rattle.h5_tables.specs.declared.modes.InsertionMode.{InsertionMode}
 use Rattle.h5_rules.specs.Blanks.{all_blank}
 use Rattle.h5_rules.specs.stack.Scope.{cut_above, cut_through, has_template, is_implied_but}
 use Rattle.h5_rules.specs.insertion.FormOwner.{Marking, associates, form_owner, marked_by}

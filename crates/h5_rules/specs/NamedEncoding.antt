@@ -4,7 +4,7 @@ use Rattle.std.specs.Str.{str_eq_ignore_ascii_case}
 use Rattle.h5_names.specs.AttributeText.{AttributeText}
 use Rattle.h5_token.specs.Reply.{Indicates}
 use Rattle.h5_token.specs.TokenText.{first_value}
-use Rattle.h5_data.specs.MetaEncoding.{meta_encoding}
+use Rattle.h5_tables.specs.MetaEncoding.{meta_encoding}
 use Rattle.h5_rules.specs.Rows.{Answers, Ending, IsAcknowledged}
 
 -- the value of `http-equiv` is `content-type`, in any case of ASCII letters

@@ -6,13 +6,13 @@ use Rattle.h5_token.specs.Reply.{Reply, reply}
 use Rattle.h5_token.specs.TokenText.{TagText}
 use Rattle.h5_interface.specs.SinkChoices.{SinkChoices}
 use Rattle.h5_interface.specs.declared.marks.QuirksMode.{QuirksMode}
-use Rattle.h5_types.specs.TurnResult.{TurnResult}
-use Rattle.h5_types.specs.TurnResult as results
-use Rattle.h5_types.specs.TurnText.{TurnText, turn_text}
-use Rattle.h5_types.specs.declared.modes.InsertionMode.{InsertionMode}
+use Rattle.h5_tables.specs.TurnResult.{TurnResult}
+use Rattle.h5_tables.specs.TurnResult as results
+use Rattle.h5_tables.specs.TurnText.{TurnText, turn_text}
+use Rattle.h5_tables.specs.declared.modes.InsertionMode.{InsertionMode}
 use Rattle.h5_rules.specs.formatting.AdoptionAgency.{adoption_agency, handle_misnested_a_tags, handle_misnested_nobr_tags, remove_from_stack}
 use Rattle.h5_rules.specs.Changes.{add_attrs_to_html, add_attrs_to_second, append_comment, append_comment_to_doc, append_comment_to_html, append_pending_text, append_text, clear_form, create_root, generate_implied_end_except, insert_and_pop_element, insert_and_pop_form, insert_element, insert_form, insert_head, insert_script, mark_started, pop, pop_until_current, pop_until_named, push_head, remove_body, save_mode, set_foster, set_frameset_not_ok, set_frameset_ok_by_text, set_ignore_lf, set_mode, set_quirks_mode, take_pending_text}
-use Rattle.h5_rules.specs.stack.Closing.{close_list_item, close_p_element, close_p_element_in_button_scope, copy_closed_option, generate_implied_end, generate_implied_end_in_select, generate_implied_end_thoroughly, pop_heading, pop_until_cell, pop_until_heading}
+use Rattle.h5_rules.specs.stack.Closing.{close_list_item, close_p_element, close_p_element_in_button_scope, copy_closed_option, generate_implied_end_tags, generate_implied_end_in_select, generate_implied_end_thoroughly, pop_heading, pop_until_cell, pop_until_heading}
 use Rattle.h5_rules.specs.insertion.Foreign.{insert_and_pop_foreign_element, insert_foreign_element, leave_foreign_content, pop_until_named_in_any_case}
 use Rattle.h5_rules.specs.formatting.Formatting.{clear_active_formatting_to_marker, create_formatting_element, insert_marker, reconstruct_active_formatting_elements}
 use Rattle.h5_rules.specs.fitting.Reset.{reset_mode}
@@ -96,7 +96,7 @@ apply choices (AddAttrsToSecond attrs) w = add_attrs_to_second attrs w
 apply choices Pop w = pop choices w
 apply choices (GenerateImpliedEndExcept local) w = generate_implied_end_except choices local w
 apply choices (PopUntilNamed local) w = pop_until_named local w
-apply choices GenerateImpliedEnd w = generate_implied_end choices w
+apply choices GenerateImpliedEnd w = generate_implied_end_tags choices w
 apply choices ClosePElement w = close_p_element choices w
 apply choices ClosePElementInButtonScope w = close_p_element_in_button_scope choices w
 apply choices PopHeading w = pop_heading choices w

@@ -5,10 +5,10 @@ use Rattle.h5_token.specs.TokenText.{DoctypeText, TokenText, DoctypeIs, TagIs, C
 use Rattle.h5_token.specs.declared.fault.BuildFault.{BuildFault}
 use Rattle.h5_token.specs.declared.fault.BuildFault.TheVariants.{AfterEnd, Failed, NotInText}
 use Rattle.h5_interface.specs.SinkChoices.{SinkChoices}
-use Rattle.h5_data.specs.Doctypes.{is_good_doctype, quirks_of}
-use Rattle.h5_types.specs.TurnText.{TagTurn, CommentTurn, NullTurn, EofTurn}
-use Rattle.h5_types.specs.declared.modes.InsertionMode.{InsertionMode}
-use Rattle.h5_types.specs.declared.modes.InsertionMode.TheVariants.{Initial, BeforeHtml, Text}
+use Rattle.h5_tables.specs.Doctypes.{is_good_doctype, quirks_of}
+use Rattle.h5_tables.specs.TurnText.{TagTurn, CommentTurn, NullTurn, EofTurn}
+use Rattle.h5_tables.specs.declared.modes.InsertionMode.{InsertionMode}
+use Rattle.h5_tables.specs.declared.modes.InsertionMode.TheVariants.{Initial, BeforeHtml, Text}
 use Rattle.h5_rules.specs.Changes.{set_mode, insert_doctype, set_quirks_mode}
 use Rattle.h5_rules.specs.Kinds.{is_start}
 use Rattle.h5_rules.specs.Settle.{Settled, settle}

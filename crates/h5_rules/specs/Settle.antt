@@ -3,8 +3,8 @@
 use Rattle.std.specs.Prelude.{◌≡◌, ℕ, zero, suc, ◌+◌, Bool, true, not, ◌&&◌, length, Option, Some, None}
 use Rattle.h5_token.specs.Reply.{Reply, Continues}
 use Rattle.h5_interface.specs.SinkChoices.{SinkChoices}
-use Rattle.h5_types.specs.TurnText.{TurnText, is_self_closing}
-use Rattle.h5_types.specs.declared.modes.InsertionMode.{InsertionMode}
+use Rattle.h5_tables.specs.TurnText.{TurnText, is_self_closing}
+use Rattle.h5_tables.specs.declared.modes.InsertionMode.{InsertionMode}
 use Rattle.h5_rules.specs.Changes.{set_mode}
 use Rattle.h5_rules.specs.modes.ForeignContent.{dispatch}
 use Rattle.h5_rules.specs.Rows.{Answers, Ending, IsDone, Row, changed_by, next_mode}

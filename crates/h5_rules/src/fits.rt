@@ -1,10 +1,10 @@
-//! Laws of the definitions, each the contract of a function that does nothing.
+//! Laws of the definitions, each the contract of a function that does nothing. They are there for who reads the definitions.
 ghost use Rattle.std.specs.Prelude.{◌≡◌, ◌<◌, ◌≤◌, [], ◌∷◌, ◌++◌, ℕ, Bool, List, length, true, false, codes};
 ghost use Rattle.std.specs.List.{list_any};
 ghost use Rattle.h5_names.specs.declared.qualified.QualName.{QualName};
-ghost use Rattle.h5_tag_sets.specs.TagSets.{is_cell, is_default_scope, is_html_named, is_special, is_table_body_context, is_table_row_context, is_table_scope};
-ghost use Rattle.h5_types.specs.declared.modes.InsertionMode.{InsertionMode};
-ghost use Rattle.h5_types.specs.declared.modes.InsertionMode.TheVariants.{AfterFrameset, AfterHead, BeforeHead, BeforeHtml, InBody, InCaption, InCell, InColumnGroup, InFrameset, InHead, InHeadNoscript, InRow, InTable, InTableBody, InTableText, InTemplate, Text};
+ghost use Rattle.h5_tables.specs.TagSets.{is_cell, is_default_scope, is_html_named, is_special, is_table_body_context, is_table_row_context, is_table_scope};
+ghost use Rattle.h5_tables.specs.declared.modes.InsertionMode.{InsertionMode};
+ghost use Rattle.h5_tables.specs.declared.modes.InsertionMode.TheVariants.{AfterFrameset, AfterHead, BeforeHead, BeforeHtml, InBody, InCaption, InCell, InColumnGroup, InFrameset, InHead, InHeadNoscript, InRow, InTable, InTableBody, InTableText, InTemplate, Text};
 ghost use Rattle.h5_rules.specs.formatting.FormattingNames.{html_name};
 ghost use Rattle.h5_rules.specs.stack.Scope.{comes_before_special, cut_names, down_names, drop_while, has_template, in_scope, is_implied_but, later_names};
 ghost use Rattle.h5_rules.specs.fitting.SituationChanges.{start_of, with_head, with_last_mode, with_saved, with_template, without_template};

@@ -1,15 +1,16 @@
 //! Laws over the definitions, each the contract of a function that does nothing. Stack, list and names have the
-//! newest first.
+//! newest first. They are there for who reads the definitions: each says what one of them means, in words that it isn't
+//! written in.
 ghost use Rattle.std.specs.Prelude.{◌≡◌, ◌≤◌, ◌<◌, ◌↔◌, ◌++◌, ℕ, suc, Bool, true, false, List, [], ◌∷◌, length, map, drop, Option, Some, None, IsTrue};
 ghost use Rattle.std.specs.List.{list_any};
 ghost use Rattle.h5_names.specs.declared.qualified.QualName.{QualName};
 ghost use Rattle.h5_token.specs.TokenText.{IsAlike, TagText};
 ghost use Rattle.h5_interface.specs.Forest.{ElementNode, Forest, IsNode, kind_of};
 ghost use Rattle.h5_interface.specs.SinkChoices.{Rearranges};
-ghost use Rattle.h5_tag_sets.specs.TagSets.{is_one_of, is_special};
+ghost use Rattle.h5_tables.specs.TagSets.{is_one_of, is_special};
 ghost use Rattle.h5_rules.specs.formatting.Adoption.{FormattingElement, FurthestBlock, IsCloneOf, adopted, clones_wanted, furthest_block, inserted_after, newer_than, newest_named, older_than, replaced, replaced_by, to_clone, without_node};
 ghost use Rattle.h5_rules.specs.formatting.FormattingList.{EachEntry, ElementEntry, Entry, MarkerEntry, after_marker, clear_to_marker, closed_front, count_alike, is_alike, nodes_of, open_rest, push_formatting, reconstructed, without_entry};
-ghost use Rattle.h5_tag_sets.specs.TagSets.{formatting_names};
+ghost use Rattle.h5_tables.specs.TagSets.{formatting_names};
 ghost use Rattle.h5_rules.specs.formatting.FormattingNames.{AllFormatting, AllOfTags, IsPlain};
 ghost use Rattle.h5_rules.specs.formatting.Fresh.{AreFresh, Makes};
 ghost use Rattle.h5_rules.specs.formatting.InnerLoop.{MayWalk, walked};

@@ -1,7 +1,7 @@
 //! The mode "after after body" (HTML standard, section 13.2.6.4.20).
 ghost use Rattle.h5_rules.specs.modes.AfterBody.{back_to_body};
 ghost use Rattle.h5_rules.specs.ByName.{by_known, of_tag};
-ghost use Rattle.h5_types.specs.TurnText.{HasText, turn_text};
+ghost use Rattle.h5_tables.specs.TurnText.{HasText, turn_text};
 ghost use Rattle.h5_rules.specs.modes.AfterAfterBody.{after_after_body, after_after_body_start, after_after_body_tag};
 ghost use Rattle.h5_state.specs.Steps.{IsOpen};
 ghost use Rattle.h5_state.specs.Turn.{TakesTag, TakesToken};
@@ -13,8 +13,8 @@ use h5_interface::TreeSink;
 use h5_names::KnownName;
 use h5_rules_head::in_body_start_html;
 use h5_state::{State, Turn};
+use h5_tables::{ProcessResult, SplitStatus, Token};
 use h5_token::{Tag, TagKind};
-use h5_types::{ProcessResult, SplitStatus, Token};
 
 // Start tags, by their names.
 #[tactic(auto, unfolding(h5_rules::specs::modes::AfterAfterBody::after_after_body_start, h5_names::specs::KnownNames::name_text))]

@@ -1,6 +1,6 @@
 //! The mode "after body" (HTML standard, section 13.2.6.4.17).
 ghost use Rattle.h5_rules.specs.ByName.{by_known, of_tag};
-ghost use Rattle.h5_types.specs.TurnText.{HasText, turn_text};
+ghost use Rattle.h5_tables.specs.TurnText.{HasText, turn_text};
 ghost use Rattle.h5_rules.specs.modes.AfterBody.{after_body, after_body_end, after_body_end_html, after_body_start, after_body_tag, back_to_body};
 ghost use Rattle.h5_state.specs.Steps.{IsOpen, IsSound};
 ghost use Rattle.h5_state.specs.Turn.{TakesTag, TakesToken};
@@ -11,8 +11,8 @@ use h5_interface::TreeSink;
 use h5_names::KnownName;
 use h5_rules_head::in_body_start_html;
 use h5_state::{State, Turn, is_fragment, set_again, set_mode, unexpected, unexpected_tag};
+use h5_tables::{InsertionMode, ProcessResult, SplitStatus, Token};
 use h5_token::{Tag, TagKind};
-use h5_types::{InsertionMode, ProcessResult, SplitStatus, Token};
 
 // An end tag `html`.
 fn after_body_end_html<S: TreeSink>(sink: &mut S, state: &mut State<S::Handle>, tag: Tag) -> Turn

@@ -1,6 +1,6 @@
 //! Blocks, paragraphs and headings in the body (HTML standard, section 13.2.6.4.7).
 ghost use Rattle.std.specs.Prelude.{◌<◌, ◌≡◌, false, true};
-ghost use Rattle.h5_tag_sets.specs.TagSets.{block_end_names, heading_names, is_heading, is_one_of};
+ghost use Rattle.h5_tables.specs.TagSets.{block_end_names, heading_names, is_heading, is_one_of};
 ghost use Rattle.h5_rules.specs.stack.Scope.{first_passes};
 ghost use Rattle.h5_rules.specs.modes.InBody.{in_body_end_block, in_body_end_heading, in_body_end_p, in_body_start_block, in_body_start_heading, in_body_start_preformatted};
 ghost use Rattle.h5_rules.specs.World.{names_of};
@@ -9,7 +9,7 @@ ghost use Rattle.h5_state.specs.Turn.{TakesTag};
 
 use h5_closing::{
     close_p_element, close_p_element_in_button_scope, expect_to_close, find_heading_in_scope,
-    find_in_default_scope, generate_implied_end, is_current_heading, pop_heading,
+    find_in_default_scope, generate_implied_end_tags, is_current_heading, pop_heading,
     pop_until_heading,
 };
 use h5_insertion::{insert_element, insert_phantom};
@@ -19,8 +19,8 @@ use h5_state::{
     State, Turn, has_p_in_button_scope, is_current_html, pop_until_named, set_frameset_not_ok,
     set_ignore_lf, tell_error, unexpected_tag,
 };
+use h5_tables::ProcessResult;
 use h5_token::Tag;
-use h5_types::ProcessResult;
 
 // A start tag `address`, `article`, .., `ul`: a block, after which no `p` is in button scope.
 pub(crate) fn in_body_start_block<S: TreeSink>(
@@ -100,7 +100,7 @@ pub(crate) fn in_body_end_block<S: TreeSink>(
     let local = &tag.name;
     match find_in_default_scope(sink, state, local) {
         Some(place) => {
-            generate_implied_end(sink, state);
+            generate_implied_end_tags(sink, state);
             let expected = is_current_html(sink, state, local);
             expect_to_close(sink, state, expected);
             pop_until_named(sink, state, local, place);
@@ -149,7 +149,7 @@ pub(crate) fn in_body_end_heading<S: TreeSink>(
 {
     match find_heading_in_scope(sink, state) {
         Some(place) => {
-            generate_implied_end(sink, state);
+            generate_implied_end_tags(sink, state);
             let expected = is_current_html(sink, state, &tag.name);
             expect_to_close(sink, state, expected);
             pop_until_heading(sink, state, place);

@@ -1,6 +1,6 @@
 //! A text in the body (HTML standard, section 13.2.6.4.7).
 ghost use Rattle.std.specs.Prelude.{◌≢◌, [], string_bytes};
-ghost use Rattle.h5_types.specs.TurnText.{TextTurn};
+ghost use Rattle.h5_tables.specs.TurnText.{TextTurn};
 ghost use Rattle.h5_rules.specs.modes.Shared.{in_body_text};
 ghost use Rattle.h5_state.specs.Steps.{IsSound};
 ghost use Rattle.h5_state.specs.Turn.{FollowsRule};
@@ -9,7 +9,7 @@ use h5_formatting::reconstruct_active_formatting_elements;
 use h5_insertion::append_text;
 use h5_interface::TreeSink;
 use h5_state::{State, Turn, set_frameset_ok_by_text};
-use h5_types::{ProcessResult, SplitStatus};
+use h5_tables::{ProcessResult, SplitStatus};
 
 /// A text: formatting elements that were closed are made anew, it is appended, and the frameset flag goes off where it
 /// isn't blank. It answers an `AllocError` where memory is refused.

@@ -1,5 +1,5 @@
 //! Elements of MathML and SVG in the body (HTML standard, section 13.2.6.4.7, start tags "math" and "svg").
-ghost use Rattle.h5_tag_sets.specs.TagSets.{mathml_namespace, svg_namespace};
+ghost use Rattle.h5_tables.specs.TagSets.{mathml_namespace, svg_namespace};
 ghost use Rattle.h5_rules.specs.modes.InBody.{in_body_start_foreign};
 ghost use Rattle.h5_state.specs.Steps.{IsSound};
 ghost use Rattle.h5_state.specs.Turn.{TakesTag};
@@ -26,7 +26,7 @@ fn in_body_start_foreign<S: TreeSink>(
 }
 
 // A start tag `math`.
-#[tactic(auto, unfolding(h5_tag_sets::specs::TagSets::mathml_namespace))]
+#[tactic(auto, unfolding(h5_tables::specs::TagSets::mathml_namespace))]
 pub(crate) fn in_body_start_math<S: TreeSink>(
     sink: &mut S,
     state: &mut State<S::Handle>,
@@ -40,7 +40,7 @@ pub(crate) fn in_body_start_math<S: TreeSink>(
 }
 
 // A start tag `svg`.
-#[tactic(auto, unfolding(h5_tag_sets::specs::TagSets::svg_namespace))]
+#[tactic(auto, unfolding(h5_tables::specs::TagSets::svg_namespace))]
 pub(crate) fn in_body_start_svg<S: TreeSink>(
     sink: &mut S,
     state: &mut State<S::Handle>,

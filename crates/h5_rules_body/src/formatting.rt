@@ -1,7 +1,7 @@
 //! Formatting elements and elements without contents in the body (HTML standard, section 13.2.6.4.7).
 ghost use Rattle.std.specs.Prelude.{◌<◌, ◌∷◌, ◌≡◌, IsTrue, OnOk, [], codes, false, true};
 ghost use Rattle.h5_names.specs.AttributeText.{attribute_texts};
-ghost use Rattle.h5_tag_sets.specs.TagSets.{formatting_names, is_default_scope, is_html_named, is_one_of};
+ghost use Rattle.h5_tables.specs.TagSets.{formatting_names, is_default_scope, is_html_named, is_one_of};
 ghost use Rattle.h5_rules.specs.stack.Scope.{in_scope};
 ghost use Rattle.h5_rules.specs.formatting.AdoptionAgency.{closes_one, handle_misnested_nobr_tags, is_named_listed};
 ghost use Rattle.h5_rules.specs.modes.InBody.{in_body_end_br, in_body_end_formatting, in_body_start_a, in_body_start_formatting, in_body_start_nobr, in_body_start_void};
@@ -19,8 +19,8 @@ use h5_insertion::insert_and_pop_element;
 use h5_interface::TreeSink;
 use h5_names::{Attribute, KnownName, LocalName};
 use h5_state::{State, Turn, in_scope_named, set_frameset_not_ok, tell_error, unexpected_tag};
+use h5_tables::ProcessResult;
 use h5_token::Tag;
-use h5_types::ProcessResult;
 use std::alloc::AllocError;
 
 // An `a` isn't expected where one is listed.
@@ -109,7 +109,7 @@ pub(crate) fn in_body_start_formatting<S: TreeSink>(
 }
 
 // An end tag isn't expected where it closes more than the current node.
-fn check_closing<S: TreeSink>(sink: &mut S, state: &State<S::Handle>, tag: &Tag)
+fn error_unless_closing_one<S: TreeSink>(sink: &mut S, state: &State<S::Handle>, tag: &Tag)
     requires { IsSound S.TreeSink sink.old state.now }
     ensures told { TellsErrors S.TreeSink sink.old sink.new state.now }
     ensures noted { closes_one tag.now.name (world_of S.TreeSink sink.old state.now) ≡ false → 0 < errors_of S.TreeSink sink.new }
@@ -131,7 +131,7 @@ pub(crate) fn in_body_end_formatting<S: TreeSink>(
     requires name { IsTrue (is_one_of formatting_names tag.name) }
     ensures { TakesTag S.TreeSink in_body_end_formatting tag sink.old state.old sink.new state.new result }
 {
-    check_closing(sink, state, &tag);
+    error_unless_closing_one(sink, state, &tag);
     adoption_agency(sink, state, &tag.name)?;
     Ok(ProcessResult::Done)
 }

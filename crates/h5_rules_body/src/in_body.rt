@@ -1,13 +1,13 @@
 //! The mode "in body" (HTML standard, section 13.2.6.4.7, "The 'in body' insertion mode").
 ghost use Rattle.std.specs.Prelude.{◌<◌, ◌≡◌, false, true};
-ghost use Rattle.h5_types.specs.TurnText.{HasText, turn_text};
+ghost use Rattle.h5_tables.specs.TurnText.{HasText, turn_text};
 ghost use Rattle.h5_rules.specs.ByName.{by_known};
 ghost use Rattle.h5_rules.specs.modes.InBody.{in_body, in_body_end_blocks, in_body_end_body, in_body_end_html, in_body_end_inline, in_body_end_other, in_body_start_blocks, in_body_start_body, in_body_start_embedded, in_body_start_frameset, in_body_start_inline, in_body_start_other, in_body_start_table, in_body_tag};
 ghost use Rattle.h5_rules.specs.Sound.{HasHtmlRoot};
 ghost use Rattle.h5_state.specs.Steps.{IsSound, TellsErrors, errors_of, world_of};
 ghost use Rattle.h5_state.specs.Turn.{TakesTag, TakesToken};
 ghost use Rattle.h5_rules.specs.stack.Scope.{first_passes};
-ghost use Rattle.h5_tag_sets.specs.TagSets.{is_html_named};
+ghost use Rattle.h5_tables.specs.TagSets.{is_html_named};
 ghost use Rattle.h5_rules.specs.World.{names_of};
 
 use super::blocks::{
@@ -15,10 +15,15 @@ use super::blocks::{
     in_body_start_heading, in_body_start_preformatted,
 };
 use super::body_text::in_body_text;
+use super::button::in_body_start_button;
 use super::foreign::{in_body_start_math, in_body_start_svg};
+use super::form::{in_body_end_form, in_body_start_form};
 use super::formatting::{
     in_body_end_br, in_body_end_formatting, in_body_start_a, in_body_start_formatting,
     in_body_start_nobr, in_body_start_void,
+};
+use super::input::{
+    in_body_start_hr, in_body_start_image, in_body_start_input, in_body_start_part,
 };
 use super::lists::{in_body_end_description, in_body_end_li, in_body_start_item};
 use super::marked::{in_body_end_marked, in_body_start_marked};
@@ -27,6 +32,9 @@ use super::raw_texts::{
     in_body_start_textarea, in_body_start_xmp,
 };
 use super::ruby::{in_body_start_ruby_base, in_body_start_ruby_text};
+use super::select::{
+    in_body_end_option, in_body_start_optgroup, in_body_start_option, in_body_start_select,
+};
 use h5_closing::{
     ItemKind, close_p_element_in_button_scope, expect_to_close, has_template_mode, remove_body,
 };
@@ -34,11 +42,6 @@ use h5_formatting::reconstruct_active_formatting_elements;
 use h5_insertion::{add_attrs_to_second, append_comment, insert_element};
 use h5_interface::TreeSink;
 use h5_names::KnownName;
-use h5_rules_forms::{
-    in_body_end_form, in_body_end_option, in_body_start_button, in_body_start_form,
-    in_body_start_hr, in_body_start_image, in_body_start_input, in_body_start_optgroup,
-    in_body_start_option, in_body_start_part, in_body_start_select,
-};
 use h5_rules_head::{
     ignored_tag, in_body_start_html, in_head_end_template, in_head_start_tag, template_eof,
 };
@@ -48,8 +51,8 @@ use h5_state::{
     is_in_quirks, pop_until_named, set_again, set_frameset_not_ok, set_mode, tell_error,
     unexpected, unexpected_tag,
 };
+use h5_tables::{InsertionMode, ProcessResult, Token};
 use h5_token::{Tag, TagKind};
-use h5_types::{InsertionMode, ProcessResult, Token};
 
 // A start tag `body`: the body gets the attributes that it lacks.
 #[cold]
@@ -225,7 +228,7 @@ fn in_body_start_embedded<S: TreeSink>(sink: &mut S, state: &mut State<S::Handle
 }
 
 // Of lists, formatting elements, and others that stand in a text.
-#[tactic(auto, unfolding(h5_rules::specs::modes::InBody::in_body_start_inline, h5_rules::specs::modes::InBody::in_body_preformatted, h5_rules::specs::modes::InBody::list_item_names, h5_rules::specs::modes::InBody::description_names, h5_tag_sets::specs::TagSets::formatting_names, h5_rules::specs::modes::InBody::in_body_marked, h5_rules::specs::modes::InBody::in_body_void, h5_names::specs::KnownNames::name_text))]
+#[tactic(auto, unfolding(h5_rules::specs::modes::InBody::in_body_start_inline, h5_rules::specs::modes::InBody::in_body_preformatted, h5_rules::specs::modes::InBody::list_item_names, h5_rules::specs::modes::InBody::description_names, h5_tables::specs::TagSets::formatting_names, h5_rules::specs::modes::InBody::in_body_marked, h5_rules::specs::modes::InBody::in_body_void, h5_names::specs::KnownNames::name_text))]
 fn in_body_start_inline<S: TreeSink>(sink: &mut S, state: &mut State<S::Handle>, tag: Tag) -> Turn
     requires sound { IsSound S.TreeSink sink.old state.old }
     requires ready { HasHtmlRoot (world_of S.TreeSink sink.old state.old) }
@@ -272,7 +275,7 @@ fn in_body_start_inline<S: TreeSink>(sink: &mut S, state: &mut State<S::Handle>,
 }
 
 // Start tags, by their names: of the page and its blocks.
-#[tactic(auto, unfolding(h5_rules::specs::modes::InBody::in_body_start_blocks, h5_rules::specs::modes::Shared::head_start_names, h5_tag_sets::specs::TagSets::block_start_names, h5_tag_sets::specs::TagSets::heading_names, h5_names::specs::KnownNames::name_text))]
+#[tactic(auto, unfolding(h5_rules::specs::modes::InBody::in_body_start_blocks, h5_rules::specs::modes::Shared::head_start_names, h5_tables::specs::TagSets::block_start_names, h5_tables::specs::TagSets::heading_names, h5_names::specs::KnownNames::name_text))]
 fn in_body_start_tag<S: TreeSink>(sink: &mut S, state: &mut State<S::Handle>, tag: Tag) -> Turn
     requires sound { IsSound S.TreeSink sink.old state.old }
     requires ready { HasHtmlRoot (world_of S.TreeSink sink.old state.old) }
@@ -328,7 +331,7 @@ fn in_body_start_tag<S: TreeSink>(sink: &mut S, state: &mut State<S::Handle>, ta
 }
 
 // Of paragraphs, lists, headings, formatting elements, and any other.
-#[tactic(auto, unfolding(h5_rules::specs::modes::InBody::in_body_end_inline, h5_rules::specs::modes::InBody::list_item_names, h5_rules::specs::modes::InBody::description_names, h5_tag_sets::specs::TagSets::heading_names, h5_tag_sets::specs::TagSets::formatting_names, h5_rules::specs::modes::InBody::in_body_marked, h5_names::specs::KnownNames::name_text))]
+#[tactic(auto, unfolding(h5_rules::specs::modes::InBody::in_body_end_inline, h5_rules::specs::modes::InBody::list_item_names, h5_rules::specs::modes::InBody::description_names, h5_tables::specs::TagSets::heading_names, h5_tables::specs::TagSets::formatting_names, h5_rules::specs::modes::InBody::in_body_marked, h5_names::specs::KnownNames::name_text))]
 fn in_body_end_inline<S: TreeSink>(sink: &mut S, state: &mut State<S::Handle>, tag: Tag) -> Turn
     requires sound { IsSound S.TreeSink sink.old state.old }
     requires ready { HasHtmlRoot (world_of S.TreeSink sink.old state.old) }
@@ -368,7 +371,7 @@ fn in_body_end_inline<S: TreeSink>(sink: &mut S, state: &mut State<S::Handle>, t
 }
 
 // End tags, by their names: of the page and its blocks.
-#[tactic(auto, unfolding(h5_rules::specs::modes::InBody::in_body_end_blocks, h5_tag_sets::specs::TagSets::block_end_names, h5_names::specs::KnownNames::name_text))]
+#[tactic(auto, unfolding(h5_rules::specs::modes::InBody::in_body_end_blocks, h5_tables::specs::TagSets::block_end_names, h5_names::specs::KnownNames::name_text))]
 fn in_body_end_tag<S: TreeSink>(sink: &mut S, state: &mut State<S::Handle>, tag: Tag) -> Turn
     requires sound { IsSound S.TreeSink sink.old state.old }
     requires ready { HasHtmlRoot (world_of S.TreeSink sink.old state.old) }

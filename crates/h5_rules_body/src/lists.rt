@@ -1,6 +1,6 @@
 //! Items of lists in the body (HTML standard, section 13.2.6.4.7).
 ghost use Rattle.std.specs.Prelude.{◌<◌, ◌∷◌, ◌≡◌, [], false, length, true};
-ghost use Rattle.h5_tag_sets.specs.TagSets.{is_html_named};
+ghost use Rattle.h5_tables.specs.TagSets.{is_html_named};
 ghost use Rattle.h5_rules.specs.stack.Scope.{cut_through, is_implied_but};
 ghost use Rattle.h5_rules.specs.modes.InBody.{in_body_end_description, in_body_end_li, in_body_start_item};
 ghost use Rattle.h5_rules.specs.Rows.{GenerateImpliedEndExcept, PopUntilNamed, apply_all};
@@ -21,8 +21,8 @@ use h5_state::{
     State, Turn, generate_implied_end_except, is_current_html, pop_until_named,
     set_frameset_not_ok, unexpected_tag,
 };
+use h5_tables::ProcessResult;
 use h5_token::Tag;
-use h5_types::ProcessResult;
 
 // A start tag `li`, or `dd` or `dt`: it closes the item of its kind that is open, and is a block then.
 pub(crate) fn in_body_start_item<S: TreeSink>(

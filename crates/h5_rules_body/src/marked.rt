@@ -1,7 +1,7 @@
 //! Elements that keep formatting elements apart, by a marker (HTML standard, section 13.2.6.4.7, tags "applet",
 //! "marquee" and "object").
 ghost use Rattle.std.specs.Prelude.{◌<◌, ◌∷◌, ◌≡◌, [], false, length, true};
-ghost use Rattle.h5_tag_sets.specs.TagSets.{is_html_named, is_implied, is_one_of};
+ghost use Rattle.h5_tables.specs.TagSets.{is_html_named, is_implied, is_one_of};
 ghost use Rattle.h5_rules.specs.stack.Scope.{cut_through};
 ghost use Rattle.h5_rules.specs.modes.InBody.{in_body_end_marked, in_body_marked, in_body_start_marked};
 ghost use Rattle.h5_rules.specs.Rows.{ClearActiveFormattingToMarker, GenerateImpliedEnd, PopUntilNamed, apply_all};
@@ -10,7 +10,7 @@ ghost use Rattle.h5_state.specs.Steps.{IsSound, errors_of, world_of};
 ghost use Rattle.h5_state.specs.Turn.{TakesTag};
 ghost use Rattle.h5_rules.specs.stack.Expected.{is_expected};
 
-use h5_closing::{expect_to_close, find_in_default_scope, generate_implied_end};
+use h5_closing::{expect_to_close, find_in_default_scope, generate_implied_end_tags};
 use h5_formatting::{
     clear_active_formatting_to_marker, insert_marker, reconstruct_active_formatting_elements,
 };
@@ -20,8 +20,8 @@ use h5_names::LocalName;
 use h5_state::{
     State, Turn, is_current_html, pop_until_named, set_frameset_not_ok, unexpected_tag,
 };
+use h5_tables::ProcessResult;
 use h5_token::Tag;
-use h5_types::ProcessResult;
 
 // A start tag `applet`, `marquee` or `object`: an element, and a marker.
 pub(crate) fn in_body_start_marked<S: TreeSink>(
@@ -55,7 +55,7 @@ fn close_marked<S: TreeSink>(
     ensures quiet { is_expected is_implied (is_html_named local.now) (names_of (world_of S.TreeSink sink.old state.old)) ≡ true → errors_of S.TreeSink sink.new ≡ errors_of S.TreeSink sink.old }
     ensures sound { IsSound S.TreeSink sink.new state.new }
 {
-    generate_implied_end(sink, state);
+    generate_implied_end_tags(sink, state);
     let expected = is_current_html(sink, state, local);
     expect_to_close(sink, state, expected);
     pop_until_named(sink, state, local, place);

@@ -10,9 +10,9 @@ use h5_insertion::insert_element;
 use h5_interface::TreeSink;
 use h5_rules_head::{parse_raw_data, to_raw_text_mode};
 use h5_state::{State, Turn, is_scripting, set_answer, set_frameset_not_ok, set_ignore_lf};
+use h5_tables::ProcessResult;
 use h5_token::states::RawKind;
 use h5_token::{Tag, TokenSinkResult};
-use h5_types::ProcessResult;
 
 /// A start tag `plaintext`: all that follows is text. It answers an `AllocError` where memory is refused, as each of
 /// these does.

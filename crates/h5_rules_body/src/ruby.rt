@@ -5,18 +5,18 @@ ghost use Rattle.h5_rules.specs.Rows.{GenerateImpliedEnd, GenerateImpliedEndExce
 ghost use Rattle.h5_state.specs.Steps.{IsSound, TellsErrors, errors_of, world_of};
 ghost use Rattle.h5_state.specs.Turn.{TakesTag};
 ghost use Rattle.h5_rules.specs.stack.Scope.{first_passes};
-ghost use Rattle.h5_tag_sets.specs.TagSets.{is_html_named};
+ghost use Rattle.h5_tables.specs.TagSets.{is_html_named};
 ghost use Rattle.h5_rules.specs.World.{names_of};
 
-use h5_closing::generate_implied_end;
+use h5_closing::generate_implied_end_tags;
 use h5_insertion::insert_element;
 use h5_interface::TreeSink;
 use h5_names::{KnownName, LocalName};
 use h5_state::{
     State, Turn, generate_implied_end_except, in_scope_named, is_current_html, unexpected_tag,
 };
+use h5_tables::ProcessResult;
 use h5_token::Tag;
-use h5_types::ProcessResult;
 
 // A part of a `ruby` isn't expected in another element.
 fn check_in_ruby<S: TreeSink>(sink: &mut S, state: &State<S::Handle>, tag: &Tag)
@@ -52,7 +52,7 @@ pub(crate) fn in_body_start_ruby_base<S: TreeSink>(
     ensures { TakesTag S.TreeSink in_body_start_ruby_base tag sink.old state.old sink.new state.new result }
 {
     if in_scope_named(sink, state, KnownName::Ruby) {
-        generate_implied_end(sink, state);
+        generate_implied_end_tags(sink, state);
     }
     check_in_ruby(sink, state, &tag);
     let attrs = tag.attrs;

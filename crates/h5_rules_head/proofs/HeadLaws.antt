@@ -4,10 +4,10 @@ use Rattle.h5_token.specs.Reply.{reply}
 use Rattle.h5_token.specs.TokenText.{TagText}
 use Rattle.h5_interface.specs.Forest.{IsElement}
 use Rattle.h5_interface.specs.SinkChoices.{SinkChoices}
-use Rattle.h5_types.specs.TurnText.{TagTurn, TurnText}
-use Rattle.h5_types.specs.declared.turns.ProcessResult.{ProcessResult}
-use Rattle.h5_types.specs.declared.turns.ProcessResult.TheVariants as ended
-use Rattle.h5_tag_sets.specs.TagSets.{is_one_of}
+use Rattle.h5_tables.specs.TurnText.{TagTurn, TurnText}
+use Rattle.h5_tables.specs.declared.turns.ProcessResult.{ProcessResult}
+use Rattle.h5_tables.specs.declared.turns.ProcessResult.TheVariants as ended
+use Rattle.h5_tables.specs.TagSets.{is_one_of}
 use Rattle.h5_rules.specs.modes.AfterHead.{removes_known, with_head}
 use Rattle.h5_rules.specs.Changes.{push_head}
 use Rattle.h5_rules.specs.modes.InHead.{in_head_start_tag}

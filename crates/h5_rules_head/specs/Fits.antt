@@ -1,5 +1,5 @@
 -- What "after head" tells of the open elements.
-use Rattle.h5_types.specs.declared.modes.InsertionMode.TheVariants.{AfterHead}
+use Rattle.h5_tables.specs.declared.modes.InsertionMode.TheVariants.{AfterHead}
 use Rattle.h5_rules.specs.fitting.NamesFit.{NamesFit}
 use Rattle.h5_rules.specs.Sound.{situation_of}
 use Rattle.h5_rules.specs.World.{World, names_of}

@@ -1,9 +1,9 @@
 //! The mode "after head" (HTML standard, section 13.2.6.4.6).
 ghost use Rattle.h5_rules.specs.ByName.{by_known, ignored_tag, of_tag};
 ghost use Rattle.std.specs.Prelude.{◌≡◌, ◌≢◌, MatchOption, option_map, true};
-ghost use Rattle.h5_types.specs.TurnText.{HasText, turn_text};
+ghost use Rattle.h5_tables.specs.TurnText.{HasText, turn_text};
 ghost use Rattle.h5_interface.specs.Forest.{IsElement};
-ghost use Rattle.h5_tag_sets.specs.TagSets.{is_one_of};
+ghost use Rattle.h5_tables.specs.TagSets.{is_one_of};
 ghost use Rattle.h5_rules.specs.modes.AfterHead.{after_head, after_head_else, after_head_end, after_head_start, after_head_start_body, after_head_start_frameset, after_head_tag, removes_known, with_head};
 ghost use Rattle.h5_rules.specs.modes.InHead.{in_head_start_tag};
 ghost use Rattle.h5_rules.specs.Rows.{apply_all};
@@ -26,8 +26,8 @@ use h5_names::KnownName;
 use h5_state::{
     State, Turn, set_again, set_answer, set_frameset_not_ok, set_mode, take_answer, unexpected_tag,
 };
+use h5_tables::{InsertionMode, ProcessResult, SplitStatus, Token};
 use h5_token::{Tag, TagKind};
-use h5_types::{InsertionMode, ProcessResult, SplitStatus, Token};
 
 // A start tag `body`.
 fn after_head_start_body<S: TreeSink>(sink: &mut S, state: &mut State<S::Handle>, tag: Tag) -> Turn

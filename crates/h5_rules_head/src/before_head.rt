@@ -1,6 +1,6 @@
 //! The mode "before head" (HTML standard, section 13.2.6.4.3).
 ghost use Rattle.h5_rules.specs.ByName.{by_known, ignored_tag, of_tag};
-ghost use Rattle.h5_types.specs.TurnText.{HasText, turn_text};
+ghost use Rattle.h5_tables.specs.TurnText.{HasText, turn_text};
 ghost use Rattle.h5_rules.specs.modes.BeforeHead.{before_head, before_head_else, before_head_end, before_head_start, before_head_start_head, before_head_tag};
 ghost use Rattle.h5_state.specs.Steps.{IsOpen, IsSound};
 ghost use Rattle.h5_state.specs.Turn.{TakesTag, TakesToken};
@@ -11,8 +11,8 @@ use h5_insertion::{append_comment, insert_head};
 use h5_interface::TreeSink;
 use h5_names::KnownName;
 use h5_state::{State, Turn, set_again, set_mode};
+use h5_tables::{InsertionMode, ProcessResult, SplitStatus, Token};
 use h5_token::{Tag, TagKind};
-use h5_types::{InsertionMode, ProcessResult, SplitStatus, Token};
 
 // A start tag `head`.
 fn before_head_start_head<S: TreeSink>(sink: &mut S, state: &mut State<S::Handle>, tag: Tag) -> Turn

@@ -1,6 +1,6 @@
 //! The mode "before html" (HTML standard, section 13.2.6.4.2).
 ghost use Rattle.h5_rules.specs.ByName.{by_known, ignored_tag, of_tag};
-ghost use Rattle.h5_types.specs.TurnText.{HasText, turn_text};
+ghost use Rattle.h5_tables.specs.TurnText.{HasText, turn_text};
 ghost use Rattle.h5_rules.specs.modes.BeforeHtml.{before_html, before_html_else, before_html_end, before_html_start, before_html_start_html, before_html_tag};
 ghost use Rattle.h5_state.specs.Steps.{IsSound};
 ghost use Rattle.h5_state.specs.Turn.{TakesTag, TakesToken};
@@ -10,8 +10,8 @@ use h5_insertion::{append_comment_to_doc, create_root};
 use h5_interface::TreeSink;
 use h5_names::KnownName;
 use h5_state::{State, Turn, set_again, set_mode};
+use h5_tables::{InsertionMode, ProcessResult, SplitStatus, Token};
 use h5_token::{Tag, TagKind};
-use h5_types::{InsertionMode, ProcessResult, SplitStatus, Token};
 
 // Whatever else comes: a root without attributes is made.
 fn before_html_else<S: TreeSink>(sink: &mut S, state: &mut State<S::Handle>, token: Token) -> Turn

@@ -4,8 +4,8 @@ ghost use Rattle.std.specs.Option.{option_copied};
 ghost use Rattle.h5_token.specs.TokenText.{tag_text};
 ghost use Rattle.h5_rules.specs.NamedEncoding.{content_encoding, is_content_type, named_encoding};
 
-use h5_data::extract_a_character_encoding_from_a_meta_element;
 use h5_names::{KnownName, LocalName};
+use h5_tables::extract_a_character_encoding_from_a_meta_element;
 use h5_token::Tag;
 use std::alloc::{AllocError, Global};
 

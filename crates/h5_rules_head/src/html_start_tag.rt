@@ -6,8 +6,8 @@ ghost use Rattle.h5_state.specs.Turn.{TakesTag};
 use h5_insertion::add_attrs_to_html;
 use h5_interface::TreeSink;
 use h5_state::{State, Turn, has_open_template, unexpected_tag};
+use h5_tables::ProcessResult;
 use h5_token::Tag;
-use h5_types::ProcessResult;
 
 /// A start tag `html`: the root gets the attributes that it lacks, unless a template is open. It answers an
 /// `AllocError` where memory is refused.

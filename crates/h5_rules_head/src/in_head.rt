@@ -1,6 +1,6 @@
 //! The mode "in head" (HTML standard, section 13.2.6.4.4).
 ghost use Rattle.h5_rules.specs.ByName.{by_known, ignored_tag};
-ghost use Rattle.h5_types.specs.TurnText.{HasText, turn_text};
+ghost use Rattle.h5_tables.specs.TurnText.{HasText, turn_text};
 ghost use Rattle.h5_rules.specs.modes.InHead.{in_head, in_head_end, in_head_end_head, in_head_tag};
 ghost use Rattle.h5_state.specs.Steps.{IsOpen};
 ghost use Rattle.h5_state.specs.Turn.{TakesTag, TakesToken};
@@ -12,8 +12,8 @@ use h5_insertion::{append_comment, append_text};
 use h5_interface::TreeSink;
 use h5_names::KnownName;
 use h5_state::{State, Turn, pop, set_mode};
+use h5_tables::{InsertionMode, ProcessResult, SplitStatus, Token};
 use h5_token::{Tag, TagKind};
-use h5_types::{InsertionMode, ProcessResult, SplitStatus, Token};
 
 // An end tag `head`.
 fn in_head_end_head<S: TreeSink>(sink: &mut S, state: &mut State<S::Handle>, tag: Tag) -> Turn

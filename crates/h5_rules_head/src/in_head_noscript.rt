@@ -1,6 +1,6 @@
 //! The mode "in head noscript" (HTML standard, section 13.2.6.4.5).
 ghost use Rattle.h5_rules.specs.ByName.{by_known, ignored_tag, of_tag};
-ghost use Rattle.h5_types.specs.TurnText.{HasText, turn_text};
+ghost use Rattle.h5_tables.specs.TurnText.{HasText, turn_text};
 ghost use Rattle.h5_rules.specs.modes.InHeadNoscript.{in_head_noscript, in_head_noscript_else, in_head_noscript_end, in_head_noscript_end_noscript, in_head_noscript_start, in_head_noscript_tag};
 ghost use Rattle.h5_state.specs.Steps.{IsOpen};
 ghost use Rattle.h5_state.specs.Turn.{TakesTag, TakesToken};
@@ -12,8 +12,8 @@ use super::in_head_start_tags::in_head_start_tag;
 use h5_interface::TreeSink;
 use h5_names::KnownName;
 use h5_state::{State, Turn, pop, set_again, set_mode, unexpected};
+use h5_tables::{InsertionMode, ProcessResult, SplitStatus, Token};
 use h5_token::{Tag, TagKind};
-use h5_types::{InsertionMode, ProcessResult, SplitStatus, Token};
 
 // An end tag `noscript`.
 fn in_head_noscript_end_noscript<S: TreeSink>(

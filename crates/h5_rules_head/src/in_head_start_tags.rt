@@ -13,9 +13,9 @@ use h5_insertion::{insert_and_pop_element, insert_element, insert_script};
 use h5_interface::TreeSink;
 use h5_names::KnownName;
 use h5_state::{State, Turn, is_scripting, pop, set_again, set_answer, set_mode};
+use h5_tables::{InsertionMode, ProcessResult, Token};
 use h5_token::states::RawKind;
 use h5_token::{Tag, TokenSinkResult};
-use h5_types::{InsertionMode, ProcessResult, Token};
 
 // A start tag `base`, `basefont`, `bgsound` or `link`: the element is empty.
 fn in_head_start_link<S: TreeSink>(sink: &mut S, state: &mut State<S::Handle>, tag: Tag) -> Turn

@@ -1,5 +1,5 @@
 //! The mode "initial" (HTML standard, section 13.2.6.4.1).
-ghost use Rattle.h5_types.specs.TurnText.{HasText, turn_text};
+ghost use Rattle.h5_tables.specs.TurnText.{HasText, turn_text};
 ghost use Rattle.h5_rules.specs.modes.InitialMode.{initial, initial_else};
 ghost use Rattle.h5_state.specs.Steps.{IsSound};
 ghost use Rattle.h5_state.specs.Turn.{TakesToken};
@@ -7,7 +7,7 @@ ghost use Rattle.h5_state.specs.Turn.{TakesToken};
 use h5_insertion::append_comment_to_doc;
 use h5_interface::{QuirksMode, TreeSink};
 use h5_state::{State, Turn, has_srcdoc, set_again, set_quirks_mode, unexpected};
-use h5_types::{InsertionMode, ProcessResult, SplitStatus, Token};
+use h5_tables::{InsertionMode, ProcessResult, SplitStatus, Token};
 
 // Whatever else comes: without a doctype the document is in quirks mode, unless it is that of an `iframe` with
 // `srcdoc`.

@@ -1,7 +1,7 @@
 //! Elements whose content is text (HTML standard, section 13.2.6.2, "Parsing elements that contain only text").
 ghost use Rattle.std.specs.Prelude.{◌≡◌, [], ◌∷◌};
 ghost use Rattle.h5_token.specs.Reply.{TurnsRaw, reply};
-ghost use Rattle.h5_types.specs.declared.modes.InsertionMode.TheVariants.{Text};
+ghost use Rattle.h5_tables.specs.declared.modes.InsertionMode.TheVariants.{Text};
 ghost use Rattle.h5_rules.specs.Changes.{save_mode, set_mode};
 ghost use Rattle.h5_rules.specs.modes.Shared.{inserts, raw_text};
 ghost use Rattle.h5_state.specs.Steps.{IsSound, errors_of, world_of};
@@ -10,9 +10,9 @@ ghost use Rattle.h5_state.specs.Turn.{TakesTag};
 use h5_insertion::insert_element;
 use h5_interface::TreeSink;
 use h5_state::{State, Turn, save_mode, set_answer, set_mode};
+use h5_tables::{InsertionMode, ProcessResult};
 use h5_token::states::RawKind;
 use h5_token::{Tag, TokenSinkResult};
-use h5_types::{InsertionMode, ProcessResult};
 
 /// The mode is kept, to go back to it, and left for a text; the reader is to be told of which kind that is.
 pub fn to_raw_text_mode<S: TreeSink>(sink: &S, state: &mut State<S::Handle>, kind: RawKind)

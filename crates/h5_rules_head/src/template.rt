@@ -18,8 +18,8 @@ use h5_state::{
     State, Turn, find_named, has_open_template, is_current_html, pop_until_named, set_again,
     set_frameset_not_ok, set_mode, tell_error, unexpected_tag,
 };
+use h5_tables::{InsertionMode, ProcessResult, Token};
 use h5_token::Tag;
-use h5_types::{InsertionMode, ProcessResult, Token};
 
 // A start tag `template`.
 pub(crate) fn in_head_start_template<S: TreeSink>(

@@ -1,6 +1,6 @@
 //! The mode "text" (HTML standard, section 13.2.6.4.8).
 ghost use Rattle.std.specs.Prelude.{codes};
-ghost use Rattle.h5_types.specs.TurnText.{EofTurn, HasText, turn_text};
+ghost use Rattle.h5_tables.specs.TurnText.{EofTurn, HasText, turn_text};
 ghost use Rattle.h5_rules.specs.modes.TextMode.{text_end, text_mode};
 ghost use Rattle.h5_state.specs.Steps.{IsOpen};
 ghost use Rattle.h5_state.specs.Turn.{TakesTag, TakesToken, FollowsRule};
@@ -12,8 +12,8 @@ use h5_state::{
     State, Turn, current_node, is_current_html, mark_started, pop, saved_mode, set_again,
     set_answer, set_mode, tell_error, unexpected,
 };
+use h5_tables::{ProcessResult, Token};
 use h5_token::{Tag, TagKind, TokenSinkResult};
-use h5_types::{ProcessResult, Token};
 
 // An end tag: the text's element is closed, and where it is a script's the reader is told of the element.
 #[tactic(auto, unfolding(h5_rules::specs::Changes::pop))]

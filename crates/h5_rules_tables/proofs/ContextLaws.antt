@@ -1,7 +1,7 @@
 -- The stack cleared back to a context keeps the root at least, which ends each of them.
 use Rattle.std.proofs.Common.{◌≡◌, ◌<◌, Bool, true, false, List, [], ◌∷◌, length, codes, refl, sym, subst, cond, arith}
 use Rattle.h5_names.specs.declared.qualified.QualName.{QualName}
-use Rattle.h5_tag_sets.specs.TagSets.{is_html_named, is_table_body_context, is_table_row_context, table_body_context_names, table_row_context_names}
+use Rattle.h5_tables.specs.TagSets.{is_html_named, is_table_body_context, is_table_row_context, table_body_context_names, table_row_context_names}
 use Rattle.h5_rules.specs.stack.Scope.{down_names}
 use Rattle.h5_rules.specs.stack.Root.{IsRootOpen}
 use Rattle.h5_rules.proofs.roles.SetLaws.{in_set}

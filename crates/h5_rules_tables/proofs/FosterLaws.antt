@@ -3,10 +3,10 @@ use Rattle.std.proofs.Common.{◌<◌, ◌≡◌, ℕ, true, false, Result, Ok, 
 use Rattle.std.specs.Prelude.{IfOk}
 use Rattle.std.specs.declared.alloc.AllocError.{AllocError}
 use Rattle.h5_interface.specs.SinkChoices.{SinkChoices}
-use Rattle.h5_types.specs.TurnResult as results
-use Rattle.h5_types.specs.TurnText.{TurnText}
-use Rattle.h5_types.specs.declared.turns.ProcessResult.{ProcessResult}
-use Rattle.h5_types.specs.declared.turns.ProcessResult.TheVariants as ended
+use Rattle.h5_tables.specs.TurnResult as results
+use Rattle.h5_tables.specs.TurnText.{TurnText}
+use Rattle.h5_tables.specs.declared.turns.ProcessResult.{ProcessResult}
+use Rattle.h5_tables.specs.declared.turns.ProcessResult.TheVariants as ended
 use Rattle.h5_rules.specs.Changes.{set_foster}
 use Rattle.h5_rules.specs.modes.InBody.{in_body}
 use Rattle.h5_rules.specs.Rows.{Follows}

@@ -1,5 +1,5 @@
 //! Foster parenting (HTML standard, section 13.2.6.1).
-ghost use Rattle.h5_types.specs.TurnText.{HasText, turn_text};
+ghost use Rattle.h5_tables.specs.TurnText.{HasText, turn_text};
 ghost use Rattle.h5_rules.specs.modes.InBody.{in_body};
 ghost use Rattle.h5_rules.specs.Sound.{HasHtmlRoot};
 ghost use Rattle.h5_rules.specs.modes.Tables.{foster};
@@ -9,7 +9,7 @@ ghost use Rattle.h5_state.specs.Turn.{TakesToken};
 use h5_interface::TreeSink;
 use h5_rules_body::step_in_body;
 use h5_state::{State, Turn, set_foster, unexpected};
-use h5_types::Token;
+use h5_tables::Token;
 
 /// A token that doesn't belong into a table goes by the body, and what it puts into the table goes before it.
 pub(crate) fn foster_parent_in_body<S: TreeSink>(

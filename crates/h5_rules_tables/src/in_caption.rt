@@ -1,7 +1,7 @@
 //! The mode "in caption" (HTML standard, section 13.2.6.4.11).
 ghost use Rattle.std.specs.Prelude.{◌<◌, ◌∷◌, ◌≡◌, [], codes, false, length, true};
-ghost use Rattle.h5_types.specs.TurnText.{HasText, turn_text};
-ghost use Rattle.h5_tag_sets.specs.TagSets.{is_html_named, is_implied};
+ghost use Rattle.h5_tables.specs.TurnText.{HasText, turn_text};
+ghost use Rattle.h5_tables.specs.TagSets.{is_html_named, is_implied};
 ghost use Rattle.h5_rules.specs.stack.Scope.{cut_through};
 ghost use Rattle.h5_rules.specs.ByName.{by_known, of_tag};
 ghost use Rattle.h5_rules.specs.modes.InBody.{in_body};
@@ -13,7 +13,7 @@ ghost use Rattle.h5_state.specs.Steps.{IsSound, errors_of, world_of};
 ghost use Rattle.h5_state.specs.Turn.{TakesTag, TakesToken};
 ghost use Rattle.h5_rules.specs.stack.Expected.{is_expected};
 
-use h5_closing::{expect_to_close, find_in_table_scope, generate_implied_end};
+use h5_closing::{expect_to_close, find_in_table_scope, generate_implied_end_tags};
 use h5_formatting::clear_active_formatting_to_marker;
 use h5_interface::TreeSink;
 use h5_names::{KnownName, LocalName};
@@ -22,8 +22,8 @@ use h5_rules_head::ignored_tag;
 use h5_state::{
     Known, State, Turn, is_current_html, pop_until_named, set_again, set_mode, unexpected_tag,
 };
+use h5_tables::{InsertionMode, ProcessResult, Token};
 use h5_token::{Tag, TagKind};
-use h5_types::{InsertionMode, ProcessResult, Token};
 
 // The caption that stands at this place is closed.
 fn close_the_caption<S: TreeSink>(sink: &mut S, state: &mut State<S::Handle>, place: usize)
@@ -35,7 +35,7 @@ fn close_the_caption<S: TreeSink>(sink: &mut S, state: &mut State<S::Handle>, pl
     ensures sound { IsSound S.TreeSink sink.new state.new }
 {
     let caption = LocalName::from_known(KnownName::Caption);
-    generate_implied_end(sink, state);
+    generate_implied_end_tags(sink, state);
     let expected = is_current_html(sink, state, &caption);
     expect_to_close(sink, state, expected);
     pop_until_named(sink, state, &caption, place);

@@ -1,7 +1,7 @@
 //! The mode "in cell" (HTML standard, section 13.2.6.4.15).
 ghost use Rattle.std.specs.Prelude.{◌≡◌, true};
-ghost use Rattle.h5_types.specs.TurnText.{HasText, turn_text};
-ghost use Rattle.h5_tag_sets.specs.TagSets.{cell_names, is_one_of};
+ghost use Rattle.h5_tables.specs.TurnText.{HasText, turn_text};
+ghost use Rattle.h5_tables.specs.TagSets.{cell_names, is_one_of};
 ghost use Rattle.h5_rules.specs.ByName.{by_known, of_tag};
 ghost use Rattle.h5_rules.specs.modes.InBody.{in_body};
 ghost use Rattle.h5_rules.specs.modes.InCell.{close_the_cell, in_cell, in_cell_end, in_cell_end_cell, in_cell_end_structure, in_cell_start, in_cell_start_structure, in_cell_tag};
@@ -11,7 +11,7 @@ ghost use Rattle.h5_state.specs.Turn.{TakesTag, TakesToken};
 
 use super::parts::has_in_table_scope;
 use h5_closing::{
-    expect_to_close, find_cell, find_in_table_scope, generate_implied_end, is_current_cell,
+    expect_to_close, find_cell, find_in_table_scope, generate_implied_end_tags, is_current_cell,
     pop_until_cell,
 };
 use h5_formatting::clear_active_formatting_to_marker;
@@ -22,9 +22,8 @@ use h5_rules_head::ignored_tag;
 use h5_state::{
     Local, State, Turn, is_current_html, pop_until_named, set_again, set_mode, unexpected_tag,
 };
-use h5_tag_sets::ElementSet;
+use h5_tables::{ElementSet, InsertionMode, ProcessResult, Token};
 use h5_token::{Tag, TagKind};
-use h5_types::{InsertionMode, ProcessResult, Token};
 
 // An end tag `td` or `th`.
 #[tactic(auto, unfolding(h5_rules::specs::modes::InCell::in_cell_end_cell))]
@@ -36,7 +35,7 @@ fn in_cell_end_cell<S: TreeSink>(sink: &mut S, state: &mut State<S::Handle>, tag
     let local = &tag.name;
     match find_in_table_scope(sink, state, &Local(local)) {
         Some(place) => {
-            generate_implied_end(sink, state);
+            generate_implied_end_tags(sink, state);
             let expected = is_current_html(sink, state, local);
             expect_to_close(sink, state, expected);
             pop_until_named(sink, state, local, place);
@@ -56,7 +55,7 @@ fn close_the_cell<S: TreeSink>(sink: &mut S, state: &mut State<S::Handle>, tag: 
     requires { IsSound S.TreeSink sink.old state.old }
     ensures { TakesTag S.TreeSink (λ t. close_the_cell) tag sink.old state.old sink.new state.new result }
 {
-    generate_implied_end(sink, state);
+    generate_implied_end_tags(sink, state);
     let expected = is_current_cell(sink, state);
     expect_to_close(sink, state, expected);
     let place = find_cell(sink, state);
@@ -99,7 +98,7 @@ fn in_cell_end_structure<S: TreeSink>(sink: &mut S, state: &mut State<S::Handle>
 }
 
 // End tags, by their names.
-#[tactic(auto, unfolding(h5_rules::specs::modes::InCell::in_cell_end, h5_tag_sets::specs::TagSets::cell_names, h5_rules::specs::modes::InCell::in_cell_closing_ends, h5_rules::specs::modes::InCell::in_cell_ignored_ends, h5_names::specs::KnownNames::name_text))]
+#[tactic(auto, unfolding(h5_rules::specs::modes::InCell::in_cell_end, h5_tables::specs::TagSets::cell_names, h5_rules::specs::modes::InCell::in_cell_closing_ends, h5_rules::specs::modes::InCell::in_cell_ignored_ends, h5_names::specs::KnownNames::name_text))]
 fn in_cell_end_tag<S: TreeSink>(sink: &mut S, state: &mut State<S::Handle>, tag: Tag) -> Turn
     requires sound { IsSound S.TreeSink sink.old state.old }
     requires ready { HasHtmlRoot (world_of S.TreeSink sink.old state.old) }

@@ -1,5 +1,5 @@
 //! The mode "in column group" (HTML standard, section 13.2.6.4.12).
-ghost use Rattle.h5_types.specs.TurnText.{HasText, turn_text};
+ghost use Rattle.h5_tables.specs.TurnText.{HasText, turn_text};
 ghost use Rattle.h5_rules.specs.ByName.{by_known, of_tag};
 ghost use Rattle.h5_rules.specs.modes.InColumnGroup.{in_column_group, in_column_group_else, in_column_group_end, in_column_group_end_colgroup, in_column_group_start, in_column_group_start_col, in_column_group_tag};
 ghost use Rattle.h5_rules.specs.Sound.{HasHtmlRoot};
@@ -14,8 +14,8 @@ use h5_rules_head::{ignored_tag, in_body_start_html, in_head_end_template, in_he
 use h5_state::{
     State, Turn, is_current_html, pop, set_again, set_mode, unexpected, unexpected_tag,
 };
+use h5_tables::{InsertionMode, ProcessResult, SplitStatus, Token};
 use h5_token::{Tag, TagKind};
-use h5_types::{InsertionMode, ProcessResult, SplitStatus, Token};
 
 // A start tag `col`.
 fn in_column_group_start_col<S: TreeSink>(

@@ -1,5 +1,5 @@
 //! The mode "in row" (HTML standard, section 13.2.6.4.14).
-ghost use Rattle.h5_types.specs.TurnText.{HasText, turn_text};
+ghost use Rattle.h5_tables.specs.TurnText.{HasText, turn_text};
 ghost use Rattle.h5_rules.specs.ByName.{by_known, of_tag};
 ghost use Rattle.h5_rules.specs.modes.InTable.{in_table};
 ghost use Rattle.h5_rules.specs.modes.InRow.{in_row, in_row_close, in_row_end, in_row_end_row, in_row_end_section, in_row_start, in_row_start_cell, in_row_tag};
@@ -15,8 +15,8 @@ use h5_interface::TreeSink;
 use h5_names::KnownName;
 use h5_rules_head::ignored_tag;
 use h5_state::{Known, Local, State, Turn, pop, set_again, set_mode, unexpected_tag};
+use h5_tables::{InsertionMode, ProcessResult, Token};
 use h5_token::{Tag, TagKind};
-use h5_types::{InsertionMode, ProcessResult, Token};
 
 // A start tag `td` or `th`.
 fn in_row_start_cell<S: TreeSink>(sink: &mut S, state: &mut State<S::Handle>, tag: Tag) -> Turn
@@ -83,7 +83,7 @@ fn in_row_end_section<S: TreeSink>(sink: &mut S, state: &mut State<S::Handle>, t
 }
 
 // Start tags, by their names.
-#[tactic(auto, unfolding(h5_rules::specs::modes::InRow::in_row_start, h5_tag_sets::specs::TagSets::cell_names, h5_rules::specs::modes::InRow::row_closing_names, h5_names::specs::KnownNames::name_text))]
+#[tactic(auto, unfolding(h5_rules::specs::modes::InRow::in_row_start, h5_tables::specs::TagSets::cell_names, h5_rules::specs::modes::InRow::row_closing_names, h5_names::specs::KnownNames::name_text))]
 fn in_row_start_tag<S: TreeSink>(sink: &mut S, state: &mut State<S::Handle>, tag: Tag) -> Turn
     requires sound { IsSound S.TreeSink sink.old state.old }
     requires ready { HasHtmlRoot (world_of S.TreeSink sink.old state.old) }

@@ -1,9 +1,9 @@
 //! The mode "in table" (HTML standard, section 13.2.6.4.9).
-ghost use Rattle.h5_types.specs.TurnText.{HasText, turn_text};
+ghost use Rattle.h5_tables.specs.TurnText.{HasText, turn_text};
 ghost use Rattle.h5_rules.specs.ByName.{by_known, of_tag};
 ghost use Rattle.h5_rules.specs.modes.InTable.{in_table, in_table_else, in_table_end, in_table_end_table, in_table_start, in_table_start_caption, in_table_start_col, in_table_start_colgroup, in_table_start_form, in_table_start_input, in_table_start_row_part, in_table_start_section, in_table_start_table, in_table_tag, in_table_text_or_null};
 ghost use Rattle.std.specs.Prelude.{◌≡◌};
-ghost use Rattle.h5_types.specs.declared.modes.InsertionMode.TheVariants.{InTableText};
+ghost use Rattle.h5_tables.specs.declared.modes.InsertionMode.TheVariants.{InTableText};
 ghost use Rattle.h5_rules.specs.Rows.{SaveMode};
 ghost use Rattle.h5_rules.specs.Sound.{HasHtmlRoot};
 ghost use Rattle.h5_state.specs.Steps.{IsSound, Makes, world_of};
@@ -18,15 +18,14 @@ use h5_insertion::{
 };
 use h5_interface::TreeSink;
 use h5_names::{KnownName, LocalName};
-use h5_rules_body::step_in_body;
-use h5_rules_forms::is_type_hidden;
+use h5_rules_body::{is_type_hidden, step_in_body};
 use h5_rules_head::{ignored_tag, in_head_end_template, in_head_start_tag};
 use h5_state::{
     Local, State, Turn, has_form, has_open_template, pop_until_named, save_mode, set_again,
     set_mode, unexpected_tag,
 };
+use h5_tables::{InsertionMode, ProcessResult, Token};
 use h5_token::{Tag, TagKind};
-use h5_types::{InsertionMode, ProcessResult, Token};
 
 /// A text of the table begins: the mode is kept, and the one by which the text is taken is given.
 pub fn begin_table_text<S: TreeSink>(sink: &S, state: &mut State<S::Handle>) -> InsertionMode

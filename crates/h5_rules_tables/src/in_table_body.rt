@@ -1,5 +1,5 @@
 //! The mode "in table body" (HTML standard, section 13.2.6.4.13).
-ghost use Rattle.h5_types.specs.TurnText.{HasText, turn_text};
+ghost use Rattle.h5_tables.specs.TurnText.{HasText, turn_text};
 ghost use Rattle.h5_rules.specs.ByName.{by_known, of_tag};
 ghost use Rattle.h5_rules.specs.modes.InTable.{in_table};
 ghost use Rattle.h5_rules.specs.modes.InTableBody.{in_table_body, in_table_body_close, in_table_body_end, in_table_body_end_section, in_table_body_start, in_table_body_start_cell, in_table_body_start_row, in_table_body_tag};
@@ -17,9 +17,8 @@ use h5_state::{
     Local, NameTest, NewestTest, State, Turn, newest_among, pop, set_again, set_mode,
     unexpected_tag,
 };
-use h5_tag_sets::is_html_known;
+use h5_tables::{InsertionMode, ProcessResult, Token, is_html_known};
 use h5_token::{Tag, TagKind};
-use h5_types::{InsertionMode, ProcessResult, Token};
 
 // A start tag `tr`.
 fn in_table_body_start_row<S: TreeSink>(
@@ -120,7 +119,7 @@ fn in_table_body_close<S: TreeSink>(sink: &mut S, state: &mut State<S::Handle>, 
 }
 
 // Start tags, by their names.
-#[tactic(auto, unfolding(h5_rules::specs::modes::InTableBody::in_table_body_start, h5_tag_sets::specs::TagSets::cell_names, h5_rules::specs::modes::InTableBody::section_closing_names, h5_names::specs::KnownNames::name_text))]
+#[tactic(auto, unfolding(h5_rules::specs::modes::InTableBody::in_table_body_start, h5_tables::specs::TagSets::cell_names, h5_rules::specs::modes::InTableBody::section_closing_names, h5_names::specs::KnownNames::name_text))]
 fn in_table_body_start_tag<S: TreeSink>(
     sink: &mut S,
     state: &mut State<S::Handle>,

@@ -1,9 +1,9 @@
 //! The mode "in table text" (HTML standard, section 13.2.6.4.10).
 ghost use Rattle.std.specs.Prelude.{◌≡◌, ◌≢◌, [], IfOk, string_bytes};
-ghost use Rattle.h5_types.specs.TurnResult.{Reprocess};
-ghost use Rattle.h5_types.specs.TurnText.{HasText, TextTurn, turn_text};
-ghost use Rattle.h5_types.specs.declared.modes.SplitStatus.TheVariants.{NotSplit};
-ghost use Rattle.h5_types.specs.declared.turns.Token.{Token};
+ghost use Rattle.h5_tables.specs.TurnResult.{Reprocess};
+ghost use Rattle.h5_tables.specs.TurnText.{HasText, TextTurn, turn_text};
+ghost use Rattle.h5_tables.specs.declared.modes.SplitStatus.TheVariants.{NotSplit};
+ghost use Rattle.h5_tables.specs.declared.turns.Token.{Token};
 ghost use Rattle.h5_rules.specs.modes.InTableText.{in_table_text, in_table_text_else, pending_text};
 ghost use Rattle.h5_rules.specs.Rows.{AppendPendingText, Follows};
 ghost use Rattle.h5_rules.specs.Sound.{HasHtmlRoot};
@@ -14,7 +14,7 @@ use super::foster::foster_parent_in_body;
 use h5_insertion::{append_pending_text, append_text, take_pending_text};
 use h5_interface::TreeSink;
 use h5_state::{PendingText, State, Turn, saved_mode, set_again, unexpected};
-use h5_types::{InsertionMode, ProcessResult, SplitStatus, Token};
+use h5_tables::{InsertionMode, ProcessResult, SplitStatus, Token};
 use std::alloc::AllocError;
 
 // The text that was kept back: blank, it goes where it came; else it goes by the body, with foster parenting on.

@@ -3,7 +3,7 @@
 use Rattle.std.specs.Prelude.{ℕ, Bool, ◌&&◌, ◌||◌, List, codes}
 use Rattle.h5_names.specs.AttributeText.{is_same_text}
 use Rattle.h5_names.specs.declared.qualified.QualName.{QualName}
-use Rattle.h5_tag_sets.specs.TagSets.{is_one_of, raw_names, void_names}
+use Rattle.h5_tables.specs.TagSets.{is_one_of, raw_names, void_names}
 
 -- an element of HTML
 abbrev pub is_html : QualName → Bool

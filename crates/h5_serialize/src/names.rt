@@ -3,7 +3,7 @@ ghost use Rattle.std.specs.Prelude.{◌≡◌};
 ghost use Rattle.h5_serialize.specs.Names.{is_html, is_void, is_raw_name};
 
 use h5_names::{KnownName, LocalName, QualName};
-use h5_tag_sets::NameSet;
+use h5_tables::NameSet;
 
 /// Whether an element is an HTML element.
 pub fn is_html(name: &QualName) -> bool

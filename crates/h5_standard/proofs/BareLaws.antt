@@ -19,21 +19,21 @@ use Rattle.h5_states.specs.declared.kinds.TextKind.TheVariants.{Data}
 use Rattle.h5_states.specs.ReferenceTable.{references}
 use Rattle.h5_states.specs.Construction.{new_tag, token_of, nameless}
 use Rattle.h5_states.specs.Machine.{turn}
-use Rattle.h5_states.specs.Reading.{Place, Passes, goes, again, deed, behind}
+use Rattle.h5_states.specs.Reading.{ReaderPlace, Passes, goes, again, outcome, behind}
 use Rattle.h5_states.specs.States.{Text, TagOpen, EndTagOpen, TagName}
 use Rattle.h5_states.specs.Signs.{is_name_end}
 use Rattle.h5_states.specs.Tags.{tag_open_state, end_tag_open_state}
-use Rattle.h5_states.specs.Turn.{Again}
+use Rattle.h5_states.specs.Turn.{Reconsumed}
 use Rattle.h5_machine.specs.MachineText.{MachineText, place_of}
 use Rattle.h5_machine.specs.Parts.{Parts}
 use Rattle.h5_machine.specs.Runs.{are_in}
-use Rattle.h5_machine.specs.declared.at.At.TheVariants as at
-use Rattle.h5_machine.specs.declared.at.TextState.TheVariants as text_state
-use Rattle.h5_machine.specs.declared.at.TagState.TheVariants as g
+use Rattle.h5_machine.specs.declared.machine_state.MachineState.TheVariants as at
+use Rattle.h5_machine.specs.declared.machine_state.TextState.TheVariants as text_state
+use Rattle.h5_machine.specs.declared.machine_state.TagState.TheVariants as g
 use Rattle.h5_machine.specs.declared.runs.Run.TheVariants as run
 use Rattle.h5_machine.proofs.NameLaws.{name_is_lowered}
 use Rattle.h5_machine.proofs.PassLaws.{behind_run, run_passed}
-use Rattle.h5_standard.specs.Steps.{Holds, HandsOn, Leads, Fails, Makes, IsLess, turn_of}
+use Rattle.h5_standard.specs.Steps.{Holds, HandsOn, Leads, Fails, Makes, IsLess, progress_of}
 use Rattle.h5_standard.proofs.HoldLaws.{holds_more, no_text_is_handed_on, token_is_handed_on, leads}
 use Rattle.h5_standard.proofs.TakeLaws.{turns}
 use Rattle.h5_standard.proofs.WeightLaws.{shorter_is_less}
@@ -75,21 +75,21 @@ in_line [] h = refl
 in_line (x ∷ xs) h = rw (no_return x h.0.high, no_feed x h.0.high) (in_line xs h.1)
 
 -- in a tag of this name, which has nothing else
-abbrev pub in_tag : Place → TagKind → List ℕ → Place
+abbrev pub in_tag : ReaderPlace → TagKind → List ℕ → ReaderPlace
 in_tag p kind name = record p { state = TagName (new_tag kind (map to_ascii_lowercase name)); after_return = false }
 
 never : (b : Bool) → (b && false) ≡ false
 never true = refl
 never false = refl
 
-deed_at : (p : Place) (x : ℕ) → p.state ≡ Text Data → deed references p x ≡ deed references (record p { state = Text Data }) x
-deed_at p x e = ap (λ s. deed references (record p { state = s }) x) e
+outcome_at : (p : ReaderPlace) (x : ℕ) → p.state ≡ Text Data → outcome references p x ≡ outcome references (record p { state = Text Data }) x
+outcome_at p x e = ap (λ s. outcome references (record p { state = s }) x) e
 
 -- the name is passed
-passes_name : (p : Place) (kind : TagKind) (name rest : List ℕ) → 0 < length name → AreNameBytes name → p.line ≤ 2 ^ 64 - 1
+passes_name : (p : ReaderPlace) (kind : TagKind) (name rest : List ℕ) → 0 < length name → AreNameBytes name → p.line ≤ 2 ^ 64 - 1
     → Passes references (record p { state = TagName (new_tag kind []); after_return = false }) (name ++ 62 ∷ rest) [] (in_tag p kind name) (62 ∷ rest)
 passes_name p kind name rest some h fits =
-    let q : Place = record p { state = TagName (new_tag kind []); after_return = false } in
+    let q : ReaderPlace = record p { state = TagName (new_tag kind []); after_return = false } in
     let parts : Parts = record { tag = new_tag kind []; comment = []; doctype = nameless; buffer = []; seen = []; code = 0 } in
     let there : behind_run q (at.Tag g.TagName) parts name ≡ in_tag p kind name = λ i. record {
       state = TagName (new_tag kind (map to_ascii_lowercase name));
@@ -104,31 +104,31 @@ passes_name p kind name rest some h fits =
 letter_not : (x n : ℕ) → n < 65 → is_ascii_alphabetic x ≡ true → (x == n) ≡ false
 letter_not x n lt h = grind (arith, nat_tests)
 
-start_row : (x : ℕ) → is_ascii_alphabetic x ≡ true → (tag_open_state x).deed ≡ Again [] (TagName (new_tag StartTag []))
+start_row : (x : ℕ) → is_ascii_alphabetic x ≡ true → (tag_open_state x).outcome ≡ Reconsumed [] (TagName (new_tag StartTag []))
 start_row x h = rw (letter_not x 33 (omega arith) h, letter_not x 47 (omega arith) h, h) refl
 
-end_row : (x : ℕ) → is_ascii_alphabetic x ≡ true → (end_tag_open_state x).deed ≡ Again [] (TagName (new_tag EndTag []))
+end_row : (x : ℕ) → is_ascii_alphabetic x ≡ true → (end_tag_open_state x).outcome ≡ Reconsumed [] (TagName (new_tag EndTag []))
 end_row x h = rw h refl
 
-opens_start : (p : Place) (x : ℕ) → 13 < x → is_ascii_alphabetic x ≡ true → deed references (record p { state = TagOpen; after_return = false }) x ≡ Again [] (TagName (new_tag StartTag []))
-opens_start p x high h = ap (λ (c : Bool). (turn references p.last TagOpen (if c then 10 else x)).deed) (no_return x high) ∙ start_row x h
+opens_start : (p : ReaderPlace) (x : ℕ) → 13 < x → is_ascii_alphabetic x ≡ true → outcome references (record p { state = TagOpen; after_return = false }) x ≡ Reconsumed [] (TagName (new_tag StartTag []))
+opens_start p x high h = ap (λ (c : Bool). (turn references p.last TagOpen (if c then 10 else x)).outcome) (no_return x high) ∙ start_row x h
 
-opens_end : (p : Place) (x : ℕ) → 13 < x → is_ascii_alphabetic x ≡ true → deed references (record p { state = EndTagOpen; after_return = false }) x ≡ Again [] (TagName (new_tag EndTag []))
-opens_end p x high h = ap (λ (c : Bool). (turn references p.last EndTagOpen (if c then 10 else x)).deed) (no_return x high) ∙ end_row x h
+opens_end : (p : ReaderPlace) (x : ℕ) → 13 < x → is_ascii_alphabetic x ≡ true → outcome references (record p { state = EndTagOpen; after_return = false }) x ≡ Reconsumed [] (TagName (new_tag EndTag []))
+opens_end p x high h = ap (λ (c : Bool). (turn references p.last EndTagOpen (if c then 10 else x)).outcome) (no_return x high) ∙ end_row x h
 
 -- the whole tag but its end is passed
-passes_start : (p : Place) (name rest : List ℕ) → p.state ≡ Text Data → p.line ≤ 2 ^ 64 - 1 → 0 < length name → AreNameBytes name → is_ascii_alphabetic (slice_index name 0) ≡ true
+passes_start : (p : ReaderPlace) (name rest : List ℕ) → p.state ≡ Text Data → p.line ≤ 2 ^ 64 - 1 → 0 < length name → AreNameBytes name → is_ascii_alphabetic (slice_index name 0) ≡ true
     → Passes references p (60 ∷ (name ++ 62 ∷ rest)) [] (in_tag p StartTag name) (62 ∷ rest)
 passes_start p [] rest e fits some h letter = absurd (omega arith)
 passes_start p (x ∷ name) rest e fits some h letter =
-    goes [] TagOpen (never p.after_return) (deed_at p 60 e)
+    goes [] TagOpen (never p.after_return) (outcome_at p 60 e)
     (again [] (TagName (new_tag StartTag [])) refl (opens_start p x h.0.high letter) (passes_name p StartTag (x ∷ name) rest some h fits))
 
-passes_end : (p : Place) (name rest : List ℕ) → p.state ≡ Text Data → p.line ≤ 2 ^ 64 - 1 → 0 < length name → AreNameBytes name → is_ascii_alphabetic (slice_index name 0) ≡ true
+passes_end : (p : ReaderPlace) (name rest : List ℕ) → p.state ≡ Text Data → p.line ≤ 2 ^ 64 - 1 → 0 < length name → AreNameBytes name → is_ascii_alphabetic (slice_index name 0) ≡ true
     → Passes references p (60 ∷ (47 ∷ (name ++ 62 ∷ rest))) [] (in_tag p EndTag name) (62 ∷ rest)
 passes_end p [] rest e fits some h letter = absurd (omega arith)
 passes_end p (x ∷ name) rest e fits some h letter =
-    goes [] TagOpen (never p.after_return) (deed_at p 60 e)
+    goes [] TagOpen (never p.after_return) (outcome_at p 60 e)
     (goes [] EndTagOpen refl refl
     (again [] (TagName (new_tag EndTag [])) refl (opens_end p x h.0.high letter) (passes_name p EndTag (x ∷ name) rest some h fits)))
 
@@ -168,7 +168,7 @@ parted inner name rest b =
       whole = split_at inner n 62 lt b.is_name.ends ∙ (λ i. sym b.front i ++ 62 ∷ sym b.back i);
     }
 
-passes_bare : (p : Place) (xs : List ℕ) (kind : TagKind) (name rest : List ℕ) → p.state ≡ Text Data → p.line ≤ 2 ^ 64 - 1 → IsBareTag xs kind name rest
+passes_bare : (p : ReaderPlace) (xs : List ℕ) (kind : TagKind) (name rest : List ℕ) → p.state ≡ Text Data → p.line ≤ 2 ^ 64 - 1 → IsBareTag xs kind name rest
     → Passes references p xs [] (in_tag p kind name) (62 ∷ rest)
 passes_bare p xs StartTag name rest e fits t =
     let b = parted t.inner name rest t.bare in
@@ -199,14 +199,14 @@ place_behind : (m n : MachineText) → m.at ≡ at.Text (text_state.Text Data) �
 place_behind m n e f kind name = rw (f, e) refl
 
 -- behind such a tag there is less to do
-pub bare_less : {H : Type 0} (p q : Place) (xs : List ℕ) (kind : TagKind) (name : List ℕ) (behind_it : Bor (List ℕ)) (stopped : Option (Stop H)) → IsBareTag xs kind name behind_it.now
-    → IsLess p xs q (Ok (turn_of stopped behind_it))
+pub bare_less : {H : Type 0} (p q : ReaderPlace) (xs : List ℕ) (kind : TagKind) (name : List ℕ) (behind_it : Bor (List ℕ)) (stopped : Option (Stop H)) → IsBareTag xs kind name behind_it.now
+    → IsLess p xs q (Ok (progress_of stopped behind_it))
 bare_less p q xs kind name behind_it None h = shorter_is_less p q xs behind_it.now (bare_shorter xs kind name behind_it.now h)
 bare_less p q xs kind name behind_it (Some s) h = tt
 
 module _ {M : Type 0} (reply_to : M → TokenText → Reply) (after : M → TokenText → ℕ → M) (foreign : M → Bool) where
   -- where the answer to such a tag leads
-  bare_leads : {H : Type 0} (node : H → ℕ) (p : Place) (k : M) (xs : List ℕ) (held : ℕ) (m n : MachineText) (l o : M) (q : Place) (rest name behind_it : List ℕ) (kind : TagKind) (token : TokenText) (line : ℕ) (result : Result (Option (Stop H)) BuildFault)
+  bare_leads : {H : Type 0} (node : H → ℕ) (p : ReaderPlace) (k : M) (xs : List ℕ) (held : ℕ) (m n : MachineText) (l o : M) (q : ReaderPlace) (rest name behind_it : List ℕ) (kind : TagKind) (token : TokenText) (line : ℕ) (result : Result (Option (Stop H)) BuildFault)
       → m.at ≡ at.Text (text_state.Text Data) → m.line ≤ 2 ^ 64 - 1 → IsBareTag rest kind name behind_it → n ≡ record m { after_return = false; began = m.line } → token ≡ bare_tag kind name → line ≡ m.began
       → Holds reply_to after foreign p k xs [] held (place_of m) l rest → HandsOn reply_to after node (place_of n) l token line q o result → Leads reply_to after foreign node p k xs q behind_it o result
   bare_leads node p k xs held m n l o q rest name behind_it kind token line result in_data fits t new made told h e =
@@ -220,19 +220,19 @@ module _ {M : Type 0} (reply_to : M → TokenText → Reply) (after : M → Toke
       (subst (λ i. HandsOn reply_to after node (place_of n) l token i q o result) told e)))
 
   -- the text that is held is none
-  held_none : (p : Place) (k : M) (xs text : List ℕ) (held : ℕ) (q : Place) (l : M) (rest : List ℕ) → text ≡ [] → Holds reply_to after foreign p k xs text held q l rest → Holds reply_to after foreign p k xs [] held q l rest
+  held_none : (p : ReaderPlace) (k : M) (xs text : List ℕ) (held : ℕ) (q : ReaderPlace) (l : M) (rest : List ℕ) → text ≡ [] → Holds reply_to after foreign p k xs text held q l rest → Holds reply_to after foreign p k xs [] held q l rest
   held_none p k xs text held q l rest e h = subst (λ t. Holds reply_to after foreign p k xs t held q l rest) e h
 
-  pub bare_fails : {H : Type 0} (node : H → ℕ) (p : Place) (k : M) (xs text : List ℕ) (held : ℕ) (m n : MachineText) (l o : M) (q : Place) (rest name behind_it : List ℕ) (kind : TagKind) (token : TokenText) (line : ℕ) (f : BuildFault)
+  pub bare_fails : {H : Type 0} (node : H → ℕ) (p : ReaderPlace) (k : M) (xs text : List ℕ) (held : ℕ) (m n : MachineText) (l o : M) (q : ReaderPlace) (rest name behind_it : List ℕ) (kind : TagKind) (token : TokenText) (line : ℕ) (f : BuildFault)
       → m.at ≡ at.Text (text_state.Text Data) → m.line ≤ 2 ^ 64 - 1 → IsBareTag rest kind name behind_it → n ≡ record m { after_return = false; began = m.line } → token ≡ bare_tag kind name → line ≡ m.began → text ≡ []
       → Holds reply_to after foreign p k xs text held (place_of m) l rest → HandsOn reply_to after node (place_of n) l token line q o (Err f) → Fails reply_to after foreign p k xs o f
   bare_fails node p k xs text held m n l o q rest name behind_it kind token line f in_data fits t new made told none h e =
       bare_leads node p k xs held m n l o q rest name behind_it kind token line (Err f) in_data fits t new made told (held_none p k xs text held (place_of m) l rest none h) e
 
-  pub bare_turns : {H : Type 0} (node : H → ℕ) (p : Place) (k : M) (xs text new_text : List ℕ) (held : ℕ) (m n : MachineText) (l o : M) (q : Place) (rest name : List ℕ) (behind_it : Bor (List ℕ)) (kind : TagKind) (token : TokenText) (line began : ℕ) (stopped : Option (Stop H))
+  pub bare_turns : {H : Type 0} (node : H → ℕ) (p : ReaderPlace) (k : M) (xs text new_text : List ℕ) (held : ℕ) (m n : MachineText) (l o : M) (q : ReaderPlace) (rest name : List ℕ) (behind_it : Bor (List ℕ)) (kind : TagKind) (token : TokenText) (line began : ℕ) (stopped : Option (Stop H))
       → m.at ≡ at.Text (text_state.Text Data) → m.line ≤ 2 ^ 64 - 1 → IsBareTag rest kind name behind_it.now → n ≡ record m { after_return = false; began = m.line } → token ≡ bare_tag kind name → line ≡ m.began → text ≡ [] → new_text ≡ text
       → began ≡ q.began → Holds reply_to after foreign p k xs text held (place_of m) l rest → HandsOn reply_to after node (place_of n) l token line q o (Ok stopped)
-      → Makes reply_to after foreign node p k xs new_text began q o (Ok (turn_of stopped behind_it))
+      → Makes reply_to after foreign node p k xs new_text began q o (Ok (progress_of stopped behind_it))
   bare_turns node p k xs text new_text held m n l o q rest name behind_it kind token line began stopped in_data fits t new made told none same is_began h e =
       turns reply_to after foreign node p k xs new_text began q o stopped behind_it (same ∙ none) is_began
       (bare_leads node p k xs held m n l o q rest name behind_it.now kind token line (Ok stopped) in_data fits t new made told (held_none p k xs text held (place_of m) l rest none h) e)

@@ -7,54 +7,54 @@ use Rattle.h5_token.specs.declared.fault.BuildFault.TheVariants as fault
 use Rattle.h5_reading.specs.declared.stop.Stop.{Stop}
 use Rattle.h5_states.specs.ReferenceTable.{references}
 use Rattle.h5_states.specs.declared.errors.ParseError.{ParseError}
-use Rattle.h5_states.specs.Turn.{Hands, Asks}
+use Rattle.h5_states.specs.Turn.{Emitted, Asks}
 use Rattle.h5_states.specs.States.{State}
-use Rattle.h5_states.specs.Reading.{Place, Passes, passed, Step, quiet_step, text_step, token_step, ask_step, nothing_read, read_on, is_dropped, deed, behind, after_token}
+use Rattle.h5_states.specs.Reading.{ReaderPlace, Passes, passed, Step, quiet_step, text_step, token_step, ask_step, nothing_read, read_on, is_dropped, outcome, behind, after_token}
 use Rattle.h5_machine.proofs.MoreLaws.{passes_more}
 use Rattle.h5_standard.specs.Steps.{Stopped, ReadsOn, Holds, RefusedAt, HandsOn, Leads}
 
 module _ {M : Type 0} (reply_to : M → TokenText → Reply) (after : M → TokenText → ℕ → M) (foreign : M → Bool) where
   -- a reading, and a step behind it
-  step_more : {p q r : Place} {m n o : M} {xs ys zs : List ℕ} {us : List TokenText} {reply : Reply} → ReadsOn reply_to after foreign p m xs q n ys
+  step_more : {p q r : ReaderPlace} {m n o : M} {xs ys zs : List ℕ} {us : List TokenText} {reply : Reply} → ReadsOn reply_to after foreign p m xs q n ys
       → Step references reply_to after foreign q n ys us reply r o zs → Stopped reply_to after foreign p m xs reply r o zs
   step_more {us} h step = record { tokens = h.stopped.tokens ++ us; read = read_on h.stopped.read h.goes_on step }
 
   -- where reading goes on no text is held
-  pub holds_none : {p q : Place} {m n : M} {xs ys : List ℕ} → ReadsOn reply_to after foreign p m xs q n ys → Holds reply_to after foreign p m xs [] q.began q n ys
+  pub holds_none : {p q : ReaderPlace} {m n : M} {xs ys : List ℕ} → ReadsOn reply_to after foreign p m xs q n ys → Holds reply_to after foreign p m xs [] q.began q n ys
   holds_none {q} {ys} h = record { place = q; rest = ys; reads = h; passes = passed; began = refl }
 
-  pub nothing_is_read : (p : Place) (m : M) (xs : List ℕ) → ReadsOn reply_to after foreign p m xs p m xs
+  pub nothing_is_read : (p : ReaderPlace) (m : M) (xs : List ℕ) → ReadsOn reply_to after foreign p m xs p m xs
   nothing_is_read p m xs = record { reply = Continues; goes_on = refl; stopped = record { tokens = []; read = nothing_read } }
 
   -- more is passed, and what it emits is held, too
-  pub holds_more : {p q r : Place} {m n : M} {xs ys zs text more : List ℕ} {line : ℕ} → Holds reply_to after foreign p m xs text line q n ys
+  pub holds_more : {p q r : ReaderPlace} {m n : M} {xs ys zs text more : List ℕ} {line : ℕ} → Holds reply_to after foreign p m xs text line q n ys
       → Passes references q ys more r zs → Holds reply_to after foreign p m xs (text ++ more) line r n zs
   holds_more h passes = record { place = h.place; rest = h.rest; reads = h.reads; passes = passes_more h.passes passes; began = h.began }
 
   -- the text is handed on
-  pub text_is_handed_on : {p q : Place} {m n : M} {xs ys text : List ℕ} {x line : ℕ} → Holds reply_to after foreign p m xs (x ∷ text) line q n ys
+  pub text_is_handed_on : {p q : ReaderPlace} {m n : M} {xs ys text : List ℕ} {x line : ℕ} → Holds reply_to after foreign p m xs (x ∷ text) line q n ys
       → Stopped reply_to after foreign p m xs (reply_to n (Characters (x ∷ text))) q (after n (Characters (x ∷ text)) line) ys
   text_is_handed_on h = rw h.began (step_more h.reads (text_step h.passes))
 
   -- there is none
-  pub no_text_is_handed_on : {p q : Place} {m n : M} {xs ys : List ℕ} {line : ℕ} → Holds reply_to after foreign p m xs [] line q n ys
+  pub no_text_is_handed_on : {p q : ReaderPlace} {m n : M} {xs ys : List ℕ} {line : ℕ} → Holds reply_to after foreign p m xs [] line q n ys
       → ReadsOn reply_to after foreign p m xs q n ys
   no_text_is_handed_on h = record { reply = Continues; goes_on = refl; stopped = step_more h.reads (quiet_step h.passes) }
 
   -- a token is handed on
-  pub token_is_handed_on : {p q : Place} {m n : M} {xs ys : List ℕ} {x : ℕ} {token : TokenText} {state : State} → ReadsOn reply_to after foreign p m xs q n (x ∷ ys)
-      → is_dropped q x ≡ false → deed references q x ≡ Hands token state
+  pub token_is_handed_on : {p q : ReaderPlace} {m n : M} {xs ys : List ℕ} {x : ℕ} {token : TokenText} {state : State} → ReadsOn reply_to after foreign p m xs q n (x ∷ ys)
+      → is_dropped q x ≡ false → outcome references q x ≡ Emitted token state
       → Stopped reply_to after foreign p m xs (reply_to n token) (after_token token (reply_to n token) (behind x state q)) (after n token q.began) ys
   token_is_handed_on {token} {state} h d e = step_more h (token_step token state d e)
 
   -- the adjusted current node is asked for
-  pub node_is_asked_for : {p q : Place} {m n : M} {xs ys : List ℕ} {x : ℕ} {there elsewhere : State} {error : ParseError} → ReadsOn reply_to after foreign p m xs q n (x ∷ ys)
-      → is_dropped q x ≡ false → deed references q x ≡ Asks there error elsewhere
+  pub node_is_asked_for : {p q : ReaderPlace} {m n : M} {xs ys : List ℕ} {x : ℕ} {there elsewhere : State} {error : ParseError} → ReadsOn reply_to after foreign p m xs q n (x ∷ ys)
+      → is_dropped q x ≡ false → outcome references q x ≡ Asks there error elsewhere
       → ReadsOn reply_to after foreign p m xs (behind x (if foreign n then there else elsewhere) q) n ys
   node_is_asked_for {there} {elsewhere} {error} h d e = record { reply = Continues; goes_on = refl; stopped = step_more h (ask_step there error elsewhere d e) }
 
   -- what the answer was, and where reading is and what the sink is then, in other words
-  pub in_other_words : {p q r : Place} {m k l : M} {xs ys : List ℕ} {reply other : Reply} → reply ≡ other → q ≡ r → k ≡ l
+  pub in_other_words : {p q r : ReaderPlace} {m k l : M} {xs ys : List ℕ} {reply other : Reply} → reply ≡ other → q ≡ r → k ≡ l
       → Stopped reply_to after foreign p m xs reply r l ys → Stopped reply_to after foreign p m xs other q k ys
   in_other_words {p} {q} {r} {m} {k} {l} {xs} {ys} {reply} {other} e f g h =
       subst (λ n. Stopped reply_to after foreign p m xs other q n ys) (sym g)
@@ -62,16 +62,16 @@ module _ {M : Type 0} (reply_to : M → TokenText → Reply) (after : M → Toke
       (subst (λ a. Stopped reply_to after foreign p m xs a r l ys) e h))
 
   -- the sink refused what was handed on
-  pub was_refused : {p q : Place} {m k l : M} {xs ys : List ℕ} {reply : Reply} (f : BuildFault) → (reply ≡ Refuses f) × (k ≡ l)
+  pub was_refused : {p q : ReaderPlace} {m k l : M} {xs ys : List ℕ} {reply : Reply} (f : BuildFault) → (reply ≡ Refuses f) × (k ≡ l)
       → Stopped reply_to after foreign p m xs reply q l ys → RefusedAt reply_to after foreign p m xs f k
   was_refused {q} {ys} f h stopped = record { place = q; rest = ys; stopped = in_other_words h.0 refl h.1 stopped }
 
-  pub empty_is_handed_on : {p q : Place} {m n : M} {xs ys text : List ℕ} {line : ℕ} → text ≡ [] → Holds reply_to after foreign p m xs text line q n ys
+  pub empty_is_handed_on : {p q : ReaderPlace} {m n : M} {xs ys text : List ℕ} {line : ℕ} → text ≡ [] → Holds reply_to after foreign p m xs text line q n ys
       → ReadsOn reply_to after foreign p m xs q n ys
   empty_is_handed_on {p} {q} {m} {n} {xs} {ys} {line} e h = no_text_is_handed_on (subst (λ t. Holds reply_to after foreign p m xs t line q n ys) e h)
 
   -- where the answer to a token leads, from a place
-  pub leads : {H : Type 0} (node : H → ℕ) {p : Place} {m n : M} {xs ys : List ℕ} {token : TokenText} {line : ℕ} (r q : Place) (k : M) (result : Result (Option (Stop H)) BuildFault)
+  pub leads : {H : Type 0} (node : H → ℕ) {p : ReaderPlace} {m n : M} {xs ys : List ℕ} {token : TokenText} {line : ℕ} (r q : ReaderPlace) (k : M) (result : Result (Option (Stop H)) BuildFault)
       → Stopped reply_to after foreign p m xs (reply_to n token) (after_token token (reply_to n token) r) (after n token line) ys
       → HandsOn reply_to after node r n token line q k result → Leads reply_to after foreign node p m xs q ys k result
   leads node {n} {token} r q k (Ok None) h e = record { reply = reply_to n token; goes_on = e.answer; stopped = in_other_words refl e.place e.meaning h }
@@ -82,7 +82,7 @@ module _ {M : Type 0} (reply_to : M → TokenText → Reply) (after : M → Toke
   leads node r q k (Err fault.Failed) h e = was_refused fault.Failed e h
 
   -- where handing on the text leads
-  pub text_leads : {H : Type 0} (node : H → ℕ) {p q : Place} {m n : M} {xs ys : List ℕ} {line : ℕ} (text : List ℕ) (k : M) (result : Result (Option (Stop H)) BuildFault)
+  pub text_leads : {H : Type 0} (node : H → ℕ) {p q : ReaderPlace} {m n : M} {xs ys : List ℕ} {line : ℕ} (text : List ℕ) (k : M) (result : Result (Option (Stop H)) BuildFault)
       → (text ≡ [] → ⊥) → Holds reply_to after foreign p m xs text line q n ys → HandsOn reply_to after node q n (Characters text) line q k result
       → Leads reply_to after foreign node p m xs q ys k result
   text_leads node [] k result some h e = absurd (some refl)

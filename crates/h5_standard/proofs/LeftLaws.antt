@@ -8,7 +8,7 @@ use Rattle.h5_token.specs.Reply.{Reply}
 use Rattle.h5_markup.specs.Matching.{Match, Open, No, Found}
 use Rattle.h5_markup.proofs.Finds.{literal_gives}
 use Rattle.h5_states.specs.ReferenceTable.{references}
-use Rattle.h5_states.specs.Reading.{Place, Passes, passed, drops, goes, again, Step, quiet_step, text_step, token_step, ask_step, Read, nothing_read, read_on}
+use Rattle.h5_states.specs.Reading.{ReaderPlace, Passes, passed, drops, goes, again, Step, quiet_step, text_step, token_step, ask_step, Read, nothing_read, read_on}
 use Rattle.h5_standard.specs.Mark.{mark, behind, behind_mark}
 use Rattle.h5_standard.specs.Steps.{Stopped}
 
@@ -26,24 +26,24 @@ leaves_behind x h = record { front = x ∷ h.front; split = ap (λ l. x ∷ l) h
 pub leaves_more : {xs ys zs : List ℕ} → Leaves xs ys → Leaves ys zs → Leaves xs zs
 leaves_more {zs} h k = record { front = h.front ++ k.front; split = h.split ∙ ap (λ l. h.front ++ l) k.split ∙ sym (append_assoc h.front k.front zs) }
 
-passes_leaves : {p q : Place} {xs text ys : List ℕ} → Passes references p xs text q ys → Leaves xs ys
+passes_leaves : {p q : ReaderPlace} {xs text ys : List ℕ} → Passes references p xs text q ys → Leaves xs ys
 passes_leaves {xs} passed = leaves_all xs
 passes_leaves (drops {x} d h) = leaves_behind x (passes_leaves h)
 passes_leaves (goes {x} text state d e h) = leaves_behind x (passes_leaves h)
 passes_leaves (again text state d e h) = passes_leaves h
 
 module _ {M : Type 0} (reply_to : M → TokenText → Reply) (after : M → TokenText → ℕ → M) (foreign : M → Bool) where
-  step_leaves : {p : Place} {m : M} {xs : List ℕ} {ts : List TokenText} {reply : Reply} {q : Place} {n : M} {ys : List ℕ} → Step references reply_to after foreign p m xs ts reply q n ys → Leaves xs ys
+  step_leaves : {p : ReaderPlace} {m : M} {xs : List ℕ} {ts : List TokenText} {reply : Reply} {q : ReaderPlace} {n : M} {ys : List ℕ} → Step references reply_to after foreign p m xs ts reply q n ys → Leaves xs ys
   step_leaves (quiet_step h) = passes_leaves h
   step_leaves (text_step h) = passes_leaves h
   step_leaves (token_step {x} {xs} token state d e) = leaves_behind x (leaves_all xs)
   step_leaves (ask_step {x} {xs} there error elsewhere d e) = leaves_behind x (leaves_all xs)
 
-  read_leaves : {p : Place} {m : M} {xs : List ℕ} {ts : List TokenText} {reply : Reply} {q : Place} {n : M} {ys : List ℕ} → Read references reply_to after foreign p m xs ts reply q n ys → Leaves xs ys
+  read_leaves : {p : ReaderPlace} {m : M} {xs : List ℕ} {ts : List TokenText} {reply : Reply} {q : ReaderPlace} {n : M} {ys : List ℕ} → Read references reply_to after foreign p m xs ts reply q n ys → Leaves xs ys
   read_leaves {xs} nothing_read = leaves_all xs
   read_leaves (read_on read on step) = leaves_more (read_leaves read) (step_leaves step)
 
-  pub stopped_leaves : {p q : Place} {m n : M} {xs ys : List ℕ} {reply : Reply} → Stopped reply_to after foreign p m xs reply q n ys → Leaves xs ys
+  pub stopped_leaves : {p q : ReaderPlace} {m n : M} {xs ys : List ℕ} {reply : Reply} → Stopped reply_to after foreign p m xs reply q n ys → Leaves xs ys
   stopped_leaves h = read_leaves h.read
 
 behind_leaves : (xs : List ℕ) (found : Match (Unit {0})) → mark xs ≡ found → Leaves xs (behind xs found)

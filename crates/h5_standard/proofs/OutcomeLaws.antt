@@ -7,7 +7,7 @@ use Rattle.h5_reading.specs.declared.stage.Stage.{Stage}
 use Rattle.h5_reading.specs.declared.stage.Stage.TheVariants.{Reading}
 use Rattle.h5_reading.specs.declared.stop.Stop.{Stop}
 use Rattle.h5_reading.specs.declared.stop.Stop.TheVariants as stop
-use Rattle.h5_states.specs.Reading.{Place}
+use Rattle.h5_states.specs.Reading.{ReaderPlace}
 use Rattle.h5_standard.specs.Mark.{behind_mark, still_at_start}
 use Rattle.h5_standard.specs.ReaderText.{ReaderText}
 use Rattle.h5_standard.specs.Steps.{Stopped}
@@ -21,14 +21,14 @@ module _ {M : Type 0} (reply_to : M → TokenText → Reply) (after : M → Toke
   feeds_stop node old m xs new n queue (stop.EncodingIndicator encoding) h = h
 
   -- what is left of the queue
-  pub left_of_queue : {p q : Place} {m n : M} {reply : Reply} (at_start : Bool) (buffer text piece rest left : List ℕ) → text ≡ buffer → piece ≡ behind_mark at_start text → left ≡ rest
+  pub left_of_queue : {p q : ReaderPlace} {m n : M} {reply : Reply} (at_start : Bool) (buffer text piece rest left : List ℕ) → text ≡ buffer → piece ≡ behind_mark at_start text → left ≡ rest
       → Stopped reply_to after foreign p m piece reply q n rest → Leaves buffer left
   left_of_queue at_start buffer text piece rest left e f g h =
       subst (λ l. Leaves l left) e
       (subst (λ r. Leaves text r) (sym g)
       (leaves_more (behind_mark_leaves at_start text) (subst (λ l. Leaves l rest) f (stopped_leaves reply_to after foreign h))))
 
-  pub stops_at : (old : ReaderText) (at_start : Bool) (p : Place) (stage : Stage) (m : M) (xs buffer text piece rest left kept : List ℕ) (reply : Reply) (now : Bool) (q : Place) (n : M)
+  pub stops_at : (old : ReaderText) (at_start : Bool) (p : ReaderPlace) (stage : Stage) (m : M) (xs buffer text piece rest left kept : List ℕ) (reply : Reply) (now : Bool) (q : ReaderPlace) (n : M)
       → record { at_start = at_start; place = p; stage = stage } ≡ old → buffer ≡ xs → text ≡ buffer → piece ≡ behind_mark at_start text → now ≡ still_at_start at_start text
       → left ≡ rest → kept ≡ drop (length buffer - length left) buffer → Stopped reply_to after foreign p m piece reply q n rest
       → StopsAt reply_to after foreign old m xs reply (record { at_start = now; place = q; stage = Reading }) n kept

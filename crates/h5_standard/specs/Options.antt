@@ -7,7 +7,7 @@ use Rattle.h5_reading.specs.declared.options.TokenizerOpts.{TokenizerOpts}
 use Rattle.h5_states.specs.declared.kinds.TextKind.{TextKind}
 use Rattle.h5_states.specs.declared.kinds.TextKind.TheVariants.{Data, Plaintext}
 use Rattle.h5_states.specs.States.{Text}
-use Rattle.h5_states.specs.Reading.{Place, raw_text}
+use Rattle.h5_states.specs.Reading.{ReaderPlace, raw_text}
 
 abbrev pub text_of : Option State → TextKind
 text_of None = Data
@@ -15,7 +15,7 @@ text_of (Some state.Data) = Data
 text_of (Some (state.RawData kind)) = raw_text kind
 text_of (Some state.Plaintext) = Plaintext
 
-abbrev pub first_place : TokenizerOpts → Place
+abbrev pub first_place : TokenizerOpts → ReaderPlace
 first_place o = record {
   state = Text (text_of o.initial_state);
   last = unwrap_or (option_map string_bytes o.last_start_tag_name) [];

@@ -9,21 +9,21 @@ use Rattle.h5_reading.specs.Answers.{goes_on}
 use Rattle.h5_reading.specs.Stops.{AnswersAs, stops_as}
 use Rattle.h5_reading.specs.declared.stop.Stop.{Stop}
 use Rattle.h5_states.specs.ReferenceTable.{references}
-use Rattle.h5_states.specs.Reading.{Place, Passes, Read, after_token}
+use Rattle.h5_states.specs.Reading.{ReaderPlace, Passes, Read, after_token}
 use Rattle.h5_standard.specs.Weight.{weight}
-use Rattle.h5_standard.specs.declared.steps.Turn.{Turn}
-use Rattle.h5_standard.specs.declared.steps.Turn.TheVariants as turn
+use Rattle.h5_standard.specs.declared.steps.Progress.{Progress}
+use Rattle.h5_standard.specs.declared.steps.Progress.TheVariants as progress
 use Rattle.h5_standard.specs.declared.steps.Halt.{Halt}
 use Rattle.h5_standard.specs.declared.steps.Halt.TheVariants as halt
 
 module _ {M : Type 0} (reply_to : M → TokenText → Reply) (after : M → TokenText → ℕ → M) where
   -- A token was handed on, with this line: where reading goes on from, whether it stops, and what the sink is then.
-  pub record HandedOn {H : Type 0} (node : H → ℕ) (p : Place) (m : M) (t : TokenText) (line : ℕ) (q : Place) (n : M) (stopped : Option (Stop H)) : Type 0 where
+  pub record HandedOn {H : Type 0} (node : H → ℕ) (p : ReaderPlace) (m : M) (t : TokenText) (line : ℕ) (q : ReaderPlace) (n : M) (stopped : Option (Stop H)) : Type 0 where
     pub place : q ≡ after_token t (reply_to m t) p
     pub meaning : n ≡ after m t line
     pub answer : AnswersAs node stopped (reply_to m t)
 
-  abbrev pub HandsOn : {H : Type 0} → (H → ℕ) → Place → M → TokenText → ℕ → Place → M → Result (Option (Stop H)) BuildFault → Type 0
+  abbrev pub HandsOn : {H : Type 0} → (H → ℕ) → ReaderPlace → M → TokenText → ℕ → ReaderPlace → M → Result (Option (Stop H)) BuildFault → Type 0
   HandsOn node p m t line q n (Ok stopped) = HandedOn node p m t line q n stopped
   HandsOn node p m t line q n (Err fault.Memory) = Unit {0}
   HandsOn node p m t line q n (Err fault.AfterEnd) = (reply_to m t ≡ Refuses fault.AfterEnd) × (n ≡ after m t line)
@@ -32,62 +32,62 @@ module _ {M : Type 0} (reply_to : M → TokenText → Reply) (after : M → Toke
 
 module _ {M : Type 0} (reply_to : M → TokenText → Reply) (after : M → TokenText → ℕ → M) (foreign : M → Bool) where
   -- An input was read up to an answer.
-  pub record Stopped (p : Place) (m : M) (xs : List ℕ) (reply : Reply) (q : Place) (n : M) (ys : List ℕ) : Type 0 where
+  pub record Stopped (p : ReaderPlace) (m : M) (xs : List ℕ) (reply : Reply) (q : ReaderPlace) (n : M) (ys : List ℕ) : Type 0 where
     pub tokens : List TokenText
     pub read : Read references reply_to after foreign p m xs tokens reply q n ys
 
   -- An input was read up to an answer after which reading goes on.
-  pub record ReadsOn (p : Place) (m : M) (xs : List ℕ) (q : Place) (n : M) (ys : List ℕ) : Type 0 where
+  pub record ReadsOn (p : ReaderPlace) (m : M) (xs : List ℕ) (q : ReaderPlace) (n : M) (ys : List ℕ) : Type 0 where
     pub reply : Reply
     pub goes_on : goes_on reply ≡ true
     pub stopped : Stopped p m xs reply q n ys
 
   -- An input was read up to a place, and then bytes were passed up to another. What they emit, this text, hasn't been
   -- handed on, and began in this line.
-  pub record Holds (p : Place) (m : M) (xs text : List ℕ) (line : ℕ) (q : Place) (n : M) (ys : List ℕ) : Type 0 where
-    pub place : Place
+  pub record Holds (p : ReaderPlace) (m : M) (xs text : List ℕ) (line : ℕ) (q : ReaderPlace) (n : M) (ys : List ℕ) : Type 0 where
+    pub place : ReaderPlace
     pub rest : List ℕ
     pub reads : ReadsOn p m xs place n rest
     pub passes : Passes references place rest text q ys
     pub began : line ≡ place.began
 
   -- The sink refused the last token that was handed on.
-  pub record RefusedAt (p : Place) (m : M) (xs : List ℕ) (fault : BuildFault) (n : M) : Type 0 where
-    pub place : Place
+  pub record RefusedAt (p : ReaderPlace) (m : M) (xs : List ℕ) (fault : BuildFault) (n : M) : Type 0 where
+    pub place : ReaderPlace
     pub rest : List ℕ
     pub stopped : Stopped p m xs (Refuses fault) place n rest
 
   -- the fault of a sink, or want of memory, of which nothing is said
-  abbrev pub Fails : Place → M → List ℕ → M → BuildFault → Type 0
+  abbrev pub Fails : ReaderPlace → M → List ℕ → M → BuildFault → Type 0
   Fails p m xs n fault.Memory = Unit {0}
   Fails p m xs n fault.AfterEnd = RefusedAt p m xs fault.AfterEnd n
   Fails p m xs n fault.NotInText = RefusedAt p m xs fault.NotInText n
   Fails p m xs n fault.Failed = RefusedAt p m xs fault.Failed n
 
   -- what was handed on, from an input up to here, and where its answer leads
-  abbrev pub Leads : {H : Type 0} → (H → ℕ) → Place → M → List ℕ → Place → List ℕ → M → Result (Option (Stop H)) BuildFault → Type 0
+  abbrev pub Leads : {H : Type 0} → (H → ℕ) → ReaderPlace → M → List ℕ → ReaderPlace → List ℕ → M → Result (Option (Stop H)) BuildFault → Type 0
   Leads node p m xs q ys n (Ok None) = ReadsOn p m xs q n ys
   Leads node p m xs q ys n (Ok (Some s)) = Stopped p m xs (stops_as node s) q n ys
   Leads node p m xs q ys n (Err f) = Fails p m xs n f
 
   -- what one step did
-  abbrev pub Makes : {H : Type 0} → (H → ℕ) → Place → M → List ℕ → List ℕ → ℕ → Place → M → Result (Turn H) BuildFault → Type 0
-  Makes node p m xs text line q n (Ok (turn.Goes rest)) = Holds p m xs text line q n rest.now
-  Makes node p m xs text line q n (Ok (turn.Stops s rest)) = Stopped p m xs (stops_as node s) q n rest.now
+  abbrev pub Makes : {H : Type 0} → (H → ℕ) → ReaderPlace → M → List ℕ → List ℕ → ℕ → ReaderPlace → M → Result (Progress H) BuildFault → Type 0
+  Makes node p m xs text line q n (Ok (progress.GoesOn rest)) = Holds p m xs text line q n rest.now
+  Makes node p m xs text line q n (Ok (progress.Stops s rest)) = Stopped p m xs (stops_as node s) q n rest.now
   Makes node p m xs text line q n (Err f) = Fails p m xs n f
 
   -- what was done with a piece
-  abbrev pub Runs : {H : Type 0} → (H → ℕ) → Place → M → List ℕ → Place → M → Result (Halt H) BuildFault → Type 0
+  abbrev pub Runs : {H : Type 0} → (H → ℕ) → ReaderPlace → M → List ℕ → ReaderPlace → M → Result (Halt H) BuildFault → Type 0
   Runs node p m xs q n (Ok halt.Done) = ReadsOn p m xs q n []
   Runs node p m xs q n (Ok (halt.Stops s rest)) = Stopped p m xs (stops_as node s) q n rest.now
   Runs node p m xs q n (Err f) = Fails p m xs n f
 
 -- where reading goes on there is less to do
-abbrev pub IsLess : {H : Type 0} → Place → List ℕ → Place → Result (Turn H) BuildFault → Type 0
-IsLess p xs q (Ok (turn.Goes rest)) = weight q rest.now < weight p xs
-IsLess p xs q (Ok (turn.Stops s rest)) = Unit {0}
+abbrev pub IsLess : {H : Type 0} → ReaderPlace → List ℕ → ReaderPlace → Result (Progress H) BuildFault → Type 0
+IsLess p xs q (Ok (progress.GoesOn rest)) = weight q rest.now < weight p xs
+IsLess p xs q (Ok (progress.Stops s rest)) = Unit {0}
 IsLess p xs q (Err f) = Unit {0}
 
-abbrev pub turn_of : {H : Type 0} → Option (Stop H) → Bor (List ℕ) → Turn H
-turn_of None rest = turn.Goes rest
-turn_of (Some s) rest = turn.Stops s rest
+abbrev pub progress_of : {H : Type 0} → Option (Stop H) → Bor (List ℕ) → Progress H
+progress_of None rest = progress.GoesOn rest
+progress_of (Some s) rest = progress.Stops s rest

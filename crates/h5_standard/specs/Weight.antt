@@ -3,12 +3,12 @@ use Rattle.std.specs.Prelude.{ℕ, ◌+◌, ◌*◌, List, [], ◌∷◌, length
 use Rattle.h5_states.specs.Lines.{normal}
 use Rattle.h5_states.specs.Rank.{rank}
 use Rattle.h5_states.specs.States.{State}
-use Rattle.h5_states.specs.Reading.{Place}
+use Rattle.h5_states.specs.Reading.{ReaderPlace}
 
 -- by how many rows the byte at hand is reconsumed at most
 abbrev pub rank_at : State → List ℕ → ℕ
 rank_at state [] = 0
 rank_at state (x ∷ xs) = rank state (normal x)
 
-abbrev pub weight : Place → List ℕ → ℕ
+abbrev pub weight : ReaderPlace → List ℕ → ℕ
 weight p xs = 3 * length xs + rank_at p.state xs

@@ -9,7 +9,7 @@ ghost use Rattle.h5_machine.specs.MachineText.{place_of};
 ghost use Rattle.h5_standard.specs.Closing.{TakesAll};
 
 use super::handing::take_token;
-use h5_machine::{Construct, Machine, end_of};
+use h5_machine::{CurrentToken, Machine, end_of};
 use h5_reading::{finish, offer};
 use h5_token::{BuildFault, Token, TokenSink};
 use std::alloc::Global;
@@ -28,7 +28,7 @@ fn offer_text<S: TokenSink>(sink: &mut S, text: String, line: u64) -> Result<(),
 fn offer_construct<S: TokenSink>(
     sink: &mut S,
     machine: &mut Machine,
-    construct: Option<Construct>,
+    construct: Option<CurrentToken>,
 ) -> Result<(), BuildFault>
     ensures takes { TakesAll S.reply_to S.after S.ended (S.meaning sink.old) (handed (left_of construct machine.old.parts)) machine.old.began (S.meaning sink.new) result }
     ensures line { machine.new.line ≡ machine.old.line }

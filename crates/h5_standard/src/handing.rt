@@ -3,15 +3,15 @@
 ghost use Rattle.std.specs.Prelude.{◌≡◌, ℕ, IfOk, string_bytes};
 ghost use Rattle.h5_token.specs.Reply.{reply};
 ghost use Rattle.h5_token.specs.TokenText.{Characters, TagIs, tag_text, token_text};
-ghost use Rattle.h5_machine.specs.DeedOf.{made_of};
-ghost use Rattle.h5_machine.specs.declared.at.At.TheVariants as At;
-ghost use Rattle.h5_machine.specs.declared.at.TextState.TheVariants as TextState;
+ghost use Rattle.h5_machine.specs.OutcomeOf.{made_of};
+ghost use Rattle.h5_machine.specs.declared.machine_state.MachineState.TheVariants as MachineState;
+ghost use Rattle.h5_machine.specs.declared.machine_state.TextState.TheVariants as TextState;
 ghost use Rattle.h5_machine.specs.MachineText.{place_of};
-ghost use Rattle.h5_states.specs.Reading.{Place, chosen_state, raw_text};
+ghost use Rattle.h5_states.specs.Reading.{ReaderPlace, chosen_state, raw_text};
 ghost use Rattle.h5_states.specs.States.{Text};
 ghost use Rattle.h5_standard.specs.Steps.{HandsOn};
 
-use h5_machine::{Construct, Machine};
+use h5_machine::{CurrentToken, Machine};
 use h5_reading::{Stop, ask, stop_of};
 use h5_states::TextKind;
 use h5_token::states::RawKind;
@@ -45,7 +45,7 @@ pub fn hand_on_text<S: TokenSink>(
     text: String,
     line: u64,
 ) -> Result<Option<Stop<S::Handle>>, BuildFault>
-    ensures { (p : Place) → HandsOn S.reply_to S.after S.node p (S.meaning sink.old) (Characters (string_bytes text)) line p (S.meaning sink.new) result }
+    ensures { (p : ReaderPlace) → HandsOn S.reply_to S.after S.node p (S.meaning sink.old) (Characters (string_bytes text)) line p (S.meaning sink.new) result }
 {
     let answer = ask(sink, Token::CharacterTokens(text), line)?;
     Ok(stop_of(answer))
@@ -77,15 +77,15 @@ pub fn hand_on_tag<S: TokenSink>(
 }
 
 /// What is complete, as a token. What is left is in no state of a text.
-pub fn take_token(machine: &mut Machine, construct: Construct) -> Result<Token, AllocError>
+pub fn take_token(machine: &mut Machine, construct: CurrentToken) -> Result<Token, AllocError>
     ensures token { IfOk result (λ token. token_text token ≡ made_of construct machine.old.parts) }
     ensures others { machine.new ≡ record machine.old { parts = machine.new.parts } }
 {
     match construct {
-        Construct::Null => Ok(Token::NullCharacterToken),
-        Construct::Tag => Ok(Token::TagToken(machine.take_tag()?)),
-        Construct::Comment => Ok(Token::CommentToken(machine.take_comment())),
-        Construct::Doctype => Ok(Token::DoctypeToken(machine.take_doctype())),
+        CurrentToken::Null => Ok(Token::NullCharacterToken),
+        CurrentToken::Tag => Ok(Token::TagToken(machine.take_tag()?)),
+        CurrentToken::Comment => Ok(Token::CommentToken(machine.take_comment())),
+        CurrentToken::Doctype => Ok(Token::DoctypeToken(machine.take_doctype())),
     }
 }
 
@@ -93,14 +93,14 @@ pub fn take_token(machine: &mut Machine, construct: Construct) -> Result<Token, 
 pub fn hand_on<S: TokenSink>(
     sink: &mut S,
     machine: &mut Machine,
-    construct: Construct,
+    construct: CurrentToken,
     line: u64,
 ) -> Result<Option<Stop<S::Handle>>, BuildFault>
-    requires { (kind : TextKind) × (machine.old.at ≡ At.Text (TextState.Text kind)) }
+    requires { (kind : TextKind) × (machine.old.at ≡ MachineState.Text (TextState.Text kind)) }
     ensures { HandsOn S.reply_to S.after S.node (place_of machine.old) (S.meaning sink.old) (made_of construct machine.old.parts) line
         (place_of machine.new) (S.meaning sink.new) result }
 {
-    if construct == Construct::Tag {
+    if construct == CurrentToken::Tag {
         let tag = machine.take_tag()?;
         return hand_on_tag(sink, machine, tag, line);
     }

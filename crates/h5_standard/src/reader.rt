@@ -6,7 +6,7 @@ ghost use Rattle.h5_standard.specs.Outcome.{Feeds};
 
 use super::steps::{Halt, read_piece};
 use h5_machine::Machine;
-use h5_markup::{Seen, literal};
+use h5_markup::{Match, literal};
 use h5_reading::{BufferQueue, Stage, TokenizerResult, result_of};
 use h5_token::{BuildFault, TokenSink};
 use std::alloc::Global;
@@ -19,7 +19,7 @@ pub struct Reader {
     // Whether a byte order mark may still come.
     pub at_start: bool,
     pub machine: Machine,
-    pub phase: Stage,
+    pub stage: Stage,
 }
 
 impl Model for Reader {
@@ -28,14 +28,14 @@ impl Model for Reader {
 
     ghost Value = { ReaderText };
 
-    ghost view = { λ r. record { at_start = r.at_start; place = place_of r.machine; stage = r.phase } };
+    ghost view = { λ r. record { at_start = r.at_start; place = place_of r.machine; stage = r.stage } };
 }
 
 impl Reader {
     pub fn stage(&self) -> Stage
         ensures { result ≡ self.now.stage }
     {
-        self.phase
+        self.stage
     }
 }
 
@@ -48,12 +48,12 @@ fn skip_mark<'a>(at_start: &mut bool, text: &'a str) -> &'a str
         return text;
     }
     match literal(text, "\u{feff}") {
-        Seen::Open => text,
-        Seen::No => {
+        Match::Open => text,
+        Match::No => {
             *at_start = false;
             text
         }
-        Seen::Found(_, rest) => {
+        Match::Found(_, rest) => {
             *at_start = false;
             rest
         }
@@ -70,19 +70,19 @@ pub fn read<S: TokenSink>(
     ensures { Feeds S.reply_to S.after S.is_foreign S.node reader.old (S.meaning sink.old) input.old reader.new (S.meaning sink.new) input.new result }
 {
     // Until the call has gone well.
-    reader.phase = Stage::Failed;
+    reader.stage = Stage::Failed;
     let mut buffer = mem::replace(input, BufferQueue::new(alloc));
     let piece = skip_mark(&mut reader.at_start, buffer.as_str());
     match read_piece(sink, &mut reader.machine, alloc, piece)? {
         Halt::Done => {
-            reader.phase = Stage::Reading;
+            reader.stage = Stage::Reading;
             Ok(TokenizerResult::Done)
         }
         Halt::Stops(stop, rest) => {
             let left = rest.as_bytes().len();
             buffer.keep(left);
             *input = buffer;
-            reader.phase = Stage::Reading;
+            reader.stage = Stage::Reading;
             Ok(result_of(stop))
         }
     }

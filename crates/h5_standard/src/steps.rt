@@ -2,18 +2,18 @@
 
 ghost use Rattle.std.specs.Prelude.{◌≡◌, ◌<◌, ◌⊎◌, ℕ, List, [], ◌∷◌, true, false, IfOk, OnOk, drop, length, slice_index, string_bytes};
 ghost use Rattle.h5_states.specs.ReferenceTable.{references};
-ghost use Rattle.h5_states.specs.Reading.{Place, deed, is_dropped};
+ghost use Rattle.h5_states.specs.Reading.{ReaderPlace, outcome, is_dropped};
 ghost use Rattle.h5_markup.specs.Bare.{IsBareTag};
 ghost use Rattle.h5_machine.specs.MachineText.{place_of, IsQuiet, PassesRun};
-ghost use Rattle.h5_machine.specs.declared.at.At.TheVariants as At;
-ghost use Rattle.h5_machine.specs.declared.at.TextState.TheVariants as TextState;
+ghost use Rattle.h5_machine.specs.declared.machine_state.MachineState.TheVariants as MachineState;
+ghost use Rattle.h5_machine.specs.declared.machine_state.TextState.TheVariants as TextState;
 ghost use Rattle.h5_states.specs.declared.kinds.TextKind.TheVariants as TextKind;
 ghost use Rattle.h5_standard.specs.Weight.{weight};
 ghost use Rattle.h5_machine.specs.Wide.{takes_wide};
-ghost use Rattle.h5_standard.specs.Steps.{Holds, Makes, Runs, IsLess, turn_of};
+ghost use Rattle.h5_standard.specs.Steps.{Holds, Makes, Runs, IsLess, progress_of};
 
 use super::handing::{hand_on, hand_on_tag, hand_on_text};
-use h5_machine::{Machine, Taken};
+use h5_machine::{Machine, Step};
 use h5_reading::Stop;
 use h5_token::{BuildFault, TagKind, TokenSink};
 use std::alloc::{AllocError, Global};
@@ -37,7 +37,7 @@ struct Emitted {
 
 impl Emitted {
     ghost use Rattle.std.specs.Prelude.{◌≡◌, ℕ, List, [], OnOk, string_bytes};
-    ghost use Rattle.h5_states.specs.Reading.{Place};
+    ghost use Rattle.h5_states.specs.Reading.{ReaderPlace};
     ghost use Rattle.h5_standard.specs.Steps.{Holds, Leads};
 
     fn new(alloc: Global, line: u64) -> Emitted
@@ -56,7 +56,7 @@ impl Emitted {
         sink: &mut S,
         line: u64,
     ) -> Result<Option<Stop<S::Handle>>, BuildFault>
-        ensures handed { (p q : Place) (m : S.Meaning) (xs ys : List ℕ)
+        ensures handed { (p q : ReaderPlace) (m : S.Meaning) (xs ys : List ℕ)
             → Holds S.reply_to S.after S.is_foreign p m xs (string_bytes self.old.text) self.old.line q (S.meaning sink.old) ys
             → Leads S.reply_to S.after S.is_foreign S.node p m xs q ys (S.meaning sink.new) result }
         ensures text { OnOk result (string_bytes self.new.text ≡ []) }
@@ -74,17 +74,17 @@ impl Emitted {
 
 // What a step comes to.
 #[derive(Drop)]
-enum Turn<'a, H> {
-    Goes(&'a str),
+enum Progress<'a, H> {
+    GoesOn(&'a str),
     Stops(Stop<H>, &'a str),
 }
 
-fn turn_of<'a, H: Drop>(stopped: Option<Stop<H>>, rest: &'a str) -> Turn<'a, H>
-    ensures { result ≡ turn_of stopped rest.entry }
+fn progress_of<'a, H: Drop>(stopped: Option<Stop<H>>, rest: &'a str) -> Progress<'a, H>
+    ensures { result ≡ progress_of stopped rest.entry }
 {
     match stopped {
-        Some(stop) => Turn::Stops(stop, rest),
-        None => Turn::Goes(rest),
+        Some(stop) => Progress::Stops(stop, rest),
+        None => Progress::GoesOn(rest),
     }
 }
 
@@ -106,30 +106,30 @@ fn byte_step<'a, S: TokenSink>(
     emitted: &mut Emitted,
     b: u8,
     rest: &'a str,
-) -> Result<Turn<'a, S::Handle>, BuildFault>
+) -> Result<Progress<'a, S::Handle>, BuildFault>
     requires front { rest.now ≡ b ∷ drop 1 rest.now }
     requires narrow { takes_wide machine.old.at ≡ true → b < 128 }
     requires quiet { is_dropped (place_of machine.old) b ≡ false
-        → IsQuiet (deed references (place_of machine.old) b) ⊎ (string_bytes emitted.old.text ≡ []) }
-    ensures makes { (p : Place) (m : S.Meaning) (xs : List ℕ)
+        → IsQuiet (outcome references (place_of machine.old) b) ⊎ (string_bytes emitted.old.text ≡ []) }
+    ensures makes { (p : ReaderPlace) (m : S.Meaning) (xs : List ℕ)
         → Holds S.reply_to S.after S.is_foreign p m xs (string_bytes emitted.old.text) emitted.old.line (place_of machine.old) (S.meaning sink.old) rest.now
         → Makes S.reply_to S.after S.is_foreign S.node p m xs (string_bytes emitted.new.text) emitted.new.line (place_of machine.new) (S.meaning sink.new) result }
     ensures less { IsLess (place_of machine.old) rest.now (place_of machine.new) result }
 {
     match machine.take(b, &mut emitted.text)? {
-        Taken::Reconsumed => Ok(Turn::Goes(rest)),
-        Taken::Consumed => Ok(Turn::Goes(behind_byte(rest))),
-        Taken::Hands(construct, line) => {
+        Step::Reconsumed => Ok(Progress::GoesOn(rest)),
+        Step::Consumed => Ok(Progress::GoesOn(behind_byte(rest))),
+        Step::Emitted(construct, line) => {
             let stopped = hand_on(sink, machine, construct, line)?;
             emitted.line = machine.began();
-            Ok(turn_of(stopped, behind_byte(rest)))
+            Ok(progress_of(stopped, behind_byte(rest)))
         }
-        Taken::Asks => {
+        Step::Asks => {
             if sink.adjusted_current_node_present_but_not_in_html_namespace() {
                 machine.begin_cdata_section();
             }
             emitted.line = machine.began();
-            Ok(Turn::Goes(behind_byte(rest)))
+            Ok(Progress::GoesOn(behind_byte(rest)))
         }
     }
 }
@@ -143,15 +143,15 @@ fn quiet_step<'a>(
 ) -> Result<&'a str, AllocError>
     requires front { rest.now ≡ b ∷ drop 1 rest.now }
     requires narrow { takes_wide machine.old.at ≡ true → b < 128 }
-    requires quiet { is_dropped (place_of machine.old) b ≡ false → IsQuiet (deed references (place_of machine.old) b) }
+    requires quiet { is_dropped (place_of machine.old) b ≡ false → IsQuiet (outcome references (place_of machine.old) b) }
     ensures passes { IfOk result (λ after. PassesRun machine.old rest.now (string_bytes out.old) (string_bytes out.new) machine.new after.now) }
     ensures less { IfOk result (λ after. weight (place_of machine.new) after.now < weight (place_of machine.old) rest.now) }
 {
     match machine.take(b, out)? {
-        Taken::Reconsumed => Ok(rest),
-        Taken::Consumed => Ok(behind_byte(rest)),
-        Taken::Hands(_, _) => unreachable!(),
-        Taken::Asks => unreachable!(),
+        Step::Reconsumed => Ok(rest),
+        Step::Consumed => Ok(behind_byte(rest)),
+        Step::Emitted(_, _) => unreachable!(),
+        Step::Asks => unreachable!(),
     }
 }
 
@@ -186,11 +186,11 @@ fn bare_step<'a, S: TokenSink>(
     name: &str,
     rest: &'a str,
     after: &'a str,
-) -> Result<Turn<'a, S::Handle>, BuildFault>
-    requires data { machine.old.at ≡ At.Text (TextState.Text TextKind.Data) }
+) -> Result<Progress<'a, S::Handle>, BuildFault>
+    requires data { machine.old.at ≡ MachineState.Text (TextState.Text TextKind.Data) }
     requires tag { IsBareTag rest.now kind name.now after.now }
     requires none { string_bytes emitted.old.text ≡ [] }
-    ensures makes { (p : Place) (m : S.Meaning) (xs : List ℕ)
+    ensures makes { (p : ReaderPlace) (m : S.Meaning) (xs : List ℕ)
         → Holds S.reply_to S.after S.is_foreign p m xs (string_bytes emitted.old.text) emitted.old.line (place_of machine.old) (S.meaning sink.old) rest.now
         → Makes S.reply_to S.after S.is_foreign S.node p m xs (string_bytes emitted.new.text) emitted.new.line (place_of machine.new) (S.meaning sink.new) result }
     ensures less { IsLess (place_of machine.old) rest.now (place_of machine.new) result }
@@ -200,7 +200,7 @@ fn bare_step<'a, S: TokenSink>(
     let tag = machine.pass_bare(kind, name)?;
     let stopped = hand_on_tag(sink, machine, tag, line)?;
     emitted.line = machine.began();
-    Ok(turn_of(stopped, after))
+    Ok(progress_of(stopped, after))
 }
 
 // One step, off a rest that isn't empty: all up to what may be handed on, and that.
@@ -209,19 +209,19 @@ fn step<'a, S: TokenSink>(
     machine: &mut Machine,
     emitted: &mut Emitted,
     rest: &'a str,
-) -> Result<Turn<'a, S::Handle>, BuildFault>
+) -> Result<Progress<'a, S::Handle>, BuildFault>
     requires { 0 < length rest.now }
-    ensures makes { (p : Place) (m : S.Meaning) (xs : List ℕ)
+    ensures makes { (p : ReaderPlace) (m : S.Meaning) (xs : List ℕ)
         → Holds S.reply_to S.after S.is_foreign p m xs (string_bytes emitted.old.text) emitted.old.line (place_of machine.old) (S.meaning sink.old) rest.now
         → Makes S.reply_to S.after S.is_foreign S.node p m xs (string_bytes emitted.new.text) emitted.new.line (place_of machine.new) (S.meaning sink.new) result }
     ensures less { IsLess (place_of machine.old) rest.now (place_of machine.new) result }
 {
     let rest = pass(machine, &mut emitted.text, rest)?;
     let Some(b) = rest.as_bytes().first() else {
-        return Ok(Turn::Goes(rest));
+        return Ok(Progress::GoesOn(rest));
     };
     if let Some(stop) = emitted.hand_on(sink, machine.began())? {
-        return Ok(Turn::Stops(stop, rest));
+        return Ok(Progress::Stops(stop, rest));
     }
     if let Some((kind, name, after)) = machine.find_bare(rest) {
         return bare_step(sink, machine, emitted, kind, name, rest, after);
@@ -242,12 +242,12 @@ pub fn read_piece<'a, S: TokenSink>(
     let mut rest = piece;
     'steps: while !rest.is_empty() {
         match step(sink, machine, &mut emitted, rest)? {
-            Turn::Goes(after) => {
+            Progress::GoesOn(after) => {
                 // That it is text holds for the loop's next turn.
                 let _bytes = after.as_bytes();
                 rest = after;
             }
-            Turn::Stops(stop, after) => return Ok(Halt::Stops(stop, after)),
+            Progress::Stops(stop, after) => return Ok(Halt::Stops(stop, after)),
         }
     }
     match emitted.hand_on(sink, machine.began())? {

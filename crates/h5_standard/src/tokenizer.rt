@@ -57,7 +57,7 @@ impl<Sink: TokenSink> Tokenizer<Sink> {
             reader: Reader {
                 at_start: discard_bom,
                 machine: Machine::new(alloc, text_of(initial_state), LastName::given(last)),
-                phase: Stage::Reading,
+                stage: Stage::Reading,
             },
             alloc,
         }
@@ -106,9 +106,9 @@ impl<Sink: TokenSink> Tokenizer<Sink> {
             Stage::Failed => Err(BuildFault::Failed),
             Stage::Ended => Err(BuildFault::AfterEnd),
             Stage::Reading => {
-                self.reader.phase = Stage::Failed;
+                self.reader.stage = Stage::Failed;
                 close(&mut self.sink, &mut self.reader.machine, self.alloc)?;
-                self.reader.phase = Stage::Ended;
+                self.reader.stage = Stage::Ended;
                 Ok(())
             }
         }

@@ -8,6 +8,7 @@ pub mod RenewLaws
 pub mod ReplacedLaws
 pub mod SeenLaws
 pub mod StackLaws
+pub mod StampLaws
 pub mod StepLaws
 pub mod SummaryLaws
 pub mod TextLaws

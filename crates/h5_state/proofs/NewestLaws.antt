@@ -11,7 +11,7 @@ use Rattle.std.proofs.lemmas.Slice.Eq.{bytes_eq-Decides}
 use Rattle.h5_names.specs.AttributeText.{is_same_text}
 use Rattle.h5_names.proofs.KnownNameLemmas.{same_tests}
 use Rattle.h5_rules.specs.stack.Closing.{is_html_among}
-use Rattle.h5_tag_sets.specs.TagSets.{html_namespace, is_html_named, is_one_of}
+use Rattle.h5_tables.specs.TagSets.{html_namespace, is_html_named, is_one_of}
 use Rattle.h5_state.specs.Newest.{is_foreign_named, newer_of, newest_where, oldest_where, place_before}
 use Rattle.h5_state.specs.Numbers.{foreign_number, html_number, name_number}
 use Rattle.h5_state.specs.declared.name_numbers.NameNumbers.{NameNumbers}
@@ -24,10 +24,6 @@ newest_le is (n ∷ ns) = at (is n) (newest_le is ns)
     at : (b : Bool) → newest_where is ns ≤ length ns → cond b (length ns + 1) (newest_where is ns) ≤ suc (length ns)
     at true h = omega arith
     at false h = omega (arith, h)
-
--- the first, or one of the others
-pub newest_first : (is : QualName → Bool) (n : QualName) (older : List QualName) → is n ≡ true → newest_where is (n ∷ older) ≡ length (n ∷ older)
-newest_first is n older h = ap (λ b. cond b (length older + 1) (newest_where is older)) h ∙ omega arith
 
 pub newest_later : (is : QualName → Bool) (n : QualName) (older : List QualName) → is n ≡ false → newest_where is (n ∷ older) ≡ newest_where is older
 newest_later is n older h = ap (λ b. cond b (length older + 1) (newest_where is older)) h

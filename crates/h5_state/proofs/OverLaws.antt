@@ -11,7 +11,7 @@ use Rattle.h5_interface.specs.NewElement.{is_html_template}
 use Rattle.h5_rules.specs.World.{name_in}
 use Rattle.h5_rules.specs.fitting.NamesFit.{is_html_element}
 use Rattle.h5_rules.specs.stack.Closing.{ends_item_search}
-use Rattle.h5_tag_sets.specs.TagSets.{is_body_end_ok, is_button_scope, is_default_scope, is_html_named, is_special}
+use Rattle.h5_tables.specs.TagSets.{is_body_end_ok, is_button_scope, is_default_scope, is_html_named, is_special}
 use Rattle.h5_state.specs.Summaries.{all_open, summaries, summary_of}
 use Rattle.h5_state.specs.View.{IsKeptOver, open_node}
 use Rattle.h5_state.specs.declared.open_element.AllOpen.{AllOpen}

@@ -9,6 +9,7 @@ use Rattle.h5_rules.proofs.entries.PairLaws.{in_left, in_right}
 use Rattle.h5_stack.specs.Numbered.{Numbered, numbers, one_of, values}
 use Rattle.h5_state.specs.Numbers.{name_number}
 use Rattle.h5_state.specs.Replaced.{AreNumbered, IsPut, StayNumbered, names_in}
+use Rattle.h5_state.specs.Stamps.{OpenStamp, stamp_of}
 use Rattle.h5_state.specs.Summaries.{summaries, summary_of}
 use Rattle.h5_state.specs.View.{elements_of, open_node, stack_over, stack_under}
 use Rattle.h5_state.specs.declared.name_numbers.NameNumbers.{NameNumbers}
@@ -32,7 +33,7 @@ in_order {H} node f N xs =
     ap (λ z. map (name_number N) (map (name_in f) z)) (sym (reversed (open_node node) xs)) ∙ ap (map (name_number N)) (map-map (name_in f) (open_node node) (reverse xs))
     ∙ map-map (name_number N) (λ (x : OpenElement H). name_in f (node x.handle)) (reverse xs) ∙ reversed (λ (x : OpenElement H). name_number N (name_in f (node x.handle))) xs
 
-module _ {H : Type 0} (node : H → ℕ) (f : Forest) (old new : OpenElements H) (n place : ℕ) (inside : place < length (values old.elements)) (p : IsPut node f n place old new) where
+module _ {H : Type 0} {stamp : ℕ} (node : H → ℕ) (f : Forest) (old new : OpenElements H) (n place : ℕ) (inside : place < length (values old.elements)) (p : IsPut node f n place stamp old new) where
   all_put : values new.elements ≡ set (values old.elements) place p.element
   all_put = values_set old.elements new.elements place p.number p.element p.elements
 
@@ -40,6 +41,13 @@ module _ {H : Type 0} (node : H → ℕ) (f : Forest) (old new : OpenElements H)
   put_low =
       ap (λ xs. map (open_node node) (take (place + 1) xs)) all_put ∙ ap (map (open_node node)) (take_more_set (values old.elements) place p.element inside)
       ∙ map-append (open_node node) (take place (values old.elements)) (p.element ∷ []) ∙ ap (λ m. map (open_node node) (take place (values old.elements)) ++ m ∷ []) p.here
+
+  pub put_stamp : map (λ (o : OpenElement H). stamp_of node o) (take (place + 1) (values new.elements)) ≡ map (λ (o : OpenElement H). stamp_of node o) (take place (values old.elements)) ++ record { node = n; stamp = stamp } ∷ []
+  put_stamp =
+      let view = λ (o : OpenElement H). stamp_of node o in
+      let here : view p.element ≡ record { node = n; stamp = stamp } = ap (λ (m : ℕ). (let s : OpenStamp = record { node = m; stamp = p.element.stamp } in s)) p.here ∙ ap (λ (k : ℕ). (let s : OpenStamp = record { node = n; stamp = k } in s)) p.stamped in
+      ap (λ xs. map view (take (place + 1) xs)) all_put ∙ ap (map view) (take_more_set (values old.elements) place p.element inside)
+      ∙ map-append view (take place (values old.elements)) (p.element ∷ []) ∙ ap (λ m. map view (take place (values old.elements)) ++ m ∷ []) here
 
   pub put_high : drop (place + 1) (values new.elements) ≡ drop (place + 1) (values old.elements)
   put_high = ap (drop (place + 1)) all_put ∙ drop-set-lt (place + 1) (values old.elements) place p.element (omega arith)

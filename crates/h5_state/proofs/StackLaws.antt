@@ -2,7 +2,7 @@
 use Rattle.std.proofs.Common.{◌≡◌, ◌-◌, ◌+◌, ◌<◌, ◌≤◌, ℕ, zero, suc, get_or, take, length-append, Bool, true, false, cond, List, [], ◌∷◌, ◌++◌, length, map, reverse, Option, None, Some, inl, codes, refl, ap, sym, subst, ◌∙◌, arith}
 use Rattle.std.specs.Prelude.{slice_get, unwrap_or}
 use Rattle.h5_names.specs.declared.qualified.QualName.{QualName}
-use Rattle.h5_tag_sets.specs.TagSets.{html_namespace, is_html_named}
+use Rattle.h5_tables.specs.TagSets.{html_namespace, is_html_named}
 use Rattle.h5_interface.specs.NewElement.{is_html_template}
 use Rattle.h5_rules.specs.formatting.FormattingList.{Entry}
 use Rattle.h5_rules.specs.stack.Order.{IsIn}

@@ -17,8 +17,9 @@ unfolding world names_of
 sound_rearranged law old new state k r = record {
   sound = all_rearranged _ _ _ k.sound r;
   kept = subst (IsKept state.open_elems) (sym (names_kept (world_of law old state) (law.sees new).forest k.sound r)) k.kept;
+  stamped = k.stamped;
 }
 
 -- the sink changed, but for what is seen of it
 pub sound_told : {S H O : Type 0} (law : Ghosts S H O) (old new : S) (state : State H) → world_of law new state ≡ world_of law old state → IsSound law old state → IsSound law new state
-sound_told law old new state e k = record { sound = subst Sound (sym e) k.sound; kept = subst (λ (w : World). IsKept state.open_elems (names_of w)) (sym e) k.kept }
+sound_told law old new state e k = record { sound = subst Sound (sym e) k.sound; kept = subst (λ (w : World). IsKept state.open_elems (names_of w)) (sym e) k.kept; stamped = k.stamped }

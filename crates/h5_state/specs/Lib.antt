@@ -2,6 +2,7 @@ pub mod Newest
 pub mod Numbers
 pub mod OpenPlaces
 pub mod Replaced
+pub mod Stamps
 pub mod Steps
 pub mod Summaries
 pub mod Turn

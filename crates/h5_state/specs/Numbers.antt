@@ -9,7 +9,7 @@ use Rattle.h5_names.specs.contracts.known_name.KnownName.{the_type}
 use Rattle.h5_names.specs.declared.known_name.KnownName.TheVariants.{Other}
 use Rattle.h5_names.specs.declared.qualified.QualName.{QualName}
 use Rattle.h5_stack.specs.Numbering.{number_of}
-use Rattle.h5_tag_sets.specs.TagSets.{html_namespace}
+use Rattle.h5_tables.specs.TagSets.{html_namespace}
 use Rattle.h5_state.specs.declared.name_numbers.NameNumbers.{NameNumbers}
 
 -- the number of the HTML elements of a local name: that of the name which HTML knows, or else an even one by its text, if

@@ -23,11 +23,12 @@ AreNumbered node f open_elems = map Some (reverse (numbers open_elems.elements))
 abbrev pub StayNumbered : NameNumbers → NameNumbers → Type 0
 StayNumbered old new = (name : QualName) (number : ℕ) → name_number old name ≡ Some number → name_number new name ≡ Some number
 
--- a node stands at a place, with its number, and with what is kept of it above those that are older
-pub record IsPut {H : Type 0} (node : H → ℕ) (f : Forest) (n place : ℕ) (old new : OpenElements H) : Type 0 where
+-- a node stands at a place, with its number and a stamp, and with what is kept of it above those that are older
+pub record IsPut {H : Type 0} (node : H → ℕ) (f : Forest) (n place stamp : ℕ) (old new : OpenElements H) : Type 0 where
   pub element : OpenElement H
   pub number : ℕ
   pub elements : new.elements ≡ slice_set old.elements place (one_of number element)
   pub here : node element.handle ≡ n
+  pub stamped : element.stamp ≡ stamp
   pub summary : element.summary ≡ summary_of (name_in f n) (names_in node f (take place (values old.elements)))
   pub numbered : name_number new.numbers (name_in f n) ≡ Some number

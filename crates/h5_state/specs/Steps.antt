@@ -5,6 +5,7 @@ use Rattle.h5_interface.specs.declared.sink.TreeSink.{Ghosts}
 use Rattle.h5_rules.specs.Rows.{Change, apply}
 use Rattle.h5_rules.specs.Sound.{Sound}
 use Rattle.h5_rules.specs.World.{World, names_of}
+use Rattle.h5_state.specs.Stamps.{AreStamped}
 use Rattle.h5_state.specs.Summaries.{IsKept}
 use Rattle.h5_state.specs.View.{world}
 use Rattle.h5_state.specs.declared.state.State.{State}
@@ -17,10 +18,12 @@ world_of law sink state = world law.sees law.node sink state
 abbrev pub errors_of : {S H O : Type 0} → Ghosts S H O → S → ℕ
 errors_of law sink = (law.sees sink).errors
 
--- what holds at every moment: of the world, and that what is kept beside the open elements is what their names say
+-- what holds at every moment: of the world, that what is kept beside the open elements is what their names say, and that
+-- the stamps are right
 pub record IsSound {S H O : Type 0} (law : Ghosts S H O) (sink : S) (state : State H) : Type 0 where
   pub sound : Sound (world_of law sink state)
   pub kept : IsKept state.open_elems (names_of (world_of law sink state))
+  pub stamped : AreStamped law.node state.open_elems state.active_formatting
 
 -- and an element is open
 pub record IsOpen {S H O : Type 0} (law : Ghosts S H O) (sink : S) (state : State H) : Type 0 where

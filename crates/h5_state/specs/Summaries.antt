@@ -4,10 +4,10 @@ use Rattle.std.specs.List.{count_by}
 use Rattle.h5_names.specs.declared.qualified.QualName.{QualName}
 use Rattle.h5_interface.specs.NewElement.{is_html_template}
 use Rattle.h5_stack.specs.Numbered.{numbers, values}
-use Rattle.h5_tag_sets.specs.NameSets.{has_flag}
-use Rattle.h5_tag_sets.specs.TagSets.{is_body_end_ok, is_button_scope, is_default_scope, is_html_named, is_implied, is_special}
-use Rattle.h5_tag_sets.specs.declared.name_sets.NameSet.TheVariants as set
-use Rattle.h5_tag_sets.specs.declared.name_sets.NameSets.{NameSets}
+use Rattle.h5_tables.specs.NameSets.{has_flag}
+use Rattle.h5_tables.specs.TagSets.{is_body_end_ok, is_button_scope, is_default_scope, is_html_named, is_implied, is_special}
+use Rattle.h5_tables.specs.declared.name_sets.NameSet.TheVariants as set
+use Rattle.h5_tables.specs.declared.name_sets.NameSets.{NameSets}
 use Rattle.h5_rules.specs.fitting.NamesFit.{is_html_element}
 use Rattle.h5_rules.specs.stack.Closing.{ends_item_search}
 use Rattle.h5_rules.specs.stack.Scope.{has_body_in_scope, has_p_in_button_scope, has_unclosed}

@@ -4,12 +4,12 @@ use Rattle.std.specs.declared.alloc.AllocError.{AllocError}
 use Rattle.h5_token.specs.TokenText.{TagText, tag_text}
 use Rattle.h5_token.specs.declared.tag.Tag.{Tag}
 use Rattle.h5_interface.specs.declared.sink.TreeSink.{Ghosts}
-use Rattle.h5_types.specs.TurnResult.{TurnResult}
-use Rattle.h5_types.specs.TurnResult as results
-use Rattle.h5_types.specs.TurnText.{TagTurn, TurnText, turn_text}
-use Rattle.h5_types.specs.declared.turns.ProcessResult.{ProcessResult}
-use Rattle.h5_types.specs.declared.turns.ProcessResult.TheVariants as ended
-use Rattle.h5_types.specs.declared.turns.Token.{Token}
+use Rattle.h5_tables.specs.TurnResult.{TurnResult}
+use Rattle.h5_tables.specs.TurnResult as results
+use Rattle.h5_tables.specs.TurnText.{TagTurn, TurnText, turn_text}
+use Rattle.h5_tables.specs.declared.turns.ProcessResult.{ProcessResult}
+use Rattle.h5_tables.specs.declared.turns.ProcessResult.TheVariants as ended
+use Rattle.h5_tables.specs.declared.turns.Token.{Token}
 use Rattle.h5_rules.specs.Rows.{Follows, Row}
 use Rattle.h5_rules.specs.World.{World}
 use Rattle.h5_state.specs.Steps.{Becomes, IsSound, errors_of, world_of}

@@ -7,6 +7,7 @@ use Rattle.h5_rules.specs.World.{World, name_in}
 use Rattle.h5_stack.specs.Numbered.{values}
 use Rattle.h5_list.specs.Listed.{entries_of}
 use Rattle.h5_state.specs.Summaries.{summaries}
+use Rattle.h5_state.specs.declared.open_element.Listed.{Listed}
 use Rattle.h5_state.specs.declared.open_element.OpenElement.{OpenElement}
 use Rattle.h5_state.specs.declared.open_element.Summary.{Summary}
 use Rattle.h5_state.specs.declared.state.State.{State}
@@ -14,6 +15,10 @@ use Rattle.h5_state.specs.declared.state.State.{State}
 -- the node of an open element
 abbrev pub open_node : {H : Type 0} → (H → ℕ) → OpenElement H → ℕ
 open_node node element = node element.handle
+
+-- that of a listed one
+abbrev pub listed_node : {H : Type 0} → (H → ℕ) → Listed H → ℕ
+listed_node node listed = node listed.handle
 
 -- the open elements, the oldest first
 abbrev pub elements_of : {H : Type 0} → State H → List (OpenElement H)
@@ -31,7 +36,7 @@ world sees node sink state = record {
   pending = state.pending_table_text;
   quirks = state.quirks_mode;
   stack = reverse (map (open_node node) (elements_of state));
-  formatting = entries_of node state.active_formatting;
+  formatting = entries_of (listed_node node) state.active_formatting;
   head = option_map node state.head_elem;
   form = option_map node state.form_elem;
   frameset_ok = state.frameset_ok;

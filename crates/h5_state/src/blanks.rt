@@ -7,7 +7,7 @@ ghost use Rattle.h5_state.specs.Steps.{IsSound, Makes};
 
 use super::state::State;
 use h5_interface::TreeSink;
-use h5_types::{InsertionMode, SplitStatus};
+use h5_tables::{InsertionMode, SplitStatus};
 
 fn is_blank_byte(b: u8) -> bool
     ensures { result ≡ is_blank b }

@@ -4,8 +4,8 @@ ghost use Rattle.h5_state.specs.Steps.{TellsErrors, errors_of};
 
 use super::state::State;
 use h5_interface::TreeSink;
+use h5_tables::Token;
 use h5_token::{Tag, TagKind};
-use h5_types::Token;
 use std::alloc::AllocError;
 
 /// Tells the sink of a parse error. Nothing else changes.

@@ -1,19 +1,21 @@
 //! An open element is looked for in the stack by its handle.
-ghost use Rattle.std.specs.Prelude.{◌≡◌, ◌<◌, ◌+◌, ◌∷◌, MatchOption, Some, is_some, length};
+ghost use Rattle.std.specs.Prelude.{◌≡◌, ◌<◌, ◌+◌, ◌∷◌, ℕ, false, true, MatchOption, Some, is_some, length};
 ghost use Rattle.h5_interface.specs.Forest.{IsElement};
-ghost use Rattle.h5_tag_sets.specs.TagSets.{is_default_scope};
+ghost use Rattle.h5_tables.specs.TagSets.{is_default_scope};
 ghost use Rattle.h5_rules.specs.stack.Order.{IsIn, is_in};
 ghost use Rattle.h5_rules.specs.stack.Scope.{node_in_scope};
 ghost use Rattle.h5_rules.specs.World.{name_in, names_of};
 ghost use Rattle.h5_state.specs.Numbers.{name_number};
 ghost use Rattle.h5_state.specs.OpenPlaces.{IsOpenAt};
+ghost use Rattle.h5_state.specs.Stamps.{IsAbove, stamps_of};
 ghost use Rattle.h5_state.specs.Steps.{IsSound, world_of};
 ghost use Rattle.h5_state.specs.View.{stack_under};
 
+use super::open_element::Listed;
 use super::open_elems::{open_at, open_count};
 use super::state::State;
 use h5_interface::TreeSink;
-use h5_tag_sets::default_scope;
+use h5_tables::default_scope;
 
 /// The handle of the open element at a place.
 #[tactic(auto, unfolding(crate::specs::View::world, crate::specs::View::stack_under))]
@@ -30,18 +32,30 @@ pub fn handle_at<'a, S: TreeSink>(
     &state.open_elems.elements.get(place).handle
 }
 
+// Whether the open element at a place has a lower stamp than this one: then an element that is above all that have isn't open
+// there, nor below.
+#[tactic(auto, unfolding(crate::specs::View::world, crate::specs::View::stack_under))]
+fn is_lower<S: TreeSink>(sink: &S, state: &State<S::Handle>, place: usize, since: u32) -> bool
+    requires { place < length (world_of S.TreeSink sink.now state.now).stack }
+    ensures { (n : ℕ) → IsAbove n since (stamps_of S.node state.now.open_elems) → result ≡ true → is_in n (stack_under S.node state.now (place + 1)) ≡ false }
+{
+    state.open_elems.elements.get(place).stamp < since
+}
+
 // So few open elements are all compared with one: it takes less than to ask for its name and the number of that.
 const FEW: usize = 16;
 
-// Where an element is open; the walk begins at the current node.
+// Where an element is open; the walk begins at the current node, and ends where an element has a lower stamp than this one.
 #[tactic(auto, using(h5_rules::proofs::changes::SoundLaws::element_is_node))]
 fn find_among_all<S: TreeSink>(
     sink: &S,
     state: &State<S::Handle>,
     handle: &S::Handle,
+    since: u32,
 ) -> Option<usize>
     requires sound { IsSound S.TreeSink sink.now state.now }
     requires element { IsElement (S.sees sink.now).forest (S.node handle.now) }
+    requires above { IsAbove (S.node handle.now) since (stamps_of S.node state.now.open_elems) }
     ensures found { is_some result ≡ is_in (S.node handle.now) (world_of S.TreeSink sink.now state.now).stack }
     ensures place { MatchOption result (Unit {0}) (λ place. IsOpenAt (S.node handle.now) place (world_of S.TreeSink sink.now state.now)) }
     ensures inside { MatchOption result (Unit {0}) (λ place. place < length (world_of S.TreeSink sink.now state.now).stack) }
@@ -52,22 +66,27 @@ fn find_among_all<S: TreeSink>(
         if sink.same_node(handle_at(sink, state, place), handle) {
             return Some(place);
         }
+        if is_lower(sink, state, place, since) {
+            return None;
+        }
     }
     None
 }
 
 // Where an element is open whose name has this number: the walk goes from the newest open element of the number to ever
-// older ones.
+// older ones, and ends where one has a lower stamp than this one.
 #[tactic(auto, using(h5_rules::proofs::changes::SoundLaws::element_is_node))]
 fn find_numbered<S: TreeSink>(
     sink: &S,
     state: &State<S::Handle>,
     handle: &S::Handle,
     number: u32,
+    since: u32,
 ) -> Option<usize>
     requires sound { IsSound S.TreeSink sink.now state.now }
     requires element { IsElement (S.sees sink.now).forest (S.node handle.now) }
     requires number { name_number state.now.open_elems.numbers (name_in (S.sees sink.now).forest (S.node handle.now)) ≡ Some number }
+    requires above { IsAbove (S.node handle.now) since (stamps_of S.node state.now.open_elems) }
     ensures found { is_some result ≡ is_in (S.node handle.now) (world_of S.TreeSink sink.now state.now).stack }
     ensures place { MatchOption result (Unit {0}) (λ place. IsOpenAt (S.node handle.now) place (world_of S.TreeSink sink.now state.now)) }
     ensures inside { MatchOption result (Unit {0}) (λ place. place < length (world_of S.TreeSink sink.now state.now).stack) }
@@ -78,9 +97,38 @@ fn find_numbered<S: TreeSink>(
         if sink.same_node(handle_at(sink, state, place), handle) {
             return Some(place);
         }
+        if is_lower(sink, state, place, since) {
+            return None;
+        }
         next = state.open_elems.elements.older(place);
     }
     None
+}
+
+// Where an element is open, that is above all elements which have a lower stamp than this one. Where many are open, only
+// those that share the number of its name are compared with it.
+fn find_since<S: TreeSink>(
+    sink: &S,
+    state: &State<S::Handle>,
+    handle: &S::Handle,
+    since: u32,
+) -> Option<usize>
+    requires sound { IsSound S.TreeSink sink.now state.now }
+    requires element { IsElement (S.sees sink.now).forest (S.node handle.now) }
+    requires above { IsAbove (S.node handle.now) since (stamps_of S.node state.now.open_elems) }
+    ensures found { is_some result ≡ is_in (S.node handle.now) (world_of S.TreeSink sink.now state.now).stack }
+    ensures place { MatchOption result (Unit {0}) (λ place. IsOpenAt (S.node handle.now) place (world_of S.TreeSink sink.now state.now)) }
+    ensures inside { MatchOption result (Unit {0}) (λ place. place < length (world_of S.TreeSink sink.now state.now).stack) }
+{
+    if open_count(sink, state) <= FEW {
+        return find_among_all(sink, state, handle, since);
+    }
+    match state.open_elems.numbers.find(sink.elem_name(handle)) {
+        Ok(Some(number)) => find_numbered(sink, state, handle, number, since),
+        Ok(None) => None,
+        // Without memory for the name in lower case.
+        Err(_) => find_among_all(sink, state, handle, since),
+    }
 }
 
 /// Where an element is open, counted from the root. Where many are, only those that share the number of its name are compared
@@ -96,15 +144,24 @@ pub fn find_open<S: TreeSink>(
     ensures place { MatchOption result (Unit {0}) (λ place. IsOpenAt (S.node handle.now) place (world_of S.TreeSink sink.now state.now)) }
     ensures inside { MatchOption result (Unit {0}) (λ place. place < length (world_of S.TreeSink sink.now state.now).stack) }
 {
-    if open_count(sink, state) <= FEW {
-        return find_among_all(sink, state, handle);
-    }
-    match state.open_elems.numbers.find(sink.elem_name(handle)) {
-        Ok(Some(number)) => find_numbered(sink, state, handle, number),
-        Ok(None) => None,
-        // Without memory for the name in lower case.
-        Err(_) => find_among_all(sink, state, handle),
-    }
+    find_since(sink, state, handle, 0)
+}
+
+/// Where an element is open that is listed as a formatting element, counted from the root. It isn't sought below an element
+/// that has a lower stamp: so it takes few steps where it is closed.
+pub fn find_listed<S: TreeSink>(
+    sink: &S,
+    state: &State<S::Handle>,
+    listed: &Listed<S::Handle>,
+) -> Option<usize>
+    requires sound { IsSound S.TreeSink sink.now state.now }
+    requires element { IsElement (S.sees sink.now).forest (S.node listed.now.handle) }
+    requires above { IsAbove (S.node listed.now.handle) listed.now.stamp (stamps_of S.node state.now.open_elems) }
+    ensures found { is_some result ≡ is_in (S.node listed.now.handle) (world_of S.TreeSink sink.now state.now).stack }
+    ensures place { MatchOption result (Unit {0}) (λ place. IsOpenAt (S.node listed.now.handle) place (world_of S.TreeSink sink.now state.now)) }
+    ensures inside { MatchOption result (Unit {0}) (λ place. place < length (world_of S.TreeSink sink.now state.now).stack) }
+{
+    find_since(sink, state, &listed.handle, listed.stamp)
 }
 
 /// Whether this element is open and in scope.

@@ -33,11 +33,11 @@ mod turn;
 
 pub use blanks::{first_run, is_blank_text, set_frameset_ok_by_text};
 pub use errors::{tell_error, unexpected, unexpected_tag};
-pub use find::{find_open, handle_at, is_node_in_scope};
+pub use find::{find_listed, find_open, handle_at, is_node_in_scope};
 pub use name_numbers::NameNumbers;
 pub use name_test::{FosterParent, Known, Local, NameTest, NewestTest, Nothing};
 pub use newest::{newest_among, newest_foreign, newest_html, newest_named, newest_scope_end};
-pub use open_element::{AllOpen, OpenElement, OpenElements, Summary};
+pub use open_element::{AllOpen, Listed, OpenElement, OpenElements, Summary};
 pub use open_elems::{
     all_open, check_body_end, find_named, generate_implied_end_except, has_body_in_scope,
     has_body_second, has_open_template, has_p_in_button_scope, is_current, is_current_html,
@@ -51,8 +51,8 @@ pub use replace::replace_open;
 pub use scopes::{find_before_special, find_in_scope, in_scope_named};
 pub use state::{State, Turn};
 pub use steps::{
-    current_mode, current_node, has_form, has_srcdoc, is_fragment, is_frameset_ok, is_in_quirks,
-    is_scripting, is_select_context, mark_started, pop, save_mode, saved_mode, set_foster,
-    set_frameset_not_ok, set_ignore_lf, set_mode, set_quirks_mode, take_form,
+    current_listed, current_mode, current_node, has_form, has_srcdoc, is_fragment, is_frameset_ok,
+    is_in_quirks, is_scripting, is_select_context, mark_started, pop, save_mode, saved_mode,
+    set_foster, set_frameset_not_ok, set_ignore_lf, set_mode, set_quirks_mode, take_form,
 };
 pub use turn::{set_again, set_answer, take_again, take_answer};

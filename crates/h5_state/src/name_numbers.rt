@@ -102,7 +102,7 @@ impl NameNumbers {
     }
 
     /// The number of a name, if it has one. It is refused where memory is.
-    #[tactic(auto, unfolding(crate::specs::Numbers::name_number, h5_tag_sets::specs::TagSets::html_namespace))]
+    #[tactic(auto, unfolding(crate::specs::Numbers::name_number, h5_tables::specs::TagSets::html_namespace))]
     pub fn find(&self, name: &QualName) -> Result<Option<u32>, AllocError>
         ensures { IfOk result (λ number. number ≡ name_number self.now name.now) }
     {
@@ -140,7 +140,7 @@ impl NameNumbers {
     }
 
     /// The number of a name, which gets one where it has none. All others keep theirs. It is refused where memory is.
-    #[tactic(auto, unfolding(crate::specs::Numbers::name_number, h5_tag_sets::specs::TagSets::html_namespace))]
+    #[tactic(auto, unfolding(crate::specs::Numbers::name_number, h5_tables::specs::TagSets::html_namespace))]
     pub fn number(&mut self, name: &QualName) -> Result<u32, AllocError>
         ensures ok { IfOk result (λ number. name_number self.new name.now ≡ Some number) }
         ensures stay { (name : NameText) (number : ℕ) → name_number self.old name ≡ Some number → name_number self.new name ≡ Some number }

@@ -2,7 +2,7 @@
 ghost use Rattle.std.specs.Prelude.{◌≡◌, ◌<◌, ◌+◌, Bool, false, length};
 ghost use Rattle.h5_names.specs.declared.qualified.QualName.{QualName as NameText};
 ghost use Rattle.h5_names.specs.KnownNames.{name_text};
-ghost use Rattle.h5_tag_sets.specs.TagSets.{is_html_named};
+ghost use Rattle.h5_tables.specs.TagSets.{is_html_named};
 ghost use Rattle.h5_rules.specs.insertion.Place.{is_foster_parent};
 ghost use Rattle.h5_rules.specs.stack.Scope.{first_passes, is_implied_but};
 ghost use Rattle.h5_rules.specs.World.{names_of};
@@ -15,7 +15,7 @@ use super::open_elems::{is_named, name_at, open_at};
 use super::state::State;
 use h5_interface::TreeSink;
 use h5_names::{KnownName, LocalName, QualName};
-use h5_tag_sets::{cursory_implied_end, is_html_known, is_html_local};
+use h5_tables::{cursory_implied_end, is_html_known, is_html_local};
 
 /// A question about the name of an element.
 pub trait NameTest {

@@ -2,7 +2,7 @@
 //! where none is open.
 ghost use Rattle.std.specs.Prelude.{◌≡◌, IfOk, map};
 ghost use Rattle.h5_names.specs.KnownNames.{name_text};
-ghost use Rattle.h5_tag_sets.specs.TagSets.{is_default_scope, is_html_named};
+ghost use Rattle.h5_tables.specs.TagSets.{is_default_scope, is_html_named};
 ghost use Rattle.h5_rules.specs.stack.Closing.{is_html_among};
 ghost use Rattle.h5_rules.specs.World.{names_of};
 ghost use Rattle.h5_rules.specs.fitting.NamesFit.{is_html_element};

@@ -2,14 +2,14 @@
 //! them (HTML standard, section 13.2.4.2, "The stack of open elements").
 ghost use Rattle.std.specs.Prelude.{◌≡◌, ◌==◌, ◌&&◌, ◌<◌, ◌≤◌, ◌+◌, ◌^◌, ◌∷◌, if◌then◌else◌, List, [], false, length, true};
 ghost use Rattle.h5_names.specs.declared.qualified.QualName.{QualName as NameText};
-ghost use Rattle.h5_tag_sets.specs.TagSets.{is_special};
+ghost use Rattle.h5_tables.specs.TagSets.{is_special};
 ghost use Rattle.h5_rules.specs.stack.Closing.{ends_item_search};
 ghost use Rattle.h5_state.specs.Summaries.{AreSetsOf, all_open, summary_of};
 
 use super::name_numbers::NameNumbers;
 use h5_names::{KnownName, QualName};
 use h5_stack::NumberedStack;
-use h5_tag_sets::{NameSet, NameSets, sets_of};
+use h5_tables::{NameSet, NameSets, sets_of};
 use std::alloc::Global;
 
 /// What is known of some open elements, from the root up to one of them. Places are counted from the root: what stands
@@ -121,6 +121,16 @@ impl Summary {
 pub struct OpenElement<Handle> {
     pub handle: Handle,
     pub summary: Summary,
+    /// No stamp that was given before it was pushed is higher.
+    pub stamp: u32,
+}
+
+/// An element that is listed as a formatting element. Where it is open, neither it nor a newer one has a lower stamp: so it
+/// isn't sought below one that has.
+#[derive(Drop)]
+pub struct Listed<Handle> {
+    pub handle: Handle,
+    pub stamp: u32,
 }
 
 /// The stack of open elements, the root first: each stands there with the number of its name, and of each number the
@@ -129,6 +139,8 @@ pub struct OpenElement<Handle> {
 pub struct OpenElements<Handle> {
     pub elements: NumberedStack<OpenElement<Handle>>,
     pub numbers: NameNumbers,
+    /// The last stamp that was given. None is higher.
+    pub last: u32,
 }
 
 impl<Handle> OpenElements<Handle> {
@@ -142,7 +154,15 @@ impl<Handle> OpenElements<Handle> {
         OpenElements {
             elements: NumberedStack::new(alloc),
             numbers: NameNumbers::new(alloc),
+            last: 0,
         }
+    }
+
+    // The stamp of the next element: a higher one, as long as there is one.
+    pub(super) fn next_stamp(&self) -> u32
+        ensures { self.now.last ≤ result }
+    {
+        self.last.saturating_add(1)
     }
 }
 
@@ -171,7 +191,7 @@ fn oldest(is: bool, place: u32, below: u32) -> u32
 
 // Whether an element of this name, which is special or not, ends the search for an item of a list: it is special, and no
 // `address`, `div` or `p`.
-#[tactic(auto, unfolding(h5_rules::specs::stack::Closing::passed_names, h5_tag_sets::specs::TagSets::html_namespace))]
+#[tactic(auto, unfolding(h5_rules::specs::stack::Closing::passed_names, h5_tables::specs::TagSets::html_namespace))]
 fn ends_item_search(name: &QualName, special: bool) -> bool
     requires { special ≡ is_special name.now }
     ensures { result ≡ ends_item_search name.now }

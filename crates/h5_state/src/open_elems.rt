@@ -3,13 +3,14 @@
 ghost use Rattle.std.specs.Prelude.{◌≡◌, ◌<◌, ◌≤◌, ◌+◌, ◌^◌, ◌∷◌, [], ℕ, Bool, List, Some, true, false, length, codes, MatchOption, is_some};
 ghost use Rattle.h5_names.specs.declared.qualified.QualName.{QualName as NameText};
 ghost use Rattle.h5_interface.specs.Forest.{IsElement};
-ghost use Rattle.h5_tag_sets.specs.TagSets.{is_html_named, is_implied, is_special};
+ghost use Rattle.h5_tables.specs.TagSets.{is_html_named, is_implied, is_special};
 ghost use Rattle.h5_rules.specs.Changes.{pop_while};
 ghost use Rattle.h5_rules.specs.fitting.NamesFit.{is_html_element};
 ghost use Rattle.h5_rules.specs.stack.Order.{but_first};
 ghost use Rattle.h5_rules.specs.stack.Scope.{comes_before_special, cut_through, drop_while, first_passes, has_body_in_scope, has_p_in_button_scope, has_template, has_unclosed, is_implied_but, second_is};
 ghost use Rattle.h5_rules.specs.Rows.{GenerateImpliedEndExcept, PopUntilNamed};
 ghost use Rattle.h5_rules.specs.World.{name_in, names_of, root};
+ghost use Rattle.h5_state.specs.Stamps.{AreStamped};
 ghost use Rattle.h5_state.specs.Steps.{IsSound, Makes, TellsErrors, errors_of, world_of};
 ghost use Rattle.h5_state.specs.Numbers.{name_number};
 ghost use Rattle.h5_state.specs.Summaries.{IsKept, all_open, open_templates};
@@ -24,7 +25,7 @@ use super::state::State;
 use super::steps::pop;
 use h5_interface::TreeSink;
 use h5_names::{KnownName, LocalName, QualName};
-use h5_tag_sets::{is_html_known, is_html_local};
+use h5_tables::{is_html_known, is_html_local};
 
 /// How many elements are open.
 #[tactic(auto, unfolding(crate::specs::View::world, crate::specs::View::names_under, crate::specs::View::stack_under, h5_rules::specs::World::names_of))]
@@ -291,6 +292,7 @@ pub fn pop_until_named<S: TreeSink>(
 pub fn truncate<S: TreeSink>(sink: &S, state: &mut State<S::Handle>, count: usize)
     requires { IsSound S.TreeSink sink.now state.old }
     ensures kept { IsKept state.new.open_elems (names_of (world_of S.TreeSink sink.now state.new)) }
+    ensures stamped { AreStamped S.node state.new.open_elems state.new.active_formatting }
     ensures world { world_of S.TreeSink sink.now state.new ≡ with_stack (stack_under S.node state.old count) (world_of S.TreeSink sink.now state.old) }
 {
     state.open_elems.elements.truncate(count);

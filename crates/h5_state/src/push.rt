@@ -26,7 +26,13 @@ pub fn push_open<S: TreeSink>(
     let name = sink.elem_name(&handle);
     let number = state.open_elems.numbers.number(name)?;
     let summary = Summary::new(name, all, place);
-    let element = OpenElement { handle, summary };
+    let stamp = state.open_elems.next_stamp();
+    let element = OpenElement {
+        handle,
+        summary,
+        stamp,
+    };
     state.open_elems.elements.push(number, element)?;
+    state.open_elems.last = stamp;
     Ok(())
 }

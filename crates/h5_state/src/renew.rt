@@ -5,6 +5,7 @@ ghost use Rattle.h5_stack.specs.Numbered.{numbers};
 ghost use Rattle.h5_rules.specs.Sound.{Sound};
 ghost use Rattle.h5_rules.specs.World.{names_of};
 ghost use Rattle.h5_state.specs.Numbers.{name_number};
+ghost use Rattle.h5_state.specs.Stamps.{AreStamped};
 ghost use Rattle.h5_state.specs.Steps.{IsSound, world_of};
 ghost use Rattle.h5_state.specs.Summaries.{all_open, summaries};
 ghost use Rattle.h5_state.specs.View.{IsKeptOver, elements_of, kept_under, names_under};
@@ -40,11 +41,17 @@ fn renew_at<S: TreeSink>(sink: &S, state: &mut State<S::Handle>, place: usize)
     ensures newer { drop (place + 1) (elements_of state.new) ≡ drop (place + 1) (elements_of state.old) }
     ensures numbers { numbers state.new.open_elems.elements ≡ numbers state.old.open_elems.elements }
     ensures same { state.new.open_elems.numbers ≡ state.old.open_elems.numbers }
+    ensures stamped { AreStamped S.node state.old.open_elems state.old.active_formatting → AreStamped S.node state.new.open_elems state.new.active_formatting }
 {
     let all = all_under(sink, state, place);
-    let handle = sink.clone_handle(&state.open_elems.elements.get(place).handle);
+    let former = state.open_elems.elements.get(place);
+    let (handle, stamp) = (sink.clone_handle(&former.handle), former.stamp);
     let summary = Summary::new(sink.elem_name(&handle), all, place as u32);
-    let element = OpenElement { handle, summary };
+    let element = OpenElement {
+        handle,
+        summary,
+        stamp,
+    };
     state.open_elems.elements.set(place, element);
 }
 
@@ -55,6 +62,7 @@ pub fn renew_from<S: TreeSink>(sink: &S, state: &mut State<S::Handle>, first: us
     requires first { first ≤ length (world_of S.TreeSink sink.now state.old).stack }
     requires kept { kept_under state.old first ≡ summaries (names_under S.sees S.node sink.now state.old first) }
     requires numbered { map Some (reverse (numbers state.old.open_elems.elements)) ≡ map (name_number state.old.open_elems.numbers) (names_of (world_of S.TreeSink sink.now state.old)) }
+    requires stamped { AreStamped S.node state.old.open_elems state.old.active_formatting }
     ensures world { world_of S.TreeSink sink.now state.new ≡ world_of S.TreeSink sink.now state.old }
     ensures sound { IsSound S.TreeSink sink.now state.new }
 {
@@ -79,6 +87,7 @@ pub fn renew_over<S: TreeSink>(
     requires kept { kept_under state.old first ≡ summaries (names_under S.sees S.node sink.now state.old first) }
     requires over { (older : List NameText) × (before ≡ all_open older) × (length older ≡ first) × IsKeptOver S.node (S.sees sink.now).forest (drop first (elements_of state.old)) older }
     requires numbered { map Some (reverse (numbers state.old.open_elems.elements)) ≡ map (name_number state.old.open_elems.numbers) (names_of (world_of S.TreeSink sink.now state.old)) }
+    requires stamped { AreStamped S.node state.old.open_elems state.old.active_formatting }
     ensures world { world_of S.TreeSink sink.now state.new ≡ world_of S.TreeSink sink.now state.old }
     ensures sound { IsSound S.TreeSink sink.now state.new }
 {

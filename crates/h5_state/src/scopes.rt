@@ -2,7 +2,7 @@
 //! is looked for is compared with the newest that ends the search.
 ghost use Rattle.std.specs.Prelude.{◌≡◌, ◌<◌, ◌≤◌, ◌&&◌, ◌-◌, ℕ, MatchOption, Some, is_some, length};
 ghost use Rattle.h5_names.specs.KnownNames.{name_text};
-ghost use Rattle.h5_tag_sets.specs.TagSets.{is_default_scope, is_html_named};
+ghost use Rattle.h5_tables.specs.TagSets.{is_default_scope, is_html_named};
 ghost use Rattle.h5_rules.specs.stack.Scope.{comes_before_special, cut_through, in_scope};
 ghost use Rattle.h5_rules.specs.World.{names_of};
 ghost use Rattle.h5_state.specs.Newest.{place_before};
@@ -14,7 +14,7 @@ use super::open_elems::all_open;
 use super::state::State;
 use h5_interface::TreeSink;
 use h5_names::{KnownName, LocalName};
-use h5_tag_sets::ElementSet;
+use h5_tables::ElementSet;
 
 // The place of the newest that is looked for, where the newest that ends the search isn't newer. Both are counted with
 // one more, and are 0 where there is none.

@@ -1,5 +1,5 @@
 //! Questions whether elements are in sets.
-ghost use Rattle.h5_tag_sets.specs.ElementSets.{holds_element};
+ghost use Rattle.h5_tables.specs.ElementSets.{holds_element};
 
 use super::name_test::{NameTest, NewestTest};
 use super::newest::{newer, newest_among, newest_scope_end};
@@ -7,7 +7,7 @@ use super::open_elems::{name_at, open_at};
 use super::state::State;
 use h5_interface::TreeSink;
 use h5_names::{KnownName, QualName};
-use h5_tag_sets::ElementSet;
+use h5_tables::ElementSet;
 
 impl NameTest for ElementSet {
     ghost holds = { λ t name. holds_element t name };

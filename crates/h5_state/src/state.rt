@@ -1,10 +1,10 @@
 //! The state of a tree builder.
-use super::open_element::OpenElements;
+use super::open_element::{Listed, OpenElements};
 use super::pending_text::PendingText;
 use h5_interface::QuirksMode;
 use h5_list::FormattingList;
+use h5_tables::{InsertionMode, ProcessResult, Token, TreeBuilderOpts};
 use h5_token::TokenSinkResult;
-use h5_types::{InsertionMode, ProcessResult, Token, TreeBuilderOpts};
 use std::alloc::{AllocError, Global};
 
 /// How a turn ended, unless memory was refused.
@@ -24,7 +24,7 @@ pub struct State<Handle> {
     /// The stack of open elements, the root first.
     pub open_elems: OpenElements<Handle>,
     /// The list of active formatting elements.
-    pub active_formatting: FormattingList<Handle>,
+    pub active_formatting: FormattingList<Listed<Handle>>,
     pub head_elem: Option<Handle>,
     pub form_elem: Option<Handle>,
     pub frameset_ok: bool,

@@ -1,20 +1,21 @@
 //! Steps that change a field, or the current node.
-ghost use Rattle.std.specs.Prelude.{◌≡◌, codes, is_some};
+ghost use Rattle.std.specs.Prelude.{◌≡◌, ◌≤◌, codes, is_some};
 ghost use Rattle.std.specs.Option.{option_map};
-ghost use Rattle.h5_tag_sets.specs.TagSets.{is_html_named};
+ghost use Rattle.h5_tables.specs.TagSets.{is_html_named};
 ghost use Rattle.h5_interface.specs.Forest.{IsNode};
 ghost use Rattle.h5_rules.specs.modes.InBody.{is_quirks};
 ghost use Rattle.h5_rules.specs.modes.InTableText.{saved_mode};
 ghost use Rattle.h5_rules.specs.Rows.{ClearForm, MarkStarted, Pop, SaveMode, SetFoster, SetFramesetNotOk, SetIgnoreLf, SetMode, SetQuirksMode};
 ghost use Rattle.h5_rules.specs.modes.Shared.{is_context};
 ghost use Rattle.h5_rules.specs.World.{current};
+ghost use Rattle.h5_state.specs.Stamps.{IsAbove, stamps_of};
 ghost use Rattle.h5_state.specs.Steps.{IsOpen, IsSound, Makes, world_of};
 
+use super::open_element::Listed;
 use super::state::State;
 use h5_interface::{QuirksMode, TreeSink};
 use h5_names::KnownName;
-use h5_tag_sets::is_html_known;
-use h5_types::InsertionMode;
+use h5_tables::{InsertionMode, is_html_known};
 
 /// The insertion mode.
 #[tactic(auto, unfolding(crate::specs::View::world))]
@@ -91,6 +92,32 @@ pub fn current_node<S: TreeSink>(sink: &S, state: &State<S::Handle>) -> S::Handl
     match state.open_elems.elements.last() {
         Some(element) => sink.clone_handle(&element.handle),
         None => sink.get_document(),
+    }
+}
+
+// A stamp with which the current node may be listed.
+#[tactic(auto, unfolding(crate::specs::View::world))]
+fn current_stamp<S: TreeSink>(sink: &S, state: &State<S::Handle>) -> u32
+    requires { IsSound S.TreeSink sink.now state.now }
+    ensures given { result ≤ state.now.open_elems.last }
+    ensures above { IsAbove (current (world_of S.TreeSink sink.now state.now)) result (stamps_of S.node state.now.open_elems) }
+{
+    match state.open_elems.elements.last() {
+        Some(element) => element.stamp.min(state.open_elems.last),
+        None => 0,
+    }
+}
+
+/// The current node, as it may be listed, with a stamp.
+pub fn current_listed<S: TreeSink>(sink: &S, state: &State<S::Handle>) -> Listed<S::Handle>
+    requires { IsSound S.TreeSink sink.now state.now }
+    ensures current { S.node result.handle ≡ current (world_of S.TreeSink sink.now state.now) }
+    ensures given { result.stamp ≤ state.now.open_elems.last }
+    ensures above { IsAbove (S.node result.handle) result.stamp (stamps_of S.node state.now.open_elems) }
+{
+    Listed {
+        handle: current_node(sink, state),
+        stamp: current_stamp(sink, state),
     }
 }
 

@@ -1,14 +1,14 @@
 //! The token that takes another turn, and what is answered: a turn puts them into the state, and they are taken from it.
 ghost use Rattle.std.specs.Prelude.{◌≡◌};
 ghost use Rattle.h5_token.specs.Reply.{reply};
-ghost use Rattle.h5_types.specs.TurnText.{turn_text};
+ghost use Rattle.h5_tables.specs.TurnText.{turn_text};
 ghost use Rattle.h5_state.specs.Steps.{IsSound};
 ghost use Rattle.h5_state.specs.Turn.{KeepsWorld};
 
 use super::state::State;
 use h5_interface::TreeSink;
+use h5_tables::Token;
 use h5_token::TokenSinkResult;
-use h5_types::Token;
 use std::mem;
 
 /// This token takes another turn.

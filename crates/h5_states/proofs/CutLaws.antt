@@ -7,9 +7,9 @@ use Rattle.h5_reading.specs.Told.{after_all, after_text, told}
 use Rattle.h5_reading.proofs.BlindLaws.{all_alike, text_cut}
 use Rattle.h5_reading.proofs.JoinLaws.{glue_twice, joins_append}
 use Rattle.h5_reading.specs.Blindness.{IsBlindToCuts}
-use Rattle.h5_states.specs.Turn.{Goes, Again, Hands, Asks}
+use Rattle.h5_states.specs.Turn.{Consumed, Reconsumed, Emitted, Asks}
 use Rattle.h5_states.specs.References.{Reference}
-use Rattle.h5_states.specs.Reading.{Place, Passes, passed, drops, goes, again, Step, quiet_step, text_step, token_step, ask_step, Read, nothing_read, read_on}
+use Rattle.h5_states.specs.Reading.{ReaderPlace, Passes, passed, drops, goes, again, Step, quiet_step, text_step, token_step, ask_step, Read, nothing_read, read_on}
 use Rattle.h5_states.specs.End.{last_tokens}
 use Rattle.h5_states.specs.Whole.{Readings, no_reading, more_reading, ReadsToEnd}
 use Rattle.h5_states.proofs.ByRows.{dropped, move_dropped, move_row, ByRows, ends, consumes_as, reconsumes_as, from_alike, agree}
@@ -23,14 +23,14 @@ module _ {M : Type 0} (reply_to : M → TokenText → Reply) (after : M → Toke
     (blind : IsBlindToCuts reply_to after foreign ended alike) (table : List Reference) where
   -- These tokens, and then the others, are those of a reading row by row, up to cuts of texts. It comes to a meaning that
   -- is alike.
-  pub record Flat (p : Place) (m : M) (xs : List ℕ) (ts us : List TokenText) (q : Place) (l : M) : Type 0 where
+  pub record Flat (p : ReaderPlace) (m : M) (xs : List ℕ) (ts us : List TokenText) (q : ReaderPlace) (l : M) : Type 0 where
     pub tokens : List TokenText
     pub meaning : M
     pub rows : ByRows reply_to after foreign table p m xs tokens q meaning
     pub like : alike meaning l
     pub joins : join tokens ≡ join (ts ++ us)
 
-  flat_alike : {p q : Place} {m n l : M} {xs : List ℕ} {us : List TokenText} → alike m n → ByRows reply_to after foreign table p n xs us q l → Flat p m xs [] us q l
+  flat_alike : {p q : ReaderPlace} {m n l : M} {xs : List ℕ} {us : List TokenText} → alike m n → ByRows reply_to after foreign table p n xs us q l → Flat p m xs [] us q l
   flat_alike {us = us} h rows =
       let same = from_alike reply_to after foreign ended alike blind table h rows in
       record {
@@ -49,7 +49,7 @@ module _ {M : Type 0} (reply_to : M → TokenText → Reply) (after : M → Toke
       let parts = after_text after (after_text after m t k) more j in
       blind.transitive parts whole n (blind.symmetric whole parts (text_cut reply_to after foreign ended alike blind m t more j k j)) h
 
-  flat_passes : {p q r : Place} {n l : M} {xs text ys : List ℕ} {us : List TokenText} (m : M) (j : ℕ)
+  flat_passes : {p q r : ReaderPlace} {n l : M} {xs text ys : List ℕ} {us : List TokenText} (m : M) (j : ℕ)
       → Passes table p xs text q ys → alike (after_text after m text j) n → ByRows reply_to after foreign table q n ys us r l → Flat p m xs (told text) us r l
   flat_passes m j passed h rows = flat_alike h rows
   flat_passes {p} m j (drops {x = x} e rest) h rows =
@@ -66,7 +66,7 @@ module _ {M : Type 0} (reply_to : M → TokenText → Reply) (after : M → Toke
       record {
         tokens = told text ++ flat.tokens;
         meaning = flat.meaning;
-        rows = consumes_as reply_to after foreign table _ (move_row reply_to after foreign table p m x (Goes text state) e d) refl flat.rows;
+        rows = consumes_as reply_to after foreign table _ (move_row reply_to after foreign table p m x (Consumed text state) e d) refl flat.rows;
         like = flat.like;
         joins = told_joins text more us flat.tokens flat.joins;
       }
@@ -75,12 +75,12 @@ module _ {M : Type 0} (reply_to : M → TokenText → Reply) (after : M → Toke
       record {
         tokens = told text ++ flat.tokens;
         meaning = flat.meaning;
-        rows = reconsumes_as reply_to after foreign table _ (move_row reply_to after foreign table p m x (Again text state) e d) refl flat.rows;
+        rows = reconsumes_as reply_to after foreign table _ (move_row reply_to after foreign table p m x (Reconsumed text state) e d) refl flat.rows;
         like = flat.like;
         joins = told_joins text more us flat.tokens flat.joins;
       }
 
-  flat_step : {p : Place} {m : M} {xs : List ℕ} {ts : List TokenText} {reply : Reply} {q : Place} {k : M} {ys : List ℕ} {n l : M} {us : List TokenText} {r : Place}
+  flat_step : {p : ReaderPlace} {m : M} {xs : List ℕ} {ts : List TokenText} {reply : Reply} {q : ReaderPlace} {k : M} {ys : List ℕ} {n l : M} {us : List TokenText} {r : ReaderPlace}
       → Step table reply_to after foreign p m xs ts reply q k ys → alike k n → ByRows reply_to after foreign table q n ys us r l → Flat p m xs ts us r l
   flat_step {p} {m} (quiet_step h) like rows = flat_passes m p.began h like rows
   flat_step {p} {m} (text_step h) like rows = flat_passes m p.began h like rows
@@ -89,7 +89,7 @@ module _ {M : Type 0} (reply_to : M → TokenText → Reply) (after : M → Toke
       record {
         tokens = token ∷ us;
         meaning = same.meaning;
-        rows = consumes_as reply_to after foreign table _ (move_row reply_to after foreign table p m x (Hands token state) e d) refl same.rows;
+        rows = consumes_as reply_to after foreign table _ (move_row reply_to after foreign table p m x (Emitted token state) e d) refl same.rows;
         like = same.like;
         joins = refl;
       }
@@ -104,7 +104,7 @@ module _ {M : Type 0} (reply_to : M → TokenText → Reply) (after : M → Toke
       }
 
   -- what is flat behind some tokens is flat with them in front
-  flat_before : {p q r : Place} {m k l : M} {xs ys : List ℕ} (ts us vs : List TokenText)
+  flat_before : {p q r : ReaderPlace} {m k l : M} {xs ys : List ℕ} (ts us vs : List TokenText)
       → (behind : Flat q k ys us vs r l) → Flat p m xs ts behind.tokens r behind.meaning → Flat p m xs (ts ++ us) vs r l
   flat_before {l = l} ts us vs behind flat = record {
     tokens = flat.tokens;
@@ -114,28 +114,28 @@ module _ {M : Type 0} (reply_to : M → TokenText → Reply) (after : M → Toke
     joins = flat.joins ∙ joins_append ts ts behind.tokens (us ++ vs) refl behind.joins ∙ ap join (sym (append_assoc ts us vs));
   }
 
-  flat_read : {p : Place} {m : M} {xs : List ℕ} {ts : List TokenText} {reply : Reply} {q : Place} {k : M} {ys : List ℕ} {n l : M} {us : List TokenText} {r : Place}
+  flat_read : {p : ReaderPlace} {m : M} {xs : List ℕ} {ts : List TokenText} {reply : Reply} {q : ReaderPlace} {k : M} {ys : List ℕ} {n l : M} {us : List TokenText} {r : ReaderPlace}
       → Read table reply_to after foreign p m xs ts reply q k ys → alike k n → ByRows reply_to after foreign table q n ys us r l → Flat p m xs ts us r l
   flat_read nothing_read like rows = flat_alike like rows
   flat_read {us = us} (read_on {n = k} {ts = ts} {us = vs} read on step) like rows =
       let behind = flat_step step like rows in
       flat_before ts vs us behind (flat_read read (blind.reflexive k) behind.rows)
 
-  flat_readings : {p : Place} {m : M} {xs : List ℕ} {ts : List TokenText} {q : Place} {k : M} {ys : List ℕ} {n l : M} {us : List TokenText} {r : Place}
+  flat_readings : {p : ReaderPlace} {m : M} {xs : List ℕ} {ts : List TokenText} {q : ReaderPlace} {k : M} {ys : List ℕ} {n l : M} {us : List TokenText} {r : ReaderPlace}
       → Readings table reply_to after foreign p m xs ts q k ys → alike k n → ByRows reply_to after foreign table q n ys us r l → Flat p m xs ts us r l
   flat_readings no_reading like rows = flat_alike like rows
   flat_readings {us = us} (more_reading {n = k} {ts = ts} {us = vs} readings read taken) like rows =
       let behind = flat_read read like rows in
       flat_before ts vs us behind (flat_readings readings (blind.reflexive k) behind.rows)
 
-  ended_alike : (m n : M) (p q : Place) → p ≡ q → alike m n
+  ended_alike : (m n : M) (p q : ReaderPlace) → p ≡ q → alike m n
       → alike (ended (after (after_all after m (last_tokens table p) p.began) EndOfFile p.line)) (ended (after (after_all after n (last_tokens table q) q.began) EndOfFile q.line))
   ended_alike m n p q e h =
-      subst (λ (r : Place). alike (ended (after (after_all after m (last_tokens table p) p.began) EndOfFile p.line)) (ended (after (after_all after n (last_tokens table r) r.began) EndOfFile r.line))) e
+      subst (λ (r : ReaderPlace). alike (ended (after (after_all after m (last_tokens table p) p.began) EndOfFile p.line)) (ended (after (after_all after n (last_tokens table r) r.began) EndOfFile r.line))) e
       (blind.ends _ _ (blind.kept _ _ EndOfFile p.line p.line (all_alike reply_to after foreign ended alike blind m n (last_tokens table p) p.began p.began h)))
 
   -- how an input is cut doesn't matter
-  pub cuts_agree : (p : Place) (m n : M) (xs : List ℕ) (ts us : List TokenText) (k l : M) → alike m n
+  pub cuts_agree : (p : ReaderPlace) (m n : M) (xs : List ℕ) (ts us : List TokenText) (k l : M) → alike m n
       → ReadsToEnd table reply_to after foreign ended p m xs ts k → ReadsToEnd table reply_to after foreign ended p n xs us l
       → (join ts ≡ join us) × alike k l
   cuts_agree p m n xs ts us k l like a b =

@@ -9,19 +9,19 @@ use Rattle.h5_states.specs.declared.errors.ParseError.{ParseError}
 use Rattle.h5_states.specs.ReferenceTable.{references}
 use Rattle.h5_states.specs.States.{State}
 use Rattle.h5_states.specs.Lines.{normal}
-use Rattle.h5_states.specs.Turn.{Deed, Goes, Again, Hands, Asks}
+use Rattle.h5_states.specs.Turn.{Outcome, Consumed, Reconsumed, Emitted, Asks}
 use Rattle.h5_states.specs.Machine.{turn}
 use Rattle.h5_states.specs.AtEnd.{at_end}
-use Rattle.h5_states.specs.Reading.{Place, is_dropped}
+use Rattle.h5_states.specs.Reading.{ReaderPlace, is_dropped}
 use Rattle.h5_states.specs.End.{last_tokens}
 use Rattle.h5_states.proofs.ByRows.{Move, move}
 
 -- what is done at a byte over a sink that answers to go on
-abbrev pub silent : Bool → Place → ℕ → Move (Unit {0})
+abbrev pub silent : Bool → ReaderPlace → ℕ → Move (Unit {0})
 silent foreign p x = move (λ m t. Continues) (λ m t line. m) (λ m. foreign) references p (tt {0}) x
 
 -- in a state, behind a start tag of this name
-abbrev pub at_first : State → List ℕ → Place
+abbrev pub at_first : State → List ℕ → ReaderPlace
 at_first state last = record { state = state; last = last; after_return = false; line = 1; began = 1 }
 
 -- each byte meets three rows at most
@@ -29,7 +29,7 @@ abbrev pub rows_for : List ℕ → ℕ
 rows_for xs = 3 * length xs + 1
 
 -- what is handed on; so many rows at most
-abbrev pub tokens_up_to : ℕ → Bool → Place → List ℕ → List TokenText
+abbrev pub tokens_up_to : ℕ → Bool → ReaderPlace → List ℕ → List TokenText
 tokens_up_to zero foreign p xs = []
 tokens_up_to (suc n) foreign p [] = last_tokens references p ++ EndOfFile ∷ []
 tokens_up_to (suc n) foreign p (x ∷ xs) =
@@ -40,19 +40,19 @@ abbrev pub tokens_from : Bool → State → List ℕ → List ℕ → List Token
 tokens_from foreign state last xs = join (tokens_up_to (rows_for xs) foreign (at_first state last) xs)
 
 -- the errors of all rows, in order
-abbrev pub asked : Bool → Deed → List ParseError
-asked true deed = []
-asked false (Goes text state) = []
-asked false (Again text state) = []
-asked false (Hands token state) = []
+abbrev pub asked : Bool → Outcome → List ParseError
+asked true outcome = []
+asked false (Consumed text state) = []
+asked false (Reconsumed text state) = []
+asked false (Emitted token state) = []
 asked false (Asks there error elsewhere) = error ∷ []
 
-abbrev pub errors_at : Bool → Place → ℕ → List ParseError
+abbrev pub errors_at : Bool → ReaderPlace → ℕ → List ParseError
 errors_at foreign p x =
     let row = turn references p.last p.state (normal x) in
-    if is_dropped p x then [] else row.errors ++ asked foreign row.deed
+    if is_dropped p x then [] else row.errors ++ asked foreign row.outcome
 
-abbrev pub errors_up_to : ℕ → Bool → Place → List ℕ → List ParseError
+abbrev pub errors_up_to : ℕ → Bool → ReaderPlace → List ℕ → List ParseError
 errors_up_to zero foreign p xs = []
 errors_up_to (suc n) foreign p [] = (at_end references p.state).errors
 errors_up_to (suc n) foreign p (x ∷ xs) =

@@ -6,19 +6,19 @@ use Rattle.h5_token.specs.TokenText.{TokenText}
 use Rattle.h5_reading.specs.Proper.{IsProper}
 use Rattle.h5_states.specs.Signs.{is_name_end, is_alphanumeric, is_hex_digit}
 use Rattle.h5_states.specs.States.{State, AttributeName, AfterAttributeName, RawEndTagName, ScriptDataDoubleEscapeStart, AmbiguousAmpersand, NamedCharacterReference, Hexadecimal, Decimal}
-use Rattle.h5_states.specs.Turn.{Again, Hands}
+use Rattle.h5_states.specs.Turn.{Reconsumed, Emitted}
 use Rattle.h5_states.specs.References.{Reference}
 use Rattle.h5_states.specs.Machine.{turn}
 use Rattle.h5_states.specs.Rank.{rank, unless, Meets, one_row, more_rows}
 use Rattle.h5_states.proofs.RowLaws.{FitsDeed, turn_fits}
 
 pub rank_falls : (table : List Reference) (last : List ℕ) (state : State) (x : ℕ) (text : List ℕ) (next : State)
-    → (turn table last state x).deed ≡ Again text next → rank next x < rank state x
-rank_falls table last state x text next h = subst (FitsDeed (rank state x) x) h (turn_fits table last state x).deed
+    → (turn table last state x).outcome ≡ Reconsumed text next → rank next x < rank state x
+rank_falls table last state x text next h = subst (FitsDeed (rank state x) x) h (turn_fits table last state x).outcome
 
 pub hands_proper : (table : List Reference) (last : List ℕ) (state : State) (x : ℕ) (token : TokenText) (next : State)
-    → (turn table last state x).deed ≡ Hands token next → IsProper token
-hands_proper table last state x token next h = subst (FitsDeed (rank state x) x) h (turn_fits table last state x).deed
+    → (turn table last state x).outcome ≡ Emitted token next → IsProper token
+hands_proper table last state x token next h = subst (FitsDeed (rank state x) x) h (turn_fits table last state x).outcome
 
 unless_small : (b : Bool) (n : ℕ) → n ≤ 1 → n + unless b ≤ 2
 unless_small true n h = omega (arith, h)

@@ -21,14 +21,14 @@ use Rattle.h5_states.specs.Turn.{Turn, flush, flush_again}
 use Rattle.h5_states.specs.References.{Reference, Longest, longest, is_beginning, is_historical, named, unnamed, in_ambiguous, code_point}
 use Rattle.h5_states.specs.Machine.{turn}
 use Rattle.h5_states.specs.Lines.{normal}
-use Rattle.h5_states.specs.Reading.{Place, chosen_state, Passes, passed, drops, goes, again, Step, quiet_step, text_step, token_step, ask_step}
+use Rattle.h5_states.specs.Reading.{ReaderPlace, chosen_state, Passes, passed, drops, goes, again, Step, quiet_step, text_step, token_step, ask_step}
 use Rattle.h5_states.specs.RawTexts.{IsRawText, IsEnd, IsEndTag, ReturnsRaw, IsRaw, RawBehind, StaysRaw}
 
 record Keeps (t : Turn) : Type 0 where
-  deed : StaysRaw t.deed
+  outcome : StaysRaw t.outcome
 
-keeps : {t : Turn} → StaysRaw t.deed → Keeps t
-keeps h = record { deed = h }
+keeps : {t : Turn} → StaysRaw t.outcome → Keeps t
+keeps h = record { outcome = h }
 
 either : (b : Bool) (t u : Turn) → Keeps t → Keeps u → Keeps (if b then t else u)
 either true t u f g = f
@@ -99,7 +99,7 @@ unnamed_keeps (ToValue value tag) text h = keeps h
 named_keeps : (return : Return) (seen : List ℕ) (x : ℕ) (found : Option Longest) → ReturnsRaw return → Keeps (named return seen x found)
 named_keeps return seen x None h = unnamed_keeps return (codes "&" ++ seen) h
 named_keeps return seen x (Some found) h =
-    either (is_historical return found x) _ _ (flush_again_keeps return (codes "&" ++ seen) h) (keeps (flush_again_keeps return (found.text ++ found.rest) h).deed)
+    either (is_historical return found x) _ _ (flush_again_keeps return (codes "&" ++ seen) h) (keeps (flush_again_keeps return (found.text ++ found.rest) h).outcome)
 
 ambiguous_keeps : (return : Return) (x : ℕ) → ReturnsRaw return → Keeps (in_ambiguous x return)
 ambiguous_keeps ToData x h = absurd h
@@ -139,13 +139,13 @@ turn_keeps table last (s.NamedCharacterReference return seen) x h =
     either (is_beginning table (seen ++ (x ∷ []))) _ _ (keeps h) (named_keeps return seen x (longest table seen) h)
 turn_keeps table last (s.AmbiguousAmpersand return) x h = either (is_alphanumeric x) _ _ (ambiguous_keeps return x h) (keeps (returned_raw return h))
 turn_keeps table last (s.NumericCharacterReference return) x h = search (either, keeps)
-turn_keeps table last (s.HexadecimalStart return buffer) x h = either (is_hex_digit x) _ _ (keeps h) (keeps (flush_again_keeps return (codes "&#" ++ buffer) h).deed)
-turn_keeps table last (s.DecimalStart return) x h = either (is_ascii_digit x) _ _ (keeps h) (keeps (flush_again_keeps return (codes "&#") h).deed)
+turn_keeps table last (s.HexadecimalStart return buffer) x h = either (is_hex_digit x) _ _ (keeps h) (keeps (flush_again_keeps return (codes "&#" ++ buffer) h).outcome)
+turn_keeps table last (s.DecimalStart return) x h = either (is_ascii_digit x) _ _ (keeps h) (keeps (flush_again_keeps return (codes "&#") h).outcome)
 turn_keeps table last (s.Hexadecimal return code) x h =
-    either (is_hex_digit x) _ _ (keeps h) (either (x == semicolon) _ _ (keeps (flush_keeps return (code_point code) h).deed) (keeps h))
+    either (is_hex_digit x) _ _ (keeps h) (either (x == semicolon) _ _ (keeps (flush_keeps return (code_point code) h).outcome) (keeps h))
 turn_keeps table last (s.Decimal return code) x h =
-    either (is_ascii_digit x) _ _ (keeps h) (either (x == semicolon) _ _ (keeps (flush_keeps return (code_point code) h).deed) (keeps h))
-turn_keeps table last (s.NumericCharacterReferenceEnd return code) x h = keeps (flush_again_keeps return (code_point code) h).deed
+    either (is_ascii_digit x) _ _ (keeps h) (either (x == semicolon) _ _ (keeps (flush_keeps return (code_point code) h).outcome) (keeps h))
+turn_keeps table last (s.NumericCharacterReferenceEnd return code) x h = keeps (flush_again_keeps return (code_point code) h).outcome
 turn_keeps table last state x h = absurd h
 
 pub chosen_raw : (kind : RawKind) → IsRaw (chosen_state (TurnsRaw kind))
@@ -153,10 +153,10 @@ chosen_raw chosen.Rcdata = tt
 chosen_raw chosen.Rawtext = tt
 chosen_raw chosen.ScriptData = tt
 
-pub stays_raw : (table : List Reference) (last : List ℕ) (state : State) (x : ℕ) → IsRaw state → StaysRaw (turn table last state x).deed
-stays_raw table last state x h = (turn_keeps table last state x h).deed
+pub stays_raw : (table : List Reference) (last : List ℕ) (state : State) (x : ℕ) → IsRaw state → StaysRaw (turn table last state x).outcome
+stays_raw table last state x h = (turn_keeps table last state x h).outcome
 
-passes_raw : (table : List Reference) {p q : Place} {xs text ys : List ℕ} → Passes table p xs text q ys → IsRaw p.state → IsRaw q.state
+passes_raw : (table : List Reference) {p q : ReaderPlace} {xs text ys : List ℕ} → Passes table p xs text q ys → IsRaw p.state → IsRaw q.state
 passes_raw table passed h = h
 passes_raw table (drops d rest) h = passes_raw table rest h
 passes_raw table {p} (goes {x = x} text state d e rest) h = passes_raw table rest (subst StaysRaw e (stays_raw table p.last p.state (normal x) h))
@@ -172,7 +172,7 @@ end_behind EndOfFile state h = h
 end_behind (ParseErrorIs message) state h = h
 
 pub step_raw : (table : List Reference) {M : Type 0} (reply_to : M → TokenText → Reply) (after : M → TokenText → ℕ → M) (foreign : M → Bool)
-    {p : Place} {m : M} {xs : List ℕ} {ts : List TokenText} {reply : Reply} {q : Place} {n : M} {ys : List ℕ}
+    {p : ReaderPlace} {m : M} {xs : List ℕ} {ts : List TokenText} {reply : Reply} {q : ReaderPlace} {n : M} {ys : List ℕ}
     → IsRaw p.state → Step table reply_to after foreign p m xs ts reply q n ys → RawBehind ts q.state
 step_raw table reply_to after foreign h (quiet_step passes) = passes_raw table passes h
 step_raw table reply_to after foreign h (text_step passes) = passes_raw table passes h

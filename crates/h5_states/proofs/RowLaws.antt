@@ -18,24 +18,24 @@ use Rattle.h5_states.specs.Signs.{is_blank, is_name_end, is_alphanumeric, is_hex
 use Rattle.h5_states.specs.Construction.{Tag}
 use Rattle.h5_states.specs.States as s
 use Rattle.h5_states.specs.States.{State, Return, ToData, ToRcdata, ToValue, Value, Quoted, Unquoted, returned, text_of}
-use Rattle.h5_states.specs.Turn.{Deed, Goes, Again, Hands, Asks, Turn, flush, flush_again}
+use Rattle.h5_states.specs.Turn.{Outcome, Consumed, Reconsumed, Emitted, Asks, Turn, flush, flush_again}
 use Rattle.h5_states.specs.Texts as t
 use Rattle.h5_states.specs.References.{Reference, Longest, longest, is_beginning, is_historical, named, unnamed, in_ambiguous, code_point}
 use Rattle.h5_states.specs.Machine.{turn}
 use Rattle.h5_states.specs.Rank.{rank, unless}
 
-abbrev pub FitsDeed : ℕ → ℕ → Deed → Type 0
-FitsDeed r x (Goes text state) = Unit {0}
-FitsDeed r x (Again text state) = rank state x < r
-FitsDeed r x (Hands token state) = IsProper token
+abbrev pub FitsDeed : ℕ → ℕ → Outcome → Type 0
+FitsDeed r x (Consumed text state) = Unit {0}
+FitsDeed r x (Reconsumed text state) = rank state x < r
+FitsDeed r x (Emitted token state) = IsProper token
 FitsDeed r x (Asks there error elsewhere) = Unit {0}
 
 -- a row at a byte in a state of this rank
 pub record Fits (r x : ℕ) (t : Turn) : Type 0 where
-  pub deed : FitsDeed r x t.deed
+  pub outcome : FitsDeed r x t.outcome
 
-fits : {r x : ℕ} {t : Turn} → FitsDeed r x t.deed → Fits r x t
-fits h = record { deed = h }
+fits : {r x : ℕ} {t : Turn} → FitsDeed r x t.outcome → Fits r x t
+fits h = record { outcome = h }
 
 either : {r x : ℕ} (b : Bool) (t u : Turn) → (b ≡ true → Fits r x t) → (b ≡ false → Fits r x u) → Fits r x (if b then t else u)
 either true t u f g = f refl
@@ -296,7 +296,7 @@ named_fits : (return : Return) (seen : List ℕ) (x : ℕ) (found : Option Longe
 named_fits return seen x None = unnamed_fits return (codes "&" ++ seen) x
 named_fits return seen x (Some found) =
     either (is_historical return found x) _ _ (λ _. flush_again_fits return (codes "&" ++ seen) (omega arith))
-    (λ _. fits (flush_again_fits return (found.text ++ found.rest) (omega arith)).deed)
+    (λ _. fits (flush_again_fits return (found.text ++ found.rest) (omega arith)).outcome)
 
 named_reference_fits : (table : List Reference) (last : List ℕ) (return : Return) (seen : List ℕ) (x : ℕ)
     → Fits (1 + unless (is_alphanumeric x)) x (turn table last (s.NamedCharacterReference return seen) x)
@@ -323,24 +323,24 @@ numeric_fits table last return x = search (either, fits, one_two)
 
 hexadecimal_start_fits : (table : List Reference) (last : List ℕ) (return : Return) (buffer : List ℕ) (x : ℕ) → Fits 1 x (turn table last (s.HexadecimalStart return buffer) x)
 hexadecimal_start_fits table last return buffer x =
-    either (is_hex_digit x) _ _ (λ b. fits (digit_below (is_hex_digit x) b)) (λ _. fits (flush_again_fits return (codes "&#" ++ buffer) zero_one).deed)
+    either (is_hex_digit x) _ _ (λ b. fits (digit_below (is_hex_digit x) b)) (λ _. fits (flush_again_fits return (codes "&#" ++ buffer) zero_one).outcome)
 
 decimal_start_fits : (table : List Reference) (last : List ℕ) (return : Return) (x : ℕ) → Fits 1 x (turn table last (s.DecimalStart return) x)
 decimal_start_fits table last return x =
-    either (is_ascii_digit x) _ _ (λ b. fits (digit_below (is_ascii_digit x) b)) (λ _. fits (flush_again_fits return (codes "&#") zero_one).deed)
+    either (is_ascii_digit x) _ _ (λ b. fits (digit_below (is_ascii_digit x) b)) (λ _. fits (flush_again_fits return (codes "&#") zero_one).outcome)
 
 hexadecimal_fits : (table : List Reference) (last : List ℕ) (return : Return) (code x : ℕ) → Fits (if is_hex_digit x then 0 else 2) x (turn table last (s.Hexadecimal return code) x)
 hexadecimal_fits table last return code x =
     either (is_hex_digit x) _ _ (λ _. fits tt)
-    (λ b. either (x == semicolon) _ _ (λ _. fits (flush_fits return (code_point code)).deed) (λ _. fits (digit_above (is_hex_digit x) b)))
+    (λ b. either (x == semicolon) _ _ (λ _. fits (flush_fits return (code_point code)).outcome) (λ _. fits (digit_above (is_hex_digit x) b)))
 
 decimal_fits : (table : List Reference) (last : List ℕ) (return : Return) (code x : ℕ) → Fits (if is_ascii_digit x then 0 else 2) x (turn table last (s.Decimal return code) x)
 decimal_fits table last return code x =
     either (is_ascii_digit x) _ _ (λ _. fits tt)
-    (λ b. either (x == semicolon) _ _ (λ _. fits (flush_fits return (code_point code)).deed) (λ _. fits (digit_above (is_ascii_digit x) b)))
+    (λ b. either (x == semicolon) _ _ (λ _. fits (flush_fits return (code_point code)).outcome) (λ _. fits (digit_above (is_ascii_digit x) b)))
 
 numeric_end_fits : (table : List Reference) (last : List ℕ) (return : Return) (code x : ℕ) → Fits 1 x (turn table last (s.NumericCharacterReferenceEnd return code) x)
-numeric_end_fits table last return code x = fits (flush_again_fits return (code_point code) zero_one).deed
+numeric_end_fits table last return code x = fits (flush_again_fits return (code_point code) zero_one).outcome
 
 -- each row
 pub turn_fits : (table : List Reference) (last : List ℕ) (state : State) (x : ℕ) → Fits (rank state x) x (turn table last state x)

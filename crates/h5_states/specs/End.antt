@@ -7,13 +7,13 @@ use Rattle.h5_reading.specs.Taking.{ClosesWith}
 use Rattle.h5_reading.specs.Told.{handed, told}
 use Rattle.h5_states.specs.References.{Reference}
 use Rattle.h5_states.specs.AtEnd.{at_end}
-use Rattle.h5_states.specs.Reading.{Place}
+use Rattle.h5_states.specs.Reading.{ReaderPlace}
 
 -- what is handed on before the end of the file
-abbrev pub last_tokens : List Reference → Place → List TokenText
+abbrev pub last_tokens : List Reference → ReaderPlace → List TokenText
 last_tokens table p = told (at_end table p.state).text ++ handed (at_end table p.state).token
 
 module _ {M : Type 0} (reply_to : M → TokenText → Reply) (after : M → TokenText → ℕ → M) (ended : M → M) where
   -- The end, at a place. These tokens are told with the line in which they began, and the end of the file with the last one.
-  abbrev pub Closes : List Reference → Place → M → M → Result (Unit {0}) BuildFault → Type 0
+  abbrev pub Closes : List Reference → ReaderPlace → M → M → Result (Unit {0}) BuildFault → Type 0
   Closes table p m n result = ClosesWith reply_to after ended m (last_tokens table p) p.began p.line n result

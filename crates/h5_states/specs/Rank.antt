@@ -3,7 +3,7 @@ use Rattle.std.specs.Prelude.{◌≡◌, ℕ, suc, Bool, not, ◌+◌, if◌then
 use Rattle.std.specs.Char.{is_ascii_alphabetic, is_ascii_digit}
 use Rattle.h5_states.specs.Signs.{is_name_end, is_alphanumeric, is_hex_digit}
 use Rattle.h5_states.specs.States.{State, Text, TagName, ScriptDataEscaped, ScriptDataEscapedDash, ScriptDataEscapedDashDash, AttributeValue, BogusComment, Comment, BeforeDoctypeName, DoctypeName, BogusDoctype, AttributeName, AfterAttributeName, RawEndTagName, ScriptDataDoubleEscapeStart, AmbiguousAmpersand, NamedCharacterReference, Hexadecimal, Decimal, SelfClosingStartTag, AfterAttributeValueQuoted, CharacterReference, NumericCharacterReference, CommentLessThanSignBangDash, CommentLessThanSignBangDashDash}
-use Rattle.h5_states.specs.Turn.{Again}
+use Rattle.h5_states.specs.Turn.{Reconsumed}
 use Rattle.h5_states.specs.References.{Reference}
 use Rattle.h5_states.specs.Machine.{turn}
 
@@ -44,4 +44,4 @@ rank state x = 1
 -- From a state on, a byte meets so many rows, of which all but the last reconsume it. The last is that of the other state.
 pub data Meets (table : List Reference) (last : List ℕ) (x : ℕ) : ℕ → State → State → Type 0 where
   one_row : {s : State} → Meets table last x 1 s s
-  more_rows : {n : ℕ} {s t u : State} (text : List ℕ) → (turn table last s x).deed ≡ Again text t → Meets table last x n t u → Meets table last x (suc n) s u
+  more_rows : {n : ℕ} {s t u : State} (text : List ℕ) → (turn table last s x).outcome ≡ Reconsumed text t → Meets table last x n t u → Meets table last x (suc n) s u

@@ -6,7 +6,7 @@ use Rattle.h5_states.specs.declared.kinds.TextKind.TheVariants.{Data, Rcdata, Ra
 use Rattle.h5_states.specs.Construction.{Tag}
 use Rattle.h5_states.specs.States as s
 use Rattle.h5_states.specs.States.{State, Return, ToData, ToRcdata, ToValue}
-use Rattle.h5_states.specs.Turn.{Deed, Goes, Again, Hands, Asks, is_end}
+use Rattle.h5_states.specs.Turn.{Outcome, Consumed, Reconsumed, Emitted, Asks, is_end}
 
 abbrev pub IsRawText : TextKind → Type 0
 IsRawText Data = ⊥
@@ -73,8 +73,8 @@ RawBehind (Characters text ∷ ts) state = IsRaw state
 RawBehind (t ∷ ts) state = IsEndTag t
 
 -- such a state comes next, or an end tag is emitted; nothing is asked
-abbrev pub StaysRaw : Deed → Type 0
-StaysRaw (Goes text state) = IsRaw state
-StaysRaw (Again text state) = IsRaw state
-StaysRaw (Hands token state) = IsEndTag token
+abbrev pub StaysRaw : Outcome → Type 0
+StaysRaw (Consumed text state) = IsRaw state
+StaysRaw (Reconsumed text state) = IsRaw state
+StaysRaw (Emitted token state) = IsEndTag token
 StaysRaw (Asks there error elsewhere) = ⊥

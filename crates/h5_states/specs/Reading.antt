@@ -16,7 +16,7 @@ use Rattle.h5_states.specs.declared.kinds.TextKind.{TextKind}
 use Rattle.h5_states.specs.declared.kinds.TextKind.TheVariants.{Data, Rcdata, Rawtext, ScriptData, Plaintext}
 use Rattle.h5_states.specs.Lines.{normal}
 use Rattle.h5_states.specs.States.{State, Text, ScriptDataEscapeStart, ScriptDataEscapeStartDash, ScriptDataEscaped, ScriptDataEscapedDash, ScriptDataEscapedDashDash, ScriptDataDoubleEscapeStart, ScriptDataDoubleEscapedLessThanSign, ScriptDataDoubleEscapeEnd, AmbiguousAmpersand, ToData, ToRcdata}
-use Rattle.h5_states.specs.Turn.{Deed, Goes, Again, Hands, Asks}
+use Rattle.h5_states.specs.Turn.{Outcome, Consumed, Reconsumed, Emitted, Asks}
 use Rattle.h5_states.specs.References.{Reference}
 use Rattle.h5_states.specs.Machine.{turn}
 
@@ -36,7 +36,7 @@ chosen_state (Refuses fault) = Text Data
 
 -- Where reading is: its state, the last start tag's name, whether a CARRIAGE RETURN was the last byte, the line of what
 -- comes next, and the line in which what has not been handed on yet began.
-pub record Place : Type 0 where
+pub record ReaderPlace : Type 0 where
   pub state : State
   pub last : List ℕ
   pub after_return : Bool
@@ -44,7 +44,7 @@ pub record Place : Type 0 where
   pub began : ℕ
 
 -- a LINE FEED behind a CARRIAGE RETURN, which was a newline already
-abbrev pub is_dropped : Place → ℕ → Bool
+abbrev pub is_dropped : ReaderPlace → ℕ → Bool
 is_dropped p x = p.after_return && x == 10
 
 -- whether all that was consumed has been emitted
@@ -63,15 +63,15 @@ is_all_emitted (AmbiguousAmpersand ToRcdata) = true
 is_all_emitted state = false
 
 -- the line behind a byte. The count stays at the most a u64 holds.
-abbrev pub line_after : Place → ℕ → ℕ
+abbrev pub line_after : ReaderPlace → ℕ → ℕ
 line_after p x = if normal x == 10 then u64_saturate (p.line + 1) else p.line
 
 -- what is emitted next begins in this line
-abbrev pub beginning : State → ℕ → Place → ℕ
+abbrev pub beginning : State → ℕ → ReaderPlace → ℕ
 beginning state line p = if is_all_emitted state then line else p.began
 
 -- behind a byte that was consumed
-abbrev pub behind : ℕ → State → Place → Place
+abbrev pub behind : ℕ → State → ReaderPlace → ReaderPlace
 behind x state p = record {
   state = state;
   last = p.last;
@@ -81,54 +81,54 @@ behind x state p = record {
 }
 
 -- before a byte that is reconsumed
-abbrev pub in_state : State → Place → Place
+abbrev pub in_state : State → ReaderPlace → ReaderPlace
 in_state state p = record p { state = state; began = beginning state p.line p }
 
 -- behind a LINE FEED that is dropped
-abbrev pub behind_newline : Place → Place
+abbrev pub behind_newline : ReaderPlace → ReaderPlace
 behind_newline p = record p { after_return = false }
 
-abbrev pub after_tag : TagKind → List ℕ → Reply → Place → Place
+abbrev pub after_tag : TagKind → List ℕ → Reply → ReaderPlace → ReaderPlace
 after_tag StartTag name reply p = record p { state = chosen_state reply; last = name }
 after_tag EndTag name reply p = p
 
 -- behind a token that was answered so
-abbrev pub after_token : TokenText → Reply → Place → Place
+abbrev pub after_token : TokenText → Reply → ReaderPlace → ReaderPlace
 after_token (TagIs tag) reply p = after_tag tag.kind tag.name reply p
 after_token token reply p = p
 
 -- by the table of references
 module _ (table : List Reference) where
   -- what is done at a byte
-  abbrev pub deed : Place → ℕ → Deed
-  deed p x = (turn table p.last p.state (normal x)).deed
+  abbrev pub outcome : ReaderPlace → ℕ → Outcome
+  outcome p x = (turn table p.last p.state (normal x)).outcome
 
   -- From a place, bytes are passed that emit this text, and no token. The adjusted current node isn't asked for.
-  pub data Passes : Place → List ℕ → List ℕ → Place → List ℕ → Type 0 where
-    passed : {p : Place} {xs : List ℕ} → Passes p xs [] p xs
-    drops : {p q : Place} {x : ℕ} {xs ys text : List ℕ} → is_dropped p x ≡ true
+  pub data Passes : ReaderPlace → List ℕ → List ℕ → ReaderPlace → List ℕ → Type 0 where
+    passed : {p : ReaderPlace} {xs : List ℕ} → Passes p xs [] p xs
+    drops : {p q : ReaderPlace} {x : ℕ} {xs ys text : List ℕ} → is_dropped p x ≡ true
         → Passes (behind_newline p) xs text q ys → Passes p (x ∷ xs) text q ys
-    goes : {p q : Place} {x : ℕ} {xs ys more : List ℕ} (text : List ℕ) (state : State) → is_dropped p x ≡ false → deed p x ≡ Goes text state
+    goes : {p q : ReaderPlace} {x : ℕ} {xs ys more : List ℕ} (text : List ℕ) (state : State) → is_dropped p x ≡ false → outcome p x ≡ Consumed text state
         → Passes (behind x state p) xs more q ys → Passes p (x ∷ xs) (text ++ more) q ys
-    again : {p q : Place} {x : ℕ} {xs ys more : List ℕ} (text : List ℕ) (state : State) → is_dropped p x ≡ false → deed p x ≡ Again text state
+    again : {p q : ReaderPlace} {x : ℕ} {xs ys more : List ℕ} (text : List ℕ) (state : State) → is_dropped p x ≡ false → outcome p x ≡ Reconsumed text state
         → Passes (in_state state p) (x ∷ xs) more q ys → Passes p (x ∷ xs) (text ++ more) q ys
 
   module _ {M : Type 0} (reply_to : M → TokenText → Reply) (after : M → TokenText → ℕ → M) (foreign : M → Bool) where
     -- One step: from a place, a meaning and an input, these tokens are handed on, the last is answered so, and this is
     -- left. A text is handed on wherever that is convenient, but wholly before a token and before a question. A token is
     -- told with the line in which it began.
-    pub data Step : Place → M → List ℕ → List TokenText → Reply → Place → M → List ℕ → Type 0 where
-      quiet_step : {p q : Place} {m : M} {xs ys : List ℕ} → Passes p xs [] q ys → Step p m xs [] Continues q m ys
-      text_step : {p q : Place} {m : M} {x : ℕ} {text xs ys : List ℕ} → Passes p xs (x ∷ text) q ys
+    pub data Step : ReaderPlace → M → List ℕ → List TokenText → Reply → ReaderPlace → M → List ℕ → Type 0 where
+      quiet_step : {p q : ReaderPlace} {m : M} {xs ys : List ℕ} → Passes p xs [] q ys → Step p m xs [] Continues q m ys
+      text_step : {p q : ReaderPlace} {m : M} {x : ℕ} {text xs ys : List ℕ} → Passes p xs (x ∷ text) q ys
           → Step p m xs (Characters (x ∷ text) ∷ []) (reply_to m (Characters (x ∷ text))) q (after m (Characters (x ∷ text)) p.began) ys
-      token_step : {p : Place} {m : M} {x : ℕ} {xs : List ℕ} (token : TokenText) (state : State) → is_dropped p x ≡ false → deed p x ≡ Hands token state
+      token_step : {p : ReaderPlace} {m : M} {x : ℕ} {xs : List ℕ} (token : TokenText) (state : State) → is_dropped p x ≡ false → outcome p x ≡ Emitted token state
           → Step p m (x ∷ xs) (token ∷ []) (reply_to m token) (after_token token (reply_to m token) (behind x state p)) (after m token p.began) xs
-      ask_step : {p : Place} {m : M} {x : ℕ} {xs : List ℕ} (there : State) (error : ParseError) (elsewhere : State) → is_dropped p x ≡ false
-          → deed p x ≡ Asks there error elsewhere
+      ask_step : {p : ReaderPlace} {m : M} {x : ℕ} {xs : List ℕ} (there : State) (error : ParseError) (elsewhere : State) → is_dropped p x ≡ false
+          → outcome p x ≡ Asks there error elsewhere
           → Step p m (x ∷ xs) [] Continues (behind x (if foreign m then there else elsewhere) p) m xs
 
     -- Steps, one after another, each after an answer after which reading goes on.
-    pub data Read : Place → M → List ℕ → List TokenText → Reply → Place → M → List ℕ → Type 0 where
-      nothing_read : {p : Place} {m : M} {xs : List ℕ} → Read p m xs [] Continues p m xs
-      read_on : {p q r : Place} {m n o : M} {xs ys zs : List ℕ} {ts us : List TokenText} {reply next : Reply}
+    pub data Read : ReaderPlace → M → List ℕ → List TokenText → Reply → ReaderPlace → M → List ℕ → Type 0 where
+      nothing_read : {p : ReaderPlace} {m : M} {xs : List ℕ} → Read p m xs [] Continues p m xs
+      read_on : {p q r : ReaderPlace} {m n o : M} {xs ys zs : List ℕ} {ts us : List TokenText} {reply next : Reply}
           → Read p m xs ts reply q n ys → goes_on reply ≡ true → Step q n ys us next r o zs → Read p m xs (ts ++ us) next r o zs

@@ -9,21 +9,21 @@ use Rattle.h5_states.specs.declared.kinds.TextKind.TheVariants.{Data, Rcdata}
 use Rattle.h5_states.specs.Construction.{Tag, completed, token_of, value_further}
 use Rattle.h5_states.specs.States.{State, Text, AttributeValue, Return, ToData, ToRcdata, ToValue}
 
-pub data Deed : Type 0 where
+pub data Outcome : Type 0 where
   -- the byte is consumed, this text is emitted, and the state is this
-  Goes : (text : List ℕ) → (state : State) → Deed
+  Consumed : (text : List ℕ) → (state : State) → Outcome
   -- this text is emitted, and the byte is reconsumed in this state
-  Again : (text : List ℕ) → (state : State) → Deed
+  Reconsumed : (text : List ℕ) → (state : State) → Outcome
   -- the byte is consumed, and this token is emitted; the state is this, unless the tree builder changes it
-  Hands : (token : TokenText) → (state : State) → Deed
+  Emitted : (token : TokenText) → (state : State) → Outcome
   -- the byte is consumed; the state is the first where the adjusted current node isn't in the HTML namespace, and
   -- elsewhere this is an error, and the state is the other
-  Asks : (foreign : State) → (error : ParseError) → (other : State) → Deed
+  Asks : (foreign : State) → (error : ParseError) → (other : State) → Outcome
 
 -- parse errors, in their order, and then a deed
 pub record Turn : Type 0 where
   pub errors : List ParseError
-  pub deed : Deed
+  pub outcome : Outcome
 
 abbrev pub wrong : ParseError → Turn → Turn
 wrong e t = record t { errors = e ∷ t.errors }
@@ -33,27 +33,27 @@ wrong_if b e t = record t { errors = if b then e ∷ t.errors else t.errors }
 
 -- switch to
 abbrev pub to : State → Turn
-to s = record { errors = []; deed = Goes [] s }
+to s = record { errors = []; outcome = Consumed [] s }
 
 -- emit, and switch to
 abbrev pub emit : List ℕ → State → Turn
-emit text s = record { errors = []; deed = Goes text s }
+emit text s = record { errors = []; outcome = Consumed text s }
 
 -- reconsume in
 abbrev pub again : State → Turn
-again s = record { errors = []; deed = Again [] s }
+again s = record { errors = []; outcome = Reconsumed [] s }
 
 -- emit, and reconsume in
 abbrev pub emit_again : List ℕ → State → Turn
-emit_again text s = record { errors = []; deed = Again text s }
+emit_again text s = record { errors = []; outcome = Reconsumed text s }
 
 -- emit a token, and switch to
 abbrev pub hand : TokenText → State → Turn
-hand t s = record { errors = []; deed = Hands t s }
+hand t s = record { errors = []; outcome = Emitted t s }
 
 -- switch to the one or the other, by the adjusted current node
 abbrev pub ask : State → ParseError → State → Turn
-ask foreign error other = record { errors = []; deed = Asks foreign error other }
+ask foreign error other = record { errors = []; outcome = Asks foreign error other }
 
 abbrev pub is_end : TagKind → Bool
 is_end StartTag = false

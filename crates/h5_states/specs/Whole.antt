@@ -6,11 +6,11 @@ use Rattle.h5_reading.specs.Told.{after_all}
 use Rattle.h5_reading.specs.Lines.{line_past, ends_in_cr}
 use Rattle.h5_reading.specs.Answers.{goes_on, refuses}
 use Rattle.h5_states.specs.References.{Reference}
-use Rattle.h5_states.specs.Reading.{Place, Read}
+use Rattle.h5_states.specs.Reading.{ReaderPlace, Read}
 use Rattle.h5_states.specs.End.{last_tokens}
 
 -- From a place, these bytes were passed of an input, up to a place and a rest. Its line is behind their newlines.
-pub record IsCounted (p : Place) (xs : List ℕ) (q : Place) (ys : List ℕ) : Type 0 where
+pub record IsCounted (p : ReaderPlace) (xs : List ℕ) (q : ReaderPlace) (ys : List ℕ) : Type 0 where
   pub passed : List ℕ
   pub split : xs ≡ passed ++ ys
   pub line : q.line ≡ line_past p.line p.after_return passed
@@ -18,17 +18,17 @@ pub record IsCounted (p : Place) (xs : List ℕ) (q : Place) (ys : List ℕ) : T
 
 module _ (table : List Reference) {M : Type 0} (reply_to : M → TokenText → Reply) (after : M → TokenText → ℕ → M) (foreign : M → Bool) where
   -- readings, one after another, where no token is refused
-  pub data Readings : Place → M → List ℕ → List TokenText → Place → M → List ℕ → Type 0 where
-    no_reading : {p : Place} {m : M} {xs : List ℕ} → Readings p m xs [] p m xs
-    more_reading : {p q r : Place} {m n o : M} {xs ys zs : List ℕ} {ts us : List TokenText} {reply : Reply}
+  pub data Readings : ReaderPlace → M → List ℕ → List TokenText → ReaderPlace → M → List ℕ → Type 0 where
+    no_reading : {p : ReaderPlace} {m : M} {xs : List ℕ} → Readings p m xs [] p m xs
+    more_reading : {p q r : ReaderPlace} {m n o : M} {xs ys zs : List ℕ} {ts us : List TokenText} {reply : Reply}
         → Readings p m xs ts q n ys → Read table reply_to after foreign q n ys us reply r o zs → refuses reply ≡ false
         → Readings p m xs (ts ++ us) r o zs
 
   -- Some reading of an input, which leaves something only where an answer stops it.
-  pub record ReadsAll (p : Place) (m : M) (xs : List ℕ) : Type 0 where
+  pub record ReadsAll (p : ReaderPlace) (m : M) (xs : List ℕ) : Type 0 where
     pub tokens : List TokenText
     pub reply : Reply
-    pub place : Place
+    pub place : ReaderPlace
     pub meaning : M
     pub rest : List ℕ
     pub read : Read table reply_to after foreign p m xs tokens reply place meaning rest
@@ -37,16 +37,16 @@ module _ (table : List Reference) {M : Type 0} (reply_to : M → TokenText → R
 module _ (table : List Reference) {M : Type 0} (reply_to : M → TokenText → Reply) (after : M → TokenText → ℕ → M) (foreign : M → Bool) (ended : M → M) where
   -- An input was read to its end: all of it, and then the end. These tokens were handed on, and this is what the sink
   -- means then.
-  pub record ReadsToEnd (p : Place) (m : M) (xs : List ℕ) (ts : List TokenText) (n : M) : Type 0 where
+  pub record ReadsToEnd (p : ReaderPlace) (m : M) (xs : List ℕ) (ts : List TokenText) (n : M) : Type 0 where
     pub handed : List TokenText
-    pub place : Place
+    pub place : ReaderPlace
     pub meaning : M
     pub readings : Readings table reply_to after foreign p m xs handed place meaning []
     pub tokens : ts ≡ handed ++ (last_tokens table place ++ EndOfFile ∷ [])
     pub closed : n ≡ ended (after (after_all after meaning (last_tokens table place) place.began) EndOfFile place.line)
 
   -- some tokens were handed on
-  pub record IsReadToEnd (p : Place) (m : M) (xs : List ℕ) : Type 0 where
+  pub record IsReadToEnd (p : ReaderPlace) (m : M) (xs : List ℕ) : Type 0 where
     pub tokens : List TokenText
     pub meaning : M
     pub reads : ReadsToEnd p m xs tokens meaning

@@ -4,7 +4,7 @@ ghost use Rattle.h5_states.specs.Machine.{turn};
 ghost use Rattle.h5_states.specs.Rank.{rank, Meets};
 ghost use Rattle.h5_states.specs.References.{Reference};
 ghost use Rattle.h5_states.specs.States.{State};
-ghost use Rattle.h5_states.specs.Turn.{Again};
+ghost use Rattle.h5_states.specs.Turn.{Reconsumed};
 
 pub use h5_reading::Likeness;
 use h5_token::TokenSink;
@@ -13,7 +13,7 @@ use h5_token::TokenSink;
 /// rank is two at most. That holds for all states, whatever the table of references and the last start tag's name.
 pub fn a_byte_meets_three_rows()
     ensures falls { (table : List Reference) (last : List ℕ) (state : State) (x : ℕ) (text : List ℕ) (next : State) →
-        (turn table last state x).deed ≡ Again text next → rank next x < rank state x }
+        (turn table last state x).outcome ≡ Reconsumed text next → rank next x < rank state x }
     ensures small { (state : State) (x : ℕ) → rank state x ≤ 2 }
     ensures three { (table : List Reference) (last : List ℕ) (x n : ℕ) (s t : State) → Meets table last x n s t → n ≤ 3 }
 {}
@@ -25,12 +25,12 @@ ghost use Rattle.h5_token.specs.declared.states.RawKind.{RawKind};
 ghost use Rattle.h5_reading.specs.Proper.{AreProper};
 ghost use Rattle.h5_reading.specs.Answers.{goes_on, refuses};
 ghost use Rattle.h5_states.specs.RawTexts.{IsRaw, RawBehind};
-ghost use Rattle.h5_states.specs.Reading.{Place, Read, Step, chosen_state};
+ghost use Rattle.h5_states.specs.Reading.{ReaderPlace, Read, Step, chosen_state};
 
 /// What was read is read so whatever follows: a piece that is read early is read as in the whole input.
 pub fn reading_goes_on<S: TokenSink>()
-    ensures { (table : List Reference) (p : Place) (m : S.Meaning) (xs : List ℕ) (ts : List TokenText) (reply : Reply)
-        (q : Place) (n : S.Meaning) (ys more : List ℕ) →
+    ensures { (table : List Reference) (p : ReaderPlace) (m : S.Meaning) (xs : List ℕ) (ts : List TokenText) (reply : Reply)
+        (q : ReaderPlace) (n : S.Meaning) (ys more : List ℕ) →
         Read table S.reply_to S.after S.is_foreign p m xs ts reply q n ys
         → Read table S.reply_to S.after S.is_foreign p m (xs ++ more) ts reply q n (ys ++ more) }
 {}
@@ -38,8 +38,8 @@ pub fn reading_goes_on<S: TokenSink>()
 /// One reading, and then another from where it came to, are one reading of both lists of tokens. Its last answer is the
 /// second's, if that has one; in any case reading goes on after the one as after the other.
 pub fn readings_join<S: TokenSink>()
-    ensures { (table : List Reference) (p : Place) (m : S.Meaning) (xs : List ℕ) (ts : List TokenText) (reply : Reply)
-        (q : Place) (n : S.Meaning) (ys : List ℕ) (us : List TokenText) (next : Reply) (r : Place) (o : S.Meaning) (zs : List ℕ) →
+    ensures { (table : List Reference) (p : ReaderPlace) (m : S.Meaning) (xs : List ℕ) (ts : List TokenText) (reply : Reply)
+        (q : ReaderPlace) (n : S.Meaning) (ys : List ℕ) (us : List TokenText) (next : Reply) (r : ReaderPlace) (o : S.Meaning) (zs : List ℕ) →
         Read table S.reply_to S.after S.is_foreign p m xs ts reply q n ys
         → goes_on reply ≡ true
         → Read table S.reply_to S.after S.is_foreign q n ys us next r o zs
@@ -48,8 +48,8 @@ pub fn readings_join<S: TokenSink>()
 
 /// Reading hands on no parse errors and no empty texts, over any taker of tokens.
 pub fn no_errors_and_no_empty_texts<S: TokenSink>()
-    ensures { (table : List Reference) (p : Place) (m : S.Meaning) (xs : List ℕ) (ts : List TokenText) (reply : Reply)
-        (q : Place) (n : S.Meaning) (ys : List ℕ) →
+    ensures { (table : List Reference) (p : ReaderPlace) (m : S.Meaning) (xs : List ℕ) (ts : List TokenText) (reply : Reply)
+        (q : ReaderPlace) (n : S.Meaning) (ys : List ℕ) →
         Read table S.reply_to S.after S.is_foreign p m xs ts reply q n ys → AreProper ts }
 {}
 
@@ -57,8 +57,8 @@ pub fn no_errors_and_no_empty_texts<S: TokenSink>()
 /// end tag; and so does each state that a step comes to behind a text, or behind nothing.
 pub fn raw_elements_have_texts_and_an_end_tag<S: TokenSink>()
     ensures chosen { (kind : RawKind) → IsRaw (chosen_state (TurnsRaw kind)) }
-    ensures step { (table : List Reference) (p : Place) (m : S.Meaning) (xs : List ℕ) (ts : List TokenText) (reply : Reply)
-        (q : Place) (n : S.Meaning) (ys : List ℕ) →
+    ensures step { (table : List Reference) (p : ReaderPlace) (m : S.Meaning) (xs : List ℕ) (ts : List TokenText) (reply : Reply)
+        (q : ReaderPlace) (n : S.Meaning) (ys : List ℕ) →
         IsRaw p.state → Step table S.reply_to S.after S.is_foreign p m xs ts reply q n ys → RawBehind ts q.state }
 {}
 
@@ -71,13 +71,13 @@ ghost use Rattle.h5_states.specs.Whole.{IsCounted, IsReadToEnd, Readings, ReadsA
 /// Nothing is held back between two pieces. From every place, over every meaning, any input can be read up to nothing or to
 /// an answer after which reading doesn't go on. So what a reader keeps is a place, and no bytes.
 pub fn nothing_is_held<S: TokenSink>()
-    ensures { (table : List Reference) (p : Place) (m : S.Meaning) (xs : List ℕ) → ReadsAll table S.reply_to S.after S.is_foreign p m xs }
+    ensures { (table : List Reference) (p : ReaderPlace) (m : S.Meaning) (xs : List ℕ) → ReadsAll table S.reply_to S.after S.is_foreign p m xs }
 {}
 
 /// Readings, and then one of what they left and of more input behind it, are readings of the whole input.
 pub fn pieces_join<S: TokenSink>()
-    ensures { (table : List Reference) (p : Place) (m : S.Meaning) (xs : List ℕ) (ts : List TokenText) (q : Place) (n : S.Meaning)
-        (ys more : List ℕ) (us : List TokenText) (reply : Reply) (r : Place) (o : S.Meaning) (zs : List ℕ) →
+    ensures { (table : List Reference) (p : ReaderPlace) (m : S.Meaning) (xs : List ℕ) (ts : List TokenText) (q : ReaderPlace) (n : S.Meaning)
+        (ys more : List ℕ) (us : List TokenText) (reply : Reply) (r : ReaderPlace) (o : S.Meaning) (zs : List ℕ) →
         Readings table S.reply_to S.after S.is_foreign p m xs ts q n ys
         → Read table S.reply_to S.after S.is_foreign q n (ys ++ more) us reply r o zs
         → refuses reply ≡ false
@@ -86,7 +86,7 @@ pub fn pieces_join<S: TokenSink>()
 
 /// Readings of all the input, and then the end, read the input to its end.
 pub fn the_end_ends_readings<S: TokenSink>()
-    ensures { (table : List Reference) (p : Place) (m : S.Meaning) (xs : List ℕ) (ts : List TokenText) (q : Place) (n o : S.Meaning) →
+    ensures { (table : List Reference) (p : ReaderPlace) (m : S.Meaning) (xs : List ℕ) (ts : List TokenText) (q : ReaderPlace) (n o : S.Meaning) →
         Readings table S.reply_to S.after S.is_foreign p m xs ts q n []
         → Closes S.reply_to S.after S.ended table q n o (Ok tt)
         → ReadsToEnd table S.reply_to S.after S.is_foreign S.ended p m xs (ts ++ (last_tokens table q ++ EndOfFile ∷ [])) o }
@@ -95,18 +95,18 @@ pub fn the_end_ends_readings<S: TokenSink>()
 /// Any input can be read to its end, over a taker that refuses no token.
 pub fn any_input_is_read_to_its_end<S: TokenSink>()
     ensures { ((m : S.Meaning) (t : TokenText) → refuses (S.reply_to m t) ≡ false)
-        → (table : List Reference) (p : Place) (m : S.Meaning) (xs : List ℕ) →
+        → (table : List Reference) (p : ReaderPlace) (m : S.Meaning) (xs : List ℕ) →
         IsReadToEnd table S.reply_to S.after S.is_foreign S.ended p m xs }
 {}
 
 /// A reading passes a front of the input, and comes to the line in which it began and the newlines of that front; and so
 /// do readings. CARRIAGE RETURN LINE FEED is one newline, also where the one was passed by an earlier reading.
 pub fn lines_are_counted<S: TokenSink>()
-    ensures reading { (table : List Reference) (p : Place) (m : S.Meaning) (xs : List ℕ) (ts : List TokenText) (reply : Reply)
-        (q : Place) (n : S.Meaning) (ys : List ℕ) →
+    ensures reading { (table : List Reference) (p : ReaderPlace) (m : S.Meaning) (xs : List ℕ) (ts : List TokenText) (reply : Reply)
+        (q : ReaderPlace) (n : S.Meaning) (ys : List ℕ) →
         p.line ≤ u64.MAX → Read table S.reply_to S.after S.is_foreign p m xs ts reply q n ys → IsCounted p xs q ys }
-    ensures readings { (table : List Reference) (p : Place) (m : S.Meaning) (xs : List ℕ) (ts : List TokenText)
-        (q : Place) (n : S.Meaning) (ys : List ℕ) →
+    ensures readings { (table : List Reference) (p : ReaderPlace) (m : S.Meaning) (xs : List ℕ) (ts : List TokenText)
+        (q : ReaderPlace) (n : S.Meaning) (ys : List ℕ) →
         p.line ≤ u64.MAX → Readings table S.reply_to S.after S.is_foreign p m xs ts q n ys → IsCounted p xs q ys }
 {}
 
@@ -118,7 +118,7 @@ pub fn lines_are_counted<S: TokenSink>()
 pub fn cuts_of_the_input_agree<S: TokenSink, L: Likeness>()
     ensures { (see : S.Meaning → L.Seen) →
         IsBlindToCuts S.reply_to S.after S.is_foreign S.ended (λ m n. L.alike (see m) (see n))
-        → (table : List Reference) (p : Place) (m n : S.Meaning) (xs : List ℕ) (ts us : List TokenText) (k l : S.Meaning) →
+        → (table : List Reference) (p : ReaderPlace) (m n : S.Meaning) (xs : List ℕ) (ts us : List TokenText) (k l : S.Meaning) →
         L.alike (see m) (see n)
         → ReadsToEnd table S.reply_to S.after S.is_foreign S.ended p m xs ts k
         → ReadsToEnd table S.reply_to S.after S.is_foreign S.ended p n xs us l

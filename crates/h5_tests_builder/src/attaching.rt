@@ -2,9 +2,9 @@
 use super::feeding::taking;
 use h5_arena::{Arena, NodeId};
 use h5_interface::TreeSink;
+use h5_tables::TreeBuilderOpts;
 use h5_tests_sinks::{Agreeing, Attaching, Detaching, html_of};
 use h5_tree_builder::TreeBuilder;
-use h5_types::TreeBuilderOpts;
 use std::alloc::Global;
 use std::process::Abort;
 use std::test::Fail;

@@ -1,10 +1,10 @@
 //! Builders that take lines of tokens: tests go from one to the next.
 use h5_arena::{Arena, NodeId};
 use h5_interface::TreeSink;
-use h5_lines::{Item, parse};
+use h5_print::{Item, parse};
+use h5_tables::TreeBuilderOpts;
 use h5_token::Token;
 use h5_tree_builder::TreeBuilder;
-use h5_types::TreeBuilderOpts;
 use std::alloc::{AllocError, Global};
 use std::test::Fail;
 

@@ -2,7 +2,7 @@
 //! sinks of other types.
 //!
 //! `calls` has the calls, `attaching` the builders over sinks that attach shadow roots, and `feeding` builders that take
-//! lines of tokens. Begin with `src/feeding.rt`.
+//! lines of tokens; `selecting` has selectors over the tree of a page. Begin with `src/feeding.rt`.
 #![tactic(auto)]
 
 #[cfg(test)]
@@ -11,3 +11,5 @@ mod attaching;
 mod calls;
 #[cfg(test)]
 mod feeding;
+#[cfg(test)]
+mod selecting;

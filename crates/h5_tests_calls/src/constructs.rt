@@ -1,6 +1,6 @@
 //! The parts of texts, tags and doctypes.
 use h5_markup::{
-    Keeping, Kept, Seen, SharedNames, cleaned, escape, is_plain, make_doctype, newline, plain_len,
+    Keeping, Kept, Match, SharedNames, cleaned, escape, is_plain, make_doctype, newline, plain_len,
     read_attributes, reference, text_of,
 };
 use h5_names::LocalName;
@@ -10,9 +10,9 @@ use std::fmt::Write;
 use std::process::Abort;
 use std::test::Fail;
 
-fn stands_for(rt: &impl Abort, seen: Seen<'_, &str>, wanted: &str) {
+fn stands_for(rt: &impl Abort, seen: Match<'_, &str>, wanted: &str) {
     match seen {
-        Seen::Found(text, rest) => {
+        Match::Found(text, rest) => {
             assert_eq!(rt; text, wanted);
             assert_eq!(rt; rest, "b");
         }

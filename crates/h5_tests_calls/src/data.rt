@@ -1,11 +1,11 @@
 //! Names that change inside SVG and MathML, and what doctypes mean.
 use super::parts::attribute;
-use h5_data::{
+use h5_interface::QuirksMode;
+use h5_names::{Attribute, LocalName, Prefix, namespaces};
+use h5_tables::{
     adjust_foreign_attributes, adjust_mathml_attributes, adjust_svg_attributes,
     adjust_svg_tag_name, doctype_error_and_quirks,
 };
-use h5_interface::QuirksMode;
-use h5_names::{Attribute, LocalName, Prefix, namespaces};
 use h5_token::Doctype;
 use std::alloc::{AllocError, Global};
 use std::process::Abort;

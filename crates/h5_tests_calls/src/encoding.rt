@@ -1,5 +1,5 @@
 //! The encoding that the text of a `meta` element names.
-use h5_data::extract_a_character_encoding_from_a_meta_element;
+use h5_tables::extract_a_character_encoding_from_a_meta_element;
 
 #[test]
 fn encodings_are_named(rt: HostRuntime) {

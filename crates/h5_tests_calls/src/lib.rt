@@ -1,9 +1,9 @@
-//! Tests: each public call of `h5_names`, `h5_token`, `h5_tag_sets`, `h5_markup`, `h5_data`, `h5_references`, `h5_stack`,
-//! `h5_tokenizer` and of the program's crates once, with ample memory.
+//! Tests: each public call of `h5_names`, `h5_token`, `h5_tables`, `h5_markup`, `h5_references`, `h5_stack` and of the
+//! program's crates once, with ample memory.
 //!
-//! Most modules have the name of what they test, as `names`, `token`, `tokenizer`, `lines` or `commands`; `constructs`
+//! Most modules have the name of what they test, as `names`, `token`, `lines` or `commands`; `constructs`
 //! has the parts of texts, tags and doctypes. `running` runs the program over memory, `deep` does so with deep
-//! documents, and `parts` makes names and attributes. Begin with `src/tokenizer.rt`.
+//! documents, and `parts` makes names and attributes. Begin with `src/names.rt`.
 #![tactic(auto)]
 
 #[cfg(test)]
@@ -34,5 +34,3 @@ mod stack;
 mod tag_sets;
 #[cfg(test)]
 mod token;
-#[cfg(test)]
-mod tokenizer;

@@ -1,7 +1,7 @@
 //! Tokens as lines of text.
 use super::parts::attribute;
-use h5_lines::{Item, Line, LineFault, Part, parse, parse_line, read_escapes, write_escapes};
 use h5_names::{Attribute, KnownName, LocalName};
+use h5_print::{Item, Line, LineFault, Part, parse, parse_line, read_escapes, write_escapes};
 use h5_token::{Doctype, Tag, TagKind, Token};
 use std::alloc::{AllocError, Global};
 use std::process::Abort;

@@ -1,6 +1,6 @@
 //! Each set once with an element that it holds, and one that it doesn't.
 use h5_names::{KnownName, LocalName, Namespace, QualName, namespaces};
-use h5_tag_sets::{
+use h5_tables::{
     ElementSet, NameSet, body_end_ok, button_scope, cursory_implied_end, default_scope,
     formatting_tag, head_content_tag, heading_tag, is_html, is_html_known, is_html_local,
     list_item_scope, mathml_text_integration_point, special_tag, svg_html_integration_point,

@@ -64,9 +64,9 @@ pub(crate) fn own(arena: &mut Arena, id: NodeId, rt: &impl Abort) {
 
 pub(crate) fn detach(arena: &mut Arena, id: NodeId, rt: &impl Abort) -> Result<(), AllocError> {
     assert!(rt; arena.holds(id));
-    match arena.name(id) {
-        Some(_) => arena.remove_from_parent(&id),
-        None => Ok(()),
+    match arena.kind(id) {
+        Kind::Element(_) => arena.remove_from_parent(&id),
+        _ => Ok(()),
     }
 }
 

@@ -12,7 +12,7 @@ use Rattle.h5_reading.proofs.JoinLaws.{joins_append}
 use Rattle.h5_reading.proofs.BlindLaws.{text_cut}
 use Rattle.h5_tokenizer.specs.declared.front.Mode.{Mode}
 use Rattle.h5_tokenizer.specs.declared.front.Mode.TheVariants.{Data, RawData, Plaintext, Cdata}
-use Rattle.h5_tokenizer.specs.Front.{Opening, Turns, says, stands_for, comment, doctype, end_tag, start_tag, null, Piece, Bit, Whole, Switch, finished, other, front, Place}
+use Rattle.h5_tokenizer.specs.Front.{Opening, Turns, says, stands_for, comment, doctype, end_tag, start_tag, null, Piece, Bit, Whole, Switch, finished, other, front, ReaderPlace}
 use Rattle.h5_token.specs.Joins.{glue, join}
 use Rattle.h5_tokenizer.specs.Read.{Bits, no_bit, more_bits, Step, marked, unmarked, token_step, switch_step, text_step, Read, nothing_read, read_on, behind, started, in_mode, next_place}
 use Rattle.h5_tokenizer.specs.Whole.{Readings, no_reading, more_reading, ReadsToEnd, closing, after_closing}
@@ -54,17 +54,17 @@ module _ {M : Type 0} (reply_to : M → TokenText → Reply) (after : M → Toke
   after_cut m n (x ∷ bit) text full h = blind.transitive _ _ n (text_cut reply_to after foreign ended alike blind m (x ∷ bit) text 0 0 0) h
 
   -- the same was done bit by bit, but for the line
-  pub record Follows (p : Place) (m : M) (xs : List ℕ) (ts : List TokenText) (q : Place) (n : M) (ys : List ℕ) : Type 0 where
+  pub record Follows (p : ReaderPlace) (m : M) (xs : List ℕ) (ts : List TokenText) (q : ReaderPlace) (n : M) (ys : List ℕ) : Type 0 where
     pub tokens : List TokenText
     pub meaning : M
     pub run : Runs reply_to after foreign (unlined p) m xs tokens (unlined q) meaning ys
     pub joined : join ts ≡ join tokens
     pub like : alike n meaning
 
-  bit_deed : (p : Place) (f : Bool) (xs bit rest : List ℕ) → p.at_start ≡ false → front p.mode p.last f xs ≡ Found (Bit bit) rest → deed p f xs ≡ Found (Done (Bit bit)) rest
+  bit_deed : (p : ReaderPlace) (f : Bool) (xs bit rest : List ℕ) → p.at_start ≡ false → front p.mode p.last f xs ≡ Found (Bit bit) rest → deed p f xs ≡ Found (Done (Bit bit)) rest
   bit_deed p f xs bit rest started h = deed_goes_on p f xs started ∙ ap done h
 
-  one_bit : (p : Place) (m n : M) (xs bit rest text ys : List ℕ) → p.at_start ≡ false → alike m n
+  one_bit : (p : ReaderPlace) (m n : M) (xs bit rest text ys : List ℕ) → p.at_start ≡ false → alike m n
       → front p.mode p.last (foreign n) xs ≡ Found (Bit bit) rest
       → Follows p (after n (Characters bit) 0) rest (told text) p (after_text after (after m (Characters bit) 0) text 0) ys
       → Follows p n xs (told (bit ++ text)) p (after_text after m (bit ++ text) 0) ys
@@ -78,27 +78,27 @@ module _ {M : Type 0} (reply_to : M → TokenText → Reply) (after : M → Toke
         like = after_cut m behind.meaning bit text full behind.like;
       }
 
-  follow_bits : {xs text ys : List ℕ} (p : Place) (m n : M) → p.at_start ≡ false → alike m n → Bits p.mode p.last true xs text ys → Follows p n xs (told text) p (after_text after m text 0) ys
+  follow_bits : {xs text ys : List ℕ} (p : ReaderPlace) (m n : M) → p.at_start ≡ false → alike m n → Bits p.mode p.last true xs text ys → Follows p n xs (told text) p (after_text after m text 0) ys
   follow_bits p m n begun like no_bit = record { tokens = []; meaning = n; run = stays; joined = refl; like = like }
   follow_bits {xs} {ys} p m n begun like (more_bits {rest} {text} bit h bits) =
       one_bit p m n xs bit rest text ys begun like (bit_anyway p.mode p.last (foreign n) xs bit rest h)
       (follow_bits p (after m (Characters bit) 0) (after n (Characters bit) 0) begun (blind.kept m n (Characters bit) 0 0 like) bits)
 
   -- the first bit is read where the sink's answer counts
-  follow_first : (p : Place) (m n : M) (xs text ys : List ℕ) → p.at_start ≡ false → alike m n → length ys < length xs → Bits p.mode p.last (foreign m) xs text ys → Follows p n xs (told text) p (after_text after m text 0) ys
+  follow_first : (p : ReaderPlace) (m n : M) (xs text ys : List ℕ) → p.at_start ≡ false → alike m n → length ys < length xs → Bits p.mode p.last (foreign m) xs text ys → Follows p n xs (told text) p (after_text after m text 0) ys
   follow_first p m n xs text ys begun like less no_bit = absurd (omega arith)
   follow_first p m n xs text ys begun like less (more_bits {rest} {text = others} bit h bits) =
       one_bit p m n xs bit rest others ys begun like (ap (λ b. front p.mode p.last b xs) (sym (blind.spaces m n like)) ∙ h)
       (follow_bits p (after m (Characters bit) 0) (after n (Characters bit) 0) begun (blind.kept m n (Characters bit) 0 0 like) bits)
 
   -- one deed, from a meaning that is alike
-  one_deed : (p : Place) (n : M) (xs rest : List ℕ) (d : Deed) (ts : List TokenText) (q : Place) (k : M)
+  one_deed : (p : ReaderPlace) (n : M) (xs rest : List ℕ) (d : Deed) (ts : List TokenText) (q : ReaderPlace) (k : M)
       → deed p (foreign n) xs ≡ Found d rest → place_behind reply_to after foreign (unlined p) n d ≡ unlined q → ts ≡ tokens_of d
       → alike k (meaning_behind reply_to after foreign n d) → Follows p n xs ts q k rest
   one_deed p n xs rest d ts q k h place told like = record {
     tokens = tokens_of d ++ [];
     meaning = meaning_behind reply_to after foreign n d;
-    run = does d h (subst (λ (x : Place). Runs reply_to after foreign (place_behind reply_to after foreign (unlined p) n d) (meaning_behind reply_to after foreign n d) rest [] x (meaning_behind reply_to after foreign n d) rest) place stays);
+    run = does d h (subst (λ (x : ReaderPlace). Runs reply_to after foreign (place_behind reply_to after foreign (unlined p) n d) (meaning_behind reply_to after foreign n d) rest [] x (meaning_behind reply_to after foreign n d) rest) place stays);
     joined = ap join (told ∙ sym (append-nil (tokens_of d)));
     like = like;
   }
@@ -111,7 +111,7 @@ module _ {M : Type 0} (reply_to : M → TokenText → Reply) (after : M → Toke
   after_one m [] full = absurd full
   after_one m (x ∷ text) full = refl
 
-  follow_text : (p : Place) (m n : M) (xs text ys : List ℕ) → p.at_start ≡ false → alike m n → length ys < length xs → Bits p.mode p.last (foreign m) xs text ys → Follows p n xs (Characters text ∷ []) (behind p xs ys) (after m (Characters text) p.line) ys
+  follow_text : (p : ReaderPlace) (m n : M) (xs text ys : List ℕ) → p.at_start ≡ false → alike m n → length ys < length xs → Bits p.mode p.last (foreign m) xs text ys → Follows p n xs (Characters text ∷ []) (behind p xs ys) (after m (Characters text) p.line) ys
   follow_text p m n xs text ys begun like less bits =
       let full = bits_full less bits in
       let first = follow_first p m n xs text ys begun like less bits in
@@ -123,7 +123,7 @@ module _ {M : Type 0} (reply_to : M → TokenText → Reply) (after : M → Toke
         like = blind.transitive (after m (Characters text) p.line) (after_text after m text 0) first.meaning (subst (λ (k : M). alike (after m (Characters text) p.line) k) (sym (after_one m text full)) (blind.kept m m (Characters text) p.line 0 (blind.reflexive m))) first.like;
       }
 
-  follow_step : {p : Place} {m : M} {xs : List ℕ} {ts : List TokenText} {reply : Reply} {q : Place} {k : M} {ys : List ℕ} (n : M) → alike m n → Step reply_to after foreign p m xs ts reply q k ys → Follows p n xs ts q k ys
+  follow_step : {p : ReaderPlace} {m : M} {xs : List ℕ} {ts : List TokenText} {reply : Reply} {q : ReaderPlace} {k : M} {ys : List ℕ} (n : M) → alike m n → Step reply_to after foreign p m xs ts reply q k ys → Follows p n xs ts q k ys
   follow_step {p} {m} n like (marked {xs} {rest} s h) =
       one_deed p n xs rest Begun [] (started p) m (deed_begins p (foreign n) xs s ∙ ap (behind_mark xs) h) refl refl like
   follow_step {p} {m} n like (unmarked {xs} s h) =
@@ -138,7 +138,7 @@ module _ {M : Type 0} (reply_to : M → TokenText → Reply) (after : M → Toke
       refl refl like
   follow_step n like (text_step {p} {m} {xs} {ys} text s less bits) = follow_text p m n xs text ys s like less bits
 
-  follow_more : (p : Place) (n : M) (xs : List ℕ) (ts : List TokenText) (q : Place) (k : M) (ys : List ℕ) (us : List TokenText) (r : Place) (o : M) (zs : List ℕ)
+  follow_more : (p : ReaderPlace) (n : M) (xs : List ℕ) (ts : List TokenText) (q : ReaderPlace) (k : M) (ys : List ℕ) (us : List TokenText) (r : ReaderPlace) (o : M) (zs : List ℕ)
       → (first : Follows p n xs ts q k ys) → Follows q first.meaning ys us r o zs → Follows p n xs (ts ++ us) r o zs
   follow_more p n xs ts q k ys us r o zs first second = record {
     tokens = first.tokens ++ second.tokens;
@@ -148,16 +148,16 @@ module _ {M : Type 0} (reply_to : M → TokenText → Reply) (after : M → Toke
     like = second.like;
   }
 
-  follow_none : (p : Place) (m n : M) (xs : List ℕ) → alike m n → Follows p n xs [] p m xs
+  follow_none : (p : ReaderPlace) (m n : M) (xs : List ℕ) → alike m n → Follows p n xs [] p m xs
   follow_none p m n xs like = record { tokens = []; meaning = n; run = stays; joined = refl; like = like }
 
-  follow_read : {p : Place} {m : M} {xs : List ℕ} {ts : List TokenText} {reply : Reply} {q : Place} {k : M} {ys : List ℕ} (n : M) → alike m n → Read reply_to after foreign p m xs ts reply q k ys → Follows p n xs ts q k ys
+  follow_read : {p : ReaderPlace} {m : M} {xs : List ℕ} {ts : List TokenText} {reply : Reply} {q : ReaderPlace} {k : M} {ys : List ℕ} (n : M) → alike m n → Read reply_to after foreign p m xs ts reply q k ys → Follows p n xs ts q k ys
   follow_read {p} {m} {xs} n like nothing_read = follow_none p m n xs like
   follow_read n like (read_on {p} {q} {r} {m} {n = k} {o} {xs} {ys} {zs} {ts} {us} read goes step) =
       let first = follow_read n like read in
       follow_more p n xs ts q k ys us r o zs first (follow_step first.meaning first.like step)
 
-  follow_readings : {p : Place} {m : M} {xs : List ℕ} {ts : List TokenText} {q : Place} {k : M} {ys : List ℕ} (n : M) → alike m n → Readings reply_to after foreign p m xs ts q k ys → Follows p n xs ts q k ys
+  follow_readings : {p : ReaderPlace} {m : M} {xs : List ℕ} {ts : List TokenText} {q : ReaderPlace} {k : M} {ys : List ℕ} (n : M) → alike m n → Readings reply_to after foreign p m xs ts q k ys → Follows p n xs ts q k ys
   follow_readings {p} {m} {xs} n like no_reading = follow_none p m n xs like
   follow_readings n like (more_reading {p} {q} {r} {m} {n = k} {o} {xs} {ys} {zs} {ts} {us} readings read goes) =
       let first = follow_readings n like readings in
@@ -173,7 +173,7 @@ module _ {M : Type 0} (reply_to : M → TokenText → Reply) (after : M → Toke
       subst (λ (o : Option TokenText). alike (ended (after_closing after m s i j)) (ended (after_closing after n o k l))) e
       (blind.ends (after_closing after m s i j) (after_closing after n s k l) (closing_alike s m n i j k l like))
 
-  ended_alike : {p q : Place} {m n : M} {xs ys : List ℕ} {ts us : List TokenText} {k l : M} (a : ReadsToEnd reply_to after foreign ended p m xs ts k) (b : ReadsToEnd reply_to after foreign ended q n ys us l)
+  ended_alike : {p q : ReaderPlace} {m n : M} {xs ys : List ℕ} {ts us : List TokenText} {k l : M} (a : ReadsToEnd reply_to after foreign ended p m xs ts k) (b : ReadsToEnd reply_to after foreign ended q n ys us l)
       → settle a.place.mode a.place.last (foreign a.meaning) a.rest ≡ settle b.place.mode b.place.last (foreign b.meaning) b.rest → alike a.meaning b.meaning → alike k l
   ended_alike {k} {l} a b settled meanings =
       let s = settle a.place.mode a.place.last (foreign a.meaning) a.rest in
@@ -185,7 +185,7 @@ module _ {M : Type 0} (reply_to : M → TokenText → Reply) (after : M → Toke
       (ends_alike a.meaning b.meaning s t a.place.line i b.place.line j settled meanings))
 
   -- how an input is cut doesn't matter
-  pub cuts_agree : (p : Place) (m n : M) (xs : List ℕ) (ts us : List TokenText) (k l : M) → alike m n
+  pub cuts_agree : (p : ReaderPlace) (m n : M) (xs : List ℕ) (ts us : List TokenText) (k l : M) → alike m n
       → ReadsToEnd reply_to after foreign ended p m xs ts k → ReadsToEnd reply_to after foreign ended p n xs us l
       → (join ts ≡ join us) × alike k l
   cuts_agree p m n xs ts us k l like a b =

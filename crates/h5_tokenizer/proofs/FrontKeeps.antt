@@ -16,7 +16,7 @@ use Rattle.h5_tokenizer.specs.declared.front.Mode.TheVariants.{Data, RawData, Pl
 use Rattle.h5_tokenizer.specs.declared.front.Construct.TheVariants.{Comment, Doctype, StartTag, EndTag, RawEndTag}
 use Rattle.h5_markup.specs.Text.{gives, reference, newline, cleaned, escape}
 use Rattle.h5_tokenizer.specs.Tokens.{start_of, token_of}
-use Rattle.h5_tokenizer.specs.Front.{Opening, Begins, Gives, Null, Turns, says, stands_for, cdata, in_data, raw_end_tag, reads_references, opening, Bit, Whole, Switch, finished, other, front, Place}
+use Rattle.h5_tokenizer.specs.Front.{Opening, Begins, Gives, Null, Turns, says, stands_for, cdata, in_data, raw_end_tag, reads_references, opening, Bit, Whole, Switch, finished, other, front, ReaderPlace}
 use Rattle.h5_tokenizer.proofs.PartLaws.{Part, Parts, Keeps, part_none, part_twice, and_then_parts, or_else_parts, literal_keeps, word_keeps, peek_keeps, ahead_keeps, up_to_end_keeps, found_keeps, no_keeps, and_then_keeps, or_else_keeps}
 
 gives_keeps : (bytes needle : List ℕ) → ends_in_cr false needle ≡ false → Keeps (λ xs. gives bytes (literal needle xs))
@@ -150,7 +150,7 @@ bits_part {xs} no_bit = part_none xs
 bits_part (more_bits {mode} {last} {foreign} {xs} {rest} bit h bits) = part_twice (found_part (Bit bit) xs rest (front_keeps mode last foreign) h) (bits_part bits)
 
 module _ {M : Type 0} (reply_to : M → TokenText → Reply) (after : M → TokenText → ℕ → M) (foreign : M → Bool) where
-  pub step_part : {p : Place} {m : M} {xs : List ℕ} {ts : List TokenText} {reply : Reply} {q : Place} {n : M} {ys : List ℕ} → Step reply_to after foreign p m xs ts reply q n ys → Part xs ys
+  pub step_part : {p : ReaderPlace} {m : M} {xs : List ℕ} {ts : List TokenText} {reply : Reply} {q : ReaderPlace} {n : M} {ys : List ℕ} → Step reply_to after foreign p m xs ts reply q n ys → Part xs ys
   step_part (marked {xs} {rest} s h) = found_part tt xs rest (literal_keeps (0xef ∷ 0xbb ∷ 0xbf ∷ []) refl) h
   step_part (unmarked {xs} s h) = part_none xs
   step_part (token_step {p} {m} {xs} {rest} t s h) = found_part (Whole t) xs rest (front_keeps p.mode p.last (foreign m)) h
@@ -158,6 +158,6 @@ module _ {M : Type 0} (reply_to : M → TokenText → Reply) (after : M → Toke
   step_part (text_step text s less bits) = bits_part bits
 
   -- what is left unread is an end of the input
-  pub read_part : {p : Place} {m : M} {xs : List ℕ} {ts : List TokenText} {reply : Reply} {q : Place} {n : M} {ys : List ℕ} → Read reply_to after foreign p m xs ts reply q n ys → Part xs ys
+  pub read_part : {p : ReaderPlace} {m : M} {xs : List ℕ} {ts : List TokenText} {reply : Reply} {q : ReaderPlace} {n : M} {ys : List ℕ} → Read reply_to after foreign p m xs ts reply q n ys → Part xs ys
   read_part {xs} nothing_read = part_none xs
   read_part (read_on read goes step) = part_twice (read_part read) (step_part step)

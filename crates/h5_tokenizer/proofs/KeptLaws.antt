@@ -4,7 +4,7 @@ use Rattle.h5_token.specs.TokenText.{Characters, EndOfFile, TokenText}
 use Rattle.h5_token.specs.Reply.{Reply}
 use Rattle.h5_reading.specs.Lines.{line_behind}
 use Rattle.h5_reading.specs.Blindness.{IsBlindToCuts}
-use Rattle.h5_tokenizer.specs.Front.{Place}
+use Rattle.h5_tokenizer.specs.Front.{ReaderPlace}
 use Rattle.h5_tokenizer.specs.Read.{Read, Step, marked, nothing_read, read_on, switch_step, text_step, token_step, unmarked}
 use Rattle.h5_tokenizer.specs.End.{settle}
 use Rattle.h5_tokenizer.specs.Whole.{Readings, ReadsToEnd, after_closing, more_reading, no_reading}
@@ -28,35 +28,35 @@ module _ {M : Type 0} (reply_to : M → TokenText → Reply) (after : M → Toke
   abbrev pub kept_foreign : Kept M Holds → Bool
   kept_foreign k = foreign k.meaning
 
-  pub record KeptStep (p : Place) (m : M) (xs : List ℕ) (ts : List TokenText) (reply : Reply) (q : Place) (n : M) (ys : List ℕ) (h : Holds m) : Type 0 where
+  pub record KeptStep (p : ReaderPlace) (m : M) (xs : List ℕ) (ts : List TokenText) (reply : Reply) (q : ReaderPlace) (n : M) (ys : List ℕ) (h : Holds m) : Type 0 where
     pub holds : Holds n
     pub step : Step kept_reply kept_after kept_foreign p (kept m h) xs ts reply q (kept n holds) ys
 
-  pub record KeptRead (p : Place) (m : M) (xs : List ℕ) (ts : List TokenText) (reply : Reply) (q : Place) (n : M) (ys : List ℕ) (h : Holds m) : Type 0 where
+  pub record KeptRead (p : ReaderPlace) (m : M) (xs : List ℕ) (ts : List TokenText) (reply : Reply) (q : ReaderPlace) (n : M) (ys : List ℕ) (h : Holds m) : Type 0 where
     pub holds : Holds n
     pub read : Read kept_reply kept_after kept_foreign p (kept m h) xs ts reply q (kept n holds) ys
 
-  pub record KeptReadings (p : Place) (m : M) (xs : List ℕ) (ts : List TokenText) (q : Place) (n : M) (ys : List ℕ) (h : Holds m) : Type 0 where
+  pub record KeptReadings (p : ReaderPlace) (m : M) (xs : List ℕ) (ts : List TokenText) (q : ReaderPlace) (n : M) (ys : List ℕ) (h : Holds m) : Type 0 where
     pub holds : Holds n
     pub readings : Readings kept_reply kept_after kept_foreign p (kept m h) xs ts q (kept n holds) ys
 
-  step_kept : {p : Place} {m : M} {xs : List ℕ} {ts : List TokenText} {reply : Reply} {q : Place} {n : M} {ys : List ℕ} → Step reply_to after foreign p m xs ts reply q n ys → (h : Holds m) → KeptStep p m xs ts reply q n ys h
+  step_kept : {p : ReaderPlace} {m : M} {xs : List ℕ} {ts : List TokenText} {reply : Reply} {q : ReaderPlace} {n : M} {ys : List ℕ} → Step reply_to after foreign p m xs ts reply q n ys → (h : Holds m) → KeptStep p m xs ts reply q n ys h
   step_kept (marked e f) h = record { holds = h; step = marked e f }
   step_kept (unmarked e f) h = record { holds = h; step = unmarked e f }
   step_kept {p = p} {m = m} (token_step token e f) h = record { holds = keeps m token p.line h; step = token_step token e f }
   step_kept (switch_step mode e f) h = record { holds = h; step = switch_step mode e f }
   step_kept {p = p} {m = m} (text_step text e l b) h = record { holds = keeps m _ p.line h; step = text_step text e l b }
 
-  read_kept : {p : Place} {m : M} {xs : List ℕ} {ts : List TokenText} {reply : Reply} {q : Place} {n : M} {ys : List ℕ} → Read reply_to after foreign p m xs ts reply q n ys → (h : Holds m) → KeptRead p m xs ts reply q n ys h
+  read_kept : {p : ReaderPlace} {m : M} {xs : List ℕ} {ts : List TokenText} {reply : Reply} {q : ReaderPlace} {n : M} {ys : List ℕ} → Read reply_to after foreign p m xs ts reply q n ys → (h : Holds m) → KeptRead p m xs ts reply q n ys h
   read_kept nothing_read h = record { holds = h; read = nothing_read }
   read_kept (read_on r g s) h = let k = read_kept r h in let l = step_kept s k.holds in record { holds = l.holds; read = read_on k.read g l.step }
 
-  pub readings_kept : {p : Place} {m : M} {xs : List ℕ} {ts : List TokenText} {q : Place} {n : M} {ys : List ℕ} → Readings reply_to after foreign p m xs ts q n ys → (h : Holds m) → KeptReadings p m xs ts q n ys h
+  pub readings_kept : {p : ReaderPlace} {m : M} {xs : List ℕ} {ts : List TokenText} {q : ReaderPlace} {n : M} {ys : List ℕ} → Readings reply_to after foreign p m xs ts q n ys → (h : Holds m) → KeptReadings p m xs ts q n ys h
   readings_kept no_reading h = record { holds = h; readings = no_reading }
   readings_kept (more_reading a r f) h = let k = readings_kept a h in let l = read_kept r k.holds in record { holds = l.holds; readings = more_reading k.readings l.read f }
 
   -- and to the end, but for what the end itself does
-  pub record KeptEnd (p : Place) (m : M) (xs : List ℕ) (ts : List TokenText) (n : M) (h : Holds m) : Type 0 where
+  pub record KeptEnd (p : ReaderPlace) (m : M) (xs : List ℕ) (ts : List TokenText) (n : M) (h : Holds m) : Type 0 where
     pub holds : Holds n
     pub reads : ReadsToEnd kept_reply kept_after kept_foreign (λ k. k) p (kept m h) xs ts (kept n holds)
 
@@ -70,10 +70,10 @@ module _ {M : Type 0} (reply_to : M → TokenText → Reply) (after : M → Toke
   closing_kept m (Some t) i j h = refl
 
   -- what is meant right before the end
-  abbrev before_end : {ended : M → M} {p : Place} {m : M} {xs : List ℕ} {ts : List TokenText} {n : M} → ReadsToEnd reply_to after foreign ended p m xs ts n → M
+  abbrev before_end : {ended : M → M} {p : ReaderPlace} {m : M} {xs : List ℕ} {ts : List TokenText} {n : M} → ReadsToEnd reply_to after foreign ended p m xs ts n → M
   before_end r = after_closing after r.meaning (settle r.place.mode r.place.last (foreign r.meaning) r.rest) r.place.line (line_behind r.place.line r.rest [])
 
-  reads_kept : {ended : M → M} {p : Place} {m : M} {xs : List ℕ} {ts : List TokenText} {n : M} (r : ReadsToEnd reply_to after foreign ended p m xs ts n) (h : Holds m) → KeptEnd p m xs ts (before_end r) h
+  reads_kept : {ended : M → M} {p : ReaderPlace} {m : M} {xs : List ℕ} {ts : List TokenText} {n : M} (r : ReadsToEnd reply_to after foreign ended p m xs ts n) (h : Holds m) → KeptEnd p m xs ts (before_end r) h
   reads_kept r h =
       let k = readings_kept r.readings h in
       let s = settle r.place.mode r.place.last (foreign r.meaning) r.rest in
@@ -110,7 +110,7 @@ module _ {M : Type 0} (reply_to : M → TokenText → Reply) (after : M → Toke
       cut = λ m x y xs ys j k l. cut m.meaning x y xs ys j k l m.holds;
     }
 
-    pub readings_agree : {p : Place} {m : M} {xs : List ℕ} {ts us : List TokenText} {n o : M} → Holds m
+    pub readings_agree : {p : ReaderPlace} {m : M} {xs : List ℕ} {ts us : List TokenText} {n o : M} → Holds m
         → ReadsToEnd reply_to after foreign ended p m xs ts n → ReadsToEnd reply_to after foreign ended p m xs us o → n ≡ o
     readings_agree {p = p} {m = m} {xs = xs} {ts = ts} {us = us} h a b =
         let j = reads_kept a h in

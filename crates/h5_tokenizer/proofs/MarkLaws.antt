@@ -11,7 +11,7 @@ use Rattle.h5_token.specs.declared.fault.BuildFault.TheVariants as fault
 use Rattle.h5_markup.specs.Matching.{Open, Found}
 use Rattle.h5_markup.proofs.Eating.{literal_eats, eats_less}
 use Rattle.h5_reading.specs.Stops.{stops_as}
-use Rattle.h5_tokenizer.specs.Front.{Place, Begins, mark}
+use Rattle.h5_tokenizer.specs.Front.{ReaderPlace, Begins, mark}
 use Rattle.h5_tokenizer.specs.Read.{marked, unmarked, Read, Reads, started}
 use Rattle.h5_tokenizer.specs.Steps.{Pending, IsBehindMark, ComesTo, RunsInto, Runs, WaitsAt, RunsFrom}
 use Rattle.h5_tokenizer.specs.declared.front.Mode.{Mode}
@@ -30,7 +30,7 @@ use Rattle.h5_tokenizer.proofs.ReadLaws.{reads_none, read_after}
 mark_shorter : (xs rest : List ℕ) → mark xs ≡ Found tt rest → length rest < length xs
 mark_shorter xs rest h = found_shorter tt xs rest (eats_less 1 (omega arith) (literal_eats (0xef ∷ 0xbb ∷ 0xbf ∷ []))) h
 
-pub behind_shorter : (p : Place) (xs rest : List ℕ) → IsBehindMark p xs rest → length rest ≤ length xs
+pub behind_shorter : (p : ReaderPlace) (xs rest : List ℕ) → IsBehindMark p xs rest → length rest ≤ length xs
 behind_shorter p xs rest way =
     ⊎_elim (λ here. omega (arith, ap length here.1)) (λ at. ⊎_elim (λ found. omega (arith, mark_shorter xs rest found)) (λ none. omega (arith, ap length none.1)) at.1) way
 
@@ -47,7 +47,7 @@ pending_more (Some search) mode last xs more h =
     }
 
 module _ {M : Type 0} (reply_to : M → TokenText → Reply) (after : M → TokenText → ℕ → M) (foreign : M → Bool) where
-  read_behind : (p : Place) (m : M) (xs rest : List ℕ) {ts : List TokenText} {reply : Reply} {q : Place} {n : M} {ys : List ℕ} → IsBehindMark p xs rest → Read reply_to after foreign (started p) m rest ts reply q n ys → Read reply_to after foreign p m xs ts reply q n ys
+  read_behind : (p : ReaderPlace) (m : M) (xs rest : List ℕ) {ts : List TokenText} {reply : Reply} {q : ReaderPlace} {n : M} {ys : List ℕ} → IsBehindMark p xs rest → Read reply_to after foreign (started p) m rest ts reply q n ys → Read reply_to after foreign p m xs ts reply q n ys
   read_behind p m xs rest {ts} {reply} {q} {n} {ys} way read =
       ⊎_elim
       (λ here. let P : Bool → Type 0 = λ b. Read reply_to after foreign (record { at_start = b; mode = p.mode; last = p.last; line = p.line }) m xs ts reply q n ys in
@@ -59,14 +59,14 @@ module _ {M : Type 0} (reply_to : M → TokenText → Reply) (after : M → Toke
       at.1)
       way
 
-  reads_behind : (p : Place) (m : M) (xs rest : List ℕ) (reply : Reply) (q : Place) (n : M) (ys : List ℕ) → IsBehindMark p xs rest → Reads reply_to after foreign (started p) m rest reply q n ys → Reads reply_to after foreign p m xs reply q n ys
+  reads_behind : (p : ReaderPlace) (m : M) (xs rest : List ℕ) (reply : Reply) (q : ReaderPlace) (n : M) (ys : List ℕ) → IsBehindMark p xs rest → Reads reply_to after foreign (started p) m rest reply q n ys → Reads reply_to after foreign p m xs reply q n ys
   reads_behind p m xs rest reply q n ys way reads = record {
     tokens = reads.tokens;
     read = read_behind p m xs rest way reads.read;
     no_longer = omega (arith, reads.no_longer, behind_shorter p xs rest way);
   }
 
-  comes_behind : (p : Place) (m : M) (xs rest : List ℕ) (q : Place) (n : M) (ys : List ℕ) (search : Option Search) → IsBehindMark p xs rest → ComesTo reply_to after foreign (started p) m rest q n ys search → WaitsAt reply_to after foreign p m xs q n ys search
+  comes_behind : (p : ReaderPlace) (m : M) (xs rest : List ℕ) (q : ReaderPlace) (n : M) (ys : List ℕ) (search : Option Search) → IsBehindMark p xs rest → ComesTo reply_to after foreign (started p) m rest q n ys search → WaitsAt reply_to after foreign p m xs q n ys search
   comes_behind p m xs rest q n ys search way h = record {
     reply = h.reply;
     goes_on = h.goes_on;
@@ -75,11 +75,11 @@ module _ {M : Type 0} (reply_to : M → TokenText → Reply) (after : M → Toke
     pending = h.pending;
   }
 
-  into_behind : (p : Place) (m : M) (xs rest : List ℕ) (f : BuildFault) (n : M) → IsBehindMark p xs rest → RunsInto reply_to after foreign (started p) m rest f n → RunsInto reply_to after foreign p m xs f n
+  into_behind : (p : ReaderPlace) (m : M) (xs rest : List ℕ) (f : BuildFault) (n : M) → IsBehindMark p xs rest → RunsInto reply_to after foreign (started p) m rest f n → RunsInto reply_to after foreign p m xs f n
   into_behind p m xs rest f n way h = record { place = h.place; rest = h.rest; reads = reads_behind p m xs rest (Refuses f) h.place n h.rest way h.reads }
 
-  pub runs_behind : {H : Type 0} (node : H → ℕ) (p : Place) (m : M) (xs : List ℕ) (s : Place) (rest : List ℕ) (q : Place) (n : M) (result : Result (Halt H) BuildFault) → s ≡ started p → IsBehindMark p xs rest → Runs reply_to after foreign node s m rest q n result → RunsFrom reply_to after foreign node p m xs q n result
-  runs_behind {H} node p m xs s rest q n result e way h = by result (subst (λ (t : Place). Runs reply_to after foreign node t m rest q n result) e h)
+  pub runs_behind : {H : Type 0} (node : H → ℕ) (p : ReaderPlace) (m : M) (xs : List ℕ) (s : ReaderPlace) (rest : List ℕ) (q : ReaderPlace) (n : M) (result : Result (Halt H) BuildFault) → s ≡ started p → IsBehindMark p xs rest → Runs reply_to after foreign node s m rest q n result → RunsFrom reply_to after foreign node p m xs q n result
+  runs_behind {H} node p m xs s rest q n result e way h = by result (subst (λ (t : ReaderPlace). Runs reply_to after foreign node t m rest q n result) e h)
     where
       by : (r : Result (Halt H) BuildFault) → Runs reply_to after foreign node (started p) m rest q n r → RunsFrom reply_to after foreign node p m xs q n r
       by (Ok (halt.Waits ys search)) h = comes_behind p m xs rest q n ys.now search way h
@@ -89,9 +89,9 @@ module _ {M : Type 0} (reply_to : M → TokenText → Reply) (after : M → Toke
       by (Err fault.NotInText) h = into_behind p m xs rest fault.NotInText n way h
       by (Err fault.Failed) h = into_behind p m xs rest fault.Failed n way h
 
-  pub waits_for_mark : (p : Place) (m : M) (xs : List ℕ) (q : Place) → q ≡ p → p.at_start ≡ true → mark xs ≡ Open → WaitsAt reply_to after foreign p m xs q m xs None
+  pub waits_for_mark : (p : ReaderPlace) (m : M) (xs : List ℕ) (q : ReaderPlace) → q ≡ p → p.at_start ≡ true → mark xs ≡ Open → WaitsAt reply_to after foreign p m xs q m xs None
   waits_for_mark p m xs q e at waits =
-      subst (λ (t : Place). WaitsAt reply_to after foreign p m xs t m xs None) (sym e) (record {
+      subst (λ (t : ReaderPlace). WaitsAt reply_to after foreign p m xs t m xs None) (sym e) (record {
         reply = Continues;
         goes_on = refl;
         reads = reads_none reply_to after foreign p m xs;
@@ -100,13 +100,13 @@ module _ {M : Type 0} (reply_to : M → TokenText → Reply) (after : M → Toke
       })
 
   -- what is left is an end of the text, and may be cut off there
-  pub kept : (p : Place) (m : M) (xs : List ℕ) (reply : Reply) (q : Place) (n : M) (ys : List ℕ) → Reads reply_to after foreign p m xs reply q n ys → drop (length xs - length ys) xs ≡ ys
+  pub kept : (p : ReaderPlace) (m : M) (xs : List ℕ) (reply : Reply) (q : ReaderPlace) (n : M) (ys : List ℕ) → Reads reply_to after foreign p m xs reply q n ys → drop (length xs - length ys) xs ≡ ys
   kept p m xs reply q n ys reads =
       let part : Part xs ys = read_part reply_to after foreign reads.read in
       let n : length xs - length ys ≡ length part.front = omega (arith, ap length part.split, length-append part.front ys) in
       ap (λ k. drop k xs) n ∙ ap (drop (length part.front)) part.split ∙ drop-append_seam part.front ys
 
-  pub kept_boundary : (p : Place) (m : M) (xs : List ℕ) (reply : Reply) (q : Place) (n : M) (ys : List ℕ) → IsUtf8 ys → Reads reply_to after foreign p m xs reply q n ys → IsCharBoundary xs (length xs - length ys)
+  pub kept_boundary : (p : ReaderPlace) (m : M) (xs : List ℕ) (reply : Reply) (q : ReaderPlace) (n : M) (ys : List ℕ) → IsUtf8 ys → Reads reply_to after foreign p m xs reply q n ys → IsCharBoundary xs (length xs - length ys)
   kept_boundary p m xs reply q n ys utf8 reads =
       let part : Part xs ys = read_part reply_to after foreign reads.read in
       let same : length part.front ≡ length xs - length ys = omega (arith, ap length part.split, length-append part.front ys) in

@@ -16,7 +16,7 @@ use Rattle.h5_tokenizer.specs.declared.front.Construct.{Construct}
 use Rattle.h5_tokenizer.specs.declared.front.Construct.TheVariants.{Comment, Doctype, StartTag, EndTag, RawEndTag}
 use Rattle.h5_markup.specs.Text.{gives, reference, newline, cleaned, escape}
 use Rattle.h5_tokenizer.specs.Tokens.{start_of, token_of}
-use Rattle.h5_tokenizer.specs.Front.{Opening, Begins, Gives, Null, Turns, says, stands_for, cdata, in_data, raw_end_tag, reads_references, opening, Piece, Bit, Whole, Switch, finished, other, front, Place}
+use Rattle.h5_tokenizer.specs.Front.{Opening, Begins, Gives, Null, Turns, says, stands_for, cdata, in_data, raw_end_tag, reads_references, opening, Piece, Bit, Whole, Switch, finished, other, front, ReaderPlace}
 use Rattle.h5_tokenizer.specs.Read.{Bits, no_bit, more_bits, Step, marked, unmarked, token_step, switch_step, text_step, Read, nothing_read, read_on}
 
 -- a text that is not empty
@@ -159,13 +159,13 @@ full_proper [] h = h
 full_proper (x ∷ xs) h = tt
 
 module _ {M : Type 0} (reply_to : M → TokenText → Reply) (after : M → TokenText → ℕ → M) (foreign : M → Bool) where
-  step_proper : {p : Place} {m : M} {xs : List ℕ} {ts : List TokenText} {reply : Reply} {q : Place} {n : M} {ys : List ℕ} → Step reply_to after foreign p m xs ts reply q n ys → AreProper ts
+  step_proper : {p : ReaderPlace} {m : M} {xs : List ℕ} {ts : List TokenText} {reply : Reply} {q : ReaderPlace} {n : M} {ys : List ℕ} → Step reply_to after foreign p m xs ts reply q n ys → AreProper ts
   step_proper (marked s h) = tt
   step_proper (unmarked s h) = tt
   step_proper (token_step {p} {m} {xs} t s h) = (subst (Holds Fits) h (front_fits p.mode p.last (foreign m) xs), tt)
   step_proper (switch_step mode s h) = tt
   step_proper (text_step text s less bits) = (full_proper text (bits_full less bits), tt)
 
-  pub read_proper : {p : Place} {m : M} {xs : List ℕ} {ts : List TokenText} {reply : Reply} {q : Place} {n : M} {ys : List ℕ} → Read reply_to after foreign p m xs ts reply q n ys → AreProper ts
+  pub read_proper : {p : ReaderPlace} {m : M} {xs : List ℕ} {ts : List TokenText} {reply : Reply} {q : ReaderPlace} {n : M} {ys : List ℕ} → Read reply_to after foreign p m xs ts reply q n ys → AreProper ts
   read_proper nothing_read = tt
   read_proper (read_on {ts} {us} read goes step) = proper_append ts us (read_proper read) (step_proper step)

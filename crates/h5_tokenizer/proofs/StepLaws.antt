@@ -11,7 +11,7 @@ use Rattle.h5_reading.specs.Lines.{newlines_passed}
 use Rattle.h5_reading.specs.Stops.{stops_as}
 use Rattle.h5_reading.specs.declared.stop.Stop.{Stop}
 use Rattle.h5_tokenizer.specs.Tokens.{start_of, token_of}
-use Rattle.h5_tokenizer.specs.Front.{Opening, Begins, Turns, opening, Whole, Switch, Place, concluded, other, front}
+use Rattle.h5_tokenizer.specs.Front.{Opening, Begins, Turns, opening, Whole, Switch, ReaderPlace, concluded, other, front}
 use Rattle.h5_tokenizer.specs.Read.{Bits, behind, token_step, switch_step, text_step, next_place, in_mode}
 use Rattle.h5_tokenizer.specs.Steps.{TakesBits, TakesMany, further, turn_of, HandedOn, HandsOn, Moves, MovesOn, MovesInto, Makes}
 use Rattle.h5_tokenizer.specs.declared.front.Mode.{Mode}
@@ -23,14 +23,14 @@ use Rattle.h5_tokenizer.proofs.PlainLaws.{front_found, bits_join}
 
 module _ {M : Type 0} (reply_to : M → TokenText → Reply) (after : M → TokenText → ℕ → M) (foreign : M → Bool) where
   -- a token's step, wherever it leads
-  pub record Leads (p : Place) (m : M) (xs : List ℕ) (t : TokenText) (ys : List ℕ) : Type 0 where
-    pub moves : (q : Place) (n : M) → q ≡ next_place p t (reply_to m t) → n ≡ after m t p.line → Moves reply_to after foreign p m xs (reply_to m t) (behind q xs ys) n ys
+  pub record Leads (p : ReaderPlace) (m : M) (xs : List ℕ) (t : TokenText) (ys : List ℕ) : Type 0 where
+    pub moves : (q : ReaderPlace) (n : M) → q ≡ next_place p t (reply_to m t) → n ≡ after m t p.line → Moves reply_to after foreign p m xs (reply_to m t) (behind q xs ys) n ys
 
-  pub token_leads : (p : Place) (m : M) (xs ys : List ℕ) (t : TokenText) → p.at_start ≡ false → front p.mode p.last (foreign m) xs ≡ Found (Whole t) ys → Leads p m xs t ys
+  pub token_leads : (p : ReaderPlace) (m : M) (xs ys : List ℕ) (t : TokenText) → p.at_start ≡ false → front p.mode p.last (foreign m) xs ≡ Found (Whole t) ys → Leads p m xs t ys
   token_leads p m xs ys t started here = record {
     moves = λ q n e f.
         subst (λ (o : M). Moves reply_to after foreign p m xs (reply_to m t) (behind q xs ys) o ys) (sym f)
-        (subst (λ (r : Place). Moves reply_to after foreign p m xs (reply_to m t) (behind r xs ys) (after m t p.line) ys) (sym e)
+        (subst (λ (r : ReaderPlace). Moves reply_to after foreign p m xs (reply_to m t) (behind r xs ys) (after m t p.line) ys) (sym e)
         (record {
           tokens = t ∷ [];
           step = token_step t started here;
@@ -38,18 +38,18 @@ module _ {M : Type 0} (reply_to : M → TokenText → Reply) (after : M → Toke
         }));
   }
 
-  text_goes : (p : Place) (m : M) (xs ys text : List ℕ) → p.at_start ≡ false → length ys < length xs → Bits p.mode p.last (foreign m) xs text ys → Moves reply_to after foreign p m xs (reply_to m (Characters text)) (behind p xs ys) (after m (Characters text) p.line) ys
+  text_goes : (p : ReaderPlace) (m : M) (xs ys text : List ℕ) → p.at_start ≡ false → length ys < length xs → Bits p.mode p.last (foreign m) xs text ys → Moves reply_to after foreign p m xs (reply_to m (Characters text)) (behind p xs ys) (after m (Characters text) p.line) ys
   text_goes p m xs ys text started less bits = record { tokens = Characters text ∷ []; step = text_step text started less bits; shorter = less }
 
-  text_leads_by : (p : Place) (m : M) (xs ys text : List ℕ) → p.at_start ≡ false → length ys < length xs → Bits p.mode p.last (foreign m) xs text ys → Leads p m xs (Characters text) ys
+  text_leads_by : (p : ReaderPlace) (m : M) (xs ys text : List ℕ) → p.at_start ≡ false → length ys < length xs → Bits p.mode p.last (foreign m) xs text ys → Leads p m xs (Characters text) ys
   text_leads_by p m xs ys text started less bits = record {
     moves = λ q n e f.
         subst (λ (o : M). Moves reply_to after foreign p m xs (reply_to m (Characters text)) (behind q xs ys) o ys) (sym f)
-        (subst (λ (r : Place). Moves reply_to after foreign p m xs (reply_to m (Characters text)) (behind r xs ys) (after m (Characters text) p.line) ys) (sym e)
+        (subst (λ (r : ReaderPlace). Moves reply_to after foreign p m xs (reply_to m (Characters text)) (behind r xs ys) (after m (Characters text) p.line) ys) (sym e)
         (text_goes p m xs ys text started less bits));
   }
 
-  pub text_leads : (p : Place) (m : M) (xs mid ys begun out : List ℕ) → p.at_start ≡ false → TakesBits p.mode p.last (foreign m) xs mid [] begun → TakesMany p.mode p.last mid ys begun out → Leads p m xs (Characters out) ys
+  pub text_leads : (p : ReaderPlace) (m : M) (xs mid ys begun out : List ℕ) → p.at_start ≡ false → TakesBits p.mode p.last (foreign m) xs mid [] begun → TakesMany p.mode p.last mid ys begun out → Leads p m xs (Characters out) ys
   text_leads p m xs mid ys begun out started first second =
       let less : length ys < length xs = omega (arith, first.shorter, second.no_longer) in
       let whole : out ≡ first.text ++ second.text = second.put ∙ ap (λ l. l ++ second.text) first.put in
@@ -57,37 +57,37 @@ module _ {M : Type 0} (reply_to : M → TokenText → Reply) (after : M → Toke
       (text_leads_by p m xs ys (first.text ++ second.text) started less (bits_join first.shorter first.bits second.bits))
 
   -- a token that was taken, behind so many newlines
-  pub turned : {H : Type 0} (node : H → ℕ) (p : Place) (m : M) (xs : List ℕ) (ys : Bor (List ℕ)) (t : TokenText) (q : Place) (n : M) (lines : ℕ) (stopped : Option (Stop H)) → lines ≡ newlines_passed xs ys.now → Leads p m xs t ys.now → HandedOn reply_to after node p m t q n stopped → Makes reply_to after foreign node p m xs q n (Ok (turn_of stopped ys lines))
+  pub turned : {H : Type 0} (node : H → ℕ) (p : ReaderPlace) (m : M) (xs : List ℕ) (ys : Bor (List ℕ)) (t : TokenText) (q : ReaderPlace) (n : M) (lines : ℕ) (stopped : Option (Stop H)) → lines ≡ newlines_passed xs ys.now → Leads p m xs t ys.now → HandedOn reply_to after node p m t q n stopped → Makes reply_to after foreign node p m xs q n (Ok (turn_of stopped ys lines))
   turned node p m xs ys t q n lines None line leads h = record {
     reply = reply_to m t;
     goes_on = h.answer;
-    moves = subst (λ (r : Place). Moves reply_to after foreign p m xs (reply_to m t) r n ys.now) (behind_by q lines xs ys.now line) (leads.moves q n h.place h.meaning);
+    moves = subst (λ (r : ReaderPlace). Moves reply_to after foreign p m xs (reply_to m t) r n ys.now) (behind_by q lines xs ys.now line) (leads.moves q n h.place h.meaning);
   }
   turned node p m xs ys t q n lines (Some s) line leads h =
-      subst (λ (r : Place). Moves reply_to after foreign p m xs (stops_as node s) r n ys.now) (behind_by q lines xs ys.now line)
+      subst (λ (r : ReaderPlace). Moves reply_to after foreign p m xs (stops_as node s) r n ys.now) (behind_by q lines xs ys.now line)
       (subst (λ (r : Reply). Moves reply_to after foreign p m xs r (behind q xs ys.now) n ys.now) h.answer (leads.moves q n h.place h.meaning))
 
   -- one that was refused
-  refused_by : (p : Place) (m : M) (xs ys : List ℕ) (t : TokenText) (n : M) (f : BuildFault) → Leads p m xs t ys → reply_to m t ≡ Refuses f → n ≡ after m t p.line → MovesInto reply_to after foreign p m xs f n
+  refused_by : (p : ReaderPlace) (m : M) (xs ys : List ℕ) (t : TokenText) (n : M) (f : BuildFault) → Leads p m xs t ys → reply_to m t ≡ Refuses f → n ≡ after m t p.line → MovesInto reply_to after foreign p m xs f n
   refused_by p m xs ys t n f leads e g = record {
     place = behind (next_place p t (reply_to m t)) xs ys;
     rest = ys;
     moves = subst (λ (r : Reply). Moves reply_to after foreign p m xs r (behind (next_place p t (reply_to m t)) xs ys) n ys) e (leads.moves (next_place p t (reply_to m t)) n refl g);
   }
 
-  pub refused : {H : Type 0} (node : H → ℕ) (p : Place) (m : M) (xs ys : List ℕ) (t : TokenText) (q : Place) (n : M) (f : BuildFault) → Leads p m xs t ys → HandsOn reply_to after {H = H} node p m t q n (Err f) → Makes reply_to after foreign {H = H} node p m xs q n (Err f)
+  pub refused : {H : Type 0} (node : H → ℕ) (p : ReaderPlace) (m : M) (xs ys : List ℕ) (t : TokenText) (q : ReaderPlace) (n : M) (f : BuildFault) → Leads p m xs t ys → HandsOn reply_to after {H = H} node p m t q n (Err f) → Makes reply_to after foreign {H = H} node p m xs q n (Err f)
   refused node p m xs ys t q n fault.Memory leads h = tt
   refused node p m xs ys t q n fault.AfterEnd leads h = refused_by p m xs ys t n fault.AfterEnd leads h.0 h.1
   refused node p m xs ys t q n fault.NotInText leads h = refused_by p m xs ys t n fault.NotInText leads h.0 h.1
   refused node p m xs ys t q n fault.Failed leads h = refused_by p m xs ys t n fault.Failed leads h.0 h.1
 
-  pub switch_moves : (p : Place) (m : M) (xs ys : List ℕ) (mode : Mode) (lines : ℕ) → lines ≡ newlines_passed xs ys → p.at_start ≡ false → opening p.mode p.last (foreign m) xs ≡ Found (Turns mode) ys → MovesOn reply_to after foreign p m xs (further lines (in_mode mode p)) m ys
+  pub switch_moves : (p : ReaderPlace) (m : M) (xs ys : List ℕ) (mode : Mode) (lines : ℕ) → lines ≡ newlines_passed xs ys → p.at_start ≡ false → opening p.mode p.last (foreign m) xs ≡ Found (Turns mode) ys → MovesOn reply_to after foreign p m xs (further lines (in_mode mode p)) m ys
   switch_moves p m xs ys mode lines line started h =
       let here = front_found p.mode p.last (foreign m) xs h in
       record {
         reply = Continues;
         goes_on = refl;
-        moves = subst (λ (r : Place). Moves reply_to after foreign p m xs Continues r m ys) (behind_by (in_mode mode p) lines xs ys line)
+        moves = subst (λ (r : ReaderPlace). Moves reply_to after foreign p m xs Continues r m ys) (behind_by (in_mode mode p) lines xs ys line)
             (record { tokens = []; step = switch_step mode started here; shorter = found_shorter (Switch mode) xs ys (front_eats p.mode p.last (foreign m)) here });
       }
 

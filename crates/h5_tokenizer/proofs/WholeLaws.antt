@@ -14,7 +14,7 @@ use Rattle.h5_reading.proofs.AnswerLaws.{unrefused}
 use Rattle.h5_tokenizer.specs.declared.front.Mode.{Mode}
 use Rattle.h5_tokenizer.specs.declared.front.Mode.TheVariants.{Data, RawData, Plaintext, Cdata}
 use Rattle.h5_tokenizer.specs.End.{settle, Closes}
-use Rattle.h5_tokenizer.specs.Front.{Place, front}
+use Rattle.h5_tokenizer.specs.Front.{ReaderPlace, front}
 use Rattle.h5_tokenizer.specs.Outcome.{Feeds}
 use Rattle.h5_tokenizer.specs.Read.{Read, Reads, IsUndecided}
 use Rattle.h5_tokenizer.specs.ReaderText.{ReaderText}
@@ -31,20 +31,20 @@ front_nothing Plaintext last foreign = refl
 front_nothing Cdata last foreign = refl
 
 -- nothing is decided of nothing
-pub undecided_nothing : (p : Place) (foreign : Bool) → IsUndecided p foreign []
+pub undecided_nothing : (p : ReaderPlace) (foreign : Bool) → IsUndecided p foreign []
 undecided_nothing p foreign = ((λ _. refl), (λ _. front_nothing p.mode p.last foreign))
 
 module _ {M : Type 0} (reply_to : M → TokenText → Reply) (after : M → TokenText → ℕ → M) (foreign : M → Bool) where
-  pub readings_go_on : {p : Place} {m : M} {xs : List ℕ} {ts : List TokenText} {q : Place} {n : M} {ys : List ℕ} (more : List ℕ) → Readings reply_to after foreign p m xs ts q n ys → Readings reply_to after foreign p m (xs ++ more) ts q n (ys ++ more)
+  pub readings_go_on : {p : ReaderPlace} {m : M} {xs : List ℕ} {ts : List TokenText} {q : ReaderPlace} {n : M} {ys : List ℕ} (more : List ℕ) → Readings reply_to after foreign p m xs ts q n ys → Readings reply_to after foreign p m (xs ++ more) ts q n (ys ++ more)
   readings_go_on more no_reading = no_reading
   readings_go_on more (more_reading readings read goes) = more_reading (readings_go_on more readings) (read_goes_on reply_to after foreign more read) goes
 
-  pub pieces_join : {p : Place} {m : M} {xs : List ℕ} {ts : List TokenText} {q : Place} {n : M} {ys : List ℕ} {us : List TokenText} {reply : Reply} {r : Place} {o : M} {zs : List ℕ} (more : List ℕ)
+  pub pieces_join : {p : ReaderPlace} {m : M} {xs : List ℕ} {ts : List TokenText} {q : ReaderPlace} {n : M} {ys : List ℕ} {us : List TokenText} {reply : Reply} {r : ReaderPlace} {o : M} {zs : List ℕ} (more : List ℕ)
       → Readings reply_to after foreign p m xs ts q n ys → Read reply_to after foreign q n (ys ++ more) us reply r o zs → refuses reply ≡ false
       → Readings reply_to after foreign p m (xs ++ more) (ts ++ us) r o zs
   pieces_join more readings read goes = more_reading (readings_go_on more readings) read goes
 
-  has_read_more : {p : Place} {m : M} {xs : List ℕ} {q : Place} {n : M} {ys : List ℕ} {reply : Reply} {r : Place} {o : M} {zs : List ℕ} (more rest : List ℕ)
+  has_read_more : {p : ReaderPlace} {m : M} {xs : List ℕ} {q : ReaderPlace} {n : M} {ys : List ℕ} {reply : Reply} {r : ReaderPlace} {o : M} {zs : List ℕ} (more rest : List ℕ)
       → HasRead reply_to after foreign p m xs q n ys → Reads reply_to after foreign q n (ys ++ more) reply r o zs → refuses reply ≡ false → zs ≡ rest
       → HasRead reply_to after foreign p m (xs ++ more) r o rest
   has_read_more {p} {m} {xs} {r} {o} more rest had reads goes e =
@@ -52,7 +52,7 @@ module _ {M : Type 0} (reply_to : M → TokenText → Reply) (after : M → Toke
       (record { tokens = had.tokens ++ reads.tokens; readings = pieces_join more had.readings reads.read goes })
 
   -- a call of `feed` that goes well goes on with what was read
-  pub feeds_join : {H : Type 0} (node : H → ℕ) (p : Place) (m : M) (xs more : List ℕ) (q : Place) (n : M) (ys : List ℕ) (new : ReaderText) (o : M) (queue : List ℕ) (answer : TokenizerResult H)
+  pub feeds_join : {H : Type 0} (node : H → ℕ) (p : ReaderPlace) (m : M) (xs more : List ℕ) (q : ReaderPlace) (n : M) (ys : List ℕ) (new : ReaderText) (o : M) (queue : List ℕ) (answer : TokenizerResult H)
       → HasRead reply_to after foreign p m xs q n ys → Feeds reply_to after foreign node q n (ys ++ more) new o queue (Ok answer)
       → HasRead reply_to after foreign p m (xs ++ more) new.place o (new.held ++ queue)
   feeds_join node p m xs more q n ys new o queue result.Done had fed =
@@ -67,7 +67,7 @@ module _ {M : Type 0} (reply_to : M → TokenText → Reply) (after : M → Toke
   closed_by n o None line last h = h.1
   closed_by n o (Some t) line last h = h.1.1
 
-  pub end_ends : (p : Place) (m : M) (xs : List ℕ) (ts : List TokenText) (q : Place) (n : M) (ys : List ℕ) (o : M)
+  pub end_ends : (p : ReaderPlace) (m : M) (xs : List ℕ) (ts : List TokenText) (q : ReaderPlace) (n : M) (ys : List ℕ) (o : M)
       → Readings reply_to after foreign p m xs ts q n ys → IsUndecided q (foreign n) ys
       → Closes reply_to after foreign ended q n ys o (Ok tt)
       → ReadsToEnd reply_to after foreign ended p m xs (ts ++ closing (settle q.mode q.last (foreign n) ys)) o

@@ -9,7 +9,7 @@ use Rattle.h5_reading.specs.Lines.{line_behind}
 use Rattle.h5_reading.specs.Taking.{ClosesWith}
 use Rattle.h5_reading.specs.Told.{handed}
 use Rattle.h5_reading.specs.declared.stage.Stage.TheVariants.{Ended, Failed}
-use Rattle.h5_tokenizer.specs.Front.{Opening, Begins, Gives, Null, Turns, Place, opening}
+use Rattle.h5_tokenizer.specs.Front.{Opening, Begins, Gives, Null, Turns, ReaderPlace, opening}
 use Rattle.h5_tokenizer.specs.ReaderText.{ReaderText}
 use Rattle.h5_tokenizer.specs.declared.front.Mode.{Mode}
 use Rattle.h5_tokenizer.specs.declared.front.Construct.{Construct}
@@ -42,7 +42,7 @@ settle mode last foreign xs = settled xs (opening mode last foreign xs)
 
 module _ {M : Type 0} (reply_to : M → TokenText → Reply) (after : M → TokenText → ℕ → M) (foreign : M → Bool) (ended : M → M) where
   -- the end, at a place where this rest is undecided
-  abbrev pub Closes : Place → M → List ℕ → M → Result (Unit {0}) BuildFault → Type 0
+  abbrev pub Closes : ReaderPlace → M → List ℕ → M → Result (Unit {0}) BuildFault → Type 0
   Closes p m rest n result =
       ClosesWith reply_to after ended m (handed (settle p.mode p.last (foreign m) rest)) p.line (line_behind p.line rest []) n result
 

@@ -100,7 +100,7 @@ other (x ∷ xs) = Found (Bit (x ∷ [])) xs
 
 -- where the reader is: whether a byte order mark may come, its state, the last start tag's name, and the line in
 -- which what comes next begins
-pub record Place : Type 0 where
+pub record ReaderPlace : Type 0 where
   pub at_start : Bool
   pub mode : Mode
   pub last : List ℕ

@@ -4,7 +4,7 @@ use Rattle.std.specs.Option.{option_map, unwrap_or}
 use Rattle.h5_token.specs.declared.states.State.{State}
 use Rattle.h5_token.specs.declared.states.State.TheVariants as state
 use Rattle.h5_reading.specs.declared.options.TokenizerOpts.{TokenizerOpts}
-use Rattle.h5_tokenizer.specs.Front.{Place}
+use Rattle.h5_tokenizer.specs.Front.{ReaderPlace}
 use Rattle.h5_tokenizer.specs.declared.front.Mode.{Mode}
 use Rattle.h5_tokenizer.specs.declared.front.Mode.TheVariants.{Data, RawData, Plaintext}
 
@@ -14,7 +14,7 @@ mode_of (Some state.Data) = Data
 mode_of (Some (state.RawData kind)) = RawData kind
 mode_of (Some state.Plaintext) = Plaintext
 
-abbrev pub first_place : TokenizerOpts → Place
+abbrev pub first_place : TokenizerOpts → ReaderPlace
 first_place o = record {
   at_start = o.discard_bom;
   mode = mode_of o.initial_state;

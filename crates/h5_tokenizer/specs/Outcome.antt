@@ -8,13 +8,13 @@ use Rattle.h5_reading.specs.Answers.{goes_on}
 use Rattle.h5_reading.specs.declared.stage.Stage.TheVariants.{Reading, Failed}
 use Rattle.h5_reading.specs.declared.result.TokenizerResult.{TokenizerResult}
 use Rattle.h5_reading.specs.declared.result.TokenizerResult.TheVariants as result
-use Rattle.h5_tokenizer.specs.Front.{Place}
+use Rattle.h5_tokenizer.specs.Front.{ReaderPlace}
 use Rattle.h5_tokenizer.specs.Read.{Reads, IsUndecided}
 use Rattle.h5_tokenizer.specs.ReaderText.{ReaderText}
 
 module _ {M : Type 0} (reply_to : M → TokenText → Reply) (after : M → TokenText → ℕ → M) (foreign : M → Bool) where
   -- all is handed on but an undecided rest
-  pub record ReadsAll (p : Place) (m : M) (xs : List ℕ) (new : ReaderText) (n : M) (queue : List ℕ) : Type 0 where
+  pub record ReadsAll (p : ReaderPlace) (m : M) (xs : List ℕ) (new : ReaderText) (n : M) (queue : List ℕ) : Type 0 where
     pub reply : Reply
     pub goes_on : goes_on reply ≡ true
     pub reads : Reads reply_to after foreign p m xs reply new.place n new.held
@@ -23,21 +23,21 @@ module _ {M : Type 0} (reply_to : M → TokenText → Reply) (after : M → Toke
     pub stage : new.stage ≡ Reading
 
   -- reading stopped at a token that was answered so, and the rest is in the queue
-  pub record StopsAt (p : Place) (m : M) (xs : List ℕ) (reply : Reply) (new : ReaderText) (n : M) (queue : List ℕ) : Type 0 where
+  pub record StopsAt (p : ReaderPlace) (m : M) (xs : List ℕ) (reply : Reply) (new : ReaderText) (n : M) (queue : List ℕ) : Type 0 where
     pub reads : Reads reply_to after foreign p m xs reply new.place n queue
     pub nothing_held : new.held ≡ []
     pub shorter : length queue < length xs
     pub stage : new.stage ≡ Reading
 
   -- the sink refused the last token that was handed on
-  pub record RefusedAt (p : Place) (m : M) (xs : List ℕ) (fault : BuildFault) (new : ReaderText) (n : M) : Type 0 where
-    pub place : Place
+  pub record RefusedAt (p : ReaderPlace) (m : M) (xs : List ℕ) (fault : BuildFault) (new : ReaderText) (n : M) : Type 0 where
+    pub place : ReaderPlace
     pub rest : List ℕ
     pub reads : Reads reply_to after foreign p m xs (Refuses fault) place n rest
     pub stage : new.stage ≡ Failed
 
   -- what `feed` did, by its answer
-  abbrev pub Feeds : {H : Type 0} → (H → ℕ) → Place → M → List ℕ → ReaderText → M → List ℕ → Result (TokenizerResult H) BuildFault → Type 0
+  abbrev pub Feeds : {H : Type 0} → (H → ℕ) → ReaderPlace → M → List ℕ → ReaderText → M → List ℕ → Result (TokenizerResult H) BuildFault → Type 0
   Feeds node p m xs new n queue (Ok result.Done) = ReadsAll p m xs new n queue
   Feeds node p m xs new n queue (Ok (result.Script handle)) = StopsAt p m xs (RunsScript (node handle)) new n queue
   Feeds node p m xs new n queue (Ok (result.EncodingIndicator encoding)) = StopsAt p m xs (Indicates (string_bytes encoding)) new n queue

@@ -11,7 +11,7 @@ use Rattle.h5_markup.specs.Ending.{walk}
 use Rattle.h5_reading.specs.Answers.{goes_on}
 use Rattle.h5_reading.specs.Stops.{AnswersAs, stops_as}
 use Rattle.h5_reading.specs.declared.stop.Stop.{Stop}
-use Rattle.h5_tokenizer.specs.Front.{Begins, opening, Place, front, mark}
+use Rattle.h5_tokenizer.specs.Front.{Begins, opening, ReaderPlace, front, mark}
 use Rattle.h5_tokenizer.specs.Tokens.{start_of}
 use Rattle.h5_tokenizer.specs.Read.{Bits, Step, Reads, next_place, started, IsUndecided}
 use Rattle.h5_tokenizer.specs.declared.front.Mode.{Mode}
@@ -23,7 +23,7 @@ use Rattle.h5_tokenizer.specs.declared.state.Halt.TheVariants as halt
 use Rattle.h5_tokenizer.specs.declared.state.Turn.{Turn}
 use Rattle.h5_tokenizer.specs.declared.state.Turn.TheVariants.{Waits, Goes, Stops}
 
-abbrev pub place_of : State → Place
+abbrev pub place_of : State → ReaderPlace
 place_of state = record { at_start = state.at_start; mode = state.mode; last = state.last; line = state.line }
 
 -- From xs on, up to ys, there is text, which was put behind what had been there.
@@ -61,17 +61,17 @@ abbrev pub fresh : Bool → Construct → Search
 fresh foreign construct = record { foreign = foreign; at = 0; place = start_of construct }
 
 -- Behind the byte order mark, if one may come and does. Nothing else is passed.
-abbrev pub IsBehindMark : Place → List ℕ → List ℕ → Type 0
+abbrev pub IsBehindMark : ReaderPlace → List ℕ → List ℕ → Type 0
 IsBehindMark p xs rest =
     ((p.at_start ≡ false) × (rest ≡ xs))
     ⊎ ((p.at_start ≡ true) × ((mark xs ≡ Found tt rest) ⊎ ((mark xs ≡ No) × (rest ≡ xs))))
 
-pub record Skipped (p : Place) (xs : List ℕ) (q : Place) (rest : List ℕ) (search : Option Search) : Type 0 where
+pub record Skipped (p : ReaderPlace) (xs : List ℕ) (q : ReaderPlace) (rest : List ℕ) (search : Option Search) : Type 0 where
   pub place : q ≡ started p
   pub behind : IsBehindMark p xs rest
   pub pending : Pending search q.mode q.last rest
 
-abbrev pub Skips : Place → List ℕ → Place → Option (Bor (List ℕ) × Option Search) → Type 0
+abbrev pub Skips : ReaderPlace → List ℕ → ReaderPlace → Option (Bor (List ℕ) × Option Search) → Type 0
 Skips p xs q None = (q ≡ p) × (p.at_start ≡ true) × (mark xs ≡ Open)
 Skips p xs q (Some x) = Skipped p xs q x.0.now x.1
 
@@ -80,17 +80,17 @@ turn_of None rest lines = Goes rest lines
 turn_of (Some s) rest lines = Stops s rest lines
 
 -- the same place, so many newlines further on
-abbrev pub further : ℕ → Place → Place
+abbrev pub further : ℕ → ReaderPlace → ReaderPlace
 further lines p = record { at_start = p.at_start; mode = p.mode; last = p.last; line = u64_saturate (p.line + lines) }
 
 module _ {M : Type 0} (reply_to : M → TokenText → Reply) (after : M → TokenText → ℕ → M) where
   -- a token was handed on: where reading goes on from but for the line, whether it stops, and what the sink is then
-  pub record HandedOn {H : Type 0} (node : H → ℕ) (p : Place) (m : M) (t : TokenText) (q : Place) (n : M) (stopped : Option (Stop H)) : Type 0 where
+  pub record HandedOn {H : Type 0} (node : H → ℕ) (p : ReaderPlace) (m : M) (t : TokenText) (q : ReaderPlace) (n : M) (stopped : Option (Stop H)) : Type 0 where
     pub place : q ≡ next_place p t (reply_to m t)
     pub meaning : n ≡ after m t p.line
     pub answer : AnswersAs node stopped (reply_to m t)
 
-  abbrev pub HandsOn : {H : Type 0} → (H → ℕ) → Place → M → TokenText → Place → M → Result (Option (Stop H)) BuildFault → Type 0
+  abbrev pub HandsOn : {H : Type 0} → (H → ℕ) → ReaderPlace → M → TokenText → ReaderPlace → M → Result (Option (Stop H)) BuildFault → Type 0
   HandsOn node p m t q n (Ok stopped) = HandedOn node p m t q n stopped
   HandsOn node p m t q n (Err fault.Memory) = Unit {0}
   HandsOn node p m t q n (Err fault.AfterEnd) = (reply_to m t ≡ Refuses fault.AfterEnd) × (n ≡ after m t p.line)
@@ -99,32 +99,32 @@ module _ {M : Type 0} (reply_to : M → TokenText → Reply) (after : M → Toke
 
 module _ {M : Type 0} (reply_to : M → TokenText → Reply) (after : M → TokenText → ℕ → M) (foreign : M → Bool) where
   -- one step was made, up to an answer
-  pub record Moves (p : Place) (m : M) (xs : List ℕ) (reply : Reply) (q : Place) (n : M) (ys : List ℕ) : Type 0 where
+  pub record Moves (p : ReaderPlace) (m : M) (xs : List ℕ) (reply : Reply) (q : ReaderPlace) (n : M) (ys : List ℕ) : Type 0 where
     pub tokens : List TokenText
     pub step : Step reply_to after foreign p m xs tokens reply q n ys
     pub shorter : length ys < length xs
 
   -- one step was made, after which reading goes on
-  pub record MovesOn (p : Place) (m : M) (xs : List ℕ) (q : Place) (n : M) (ys : List ℕ) : Type 0 where
+  pub record MovesOn (p : ReaderPlace) (m : M) (xs : List ℕ) (q : ReaderPlace) (n : M) (ys : List ℕ) : Type 0 where
     pub reply : Reply
     pub goes_on : goes_on reply ≡ true
     pub moves : Moves p m xs reply q n ys
 
   -- no step can be made, and nothing has changed
-  pub record StandsStill (p : Place) (m : M) (xs : List ℕ) (q : Place) (n : M) (search : Option Search) : Type 0 where
+  pub record StandsStill (p : ReaderPlace) (m : M) (xs : List ℕ) (q : ReaderPlace) (n : M) (search : Option Search) : Type 0 where
     pub place : q ≡ p
     pub meaning : n ≡ m
     pub undecided : front p.mode p.last (foreign m) xs ≡ Open
     pub pending : Pending search p.mode p.last xs
 
   -- the sink refused the token of a step
-  pub record MovesInto (p : Place) (m : M) (xs : List ℕ) (fault : BuildFault) (n : M) : Type 0 where
-    pub place : Place
+  pub record MovesInto (p : ReaderPlace) (m : M) (xs : List ℕ) (fault : BuildFault) (n : M) : Type 0 where
+    pub place : ReaderPlace
     pub rest : List ℕ
     pub moves : Moves p m xs (Refuses fault) place n rest
 
   -- what one step did. The place is still in the line in which the step began
-  abbrev pub Makes : {H : Type 0} → (H → ℕ) → Place → M → List ℕ → Place → M → Result (Turn H) BuildFault → Type 0
+  abbrev pub Makes : {H : Type 0} → (H → ℕ) → ReaderPlace → M → List ℕ → ReaderPlace → M → Result (Turn H) BuildFault → Type 0
   Makes node p m xs q n (Ok (Waits search)) = StandsStill p m xs q n search
   Makes node p m xs q n (Ok (Goes rest lines)) = MovesOn p m xs (further lines q) n rest.now
   Makes node p m xs q n (Ok (Stops s rest lines)) = Moves p m xs (stops_as node s) (further lines q) n rest.now
@@ -134,7 +134,7 @@ module _ {M : Type 0} (reply_to : M → TokenText → Reply) (after : M → Toke
   Makes node p m xs q n (Err fault.Failed) = MovesInto p m xs fault.Failed n
 
   -- Steps were made up to a front that what follows decides.
-  pub record ComesTo (p : Place) (m : M) (xs : List ℕ) (q : Place) (n : M) (ys : List ℕ) (search : Option Search) : Type 0 where
+  pub record ComesTo (p : ReaderPlace) (m : M) (xs : List ℕ) (q : ReaderPlace) (n : M) (ys : List ℕ) (search : Option Search) : Type 0 where
     pub reply : Reply
     pub goes_on : goes_on reply ≡ true
     pub reads : Reads reply_to after foreign p m xs reply q n ys
@@ -143,17 +143,17 @@ module _ {M : Type 0} (reply_to : M → TokenText → Reply) (after : M → Toke
     pub started : q.at_start ≡ false
 
   -- Steps were made up to an answer that stops the reader.
-  pub record HaltsAt (p : Place) (m : M) (xs : List ℕ) (reply : Reply) (q : Place) (n : M) (ys : List ℕ) : Type 0 where
+  pub record HaltsAt (p : ReaderPlace) (m : M) (xs : List ℕ) (reply : Reply) (q : ReaderPlace) (n : M) (ys : List ℕ) : Type 0 where
     pub reads : Reads reply_to after foreign p m xs reply q n ys
     pub shorter : length ys < length xs
 
   -- Steps were made up to a token that the sink refused.
-  pub record RunsInto (p : Place) (m : M) (xs : List ℕ) (fault : BuildFault) (n : M) : Type 0 where
-    pub place : Place
+  pub record RunsInto (p : ReaderPlace) (m : M) (xs : List ℕ) (fault : BuildFault) (n : M) : Type 0 where
+    pub place : ReaderPlace
     pub rest : List ℕ
     pub reads : Reads reply_to after foreign p m xs (Refuses fault) place n rest
 
-  abbrev pub Runs : {H : Type 0} → (H → ℕ) → Place → M → List ℕ → Place → M → Result (Halt H) BuildFault → Type 0
+  abbrev pub Runs : {H : Type 0} → (H → ℕ) → ReaderPlace → M → List ℕ → ReaderPlace → M → Result (Halt H) BuildFault → Type 0
   Runs node p m xs q n (Ok (halt.Waits rest search)) = ComesTo p m xs q n rest.now search
   Runs node p m xs q n (Ok (halt.Stops s rest)) = HaltsAt p m xs (stops_as node s) q n rest.now
   Runs node p m xs q n (Err fault.Memory) = Unit {0}
@@ -162,14 +162,14 @@ module _ {M : Type 0} (reply_to : M → TokenText → Reply) (after : M → Toke
   Runs node p m xs q n (Err fault.Failed) = RunsInto p m xs fault.Failed n
 
   -- The same, where a byte order mark may come first.
-  pub record WaitsAt (p : Place) (m : M) (xs : List ℕ) (q : Place) (n : M) (ys : List ℕ) (search : Option Search) : Type 0 where
+  pub record WaitsAt (p : ReaderPlace) (m : M) (xs : List ℕ) (q : ReaderPlace) (n : M) (ys : List ℕ) (search : Option Search) : Type 0 where
     pub reply : Reply
     pub goes_on : goes_on reply ≡ true
     pub reads : Reads reply_to after foreign p m xs reply q n ys
     pub undecided : IsUndecided q (foreign n) ys
     pub pending : Pending search q.mode q.last ys
 
-  abbrev pub RunsFrom : {H : Type 0} → (H → ℕ) → Place → M → List ℕ → Place → M → Result (Halt H) BuildFault → Type 0
+  abbrev pub RunsFrom : {H : Type 0} → (H → ℕ) → ReaderPlace → M → List ℕ → ReaderPlace → M → Result (Halt H) BuildFault → Type 0
   RunsFrom node p m xs q n (Ok (halt.Waits rest search)) = WaitsAt p m xs q n rest.now search
   RunsFrom node p m xs q n (Ok (halt.Stops s rest)) = HaltsAt p m xs (stops_as node s) q n rest.now
   RunsFrom node p m xs q n (Err fault.Memory) = Unit {0}

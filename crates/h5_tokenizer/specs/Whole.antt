@@ -5,7 +5,7 @@ use Rattle.h5_token.specs.Reply.{Reply}
 use Rattle.h5_reading.specs.Answers.{refuses}
 use Rattle.h5_reading.specs.Lines.{line_behind}
 use Rattle.h5_tokenizer.specs.End.{settle}
-use Rattle.h5_tokenizer.specs.Front.{Place}
+use Rattle.h5_tokenizer.specs.Front.{ReaderPlace}
 use Rattle.h5_tokenizer.specs.Read.{Read, IsUndecided}
 
 -- what the end hands on: what it makes of the undecided rest, and the end of the file
@@ -22,23 +22,23 @@ module _ {M : Type 0} (after : M → TokenText → ℕ → M) where
 
 module _ {M : Type 0} (reply_to : M → TokenText → Reply) (after : M → TokenText → ℕ → M) (foreign : M → Bool) where
   -- readings, one after another, where no token is refused
-  pub data Readings : Place → M → List ℕ → List TokenText → Place → M → List ℕ → Type 0 where
-    no_reading : {p : Place} {m : M} {xs : List ℕ} → Readings p m xs [] p m xs
-    more_reading : {p q r : Place} {m n o : M} {xs ys zs : List ℕ} {ts us : List TokenText} {reply : Reply}
+  pub data Readings : ReaderPlace → M → List ℕ → List TokenText → ReaderPlace → M → List ℕ → Type 0 where
+    no_reading : {p : ReaderPlace} {m : M} {xs : List ℕ} → Readings p m xs [] p m xs
+    more_reading : {p q r : ReaderPlace} {m n o : M} {xs ys zs : List ℕ} {ts us : List TokenText} {reply : Reply}
         → Readings p m xs ts q n ys → Read reply_to after foreign q n ys us reply r o zs → refuses reply ≡ false
         → Readings p m xs (ts ++ us) r o zs
 
   -- some tokens were handed on
-  pub record HasRead (p : Place) (m : M) (xs : List ℕ) (q : Place) (n : M) (ys : List ℕ) : Type 0 where
+  pub record HasRead (p : ReaderPlace) (m : M) (xs : List ℕ) (q : ReaderPlace) (n : M) (ys : List ℕ) : Type 0 where
     pub tokens : List TokenText
     pub readings : Readings p m xs tokens q n ys
 
 module _ {M : Type 0} (reply_to : M → TokenText → Reply) (after : M → TokenText → ℕ → M) (foreign : M → Bool) (ended : M → M) where
   -- An input was read to its end: up to an undecided rest, and then the end. These tokens were handed on,
   -- and this is what the sink means then.
-  pub record ReadsToEnd (p : Place) (m : M) (xs : List ℕ) (ts : List TokenText) (n : M) : Type 0 where
+  pub record ReadsToEnd (p : ReaderPlace) (m : M) (xs : List ℕ) (ts : List TokenText) (n : M) : Type 0 where
     pub handed : List TokenText
-    pub place : Place
+    pub place : ReaderPlace
     pub meaning : M
     pub rest : List ℕ
     pub readings : Readings reply_to after foreign p m xs handed place meaning rest

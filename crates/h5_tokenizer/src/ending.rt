@@ -8,7 +8,7 @@ ghost use Rattle.h5_markup.specs.Text.{text_of};
 
 use super::front::{Construct, Mode, Opening, find_opening};
 use super::state::State;
-use h5_markup::{Seen, text_of};
+use h5_markup::{Match, text_of};
 use h5_reading::{finish, line_behind, offer};
 use h5_token::{BuildFault, Token, TokenSink};
 use std::alloc::{AllocError, Global};
@@ -43,9 +43,9 @@ fn settle(
     ensures { IfOk result (λ token. option_map token_text token ≡ settle mode last.now foreign rest.now) }
 {
     match find_opening(mode, last, foreign, rest) {
-        Seen::Open => text_token(alloc, rest),
-        Seen::No => text_token(alloc, rest),
-        Seen::Found(opening, inner) => match opening {
+        Match::Open => text_token(alloc, rest),
+        Match::No => text_token(alloc, rest),
+        Match::Found(opening, inner) => match opening {
             Opening::Begins(construct) => unfinished(alloc, construct, inner),
             Opening::Gives(_) => text_token(alloc, rest),
             Opening::Null => text_token(alloc, rest),

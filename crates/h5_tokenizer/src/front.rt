@@ -1,12 +1,12 @@
 //! What stands at the front of the input, in each state.
 ghost use Rattle.std.specs.Prelude.{◌≡◌, Bool};
 ghost use Rattle.h5_markup.specs.Matching.{and_then, or_else, Found};
-ghost use Rattle.h5_markup.specs.Seen.{seen};
+ghost use Rattle.h5_markup.specs.MatchOf.{match_of};
 ghost use Rattle.h5_tokenizer.specs.Front as f;
 ghost use Rattle.h5_tokenizer.specs.Openings.{opening_of};
 ghost use Rattle.h5_markup.specs.Text as t;
 
-use h5_markup::{Seen, cleaned, escape, literal, name_is, newline, peek_letter, reference, word};
+use h5_markup::{Match, cleaned, escape, literal, name_is, newline, peek_letter, reference, word};
 use h5_token::states::RawKind;
 
 /// The states that are told apart between two tokens.
@@ -40,75 +40,75 @@ pub enum Opening {
     Turns(Mode),
 }
 
-fn says<'a>(opening: Opening, found: Seen<'a, ()>) -> Seen<'a, Opening>
-    ensures { seen opening_of result
-        ≡ f.says (opening_of opening) (seen {B = Unit {0}} (λ _. tt) found.entry) }
+fn says<'a>(opening: Opening, found: Match<'a, ()>) -> Match<'a, Opening>
+    ensures { match_of opening_of result
+        ≡ f.says (opening_of opening) (match_of {B = Unit {0}} (λ _. tt) found.entry) }
 {
     match found {
-        Seen::Open => Seen::Open,
-        Seen::No => Seen::No,
-        Seen::Found(_, rest) => Seen::Found(opening, rest),
+        Match::Open => Match::Open,
+        Match::No => Match::No,
+        Match::Found(_, rest) => Match::Found(opening, rest),
     }
 }
 
-fn stands_for<'a>(found: Seen<'a, &'static str>) -> Seen<'a, Opening>
-    ensures { seen opening_of result ≡ f.stands_for (seen (λ text. text.now) found.entry) }
+fn stands_for<'a>(found: Match<'a, &'static str>) -> Match<'a, Opening>
+    ensures { match_of opening_of result ≡ f.stands_for (match_of (λ text. text.now) found.entry) }
 {
     match found {
-        Seen::Open => Seen::Open,
-        Seen::No => Seen::No,
-        Seen::Found(text, rest) => Seen::Found(Opening::Gives(text), rest),
+        Match::Open => Match::Open,
+        Match::No => Match::No,
+        Match::Found(text, rest) => Match::Found(Opening::Gives(text), rest),
     }
 }
 
-fn comment<'a>(text: &'a str) -> Seen<'a, Opening>
-    ensures { seen opening_of result ≡ f.comment text.now }
+fn comment<'a>(text: &'a str) -> Match<'a, Opening>
+    ensures { match_of opening_of result ≡ f.comment text.now }
 {
     says(Opening::Begins(Construct::Comment), literal(text, "<!--"))
 }
 
-fn doctype<'a>(text: &'a str) -> Seen<'a, Opening>
-    ensures { seen opening_of result ≡ f.doctype text.now }
+fn doctype<'a>(text: &'a str) -> Match<'a, Opening>
+    ensures { match_of opening_of result ≡ f.doctype text.now }
 {
     says(Opening::Begins(Construct::Doctype), word(text, "<!DOCTYPE"))
 }
 
-fn cdata<'a>(foreign: bool, text: &'a str) -> Seen<'a, Opening>
-    ensures { seen opening_of result ≡ f.cdata foreign text.now }
+fn cdata<'a>(foreign: bool, text: &'a str) -> Match<'a, Opening>
+    ensures { match_of opening_of result ≡ f.cdata foreign text.now }
 {
     if foreign {
         says(Opening::Turns(Mode::Cdata), literal(text, "<![CDATA["))
     } else {
-        Seen::No
+        Match::No
     }
 }
 
-fn end_tag<'a>(text: &'a str) -> Seen<'a, Opening>
-    ensures { seen opening_of result ≡ f.end_tag text.now }
+fn end_tag<'a>(text: &'a str) -> Match<'a, Opening>
+    ensures { match_of opening_of result ≡ f.end_tag text.now }
 {
     match literal(text, "</") {
-        Seen::Open => Seen::Open,
-        Seen::No => Seen::No,
-        Seen::Found(_, rest) => says(Opening::Begins(Construct::EndTag), peek_letter(rest)),
+        Match::Open => Match::Open,
+        Match::No => Match::No,
+        Match::Found(_, rest) => says(Opening::Begins(Construct::EndTag), peek_letter(rest)),
     }
 }
 
-fn start_tag<'a>(text: &'a str) -> Seen<'a, Opening>
-    ensures { seen opening_of result ≡ f.start_tag text.now }
+fn start_tag<'a>(text: &'a str) -> Match<'a, Opening>
+    ensures { match_of opening_of result ≡ f.start_tag text.now }
 {
     match literal(text, "<") {
-        Seen::Open => Seen::Open,
-        Seen::No => Seen::No,
-        Seen::Found(_, rest) => says(Opening::Begins(Construct::StartTag), peek_letter(rest)),
+        Match::Open => Match::Open,
+        Match::No => Match::No,
+        Match::Found(_, rest) => says(Opening::Begins(Construct::StartTag), peek_letter(rest)),
     }
 }
 
-fn declaration<'a>(foreign: bool, text: &'a str) -> Seen<'a, Opening>
-    ensures { seen opening_of result ≡ or_else (f.comment text.now) (or_else (f.doctype text.now) (f.cdata foreign text.now)) }
+fn declaration<'a>(foreign: bool, text: &'a str) -> Match<'a, Opening>
+    ensures { match_of opening_of result ≡ or_else (f.comment text.now) (or_else (f.doctype text.now) (f.cdata foreign text.now)) }
 {
     match comment(text) {
-        Seen::No => match doctype(text) {
-            Seen::No => cdata(foreign, text),
+        Match::No => match doctype(text) {
+            Match::No => cdata(foreign, text),
             found => found,
         },
         found => found,
@@ -116,43 +116,43 @@ fn declaration<'a>(foreign: bool, text: &'a str) -> Seen<'a, Opening>
 }
 
 // What begins with `<`.
-fn markup<'a>(foreign: bool, text: &'a str) -> Seen<'a, Opening>
-    ensures { seen opening_of result
+fn markup<'a>(foreign: bool, text: &'a str) -> Match<'a, Opening>
+    ensures { match_of opening_of result
         ≡ or_else (f.comment text.now) (or_else (f.doctype text.now) (or_else (f.cdata foreign text.now)
         (or_else (f.end_tag text.now) (f.start_tag text.now)))) }
 {
     match text.as_bytes() {
-        [] => Seen::Open,
-        [b'<'] => Seen::Open,
+        [] => Match::Open,
+        [b'<'] => Match::Open,
         [b'<', b'/', ..] => end_tag(text),
         [b'<', b'!', ..] => declaration(foreign, text),
         _ => start_tag(text),
     }
 }
 
-fn in_data<'a>(foreign: bool, text: &'a str) -> Seen<'a, Opening>
-    ensures { seen opening_of result ≡ f.in_data foreign text.now }
+fn in_data<'a>(foreign: bool, text: &'a str) -> Match<'a, Opening>
+    ensures { match_of opening_of result ≡ f.in_data foreign text.now }
 {
     match text.as_bytes() {
-        [] => Seen::Open,
+        [] => Match::Open,
         [b'<', ..] => markup(foreign, text),
         [b'&', ..] => stands_for(reference(text)),
         [b'\r', ..] => stands_for(newline(text)),
         [0, ..] => says(Opening::Null, literal(text, "\0")),
-        _ => Seen::No,
+        _ => Match::No,
     }
 }
 
-fn raw_end_tag<'a>(last: &str, text: &'a str) -> Seen<'a, Opening>
-    ensures { seen opening_of result ≡ f.raw_end_tag last.now text.now }
+fn raw_end_tag<'a>(last: &str, text: &'a str) -> Match<'a, Opening>
+    ensures { match_of opening_of result ≡ f.raw_end_tag last.now text.now }
 {
     if last.is_empty() {
-        return Seen::No;
+        return Match::No;
     }
     match literal(text, "</") {
-        Seen::Open => Seen::Open,
-        Seen::No => Seen::No,
-        Seen::Found(_, rest) => says(Opening::Begins(Construct::RawEndTag), name_is(rest, last)),
+        Match::Open => Match::Open,
+        Match::No => Match::No,
+        Match::Found(_, rest) => says(Opening::Begins(Construct::RawEndTag), name_is(rest, last)),
     }
 }
 
@@ -166,8 +166,8 @@ fn reads_references(kind: RawKind) -> bool
     }
 }
 
-fn in_raw<'a>(kind: RawKind, last: &str, text: &'a str) -> Seen<'a, Opening>
-    ensures { seen opening_of result ≡ f.in_raw kind last.now text.now }
+fn in_raw<'a>(kind: RawKind, last: &str, text: &'a str) -> Match<'a, Opening>
+    ensures { match_of opening_of result ≡ f.in_raw kind last.now text.now }
 {
     match text.as_bytes() {
         [b'<', ..] => raw_end_tag(last, text),
@@ -175,8 +175,8 @@ fn in_raw<'a>(kind: RawKind, last: &str, text: &'a str) -> Seen<'a, Opening>
     }
 }
 
-fn in_cdata<'a>(text: &'a str) -> Seen<'a, Opening>
-    ensures { seen opening_of result ≡ f.in_cdata text.now }
+fn in_cdata<'a>(text: &'a str) -> Match<'a, Opening>
+    ensures { match_of opening_of result ≡ f.in_cdata text.now }
 {
     match text.as_bytes() {
         [b']', ..] => says(Opening::Turns(Mode::Data), literal(text, "]]>")),
@@ -186,8 +186,8 @@ fn in_cdata<'a>(text: &'a str) -> Seen<'a, Opening>
 
 /// What is more than a byte of plain text.
 #[inline(always)]
-pub fn find_opening<'a>(mode: Mode, last: &str, foreign: bool, text: &'a str) -> Seen<'a, Opening>
-    ensures { seen opening_of result ≡ f.opening mode last.now foreign text.now }
+pub fn find_opening<'a>(mode: Mode, last: &str, foreign: bool, text: &'a str) -> Match<'a, Opening>
+    ensures { match_of opening_of result ≡ f.opening mode last.now foreign text.now }
 {
     match mode {
         Mode::Data => in_data(foreign, text),

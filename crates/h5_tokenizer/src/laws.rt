@@ -4,7 +4,7 @@ ghost use Rattle.h5_token.specs.Reply.{Reply};
 ghost use Rattle.h5_token.specs.TokenText.{TokenText};
 ghost use Rattle.h5_reading.specs.Proper.{AreProper};
 ghost use Rattle.h5_reading.specs.Answers.{goes_on, refuses};
-ghost use Rattle.h5_tokenizer.specs.Front.{Place};
+ghost use Rattle.h5_tokenizer.specs.Front.{ReaderPlace};
 ghost use Rattle.h5_tokenizer.specs.Read.{Read};
 
 pub use h5_reading::Likeness;
@@ -12,13 +12,13 @@ use h5_token::TokenSink;
 
 /// Reading hands on no parse errors and no empty texts, over any taker of tokens.
 pub fn no_errors_and_no_empty_texts<S: TokenSink>()
-    ensures { (p : Place) (m : S.Meaning) (xs : List ℕ) (ts : List TokenText) (reply : Reply) (q : Place) (n : S.Meaning) (ys : List ℕ) →
+    ensures { (p : ReaderPlace) (m : S.Meaning) (xs : List ℕ) (ts : List TokenText) (reply : Reply) (q : ReaderPlace) (n : S.Meaning) (ys : List ℕ) →
         Read S.reply_to S.after S.is_foreign p m xs ts reply q n ys → AreProper ts }
 {}
 
 /// What was read is read so whatever follows: a piece that is read early is read as in the whole input.
 pub fn reading_goes_on<S: TokenSink>()
-    ensures { (p : Place) (m : S.Meaning) (xs : List ℕ) (ts : List TokenText) (reply : Reply) (q : Place) (n : S.Meaning) (ys more : List ℕ) →
+    ensures { (p : ReaderPlace) (m : S.Meaning) (xs : List ℕ) (ts : List TokenText) (reply : Reply) (q : ReaderPlace) (n : S.Meaning) (ys more : List ℕ) →
         Read S.reply_to S.after S.is_foreign p m xs ts reply q n ys
         → Read S.reply_to S.after S.is_foreign p m (xs ++ more) ts reply q n (ys ++ more) }
 {}
@@ -26,8 +26,8 @@ pub fn reading_goes_on<S: TokenSink>()
 /// One reading, and then another from where it came to, are one reading of both lists of tokens. Its last
 /// answer is the second's, if that has one.
 pub fn readings_join<S: TokenSink>()
-    ensures { (p : Place) (m : S.Meaning) (xs : List ℕ) (ts : List TokenText) (reply : Reply) (q : Place) (n : S.Meaning) (ys : List ℕ)
-        (us : List TokenText) (next : Reply) (r : Place) (o : S.Meaning) (zs : List ℕ) →
+    ensures { (p : ReaderPlace) (m : S.Meaning) (xs : List ℕ) (ts : List TokenText) (reply : Reply) (q : ReaderPlace) (n : S.Meaning) (ys : List ℕ)
+        (us : List TokenText) (next : Reply) (r : ReaderPlace) (o : S.Meaning) (zs : List ℕ) →
         Read S.reply_to S.after S.is_foreign p m xs ts reply q n ys
         → goes_on reply ≡ true
         → Read S.reply_to S.after S.is_foreign q n ys us next r o zs
@@ -48,8 +48,8 @@ ghost use Rattle.h5_tokenizer.specs.Whole.{closing, HasRead, Readings, ReadsToEn
 /// Readings, and then one of what they left and of more input behind it, are readings of the whole input.
 /// So what calls of `feed` read in turn is read of all that was fed, one piece behind the other.
 pub fn pieces_join<S: TokenSink>()
-    ensures { (p : Place) (m : S.Meaning) (xs : List ℕ) (ts : List TokenText) (q : Place) (n : S.Meaning) (ys more : List ℕ)
-        (us : List TokenText) (reply : Reply) (r : Place) (o : S.Meaning) (zs : List ℕ) →
+    ensures { (p : ReaderPlace) (m : S.Meaning) (xs : List ℕ) (ts : List TokenText) (q : ReaderPlace) (n : S.Meaning) (ys more : List ℕ)
+        (us : List TokenText) (reply : Reply) (r : ReaderPlace) (o : S.Meaning) (zs : List ℕ) →
         Readings S.reply_to S.after S.is_foreign p m xs ts q n ys
         → Read S.reply_to S.after S.is_foreign q n (ys ++ more) us reply r o zs
         → refuses reply ≡ false
@@ -59,7 +59,7 @@ pub fn pieces_join<S: TokenSink>()
 /// The same of a call of `feed` that goes well: what waits then, held or in the queue, is what is left of all
 /// that was fed.
 pub fn feeds_join<S: TokenSink>()
-    ensures { (p : Place) (m : S.Meaning) (xs more : List ℕ) (q : Place) (n : S.Meaning) (ys : List ℕ)
+    ensures { (p : ReaderPlace) (m : S.Meaning) (xs more : List ℕ) (q : ReaderPlace) (n : S.Meaning) (ys : List ℕ)
         (new : ReaderText) (o : S.Meaning) (queue : List ℕ) (answer : TokenizerResult S.Handle) →
         HasRead S.reply_to S.after S.is_foreign p m xs q n ys
         → Feeds S.reply_to S.after S.is_foreign S.node q n (ys ++ more) new o queue (Ok answer)
@@ -70,21 +70,21 @@ pub fn feeds_join<S: TokenSink>()
 /// what is left is then the line behind the whole input. So where reading begins in line 1, each token is told with 1
 /// and the newlines before its first character, and the end of the file with 1 and all newlines.
 pub fn lines_are_counted<S: TokenSink>()
-    ensures reading { (p : Place) (m : S.Meaning) (xs : List ℕ) (ts : List TokenText) (reply : Reply) (q : Place) (n : S.Meaning) (ys : List ℕ) →
+    ensures reading { (p : ReaderPlace) (m : S.Meaning) (xs : List ℕ) (ts : List TokenText) (reply : Reply) (q : ReaderPlace) (n : S.Meaning) (ys : List ℕ) →
         p.line ≤ u64.MAX → Read S.reply_to S.after S.is_foreign p m xs ts reply q n ys → q.line ≡ line_behind p.line xs ys }
-    ensures readings { (p : Place) (m : S.Meaning) (xs : List ℕ) (ts : List TokenText) (q : Place) (n : S.Meaning) (ys : List ℕ) →
+    ensures readings { (p : ReaderPlace) (m : S.Meaning) (xs : List ℕ) (ts : List TokenText) (q : ReaderPlace) (n : S.Meaning) (ys : List ℕ) →
         p.line ≤ u64.MAX → Readings S.reply_to S.after S.is_foreign p m xs ts q n ys
         → (q.line ≡ line_behind p.line xs ys) × (line_behind q.line ys [] ≡ line_behind p.line xs []) }
 {}
 
 /// Nothing is decided where no input is left.
 pub fn nothing_is_undecided()
-    ensures { (p : Place) (foreign : Bool) → IsUndecided p foreign [] }
+    ensures { (p : ReaderPlace) (foreign : Bool) → IsUndecided p foreign [] }
 {}
 
 /// Readings up to an undecided rest, and then the end, read the input to its end.
 pub fn the_end_ends_readings<S: TokenSink>()
-    ensures { (p : Place) (m : S.Meaning) (xs : List ℕ) (ts : List TokenText) (q : Place) (n : S.Meaning) (ys : List ℕ) (o : S.Meaning) →
+    ensures { (p : ReaderPlace) (m : S.Meaning) (xs : List ℕ) (ts : List TokenText) (q : ReaderPlace) (n : S.Meaning) (ys : List ℕ) (o : S.Meaning) →
         Readings S.reply_to S.after S.is_foreign p m xs ts q n ys
         → IsUndecided q (S.is_foreign n) ys
         → Closes S.reply_to S.after S.is_foreign S.ended q n ys o (Ok tt)
@@ -99,7 +99,7 @@ pub fn the_end_ends_readings<S: TokenSink>()
 pub fn cuts_of_the_input_agree<S: TokenSink, L: Likeness>()
     ensures { (see : S.Meaning → L.Seen) →
         IsBlindToCuts S.reply_to S.after S.is_foreign S.ended (λ m n. L.alike (see m) (see n))
-        → (p : Place) (m n : S.Meaning) (xs : List ℕ) (ts us : List TokenText) (k l : S.Meaning) →
+        → (p : ReaderPlace) (m n : S.Meaning) (xs : List ℕ) (ts us : List TokenText) (k l : S.Meaning) →
         L.alike (see m) (see n)
         → ReadsToEnd S.reply_to S.after S.is_foreign S.ended p m xs ts k
         → ReadsToEnd S.reply_to S.after S.is_foreign S.ended p n xs us l

@@ -7,7 +7,7 @@
 //! what holds of readings, as that no cut of the input matters to a taker that doesn't see how texts are cut.
 //!
 //! It stands on tokens, on `h5_markup`, and on `h5_reading` for what every reader has: text that waits, options, lines, the
-//! length of plain text. The parser in `h5_driver` puts it over the builder, and `h5_round` has what it reads of a document that
+//! length of plain text. The parser in `h5_driver` puts it over the builder, and `h5_round_trip` has what it reads of a document that
 //! was written. Begin with `specs/Front.antt` (what stands at the front) and `specs/Read.antt` (what is handed on, and where
 //! reading stops), then `src/steps.rt`.
 #![tactic(auto)]

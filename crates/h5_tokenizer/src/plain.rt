@@ -3,14 +3,14 @@ ghost use Rattle.std.specs.Prelude.{◌≡◌, List, [], ℕ, Bool, true, IfOk, 
 ghost use Rattle.std.specs.String.{string_bytes};
 ghost use Rattle.std.specs.Option.{option_copied};
 ghost use Rattle.h5_markup.specs.Matching as m;
-ghost use Rattle.h5_markup.specs.Seen.{seen};
+ghost use Rattle.h5_markup.specs.MatchOf.{match_of};
 ghost use Rattle.h5_reading.specs.Lines.{newlines_passed};
 ghost use Rattle.h5_tokenizer.specs.Front.{opening};
 ghost use Rattle.h5_tokenizer.specs.Openings.{opening_of};
 ghost use Rattle.h5_tokenizer.specs.Steps.{TakesBits, TakesSome, TakesMany};
 
 use super::front::{Mode, Opening, find_opening};
-use h5_markup::{Seen, plain_len};
+use h5_markup::{Match, plain_len};
 use h5_reading::count_plain;
 use memchr::memchr;
 use std::alloc::{AllocError, Global};
@@ -93,19 +93,19 @@ pub fn begin_text(alloc: Global, front: &str, after: &str) -> Result<String, All
 
 // Takes text where the search found nothing but text.
 fn take_bit<'a>(
-    found: Seen<'a, Opening>,
+    found: Match<'a, Opening>,
     text: &'a str,
     out: &mut String,
 ) -> Result<Option<&'a str>, AllocError>
-    ensures { IfOk result (λ rest. (mode : Mode) (last : List ℕ) (foreign : Bool) → opening mode last foreign text.now ≡ seen opening_of found.entry
+    ensures { IfOk result (λ rest. (mode : Mode) (last : List ℕ) (foreign : Bool) → opening mode last foreign text.now ≡ match_of opening_of found.entry
         → TakesSome mode last foreign text.now (option_copied rest) (string_bytes out.old) (string_bytes out.new)) }
 {
     match found {
-        Seen::Found(Opening::Gives(bit), rest) => {
+        Match::Found(Opening::Gives(bit), rest) => {
             out.push_str(bit)?;
             Ok(Some(rest))
         }
-        Seen::No => {
+        Match::No => {
             if text.is_empty() {
                 return Ok(None);
             }

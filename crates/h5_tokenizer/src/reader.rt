@@ -18,7 +18,7 @@ pub struct Reader {
     pub held: BufferQueue,
     // How far the end of what stands at the front of it was looked for.
     pub search: Option<Search>,
-    pub phase: Stage,
+    pub stage: Stage,
 }
 
 impl Model for Reader {
@@ -28,7 +28,7 @@ impl Model for Reader {
 
     ghost Value = { ReaderText };
 
-    ghost view = { λ r. record { place = place_of r.state; held = r.held; stage = r.phase } };
+    ghost view = { λ r. record { place = place_of r.state; held = r.held; stage = r.stage } };
 
     ghost invariant = { λ r. Pending r.search r.state.mode r.state.last r.held };
 }
@@ -37,7 +37,7 @@ impl Reader {
     pub fn stage(&self) -> Stage
         ensures { result ≡ self.now.stage }
     {
-        self.phase
+        self.stage
     }
 }
 
@@ -52,7 +52,7 @@ pub fn read<S: TokenSink>(
         reader.new (S.meaning sink.new) input.new result }
 {
     // Until the call has gone well.
-    reader.phase = Stage::Failed;
+    reader.stage = Stage::Failed;
     let search = reader.search.take();
     let mut buffer = mem::replace(&mut reader.held, BufferQueue::new(alloc));
     buffer.append(input)?;
@@ -63,14 +63,14 @@ pub fn read<S: TokenSink>(
             buffer.keep(left);
             reader.held = buffer;
             reader.search = search;
-            reader.phase = Stage::Reading;
+            reader.stage = Stage::Reading;
             Ok(TokenizerResult::Done)
         }
         Halt::Stops(stop, rest) => {
             let left = rest.as_bytes().len();
             buffer.keep(left);
             *input = buffer;
-            reader.phase = Stage::Reading;
+            reader.stage = Stage::Reading;
             Ok(result_of(stop))
         }
     }

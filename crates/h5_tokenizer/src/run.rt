@@ -4,7 +4,7 @@ ghost use Rattle.h5_tokenizer.specs.Steps.{place_of, Pending, Runs, RunsFrom, Sk
 
 use super::state::{Halt, Search, State, Turn};
 use super::steps::step;
-use h5_markup::{Seen, literal};
+use h5_markup::{Match, literal};
 use h5_token::{BuildFault, TokenSink};
 use std::alloc::Global;
 
@@ -54,12 +54,12 @@ fn skip_mark<'a>(
         return Some((text, search));
     }
     match literal(text, "\u{feff}") {
-        Seen::Open => None,
-        Seen::No => {
+        Match::Open => None,
+        Match::No => {
             state.at_start = false;
             Some((text, None))
         }
-        Seen::Found(_, rest) => {
+        Match::Found(_, rest) => {
             state.at_start = false;
             Some((rest, None))
         }

@@ -13,7 +13,7 @@ use super::front::{Construct, Mode, Opening, find_opening};
 use super::plain::{begin_long, begin_text, cut_plain, take_plain, take_texts};
 use super::state::{Search, State, Turn};
 use super::tokens::make_token;
-use h5_markup::{Inside, Seen, Sought, make_bare, seek_end};
+use h5_markup::{Inside, Match, Sought, make_bare, seek_end};
 use h5_reading::{LastName, Stop, ask, newlines_passed, stop_of};
 use h5_token::{BuildFault, Tag, TagKind, Token, TokenSink, TokenSinkResult};
 use std::alloc::Global;
@@ -237,13 +237,13 @@ fn any_step<'a, S: TokenSink>(
 {
     let foreign = sink.adjusted_current_node_present_but_not_in_html_namespace();
     match find_opening(state.mode, state.last.as_str(), foreign, rest) {
-        Seen::Open => Ok(Turn::Waits(None)),
-        Seen::No => {
+        Match::Open => Ok(Turn::Waits(None)),
+        Match::No => {
             let mut text = String::new(alloc);
             let after = take_plain(rest, &mut text)?;
             text_step(sink, state, rest, after, newlines_passed(rest, after), text)
         }
-        Seen::Found(opening, after) => match opening {
+        Match::Found(opening, after) => match opening {
             Opening::Begins(construct) => {
                 let search = resumed(search, foreign, construct);
                 construct_step(sink, state, alloc, rest, after, construct, search)

@@ -62,7 +62,7 @@ impl<Sink: TokenSink> Tokenizer<Sink> {
                 },
                 held: BufferQueue::new(alloc),
                 search: None,
-                phase: Stage::Reading,
+                stage: Stage::Reading,
             },
             alloc,
         }
@@ -115,14 +115,14 @@ impl<Sink: TokenSink> Tokenizer<Sink> {
             Stage::Failed => Err(BuildFault::Failed),
             Stage::Ended => Err(BuildFault::AfterEnd),
             Stage::Reading => {
-                self.reader.phase = Stage::Failed;
+                self.reader.stage = Stage::Failed;
                 close(
                     &mut self.sink,
                     &self.reader.state,
                     self.alloc,
                     self.reader.held.as_str(),
                 )?;
-                self.reader.phase = Stage::Ended;
+                self.reader.stage = Stage::Ended;
                 Ok(())
             }
         }

@@ -5,10 +5,11 @@ use Rattle.h5_token.specs.TokenText.{DoctypeText, TokenText, DoctypeIs, TagIs, C
 use Rattle.h5_interface.specs.Forest.{IsForest}
 use Rattle.h5_interface.specs.Seen.{Seen}
 use Rattle.h5_interface.specs.SinkChoices.{SinkChoices}
-use Rattle.h5_types.specs.TurnText.{TagTurn, CommentTurn, NullTurn, EofTurn}
-use Rattle.h5_types.specs.declared.modes.InsertionMode.{InsertionMode}
-use Rattle.h5_types.specs.declared.modes.InsertionMode.TheVariants.{Initial}
-use Rattle.h5_types.specs.declared.options.TreeBuilderOpts.{TreeBuilderOpts}
+use Rattle.h5_tables.specs.TurnText.{TagTurn, CommentTurn, NullTurn, EofTurn}
+use Rattle.h5_tables.specs.declared.entry.FormatEntry.{FormatEntry}
+use Rattle.h5_tables.specs.declared.modes.InsertionMode.{InsertionMode}
+use Rattle.h5_tables.specs.declared.modes.InsertionMode.TheVariants.{Initial}
+use Rattle.h5_tables.specs.declared.options.TreeBuilderOpts.{TreeBuilderOpts}
 use Rattle.h5_rules.specs.Run.{doctype_in, is_counted, refuses_in, step, take_or_refuse, taken, tell_or_refuse, text_step, without_lf}
 use Rattle.h5_interface.specs.declared.sink.TreeSink.{Ghosts}
 use Rattle.h5_rules.specs.Sound.{Fits, HasLists, Sound}
@@ -17,7 +18,10 @@ use Rattle.h5_laws.proofs.turns.TurnLaws.{turns_few}
 use Rattle.h5_laws.proofs.cuts.RunLaws.{is_taken, moved}
 use Rattle.h5_plain.proofs.StartLaws.{all_none, fits_none, lists_none}
 use Rattle.h5_state.specs.Steps.{world_of}
+use Rattle.h5_state.specs.Stamps.{AreStamped}
 use Rattle.h5_state.specs.Summaries.{IsKept as StackIsKept}
+use Rattle.h5_state.specs.declared.open_element.Listed.{Listed}
+use Rattle.h5_state.specs.declared.open_element.OpenElements.{OpenElements}
 use Rattle.h5_state.specs.declared.state.State.{State}
 use Rattle.h5_tree_builder.specs.Builder.{Answered, Building, first_world}
 use Rattle.h5_tree_builder.specs.Chains.{CameTo}
@@ -32,12 +36,18 @@ names_first : (seen : Seen) (opts : TreeBuilderOpts) → names_of (first_world s
 unfolding names_of
 names_first seen opts = refl
 
-pub first_kept : {S H O : Type 0} (law : Ghosts S H O) (sink : S) (state : State H) (opts : TreeBuilderOpts) → IsForest (law.sees sink).forest → StackIsKept state.open_elems [] → world_of law sink state ≡ first_world (law.sees sink) opts
+-- nothing is listed
+pub stamped_none : {H : Type 0} (node : H → ℕ) (open_elems : OpenElements H) (entries : List (FormatEntry (Listed H))) → entries ≡ [] → AreStamped node open_elems entries
+unfolding AreStamped
+stamped_none node open_elems entries e = λ k d h. absurd (omega (arith, h, ap length e))
+
+pub first_kept : {S H O : Type 0} (law : Ghosts S H O) (sink : S) (state : State H) (opts : TreeBuilderOpts) → IsForest (law.sees sink).forest → StackIsKept state.open_elems [] → AreStamped law.node state.open_elems state.active_formatting → world_of law sink state ≡ first_world (law.sees sink) opts
     → IsKept law (record { sink = sink; state = state; ended = false; failed = false; turns = 0 })
-first_kept law sink state opts k none e = record {
+first_kept law sink state opts k none stamped e = record {
   sound = record {
     sound = subst Sound (sym e) (all_none (law.sees sink).forest k);
     kept = subst (StackIsKept state.open_elems) (sym (ap names_of e ∙ names_first (law.sees sink) opts)) none;
+    stamped = stamped;
   };
   fits = λ a b. subst Fits (sym e) (fits_first (law.sees sink) opts);
   lists = λ a. subst HasLists (sym e) lists_none;

@@ -5,10 +5,10 @@ use Rattle.h5_token.specs.Reply.{reply}
 use Rattle.h5_token.specs.declared.sink.TokenSinkResult.{TokenSinkResult}
 use Rattle.h5_token.specs.declared.sink.TokenSinkResult.TheVariants.{Continue}
 use Rattle.h5_interface.specs.SinkChoices.{SinkChoices}
-use Rattle.h5_types.specs.TurnResult as results
-use Rattle.h5_types.specs.TurnResult.{TurnResult}
-use Rattle.h5_types.specs.TurnText.{HasText, TurnText, is_self_closing}
-use Rattle.h5_types.specs.declared.modes.InsertionMode.{InsertionMode}
+use Rattle.h5_tables.specs.TurnResult as results
+use Rattle.h5_tables.specs.TurnResult.{TurnResult}
+use Rattle.h5_tables.specs.TurnText.{HasText, TurnText, is_self_closing}
+use Rattle.h5_tables.specs.declared.modes.InsertionMode.{InsertionMode}
 use Rattle.h5_rules.specs.fitting.Fits.{is_before_root}
 use Rattle.h5_rules.specs.fitting.NamesFit.{NamesFit}
 use Rattle.h5_rules.proofs.fitting.OpenLaws.{names_root_open}

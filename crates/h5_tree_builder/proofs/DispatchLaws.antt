@@ -3,10 +3,10 @@ use Rattle.std.proofs.Common.{◌≡◌, ◌<◌, ◌&&◌, ℕ, Bool, List, tru
 use Rattle.std.specs.declared.alloc.AllocError.{AllocError}
 use Rattle.h5_interface.specs.SinkChoices.{SinkChoices}
 use Rattle.h5_interface.specs.declared.sink.TreeSink.{Ghosts}
-use Rattle.h5_types.specs.TurnResult.{TurnResult}
-use Rattle.h5_types.specs.TurnText.{TurnText, turn_text}
-use Rattle.h5_types.specs.declared.turns.ProcessResult.{ProcessResult}
-use Rattle.h5_types.specs.declared.turns.Token.{Token}
+use Rattle.h5_tables.specs.TurnResult.{TurnResult}
+use Rattle.h5_tables.specs.TurnText.{TurnText, turn_text}
+use Rattle.h5_tables.specs.declared.turns.ProcessResult.{ProcessResult}
+use Rattle.h5_tables.specs.declared.turns.Token.{Token}
 use Rattle.h5_rules.specs.insertion.Foreign.{is_foreign}
 use Rattle.h5_rules.specs.modes.ForeignContent.{ByMode, ForeignStep, HasRow, by_mode, dispatch, foreign_step, row_of}
 use Rattle.h5_rules.specs.modes.Modes.{rule}
@@ -19,7 +19,7 @@ use Rattle.h5_laws.proofs.modes.ForeignRowLaws.{any_has, dispatch_foreign, dispa
 use Rattle.h5_rules.proofs.BoolLaws.{and_both}
 use Rattle.h5_rules.proofs.rows.KeptLaws.{apply_append}
 use Rattle.h5_rules.proofs.rows.MarkLaws.{still_told}
-use Rattle.h5_rules_foreign.specs.ForeignSteps.{EndedBy, LeftToMode}
+use Rattle.h5_rules_rest.specs.ForeignSteps.{EndedBy, LeftToMode}
 use Rattle.h5_state.specs.Steps.{IsSound, errors_of, world_of}
 use Rattle.h5_state.specs.Turn.{FollowsRule, turn_result}
 use Rattle.h5_state.specs.declared.state.State.{State}

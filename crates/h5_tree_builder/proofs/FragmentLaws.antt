@@ -8,14 +8,14 @@ use Rattle.h5_names.specs.declared.qualified.QualName.{QualName}
 use Rattle.h5_names.proofs.KnownNameLemmas.{any_by_name}
 use Rattle.h5_token.specs.declared.states.State.{State as ReaderState}
 use Rattle.h5_token.specs.declared.states.State.TheVariants as reader
-use Rattle.h5_tag_sets.specs.TagSets.{is_one_of}
+use Rattle.h5_tables.specs.TagSets.{is_one_of}
 use Rattle.h5_interface.specs.Forest.{Forest, IsElement, IsForest}
 use Rattle.h5_interface.specs.Seen.{Seen}
 use Rattle.h5_interface.specs.SinkChoices.{SinkChoices}
 use Rattle.h5_interface.specs.declared.sink.TreeSink.{Ghosts}
-use Rattle.h5_types.specs.declared.modes.InsertionMode.{InsertionMode}
-use Rattle.h5_types.specs.declared.modes.InsertionMode.TheVariants.{InTemplate}
-use Rattle.h5_types.specs.declared.options.TreeBuilderOpts.{TreeBuilderOpts}
+use Rattle.h5_tables.specs.declared.modes.InsertionMode.{InsertionMode}
+use Rattle.h5_tables.specs.declared.modes.InsertionMode.TheVariants.{InTemplate}
+use Rattle.h5_tables.specs.declared.options.TreeBuilderOpts.{TreeBuilderOpts}
 use Rattle.h5_rules.specs.ByName.{Only}
 use Rattle.h5_rules.specs.formatting.FormattingNames.{html_name}
 use Rattle.h5_rules.specs.fitting.SituationChanges.{start_modes, start_of}

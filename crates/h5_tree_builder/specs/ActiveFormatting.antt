@@ -2,19 +2,20 @@
 use Rattle.std.specs.Prelude.{ℕ, suc, List, [], ◌∷◌, length, reverse}
 use Rattle.h5_token.specs.TokenText.{tag_text}
 use Rattle.h5_token.specs.declared.tag.Tag.{Tag}
-use Rattle.h5_types.specs.declared.entry.FormatEntry.{FormatEntry}
-use Rattle.h5_types.specs.declared.entry.FormatEntry.TheVariants.{Element, Marker}
+use Rattle.h5_tables.specs.declared.entry.FormatEntry.{FormatEntry}
+use Rattle.h5_tables.specs.declared.entry.FormatEntry.TheVariants.{Element, Marker}
 use Rattle.h5_rules.specs.formatting.FormattingList.{Entry, ElementEntry}
+use Rattle.h5_state.specs.declared.open_element.Listed.{Listed}
 
 -- of entries with the newest first: up to the first marker, each element with its tag and its place, which is the number
 -- of older entries
-abbrev pub placed : {H : Type 0} → List (FormatEntry H) → List (ℕ × (H × Tag))
+abbrev pub placed : {H : Type 0} → List (FormatEntry (Listed H)) → List (ℕ × (H × Tag))
 placed [] = []
 placed (Marker ∷ l) = []
-placed (Element handle tag ∷ l) = (length l, (handle, tag)) ∷ placed l
+placed (Element listed tag ∷ l) = (length l, (listed.handle, tag)) ∷ placed l
 
 -- of entries with the oldest first
-abbrev pub still_given : {H : Type 0} → List (FormatEntry H) → List (ℕ × (H × Tag))
+abbrev pub still_given : {H : Type 0} → List (FormatEntry (Listed H)) → List (ℕ × (H × Tag))
 still_given entries = placed (reverse entries)
 
 -- what is given as an entry of a world's list

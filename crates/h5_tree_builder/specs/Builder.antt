@@ -10,17 +10,17 @@ use Rattle.h5_interface.specs.Forest.{Forest}
 use Rattle.h5_interface.specs.Seen.{Seen}
 use Rattle.h5_interface.specs.SinkChoices.{SinkChoices}
 use Rattle.h5_interface.specs.declared.marks.QuirksMode.TheVariants.{NoQuirks}
-use Rattle.h5_tag_sets.specs.TagSets.{html_namespace}
-use Rattle.h5_types.specs.Options.{default_options}
-use Rattle.h5_types.specs.declared.modes.InsertionMode.TheVariants.{Initial}
-use Rattle.h5_types.specs.declared.options.TreeBuilderOpts.{TreeBuilderOpts}
+use Rattle.h5_tables.specs.TagSets.{html_namespace}
+use Rattle.h5_tables.specs.Options.{default_options}
+use Rattle.h5_tables.specs.declared.modes.InsertionMode.TheVariants.{Initial}
+use Rattle.h5_tables.specs.declared.options.TreeBuilderOpts.{TreeBuilderOpts}
 use Rattle.h5_rules.specs.Changes.{pop}
 use Rattle.h5_token.specs.Joins.{join}
 use Rattle.h5_laws.specs.Cuts.{spread}
 use Rattle.h5_rules.specs.Run.{CountsTurns, View, WasRefused, after_all, after_token, all_quiet, is_counted, is_quiet, last_turns, refusal, refuses_in, replies, reply_to, step, told_all, told_of}
 use Rattle.h5_rules.specs.insertion.Foreign.{adjusted_current_node}
 use Rattle.h5_rules.specs.World.{World, name_in}
-use Rattle.h5_plain.specs.Plain.{PlainDocument, document_tokens, plain_reply}
+use Rattle.h5_plain.specs.Plain.{Flow, IsPlain, PlainDocument, document_tokens, nothing_open, plain_reply}
 use Rattle.h5_plain.specs.Rebuilding.{DocumentStands, HoldsDocument}
 use Rattle.h5_tree_builder.specs.Chains.{is_free}
 
@@ -136,12 +136,12 @@ pub record RanAll (choices : SinkChoices) (ts : List TokenText) (old new : Build
   pub spread : answers ≡ spread ts (replies choices (join ts) old.view)
 
 -- a plain document was rebuilt: it stands in the forest, in no quirks, the answers were those to a plain document's
--- tokens, and no parse error was told
+-- tokens, and no parse error was told, if no blank text stands in a table
 pub record Rebuilt (ts : List TokenText) (d : PlainDocument) (old new : Building) (answers : List Reply) : Type 0 where
   pub stands : DocumentStands new.view.world.forest d
   pub quirks : new.view.world.seen_quirks ≡ NoQuirks
   pub told : answers ≡ map plain_reply ts
-  pub quiet : new.errors ≡ old.errors
+  pub quiet : IsPlain false (Flow false nothing_open) d.blocks → new.errors ≡ old.errors
 
 -- so it is where the tokens of a plain document, however its texts are cut, come to a builder that took
 -- nothing yet, with the default options, over a sink that holds its document alone

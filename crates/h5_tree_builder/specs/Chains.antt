@@ -5,7 +5,7 @@ use Rattle.h5_token.specs.Reply.{reply}
 use Rattle.h5_token.specs.TokenText.{TokenText, Characters, ParseErrorIs}
 use Rattle.h5_interface.specs.SinkChoices.{SinkChoices}
 use Rattle.h5_interface.specs.declared.sink.TreeSink.{Ghosts}
-use Rattle.h5_types.specs.TurnText.{TurnText}
+use Rattle.h5_tables.specs.TurnText.{TurnText}
 use Rattle.h5_rules.specs.Run.{is_empty_text, without_lf}
 use Rattle.h5_rules.specs.Settle.{Settled, settle}
 use Rattle.h5_rules.specs.Sound.{Fits}

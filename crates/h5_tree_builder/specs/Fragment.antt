@@ -7,10 +7,10 @@ use Rattle.h5_token.specs.declared.states.State.{State}
 use Rattle.h5_token.specs.declared.states.State.TheVariants.{Data, Plaintext, RawData}
 use Rattle.h5_interface.specs.Seen.{Seen}
 use Rattle.h5_interface.specs.SinkChoices.{SinkChoices}
-use Rattle.h5_tag_sets.specs.TagSets.{html_namespace, is_html_named, is_one_of}
-use Rattle.h5_types.specs.declared.modes.InsertionMode.{InsertionMode}
-use Rattle.h5_types.specs.declared.modes.InsertionMode.TheVariants.{InTemplate}
-use Rattle.h5_types.specs.declared.options.TreeBuilderOpts.{TreeBuilderOpts}
+use Rattle.h5_tables.specs.TagSets.{html_namespace, is_html_named, is_one_of}
+use Rattle.h5_tables.specs.declared.modes.InsertionMode.{InsertionMode}
+use Rattle.h5_tables.specs.declared.modes.InsertionMode.TheVariants.{InTemplate}
+use Rattle.h5_tables.specs.declared.options.TreeBuilderOpts.{TreeBuilderOpts}
 use Rattle.h5_rules.specs.Changes.{create_root, set_mode}
 use Rattle.h5_rules.specs.fitting.Reset.{reset_mode}
 use Rattle.h5_rules.specs.World.{World, name_in}

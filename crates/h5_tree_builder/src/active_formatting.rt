@@ -6,14 +6,15 @@ ghost use Rattle.h5_tree_builder.specs.Held.{building};
 
 use super::builder::TreeBuilder;
 use h5_interface::TreeSink;
+use h5_state::Listed;
+use h5_tables::FormatEntry;
 use h5_token::Tag;
-use h5_types::FormatEntry;
 
 /// The active formatting elements from the newest to the last marker, each with its place in the list, counted
 /// from the oldest entry, and with the tag for which it was made. After them nothing comes any more.
 #[derive(Drop)]
 pub struct ActiveFormattingIter<'a, Handle> {
-    pub(crate) entries: &'a [FormatEntry<Handle>],
+    pub(crate) entries: &'a [FormatEntry<Listed<Handle>>],
 }
 
 impl<'a, Handle> Iterator for ActiveFormattingIter<'a, Handle> {
@@ -28,9 +29,9 @@ impl<'a, Handle> Iterator for ActiveFormattingIter<'a, Handle> {
 
     fn next(&mut self) -> Option<(usize, &'a Handle, &'a Tag)> {
         match self.entries.split_last() {
-            Some((FormatEntry::Element(handle, tag), older)) => {
+            Some((FormatEntry::Element(listed, tag), older)) => {
                 self.entries = older;
-                Some((older.len(), handle, tag))
+                Some((older.len(), &listed.handle, tag))
             }
             _ => None,
         }

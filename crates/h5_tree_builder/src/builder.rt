@@ -14,8 +14,8 @@ use super::process_token::{note_line, take_token};
 use super::refusal::refuses_in;
 use h5_interface::TreeSink;
 use h5_state::{State, current_mode};
+use h5_tables::TreeBuilderOpts;
 use h5_token::{BuildFault, Token, TokenSinkResult};
-use h5_types::TreeBuilderOpts;
 use std::alloc::Global;
 use std::marker::Model;
 

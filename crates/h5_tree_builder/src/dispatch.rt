@@ -1,6 +1,6 @@
 //! The turns of one token (HTML standard, section 13.2.6, "the tree construction dispatcher").
 ghost use Rattle.std.specs.Prelude.{◌≡◌, ◌<◌, false, true, IfOk};
-ghost use Rattle.h5_types.specs.TurnText.{HasText, is_self_closing as is_closing_turn, turn_text};
+ghost use Rattle.h5_tables.specs.TurnText.{HasText, is_self_closing as is_closing_turn, turn_text};
 ghost use Rattle.h5_rules.specs.insertion.Foreign.{is_foreign};
 ghost use Rattle.h5_rules.specs.modes.ForeignContent.{dispatch};
 ghost use Rattle.h5_rules.specs.modes.Modes.{rule};
@@ -13,23 +13,23 @@ use super::turns_taken::Taken;
 use h5_insertion::is_foreign;
 use h5_interface::TreeSink;
 use h5_rules_body::{step_after_after_body, step_after_body, step_in_body};
-use h5_rules_foreign::{ForeignStep, step_foreign};
 use h5_rules_head::{
     step_after_head, step_before_head, step_before_html, step_in_head, step_in_head_noscript,
     step_initial, step_text_mode,
+};
+use h5_rules_rest::{
+    ForeignStep, step_after_after_frameset, step_after_frameset, step_foreign, step_in_frameset,
+    step_in_template,
 };
 use h5_rules_tables::{
     step_in_caption, step_in_cell, step_in_column_group, step_in_row, step_in_table,
     step_in_table_body, step_in_table_text,
 };
-use h5_rules_templates::{
-    step_after_after_frameset, step_after_frameset, step_in_frameset, step_in_template,
-};
 use h5_state::{
     State, Turn, current_mode, set_mode, take_again, take_answer, tell_error, unexpected,
 };
+use h5_tables::{InsertionMode, ProcessResult, Token};
 use h5_token::{TagKind, TokenSinkResult};
-use h5_types::{InsertionMode, ProcessResult, Token};
 use std::alloc::AllocError;
 
 // One turn, by the rule of the mode.
@@ -102,7 +102,7 @@ fn is_self_closing(token: &Token) -> bool
 }
 
 // A self-closing flag that nobody acknowledged is a parse error.
-fn check_flag<S: TreeSink>(sink: &mut S, state: &State<S::Handle>, self_closing: bool)
+fn error_if_self_closing<S: TreeSink>(sink: &mut S, state: &State<S::Handle>, self_closing: bool)
     requires { IsSound S.TreeSink sink.old state.now }
     ensures told { TellsErrors S.TreeSink sink.old sink.new state.now }
     ensures quiet { self_closing ≡ false → errors_of S.TreeSink sink.new ≡ errors_of S.TreeSink sink.old }
@@ -135,7 +135,7 @@ pub fn process_to_completion<S: TreeSink>(
     'turns: loop {
         match step(sink, state, rest)? {
             ProcessResult::Done => {
-                check_flag(sink, state, self_closing);
+                error_if_self_closing(sink, state, self_closing);
                 return Ok(Taken {
                     turns,
                     answer: TokenSinkResult::Continue,

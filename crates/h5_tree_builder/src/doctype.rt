@@ -1,17 +1,16 @@
 //! Doctypes (HTML standard, section 13.2.6.4.1, "The 'initial' insertion mode").
 ghost use Rattle.std.specs.Prelude.{◌<◌, ◌≡◌, IfOk, List, None, OnOk, Option, Some, [], false, option_map, string_bytes, true, unwrap_or, ℕ};
 ghost use Rattle.h5_token.specs.TokenText.{doctype_text};
-ghost use Rattle.h5_data.specs.Doctypes.{is_good_doctype, quirks_of};
+ghost use Rattle.h5_tables.specs.Doctypes.{is_good_doctype, quirks_of};
 ghost use Rattle.h5_rules.specs.Run.{doctype_in, judged, with_doctype};
 ghost use Rattle.h5_state.specs.Steps.{IsSound, TellsErrors, errors_of, world_of};
 ghost use Rattle.h5_tree_builder.specs.Chains.{IsReady, Settles};
 
 use super::turns_taken::Taken;
-use h5_data::doctype_error_and_quirks;
 use h5_interface::TreeSink;
 use h5_state::{State, current_mode, set_mode, set_quirks_mode, tell_error};
+use h5_tables::{InsertionMode, doctype_error_and_quirks};
 use h5_token::{Doctype, TokenSinkResult};
-use h5_types::InsertionMode;
 use std::alloc::{AllocError, Global};
 
 fn text_or_empty(alloc: Global, text: Option<String>) -> String

@@ -1,5 +1,6 @@
 //! The state of a builder that took nothing yet (HTML standard, section 13.2.4, "Parse state").
 ghost use Rattle.std.specs.Prelude.{◌≡◌, []};
+ghost use Rattle.h5_state.specs.Stamps.{AreStamped};
 ghost use Rattle.h5_state.specs.Steps.{world_of};
 ghost use Rattle.h5_state.specs.Summaries.{IsKept};
 ghost use Rattle.h5_tree_builder.specs.Builder.{first_world};
@@ -7,14 +8,15 @@ ghost use Rattle.h5_tree_builder.specs.Builder.{first_world};
 use h5_interface::TreeSink;
 use h5_list::FormattingList;
 use h5_state::{OpenElements, PendingText, State};
+use h5_tables::{InsertionMode, Token, TreeBuilderOpts};
 use h5_token::TokenSinkResult;
-use h5_types::{InsertionMode, Token, TreeBuilderOpts};
 use std::alloc::Global;
 
 // Nothing is open, in the mode "initial".
 #[tactic(auto, unfolding(h5_state::specs::View::world))]
 pub fn first_state<S: TreeSink>(sink: &S, alloc: Global, opts: TreeBuilderOpts) -> State<S::Handle>
     ensures kept { IsKept result.open_elems [] }
+    ensures stamped { AreStamped S.node result.open_elems result.active_formatting }
     ensures world { world_of S.TreeSink sink.now result ≡ first_world (S.sees sink.now) opts }
 {
     State {

@@ -12,9 +12,8 @@ use h5_insertion::create_root;
 use h5_interface::TreeSink;
 use h5_names::{KnownName, LocalName, QualName};
 use h5_state::{State, set_mode};
-use h5_tag_sets::is_html_known;
+use h5_tables::{InsertionMode, TreeBuilderOpts, is_html_known};
 use h5_token::states::{RawKind, State as ReaderState};
-use h5_types::{InsertionMode, TreeBuilderOpts};
 use std::alloc::{AllocError, Global};
 
 fn context_modes(alloc: Global, name: &QualName) -> Result<Vec<InsertionMode>, AllocError>
@@ -107,7 +106,7 @@ fn state_of_local(name: &LocalName, scripting: bool) -> ReaderState
 }
 
 /// How the text of a fragment is read, by the name of its context.
-#[tactic(auto, unfolding(h5_tag_sets::specs::TagSets::html_namespace))]
+#[tactic(auto, unfolding(h5_tables::specs::TagSets::html_namespace))]
 pub fn state_in_context(name: &QualName, scripting: bool) -> ReaderState
     ensures { result ≡ state_in_context scripting name.now }
 {

@@ -30,6 +30,6 @@ mod turns_taken;
 
 pub use active_formatting::ActiveFormattingIter;
 pub use builder::TreeBuilder;
-pub use h5_types::TreeBuilderOpts;
+pub use h5_tables::TreeBuilderOpts;
 pub use open_elems::{PushFlag, html_elem};
 pub use replies::Reply;

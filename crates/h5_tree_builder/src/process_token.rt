@@ -11,8 +11,8 @@ use super::text::take_text;
 use super::turns_taken::Taken;
 use h5_interface::TreeSink;
 use h5_state::{State, tell_error};
+use h5_tables::Token;
 use h5_token::{Token as Input, TokenSinkResult};
-use h5_types::Token;
 use std::alloc::AllocError;
 
 // The newline flag, which is taken.

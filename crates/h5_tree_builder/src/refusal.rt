@@ -4,8 +4,8 @@ ghost use Rattle.std.specs.Prelude.{◌≡◌};
 ghost use Rattle.h5_token.specs.TokenText.{token_text};
 ghost use Rattle.h5_rules.specs.Run.{is_refused_in_text, refuses_in};
 
+use h5_tables::InsertionMode;
 use h5_token::{TagKind, Token};
-use h5_types::InsertionMode;
 
 fn is_refused_in_text(token: &Token) -> bool
     ensures { result ≡ is_refused_in_text (token_text token.now) }

@@ -6,7 +6,7 @@ ghost use Rattle.h5_rules.specs.insertion.Foreign.{is_foreign_text};
 ghost use Rattle.h5_rules.specs.Run.{is_empty_text, text_step, without_lf};
 ghost use Rattle.h5_rules.specs.Sound.{Fits};
 ghost use Rattle.h5_rules.specs.Text.{IsRun, is_quiet_text, text_any};
-ghost use Rattle.h5_types.specs.declared.modes.SplitStatus.TheVariants.{NotSplit};
+ghost use Rattle.h5_tables.specs.declared.modes.SplitStatus.TheVariants.{NotSplit};
 ghost use Rattle.h5_state.specs.Steps.{IsSound, errors_of, world_of};
 ghost use Rattle.h5_tree_builder.specs.Chains.{IsReady, Settles};
 
@@ -15,8 +15,8 @@ use super::turns_taken::Taken;
 use h5_insertion::is_foreign_text;
 use h5_interface::TreeSink;
 use h5_state::{State, current_mode, first_run};
+use h5_tables::{SplitStatus, Token};
 use h5_token::TokenSinkResult;
-use h5_types::{SplitStatus, Token};
 use std::alloc::AllocError;
 
 // The first run of a text: whole in foreign content, where a text isn't split.

@@ -2,7 +2,7 @@
 use super::case::Input;
 use super::sections::Form;
 use anyhow::{Result, bail};
-use h5_lines::{LineFault, parse, read_escapes};
+use h5_print::{LineFault, parse, read_escapes};
 use std::alloc::{AllocError, Global};
 
 // Whether lines, which stand below the line of this number, are lines of tokens.

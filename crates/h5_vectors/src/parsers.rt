@@ -4,11 +4,11 @@ use h5_arena::{Arena, NodeId};
 use h5_driver::{ParseOpts, Parser, parse_document, parse_fragment, parse_fragment_for_element};
 use h5_interface::{TreeSink, create_element};
 use h5_names::{LocalName, Namespace, QualName, namespaces};
+use h5_tables::TreeBuilderOpts;
 use h5_tests_sinks::Starved;
 use h5_token::BuildFault;
 use h5_token::states::State;
 use h5_tree_builder::TreeBuilder;
-use h5_types::TreeBuilderOpts;
 use std::alloc::{AllocError, Global};
 
 /// An arena of whose calls one can be refused, and of which the calls of `pop` are counted.

@@ -6,7 +6,7 @@ use super::run::Cut;
 use super::settings::Settings;
 use anyhow::{Result, bail};
 use h5_interface::TreeSink;
-use h5_lines::{Item, parse};
+use h5_print::{Item, parse};
 use h5_tests_sinks::is_forest;
 use h5_token::states::State;
 use h5_token::{BuildFault, Token};

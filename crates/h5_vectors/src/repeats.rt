@@ -1,6 +1,6 @@
 //! Words that stand for a text many times.
 use anyhow::{Result, bail};
-use h5_lines::read_escapes;
+use h5_print::read_escapes;
 use std::alloc::{AllocError, Global};
 
 /// A word, and the text that it stands for.

@@ -1,7 +1,6 @@
 //! What an arena shows.
 use h5_arena::Arena;
-use h5_lines::read_escapes;
-use h5_print::print_tree;
+use h5_print::{print_tree, read_escapes};
 use std::alloc::{AllocError, Global};
 use std::fmt::Write;
 

@@ -1,14 +1,14 @@
 //! What is printed of a tree.
 use super::command::What;
 use super::fault::Fault;
-use h5_example_links::links_of;
-use h5_example_text::text_of;
-use h5_print::{print_quirks, print_tree};
+use h5_page::{links_of, text_of};
+use h5_print::{print_quirks, write_tree};
 use html_tree_builder::arena::NodeRef;
 use html_tree_builder::serialize::serialize;
 use html_tree_builder::{Arena, SerializeOpts};
 use std::alloc::{AllocError, Global};
-use std::fmt::Write;
+use std::fmt::Write as _;
+use std::io::{ErrorKind, Write};
 
 // What the page stands below: the document, or the root of a fragment.
 fn top_of(arena: &Arena, is_fragment: bool) -> NodeRef<'_> {
@@ -18,12 +18,6 @@ fn top_of(arena: &Arena, is_fragment: bool) -> NodeRef<'_> {
         }
     }
     arena.at(arena.document())
-}
-
-fn tree_text(alloc: Global, arena: &Arena) -> Result<String, AllocError> {
-    let mut text = print_tree(alloc, arena)?;
-    print_quirks(&mut text, arena.quirks())?;
-    Ok(text)
 }
 
 fn links_text(alloc: Global, top: &NodeRef<'_>) -> Result<String, AllocError> {
@@ -36,18 +30,33 @@ fn links_text(alloc: Global, top: &NodeRef<'_>) -> Result<String, AllocError> {
     Ok(text)
 }
 
-/// What is printed of a tree, which is that of a document or of a fragment.
-pub fn answer(
+// Writes a tree, a line for each node, and its quirks mode. A deep tree has long lines, so it is written in parts.
+fn put_tree<W: Write>(alloc: Global, arena: &Arena, out: &mut W) -> Result<(), Fault> {
+    if let Err(error) = write_tree(alloc, arena, out) {
+        return Err(match error.kind() {
+            ErrorKind::OutOfMemory => Fault::Memory,
+            _ => Fault::Write(error),
+        });
+    }
+    let mut quirks = String::new(alloc);
+    print_quirks(&mut quirks, arena.quirks())?;
+    out.write_all(quirks.as_bytes()).map_err(Fault::Write)
+}
+
+/// Writes what is asked of a tree, which is that of a document or of a fragment.
+pub fn put_answer<W: Write>(
     alloc: Global,
     what: What,
     arena: &Arena,
     is_fragment: bool,
-) -> Result<Vec<u8>, Fault> {
+    out: &mut W,
+) -> Result<(), Fault> {
     let top = top_of(arena, is_fragment);
-    match what {
-        What::Html => { Ok(serialize(alloc, Vec::new(alloc), &top, SerializeOpts::default())?) }
-        What::Text => Ok(text_of(alloc, &top)?.into_bytes()),
-        What::Links => Ok(links_text(alloc, &top)?.into_bytes()),
-        What::Tree | What::Tokens => Ok(tree_text(alloc, arena)?.into_bytes()),
-    }
+    let text = match what {
+        What::Html => serialize(alloc, Vec::new(alloc), &top, SerializeOpts::default())?,
+        What::Text => text_of(alloc, &top)?.into_bytes(),
+        What::Links => links_text(alloc, &top)?.into_bytes(),
+        What::Tree | What::Tokens => return put_tree(alloc, arena, out),
+    };
+    out.write_all(text.as_slice()).map_err(Fault::Write)
 }

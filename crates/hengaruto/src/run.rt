@@ -1,5 +1,5 @@
 //! A run of the program.
-use super::answer::answer;
+use super::answer::put_answer;
 use super::command::{What, what_named};
 use super::fault::Fault;
 use super::page::{tokens_of, tree_of};
@@ -8,39 +8,29 @@ use std::fs;
 use std::io::{ErrorKind, Read, Write};
 use std::process::ExitCode;
 
-// What is printed of an input.
-fn answer_of<R: Read>(
+// Shows an input.
+fn show_input<R: Read>(
     rt: &HostRuntime,
     what: What,
     context: Option<&str>,
     input: &mut R,
-) -> Result<Vec<u8>, Fault> {
-    match what {
-        What::Tokens => tokens_of(rt, context, input),
-        _ => {
-            let arena = tree_of(rt, context, input)?;
-            answer(rt.alloc(), what, &arena, context.is_some())
-        }
+) -> Result<(), Fault> {
+    let mut out = rt.stdout();
+    if let What::Tokens = what {
+        let text = tokens_of(rt, context, input)?;
+        return out.write_all(text.as_slice()).map_err(Fault::Write);
     }
+    let arena = tree_of(rt, context, input)?;
+    put_answer(rt.alloc(), what, &arena, context.is_some(), &mut out)
 }
 
-// The answer for a file, or for standard input where its name is `-`.
-fn answer_of_file(
-    rt: &HostRuntime,
-    what: What,
-    context: Option<&str>,
-    name: &str,
-) -> Result<Vec<u8>, Fault> {
+// Shows a file, or standard input where its name is `-`.
+fn show(rt: &HostRuntime, what: What, context: Option<&str>, name: &str) -> Result<(), Fault> {
     if name == "-" {
-        return answer_of(rt, what, context, &mut rt.stdin());
+        return show_input(rt, what, context, &mut rt.stdin());
     }
     let mut file = fs::open(rt, name).map_err(Fault::Read)?;
-    answer_of(rt, what, context, &mut file)
-}
-
-fn show(rt: &HostRuntime, what: What, context: Option<&str>, name: &str) -> Result<(), Fault> {
-    let text = answer_of_file(rt, what, context, name)?;
-    rt.stdout().write_all(text.as_slice()).map_err(Fault::Write)
+    show_input(rt, what, context, &mut file)
 }
 
 // Says what went wrong. Whether it can be said is no matter.

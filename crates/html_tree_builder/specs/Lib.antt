@@ -1,10 +1,11 @@
 -- What contracts cite of the crates below, handed on, so that a caller names this crate alone.
 pub use Rattle.h5_names.specs.AttributeText
+pub use Rattle.h5_token.specs.Reply
 pub use Rattle.h5_token.specs.TokenText
 pub use Rattle.h5_interface.specs.Forest
 pub use Rattle.h5_interface.specs.Seen
 pub use Rattle.h5_interface.specs.SinkChoices
-pub use Rattle.h5_tag_sets.specs.TagSets
+pub use Rattle.h5_tables.specs.TagSets
 pub use Rattle.h5_serialize.specs.Call
 pub use Rattle.h5_serialize.specs.Escape
 pub use Rattle.h5_serialize.specs.Names
@@ -14,6 +15,10 @@ pub use Rattle.h5_serialize.specs.Walk
 pub use Rattle.h5_serialize.specs.Writing
 pub use Rattle.h5_arena.specs.ArenaModel
 pub use Rattle.h5_arena.specs.NodeCalls
+pub use Rattle.h5_selectors.specs.Fault
+pub use Rattle.h5_selectors.specs.Holds
+pub use Rattle.h5_selectors.specs.Selected
+pub use Rattle.h5_selectors.specs.Ways
 pub use Rattle.h5_plain.specs.Plain
 pub use Rattle.h5_plain.specs.Rebuilding
 pub use Rattle.h5_round_trip.specs.Readable

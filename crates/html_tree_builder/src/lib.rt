@@ -18,7 +18,6 @@ pub mod standard;
 
 pub use h5_arena as arena;
 pub use h5_arena::{Arena, NodeId};
-pub use h5_data as data;
 pub use h5_driver as driver;
 pub use h5_driver::standard::{
     Parser, StandardReader, Utf8Parser, parse_document, parse_fragment, parse_fragment_for_element,
@@ -28,11 +27,13 @@ pub use h5_interface as interface;
 pub use h5_interface::{NodeOrText, QuirksMode, TreeSink};
 pub use h5_names as names;
 pub use h5_names::{Attribute, ExpandedName, LocalName, Namespace, Prefix, QualName, namespaces};
+pub use h5_reading as utf8;
+pub use h5_selectors as select;
 pub use h5_serialize as serialize;
 pub use h5_serialize::{Serialize, SerializeOpts, Serializer, TraversalScope};
-pub use h5_tag_sets as tag_sets;
+pub use h5_tables as data;
+pub use h5_tables as tag_sets;
+pub use h5_tables as types;
 pub use h5_token as token;
 pub use h5_tokenizer as tokenizer;
 pub use h5_tree_builder as tree_builder;
-pub use h5_types as types;
-pub use h5_utf8 as utf8;

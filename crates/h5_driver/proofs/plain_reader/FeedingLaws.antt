@@ -15,7 +15,7 @@ use Rattle.h5_reading.specs.declared.result.TokenizerResult.{TokenizerResult}
 use Rattle.h5_reading.specs.declared.result.TokenizerResult.TheVariants as result
 use Rattle.h5_reading.specs.declared.stage.Stage.TheVariants.{Reading}
 use Rattle.h5_tokenizer.specs.End.{Closes, settle}
-use Rattle.h5_tokenizer.specs.Front.{Place}
+use Rattle.h5_tokenizer.specs.Front.{ReaderPlace}
 use Rattle.h5_tokenizer.specs.Outcome.{Feeds, ReadsAll, RefusedAt, StopsAt}
 use Rattle.h5_tokenizer.specs.Read.{Read, Step, behind, marked, next_place, nothing_read, read_on, started, switch_step, text_step, token_step, unmarked}
 use Rattle.h5_tokenizer.specs.ReaderText.{ReaderText}
@@ -29,7 +29,7 @@ use Rattle.h5_driver.proofs.TakenLaws.{comes, finishes_memory, takes_memory}
 use Rattle.h5_driver.proofs.plain_reader.AnswerLaws.{IsWorkingAt, token_works, works_at}
 use Rattle.h5_driver.proofs.plain_reader.RawLaws.{raw_rest, raw_stays, raw_token}
 
-step_works : (choices : SinkChoices) {p : Place} {m : View} {xs : List ℕ} {ts : List TokenText} {reply : Reply} {q : Place} {n : View} {ys : List ℕ} → Step (replies choices) (after choices) foreign p m xs ts reply q n ys → IsWorkingAt p m → IsWorkingAt q n × (refuses reply ≡ false)
+step_works : (choices : SinkChoices) {p : ReaderPlace} {m : View} {xs : List ℕ} {ts : List TokenText} {reply : Reply} {q : ReaderPlace} {n : View} {ys : List ℕ} → Step (replies choices) (after choices) foreign p m xs ts reply q n ys → IsWorkingAt p m → IsWorkingAt q n × (refuses reply ≡ false)
 step_works choices {p = p} {m = m} (marked e f) w = (works_at p (started p) m refl w, refl)
 step_works choices {p = p} {m = m} (unmarked e f) w = (works_at p (started p) m refl w, refl)
 step_works choices {p = p} {m = m} {xs = xs} {ys = rest} (token_step token e f) w =
@@ -47,22 +47,22 @@ step_works choices {p = p} {m = m} {xs = xs} {ys = ys} (text_step text e l b) w 
     let k = token_works choices p (Characters text) m w (takes_text m.world.mode text) in
     (works_at p (behind p xs ys) (after_token choices (Characters text) m) refl k.works, k.takes)
 
-pub read_works : (choices : SinkChoices) {p : Place} {m : View} {xs : List ℕ} {ts : List TokenText} {reply : Reply} {q : Place} {n : View} {ys : List ℕ} → Read (replies choices) (after choices) foreign p m xs ts reply q n ys → IsWorkingAt p m → IsWorkingAt q n × (refuses reply ≡ false)
+pub read_works : (choices : SinkChoices) {p : ReaderPlace} {m : View} {xs : List ℕ} {ts : List TokenText} {reply : Reply} {q : ReaderPlace} {n : View} {ys : List ℕ} → Read (replies choices) (after choices) foreign p m xs ts reply q n ys → IsWorkingAt p m → IsWorkingAt q n × (refuses reply ≡ false)
 read_works choices nothing_read w = (w, refl)
 read_works choices (read_on r g s) w = step_works choices s (read_works choices r w).0
 
 -- a builder that works refuses nothing
-pub never_refused : (choices : SinkChoices) (p : Place) (m : View) (xs : List ℕ) (fault : BuildFault) (new : ReaderText) (n : View) → IsWorkingAt p m → ¬ (RefusedAt (replies choices) (after choices) foreign p m xs fault new n)
+pub never_refused : (choices : SinkChoices) (p : ReaderPlace) (m : View) (xs : List ℕ) (fault : BuildFault) (new : ReaderText) (n : View) → IsWorkingAt p m → ¬ (RefusedAt (replies choices) (after choices) foreign p m xs fault new n)
 never_refused choices p m xs fault new n w r = let e : true ≡ false = (read_works choices r.reads.read w).1 in cc
 
-pub fault_is_memory : {H : Type 0} (choices : SinkChoices) (node : H → ℕ) (p : Place) (m : View) (xs : List ℕ) (new : ReaderText) (n : View) (queue : List ℕ) (f : BuildFault) → IsWorkingAt p m → Feeds (replies choices) (after choices) foreign node p m xs new n queue (Err f) → f ≡ Memory
+pub fault_is_memory : {H : Type 0} (choices : SinkChoices) (node : H → ℕ) (p : ReaderPlace) (m : View) (xs : List ℕ) (new : ReaderText) (n : View) (queue : List ℕ) (f : BuildFault) → IsWorkingAt p m → Feeds (replies choices) (after choices) foreign node p m xs new n queue (Err f) → f ≡ Memory
 fault_is_memory choices node p m xs new n queue Memory w h = refl
 fault_is_memory choices node p m xs new n queue AfterEnd w h = absurd (never_refused choices p m xs AfterEnd new n w h)
 fault_is_memory choices node p m xs new n queue NotInText w h = absurd (never_refused choices p m xs NotInText new n w h)
 fault_is_memory choices node p m xs new n queue Failed w h = absurd (never_refused choices p m xs Failed new n w h)
 
 -- the end of a builder that works: a fault is want of memory
-closes_memory : (choices : SinkChoices) (p : Place) (m n : View) (o : Option TokenText) (line last : ℕ) (f : BuildFault) → IsWorkingAt p m → ((t : TokenText) → o ≡ Some t → refuses_in m.world.mode t ≡ false)
+closes_memory : (choices : SinkChoices) (p : ReaderPlace) (m n : View) (o : Option TokenText) (line last : ℕ) (f : BuildFault) → IsWorkingAt p m → ((t : TokenText) → o ≡ Some t → refuses_in m.world.mode t ≡ false)
     → ClosesWith (replies choices) (after choices) (ended choices) m (handed o) line last n (Err f) → f ≡ Memory
 closes_memory choices p m n None line last f w c h = finishes_memory choices m n last f w.ready h
 closes_memory choices p m n (Some t) line last f w c (inl h) = takes_memory choices m n t line f (token_works choices p t m w (c t refl)).takes h
@@ -126,7 +126,7 @@ module _ {H : Type 0} (choices : SinkChoices) (node : H → ℕ) (r : ReaderText
     memory = ap Err (fault_is_memory choices node r.place v (r.held ++ xs) s w ys f at_first h);
   }
 
-pub ends_memory : (choices : SinkChoices) (p : Place) (m n : View) (rest : List ℕ) (result : Result (Unit {0}) BuildFault) → IsWorkingAt p m → Closes (replies choices) (after choices) foreign (ended choices) p m rest n result → OnErr result (result ≡ Err Memory)
+pub ends_memory : (choices : SinkChoices) (p : ReaderPlace) (m n : View) (rest : List ℕ) (result : Result (Unit {0}) BuildFault) → IsWorkingAt p m → Closes (replies choices) (after choices) foreign (ended choices) p m rest n result → OnErr result (result ≡ Err Memory)
 ends_memory choices p m n rest (Ok done) w c = tt
 ends_memory choices p m n rest (Err f) w c =
     ap Err (closes_memory choices p m n (settle p.mode p.last (foreign m) rest) p.line (line_behind p.line rest []) f w (λ t e. comes m.world.mode t (λ i. raw_rest p.mode p.last (foreign m) rest t e (w.text i))) c)

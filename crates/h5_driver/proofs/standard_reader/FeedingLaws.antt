@@ -6,7 +6,7 @@ use Rattle.h5_token.specs.TokenText.{TokenText, Characters, EndOfFile}
 use Rattle.h5_token.specs.declared.fault.BuildFault.{BuildFault}
 use Rattle.h5_token.specs.declared.fault.BuildFault.TheVariants.{AfterEnd, Failed, Memory, NotInText}
 use Rattle.h5_interface.specs.SinkChoices.{SinkChoices}
-use Rattle.h5_types.specs.declared.modes.InsertionMode.TheVariants.{Text}
+use Rattle.h5_tables.specs.declared.modes.InsertionMode.TheVariants.{Text}
 use Rattle.h5_rules.specs.Run.{View, after_token, reply_to}
 use Rattle.h5_laws.proofs.cuts.RunLaws.{takes_text}
 use Rattle.h5_reading.specs.Answers.{goes_on, refuses}
@@ -18,7 +18,7 @@ use Rattle.h5_reading.specs.declared.stage.Stage.TheVariants.{Reading}
 use Rattle.h5_states.specs.AtEnd.{at_end}
 use Rattle.h5_states.specs.End.{Closes, last_tokens}
 use Rattle.h5_states.specs.ReferenceTable.{references}
-use Rattle.h5_states.specs.Reading.{Place, Read}
+use Rattle.h5_states.specs.Reading.{ReaderPlace, Read}
 use Rattle.h5_states.specs.Whole as whole
 use Rattle.h5_states.specs.Whole.{more_reading, no_reading}
 use Rattle.h5_states.proofs.ReadLaws.{read_goes_on}
@@ -38,7 +38,7 @@ use Rattle.h5_driver.proofs.standard_reader.ReadLaws.{nothing_reads, stopped_is_
 use Rattle.h5_driver.proofs.standard_reader.WorkLaws.{IsWorkingAt, read_works}
 
 -- readings from a place
-abbrev ReadingsAt : SinkChoices → Place → View → List ℕ → List TokenText → Place → View → List ℕ → Type 0
+abbrev ReadingsAt : SinkChoices → ReaderPlace → View → List ℕ → List TokenText → ReaderPlace → View → List ℕ → Type 0
 ReadingsAt choices p v xs ts q w ys = whole.Readings references (replies choices) (after choices) foreign p v xs ts q w ys
 
 -- one reading, where what was fed is a text
@@ -99,7 +99,7 @@ module _ (choices : SinkChoices) (r s : ReaderText) (m n : View) (xs ys : List �
   stopped_weighs_less stops = less_by_start (still_at_start r.at_start xs) refl stops
 
 -- a builder that works refuses nothing
-never_refused : (choices : SinkChoices) (p : Place) (m : View) (xs : List ℕ) (fault : BuildFault) (n : View) → IsWorkingAt p m → ¬ (RefusedAt (replies choices) (after choices) foreign p m xs fault n)
+never_refused : (choices : SinkChoices) (p : ReaderPlace) (m : View) (xs : List ℕ) (fault : BuildFault) (n : View) → IsWorkingAt p m → ¬ (RefusedAt (replies choices) (after choices) foreign p m xs fault n)
 never_refused choices p m xs fault n w r = let e : true ≡ false = (read_works choices r.stopped.read w).1 in cc
 
 pub fault_is_memory : {H : Type 0} (choices : SinkChoices) (node : H → ℕ) (r : ReaderText) (m : View) (xs : List ℕ) (s : ReaderText) (n : View) (queue : List ℕ) (f : BuildFault) → IsWorkingAt r.place m → Feeds (replies choices) (after choices) foreign node r m xs s n queue (Err f) → f ≡ Memory
@@ -183,7 +183,7 @@ closes_memory choices m n (x ∷ text) o line last f r raw h = at h (token_taken
     at (inl i) k = takes_memory choices m n (Characters (x ∷ text)) line f k.takes i
     at (inr i) k = token_closes choices (after_token choices (Characters (x ∷ text)) m) n o line last f k.ready (λ j. raw (was_text m.world.mode _ k.leads.1 j)) i.1
 
-pub ends_memory : (choices : SinkChoices) (p : Place) (m n : View) (result : Result (Unit {0}) BuildFault) → IsWorkingAt p m → Closes (replies choices) (after choices) (ended choices) references p m n result → OnErr result (result ≡ Err Memory)
+pub ends_memory : (choices : SinkChoices) (p : ReaderPlace) (m n : View) (result : Result (Unit {0}) BuildFault) → IsWorkingAt p m → Closes (replies choices) (after choices) (ended choices) references p m n result → OnErr result (result ≡ Err Memory)
 ends_memory choices p m n (Ok done) w c = tt
 ends_memory choices p m n (Err f) w c =
     let end = at_end references p.state in

@@ -6,8 +6,8 @@ use Rattle.h5_token.specs.declared.fault.BuildFault.{BuildFault}
 use Rattle.h5_token.specs.declared.fault.BuildFault.TheVariants.{AfterEnd, Failed, NotInText}
 use Rattle.h5_interface.specs.SinkChoices.{SinkChoices}
 use Rattle.h5_token.specs.Joins.{glue, join}
-use Rattle.h5_types.specs.declared.modes.InsertionMode.{InsertionMode}
-use Rattle.h5_types.specs.declared.modes.InsertionMode.TheVariants.{Text}
+use Rattle.h5_tables.specs.declared.modes.InsertionMode.{InsertionMode}
+use Rattle.h5_tables.specs.declared.modes.InsertionMode.TheVariants.{Text}
 use Rattle.h5_laws.specs.Cuts.{goes_on, spread_next, spread, CutsAgree}
 use Rattle.h5_rules.specs.Run.{IsFitting, View, refusal, refuses_in, taken, text_step, without_lf, step, take_or_refuse, tell_or_refuse, after_token, reply_to, run, after_all, replies}
 use Rattle.h5_rules.specs.Text.{text_rule}

@@ -9,7 +9,7 @@ use Rattle.h5_interface.specs.NewElement.{flags_of, is_html_template}
 use Rattle.h5_interface.specs.Seen.{element, make, make_element, with_child_by, with_contents}
 use Rattle.h5_interface.specs.SinkChoices.{SinkChoices}
 use Rattle.h5_interface.proofs.MakingLaws.{new_kind}
-use Rattle.h5_tag_sets.specs.TagSets.{formatting_names, html_namespace, is_html_named, is_one_of, is_table_outer, table_outer_names}
+use Rattle.h5_tables.specs.TagSets.{formatting_names, html_namespace, is_html_named, is_one_of, is_table_outer, table_outer_names}
 use Rattle.h5_rules.specs.formatting.FormattingList.{ElementEntry, Entry, MarkerEntry, closed_front}
 use Rattle.h5_rules.specs.formatting.FormattingNames.{AllFormatting, html_name}
 use Rattle.h5_rules.specs.stack.Scope.{first_passes}

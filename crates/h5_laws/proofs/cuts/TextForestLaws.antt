@@ -8,7 +8,7 @@ use Rattle.h5_interface.specs.NewElement.{is_html_template}
 use Rattle.h5_interface.specs.Seen.{is_integration_point, with_child_by}
 use Rattle.h5_interface.specs.SinkChoices.{SinkChoices}
 use Rattle.h5_interface.proofs.ForestLaws.{same_forest}
-use Rattle.h5_tag_sets.specs.TagSets.{is_table_outer}
+use Rattle.h5_tables.specs.TagSets.{is_table_outer}
 use Rattle.h5_rules.specs.stack.Order.{first_or, last_or}
 use Rattle.h5_rules.specs.Changes.{with_forest}
 use Rattle.h5_rules.specs.insertion.Place.{LastChild, Place, TableFosterParenting, appropriate_place, foster_place, from_foster_parent, inside, is_foster_parent, place, put}

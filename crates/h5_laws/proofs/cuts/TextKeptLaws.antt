@@ -1,10 +1,10 @@
 -- What appended text, text in the body, text that is kept back, and the row of a text keep, is kept by a text.
 use Rattle.std.proofs.Common.{◌≡◌, ℕ, Bool, true, false, cond, List, [], ◌∷◌, codes, refl}
 use Rattle.h5_interface.specs.SinkChoices.{SinkChoices}
-use Rattle.h5_types.specs.TurnText.{TextTurn}
-use Rattle.h5_types.specs.declared.modes.InsertionMode.{InsertionMode}
-use Rattle.h5_types.specs.declared.modes.InsertionMode.TheVariants.{Initial, BeforeHtml, BeforeHead, InHead, InHeadNoscript, AfterHead, InBody, Text, InTable, InTableText, InCaption, InColumnGroup, InTableBody, InRow, InCell, AfterBody, AfterAfterBody, InTemplate, InFrameset, AfterFrameset, AfterAfterFrameset}
-use Rattle.h5_types.specs.declared.modes.SplitStatus.TheVariants.{NotWhitespace}
+use Rattle.h5_tables.specs.TurnText.{TextTurn}
+use Rattle.h5_tables.specs.declared.modes.InsertionMode.{InsertionMode}
+use Rattle.h5_tables.specs.declared.modes.InsertionMode.TheVariants.{Initial, BeforeHtml, BeforeHead, InHead, InHeadNoscript, AfterHead, InBody, Text, InTable, InTableText, InCaption, InColumnGroup, InTableBody, InRow, InCell, AfterBody, AfterAfterBody, InTemplate, InFrameset, AfterFrameset, AfterAfterFrameset}
+use Rattle.h5_tables.specs.declared.modes.SplitStatus.TheVariants.{NotWhitespace}
 use Rattle.h5_rules.specs.modes.AfterBody.{back_to_body}
 use Rattle.h5_rules.specs.modes.AfterHead.{after_head_else}
 use Rattle.h5_rules.specs.modes.BeforeHead.{before_head_else}

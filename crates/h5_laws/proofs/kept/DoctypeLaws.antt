@@ -5,7 +5,7 @@ use Rattle.h5_token.specs.TokenText.{DoctypeText}
 use Rattle.h5_interface.specs.Seen.{append_doctype}
 use Rattle.h5_interface.specs.SinkChoices.{SinkChoices}
 use Rattle.h5_interface.proofs.MakingLaws.{append_doctype_rearranges}
-use Rattle.h5_types.specs.declared.modes.InsertionMode.TheVariants.{BeforeHtml, Initial}
+use Rattle.h5_tables.specs.declared.modes.InsertionMode.TheVariants.{BeforeHtml, Initial}
 use Rattle.h5_rules.specs.fitting.Fits.{Situation}
 use Rattle.h5_rules.specs.fitting.NamesFit.{NamesFit}
 use Rattle.h5_rules.proofs.fitting.SituationRoleLaws.{names_later}

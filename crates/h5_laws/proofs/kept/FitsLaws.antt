@@ -4,10 +4,10 @@ use Rattle.h5_token.specs.TokenText.{TagText}
 use Rattle.h5_token.specs.declared.tag.TagKind.{TagKind}
 use Rattle.h5_token.specs.declared.tag.TagKind.TheVariants.{StartTag, EndTag}
 use Rattle.h5_interface.specs.SinkChoices.{SinkChoices}
-use Rattle.h5_types.specs.TurnText.{TurnText, TagTurn, CommentTurn, TextTurn, EofTurn, HasText, NullTurn}
-use Rattle.h5_types.specs.declared.modes.InsertionMode.{InsertionMode}
-use Rattle.h5_types.specs.declared.modes.InsertionMode.TheVariants.{AfterAfterBody, AfterBody, AfterHead, BeforeHead, BeforeHtml, InBody, InCaption, InCell, InColumnGroup, InHead, InHeadNoscript, InRow, InTable, InTableBody, InTableText, InTemplate, InFrameset, AfterFrameset, AfterAfterFrameset, Initial, Text}
-use Rattle.h5_types.specs.declared.modes.SplitStatus.TheVariants.{Whitespace}
+use Rattle.h5_tables.specs.TurnText.{TurnText, TagTurn, CommentTurn, TextTurn, EofTurn, HasText, NullTurn}
+use Rattle.h5_tables.specs.declared.modes.InsertionMode.{InsertionMode}
+use Rattle.h5_tables.specs.declared.modes.InsertionMode.TheVariants.{AfterAfterBody, AfterBody, AfterHead, BeforeHead, BeforeHtml, InBody, InCaption, InCell, InColumnGroup, InHead, InHeadNoscript, InRow, InTable, InTableBody, InTableText, InTemplate, InFrameset, AfterFrameset, AfterAfterFrameset, Initial, Text}
+use Rattle.h5_tables.specs.declared.modes.SplitStatus.TheVariants.{Whitespace}
 use Rattle.h5_rules.specs.fitting.Fits.{goes_by_body, is_before_root}
 use Rattle.h5_laws.proofs.modes.NamesBodyLaws.{names_after_after_body, names_in_body}
 use Rattle.h5_rules.proofs.fitting.NamesFitLaws.{names_open}

@@ -3,9 +3,9 @@ use Rattle.std.proofs.Common.{◌≡◌, ℕ, List, [], ◌∷◌, Option, Some,
 use Rattle.h5_token.specs.TokenText.{CommentIs, Characters, DoctypeIs, DoctypeText, EndOfFile, NullCharacter, ParseErrorIs, TagIs, TokenText}
 use Rattle.h5_token.specs.declared.fault.BuildFault.{BuildFault}
 use Rattle.h5_interface.specs.SinkChoices.{SinkChoices}
-use Rattle.h5_types.specs.TurnText.{CommentTurn, EofTurn, NullTurn, TagTurn}
-use Rattle.h5_types.specs.declared.modes.InsertionMode.{InsertionMode}
-use Rattle.h5_types.specs.declared.modes.InsertionMode.TheVariants.{Initial}
+use Rattle.h5_tables.specs.TurnText.{CommentTurn, EofTurn, NullTurn, TagTurn}
+use Rattle.h5_tables.specs.declared.modes.InsertionMode.{InsertionMode}
+use Rattle.h5_tables.specs.declared.modes.InsertionMode.TheVariants.{Initial}
 use Rattle.h5_rules.specs.Run.{IsFitting, View, after_token, doctype_in, refusal, step, take_or_refuse, taken, text_step, without_lf}
 use Rattle.h5_rules.specs.Sound.{Fitting}
 use Rattle.h5_rules.specs.World.{World, names_of}

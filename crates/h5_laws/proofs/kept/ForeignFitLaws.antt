@@ -4,11 +4,11 @@ use Rattle.h5_names.specs.AttributeText.{AttributeText}
 use Rattle.h5_names.specs.declared.qualified.QualName.{QualName}
 use Rattle.h5_token.specs.TokenText.{TagText}
 use Rattle.h5_interface.specs.SinkChoices.{SinkChoices}
-use Rattle.h5_types.specs.TurnResult.{TurnResult}
-use Rattle.h5_types.specs.TurnResult as results
-use Rattle.h5_types.specs.TurnText.{HasText, TurnText}
-use Rattle.h5_types.specs.declared.modes.InsertionMode.{InsertionMode}
-use Rattle.h5_types.specs.declared.modes.InsertionMode.TheVariants.{BeforeHtml, Initial}
+use Rattle.h5_tables.specs.TurnResult.{TurnResult}
+use Rattle.h5_tables.specs.TurnResult as results
+use Rattle.h5_tables.specs.TurnText.{HasText, TurnText}
+use Rattle.h5_tables.specs.declared.modes.InsertionMode.{InsertionMode}
+use Rattle.h5_tables.specs.declared.modes.InsertionMode.TheVariants.{BeforeHtml, Initial}
 use Rattle.h5_rules.specs.fitting.Fits.{is_before_root}
 use Rattle.h5_rules.specs.fitting.Frames.{Frame}
 use Rattle.h5_rules.specs.fitting.NamesFit.{is_html_element}

@@ -4,12 +4,12 @@ use Rattle.h5_token.specs.TokenText.{TagText}
 use Rattle.h5_token.specs.declared.tag.TagKind.{TagKind}
 use Rattle.h5_token.specs.declared.tag.TagKind.TheVariants.{StartTag, EndTag}
 use Rattle.h5_interface.specs.SinkChoices.{SinkChoices}
-use Rattle.h5_types.specs.TurnText.{TurnText, TagTurn, CommentTurn, TextTurn, NullTurn, EofTurn, HasText}
-use Rattle.h5_types.specs.declared.modes.InsertionMode.{InsertionMode}
+use Rattle.h5_tables.specs.TurnText.{TurnText, TagTurn, CommentTurn, TextTurn, NullTurn, EofTurn, HasText}
+use Rattle.h5_tables.specs.declared.modes.InsertionMode.{InsertionMode}
 use Rattle.h5_interface.specs.declared.marks.QuirksMode.TheVariants.{Quirks}
-use Rattle.h5_types.specs.declared.modes.InsertionMode.TheVariants.{AfterAfterBody, AfterBody, AfterHead, BeforeHead, BeforeHtml, InBody, InCaption, InCell, InColumnGroup, InHead, InHeadNoscript, InRow, InTable, InTableBody, InTableText, Initial, Text, InTemplate, InFrameset, AfterFrameset, AfterAfterFrameset}
-use Rattle.h5_types.specs.declared.modes.SplitStatus.TheVariants.{Whitespace}
-use Rattle.h5_tag_sets.specs.TagSets.{is_one_of}
+use Rattle.h5_tables.specs.declared.modes.InsertionMode.TheVariants.{AfterAfterBody, AfterBody, AfterHead, BeforeHead, BeforeHtml, InBody, InCaption, InCell, InColumnGroup, InHead, InHeadNoscript, InRow, InTable, InTableBody, InTableText, Initial, Text, InTemplate, InFrameset, AfterFrameset, AfterAfterFrameset}
+use Rattle.h5_tables.specs.declared.modes.SplitStatus.TheVariants.{Whitespace}
+use Rattle.h5_tables.specs.TagSets.{is_one_of}
 use Rattle.h5_rules.specs.modes.AfterAfterBody.{after_after_body, after_after_body_start, after_after_body_tag}
 use Rattle.h5_rules.specs.modes.AfterBody.{after_body, after_body_end, after_body_start, after_body_tag, back_to_body}
 use Rattle.h5_rules.specs.modes.AfterHead.{after_head, after_head_else, after_head_end, after_head_start, after_head_start_body, after_head_tag, with_head, after_head_start_frameset}

@@ -7,10 +7,10 @@ use Rattle.h5_token.specs.TokenText.{TagText}
 use Rattle.h5_token.specs.declared.tag.TagKind.{TagKind}
 use Rattle.h5_token.specs.declared.tag.TagKind.TheVariants.{StartTag, EndTag}
 use Rattle.h5_interface.specs.SinkChoices.{SinkChoices}
-use Rattle.h5_tag_sets.specs.TagSets.{block_end_names, block_start_names, formatting_names, heading_names, is_default_scope, is_heading, is_html_named, is_implied, is_list_item_scope, is_one_of, mathml_namespace, svg_namespace}
-use Rattle.h5_types.specs.TurnText.{CommentTurn, EofTurn, HasText, NullTurn, TagTurn, TextTurn, TurnText}
-use Rattle.h5_types.specs.declared.modes.InsertionMode.{InsertionMode}
-use Rattle.h5_types.specs.declared.modes.InsertionMode.TheVariants.{AfterBody, InBody, InTable, Text}
+use Rattle.h5_tables.specs.TagSets.{block_end_names, block_start_names, formatting_names, heading_names, is_default_scope, is_heading, is_html_named, is_implied, is_list_item_scope, is_one_of, mathml_namespace, svg_namespace}
+use Rattle.h5_tables.specs.TurnText.{CommentTurn, EofTurn, HasText, NullTurn, TagTurn, TextTurn, TurnText}
+use Rattle.h5_tables.specs.declared.modes.InsertionMode.{InsertionMode}
+use Rattle.h5_tables.specs.declared.modes.InsertionMode.TheVariants.{AfterBody, InBody, InTable, Text}
 use Rattle.h5_rules.specs.formatting.FormattingNames.{html_name}
 use Rattle.h5_rules.specs.stack.Scope.{comes_before_special, cut_names, has_p_in_button_scope, has_template, in_scope, is_implied_but, second_is}
 use Rattle.h5_rules.specs.fitting.Fits.{goes_by_body}

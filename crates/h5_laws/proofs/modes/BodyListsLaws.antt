@@ -5,10 +5,10 @@ use Rattle.h5_token.specs.TokenText.{TagText}
 use Rattle.h5_token.specs.declared.tag.TagKind.{TagKind}
 use Rattle.h5_token.specs.declared.tag.TagKind.TheVariants.{StartTag, EndTag}
 use Rattle.h5_interface.specs.SinkChoices.{SinkChoices}
-use Rattle.h5_types.specs.TurnText.{TurnText, TagTurn, CommentTurn, TextTurn, NullTurn, EofTurn, HasText}
-use Rattle.h5_types.specs.declared.modes.InsertionMode.{InsertionMode}
-use Rattle.h5_tag_sets.specs.TagSets.{is_default_scope, is_heading, is_html_named, is_implied, mathml_namespace, svg_namespace}
-use Rattle.h5_types.specs.declared.modes.InsertionMode.TheVariants.{AfterBody, InTable, InFrameset}
+use Rattle.h5_tables.specs.TurnText.{TurnText, TagTurn, CommentTurn, TextTurn, NullTurn, EofTurn, HasText}
+use Rattle.h5_tables.specs.declared.modes.InsertionMode.{InsertionMode}
+use Rattle.h5_tables.specs.TagSets.{is_default_scope, is_heading, is_html_named, is_implied, mathml_namespace, svg_namespace}
+use Rattle.h5_tables.specs.declared.modes.InsertionMode.TheVariants.{AfterBody, InTable, InFrameset}
 use Rattle.h5_rules.specs.fitting.Fits.{goes_by_body}
 use Rattle.h5_rules.proofs.fitting.OpenLaws.{goes_after_root, names_root_open}
 use Rattle.h5_rules.specs.stack.Scope.{comes_before_special, has_p_in_button_scope, has_template, in_scope, is_implied_but, second_is}

@@ -6,11 +6,11 @@ use Rattle.h5_token.specs.TokenText.{TagText}
 use Rattle.h5_token.specs.declared.tag.TagKind.{TagKind}
 use Rattle.h5_token.specs.declared.tag.TagKind.TheVariants.{StartTag, EndTag}
 use Rattle.h5_interface.specs.SinkChoices.{SinkChoices}
-use Rattle.h5_tag_sets.specs.TagSets.{cell_names, implied_names, is_cell, is_html_named, is_implied, is_one_of, is_table_scope}
-use Rattle.h5_types.specs.TurnText.{CommentTurn, EofTurn, HasText, NullTurn, TagTurn, TextTurn, TurnText}
-use Rattle.h5_types.specs.declared.modes.InsertionMode.{InsertionMode}
-use Rattle.h5_types.specs.declared.modes.InsertionMode.TheVariants.{InCaption, InCell, InColumnGroup, InRow, InTable}
-use Rattle.h5_types.specs.declared.modes.SplitStatus.TheVariants.{NotSplit, NotWhitespace, Whitespace}
+use Rattle.h5_tables.specs.TagSets.{cell_names, implied_names, is_cell, is_html_named, is_implied, is_one_of, is_table_scope}
+use Rattle.h5_tables.specs.TurnText.{CommentTurn, EofTurn, HasText, NullTurn, TagTurn, TextTurn, TurnText}
+use Rattle.h5_tables.specs.declared.modes.InsertionMode.{InsertionMode}
+use Rattle.h5_tables.specs.declared.modes.InsertionMode.TheVariants.{InCaption, InCell, InColumnGroup, InRow, InTable}
+use Rattle.h5_tables.specs.declared.modes.SplitStatus.TheVariants.{NotSplit, NotWhitespace, Whitespace}
 use Rattle.h5_rules.specs.stack.Scope.{first_passes, in_scope, later_names}
 use Rattle.h5_rules.specs.fitting.NamesFit.{NamesFit}
 use Rattle.h5_rules.specs.fitting.Roles.{CaptionRole, CellRole, ColgroupRole, Role, RowRole, SectionRole, TableRole, role_of_local}
@@ -18,7 +18,7 @@ use Rattle.h5_rules.proofs.fitting.NamesTableLaws.{names_caption_closed, names_c
 use Rattle.h5_rules.proofs.roles.RoleLaws.{Origin, origin, role_named}
 use Rattle.h5_rules.specs.ByName.{NonePasses, by_kind, by_name, named, of_tag}
 use Rattle.h5_rules.specs.Changes.{insert_and_pop_element, pop, pop_until_named}
-use Rattle.h5_rules.specs.stack.Closing.{generate_implied_end, pop_until_cell}
+use Rattle.h5_rules.specs.stack.Closing.{generate_implied_end_tags, pop_until_cell}
 use Rattle.h5_rules.specs.formatting.Formatting.{clear_active_formatting_to_marker}
 use Rattle.h5_rules.specs.modes.InBody.{in_body}
 use Rattle.h5_rules.specs.modes.Shared.{current_is, head_start_names}
@@ -112,12 +112,12 @@ fits_cut_at_cell m w h = h
 
 module _ (choices : SinkChoices) (w : World) (steady : IsSteady w) where
   abbrev ended : World
-  ended = generate_implied_end choices w
+  ended = generate_implied_end_tags choices w
 
   -- IN A CAPTION
 
   -- implied end tags, and up to and with the caption
-  caption_closed : named_in_table_scope (codes "caption") w ≡ true → FitsAs InCaption w → FitsAs InTable (clear_active_formatting_to_marker (pop_until_named (codes "caption") (generate_implied_end choices w)))
+  caption_closed : named_in_table_scope (codes "caption") w ≡ true → FitsAs InCaption w → FitsAs InTable (clear_active_formatting_to_marker (pop_until_named (codes "caption") (generate_implied_end_tags choices w)))
   caption_closed e h =
       let r = in_implied choices InCaption refl w (ready_in InCaption refl w steady h) in
       let found = ap (in_scope (is_html_named (codes "caption")) is_table_scope) (names-all_implied choices w) ∙ still_in_scope (is_html_named (codes "caption")) is_table_scope is_implied caption_not_implied (names_of w) e in
@@ -200,7 +200,7 @@ module _ (choices : SinkChoices) (w : World) (steady : IsSteady w) where
 
   -- IN A CELL
 
-  cell_ended : (local : List ℕ) → is_one_of cell_names local ≡ true → named_in_table_scope local w ≡ true → FitsAs InCell w → FitsAs InRow (clear_active_formatting_to_marker (pop_until_named local (generate_implied_end choices w)))
+  cell_ended : (local : List ℕ) → is_one_of cell_names local ≡ true → named_in_table_scope local w ≡ true → FitsAs InCell w → FitsAs InRow (clear_active_formatting_to_marker (pop_until_named local (generate_implied_end_tags choices w)))
   cell_ended local p e h =
       let r = in_implied choices InCell refl w (ready_in InCell refl w steady h) in
       let found = ap (in_scope (is_html_named local) is_table_scope) (names-all_implied choices w) ∙ still_in_scope (is_html_named local) is_table_scope is_implied (cell_named_not_implied local p) (names_of w) e in

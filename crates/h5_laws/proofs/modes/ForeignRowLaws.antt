@@ -4,8 +4,8 @@ use Rattle.h5_token.specs.TokenText.{TagText}
 use Rattle.h5_token.specs.declared.tag.TagKind.{TagKind}
 use Rattle.h5_token.specs.declared.tag.TagKind.TheVariants.{EndTag, StartTag}
 use Rattle.h5_interface.specs.SinkChoices.{SinkChoices}
-use Rattle.h5_tag_sets.specs.TagSets.{is_one_of}
-use Rattle.h5_types.specs.TurnText.{CommentTurn, EofTurn, HasText, NullTurn, TagTurn, TextTurn, TurnText}
+use Rattle.h5_tables.specs.TagSets.{is_one_of}
+use Rattle.h5_tables.specs.TurnText.{CommentTurn, EofTurn, HasText, NullTurn, TagTurn, TextTurn, TurnText}
 use Rattle.h5_rules.specs.insertion.Foreign.{is_foreign}
 use Rattle.h5_rules.specs.modes.ForeignContent.{ByMode, EndSearch, Finds, ForeignStep, HasRow, ReachesHtml, ReachesRoot, breaks_out, dispatch, foreign_breakout_end_names, foreign_end, foreign_end_by, foreign_start, foreign_start_other, foreign_step, foreign_tag, foreign_text_row, is_expected_end, replacement_text, row_of, search_end, unexpected_in_foreign_content}
 use Rattle.h5_rules.specs.modes.Modes.{rule}

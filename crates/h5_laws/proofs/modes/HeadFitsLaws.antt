@@ -11,9 +11,9 @@ use Rattle.h5_token.specs.declared.tag.TagKind.{TagKind}
 use Rattle.h5_token.specs.declared.tag.TagKind.TheVariants.{StartTag, EndTag}
 use Rattle.h5_interface.specs.SinkChoices.{SinkChoices}
 use Rattle.h5_interface.specs.declared.marks.QuirksMode.TheVariants.{Quirks}
-use Rattle.h5_tag_sets.specs.TagSets.{is_html_named, is_one_of}
-use Rattle.h5_types.specs.TurnText.{TurnText}
-use Rattle.h5_types.specs.declared.modes.InsertionMode.TheVariants.{AfterHead, BeforeHead, BeforeHtml, InBody, InHead, InHeadNoscript, Initial}
+use Rattle.h5_tables.specs.TagSets.{is_html_named, is_one_of}
+use Rattle.h5_tables.specs.TurnText.{TurnText}
+use Rattle.h5_tables.specs.declared.modes.InsertionMode.TheVariants.{AfterHead, BeforeHead, BeforeHtml, InBody, InHead, InHeadNoscript, Initial}
 use Rattle.h5_rules.specs.formatting.FormattingNames.{html_name}
 use Rattle.h5_rules.specs.fitting.Fits.{takes_template}
 use Rattle.h5_rules.specs.fitting.NamesFit.{NamesFit}

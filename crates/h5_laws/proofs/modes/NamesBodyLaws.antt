@@ -1,9 +1,9 @@
 -- What modes that go by the body tell by names: the modes of the body fit where they do, and any other end tag in them.
 use Rattle.std.proofs.Common.{◌≡◌, ℕ, Bool, true, false, List, refl, ap, sym, subst, ◌∙◌}
 use Rattle.h5_names.specs.declared.qualified.QualName.{QualName}
-use Rattle.h5_tag_sets.specs.TagSets.{is_html_named, is_special}
-use Rattle.h5_types.specs.declared.modes.InsertionMode.{InsertionMode}
-use Rattle.h5_types.specs.declared.modes.InsertionMode.TheVariants.{AfterAfterBody, AfterBody, InBody, InRow, InTable, InTableBody}
+use Rattle.h5_tables.specs.TagSets.{is_html_named, is_special}
+use Rattle.h5_tables.specs.declared.modes.InsertionMode.{InsertionMode}
+use Rattle.h5_tables.specs.declared.modes.InsertionMode.TheVariants.{AfterAfterBody, AfterBody, InBody, InRow, InTable, InTableBody}
 use Rattle.h5_rules.specs.stack.Scope.{comes_before_special, cut_names, drop_while, is_implied_but}
 use Rattle.h5_rules.specs.fitting.Fits.{Situation, goes_by_body, is_table_mode}
 use Rattle.h5_rules.specs.fitting.Floors.{Grounded, above, in_head, on_body, on_root, on_template}

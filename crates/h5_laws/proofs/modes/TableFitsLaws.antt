@@ -8,11 +8,11 @@ use Rattle.h5_token.specs.TokenText.{TagText}
 use Rattle.h5_token.specs.declared.tag.TagKind.{TagKind}
 use Rattle.h5_token.specs.declared.tag.TagKind.TheVariants.{StartTag, EndTag}
 use Rattle.h5_interface.specs.SinkChoices.{SinkChoices}
-use Rattle.h5_tag_sets.specs.TagSets.{cell_names, is_one_of, is_table_body_context, is_table_row_context, is_table_scope}
-use Rattle.h5_types.specs.TurnText.{CommentTurn, EofTurn, HasText, NullTurn, TagTurn, TextTurn, TurnText}
-use Rattle.h5_types.specs.declared.modes.InsertionMode.{InsertionMode}
-use Rattle.h5_types.specs.declared.modes.InsertionMode.TheVariants.{InCaption, InCell, InColumnGroup, InRow, InTable, InTableBody, InTableText}
-use Rattle.h5_types.specs.declared.modes.SplitStatus.TheVariants.{NotSplit}
+use Rattle.h5_tables.specs.TagSets.{cell_names, is_one_of, is_table_body_context, is_table_row_context, is_table_scope}
+use Rattle.h5_tables.specs.TurnText.{CommentTurn, EofTurn, HasText, NullTurn, TagTurn, TextTurn, TurnText}
+use Rattle.h5_tables.specs.declared.modes.InsertionMode.{InsertionMode}
+use Rattle.h5_tables.specs.declared.modes.InsertionMode.TheVariants.{InCaption, InCell, InColumnGroup, InRow, InTable, InTableBody, InTableText}
+use Rattle.h5_tables.specs.declared.modes.SplitStatus.TheVariants.{NotSplit}
 use Rattle.h5_rules.specs.formatting.FormattingNames.{html_name}
 use Rattle.h5_rules.specs.stack.Scope.{down_names, has_template, later_names}
 use Rattle.h5_rules.specs.fitting.SituationChanges.{with_saved}

@@ -7,8 +7,8 @@ use Rattle.h5_token.specs.declared.tag.TagKind.{TagKind}
 use Rattle.h5_token.specs.declared.tag.TagKind.TheVariants.{StartTag, EndTag}
 use Rattle.h5_interface.specs.SinkChoices.{SinkChoices}
 use Rattle.h5_interface.proofs.MakingLaws.{mark_rearranges}
-use Rattle.h5_types.specs.TurnText.{CommentTurn, EofTurn, HasText, NullTurn, TagTurn, TextTurn, TurnText}
-use Rattle.h5_types.specs.declared.modes.InsertionMode.TheVariants.{InTable, Text}
+use Rattle.h5_tables.specs.TurnText.{CommentTurn, EofTurn, HasText, NullTurn, TagTurn, TextTurn, TurnText}
+use Rattle.h5_tables.specs.declared.modes.InsertionMode.TheVariants.{InTable, Text}
 use Rattle.h5_rules.specs.stack.Scope.{later_names}
 use Rattle.h5_rules.specs.fitting.NamesFit.{NamesFit}
 use Rattle.h5_rules.proofs.fitting.NamesFitLaws.{names_text_popped}

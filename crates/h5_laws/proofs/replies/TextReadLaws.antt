@@ -8,10 +8,10 @@ use Rattle.h5_token.specs.TokenText.{TagText, TokenText, DoctypeIs, DoctypeText,
 use Rattle.h5_token.specs.declared.tag.TagKind.{TagKind}
 use Rattle.h5_token.specs.declared.tag.TagKind.TheVariants.{StartTag, EndTag}
 use Rattle.h5_interface.specs.SinkChoices.{SinkChoices}
-use Rattle.h5_types.specs.TurnText.{TurnText, TagTurn, CommentTurn, TextTurn, NullTurn, EofTurn}
-use Rattle.h5_types.specs.declared.modes.InsertionMode.{InsertionMode}
-use Rattle.h5_types.specs.declared.modes.InsertionMode.TheVariants.{BeforeHtml, Initial, InTable, Text}
-use Rattle.h5_types.specs.declared.modes.SplitStatus.TheVariants.{NotWhitespace}
+use Rattle.h5_tables.specs.TurnText.{TurnText, TagTurn, CommentTurn, TextTurn, NullTurn, EofTurn}
+use Rattle.h5_tables.specs.declared.modes.InsertionMode.{InsertionMode}
+use Rattle.h5_tables.specs.declared.modes.InsertionMode.TheVariants.{BeforeHtml, Initial, InTable, Text}
+use Rattle.h5_tables.specs.declared.modes.SplitStatus.TheVariants.{NotWhitespace}
 use Rattle.h5_rules.specs.stack.Order.{second_from_last}
 use Rattle.h5_rules.specs.fitting.Fits.{AllKinds}
 use Rattle.h5_rules.specs.Changes.{add_attrs_at, add_attrs_to_html, add_attrs_to_second, append_comment, append_comment_to_doc, append_comment_to_html, append_pending_text, append_text, create_root, insert_and_pop_element, insert_and_pop_form, insert_doctype, insert_element, insert_form, insert_head, insert_script, mark_started, pop, pop_until_named, set_frameset_ok_by_text, set_mode, set_quirks_mode}
@@ -38,7 +38,7 @@ use Rattle.h5_rules.proofs.rows.ToldLaws.{NoMode, NoText, NoTextBehind, Tells, T
 use Rattle.h5_rules.proofs.changes.TreeLaws.{OnlyTree, tree_adoption, tree_cleared, tree_close_p, tree_close_p_in_scope, tree_format, tree_implied, tree_implied_except, tree_in_select, tree_list_item, tree_marker, tree_misnested_a_tags, tree_misnested_nobr_tags, tree_pop_heading, tree_reconstruct, tree_remove, tree_until_cell, tree_until_current, tree_until_heading, tree_implied_thoroughly, tree_remove_body}
 use Rattle.h5_rules.proofs.changes.TemplateLaws.{tree_insert_template}
 use Rattle.h5_rules.proofs.fitting.ChangeLaws.{later_kinds}
-use Rattle.h5_data.specs.Doctypes.{is_good_doctype, quirks_of}
+use Rattle.h5_tables.specs.Doctypes.{is_good_doctype, quirks_of}
 use Rattle.h5_rules.specs.modes.ForeignContent.{dispatch}
 use Rattle.h5_rules.specs.insertion.Foreign.{is_foreign, is_foreign_text}
 use Rattle.h5_rules.specs.Sound.{Fits}

@@ -5,11 +5,11 @@ use Rattle.h5_token.specs.declared.tag.TagKind.{TagKind}
 use Rattle.h5_token.specs.declared.tag.TagKind.TheVariants.{StartTag, EndTag}
 use Rattle.h5_interface.specs.declared.marks.QuirksMode.TheVariants.{Quirks}
 use Rattle.h5_names.specs.declared.known_name.KnownName.TheVariants.{Col, Html, Table, Tr}
-use Rattle.h5_tag_sets.specs.TagSets.{cell_names, is_one_of}
+use Rattle.h5_tables.specs.TagSets.{cell_names, is_one_of}
 use Rattle.h5_rules.specs.stack.Scope.{has_template}
-use Rattle.h5_types.specs.TurnText.{TurnText, TagTurn, CommentTurn, TextTurn, NullTurn, EofTurn}
-use Rattle.h5_types.specs.declared.modes.InsertionMode.{InsertionMode}
-use Rattle.h5_types.specs.declared.modes.InsertionMode.TheVariants.{Initial, BeforeHtml, BeforeHead, InHead, InHeadNoscript, AfterHead, InBody, AfterBody, AfterAfterBody}
+use Rattle.h5_tables.specs.TurnText.{TurnText, TagTurn, CommentTurn, TextTurn, NullTurn, EofTurn}
+use Rattle.h5_tables.specs.declared.modes.InsertionMode.{InsertionMode}
+use Rattle.h5_tables.specs.declared.modes.InsertionMode.TheVariants.{Initial, BeforeHtml, BeforeHead, InHead, InHeadNoscript, AfterHead, InBody, AfterBody, AfterAfterBody}
 use Rattle.h5_laws.proofs.turns.Ranks as edges
 use Rattle.h5_laws.proofs.turns.Ranks.{CellTurns, ColTurns, EndHtmlTurns, EndPartTurns, EofTurns, OtherTurns, PartTurns, RowTurns, StartTableTurns, TextTurns, TurnKind, is_eof, leaves_body_end}
 use Rattle.h5_rules.specs.modes.AfterAfterBody.{after_after_body_start}

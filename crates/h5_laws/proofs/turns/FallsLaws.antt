@@ -6,14 +6,14 @@ use Rattle.h5_token.specs.declared.tag.TagKind.TheVariants.{StartTag, EndTag}
 use Rattle.h5_interface.specs.SinkChoices.{SinkChoices}
 use Rattle.std.specs.Prelude.{unwrap_or}
 use Rattle.h5_interface.specs.declared.marks.QuirksMode.TheVariants.{Quirks}
-use Rattle.h5_tag_sets.specs.TagSets.{html_namespace, is_html_named}
+use Rattle.h5_tables.specs.TagSets.{html_namespace, is_html_named}
 use Rattle.h5_rules.specs.formatting.FormattingList.{ElementEntry, Entry, MarkerEntry, closed_front}
 use Rattle.h5_rules.specs.formatting.FormattingNames.{AllFormatting, html_name}
 use Rattle.h5_rules.specs.stack.Scope.{first_passes, has_template, later_names}
-use Rattle.h5_types.specs.TurnText.{CommentTurn, EofTurn, NullTurn, TagTurn, TextTurn, TurnText}
-use Rattle.h5_types.specs.declared.modes.InsertionMode.{InsertionMode}
-use Rattle.h5_types.specs.declared.modes.InsertionMode.TheVariants.{AfterAfterBody, AfterAfterFrameset, AfterBody, AfterFrameset, BeforeHtml, InCell, InColumnGroup, InFrameset, InTable, InTableText, Initial, Text}
-use Rattle.h5_types.specs.declared.modes.SplitStatus.TheVariants.{NotSplit}
+use Rattle.h5_tables.specs.TurnText.{CommentTurn, EofTurn, NullTurn, TagTurn, TextTurn, TurnText}
+use Rattle.h5_tables.specs.declared.modes.InsertionMode.{InsertionMode}
+use Rattle.h5_tables.specs.declared.modes.InsertionMode.TheVariants.{AfterAfterBody, AfterAfterFrameset, AfterBody, AfterFrameset, BeforeHtml, InCell, InColumnGroup, InFrameset, InTable, InTableText, Initial, Text}
+use Rattle.h5_tables.specs.declared.modes.SplitStatus.TheVariants.{NotSplit}
 use Rattle.h5_rules.specs.fitting.Fits.{Placed, Situation, is_table_mode, is_whole, may_be_left}
 use Rattle.h5_rules.specs.fitting.NamesFit.{NamesFit}
 use Rattle.h5_rules.specs.fitting.ResetByRoles.{reset}

@@ -3,9 +3,9 @@ use Rattle.std.proofs.Common.{◌≡◌, ◌<◌, ◌+◌, ℕ, ◌⊎◌, inl, 
 use Rattle.h5_names.specs.declared.qualified.QualName.{QualName}
 use Rattle.h5_token.specs.Reply.{Indicates, RunsScript, TurnsPlain, TurnsRaw}
 use Rattle.h5_interface.specs.SinkChoices.{SinkChoices}
-use Rattle.h5_types.specs.TurnText.{EofTurn, TurnText}
-use Rattle.h5_types.specs.declared.modes.InsertionMode.{InsertionMode}
-use Rattle.h5_types.specs.declared.modes.InsertionMode.TheVariants.{InTableText, Text}
+use Rattle.h5_tables.specs.TurnText.{EofTurn, TurnText}
+use Rattle.h5_tables.specs.declared.modes.InsertionMode.{InsertionMode}
+use Rattle.h5_tables.specs.declared.modes.InsertionMode.TheVariants.{InTableText, Text}
 use Rattle.h5_rules.specs.stack.Scope.{later_names}
 use Rattle.h5_rules.specs.fitting.Fits.{Situation}
 use Rattle.h5_rules.specs.fitting.Roles.{Role, count_roles, roles}

@@ -1,7 +1,7 @@
 -- The rank falls where a token takes another turn, and is bounded by the number of open elements.
 use Rattle.std.proofs.Common.{◌≡◌, ◌<◌, true, false, List, arith}
-use Rattle.h5_types.specs.declared.modes.InsertionMode.{InsertionMode}
-use Rattle.h5_types.specs.declared.modes.InsertionMode.TheVariants.{Initial, BeforeHtml, BeforeHead, InHead, InHeadNoscript, AfterHead, InBody, AfterBody, AfterAfterBody}
+use Rattle.h5_tables.specs.declared.modes.InsertionMode.{InsertionMode}
+use Rattle.h5_tables.specs.declared.modes.InsertionMode.TheVariants.{Initial, BeforeHtml, BeforeHead, InHead, InHeadNoscript, AfterHead, InBody, AfterBody, AfterAfterBody}
 use Rattle.h5_rules.specs.fitting.Fits.{Situation}
 use Rattle.h5_rules.specs.fitting.Roles.{Role}
 use Rattle.h5_laws.proofs.turns.Ranks.{Again, TurnKind, EofTurns, EndHtmlTurns, initial, before_html, before_head, in_head_noscript, in_head, after_head, after_body, after_after_body, end_html, cell_of_cell, cell_of_caption, cell_of_colgroup, cell_of_table, cell_of_section, cell_of_template, row_of_cell, row_of_row, row_of_caption, row_of_colgroup, row_of_table, row_of_template, col_of_cell, col_of_row, col_of_section, col_of_caption, col_of_table, col_of_template, part_of_cell, part_of_row, part_of_section, part_of_caption, part_of_colgroup, part_of_template, end_part_of_cell, end_part_of_row, end_part_of_section, end_part_of_caption, end_part_of_colgroup, other_of_colgroup, end_html_of_colgroup, text_of_colgroup, text_of_table, text_of_section, text_of_row, other_of_template, start_table_of_template, is_eof, leaves_body_end, rank}

@@ -1,8 +1,8 @@
 -- The weights in the rank: what the end of the file and a start tag that closes a table take, and what both are at most.
 use Rattle.std.proofs.Common.{◌≡◌, ◌<◌, ◌≤◌, ◌+◌, ◌*◌, suc, Bool, true, false, cond, List, [], ◌∷◌, length, Option, Some, refl, ap, sym, subst, arith}
 use Rattle.h5_names.specs.declared.qualified.QualName.{QualName}
-use Rattle.h5_types.specs.declared.modes.InsertionMode.{InsertionMode}
-use Rattle.h5_types.specs.declared.modes.InsertionMode.TheVariants.{Initial, BeforeHtml, BeforeHead, InHead, InHeadNoscript, AfterHead, InBody, Text, InTable, InTableText, InCaption, InColumnGroup, InTableBody, InRow, InCell, InTemplate, AfterBody, InFrameset, AfterFrameset, AfterAfterBody, AfterAfterFrameset}
+use Rattle.h5_tables.specs.declared.modes.InsertionMode.{InsertionMode}
+use Rattle.h5_tables.specs.declared.modes.InsertionMode.TheVariants.{Initial, BeforeHtml, BeforeHead, InHead, InHeadNoscript, AfterHead, InBody, Text, InTable, InTableText, InCaption, InColumnGroup, InTableBody, InRow, InCell, InTemplate, AfterBody, InFrameset, AfterFrameset, AfterAfterBody, AfterAfterFrameset}
 use Rattle.h5_rules.specs.fitting.Fits.{AllKinds, Fits, Placed, Situation, is_table_mode, PlacedBelow, goes_by_body, is_template_mode, is_whole, may_be_left}
 use Rattle.h5_rules.specs.fitting.Floors.{Grounded, RootIs, above, in_head, on_body, on_root, on_template}
 use Rattle.h5_rules.specs.fitting.Frames.{Cut, here, passes_table_scope, passes_to_template, there}

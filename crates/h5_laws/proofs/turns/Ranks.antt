@@ -1,7 +1,7 @@
 -- How many turns a token can still take at most, by its kind, the mode and the roles of the open elements.
 use Rattle.std.proofs.Common.{◌≡◌, ℕ, ◌+◌, ◌*◌, Bool, true, false, cond, List, [], ◌∷◌, Option, Some, None}
-use Rattle.h5_types.specs.declared.modes.InsertionMode.{InsertionMode}
-use Rattle.h5_types.specs.declared.modes.InsertionMode.TheVariants.{Initial, BeforeHtml, BeforeHead, InHead, InHeadNoscript, AfterHead, InBody, Text, InTable, InTableText, InCaption, InColumnGroup, InTableBody, InRow, InCell, InTemplate, AfterBody, InFrameset, AfterFrameset, AfterAfterBody, AfterAfterFrameset}
+use Rattle.h5_tables.specs.declared.modes.InsertionMode.{InsertionMode}
+use Rattle.h5_tables.specs.declared.modes.InsertionMode.TheVariants.{Initial, BeforeHtml, BeforeHead, InHead, InHeadNoscript, AfterHead, InBody, Text, InTable, InTableText, InCaption, InColumnGroup, InTableBody, InRow, InCell, InTemplate, AfterBody, InFrameset, AfterFrameset, AfterAfterBody, AfterAfterFrameset}
 use Rattle.h5_rules.specs.fitting.Fits.{Situation}
 use Rattle.h5_rules.specs.fitting.Roles.{ColgroupRole, HeadRole, HtmlRole, Role, TableRole, count_roles, has_role, is_template, later_roles}
 

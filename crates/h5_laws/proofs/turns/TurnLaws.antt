@@ -1,9 +1,9 @@
 -- How many turns a token takes.
 use Rattle.std.proofs.Common.{◌≡◌, [], ℕ, zero, suc, ◌+◌, ◌<◌, ◌≤◌, true, false, Option, Some, None, length, refl, ap, sym, subst, ◌∙◌, arith}
 use Rattle.h5_interface.specs.SinkChoices.{SinkChoices}
-use Rattle.h5_types.specs.TurnText.{TurnText, EofTurn}
-use Rattle.h5_types.specs.declared.modes.InsertionMode.{InsertionMode}
-use Rattle.h5_types.specs.declared.modes.InsertionMode.TheVariants.{Initial, BeforeHtml, BeforeHead, InHead, AfterHead, InBody}
+use Rattle.h5_tables.specs.TurnText.{TurnText, EofTurn}
+use Rattle.h5_tables.specs.declared.modes.InsertionMode.{InsertionMode}
+use Rattle.h5_tables.specs.declared.modes.InsertionMode.TheVariants.{Initial, BeforeHtml, BeforeHead, InHead, AfterHead, InBody}
 use Rattle.h5_rules.specs.Changes.{create_root, insert_element, insert_head, pop, set_mode, set_quirks_mode}
 use Rattle.h5_rules.specs.modes.InBody.{body_ends, no_template_mode}
 use Rattle.h5_rules.specs.modes.InHead.{template_eof}

@@ -6,11 +6,11 @@ use Rattle.h5_serialize.specs.Escape.{escape}
 use Rattle.h5_reading.specs.Options.{default_options}
 use Rattle.h5_states.specs.declared.kinds.TextKind.TheVariants as kind
 use Rattle.h5_states.specs.Machine.{turn}
-use Rattle.h5_states.specs.Reading.{Place, nothing_read}
+use Rattle.h5_states.specs.Reading.{ReaderPlace, nothing_read}
 use Rattle.h5_states.specs.ReferenceTable.{references}
 use Rattle.h5_states.specs.States.{CommentEnd, CommentStart, Text}
 use Rattle.h5_states.specs.States as state
-use Rattle.h5_states.specs.Turn.{Again, Goes}
+use Rattle.h5_states.specs.Turn.{Reconsumed, Consumed}
 use Rattle.h5_states.specs.Whole.{ReadsToEnd}
 use Rattle.h5_standard.specs.Options.{first_place}
 use Rattle.h5_plain.specs.Plain.{end_tag}
@@ -43,10 +43,10 @@ comment_byte x h = by (eqb x 45) (eqb x 60) (eqb x 0) (eqb x 13) refl refl refl 
     by false false true d p q r s h = cc
     by false false false true p q r s h = cc
 
-comment_row : (last comment : List ℕ) (x : ℕ) → CommentByte x → (turn references last (state.Comment comment) x).deed ≡ Goes [] (state.Comment (comment ++ x ∷ []))
+comment_row : (last comment : List ℕ) (x : ℕ) → CommentByte x → (turn references last (state.Comment comment) x).outcome ≡ Consumed [] (state.Comment (comment ++ x ∷ []))
 comment_row last comment x c = rw (c.less, c.dash, c.nul) refl
 
-comment_moves : (p : Place) (comment xs ys : List ℕ) → AreCommentBytes xs → IsIn p (state.Comment comment) → Moves p (xs ++ ys) [] (state.Comment (comment ++ xs)) ys
+comment_moves : (p : ReaderPlace) (comment xs ys : List ℕ) → AreCommentBytes xs → IsIn p (state.Comment comment) → Moves p (xs ++ ys) [] (state.Comment (comment ++ xs)) ys
 comment_moves p comment [] ys h i = rw append-nil (stays p (state.Comment comment) ys i)
 comment_moves p comment (x ∷ xs) ys h i =
     let c = comment_byte x h.0 in
@@ -54,10 +54,10 @@ comment_moves p comment (x ∷ xs) ys h i =
     (moves_then (goes_by p (state.Comment comment) (state.Comment (comment ++ x ∷ [])) x [] (xs ++ ys) i c.cr (comment_row p.last comment x c))
     (λ q j l. comment_moves q (comment ++ x ∷ []) xs ys h.1 j))
 
-begin_row : (last : List ℕ) (x : ℕ) → eqb x 62 ≡ false → CommentByte x → (turn references last CommentStart x).deed ≡ Again [] (state.Comment [])
+begin_row : (last : List ℕ) (x : ℕ) → eqb x 62 ≡ false → CommentByte x → (turn references last CommentStart x).outcome ≡ Reconsumed [] (state.Comment [])
 begin_row last x g c = rw (c.dash, g) refl
 
-inside_moves : (p : Place) (text ys : List ℕ) → IsCommentText text → IsIn p CommentStart → Moves p (text ++ 45 ∷ 45 ∷ ys) [] (CommentEnd text) ys
+inside_moves : (p : ReaderPlace) (text ys : List ℕ) → IsCommentText text → IsIn p CommentStart → Moves p (text ++ 45 ∷ 45 ∷ ys) [] (CommentEnd text) ys
 inside_moves p [] ys h i = rows_move p CommentStart (CommentEnd []) (45 ∷ 45 ∷ []) ys i refl
 inside_moves p (x ∷ xs) ys h i =
     let c = comment_byte x h.1.0 in
@@ -65,13 +65,13 @@ inside_moves p (x ∷ xs) ys h i =
     (λ q j l. moves_then (comment_moves q [] (x ∷ xs) (45 ∷ 45 ∷ ys) h.1 j)
     (λ r k m. rows_move r (state.Comment (x ∷ xs)) (CommentEnd (x ∷ xs)) (45 ∷ 45 ∷ []) ys k refl))
 
-comment_handed : (p : Place) (text ys : List ℕ) → IsCommentText text → IsIn p (Text kind.Data) → HandsToken p (codes "<!--" ++ (text ++ (codes "-->" ++ ys))) (CommentIs text) ys
+comment_handed : (p : ReaderPlace) (text ys : List ℕ) → IsCommentText text → IsIn p (Text kind.Data) → HandsToken p (codes "<!--" ++ (text ++ (codes "-->" ++ ys))) (CommentIs text) ys
 comment_handed p text ys h i =
     handed p (codes "<!--" ++ (text ++ (codes "-->" ++ ys))) (CommentEnd text) 62 (CommentIs text) ys refl (λ last e. refl)
     (moves_then (rows_move p (Text kind.Data) CommentStart (codes "<!--") (text ++ (codes "-->" ++ ys)) i refl)
     (λ q j l. inside_moves q text (62 ∷ ys) h j))
 
-behind_comment : (q : Place) (byte : ℕ) (text : List ℕ) (reply : Reply) → eqb byte 13 ≡ false → In false (behind_token q byte (CommentIs text) reply)
+behind_comment : (q : ReaderPlace) (byte : ℕ) (text : List ℕ) (reply : Reply) → eqb byte 13 ≡ false → In false (behind_token q byte (CommentIs text) reply)
 behind_comment q byte text reply c = record { at = refl; after_return = c }
 
 -- ---- marks

@@ -14,7 +14,7 @@ use Rattle.h5_markup.proofs.TextLaws.{one_byte, text_nil}
 use Rattle.h5_reading.specs.Options.{default_options}
 use Rattle.h5_tokenizer.specs.declared.front.Construct.TheVariants as construct
 use Rattle.h5_tokenizer.specs.declared.front.Mode.TheVariants.{Data}
-use Rattle.h5_tokenizer.specs.Front.{Place, Whole, front}
+use Rattle.h5_tokenizer.specs.Front.{ReaderPlace, Whole, front}
 use Rattle.h5_tokenizer.specs.Tokens.{is_dashes, without_dashes}
 use Rattle.h5_tokenizer.proofs.StepLaws.{front_concluded}
 use Rattle.h5_tokenizer.specs.Options.{first_place}
@@ -68,7 +68,7 @@ comment_read last foreign text rest h =
 -- ---- marks
 
 module _ {M : Type 0} (reply_to : M → TokenText → Reply) (after : M → TokenText → ℕ → M) (foreign : M → Bool) (ended : M → M) where
-  module _ (p : Place) (m : M) (xs : List ℕ) (all : List TokenText) where
+  module _ (p : ReaderPlace) (m : M) (xs : List ℕ) (all : List TokenText) where
     marks_taken : (marks : List Mark) → AreMarks marks
         → Reached reply_to after foreign ended p m xs all false (marks_tokens marks) (written_marks marks)
         → Reached reply_to after foreign ended p m xs all false (EndOfFile ∷ []) []

@@ -12,7 +12,7 @@ use Rattle.h5_reading.proofs.AnswerLaws.{unrefused}
 use Rattle.h5_states.specs.declared.kinds.TextKind.TheVariants as text
 use Rattle.h5_states.specs.End.{last_tokens}
 use Rattle.h5_states.specs.AtEnd.{at_end}
-use Rattle.h5_states.specs.Reading.{Place, Read, after_token, behind, chosen_state, nothing_read, quiet_step, read_on, text_step, token_step}
+use Rattle.h5_states.specs.Reading.{Passes, ReaderPlace, Read, after_token, behind, chosen_state, nothing_read, quiet_step, read_on, text_step, token_step}
 use Rattle.h5_states.specs.ReferenceTable.{references}
 use Rattle.h5_states.specs.States.{Text as TextState}
 use Rattle.h5_states.specs.Whole.{ReadsToEnd, more_reading, no_reading}
@@ -25,11 +25,14 @@ use Rattle.h5_round_trip.proofs.ShapeLaws.{Element, None, Shape, Text, Title, Vo
 use Rattle.h5_round_trip.proofs.TagLaws.{IsTagName}
 use Rattle.h5_round_trip.proofs.standard.ReferenceLaws.{InData, InTitle, Where, state_of}
 use Rattle.h5_round_trip.proofs.standard.RunLaws.{IsIn, Moves}
+use Rattle.h5_round_trip.specs.Fragment.{AnswersCuts}
+use Rattle.h5_token.specs.Joins.{join}
+use Rattle.h5_reading.proofs.JoinLaws.{joins_append}
 use Rattle.h5_round_trip.proofs.standard.TagLaws.{HandsToken, doctype_handed, end_handed, start_handed, title_end_handed}
-use Rattle.h5_round_trip.proofs.standard.TextLaws.{text_reads}
+use Rattle.h5_round_trip.proofs.standard.TextLaws.{text_ends, text_reads}
 
 -- in data, or in the text of a title
-abbrev pub In : (title : Bool) → Place → Type 0
+abbrev pub In : (title : Bool) → ReaderPlace → Type 0
 In false p = IsIn p (TextState text.Data)
 In true p = IsIn p (TextState text.Rcdata) × (p.last ≡ codes "title")
 
@@ -51,20 +54,20 @@ plain_goes EndOfFile = refl
 plain_goes (ParseErrorIs d) = refl
 
 -- the place behind a start tag, and behind others
-abbrev pub behind_token : Place → ℕ → TokenText → Reply → Place
+abbrev pub behind_token : ReaderPlace → ℕ → TokenText → Reply → ReaderPlace
 behind_token p byte t reply = after_token t reply (behind byte (TextState text.Data) p)
 
-behind_start : (q : Place) (byte : ℕ) (name : List ℕ) (attrs : List AttributeText) (reply : Reply) → is_same_text name (codes "title") ≡ false → eqb byte 13 ≡ false → reply ≡ plain_reply (start_tag name attrs) → In false (behind_token q byte (start_tag name attrs) reply)
+behind_start : (q : ReaderPlace) (byte : ℕ) (name : List ℕ) (attrs : List AttributeText) (reply : Reply) → is_same_text name (codes "title") ≡ false → eqb byte 13 ≡ false → reply ≡ plain_reply (start_tag name attrs) → In false (behind_token q byte (start_tag name attrs) reply)
 behind_start q byte name attrs reply other c e =
     record { at = ap chosen_state e ∙ ap (λ b. chosen_state (cond b (TurnsRaw Rcdata) Continues)) other; after_return = c }
 
-behind_title : (q : Place) (byte : ℕ) (attrs : List AttributeText) (reply : Reply) → eqb byte 13 ≡ false → reply ≡ plain_reply (start_tag (codes "title") attrs) → In true (behind_token q byte (start_tag (codes "title") attrs) reply)
+behind_title : (q : ReaderPlace) (byte : ℕ) (attrs : List AttributeText) (reply : Reply) → eqb byte 13 ≡ false → reply ≡ plain_reply (start_tag (codes "title") attrs) → In true (behind_token q byte (start_tag (codes "title") attrs) reply)
 behind_title q byte attrs reply c e = (record { at = ap chosen_state e; after_return = c }, refl)
 
-behind_end : (q : Place) (byte : ℕ) (name : List ℕ) (reply : Reply) → eqb byte 13 ≡ false → In false (behind_token q byte (end_tag name) reply)
+behind_end : (q : ReaderPlace) (byte : ℕ) (name : List ℕ) (reply : Reply) → eqb byte 13 ≡ false → In false (behind_token q byte (end_tag name) reply)
 behind_end q byte name reply c = record { at = refl; after_return = c }
 
-behind_doctype : (q : Place) (byte : ℕ) (reply : Reply) → eqb byte 13 ≡ false → In false (behind_token q byte plain_doctype reply)
+behind_doctype : (q : ReaderPlace) (byte : ℕ) (reply : Reply) → eqb byte 13 ≡ false → In false (behind_token q byte plain_doctype reply)
 behind_doctype q byte reply c = record { at = refl; after_return = c }
 
 -- something follows
@@ -93,10 +96,86 @@ room End rest h = tt
 room (TextThen text others) rest h = (some_before others rest h, room others rest h)
 room (ElementThen name attrs inner others) rest h = room others rest h
 
+-- nodes before a text: an element, so that something is written
+abbrev pub IsNode : Nodes → Type 0
+IsNode (ElementThen name attrs inner rest) = Unit {0}
+IsNode _ = ⊥
+
+node_before : (ns : Nodes) (rest : List ℕ) → IsNode ns → IsSome (written_before ns rest)
+node_before End rest n = absurd (n)
+node_before (TextThen t r) rest n = absurd (n)
+node_before (ElementThen name attrs inner r) rest n = record { first = 60; more = _; is = refl }
+
+no_second : {b : Bool} {v : List ℕ} {rest : Nodes} → Shape b (TextThen v rest) → b ≡ true → ⊥
+no_second (Text h) e = absurd (let z : false ≡ true = e in cc)
+
+-- a list of nodes that ends with a text, the nodes before it, and the text
+pub data Splits : Nodes → Nodes → List ℕ → Type 0 where
+  LastText : {t : List ℕ} → Splits (TextThen t End) End t
+  PastText : {u t : List ℕ} {ns front : Nodes} → Splits ns front t → IsNode front → Splits (TextThen u ns) (TextThen u front) t
+  PastElement : {name : List ℕ} {attrs : List AttributeText} {inner ns front : Nodes} {t : List ℕ} → Splits ns front t → Splits (ElementThen name attrs inner ns) (ElementThen name attrs inner front) t
+
+split_tokens : {ns front : Nodes} {t : List ℕ} (more : List TokenText) → Splits ns front t → tokens_before ns more ≡ tokens_before front (Characters t ∷ more)
+split_tokens more LastText = refl
+split_tokens more (PastText {u} s n) = ap (λ l. Characters u ∷ l) (split_tokens more s)
+split_tokens more (PastElement {name} {attrs} {inner} s) = ap (λ l. start_tag name attrs ∷ cond (has_end_tag name) (tokens_before inner (end_tag name ∷ l)) l) (split_tokens more s)
+
+split_written : {ns front : Nodes} {t : List ℕ} → Splits ns front t → written_before ns [] ≡ written_before front (escape false t)
+split_written {t = t} LastText = append-nil (escape false t)
+split_written (PastText {u} s n) = ap (λ l. escape false u ++ l) (split_written s)
+split_written (PastElement {name} {attrs} {inner} s) =
+    ap (λ l. codes "<" ++ (tag_written name attrs ++ (codes ">" ++ cond (has_end_tag name) (written_before inner (codes "</" ++ (name ++ (codes ">" ++ l)))) l))) (split_written s)
+
+split_read : {ns front : Nodes} {t : List ℕ} → Splits ns front t → CanBeRead ns → CanBeRead front × IsReadable t
+split_read LastText c = (tt, c.0)
+split_read (PastText s n) c = let r = split_read s c.1 in ((c.0, r.0), r.1)
+split_read (PastElement s) c = let r = split_read s c.1.1 in ((c.0, (c.1.0, r.0)), r.1)
+
+split_room : {ns front : Nodes} {t : List ℕ} → Splits ns front t → Room front (escape false t)
+split_room LastText = tt
+split_room {t = t} (PastText {front = front} s n) = (node_before front (escape false t) n, split_room s)
+split_room (PastElement s) = split_room s
+
+split_shape : {b : Bool} {ns front : Nodes} {t : List ℕ} → Splits ns front t → Shape b ns → Shape b front
+split_shape LastText h = None
+split_shape (PastText s n) (Text h) = Text (split_shape s h)
+split_shape (PastElement s) (Void v p h) = Void v p (split_shape s h)
+split_shape (PastElement s) (Element o p i h) = Element o p i (split_shape s h)
+split_shape (PastElement s) (Title p h) = Title p (split_shape s h)
+
+split_filled : {b : Bool} {ns front : Nodes} {t : List ℕ} → Splits ns front t → Shape b ns → IsSome t
+split_filled LastText (Text {first} {more} h) = record { first = first; more = more; is = refl }
+split_filled (PastText s n) (Text h) = split_filled s h
+split_filled (PastElement s) (Void v p h) = split_filled s h
+split_filled (PastElement s) (Element o p i h) = split_filled s h
+split_filled (PastElement s) (Title p h) = split_filled s h
+
+-- or there is room for none
+pub data Ending (ns : Nodes) : Type 0 where
+  InTag : Room ns [] → Ending ns
+  InText : {front : Nodes} {t : List ℕ} → Splits ns front t → Ending ns
+
+past_text : (u : List ℕ) (name : List ℕ) (attrs : List AttributeText) (inner rest : Nodes) → Ending (ElementThen name attrs inner rest) → Ending (TextThen u (ElementThen name attrs inner rest))
+past_text u name attrs inner rest (InTag r) = InTag (record { first = 60; more = _; is = refl }, r)
+past_text u name attrs inner rest (InText (PastElement s)) = InText (PastText (PastElement s) tt)
+
+past_element : (name : List ℕ) (attrs : List AttributeText) (inner rest : Nodes) → Ending rest → Ending (ElementThen name attrs inner rest)
+past_element name attrs inner rest (InTag r) = InTag r
+past_element name attrs inner rest (InText s) = InText (PastElement s)
+
+ending : {b : Bool} (ns : Nodes) → Shape b ns → Ending ns
+ending End None = InTag tt
+ending (TextThen u End) (Text h) = InText LastText
+ending (TextThen u (TextThen v rest)) (Text h) = absurd (no_second h refl)
+ending (TextThen u (ElementThen name attrs inner rest)) (Text h) = past_text u name attrs inner rest (ending (ElementThen name attrs inner rest) h)
+ending (ElementThen name attrs inner rest) (Void v p h) = past_element name attrs inner rest (ending rest h)
+ending (ElementThen name attrs inner rest) (Element o p i h) = past_element name attrs inner rest (ending rest h)
+ending (ElementThen name attrs inner rest) (Title p h) = past_element name attrs inner rest (ending rest h)
+
 module _ {M : Type 0} (reply_to : M → TokenText → Reply) (after : M → TokenText → ℕ → M) (foreign : M → Bool) (ended : M → M) where
   -- from a place on some of all tokens were read; more of them, and this text, are left
-  pub record Reached (p : Place) (m : M) (xs : List ℕ) (all : List TokenText) (title : Bool) (more : List TokenText) (rest : List ℕ) : Type 0 where
-    pub place : Place
+  pub record Reached (p : ReaderPlace) (m : M) (xs : List ℕ) (all : List TokenText) (title : Bool) (more : List TokenText) (rest : List ℕ) : Type 0 where
+    pub place : ReaderPlace
     pub meaning : M
     pub handed : List TokenText
     pub reply : Reply
@@ -106,10 +185,10 @@ module _ {M : Type 0} (reply_to : M → TokenText → Reply) (after : M → Toke
     pub answers : Answers reply_to after meaning more
     pub whole : handed ++ more ≡ all
 
-  module _ (p : Place) (m : M) (xs : List ℕ) (all : List TokenText) where
+  module _ (p : ReaderPlace) (m : M) (xs : List ℕ) (all : List TokenText) where
     pub token_taken : (title next : Bool) (t : TokenText) (more : List TokenText) (written rest : List ℕ)
-        → ((q : Place) → In title q → HandsToken q written t rest)
-        → ((q : Place) (byte : ℕ) (reply : Reply) → eqb byte 13 ≡ false → reply ≡ plain_reply t → In next (behind_token q byte t reply))
+        → ((q : ReaderPlace) → In title q → HandsToken q written t rest)
+        → ((q : ReaderPlace) (byte : ℕ) (reply : Reply) → eqb byte 13 ≡ false → reply ≡ plain_reply t → In next (behind_token q byte t reply))
         → Reached p m xs all title (t ∷ more) written → Reached p m xs all next more rest
     token_taken title next t more written rest here leads r =
         let h = here r.place r.is_in in
@@ -119,21 +198,21 @@ module _ {M : Type 0} (reply_to : M → TokenText → Reply) (after : M → Toke
           handed = (r.handed ++ []) ++ t ∷ [];
           reply = reply_to r.meaning t;
           goes = ap goes_on r.answers.0 ∙ plain_goes t;
-          read = read_on (read_on r.read r.goes (quiet_step h.passes)) refl (token_step t (TextState text.Data) h.kept h.deed);
+          read = read_on (read_on r.read r.goes (quiet_step h.passes)) refl (token_step t (TextState text.Data) h.kept h.outcome);
           is_in = leads h.place h.byte (reply_to r.meaning t) h.no_return r.answers.0;
           answers = r.answers.1 h.place.began;
           whole = ap (λ l. (l ++ t ∷ []) ++ more) (append-nil r.handed) ∙ append_assoc r.handed (t ∷ []) more ∙ r.whole;
         }
 
-    in_text : (title : Bool) (q : Place) → In title q → IsIn q (state_of (where_in title))
+    in_text : (title : Bool) (q : ReaderPlace) → In title q → IsIn q (state_of (where_in title))
     in_text false q h = h
     in_text true q h = h.0
 
-    text_so : (title : Bool) (q : Place) (x : ℕ) (words : List ℕ) (y : ℕ) (ys : List ℕ) → IsReadable (x ∷ words) → In title q → Moves q (escape false (x ∷ words) ++ y ∷ ys) (x ∷ words) (state_of (where_in title)) (y ∷ ys)
+    text_so : (title : Bool) (q : ReaderPlace) (x : ℕ) (words : List ℕ) (y : ℕ) (ys : List ℕ) → IsReadable (x ∷ words) → In title q → Moves q (escape false (x ∷ words) ++ y ∷ ys) (x ∷ words) (state_of (where_in title)) (y ∷ ys)
     text_so false q x words y ys readable h = text_reads q InData (x ∷ words) y ys readable h
     text_so true q x words y ys readable h = text_reads q InTitle (x ∷ words) y ys readable h.0
 
-    in_behind : (title : Bool) (q r : Place) → In title q → IsIn r (state_of (where_in title)) → r.last ≡ q.last → In title r
+    in_behind : (title : Bool) (q r : ReaderPlace) → In title q → IsIn r (state_of (where_in title)) → r.last ≡ q.last → In title r
     in_behind false q r h i l = i
     in_behind true q r h i l = (i, l ∙ h.1)
 
@@ -228,11 +307,11 @@ module _ {M : Type 0} (reply_to : M → TokenText → Reply) (after : M → Toke
         (title_taken attrs (Characters (first ∷ words) ∷ end_tag (codes "title") ∷ tokens_before others more) (escape false (first ∷ words) ++ ending) plain c.0
         (known true (codes "title") attrs (TextThen (first ∷ words) End) others more rest is_title.ends r))))
 
-  none_left : (place : Place) → In false place → last_tokens references place ≡ []
+  none_left : (place : ReaderPlace) → In false place → last_tokens references place ≡ []
   none_left place i = ap (λ s. told (at_end references s).text ++ handed (at_end references s).token) i.at
 
   -- the end
-  pub ends : (p : Place) (m : M) (xs : List ℕ) (all : List TokenText) → Reached p m xs all false (EndOfFile ∷ []) [] → (n : M) × ReadsToEnd references reply_to after foreign ended p m xs all n
+  pub ends : (p : ReaderPlace) (m : M) (xs : List ℕ) (all : List TokenText) → Reached p m xs all false (EndOfFile ∷ []) [] → (n : M) × ReadsToEnd references reply_to after foreign ended p m xs all n
   ends p m xs all r =
       let none = none_left r.place r.is_in in (
         ended (after (after_all after r.meaning (last_tokens references r.place) r.place.began) EndOfFile r.place.line),
@@ -266,3 +345,86 @@ module _ {M : Type 0} (reply_to : M → TokenText → Reply) (after : M → Toke
       ends p m xs all
       (nodes_taken p m xs all (root_of d) (EndOfFile ∷ []) [] (document_shape d) readable tt
       (doctype_taken p m xs all (tokens_before (root_of d) (EndOfFile ∷ [])) (written_before (root_of d) []) first))
+
+  -- read to the end, by all tokens but that the last text may come in two parts
+  pub record ReadsCut (p : ReaderPlace) (m : M) (xs : List ℕ) (all : List TokenText) : Type 0 where
+    pub tokens : List TokenText
+    pub joined : join tokens ≡ join all
+    pub meaning : M
+    pub reads : ReadsToEnd references reply_to after foreign ended p m xs tokens meaning
+
+  module _ (p : ReaderPlace) (m : M) (xs : List ℕ) (all : List TokenText) (cuts : AnswersCuts reply_to) where
+    last_taken : (x : ℕ) (words : List ℕ) → IsReadable (x ∷ words) → Reached p m xs all false (Characters (x ∷ words) ∷ EndOfFile ∷ []) (escape false (x ∷ words)) → ReadsCut p m xs all
+    last_taken x words readable r =
+        let e = text_ends r.place x words readable r.is_in in
+        at e.front e.back e.place e.passes e.held e.whole
+      where
+        closes : (q : ReaderPlace) (n : M) (hs : List TokenText) (reply : Reply) → Read references reply_to after foreign p m xs hs reply q n [] → goes_on reply ≡ true → (back : List ℕ) → last_tokens references q ≡ told back
+            → join (hs ++ (told back ++ EndOfFile ∷ [])) ≡ join all → ReadsCut p m xs all
+        closes q n hs reply read goes back held same = record {
+          tokens = hs ++ (told back ++ EndOfFile ∷ []);
+          joined = same;
+          meaning = ended (after (after_all after n (last_tokens references q) q.began) EndOfFile q.line);
+          reads = record {
+            handed = hs;
+            place = q;
+            meaning = n;
+            readings = more_reading no_reading read (unrefused reply goes);
+            tokens = ap (λ l. hs ++ (l ++ EndOfFile ∷ [])) (sym held);
+            closed = refl;
+          };
+        }
+
+        in_two : (b : ℕ) (t back : List ℕ) → (b ∷ t) ++ back ≡ x ∷ words → join (Characters (b ∷ t) ∷ (told back ++ EndOfFile ∷ [])) ≡ Characters (x ∷ words) ∷ EndOfFile ∷ []
+        in_two b t [] e = ap (λ l. Characters l ∷ EndOfFile ∷ []) (sym (append-nil (b ∷ t)) ∙ e)
+        in_two b t (d ∷ u) e = ap (λ l. Characters l ∷ EndOfFile ∷ []) e
+
+        at : (front back : List ℕ) (q : ReaderPlace) → Passes references r.place (escape false (x ∷ words)) front q [] → last_tokens references q ≡ told back → front ++ back ≡ x ∷ words → ReadsCut p m xs all
+        at [] back q passes held whole =
+            closes q r.meaning (r.handed ++ []) Continues (read_on r.read r.goes (quiet_step passes)) refl back held
+            (joins_append (r.handed ++ []) r.handed (told back ++ EndOfFile ∷ []) (Characters (x ∷ words) ∷ EndOfFile ∷ []) (ap join (append-nil r.handed))
+            (ap (λ l. join (told l ++ EndOfFile ∷ [])) whole) ∙ ap join r.whole)
+        at (b ∷ t) back q passes held whole =
+            let answer : reply_to r.meaning (Characters (b ∷ t)) ≡ Continues = cuts r.meaning b t back (ap (λ l. reply_to r.meaning (Characters l)) whole ∙ r.answers.0) in
+            closes q (after r.meaning (Characters (b ∷ t)) r.place.began) (r.handed ++ Characters (b ∷ t) ∷ []) (reply_to r.meaning (Characters (b ∷ t))) (read_on r.read r.goes (text_step passes)) (ap goes_on answer) back held
+            (ap join (append_assoc r.handed (Characters (b ∷ t) ∷ []) (told back ++ EndOfFile ∷ []))
+            ∙ joins_append r.handed r.handed (Characters (b ∷ t) ∷ (told back ++ EndOfFile ∷ [])) (Characters (x ∷ words) ∷ EndOfFile ∷ []) refl (in_two b t back whole)
+            ∙ ap join r.whole)
+
+  -- a fragment's text is read to its end, as its tokens, but that a text at its end may come in two parts
+  pub fragment_read : {b : Bool} (ns : Nodes) (m : M) → Shape b ns → CanBeRead ns → AnswersCuts reply_to → Answers reply_to after m (tokens_before ns (EndOfFile ∷ []))
+      → ReadsCut (first_place default_options) m (written_before ns []) (tokens_before ns (EndOfFile ∷ []))
+  fragment_read ns m shape readable cuts answers = at (ending ns shape)
+    where
+      first : Reached (first_place default_options) m (written_before ns []) (tokens_before ns (EndOfFile ∷ [])) false (tokens_before ns (EndOfFile ∷ [])) (written_before ns [])
+      first = record {
+        place = first_place default_options;
+        meaning = m;
+        handed = [];
+        reply = Continues;
+        goes = refl;
+        read = nothing_read;
+        is_in = record { at = refl; after_return = refl };
+        answers = answers;
+        whole = refl;
+      }
+
+      by_text : (front : Nodes) (t : List ℕ) (x : ℕ) (words : List ℕ) → t ≡ x ∷ words → Splits ns front t → ReadsCut (first_place default_options) m (written_before ns []) (tokens_before ns (EndOfFile ∷ []))
+      by_text front t x words e s =
+          let p = first_place default_options in
+          let xs = written_before ns [] in
+          let all = tokens_before ns (EndOfFile ∷ []) in
+          let c = split_read s readable in
+          let begun : Reached p m xs all false (tokens_before front (Characters t ∷ EndOfFile ∷ [])) (written_before front (escape false t)) =
+          subst (λ l. Reached p m xs all false (tokens_before front (Characters t ∷ EndOfFile ∷ [])) l) (split_written s) (subst (λ ts. Reached p m xs all false ts xs) (split_tokens (EndOfFile ∷ []) s) first) in
+          let before = nodes_taken p m xs all front (Characters t ∷ EndOfFile ∷ []) (escape false t) (split_shape s shape) c.0 (split_room s) begun in
+          last_taken p m xs all cuts x words (subst IsReadable e c.1) (subst (λ l. Reached p m xs all false (Characters l ∷ EndOfFile ∷ []) (escape false l)) e before)
+
+      at : Ending ns → ReadsCut (first_place default_options) m (written_before ns []) (tokens_before ns (EndOfFile ∷ []))
+      at (InTag room) =
+          let p = first_place default_options in
+          let xs = written_before ns [] in
+          let all = tokens_before ns (EndOfFile ∷ []) in
+          let r = ends p m xs all (nodes_taken p m xs all ns (EndOfFile ∷ []) [] shape readable room first) in
+          record { tokens = all; joined = refl; meaning = r.0; reads = r.1 }
+      at (InText {front} {t} s) = let f = split_filled s shape in by_text front t f.first f.more f.is s

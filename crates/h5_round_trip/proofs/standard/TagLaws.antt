@@ -16,11 +16,11 @@ use Rattle.h5_states.specs.declared.kinds.TextKind.TheVariants.{Data, Rcdata}
 use Rattle.h5_states.specs.declared.kinds.RawTextKind.TheVariants as raw
 use Rattle.h5_states.specs.Construction.{Attribute, Tag, completed, new_doctype, token_of, with_attribute}
 use Rattle.h5_states.specs.Machine.{turn}
-use Rattle.h5_states.specs.Reading.{Passes, Place, deed, is_dropped}
+use Rattle.h5_states.specs.Reading.{Passes, ReaderPlace, outcome, is_dropped}
 use Rattle.h5_states.specs.ReferenceTable.{references}
 use Rattle.h5_states.specs.Signs.{is_blank}
 use Rattle.h5_states.specs.States.{AfterAttributeValueQuoted, AttributeName, AttributeValue, BeforeAttributeName, DoctypeName, EndTagOpen, Quoted, RawEndTagName, State, TagName, TagOpen, Text}
-use Rattle.h5_states.specs.Turn.{Again, Goes, Hands}
+use Rattle.h5_states.specs.Turn.{Reconsumed, Consumed, Emitted}
 use Rattle.h5_plain.specs.Plain.{ArePlain, end_tag, plain_doctype, start_tag}
 use Rattle.h5_round_trip.specs.Readable.{AreNameBytes, AreReadable, IsName, IsReadable}
 use Rattle.h5_round_trip.specs.Written.{tag_written}
@@ -29,7 +29,7 @@ use Rattle.h5_round_trip.proofs.NameLaws.{NameByte, name_byte}
 use Rattle.h5_round_trip.proofs.TagLaws.{IsTagName}
 use Rattle.h5_round_trip.proofs.standard.ReferenceLaws.{InValue}
 use Rattle.h5_machine.proofs.MoreLaws.{passes_more}
-use Rattle.h5_round_trip.proofs.standard.RunLaws.{IsIn, Moves, again_by, deed_at, goes_by, kept, moves_then, rows, rows_move, stays}
+use Rattle.h5_round_trip.proofs.standard.RunLaws.{IsIn, Moves, again_by, outcome_at, goes_by, kept, moves_then, rows, rows_move, stays}
 use Rattle.h5_round_trip.proofs.standard.TextLaws.{text_reads}
 
 -- ---- names
@@ -44,10 +44,10 @@ tag_at kind name attrs current = record { kind = kind; name = name; self_closing
 abbrev attribute_at : List ℕ → List ℕ → Option Attribute
 attribute_at name value = Some (record { name = name; value = value })
 
-tag_name_row : (last : List ℕ) (kind : TagKind) (done : List ℕ) (x : ℕ) → NameByte x → (turn references last (TagName (tag_at kind done [] Nothing)) x).deed ≡ Goes [] (TagName (tag_at kind (done ++ x ∷ []) [] Nothing))
+tag_name_row : (last : List ℕ) (kind : TagKind) (done : List ℕ) (x : ℕ) → NameByte x → (turn references last (TagName (tag_at kind done [] Nothing)) x).outcome ≡ Consumed [] (TagName (tag_at kind (done ++ x ∷ []) [] Nothing))
 tag_name_row last kind done x n = rw (no_blank x n.blank, n.slash, n.greater, n.nul, n.lower) refl
 
-tag_name_moves : (p : Place) (kind : TagKind) (done xs ys : List ℕ) → AreNameBytes xs → IsIn p (TagName (tag_at kind done [] Nothing)) → Moves p (xs ++ ys) [] (TagName (tag_at kind (done ++ xs) [] Nothing)) ys
+tag_name_moves : (p : ReaderPlace) (kind : TagKind) (done xs ys : List ℕ) → AreNameBytes xs → IsIn p (TagName (tag_at kind done [] Nothing)) → Moves p (xs ++ ys) [] (TagName (tag_at kind (done ++ xs) [] Nothing)) ys
 tag_name_moves p kind done [] ys names h = rw append-nil (stays p (TagName (tag_at kind done [] Nothing)) ys h)
 tag_name_moves p kind done (x ∷ xs) ys names h =
     let n = name_byte x names.0 in
@@ -58,7 +58,7 @@ tag_name_moves p kind done (x ∷ xs) ys names h =
 abbrev pub after_name : TagKind → List ℕ → State
 after_name kind name = TagName (tag_at kind name [] Nothing)
 
-letter_begins : (last : List ℕ) (x : ℕ) → is_ascii_alphabetic x ≡ true → (turn references last TagOpen x).deed ≡ Again [] (TagName (tag_at StartTag [] [] Nothing))
+letter_begins : (last : List ℕ) (x : ℕ) → is_ascii_alphabetic x ≡ true → (turn references last TagOpen x).outcome ≡ Reconsumed [] (TagName (tag_at StartTag [] [] Nothing))
 letter_begins last x letter =
     let mark : eqb x 33 ≡ false = grind (arith, nat_tests) in
     let slash : eqb x 47 ≡ false = grind (arith, nat_tests) in
@@ -68,7 +68,7 @@ letter_no_return : (x : ℕ) → is_ascii_alphabetic x ≡ true → eqb x 13 ≡
 letter_no_return x letter = grind (arith, nat_tests)
 
 -- a tag is opened
-opened : (p : Place) (name ys : List ℕ) → IsTagName name → IsIn p (Text Data) → Moves p (60 ∷ (name ++ ys)) [] (after_name StartTag name) ys
+opened : (p : ReaderPlace) (name ys : List ℕ) → IsTagName name → IsIn p (Text Data) → Moves p (60 ∷ (name ++ ys)) [] (after_name StartTag name) ys
 opened p name ys t h =
     let letters : name ++ ys ≡ t.first ∷ (t.more ++ ys) = ap (λ l. l ++ ys) t.is in
     moves_then (rows_move p (Text Data) TagOpen (60 ∷ []) (name ++ ys) h refl)
@@ -77,10 +77,10 @@ opened p name ys t h =
     (again_by q TagOpen (TagName (tag_at StartTag [] [] Nothing)) t.first [] (t.more ++ ys) i (letter_no_return t.first t.letter) (letter_begins q.last t.first t.letter)))
     (λ r j k. tag_name_moves r StartTag [] name ys t.bytes j))
 
-end_letter_begins : (last : List ℕ) (x : ℕ) → is_ascii_alphabetic x ≡ true → (turn references last EndTagOpen x).deed ≡ Again [] (TagName (tag_at EndTag [] [] Nothing))
+end_letter_begins : (last : List ℕ) (x : ℕ) → is_ascii_alphabetic x ≡ true → (turn references last EndTagOpen x).outcome ≡ Reconsumed [] (TagName (tag_at EndTag [] [] Nothing))
 end_letter_begins last x letter = rw letter refl
 
-pub end_opened : (p : Place) (name ys : List ℕ) → IsTagName name → IsIn p (Text Data) → Moves p (60 ∷ 47 ∷ (name ++ ys)) [] (after_name EndTag name) ys
+pub end_opened : (p : ReaderPlace) (name ys : List ℕ) → IsTagName name → IsIn p (Text Data) → Moves p (60 ∷ 47 ∷ (name ++ ys)) [] (after_name EndTag name) ys
 end_opened p name ys t h =
     let letters : name ++ ys ≡ t.first ∷ (t.more ++ ys) = ap (λ l. l ++ ys) t.is in
     moves_then (rows_move p (Text Data) EndTagOpen (60 ∷ 47 ∷ []) (name ++ ys) h refl)
@@ -100,18 +100,18 @@ abbrev state_before : Before → Tag → State
 state_before AfterName tag = TagName tag
 state_before AfterValue tag = AfterAttributeValueQuoted tag
 
-blank_row : (last : List ℕ) (b : Before) (tag : Tag) → (turn references last (state_before b tag) 32).deed ≡ Goes [] (BeforeAttributeName tag)
+blank_row : (last : List ℕ) (b : Before) (tag : Tag) → (turn references last (state_before b tag) 32).outcome ≡ Consumed [] (BeforeAttributeName tag)
 blank_row last AfterName tag = refl
 blank_row last AfterValue tag = refl
 
-first_row : (last : List ℕ) (tag : Tag) (x : ℕ) → NameByte x → (turn references last (BeforeAttributeName tag) x).deed ≡ Again [] (AttributeName (with_attribute [] tag))
+first_row : (last : List ℕ) (tag : Tag) (x : ℕ) → NameByte x → (turn references last (BeforeAttributeName tag) x).outcome ≡ Reconsumed [] (AttributeName (with_attribute [] tag))
 first_row last tag x n = rw (no_blank x n.blank, n.slash, n.greater, n.equals) refl
 
 attribute_row : (last : List ℕ) (name : List ℕ) (done : List AttributeText) (so_far : List ℕ) (x : ℕ) → NameByte x
-    → (turn references last (AttributeName (tag_at StartTag name done (attribute_at so_far []))) x).deed ≡ Goes [] (AttributeName (tag_at StartTag name done (attribute_at (so_far ++ x ∷ []) [])))
+    → (turn references last (AttributeName (tag_at StartTag name done (attribute_at so_far []))) x).outcome ≡ Consumed [] (AttributeName (tag_at StartTag name done (attribute_at (so_far ++ x ∷ []) [])))
 attribute_row last name done so_far x n = rw (no_blank x n.blank, n.slash, n.greater, n.equals, n.nul, n.lower) refl
 
-attribute_name_moves : (p : Place) (name : List ℕ) (done : List AttributeText) (so_far xs ys : List ℕ) → AreNameBytes xs → IsIn p (AttributeName (tag_at StartTag name done (attribute_at so_far [])))
+attribute_name_moves : (p : ReaderPlace) (name : List ℕ) (done : List AttributeText) (so_far xs ys : List ℕ) → AreNameBytes xs → IsIn p (AttributeName (tag_at StartTag name done (attribute_at so_far [])))
     → Moves p (xs ++ ys) [] (AttributeName (tag_at StartTag name done (attribute_at (so_far ++ xs) []))) ys
 attribute_name_moves p name done so_far [] ys names h = rw append-nil (stays p (AttributeName (tag_at StartTag name done (attribute_at so_far []))) ys h)
 attribute_name_moves p name done so_far (x ∷ xs) ys names h =
@@ -124,7 +124,7 @@ abbrev written_so : List ℕ → List ℕ → List ℕ → List ℕ
 written_so local value ys = 32 ∷ (local ++ 61 ∷ 34 ∷ (escape true value ++ 34 ∷ ys))
 
 -- one attribute
-attribute_moves : (p : Place) (b : Before) (tag : Tag) (name : List ℕ) (done : List AttributeText) (local value ys : List ℕ) → completed tag ≡ tag_at StartTag name done Nothing → IsName local → IsReadable value → IsIn p (state_before b tag)
+attribute_moves : (p : ReaderPlace) (b : Before) (tag : Tag) (name : List ℕ) (done : List AttributeText) (local value ys : List ℕ) → completed tag ≡ tag_at StartTag name done Nothing → IsName local → IsReadable value → IsIn p (state_before b tag)
     → Moves p (written_so local value ys) [] (state_before AfterValue (tag_at StartTag name done (attribute_at local value))) ys
 attribute_moves p b tag name done [] value ys complete names readable h = absurd names
 attribute_moves p b tag name done (x ∷ local) value ys complete names readable h =
@@ -134,20 +134,20 @@ attribute_moves p b tag name done (x ∷ local) value ys complete names readable
     let n = name_byte x names.0 in
     let begins : AttributeName (with_attribute [] tag) ≡ AttributeName begun = ap (λ (t : Tag). AttributeName (record t { current = attribute_at [] [] })) complete in
     moves_then (goes_by p (state_before b tag) (BeforeAttributeName tag) 32 [] ((x ∷ local) ++ behind) h refl (blank_row p.last b tag))
-    (λ q i l. moves_then (again_by q (BeforeAttributeName tag) (AttributeName begun) x [] (local ++ behind) i n.cr (first_row q.last tag x n ∙ ap (Again []) begins))
+    (λ q i l. moves_then (again_by q (BeforeAttributeName tag) (AttributeName begun) x [] (local ++ behind) i n.cr (first_row q.last tag x n ∙ ap (Reconsumed []) begins))
     (λ r j k. moves_then (attribute_name_moves r name done [] (x ∷ local) behind names j)
     (λ s u m. moves_then (rows_move s (AttributeName named) (AttributeValue (Quoted Double) named) (61 ∷ 34 ∷ []) (escape true value ++ 34 ∷ ys) u refl)
     (λ v w o. moves_then (text_reads v (InValue named) value 34 ys readable w)
     (λ a c d. rows_move a (AttributeValue (Quoted Double) (tag_at StartTag name done (attribute_at (x ∷ local) value))) (AfterAttributeValueQuoted (tag_at StartTag name done (attribute_at (x ∷ local) value))) (34 ∷ []) ys c refl)))))
 
 -- all of a tag's attributes were read
-record AttributesRead (p : Place) (name : List ℕ) (all : List AttributeText) (xs ys : List ℕ) : Type 0 where
+record AttributesRead (p : ReaderPlace) (name : List ℕ) (all : List AttributeText) (xs ys : List ℕ) : Type 0 where
   before : Before
   tag : Tag
   complete : completed tag ≡ tag_at StartTag name all Nothing
   moves : Moves p xs [] (state_before before tag) ys
 
-read_then : {p : Place} {name : List ℕ} {all : List AttributeText} {xs ys zs : List ℕ} {s : State} → Moves p xs [] s ys → ((q : Place) → IsIn q s → AttributesRead q name all ys zs) → AttributesRead p name all xs zs
+read_then : {p : ReaderPlace} {name : List ℕ} {all : List AttributeText} {xs ys zs : List ℕ} {s : State} → Moves p xs [] s ys → ((q : ReaderPlace) → IsIn q s → AttributesRead q name all ys zs) → AttributesRead p name all xs zs
 read_then first more =
     let m = more first.place first.is_in in
     record {
@@ -175,7 +175,7 @@ written_one a others ys h =
     append_assoc (attribute_written a) others ys ∙ ap (λ l. l ++ (others ++ ys)) (written_plain a h)
     ∙ ap (λ l. 32 ∷ l) (append_assoc local (61 ∷ 34 ∷ (value ++ 34 ∷ [])) (others ++ ys) ∙ ap (λ l. local ++ 61 ∷ 34 ∷ l) (append_assoc value (34 ∷ []) (others ++ ys)))
 
-attributes_move : (p : Place) (b : Before) (tag : Tag) (name : List ℕ) (done attrs : List AttributeText) (ys : List ℕ) → completed tag ≡ tag_at StartTag name done Nothing → ArePlain attrs → AreReadable attrs → repeats done attrs ≡ false → IsIn p (state_before b tag)
+attributes_move : (p : ReaderPlace) (b : Before) (tag : Tag) (name : List ℕ) (done attrs : List AttributeText) (ys : List ℕ) → completed tag ≡ tag_at StartTag name done Nothing → ArePlain attrs → AreReadable attrs → repeats done attrs ≡ false → IsIn p (state_before b tag)
     → AttributesRead p name (done ++ attrs) (flat_map attribute_written attrs ++ ys) ys
 attributes_move p b tag name done [] ys complete plain readable new h =
     record { before = b; tag = tag; complete = complete ∙ ap (λ l. tag_at StartTag name l Nothing) (sym (append-nil done)); moves = stays p (state_before b tag) ys h }
@@ -191,31 +191,31 @@ attributes_move p b tag name done (a ∷ attrs) ys complete plain readable new h
 -- ---- whole tags
 
 -- bytes are passed, and at one behind them this token is handed on
-pub record HandsToken (p : Place) (xs : List ℕ) (token : TokenText) (ys : List ℕ) : Type 0 where
-  pub place : Place
+pub record HandsToken (p : ReaderPlace) (xs : List ℕ) (token : TokenText) (ys : List ℕ) : Type 0 where
+  pub place : ReaderPlace
   pub byte : ℕ
   pub passes : Passes references p xs [] place (byte ∷ ys)
   pub kept : is_dropped place byte ≡ false
-  pub deed : deed references place byte ≡ Hands token (Text Data)
+  pub outcome : outcome references place byte ≡ Emitted token (Text Data)
   pub no_return : eqb byte 13 ≡ false
   pub last : place.last ≡ p.last
 
-pub handed : (p : Place) (xs : List ℕ) (s : State) (byte : ℕ) (token : TokenText) (ys : List ℕ) → eqb byte 13 ≡ false → ((last : List ℕ) → last ≡ p.last → (turn references last s byte).deed ≡ Hands token (Text Data)) → Moves p xs [] s (byte ∷ ys) → HandsToken p xs token ys
+pub handed : (p : ReaderPlace) (xs : List ℕ) (s : State) (byte : ℕ) (token : TokenText) (ys : List ℕ) → eqb byte 13 ≡ false → ((last : List ℕ) → last ≡ p.last → (turn references last s byte).outcome ≡ Emitted token (Text Data)) → Moves p xs [] s (byte ∷ ys) → HandsToken p xs token ys
 handed p xs s byte token ys c row m = record {
   place = m.place;
   byte = byte;
   passes = m.passes;
   kept = kept m.place s byte m.is_in;
-  deed = deed_at m.place s byte (Hands token (Text Data)) m.is_in c (row m.place.last m.last);
+  outcome = outcome_at m.place s byte (Emitted token (Text Data)) m.is_in c (row m.place.last m.last);
   no_return = c;
   last = m.last;
 }
 
-greater_row : (last : List ℕ) (b : Before) (tag : Tag) → (turn references last (state_before b tag) 62).deed ≡ Hands (token_of (completed tag)) (Text Data)
+greater_row : (last : List ℕ) (b : Before) (tag : Tag) → (turn references last (state_before b tag) 62).outcome ≡ Emitted (token_of (completed tag)) (Text Data)
 greater_row last AfterName tag = refl
 greater_row last AfterValue tag = refl
 
-pub start_handed : (p : Place) (name : List ℕ) (attrs : List AttributeText) (ys : List ℕ) → IsTagName name → ArePlain attrs → AreReadable attrs → IsIn p (Text Data) → HandsToken p (60 ∷ (tag_written name attrs ++ 62 ∷ ys)) (start_tag name attrs) ys
+pub start_handed : (p : ReaderPlace) (name : List ℕ) (attrs : List AttributeText) (ys : List ℕ) → IsTagName name → ArePlain attrs → AreReadable attrs → IsIn p (Text Data) → HandsToken p (60 ∷ (tag_written name attrs ++ 62 ∷ ys)) (start_tag name attrs) ys
 start_handed p name attrs ys t plain readable h =
     let written = flat_map attribute_written attrs in
     let read : AttributesRead p name attrs (60 ∷ (name ++ (written ++ 62 ∷ ys))) (62 ∷ ys) =
@@ -223,9 +223,9 @@ start_handed p name attrs ys t plain readable h =
     (λ q i. attributes_move q AfterName (tag_at StartTag name [] Nothing) name [] attrs (62 ∷ ys) refl plain readable (no_duplicates attrs plain) i) in
     subst (λ xs. HandsToken p (60 ∷ xs) (start_tag name attrs) ys) (sym (append_assoc name written (62 ∷ ys)))
     (handed p (60 ∷ (name ++ (written ++ 62 ∷ ys))) (state_before read.before read.tag) 62 (start_tag name attrs) ys refl
-    (λ last e. greater_row last read.before read.tag ∙ ap (λ (u : Tag). Hands (token_of u) (Text Data)) read.complete) read.moves)
+    (λ last e. greater_row last read.before read.tag ∙ ap (λ (u : Tag). Emitted (token_of u) (Text Data)) read.complete) read.moves)
 
-pub end_handed : (p : Place) (name ys : List ℕ) → IsTagName name → IsIn p (Text Data) → HandsToken p (60 ∷ 47 ∷ (name ++ 62 ∷ ys)) (end_tag name) ys
+pub end_handed : (p : ReaderPlace) (name ys : List ℕ) → IsTagName name → IsIn p (Text Data) → HandsToken p (60 ∷ 47 ∷ (name ++ 62 ∷ ys)) (end_tag name) ys
 end_handed p name ys t h =
     handed p (60 ∷ 47 ∷ (name ++ 62 ∷ ys)) (after_name EndTag name) 62 (end_tag name) ys refl (λ last e. refl) (end_opened p name (62 ∷ ys) t h)
 
@@ -233,18 +233,18 @@ end_handed p name ys t h =
 title_end_rows : rows (codes "title") (codes "</title") (Some (Text Rcdata)) ≡ Some (RawEndTagName raw.Rcdata (codes "title"))
 title_end_rows = refl
 
-title_end_row : (turn references (codes "title") (RawEndTagName raw.Rcdata (codes "title")) 62).deed ≡ Hands (end_tag (codes "title")) (Text Data)
+title_end_row : (turn references (codes "title") (RawEndTagName raw.Rcdata (codes "title")) 62).outcome ≡ Emitted (end_tag (codes "title")) (Text Data)
 title_end_row = refl
 
-pub title_end_handed : (p : Place) (ys : List ℕ) → IsIn p (Text Rcdata) → p.last ≡ codes "title" → HandsToken p (codes "</title>" ++ ys) (end_tag (codes "title")) ys
+pub title_end_handed : (p : ReaderPlace) (ys : List ℕ) → IsIn p (Text Rcdata) → p.last ≡ codes "title" → HandsToken p (codes "</title>" ++ ys) (end_tag (codes "title")) ys
 title_end_handed p ys h l =
     let behind_name = RawEndTagName raw.Rcdata (codes "title") in
     handed p (codes "</title>" ++ ys) behind_name 62 (end_tag (codes "title")) ys refl
-    (λ last e. ap (λ k. (turn references k behind_name 62).deed) (e ∙ l) ∙ title_end_row)
+    (λ last e. ap (λ k. (turn references k behind_name 62).outcome) (e ∙ l) ∙ title_end_row)
     (rows_move p (Text Rcdata) behind_name (codes "</title") (62 ∷ ys) h (ap (λ k. rows k (codes "</title") (Some (Text Rcdata))) l ∙ title_end_rows))
 
 -- the doctype
-pub doctype_handed : (p : Place) (ys : List ℕ) → IsIn p (Text Data) → HandsToken p (codes "<!DOCTYPE html>" ++ ys) plain_doctype ys
+pub doctype_handed : (p : ReaderPlace) (ys : List ℕ) → IsIn p (Text Data) → HandsToken p (codes "<!DOCTYPE html>" ++ ys) plain_doctype ys
 doctype_handed p ys h =
     let named = DoctypeName (new_doctype (codes "html")) in
     handed p (codes "<!DOCTYPE html>" ++ ys) named 62 plain_doctype ys refl (λ last e. refl)

@@ -8,13 +8,18 @@ use Rattle.h5_serialize.specs.Escape.{escape, escape_char}
 use Rattle.h5_serialize.proofs.EscapeLaws.{by_cases}
 use Rattle.h5_states.specs.Construction.{Attribute, Tag, value_further}
 use Rattle.h5_states.specs.Machine.{turn}
-use Rattle.h5_states.specs.Reading.{Place}
+use Rattle.h5_states.specs.Reading.{Passes, ReaderPlace}
+use Rattle.h5_states.specs.AtEnd.{at_end}
+use Rattle.h5_states.specs.End.{last_tokens}
+use Rattle.h5_states.specs.States.{NamedCharacterReference, ToData}
+use Rattle.h5_reading.specs.Told.{handed, told}
+use Rattle.h5_machine.proofs.MoreLaws.{passes_more}
 use Rattle.h5_states.specs.ReferenceTable.{references}
-use Rattle.h5_states.specs.Turn.{Goes}
+use Rattle.h5_states.specs.Turn.{Consumed}
 use Rattle.h5_round_trip.specs.Readable.{IsReadable}
-use Rattle.h5_round_trip.proofs.CharLaws.{AreFree, AreKept, IsFree, None, free_encode, kept, no_quote}
+use Rattle.h5_round_trip.proofs.CharLaws.{AreFree, AreKept, IsFree, None, byte_some, free_encode, kept, no_quote}
 use Rattle.h5_round_trip.proofs.standard.ReferenceLaws.{InData, InTitle, InValue, IsNamed, Where, amp_is_named, emitted, further, greater_is_named, less_is_named, nbsp_is_named, quote_is_named, reference_moves, state_of}
-use Rattle.h5_round_trip.proofs.standard.RunLaws.{IsIn, Moves, goes_by, moves_then, stays}
+use Rattle.h5_round_trip.proofs.standard.RunLaws.{IsIn, Moves, goes_by, moves_then, rows_move, stays}
 
 -- ---- a value that grows
 
@@ -47,16 +52,16 @@ emitted_none InTitle = refl
 emitted_none (InValue tag) = refl
 
 -- a text there is read: these bytes, before others
-abbrev Reads : Place → Where → List ℕ → List ℕ → List ℕ → Type 0
+abbrev Reads : ReaderPlace → Where → List ℕ → List ℕ → List ℕ → Type 0
 Reads p w xs text ys = Moves p xs (emitted w text) (state_of (further w text)) ys
 
-reads_then : (p : Place) (w : Where) (xs a b ys zs : List ℕ) → Reads p w xs a ys → ((q : Place) → IsIn q (state_of (further w a)) → Reads q (further w a) ys b zs) → Reads p w xs (a ++ b) zs
+reads_then : (p : ReaderPlace) (w : Where) (xs a b ys zs : List ℕ) → Reads p w xs a ys → ((q : ReaderPlace) → IsIn q (state_of (further w a)) → Reads q (further w a) ys b zs) → Reads p w xs (a ++ b) zs
 reads_then p w xs a b ys zs first more =
     subst (λ v. Moves p xs (emitted w (a ++ b)) (state_of v) zs) (further_twice w a b)
     (subst (λ t. Moves p xs t (state_of (further (further w a) b)) zs) (emitted_twice w a b)
     (moves_then first (λ q i l. more q i)))
 
-reads_none : (p : Place) (w : Where) (ys : List ℕ) → IsIn p (state_of w) → Reads p w ys [] ys
+reads_none : (p : ReaderPlace) (w : Where) (ys : List ℕ) → IsIn p (state_of w) → Reads p w ys [] ys
 reads_none p w ys h =
     subst (λ v. Moves p ys (emitted w []) (state_of v) ys) (sym (further_same w))
     (subst (λ t. Moves p ys t (state_of w) ys) (sym (emitted_none w)) (stays p (state_of w) ys h))
@@ -82,12 +87,12 @@ no_quote_further InData text xs h = tt
 no_quote_further InTitle text xs h = tt
 no_quote_further (InValue tag) text xs h = h
 
-free_row : (last : List ℕ) (w : Where) (x : ℕ) → IsFree x → NoQuote w (x ∷ []) → (turn references last (state_of w) x).deed ≡ Goes (emitted w (x ∷ [])) (state_of (further w (x ∷ [])))
+free_row : (last : List ℕ) (w : Where) (x : ℕ) → IsFree x → NoQuote w (x ∷ []) → (turn references last (state_of w) x).outcome ≡ Consumed (emitted w (x ∷ [])) (state_of (further w (x ∷ [])))
 free_row last InData x free quiet = rw (free.amp, free.lt, free.nul) refl
 free_row last InTitle x free quiet = rw (free.amp, free.lt, free.nul) refl
 free_row last (InValue tag) x free quiet = rw (quiet.0, free.amp, free.nul) refl
 
-free_reads : (p : Place) (w : Where) (bs ys : List ℕ) → AreFree bs → NoQuote w bs → IsIn p (state_of w) → Reads p w (bs ++ ys) bs ys
+free_reads : (p : ReaderPlace) (w : Where) (bs ys : List ℕ) → AreFree bs → NoQuote w bs → IsIn p (state_of w) → Reads p w (bs ++ ys) bs ys
 free_reads p w [] ys free quiet h = reads_none p w ys h
 free_reads p w (x ∷ bs) ys free quiet h =
     let front = no_quote_front w (x ∷ []) bs quiet in
@@ -110,7 +115,7 @@ unfolding encode_utf8
 hard_space = refl
 
 -- where something follows it
-char_reads : (p : Place) (w : Where) (c y : ℕ) (ys : List ℕ) → c ≢ 0 → c ≢ 13 → NoQuote w (escape_char (in_value w) c) → IsIn p (state_of w) → Reads p w (escape_char (in_value w) c ++ y ∷ ys) (encode_utf8 c) (y ∷ ys)
+char_reads : (p : ReaderPlace) (w : Where) (c y : ℕ) (ys : List ℕ) → c ≢ 0 → c ≢ 13 → NoQuote w (escape_char (in_value w) c) → IsIn p (state_of w) → Reads p w (escape_char (in_value w) c ++ y ∷ ys) (encode_utf8 c) (y ∷ ys)
 char_reads p w c y ys nul cr quiet h =
     by_cases (in_value w) c (λ l. NoQuote w l → Reads p w (l ++ y ∷ ys) (encode_utf8 c) (y ∷ ys))
     (λ e q. given (codes "amp;") (38 ∷ []) amp_is_named (of_ascii 38 (omega arith) c e))
@@ -138,7 +143,7 @@ escape_further InData text = refl
 escape_further InTitle text = refl
 escape_further (InValue tag) text = refl
 
-chars_read : (p : Place) (w : Where) (cs : List ℕ) (y : ℕ) (ys : List ℕ) → AreKept cs → NoQuote w (flat_map (escape_char (in_value w)) cs) → IsIn p (state_of w) → Reads p w (flat_map (escape_char (in_value w)) cs ++ y ∷ ys) (encode_utf8_all cs) (y ∷ ys)
+chars_read : (p : ReaderPlace) (w : Where) (cs : List ℕ) (y : ℕ) (ys : List ℕ) → AreKept cs → NoQuote w (flat_map (escape_char (in_value w)) cs) → IsIn p (state_of w) → Reads p w (flat_map (escape_char (in_value w)) cs ++ y ∷ ys) (encode_utf8_all cs) (y ∷ ys)
 chars_read p w [] y ys k quiet h = reads_none p w (y ∷ ys) h
 chars_read p w (c ∷ cs) y ys k quiet h =
     let one = escape_char (in_value w) c in
@@ -160,7 +165,129 @@ no_quote_written InTitle text = tt
 no_quote_written (InValue tag) text = no_quote text
 
 -- what was escaped is read back, where something follows it
-pub text_reads : (p : Place) (w : Where) (text : List ℕ) (y : ℕ) (ys : List ℕ) → IsReadable text → IsIn p (state_of w) → Moves p (escape (in_value w) text ++ y ∷ ys) (emitted w text) (state_of (further w text)) (y ∷ ys)
+pub text_reads : (p : ReaderPlace) (w : Where) (text : List ℕ) (y : ℕ) (ys : List ℕ) → IsReadable text → IsIn p (state_of w) → Moves p (escape (in_value w) text ++ y ∷ ys) (emitted w text) (state_of (further w text)) (y ∷ ys)
 text_reads p w text y ys r h =
     subst (λ t. Reads p w (escape (in_value w) text ++ y ∷ ys) t (y ∷ ys)) (encodes-chars text r.utf8)
     (chars_read p w (chars text) y ys (kept text r) (no_quote_written w text) h)
+
+-- ---- a text at the end of the input
+
+-- what was passed of it was emitted, and the rest, a reference without anything behind it, comes at the end
+pub record Ends (p : ReaderPlace) (xs text : List ℕ) : Type 0 where
+  pub front : List ℕ
+  pub back : List ℕ
+  pub place : ReaderPlace
+  pub passes : Passes references p xs front place []
+  pub held : last_tokens references place ≡ told back
+  pub whole : front ++ back ≡ text
+
+-- a reference is held there
+abbrev Holds : List ℕ → List ℕ → Type 0
+Holds name text = (q : ReaderPlace) → q.state ≡ NamedCharacterReference ToData name → last_tokens references q ≡ told text
+
+holds_amp : Holds (codes "amp;") (38 ∷ [])
+unfolding references
+holds_amp q e = ap (λ s. told (at_end references s).text ++ handed (at_end references s).token) e
+
+holds_nbsp : Holds (codes "nbsp;") (0xc2 ∷ 0xa0 ∷ [])
+unfolding references
+holds_nbsp q e = ap (λ s. told (at_end references s).text ++ handed (at_end references s).token) e
+
+holds_less : Holds (codes "lt;") (60 ∷ [])
+unfolding references
+holds_less q e = ap (λ s. told (at_end references s).text ++ handed (at_end references s).token) e
+
+holds_greater : Holds (codes "gt;") (62 ∷ [])
+unfolding references
+holds_greater q e = ap (λ s. told (at_end references s).text ++ handed (at_end references s).token) e
+
+holds_quote : Holds (codes "quot;") (34 ∷ [])
+unfolding references
+holds_quote q e = ap (λ s. told (at_end references s).text ++ handed (at_end references s).token) e
+
+none_held : (q : ReaderPlace) → IsIn q (state_of InData) → last_tokens references q ≡ []
+none_held q i = ap (λ s. told (at_end references s).text ++ handed (at_end references s).token) i.at
+
+-- the last character
+char_ends : (p : ReaderPlace) (c : ℕ) → c ≢ 0 → c ≢ 13 → IsIn p (state_of InData) → Ends p (escape_char false c) (encode_utf8 c)
+char_ends p c nul cr h =
+    by_cases false c (λ l. Ends p l (encode_utf8 c))
+    (λ e. given (codes "amp;") (38 ∷ []) amp_is_named holds_amp (of_ascii 38 (omega arith) c e))
+    (λ e. given (codes "nbsp;") (0xc2 ∷ 0xa0 ∷ []) nbsp_is_named holds_nbsp (hard_space ∙ ap encode_utf8 (sym e)))
+    (λ e. given (codes "lt;") (60 ∷ []) less_is_named holds_less (of_ascii 60 (omega arith) c e))
+    (λ e. given (codes "gt;") (62 ∷ []) greater_is_named holds_greater (of_ascii 62 (omega arith) c e))
+    (λ e. given (codes "quot;") (34 ∷ []) quote_is_named holds_quote (of_ascii 34 (omega arith) c e))
+    (λ amp less greater _.
+    let m = free_reads p InData (encode_utf8 c) [] (free_encode c nul cr amp less) tt h in
+    record {
+      front = encode_utf8 c;
+      back = [];
+      place = m.place;
+      passes = subst (λ l. Passes references p l (encode_utf8 c) m.place []) (append-nil (encode_utf8 c)) m.passes;
+      held = none_held m.place m.is_in;
+      whole = append-nil (encode_utf8 c);
+    })
+  where
+    given : (name text : List ℕ) → IsNamed name text → Holds name text → text ≡ encode_utf8 c → Ends p (38 ∷ name) (encode_utf8 c)
+    given name text named holds e =
+        let m = rows_move p (state_of InData) (NamedCharacterReference ToData name) (38 ∷ name) [] h (named.begins p.last InData) in
+        record {
+          front = [];
+          back = text;
+          place = m.place;
+          passes = subst (λ l. Passes references p l [] m.place []) (append-nil (38 ∷ name)) m.passes;
+          held = holds m.place m.is_in.at;
+          whole = e;
+        }
+
+-- something is written of a character
+record IsWritten (xs : List ℕ) : Type 0 where
+  first : ℕ
+  more : List ℕ
+  split : xs ≡ first ∷ more
+
+byte_written : (xs : List ℕ) → (xs ≡ [] → ⊥) → IsWritten xs
+byte_written [] h = absurd (h refl)
+byte_written (x ∷ xs) h = record { first = x; more = xs; split = refl }
+
+char_written : (c : ℕ) → IsWritten (escape_char false c)
+char_written c =
+    by_cases false c IsWritten
+    (λ e. record { first = 38; more = codes "amp;"; split = refl })
+    (λ e. record { first = 38; more = codes "nbsp;"; split = refl })
+    (λ e. record { first = 38; more = codes "lt;"; split = refl })
+    (λ e. record { first = 38; more = codes "gt;"; split = refl })
+    (λ e. record { first = 38; more = codes "quot;"; split = refl })
+    (λ amp less greater _. byte_written (encode_utf8 c) (byte_some c))
+
+-- characters
+chars_end : (p : ReaderPlace) (c : ℕ) (cs : List ℕ) → AreKept (c ∷ cs) → IsIn p (state_of InData) → Ends p (flat_map (escape_char false) (c ∷ cs)) (encode_utf8_all (c ∷ cs))
+chars_end p c [] k h =
+    subst (λ l. Ends p l (encode_utf8_all (c ∷ []))) (sym (append-nil (escape_char false c)))
+    (subst (λ l. Ends p (escape_char false c) l) (sym (append-nil (encode_utf8 c))) (char_ends p c k.0 k.1.0 h))
+chars_end p c (d ∷ cs) k h =
+    let one = escape_char false c in
+    let others = flat_map (escape_char false) (d ∷ cs) in
+    let w = char_written d in
+    let split : others ≡ w.first ∷ (w.more ++ flat_map (escape_char false) cs) = ap (λ l. l ++ flat_map (escape_char false) cs) w.split in
+    let m : Reads p InData (one ++ others) (encode_utf8 c) others =
+    subst (λ zs. Reads p InData (one ++ zs) (encode_utf8 c) zs) (sym split) (char_reads p InData c w.first (w.more ++ flat_map (escape_char false) cs) k.0 k.1.0 tt h) in
+    let r = chars_end m.place d cs k.1.1 m.is_in in
+    record {
+      front = encode_utf8 c ++ r.front;
+      back = r.back;
+      place = r.place;
+      passes = passes_more m.passes r.passes;
+      held = r.held;
+      whole = append_assoc (encode_utf8 c) r.front r.back ∙ ap (λ l. encode_utf8 c ++ l) r.whole;
+    }
+
+pub text_ends : (p : ReaderPlace) (x : ℕ) (words : List ℕ) → IsReadable (x ∷ words) → IsIn p (state_of InData) → Ends p (escape false (x ∷ words)) (x ∷ words)
+text_ends p x words r h = at (chars (x ∷ words)) refl (kept (x ∷ words) r)
+  where
+    at : (cs : List ℕ) → chars (x ∷ words) ≡ cs → AreKept (chars (x ∷ words)) → Ends p (escape false (x ∷ words)) (x ∷ words)
+    at [] e k = absurd (let none : [] ≡ x ∷ words = sym (ap encode_utf8_all e) ∙ encodes-chars (x ∷ words) r.utf8 in cc)
+    at (c ∷ cs) e k =
+        subst (λ l. Ends p (flat_map (escape_char false) l) (x ∷ words)) (sym e)
+        (subst (λ t. Ends p (flat_map (escape_char false) (c ∷ cs)) t) (ap encode_utf8_all (sym e) ∙ encodes-chars (x ∷ words) r.utf8)
+        (chars_end p c cs (subst AreKept e k) h))

@@ -1,15 +1,18 @@
 //! The laws of reading by the standard, each the contract of a function that does nothing.
-ghost use Rattle.std.specs.Prelude.{List};
+ghost use Rattle.std.specs.Prelude.{◌≡◌, List, [], ◌∷◌, false, true};
+ghost use Rattle.h5_token.specs.TokenText.{EndOfFile, TokenText};
+ghost use Rattle.h5_token.specs.Joins.{join};
+ghost use Rattle.h5_round_trip.specs.Fragment.{AnswersCuts};
 ghost use Rattle.h5_reading.specs.Options.{default_options};
 ghost use Rattle.h5_tokenizer.specs.Options as plain;
 ghost use Rattle.h5_tokenizer.specs.Whole as plain_reader;
 ghost use Rattle.h5_states.specs.ReferenceTable.{references};
 ghost use Rattle.h5_states.specs.Whole.{ReadsToEnd};
 ghost use Rattle.h5_standard.specs.Options.{first_place};
-ghost use Rattle.h5_plain.specs.Plain.{PlainDocument, document_tokens};
+ghost use Rattle.h5_plain.specs.Plain.{Flow, IsPlain, Nodes, PlainDocument, document_tokens, nothing_open, tokens_before};
 ghost use Rattle.h5_round_trip.specs.Answers.{Answers};
-ghost use Rattle.h5_round_trip.specs.Readable.{IsReadableDocument};
-ghost use Rattle.h5_round_trip.specs.Written.{written_of};
+ghost use Rattle.h5_round_trip.specs.Readable.{CanBeRead, IsReadableDocument};
+ghost use Rattle.h5_round_trip.specs.Written.{written_before, written_of};
 ghost use Rattle.h5_round_trip.specs.Markup.{AreMarks, Mark, page_tokens, written_page};
 
 use h5_token::TokenSink;
@@ -29,4 +32,12 @@ pub fn markup_is_read_alike<S: TokenSink>()
     ensures { (marks : List Mark) (m : S.Meaning) → AreMarks marks → Answers S.reply_to S.after m (page_tokens marks)
         → ((n : S.Meaning) × plain_reader.ReadsToEnd S.reply_to S.after S.is_foreign S.ended (plain.first_place default_options) m (written_page marks) (page_tokens marks) n)
         × ((n : S.Meaning) × ReadsToEnd references S.reply_to S.after S.is_foreign S.ended (first_place default_options) m (written_page marks) (page_tokens marks) n) }
+{}
+
+/// The text of a fragment is read by the standard's states as the fragment's tokens, but that a text at its end may come in two parts,
+/// over a taker that answers as a builder does.
+pub fn fragments_are_read<S: TokenSink>()
+    ensures { (nodes : Nodes) (m : S.Meaning) → IsPlain true (Flow false nothing_open) nodes → CanBeRead nodes → AnswersCuts S.reply_to → Answers S.reply_to S.after m (tokens_before nodes (EndOfFile ∷ []))
+        → (tokens : List TokenText) × ((join tokens ≡ join (tokens_before nodes (EndOfFile ∷ [])))
+        × ((n : S.Meaning) × ReadsToEnd references S.reply_to S.after S.is_foreign S.ended (first_place default_options) m (written_before nodes []) tokens n)) }
 {}

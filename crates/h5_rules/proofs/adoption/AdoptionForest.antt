@@ -22,7 +22,7 @@ use Rattle.h5_rules.proofs.entries.EachLaws.{each_more}
 use Rattle.h5_rules.specs.formatting.Adoption.{FormattingElement, FurthestBlock, newer_than, older_than}
 use Rattle.h5_rules.proofs.entries.PairLaws.{before_across, before_first, before_second, in_right}
 use Rattle.h5_rules.proofs.entries.PassLaws.{furthest_block_at, ordered_distinct, stack_split}
-use Rattle.h5_tag_sets.specs.TagSets.{is_special}
+use Rattle.h5_tables.specs.TagSets.{is_special}
 use Rattle.h5_rules.specs.formatting.AdoptionAgency.{IsLoose, MayAdopt, make_for, wrapped, KeepsKinds}
 use Rattle.h5_rules.specs.Sound.{AllStand, RootIsTop, Stands}
 use Rattle.h5_rules.specs.World.{World, name_in, name_of_found}

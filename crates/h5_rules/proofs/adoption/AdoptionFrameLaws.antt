@@ -8,7 +8,7 @@ use Rattle.h5_interface.specs.Changes.{mark}
 use Rattle.h5_interface.specs.Forest.{ElementNode, Forest}
 use Rattle.h5_interface.specs.SinkChoices.{SinkChoices}
 use Rattle.h5_interface.proofs.ForestLaws.{node_of_kind}
-use Rattle.h5_tag_sets.specs.TagSets.{is_default_scope, is_html_named, is_special}
+use Rattle.h5_tables.specs.TagSets.{is_default_scope, is_html_named, is_special}
 use Rattle.h5_rules.specs.formatting.Adoption.{FormattingElement, FurthestBlock, furthest_block, newer_than, newest_named, older_than, to_clone, without_node}
 use Rattle.h5_rules.specs.formatting.FormattingList.{Entry, nodes_of, without_entry}
 use Rattle.h5_rules.specs.formatting.FormattingNames.{html_name}

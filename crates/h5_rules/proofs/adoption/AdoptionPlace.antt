@@ -16,7 +16,7 @@ use Rattle.h5_interface.proofs.ChildLaws.{count-append}
 use Rattle.h5_interface.proofs.ForestLaws.{rearranged_ancestor, rearranged_node, at_parent}
 use Rattle.h5_interface.proofs.HangingLaws.{detach_rearranges, detached_parent}
 use Rattle.h5_interface.proofs.RehangLaws.{Rehangs}
-use Rattle.h5_tag_sets.specs.TagSets.{html_namespace, is_default_scope, is_html_named, is_special, is_table_outer, scope_names, special_names}
+use Rattle.h5_tables.specs.TagSets.{html_namespace, is_default_scope, is_html_named, is_special, is_table_outer, scope_names, special_names}
 use Rattle.h5_rules.specs.formatting.Adoption.{FormattingElement, FurthestBlock, block_or, furthest_block, newer_than, newest_named, older_than}
 use Rattle.h5_rules.specs.formatting.FormattingList.{ElementEntry, Entry, MarkerEntry, nodes_of}
 use Rattle.h5_rules.specs.formatting.FormattingNames.{IsOfTag}

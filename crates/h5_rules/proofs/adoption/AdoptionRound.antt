@@ -10,7 +10,7 @@ use Rattle.h5_interface.specs.NewElement.{is_html_template}
 use Rattle.h5_interface.specs.SinkChoices.{SinkChoices}
 use Rattle.h5_interface.proofs.AncestorLaws.{ancestor_trans, at_or_above_trans}
 use Rattle.h5_interface.proofs.ForestLaws.{child_is_node, node_of_kind, there_alike}
-use Rattle.h5_tag_sets.specs.TagSets.{formatting_names, is_one_of, is_special}
+use Rattle.h5_tables.specs.TagSets.{formatting_names, is_one_of, is_special}
 use Rattle.h5_rules.specs.formatting.Adoption.{FormattingElement, FurthestBlock, IsCloneOf, adopted_at, clones_wanted_at, newer_than, older_than, round_stack, to_clone}
 use Rattle.h5_rules.specs.formatting.FormattingList.{EachEntry, ElementEntry, Entry, MarkerEntry, nodes_of}
 use Rattle.h5_rules.specs.formatting.FormattingNames.{AllFormatting, AllOfTags, IsOfTag, IsPlain, html_name}

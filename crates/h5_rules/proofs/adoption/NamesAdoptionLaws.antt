@@ -3,7 +3,7 @@ use Rattle.std.proofs.Common.{◌≡◌, ◌≤◌, Bool, false, List, [], ◌�
 use Rattle.std.specs.List.{list_any}
 use Rattle.std.proofs.lemmas.List.{map-append}
 use Rattle.h5_names.specs.declared.qualified.QualName.{QualName}
-use Rattle.h5_tag_sets.specs.TagSets.{is_default_scope, is_special}
+use Rattle.h5_tables.specs.TagSets.{is_default_scope, is_special}
 use Rattle.h5_rules.specs.fitting.Contexts.{Under}
 use Rattle.h5_rules.specs.fitting.Floors.{Grounded}
 use Rattle.h5_rules.specs.fitting.Frames.{AllPlain, Frame}

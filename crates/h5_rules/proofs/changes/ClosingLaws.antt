@@ -7,7 +7,7 @@ use Rattle.h5_names.specs.declared.qualified.QualName.{QualName}
 use Rattle.h5_interface.specs.Changes.{mark}
 use Rattle.h5_interface.specs.SinkChoices.{SinkChoices}
 use Rattle.h5_interface.proofs.MakingLaws.{mark_rearranges}
-use Rattle.h5_tag_sets.specs.TagSets.{block_end_names, heading_names, html_namespace, implied_names, is_button_scope, is_heading, is_html_named, is_implied, is_one_of, is_thorough_implied, thorough_implied_names}
+use Rattle.h5_tables.specs.TagSets.{block_end_names, heading_names, html_namespace, implied_names, is_button_scope, is_heading, is_html_named, is_implied, is_one_of, is_thorough_implied, thorough_implied_names}
 use Rattle.h5_rules.specs.formatting.FormattingNames.{html_name}
 use Rattle.h5_rules.specs.stack.Order.{but_first}
 use Rattle.h5_rules.specs.stack.Scope.{cut_names, drop_while, first_passes, in_scope, is_implied_but, later_names}
@@ -15,7 +15,7 @@ use Rattle.h5_rules.proofs.BoolLaws.{and_both, and_not, or_neither}
 use Rattle.h5_rules.proofs.roles.RoleLaws.{made_named}
 use Rattle.h5_rules.proofs.roles.SetLaws.{in_set}
 use Rattle.h5_rules.specs.Changes.{generate_implied_end_except, pop, pop_while}
-use Rattle.h5_rules.specs.stack.Closing.{close_p_element, generate_implied_end, generate_implied_end_thoroughly, pop_heading, pop_until_heading}
+use Rattle.h5_rules.specs.stack.Closing.{close_p_element, generate_implied_end_tags, generate_implied_end_thoroughly, pop_heading, pop_until_heading}
 use Rattle.h5_rules.specs.Sound.{Sound}
 use Rattle.h5_rules.specs.World.{World, current, names_of}
 use Rattle.h5_rules.proofs.changes.NameLaws.{cut_map, names-cut, names-implied, names_while}
@@ -59,10 +59,6 @@ pub block_not_implied : (local : List ℕ) → is_one_of block_end_names local �
 unfolding implied_names block_end_names
 block_not_implied local is_block n h = named_not_implied block_end_names local n refl is_block h
 
-heading_named_not_implied : (local : List ℕ) → is_one_of heading_names local ≡ true → (n : QualName) → is_implied n ≡ true → is_html_named local n ≡ false
-unfolding implied_names heading_names
-heading_named_not_implied local heading n h = named_not_implied heading_names local n refl heading h
-
 -- neither a template nor the root has an implied end tag, however thoroughly they are generated
 named_not_thorough : (local : List ℕ) (n : QualName) → list_any (is_one_of thorough_implied_names) (local ∷ []) ≡ false → is_thorough_implied n ≡ true → is_html_named local n ≡ false
 unfolding is_thorough_implied
@@ -88,8 +84,8 @@ cut_dropped is popped apart (n ∷ ns) = at (popped n) refl (cut_dropped is popp
     at false e later = refl
 
 -- names after closing
-pub names-all_implied : (choices : SinkChoices) (w : World) → names_of (generate_implied_end choices w) ≡ drop_while is_implied (names_of w)
-unfolding generate_implied_end
+pub names-all_implied : (choices : SinkChoices) (w : World) → names_of (generate_implied_end_tags choices w) ≡ drop_while is_implied (names_of w)
+unfolding generate_implied_end_tags
 names-all_implied choices w = names_while choices is_implied (names_of w) w refl
 
 pub names-thorough_implied : (choices : SinkChoices) (w : World) → names_of (generate_implied_end_thoroughly choices w) ≡ drop_while is_thorough_implied (names_of w)
@@ -126,28 +122,6 @@ still_in_scope is stop popped apart (n ∷ ns) h = at (popped n) refl (still_in_
     at : (b : Bool) → popped n ≡ b → (in_scope is stop ns ≡ true → in_scope is stop (drop_while popped ns) ≡ true) → in_scope is stop (cond b (drop_while popped ns) (n ∷ ns)) ≡ true
     at false e f = h
     at true e f = f (past (is n) (stop n) (apart n e) h)
-
--- a current node that isn't popped stays the current node
-stays_current : (is popped : QualName → Bool) → ((n : QualName) → popped n ≡ true → is n ≡ false) → (ns : List QualName) → first_passes is ns ≡ true → first_passes is (drop_while popped ns) ≡ true
-stays_current is popped apart [] h = h
-stays_current is popped apart (n ∷ ns) h = at (popped n) refl
-  where
-    at : (b : Bool) → popped n ≡ b → first_passes is (cond b (drop_while popped ns) (n ∷ ns)) ≡ true
-    at true e = absurd (let other = apart n e in cc)
-    at false e = h
-
-pub p_stays_current : (choices : SinkChoices) (w : World) → first_passes (is_html_named (codes "p")) (names_of w) ≡ true → first_passes (is_html_named (codes "p")) (names_of (generate_implied_end_except choices (codes "p") w)) ≡ true
-p_stays_current choices w h =
-    ap (first_passes (is_html_named (codes "p"))) (names-implied choices (codes "p") w)
-    ∙ stays_current (is_html_named (codes "p")) (is_implied_but (codes "p")) (λ n e. (and_not (is_implied n) (is_html_named (codes "p") n) e).1) (names_of w) h
-
-pub block_stays_current : (choices : SinkChoices) (local : List ℕ) (w : World) → is_one_of block_end_names local ≡ true → first_passes (is_html_named local) (names_of w) ≡ true → first_passes (is_html_named local) (names_of (generate_implied_end choices w)) ≡ true
-block_stays_current choices local w is_block h =
-    ap (first_passes (is_html_named local)) (names-all_implied choices w) ∙ stays_current (is_html_named local) is_implied (block_not_implied local is_block) (names_of w) h
-
-pub heading_stays_current : (choices : SinkChoices) (local : List ℕ) (w : World) → is_one_of heading_names local ≡ true → first_passes (is_html_named local) (names_of w) ≡ true → first_passes (is_html_named local) (names_of (generate_implied_end choices w)) ≡ true
-heading_stays_current choices local w heading h =
-    ap (first_passes (is_html_named local)) (names-all_implied choices w) ∙ stays_current (is_html_named local) is_implied (heading_named_not_implied local heading) (names_of w) h
 
 -- a `p` that was just made is in scope
 pub new_p_in_scope : (ns : List QualName) → in_scope (is_html_named (codes "p")) is_button_scope (html_name (codes "p") ∷ ns) ≡ true

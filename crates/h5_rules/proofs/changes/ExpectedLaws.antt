@@ -2,13 +2,13 @@
 use Rattle.std.proofs.Common.{◌≡◌, ◌<◌, ◌≤◌, ◌&&◌, ℕ, Bool, true, false, cond, not, List, [], ◌∷◌, Option, None, Some, codes, refl, ap, ◌∙◌, arith}
 use Rattle.h5_names.specs.declared.qualified.QualName.{QualName}
 use Rattle.h5_interface.specs.SinkChoices.{SinkChoices}
-use Rattle.h5_tag_sets.specs.TagSets.{is_html_named, is_implied}
+use Rattle.h5_tables.specs.TagSets.{is_html_named, is_implied}
 use Rattle.h5_rules.specs.Changes.{generate_implied_end_except, pop, pop_while}
 use Rattle.h5_rules.specs.formatting.Formatting.{insert_anew, names_anew, names_made_anew, reconstruct_active_formatting_elements}
 use Rattle.h5_rules.specs.formatting.FormattingList.{ElementEntry, Entry, MarkerEntry, closed_front}
 use Rattle.h5_rules.specs.formatting.FormattingNames.{html_name}
 use Rattle.h5_rules.specs.Sound.{Sound}
-use Rattle.h5_rules.specs.stack.Closing.{close_item, close_list_item, close_p_element, close_p_element_in_button_scope, generate_implied_end, newest_item}
+use Rattle.h5_rules.specs.stack.Closing.{close_item, close_list_item, close_p_element, close_p_element_in_button_scope, generate_implied_end_tags, newest_item}
 use Rattle.h5_rules.specs.stack.Expected.{first_is, is_expected, is_expected_item, is_expected_named, is_expected_node, is_expected_p, names_behind, names_behind_item, names_behind_named, names_behind_p}
 use Rattle.h5_rules.specs.stack.Order.{but_first}
 use Rattle.h5_rules.specs.stack.Scope.{cut_above, cut_names, drop_while, first_passes, has_p_in_button_scope, is_implied_but}
@@ -17,24 +17,6 @@ use Rattle.h5_rules.proofs.changes.ClosingLaws.{names-close_p}
 use Rattle.h5_rules.proofs.changes.FormattingLaws.{sound_anew}
 use Rattle.h5_rules.proofs.changes.NameLaws.{names-cut, names-implied, names-insert}
 use Rattle.h5_rules.proofs.changes.PopLaws.{pop_stack}
-
--- the names behind a `p` that was closed, where one was
-pub names-close_p_in_scope : (choices : SinkChoices) (w : World) → names_of (close_p_element_in_button_scope choices w) ≡ names_behind_p (names_of w)
-unfolding close_p_element_in_button_scope names_behind_p
-names-close_p_in_scope choices w = at (has_p_in_button_scope (names_of w))
-  where
-    at : (b : Bool) → names_of (cond b (close_p_element choices w) w) ≡ cond b (names_behind (is_implied_but (codes "p")) (is_html_named (codes "p")) (names_of w)) (names_of w)
-    at true = names-close_p choices w
-    at false = refl
-
--- and behind an item
-pub names-close_list_item : (choices : SinkChoices) (locals : List (List ℕ)) (w : World) → names_of (close_list_item choices locals w) ≡ names_behind_item locals (names_of w)
-unfolding close_list_item names_behind_item
-names-close_list_item choices locals w = at (newest_item locals (names_of w))
-  where
-    at : (o : Option (List ℕ)) → names_of (close_item choices o w) ≡ names_behind_named o (names_of w)
-    at None = refl
-    at (Some local) = names-cut local (generate_implied_end_except choices local w) ∙ ap (cut_names (is_html_named local)) (names-implied choices local w)
 
 -- what stays open where none is closed
 pub no_p_expected : (names : List QualName) → has_p_in_button_scope names ≡ false → is_expected_p names ≡ true
@@ -66,8 +48,8 @@ while_stack choices p (n ∷ ns) w =
       | false ↦ refl
     ]
 
-pub first_implied : (choices : SinkChoices) (n : ℕ) (w : World) → first_is n (generate_implied_end choices w).stack ≡ is_expected_node n (names_of w) w.stack
-unfolding generate_implied_end is_expected_node
+pub first_implied : (choices : SinkChoices) (n : ℕ) (w : World) → first_is n (generate_implied_end_tags choices w).stack ≡ is_expected_node n (names_of w) w.stack
+unfolding generate_implied_end_tags is_expected_node
 first_implied choices n w = ap (first_is n) (while_stack choices is_implied (names_of w) w)
 
 -- elements made anew stand on those that were open

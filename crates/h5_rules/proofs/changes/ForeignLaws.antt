@@ -21,7 +21,7 @@ use Rattle.h5_rules.proofs.changes.SoundLaws.{all_rearranged}
 use Rattle.h5_rules.proofs.changes.TreeLaws.{OnlyTree, tree_pop, tree_then}
 use Rattle.h5_interface.specs.Forest.{Forest}
 use Rattle.h5_rules.specs.stack.Order.{but_first}
-use Rattle.h5_tag_sets.specs.TagSets.{html_namespace, mathml_namespace, svg_namespace}
+use Rattle.h5_tables.specs.TagSets.{html_namespace, mathml_namespace, svg_namespace}
 use Rattle.h5_rules.specs.fitting.NamesFit.{is_html_element}
 
 -- MathML and SVG aren't HTML

@@ -5,7 +5,7 @@ use Rattle.h5_token.specs.TokenText.{TagText}
 use Rattle.h5_interface.specs.Forest.{Forest, IsNode}
 use Rattle.h5_interface.specs.SinkChoices.{Rearranges, SinkChoices}
 use Rattle.h5_interface.proofs.ForestLaws.{rearranged_node}
-use Rattle.h5_tag_sets.specs.TagSets.{formatting_names, is_one_of}
+use Rattle.h5_tables.specs.TagSets.{formatting_names, is_one_of}
 use Rattle.h5_rules.specs.formatting.FormattingList.{ElementEntry, Entry, MarkerEntry, after_marker, closed_front, made_anew, nodes_of, push_formatting, reconstructed}
 use Rattle.h5_rules.specs.formatting.FormattingNames.{AllFormatting, AllOfTags, IsOfTag, html_name}
 use Rattle.h5_rules.specs.formatting.Fresh.{AreFresh}

@@ -6,7 +6,7 @@ use Rattle.h5_interface.specs.Forest.{ElementNode, Forest, FragmentNode, IsEleme
 use Rattle.h5_interface.specs.SinkChoices.{Rearranges}
 use Rattle.h5_interface.proofs.ForestLaws.{rearranges_refl}
 use Rattle.h5_interface.proofs.HangingLaws.{detach_rearranges}
-use Rattle.h5_tag_sets.specs.TagSets.{is_html_named}
+use Rattle.h5_tables.specs.TagSets.{is_html_named}
 use Rattle.h5_rules.specs.formatting.FormattingList.{Entry}
 use Rattle.h5_rules.specs.formatting.Lists.{Lists}
 use Rattle.h5_rules.specs.stack.Order.{Distinct, IsIn, second_from_last}

@@ -7,7 +7,7 @@ use Rattle.h5_interface.specs.Forest.{ChildText, Forest, parent_of}
 use Rattle.h5_interface.specs.SinkChoices.{Rearranges, SinkChoices}
 use Rattle.h5_interface.proofs.ForestLaws.{document_is_node}
 use Rattle.h5_interface.proofs.MakingLaws.{add_missing_rearranges, mark_rearranges}
-use Rattle.h5_tag_sets.specs.TagSets.{is_cell, is_default_scope, is_heading, is_html_named, is_implied, is_thorough_implied}
+use Rattle.h5_tables.specs.TagSets.{is_cell, is_default_scope, is_heading, is_html_named, is_implied, is_thorough_implied}
 use Rattle.h5_rules.specs.formatting.FormattingList.{MarkerEntry, clear_to_marker}
 use Rattle.h5_rules.specs.formatting.FormattingNames.{html_name}
 use Rattle.h5_rules.specs.stack.Order.{second_from_last}
@@ -18,7 +18,7 @@ use Rattle.h5_rules.proofs.entries.KeptListsLaws.{lists_cleared, lists_marked, l
 use Rattle.h5_rules.proofs.entries.PassLaws.{lists_cut_above, ordered_distinct}
 use Rattle.h5_rules.specs.insertion.FormOwner.{Marking}
 use Rattle.h5_rules.specs.Changes.{add_attrs_at, add_attrs_to_html, add_attrs_to_second, append_comment, append_comment_to_doc, append_comment_to_html, append_pending_text, append_text, create_root, generate_implied_end_except, insert_and_pop_element, insert_and_pop_form, insert_element, insert_form, insert_head, insert_script, mark_started, new_comment, new_element, owned, pop, pop_until_current, pop_until_named, push_new, remove_body, set_frameset_ok_by_text, set_quirks_mode, starts_marked, with_forest}
-use Rattle.h5_rules.specs.stack.Closing.{close_item, close_list_item, close_p_element, close_p_element_in_button_scope, generate_implied_end, generate_implied_end_in_select, generate_implied_end_thoroughly, newest_item, pop_heading, pop_until_cell, pop_until_heading}
+use Rattle.h5_rules.specs.stack.Closing.{close_item, close_list_item, close_p_element, close_p_element_in_button_scope, generate_implied_end_tags, generate_implied_end_in_select, generate_implied_end_thoroughly, newest_item, pop_heading, pop_until_cell, pop_until_heading}
 use Rattle.h5_rules.specs.formatting.Formatting.{clear_active_formatting_to_marker, insert_marker, reconstruct_active_formatting_elements}
 use Rattle.h5_rules.specs.insertion.Place.{IsPlaceIn, LastChild, Place, place, put}
 use Rattle.h5_rules.specs.Rows.{AddAttrsToHtml, AddAttrsToSecond, AdoptionAgency, AppendComment, AppendCommentToDoc, AppendCommentToHtml, AppendPendingText, AppendText, Change, ClearActiveFormattingToMarker, ClearForm, CloseListItem, ClosePElement, ClosePElementInButtonScope, CopyClosedOption, CreateFormattingElement, CreateRoot, GenerateImpliedEnd, GenerateImpliedEndExcept, GenerateImpliedEndInSelect, GenerateImpliedEndThoroughly, HandleMisnestedATags, HandleMisnestedNobrTags, InsertAndPopElement, InsertAndPopForeignElement, InsertAndPopForm, InsertElement, InsertForeignElement, InsertForm, InsertHead, InsertMarker, InsertScript, InsertTemplate, LeaveForeignContent, MarkStarted, Pop, PopHeading, PopTemplateMode, PopUntilCell, PopUntilCurrent, PopUntilHeading, PopUntilNamed, PopUntilNamedInAnyCase, PushHead, PushTemplateMode, ReconstructActiveFormattingElements, RemoveBody, RemoveFromStack, ResetMode, SaveMode, SetFoster, SetFramesetNotOk, SetFramesetOkByText, SetIgnoreLf, SetMode, SetQuirksMode, SwitchTemplateMode, TakePendingText, apply, apply_all}
@@ -208,8 +208,8 @@ module _ (choices : SinkChoices) (w : World) (k : IsSteady w) where
   steady_implied_except : (local : List ℕ) → IsSteady (generate_implied_end_except choices local w)
   steady_implied_except local = kept_steady w _ (implied_keeps choices local w k.sound k.lists)
 
-  steady_implied : IsSteady (generate_implied_end choices w)
-  unfolding generate_implied_end
+  steady_implied : IsSteady (generate_implied_end_tags choices w)
+  unfolding generate_implied_end_tags
   steady_implied = kept_steady w _ (while_keeps choices is_implied (names_of w) w k.sound k.lists)
 
   pub steady_implied_thoroughly : IsSteady (generate_implied_end_thoroughly choices w)
@@ -222,7 +222,7 @@ module _ (choices : SinkChoices) (w : World) (k : IsSteady w) where
 
   steady_in_select : IsSteady (generate_implied_end_in_select choices w)
   unfolding generate_implied_end_in_select
-  steady_in_select = steady_if (in_scope (is_html_named (codes "select")) is_default_scope (names_of w)) (generate_implied_end choices w) w steady_implied k
+  steady_in_select = steady_if (in_scope (is_html_named (codes "select")) is_default_scope (names_of w)) (generate_implied_end_tags choices w) w steady_implied k
 
   -- active formatting elements
   steady_reconstruct : IsSteady (reconstruct_active_formatting_elements choices w)

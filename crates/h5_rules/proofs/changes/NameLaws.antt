@@ -6,7 +6,7 @@ use Rattle.h5_interface.specs.Forest.{ChildText, Forest, IsElement}
 use Rattle.h5_interface.specs.SinkChoices.{Rearranges, SinkChoices}
 use Rattle.h5_interface.proofs.ForestLaws.{document_is_node}
 use Rattle.h5_interface.proofs.MakingLaws.{add_missing_rearranges}
-use Rattle.h5_tag_sets.specs.TagSets.{is_cell, is_html_named}
+use Rattle.h5_tables.specs.TagSets.{is_cell, is_html_named}
 use Rattle.h5_rules.specs.insertion.FormOwner.{Marking}
 use Rattle.h5_rules.specs.Changes.{owned, add_attrs_to_html, add_attrs_to_second, add_attrs_at, append_text, append_comment, append_comment_to_doc, append_comment_to_html, pop_until_named, generate_implied_end_except, insert_and_pop_element, insert_and_pop_form, insert_element, insert_head, create_root, new_element, pop, pop_until_current, pop_while, push_new}
 use Rattle.h5_rules.specs.stack.Closing.{pop_until_cell}

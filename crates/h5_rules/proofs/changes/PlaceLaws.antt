@@ -15,7 +15,7 @@ use Rattle.h5_interface.proofs.HangingLaws.{append_text_rearranges, insert_text_
 use Rattle.h5_interface.proofs.MakingLaws.{hung_fresh_rearranges, make_element_rearranges, make_rearranges, mark_rearranges, made_contents, made_is_free, made_kind, new_is_free}
 use Rattle.h5_interface.proofs.RehangLaws.{Rehangs}
 use Rattle.h5_interface.proofs.CallLaws.{is_child}
-use Rattle.h5_tag_sets.specs.TagSets.{html_namespace, is_table_outer}
+use Rattle.h5_tables.specs.TagSets.{html_namespace, is_table_outer}
 use Rattle.h5_rules.specs.stack.Order.{IsIn, first_or}
 use Rattle.h5_rules.specs.Changes.{clear_form, insert_and_pop_element, insert_and_pop_form, insert_element, insert_form, insert_head, new_comment, new_element, owned}
 use Rattle.h5_rules.specs.insertion.FormOwner.{Marking, marked_by}

@@ -5,9 +5,9 @@ use Rattle.h5_names.specs.declared.qualified.QualName.{QualName}
 use Rattle.h5_interface.specs.Changes.{mark}
 use Rattle.h5_interface.specs.Forest.{Forest, Marks, Node, kind_of}
 use Rattle.h5_interface.specs.SinkChoices.{SinkChoices}
-use Rattle.h5_tag_sets.specs.TagSets.{is_implied, is_thorough_implied}
+use Rattle.h5_tables.specs.TagSets.{is_implied, is_thorough_implied}
 use Rattle.h5_rules.specs.Changes.{generate_implied_end_except, mark_started, pop, pop_while}
-use Rattle.h5_rules.specs.stack.Closing.{generate_implied_end, generate_implied_end_thoroughly}
+use Rattle.h5_rules.specs.stack.Closing.{generate_implied_end_tags, generate_implied_end_thoroughly}
 use Rattle.h5_rules.specs.stack.Scope.{cut_above, cut_through, first_passes, is_implied_but, later_names}
 use Rattle.h5_rules.specs.Sound.{AllStand}
 use Rattle.h5_rules.specs.World.{World, current, name_in, name_of_found, names_of}
@@ -62,13 +62,9 @@ pub implied_none : (choices : SinkChoices) (local : List ℕ) (w : World) → fi
 unfolding generate_implied_end_except
 implied_none choices local w h = while_none choices (is_implied_but local) (names_of w) w h
 
-pub all_implied_none : (choices : SinkChoices) (w : World) → first_passes is_implied (names_of w) ≡ false → generate_implied_end choices w ≡ w
-unfolding generate_implied_end
+pub all_implied_none : (choices : SinkChoices) (w : World) → first_passes is_implied (names_of w) ≡ false → generate_implied_end_tags choices w ≡ w
+unfolding generate_implied_end_tags
 all_implied_none choices w h = while_none choices is_implied (names_of w) w h
-
-pub thorough_implied_none : (choices : SinkChoices) (w : World) → first_passes is_thorough_implied (names_of w) ≡ false → generate_implied_end_thoroughly choices w ≡ w
-unfolding generate_implied_end_thoroughly
-thorough_implied_none choices w h = while_none choices is_thorough_implied (names_of w) w h
 
 pub first_is_open : (p : QualName → Bool) (w : World) → first_passes p (names_of w) ≡ true → 0 < length w.stack
 unfolding names_of

@@ -8,7 +8,7 @@ use Rattle.h5_interface.specs.Forest.{ChildText, Forest}
 use Rattle.h5_interface.specs.SinkChoices.{Rearranges, SinkChoices}
 use Rattle.h5_interface.proofs.ForestLaws.{document_is_node}
 use Rattle.h5_interface.proofs.MakingLaws.{add_missing_rearranges}
-use Rattle.h5_tag_sets.specs.TagSets.{is_thorough_implied}
+use Rattle.h5_tables.specs.TagSets.{is_thorough_implied}
 use Rattle.h5_rules.specs.formatting.FormattingList.{ElementEntry, Entry, MarkerEntry, closed_front}
 use Rattle.h5_rules.specs.formatting.FormattingNames.{html_name}
 use Rattle.h5_rules.specs.stack.Order.{second_from_last}

@@ -9,7 +9,7 @@ use Rattle.h5_interface.specs.Seen.{make_element}
 use Rattle.h5_interface.specs.SinkChoices.{Rearranges, SinkChoices}
 use Rattle.h5_interface.proofs.ForestLaws.{rearranged_node, there_alike}
 use Rattle.h5_interface.proofs.MakingLaws.{made_contents, made_kind, made_parent, make_element_rearranges}
-use Rattle.h5_tag_sets.specs.TagSets.{is_html_named, is_thorough_implied}
+use Rattle.h5_tables.specs.TagSets.{is_html_named, is_thorough_implied}
 use Rattle.h5_rules.specs.formatting.FormattingNames.{html_name}
 use Rattle.h5_rules.specs.stack.Scope.{cut_names, later_names}
 use Rattle.h5_rules.proofs.entries.KeptListsLaws.{lists_pushed}

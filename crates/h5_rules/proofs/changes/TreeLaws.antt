@@ -6,14 +6,14 @@ use Rattle.h5_names.specs.declared.qualified.QualName.{QualName}
 use Rattle.h5_token.specs.TokenText.{TagText}
 use Rattle.h5_interface.specs.Changes.{mark}
 use Rattle.h5_interface.specs.SinkChoices.{SinkChoices}
-use Rattle.h5_tag_sets.specs.TagSets.{is_default_scope, is_heading, is_html_named, is_implied, is_special, is_thorough_implied}
+use Rattle.h5_tables.specs.TagSets.{is_default_scope, is_heading, is_html_named, is_implied, is_special, is_thorough_implied}
 use Rattle.h5_rules.specs.formatting.Adoption.{FormattingElement, FurthestBlock, furthest_block, newer_than, newest_named, without_node}
 use Rattle.h5_rules.specs.formatting.FormattingList.{ElementEntry, Entry, MarkerEntry, closed_front, nodes_of, without_entry}
 use Rattle.h5_rules.specs.stack.Order.{is_in}
 use Rattle.h5_rules.specs.stack.Scope.{comes_before_special, first_passes, has_p_in_button_scope, in_scope, is_implied_but}
 use Rattle.h5_rules.specs.formatting.AdoptionAgency.{adopt, adopt_at, adopt_by, adopt_within, adoption_agency, close_misnested_a, handle_misnested_a_tags, handle_misnested_nobr_tags, remove_from_stack, unlist_and_remove}
 use Rattle.h5_rules.specs.Changes.{generate_implied_end_except, insert_element, pop, pop_until_current, pop_until_named, pop_while, remove_body}
-use Rattle.h5_rules.specs.stack.Closing.{close_item, close_list_item, close_named, close_p_element, close_p_element_in_button_scope, generate_implied_end, generate_implied_end_in_select, generate_implied_end_thoroughly, newest_item, pop_heading, pop_until_cell, pop_until_heading}
+use Rattle.h5_rules.specs.stack.Closing.{close_item, close_list_item, close_named, close_p_element, close_p_element_in_button_scope, generate_implied_end_tags, generate_implied_end_in_select, generate_implied_end_thoroughly, newest_item, pop_heading, pop_until_cell, pop_until_heading}
 use Rattle.h5_rules.specs.formatting.Formatting.{clear_active_formatting_to_marker, create_formatting_element, insert_anew, insert_for, insert_marker, reconstruct_active_formatting_elements}
 use Rattle.h5_rules.specs.World.{World, current, name_in, names_of}
 
@@ -46,8 +46,8 @@ pub tree_until : (local : List ℕ) (w : World) → OnlyTree w (pop_until_named 
 unfolding pop_until_named
 tree_until local w = refl
 
-pub tree_implied : (choices : SinkChoices) (w : World) → OnlyTree w (generate_implied_end choices w)
-unfolding generate_implied_end
+pub tree_implied : (choices : SinkChoices) (w : World) → OnlyTree w (generate_implied_end_tags choices w)
+unfolding generate_implied_end_tags
 tree_implied choices w = tree_while choices is_implied (names_of w) w
 
 pub tree_implied_thoroughly : (choices : SinkChoices) (w : World) → OnlyTree w (generate_implied_end_thoroughly choices w)
@@ -182,7 +182,7 @@ tree_misnested_nobr_tags choices w =
 
 pub tree_in_select : (choices : SinkChoices) (w : World) → OnlyTree w (generate_implied_end_in_select choices w)
 unfolding generate_implied_end_in_select
-tree_in_select choices w = tree_if w (generate_implied_end choices w) (in_scope (is_html_named (codes "select")) is_default_scope (names_of w)) (tree_implied choices w)
+tree_in_select choices w = tree_if w (generate_implied_end_tags choices w) (in_scope (is_html_named (codes "select")) is_default_scope (names_of w)) (tree_implied choices w)
 
 tree_item : (choices : SinkChoices) (o : Option (List ℕ)) (w : World) → OnlyTree w (close_item choices o w)
 tree_item choices None w = refl

@@ -3,9 +3,9 @@ use Rattle.std.proofs.Common.{◌≡◌, ◌&&◌, ◌||◌, inl, inr, ℕ, Bool
 use Rattle.std.specs.Prelude.{not}
 use Rattle.std.specs.List.{list_all}
 use Rattle.h5_names.specs.AttributeText.{is_same_text}
-use Rattle.h5_tag_sets.specs.TagSets.{html_namespace, is_foreign_special, is_one_of, is_special, mathml_namespace, special_names, svg_namespace}
+use Rattle.h5_tables.specs.TagSets.{html_namespace, is_foreign_special, is_one_of, is_special, mathml_namespace, special_names, svg_namespace}
 use Rattle.h5_rules.specs.formatting.FormattingList.{ElementEntry, Entry, MarkerEntry, nodes_of}
-use Rattle.h5_tag_sets.specs.TagSets.{formatting_names}
+use Rattle.h5_tables.specs.TagSets.{formatting_names}
 use Rattle.h5_rules.specs.formatting.FormattingNames.{AllFormatting, AllOfTags, IsPlain, html_name}
 use Rattle.h5_rules.specs.stack.Order.{IsIn}
 use Rattle.h5_names.specs.declared.qualified.QualName.{QualName}

@@ -1,7 +1,7 @@
 -- The changes that are no frames, and the mode that fits after each: parts of tables, tables, templates and framesets.
 use Rattle.std.proofs.Common.{◌≡◌, ◌+◌, ℕ, suc, Bool, true, false, cond, List, [], ◌∷◌, length, Some, refl, ap, sym, ◌∙◌, arith}
-use Rattle.h5_types.specs.declared.modes.InsertionMode.{InsertionMode}
-use Rattle.h5_types.specs.declared.modes.InsertionMode.TheVariants.{Initial, BeforeHtml, InBody, Text, InTable, InTableText, InTemplate, InFrameset}
+use Rattle.h5_tables.specs.declared.modes.InsertionMode.{InsertionMode}
+use Rattle.h5_tables.specs.declared.modes.InsertionMode.TheVariants.{Initial, BeforeHtml, InBody, Text, InTable, InTableText, InTemplate, InFrameset}
 use Rattle.h5_rules.specs.fitting.SituationChanges.{later_modes, mode_below, mode_of, with_template, without_template}
 use Rattle.h5_rules.specs.fitting.Contexts.{Clear, StackContext, Under, context_of, down_to, ends, stands, starts}
 use Rattle.h5_rules.specs.fitting.Fits.{AllKinds, Fits, Known, Place, Placed, Situation, context_templates, goes_by_body, is_whole}

@@ -1,7 +1,7 @@
 -- The root, a fragment's start, modes that are left for a text, and framesets.
 use Rattle.std.proofs.Common.{◌≡◌, suc, Bool, true, cond, List, [], ◌∷◌, Some, refl, ap, sym, subst, arith}
-use Rattle.h5_types.specs.declared.modes.InsertionMode.{InsertionMode}
-use Rattle.h5_types.specs.declared.modes.InsertionMode.TheVariants.{BeforeHtml, BeforeHead, AfterHead, Text, InTable, InTableText, InFrameset, AfterFrameset, AfterAfterFrameset}
+use Rattle.h5_tables.specs.declared.modes.InsertionMode.{InsertionMode}
+use Rattle.h5_tables.specs.declared.modes.InsertionMode.TheVariants.{BeforeHtml, BeforeHead, AfterHead, Text, InTable, InTableText, InFrameset, AfterFrameset, AfterAfterFrameset}
 use Rattle.h5_rules.specs.fitting.SituationChanges.{start_of, with_saved}
 use Rattle.h5_rules.specs.fitting.Fits.{Fits, Known, Placed, Situation, is_table_mode, is_whole}
 use Rattle.h5_rules.specs.fitting.Floors.{Left, grounded_left, on_root, root_left}

@@ -1,7 +1,7 @@
 -- The rows of InTemplate, Text and the modes before the body.
 use Rattle.std.proofs.Common.{◌≡◌, ◌<◌, ◌+◌, ℕ, suc, Bool, true, false, cond, List, [], ◌∷◌, length, Option, Some, None, refl, ap, sym, subst, ◌∙◌, arith}
-use Rattle.h5_types.specs.declared.modes.InsertionMode.{InsertionMode}
-use Rattle.h5_types.specs.declared.modes.InsertionMode.TheVariants.{BeforeHead, InHead, InHeadNoscript, AfterHead, InBody, Text, InTemplate}
+use Rattle.h5_tables.specs.declared.modes.InsertionMode.{InsertionMode}
+use Rattle.h5_tables.specs.declared.modes.InsertionMode.TheVariants.{BeforeHead, InHead, InHeadNoscript, AfterHead, InBody, Text, InTemplate}
 use Rattle.h5_rules.specs.fitting.SituationChanges.{later_modes, with_head, with_last_mode}
 use Rattle.h5_rules.specs.fitting.Contexts.{LeastContext, Over, StackContext, ends}
 use Rattle.h5_rules.specs.fitting.Fits.{Fits, Known, Placed, PlacedBelow, Situation, context_templates, is_template_mode, is_whole}

@@ -1,9 +1,9 @@
 -- What modes tell by names: parts of tables put and closed, tables, templates and framesets.
 use Rattle.std.proofs.Common.{◌≡◌, ◌⊎◌, inl, inr, ℕ, Bool, true, false, cond, ◌||◌, List, [], ◌∷◌, codes, refl, ap, sym, subst, ◌∙◌}
 use Rattle.h5_names.specs.declared.qualified.QualName.{QualName}
-use Rattle.h5_tag_sets.specs.TagSets.{html_namespace, is_cell, is_html_named, is_table_body_context, is_table_row_context, is_table_scope}
-use Rattle.h5_types.specs.declared.modes.InsertionMode.{InsertionMode}
-use Rattle.h5_types.specs.declared.modes.InsertionMode.TheVariants.{InCaption, InCell, InColumnGroup, InFrameset, InRow, InTable, InTableBody, InTemplate, InHead, AfterHead, AfterAfterFrameset, AfterFrameset}
+use Rattle.h5_tables.specs.TagSets.{html_namespace, is_cell, is_html_named, is_table_body_context, is_table_row_context, is_table_scope}
+use Rattle.h5_tables.specs.declared.modes.InsertionMode.{InsertionMode}
+use Rattle.h5_tables.specs.declared.modes.InsertionMode.TheVariants.{InCaption, InCell, InColumnGroup, InFrameset, InRow, InTable, InTableBody, InTemplate, InHead, AfterHead, AfterAfterFrameset, AfterFrameset}
 use Rattle.h5_rules.specs.stack.Scope.{cut_names, down_names, has_template, in_scope, later_names}
 use Rattle.h5_rules.specs.fitting.SituationChanges.{with_last_mode, with_template, without_template}
 use Rattle.h5_rules.specs.fitting.Contexts.{StackContext, TableBodyContext, TableContext, TableRowContext, down_to, ends}

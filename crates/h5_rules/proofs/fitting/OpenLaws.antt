@@ -3,9 +3,9 @@ use Rattle.std.proofs.Common.{◌≡◌, ◌<◌, ℕ, Bool, true, false, cond, 
 use Rattle.std.proofs.lemmas.Slice.Eq.{bytes_eq-Decides}
 use Rattle.h5_names.specs.AttributeText.{is_same_text}
 use Rattle.h5_names.specs.declared.qualified.QualName.{QualName}
-use Rattle.h5_tag_sets.specs.TagSets.{is_html_named, is_implied, is_special}
-use Rattle.h5_types.specs.declared.modes.InsertionMode.{InsertionMode}
-use Rattle.h5_types.specs.declared.modes.InsertionMode.TheVariants.{BeforeHtml, Initial}
+use Rattle.h5_tables.specs.TagSets.{is_html_named, is_implied, is_special}
+use Rattle.h5_tables.specs.declared.modes.InsertionMode.{InsertionMode}
+use Rattle.h5_tables.specs.declared.modes.InsertionMode.TheVariants.{BeforeHtml, Initial}
 use Rattle.h5_rules.specs.stack.Scope.{comes_before_special, cut_names, drop_while, in_scope, is_implied_but}
 use Rattle.h5_rules.specs.fitting.Fits.{Situation, goes_by_body, is_before_root}
 use Rattle.h5_rules.specs.fitting.NamesFit.{NamesFit}

@@ -1,7 +1,7 @@
 -- What a frame keeps of modes, and the changes of single rows.
 use Rattle.std.proofs.Common.{◌≡◌, ◌+◌, suc, Bool, true, false, cond, List, [], ◌∷◌, refl, ap, sym, subst, ◌∙◌, arith}
-use Rattle.h5_types.specs.declared.modes.InsertionMode.{InsertionMode}
-use Rattle.h5_types.specs.declared.modes.InsertionMode.TheVariants.{Initial, BeforeHtml, InBody, Text, InTable, InTableText, InCaption, InColumnGroup, InTableBody, InRow, InCell, InTemplate, AfterBody, AfterAfterBody}
+use Rattle.h5_tables.specs.declared.modes.InsertionMode.{InsertionMode}
+use Rattle.h5_tables.specs.declared.modes.InsertionMode.TheVariants.{Initial, BeforeHtml, InBody, Text, InTable, InTableText, InCaption, InColumnGroup, InTableBody, InRow, InCell, InTemplate, AfterBody, AfterAfterBody}
 use Rattle.h5_rules.specs.fitting.Contexts.{LeastContext, TableBodyContext, TableRowContext, Under}
 use Rattle.h5_rules.specs.fitting.Fits.{Fits, Known, Place, Placed, Situation, context_templates, goes_by_body, is_whole}
 use Rattle.h5_rules.specs.fitting.Floors.{Grounded, HasBase, RootIs}

@@ -1,7 +1,7 @@
 -- The mode that a reset chooses fits the names of open elements.
 use Rattle.std.proofs.Common.{◌≡◌, ◌<◌, ◌+◌, ℕ, suc, Bool, true, false, cond, List, [], ◌∷◌, ◌⊎◌, inl, inr, length, Option, Some, None, refl, ap, subst, ◌∙◌, arith}
-use Rattle.h5_types.specs.declared.modes.InsertionMode.{InsertionMode}
-use Rattle.h5_types.specs.declared.modes.InsertionMode.TheVariants.{BeforeHead, AfterHead, InBody, InTable, InCaption, InColumnGroup, InTableBody, InRow, InCell, InTemplate, InFrameset}
+use Rattle.h5_tables.specs.declared.modes.InsertionMode.{InsertionMode}
+use Rattle.h5_tables.specs.declared.modes.InsertionMode.TheVariants.{BeforeHead, AfterHead, InBody, InTable, InCaption, InColumnGroup, InTableBody, InRow, InCell, InTemplate, InFrameset}
 use Rattle.h5_rules.specs.fitting.Contexts.{LeastContext, Over, StackContext, TableBodyContext, TableContext, TableRowContext, Under, ends, stands, stands_on}
 use Rattle.h5_rules.specs.fitting.Fits.{AllKinds, Counted, Placed, Situation, context_templates, is_template_mode, is_whole}
 use Rattle.h5_rules.specs.fitting.Floors.{Grounded, HasBase, Left, above, grounded_left, head_left, in_head, on_body, on_root, on_template, root_left}

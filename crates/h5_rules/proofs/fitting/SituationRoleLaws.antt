@@ -1,8 +1,8 @@
 -- What modes tell in a later situation, where the frameset-ok flag may have gone off and a head become known.
 use Rattle.std.proofs.Common.{◌≡◌, ◌<◌, ◌+◌, Bool, true, List, [], ◌∷◌, length, ap, sym, subst, ◌∙◌}
 use Rattle.h5_names.specs.declared.qualified.QualName.{QualName}
-use Rattle.h5_types.specs.declared.modes.InsertionMode.{InsertionMode}
-use Rattle.h5_types.specs.declared.modes.InsertionMode.TheVariants.{AfterHead, BeforeHtml, InTableText, InTemplate, Initial, Text}
+use Rattle.h5_tables.specs.declared.modes.InsertionMode.{InsertionMode}
+use Rattle.h5_tables.specs.declared.modes.InsertionMode.TheVariants.{AfterHead, BeforeHtml, InTableText, InTemplate, Initial, Text}
 use Rattle.h5_rules.specs.fitting.Fits.{AllKinds, Known, Place, Placed, PlacedBelow, Situation, context_templates, is_whole}
 use Rattle.h5_rules.specs.fitting.NamesFit.{AreNamed, NamesFit}
 use Rattle.h5_rules.specs.fitting.Roles.{Role, count_roles, is_template, roles}

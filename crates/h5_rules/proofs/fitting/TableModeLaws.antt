@@ -1,6 +1,6 @@
 -- The rows of the table modes that change names, from the facts of their modes.
 use Rattle.std.proofs.Common.{◌≡◌, Bool, true, false, cond, not, ◌&&◌, List, [], ◌∷◌, refl, sym, subst}
-use Rattle.h5_types.specs.declared.modes.InsertionMode.TheVariants.{InTable, InCaption, InColumnGroup, InTableBody, InRow, InCell}
+use Rattle.h5_tables.specs.declared.modes.InsertionMode.TheVariants.{InTable, InCaption, InColumnGroup, InTableBody, InRow, InCell}
 use Rattle.h5_rules.specs.fitting.Contexts.{StackContext, TableBodyContext, TableContext, TableRowContext, down_to, ends}
 use Rattle.h5_rules.specs.fitting.Fits.{Fits, Situation}
 use Rattle.h5_rules.specs.fitting.Frames.{Cut, here, passes_table_scope, there}

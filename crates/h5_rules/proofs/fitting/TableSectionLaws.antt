@@ -2,7 +2,7 @@
 use Rattle.std.proofs.Common.{◌≡◌, ◌⊎◌, inl, inr, ℕ, Bool, true, false, cond, ◌||◌, List, [], ◌∷◌, codes, refl, ap, sym, subst, ◌∙◌}
 use Rattle.h5_names.specs.declared.qualified.QualName.{QualName}
 use Rattle.h5_names.proofs.KnownNameLemmas.{same_tests}
-use Rattle.h5_tag_sets.specs.TagSets.{is_html_named, is_table_body_context, is_table_scope}
+use Rattle.h5_tables.specs.TagSets.{is_html_named, is_table_body_context, is_table_scope}
 use Rattle.h5_rules.specs.modes.InTableBody.{is_table_section}
 use Rattle.h5_rules.specs.fitting.Roles.{Role, SectionRole, is_html, is_section, role_of, role_of_local}
 use Rattle.h5_rules.specs.fitting.Contexts.{TableBodyContext, ends}

@@ -10,11 +10,11 @@ use Rattle.h5_token.specs.TokenText.{TagText}
 use Rattle.h5_interface.specs.Forest.{ElementNode}
 use Rattle.h5_interface.specs.SinkChoices.{SinkChoices}
 use Rattle.h5_interface.proofs.ForestLaws.{node_of_kind}
-use Rattle.h5_tag_sets.specs.TagSets.{html_namespace, is_one_of}
-use Rattle.h5_types.specs.TurnResult.{TurnResult}
-use Rattle.h5_types.specs.TurnResult as results
-use Rattle.h5_types.specs.TurnText.{TurnText}
-use Rattle.h5_types.specs.declared.modes.InsertionMode.TheVariants.{AfterHead, InTemplate, Text}
+use Rattle.h5_tables.specs.TagSets.{html_namespace, is_one_of}
+use Rattle.h5_tables.specs.TurnResult.{TurnResult}
+use Rattle.h5_tables.specs.TurnResult as results
+use Rattle.h5_tables.specs.TurnText.{TurnText}
+use Rattle.h5_tables.specs.declared.modes.InsertionMode.TheVariants.{AfterHead, InTemplate, Text}
 use Rattle.h5_rules.specs.formatting.FormattingList.{MarkerEntry}
 use Rattle.h5_rules.specs.formatting.FormattingNames.{html_name}
 use Rattle.h5_rules.specs.stack.Order.{last_or}

@@ -5,9 +5,9 @@ use Rattle.h5_names.specs.declared.known_name.KnownName.TheVariants.{Button, Opt
 use Rattle.h5_names.specs.declared.known_name.KnownName.TheVariants as known
 use Rattle.h5_token.specs.TokenText.{TagText}
 use Rattle.h5_interface.specs.SinkChoices.{SinkChoices}
-use Rattle.h5_tag_sets.specs.TagSets.{implied_names, is_default_scope, is_html_named, is_implied, is_list_item_scope, is_one_of}
-use Rattle.h5_types.specs.declared.modes.InsertionMode.{InsertionMode}
-use Rattle.h5_rules.specs.stack.Closing.{close_list_item, close_p_element_in_button_scope, generate_implied_end, generate_implied_end_in_select}
+use Rattle.h5_tables.specs.TagSets.{implied_names, is_default_scope, is_html_named, is_implied, is_list_item_scope, is_one_of}
+use Rattle.h5_tables.specs.declared.modes.InsertionMode.{InsertionMode}
+use Rattle.h5_rules.specs.stack.Closing.{close_list_item, close_p_element_in_button_scope, generate_implied_end_tags, generate_implied_end_in_select}
 use Rattle.h5_rules.proofs.modes.ReadyInLaws.{ReadyIn, in_close_named, in_close_p_in_scope, in_frameset_off, in_implied, in_insert, in_insert_foreign, in_leaf, in_leaf_foreign, in_reconstruct}
 use Rattle.h5_rules.specs.modes.InBody.{close_open_form, close_the_form, copies_option, description_names, form_in_scope, in_body_end_description, in_body_end_form, in_body_end_li, in_body_end_marked, in_body_end_option, in_body_marked, in_body_opens, in_body_preformatted, in_body_ruby_bases, in_body_ruby_texts, in_body_start_button, in_body_start_foreign, in_body_start_form, in_body_start_hr, in_body_start_image, in_body_start_input, in_body_start_item, in_body_start_marked, in_body_start_optgroup, in_body_start_option, in_body_start_preformatted, in_body_start_ruby_base, in_body_start_ruby_text, in_body_start_select, list_item_names, named_in_scope, oldest_option, unless_hidden}
 use Rattle.h5_rules.proofs.modes.CloseInLaws.{all_implied_keeps, in_cleared, in_close_except, in_close_other, in_copy, in_ignore_lf, in_implied_except, in_insert_form, in_list_item, in_marker, in_no_form, in_pop, in_remove_form, in_select, in_until, node_in_stack, oldest_is_open}
@@ -170,7 +170,7 @@ module _ (choices : SinkChoices) (m : InsertionMode) (goes : goes_by_body m ≡ 
   pub in_start_button : named Button tag.name ≡ true → After (in_body_start_button tag w)
   unfolding in_body_start_button
   in_start_button p = chosen (named_in_scope (codes "button") w) _ _
-      (λ e. opened_anew (pop_until_named (codes "button") (generate_implied_end choices w)) (in_close_named choices m goes w r (codes "button") button_plain button_not_implied e) (button_named tag.name p))
+      (λ e. opened_anew (pop_until_named (codes "button") (generate_implied_end_tags choices w)) (in_close_named choices m goes w r (codes "button") button_plain button_not_implied e) (button_named tag.name p))
       (λ e. opened_anew w r (button_named tag.name p))
 
   pub in_start_marked : is_one_of in_body_marked tag.name ≡ true → After (in_body_start_marked tag w)
@@ -219,7 +219,7 @@ module _ (choices : SinkChoices) (m : InsertionMode) (goes : goes_by_body m ≡ 
   unfolding in_body_start_optgroup
   in_start_optgroup p =
       let plain = optgroup_named tag.name p in
-      chosen (named_in_scope (codes "select") w) _ _ (λ e. opens (generate_implied_end choices w) (in_implied choices m goes w r) plain) (λ e. outside_select plain)
+      chosen (named_in_scope (codes "select") w) _ _ (λ e. opens (generate_implied_end_tags choices w) (in_implied choices m goes w r) plain) (λ e. outside_select plain)
 
   pub in_start_foreign : (namespace : List ℕ) → is_html_element (foreign_name namespace tag.name) ≡ false → After (in_body_start_foreign namespace tag w)
   in_start_foreign namespace foreign =
@@ -228,7 +228,7 @@ module _ (choices : SinkChoices) (m : InsertionMode) (goes : goes_by_body m ≡ 
   pub in_start_ruby_base : is_one_of in_body_ruby_bases tag.name ≡ true → After (in_body_start_ruby_base tag w)
   in_start_ruby_base p =
       let plain = ruby_base_plain tag.name p in
-      chosen (named_in_scope (codes "ruby") w) _ _ (λ e. opened (generate_implied_end choices w) (in_implied choices m goes w r) plain) (λ e. opened w r plain)
+      chosen (named_in_scope (codes "ruby") w) _ _ (λ e. opened (generate_implied_end_tags choices w) (in_implied choices m goes w r) plain) (λ e. opened w r plain)
 
   pub in_start_ruby_text : is_one_of in_body_ruby_texts tag.name ≡ true → After (in_body_start_ruby_text tag w)
   in_start_ruby_text p =
@@ -237,11 +237,11 @@ module _ (choices : SinkChoices) (m : InsertionMode) (goes : goes_by_body m ≡ 
 
   -- END TAGS
   -- the form element leaves the stack
-  the_form : (n : ℕ) → w.form ≡ Some n → IsIn n w.stack → ReadyIn m (remove_from_stack choices n (generate_implied_end choices (clear_form w)))
+  the_form : (n : ℕ) → w.form ≡ Some n → IsIn n w.stack → ReadyIn m (remove_from_stack choices n (generate_implied_end_tags choices (clear_form w)))
   the_form n e i =
       let u = clear_form w in
       let k = in_no_form m goes w r in
-      let v = generate_implied_end choices u in
+      let v = generate_implied_end_tags choices u in
       let kept = (all_implied_keeps choices u k.ready.sound k.ready.lists).kinds in
       let is = r.ready.sound.form_name n e i in
       in_remove_form choices m goes v (in_implied choices m goes u k) n (kept n (element_is_node w.forest n (html_name (codes "form"), is)) ∙ is)

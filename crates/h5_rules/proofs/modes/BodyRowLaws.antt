@@ -3,9 +3,9 @@
 use Rattle.std.proofs.Common.{◌≡◌, ℕ, Bool, true, false, not, ◌&&◌, if◌then◌else◌, List, [], ◌∷◌, Option, Some, None, codes, is_some, refl}
 use Rattle.h5_names.specs.AttributeText.{AttributeText}
 use Rattle.h5_names.specs.declared.known_name.KnownName.TheVariants.{Html, Noframes, Template}
-use Rattle.h5_types.specs.declared.modes.InsertionMode.TheVariants.{AfterBody}
+use Rattle.h5_tables.specs.declared.modes.InsertionMode.TheVariants.{AfterBody}
 use Rattle.h5_token.specs.TokenText.{TagText}
-use Rattle.h5_tag_sets.specs.TagSets.{is_default_scope, is_heading, is_html_named, is_implied, is_list_item_scope, is_one_of, mathml_namespace, svg_namespace}
+use Rattle.h5_tables.specs.TagSets.{is_default_scope, is_heading, is_html_named, is_implied, is_list_item_scope, is_one_of, mathml_namespace, svg_namespace}
 use Rattle.h5_names.specs.declared.qualified.QualName.{QualName}
 use Rattle.h5_rules.specs.modes.InBody.{body_ends, body_in_scope, close_open_form, close_the_form, copies_option, form_in_scope, if_body_in_scope, in_body_end, in_body_end_block, in_body_end_blocks, in_body_end_body, in_body_end_br, in_body_end_description, in_body_end_form, in_body_end_formatting, in_body_end_heading, in_body_end_html, in_body_end_inline, in_body_end_li, in_body_end_marked, in_body_end_option, in_body_end_other, in_body_end_p, in_body_start, in_body_start_blocks, in_body_start_body, in_body_start_button, in_body_start_embedded, in_body_start_foreign, in_body_start_form, in_body_start_frameset, in_body_start_inline, in_body_start_input, in_body_start_noscript, in_body_start_optgroup, in_body_start_option, in_body_start_other, in_body_start_ruby, in_body_start_select, in_body_start_table, is_quirks, is_ruby_or_rtc, named_in_scope, oldest_option, unless_hidden}
 use Rattle.h5_rules.specs.stack.Scope.{comes_before_special, has_p_in_button_scope, has_template, in_scope, is_implied_but, second_is}
@@ -18,7 +18,7 @@ use Rattle.h5_rules.proofs.rows.ByNameLaws.{holds_by_name, of_named, of_one}
 use Rattle.h5_rules.proofs.modes.ReadyLaws.{a_formatting, nobr_formatting}
 use Rattle.h5_rules.specs.modes.InHead.{in_head_else, in_head_links, in_head_raw, in_head_start, in_head_start_noscript, in_head_start_raw, in_head_start_script, in_head_end_template, in_head_start_tag, in_head_start_template, in_head_start_title}
 use Rattle.h5_rules.proofs.rows.ToldLaws.{IsTold, NoText}
-use Rattle.h5_types.specs.TurnText.{TagTurn}
+use Rattle.h5_tables.specs.TurnText.{TagTurn}
 use Rattle.h5_rules.specs.modes.InHeadNoscript.{noscript_content_names}
 use Rattle.h5_rules.specs.modes.InTable.{table_text_names}
 use Rattle.h5_rules.specs.NamedEncoding.{indicates, named_encoding}

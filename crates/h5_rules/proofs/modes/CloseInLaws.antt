@@ -7,8 +7,8 @@ use Rattle.h5_names.specs.AttributeText.{AttributeText, is_same_text}
 use Rattle.h5_names.specs.declared.qualified.QualName.{QualName}
 use Rattle.h5_interface.specs.Forest.{Forest, IsElement, kind_of}
 use Rattle.h5_interface.specs.SinkChoices.{Rearranges, SinkChoices}
-use Rattle.h5_tag_sets.specs.TagSets.{html_namespace, formatting_names, is_default_scope, is_html_named, is_implied, is_one_of, is_special}
-use Rattle.h5_types.specs.declared.modes.InsertionMode.{InsertionMode}
+use Rattle.h5_tables.specs.TagSets.{html_namespace, formatting_names, is_default_scope, is_html_named, is_implied, is_one_of, is_special}
+use Rattle.h5_tables.specs.declared.modes.InsertionMode.{InsertionMode}
 use Rattle.h5_rules.specs.formatting.FormattingList.{ElementEntry, Entry, MarkerEntry, nodes_of}
 use Rattle.h5_rules.specs.stack.Order.{IsIn, is_in}
 use Rattle.h5_rules.specs.fitting.Frames.{Frame, passes_table_scope}
@@ -17,7 +17,7 @@ use Rattle.h5_rules.proofs.BoolLaws.{and_both, and_not}
 use Rattle.h5_rules.proofs.fitting.FrameLaws.{frame_trans}
 use Rattle.h5_rules.proofs.roles.SetLaws.{ordinary_plain}
 use Rattle.h5_rules.proofs.changes.TreeLaws.{OnlyTree, tree_implied_except, tree_pop, tree_remove, tree_then, tree_until}
-use Rattle.h5_rules.specs.stack.Closing.{close_item, close_list_item, copy_closed_option, ends_item_search, generate_implied_end, generate_implied_end_in_select, is_html_among, newest_item, passed_names}
+use Rattle.h5_rules.specs.stack.Closing.{close_item, close_list_item, copy_closed_option, ends_item_search, generate_implied_end_tags, generate_implied_end_in_select, is_html_among, newest_item, passed_names}
 use Rattle.h5_rules.specs.stack.Scope.{comes_before_special, cut_names, drop_while, first_passes, in_scope, is_implied_but, later_names, node_in_scope, oldest_of, oldest_passing}
 use Rattle.h5_rules.proofs.entries.PassLaws.{lists_without_node}
 use Rattle.h5_rules.specs.modes.Shared.{current_is}
@@ -140,8 +140,8 @@ node_in_stack x stop (n ∷ ns) (y ∷ s) h = at (x == y) (stop n) refl h (node_
     at false false a e f = inr (f e)
 
 -- implied ends, and kinds of nodes
-pub all_implied_keeps : (choices : SinkChoices) (w : World) → Sound w → HasLists w → Keeps w (generate_implied_end choices w)
-unfolding generate_implied_end
+pub all_implied_keeps : (choices : SinkChoices) (w : World) → Sound w → HasLists w → Keeps w (generate_implied_end_tags choices w)
+unfolding generate_implied_end_tags
 all_implied_keeps choices w k l = while_keeps choices is_implied (names_of w) w k l
 
 module _ (m : InsertionMode) (goes : goes_by_body m ≡ true) where
@@ -206,7 +206,7 @@ module _ (choices : SinkChoices) (m : InsertionMode) (goes : goes_by_body m ≡ 
 
   pub in_select : ReadyIn m (generate_implied_end_in_select choices w)
   unfolding generate_implied_end_in_select
-  in_select = elim (in_scope (is_html_named (codes "select")) is_default_scope (names_of w)) as (λ b. ReadyIn m (cond b (generate_implied_end choices w) w)) [ true ↦ in_implied choices m goes w r | false ↦ r ]
+  in_select = elim (in_scope (is_html_named (codes "select")) is_default_scope (names_of w)) as (λ b. ReadyIn m (cond b (generate_implied_end_tags choices w) w)) [ true ↦ in_implied choices m goes w r | false ↦ r ]
 
   -- a plain element that is the current node
   pub in_pop : (local : List ℕ) → role_of_local local ≡ PlainRole → current_is local w ≡ true → ReadyIn m (pop choices w)

@@ -16,10 +16,10 @@ use Rattle.h5_rules.specs.stack.Scope.{has_template}
 use Rattle.h5_token.specs.TokenText.{TagText}
 use Rattle.h5_token.specs.declared.tag.TagKind.{TagKind}
 use Rattle.h5_token.specs.declared.tag.TagKind.TheVariants.{EndTag, StartTag}
-use Rattle.h5_types.specs.TurnResult.{TurnResult}
-use Rattle.h5_types.specs.TurnResult as results
-use Rattle.h5_types.specs.TurnText.{CommentTurn, EofTurn, NullTurn, TagTurn, TextTurn, TurnText}
-use Rattle.h5_types.specs.declared.modes.InsertionMode.TheVariants.{AfterBody}
+use Rattle.h5_tables.specs.TurnResult.{TurnResult}
+use Rattle.h5_tables.specs.TurnResult as results
+use Rattle.h5_tables.specs.TurnText.{CommentTurn, EofTurn, NullTurn, TagTurn, TextTurn, TurnText}
+use Rattle.h5_tables.specs.declared.modes.InsertionMode.TheVariants.{AfterBody}
 use Rattle.h5_rules.proofs.modes.BodyRowLaws.{EndsAtOnce, IsBodyRow, row_end_by, row_start}
 
 -- an ending that doesn't look at the foster flag

@@ -6,8 +6,8 @@ use Rattle.h5_token.specs.TokenText.{TagText}
 use Rattle.h5_token.specs.declared.states.RawKind.{RawKind}
 use Rattle.h5_token.specs.declared.states.RawKind.TheVariants.{Rawtext, Rcdata}
 use Rattle.h5_interface.specs.SinkChoices.{SinkChoices}
-use Rattle.h5_types.specs.declared.modes.InsertionMode.{InsertionMode}
-use Rattle.h5_types.specs.declared.modes.InsertionMode.TheVariants.{AfterHead, BeforeHtml, InHead, InTableText, Initial, Text}
+use Rattle.h5_tables.specs.declared.modes.InsertionMode.{InsertionMode}
+use Rattle.h5_tables.specs.declared.modes.InsertionMode.TheVariants.{AfterHead, BeforeHtml, InHead, InTableText, Initial, Text}
 use Rattle.h5_rules.specs.modes.Shared.{head_start_names, inserts, raw_text}
 use Rattle.h5_rules.specs.fitting.Fits.{goes_by_body, is_before_root, may_be_left, takes_template}
 use Rattle.h5_rules.proofs.rows.KeptLaws.{FitsAs, Kept, as_before, kept_start_html, mode_with}
@@ -26,9 +26,9 @@ use Rattle.h5_rules.proofs.fitting.OpenLaws.{names_root_open}
 use Rattle.h5_rules.specs.Rows.{InsertAndPopElement, Row, next_mode, row}
 use Rattle.h5_rules.proofs.changes.SituationLaws.{situation_leaf}
 use Rattle.h5_rules.proofs.modes.BodyRowLaws.{head_start_passes}
-use Rattle.h5_types.specs.TurnText.{TagTurn}
+use Rattle.h5_tables.specs.TurnText.{TagTurn}
 use Rattle.h5_rules.specs.Changes.{insert_and_pop_element}
-use Rattle.h5_tag_sets.specs.TagSets.{is_one_of}
+use Rattle.h5_tables.specs.TagSets.{is_one_of}
 use Rattle.h5_rules.specs.NamedEncoding.{indicates, named_encoding}
 
 -- such a mode comes after the root was made, and those that go by the body are some

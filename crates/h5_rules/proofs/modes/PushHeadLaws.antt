@@ -9,8 +9,8 @@ use Rattle.h5_interface.specs.Forest.{DocumentNode, ElementNode, Forest, HasCont
 use Rattle.h5_interface.specs.NewElement.{is_html_template}
 use Rattle.h5_interface.specs.SinkChoices.{SinkChoices}
 use Rattle.h5_interface.proofs.AncestorLaws.{no_ancestor}
-use Rattle.h5_tag_sets.specs.TagSets.{html_namespace, is_html_named, is_special, special_names}
-use Rattle.h5_types.specs.declared.modes.InsertionMode.TheVariants.{AfterHead}
+use Rattle.h5_tables.specs.TagSets.{html_namespace, is_html_named, is_special, special_names}
+use Rattle.h5_tables.specs.declared.modes.InsertionMode.TheVariants.{AfterHead}
 use Rattle.h5_rules.specs.formatting.Adoption.{without_node}
 use Rattle.h5_rules.specs.formatting.FormattingList.{Entry, nodes_of}
 use Rattle.h5_rules.specs.formatting.FormattingNames.{html_name}

@@ -5,8 +5,8 @@ use Rattle.h5_names.specs.AttributeText.{AttributeText}
 use Rattle.h5_names.specs.declared.qualified.QualName.{QualName}
 use Rattle.h5_token.specs.TokenText.{TagText}
 use Rattle.h5_interface.specs.SinkChoices.{SinkChoices}
-use Rattle.h5_tag_sets.specs.TagSets.{formatting_names, is_button_scope, is_default_scope, is_heading, is_html_named, is_implied, is_one_of}
-use Rattle.h5_types.specs.declared.modes.InsertionMode.{InsertionMode}
+use Rattle.h5_tables.specs.TagSets.{formatting_names, is_button_scope, is_default_scope, is_heading, is_html_named, is_implied, is_one_of}
+use Rattle.h5_tables.specs.declared.modes.InsertionMode.{InsertionMode}
 use Rattle.h5_rules.specs.formatting.FormattingList.{ElementEntry, Entry, MarkerEntry, closed_front}
 use Rattle.h5_rules.specs.formatting.FormattingNames.{AllFormatting, html_name}
 use Rattle.h5_rules.specs.stack.Order.{is_in}
@@ -28,7 +28,7 @@ use Rattle.h5_rules.proofs.fitting.SituationRoleLaws.{names_later}
 use Rattle.h5_rules.proofs.roles.TestLaws.{button_default, foreign_plain, frame_closed, frame_found}
 use Rattle.h5_rules.specs.formatting.AdoptionAgency.{adoption_agency, handle_misnested_a_tags, handle_misnested_nobr_tags}
 use Rattle.h5_rules.specs.Changes.{add_attrs_to_second, append_text, generate_implied_end_except, insert_and_pop_element, insert_element, pop, pop_until_named, set_foster, set_frameset_not_ok, set_frameset_ok_by_text}
-use Rattle.h5_rules.specs.stack.Closing.{close_p_element, close_p_element_in_button_scope, generate_implied_end, pop_heading, pop_until_heading}
+use Rattle.h5_rules.specs.stack.Closing.{close_p_element, close_p_element_in_button_scope, generate_implied_end_tags, pop_heading, pop_until_heading}
 use Rattle.h5_rules.specs.formatting.Formatting.{create_formatting_element, insert_anew, insert_for, reconstruct_active_formatting_elements}
 use Rattle.h5_rules.specs.Rows.{AddAttrsToSecond, ClosePElement, GenerateImpliedEnd, InsertAndPopForeignElement, InsertElement, InsertForeignElement, PopHeading, PopUntilHeading, PopUntilNamed}
 use Rattle.h5_rules.specs.Sound.{HasHtmlRoot, Sound, situation_of}
@@ -185,17 +185,17 @@ module _ (choices : SinkChoices) (m : InsertionMode) (goes : goes_by_body m ≡ 
       (subst (λ ns. Frame (roles (names_of w)) (roles ns)) (sym (names-insert_foreign choices name attrs duplicates w r.ready.sound)) (frame_onto name (names_of w) r.ready.root (foreign_plain name foreign)))
 
   -- elements are closed
-  implied_situation : KeepsSituation w (generate_implied_end choices w)
-  unfolding generate_implied_end
-  implied_situation = situation_tree w (generate_implied_end choices w) (tree_implied choices w) (while_keeps choices is_implied (names_of w) w r.ready.sound r.ready.lists).kinds
+  implied_situation : KeepsSituation w (generate_implied_end_tags choices w)
+  unfolding generate_implied_end_tags
+  implied_situation = situation_tree w (generate_implied_end_tags choices w) (tree_implied choices w) (while_keeps choices is_implied (names_of w) w r.ready.sound r.ready.lists).kinds
 
   pop_heading_situation : KeepsSituation w (pop_heading choices w)
   unfolding pop_heading
   pop_heading_situation = elim (first_passes is_heading (names_of w)) as (λ b. KeepsSituation w (cond b (pop choices w) w)) [ true ↦ situation_pop choices w | false ↦ situation_same w ]
 
-  pub in_implied : ReadyIn m (generate_implied_end choices w)
+  pub in_implied : ReadyIn m (generate_implied_end_tags choices w)
   in_implied =
-      in_step m goes w (generate_implied_end choices w) r (steady_changes choices (GenerateImpliedEnd ∷ []) w (tt, tt) (steady m goes w r)) implied_situation
+      in_step m goes w (generate_implied_end_tags choices w) r (steady_changes choices (GenerateImpliedEnd ∷ []) w (tt, tt) (steady m goes w r)) implied_situation
       (subst (λ ns. Frame (roles (names_of w)) (roles ns)) (sym (names-all_implied choices w)) (frame_all_implied (names_of w)))
 
   close_p_situation : KeepsSituation w (close_p_element choices w)
@@ -225,17 +225,17 @@ module _ (choices : SinkChoices) (m : InsertionMode) (goes : goes_by_body m ≡ 
 
   -- implied end tags, and up to and with a plain name, or a heading, in default scope
   pub in_close_named : (local : List ℕ) → role_of_local local ≡ PlainRole → ((n : QualName) → is_implied n ≡ true → is_html_named local n ≡ false) → in_scope (is_html_named local) is_default_scope (names_of w) ≡ true
-      → ReadyIn m (pop_until_named local (generate_implied_end choices w))
+      → ReadyIn m (pop_until_named local (generate_implied_end_tags choices w))
   in_close_named local plain apart h =
-      let v = generate_implied_end choices w in
+      let v = generate_implied_end_tags choices w in
       in_step m goes w (pop_until_named local v) r (steady_changes choices (GenerateImpliedEnd ∷ PopUntilNamed local ∷ []) w (tt, (tt, tt)) (steady m goes w r))
       (situation_then w v (pop_until_named local v) implied_situation (cut_situation local v))
       (subst (λ ns. Frame (roles (names_of w)) (roles ns)) (sym (names-cut local v ∙ ap (cut_names (is_html_named local)) (names-all_implied choices w)))
       (frame_close (is_html_named local) (names_of w) (λ n e. role_named local n e ∙ plain) apart h))
 
-  pub in_close_heading : ((n : QualName) → is_implied n ≡ true → is_heading n ≡ false) → in_scope is_heading is_default_scope (names_of w) ≡ true → ReadyIn m (pop_until_heading (generate_implied_end choices w))
+  pub in_close_heading : ((n : QualName) → is_implied n ≡ true → is_heading n ≡ false) → in_scope is_heading is_default_scope (names_of w) ≡ true → ReadyIn m (pop_until_heading (generate_implied_end_tags choices w))
   in_close_heading apart h =
-      let v = generate_implied_end choices w in
+      let v = generate_implied_end_tags choices w in
       in_step m goes w (pop_until_heading v) r (steady_changes choices (GenerateImpliedEnd ∷ PopUntilHeading ∷ []) w (tt, (tt, tt)) (steady m goes w r))
       (situation_then w v (pop_until_heading v) implied_situation (heading_situation v))
       (subst (λ ns. Frame (roles (names_of w)) (roles ns)) (sym (names-until_heading v ∙ ap (cut_names is_heading) (names-all_implied choices w)))

@@ -3,7 +3,7 @@ use Rattle.std.proofs.Common.{◌≡◌, ◌<◌, ℕ, true, List, length, IsTru
 use Rattle.h5_names.specs.declared.known_name.KnownName.TheVariants.{A, Nobr}
 use Rattle.h5_token.specs.TokenText.{TagText}
 use Rattle.h5_interface.specs.SinkChoices.{SinkChoices}
-use Rattle.h5_tag_sets.specs.TagSets.{formatting_names, is_one_of}
+use Rattle.h5_tables.specs.TagSets.{formatting_names, is_one_of}
 use Rattle.h5_rules.proofs.fitting.OpenLaws.{open_some}
 use Rattle.h5_rules.specs.ByName.{named}
 use Rattle.h5_rules.specs.formatting.Formatting.{reconstruct_active_formatting_elements}

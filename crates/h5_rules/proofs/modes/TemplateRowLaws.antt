@@ -2,12 +2,12 @@
 use Rattle.std.proofs.Common.{◌≡◌, true, false, [], ◌∷◌, Option, codes, refl, ap, sym, subst, ◌∙◌}
 use Rattle.h5_token.specs.TokenText.{TagText}
 use Rattle.h5_interface.specs.SinkChoices.{SinkChoices}
-use Rattle.h5_types.specs.declared.modes.InsertionMode.{InsertionMode}
-use Rattle.h5_types.specs.declared.modes.InsertionMode.TheVariants.{AfterHead, InHead, InTemplate}
+use Rattle.h5_tables.specs.declared.modes.InsertionMode.{InsertionMode}
+use Rattle.h5_tables.specs.declared.modes.InsertionMode.TheVariants.{AfterHead, InHead, InTemplate}
 use Rattle.h5_rules.specs.formatting.FormattingList.{MarkerEntry}
 use Rattle.h5_rules.specs.formatting.FormattingNames.{html_name}
 use Rattle.h5_rules.specs.stack.Scope.{cut_names, has_template}
-use Rattle.h5_tag_sets.specs.TagSets.{is_html_named}
+use Rattle.h5_tables.specs.TagSets.{is_html_named}
 use Rattle.h5_rules.specs.fitting.SituationChanges.{without_template}
 use Rattle.h5_rules.specs.fitting.Fits.{Situation, goes_by_body, is_template_mode, takes_template}
 use Rattle.h5_rules.specs.fitting.NamesFit.{NamesFit}

@@ -3,10 +3,10 @@ use Rattle.std.proofs.Common.{◌≡◌, ℕ, Bool, true, List, [], ◌∷◌, S
 use Rattle.h5_names.specs.AttributeText.{AttributeText}
 use Rattle.h5_names.specs.declared.qualified.QualName.{QualName}
 use Rattle.h5_interface.specs.SinkChoices.{SinkChoices}
-use Rattle.h5_types.specs.declared.modes.InsertionMode.{InsertionMode}
-use Rattle.h5_types.specs.declared.modes.InsertionMode.TheVariants.{Text}
+use Rattle.h5_tables.specs.declared.modes.InsertionMode.{InsertionMode}
+use Rattle.h5_tables.specs.declared.modes.InsertionMode.TheVariants.{Text}
 use Rattle.h5_rules.specs.formatting.FormattingNames.{html_name}
-use Rattle.h5_tag_sets.specs.TagSets.{html_namespace}
+use Rattle.h5_tables.specs.TagSets.{html_namespace}
 use Rattle.h5_rules.specs.fitting.SituationChanges.{with_saved}
 use Rattle.h5_rules.specs.fitting.Fits.{may_be_left}
 use Rattle.h5_rules.specs.fitting.NamesFit.{NamesFit, is_html_element}

@@ -2,7 +2,7 @@
 -- names: implied end tags, then up to and with that.
 use Rattle.std.proofs.Common.{◌≡◌, ℕ, Bool, true, false, cond, List, [], ◌∷◌, refl}
 use Rattle.h5_names.specs.declared.qualified.QualName.{QualName}
-use Rattle.h5_tag_sets.specs.TagSets.{is_html_named, is_implied, is_special}
+use Rattle.h5_tables.specs.TagSets.{is_html_named, is_implied, is_special}
 use Rattle.h5_rules.specs.stack.Scope.{comes_before_special, cut_names, drop_while, is_implied_but}
 use Rattle.h5_rules.specs.fitting.Frames.{Frame}
 use Rattle.h5_rules.specs.fitting.Roles.{PlainRole, role_of_local, roles}

@@ -4,7 +4,7 @@ use Rattle.std.specs.List.{list_any}
 use Rattle.std.proofs.lemmas.Slice.Eq.{bytes_eq-Decides}
 use Rattle.h5_names.specs.AttributeText.{is_same_text}
 use Rattle.h5_names.specs.declared.qualified.QualName.{QualName}
-use Rattle.h5_tag_sets.specs.TagSets.{block_end_names, block_start_names, formatting_names, heading_names, implied_names, is_heading, is_html_named, is_implied, is_one_of}
+use Rattle.h5_tables.specs.TagSets.{block_end_names, block_start_names, formatting_names, heading_names, implied_names, is_heading, is_html_named, is_implied, is_one_of}
 use Rattle.h5_rules.specs.stack.Scope.{drop_while, is_implied_but}
 use Rattle.h5_rules.specs.fitting.Frames.{Frame}
 use Rattle.h5_rules.specs.fitting.Roles.{PlainRole, Role, is_plain, role_of, role_of_local, roles}

@@ -3,7 +3,7 @@ use Rattle.std.proofs.Common.{◌≡◌, ◌⊎◌, inl, inr, ℕ, Bool, true, f
 use Rattle.std.proofs.lemmas.Slice.Eq.{bytes_eq-Decides}
 use Rattle.h5_names.specs.AttributeText.{is_same_text}
 use Rattle.h5_names.specs.declared.qualified.QualName.{QualName}
-use Rattle.h5_tag_sets.specs.TagSets.{html_namespace, is_html_named}
+use Rattle.h5_tables.specs.TagSets.{html_namespace, is_html_named}
 use Rattle.h5_rules.specs.formatting.FormattingNames.{html_name}
 use Rattle.h5_rules.specs.fitting.Roles.{BodyRole, CaptionRole, CellRole, ColgroupRole, FramesetRole, HeadRole, HtmlRole, PlainRole, Role, RowRole, SectionRole, TableRole, TemplateRole, role_of, role_of_local}
 use Rattle.h5_rules.proofs.BoolLaws.{and_both}

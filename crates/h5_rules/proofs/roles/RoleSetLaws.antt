@@ -3,7 +3,7 @@ use Rattle.std.proofs.Common.{◌≡◌, ℕ, Bool, true, false, cond, ◌&&◌,
 use Rattle.std.proofs.lemmas.Slice.Eq.{bytes_eq-Decides}
 use Rattle.h5_names.specs.AttributeText.{is_same_text}
 use Rattle.h5_names.specs.declared.qualified.QualName.{QualName}
-use Rattle.h5_tag_sets.specs.TagSets.{html_namespace, is_one_of}
+use Rattle.h5_tables.specs.TagSets.{html_namespace, is_one_of}
 use Rattle.h5_rules.specs.fitting.Roles.{PlainRole, Role, role_of, role_of_local}
 use Rattle.h5_rules.proofs.BoolLaws.{and_both}
 use Rattle.h5_names.proofs.KnownNameLemmas.{same_tests}

@@ -2,7 +2,7 @@
 use Rattle.std.proofs.Common.{◌≡◌, inl, inr, ℕ, Bool, true, false, ◌&&◌, ◌||◌, List, codes, refl, ap, sym, ◌∙◌}
 use Rattle.h5_names.specs.AttributeText.{is_same_text}
 use Rattle.h5_names.specs.declared.qualified.QualName.{QualName}
-use Rattle.h5_tag_sets.specs.TagSets.{html_namespace, implied_names, is_default_scope, is_foreign_special, is_implied, is_html_named, is_one_of, is_special, scope_names, special_names}
+use Rattle.h5_tables.specs.TagSets.{html_namespace, implied_names, is_default_scope, is_foreign_special, is_implied, is_html_named, is_one_of, is_special, scope_names, special_names}
 use Rattle.h5_rules.specs.fitting.Frames.{passes_table_scope}
 use Rattle.h5_rules.specs.fitting.NamesFit.{is_html_element}
 use Rattle.h5_rules.specs.fitting.Roles.{BodyRole, CaptionRole, CellRole, ColgroupRole, FramesetRole, HeadRole, HtmlRole, PlainRole, Role, RowRole, SectionRole, TableRole, TemplateRole, is_html, is_template, role_of, role_of_local}

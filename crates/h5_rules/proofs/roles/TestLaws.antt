@@ -2,8 +2,8 @@
 use Rattle.std.proofs.Common.{◌≡◌, inl, inr, ℕ, Bool, true, false, cond, ◌&&◌, ◌||◌, List, [], ◌∷◌, codes, refl, ap, ◌∙◌}
 use Rattle.h5_names.specs.AttributeText.{is_same_text}
 use Rattle.h5_names.specs.declared.qualified.QualName.{QualName}
-use Rattle.h5_tag_sets.specs.TagSets.{cell_names, html_namespace, is_button_scope, is_cell, is_default_scope, is_html_named, is_list_item_scope, is_one_of, is_special, is_table_body_context, is_table_row_context, is_table_scope, table_body_context_names, table_row_context_names, table_scope_names}
-use Rattle.h5_types.specs.declared.modes.InsertionMode.TheVariants.{InBody}
+use Rattle.h5_tables.specs.TagSets.{cell_names, html_namespace, is_button_scope, is_cell, is_default_scope, is_html_named, is_list_item_scope, is_one_of, is_special, is_table_body_context, is_table_row_context, is_table_scope, table_body_context_names, table_row_context_names, table_scope_names}
+use Rattle.h5_tables.specs.declared.modes.InsertionMode.TheVariants.{InBody}
 use Rattle.h5_rules.specs.stack.Scope.{cut_names, has_template, in_scope}
 use Rattle.h5_rules.specs.fitting.Contexts.{TableBodyContext, TableContext, TableRowContext, ends}
 use Rattle.h5_rules.specs.fitting.Fits.{Fits, Situation}

@@ -8,7 +8,7 @@ use Rattle.h5_rules.specs.Rows.{Row, choose}
 use Rattle.h5_rules.specs.World.{World}
 use Rattle.h5_names.specs.KnownNames.{name_text}
 use Rattle.h5_names.specs.AttributeText.{is_same_text}
-use Rattle.h5_tag_sets.specs.TagSets.{is_one_of}
+use Rattle.h5_tables.specs.TagSets.{is_one_of}
 
 -- of the one of two rows that is chosen
 pub holds_chosen : (P : Row → Type 0) (b : Bool) (r s : Row) → (b ≡ true → P r) → (b ≡ false → P s) → P (choose b r s)

@@ -2,8 +2,8 @@
 use Rattle.std.proofs.Common.{◌≡◌, ◌≢◌, ℕ, Bool, true, false, List, [], ◌∷◌, ◌++◌, Option, Some, None, refl, ap, sym, subst, ◌∙◌}
 use Rattle.h5_token.specs.TokenText.{TagText}
 use Rattle.h5_interface.specs.SinkChoices.{SinkChoices}
-use Rattle.h5_types.specs.TurnText.{TurnText}
-use Rattle.h5_types.specs.declared.modes.InsertionMode.{InsertionMode}
+use Rattle.h5_tables.specs.TurnText.{TurnText}
+use Rattle.h5_tables.specs.declared.modes.InsertionMode.{InsertionMode}
 use Rattle.h5_rules.specs.stack.Order.{second_from_last}
 use Rattle.h5_rules.specs.stack.Scope.{has_template}
 use Rattle.h5_rules.specs.fitting.NamesFit.{NamesFit}

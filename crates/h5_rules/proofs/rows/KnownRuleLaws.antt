@@ -7,7 +7,7 @@ use Rattle.h5_names.specs.KnownNames.{known_name_of, known_names, name_text}
 use Rattle.h5_names.specs.declared.known_name.KnownName.{KnownName}
 use Rattle.h5_names.proofs.KnownNameLemmas.{any_by_name, are_known, is_known, known_not_other, known_of_text, same_tests, text_of_known}
 use Rattle.h5_token.specs.TokenText.{TagText}
-use Rattle.h5_tag_sets.specs.TagSets.{block_end_names, block_start_names, cell_names, formatting_names, heading_names, is_one_of}
+use Rattle.h5_tables.specs.TagSets.{block_end_names, block_start_names, cell_names, formatting_names, heading_names, is_one_of}
 use Rattle.h5_rules.specs.ByName.{AnyOf, Names, NonePasses, Only, Rules, by_known, by_name, is_among, rule_of}
 use Rattle.h5_rules.specs.modes.AfterAfterBody.{after_after_body_start}
 use Rattle.h5_rules.specs.modes.AfterBody.{after_body_end, after_body_start}

@@ -1,7 +1,7 @@
 -- The list of active formatting elements is of their names: each change and each rule keeps it so, whatever the world.
 use Rattle.std.proofs.Common.{List, [], ◌∷◌, ◌++◌, IsTrue}
 use Rattle.h5_token.specs.TokenText.{TagText}
-use Rattle.h5_tag_sets.specs.TagSets.{formatting_names, is_one_of}
+use Rattle.h5_tables.specs.TagSets.{formatting_names, is_one_of}
 use Rattle.h5_rules.specs.Rows.{Change, CreateFormattingElement}
 
 abbrev IsFormattingTag : TagText → Type 0

@@ -3,8 +3,8 @@ use Rattle.std.proofs.Common.{◌≡◌, ◌<◌, ℕ, Bool, true, false, refl, 
 use Rattle.h5_interface.specs.SinkChoices.{SinkChoices}
 use Rattle.h5_rules.specs.Rows.{Follows, Row}
 use Rattle.h5_rules.specs.World.{World}
-use Rattle.h5_types.specs.TurnResult.{TurnResult}
-use Rattle.h5_types.specs.TurnText.{TurnText}
+use Rattle.h5_tables.specs.TurnResult.{TurnResult}
+use Rattle.h5_tables.specs.TurnText.{TurnText}
 
 -- where an error was told before a turn, the mark isn't 0 behind it
 pub still_told : {H : Type 0} (choices : SinkChoices) (node : H → ℕ) (r : Row) (t : TurnText) (old new : World) (before after : ℕ) (result : TurnResult H) → Follows choices node r t old new before after result → 0 < before → 0 < after

@@ -1,8 +1,8 @@
 -- What a row tells of texts: one that turns the reader to raw text sets the mode to "text" last, and no other does.
 use Rattle.std.proofs.Common.{◌≡◌, Bool, true, false, List, [], ◌∷◌, ◌++◌, refl}
 use Rattle.h5_token.specs.Reply.{Indicates, RunsScript, TurnsPlain, TurnsRaw}
-use Rattle.h5_types.specs.declared.modes.InsertionMode.{InsertionMode}
-use Rattle.h5_types.specs.declared.modes.InsertionMode.TheVariants.{Text}
+use Rattle.h5_tables.specs.declared.modes.InsertionMode.{InsertionMode}
+use Rattle.h5_tables.specs.declared.modes.InsertionMode.TheVariants.{Text}
 use Rattle.h5_rules.specs.fitting.Fits.{AllKinds, is_template_mode}
 use Rattle.h5_rules.specs.fitting.Roles.{roles}
 use Rattle.h5_rules.proofs.fitting.NamesFitLaws.{is_silent, reset_silent}

@@ -1,7 +1,7 @@
 -- What an insertion mode tells of the open elements (HTML standard, section 13.2.4.1).
 use Rattle.std.specs.Prelude.{◌≡◌, ◌<◌, ◌+◌, ℕ, ◌∷◌, [], Bool, true, false, List, length, Option, Some, None}
-use Rattle.h5_types.specs.declared.modes.InsertionMode.{InsertionMode}
-use Rattle.h5_types.specs.declared.modes.InsertionMode.TheVariants.{Initial, BeforeHtml, BeforeHead, InHead, InHeadNoscript, AfterHead, InBody, Text, InTable, InTableText, InCaption, InColumnGroup, InTableBody, InRow, InCell, InTemplate, AfterBody, InFrameset, AfterFrameset, AfterAfterBody, AfterAfterFrameset}
+use Rattle.h5_tables.specs.declared.modes.InsertionMode.{InsertionMode}
+use Rattle.h5_tables.specs.declared.modes.InsertionMode.TheVariants.{Initial, BeforeHtml, BeforeHead, InHead, InHeadNoscript, AfterHead, InBody, Text, InTable, InTableText, InCaption, InColumnGroup, InTableBody, InRow, InCell, InTemplate, AfterBody, InFrameset, AfterFrameset, AfterAfterBody, AfterAfterFrameset}
 use Rattle.h5_rules.specs.fitting.Contexts.{LeastContext, Over, TableBodyContext, TableRowContext, Under, cell_in_scope}
 use Rattle.h5_rules.specs.fitting.Floors.{Grounded, HasBase, RootIs}
 use Rattle.h5_rules.specs.fitting.Roles.{HeadRole, HtmlRole, PlainRole, Role, TemplateRole, count_roles, has_role, is_head, is_template}

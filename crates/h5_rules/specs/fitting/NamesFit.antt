@@ -2,9 +2,9 @@
 use Rattle.std.specs.Prelude.{◌≡◌, Bool, true, List, IsTrue, Some, codes}
 use Rattle.h5_names.specs.AttributeText.{is_same_text}
 use Rattle.h5_names.specs.declared.qualified.QualName.{QualName}
-use Rattle.h5_tag_sets.specs.TagSets.{html_namespace, is_html_named}
-use Rattle.h5_types.specs.declared.modes.InsertionMode.{InsertionMode}
-use Rattle.h5_types.specs.declared.modes.InsertionMode.TheVariants.{InHeadNoscript, Text}
+use Rattle.h5_tables.specs.TagSets.{html_namespace, is_html_named}
+use Rattle.h5_tables.specs.declared.modes.InsertionMode.{InsertionMode}
+use Rattle.h5_tables.specs.declared.modes.InsertionMode.TheVariants.{InHeadNoscript, Text}
 use Rattle.h5_rules.specs.stack.Scope.{first_passes, later_names}
 use Rattle.h5_rules.specs.fitting.Fits.{Fits, Situation, is_table_mode}
 use Rattle.h5_rules.specs.fitting.Roles.{roles}

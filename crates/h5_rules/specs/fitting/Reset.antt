@@ -2,7 +2,7 @@
 -- appropriately").
 use Rattle.h5_rules.specs.fitting.ResetByRoles.{reset}
 use Rattle.h5_rules.specs.fitting.Roles.{roles}
-use Rattle.h5_types.specs.declared.modes.InsertionMode.{InsertionMode}
+use Rattle.h5_tables.specs.declared.modes.InsertionMode.{InsertionMode}
 use Rattle.h5_rules.specs.Sound.{situation_of}
 use Rattle.h5_rules.specs.World.{World, names_of}
 

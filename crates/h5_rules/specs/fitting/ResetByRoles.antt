@@ -1,7 +1,7 @@
 -- The reset of the insertion mode (HTML standard, section 13.2.4.1, "reset the insertion mode appropriately").
 use Rattle.std.specs.Prelude.{◌∷◌, [], cond, List, Option, Some, None}
-use Rattle.h5_types.specs.declared.modes.InsertionMode.{InsertionMode}
-use Rattle.h5_types.specs.declared.modes.InsertionMode.TheVariants.{BeforeHead, InHead, AfterHead, InBody, InTable, InCaption, InColumnGroup, InTableBody, InRow, InCell, InFrameset}
+use Rattle.h5_tables.specs.declared.modes.InsertionMode.{InsertionMode}
+use Rattle.h5_tables.specs.declared.modes.InsertionMode.TheVariants.{BeforeHead, InHead, AfterHead, InBody, InTable, InCaption, InColumnGroup, InTableBody, InRow, InCell, InFrameset}
 use Rattle.h5_rules.specs.fitting.Fits.{Situation}
 use Rattle.h5_rules.specs.fitting.Roles.{BodyRole, CaptionRole, CellRole, ColgroupRole, FramesetRole, HeadRole, HtmlRole, PlainRole, Role, RowRole, SectionRole, TableRole, TemplateRole}
 

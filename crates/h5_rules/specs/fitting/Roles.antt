@@ -3,7 +3,7 @@
 use Rattle.h5_names.specs.AttributeText.{is_same_text}
 use Rattle.std.specs.Prelude.{ℕ, ◌∷◌, [], suc, Bool, true, false, cond, List, map, codes, if◌then◌else◌}
 use Rattle.h5_names.specs.declared.qualified.QualName.{QualName}
-use Rattle.h5_tag_sets.specs.TagSets.{html_namespace}
+use Rattle.h5_tables.specs.TagSets.{html_namespace}
 
 -- what a name is to a reset of the mode: plain, or one that decides; a section is a `tbody`, `tfoot` or `thead`, a
 -- cell a `td` or `th`

@@ -1,7 +1,7 @@
 -- What rules change besides names and mode.
 use Rattle.std.specs.Prelude.{◌∷◌, [], true, false, List, Some, None}
-use Rattle.h5_types.specs.declared.modes.InsertionMode.{InsertionMode}
-use Rattle.h5_types.specs.declared.modes.InsertionMode.TheVariants.{InTable, InCaption, InColumnGroup, InTableBody, InRow, InCell, InTemplate}
+use Rattle.h5_tables.specs.declared.modes.InsertionMode.{InsertionMode}
+use Rattle.h5_tables.specs.declared.modes.InsertionMode.TheVariants.{InTable, InCaption, InColumnGroup, InTableBody, InRow, InCell, InTemplate}
 use Rattle.h5_rules.specs.fitting.Fits.{Situation}
 use Rattle.h5_rules.specs.fitting.Roles.{CaptionRole, CellRole, ColgroupRole, Role, RowRole, SectionRole, TemplateRole}
 

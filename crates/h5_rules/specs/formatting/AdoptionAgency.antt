@@ -8,7 +8,7 @@ use Rattle.h5_interface.specs.Forest.{ChildNode, DocumentNode, Forest, FragmentN
 use Rattle.h5_interface.specs.NewElement.{flags_of}
 use Rattle.h5_interface.specs.Seen.{make_element, with_last_child}
 use Rattle.h5_interface.specs.SinkChoices.{SinkChoices}
-use Rattle.h5_tag_sets.specs.TagSets.{is_default_scope, is_html_named, is_special}
+use Rattle.h5_tables.specs.TagSets.{is_default_scope, is_html_named, is_special}
 use Rattle.h5_rules.specs.formatting.Adoption.{FormattingElement, FurthestBlock, adopted_at, furthest_block, newer_than, newest_named, older_than, to_clone, without_node}
 use Rattle.h5_rules.specs.formatting.FormattingList.{Entry, ElementEntry, MarkerEntry, nodes_of, without_entry}
 use Rattle.h5_rules.specs.formatting.FormattingNames.{html_name}

@@ -44,10 +44,6 @@ names_made_anew (ElementEntry n tag ∷ l) names = html_name tag.name ∷ names_
 unfoldable pub names_anew : World → List QualName
 names_anew w = names_made_anew (closed_front w.stack w.formatting) (names_of w)
 
--- whether reconstructing changes nothing
-abbrev pub is_reconstructed : World → Bool
-is_reconstructed w = is_empty (closed_front w.stack w.formatting)
-
 -- "insert a marker"
 unfoldable pub insert_marker : World → World
 insert_marker w = record w { formatting = MarkerEntry ∷ w.formatting }

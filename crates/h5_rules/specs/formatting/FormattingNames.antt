@@ -3,7 +3,7 @@ use Rattle.std.specs.Prelude.{◌≡◌, ℕ, false, List, codes, IsTrue, Some, 
 use Rattle.h5_names.specs.declared.qualified.QualName.{QualName}
 use Rattle.h5_token.specs.TokenText.{TagText}
 use Rattle.h5_interface.specs.Forest.{ElementNode, Forest, kind_of}
-use Rattle.h5_tag_sets.specs.TagSets.{formatting_names, is_one_of, is_special}
+use Rattle.h5_tables.specs.TagSets.{formatting_names, is_one_of, is_special}
 use Rattle.h5_rules.specs.formatting.FormattingList.{EachEntry, Entry}
 
 -- each listed element was created for a tag of such a name

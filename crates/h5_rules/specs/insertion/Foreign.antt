@@ -8,10 +8,10 @@ use Rattle.h5_interface.specs.Forest.{Forest}
 use Rattle.h5_interface.specs.NewElement.{is_annotation_xml}
 use Rattle.h5_interface.specs.Seen.{is_integration_point}
 use Rattle.h5_interface.specs.SinkChoices.{SinkChoices}
-use Rattle.h5_tag_sets.specs.TagSets.{is_mathml_text_point, is_one_of, is_svg_html_point, mathml_namespace, svg_namespace}
-use Rattle.h5_data.specs.AdjustedNames.{adjusted_svg_tag, foreign_attributes, mathml_attributes, renamed, svg_attributes}
-use Rattle.h5_types.specs.TurnText.{CommentTurn, EofTurn, NullTurn, TagTurn, TextTurn, TurnText}
-use Rattle.h5_types.specs.declared.modes.SplitStatus.TheVariants.{NotSplit}
+use Rattle.h5_tables.specs.TagSets.{is_mathml_text_point, is_one_of, is_svg_html_point, mathml_namespace, svg_namespace}
+use Rattle.h5_tables.specs.AdjustedNames.{adjusted_svg_tag, foreign_attributes, mathml_attributes, renamed, svg_attributes}
+use Rattle.h5_tables.specs.TurnText.{CommentTurn, EofTurn, NullTurn, TagTurn, TextTurn, TurnText}
+use Rattle.h5_tables.specs.declared.modes.SplitStatus.TheVariants.{NotSplit}
 use Rattle.h5_rules.specs.stack.Scope.{cut_through}
 use Rattle.h5_rules.specs.fitting.NamesFit.{is_html_element}
 use Rattle.h5_rules.specs.Changes.{new_element, pop, with_forest}

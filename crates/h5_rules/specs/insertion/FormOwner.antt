@@ -7,7 +7,7 @@ use Rattle.h5_interface.specs.Changes.{mark}
 use Rattle.h5_interface.specs.Forest.{Forest, Marks}
 use Rattle.h5_interface.specs.NewElement.{is_expanded}
 use Rattle.h5_interface.specs.SinkChoices.{SinkChoices}
-use Rattle.h5_tag_sets.specs.TagSets.{is_one_of}
+use Rattle.h5_tables.specs.TagSets.{is_one_of}
 use Rattle.h5_rules.specs.stack.Scope.{has_template}
 use Rattle.h5_rules.specs.insertion.Place.{LastChild, Place, TableFosterParenting}
 use Rattle.h5_rules.specs.World.{World, names_of}

@@ -4,7 +4,7 @@ use Rattle.h5_names.specs.declared.qualified.QualName.{QualName}
 use Rattle.h5_interface.specs.Forest.{Child, Forest, IsElement, IsNode, contents_of, parent_of}
 use Rattle.h5_interface.specs.NewElement.{is_html_template}
 use Rattle.h5_interface.specs.Seen.{CanAppend, CanAppendBasedOnParent, with_child_by, with_last_child}
-use Rattle.h5_tag_sets.specs.TagSets.{is_html_named, is_table_outer}
+use Rattle.h5_tables.specs.TagSets.{is_html_named, is_table_outer}
 use Rattle.h5_rules.specs.World.{World, current, name_in, root}
 use Rattle.h5_rules.specs.stack.Order.{first_or}
 

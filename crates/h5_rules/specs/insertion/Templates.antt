@@ -7,7 +7,7 @@ use Rattle.h5_interface.specs.NewElement.{flags_of}
 use Rattle.h5_interface.specs.Seen.{make_element}
 use Rattle.h5_interface.specs.SinkChoices.{SinkChoices}
 use Rattle.h5_rules.specs.fitting.SituationChanges.{later_modes}
-use Rattle.h5_types.specs.declared.modes.InsertionMode.{InsertionMode}
+use Rattle.h5_tables.specs.declared.modes.InsertionMode.{InsertionMode}
 use Rattle.h5_rules.specs.formatting.FormattingNames.{html_name}
 use Rattle.h5_rules.specs.Changes.{insert_element, pop, with_forest}
 use Rattle.h5_rules.specs.insertion.FormOwner.{stands_by}

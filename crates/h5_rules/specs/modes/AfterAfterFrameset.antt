@@ -1,8 +1,8 @@
 -- HTML standard, section 13.2.6.4.21, the "after after frameset" insertion mode.
 use Rattle.std.specs.Prelude.{[], ◌∷◌}
 use Rattle.h5_token.specs.TokenText.{TagText}
-use Rattle.h5_types.specs.TurnText.{CommentTurn, EofTurn, NullTurn, TagTurn, TextTurn, TurnText}
-use Rattle.h5_types.specs.declared.modes.SplitStatus.TheVariants.{NotSplit, NotWhitespace, Whitespace}
+use Rattle.h5_tables.specs.TurnText.{CommentTurn, EofTurn, NullTurn, TagTurn, TextTurn, TurnText}
+use Rattle.h5_tables.specs.declared.modes.SplitStatus.TheVariants.{NotSplit, NotWhitespace, Whitespace}
 use Rattle.h5_rules.specs.modes.AfterFrameset.{after_frameset_start}
 use Rattle.h5_rules.specs.ByName.{by_kind, by_name, ignored_tag}
 use Rattle.h5_rules.specs.Rows.{AppendCommentToDoc, IsDone, Row, ignored, row}

@@ -2,9 +2,9 @@
 use Rattle.std.specs.Prelude.{ℕ, false, List, [], ◌∷◌, ◌++◌, Option, Some, None, codes}
 use Rattle.h5_token.specs.TokenText.{TagText}
 use Rattle.h5_names.specs.declared.known_name.KnownName.TheVariants.{Body, Frameset, Head, Html, Template}
-use Rattle.h5_types.specs.TurnText.{CommentTurn, EofTurn, NullTurn, TagTurn, TextTurn, TurnText}
-use Rattle.h5_types.specs.declared.modes.InsertionMode.TheVariants.{InBody, InFrameset}
-use Rattle.h5_types.specs.declared.modes.SplitStatus.TheVariants.{NotSplit, NotWhitespace, Whitespace}
+use Rattle.h5_tables.specs.TurnText.{CommentTurn, EofTurn, NullTurn, TagTurn, TextTurn, TurnText}
+use Rattle.h5_tables.specs.declared.modes.InsertionMode.TheVariants.{InBody, InFrameset}
+use Rattle.h5_tables.specs.declared.modes.SplitStatus.TheVariants.{NotSplit, NotWhitespace, Whitespace}
 use Rattle.h5_rules.specs.ByName.{AnyOf, Only, Rules, by_kind, by_name, ignored_tag, of_tag, outer_names}
 use Rattle.h5_rules.specs.Rows.{Again, AppendComment, AppendText, Change, InsertElement, IsDone, PushHead, RemoveFromStack, Row, SetFramesetNotOk, SetMode, errs, row}
 use Rattle.h5_rules.specs.modes.Shared.{head_start_names, in_body_start_html, inserts}

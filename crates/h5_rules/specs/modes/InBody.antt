@@ -5,12 +5,12 @@ use Rattle.h5_token.specs.TokenText.{TagText}
 use Rattle.h5_token.specs.declared.states.RawKind.TheVariants.{Rawtext, Rcdata}
 use Rattle.h5_names.specs.declared.known_name.KnownName.TheVariants.{A, Body, Br, Button, Form, Frameset, Hr, Html, Iframe, Image, Input, Math, Nobr, Noembed, Noscript, Optgroup, P, Plaintext, Select, Svg, Table, Template, Textarea, Xmp}
 use Rattle.h5_names.specs.declared.known_name.KnownName.TheVariants as known
-use Rattle.h5_tag_sets.specs.TagSets.{block_end_names, block_start_names, formatting_names, heading_names, is_default_scope, is_heading, is_html_named, is_implied, is_list_item_scope, mathml_namespace, svg_namespace}
+use Rattle.h5_tables.specs.TagSets.{block_end_names, block_start_names, formatting_names, heading_names, is_default_scope, is_heading, is_html_named, is_implied, is_list_item_scope, mathml_namespace, svg_namespace}
 use Rattle.h5_rules.specs.stack.Scope.{comes_before_special, drop_while, first_passes, has_body_in_scope, has_p_in_button_scope, has_template, has_unclosed, in_scope, is_implied_but, node_in_scope, oldest_passing, second_is}
 use Rattle.h5_interface.specs.declared.marks.QuirksMode.{QuirksMode}
 use Rattle.h5_interface.specs.declared.marks.QuirksMode.TheVariants.{Quirks}
-use Rattle.h5_types.specs.TurnText.{CommentTurn, EofTurn, NullTurn, TagTurn, TextTurn, TurnText}
-use Rattle.h5_types.specs.declared.modes.InsertionMode.TheVariants.{AfterBody, InTable, InFrameset}
+use Rattle.h5_tables.specs.TurnText.{CommentTurn, EofTurn, NullTurn, TagTurn, TextTurn, TurnText}
+use Rattle.h5_tables.specs.declared.modes.InsertionMode.TheVariants.{AfterBody, InTable, InFrameset}
 use Rattle.h5_rules.specs.formatting.AdoptionAgency.{closes_one, is_named_listed}
 use Rattle.h5_rules.specs.ByName.{AnyOf, Only, Rules, by_kind, by_name, ignored_tag}
 use Rattle.h5_rules.specs.insertion.Foreign.{adjusted_attributes, foreign_name}
@@ -21,7 +21,7 @@ use Rattle.h5_rules.specs.World.{World, names_of}
 use Rattle.h5_names.specs.AttributeText.{AttributeText}
 use Rattle.h5_rules.specs.modes.InHead.{in_head_end_template, in_head_start_tag, template_eof}
 use Rattle.h5_token.specs.Reply.{TurnsPlain, TurnsRaw}
-use Rattle.h5_types.specs.declared.modes.InsertionMode.{InsertionMode}
+use Rattle.h5_tables.specs.declared.modes.InsertionMode.{InsertionMode}
 use Rattle.h5_rules.specs.stack.Expected.{is_expected, is_expected_item, is_expected_node, is_expected_p, names_behind_item, names_behind_p}
 
 -- a start tag "body"

@@ -2,8 +2,8 @@
 use Rattle.std.specs.Prelude.{List, [], ◌∷◌, ℕ, codes}
 use Rattle.h5_token.specs.TokenText.{TagText}
 use Rattle.h5_names.specs.declared.known_name.KnownName.TheVariants.{Caption, Table}
-use Rattle.h5_types.specs.TurnText.{CommentTurn, EofTurn, NullTurn, TagTurn, TextTurn, TurnText}
-use Rattle.h5_types.specs.declared.modes.InsertionMode.TheVariants.{InTable}
+use Rattle.h5_tables.specs.TurnText.{CommentTurn, EofTurn, NullTurn, TagTurn, TextTurn, TurnText}
+use Rattle.h5_tables.specs.declared.modes.InsertionMode.TheVariants.{InTable}
 use Rattle.h5_rules.specs.ByName.{AnyOf, Only, Rules, by_kind, by_name, ignored_tag, of_tag}
 use Rattle.h5_rules.specs.modes.InBody.{in_body}
 use Rattle.h5_rules.specs.Rows.{Again, Change, ClearActiveFormattingToMarker, Ending, GenerateImpliedEnd, IsDone, PopUntilNamed, Row, SetMode, choose, ignored, row_if}
@@ -11,7 +11,7 @@ use Rattle.h5_rules.specs.modes.Shared.{table_structure_names}
 use Rattle.h5_rules.specs.modes.Tables.{named_in_table_scope}
 use Rattle.h5_rules.specs.World.{World, names_of}
 use Rattle.h5_rules.specs.stack.Expected.{is_expected}
-use Rattle.h5_tag_sets.specs.TagSets.{is_html_named, is_implied}
+use Rattle.h5_tables.specs.TagSets.{is_html_named, is_implied}
 
 -- the caption is closed, where table scope has one
 unfoldable pub close_the_caption : List Change → Ending → World → Row

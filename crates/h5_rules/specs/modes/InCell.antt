@@ -1,9 +1,9 @@
 -- HTML standard, section 13.2.6.4.15, the "in cell" insertion mode.
 use Rattle.std.specs.Prelude.{List, [], ◌∷◌, ℕ, codes}
 use Rattle.h5_token.specs.TokenText.{TagText}
-use Rattle.h5_tag_sets.specs.TagSets.{cell_names, is_cell, is_html_named, is_implied}
-use Rattle.h5_types.specs.TurnText.{CommentTurn, EofTurn, NullTurn, TagTurn, TextTurn, TurnText}
-use Rattle.h5_types.specs.declared.modes.InsertionMode.TheVariants.{InRow}
+use Rattle.h5_tables.specs.TagSets.{cell_names, is_cell, is_html_named, is_implied}
+use Rattle.h5_tables.specs.TurnText.{CommentTurn, EofTurn, NullTurn, TagTurn, TextTurn, TurnText}
+use Rattle.h5_tables.specs.declared.modes.InsertionMode.TheVariants.{InRow}
 use Rattle.h5_rules.specs.ByName.{AnyOf, Rules, by_kind, by_name, ignored_tag, of_tag}
 use Rattle.h5_rules.specs.modes.InBody.{in_body}
 use Rattle.h5_rules.specs.Rows.{Again, ClearActiveFormattingToMarker, GenerateImpliedEnd, IsDone, PopUntilCell, PopUntilNamed, Row, SetMode, choose, ignored, row_if}

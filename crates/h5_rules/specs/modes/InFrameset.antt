@@ -3,10 +3,10 @@ use Rattle.std.specs.Prelude.{Bool, true, false, not, ◌&&◌, List, [], ◌∷
 use Rattle.h5_names.specs.declared.qualified.QualName.{QualName}
 use Rattle.h5_token.specs.TokenText.{TagText}
 use Rattle.h5_names.specs.declared.known_name.KnownName.TheVariants.{Frame, Frameset, Html, Noframes}
-use Rattle.h5_tag_sets.specs.TagSets.{is_html_named}
-use Rattle.h5_types.specs.TurnText.{CommentTurn, EofTurn, NullTurn, TagTurn, TextTurn, TurnText}
-use Rattle.h5_types.specs.declared.modes.InsertionMode.TheVariants.{AfterFrameset}
-use Rattle.h5_types.specs.declared.modes.SplitStatus.TheVariants.{NotSplit, NotWhitespace, Whitespace}
+use Rattle.h5_tables.specs.TagSets.{is_html_named}
+use Rattle.h5_tables.specs.TurnText.{CommentTurn, EofTurn, NullTurn, TagTurn, TextTurn, TurnText}
+use Rattle.h5_tables.specs.declared.modes.InsertionMode.TheVariants.{AfterFrameset}
+use Rattle.h5_tables.specs.declared.modes.SplitStatus.TheVariants.{NotSplit, NotWhitespace, Whitespace}
 use Rattle.h5_rules.specs.ByName.{Only, Rules, by_kind, by_name, ignored_tag}
 use Rattle.h5_rules.specs.modes.InHead.{in_head_start_tag}
 use Rattle.h5_rules.specs.Rows.{AppendComment, AppendText, InsertAndPopElement, IsAcknowledged, IsDone, Pop, Row, SetMode, choose, ignored, row, row_if}

@@ -3,9 +3,9 @@ use Rattle.std.specs.Prelude.{ℕ, List, [], ◌∷◌, codes}
 use Rattle.h5_token.specs.TokenText.{TagText}
 use Rattle.h5_token.specs.declared.states.RawKind.TheVariants.{Rawtext, Rcdata, ScriptData}
 use Rattle.h5_names.specs.declared.known_name.KnownName.TheVariants.{Head, Html, Meta, Noscript, Script, Template, Title}
-use Rattle.h5_types.specs.TurnText.{CommentTurn, EofTurn, NullTurn, TagTurn, TextTurn, TurnText}
-use Rattle.h5_types.specs.declared.modes.InsertionMode.TheVariants.{AfterHead, InHeadNoscript, InTemplate}
-use Rattle.h5_types.specs.declared.modes.SplitStatus.TheVariants.{NotSplit, NotWhitespace, Whitespace}
+use Rattle.h5_tables.specs.TurnText.{CommentTurn, EofTurn, NullTurn, TagTurn, TextTurn, TurnText}
+use Rattle.h5_tables.specs.declared.modes.InsertionMode.TheVariants.{AfterHead, InHeadNoscript, InTemplate}
+use Rattle.h5_tables.specs.declared.modes.SplitStatus.TheVariants.{NotSplit, NotWhitespace, Whitespace}
 use Rattle.h5_rules.specs.ByName.{AnyOf, Only, Rules, by_kind, by_name, ignored_tag, of_tag, outer_names}
 use Rattle.h5_rules.specs.NamedEncoding.{indicates, named_encoding}
 use Rattle.h5_rules.specs.Rows.{Again, AgainBy, AppendComment, AppendText, ClearActiveFormattingToMarker, GenerateImpliedEndThoroughly, InsertAndPopElement, InsertMarker, InsertScript, InsertTemplate, IsAcknowledged, IsDone, Pop, PopTemplateMode, PopUntilNamed, PushTemplateMode, ResetMode, Row, SetFramesetNotOk, SetMode, choose, errs, ignored, row, row_if}
@@ -14,7 +14,7 @@ use Rattle.h5_rules.specs.fitting.Reset.{reset_mode}
 use Rattle.h5_rules.specs.World.{World, names_of}
 use Rattle.h5_rules.specs.stack.Scope.{has_template}
 use Rattle.h5_rules.specs.stack.Expected.{is_expected}
-use Rattle.h5_tag_sets.specs.TagSets.{is_html_named, is_thorough_implied}
+use Rattle.h5_tables.specs.TagSets.{is_html_named, is_thorough_implied}
 
 -- an end tag "head"
 abbrev pub in_head_end_head : TagText → World → Row

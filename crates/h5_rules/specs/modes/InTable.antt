@@ -2,10 +2,10 @@
 use Rattle.std.specs.Prelude.{Bool, false, ◌||◌, List, [], ◌∷◌, ℕ, codes, is_some}
 use Rattle.h5_token.specs.TokenText.{TagText}
 use Rattle.h5_names.specs.declared.known_name.KnownName.TheVariants.{Caption, Col, Colgroup, Form, Input, Table, Template}
-use Rattle.h5_tag_sets.specs.TagSets.{is_table_outer, is_table_scope}
+use Rattle.h5_tables.specs.TagSets.{is_table_outer, is_table_scope}
 use Rattle.h5_rules.specs.stack.Scope.{first_passes, has_template}
-use Rattle.h5_types.specs.TurnText.{CommentTurn, EofTurn, NullTurn, TagTurn, TextTurn, TurnText}
-use Rattle.h5_types.specs.declared.modes.InsertionMode.TheVariants.{InCaption, InColumnGroup, InTableBody, InTableText}
+use Rattle.h5_tables.specs.TurnText.{CommentTurn, EofTurn, NullTurn, TagTurn, TextTurn, TurnText}
+use Rattle.h5_tables.specs.declared.modes.InsertionMode.TheVariants.{InCaption, InColumnGroup, InTableBody, InTableText}
 use Rattle.h5_rules.specs.ByName.{AnyOf, Only, Rules, by_kind, by_name, ignored_tag, of_tag}
 use Rattle.h5_rules.specs.modes.InBody.{in_body}
 use Rattle.h5_rules.specs.fitting.Reset.{reset_mode}

@@ -3,9 +3,9 @@ use Rattle.std.specs.Prelude.{Bool, false, ◌||◌, List, [], ◌∷◌, ℕ, c
 use Rattle.h5_names.specs.declared.qualified.QualName.{QualName}
 use Rattle.h5_token.specs.TokenText.{TagText}
 use Rattle.h5_names.specs.declared.known_name.KnownName.TheVariants.{Table, Tr}
-use Rattle.h5_tag_sets.specs.TagSets.{cell_names, is_html_named, is_table_body_context}
-use Rattle.h5_types.specs.TurnText.{CommentTurn, EofTurn, NullTurn, TagTurn, TextTurn, TurnText}
-use Rattle.h5_types.specs.declared.modes.InsertionMode.TheVariants.{InRow, InTable}
+use Rattle.h5_tables.specs.TagSets.{cell_names, is_html_named, is_table_body_context}
+use Rattle.h5_tables.specs.TurnText.{CommentTurn, EofTurn, NullTurn, TagTurn, TextTurn, TurnText}
+use Rattle.h5_tables.specs.declared.modes.InsertionMode.TheVariants.{InRow, InTable}
 use Rattle.h5_rules.specs.ByName.{AnyOf, Only, Rules, by_kind, by_name, ignored_tag, of_tag}
 use Rattle.h5_rules.specs.modes.Shared.{inserts}
 use Rattle.h5_rules.specs.modes.InTable.{in_table}

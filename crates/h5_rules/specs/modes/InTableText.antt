@@ -1,9 +1,9 @@
 -- HTML standard, section 13.2.6.4.10, the "in table text" insertion mode.
 use Rattle.std.specs.Prelude.{List, [], ◌∷◌, ℕ, unwrap_or}
-use Rattle.h5_types.specs.TurnText.{CommentTurn, EofTurn, NullTurn, TagTurn, TextTurn, TurnText}
-use Rattle.h5_types.specs.declared.modes.InsertionMode.{InsertionMode}
-use Rattle.h5_types.specs.declared.modes.InsertionMode.TheVariants.{InTable}
-use Rattle.h5_types.specs.declared.modes.SplitStatus.TheVariants.{NotSplit}
+use Rattle.h5_tables.specs.TurnText.{CommentTurn, EofTurn, NullTurn, TagTurn, TextTurn, TurnText}
+use Rattle.h5_tables.specs.declared.modes.InsertionMode.{InsertionMode}
+use Rattle.h5_tables.specs.declared.modes.InsertionMode.TheVariants.{InTable}
+use Rattle.h5_tables.specs.declared.modes.SplitStatus.TheVariants.{NotSplit}
 use Rattle.h5_rules.specs.Blanks.{all_blank}
 use Rattle.h5_rules.specs.modes.InBody.{in_body}
 use Rattle.h5_rules.specs.Rows.{AgainBy, AppendPendingText, AppendText, IsDone, Row, TakePendingText, choose, ignored, row}

@@ -2,10 +2,10 @@
 use Rattle.std.specs.Prelude.{ℕ, List, [], ◌∷◌, codes}
 use Rattle.h5_token.specs.TokenText.{TagText}
 use Rattle.h5_names.specs.declared.known_name.KnownName.TheVariants.{Col, Template, Tr}
-use Rattle.h5_tag_sets.specs.TagSets.{cell_names}
-use Rattle.h5_types.specs.TurnText.{CommentTurn, EofTurn, NullTurn, TagTurn, TextTurn, TurnText}
-use Rattle.h5_types.specs.declared.modes.InsertionMode.{InsertionMode}
-use Rattle.h5_types.specs.declared.modes.InsertionMode.TheVariants.{InBody, InColumnGroup, InRow, InTable, InTableBody}
+use Rattle.h5_tables.specs.TagSets.{cell_names}
+use Rattle.h5_tables.specs.TurnText.{CommentTurn, EofTurn, NullTurn, TagTurn, TextTurn, TurnText}
+use Rattle.h5_tables.specs.declared.modes.InsertionMode.{InsertionMode}
+use Rattle.h5_tables.specs.declared.modes.InsertionMode.TheVariants.{InBody, InColumnGroup, InRow, InTable, InTableBody}
 use Rattle.h5_rules.specs.ByName.{AnyOf, Only, Rules, by_kind, by_name, ignored_tag}
 use Rattle.h5_rules.specs.modes.InBody.{in_body}
 use Rattle.h5_rules.specs.modes.InHead.{in_head_end_template, in_head_start_tag, template_eof}

@@ -3,12 +3,12 @@ use Rattle.std.specs.Prelude.{ℕ, Bool, false, ◌&&◌, if◌then◌else◌, L
 use Rattle.std.specs.Str.{str_eq_ignore_ascii_case}
 use Rattle.h5_names.specs.declared.qualified.QualName.{QualName}
 use Rattle.h5_token.specs.TokenText.{TagText}
-use Rattle.h5_types.specs.declared.modes.InsertionMode.TheVariants.{Text}
+use Rattle.h5_tables.specs.declared.modes.InsertionMode.TheVariants.{Text}
 use Rattle.h5_token.specs.declared.states.RawKind.{RawKind}
 use Rattle.h5_rules.specs.stack.Scope.{first_passes, has_template}
 use Rattle.h5_rules.specs.Rows.{AddAttrsToHtml, Answers, AppendText, Change, InsertAndPopForeignElement, InsertElement, InsertForeignElement, IsAcknowledged, IsDone, ReconstructActiveFormattingElements, Row, SaveMode, SetFramesetOkByText, SetMode, choose, errs, ignored, row}
 use Rattle.h5_rules.specs.World.{World, name_in, names_of}
-use Rattle.h5_tag_sets.specs.TagSets.{is_html_named}
+use Rattle.h5_tables.specs.TagSets.{is_html_named}
 use Rattle.h5_names.specs.AttributeText.{AttributeText, is_same_text}
 use Rattle.h5_interface.specs.Forest.{Forest}
 use Rattle.h5_token.specs.Reply.{TurnsRaw}

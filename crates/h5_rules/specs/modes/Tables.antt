@@ -1,8 +1,8 @@
 -- What the modes of tables share (HTML standard, sections 13.2.6.4.9 to 13.2.6.4.15).
 use Rattle.std.specs.Prelude.{Bool, true, false, List, [], ◌∷◌, ◌++◌, ℕ, codes}
 use Rattle.h5_names.specs.declared.qualified.QualName.{QualName}
-use Rattle.h5_types.specs.TurnText.{TurnText}
-use Rattle.h5_tag_sets.specs.TagSets.{is_html_named, is_table_scope}
+use Rattle.h5_tables.specs.TurnText.{TurnText}
+use Rattle.h5_tables.specs.TagSets.{is_html_named, is_table_scope}
 use Rattle.h5_rules.specs.stack.Scope.{in_scope}
 use Rattle.h5_rules.specs.Changes.{set_foster}
 use Rattle.h5_rules.specs.Rows.{Row, SetFoster, errs}

@@ -4,7 +4,7 @@ use Rattle.std.specs.Prelude.{if◌then◌else◌, List, [], ◌∷◌, ◌++◌
 use Rattle.h5_names.specs.AttributeText.{is_same_text}
 use Rattle.h5_token.specs.Reply.{RunsScript}
 use Rattle.h5_token.specs.TokenText.{TagText}
-use Rattle.h5_types.specs.TurnText.{CommentTurn, EofTurn, NullTurn, TagTurn, TextTurn, TurnText}
+use Rattle.h5_tables.specs.TurnText.{CommentTurn, EofTurn, NullTurn, TagTurn, TextTurn, TurnText}
 use Rattle.h5_rules.specs.ByName.{by_kind}
 use Rattle.h5_rules.specs.modes.InTableText.{saved_mode}
 use Rattle.h5_rules.specs.Rows.{AgainBy, Answers, AppendText, Change, Ending, IsDone, MarkStarted, Pop, Row, SetMode, errs, ignored, row}

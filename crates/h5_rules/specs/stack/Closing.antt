@@ -3,15 +3,15 @@ use Rattle.std.specs.Prelude.{ℕ, Bool, not, ◌&&◌, if◌then◌else◌, Lis
 use Rattle.h5_names.specs.AttributeText.{is_same_text}
 use Rattle.h5_names.specs.declared.qualified.QualName.{QualName}
 use Rattle.h5_interface.specs.SinkChoices.{SinkChoices}
-use Rattle.h5_tag_sets.specs.TagSets.{html_namespace, is_cell, is_default_scope, is_heading, is_html_named, is_implied, is_one_of, is_special, is_thorough_implied}
+use Rattle.h5_tables.specs.TagSets.{html_namespace, is_cell, is_default_scope, is_heading, is_html_named, is_implied, is_one_of, is_special, is_thorough_implied}
 use Rattle.h5_rules.specs.stack.Order.{is_in}
 use Rattle.h5_rules.specs.stack.Scope.{comes_before_special, cut_through, first_passes, has_p_in_button_scope, in_scope}
 use Rattle.h5_rules.specs.Changes.{generate_implied_end_except, pop, pop_until_named, pop_while, with_forest}
 use Rattle.h5_rules.specs.World.{World, names_of}
 
 -- "generate implied end tags"
-unfoldable pub generate_implied_end : SinkChoices → World → World
-generate_implied_end choices w = pop_while choices is_implied (names_of w) w
+unfoldable pub generate_implied_end_tags : SinkChoices → World → World
+generate_implied_end_tags choices w = pop_while choices is_implied (names_of w) w
 
 -- "generate all implied end tags thoroughly"
 unfoldable pub generate_implied_end_thoroughly : SinkChoices → World → World
@@ -46,7 +46,7 @@ close_named choices local w =
 -- implied ends, where a `select` is in scope
 unfoldable pub generate_implied_end_in_select : SinkChoices → World → World
 generate_implied_end_in_select choices w =
-    if in_scope (is_html_named (codes "select")) is_default_scope (names_of w) then generate_implied_end choices w else w
+    if in_scope (is_html_named (codes "select")) is_default_scope (names_of w) then generate_implied_end_tags choices w else w
 
 -- an HTML element of one of these names
 abbrev pub is_html_among : List (List ℕ) → QualName → Bool

@@ -2,7 +2,7 @@
 -- (HTML standard, section 13.2.6.4.7).
 use Rattle.std.specs.Prelude.{ℕ, Bool, true, false, not, ◌==◌, if◌then◌else◌, List, [], ◌∷◌, Option, None, Some, codes}
 use Rattle.h5_names.specs.declared.qualified.QualName.{QualName}
-use Rattle.h5_tag_sets.specs.TagSets.{is_html_named, is_implied}
+use Rattle.h5_tables.specs.TagSets.{is_html_named, is_implied}
 use Rattle.h5_rules.specs.stack.Closing.{newest_item}
 use Rattle.h5_rules.specs.stack.Scope.{cut_above, cut_names, drop_while, first_passes, has_p_in_button_scope, is_implied_but}
 

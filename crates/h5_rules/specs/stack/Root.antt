@@ -1,7 +1,7 @@
 -- The root of the open elements by its name.
 use Rattle.std.specs.Prelude.{List, [], ◌∷◌, IsTrue, codes}
 use Rattle.h5_names.specs.declared.qualified.QualName.{QualName}
-use Rattle.h5_tag_sets.specs.TagSets.{is_html_named}
+use Rattle.h5_tables.specs.TagSets.{is_html_named}
 
 -- the root, once made, is an HTML `html`
 abbrev pub RootIsHtml : List QualName → Type 0

@@ -4,7 +4,7 @@ use Rattle.std.specs.Prelude.{ℕ, ◌==◌, Bool, true, false, not, ◌&&◌, i
 use Rattle.std.specs.List.{list_any}
 use Rattle.h5_names.specs.declared.qualified.QualName.{QualName}
 use Rattle.h5_interface.specs.NewElement.{is_html_template}
-use Rattle.h5_tag_sets.specs.TagSets.{is_body_end_ok, is_button_scope, is_default_scope, is_html_named, is_implied, is_special}
+use Rattle.h5_tables.specs.TagSets.{is_body_end_ok, is_button_scope, is_default_scope, is_html_named, is_implied, is_special}
 use Rattle.h5_rules.specs.stack.Order.{but_first}
 
 -- one of these comes before, or is, the first that ends the scope ("have a particular element in scope")

@@ -18,5 +18,5 @@ returns g c =
     record {
       world = same;
       quiet = c.detach_body.ensures.quiet;
-      sound = record { sound = subst Sound (sym same) (remove_body_stands w c.requires.sound); kept = c.truncate.ensures.kept };
+      sound = record { sound = subst Sound (sym same) (remove_body_stands w c.requires.sound); kept = c.truncate.ensures.kept; stamped = c.truncate.ensures.stamped };
     }

@@ -1,5 +1,5 @@
 use Rattle.std.proofs.Common.{◌≡◌, cond, codes, ap, subst, sym, ◌∙◌}
-use Rattle.h5_tag_sets.specs.TagSets.{is_html_named}
+use Rattle.h5_tables.specs.TagSets.{is_html_named}
 use Rattle.h5_rules.specs.stack.Expected.{names_behind, names_behind_p}
 use Rattle.h5_rules.specs.stack.Scope.{is_implied_but}
 use Rattle.h5_rules.specs.World.{names_of}

@@ -1,5 +1,5 @@
 use Rattle.std.proofs.Common.{ap, refl, subst, sym, ◌≡◌, ◌∙◌}
-use Rattle.h5_tag_sets.specs.TagSets.{is_heading}
+use Rattle.h5_tables.specs.TagSets.{is_heading}
 use Rattle.h5_rules.specs.stack.Closing.{pop_until_heading}
 use Rattle.h5_rules.specs.Sound.{Sound}
 use Rattle.h5_rules.specs.World.{names_of}
@@ -18,5 +18,5 @@ returns g c =
     record {
       world = same;
       quiet = refl;
-      sound = record { sound = subst Sound (sym same) (all_cut _ is (names_of w) w.stack c.requires.sound.sound); kept = c.truncate.ensures.kept };
+      sound = record { sound = subst Sound (sym same) (all_cut _ is (names_of w) w.stack c.requires.sound.sound); kept = c.truncate.ensures.kept; stamped = c.truncate.ensures.stamped };
     }

@@ -17,5 +17,5 @@ returns g c =
     record {
       world = same;
       quiet = refl;
-      sound = record { sound = subst Sound (sym same) (all_cut _ is (names_of w) w.stack c.requires.sound.sound); kept = c.truncate.ensures.kept };
+      sound = record { sound = subst Sound (sym same) (all_cut _ is (names_of w) w.stack c.requires.sound.sound); kept = c.truncate.ensures.kept; stamped = c.truncate.ensures.stamped };
     }

@@ -1,5 +1,5 @@
 use Rattle.std.proofs.Common.{sym, ◌∙◌, arith}
-use Rattle.h5_tag_sets.specs.TagSets.{html_namespace}
+use Rattle.h5_tables.specs.TagSets.{html_namespace}
 use Rattle.h5_closing.proofs.SearchLaws.{search_root, walk_cut, walk_found, walk_html, walk_later}
 use Rattle.h5_closing.proofs.leaving_foreign.walk_to_end.Goals as goal
 

@@ -1,5 +1,5 @@
 use Rattle.std.proofs.Common.{◌≡◌, Some, ap, subst, sym, ◌∙◌}
-use Rattle.h5_tag_sets.specs.TagSets.{is_html_named}
+use Rattle.h5_tables.specs.TagSets.{is_html_named}
 use Rattle.h5_rules.specs.stack.Expected.{names_behind_item, names_behind_named}
 use Rattle.h5_rules.specs.stack.Scope.{cut_names}
 use Rattle.h5_rules.specs.World.{names_of}

@@ -1,5 +1,5 @@
 use Rattle.std.proofs.Common.{Some, ap, ◌++◌, arith, codes, drop, map, reverse, sym, ◌+◌, ◌-◌, ◌∙◌, ◌≡◌}
-use Rattle.h5_tag_sets.specs.TagSets.{is_html_named}
+use Rattle.h5_tables.specs.TagSets.{is_html_named}
 use Rattle.h5_rules.specs.World.{names_of}
 use Rattle.h5_rules.proofs.changes.PopLaws.{names_length}
 use Rattle.h5_rules.proofs.changes.SoundLaws.{element_is_node}

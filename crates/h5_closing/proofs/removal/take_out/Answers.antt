@@ -14,6 +14,7 @@ use Rattle.h5_state.proofs.AttributeLaws.{open_length}
 use Rattle.h5_state.proofs.SummaryLaws as summary
 use Rattle.h5_rules.proofs.changes.RemovalLaws.{all_without}
 use Rattle.h5_state.proofs.RenewLaws.{numbers_removed, under_removed, values_removed}
+use Rattle.h5_state.proofs.StampLaws.{stamped_removed}
 use Rattle.h5_state.proofs.FoundLaws.{left_out}
 use Rattle.h5_closing.proofs.removal.take_out.Goals as goal
 
@@ -101,3 +102,8 @@ returns-in-None-clause-world g c =
     let n = node c.args.handle.now in
     let w = world g.S.TreeSink.sees node c.args.sink.now c.args.state.now in
     ap (λ b. cond b (with_stack (without_node n w.stack) w) w) c.in-None.ensures.found
+
+pub renew_from-requires-clause-stamped : goal.renew_from-requires-clause-stamped
+renew_from-requires-clause-stamped g c =
+    stamped_removed g.S.TreeSink.node c.args.state.now.open_elems _ c.args.state.now.active_formatting c.in-Some.place
+    (values_removed c.args.state.now.open_elems.elements c.remove.new.self c.in-Some.place c.remove.ensures.rest) refl c.requires.sound.stamped

@@ -6,8 +6,8 @@ use Rattle.h5_rules.specs.Sound.{situation_of}
 use Rattle.h5_rules.specs.World.{names_of}
 use Rattle.h5_rules.proofs.changes.PopLaws.{names_length}
 use Rattle.h5_rules.specs.stack.Closing.{is_html_among}
-use Rattle.h5_types.specs.declared.modes.InsertionMode.{InsertionMode}
-use Rattle.h5_types.specs.declared.modes.InsertionMode.TheVariants.{InBody, Initial}
+use Rattle.h5_tables.specs.declared.modes.InsertionMode.{InsertionMode}
+use Rattle.h5_tables.specs.declared.modes.InsertionMode.TheVariants.{InBody, Initial}
 use Rattle.h5_state.specs.Newest.{newest_where}
 use Rattle.h5_state.specs.View.{names_under, world}
 use Rattle.h5_state.proofs.NewestLaws.{newest_le, newest_same}

@@ -1,5 +1,5 @@
 use Rattle.std.proofs.Common.{sym, ◌∙◌}
-use Rattle.h5_types.specs.declared.modes.InsertionMode.TheVariants.{InBody}
+use Rattle.h5_tables.specs.declared.modes.InsertionMode.TheVariants.{InBody}
 use Rattle.h5_rules.specs.Sound.{situation_of}
 use Rattle.h5_closing.specs.Reset.{role_as}
 use Rattle.h5_state.specs.Steps.{world_of}

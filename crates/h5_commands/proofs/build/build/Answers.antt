@@ -1,7 +1,7 @@
 use Rattle.std.proofs.Common.{◌≡◌, ◌++◌, ℕ, Vec, Global, ap, ◌∙◌, rules, string_bytes}
 use Rattle.std.proofs.lemmas.Result.{err_from_is_err_and}
 use Rattle.h5_arena.specs.ArenaModel.{arena_choices, place, seen_of}
-use Rattle.h5_lines.specs.Items.{item_texts}
+use Rattle.h5_print.specs.Items.{item_texts}
 use Rattle.h5_tree_builder.specs.Builder.{ended_view}
 use Rattle.h5_tree_builder.specs.Held.{building}
 use Rattle.h5_tree_builder.specs.Replies.{reply_texts}

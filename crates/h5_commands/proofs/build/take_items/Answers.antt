@@ -4,8 +4,8 @@ use Rattle.std.specs.Vec.Iter.{into_iter_items}
 use Rattle.h5_arena.specs.ArenaModel.{arena_choices, place, seen_of}
 use Rattle.h5_rules.specs.Run.{after_all, replies}
 use Rattle.h5_tree_builder.specs.Builder.{ended_view}
-use Rattle.h5_lines.specs.Items.{item_text, item_texts}
-use Rattle.h5_lines.specs.declared.items.Item.TheVariants as item
+use Rattle.h5_print.specs.Items.{item_text, item_texts}
+use Rattle.h5_print.specs.declared.items.Item.TheVariants as item
 use Rattle.h5_token.specs.TokenText.{token_text}
 use Rattle.h5_token.specs.declared.tokens.Token.{Token}
 use Rattle.h5_tree_builder.specs.Held.{building}

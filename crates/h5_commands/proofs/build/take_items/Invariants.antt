@@ -1,6 +1,6 @@
 use Rattle.std.specs.Vec.Iter.{into_iter_items}
 use Rattle.h5_arena.specs.ArenaModel.{place, seen_of}
-use Rattle.h5_lines.specs.Items.{item_texts}
+use Rattle.h5_print.specs.Items.{item_texts}
 use Rattle.h5_tree_builder.specs.Held.{building}
 use Rattle.h5_tree_builder.specs.Replies.{reply_texts, token_texts}
 use Rattle.h5_commands.proofs.ItemLaws.{Left}

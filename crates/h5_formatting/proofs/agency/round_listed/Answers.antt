@@ -5,14 +5,14 @@ use Rattle.h5_state.specs.View.{world}
 use Rattle.h5_formatting.proofs.AgencyLaws.{found_entry, found_is_element, is_closed_round, open_told}
 use Rattle.h5_formatting.proofs.agency.round_listed.Goals as goal
 
-pub find_open-requires-clause-element : goal.find_open-requires-clause-element
+pub find_listed-requires-clause-element : goal.find_listed-requires-clause-element
 unfolding world
-find_open-requires-clause-element g c = found_is_element (g.S.TreeSink.node c.args.element.now) (world_of g.S.TreeSink c.args.sink.now c.args.state.now) c.requires.found.found c.requires.found.same
+find_listed-requires-clause-element g c = found_is_element (g.S.TreeSink.node c.args.element.now.handle) (world_of g.S.TreeSink c.args.sink.now c.args.state.now) c.requires.found.found c.requires.found.same
 
 pub returns-in-Some-clause-done : goal.returns-in-Some-clause-done
 returns-in-Some-clause-done g c =
     let w = world_of g.S.TreeSink c.args.sink.now c.args.state.now in
-    open_told c.round_open.result g.S.TreeSink.choices (g.S.TreeSink.node c.args.element.now) c.args.at c.in-Some.place w _ (sym c.in-Some.ensures.found) c.in-Some.ensures.place c.round_open.ensures.done
+    open_told c.round_open.result g.S.TreeSink.choices (g.S.TreeSink.node c.args.element.now.handle) c.args.at c.in-Some.place w _ (sym c.in-Some.ensures.found) c.in-Some.ensures.place c.round_open.ensures.done
 
 pub returns-in-None-clause-done : goal.returns-in-None-clause-done
 returns-in-None-clause-done g c = λ name f found same again.

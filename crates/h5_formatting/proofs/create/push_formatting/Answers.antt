@@ -1,7 +1,8 @@
-use Rattle.std.proofs.Common.{List, ap, arith, length, length-append, [], ◌∷◌, ◌∙◌, sym}
+use Rattle.std.proofs.Common.{List, ap, arith, length, length-append, [], ◌∷◌, ◌∙◌, inl, inr, sym}
+use Rattle.std.specs.List.{remove}
 use Rattle.h5_token.specs.TokenText.{tag_text}
-use Rattle.h5_types.specs.declared.entry.FormatEntry.{FormatEntry}
-use Rattle.h5_types.specs.declared.entry.FormatEntry.TheVariants.{Element}
+use Rattle.h5_tables.specs.declared.entry.FormatEntry.{FormatEntry}
+use Rattle.h5_tables.specs.declared.entry.FormatEntry.TheVariants.{Element}
 use Rattle.h5_rules.proofs.entries.PushLaws.{push_free}
 use Rattle.h5_list.specs.Listed.{entries_of, without_place}
 use Rattle.h5_formatting.proofs.ListLaws.{entries_pushed, entry_removed, left_parts, length_entries, pushed_full}
@@ -26,3 +27,9 @@ pub returns-in_default-clause-ok : goal.returns-in_default-clause-ok
 returns-in_default-clause-ok g c = λ node.
     entries_pushed node c.args.entries.now c.push.new.self (Element c.args.handle c.args.tag) c.in_ok-push.ensures.ok
     ∙ sym (push_free (node c.args.handle) (tag_text c.args.tag) (entries_of node c.args.entries.now) (c.in_default.ensures.few node))
+
+pub returns-in-Some-clause-pushed : goal.returns-in-Some-clause-pushed
+returns-in-Some-clause-pushed g c = inr (c.in-Some.place, c.remove.ensures.rest ∙ ap (λ xs. remove xs c.in-Some.place) c.in_ok-push.ensures.ok)
+
+pub returns-in_default-clause-pushed : goal.returns-in_default-clause-pushed
+returns-in_default-clause-pushed g c = inl c.in_ok-push.ensures.ok

@@ -22,5 +22,6 @@ returns g c = λ n k.
       sound = record {
         sound = subst Sound (sym same) (all_older w.forest newer (older_than n w.stack) (subst (λ s. AllStand w.forest s w.formatting w.head w.form w.context) cut c.requires.sound));
         kept = c.truncate.ensures.kept;
+        stamped = c.truncate.ensures.stamped;
       };
     }

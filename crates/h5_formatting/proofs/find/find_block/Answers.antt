@@ -1,6 +1,6 @@
 use Rattle.std.proofs.Common.{ap, arith, map, reverse, sym, ◌+◌, ◌++◌, ◌∙◌, ◌≡◌, ◌||◌, ℕ}
 use Rattle.std.specs.List.{list_any}
-use Rattle.h5_tag_sets.specs.TagSets.{is_special}
+use Rattle.h5_tables.specs.TagSets.{is_special}
 use Rattle.h5_rules.specs.formatting.Adoption.{newer_than}
 use Rattle.h5_rules.specs.World.{name_in}
 use Rattle.h5_state.specs.View.{elements_of, open_node, stack_under, world}

@@ -1,6 +1,6 @@
 use Rattle.std.proofs.Common.{◌≡◌, ◌≤◌, ◌<◌, ◌-◌, ℕ, false, length}
 use Rattle.std.specs.List.{list_any}
-use Rattle.h5_tag_sets.specs.TagSets.{is_special}
+use Rattle.h5_tables.specs.TagSets.{is_special}
 use Rattle.h5_rules.specs.formatting.Adoption.{newer_than}
 use Rattle.h5_rules.specs.World.{name_in}
 use Rattle.h5_state.specs.View.{stack_under, world}

@@ -1,6 +1,6 @@
 use Rattle.std.proofs.Common.{ap, arith, length, map, nat_lt, ◌++◌, ◌+◌, ◌∙◌, ◌∷◌, ◌≡◌}
 use Rattle.std.proofs.lemmas.List.{length-map, map-append}
-use Rattle.h5_tag_sets.specs.TagSets.{is_default_scope}
+use Rattle.h5_tables.specs.TagSets.{is_default_scope}
 use Rattle.h5_rules.specs.formatting.Adoption.{newer_than, older_than}
 use Rattle.h5_rules.specs.World.{name_in, names_of}
 use Rattle.h5_rules.proofs.entries.PassLaws.{stack_split}

@@ -1,7 +1,7 @@
 use Rattle.std.proofs.Common.{ap, arith, length, sym, ◌+◌, ◌-◌, ◌<◌, ◌∙◌, ◌≡◌}
 use Rattle.h5_rules.specs.formatting.FormattingList.{nodes_of}
 use Rattle.h5_rules.specs.stack.Order.{is_in}
-use Rattle.h5_state.specs.View.{world}
+use Rattle.h5_state.specs.View.{listed_node, world}
 use Rattle.h5_list.specs.Listed.{entry_of}
 use Rattle.h5_list.proofs.WalkLaws.{under, under_all, under_more}
 use Rattle.h5_formatting.specs.View.{list_under}
@@ -17,10 +17,10 @@ down-init g c =
     let f = (g.S.TreeSink.sees c.args.sink.now).forest in
     let n = node c.args.handle.now in
     let items = c.args.state.now.active_formatting in
-    let passed = passed_others node f c.args.name.now n c.requires.named items c.requires.sound.sound.listed c.pass_others-place.result c.len.result c.pass_others-place.ensures.within (omega (arith, c.len.ensures)) c.pass_others-place.ensures.others in
+    let passed = passed_others (listed_node node) f c.args.name.now n c.requires.named items c.requires.sound.sound.listed c.pass_others-place.result c.len.result c.pass_others-place.ensures.within (omega (arith, c.len.ensures)) c.pass_others-place.ensures.others in
     record {
       place = omega (arith, c.pass_others-place.ensures.within, c.len.ensures);
-      left = passed ∙ ap (λ l. is_in n (nodes_of l)) (under_all node items c.len.result c.len.ensures);
+      left = passed ∙ ap (λ l. is_in n (nodes_of l)) (under_all (listed_node node) items c.len.result c.len.ensures);
     }
 
 pub is_entry_of-requires-clause-entry : goal.is_entry_of-requires-clause-entry
@@ -32,8 +32,8 @@ is_entry_of-requires-clause-entry g c =
     let place : _ = c.down.place - 1 in
     let x = c.get.result.now in
     let there : place < length items = omega (arith, c.down-test.true, c.down.invariant.place) in
-    entry_is_node w.forest (nodes_of w.formatting) (entry_of node x) (listed_nodes w c.requires.sound.sound)
-    (λ n t e. entry_in w.formatting _ _ (entry_of node x) n t (entries_cut node items place x there c.get.ensures) e)
+    entry_is_node w.forest (nodes_of w.formatting) (entry_of (listed_node node) x) (listed_nodes w c.requires.sound.sound)
+    (λ n t e. entry_in w.formatting _ _ (entry_of (listed_node node) x) n t (entries_cut (listed_node node) items place x there c.get.ensures) e)
 
 pub returns-then-is_entry_of : goal.returns-then-is_entry_of
 unfolding world list_under
@@ -45,8 +45,8 @@ returns-then-is_entry_of g c =
     let x = c.get.result.now in
     let up : c.down.place ≡ place + 1 = omega (arith, c.down-test.true) in
     let there : place < length items = omega (arith, up, c.down.invariant.place) in
-    sym (sym c.down.invariant.left ∙ ap (λ k. is_in n (nodes_of (under node items k))) up ∙ ap (λ l. is_in n (nodes_of l)) (under_more node items place x there c.get.ensures)
-    ∙ is_here n (entry_of node x) (under node items place) (sym c.is_entry_of.ensures ∙ c.if-is_entry_of.true))
+    sym (sym c.down.invariant.left ∙ ap (λ k. is_in n (nodes_of (under (listed_node node) items k))) up ∙ ap (λ l. is_in n (nodes_of l)) (under_more (listed_node node) items place x there c.get.ensures)
+    ∙ is_here n (entry_of (listed_node node) x) (under (listed_node node) items place) (sym c.is_entry_of.ensures ∙ c.if-is_entry_of.true))
 
 pub down-preserved : goal.down-preserved
 unfolding world list_under
@@ -59,11 +59,11 @@ down-preserved g c =
     let x = c.get.result.now in
     let up : c.down.place ≡ place + 1 = omega (arith, c.down-test.true) in
     let there : place < length items = omega (arith, up, c.down.invariant.place) in
-    let passed = passed_others node f c.args.name.now n c.requires.named items c.requires.sound.sound.listed c.pass_others-place-in-down.result place c.pass_others-place-in-down.ensures.within (omega (arith, there)) c.pass_others-place-in-down.ensures.others in
+    let passed = passed_others (listed_node node) f c.args.name.now n c.requires.named items c.requires.sound.sound.listed c.pass_others-place-in-down.result place c.pass_others-place-in-down.ensures.within (omega (arith, there)) c.pass_others-place-in-down.ensures.others in
     record {
       place = omega (arith, c.pass_others-place-in-down.ensures.within, there);
-      left = passed ∙ sym (is_older n (entry_of node x) (under node items place) (sym c.is_entry_of.ensures ∙ c.if-is_entry_of.false))
-          ∙ ap (λ l. is_in n (nodes_of l)) (sym (under_more node items place x there c.get.ensures)) ∙ ap (λ k. is_in n (nodes_of (under node items k))) (sym up) ∙ c.down.invariant.left;
+      left = passed ∙ sym (is_older n (entry_of (listed_node node) x) (under (listed_node node) items place) (sym c.is_entry_of.ensures ∙ c.if-is_entry_of.false))
+          ∙ ap (λ l. is_in n (nodes_of l)) (sym (under_more (listed_node node) items place x there c.get.ensures)) ∙ ap (λ k. is_in n (nodes_of (under (listed_node node) items k))) (sym up) ∙ c.down.invariant.left;
     }
 
 pub returns : goal.returns
@@ -73,4 +73,4 @@ returns g c =
     let n = node c.args.handle.now in
     let items = c.args.state.now.active_formatting in
     let zero : c.down.place ≡ 0 = omega (arith, c.down-test.false) in
-    ap (λ k. is_in n (nodes_of (under node items k))) (sym zero) ∙ c.down.invariant.left
+    ap (λ k. is_in n (nodes_of (under (listed_node node) items k))) (sym zero) ∙ c.down.invariant.left

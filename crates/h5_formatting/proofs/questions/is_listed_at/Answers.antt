@@ -2,7 +2,7 @@ use Rattle.std.proofs.Common.{ap, length, sym, ◌++◌, ◌+◌, ◌∙◌, ◌
 use Rattle.std.proofs.lemmas.Bool.{le-ltb}
 use Rattle.h5_rules.specs.formatting.FormattingList.{nodes_of}
 use Rattle.h5_state.specs.Steps.{world_of}
-use Rattle.h5_state.specs.View.{world}
+use Rattle.h5_state.specs.View.{listed_node, world}
 use Rattle.h5_list.specs.Listed.{entry_of}
 use Rattle.h5_formatting.specs.EntryPlaces.{entry_at, is_entry_of}
 use Rattle.h5_formatting.specs.View.{list_under}
@@ -16,7 +16,7 @@ pub is_entry_of-requires-clause-entry : goal.is_entry_of-requires-clause-entry
 unfolding world
 is_entry_of-requires-clause-entry g c =
     let w = world_of g.S.TreeSink c.args.sink.now c.args.state.now in
-    entry_is_node w.forest (nodes_of w.formatting) (entry_of g.S.TreeSink.node c.entry_at.result.now) (listed_nodes w c.requires.sound.sound) c.entry_at.ensures.listed
+    entry_is_node w.forest (nodes_of w.formatting) (entry_of (listed_node g.S.TreeSink.node) c.entry_at.result.now) (listed_nodes w c.requires.sound.sound) c.entry_at.ensures.listed
 
 pub returns-then-at-entry_count : goal.returns-then-at-entry_count
 unfolding world
@@ -27,7 +27,7 @@ returns-then-at-entry_count g c =
     c.is_entry_of.ensures
     ∙ ap (is_entry_of (node c.args.handle.now))
     (sym (ap (entry_at c.args.at) (cut.cut ∙ ap (λ l. cut.newer ++ l) c.entry_at.ensures.list)
-    ∙ entry_at_cut c.args.at cut.newer (entry_of node c.entry_at.result.now) (list_under node state c.args.at) c.entry_at.ensures.count))
+    ∙ entry_at_cut c.args.at cut.newer (entry_of (listed_node node) c.entry_at.result.now) (list_under node state c.args.at) c.entry_at.ensures.count))
 
 pub returns-else-at-entry_count : goal.returns-else-at-entry_count
 returns-else-at-entry_count g c =

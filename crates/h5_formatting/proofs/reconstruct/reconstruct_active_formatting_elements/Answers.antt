@@ -1,5 +1,5 @@
 use Rattle.std.proofs.Common.{◌≡◌, ◌+◌, ◌<◌, arith, length, refl, subst, sym, ◌∙◌}
-use Rattle.h5_state.specs.View.{world}
+use Rattle.h5_state.specs.View.{listed_node, world}
 use Rattle.h5_formatting.proofs.ListLaws.{length_entries}
 use Rattle.h5_formatting.proofs.RenewLaws.{IsPartly, partly_all, partly_many, partly_more, partly_none, partly_within}
 use Rattle.h5_formatting.proofs.reconstruct.reconstruct_active_formatting_elements.Goals as goal
@@ -20,7 +20,7 @@ make_anew-requires-clause-place g c =
     let w = world g.S.TreeSink.sees node c.args.sink.now c.args.state.now in
     let v = world g.S.TreeSink.sees node c.loop-place.sink c.loop-place.state in
     let same = partly_many g.S.TreeSink.choices w v c.loop-place.place c.loop-place.invariant.partly in
-    let many = length_entries node c.args.state.now.active_formatting in
+    let many = length_entries (listed_node node) c.args.state.now.active_formatting in
     omega (arith, c.loop-place-test.true, c.len-place-end.ensures, same, many)
 
 pub loop-place-preserved : goal.loop-place-preserved
@@ -30,7 +30,7 @@ loop-place-preserved g c =
     let choices = g.S.TreeSink.choices in
     let w = world g.S.TreeSink.sees node c.args.sink.now c.args.state.now in
     let v = world g.S.TreeSink.sees node c.loop-place.sink c.loop-place.state in
-    let many = length_entries node c.args.state.now.active_formatting in
+    let many = length_entries (listed_node node) c.args.state.now.active_formatting in
     let within : c.loop-place.place < length w.formatting = omega (arith, c.loop-place-test.true, c.len-place-end.ensures, many) in
     record {
       sound = c.make_anew.ensures.sound;
@@ -45,7 +45,7 @@ returns g c =
     let choices = g.S.TreeSink.choices in
     let w = world g.S.TreeSink.sees node c.args.sink.now c.args.state.now in
     let v = world g.S.TreeSink.sees node c.loop-place.sink c.loop-place.state in
-    let many = length_entries node c.args.state.now.active_formatting in
+    let many = length_entries (listed_node node) c.args.state.now.active_formatting in
     let within = partly_within choices w v c.loop-place.place c.loop-place.invariant.partly in
     let all : c.loop-place.place ≡ length w.formatting = omega (arith, c.loop-place-test.false, c.len-place-end.ensures, many, within) in
     record {

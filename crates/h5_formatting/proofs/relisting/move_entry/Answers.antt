@@ -1,24 +1,26 @@
-use Rattle.std.proofs.Common.{List, ap, append_assoc, arith, length, length-append, map, reverse, sym, ◌++◌, ◌<◌, ◌∙◌, ◌∷◌, ◌≡◌}
+use Rattle.std.proofs.Common.{List, ap, append_assoc, arith, length, length-append, map, reverse, subst, sym, ◌++◌, ◌<◌, ◌∙◌, ◌∷◌, ◌≡◌}
 use Rattle.std.specs.List.{remove}
 use Rattle.std.proofs.lemmas.List.{length-map, length-reverse}
 use Rattle.h5_stack.proofs.StackLaws.{item_at}
 use Rattle.h5_rules.specs.formatting.FormattingList.{Entry}
 use Rattle.h5_list.specs.Listed.{entry_of}
-use Rattle.h5_state.specs.View.{world}
+use Rattle.h5_state.specs.View.{listed_node, world}
 use Rattle.h5_state.proofs.SeenLaws.{seen_inserted, seen_removed, seen_value}
 use Rattle.h5_formatting.proofs.ListLaws.{left_parts}
+use Rattle.h5_formatting.specs.Restacks.{MayRestack}
+use Rattle.h5_formatting.proofs.EntryStampLaws.{restack_moved}
 use Rattle.h5_formatting.proofs.relisting.move_entry.Goals as goal
 
 pub move_up-requires-clause-inside : goal.move_up-requires-clause-inside
 unfolding world
 move_up-requires-clause-inside g c =
     let items = c.args.state.now.active_formatting in
-    omega (arith, c.requires.to, length-map items (entry_of g.S.TreeSink.node), length-reverse (map (entry_of g.S.TreeSink.node) items))
+    omega (arith, c.requires.to, length-map items (entry_of (listed_node g.S.TreeSink.node)), length-reverse (map (entry_of (listed_node g.S.TreeSink.node)) items))
 
 pub returns-clause-done : goal.returns-clause-done
 unfolding world
 returns-clause-done g c = λ newer middle older e x cut from to.
-    let f = entry_of g.S.TreeSink.node in
+    let f = entry_of (listed_node g.S.TreeSink.node) in
     let w = world g.S.TreeSink.sees g.S.TreeSink.node c.args.sink.now c.args.state.now in
     let items = c.args.state.now.active_formatting in
     let inside : c.args.from < length items = omega (arith, c.requires.order, c.requires.to, length-map items f, length-reverse (map f items)) in
@@ -32,3 +34,14 @@ returns-clause-done g c = λ newer middle older e x cut from to.
     let place : c.args.to ≡ length (x ∷ (middle ++ older)) = omega (arith, to, length-append middle (e ∷ older), length-append middle older) in
     ap (λ l. record w { formatting = l })
     (seen_inserted f left c.move_up.new.self c.args.to newer (x ∷ (middle ++ older)) one.0 (c.move_up.ensures one.0 one.1) removed place ∙ ap (λ z. newer ++ z ∷ x ∷ (middle ++ older)) value)
+
+pub returns-clause-restack : goal.returns-clause-restack
+unfolding world
+returns-clause-restack g c = λ block ns m.
+    let node = g.S.TreeSink.node in
+    let f = entry_of (listed_node node) in
+    let state = c.args.state.now in
+    let items = state.active_formatting in
+    let inside : c.args.from < length items = omega (arith, c.requires.order, c.requires.to, length-map items f, length-reverse (map f items)) in
+    let one = item_at items c.args.from inside in
+    subst (MayRestack node state.open_elems block ns) (sym (c.move_up.ensures one.0 one.1)) (restack_moved node state.open_elems block ns items c.args.from c.args.to one.0 inside one.1 m)

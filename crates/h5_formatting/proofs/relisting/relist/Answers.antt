@@ -1,4 +1,4 @@
-use Rattle.std.proofs.Common.{[], ap, append_assoc, arith, drop, length, map, refl, subst, sym, take, ◌++◌, ◌-◌, ◌<◌, ◌∙◌, ◌∷◌, ◌≡◌}
+use Rattle.std.proofs.Common.{[], ap, append_assoc, arith, drop, inl, inr, length, map, refl, subst, sym, take, ◌++◌, ◌+◌, ◌-◌, ◌<◌, ◌∙◌, ◌∷◌, ◌≡◌}
 use Rattle.std.proofs.lemmas.Bool.{eqb-false, eqb-true}
 use Rattle.std.proofs.lemmas.List.{nil_from_length}
 use Rattle.std.specs.Prelude.{vec_len}
@@ -11,6 +11,10 @@ use Rattle.h5_formatting.specs.Places.{AreNodes}
 use Rattle.h5_formatting.proofs.NodeLaws.{handle_in, listed_nodes, nodes_swapped, open_nodes}
 use Rattle.h5_formatting.proofs.RelistsLaws as laws
 use Rattle.h5_state.proofs.SeenLaws.{drop_more}
+use Rattle.h5_rules.specs.stack.Order.{IsIn}
+use Rattle.h5_formatting.specs.Restacks.{MayRestack}
+use Rattle.h5_formatting.proofs.EntryStampLaws.{low_unlisted, restack_by}
+use Rattle.h5_formatting.proofs.OpenLaws.{same_under}
 use Rattle.h5_formatting.proofs.relisting.relist.Goals as goal
 
 pub relist_between-requires-clause-open : goal.relist_between-requires-clause-open
@@ -37,7 +41,7 @@ swap_entry-requires g c =
     let p = c.requires.relists in
     let walked = laws.walked_world p.0 p.1 clones n c.args.at c.args.first c.args.block w p.2 (take (c.args.block - c.args.first) (stack_under node state c.args.block)) (world_of g.S.TreeSink c.args.sink.now c.relist_between.new.state)
     (laws.between_taken p.0 p.1 clones n c.args.at c.args.first c.args.block w p.2 node state refl) c.relist_between.ensures.world in
-    laws.place_inside p.0 p.1 clones n c.args.at c.args.first c.args.block w p.2 _ _ walked
+    record { node = p.0.node; tag = p.0.tag; newer = laws.walk p.0 p.1 clones n c.args.at c.args.first c.args.block w p.2; older = p.2.older; cut = ap (λ (z : World). z.formatting) walked; here = p.2.here }
 
 pub move_above-requires-clause-from : goal.move_above-requires-clause-from
 unfolding world
@@ -83,6 +87,66 @@ move_above-requires-clause-handle g c =
     let inside : 0 < length items = omega (arith, nonempty, c.args.clones.now.ok.0) in
     c.requires.clones (node x) (handle_in node items 0 x inside c.index.ensures)
 
+pub returns-else-not-is_empty-clause-restack : goal.returns-else-not-is_empty-clause-restack
+unfolding world
+returns-else-not-is_empty-clause-restack g c =
+    let node = g.S.TreeSink.node in
+    let state = c.args.state.now in
+    let open_elems = state.open_elems in
+    let block = c.args.block in
+    let w = world_of g.S.TreeSink c.args.sink.now state in
+    let v = world_of g.S.TreeSink c.args.sink.now c.relist_between.new.state in
+    let clones = map node c.args.clones.now.items in
+    let n = node c.args.clone in
+    let ns = n ∷ clones in
+    let p = c.requires.relists in
+    let f = p.0 in
+    let r = p.2 in
+    let walked = laws.walked_world f p.1 clones n c.args.at c.args.first block w r (take (block - c.args.first) (stack_under node state block)) v
+    (laws.between_taken f p.1 clones n c.args.at c.args.first block w r node state refl) c.relist_between.ensures.world in
+    let under = same_under node c.relist_between.new.state state (c.args.first - 1 + 1) c.relist_between.ensures.stack ∙ laws.element_under f p.1 clones n c.args.at c.args.first block w r node state refl in
+    let out = subst (λ (z : World). ¬ (IsIn n z.stack)) (sym c.relist_between.ensures.world) (r.unopened n (inl refl)) in
+    let first : MayRestack node open_elems block ns state.active_formatting = record {
+      stamped = c.requires.sound.stamped;
+      below = low_unlisted node open_elems block ns state.active_formatting (laws.none_listed f p.1 clones n c.args.at c.args.first block w r);
+    } in
+    let next = restack_by node open_elems c.relist_between.new.state.open_elems block ns c.relist_between.new.state.active_formatting c.swap_entry.new.state.active_formatting c.relist_between.ensures.stack
+    (c.swap_entry.ensures.restack block (c.args.first - 1) ns r.below (laws.walk f p.1 clones n c.args.at c.args.first block w r) r.older f.node f.tag (ap (λ (z : World). z.formatting) walked) r.here under (omega (arith, r.highest)) out)
+    (c.relist_between.ensures.restack ns first) in
+    next
+
+pub returns-then-not-is_empty-clause-restack : goal.returns-then-not-is_empty-clause-restack
+unfolding world
+returns-then-not-is_empty-clause-restack g c =
+    let node = g.S.TreeSink.node in
+    let state = c.args.state.now in
+    let open_elems = state.open_elems in
+    let block = c.args.block in
+    let w = world_of g.S.TreeSink c.args.sink.now state in
+    let v = world_of g.S.TreeSink c.args.sink.now c.relist_between.new.state in
+    let clones = map node c.args.clones.now.items in
+    let n = node c.args.clone in
+    let ns = n ∷ clones in
+    let p = c.requires.relists in
+    let f = p.0 in
+    let r = p.2 in
+    let walked = laws.walked_world f p.1 clones n c.args.at c.args.first block w r (take (block - c.args.first) (stack_under node state block)) v
+    (laws.between_taken f p.1 clones n c.args.at c.args.first block w r node state refl) c.relist_between.ensures.world in
+    let under = same_under node c.relist_between.new.state state (c.args.first - 1 + 1) c.relist_between.ensures.stack ∙ laws.element_under f p.1 clones n c.args.at c.args.first block w r node state refl in
+    let out = subst (λ (z : World). ¬ (IsIn n z.stack)) (sym c.relist_between.ensures.world) (r.unopened n (inl refl)) in
+    let first : MayRestack node open_elems block ns state.active_formatting = record {
+      stamped = c.requires.sound.stamped;
+      below = low_unlisted node open_elems block ns state.active_formatting (laws.none_listed f p.1 clones n c.args.at c.args.first block w r);
+    } in
+    let next = restack_by node open_elems c.relist_between.new.state.open_elems block ns c.relist_between.new.state.active_formatting c.swap_entry.new.state.active_formatting c.relist_between.ensures.stack
+    (c.swap_entry.ensures.restack block (c.args.first - 1) ns r.below (laws.walk f p.1 clones n c.args.at c.args.first block w r) r.older f.node f.tag (ap (λ (z : World). z.formatting) walked) r.here under (omega (arith, r.highest)) out)
+    (c.relist_between.ensures.restack ns first) in
+    restack_by node open_elems c.swap_entry.new.state.open_elems block ns c.swap_entry.new.state.active_formatting c.move_above.new.state.active_formatting (c.swap_entry.ensures.stack ∙ c.relist_between.ensures.stack)
+    (c.move_above.ensures.restack block ns) next
+
+pub relist_between-requires-clause-unopened : goal.relist_between-requires-clause-unopened
+relist_between-requires-clause-unopened g c = λ n i. c.requires.relists.2.unopened n (inr i)
+
 pub returns-else-not-is_empty-clause-done : goal.returns-else-not-is_empty-clause-done
 unfolding world
 returns-else-not-is_empty-clause-done g c = λ f between r.
@@ -105,7 +169,8 @@ returns-else-not-is_empty-clause-done g c = λ f between r.
       world = done;
       quiet = refl;
       sound = laws.sound_relisted g.S.TreeSink c.args.sink.now state c.swap_entry.new.state after (c.swap_entry.ensures.stack ∙ c.relist_between.ensures.stack) done c.requires.sound
-          (laws.sound_round f between clones n c.args.at c.args.first c.args.block w r c.requires.sound.sound);
+          (laws.sound_round f between clones n c.args.at c.args.first c.args.block w r c.requires.sound.sound)
+          (returns-else-not-is_empty-clause-restack g c).stamped;
     }
 
 pub returns-then-not-is_empty-clause-done : goal.returns-then-not-is_empty-clause-done
@@ -138,5 +203,6 @@ returns-then-not-is_empty-clause-done g c = λ f between r.
       world = done;
       quiet = refl;
       sound = laws.sound_relisted g.S.TreeSink c.args.sink.now state c.move_above.new.state after (c.move_above.ensures.stack ∙ c.swap_entry.ensures.stack ∙ c.relist_between.ensures.stack) done c.requires.sound
-          (laws.sound_round f between clones n c.args.at c.args.first c.args.block w r c.requires.sound.sound);
+          (laws.sound_round f between clones n c.args.at c.args.first c.args.block w r c.requires.sound.sound)
+          (returns-then-not-is_empty-clause-restack g c).stamped;
     }

@@ -6,6 +6,8 @@ use Rattle.h5_state.specs.View.{elements_of, open_node, stack_under, world}
 use Rattle.h5_formatting.specs.Places.{AreNodes}
 use Rattle.h5_formatting.proofs.OpenLaws.{same_under, under_more}
 use Rattle.h5_formatting.proofs.RelistLaws.{walked_none}
+use Rattle.h5_rules.specs.stack.Order.{IsIn}
+use Rattle.h5_formatting.proofs.EntryStampLaws.{restack_by}
 use Rattle.h5_formatting.proofs.relisting.relist_between.Goals as goal
 
 pub down-init : goal.down-init
@@ -17,6 +19,7 @@ down-init g c =
       place = omega arith;
       used = omega arith;
       stack = refl;
+      restack = λ ns m. m;
       listed = c.requires.listed;
       world = refl;
       left = ap (λ i. walked (3 - i) (take (c.args.block - c.args.first) (stack_under node c.args.state.now c.args.block)) (map node c.args.clones.now.items) w.formatting) none;
@@ -50,6 +53,8 @@ down-preserved-then-block-place-le3 g c =
       place = omega (arith, c.down.invariant.place);
       used = c.relist_near-used.ensures.used;
       stack = c.relist_near-used.ensures.stack ∙ c.down.invariant.stack;
+      restack = λ ns m. restack_by node c.args.state.now.open_elems c.down.state.open_elems c.args.block ns c.down.state.active_formatting c.relist_near-used.new.state.active_formatting c.down.invariant.stack
+          (c.relist_near-used.ensures.restack c.args.block ns (omega (arith, c.down-test.true, c.down.invariant.place))) (c.down.invariant.restack ns m);
       listed = c.relist_near-used.ensures.listed;
       world = c.relist_near-used.ensures.world ∙ ap (λ (u : World). record u { formatting = (world_of g.S.TreeSink c.args.sink.now c.relist_near-used.new.state).formatting }) c.down.invariant.world;
       left = sym step ∙ sym (ap (λ i. walked i (more.0 ∷ take (place - first) (s place)) ys v.formatting) count) ∙ sym (ap (λ z. walked (3 - (c.args.block - c.down.place)) z ys v.formatting) front) ∙ c.down.invariant.left;
@@ -78,6 +83,8 @@ down-preserved g c =
       place = omega (arith, c.down.invariant.place);
       used = c.down.invariant.used;
       stack = c.relist_far.ensures.stack ∙ c.down.invariant.stack;
+      restack = λ ns m. restack_by node c.args.state.now.open_elems c.down.state.open_elems c.args.block ns c.down.state.active_formatting c.relist_far.new.state.active_formatting c.down.invariant.stack
+          (c.relist_far.ensures.restack c.args.block ns) (c.down.invariant.restack ns m);
       listed = c.relist_far.ensures.listed;
       world = c.relist_far.ensures.world ∙ ap (λ (x : World). record x { formatting = u.formatting }) c.down.invariant.world;
       left = ap (λ i. walked i rest ys u.formatting) later ∙ sym step ∙ sym (ap (λ i. walked i (more.0 ∷ rest) ys v.formatting) count) ∙ sym (ap (λ z. walked (3 - (c.args.block - c.down.place)) z ys v.formatting) front) ∙ c.down.invariant.left;
@@ -93,3 +100,6 @@ returns-clause-world g c =
     let ys = drop c.down.used (map node c.args.clones.now.items) in
     c.down.invariant.world ∙ ap (λ l. record w { formatting = l })
     (sym (walked_none k ys v.formatting) ∙ sym (ap (λ i. walked k (take i (stack_under node c.args.state.now c.down.place)) ys v.formatting) none) ∙ c.down.invariant.left)
+
+pub relist_near-used-requires-clause-unopened : goal.relist_near-used-requires-clause-unopened
+relist_near-used-requires-clause-unopened g c = λ n i. subst (λ (u : World). ¬ (IsIn n u.stack)) (sym c.down.invariant.world) (c.requires.unopened n i)

@@ -1,8 +1,9 @@
-use Rattle.std.proofs.Common.{◌≡◌, ◌-◌, ◌≤◌, drop, length, map, take}
+use Rattle.std.proofs.Common.{◌≡◌, ◌-◌, ◌≤◌, ℕ, List, drop, length, map, take}
 use Rattle.h5_rules.specs.formatting.FormattingList.{nodes_of}
 use Rattle.h5_rules.specs.formatting.InnerLoop.{walked}
 use Rattle.h5_state.specs.View.{stack_under, world}
 use Rattle.h5_formatting.specs.Places.{AreNodes}
+use Rattle.h5_formatting.specs.Restacks.{MayRestack}
 use Rattle.h5_formatting.proofs.relisting.relist_between.Given as goal
 
 -- what is left gives what was to come at first
@@ -16,6 +17,7 @@ invariant-down g l =
       place : l.place ≤ l.block;
       used : l.used ≤ length l.clones.items;
       stack : l.state.open_elems ≡ l.fn.state.open_elems;
+      restack : (ns : List ℕ) → MayRestack node l.fn.state.open_elems l.block ns l.fn.state.active_formatting → MayRestack node l.fn.state.open_elems l.block ns l.state.active_formatting;
       listed : AreNodes (g.S.TreeSink.sees l.sink).forest (nodes_of w.formatting);
       world : w ≡ record first { formatting = w.formatting };
       left : walked (3 - (l.block - l.place)) (take (l.place - l.first) (stack_under node l.fn.state l.place)) (drop l.used clones) w.formatting

@@ -3,7 +3,7 @@ use Rattle.h5_interface.specs.Forest.{IsNode}
 use Rattle.h5_rules.specs.World.{World}
 use Rattle.h5_rules.specs.formatting.FormattingList.{ElementEntry, nodes_of}
 use Rattle.h5_rules.specs.formatting.InnerLoop.{swapped, walked}
-use Rattle.h5_rules.specs.stack.Order.{is_in}
+use Rattle.h5_rules.specs.stack.Order.{IsIn, is_in}
 use Rattle.h5_state.specs.Steps.{world_of}
 use Rattle.h5_formatting.specs.Places.{AreNodes}
 use Rattle.h5_formatting.proofs.NodeLaws.{handle_in, nodes_swapped}
@@ -48,3 +48,19 @@ returns-in-Some-clause-walked g c = λ n older e k ns.
     walked_onto k n y ns (drop (c.args.used + 1) clones) (drop c.args.used clones) w.formatting next listed
     ∙ ap (walked k ns (drop (c.args.used + 1) clones))
     (ap (λ z. swapped z y w.formatting) same ∙ ap (swapped m y) place.cut ∙ swapped_at m y place.tag place.newer place.older place.first ∙ sym list)
+
+pub swap_entry-requires : goal.swap_entry-requires
+swap_entry-requires g c =
+    let k = c.in-Some.ensures.place in
+    record { node = g.S.TreeSink.node c.handle_at.result.now; tag = k.tag; newer = k.newer; older = k.older; cut = k.cut; here = k.here }
+
+pub returns-in-Some-clause-restack : goal.returns-in-Some-clause-restack
+returns-in-Some-clause-restack g c = λ block ns up m.
+    let node = g.S.TreeSink.node in
+    let n = node c.handle_at.result.now in
+    let x = c.index.result.now in
+    let k = c.in-Some.ensures.place in
+    let there = handle_in node c.args.clones.now.items c.args.used x (omega (arith, c.if-used-len.true, c.len.ensures, c.args.clones.now.ok.0)) c.index.ensures in
+    let w = world_of g.S.TreeSink c.args.sink.now c.args.state.now in
+    c.swap_entry.ensures.restack block c.args.place ns _ k.newer k.older n k.tag k.cut k.here c.handle_at.ensures.stack up
+    (subst (λ y. ¬ (IsIn y w.stack)) (sym c.clone_handle.ensures) (c.requires.unopened (node x) there)) m

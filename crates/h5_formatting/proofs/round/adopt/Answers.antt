@@ -1,4 +1,4 @@
-use Rattle.std.proofs.Common.{◌≡◌, ◌∷◌, ◌++◌, ◌+◌, ℕ, List, length, map, reverse, ap, sym, subst, ◌∙◌, refl, arith}
+use Rattle.std.proofs.Common.{◌≡◌, ◌∷◌, ◌++◌, ◌+◌, ℕ, List, drop, length, map, reverse, ap, sym, subst, ◌∙◌, refl, arith}
 use Rattle.h5_token.specs.TokenText.{tag_text}
 use Rattle.h5_interface.specs.Seen.{Seen}
 use Rattle.h5_rules.specs.formatting.Adoption.{FormattingElement, FurthestBlock, older_than, round_list}
@@ -9,13 +9,18 @@ use Rattle.h5_rules.specs.World.{World}
 use Rattle.h5_rules.proofs.adoption.AdoptionForest.{block_is_open}
 use Rattle.h5_stack.specs.Numbered.{values}
 use Rattle.h5_state.specs.Steps.{world_of}
-use Rattle.h5_state.specs.View.{open_node, stack_over, stack_under, world}
+use Rattle.h5_state.specs.View.{elements_of, open_node, stack_over, stack_under, world}
 use Rattle.h5_state.specs.declared.open_element.OpenElements.{OpenElements}
 use Rattle.h5_formatting.specs.Rounds.{IsRound}
 use Rattle.h5_formatting.proofs.AdoptLaws.{adopted_told, all_after, block_moved, clones_made, may_move, may_relist, new_stack, refilled_and_told, world_relisted, world_seen}
 use Rattle.h5_formatting.proofs.CloneLaws.{newest_same}
 use Rattle.h5_formatting.proofs.NodeLaws.{node_kept, nodes_kept}
 use Rattle.h5_formatting.proofs.RoundLaws.{block_inside, from_block, from_element, own_clone, round_forest, round_nest}
+use Rattle.std.specs.List.{All}
+use Rattle.h5_state.specs.Stamps.{MayStandBelow, stamps_of}
+use Rattle.h5_state.proofs.ReplacedLaws.{in_reverse}
+use Rattle.h5_state.proofs.StampLaws.{above_under}
+use Rattle.h5_formatting.proofs.EntryStampLaws.{among, low_either}
 use Rattle.h5_formatting.proofs.round.adopt.Goals as goal
 
 pub make_clones-requires-clause-block : goal.make_clones-requires-clause-block
@@ -250,3 +255,22 @@ returns-clause-done g c =
     ap (λ (v : World). record v { stack = new_handles }) after
     ∙ ap (λ s. record w { forest = round_forest choices w r; stack = s; formatting = round_list f.node f.tag k.between (round_nest choices w r).clones (own_clone choices w r) w.formatting }) stack in
     adopted_told c.restack.result choices c.args.place c.args.at c.args.block w _ (record w5 { stack = new_handles }) c.restack.ensures.world all
+
+pub restack-requires-clause-below : goal.restack-requires-clause-below
+unfolding world stack_under
+restack-requires-clause-below g c =
+    let node = g.S.TreeSink.node in
+    let state = c.args.state.now in
+    let w = world_of g.S.TreeSink c.args.sink.now state in
+    let block = c.args.block in
+    let open_elems = state.open_elems in
+    let k = c.requires.round.furthest in
+    let r = c.requires.round.round in
+    let list = c.relist.new.state.active_formatting in
+    let ns = node c.in_ok-clone.clone ∷ map node c.in_ok-clones.clones.made.items in
+    let may = c.relist.ensures.restack in
+    let below = from_block node state w refl r in
+    let handles = c.in_ok-handles.ensures k.block _ below in
+    let all = low_either node open_elems block ns k.block list may.stamped (λ stamp a. above_under node (elements_of state) k.block stamp block block _ below (omega arith) a) (map node c.in_ok-handles.handles.items)
+    (λ m i. among m (node c.in_ok-clone.clone) k.block (map node c.in_ok-clones.clones.made.items) (subst (IsIn m) handles (in_reverse m (map node c.in_ok-handles.handles.items) i))) may.below in
+    subst (λ o. All (MayStandBelow node (drop block (stamps_of node o)) (map node c.in_ok-handles.handles.items)) list) (sym c.relist.ensures.stack) all

@@ -19,5 +19,6 @@ returns g c =
       sound = record {
         sound = subst Sound (sym same) (all_older w.forest cut.newer left (subst (λ s. AllStand w.forest s w.formatting w.head w.form w.context) cut.cut c.requires.sound));
         kept = c.truncate.ensures.kept;
+        stamped = c.truncate.ensures.stamped;
       };
     }

@@ -20,5 +20,6 @@ returns g c =
         sound = on_either c.replace_open.result Sound _ _ _ c.replace_open.ensures.ok c.replace_open.ensures.err c.requires.stands
             (all_older w.forest cut.newer left (subst (λ s. AllStand w.forest s w.formatting w.head w.form w.context) cut.cut c.requires.sound.sound));
         kept = c.replace_open.ensures.kept;
+        stamped = c.replace_open.ensures.stamped;
       };
     }

@@ -1,5 +1,5 @@
 use Rattle.std.proofs.Common.{ap, sym, ◌∙◌}
-use Rattle.h5_tag_sets.specs.TagSets.{is_default_scope}
+use Rattle.h5_tables.specs.TagSets.{is_default_scope}
 use Rattle.h5_state.proofs.StackLaws.{named}
 use Rattle.h5_formatting.proofs.walk.ends_scope.Goals as goal
 

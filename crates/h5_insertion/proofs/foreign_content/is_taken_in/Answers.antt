@@ -1,8 +1,8 @@
 use Rattle.std.proofs.Common.{◌≡◌, ℕ, List, [], ap, inl, inr, refl, string_bytes, sym, ◌∙◌}
 use Rattle.h5_token.specs.TokenText.{tag_text}
-use Rattle.h5_tag_sets.specs.TagSets.{html_namespace}
-use Rattle.h5_types.specs.TurnText.{turn_text}
-use Rattle.h5_types.specs.declared.turns.Token.{Token}
+use Rattle.h5_tables.specs.TagSets.{html_namespace}
+use Rattle.h5_tables.specs.TurnText.{turn_text}
+use Rattle.h5_tables.specs.declared.turns.Token.{Token}
 use Rattle.h5_rules.specs.insertion.Foreign.{is_taken_in}
 use Rattle.h5_insertion.proofs.CurrentLaws.{comment_taken, end_taken}
 use Rattle.h5_insertion.proofs.foreign_content.is_taken_in.Goals as goal

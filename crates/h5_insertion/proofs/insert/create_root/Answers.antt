@@ -14,9 +14,9 @@ returns g c =
     let w = world g.S.TreeSink.sees node c.args.sink.now c.args.state.now in
     let attrs = attribute_texts c.args.attrs.items in
     record {
-      world = onok_then c.push_at.result (world g.S.TreeSink.sees node c.push_at.new.sink c.push_at.new.state) (push_new choices (LastChild (node c.get_document.result)) c.from_known.result attrs false None w) (create_root choices attrs w) c.push_at.ensures.done
+      world = onok_then c.push_element_at.result (world g.S.TreeSink.sees node c.push_element_at.new.sink c.push_element_at.new.state) (push_new choices (LastChild (node c.get_document.result)) c.from_known.result attrs false None w) (create_root choices attrs w) c.push_element_at.ensures.done
           (ap (λ n. push_new choices (LastChild n) c.from_known.result attrs false None w) c.get_document.ensures.document
           ∙ ap (λ local. push_new choices (LastChild w.forest.document) local attrs false None w) c.from_known.ensures);
-      quiet = c.push_at.ensures.quiet;
-      sound = c.push_at.ensures.sound;
+      quiet = c.push_element_at.ensures.quiet;
+      sound = c.push_element_at.ensures.sound;
     }

@@ -31,7 +31,7 @@ returns g c =
     record {
       world = ap (λ s. seen_world w s w.stack)
           (c.in_ok-insert_new_element.ensures.done
-          ∙ ap (λ m. changed (new_element choices (place_of node c.current_place-place.result) name attrs flag m) seen) (c.of_owner-notice.ensures.marking node choices fresh (place_of node c.current_place-place.result))
+          ∙ ap (λ m. changed (new_element choices (place_of node c.current_place-place.result) name attrs flag m) seen) (c.associated_with-notice.ensures.marking node choices fresh (place_of node c.current_place-place.result))
           ∙ ap (λ p. changed (new_element choices p name attrs flag (associates choices fresh p (option_map node c.form_owner.result))) seen) c.current_place-place.ensures
           ∙ ap (λ o. changed (new_element choices (place w) name attrs flag (associates choices fresh (place w) o)) seen) (c.form_owner.ensures.owner ∙ ap (λ xs. form_owner c.args.local (attribute_texts xs) w) c.as_slice.ensures.value)
           ∙ ap (λ n. changed (new_element choices (place w) n attrs flag (owned choices c.args.local attrs w)) seen) c.html_qual_name-name.ensures);

@@ -49,6 +49,7 @@ returns g c =
       sound = record {
         sound = subst Sound (sym same) (form_stands choices attrs flag w c.requires.sound (subst Sound inserted k.sound));
         kept = k.kept;
+        stamped = k.stamped;
       };
     }
 

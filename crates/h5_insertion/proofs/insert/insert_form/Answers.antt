@@ -25,6 +25,7 @@ returns-then-not-in_template g c =
       sound = record {
         sound = subst Sound (sym same) (form_pushed choices attrs flag w c.requires.sound (subst Sound inserted c.insert_element.ensures.sound.sound));
         kept = c.insert_element.ensures.sound.kept;
+        stamped = c.insert_element.ensures.sound.stamped;
       };
     }
 

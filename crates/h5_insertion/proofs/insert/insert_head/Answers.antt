@@ -27,5 +27,6 @@ returns g c =
       sound = record {
         sound = subst Sound (sym same) (head_stands choices attrs flag w c.requires.sound (subst Sound inserted c.insert_element.ensures.sound.sound));
         kept = c.insert_element.ensures.sound.kept;
+        stamped = c.insert_element.ensures.sound.stamped;
       };
     }

@@ -5,7 +5,7 @@ use Rattle.h5_rules.specs.insertion.Place.{LastChild, appropriate_place, foster_
 use Rattle.h5_rules.specs.stack.Order.{first_or}
 use Rattle.h5_rules.specs.stack.Scope.{first_passes}
 use Rattle.h5_rules.proofs.changes.PlaceLaws.{first_place}
-use Rattle.h5_tag_sets.specs.TagSets.{html_namespace, is_html_named, is_table_outer}
+use Rattle.h5_tables.specs.TagSets.{html_namespace, is_html_named, is_table_outer}
 use Rattle.h5_state.specs.View.{names_under, stack_under, world}
 use Rattle.h5_insertion.proofs.place.current_place.Goals as goal
 
@@ -16,9 +16,9 @@ returns-then-count-eq0 g c =
     ap LastChild c.get_document.ensures.document
     ∙ sym (first_place w c.requires.sound.stands.is_forest (nil_from_length w.stack (omega (arith, c.open_count-count.ensures.count, c.if-count-eq0.true))))
 
-pub inside_of-requires-clause-template : goal.inside_of-requires-clause-template
+pub last_child_place-requires-clause-template : goal.last_child_place-requires-clause-template
 unfolding world names_under stack_under is_html_named html_namespace
-inside_of-requires-clause-template g c =
+last_child_place-requires-clause-template g c =
     let f = (g.S.TreeSink.sees c.args.sink.now).forest in
     let n = g.S.TreeSink.node c.handle_at-target.result.now in
     c.is_named-is_template.ensures ∙ ap (λ s. first_passes (is_html_named c.from_known-template.result) (map (name_in f) s)) c.handle_at-target.ensures.stack
@@ -33,6 +33,6 @@ returns g c =
     let n = node c.handle_at-target.result.now in
     let up : c.open_count-count.result ≡ c.open_count-count.result - 1 + 1 = omega (arith, c.if-count-eq0.false) in
     let top : w.stack ≡ n ∷ stack_under node state (c.open_count-count.result - 1) = sym c.open_count-count.ensures.stack ∙ ap (stack_under node state) up ∙ c.handle_at-target.ensures.stack in
-    ap LastChild c.inside_of.ensures
+    ap LastChild c.last_child_place.ensures
     ∙ sym (ap (λ b. cond (b && is_table_outer (name_in w.forest n)) (foster_place w.forest (root w) (from_foster_parent w.forest w.stack)) (LastChild (inside w.forest n))) c.if-state.false)
     ∙ sym (ap (λ s. appropriate_place w (first_or w.forest.document s)) top)

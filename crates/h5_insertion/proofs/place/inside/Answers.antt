@@ -7,7 +7,7 @@ pub elem_name-requires : goal.elem_name-requires
 unfolding world
 elem_name-requires g c = c.requires.sound.sound.stands.elements (g.S.TreeSink.node c.args.target.now) c.requires.open
 
-pub inside_of-requires-clause-template : goal.inside_of-requires-clause-template
+pub last_child_place-requires-clause-template : goal.last_child_place-requires-clause-template
 unfolding world
-inside_of-requires-clause-template g c =
+last_child_place-requires-clause-template g c =
     sym (template_test (g.S.TreeSink.sees c.args.sink.now).forest (g.S.TreeSink.node c.args.target.now) c.elem_name.result.now c.is_html_known-is_template.result c.elem_name.ensures c.is_html_known-is_template.ensures)

@@ -1,5 +1,5 @@
 use Rattle.std.proofs.Common.{ap, sym, ◌&&◌, ◌∙◌}
-use Rattle.h5_tag_sets.specs.TagSets.{is_table_outer}
+use Rattle.h5_tables.specs.TagSets.{is_table_outer}
 use Rattle.h5_rules.specs.World.{name_in}
 use Rattle.h5_state.specs.View.{world}
 use Rattle.h5_state.proofs.StackLaws.{named}

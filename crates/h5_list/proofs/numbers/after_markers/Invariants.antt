@@ -1,5 +1,5 @@
 use Rattle.std.proofs.Common.{◌≡◌, ◌≢◌, ◌<◌, ◌≤◌, ℕ, get_or, length}
-use Rattle.h5_types.specs.declared.entry.FormatEntry.{FormatEntry}
+use Rattle.h5_tables.specs.declared.entry.FormatEntry.{FormatEntry}
 use Rattle.h5_list.specs.Numbers.{entry_number}
 use Rattle.h5_list.proofs.numbers.after_markers.Given as goal
 

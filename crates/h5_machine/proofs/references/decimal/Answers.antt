@@ -8,5 +8,5 @@ use Rattle.h5_machine.proofs.references.decimal.Goals as goal
 
 pub returns : goal.returns
 returns c =
-    subst (λ (t : Turn). IfOk c.behind_digits.result (λ moved. DoesCode moved (string_bytes c.args.out.now) (string_bytes c.behind_digits.new.out) c.behind_digits.new.tag c.args.code.now t))
+    subst (λ (t : Turn). IfOk c.behind_digits.result (λ transition. DoesCode transition (string_bytes c.args.out.now) (string_bytes c.behind_digits.new.out) c.behind_digits.new.tag c.args.code.now t))
     (sym (cond-false (is_ascii_digit c.args.b) _ _ (sym c.if-is_ascii_digit.ensures.value))) c.behind_digits.ensures

@@ -1,6 +1,6 @@
 use Rattle.h5_states.specs.declared.kinds.RawTextKind.TheVariants as raw
 use Rattle.h5_states.specs.Texts as t
-use Rattle.h5_machine.specs.DeedOf.{plain_less_than_sign_state}
+use Rattle.h5_machine.specs.OutcomeOf.{plain_less_than_sign_state}
 use Rattle.h5_machine.proofs.TextLaws.{text_kept}
 use Rattle.h5_machine.proofs.texts.raw_less_than_sign.Goals as goal
 

@@ -1,6 +1,6 @@
 use Rattle.std.proofs.Common.{IsTrue}
-use Rattle.h5_tag_sets.specs.TagSets.{is_one_of}
-use Rattle.h5_tag_sets.specs.TagSets.{formatting_names}
+use Rattle.h5_tables.specs.TagSets.{is_one_of}
+use Rattle.h5_tables.specs.TagSets.{formatting_names}
 use Rattle.h5_rules.proofs.entries.EachLaws.{each_cleared, each_push_formatting, each_tag_reconstructed, each_without_entry}
 use Rattle.h5_rules.proofs.entries.PassLaws.{each_tag_adopted}
 use Rattle.h5_rules.proofs.lists.changes_keep_formatting_names.Goals as goal

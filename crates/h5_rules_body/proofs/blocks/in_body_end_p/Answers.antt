@@ -1,9 +1,9 @@
 use Rattle.std.proofs.Common.{[], ◌∷◌, codes, false, refl, subst, sym, ◌∙◌}
-use Rattle.h5_types.specs.TurnResult.{Done}
-use Rattle.h5_types.specs.TurnText.{TagTurn}
+use Rattle.h5_tables.specs.TurnResult.{Done}
+use Rattle.h5_tables.specs.TurnText.{TagTurn}
 use Rattle.h5_token.specs.TokenText.{tag_text}
 use Rattle.h5_rules.specs.modes.InBody.{in_body_end_p}
-use Rattle.h5_tag_sets.specs.TagSets.{is_html_named}
+use Rattle.h5_tables.specs.TagSets.{is_html_named}
 use Rattle.h5_rules.specs.stack.Expected.{is_expected}
 use Rattle.h5_rules.specs.stack.Scope.{is_implied_but}
 use Rattle.h5_rules.specs.World.{names_of}

@@ -1,5 +1,5 @@
 use Rattle.std.proofs.Common.{◌<◌, ap, not, rules, subst, sym, ◌∙◌}
-use Rattle.h5_tag_sets.specs.TagSets.{is_heading}
+use Rattle.h5_tables.specs.TagSets.{is_heading}
 use Rattle.h5_rules.specs.stack.Expected.{is_expected_p, names_behind_p}
 use Rattle.h5_rules.specs.stack.Scope.{first_passes}
 use Rattle.h5_rules.specs.World.{names_of}

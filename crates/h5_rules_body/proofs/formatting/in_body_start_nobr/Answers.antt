@@ -1,5 +1,5 @@
 use Rattle.std.proofs.Common.{◌<◌, codes, ap, rules, subst, sym, ◌∙◌}
-use Rattle.h5_tag_sets.specs.TagSets.{is_default_scope, is_html_named}
+use Rattle.h5_tables.specs.TagSets.{is_default_scope, is_html_named}
 use Rattle.h5_rules.specs.stack.Scope.{in_scope}
 use Rattle.h5_rules.specs.formatting.Formatting.{names_anew}
 use Rattle.h5_rules.specs.Sound.{HasHtmlRoot}

@@ -1,6 +1,6 @@
 use Rattle.std.proofs.Common.{◌≡◌, true, refl, rules}
 use Rattle.h5_names.specs.KnownNames.{known_name_of, known_names, name_text}
-use Rattle.h5_tag_sets.specs.TagSets.{formatting_names, heading_names, is_one_of}
+use Rattle.h5_tables.specs.TagSets.{formatting_names, heading_names, is_one_of}
 use Rattle.h5_rules.specs.modes.InBody.{in_body_marked}
 use Rattle.h5_rules.proofs.rows.KnownRuleLaws.{one_of_known}
 use Rattle.h5_rules_body.proofs.in_body.in_body_end_inline.Goals as goal

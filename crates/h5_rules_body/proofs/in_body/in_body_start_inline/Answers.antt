@@ -1,7 +1,7 @@
 use Rattle.std.proofs.Common.{◌≡◌, ℕ, List, true, false, refl, rules, subst, sym}
 use Rattle.h5_names.specs.KnownNames.{known_name_of, known_names, name_text}
 use Rattle.h5_names.specs.declared.known_name.KnownName.TheVariants.{A, Button, Form, Nobr, Plaintext, Table}
-use Rattle.h5_tag_sets.specs.TagSets.{formatting_names, is_one_of}
+use Rattle.h5_tables.specs.TagSets.{formatting_names, is_one_of}
 use Rattle.h5_rules.specs.ByName.{by_known, named}
 use Rattle.h5_rules.specs.modes.InBody.{description_names, in_body_marked, in_body_preformatted, in_body_start_embedded, in_body_start_inline, in_body_start_other, in_body_void, list_item_names}
 use Rattle.h5_rules.proofs.rows.KnownRuleLaws.{goes_on, one_of_known}

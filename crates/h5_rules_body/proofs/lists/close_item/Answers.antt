@@ -1,5 +1,5 @@
 use Rattle.std.proofs.Common.{ap, length, sym, ◌∙◌}
-use Rattle.h5_tag_sets.specs.TagSets.{is_html_named}
+use Rattle.h5_tables.specs.TagSets.{is_html_named}
 use Rattle.h5_rules.specs.stack.Scope.{cut_through, first_passes}
 use Rattle.h5_rules.specs.World.{World, names_of}
 use Rattle.h5_rules_body.proofs.lists.close_item.Goals as goal

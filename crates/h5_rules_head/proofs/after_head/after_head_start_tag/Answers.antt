@@ -1,6 +1,6 @@
 use Rattle.std.proofs.Common.{◌≡◌, true, refl, rules}
 use Rattle.h5_names.specs.KnownNames.{known_name_of, known_names, name_text}
-use Rattle.h5_tag_sets.specs.TagSets.{is_one_of}
+use Rattle.h5_tables.specs.TagSets.{is_one_of}
 use Rattle.h5_rules.specs.modes.Shared.{head_start_names}
 use Rattle.h5_rules.proofs.rows.KnownRuleLaws.{one_of_known}
 use Rattle.h5_rules_head.proofs.after_head.after_head_start_tag.Goals as goal

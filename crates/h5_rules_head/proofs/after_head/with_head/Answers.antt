@@ -1,7 +1,7 @@
 use Rattle.std.proofs.Common.{◌≡◌, ◌<◌, ap, option_map, subst, sym, ◌∙◌}
 use Rattle.h5_token.specs.Reply.{reply}
 use Rattle.h5_token.specs.TokenText.{tag_text}
-use Rattle.h5_types.specs.TurnText.{TagTurn}
+use Rattle.h5_tables.specs.TurnText.{TagTurn}
 use Rattle.h5_rules.specs.Changes.{push_head}
 use Rattle.h5_rules.specs.modes.InHead.{in_head_start_tag}
 use Rattle.h5_rules.specs.Rows.{Follows, apply_all}

@@ -1,8 +1,8 @@
 use Rattle.std.proofs.Common.{List, [], ◌∷◌, codes, ap, refl, subst, sym, ◌∙◌}
 use Rattle.h5_token.specs.TokenText.{tag_text}
-use Rattle.h5_tag_sets.specs.TagSets.{is_html_named, is_thorough_implied}
-use Rattle.h5_types.specs.TurnResult.{Done}
-use Rattle.h5_types.specs.TurnText.{TagTurn}
+use Rattle.h5_tables.specs.TagSets.{is_html_named, is_thorough_implied}
+use Rattle.h5_tables.specs.TurnResult.{Done}
+use Rattle.h5_tables.specs.TurnText.{TagTurn}
 use Rattle.h5_rules.specs.stack.Scope.{first_passes}
 use Rattle.h5_rules.specs.modes.InHead.{in_head_end_template}
 use Rattle.h5_rules.specs.Rows.{Change, ClearActiveFormattingToMarker, Follows, GenerateImpliedEndThoroughly, IsDone, PopTemplateMode, PopUntilNamed, ResetMode, apply_all, choose, ignored, row_if}

@@ -1,6 +1,6 @@
 use Rattle.std.proofs.Common.{refl, subst, sym, ap, true, ◌∙◌}
 use Rattle.std.specs.Prelude.{IfOk}
-use Rattle.h5_types.specs.TurnText.{turn_text}
+use Rattle.h5_tables.specs.TurnText.{turn_text}
 use Rattle.h5_rules.specs.Changes.{set_foster}
 use Rattle.h5_rules.specs.modes.InBody.{in_body}
 use Rattle.h5_rules.specs.Rows.{Follows}

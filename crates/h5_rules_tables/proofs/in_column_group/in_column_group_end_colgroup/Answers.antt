@@ -1,5 +1,5 @@
 use Rattle.std.proofs.Common.{sym, ◌∙◌}
-use Rattle.h5_tag_sets.specs.TagSets.{is_html_named}
+use Rattle.h5_tables.specs.TagSets.{is_html_named}
 use Rattle.h5_rules.proofs.changes.PopLaws.{first_is_open}
 use Rattle.h5_state.specs.Steps.{world_of}
 use Rattle.h5_rules_tables.proofs.in_column_group.in_column_group_end_colgroup.Goals as goal

@@ -1,8 +1,8 @@
 use Rattle.std.proofs.Common.{[], ◌∷◌, ap, codes, refl, subst, ◌∙◌}
-use Rattle.h5_tag_sets.specs.TagSets.{is_html_named, is_table_scope}
+use Rattle.h5_tables.specs.TagSets.{is_html_named, is_table_scope}
 use Rattle.h5_rules.specs.stack.Scope.{in_scope}
-use Rattle.h5_types.specs.TurnResult.{Done}
-use Rattle.h5_types.specs.TurnText.{TagTurn}
+use Rattle.h5_tables.specs.TurnResult.{Done}
+use Rattle.h5_tables.specs.TurnText.{TagTurn}
 use Rattle.h5_token.specs.TokenText.{tag_text}
 use Rattle.h5_rules.specs.Changes.{pop_until_named, set_mode}
 use Rattle.h5_rules.specs.modes.InTable.{in_table_end_table}

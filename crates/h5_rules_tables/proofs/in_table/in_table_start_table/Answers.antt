@@ -1,8 +1,8 @@
 use Rattle.std.proofs.Common.{[], ◌∷◌, Some, ap, codes, refl, subst, sym, ◌∙◌}
-use Rattle.h5_tag_sets.specs.TagSets.{is_html_named, is_table_scope}
+use Rattle.h5_tables.specs.TagSets.{is_html_named, is_table_scope}
 use Rattle.h5_rules.specs.stack.Scope.{in_scope}
-use Rattle.h5_types.specs.TurnResult.{Done, Reprocess}
-use Rattle.h5_types.specs.TurnText.{TagTurn}
+use Rattle.h5_tables.specs.TurnResult.{Done, Reprocess}
+use Rattle.h5_tables.specs.TurnText.{TagTurn}
 use Rattle.h5_token.specs.TokenText.{tag_text}
 use Rattle.h5_rules.specs.Changes.{pop_until_named}
 use Rattle.h5_rules.specs.modes.InTable.{in_table_start_table}

@@ -1,6 +1,6 @@
 use Rattle.std.proofs.Common.{Some, ap, refl, subst, sym, ◌∙◌}
-use Rattle.h5_types.specs.TurnText.{TextTurn}
-use Rattle.h5_types.specs.declared.modes.SplitStatus.TheVariants.{NotSplit}
+use Rattle.h5_tables.specs.TurnText.{TextTurn}
+use Rattle.h5_tables.specs.declared.modes.SplitStatus.TheVariants.{NotSplit}
 use Rattle.h5_rules.specs.Changes.{take_pending_text}
 use Rattle.h5_rules.specs.modes.InTableText.{in_table_text_else, pending_text}
 use Rattle.h5_rules.specs.Rows.{Follows, Row, apply_all}

@@ -29,5 +29,5 @@ returns-in-Stops g c =
     rw c.result_of.ensures
     (feeds_stop S.reply_to S.after S.is_foreign S.node c.args.reader.now (S.meaning c.args.sink.now) c.args.input.now
     (record { at_start = c.skip_mark-piece.new.at_start; place = place_of c.read_piece.new.machine; stage = Reading }) (S.meaning c.read_piece.new.sink) c.keep.new.self c.in-Stops.stop
-    (stops_at S.reply_to S.after S.is_foreign c.args.reader.now c.reader.inside.at_start (place_of c.reader.inside.machine) c.reader.inside.phase (S.meaning c.args.sink.now) c.args.input.now c.replace-buffer.result c.as_str.result.now c.skip_mark-piece.result.now c.in-Stops.rest.now c.as_bytes-left.result.now c.keep.new.self (stops_as S.node c.in-Stops.stop) c.skip_mark-piece.new.at_start (place_of c.read_piece.new.machine) (S.meaning c.read_piece.new.sink)
+    (stops_at S.reply_to S.after S.is_foreign c.args.reader.now c.reader.inside.at_start (place_of c.reader.inside.machine) c.reader.inside.stage (S.meaning c.args.sink.now) c.args.input.now c.replace-buffer.result c.as_str.result.now c.skip_mark-piece.result.now c.in-Stops.rest.now c.as_bytes-left.result.now c.keep.new.self (stops_as S.node c.in-Stops.stop) c.skip_mark-piece.new.at_start (place_of c.read_piece.new.machine) (S.meaning c.read_piece.new.sink)
     c.reader.view_is c.replace-buffer.ensures.value c.as_str.ensures c.skip_mark-piece.ensures.rest c.skip_mark-piece.ensures.at_start c.as_bytes-left.ensures.value c.keep.ensures stopped))

@@ -10,10 +10,10 @@ behind_byte-requires-clause-ascii g c =
     front_is_ascii c.args.b c.args.rest.now c.requires.front
     (consumed_is_ascii c.args.machine.now c.take.new.self c.args.b (string_bytes c.args.emitted.now.text) (string_bytes c.take.new.out) c.requires.narrow (rw c.in-Consumed.is at c.in_ok-take.ensures))
 
-pub behind_byte-requires-in-Hands-clause-ascii : goal.behind_byte-requires-in-Hands-clause-ascii
-behind_byte-requires-in-Hands-clause-ascii g c =
+pub behind_byte-requires-in-Emitted-clause-ascii : goal.behind_byte-requires-in-Emitted-clause-ascii
+behind_byte-requires-in-Emitted-clause-ascii g c =
     front_is_ascii c.args.b c.args.rest.now c.requires.front
-    (completed_is_ascii c.args.machine.now c.take.new.self c.args.b (string_bytes c.args.emitted.now.text) (string_bytes c.take.new.out) c.in-Hands.construct c.in-Hands.line c.requires.narrow (rw c.in-Hands.is at c.in_ok-take.ensures))
+    (completed_is_ascii c.args.machine.now c.take.new.self c.args.b (string_bytes c.args.emitted.now.text) (string_bytes c.take.new.out) c.in-Emitted.construct c.in-Emitted.line c.requires.narrow (rw c.in-Emitted.is at c.in_ok-take.ensures))
 
 pub behind_byte-requires-in-Asks-clause-ascii : goal.behind_byte-requires-in-Asks-clause-ascii
 behind_byte-requires-in-Asks-clause-ascii g c =
@@ -36,20 +36,20 @@ returns-in-Consumed-clause-makes g c = λ p m xs h.
     goes_consumed S.reply_to S.after S.is_foreign p m xs (string_bytes c.args.emitted.now.text) (string_bytes c.take.new.out) c.args.emitted.now.line c.args.machine.now c.take.new.self (S.meaning c.args.sink.now) c.args.b c.args.rest.now c.behind_byte.result.now
     c.requires.front c.behind_byte.ensures (rw c.in-Consumed.is at c.in_ok-take.ensures) h
 
-pub returns-in_err-stopped-in-Hands-clause-makes : goal.returns-in_err-stopped-in-Hands-clause-makes
-returns-in_err-stopped-in-Hands-clause-makes g c = λ p m xs h.
+pub returns-in_err-stopped-in-Emitted-clause-makes : goal.returns-in_err-stopped-in-Emitted-clause-makes
+returns-in_err-stopped-in-Emitted-clause-makes g c = λ p m xs h.
     let S = g.S.TokenSink in
-    let r = err_from_is_err_and c.from_residual-in_err-stopped-in-Hands.result c.from_residual-in_err-stopped-in-Hands.ensures.1 in
+    let r = err_from_is_err_and c.from_residual-in_err-stopped-in-Emitted.result c.from_residual-in_err-stopped-in-Emitted.ensures.1 in
     rw (r.1, r.2)
-    (token_fails S.reply_to S.after S.is_foreign S.node p m xs (string_bytes c.args.emitted.now.text) (string_bytes c.take.new.out) c.args.emitted.now.line c.args.machine.now c.take.new.self (S.meaning c.args.sink.now) (S.meaning c.hand_on.new.sink) (place_of c.hand_on.new.machine) c.args.b c.in-Hands.line c.args.rest.now c.in-Hands.construct c.in_err-stopped-in-Hands.field-0.0
-    c.requires.front (rw c.in-Hands.is at c.in_ok-take.ensures) c.requires.quiet h c.in_err-stopped-in-Hands.ensures)
+    (token_fails S.reply_to S.after S.is_foreign S.node p m xs (string_bytes c.args.emitted.now.text) (string_bytes c.take.new.out) c.args.emitted.now.line c.args.machine.now c.take.new.self (S.meaning c.args.sink.now) (S.meaning c.hand_on.new.sink) (place_of c.hand_on.new.machine) c.args.b c.in-Emitted.line c.args.rest.now c.in-Emitted.construct c.in_err-stopped-in-Emitted.field-0.0
+    c.requires.front (rw c.in-Emitted.is at c.in_ok-take.ensures) c.requires.quiet h c.in_err-stopped-in-Emitted.ensures)
 
-pub returns-in_ok-stopped-in-Hands-clause-makes : goal.returns-in_ok-stopped-in-Hands-clause-makes
-returns-in_ok-stopped-in-Hands-clause-makes g c = λ p m xs h.
+pub returns-in_ok-stopped-in-Emitted-clause-makes : goal.returns-in_ok-stopped-in-Emitted-clause-makes
+returns-in_ok-stopped-in-Emitted-clause-makes g c = λ p m xs h.
     let S = g.S.TokenSink in
-    rw c.turn_of.ensures
-    (token_turns S.reply_to S.after S.is_foreign S.node p m xs (string_bytes c.args.emitted.now.text) (string_bytes c.take.new.out) c.args.emitted.now.line c.args.machine.now c.take.new.self (S.meaning c.args.sink.now) (S.meaning c.hand_on.new.sink) (place_of c.hand_on.new.machine) c.args.b c.in-Hands.line c.began-emitted.result c.args.rest.now c.behind_byte-in-Hands.result c.in-Hands.construct c.in_ok-stopped-in-Hands.stopped
-    c.requires.front c.behind_byte-in-Hands.ensures (rw c.in-Hands.is at c.in_ok-take.ensures) c.requires.quiet c.began-emitted.ensures h c.in_ok-stopped-in-Hands.ensures)
+    rw c.progress_of.ensures
+    (token_turns S.reply_to S.after S.is_foreign S.node p m xs (string_bytes c.args.emitted.now.text) (string_bytes c.take.new.out) c.args.emitted.now.line c.args.machine.now c.take.new.self (S.meaning c.args.sink.now) (S.meaning c.hand_on.new.sink) (place_of c.hand_on.new.machine) c.args.b c.in-Emitted.line c.began-emitted.result c.args.rest.now c.behind_byte-in-Emitted.result c.in-Emitted.construct c.in_ok-stopped-in-Emitted.stopped
+    c.requires.front c.behind_byte-in-Emitted.ensures (rw c.in-Emitted.is at c.in_ok-take.ensures) c.requires.quiet c.began-emitted.ensures h c.in_ok-stopped-in-Emitted.ensures)
 
 pub returns-after-adjusted_current_node_present_but_not_in_html_namespace-clause-makes :
     goal.returns-after-adjusted_current_node_present_but_not_in_html_namespace-clause-makes

@@ -1,4 +1,4 @@
-use Rattle.std.proofs.Common.{◌≡◌, ◌-◌, ap, arith, sym, ◌∙◌}
+use Rattle.std.proofs.Common.{◌≡◌, ◌-◌, ◌+◌, ap, arith, sym, ◌∙◌}
 use Rattle.h5_rules.specs.stack.Order.{is_in}
 use Rattle.h5_rules.specs.World.{names_of}
 use Rattle.h5_rules.proofs.entries.PairLaws.{is_in_telling}
@@ -66,3 +66,16 @@ returns-clause-found g c =
     let node = g.S.TreeSink.node in
     let none : c.down.next ≡ 0 = omega (arith, c.down-test.false) in
     sym (sym c.down.invariant.left ∙ ap (λ j. is_in (node c.args.handle.now) (under node c.args.state.now.open_elems j)) none)
+
+pub is_lower-requires : goal.is_lower-requires
+unfolding world
+is_lower-requires g c =
+    omega (arith, c.down-test.true, c.down.invariant.within, open_length (open_node g.S.TreeSink.node) (elements_of c.args.state.now), length-values c.args.state.now.open_elems.elements)
+
+pub returns-then-is_lower-clause-found : goal.returns-then-is_lower-clause-found
+unfolding stack_under
+returns-then-is_lower-clause-found g c =
+    let node = g.S.TreeSink.node in
+    let n = node c.args.handle.now in
+    let here : c.down.next ≡ c.down.next - 1 + 1 = omega (arith, c.down-test.true) in
+    sym (sym c.down.invariant.left ∙ ap (λ j. is_in n (under node c.args.state.now.open_elems j)) here ∙ c.is_lower.ensures n c.requires.above c.if-is_lower.true)

@@ -1,6 +1,6 @@
 use Rattle.std.proofs.Common.{◌≡◌, ◌≤◌, length}
 use Rattle.h5_rules.specs.stack.Scope.{node_in_scope}
-use Rattle.h5_tag_sets.specs.TagSets.{is_default_scope}
+use Rattle.h5_tables.specs.TagSets.{is_default_scope}
 use Rattle.h5_rules.specs.World.{names_of}
 use Rattle.h5_state.specs.View.{names_under, stack_under, world}
 use Rattle.h5_state.proofs.find.is_node_in_scope.Given as goal

@@ -1,7 +1,7 @@
 use Rattle.std.proofs.Common.{ap, sym, ◌-◌, ◌∙◌}
 use Rattle.h5_rules.specs.World.{names_of}
 use Rattle.h5_rules.proofs.changes.PopLaws.{names_length}
-use Rattle.h5_tag_sets.specs.TagSets.{is_html_named}
+use Rattle.h5_tables.specs.TagSets.{is_html_named}
 use Rattle.h5_state.specs.Steps.{world_of}
 use Rattle.h5_state.proofs.NewestLaws.{cut_newest}
 use Rattle.h5_state.proofs.open_elems.find_named.Goals as goal

@@ -3,7 +3,7 @@ use Rattle.h5_rules.specs.Changes.{generate_implied_end_except}
 use Rattle.h5_rules.specs.World.{names_of}
 use Rattle.h5_rules.proofs.changes.NameLaws.{names-implied}
 use Rattle.h5_state.specs.Steps.{world_of}
-use Rattle.h5_tag_sets.specs.TagSets.{is_html_named, is_implied}
+use Rattle.h5_tables.specs.TagSets.{is_html_named, is_implied}
 use Rattle.h5_rules.proofs.BoolLaws.{and_not}
 use Rattle.h5_state.proofs.open_elems.generate_implied_end_except.Goals as goal
 

@@ -3,7 +3,7 @@ use denote.Enum.Bare.{same_false}
 use denote.Enum.Declared.{tag_of}
 use Rattle.h5_names.specs.contracts.known_name.KnownName.{the_type}
 use Rattle.h5_names.specs.declared.known_name.KnownName.TheVariants.{Other}
-use Rattle.h5_tag_sets.specs.TagSets.{is_html_named}
+use Rattle.h5_tables.specs.TagSets.{is_html_named}
 use Rattle.h5_rules.specs.stack.Scope.{first_passes}
 use Rattle.h5_state.specs.View.{world}
 use Rattle.h5_state.proofs.NumberLaws.{has_number, known_number}

@@ -24,6 +24,7 @@ up-preserved g c = record {
   kept = c.renew_at.ensures.kept;
   numbers = c.renew_at.ensures.numbers ∙ c.up.invariant.numbers;
   same = c.renew_at.ensures.same ∙ c.up.invariant.same;
+  stamped = c.renew_at.ensures.stamped c.up.invariant.stamped;
 }
 
 pub returns-clause-sound : goal.returns-clause-sound
@@ -39,4 +40,5 @@ returns-clause-sound g c =
       sound = subst Sound (sym c.up.invariant.world) c.requires.sound;
       kept = kept_renewed c.args.state.now.open_elems c.up.state.open_elems (names_of v) c.up.invariant.numbers c.up.invariant.same few (c.requires.numbered ∙ ap (λ (w : World). map (name_number c.args.state.now.open_elems.numbers) (names_of w)) (sym c.up.invariant.world))
           (subst (λ xs. reverse (map (λ element. element.summary) xs) ≡ summaries (map (name_in f) (reverse (map (open_node node) xs)))) (take_all c.up.place items count) c.up.invariant.kept);
+      stamped = c.up.invariant.stamped;
     }

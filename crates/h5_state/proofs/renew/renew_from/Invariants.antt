@@ -1,5 +1,6 @@
 use Rattle.std.proofs.Common.{◌≡◌, ◌-◌, ◌≤◌, length}
 use Rattle.h5_stack.specs.Numbered.{numbers}
+use Rattle.h5_state.specs.Stamps.{AreStamped}
 use Rattle.h5_state.specs.Summaries.{summaries}
 use Rattle.h5_state.specs.View.{names_under, world}
 use Rattle.h5_state.specs.View.{kept_under}
@@ -16,6 +17,7 @@ invariant-up g l =
       kept : kept_under l.state l.place ≡ summaries (names_under g.S.TreeSink.sees g.S.TreeSink.node l.sink l.state l.place);
       numbers : numbers l.state.open_elems.elements ≡ numbers l.fn.state.open_elems.elements;
       same : l.state.open_elems.numbers ≡ l.fn.state.open_elems.numbers;
+      stamped : AreStamped g.S.TreeSink.node l.state.open_elems l.state.active_formatting;
     }
 
 abbrev pub decreases-up : goal.decreases-up

@@ -47,6 +47,7 @@ up-preserved g c =
       kept = c.renew_at.ensures.kept;
       numbers = c.renew_at.ensures.numbers ∙ c.up.invariant.numbers;
       same = c.renew_at.ensures.same ∙ c.up.invariant.same;
+      stamped = c.renew_at.ensures.stamped c.up.invariant.stamped;
       over = (
         name_in f (node x.handle) ∷ older,
         ap (λ (s : Summary). s.all) next.0,
@@ -73,6 +74,7 @@ returns-else-ne-clause-sound g c =
       kept = kept_renewed c.args.state.now.open_elems c.up.state.open_elems (names_of v) c.up.invariant.numbers c.up.invariant.same (omega (arith, c.open_count-count.ensures.few, count))
           (c.requires.numbered ∙ ap (λ (w : World). map (name_number c.args.state.now.open_elems.numbers) (names_of w)) (sym c.up.invariant.world))
           (over_whole node f items c.up.place c.up.invariant.kept (over_alike node f (drop c.up.place items) older below alike long c.up.invariant.over.3));
+      stamped = c.up.invariant.stamped;
     }
 
 pub returns-after-up-clause-sound : goal.returns-after-up-clause-sound
@@ -88,4 +90,5 @@ returns-after-up-clause-sound g c =
       kept = kept_renewed c.args.state.now.open_elems c.up.state.open_elems (names_of v) c.up.invariant.numbers c.up.invariant.same (omega (arith, c.open_count-count.ensures.few, count))
           (c.requires.numbered ∙ ap (λ (w : World). map (name_number c.args.state.now.open_elems.numbers) (names_of w)) (sym c.up.invariant.world))
           (subst (λ xs. reverse (map (λ element. element.summary) xs) ≡ summaries (map (name_in f) (reverse (map (open_node node) xs)))) (take_all c.up.place items (omega (arith, c.up-test.false, count))) c.up.invariant.kept);
+      stamped = c.up.invariant.stamped;
     }

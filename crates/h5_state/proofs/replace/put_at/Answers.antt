@@ -20,6 +20,7 @@ returns-clause-ok g c =
       number = c.in_ok-number.number;
       elements = c.in_ok-replace.ensures.ok;
       here = refl;
+      stamped = refl;
       summary = c.new-summary.ensures below c.all_under-all.ensures.known here ∙ ap (λ n. summary_of n below) name;
       numbered = ap (name_number c.number.new.self) (sym name) ∙ c.in_ok-number.ensures.ok;
     }

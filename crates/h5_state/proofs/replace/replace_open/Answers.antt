@@ -1,12 +1,21 @@
-use Rattle.std.proofs.Common.{ap, arith, drop, map, refl, reverse, subst, sym, ◌++◌, ◌+◌, ◌∙◌, ◌≡◌}
+use Rattle.std.proofs.Common.{ap, arith, drop, get_or, length, map, refl, reverse, subst, suc, sym, take, ◌++◌, ◌+◌, ◌-◌, ◌<◌, ◌∙◌, ◌≡◌}
+use Rattle.std.specs.List.{All}
+use Rattle.std.proofs.lemmas.List.{get_or-map, length-map}
+use Rattle.std.proofs.lemmas.List.Elements.{All-map}
+use Rattle.std.proofs.lemmas.Simd.{map-map}
 use Rattle.h5_rules.specs.Sound.{Sound}
 use Rattle.h5_rules.specs.World.{names_of}
 use Rattle.h5_rules.proofs.entries.PairLaws.{in_left, in_right}
 use Rattle.h5_stack.specs.Numbered.{values}
+use Rattle.h5_state.specs.Stamps.{AreStamped, MayStandBelow, OpenStamp, stamp_of, stamped_as, stamps_of}
 use Rattle.h5_state.specs.View.{IsKeptOver, elements_of, kept_under, names_under, open_node, stack_over, stack_under, with_stack, world}
+use Rattle.h5_state.specs.declared.open_element.OpenElement.{OpenElement}
 use Rattle.h5_state.specs.declared.open_element.OpenElements.{OpenElements}
+use Rattle.h5_stack.proofs.ItemLaws.{length-values}
+use Rattle.h5_state.proofs.AttributeLaws.{open_length}
 use Rattle.h5_state.proofs.OverLaws.{over_cut}
 use Rattle.h5_state.proofs.ReplacedLaws.{in_reverse, stack_put}
+use Rattle.h5_state.proofs.StampLaws.{stamped_oldest, stamped_replaced}
 use Rattle.h5_state.proofs.SummaryLaws.{cut_values, kept_cut, kept_grown}
 use Rattle.h5_state.proofs.SummaryLaws as summary
 use Rattle.h5_state.proofs.WalkLaws.{names_count}
@@ -77,6 +86,45 @@ returns-in-Err-clause-kept g c =
     let node = g.S.TreeSink.node in
     let f = (g.S.TreeSink.sees c.args.sink.now).forest in
     let old = c.args.state.now.open_elems in
-    let cut : OpenElements _ = record { elements = c.truncate.new.self; numbers = old.numbers } in
-    let new : OpenElements _ = record { elements = c.truncate.new.self; numbers = c.put_all.new.state.open_elems.numbers } in
+    let cut : OpenElements _ = record { elements = c.truncate.new.self; numbers = old.numbers; last = old.last } in
+    let new : OpenElements _ = record { elements = c.truncate.new.self; numbers = c.put_all.new.state.open_elems.numbers; last = c.put_all.new.state.open_elems.last } in
     kept_grown cut new _ refl c.put_all.ensures.stay (kept_cut node f old c.args.place c.requires.sound.kept cut (c.truncate.ensures ∙ c.put_all.ensures.older) refl)
+
+pub get-requires : goal.get-requires
+unfolding world
+get-requires g c =
+    omega (arith, c.requires.some, c.requires.inside, c.len.ensures, open_length (open_node g.S.TreeSink.node) (elements_of c.args.state.now), length-values c.args.state.now.open_elems.elements)
+
+pub renew_over-requires-clause-stamped : goal.renew_over-requires-clause-stamped
+unfolding world
+renew_over-requires-clause-stamped g c =
+    let node = g.S.TreeSink.node in
+    let view = λ (o : OpenElement _). stamp_of node o in
+    let state = c.args.state.now in
+    let old = state.open_elems in
+    let items = elements_of state in
+    let place = c.args.place in
+    let count = c.args.handles.len in
+    let last = place + count - 1 in
+    let x = c.get.result.now in
+    let given = stamped_as node x.stamp in
+    let ms = map given c.args.handles.items in
+    let next : suc last ≡ place + count = omega (arith, c.requires.some) in
+    let inside : last < length items = omega (arith, c.requires.some, c.requires.inside, open_length (open_node node) items) in
+    let there : last < length (stamps_of node old) = omega (arith, inside, length-map items view) in
+    let here : view x ≡ get_or (stamps_of node old) last (view x) = ap view (c.get.ensures ∙ ap (λ k. get_or items (place + k - 1) x) c.len.ensures) ∙ sym (get_or-map view items last x (view x) inside) in
+    let same : All (λ (m : OpenStamp). m.stamp ≡ x.stamp) ms = All-map (λ (m : OpenStamp). m.stamp ≡ x.stamp) given c.args.handles.items (λ k d h. refl) in
+    let is : stamps_of node c.put_all.new.state.open_elems ≡ take place (stamps_of node old) ++ (ms ++ drop (suc last) (stamps_of node old)) =
+    c.in-Ok.ensures.stamps ∙ ap (λ k. take place (stamps_of node old) ++ (ms ++ drop k (stamps_of node old))) (sym next) in
+    let nodes : map node c.args.handles.items ≡ map (λ (o : OpenStamp). o.node) ms = sym (map-map (λ (o : OpenStamp). o.node) given c.args.handles.items) in
+    let below = subst (λ ns. All (MayStandBelow node (drop last (stamps_of node old)) ns) state.active_formatting) nodes c.requires.below in
+    subst (AreStamped node c.put_all.new.state.open_elems) (sym c.put_all.ensures.listed)
+    (stamped_replaced node old c.put_all.new.state.open_elems state.active_formatting place last (view x) ms (omega (arith, c.requires.some)) there here same is c.put_all.ensures.last below c.requires.sound.stamped)
+
+pub returns-in-Err-clause-stamped : goal.returns-in-Err-clause-stamped
+returns-in-Err-clause-stamped g c =
+    let node = g.S.TreeSink.node in
+    let old = c.args.state.now.open_elems in
+    let cut : OpenElements _ = record { elements = c.truncate.new.self; numbers = c.put_all.new.state.open_elems.numbers; last = c.put_all.new.state.open_elems.last } in
+    subst (AreStamped node cut) (sym c.put_all.ensures.listed)
+    (stamped_oldest node old cut c.args.state.now.active_formatting c.args.place (cut_values old.elements c.truncate.new.self c.args.place (c.truncate.ensures ∙ c.put_all.ensures.older)) c.put_all.ensures.last c.requires.sound.stamped)

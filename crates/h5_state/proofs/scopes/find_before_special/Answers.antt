@@ -1,5 +1,5 @@
 use Rattle.std.proofs.Common.{MatchOption, ap, is_some, length, subst, sym, ◌∙◌, ◌≡◌}
-use Rattle.h5_tag_sets.specs.TagSets.{is_html_named, is_special}
+use Rattle.h5_tables.specs.TagSets.{is_html_named, is_special}
 use Rattle.h5_rules.specs.World.{names_of}
 use Rattle.h5_rules.specs.stack.Scope.{cut_through}
 use Rattle.h5_rules.proofs.changes.PopLaws.{names_length}

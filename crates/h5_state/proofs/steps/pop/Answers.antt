@@ -7,6 +7,7 @@ use Rattle.h5_stack.specs.Numbered.{values}
 use Rattle.h5_state.specs.Summaries.{IsKept}
 use Rattle.h5_state.specs.View.{elements_of, open_node, world}
 use Rattle.h5_state.proofs.StackLaws.{all_popped, popped_world}
+use Rattle.h5_state.proofs.StampLaws.{stamped_popped}
 use Rattle.h5_state.proofs.SummaryLaws.{kept_popped}
 use Rattle.h5_state.proofs.steps.pop.Goals as goal
 
@@ -29,5 +30,6 @@ returns-in-Some g c =
             (all_popped node left items c.in-Some.element _ _ more c.requires.sound.sound);
         kept = subst (IsKept _) (sym (ap names_of made ∙ names-pop choices w))
             (kept_popped c.args.state.now.open_elems _ c.in-Some.element _ (names_of w) more (c.in-Some.ensures.numbers refl) refl c.requires.sound.kept);
+        stamped = stamped_popped g.S.TreeSink.node c.args.state.now.open_elems _ c.args.state.now.active_formatting c.in-Some.element more refl c.requires.sound.stamped;
       };
     }

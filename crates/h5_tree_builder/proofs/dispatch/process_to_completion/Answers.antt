@@ -1,7 +1,7 @@
 use Rattle.std.proofs.Common.{◌≡◌, ◌-◌, true, ap, refl, sym, subst, ◌∙◌, arith}
 use Rattle.h5_token.specs.declared.sink.TokenSinkResult.TheVariants.{Continue}
-use Rattle.h5_types.specs.TurnResult as results
-use Rattle.h5_types.specs.TurnText.{turn_text}
+use Rattle.h5_tables.specs.TurnResult as results
+use Rattle.h5_tables.specs.TurnText.{turn_text}
 use Rattle.h5_rules.specs.Changes.{set_mode}
 use Rattle.h5_rules.specs.modes.ForeignContent.{dispatch}
 use Rattle.h5_rules.specs.Rows.{Follows}
@@ -28,14 +28,14 @@ returns-in-Done g c =
     let e = (g.S.TreeSink.sees c.args.sink.now).errors in
     let first = world g.S.TreeSink.sees node c.args.sink.now c.args.state.now in
     let f : Follows k node (dispatch k t w) t w v a b results.Done = subst (λ x. Follows k node (dispatch k x w) x w v a b results.Done) c.turns.invariant.same (subst (λ r. Follows k node (dispatch k (turn_text c.turns.rest) w) (turn_text c.turns.rest) w v a b (turn_result r c.step.new.state)) c.in-Done.is c.in_ok-step.ensures.follows) in
-    let u = world g.S.TreeSink.sees node c.check_flag.new.sink c.step.new.state in
-    let d = (g.S.TreeSink.sees c.check_flag.new.sink).errors in
+    let u = world g.S.TreeSink.sees node c.error_if_self_closing.new.sink c.step.new.state in
+    let d = (g.S.TreeSink.sees c.error_if_self_closing.new.sink).errors in
     record {
-      came = subst (λ x. CameTo node (settle k t first) true x e d (record { turns = c.turns.turns; answer = Continue })) (sym c.check_flag.ensures.told.world)
+      came = subst (λ x. CameTo node (settle k t first) true x e d (record { turns = c.turns.turns; answer = Continue })) (sym c.error_if_self_closing.ensures.told.world)
           (subst (λ n. CameTo node (settle k t first) true v e d (record { turns = n; answer = Continue })) (omega (arith, c.turns.invariant.some))
-          (done_last k node t first w v e a b d (c.turns.turns - 1) c.is_self_closing-self_closing.result f c.is_self_closing-self_closing.ensures c.check_flag.ensures.quiet c.check_flag.ensures.noted c.check_flag.ensures.told.rises c.turns.invariant.left));
-      sound = c.check_flag.ensures.told.sound c.step.ensures.sound;
-      fits = subst Fits (sym c.check_flag.ensures.told.world) (fits_done k node t w v a b f c.turns.invariant.sound.sound c.requires.text c.turns.invariant.fits);
+          (done_last k node t first w v e a b d (c.turns.turns - 1) c.is_self_closing-self_closing.result f c.is_self_closing-self_closing.ensures c.error_if_self_closing.ensures.quiet c.error_if_self_closing.ensures.noted c.error_if_self_closing.ensures.told.rises c.turns.invariant.left));
+      sound = c.error_if_self_closing.ensures.told.sound c.step.ensures.sound;
+      fits = subst Fits (sym c.error_if_self_closing.ensures.told.world) (fits_done k node t w v a b f c.turns.invariant.sound.sound c.requires.text c.turns.invariant.fits);
     }
 
 pub returns-in-DoneAckSelfClosing : goal.returns-in-DoneAckSelfClosing

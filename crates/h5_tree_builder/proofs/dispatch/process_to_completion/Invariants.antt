@@ -1,5 +1,5 @@
 use Rattle.std.proofs.Common.{◌≡◌, ◌<◌, ◌≤◌, ◌+◌, ◌-◌, length}
-use Rattle.h5_types.specs.TurnText.{turn_text}
+use Rattle.h5_tables.specs.TurnText.{turn_text}
 use Rattle.h5_rules.specs.Sound.{Fits}
 use Rattle.h5_laws.proofs.turns.FallsLaws.{rank_of}
 use Rattle.h5_state.specs.Steps.{IsSound}

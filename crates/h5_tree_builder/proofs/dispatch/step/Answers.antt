@@ -1,5 +1,5 @@
 use Rattle.std.proofs.Common.{sym, ◌∙◌}
-use Rattle.h5_types.specs.TurnText.{turn_text}
+use Rattle.h5_tables.specs.TurnText.{turn_text}
 use Rattle.h5_tree_builder.proofs.DispatchLaws.{turns_by_mode}
 use Rattle.h5_tree_builder.proofs.dispatch.step.Goals as goal
 

@@ -1,6 +1,6 @@
 use Rattle.std.proofs.Common.{◌≡◌, ap, ◌∙◌}
 use Rattle.h5_token.specs.TokenText.{doctype_text}
-use Rattle.h5_types.specs.declared.modes.InsertionMode.TheVariants.{BeforeHtml}
+use Rattle.h5_tables.specs.declared.modes.InsertionMode.TheVariants.{BeforeHtml}
 use Rattle.h5_rules.specs.Changes.{set_mode, set_quirks_mode}
 use Rattle.h5_rules.specs.Run.{judged, with_doctype}
 use Rattle.h5_state.specs.Steps.{world_of}

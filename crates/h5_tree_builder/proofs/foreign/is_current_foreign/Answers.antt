@@ -1,7 +1,7 @@
 use Rattle.std.proofs.Common.{Bor, ap, not, option_map, sym, ◌∙◌}
 use Rattle.h5_names.specs.AttributeText.{is_same_text}
 use Rattle.h5_names.specs.declared.qualified.QualName.{QualName}
-use Rattle.h5_tag_sets.specs.TagSets.{html_namespace}
+use Rattle.h5_tables.specs.TagSets.{html_namespace}
 use Rattle.h5_insertion.proofs.CurrentLaws.{adjusted_is_element}
 use Rattle.h5_state.specs.Steps.{world_of}
 use Rattle.h5_state.specs.View.{world}

@@ -1,5 +1,5 @@
 use Rattle.std.proofs.Common.{◌≡◌, ℕ, List, Option, Some, option_map, reverse, ap, sym, subst, ◌∙◌}
-use Rattle.h5_types.specs.declared.modes.InsertionMode.{InsertionMode}
+use Rattle.h5_tables.specs.declared.modes.InsertionMode.{InsertionMode}
 use Rattle.h5_rules.specs.Sound.{Sound}
 use Rattle.h5_rules.specs.World.{World, names_of}
 use Rattle.h5_state.specs.Summaries.{IsKept}
@@ -31,5 +31,6 @@ returns g c =
       sound = record {
         sound = subst Sound (sym same) (context_stands seen context form c.args.opts c.requires.is_forest c.requires.context there);
         kept = subst (IsKept c.first_state-state.result.open_elems) (sym (ap names_of same ∙ names_before_root seen context form c.args.opts c.requires.is_forest c.requires.context there)) c.first_state-state.ensures.kept;
+        stamped = c.first_state-state.ensures.stamped;
       };
     }

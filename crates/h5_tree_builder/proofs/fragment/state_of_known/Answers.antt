@@ -1,7 +1,7 @@
 use Rattle.std.proofs.Common.{◌≡◌, ℕ, List, false, codes, rules}
 use Rattle.h5_names.specs.AttributeText.{is_same_text}
 use Rattle.h5_names.specs.KnownNames.{name_text}
-use Rattle.h5_tag_sets.specs.TagSets.{is_one_of}
+use Rattle.h5_tables.specs.TagSets.{is_one_of}
 use Rattle.h5_tree_builder.specs.Fragment.{rawtext_context_names, rcdata_context_names}
 use Rattle.h5_tree_builder.proofs.FragmentLaws.{state_of_no_name}
 use Rattle.h5_tree_builder.proofs.fragment.state_of_known.Goals as goal

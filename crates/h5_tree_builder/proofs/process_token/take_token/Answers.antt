@@ -1,6 +1,6 @@
 use Rattle.std.proofs.Common.{string_bytes, refl, ap, sym, subst, ◌∙◌}
 use Rattle.h5_token.specs.TokenText.{doctype_text, tag_text, token_text}
-use Rattle.h5_types.specs.TurnText.{CommentTurn, EofTurn, NullTurn, TagTurn}
+use Rattle.h5_tables.specs.TurnText.{CommentTurn, EofTurn, NullTurn, TagTurn}
 use Rattle.h5_rules.specs.Run.{doctype_in, is_counted, is_empty_text, step, taken, text_step, without_lf}
 use Rattle.h5_rules.specs.Settle.{settle}
 use Rattle.h5_rules.specs.Sound.{Fits}

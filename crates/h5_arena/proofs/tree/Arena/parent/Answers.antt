@@ -1,13 +1,8 @@
-use Rattle.std.proofs.Common.{◌∙◌, Some, ap, subst, sym}
-use Rattle.h5_interface.specs.Forest.{IsForest}
-use Rattle.h5_arena.specs.ArenaModel.{ArenaView, forest_seen}
-use Rattle.h5_arena.proofs.HeldLaws.{parent_held, node_told}
+use Rattle.h5_arena.proofs.CallConditions.{child_of, no_child}
 use Rattle.h5_arena.proofs.tree.Arena.parent.Goals as goal
 
-pub returns-in_default-clause-held : goal.returns-in_default-clause-held
-returns-in_default-clause-held c =
-    let a = c.args.self.now in
-    let forest = subst (λ (a : ArenaView). IsForest (forest_seen a)) c.self.view_is c.self.invariant.is_forest in
-    let nodes = ap (λ (a : ArenaView). a.nodes) c.self.view_is in
-    let told = node_told (λ d. d.parent) a c.self.inside.nodes.items c.args.id c.index-node.result.now nodes c.requires c.index-node.ensures ∙ ap Some (sym c.node.ensures) in
-    parent_held a c.args.id c.node.result forest told
+pub returns-clause-child : goal.returns-clause-child
+returns-clause-child c = child_of c.args.self.now c.args.id c.child_parent.result c.child_parent.ensures.parent
+
+pub returns-clause-no_child : goal.returns-clause-no_child
+returns-clause-no_child c = no_child c.args.self.now c.args.id c.child_parent.result c.child_parent.ensures.parent

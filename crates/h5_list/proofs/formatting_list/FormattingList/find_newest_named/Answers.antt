@@ -1,6 +1,6 @@
 use Rattle.std.proofs.Common.{◌≡◌, List, is_some, subst}
 use Rattle.std.specs.Prelude.{MatchOption}
-use Rattle.h5_types.specs.declared.entry.FormatEntry.{FormatEntry}
+use Rattle.h5_tables.specs.declared.entry.FormatEntry.{FormatEntry}
 use Rattle.h5_rules.specs.formatting.Adoption.{newest_named}
 use Rattle.h5_list.specs.Listed.{IsNewestNamedAt, entries_of}
 use Rattle.h5_list.proofs.formatting_list.FormattingList.find_newest_named.Goals as goal

@@ -1,6 +1,6 @@
 use Rattle.std.proofs.Common.{◌≡◌, ◌<◌, ◌≤◌, ℕ, List, ap, arith, length, refl, subst, sym, ◌∙◌}
 use Rattle.h5_token.specs.TokenText.{tag_text}
-use Rattle.h5_types.specs.declared.entry.FormatEntry.{FormatEntry}
+use Rattle.h5_tables.specs.declared.entry.FormatEntry.{FormatEntry}
 use Rattle.h5_rules.specs.formatting.FormattingList.{count_alike, without_earliest}
 use Rattle.h5_list.specs.Listed.{entries_of, without_place}
 use Rattle.h5_list.proofs.AlikeLaws.{IsEarliest, all_counted, earliest_found}

@@ -1,5 +1,5 @@
 use Rattle.std.specs.Prelude.{string_bytes}
-use Rattle.h5_machine.proofs.DeedLaws.{wonders}
+use Rattle.h5_machine.proofs.OutcomeLaws.{wonders}
 use Rattle.h5_machine.proofs.machine.Machine.take.Goals as goal
 
 pub returns-in-Asks : goal.returns-in-Asks

@@ -2,8 +2,8 @@ use Rattle.std.proofs.Common.{◌≡◌, ◌+◌, false, ap, ◌∙◌, arith}
 use Rattle.std.specs.Io.Iter.{u64_saturate}
 use Rattle.h5_machine.specs.MachineText.{MachineText}
 use Rattle.h5_machine.specs.contracts.machine.Machine.{the_view}
-use Rattle.h5_machine.specs.declared.at.At.TheVariants as at
-use Rattle.h5_machine.specs.declared.at.TagState.TheVariants as g
+use Rattle.h5_machine.specs.declared.machine_state.MachineState.TheVariants as at
+use Rattle.h5_machine.specs.declared.machine_state.TagState.TheVariants as g
 use Rattle.h5_machine.proofs.NameLaws.{attribute_name_is_name}
 use Rattle.h5_machine.proofs.PassLaws.{took_nothing}
 use Rattle.h5_machine.proofs.QuotedLaws.{took_quoted, with_quoted}

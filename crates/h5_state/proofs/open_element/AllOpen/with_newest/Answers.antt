@@ -1,5 +1,5 @@
 use Rattle.std.proofs.Common.{refl, ◌∙◌, ◌≡◌, ◌||◌}
-use Rattle.h5_tag_sets.specs.TagSets.{html_namespace, is_button_scope, is_html_named}
+use Rattle.h5_tables.specs.TagSets.{html_namespace, is_button_scope, is_html_named}
 use Rattle.h5_state.proofs.SummaryLaws.{one_more}
 use Rattle.h5_state.proofs.open_element.AllOpen.with_newest.Goals as goal
 

@@ -1,6 +1,6 @@
 use Rattle.std.proofs.Common.{ap, refl, sym, ◌∙◌}
-use Rattle.h5_tag_sets.specs.ElementSets.{holds_element}
-use Rattle.h5_tag_sets.specs.TagSets.{cell_names, heading_names, implied_names, is_cell, is_default_scope, is_heading, is_implied, is_list_item_scope, is_table_body_context, is_table_outer, is_table_row_context, is_table_scope, is_thorough_implied, list_item_scope_names, table_body_context_names, table_outer_names, table_row_context_names, table_scope_names, thorough_implied_names}
+use Rattle.h5_tables.specs.ElementSets.{holds_element}
+use Rattle.h5_tables.specs.TagSets.{cell_names, heading_names, implied_names, is_cell, is_default_scope, is_heading, is_implied, is_list_item_scope, is_table_body_context, is_table_outer, is_table_row_context, is_table_scope, is_thorough_implied, list_item_scope_names, table_body_context_names, table_outer_names, table_row_context_names, table_scope_names, thorough_implied_names}
 use Rattle.h5_rules.specs.World.{names_of}
 use Rattle.h5_rules.specs.stack.Closing.{is_html_among}
 use Rattle.h5_state.specs.Newest.{newer_of, newest_where}

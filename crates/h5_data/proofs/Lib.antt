@@ -1,5 +1,0 @@
-pub mod ChangeLaws
-pub mod Charset
-pub mod DoctypeLaws
-pub mod MetaParts
-pub mod TableLaws

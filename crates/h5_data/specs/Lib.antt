@@ -1,4 +1,0 @@
-pub mod AdjustedNames
-pub mod Doctypes
-pub mod MetaEncoding
-pub mod Tables

@@ -1,6 +1,0 @@
-use Rattle.std.proofs.Common.{◌≡◌, map, option_map, string_bytes}
-use Rattle.h5_example_links.specs.Links.{href_of}
-use Rattle.h5_example_links.proofs.links.href_of.Given as goal
-
-abbrev pub invariant-attributes : goal.invariant-attributes
-invariant-attributes g l = option_map string_bytes l.href ≡ href_of (map g.T.AttrRef.attribute l.yielded)

@@ -1,4 +1,0 @@
-use Rattle.h5_example_links.proofs.page.take_calls.Goals as goal
-
-pub returns : goal.returns
-returns c = c.calls_are_taken_in_turn.ensures _ _ _ _ _ c.in_ok-serialize.ensures

@@ -1,3 +1,0 @@
-pub mod EscapeLaws
-pub mod ItemLaws
-pub mod WordLaws

@@ -1,5 +1,0 @@
-use Rattle.h5_lines.proofs.EscapeLaws.{escape-unescape}
-use Rattle.h5_lines.proofs.laws.what_was_read_is_written.Goals as goal
-
-pub returns : goal.returns
-returns c = escape-unescape

@@ -1,5 +1,0 @@
-use Rattle.h5_lines.proofs.EscapeLaws.{unescape-escape}
-use Rattle.h5_lines.proofs.laws.what_was_written_is_read.Goals as goal
-
-pub returns : goal.returns
-returns c = unescape-escape

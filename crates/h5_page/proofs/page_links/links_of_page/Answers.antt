@@ -1,0 +1,19 @@
+use Rattle.std.proofs.Common.{None, ap, ◌∙◌}
+use Rattle.html_tree_builder.specs.Types.{ChildrenOnly, NodeId}
+use Rattle.html_tree_builder.specs.ArenaModel.{ArenaView, forest_seen}
+use Rattle.html_tree_builder.specs.NodeCalls.{walk_of}
+use Rattle.h5_page.specs.Links.{links_of}
+use Rattle.h5_page.proofs.page_links.links_of_page.Goals as goal
+
+pub returns : goal.returns
+returns c =
+    let node = c.at.result in
+    let arena = c.in_ok-arena.arena in
+    let index = ap (λ (i : NodeId). i.index) c.at.ensures.id ∙ c.document.ensures.document in
+    record {
+      arena = arena;
+      parsed = c.in_ok-arena.ensures;
+      are_all = c.in_ok-links.ensures
+          ∙ ap (λ (a : ArenaView). links_of (walk_of (forest_seen a) node.id.index (ChildrenOnly None))) c.at.ensures.arena
+          ∙ ap (λ n. links_of (walk_of (forest_seen arena) n (ChildrenOnly None))) index;
+    }

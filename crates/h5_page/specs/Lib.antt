@@ -1,0 +1,4 @@
+pub mod Blocks
+pub mod Links
+pub mod LinksOfPage
+pub mod TextOfPage

@@ -1,0 +1,37 @@
+//! Pages, their text and their links.
+use super::page_links::links_of_page;
+use super::page_text::text_of_page;
+use std::fmt::Write;
+use std::test::Fail;
+
+const BLOCKS: &str =
+    "<!DOCTYPE html>\n<title>A page</title>\n<style>p { color: red }</style>\n<h1>Trees &amp; text</h1>\n<p>One <b>bold</b> word,\nand a line.\n<p>\n<ul><li>first<li>second <i>item</i></ul>\n<table><tr><td>cell<td>other</table>\n<script>if (a < b) { run(); }</script>\nloose text\n";
+
+const TEXT: &str =
+    "A page\nTrees & text\nOne bold word,\nand a line.\nfirst\nsecond item\ncell\nother\nloose text\n";
+
+#[test]
+fn each_block_is_a_line(rt: HostRuntime) -> Result<(), Fail> {
+    let alloc = rt.alloc();
+    let text = text_of_page(alloc, String::from_str(alloc, BLOCKS)?)?;
+    assert_eq!(rt; text.as_str(), TEXT);
+    Ok(())
+}
+
+const PAGE: &str =
+    "<!DOCTYPE html>\n<title>Links</title>\n<p>See <a href=\"#one\">part <b>one</b></a>, <a href=\"two?a&amp;b\">two</a> and <a name=here>here</a>.\n<p><a href=three>three<p>and more</a>\n<svg><a xlink:href=four><text>four</text></a></svg>\n";
+
+const LINKS: &str = "#one: part one\ntwo?a&b: two\nthree: three\nthree: and more\nfour: four\n";
+
+#[test]
+fn each_link_comes_with_its_text(rt: HostRuntime) -> Result<(), Fail> {
+    let alloc = rt.alloc();
+    let mut lines = String::new(alloc);
+    for link in links_of_page(alloc, String::from_str(alloc, PAGE)?)? {
+        let href = link.href.as_str();
+        let text = link.text.as_str();
+        write!(lines, "{href}: {text}\n")?;
+    }
+    assert_eq!(rt; lines.as_str(), LINKS);
+    Ok(())
+}

@@ -1,0 +1,92 @@
+-- What a tag of an element without a rule of its own, or without an end tag, does in the body, or in a cell.
+use Rattle.std.proofs.Common.{◌≡◌, ◌∙◌, ℕ, true, false, ◌&&◌, ◌||◌, not, cond, List, [], ◌∷◌, None, codes, refl, ap, Option}
+use Rattle.h5_names.specs.AttributeText.{AttributeText}
+use Rattle.h5_names.specs.declared.qualified.QualName.{QualName}
+use Rattle.h5_interface.specs.SinkChoices.{SinkChoices}
+use Rattle.h5_tables.specs.TagSets.{is_default_scope, is_html_named, is_implied, is_special}
+use Rattle.h5_rules.specs.formatting.FormattingList.{Entry}
+use Rattle.h5_rules.specs.formatting.FormattingNames.{html_name}
+use Rattle.h5_rules.specs.stack.Scope.{drop_while, first_passes, has_p_in_button_scope, in_scope, is_implied_but}
+use Rattle.h5_rules.specs.Changes.{insert_and_pop_element, insert_element, new_element, pop_until_named, set_frameset_not_ok}
+use Rattle.h5_rules.specs.stack.Closing.{generate_implied_end_tags, generate_implied_end_in_select}
+use Rattle.h5_rules.specs.modes.InBody.{has_option_in_scope, in_body_end_other, in_body_start_hr, is_expected_rule}
+use Rattle.h5_rules.specs.insertion.Place.{place}
+use Rattle.h5_rules.specs.Rows.{Change, ClosePElementInButtonScope, GenerateImpliedEndExcept, GenerateImpliedEndInSelect, InsertAndPopElement, InsertElement, IsAcknowledged, IsDone, PopUntilNamed, ReconstructActiveFormattingElements, SetFramesetNotOk, choose, errs, ignored, row_if}
+use Rattle.h5_rules.specs.fitting.Roles.{Role}
+use Rattle.h5_rules.specs.World.{World, names_of}
+use Rattle.h5_rules.proofs.changes.FormattingLaws.{reconstruct_none}
+use Rattle.h5_rules.proofs.changes.PopLaws.{implied_none}
+use Rattle.h5_plain.specs.Plain.{end_tag, start_tag}
+use Rattle.h5_plain.proofs.BodyStepLaws.{cut_at, insert_is, left, no_p, none_closed}
+use Rattle.h5_plain.proofs.CalmLaws.{Calm, after, calm_closed, calm_html, names_are, opened, place_is, unowned}
+use Rattle.h5_plain.proofs.FilledLaws.{Face}
+use Rattle.h5_rules.specs.stack.Expected.{is_expected, is_expected_p, names_behind_p}
+use Rattle.h5_rules.proofs.changes.ExpectedLaws.{current_expected, no_p_behind, no_p_expected}
+use Rattle.h5_plain.proofs.GoesLaws.{Moves, moves_acknowledged, moves_row}
+use Rattle.h5_plain.proofs.GrowthLaws.{with_element}
+use Rattle.h5_plain.proofs.HtmlLaws.{AtHtml}
+use Rattle.h5_plain.proofs.ListedLaws.{OpenFormat}
+use Rattle.h5_plain.proofs.ModeLaws.{GoesByBody, end_by_body, start_by_body}
+use Rattle.h5_plain.proofs.PhraseRuleLaws.{IsMarkName, IsPhraseName, hr_no_structure, hr_rule}
+use Rattle.h5_plain.proofs.RuleLaws.{end, start}
+
+no_select_expected : (ns : List QualName) → in_scope (is_html_named (codes "select")) is_default_scope ns ≡ false → is_expected_rule ns ≡ true
+unfolding is_expected_rule
+no_select_expected ns h = ap (λ b. not b || not (has_option_in_scope (drop_while is_implied ns))) h
+
+module _ (choices : SinkChoices) {at_root : Option Role} {w : World} {p : ℕ} {d : Face} {names : List QualName} {path : List OpenFormat} {under : List ℕ} {base : List Entry} (c : Calm at_root w p d names path under base) where
+  -- the start tag of an element without a rule: a new element below the current node
+  pub starts_phrase : (name : List ℕ) (attrs : List AttributeText) → IsPhraseName name → GoesByBody w.mode → Moves choices (start_tag name attrs) w (opened choices w p name attrs w.mode w.formatting w.frameset_ok)
+  starts_phrase name attrs k m =
+      moves_row choices (start name attrs) w (opened choices w p name attrs w.mode w.formatting w.frameset_ok) w.mode (ReconstructActiveFormattingElements ∷ InsertElement name attrs false ∷ []) refl c.ignore_lf (calm_html c)
+      (start_by_body m name attrs w k.outside.no_structure ∙ k.starts attrs w) refl k.holds.no_title
+      (ap (insert_element choices name attrs false) (reconstruct_none choices w (calm_closed c)) ∙ insert_is choices c name attrs)
+
+  -- an element without an end tag
+  abbrev pub marked : List ℕ → List AttributeText → World
+  marked name attrs = after w (with_element choices p (html_name name) attrs w.forest) w.formatting false w.saved_mode
+
+  mark_is : (name : List ℕ) (attrs : List AttributeText) → set_frameset_not_ok (insert_and_pop_element choices name attrs false w) ≡ marked name attrs
+  unfolding insert_and_pop_element
+  mark_is name attrs =
+      ap (λ m. after w (new_element choices (place w) (html_name name) attrs false m w.forest) w.formatting false w.saved_mode) (unowned choices name attrs w c.no_form)
+      ∙ ap (λ q. after w (new_element choices q (html_name name) attrs false None w.forest) w.formatting false w.saved_mode) (place_is w p d c.is_current c.shows c.no_foster c.no_template)
+
+  pub marks : (name : List ℕ) (attrs : List AttributeText) → IsMarkName name → GoesByBody w.mode → Moves choices (start_tag name attrs) w (marked name attrs)
+  marks name attrs k m =
+      moves_acknowledged choices (start name attrs) w _ w.mode (ReconstructActiveFormattingElements ∷ InsertAndPopElement name attrs false ∷ SetFramesetNotOk ∷ []) refl c.ignore_lf (calm_html c)
+      (start_by_body m name attrs w k.no_structure ∙ k.starts attrs w) k.no_title
+      (ap (λ v. set_frameset_not_ok (insert_and_pop_element choices name attrs false v)) (reconstruct_none choices w (calm_closed c)) ∙ mark_is name attrs)
+
+  -- a `hr`, where neither a `p` nor a `select` is open
+  none_implied : in_scope (is_html_named (codes "select")) is_default_scope names ≡ false → generate_implied_end_in_select choices w ≡ w
+  unfolding generate_implied_end_in_select
+  none_implied h = ap (λ b. cond b (generate_implied_end_tags choices w) w) (ap (in_scope (is_html_named (codes "select")) is_default_scope) (names_are w c.named) ∙ h)
+
+  pub rules_off : (attrs : List AttributeText) → GoesByBody w.mode → has_p_in_button_scope names ≡ false → in_scope (is_html_named (codes "select")) is_default_scope names ≡ false
+      → Moves choices (start_tag (codes "hr") attrs) w (marked (codes "hr") attrs)
+  rules_off attrs m h i =
+      let changes : List Change = ClosePElementInButtonScope ∷ GenerateImpliedEndInSelect ∷ InsertAndPopElement (codes "hr") attrs false ∷ SetFramesetNotOk ∷ [] in
+      moves_acknowledged choices (start (codes "hr") attrs) w _ w.mode changes refl c.ignore_lf (calm_html c)
+      (start_by_body m (codes "hr") attrs w hr_no_structure ∙ hr_rule attrs w
+      ∙ ap (λ b. row_if (b && is_expected_rule (names_behind_p (names_of w))) changes IsAcknowledged) (no_p_expected (names_of w) (no_p choices c h))
+      ∙ ap (λ ns. row_if (is_expected_rule ns) changes IsAcknowledged) (no_p_behind (names_of w) (no_p choices c h))
+      ∙ ap (λ b. row_if b changes IsAcknowledged) (no_select_expected (names_of w) (ap (in_scope (is_html_named (codes "select")) is_default_scope) (names_are w c.named) ∙ i))) refl
+      (ap (λ v. set_frameset_not_ok (insert_and_pop_element choices (codes "hr") attrs false (generate_implied_end_in_select choices v))) (none_closed choices c h)
+      ∙ ap (λ v. set_frameset_not_ok (insert_and_pop_element choices (codes "hr") attrs false v)) (none_implied i)
+      ∙ mark_is (codes "hr") attrs)
+
+-- the end tag of an element without a rule: the current node leaves the stack
+pub ends_phrase : (choices : SinkChoices) (w : World) (names : List QualName) (m : GoesByBody w.mode) (i : w.ignore_lf ≡ false) (j : AtHtml w) (name : List ℕ) → IsPhraseName name → names_of w ≡ html_name name ∷ names
+    → Moves choices (end_tag name) w (left choices w names m i j)
+unfolding in_body_end_other pop_until_named
+ends_phrase choices w names m i j name k e =
+    let changes : List Change = GenerateImpliedEndExcept name ∷ PopUntilNamed name ∷ [] in
+    moves_row choices (end name) w (left choices w names m i j) w.mode changes refl i j
+    (end_by_body m name w k.outside
+    ∙ k.ends w
+    ∙ ap (λ ns. choose (in_scope (is_html_named name) is_special ns) (row_if (is_expected (is_implied_but name) (is_html_named name) ns) changes IsDone) ignored) e
+    ∙ ap (λ b. choose (cond b true (cond (is_special (html_name name)) false (in_scope (is_html_named name) is_special names))) (row_if (is_expected (is_implied_but name) (is_html_named name) (html_name name ∷ names)) changes IsDone) ignored) k.itself
+    ∙ ap (λ b. row_if b changes IsDone) (current_expected (is_implied_but name) (is_html_named name) (html_name name) names k.not_implied k.itself)) refl refl
+    (ap (pop_until_named name) (implied_none choices name w (ap (first_passes (is_implied_but name)) e ∙ k.not_implied))
+    ∙ cut_at w names (is_html_named name) (html_name name) e k.itself)

@@ -1,0 +1,130 @@
+//! Elements without content, in forms and beside them (HTML standard, section 13.2.6.4.7).
+ghost use Rattle.std.specs.Prelude.{◌&&◌, ◌<◌, ◌∷◌, ◌≡◌, OnOk, codes, false, true};
+ghost use Rattle.h5_names.specs.AttributeText.{attribute_texts};
+ghost use Rattle.h5_rules.specs.modes.InBody.{has_option_in_scope, in_body_start_hr, in_body_start_image, in_body_start_input, in_body_start_part, named_in_scope, unless_hidden};
+ghost use Rattle.h5_rules.specs.stack.Closing.{generate_implied_end_in_select};
+ghost use Rattle.h5_rules.specs.Rows.{InsertAndPopElement, ReconstructActiveFormattingElements, apply_all};
+ghost use Rattle.h5_state.specs.Steps.{IsSound, TellsErrors, errors_of, world_of};
+ghost use Rattle.h5_state.specs.Turn.{TakesTag};
+ghost use Rattle.h5_rules.specs.World.{names_of};
+
+use super::hidden::is_type_hidden;
+use super::select::is_option_in_scope;
+use h5_closing::{
+    close_p_element_in_button_scope, expect_to_close, find_in_default_scope,
+    generate_implied_end_in_select,
+};
+use h5_formatting::reconstruct_active_formatting_elements;
+use h5_insertion::insert_and_pop_element;
+use h5_interface::TreeSink;
+use h5_names::{KnownName, LocalName};
+use h5_state::{
+    State, Turn, in_scope_named, pop_until_named, set_frameset_not_ok, tell_error, unexpected_tag,
+};
+use h5_tables::ProcessResult;
+use h5_token::Tag;
+use std::alloc::AllocError;
+
+/// A start tag `image`, which is taken for `img`. It answers an `AllocError` where memory is refused.
+#[cold]
+pub fn in_body_start_image<S: TreeSink>(
+    sink: &mut S,
+    state: &mut State<S::Handle>,
+    tag: Tag,
+) -> Turn
+    requires { IsSound S.TreeSink sink.old state.old }
+    ensures { TakesTag S.TreeSink in_body_start_image tag sink.old state.old sink.new state.new result }
+{
+    unexpected_tag(sink, state, &tag);
+    reconstruct_active_formatting_elements(sink, state)?;
+    let img = LocalName::from_known(KnownName::Img);
+    insert_and_pop_element(sink, state, img, tag.attrs, tag.had_duplicate_attributes)?;
+    set_frameset_not_ok(sink, state);
+    Ok(ProcessResult::DoneAckSelfClosing)
+}
+
+/// A start tag `param`, `source` or `track`. It answers an `AllocError` where memory is refused.
+pub fn in_body_start_part<S: TreeSink>(sink: &mut S, state: &mut State<S::Handle>, tag: Tag) -> Turn
+    requires { IsSound S.TreeSink sink.old state.old }
+    ensures { TakesTag S.TreeSink in_body_start_part tag sink.old state.old sink.new state.new result }
+{
+    let attrs = tag.attrs;
+    insert_and_pop_element(sink, state, tag.name, attrs, tag.had_duplicate_attributes)?;
+    Ok(ProcessResult::DoneAckSelfClosing)
+}
+
+// An `input`, after which no frameset may come, unless it is hidden.
+fn insert_input<S: TreeSink>(
+    sink: &mut S,
+    state: &mut State<S::Handle>,
+    tag: Tag,
+) -> Result<(), AllocError>
+    requires { IsSound S.TreeSink sink.old state.old }
+    ensures done { OnOk result
+        (world_of S.TreeSink sink.new state.new ≡ apply_all S.choices (ReconstructActiveFormattingElements ∷ InsertAndPopElement tag.name (attribute_texts tag.attrs.items) tag.had_duplicate_attributes ∷ unless_hidden (attribute_texts tag.attrs.items)) (world_of S.TreeSink sink.old state.old)) }
+    ensures quiet { errors_of S.TreeSink sink.new ≡ errors_of S.TreeSink sink.old }
+    ensures sound { IsSound S.TreeSink sink.new state.new }
+{
+    let hidden = is_type_hidden(tag.attrs.as_slice());
+    reconstruct_active_formatting_elements(sink, state)?;
+    let attrs = tag.attrs;
+    insert_and_pop_element(sink, state, tag.name, attrs, tag.had_duplicate_attributes)?;
+    if !hidden {
+        set_frameset_not_ok(sink, state);
+    }
+    Ok(())
+}
+
+/// A start tag `input`: a `select` in scope is closed. It answers an `AllocError` where memory is refused.
+#[tactic(auto, unfolding(h5_rules::specs::modes::InBody::in_body_start_input))]
+pub fn in_body_start_input<S: TreeSink>(
+    sink: &mut S,
+    state: &mut State<S::Handle>,
+    tag: Tag,
+) -> Turn
+    requires { IsSound S.TreeSink sink.old state.old }
+    ensures { TakesTag S.TreeSink in_body_start_input tag sink.old state.old sink.new state.new result }
+{
+    let select = LocalName::from_known(KnownName::Select);
+    match find_in_default_scope(sink, state, &select) {
+        Some(place) => {
+            unexpected_tag(sink, state, &tag);
+            pop_until_named(sink, state, &select, place);
+            insert_input(sink, state, tag)?;
+            Ok(ProcessResult::DoneAckSelfClosing)
+        }
+        None => {
+            insert_input(sink, state, tag)?;
+            Ok(ProcessResult::DoneAckSelfClosing)
+        }
+    }
+}
+
+// In a `select`, no option is expected to be open where a rule begins.
+fn check_rule<S: TreeSink>(sink: &mut S, state: &State<S::Handle>, in_select: bool)
+    requires { IsSound S.TreeSink sink.old state.now }
+    ensures told { TellsErrors S.TreeSink sink.old sink.new state.now }
+    ensures noted { (in_select && has_option_in_scope (names_of (world_of S.TreeSink sink.old state.now))) ≡ true → 0 < errors_of S.TreeSink sink.new }
+    ensures quiet { (in_select && has_option_in_scope (names_of (world_of S.TreeSink sink.old state.now))) ≡ false → errors_of S.TreeSink sink.new ≡ errors_of S.TreeSink sink.old }
+{
+    if in_select && is_option_in_scope(sink, state) {
+        tell_error(sink, state, "hr in option");
+    }
+}
+
+/// A start tag `hr`: a `p` in button scope is closed, and, in a `select`, what has an implied end. It answers an
+/// `AllocError` where memory is refused.
+pub fn in_body_start_hr<S: TreeSink>(sink: &mut S, state: &mut State<S::Handle>, tag: Tag) -> Turn
+    requires { IsSound S.TreeSink sink.old state.old }
+    ensures { TakesTag S.TreeSink in_body_start_hr tag sink.old state.old sink.new state.new result }
+{
+    let expected = close_p_element_in_button_scope(sink, state);
+    expect_to_close(sink, state, expected);
+    let in_select = in_scope_named(sink, state, KnownName::Select);
+    generate_implied_end_in_select(sink, state);
+    check_rule(sink, state, in_select);
+    let attrs = tag.attrs;
+    insert_and_pop_element(sink, state, tag.name, attrs, tag.had_duplicate_attributes)?;
+    set_frameset_not_ok(sink, state);
+    Ok(ProcessResult::DoneAckSelfClosing)
+}

@@ -1,0 +1,79 @@
+-- Which elements a selector matches (Selectors Level 4; HTML standard, section 4.16.2, "Case-sensitivity of selectors").
+use Rattle.std.specs.Prelude.{ℕ, ◌+◌, ◌==◌, ◌&&◌, ◌||◌, Bool, true, false, if◌then◌else◌, not, is_some, length, List, Option, codes, string_bytes}
+use Rattle.std.specs.List.{filter, list_any}
+use Rattle.std.specs.Option.{option_map_or}
+use Rattle.h5_names.specs.AttributeText.{AttributeText, is_same_text}
+use Rattle.h5_names.specs.Urls.{html_text}
+use Rattle.h5_names.specs.declared.qualified.QualName.{QualName}
+use Rattle.h5_interface.specs.Forest.{Forest, attrs_of}
+use Rattle.h5_arena.specs.ArenaModel.{value_of}
+use Rattle.h5_selectors.specs.AnPlusB.{is_index}
+use Rattle.h5_selectors.specs.Values.{are_same, compares, includes}
+use Rattle.h5_selectors.specs.Ways.{counted, is_empty, is_root, led, name_of}
+use Rattle.h5_selectors.specs.declared.formula.AttrTest.{AttrTest}
+use Rattle.h5_selectors.specs.declared.formula.Formula.{Formula, Any, Name, Id, Class, Attr, Root, Scope, Empty, Link, NthOfType, Nth', Not', And', Or', Leads'}
+use Rattle.h5_selectors.specs.declared.formula.Written.{Written}
+
+abbrev pub is_html : QualName → Bool
+is_html name = is_same_text name.ns html_text
+
+-- the name that an element of HTML has to have, or another
+abbrev pub name_for : Written → (in_html : Bool) → List ℕ
+name_for written in_html = if in_html then written.lower else written.exact
+
+abbrev pub is_named : Written → QualName → Bool
+is_named written name = is_same_text name.local (name_for written (is_html name))
+
+abbrev pub compares_case : AttrTest → (in_html : Bool) → Bool
+compares_case test in_html = if in_html then test.ignores_case_in_html else test.ignores_case
+
+abbrev pub has_value : AttrTest → (in_html : Bool) → List AttributeText → Bool
+has_value test in_html attrs =
+    option_map_or (compares test.operator (compares_case test in_html) (string_bytes test.text)) (value_of (name_for test.name in_html) attrs) false
+
+abbrev pub are_alike : QualName → QualName → Bool
+are_alike one other = is_same_text one.local other.local && is_same_text one.ns other.ns
+
+-- a link of HTML: an `a` or an `area` with an `href` (HTML standard, section 4.16.3, ":link")
+abbrev pub is_link : QualName → List AttributeText → Bool
+is_link name attrs = is_html name && ((is_same_text name.local (codes "a") || is_same_text name.local (codes "area")) && is_some (value_of (codes "href") attrs))
+
+-- in a forest, where texts of ids and classes have case or haven't (quirks mode), below an element or a node that is none
+module _ (f : Forest) (quirky : Bool) (scope : Option ℕ) where
+  -- a question about the name of an element
+  abbrev pub asks_name : (QualName → Bool) → ℕ → Bool
+  asks_name test n = option_map_or test (name_of f n) false
+
+  abbrev pub has_id : List ℕ → ℕ → Bool
+  has_id text n = option_map_or (are_same quirky text) (value_of (codes "id") (attrs_of f n)) false
+
+  abbrev pub has_class : List ℕ → ℕ → Bool
+  has_class text n = option_map_or (includes quirky text) (value_of (codes "class") (attrs_of f n)) false
+
+  abbrev pub is_scope : ℕ → Bool
+  is_scope n = option_map_or (λ s. s == n) scope (is_root f n)
+
+  abbrev pub is_alike : ℕ → ℕ → Bool
+  is_alike n m = asks_name (λ name. asks_name (are_alike name) m) n
+
+  -- whether this holds of an element
+  abbrev pub holds : Formula → ℕ → Bool
+  holds Any n = true
+  holds (Name written) n = asks_name (is_named written) n
+  holds (Id text) n = has_id (string_bytes text) n
+  holds (Class text) n = has_class (string_bytes text) n
+  holds (Attr test) n = asks_name (λ name. has_value test (is_html name) (attrs_of f n)) n
+  holds Root n = is_root f n
+  holds Scope n = is_scope n
+  holds Empty n = is_empty f n
+  holds Link n = asks_name (λ name. is_link name (attrs_of f n)) n
+  holds (NthOfType indices side) n = is_index indices (length (filter (is_alike n) (counted side f n)) + 1)
+  holds (Nth' indices side p of) n = holds of n && is_index indices (length (filter (holds of) (counted side f n)) + 1)
+  holds (Not' p inner) n = not (holds inner n)
+  holds (And' p one q other) n = holds one n && holds other n
+  holds (Or' p one q other) n = holds one n || holds other n
+  holds (Leads' way p inner) n = list_any (holds inner) (led way f n)
+
+  -- whether one of a list of selectors matches
+  abbrev pub matches : List Formula → ℕ → Bool
+  matches list n = list_any (λ selector. holds selector n) list

@@ -1,0 +1,116 @@
+-- Where an element leads to in a forest (DOM standard, section 1.1, "Trees"). Of nodes that are no elements nothing is asked.
+use Rattle.std.specs.Prelude.{ℕ, Bool, true, false, if◌then◌else◌, List, [], ◌∷◌, Option, None, Some, is_some}
+use Rattle.std.specs.List.{filter, flat_map}
+use Rattle.std.specs.Option.{option_and_then, option_map_or, option_to_list}
+use Prim.Native.Nat.{zero, suc}
+use Rattle.h5_names.specs.declared.qualified.QualName.{QualName}
+use Rattle.h5_interface.specs.Forest.{Child, ChildNode, ChildText, DocumentNode, Forest, Kind, children_of, kind_of, nodes}
+use Rattle.h5_arena.specs.ArenaModel.{child_parent, name_of_kind}
+use Rattle.h5_arena.specs.ChildTests.{is_child_node}
+use Rattle.h5_selectors.specs.declared.formula.Side.{Side}
+use Rattle.h5_selectors.specs.declared.formula.Side.TheVariants.{First, Last}
+use Rattle.h5_selectors.specs.declared.formula.Way.{Way}
+use Rattle.h5_selectors.specs.declared.formula.Way.TheVariants.{Ancestor, Below, Child as ToChild, Earlier, Later, Next, Parent, Previous}
+
+-- the name of an element
+abbrev pub name_of : Forest → ℕ → Option QualName
+name_of f n = option_and_then name_of_kind (kind_of f n)
+
+abbrev pub is_element : Forest → ℕ → Bool
+is_element f n = is_some (name_of f n)
+
+-- the elements among nodes, and among children
+abbrev pub elements : Forest → List ℕ → List ℕ
+elements f = filter (is_element f)
+
+abbrev pub elements_among : Forest → List Child → List ℕ
+elements_among f children = elements f (nodes children)
+
+abbrev pub child_elements : Forest → ℕ → List ℕ
+child_elements f n = elements_among f (children_of f n)
+
+-- whose child a node is; the contents of a template are nobody's child
+abbrev pub tree_parent : Forest → ℕ → Option ℕ
+tree_parent f n = option_and_then child_parent (f.node n)
+
+-- the parent, where it is an element
+abbrev pub parent_element : Forest → ℕ → List ℕ
+parent_element f n = elements f (option_to_list (tree_parent f n))
+
+-- the ancestors that are elements, the nearest first; so many levels up
+abbrev pub ancestors_within : ℕ → Forest → ℕ → List ℕ
+ancestors_within zero f n = []
+ancestors_within (suc levels) f n = flat_map (λ p. p ∷ ancestors_within levels f p) (parent_element f n)
+
+-- all: there are no more of them than nodes
+abbrev pub ancestors : Forest → ℕ → List ℕ
+ancestors f = ancestors_within f.bound f
+
+-- the elements below a node, in tree order; so many levels down
+unfoldable pub below_within : ℕ → Forest → ℕ → List ℕ
+below_within zero f n = []
+below_within (suc levels) f n = flat_map (λ c. c ∷ below_within levels f c) (child_elements f n)
+
+abbrev pub below : Forest → ℕ → List ℕ
+below f = below_within f.bound f
+
+-- the children of a node's parent, and those before and behind it
+abbrev pub children_around : Forest → ℕ → List Child
+children_around f n = option_map_or (children_of f) (tree_parent f n) []
+
+abbrev pub children_before : ℕ → List Child → List Child
+children_before n [] = []
+children_before n (c ∷ cs) = if is_child_node n c then [] else c ∷ children_before n cs
+
+abbrev pub children_behind : ℕ → List Child → List Child
+children_behind n [] = []
+children_behind n (c ∷ cs) = if is_child_node n c then cs else children_behind n cs
+
+abbrev pub before : Forest → ℕ → List ℕ
+before f n = elements_among f (children_before n (children_around f n))
+
+abbrev pub behind : Forest → ℕ → List ℕ
+behind f n = elements_among f (children_behind n (children_around f n))
+
+abbrev pub first_of : List ℕ → List ℕ
+first_of [] = []
+first_of (x ∷ xs) = x ∷ []
+
+abbrev pub last_of : List ℕ → List ℕ
+last_of [] = []
+last_of (x ∷ []) = x ∷ []
+last_of (x ∷ y ∷ ys) = last_of (y ∷ ys)
+
+-- the elements to which an element leads
+abbrev pub led : Way → Forest → ℕ → List ℕ
+led Parent f n = parent_element f n
+led Ancestor f n = ancestors f n
+led Previous f n = last_of (before f n)
+led Earlier f n = before f n
+led ToChild f n = child_elements f n
+led Below f n = below f n
+led Next f n = first_of (behind f n)
+led Later f n = behind f n
+
+-- the siblings that are counted for a place
+abbrev pub counted : Side → Forest → ℕ → List ℕ
+counted First f n = before f n
+counted Last f n = behind f n
+
+-- whether the parent is a document
+abbrev pub is_document : Option Kind → Bool
+is_document None = false
+is_document (Some DocumentNode) = true
+is_document (Some kind) = false
+
+abbrev pub is_root : Forest → ℕ → Bool
+is_root f n = is_document (option_and_then (kind_of f) (tree_parent f n))
+
+-- neither elements nor texts are among children
+abbrev pub is_bare : Forest → List Child → Bool
+is_bare f [] = true
+is_bare f (ChildText text ∷ cs) = false
+is_bare f (ChildNode c ∷ cs) = if is_element f c then false else is_bare f cs
+
+abbrev pub is_empty : Forest → ℕ → Bool
+is_empty f n = is_bare f (children_of f n)

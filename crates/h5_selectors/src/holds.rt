@@ -1,0 +1,306 @@
+//! What is asked of an element, asked of one.
+ghost use Rattle.std.specs.Prelude.{◌≡◌, ◌+◌, ◌&&◌, ◌≤◌, ◌<◌, All, IfOk, cond, length, map};
+ghost use Rattle.std.specs.List.{filter, list_any};
+ghost use Rattle.h5_arena.specs.ArenaModel.{IsHeld, optional_place, place};
+ghost use Rattle.h5_selectors.specs.Holds as h;
+ghost use Rattle.h5_selectors.specs.AnPlusB.{is_index};
+ghost use Rattle.h5_selectors.specs.Values.{are_same};
+ghost use Rattle.h5_selectors.specs.Query.{holds_by, quirky_by, scope_by, seen_by};
+ghost use Rattle.h5_selectors.specs.Ways.{counted, led};
+
+use super::formula::{AnPlusB, AttrTest, Formula, Side, Way, Written};
+use super::values::{compares, includes};
+use super::ways::{are_alike, counted, is_element, is_empty, is_root, led, name_of};
+use h5_arena::{Arena, NodeId};
+use h5_interface::QuirksMode;
+use h5_names::{KnownName, LocalName, Namespace, QualName};
+use std::alloc::{AllocError, Global};
+
+/// In what an element is asked: the arena, its mode, and the element below which is selected.
+#[derive(Clone, Copy)]
+pub(crate) struct Query<'a> {
+    pub(crate) arena: &'a Arena,
+    pub(crate) scope: Option<NodeId>,
+    pub(crate) is_quirky: bool,
+    pub(crate) alloc: Global,
+}
+
+impl<'a> Query<'a> {
+    ghost use Rattle.h5_selectors.specs.Selected.{is_quirky, scope_in};
+
+    pub(crate) fn new(alloc: Global, arena: &'a Arena, scope: NodeId) -> Query<'a>
+        requires { IsHeld arena.now scope }
+        ensures arena { result.arena.now ≡ arena.now }
+        ensures scope { optional_place result.scope ≡ scope_in arena.now scope.index }
+        ensures quirky { result.is_quirky ≡ is_quirky arena.now.quirks }
+    {
+        Query {
+            arena,
+            scope: if is_element(arena, scope) {
+                Some(scope)
+            } else {
+                None
+            },
+            is_quirky: arena.quirks() == QuirksMode::Quirks,
+            alloc,
+        }
+    }
+}
+
+/// Whether a name is one of HTML's elements.
+pub(crate) fn is_html(name: &QualName) -> bool
+    ensures { result ≡ h.is_html name.now }
+{
+    name.ns == Namespace::html()
+}
+
+impl Written {
+    /// The name that an element of HTML, or another, has to have.
+    pub(crate) fn name_for(&self, in_html: bool) -> &LocalName
+        ensures { result.now ≡ h.name_for self.now in_html }
+    {
+        if in_html { &self.lower } else { &self.exact }
+    }
+
+    pub(crate) fn is_name_of(&self, name: &QualName) -> bool
+        ensures { result ≡ h.is_named self.now name.now }
+    {
+        name.local == *self.name_for(is_html(name))
+    }
+}
+
+// Whether an element has this name.
+pub(crate) fn has_name(query: &Query<'_>, id: NodeId, written: &Written) -> bool
+    requires { IsHeld query.now.arena.now id }
+    ensures { result ≡ h.asks_name (seen_by query.now) (quirky_by query.now) (scope_by query.now) (h.is_named written.now) id.index }
+{
+    match name_of(query.arena, id) {
+        Some(name) => written.is_name_of(name),
+        None => false,
+    }
+}
+
+// Whether an element has an attribute as it is asked for.
+pub(crate) fn has_attr(query: &Query<'_>, id: NodeId, test: &AttrTest) -> bool
+    requires { IsHeld query.now.arena.now id }
+    ensures { result ≡ holds_by query.now (Formula.Attr test.now) id.index }
+{
+    let Some(name) = name_of(query.arena, id) else {
+        return false;
+    };
+    let in_html = is_html(name);
+    let ignores_case = if in_html {
+        test.ignores_case_in_html
+    } else {
+        test.ignores_case
+    };
+    match query.arena.attr(id, test.name.name_for(in_html)) {
+        Some(value) => compares(test.operator, ignores_case, test.text.as_str(), value),
+        None => false,
+    }
+}
+
+// Whether two texts are the same, in quirks mode without case.
+fn are_same(one: &str, other: &str, ignores_case: bool) -> bool
+    ensures { result ≡ are_same ignores_case one.now other.now }
+{
+    if ignores_case {
+        one.eq_ignore_ascii_case(other)
+    } else {
+        one == other
+    }
+}
+
+pub(crate) fn has_id(query: &Query<'_>, id: NodeId, text: &str) -> bool
+    requires { IsHeld query.now.arena.now id }
+    ensures { result ≡ h.has_id (seen_by query.now) (quirky_by query.now) (scope_by query.now) text.now id.index }
+{
+    match query.arena.attr(id, &LocalName::from_known(KnownName::Id)) {
+        Some(value) => are_same(text, value, query.is_quirky),
+        None => false,
+    }
+}
+
+pub(crate) fn has_class(query: &Query<'_>, id: NodeId, text: &str) -> bool
+    requires { IsHeld query.now.arena.now id }
+    ensures { result ≡ h.has_class (seen_by query.now) (quirky_by query.now) (scope_by query.now) text.now id.index }
+{
+    match query
+        .arena
+        .attr(id, &LocalName::from_known(KnownName::Class))
+    {
+        Some(value) => includes(text, value, query.is_quirky),
+        None => false,
+    }
+}
+
+pub(crate) fn is_link(query: &Query<'_>, id: NodeId) -> bool
+    requires { IsHeld query.now.arena.now id }
+    ensures { result ≡ holds_by query.now Formula.Link id.index }
+{
+    let Some(name) = name_of(query.arena, id) else {
+        return false;
+    };
+    is_html(name)
+        && (name.local.is(KnownName::A) || name.local.is(KnownName::Area))
+        && query
+            .arena
+            .attr(id, &LocalName::from_known(KnownName::Href))
+            .is_some()
+}
+
+pub(crate) fn is_scope(query: &Query<'_>, id: NodeId) -> bool
+    requires { IsHeld query.now.arena.now id }
+    ensures { result ≡ holds_by query.now Formula.Scope id.index }
+{
+    match query.scope {
+        Some(scope) => scope == id,
+        None => is_root(query.arena, id),
+    }
+}
+
+// One more, where it counts.
+fn more(count: usize, counts: bool) -> usize
+    requires { count < 18446744073709551615 }
+    ensures { result ≡ count + cond counts 1 0 }
+{
+    if counts { count + 1 } else { count }
+}
+
+// How many elements of a list have the name of an element.
+#[tactic(auto, using(crate::proofs::ChildSteps::count_more))]
+fn count_alike(query: &Query<'_>, id: NodeId, list: &[NodeId]) -> usize
+    requires held { IsHeld query.now.arena.now id }
+    requires list_held { All (IsHeld query.now.arena.now) list.now }
+    ensures { result ≡ length (filter (h.is_alike (seen_by query.now) (quirky_by query.now) (scope_by query.now) id.index) (map place list.now)) }
+{
+    let mut count = 0;
+    for other in list {
+        count = more(count, is_alike(query, id, *other));
+    }
+    count
+}
+
+// Whether two elements have one name.
+fn is_alike(query: &Query<'_>, id: NodeId, other: NodeId) -> bool
+    requires held { IsHeld query.now.arena.now id }
+    requires other_held { IsHeld query.now.arena.now other }
+    ensures { result ≡ h.is_alike (seen_by query.now) (quirky_by query.now) (scope_by query.now) id.index other.index }
+{
+    match (name_of(query.arena, id), name_of(query.arena, other)) {
+        (Some(one), Some(another)) => are_alike(one, another),
+        _ => false,
+    }
+}
+
+pub(crate) fn is_nth_of_type(
+    query: &Query<'_>,
+    id: NodeId,
+    indices: AnPlusB,
+    side: Side,
+) -> Result<bool, AllocError>
+    requires { IsHeld query.now.arena.now id }
+    ensures { IfOk result (λ answer. answer ≡ holds_by query.now (Formula.NthOfType indices side) id.index) }
+{
+    let list = counted(query.alloc, query.arena, side, id)?;
+    Ok(indices.has_behind(count_alike(query, id, list.as_slice())))
+}
+
+/// Whether this holds of an element.
+#[cycle(holds)]
+pub(crate) fn holds(formula: &Formula, query: &Query<'_>, id: NodeId) -> Result<bool, AllocError>
+    requires { IsHeld query.now.arena.now id }
+    ensures { IfOk result (λ answer. answer ≡ holds_by query.now formula.now id.index) }
+{
+    match formula {
+        Formula::Any => Ok(true),
+        Formula::Name(written) => Ok(has_name(query, id, written)),
+        Formula::Id(text) => Ok(has_id(query, id, text.as_str())),
+        Formula::Class(text) => Ok(has_class(query, id, text.as_str())),
+        Formula::Attr(test) => Ok(has_attr(query, id, test)),
+        Formula::Root => Ok(is_root(query.arena, id)),
+        Formula::Scope => Ok(is_scope(query, id)),
+        Formula::Empty => Ok(is_empty(query.arena, id)),
+        Formula::Link => Ok(is_link(query, id)),
+        Formula::NthOfType(indices, side) => is_nth_of_type(query, id, *indices, *side),
+        Formula::Nth(indices, side, of) => is_nth(&**of, query, id, *indices, *side),
+        Formula::Not(inner) => Ok(!holds(&**inner, query, id)?),
+        Formula::And(one, other) => {
+            if !holds(&**one, query, id)? {
+                return Ok(false);
+            }
+            holds(&**other, query, id)
+        }
+        Formula::Or(one, other) => {
+            if holds(&**one, query, id)? {
+                return Ok(true);
+            }
+            holds(&**other, query, id)
+        }
+        Formula::Leads(way, inner) => holds_along(&**inner, query, *way, id),
+    }
+}
+
+// Whether this holds of an element, and of so many of its siblings.
+#[cycle(holds)]
+fn is_nth(
+    of: &Formula,
+    query: &Query<'_>,
+    id: NodeId,
+    indices: AnPlusB,
+    side: Side,
+) -> Result<bool, AllocError>
+    requires { IsHeld query.now.arena.now id }
+    ensures { IfOk result (λ answer. answer ≡ (holds_by query.now of.now id.index
+        && is_index indices (length (filter (holds_by query.now of.now) (counted side (seen_by query.now) id.index)) + 1))) }
+{
+    if !holds(of, query, id)? {
+        return Ok(false);
+    }
+    let list = counted(query.alloc, query.arena, side, id)?;
+    let count = count_holding(of, query, list.as_slice())?;
+    Ok(indices.has_behind(count))
+}
+
+// How many elements of a list this holds of.
+#[tactic(auto, using(crate::proofs::ChildSteps::count_more))]
+#[cycle(holds)]
+fn count_holding(formula: &Formula, query: &Query<'_>, list: &[NodeId]) -> Result<usize, AllocError>
+    requires { All (IsHeld query.now.arena.now) list.now }
+    ensures { IfOk result (λ count. count ≡ length (filter (holds_by query.now formula.now) (map place list.now))) }
+{
+    let mut count = 0;
+    'counted: for element in list {
+        count = more(count, holds(formula, query, *element)?);
+    }
+    Ok(count)
+}
+
+// Whether this holds of some element of a list.
+#[cycle(holds)]
+fn holds_of_some(formula: &Formula, query: &Query<'_>, list: &[NodeId]) -> Result<bool, AllocError>
+    requires { All (IsHeld query.now.arena.now) list.now }
+    ensures { IfOk result (λ answer. answer ≡ list_any (holds_by query.now formula.now) (map place list.now)) }
+{
+    'asked: for element in list {
+        if holds(formula, query, *element)? {
+            return Ok(true);
+        }
+    }
+    Ok(false)
+}
+
+// Whether this holds of some element to which an element leads.
+#[cycle(holds)]
+fn holds_along(
+    formula: &Formula,
+    query: &Query<'_>,
+    way: Way,
+    id: NodeId,
+) -> Result<bool, AllocError>
+    requires { IsHeld query.now.arena.now id }
+    ensures { IfOk result (λ answer. answer ≡ list_any (holds_by query.now formula.now) (led way (seen_by query.now) id.index)) }
+{
+    let list = led(query.alloc, query.arena, way, id)?;
+    holds_of_some(formula, query, list.as_slice())
+}

@@ -1,0 +1,156 @@
+//! The calls of a selector.
+ghost use Rattle.std.specs.Prelude.{◌≡◌, All, IfErr, IfOk, IfSome, length, map, slice_get};
+ghost use Rattle.std.specs.List.{filter};
+ghost use Rattle.std.specs.Str.{chars};
+ghost use Rattle.h5_arena.specs.ArenaModel.{IsHeld, optional_place, place};
+ghost use Rattle.h5_selectors.specs.Fault.{IsWithin};
+ghost use Rattle.h5_selectors.specs.Query.{matches_by};
+
+use super::fault::SelectorFault;
+use super::formula::Formula;
+use super::holds::{Query, holds};
+use super::parse::parse;
+use super::ways::{ancestors, elements_below, is_element};
+use h5_arena::{Arena, NodeId};
+use std::alloc::{AllocError, Global};
+use std::marker::Model;
+
+/// A list of selectors, as it stands in front of the braces of a style rule.
+///
+/// Each call asks a node of the arena, as `Arena::holds` tells, and changes nothing. Its only error is an `AllocError`, where memory is
+/// refused.
+#[derive(Drop)]
+pub struct Selector {
+    list: Vec<Formula>,
+    alloc: Global,
+}
+
+impl Model for Selector {
+    ghost use Rattle.std.specs.Prelude.{List};
+    ghost use Rattle.std.specs.Coded.{codes};
+    ghost use Rattle.h5_selectors.specs.contracts.formula.Formula as formula;
+    ghost use Rattle.h5_selectors.specs.declared.formula.Formula.{Formula};
+
+    ghost Value = { List Formula };
+
+    ghost coded = { Prim.hlevel (codes, formula.the_row.coded) };
+
+    ghost view = { λ s. s.list.items };
+}
+
+// Whether one of the selectors matches an element.
+fn matches_one(list: &[Formula], query: &Query<'_>, id: NodeId) -> Result<bool, AllocError>
+    requires { IsHeld query.now.arena.now id }
+    ensures { IfOk result (λ answer. answer ≡ matches_by query.now list.now id.index) }
+{
+    for formula in list {
+        if holds(formula, query, id)? {
+            return Ok(true);
+        }
+    }
+    Ok(false)
+}
+
+// Those of some elements that one of the selectors matches.
+fn matching(
+    alloc: Global,
+    list: &[Formula],
+    query: &Query<'_>,
+    elements: &[NodeId],
+) -> Result<Vec<NodeId>, AllocError>
+    requires { All (IsHeld query.now.arena.now) elements.now }
+    ensures { IfOk result (λ found. map place found.items ≡ filter (matches_by query.now list.now) (map place elements.now)) }
+{
+    let mut found = Vec::new(alloc);
+    for element in elements {
+        if matches_one(list, query, *element)? {
+            found.push(*element)?;
+        }
+    }
+    Ok(found)
+}
+
+// The first of them.
+fn first_matching(
+    list: &[Formula],
+    query: &Query<'_>,
+    elements: &[NodeId],
+) -> Result<Option<NodeId>, AllocError>
+    requires { All (IsHeld query.now.arena.now) elements.now }
+    ensures first { IfOk result (λ found. optional_place found ≡ slice_get (filter (matches_by query.now list.now) (map place elements.now)) 0) }
+    ensures held { IfOk result (λ found. IfSome found (IsHeld query.now.arena.now)) }
+{
+    for element in elements {
+        if matches_one(list, query, *element)? {
+            return Ok(Some(*element));
+        }
+    }
+    Ok(None)
+}
+
+impl Selector {
+    ghost use Rattle.h5_selectors.specs.Selected.{is_match, matching_upwards, selected};
+
+    /// The selectors of a text, in which commas stand between them. A text that is none is `Invalid`: the fault has what is wrong, and
+    /// behind how many of the text's characters. Where memory is refused, it is `Memory`.
+    pub fn parse(alloc: Global, text: &str) -> Result<Selector, SelectorFault>
+        ensures { IfErr result (IsWithin (length (chars text.now))) }
+    {
+        Ok(Selector {
+            list: parse(alloc, text)?,
+            alloc,
+        })
+    }
+
+    /// Whether one of the selectors matches a node. It matches elements alone. `:scope` is the element itself (DOM standard, section
+    /// 4.9, "matches").
+    pub fn matches(&self, arena: &Arena, id: NodeId) -> Result<bool, AllocError>
+        requires { IsHeld arena.now id }
+        ensures { IfOk result (λ answer. answer ≡ is_match arena.now id.index self.now) }
+    {
+        if !is_element(arena, id) {
+            return Ok(false);
+        }
+        let query = Query::new(self.alloc, arena, id);
+        matches_one(self.list.as_slice(), &query, id)
+    }
+
+    /// The elements below a node that one of the selectors matches, each once, in tree order. The node itself isn't among them, nor
+    /// is what the contents of a template hold. `:scope` is the node, or, where that is no element, the root (DOM standard, section
+    /// 4.2.6, "querySelectorAll").
+    pub fn select(&self, arena: &Arena, id: NodeId) -> Result<Vec<NodeId>, AllocError>
+        requires { IsHeld arena.now id }
+        ensures { IfOk result (λ found. map place found.items ≡ selected arena.now id.index self.now) }
+    {
+        let query = Query::new(self.alloc, arena, id);
+        let below = elements_below(self.alloc, arena, id)?;
+        matching(self.alloc, self.list.as_slice(), &query, below.as_slice())
+    }
+
+    /// The first of those that `select` gives, or nothing where it gives none.
+    pub fn select_first(&self, arena: &Arena, id: NodeId) -> Result<Option<NodeId>, AllocError>
+        requires { IsHeld arena.now id }
+        ensures first { IfOk result (λ found. optional_place found ≡ slice_get (selected arena.now id.index self.now) 0) }
+        ensures held { IfOk result (λ found. IfSome found (IsHeld arena.now)) }
+    {
+        let query = Query::new(self.alloc, arena, id);
+        let below = elements_below(self.alloc, arena, id)?;
+        first_matching(self.list.as_slice(), &query, below.as_slice())
+    }
+
+    /// The nearest of a node and its ancestors that one of the selectors matches, or nothing where there is none. `:scope` is the
+    /// node, or, where that is no element, the root (DOM standard, section 4.9, "closest").
+    pub fn closest(&self, arena: &Arena, id: NodeId) -> Result<Option<NodeId>, AllocError>
+        requires { IsHeld arena.now id }
+        ensures first { IfOk result (λ found. optional_place found ≡ slice_get (matching_upwards arena.now id.index self.now) 0) }
+        ensures held { IfOk result (λ found. IfSome found (IsHeld arena.now)) }
+    {
+        let list = self.list.as_slice();
+        let query = Query::new(self.alloc, arena, id);
+        if is_element(arena, id) && matches_one(list, &query, id)? {
+            return Ok(Some(id));
+        }
+        let above = ancestors(self.alloc, arena, id)?;
+        first_matching(list, &query, above.as_slice())
+    }
+}

@@ -1,0 +1,10 @@
+pub mod ElementSets
+pub mod NameSets
+pub mod TagSets
+pub mod Options
+pub mod TurnResult
+pub mod TurnText
+pub mod AdjustedNames
+pub mod Doctypes
+pub mod MetaEncoding
+pub mod Tables

@@ -1,0 +1,35 @@
+//! Options of a tree builder.
+ghost use Rattle.std.specs.Prelude.{◌≡◌};
+
+use h5_interface::QuirksMode;
+
+/// Options of a tree builder.
+#[derive(Clone, Copy, Debug, PartialEq, Eq)]
+pub struct TreeBuilderOpts {
+    /// Whether parse errors are told at length.
+    pub exact_errors: bool,
+    /// Whether scripting is enabled, which decides what `noscript` holds.
+    pub scripting_enabled: bool,
+    /// Whether the document is that of an `iframe` with `srcdoc`, which needs no doctype.
+    pub iframe_srcdoc: bool,
+    /// Whether the doctype stays out of the tree.
+    pub drop_doctype: bool,
+    /// The quirks mode at the start.
+    pub quirks_mode: QuirksMode,
+}
+
+impl Default for TreeBuilderOpts {
+    ghost use Rattle.h5_tables.specs.Options.{default_options};
+
+    ghost is_default = { λ opts. opts ≡ default_options };
+
+    fn default() -> TreeBuilderOpts {
+        TreeBuilderOpts {
+            exact_errors: false,
+            scripting_enabled: true,
+            iframe_srcdoc: false,
+            drop_doctype: false,
+            quirks_mode: QuirksMode::NoQuirks,
+        }
+    }
+}

@@ -1,0 +1,16 @@
+//! Tables of names.
+ghost use Rattle.std.specs.Prelude.{◌≡◌};
+ghost use Rattle.h5_tables.specs.Tables.{by_text};
+ghost use Rattle.h5_tables.specs.AdjustedNames.{found_at};
+
+// What stands at a name in a table, if anything does.
+pub fn find<T: Copy>(table: &[(&str, T)], name: &str) -> Option<T>
+    ensures { result ≡ found_at (by_text table.now) name.now }
+{
+    for &(key, value) in table {
+        if name == key {
+            return Some(value);
+        }
+    }
+    None
+}

@@ -1,5 +1,0 @@
-use Rattle.h5_tag_sets.proofs.NameLemmas.{flags_are_right}
-use Rattle.h5_tag_sets.proofs.name_sets.flags.Goals as goal
-
-pub returns : goal.returns
-returns c = λ set. flags_are_right set c.args.known

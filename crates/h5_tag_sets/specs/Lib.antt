@@ -1,3 +1,0 @@
-pub mod ElementSets
-pub mod NameSets
-pub mod TagSets

@@ -1,3 +1,0 @@
-pub mod Options
-pub mod TurnResult
-pub mod TurnText

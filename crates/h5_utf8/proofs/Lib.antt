@@ -1,3 +1,0 @@
-pub mod Fronts
-pub mod Errors
-pub mod DecodingLaws
