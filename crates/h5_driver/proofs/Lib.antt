@@ -1,6 +1,7 @@
 pub mod BeginningLaws
 pub mod ByteLaws
 pub mod FaultLaws
+pub mod FragmentLaws
 pub mod OneTree
 pub mod PlainLaws
 pub mod ReadingLaws

@@ -34,21 +34,21 @@ use Rattle.h5_round_trip.proofs.JoinedLaws.{document_joined}
 use Rattle.h5_round_trip.specs.Answers.{Answers}
 
 -- the builder answers as to a plain document's tokens
-answers_by : (choices : SinkChoices) (ts : List TokenText) (v : View) → r.replies choices ts v ≡ map plain_reply ts → Answers (replies choices) (after choices) v ts
+pub answers_by : (choices : SinkChoices) (ts : List TokenText) (v : View) → r.replies choices ts v ≡ map plain_reply ts → Answers (replies choices) (after choices) v ts
 unfolding run
 answers_by choices [] v e = tt
 answers_by choices (t ∷ ts) v e = (cc, (λ line. answers_by choices ts (after_token choices t v) (cc)))
 
 -- ---- marks aren't looked at
 
-same_children : (f : Forest) (marks : ℕ → Marks) (n : ℕ) → children_of (mark marks f) n ≡ children_of f n
+pub same_children : (f : Forest) (marks : ℕ → Marks) (n : ℕ) → children_of (mark marks f) n ≡ children_of f n
 same_children f marks n = at (f.node n) refl
   where
     at : (o : Option Node) → f.node n ≡ o → children_of (mark marks f) n ≡ children_of f n
     at Nothing w = rw w refl
     at (Some x) w = rw w refl
 
-stand_marked : (f : Forest) (marks : ℕ → Marks) (cs : List Child) (ns : Nodes) → Stands f cs ns → Stands (mark marks f) cs ns
+pub stand_marked : (f : Forest) (marks : ℕ → Marks) (cs : List Child) (ns : Nodes) → Stands f cs ns → Stands (mark marks f) cs ns
 stand_marked f marks [] End h = tt
 stand_marked f marks (ChildText t ∷ cs) (TextThen text rest) h = (h.0, stand_marked f marks cs rest h.1)
 stand_marked f marks (ChildNode n ∷ cs) (ElementThen name attrs inner rest) h =
@@ -83,13 +83,13 @@ same_standing choices t v = at (refusal v t)
     at (Some fault) = (refl, refl)
     at Nothing = (refl, refl)
 
-sound_after : (choices : SinkChoices) (ts : List TokenText) (v : View) → IsFitting v → v.failed ≡ false → v.ended ≡ false → Sound (after_all choices ts v).world
+pub sound_after : (choices : SinkChoices) (ts : List TokenText) (v : View) → IsFitting v → v.failed ≡ false → v.ended ≡ false → Sound (after_all choices ts v).world
 unfolding run
 sound_after choices [] v k f e = (k.fitting f e).sound
 sound_after choices (t ∷ ts) v k f e =
     let s = same_standing choices t v in sound_after choices ts (after_token choices t v) (token_fitting choices t v k) (s.0 ∙ f) (s.1 ∙ e)
 
-sound_popped : (choices : SinkChoices) (ns : List ℕ) (w : World) → Sound w → Sound (pop_each choices ns w)
+pub sound_popped : (choices : SinkChoices) (ns : List ℕ) (w : World) → Sound w → Sound (pop_each choices ns w)
 sound_popped choices [] w k = k
 sound_popped choices (n ∷ ns) w k = sound_popped choices ns (pop choices w) (pop_sound choices w k)
 

@@ -4,6 +4,7 @@ pub mod KeptReadings
 pub mod Options
 pub mod Parsing
 pub mod PlainDocuments
+pub mod PlainFragments
 pub mod PlainReader
 pub mod PlainReaderLaws
 pub mod Reading

@@ -2,10 +2,12 @@
 ghost use Rattle.std.specs.Prelude.{◌≡◌, ℕ, List, ◌++◌};
 ghost use Rattle.std.specs.Str.Lossy.{utf8_lossy};
 ghost use Rattle.h5_interface.specs.Seen.{Seen};
+ghost use Rattle.h5_interface.specs.SinkChoices.{SinkChoices};
 ghost use Rattle.h5_rules.specs.Run.{View};
 ghost use Rattle.h5_driver.specs.Bytes.{ParsingBytes, ProcessedAllBytes};
 ghost use Rattle.h5_driver.specs.Parsing.{Parsing, ProcessedAll, joined, text_of, view_of};
 ghost use Rattle.h5_driver.specs.PlainDocuments.{BringsBack};
+ghost use Rattle.h5_driver.specs.PlainFragments.{FragmentsComeBack};
 ghost use Rattle.h5_driver.specs.Reading.{Parses};
 
 use super::reader::Reader;
@@ -48,3 +50,10 @@ pub fn documents_come_back<R: Reader>()
 {
     pieces_then_finish::<R>();
 }
+
+/// The text of a plain fragment comes back, in whatever pieces it comes (`pieces_then_finish` tells what pieces make of a text). Where
+/// a parser of fragments over the standard reader with the default options, over a sink that holds its document alone, in the
+/// context of an element by which the mode is "in body", takes that text, the fragment stands below the root in what the sink tells.
+pub fn fragments_come_back()
+    ensures { (choices : SinkChoices) → FragmentsComeBack choices }
+{}

@@ -3,7 +3,7 @@ use Rattle.std.proofs.Common.{◌≡◌, ◌∙◌, ℕ, false, true, not, List,
 use Rattle.h5_names.specs.declared.qualified.QualName.{QualName}
 use Rattle.h5_token.specs.Joins.{join}
 use Rattle.h5_token.specs.TokenText.{EndOfFile, TokenText}
-use Rattle.h5_interface.specs.Forest.{Forest, children_of}
+use Rattle.h5_interface.specs.Forest.{ElementNode, Forest, children_of}
 use Rattle.h5_interface.specs.SinkChoices.{SinkChoices}
 use Rattle.h5_tables.specs.TagSets.{body_end_names, button_scope_names, heading_names, html_namespace, is_body_end_ok, is_button_scope, is_default_scope, is_foreign_special, is_heading, is_html_named, is_special, mathml_namespace, scope_names, special_names, svg_namespace}
 use Rattle.h5_tables.specs.TurnText.{EofTurn}
@@ -22,11 +22,11 @@ use Rattle.h5_rules.specs.stack.Order.{first_or, is_in}
 use Rattle.h5_rules.specs.stack.Scope.{has_unclosed}
 use Rattle.h5_rules.specs.World.{World, name_of_found, names_of}
 use Rattle.h5_plain.specs.Plain.{Flow, IsPlain, Nodes, nothing_open, tokens_before}
-use Rattle.h5_plain.specs.Rebuilding.{IsFragmentStart, RebuildsFragments, Stands}
+use Rattle.h5_plain.specs.Rebuilding.{ChangesOne, IsFragmentStart, Looks, RebuildsFragments, Stands}
 use Rattle.h5_plain.proofs.BuildsLaws.{FitsFlow, builds}
 use Rattle.h5_plain.proofs.CalmLaws.{Built, Calm, Named, NoneOpen, OneOpen, after, named_kept, names_are}
 use Rattle.h5_plain.proofs.CutGoesLaws.{goes_cut}
-use Rattle.h5_plain.proofs.FilledLaws.{face, stands_from_new}
+use Rattle.h5_plain.proofs.FilledLaws.{face, own, stands_from_new}
 use Rattle.h5_plain.proofs.GoesLaws.{Arrives, Goes, Runs, Straight, arrives, moves_end, no_table_mode}
 use Rattle.h5_plain.proofs.KeptBackLaws.{runs}
 use Rattle.h5_plain.proofs.GrowthLaws.{html}
@@ -93,6 +93,15 @@ module _ (w : World) (s : IsFragmentStart w) where
     stands : Stands built.forest (children_of built.forest s.root) nodes
     stands = subst (λ cs. Stands built.forest cs nodes) (sym built.filled.frame.here.has_children) (stands_from_new built.filled.stands)
 
+    is_root : Looks built.forest s.root (ElementNode html) [] (children_of built.forest s.root)
+    is_root = own built.filled.frame.here
+
+    changes : ChangesOne w.forest built.forest s.root
+    changes = record {
+      document = built.filled.frame.document;
+      others = λ n k a cs apart l. built.filled.frame.others n (record { kind = k; attrs = a; children = cs }) apart l;
+    }
+
 arrived : {blanks : Bool} → (choices : SinkChoices) (ts : List TokenText) (v : View) (nodes : Nodes) (s : IsFragmentStart v.world) → Fitting v.world → v.ended ≡ false → v.failed ≡ false
     → join ts ≡ tokens_before nodes (EndOfFile ∷ []) → (plain : IsPlain blanks (Flow false nothing_open) nodes) → Arrives blanks choices ts v (taken (filled v.world s choices nodes plain))
 arrived {blanks} choices ts v nodes s k e f j plain =
@@ -104,6 +113,8 @@ rebuilds_fragments choices ts v nodes s plain k e f j =
     let r = arrived choices ts v nodes s k e f j plain in
     record {
       stands = subst (λ (w : World). Stands w.forest (children_of w.forest s.root) nodes) (sym r.world) (stands v.world s choices nodes plain);
+      is_root = subst (λ (w : World). Looks w.forest s.root (ElementNode html) [] (children_of w.forest s.root)) (sym r.world) (is_root v.world s choices nodes plain);
+      changes = subst (λ (w : World). ChangesOne v.world.forest w.forest s.root) (sym r.world) (changes v.world s choices nodes plain);
       answers = r.answers;
       quiet = λ calm. (arrived choices ts v nodes s k e f j calm).quiet refl;
     }

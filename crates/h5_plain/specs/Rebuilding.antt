@@ -1,5 +1,5 @@
 -- A forest in which a plain document stands, and what it is that its tokens rebuild it.
-use Rattle.std.specs.Prelude.{◌≡◌, ℕ, true, false, List, [], ◌∷◌, Some, None, map, codes}
+use Rattle.std.specs.Prelude.{◌≡◌, ◌≢◌, ℕ, true, false, List, [], ◌∷◌, Some, None, map, codes}
 use Rattle.h5_names.specs.AttributeText.{AttributeText}
 use Rattle.h5_token.specs.TokenText.{TokenText}
 use Rattle.h5_interface.specs.Forest.{Child, ChildNode, ChildText, DoctypeNode, DocumentNode, ElementNode, Forest, IsForest, Kind, attrs_of, children_of, contents_of, kind_of}
@@ -98,9 +98,16 @@ pub record IsFragmentStart (w : World) : Type 0 where
   pub of_html : is_html_element context_name ≡ true
   pub is_ordinary : (s : Situation) → decide_root s (role_of context_name) ≡ InBody
 
--- tokens, run from a view, rebuild a fragment below this root
+-- one node has changed, and no other that was there, but for its parent and its marks
+pub record ChangesOne (f g : Forest) (root : ℕ) : Type 0 where
+  pub document : g.document ≡ f.document
+  pub others : (n : ℕ) (kind : Kind) (attrs : List AttributeText) (children : List Child) → n ≢ root → Looks f n kind attrs children → Looks g n kind attrs children
+
+-- tokens, run from a view, rebuild a fragment below this root, and change no other node
 pub record RebuildsFragment (choices : SinkChoices) (ts : List TokenText) (root : ℕ) (nodes : Nodes) (v : View) : Type 0 where
   pub stands : Stands (after_all choices ts v).world.forest (children_of (after_all choices ts v).world.forest root) nodes
+  pub is_root : Looks (after_all choices ts v).world.forest root (ElementNode (html_name (codes "html"))) [] (children_of (after_all choices ts v).world.forest root)
+  pub changes : ChangesOne v.world.forest (after_all choices ts v).world.forest root
   pub answers : replies choices ts v ≡ map plain_reply ts
   pub quiet : IsPlain false (Flow false nothing_open) nodes → all_quiet choices ts v ≡ true
 

@@ -1,4 +1,4 @@
--- No two texts stand beside each other in a plain document's tokens.
+-- No two texts stand beside each other in the tokens of plain documents and fragments.
 use Rattle.std.proofs.Common.{◌≡◌, ℕ, Bool, true, false, List, [], ◌∷◌, cond, refl, sym, ap, ◌∙◌, subst, codes}
 use Rattle.h5_names.specs.AttributeText.{AttributeText}
 use Rattle.h5_token.specs.Joins.{glue, join}
@@ -6,14 +6,16 @@ use Rattle.h5_token.specs.TokenText.{TokenText, TagIs, Characters, EndOfFile}
 use Rattle.h5_plain.specs.Plain.{ElementThen, End, Nodes, PlainDocument, TextThen, document_tokens, end_tag, has_end_tag, plain_doctype, start_tag, tokens_before}
 use Rattle.h5_round_trip.proofs.ShapeLaws.{Element, None, Shape, Text, Title, Void, below_root, below_shape, is_html, is_title}
 
--- a list that begins with a tag
+-- a list that begins with a tag, or with the end of the file
 abbrev BeginsWithTag : List TokenText → Type 0
 BeginsWithTag (TagIs tag ∷ ts) = Unit {0}
+BeginsWithTag (EndOfFile ∷ ts) = Unit {0}
 BeginsWithTag _ = ⊥
 
 glue_tag : (x : ℕ) (t : List ℕ) (ts : List TokenText) → BeginsWithTag ts → glue (x ∷ t) ts ≡ Characters (x ∷ t) ∷ ts
 glue_tag x t [] h = absurd h
 glue_tag x t (TagIs tag ∷ ts) h = refl
+glue_tag x t (EndOfFile ∷ ts) h = refl
 glue_tag x t (_ ∷ ts) h = absurd h
 
 tag_first : (ns : Nodes) (more : List TokenText) → Shape true ns → BeginsWithTag more → BeginsWithTag (tokens_before ns more)
@@ -41,6 +43,9 @@ nodes_joined _ more (Element {name} {attrs} {inner} {rest = others} o p i s) h e
 nodes_joined _ more (Title {attrs} {first} {more = words} {rest = others} p s) h e =
     element_joined true (codes "title") attrs (TextThen (first ∷ words) End) others more is_title.ends
     (ap (λ l. glue (first ∷ words) (end_tag (codes "title") ∷ l)) (nodes_joined others more s h e))
+
+pub fragment_joined : {b : Bool} (ns : Nodes) → Shape b ns → join (tokens_before ns (EndOfFile ∷ [])) ≡ tokens_before ns (EndOfFile ∷ [])
+fragment_joined ns shape = nodes_joined ns (EndOfFile ∷ []) shape tt refl
 
 pub document_joined : (d : PlainDocument) → join (document_tokens d) ≡ document_tokens d
 document_joined d =

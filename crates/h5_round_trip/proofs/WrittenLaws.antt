@@ -66,12 +66,12 @@ start_before name attrs more = ap (λ l. 60 ∷ l) (append_assoc (name ++ flat_m
 end_before : (name more : List ℕ) → end_tag (html_name name) ++ more ≡ codes "</" ++ (name ++ (codes ">" ++ more))
 end_before name more = ap (λ l. 60 ∷ 47 ∷ l) (append_assoc name (codes ">") more)
 
-none_stands : (f : Forest) (k : Child) (kids : List Child) → Stands f (k ∷ kids) End → ⊥
+pub none_stands : (f : Forest) (k : Child) (kids : List Child) → Stands f (k ∷ kids) End → ⊥
 none_stands f (ChildText t) kids h = h
 none_stands f (ChildNode n) kids h = h
 
 module _ (f : Forest) (around : (n : ℕ) (d : Node) → f.node n ≡ Some d → calls_of f n ≡ calls_around d.kind d.attrs (calls_of_children f (shown_children f n))) where
-  around_kind : (n : ℕ) (kind : Kind) (attrs : List AttributeText) (children : List Child) → Looks f n kind attrs children → calls_of f n ≡ calls_around kind attrs (calls_of_children f children)
+  pub around_kind : (n : ℕ) (kind : Kind) (attrs : List AttributeText) (children : List Child) → Looks f n kind attrs children → calls_of f n ≡ calls_around kind attrs (calls_of_children f children)
   around_kind n kind attrs children l = at (f.node n) refl
     where
       shown : shown_children f n ≡ children

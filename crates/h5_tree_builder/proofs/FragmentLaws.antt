@@ -89,17 +89,17 @@ module _ (seen : Seen) (context : ℕ) (form : Option ℕ) (opts : TreeBuilderOp
     abbrev rooted : World
     rooted = rooted_world choices seen context form opts
 
-    rooted_steady : IsSteady rooted
+    pub rooted_steady : IsSteady rooted
     rooted_steady = steady_changes choices (CreateRoot [] ∷ []) start (tt, tt) (record { sound = context_stands; lists = lists_none })
 
-    rooted_names : names_of rooted ≡ html_name (codes "html") ∷ []
+    pub rooted_names : names_of rooted ≡ html_name (codes "html") ∷ []
     rooted_names = names-insert_root choices [] start context_stands ∙ ap (λ ns. html_name (codes "html") ∷ ns) names_before_root
 
     -- the context keeps its name
     context_named : name_in rooted.forest context ≡ name_in seen.forest context
     context_named = ap name_of_found ((situation_root choices start [] context_stands).kinds context (element_is_node seen.forest context c))
 
-    rooted_situation : situation_of rooted ≡ start_of (role_of (name_in seen.forest context))
+    pub rooted_situation : situation_of rooted ≡ start_of (role_of (name_in seen.forest context))
     unfolding create_root
     rooted_situation =
         let name = name_in seen.forest context in

@@ -8,6 +8,7 @@ use html_tree_builder::{
 };
 use std::alloc::{AllocError, Global};
 
+// A name of HTML.
 fn html_name(alloc: Global, local: &str) -> Result<QualName, AllocError> {
     Ok(QualName::new(None, Namespace::html(), LocalName::new(alloc, local)?))
 }

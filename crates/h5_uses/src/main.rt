@@ -19,6 +19,7 @@ use std::io::Write;
 use title::title;
 use tokens::tokens_without_a_tree;
 
+// Prints a heading and HTML.
 fn print_html(rt: &HostRuntime, heading: &str, html: &[u8]) -> anyhow::Result<()> {
     print!(rt; "{heading}: ")?;
     rt.stdout().write_all(html)?;
@@ -26,6 +27,7 @@ fn print_html(rt: &HostRuntime, heading: &str, html: &[u8]) -> anyhow::Result<()
     Ok(())
 }
 
+// Prints the title of a tree, and how many elements it has.
 fn print_arena(rt: &HostRuntime, arena: &Arena) -> anyhow::Result<()> {
     let name = title(arena).unwrap_or("none");
     println!(rt; "title: {name}")?;
@@ -34,19 +36,52 @@ fn print_arena(rt: &HostRuntime, arena: &Arena) -> anyhow::Result<()> {
     Ok(())
 }
 
-fn main(rt: HostRuntime) -> anyhow::Result<()> {
-    let alloc = rt.alloc();
-    let html = page(alloc, "<p>One &amp; two<p>Three")?;
-    print_html(&rt, "page", html.as_slice())?;
-    let arena = page_in_chunks(alloc, &mut rt.stdin())?;
-    print_arena(&rt, &arena)?;
-    let cells = fragment(alloc, "<td>1<td>2")?;
-    print_html(&rt, "fragment", cells.as_slice())?;
-    let items = fragment_in_an_element(alloc, "ul", "<li>1<li>2")?;
-    print_html(&rt, "fragment in an element", items.as_slice())?;
-    let links = count_links(alloc, "<p><a href=x>1</a> <a>2</a> <b><a href=y>3</a></b>")?;
+// Reads a page from a text, and prints it.
+fn print_page(rt: &HostRuntime) -> anyhow::Result<()> {
+    let html = page(rt.alloc(), "<p>One &amp; two<p>Three")?;
+    print_html(rt, "page", html.as_slice())
+}
+
+// Reads the page `stdin` in chunks, and prints what its tree holds.
+fn print_page_in_chunks(rt: &HostRuntime) -> anyhow::Result<()> {
+    let arena = page_in_chunks(rt.alloc(), &mut rt.stdin())?;
+    print_arena(rt, &arena)
+}
+
+// Reads a fragment from a text, and prints it.
+fn print_fragment(rt: &HostRuntime) -> anyhow::Result<()> {
+    let cells = fragment(rt.alloc(), "<td>1<td>2")?;
+    print_html(rt, "fragment", cells.as_slice())
+}
+
+// Reads a fragment as inside of an element that is there, and prints it.
+fn print_fragment_in_an_element(rt: &HostRuntime) -> anyhow::Result<()> {
+    let items = fragment_in_an_element(rt.alloc(), "ul", "<li>1<li>2")?;
+    print_html(rt, "fragment in an element", items.as_slice())
+}
+
+// Prints how many links are selected.
+fn print_links(rt: &HostRuntime) -> anyhow::Result<()> {
+    let links = count_links(
+        rt.alloc(),
+        "<p><a href=x>1</a> <a>2</a> <b><a href=y>3</a></b>",
+    )?;
     println!(rt; "links: {links}")?;
-    let tags = tokens_without_a_tree(alloc, b"<p class=a>x<br>y</p>")?;
+    Ok(())
+}
+
+// Prints how many start tags are told without a tree.
+fn print_tags(rt: &HostRuntime) -> anyhow::Result<()> {
+    let tags = tokens_without_a_tree(rt.alloc(), b"<p class=a>x<br>y</p>")?;
     println!(rt; "start tags: {tags}")?;
     Ok(())
+}
+
+fn main(rt: HostRuntime) -> anyhow::Result<()> {
+    print_page(&rt)?;
+    print_page_in_chunks(&rt)?;
+    print_fragment(&rt)?;
+    print_fragment_in_an_element(&rt)?;
+    print_links(&rt)?;
+    print_tags(&rt)
 }

@@ -1,28 +1,58 @@
 //! Pages.
 use html_tree_builder::serialize::serialize;
-use html_tree_builder::{Arena, ParseOpts, SerializeOpts, parse_document};
+use html_tree_builder::{Arena, ParseOpts, SerializeOpts, Utf8Parser, parse_document};
 use std::alloc::Global;
 use std::io::Read;
 
-/// A page, read from a text, and written as HTML.
-pub fn page(alloc: Global, text: &str) -> anyhow::Result<Vec<u8>> {
-    let parser = parse_document(alloc, Arena::new(alloc)?, ParseOpts::default());
-    let arena = parser.one(text)?;
+// A document, written as HTML.
+fn write_page(alloc: Global, arena: &Arena) -> anyhow::Result<Vec<u8>> {
     let document = arena.at(arena.document());
     let html = serialize(alloc, Vec::new(alloc), &document, SerializeOpts::default())?;
     Ok(html)
 }
 
+/// A page, read from a text, and written as HTML.
+pub fn page(alloc: Global, text: &str) -> anyhow::Result<Vec<u8>> {
+    let parser = parse_document(alloc, Arena::new(alloc)?, ParseOpts::default());
+    let arena = parser.one(text)?;
+    write_page(alloc, &arena)
+}
+
+// The next bytes of an input; none at its end.
+fn read_chunk<'a, R: Read>(input: &mut R, chunk: &'a mut [u8]) -> anyhow::Result<&'a [u8]> {
+    let count = input.read(chunk)?;
+    Ok(&chunk[..count])
+}
+
+// Feeds the next bytes of an input, and tells whether there were any.
+fn feed_chunk<R: Read>(
+    parser: &mut Utf8Parser<Arena>,
+    input: &mut R,
+    chunk: &mut [u8],
+) -> anyhow::Result<bool> {
+    let bytes = read_chunk(input, chunk)?;
+    parser.process(bytes)?;
+    Ok(!bytes.is_empty())
+}
+
+// Feeds all that an input gives.
+fn feed_all<R: Read>(
+    alloc: Global,
+    parser: &mut Utf8Parser<Arena>,
+    input: &mut R,
+) -> anyhow::Result<()> {
+    let mut chunk = vec![in alloc; 0u8; 65_536]?;
+    for _ in 0..u64::MAX {
+        if !feed_chunk(parser, input, chunk.as_mut_slice())? {
+            break;
+        }
+    }
+    Ok(())
+}
+
 /// The tree of all that an input gives.
 pub fn page_in_chunks<R: Read>(alloc: Global, input: &mut R) -> anyhow::Result<Arena> {
     let mut parser = parse_document(alloc, Arena::new(alloc)?, ParseOpts::default()).from_utf8();
-    let mut chunk = vec![in alloc; 0u8; 65_536]?;
-    for _ in 0..u64::MAX {
-        let count = input.read(chunk.as_mut_slice())?;
-        if count == 0 {
-            break;
-        }
-        parser.process(&chunk.as_slice()[..count])?;
-    }
+    feed_all(alloc, &mut parser, input)?;
     Ok(parser.finish()?)
 }

@@ -50,26 +50,35 @@ impl TokenSink for Counter {
     }
 }
 
-// Feeds the next bytes.
+// Feeds the next text.
 fn feed(
     tokenizer: &mut Tokenizer<Counter>,
-    decoder: &mut Utf8LossyDecoder,
+    queue: &mut BufferQueue,
+    text: String,
+) -> anyhow::Result<()> {
+    queue.push_back(text)?;
+    tokenizer.feed(queue)?;
+    Ok(())
+}
+
+// Feeds all bytes and the end.
+fn feed_bytes(
+    alloc: Global,
+    tokenizer: &mut Tokenizer<Counter>,
     queue: &mut BufferQueue,
     bytes: &[u8],
 ) -> anyhow::Result<()> {
-    queue.push_back(decoder.decode(bytes)?)?;
-    tokenizer.feed(queue)?;
+    let mut decoder = Utf8LossyDecoder::new(alloc);
+    feed(tokenizer, queue, decoder.decode(bytes)?)?;
+    feed(tokenizer, queue, String::from_str(alloc, decoder.finish())?)?;
+    tokenizer.end()?;
     Ok(())
 }
 
 /// How many start tags stand in these bytes.
 pub fn tokens_without_a_tree(alloc: Global, bytes: &[u8]) -> anyhow::Result<u64> {
     let mut tokenizer = Tokenizer::new(alloc, Counter { tags: 0 }, TokenizerOpts::default());
-    let mut decoder = Utf8LossyDecoder::new(alloc);
     let mut queue = BufferQueue::new(alloc);
-    feed(&mut tokenizer, &mut decoder, &mut queue, bytes)?;
-    queue.push_back(String::from_str(alloc, decoder.finish())?)?;
-    tokenizer.feed(&mut queue)?;
-    tokenizer.end()?;
+    feed_bytes(alloc, &mut tokenizer, &mut queue, bytes)?;
     Ok(tokenizer.sink.tags)
 }

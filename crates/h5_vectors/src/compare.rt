@@ -10,7 +10,7 @@ use std::io;
 const MOST_REFUSED: usize = 1_000;
 
 /// Which parts are looked at.
-#[derive(Clone, Copy, Debug, PartialEq, Eq)]
+#[derive(Clone, Copy)]
 enum Scope {
     All,
     /// Those that are the same however texts are cut.
@@ -58,6 +58,22 @@ fn print_difference(
     println!(rt; "{place}\n{part}, read {cut}; wanted:\n{text}\ngot:\n{got}\n")
 }
 
+// Whether a part is as wanted. If it isn't, it is printed.
+fn is_part_wanted(
+    rt: &(impl Print + AllocGlobal),
+    place: &str,
+    cut: Cut,
+    expected: &Expected,
+    made: &Made,
+) -> Result<bool> {
+    let got = made.part(rt.alloc(), expected.part)?;
+    if is_met(expected, got.as_str()) {
+        return Ok(true);
+    }
+    print_difference(rt, place, cut, expected, got.as_str())?;
+    Ok(false)
+}
+
 // Whether the parts in this scope are as wanted. What isn't is printed.
 fn is_wanted(
     rt: &(impl Print + AllocGlobal),
@@ -69,13 +85,8 @@ fn is_wanted(
 ) -> Result<bool> {
     let mut agrees = true;
     for expected in &case.expected {
-        if !scope.has(expected.part) {
-            continue;
-        }
-        let got = made.part(rt.alloc(), expected.part)?;
-        if !is_met(expected, got.as_str()) {
-            print_difference(rt, place, cut, expected, got.as_str())?;
-            agrees = false;
+        if scope.has(expected.part) {
+            agrees &= is_part_wanted(rt, place, cut, expected, made)?;
         }
     }
     Ok(agrees)
@@ -109,6 +120,26 @@ fn agrees_in_each(rt: &(impl Print + AllocGlobal), place: &str, case: &Case) -> 
     Ok(agrees)
 }
 
+// Whether a run of which a call was refused ended as it has to: nothing where that isn't the last run. What isn't so is printed.
+fn judge(
+    rt: &(impl Print + AllocGlobal),
+    place: &str,
+    case: &Case,
+    cut: Cut,
+    before: usize,
+) -> Result<Option<bool>> {
+    match run_refused(rt.alloc(), case, cut, before)? {
+        Ending::Refused => Ok(None),
+        Ending::Whole(made) if before > 0 => {
+            Ok(Some(is_wanted(rt, place, case, cut, &made, Scope::Tree)?))
+        }
+        _ => {
+            println!(rt; "{place}\nread {cut}, refused behind {before} calls: wrong\n")?;
+            Ok(Some(false))
+        }
+    }
+}
+
 // Whether each call of the sink is refused in turn, in this cut, and answered as it has to be, until a run meets no refusal, and
 // that one makes the tree. What isn't is printed.
 fn agrees_refused_in(
@@ -118,15 +149,8 @@ fn agrees_refused_in(
     cut: Cut,
 ) -> Result<bool> {
     for before in 0..MOST_REFUSED {
-        match run_refused(rt.alloc(), case, cut, before)? {
-            Ending::Refused => {}
-            Ending::Whole(made) if before > 0 => {
-                return is_wanted(rt, place, case, cut, &made, Scope::Tree);
-            }
-            _ => {
-                println!(rt; "{place}\nread {cut}, refused behind {before} calls: wrong\n")?;
-                return Ok(false);
-            }
+        if let Some(agrees) = judge(rt, place, case, cut, before)? {
+            return Ok(agrees);
         }
     }
     println!(rt; "{place}\nread {cut}: each run was refused\n")?;
@@ -144,12 +168,17 @@ fn agrees_refused(rt: &(impl Print + AllocGlobal), place: &str, case: &Case) -> 
     Ok(agrees)
 }
 
+// Whether what a case at this place makes is as wanted, in every cut. What isn't is printed.
+fn agrees_at(rt: &(impl Print + AllocGlobal), place: &str, case: &Case) -> Result<bool> {
+    let mut agrees = agrees_in_each(rt, place, case)?;
+    agrees &= agrees_in_two(rt, place, case)?;
+    agrees &= agrees_refused(rt, place, case)?;
+    Ok(agrees)
+}
+
 /// Whether what a case of this file makes is as wanted, in every cut. What isn't is printed.
 pub fn agrees(rt: &(impl Print + AllocGlobal), file: &str, case: &Case) -> Result<bool> {
     let Case { line, about, .. } = case;
     let place = format!(in rt.alloc(); "{file}:{line}: {about}")?;
-    let mut agrees = agrees_in_each(rt, place.as_str(), case)?;
-    agrees &= agrees_in_two(rt, place.as_str(), case)?;
-    agrees &= agrees_refused(rt, place.as_str(), case)?;
-    Ok(agrees)
+    agrees_at(rt, place.as_str(), case)
 }

@@ -2,7 +2,7 @@
 use super::case::{Case, Expected, Input, Part};
 use super::inputs::input_of;
 use super::repeats::{Repeat, expand, repeats_of};
-use super::sections::{Heading, Section};
+use super::sections::{Form, Heading, Lines, Section, Switch};
 use super::settings::{Context, Maker, Settings};
 use anyhow::{Result, bail, ensure};
 use std::alloc::{AllocError, Global};
@@ -71,35 +71,58 @@ impl Draft {
         self.expected.iter().any(|expected| expected.part == part)
     }
 
-    fn expect(&mut self, line: u64, part: Part, text: String) -> Result<()> {
+    // Checks that it wasn't said before what is wanted of a part.
+    fn check_new(&self, line: u64, part: Part) -> Result<()> {
         ensure!(!self.expects(part), "line {line}: a second {part}");
+        Ok(())
+    }
+
+    fn expect(&mut self, line: u64, part: Part, text: String) -> Result<()> {
+        self.check_new(line, part)?;
         self.expected.push(Expected { part, text })?;
         Ok(())
+    }
+
+    // Takes what the body of the page is to hold.
+    fn expect_body(&mut self, line: u64, body: &str) -> Result<()> {
+        let page = page_of(self.alloc, body)?;
+        self.expect(line, Part::Html, page)
+    }
+
+    // Takes an input of this form.
+    fn take_input(&mut self, form: Form, line: u64, text: String) -> Result<()> {
+        let input = input_of(self.alloc, form, line, text)?;
+        self.set_input(line, input)
+    }
+
+    // Sets what a section says by its heading alone.
+    fn set_switch(&mut self, switch: Switch) {
+        match switch {
+            Switch::ScriptOff => self.settings.tree_builder.scripting_enabled = false,
+            Switch::RefuseEach => self.settings.refuses_each = true,
+        }
+    }
+
+    // Takes the next section, of which nothing is kept as it stands.
+    fn take_lines(&mut self, lines: Lines, line: u64, text: &str) -> Result<()> {
+        match lines {
+            Lines::Repeat => self.set_repeats(line, text),
+            Lines::Options => self.settings.set_options(line, text),
+            Lines::Body => self.expect_body(line, text),
+        }
     }
 
     // Takes the next section, whose words stand for nothing any more.
     fn take_expanded(&mut self, heading: Heading, line: u64, text: String) -> Result<()> {
         match heading {
-            Heading::Repeat => self.set_repeats(line, text.as_str()),
-            Heading::Input(form) => {
-                let input = input_of(self.alloc, form, line, text)?;
-                self.set_input(line, input)
-            }
+            Heading::Input(form) => self.take_input(form, line, text),
             Heading::Context(maker) => self.set_context(line, text, maker),
-            Heading::ScriptOff => {
-                self.settings.tree_builder.scripting_enabled = false;
-                Ok(())
-            }
-            Heading::RefuseEach => {
-                self.settings.refuses_each = true;
-                Ok(())
-            }
-            Heading::Options => self.settings.set_options(line, text.as_str()),
-            Heading::Body => {
-                let page = page_of(self.alloc, text.as_str())?;
-                self.expect(line, Part::Html, page)
-            }
             Heading::Part(part) => self.expect(line, part, text),
+            Heading::Lines(lines) => self.take_lines(lines, line, text.as_str()),
+            Heading::Switch(switch) => {
+                self.set_switch(switch);
+                Ok(())
+            }
         }
     }
 
@@ -196,27 +219,43 @@ impl Draft {
         }
     }
 
-    /// The case. An error says what it lacks.
-    pub fn finish(self) -> Result<Case> {
-        let mut draft = self;
-        draft.check()?;
+    // Takes the input out.
+    fn take_out_input(&mut self) -> Result<Input> {
+        let line = self.line;
+        match self.input.take() {
+            Some(input) => Ok(input),
+            None => bail!("line {line}: the case has no input"),
+        }
+    }
+
+    // Completes and checks what is wanted, and takes the input out.
+    fn checked_input(&mut self) -> Result<Input> {
+        self.check()?;
+        self.take_out_input()
+    }
+
+    // The case of this input.
+    fn with_input(self, input: Input) -> Case {
         let Draft {
             line,
             about,
-            input,
             settings,
             expected,
             ..
-        } = draft;
-        let Some(input) = input else {
-            bail!("line {line}: the case has no input");
-        };
-        Ok(Case {
+        } = self;
+        Case {
             line,
             about,
             input,
             settings,
             expected,
-        })
+        }
+    }
+
+    /// The case. An error says what it lacks.
+    pub fn finish(self) -> Result<Case> {
+        let mut draft = self;
+        let input = draft.checked_input()?;
+        Ok(draft.with_input(input))
     }
 }

@@ -17,16 +17,27 @@ fn check_tokens(alloc: Global, line: u64, lines: &str) -> Result<()> {
     }
 }
 
-// The pieces of a text, one a line.
-fn pieces_of(alloc: Global, line: u64, lines: &str) -> Result<Vec<String>> {
-    let mut pieces = Vec::new(alloc);
-    for piece in lines.split('\n') {
-        match read_escapes(alloc, piece)? {
-            Some(text) => pieces.push(text)?,
-            None => bail!("line {line}: a piece below has an escape that there isn't"),
-        }
+// The piece of a line.
+fn piece_of(alloc: Global, line: u64, piece: &str) -> Result<String> {
+    match read_escapes(alloc, piece)? {
+        Some(text) => Ok(text),
+        None => bail!("line {line}: a piece below has an escape that there isn't"),
     }
-    Ok(pieces)
+}
+
+// Puts the pieces of lines to others.
+fn put_pieces(alloc: Global, pieces: &mut Vec<String>, line: u64, lines: &str) -> Result<()> {
+    for piece in lines.split('\n') {
+        pieces.push(piece_of(alloc, line, piece)?)?;
+    }
+    Ok(())
+}
+
+// A text in pieces, one a line.
+fn pieces_of(alloc: Global, line: u64, lines: &str) -> Result<Input> {
+    let mut pieces = Vec::new(alloc);
+    put_pieces(alloc, &mut pieces, line, lines)?;
+    Ok(Input::Pieces(pieces))
 }
 
 // The byte of two hexadecimal digits, and what stands behind them.
@@ -38,49 +49,82 @@ fn cut_byte(text: &str) -> Option<(u8, &str)> {
     }
 }
 
-// The bytes of a text, with those that are written as `\x` and two digits.
-fn bytes_of(alloc: Global, text: &str) -> Result<Option<Vec<u8>>, AllocError> {
-    let mut bytes = Vec::new(alloc);
-    for (place, part) in text.split("\\x").enumerate() {
-        let mut plain = part;
-        if place > 0 {
-            let Some((byte, behind)) = cut_byte(part) else {
-                return Ok(None);
-            };
-            bytes.push(byte)?;
-            plain = behind;
-        }
-        bytes.extend_from_slice(plain.as_bytes())?;
-    }
-    Ok(Some(bytes))
+// Puts the byte of the first two digits of a text to others, and then what stands behind them: whether there are such digits.
+fn put_byte(bytes: &mut Vec<u8>, text: &str) -> Result<bool, AllocError> {
+    let Some((byte, behind)) = cut_byte(text) else {
+        return Ok(false);
+    };
+    bytes.push(byte)?;
+    bytes.extend_from_slice(behind.as_bytes())?;
+    Ok(true)
 }
 
-// The chunks of bytes, one a line.
-fn chunks_of(alloc: Global, line: u64, lines: &str) -> Result<Vec<Vec<u8>>> {
-    let mut chunks = Vec::new(alloc);
-    for chunk in lines.split('\n') {
-        match bytes_of(alloc, chunk)? {
-            Some(bytes) => chunks.push(bytes)?,
-            None => bail!("line {line}: a chunk below has an escape that there isn't"),
+// Puts a part of a text to bytes, which but for the first begins with two digits of a byte: whether it does.
+fn put_part(bytes: &mut Vec<u8>, place: usize, part: &str) -> Result<bool, AllocError> {
+    if place > 0 {
+        return put_byte(bytes, part);
+    }
+    bytes.extend_from_slice(part.as_bytes())?;
+    Ok(true)
+}
+
+// Puts a text to bytes, with those that are written as `\x` and two digits: whether all are written so.
+fn put_text(bytes: &mut Vec<u8>, text: &str) -> Result<bool, AllocError> {
+    for (place, part) in text.split("\\x").enumerate() {
+        if !put_part(bytes, place, part)? {
+            return Ok(false);
         }
     }
-    Ok(chunks)
+    Ok(true)
+}
+
+// Puts the bytes of a line to others.
+fn put_chunk(bytes: &mut Vec<u8>, line: u64, chunk: &str) -> Result<()> {
+    if !put_text(bytes, chunk)? {
+        bail!("line {line}: a chunk below has an escape that there isn't");
+    }
+    Ok(())
+}
+
+// The chunk of a line.
+fn chunk_of(alloc: Global, line: u64, chunk: &str) -> Result<Vec<u8>> {
+    let mut bytes = Vec::new(alloc);
+    put_chunk(&mut bytes, line, chunk)?;
+    Ok(bytes)
+}
+
+// Puts the chunks of lines to others.
+fn put_chunks(alloc: Global, chunks: &mut Vec<Vec<u8>>, line: u64, lines: &str) -> Result<()> {
+    for chunk in lines.split('\n') {
+        chunks.push(chunk_of(alloc, line, chunk)?)?;
+    }
+    Ok(())
+}
+
+// Bytes in chunks, one a line.
+fn chunks_of(alloc: Global, line: u64, lines: &str) -> Result<Input> {
+    let mut chunks = Vec::new(alloc);
+    put_chunks(alloc, &mut chunks, line, lines)?;
+    Ok(Input::Chunks(chunks))
+}
+
+// Checks lines of this form that are to be kept as they stand.
+fn check_form(alloc: Global, form: Form, line: u64, lines: &str) -> Result<()> {
+    match form {
+        Form::Tokens | Form::ListsOfThree => check_tokens(alloc, line, lines),
+        _ => Ok(()),
+    }
 }
 
 /// The input of this form that a section says whose heading stands in the line of this number. An error says which line isn't of
 /// that form.
 pub fn input_of(alloc: Global, form: Form, line: u64, text: String) -> Result<Input> {
+    check_form(alloc, form, line, text.as_str())?;
     match form {
         Form::Text => Ok(Input::Text(text)),
-        Form::Pieces => Ok(Input::Pieces(pieces_of(alloc, line, text.as_str())?)),
-        Form::Chunks => Ok(Input::Chunks(chunks_of(alloc, line, text.as_str())?)),
-        Form::Tokens => {
-            check_tokens(alloc, line, text.as_str())?;
-            Ok(Input::Tokens(text))
-        }
-        Form::ListsOfThree => {
-            check_tokens(alloc, line, text.as_str())?;
-            Ok(Input::ListsOfThree(text))
-        }
+        Form::Pieces => pieces_of(alloc, line, text.as_str()),
+        Form::Chunks => chunks_of(alloc, line, text.as_str()),
+        Form::Tokens => Ok(Input::Tokens(text)),
+        Form::ListsOfThree => Ok(Input::ListsOfThree(text)),
     }
 }

@@ -18,24 +18,60 @@ struct Lists<'a> {
     alloc: Global,
 }
 
-// Takes the token of this number, and gives the line of the reply, where it has one. Below it a line says what is broken: a refusal
-// that changed the printed tree, or nodes that are no forest.
-fn reply_to(alloc: Global, builder: &mut Builder, number: u64, token: Token) -> Result<String> {
-    let before = print_tree(alloc, builder.sink.below())?;
-    let mut lines = String::new(alloc);
-    match builder.process_token(token, 1) {
-        Ok(answer) => print_answer(&mut lines, number, &answer)?,
-        Err(BuildFault::Memory | BuildFault::Failed) => bail!("out of memory"),
-        Err(fault) => {
-            print_refusal(&mut lines, number, fault)?;
-            if print_tree(alloc, builder.sink.below())?.as_str() != before.as_str() {
-                lines.push_str("the tree has changed\n")?;
-            }
-        }
+// Prints a refusal, and a line if it changed the printed tree, which was this one before.
+fn put_refusal(
+    alloc: Global,
+    lines: &mut String,
+    arena: &Arena,
+    number: u64,
+    fault: BuildFault,
+    before: &str,
+) -> Result<()> {
+    print_refusal(lines, number, fault)?;
+    let after = print_tree(alloc, arena)?;
+    if after.as_str() != before {
+        lines.push_str("the tree has changed\n")?;
     }
+    Ok(())
+}
+
+// Takes the token of this number, and prints the line of the reply, where it has one. The printed tree was this one before.
+fn put_answer(
+    alloc: Global,
+    lines: &mut String,
+    builder: &mut Builder,
+    number: u64,
+    token: Token,
+    before: &str,
+) -> Result<()> {
+    match builder.process_token(token, 1) {
+        Ok(answer) => Ok(print_answer(lines, number, &answer)?),
+        Err(BuildFault::Memory | BuildFault::Failed) => bail!("out of memory"),
+        Err(fault) => put_refusal(alloc, lines, builder.sink.below(), number, fault, before),
+    }
+}
+
+// The same, with what is broken: below the line of the reply a line says that a refusal changed the printed tree, or that nodes are
+// no forest.
+fn put_reply(
+    alloc: Global,
+    lines: &mut String,
+    builder: &mut Builder,
+    number: u64,
+    token: Token,
+) -> Result<()> {
+    let before = print_tree(alloc, builder.sink.below())?;
+    put_answer(alloc, lines, builder, number, token, before.as_str())?;
     if !is_forest(builder.sink.below()) {
         lines.push_str("no forest\n")?;
     }
+    Ok(())
+}
+
+// Takes the token of this number, and gives the line of the reply, where it has one, and below it what is broken.
+fn reply_to(alloc: Global, builder: &mut Builder, number: u64, token: Token) -> Result<String> {
+    let mut lines = String::new(alloc);
+    put_reply(alloc, &mut lines, builder, number, token)?;
     Ok(lines)
 }
 
@@ -48,13 +84,37 @@ fn token_of(alloc: Global, line: &str) -> Result<Token> {
 }
 
 impl Lists<'_> {
+    // Notes a reply, if it did not come yet.
+    fn note_line(&mut self, reply: &str) -> Result<(), AllocError> {
+        if self.replies.as_str().lines().any(|line| line == reply) {
+            return Ok(());
+        }
+        self.replies.push_str(reply)?;
+        self.replies.push('\n')
+    }
+
     // Notes replies that did not come yet.
     fn note(&mut self, replies: &str) -> Result<(), AllocError> {
         for reply in replies.lines() {
-            if !self.replies.as_str().lines().any(|line| line == reply) {
-                self.replies.push_str(reply)?;
-                self.replies.push('\n')?;
-            }
+            self.note_line(reply)?;
+        }
+        Ok(())
+    }
+
+    // Takes the token of a line.
+    fn take_line(&mut self, builder: &mut Builder, number: u64, line: &str) -> Result<()> {
+        let token = token_of(self.alloc, line)?;
+        let replies = reply_to(self.alloc, builder, number, token)?;
+        self.note(replies.as_str())?;
+        Ok(())
+    }
+
+    // Takes the tokens of a list.
+    fn take_lines(&mut self, builder: &mut Builder, list: &[&str]) -> Result<()> {
+        let mut number: u64 = 0;
+        for line in list {
+            number = number.saturating_add(1);
+            self.take_line(builder, number, line)?;
         }
         Ok(())
     }
@@ -62,14 +122,7 @@ impl Lists<'_> {
     // Takes a list.
     fn take(&mut self, list: &[&str]) -> Result<()> {
         let mut builder = new_builder(self.alloc, self.settings, usize::MAX)?;
-        let mut number: u64 = 0;
-        for line in list {
-            number = number.saturating_add(1);
-            let token = token_of(self.alloc, line)?;
-            let replies = reply_to(self.alloc, &mut builder, number, token)?;
-            self.note(replies.as_str())?;
-        }
-        Ok(())
+        self.take_lines(&mut builder, list)
     }
 
     // Takes each list that begins with these two lines.
@@ -87,20 +140,32 @@ impl Lists<'_> {
         }
         Ok(())
     }
+
+    // Takes every list.
+    fn take_all(&mut self) -> Result<()> {
+        for first in self.lines.split('\n') {
+            self.take_behind(first)?;
+        }
+        Ok(())
+    }
 }
 
-/// What every list of three lines makes, each with a builder of its own: the replies that came, each once, and no tree.
-pub fn run_lists(alloc: Global, settings: &Settings, lines: &str) -> Result<Made> {
+// The replies that came in any list of three lines, each once.
+fn replies_to(alloc: Global, settings: &Settings, lines: &str) -> Result<String> {
     let mut lists = Lists {
         settings,
         lines,
         replies: String::new(alloc),
         alloc,
     };
-    for first in lines.split('\n') {
-        lists.take_behind(first)?;
-    }
+    lists.take_all()?;
     let Lists { replies, .. } = lists;
+    Ok(replies)
+}
+
+/// What every list of three lines makes, each with a builder of its own: the replies that came, each once, and no tree.
+pub fn run_lists(alloc: Global, settings: &Settings, lines: &str) -> Result<Made> {
+    let replies = replies_to(alloc, settings, lines)?;
     let arena = Arena::new(alloc)?;
     Ok(Made::by_tokens(arena, None, replies, String::new(alloc), 0))
 }

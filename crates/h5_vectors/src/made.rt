@@ -3,6 +3,7 @@ use super::case::Part;
 use super::trees::{count_started, document_of, loose_of, messages_of};
 use anyhow::Result;
 use h5_arena::Arena;
+use h5_interface::QuirksMode;
 use h5_tests_sinks::html_of;
 use h5_token::states::State;
 use std::alloc::{AllocError, Global};
@@ -29,9 +30,32 @@ fn text_of_state(alloc: Global, state: Option<State>) -> Result<String, AllocErr
     }
 }
 
+// A quirks mode, as a text.
+fn text_of_mode(alloc: Global, mode: QuirksMode) -> Result<String, AllocError> {
+    format!(in alloc; "{mode:?}")
+}
+
+// The HTML of an arena.
+fn html_text(alloc: Global, arena: &Arena) -> Result<String> {
+    let html = html_of(alloc, arena)?;
+    Ok(String::from_utf8(html)?)
+}
+
 // Lines, without the last line end.
 fn without_end(alloc: Global, lines: &str) -> Result<String, AllocError> {
     String::from_str(alloc, lines.strip_suffix("\n").unwrap_or(lines))
+}
+
+// The lines of what parse errors say, without the last line end.
+fn messages_without_end(alloc: Global, arena: &Arena) -> Result<String, AllocError> {
+    let lines = messages_of(alloc, arena)?;
+    without_end(alloc, lines.as_str())
+}
+
+// The lines of the elements that have no parent, without the last line end.
+fn loose_without_end(alloc: Global, arena: &Arena) -> Result<String, AllocError> {
+    let lines = loose_of(alloc, arena)?;
+    without_end(alloc, lines.as_str())
 }
 
 impl Made {
@@ -71,26 +95,35 @@ impl Made {
         }
     }
 
+    // The number that a part is.
+    fn number(&self, part: Part) -> usize {
+        match part {
+            Part::Errors => self.arena.errors().len(),
+            Part::Nodes => self.arena.len(),
+            Part::Started => count_started(&self.arena),
+            _ => self.pops,
+        }
+    }
+
+    // A part that is told of the run, as its section would say it.
+    fn part_of_run(&self, alloc: Global, part: Part) -> Result<String, AllocError> {
+        match part {
+            Part::State => text_of_state(alloc, self.state),
+            Part::Messages => messages_without_end(alloc, &self.arena),
+            Part::Loose => loose_without_end(alloc, &self.arena),
+            Part::Replies | Part::AnyReplies => without_end(alloc, self.replies.as_str()),
+            Part::Turns => without_end(alloc, self.turns.as_str()),
+            _ => self.number(part).to_string(alloc),
+        }
+    }
+
     /// A part, as its section would say it.
     pub fn part(&self, alloc: Global, part: Part) -> Result<String> {
-        let arena = &self.arena;
-        let text = match part {
-            Part::Document => document_of(alloc, arena, self.indent())?,
-            Part::Html => String::from_utf8(html_of(alloc, arena)?)?,
-            Part::Quirks => {
-                let mode = arena.quirks();
-                format!(in alloc; "{mode:?}")?
-            }
-            Part::State => text_of_state(alloc, self.state)?,
-            Part::Errors => arena.errors().len().to_string(alloc)?,
-            Part::Messages => without_end(alloc, messages_of(alloc, arena)?.as_str())?,
-            Part::Nodes => arena.len().to_string(alloc)?,
-            Part::Loose => without_end(alloc, loose_of(alloc, arena)?.as_str())?,
-            Part::Started => count_started(arena).to_string(alloc)?,
-            Part::Replies | Part::AnyReplies => without_end(alloc, self.replies.as_str())?,
-            Part::Turns => without_end(alloc, self.turns.as_str())?,
-            Part::Pops => self.pops.to_string(alloc)?,
-        };
-        Ok(text)
+        match part {
+            Part::Document => Ok(document_of(alloc, &self.arena, self.indent())?),
+            Part::Html => html_text(alloc, &self.arena),
+            Part::Quirks => Ok(text_of_mode(alloc, self.arena.quirks())?),
+            _ => Ok(self.part_of_run(alloc, part)?),
+        }
     }
 }

@@ -26,6 +26,7 @@ mod tokens;
 mod trees;
 
 use anyhow::{Context, Result};
+use case::Case;
 use cases::cases_of;
 use compare::agrees;
 use std::process::ExitCode;
@@ -38,16 +39,32 @@ struct Tally {
     differing: u64,
 }
 
-// Runs the cases of a file.
-fn run_file(rt: &HostRuntime, file: &str, tally: &mut Tally) -> Result<()> {
-    let text = fs::read_to_string(rt, file)?;
-    for case in cases_of(rt.alloc(), text.as_str())? {
+// Runs cases of a file.
+fn run_cases(rt: &HostRuntime, file: &str, cases: &[Case], tally: &mut Tally) -> Result<()> {
+    for case in cases {
         tally.cases = tally.cases.saturating_add(1);
-        if !agrees(rt, file, &case)? {
+        if !agrees(rt, file, case)? {
             tally.differing = tally.differing.saturating_add(1);
         }
     }
     Ok(())
+}
+
+// Runs the cases of a file of this text.
+fn run_text(rt: &HostRuntime, file: &str, text: &str, tally: &mut Tally) -> Result<()> {
+    let cases = cases_of(rt.alloc(), text)?;
+    run_cases(rt, file, cases.as_slice(), tally)
+}
+
+// Runs the cases of a file.
+fn run_file(rt: &HostRuntime, file: &str, tally: &mut Tally) -> Result<()> {
+    let text = fs::read_to_string(rt, file)?;
+    run_text(rt, file, text.as_str(), tally)
+}
+
+// Runs the cases of a file. An error names the file.
+fn run_named(rt: &HostRuntime, file: &str, tally: &mut Tally) -> Result<()> {
+    run_file(rt, file, tally).context(format_args!("{file}"))
 }
 
 // Runs the cases of all files that are named.
@@ -57,7 +74,7 @@ fn run_files(rt: &HostRuntime) -> Result<Tally> {
         differing: 0,
     };
     for file in env::args(rt)?.skip(1) {
-        run_file(rt, file.as_str(), &mut tally).context(format_args!("{file}"))?;
+        run_named(rt, file.as_str(), &mut tally)?;
     }
     Ok(tally)
 }

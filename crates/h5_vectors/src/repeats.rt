@@ -10,26 +10,47 @@ pub struct Repeat {
     text: String,
 }
 
+// Puts a text to others, with another one wherever a word stands.
+fn put_replaced(texts: &mut String, text: &str, word: &str, by: &str) -> Result<(), AllocError> {
+    for (place, part) in text.split(word).enumerate() {
+        if place > 0 {
+            texts.push_str(by)?;
+        }
+        texts.push_str(part)?;
+    }
+    Ok(())
+}
+
 // A text with another one wherever a word stands.
 fn replace(alloc: Global, text: &str, word: &str, by: &str) -> Result<String, AllocError> {
     let mut replaced = String::new(alloc);
-    for (place, part) in text.split(word).enumerate() {
-        if place > 0 {
-            replaced.push_str(by)?;
-        }
-        replaced.push_str(part)?;
-    }
+    put_replaced(&mut replaced, text, word, by)?;
     Ok(replaced)
+}
+
+// Puts a text to others, with this number wherever `#` stands.
+fn put_time(alloc: Global, times: &mut String, text: &str, number: u64) -> Result<(), AllocError> {
+    let number = number.to_string(alloc)?;
+    put_replaced(times, text, "#", number.as_str())
+}
+
+// Puts a text so many times to others, each time with its number, from 1, wherever `#` stands.
+fn put_repeated(
+    alloc: Global,
+    times: &mut String,
+    text: &str,
+    count: u64,
+) -> Result<(), AllocError> {
+    for number in 1..=count {
+        put_time(alloc, times, text, number)?;
+    }
+    Ok(())
 }
 
 // A text so many times, each time with its number, from 1, wherever `#` stands.
 fn repeated(alloc: Global, text: &str, count: u64) -> Result<String, AllocError> {
     let mut times = String::new(alloc);
-    for number in 1..=count {
-        let number = number.to_string(alloc)?;
-        let once = replace(alloc, text, "#", number.as_str())?;
-        times.push_str(once.as_str())?;
-    }
+    put_repeated(alloc, &mut times, text, count)?;
     Ok(times)
 }
 
@@ -43,29 +64,39 @@ fn words_of(line: &str) -> Option<(&str, u64, &str)> {
     }
 }
 
+// A repeat of a word.
+fn new_repeat(alloc: Global, word: &str, count: u64, text: &str) -> Result<Repeat, AllocError> {
+    let word = String::from_str(alloc, word)?;
+    let text = repeated(alloc, text, count)?;
+    Ok(Repeat { word, text })
+}
+
 // The repeat that a line says, or nothing where it says none.
 fn repeat_of(alloc: Global, line: &str) -> Result<Option<Repeat>, AllocError> {
     let Some((word, count, text)) = words_of(line) else {
         return Ok(None);
     };
-    let Some(text) = read_escapes(alloc, text)? else {
-        return Ok(None);
-    };
-    Ok(Some(Repeat {
-        word: String::from_str(alloc, word)?,
-        text: repeated(alloc, text.as_str(), count)?,
-    }))
+    match read_escapes(alloc, text)? {
+        Some(text) => Ok(Some(new_repeat(alloc, word, count, text.as_str())?)),
+        None => Ok(None),
+    }
 }
 
-/// The repeats that lines say, one each, which stand below the line of this number.
-pub fn repeats_of(alloc: Global, line: u64, lines: &str) -> Result<Vec<Repeat>> {
-    let mut repeats = Vec::new(alloc);
+// Puts the repeats of lines to others.
+fn put_repeats(alloc: Global, repeats: &mut Vec<Repeat>, line: u64, lines: &str) -> Result<()> {
     for text in lines.split('\n') {
         match repeat_of(alloc, text)? {
             Some(repeat) => repeats.push(repeat)?,
             None => bail!("line {line}: a line below is no word, number and text"),
         }
     }
+    Ok(())
+}
+
+/// The repeats that lines say, one each, which stand below the line of this number.
+pub fn repeats_of(alloc: Global, line: u64, lines: &str) -> Result<Vec<Repeat>> {
+    let mut repeats = Vec::new(alloc);
+    put_repeats(alloc, &mut repeats, line, lines)?;
     Ok(repeats)
 }
 

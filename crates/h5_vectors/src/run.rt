@@ -5,7 +5,7 @@ use super::made::Made;
 use super::parsers::{TextParser, new_parser, state_in};
 use super::settings::Settings;
 use super::texts::{parse_bytes, parse_characters, parse_chunks, parse_owned, parse_two};
-use super::tokens;
+use super::tokens::run_tokens;
 use anyhow::Result;
 use h5_arena::Arena;
 use h5_token::BuildFault;
@@ -13,7 +13,7 @@ use std::alloc::Global;
 use std::fmt;
 
 /// How an input comes.
-#[derive(Clone, Copy, Debug, PartialEq, Eq)]
+#[derive(Clone, Copy)]
 pub enum Cut {
     /// As it stands: tokens one by one.
     Whole,
@@ -101,26 +101,44 @@ fn run_text(
     Ok(Made::by_text(alloc, arena, state))
 }
 
+// What a text makes that is given in pieces.
+fn run_pieces(alloc: Global, settings: &Settings, pieces: &[String], cut: Cut) -> Result<Made> {
+    let text: String = pieces.concat(alloc)?;
+    run_text(alloc, settings, text.as_str(), pieces, cut)
+}
+
+// The tree of bytes, which come in this cut, or in these chunks.
+fn parse_in(
+    parser: TextParser,
+    bytes: &[u8],
+    chunks: &[Vec<u8>],
+    cut: Cut,
+) -> Result<Arena, BuildFault> {
+    match cut {
+        Cut::Pieces => parse_chunks(parser, chunks),
+        Cut::Bytes => parse_bytes(parser, bytes),
+        _ => parser.from_utf8().one(bytes),
+    }
+}
+
 // What bytes make, which come in this cut, or in these chunks.
-fn run_bytes(alloc: Global, settings: &Settings, chunks: &[Vec<u8>], cut: Cut) -> Result<Made> {
-    let bytes: Vec<u8> = chunks.concat(alloc)?;
+fn run_bytes(
+    alloc: Global,
+    settings: &Settings,
+    bytes: &[u8],
+    chunks: &[Vec<u8>],
+    cut: Cut,
+) -> Result<Made> {
     let parser = new_parser(alloc, settings, usize::MAX)?;
     let state = state_in(&parser.tokenizer.sink, settings);
-    let arena = match cut {
-        Cut::Pieces => parse_chunks(parser, chunks)?,
-        Cut::Bytes => parse_bytes(parser, bytes.as_slice())?,
-        _ => parser.from_utf8().one(bytes.as_slice())?,
-    };
+    let arena = parse_in(parser, bytes, chunks, cut)?;
     Ok(Made::by_text(alloc, arena, state))
 }
 
-// What lines of tokens make.
-fn run_tokens(alloc: Global, settings: &Settings, lines: &str, cut: Cut) -> Result<Made> {
-    match cut {
-        Cut::List => tokens::run_list(alloc, settings, lines),
-        Cut::Characters => tokens::run_characters(alloc, settings, lines),
-        _ => tokens::run_whole(alloc, settings, lines),
-    }
+// What bytes make that are given in chunks.
+fn run_chunks(alloc: Global, settings: &Settings, chunks: &[Vec<u8>], cut: Cut) -> Result<Made> {
+    let bytes: Vec<u8> = chunks.concat(alloc)?;
+    run_bytes(alloc, settings, bytes.as_slice(), chunks, cut)
 }
 
 /// What the input of a case makes, which comes in this cut.
@@ -128,11 +146,8 @@ pub fn run(alloc: Global, case: &Case, cut: Cut) -> Result<Made> {
     let settings = &case.settings;
     match &case.input {
         Input::Text(text) => run_text(alloc, settings, text.as_str(), &[], cut),
-        Input::Pieces(pieces) => {
-            let text: String = pieces.concat(alloc)?;
-            run_text(alloc, settings, text.as_str(), pieces.as_slice(), cut)
-        }
-        Input::Chunks(chunks) => run_bytes(alloc, settings, chunks.as_slice(), cut),
+        Input::Pieces(pieces) => run_pieces(alloc, settings, pieces.as_slice(), cut),
+        Input::Chunks(chunks) => run_chunks(alloc, settings, chunks.as_slice(), cut),
         Input::Tokens(lines) => run_tokens(alloc, settings, lines.as_str(), cut),
         Input::ListsOfThree(lines) => run_lists(alloc, settings, lines.as_str()),
     }

@@ -5,7 +5,7 @@ use anyhow::{Result, bail};
 use std::alloc::Global;
 
 /// In which form an input is said.
-#[derive(Clone, Copy, Debug, PartialEq, Eq)]
+#[derive(Clone, Copy)]
 pub enum Form {
     Text,
     Pieces,
@@ -14,18 +14,30 @@ pub enum Form {
     ListsOfThree,
 }
 
-/// What a section says.
-#[derive(Clone, Copy, Debug, PartialEq, Eq)]
-pub enum Heading {
-    /// What words stand for in the sections below.
-    Repeat,
-    Input(Form),
-    Context(Maker),
+/// What a section says by its heading alone.
+#[derive(Clone, Copy)]
+pub enum Switch {
     ScriptOff,
     RefuseEach,
+}
+
+/// What a section says in lines that aren't kept as they stand.
+#[derive(Clone, Copy)]
+pub enum Lines {
+    /// What words stand for in the sections below.
+    Repeat,
     Options,
     /// What the body of a page holds, with nothing else in the page.
     Body,
+}
+
+/// What a section says.
+#[derive(Clone, Copy)]
+pub enum Heading {
+    Input(Form),
+    Context(Maker),
+    Switch(Switch),
+    Lines(Lines),
     /// What is wanted of a part.
     Part(Part),
 }
@@ -61,7 +73,7 @@ fn part_named(word: &str) -> Option<Part> {
 // The heading of this word, which stands behind a `#`.
 fn heading_named(word: &str) -> Option<Heading> {
     match word {
-        "repeat" => Some(Heading::Repeat),
+        "repeat" => Some(Heading::Lines(Lines::Repeat)),
         "data" => Some(Heading::Input(Form::Text)),
         "pieces" => Some(Heading::Input(Form::Pieces)),
         "bytes" => Some(Heading::Input(Form::Chunks)),
@@ -69,10 +81,10 @@ fn heading_named(word: &str) -> Option<Heading> {
         "lists-of-three" => Some(Heading::Input(Form::ListsOfThree)),
         "document-fragment" => Some(Heading::Context(Maker::Parser)),
         "context-element" => Some(Heading::Context(Maker::Caller)),
-        "script-off" => Some(Heading::ScriptOff),
-        "refuse-each" => Some(Heading::RefuseEach),
-        "options" => Some(Heading::Options),
-        "body" => Some(Heading::Body),
+        "script-off" => Some(Heading::Switch(Switch::ScriptOff)),
+        "refuse-each" => Some(Heading::Switch(Switch::RefuseEach)),
+        "options" => Some(Heading::Lines(Lines::Options)),
+        "body" => Some(Heading::Lines(Lines::Body)),
         _ => Some(Heading::Part(part_named(word)?)),
     }
 }
@@ -95,14 +107,20 @@ fn section_of(alloc: Global, line: u64, lines: &str) -> Result<Section> {
     })
 }
 
-/// The sections of lines, each from a line that begins with `#` to the next one. The first of these lines has lost its `#` and
-/// stands at this place. An error says which line begins no section.
-pub fn sections_of(alloc: Global, first: u64, lines: &str) -> Result<Vec<Section>> {
-    let mut sections = Vec::new(alloc);
+// Puts the sections of lines, whose first line stands at this place, to others.
+fn put_sections(alloc: Global, sections: &mut Vec<Section>, first: u64, lines: &str) -> Result<()> {
     let mut line = first;
     for lines in lines.split("\n#") {
         sections.push(section_of(alloc, line, lines)?)?;
         line = line.saturating_add(count_lines(lines));
     }
+    Ok(())
+}
+
+/// The sections of lines, each from a line that begins with `#` to the next one. The first of these lines has lost its `#` and
+/// stands at this place. An error says which line begins no section.
+pub fn sections_of(alloc: Global, first: u64, lines: &str) -> Result<Vec<Section>> {
+    let mut sections = Vec::new(alloc);
+    put_sections(alloc, &mut sections, first, lines)?;
     Ok(sections)
 }

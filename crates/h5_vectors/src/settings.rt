@@ -6,7 +6,7 @@ use h5_tables::TreeBuilderOpts;
 use h5_tokenizer::TokenizerOpts;
 
 /// Who makes the element that is a context.
-#[derive(Clone, Copy, Debug, PartialEq, Eq)]
+#[derive(Clone, Copy)]
 pub enum Maker {
     /// The parser, which is told its name.
     Parser,

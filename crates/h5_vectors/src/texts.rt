@@ -1,54 +1,94 @@
 //! Parsers that take texts and bytes, in every cut.
-use super::parsers::TextParser;
+use super::parsers::{Sink, TextParser};
 use anyhow::Result;
 use h5_arena::Arena;
+use h5_driver::Utf8Parser;
 use h5_token::BuildFault;
 
-/// The tree of a text whose characters come one by one, and then the end.
-pub fn parse_characters(parser: TextParser, text: &str) -> Result<Arena, BuildFault> {
-    let mut parser = parser;
+// Hands a parser the characters of a text, one by one.
+fn give_characters(parser: &mut TextParser, text: &str) -> Result<(), BuildFault> {
     let mut buffer = [0; 4];
     for character in text.chars() {
         parser.process(character.encode_utf8(&mut buffer))?;
     }
+    Ok(())
+}
+
+/// The tree of a text whose characters come one by one, and then the end.
+pub fn parse_characters(parser: TextParser, text: &str) -> Result<Arena, BuildFault> {
+    let mut parser = parser;
+    give_characters(&mut parser, text)?;
     parser.finish()
+}
+
+// Hands a parser two texts.
+fn give_two(parser: &mut TextParser, first: &str, second: &str) -> Result<(), BuildFault> {
+    parser.process(first)?;
+    parser.process(second)
 }
 
 /// The tree of a text that comes in two pieces, the first of which has so many bytes, or a few more where a character would be cut.
 pub fn parse_two(parser: TextParser, text: &str, bytes: usize) -> Result<Arena, BuildFault> {
     let (first, second) = text.split_at(text.ceil_char_boundary(bytes));
     let mut parser = parser;
-    parser.process(first)?;
-    parser.process(second)?;
+    give_two(&mut parser, first, second)?;
     parser.finish()
+}
+
+// Hands a parser texts of their own.
+fn give_owned(parser: &mut TextParser, pieces: &[String]) -> Result<(), BuildFault> {
+    for piece in pieces {
+        parser.process_owned(piece.clone()?)?;
+    }
+    Ok(())
+}
+
+// The tree of a text that ends with this one of its own.
+fn parse_last(parser: TextParser, last: &String) -> Result<Arena, BuildFault> {
+    parser.one_owned(last.clone()?)
+}
+
+// The tree of a text whose pieces come as texts of their own, the last of them at the end.
+fn parse_to_last(parser: TextParser, first: &[String], last: &String) -> Result<Arena, BuildFault> {
+    let mut parser = parser;
+    give_owned(&mut parser, first)?;
+    parse_last(parser, last)
 }
 
 /// The tree of a text whose pieces come as texts of their own.
 pub fn parse_owned(parser: TextParser, pieces: &[String]) -> Result<Arena, BuildFault> {
-    let Some((last, first)) = pieces.split_last() else {
-        return parser.finish();
-    };
-    let mut parser = parser;
-    for piece in first {
-        parser.process_owned(piece.clone()?)?;
+    match pieces.split_last() {
+        Some((last, first)) => parse_to_last(parser, first, last),
+        None => parser.finish(),
     }
-    parser.one_owned(last.clone()?)
+}
+
+// Hands a parser bytes, one by one.
+fn give_bytes(parser: &mut Utf8Parser<Sink>, bytes: &[u8]) -> Result<(), BuildFault> {
+    for byte in bytes {
+        parser.process(&[*byte])?;
+    }
+    Ok(())
 }
 
 /// The tree of bytes that come one by one, and then the end.
 pub fn parse_bytes(parser: TextParser, bytes: &[u8]) -> Result<Arena, BuildFault> {
     let mut parser = parser.from_utf8();
-    for byte in bytes {
-        parser.process(&[*byte])?;
-    }
+    give_bytes(&mut parser, bytes)?;
     parser.finish()
+}
+
+// Hands a parser bytes in chunks.
+fn give_chunks(parser: &mut Utf8Parser<Sink>, chunks: &[Vec<u8>]) -> Result<(), BuildFault> {
+    for chunk in chunks {
+        parser.process(chunk.as_slice())?;
+    }
+    Ok(())
 }
 
 /// The tree of bytes that come in chunks, and then the end.
 pub fn parse_chunks(parser: TextParser, chunks: &[Vec<u8>]) -> Result<Arena, BuildFault> {
     let mut parser = parser.from_utf8();
-    for chunk in chunks {
-        parser.process(chunk.as_slice())?;
-    }
+    give_chunks(&mut parser, chunks)?;
     parser.finish()
 }

@@ -1,6 +1,7 @@
 //! A builder that takes tokens, and what it answered.
 use super::made::Made;
 use super::parsers::{Builder, new_builder, state_in};
+use super::run::Cut;
 use super::settings::Settings;
 use anyhow::{Result, bail};
 use h5_arena::NodeId;
@@ -30,28 +31,50 @@ struct Taker {
     alloc: Global,
 }
 
+// A list of one token.
+fn one_token(alloc: Global, token: Token, line: u64) -> Result<Vec<(Token, u64)>, AllocError> {
+    Ok(vec![in alloc; (token, line)]?)
+}
+
+// Puts the characters of a text to tokens, each a text.
+fn put_characters(
+    alloc: Global,
+    tokens: &mut Vec<(Token, u64)>,
+    text: &str,
+    line: u64,
+) -> Result<(), AllocError> {
+    for character in text.chars() {
+        let character = character.to_string(alloc)?;
+        tokens.push((Token::CharacterTokens(character), line))?;
+    }
+    Ok(())
+}
+
+// The characters of a text, each a text.
+fn characters_in(alloc: Global, text: &str, line: u64) -> Result<Vec<(Token, u64)>, AllocError> {
+    let mut tokens = Vec::new(alloc);
+    put_characters(alloc, &mut tokens, text, line)?;
+    Ok(tokens)
+}
+
 // The characters of a text, each a text; of an empty one itself.
 fn characters_of_text(
     alloc: Global,
     text: String,
     line: u64,
 ) -> Result<Vec<(Token, u64)>, AllocError> {
-    let mut tokens = Vec::new(alloc);
-    for character in text.as_str().chars() {
-        let character = character.to_string(alloc)?;
-        tokens.push((Token::CharacterTokens(character), line))?;
-    }
     if text.is_empty() {
-        tokens.push((Token::CharacterTokens(text), line))?;
+        one_token(alloc, Token::CharacterTokens(text), line)
+    } else {
+        characters_in(alloc, text.as_str(), line)
     }
-    Ok(tokens)
 }
 
 // A token, or for a text its characters.
 fn characters_of(alloc: Global, token: Token, line: u64) -> Result<Vec<(Token, u64)>, AllocError> {
     match token {
         Token::CharacterTokens(text) => characters_of_text(alloc, text, line),
-        other => Ok(vec![in alloc; (other, line)]?),
+        other => one_token(alloc, other, line),
     }
 }
 
@@ -89,30 +112,45 @@ impl Taker {
         Ok(())
     }
 
+    // Notes the reply to a character of a token, if it is another one than the last.
+    fn note_other(&mut self, last: &mut String, reply: &Reply<NodeId>) -> Result<()> {
+        let line = self.line_of(reply)?;
+        if line.as_str() != last.as_str() {
+            self.replies.push_str(line.as_str())?;
+        }
+        *last = line;
+        Ok(())
+    }
+
     // Notes replies to the characters of one token, each other one once.
     fn note_each(&mut self, replies: &[Reply<NodeId>]) -> Result<()> {
         let mut last = String::new(self.alloc);
         for reply in replies {
-            let line = self.line_of(reply)?;
-            if line.as_str() != last.as_str() {
-                self.replies.push_str(line.as_str())?;
-            }
-            last = line;
+            self.note_other(&mut last, reply)?;
         }
         Ok(())
+    }
+
+    // The reply to a token.
+    fn reply_to(&mut self, token: Token, line: u64) -> Reply<NodeId> {
+        match self.builder.process_token(token, line) {
+            Ok(answer) => Reply::Answer(answer),
+            Err(fault) => Reply::Refused(fault),
+        }
+    }
+
+    // Notes how many turns the last token took.
+    fn note_turns(&mut self) -> Result<(), AllocError> {
+        let (number, turns) = (self.number, self.builder.turns());
+        writeln!(self.turns, "{number} {turns}")
     }
 
     // Takes a token whole.
     fn take_whole(&mut self, token: Token, line: u64) -> Result<()> {
         self.number = self.number.saturating_add(1);
-        let reply = match self.builder.process_token(token, line) {
-            Ok(answer) => Reply::Answer(answer),
-            Err(fault) => Reply::Refused(fault),
-        };
+        let reply = self.reply_to(token, line);
         self.note(&reply)?;
-        let (number, turns) = (self.number, self.builder.turns());
-        writeln!(self.turns, "{number} {turns}")?;
-        Ok(())
+        Ok(self.note_turns()?)
     }
 
     // Takes a token, a text by its characters.
@@ -123,15 +161,60 @@ impl Taker {
         self.note_each(replies.as_slice())
     }
 
-    // Takes the tokens that wait, as a list.
-    fn take_waiting(&mut self) -> Result<()> {
-        let tokens = mem::replace(&mut self.waiting, Vec::new(self.alloc));
-        let replies = self.builder.process_all(tokens)?;
-        for reply in &replies {
+    // Notes replies to as many tokens.
+    fn note_all(&mut self, replies: &[Reply<NodeId>]) -> Result<()> {
+        for reply in replies {
             self.number = self.number.saturating_add(1);
             self.note(reply)?;
         }
         Ok(())
+    }
+
+    // Takes the tokens that wait, as a list.
+    fn take_waiting(&mut self) -> Result<()> {
+        let tokens = mem::replace(&mut self.waiting, Vec::new(self.alloc));
+        let replies = self.builder.process_all(tokens)?;
+        self.note_all(replies.as_slice())
+    }
+
+    // Takes a token, or has it wait where all up to an end come as a list.
+    fn take_token(&mut self, token: Token, line: u64, cut: Cut) -> Result<()> {
+        match cut {
+            Cut::List => Ok(self.waiting.push((token, line))?),
+            Cut::Characters => self.take_characters(token, line),
+            _ => self.take_whole(token, line),
+        }
+    }
+
+    // Takes what waits, where tokens come as a list.
+    fn take_list(&mut self, cut: Cut) -> Result<()> {
+        match cut {
+            Cut::List => self.take_waiting(),
+            _ => Ok(()),
+        }
+    }
+
+    // Takes an end.
+    fn take_end(&mut self, cut: Cut) -> Result<()> {
+        self.take_list(cut)?;
+        self.end();
+        Ok(())
+    }
+
+    // Takes an item.
+    fn take_item(&mut self, item: Item, cut: Cut) -> Result<()> {
+        match item {
+            Item::Token(token, line) => self.take_token(token, line, cut),
+            Item::End => self.take_end(cut),
+        }
+    }
+
+    // Takes the items of lines.
+    fn take_items(&mut self, lines: &str, cut: Cut) -> Result<()> {
+        for item in parse(self.alloc, lines)? {
+            self.take_item(item, cut)?;
+        }
+        self.take_list(cut)
     }
 
     // Tells the builder of the end.
@@ -159,42 +242,9 @@ impl Taker {
     }
 }
 
-/// What the tokens of lines make.
-pub fn run_whole(alloc: Global, settings: &Settings, lines: &str) -> Result<Made> {
+/// What the tokens of lines make, which come in this cut: whole, each text by its characters, or all up to an end as a list.
+pub fn run_tokens(alloc: Global, settings: &Settings, lines: &str, cut: Cut) -> Result<Made> {
     let mut taker = Taker::new(alloc, settings)?;
-    for item in parse(alloc, lines)? {
-        match item {
-            Item::Token(token, line) => taker.take_whole(token, line)?,
-            Item::End => taker.end(),
-        }
-    }
-    Ok(taker.finish())
-}
-
-/// What the tokens of lines make, where each text comes by its characters.
-pub fn run_characters(alloc: Global, settings: &Settings, lines: &str) -> Result<Made> {
-    let mut taker = Taker::new(alloc, settings)?;
-    for item in parse(alloc, lines)? {
-        match item {
-            Item::Token(token, line) => taker.take_characters(token, line)?,
-            Item::End => taker.end(),
-        }
-    }
-    Ok(taker.finish())
-}
-
-/// What the tokens of lines make, where all tokens up to an end come as a list.
-pub fn run_list(alloc: Global, settings: &Settings, lines: &str) -> Result<Made> {
-    let mut taker = Taker::new(alloc, settings)?;
-    for item in parse(alloc, lines)? {
-        match item {
-            Item::Token(token, line) => taker.waiting.push((token, line))?,
-            Item::End => {
-                taker.take_waiting()?;
-                taker.end();
-            }
-        }
-    }
-    taker.take_waiting()?;
+    taker.take_items(lines, cut)?;
     Ok(taker.finish())
 }

@@ -16,24 +16,46 @@ fn put_line(alloc: Global, document: &mut String, line: &str) -> Result<(), Allo
     }
 }
 
+// Puts the lines of a printed tree that begin with this indent to a document.
+fn put_lines(
+    alloc: Global,
+    document: &mut String,
+    tree: &str,
+    indent: &str,
+) -> Result<(), AllocError> {
+    for line in tree.lines() {
+        if let Some(line) = line.strip_prefix(indent) {
+            put_line(alloc, document, line)?;
+        }
+    }
+    Ok(())
+}
+
+// What the lines of a printed tree that begin with this indent say of a document.
+fn document_in(alloc: Global, tree: &str, indent: &str) -> Result<String, AllocError> {
+    let mut document = String::new(alloc);
+    put_lines(alloc, &mut document, tree, indent)?;
+    Ok(document)
+}
+
 /// The tree of a document, or what the root of a fragment holds: the printed lines that begin with this indent, without it.
 pub fn document_of(alloc: Global, arena: &Arena, indent: &str) -> Result<String, AllocError> {
     let tree = print_tree(alloc, arena)?;
-    let mut document = String::new(alloc);
-    for line in tree.as_str().lines() {
-        if let Some(line) = line.strip_prefix(indent) {
-            put_line(alloc, &mut document, line)?;
-        }
+    document_in(alloc, tree.as_str(), indent)
+}
+
+// Puts texts to lines, one each.
+fn put_messages(lines: &mut String, messages: &[String]) -> Result<(), AllocError> {
+    for message in messages {
+        writeln!(lines, "{message}")?;
     }
-    Ok(document)
+    Ok(())
 }
 
 /// The lines of what parse errors say.
 pub fn messages_of(alloc: Global, arena: &Arena) -> Result<String, AllocError> {
     let mut lines = String::new(alloc);
-    for message in arena.errors() {
-        writeln!(lines, "{message}")?;
-    }
+    put_messages(&mut lines, arena.errors())?;
     Ok(lines)
 }
 
@@ -46,14 +68,20 @@ fn loose_name(arena: &Arena, number: usize) -> Option<&str> {
     }
 }
 
-/// The lines of the elements that have no parent: their numbers, by the order in which nodes were made, and names.
-pub fn loose_of(alloc: Global, arena: &Arena) -> Result<String, AllocError> {
-    let mut lines = String::new(alloc);
+// Puts the lines of the elements that have no parent to others.
+fn put_loose(lines: &mut String, arena: &Arena) -> Result<(), AllocError> {
     for number in 0..arena.len() {
         if let Some(name) = loose_name(arena, number) {
             writeln!(lines, "{number} {name}")?;
         }
     }
+    Ok(())
+}
+
+/// The lines of the elements that have no parent: their numbers, by the order in which nodes were made, and names.
+pub fn loose_of(alloc: Global, arena: &Arena) -> Result<String, AllocError> {
+    let mut lines = String::new(alloc);
+    put_loose(&mut lines, arena)?;
     Ok(lines)
 }
 

@@ -4,11 +4,23 @@ use super::fault::Fault;
 use h5_page::{links_of, text_of};
 use h5_print::{print_quirks, write_tree};
 use html_tree_builder::arena::NodeRef;
-use html_tree_builder::serialize::serialize;
+use html_tree_builder::clean::{AllowList, TextPolicy, clean_tree};
+use html_tree_builder::serialize::{SerializeFault, serialize};
 use html_tree_builder::{Arena, SerializeOpts};
 use std::alloc::{AllocError, Global};
 use std::fmt::Write as _;
 use std::io::{ErrorKind, Write};
+
+/// What is asked of each page.
+#[derive(Clone, Copy)]
+pub struct Asked<'a> {
+    /// What is printed of it.
+    pub what: What,
+    /// In which element it is read, if it is a fragment.
+    pub context: Option<&'a str>,
+    /// By which policy it is cleaned, if it isn't that of texts.
+    pub policy: Option<&'a AllowList>,
+}
 
 // What the page stands below: the document, or the root of a fragment.
 fn top_of(arena: &Arena, is_fragment: bool) -> NodeRef<'_> {
@@ -43,19 +55,31 @@ fn put_tree<W: Write>(alloc: Global, arena: &Arena, out: &mut W) -> Result<(), F
     out.write_all(quirks.as_bytes()).map_err(Fault::Write)
 }
 
+// What a policy, or else that of texts, lets through of a tree, written as HTML.
+fn cleaned(
+    alloc: Global,
+    top: &NodeRef<'_>,
+    policy: Option<&AllowList>,
+) -> Result<Vec<u8>, SerializeFault> {
+    match policy {
+        Some(policy) => clean_tree(alloc, top, policy, Vec::new(alloc)),
+        None => clean_tree(alloc, top, &TextPolicy, Vec::new(alloc)),
+    }
+}
+
 /// Writes what is asked of a tree, which is that of a document or of a fragment.
 pub fn put_answer<W: Write>(
     alloc: Global,
-    what: What,
+    asked: &Asked<'_>,
     arena: &Arena,
-    is_fragment: bool,
     out: &mut W,
 ) -> Result<(), Fault> {
-    let top = top_of(arena, is_fragment);
-    let text = match what {
+    let top = top_of(arena, asked.context.is_some());
+    let text = match asked.what {
         What::Html => serialize(alloc, Vec::new(alloc), &top, SerializeOpts::default())?,
         What::Text => text_of(alloc, &top)?.into_bytes(),
         What::Links => links_text(alloc, &top)?.into_bytes(),
+        What::Clean => cleaned(alloc, &top, asked.policy)?,
         What::Tree | What::Tokens => return put_tree(alloc, arena, out),
     };
     out.write_all(text.as_slice()).map_err(Fault::Write)

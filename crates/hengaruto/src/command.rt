@@ -15,6 +15,18 @@ pub enum What {
     Links,
     /// Its tokens, a line for each.
     Tokens,
+    /// What a policy, or else that of texts, lets through of it, written as HTML.
+    Clean,
+}
+
+impl What {
+    /// In which element the input is read: what is cleaned is a fragment in a `div`, if nothing else is said.
+    pub fn context<'a>(self, said: Option<&'a str>) -> Option<&'a str> {
+        match (self, said) {
+            (What::Clean, None) => Some("div"),
+            _ => said,
+        }
+    }
 }
 
 const ABOUT: &str = "Shows what a page of HTML is made of, as a browser reads it";
@@ -42,6 +54,20 @@ fn part<'a>(alloc: Global, name: &'a str, about: &'a str) -> Result<Command<'a>,
         .arg(files)
 }
 
+// The part of the program that cleans.
+fn clean_part<'a>(alloc: Global) -> Result<Command<'a>, AllocError> {
+    let policy = Arg::new(alloc, "policy")
+        .long("policy")
+        .value_name("POLICY")
+        .help("A file of TOML that says what is let through, in place of the policy of texts");
+    part(
+        alloc,
+        "clean",
+        "Prints what is safe to show of a fragment, as HTML that every parser reads alike",
+    )?
+    .arg(policy)
+}
+
 /// The command line of the program.
 pub fn command<'a>(alloc: Global) -> Result<Command<'a>, AllocError> {
     Command::new(alloc, "hengaruto")
@@ -62,7 +88,8 @@ pub fn command<'a>(alloc: Global) -> Result<Command<'a>, AllocError> {
             "links",
             "Prints the links, a line for each: where it leads, a tab, and its text",
         )?)?
-        .subcommand(part(alloc, "tokens", "Prints the tokens, a line for each")?)
+        .subcommand(part(alloc, "tokens", "Prints the tokens, a line for each")?)?
+        .subcommand(clean_part(alloc)?)
 }
 
 /// What the name of a subcommand asks for.
@@ -72,6 +99,7 @@ pub fn what_named(name: &str) -> What {
         "html" => What::Html,
         "text" => What::Text,
         "links" => What::Links,
+        "clean" => What::Clean,
         _ => What::Tokens,
     }
 }

@@ -1,36 +1,32 @@
 //! A run of the program.
-use super::answer::put_answer;
+use super::answer::{Asked, put_answer};
 use super::command::{What, what_named};
 use super::fault::Fault;
 use super::page::{tokens_of, tree_of};
+use super::policy_file::{policy_in, tell_policy};
 use clap::ArgMatches;
 use std::fs;
 use std::io::{ErrorKind, Read, Write};
 use std::process::ExitCode;
 
 // Shows an input.
-fn show_input<R: Read>(
-    rt: &HostRuntime,
-    what: What,
-    context: Option<&str>,
-    input: &mut R,
-) -> Result<(), Fault> {
+fn show_input<R: Read>(rt: &HostRuntime, asked: &Asked<'_>, input: &mut R) -> Result<(), Fault> {
     let mut out = rt.stdout();
-    if let What::Tokens = what {
-        let text = tokens_of(rt, context, input)?;
+    if let What::Tokens = asked.what {
+        let text = tokens_of(rt, asked.context, input)?;
         return out.write_all(text.as_slice()).map_err(Fault::Write);
     }
-    let arena = tree_of(rt, context, input)?;
-    put_answer(rt.alloc(), what, &arena, context.is_some(), &mut out)
+    let arena = tree_of(rt, asked.context, input)?;
+    put_answer(rt.alloc(), asked, &arena, &mut out)
 }
 
 // Shows a file, or standard input where its name is `-`.
-fn show(rt: &HostRuntime, what: What, context: Option<&str>, name: &str) -> Result<(), Fault> {
+fn show(rt: &HostRuntime, asked: &Asked<'_>, name: &str) -> Result<(), Fault> {
     if name == "-" {
-        return show_input(rt, what, context, &mut rt.stdin());
+        return show_input(rt, asked, &mut rt.stdin());
     }
     let mut file = fs::open(rt, name).map_err(Fault::Read)?;
-    show_input(rt, what, context, &mut file)
+    show_input(rt, asked, &mut file)
 }
 
 // Says what went wrong. Whether it can be said is no matter.
@@ -51,10 +47,10 @@ fn is_closed(fault: &Fault) -> bool {
 }
 
 // Shows each of these files, and answers the status. A file that can't be read is told of, and the others follow.
-fn show_each(rt: &HostRuntime, what: What, context: Option<&str>, files: &[&str]) -> u8 {
+fn show_each(rt: &HostRuntime, asked: &Asked<'_>, files: &[&str]) -> u8 {
     let mut status = 0;
     for file in files {
-        if let Err(fault) = show(rt, what, context, file) {
+        if let Err(fault) = show(rt, asked, file) {
             if is_closed(&fault) {
                 return status;
             }
@@ -65,17 +61,55 @@ fn show_each(rt: &HostRuntime, what: What, context: Option<&str>, files: &[&str]
     status
 }
 
-/// Shows each file that the words name, or standard input where they name none, and answers the status.
+// Shows each file that the words name, or standard input where they name none, and answers the status.
+fn show_all(rt: &HostRuntime, asked: &Asked<'_>, matches: &ArgMatches<'_>) -> u8 {
+    if let Some(files) = matches.get_strs("file") {
+        if !files.is_empty() {
+            return show_each(rt, asked, files);
+        }
+    }
+    show_each(rt, asked, &["-"])
+}
+
+// Shows what is asked by the policy that stands in a file. Where that is no policy, nothing is shown.
+fn show_by_policy(rt: &HostRuntime, asked: &Asked<'_>, name: &str, matches: &ArgMatches<'_>) -> u8 {
+    match policy_in(rt, name) {
+        Ok(policy) => {
+            let by_policy = Asked {
+                what: asked.what,
+                context: asked.context,
+                policy: Some(&policy),
+            };
+            show_all(rt, &by_policy, matches)
+        }
+        Err(fault) => {
+            tell_policy(rt, name, &fault);
+            2
+        }
+    }
+}
+
+// The name of the file in which a policy stands, if there is one.
+fn policy_name<'a>(what: What, matches: &ArgMatches<'a>) -> Option<&'a str> {
+    match what {
+        What::Clean => matches.get_str("policy"),
+        _ => None,
+    }
+}
+
+/// Shows what the words ask for, and answers the status.
 pub fn run(rt: &HostRuntime, matches: &ArgMatches<'_>) -> ExitCode {
     let Some((name, matches)) = matches.subcommand() else {
         return ExitCode::from(2);
     };
     let what = what_named(name);
-    let context = matches.get_str("fragment");
-    if let Some(files) = matches.get_strs("file") {
-        if !files.is_empty() {
-            return ExitCode::from(show_each(rt, what, context, files));
-        }
-    }
-    ExitCode::from(show_each(rt, what, context, &["-"]))
+    let asked = Asked {
+        what,
+        context: what.context(matches.get_str("fragment")),
+        policy: None,
+    };
+    ExitCode::from(match policy_name(what, matches) {
+        Some(file) => show_by_policy(rt, &asked, file, matches),
+        None => show_all(rt, &asked, matches),
+    })
 }

@@ -18,6 +18,7 @@ pub mod standard;
 
 pub use h5_arena as arena;
 pub use h5_arena::{Arena, NodeId};
+pub use h5_clean as clean;
 pub use h5_driver as driver;
 pub use h5_driver::standard::{
     Parser, StandardReader, Utf8Parser, parse_document, parse_fragment, parse_fragment_for_element,

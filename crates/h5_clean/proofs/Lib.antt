@@ -1,0 +1,15 @@
+mod AttributeLaws
+mod CallLaws
+mod CleanedLaws
+mod FittingLaws
+mod HandedLaws
+mod KeepingLaws
+mod KindLaws
+mod ListLaws
+mod MarkLaws
+mod NameLaws
+mod PassLaws
+mod RowLaws
+mod SchemeLaws
+mod SourceLaws
+mod TextLaws

@@ -1,0 +1,12 @@
+use Rattle.std.proofs.Common.{◌∙◌, rules, sym}
+use Rattle.h5_clean.proofs.SchemeLaws.{no_end, ends}
+use Rattle.h5_clean.proofs.urls.has_end.Goals as goal
+
+pub returns-then-first-eq58 : goal.returns-then-first-eq58
+returns-then-first-eq58 c = λ read. search rules ∙ sym (ends read c.args.url.now)
+
+pub returns-then-not-is_scheme_byte : goal.returns-then-not-is_scheme_byte
+returns-then-not-is_scheme_byte c = λ read. search rules ∙ sym (ends read c.args.url.now)
+
+pub returns : goal.returns
+returns c = λ read. (sym (no_end c.loop-url.url.now c.in_default.len_below) ∙ c.loop-url.invariant) ∙ sym (ends read c.args.url.now)

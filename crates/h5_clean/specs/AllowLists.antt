@@ -1,0 +1,49 @@
+-- A policy that is a table.
+use Rattle.std.specs.Prelude.{ℕ, ◌&&◌, ◌||◌, Bool, not, List, [], ◌∷◌, Option, Some, None, codes}
+use Rattle.std.specs.List.{list_any}
+use Rattle.h5_names.specs.AttributeText.{is_same_text}
+use Rattle.h5_tables.specs.TagSets.{is_one_of}
+use Rattle.h5_clean.specs.Policies.{Rules}
+use Rattle.h5_clean.specs.TextPolicy.{Keeping, scheme_of}
+
+-- elements, those that go with all that they hold, attributes of any element and of some, schemes of URLs, whether URLs may be relative,
+-- what `rel` of an `a` is set to, and how deep elements go
+pub record Table : Type 0 where
+  pub elements : List (List ℕ)
+  pub dropped : List (List ℕ)
+  pub attributes : List (List ℕ)
+  pub attributes_of : List Keeping
+  pub schemes : List (List ℕ)
+  pub relative : Bool
+  pub rel : Option (List ℕ)
+  pub depth : ℕ
+
+-- the attributes that hold a URL
+unfoldable pub url_names : List (List ℕ)
+url_names = codes "href" ∷ codes "src" ∷ codes "cite" ∷ []
+
+-- an attribute is listed for an element
+abbrev pub is_listed_for : (element attribute : List ℕ) → Keeping → Bool
+is_listed_for element attribute k = is_same_text k.element element && is_one_of k.attributes attribute
+
+abbrev pub is_listed : Table → (element attribute : List ℕ) → Bool
+is_listed t element attribute = is_one_of t.attributes attribute || list_any (is_listed_for element attribute) t.attributes_of
+
+-- a URL is relative, where it may be, or has a scheme that is listed
+abbrev pub leads_well : (relative : Bool) (schemes : List (List ℕ)) → Option (List ℕ) → Bool
+leads_well relative schemes None = relative
+leads_well relative schemes (Some scheme) = is_one_of schemes scheme
+
+-- and leads well, if it holds a URL
+abbrev pub keeps_listed : Table → (element attribute value : List ℕ) → Bool
+keeps_listed t element attribute value =
+    is_listed t element attribute && (not (is_one_of url_names attribute) || leads_well t.relative t.schemes (scheme_of value))
+
+abbrev pub table_rules : Table → Rules
+table_rules t = record {
+  names = is_one_of t.elements;
+  drops = is_one_of t.dropped;
+  keeps = keeps_listed t;
+  rel = t.rel;
+  depth = t.depth;
+}

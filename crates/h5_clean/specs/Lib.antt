@@ -1,0 +1,10 @@
+pub mod Cleaned
+pub mod Kinds
+pub mod Places
+pub mod Source
+pub mod TextPolicy
+pub mod Texts
+pub mod Policies
+pub mod Pass
+pub mod AllowLists
+pub mod Calls

@@ -1,0 +1,77 @@
+-- What is left of a tree.
+use Rattle.std.specs.Prelude.{◌≡◌, ℕ, ◌-◌, ◌≤◌, ◌&&◌, ◌||◌, Bool, true, false, not, List, [], ◌∷◌, ◌++◌, if◌then◌else◌}
+use Rattle.h5_names.specs.declared.qualified.QualName.{QualName}
+use Rattle.h5_serialize.specs.Names.{is_html}
+use Rattle.h5_plain.specs.Plain.{ElementThen, End, Nodes, TextThen}
+use Rattle.h5_clean.specs.Kinds.{kind_of}
+use Rattle.h5_clean.specs.Places.{fits, inside, nowhere}
+use Rattle.h5_clean.specs.Policies.{Rules, attributes_left}
+use Rattle.h5_clean.specs.Source as source
+use Rattle.h5_clean.specs.Source.{CommentThen, DoctypeThen, Done, InstructionThen, Source}
+use Rattle.h5_clean.specs.Texts.{text_left, without_marks, without_newlines}
+use Rattle.h5_clean.specs.declared.kind.Kind.{Kind}
+use Rattle.h5_clean.specs.declared.kind.Kind.TheVariants as kind
+use Rattle.h5_clean.specs.declared.place.Place.{Place}
+use Rattle.h5_clean.specs.declared.place.Spot.TheVariants as spot
+
+-- a text before nodes, of which the first may be one
+abbrev pub put_text : List ℕ → Nodes → Nodes
+put_text [] ns = ns
+put_text (b ∷ t) (TextThen u rest) = TextThen ((b ∷ t) ++ u) rest
+put_text (b ∷ t) End = TextThen (b ∷ t) End
+put_text (b ∷ t) (ElementThen name attrs inner rest) = TextThen (b ∷ t) (ElementThen name attrs inner rest)
+
+-- a text before nodes that begin with none
+abbrev pub text_then : List ℕ → Nodes → Nodes
+text_then [] ns = ns
+text_then (b ∷ t) ns = TextThen (b ∷ t) ns
+
+-- nodes whose first text has changed; it goes if nothing is left of it
+abbrev pub with_first : (List ℕ → List ℕ) → Nodes → Nodes
+with_first change (TextThen text rest) = text_then (change text) rest
+with_first change ns = ns
+
+-- what such an element holds: a reader takes the newline at the front of a `pre`
+abbrev pub held : Kind → Nodes → Nodes
+held kind.Preformatted ns = with_first without_newlines ns
+held _ ns = ns
+
+-- an element of HTML that the rules name, and that fits here
+abbrev pub is_let : Rules → Place → QualName → Bool
+is_let r x name = is_html name && (r.names name.local && fits (kind_of name.local) x)
+
+-- one that goes with all that it holds: what isn't HTML, or what the rules drop and don't name
+abbrev pub is_dropped : Rules → QualName → Bool
+is_dropped r name = not (is_html name) || (r.drops name.local && not (r.names name.local))
+
+-- what is left of a tree at a place, before other nodes. An element that isn't let through gives its place to what it holds
+abbrev pub left_before : Rules → Place → Source → Nodes → Nodes
+left_before r x Done more = more
+left_before r x (source.TextThen text rest) more = put_text (text_left x.spot text) (left_before r x rest more)
+left_before r x (source.ElementThen name attrs inner rest) more =
+    if is_let r x name
+    then ElementThen name.local (attributes_left r name.local attrs) (held (kind_of name.local) (left_before r (inside (kind_of name.local) x) inner End)) (left_before r x rest more)
+    else left_before r (if is_dropped r name then nowhere x else x) inner (left_before r x rest more)
+left_before r x (CommentThen text rest) more = left_before r x rest more
+left_before r x (DoctypeThen name rest) more = left_before r x rest more
+left_before r x (InstructionThen target content rest) more = left_before r x rest more
+
+-- in flow, where nothing is open
+abbrev pub first_place : Rules → Place
+first_place r = record { spot = spot.InFlow; in_p = false; in_heading = false; in_item = false; in_description = false; in_link = false; room = r.depth }
+
+-- a fragment, cleaned: a reader takes the U+FEFF at its front
+abbrev pub cleaned : Rules → Source → Nodes
+cleaned r s = with_first without_marks (left_before r (first_place r) s End)
+
+-- of each element the rules let all of it through
+abbrev pub AllLet : Rules → Nodes → Type 0
+AllLet r End = Unit {0}
+AllLet r (TextThen text rest) = AllLet r rest
+AllLet r (ElementThen name attrs inner rest) = (r.names name ≡ true) × ((attributes_left r name attrs ≡ attrs) × (AllLet r inner × AllLet r rest))
+
+-- elements go no deeper than this
+abbrev pub IsWithin : ℕ → Nodes → Type 0
+IsWithin depth End = Unit {0}
+IsWithin depth (TextThen text rest) = IsWithin depth rest
+IsWithin depth (ElementThen name attrs inner rest) = (1 ≤ depth) × (IsWithin (depth - 1) inner × IsWithin depth rest)

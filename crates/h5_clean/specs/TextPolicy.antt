@@ -1,0 +1,119 @@
+-- The policy of texts: what a writer of comments, posts and pages needs.
+use Rattle.std.specs.Prelude.{ℕ, ◌==◌, nat_le, ◌&&◌, ◌||◌, Bool, true, false, not, List, [], ◌∷◌, ◌++◌, Option, Some, None, codes, if◌then◌else◌}
+use Rattle.std.specs.Char.{is_ascii_alphabetic, is_ascii_digit, to_ascii_lowercase}
+use Rattle.h5_names.specs.AttributeText.{is_same_text}
+use Rattle.h5_tables.specs.TagSets.{is_one_of}
+use Rattle.h5_clean.specs.Kinds.{is_known, kind_of}
+use Rattle.h5_clean.specs.Policies.{Rules}
+
+-- elements that have a kind and aren't named
+unfoldable pub unnamed : List (List ℕ)
+unnamed =
+    codes "center" ∷ codes "dialog" ∷ codes "dir" ∷ codes "fieldset" ∷ codes "big" ∷ codes "font" ∷ codes "strike" ∷ codes "tt" ∷
+    codes "label" ∷ codes "meter" ∷ codes "output" ∷ codes "progress" ∷ codes "menu" ∷ []
+
+-- elements that go with all that they hold
+unfoldable pub dropped_names : List (List ℕ)
+dropped_names =
+    codes "script" ∷ codes "style" ∷ codes "template" ∷ codes "iframe" ∷ codes "object" ∷ codes "embed" ∷ codes "applet" ∷
+    codes "noscript" ∷ codes "noembed" ∷ codes "noframes" ∷ codes "xmp" ∷ codes "plaintext" ∷ []
+
+unfoldable pub more_dropped_names : List (List ℕ)
+more_dropped_names =
+    codes "textarea" ∷ codes "title" ∷ codes "select" ∷ codes "head" ∷ codes "frameset" ∷ codes "audio" ∷ codes "video" ∷
+    codes "canvas" ∷ []
+
+-- attributes that any element keeps
+unfoldable pub global_names : List (List ℕ)
+global_names = codes "title" ∷ codes "lang" ∷ codes "dir" ∷ []
+
+-- and those that some keep: an element, and attributes
+pub record Keeping : Type 0 where
+  pub element : List ℕ
+  pub attributes : List (List ℕ)
+
+abbrev pub keeping : List ℕ → List (List ℕ) → Keeping
+keeping element attributes = record { element = element; attributes = attributes }
+
+unfoldable pub keepings : List Keeping
+keepings =
+    keeping (codes "a") (codes "href" ∷ []) ∷
+    keeping (codes "img") (codes "src" ∷ codes "alt" ∷ codes "width" ∷ codes "height" ∷ []) ∷
+    keeping (codes "td") (codes "colspan" ∷ codes "rowspan" ∷ codes "headers" ∷ []) ∷
+    keeping (codes "th") (codes "colspan" ∷ codes "rowspan" ∷ codes "headers" ∷ codes "scope" ∷ []) ∷
+    keeping (codes "col") (codes "span" ∷ []) ∷
+    keeping (codes "colgroup") (codes "span" ∷ []) ∷
+    keeping (codes "ol") (codes "start" ∷ codes "reversed" ∷ codes "type" ∷ []) ∷
+    keeping (codes "li") (codes "value" ∷ []) ∷
+    keeping (codes "time") (codes "datetime" ∷ []) ∷
+    keeping (codes "del") (codes "datetime" ∷ []) ∷
+    keeping (codes "ins") (codes "datetime" ∷ []) ∷
+    keeping (codes "data") (codes "value" ∷ []) ∷ []
+
+abbrev pub keeps_by : List Keeping → (element attribute : List ℕ) → Bool
+keeps_by [] element attribute = false
+keeps_by (k ∷ ks) element attribute = if is_same_text k.element element then is_one_of k.attributes attribute else keeps_by ks element attribute
+
+-- ---- URLs, as browsers read them (URL standard, section 4.4)
+
+-- what stands behind C0 controls and spaces
+abbrev pub behind_controls : List ℕ → List ℕ
+behind_controls [] = []
+behind_controls (b ∷ t) = if nat_le b 32 then behind_controls t else b ∷ t
+
+-- TAB, LF and CR don't count
+abbrev pub is_skipped : ℕ → Bool
+is_skipped b = (b == 9) || ((b == 10) || (b == 13))
+
+abbrev pub is_scheme_byte : ℕ → Bool
+is_scheme_byte b = is_ascii_alphabetic b || (is_ascii_digit b || ((b == 43) || ((b == 45) || (b == 46))))
+
+-- the rest of a scheme, up to ':', behind what was read of it in lower case
+abbrev pub scheme_behind : (read : List ℕ) → List ℕ → Option (List ℕ)
+scheme_behind read [] = None
+scheme_behind read (b ∷ t) =
+    if is_skipped b then scheme_behind read t
+    else (if b == 58 then Some read
+    else (if is_scheme_byte b then scheme_behind (read ++ to_ascii_lowercase b ∷ []) t
+    else None))
+
+-- a scheme begins with a letter; where there is none the URL is relative
+abbrev pub scheme_of_visible : List ℕ → Option (List ℕ)
+scheme_of_visible [] = None
+scheme_of_visible (b ∷ t) =
+    if is_skipped b then scheme_of_visible t
+    else (if is_ascii_alphabetic b then scheme_behind (to_ascii_lowercase b ∷ []) t else None)
+
+abbrev pub scheme_of : List ℕ → Option (List ℕ)
+scheme_of url = scheme_of_visible (behind_controls url)
+
+unfoldable pub link_schemes : List (List ℕ)
+link_schemes = codes "http" ∷ codes "https" ∷ codes "mailto" ∷ []
+
+unfoldable pub image_schemes : List (List ℕ)
+image_schemes = codes "http" ∷ codes "https" ∷ []
+
+-- a URL without a scheme, or with one of these
+abbrev pub has_scheme_of : List (List ℕ) → Option (List ℕ) → Bool
+has_scheme_of schemes None = true
+has_scheme_of schemes (Some scheme) = is_one_of schemes scheme
+
+-- where an attribute holds a URL, it is one that may be kept
+abbrev pub leads_well : (attribute value : List ℕ) → Bool
+leads_well attribute value =
+    if is_same_text attribute (codes "href") then has_scheme_of link_schemes (scheme_of value)
+    else (if is_same_text attribute (codes "src") then has_scheme_of image_schemes (scheme_of value)
+    else true)
+
+abbrev pub keeps_attribute : (element attribute value : List ℕ) → Bool
+keeps_attribute element attribute value = (is_one_of global_names attribute || keeps_by keepings element attribute) && leads_well attribute value
+
+-- what it says; `rel` keeps a page that is linked from the page that links it
+abbrev pub text_rules : Rules
+text_rules = record {
+  names = λ name. is_known (kind_of name) && not (is_one_of unnamed name);
+  drops = λ name. is_one_of dropped_names name || is_one_of more_dropped_names name;
+  keeps = keeps_attribute;
+  rel = Some (codes "noopener noreferrer");
+  depth = 256;
+}

@@ -1,0 +1,195 @@
+//! A policy that is a table.
+ghost use Rattle.std.specs.Prelude.{◌≡◌, ◌∷◌, ◌++◌, [], None, Some, OnOk, OnErr, true, false};
+ghost use Rattle.h5_tables.specs.TagSets.{is_one_of};
+ghost use Rattle.h5_clean.specs.AllowLists.{is_listed, keeps_listed, leads_well, table_rules, url_names};
+ghost use Rattle.h5_clean.specs.TextPolicy.{keeping, scheme_of};
+
+use super::name_list::{AttributeList, NameList, any_keeps};
+use super::policy::Policy;
+use super::urls::leads_well;
+use std::alloc::{AllocError, Global};
+use std::marker::Model;
+
+/// A policy that is a table: what isn't listed isn't let through. An entry that stands twice counts once.
+#[derive(Debug, Drop)]
+pub struct AllowList {
+    alloc: Global,
+    elements: NameList,
+    dropped: NameList,
+    attributes: NameList,
+    attributes_of: Vec<AttributeList>,
+    schemes: NameList,
+    relative: bool,
+    rel: Option<String>,
+    depth: usize,
+}
+
+impl Model for AllowList {
+    ghost use Rattle.std.specs.Prelude.{string_bytes};
+    ghost use Rattle.std.specs.Option.{option_map};
+    ghost use Rattle.h5_clean.specs.AllowLists.{Table};
+
+    ghost Value = { Table };
+
+    ghost view = { λ list. record {
+      elements = list.elements;
+      dropped = list.dropped;
+      attributes = list.attributes;
+      attributes_of = list.attributes_of.items;
+      schemes = list.schemes;
+      relative = list.relative;
+      rel = option_map string_bytes list.rel;
+      depth = list.depth;
+    } };
+}
+
+// Whether an attribute holds a URL.
+#[tactic(auto, unfolding(crate::specs::AllowLists::url_names))]
+fn is_url_name(attribute: &str) -> bool
+    ensures { result ≡ is_one_of url_names attribute.now }
+{
+    matches!(attribute, "href" | "src" | "cite")
+}
+
+impl AllowList {
+    /// Lists nothing, lets URLs be relative, sets no `rel`, and lets elements be nested 256 deep.
+    pub fn new(alloc: Global) -> AllowList
+        ensures { result ≡ record {
+          elements = [];
+          dropped = [];
+          attributes = [];
+          attributes_of = [];
+          schemes = [];
+          relative = true;
+          rel = None;
+          depth = 256;
+        } }
+    {
+        AllowList {
+            alloc,
+            elements: NameList::new(alloc),
+            dropped: NameList::new(alloc),
+            attributes: NameList::new(alloc),
+            attributes_of: Vec::new(alloc),
+            schemes: NameList::new(alloc),
+            relative: true,
+            rel: None,
+            depth: 256,
+        }
+    }
+
+    /// Lets elements of this name through, if it has a kind. Where memory is refused nothing changes.
+    pub fn add_element(&mut self, name: &str) -> Result<(), AllocError>
+        ensures ok { OnOk result (self.new ≡ record self.old { elements = self.old.elements ++ name.now ∷ [] }) }
+        ensures err { OnErr result (self.new ≡ self.old) }
+    {
+        self.elements.push(self.alloc, name)
+    }
+
+    /// Lets elements of this name go with all that they hold. Where memory is refused nothing changes.
+    pub fn add_dropped(&mut self, name: &str) -> Result<(), AllocError>
+        ensures ok { OnOk result (self.new ≡ record self.old { dropped = self.old.dropped ++ name.now ∷ [] }) }
+        ensures err { OnErr result (self.new ≡ self.old) }
+    {
+        self.dropped.push(self.alloc, name)
+    }
+
+    /// Lets any element keep attributes of this name. Where memory is refused nothing changes.
+    pub fn add_attribute(&mut self, name: &str) -> Result<(), AllocError>
+        ensures ok { OnOk result (self.new ≡ record self.old { attributes = self.old.attributes ++ name.now ∷ [] }) }
+        ensures err { OnErr result (self.new ≡ self.old) }
+    {
+        self.attributes.push(self.alloc, name)
+    }
+
+    /// Lets the elements of one name keep attributes of another. Where memory is refused nothing changes.
+    pub fn add_attribute_of(&mut self, element: &str, name: &str) -> Result<(), AllocError>
+        ensures ok { OnOk result (self.new ≡ record self.old {
+          attributes_of = self.old.attributes_of ++ keeping element.now (name.now ∷ []) ∷ [];
+        }) }
+        ensures err { OnErr result (self.new ≡ self.old) }
+    {
+        let list = AttributeList::of_one(self.alloc, element, name)?;
+        self.attributes_of.push(list)?;
+        Ok(())
+    }
+
+    /// Lets URLs have this scheme, which is written in lower case and without its ':'. Where memory is refused nothing changes.
+    pub fn add_scheme(&mut self, name: &str) -> Result<(), AllocError>
+        ensures ok { OnOk result (self.new ≡ record self.old { schemes = self.old.schemes ++ name.now ∷ [] }) }
+        ensures err { OnErr result (self.new ≡ self.old) }
+    {
+        self.schemes.push(self.alloc, name)
+    }
+
+    /// Lets no URL be relative.
+    pub fn refuse_relative(&mut self)
+        ensures { self.new ≡ record self.old { relative = false } }
+    {
+        self.relative = false;
+    }
+
+    /// Sets the attribute `rel` of each `a` to this. Where memory is refused nothing changes.
+    pub fn set_rel(&mut self, rel: &str) -> Result<(), AllocError>
+        ensures ok { OnOk result (self.new ≡ record self.old { rel = Some rel.now }) }
+        ensures err { OnErr result (self.new ≡ self.old) }
+    {
+        let text = String::from_str(self.alloc, rel)?;
+        self.rel = Some(text);
+        Ok(())
+    }
+
+    /// Lets elements be nested so deep.
+    pub fn set_depth(&mut self, depth: usize)
+        ensures { self.new ≡ record self.old { depth = depth } }
+    {
+        self.depth = depth;
+    }
+
+    // Whether an attribute is listed, for any element or for this one.
+    fn lists(&self, element: &str, attribute: &str) -> bool
+        ensures { result ≡ is_listed self.now element.now attribute.now }
+    {
+        self.attributes.has(attribute)
+            || any_keeps(self.attributes_of.as_slice(), element, attribute)
+    }
+
+    // Whether a URL is relative, where it may be, or has a scheme that is listed.
+    fn may_lead_to(&self, value: &str) -> bool
+        ensures { result ≡ leads_well self.now.relative self.now.schemes (scheme_of value.now) }
+    {
+        leads_well(value, self.relative, self.schemes.as_slice())
+    }
+}
+
+impl Policy for AllowList {
+    ghost rules = { table_rules };
+
+    // Whether the name is listed.
+    fn names(&self, element: &str) -> bool {
+        self.elements.has(element)
+    }
+
+    // Whether the name is listed among those.
+    fn drops(&self, element: &str) -> bool {
+        self.dropped.has(element)
+    }
+
+    // Whether the attribute is listed, and its URL may be kept if it has one.
+    fn keeps(&self, element: &str, attribute: &str, value: &str) -> bool {
+        self.lists(element, attribute) && (!is_url_name(attribute) || self.may_lead_to(value))
+    }
+
+    // What was set, if it was.
+    fn rel(&self) -> Option<&str> {
+        match &self.rel {
+            Some(rel) => Some(rel.as_str()),
+            None => None,
+        }
+    }
+
+    // What was set, or 256.
+    fn depth(&self) -> usize {
+        self.depth
+    }
+}

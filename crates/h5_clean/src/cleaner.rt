@@ -1,0 +1,219 @@
+//! A serializer that hands on what is let through to the one that writes HTML.
+ghost use Rattle.std.specs.Prelude.{◌≡◌, ◌&&◌, ℕ, [], List, None, IfOk, false, true, if◌then◌else◌};
+ghost use Rattle.std.specs.Str.{is_utf8};
+ghost use Rattle.h5_serialize.specs.Call.{TextOf};
+ghost use Rattle.h5_serialize.specs.Names.{is_html};
+ghost use Rattle.h5_serialize.specs.Walk.{Makes};
+ghost use Rattle.h5_clean.specs.Calls.{after_call, answer_of, behind_front, first_state, front_inside, place_among, text_of};
+ghost use Rattle.h5_clean.specs.Pass.{is_dropped};
+ghost use Rattle.h5_clean.specs.Places.{fits, nowhere};
+ghost use Rattle.h5_clean.specs.Texts.{readable};
+
+use super::attributes::attributes_left;
+use super::elements::{OpenElement, OpenElements};
+use super::kind::{Kind, kind_of};
+use super::place::{Place, Spot};
+use super::policy::Policy;
+use super::texts::{is_readable, may_stand, readable, without_marks, without_newlines};
+use h5_names::QualName;
+use h5_serialize::laws::starts_have_the_attributes_of_their_slice;
+use h5_serialize::{AttrRef, HtmlSerializer, SerializeFault, SerializeOpts, Serializer};
+use std::alloc::Global;
+use std::io::Write;
+
+/// What the next text loses at its front.
+#[derive(Clone, Copy, Debug, PartialEq, Eq)]
+pub enum Front {
+    Nothing,
+    /// Behind the start tag of a `pre`, of which a reader takes a newline.
+    Newlines,
+    /// At the very front, of which a reader takes a U+FEFF.
+    Marks,
+}
+
+// A text without what it loses there.
+fn behind_front(front: Front, text: &str) -> &str
+    ensures { result.now ≡ behind_front front text.now }
+{
+    match front {
+        Front::Nothing => text,
+        Front::Newlines => without_newlines(text),
+        Front::Marks => without_marks(text),
+    }
+}
+
+// What a text loses in an element of this kind.
+fn front_inside(kind: Kind) -> Front
+    ensures { result ≡ front_inside kind }
+{
+    match kind {
+        Kind::Preformatted => Front::Newlines,
+        _ => Front::Nothing,
+    }
+}
+
+/// Writes what is left of a tree, as it is told.
+#[derive(Drop)]
+pub struct Cleaner<'a, P: Policy, Wr: Write + Drop> {
+    html: HtmlSerializer<Wr>,
+    policy: &'a P,
+    elements: OpenElements,
+    front: Front,
+    alloc: Global,
+}
+
+impl<'a, P: Policy, Wr: Write + Drop> Cleaner<'a, P, Wr> {
+    /// Nothing is written yet. The fault is `Memory`, where memory is refused; the writer is dropped then.
+    pub fn new(
+        alloc: Global,
+        policy: &'a P,
+        writer: Wr,
+    ) -> Result<Cleaner<'a, P, Wr>, SerializeFault>
+        ensures state { IfOk result (λ cleaner. record { rules = P.rules cleaner.policy.now; elements = cleaner.elements; front = cleaner.front; standing = cleaner.html.standing }
+            ≡ first_state (P.rules policy.now)) }
+        ensures contents { IfOk result (λ cleaner. cleaner.html.contents ≡ Wr.contents writer) }
+    {
+        Ok(Cleaner {
+            html: HtmlSerializer::new(alloc, writer, SerializeOpts::default())?,
+            policy,
+            elements: OpenElements::new(alloc),
+            front: Front::Marks,
+            alloc,
+        })
+    }
+
+    /// Its writer.
+    pub fn into_writer(self) -> Wr
+        ensures { self.entry.html.contents ≡ Wr.contents result }
+    {
+        self.html.writer
+    }
+
+    // Where the next node stands.
+    fn place(&self) -> Place
+        ensures { result ≡ place_among (P.rules self.now.policy.now) self.now.elements }
+    {
+        match self.elements.last() {
+            Some(open) => open.place,
+            None => Place::in_flow(self.policy.depth()),
+        }
+    }
+
+    // Whether an element of this name is let through here.
+    fn lets(&self, name: &QualName, place: Place, kind: Kind) -> bool
+        ensures { result ≡ (is_html name.now && ((P.rules self.now.policy.now).names name.now.local && fits kind place)) }
+    {
+        name.ns.is_html() && self.policy.names(name.local.as_str()) && place.fits(kind)
+    }
+
+    // Where that stands what an element holds that isn't let through.
+    fn place_without(&self, name: &QualName, place: Place) -> Place
+        ensures { result ≡ (if is_dropped (P.rules self.now.policy.now) name.now then nowhere place else place) }
+    {
+        let local = name.local.as_str();
+        if !name.ns.is_html() || (self.policy.drops(local) && !self.policy.names(local)) {
+            return place.nowhere();
+        }
+        place
+    }
+}
+
+impl<'a, P: Policy, Wr: Write + Drop> Cleaner<'a, P, Wr> {
+    // Writes what may stand here of a text that can be read: what is left of one.
+    fn write_readable(&mut self, text: &str) -> Result<(), SerializeFault>
+        ensures { (whole : List ℕ) → is_utf8 whole ≡ true → readable whole ≡ text.now →
+            Makes answer_of after_call text_of (λ before called call fault after written. Unit {0}) (TextOf whole)
+            (record { rules = P.rules self.old.policy.now; elements = self.old.elements; front = self.old.front; standing = self.old.html.standing }) self.old.html.contents
+            result (record { rules = P.rules self.new.policy.now; elements = self.new.elements; front = self.new.front; standing = self.new.html.standing }) self.new.html.contents }
+    {
+        if !may_stand(self.place().spot, text) {
+            return Ok(());
+        }
+        let left = behind_front(self.front, text);
+        if left.is_empty() {
+            return Ok(());
+        }
+        self.front = Front::Nothing;
+        self.html.write_text(left)
+    }
+}
+
+impl<'a, P: Policy, Wr: Write + Drop> Serializer for Cleaner<'a, P, Wr> {
+    ghost use Rattle.h5_clean.specs.Calls.{State, after_call, answer_of, text_of};
+
+    ghost Meaning = { State };
+
+    ghost meaning = { λ cleaner. record { rules = P.rules cleaner.policy.now; elements = cleaner.elements; front = cleaner.front; standing = cleaner.html.standing } };
+
+    ghost contents = { λ cleaner. cleaner.html.contents };
+
+    ghost answer = { answer_of };
+
+    ghost after = { after_call };
+
+    ghost writes = { text_of };
+
+    ghost breaks = { λ before text call fault after written. Unit {0} };
+
+    fn start_elem<T: AttrRef, I: Iterator<Item = T> + Drop>(
+        &mut self,
+        name: QualName,
+        attrs: I,
+    ) -> Result<(), SerializeFault> {
+        let place = self.place();
+        let kind = kind_of(name.local.as_str());
+        if !self.lets(&name, place, kind) {
+            let place = self.place_without(&name, place);
+            self.elements.push(OpenElement {
+                is_written: false,
+                place,
+            })?;
+            return Ok(());
+        }
+        let left = attributes_left(self.alloc, self.policy, name.local.as_str(), attrs)?;
+        self.elements.push(OpenElement {
+            is_written: true,
+            place: place.inside(kind),
+        })?;
+        self.front = front_inside(kind);
+        starts_have_the_attributes_of_their_slice::<HtmlSerializer<Wr>>();
+        self.html.start_elem(name, left.iter())
+    }
+
+    fn end_elem(&mut self, name: QualName) -> Result<(), SerializeFault> {
+        let is_written = match self.elements.last() {
+            Some(open) => open.is_written,
+            None => false,
+        };
+        self.elements.pop();
+        if !is_written {
+            return Ok(());
+        }
+        self.front = Front::Nothing;
+        self.html.end_elem(name)
+    }
+
+    fn write_text(&mut self, text: &str) -> Result<(), SerializeFault> {
+        if is_readable(text) {
+            return self.write_readable(text);
+        }
+        let text = readable(self.alloc, text)?;
+        self.write_readable(text.as_str())
+    }
+
+    fn write_comment(&mut self, _text: &str) -> Result<(), SerializeFault> {
+        Ok(())
+    }
+
+    fn write_doctype(&mut self, _name: &str) -> Result<(), SerializeFault> {
+        Ok(())
+    }
+
+    fn write_processing_instruction(
+        &mut self,
+        _target: &str,
+        _content: &str,
+    ) -> Result<(), SerializeFault> {
+        Ok(())
+    }
+}

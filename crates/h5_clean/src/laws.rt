@@ -1,0 +1,112 @@
+//! The laws of cleaning, each the contract of a function that does nothing.
+ghost use Rattle.std.specs.Prelude.{◌≡◌, ℕ, Bool, false, true, List, []};
+ghost use Rattle.std.specs.Str.{is_utf8};
+ghost use Rattle.h5_names.specs.AttributeText.{AttributeText};
+ghost use Rattle.h5_names.specs.declared.qualified.QualName.{QualName};
+ghost use Rattle.h5_interface.specs.Seen.{Seen};
+ghost use Rattle.h5_interface.specs.SinkChoices.{SinkChoices};
+ghost use Rattle.h5_plain.specs.Rebuilding.{HoldsDocument};
+ghost use Rattle.h5_driver.specs.Options.{default_options};
+ghost use Rattle.h5_driver.specs.PlainFragments.{FragmentStands, IsBodyContext};
+ghost use Rattle.h5_driver.specs.StandardTexts.{ParsesFragment};
+ghost use Rattle.h5_clean.specs.Cleaned.{BuildsFragment, IsClean, IsCleaned};
+ghost use Rattle.h5_standard.specs.Mark.{behind_mark};
+ghost use Rattle.h5_serialize.specs.Walk.{text_of_each};
+ghost use Rattle.h5_plain.specs.Plain.{ArePlain, Flow, IsPlain, Nodes, nothing_open};
+ghost use Rattle.h5_round_trip.specs.Readable.{AreReadable, CanBeRead, IsReadable};
+ghost use Rattle.h5_round_trip.specs.Written.{written_before};
+ghost use Rattle.h5_clean.specs.Calls.{after_call, first_state, text_of};
+ghost use Rattle.h5_clean.specs.Pass.{AllLet, IsWithin, cleaned, with_first};
+ghost use Rattle.h5_clean.specs.Policies.{Rules, attributes_left};
+ghost use Rattle.h5_clean.specs.Source.{Source, calls_before, source_of};
+ghost use Rattle.h5_clean.specs.Texts.{readable, without_marks};
+
+use h5_arena::laws::calls_stand_around_those_of_children;
+use h5_driver::laws::fragments_come_back;
+
+/// What is left of a text is read as it was written, and all is left of a text that is read so.
+pub fn what_is_left_of_a_text_can_be_read()
+    ensures left { (text : List ℕ) → is_utf8 text ≡ true → IsReadable (readable text) }
+    ensures same { (text : List ℕ) → IsReadable text → readable text ≡ text }
+{}
+
+/// The attributes that are left have no namespace, each name once, and are read as they were written; and all are left of them.
+pub fn what_is_left_of_attributes_can_be_read()
+    ensures plain { (rules : Rules) (element : List ℕ) (attrs : List AttributeText) → ArePlain (attributes_left rules element attrs) }
+    ensures readable { (rules : Rules) (element : List ℕ) (attrs : List AttributeText) → AreReadable (attributes_left rules element attrs) }
+    ensures again { (rules : Rules) (element : List ℕ) (attrs : List AttributeText) →
+        attributes_left rules element (attributes_left rules element attrs) ≡ attributes_left rules element attrs }
+{}
+
+/// What is left of a tree is a plain fragment that can be read, of which the rules let all through.
+pub fn what_is_left_fits()
+    ensures plain { (rules : Rules) (source : Source) → IsPlain true (Flow false nothing_open) (cleaned rules source) }
+    ensures readable { (rules : Rules) (source : Source) → CanBeRead (cleaned rules source) }
+    ensures allowed { (rules : Rules) (source : Source) → AllLet rules (cleaned rules source) × IsWithin rules.depth (cleaned rules source) }
+    ensures unmarked { (rules : Rules) (source : Source) → with_first without_marks (cleaned rules source) ≡ cleaned rules source }
+{}
+
+/// Of a plain fragment that can be read, that doesn't begin with U+FEFF, and of which the rules let all through, all is left.
+pub fn what_fits_is_left()
+    ensures { (rules : Rules) (nodes : Nodes) → IsPlain true (Flow false nothing_open) nodes → CanBeRead nodes
+        → AllLet rules nodes → IsWithin rules.depth nodes → with_first without_marks nodes ≡ nodes
+        → cleaned rules (source_of nodes) ≡ nodes }
+{}
+
+/// So to clean again what was left takes nothing more.
+pub fn cleaning_again_takes_nothing()
+    ensures { (rules : Rules) (source : Source) → cleaned rules (source_of (cleaned rules source)) ≡ cleaned rules source }
+{
+    what_is_left_fits();
+    what_fits_is_left();
+}
+
+/// What a cleaner writes for the calls of a tree is the text of what is left of it.
+pub fn what_is_left_is_written()
+    ensures { (rules : Rules) (source : Source) → text_of_each after_call text_of (first_state rules) (calls_before source [])
+        ≡ written_before (cleaned rules source) [] }
+{}
+
+/// Calls tell of one tree.
+pub fn calls_tell_of_one_tree()
+    ensures { (one other : Source) → calls_before one [] ≡ calls_before other [] → one ≡ other }
+{}
+
+/// The text of a plain fragment whose first text doesn't begin with U+FEFF doesn't begin with it.
+pub fn texts_of_fragments_are_unmarked()
+    ensures { (nodes : Nodes) → IsPlain true (Flow false nothing_open) nodes → CanBeRead nodes → with_first without_marks nodes ≡ nodes
+        → behind_mark true (written_before nodes []) ≡ written_before nodes [] }
+{}
+
+/// What is left of a text is one text.
+pub fn what_is_left_of_a_text_is_one_text()
+    ensures { (rules : Rules) (html x y : List ℕ) → IsCleaned rules html x → IsCleaned rules html y → x ≡ y }
+{}
+
+/// What is left of a text is read as what was let through. Whatever parser of fragments over the standard reader takes it, in the
+/// context of an element by which the mode is "in body", and in whatever pieces (`h5_driver::laws::pieces_then_finish`), builds exactly
+/// what the rules let through of the tree of the text.
+pub fn what_is_left_comes_back()
+    ensures { (rules : Rules) (html out : List ℕ) (cleaned_is : IsCleaned rules html out)
+        (choices : SinkChoices) (seen told : Seen) (name : QualName) (attrs : List AttributeText) (allows_scripting : Bool) →
+        HoldsDocument seen.forest → IsBodyContext name → ParsesFragment choices seen default_options name attrs allows_scripting out told
+        → FragmentStands told.forest (cleaned rules cleaned_is.source) }
+{
+    fragments_come_back();
+}
+
+/// A cleaned text stays.
+pub fn a_cleaned_text_stays()
+    ensures { (rules : Rules) (html out again : List ℕ) → IsCleaned rules html out → IsCleaned rules out again → again ≡ out }
+{
+    calls_stand_around_those_of_children();
+    fragments_come_back();
+}
+
+/// Of a text that is read as a fragment of which nothing is to be taken, all is left.
+pub fn a_clean_text_stays()
+    ensures { (rules : Rules) (html out : List ℕ) (nodes : Nodes) → IsClean rules nodes → BuildsFragment html nodes
+        → IsCleaned rules html out → out ≡ written_before nodes [] }
+{
+    calls_stand_around_those_of_children();
+}

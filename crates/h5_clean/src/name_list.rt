@@ -1,0 +1,110 @@
+//! Lists of names.
+ghost use Rattle.std.specs.Prelude.{◌≡◌, ◌∷◌, ◌++◌, [], OnOk, OnErr, IfOk, map, string_bytes};
+ghost use Rattle.std.specs.List.{list_any};
+ghost use Rattle.h5_names.specs.AttributeText.{is_same_text};
+ghost use Rattle.h5_tables.specs.TagSets.{is_one_of};
+ghost use Rattle.h5_clean.specs.AllowLists.{is_listed_for};
+ghost use Rattle.h5_clean.specs.TextPolicy.{keeping};
+
+use std::alloc::{AllocError, Global};
+use std::marker::Model;
+
+// Whether a name is among these.
+fn is_among(names: &[String], name: &str) -> bool
+    ensures { result ≡ list_any (λ other. is_same_text (string_bytes other) name.now) names.now }
+{
+    names.iter().any(|other| other.as_str() == name)
+}
+
+/// Names, in the order in which they came.
+#[derive(Debug, Drop)]
+pub struct NameList {
+    names: Vec<String>,
+}
+
+impl Model for NameList {
+    ghost use Rattle.std.specs.Prelude.{List, ℕ, map, string_bytes};
+
+    ghost Value = { List (List ℕ) };
+
+    ghost view = { λ list. map string_bytes list.names.items };
+}
+
+impl NameList {
+    /// None.
+    pub fn new(alloc: Global) -> NameList
+        ensures { result ≡ [] }
+    {
+        NameList {
+            names: Vec::new(alloc),
+        }
+    }
+
+    /// One more, behind the others. Where memory is refused nothing changes.
+    pub fn push(&mut self, alloc: Global, name: &str) -> Result<(), AllocError>
+        ensures ok { OnOk result (self.new ≡ self.old ++ name.now ∷ []) }
+        ensures err { OnErr result (self.new ≡ self.old) }
+    {
+        let text = String::from_str(alloc, name)?;
+        self.names.push(text)?;
+        Ok(())
+    }
+
+    /// Whether a name is among them.
+    pub fn has(&self, name: &str) -> bool
+        ensures { result ≡ is_one_of self.now name.now }
+    {
+        is_among(self.names.as_slice(), name)
+    }
+
+    /// All of them.
+    pub fn as_slice(&self) -> &[String]
+        ensures { map string_bytes result.now ≡ self.now }
+    {
+        self.names.as_slice()
+    }
+}
+
+/// The attributes that the elements of a name keep.
+#[derive(Debug, Drop)]
+pub struct AttributeList {
+    element: String,
+    attributes: NameList,
+}
+
+impl Model for AttributeList {
+    ghost use Rattle.std.specs.Prelude.{string_bytes};
+    ghost use Rattle.h5_clean.specs.TextPolicy.{Keeping};
+
+    ghost Value = { Keeping };
+
+    ghost view = { λ list. record { element = string_bytes list.element; attributes = list.attributes } };
+}
+
+impl AttributeList {
+    /// One attribute of an element, or an `AllocError` where memory is refused.
+    pub fn of_one(alloc: Global, element: &str, name: &str) -> Result<AttributeList, AllocError>
+        ensures { IfOk result (λ list. list ≡ keeping element.now (name.now ∷ [])) }
+    {
+        let mut list = AttributeList {
+            element: String::from_str(alloc, element)?,
+            attributes: NameList::new(alloc),
+        };
+        list.attributes.push(alloc, name)?;
+        Ok(list)
+    }
+
+    /// Whether this element keeps this attribute by it.
+    pub fn keeps(&self, element: &str, attribute: &str) -> bool
+        ensures { result ≡ is_listed_for element.now attribute.now self.now }
+    {
+        self.element.as_str() == element && self.attributes.has(attribute)
+    }
+}
+
+/// Whether an element keeps an attribute by one of these.
+pub fn any_keeps(lists: &[AttributeList], element: &str, attribute: &str) -> bool
+    ensures { result ≡ list_any (is_listed_for element.now attribute.now) lists.now }
+{
+    lists.iter().any(|list| list.keeps(element, attribute))
+}

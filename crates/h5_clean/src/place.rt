@@ -1,0 +1,173 @@
+//! Where nodes may stand.
+ghost use Rattle.std.specs.Prelude.{◌≡◌, false};
+ghost use Rattle.h5_clean.specs.Places.{fits, fits_at, fits_in_flow, inside, nowhere};
+ghost use Rattle.h5_clean.specs.Places as places;
+
+use super::kind::Kind;
+
+/// In flow, directly in a table or a part of one, or where nothing may stand.
+#[derive(Clone, Copy, Debug, PartialEq, Eq)]
+pub enum Spot {
+    /// In a body, a block, a cell, a phrase: wherever text may stand.
+    InFlow,
+    /// In a `table`.
+    InTable,
+    /// In a `colgroup`.
+    InColumns,
+    /// In a `tbody`, `tfoot` or `thead`.
+    InSection,
+    /// In a `tr`.
+    InRow,
+    /// In what is dropped with all that it holds, and in an element that holds nothing.
+    Nowhere,
+}
+
+/// A spot, what is open there of what the rules of "in body" ask, and how many elements deeper it may go.
+#[derive(Clone, Copy, Debug, PartialEq, Eq)]
+pub struct Place {
+    pub spot: Spot,
+    /// A `p` is open.
+    pub in_p: bool,
+    /// The parent is a heading.
+    pub in_heading: bool,
+    /// An `li` is open that no other element hides.
+    pub in_item: bool,
+    /// A `dd` or `dt` is open that no other element hides.
+    pub in_description: bool,
+    /// An `a` is open.
+    pub in_link: bool,
+    pub room: usize,
+}
+
+impl Place {
+    /// In flow, where nothing is open.
+    pub fn in_flow(room: usize) -> Place
+        ensures { result ≡ record { spot = Spot.InFlow; in_p = false; in_heading = false; in_item = false; in_description = false; in_link = false; room = room } }
+    {
+        Place {
+            spot: Spot::InFlow,
+            in_p: false,
+            in_heading: false,
+            in_item: false,
+            in_description: false,
+            in_link: false,
+            room,
+        }
+    }
+
+    fn fits_in_flow(&self, kind: Kind) -> bool
+        ensures { result ≡ fits_in_flow kind self.now }
+    {
+        match kind {
+            Kind::Division
+            | Kind::Barrier
+            | Kind::Preformatted
+            | Kind::Paragraph
+            | Kind::Ruled
+            | Kind::Table => !self.in_p,
+            Kind::Heading => !self.in_p && !self.in_heading,
+            Kind::Item => !self.in_p && !self.in_item,
+            Kind::Describing => !self.in_p && !self.in_description,
+            Kind::Break | Kind::Formatted | Kind::Phrase => true,
+            Kind::Link => !self.in_link,
+            Kind::Caption
+            | Kind::ColumnGroup
+            | Kind::Column
+            | Kind::Section
+            | Kind::TableRow
+            | Kind::Cell
+            | Kind::Unknown => false,
+        }
+    }
+
+    fn fits_at(&self, kind: Kind) -> bool
+        ensures { result ≡ fits_at self.now.spot kind self.now }
+    {
+        match self.spot {
+            Spot::InFlow => self.fits_in_flow(kind),
+            Spot::InTable => matches!(kind, Kind::Caption | Kind::ColumnGroup | Kind::Section),
+            Spot::InColumns => matches!(kind, Kind::Column),
+            Spot::InSection => matches!(kind, Kind::TableRow),
+            Spot::InRow => matches!(kind, Kind::Cell),
+            Spot::Nowhere => false,
+        }
+    }
+
+    /// Whether an element of this kind may begin here.
+    pub fn fits(&self, kind: Kind) -> bool
+        ensures { result ≡ fits kind self.now }
+    {
+        self.room > 0 && self.fits_at(kind)
+    }
+
+    // One element deeper, at this spot.
+    fn directly(&self, spot: Spot) -> Place
+        ensures { result ≡ places.directly spot self.now }
+    {
+        let mut place = *self;
+        place.spot = spot;
+        place.room = self.room.saturating_sub(1);
+        place
+    }
+
+    // Where nothing of what is around is seen.
+    fn alone(&self) -> Place
+        ensures { result ≡ places.alone self.now }
+    {
+        Place::in_flow(self.room.saturating_sub(1))
+    }
+
+    // Inside of an element through which an item is seen.
+    fn within(&self) -> Place
+        ensures { result ≡ places.within self.now }
+    {
+        let mut place = self.directly(Spot::InFlow);
+        place.in_heading = false;
+        place
+    }
+
+    // Inside of one that hides it.
+    fn behind(&self) -> Place
+        ensures { result ≡ places.behind self.now }
+    {
+        let mut place = self.within();
+        place.in_item = false;
+        place.in_description = false;
+        place
+    }
+
+    /// Where nothing may stand.
+    pub fn nowhere(&self) -> Place
+        ensures { result ≡ nowhere self.now }
+    {
+        self.directly(Spot::Nowhere)
+    }
+
+    /// Where that stands what an element of this kind holds.
+    pub fn inside(&self, kind: Kind) -> Place
+        ensures { result ≡ inside kind self.now }
+    {
+        let mut place = match kind {
+            Kind::Division | Kind::Paragraph | Kind::Formatted | Kind::Phrase | Kind::Link => {
+                self.within()
+            }
+            Kind::Barrier | Kind::Preformatted | Kind::Heading | Kind::Item | Kind::Describing =>
+                self.behind(),
+            Kind::Caption | Kind::Cell => self.alone(),
+            Kind::Table => self.directly(Spot::InTable),
+            Kind::ColumnGroup => self.directly(Spot::InColumns),
+            Kind::Section => self.directly(Spot::InSection),
+            Kind::TableRow => self.directly(Spot::InRow),
+            Kind::Ruled | Kind::Break | Kind::Column | Kind::Unknown => self.nowhere(),
+        };
+        match kind {
+            Kind::Paragraph => place.in_p = true,
+            Kind::Heading => place.in_heading = true,
+            Kind::Item => place.in_item = true,
+            Kind::Describing => place.in_description = true,
+            Kind::Link => place.in_link = true,
+            _ => {}
+        }
+        place
+    }
+}

@@ -1,0 +1,135 @@
+//! The schemes of URLs, as browsers read them (URL standard, section 4.4).
+ghost use Rattle.std.specs.Prelude.{◌≡◌, ◌++◌, List, Some, [], is_some, map, string_bytes, ℕ};
+ghost use Rattle.std.specs.List.{list_any};
+ghost use Rattle.std.specs.Option.{option_eq};
+ghost use Rattle.h5_names.specs.AttributeText.{is_same_text};
+ghost use Rattle.h5_clean.specs.AllowLists.{leads_well};
+ghost use Rattle.h5_clean.specs.TextPolicy.{behind_controls, has_scheme_of, image_schemes, is_scheme_byte, is_skipped, link_schemes, scheme_behind, scheme_of, scheme_of_visible};
+
+// Whether a byte of a URL doesn't count: TAB, LF and CR.
+fn is_skipped(byte: u8) -> bool
+    ensures { result ≡ is_skipped byte }
+{
+    byte == b'\t' || byte == b'\n' || byte == b'\r'
+}
+
+// Whether a byte may stand in a scheme.
+fn is_scheme_byte(byte: u8) -> bool
+    ensures { result ≡ is_scheme_byte byte }
+{
+    byte.is_ascii_alphabetic()
+        || byte.is_ascii_digit()
+        || byte == b'+'
+        || byte == b'-'
+        || byte == b'.'
+}
+
+// What stands behind the controls and spaces at the front.
+fn behind_controls(mut url: &[u8]) -> &[u8]
+    ensures { result.now ≡ behind_controls url.entry.now }
+{
+    while let [first, rest @ ..] = url
+        && *first <= b' '
+    {
+        url = rest;
+    }
+    url
+}
+
+// Whether bytes that may stand in a scheme lead to a ':'.
+fn has_end(mut url: &[u8]) -> bool
+    ensures { (read : List ℕ) → result ≡ is_some (scheme_behind read url.entry.now) }
+{
+    while let [first, rest @ ..] = url {
+        if !is_skipped(*first) {
+            if *first == b':' {
+                return true;
+            }
+            if !is_scheme_byte(*first) {
+                return false;
+            }
+        }
+        url = rest;
+    }
+    false
+}
+
+// Whether a URL without controls at its front has a scheme.
+fn has_scheme(mut url: &[u8]) -> bool
+    ensures { result ≡ is_some (scheme_of_visible url.entry.now) }
+{
+    while let [first, rest @ ..] = url {
+        if !is_skipped(*first) {
+            return first.is_ascii_alphabetic() && has_end(rest);
+        }
+        url = rest;
+    }
+    false
+}
+
+// Whether the bytes up to ':' spell a name in lower case.
+fn spells(mut url: &[u8], mut name: &[u8]) -> bool
+    ensures { (read : List ℕ) → result ≡ option_eq is_same_text (Some (read ++ name.entry.now)) (scheme_behind read url.entry.now) }
+{
+    while let [first, rest @ ..] = url {
+        if !is_skipped(*first) {
+            if *first == b':' {
+                return name.is_empty();
+            }
+            let [wanted, behind @ ..] = name else {
+                return false;
+            };
+            if !is_scheme_byte(*first) || *wanted != first.to_ascii_lowercase() {
+                return false;
+            }
+            name = behind;
+        }
+        url = rest;
+    }
+    false
+}
+
+// Whether a URL without controls at its front is relative, or has the scheme `http` or `https`.
+fn is_web(url: &[u8]) -> bool
+    ensures { result ≡ has_scheme_of image_schemes (scheme_of_visible url.now) }
+{
+    if has_scheme(url) {
+        spells(url, b"http") || spells(url, b"https")
+    } else {
+        true
+    }
+}
+
+/// Whether a link may lead there: the URL is relative, or its scheme is `http`, `https` or `mailto`.
+pub fn is_link(url: &str) -> bool
+    ensures { result ≡ has_scheme_of link_schemes (scheme_of url.now) }
+{
+    let visible = behind_controls(url.as_bytes());
+    is_web(visible) || spells(visible, b"mailto")
+}
+
+/// Whether an image may be had there: the URL is relative, or its scheme is `http` or `https`.
+pub fn is_image(url: &str) -> bool
+    ensures { result ≡ has_scheme_of image_schemes (scheme_of url.now) }
+{
+    is_web(behind_controls(url.as_bytes()))
+}
+
+// Whether the bytes up to ':' spell one of these names in lower case.
+fn spells_one(url: &[u8], names: &[String]) -> bool
+    ensures { result ≡ list_any (λ name. option_eq is_same_text (Some (string_bytes name)) (scheme_behind [] url.now)) names.now }
+{
+    names.iter().any(|name| spells(url, name.as_bytes()))
+}
+
+/// Whether the URL has one of these schemes, or has none, where it may be relative.
+pub fn leads_well(url: &str, relative: bool, schemes: &[String]) -> bool
+    ensures { result ≡ leads_well relative (map string_bytes schemes.now) (scheme_of url.now) }
+{
+    let visible = behind_controls(url.as_bytes());
+    if has_scheme(visible) {
+        spells_one(visible, schemes)
+    } else {
+        relative
+    }
+}

@@ -1,0 +1,251 @@
+-- The text of a plain fragment, taken by a parser over the standard reader.
+use Rattle.std.proofs.Common.{◌≡◌, ◌≢◌, ℕ, Bool, cond, true, false, List, [], ◌∷◌, ◌++◌, map, refl, sym, ap, ◌∙◌, subst, Option, Some, None, codes}
+use Rattle.std.specs.Option.{option_and_then, option_map, option_map_or}
+use Rattle.h5_names.specs.AttributeText.{AttributeText}
+use Rattle.h5_names.specs.declared.qualified.QualName.{QualName}
+use Rattle.h5_token.specs.Joins.{join}
+use Rattle.h5_token.specs.Reply.{Continues, Refuses, Reply}
+use Rattle.h5_token.specs.TokenText.{Characters, EndOfFile, TokenText}
+use Rattle.h5_token.specs.declared.fault.BuildFault.{BuildFault}
+use Rattle.h5_token.specs.declared.fault.BuildFault.TheVariants.{AfterEnd, Failed, NotInText}
+use Rattle.h5_token.specs.declared.states.State.{State}
+use Rattle.h5_interface.specs.Changes.{mark}
+use Rattle.h5_interface.specs.Forest.{ChildNode, DocumentNode, ElementNode, Forest, IsElement, IsForest, IsNode, Kind, Marks, Node, Child, children_of, kind_of}
+use Rattle.h5_interface.specs.NewElement.{flags_of}
+use Rattle.h5_interface.specs.Seen.{Seen, after_create_element, element, make, with_contents}
+use Rattle.h5_interface.specs.SinkChoices.{Rearranges, SinkChoices}
+use Rattle.h5_interface.specs.declared.marks.ElementFlags.{ElementFlags}
+use Rattle.h5_interface.proofs.ForestLaws.{document_is_node}
+use Rattle.h5_interface.proofs.MakingLaws.{made_kind, make_element_rearranges}
+use Rattle.h5_reading.specs.Options as reading
+use Rattle.h5_tables.specs.Options as types
+use Rattle.h5_tables.specs.declared.modes.InsertionMode.TheVariants.{InBody}
+use Rattle.h5_rules.specs.Changes.{create_root, pop}
+use Rattle.h5_rules.specs.Run as r
+use Rattle.h5_rules.specs.Run.{IsFitting, View, after_all, refusal, step, taken, tell_or_refuse, without_lf}
+use Rattle.h5_rules.specs.Sound.{Fitting, Sound, situation_of}
+use Rattle.h5_rules.specs.World.{World, current, name_in, name_of_found}
+use Rattle.h5_rules.specs.fitting.Reset.{reset_mode}
+use Rattle.h5_rules.specs.fitting.ResetByRoles.{reset}
+use Rattle.h5_rules.specs.fitting.Roles.{role_of, roles}
+use Rattle.h5_rules.specs.fitting.SituationChanges.{start_of}
+use Rattle.h5_rules.specs.formatting.FormattingNames.{html_name}
+use Rattle.h5_rules.proofs.roles.RoleLaws.{local_html, role_made}
+use Rattle.h5_laws.proofs.cuts.RunLaws.{step_reply, takes_text}
+use Rattle.h5_states.specs.ReferenceTable.{references}
+use Rattle.h5_states.specs.Whole.{ReadsToEnd}
+use Rattle.h5_standard.specs.Options.{first_place}
+use Rattle.h5_standard.specs.ReaderText.{ReaderText}
+use Rattle.h5_plain.specs.Plain.{Nodes, tokens_before}
+use Rattle.h5_plain.specs.Rebuilding.{ChangesOne, HoldsDocument, IsFragmentStart, Looks, Stands}
+use Rattle.h5_plain.proofs.FragmentLaws.{rebuilds_fragments}
+use Rattle.h5_plain.proofs.GrowthLaws.{Below, element_below, html, kinds_apart}
+use Rattle.h5_plain.proofs.LooksLaws.{apart_from, looks_marked, looks_node, unlike}
+use Rattle.h5_round_trip.specs.Fragment.{AnswersCuts}
+use Rattle.h5_round_trip.specs.Written.{written_before}
+use Rattle.h5_round_trip.proofs.JoinedLaws.{fragment_joined}
+use Rattle.h5_round_trip.proofs.ShapeLaws.{shape}
+use Rattle.h5_round_trip.proofs.standard.ReadingLaws.{fragment_read}
+use Rattle.h5_tree_builder.specs.Builder.{pop_each}
+use Rattle.h5_tree_builder.specs.Fragment.{context_modes, fragment_world, rooted_world, state_in_context}
+use Rattle.h5_tree_builder.proofs.FragmentLaws.{fragment_fits, rooted_names, rooted_situation, rooted_steady}
+use Rattle.h5_driver.specs.Fragments.{first_in_new, opts_in_context}
+use Rattle.h5_driver.specs.PlainFragments.{FragmentStands, FragmentsComeBack, IsBodyContext, IsFragmentText}
+use Rattle.h5_driver.specs.Reading.{Parses}
+use Rattle.h5_driver.specs.StandardReader.{Reads, first}
+use Rattle.h5_driver.specs.WholeTexts.{ParsesFragmentBy}
+use Rattle.h5_driver.specs.Working.{after, ended, foreign, replies}
+use Rattle.h5_driver.proofs.PlainLaws.{answers_by, same_children, sound_after, sound_popped, stand_marked}
+
+-- ---- where a text is taken, a part of it is
+
+abbrev of_text : View → Option BuildFault
+of_text v = cond v.failed (Some Failed) (cond v.ended (Some AfterEnd) None)
+
+refusal_of : (v : View) (t : List ℕ) → refusal v (Characters t) ≡ of_text v
+refusal_of v t = ap (λ b. cond v.failed (Some Failed) (cond v.ended (Some AfterEnd) (cond b (Some NotInText) None))) (takes_text v.world.mode t)
+
+abbrev text_answer : Option BuildFault → Reply
+text_answer None = Continues
+text_answer (Some fault) = Refuses fault
+
+answer_of : (choices : SinkChoices) (v : View) (t : List ℕ) → replies choices v (Characters t) ≡ text_answer (of_text v)
+unfolding step
+answer_of choices v t = at (refusal v (Characters t)) ∙ ap text_answer (refusal_of v t)
+  where
+    at : (o : Option BuildFault) → (tell_or_refuse choices (Characters t) o v).reply ≡ text_answer o
+    at (Some f) = refl
+    at None = step_reply choices (without_lf v.world.ignore_lf t) (taken v.world)
+
+cuts : (choices : SinkChoices) → AnswersCuts (replies choices)
+cuts choices v b t u h = answer_of choices v (b ∷ t) ∙ sym (answer_of choices v ((b ∷ t) ++ u)) ∙ h
+
+-- ---- the builder of a fragment that took nothing yet
+
+-- a node that is what it was
+looks_same : (f g : Forest) (n : ℕ) (k : Kind) (a : List AttributeText) (cs : List Child) → g.node n ≡ f.node n → Looks f n k a cs → Looks g n k a cs
+looks_same f g n k a cs e l = record {
+  is_kind = ap (option_map (λ (d : Node). d.kind)) e ∙ l.is_kind;
+  has_attrs = ap (λ o. option_map_or (λ (d : Node). d.attrs) o []) e ∙ l.has_attrs;
+  has_children = ap (λ o. option_map_or (λ (d : Node). d.children) o []) e ∙ l.has_children;
+  no_contents = ap (option_and_then (λ (d : Node). d.contents)) e ∙ l.no_contents;
+}
+
+module _ (choices : SinkChoices) (seen : Seen) (name : QualName) (attrs : List AttributeText) (holds : HoldsDocument seen.forest) (b : IsBodyContext name) where
+  abbrev flags : ElementFlags
+  flags = flags_of name attrs false
+
+  -- the context was made
+  abbrev made : Seen
+  made = after_create_element choices name attrs flags seen
+
+  abbrev context : ℕ
+  context = choices.fresh seen.forest
+
+  rearranged : Rearranges seen.forest made.forest
+  rearranged = make_element_rearranges choices seen.forest name attrs flags holds.is_forest
+
+  context_kind : kind_of made.forest context ≡ Some (ElementNode name)
+  context_kind = made_kind choices seen.forest name attrs flags holds.is_forest
+
+  context_name : name_in made.forest context ≡ name
+  context_name = ap name_of_found context_kind
+
+  is_element : IsElement made.forest context
+  is_element = (name, context_kind)
+
+  made_plain : made.forest ≡ make choices (element name attrs flags) seen.forest
+  made_plain = ap (λ t. with_contents t choices (choices.fresh seen.forest) (make choices (element name attrs flags) seen.forest)) b.no_template
+
+  document_made : Looks made.forest made.forest.document DocumentNode [] []
+  document_made =
+      subst (λ (g : Forest). Looks g g.document DocumentNode [] []) (sym made_plain)
+      (looks_same seen.forest (make choices (element name attrs flags) seen.forest) seen.forest.document DocumentNode [] []
+      (ap (λ c. cond c (Some (element name attrs flags)) (seen.forest.node seen.forest.document))
+      (unlike seen.forest.document context (apart_from seen.forest context seen.forest.document (choices.fresh_is_new seen.forest holds.is_forest) (document_is_node seen.forest holds.is_forest))))
+      holds.document)
+
+  no_form : (n : ℕ) → ◌≡◌ {A = Option ℕ} None (Some n) → IsElement made.forest n
+  no_form n e = absurd (cc)
+
+  -- the root was made
+  abbrev begun : World
+  begun = fragment_world choices made context None types.default_options
+
+  below : Below choices made.forest made.forest.document html []
+  below = element_below choices made.forest made.forest.document html [] rearranged.is_forest (looks_node made.forest made.forest.document DocumentNode [] [] document_made) refl
+
+  mode_is : reset_mode (rooted_world choices made context None types.default_options) ≡ InBody
+  unfolding reset_mode
+  mode_is =
+      (λ i. reset (rooted_situation made context None types.default_options rearranged.is_forest is_element no_form choices i) (roles (rooted_names made context None types.default_options rearranged.is_forest is_element no_form choices i)))
+      ∙ ap (λ n. reset (start_of (role_of n)) (roles (html ∷ []))) context_name
+      ∙ b.is_ordinary (start_of (role_of name))
+
+  begins : IsFragmentStart begun
+  unfolding create_root
+  begins = record {
+    root = choices.fresh made.forest;
+    is_forest = below.is_forest;
+    is_root = below.new;
+    mode = mode_is;
+    is_open = refl;
+    none_listed = refl;
+    ignore_lf = refl;
+    no_foster = refl;
+    no_pending = refl;
+    no_form = refl;
+    no_template_modes = ap (λ n. context_modes n) context_name ∙ b.no_modes;
+    context = context;
+    context_name = name;
+    in_context = refl;
+    is_context = below.same_kind context (element_is_there) ∙ context_kind;
+    of_html = b.of_html;
+    is_ordinary = b.is_ordinary;
+  }
+    where
+      element_is_there : IsNode made.forest context
+      element_is_there e = let h = ap (option_map (λ (d : Node). d.kind)) e in absurd (let k : ◌≡◌ {A = Option Kind} None (Some (ElementNode name)) = sym h ∙ context_kind in cc)
+
+  document_begun : Looks begun.forest begun.forest.document DocumentNode [] (ChildNode (choices.fresh made.forest) ∷ [])
+  unfolding create_root
+  document_begun = below.parent DocumentNode [] [] document_made
+
+  sound : Sound begun
+  sound = (rooted_steady made context None types.default_options rearranged.is_forest is_element no_form choices).sound
+
+  fitting : Fitting begun
+  fitting = record { sound = sound; fits = fragment_fits made context None types.default_options rearranged.is_forest is_element no_form choices }
+
+  -- its text is read as data
+  reads_data : (allows_scripting : Bool) → first (opts_in_context allows_scripting begun reading.default_options) ≡ first reading.default_options
+  unfolding create_root begins
+  reads_data allows_scripting =
+      ap (λ n. first (reading.beginning_in (state_in_context allows_scripting n) reading.default_options)) (ap name_of_found (begins.is_context))
+      ∙ ap (λ s. first (reading.beginning_in s reading.default_options)) (b.is_data allows_scripting)
+
+-- ---- and the end changes marks alone
+
+-- a root below which a fragment stands
+record RootStands (f : Forest) (root : ℕ) (nodes : Nodes) : Type 0 where
+  document : Looks f f.document DocumentNode [] (ChildNode root ∷ [])
+  is_root : Looks f root (ElementNode html) [] (children_of f root)
+  stands : Stands f (children_of f root) nodes
+
+root_marked : (f : Forest) (marks : ℕ → Marks) (root : ℕ) (nodes : Nodes) → RootStands f root nodes → RootStands (mark marks f) root nodes
+root_marked f marks root nodes s =
+    let same = sym (same_children f marks root) in
+    record {
+      document = looks_marked f f.document marks DocumentNode [] (ChildNode root ∷ []) s.document;
+      is_root = looks_marked f root marks (ElementNode html) [] (children_of (mark marks f) root) (subst (λ (cs : List Child). Looks f root (ElementNode html) [] cs) same s.is_root);
+      stands = subst (λ (cs : List Child). Stands (mark marks f) cs nodes) same (stand_marked f marks (children_of f root) nodes s.stands);
+    }
+
+root_popped : (choices : SinkChoices) (root : ℕ) (nodes : Nodes) (ns : List ℕ) (w : World) → RootStands w.forest root nodes → RootStands (pop_each choices ns w).forest root nodes
+unfolding pop
+root_popped choices root nodes [] w s = s
+root_popped choices root nodes (n ∷ ns) w s = root_popped choices root nodes ns (pop choices w) (root_marked w.forest (choices.marks_after_pop w.forest (current w)) root nodes s)
+
+module _ (choices : SinkChoices) (seen told : Seen) (name : QualName) (attrs : List AttributeText) (allows_scripting : Bool) (nodes : Nodes) (text : List ℕ)
+    (holds : HoldsDocument seen.forest) (b : IsBodyContext name) (t : IsFragmentText nodes text) where
+  abbrev start : View
+  start = record { world = begun choices seen name attrs holds b; ended = false; failed = false }
+
+  root_apart : (begun choices seen name attrs holds b).forest.document ≢ choices.fresh (made choices seen name attrs holds b).forest
+  unfolding begins
+  root_apart = kinds_apart (begun choices seen name attrs holds b).forest _ _ DocumentNode (ElementNode html) [] [] (ChildNode (choices.fresh (made choices seen name attrs holds b).forest) ∷ []) []
+      (document_begun choices seen name attrs holds b) (begins choices seen name attrs holds b).is_root (λ e. cc)
+
+  comes_back : Parses (Reads choices) choices (first reading.default_options) start text told → FragmentStands told.forest nodes
+  unfolding begins
+  comes_back parses =
+      let all = tokens_before nodes (EndOfFile ∷ []) in
+      let s = begins choices seen name attrs holds b in
+      let k = fitting choices seen name attrs holds b in
+      let joins = fragment_joined nodes (shape nodes t.plain) in
+      let whole = rebuilds_fragments choices all start nodes s t.plain k refl refl joins in
+      let read = fragment_read (replies choices) (after choices) foreign (ended choices) nodes start (shape nodes t.plain) t.readable (cuts choices) (answers_by choices all start whole.answers) in
+      let again = rebuilds_fragments choices read.tokens start nodes s t.plain k refl refl (read.joined ∙ joins) in
+      let w = (after_all choices read.tokens start).world in
+      let reads : Reads choices (first reading.default_options) start text read.tokens read.meaning =
+      subst (λ (xs : List ℕ). ReadsToEnd references (replies choices) (after choices) foreign (ended choices) (first_place reading.default_options) start xs read.tokens read.meaning) (sym (t.unmarked ∙ t.written)) read.reads in
+      let same = parses.any read.tokens read.meaning reads in
+      let document : Looks w.forest w.forest.document DocumentNode [] (ChildNode s.root ∷ []) =
+      subst (λ (d : ℕ). Looks w.forest d DocumentNode [] (ChildNode s.root ∷ [])) (sym again.changes.document)
+      (again.changes.others (begun choices seen name attrs holds b).forest.document DocumentNode [] (ChildNode s.root ∷ []) root_apart (document_begun choices seen name attrs holds b)) in
+      let end = root_popped choices s.root nodes w.stack w (record { document = document; is_root = again.is_root; stands = again.stands }) in
+      let final : told.forest ≡ (pop_each choices w.stack w).forest = same.1.0 ∙ ap (λ (u : View). u.world.forest) same.0 in
+      let first_fits : IsFitting start = record { fitting = λ f e. k } in
+      record {
+        is_forest = subst IsForest (sym final) (sound_popped choices w.stack w (sound_after choices read.tokens start first_fits refl refl)).stands.is_forest;
+        root = s.root;
+        document = (subst (λ (f : Forest). RootStands f s.root nodes) (sym final) end).document;
+        is_root = (subst (λ (f : Forest). RootStands f s.root nodes) (sym final) end).is_root;
+        stands = (subst (λ (f : Forest). RootStands f s.root nodes) (sym final) end).stands;
+      }
+
+pub fragments_stand : (choices : SinkChoices) → FragmentsComeBack choices
+unfolding ParsesFragmentBy first_in_new
+fragments_stand choices seen told name attrs allows_scripting nodes text holds b t parses =
+    comes_back choices seen told name attrs allows_scripting nodes text holds b t
+    (subst (λ (r : ReaderText). Parses (Reads choices) choices r (record { world = begun choices seen name attrs holds b; ended = false; failed = false }) text told) (reads_data choices seen name attrs holds b allows_scripting) parses)

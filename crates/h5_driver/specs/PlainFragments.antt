@@ -1,0 +1,53 @@
+-- What a parser over the standard reader makes of the text of a plain fragment.
+use Rattle.std.specs.Prelude.{◌≡◌, ℕ, Bool, true, false, List, [], ◌∷◌, codes}
+use Rattle.h5_names.specs.AttributeText.{AttributeText}
+use Rattle.h5_names.specs.declared.qualified.QualName.{QualName}
+use Rattle.h5_token.specs.declared.states.State.TheVariants.{Data}
+use Rattle.h5_interface.specs.Forest.{ChildNode, DocumentNode, ElementNode, Forest, IsForest, children_of}
+use Rattle.h5_interface.specs.NewElement.{is_html_template}
+use Rattle.h5_interface.specs.Seen.{Seen}
+use Rattle.h5_interface.specs.SinkChoices.{SinkChoices}
+use Rattle.h5_tables.specs.declared.modes.InsertionMode.TheVariants.{InBody}
+use Rattle.h5_rules.specs.fitting.Fits.{Situation}
+use Rattle.h5_rules.specs.fitting.NamesFit.{is_html_element}
+use Rattle.h5_rules.specs.fitting.ResetByRoles.{decide_root}
+use Rattle.h5_rules.specs.fitting.Roles.{role_of}
+use Rattle.h5_rules.specs.formatting.FormattingNames.{html_name}
+use Rattle.h5_standard.specs.Mark.{behind_mark}
+use Rattle.h5_tree_builder.specs.Fragment.{context_modes, state_in_context}
+use Rattle.h5_plain.specs.Plain.{Flow, IsPlain, Nodes, nothing_open}
+use Rattle.h5_plain.specs.Rebuilding.{HoldsDocument, Looks, Stands}
+use Rattle.h5_round_trip.specs.Readable.{CanBeRead}
+use Rattle.h5_round_trip.specs.Written.{written_before}
+use Rattle.h5_driver.specs.Options.{default_options}
+use Rattle.h5_driver.specs.StandardTexts.{ParsesFragment}
+
+-- the name of an element of HTML in whose context the mode is "in body", and text is data, as `div`, `body`, `span` and `li` are
+pub record IsBodyContext (name : QualName) : Type 0 where
+  pub of_html : is_html_element name ≡ true
+  pub is_ordinary : (s : Situation) → decide_root s (role_of name) ≡ InBody
+  pub is_data : (allows_scripting : Bool) → state_in_context allows_scripting name ≡ Data
+  pub no_template : is_html_template name ≡ false
+  pub no_modes : context_modes name ≡ []
+
+-- a fragment stands below the root, which is all that the document holds
+pub record FragmentStands (f : Forest) (nodes : Nodes) : Type 0 where
+  pub is_forest : IsForest f
+  pub root : ℕ
+  pub document : Looks f f.document DocumentNode [] (ChildNode root ∷ [])
+  pub is_root : Looks f root (ElementNode (html_name (codes "html"))) [] (children_of f root)
+  pub stands : Stands f (children_of f root) nodes
+
+-- the text of a fragment that can be read, and doesn't begin with U+FEFF
+pub record IsFragmentText (nodes : Nodes) (text : List ℕ) : Type 0 where
+  pub plain : IsPlain true (Flow false nothing_open) nodes
+  pub readable : CanBeRead nodes
+  pub written : text ≡ written_before nodes []
+  pub unmarked : behind_mark true text ≡ text
+
+-- so it is where a parser of fragments over a sink that holds its document alone takes such a text, in such a context
+abbrev pub FragmentsComeBack : SinkChoices → Type 0
+FragmentsComeBack choices =
+    (seen told : Seen) (name : QualName) (attrs : List AttributeText) (allows_scripting : Bool) (nodes : Nodes) (text : List ℕ)
+    → HoldsDocument seen.forest → IsBodyContext name → IsFragmentText nodes text
+    → ParsesFragment choices seen default_options name attrs allows_scripting text told → FragmentStands told.forest nodes

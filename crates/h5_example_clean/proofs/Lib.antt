@@ -1,2 +1,0 @@
-pub mod HandedLaws
-pub mod SafeLaws

@@ -1,4 +1,0 @@
-pub mod Calls
-pub mod Page
-pub mod Policy
-pub mod Safe

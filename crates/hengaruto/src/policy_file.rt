@@ -1,0 +1,263 @@
+//! A policy that stands in a file of TOML.
+use html_tree_builder::clean::{AllowList, Kind, kind_of};
+use std::alloc::{AllocError, Global};
+use std::fs;
+use std::io::{self, Write};
+use toml::{Table, Value};
+
+/// What is wrong with a file.
+#[derive(Debug, Drop)]
+pub enum PolicyFault {
+    /// It can't be read.
+    Read(io::Error),
+    /// It is no TOML; with the line where it isn't.
+    Toml(usize, toml::de::Error),
+    /// It is no policy, for this reason.
+    Wrong(String),
+    /// Memory was refused.
+    Memory,
+}
+
+impl From<AllocError> for PolicyFault {
+    fn from(_error: AllocError) -> PolicyFault {
+        PolicyFault::Memory
+    }
+}
+
+// The keys whose names are listed.
+#[derive(Clone, Copy)]
+enum NameKey {
+    Elements,
+    Dropped,
+    Attributes,
+    Schemes,
+}
+
+// The fault that a reason is, which takes memory to be told.
+fn wrong(reason: Result<String, AllocError>) -> PolicyFault {
+    match reason {
+        Ok(reason) => PolicyFault::Wrong(reason),
+        Err(_) => PolicyFault::Memory,
+    }
+}
+
+// That a key doesn't hold what it has to.
+fn mismatch(alloc: Global, key: &str, wanted: &str) -> PolicyFault {
+    wrong(format!(in alloc; "`{key}` must be {wanted}"))
+}
+
+// The line of a text, from 1, that a place stands in.
+fn line_at(text: &[u8], place: usize) -> usize {
+    let lines = text.iter().take(place).filter(|b| **b == b'\n').count();
+    lines.saturating_add(1)
+}
+
+// The fault that an error of the reader of TOML is.
+fn reader_fault(text: &[u8], error: toml::de::Error) -> PolicyFault {
+    match error.span() {
+        Some(span) => PolicyFault::Toml(line_at(text, span.start), error),
+        None => PolicyFault::Memory,
+    }
+}
+
+// The items of a list.
+fn items_of<'a>(alloc: Global, key: &str, value: &'a Value) -> Result<&'a [Value], PolicyFault> {
+    match value {
+        Value::Array(items) => Ok(items.as_slice()),
+        _ => Err(mismatch(alloc, key, "an array of strings")),
+    }
+}
+
+// A name, which is one in lower case.
+fn in_lower_case(alloc: Global, name: &str) -> Result<&str, PolicyFault> {
+    if name.bytes().any(|byte| byte.is_ascii_uppercase()) {
+        return Err(wrong(format!(in alloc; "\"{name}\" must be in lower case")));
+    }
+    Ok(name)
+}
+
+// The name that an item of a list is.
+fn name_of<'a>(alloc: Global, key: &str, item: &'a Value) -> Result<&'a str, PolicyFault> {
+    match item {
+        Value::String(name) => in_lower_case(alloc, name.as_str()),
+        _ => Err(mismatch(alloc, key, "an array of strings")),
+    }
+}
+
+// Refuses an element that has no kind.
+fn ask_for_kind(alloc: Global, name: &str) -> Result<(), PolicyFault> {
+    if kind_of(name) == Kind::Unknown {
+        return Err(wrong(format!(in alloc; "\"{name}\" can't be let through")));
+    }
+    Ok(())
+}
+
+// Lets an element through, if it has a kind.
+fn add_element(alloc: Global, policy: &mut AllowList, name: &str) -> Result<(), PolicyFault> {
+    ask_for_kind(alloc, name)?;
+    Ok(policy.add_element(name)?)
+}
+
+// Adds a name to what a key lists.
+fn add_name(
+    alloc: Global,
+    policy: &mut AllowList,
+    list: NameKey,
+    name: &str,
+) -> Result<(), PolicyFault> {
+    match list {
+        NameKey::Elements => add_element(alloc, policy, name),
+        NameKey::Dropped => Ok(policy.add_dropped(name)?),
+        NameKey::Attributes => Ok(policy.add_attribute(name)?),
+        NameKey::Schemes => Ok(policy.add_scheme(name)?),
+    }
+}
+
+// Adds the names of a key.
+fn add_names(
+    alloc: Global,
+    policy: &mut AllowList,
+    list: NameKey,
+    key: &str,
+    value: &Value,
+) -> Result<(), PolicyFault> {
+    for item in items_of(alloc, key, value)? {
+        add_name(alloc, policy, list, name_of(alloc, key, item)?)?;
+    }
+    Ok(())
+}
+
+// Adds the attributes of an element, which stand at this place of the file.
+fn add_attributes_at(
+    alloc: Global,
+    policy: &mut AllowList,
+    place: &str,
+    element: &str,
+    value: &Value,
+) -> Result<(), PolicyFault> {
+    for item in items_of(alloc, place, value)? {
+        policy.add_attribute_of(element, name_of(alloc, place, item)?)?;
+    }
+    Ok(())
+}
+
+// Adds the attributes of an element.
+fn add_attributes(
+    alloc: Global,
+    policy: &mut AllowList,
+    element: &str,
+    value: &Value,
+) -> Result<(), PolicyFault> {
+    ask_for_kind(alloc, element)?;
+    let place = format!(in alloc; "attributes-of.{element}")?;
+    add_attributes_at(alloc, policy, place.as_str(), element, value)
+}
+
+// Adds the attributes of each element of a table.
+fn add_attributes_of(
+    alloc: Global,
+    policy: &mut AllowList,
+    value: &Value,
+) -> Result<(), PolicyFault> {
+    let Value::Table(table) = value else {
+        return Err(mismatch(alloc, "attributes-of", "a table"));
+    };
+    for (element, attributes) in table {
+        add_attributes(alloc, policy, element.as_str(), attributes)?;
+    }
+    Ok(())
+}
+
+// Sets whether URLs may be relative.
+fn set_relative(alloc: Global, policy: &mut AllowList, value: &Value) -> Result<(), PolicyFault> {
+    match value {
+        Value::Boolean(true) => Ok(()),
+        Value::Boolean(false) => {
+            policy.refuse_relative();
+            Ok(())
+        }
+        _ => Err(mismatch(alloc, "relative", "true or false")),
+    }
+}
+
+// Sets the attribute `rel` of links.
+fn set_rel(alloc: Global, policy: &mut AllowList, value: &Value) -> Result<(), PolicyFault> {
+    match value {
+        Value::String(rel) => Ok(policy.set_rel(rel.as_str())?),
+        _ => Err(mismatch(alloc, "rel", "a string")),
+    }
+}
+
+// Sets how deep elements may be nested.
+fn set_depth(alloc: Global, policy: &mut AllowList, value: &Value) -> Result<(), PolicyFault> {
+    if let Value::Integer(depth) = value
+        && let Ok(depth) = u16::try_from(*depth)
+    {
+        policy.set_depth(usize::from(depth));
+        return Ok(());
+    }
+    Err(mismatch(alloc, "depth", "an integer from 0 to 65535"))
+}
+
+// Sets what a key says.
+fn set(alloc: Global, policy: &mut AllowList, key: &str, value: &Value) -> Result<(), PolicyFault> {
+    match key {
+        "elements" => add_names(alloc, policy, NameKey::Elements, key, value),
+        "dropped" => add_names(alloc, policy, NameKey::Dropped, key, value),
+        "attributes" => add_names(alloc, policy, NameKey::Attributes, key, value),
+        "schemes" => add_names(alloc, policy, NameKey::Schemes, key, value),
+        "attributes-of" => add_attributes_of(alloc, policy, value),
+        "relative" => set_relative(alloc, policy, value),
+        "rel" => set_rel(alloc, policy, value),
+        "depth" => set_depth(alloc, policy, value),
+        _ => Err(wrong(format!(in alloc; "`{key}` is no key of a policy"))),
+    }
+}
+
+// Sets what each key of a table says.
+fn set_each(alloc: Global, policy: &mut AllowList, table: &Table) -> Result<(), PolicyFault> {
+    for (key, value) in table {
+        set(alloc, policy, key.as_str(), value)?;
+    }
+    if table.contains_key("elements") {
+        Ok(())
+    } else {
+        Err(wrong(format!(in alloc; "`elements` is missing")))
+    }
+}
+
+// The policy that a table is.
+fn policy_by(alloc: Global, table: &Table) -> Result<AllowList, PolicyFault> {
+    let mut policy = AllowList::new(alloc);
+    set_each(alloc, &mut policy, table)?;
+    Ok(policy)
+}
+
+// The policy that a text is.
+fn policy_of(alloc: Global, text: &[u8]) -> Result<AllowList, PolicyFault> {
+    match toml::table_from_slice(alloc, text) {
+        Ok(table) => policy_by(alloc, &table),
+        Err(error) => Err(reader_fault(text, error)),
+    }
+}
+
+/// The policy that stands in a file of this name.
+pub fn policy_in(rt: &HostRuntime, name: &str) -> Result<AllowList, PolicyFault> {
+    match fs::read(rt, name) {
+        Ok(text) => policy_of(rt.alloc(), text.as_slice()),
+        Err(error) => Err(PolicyFault::Read(error)),
+    }
+}
+
+/// Says what is wrong with a file of this name. Whether it can be said is no matter.
+pub fn tell_policy(rt: &HostRuntime, name: &str, fault: &PolicyFault) {
+    let _told = match fault {
+        PolicyFault::Read(error) => writeln!(rt.stderr(), "hengaruto: {name}: {error}"),
+        PolicyFault::Toml(line, error) => {
+            let reason = error.message();
+            writeln!(rt.stderr(), "hengaruto: {name}: line {line}: {reason}")
+        }
+        PolicyFault::Wrong(reason) => writeln!(rt.stderr(), "hengaruto: {name}: {reason}"),
+        PolicyFault::Memory => writeln!(rt.stderr(), "hengaruto: {name}: out of memory"),
+    };
+}
