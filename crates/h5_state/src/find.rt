@@ -147,8 +147,52 @@ pub fn find_open<S: TreeSink>(
     find_since(sink, state, handle, 0)
 }
 
-/// Where an element is open that is listed as a formatting element, counted from the root. It isn't sought below an element
-/// that has a lower stamp: so it takes few steps where it is closed.
+// Whether an element stands at a place, which may be none of the stack.
+#[tactic(auto, using(h5_rules::proofs::changes::SoundLaws::element_is_node))]
+fn stands_at<S: TreeSink>(
+    sink: &S,
+    state: &State<S::Handle>,
+    handle: &S::Handle,
+    place: usize,
+) -> bool
+    requires sound { IsSound S.TreeSink sink.now state.now }
+    requires element { IsElement (S.sees sink.now).forest (S.node handle.now) }
+    ensures here { result ≡ true → IsOpenAt (S.node handle.now) place (world_of S.TreeSink sink.now state.now) }
+    ensures inside { result ≡ true → place < length (world_of S.TreeSink sink.now state.now).stack }
+{
+    if place >= open_count(sink, state) {
+        return false;
+    }
+    sink.same_node(handle_at(sink, state, place), handle)
+}
+
+// At so many places an element is looked for: it stands lower than it did where one left that stood below it.
+const NEAR: usize = 3;
+
+// Where an element stands, if that is a place or right below.
+fn find_near<S: TreeSink>(
+    sink: &S,
+    state: &State<S::Handle>,
+    handle: &S::Handle,
+    place: usize,
+) -> Option<usize>
+    requires sound { IsSound S.TreeSink sink.now state.now }
+    requires element { IsElement (S.sees sink.now).forest (S.node handle.now) }
+    ensures place { MatchOption result (Unit {0}) (λ place. IsOpenAt (S.node handle.now) place (world_of S.TreeSink sink.now state.now)) }
+    ensures inside { MatchOption result (Unit {0}) (λ place. place < length (world_of S.TreeSink sink.now state.now).stack) }
+{
+    for lower in 0..NEAR {
+        let near = place.saturating_sub(lower);
+        if stands_at(sink, state, handle, near) {
+            return Some(near);
+        }
+    }
+    None
+}
+
+/// Where an element is open that is listed as a formatting element, counted from the root. It is looked for first where it
+/// came to stand when it was listed, and right below, and else not below an element that has a lower stamp: so it takes few
+/// steps where it stands there still, and where it is closed.
 pub fn find_listed<S: TreeSink>(
     sink: &S,
     state: &State<S::Handle>,
@@ -161,6 +205,9 @@ pub fn find_listed<S: TreeSink>(
     ensures place { MatchOption result (Unit {0}) (λ place. IsOpenAt (S.node listed.now.handle) place (world_of S.TreeSink sink.now state.now)) }
     ensures inside { MatchOption result (Unit {0}) (λ place. place < length (world_of S.TreeSink sink.now state.now).stack) }
 {
+    if let Some(place) = find_near(sink, state, &listed.handle, listed.place) {
+        return Some(place);
+    }
     find_since(sink, state, &listed.handle, listed.stamp)
 }
 

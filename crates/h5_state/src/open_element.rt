@@ -131,6 +131,9 @@ pub struct OpenElement<Handle> {
 pub struct Listed<Handle> {
     pub handle: Handle,
     pub stamp: u32,
+    /// Where it came to stand when it was listed, counted from the root: it is looked for there first. It may be closed since,
+    /// or stand elsewhere.
+    pub place: usize,
 }
 
 /// The stack of open elements, the root first: each stands there with the number of its name, and of each number the

@@ -12,6 +12,7 @@ ghost use Rattle.h5_state.specs.Stamps.{IsAbove, stamps_of};
 ghost use Rattle.h5_state.specs.Steps.{IsOpen, IsSound, Makes, world_of};
 
 use super::open_element::Listed;
+use super::open_elems::open_count;
 use super::state::State;
 use h5_interface::{QuirksMode, TreeSink};
 use h5_names::KnownName;
@@ -108,7 +109,7 @@ fn current_stamp<S: TreeSink>(sink: &S, state: &State<S::Handle>) -> u32
     }
 }
 
-/// The current node, as it may be listed, with a stamp.
+/// The current node, as it may be listed, with a stamp, and with its place.
 pub fn current_listed<S: TreeSink>(sink: &S, state: &State<S::Handle>) -> Listed<S::Handle>
     requires { IsSound S.TreeSink sink.now state.now }
     ensures current { S.node result.handle ≡ current (world_of S.TreeSink sink.now state.now) }
@@ -118,6 +119,7 @@ pub fn current_listed<S: TreeSink>(sink: &S, state: &State<S::Handle>) -> Listed
     Listed {
         handle: current_node(sink, state),
         stamp: current_stamp(sink, state),
+        place: open_count(sink, state).saturating_sub(1),
     }
 }
 
