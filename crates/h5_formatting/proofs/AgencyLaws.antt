@@ -152,22 +152,21 @@ never_root name f w v newest sound kinds open_root e =
     let absurdity : true ≡ false = sym html ∙ other in
     cc
 
-pub never_root_after : (choices : SinkChoices) (name : List ℕ) (f : FormattingElement) (n m : ℕ) (w u v : World) → newest_named name w.formatting ≡ Some f → is_same_text name (codes "html") ≡ false → HasHtmlRoot w
-    → u ≡ adoption_agency choices name w → v ≡ record u { formatting = without_entry n u.formatting } → m ≡ f.node → m ≢ root v
-unfolding names_of
-never_root_after choices name f n m w u v newest other ready after gone same e =
+pub never_root_after : (choices : SinkChoices) (name : List ℕ) (f : FormattingElement) (n : ℕ) (w u : World) → newest_named name w.formatting ≡ Some f → is_same_text name (codes "html") ≡ false → HasHtmlRoot w
+    → u ≡ adoption_agency choices name w → n ≡ f.node → n ≢ root u
+never_root_after choices name f n w u newest other ready after same e =
     let leaves = subst (LeavesReady w) (sym after) (agency_leaves choices name w other ready) in
-    never_root name f w (record u { formatting = without_entry n u.formatting }) newest ready.sound leaves.kinds leaves.ready.root (sym same ∙ e ∙ ap root gone)
+    never_root name f w u newest ready.sound leaves.kinds leaves.ready.root (sym same ∙ e)
 
 -- the formatting element that is listed is an element
 pub found_is_element : {name : List ℕ} {f : FormattingElement} {at : ℕ} (n : ℕ) (w : World) → IsFound name f at w → f.node ≡ n → IsElement w.forest n
 found_is_element {name} {f} n w found same = subst (IsElement w.forest) same (html_name f.tag.name, newest_of_tag name w found.newest found.ready.sound)
 
 -- and it stays one
-pub still_element : (choices : SinkChoices) (name : List ℕ) (f : FormattingElement) (n m : ℕ) (w u v : World) → newest_named name w.formatting ≡ Some f → is_same_text name (codes "html") ≡ false → HasHtmlRoot w
-    → u ≡ adoption_agency choices name w → v ≡ record u { formatting = without_entry n u.formatting } → m ≡ f.node → IsElement v.forest m
-still_element choices name f n m w u v newest other ready after gone same =
+pub still_element : (choices : SinkChoices) (name : List ℕ) (f : FormattingElement) (n : ℕ) (w u : World) → newest_named name w.formatting ≡ Some f → is_same_text name (codes "html") ≡ false → HasHtmlRoot w
+    → u ≡ adoption_agency choices name w → n ≡ f.node → IsElement u.forest n
+still_element choices name f n w u newest other ready after same =
     let leaves = subst (LeavesReady w) (sym after) (agency_leaves choices name w other ready) in
     let kind = newest_of_tag name w newest ready.sound in
     let there = node_of_kind w.forest f.node (ElementNode (html_name f.tag.name)) kind in
-    subst (IsElement v.forest) (sym same) (html_name f.tag.name, ap (λ (x : World). kind_of x.forest f.node) gone ∙ leaves.kinds f.node there ∙ kind)
+    subst (IsElement u.forest) (sym same) (html_name f.tag.name, leaves.kinds f.node there ∙ kind)

@@ -1,37 +1,40 @@
--- After the adoption agency the entry of the formatting element stands where it stood, or it is gone.
-use Rattle.std.proofs.Common.{◌≡◌, ◌≢◌, ◌⊎◌, inl, inr, ◌<◌, ◌≤◌, ℕ, zero, suc, Bool, true, false, not, cond, List, [], ◌∷◌, ◌++◌, length, Option, Some, None, refl, ap, sym, subst, ◌∙◌, arith}
+-- After the adoption agency the entry of the formatting element stands where it stood, or it is gone; then the element is
+-- closed.
+use Rattle.std.proofs.Common.{◌≡◌, ◌≢◌, ◌⊎◌, inl, inr, ◌<◌, ◌≤◌, ℕ, zero, suc, Bool, true, false, not, cond, List, [], ◌∷◌, ◌++◌, append_assoc, length, Option, Some, None, refl, ap, sym, subst, ◌∙◌, arith}
 use Rattle.std.specs.Prelude.{◌==◌}
 use Rattle.std.specs.List.{list_any}
 use Rattle.std.proofs.lemmas.Bool.{eq-eqb, eqb-true, ne_eqb}
 use Rattle.h5_token.specs.TokenText.{TagText}
-use Rattle.h5_interface.specs.Forest.{ElementNode, IsNode}
+use Rattle.h5_interface.specs.Changes.{mark}
+use Rattle.h5_interface.specs.Forest.{ElementNode, IsNode, parent_of}
 use Rattle.h5_interface.specs.SinkChoices.{SinkChoices}
 use Rattle.h5_interface.proofs.ForestLaws.{node_of_kind, there_alike}
-use Rattle.h5_tables.specs.TagSets.{is_default_scope, is_special}
+use Rattle.h5_tables.specs.TagSets.{is_default_scope, is_html_named, is_special}
 use Rattle.h5_rules.specs.Changes.{generate_implied_end_except, pop, pop_until_named}
 use Rattle.h5_rules.specs.Sound.{HasHtmlRoot}
 use Rattle.h5_rules.specs.World.{World, name_in, names_of}
-use Rattle.h5_rules.specs.formatting.Adoption.{FormattingElement, FurthestBlock, furthest_block, inserted_after, newer_than, newest_named, older_than, replaced, replaced_by, round_list, to_clone}
-use Rattle.h5_rules.specs.formatting.AdoptionAgency.{MayAdopt, Nest, adopt, adopt_at, adopt_by, adopt_within, adoption_agency, is_current_unlisted, nest, placed}
+use Rattle.h5_rules.specs.formatting.Adoption.{FormattingElement, FurthestBlock, furthest_block, inserted_after, newer_than, newest_named, older_than, replaced, replaced_by, round_list, to_clone, without_node}
+use Rattle.h5_rules.specs.formatting.AdoptionAgency.{MayAdopt, Nest, adopt, adopt_at, adopt_by, adopt_within, adoption_agency, is_current_unlisted, nest, placed, remove_from_stack, unlist_and_remove}
 use Rattle.h5_rules.specs.formatting.FormattingList.{ElementEntry, Entry, MarkerEntry, nodes_of, without_entry}
 use Rattle.h5_rules.specs.formatting.FormattingNames.{html_name}
 use Rattle.h5_rules.specs.formatting.Fresh.{AreFresh, no_more}
 use Rattle.h5_rules.specs.stack.Closing.{close_named}
-use Rattle.h5_rules.specs.stack.Order.{Distinct, IsIn, first_or, is_in}
-use Rattle.h5_rules.specs.stack.Scope.{comes_before_special, is_implied_but}
+use Rattle.h5_names.specs.declared.qualified.QualName.{QualName}
+use Rattle.h5_rules.specs.stack.Order.{Distinct, IsIn, but_first, first_or, is_in}
+use Rattle.h5_rules.specs.stack.Scope.{comes_before_special, cut_through, is_implied_but}
 use Rattle.h5_rules.proofs.adoption.AdoptionPlace.{newest_of_tag}
-use Rattle.h5_rules.proofs.adoption.AdoptionRound.{adopt_ready, nest_all, round_fresh, round_kinds, round_placed, round_placed_kinds}
+use Rattle.h5_rules.proofs.adoption.AdoptionRound.{adopt_ready, cut_stack, nest_all, round_fresh, round_kinds, round_placed, round_placed_kinds}
 use Rattle.h5_rules.proofs.changes.ClosingLaws.{while_holds}
 use Rattle.h5_rules.proofs.entries.EachLaws.{each_inserted_after, each_round, each_without_entry}
 use Rattle.h5_rules.proofs.entries.EntryLaws.{nodes_of-append}
 use Rattle.h5_rules.proofs.entries.FreshLaws.{made_new}
 use Rattle.h5_rules.proofs.entries.KeptListsLaws.{without_entry_gone, without_entry_none}
-use Rattle.h5_rules.proofs.entries.PairLaws.{in_left, in_right, is_in_true}
-use Rattle.h5_rules.proofs.entries.PassLaws.{newest_named_at}
+use Rattle.h5_rules.proofs.entries.PairLaws.{in_left, in_one_more, in_right, in_split, is_in_false, is_in_telling, is_in_true, not_beside}
+use Rattle.h5_rules.proofs.entries.PassLaws.{newest_named_at, ordered_distinct}
 use Rattle.h5_rules.proofs.entries.ReplaceLaws.{GiveApart, nodes_replaced, replaced_distinct}
 use Rattle.h5_rules.proofs.entries.RoundLaws.{replaced_by_apart, replaced_by_result}
 use Rattle.h5_formatting.specs.EntryPlaces.{entry_at, is_entry_of}
-use Rattle.h5_formatting.specs.Places.{IsEntryAt, IsListedAt, IsListedOnlyAt}
+use Rattle.h5_formatting.specs.Places.{IsEntryAt, IsListedAt, IsListedOnlyAt, IsOpenOnlyListed}
 use Rattle.h5_formatting.proofs.AgencyLaws.{found_at, found_entry}
 use Rattle.h5_formatting.proofs.ListLaws.{entry_at_cut}
 use Rattle.h5_formatting.proofs.RelistLaws.{each_apart, none_apart}
@@ -104,6 +107,34 @@ module _ {name : List ℕ} {f : FormattingElement} {k : FurthestBlock} (choices 
       (λ e. fresh.unlisted own (inl refl) (subst (λ z. IsIn z (nodes_of w.formatting)) (sym e) listed))
       (without_entry_gone f.node (replaced gives w.formatting) handed_over)
 
+  -- what is open after the round, and isn't new, was open, and isn't the formatting element
+  halves : w.stack ≡ (k.newer ++ k.block ∷ k.between) ++ f.node ∷ older_than f.node w.stack
+  halves = cut_stack choices w ready may ∙ sym (append_assoc k.newer (k.block ∷ k.between) (f.node ∷ older_than f.node w.stack))
+
+  in_halves : (n : ℕ) → IsNode w.forest n → IsIn n (adopt choices f k w).stack → IsIn n ((k.newer ++ k.block ∷ k.between) ++ older_than f.node w.stack)
+  in_halves n there i = first (in_split n k.newer (own ∷ k.block ∷ (made.clones ++ older_than f.node w.stack)) i)
+    where
+      newer : List ℕ
+      newer = k.newer ++ k.block ∷ k.between
+
+      last : IsIn n made.clones ⊎ IsIn n (older_than f.node w.stack) → IsIn n (newer ++ older_than f.node w.stack)
+      last (inl c) = absurd (clone_is_new n c there)
+      last (inr o) = in_right n newer (older_than f.node w.stack) o
+
+      first : IsIn n k.newer ⊎ IsIn n (own ∷ k.block ∷ (made.clones ++ older_than f.node w.stack)) → IsIn n (newer ++ older_than f.node w.stack)
+      first (inl j) = in_left n newer (older_than f.node w.stack) (in_left n k.newer (k.block ∷ k.between) j)
+      first (inr (inl e)) = absurd (own_is_new (subst (IsNode w.forest) e there))
+      first (inr (inr (inl e))) = in_left n newer (older_than f.node w.stack) (in_right n k.newer (k.block ∷ k.between) (inl e))
+      first (inr (inr (inr j))) = last (in_split n made.clones (older_than f.node w.stack) j)
+
+  pub still_closed : (n : ℕ) → IsNode w.forest n → ¬ (IsIn n w.stack) → ¬ (IsIn n (adopt choices f k w).stack)
+  still_closed n there out = λ i.
+      out (subst (IsIn n) (sym halves) (in_one_more n f.node (k.newer ++ k.block ∷ k.between) (older_than f.node w.stack) (in_halves n there i)))
+
+  pub element_closed : IsNode w.forest f.node → ¬ (IsIn f.node (adopt choices f k w).stack)
+  element_closed there = λ i.
+      not_beside (k.newer ++ k.block ∷ k.between) (older_than f.node w.stack) f.node (subst Distinct halves (ordered_distinct (parent_of w.forest) w.stack ready.sound.stands.ordered)) (in_halves f.node there i)
+
 -- A round.
 
 -- "any other end tag" leaves the list as it is
@@ -118,9 +149,52 @@ formatting-close_named choices name w = at (comes_before_special name (names_of 
     at true = while_holds (λ (v : World). v.formatting ≡ w.formatting) choices (is_implied_but name) (λ v e. e) (names_of w) w refl
     at false = refl
 
+-- and opens no element
+in_but_first : (n : ℕ) (s : List ℕ) → IsIn n (but_first s) → IsIn n s
+in_but_first n [] i = i
+in_but_first n (m ∷ s) i = inr i
+
+in_cut_through : (n : ℕ) (is : QualName → Bool) (ns : List QualName) (s : List ℕ) → IsIn n (cut_through is ns s) → IsIn n s
+in_cut_through n is [] s i = i
+in_cut_through n is (m ∷ ns) s i = in_but_first n s (at (is m) i (in_cut_through n is ns (but_first s)))
+  where
+    at : (b : Bool) → IsIn n (cond b (but_first s) (cut_through is ns (but_first s))) → (IsIn n (cut_through is ns (but_first s)) → IsIn n (but_first s)) → IsIn n (but_first s)
+    at true j go = j
+    at false j go = go j
+
+in_close_named : (choices : SinkChoices) (name : List ℕ) (w : World) (n : ℕ) → IsIn n (close_named choices name w).stack → IsIn n w.stack
+unfolding close_named generate_implied_end_except pop_until_named pop
+in_close_named choices name w n = at (comes_before_special name (names_of w))
+  where
+    closed : World
+    closed = generate_implied_end_except choices name w
+
+    at : (b : Bool) → IsIn n (cond b (pop_until_named name closed) w).stack → IsIn n w.stack
+    at true i =
+        while_holds (λ (v : World). IsIn n v.stack → IsIn n w.stack) choices (is_implied_but name) (λ v go j. go (in_but_first n v.stack j)) (names_of w) w (λ j. j)
+        (in_cut_through n (is_html_named name) (names_of closed) closed.stack i)
+    at false i = i
+
+-- what is older than an element was open, and isn't it
+in_older : (n f : ℕ) (s : List ℕ) → IsIn n (older_than f s) → IsIn n s
+in_older n f [] i = i
+in_older n f (m ∷ s) i = at (m == f) i (in_older n f s)
+  where
+    at : (b : Bool) → IsIn n (cond b s (older_than f s)) → (IsIn n (older_than f s) → IsIn n s) → IsIn n (m ∷ s)
+    at true j go = inr j
+    at false j go = inr (go j)
+
+not_older : (f : ℕ) (s : List ℕ) → Distinct s → ¬ (IsIn f (older_than f s))
+not_older f [] d = λ i. i
+not_older f (m ∷ s) d = at (m == f) refl (not_older f s (λ x h. d x (inr h)))
+  where
+    at : (b : Bool) → (m == f) ≡ b → ¬ (IsIn f (older_than f s)) → ¬ (IsIn f (cond b s (older_than f s)))
+    at true e none = λ i. d f (inl (sym (eqb-true m f e), i))
+    at false e none = none
+
 -- what a round may come to
 pub round_comes_to : (P : World → Type 0) (again : World → World) (choices : SinkChoices) (name : List ℕ) (f : FormattingElement) (w : World) → newest_named name w.formatting ≡ Some f
-    → P (record w { formatting = without_entry f.node w.formatting }) → P w → P (record w { stack = older_than f.node w.stack; formatting = without_entry f.node w.formatting })
+    → (is_in f.node w.stack ≡ false → P (record w { formatting = without_entry f.node w.formatting })) → P w → P (record w { stack = older_than f.node w.stack; formatting = without_entry f.node w.formatting })
     → ((k : FurthestBlock) → MayAdopt name f k w → P (again (adopt choices f k w))) → P (adopt_by again choices name (Some f) w)
 round_comes_to P again choices name f w newest closed same popped adopted = by_place (is_in f.node w.stack) refl scope_ends refl
   where
@@ -135,7 +209,7 @@ round_comes_to P again choices name f w newest closed same popped adopted = by_p
     by_block i scope (Some k) e = adopted k (record { newest = newest; is_open = i; in_scope = scope; block = e })
 
     by_place : (b : Bool) → is_in f.node w.stack ≡ b → (c : Bool) → scope_ends ≡ c → P (cond (not b) (record w { formatting = without_entry f.node w.formatting }) (cond c w (adopt_at again choices f block w)))
-    by_place false e c v = closed
+    by_place false e c v = closed e
     by_place true e true v = same
     by_place true e false v = by_block (is_in_true f.node w.stack e) v block refl
 
@@ -151,7 +225,7 @@ round_still_gone again n go choices name w ready there out = at (newest_named na
     at : (o : Option FormattingElement) → newest_named name w.formatting ≡ o → ¬ (IsIn n (nodes_of (adopt_by again choices name o w).formatting))
     at None e = subst (λ l. ¬ (IsIn n (nodes_of l))) (sym (formatting-close_named choices name w)) out
     at (Some f) e =
-        round_comes_to (λ (v : World). ¬ (IsIn n (nodes_of v.formatting))) again choices name f w e (less f.node) out (less f.node)
+        round_comes_to (λ (v : World). ¬ (IsIn n (nodes_of v.formatting))) again choices name f w e (λ h. less f.node) out (less f.node)
         (λ k may. go (adopt choices f k w) (adopt_ready choices w ready may)
         (there_alike w.forest (adopt choices f k w).forest n (round_kinds choices w ready may n there) there) (still_gone choices w ready may n there out))
 
@@ -160,6 +234,23 @@ pub rounds_still_gone : (count : ℕ) (choices : SinkChoices) (name : List ℕ) 
 rounds_still_gone zero choices name n w ready there out = out
 rounds_still_gone (suc count) choices name n w ready there out =
     round_still_gone (adopt_within count choices name) n (λ v r t o. rounds_still_gone count choices name n v r t o) choices name w ready there out
+
+-- the same of an element that isn't open
+round_still_closed : (again : World → World) (n : ℕ) → ((v : World) → HasHtmlRoot v → IsNode v.forest n → ¬ (IsIn n v.stack) → ¬ (IsIn n (again v).stack))
+    → (choices : SinkChoices) (name : List ℕ) (w : World) → HasHtmlRoot w → IsNode w.forest n → ¬ (IsIn n w.stack) → ¬ (IsIn n (adopt_by again choices name (newest_named name w.formatting) w).stack)
+round_still_closed again n go choices name w ready there out = at (newest_named name w.formatting) refl
+  where
+    at : (o : Option FormattingElement) → newest_named name w.formatting ≡ o → ¬ (IsIn n (adopt_by again choices name o w).stack)
+    at None e = λ i. out (in_close_named choices name w n i)
+    at (Some f) e =
+        round_comes_to (λ (v : World). ¬ (IsIn n v.stack)) again choices name f w e (λ h. out) out (λ i. out (in_older n f.node w.stack i))
+        (λ k may. go (adopt choices f k w) (adopt_ready choices w ready may)
+        (there_alike w.forest (adopt choices f k w).forest n (round_kinds choices w ready may n there) there) (still_closed choices w ready may n there out))
+
+pub rounds_still_closed : (count : ℕ) (choices : SinkChoices) (name : List ℕ) (n : ℕ) (w : World) → HasHtmlRoot w → IsNode w.forest n → ¬ (IsIn n w.stack) → ¬ (IsIn n (adopt_within count choices name w).stack)
+rounds_still_closed zero choices name n w ready there out = out
+rounds_still_closed (suc count) choices name n w ready there out =
+    round_still_closed (adopt_within count choices name) n (λ v r t o. rounds_still_closed count choices name n v r t o) choices name w ready there out
 
 -- The agency.
 
@@ -177,7 +268,7 @@ pub rounds_kept_or_gone : (count : ℕ) (choices : SinkChoices) (name : List ℕ
 rounds_kept_or_gone zero choices name f w ready newest = inl refl
 rounds_kept_or_gone (suc count) choices name f w ready newest =
     subst (λ o. IsKeptOrGone f.node w.formatting (adopt_by (adopt_within count choices name) choices name o w).formatting) (sym newest)
-    (round_comes_to (λ (v : World). IsKeptOrGone f.node w.formatting v.formatting) (adopt_within count choices name) choices name f w newest (inr gone) (inl refl) (inr gone)
+    (round_comes_to (λ (v : World). IsKeptOrGone f.node w.formatting v.formatting) (adopt_within count choices name) choices name f w newest (λ h. inr gone) (inl refl) (inr gone)
     (λ k may. inr (rounds_still_gone count choices name f.node (adopt choices f k w) (adopt_ready choices w ready may)
     (there_alike w.forest (adopt choices f k w).forest f.node (round_kinds choices w ready may f.node there) there)
     (entry_gone choices w ready may (newest_is_listed name f w.formatting newest)))))
@@ -196,6 +287,35 @@ agency_kept_or_gone choices name f w ready newest = at (is_current_unlisted name
     at : (b : Bool) → IsKeptOrGone f.node w.formatting (cond b (pop choices w) (adopt_within 8 choices name w)).formatting
     at true = inl refl
     at false = rounds_kept_or_gone 8 choices name f w ready newest
+
+-- the formatting element is open only if it is listed
+pub rounds_open_listed : (count : ℕ) (choices : SinkChoices) (name : List ℕ) (f : FormattingElement) (w : World) → HasHtmlRoot w → newest_named name w.formatting ≡ Some f
+    → IsOpenOnlyListed f.node (adopt_within count choices name w)
+rounds_open_listed zero choices name f w ready newest = λ i. newest_is_listed name f w.formatting newest
+rounds_open_listed (suc count) choices name f w ready newest =
+    subst (λ o. IsOpenOnlyListed f.node (adopt_by (adopt_within count choices name) choices name o w)) (sym newest)
+    (round_comes_to (IsOpenOnlyListed f.node) (adopt_within count choices name) choices name f w newest
+    (λ h i. absurd (let clash : true ≡ false = sym (is_in_telling f.node w.stack i) ∙ h in cc))
+    (λ i. newest_is_listed name f w.formatting newest)
+    (λ i. absurd (not_older f.node w.stack (ordered_distinct (parent_of w.forest) w.stack ready.sound.stands.ordered) i))
+    (λ k may i. absurd (rounds_still_closed count choices name f.node (adopt choices f k w) (adopt_ready choices w ready may)
+    (there_alike w.forest (adopt choices f k w).forest f.node (round_kinds choices w ready may f.node there) there)
+    (element_closed choices w ready may there) i)))
+  where
+    there : IsNode w.forest f.node
+    there = node_of_kind w.forest f.node (ElementNode (html_name f.tag.name)) (newest_of_tag name w newest ready.sound)
+
+pub agency_open_listed : (choices : SinkChoices) (name : List ℕ) (f : FormattingElement) (w : World) → HasHtmlRoot w → newest_named name w.formatting ≡ Some f → IsOpenOnlyListed f.node (adoption_agency choices name w)
+unfolding adoption_agency pop
+agency_open_listed choices name f w ready newest = at (is_current_unlisted name w)
+  where
+    at : (b : Bool) → IsOpenOnlyListed f.node (cond b (pop choices w) (adopt_within 8 choices name w))
+    at true = λ i. newest_is_listed name f w.formatting newest
+    at false = rounds_open_listed 8 choices name f w ready newest
+
+pub agency_leaves_open : (choices : SinkChoices) (name : List ℕ) (at n : ℕ) (w v : World) → HasHtmlRoot w → (l : IsListedAt name at w) → v ≡ adoption_agency choices name w → n ≡ l.element.node → IsOpenOnlyListed n v
+agency_leaves_open choices name at n w v ready l after same =
+    subst (λ m. IsOpenOnlyListed m v) (sym same) (subst (IsOpenOnlyListed l.element.node) (sym after) (agency_open_listed choices name l.element w ready l.newest))
 
 -- so the formatting element is listed where it was, or nowhere
 pub agency_leaves_listed : (choices : SinkChoices) (name : List ℕ) (at n : ℕ) (w v : World) → HasHtmlRoot w → (l : IsListedAt name at w) → v ≡ adoption_agency choices name w → n ≡ l.element.node → IsListedOnlyAt n at v
@@ -246,6 +366,15 @@ entry_tells n i w k =
 pub unlisted_same : (n i : ℕ) (w : World) → IsListedOnlyAt n i w → is_entry_of n (entry_at i w.formatting) ≡ false → w ≡ record w { formatting = without_entry n w.formatting }
 unlisted_same n i w (inl k) h = absurd (let clash : true ≡ false = sym (entry_tells n i w k) ∙ h in cc)
 unlisted_same n i w (inr out) h = ap (λ l. record w { formatting = l }) (sym (without_entry_none n w.formatting out))
+
+-- so an element that isn't listed there is gone from list and stack
+pub all_gone : (choices : SinkChoices) (n i : ℕ) (w : World) → IsListedOnlyAt n i w → IsOpenOnlyListed n w → is_entry_of n (entry_at i w.formatting) ≡ false → w ≡ unlist_and_remove choices n w
+unfolding remove_from_stack
+all_gone choices n i w (inl k) listed h = absurd (let clash : true ≡ false = sym (entry_tells n i w k) ∙ h in cc)
+all_gone choices n i w (inr out) listed h =
+    let less : World = record w { formatting = without_entry n w.formatting } in
+    unlisted_same n i w (inr out) h
+    ∙ sym (ap (λ b. cond b (record less { forest = mark (choices.marks_after_pop less.forest n) less.forest; stack = without_node n less.stack }) less) (is_in_false n w.stack (λ j. out (listed j))))
 
 pub listed_there : (n i : ℕ) (w : World) → IsListedOnlyAt n i w → is_entry_of n (entry_at i w.formatting) ≡ true → IsEntryAt n i w
 listed_there n i w (inl k) h = k

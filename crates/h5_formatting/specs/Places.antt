@@ -23,6 +23,10 @@ pub record IsEntryAt (n place : ℕ) (w : World) : Type 0 where
 abbrev pub IsListedOnlyAt : (n place : ℕ) → World → Type 0
 IsListedOnlyAt n place w = IsEntryAt n place w ⊎ (¬ (IsIn n (nodes_of w.formatting)))
 
+-- an element is open only if it is listed
+abbrev pub IsOpenOnlyListed : ℕ → World → Type 0
+IsOpenOnlyListed n w = IsIn n w.stack → IsIn n (nodes_of w.formatting)
+
 -- the entry of the formatting element of a name stands at this place
 abbrev pub IsListedAt : List ℕ → ℕ → World → Type 0
 IsListedAt name place w = IsNewestNamedAt name place w.formatting

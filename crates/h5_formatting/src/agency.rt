@@ -1,16 +1,16 @@
 //! The adoption agency, and what calls it (HTML standard, section 13.2.6.4.7, "adoption agency algorithm").
-ghost use Rattle.std.specs.Prelude.{◌≡◌, ◌<◌, ℕ, Bool, List, IfOk, OnOk, Some, codes, false, length};
+ghost use Rattle.std.specs.Prelude.{◌≡◌, ◌≢◌, ◌<◌, ℕ, Bool, List, IfOk, OnOk, Some, codes, false, length};
 ghost use Rattle.h5_names.specs.AttributeText.{is_same_text};
-ghost use Rattle.h5_interface.specs.Forest.{IsNode};
+ghost use Rattle.h5_interface.specs.Forest.{IsElement};
 ghost use Rattle.h5_rules.specs.formatting.Adoption.{FormattingElement, newest_named, older_than};
 ghost use Rattle.h5_rules.specs.formatting.FormattingList.{without_entry};
-ghost use Rattle.h5_rules.specs.formatting.AdoptionAgency.{adopt_by, adopt_within};
+ghost use Rattle.h5_rules.specs.formatting.AdoptionAgency.{adopt_by, adopt_within, unlist_and_remove};
 ghost use Rattle.h5_rules.specs.Rows.{AdoptionAgency, HandleMisnestedATags};
 ghost use Rattle.h5_rules.specs.Sound.{HasHtmlRoot};
-ghost use Rattle.h5_rules.specs.World.{World};
+ghost use Rattle.h5_rules.specs.World.{World, root};
 ghost use Rattle.h5_state.specs.Stamps.{IsAbove, stamps_of};
 ghost use Rattle.h5_state.specs.Steps.{Becomes, BecomesIfOk, IsSound, MakesIfOk, errors_of, world_of};
-ghost use Rattle.h5_formatting.specs.Places.{IsListedOnlyAt};
+ghost use Rattle.h5_formatting.specs.Places.{IsListedOnlyAt, IsOpenOnlyListed};
 ghost use Rattle.h5_formatting.specs.Rounds.{IsFound, SomeFound, SomeOpen, adopt_open, then_again};
 ghost use Rattle.h5_state.specs.OpenPlaces.{IsOpenAt};
 
@@ -105,8 +105,11 @@ fn round<S: TreeSink>(
     match find_formatting_element(sink, state, name) {
         Some(at) => {
             let listed = listed_at(sink, state, at);
-            let (handle, stamp) = (sink.clone_handle(&listed.handle), listed.stamp);
-            let element = Listed { handle, stamp };
+            let element = Listed {
+                handle: sink.clone_handle(&listed.handle),
+                stamp: listed.stamp,
+                place: listed.place,
+            };
             round_listed(sink, state, at, &element)
         }
         None => {
@@ -158,15 +161,24 @@ pub fn adoption_agency<S: TreeSink>(
     }
 }
 
-// The entry at a place goes, where it is that of an element, which is listed there or nowhere.
-fn unlist_where<S: TreeSink>(sink: &S, state: &mut State<S::Handle>, at: usize, element: &S::Handle)
-    requires sound { IsSound S.TreeSink sink.now state.old }
-    requires element { IsNode (S.sees sink.now).forest (S.node element.now) }
-    requires listed { IsListedOnlyAt (S.node element.now) at (world_of S.TreeSink sink.now state.old) }
-    ensures { Becomes S.TreeSink (λ w. record w { formatting = without_entry (S.node element.now) w.formatting }) sink.now state.old sink.now state.new }
+// An element leaves list and stack, where it still is there: it is listed at this place or nowhere, and open only if listed.
+#[tactic(auto, using(h5_rules::proofs::changes::SoundLaws::element_is_node))]
+fn remove_listed<S: TreeSink>(
+    sink: &mut S,
+    state: &mut State<S::Handle>,
+    at: usize,
+    element: &S::Handle,
+)
+    requires sound { IsSound S.TreeSink sink.old state.old }
+    requires element { IsElement (S.sees sink.old).forest (S.node element.now) }
+    requires root { S.node element.now ≢ root (world_of S.TreeSink sink.old state.old) }
+    requires listed { IsListedOnlyAt (S.node element.now) at (world_of S.TreeSink sink.old state.old) }
+    requires open { IsOpenOnlyListed (S.node element.now) (world_of S.TreeSink sink.old state.old) }
+    ensures { Becomes S.TreeSink (unlist_and_remove S.choices (S.node element.now)) sink.old state.old sink.new state.new }
 {
     if is_listed_at(sink, state, at, element) {
         unlist(sink, state, at);
+        remove_from_stack(sink, state, element);
     }
 }
 
@@ -186,9 +198,8 @@ pub fn handle_misnested_a_tags<S: TreeSink>(
         Some(at) => {
             let element = sink.clone_handle(element_at(sink, state, at));
             adoption_agency(sink, state, &name)?;
-            // The agency leaves the entry where it stood, or takes it away.
-            unlist_where(sink, state, at, &element);
-            remove_from_stack(sink, state, &element);
+            // The agency leaves the entry where it stood, or takes it away and closes the element.
+            remove_listed(sink, state, at, &element);
             Ok(())
         }
         None => Ok(()),

@@ -18,8 +18,14 @@ use super::walk::listed_at;
 use h5_interface::TreeSink;
 use h5_state::{Listed, State, handle_at};
 
-// The entry at a place becomes that of another element, with its tag and its stamp.
-fn swap_entry<S: TreeSink>(sink: &S, state: &mut State<S::Handle>, at: usize, handle: S::Handle)
+// The entry at a place becomes that of another element, with its tag and its stamp. It says where that element comes to stand.
+fn swap_entry<S: TreeSink>(
+    sink: &S,
+    state: &mut State<S::Handle>,
+    at: usize,
+    handle: S::Handle,
+    stands: usize,
+)
     requires { IsElementEntry at (world_of S.TreeSink sink.now state.old) }
     ensures done { (newer older : List Entry) → (n : ℕ) → (tag : TagText) → (world_of S.TreeSink sink.now state.old).formatting ≡ newer ++ ElementEntry n tag ∷ older → at ≡ length older
         → world_of S.TreeSink sink.now state.new ≡ record (world_of S.TreeSink sink.now state.old) { formatting = newer ++ ElementEntry (S.node handle) tag ∷ older } }
@@ -29,9 +35,12 @@ fn swap_entry<S: TreeSink>(sink: &S, state: &mut State<S::Handle>, at: usize, ha
         → MayRestack S.node state.old.open_elems block ns state.old.active_formatting → MayRestack S.node state.old.open_elems block ns state.new.active_formatting }
 {
     let stamp = listed_at(sink, state, at).stamp;
-    state
-        .active_formatting
-        .set_handle(at, Listed { handle, stamp });
+    let element = Listed {
+        handle,
+        stamp,
+        place: stands,
+    };
+    state.active_formatting.set_handle(at, element);
 }
 
 /// The entry at a place goes.
@@ -76,13 +85,14 @@ fn move_above<S: TreeSink>(sink: &S, state: &mut State<S::Handle>, from: usize, 
 }
 
 // A listed element between the formatting element and the furthest block gives its entry to the next clone, where there is
-// one. How many clones are used up then.
+// one. How many clones are used up then. They come to stand below the new place of the block, the first of them highest.
 fn relist_near<S: TreeSink>(
     sink: &S,
     state: &mut State<S::Handle>,
     place: usize,
     clones: &Vec<S::Handle>,
     used: usize,
+    new_block: usize,
 ) -> usize
     requires place { place < length (world_of S.TreeSink sink.now state.old).stack }
     requires used { used ≤ length clones.now.items }
@@ -101,7 +111,13 @@ fn relist_near<S: TreeSink>(
 {
     match find_entry(sink, state, handle_at(sink, state, place)) {
         Some(at) if used < clones.len() => {
-            swap_entry(sink, state, at, sink.clone_handle(&clones[used]));
+            swap_entry(
+                sink,
+                state,
+                at,
+                sink.clone_handle(&clones[used]),
+                new_block.saturating_sub(used + 1),
+            );
             used + 1
         }
         _ => used,
@@ -125,13 +141,15 @@ fn relist_far<S: TreeSink>(sink: &S, state: &mut State<S::Handle>, place: usize)
     }
 }
 
-// All elements between, from the one nearest to the furthest block on.
+// All elements between, from the one nearest to the furthest block on. The clones come to stand below the new place of
+// the block.
 fn relist_between<S: TreeSink>(
     sink: &S,
     state: &mut State<S::Handle>,
     first: usize,
     block: usize,
     clones: &Vec<S::Handle>,
+    new_block: usize,
 )
     requires block { block ≤ length (world_of S.TreeSink sink.now state.old).stack }
     requires clones { AreNodes (S.sees sink.now).forest (map S.node clones.now.items) }
@@ -150,7 +168,7 @@ fn relist_between<S: TreeSink>(
     'down: while place > first {
         place -= 1;
         if block - place <= 3 {
-            used = relist_near(sink, state, place, clones, used);
+            used = relist_near(sink, state, place, clones, used, new_block);
         } else {
             relist_far(sink, state, place);
         }
@@ -177,8 +195,10 @@ pub fn relist<S: TreeSink>(
     ensures stack { state.new.open_elems ≡ state.old.open_elems }
     ensures restack { MayRestack S.node state.old.open_elems block (S.node clone ∷ map S.node clones.now.items) state.new.active_formatting }
 {
-    relist_between(sink, state, first, block, clones);
-    swap_entry(sink, state, at, clone);
+    // Above the older elements stand the clones then, the block, and the clone of the formatting element.
+    let new_block = first.saturating_sub(1).saturating_add(clones.len());
+    relist_between(sink, state, first, block, clones, new_block);
+    swap_entry(sink, state, at, clone, new_block.saturating_add(1));
     if !clones.is_empty() {
         move_above(sink, state, at, &clones[0]);
     }

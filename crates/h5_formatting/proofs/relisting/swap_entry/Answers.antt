@@ -31,7 +31,7 @@ returns-clause-done g c = λ newer older n tag cut h.
     let w = world g.S.TreeSink.sees node c.args.sink.now c.args.state.now in
     let items = c.args.state.now.active_formatting in
     let over = c.set_handle.ensures in
-    let given : Listed _ = record { handle = c.args.handle; stamp = c.listed_at.result.now.stamp } in
+    let given : Listed _ = record { handle = c.args.handle; stamp = c.listed_at.result.now.stamp; place = c.args.stands } in
     let inside : c.args.at < length items = omega (arith, h, ap length cut, length-append newer (ElementEntry n tag ∷ older), length-map items f, length-reverse (map f items)) in
     let new = with_handle given over.entry in
     let old = seen_value f items c.args.at newer older (ElementEntry n tag) over.entry over.was cut h in
@@ -49,7 +49,7 @@ returns-clause-restack g c = λ block place ns below newer older n tag cut here 
     let items = state.active_formatting in
     let over = c.set_handle.ensures in
     let stamp = c.listed_at.result.now.stamp in
-    let given : Listed _ = record { handle = c.args.handle; stamp = stamp } in
+    let given : Listed _ = record { handle = c.args.handle; stamp = stamp; place = c.args.stands } in
     let elements = elements_of state in
     let above : IsAbove n stamp (stamps_of node open_elems) = subst (λ k. IsAbove k stamp (stamps_of node open_elems)) (c.listed_at.ensures.node newer older n tag cut here) (c.listed_at.ensures.above m.stamped) in
     subst (MayRestack node open_elems block ns) (sym over.is)
