@@ -11,7 +11,7 @@ use Rattle.h5_rules.proofs.entries.PairLaws.{distinct_apart}
 use Rattle.h5_names.specs.AttributeText.{is_same_text}
 use Rattle.h5_rules.specs.formatting.AdoptionAgency.{adopt_at, adopt_by, adopt_within, adoption_agency, KeepsKinds}
 use Rattle.h5_names.specs.declared.qualified.QualName.{QualName}
-use Rattle.h5_interface.specs.Forest.{ElementNode, IsElement, kind_of}
+use Rattle.h5_interface.specs.Forest.{ElementNode, IsElement}
 use Rattle.h5_interface.proofs.ForestLaws.{node_of_kind}
 use Rattle.h5_tables.specs.TagSets.{is_html_named}
 use Rattle.h5_rules.specs.stack.Root.{IsRootOpen}
