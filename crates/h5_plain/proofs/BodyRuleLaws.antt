@@ -29,16 +29,17 @@ pub p_end_rule : (w : World) → rule InBody (TagTurn (end (codes "p"))) w ≡ i
 unfolding in_body_tag in_body_end in_body_end_blocks in_body_end_inline block_end_names
 p_end_rule w = refl
 
--- an element of this name is written with an end tag, and takes children itself; it is no `title`
+-- an element of this name is written with an end tag, and takes children itself; it is no `title` and no `pre`
 pub record IsHolder (name : List ℕ) : Type 0 where
   pub has_end : has_end_tag name ≡ true
   pub no_template : is_html_template (html_name name) ≡ false
   pub no_title : is_same_text name (codes "title") ≡ false
+  pub no_pre : is_same_text name (codes "pre") ≡ false
 
 -- a `p` does
 pub p_holds : IsHolder (codes "p")
 unfolding void_names
-p_holds = record { has_end = refl; no_template = refl; no_title = refl }
+p_holds = record { has_end = refl; no_template = refl; no_title = refl; no_pre = refl }
 
 -- and a cell leaves it to the body
 pub p_outside : IsOutside (codes "p")
@@ -68,7 +69,8 @@ pub record IsBlockName (name : List ℕ) : Type 0 where
 
 -- a `pre`
 pub record IsPre : Type 0 where
-  pub block : IsHolder (codes "pre")
+  pub has_end : has_end_tag (codes "pre") ≡ true
+  pub no_template : is_html_template (html_name (codes "pre")) ≡ false
   pub starts : (a : List AttributeText) (w : World) → rule InBody (TagTurn (start (codes "pre") a)) w ≡ in_body_start_preformatted (start (codes "pre") a) w
   pub ends : (w : World) → rule InBody (TagTurn (end (codes "pre"))) w ≡ in_body_end_block (end (codes "pre")) w
   pub itself : is_html_named (codes "pre") (html_name (codes "pre")) ≡ true
@@ -79,7 +81,8 @@ pub record IsPre : Type 0 where
 pub pre : IsPre
 unfolding void_names in_body_preformatted in_body_tag in_body_start in_body_start_blocks in_body_start_inline in_body_start_embedded head_start_names in_body_end in_body_end_blocks in_body_end_inline block_start_names block_end_names html_namespace mathml_namespace svg_namespace is_html_named is_button_scope is_default_scope is_foreign_special scope_names button_scope_names is_heading heading_names role_of role_of_local is_special special_names passed_names list_item_names description_names is_implied implied_names table_structure_names cell_names in_cell_closing_ends in_cell_ignored_ends in_caption_ignored_ends
 pre = record {
-  block = record { has_end = refl; no_template = refl; no_title = refl };
+  has_end = refl;
+  no_template = refl;
   starts = λ a w. refl;
   ends = λ w. refl;
   itself = refl;
@@ -121,21 +124,21 @@ pub record IsBlockIn (barrier : Bool) (name : List ℕ) : Type 0 where
 
 open_blocks : HoldsOfAll (IsBlockIn false) open_block_names
 unfolding open_block_names void_names in_body_tag in_body_start in_body_start_blocks in_body_start_inline in_body_start_embedded head_start_names in_body_end in_body_end_blocks in_body_end_inline block_start_names block_end_names html_namespace mathml_namespace svg_namespace is_html_named is_button_scope is_default_scope is_foreign_special scope_names button_scope_names is_heading heading_names role_of role_of_local is_special special_names passed_names list_item_names description_names is_implied implied_names table_structure_names cell_names in_cell_closing_ends in_cell_ignored_ends in_caption_ignored_ends
-open_blocks = (record { block = record { holds = record { has_end = refl; no_template = refl; no_title = refl }; starts = λ a w. refl; ends = λ w. refl; itself = refl; not_implied = refl; outside = record { no_structure = refl; no_cell = refl; closes_none = refl; not_ignored = refl; no_caption = refl; no_end_of_table = refl; kept_in_caption = refl } }; seen = record { no_heading = refl; no_p = refl; no_scope = refl; no_select = refl; role = refl; no_item = refl; no_description = refl; search = refl } }, (record { block = record { holds = record { has_end = refl; no_template = refl; no_title = refl }; starts = λ a w. refl; ends = λ w. refl; itself = refl; not_implied = refl; outside = record { no_structure = refl; no_cell = refl; closes_none = refl; not_ignored = refl; no_caption = refl; no_end_of_table = refl; kept_in_caption = refl } }; seen = record { no_heading = refl; no_p = refl; no_scope = refl; no_select = refl; role = refl; no_item = refl; no_description = refl; search = refl } }, (record { block = record { holds = record { has_end = refl; no_template = refl; no_title = refl }; starts = λ a w. refl; ends = λ w. refl; itself = refl; not_implied = refl; outside = record { no_structure = refl; no_cell = refl; closes_none = refl; not_ignored = refl; no_caption = refl; no_end_of_table = refl; kept_in_caption = refl } }; seen = record { no_heading = refl; no_p = refl; no_scope = refl; no_select = refl; role = refl; no_item = refl; no_description = refl; search = refl } }, tt)))
+open_blocks = (record { block = record { holds = record { has_end = refl; no_template = refl; no_title = refl; no_pre = refl }; starts = λ a w. refl; ends = λ w. refl; itself = refl; not_implied = refl; outside = record { no_structure = refl; no_cell = refl; closes_none = refl; not_ignored = refl; no_caption = refl; no_end_of_table = refl; kept_in_caption = refl } }; seen = record { no_heading = refl; no_p = refl; no_scope = refl; no_select = refl; role = refl; no_item = refl; no_description = refl; search = refl } }, (record { block = record { holds = record { has_end = refl; no_template = refl; no_title = refl; no_pre = refl }; starts = λ a w. refl; ends = λ w. refl; itself = refl; not_implied = refl; outside = record { no_structure = refl; no_cell = refl; closes_none = refl; not_ignored = refl; no_caption = refl; no_end_of_table = refl; kept_in_caption = refl } }; seen = record { no_heading = refl; no_p = refl; no_scope = refl; no_select = refl; role = refl; no_item = refl; no_description = refl; search = refl } }, (record { block = record { holds = record { has_end = refl; no_template = refl; no_title = refl; no_pre = refl }; starts = λ a w. refl; ends = λ w. refl; itself = refl; not_implied = refl; outside = record { no_structure = refl; no_cell = refl; closes_none = refl; not_ignored = refl; no_caption = refl; no_end_of_table = refl; kept_in_caption = refl } }; seen = record { no_heading = refl; no_p = refl; no_scope = refl; no_select = refl; role = refl; no_item = refl; no_description = refl; search = refl } }, tt)))
 
 pub is_open_block : (name : List ℕ) → is_one_of open_block_names name ≡ true → IsBlockIn false name
 is_open_block name h = of_each (IsBlockIn false) open_block_names open_blocks name h
 
 barriers : HoldsOfAll (IsBlockIn true) barrier_names
 unfolding barrier_names void_names in_body_tag in_body_start in_body_start_blocks in_body_start_inline in_body_start_embedded head_start_names in_body_end in_body_end_blocks in_body_end_inline block_start_names block_end_names html_namespace mathml_namespace svg_namespace is_html_named is_button_scope is_default_scope is_foreign_special scope_names button_scope_names is_heading heading_names role_of role_of_local is_special special_names passed_names list_item_names description_names is_implied implied_names table_structure_names cell_names in_cell_closing_ends in_cell_ignored_ends in_caption_ignored_ends
-barriers = (record { block = record { holds = record { has_end = refl; no_template = refl; no_title = refl }; starts = λ a w. refl; ends = λ w. refl; itself = refl; not_implied = refl; outside = record { no_structure = refl; no_cell = refl; closes_none = refl; not_ignored = refl; no_caption = refl; no_end_of_table = refl; kept_in_caption = refl } }; seen = record { no_heading = refl; no_p = refl; no_scope = refl; no_select = refl; role = refl; no_item = refl; no_description = refl; search = refl } }, (record { block = record { holds = record { has_end = refl; no_template = refl; no_title = refl }; starts = λ a w. refl; ends = λ w. refl; itself = refl; not_implied = refl; outside = record { no_structure = refl; no_cell = refl; closes_none = refl; not_ignored = refl; no_caption = refl; no_end_of_table = refl; kept_in_caption = refl } }; seen = record { no_heading = refl; no_p = refl; no_scope = refl; no_select = refl; role = refl; no_item = refl; no_description = refl; search = refl } }, (record { block = record { holds = record { has_end = refl; no_template = refl; no_title = refl }; starts = λ a w. refl; ends = λ w. refl; itself = refl; not_implied = refl; outside = record { no_structure = refl; no_cell = refl; closes_none = refl; not_ignored = refl; no_caption = refl; no_end_of_table = refl; kept_in_caption = refl } }; seen = record { no_heading = refl; no_p = refl; no_scope = refl; no_select = refl; role = refl; no_item = refl; no_description = refl; search = refl } }, (record { block = record { holds = record { has_end = refl; no_template = refl; no_title = refl }; starts = λ a w. refl; ends = λ w. refl; itself = refl; not_implied = refl; outside = record { no_structure = refl; no_cell = refl; closes_none = refl; not_ignored = refl; no_caption = refl; no_end_of_table = refl; kept_in_caption = refl } }; seen = record { no_heading = refl; no_p = refl; no_scope = refl; no_select = refl; role = refl; no_item = refl; no_description = refl; search = refl } }, (record { block = record { holds = record { has_end = refl; no_template = refl; no_title = refl }; starts = λ a w. refl; ends = λ w. refl; itself = refl; not_implied = refl; outside = record { no_structure = refl; no_cell = refl; closes_none = refl; not_ignored = refl; no_caption = refl; no_end_of_table = refl; kept_in_caption = refl } }; seen = record { no_heading = refl; no_p = refl; no_scope = refl; no_select = refl; role = refl; no_item = refl; no_description = refl; search = refl } }, (record { block = record { holds = record { has_end = refl; no_template = refl; no_title = refl }; starts = λ a w. refl; ends = λ w. refl; itself = refl; not_implied = refl; outside = record { no_structure = refl; no_cell = refl; closes_none = refl; not_ignored = refl; no_caption = refl; no_end_of_table = refl; kept_in_caption = refl } }; seen = record { no_heading = refl; no_p = refl; no_scope = refl; no_select = refl; role = refl; no_item = refl; no_description = refl; search = refl } }, (record { block = record { holds = record { has_end = refl; no_template = refl; no_title = refl }; starts = λ a w. refl; ends = λ w. refl; itself = refl; not_implied = refl; outside = record { no_structure = refl; no_cell = refl; closes_none = refl; not_ignored = refl; no_caption = refl; no_end_of_table = refl; kept_in_caption = refl } }; seen = record { no_heading = refl; no_p = refl; no_scope = refl; no_select = refl; role = refl; no_item = refl; no_description = refl; search = refl } }, (record { block = record { holds = record { has_end = refl; no_template = refl; no_title = refl }; starts = λ a w. refl; ends = λ w. refl; itself = refl; not_implied = refl; outside = record { no_structure = refl; no_cell = refl; closes_none = refl; not_ignored = refl; no_caption = refl; no_end_of_table = refl; kept_in_caption = refl } }; seen = record { no_heading = refl; no_p = refl; no_scope = refl; no_select = refl; role = refl; no_item = refl; no_description = refl; search = refl } }, (record { block = record { holds = record { has_end = refl; no_template = refl; no_title = refl }; starts = λ a w. refl; ends = λ w. refl; itself = refl; not_implied = refl; outside = record { no_structure = refl; no_cell = refl; closes_none = refl; not_ignored = refl; no_caption = refl; no_end_of_table = refl; kept_in_caption = refl } }; seen = record { no_heading = refl; no_p = refl; no_scope = refl; no_select = refl; role = refl; no_item = refl; no_description = refl; search = refl } }, (record { block = record { holds = record { has_end = refl; no_template = refl; no_title = refl }; starts = λ a w. refl; ends = λ w. refl; itself = refl; not_implied = refl; outside = record { no_structure = refl; no_cell = refl; closes_none = refl; not_ignored = refl; no_caption = refl; no_end_of_table = refl; kept_in_caption = refl } }; seen = record { no_heading = refl; no_p = refl; no_scope = refl; no_select = refl; role = refl; no_item = refl; no_description = refl; search = refl } }, (record { block = record { holds = record { has_end = refl; no_template = refl; no_title = refl }; starts = λ a w. refl; ends = λ w. refl; itself = refl; not_implied = refl; outside = record { no_structure = refl; no_cell = refl; closes_none = refl; not_ignored = refl; no_caption = refl; no_end_of_table = refl; kept_in_caption = refl } }; seen = record { no_heading = refl; no_p = refl; no_scope = refl; no_select = refl; role = refl; no_item = refl; no_description = refl; search = refl } }, (record { block = record { holds = record { has_end = refl; no_template = refl; no_title = refl }; starts = λ a w. refl; ends = λ w. refl; itself = refl; not_implied = refl; outside = record { no_structure = refl; no_cell = refl; closes_none = refl; not_ignored = refl; no_caption = refl; no_end_of_table = refl; kept_in_caption = refl } }; seen = record { no_heading = refl; no_p = refl; no_scope = refl; no_select = refl; role = refl; no_item = refl; no_description = refl; search = refl } }, (record { block = record { holds = record { has_end = refl; no_template = refl; no_title = refl }; starts = λ a w. refl; ends = λ w. refl; itself = refl; not_implied = refl; outside = record { no_structure = refl; no_cell = refl; closes_none = refl; not_ignored = refl; no_caption = refl; no_end_of_table = refl; kept_in_caption = refl } }; seen = record { no_heading = refl; no_p = refl; no_scope = refl; no_select = refl; role = refl; no_item = refl; no_description = refl; search = refl } }, (record { block = record { holds = record { has_end = refl; no_template = refl; no_title = refl }; starts = λ a w. refl; ends = λ w. refl; itself = refl; not_implied = refl; outside = record { no_structure = refl; no_cell = refl; closes_none = refl; not_ignored = refl; no_caption = refl; no_end_of_table = refl; kept_in_caption = refl } }; seen = record { no_heading = refl; no_p = refl; no_scope = refl; no_select = refl; role = refl; no_item = refl; no_description = refl; search = refl } }, (record { block = record { holds = record { has_end = refl; no_template = refl; no_title = refl }; starts = λ a w. refl; ends = λ w. refl; itself = refl; not_implied = refl; outside = record { no_structure = refl; no_cell = refl; closes_none = refl; not_ignored = refl; no_caption = refl; no_end_of_table = refl; kept_in_caption = refl } }; seen = record { no_heading = refl; no_p = refl; no_scope = refl; no_select = refl; role = refl; no_item = refl; no_description = refl; search = refl } }, (record { block = record { holds = record { has_end = refl; no_template = refl; no_title = refl }; starts = λ a w. refl; ends = λ w. refl; itself = refl; not_implied = refl; outside = record { no_structure = refl; no_cell = refl; closes_none = refl; not_ignored = refl; no_caption = refl; no_end_of_table = refl; kept_in_caption = refl } }; seen = record { no_heading = refl; no_p = refl; no_scope = refl; no_select = refl; role = refl; no_item = refl; no_description = refl; search = refl } }, (record { block = record { holds = record { has_end = refl; no_template = refl; no_title = refl }; starts = λ a w. refl; ends = λ w. refl; itself = refl; not_implied = refl; outside = record { no_structure = refl; no_cell = refl; closes_none = refl; not_ignored = refl; no_caption = refl; no_end_of_table = refl; kept_in_caption = refl } }; seen = record { no_heading = refl; no_p = refl; no_scope = refl; no_select = refl; role = refl; no_item = refl; no_description = refl; search = refl } }, (record { block = record { holds = record { has_end = refl; no_template = refl; no_title = refl }; starts = λ a w. refl; ends = λ w. refl; itself = refl; not_implied = refl; outside = record { no_structure = refl; no_cell = refl; closes_none = refl; not_ignored = refl; no_caption = refl; no_end_of_table = refl; kept_in_caption = refl } }; seen = record { no_heading = refl; no_p = refl; no_scope = refl; no_select = refl; role = refl; no_item = refl; no_description = refl; search = refl } }, (record { block = record { holds = record { has_end = refl; no_template = refl; no_title = refl }; starts = λ a w. refl; ends = λ w. refl; itself = refl; not_implied = refl; outside = record { no_structure = refl; no_cell = refl; closes_none = refl; not_ignored = refl; no_caption = refl; no_end_of_table = refl; kept_in_caption = refl } }; seen = record { no_heading = refl; no_p = refl; no_scope = refl; no_select = refl; role = refl; no_item = refl; no_description = refl; search = refl } }, (record { block = record { holds = record { has_end = refl; no_template = refl; no_title = refl }; starts = λ a w. refl; ends = λ w. refl; itself = refl; not_implied = refl; outside = record { no_structure = refl; no_cell = refl; closes_none = refl; not_ignored = refl; no_caption = refl; no_end_of_table = refl; kept_in_caption = refl } }; seen = record { no_heading = refl; no_p = refl; no_scope = refl; no_select = refl; role = refl; no_item = refl; no_description = refl; search = refl } }, (record { block = record { holds = record { has_end = refl; no_template = refl; no_title = refl }; starts = λ a w. refl; ends = λ w. refl; itself = refl; not_implied = refl; outside = record { no_structure = refl; no_cell = refl; closes_none = refl; not_ignored = refl; no_caption = refl; no_end_of_table = refl; kept_in_caption = refl } }; seen = record { no_heading = refl; no_p = refl; no_scope = refl; no_select = refl; role = refl; no_item = refl; no_description = refl; search = refl } }, tt)))))))))))))))))))))
+barriers = (record { block = record { holds = record { has_end = refl; no_template = refl; no_title = refl; no_pre = refl }; starts = λ a w. refl; ends = λ w. refl; itself = refl; not_implied = refl; outside = record { no_structure = refl; no_cell = refl; closes_none = refl; not_ignored = refl; no_caption = refl; no_end_of_table = refl; kept_in_caption = refl } }; seen = record { no_heading = refl; no_p = refl; no_scope = refl; no_select = refl; role = refl; no_item = refl; no_description = refl; search = refl } }, (record { block = record { holds = record { has_end = refl; no_template = refl; no_title = refl; no_pre = refl }; starts = λ a w. refl; ends = λ w. refl; itself = refl; not_implied = refl; outside = record { no_structure = refl; no_cell = refl; closes_none = refl; not_ignored = refl; no_caption = refl; no_end_of_table = refl; kept_in_caption = refl } }; seen = record { no_heading = refl; no_p = refl; no_scope = refl; no_select = refl; role = refl; no_item = refl; no_description = refl; search = refl } }, (record { block = record { holds = record { has_end = refl; no_template = refl; no_title = refl; no_pre = refl }; starts = λ a w. refl; ends = λ w. refl; itself = refl; not_implied = refl; outside = record { no_structure = refl; no_cell = refl; closes_none = refl; not_ignored = refl; no_caption = refl; no_end_of_table = refl; kept_in_caption = refl } }; seen = record { no_heading = refl; no_p = refl; no_scope = refl; no_select = refl; role = refl; no_item = refl; no_description = refl; search = refl } }, (record { block = record { holds = record { has_end = refl; no_template = refl; no_title = refl; no_pre = refl }; starts = λ a w. refl; ends = λ w. refl; itself = refl; not_implied = refl; outside = record { no_structure = refl; no_cell = refl; closes_none = refl; not_ignored = refl; no_caption = refl; no_end_of_table = refl; kept_in_caption = refl } }; seen = record { no_heading = refl; no_p = refl; no_scope = refl; no_select = refl; role = refl; no_item = refl; no_description = refl; search = refl } }, (record { block = record { holds = record { has_end = refl; no_template = refl; no_title = refl; no_pre = refl }; starts = λ a w. refl; ends = λ w. refl; itself = refl; not_implied = refl; outside = record { no_structure = refl; no_cell = refl; closes_none = refl; not_ignored = refl; no_caption = refl; no_end_of_table = refl; kept_in_caption = refl } }; seen = record { no_heading = refl; no_p = refl; no_scope = refl; no_select = refl; role = refl; no_item = refl; no_description = refl; search = refl } }, (record { block = record { holds = record { has_end = refl; no_template = refl; no_title = refl; no_pre = refl }; starts = λ a w. refl; ends = λ w. refl; itself = refl; not_implied = refl; outside = record { no_structure = refl; no_cell = refl; closes_none = refl; not_ignored = refl; no_caption = refl; no_end_of_table = refl; kept_in_caption = refl } }; seen = record { no_heading = refl; no_p = refl; no_scope = refl; no_select = refl; role = refl; no_item = refl; no_description = refl; search = refl } }, (record { block = record { holds = record { has_end = refl; no_template = refl; no_title = refl; no_pre = refl }; starts = λ a w. refl; ends = λ w. refl; itself = refl; not_implied = refl; outside = record { no_structure = refl; no_cell = refl; closes_none = refl; not_ignored = refl; no_caption = refl; no_end_of_table = refl; kept_in_caption = refl } }; seen = record { no_heading = refl; no_p = refl; no_scope = refl; no_select = refl; role = refl; no_item = refl; no_description = refl; search = refl } }, (record { block = record { holds = record { has_end = refl; no_template = refl; no_title = refl; no_pre = refl }; starts = λ a w. refl; ends = λ w. refl; itself = refl; not_implied = refl; outside = record { no_structure = refl; no_cell = refl; closes_none = refl; not_ignored = refl; no_caption = refl; no_end_of_table = refl; kept_in_caption = refl } }; seen = record { no_heading = refl; no_p = refl; no_scope = refl; no_select = refl; role = refl; no_item = refl; no_description = refl; search = refl } }, (record { block = record { holds = record { has_end = refl; no_template = refl; no_title = refl; no_pre = refl }; starts = λ a w. refl; ends = λ w. refl; itself = refl; not_implied = refl; outside = record { no_structure = refl; no_cell = refl; closes_none = refl; not_ignored = refl; no_caption = refl; no_end_of_table = refl; kept_in_caption = refl } }; seen = record { no_heading = refl; no_p = refl; no_scope = refl; no_select = refl; role = refl; no_item = refl; no_description = refl; search = refl } }, (record { block = record { holds = record { has_end = refl; no_template = refl; no_title = refl; no_pre = refl }; starts = λ a w. refl; ends = λ w. refl; itself = refl; not_implied = refl; outside = record { no_structure = refl; no_cell = refl; closes_none = refl; not_ignored = refl; no_caption = refl; no_end_of_table = refl; kept_in_caption = refl } }; seen = record { no_heading = refl; no_p = refl; no_scope = refl; no_select = refl; role = refl; no_item = refl; no_description = refl; search = refl } }, (record { block = record { holds = record { has_end = refl; no_template = refl; no_title = refl; no_pre = refl }; starts = λ a w. refl; ends = λ w. refl; itself = refl; not_implied = refl; outside = record { no_structure = refl; no_cell = refl; closes_none = refl; not_ignored = refl; no_caption = refl; no_end_of_table = refl; kept_in_caption = refl } }; seen = record { no_heading = refl; no_p = refl; no_scope = refl; no_select = refl; role = refl; no_item = refl; no_description = refl; search = refl } }, (record { block = record { holds = record { has_end = refl; no_template = refl; no_title = refl; no_pre = refl }; starts = λ a w. refl; ends = λ w. refl; itself = refl; not_implied = refl; outside = record { no_structure = refl; no_cell = refl; closes_none = refl; not_ignored = refl; no_caption = refl; no_end_of_table = refl; kept_in_caption = refl } }; seen = record { no_heading = refl; no_p = refl; no_scope = refl; no_select = refl; role = refl; no_item = refl; no_description = refl; search = refl } }, (record { block = record { holds = record { has_end = refl; no_template = refl; no_title = refl; no_pre = refl }; starts = λ a w. refl; ends = λ w. refl; itself = refl; not_implied = refl; outside = record { no_structure = refl; no_cell = refl; closes_none = refl; not_ignored = refl; no_caption = refl; no_end_of_table = refl; kept_in_caption = refl } }; seen = record { no_heading = refl; no_p = refl; no_scope = refl; no_select = refl; role = refl; no_item = refl; no_description = refl; search = refl } }, (record { block = record { holds = record { has_end = refl; no_template = refl; no_title = refl; no_pre = refl }; starts = λ a w. refl; ends = λ w. refl; itself = refl; not_implied = refl; outside = record { no_structure = refl; no_cell = refl; closes_none = refl; not_ignored = refl; no_caption = refl; no_end_of_table = refl; kept_in_caption = refl } }; seen = record { no_heading = refl; no_p = refl; no_scope = refl; no_select = refl; role = refl; no_item = refl; no_description = refl; search = refl } }, (record { block = record { holds = record { has_end = refl; no_template = refl; no_title = refl; no_pre = refl }; starts = λ a w. refl; ends = λ w. refl; itself = refl; not_implied = refl; outside = record { no_structure = refl; no_cell = refl; closes_none = refl; not_ignored = refl; no_caption = refl; no_end_of_table = refl; kept_in_caption = refl } }; seen = record { no_heading = refl; no_p = refl; no_scope = refl; no_select = refl; role = refl; no_item = refl; no_description = refl; search = refl } }, (record { block = record { holds = record { has_end = refl; no_template = refl; no_title = refl; no_pre = refl }; starts = λ a w. refl; ends = λ w. refl; itself = refl; not_implied = refl; outside = record { no_structure = refl; no_cell = refl; closes_none = refl; not_ignored = refl; no_caption = refl; no_end_of_table = refl; kept_in_caption = refl } }; seen = record { no_heading = refl; no_p = refl; no_scope = refl; no_select = refl; role = refl; no_item = refl; no_description = refl; search = refl } }, (record { block = record { holds = record { has_end = refl; no_template = refl; no_title = refl; no_pre = refl }; starts = λ a w. refl; ends = λ w. refl; itself = refl; not_implied = refl; outside = record { no_structure = refl; no_cell = refl; closes_none = refl; not_ignored = refl; no_caption = refl; no_end_of_table = refl; kept_in_caption = refl } }; seen = record { no_heading = refl; no_p = refl; no_scope = refl; no_select = refl; role = refl; no_item = refl; no_description = refl; search = refl } }, (record { block = record { holds = record { has_end = refl; no_template = refl; no_title = refl; no_pre = refl }; starts = λ a w. refl; ends = λ w. refl; itself = refl; not_implied = refl; outside = record { no_structure = refl; no_cell = refl; closes_none = refl; not_ignored = refl; no_caption = refl; no_end_of_table = refl; kept_in_caption = refl } }; seen = record { no_heading = refl; no_p = refl; no_scope = refl; no_select = refl; role = refl; no_item = refl; no_description = refl; search = refl } }, (record { block = record { holds = record { has_end = refl; no_template = refl; no_title = refl; no_pre = refl }; starts = λ a w. refl; ends = λ w. refl; itself = refl; not_implied = refl; outside = record { no_structure = refl; no_cell = refl; closes_none = refl; not_ignored = refl; no_caption = refl; no_end_of_table = refl; kept_in_caption = refl } }; seen = record { no_heading = refl; no_p = refl; no_scope = refl; no_select = refl; role = refl; no_item = refl; no_description = refl; search = refl } }, (record { block = record { holds = record { has_end = refl; no_template = refl; no_title = refl; no_pre = refl }; starts = λ a w. refl; ends = λ w. refl; itself = refl; not_implied = refl; outside = record { no_structure = refl; no_cell = refl; closes_none = refl; not_ignored = refl; no_caption = refl; no_end_of_table = refl; kept_in_caption = refl } }; seen = record { no_heading = refl; no_p = refl; no_scope = refl; no_select = refl; role = refl; no_item = refl; no_description = refl; search = refl } }, (record { block = record { holds = record { has_end = refl; no_template = refl; no_title = refl; no_pre = refl }; starts = λ a w. refl; ends = λ w. refl; itself = refl; not_implied = refl; outside = record { no_structure = refl; no_cell = refl; closes_none = refl; not_ignored = refl; no_caption = refl; no_end_of_table = refl; kept_in_caption = refl } }; seen = record { no_heading = refl; no_p = refl; no_scope = refl; no_select = refl; role = refl; no_item = refl; no_description = refl; search = refl } }, tt)))))))))))))))))))))
 
 pub is_barrier : (name : List ℕ) → is_one_of barrier_names name ≡ true → IsBlockIn true name
 is_barrier name h = of_each (IsBlockIn true) barrier_names barriers name h
 
 headings : HoldsOfAll IsHeadingName heading_names
 unfolding void_names in_body_tag in_body_start in_body_start_blocks in_body_start_inline in_body_start_embedded head_start_names in_body_end in_body_end_blocks in_body_end_inline block_start_names block_end_names html_namespace mathml_namespace svg_namespace is_html_named is_button_scope is_default_scope is_foreign_special scope_names button_scope_names is_heading heading_names role_of role_of_local is_special special_names passed_names list_item_names description_names is_implied implied_names table_structure_names cell_names in_cell_closing_ends in_cell_ignored_ends in_caption_ignored_ends
-headings = (record { holds = record { has_end = refl; no_template = refl; no_title = refl }; starts = λ a w. refl; ends = λ w. refl; itself = refl; heading = refl; not_implied = refl; no_p = refl; no_scope = refl; no_select = refl; role = refl; search = refl; no_item = refl; no_description = refl; outside = record { no_structure = refl; no_cell = refl; closes_none = refl; not_ignored = refl; no_caption = refl; no_end_of_table = refl; kept_in_caption = refl } }, (record { holds = record { has_end = refl; no_template = refl; no_title = refl }; starts = λ a w. refl; ends = λ w. refl; itself = refl; heading = refl; not_implied = refl; no_p = refl; no_scope = refl; no_select = refl; role = refl; search = refl; no_item = refl; no_description = refl; outside = record { no_structure = refl; no_cell = refl; closes_none = refl; not_ignored = refl; no_caption = refl; no_end_of_table = refl; kept_in_caption = refl } }, (record { holds = record { has_end = refl; no_template = refl; no_title = refl }; starts = λ a w. refl; ends = λ w. refl; itself = refl; heading = refl; not_implied = refl; no_p = refl; no_scope = refl; no_select = refl; role = refl; search = refl; no_item = refl; no_description = refl; outside = record { no_structure = refl; no_cell = refl; closes_none = refl; not_ignored = refl; no_caption = refl; no_end_of_table = refl; kept_in_caption = refl } }, (record { holds = record { has_end = refl; no_template = refl; no_title = refl }; starts = λ a w. refl; ends = λ w. refl; itself = refl; heading = refl; not_implied = refl; no_p = refl; no_scope = refl; no_select = refl; role = refl; search = refl; no_item = refl; no_description = refl; outside = record { no_structure = refl; no_cell = refl; closes_none = refl; not_ignored = refl; no_caption = refl; no_end_of_table = refl; kept_in_caption = refl } }, (record { holds = record { has_end = refl; no_template = refl; no_title = refl }; starts = λ a w. refl; ends = λ w. refl; itself = refl; heading = refl; not_implied = refl; no_p = refl; no_scope = refl; no_select = refl; role = refl; search = refl; no_item = refl; no_description = refl; outside = record { no_structure = refl; no_cell = refl; closes_none = refl; not_ignored = refl; no_caption = refl; no_end_of_table = refl; kept_in_caption = refl } }, (record { holds = record { has_end = refl; no_template = refl; no_title = refl }; starts = λ a w. refl; ends = λ w. refl; itself = refl; heading = refl; not_implied = refl; no_p = refl; no_scope = refl; no_select = refl; role = refl; search = refl; no_item = refl; no_description = refl; outside = record { no_structure = refl; no_cell = refl; closes_none = refl; not_ignored = refl; no_caption = refl; no_end_of_table = refl; kept_in_caption = refl } }, tt))))))
+headings = (record { holds = record { has_end = refl; no_template = refl; no_title = refl; no_pre = refl }; starts = λ a w. refl; ends = λ w. refl; itself = refl; heading = refl; not_implied = refl; no_p = refl; no_scope = refl; no_select = refl; role = refl; search = refl; no_item = refl; no_description = refl; outside = record { no_structure = refl; no_cell = refl; closes_none = refl; not_ignored = refl; no_caption = refl; no_end_of_table = refl; kept_in_caption = refl } }, (record { holds = record { has_end = refl; no_template = refl; no_title = refl; no_pre = refl }; starts = λ a w. refl; ends = λ w. refl; itself = refl; heading = refl; not_implied = refl; no_p = refl; no_scope = refl; no_select = refl; role = refl; search = refl; no_item = refl; no_description = refl; outside = record { no_structure = refl; no_cell = refl; closes_none = refl; not_ignored = refl; no_caption = refl; no_end_of_table = refl; kept_in_caption = refl } }, (record { holds = record { has_end = refl; no_template = refl; no_title = refl; no_pre = refl }; starts = λ a w. refl; ends = λ w. refl; itself = refl; heading = refl; not_implied = refl; no_p = refl; no_scope = refl; no_select = refl; role = refl; search = refl; no_item = refl; no_description = refl; outside = record { no_structure = refl; no_cell = refl; closes_none = refl; not_ignored = refl; no_caption = refl; no_end_of_table = refl; kept_in_caption = refl } }, (record { holds = record { has_end = refl; no_template = refl; no_title = refl; no_pre = refl }; starts = λ a w. refl; ends = λ w. refl; itself = refl; heading = refl; not_implied = refl; no_p = refl; no_scope = refl; no_select = refl; role = refl; search = refl; no_item = refl; no_description = refl; outside = record { no_structure = refl; no_cell = refl; closes_none = refl; not_ignored = refl; no_caption = refl; no_end_of_table = refl; kept_in_caption = refl } }, (record { holds = record { has_end = refl; no_template = refl; no_title = refl; no_pre = refl }; starts = λ a w. refl; ends = λ w. refl; itself = refl; heading = refl; not_implied = refl; no_p = refl; no_scope = refl; no_select = refl; role = refl; search = refl; no_item = refl; no_description = refl; outside = record { no_structure = refl; no_cell = refl; closes_none = refl; not_ignored = refl; no_caption = refl; no_end_of_table = refl; kept_in_caption = refl } }, (record { holds = record { has_end = refl; no_template = refl; no_title = refl; no_pre = refl }; starts = λ a w. refl; ends = λ w. refl; itself = refl; heading = refl; not_implied = refl; no_p = refl; no_scope = refl; no_select = refl; role = refl; search = refl; no_item = refl; no_description = refl; outside = record { no_structure = refl; no_cell = refl; closes_none = refl; not_ignored = refl; no_caption = refl; no_end_of_table = refl; kept_in_caption = refl } }, tt))))))
 
 -- `h1` to `h6` are headings
 pub is_heading_name : (name : List ℕ) → is_one_of heading_names name ≡ true → IsHeadingName name

@@ -63,7 +63,7 @@ module _ (choices : SinkChoices) {at_root : Option Role} {w : World} {p : ℕ} {
   starts_pre attrs m h =
       let changes : List Change = ClosePElementInButtonScope ∷ InsertElement (codes "pre") attrs false ∷ SetIgnoreLf ∷ SetFramesetNotOk ∷ [] in
       moves_row choices (start (codes "pre") attrs) w (ignoring (opened choices w p (codes "pre") attrs w.mode w.formatting false)) w.mode changes refl c.ignore_lf (calm_html c)
-      (start_by_body m (codes "pre") attrs w pre.outside.no_structure ∙ pre.starts attrs w ∙ ap (λ b. row_if b changes IsDone) (no_p_expected (names_of w) (no_p h))) refl pre.block.no_title
+      (start_by_body m (codes "pre") attrs w pre.outside.no_structure ∙ pre.starts attrs w ∙ ap (λ b. row_if b changes IsDone) (no_p_expected (names_of w) (no_p h))) refl refl
       (ap (λ v. set_frameset_not_ok (set_ignore_lf (insert_element choices (codes "pre") attrs false v))) (none_closed h)
       ∙ ap (λ v. set_frameset_not_ok (set_ignore_lf v)) (insert_is (codes "pre") attrs))
 

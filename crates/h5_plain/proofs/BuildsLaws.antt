@@ -1,5 +1,5 @@
 -- A plain list of nodes is built below the current node.
-use Rattle.std.proofs.Common.{◌≡◌, ℕ, Bool, true, false, ◌&&◌, ◌||◌, List, [], ◌∷◌, None, Some, codes, refl, ap, cond, subst, sym, ◌∙◌, Option, not}
+use Rattle.std.proofs.Common.{◌≡◌, ◌==◌, ℕ, Bool, true, false, ◌&&◌, ◌||◌, List, [], ◌∷◌, None, Some, codes, refl, ap, cond, subst, sym, ◌∙◌, Option, not}
 use Rattle.h5_names.specs.AttributeText.{AttributeText, is_same_text}
 use Rattle.h5_names.specs.declared.qualified.QualName.{QualName}
 use Rattle.h5_token.specs.TokenText.{Characters, TokenText}
@@ -18,17 +18,17 @@ use Rattle.h5_rules.specs.Blanks.{all_blank}
 use Rattle.h5_rules.specs.stack.Closing.{ends_item_search, is_html_among, newest_item, passed_names}
 use Rattle.h5_rules.specs.modes.InBody.{description_names, list_item_names}
 use Rattle.h5_rules.specs.World.{World, names_of}
-use Rattle.h5_plain.specs.Plain.{Around, Barrier, Blank, Break, Caption, Cell, Cells, Column, ColumnBlank, ColumnGroup, Columns, Describing, Division, ElementThen, End, Flow, Formatted, Heading, IsPlain, Item, Link, Nodes, Nothing, Paragraph, Part, Phrase, Preformatted, Rows, Ruled, Section, Sections, Sort, Table, TablePart, TableRow, TextThen, Words, begins_with_newline, behind, end_tag, has_end_tag, nothing_open, start_tag, tokens_before, within}
+use Rattle.h5_plain.specs.Plain.{Around, Barrier, Blank, Break, Caption, Cell, Cells, Column, ColumnBlank, ColumnGroup, Columns, Describing, Division, ElementThen, End, Flow, Formatted, Heading, IsPlain, Item, Link, Nodes, Nothing, Paragraph, Part, Phrase, Preformatted, Rows, Ruled, Section, Sections, Sort, Table, TablePart, TableRow, TextThen, Words, as_written, behind, doubled, end_tag, has_end_tag, held_as_written, nothing_open, start_tag, tokens_before, within}
 use Rattle.h5_rules.specs.formatting.FormattingList.{Entry, MarkerEntry, clear_to_marker, push_formatting}
 use Rattle.h5_plain.proofs.ListedLaws.{Entries, Fewer, Formats, Kept, Lost, OpenFormat, Other, Passed, has_link, passed}
-use Rattle.h5_plain.proofs.BodyRuleLaws.{IsBlockName, IsHeadingName, IsHolder, IsSeen, is_barrier, is_heading_name, is_open_block, p_holds, p_outside, p_rule, pre}
+use Rattle.h5_plain.proofs.BodyRuleLaws.{IsHeadingName, IsHolder, IsSeen, is_barrier, is_heading_name, is_open_block, p_holds, p_outside, p_rule, pre}
 use Rattle.h5_plain.proofs.BodyStepLaws.{ends_block, ends_heading, ends_p, ends_pre, starts_block, starts_heading, starts_pre, writes}
-use Rattle.h5_plain.proofs.CalmLaws.{Built, Calm, Closed, Opens, after, built_nothing, calm_after, calm_below, calm_html, element_case, names_are, opened, place_is}
+use Rattle.h5_plain.proofs.CalmLaws.{Built, Calm, Closed, Opens, after, built_nothing, calm_after, calm_below, calm_html, element_case, enters, names_are, opened, place_is}
 use Rattle.h5_plain.proofs.FilledLaws.{Face, face, filled_element, filled_nothing, filled_text, frame_element, frame_text, more, same_faces}
 use Rattle.h5_plain.proofs.FormatListLaws.{closed_fewer, entries_pushed, pushed_fewer, rest_fewer}
 use Rattle.h5_plain.proofs.FormatRuleLaws.{IsFormatName, a_formats, is_inline_name}
 use Rattle.h5_plain.proofs.FormatStepLaws.{ends_kept, ends_lost, formatted, starts_formatting, starts_link}
-use Rattle.h5_plain.proofs.GoesLaws.{BeginsOtherwise, BeginsWithTag, Goes, InColumns, IsTableMode, KeptBack, Moves, Straight, Takes, TheRow, TheSection, TheTable, goes_ignoring, ignoring}
+use Rattle.h5_plain.proofs.GoesLaws.{BeginsWithTag, Goes, InColumns, IsTableMode, KeptBack, Moves, Straight, Takes, TheRow, TheSection, TheTable, goes_behind_newline, goes_ignoring, ignoring}
 use Rattle.h5_plain.proofs.GrowthLaws.{body, html, with_element}
 use Rattle.h5_plain.proofs.HtmlLaws.{AtHtml}
 use Rattle.h5_plain.proofs.ListRuleLaws.{IsTermName, is_term, item_holds, item_outside, item_rule, item_seen}
@@ -36,7 +36,7 @@ use Rattle.h5_plain.proofs.ListStepLaws.{ends_item, ends_term, starts_item}
 use Rattle.h5_plain.proofs.LooksLaws.{ends_in_node, ends_in_text, unlike}
 use Rattle.h5_plain.proofs.ModeLaws.{GoesByBody, ResetsTo, TheBody, TheCaption, TheCell, resets_below, resets_to_caption, resets_to_cell}
 use Rattle.h5_plain.proofs.PhraseRuleLaws.{is_mark, is_phrase}
-use Rattle.h5_plain.proofs.PhraseStepLaws.{ends_phrase, marked, marks, rules_off, starts_phrase}
+use Rattle.h5_plain.proofs.PhraseStepLaws.{ends_phrase, marks, rules_off, starts_phrase}
 use Rattle.h5_plain.proofs.RuleLaws.{start}
 use Rattle.h5_plain.proofs.TableBuildsLaws.{in_marked, in_part, marked_case, part_case}
 use Rattle.h5_plain.proofs.TableRuleLaws.{IsCellName, caption, column_is_void, group_holds, group_rule, is_cell_name, is_part_name, row_holds, row_rule, table_holds}
@@ -259,6 +259,18 @@ in_a_caption at_root names h =
 unlinked_in : (b : Bool) (n : ℕ) (name : List ℕ) (path : List OpenFormat) → is_same_text name (codes "a") ≡ false → Free b (has_link path) → Free b (has_link (Formats n name ∷ path))
 unlinked_in b n name path h u e = ap (λ x. x || has_link path) h ∙ u e
 
+-- behind the start tag of a `pre`, nodes of which a newline at the front is told twice lead where they lead elsewhere
+goes_doubled : (blanks : Bool) (choices : SinkChoices) (inner : Nodes) (name : List ℕ) (ts : List TokenText) (w u : World) → GoesByBody w.mode → w.ignore_lf ≡ false
+    → Goes blanks choices (tokens_before inner (end_tag name ∷ ts)) w u → Goes blanks choices (tokens_before (doubled inner) (end_tag name ∷ ts)) (ignoring w) u
+goes_doubled blanks choices End name ts w u k e g = goes_ignoring blanks choices (end_tag name ∷ ts) w u k e refl g
+goes_doubled blanks choices (ElementThen n a i r) name ts w u k e g = goes_ignoring blanks choices (tokens_before (ElementThen n a i r) (end_tag name ∷ ts)) w u k e refl g
+goes_doubled blanks choices (TextThen [] rest) name ts w u k e g = goes_ignoring blanks choices (tokens_before (TextThen [] rest) (end_tag name ∷ ts)) w u k e refl g
+goes_doubled blanks choices (TextThen (b ∷ t) rest) name ts w u k e g = at (b == 10) refl
+  where
+    at : (c : Bool) → b == 10 ≡ c → Goes blanks choices (Characters (cond c (10 ∷ b ∷ t) (b ∷ t)) ∷ tokens_before rest (end_tag name ∷ ts)) (ignoring w) u
+    at true h = goes_behind_newline blanks choices b t (tokens_before rest (end_tag name ∷ ts)) w u k e g
+    at false h = goes_ignoring blanks choices (Characters (b ∷ t) ∷ tokens_before rest (end_tag name ∷ ts)) w u k e (ap not h) g
+
 -- an element that isn't listed: the formatting list stays as it is
 module _ (choices : SinkChoices) {at_root : Option Role} {w : World} {p : ℕ} {d : Face} {names : List QualName} {path : List OpenFormat} {under : List ℕ} {base : List Entry} (c : Calm at_root w p d names path under base) (name : List ℕ) (attrs : List AttributeText) where
   abbrev in_block : World
@@ -283,7 +295,7 @@ module _ (choices : SinkChoices) {at_root : Option Role} {w : World} {p : ℕ} {
       → ((f : Forest) (k : List Entry) (b : Bool) (x : Option InsertionMode) → Calm at_root (after w f k b x) p (more d (ChildNode block ∷ [])) names path under base → Built blanks choices (after w f k b x) p (more d (ChildNode block ∷ [])) rest path base)
       → Built blanks choices w p d (ElementThen name attrs inner rest) path base
   block_case inner rest h m fill ends next =
-      element_case choices w p d name attrs w.mode w.formatting w.frameset_ok (Other block ∷ path) under base c (opens_block h) inner rest (λ ts u g. (in_block, (Straight m, g))) fill
+      element_case choices w p d name attrs w.mode w.formatting w.frameset_ok (Other block ∷ path) under base c (opens_block h) inner rest (enters name attrs inner h.no_pre m) fill
       (λ i e j x. record {
         forest = i.forest;
         formatting = i.formatting;
@@ -313,7 +325,9 @@ module _ (choices : SinkChoices) {at_root : Option Role} {w : World} {p : ℕ} {
         formatting = y.formatting;
         ok = y.ok;
         saved = y.saved;
-        goes = λ ts u z g. (v, (Straight m, subst (λ b. Goes blanks choices (cond b (tokens_before End (end_tag name ∷ tokens_before rest ts)) (tokens_before rest ts)) v u) (sym void) (y.goes ts u z g)));
+        goes = λ ts u z g.
+            let after_it = tokens_before (as_written rest) ts in
+            (v, (Straight m, subst (λ b. Goes blanks choices (cond b (tokens_before (held_as_written name End) (end_tag name ∷ after_it)) after_it) v u) (sym void) (y.goes ts u z g)));
         filled = filled_element choices w.forest p d name attrs below c.is_forest c.shows v.forest v.forest y.forest End rest i same y.filled;
         entries = y.entries;
         fewer = y.fewer;
@@ -323,22 +337,29 @@ module _ (choices : SinkChoices) {at_root : Option Role} {w : World} {p : ℕ} {
   abbrev in_pre : World
   in_pre = opened choices w p name attrs w.mode w.formatting false
 
-  pre_case : {blanks : Bool} → (inner rest : Nodes) → GoesByBody w.mode → IsHolder name → Moves choices (start_tag name attrs) w (ignoring in_pre) → ((ts : List TokenText) → BeginsOtherwise (tokens_before inner (end_tag name ∷ ts)))
+  pre_case : {blanks : Bool} → (inner rest : Nodes) → GoesByBody w.mode → has_end_tag name ≡ true → is_html_template (html_name name) ≡ false → is_same_text name (codes "pre") ≡ true → Moves choices (start_tag name attrs) w (ignoring in_pre)
       → (Calm at_root in_pre block (face name attrs) (html_name name ∷ names) (Other block ∷ path) under base → Built blanks choices in_pre block (face name attrs) inner (Other block ∷ path) base)
       → ((v : World) → v.mode ≡ w.mode → v.ignore_lf ≡ false → AtHtml v → names_of v ≡ html_name name ∷ names → Moves choices (end_tag name) v (record v { stack = but_first v.stack }))
       → ((f : Forest) (k : List Entry) (b : Bool) (x : Option InsertionMode) → Calm at_root (after w f k b x) p (more d (ChildNode block ∷ [])) names path under base → Built blanks choices (after w f k b x) p (more d (ChildNode block ∷ [])) rest path base)
       → Built blanks choices w p d (ElementThen name attrs inner rest) path base
-  pre_case {blanks} inner rest k1 h m other fill ends next =
+  pre_case {blanks} inner rest k1 has_end no_template is_pre m fill ends next =
       let o : Opens choices w p d name attrs w.mode w.formatting false (Other block ∷ path) under base = record {
-        has_end = h.has_end;
-        no_template = h.no_template;
+        has_end = has_end;
+        no_template = no_template;
         are_open = ap (λ s. block ∷ s) c.are_open;
         is_base = c.is_base;
         entries = Passed c.entries;
         unlisted = λ n e x. e;
       } in
       element_case choices w p d name attrs w.mode w.formatting false (Other block ∷ path) under base c o inner rest
-      (λ ts u g. (ignoring in_pre, (Straight m, goes_ignoring blanks choices (tokens_before inner (end_tag name ∷ ts)) in_pre u k1 c.ignore_lf (other ts) g))) fill
+      (λ ts u g. (
+        ignoring in_pre,
+        (
+          Straight m,
+          subst (λ b. Goes blanks choices (tokens_before (cond b (doubled (as_written inner)) (as_written inner)) (end_tag name ∷ ts)) (ignoring in_pre) u) (sym is_pre)
+              (goes_doubled blanks choices (as_written inner) name ts in_pre u k1 c.ignore_lf g),
+        ),
+      )) fill
       (λ i e j x. record {
         forest = i.forest;
         formatting = i.formatting;
@@ -355,7 +376,7 @@ module _ (choices : SinkChoices) {at_root : Option Role} {w : World} {p : ℕ} {
   blanked t = after w (append_text p t w.forest) w.formatting w.frameset_ok (Some w.mode)
 
   blank_case : {blanks : Bool} → (b : ℕ) (t : List ℕ) (rest : Nodes) → blanks ≡ true → IsTableMode w.mode → first_passes is_table_outer names ≡ true → all_blank (b ∷ t) ≡ true → ends_in_text d.children ≡ false
-      → ((ts : List TokenText) → BeginsWithTag ts → BeginsWithTag (tokens_before rest ts))
+      → ((ts : List TokenText) → BeginsWithTag ts → BeginsWithTag (tokens_before (as_written rest) ts))
       → (Calm at_root (blanked (b ∷ t)) p (more d (ChildText (b ∷ t) ∷ [])) names path under base → Built blanks choices (blanked (b ∷ t)) p (more d (ChildText (b ∷ t) ∷ [])) rest path base)
       → Built blanks choices w p d (TextThen (b ∷ t) rest) path base
   blank_case b t rest e m o a z tag next =
@@ -429,7 +450,7 @@ no_text (Blank q a n r) e = absurd (let z : false ≡ true = e in cc)
 no_text (ColumnBlank q a n r) e = absurd (let z : false ≡ true = e in cc)
 
 -- a tag follows a blank text in a table
-tag_next : {blanks : Bool} {part : TablePart} (rest : Nodes) → IsPlain blanks (Part true part) rest → (ts : List TokenText) → BeginsWithTag ts → BeginsWithTag (tokens_before rest ts)
+tag_next : {blanks : Bool} {part : TablePart} (rest : Nodes) → IsPlain blanks (Part true part) rest → (ts : List TokenText) → BeginsWithTag ts → BeginsWithTag (tokens_before (as_written rest) ts)
 tag_next End k ts h = h
 tag_next (ElementThen name attrs inner rest) k ts h = tt
 tag_next (TextThen text rest) k ts h = absurd (no_text k refl)
@@ -448,13 +469,6 @@ same_place : (at_root : Option Role) (part : TablePart) (m : InsertionMode) (nam
 same_place at_root Sections m names f = f
 same_place at_root Rows m names f = f
 same_place at_root Cells m names f = f
-
--- what begins with no newline
-begins : {blanks : Bool} → {s : Sort} (inner : Nodes) → IsPlain blanks s inner → begins_with_newline inner ≡ false → (name : List ℕ) (ts : List TokenText) → BeginsOtherwise (tokens_before inner (end_tag name ∷ ts))
-begins End k h name ts = refl
-begins (TextThen [] rest) k h name ts = refl
-begins (TextThen (b ∷ t) rest) k h name ts = ap not h
-begins (ElementThen n a i r) k h name ts = refl
 
 -- a text and the rest
 module _ (choices : SinkChoices) {at_root : Option Role} {w : World} {p : ℕ} {d : Face} {names : List QualName} {path : List OpenFormat} {under : List ℕ} {base : List Entry} (c : Calm at_root w p d names path under base) (m : GoesByBody w.mode) where
@@ -522,7 +536,7 @@ module _ (choices : SinkChoices) {at_root : Option Role} {w : World} {p : ℕ} {
       → ((f : Forest) (k : List Entry) (b : Bool) (x : Option InsertionMode) → Calm at_root (after w f k b x) p (more d (ChildNode its_node ∷ [])) names path under base → Built blanks choices (after w f k b x) p (more d (ChildNode its_node ∷ [])) rest path base)
       → Built blanks choices w p d (ElementThen name attrs inner rest) path base
   format_case inner rest k m moves fill next =
-      element_case choices w p d name attrs w.mode (push_formatting its_node (start name attrs) w.formatting) w.frameset_ok (Formats its_node name ∷ path) under base c (opens_format k.holds) inner rest (λ ts u g. (in_format, (Straight moves, g))) fill
+      element_case choices w p d name attrs w.mode (push_formatting its_node (start name attrs) w.formatting) w.frameset_ok (Formats its_node name ∷ path) under base c (opens_format k.holds) inner rest (enters name attrs inner k.holds.no_pre moves) fill
       (λ i e j x. closes_format i.forest i.formatting i.ok i.saved k m i.filled.frame.is_forest e j i.entries i.fewer)
       next
 
@@ -627,9 +641,9 @@ builds choices {at_root} (Link {a} {o} {attrs} {inner} {rest} u y i r) w p d nam
     format_case choices c (codes "a") attrs inner rest a_formats f.goes (starts_link choices c attrs f.goes (l u))
     (λ q. builds choices i (in_format choices c (codes "a") attrs) n (face (codes "a") attrs) (html_name (codes "a") ∷ names) (Formats n (codes "a") ∷ path) under base (fits_in_link o w.mode names f) refl (λ e. absurd (cc)) q)
     (λ g k b y1 q. builds choices r (after w g k b y1) p (more d (ChildNode n ∷ [])) names path under base f (ends_in_node n d.children) l q)
-builds choices {at_root} (Preformatted {a} {o} {attrs} {inner} {rest} u t y i r) w p d names path under base f z l c =
+builds choices {at_root} (Preformatted {a} {o} {attrs} {inner} {rest} u y i r) w p d names path under base f z l c =
     let n = choices.fresh w.forest in
-    pre_case choices c (codes "pre") attrs inner rest f.goes pre.block (starts_pre choices c attrs f.goes (f.no_p u)) (begins inner i t (codes "pre"))
+    pre_case choices c (codes "pre") attrs inner rest f.goes pre.has_end pre.no_template refl (starts_pre choices c attrs f.goes (f.no_p u))
     (λ q. builds choices i (in_pre choices c (codes "pre") attrs) n (face (codes "pre") attrs) (html_name (codes "pre") ∷ names) (Other n ∷ path) under base (fits_behind o w.mode (codes "pre") names pre.seen f) refl l q)
     (λ v m k j e. ends_pre choices v names (subst GoesByBody (sym m) f.goes) k j e)
     (λ g k b y1 q. builds choices r (after w g k b y1) p (more d (ChildNode n ∷ [])) names path under base f (ends_in_node n d.children) l q)

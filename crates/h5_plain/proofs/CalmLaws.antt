@@ -1,6 +1,6 @@
 -- A builder in the middle of a list of nodes, and what it makes of them.
-use Rattle.std.proofs.Common.{◌≡◌, ◌≢◌, ◌∙◌, ℕ, Bool, true, false, ◌&&◌, not, cond, List, [], ◌∷◌, ◌++◌, map, Option, None, Some, unwrap_or, refl, ap, sym, subst}
-use Rattle.h5_names.specs.AttributeText.{AttributeText}
+use Rattle.std.proofs.Common.{◌≡◌, ◌≢◌, ◌∙◌, ℕ, Bool, true, false, ◌&&◌, not, cond, List, [], ◌∷◌, codes, ◌++◌, map, Option, None, Some, unwrap_or, refl, ap, sym, subst}
+use Rattle.h5_names.specs.AttributeText.{AttributeText, is_same_text}
 use Rattle.h5_names.specs.declared.qualified.QualName.{QualName}
 use Rattle.h5_token.specs.TokenText.{TokenText}
 use Rattle.h5_interface.specs.Forest.{Child, ChildNode, ElementNode, Forest, IsForest, IsNode, contents_of, kind_of}
@@ -17,7 +17,7 @@ use Rattle.h5_rules.specs.stack.Scope.{has_template}
 use Rattle.h5_rules.specs.Changes.{owned}
 use Rattle.h5_rules.specs.insertion.FormOwner.{associates, form_owner, may_have_owner}
 use Rattle.h5_rules.specs.World.{World, current, name_in, name_of_found, name_of_kind, names_of, root}
-use Rattle.h5_plain.specs.Plain.{ElementThen, End, Nodes, end_tag, has_end_tag, start_tag, tokens_before}
+use Rattle.h5_plain.specs.Plain.{ElementThen, End, Nodes, as_written, doubled, end_tag, has_end_tag, held_as_written, start_tag, tokens_before}
 use Rattle.h5_plain.proofs.FilledLaws.{Face, Filled, Frame, SameFaces, Shows, face, filled_element, filled_nothing, frame_element, gone_before, more}
 use Rattle.h5_tables.specs.declared.modes.InsertionMode.{InsertionMode}
 use Rattle.h5_plain.proofs.GoesLaws.{BeginsWithTag, Goes, IsTableMode, Moves, Straight}
@@ -115,7 +115,7 @@ pub record Built (blanks : Bool) (choices : SinkChoices) (w : World) (p : ℕ) (
   pub formatting : List Entry
   pub ok : Bool
   pub saved : Option InsertionMode
-  pub goes : (ts : List TokenText) (u : World) → (IsTableMode w.mode → BeginsWithTag ts) → Goes blanks choices ts (after w forest formatting ok saved) u → Goes blanks choices (tokens_before nodes ts) w u
+  pub goes : (ts : List TokenText) (u : World) → (IsTableMode w.mode → BeginsWithTag ts) → Goes blanks choices ts (after w forest formatting ok saved) u → Goes blanks choices (tokens_before (as_written nodes) ts) w u
   pub filled : Filled w.forest forest p d nodes
   pub entries : Entries base path formatting
   pub fewer : Fewer formatting w.formatting
@@ -168,6 +168,13 @@ module _ (choices : SinkChoices) {at_root : Option Role} {w : World} {p : ℕ} {
     fewer = λ n h. h;
   }
 
+-- what an element holds that is no `pre` is told as it stands
+pub enters : {blanks : Bool} {choices : SinkChoices} {w v : World} (name : List ℕ) (attrs : List AttributeText) (inner : Nodes) → is_same_text name (codes "pre") ≡ false → Moves choices (start_tag name attrs) w v
+    → (ts : List TokenText) (u : World) → Goes blanks choices (tokens_before (as_written inner) (end_tag name ∷ ts)) v u
+    → Goes blanks choices (start_tag name attrs ∷ tokens_before (held_as_written name (as_written inner)) (end_tag name ∷ ts)) w u
+enters {blanks} {choices} {w} {v} name attrs inner e m ts u g =
+    (v, (Straight m, subst (λ b. Goes blanks choices (tokens_before (cond b (doubled (as_written inner)) (as_written inner)) (end_tag name ∷ ts)) v u) (sym e) g))
+
 -- how an element is opened: the world inside, and the formatting elements that are open there
 module _ (choices : SinkChoices) (w : World) (p : ℕ) (d : Face) (name : List ℕ) (attrs : List AttributeText) (m : InsertionMode) (l : List Entry) (ok : Bool) (path1 : List OpenFormat) (under1 : List ℕ) (base1 : List Entry) where
   abbrev pub inside : World
@@ -211,7 +218,7 @@ module _ (choices : SinkChoices) (w : World) (p : ℕ) (d : Face) (name : List �
 
     -- an element: its start tag, what it holds, its end tag, and the rest
     pub element_case : {blanks : Bool} → (inner rest : Nodes)
-        → ((ts : List TokenText) (u : World) → Goes blanks choices (tokens_before inner (end_tag name ∷ ts)) inside u → Goes blanks choices (start_tag name attrs ∷ tokens_before inner (end_tag name ∷ ts)) w u)
+        → ((ts : List TokenText) (u : World) → Goes blanks choices (tokens_before (as_written inner) (end_tag name ∷ ts)) inside u → Goes blanks choices (start_tag name attrs ∷ tokens_before (held_as_written name (as_written inner)) (end_tag name ∷ ts)) w u)
         → (Calm at_root inside new (face name attrs) (html_name name ∷ names) path1 under1 base1 → Built blanks choices inside new (face name attrs) inner path1 base1)
         → ((i : Built blanks choices inside new (face name attrs) inner path1 base1) → names_of (after inside i.forest i.formatting i.ok i.saved) ≡ html_name name ∷ names → AtHtml (after inside i.forest i.formatting i.ok i.saved) → role_at i.forest w.context ≡ at_root → Closed choices name (after inside i.forest i.formatting i.ok i.saved) w path base)
         → ((f : Forest) (k : List Entry) (b : Bool) (x : Option InsertionMode) → Calm at_root (after w f k b x) p (more d (ChildNode new ∷ [])) names path under base → Built blanks choices (after w f k b x) p (more d (ChildNode new ∷ [])) rest path base)
@@ -230,8 +237,10 @@ module _ (choices : SinkChoices) (w : World) (p : ℕ) (d : Face) (name : List �
           formatting = r.formatting;
           ok = r.ok;
           saved = r.saved;
-          goes = λ ts u z g. subst (λ b. Goes blanks choices (start_tag name attrs ∷ cond b (tokens_before inner (end_tag name ∷ tokens_before rest ts)) (tokens_before rest ts)) w u) (sym o.has_end)
-              (enter (tokens_before rest ts) u (i.goes (end_tag name ∷ tokens_before rest ts) u (λ q. tt) (after w k.forest k.formatting i.ok i.saved, (Straight k.moves, r.goes ts u z g))));
+          goes = λ ts u z g.
+              let after_it = tokens_before (as_written rest) ts in
+              subst (λ b. Goes blanks choices (start_tag name attrs ∷ cond b (tokens_before (held_as_written name (as_written inner)) (end_tag name ∷ after_it)) after_it) w u) (sym o.has_end)
+              (enter after_it u (i.goes (end_tag name ∷ after_it) u (λ q. tt) (after w k.forest k.formatting i.ok i.saved, (Straight k.moves, r.goes ts u z g))));
           filled = filled_element choices w.forest p d name attrs below c.is_forest c.shows i.forest k.forest r.forest inner rest i.filled k.same r.filled;
           entries = r.entries;
           fewer = λ n h. r.fewer n (k.fewer n h);

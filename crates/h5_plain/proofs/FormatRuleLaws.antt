@@ -36,7 +36,7 @@ a_rule a w = refl
 pub a_formats : IsFormatName (codes "a")
 unfolding void_names in_body_tag in_body_end in_body_end_blocks in_body_end_inline block_end_names formatting_names table_structure_names cell_names in_cell_closing_ends in_cell_ignored_ends in_caption_ignored_ends html_namespace mathml_namespace svg_namespace is_html_named is_button_scope is_default_scope is_foreign_special scope_names button_scope_names is_heading heading_names role_of role_of_local is_special special_names passed_names list_item_names description_names
 a_formats = record {
-  holds = record { has_end = refl; no_template = refl; no_title = refl };
+  holds = record { has_end = refl; no_template = refl; no_title = refl; no_pre = refl };
   ends = λ w. refl;
   itself = refl;
   same = refl;
@@ -52,7 +52,7 @@ pub record IsInlineName (name : List ℕ) : Type 0 where
 
 inlines : HoldsOfAll IsInlineName inline_names
 unfolding inline_names void_names in_body_tag in_body_start in_body_start_blocks in_body_start_inline in_body_start_embedded head_start_names in_body_end in_body_end_blocks in_body_end_inline block_start_names block_end_names html_namespace mathml_namespace svg_namespace is_html_named is_button_scope is_default_scope is_foreign_special scope_names button_scope_names is_heading heading_names role_of role_of_local is_special special_names passed_names list_item_names description_names formatting_names in_body_preformatted table_structure_names cell_names in_cell_closing_ends in_cell_ignored_ends in_caption_ignored_ends
-inlines = (record { formats = record { holds = record { has_end = refl; no_template = refl; no_title = refl }; ends = λ w. refl; itself = refl; same = refl; outside = record { no_structure = refl; no_cell = refl; closes_none = refl; not_ignored = refl; no_caption = refl; no_end_of_table = refl; kept_in_caption = refl }; seen = record { no_heading = refl; no_p = refl; no_scope = refl; no_select = refl; role = refl; no_item = refl; no_description = refl; search = refl } }; starts = λ a w. refl; no_link = refl }, (record { formats = record { holds = record { has_end = refl; no_template = refl; no_title = refl }; ends = λ w. refl; itself = refl; same = refl; outside = record { no_structure = refl; no_cell = refl; closes_none = refl; not_ignored = refl; no_caption = refl; no_end_of_table = refl; kept_in_caption = refl }; seen = record { no_heading = refl; no_p = refl; no_scope = refl; no_select = refl; role = refl; no_item = refl; no_description = refl; search = refl } }; starts = λ a w. refl; no_link = refl }, (record { formats = record { holds = record { has_end = refl; no_template = refl; no_title = refl }; ends = λ w. refl; itself = refl; same = refl; outside = record { no_structure = refl; no_cell = refl; closes_none = refl; not_ignored = refl; no_caption = refl; no_end_of_table = refl; kept_in_caption = refl }; seen = record { no_heading = refl; no_p = refl; no_scope = refl; no_select = refl; role = refl; no_item = refl; no_description = refl; search = refl } }; starts = λ a w. refl; no_link = refl }, (record { formats = record { holds = record { has_end = refl; no_template = refl; no_title = refl }; ends = λ w. refl; itself = refl; same = refl; outside = record { no_structure = refl; no_cell = refl; closes_none = refl; not_ignored = refl; no_caption = refl; no_end_of_table = refl; kept_in_caption = refl }; seen = record { no_heading = refl; no_p = refl; no_scope = refl; no_select = refl; role = refl; no_item = refl; no_description = refl; search = refl } }; starts = λ a w. refl; no_link = refl }, (record { formats = record { holds = record { has_end = refl; no_template = refl; no_title = refl }; ends = λ w. refl; itself = refl; same = refl; outside = record { no_structure = refl; no_cell = refl; closes_none = refl; not_ignored = refl; no_caption = refl; no_end_of_table = refl; kept_in_caption = refl }; seen = record { no_heading = refl; no_p = refl; no_scope = refl; no_select = refl; role = refl; no_item = refl; no_description = refl; search = refl } }; starts = λ a w. refl; no_link = refl }, (record { formats = record { holds = record { has_end = refl; no_template = refl; no_title = refl }; ends = λ w. refl; itself = refl; same = refl; outside = record { no_structure = refl; no_cell = refl; closes_none = refl; not_ignored = refl; no_caption = refl; no_end_of_table = refl; kept_in_caption = refl }; seen = record { no_heading = refl; no_p = refl; no_scope = refl; no_select = refl; role = refl; no_item = refl; no_description = refl; search = refl } }; starts = λ a w. refl; no_link = refl }, (record { formats = record { holds = record { has_end = refl; no_template = refl; no_title = refl }; ends = λ w. refl; itself = refl; same = refl; outside = record { no_structure = refl; no_cell = refl; closes_none = refl; not_ignored = refl; no_caption = refl; no_end_of_table = refl; kept_in_caption = refl }; seen = record { no_heading = refl; no_p = refl; no_scope = refl; no_select = refl; role = refl; no_item = refl; no_description = refl; search = refl } }; starts = λ a w. refl; no_link = refl }, (record { formats = record { holds = record { has_end = refl; no_template = refl; no_title = refl }; ends = λ w. refl; itself = refl; same = refl; outside = record { no_structure = refl; no_cell = refl; closes_none = refl; not_ignored = refl; no_caption = refl; no_end_of_table = refl; kept_in_caption = refl }; seen = record { no_heading = refl; no_p = refl; no_scope = refl; no_select = refl; role = refl; no_item = refl; no_description = refl; search = refl } }; starts = λ a w. refl; no_link = refl }, (record { formats = record { holds = record { has_end = refl; no_template = refl; no_title = refl }; ends = λ w. refl; itself = refl; same = refl; outside = record { no_structure = refl; no_cell = refl; closes_none = refl; not_ignored = refl; no_caption = refl; no_end_of_table = refl; kept_in_caption = refl }; seen = record { no_heading = refl; no_p = refl; no_scope = refl; no_select = refl; role = refl; no_item = refl; no_description = refl; search = refl } }; starts = λ a w. refl; no_link = refl }, (record { formats = record { holds = record { has_end = refl; no_template = refl; no_title = refl }; ends = λ w. refl; itself = refl; same = refl; outside = record { no_structure = refl; no_cell = refl; closes_none = refl; not_ignored = refl; no_caption = refl; no_end_of_table = refl; kept_in_caption = refl }; seen = record { no_heading = refl; no_p = refl; no_scope = refl; no_select = refl; role = refl; no_item = refl; no_description = refl; search = refl } }; starts = λ a w. refl; no_link = refl }, (record { formats = record { holds = record { has_end = refl; no_template = refl; no_title = refl }; ends = λ w. refl; itself = refl; same = refl; outside = record { no_structure = refl; no_cell = refl; closes_none = refl; not_ignored = refl; no_caption = refl; no_end_of_table = refl; kept_in_caption = refl }; seen = record { no_heading = refl; no_p = refl; no_scope = refl; no_select = refl; role = refl; no_item = refl; no_description = refl; search = refl } }; starts = λ a w. refl; no_link = refl }, (record { formats = record { holds = record { has_end = refl; no_template = refl; no_title = refl }; ends = λ w. refl; itself = refl; same = refl; outside = record { no_structure = refl; no_cell = refl; closes_none = refl; not_ignored = refl; no_caption = refl; no_end_of_table = refl; kept_in_caption = refl }; seen = record { no_heading = refl; no_p = refl; no_scope = refl; no_select = refl; role = refl; no_item = refl; no_description = refl; search = refl } }; starts = λ a w. refl; no_link = refl }, tt))))))))))))
+inlines = (record { formats = record { holds = record { has_end = refl; no_template = refl; no_title = refl; no_pre = refl }; ends = λ w. refl; itself = refl; same = refl; outside = record { no_structure = refl; no_cell = refl; closes_none = refl; not_ignored = refl; no_caption = refl; no_end_of_table = refl; kept_in_caption = refl }; seen = record { no_heading = refl; no_p = refl; no_scope = refl; no_select = refl; role = refl; no_item = refl; no_description = refl; search = refl } }; starts = λ a w. refl; no_link = refl }, (record { formats = record { holds = record { has_end = refl; no_template = refl; no_title = refl; no_pre = refl }; ends = λ w. refl; itself = refl; same = refl; outside = record { no_structure = refl; no_cell = refl; closes_none = refl; not_ignored = refl; no_caption = refl; no_end_of_table = refl; kept_in_caption = refl }; seen = record { no_heading = refl; no_p = refl; no_scope = refl; no_select = refl; role = refl; no_item = refl; no_description = refl; search = refl } }; starts = λ a w. refl; no_link = refl }, (record { formats = record { holds = record { has_end = refl; no_template = refl; no_title = refl; no_pre = refl }; ends = λ w. refl; itself = refl; same = refl; outside = record { no_structure = refl; no_cell = refl; closes_none = refl; not_ignored = refl; no_caption = refl; no_end_of_table = refl; kept_in_caption = refl }; seen = record { no_heading = refl; no_p = refl; no_scope = refl; no_select = refl; role = refl; no_item = refl; no_description = refl; search = refl } }; starts = λ a w. refl; no_link = refl }, (record { formats = record { holds = record { has_end = refl; no_template = refl; no_title = refl; no_pre = refl }; ends = λ w. refl; itself = refl; same = refl; outside = record { no_structure = refl; no_cell = refl; closes_none = refl; not_ignored = refl; no_caption = refl; no_end_of_table = refl; kept_in_caption = refl }; seen = record { no_heading = refl; no_p = refl; no_scope = refl; no_select = refl; role = refl; no_item = refl; no_description = refl; search = refl } }; starts = λ a w. refl; no_link = refl }, (record { formats = record { holds = record { has_end = refl; no_template = refl; no_title = refl; no_pre = refl }; ends = λ w. refl; itself = refl; same = refl; outside = record { no_structure = refl; no_cell = refl; closes_none = refl; not_ignored = refl; no_caption = refl; no_end_of_table = refl; kept_in_caption = refl }; seen = record { no_heading = refl; no_p = refl; no_scope = refl; no_select = refl; role = refl; no_item = refl; no_description = refl; search = refl } }; starts = λ a w. refl; no_link = refl }, (record { formats = record { holds = record { has_end = refl; no_template = refl; no_title = refl; no_pre = refl }; ends = λ w. refl; itself = refl; same = refl; outside = record { no_structure = refl; no_cell = refl; closes_none = refl; not_ignored = refl; no_caption = refl; no_end_of_table = refl; kept_in_caption = refl }; seen = record { no_heading = refl; no_p = refl; no_scope = refl; no_select = refl; role = refl; no_item = refl; no_description = refl; search = refl } }; starts = λ a w. refl; no_link = refl }, (record { formats = record { holds = record { has_end = refl; no_template = refl; no_title = refl; no_pre = refl }; ends = λ w. refl; itself = refl; same = refl; outside = record { no_structure = refl; no_cell = refl; closes_none = refl; not_ignored = refl; no_caption = refl; no_end_of_table = refl; kept_in_caption = refl }; seen = record { no_heading = refl; no_p = refl; no_scope = refl; no_select = refl; role = refl; no_item = refl; no_description = refl; search = refl } }; starts = λ a w. refl; no_link = refl }, (record { formats = record { holds = record { has_end = refl; no_template = refl; no_title = refl; no_pre = refl }; ends = λ w. refl; itself = refl; same = refl; outside = record { no_structure = refl; no_cell = refl; closes_none = refl; not_ignored = refl; no_caption = refl; no_end_of_table = refl; kept_in_caption = refl }; seen = record { no_heading = refl; no_p = refl; no_scope = refl; no_select = refl; role = refl; no_item = refl; no_description = refl; search = refl } }; starts = λ a w. refl; no_link = refl }, (record { formats = record { holds = record { has_end = refl; no_template = refl; no_title = refl; no_pre = refl }; ends = λ w. refl; itself = refl; same = refl; outside = record { no_structure = refl; no_cell = refl; closes_none = refl; not_ignored = refl; no_caption = refl; no_end_of_table = refl; kept_in_caption = refl }; seen = record { no_heading = refl; no_p = refl; no_scope = refl; no_select = refl; role = refl; no_item = refl; no_description = refl; search = refl } }; starts = λ a w. refl; no_link = refl }, (record { formats = record { holds = record { has_end = refl; no_template = refl; no_title = refl; no_pre = refl }; ends = λ w. refl; itself = refl; same = refl; outside = record { no_structure = refl; no_cell = refl; closes_none = refl; not_ignored = refl; no_caption = refl; no_end_of_table = refl; kept_in_caption = refl }; seen = record { no_heading = refl; no_p = refl; no_scope = refl; no_select = refl; role = refl; no_item = refl; no_description = refl; search = refl } }; starts = λ a w. refl; no_link = refl }, (record { formats = record { holds = record { has_end = refl; no_template = refl; no_title = refl; no_pre = refl }; ends = λ w. refl; itself = refl; same = refl; outside = record { no_structure = refl; no_cell = refl; closes_none = refl; not_ignored = refl; no_caption = refl; no_end_of_table = refl; kept_in_caption = refl }; seen = record { no_heading = refl; no_p = refl; no_scope = refl; no_select = refl; role = refl; no_item = refl; no_description = refl; search = refl } }; starts = λ a w. refl; no_link = refl }, (record { formats = record { holds = record { has_end = refl; no_template = refl; no_title = refl; no_pre = refl }; ends = λ w. refl; itself = refl; same = refl; outside = record { no_structure = refl; no_cell = refl; closes_none = refl; not_ignored = refl; no_caption = refl; no_end_of_table = refl; kept_in_caption = refl }; seen = record { no_heading = refl; no_p = refl; no_scope = refl; no_select = refl; role = refl; no_item = refl; no_description = refl; search = refl } }; starts = λ a w. refl; no_link = refl }, tt))))))))))))
 
 -- so may each of these
 pub is_inline_name : (name : List ℕ) → is_one_of inline_names name ≡ true → IsInlineName name

@@ -1,9 +1,8 @@
 -- A fragment is built below its root.
-use Rattle.std.proofs.Common.{◌≡◌, ◌∙◌, ℕ, false, true, not, List, [], ◌∷◌, Option, None, Some, codes, refl, ap, sym, subst, Bool}
-use Rattle.h5_names.specs.declared.qualified.QualName.{QualName}
+use Rattle.std.proofs.Common.{◌≡◌, ◌∙◌, false, not, List, [], ◌∷◌, Option, Some, codes, refl, ap, sym, subst, Bool}
 use Rattle.h5_token.specs.Joins.{join}
 use Rattle.h5_token.specs.TokenText.{EndOfFile, TokenText}
-use Rattle.h5_interface.specs.Forest.{ElementNode, Forest, children_of}
+use Rattle.h5_interface.specs.Forest.{ElementNode, children_of}
 use Rattle.h5_interface.specs.SinkChoices.{SinkChoices}
 use Rattle.h5_tables.specs.TagSets.{body_end_names, button_scope_names, heading_names, html_namespace, is_body_end_ok, is_button_scope, is_default_scope, is_foreign_special, is_heading, is_html_named, is_special, mathml_namespace, scope_names, special_names, svg_namespace}
 use Rattle.h5_tables.specs.TurnText.{EofTurn}
@@ -21,7 +20,7 @@ use Rattle.h5_rules.specs.stack.Closing.{passed_names}
 use Rattle.h5_rules.specs.stack.Order.{first_or, is_in}
 use Rattle.h5_rules.specs.stack.Scope.{has_unclosed}
 use Rattle.h5_rules.specs.World.{World, name_of_found, names_of}
-use Rattle.h5_plain.specs.Plain.{Flow, IsPlain, Nodes, nothing_open, tokens_before}
+use Rattle.h5_plain.specs.Plain.{Flow, IsPlain, Nodes, fragment_tokens, nothing_open}
 use Rattle.h5_plain.specs.Rebuilding.{ChangesOne, IsFragmentStart, Looks, RebuildsFragments, Stands}
 use Rattle.h5_plain.proofs.BuildsLaws.{FitsFlow, builds}
 use Rattle.h5_plain.proofs.CalmLaws.{Built, Calm, Named, NoneOpen, OneOpen, after, named_kept, names_are}
@@ -87,7 +86,7 @@ module _ (w : World) (s : IsFragmentStart w) where
         ap (λ ms. choose (no_template_mode ms) (body_ends [] IsDone (taken filled)) (template_eof (taken filled))) s.no_template_modes
         ∙ ap (λ ns. row_if (not (has_unclosed ns)) [] IsDone) root_alone
 
-    goes : Goes blanks choices (tokens_before nodes (EndOfFile ∷ [])) w (taken filled)
+    goes : Goes blanks choices (fragment_tokens nodes) w (taken filled)
     goes = built.goes (EndOfFile ∷ []) (taken filled) (λ q. absurd (no_table_mode (subst GoesByBody (sym s.mode) TheBody) q)) (taken filled, (Straight (moves_end choices filled InBody [] s.mode ends), refl))
 
     stands : Stands built.forest (children_of built.forest s.root) nodes
@@ -103,10 +102,10 @@ module _ (w : World) (s : IsFragmentStart w) where
     }
 
 arrived : {blanks : Bool} → (choices : SinkChoices) (ts : List TokenText) (v : View) (nodes : Nodes) (s : IsFragmentStart v.world) → Fitting v.world → v.ended ≡ false → v.failed ≡ false
-    → join ts ≡ tokens_before nodes (EndOfFile ∷ []) → (plain : IsPlain blanks (Flow false nothing_open) nodes) → Arrives blanks choices ts v (taken (filled v.world s choices nodes plain))
+    → join ts ≡ fragment_tokens nodes → (plain : IsPlain blanks (Flow false nothing_open) nodes) → Arrives blanks choices ts v (taken (filled v.world s choices nodes plain))
 arrived {blanks} choices ts v nodes s k e f j plain =
     let last = taken (filled v.world s choices nodes plain) in
-    arrives choices ts v last f e (goes_cut blanks choices ts v.world last k (subst (λ x. Runs blanks choices x v.world last) (sym j) (runs blanks choices (tokens_before nodes (EndOfFile ∷ [])) v.world last k (goes v.world s choices nodes plain))))
+    arrives choices ts v last f e (goes_cut blanks choices ts v.world last k (subst (λ x. Runs blanks choices x v.world last) (sym j) (runs blanks choices (fragment_tokens nodes) v.world last k (goes v.world s choices nodes plain))))
 
 pub rebuilds_fragments : (choices : SinkChoices) (ts : List TokenText) (v : View) → RebuildsFragments choices ts v
 rebuilds_fragments choices ts v nodes s plain k e f j =

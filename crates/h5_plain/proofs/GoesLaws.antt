@@ -307,3 +307,21 @@ goes_ignoring blanks choices [] w u k e h g = absurd (h)
 goes_ignoring blanks choices (t ∷ ts) w u k e h (v, (Straight m, g)) = (v, (Straight (moves_ignoring choices t w v e h m), g))
 goes_ignoring blanks choices (t ∷ ts) w u k e h (v, (InColumns z x m, g)) = absurd (no_columns k x)
 goes_ignoring blanks choices (t ∷ ts) w u k e h (v, (KeptBack z x blank, g)) = absurd (no_table_mode k blank.mode)
+
+-- and a text with a newline more at its front moves there as without it where the flag isn't set
+moves_behind_newline : (choices : SinkChoices) (b : ℕ) (t : List ℕ) (w v : World) → w.ignore_lf ≡ false → Moves choices (Characters (b ∷ t)) w v → Moves choices (Characters (10 ∷ b ∷ t)) (ignoring w) v
+unfolding step
+moves_behind_newline choices b t w v e m =
+    let same : b ∷ t ≡ without_lf w.ignore_lf (b ∷ t) = sym (ap (λ l. without_lf l (b ∷ t)) e) in
+    record {
+      world = ap (λ l. (text_step choices l (taken w)).world) same ∙ m.world;
+      reply = ap (λ l. (text_step choices l (taken w)).reply) same ∙ m.reply;
+      quiet = ap (λ l. (text_step choices l (taken w)).quiet) same ∙ m.quiet;
+      accepted = takes_text w.mode (10 ∷ b ∷ t);
+    }
+
+pub goes_behind_newline : (blanks : Bool) (choices : SinkChoices) (b : ℕ) (t : List ℕ) (ts : List TokenText) (w u : World) → GoesByBody w.mode → w.ignore_lf ≡ false
+    → Goes blanks choices (Characters (b ∷ t) ∷ ts) w u → Goes blanks choices (Characters (10 ∷ b ∷ t) ∷ ts) (ignoring w) u
+goes_behind_newline blanks choices b t ts w u k e (v, (Straight m, g)) = (v, (Straight (moves_behind_newline choices b t w v e m), g))
+goes_behind_newline blanks choices b t ts w u k e (v, (InColumns z x m, g)) = absurd (no_columns k x)
+goes_behind_newline blanks choices b t ts w u k e (v, (KeptBack z x blank, g)) = absurd (no_table_mode k blank.mode)

@@ -31,7 +31,7 @@ item_end_rule w = refl
 
 pub item_holds : IsHolder (codes "li")
 unfolding void_names
-item_holds = record { has_end = refl; no_template = refl; no_title = refl }
+item_holds = record { has_end = refl; no_template = refl; no_title = refl; no_pre = refl }
 
 -- a cell leaves it to the body
 pub item_outside : IsOutside (codes "li")
@@ -61,7 +61,7 @@ pub record IsTermName (name : List ℕ) : Type 0 where
 
 terms : HoldsOfAll IsTermName term_names
 unfolding term_names void_names in_body_tag in_body_start in_body_start_blocks in_body_start_inline in_body_start_embedded head_start_names in_body_end in_body_end_blocks in_body_end_inline block_start_names block_end_names html_namespace mathml_namespace svg_namespace is_html_named is_button_scope is_default_scope is_foreign_special scope_names button_scope_names is_heading heading_names role_of role_of_local is_special special_names passed_names list_item_names description_names in_body_preformatted is_implied implied_names table_structure_names cell_names in_cell_closing_ends in_cell_ignored_ends in_caption_ignored_ends
-terms = (record { holds = record { has_end = refl; no_template = refl; no_title = refl }; starts = λ a w. refl; ends = λ w. refl; itself = refl; not_implied = refl; no_p = refl; no_scope = refl; no_heading = refl; role = refl; no_select = refl; no_item = refl; search = refl; outside = record { no_structure = refl; no_cell = refl; closes_none = refl; not_ignored = refl; no_caption = refl; no_end_of_table = refl; kept_in_caption = refl } }, (record { holds = record { has_end = refl; no_template = refl; no_title = refl }; starts = λ a w. refl; ends = λ w. refl; itself = refl; not_implied = refl; no_p = refl; no_scope = refl; no_heading = refl; role = refl; no_select = refl; no_item = refl; search = refl; outside = record { no_structure = refl; no_cell = refl; closes_none = refl; not_ignored = refl; no_caption = refl; no_end_of_table = refl; kept_in_caption = refl } }, tt))
+terms = (record { holds = record { has_end = refl; no_template = refl; no_title = refl; no_pre = refl }; starts = λ a w. refl; ends = λ w. refl; itself = refl; not_implied = refl; no_p = refl; no_scope = refl; no_heading = refl; role = refl; no_select = refl; no_item = refl; search = refl; outside = record { no_structure = refl; no_cell = refl; closes_none = refl; not_ignored = refl; no_caption = refl; no_end_of_table = refl; kept_in_caption = refl } }, (record { holds = record { has_end = refl; no_template = refl; no_title = refl; no_pre = refl }; starts = λ a w. refl; ends = λ w. refl; itself = refl; not_implied = refl; no_p = refl; no_scope = refl; no_heading = refl; role = refl; no_select = refl; no_item = refl; search = refl; outside = record { no_structure = refl; no_cell = refl; closes_none = refl; not_ignored = refl; no_caption = refl; no_end_of_table = refl; kept_in_caption = refl } }, tt))
 
 pub is_term : (name : List ℕ) → is_one_of term_names name ≡ true → IsTermName name
 is_term name h = of_each IsTermName term_names terms name h

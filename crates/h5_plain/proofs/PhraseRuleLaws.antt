@@ -33,7 +33,7 @@ pub record IsPhraseName (name : List ℕ) : Type 0 where
 
 phrases : HoldsOfAll IsPhraseName phrase_names
 unfolding phrase_names void_names in_body_tag in_body_start in_body_start_blocks in_body_start_inline in_body_start_embedded head_start_names in_body_end in_body_end_blocks in_body_end_inline block_start_names block_end_names html_namespace mathml_namespace svg_namespace is_html_named is_button_scope is_default_scope is_foreign_special scope_names button_scope_names is_heading heading_names role_of role_of_local is_special special_names passed_names list_item_names description_names formatting_names in_body_preformatted in_body_marked in_body_void in_body_parts in_body_ruby_bases in_body_ruby_texts in_body_ignored_starts outside_names is_implied implied_names table_structure_names cell_names in_cell_closing_ends in_cell_ignored_ends in_caption_ignored_ends
-phrases = (record { holds = record { has_end = refl; no_template = refl; no_title = refl }; starts = λ a w. refl; ends = λ w. refl; itself = refl; not_implied = refl; outside = record { no_structure = refl; no_cell = refl; closes_none = refl; not_ignored = refl; no_caption = refl; no_end_of_table = refl; kept_in_caption = refl }; seen = record { no_heading = refl; no_p = refl; no_scope = refl; no_select = refl; role = refl; no_item = refl; no_description = refl; search = refl } }, (record { holds = record { has_end = refl; no_template = refl; no_title = refl }; starts = λ a w. refl; ends = λ w. refl; itself = refl; not_implied = refl; outside = record { no_structure = refl; no_cell = refl; closes_none = refl; not_ignored = refl; no_caption = refl; no_end_of_table = refl; kept_in_caption = refl }; seen = record { no_heading = refl; no_p = refl; no_scope = refl; no_select = refl; role = refl; no_item = refl; no_description = refl; search = refl } }, (record { holds = record { has_end = refl; no_template = refl; no_title = refl }; starts = λ a w. refl; ends = λ w. refl; itself = refl; not_implied = refl; outside = record { no_structure = refl; no_cell = refl; closes_none = refl; not_ignored = refl; no_caption = refl; no_end_of_table = refl; kept_in_caption = refl }; seen = record { no_heading = refl; no_p = refl; no_scope = refl; no_select = refl; role = refl; no_item = refl; no_description = refl; search = refl } }, (record { holds = record { has_end = refl; no_template = refl; no_title = refl }; starts = λ a w. refl; ends = λ w. refl; itself = refl; not_implied = refl; outside = record { no_structure = refl; no_cell = refl; closes_none = refl; not_ignored = refl; no_caption = refl; no_end_of_table = refl; kept_in_caption = refl }; seen = record { no_heading = refl; no_p = refl; no_scope = refl; no_select = refl; role = refl; no_item = refl; no_description = refl; search = refl } }, (record { holds = record { has_end = refl; no_template = refl; no_title = refl }; starts = λ a w. refl; ends = λ w. refl; itself = refl; not_implied = refl; outside = record { no_structure = refl; no_cell = refl; closes_none = refl; not_ignored = refl; no_caption = refl; no_end_of_table = refl; kept_in_caption = refl }; seen = record { no_heading = refl; no_p = refl; no_scope = refl; no_select = refl; role = refl; no_item = refl; no_description = refl; search = refl } }, (record { holds = record { has_end = refl; no_template = refl; no_title = refl }; starts = λ a w. refl; ends = λ w. refl; itself = refl; not_implied = refl; outside = record { no_structure = refl; no_cell = refl; closes_none = refl; not_ignored = refl; no_caption = refl; no_end_of_table = refl; kept_in_caption = refl }; seen = record { no_heading = refl; no_p = refl; no_scope = refl; no_select = refl; role = refl; no_item = refl; no_description = refl; search = refl } }, (record { holds = record { has_end = refl; no_template = refl; no_title = refl }; starts = λ a w. refl; ends = λ w. refl; itself = refl; not_implied = refl; outside = record { no_structure = refl; no_cell = refl; closes_none = refl; not_ignored = refl; no_caption = refl; no_end_of_table = refl; kept_in_caption = refl }; seen = record { no_heading = refl; no_p = refl; no_scope = refl; no_select = refl; role = refl; no_item = refl; no_description = refl; search = refl } }, (record { holds = record { has_end = refl; no_template = refl; no_title = refl }; starts = λ a w. refl; ends = λ w. refl; itself = refl; not_implied = refl; outside = record { no_structure = refl; no_cell = refl; closes_none = refl; not_ignored = refl; no_caption = refl; no_end_of_table = refl; kept_in_caption = refl }; seen = record { no_heading = refl; no_p = refl; no_scope = refl; no_select = refl; role = refl; no_item = refl; no_description = refl; search = refl } }, (record { holds = record { has_end = refl; no_template = refl; no_title = refl }; starts = λ a w. refl; ends = λ w. refl; itself = refl; not_implied = refl; outside = record { no_structure = refl; no_cell = refl; closes_none = refl; not_ignored = refl; no_caption = refl; no_end_of_table = refl; kept_in_caption = refl }; seen = record { no_heading = refl; no_p = refl; no_scope = refl; no_select = refl; role = refl; no_item = refl; no_description = refl; search = refl } }, (record { holds = record { has_end = refl; no_template = refl; no_title = refl }; starts = λ a w. refl; ends = λ w. refl; itself = refl; not_implied = refl; outside = record { no_structure = refl; no_cell = refl; closes_none = refl; not_ignored = refl; no_caption = refl; no_end_of_table = refl; kept_in_caption = refl }; seen = record { no_heading = refl; no_p = refl; no_scope = refl; no_select = refl; role = refl; no_item = refl; no_description = refl; search = refl } }, (record { holds = record { has_end = refl; no_template = refl; no_title = refl }; starts = λ a w. refl; ends = λ w. refl; itself = refl; not_implied = refl; outside = record { no_structure = refl; no_cell = refl; closes_none = refl; not_ignored = refl; no_caption = refl; no_end_of_table = refl; kept_in_caption = refl }; seen = record { no_heading = refl; no_p = refl; no_scope = refl; no_select = refl; role = refl; no_item = refl; no_description = refl; search = refl } }, (record { holds = record { has_end = refl; no_template = refl; no_title = refl }; starts = λ a w. refl; ends = λ w. refl; itself = refl; not_implied = refl; outside = record { no_structure = refl; no_cell = refl; closes_none = refl; not_ignored = refl; no_caption = refl; no_end_of_table = refl; kept_in_caption = refl }; seen = record { no_heading = refl; no_p = refl; no_scope = refl; no_select = refl; role = refl; no_item = refl; no_description = refl; search = refl } }, (record { holds = record { has_end = refl; no_template = refl; no_title = refl }; starts = λ a w. refl; ends = λ w. refl; itself = refl; not_implied = refl; outside = record { no_structure = refl; no_cell = refl; closes_none = refl; not_ignored = refl; no_caption = refl; no_end_of_table = refl; kept_in_caption = refl }; seen = record { no_heading = refl; no_p = refl; no_scope = refl; no_select = refl; role = refl; no_item = refl; no_description = refl; search = refl } }, (record { holds = record { has_end = refl; no_template = refl; no_title = refl }; starts = λ a w. refl; ends = λ w. refl; itself = refl; not_implied = refl; outside = record { no_structure = refl; no_cell = refl; closes_none = refl; not_ignored = refl; no_caption = refl; no_end_of_table = refl; kept_in_caption = refl }; seen = record { no_heading = refl; no_p = refl; no_scope = refl; no_select = refl; role = refl; no_item = refl; no_description = refl; search = refl } }, (record { holds = record { has_end = refl; no_template = refl; no_title = refl }; starts = λ a w. refl; ends = λ w. refl; itself = refl; not_implied = refl; outside = record { no_structure = refl; no_cell = refl; closes_none = refl; not_ignored = refl; no_caption = refl; no_end_of_table = refl; kept_in_caption = refl }; seen = record { no_heading = refl; no_p = refl; no_scope = refl; no_select = refl; role = refl; no_item = refl; no_description = refl; search = refl } }, (record { holds = record { has_end = refl; no_template = refl; no_title = refl }; starts = λ a w. refl; ends = λ w. refl; itself = refl; not_implied = refl; outside = record { no_structure = refl; no_cell = refl; closes_none = refl; not_ignored = refl; no_caption = refl; no_end_of_table = refl; kept_in_caption = refl }; seen = record { no_heading = refl; no_p = refl; no_scope = refl; no_select = refl; role = refl; no_item = refl; no_description = refl; search = refl } }, (record { holds = record { has_end = refl; no_template = refl; no_title = refl }; starts = λ a w. refl; ends = λ w. refl; itself = refl; not_implied = refl; outside = record { no_structure = refl; no_cell = refl; closes_none = refl; not_ignored = refl; no_caption = refl; no_end_of_table = refl; kept_in_caption = refl }; seen = record { no_heading = refl; no_p = refl; no_scope = refl; no_select = refl; role = refl; no_item = refl; no_description = refl; search = refl } }, (record { holds = record { has_end = refl; no_template = refl; no_title = refl }; starts = λ a w. refl; ends = λ w. refl; itself = refl; not_implied = refl; outside = record { no_structure = refl; no_cell = refl; closes_none = refl; not_ignored = refl; no_caption = refl; no_end_of_table = refl; kept_in_caption = refl }; seen = record { no_heading = refl; no_p = refl; no_scope = refl; no_select = refl; role = refl; no_item = refl; no_description = refl; search = refl } }, (record { holds = record { has_end = refl; no_template = refl; no_title = refl }; starts = λ a w. refl; ends = λ w. refl; itself = refl; not_implied = refl; outside = record { no_structure = refl; no_cell = refl; closes_none = refl; not_ignored = refl; no_caption = refl; no_end_of_table = refl; kept_in_caption = refl }; seen = record { no_heading = refl; no_p = refl; no_scope = refl; no_select = refl; role = refl; no_item = refl; no_description = refl; search = refl } }, (record { holds = record { has_end = refl; no_template = refl; no_title = refl }; starts = λ a w. refl; ends = λ w. refl; itself = refl; not_implied = refl; outside = record { no_structure = refl; no_cell = refl; closes_none = refl; not_ignored = refl; no_caption = refl; no_end_of_table = refl; kept_in_caption = refl }; seen = record { no_heading = refl; no_p = refl; no_scope = refl; no_select = refl; role = refl; no_item = refl; no_description = refl; search = refl } }, (record { holds = record { has_end = refl; no_template = refl; no_title = refl }; starts = λ a w. refl; ends = λ w. refl; itself = refl; not_implied = refl; outside = record { no_structure = refl; no_cell = refl; closes_none = refl; not_ignored = refl; no_caption = refl; no_end_of_table = refl; kept_in_caption = refl }; seen = record { no_heading = refl; no_p = refl; no_scope = refl; no_select = refl; role = refl; no_item = refl; no_description = refl; search = refl } }, tt)))))))))))))))))))))
+phrases = (record { holds = record { has_end = refl; no_template = refl; no_title = refl; no_pre = refl }; starts = λ a w. refl; ends = λ w. refl; itself = refl; not_implied = refl; outside = record { no_structure = refl; no_cell = refl; closes_none = refl; not_ignored = refl; no_caption = refl; no_end_of_table = refl; kept_in_caption = refl }; seen = record { no_heading = refl; no_p = refl; no_scope = refl; no_select = refl; role = refl; no_item = refl; no_description = refl; search = refl } }, (record { holds = record { has_end = refl; no_template = refl; no_title = refl; no_pre = refl }; starts = λ a w. refl; ends = λ w. refl; itself = refl; not_implied = refl; outside = record { no_structure = refl; no_cell = refl; closes_none = refl; not_ignored = refl; no_caption = refl; no_end_of_table = refl; kept_in_caption = refl }; seen = record { no_heading = refl; no_p = refl; no_scope = refl; no_select = refl; role = refl; no_item = refl; no_description = refl; search = refl } }, (record { holds = record { has_end = refl; no_template = refl; no_title = refl; no_pre = refl }; starts = λ a w. refl; ends = λ w. refl; itself = refl; not_implied = refl; outside = record { no_structure = refl; no_cell = refl; closes_none = refl; not_ignored = refl; no_caption = refl; no_end_of_table = refl; kept_in_caption = refl }; seen = record { no_heading = refl; no_p = refl; no_scope = refl; no_select = refl; role = refl; no_item = refl; no_description = refl; search = refl } }, (record { holds = record { has_end = refl; no_template = refl; no_title = refl; no_pre = refl }; starts = λ a w. refl; ends = λ w. refl; itself = refl; not_implied = refl; outside = record { no_structure = refl; no_cell = refl; closes_none = refl; not_ignored = refl; no_caption = refl; no_end_of_table = refl; kept_in_caption = refl }; seen = record { no_heading = refl; no_p = refl; no_scope = refl; no_select = refl; role = refl; no_item = refl; no_description = refl; search = refl } }, (record { holds = record { has_end = refl; no_template = refl; no_title = refl; no_pre = refl }; starts = λ a w. refl; ends = λ w. refl; itself = refl; not_implied = refl; outside = record { no_structure = refl; no_cell = refl; closes_none = refl; not_ignored = refl; no_caption = refl; no_end_of_table = refl; kept_in_caption = refl }; seen = record { no_heading = refl; no_p = refl; no_scope = refl; no_select = refl; role = refl; no_item = refl; no_description = refl; search = refl } }, (record { holds = record { has_end = refl; no_template = refl; no_title = refl; no_pre = refl }; starts = λ a w. refl; ends = λ w. refl; itself = refl; not_implied = refl; outside = record { no_structure = refl; no_cell = refl; closes_none = refl; not_ignored = refl; no_caption = refl; no_end_of_table = refl; kept_in_caption = refl }; seen = record { no_heading = refl; no_p = refl; no_scope = refl; no_select = refl; role = refl; no_item = refl; no_description = refl; search = refl } }, (record { holds = record { has_end = refl; no_template = refl; no_title = refl; no_pre = refl }; starts = λ a w. refl; ends = λ w. refl; itself = refl; not_implied = refl; outside = record { no_structure = refl; no_cell = refl; closes_none = refl; not_ignored = refl; no_caption = refl; no_end_of_table = refl; kept_in_caption = refl }; seen = record { no_heading = refl; no_p = refl; no_scope = refl; no_select = refl; role = refl; no_item = refl; no_description = refl; search = refl } }, (record { holds = record { has_end = refl; no_template = refl; no_title = refl; no_pre = refl }; starts = λ a w. refl; ends = λ w. refl; itself = refl; not_implied = refl; outside = record { no_structure = refl; no_cell = refl; closes_none = refl; not_ignored = refl; no_caption = refl; no_end_of_table = refl; kept_in_caption = refl }; seen = record { no_heading = refl; no_p = refl; no_scope = refl; no_select = refl; role = refl; no_item = refl; no_description = refl; search = refl } }, (record { holds = record { has_end = refl; no_template = refl; no_title = refl; no_pre = refl }; starts = λ a w. refl; ends = λ w. refl; itself = refl; not_implied = refl; outside = record { no_structure = refl; no_cell = refl; closes_none = refl; not_ignored = refl; no_caption = refl; no_end_of_table = refl; kept_in_caption = refl }; seen = record { no_heading = refl; no_p = refl; no_scope = refl; no_select = refl; role = refl; no_item = refl; no_description = refl; search = refl } }, (record { holds = record { has_end = refl; no_template = refl; no_title = refl; no_pre = refl }; starts = λ a w. refl; ends = λ w. refl; itself = refl; not_implied = refl; outside = record { no_structure = refl; no_cell = refl; closes_none = refl; not_ignored = refl; no_caption = refl; no_end_of_table = refl; kept_in_caption = refl }; seen = record { no_heading = refl; no_p = refl; no_scope = refl; no_select = refl; role = refl; no_item = refl; no_description = refl; search = refl } }, (record { holds = record { has_end = refl; no_template = refl; no_title = refl; no_pre = refl }; starts = λ a w. refl; ends = λ w. refl; itself = refl; not_implied = refl; outside = record { no_structure = refl; no_cell = refl; closes_none = refl; not_ignored = refl; no_caption = refl; no_end_of_table = refl; kept_in_caption = refl }; seen = record { no_heading = refl; no_p = refl; no_scope = refl; no_select = refl; role = refl; no_item = refl; no_description = refl; search = refl } }, (record { holds = record { has_end = refl; no_template = refl; no_title = refl; no_pre = refl }; starts = λ a w. refl; ends = λ w. refl; itself = refl; not_implied = refl; outside = record { no_structure = refl; no_cell = refl; closes_none = refl; not_ignored = refl; no_caption = refl; no_end_of_table = refl; kept_in_caption = refl }; seen = record { no_heading = refl; no_p = refl; no_scope = refl; no_select = refl; role = refl; no_item = refl; no_description = refl; search = refl } }, (record { holds = record { has_end = refl; no_template = refl; no_title = refl; no_pre = refl }; starts = λ a w. refl; ends = λ w. refl; itself = refl; not_implied = refl; outside = record { no_structure = refl; no_cell = refl; closes_none = refl; not_ignored = refl; no_caption = refl; no_end_of_table = refl; kept_in_caption = refl }; seen = record { no_heading = refl; no_p = refl; no_scope = refl; no_select = refl; role = refl; no_item = refl; no_description = refl; search = refl } }, (record { holds = record { has_end = refl; no_template = refl; no_title = refl; no_pre = refl }; starts = λ a w. refl; ends = λ w. refl; itself = refl; not_implied = refl; outside = record { no_structure = refl; no_cell = refl; closes_none = refl; not_ignored = refl; no_caption = refl; no_end_of_table = refl; kept_in_caption = refl }; seen = record { no_heading = refl; no_p = refl; no_scope = refl; no_select = refl; role = refl; no_item = refl; no_description = refl; search = refl } }, (record { holds = record { has_end = refl; no_template = refl; no_title = refl; no_pre = refl }; starts = λ a w. refl; ends = λ w. refl; itself = refl; not_implied = refl; outside = record { no_structure = refl; no_cell = refl; closes_none = refl; not_ignored = refl; no_caption = refl; no_end_of_table = refl; kept_in_caption = refl }; seen = record { no_heading = refl; no_p = refl; no_scope = refl; no_select = refl; role = refl; no_item = refl; no_description = refl; search = refl } }, (record { holds = record { has_end = refl; no_template = refl; no_title = refl; no_pre = refl }; starts = λ a w. refl; ends = λ w. refl; itself = refl; not_implied = refl; outside = record { no_structure = refl; no_cell = refl; closes_none = refl; not_ignored = refl; no_caption = refl; no_end_of_table = refl; kept_in_caption = refl }; seen = record { no_heading = refl; no_p = refl; no_scope = refl; no_select = refl; role = refl; no_item = refl; no_description = refl; search = refl } }, (record { holds = record { has_end = refl; no_template = refl; no_title = refl; no_pre = refl }; starts = λ a w. refl; ends = λ w. refl; itself = refl; not_implied = refl; outside = record { no_structure = refl; no_cell = refl; closes_none = refl; not_ignored = refl; no_caption = refl; no_end_of_table = refl; kept_in_caption = refl }; seen = record { no_heading = refl; no_p = refl; no_scope = refl; no_select = refl; role = refl; no_item = refl; no_description = refl; search = refl } }, (record { holds = record { has_end = refl; no_template = refl; no_title = refl; no_pre = refl }; starts = λ a w. refl; ends = λ w. refl; itself = refl; not_implied = refl; outside = record { no_structure = refl; no_cell = refl; closes_none = refl; not_ignored = refl; no_caption = refl; no_end_of_table = refl; kept_in_caption = refl }; seen = record { no_heading = refl; no_p = refl; no_scope = refl; no_select = refl; role = refl; no_item = refl; no_description = refl; search = refl } }, (record { holds = record { has_end = refl; no_template = refl; no_title = refl; no_pre = refl }; starts = λ a w. refl; ends = λ w. refl; itself = refl; not_implied = refl; outside = record { no_structure = refl; no_cell = refl; closes_none = refl; not_ignored = refl; no_caption = refl; no_end_of_table = refl; kept_in_caption = refl }; seen = record { no_heading = refl; no_p = refl; no_scope = refl; no_select = refl; role = refl; no_item = refl; no_description = refl; search = refl } }, (record { holds = record { has_end = refl; no_template = refl; no_title = refl; no_pre = refl }; starts = λ a w. refl; ends = λ w. refl; itself = refl; not_implied = refl; outside = record { no_structure = refl; no_cell = refl; closes_none = refl; not_ignored = refl; no_caption = refl; no_end_of_table = refl; kept_in_caption = refl }; seen = record { no_heading = refl; no_p = refl; no_scope = refl; no_select = refl; role = refl; no_item = refl; no_description = refl; search = refl } }, (record { holds = record { has_end = refl; no_template = refl; no_title = refl; no_pre = refl }; starts = λ a w. refl; ends = λ w. refl; itself = refl; not_implied = refl; outside = record { no_structure = refl; no_cell = refl; closes_none = refl; not_ignored = refl; no_caption = refl; no_end_of_table = refl; kept_in_caption = refl }; seen = record { no_heading = refl; no_p = refl; no_scope = refl; no_select = refl; role = refl; no_item = refl; no_description = refl; search = refl } }, tt)))))))))))))))))))))
 
 pub is_phrase : (name : List ℕ) → is_one_of phrase_names name ≡ true → IsPhraseName name
 is_phrase name h = of_each IsPhraseName phrase_names phrases name h

@@ -22,7 +22,7 @@ use Rattle.h5_rules.specs.insertion.Place.{LastChild, place}
 use Rattle.h5_rules.specs.World.{World, current, name_in, names_of}
 use Rattle.h5_rules.specs.formatting.FormattingNames.{html_name}
 use Rattle.h5_rules.specs.stack.Order.{but_first, first_or, is_in}
-use Rattle.h5_plain.specs.Plain.{Flow, End, IsPlain, nothing_open, Nodes, end_tag, plain_doctype, start_tag, tokens_before}
+use Rattle.h5_plain.specs.Plain.{Flow, End, IsPlain, nothing_open, Nodes, as_written, end_tag, plain_doctype, start_tag, tokens_before}
 use Rattle.h5_plain.specs.Rebuilding.{IsStart, Looks, Stands}
 use Rattle.h5_plain.proofs.BuildsLaws.{body_fits, builds}
 use Rattle.h5_plain.proofs.CalmLaws.{Calm, Named, NoneOpen, OneOpen, after, unowned, place_is}
@@ -327,7 +327,7 @@ at_body a b c h w s =
 -- what it leads to
 pub record BodyFilled (blanks : Bool) (choices : SinkChoices) (a b c : List AttributeText) (h nodes : Nodes) (w : World) : Type 0 where
   pub after : World
-  pub goes : (ts : List TokenText) (u : World) → Goes blanks choices ts after u → Goes blanks choices (tokens_before nodes ts) w u
+  pub goes : (ts : List TokenText) (u : World) → Goes blanks choices ts after u → Goes blanks choices (tokens_before (as_written nodes) ts) w u
   pub inner : List Child
   pub holds : WithBody InBody a b c h inner nodes after
 

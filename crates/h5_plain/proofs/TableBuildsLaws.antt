@@ -1,5 +1,5 @@
 -- A table, a part of one, or a cell is built below the current node, if what it holds is.
-use Rattle.std.proofs.Common.{◌≡◌, ℕ, Bool, true, false, List, [], ◌∷◌, ap, refl, subst, sym, Option}
+use Rattle.std.proofs.Common.{◌≡◌, ℕ, Bool, false, List, [], ◌∷◌, ap, refl, subst, Option}
 use Rattle.h5_names.specs.AttributeText.{AttributeText}
 use Rattle.h5_names.specs.declared.qualified.QualName.{QualName}
 use Rattle.h5_interface.specs.Forest.{ChildNode, Forest, IsForest}
@@ -12,9 +12,9 @@ use Rattle.h5_rules.specs.Sound.{role_at}
 use Rattle.h5_rules.specs.World.{World, names_of}
 use Rattle.h5_plain.specs.Plain.{ElementThen, Nodes, end_tag, start_tag}
 use Rattle.h5_plain.proofs.BodyRuleLaws.{IsHolder}
-use Rattle.h5_plain.proofs.CalmLaws.{Built, Calm, Opens, after, element_case, opened}
+use Rattle.h5_plain.proofs.CalmLaws.{Built, Calm, Opens, after, element_case, enters, opened}
 use Rattle.h5_plain.proofs.FilledLaws.{Face, face, more, same_faces}
-use Rattle.h5_plain.proofs.GoesLaws.{Moves, Straight}
+use Rattle.h5_plain.proofs.GoesLaws.{Moves}
 use Rattle.h5_plain.proofs.HtmlLaws.{AtHtml}
 use Rattle.h5_plain.proofs.ListedLaws.{AtMarker, Bottom, Entries, OpenFormat, Other, Passed, passed}
 use Rattle.h5_plain.proofs.TableStepLaws.{Ends}
@@ -43,7 +43,7 @@ module _ (choices : SinkChoices) {at_root : Option Role} {w : World} {p : ℕ} {
         entries = Passed c.entries;
         unlisted = λ n e x. e;
       } in
-      element_case choices w p d name attrs m w.formatting ok (Other new ∷ path) under base c o inner rest (λ ts u g. (in_part m ok, (Straight moves, g))) fill
+      element_case choices w p d name attrs m w.formatting ok (Other new ∷ path) under base c o inner rest (enters name attrs inner h.no_pre moves) fill
       (λ i e j x.
       let k = ends (after (in_part m ok) i.forest i.formatting i.ok i.saved) i.filled.frame.is_forest c.ignore_lf j x refl e in
       record { forest = k.forest; formatting = i.formatting; moves = k.moves; same = k.same; entries = passed i.entries; fewer = i.fewer })
@@ -71,7 +71,7 @@ module _ (choices : SinkChoices) {at_root : Option Role} {w : World} {p : ℕ} {
         entries = Bottom;
         unlisted = λ n e x. e;
       } in
-      element_case choices w p d name attrs m (MarkerEntry ∷ w.formatting) w.frameset_ok [] (new ∷ w.stack) (MarkerEntry ∷ w.formatting) c o inner rest (λ ts u g. (in_marked m, (Straight moves, g))) fill
+      element_case choices w p d name attrs m (MarkerEntry ∷ w.formatting) w.frameset_ok [] (new ∷ w.stack) (MarkerEntry ∷ w.formatting) c o inner rest (enters name attrs inner h.no_pre moves) fill
       (λ i e j x.
       let v = after (in_marked m) i.forest i.formatting i.ok i.saved in
       let left : List Entry → World = λ l. record v { formatting = l; mode = w.mode; stack = w.stack } in

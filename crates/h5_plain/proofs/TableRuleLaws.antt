@@ -36,7 +36,7 @@ table_end_rule w = refl
 
 pub table_holds : IsHolder (codes "table")
 unfolding void_names
-table_holds = record { has_end = refl; no_template = refl; no_title = refl }
+table_holds = record { has_end = refl; no_template = refl; no_title = refl; no_pre = refl }
 
 -- in a cell, too, it follows the body's rule
 pub table_is_no_part : is_one_of table_structure_names (codes "table") ≡ false
@@ -54,7 +54,7 @@ pub record IsPartName (name : List ℕ) : Type 0 where
 
 parts : HoldsOfAll IsPartName part_names
 unfolding part_names void_names html_namespace is_html_named is_table_body_context table_body_context_names is_table_outer table_outer_names in_table_tag in_table_start table_section_names in_table_body_tag in_table_body_end
-parts = (record { holds = record { has_end = refl; no_template = refl; no_title = refl }; starts = λ a w. refl; ends = λ w. refl; itself = refl; context = refl; outer = refl }, (record { holds = record { has_end = refl; no_template = refl; no_title = refl }; starts = λ a w. refl; ends = λ w. refl; itself = refl; context = refl; outer = refl }, (record { holds = record { has_end = refl; no_template = refl; no_title = refl }; starts = λ a w. refl; ends = λ w. refl; itself = refl; context = refl; outer = refl }, tt)))
+parts = (record { holds = record { has_end = refl; no_template = refl; no_title = refl; no_pre = refl }; starts = λ a w. refl; ends = λ w. refl; itself = refl; context = refl; outer = refl }, (record { holds = record { has_end = refl; no_template = refl; no_title = refl; no_pre = refl }; starts = λ a w. refl; ends = λ w. refl; itself = refl; context = refl; outer = refl }, (record { holds = record { has_end = refl; no_template = refl; no_title = refl; no_pre = refl }; starts = λ a w. refl; ends = λ w. refl; itself = refl; context = refl; outer = refl }, tt)))
 
 pub is_part_name : (name : List ℕ) → is_one_of part_names name ≡ true → IsPartName name
 is_part_name name h = of_each IsPartName part_names parts name h
@@ -70,7 +70,7 @@ row_end_rule w = refl
 
 pub row_holds : IsHolder (codes "tr")
 unfolding void_names
-row_holds = record { has_end = refl; no_template = refl; no_title = refl }
+row_holds = record { has_end = refl; no_template = refl; no_title = refl; no_pre = refl }
 
 -- a cell
 pub record IsCellName (name : List ℕ) : Type 0 where
@@ -92,8 +92,8 @@ pub record IsCellName (name : List ℕ) : Type 0 where
 cells : HoldsOfAll IsCellName cell_names
 unfolding cell_names void_names html_namespace mathml_namespace svg_namespace in_row_tag in_row_start in_cell_tag in_cell_end is_html_named is_implied implied_names is_button_scope is_default_scope is_foreign_special scope_names button_scope_names is_heading heading_names role_of role_of_local is_special special_names passed_names list_item_names description_names
 cells = (
-  record { holds = record { has_end = refl; no_template = refl; no_title = refl }; starts = λ a w. refl; ends = λ w. refl; itself = refl; not_implied = refl; no_p = refl; ends_scope = refl; ends_default = refl; no_heading = refl; no_select = refl; role = refl; search = refl; no_item = refl; no_description = refl },
-  (record { holds = record { has_end = refl; no_template = refl; no_title = refl }; starts = λ a w. refl; ends = λ w. refl; itself = refl; not_implied = refl; no_p = refl; ends_scope = refl; ends_default = refl; no_heading = refl; no_select = refl; role = refl; search = refl; no_item = refl; no_description = refl }, tt),
+  record { holds = record { has_end = refl; no_template = refl; no_title = refl; no_pre = refl }; starts = λ a w. refl; ends = λ w. refl; itself = refl; not_implied = refl; no_p = refl; ends_scope = refl; ends_default = refl; no_heading = refl; no_select = refl; role = refl; search = refl; no_item = refl; no_description = refl },
+  (record { holds = record { has_end = refl; no_template = refl; no_title = refl; no_pre = refl }; starts = λ a w. refl; ends = λ w. refl; itself = refl; not_implied = refl; no_p = refl; ends_scope = refl; ends_default = refl; no_heading = refl; no_select = refl; role = refl; search = refl; no_item = refl; no_description = refl }, tt),
 )
 
 -- `td` and `th` are cells
@@ -119,12 +119,12 @@ pub record IsCaption : Type 0 where
 
 pub caption : IsCaption
 unfolding void_names html_namespace mathml_namespace svg_namespace in_table_tag in_table_start in_caption_tag in_caption_end is_html_named is_implied implied_names is_button_scope is_default_scope is_foreign_special scope_names button_scope_names is_heading heading_names role_of role_of_local is_special special_names passed_names list_item_names description_names
-caption = record { holds = record { has_end = refl; no_template = refl; no_title = refl }; starts = λ a w. refl; ends = λ w. refl; itself = refl; not_implied = refl; no_p = refl; ends_scope = refl; ends_default = refl; no_heading = refl; no_select = refl; role = refl; search = refl; no_item = refl; no_description = refl }
+caption = record { holds = record { has_end = refl; no_template = refl; no_title = refl; no_pre = refl }; starts = λ a w. refl; ends = λ w. refl; itself = refl; not_implied = refl; no_p = refl; ends_scope = refl; ends_default = refl; no_heading = refl; no_select = refl; role = refl; search = refl; no_item = refl; no_description = refl }
 
 -- a `colgroup`, and a `col` in it
 pub group_holds : IsHolder (codes "colgroup")
 unfolding void_names
-group_holds = record { has_end = refl; no_template = refl; no_title = refl }
+group_holds = record { has_end = refl; no_template = refl; no_title = refl; no_pre = refl }
 
 pub group_rule : (a : List AttributeText) (w : World) → rule InTable (TagTurn (start (codes "colgroup") a)) w ≡ row (PopUntilCurrent is_table_scope ∷ InsertElement (codes "colgroup") a false ∷ SetMode InColumnGroup ∷ []) IsDone
 unfolding in_table_tag in_table_start

@@ -14,7 +14,7 @@ use Rattle.h5_rules.specs.insertion.Place.{LastChild, place, put}
 use Rattle.h5_rules.specs.Rows.{InsertElement, IsDone, Pop, SaveMode, SetMode, row}
 use Rattle.h5_rules.specs.Run.{taken}
 use Rattle.h5_rules.specs.World.{World, current}
-use Rattle.h5_plain.specs.Plain.{ElementThen, End, IsHead, Nodes, TextThen, Titled, Untitled, end_tag, start_tag, tokens_before}
+use Rattle.h5_plain.specs.Plain.{ElementThen, End, IsHead, Nodes, TextThen, Titled, Untitled, as_written, end_tag, start_tag, tokens_before}
 use Rattle.h5_plain.specs.Rebuilding.{Looks}
 use Rattle.h5_plain.proofs.CalmLaws.{place_is}
 use Rattle.h5_plain.proofs.FilledLaws.{face, frame_inserted, frame_text, more, rooted_framed}
@@ -152,7 +152,7 @@ title_end_next choices a b c t w s =
 -- what the tokens of what a head holds lead to
 pub record HeadFilled (blanks : Bool) (choices : SinkChoices) (a b : List AttributeText) (h : Nodes) (w : World) : Type 0 where
   pub after : World
-  pub goes : (ts : List TokenText) (u : World) → Goes blanks choices ts after u → Goes blanks choices (tokens_before h ts) w u
+  pub goes : (ts : List TokenText) (u : World) → Goes blanks choices ts after u → Goes blanks choices (tokens_before (as_written h) ts) w u
   pub holds : WithHead InHead one a b h after
 
 pub head_filled : {blanks : Bool} → (choices : SinkChoices) (a b : List AttributeText) {h : Nodes} (w : World) → IsHead h → WithHead InHead one a b End w → HeadFilled blanks choices a b h w

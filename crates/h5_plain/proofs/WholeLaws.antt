@@ -8,7 +8,7 @@ use Rattle.h5_tables.specs.TagSets.{void_names}
 use Rattle.h5_tables.specs.declared.modes.InsertionMode.TheVariants.{AfterAfterBody}
 use Rattle.h5_rules.specs.Run.{View}
 use Rattle.h5_rules.specs.World.{World}
-use Rattle.h5_plain.specs.Plain.{ElementThen, End, Flow, IsPlain, PlainDocument, document_tokens, end_tag, nothing_open, start_tag, tokens_before}
+use Rattle.h5_plain.specs.Plain.{ElementThen, End, Flow, IsPlain, PlainDocument, as_written, document_tokens, end_tag, nothing_open, start_tag, tokens_before}
 use Rattle.h5_plain.specs.Rebuilding.{DocumentStands, IsStart, RebuildsAll, Stands}
 use Rattle.h5_plain.proofs.CutGoesLaws.{goes_cut}
 use Rattle.h5_plain.proofs.FilledLaws.{own}
@@ -43,7 +43,7 @@ led {blanks} choices d w s plain =
     let n7 = html_end_next choices a b c d.head all.inner d.blocks n6.after n6.holds in
     let n8 = file_end_next choices a b c d.head all.inner d.blocks n7.after n7.holds in
     let last = all.goes (end_tag (codes "body") ∷ end_tag (codes "html") ∷ EndOfFile ∷ []) n8.after (n6.after, (Straight n6.moves, (n7.after, (Straight n7.moves, (n8.after, (Straight n8.moves, refl {a = n8.after})))))) in
-    let in_body = tokens_before d.blocks (end_tag (codes "body") ∷ end_tag (codes "html") ∷ EndOfFile ∷ []) in
+    let in_body = tokens_before (as_written d.blocks) (end_tag (codes "body") ∷ end_tag (codes "html") ∷ EndOfFile ∷ []) in
     let later = held.goes (end_tag (codes "head") ∷ start_tag (codes "body") c ∷ in_body) n8.after (n4.after, (Straight n4.moves, (n5.after, (Straight n5.moves, last)))) in
     record {
       after = n8.after;

@@ -35,6 +35,21 @@ tokens_before (ElementThen name attrs inner rest) ts =
     start_tag name attrs
     ∷ (if has_end_tag name then tokens_before inner (end_tag name ∷ tokens_before rest ts) else tokens_before rest ts)
 
+-- a newline at the front twice
+abbrev pub doubled : Nodes → Nodes
+doubled (TextThen (b ∷ t) rest) = TextThen (if b == 10 then 10 ∷ b ∷ t else b ∷ t) rest
+doubled nodes = nodes
+
+-- what an element of this name holds, as it is written: a newline right behind the start tag of a `pre` is dropped where it is read
+abbrev pub held_as_written : List ℕ → Nodes → Nodes
+held_as_written name nodes = if is_same_text name (codes "pre") then doubled nodes else nodes
+
+-- a list of nodes, as it is told and written: each `pre` that begins with a newline begins with two
+abbrev pub as_written : Nodes → Nodes
+as_written End = End
+as_written (TextThen text rest) = TextThen text (as_written rest)
+as_written (ElementThen name attrs inner rest) = ElementThen name attrs (held_as_written name (as_written inner)) (as_written rest)
+
 -- attributes without prefix and namespace, each name once
 abbrev pub ArePlain : List AttributeText → Type 0
 ArePlain [] = Unit {0}
@@ -111,11 +126,6 @@ pub data Sort : Type 0 where
   Part : (after_text : Bool) → (part : TablePart) → Sort
   Columns : (after_text : Bool) → Sort
 
--- a text that begins with a newline comes first
-abbrev pub begins_with_newline : Nodes → Bool
-begins_with_newline (TextThen (b ∷ t) rest) = b == 10
-begins_with_newline _ = false
-
 -- which lists of nodes are plain; blank texts stand in tables where they may
 pub data IsPlain (blanks : Bool) : Sort → Nodes → Type 0 where
   Nothing : {s : Sort} → IsPlain blanks s End
@@ -132,7 +142,7 @@ pub data IsPlain (blanks : Bool) : Sort → Nodes → Type 0 where
       → IsPlain blanks (Flow false (within o)) inner → IsPlain blanks (Flow false o) rest → IsPlain blanks (Flow a o) (ElementThen name attrs inner rest)
   Barrier : {a : Bool} {o : Around} {name : List ℕ} {attrs : List AttributeText} {inner rest : Nodes} → is_one_of barrier_names name ≡ true → o.in_p ≡ false → ArePlain attrs
       → IsPlain blanks (Flow false (behind o)) inner → IsPlain blanks (Flow false o) rest → IsPlain blanks (Flow a o) (ElementThen name attrs inner rest)
-  Preformatted : {a : Bool} {o : Around} {attrs : List AttributeText} {inner rest : Nodes} → o.in_p ≡ false → begins_with_newline inner ≡ false → ArePlain attrs
+  Preformatted : {a : Bool} {o : Around} {attrs : List AttributeText} {inner rest : Nodes} → o.in_p ≡ false → ArePlain attrs
       → IsPlain blanks (Flow false (behind o)) inner → IsPlain blanks (Flow false o) rest → IsPlain blanks (Flow a o) (ElementThen (codes "pre") attrs inner rest)
   Paragraph : {a : Bool} {o : Around} {attrs : List AttributeText} {inner rest : Nodes} → o.in_p ≡ false → ArePlain attrs
       → IsPlain blanks (Flow false (record (within o) { in_p = true })) inner → IsPlain blanks (Flow false o) rest → IsPlain blanks (Flow a o) (ElementThen (codes "p") attrs inner rest)
@@ -207,5 +217,9 @@ abbrev pub plain_reply : TokenText → Reply
 plain_reply (TagIs tag) = if is_start_of_title tag then TurnsRaw Rcdata else Continues
 plain_reply _ = Continues
 
+-- the tokens of a document, and of a fragment
 abbrev pub document_tokens : PlainDocument → List TokenText
-document_tokens d = plain_doctype ∷ tokens_before (root_of d) (EndOfFile ∷ [])
+document_tokens d = plain_doctype ∷ tokens_before (as_written (root_of d)) (EndOfFile ∷ [])
+
+abbrev pub fragment_tokens : Nodes → List TokenText
+fragment_tokens nodes = tokens_before (as_written nodes) (EndOfFile ∷ [])

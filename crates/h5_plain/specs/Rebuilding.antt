@@ -11,8 +11,7 @@ use Rattle.h5_token.specs.Joins.{join}
 use Rattle.h5_rules.specs.Run.{View, after_all, all_quiet, replies}
 use Rattle.h5_rules.specs.World.{World}
 use Rattle.h5_rules.specs.formatting.FormattingNames.{html_name}
-use Rattle.h5_plain.specs.Plain.{ElementThen, End, Flow, IsPlain, Nodes, PlainDocument, TextThen, document_tokens, nothing_open, plain_reply, root_of, tokens_before}
-use Rattle.h5_token.specs.TokenText.{EndOfFile}
+use Rattle.h5_plain.specs.Plain.{ElementThen, End, Flow, IsPlain, Nodes, PlainDocument, TextThen, document_tokens, fragment_tokens, nothing_open, plain_reply, root_of}
 use Rattle.h5_names.specs.declared.qualified.QualName.{QualName}
 use Rattle.h5_rules.specs.fitting.Fits.{Situation}
 use Rattle.h5_rules.specs.fitting.NamesFit.{is_html_element}
@@ -115,4 +114,4 @@ pub record RebuildsFragment (choices : SinkChoices) (ts : List TokenText) (root 
 abbrev pub RebuildsFragments : SinkChoices → List TokenText → View → Type 0
 RebuildsFragments choices ts v =
     (nodes : Nodes) (s : IsFragmentStart v.world) → IsPlain true (Flow false nothing_open) nodes → Fitting v.world → v.ended ≡ false → v.failed ≡ false
-    → join ts ≡ tokens_before nodes (EndOfFile ∷ []) → RebuildsFragment choices ts s.root nodes v
+    → join ts ≡ fragment_tokens nodes → RebuildsFragment choices ts s.root nodes v

@@ -15,6 +15,9 @@ ghost use Rattle.h5_plain.specs.Rebuilding.{RebuildsAll, RebuildsFragments};
 /// paragraph stands in no `p`, a heading in no `p` and right inside of no heading, an `li` in no `li` that no block but `address`,
 /// `dialog` and `div` hides, a `dd` or `dt` likewise, and an `a` in no `a`. In a table stand captions, column groups, sections, rows and
 /// cells where they belong, and blank texts. Formatting elements, and phrases, which have no rule of their own, stand anywhere in flow.
+///
+/// A newline right behind the start tag of a `pre` is dropped where it is read, so one at the front of a `pre` is told twice
+/// (`as_written` in `specs/Plain.antt`).
 pub fn documents_are_rebuilt()
     ensures { (choices : SinkChoices) (tokens : List TokenText) (view : View) → RebuildsAll choices tokens view }
 {}
