@@ -18,7 +18,7 @@ use Rattle.h5_rules.specs.Blanks.{all_blank}
 use Rattle.h5_rules.specs.stack.Closing.{ends_item_search, is_html_among, newest_item, passed_names}
 use Rattle.h5_rules.specs.modes.InBody.{description_names, list_item_names}
 use Rattle.h5_rules.specs.World.{World, names_of}
-use Rattle.h5_plain.specs.Plain.{Around, Barrier, Blank, Break, Caption, Cell, Cells, Column, ColumnBlank, ColumnGroup, Columns, Describing, Division, ElementThen, End, Flow, Formatted, Heading, IsPlain, Item, Link, Nodes, Nothing, Paragraph, Part, Phrase, Preformatted, Rows, Ruled, Section, Sections, Sort, Table, TablePart, TableRow, TextThen, Words, as_written, behind, doubled, end_tag, has_end_tag, held_as_written, nothing_open, start_tag, tokens_before, within}
+use Rattle.h5_plain.specs.Plain.{Around, Barrier, Blank, Break, Caption, Cell, Cells, Column, ColumnBlank, ColumnGroup, Columns, Describing, Division, ElementThen, End, Flow, Formatted, Heading, IsPlain, Item, Link, Nodes, Nothing, Paragraph, Part, Phrase, Preformatted, Rows, Ruled, Section, Sections, Sort, Table, TablePart, TableRow, TextThen, Words, as_written, behind, end_tag, has_end_tag, held_as_written, nothing_open, start_tag, tokens_before, with_doubled, within}
 use Rattle.h5_rules.specs.formatting.FormattingList.{Entry, MarkerEntry, clear_to_marker, push_formatting}
 use Rattle.h5_plain.proofs.ListedLaws.{Entries, Fewer, Formats, Kept, Lost, OpenFormat, Other, Passed, has_link, passed}
 use Rattle.h5_plain.proofs.BodyRuleLaws.{IsHeadingName, IsHolder, IsSeen, is_barrier, is_heading_name, is_open_block, p_holds, p_outside, p_rule, pre}
@@ -261,7 +261,7 @@ unlinked_in b n name path h u e = ap (λ x. x || has_link path) h ∙ u e
 
 -- behind the start tag of a `pre`, nodes of which a newline at the front is told twice lead where they lead elsewhere
 goes_doubled : (blanks : Bool) (choices : SinkChoices) (inner : Nodes) (name : List ℕ) (ts : List TokenText) (w u : World) → GoesByBody w.mode → w.ignore_lf ≡ false
-    → Goes blanks choices (tokens_before inner (end_tag name ∷ ts)) w u → Goes blanks choices (tokens_before (doubled inner) (end_tag name ∷ ts)) (ignoring w) u
+    → Goes blanks choices (tokens_before inner (end_tag name ∷ ts)) w u → Goes blanks choices (tokens_before (with_doubled inner) (end_tag name ∷ ts)) (ignoring w) u
 goes_doubled blanks choices End name ts w u k e g = goes_ignoring blanks choices (end_tag name ∷ ts) w u k e refl g
 goes_doubled blanks choices (ElementThen n a i r) name ts w u k e g = goes_ignoring blanks choices (tokens_before (ElementThen n a i r) (end_tag name ∷ ts)) w u k e refl g
 goes_doubled blanks choices (TextThen [] rest) name ts w u k e g = goes_ignoring blanks choices (tokens_before (TextThen [] rest) (end_tag name ∷ ts)) w u k e refl g
@@ -356,7 +356,7 @@ module _ (choices : SinkChoices) {at_root : Option Role} {w : World} {p : ℕ} {
         ignoring in_pre,
         (
           Straight m,
-          subst (λ b. Goes blanks choices (tokens_before (cond b (doubled (as_written inner)) (as_written inner)) (end_tag name ∷ ts)) (ignoring in_pre) u) (sym is_pre)
+          subst (λ b. Goes blanks choices (tokens_before (cond b (with_doubled (as_written inner)) (as_written inner)) (end_tag name ∷ ts)) (ignoring in_pre) u) (sym is_pre)
               (goes_doubled blanks choices (as_written inner) name ts in_pre u k1 c.ignore_lf g),
         ),
       )) fill

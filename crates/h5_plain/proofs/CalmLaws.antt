@@ -17,7 +17,7 @@ use Rattle.h5_rules.specs.stack.Scope.{has_template}
 use Rattle.h5_rules.specs.Changes.{owned}
 use Rattle.h5_rules.specs.insertion.FormOwner.{associates, form_owner, may_have_owner}
 use Rattle.h5_rules.specs.World.{World, current, name_in, name_of_found, name_of_kind, names_of, root}
-use Rattle.h5_plain.specs.Plain.{ElementThen, End, Nodes, as_written, doubled, end_tag, has_end_tag, held_as_written, start_tag, tokens_before}
+use Rattle.h5_plain.specs.Plain.{ElementThen, End, Nodes, as_written, end_tag, has_end_tag, held_as_written, start_tag, tokens_before, with_doubled}
 use Rattle.h5_plain.proofs.FilledLaws.{Face, Filled, Frame, SameFaces, Shows, face, filled_element, filled_nothing, frame_element, gone_before, more}
 use Rattle.h5_tables.specs.declared.modes.InsertionMode.{InsertionMode}
 use Rattle.h5_plain.proofs.GoesLaws.{BeginsWithTag, Goes, IsTableMode, Moves, Straight}
@@ -173,7 +173,7 @@ pub enters : {blanks : Bool} {choices : SinkChoices} {w v : World} (name : List 
     → (ts : List TokenText) (u : World) → Goes blanks choices (tokens_before (as_written inner) (end_tag name ∷ ts)) v u
     → Goes blanks choices (start_tag name attrs ∷ tokens_before (held_as_written name (as_written inner)) (end_tag name ∷ ts)) w u
 enters {blanks} {choices} {w} {v} name attrs inner e m ts u g =
-    (v, (Straight m, subst (λ b. Goes blanks choices (tokens_before (cond b (doubled (as_written inner)) (as_written inner)) (end_tag name ∷ ts)) v u) (sym e) g))
+    (v, (Straight m, subst (λ b. Goes blanks choices (tokens_before (cond b (with_doubled (as_written inner)) (as_written inner)) (end_tag name ∷ ts)) v u) (sym e) g))
 
 -- how an element is opened: the world inside, and the formatting elements that are open there
 module _ (choices : SinkChoices) (w : World) (p : ℕ) (d : Face) (name : List ℕ) (attrs : List AttributeText) (m : InsertionMode) (l : List Entry) (ok : Bool) (path1 : List OpenFormat) (under1 : List ℕ) (base1 : List Entry) where

@@ -35,14 +35,19 @@ tokens_before (ElementThen name attrs inner rest) ts =
     start_tag name attrs
     ∷ (if has_end_tag name then tokens_before inner (end_tag name ∷ tokens_before rest ts) else tokens_before rest ts)
 
--- a newline at the front twice
-abbrev pub doubled : Nodes → Nodes
-doubled (TextThen (b ∷ t) rest) = TextThen (if b == 10 then 10 ∷ b ∷ t else b ∷ t) rest
-doubled nodes = nodes
+-- a text with a newline at its front twice
+abbrev pub doubled : List ℕ → List ℕ
+doubled [] = []
+doubled (b ∷ t) = if b == 10 then 10 ∷ b ∷ t else b ∷ t
+
+-- nodes that begin with a text, with that text so
+abbrev pub with_doubled : Nodes → Nodes
+with_doubled (TextThen text rest) = TextThen (doubled text) rest
+with_doubled nodes = nodes
 
 -- what an element of this name holds, as it is written: a newline right behind the start tag of a `pre` is dropped where it is read
 abbrev pub held_as_written : List ℕ → Nodes → Nodes
-held_as_written name nodes = if is_same_text name (codes "pre") then doubled nodes else nodes
+held_as_written name nodes = if is_same_text name (codes "pre") then with_doubled nodes else nodes
 
 -- a list of nodes, as it is told and written: each `pre` that begins with a newline begins with two
 abbrev pub as_written : Nodes → Nodes

@@ -3,7 +3,8 @@ use Rattle.std.proofs.Common.{◌≡◌, ℕ, Bool, true, false, List, [], ◌�
 use Rattle.h5_names.specs.AttributeText.{AttributeText}
 use Rattle.h5_token.specs.Joins.{glue, join}
 use Rattle.h5_token.specs.TokenText.{TokenText, TagIs, Characters, EndOfFile}
-use Rattle.h5_plain.specs.Plain.{ElementThen, End, Nodes, PlainDocument, TextThen, document_tokens, end_tag, has_end_tag, plain_doctype, start_tag, tokens_before}
+use Rattle.h5_plain.specs.Plain.{ElementThen, End, Nodes, PlainDocument, TextThen, as_written, document_tokens, end_tag, fragment_tokens, has_end_tag, plain_doctype, start_tag, tokens_before}
+use Rattle.h5_round_trip.proofs.DoubledLaws.{shape_written}
 use Rattle.h5_round_trip.proofs.ShapeLaws.{Element, None, Shape, Text, Title, Void, below_root, below_shape, is_html, is_title}
 
 -- a list that begins with a tag, or with the end of the file
@@ -44,11 +45,11 @@ nodes_joined _ more (Title {attrs} {first} {more = words} {rest = others} p s) h
     element_joined true (codes "title") attrs (TextThen (first ∷ words) End) others more is_title.ends
     (ap (λ l. glue (first ∷ words) (end_tag (codes "title") ∷ l)) (nodes_joined others more s h e))
 
-pub fragment_joined : {b : Bool} (ns : Nodes) → Shape b ns → join (tokens_before ns (EndOfFile ∷ [])) ≡ tokens_before ns (EndOfFile ∷ [])
-fragment_joined ns shape = nodes_joined ns (EndOfFile ∷ []) shape tt refl
+pub fragment_joined : {b : Bool} (ns : Nodes) → Shape b ns → join (fragment_tokens ns) ≡ fragment_tokens ns
+fragment_joined ns shape = nodes_joined (as_written ns) (EndOfFile ∷ []) (shape_written shape) tt refl
 
 pub document_joined : (d : PlainDocument) → join (document_tokens d) ≡ document_tokens d
 document_joined d =
     let last = end_tag (codes "html") ∷ EndOfFile ∷ [] in
     ap (λ l. plain_doctype ∷ l)
-    (element_joined true (codes "html") d.html_attrs (below_root d) End (EndOfFile ∷ []) is_html.ends (nodes_joined (below_root d) last (below_shape d) tt refl))
+    (element_joined true (codes "html") d.html_attrs (as_written (below_root d)) End (EndOfFile ∷ []) is_html.ends (nodes_joined (as_written (below_root d)) last (shape_written (below_shape d)) tt refl))

@@ -3,6 +3,7 @@ pub mod NameLaws
 pub mod AttributeLaws
 pub mod TagLaws
 pub mod ShapeLaws
+pub mod DoubledLaws
 pub mod ReadingLaws
 pub mod JoinedLaws
 pub mod WrittenLaws

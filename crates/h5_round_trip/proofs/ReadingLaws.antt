@@ -18,11 +18,12 @@ use Rattle.h5_tokenizer.specs.Options.{first_place}
 use Rattle.h5_tokenizer.specs.Read.{Bits, Read, behind, chosen_mode, next_place, nothing_read, read_on, started, text_step, token_step, unmarked}
 use Rattle.h5_reading.specs.Lines.{line_behind}
 use Rattle.h5_tokenizer.specs.Whole.{ReadsToEnd, after_closing, closing, more_reading, no_reading}
-use Rattle.h5_plain.specs.Plain.{ArePlain, ElementThen, End, Nodes, PlainDocument, TextThen, document_tokens, end_tag, has_end_tag, is_start_of_title, plain_doctype, plain_reply, root_of, start_tag, tokens_before}
+use Rattle.h5_plain.specs.Plain.{ArePlain, ElementThen, End, Nodes, PlainDocument, TextThen, as_written, document_tokens, end_tag, has_end_tag, is_start_of_title, plain_doctype, plain_reply, root_of, start_tag, tokens_before}
 use Rattle.h5_round_trip.specs.Answers.{Answers}
 use Rattle.h5_round_trip.specs.Readable.{AreReadable, CanBeRead, IsReadable, IsReadableDocument}
-use Rattle.h5_round_trip.specs.Written.{tag_written, written_before, written_of}
+use Rattle.h5_round_trip.specs.Written.{tag_written, written_before, written_fragment, written_of}
 use Rattle.h5_round_trip.proofs.CharLaws.{some_written, text_mode, text_read}
+use Rattle.h5_round_trip.proofs.DoubledLaws.{read_written, shape_written}
 use Rattle.h5_round_trip.proofs.ShapeLaws.{Element, None, Shape, Text, Title, Void, document_shape, is_title}
 use Rattle.h5_round_trip.proofs.TagLaws.{IsTagName, doctype_read, end_read, start_read, title_end_read}
 
@@ -238,5 +239,5 @@ module _ {M : Type 0} (reply_to : M → TokenText → Reply) (after : M → Toke
         whole = refl;
       } in
       ends p m xs all
-      (nodes_taken p m xs all (root_of d) (EndOfFile ∷ []) [] (document_shape d) readable
-      (doctype_taken p m xs all (tokens_before (root_of d) (EndOfFile ∷ [])) (written_before (root_of d) []) first))
+      (nodes_taken p m xs all (as_written (root_of d)) (EndOfFile ∷ []) [] (shape_written (document_shape d)) (read_written (root_of d) readable)
+      (doctype_taken p m xs all (tokens_before (as_written (root_of d)) (EndOfFile ∷ [])) (written_fragment (root_of d)) first))

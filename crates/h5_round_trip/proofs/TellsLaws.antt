@@ -13,6 +13,7 @@ use Rattle.h5_plain.specs.Plain.{ElementThen, End, Nodes, PlainDocument, TextThe
 use Rattle.h5_round_trip.specs.Answers.{Answers}
 use Rattle.h5_round_trip.specs.Readable.{IsReadableDocument}
 use Rattle.h5_round_trip.specs.Written.{written_of}
+use Rattle.h5_round_trip.proofs.DoubledLaws.{shape_written, written_apart}
 use Rattle.h5_round_trip.proofs.JoinedLaws.{document_joined}
 use Rattle.h5_round_trip.proofs.ReadingLaws.{document_read}
 use Rattle.h5_round_trip.proofs.ShapeLaws.{Element, None, Shape, Text, Title, Void, document_shape, is_title}
@@ -155,4 +156,5 @@ same_tokens d e readable other same =
 
 pub texts_tell : (d e : PlainDocument) → IsReadableDocument d → IsReadableDocument e → written_of d ≡ written_of e → root_of d ≡ root_of e
 texts_tell d e readable other text =
-    (same (told (document_shape d)) (told (document_shape e)) (EndOfFile ∷ []) (EndOfFile ∷ []) tt tt (ap but_first (same_tokens d e readable other text))).nodes
+    written_apart (root_of d) (root_of e)
+    (same (told (shape_written (document_shape d))) (told (shape_written (document_shape e))) (EndOfFile ∷ []) (EndOfFile ∷ []) tt tt (ap but_first (same_tokens d e readable other text))).nodes

@@ -20,7 +20,7 @@ use Rattle.h5_serialize.specs.declared.options.TraversalScope.TheVariants.{Child
 use Rattle.h5_arena.specs.NodeCalls.{calls_around, calls_of, calls_of_children, shown_children, walk_of}
 use Rattle.h5_plain.specs.Plain.{ElementThen, End, Nodes, PlainDocument, TextThen, has_end_tag, root_of}
 use Rattle.h5_plain.specs.Rebuilding.{DocumentStands, Looks, Stands}
-use Rattle.h5_round_trip.specs.Written.{tag_written, written_before, written_of}
+use Rattle.h5_round_trip.specs.Written.{serialized_of, tag_written, written_before}
 use Rattle.h5_round_trip.proofs.ShapeLaws.{Element, None, Shape, Text, Title, Void, document_shape, is_title}
 
 -- what stands open, innermost first: no void element, and the last is none whose text is written as it stands
@@ -173,7 +173,7 @@ module _ (f : Forest) (around : (n : ℕ) (d : Node) → f.node n ≡ Some d →
 
   -- the whole document, by the default options
   pub document_written : (opts : SerializeOpts) (d : PlainDocument) → opts.traversal_scope ≡ ChildrenOnly Nothing → opts.create_missing_parent ≡ false → DocumentStands f d
-      → walk_text (new_standing opts) (walk_of f f.document opts.traversal_scope) ≡ written_of d
+      → walk_text (new_standing opts) (walk_of f f.document opts.traversal_scope) ≡ serialized_of d
   document_written opts d scope create st =
       let base = base_of opts.scripting_enabled (ChildrenOnly Nothing) in
       let here = Working opts.scripting_enabled false (base ∷ []) in

@@ -15,7 +15,7 @@ ghost use Rattle.h5_plain.specs.Plain.{PlainDocument, document_tokens, root_of};
 ghost use Rattle.h5_plain.specs.Rebuilding.{DocumentStands};
 ghost use Rattle.h5_round_trip.specs.Answers.{Answers};
 ghost use Rattle.h5_round_trip.specs.Readable.{IsReadable, IsReadableDocument};
-ghost use Rattle.h5_round_trip.specs.Written.{written_of};
+ghost use Rattle.h5_round_trip.specs.Written.{KeepsNewlines, serialized_of, written_of};
 
 pub mod standard;
 
@@ -32,9 +32,13 @@ pub fn texts_of_documents_stand_apart()
     ensures { (d : PlainDocument) → join (document_tokens d) ≡ document_tokens d }
 {}
 
-/// What a serializer writes of the children of a document in which a plain document stands is that document's text.
+/// What a serializer writes of the children of a document in which a plain document stands: its nodes as they stand. That is the
+/// document's text, if no `pre` of it begins with a newline: a reader drops one there, and a serializer writes it once.
 pub fn documents_are_written()
-    ensures { (f : Forest) (d : PlainDocument) (opts : SerializeOpts) → IsForest f → DocumentStands f d
+    ensures as_they_stand { (f : Forest) (d : PlainDocument) (opts : SerializeOpts) → IsForest f → DocumentStands f d
+        → opts.traversal_scope ≡ ChildrenOnly None → opts.create_missing_parent ≡ false
+        → walk_text (new_standing opts) (walk_of f f.document opts.traversal_scope) ≡ serialized_of d }
+    ensures as_their_text { (f : Forest) (d : PlainDocument) (opts : SerializeOpts) → IsForest f → DocumentStands f d → KeepsNewlines d
         → opts.traversal_scope ≡ ChildrenOnly None → opts.create_missing_parent ≡ false
         → walk_text (new_standing opts) (walk_of f f.document opts.traversal_scope) ≡ written_of d }
 {

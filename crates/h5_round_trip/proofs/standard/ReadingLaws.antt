@@ -17,10 +17,11 @@ use Rattle.h5_states.specs.ReferenceTable.{references}
 use Rattle.h5_states.specs.States.{Text as TextState}
 use Rattle.h5_states.specs.Whole.{ReadsToEnd, more_reading, no_reading}
 use Rattle.h5_standard.specs.Options.{first_place}
-use Rattle.h5_plain.specs.Plain.{ArePlain, ElementThen, End, Nodes, PlainDocument, TextThen, document_tokens, end_tag, has_end_tag, is_start_of_title, plain_doctype, plain_reply, root_of, start_tag, tokens_before}
+use Rattle.h5_plain.specs.Plain.{ArePlain, ElementThen, End, Nodes, PlainDocument, TextThen, as_written, document_tokens, end_tag, fragment_tokens, has_end_tag, is_start_of_title, plain_doctype, plain_reply, root_of, start_tag, tokens_before}
 use Rattle.h5_round_trip.specs.Answers.{Answers}
 use Rattle.h5_round_trip.specs.Readable.{AreReadable, CanBeRead, IsReadable, IsReadableDocument}
-use Rattle.h5_round_trip.specs.Written.{tag_written, written_before, written_of}
+use Rattle.h5_round_trip.specs.Written.{tag_written, written_before, written_fragment, written_of}
+use Rattle.h5_round_trip.proofs.DoubledLaws.{read_written, shape_written}
 use Rattle.h5_round_trip.proofs.ShapeLaws.{Element, None, Shape, Text, Title, Void, document_shape, is_title}
 use Rattle.h5_round_trip.proofs.TagLaws.{IsTagName}
 use Rattle.h5_round_trip.proofs.standard.ReferenceLaws.{InData, InTitle, Where, state_of}
@@ -343,8 +344,8 @@ module _ {M : Type 0} (reply_to : M → TokenText → Reply) (after : M → Toke
         whole = refl;
       } in
       ends p m xs all
-      (nodes_taken p m xs all (root_of d) (EndOfFile ∷ []) [] (document_shape d) readable tt
-      (doctype_taken p m xs all (tokens_before (root_of d) (EndOfFile ∷ [])) (written_before (root_of d) []) first))
+      (nodes_taken p m xs all (as_written (root_of d)) (EndOfFile ∷ []) [] (shape_written (document_shape d)) (read_written (root_of d) readable) tt
+      (doctype_taken p m xs all (tokens_before (as_written (root_of d)) (EndOfFile ∷ [])) (written_fragment (root_of d)) first))
 
   -- read to the end, by all tokens but that the last text may come in two parts
   pub record ReadsCut (p : ReaderPlace) (m : M) (xs : List ℕ) (all : List TokenText) : Type 0 where
@@ -391,10 +392,10 @@ module _ {M : Type 0} (reply_to : M → TokenText → Reply) (after : M → Toke
             ∙ joins_append r.handed r.handed (Characters (b ∷ t) ∷ (told back ++ EndOfFile ∷ [])) (Characters (x ∷ words) ∷ EndOfFile ∷ []) refl (in_two b t back whole)
             ∙ ap join r.whole)
 
-  -- a fragment's text is read to its end, as its tokens, but that a text at its end may come in two parts
-  pub fragment_read : {b : Bool} (ns : Nodes) (m : M) → Shape b ns → CanBeRead ns → AnswersCuts reply_to → Answers reply_to after m (tokens_before ns (EndOfFile ∷ []))
+  -- the text of nodes is read to its end, as their tokens, but that a text at its end may come in two parts
+  nodes_read : {b : Bool} (ns : Nodes) (m : M) → Shape b ns → CanBeRead ns → AnswersCuts reply_to → Answers reply_to after m (tokens_before ns (EndOfFile ∷ []))
       → ReadsCut (first_place default_options) m (written_before ns []) (tokens_before ns (EndOfFile ∷ []))
-  fragment_read ns m shape readable cuts answers = at (ending ns shape)
+  nodes_read ns m shape readable cuts answers = at (ending ns shape)
     where
       first : Reached (first_place default_options) m (written_before ns []) (tokens_before ns (EndOfFile ∷ [])) false (tokens_before ns (EndOfFile ∷ [])) (written_before ns [])
       first = record {
@@ -428,3 +429,8 @@ module _ {M : Type 0} (reply_to : M → TokenText → Reply) (after : M → Toke
           let r = ends p m xs all (nodes_taken p m xs all ns (EndOfFile ∷ []) [] shape readable room first) in
           record { tokens = all; joined = refl; meaning = r.0; reads = r.1 }
       at (InText {front} {t} s) = let f = split_filled s shape in by_text front t f.first f.more f.is s
+
+  -- so is a fragment's text
+  pub fragment_read : {b : Bool} (ns : Nodes) (m : M) → Shape b ns → CanBeRead ns → AnswersCuts reply_to → Answers reply_to after m (fragment_tokens ns)
+      → ReadsCut (first_place default_options) m (written_fragment ns) (fragment_tokens ns)
+  fragment_read ns m shape readable cuts answers = nodes_read (as_written ns) m (shape_written shape) (read_written ns readable) cuts answers

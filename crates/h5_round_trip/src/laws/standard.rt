@@ -1,6 +1,6 @@
 //! The laws of reading by the standard, each the contract of a function that does nothing.
-ghost use Rattle.std.specs.Prelude.{◌≡◌, List, [], ◌∷◌, false, true};
-ghost use Rattle.h5_token.specs.TokenText.{EndOfFile, TokenText};
+ghost use Rattle.std.specs.Prelude.{◌≡◌, List, false, true};
+ghost use Rattle.h5_token.specs.TokenText.{TokenText};
 ghost use Rattle.h5_token.specs.Joins.{join};
 ghost use Rattle.h5_round_trip.specs.Fragment.{AnswersCuts};
 ghost use Rattle.h5_reading.specs.Options.{default_options};
@@ -9,10 +9,10 @@ ghost use Rattle.h5_tokenizer.specs.Whole as plain_reader;
 ghost use Rattle.h5_states.specs.ReferenceTable.{references};
 ghost use Rattle.h5_states.specs.Whole.{ReadsToEnd};
 ghost use Rattle.h5_standard.specs.Options.{first_place};
-ghost use Rattle.h5_plain.specs.Plain.{Flow, IsPlain, Nodes, PlainDocument, document_tokens, nothing_open, tokens_before};
+ghost use Rattle.h5_plain.specs.Plain.{Flow, IsPlain, Nodes, PlainDocument, document_tokens, fragment_tokens, nothing_open};
 ghost use Rattle.h5_round_trip.specs.Answers.{Answers};
 ghost use Rattle.h5_round_trip.specs.Readable.{CanBeRead, IsReadableDocument};
-ghost use Rattle.h5_round_trip.specs.Written.{written_before, written_of};
+ghost use Rattle.h5_round_trip.specs.Written.{written_fragment, written_of};
 ghost use Rattle.h5_round_trip.specs.Markup.{AreMarks, Mark, page_tokens, written_page};
 
 use h5_token::TokenSink;
@@ -37,7 +37,7 @@ pub fn markup_is_read_alike<S: TokenSink>()
 /// The text of a fragment is read by the standard's states as the fragment's tokens, but that a text at its end may come in two parts,
 /// over a taker that answers as a builder does.
 pub fn fragments_are_read<S: TokenSink>()
-    ensures { (nodes : Nodes) (m : S.Meaning) → IsPlain true (Flow false nothing_open) nodes → CanBeRead nodes → AnswersCuts S.reply_to → Answers S.reply_to S.after m (tokens_before nodes (EndOfFile ∷ []))
-        → (tokens : List TokenText) × ((join tokens ≡ join (tokens_before nodes (EndOfFile ∷ [])))
-        × ((n : S.Meaning) × ReadsToEnd references S.reply_to S.after S.is_foreign S.ended (first_place default_options) m (written_before nodes []) tokens n)) }
+    ensures { (nodes : Nodes) (m : S.Meaning) → IsPlain true (Flow false nothing_open) nodes → CanBeRead nodes → AnswersCuts S.reply_to → Answers S.reply_to S.after m (fragment_tokens nodes)
+        → (tokens : List TokenText) × ((join tokens ≡ join (fragment_tokens nodes))
+        × ((n : S.Meaning) × ReadsToEnd references S.reply_to S.after S.is_foreign S.ended (first_place default_options) m (written_fragment nodes) tokens n)) }
 {}
