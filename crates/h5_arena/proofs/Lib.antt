@@ -2,6 +2,7 @@ mod AttributeLaws
 mod AttributeNameLaws
 mod BalanceLaws
 pub mod CallConditions
+mod EditLaws
 mod HeldLaws
 mod LevelLaws
 mod NodeCallLaws

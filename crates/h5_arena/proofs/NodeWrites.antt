@@ -17,6 +17,7 @@ use Rattle.h5_interface.specs.declared.marks.QuirksMode.{QuirksMode}
 use Rattle.h5_names.specs.AttributeText.{AttributeText}
 use Rattle.h5_arena.specs.declared.nodes.NodeData.{NodeData}
 use Rattle.h5_arena.specs.ArenaModel.{ArenaView, arena_choices, at_node, child_views, children_in, forest_in, forest_of, marks_at, name_of_kind, node_view, node_views}
+use Rattle.h5_arena.specs.Edits.{edit_attrs}
 use Rattle.h5_arena.specs.declared.nodes.NodeId.{NodeId}
 use Rattle.h5_names.specs.declared.qualified.QualName.{QualName}
 use Rattle.h5_interface.proofs.RehangLaws.{id_map}
@@ -76,11 +77,15 @@ node_write ns i d d1 change there e w other =
     at m false z (Some v) g = rw (z, g, other m v g z) refl
 
 -- attributes, and marks, of one node are written
+pub attrs_edited_write : (ns : List NodeData) (i : ℕ) (d d1 : NodeData) (edit : List AttributeText → List AttributeText) → i < length ns → d ≡ get_or ns i d → node_view d1 ≡ record (node_view d) { attrs = edit (node_view d).attrs }
+    → forest_in (set ns i d1) ≡ edit_attrs i edit (forest_in ns)
+attrs_edited_write ns i d d1 edit there e w =
+    node_write ns i d d1 (λ m v. record v { attrs = cond (m == i) (edit v.attrs) v.attrs }) there e (w ∙ ap (λ b. record (node_view d) { attrs = cond b (edit (node_view d).attrs) (node_view d).attrs }) (sym (eq-eqb i i refl)))
+    (λ m v g z. ap (λ b. record v { attrs = cond b (edit v.attrs) v.attrs }) z)
+
 pub attrs_write : (ns : List NodeData) (i : ℕ) (d d1 : NodeData) (more : List AttributeText) → i < length ns → d ≡ get_or ns i d → node_view d1 ≡ record (node_view d) { attrs = with_missing more (node_view d).attrs }
     → forest_in (set ns i d1) ≡ add_missing_attributes i more (forest_in ns)
-attrs_write ns i d d1 more there e w =
-    node_write ns i d d1 (λ m v. record v { attrs = cond (m == i) (with_missing more v.attrs) v.attrs }) there e (w ∙ ap (λ b. record (node_view d) { attrs = cond b (with_missing more (node_view d).attrs) (node_view d).attrs }) (sym (eq-eqb i i refl)))
-    (λ m v g z. ap (λ b. record v { attrs = cond b (with_missing more v.attrs) v.attrs }) z)
+attrs_write ns i d d1 more there e w = attrs_edited_write ns i d d1 (with_missing more) there e w
 
 pub started_write : (ns : List NodeData) (i : ℕ) (d d1 : NodeData) → i < length ns → d ≡ get_or ns i d → node_view d1 ≡ record (node_view d) { marks = record (node_view d).marks { started = true } }
     → forest_in (set ns i d1) ≡ mark (arena_choices.marks_after_started (forest_in ns) i) (forest_in ns)

@@ -13,6 +13,7 @@ use Rattle.h5_interface.specs.SinkChoices.{SinkChoices}
 use Rattle.h5_interface.proofs.MakingLaws.{element_lone, make_rearranges, old_is_node}
 use Rattle.h5_arena.specs.ArenaModel.{HasNotes, HoldsOwners, KnowsNames, arena_choices, form_of}
 use Rattle.h5_arena.specs.AttributeNames.{AreNames, AreNamesAt, names_at}
+use Rattle.h5_arena.specs.Edits.{edit_attrs}
 use Rattle.h5_arena.specs.declared.attribute_names.AttributeNames.{AttributeNames}
 use Rattle.h5_arena.proofs.CallConditions.{some_same}
 
@@ -179,22 +180,25 @@ notes_kept names news f t attrs d there same at_t others k = record {
     known n c false w e = λ found g. k.kept_names.known n c e found (sym (others n w) ∙ g)
 
 -- they and the attributes of the node change
-pub notes_add_missing : (names news : AttributeNames) (f : Forest) (t : ℕ) (more attrs : List AttributeText) → (d : Node) → f.node t ≡ Some d → attrs ≡ with_missing more d.attrs → AreNamesAt news t attrs → ((n : ℕ) → (n == t) ≡ false → names_at news n ≡ names_at names n) → HasNotes names f → HasNotes news (add_missing_attributes t more f)
-notes_add_missing names news f t more attrs d there same at_t others k = record {
+pub notes_attrs_edited : (names news : AttributeNames) (f : Forest) (t : ℕ) (edit : List AttributeText → List AttributeText) (attrs : List AttributeText) → (d : Node) → f.node t ≡ Some d → attrs ≡ edit d.attrs → AreNamesAt news t attrs → ((n : ℕ) → (n == t) ≡ false → names_at news n ≡ names_at names n) → HasNotes names f → HasNotes news (edit_attrs t edit f)
+notes_attrs_edited names news f t edit attrs d there same at_t others k = record {
   owners = owners_changed change f (λ n c w. refl) k.owners;
   kept_names = record { known = λ n c e. known n c (n == t) refl (f.node n) refl e; inside = λ n found e. still_node change f n (names_inside names news f t d there others k.kept_names n found e) };
 }
   where
     change : ℕ → Node → Node
-    change = λ n c. record c { attrs = cond (n == t) (with_missing more c.attrs) c.attrs }
+    change = λ n c. record c { attrs = cond (n == t) (edit c.attrs) c.attrs }
 
-    known : (n : ℕ) (c : Node) (b : Bool) → (n == t) ≡ b → (o : Option Node) → f.node n ≡ o → (add_missing_attributes t more f).node n ≡ Some c → AreNamesAt news n c.attrs
+    known : (n : ℕ) (c : Node) (b : Bool) → (n == t) ≡ b → (o : Option Node) → f.node n ≡ o → (edit_attrs t edit f).node n ≡ Some c → AreNamesAt news n c.attrs
     known n c b w None g e = absurd (let v : None ≡ Some c = (rw g at e) in cc)
     known n c true w (Some x) g e =
         let v : n ≡ t = eqb-true n t w in
         let u : d ≡ x = some_same d x (sym there ∙ ap f.node (sym v) ∙ g) in
-        let a : with_missing more x.attrs ≡ c.attrs = ap (λ (y : Node). y.attrs) (some_same (record x { attrs = with_missing more x.attrs }) c (rw (g, w) at e)) in
-        subst (λ m. AreNamesAt news m c.attrs) (sym v) (subst (AreNamesAt news t) (same ∙ ap (λ (y : Node). with_missing more y.attrs) u ∙ a) at_t)
+        let a : edit x.attrs ≡ c.attrs = ap (λ (y : Node). y.attrs) (some_same (record x { attrs = edit x.attrs }) c (rw (g, w) at e)) in
+        subst (λ m. AreNamesAt news m c.attrs) (sym v) (subst (AreNamesAt news t) (same ∙ ap (λ (y : Node). edit y.attrs) u ∙ a) at_t)
     known n c false w (Some x) g e =
         let a : x.attrs ≡ c.attrs = ap (λ (y : Node). y.attrs) (some_same x c (rw (g, w) at e)) in
         λ found h. subst (AreNames found) a (k.kept_names.known n x g found (sym (others n w) ∙ h))
+
+pub notes_add_missing : (names news : AttributeNames) (f : Forest) (t : ℕ) (more attrs : List AttributeText) → (d : Node) → f.node t ≡ Some d → attrs ≡ with_missing more d.attrs → AreNamesAt news t attrs → ((n : ℕ) → (n == t) ≡ false → names_at news n ≡ names_at names n) → HasNotes names f → HasNotes news (add_missing_attributes t more f)
+notes_add_missing names news f t more attrs d there same at_t others k = notes_attrs_edited names news f t (with_missing more) attrs d there same at_t others k

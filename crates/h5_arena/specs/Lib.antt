@@ -1,5 +1,6 @@
 pub mod ArenaModel
 pub mod AttributeNames
 pub mod ChildTests
+pub mod Edits
 pub mod NodeCalls
 pub mod OpenNodes

@@ -49,6 +49,14 @@ impl AttributeNames {
         }
     }
 
+    /// Keeps no names of a node any longer.
+    pub(crate) fn forget(&mut self, node: usize)
+        ensures none { names_at self.new node ≡ None }
+        ensures others { (n : ℕ) → (n == node) ≡ false → names_at self.new n ≡ names_at self.old n }
+    {
+        let _ = self.by_node.remove(&node);
+    }
+
     // The names of a node's attributes, where they are kept or the attributes are many. They are kept no longer.
     fn take(
         &mut self,

@@ -2,7 +2,8 @@
 //!
 //! `tree` has the arena and the calls that read it, and `sink` those of a builder. `nodes` has what a node is, `below`
 //! what stands below it, and `shared` what elements of one name share. `makes` makes nodes; `link`, `links`, `children`
-//! and `moves` change parents and children. `attributes` reads and adds attributes, and `attribute_names` keeps the names
+//! and `moves` change parents and children. `edits` has the calls of those who edit a tree, `edit_nodes` their work on nodes, and
+//! `fault` why one is refused. `attributes` reads and adds attributes, and `attribute_names` keeps the names
 //! of many in order. `walk` is the walk of a serializer over a node (HTML standard, section 13.3), and `laws` has what
 //! holds of its calls.
 //!
@@ -15,6 +16,9 @@ mod attribute_names;
 mod attributes;
 mod below;
 mod children;
+mod edit_nodes;
+mod edits;
+mod fault;
 pub mod laws;
 mod link;
 mod links;
@@ -26,6 +30,7 @@ mod sink;
 mod tree;
 mod walk;
 
+pub use fault::TreeFault;
 pub use nodes::{Child, Kind, NodeId};
 pub use tree::Arena;
 pub use walk::NodeRef;
