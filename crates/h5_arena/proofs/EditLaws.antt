@@ -1,26 +1,28 @@
 -- Attributes that are set and taken away.
 use Rattle.std.proofs.Common.{◌≡◌, ◌≢◌, ◌∙◌, ℕ, ◌<◌, ◌≤◌, Bool, true, false, cond, not, ◌&&◌, ◌||◌, List, [], ◌∷◌, ◌++◌, ap, arith, get_or, is_some, length, refl, subst, sym}
-use Rattle.std.specs.Prelude.{◌==◌, Option, None, Some, nat_lt}
+use Rattle.std.specs.Prelude.{◌==◌, Option, None, Some, nat_lt, slice_get}
 use Rattle.std.specs.List.{filter, items_where_true, list_any, position, position_or_len}
 use Rattle.std.specs.List.Retain.{IsFiltered, ReturnsInTurn}
 use Rattle.std.proofs.Math.ListN.{set}
 use Rattle.std.proofs.lemmas.Bool.{eq-eqb}
 use Rattle.std.proofs.lemmas.Bool.Decides.{nat_tests}
 use Rattle.std.proofs.lemmas.Cmp.{nat_list_eq_equiv}
-use Rattle.std.proofs.lemmas.List.{length-map, map-append}
+use Rattle.std.proofs.lemmas.List.{map-append}
 use Rattle.std.proofs.lemmas.List.Quantifiers.{position-Some}
 use Prim.Native.Nat.{zero, suc}
 use Rattle.h5_names.specs.declared.qualified.Attribute.{Attribute}
 use Rattle.h5_names.specs.AttributeText.{AttributeText, attribute_text, attribute_texts, is_same_text}
 use Rattle.std.specs.BTreeSet.{BTreeSet}
 use Rattle.h5_interface.specs.Forest.{Forest, IsNode, Node, attrs_of}
+use Rattle.h5_interface.specs.Seen.{Seen}
 use Rattle.h5_interface.specs.declared.marks.QuirksMode.{QuirksMode}
 use Rattle.h5_interface.proofs.RehangLaws.{loosened_keeps, none_chosen, shape_rehangs}
-use Rattle.h5_arena.specs.ArenaModel.{ArenaView, HasNotes, IsArena, forest_in, node_views, value_of}
+use Rattle.h5_arena.specs.ArenaModel.{ArenaView, HasNotes, IsArena, KeepsErrors, forest_in, seen_of, value_of}
 use Rattle.h5_arena.specs.AttributeNames.{names_at}
 use Rattle.h5_arena.specs.Edits.{edit_attrs, is_named, with_value, without_named}
 use Rattle.h5_arena.specs.declared.attribute_names.AttributeNames.{AttributeNames}
 use Rattle.h5_arena.specs.declared.nodes.NodeData.{NodeData}
+use Rattle.h5_arena.proofs.CallConditions.{some_same}
 use Rattle.h5_arena.proofs.NoteLaws.{notes_attrs_edited, notes_kept}
 
 -- a text is the same as itself
@@ -115,15 +117,6 @@ attrs_edited f g n edit e there = ap (λ h. attrs_of h n) e ∙ at (f.node n) re
     at None w = absurd (there w)
     at (Some d) w = rw (w, eq-eqb n n refl) refl
 
--- a node lies in the vector
-pub within_is_node : (ns : List NodeData) (i : ℕ) → i < length ns → IsNode (forest_in ns) i
-within_is_node [] i h = absurd (omega arith)
-within_is_node (d ∷ ns) zero h = λ e. cc
-within_is_node (d ∷ ns) (suc i) h = within_is_node ns i (omega arith)
-
-pub held_is_node : (ns : List NodeData) (i : ℕ) → i < length (node_views ns) → IsNode (forest_in ns) i
-held_is_node ns i h = within_is_node ns i (simp length-map at h)
-
 -- the attributes of one node change, and no names are kept of it
 pub edit_attrs_keeps : (names news : AttributeNames) (f : Forest) (t : ℕ) (edit : List AttributeText → List AttributeText) → IsNode f t → names_at news t ≡ None → ((n : ℕ) → (n == t) ≡ false → names_at news n ≡ names_at names n) → IsArena names f → IsArena news (edit_attrs t edit f)
 edit_attrs_keeps names news f t edit there none others k = record {
@@ -146,6 +139,22 @@ forget_keeps names news f t there none others k = record { is_forest = k.is_fore
 -- an arena whose nodes are the same
 pub same_view : (ns ms : List Node) (q : QuirksMode) (errors : List (List ℕ)) (lost keeps : Bool) → ns ≡ ms → ◌≡◌ {A = ArenaView} (record { nodes = ns; quirks = q; errors = errors; errors_lost = lost; keeps_errors = keeps }) (record { nodes = ms; quirks = q; errors = errors; errors_lost = lost; keeps_errors = keeps })
 same_view ns ms q errors lost keeps e = ap (λ xs. record { nodes = xs; quirks = q; errors = errors; errors_lost = lost; keeps_errors = keeps }) e
+
+same_nodes : (ns ms : List Node) → ((n : ℕ) → slice_get ns n ≡ slice_get ms n) → ns ≡ ms
+same_nodes [] [] h = refl
+same_nodes [] (m ∷ ms) h = let w = h 0 in cc
+same_nodes (n ∷ ns) [] h = let w = h 0 in cc
+same_nodes (n ∷ ns) (m ∷ ms) h = λ i. some_same n m (h 0) i ∷ same_nodes ns ms (λ k. h (suc k)) i
+
+-- so is one of which the same is seen, and that keeps its errors
+pub same_from_seen : (a b : ArenaView) → seen_of a ≡ seen_of b → KeepsErrors b a → a ≡ b
+same_from_seen a b e k = λ i. record {
+  nodes = same_nodes a.nodes b.nodes (λ n. ap (λ (s : Seen). s.forest.node n) e) i;
+  quirks = ap (λ (s : Seen). s.quirks) e i;
+  errors = k.0 i;
+  errors_lost = k.1 i;
+  keeps_errors = k.2 i;
+}
 
 -- what stays where a test that changes nothing chooses is what passes the test
 module _ {X F : Type 0} (R : F → X → Bool → F → Type 0) (test : X → Bool) (f : F) (tells : (x : X) (b : Bool) (g : F) → R f x b g → (b ≡ test x) × (g ≡ f)) where

@@ -39,7 +39,7 @@ none_above : (f : Forest) (n : ℕ) → AreAbove f n []
 unfolding IsDistinct
 none_above f n = record { ancestors = λ a h. cc; distinct = tt }
 
-apart : (n : ℕ) (xs : List ℕ) → ((a : ℕ) → list_any (eqb a) xs ≡ true → n ≢ a) → AllByRecursion (λ y. eqb n y ≡ false) xs
+pub apart : (n : ℕ) (xs : List ℕ) → ((a : ℕ) → list_any (eqb a) xs ≡ true → n ≢ a) → AllByRecursion (λ y. eqb n y ≡ false) xs
 apart n [] h = tt
 apart n (x ∷ xs) h = (differ (eqb n x) refl, apart n xs (λ a w. h a (or_right (eqb a x) _ w)))
   where

@@ -2,6 +2,7 @@ mod AttributeLaws
 mod AttributeNameLaws
 mod BalanceLaws
 pub mod CallConditions
+pub mod ClimbLaws
 mod EditLaws
 mod HeldLaws
 mod LevelLaws

@@ -10,7 +10,7 @@ use Rattle.std.proofs.lemmas.List.{length-map, length-set, map-set}
 use Rattle.std.proofs.lemmas.Option.{slice_get-map, slice_get_read}
 use Prim.Native.Nat.{zero, suc}
 use Rattle.h5_interface.specs.Changes.{add_missing_attributes, change_nodes, edit_children, joined, mark, set_parents, with_missing}
-use Rattle.h5_interface.specs.Forest.{AreParted, Child, CommentNode, DoctypeNode, DocumentNode, ElementNode, Forest, FragmentNode, InstructionNode, IsElement, IsForest, Kind, Node, children_of, count, kind_of, nodes, parent_of}
+use Rattle.h5_interface.specs.Forest.{AreParted, Child, CommentNode, DoctypeNode, DocumentNode, ElementNode, Forest, FragmentNode, InstructionNode, IsElement, IsForest, IsNode, Kind, Node, children_of, count, kind_of, nodes, parent_of}
 use Rattle.h5_interface.proofs.ForestLaws.{child_is_node, child_once, node_of_kind, same_forest}
 use Rattle.h5_interface.specs.Seen.{Seen}
 use Rattle.h5_interface.specs.declared.marks.QuirksMode.{QuirksMode}
@@ -119,6 +119,15 @@ pub node_exists : (ns : List NodeData) (i : ℕ) → slice_get (node_views ns) i
 node_exists [] i h = absurd (h refl)
 node_exists (n ∷ ns) zero h = omega arith
 node_exists (n ∷ ns) (suc i) h = let w = node_exists ns i h in omega arith
+
+-- and what lies in the vector is a node
+pub within_is_node : (ns : List NodeData) (i : ℕ) → i < length ns → IsNode (forest_in ns) i
+within_is_node [] i h = absurd (omega arith)
+within_is_node (d ∷ ns) zero h = λ e. cc
+within_is_node (d ∷ ns) (suc i) h = within_is_node ns i (omega arith)
+
+pub held_is_node : (ns : List NodeData) (i : ℕ) → i < length (node_views ns) → IsNode (forest_in ns) i
+held_is_node ns i h = within_is_node ns i (simp length-map at h)
 
 -- where a parent, and a child, lie
 pub parent_within : (ns : List NodeData) (p c : ℕ) → IsForest (forest_in ns) → parent_of (forest_in ns) c ≡ Some p → p < length ns

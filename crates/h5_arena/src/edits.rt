@@ -1,13 +1,16 @@
 //! Calls for those who edit a tree.
-ghost use Rattle.std.specs.Prelude.{◌≡◌, None, OnErr, OnOk, Some, is_some};
+ghost use Rattle.std.specs.Prelude.{◌≡◌, ◌≢◌, IfErr, None, OnErr, OnOk, Some, is_some};
 ghost use Rattle.h5_interface.specs.Forest.{IsElement, attrs_of};
-ghost use Rattle.h5_interface.specs.Seen.{changed};
-ghost use Rattle.h5_arena.specs.ArenaModel.{IsHeld, KeepsErrors, forest_seen, seen_of, value_of};
-ghost use Rattle.h5_arena.specs.Edits.{edit_attrs, with_value, without_named};
+ghost use Rattle.h5_interface.specs.Seen.{CanAppend, CanInsertBefore, after_append, after_append_before, changed, child_of};
+ghost use Rattle.h5_arena.specs.ArenaModel.{IsHeld, IsNoChild, KeepsErrors, forest_seen, place, seen_of, value_of};
+ghost use Rattle.h5_arena.specs.Edits.{KeepsFromAppend, KeepsFromInsert, edit_attrs, take_out, with_value, without_named};
+ghost use Rattle.h5_arena.specs.declared.fault.TreeFault.TheVariants.{Memory};
 
-use super::edit_nodes;
+use super::fault::TreeFault;
 use super::nodes::NodeId;
 use super::tree::Arena;
+use super::{edit_nodes, links, standing};
+use h5_interface::{NodeOrText, TreeSink};
 use std::alloc::AllocError;
 
 impl Arena {
@@ -37,5 +40,59 @@ impl Arena {
     {
         self.names.forget(id.index);
         edit_nodes::remove_attr(&mut self.nodes, id, name)
+    }
+
+    /// Takes a node from the node whose child it is, with all that stands below it, so that it can be put elsewhere. Texts that
+    /// come to be neighbours are joined. Nothing changes where it is nobody's child: the document, a node without a parent, and
+    /// the contents of a template, which stay with it. An Err, for memory, leaves the arena as it was.
+    pub fn detach(&mut self, id: NodeId) -> Result<(), AllocError>
+        requires { IsHeld self.old id }
+        ensures ok { OnOk result (seen_of self.new ≡ changed (take_out id.index) (seen_of self.old)) }
+        ensures free { OnOk result (IsNoChild (forest_seen self.new) id.index) }
+        ensures err { OnErr result (self.new ≡ self.old) }
+        ensures errors { KeepsErrors self.old self.new }
+    {
+        match self.parent(id) {
+            None => Ok(()),
+            Some(_) => {
+                links::detach(&mut self.nodes, id)?;
+                Ok(())
+            }
+        }
+    }
+
+    /// Makes a child the last child of a node, as `append` does, or tells why it can't stand there; a text is joined to a text
+    /// before it. Whether the child stands above the node is found on the way up from the node. An Err leaves the arena as it was.
+    pub fn try_append(&mut self, parent: NodeId, child: NodeOrText<NodeId>) -> Result<(), TreeFault>
+        ensures ok { OnOk result (seen_of self.new ≡ after_append parent.index (child_of place child) (seen_of self.old)) }
+        ensures may { OnOk result (CanAppend (forest_seen self.old) parent.index (child_of place child)) }
+        ensures told { IfErr result (λ fault. KeepsFromAppend (forest_seen self.old) parent.index (child_of place child) fault) }
+        ensures refused { IfErr result (λ fault. fault ≢ Memory → ¬ (CanAppend (forest_seen self.old) parent.index (child_of place child))) }
+        ensures err { OnErr result (self.new ≡ self.old) }
+        ensures errors { KeepsErrors self.old self.new }
+    {
+        standing::check_append(self.nodes.as_slice(), parent, &child)?;
+        self.append(&parent, child)?;
+        Ok(())
+    }
+
+    /// Puts a child before a sibling, as `append_before_sibling` does, or tells why it can't stand there; a text is joined to a text
+    /// before it. An Err leaves the arena as it was.
+    pub fn try_insert_before(
+        &mut self,
+        sibling: NodeId,
+        child: NodeOrText<NodeId>,
+    ) -> Result<(), TreeFault>
+        ensures ok { OnOk result
+            (seen_of self.new ≡ after_append_before sibling.index (child_of place child) (seen_of self.old)) }
+        ensures may { OnOk result (CanInsertBefore (forest_seen self.old) sibling.index (child_of place child)) }
+        ensures told { IfErr result (λ fault. KeepsFromInsert (forest_seen self.old) sibling.index (child_of place child) fault) }
+        ensures refused { IfErr result (λ fault. fault ≢ Memory → ¬ (CanInsertBefore (forest_seen self.old) sibling.index (child_of place child))) }
+        ensures err { OnErr result (self.new ≡ self.old) }
+        ensures errors { KeepsErrors self.old self.new }
+    {
+        standing::check_insert(self.nodes.as_slice(), sibling, &child)?;
+        self.append_before_sibling(&sibling, child)?;
+        Ok(())
     }
 }

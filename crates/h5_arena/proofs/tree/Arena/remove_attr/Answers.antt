@@ -2,8 +2,8 @@ use Rattle.std.proofs.Common.{◌<◌, ◌∙◌, ap, arith, length}
 use Rattle.h5_interface.specs.Forest.{attrs_of}
 use Rattle.h5_arena.specs.ArenaModel.{IsHeld, forest_in, value_of}
 use Rattle.h5_arena.specs.Edits.{without_named}
-use Rattle.h5_arena.proofs.EditLaws.{attrs_edited, edit_attrs_keeps, held_is_node, value_gone}
-use Rattle.h5_arena.proofs.NodeWrites.{seen_after}
+use Rattle.h5_arena.proofs.EditLaws.{attrs_edited, edit_attrs_keeps, value_gone}
+use Rattle.h5_arena.proofs.NodeWrites.{held_is_node, seen_after}
 use Rattle.h5_arena.proofs.tree.Arena.remove_attr.Goals as goal
 
 pub invariant_of-self : goal.invariant_of-self

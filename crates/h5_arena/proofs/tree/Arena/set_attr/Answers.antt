@@ -3,8 +3,8 @@ use Rattle.h5_interface.specs.Forest.{attrs_of}
 use Rattle.h5_arena.specs.ArenaModel.{forest_in, value_of}
 use Rattle.h5_arena.specs.Edits.{with_value}
 use Rattle.h5_arena.proofs.ChildViews.{on_err}
-use Rattle.h5_arena.proofs.EditLaws.{attrs_edited, edit_attrs_keeps, forget_keeps, same_view, value_set, within_is_node}
-use Rattle.h5_arena.proofs.NodeWrites.{element_within, seen_after}
+use Rattle.h5_arena.proofs.EditLaws.{attrs_edited, edit_attrs_keeps, forget_keeps, same_view, value_set}
+use Rattle.h5_arena.proofs.NodeWrites.{element_within, seen_after, within_is_node}
 use Rattle.h5_arena.proofs.tree.Arena.set_attr.Goals as goal
 
 pub set_attr-requires : goal.set_attr-requires

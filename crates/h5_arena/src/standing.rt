@@ -1,0 +1,141 @@
+//! Whether a child may stand below a node.
+ghost use Rattle.std.specs.Prelude.{◌≡◌, ◌<◌, IfErr, IfNone, IfSome, OnOk, false, length, true};
+ghost use Rattle.h5_interface.specs.Ancestors.{AtOrAbove};
+ghost use Rattle.h5_interface.specs.Forest.{ChildNode, IsForest, parent_of};
+ghost use Rattle.h5_interface.specs.Seen.{CanAppend, CanInsertBefore, IsFreeFor, MayStandBelow, child_of};
+ghost use Rattle.h5_arena.specs.ArenaModel.{IsChildOf, IsNoChild, forest_in, place};
+ghost use Rattle.h5_arena.specs.Edits.{Bars, IsThere, KeepsFromAppend, KeepsFromInsert};
+
+use super::fault::TreeFault;
+use super::nodes::{Kind, NodeData, NodeId};
+use h5_interface::NodeOrText;
+
+// Whether the one node is the other, or stands above it: from the other node one goes up, parent by parent.
+fn is_at_or_above(nodes: &[NodeData], above: NodeId, id: NodeId) -> bool
+    requires held { id.index < length nodes.now }
+    requires forest { IsForest (forest_in nodes.now) }
+    ensures above { result ≡ true → AtOrAbove (parent_of (forest_in nodes.now)) above.index id.index }
+    ensures apart { result ≡ false → ¬ (AtOrAbove (parent_of (forest_in nodes.now)) above.index id.index) }
+{
+    let mut at = id;
+    // There are no more steps up than nodes.
+    for _step in 0..nodes.len() {
+        if at.index == above.index {
+            return true;
+        }
+        match nodes[at.index].parent.node() {
+            None => return false,
+            Some(parent) => at = parent,
+        }
+    }
+    unreachable!()
+}
+
+// Whether a node may become a child of another, or why not.
+fn check_node(nodes: &[NodeData], parent: NodeId, id: NodeId) -> Result<(), TreeFault>
+    requires parent { parent.index < length nodes.now }
+    requires held { id.index < length nodes.now }
+    requires forest { IsForest (forest_in nodes.now) }
+    ensures may { OnOk result (IsFreeFor (forest_in nodes.now) parent.index id.index) }
+    ensures told { IfErr result (λ fault. Bars (forest_in nodes.now) parent.index (ChildNode id.index) fault) }
+{
+    let node = &nodes[id.index];
+    if matches!(&*node.kind, Kind::Document) {
+        return Err(TreeFault::IsDocument);
+    }
+    if node.parent.node().is_some() {
+        return Err(TreeFault::HasParent);
+    }
+    if is_at_or_above(nodes, id, parent) {
+        return Err(TreeFault::WouldNestInItself);
+    }
+    Ok(())
+}
+
+// Whether a child that is there may stand below a node, or why not.
+fn check_below(
+    nodes: &[NodeData],
+    parent: NodeId,
+    child: &NodeOrText<NodeId>,
+) -> Result<(), TreeFault>
+    requires parent { parent.index < length nodes.now }
+    requires child { IsThere (forest_in nodes.now) (child_of place child.now) }
+    requires forest { IsForest (forest_in nodes.now) }
+    ensures may { OnOk result (MayStandBelow (forest_in nodes.now) parent.index (child_of place child.now)) }
+    ensures told { IfErr result (λ fault. Bars (forest_in nodes.now) parent.index (child_of place child.now) fault) }
+{
+    match child {
+        NodeOrText::AppendNode(id) => check_node(nodes, parent, *id),
+        NodeOrText::AppendText(text) => {
+            if text.is_empty() {
+                return Err(TreeFault::EmptyText);
+            }
+            Ok(())
+        }
+    }
+}
+
+// Whether a child is there, where it is a node.
+fn is_there(nodes: &[NodeData], child: &NodeOrText<NodeId>) -> bool
+    ensures there { result ≡ true → IsThere (forest_in nodes.now) (child_of place child.now) }
+    ensures gone { result ≡ false → ¬ (IsThere (forest_in nodes.now) (child_of place child.now)) }
+{
+    match child {
+        NodeOrText::AppendNode(id) => id.index < nodes.len(),
+        NodeOrText::AppendText(_) => true,
+    }
+}
+
+// Whether a child may become the last child of a node, or why not.
+pub(crate) fn check_append(
+    nodes: &[NodeData],
+    parent: NodeId,
+    child: &NodeOrText<NodeId>,
+) -> Result<(), TreeFault>
+    requires { IsForest (forest_in nodes.now) }
+    ensures may { OnOk result (CanAppend (forest_in nodes.now) parent.index (child_of place child.now)) }
+    ensures told { IfErr result (λ fault. KeepsFromAppend (forest_in nodes.now) parent.index (child_of place child.now) fault) }
+{
+    if parent.index >= nodes.len() {
+        return Err(TreeFault::NotHere);
+    }
+    if !is_there(nodes, child) {
+        return Err(TreeFault::NotHere);
+    }
+    check_below(nodes, parent, child)
+}
+
+// Whose child a node is.
+fn parent_of_child(nodes: &[NodeData], id: NodeId) -> Option<NodeId>
+    requires { id.index < length nodes.now }
+    ensures child { IfSome result (λ parent. IsChildOf (forest_in nodes.now) id.index parent.index) }
+    ensures no_child { IfNone result (IsNoChild (forest_in nodes.now) id.index) }
+{
+    let node = &nodes[id.index];
+    match &*node.kind {
+        Kind::Fragment => None,
+        _ => node.parent.node(),
+    }
+}
+
+// Whether a child may be put before a sibling, or why not.
+pub(crate) fn check_insert(
+    nodes: &[NodeData],
+    sibling: NodeId,
+    child: &NodeOrText<NodeId>,
+) -> Result<(), TreeFault>
+    requires { IsForest (forest_in nodes.now) }
+    ensures may { OnOk result (CanInsertBefore (forest_in nodes.now) sibling.index (child_of place child.now)) }
+    ensures told { IfErr result (λ fault. KeepsFromInsert (forest_in nodes.now) sibling.index (child_of place child.now) fault) }
+{
+    if sibling.index >= nodes.len() {
+        return Err(TreeFault::NotHere);
+    }
+    if !is_there(nodes, child) {
+        return Err(TreeFault::NotHere);
+    }
+    match parent_of_child(nodes, sibling) {
+        None => Err(TreeFault::NoParent),
+        Some(parent) => check_below(nodes, parent, child),
+    }
+}
