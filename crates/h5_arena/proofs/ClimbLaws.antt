@@ -1,8 +1,8 @@
 -- The way up from a node ends after no more steps than there are nodes.
-use Rattle.std.proofs.Common.{◌≡◌, ◌≢◌, ◌∙◌, ◌⊎◌, ℕ, ◌+◌, ◌<◌, ◌≤◌, Bool, true, false, ◌||◌, ap, eqb, get_or, inl, inr, List, [], ◌∷◌, arith, length, refl, sym}
+use Rattle.std.proofs.Common.{◌≡◌, ◌≢◌, ◌∙◌, ℕ, ◌<◌, Bool, true, false, ◌||◌, ap, eqb, get_or, inl, inr, List, [], ◌∷◌, arith, length, refl, sym}
 use Rattle.std.specs.Prelude.{Option, None, Some}
 use Rattle.std.specs.List.{IsDistinct, list_any}
-use Rattle.std.proofs.lemmas.Bool.{eq-eqb, eqb-true}
+use Rattle.std.proofs.lemmas.Bool.{eqb-true}
 use Rattle.std.proofs.lemmas.Map.Steps.{length-le_from_distinct_below}
 use Rattle.h5_interface.specs.Ancestors.{AtOrAbove, Further, IsAncestor, Parent}
 use Rattle.h5_interface.specs.Forest.{Forest, IsForest, IsNode, parent_of}

@@ -1,5 +1,5 @@
 -- Attributes that are set and taken away.
-use Rattle.std.proofs.Common.{◌≡◌, ◌≢◌, ◌∙◌, ℕ, ◌<◌, ◌≤◌, Bool, true, false, cond, not, ◌&&◌, ◌||◌, List, [], ◌∷◌, ◌++◌, ap, arith, get_or, is_some, length, refl, subst, sym}
+use Rattle.std.proofs.Common.{◌≡◌, ◌∙◌, ℕ, ◌<◌, ◌≤◌, Bool, true, false, cond, not, List, [], ◌∷◌, ◌++◌, ap, arith, get_or, is_some, length, refl, subst, sym}
 use Rattle.std.specs.Prelude.{◌==◌, Option, None, Some, nat_lt, slice_get}
 use Rattle.std.specs.List.{filter, items_where_true, list_any, position, position_or_len}
 use Rattle.std.specs.List.Retain.{IsFiltered, ReturnsInTurn}
@@ -12,16 +12,14 @@ use Rattle.std.proofs.lemmas.List.Quantifiers.{position-Some}
 use Prim.Native.Nat.{zero, suc}
 use Rattle.h5_names.specs.declared.qualified.Attribute.{Attribute}
 use Rattle.h5_names.specs.AttributeText.{AttributeText, attribute_text, attribute_texts, is_same_text}
-use Rattle.std.specs.BTreeSet.{BTreeSet}
 use Rattle.h5_interface.specs.Forest.{Forest, IsNode, Node, attrs_of}
 use Rattle.h5_interface.specs.Seen.{Seen}
 use Rattle.h5_interface.specs.declared.marks.QuirksMode.{QuirksMode}
 use Rattle.h5_interface.proofs.RehangLaws.{loosened_keeps, none_chosen, shape_rehangs}
-use Rattle.h5_arena.specs.ArenaModel.{ArenaView, HasNotes, IsArena, KeepsErrors, forest_in, seen_of, value_of}
+use Rattle.h5_arena.specs.ArenaModel.{ArenaView, HasNotes, IsArena, KeepsErrors, seen_of, value_of}
 use Rattle.h5_arena.specs.AttributeNames.{names_at}
 use Rattle.h5_arena.specs.Edits.{edit_attrs, is_named, with_value, without_named}
 use Rattle.h5_arena.specs.declared.attribute_names.AttributeNames.{AttributeNames}
-use Rattle.h5_arena.specs.declared.nodes.NodeData.{NodeData}
 use Rattle.h5_arena.proofs.CallConditions.{some_same}
 use Rattle.h5_arena.proofs.NoteLaws.{notes_attrs_edited, notes_kept}
 

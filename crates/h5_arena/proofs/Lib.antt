@@ -14,4 +14,5 @@ mod MoveLaws
 mod NodeWrites
 mod NoteLaws
 mod PlaceLaws
+mod TextEditLaws
 mod WalkLaws

@@ -131,7 +131,7 @@ moved_all f g h from to start xs ys d apart e x y l parted w v =
     ∙ ap (set_parents (has_child ys) (Some to)) (w ∙ edits_commute f from to (λ _. []) (λ cs. cs ++ ys) apart)
     ∙ rw y refl
 
-child_held : (ns : List NodeData) (p c : ℕ) → IsForest (forest_in ns) → 0 < count c (nodes (children_of (forest_in ns) p)) → c < length ns
+pub child_held : (ns : List NodeData) (p c : ℕ) → IsForest (forest_in ns) → 0 < count c (nodes (children_of (forest_in ns) p)) → c < length ns
 child_held ns p c k h = child_within ns p c (parent_of_child (forest_in ns) p c k h)
 
 -- all that stand at `to` now are nodes

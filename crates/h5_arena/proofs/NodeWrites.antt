@@ -10,16 +10,14 @@ use Rattle.std.proofs.lemmas.List.{length-map, length-set, map-set}
 use Rattle.std.proofs.lemmas.Option.{slice_get-map, slice_get_read}
 use Prim.Native.Nat.{zero, suc}
 use Rattle.h5_interface.specs.Changes.{add_missing_attributes, change_nodes, edit_children, joined, mark, set_parents, with_missing}
-use Rattle.h5_interface.specs.Forest.{AreParted, Child, CommentNode, DoctypeNode, DocumentNode, ElementNode, Forest, FragmentNode, InstructionNode, IsElement, IsForest, IsNode, Kind, Node, children_of, count, kind_of, nodes, parent_of}
+use Rattle.h5_interface.specs.Forest.{AreParted, Child, ElementNode, Forest, FragmentNode, IsElement, IsForest, IsNode, Node, children_of, count, kind_of, nodes, parent_of}
 use Rattle.h5_interface.proofs.ForestLaws.{child_is_node, child_once, node_of_kind, same_forest}
 use Rattle.h5_interface.specs.Seen.{Seen}
 use Rattle.h5_interface.specs.declared.marks.QuirksMode.{QuirksMode}
 use Rattle.h5_names.specs.AttributeText.{AttributeText}
 use Rattle.h5_arena.specs.declared.nodes.NodeData.{NodeData}
-use Rattle.h5_arena.specs.ArenaModel.{ArenaView, arena_choices, at_node, child_views, children_in, forest_in, forest_of, marks_at, name_of_kind, node_view, node_views}
+use Rattle.h5_arena.specs.ArenaModel.{arena_choices, child_views, children_in, forest_in, marks_at, node_view, node_views}
 use Rattle.h5_arena.specs.Edits.{edit_attrs}
-use Rattle.h5_arena.specs.declared.nodes.NodeId.{NodeId}
-use Rattle.h5_names.specs.declared.qualified.QualName.{QualName}
 use Rattle.h5_interface.proofs.RehangLaws.{id_map}
 
 get-set : {A : Type 0} (xs : List A) (i : ℕ) (x : A) (m : ℕ) → i < length xs → slice_get (set xs i x) m ≡ cond (m == i) (Some x) (slice_get xs m)

@@ -50,10 +50,10 @@ notes_changed change f same k = record {
   kept_names = names_changed change f (λ n d. (same n d).0) k.kept_names;
 }
 
-notes_edited : {names : AttributeNames} (p : ℕ) (edit : List Child → List Child) (f : Forest) → HasNotes names f → HasNotes names (edit_children p edit f)
+pub notes_edited : {names : AttributeNames} (p : ℕ) (edit : List Child → List Child) (f : Forest) → HasNotes names f → HasNotes names (edit_children p edit f)
 notes_edited p edit f k = notes_changed (λ n d. record d { children = cond (n == p) (joined (edit d.children)) d.children }) f (λ n d. (refl, refl)) k
 
-notes_hung : {names : AttributeNames} (chosen : ℕ → Bool) (p : Option ℕ) (f : Forest) → HasNotes names f → HasNotes names (set_parents chosen p f)
+pub notes_hung : {names : AttributeNames} (chosen : ℕ → Bool) (p : Option ℕ) (f : Forest) → HasNotes names f → HasNotes names (set_parents chosen p f)
 notes_hung chosen p f k = notes_changed (λ n d. record d { parent = cond (chosen n) p d.parent }) f (λ n d. (refl, refl)) k
 
 -- children come and go

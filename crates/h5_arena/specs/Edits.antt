@@ -1,5 +1,5 @@
 -- The edits of a tree: what each makes of the forest, and why one is refused.
-use Rattle.std.specs.Prelude.{◌≡◌, ◌≢◌, ◌⊎◌, ℕ, ◌==◌, ◌&&◌, Bool, cond, not, List, [], ◌∷◌, Option, None, Some}
+use Rattle.std.specs.Prelude.{◌≡◌, ◌≢◌, ℕ, ◌==◌, ◌&&◌, Bool, cond, not, List, [], ◌∷◌, Option, None, Some}
 use Rattle.std.specs.List.{filter}
 use Rattle.std.specs.Option.{option_and_then}
 use Rattle.h5_names.specs.AttributeText.{AttributeText, is_same_text}

@@ -3,13 +3,13 @@ ghost use Rattle.std.specs.Prelude.{◌≡◌, ◌≢◌, IfErr, None, OnErr, On
 ghost use Rattle.h5_interface.specs.Forest.{IsElement, attrs_of};
 ghost use Rattle.h5_interface.specs.Seen.{CanAppend, CanInsertBefore, after_append, after_append_before, changed, child_of};
 ghost use Rattle.h5_arena.specs.ArenaModel.{IsHeld, IsNoChild, KeepsErrors, forest_seen, place, seen_of, value_of};
-ghost use Rattle.h5_arena.specs.Edits.{KeepsFromAppend, KeepsFromInsert, edit_attrs, take_out, with_value, without_named};
+ghost use Rattle.h5_arena.specs.Edits.{KeepsFromAppend, KeepsFromInsert, edit_attrs, take_out, with_text, with_value, without_named};
 ghost use Rattle.h5_arena.specs.declared.fault.TreeFault.TheVariants.{Memory};
 
 use super::fault::TreeFault;
 use super::nodes::NodeId;
 use super::tree::Arena;
-use super::{edit_nodes, links, standing};
+use super::{edit_nodes, edit_text, links, standing};
 use h5_interface::{NodeOrText, TreeSink};
 use std::alloc::AllocError;
 
@@ -59,6 +59,18 @@ impl Arena {
                 Ok(())
             }
         }
+    }
+
+    /// Puts a text in the stead of the children of a node, or nothing where it is empty. The children stay in the arena, without a
+    /// parent. The contents of a template are none of its children. An Err, for memory, leaves the arena as it was.
+    pub fn set_text(&mut self, id: NodeId, text: &str) -> Result<(), AllocError>
+        requires { IsHeld self.old id }
+        ensures ok { OnOk result (seen_of self.new ≡ changed (with_text id.index text.now) (seen_of self.old)) }
+        ensures err { OnErr result (self.new ≡ self.old) }
+        ensures errors { KeepsErrors self.old self.new }
+    {
+        edit_text::set_text(&mut self.nodes, id, text)?;
+        Ok(())
     }
 
     /// Makes a child the last child of a node, as `append` does, or tells why it can't stand there; a text is joined to a text

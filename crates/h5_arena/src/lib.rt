@@ -2,8 +2,8 @@
 //!
 //! `tree` has the arena and the calls that read it, and `sink` those of a builder. `nodes` has what a node is, `below`
 //! what stands below it, and `shared` what elements of one name share. `makes` makes nodes; `link`, `links`, `children`
-//! and `moves` change parents and children. `edits` has the calls of those who edit a tree, `edit_nodes` their work on nodes,
-//! `standing` whether a child may stand below a node, and `fault` why one is refused. `attributes` reads and adds attributes, and `attribute_names` keeps the names
+//! and `moves` change parents and children. `edits` has the calls of those who edit a tree, `edit_nodes` and `edit_text` their
+//! work on nodes, `standing` whether a child may stand below a node, and `fault` why one is refused. `attributes` reads and adds attributes, and `attribute_names` keeps the names
 //! of many in order. `walk` is the walk of a serializer over a node (HTML standard, section 13.3), and `laws` has what
 //! holds of its calls.
 //!
@@ -17,6 +17,7 @@ mod attributes;
 mod below;
 mod children;
 mod edit_nodes;
+mod edit_text;
 mod edits;
 mod fault;
 pub mod laws;

@@ -1,6 +1,6 @@
-use Rattle.std.proofs.Common.{◌<◌, ◌∙◌, ap, arith, is_some, length, sym}
+use Rattle.std.proofs.Common.{◌<◌, ◌∙◌, ap, arith, length}
 use Rattle.h5_names.specs.AttributeText.{attribute_texts}
-use Rattle.h5_arena.specs.ArenaModel.{node_view, value_of}
+use Rattle.h5_arena.specs.ArenaModel.{node_view}
 use Rattle.h5_arena.specs.Edits.{without_named}
 use Rattle.h5_arena.proofs.EditLaws.{value_there}
 use Rattle.h5_arena.proofs.NodeWrites.{attrs_edited_write, node_at}

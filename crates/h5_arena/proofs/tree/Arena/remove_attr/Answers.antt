@@ -1,6 +1,6 @@
-use Rattle.std.proofs.Common.{◌<◌, ◌∙◌, ap, arith, length}
+use Rattle.std.proofs.Common.{◌∙◌, ap}
 use Rattle.h5_interface.specs.Forest.{attrs_of}
-use Rattle.h5_arena.specs.ArenaModel.{IsHeld, forest_in, value_of}
+use Rattle.h5_arena.specs.ArenaModel.{forest_in, value_of}
 use Rattle.h5_arena.specs.Edits.{without_named}
 use Rattle.h5_arena.proofs.EditLaws.{attrs_edited, edit_attrs_keeps, value_gone}
 use Rattle.h5_arena.proofs.NodeWrites.{held_is_node, seen_after}
