@@ -1,6 +1,7 @@
 -- Attributes that are set and taken away.
-use Rattle.std.proofs.Common.{◌≡◌, ◌∙◌, ℕ, ◌<◌, ◌≤◌, Bool, true, false, cond, not, List, [], ◌∷◌, ◌++◌, ap, arith, get_or, is_some, length, refl, subst, sym}
+use Rattle.std.proofs.Common.{◌≡◌, ◌≢◌, ◌∙◌, ℕ, ◌<◌, ◌≤◌, Bool, true, false, ◌&&◌, cond, not, List, [], ◌∷◌, ◌++◌, ap, arith, get_or, is_some, length, refl, subst, sym}
 use Rattle.std.specs.Prelude.{◌==◌, Option, None, Some, nat_lt, slice_get}
+use Rattle.std.specs.Cmp.Lexicographic.{same_text}
 use Rattle.std.specs.List.{filter, items_where_true, list_any, position, position_or_len}
 use Rattle.std.specs.List.Retain.{IsFiltered, ReturnsInTurn}
 use Rattle.std.proofs.Math.ListN.{set}
@@ -44,6 +45,50 @@ value_gone local (a ∷ attrs) = at (value_gone local attrs) (is_named local a) 
     at : (value_of local (without_named local attrs) ≡ None) → (b : Bool) → is_named local a ≡ b → value_of local (without_named local (a ∷ attrs)) ≡ None
     at h' true e = rw e h'
     at h' false e = rw (e, e) h'
+
+-- an attribute has one name
+right_true : (x y : Bool) → (x && y) ≡ true → y ≡ true
+right_true true y e = e
+right_true false y e = cc
+
+named_apart : (local other : List ℕ) (a : AttributeText) → other ≢ local → is_named local a ≡ true → is_named other a ≡ false
+named_apart local other a apart e = at (is_named other a) refl
+  where
+    at : (b : Bool) → is_named other a ≡ b → is_named other a ≡ false
+    at true w =
+        let is = same_text a.name.local local (sym (right_true (is_same_text a.name.ns []) (is_same_text a.name.local local) e)) in
+        let was = same_text a.name.local other (sym (right_true (is_same_text a.name.ns []) (is_same_text a.name.local other) w)) in
+        absurd (apart (sym was ∙ is))
+    at false w = w
+
+other_new : (local other value : List ℕ) → other ≢ local → value_of other (with_value local value []) ≡ None
+other_new local other value apart = at (is_same_text local other) refl
+  where
+    at : (b : Bool) → is_same_text local other ≡ b → value_of other (with_value local value []) ≡ None
+    at true e = absurd (apart (sym (same_text local other (sym e))))
+    at false e = rw e refl
+
+-- the values of others stay, where one is set
+pub others_stay : (local other value : List ℕ) (attrs : List AttributeText) → other ≢ local → value_of other (with_value local value attrs) ≡ value_of other attrs
+others_stay local other value [] apart = other_new local other value apart
+others_stay local other value (a ∷ attrs) apart = at (others_stay local other value attrs apart) (is_named local a) refl (is_named other a) refl
+  where
+    at : (value_of other (with_value local value attrs) ≡ value_of other attrs) → (b : Bool) → is_named local a ≡ b → (o : Bool) → is_named other a ≡ o → value_of other (with_value local value (a ∷ attrs)) ≡ value_of other (a ∷ attrs)
+    at h true e true w = absurd (let v : true ≡ false = sym w ∙ named_apart local other a apart e in cc)
+    at h true e false w = rw (e, w) refl
+    at h false e true w = rw (e, w) refl
+    at h false e false w = rw (e, w) h
+
+-- and where one is taken away
+pub others_left : (local other : List ℕ) (attrs : List AttributeText) → other ≢ local → value_of other (without_named local attrs) ≡ value_of other attrs
+others_left local other [] apart = refl
+others_left local other (a ∷ attrs) apart = at (others_left local other attrs apart) (is_named local a) refl (is_named other a) refl
+  where
+    at : (value_of other (without_named local attrs) ≡ value_of other attrs) → (b : Bool) → is_named local a ≡ b → (o : Bool) → is_named other a ≡ o → value_of other (without_named local (a ∷ attrs)) ≡ value_of other (a ∷ attrs)
+    at h true e true w = absurd (let v : true ≡ false = sym w ∙ named_apart local other a apart e in cc)
+    at h true e false w = rw (e, w) h
+    at h false e true w = rw (e, w) refl
+    at h false e false w = rw (e, w) h
 
 -- there is a value where there is an attribute
 pub value_there : (local : List ℕ) (attrs : List AttributeText) → list_any (is_named local) attrs ≡ is_some (value_of local attrs)

@@ -5,6 +5,7 @@ pub mod CallConditions
 pub mod ClimbLaws
 mod EditLaws
 mod HeldLaws
+mod KindLaws
 mod LevelLaws
 mod NodeCallLaws
 pub mod ChildTexts

@@ -1,5 +1,5 @@
 //! Calls for those who edit a tree.
-ghost use Rattle.std.specs.Prelude.{◌≡◌, ◌≢◌, IfErr, None, OnErr, OnOk, Some, is_some};
+ghost use Rattle.std.specs.Prelude.{◌≡◌, ◌≢◌, ℕ, IfErr, List, None, OnErr, OnOk, Some, is_some, length};
 ghost use Rattle.h5_interface.specs.Forest.{IsElement, attrs_of};
 ghost use Rattle.h5_interface.specs.Seen.{CanAppend, CanInsertBefore, after_append, after_append_before, changed, child_of};
 ghost use Rattle.h5_arena.specs.ArenaModel.{IsHeld, IsNoChild, KeepsErrors, forest_seen, place, seen_of, value_of};
@@ -15,14 +15,19 @@ use std::alloc::AllocError;
 
 impl Arena {
     /// Gives an element's attribute a value: the first that has this local name and no namespace, and where there is none, one
-    /// more at the end. All else stays as it was. An Err, for memory, leaves the arena as it was.
+    /// more at the end. All else stays as it was, the nodes and the other
+    /// attributes too. An Err, for memory, leaves the arena as it was.
     pub fn set_attr(&mut self, id: NodeId, name: &str, value: &str) -> Result<(), AllocError>
         requires { IsElement (forest_seen self.old) id.index }
         ensures ok { OnOk result
             (seen_of self.new ≡ changed (edit_attrs id.index (with_value name.now value.now)) (seen_of self.old)) }
         ensures value { OnOk result (value_of name.now (attrs_of (forest_seen self.new) id.index) ≡ Some value.now) }
+        ensures others { (other : List ℕ) → other ≢ name.now →
+            value_of other (attrs_of (forest_seen self.new) id.index) ≡ value_of other (attrs_of (forest_seen self.old) id.index) }
         ensures err { OnErr result (self.new ≡ self.old) }
         ensures errors { KeepsErrors self.old self.new }
+        ensures held { length self.new.nodes ≡ length self.old.nodes }
+        ensures elements { (n : ℕ) → IsElement (forest_seen self.old) n → IsElement (forest_seen self.new) n }
     {
         self.names.forget(id.index);
         edit_nodes::set_attr(&mut self.nodes, id, name, value)?;
@@ -35,8 +40,12 @@ impl Arena {
         requires { IsHeld self.old id }
         ensures changed { seen_of self.new ≡ changed (edit_attrs id.index (without_named name.now)) (seen_of self.old) }
         ensures none { value_of name.now (attrs_of (forest_seen self.new) id.index) ≡ None }
+        ensures others { (other : List ℕ) → other ≢ name.now →
+            value_of other (attrs_of (forest_seen self.new) id.index) ≡ value_of other (attrs_of (forest_seen self.old) id.index) }
         ensures had { result ≡ is_some (value_of name.now (attrs_of (forest_seen self.old) id.index)) }
         ensures errors { KeepsErrors self.old self.new }
+        ensures held { length self.new.nodes ≡ length self.old.nodes }
+        ensures elements { (n : ℕ) → IsElement (forest_seen self.old) n → IsElement (forest_seen self.new) n }
     {
         self.names.forget(id.index);
         edit_nodes::remove_attr(&mut self.nodes, id, name)
@@ -51,6 +60,8 @@ impl Arena {
         ensures free { OnOk result (IsNoChild (forest_seen self.new) id.index) }
         ensures err { OnErr result (self.new ≡ self.old) }
         ensures errors { KeepsErrors self.old self.new }
+        ensures held { length self.new.nodes ≡ length self.old.nodes }
+        ensures elements { (n : ℕ) → IsElement (forest_seen self.old) n → IsElement (forest_seen self.new) n }
     {
         match self.parent(id) {
             None => Ok(()),
@@ -68,6 +79,8 @@ impl Arena {
         ensures ok { OnOk result (seen_of self.new ≡ changed (with_text id.index text.now) (seen_of self.old)) }
         ensures err { OnErr result (self.new ≡ self.old) }
         ensures errors { KeepsErrors self.old self.new }
+        ensures held { length self.new.nodes ≡ length self.old.nodes }
+        ensures elements { (n : ℕ) → IsElement (forest_seen self.old) n → IsElement (forest_seen self.new) n }
     {
         edit_text::set_text(&mut self.nodes, id, text)?;
         Ok(())
@@ -82,6 +95,8 @@ impl Arena {
         ensures refused { IfErr result (λ fault. fault ≢ Memory → ¬ (CanAppend (forest_seen self.old) parent.index (child_of place child))) }
         ensures err { OnErr result (self.new ≡ self.old) }
         ensures errors { KeepsErrors self.old self.new }
+        ensures held { length self.new.nodes ≡ length self.old.nodes }
+        ensures elements { (n : ℕ) → IsElement (forest_seen self.old) n → IsElement (forest_seen self.new) n }
     {
         standing::check_append(self.nodes.as_slice(), parent, &child)?;
         self.append(&parent, child)?;
@@ -102,6 +117,8 @@ impl Arena {
         ensures refused { IfErr result (λ fault. fault ≢ Memory → ¬ (CanInsertBefore (forest_seen self.old) sibling.index (child_of place child))) }
         ensures err { OnErr result (self.new ≡ self.old) }
         ensures errors { KeepsErrors self.old self.new }
+        ensures held { length self.new.nodes ≡ length self.old.nodes }
+        ensures elements { (n : ℕ) → IsElement (forest_seen self.old) n → IsElement (forest_seen self.new) n }
     {
         standing::check_insert(self.nodes.as_slice(), sibling, &child)?;
         self.append_before_sibling(&sibling, child)?;

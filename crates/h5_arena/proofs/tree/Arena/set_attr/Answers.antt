@@ -1,9 +1,10 @@
 use Rattle.std.proofs.Common.{◌∙◌, ap, arith}
 use Rattle.h5_interface.specs.Forest.{attrs_of}
 use Rattle.h5_arena.specs.ArenaModel.{forest_in, value_of}
-use Rattle.h5_arena.specs.Edits.{with_value}
+use Rattle.h5_arena.specs.Edits.{edit_attrs, with_value}
 use Rattle.h5_arena.proofs.ChildViews.{on_err}
-use Rattle.h5_arena.proofs.EditLaws.{attrs_edited, edit_attrs_keeps, forget_keeps, same_view, value_set}
+use Rattle.h5_arena.proofs.EditLaws.{attrs_edited, edit_attrs_keeps, forget_keeps, others_stay, same_view, value_set}
+use Rattle.h5_arena.proofs.KindLaws.{attrs_kinds, elements_after}
 use Rattle.h5_arena.proofs.NodeWrites.{element_within, seen_after, within_is_node}
 use Rattle.h5_arena.proofs.tree.Arena.set_attr.Goals as goal
 
@@ -37,3 +38,15 @@ returns-clause-value c =
     ap (value_of c.args.name.now)
     (attrs_edited (forest_in c.self.inside.nodes.items) (forest_in c.set_attr.new.nodes.items) c.args.id.index (with_value c.args.name.now c.args.value.now) c.in_ok-set_attr.ensures.ok (within_is_node c.self.inside.nodes.items c.args.id.index there))
     ∙ value_set c.args.name.now c.args.value.now (attrs_of (forest_in c.self.inside.nodes.items) c.args.id.index)
+
+pub returns-clause-others : goal.returns-clause-others
+returns-clause-others c = λ other apart.
+    let there = element_within c.self.inside.nodes.items c.args.id.index (rw (← c.self.view_is) at c.requires) in
+    let f = forest_in c.self.inside.nodes.items in
+    let edited = attrs_edited f (forest_in c.set_attr.new.nodes.items) c.args.id.index (with_value c.args.name.now c.args.value.now) c.in_ok-set_attr.ensures.ok (within_is_node c.self.inside.nodes.items c.args.id.index there) in
+    rw (← c.self.view_is) (ap (value_of other) edited ∙ others_stay c.args.name.now other c.args.value.now (attrs_of f c.args.id.index) apart)
+
+pub returns-clause-elements : goal.returns-clause-elements
+returns-clause-elements c =
+    let f = forest_in c.self.inside.nodes.items in
+    rw (← c.self.view_is) (elements_after f (edit_attrs c.args.id.index (with_value c.args.name.now c.args.value.now) f) (forest_in c.set_attr.new.nodes.items) c.in_ok-set_attr.ensures.ok (attrs_kinds c.args.id.index (with_value c.args.name.now c.args.value.now) f))

@@ -1,4 +1,6 @@
 use Rattle.h5_arena.specs.ArenaModel.{forest_in}
+use Rattle.h5_arena.specs.Edits.{with_text}
+use Rattle.h5_arena.proofs.KindLaws.{elements_after, text_kinds}
 use Rattle.h5_arena.proofs.NodeWrites.{held_is_node, seen_after}
 use Rattle.h5_arena.proofs.TextEditLaws.{with_text_keeps}
 use Rattle.h5_arena.proofs.tree.Arena.set_text.Goals as goal
@@ -10,3 +12,8 @@ invariant_of-self-2 c =
 
 pub returns-clause-ok : goal.returns-clause-ok
 returns-clause-ok c = rw (← c.self.view_is) (seen_after _ _ _ _ c.in_ok-set_text.ensures.ok)
+
+pub returns-clause-elements : goal.returns-clause-elements
+returns-clause-elements c =
+    let f = forest_in c.self.inside.nodes.items in
+    rw (← c.self.view_is) (elements_after f (with_text c.args.id.index c.args.text.now f) (forest_in c.set_text.new.nodes.items) c.in_ok-set_text.ensures.ok (text_kinds c.args.id.index c.args.text.now f))
