@@ -6,6 +6,8 @@ pub mod ClimbLaws
 mod EditLaws
 mod HeldLaws
 mod KindLaws
+mod BelowLaws
+mod KinLaws
 mod LevelLaws
 mod NodeCallLaws
 pub mod ChildTexts

@@ -2,5 +2,8 @@ pub mod ArenaModel
 pub mod AttributeNames
 pub mod ChildTests
 pub mod Edits
+pub mod Html
+pub mod Kin
+pub mod Lent
 pub mod NodeCalls
 pub mod OpenNodes

@@ -7,16 +7,16 @@ ghost use Rattle.h5_interface.specs.Changes.{with_missing};
 ghost use Rattle.h5_arena.specs.ArenaModel.{value_of};
 ghost use Rattle.h5_arena.specs.AttributeNames.{AreNames};
 
-use h5_names::{Attribute, LocalName, Namespace, QualName};
+use h5_names::{Attribute, Namespace, QualName};
 use std::alloc::AllocError;
 use std::collections::BTreeSet;
 
 // The value of the first attribute that has this local name and no namespace.
-pub(crate) fn value_of<'a>(attrs: &'a [Attribute], local: &LocalName) -> Option<&'a str>
+pub(crate) fn value_of<'a>(attrs: &'a [Attribute], local: &str) -> Option<&'a str>
     ensures { option_copied result ≡ value_of local.now (attribute_texts attrs.now) }
 {
     for attribute in attrs {
-        if attribute.name.ns == Namespace::none() && attribute.name.local == *local {
+        if attribute.name.ns == Namespace::none() && attribute.name.local.as_str() == local {
             return Some(attribute.value.as_str());
         }
     }

@@ -11,7 +11,7 @@ use std::alloc::AllocError;
 use std::mem;
 
 // Whether a child is this node.
-fn is_node(child: &Child, index: usize) -> bool
+pub(crate) fn is_node(child: &Child, index: usize) -> bool
     ensures { result ≡ is_child_node index (child_view child.now) }
 {
     match child {

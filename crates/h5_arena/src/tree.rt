@@ -7,7 +7,7 @@ use super::nodes::{Child, Kind, NodeData, NodeId};
 use super::shared::SharedKinds;
 use super::{attributes, makes};
 use h5_interface::QuirksMode;
-use h5_names::{Attribute, LocalName, QualName};
+use h5_names::{Attribute, QualName};
 use std::alloc::{AllocError, Global};
 use std::marker::Model;
 
@@ -141,7 +141,7 @@ impl Arena {
 
     /// The value of an attribute: of the first that has this local name and no namespace. Nothing where there is none, as of any
     /// node that is no element.
-    pub fn attr(&self, id: NodeId, name: &LocalName) -> Option<&str>
+    pub fn attr(&self, id: NodeId, name: &str) -> Option<&str>
         requires { IsHeld self.now id }
         ensures { at_node (λ d. value_of name.now d.attrs) self.now id ≡ Some (option_copied result) }
     {

@@ -5,8 +5,9 @@ use Rattle.std.specs.Option.{option_and_then, option_map_or, option_to_list}
 use Prim.Native.Nat.{zero, suc}
 use Rattle.h5_names.specs.declared.qualified.QualName.{QualName}
 use Rattle.h5_interface.specs.Forest.{Child, ChildNode, ChildText, DocumentNode, Forest, Kind, children_of, kind_of, nodes}
-use Rattle.h5_arena.specs.ArenaModel.{child_parent, name_of_kind}
-use Rattle.h5_arena.specs.ChildTests.{is_child_node}
+use Rattle.h5_arena.specs.ArenaModel.{name_of_kind}
+use Rattle.h5_arena.specs.Kin as kin
+use Rattle.h5_arena.specs.Kin.{children_around, children_before, children_behind, descendants, tree_parent}
 use Rattle.h5_selectors.specs.declared.formula.Side.{Side}
 use Rattle.h5_selectors.specs.declared.formula.Side.TheVariants.{First, Last}
 use Rattle.h5_selectors.specs.declared.formula.Way.{Way}
@@ -29,43 +30,18 @@ elements_among f children = elements f (nodes children)
 abbrev pub child_elements : Forest → ℕ → List ℕ
 child_elements f n = elements_among f (children_of f n)
 
--- whose child a node is; the contents of a template are nobody's child
-abbrev pub tree_parent : Forest → ℕ → Option ℕ
-tree_parent f n = option_and_then child_parent (f.node n)
-
 -- the parent, where it is an element
 abbrev pub parent_element : Forest → ℕ → List ℕ
 parent_element f n = elements f (option_to_list (tree_parent f n))
 
--- the ancestors that are elements, the nearest first; so many levels up
-abbrev pub ancestors_within : ℕ → Forest → ℕ → List ℕ
-ancestors_within zero f n = []
-ancestors_within (suc levels) f n = flat_map (λ p. p ∷ ancestors_within levels f p) (parent_element f n)
-
--- all: there are no more of them than nodes
+-- the ancestors that are elements, the nearest first, and the elements below a node, in tree order
 abbrev pub ancestors : Forest → ℕ → List ℕ
-ancestors f = ancestors_within f.bound f
-
--- the elements below a node, in tree order; so many levels down
-unfoldable pub below_within : ℕ → Forest → ℕ → List ℕ
-below_within zero f n = []
-below_within (suc levels) f n = flat_map (λ c. c ∷ below_within levels f c) (child_elements f n)
+ancestors f n = elements f (kin.ancestors f n)
 
 abbrev pub below : Forest → ℕ → List ℕ
-below f = below_within f.bound f
+below f n = elements f (descendants f n)
 
--- the children of a node's parent, and those before and behind it
-abbrev pub children_around : Forest → ℕ → List Child
-children_around f n = option_map_or (children_of f) (tree_parent f n) []
-
-abbrev pub children_before : ℕ → List Child → List Child
-children_before n [] = []
-children_before n (c ∷ cs) = if is_child_node n c then [] else c ∷ children_before n cs
-
-abbrev pub children_behind : ℕ → List Child → List Child
-children_behind n [] = []
-children_behind n (c ∷ cs) = if is_child_node n c then cs else children_behind n cs
-
+-- the sibling elements before and behind a node
 abbrev pub before : Forest → ℕ → List ℕ
 before f n = elements_among f (children_before n (children_around f n))
 

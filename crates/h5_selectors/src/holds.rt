@@ -94,7 +94,7 @@ pub(crate) fn has_attr(query: &Query<'_>, id: NodeId, test: &AttrTest) -> bool
     } else {
         test.ignores_case
     };
-    match query.arena.attr(id, test.name.name_for(in_html)) {
+    match query.arena.attr(id, test.name.name_for(in_html).as_str()) {
         Some(value) => compares(test.operator, ignores_case, test.text.as_str(), value),
         None => false,
     }
@@ -115,7 +115,7 @@ pub(crate) fn has_id(query: &Query<'_>, id: NodeId, text: &str) -> bool
     requires { IsHeld query.now.arena.now id }
     ensures { result ≡ h.has_id (seen_by query.now) (quirky_by query.now) (scope_by query.now) text.now id.index }
 {
-    match query.arena.attr(id, &LocalName::from_known(KnownName::Id)) {
+    match query.arena.attr(id, "id") {
         Some(value) => are_same(text, value, query.is_quirky),
         None => false,
     }
@@ -125,10 +125,7 @@ pub(crate) fn has_class(query: &Query<'_>, id: NodeId, text: &str) -> bool
     requires { IsHeld query.now.arena.now id }
     ensures { result ≡ h.has_class (seen_by query.now) (quirky_by query.now) (scope_by query.now) text.now id.index }
 {
-    match query
-        .arena
-        .attr(id, &LocalName::from_known(KnownName::Class))
-    {
+    match query.arena.attr(id, "class") {
         Some(value) => includes(text, value, query.is_quirky),
         None => false,
     }
@@ -143,10 +140,7 @@ pub(crate) fn is_link(query: &Query<'_>, id: NodeId) -> bool
     };
     is_html(name)
         && (name.local.is(KnownName::A) || name.local.is(KnownName::Area))
-        && query
-            .arena
-            .attr(id, &LocalName::from_known(KnownName::Href))
-            .is_some()
+        && query.arena.attr(id, "href").is_some()
 }
 
 pub(crate) fn is_scope(query: &Query<'_>, id: NodeId) -> bool

@@ -1,10 +1,9 @@
 //! Where an element leads to: its parent, its siblings, and what stands below it, of all these the elements alone.
-ghost use Rattle.std.specs.Prelude.{◌≡◌, ◌∷◌, [], All, IfOk, IfSome, Some, is_some, map, option_copied};
+ghost use Rattle.std.specs.Prelude.{◌≡◌, ◌∷◌, [], All, IfOk, IfSome, map, option_copied};
 ghost use Rattle.std.specs.Option.{option_to_list};
-ghost use Rattle.h5_arena.specs.ArenaModel.{ArenaView, IsChildHeld, IsHeld, child_view, child_views, forest_seen, optional_place, place};
-ghost use Rattle.h5_arena.specs.ChildTests.{is_child_node};
+ghost use Rattle.h5_arena.specs.ArenaModel.{IsChildHeld, IsHeld, child_view, child_views, forest_seen, optional_place, place};
 ghost use Rattle.h5_selectors.specs.Holds.{are_alike};
-ghost use Rattle.h5_selectors.specs.Ways.{ancestors, before, behind, below, children_around, children_before, children_behind, counted, elements_among, first_of, is_element, is_empty, is_root, last_of, led, name_of, parent_element};
+ghost use Rattle.h5_selectors.specs.Ways.{ancestors, before, behind, below, counted, elements, elements_among, first_of, is_element, is_empty, is_root, last_of, led, name_of, parent_element};
 
 use super::formula::{Side, Way};
 use h5_arena::{Arena, Child, Kind, NodeId};
@@ -39,18 +38,6 @@ pub(crate) fn parent_element(arena: &Arena, id: NodeId) -> Option<NodeId>
     }
 }
 
-/// The children of a node's parent; none where it has none.
-pub(crate) fn around<'a>(arena: &'a Arena, id: NodeId) -> &'a [Child]
-    requires { IsHeld arena.now id }
-    ensures children { child_views result.now ≡ children_around (forest_seen arena.now) id.index }
-    ensures held { All (IsChildHeld arena.now) result.now }
-{
-    match arena.parent(id) {
-        Some(parent) => arena.children(parent),
-        None => &[],
-    }
-}
-
 /// The element that a child is.
 pub(crate) fn element_of(arena: &Arena, child: &Child) -> Option<NodeId>
     requires { IsChildHeld arena.now child.now }
@@ -61,42 +48,6 @@ pub(crate) fn element_of(arena: &Arena, child: &Child) -> Option<NodeId>
         Child::Node(id) if is_element(arena, *id) => Some(*id),
         _ => None,
     }
-}
-
-// Whether a child is this node.
-fn is_node(child: &Child, id: NodeId) -> bool
-    ensures { result ≡ is_child_node id.index (child_view child.now) }
-{
-    match child {
-        Child::Node(other) => *other == id,
-        Child::Text(_) => false,
-    }
-}
-
-/// The children behind a node among these.
-pub(crate) fn behind(children: &[Child], id: NodeId) -> &[Child]
-    ensures children { child_views result.now ≡ children_behind id.index (child_views children.now) }
-    ensures held { (a : ArenaView) → All (IsChildHeld a) children.now → All (IsChildHeld a) result.now }
-{
-    for (at, child) in children.iter().enumerate() {
-        if is_node(child, id) {
-            return &children[at + 1..];
-        }
-    }
-    &[]
-}
-
-/// The children before a node among these.
-pub(crate) fn before(children: &[Child], id: NodeId) -> &[Child]
-    ensures children { child_views result.now ≡ children_before id.index (child_views children.now) }
-    ensures held { (a : ArenaView) → All (IsChildHeld a) children.now → All (IsChildHeld a) result.now }
-{
-    for (at, child) in children.iter().enumerate() {
-        if is_node(child, id) {
-            return &children[..at];
-        }
-    }
-    children
 }
 
 /// Whether an element is the root of a document.
@@ -128,6 +79,21 @@ pub(crate) fn is_empty(arena: &Arena, id: NodeId) -> bool
     true
 }
 
+// Those of some nodes that are elements.
+fn elements(alloc: Global, arena: &Arena, nodes: &[NodeId]) -> Result<Vec<NodeId>, AllocError>
+    requires { All (IsHeld arena.now) nodes.now }
+    ensures found { IfOk result (λ found. map place found.items ≡ elements (forest_seen arena.now) (map place nodes.now)) }
+    ensures held { IfOk result (λ found. All (IsHeld arena.now) found.items) }
+{
+    let mut found = Vec::new(alloc);
+    for node in nodes {
+        if is_element(arena, *node) {
+            found.push(*node)?;
+        }
+    }
+    Ok(found)
+}
+
 /// The elements below a node, in tree order.
 pub(crate) fn elements_below(
     alloc: Global,
@@ -138,28 +104,8 @@ pub(crate) fn elements_below(
     ensures found { IfOk result (λ found. map place found.items ≡ below (forest_seen arena.now) id.index) }
     ensures held { IfOk result (λ found. All (IsHeld arena.now) found.items) }
 {
-    let mut found = Vec::new(alloc);
-    let mut rest = arena.children(id);
-    let mut waiting: Vec<&[Child]> = Vec::new(alloc);
-    for _ in 0..u64::MAX {
-        match rest.split_first() {
-            Some((child, others)) => {
-                rest = others;
-                if let Some(element) = element_of(arena, child) {
-                    found.push(element)?;
-                    if waiting.len() + 1 < arena.len() {
-                        waiting.push(rest)?;
-                        rest = arena.children(element);
-                    }
-                }
-            }
-            None => match waiting.pop() {
-                Some(others) => rest = others,
-                None => return Ok(found),
-            },
-        }
-    }
-    Err(AllocError)
+    let below = arena.descendants(id)?;
+    elements(alloc, arena, below.as_slice())
 }
 
 /// The elements among children.
@@ -187,16 +133,8 @@ pub(crate) fn ancestors(alloc: Global, arena: &Arena, id: NodeId) -> Result<Vec<
     ensures found { IfOk result (λ found. map place found.items ≡ ancestors (forest_seen arena.now) id.index) }
     ensures held { IfOk result (λ found. All (IsHeld arena.now) found.items) }
 {
-    let mut found = Vec::new(alloc);
-    let mut at = id;
-    for _step in 0..arena.len() {
-        let Some(parent) = parent_element(arena, at) else {
-            return Ok(found);
-        };
-        found.push(parent)?;
-        at = parent;
-    }
-    Ok(found)
+    let above = arena.ancestors(id)?;
+    elements(alloc, arena, above.as_slice())
 }
 
 // One element, or none.
@@ -207,15 +145,6 @@ fn one_or_none(alloc: Global, id: Option<NodeId>) -> Result<Vec<NodeId>, AllocEr
     if let Some(id) = id {
         found.push(id)?;
     }
-    Ok(found)
-}
-
-// One element.
-fn one(alloc: Global, id: NodeId) -> Result<Vec<NodeId>, AllocError>
-    ensures { IfOk result (λ found. found.items ≡ id ∷ []) }
-{
-    let mut found = Vec::new(alloc);
-    found.push(id)?;
     Ok(found)
 }
 
@@ -239,25 +168,50 @@ pub(crate) fn counted(
     ensures found { IfOk result (λ found. map place found.items ≡ counted side (forest_seen arena.now) id.index) }
     ensures held { IfOk result (λ found. All (IsHeld arena.now) found.items) }
 {
-    let children = around(arena, id);
     match side {
-        Side::First => elements_among(alloc, arena, before(children, id)),
-        Side::Last => elements_among(alloc, arena, behind(children, id)),
+        Side::First => elements_among(alloc, arena, arena.siblings_before(id)),
+        Side::Last => elements_among(alloc, arena, arena.siblings_behind(id)),
     }
 }
 
+// The first element among children, and the last one.
+fn first_element(arena: &Arena, children: &[Child]) -> Option<NodeId>
+    requires { All (IsChildHeld arena.now) children.now }
+    ensures element { option_to_list (optional_place result) ≡ first_of (elements_among (forest_seen arena.now) (child_views children.now)) }
+    ensures held { IfSome result (IsHeld arena.now) }
+{
+    for child in children {
+        let found = element_of(arena, child);
+        if found.is_some() {
+            return found;
+        }
+    }
+    None
+}
+
+fn last_element(arena: &Arena, children: &[Child]) -> Option<NodeId>
+    requires { All (IsChildHeld arena.now) children.now }
+    ensures element { option_to_list (optional_place result) ≡ last_of (elements_among (forest_seen arena.now) (child_views children.now)) }
+    ensures held { IfSome result (IsHeld arena.now) }
+{
+    let mut left = children.len();
+    'down: while left > 0 {
+        left -= 1;
+        let found = element_of(arena, &children[left]);
+        if found.is_some() {
+            return found;
+        }
+    }
+    None
+}
+
 // The sibling right before a node, and right behind it.
-#[tactic(auto, using(crate::proofs::ChildSteps::last_popped, crate::proofs::ChildSteps::none_popped))]
 fn previous(alloc: Global, arena: &Arena, id: NodeId) -> Result<Vec<NodeId>, AllocError>
     requires { IsHeld arena.now id }
     ensures found { IfOk result (λ found. map place found.items ≡ last_of (before (forest_seen arena.now) id.index)) }
     ensures held { IfOk result (λ found. All (IsHeld arena.now) found.items) }
 {
-    let mut all = counted(alloc, arena, Side::First, id)?;
-    match all.pop() {
-        Some(last) => one(alloc, last),
-        None => Ok(all),
-    }
+    one_or_none(alloc, last_element(arena, arena.siblings_before(id)))
 }
 
 fn next(alloc: Global, arena: &Arena, id: NodeId) -> Result<Vec<NodeId>, AllocError>
@@ -265,8 +219,7 @@ fn next(alloc: Global, arena: &Arena, id: NodeId) -> Result<Vec<NodeId>, AllocEr
     ensures found { IfOk result (λ found. map place found.items ≡ first_of (behind (forest_seen arena.now) id.index)) }
     ensures held { IfOk result (λ found. All (IsHeld arena.now) found.items) }
 {
-    let all = counted(alloc, arena, Side::Last, id)?;
-    one_or_none(alloc, all.first().copied())
+    one_or_none(alloc, first_element(arena, arena.siblings_behind(id)))
 }
 
 /// The elements to which an element leads.

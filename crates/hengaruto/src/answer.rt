@@ -1,6 +1,7 @@
 //! What is printed of a tree.
 use super::command::What;
 use super::fault::Fault;
+use super::select::{Selection, put_selected};
 use h5_page::{links_of, text_of};
 use h5_print::{print_quirks, write_tree};
 use html_tree_builder::arena::NodeRef;
@@ -20,6 +21,8 @@ pub struct Asked<'a> {
     pub context: Option<&'a str>,
     /// By which policy it is cleaned, if it isn't that of texts.
     pub policy: Option<&'a AllowList>,
+    /// What is selected of it.
+    pub selection: Option<Selection<'a>>,
 }
 
 // What the page stands below: the document, or the root of a fragment.
@@ -75,12 +78,15 @@ pub fn put_answer<W: Write>(
     out: &mut W,
 ) -> Result<(), Fault> {
     let top = top_of(arena, asked.context.is_some());
+    if let Some(selection) = asked.selection {
+        return put_selected(alloc, arena, &top, selection, out);
+    }
     let text = match asked.what {
         What::Html => serialize(alloc, Vec::new(alloc), &top, SerializeOpts::default())?,
         What::Text => text_of(alloc, &top)?.into_bytes(),
         What::Links => links_text(alloc, &top)?.into_bytes(),
         What::Clean => cleaned(alloc, &top, asked.policy)?,
-        What::Tree | What::Tokens => return put_tree(alloc, arena, out),
+        What::Tree | What::Tokens | What::Select => return put_tree(alloc, arena, out),
     };
     out.write_all(text.as_slice()).map_err(Fault::Write)
 }

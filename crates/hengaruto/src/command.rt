@@ -17,6 +17,8 @@ pub enum What {
     Tokens,
     /// What a policy, or else that of texts, lets through of it, written as HTML.
     Clean,
+    /// The elements that a selector matches.
+    Select,
 }
 
 impl What {
@@ -34,7 +36,8 @@ const ABOUT: &str = "Shows what a page of HTML is made of, as a browser reads it
 const AFTER: &str =
     "Without a FILE, or where FILE is -, standard input is read. Input is UTF-8; U+FFFD stands for what isn't.";
 
-fn part<'a>(alloc: Global, name: &'a str, about: &'a str) -> Result<Command<'a>, AllocError> {
+// A part of the program without what is particular to it: the context of fragments, and the files.
+fn with_input<'a>(alloc: Global, part: Command<'a>) -> Result<Command<'a>, AllocError> {
     let context = Arg::new(alloc, "fragment")
         .long("fragment")
         .short('f')
@@ -47,11 +50,11 @@ fn part<'a>(alloc: Global, name: &'a str, about: &'a str) -> Result<Command<'a>,
         .action(ArgAction::Append)
         .num_args(0..)
         .help("The files to read");
-    Command::new(alloc, name)
-        .about(about)
-        .after_help(AFTER)
-        .arg(context)?
-        .arg(files)
+    part.after_help(AFTER).arg(context)?.arg(files)
+}
+
+fn part<'a>(alloc: Global, name: &'a str, about: &'a str) -> Result<Command<'a>, AllocError> {
+    with_input(alloc, Command::new(alloc, name).about(about))
 }
 
 // The part of the program that cleans.
@@ -66,6 +69,34 @@ fn clean_part<'a>(alloc: Global) -> Result<Command<'a>, AllocError> {
         "Prints what is safe to show of a fragment, as HTML that every parser reads alike",
     )?
     .arg(policy)
+}
+
+// The part of the program that selects.
+fn select_part<'a>(alloc: Global) -> Result<Command<'a>, AllocError> {
+    let selector = Arg::new(alloc, "selector")
+        .value_name("SELECTOR")
+        .required(true)
+        .help("The selector, as in a style sheet");
+    let html = Arg::new(alloc, "html")
+        .long("html")
+        .action(ArgAction::SetTrue)
+        .help("Prints each element as HTML, as is done without a flag, too");
+    let text = Arg::new(alloc, "text")
+        .long("text")
+        .action(ArgAction::SetTrue)
+        .help("Prints the text of each element");
+    let attr = Arg::new(alloc, "attr")
+        .long("attr")
+        .short('a')
+        .value_name("NAME")
+        .help("Prints the value of this attribute of each element that has it");
+    let part = Command::new(alloc, "select")
+        .about("Prints the elements that a selector matches, in the order of the tree")
+        .arg(selector)?
+        .arg(html)?
+        .arg(text)?
+        .arg(attr)?;
+    with_input(alloc, part)
 }
 
 /// The command line of the program.
@@ -89,7 +120,8 @@ pub fn command<'a>(alloc: Global) -> Result<Command<'a>, AllocError> {
             "Prints the links, a line for each: where it leads, a tab, and its text",
         )?)?
         .subcommand(part(alloc, "tokens", "Prints the tokens, a line for each")?)?
-        .subcommand(clean_part(alloc)?)
+        .subcommand(clean_part(alloc)?)?
+        .subcommand(select_part(alloc)?)
 }
 
 /// What the name of a subcommand asks for.
@@ -100,6 +132,7 @@ pub fn what_named(name: &str) -> What {
         "text" => What::Text,
         "links" => What::Links,
         "clean" => What::Clean,
+        "select" => What::Select,
         _ => What::Tokens,
     }
 }

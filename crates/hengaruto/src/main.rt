@@ -1,7 +1,7 @@
 //! The program `hengaruto`: what a page is made of, for people.
 //!
 //! `command` has the command line, `page` reads pages, `tokens` writes down tokens on their way, `answer` has what is printed of a
-//! page, `policy_file` reads the policies by which pages are cleaned, and `progress` tells how far a long input is. It stands on the
+//! page, `policy_file` reads the policies by which pages are cleaned, `select` writes what a selector matches, and `progress` tells how far a long input is. It stands on the
 //! library `html_tree_builder`, whose standard reader reads all of HTML. Begin with `src/command.rt`.
 #![tactic(auto)]
 
@@ -12,6 +12,7 @@ mod page;
 mod policy_file;
 mod progress;
 mod run;
+mod select;
 mod tokens;
 
 use command::command;

@@ -4,7 +4,9 @@ use super::command::{What, what_named};
 use super::fault::Fault;
 use super::page::{tokens_of, tree_of};
 use super::policy_file::{policy_in, tell_policy};
+use super::select::{Selection, Shown, tell_selector};
 use clap::ArgMatches;
+use html_tree_builder::select::Selector;
 use std::fs;
 use std::io::{ErrorKind, Read, Write};
 use std::process::ExitCode;
@@ -76,9 +78,8 @@ fn show_by_policy(rt: &HostRuntime, asked: &Asked<'_>, name: &str, matches: &Arg
     match policy_in(rt, name) {
         Ok(policy) => {
             let by_policy = Asked {
-                what: asked.what,
-                context: asked.context,
                 policy: Some(&policy),
+                ..*asked
             };
             show_all(rt, &by_policy, matches)
         }
@@ -89,11 +90,44 @@ fn show_by_policy(rt: &HostRuntime, asked: &Asked<'_>, name: &str, matches: &Arg
     }
 }
 
-// The name of the file in which a policy stands, if there is one.
-fn policy_name<'a>(what: What, matches: &ArgMatches<'a>) -> Option<&'a str> {
-    match what {
-        What::Clean => matches.get_str("policy"),
-        _ => None,
+// What is printed of each element that is selected.
+fn shown_by<'a>(matches: &ArgMatches<'a>) -> Shown<'a> {
+    match matches.get_str("attr") {
+        Some(name) => Shown::Attr(name),
+        None if matches.get_flag("text") => Shown::Text,
+        None => Shown::Html,
+    }
+}
+
+// Shows what a selector matches of each page. Where its text is none, nothing is shown.
+fn show_selected(rt: &HostRuntime, asked: &Asked<'_>, text: &str, matches: &ArgMatches<'_>) -> u8 {
+    match Selector::parse(rt.alloc(), text) {
+        Ok(selector) => {
+            let selecting = Asked {
+                selection: Some(Selection {
+                    selector: &selector,
+                    shown: shown_by(matches),
+                }),
+                ..*asked
+            };
+            show_all(rt, &selecting, matches)
+        }
+        Err(fault) => tell_selector(rt, text, &fault),
+    }
+}
+
+// Shows what is asked, which may be by a policy or a selector.
+fn show_asked(rt: &HostRuntime, asked: &Asked<'_>, matches: &ArgMatches<'_>) -> u8 {
+    match asked.what {
+        What::Clean => match matches.get_str("policy") {
+            Some(file) => show_by_policy(rt, asked, file, matches),
+            None => show_all(rt, asked, matches),
+        },
+        What::Select => {
+            let text = matches.get_str("selector").unwrap_or("");
+            show_selected(rt, asked, text, matches)
+        }
+        _ => show_all(rt, asked, matches),
     }
 }
 
@@ -107,9 +141,7 @@ pub fn run(rt: &HostRuntime, matches: &ArgMatches<'_>) -> ExitCode {
         what,
         context: what.context(matches.get_str("fragment")),
         policy: None,
+        selection: None,
     };
-    ExitCode::from(match policy_name(what, matches) {
-        Some(file) => show_by_policy(rt, &asked, file, matches),
-        None => show_all(rt, &asked, matches),
-    })
+    ExitCode::from(show_asked(rt, &asked, matches))
 }

@@ -1,0 +1,83 @@
+//! A node as HTML (HTML standard, section 13.3, "Serializing HTML fragments").
+ghost use Rattle.std.specs.Prelude.{◌≡◌, IfOk, string_bytes};
+ghost use Rattle.std.specs.Option.{option_and_then};
+ghost use Rattle.h5_interface.specs.Forest.{kind_of};
+ghost use Rattle.h5_arena.specs.ArenaModel.{IsHeld, forest_seen, name_of_kind};
+ghost use Rattle.h5_arena.specs.Html.{html_of, inner_html, outer_html};
+
+use super::nodes::NodeId;
+use super::tree::Arena;
+use h5_names::QualName;
+use h5_serialize::{SerializeFault, SerializeOpts, TraversalScope, serialize};
+use std::alloc::AllocError;
+
+// What is written of a node, as bytes.
+fn html_bytes(
+    arena: &Arena,
+    id: NodeId,
+    traversal_scope: TraversalScope,
+) -> Result<Vec<u8>, SerializeFault>
+    requires { IsHeld arena.now id }
+    ensures { IfOk result (λ html. html.items ≡ html_of (forest_seen arena.now) id.index traversal_scope) }
+{
+    let opts = SerializeOpts {
+        scripting_enabled: true,
+        traversal_scope,
+        create_missing_parent: false,
+    };
+    let html = serialize(arena.alloc, Vec::new(arena.alloc), &arena.at(id), opts)?;
+    Ok(html)
+}
+
+// What is written of a node, as a text. Into a vector nothing but want of memory stops it, and what is written of texts is one.
+fn html_text(
+    arena: &Arena,
+    id: NodeId,
+    traversal_scope: TraversalScope,
+) -> Result<String, AllocError>
+    requires { IsHeld arena.now id }
+    ensures { IfOk result (λ html. string_bytes html ≡ html_of (forest_seen arena.now) id.index traversal_scope) }
+{
+    match html_bytes(arena, id, traversal_scope) {
+        Ok(bytes) => match String::from_utf8(bytes) {
+            Ok(html) => Ok(html),
+            Err(_) => Err(AllocError),
+        },
+        Err(_) => Err(AllocError),
+    }
+}
+
+// A copy of the name of an element, or nothing of any other node.
+fn name_copy(arena: &Arena, id: NodeId) -> Result<Option<QualName>, AllocError>
+    requires { IsHeld arena.now id }
+    ensures { IfOk result (λ name. name ≡ option_and_then name_of_kind (kind_of (forest_seen arena.now) id.index)) }
+{
+    match arena.name(id) {
+        Some(name) => {
+            let copy = name.clone()?;
+            Ok(Some(copy))
+        }
+        None => Ok(None),
+    }
+}
+
+impl Arena {
+    /// A node as HTML, with what it holds; of a document or a fragment what it holds (HTML standard, section 13.3). Of a template
+    /// the contents are written. An `AllocError` where memory is refused.
+    pub fn outer_html(&self, id: NodeId) -> Result<String, AllocError>
+        requires { IsHeld self.now id }
+        ensures { IfOk result (λ html. string_bytes html ≡ outer_html (forest_seen self.now) id.index) }
+    {
+        html_text(self, id, TraversalScope::IncludeNode)
+    }
+
+    /// What a node holds, as HTML: texts right inside of a `style` and its like as they stand, all others with their escapes. Of a
+    /// template it is what its contents hold. An `AllocError` where memory is refused.
+    pub fn inner_html(&self, id: NodeId) -> Result<String, AllocError>
+        requires { IsHeld self.now id }
+        ensures { IfOk result (λ html. string_bytes html ≡ inner_html (forest_seen self.now) id.index) }
+    {
+        let name = name_copy(self, id)?;
+        html_text(self, id, TraversalScope::ChildrenOnly(name))
+    }
+}

@@ -1,0 +1,200 @@
+//! What stands above, beside and below a node (DOM standard, section 1.1, "Trees").
+ghost use Rattle.std.specs.Prelude.{◌≡◌, All, IfOk, IfSome, Some, map, string_bytes};
+ghost use Rattle.std.specs.Option.{option_map};
+ghost use Rattle.h5_interface.specs.Forest.{nodes};
+ghost use Rattle.h5_arena.specs.ArenaModel.{ArenaView, IsChildHeld, IsHeld, at_node, child_view, child_views, forest_seen, place};
+ghost use Rattle.h5_arena.specs.Kin.{all_below, ancestors, children_around, children_before, children_behind, descendants, first_of, last_of, texts_among};
+ghost use Rattle.h5_arena.specs.Lent.{AreHeldLent, lent_views};
+
+use super::children::is_node;
+use super::nodes::{Child, NodeId};
+use super::tree::Arena;
+use std::alloc::{AllocError, Global};
+
+// The children behind a node among these, and those before it. It is looked for from the first on.
+fn behind(children: &[Child], id: NodeId) -> &[Child]
+    ensures children { child_views result.now ≡ children_behind id.index (child_views children.now) }
+    ensures held { (a : ArenaView) → All (IsChildHeld a) children.now → All (IsChildHeld a) result.now }
+{
+    for (at, child) in children.iter().enumerate() {
+        if is_node(child, id.index) {
+            return &children[at + 1..];
+        }
+    }
+    &[]
+}
+
+fn before(children: &[Child], id: NodeId) -> &[Child]
+    ensures children { child_views result.now ≡ children_before id.index (child_views children.now) }
+    ensures held { (a : ArenaView) → All (IsChildHeld a) children.now → All (IsChildHeld a) result.now }
+{
+    for (at, child) in children.iter().enumerate() {
+        if is_node(child, id.index) {
+            return &children[..at];
+        }
+    }
+    children
+}
+
+// The nodes among children.
+fn nodes_among(arena: &Arena, children: &[&Child]) -> Result<Vec<NodeId>, AllocError>
+    requires { AreHeldLent arena.now children.now }
+    ensures found { IfOk result (λ found. map place found.items ≡ nodes (lent_views children.now)) }
+    ensures held { IfOk result (λ found. All (IsHeld arena.now) found.items) }
+{
+    let mut found = Vec::new(arena.alloc);
+    for child in children {
+        if let Child::Node(node) = *child {
+            found.push(*node)?;
+        }
+    }
+    Ok(found)
+}
+
+// The texts among children, joined.
+fn texts_among(alloc: Global, children: &[&Child]) -> Result<String, AllocError>
+    ensures { IfOk result (λ text. string_bytes text ≡ texts_among (lent_views children.now)) }
+{
+    let mut text = String::new(alloc);
+    for child in children {
+        if let Child::Text(part) = *child {
+            text.push_str(part.as_str())?;
+        }
+    }
+    Ok(text)
+}
+
+impl Arena {
+    /// The children of a node's parent, and so the node itself and its siblings; none where it is nobody's child.
+    pub fn children_around(&self, id: NodeId) -> &[Child]
+        requires { IsHeld self.now id }
+        ensures children { child_views result.now ≡ children_around (forest_seen self.now) id.index }
+        ensures held { All (IsChildHeld self.now) result.now }
+    {
+        match self.parent(id) {
+            Some(parent) => self.children(parent),
+            None => &[],
+        }
+    }
+
+    /// The siblings before a node, in order. It is looked for among the children of its parent.
+    pub fn siblings_before(&self, id: NodeId) -> &[Child]
+        requires { IsHeld self.now id }
+        ensures children { child_views result.now ≡ children_before id.index (children_around (forest_seen self.now) id.index) }
+        ensures held { All (IsChildHeld self.now) result.now }
+    {
+        before(self.children_around(id), id)
+    }
+
+    /// The siblings behind a node, in order. It is looked for among the children of its parent.
+    pub fn siblings_behind(&self, id: NodeId) -> &[Child]
+        requires { IsHeld self.now id }
+        ensures children { child_views result.now ≡ children_behind id.index (children_around (forest_seen self.now) id.index) }
+        ensures held { All (IsChildHeld self.now) result.now }
+    {
+        behind(self.children_around(id), id)
+    }
+
+    /// The first child of a node, a node or a text, or nothing where it has none.
+    pub fn first_child(&self, id: NodeId) -> Option<&Child>
+        requires { IsHeld self.now id }
+        ensures child { at_node (λ d. first_of d.children) self.now id ≡ Some (option_map (λ c. child_view c.now) result) }
+        ensures held { IfSome result (λ c. IsChildHeld self.now c.now) }
+    {
+        self.children(id).first()
+    }
+
+    /// The last child of a node, or nothing where it has none.
+    pub fn last_child(&self, id: NodeId) -> Option<&Child>
+        requires { IsHeld self.now id }
+        ensures child { at_node (λ d. last_of d.children) self.now id ≡ Some (option_map (λ c. child_view c.now) result) }
+        ensures held { IfSome result (λ c. IsChildHeld self.now c.now) }
+    {
+        self.children(id).last()
+    }
+
+    /// The sibling right before a node, a node or a text, or nothing where there is none.
+    pub fn previous_sibling(&self, id: NodeId) -> Option<&Child>
+        requires { IsHeld self.now id }
+        ensures sibling { option_map (λ c. child_view c.now) result ≡ last_of (children_before id.index (children_around (forest_seen self.now) id.index)) }
+        ensures held { IfSome result (λ c. IsChildHeld self.now c.now) }
+    {
+        self.siblings_before(id).last()
+    }
+
+    /// The sibling right behind a node, a node or a text, or nothing where there is none.
+    pub fn next_sibling(&self, id: NodeId) -> Option<&Child>
+        requires { IsHeld self.now id }
+        ensures sibling { option_map (λ c. child_view c.now) result ≡ first_of (children_behind id.index (children_around (forest_seen self.now) id.index)) }
+        ensures held { IfSome result (λ c. IsChildHeld self.now c.now) }
+    {
+        self.siblings_behind(id).first()
+    }
+
+    /// The ancestors of a node, the nearest first: its parent, and so on. An `AllocError` where memory is refused.
+    pub fn ancestors(&self, id: NodeId) -> Result<Vec<NodeId>, AllocError>
+        requires { IsHeld self.now id }
+        ensures found { IfOk result (λ found. map place found.items ≡ ancestors (forest_seen self.now) id.index) }
+        ensures held { IfOk result (λ found. All (IsHeld self.now) found.items) }
+    {
+        let mut found = Vec::new(self.alloc);
+        let mut at = id;
+        for _step in 0..self.len() {
+            let Some(parent) = self.parent(at) else {
+                return Ok(found);
+            };
+            found.push(parent)?;
+            at = parent;
+        }
+        Ok(found)
+    }
+
+    /// All that stands below a node, nodes and texts, in tree order. An `AllocError` where memory is refused.
+    pub fn all_below(&self, id: NodeId) -> Result<Vec<&Child>, AllocError>
+        requires { IsHeld self.now id }
+        ensures found { IfOk result (λ found. lent_views found.items ≡ all_below (forest_seen self.now) id.index) }
+        ensures held { IfOk result (λ found. AreHeldLent self.now found.items) }
+    {
+        let mut found = Vec::new(self.alloc);
+        let mut rest = self.children(id);
+        let mut waiting: Vec<&[Child]> = Vec::new(self.alloc);
+        loop {
+            match rest.split_first() {
+                Some((child, others)) => {
+                    rest = others;
+                    found.push(child)?;
+                    if let Child::Node(node) = child {
+                        if waiting.len() < self.len() {
+                            waiting.push(rest)?;
+                            rest = self.children(*node);
+                        }
+                    }
+                }
+                None => match waiting.pop() {
+                    Some(others) => rest = others,
+                    None => return Ok(found),
+                },
+            }
+        }
+    }
+
+    /// The nodes below a node, in tree order: its children, theirs, and so on. An `AllocError` where memory is refused.
+    pub fn descendants(&self, id: NodeId) -> Result<Vec<NodeId>, AllocError>
+        requires { IsHeld self.now id }
+        ensures found { IfOk result (λ found. map place found.items ≡ descendants (forest_seen self.now) id.index) }
+        ensures held { IfOk result (λ found. All (IsHeld self.now) found.items) }
+    {
+        let below = self.all_below(id)?;
+        nodes_among(self, below.as_slice())
+    }
+
+    /// The texts below a node, joined in tree order (DOM standard, section 4.4, "descendant text content"). An `AllocError` where
+    /// memory is refused.
+    pub fn text(&self, id: NodeId) -> Result<String, AllocError>
+        requires { IsHeld self.now id }
+        ensures { IfOk result (λ text. string_bytes text ≡ texts_among (all_below (forest_seen self.now) id.index)) }
+    {
+        let below = self.all_below(id)?;
+        texts_among(self.alloc, below.as_slice())
+    }
+}
