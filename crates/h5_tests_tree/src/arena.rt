@@ -132,9 +132,9 @@ fn attributes_have_values(rt: HostRuntime) -> Result<(), Fail> {
     let mut arena = Arena::new(alloc)?;
     let root = small_tree(&mut arena, alloc, "x", "some text", &rt)?;
     assert!(rt; arena.holds(root));
-    let value = arena.attr(root, &LocalName::new(alloc, "id")?);
+    let value = arena.attr(root, "id");
     assert_eq!(rt; value, Some("x"));
-    let other = arena.attr(root, &LocalName::new(alloc, "class")?);
+    let other = arena.attr(root, "class");
     assert!(rt; other.is_none());
     Ok(())
 }
@@ -425,7 +425,7 @@ fn many_attributes_that_lack_are_added(rt: HostRuntime) -> Result<(), Fail> {
     add_many(&mut arena, root, "z", alloc, &rt)?;
     assert!(rt; arena.holds(root));
     assert_eq!(rt; arena.attrs(root).len(), 21);
-    let value = arena.attr(root, &LocalName::new(alloc, "a19")?);
+    let value = arena.attr(root, "a19");
     assert_eq!(rt; value, Some("y"));
     Ok(())
 }

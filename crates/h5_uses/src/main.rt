@@ -9,6 +9,7 @@ mod select;
 mod serializer;
 mod title;
 mod tokens;
+mod tree;
 
 use fragment::{fragment, fragment_in_an_element};
 use html_tree_builder::Arena;
@@ -18,6 +19,7 @@ use serializer::count_elements;
 use std::io::Write;
 use title::title;
 use tokens::tokens_without_a_tree;
+use tree::{edited, headings};
 
 // Prints a heading and HTML.
 fn print_html(rt: &HostRuntime, heading: &str, html: &[u8]) -> anyhow::Result<()> {
@@ -77,11 +79,27 @@ fn print_tags(rt: &HostRuntime) -> anyhow::Result<()> {
     Ok(())
 }
 
+// Prints the headings of a page, and an edited one.
+fn print_trees(rt: &HostRuntime) -> anyhow::Result<()> {
+    let lines = headings(
+        rt.alloc(),
+        "<h1>One &amp; <i>two</i></h1><p>x<h2>Three</h2>",
+    )?;
+    println!(rt; "headings:\n{lines}")?;
+    let html = edited(
+        rt.alloc(),
+        "<p>a<script>x</script>b <a href=u rel=v>c</a> <a>d</a>",
+    )?;
+    println!(rt; "edited: {html}")?;
+    Ok(())
+}
+
 fn main(rt: HostRuntime) -> anyhow::Result<()> {
     print_page(&rt)?;
     print_page_in_chunks(&rt)?;
     print_fragment(&rt)?;
     print_fragment_in_an_element(&rt)?;
     print_links(&rt)?;
-    print_tags(&rt)
+    print_tags(&rt)?;
+    print_trees(&rt)
 }

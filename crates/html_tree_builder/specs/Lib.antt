@@ -14,6 +14,10 @@ pub use Rattle.h5_serialize.specs.Standing
 pub use Rattle.h5_serialize.specs.Walk
 pub use Rattle.h5_serialize.specs.Writing
 pub use Rattle.h5_arena.specs.ArenaModel
+pub use Rattle.h5_arena.specs.Edits
+pub use Rattle.h5_arena.specs.Html
+pub use Rattle.h5_arena.specs.Kin
+pub use Rattle.h5_arena.specs.Lent
 pub use Rattle.h5_arena.specs.NodeCalls
 pub use Rattle.h5_selectors.specs.Fault
 pub use Rattle.h5_selectors.specs.Holds

@@ -1,0 +1,90 @@
+//! What stands in a tree, and how it is changed.
+use html_tree_builder::interface::create_element;
+use html_tree_builder::select::Selector;
+use html_tree_builder::{
+    Arena, LocalName, Namespace, NodeId, NodeOrText, ParseOpts, QualName, namespaces,
+    parse_document,
+};
+use std::alloc::Global;
+use std::fmt::Write;
+
+// The marks of a heading, by the name of the element.
+fn marks_of(name: &QualName) -> Option<&'static str> {
+    match name.local.as_str() {
+        "h1" => Some("#"),
+        "h2" => Some("##"),
+        "h3" => Some("###"),
+        _ => None,
+    }
+}
+
+/// The headings of a tree, a line for each: its marks, and its text.
+fn outline(alloc: Global, arena: &Arena) -> anyhow::Result<String> {
+    let mut lines = String::new(alloc);
+    for id in arena.descendants(arena.document())? {
+        if let Some(marks) = arena.name(id).and_then(marks_of) {
+            let text = arena.text(id)?;
+            write!(lines, "{marks} {text}\n")?;
+        }
+    }
+    Ok(lines)
+}
+
+// The elements that a selector matches.
+fn found(alloc: Global, arena: &Arena, selector: &str) -> anyhow::Result<Vec<NodeId>> {
+    let selector = Selector::parse(alloc, selector)?;
+    let found = selector.select(arena, arena.document())?;
+    Ok(found)
+}
+
+// Links get a `rel`, and scripts go.
+fn tidy(alloc: Global, arena: &mut Arena) -> anyhow::Result<()> {
+    for id in found(alloc, arena, "a[href]")? {
+        if arena.holds(id) && arena.name(id).is_some() {
+            arena.set_attr(id, "rel", "nofollow")?;
+        }
+    }
+    for id in found(alloc, arena, "script")? {
+        if arena.holds(id) {
+            arena.detach(id)?;
+        }
+    }
+    Ok(())
+}
+
+// A new `p` with a text, as the last child of a node.
+fn add_paragraph(
+    alloc: Global,
+    arena: &mut Arena,
+    parent: NodeId,
+    text: &str,
+) -> anyhow::Result<()> {
+    let html = Namespace::new(alloc, namespaces::HTML)?;
+    let name = QualName::new(None, html, LocalName::new(alloc, "p")?);
+    let paragraph = create_element(arena, name, Vec::new(alloc))?;
+    arena.try_append(
+        paragraph,
+        NodeOrText::AppendText(String::from_str(alloc, text)?),
+    )?;
+    arena.try_append(parent, NodeOrText::AppendNode(paragraph))?;
+    Ok(())
+}
+
+/// The headings of a page.
+pub fn headings(alloc: Global, text: &str) -> anyhow::Result<String> {
+    let parser = parse_document(alloc, Arena::new(alloc)?, ParseOpts::default());
+    let arena = parser.one(text)?;
+    outline(alloc, &arena)
+}
+
+/// A page whose links got a `rel`, whose scripts went, and that has a paragraph more at the end of its `body`, as HTML.
+pub fn edited(alloc: Global, text: &str) -> anyhow::Result<String> {
+    let parser = parse_document(alloc, Arena::new(alloc)?, ParseOpts::default());
+    let mut arena = parser.one(text)?;
+    tidy(alloc, &mut arena)?;
+    for body in found(alloc, &arena, "body")? {
+        add_paragraph(alloc, &mut arena, body, "The end")?;
+    }
+    let html = arena.outer_html(arena.document())?;
+    Ok(html)
+}
