@@ -7,7 +7,6 @@ mod fragment;
 mod page;
 mod select;
 mod serializer;
-mod title;
 mod tokens;
 mod tree;
 
@@ -17,9 +16,8 @@ use page::{page, page_in_chunks};
 use select::count_links;
 use serializer::count_elements;
 use std::io::Write;
-use title::title;
 use tokens::tokens_without_a_tree;
-use tree::{edited, headings};
+use tree::{edited, headings, title};
 
 // Prints a heading and HTML.
 fn print_html(rt: &HostRuntime, heading: &str, html: &[u8]) -> anyhow::Result<()> {
@@ -31,8 +29,9 @@ fn print_html(rt: &HostRuntime, heading: &str, html: &[u8]) -> anyhow::Result<()
 
 // Prints the title of a tree, and how many elements it has.
 fn print_arena(rt: &HostRuntime, arena: &Arena) -> anyhow::Result<()> {
-    let name = title(arena).unwrap_or("none");
-    println!(rt; "title: {name}")?;
+    if let Some(name) = title(rt.alloc(), arena)? {
+        println!(rt; "title: {name}")?;
+    }
     let elements = count_elements(arena)?;
     println!(rt; "elements: {elements}")?;
     Ok(())

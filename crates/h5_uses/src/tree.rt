@@ -18,6 +18,15 @@ fn marks_of(name: &QualName) -> Option<&'static str> {
     }
 }
 
+/// The text of the first `title`, if there is one.
+pub fn title(alloc: Global, arena: &Arena) -> anyhow::Result<Option<String>> {
+    let selector = Selector::parse(alloc, "title")?;
+    match selector.select_first(arena, arena.document())? {
+        Some(id) => Ok(Some(arena.text(id)?)),
+        None => Ok(None),
+    }
+}
+
 /// The headings of a tree, a line for each: its marks, and its text.
 fn outline(alloc: Global, arena: &Arena) -> anyhow::Result<String> {
     let mut lines = String::new(alloc);
