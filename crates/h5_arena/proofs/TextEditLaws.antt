@@ -2,6 +2,7 @@
 use Rattle.std.proofs.Common.{◌≡◌, ◌∙◌, ℕ, ◌+◌, ◌<◌, ◌≤◌, Bool, true, false, cond, List, [], ◌∷◌, ◌++◌, ap, arith, get_or, length, refl, sym, take}
 use Rattle.std.specs.Prelude.{◌||◌, if◌then◌else◌, nat_lt, Option, None, Some, slice_get}
 use Rattle.std.specs.Option.{option_map_or, option_to_list}
+use Rattle.std.proofs.lemmas.Bool.{eq-eqb}
 use Rattle.std.proofs.lemmas.Bool.Decides.{nat_tests}
 use Rattle.h5_interface.specs.Changes.{edit_children, has_child, joined, set_parents}
 use Rattle.h5_interface.specs.Forest.{Child, Forest, IsForest, IsNode, Node, below, children_of, count, is_at, nodes, parent_of}
@@ -16,7 +17,7 @@ use Rattle.h5_arena.specs.Edits.{text_alone, with_text}
 use Rattle.h5_arena.specs.declared.attribute_names.AttributeNames.{AttributeNames}
 use Rattle.h5_arena.specs.declared.nodes.Child as own
 use Rattle.h5_arena.specs.declared.nodes.NodeData.{NodeData}
-use Rattle.h5_arena.proofs.MoveLaws.{set_parents_none, set_parents_twice, taken_more}
+use Rattle.h5_arena.proofs.MoveLaws.{set_parents_children, set_parents_none, set_parents_twice, taken_more}
 use Rattle.h5_arena.proofs.NodeWrites.{children_at, children_write}
 use Rattle.h5_arena.proofs.NoteLaws.{notes_edited, notes_hung}
 
@@ -88,3 +89,11 @@ pub text_stands : (ns : List NodeData) (n : ℕ) (d d1 : NodeData) (g : Forest) 
 text_stands ns n d d1 g gone t there e v stood w =
     w ∙ ap (set_parents (has_child (child_views gone)) None) (children_write ns n d d1 (λ _. text_alone t) there e (v ∙ ap (λ cs. record (node_view d) { children = cs }) (sym (joined_alone t))))
     ∙ ap (λ cs. set_parents (has_child cs) None (edit_children n (λ _. text_alone t) (forest_in ns))) (ap child_views stood ∙ sym (children_at ns n d there e))
+
+-- the text is the only child then
+pub text_below : (f : Forest) (n : ℕ) (t : List ℕ) → IsNode f n → children_of (with_text n t f) n ≡ text_alone t
+text_below f n t there = set_parents_children (has_child (children_of f n)) None (edit_children n (λ _. text_alone t) f) n ∙ at (f.node n) refl
+  where
+    at : (o : Option Node) → f.node n ≡ o → children_of (edit_children n (λ _. text_alone t) f) n ≡ text_alone t
+    at None w = absurd (there w)
+    at (Some d) w = rw (w, eq-eqb n n refl) (joined_alone t)

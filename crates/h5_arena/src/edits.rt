@@ -1,15 +1,15 @@
 //! Calls for those who edit a tree.
 ghost use Rattle.std.specs.Prelude.{◌≡◌, ◌≢◌, ℕ, IfErr, List, None, OnErr, OnOk, Some, is_some, length};
-ghost use Rattle.h5_interface.specs.Forest.{IsElement, attrs_of};
+ghost use Rattle.h5_interface.specs.Forest.{IsElement, attrs_of, children_of};
 ghost use Rattle.h5_interface.specs.Seen.{CanAppend, CanInsertBefore, after_append, after_append_before, changed, child_of};
 ghost use Rattle.h5_arena.specs.ArenaModel.{IsHeld, IsNoChild, KeepsErrors, forest_seen, place, seen_of, value_of};
-ghost use Rattle.h5_arena.specs.Edits.{KeepsFromAppend, KeepsFromInsert, edit_attrs, take_out, with_text, with_value, without_named};
+ghost use Rattle.h5_arena.specs.Edits.{KeepsFromAppend, KeepsFromInsert, edit_attrs, take_out, text_alone, with_text, with_value, without_named};
 ghost use Rattle.h5_arena.specs.declared.fault.TreeFault.TheVariants.{Memory};
 
 use super::fault::TreeFault;
 use super::nodes::NodeId;
 use super::tree::Arena;
-use super::{edit_nodes, edit_text, links, standing};
+use super::{edit_attributes, edit_text, links, standing};
 use h5_interface::{NodeOrText, TreeSink};
 use std::alloc::AllocError;
 
@@ -30,7 +30,7 @@ impl Arena {
         ensures elements { (n : ℕ) → IsElement (forest_seen self.old) n → IsElement (forest_seen self.new) n }
     {
         self.names.forget(id.index);
-        edit_nodes::set_attr(&mut self.nodes, id, name, value)?;
+        edit_attributes::set_attr(&mut self.nodes, id, name, value)?;
         Ok(())
     }
 
@@ -48,7 +48,7 @@ impl Arena {
         ensures elements { (n : ℕ) → IsElement (forest_seen self.old) n → IsElement (forest_seen self.new) n }
     {
         self.names.forget(id.index);
-        edit_nodes::remove_attr(&mut self.nodes, id, name)
+        edit_attributes::remove_attr(&mut self.nodes, id, name)
     }
 
     /// Takes a node from the node whose child it is, with all that stands below it, so that it can be put elsewhere. Texts that
@@ -77,6 +77,7 @@ impl Arena {
     pub fn set_text(&mut self, id: NodeId, text: &str) -> Result<(), AllocError>
         requires { IsHeld self.old id }
         ensures ok { OnOk result (seen_of self.new ≡ changed (with_text id.index text.now) (seen_of self.old)) }
+        ensures text { OnOk result (children_of (forest_seen self.new) id.index ≡ text_alone text.now) }
         ensures err { OnErr result (self.new ≡ self.old) }
         ensures errors { KeepsErrors self.old self.new }
         ensures held { length self.new.nodes ≡ length self.old.nodes }

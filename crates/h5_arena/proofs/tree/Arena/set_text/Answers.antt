@@ -1,8 +1,10 @@
+use Rattle.std.proofs.Common.{◌∙◌, ap}
+use Rattle.h5_interface.specs.Forest.{children_of}
 use Rattle.h5_arena.specs.ArenaModel.{forest_in}
 use Rattle.h5_arena.specs.Edits.{with_text}
 use Rattle.h5_arena.proofs.KindLaws.{elements_after, text_kinds}
 use Rattle.h5_arena.proofs.NodeWrites.{held_is_node, seen_after}
-use Rattle.h5_arena.proofs.TextEditLaws.{with_text_keeps}
+use Rattle.h5_arena.proofs.TextEditLaws.{text_below, with_text_keeps}
 use Rattle.h5_arena.proofs.tree.Arena.set_text.Goals as goal
 
 pub invariant_of-self-2 : goal.invariant_of-self-2
@@ -17,3 +19,8 @@ pub returns-clause-elements : goal.returns-clause-elements
 returns-clause-elements c =
     let f = forest_in c.self.inside.nodes.items in
     rw (← c.self.view_is) (elements_after f (with_text c.args.id.index c.args.text.now f) (forest_in c.set_text.new.nodes.items) c.in_ok-set_text.ensures.ok (text_kinds c.args.id.index c.args.text.now f))
+
+pub returns-clause-text : goal.returns-clause-text
+returns-clause-text c =
+    ap (λ g. children_of g c.args.id.index) c.in_ok-set_text.ensures.ok
+    ∙ text_below (forest_in c.self.inside.nodes.items) c.args.id.index c.args.text.now (held_is_node c.self.inside.nodes.items c.args.id.index (rw (← c.self.view_is) at c.requires))

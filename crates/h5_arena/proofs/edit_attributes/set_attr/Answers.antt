@@ -4,7 +4,7 @@ use Rattle.h5_arena.specs.ArenaModel.{node_view}
 use Rattle.h5_arena.specs.Edits.{with_value}
 use Rattle.h5_arena.proofs.ChildViews.{on_err}
 use Rattle.h5_arena.proofs.NodeWrites.{attrs_edited_write, same_write}
-use Rattle.h5_arena.proofs.edit_nodes.set_attr.Goals as goal
+use Rattle.h5_arena.proofs.edit_attributes.set_attr.Goals as goal
 
 pub returns-in_err-set_value-clause-err : goal.returns-in_err-set_value-clause-err
 returns-in_err-set_value-clause-err c =

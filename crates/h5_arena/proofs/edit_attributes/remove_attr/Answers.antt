@@ -4,7 +4,7 @@ use Rattle.h5_arena.specs.ArenaModel.{node_view}
 use Rattle.h5_arena.specs.Edits.{without_named}
 use Rattle.h5_arena.proofs.EditLaws.{value_there}
 use Rattle.h5_arena.proofs.NodeWrites.{attrs_edited_write, node_at}
-use Rattle.h5_arena.proofs.edit_nodes.remove_attr.Goals as goal
+use Rattle.h5_arena.proofs.edit_attributes.remove_attr.Goals as goal
 
 pub returns-clause-changed : goal.returns-clause-changed
 returns-clause-changed c =

@@ -1,4 +1,4 @@
-//! Edits of the nodes of an arena, and whether one may be made. An Err leaves all nodes as they were.
+//! Attributes that are set and taken away. An Err leaves all nodes as they were.
 ghost use Rattle.std.specs.Prelude.{◌≡◌, ◌<◌, ◌∷◌, [], IfOk, OnErr, OnOk, is_some, position, string_bytes, vec_len};
 ghost use Rattle.std.specs.List.{list_any};
 ghost use Rattle.h5_names.specs.AttributeText.{attribute_text, attribute_texts};

@@ -3,7 +3,7 @@ use Rattle.std.specs.List.{position}
 use Rattle.h5_names.specs.AttributeText.{attribute_text}
 use Rattle.h5_arena.specs.Edits.{is_named, with_value}
 use Rattle.h5_arena.proofs.EditLaws.{first_set, last_set}
-use Rattle.h5_arena.proofs.edit_nodes.set_value.Goals as goal
+use Rattle.h5_arena.proofs.edit_attributes.set_value.Goals as goal
 
 pub returns-in-Some-clause-ok : goal.returns-in-Some-clause-ok
 returns-in-Some-clause-ok c =

@@ -4,7 +4,7 @@ use Rattle.h5_names.specs.AttributeText.{attribute_text, attribute_texts}
 use Rattle.h5_interface.proofs.ElementLemmas.{any_of_texts}
 use Rattle.h5_arena.specs.Edits.{is_named}
 use Rattle.h5_arena.proofs.EditLaws.{kept_pass, texts_without}
-use Rattle.h5_arena.proofs.edit_nodes.remove_named.Goals as goal
+use Rattle.h5_arena.proofs.edit_attributes.remove_named.Goals as goal
 
 pub returns-clause-changed : goal.returns-clause-changed
 returns-clause-changed c =
