@@ -15,8 +15,8 @@ use std::alloc::AllocError;
 
 impl Arena {
     /// Gives an element's attribute a value: the first that has this local name and no namespace, and where there is none, one
-    /// more at the end. All else stays as it was, the nodes and the other
-    /// attributes too. An Err, for memory, leaves the arena as it was.
+    /// more at the end. All else stays as it was, the nodes and the other attributes too. An Err, for memory, leaves the arena as
+    /// it was.
     pub fn set_attr(&mut self, id: NodeId, name: &str, value: &str) -> Result<(), AllocError>
         requires { IsElement (forest_seen self.old) id.index }
         ensures ok { OnOk result
