@@ -3,13 +3,12 @@ use super::command::What;
 use super::fault::Fault;
 use super::select::{Selection, put_selected};
 use h5_page::{links_of, text_of};
-use h5_print::{print_quirks, write_tree};
+use h5_print::{print_quirks, write_escapes, write_tree};
 use html_tree_builder::arena::NodeRef;
 use html_tree_builder::clean::{AllowList, TextPolicy, clean_tree};
 use html_tree_builder::serialize::{SerializeFault, serialize};
 use html_tree_builder::{Arena, SerializeOpts};
 use std::alloc::{AllocError, Global};
-use std::fmt::Write as _;
 use std::io::{ErrorKind, Write};
 
 /// What is asked of each page.
@@ -35,14 +34,29 @@ fn top_of(arena: &Arena, is_fragment: bool) -> NodeRef<'_> {
     arena.at(arena.document())
 }
 
-fn links_text(alloc: Global, top: &NodeRef<'_>) -> Result<String, AllocError> {
-    let mut text = String::new(alloc);
-    for link in links_of(alloc, top)? {
-        let href = link.href.as_str();
-        let label = link.text.as_str();
-        write!(text, "{href}\t{label}\n")?;
+// Writes a text on one line: its words, with a space between two.
+fn write_words(line: &mut String, text: &str) -> Result<(), AllocError> {
+    let mut is_first = true;
+    for word in text.split_ascii_whitespace() {
+        if !is_first {
+            line.push(' ')?;
+        }
+        line.push_str(word)?;
+        is_first = false;
     }
-    Ok(text)
+    Ok(())
+}
+
+// The links, a line for each: where it leads, with escapes, a tab, and the words of its text.
+fn links_text(alloc: Global, top: &NodeRef<'_>) -> Result<String, AllocError> {
+    let mut lines = String::new(alloc);
+    for link in links_of(alloc, top)? {
+        write_escapes(&mut lines, link.href.as_str())?;
+        lines.push('\t')?;
+        write_words(&mut lines, link.text.as_str())?;
+        lines.push('\n')?;
+    }
+    Ok(lines)
 }
 
 // Writes a tree, a line for each node, and its quirks mode. A deep tree has long lines, so it is written in parts.
