@@ -5,7 +5,6 @@
 
 mod fragment;
 mod page;
-mod select;
 mod serializer;
 mod tokens;
 mod tree;
@@ -13,7 +12,6 @@ mod tree;
 use fragment::{fragment, fragment_in_an_element};
 use html_tree_builder::Arena;
 use page::{page, page_in_chunks};
-use select::count_links;
 use serializer::count_elements;
 use std::io::Write;
 use tokens::tokens_without_a_tree;
@@ -61,16 +59,6 @@ fn print_fragment_in_an_element(rt: &HostRuntime) -> anyhow::Result<()> {
     print_html(rt, "fragment in an element", items.as_slice())
 }
 
-// Prints how many links are selected.
-fn print_links(rt: &HostRuntime) -> anyhow::Result<()> {
-    let links = count_links(
-        rt.alloc(),
-        "<p><a href=x>1</a> <a>2</a> <b><a href=y>3</a></b>",
-    )?;
-    println!(rt; "links: {links}")?;
-    Ok(())
-}
-
 // Prints how many start tags are told without a tree.
 fn print_tags(rt: &HostRuntime) -> anyhow::Result<()> {
     let tags = tokens_without_a_tree(rt.alloc(), b"<p class=a>x<br>y</p>")?;
@@ -98,7 +86,6 @@ fn main(rt: HostRuntime) -> anyhow::Result<()> {
     print_page_in_chunks(&rt)?;
     print_fragment(&rt)?;
     print_fragment_in_an_element(&rt)?;
-    print_links(&rt)?;
     print_tags(&rt)?;
     print_trees(&rt)
 }
