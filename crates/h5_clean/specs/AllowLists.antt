@@ -6,19 +6,20 @@ use Rattle.h5_tables.specs.TagSets.{is_one_of}
 use Rattle.h5_clean.specs.Policies.{Rules}
 use Rattle.h5_clean.specs.TextPolicy.{Keeping, scheme_of}
 
--- elements, those that go with all that they hold, attributes of any element and of some, schemes of URLs, whether URLs may be relative,
--- what `rel` of an `a` is set to, and how deep elements go
+-- elements, those that go with all that they hold, attributes of any element and of some, attributes that hold a URL beside those that
+-- always do, schemes of URLs, whether URLs may be relative, what `rel` of an `a` is set to, and how deep elements go
 pub record Table : Type 0 where
   pub elements : List (List ℕ)
   pub dropped : List (List ℕ)
   pub attributes : List (List ℕ)
   pub attributes_of : List Keeping
+  pub urls : List (List ℕ)
   pub schemes : List (List ℕ)
   pub relative : Bool
   pub rel : Option (List ℕ)
   pub depth : ℕ
 
--- the attributes that hold a URL
+-- the attributes that always hold a URL
 unfoldable pub url_names : List (List ℕ)
 url_names = codes "href" ∷ codes "src" ∷ codes "cite" ∷ []
 
@@ -29,6 +30,9 @@ is_listed_for element attribute k = is_same_text k.element element && is_one_of 
 abbrev pub is_listed : Table → (element attribute : List ℕ) → Bool
 is_listed t element attribute = is_one_of t.attributes attribute || list_any (is_listed_for element attribute) t.attributes_of
 
+abbrev pub holds_url : Table → (attribute : List ℕ) → Bool
+holds_url t attribute = is_one_of url_names attribute || is_one_of t.urls attribute
+
 -- a URL is relative, where it may be, or has a scheme that is listed
 abbrev pub leads_well : (relative : Bool) (schemes : List (List ℕ)) → Option (List ℕ) → Bool
 leads_well relative schemes None = relative
@@ -37,7 +41,7 @@ leads_well relative schemes (Some scheme) = is_one_of schemes scheme
 -- and leads well, if it holds a URL
 abbrev pub keeps_listed : Table → (element attribute value : List ℕ) → Bool
 keeps_listed t element attribute value =
-    is_listed t element attribute && (not (is_one_of url_names attribute) || leads_well t.relative t.schemes (scheme_of value))
+    is_listed t element attribute && (not (holds_url t attribute) || leads_well t.relative t.schemes (scheme_of value))
 
 abbrev pub table_rules : Table → Rules
 table_rules t = record {

@@ -1,7 +1,7 @@
 //! A policy that is a table.
 ghost use Rattle.std.specs.Prelude.{◌≡◌, ◌∷◌, ◌++◌, [], None, Some, OnOk, OnErr, true, false};
 ghost use Rattle.h5_tables.specs.TagSets.{is_one_of};
-ghost use Rattle.h5_clean.specs.AllowLists.{is_listed, keeps_listed, leads_well, table_rules, url_names};
+ghost use Rattle.h5_clean.specs.AllowLists.{holds_url, is_listed, keeps_listed, leads_well, table_rules, url_names};
 ghost use Rattle.h5_clean.specs.TextPolicy.{keeping, scheme_of};
 
 use super::name_list::{AttributeList, NameList, any_keeps};
@@ -18,6 +18,7 @@ pub struct AllowList {
     dropped: NameList,
     attributes: NameList,
     attributes_of: Vec<AttributeList>,
+    urls: NameList,
     schemes: NameList,
     relative: bool,
     rel: Option<String>,
@@ -36,6 +37,7 @@ impl Model for AllowList {
       dropped = list.dropped;
       attributes = list.attributes;
       attributes_of = list.attributes_of.items;
+      urls = list.urls;
       schemes = list.schemes;
       relative = list.relative;
       rel = option_map string_bytes list.rel;
@@ -43,7 +45,7 @@ impl Model for AllowList {
     } };
 }
 
-// Whether an attribute holds a URL.
+// Whether an attribute always holds a URL.
 #[tactic(auto, unfolding(crate::specs::AllowLists::url_names))]
 fn is_url_name(attribute: &str) -> bool
     ensures { result ≡ is_one_of url_names attribute.now }
@@ -59,6 +61,7 @@ impl AllowList {
           dropped = [];
           attributes = [];
           attributes_of = [];
+          urls = [];
           schemes = [];
           relative = true;
           rel = None;
@@ -71,6 +74,7 @@ impl AllowList {
             dropped: NameList::new(alloc),
             attributes: NameList::new(alloc),
             attributes_of: Vec::new(alloc),
+            urls: NameList::new(alloc),
             schemes: NameList::new(alloc),
             relative: true,
             rel: None,
@@ -114,6 +118,15 @@ impl AllowList {
         Ok(())
     }
 
+    /// Has attributes of this name hold a URL, as `href`, `src` and `cite` always do: what they lead to is asked. Where memory is refused
+    /// nothing changes.
+    pub fn add_url(&mut self, name: &str) -> Result<(), AllocError>
+        ensures ok { OnOk result (self.new ≡ record self.old { urls = self.old.urls ++ name.now ∷ [] }) }
+        ensures err { OnErr result (self.new ≡ self.old) }
+    {
+        self.urls.push(self.alloc, name)
+    }
+
     /// Lets URLs have this scheme, which is written in lower case and without its ':'. Where memory is refused nothing changes.
     pub fn add_scheme(&mut self, name: &str) -> Result<(), AllocError>
         ensures ok { OnOk result (self.new ≡ record self.old { schemes = self.old.schemes ++ name.now ∷ [] }) }
@@ -154,6 +167,13 @@ impl AllowList {
             || any_keeps(self.attributes_of.as_slice(), element, attribute)
     }
 
+    // Whether an attribute holds a URL.
+    fn holds_url(&self, attribute: &str) -> bool
+        ensures { result ≡ holds_url self.now attribute.now }
+    {
+        is_url_name(attribute) || self.urls.has(attribute)
+    }
+
     // Whether a URL is relative, where it may be, or has a scheme that is listed.
     fn may_lead_to(&self, value: &str) -> bool
         ensures { result ≡ leads_well self.now.relative self.now.schemes (scheme_of value.now) }
@@ -177,7 +197,7 @@ impl Policy for AllowList {
 
     // Whether the attribute is listed, and its URL may be kept if it has one.
     fn keeps(&self, element: &str, attribute: &str, value: &str) -> bool {
-        self.lists(element, attribute) && (!is_url_name(attribute) || self.may_lead_to(value))
+        self.lists(element, attribute) && (!self.holds_url(attribute) || self.may_lead_to(value))
     }
 
     // What was set, if it was.

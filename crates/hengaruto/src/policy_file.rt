@@ -14,6 +14,8 @@ pub enum PolicyFault {
     Toml(usize, toml::de::Error),
     /// It is no policy, for this reason.
     Wrong(String),
+    /// It is none, for this reason; with the first line that has what is wrong.
+    WrongAt(usize, String),
     /// Memory was refused.
     Memory,
 }
@@ -30,6 +32,7 @@ enum NameKey {
     Elements,
     Dropped,
     Attributes,
+    Urls,
     Schemes,
 }
 
@@ -109,6 +112,7 @@ fn add_name(
         NameKey::Elements => add_element(alloc, policy, name),
         NameKey::Dropped => Ok(policy.add_dropped(name)?),
         NameKey::Attributes => Ok(policy.add_attribute(name)?),
+        NameKey::Urls => Ok(policy.add_url(name)?),
         NameKey::Schemes => Ok(policy.add_scheme(name)?),
     }
 }
@@ -205,6 +209,7 @@ fn set(alloc: Global, policy: &mut AllowList, key: &str, value: &Value) -> Resul
         "elements" => add_names(alloc, policy, NameKey::Elements, key, value),
         "dropped" => add_names(alloc, policy, NameKey::Dropped, key, value),
         "attributes" => add_names(alloc, policy, NameKey::Attributes, key, value),
+        "urls" => add_names(alloc, policy, NameKey::Urls, key, value),
         "schemes" => add_names(alloc, policy, NameKey::Schemes, key, value),
         "attributes-of" => add_attributes_of(alloc, policy, value),
         "relative" => set_relative(alloc, policy, value),
@@ -233,10 +238,47 @@ fn policy_by(alloc: Global, table: &Table) -> Result<AllowList, PolicyFault> {
     Ok(policy)
 }
 
+// What stands between the first two of these quotes.
+fn between(reason: &str, quote: char) -> Option<&str> {
+    let (_, behind) = reason.split_once(quote)?;
+    let (word, _) = behind.split_once(quote)?;
+    Some(word)
+}
+
+// The key or the name that a reason is about.
+fn subject_of(reason: &str) -> Option<&str> {
+    match between(reason, '`') {
+        Some(key) => key.rsplit('.').next(),
+        None => between(reason, '"'),
+    }
+}
+
+// The first line of a text, from 1, that has this word.
+fn line_with(text: &[u8], word: &str) -> Option<usize> {
+    let text = str::from_utf8(text).ok()?;
+    for (above, line) in text.lines().enumerate() {
+        if line.contains(word) {
+            return Some(above.saturating_add(1));
+        }
+    }
+    None
+}
+
+// The reason why a text is no policy, with its line, where it has what is wrong.
+fn placed(text: &[u8], reason: String) -> PolicyFault {
+    match subject_of(reason.as_str()).and_then(|word| line_with(text, word)) {
+        Some(line) => PolicyFault::WrongAt(line, reason),
+        None => PolicyFault::Wrong(reason),
+    }
+}
+
 // The policy that a text is.
 fn policy_of(alloc: Global, text: &[u8]) -> Result<AllowList, PolicyFault> {
     match toml::table_from_slice(alloc, text) {
-        Ok(table) => policy_by(alloc, &table),
+        Ok(table) => match policy_by(alloc, &table) {
+            Err(PolicyFault::Wrong(reason)) => Err(placed(text, reason)),
+            answer => answer,
+        },
         Err(error) => Err(reader_fault(text, error)),
     }
 }
@@ -255,6 +297,9 @@ pub fn tell_policy(rt: &HostRuntime, name: &str, fault: &PolicyFault) {
         PolicyFault::Read(error) => writeln!(rt.stderr(), "hengaruto: {name}: {error}"),
         PolicyFault::Toml(line, error) => {
             let reason = error.message();
+            writeln!(rt.stderr(), "hengaruto: {name}: line {line}: {reason}")
+        }
+        PolicyFault::WrongAt(line, reason) => {
             writeln!(rt.stderr(), "hengaruto: {name}: line {line}: {reason}")
         }
         PolicyFault::Wrong(reason) => writeln!(rt.stderr(), "hengaruto: {name}: {reason}"),
