@@ -5,7 +5,7 @@ use Rattle.h5_names.specs.AttributeText.{AttributeText}
 use Rattle.h5_names.specs.declared.qualified.QualName.{QualName}
 use Rattle.h5_token.specs.Joins.{join}
 use Rattle.h5_token.specs.Reply.{Continues, Refuses, Reply}
-use Rattle.h5_token.specs.TokenText.{Characters, EndOfFile, TokenText}
+use Rattle.h5_token.specs.TokenText.{Characters, TokenText}
 use Rattle.h5_token.specs.declared.fault.BuildFault.{BuildFault}
 use Rattle.h5_token.specs.declared.fault.BuildFault.TheVariants.{AfterEnd, Failed, NotInText}
 use Rattle.h5_token.specs.declared.states.State.{State}
@@ -36,13 +36,12 @@ use Rattle.h5_states.specs.ReferenceTable.{references}
 use Rattle.h5_states.specs.Whole.{ReadsToEnd}
 use Rattle.h5_standard.specs.Options.{first_place}
 use Rattle.h5_standard.specs.ReaderText.{ReaderText}
-use Rattle.h5_plain.specs.Plain.{Nodes, tokens_before}
+use Rattle.h5_plain.specs.Plain.{Nodes, fragment_tokens}
 use Rattle.h5_plain.specs.Rebuilding.{ChangesOne, HoldsDocument, IsFragmentStart, Looks, Stands}
 use Rattle.h5_plain.proofs.FragmentLaws.{rebuilds_fragments}
 use Rattle.h5_plain.proofs.GrowthLaws.{Below, element_below, html, kinds_apart}
 use Rattle.h5_plain.proofs.LooksLaws.{apart_from, looks_marked, looks_node, unlike}
 use Rattle.h5_round_trip.specs.Fragment.{AnswersCuts}
-use Rattle.h5_round_trip.specs.Written.{written_before}
 use Rattle.h5_round_trip.proofs.JoinedLaws.{fragment_joined}
 use Rattle.h5_round_trip.proofs.ShapeLaws.{shape}
 use Rattle.h5_round_trip.proofs.standard.ReadingLaws.{fragment_read}
@@ -219,7 +218,7 @@ module _ (choices : SinkChoices) (seen told : Seen) (name : QualName) (attrs : L
   comes_back : Parses (Reads choices) choices (first reading.default_options) start text told → FragmentStands told.forest nodes
   unfolding begins
   comes_back parses =
-      let all = tokens_before nodes (EndOfFile ∷ []) in
+      let all = fragment_tokens nodes in
       let s = begins choices seen name attrs holds b in
       let k = fitting choices seen name attrs holds b in
       let joins = fragment_joined nodes (shape nodes t.plain) in

@@ -18,7 +18,7 @@ use Rattle.h5_tree_builder.specs.Fragment.{context_modes, state_in_context}
 use Rattle.h5_plain.specs.Plain.{Flow, IsPlain, Nodes, nothing_open}
 use Rattle.h5_plain.specs.Rebuilding.{HoldsDocument, Looks, Stands}
 use Rattle.h5_round_trip.specs.Readable.{CanBeRead}
-use Rattle.h5_round_trip.specs.Written.{written_before}
+use Rattle.h5_round_trip.specs.Written.{written_fragment}
 use Rattle.h5_driver.specs.Options.{default_options}
 use Rattle.h5_driver.specs.StandardTexts.{ParsesFragment}
 
@@ -42,7 +42,7 @@ pub record FragmentStands (f : Forest) (nodes : Nodes) : Type 0 where
 pub record IsFragmentText (nodes : Nodes) (text : List ℕ) : Type 0 where
   pub plain : IsPlain true (Flow false nothing_open) nodes
   pub readable : CanBeRead nodes
-  pub written : text ≡ written_before nodes []
+  pub written : text ≡ written_fragment nodes
   pub unmarked : behind_mark true text ≡ text
 
 -- so it is where a parser of fragments over a sink that holds its document alone takes such a text, in such a context
