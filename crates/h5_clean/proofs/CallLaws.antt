@@ -17,17 +17,18 @@ use Rattle.h5_serialize.specs.Standing.{Standing, Working, standing_after, text_
 use Rattle.h5_serialize.specs.Walk.{text_of_each}
 use Rattle.h5_serialize.specs.Writing.{attribute_written, end_tag, start_tag}
 use Rattle.h5_serialize.specs.declared.openers.Opener.{Opener}
-use Rattle.h5_plain.specs.Plain.{ElementThen, End, Nodes, TextThen}
+use Rattle.h5_plain.specs.Plain.{ElementThen, End, Nodes, TextThen, as_written, doubled, held_as_written, with_doubled}
 use Rattle.h5_round_trip.specs.Readable.{IsReadable}
-use Rattle.h5_round_trip.specs.Written.{tag_written, written_before}
+use Rattle.h5_round_trip.proofs.DoubledLaws.{doubled_reads}
+use Rattle.h5_round_trip.specs.Written.{tag_written, written_before, written_fragment}
 use Rattle.h5_clean.specs.Calls.{State, after_call, behind_front, call_of, first_state, front_inside, is_nothing, place_among, text_of}
 use Rattle.h5_clean.specs.Kinds.{kind_of}
-use Rattle.h5_clean.specs.Pass.{cleaned, held, is_dropped, is_let, left_before, put_text, text_then, with_first}
+use Rattle.h5_clean.specs.Pass.{cleaned, first_place, is_dropped, is_let, left_before, put_text, text_then, with_first}
 use Rattle.h5_clean.specs.Places.{fits, fits_at, inside, nowhere}
 use Rattle.h5_clean.specs.Policies.{Rules, attributes_left}
 use Rattle.h5_clean.specs.Source as source
 use Rattle.h5_clean.specs.Source.{CommentThen, DoctypeThen, Done, InstructionThen, Source, calls_before}
-use Rattle.h5_clean.specs.Texts.{may_stand, readable, text_left, without_marks, without_newlines}
+use Rattle.h5_clean.specs.Texts.{may_stand, readable, text_left, without_marks}
 use Rattle.h5_clean.specs.declared.cleaner.Front.{Front}
 use Rattle.h5_clean.specs.declared.cleaner.Front.TheVariants as front
 use Rattle.h5_clean.specs.declared.elements.OpenElement.{OpenElement}
@@ -36,8 +37,9 @@ use Rattle.h5_clean.specs.declared.kind.Kind.TheVariants as kind
 use Rattle.h5_clean.specs.declared.place.Place.{Place}
 use Rattle.h5_clean.specs.declared.place.Spot.{Spot}
 use Rattle.h5_clean.specs.declared.place.Spot.TheVariants as spot
+use Rattle.h5_clean.proofs.KindLaws.{is_pre_kind, pre_named}
 use Rattle.h5_clean.proofs.RowLaws.{IsWritten, both_of, is_void_kind, written_so}
-use Rattle.h5_clean.proofs.TextLaws.{marks_append, readable_reads, reads_without_marks, reads_without_newlines}
+use Rattle.h5_clean.proofs.TextLaws.{marks_append, readable_reads, reads_without_marks}
 
 -- a cleaner over a serializer that has openers
 abbrev at : Rules → List OpenElement → Front → Standing → State
@@ -46,14 +48,15 @@ at r es b m = record { rules = r; elements = es; front = b; standing = m }
 abbrev texts : State → List Call → List ℕ
 texts = text_of_each after_call text_of
 
--- the text of nodes, of which the first text has lost its front
+-- nodes of which the first text stands there
 abbrev with_front : Front → Nodes → Nodes
 with_front front.Nothing ns = ns
-with_front front.Newlines ns = with_first without_newlines ns
+with_front front.Newlines ns = with_first doubled ns
 with_front front.Marks ns = with_first without_marks ns
 
+-- and their text
 abbrev written_if : Front → Nodes → List ℕ → List ℕ
-written_if b ns tail = written_before (with_front b ns) tail
+written_if b ns tail = written_before (with_front b (as_written ns)) tail
 
 -- ---- texts
 
@@ -63,14 +66,13 @@ escape_none = ap (flat_map (escape_char false)) chars-nil
 escape_append : (t u : List ℕ) → IsUtf8 t → escape false (t ++ u) ≡ escape false t ++ escape false u
 escape_append t u h = ap (flat_map (escape_char false)) (chars-append t u h) ∙ flat_map-append (escape_char false) (chars t) (chars u)
 
-newlines_append : (t u : List ℕ) → without_newlines (t ++ u) ≡ (if is_nothing (without_newlines t) then without_newlines u else without_newlines t ++ u)
-newlines_append [] u = refl
-newlines_append (b ∷ t) u = by (newlines_append t u) (b == 10)
+doubled_append : (t u : List ℕ) → doubled (t ++ u) ≡ (if is_nothing (doubled t) then doubled u else doubled t ++ u)
+doubled_append [] u = refl
+doubled_append (b ∷ t) u = by (b == 10)
   where
-    by : without_newlines (t ++ u) ≡ (if is_nothing (without_newlines t) then without_newlines u else without_newlines t ++ u) → (c : Bool)
-        → (if c then without_newlines (t ++ u) else b ∷ (t ++ u)) ≡ (if is_nothing (if c then without_newlines t else b ∷ t) then without_newlines u else (if c then without_newlines t else b ∷ t) ++ u)
-    by later true = later
-    by later false = refl
+    by : (c : Bool) → (if c then 10 ∷ b ∷ (t ++ u) else b ∷ (t ++ u)) ≡ (if is_nothing (if c then 10 ∷ b ∷ t else b ∷ t) then doubled u else (if c then 10 ∷ b ∷ t else b ∷ t) ++ u)
+    by true = refl
+    by false = refl
 
 -- what is left of a text is UTF-8
 left_utf8 : (s : Spot) (text : List ℕ) → IsUtf8 (text_left s text)
@@ -86,7 +88,7 @@ front_utf8 b s text = by (is_utf8 text) (may_stand s (readable text)) refl
   where
     of : (c : Front) (t : List ℕ) → IsReadable t → IsUtf8 (behind_front c t)
     of front.Nothing t h = h.utf8
-    of front.Newlines t h = (reads_without_newlines t h).utf8
+    of front.Newlines t h = (doubled_reads t h).utf8
     of front.Marks t h = (reads_without_marks t h).utf8
 
     none : (c : Front) → IsUtf8 (behind_front c [])
@@ -136,25 +138,36 @@ module _ (change : List ℕ → List ℕ) (none : change [] ≡ []) (append : (t
   changed_written (b ∷ t) (TextThen u rest) tail h k =
       ap (λ l. written_before (text_then l rest) tail) (append (b ∷ t) u h) ∙ then_text (change (b ∷ t)) u rest tail k
 
-text_written_if : (b : Front) (t : List ℕ) (ns : Nodes) (tail : List ℕ) → IsUtf8 t → IsUtf8 (behind_front b t)
-    → written_if b (put_text t ns) tail ≡ escape false (behind_front b t) ++ written_if (if is_nothing (behind_front b t) then b else front.Nothing) ns tail
-text_written_if front.Nothing t ns tail h k = put_written t ns tail h ∙ ap (λ m. escape false t ++ written_before m tail) (same (is_nothing t))
+text_written_as : (b : Front) (t : List ℕ) (ns : Nodes) (tail : List ℕ) → IsUtf8 t → IsUtf8 (behind_front b t)
+    → written_before (with_front b (put_text t ns)) tail ≡ escape false (behind_front b t) ++ written_before (with_front (if is_nothing (behind_front b t) then b else front.Nothing) ns) tail
+text_written_as front.Nothing t ns tail h k = put_written t ns tail h ∙ ap (λ m. escape false t ++ written_before m tail) (same (is_nothing t))
   where
     same : (c : Bool) → ns ≡ with_front (if c then front.Nothing else front.Nothing) ns
     same true = refl
     same false = refl
-text_written_if front.Newlines t ns tail h k =
-    changed_written without_newlines refl (λ t u h. newlines_append t u) t ns tail h k ∙ ap (λ m. escape false (without_newlines t) ++ written_before m tail) (same (is_nothing (without_newlines t)))
+text_written_as front.Newlines t ns tail h k =
+    changed_written doubled refl (λ t u h. doubled_append t u) t ns tail h k ∙ ap (λ m. escape false (doubled t) ++ written_before m tail) (same (is_nothing (doubled t)))
   where
-    same : (c : Bool) → (if c then with_first without_newlines ns else ns) ≡ with_front (if c then front.Newlines else front.Nothing) ns
+    same : (c : Bool) → (if c then with_first doubled ns else ns) ≡ with_front (if c then front.Newlines else front.Nothing) ns
     same true = refl
     same false = refl
-text_written_if front.Marks t ns tail h k =
+text_written_as front.Marks t ns tail h k =
     changed_written without_marks refl marks_append t ns tail h k ∙ ap (λ m. escape false (without_marks t) ++ written_before m tail) (same (is_nothing (without_marks t)))
   where
     same : (c : Bool) → (if c then with_first without_marks ns else ns) ≡ with_front (if c then front.Marks else front.Nothing) ns
     same true = refl
     same false = refl
+
+-- also where it is told which newlines are written twice
+put_as_written : (t : List ℕ) (ns : Nodes) → as_written (put_text t ns) ≡ put_text t (as_written ns)
+put_as_written [] ns = refl
+put_as_written (b ∷ t) End = refl
+put_as_written (b ∷ t) (TextThen u rest) = refl
+put_as_written (b ∷ t) (ElementThen name attrs inner rest) = refl
+
+text_written_if : (b : Front) (t : List ℕ) (ns : Nodes) (tail : List ℕ) → IsUtf8 t → IsUtf8 (behind_front b t)
+    → written_if b (put_text t ns) tail ≡ escape false (behind_front b t) ++ written_if (if is_nothing (behind_front b t) then b else front.Nothing) ns tail
+text_written_if b t ns tail h k = ap (λ m. written_before (with_front b m) tail) (put_as_written t ns) ∙ text_written_as b t (as_written ns) tail h k
 
 -- ---- what stands open, and how
 
@@ -239,7 +252,7 @@ nothing_written r es b m (source.TextThen text rest) calls e = by b ∙ nothing_
 
     by : (c : Front) → texts (at r es c m) (TextOf text ∷ calls_before rest calls) ≡ texts (at r es c m) (calls_before rest calls)
     by front.Nothing = ap (λ t. option_map_or (text_written m) (call_of t) [] ++ texts (at r es (if is_nothing t then front.Nothing else front.Nothing) (option_map_or (standing_after m) (call_of t) m)) (calls_before rest calls)) none
-    by front.Newlines = ap (λ t. option_map_or (text_written m) (call_of (without_newlines t)) [] ++ texts (at r es (if is_nothing (without_newlines t) then front.Newlines else front.Nothing) (option_map_or (standing_after m) (call_of (without_newlines t)) m)) (calls_before rest calls)) none
+    by front.Newlines = ap (λ t. option_map_or (text_written m) (call_of (doubled t)) [] ++ texts (at r es (if is_nothing (doubled t) then front.Newlines else front.Nothing) (option_map_or (standing_after m) (call_of (doubled t)) m)) (calls_before rest calls)) none
     by front.Marks = ap (λ t. option_map_or (text_written m) (call_of (without_marks t)) [] ++ texts (at r es (if is_nothing (without_marks t) then front.Marks else front.Nothing) (option_map_or (standing_after m) (call_of (without_marks t)) m)) (calls_before rest calls)) none
 nothing_written r es b m (source.ElementThen name attrs inner rest) calls e =
     not_let_step r es b m name attrs (calls_before inner (EndOf name ∷ calls_before rest calls)) (lets_nowhere r (place_among r es) name e)
@@ -284,28 +297,23 @@ end_step : (r : Rules) (es : List OpenElement) (b : Front) (p : Opener) (o : Ope
     ≡ (if v then [] else end_tag name) ++ texts (at r es front.Nothing (working (o ∷ os))) calls
 end_step r es b p o os x name calls v e = ap (λ h. (if h then [] else end_tag name) ++ texts (at r es front.Nothing (working (o ∷ os))) calls) e
 
--- what such an element holds, and the newline that a reader takes
-held_is : (k : Kind) (ns : Nodes) → with_front (front_inside k) ns ≡ held k ns
-held_is kind.Preformatted ns = refl
-held_is kind.Division ns = refl
-held_is kind.Barrier ns = refl
-held_is kind.Paragraph ns = refl
-held_is kind.Heading ns = refl
-held_is kind.Item ns = refl
-held_is kind.Describing ns = refl
-held_is kind.Ruled ns = refl
-held_is kind.Break ns = refl
-held_is kind.Formatted ns = refl
-held_is kind.Phrase ns = refl
-held_is kind.Link ns = refl
-held_is kind.Table ns = refl
-held_is kind.Caption ns = refl
-held_is kind.ColumnGroup ns = refl
-held_is kind.Column ns = refl
-held_is kind.Section ns = refl
-held_is kind.TableRow ns = refl
-held_is kind.Cell ns = refl
-held_is kind.Unknown ns = refl
+-- what such an element holds is written as its name says
+doubled_written : (ns : Nodes) (tail : List ℕ) → written_before (with_first doubled ns) tail ≡ written_before (with_doubled ns) tail
+doubled_written End tail = refl
+doubled_written (TextThen [] rest) tail = ap (λ l. l ++ written_before rest tail) (sym escape_none)
+doubled_written (TextThen (b ∷ t) rest) tail = by (b == 10)
+  where
+    by : (c : Bool) → written_before (text_then (if c then 10 ∷ b ∷ t else b ∷ t) rest) tail ≡ written_before (TextThen (if c then 10 ∷ b ∷ t else b ∷ t) rest) tail
+    by true = refl
+    by false = refl
+doubled_written (ElementThen name attrs inner rest) tail = refl
+
+held_written : (name : List ℕ) (ns : Nodes) (tail : List ℕ) → written_before (with_front (front_inside (kind_of name)) ns) tail ≡ written_before (held_as_written name ns) tail
+held_written name ns tail = by (kind_of name) ∙ ap (λ b. written_before (if b then with_doubled ns else ns) tail) (sym (pre_named name))
+  where
+    by : (k : Kind) → written_before (with_front (front_inside k) ns) tail ≡ written_before (if is_pre_kind k then with_doubled ns else ns) tail
+    by kind.Preformatted = doubled_written ns tail
+    by _ = refl
 
 -- a void element holds nothing
 void_nowhere : (k : Kind) (x : Place) → is_void_kind k ≡ true → (inside k x).spot ≡ spot.Nowhere
@@ -313,10 +321,6 @@ void_nowhere kind.Ruled x e = refl
 void_nowhere kind.Break x e = refl
 void_nowhere kind.Column x e = refl
 void_nowhere _ x e = absurd (cc)
-
-void_held : (k : Kind) → is_void_kind k ≡ true → held k End ≡ End
-void_held kind.Preformatted e = refl
-void_held _ e = refl
 
 unknown_fits : (s : Spot) (x : Place) → fits_at s kind.Unknown x ≡ false
 unknown_fits spot.InFlow x = refl
@@ -388,7 +392,7 @@ Writes r s =
     → ((c : Front) → texts (at r es c (working (o ∷ os))) calls ≡ written_if c more tail)
     → texts (at r es b (working (o ∷ os))) (calls_before s calls) ≡ written_if b (left_before r (place_among r es) s more) tail
 
-written_element_if : (b : Front) (name : List ℕ) (attrs : List AttributeText) (inner rest : Nodes) (tail : List ℕ) → written_before (ElementThen name attrs inner rest) tail ≡ written_if b (ElementThen name attrs inner rest) tail
+written_element_if : (b : Front) (name : List ℕ) (attrs : List AttributeText) (inner rest : Nodes) (tail : List ℕ) → written_before (as_written (ElementThen name attrs inner rest)) tail ≡ written_if b (ElementThen name attrs inner rest) tail
 written_element_if front.Nothing name attrs inner rest tail = refl
 written_element_if front.Newlines name attrs inner rest tail = refl
 written_element_if front.Marks name attrs inner rest tail = refl
@@ -419,35 +423,38 @@ element_written r name attrs inner rest inside_is rest_is es b o os calls more t
     all : List Call
     all = calls_before inner (EndOf name ∷ calls_before rest calls)
 
+    held : Nodes
+    held = held_as_written name.local (as_written held_nodes)
+
     -- what follows the end
     follows : (c : Front) → texts (at r es c (working (o ∷ os))) (calls_before rest calls) ≡ written_if c later tail
     follows c = rest_is es c o os calls more tail open_ behind
 
-    of_void : (l : IsLet name) → is_void_kind k ≡ true → texts (at r (written_element r es name) (front_inside k) (working (start_of true name ∷ o ∷ os))) all ≡ written_before later tail
+    of_void : (l : IsLet name) → is_void_kind k ≡ true → texts (at r (written_element r es name) (front_inside k) (working (start_of true name ∷ o ∷ os))) all ≡ written_before (as_written later) tail
     of_void l v =
         nothing_written r (written_element r es name) (front_inside k) (working (start_of true name ∷ o ∷ os)) inner (EndOf name ∷ calls_before rest calls) (void_nowhere k x v)
         ∙ end_step r es (front_inside k) (start_of true name) o os (inside k x) name (calls_before rest calls) true (opener_shown name o os l open_.shown ∙ v)
         ∙ follows front.Nothing
 
-    of_other : (l : IsLet name) → is_void_kind k ≡ false → texts (at r (written_element r es name) (front_inside k) (working (start_of true name ∷ o ∷ os))) all ≡ written_before (held k held_nodes) (end_tag name ++ written_before later tail)
+    of_other : (l : IsLet name) → is_void_kind k ≡ false → texts (at r (written_element r es name) (front_inside k) (working (start_of true name ∷ o ∷ os))) all ≡ written_before held (end_tag name ++ written_before (as_written later) tail)
     of_other l v =
         let shown = opener_shown name o os l open_.shown ∙ v in
-        inside_is (written_element r es name) (front_inside k) (start_of true name) (o ∷ os) (EndOf name ∷ calls_before rest calls) End (end_tag name ++ written_before later tail)
+        inside_is (written_element r es name) (front_inside k) (start_of true name) (o ∷ os) (EndOf name ∷ calls_before rest calls) End (end_tag name ++ written_before (as_written later) tail)
         (record { shown = shown; escaped = opener_escaped name l })
         (λ c. end_step r es c (start_of true name) o os (inside k x) name (calls_before rest calls) false shown ∙ ap (λ t. end_tag name ++ t) (follows front.Nothing) ∙ written_none_if c _)
-        ∙ ap (λ ns. written_before ns (end_tag name ++ written_before later tail)) (held_is k held_nodes)
+        ∙ held_written name.local (as_written held_nodes) (end_tag name ++ written_before (as_written later) tail)
 
     by_void : (v : Bool) → is_void_kind k ≡ v → IsLet name
-        → start_tag name left ++ texts (at r (written_element r es name) (front_inside k) (working (start_of true name ∷ o ∷ os))) all ≡ written_before (ElementThen name.local left (held k held_nodes) later) tail
-    by_void true v l = ap (λ t. start_tag name left ++ t) (of_void l v) ∙ element_before name left (held k held_nodes) later tail true (l.written.void ∙ v)
-    by_void false v l = ap (λ t. start_tag name left ++ t) (of_other l v) ∙ element_before name left (held k held_nodes) later tail false (l.written.void ∙ v)
+        → start_tag name left ++ texts (at r (written_element r es name) (front_inside k) (working (start_of true name ∷ o ∷ os))) all ≡ written_before (as_written (ElementThen name.local left held_nodes later)) tail
+    by_void true v l = ap (λ t. start_tag name left ++ t) (of_void l v) ∙ element_before name left held (as_written later) tail true (l.written.void ∙ v)
+    by_void false v l = ap (λ t. start_tag name left ++ t) (of_other l v) ∙ element_before name left held (as_written later) tail false (l.written.void ∙ v)
 
     by : (c : Bool) → is_let r x name ≡ c
-        → texts (at r es b (working (o ∷ os))) (StartOf name attrs ∷ all) ≡ written_if b (if c then ElementThen name.local left (held k held_nodes) later else left_before r (place_without r x name) inner later) tail
+        → texts (at r es b (working (o ∷ os))) (StartOf name attrs ∷ all) ≡ written_if b (if c then ElementThen name.local left held_nodes later else left_before r (place_without r x name) inner later) tail
     by true e =
         let_step r es b o os name attrs all e open_.shown
         ∙ by_void (is_void_kind k) refl (is_let_so r x name e)
-        ∙ written_element_if b name.local left (held k held_nodes) later tail
+        ∙ written_element_if b name.local left held_nodes later tail
     by false e =
         not_let_step r es b (working (o ∷ os)) name attrs all e
         ∙ inside_is (unwritten r es name) b o os (EndOf name ∷ calls_before rest calls) later tail open_ (λ c. follows c)
@@ -466,5 +473,17 @@ left_written r (CommentThen text rest) es b o os calls more tail open_ behind = 
 left_written r (DoctypeThen name rest) es b o os calls more tail open_ behind = left_written r rest es b o os calls more tail open_ behind
 left_written r (InstructionThen target content rest) es b o os calls more tail open_ behind = left_written r rest es b o os calls more tail open_ behind
 
-pub tree_written : (r : Rules) (s : Source) → texts (first_state r) (calls_before s []) ≡ written_before (cleaned r s) []
-tree_written r s = left_written r s [] front.Marks plain [] [] End [] (record { shown = refl; escaped = refl }) (λ c. written_none_if c [])
+-- the U+FEFF at the front goes from what is written, too
+unmarked_written : (ns : Nodes) → with_first without_marks (as_written ns) ≡ as_written (with_first without_marks ns)
+unmarked_written End = refl
+unmarked_written (TextThen t rest) = by (without_marks t)
+  where
+    by : (v : List ℕ) → text_then v (as_written rest) ≡ as_written (text_then v rest)
+    by [] = refl
+    by (b ∷ v) = refl
+unmarked_written (ElementThen name attrs inner rest) = refl
+
+pub tree_written : (r : Rules) (s : Source) → texts (first_state r) (calls_before s []) ≡ written_fragment (cleaned r s)
+tree_written r s =
+    left_written r s [] front.Marks plain [] [] End [] (record { shown = refl; escaped = refl }) (λ c. written_none_if c [])
+    ∙ ap (λ ns. written_before ns []) (unmarked_written (left_before r (first_place r) s End))

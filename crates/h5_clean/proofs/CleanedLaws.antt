@@ -14,7 +14,7 @@ use Rattle.h5_rules.specs.fitting.Roles.{role_of, role_of_local}
 use Rattle.h5_tree_builder.specs.Fragment.{rawtext_context_names, rcdata_context_names, state_of_local}
 use Rattle.h5_plain.specs.Plain.{Nodes}
 use Rattle.h5_plain.specs.Rebuilding.{HoldsDocument}
-use Rattle.h5_round_trip.specs.Written.{written_before}
+use Rattle.h5_round_trip.specs.Written.{written_fragment}
 use Rattle.h5_driver.specs.Options.{default_options}
 use Rattle.h5_driver.specs.PlainFragments.{FragmentStands, FragmentsComeBack, IsBodyContext}
 use Rattle.h5_driver.specs.StandardReader.{Reads, first}
@@ -54,7 +54,7 @@ is_cleaned r html a before after builds w =
     let ns = cleaned r w.source in
     let plain = cleaned_plain r w.source in
     let readable = cleaned_read r w.source in (
-      written_before ns [],
+      written_fragment ns,
       (
         record {
           source = w.source;
@@ -89,7 +89,7 @@ same_source : (text : List ℕ) (s t : Source) → IsTreeOf text s → IsTreeOf 
 same_source text s t h k = one_tree s t (h.told ∙ same_calls h.arena k.arena (same_forest text h.arena k.arena h.builds k.builds) ∙ sym k.told)
 
 pub one_text : (r : Rules) (html x y : List ℕ) → IsCleaned r html x → IsCleaned r html y → x ≡ y
-one_text r html x y h k = h.text.written ∙ ap (λ s. written_before (cleaned r s) []) (same_source html h.source k.source h.is_tree k.is_tree) ∙ sym k.text.written
+one_text r html x y h k = h.text.written ∙ ap (λ s. written_fragment (cleaned r s)) (same_source html h.source k.source h.is_tree k.is_tree) ∙ sym k.text.written
 
 -- ---- of a fragment of which nothing is to be taken all is left
 
@@ -104,11 +104,11 @@ module _ (around : (f : Forest) → IsForest f → (n : ℕ) (d : Node) → f.no
       ∙ sym (append-nil (calls_of_children f (children_of f s.root)))
       ∙ nodes_told f (around f s.is_forest) (children_of f s.root) nodes [] s.stands
 
-  pub nothing_taken : (r : Rules) (html out : List ℕ) (nodes : Nodes) → IsClean r nodes → BuildsFragment html nodes → IsCleaned r html out → out ≡ written_before nodes []
+  pub nothing_taken : (r : Rules) (html out : List ℕ) (nodes : Nodes) → IsClean r nodes → BuildsFragment html nodes → IsCleaned r html out → out ≡ written_fragment nodes
   nothing_taken r html out nodes c b h =
       let same : h.source ≡ source_of nodes =
       one_tree h.source (source_of nodes) (h.is_tree.told ∙ same_calls h.is_tree.arena b.arena (same_forest html h.is_tree.arena b.arena h.is_tree.builds b.builds) ∙ fragment_told b.arena nodes b.stands) in
-      h.text.written ∙ ap (λ s. written_before (cleaned r s) []) same ∙ ap (λ ns. written_before ns []) (cleaned_same r nodes c.plain c.readable c.allowed c.within c.unmarked)
+      h.text.written ∙ ap (λ s. written_fragment (cleaned r s)) same ∙ ap written_fragment (cleaned_same r nodes c.plain c.readable c.allowed c.within c.unmarked)
 
   -- ---- what is left is built again
 

@@ -4,7 +4,7 @@ use Rattle.std.proofs.lemmas.Bool.{ltb-true, lt-ltb}
 use Rattle.h5_names.specs.AttributeText.{AttributeText}
 use Rattle.h5_rules.proofs.BoolLaws.{and_both}
 use Rattle.h5_plain.specs.Plain as plain
-use Rattle.h5_plain.specs.Plain.{ArePlain, Around, ElementThen, End, IsPlain, NoNul, Nodes, Sort, TextThen, begins_with_newline}
+use Rattle.h5_plain.specs.Plain.{ArePlain, Around, ElementThen, End, IsPlain, NoNul, Nodes, Sort, TextThen}
 use Rattle.h5_round_trip.specs.Readable.{AreReadable, CanBeRead, IsReadable}
 use Rattle.h5_clean.specs.Kinds.{kind_of}
 use Rattle.h5_clean.specs.Pass.{AllLet, IsWithin}
@@ -22,11 +22,6 @@ abbrev pub is_filled : List ℕ → Bool
 is_filled [] = false
 is_filled (b ∷ t) = true
 
--- a `pre` holds no newline at its front
-abbrev pub is_ready : Kind → Nodes → Bool
-is_ready kind.Preformatted ns = not (begins_with_newline ns)
-is_ready _ ns = true
-
 -- a text at a place, behind no other
 pub record TextFits (after_text : Bool) (s : Spot) (t : List ℕ) : Type 0 where
   pub first : after_text ≡ false
@@ -35,9 +30,8 @@ pub record TextFits (after_text : Bool) (s : Spot) (t : List ℕ) : Type 0 where
   pub reads : IsReadable t
 
 -- an element at a place
-pub record ElementFits (r : Rules) (x : Place) (name : List ℕ) (attrs : List AttributeText) (inner : Nodes) : Type 0 where
+pub record ElementFits (r : Rules) (x : Place) (name : List ℕ) (attrs : List AttributeText) : Type 0 where
   pub fitting : fits (kind_of name) x ≡ true
-  pub ready : is_ready (kind_of name) inner ≡ true
   pub is_plain : ArePlain attrs
   pub readable : AreReadable attrs
   pub named : r.names name ≡ true
@@ -47,7 +41,7 @@ abbrev pub IsFitting : Rules → (after_text : Bool) → Place → Nodes → Typ
 IsFitting r a x End = Unit {0}
 IsFitting r a x (TextThen t rest) = TextFits a x.spot t × IsFitting r true x rest
 IsFitting r a x (ElementThen name attrs inner rest) =
-    ElementFits r x name attrs inner × (IsFitting r false (inside (kind_of name) x) inner × IsFitting r false x rest)
+    ElementFits r x name attrs × (IsFitting r false (inside (kind_of name) x) inner × IsFitting r false x rest)
 
 pub never : {A : Type 0} → false ≡ true → A
 never h = absurd (cc)
@@ -80,29 +74,29 @@ unknown_fits _ x h = h
 
 -- an element that fits is plain where what it holds is
 element_plain : (k : Kind) (s : Spot) (a : Bool) (x : Place) (name : List ℕ) (attrs : List AttributeText) (inner rest : Nodes)
-    → HasKind k name → fits_at s k x ≡ true → is_ready k inner ≡ true → ((inside k x).spot ≡ spot.Nowhere → inner ≡ End) → ArePlain attrs
+    → HasKind k name → fits_at s k x ≡ true → ((inside k x).spot ≡ spot.Nowhere → inner ≡ End) → ArePlain attrs
     → IsPlain true (sort_of false (inside k x)) inner → IsPlain true (sort_at false s (around x)) rest → IsPlain true (sort_at a s (around x)) (ElementThen name attrs inner rest)
-element_plain kind.Division spot.InFlow a x name attrs inner rest n h y e p i l = plain.Division n (not_true x.in_p h) p i l
-element_plain kind.Barrier spot.InFlow a x name attrs inner rest n h y e p i l = plain.Barrier n (not_true x.in_p h) p i l
-element_plain kind.Preformatted spot.InFlow a x name attrs inner rest n h y e p i l = renamed (sort_at a spot.InFlow (around x)) (codes "pre") name attrs inner rest n (plain.Preformatted (not_true x.in_p h) (not_true (begins_with_newline inner) y) p i l)
-element_plain kind.Paragraph spot.InFlow a x name attrs inner rest n h y e p i l = renamed (sort_at a spot.InFlow (around x)) (codes "p") name attrs inner rest n (plain.Paragraph (not_true x.in_p h) p i l)
-element_plain kind.Heading spot.InFlow a x name attrs inner rest n h y e p i l = plain.Heading n (neither x.in_p x.in_heading h).0 (neither x.in_p x.in_heading h).1 p i l
-element_plain kind.Item spot.InFlow a x name attrs inner rest n h y e p i l = renamed (sort_at a spot.InFlow (around x)) (codes "li") name attrs inner rest n (plain.Item (neither x.in_p x.in_item h).0 (neither x.in_p x.in_item h).1 p i l)
-element_plain kind.Describing spot.InFlow a x name attrs inner rest n h y e p i l = plain.Describing n (neither x.in_p x.in_description h).0 (neither x.in_p x.in_description h).1 p i l
-element_plain kind.Ruled spot.InFlow a x name attrs inner rest n h y e p i l = renamed (sort_at a spot.InFlow (around x)) (codes "hr") name attrs inner rest n (emptied (sort_at a spot.InFlow (around x)) (codes "hr") attrs inner rest (e refl) (plain.Ruled (not_true x.in_p h) p l))
-element_plain kind.Break spot.InFlow a x name attrs inner rest n h y e p i l = emptied (sort_at a spot.InFlow (around x)) name attrs inner rest (e refl) (plain.Break n p l)
-element_plain kind.Formatted spot.InFlow a x name attrs inner rest n h y e p i l = plain.Formatted n p i l
-element_plain kind.Phrase spot.InFlow a x name attrs inner rest n h y e p i l = plain.Phrase n p i l
-element_plain kind.Link spot.InFlow a x name attrs inner rest n h y e p i l = renamed (sort_at a spot.InFlow (around x)) (codes "a") name attrs inner rest n (plain.Link (not_true x.in_link h) p i l)
-element_plain kind.Table spot.InFlow a x name attrs inner rest n h y e p i l = renamed (sort_at a spot.InFlow (around x)) (codes "table") name attrs inner rest n (plain.Table (not_true x.in_p h) p i l)
-element_plain kind.Caption spot.InTable a x name attrs inner rest n h y e p i l = renamed (sort_at a spot.InTable (around x)) (codes "caption") name attrs inner rest n (plain.Caption p i l)
-element_plain kind.ColumnGroup spot.InTable a x name attrs inner rest n h y e p i l = renamed (sort_at a spot.InTable (around x)) (codes "colgroup") name attrs inner rest n (plain.ColumnGroup p i l)
-element_plain kind.Column spot.InColumns a x name attrs inner rest n h y e p i l = renamed (sort_at a spot.InColumns (around x)) (codes "col") name attrs inner rest n (emptied (sort_at a spot.InColumns (around x)) (codes "col") attrs inner rest (e refl) (plain.Column p l))
-element_plain kind.Section spot.InTable a x name attrs inner rest n h y e p i l = plain.Section n p i l
-element_plain kind.TableRow spot.InSection a x name attrs inner rest n h y e p i l = renamed (sort_at a spot.InSection (around x)) (codes "tr") name attrs inner rest n (plain.TableRow p i l)
-element_plain kind.Cell spot.InRow a x name attrs inner rest n h y e p i l = plain.Cell n p i l
-element_plain kind.Unknown s a x name attrs inner rest n h y e p i l = never (unknown_fits s x h)
-element_plain k s a x name attrs inner rest n h y e p i l = never h
+element_plain kind.Division spot.InFlow a x name attrs inner rest n h e p i l = plain.Division n (not_true x.in_p h) p i l
+element_plain kind.Barrier spot.InFlow a x name attrs inner rest n h e p i l = plain.Barrier n (not_true x.in_p h) p i l
+element_plain kind.Preformatted spot.InFlow a x name attrs inner rest n h e p i l = renamed (sort_at a spot.InFlow (around x)) (codes "pre") name attrs inner rest n (plain.Preformatted (not_true x.in_p h) p i l)
+element_plain kind.Paragraph spot.InFlow a x name attrs inner rest n h e p i l = renamed (sort_at a spot.InFlow (around x)) (codes "p") name attrs inner rest n (plain.Paragraph (not_true x.in_p h) p i l)
+element_plain kind.Heading spot.InFlow a x name attrs inner rest n h e p i l = plain.Heading n (neither x.in_p x.in_heading h).0 (neither x.in_p x.in_heading h).1 p i l
+element_plain kind.Item spot.InFlow a x name attrs inner rest n h e p i l = renamed (sort_at a spot.InFlow (around x)) (codes "li") name attrs inner rest n (plain.Item (neither x.in_p x.in_item h).0 (neither x.in_p x.in_item h).1 p i l)
+element_plain kind.Describing spot.InFlow a x name attrs inner rest n h e p i l = plain.Describing n (neither x.in_p x.in_description h).0 (neither x.in_p x.in_description h).1 p i l
+element_plain kind.Ruled spot.InFlow a x name attrs inner rest n h e p i l = renamed (sort_at a spot.InFlow (around x)) (codes "hr") name attrs inner rest n (emptied (sort_at a spot.InFlow (around x)) (codes "hr") attrs inner rest (e refl) (plain.Ruled (not_true x.in_p h) p l))
+element_plain kind.Break spot.InFlow a x name attrs inner rest n h e p i l = emptied (sort_at a spot.InFlow (around x)) name attrs inner rest (e refl) (plain.Break n p l)
+element_plain kind.Formatted spot.InFlow a x name attrs inner rest n h e p i l = plain.Formatted n p i l
+element_plain kind.Phrase spot.InFlow a x name attrs inner rest n h e p i l = plain.Phrase n p i l
+element_plain kind.Link spot.InFlow a x name attrs inner rest n h e p i l = renamed (sort_at a spot.InFlow (around x)) (codes "a") name attrs inner rest n (plain.Link (not_true x.in_link h) p i l)
+element_plain kind.Table spot.InFlow a x name attrs inner rest n h e p i l = renamed (sort_at a spot.InFlow (around x)) (codes "table") name attrs inner rest n (plain.Table (not_true x.in_p h) p i l)
+element_plain kind.Caption spot.InTable a x name attrs inner rest n h e p i l = renamed (sort_at a spot.InTable (around x)) (codes "caption") name attrs inner rest n (plain.Caption p i l)
+element_plain kind.ColumnGroup spot.InTable a x name attrs inner rest n h e p i l = renamed (sort_at a spot.InTable (around x)) (codes "colgroup") name attrs inner rest n (plain.ColumnGroup p i l)
+element_plain kind.Column spot.InColumns a x name attrs inner rest n h e p i l = renamed (sort_at a spot.InColumns (around x)) (codes "col") name attrs inner rest n (emptied (sort_at a spot.InColumns (around x)) (codes "col") attrs inner rest (e refl) (plain.Column p l))
+element_plain kind.Section spot.InTable a x name attrs inner rest n h e p i l = plain.Section n p i l
+element_plain kind.TableRow spot.InSection a x name attrs inner rest n h e p i l = renamed (sort_at a spot.InSection (around x)) (codes "tr") name attrs inner rest n (plain.TableRow p i l)
+element_plain kind.Cell spot.InRow a x name attrs inner rest n h e p i l = plain.Cell n p i l
+element_plain kind.Unknown s a x name attrs inner rest n h e p i l = never (unknown_fits s x h)
+element_plain k s a x name attrs inner rest n h e p i l = never h
 
 -- and so is a text
 text_plain : (s : Spot) (o : Around) (t : List ℕ) (rest : Nodes) → is_filled t ≡ true → may_stand s t ≡ true → NoNul t
@@ -130,7 +124,7 @@ fitting_plain r a x (TextThen t rest) f =
     (text_plain x.spot (around x) t rest f.0.filled f.0.stands f.0.reads.no_nul (fitting_plain r true x rest f.1))
 fitting_plain r a x (ElementThen name attrs inner rest) f =
     element_plain (kind_of name) x.spot a x name attrs inner rest (has_kind name) (and_both (nat_lt 0 x.room) (fits_at x.spot (kind_of name) x) f.0.fitting).1
-    f.0.ready (none_fits r false (inside (kind_of name) x) inner f.1.0) f.0.is_plain
+    (none_fits r false (inside (kind_of name) x) inner f.1.0) f.0.is_plain
     (fitting_plain r false (inside (kind_of name) x) inner f.1.0) (fitting_plain r false x rest f.1.1)
 
 -- it can be read, the rules let it through, and it is within its room
@@ -160,7 +154,6 @@ fitting_within r a x (ElementThen name attrs inner rest) f =
 -- what a plain list that begins with an element says of it
 record Opened (k : Kind) (s : Spot) (x : Place) (attrs : List AttributeText) (inner rest : Nodes) : Type 0 where
   fitting : fits_at s k x ≡ true
-  ready : is_ready k inner ≡ true
   empty : (inside k x).spot ≡ spot.Nowhere → inner ≡ End
   is_plain : ArePlain attrs
   holds : IsPlain true (sort_of false (inside k x)) inner
@@ -169,43 +162,43 @@ record Opened (k : Kind) (s : Spot) (x : Place) (attrs : List AttributeText) (in
 opened : (s : Spot) (a : Bool) (x : Place) (name : List ℕ) (attrs : List AttributeText) (inner rest : Nodes) → s ≢ spot.Nowhere
     → IsPlain true (sort_at a s (around x)) (ElementThen name attrs inner rest) → Opened (kind_of name) s x attrs inner rest
 opened spot.InFlow a x name attrs inner rest w (plain.Division n o p i l) =
-    subst (λ k. Opened k spot.InFlow x attrs inner rest) (sym (division_kind name n)) (record { fitting = ap not o; ready = refl; empty = λ e. absurd (cc); is_plain = p; holds = i; goes_on = l })
+    subst (λ k. Opened k spot.InFlow x attrs inner rest) (sym (division_kind name n)) (record { fitting = ap not o; empty = λ e. absurd (cc); is_plain = p; holds = i; goes_on = l })
 opened spot.InFlow a x name attrs inner rest w (plain.Barrier n o p i l) =
-    subst (λ k. Opened k spot.InFlow x attrs inner rest) (sym (barrier_kind name n)) (record { fitting = ap not o; ready = refl; empty = λ e. absurd (cc); is_plain = p; holds = i; goes_on = l })
-opened spot.InFlow a x _ attrs inner rest w (plain.Preformatted o b p i l) =
-    subst (λ k. Opened k spot.InFlow x attrs inner rest) (sym pre_kind) (record { fitting = ap not o; ready = ap not b; empty = λ e. absurd (cc); is_plain = p; holds = i; goes_on = l })
+    subst (λ k. Opened k spot.InFlow x attrs inner rest) (sym (barrier_kind name n)) (record { fitting = ap not o; empty = λ e. absurd (cc); is_plain = p; holds = i; goes_on = l })
+opened spot.InFlow a x _ attrs inner rest w (plain.Preformatted o p i l) =
+    subst (λ k. Opened k spot.InFlow x attrs inner rest) (sym pre_kind) (record { fitting = ap not o; empty = λ e. absurd (cc); is_plain = p; holds = i; goes_on = l })
 opened spot.InFlow a x _ attrs inner rest w (plain.Paragraph o p i l) =
-    subst (λ k. Opened k spot.InFlow x attrs inner rest) (sym paragraph_kind) (record { fitting = ap not o; ready = refl; empty = λ e. absurd (cc); is_plain = p; holds = i; goes_on = l })
+    subst (λ k. Opened k spot.InFlow x attrs inner rest) (sym paragraph_kind) (record { fitting = ap not o; empty = λ e. absurd (cc); is_plain = p; holds = i; goes_on = l })
 opened spot.InFlow a x name attrs inner rest w (plain.Heading n o c p i l) =
-    subst (λ k. Opened k spot.InFlow x attrs inner rest) (sym (heading_kind name n)) (record { fitting = both_not x.in_p x.in_heading o c; ready = refl; empty = λ e. absurd (cc); is_plain = p; holds = i; goes_on = l })
+    subst (λ k. Opened k spot.InFlow x attrs inner rest) (sym (heading_kind name n)) (record { fitting = both_not x.in_p x.in_heading o c; empty = λ e. absurd (cc); is_plain = p; holds = i; goes_on = l })
 opened spot.InFlow a x _ attrs inner rest w (plain.Item o c p i l) =
-    subst (λ k. Opened k spot.InFlow x attrs inner rest) (sym item_kind) (record { fitting = both_not x.in_p x.in_item o c; ready = refl; empty = λ e. absurd (cc); is_plain = p; holds = i; goes_on = l })
+    subst (λ k. Opened k spot.InFlow x attrs inner rest) (sym item_kind) (record { fitting = both_not x.in_p x.in_item o c; empty = λ e. absurd (cc); is_plain = p; holds = i; goes_on = l })
 opened spot.InFlow a x name attrs inner rest w (plain.Describing n o c p i l) =
-    subst (λ k. Opened k spot.InFlow x attrs inner rest) (sym (describing_kind name n)) (record { fitting = both_not x.in_p x.in_description o c; ready = refl; empty = λ e. absurd (cc); is_plain = p; holds = i; goes_on = l })
+    subst (λ k. Opened k spot.InFlow x attrs inner rest) (sym (describing_kind name n)) (record { fitting = both_not x.in_p x.in_description o c; empty = λ e. absurd (cc); is_plain = p; holds = i; goes_on = l })
 opened spot.InFlow a x _ attrs _ rest w (plain.Ruled o p l) =
-    subst (λ k. Opened k spot.InFlow x attrs End rest) (sym ruled_kind) (record { fitting = ap not o; ready = refl; empty = λ e. refl; is_plain = p; holds = plain.Nothing; goes_on = l })
+    subst (λ k. Opened k spot.InFlow x attrs End rest) (sym ruled_kind) (record { fitting = ap not o; empty = λ e. refl; is_plain = p; holds = plain.Nothing; goes_on = l })
 opened spot.InFlow a x name attrs _ rest w (plain.Break n p l) =
-    subst (λ k. Opened k spot.InFlow x attrs End rest) (sym (break_kind name n)) (record { fitting = refl; ready = refl; empty = λ e. refl; is_plain = p; holds = plain.Nothing; goes_on = l })
+    subst (λ k. Opened k spot.InFlow x attrs End rest) (sym (break_kind name n)) (record { fitting = refl; empty = λ e. refl; is_plain = p; holds = plain.Nothing; goes_on = l })
 opened spot.InFlow a x name attrs inner rest w (plain.Formatted n p i l) =
-    subst (λ k. Opened k spot.InFlow x attrs inner rest) (sym (formatted_kind name n)) (record { fitting = refl; ready = refl; empty = λ e. absurd (cc); is_plain = p; holds = i; goes_on = l })
+    subst (λ k. Opened k spot.InFlow x attrs inner rest) (sym (formatted_kind name n)) (record { fitting = refl; empty = λ e. absurd (cc); is_plain = p; holds = i; goes_on = l })
 opened spot.InFlow a x name attrs inner rest w (plain.Phrase n p i l) =
-    subst (λ k. Opened k spot.InFlow x attrs inner rest) (sym (phrase_kind name n)) (record { fitting = refl; ready = refl; empty = λ e. absurd (cc); is_plain = p; holds = i; goes_on = l })
+    subst (λ k. Opened k spot.InFlow x attrs inner rest) (sym (phrase_kind name n)) (record { fitting = refl; empty = λ e. absurd (cc); is_plain = p; holds = i; goes_on = l })
 opened spot.InFlow a x _ attrs inner rest w (plain.Link o p i l) =
-    subst (λ k. Opened k spot.InFlow x attrs inner rest) (sym link_kind) (record { fitting = ap not o; ready = refl; empty = λ e. absurd (cc); is_plain = p; holds = i; goes_on = l })
+    subst (λ k. Opened k spot.InFlow x attrs inner rest) (sym link_kind) (record { fitting = ap not o; empty = λ e. absurd (cc); is_plain = p; holds = i; goes_on = l })
 opened spot.InFlow a x _ attrs inner rest w (plain.Table o p i l) =
-    subst (λ k. Opened k spot.InFlow x attrs inner rest) (sym table_kind) (record { fitting = ap not o; ready = refl; empty = λ e. absurd (cc); is_plain = p; holds = i; goes_on = l })
+    subst (λ k. Opened k spot.InFlow x attrs inner rest) (sym table_kind) (record { fitting = ap not o; empty = λ e. absurd (cc); is_plain = p; holds = i; goes_on = l })
 opened spot.InTable a x _ attrs inner rest w (plain.Caption p i l) =
-    subst (λ k. Opened k spot.InTable x attrs inner rest) (sym caption_kind) (record { fitting = refl; ready = refl; empty = λ e. absurd (cc); is_plain = p; holds = i; goes_on = l })
+    subst (λ k. Opened k spot.InTable x attrs inner rest) (sym caption_kind) (record { fitting = refl; empty = λ e. absurd (cc); is_plain = p; holds = i; goes_on = l })
 opened spot.InTable a x _ attrs inner rest w (plain.ColumnGroup p i l) =
-    subst (λ k. Opened k spot.InTable x attrs inner rest) (sym group_kind) (record { fitting = refl; ready = refl; empty = λ e. absurd (cc); is_plain = p; holds = i; goes_on = l })
+    subst (λ k. Opened k spot.InTable x attrs inner rest) (sym group_kind) (record { fitting = refl; empty = λ e. absurd (cc); is_plain = p; holds = i; goes_on = l })
 opened spot.InColumns a x _ attrs _ rest w (plain.Column p l) =
-    subst (λ k. Opened k spot.InColumns x attrs End rest) (sym column_kind) (record { fitting = refl; ready = refl; empty = λ e. refl; is_plain = p; holds = plain.Nothing; goes_on = l })
+    subst (λ k. Opened k spot.InColumns x attrs End rest) (sym column_kind) (record { fitting = refl; empty = λ e. refl; is_plain = p; holds = plain.Nothing; goes_on = l })
 opened spot.InTable a x name attrs inner rest w (plain.Section n p i l) =
-    subst (λ k. Opened k spot.InTable x attrs inner rest) (sym (section_kind name n)) (record { fitting = refl; ready = refl; empty = λ e. absurd (cc); is_plain = p; holds = i; goes_on = l })
+    subst (λ k. Opened k spot.InTable x attrs inner rest) (sym (section_kind name n)) (record { fitting = refl; empty = λ e. absurd (cc); is_plain = p; holds = i; goes_on = l })
 opened spot.InSection a x _ attrs inner rest w (plain.TableRow p i l) =
-    subst (λ k. Opened k spot.InSection x attrs inner rest) (sym row_kind) (record { fitting = refl; ready = refl; empty = λ e. absurd (cc); is_plain = p; holds = i; goes_on = l })
+    subst (λ k. Opened k spot.InSection x attrs inner rest) (sym row_kind) (record { fitting = refl; empty = λ e. absurd (cc); is_plain = p; holds = i; goes_on = l })
 opened spot.InRow a x name attrs inner rest w (plain.Cell n p i l) =
-    subst (λ k. Opened k spot.InRow x attrs inner rest) (sym (cell_kind name n)) (record { fitting = refl; ready = refl; empty = λ e. absurd (cc); is_plain = p; holds = i; goes_on = l })
+    subst (λ k. Opened k spot.InRow x attrs inner rest) (sym (cell_kind name n)) (record { fitting = refl; empty = λ e. absurd (cc); is_plain = p; holds = i; goes_on = l })
 opened spot.Nowhere a x name attrs inner rest w h = absurd (w refl)
 
 -- and one that begins with a text
@@ -230,7 +223,7 @@ plain_fitting r a x (ElementThen name attrs inner rest) w p c l d =
     let here : x.spot ≢ spot.Nowhere = λ e. absurd (let no = w e in cc) in
     let k = opened x.spot a x name attrs inner rest here p in
     let deep : 0 < x.room = let one = d.0 in omega arith in (
-      record { fitting = both (nat_lt 0 x.room) (fits_at x.spot (kind_of name) x) (lt-ltb 0 x.room deep) k.fitting; ready = k.ready; is_plain = k.is_plain; readable = c.0; named = l.0; again = l.1.0 },
+      record { fitting = both (nat_lt 0 x.room) (fits_at x.spot (kind_of name) x) (lt-ltb 0 x.room deep) k.fitting; is_plain = k.is_plain; readable = c.0; named = l.0; again = l.1.0 },
       (
         plain_fitting r false (inside (kind_of name) x) inner k.empty k.holds c.1.0 l.1.1.0 (subst (λ n. IsWithin n inner) (sym (room_inside (kind_of name) x)) d.1.0),
         plain_fitting r false x rest (λ e. absurd (here e)) k.goes_on c.1.1 l.1.1.1 d.1.1,

@@ -1,5 +1,5 @@
 -- An element's kind and its name.
-use Rattle.std.proofs.Common.{◌≡◌, ◌||◌, ℕ, Bool, true, false, if◌then◌else◌, List, [], ◌∷◌, ◌++◌, codes, refl, sym}
+use Rattle.std.proofs.Common.{◌≡◌, ◌∙◌, ◌||◌, ℕ, Bool, true, false, if◌then◌else◌, List, [], ◌∷◌, ◌++◌, codes, refl, sym, ap, subst}
 use Rattle.std.proofs.lemmas.Slice.Eq.{bytes_eq-Decides}
 use Rattle.h5_names.specs.AttributeText.{is_same_text}
 use Rattle.h5_tables.specs.TagSets.{cell_names, heading_names, is_one_of}
@@ -162,3 +162,22 @@ group_kind = refl
 pub column_kind : kind_of (codes "col") ≡ kind.Column
 unfolding set_rows lone_rows phrase_names inline_names open_block_names barrier_names mark_names cell_names heading_names term_names part_names
 column_kind = refl
+
+-- a `pre` alone is preformatted
+abbrev pub is_pre_kind : Kind → Bool
+is_pre_kind kind.Preformatted = true
+is_pre_kind _ = false
+
+pre_alone : (k : Kind) → is_pre_kind k ≡ true → k ≡ kind.Preformatted
+pre_alone kind.Preformatted e = refl
+pre_alone _ e = absurd (cc)
+
+pub pre_named : (name : List ℕ) → is_same_text name (codes "pre") ≡ is_pre_kind (kind_of name)
+pre_named name = by (is_same_text name (codes "pre")) (is_pre_kind (kind_of name)) refl refl
+  where
+    by : (b c : Bool) → is_same_text name (codes "pre") ≡ b → is_pre_kind (kind_of name) ≡ c → b ≡ c
+    by true c e f = sym (ap (λ n. is_pre_kind (kind_of n)) ((bytes_eq-Decides name (codes "pre")).0 e) ∙ ap is_pre_kind pre_kind) ∙ f
+    by false true e f =
+        let named : name ≡ codes "pre" = subst (λ k. HasKind k name) (pre_alone (kind_of name) f) (has_kind name) in
+        sym e ∙ ap (λ n. is_same_text n (codes "pre")) named
+    by false false e f = refl

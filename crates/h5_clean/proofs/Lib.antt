@@ -3,6 +3,7 @@ mod CallLaws
 mod CleanedLaws
 mod FittingLaws
 mod HandedLaws
+mod JoinedTextLaws
 mod KeepingLaws
 mod KindLaws
 mod ListLaws

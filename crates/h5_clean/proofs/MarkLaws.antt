@@ -10,7 +10,7 @@ use Rattle.h5_markup.specs.Matching.{Found, No, Open}
 use Rattle.h5_standard.specs.Mark.{behind, behind_mark}
 use Rattle.h5_plain.specs.Plain.{ElementThen, End, Flow, IsPlain, Nodes, TextThen, Words, nothing_open}
 use Rattle.h5_round_trip.specs.Readable.{CanBeRead}
-use Rattle.h5_round_trip.specs.Written.{written_before}
+use Rattle.h5_round_trip.specs.Written.{written_fragment}
 use Rattle.h5_round_trip.proofs.ShapeLaws.{Element, None as NoNode, Shape, Title, Void, shape}
 use Rattle.h5_clean.specs.Pass.{text_then, with_first}
 use Rattle.h5_clean.specs.Texts.{without_marks}
@@ -135,13 +135,13 @@ text_stays t rest p e = by (without_marks t) rest p e
     by [] (ElementThen name attrs inner r) p e = absurd (cc)
     by (b ∷ v) r p e = cc
 
-pub text_unmarked : (ns : Nodes) → IsPlain true (Flow false nothing_open) ns → CanBeRead ns → with_first without_marks ns ≡ ns → behind_mark true (written_before ns []) ≡ written_before ns []
+pub text_unmarked : (ns : Nodes) → IsPlain true (Flow false nothing_open) ns → CanBeRead ns → with_first without_marks ns ≡ ns → behind_mark true (written_fragment ns) ≡ written_fragment ns
 text_unmarked End p c e = refl
 text_unmarked (ElementThen name attrs inner rest) p c e = refl
 text_unmarked _ (Words {first = b} {more = t} {rest = rest} n p) c e =
-    by (marked_or_not (escape false (b ∷ t) ++ written_before rest []))
+    by (marked_or_not (escape false (b ∷ t) ++ written_fragment rest))
   where
-    by : (behind_mark true (escape false (b ∷ t) ++ written_before rest []) ≡ escape false (b ∷ t) ++ written_before rest []) ⊎ IsMarked (escape false (b ∷ t) ++ written_before rest [])
-        → behind_mark true (escape false (b ∷ t) ++ written_before rest []) ≡ escape false (b ∷ t) ++ written_before rest []
+    by : (behind_mark true (escape false (b ∷ t) ++ written_fragment rest) ≡ escape false (b ∷ t) ++ written_fragment rest) ⊎ IsMarked (escape false (b ∷ t) ++ written_fragment rest)
+        → behind_mark true (escape false (b ∷ t) ++ written_fragment rest) ≡ escape false (b ∷ t) ++ written_fragment rest
     by (inl h) = h
-    by (inr m) = absurd (unmarked_stays (b ∷ t) (text_stays (b ∷ t) rest p e) (text_marked b t (written_before rest []) c.0.utf8 m))
+    by (inr m) = absurd (unmarked_stays (b ∷ t) (text_stays (b ∷ t) rest p e) (text_marked b t (written_fragment rest) c.0.utf8 m))

@@ -1,5 +1,5 @@
 -- What is left of a tree fits, and of what fits all is left.
-use Rattle.std.proofs.Common.{◌≡◌, ◌==◌, ◌&&◌, ℕ, Bool, true, false, not, nat_lt, if◌then◌else◌, List, [], ◌∷◌, ◌++◌, refl, sym, ap, subst, ◌∙◌}
+use Rattle.std.proofs.Common.{◌≡◌, ◌&&◌, ℕ, Bool, true, false, nat_lt, if◌then◌else◌, List, [], ◌∷◌, ◌++◌, refl, sym, ap, subst, ◌∙◌}
 use Rattle.std.specs.Str.{is_utf8}
 use Rattle.h5_names.specs.declared.qualified.QualName.{QualName}
 use Rattle.h5_serialize.specs.Names.{is_html}
@@ -7,23 +7,21 @@ use Rattle.h5_rules.specs.Blanks.{all_blank}
 use Rattle.h5_rules.specs.formatting.FormattingNames.{html_name}
 use Rattle.h5_rules.proofs.BlankLaws.{all_blank-append}
 use Rattle.h5_rules.proofs.BoolLaws.{and_both}
-use Rattle.h5_plain.specs.Plain.{ElementThen, End, Flow, IsPlain, Nodes, TextThen, begins_with_newline, nothing_open}
+use Rattle.h5_plain.specs.Plain.{ElementThen, End, Flow, IsPlain, Nodes, TextThen, nothing_open}
 use Rattle.h5_round_trip.specs.Readable.{CanBeRead, IsReadable}
 use Rattle.h5_clean.specs.Kinds.{kind_of}
-use Rattle.h5_clean.specs.Pass.{AllLet, IsWithin, cleaned, first_place, held, is_dropped, is_let, left_before, put_text, text_then, with_first}
+use Rattle.h5_clean.specs.Pass.{AllLet, IsWithin, cleaned, first_place, is_dropped, is_let, left_before, put_text, text_then, with_first}
 use Rattle.h5_clean.specs.Places.{fits, fits_at, inside, nowhere}
 use Rattle.h5_clean.specs.Policies.{Rules, attributes_left}
 use Rattle.h5_clean.specs.Source as source
 use Rattle.h5_clean.specs.Source.{CommentThen, DoctypeThen, Done, InstructionThen, Source, source_of}
-use Rattle.h5_clean.specs.Texts.{may_stand, readable, text_left, without_marks, without_newlines}
-use Rattle.h5_clean.specs.declared.kind.Kind.{Kind}
-use Rattle.h5_clean.specs.declared.kind.Kind.TheVariants as kind
+use Rattle.h5_clean.specs.Texts.{may_stand, readable, text_left, without_marks}
 use Rattle.h5_clean.specs.declared.place.Place.{Place}
 use Rattle.h5_clean.specs.declared.place.Spot.{Spot}
 use Rattle.h5_clean.specs.declared.place.Spot.TheVariants as spot
 use Rattle.h5_clean.proofs.AttributeLaws.{left_again, left_plain, left_readable}
-use Rattle.h5_clean.proofs.FittingLaws.{IsFitting, fitting_let, fitting_plain, fitting_read, fitting_within, is_filled, is_ready, never, not_true, plain_fitting}
-use Rattle.h5_clean.proofs.TextLaws.{marks_again, readable_reads, readable_same, reads_joined, reads_utf8, reads_without_marks, reads_without_newlines}
+use Rattle.h5_clean.proofs.FittingLaws.{IsFitting, fitting_let, fitting_plain, fitting_read, fitting_within, is_filled, never, plain_fitting}
+use Rattle.h5_clean.proofs.TextLaws.{marks_again, readable_reads, readable_same, reads_joined, reads_utf8, reads_without_marks}
 
 -- a text that is left may stand there and be read
 text_stands : (s : Spot) (t : List ℕ) → is_filled (text_left s t) ≡ true → (may_stand s (text_left s t) ≡ true) × IsReadable (text_left s t)
@@ -93,61 +91,11 @@ first_again r x change End h f = refl
 first_again r x change (TextThen t rest) h f = first_then r x change (change t) rest (h t) f.1
 first_again r x change (ElementThen name attrs inner rest) h f = refl
 
--- without newlines at its front a list is ready for a `pre`
-begins : List ℕ → Bool
-begins [] = false
-begins (b ∷ t) = b == 10
-
-none_begins : (t : List ℕ) → begins (without_newlines t) ≡ false
-unfolding begins
-none_begins [] = refl
-none_begins (b ∷ t) = at (none_begins t) (b == 10) refl
-  where
-    at : begins (without_newlines t) ≡ false → (c : Bool) → (b == 10) ≡ c → begins (if c then without_newlines t else b ∷ t) ≡ false
-    at others true e = others
-    at others false e = e
-
-then_begins : (r : Rules) (x : Place) (t : List ℕ) (rest : Nodes) → begins t ≡ false → IsFitting r true x rest → begins_with_newline (text_then t rest) ≡ false
-unfolding begins
-then_begins r x [] End h f = refl
-then_begins r x [] (TextThen u rest) h f = absurd (let e : ◌≡◌ {A = Bool} true false = f.0.first in cc)
-then_begins r x [] (ElementThen name attrs inner rest) h f = refl
-then_begins r x (b ∷ t) rest h f = h
-
-first_begins : (r : Rules) (x : Place) (ns : Nodes) → IsFitting r false x ns → begins_with_newline (with_first without_newlines ns) ≡ false
-first_begins r x End f = refl
-first_begins r x (TextThen t rest) f = then_begins r x (without_newlines t) rest (none_begins t) f.1
-first_begins r x (ElementThen name attrs inner rest) f = refl
-
--- what an element holds fits, and is ready
-held_fits : (r : Rules) (k : Kind) (x : Place) (ns : Nodes) → IsFitting r false (inside k x) ns
-    → (is_ready k (held k ns) ≡ true) × IsFitting r false (inside k x) (held k ns)
-held_fits r kind.Preformatted x ns f =
-    (ap not (first_begins r (inside kind.Preformatted x) ns f), first_fits r (inside kind.Preformatted x) without_newlines ns (λ t h. (refl, reads_without_newlines t h)) f)
-held_fits r _ x ns f = (refl, f)
-
-newlines_stay : (t : List ℕ) → begins t ≡ false → without_newlines t ≡ t
-unfolding begins
-newlines_stay [] h = refl
-newlines_stay (b ∷ t) h = ap (λ c. if c then without_newlines t else b ∷ t) h
-
 put_first : (r : Rules) (x : Place) (t : List ℕ) (ns : Nodes) → is_filled t ≡ true → IsFitting r true x ns → put_text t ns ≡ TextThen t ns
 put_first r x [] ns h f = never h
 put_first r x (b ∷ t) End h f = refl
 put_first r x (b ∷ t) (TextThen u rest) h f = absurd (let e : ◌≡◌ {A = Bool} true false = f.0.first in cc)
 put_first r x (b ∷ t) (ElementThen name attrs inner rest) h f = refl
-
--- and of what is ready all is held
-pre_same : (r : Rules) (x : Place) (ns : Nodes) → begins_with_newline ns ≡ false → IsFitting r false x ns → with_first without_newlines ns ≡ ns
-unfolding begins
-pre_same r x End h f = refl
-pre_same r x (TextThen [] rest) h f = never f.0.filled
-pre_same r x (TextThen (b ∷ t) rest) h f = ap (λ u. text_then u rest) (newlines_stay (b ∷ t) h)
-pre_same r x (ElementThen name attrs inner rest) h f = refl
-
-held_same : (r : Rules) (k : Kind) (x : Place) (ns : Nodes) → is_ready k ns ≡ true → IsFitting r false (inside k x) ns → held k ns ≡ ns
-held_same r kind.Preformatted x ns h f = pre_same r (inside kind.Preformatted x) ns (not_true (begins_with_newline ns) h) f
-held_same r _ x ns h f = refl
 
 module _ (r : Rules) where
   -- nowhere nothing is left
@@ -176,7 +124,7 @@ module _ (r : Rules) where
       ∙ ap (λ u. put_text u (left_before r x rest more)) (no_text text)
       ∙ none_left x rest more e
   none_left x (source.ElementThen name attrs inner rest) more e =
-      ap (λ b. if b then ElementThen name.local (attributes_left r name.local attrs) (held (kind_of name.local) (left_before r (inside (kind_of name.local) x) inner End)) (left_before r x rest more)
+      ap (λ b. if b then ElementThen name.local (attributes_left r name.local attrs) (left_before r (inside (kind_of name.local) x) inner End) (left_before r x rest more)
       else left_before r (if is_dropped r name then nowhere x else x) inner (left_before r x rest more)) (none_let x name e)
       ∙ at (is_dropped r name) (none_left (nowhere x) inner (left_before r x rest more) refl) (none_left x inner (left_before r x rest more) e) (none_left x rest more e)
     where
@@ -207,21 +155,19 @@ module _ (r : Rules) where
 
       at : IsFitting r false x later → IsFitting r false (inside (kind_of name.local) x) (left_before r (inside (kind_of name.local) x) inner End)
           → (IsFitting r false x later → IsFitting r false x (left_before r x inner later)) → (b : Bool) → is_let r x name ≡ b
-          → IsFitting r false x (if b then ElementThen name.local (attributes_left r name.local attrs) (held (kind_of name.local) (left_before r (inside (kind_of name.local) x) inner End)) later
+          → IsFitting r false x (if b then ElementThen name.local (attributes_left r name.local attrs) (left_before r (inside (kind_of name.local) x) inner End) later
           else left_before r (if is_dropped r name then nowhere x else x) inner later)
       at g i u true e =
           let k = and_both (is_html name) (r.names name.local && fits (kind_of name.local) x) e in
-          let l = and_both (r.names name.local) (fits (kind_of name.local) x) k.1 in
-          let h = held_fits r (kind_of name.local) x (left_before r (inside (kind_of name.local) x) inner End) i in (
+          let l = and_both (r.names name.local) (fits (kind_of name.local) x) k.1 in (
             record {
               fitting = l.1;
-              ready = h.0;
               is_plain = left_plain r name.local attrs;
               readable = left_readable r name.local attrs;
               named = l.0;
               again = left_again r name.local attrs;
             },
-            (h.1, g),
+            (i, g),
           )
       at g i u false e = goes g u (is_dropped r name)
   left_fits x (CommentThen text rest) more f = left_fits x rest more f
@@ -239,11 +185,10 @@ module _ (r : Rules) where
       let later = left_before r x (source_of rest) End in
       let within = left_before r (inside (kind_of name) x) (source_of inner) End in
       let other = left_before r (if is_dropped r (html_name name) then nowhere x else x) (source_of inner) later in
-      ap (λ b. if b && fits (kind_of name) x then ElementThen name (attributes_left r name attrs) (held (kind_of name) within) later else other) f.0.named
-      ∙ ap (λ b. if b then ElementThen name (attributes_left r name attrs) (held (kind_of name) within) later else other) f.0.fitting
-      ∙ ap (λ c. ElementThen name c (held (kind_of name) within) later) f.0.again
-      ∙ ap (λ c. ElementThen name attrs (held (kind_of name) c) later) (all_left false (inside (kind_of name) x) inner f.1.0)
-      ∙ ap (λ c. ElementThen name attrs c later) (held_same r (kind_of name) x inner f.0.ready f.1.0)
+      ap (λ b. if b && fits (kind_of name) x then ElementThen name (attributes_left r name attrs) within later else other) f.0.named
+      ∙ ap (λ b. if b then ElementThen name (attributes_left r name attrs) within later else other) f.0.fitting
+      ∙ ap (λ c. ElementThen name c within later) f.0.again
+      ∙ ap (λ c. ElementThen name attrs c later) (all_left false (inside (kind_of name) x) inner f.1.0)
       ∙ ap (ElementThen name attrs inner) (all_left false x rest f.1.1)
 
   -- a cleaned fragment

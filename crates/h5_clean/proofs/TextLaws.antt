@@ -8,7 +8,7 @@ use Rattle.h5_serialize.proofs.EscapeLaws.{AreAbove, above_encode}
 use Rattle.h5_plain.specs.Plain.{NoNul}
 use Rattle.h5_round_trip.specs.Readable.{IsReadable, NoCr}
 use Rattle.h5_clean.specs.Calls.{is_nothing}
-use Rattle.h5_clean.specs.Texts.{readable, without_marks, without_newlines}
+use Rattle.h5_clean.specs.Texts.{readable, without_marks}
 
 -- ---- a text as it is left
 
@@ -99,18 +99,6 @@ reads_joined t u r s = record {
 }
 
 -- ---- a text without what stood at its front
-
-pub reads_without_newlines : (t : List ℕ) → IsReadable t → IsReadable (without_newlines t)
-reads_without_newlines [] r = r
-reads_without_newlines (b ∷ t) r =
-    cond_both (b == 10) (without_newlines t) (b ∷ t) IsReadable (λ e. reads_without_newlines t (rest e)) (λ e. r)
-  where
-    rest : (b == 10) ≡ true → IsReadable t
-    rest e = record {
-      utf8 = IsUtf8-past_char (b ∷ t) t 10 r.utf8 (ap (λ x. x ∷ t) (eqb-true b 10 e) ∙ ap (λ l. l ++ t) (sym (encode_ascii 10 (omega arith))));
-      no_nul = r.no_nul.1;
-      no_cr = r.no_cr.1;
-    }
 
 abbrev pub is_mark : (a b c : ℕ) → Bool
 is_mark a b c = (a == 0xef) && ((b == 0xbb) && (c == 0xbf))

@@ -6,11 +6,12 @@ use Rattle.h5_serialize.specs.Call.{Call, EndOf, StartOf, TextOf}
 use Rattle.h5_serialize.specs.Standing.{Standing, answer_to, new_standing, standing_after, text_written}
 use Rattle.h5_serialize.specs.declared.fault.SerializeFault.{SerializeFault}
 use Rattle.h5_serialize.specs.declared.options.TraversalScope.TheVariants.{ChildrenOnly}
+use Rattle.h5_plain.specs.Plain.{doubled}
 use Rattle.h5_clean.specs.Kinds.{kind_of}
 use Rattle.h5_clean.specs.Pass.{first_place, is_dropped, is_let}
 use Rattle.h5_clean.specs.Places.{inside, nowhere}
 use Rattle.h5_clean.specs.Policies.{Rules, attributes_left}
-use Rattle.h5_clean.specs.Texts.{text_left, without_marks, without_newlines}
+use Rattle.h5_clean.specs.Texts.{text_left, without_marks}
 use Rattle.h5_clean.specs.declared.cleaner.Front.{Front}
 use Rattle.h5_clean.specs.declared.cleaner.Front.TheVariants as front
 use Rattle.h5_clean.specs.declared.kind.Kind.{Kind}
@@ -22,8 +23,7 @@ use Rattle.h5_clean.specs.declared.place.Place.{Place}
 abbrev pub first_standing : Standing
 first_standing = new_standing (record { scripting_enabled = true; traversal_scope = ChildrenOnly None; create_missing_parent = false })
 
--- the elements of the tree that are open, innermost first; what the next text loses at its front; and how the serializer of HTML
--- stands
+-- the elements of the tree that are open, innermost first; where the next text stands; and how the serializer of HTML stands
 pub record State : Type 0 where
   pub rules : Rules
   pub elements : List OpenElement
@@ -47,11 +47,15 @@ opened r x name =
     if is_let r x name then record { is_written = true; place = inside (kind_of name.local) x }
     else record { is_written = false; place = if is_dropped r name then nowhere x else x }
 
--- what a text loses at its front: nothing, behind the start tag of a `pre` newlines, at the very front U+FEFF
+-- what a text loses there: at the very front U+FEFF
+abbrev pub without_front : Front → List ℕ → List ℕ
+without_front front.Marks text = without_marks text
+without_front _ text = text
+
+-- what becomes of it: behind the start tag of a `pre` a newline at its front is written twice
 abbrev pub behind_front : Front → List ℕ → List ℕ
-behind_front front.Nothing text = text
-behind_front front.Newlines text = without_newlines text
-behind_front front.Marks text = without_marks text
+behind_front front.Newlines text = doubled text
+behind_front f text = without_front f text
 
 abbrev pub front_inside : Kind → Front
 front_inside kind.Preformatted = front.Newlines

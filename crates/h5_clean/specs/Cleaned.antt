@@ -10,7 +10,7 @@ use Rattle.h5_arena.specs.ArenaModel.{ArenaView, arena_choices, forest_seen, fra
 use Rattle.h5_arena.specs.NodeCalls.{walk_of}
 use Rattle.h5_plain.specs.Plain.{Flow, IsPlain, Nodes, nothing_open}
 use Rattle.h5_round_trip.specs.Readable.{CanBeRead}
-use Rattle.h5_round_trip.specs.Written.{written_before}
+use Rattle.h5_round_trip.specs.Written.{written_fragment}
 use Rattle.h5_driver.specs.Options.{default_options}
 use Rattle.h5_driver.specs.PlainFragments.{FragmentStands, IsFragmentText}
 use Rattle.h5_driver.specs.StandardTexts.{ParsesFragment}
@@ -51,7 +51,7 @@ pub record IsCleaned (r : Rules) (html out : List ℕ) : Type 0 where
 pub record WritesCleaned (r : Rules) (calls : List Call) (before after : Option (List ℕ)) : Type 0 where
   pub source : Source
   pub told : calls_before source [] ≡ calls
-  pub written : Appends before after (written_before (cleaned r source) [])
+  pub written : Appends before after (written_fragment (cleaned r source))
 
 -- a fragment of which nothing is to be taken
 pub record IsClean (r : Rules) (nodes : Nodes) : Type 0 where

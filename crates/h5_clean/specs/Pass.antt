@@ -8,9 +8,7 @@ use Rattle.h5_clean.specs.Places.{fits, inside, nowhere}
 use Rattle.h5_clean.specs.Policies.{Rules, attributes_left}
 use Rattle.h5_clean.specs.Source as source
 use Rattle.h5_clean.specs.Source.{CommentThen, DoctypeThen, Done, InstructionThen, Source}
-use Rattle.h5_clean.specs.Texts.{text_left, without_marks, without_newlines}
-use Rattle.h5_clean.specs.declared.kind.Kind.{Kind}
-use Rattle.h5_clean.specs.declared.kind.Kind.TheVariants as kind
+use Rattle.h5_clean.specs.Texts.{text_left, without_marks}
 use Rattle.h5_clean.specs.declared.place.Place.{Place}
 use Rattle.h5_clean.specs.declared.place.Spot.TheVariants as spot
 
@@ -31,11 +29,6 @@ abbrev pub with_first : (List ℕ → List ℕ) → Nodes → Nodes
 with_first change (TextThen text rest) = text_then (change text) rest
 with_first change ns = ns
 
--- what such an element holds: a reader takes the newline at the front of a `pre`
-abbrev pub held : Kind → Nodes → Nodes
-held kind.Preformatted ns = with_first without_newlines ns
-held _ ns = ns
-
 -- an element of HTML that the rules name, and that fits here
 abbrev pub is_let : Rules → Place → QualName → Bool
 is_let r x name = is_html name && (r.names name.local && fits (kind_of name.local) x)
@@ -50,7 +43,7 @@ left_before r x Done more = more
 left_before r x (source.TextThen text rest) more = put_text (text_left x.spot text) (left_before r x rest more)
 left_before r x (source.ElementThen name attrs inner rest) more =
     if is_let r x name
-    then ElementThen name.local (attributes_left r name.local attrs) (held (kind_of name.local) (left_before r (inside (kind_of name.local) x) inner End)) (left_before r x rest more)
+    then ElementThen name.local (attributes_left r name.local attrs) (left_before r (inside (kind_of name.local) x) inner End) (left_before r x rest more)
     else left_before r (if is_dropped r name then nowhere x else x) inner (left_before r x rest more)
 left_before r x (CommentThen text rest) more = left_before r x rest more
 left_before r x (DoctypeThen name rest) more = left_before r x rest more

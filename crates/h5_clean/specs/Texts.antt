@@ -20,11 +20,6 @@ may_stand _ t = all_blank t
 abbrev pub text_left : Spot → List ℕ → List ℕ
 text_left s t = if is_utf8 t && may_stand s (readable t) then readable t else []
 
--- a text without the newlines at its front
-abbrev pub without_newlines : List ℕ → List ℕ
-without_newlines [] = []
-without_newlines (b ∷ t) = if b == 10 then without_newlines t else b ∷ t
-
 -- a text without the U+FEFF at its front
 abbrev pub without_marks : List ℕ → List ℕ
 without_marks (a ∷ b ∷ c ∷ t) = if (a == 0xef) && ((b == 0xbb) && (c == 0xbf)) then without_marks t else a ∷ b ∷ c ∷ t

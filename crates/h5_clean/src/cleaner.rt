@@ -3,8 +3,10 @@ ghost use Rattle.std.specs.Prelude.{◌≡◌, ◌&&◌, ℕ, [], List, None, If
 ghost use Rattle.std.specs.Str.{is_utf8};
 ghost use Rattle.h5_serialize.specs.Call.{TextOf};
 ghost use Rattle.h5_serialize.specs.Names.{is_html};
+ghost use Rattle.h5_serialize.specs.Standing.{answer_to, standing_after, text_written};
 ghost use Rattle.h5_serialize.specs.Walk.{Makes};
-ghost use Rattle.h5_clean.specs.Calls.{after_call, answer_of, behind_front, first_state, front_inside, place_among, text_of};
+ghost use Rattle.h5_plain.specs.Plain.{doubled};
+ghost use Rattle.h5_clean.specs.Calls.{after_call, answer_of, first_state, front_inside, place_among, text_of, without_front};
 ghost use Rattle.h5_clean.specs.Pass.{is_dropped};
 ghost use Rattle.h5_clean.specs.Places.{fits, nowhere};
 ghost use Rattle.h5_clean.specs.Texts.{readable};
@@ -14,35 +16,48 @@ use super::elements::{OpenElement, OpenElements};
 use super::kind::{Kind, kind_of};
 use super::place::{Place, Spot};
 use super::policy::Policy;
-use super::texts::{is_readable, may_stand, readable, without_marks, without_newlines};
+use super::texts::{is_readable, may_stand, readable, without_marks};
 use h5_names::QualName;
 use h5_serialize::laws::starts_have_the_attributes_of_their_slice;
 use h5_serialize::{AttrRef, HtmlSerializer, SerializeFault, SerializeOpts, Serializer};
 use std::alloc::Global;
 use std::io::Write;
 
-/// What the next text loses at its front.
+/// Where the next text stands.
 #[derive(Clone, Copy, Debug, PartialEq, Eq)]
 pub enum Front {
     Nothing,
-    /// Behind the start tag of a `pre`, of which a reader takes a newline.
+    /// Behind the start tag of a `pre`, of which a reader takes a newline: one at the front of the text is written twice.
     Newlines,
-    /// At the very front, of which a reader takes a U+FEFF.
+    /// At the very front, of which a reader takes a U+FEFF: the text loses it.
     Marks,
 }
 
 // A text without what it loses there.
-fn behind_front(front: Front, text: &str) -> &str
-    ensures { result.now ≡ behind_front front text.now }
+fn without_front(front: Front, text: &str) -> &str
+    ensures { result.now ≡ without_front front text.now }
 {
     match front {
-        Front::Nothing => text,
-        Front::Newlines => without_newlines(text),
+        Front::Nothing | Front::Newlines => text,
         Front::Marks => without_marks(text),
     }
 }
 
-// What a text loses in an element of this kind.
+// Writes a text with a newline at its front twice.
+fn write_doubled<Wr: Write + Drop>(
+    html: &mut HtmlSerializer<Wr>,
+    text: &str,
+) -> Result<(), SerializeFault>
+    ensures { Makes answer_to standing_after text_written (λ before called call fault after written. Unit {0}) (TextOf (doubled text.now))
+        html.old.standing html.old.contents result html.new.standing html.new.contents }
+{
+    if text.starts_with('\n') {
+        html.write_text("\n")?;
+    }
+    html.write_text(text)
+}
+
+// Where the first text in an element of this kind stands.
 fn front_inside(kind: Kind) -> Front
     ensures { result ≡ front_inside kind }
 {
@@ -129,12 +144,16 @@ impl<'a, P: Policy, Wr: Write + Drop> Cleaner<'a, P, Wr> {
         if !may_stand(self.place().spot, text) {
             return Ok(());
         }
-        let left = behind_front(self.front, text);
+        let front = self.front;
+        let left = without_front(front, text);
         if left.is_empty() {
             return Ok(());
         }
         self.front = Front::Nothing;
-        self.html.write_text(left)
+        match front {
+            Front::Newlines => write_doubled(&mut self.html, left),
+            Front::Nothing | Front::Marks => self.html.write_text(left),
+        }
     }
 }
 

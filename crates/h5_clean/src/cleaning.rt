@@ -5,7 +5,7 @@ ghost use Rattle.h5_serialize.specs.declared.options.TraversalScope.TheVariants.
 ghost use Rattle.h5_arena.specs.NodeCalls.{walk_of};
 ghost use Rattle.h5_arena.specs.ArenaModel.{arena_choices, forest_seen, fragment_root, new_arena, place, seen_of};
 ghost use Rattle.h5_plain.specs.Plain.{Nodes};
-ghost use Rattle.h5_round_trip.specs.Written.{written_before};
+ghost use Rattle.h5_round_trip.specs.Written.{written_fragment};
 ghost use Rattle.h5_tree_builder.specs.Held.{building};
 ghost use Rattle.h5_driver.specs.Fragments.{first_in_new, opts_in_context};
 ghost use Rattle.h5_driver.specs.Options.{default_options};
@@ -132,7 +132,7 @@ pub fn clean<P: Policy>(alloc: Global, html: &str, policy: &P) -> Result<String,
     ensures cleaned { IfOk result (λ out. IsCleaned (P.rules policy.now) html.now (string_bytes out)) }
     ensures again { IfOk result (λ out. (before : List ℕ) → IsCleaned (P.rules policy.now) before html.now → string_bytes out ≡ html.now) }
     ensures whole { IfOk result (λ out. (nodes : Nodes) → IsClean (P.rules policy.now) nodes → BuildsFragment html.now nodes
-        → string_bytes out ≡ written_before nodes []) }
+        → string_bytes out ≡ written_fragment nodes) }
 {
     let out = clean_text(alloc, html, policy)?;
     a_cleaned_text_stays();

@@ -14,7 +14,7 @@ ghost use Rattle.h5_standard.specs.Mark.{behind_mark};
 ghost use Rattle.h5_serialize.specs.Walk.{text_of_each};
 ghost use Rattle.h5_plain.specs.Plain.{ArePlain, Flow, IsPlain, Nodes, nothing_open};
 ghost use Rattle.h5_round_trip.specs.Readable.{AreReadable, CanBeRead, IsReadable};
-ghost use Rattle.h5_round_trip.specs.Written.{written_before};
+ghost use Rattle.h5_round_trip.specs.Written.{written_fragment};
 ghost use Rattle.h5_clean.specs.Calls.{after_call, first_state, text_of};
 ghost use Rattle.h5_clean.specs.Pass.{AllLet, IsWithin, cleaned, with_first};
 ghost use Rattle.h5_clean.specs.Policies.{Rules, attributes_left};
@@ -64,7 +64,7 @@ pub fn cleaning_again_takes_nothing()
 /// What a cleaner writes for the calls of a tree is the text of what is left of it.
 pub fn what_is_left_is_written()
     ensures { (rules : Rules) (source : Source) → text_of_each after_call text_of (first_state rules) (calls_before source [])
-        ≡ written_before (cleaned rules source) [] }
+        ≡ written_fragment (cleaned rules source) }
 {}
 
 /// Calls tell of one tree.
@@ -75,7 +75,7 @@ pub fn calls_tell_of_one_tree()
 /// The text of a plain fragment whose first text doesn't begin with U+FEFF doesn't begin with it.
 pub fn texts_of_fragments_are_unmarked()
     ensures { (nodes : Nodes) → IsPlain true (Flow false nothing_open) nodes → CanBeRead nodes → with_first without_marks nodes ≡ nodes
-        → behind_mark true (written_before nodes []) ≡ written_before nodes [] }
+        → behind_mark true (written_fragment nodes) ≡ written_fragment nodes }
 {}
 
 /// What is left of a text is one text.
@@ -106,7 +106,7 @@ pub fn a_cleaned_text_stays()
 /// Of a text that is read as a fragment of which nothing is to be taken, all is left.
 pub fn a_clean_text_stays()
     ensures { (rules : Rules) (html out : List ℕ) (nodes : Nodes) → IsClean rules nodes → BuildsFragment html nodes
-        → IsCleaned rules html out → out ≡ written_before nodes [] }
+        → IsCleaned rules html out → out ≡ written_fragment nodes }
 {
     calls_stand_around_those_of_children();
 }

@@ -1,6 +1,6 @@
 //! Texts and values as they are left.
 ghost use Rattle.std.specs.Prelude.{◌≡◌, true, IfOk, string_bytes};
-ghost use Rattle.h5_clean.specs.Texts.{may_stand, readable, without_marks, without_newlines};
+ghost use Rattle.h5_clean.specs.Texts.{may_stand, readable, without_marks};
 
 use super::place::Spot;
 use h5_state::is_blank_text;
@@ -38,13 +38,6 @@ pub fn may_stand(spot: Spot, text: &str) -> bool
         Spot::Nowhere => false,
         Spot::InTable | Spot::InColumns | Spot::InSection | Spot::InRow => is_blank_text(text),
     }
-}
-
-/// A text without the newlines at its front.
-pub fn without_newlines(text: &str) -> &str
-    ensures { result.now ≡ without_newlines text.now }
-{
-    text.trim_start_matches('\n')
 }
 
 /// A text without the U+FEFF at its front.
