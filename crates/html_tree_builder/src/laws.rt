@@ -9,6 +9,7 @@ ghost use Rattle.h5_arena.specs.NodeCalls.{walk_of};
 ghost use Rattle.h5_plain.specs.Plain.{PlainDocument};
 ghost use Rattle.h5_plain.specs.Rebuilding.{DocumentStands, HoldsDocument};
 ghost use Rattle.h5_round_trip.specs.Readable.{IsReadableDocument};
+ghost use Rattle.h5_round_trip.specs.Written.{KeepsNewlines};
 ghost use Rattle.h5_driver.specs.Parsing.{Parsing, ProcessedAll, joined, text_of, view_of};
 ghost use Rattle.h5_driver.specs.PlainDocuments.{ComesBack, IsNew};
 ghost use Rattle.h5_driver.specs.Reading.{Parses};
@@ -30,13 +31,14 @@ pub use h5_round_trip::laws::{
     values_are_read_back,
 };
 
-/// What is written of a plain document comes back, whichever reader reads it. Where one that can be read stands in a forest, and
-/// what a serializer writes of it comes in pieces, whatever they are, to a parser of documents with the default options, over a
-/// sink that holds its document alone, that takes the pieces by `process` and then `finish`, that document stands in what the
-/// sink tells, in no quirks; and what is written of that tree is the same text.
+/// What is written of a plain document comes back, whichever reader reads it, if no `pre` of it begins with a newline: a reader drops
+/// one there, and a serializer writes it once. Where one that can be read stands in a forest, and what a serializer writes of it
+/// comes in pieces, whatever they are, to a parser of documents with the default options, over a sink that holds its document
+/// alone, that takes the pieces by `process` and then `finish`, that document stands in what the sink tells, in no quirks; and what
+/// is written of that tree is the same text.
 pub fn written_documents_come_back<R: Reader>()
     ensures { (f : Forest) (d : PlainDocument) (opts : SerializeOpts) (pieces : List (List ℕ)) (first last : Parsing R) (seen told : Seen) →
-        IsForest f → DocumentStands f d → IsReadableDocument d
+        IsForest f → DocumentStands f d → KeepsNewlines d → IsReadableDocument d
         → opts.traversal_scope ≡ ChildrenOnly None → opts.create_missing_parent ≡ false
         → joined pieces ≡ walk_text (new_standing opts) (walk_of f f.document opts.traversal_scope)
         → IsNew R.first (text_of R.Reader first) (view_of R.Reader first) first.waiting seen → HoldsDocument seen.forest
