@@ -1,3 +1,4 @@
+mod KeptNewlineLaws
 pub mod CharLaws
 pub mod NameLaws
 pub mod AttributeLaws
