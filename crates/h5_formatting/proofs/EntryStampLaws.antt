@@ -1,5 +1,5 @@
 -- The stamps of entries, where some come, move or leave.
-use Rattle.std.proofs.Common.{◌≡◌, ◌+◌, ◌<◌, ◌≤◌, ℕ, suc, List, [], ◌∷◌, ◌++◌, drop, get_or, length, map, set, take, ◌⊎◌, inl, inr, refl, ap, sym, subst, ◌∙◌, arith}
+use Rattle.std.proofs.Common.{◌≡◌, ◌<◌, ◌≤◌, ℕ, suc, List, [], ◌∷◌, ◌++◌, drop, get_or, length, set, take, ◌⊎◌, inl, inr, refl, sym, subst}
 use Rattle.std.specs.List.{All, insert, remove}
 use Rattle.std.proofs.Math.Seq.{take-append_seam}
 use Rattle.std.proofs.lemmas.List.{get_or_default}
@@ -10,7 +10,7 @@ use Rattle.h5_rules.specs.formatting.FormattingList.{nodes_of}
 use Rattle.h5_rules.specs.stack.Order.{IsIn}
 use Rattle.h5_token.specs.TokenText.{tag_text}
 use Rattle.h5_list.specs.Listed.{entries_of, entry_of, with_handle}
-use Rattle.h5_state.specs.Stamps.{AreStamped, IsAbove, IsStamped, MayStandBelow, NoneLower, OpenStamp, stamps_of}
+use Rattle.h5_state.specs.Stamps.{AreStamped, IsAbove, IsStamped, MayStandBelow, NoneLower, stamps_of}
 use Rattle.h5_state.specs.View.{listed_node}
 use Rattle.h5_state.specs.declared.open_element.Listed.{Listed}
 use Rattle.h5_state.specs.declared.open_element.OpenElements.{OpenElements}

@@ -16,4 +16,5 @@ pub mod RelistsLaws
 pub mod RenewLaws
 pub mod RoundLaws
 pub mod StackPushLaws
+pub mod StayLaws
 pub mod ViewLaws

@@ -75,6 +75,10 @@ module _ {H : Type 0} (node : H → ℕ) where
       ap (entry_at i) (entries_cut xs i x h e)
       ∙ entry_at_cut i (entries_of node (drop (i + 1) xs)) (entry_of node x) (entries_of node (take i xs)) (older_many xs i h)
 
+  -- the same where it is known what it is
+  pub entry_known : (xs : List (FormatEntry H)) (i : ℕ) (x y : FormatEntry H) → i < length (entries_of node xs) → x ≡ get_or xs i x → x ≡ y → entry_at i (entries_of node xs) ≡ entry_of node y
+  entry_known xs i x y h e is = entry_there xs i x (omega (arith, h, length_entries xs)) e ∙ ap (entry_of node) is
+
   -- it is removed
   pub entry_removed : (xs ys : List (FormatEntry H)) (i : ℕ) (x : FormatEntry H) → i < length xs → x ≡ get_or xs i x → ys ≡ take i xs ++ drop (i + 1) xs → entries_of node ys ≡ without_place i (entries_of node xs)
   entry_removed xs ys i x h e d =
@@ -102,6 +106,14 @@ module _ {H : Type 0} (node : H → ℕ) where
       ∙ set_cut xs i y h
       ∙ ap (λ z. entries_of node (drop (i + 1) xs) ++ z ∷ entries_of node (take i xs)) same
       ∙ sym (ap (with_node_at i n) (entries_cut xs i x h e) ∙ with_node_at_cut i n (entries_of node (drop (i + 1) xs)) (entry_of node x) (entries_of node (take i xs)) (older_many xs i h))
+
+  -- an entry gives way to one that is seen alike
+  pub entry_alike : (xs ys : List (FormatEntry H)) (i : ℕ) (x y : FormatEntry H) → i < length xs → x ≡ get_or xs i x → ys ≡ set xs i y → entry_of node y ≡ entry_of node x → entries_of node ys ≡ entries_of node xs
+  entry_alike xs ys i x y h e s same =
+      ap (entries_of node) s
+      ∙ set_cut xs i y h
+      ∙ ap (λ z. entries_of node (drop (i + 1) xs) ++ z ∷ entries_of node (take i xs)) same
+      ∙ sym (entries_cut xs i x h e)
 
 -- something holds of each entry, also of one whose element gave way
 pub each_with_node : (P : ℕ → TagText → Type 0) (i n : ℕ) (l : List Entry) → ((m : ℕ) (t : TagText) → entry_at i l ≡ ElementEntry m t → P n t) → EachEntry P l → EachEntry P (with_node_at i n l)

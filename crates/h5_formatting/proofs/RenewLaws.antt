@@ -1,7 +1,8 @@
 -- Elements that are made anew one by one, each at the place of its entry.
-use Rattle.std.proofs.Common.{◌≡◌, ◌+◌, ◌<◌, ◌≤◌, ℕ, suc, Result, Ok, Err, OnOk, OnErr, List, [], ◌∷◌, ◌++◌, length, length-append, IsTrue, refl, ap, sym, subst, ◌∙◌, arith}
+use Rattle.std.proofs.Common.{◌≡◌, ◌+◌, ◌<◌, ◌≤◌, ℕ, suc, Result, Ok, Err, OnOk, OnErr, List, [], ◌∷◌, ◌++◌, get_or, length, length-append, IsTrue, refl, ap, sym, subst, ◌∙◌, arith}
 use Rattle.std.proofs.lemmas.List.{append-nil, append_assoc}
-use Rattle.h5_token.specs.TokenText.{TagText}
+use Rattle.h5_token.specs.TokenText.{TagText, tag_text}
+use Rattle.h5_token.specs.declared.tag.Tag.{Tag}
 use Rattle.h5_interface.specs.SinkChoices.{SinkChoices}
 use Rattle.h5_interface.specs.declared.sink.TreeSink.{Ghosts}
 use Rattle.h5_tables.specs.TagSets.{formatting_names, is_one_of}
@@ -16,12 +17,19 @@ use Rattle.h5_rules.specs.insertion.Place.{appropriate_place}
 use Rattle.h5_rules.specs.Sound.{Sound}
 use Rattle.h5_rules.specs.World.{World, current, names_of}
 use Rattle.h5_rules.proofs.changes.FormattingLaws.{all_listed, kind-insert_for, made_nodes, reconstruct_as_made, sound_insert_for}
-use Rattle.h5_state.specs.Stamps.{AreStamped}
+use Rattle.h5_tables.specs.declared.entry.FormatEntry.{FormatEntry}
+use Rattle.h5_tables.specs.declared.entry.FormatEntry.TheVariants.{Element}
+use Rattle.h5_list.specs.Listed.{IsHandedOver, entries_of, with_handle}
+use Rattle.h5_state.specs.Stamps.{AreStamped, IsAbove, IsStamped, stamps_of}
 use Rattle.h5_state.specs.Steps.{IsSound, world_of}
 use Rattle.h5_state.specs.Summaries.{IsKept}
+use Rattle.h5_state.specs.View.{listed_node, world}
+use Rattle.h5_state.specs.declared.open_element.Listed.{Listed}
 use Rattle.h5_state.specs.declared.state.State.{State}
-use Rattle.h5_formatting.specs.EntryPlaces.{entry_at, renewed, renewed_by, with_node_at}
-use Rattle.h5_formatting.proofs.ListLaws.{each_entry_at, each_with_node, entry_at_cut, with_node_at_cut}
+use Rattle.h5_state.proofs.StampLaws.{is_stamped}
+use Rattle.h5_formatting.specs.EntryPlaces.{entry_at, entry_for, renewed, renewed_by, with_node_at}
+use Rattle.h5_formatting.proofs.EntryStampLaws.{stamped_entry_set, stamped_handed}
+use Rattle.h5_formatting.proofs.ListLaws.{each_entry_at, each_with_node, entry_alike, entry_at_cut, entry_handed, entry_known, entry_there, length_entries, with_node_at_cut}
 use Rattle.h5_rules.proofs.entries.WholeRoundLaws.{no_marker_back}
 
 -- a world with another list
@@ -38,6 +46,32 @@ sound_with_list law sink old new l e h listed formatting stamped k =
       kept = subst (λ open_elems. IsKept open_elems (names_of (world_of law sink new))) (sym h) (subst (λ (v : World). IsKept old.open_elems (names_of v)) (sym e) k.kept);
       stamped = subst (λ open_elems. AreStamped law.node open_elems new.active_formatting) (sym h) stamped;
     }
+
+-- the entry at a place is that of the same element, with the same stamp
+module _ {S H O : Type 0} (law : Ghosts S H O) (sink : S) (old : State H) (place : ℕ) (listed given : Listed H) (tag : Tag) (inside : place < length (world_of law sink old).formatting)
+    (was : FormatEntry (Listed H)) (found : was ≡ get_or old.active_formatting place was) (is : was ≡ Element listed tag) (same : law.node given.handle ≡ law.node listed.handle)
+    (entries : List (FormatEntry (Listed H))) (over : IsHandedOver given place old.active_formatting entries) where
+  pub relisted_seen : entries_of (listed_node law.node) entries ≡ (world_of law sink old).formatting
+  unfolding world
+  relisted_seen =
+      let seen = listed_node law.node in
+      let items = old.active_formatting in
+      let here : place < length items = omega (arith, inside, length_entries seen items) in
+      let known = sym (entry_there seen items place over.entry here over.was) ∙ entry_known seen items place was (Element listed tag) inside found is in
+      entry_alike seen items entries place over.entry (with_handle given over.entry) here over.was over.is
+      (entry_handed seen given over.entry ∙ ap (entry_for (law.node given.handle)) known ∙ ap (λ m. ElementEntry m (tag_text tag)) same ∙ sym known)
+
+  pub relisted_stamped : given.stamp ≡ listed.stamp → AreStamped law.node old.open_elems old.active_formatting → AreStamped law.node old.open_elems entries
+  unfolding world
+  relisted_stamped stamp stamped =
+      let opens = stamps_of law.node old.open_elems in
+      let last = old.open_elems.last in
+      let items = old.active_formatting in
+      let here : place < length items = omega (arith, inside, length_entries (listed_node law.node) items) in
+      let entry : IsStamped law.node opens last (Element listed tag) = subst (λ e. IsStamped law.node opens last e) (sym found ∙ is) (is_stamped law.node old.open_elems items place was here stamped) in
+      let above = subst (λ n. IsAbove n given.stamp opens) (sym same) (subst (λ m. IsAbove (law.node listed.handle) m opens) (sym stamp) entry.1) in
+      subst (AreStamped law.node old.open_elems) (sym over.is)
+      (stamped_entry_set law.node old.open_elems items place (with_handle given over.entry) (stamped_handed law.node old.open_elems given over.entry (subst (λ m. m ≤ last) (sym stamp) entry.0) above) stamped)
 
 -- the element at a place is made anew: the one that became the current node
 abbrev pub with_current_at : ℕ → World → World

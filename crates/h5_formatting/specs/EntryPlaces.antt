@@ -1,8 +1,9 @@
 -- The list of active formatting elements as the code has it, by places that are counted from its oldest entry.
-use Rattle.std.specs.Prelude.{ℕ, ◌==◌, Bool, false, if◌then◌else◌, List, [], ◌∷◌, length}
+use Rattle.std.specs.Prelude.{ℕ, ◌==◌, Bool, false, true, if◌then◌else◌, List, [], ◌∷◌, length}
 use Rattle.h5_interface.specs.SinkChoices.{SinkChoices}
 use Rattle.h5_rules.specs.formatting.FormattingList.{Entry, ElementEntry, MarkerEntry}
 use Rattle.h5_rules.specs.formatting.Formatting.{insert_for}
+use Rattle.h5_rules.specs.stack.Order.{is_in}
 use Rattle.h5_rules.specs.World.{World, current}
 
 -- the entry at a place, below which so many are older; a marker, where there is none
@@ -14,6 +15,12 @@ entry_at place (e ∷ l) = if length l == place then e else entry_at place l
 abbrev pub is_entry_of : ℕ → Entry → Bool
 is_entry_of n MarkerEntry = false
 is_entry_of n (ElementEntry m tag) = n == m
+
+-- whether an entry stays where elements are made anew: a marker does, and that of an element which is open (`s`: the open
+-- elements)
+abbrev pub is_staying : List ℕ → Entry → Bool
+is_staying s MarkerEntry = true
+is_staying s (ElementEntry n tag) = is_in n s
 
 -- an entry for another element
 abbrev pub entry_for : ℕ → Entry → Entry

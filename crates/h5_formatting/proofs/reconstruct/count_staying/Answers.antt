@@ -1,32 +1,23 @@
-use Rattle.std.proofs.Common.{◌-◌, ap, arith, subst, sym, ◌∙◌}
-use Rattle.h5_token.specs.TokenText.{tag_text}
-use Rattle.h5_rules.specs.formatting.FormattingNames.{IsOfTag, html_name}
-use Rattle.h5_state.specs.View.{listed_node, world}
-use Rattle.h5_list.specs.Listed.{entry_of}
-use Rattle.h5_formatting.proofs.ListLaws.{each_entry_at, entry_there}
-use Rattle.h5_tables.specs.declared.entry.FormatEntry.TheVariants.{Element}
-use Rattle.h5_state.specs.Stamps.{IsStamped, stamps_of}
-use Rattle.h5_state.proofs.StampLaws.{is_stamped}
+use Rattle.std.proofs.Common.{◌-◌, ap, sym, ◌∙◌}
+use Rattle.h5_rules.specs.World.{World}
+use Rattle.h5_state.specs.View.{world}
+use Rattle.h5_formatting.specs.EntryPlaces.{entry_at, is_staying}
+use Rattle.h5_formatting.proofs.StayLaws.{rest_found, rest_passed}
 use Rattle.h5_formatting.proofs.reconstruct.count_staying.Goals as goal
 
--- a listed element is an element
-pub find_listed-requires-clause-element : goal.find_listed-requires-clause-element
-unfolding world
-find_listed-requires-clause-element g c =
-    let node = g.S.TreeSink.node in
-    let f = (g.S.TreeSink.sees c.args.sink.now).forest in
-    let items = c.args.state.now.active_formatting in
-    let place = c.rewind.place - 1 in
-    let there = entry_there (listed_node node) items place c.get.result.now (omega (arith, c.rewind-test.true, c.rewind.invariant.place)) c.get.ensures ∙ ap (entry_of (listed_node node)) c.in-Element.is in
-    (html_name (tag_text c.in-Element.field-1).name, each_entry_at (IsOfTag f) place (world g.S.TreeSink.sees node c.args.sink.now c.args.state.now).formatting (node c.in-Element.listed.handle) (tag_text c.in-Element.field-1) c.requires.sound.listed there)
+pub returns-then-stays_at-clause-count : goal.returns-then-stays_at-clause-count
+returns-then-stays_at-clause-count g c =
+    let w = world g.S.TreeSink.sees g.S.TreeSink.node c.args.sink.now c.args.state.now in
+    let asked = ap (λ (v : World). is_staying v.stack (entry_at (c.rewind.place - 1) v.formatting)) c.rewind.invariant.world in
+    rest_found w.stack w.formatting c.rewind.place c.rewind.invariant.below c.rewind-test.true (sym (c.stays_at.ensures.stays ∙ asked) ∙ c.if-stays_at.true)
 
-pub find_listed-requires-clause-above : goal.find_listed-requires-clause-above
-find_listed-requires-clause-above g c =
-    let node = g.S.TreeSink.node in
-    let open_elems = c.args.state.now.open_elems in
-    let items = c.args.state.now.active_formatting in
-    let place = c.rewind.place - 1 in
-    let entry : IsStamped node (stamps_of node open_elems) open_elems.last (Element c.in-Element.listed c.in-Element.field-1) =
-    subst (λ e. IsStamped node (stamps_of node open_elems) open_elems.last e) (sym c.get.ensures ∙ c.in-Element.is)
-    (is_stamped node open_elems items place c.get.result.now (omega (arith, c.rewind-test.true, c.rewind.invariant.place)) c.requires.stamped) in
-    entry.1
+pub rewind-preserved : goal.rewind-preserved
+rewind-preserved g c =
+    let w = world g.S.TreeSink.sees g.S.TreeSink.node c.args.sink.now c.args.state.now in
+    let asked = ap (λ (v : World). is_staying v.stack (entry_at (c.rewind.place - 1) v.formatting)) c.rewind.invariant.world in
+    record {
+      world = c.stays_at.ensures.world ∙ c.rewind.invariant.world;
+      stack = c.stays_at.ensures.stack ∙ c.rewind.invariant.stack;
+      sound = c.stays_at.ensures.sound;
+      below = rest_passed w.stack w.formatting c.rewind.place c.rewind.invariant.below c.rewind-test.true (sym (c.stays_at.ensures.stays ∙ asked) ∙ c.if-stays_at.false);
+    }

@@ -1,16 +1,18 @@
-use Rattle.std.proofs.Common.{◌≡◌, ◌≤◌, length, take}
-use Rattle.h5_rules.specs.formatting.FormattingList.{open_rest}
-use Rattle.h5_state.specs.View.{listed_node, world}
-use Rattle.h5_list.specs.Listed.{entries_of}
+use Rattle.std.proofs.Common.{◌≡◌}
+use Rattle.h5_state.specs.Steps.{IsSound}
+use Rattle.h5_state.specs.View.{world}
+use Rattle.h5_formatting.proofs.StayLaws.{RestBelow}
 use Rattle.h5_formatting.proofs.reconstruct.count_staying.Given as goal
 
--- what is left gives what was to come at first
+-- the world is what it was, and no entry from this place on stays
 abbrev pub invariant-rewind : goal.invariant-rewind
 invariant-rewind g l =
-    let w = world g.S.TreeSink.sees g.S.TreeSink.node l.sink l.state in
+    let w = world g.S.TreeSink.sees g.S.TreeSink.node l.fn.sink l.fn.state in
     record {
-      place : l.place ≤ length l.state.active_formatting;
-      left : open_rest w.stack (entries_of (listed_node g.S.TreeSink.node) (take l.place l.state.active_formatting)) ≡ open_rest w.stack w.formatting;
+      world : world g.S.TreeSink.sees g.S.TreeSink.node l.sink l.state ≡ w;
+      stack : l.state.open_elems ≡ l.fn.state.open_elems;
+      sound : IsSound g.S.TreeSink l.sink l.state;
+      below : RestBelow w.stack w.formatting l.place;
     }
 
 abbrev pub decreases-rewind : goal.decreases-rewind
