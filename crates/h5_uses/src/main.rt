@@ -15,7 +15,7 @@ use page::{page, page_in_chunks};
 use serializer::count_elements;
 use std::io::Write;
 use tokens::tokens_without_a_tree;
-use tree::{edited, headings, title};
+use tree::{edited, headings, reworded, title};
 
 // Prints a heading and HTML.
 fn print_html(rt: &HostRuntime, heading: &str, html: &[u8]) -> anyhow::Result<()> {
@@ -78,6 +78,8 @@ fn print_trees(rt: &HostRuntime) -> anyhow::Result<()> {
         "<p>a<script>x</script>b <a href=u rel=v>c</a> <a>d</a>",
     )?;
     println!(rt; "edited: {html}")?;
+    let line = reworded(rt.alloc(), "<p>x <em class=c>a<b>b</b></em><i>c</i>")?;
+    println!(rt; "reworded: {line}")?;
     Ok(())
 }
 

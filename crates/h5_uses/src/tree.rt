@@ -1,6 +1,7 @@
 //! What stands in a tree, and how it is changed.
 use html_tree_builder::interface::create_element;
 use html_tree_builder::select::Selector;
+use html_tree_builder::serialize::escape_text;
 use html_tree_builder::{
     Arena, LocalName, Namespace, NodeId, NodeOrText, ParseOpts, QualName, namespaces,
     parse_document,
@@ -59,6 +60,47 @@ fn tidy(alloc: Global, arena: &mut Arena) -> anyhow::Result<()> {
         }
     }
     Ok(())
+}
+
+// Each `em` gets another text and loses its class, and a text comes before it.
+fn reword(alloc: Global, arena: &mut Arena) -> anyhow::Result<()> {
+    for id in found(alloc, arena, "em")? {
+        if arena.holds(id) {
+            arena.set_text(id, "two")?;
+        }
+        if arena.holds(id) {
+            arena.remove_attr(id, "class");
+        }
+        let text = String::from_str(alloc, "one & ")?;
+        arena.try_insert_before(id, NodeOrText::AppendText(text))?;
+    }
+    Ok(())
+}
+
+// What stands around an element: how many ancestors and siblings it has, and what it holds.
+fn around(alloc: Global, arena: &Arena, id: NodeId) -> anyhow::Result<String> {
+    if !arena.holds(id) {
+        return Ok(String::new(alloc));
+    }
+    let ancestors = arena.ancestors(id)?.len();
+    let (before, behind) = (
+        arena.siblings_before(id).len(),
+        arena.siblings_behind(id).len(),
+    );
+    let inner = escape_text(alloc, arena.inner_html(id)?.as_str())?;
+    let line = format!(in alloc; "{ancestors} above, {before} before, {behind} behind: {inner}")?;
+    Ok(line)
+}
+
+/// What stands around the first `em` of a page whose `em` were reworded.
+pub fn reworded(alloc: Global, text: &str) -> anyhow::Result<String> {
+    let parser = parse_document(alloc, Arena::new(alloc)?, ParseOpts::default());
+    let mut arena = parser.one(text)?;
+    reword(alloc, &mut arena)?;
+    for id in found(alloc, &arena, "em")? {
+        return around(alloc, &arena, id);
+    }
+    Ok(String::new(alloc))
 }
 
 // A new `p` with a text, as the last child of a node.

@@ -2,14 +2,16 @@
 use super::command::What;
 use super::fault::Fault;
 use super::select::{Selection, put_selected};
-use h5_page::{links_of, text_of};
-use h5_print::{print_quirks, write_escapes, write_tree};
+use h5_listing::{Form, Item, about, all_links, base_of, headings, links};
+use h5_page::text_of;
+use h5_print::{print_quirks, write_tree};
 use html_tree_builder::arena::NodeRef;
 use html_tree_builder::clean::{AllowList, TextPolicy, clean_tree};
 use html_tree_builder::serialize::{SerializeFault, serialize};
 use html_tree_builder::{Arena, SerializeOpts};
 use std::alloc::{AllocError, Global};
 use std::io::{ErrorKind, Write};
+use url::Url;
 
 /// What is asked of each page.
 #[derive(Clone, Copy)]
@@ -22,6 +24,12 @@ pub struct Asked<'a> {
     pub policy: Option<&'a AllowList>,
     /// What is selected of it.
     pub selection: Option<Selection<'a>>,
+    /// Whether items are lines or objects of JSON.
+    pub form: Form,
+    /// Whether more than links is listed, where links are.
+    pub is_all: bool,
+    /// From where links lead, if nothing in the page says it.
+    pub base: Option<&'a Url>,
 }
 
 // What the page stands below: the document, or the root of a fragment.
@@ -34,29 +42,27 @@ fn top_of(arena: &Arena, is_fragment: bool) -> NodeRef<'_> {
     arena.at(arena.document())
 }
 
-// Writes a text on one line: its words, with a space between two.
-fn write_words(line: &mut String, text: &str) -> Result<(), AllocError> {
-    let mut is_first = true;
-    for word in text.split_ascii_whitespace() {
-        if !is_first {
-            line.push(' ')?;
-        }
-        line.push_str(word)?;
-        is_first = false;
+// The links that are asked for.
+fn links_asked(
+    alloc: Global,
+    asked: &Asked<'_>,
+    top: &NodeRef<'_>,
+) -> Result<Vec<Item>, AllocError> {
+    let base = base_of(alloc, top, asked.base)?;
+    if asked.is_all {
+        all_links(alloc, top, base.as_ref())
+    } else {
+        links(alloc, top, base.as_ref())
     }
-    Ok(())
 }
 
-// The links, a line for each: where it leads, with escapes, a tab, and the words of its text.
-fn links_text(alloc: Global, top: &NodeRef<'_>) -> Result<String, AllocError> {
-    let mut lines = String::new(alloc);
-    for link in links_of(alloc, top)? {
-        write_escapes(&mut lines, link.href.as_str())?;
-        lines.push('\t')?;
-        write_words(&mut lines, link.text.as_str())?;
-        lines.push('\n')?;
+// Items, as they are asked for.
+fn items_text(alloc: Global, items: &[Item], form: Form) -> Result<String, AllocError> {
+    let mut text = String::new(alloc);
+    for item in items {
+        item.print(&mut text, form)?;
     }
-    Ok(lines)
+    Ok(text)
 }
 
 // Writes a tree, a line for each node, and its quirks mode. A deep tree has long lines, so it is written in parts.
@@ -93,12 +99,23 @@ pub fn put_answer<W: Write>(
 ) -> Result<(), Fault> {
     let top = top_of(arena, asked.context.is_some());
     if let Some(selection) = asked.selection {
-        return put_selected(alloc, arena, &top, selection, out);
+        return put_selected(alloc, arena, &top, selection, asked.form, out);
     }
     let text = match asked.what {
         What::Html => serialize(alloc, Vec::new(alloc), &top, SerializeOpts::default())?,
         What::Text => text_of(alloc, &top)?.into_bytes(),
-        What::Links => links_text(alloc, &top)?.into_bytes(),
+        What::Links => {
+            let items = links_asked(alloc, asked, &top)?;
+            items_text(alloc, items.as_slice(), asked.form)?.into_bytes()
+        }
+        What::Outline => {
+            let items = headings(alloc, &top)?;
+            items_text(alloc, items.as_slice(), asked.form)?.into_bytes()
+        }
+        What::Meta => {
+            let items = about(alloc, &top)?;
+            items_text(alloc, items.as_slice(), asked.form)?.into_bytes()
+        }
         What::Clean => cleaned(alloc, &top, asked.policy)?,
         What::Tree | What::Tokens | What::Select => return put_tree(alloc, arena, out),
     };

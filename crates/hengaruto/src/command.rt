@@ -19,6 +19,10 @@ pub enum What {
     Clean,
     /// The elements that a selector matches.
     Select,
+    /// Its headings.
+    Outline,
+    /// What it says of itself.
+    Meta,
 }
 
 impl What {
@@ -55,6 +59,44 @@ fn with_input<'a>(alloc: Global, part: Command<'a>) -> Result<Command<'a>, Alloc
 
 fn part<'a>(alloc: Global, name: &'a str, about: &'a str) -> Result<Command<'a>, AllocError> {
     with_input(alloc, Command::new(alloc, name).about(about))
+}
+
+// Whether objects of JSON are printed.
+fn json_flag<'a>(alloc: Global) -> Arg<'a> {
+    Arg::new(alloc, "json")
+        .long("json")
+        .action(ArgAction::SetTrue)
+        .help("Prints an object of JSON for each, on a line of its own")
+}
+
+// A part of the program that lists things.
+fn listing_part<'a>(
+    alloc: Global,
+    name: &'a str,
+    about: &'a str,
+) -> Result<Command<'a>, AllocError> {
+    let part = Command::new(alloc, name)
+        .about(about)
+        .arg(json_flag(alloc))?;
+    with_input(alloc, part)
+}
+
+// The part of the program that lists links.
+fn links_part<'a>(alloc: Global) -> Result<Command<'a>, AllocError> {
+    let all = Arg::new(alloc, "all")
+        .long("all")
+        .action(ArgAction::SetTrue)
+        .help("Lists images, scripts, forms and the like, too, with the names of the elements");
+    let base = Arg::new(alloc, "base")
+        .long("base")
+        .value_name("URL")
+        .help("Prints URLs as they lead from this one");
+    let part = Command::new(alloc, "links")
+        .about("Prints the links, a line for each: where it leads, a tab, and its text")
+        .arg(all)?
+        .arg(base)?
+        .arg(json_flag(alloc))?;
+    with_input(alloc, part)
 }
 
 // The part of the program that cleans.
@@ -95,7 +137,8 @@ fn select_part<'a>(alloc: Global) -> Result<Command<'a>, AllocError> {
         .arg(selector)?
         .arg(html)?
         .arg(text)?
-        .arg(attr)?;
+        .arg(attr)?
+        .arg(json_flag(alloc))?;
     with_input(alloc, part)
 }
 
@@ -114,10 +157,16 @@ pub fn command<'a>(alloc: Global) -> Result<Command<'a>, AllocError> {
         )?)?
         .subcommand(part(alloc, "html", "Prints the tree as HTML")?)?
         .subcommand(part(alloc, "text", "Prints the text, a line for each block")?)?
-        .subcommand(part(
+        .subcommand(links_part(alloc)?)?
+        .subcommand(listing_part(
             alloc,
-            "links",
-            "Prints the links, a line for each: where it leads, a tab, and its text",
+            "outline",
+            "Prints the headings, a line for each: its level, a tab, and its text",
+        )?)?
+        .subcommand(listing_part(
+            alloc,
+            "meta",
+            "Prints what a page says of itself, a line for each: a name, a tab, and what it is",
         )?)?
         .subcommand(part(alloc, "tokens", "Prints the tokens, a line for each")?)?
         .subcommand(clean_part(alloc)?)?
@@ -133,6 +182,8 @@ pub fn what_named(name: &str) -> What {
         "links" => What::Links,
         "clean" => What::Clean,
         "select" => What::Select,
+        "outline" => What::Outline,
+        "meta" => What::Meta,
         _ => What::Tokens,
     }
 }

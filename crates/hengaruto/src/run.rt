@@ -6,10 +6,12 @@ use super::page::{tokens_of, tree_of};
 use super::policy_file::{policy_in, tell_policy};
 use super::select::{Selection, Shown, tell_selector};
 use clap::ArgMatches;
+use h5_listing::Form;
 use html_tree_builder::select::Selector;
 use std::fs;
 use std::io::{ErrorKind, Read, Write};
 use std::process::ExitCode;
+use url::Url;
 
 // Shows an input.
 fn show_input<R: Read>(rt: &HostRuntime, asked: &Asked<'_>, input: &mut R) -> Result<(), Fault> {
@@ -116,7 +118,42 @@ fn show_selected(rt: &HostRuntime, asked: &Asked<'_>, text: &str, matches: &ArgM
     }
 }
 
-// Shows what is asked, which may be by a policy or a selector.
+// Whether items are printed as lines or as objects of JSON.
+fn form_by(what: What, matches: &ArgMatches<'_>) -> Form {
+    let is_listing = matches!(
+        what,
+        What::Links | What::Outline | What::Meta | What::Select
+    );
+    if is_listing && matches.get_flag("json") {
+        Form::Json
+    } else {
+        Form::Lines
+    }
+}
+
+// Shows the links of each page, as they lead from a URL. Where its text is none, nothing is shown.
+fn show_links_from(
+    rt: &HostRuntime,
+    asked: &Asked<'_>,
+    text: &str,
+    matches: &ArgMatches<'_>,
+) -> u8 {
+    match Url::parse(rt.alloc(), text) {
+        Ok(base) => {
+            let leading = Asked {
+                base: Some(&base),
+                ..*asked
+            };
+            show_all(rt, &leading, matches)
+        }
+        Err(error) => {
+            let _told = writeln!(rt.stderr(), "hengaruto: {text}: {error}");
+            2
+        }
+    }
+}
+
+// Shows what is asked, which may be by a policy, a selector or a URL.
 fn show_asked(rt: &HostRuntime, asked: &Asked<'_>, matches: &ArgMatches<'_>) -> u8 {
     match asked.what {
         What::Clean => match matches.get_str("policy") {
@@ -127,6 +164,10 @@ fn show_asked(rt: &HostRuntime, asked: &Asked<'_>, matches: &ArgMatches<'_>) -> 
             let text = matches.get_str("selector").unwrap_or("");
             show_selected(rt, asked, text, matches)
         }
+        What::Links => match matches.get_str("base") {
+            Some(text) => show_links_from(rt, asked, text, matches),
+            None => show_all(rt, asked, matches),
+        },
         _ => show_all(rt, asked, matches),
     }
 }
@@ -142,6 +183,9 @@ pub fn run(rt: &HostRuntime, matches: &ArgMatches<'_>) -> ExitCode {
         context: what.context(matches.get_str("fragment")),
         policy: None,
         selection: None,
+        form: form_by(what, matches),
+        is_all: matches!(what, What::Links) && matches.get_flag("all"),
+        base: None,
     };
     ExitCode::from(show_asked(rt, &asked, matches))
 }

@@ -1,5 +1,6 @@
 //! What a selector matches of a page.
 use super::fault::Fault;
+use h5_listing::{Form, Item};
 use h5_page::text_of;
 use html_tree_builder::arena::NodeRef;
 use html_tree_builder::select::{Selector, SelectorFault};
@@ -16,6 +17,16 @@ pub enum Shown<'a> {
     Text,
     /// The value of this attribute, where it has it.
     Attr(&'a str),
+}
+
+impl Shown<'_> {
+    fn name(self) -> &'static str {
+        match self {
+            Shown::Html => "html",
+            Shown::Text => "text",
+            Shown::Attr(_) => "value",
+        }
+    }
 }
 
 /// What is selected, and what is printed of it.
@@ -42,19 +53,42 @@ fn shown_of(
     }
 }
 
+// A text as a line, or as an object of JSON, in which it has the name of what is shown.
+fn line_of(
+    alloc: Global,
+    text: String,
+    shown: Shown<'_>,
+    form: Form,
+) -> Result<String, AllocError> {
+    let mut line = String::new(alloc);
+    match form {
+        Form::Lines => {
+            line = text;
+            if !line.as_str().ends_with('\n') {
+                line.push('\n')?;
+            }
+        }
+        Form::Json => {
+            let mut item = Item::new(alloc);
+            item.add(shown.name(), text.as_str())?;
+            item.print(&mut line, form)?;
+        }
+    }
+    Ok(line)
+}
+
 /// Writes what is asked of the elements below a node that a selector matches, with a line end behind each.
 pub fn put_selected<W: Write>(
     alloc: Global,
     arena: &Arena,
     top: &NodeRef<'_>,
     selection: Selection<'_>,
+    form: Form,
     out: &mut W,
 ) -> Result<(), Fault> {
     for id in selection.selector.select(arena, top.id)? {
-        if let Some(mut line) = shown_of(alloc, arena, id, selection.shown)? {
-            if !line.as_str().ends_with('\n') {
-                line.push('\n')?;
-            }
+        if let Some(text) = shown_of(alloc, arena, id, selection.shown)? {
+            let line = line_of(alloc, text, selection.shown, form)?;
             out.write_all(line.as_str().as_bytes())
                 .map_err(Fault::Write)?;
         }

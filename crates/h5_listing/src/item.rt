@@ -1,0 +1,89 @@
+//! What is printed of one thing.
+use h5_print::write_escapes;
+use serde_json::Value;
+use std::alloc::{AllocError, Global};
+
+/// How items are printed.
+#[derive(Clone, Copy)]
+pub enum Form {
+    /// A line for each: the values, with escapes, and a tab between two.
+    Lines,
+    /// An object of JSON for each, on a line.
+    Json,
+}
+
+/// A value, and what it is.
+#[derive(Drop)]
+struct Field {
+    name: &'static str,
+    value: String,
+}
+
+/// One thing that a page lists.
+#[derive(Drop)]
+pub struct Item {
+    fields: Vec<Field>,
+    alloc: Global,
+}
+
+impl Item {
+    /// An item without values.
+    pub fn new(alloc: Global) -> Item {
+        Item {
+            fields: Vec::new(alloc),
+            alloc,
+        }
+    }
+
+    /// Adds a value, which has this name in JSON. An `AllocError` where memory is refused.
+    pub fn add(&mut self, name: &'static str, value: &str) -> Result<(), AllocError> {
+        let value = String::from_str(self.alloc, value)?;
+        self.fields.push(Field { name, value })?;
+        Ok(())
+    }
+
+    // The values, with a tab between two.
+    fn print_values(&self, out: &mut String) -> Result<(), AllocError> {
+        let mut is_first = true;
+        for field in self.fields.as_slice() {
+            if !is_first {
+                out.push('\t')?;
+            }
+            write_escapes(out, field.value.as_str())?;
+            is_first = false;
+        }
+        Ok(())
+    }
+
+    // The values with their names.
+    fn print_json(&self, out: &mut String) -> Result<(), AllocError> {
+        out.push('{')?;
+        let mut is_first = true;
+        for field in self.fields.as_slice() {
+            if !is_first {
+                out.push(',')?;
+            }
+            write_json(self.alloc, out, field.name)?;
+            out.push(':')?;
+            write_json(self.alloc, out, field.value.as_str())?;
+            is_first = false;
+        }
+        out.push('}')
+    }
+
+    /// Prints it, and a line end. An `AllocError` where memory is refused.
+    pub fn print(&self, out: &mut String, form: Form) -> Result<(), AllocError> {
+        match form {
+            Form::Lines => self.print_values(out)?,
+            Form::Json => self.print_json(out)?,
+        }
+        out.push('\n')
+    }
+}
+
+// A text as JSON has it.
+fn write_json(alloc: Global, out: &mut String, text: &str) -> Result<(), AllocError> {
+    let value = Value::String(String::from_str(alloc, text)?);
+    let json = value.to_string(alloc)?;
+    out.push_str(json.as_str())
+}
