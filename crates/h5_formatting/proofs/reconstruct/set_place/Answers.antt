@@ -2,7 +2,6 @@ use Rattle.std.proofs.Common.{ap, arith, refl}
 use Rattle.h5_token.specs.TokenText.{tag_text}
 use Rattle.h5_list.specs.Listed.{entry_of}
 use Rattle.h5_state.specs.View.{listed_node, world}
-use Rattle.h5_state.specs.declared.open_element.Listed.{Listed}
 use Rattle.h5_formatting.proofs.ListLaws.{entries_cut, length_entries}
 use Rattle.h5_formatting.proofs.NodeLaws.{entry_in, listed_nodes}
 use Rattle.h5_formatting.proofs.RenewLaws.{relisted_seen, relisted_stamped, sound_with_list, with_list}
@@ -25,9 +24,8 @@ pub returns-in-Element-clause-world : goal.returns-in-Element-clause-world
 unfolding world
 returns-in-Element-clause-world g c =
     let w = world g.S.TreeSink.sees g.S.TreeSink.node c.args.sink.now c.args.state.now in
-    let given : Listed _ = record { handle = c.clone_handle.result; stamp = c.in-Element.listed.stamp; place = c.args.place } in
     ap (λ l. with_list l w)
-    (relisted_seen g.S.TreeSink c.args.sink.now c.args.state.now c.args.at c.in-Element.listed given c.in-Element.field-1 c.requires.at c.get.result.now c.get.ensures c.in-Element.is c.clone_handle.ensures c.set_handle.new.self c.set_handle.ensures)
+    (relisted_seen g.S.TreeSink c.args.sink.now c.args.state.now c.args.at c.in-Element.listed _ c.in-Element.field-1 c.requires.at c.get.result.now c.get.ensures c.in-Element.is c.clone_handle.ensures c.set_handle.new.self c.set_handle.ensures)
 
 -- it has its stamp
 pub returns-in-Element-clause-sound : goal.returns-in-Element-clause-sound
@@ -38,9 +36,8 @@ returns-in-Element-clause-sound g c =
     let state = c.args.state.now in
     let w = world law.sees law.node sink state in
     let k = c.requires.sound in
-    let given : Listed _ = record { handle = c.clone_handle.result; stamp = c.in-Element.listed.stamp; place = c.args.place } in
     sound_with_list law sink state _ w.formatting
-    (ap (λ l. with_list l w) (relisted_seen law sink state c.args.at c.in-Element.listed given c.in-Element.field-1 c.requires.at c.get.result.now c.get.ensures c.in-Element.is c.clone_handle.ensures c.set_handle.new.self c.set_handle.ensures))
+    (ap (λ l. with_list l w) (relisted_seen law sink state c.args.at c.in-Element.listed _ c.in-Element.field-1 c.requires.at c.get.result.now c.get.ensures c.in-Element.is c.clone_handle.ensures c.set_handle.new.self c.set_handle.ensures))
     refl k.sound.listed k.sound.formatting
-    (relisted_stamped law sink state c.args.at c.in-Element.listed given c.in-Element.field-1 c.requires.at c.get.result.now c.get.ensures c.in-Element.is c.clone_handle.ensures c.set_handle.new.self c.set_handle.ensures refl k.stamped)
+    (relisted_stamped law sink state c.args.at c.in-Element.listed _ c.in-Element.field-1 c.requires.at c.get.result.now c.get.ensures c.in-Element.is c.clone_handle.ensures c.set_handle.new.self c.set_handle.ensures refl k.stamped)
     k
