@@ -47,10 +47,11 @@ sound_with_list law sink old new l e h listed formatting stamped k =
       stamped = subst (λ open_elems. AreStamped law.node open_elems new.active_formatting) (sym h) stamped;
     }
 
--- the entry at a place is that of the same element, with the same stamp
+-- the entry at a place becomes that of the same element
 module _ {S H O : Type 0} (law : Ghosts S H O) (sink : S) (old : State H) (place : ℕ) (listed given : Listed H) (tag : Tag) (inside : place < length (world_of law sink old).formatting)
     (was : FormatEntry (Listed H)) (found : was ≡ get_or old.active_formatting place was) (is : was ≡ Element listed tag) (same : law.node given.handle ≡ law.node listed.handle)
     (entries : List (FormatEntry (Listed H))) (over : IsHandedOver given place old.active_formatting entries) where
+  -- the list is seen as it was
   pub relisted_seen : entries_of (listed_node law.node) entries ≡ (world_of law sink old).formatting
   unfolding world
   relisted_seen =
@@ -61,6 +62,7 @@ module _ {S H O : Type 0} (law : Ghosts S H O) (sink : S) (old : State H) (place
       entry_alike seen items entries place over.entry (with_handle given over.entry) here over.was over.is
       (entry_handed seen given over.entry ∙ ap (entry_for (law.node given.handle)) known ∙ ap (λ m. ElementEntry m (tag_text tag)) same ∙ sym known)
 
+  -- with the same stamp it is right
   pub relisted_stamped : given.stamp ≡ listed.stamp → AreStamped law.node old.open_elems old.active_formatting → AreStamped law.node old.open_elems entries
   unfolding world
   relisted_stamped stamp stamped =
