@@ -9,6 +9,8 @@ mod item;
 mod leads;
 mod outline;
 mod said;
+#[cfg(test)]
+mod tests;
 mod words;
 
 pub use item::{Form, Item};

@@ -1,0 +1,63 @@
+//! What is listed of a page.
+use super::item::{Form, Item};
+use super::leads::{all_links, base_of, links};
+use super::outline::headings;
+use super::said::about;
+use html_tree_builder::arena::Arena;
+use html_tree_builder::{ParseOpts, parse_document};
+use std::alloc::Global;
+use std::test::Fail;
+use url::Url;
+
+const PAGE: &str =
+    "<!DOCTYPE html><html lang=en><title>A\n page</title><meta charset=utf-8><meta property=og:type content=article><link rel=canonical href=/here><base href=in/><h1>One <i>two</i></h1><p><a href=a?b>to \n <img alt=it src=i></a><a name=x>no</a><h2>\"Three\"</h2>";
+
+fn tree_of(alloc: Global) -> Result<Arena, Fail> {
+    let parser = parse_document(alloc, Arena::new(alloc)?, ParseOpts::default());
+    let arena = parser.one(PAGE)?;
+    Ok(arena)
+}
+
+fn printed(alloc: Global, items: &[Item], form: Form) -> Result<String, Fail> {
+    let mut text = String::new(alloc);
+    for item in items {
+        item.print(&mut text, form)?;
+    }
+    Ok(text)
+}
+
+#[test]
+fn links_lead_from_the_base_of_the_page(rt: HostRuntime) -> Result<(), Fail> {
+    let alloc = rt.alloc();
+    let arena = tree_of(alloc)?;
+    let top = arena.at(arena.document());
+    let said = Url::parse(alloc, "https://e.example/x/y")?;
+    let base = base_of(alloc, &top, Some(&said))?;
+    let found = links(alloc, &top, base.as_ref())?;
+    let lines = printed(alloc, found.as_slice(), Form::Lines)?;
+    assert_eq!(rt; lines.as_str(), "https://e.example/x/in/a?b\tto\n");
+    let found = all_links(alloc, &top, None)?;
+    let lines = printed(alloc, found.as_slice(), Form::Lines)?;
+    assert_eq!(rt; lines.as_str(), "link\t/here\t\na\ta?b\tto it\nimg\ti\t\n");
+    Ok(())
+}
+
+#[test]
+fn headings_and_what_is_said_are_listed(rt: HostRuntime) -> Result<(), Fail> {
+    let alloc = rt.alloc();
+    let arena = tree_of(alloc)?;
+    let top = arena.at(arena.document());
+    let found = headings(alloc, &top)?;
+    let objects = printed(alloc, found.as_slice(), Form::Json)?;
+    assert_eq!(rt;
+        objects.as_str(),
+        "{\"level\":\"1\",\"text\":\"One two\"}\n{\"level\":\"2\",\"text\":\"\\\"Three\\\"\"}\n"
+    );
+    let found = about(alloc, &top)?;
+    let lines = printed(alloc, found.as_slice(), Form::Lines)?;
+    assert_eq!(rt;
+        lines.as_str(),
+        "lang\ten\ntitle\tA page\ncharset\tutf-8\nog:type\tarticle\ncanonical\t/here\n"
+    );
+    Ok(())
+}
