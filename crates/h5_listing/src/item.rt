@@ -10,6 +10,8 @@ pub enum Form {
     Lines,
     /// An object of JSON for each, on a line.
     Json,
+    /// One array of JSON, of an object for each.
+    Array,
 }
 
 /// A value, and what it is.
@@ -71,18 +73,43 @@ impl Item {
         out.push('}')
     }
 
-    /// Prints it, and a line end. An `AllocError` where memory is refused.
-    pub fn print(&self, out: &mut String, form: Form) -> Result<(), AllocError> {
+    // Prints it, as a line or as an object.
+    fn print(&self, out: &mut String, form: Form) -> Result<(), AllocError> {
         match form {
-            Form::Lines => self.print_values(out)?,
-            Form::Json => self.print_json(out)?,
+            Form::Lines => self.print_values(out),
+            Form::Json | Form::Array => self.print_json(out),
         }
-        out.push('\n')
     }
 }
 
-// A text as JSON has it.
-fn write_json(alloc: Global, out: &mut String, text: &str) -> Result<(), AllocError> {
+// Prints items as one array.
+fn print_array(items: &[Item], out: &mut String) -> Result<(), AllocError> {
+    let mut is_first = true;
+    out.push('[')?;
+    for item in items {
+        if !is_first {
+            out.push(',')?;
+        }
+        item.print_json(out)?;
+        is_first = false;
+    }
+    out.push(']')
+}
+
+/// Prints items: each with a line end behind it, or an array of them. An `AllocError` where memory is refused.
+pub fn print_items(items: &[Item], out: &mut String, form: Form) -> Result<(), AllocError> {
+    if let Form::Array = form {
+        return print_array(items, out);
+    }
+    for item in items {
+        item.print(out, form)?;
+        out.push('\n')?;
+    }
+    Ok(())
+}
+
+/// Writes a text as JSON has it. An `AllocError` where memory is refused.
+pub fn write_json(alloc: Global, out: &mut String, text: &str) -> Result<(), AllocError> {
     let value = Value::String(String::from_str(alloc, text)?);
     let json = value.to_string(alloc)?;
     out.push_str(json.as_str())

@@ -1,7 +1,8 @@
 //! What is listed of a page.
-use super::item::{Form, Item};
+use super::item::{Form, Item, print_items};
 use super::leads::{all_links, base_of, links};
 use super::outline::headings;
+use super::record::{Page, Record, begin_answer, end_answer};
 use super::said::about;
 use html_tree_builder::arena::Arena;
 use html_tree_builder::{ParseOpts, parse_document};
@@ -20,9 +21,7 @@ fn tree_of(alloc: Global) -> Result<Arena, Fail> {
 
 fn printed(alloc: Global, items: &[Item], form: Form) -> Result<String, Fail> {
     let mut text = String::new(alloc);
-    for item in items {
-        item.print(&mut text, form)?;
-    }
+    print_items(items, &mut text, form)?;
     Ok(text)
 }
 
@@ -59,5 +58,20 @@ fn headings_and_what_is_said_are_listed(rt: HostRuntime) -> Result<(), Fail> {
         lines.as_str(),
         "lang\ten\ntitle\tA page\ncharset\tutf-8\nog:type\tarticle\ncanonical\t/here\n"
     );
+    Ok(())
+}
+
+#[test]
+fn records_are_answered(rt: HostRuntime) -> Result<(), Fail> {
+    let alloc = rt.alloc();
+    let record = Record::parse(alloc, "{\"id\":[7],\"path\":\"a\",\"html\":\"<p>\"}")?;
+    assert!(rt; matches!(record.page(), Some(Page::Html("<p>"))));
+    let mut answer = begin_answer(alloc, Some(&record), 1)?;
+    end_answer(alloc, &mut answer, "text", "\n", false)?;
+    assert_eq!(rt; answer.as_str(), "{\"id\":[7],\"text\":\"\\n\"}\n");
+    let mut answer = begin_answer(alloc, None, 2)?;
+    end_answer(alloc, &mut answer, "links", "[]", true)?;
+    assert_eq!(rt; answer.as_str(), "{\"line\":2,\"links\":[]}\n");
+    assert!(rt; Record::parse(alloc, "no").is_err());
     Ok(())
 }

@@ -2,7 +2,7 @@
 use super::command::What;
 use super::fault::Fault;
 use super::select::{Selection, put_selected};
-use h5_listing::{Form, Item, about, all_links, base_of, headings, links};
+use h5_listing::{Form, Item, about, all_links, base_of, headings, links, print_items};
 use h5_page::text_of;
 use h5_print::{print_quirks, write_tree};
 use html_tree_builder::arena::NodeRef;
@@ -30,6 +30,8 @@ pub struct Asked<'a> {
     pub is_all: bool,
     /// From where links lead, if nothing in the page says it.
     pub base: Option<&'a Url>,
+    /// By which name records are answered, if the pages come in records.
+    pub record: Option<&'a str>,
 }
 
 // What the page stands below: the document, or the root of a fragment.
@@ -59,9 +61,7 @@ fn links_asked(
 // Items, as they are asked for.
 fn items_text(alloc: Global, items: &[Item], form: Form) -> Result<String, AllocError> {
     let mut text = String::new(alloc);
-    for item in items {
-        item.print(&mut text, form)?;
-    }
+    print_items(items, &mut text, form)?;
     Ok(text)
 }
 

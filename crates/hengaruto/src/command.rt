@@ -40,6 +40,9 @@ const ABOUT: &str = "Shows what a page of HTML is made of, as a browser reads it
 const AFTER: &str =
     "Without a FILE, or where FILE is -, standard input is read. Input is UTF-8; U+FFFD stands for what isn't.";
 
+const RECORDS: &str =
+    "Each line is an object with the HTML of a page as `html` or the name of its file as `path`. The answer has its `id`, or else the number of the line.";
+
 // A part of the program without what is particular to it: the context of fragments, and the files.
 fn with_input<'a>(alloc: Global, part: Command<'a>) -> Result<Command<'a>, AllocError> {
     let context = Arg::new(alloc, "fragment")
@@ -142,14 +145,9 @@ fn select_part<'a>(alloc: Global) -> Result<Command<'a>, AllocError> {
     with_input(alloc, part)
 }
 
-/// The command line of the program.
-pub fn command<'a>(alloc: Global) -> Result<Command<'a>, AllocError> {
-    Command::new(alloc, "hengaruto")
-        .version("0.1.0")
-        .about(ABOUT)
-        .after_help(AFTER)
-        .subcommand_required(true)
-        .arg_required_else_help(true)
+// A command with a part for each thing that can be printed.
+fn with_parts<'a>(alloc: Global, command: Command<'a>) -> Result<Command<'a>, AllocError> {
+    command
         .subcommand(part(
             alloc,
             "tree",
@@ -171,6 +169,27 @@ pub fn command<'a>(alloc: Global) -> Result<Command<'a>, AllocError> {
         .subcommand(part(alloc, "tokens", "Prints the tokens, a line for each")?)?
         .subcommand(clean_part(alloc)?)?
         .subcommand(select_part(alloc)?)
+}
+
+// The part of the program that answers records.
+fn records_part<'a>(alloc: Global) -> Result<Command<'a>, AllocError> {
+    let records = Command::new(alloc, "records")
+        .about("Does it for pages in lines of JSON, and writes a line of JSON for each")
+        .after_help(RECORDS)
+        .subcommand_required(true)
+        .arg_required_else_help(true);
+    with_parts(alloc, records)
+}
+
+/// The command line of the program.
+pub fn command<'a>(alloc: Global) -> Result<Command<'a>, AllocError> {
+    let command = Command::new(alloc, "hengaruto")
+        .version("0.1.0")
+        .about(ABOUT)
+        .after_help(AFTER)
+        .subcommand_required(true)
+        .arg_required_else_help(true);
+    with_parts(alloc, command)?.subcommand(records_part(alloc)?)
 }
 
 /// What the name of a subcommand asks for.

@@ -4,6 +4,7 @@ use super::command::{What, what_named};
 use super::fault::Fault;
 use super::page::{tokens_of, tree_of};
 use super::policy_file::{policy_in, tell_policy};
+use super::records::show_records;
 use super::select::{Selection, Shown, tell_selector};
 use clap::ArgMatches;
 use h5_listing::Form;
@@ -13,24 +14,37 @@ use std::io::{ErrorKind, Read, Write};
 use std::process::ExitCode;
 use url::Url;
 
-// Shows an input.
-fn show_input<R: Read>(rt: &HostRuntime, asked: &Asked<'_>, input: &mut R) -> Result<(), Fault> {
-    let mut out = rt.stdout();
+/// Writes what is asked of the page of an input.
+pub fn put_input<R: Read, W: Write>(
+    rt: &HostRuntime,
+    asked: &Asked<'_>,
+    input: &mut R,
+    out: &mut W,
+) -> Result<(), Fault> {
     if let What::Tokens = asked.what {
         let text = tokens_of(rt, asked.context, input)?;
         return out.write_all(text.as_slice()).map_err(Fault::Write);
     }
     let arena = tree_of(rt, asked.context, input)?;
-    put_answer(rt.alloc(), asked, &arena, &mut out)
+    put_answer(rt.alloc(), asked, &arena, out)
+}
+
+// Shows an input, which is a page or has records of pages.
+fn show_input<R: Read + Drop>(rt: &HostRuntime, asked: &Asked<'_>, input: R) -> Result<(), Fault> {
+    if let Some(name) = asked.record {
+        return show_records(rt, asked, name, input);
+    }
+    let mut input = input;
+    put_input(rt, asked, &mut input, &mut rt.stdout())
 }
 
 // Shows a file, or standard input where its name is `-`.
 fn show(rt: &HostRuntime, asked: &Asked<'_>, name: &str) -> Result<(), Fault> {
     if name == "-" {
-        return show_input(rt, asked, &mut rt.stdin());
+        return show_input(rt, asked, rt.stdin());
     }
-    let mut file = fs::open(rt, name).map_err(Fault::Read)?;
-    show_input(rt, asked, &mut file)
+    let file = fs::open(rt, name).map_err(Fault::Read)?;
+    show_input(rt, asked, file)
 }
 
 // Says what went wrong. Whether it can be said is no matter.
@@ -118,8 +132,11 @@ fn show_selected(rt: &HostRuntime, asked: &Asked<'_>, text: &str, matches: &ArgM
     }
 }
 
-// Whether items are printed as lines or as objects of JSON.
-fn form_by(what: What, matches: &ArgMatches<'_>) -> Form {
+// Whether items are printed as lines or as JSON.
+fn form_by(what: What, is_record: bool, matches: &ArgMatches<'_>) -> Form {
+    if is_record {
+        return Form::Array;
+    }
     let is_listing = matches!(
         what,
         What::Links | What::Outline | What::Meta | What::Select
@@ -172,20 +189,31 @@ fn show_asked(rt: &HostRuntime, asked: &Asked<'_>, matches: &ArgMatches<'_>) -> 
     }
 }
 
-/// Shows what the words ask for, and answers the status.
-pub fn run(rt: &HostRuntime, matches: &ArgMatches<'_>) -> ExitCode {
-    let Some((name, matches)) = matches.subcommand() else {
-        return ExitCode::from(2);
-    };
+// Shows what a word asks for, of pages or of records of them, and answers the status.
+fn show_word(rt: &HostRuntime, name: &str, is_record: bool, matches: &ArgMatches<'_>) -> u8 {
     let what = what_named(name);
     let asked = Asked {
         what,
         context: what.context(matches.get_str("fragment")),
         policy: None,
         selection: None,
-        form: form_by(what, matches),
+        form: form_by(what, is_record, matches),
         is_all: matches!(what, What::Links) && matches.get_flag("all"),
         base: None,
+        record: is_record.then_some(name),
     };
-    ExitCode::from(show_asked(rt, &asked, matches))
+    show_asked(rt, &asked, matches)
+}
+
+/// Shows what the words ask for, and answers the status.
+pub fn run(rt: &HostRuntime, matches: &ArgMatches<'_>) -> ExitCode {
+    let status = match matches.subcommand() {
+        Some(("records", records)) => match records.subcommand() {
+            Some((name, matches)) => show_word(rt, name, true, matches),
+            None => 2,
+        },
+        Some((name, matches)) => show_word(rt, name, false, matches),
+        None => 2,
+    };
+    ExitCode::from(status)
 }

@@ -1,6 +1,6 @@
 //! What a selector matches of a page.
 use super::fault::Fault;
-use h5_listing::{Form, Item};
+use h5_listing::{Form, Item, print_items};
 use h5_page::text_of;
 use html_tree_builder::arena::NodeRef;
 use html_tree_builder::select::{Selector, SelectorFault};
@@ -53,31 +53,50 @@ fn shown_of(
     }
 }
 
-// A text as a line, or as an object of JSON, in which it has the name of what is shown.
-fn line_of(
-    alloc: Global,
-    text: String,
-    shown: Shown<'_>,
-    form: Form,
-) -> Result<String, AllocError> {
-    let mut line = String::new(alloc);
-    match form {
-        Form::Lines => {
-            line = text;
-            if !line.as_str().ends_with('\n') {
-                line.push('\n')?;
-            }
-        }
-        Form::Json => {
-            let mut item = Item::new(alloc);
-            item.add(shown.name(), text.as_str())?;
-            item.print(&mut line, form)?;
-        }
+// Writes a text, with a line end behind it.
+fn put_line<W: Write>(text: String, out: &mut W) -> Result<(), Fault> {
+    let mut line = text;
+    if !line.as_str().ends_with('\n') {
+        line.push('\n')?;
     }
-    Ok(line)
+    out.write_all(line.as_bytes()).map_err(Fault::Write)
 }
 
-/// Writes what is asked of the elements below a node that a selector matches, with a line end behind each.
+// What is asked of each element, a line for each.
+fn put_lines<W: Write>(
+    alloc: Global,
+    arena: &Arena,
+    found: &[NodeId],
+    shown: Shown<'_>,
+    out: &mut W,
+) -> Result<(), Fault> {
+    for id in found {
+        if let Some(text) = shown_of(alloc, arena, *id, shown)? {
+            put_line(text, out)?;
+        }
+    }
+    Ok(())
+}
+
+// What is asked of each element, by the name of what is shown.
+fn items_of(
+    alloc: Global,
+    arena: &Arena,
+    found: &[NodeId],
+    shown: Shown<'_>,
+) -> Result<Vec<Item>, AllocError> {
+    let mut items = Vec::new(alloc);
+    for id in found {
+        if let Some(text) = shown_of(alloc, arena, *id, shown)? {
+            let mut item = Item::new(alloc);
+            item.add(shown.name(), text.as_str())?;
+            items.push(item)?;
+        }
+    }
+    Ok(items)
+}
+
+/// Writes what is asked of the elements below a node that a selector matches: each with a line end behind it, or as JSON.
 pub fn put_selected<W: Write>(
     alloc: Global,
     arena: &Arena,
@@ -86,14 +105,14 @@ pub fn put_selected<W: Write>(
     form: Form,
     out: &mut W,
 ) -> Result<(), Fault> {
-    for id in selection.selector.select(arena, top.id)? {
-        if let Some(text) = shown_of(alloc, arena, id, selection.shown)? {
-            let line = line_of(alloc, text, selection.shown, form)?;
-            out.write_all(line.as_str().as_bytes())
-                .map_err(Fault::Write)?;
-        }
+    let found = selection.selector.select(arena, top.id)?;
+    if let Form::Lines = form {
+        return put_lines(alloc, arena, found.as_slice(), selection.shown, out);
     }
-    Ok(())
+    let items = items_of(alloc, arena, found.as_slice(), selection.shown)?;
+    let mut text = String::new(alloc);
+    print_items(items.as_slice(), &mut text, form)?;
+    out.write_all(text.as_bytes()).map_err(Fault::Write)
 }
 
 /// Says why a text is no selector, and answers the status. Whether it can be said is no matter.

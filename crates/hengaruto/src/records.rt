@@ -1,0 +1,132 @@
+//! Pages that come in records, and what is answered of each.
+use super::answer::Asked;
+use super::command::What;
+use super::fault::Fault;
+use super::run::put_input;
+use h5_listing::{Page, Record, begin_answer, end_answer};
+use std::fs;
+use std::io::{self, BufRead, BufReader, ErrorKind, Read, Write};
+
+// What is said of a fault.
+fn said_of(rt: &HostRuntime, fault: &Fault) -> Result<String, Fault> {
+    let mut said = String::new(rt.alloc());
+    let told = match fault {
+        Fault::Read(error) | Fault::Write(error) => write!(said, "{error}"),
+        Fault::Memory => write!(said, "out of memory"),
+    };
+    told.map_err(|_refused| Fault::Memory)?;
+    Ok(said)
+}
+
+// What is printed of the page of an input.
+fn printed<R: Read>(rt: &HostRuntime, asked: &Asked<'_>, input: &mut R) -> Result<String, Fault> {
+    let mut bytes = Vec::new(rt.alloc());
+    put_input(rt, asked, input, &mut bytes)?;
+    let text = String::from_utf8_lossy(rt.alloc(), bytes.as_slice())?;
+    Ok(text)
+}
+
+// What is printed of the page of a record.
+fn printed_of(rt: &HostRuntime, asked: &Asked<'_>, page: Page<'_>) -> Result<String, Fault> {
+    match page {
+        Page::Html(html) => printed(rt, asked, &mut html.as_bytes()),
+        Page::Path(name) => {
+            let mut file = fs::open(rt, name).map_err(Fault::Read)?;
+            printed(rt, asked, &mut file)
+        }
+    }
+}
+
+// Whether what is printed is JSON.
+fn is_json(what: What) -> bool {
+    matches!(
+        what,
+        What::Links | What::Outline | What::Meta | What::Select
+    )
+}
+
+// What is answered of a record, by this name.
+fn answer_of(
+    rt: &HostRuntime,
+    asked: &Asked<'_>,
+    name: &str,
+    record: &Record,
+    line: u64,
+) -> Result<String, Fault> {
+    let alloc = rt.alloc();
+    let mut answer = begin_answer(alloc, Some(record), line)?;
+    let Some(page) = record.page() else {
+        end_answer(alloc, &mut answer, "error", "no html and no path", false)?;
+        return Ok(answer);
+    };
+    match printed_of(rt, asked, page) {
+        Ok(text) => end_answer(alloc, &mut answer, name, text.as_str(), is_json(asked.what))?,
+        Err(fault) => {
+            let said = said_of(rt, &fault)?;
+            end_answer(alloc, &mut answer, "error", said.as_str(), false)?;
+        }
+    }
+    Ok(answer)
+}
+
+// What is answered of a line that is no record.
+fn refusal(rt: &HostRuntime, line: u64, said: &str) -> Result<String, Fault> {
+    let mut answer = begin_answer(rt.alloc(), None, line)?;
+    end_answer(rt.alloc(), &mut answer, "error", said, false)?;
+    Ok(answer)
+}
+
+// What is answered of a line.
+fn answer_to(
+    rt: &HostRuntime,
+    asked: &Asked<'_>,
+    name: &str,
+    text: &str,
+    line: u64,
+) -> Result<String, Fault> {
+    match Record::parse(rt.alloc(), text) {
+        Ok(record) => answer_of(rt, asked, name, &record, line),
+        Err(error) => {
+            let mut said = String::new(rt.alloc());
+            write!(said, "{error}").map_err(|_refused| Fault::Memory)?;
+            refusal(rt, line, said.as_str())
+        }
+    }
+}
+
+// What is answered of a line that was read, or that isn't UTF-8. Another error of reading ends the records.
+fn answer_read(
+    rt: &HostRuntime,
+    asked: &Asked<'_>,
+    name: &str,
+    read: io::Result<String>,
+    line: u64,
+) -> Result<String, Fault> {
+    match read {
+        Ok(text) => answer_to(rt, asked, name, text.as_str(), line),
+        Err(error) => match error.kind() {
+            ErrorKind::InvalidData => refusal(rt, line, "no UTF-8"),
+            _ => Err(Fault::Read(error)),
+        },
+    }
+}
+
+/// Answers each record of an input by what is asked of its page, in a line of JSON, in which it has this name.
+pub fn show_records<R: Read + Drop>(
+    rt: &HostRuntime,
+    asked: &Asked<'_>,
+    name: &str,
+    input: R,
+) -> Result<(), Fault> {
+    let alloc = rt.alloc();
+    let mut line = 0u64;
+    let reader = BufReader::new(alloc, input).map_err(Fault::Read)?;
+    for read in reader.lines(alloc) {
+        line = line.saturating_add(1);
+        let answer = answer_read(rt, asked, name, read, line)?;
+        rt.stdout()
+            .write_all(answer.as_bytes())
+            .map_err(Fault::Write)?;
+    }
+    Ok(())
+}
