@@ -15,14 +15,29 @@ use html_tree_builder::{Arena, LocalName, Namespace, NodeId, ParseOpts, QualName
 use std::alloc::{AllocError, Global};
 use std::io::Read;
 
-// The name of a context: HTML's, or behind `svg ` or `math ` one of SVG or MathML.
-fn context_name(alloc: Global, text: &str) -> Result<QualName, AllocError> {
-    let (url, local) = match text.split_once(' ') {
+// The namespace of a context, and its name there: HTML's, or behind `svg ` or `math ` one of SVG or MathML.
+fn context_parts(text: &str) -> (&'static str, &str) {
+    match text.split_once(' ') {
         Some(("svg", local)) => (namespaces::SVG, local),
         Some(("math", local)) => (namespaces::MATHML, local),
         _ => (namespaces::HTML, text),
+    }
+}
+
+/// Whether a text names a context: behind `svg ` or `math ` there is a name, and no name is empty or has a blank.
+pub fn is_context(text: &str) -> bool {
+    let (_url, local) = context_parts(text);
+    !local.is_empty() && !local.contains(' ')
+}
+
+// The name of a context. One of HTML is read in small letters, as a tag's is.
+fn context_name(alloc: Global, text: &str) -> Result<QualName, AllocError> {
+    let (url, local) = context_parts(text);
+    let local = if url == namespaces::HTML {
+        LocalName::from_string(local.to_ascii_lowercase(alloc)?)?
+    } else {
+        LocalName::new(alloc, local)?
     };
-    let local = LocalName::new(alloc, local)?;
     Ok(QualName::new(None, Namespace::new(alloc, url)?, local))
 }
 

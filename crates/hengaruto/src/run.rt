@@ -2,7 +2,7 @@
 use super::answer::{Asked, put_answer};
 use super::command::{What, what_named};
 use super::fault::Fault;
-use super::page::{tokens_of, tree_of};
+use super::page::{is_context, tokens_of, tree_of};
 use super::policy_file::{policy_in, tell_policy};
 use super::records::show_records;
 use super::select::{Selection, Shown, tell_selector};
@@ -205,14 +205,25 @@ fn show_word(rt: &HostRuntime, name: &str, is_record: bool, matches: &ArgMatches
     show_asked(rt, &asked, matches)
 }
 
+// Shows what a word asks for, if the context that is said is one.
+fn show_in_context(rt: &HostRuntime, name: &str, is_record: bool, matches: &ArgMatches<'_>) -> u8 {
+    match matches.get_str("fragment") {
+        Some(context) if !is_context(context) => {
+            let _told = writeln!(rt.stderr(), "hengaruto: '{context}' names no element");
+            2
+        }
+        _ => show_word(rt, name, is_record, matches),
+    }
+}
+
 /// Shows what the words ask for, and answers the status.
 pub fn run(rt: &HostRuntime, matches: &ArgMatches<'_>) -> ExitCode {
     let status = match matches.subcommand() {
         Some(("records", records)) => match records.subcommand() {
-            Some((name, matches)) => show_word(rt, name, true, matches),
+            Some((name, matches)) => show_in_context(rt, name, true, matches),
             None => 2,
         },
-        Some((name, matches)) => show_word(rt, name, false, matches),
+        Some((name, matches)) => show_in_context(rt, name, false, matches),
         None => 2,
     };
     ExitCode::from(status)
