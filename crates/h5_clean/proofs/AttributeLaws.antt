@@ -4,25 +4,27 @@ use Rattle.std.proofs.lemmas.Bool.{and_from, and_left, and_parts, and_right, con
 use Rattle.std.proofs.lemmas.Cmp.{nat_list_eq_equiv}
 use Rattle.std.proofs.lemmas.List.{map-append}
 use Rattle.std.proofs.lemmas.List.Folds.{list_any-append}
-use Rattle.std.specs.List.{list_all}
+use Rattle.std.specs.List.{list_all, starts_with}
 use Rattle.std.specs.Option.{option_eq}
-use Rattle.std.specs.Prelude.{Option}
+use Rattle.std.specs.Prelude.{Option, nat_eq}
 use Rattle.std.specs.Str.{is_utf8}
 use Rattle.h5_names.specs.AttributeText.{AttributeText, attribute_text, attribute_texts, is_same_name, is_same_text}
 use Rattle.h5_names.specs.declared.qualified.Attribute.{Attribute}
 use Rattle.h5_names.specs.declared.qualified.QualName.{QualName}
 use Rattle.h5_interface.specs.Changes.{has_attribute}
+use Rattle.h5_tables.specs.TagSets.{is_one_of}
 use Rattle.h5_plain.specs.Plain.{ArePlain}
-use Rattle.h5_clean.specs.Policies.{Rules, as_left, attributes_left, bare, is_name, left_behind, rel_of, sets, stays}
+use Rattle.h5_clean.specs.Policies.{ArePrefixed, Rules, as_left, attributes_left, bare, id_names, is_name, left_behind, prefix_of, rel_of, sets, stays, value_left}
 use Rattle.h5_round_trip.specs.Readable.{AreNameBytes, AreReadable, IsName, IsReadable, is_name_byte}
 use Rattle.h5_clean.specs.Texts.{readable}
-use Rattle.h5_clean.proofs.TextLaws.{readable_reads, readable_same, reads_utf8}
+use Rattle.h5_clean.proofs.PrefixLaws.{value_begins, value_reads, value_same}
+use Rattle.h5_clean.proofs.TextLaws.{readable_reads, reads_utf8}
 
 -- ---- one attribute more
 
 -- it stays by these tests
 pub stays_by : (r : Rules) (e : List ℕ) (before : List AttributeText) (a : AttributeText) → is_same_text a.name.ns [] ≡ true → is_name a.name.local ≡ true → is_utf8 a.value ≡ true
-    → r.keeps e a.name.local (readable a.value) ≡ true → sets r e a.name.local ≡ false → has_attribute (bare a.name.local) before ≡ false → stays r e before a ≡ true
+    → r.keeps e a.name.local (value_left r a.name.local a.value) ≡ true → sets r e a.name.local ≡ false → has_attribute (bare a.name.local) before ≡ false → stays r e before a ≡ true
 stays_by r e before a space named utf8 keeps unset none =
     and_from _ _ space (and_from _ _ named (and_from _ _ utf8 (and_from _ _ keeps (and_from _ _ (ap not unset) (ap not none)))))
 
@@ -62,6 +64,7 @@ record Kept (r : Rules) (e : List ℕ) (a : AttributeText) : Type 0 where
   bare_name : a.name ≡ bare a.name.local
   named : is_name a.name.local ≡ true
   reads : IsReadable a.value
+  begins : is_one_of id_names a.name.local ≡ true → starts_with nat_eq a.value (prefix_of r.prefix) ≡ true
   keeps : r.keeps e a.name.local a.value ≡ true
   unset : sets r e a.name.local ≡ false
 
@@ -87,24 +90,31 @@ plain_more (b ∷ before) a p q w n =
     ∙ or_from _ _ p.1.1.0 (or_from _ _ (same_name a.name b.name ∙ parts.0) refl) in
     (p.0, (p.1.0, (none, plain_more before a p.1.1.1 q w parts.1)))
 
-one_more : (r : Rules) (e : List ℕ) (before : List AttributeText) (a : AttributeText) → Left r e before → stays r e before a ≡ true → Left r e (before ++ as_left a ∷ [])
+one_more : (r : Rules) (e : List ℕ) (before : List AttributeText) (a : AttributeText) → Left r e before → stays r e before a ≡ true → Left r e (before ++ as_left r a ∷ [])
 one_more r e before a l h =
     let space = and_parts (is_same_text a.name.ns []) _ h in
     let name = and_parts (is_name a.name.local) _ space.1 in
     let utf8 = and_parts (is_utf8 a.value) _ name.1 in
-    let keeps = and_parts (r.keeps e a.name.local (readable a.value)) _ utf8.1 in
+    let keeps = and_parts (r.keeps e a.name.local (value_left r a.name.local a.value)) _ utf8.1 in
     let unset = and_parts (not (sets r e a.name.local)) _ keeps.1 in
     record {
-      kept = kept_more r e before (as_left a) l.kept
-          (record { bare_name = refl; named = name.0; reads = readable_reads a.value utf8.0; keeps = keeps.0; unset = not-true _ unset.0 });
-      plain = plain_more before (as_left a) l.plain refl refl (not-true _ unset.1);
+      kept = kept_more r e before (as_left r a) l.kept
+          (record {
+            bare_name = refl;
+            named = name.0;
+            reads = value_reads r a.name.local a.value utf8.0;
+            begins = value_begins r a.name.local a.value;
+            keeps = keeps.0;
+            unset = not-true _ unset.0;
+          });
+      plain = plain_more before (as_left r a) l.plain refl refl (not-true _ unset.1);
     }
 
 stand : (r : Rules) (e : List ℕ) (before attrs : List AttributeText) → Left r e before → Left r e (left_behind r e before attrs)
 stand r e before [] l = l
 stand r e before (a ∷ attrs) l =
-    stand r e (if stays r e before a then before ++ as_left a ∷ [] else before) attrs
-    (cond_both (stays r e before a) (before ++ as_left a ∷ []) before (λ b. Left r e b) (λ h. one_more r e before a l h) (λ h. l))
+    stand r e (if stays r e before a then before ++ as_left r a ∷ [] else before) attrs
+    (cond_both (stays r e before a) (before ++ as_left r a ∷ []) before (λ b. Left r e b) (λ h. one_more r e before a l h) (λ h. l))
 
 -- ---- the `rel` that is set
 
@@ -157,14 +167,33 @@ left_readable r e attrs =
     (subst AreReadable (append-nil (left_behind r e [] attrs)) (readable_with r e (left_behind r e [] attrs) [] l.kept tt))
     (λ value h s u. readable_with r e (left_behind r e [] attrs) (rel value ∷ []) l.kept (is_name_so (codes "rel") refl, (readable_reads value u, tt)))
 
+-- what is set is no name of a thing
+rel_is_none : is_one_of id_names (codes "rel") ≡ false
+unfolding id_names
+rel_is_none = refl
+
+prefixed_with : (r : Rules) (e : List ℕ) (before more : List AttributeText) → AreKept r e before → ArePrefixed r more → ArePrefixed r (before ++ more)
+prefixed_with r e [] more k m = m
+prefixed_with r e (a ∷ before) more k m = (k.0.begins, prefixed_with r e before more k.1 m)
+
+pub left_prefixed : (r : Rules) (e : List ℕ) (attrs : List AttributeText) → ArePrefixed r (attributes_left r e attrs)
+left_prefixed r e attrs =
+    let l = front r e attrs in
+    ending r e (left_behind r e [] attrs) (ArePrefixed r)
+    (subst (ArePrefixed r) (append-nil (left_behind r e [] attrs)) (prefixed_with r e (left_behind r e [] attrs) [] l.kept tt))
+    (λ value h s u. prefixed_with r e (left_behind r e [] attrs) (rel value ∷ []) l.kept ((λ i. absurd (false≢true (sym rel_is_none ∙ i))), tt))
+
 -- ---- what was left is left again
 
 pub left_append : (r : Rules) (e : List ℕ) (before attrs more : List AttributeText) → left_behind r e before (attrs ++ more) ≡ left_behind r e (left_behind r e before attrs) more
 left_append r e before [] more = refl
-left_append r e before (a ∷ attrs) more = left_append r e (if stays r e before a then before ++ as_left a ∷ [] else before) attrs more
+left_append r e before (a ∷ attrs) more = left_append r e (if stays r e before a then before ++ as_left r a ∷ [] else before) attrs more
 
-as_it_is : (r : Rules) (e : List ℕ) (a : AttributeText) → Kept r e a → as_left a ≡ a
-as_it_is r e a k = ap₂ (λ (n : QualName) (v : List ℕ). record { name = n; value = v }) (sym k.bare_name) (readable_same a.value k.reads)
+kept_value : (r : Rules) (e : List ℕ) (a : AttributeText) → Kept r e a → value_left r a.name.local a.value ≡ a.value
+kept_value r e a k = value_same r a.name.local a.value k.reads k.begins
+
+as_it_is : (r : Rules) (e : List ℕ) (a : AttributeText) → Kept r e a → as_left r a ≡ a
+as_it_is r e a k = ap₂ (λ (n : QualName) (v : List ℕ). record { name = n; value = v }) (sym k.bare_name) (kept_value r e a k)
 
 none_before : (before : List AttributeText) (a : AttributeText) (attrs : List AttributeText) → ArePlain (before ++ a ∷ attrs) → has_attribute a.name before ≡ false
 none_before [] a attrs p = refl
@@ -175,13 +204,13 @@ none_before (b ∷ before) a attrs p =
 stays_again : (r : Rules) (e : List ℕ) (before : List AttributeText) (a : AttributeText) → Kept r e a → has_attribute a.name before ≡ false → stays r e before a ≡ true
 stays_again r e before a k none =
     stays_by r e before a (ap (λ (n : QualName). is_same_text n.ns []) k.bare_name) k.named (reads_utf8 a.value k.reads)
-    (ap (r.keeps e a.name.local) (readable_same a.value k.reads) ∙ k.keeps) k.unset (ap (λ n. has_attribute n before) (sym k.bare_name) ∙ none)
+    (ap (r.keeps e a.name.local) (kept_value r e a k) ∙ k.keeps) k.unset (ap (λ n. has_attribute n before) (sym k.bare_name) ∙ none)
 
 all_again : (r : Rules) (e : List ℕ) (before attrs : List AttributeText) → AreKept r e attrs → ArePlain (before ++ attrs) → left_behind r e before attrs ≡ before ++ attrs
 all_again r e before [] k p = sym (append-nil before)
 all_again r e before (a ∷ attrs) k p =
     ap (λ b. left_behind r e b attrs)
-    (cond-true (stays r e before a) (before ++ as_left a ∷ []) before (stays_again r e before a k.0 (none_before before a attrs p))
+    (cond-true (stays r e before a) (before ++ as_left r a ∷ []) before (stays_again r e before a k.0 (none_before before a attrs p))
     ∙ ap (λ x. before ++ x ∷ []) (as_it_is r e a k.0))
     ∙ all_again r e (before ++ a ∷ []) attrs k.1 (subst ArePlain (sym (append_assoc before (a ∷ []) attrs)) p)
     ∙ append_assoc before (a ∷ []) attrs
@@ -190,8 +219,8 @@ all_again r e before (a ∷ attrs) k p =
 rel_goes : (r : Rules) (e value : List ℕ) (before : List AttributeText) → is_same_text e (codes "a") ≡ true → r.rel ≡ Some value → left_behind r e before (rel value ∷ []) ≡ before
 rel_goes r e value before h s =
     let goes : stays r e before (rel value) ≡ false =
-    and_right (is_utf8 (readable value)) _ (and_right (r.keeps e (codes "rel") (readable (readable value))) _ (and_left _ _ (ap not (and_from _ _ h (ap is_some s))))) in
-    cond-false (stays r e before (rel value)) (before ++ as_left (rel value) ∷ []) before goes
+    and_right (is_utf8 (readable value)) _ (and_right (r.keeps e (codes "rel") (value_left r (codes "rel") (readable value))) _ (and_left _ _ (ap not (and_from _ _ h (ap is_some s))))) in
+    cond-false (stays r e before (rel value)) (before ++ as_left r (rel value) ∷ []) before goes
 
 pub left_again : (r : Rules) (e : List ℕ) (attrs : List AttributeText) → attributes_left r e (attributes_left r e attrs) ≡ attributes_left r e attrs
 left_again r e attrs =

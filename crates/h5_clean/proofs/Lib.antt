@@ -10,6 +10,7 @@ mod ListLaws
 mod MarkLaws
 mod NameLaws
 mod PassLaws
+mod PrefixLaws
 mod RowLaws
 mod SchemeLaws
 mod SourceLaws

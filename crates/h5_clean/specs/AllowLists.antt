@@ -7,7 +7,8 @@ use Rattle.h5_clean.specs.Policies.{Rules}
 use Rattle.h5_clean.specs.TextPolicy.{Keeping, scheme_of}
 
 -- elements, those that go with all that they hold, attributes of any element and of some, attributes that hold a URL beside those that
--- always do, schemes of URLs, whether URLs may be relative, what `rel` of an `a` is set to, and how deep elements go
+-- always do, schemes of URLs, whether URLs may be relative, what `rel` of an `a` is set to, what an `id` or a `name` begins with, and how
+-- deep elements go
 pub record Table : Type 0 where
   pub elements : List (List ℕ)
   pub dropped : List (List ℕ)
@@ -17,6 +18,7 @@ pub record Table : Type 0 where
   pub schemes : List (List ℕ)
   pub relative : Bool
   pub rel : Option (List ℕ)
+  pub prefix : Option (List ℕ)
   pub depth : ℕ
 
 -- the attributes that always hold a URL
@@ -49,5 +51,6 @@ table_rules t = record {
   drops = is_one_of t.dropped;
   keeps = keeps_listed t;
   rel = t.rel;
+  prefix = t.prefix;
   depth = t.depth;
 }

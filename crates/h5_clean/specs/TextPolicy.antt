@@ -115,5 +115,6 @@ text_rules = record {
   drops = λ name. is_one_of dropped_names name || is_one_of more_dropped_names name;
   keeps = keeps_attribute;
   rel = Some (codes "noopener noreferrer");
+  prefix = None;
   depth = 256;
 }

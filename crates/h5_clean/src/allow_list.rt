@@ -22,6 +22,7 @@ pub struct AllowList {
     schemes: NameList,
     relative: bool,
     rel: Option<String>,
+    prefix: Option<String>,
     depth: usize,
 }
 
@@ -41,6 +42,7 @@ impl Model for AllowList {
       schemes = list.schemes;
       relative = list.relative;
       rel = option_map string_bytes list.rel;
+      prefix = option_map string_bytes list.prefix;
       depth = list.depth;
     } };
 }
@@ -54,7 +56,7 @@ fn is_url_name(attribute: &str) -> bool
 }
 
 impl AllowList {
-    /// Lists nothing, lets URLs be relative, sets no `rel`, and lets elements be nested 256 deep.
+    /// Lists nothing, lets URLs be relative, sets no `rel` and no prefix, and lets elements be nested 256 deep.
     pub fn new(alloc: Global) -> AllowList
         ensures { result ≡ record {
           elements = [];
@@ -65,6 +67,7 @@ impl AllowList {
           schemes = [];
           relative = true;
           rel = None;
+          prefix = None;
           depth = 256;
         } }
     {
@@ -78,6 +81,7 @@ impl AllowList {
             schemes: NameList::new(alloc),
             relative: true,
             rel: None,
+            prefix: None,
             depth: 256,
         }
     }
@@ -152,6 +156,17 @@ impl AllowList {
         Ok(())
     }
 
+    /// Has the value of each `id` and each `name` that is kept begin with this: it is put before those that don't. Where memory is refused
+    /// nothing changes.
+    pub fn set_prefix(&mut self, prefix: &str) -> Result<(), AllocError>
+        ensures ok { OnOk result (self.new ≡ record self.old { prefix = Some prefix.now }) }
+        ensures err { OnErr result (self.new ≡ self.old) }
+    {
+        let text = String::from_str(self.alloc, prefix)?;
+        self.prefix = Some(text);
+        Ok(())
+    }
+
     /// Lets elements be nested so deep.
     pub fn set_depth(&mut self, depth: usize)
         ensures { self.new ≡ record self.old { depth = depth } }
@@ -204,6 +219,14 @@ impl Policy for AllowList {
     fn rel(&self) -> Option<&str> {
         match &self.rel {
             Some(rel) => Some(rel.as_str()),
+            None => None,
+        }
+    }
+
+    // What was set, if it was.
+    fn prefix(&self) -> Option<&str> {
+        match &self.prefix {
+            Some(prefix) => Some(prefix.as_str()),
             None => None,
         }
     }

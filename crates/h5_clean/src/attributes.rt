@@ -1,11 +1,13 @@
 //! The attributes that are left.
-ghost use Rattle.std.specs.Prelude.{◌≡◌, ◌∷◌, ◌++◌, [], List, Some, map, IfOk, OnOk, option_copied};
+ghost use Rattle.std.specs.Prelude.{◌≡◌, ◌∷◌, ◌++◌, [], List, Some, map, IfOk, OnOk, option_copied, string_bytes};
 ghost use Rattle.std.specs.List.{list_all, list_any};
 ghost use Rattle.std.specs.Iterator.{Drains, IsFinite};
 ghost use Rattle.h5_names.specs.AttributeText.{attribute_text, attribute_texts, is_same_name};
 ghost use Rattle.h5_interface.specs.Changes.{has_attribute};
+ghost use Rattle.h5_tables.specs.TagSets.{is_one_of};
 ghost use Rattle.h5_round_trip.specs.Readable.{is_name_byte};
-ghost use Rattle.h5_clean.specs.Policies.{as_left, attributes_left, bare, is_name, left_behind, rel_of, sets, stays};
+ghost use Rattle.h5_clean.specs.Policies.{as_left, attributes_left, bare, id_names, is_name, left_behind, prefix_of, prefixed, rel_of, sets, stays, value_left};
+ghost use Rattle.h5_clean.specs.Texts.{readable};
 
 use super::policy::Policy;
 use super::texts::readable;
@@ -62,6 +64,44 @@ fn sets<P: Policy>(policy: &P, element: &str, local: &str) -> bool
     element == "a" && local == "rel" && policy.rel().is_some()
 }
 
+// Whether an attribute names a thing in the page.
+#[tactic(auto, unfolding(crate::specs::Policies::id_names))]
+fn is_id_name(local: &str) -> bool
+    ensures { result ≡ is_one_of id_names local.now }
+{
+    matches!(local, "id" | "name")
+}
+
+// A value behind a prefix, unless it begins with it.
+fn prefixed(alloc: Global, prefix: &str, value: &str) -> Result<String, AllocError>
+    ensures { IfOk result (λ made. string_bytes made ≡ prefixed (prefix_of (Some prefix.now)) (readable value.now)) }
+{
+    let value = readable(alloc, value)?;
+    let mut made = readable(alloc, prefix)?;
+    if value.as_str().starts_with(made.as_str()) {
+        return Ok(value);
+    }
+    made.push_str(value.as_str())?;
+    Ok(made)
+}
+
+// What is left of an attribute's value.
+fn value_left<P: Policy>(
+    alloc: Global,
+    policy: &P,
+    local: &str,
+    value: &str,
+) -> Result<String, AllocError>
+    ensures { IfOk result (λ made. string_bytes made ≡ value_left (P.rules policy.now) local.now value.now) }
+{
+    if is_id_name(local)
+        && let Some(prefix) = policy.prefix()
+    {
+        return prefixed(alloc, prefix, value);
+    }
+    readable(alloc, value)
+}
+
 // Adds an attribute, if it stays.
 fn keep<P: Policy, T: AttrRef>(
     alloc: Global,
@@ -78,7 +118,7 @@ fn keep<P: Policy, T: AttrRef>(
     if name.ns != Namespace::none() || !is_name(local) {
         return Ok(());
     }
-    let value = readable(alloc, attr.value())?;
+    let value = value_left(alloc, policy, local, attr.value())?;
     if policy.keeps(element, local, value.as_str())
         && !sets(policy, element, local)
         && !has_name(left.as_slice(), &name.local)

@@ -17,7 +17,7 @@ ghost use Rattle.h5_round_trip.specs.Readable.{AreReadable, CanBeRead, IsReadabl
 ghost use Rattle.h5_round_trip.specs.Written.{written_fragment};
 ghost use Rattle.h5_clean.specs.Calls.{after_call, first_state, text_of};
 ghost use Rattle.h5_clean.specs.Pass.{AllLet, IsWithin, cleaned, with_first};
-ghost use Rattle.h5_clean.specs.Policies.{Rules, attributes_left};
+ghost use Rattle.h5_clean.specs.Policies.{ArePrefixed, Rules, attributes_left};
 ghost use Rattle.h5_clean.specs.Source.{Source, calls_before, source_of};
 ghost use Rattle.h5_clean.specs.Texts.{readable, without_marks};
 
@@ -36,6 +36,11 @@ pub fn what_is_left_of_attributes_can_be_read()
     ensures readable { (rules : Rules) (element : List ℕ) (attrs : List AttributeText) → AreReadable (attributes_left rules element attrs) }
     ensures again { (rules : Rules) (element : List ℕ) (attrs : List AttributeText) →
         attributes_left rules element (attributes_left rules element attrs) ≡ attributes_left rules element attrs }
+{}
+
+/// Of the attributes that are left, the value of each `id` and each `name` begins with the prefix, if one is set.
+pub fn what_is_left_of_names_is_prefixed()
+    ensures { (rules : Rules) (element : List ℕ) (attrs : List AttributeText) → ArePrefixed rules (attributes_left rules element attrs) }
 {}
 
 /// What is left of a tree is a plain fragment that can be read, of which the rules let all through.

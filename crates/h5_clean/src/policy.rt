@@ -18,13 +18,19 @@ pub trait Policy {
     fn drops(&self, element: &str) -> bool
         ensures { result ≡ (rules self.now).drops element.now };
 
-    /// Whether an element keeps an attribute of this name and value.
+    /// Whether an element keeps an attribute of this name and value. The value is the one that is left: where the attribute is an `id` or a
+    /// `name`, behind the prefix.
     fn keeps(&self, element: &str, attribute: &str, value: &str) -> bool
         ensures { result ≡ (rules self.now).keeps element.now attribute.now value.now };
 
     /// What the attribute `rel` of each `a` is set to, if it is set.
     fn rel(&self) -> Option<&str>
         ensures { option_copied result ≡ (rules self.now).rel };
+
+    /// What the value of each `id` and each `name` begins with, if that is set, so that they are none of the page's own. It is put before a
+    /// value that doesn't begin with it. A URL that leads to an `id` stays as it is.
+    fn prefix(&self) -> Option<&str>
+        ensures { option_copied result ≡ (rules self.now).prefix };
 
     /// How deep elements may be nested.
     fn depth(&self) -> usize

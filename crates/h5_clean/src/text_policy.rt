@@ -129,6 +129,11 @@ impl Policy for TextPolicy {
         Some("noopener noreferrer")
     }
 
+    // None: neither an `id` nor a `name` is kept.
+    fn prefix(&self) -> Option<&str> {
+        None
+    }
+
     // Deeper than any text, and shallow enough for who reads it.
     fn depth(&self) -> usize {
         256

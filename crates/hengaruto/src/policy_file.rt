@@ -192,6 +192,14 @@ fn set_rel(alloc: Global, policy: &mut AllowList, value: &Value) -> Result<(), P
     }
 }
 
+// Sets what ids and names begin with.
+fn set_prefix(alloc: Global, policy: &mut AllowList, value: &Value) -> Result<(), PolicyFault> {
+    match value {
+        Value::String(prefix) => Ok(policy.set_prefix(prefix.as_str())?),
+        _ => Err(mismatch(alloc, "prefix", "a string")),
+    }
+}
+
 // Sets how deep elements may be nested.
 fn set_depth(alloc: Global, policy: &mut AllowList, value: &Value) -> Result<(), PolicyFault> {
     if let Value::Integer(depth) = value
@@ -214,6 +222,7 @@ fn set(alloc: Global, policy: &mut AllowList, key: &str, value: &Value) -> Resul
         "attributes-of" => add_attributes_of(alloc, policy, value),
         "relative" => set_relative(alloc, policy, value),
         "rel" => set_rel(alloc, policy, value),
+        "prefix" => set_prefix(alloc, policy, value),
         "depth" => set_depth(alloc, policy, value),
         _ => Err(wrong(format!(in alloc; "`{key}` is no key of a policy"))),
     }
