@@ -99,7 +99,7 @@ pub fn put_answer<W: Write>(
 ) -> Result<(), Fault> {
     let top = top_of(arena, asked.context.is_some());
     if let Some(selection) = asked.selection {
-        return put_selected(alloc, arena, &top, selection, asked.form, out);
+        return put_selected(alloc, &top, selection, asked.form, out);
     }
     let text = match asked.what {
         What::Html => serialize(alloc, Vec::new(alloc), &top, SerializeOpts::default())?,

@@ -43,6 +43,9 @@ fn shown_of(
     id: NodeId,
     shown: Shown<'_>,
 ) -> Result<Option<String>, AllocError> {
+    if !arena.holds(id) {
+        return Ok(None);
+    }
     match shown {
         Shown::Html => Ok(Some(arena.outer_html(id)?)),
         Shown::Text => Ok(Some(text_of(alloc, &arena.at(id))?)),
@@ -99,17 +102,17 @@ fn items_of(
 /// Writes what is asked of the elements below a node that a selector matches: each with a line end behind it, or as JSON.
 pub fn put_selected<W: Write>(
     alloc: Global,
-    arena: &Arena,
     top: &NodeRef<'_>,
     selection: Selection<'_>,
     form: Form,
     out: &mut W,
 ) -> Result<(), Fault> {
+    let (arena, shown) = (top.arena, selection.shown);
     let found = selection.selector.select(arena, top.id)?;
     if let Form::Lines = form {
-        return put_lines(alloc, arena, found.as_slice(), selection.shown, out);
+        return put_lines(alloc, arena, found.as_slice(), shown, out);
     }
-    let items = items_of(alloc, arena, found.as_slice(), selection.shown)?;
+    let items = items_of(alloc, arena, found.as_slice(), shown)?;
     let mut text = String::new(alloc);
     print_items(items.as_slice(), &mut text, form)?;
     out.write_all(text.as_bytes()).map_err(Fault::Write)
