@@ -123,8 +123,7 @@ function putElement(element, place, out) {
   const name = element.tagName, kind = KIND_OF.get(name), isHtml = element.namespaceURI === HTML;
   if (isHtml && isNamed(name) && fits(kind, place)) {
     const held = VOID.has(name) ? [] : putLeft(element.childNodes, inside(kind, place), []);
-    const childNodes = kind === 'preformatted' ? takeFromFront(held, /^\n+/) : held;
-    out.push({tagName: name, namespaceURI: HTML, attrs: attributesLeft(element), childNodes});
+    out.push({tagName: name, namespaceURI: HTML, attrs: attributesLeft(element), childNodes: held});
   } else if (isHtml && (!DROPPED.has(name) || isNamed(name))) putLeft(element.childNodes, place, out);
 }
 
@@ -134,6 +133,9 @@ const textWritten = text => text.replace(/[&\u00a0<>]/g, c => REFERENCES[c]);
 const valueWritten = text => text.replace(/[&\u00a0<>"]/g, c => REFERENCES[c]);
 const attributesWritten = attrs => attrs.map(a => ` ${a.prefix ? a.prefix + ':' : ''}${a.name}="${valueWritten(a.value)}"`).join('');
 
+// What a `pre` begins with is a newline more where it begins with one, since a reader takes one.
+const doubled = element => element.tagName === 'pre' && element.childNodes[0]?.value?.startsWith('\n') ? '\n' : '';
+
 // Nodes as a text. What can't be in a cleaned text is written so that it is seen.
 function written(nodes) {
   return nodes.map(node => {
@@ -141,7 +143,7 @@ function written(nodes) {
     if (!node.tagName) return `<!${node.nodeName} ${node.data}>`;
     const name = node.namespaceURI === HTML ? node.tagName : `${node.namespaceURI} ${node.tagName}`;
     const start = `<${name}${attributesWritten(node.attrs)}>`;
-    return VOID.has(name) && !node.childNodes.length ? start : `${start}${written(node.childNodes)}</${name}>`;
+    return VOID.has(name) && !node.childNodes.length ? start : `${start}${doubled(node)}${written(node.childNodes)}</${name}>`;
   }).join('');
 }
 

@@ -190,7 +190,7 @@ fn show_asked(rt: &HostRuntime, asked: &Asked<'_>, matches: &ArgMatches<'_>) -> 
 }
 
 // Shows what a word asks for, of pages or of records of them, and answers the status.
-fn show_word(rt: &HostRuntime, name: &str, is_record: bool, matches: &ArgMatches<'_>) -> u8 {
+fn show_word<'a>(rt: &HostRuntime, name: &'a str, is_record: bool, matches: &ArgMatches<'a>) -> u8 {
     let what = what_named(name);
     let asked = Asked {
         what,
@@ -206,7 +206,12 @@ fn show_word(rt: &HostRuntime, name: &str, is_record: bool, matches: &ArgMatches
 }
 
 // Shows what a word asks for, if the context that is said is one.
-fn show_in_context(rt: &HostRuntime, name: &str, is_record: bool, matches: &ArgMatches<'_>) -> u8 {
+fn show_in_context<'a>(
+    rt: &HostRuntime,
+    name: &'a str,
+    is_record: bool,
+    matches: &ArgMatches<'a>,
+) -> u8 {
     match matches.get_str("fragment") {
         Some(context) if !is_context(context) => {
             let _told = writeln!(rt.stderr(), "hengaruto: '{context}' names no element");
