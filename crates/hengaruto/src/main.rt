@@ -20,11 +20,24 @@ mod tokens;
 use command::command;
 use run::run;
 use std::env;
+use std::io::Write;
 use std::process::ExitCode;
+
+// The words of the command line.
+fn words_of(rt: &HostRuntime) -> anyhow::Result<Vec<String>> {
+    let words: Vec<String> = env::args(rt)?.collect(rt.alloc())?;
+    Ok(words)
+}
 
 fn main(rt: HostRuntime) -> anyhow::Result<ExitCode> {
     let alloc = rt.alloc();
-    let words: Vec<String> = env::args(&rt)?.collect(alloc)?;
+    let Ok(words) = words_of(&rt) else {
+        writeln!(
+            rt.stderr(),
+            "hengaruto: a word isn't UTF-8, or memory was refused"
+        )?;
+        return Ok(ExitCode::from(2));
+    };
     let matches = match command(alloc)?.try_get_matches_from(words.as_slice()) {
         Ok(matches) => matches,
         Err(error) => {

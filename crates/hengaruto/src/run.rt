@@ -10,7 +10,7 @@ use clap::ArgMatches;
 use h5_listing::Form;
 use html_tree_builder::select::Selector;
 use std::fs;
-use std::io::{ErrorKind, Read, Write};
+use std::io::{ErrorKind, IsTerminal, Read, Write};
 use std::process::ExitCode;
 use url::Url;
 
@@ -29,13 +29,23 @@ pub fn put_input<R: Read, W: Write>(
     put_answer(rt.alloc(), asked, &arena, out)
 }
 
+// Ends the line of what is HTML, where a terminal shows it.
+fn end_line(rt: &HostRuntime, what: What) -> Result<(), Fault> {
+    let mut out = rt.stdout();
+    if matches!(what, What::Html | What::Clean) && out.is_terminal() {
+        out.write_all(b"\n").map_err(Fault::Write)?;
+    }
+    Ok(())
+}
+
 // Shows an input, which is a page or has records of pages.
 fn show_input<R: Read + Drop>(rt: &HostRuntime, asked: &Asked<'_>, input: R) -> Result<(), Fault> {
     if let Some(name) = asked.record {
         return show_records(rt, asked, name, input);
     }
     let mut input = input;
-    put_input(rt, asked, &mut input, &mut rt.stdout())
+    put_input(rt, asked, &mut input, &mut rt.stdout())?;
+    end_line(rt, asked.what)
 }
 
 // Shows a file, or standard input where its name is `-`.
