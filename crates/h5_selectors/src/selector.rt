@@ -59,7 +59,8 @@ fn matching(
     elements: &[NodeId],
 ) -> Result<Vec<NodeId>, AllocError>
     requires { All (IsHeld query.now.arena.now) elements.now }
-    ensures { IfOk result (λ found. map place found.items ≡ filter (matches_by query.now list.now) (map place elements.now)) }
+    ensures found { IfOk result (λ found. map place found.items ≡ filter (matches_by query.now list.now) (map place elements.now)) }
+    ensures held { IfOk result (λ found. All (IsHeld query.now.arena.now) found.items) }
 {
     let mut found = Vec::new(alloc);
     for element in elements {
@@ -120,7 +121,8 @@ impl Selector {
     /// 4.2.6, "querySelectorAll").
     pub fn select(&self, arena: &Arena, id: NodeId) -> Result<Vec<NodeId>, AllocError>
         requires { IsHeld arena.now id }
-        ensures { IfOk result (λ found. map place found.items ≡ selected arena.now id.index self.now) }
+        ensures found { IfOk result (λ found. map place found.items ≡ selected arena.now id.index self.now) }
+        ensures held { IfOk result (λ found. All (IsHeld arena.now) found.items) }
     {
         let query = Query::new(self.alloc, arena, id);
         let below = elements_below(self.alloc, arena, id)?;
