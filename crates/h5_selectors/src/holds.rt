@@ -6,11 +6,13 @@ ghost use Rattle.h5_selectors.specs.Holds as h;
 ghost use Rattle.h5_selectors.specs.AnPlusB.{is_index};
 ghost use Rattle.h5_selectors.specs.Values.{are_same};
 ghost use Rattle.h5_selectors.specs.Query.{holds_by, quirky_by, scope_by, seen_by};
-ghost use Rattle.h5_selectors.specs.Ways.{counted, led};
+ghost use Rattle.h5_selectors.specs.Ways.{ancestors, counted, led, parent_element};
 
 use super::formula::{AnPlusB, AttrTest, Formula, Side, Way, Written};
 use super::values::{compares, includes};
-use super::ways::{are_alike, counted, is_element, is_empty, is_root, led, name_of};
+use super::ways::{
+    are_alike, counted, is_element, is_empty, is_root, led, name_of, parent_element, parent_of,
+};
 use h5_arena::{Arena, NodeId};
 use h5_interface::QuirksMode;
 use h5_names::{KnownName, LocalName, Namespace, QualName};
@@ -284,6 +286,37 @@ fn holds_of_some(formula: &Formula, query: &Query<'_>, list: &[NodeId]) -> Resul
     Ok(false)
 }
 
+// Whether this holds of some ancestor that is an element.
+#[cycle(holds)]
+fn holds_above(formula: &Formula, query: &Query<'_>, id: NodeId) -> Result<bool, AllocError>
+    requires { IsHeld query.now.arena.now id }
+    ensures { IfOk result (λ answer. answer ≡ list_any (holds_by query.now formula.now) (ancestors (seen_by query.now) id.index)) }
+{
+    let mut at = id;
+    'upwards: for _step in 0..query.arena.len() {
+        let Some(parent) = parent_of(query.arena, at) else {
+            return Ok(false);
+        };
+        if is_element(query.arena, parent) && holds(formula, query, parent)? {
+            return Ok(true);
+        }
+        at = parent;
+    }
+    Ok(false)
+}
+
+// Whether this holds of the parent, where that is an element.
+#[cycle(holds)]
+fn holds_of_parent(formula: &Formula, query: &Query<'_>, id: NodeId) -> Result<bool, AllocError>
+    requires { IsHeld query.now.arena.now id }
+    ensures { IfOk result (λ answer. answer ≡ list_any (holds_by query.now formula.now) (parent_element (seen_by query.now) id.index)) }
+{
+    match parent_element(query.arena, id) {
+        Some(parent) => holds(formula, query, parent),
+        None => Ok(false),
+    }
+}
+
 // Whether this holds of some element to which an element leads.
 #[cycle(holds)]
 fn holds_along(
@@ -295,6 +328,11 @@ fn holds_along(
     requires { IsHeld query.now.arena.now id }
     ensures { IfOk result (λ answer. answer ≡ list_any (holds_by query.now formula.now) (led way (seen_by query.now) id.index)) }
 {
+    match way {
+        Way::Parent => return holds_of_parent(formula, query, id),
+        Way::Ancestor => return holds_above(formula, query, id),
+        _ => {}
+    }
     let list = led(query.alloc, query.arena, way, id)?;
     holds_of_some(formula, query, list.as_slice())
 }

@@ -2,6 +2,7 @@
 ghost use Rattle.std.specs.Prelude.{◌≡◌, ◌∷◌, [], All, IfOk, IfSome, map, option_copied};
 ghost use Rattle.std.specs.Option.{option_to_list};
 ghost use Rattle.h5_arena.specs.ArenaModel.{IsChildHeld, IsHeld, child_view, child_views, forest_seen, optional_place, place};
+ghost use Rattle.h5_arena.specs.Kin.{tree_parent};
 ghost use Rattle.h5_selectors.specs.Holds.{are_alike};
 ghost use Rattle.h5_selectors.specs.Ways.{ancestors, before, behind, below, counted, elements, elements_among, first_of, is_element, is_empty, is_root, last_of, led, name_of, parent_element};
 
@@ -24,6 +25,15 @@ pub(crate) fn is_element(arena: &Arena, id: NodeId) -> bool
     ensures { result ≡ is_element (forest_seen arena.now) id.index }
 {
     name_of(arena, id).is_some()
+}
+
+/// Whose child a node is.
+pub(crate) fn parent_of(arena: &Arena, id: NodeId) -> Option<NodeId>
+    requires { IsHeld arena.now id }
+    ensures parent { optional_place result ≡ tree_parent (forest_seen arena.now) id.index }
+    ensures held { IfSome result (IsHeld arena.now) }
+{
+    arena.parent(id)
 }
 
 /// The parent, where it is an element.
