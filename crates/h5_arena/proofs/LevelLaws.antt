@@ -1,5 +1,5 @@
 -- A forest has no more levels than nodes.
-use Rattle.std.proofs.Common.{◌≡◌, ◌≢◌, ℕ, ◌+◌, ◌<◌, ◌≤◌, Bool, true, false, ◌||◌, eqb, List, [], ◌∷◌, arith, length, refl, rules, sym, tests}
+use Rattle.std.proofs.Common.{◌≡◌, ◌≢◌, ◌∙◌, ℕ, ◌+◌, ◌<◌, ◌≤◌, Bool, true, false, ◌||◌, eqb, List, [], ◌∷◌, ap, arith, length, refl, rules, sym, tests}
 use Rattle.std.specs.Prelude.{Option, None, Some, nat_lt}
 use Rattle.std.specs.List.{AllByRecursion, IsDistinct, list_any}
 use Rattle.std.proofs.lemmas.Bool.{eq-eqb, eqb-true}
@@ -85,8 +85,12 @@ few_above f n above k there h =
     at q true e g = rw (eqb-true q n e) (held f n k there)
     at q false e g = held f q k (ancestor_is_node f q n k (h.ancestors q (rw e at g)))
 
--- what is found level by level, from what is shown, is found once as many levels are looked at as there are nodes
-module _ {A : Type 0} (f : Forest) (k : IsForest f) (found : ℕ → ℕ → A) (gone : (levels n : ℕ) → f.node n ≡ None → found (suc levels) n ≡ found levels n) (further : (levels n : ℕ) → ((m : ℕ) → 0 < count m (nodes (shown_children f n)) → found (suc levels) m ≡ found levels m) → found (suc (suc levels)) n ≡ found (suc levels) n) where
+-- what stands right below a node, as a child or as contents, has it as its parent
+pub below_has_parent : (f : Forest) (n m : ℕ) → IsForest f → 0 < count m (below_of f n) → parent_of f m ≡ Some n
+below_has_parent f n m k h = at_parent n (parent_of f m) (rw (← k.one_parent n m) h)
+
+-- what is found level by level, from what is further down, is found once as many levels are looked at as there are nodes
+module _ {A : Type 0} (f : Forest) (k : IsForest f) (down : ℕ → List ℕ) (is_below : (n m : ℕ) → 0 < count m (down n) → IsAncestor (parent_of f) n m) (found : ℕ → ℕ → A) (gone : (levels n : ℕ) → f.node n ≡ None → found (suc levels) n ≡ found levels n) (further : (levels n : ℕ) → ((m : ℕ) → 0 < count m (down n) → found (suc levels) m ≡ found levels m) → found (suc (suc levels)) n ≡ found (suc levels) n) where
   settled_from : (levels n : ℕ) (above : List ℕ) → AreAbove f n above → f.bound ≤ length above + levels → found (suc levels) n ≡ found levels n
   settled_from zero n above h e = at (f.node n) refl
     where
@@ -94,7 +98,14 @@ module _ {A : Type 0} (f : Forest) (k : IsForest f) (found : ℕ → ℕ → A) 
       at None w = gone zero n w
       at (Some d) w = absurd (let few = few_above f n above k (is_some (f.node n) d w) h in omega arith)
   settled_from (suc levels) n above h e =
-      further levels n (λ m w. settled_from levels m (n ∷ above) (one_more f n m above k h (shown_is_below f n m k w)) (omega arith))
+      further levels n (λ m w. settled_from levels m (n ∷ above) (one_more f n m above k h (is_below n m w)) (omega arith))
 
   pub settled : (n : ℕ) → found (suc f.bound) n ≡ found f.bound n
   settled n = settled_from f.bound n [] (none_above f n) (omega arith)
+
+  -- and more levels change nothing
+  pub settled_beyond : (more n : ℕ) → found (f.bound + more) n ≡ found f.bound n
+  settled_beyond zero n = ap (λ levels. found levels n) (omega arith)
+  settled_beyond (suc more) n =
+      let e : f.bound + suc more ≡ suc (f.bound + more) = omega arith in
+      ap (λ levels. found levels n) e ∙ settled_from (f.bound + more) n [] (none_above f n) (omega arith) ∙ settled_beyond more n

@@ -12,6 +12,11 @@ mod LevelLaws
 mod NodeCallLaws
 pub mod ChildTexts
 mod ChildViews
+mod CopyCalls
+mod CopyEnds
+mod CopyForest
+mod CopyLaws
+mod CopySizes
 mod MakeLaws
 mod MoveLaws
 mod NodeWrites

@@ -14,7 +14,7 @@ use Rattle.h5_serialize.specs.Call.{Call, EndOf, StartOf, TextOf}
 use Rattle.h5_arena.specs.OpenNodes.{AreNodes}
 use Rattle.h5_arena.specs.NodeCalls.{calls_around, calls_of, calls_of_children, calls_within, child_calls, shown_children}
 use Rattle.h5_arena.proofs.CallConditions.{some_same}
-use Rattle.h5_arena.proofs.LevelLaws.{held, settled, shown_is_below}
+use Rattle.h5_arena.proofs.LevelLaws.{held, settled, settled_beyond, shown_is_below}
 
 pub here_first : (n : ℕ) (cs : List Child) → 0 < count n (nodes (ChildNode n ∷ cs))
 here_first n cs = rw (eq-eqb n n refl) (omega arith)
@@ -41,7 +41,7 @@ calls_further f levels n same = ap (λ below. option_map_or (λ (d : Node). call
 pub calls_of_node : (f : Forest) (n : ℕ) (d : Node) → IsForest f → f.node n ≡ Some d → calls_of f n ≡ calls_around d.kind d.attrs (calls_of_children f (shown_children f n))
 unfolding calls_within
 calls_of_node f n d k e =
-    sym (settled f k (λ levels. calls_within levels f) (calls_gone f) (calls_further f) n)
+    sym (settled f k (λ n. nodes (shown_children f n)) (λ n m. shown_is_below f n m k) (λ levels. calls_within levels f) (calls_gone f) (calls_further f) n)
     ∙ ap (λ (o : Option Node). option_map_or (λ (d : Node). calls_around d.kind d.attrs (calls_of_children f (shown_children f n))) o []) e
 
 -- the same, where the kind is known
@@ -113,4 +113,8 @@ weight_further f levels n same = ap (λ below. 1 + below) (same_weight (weight_w
 
 pub weight_of_node : (f : Forest) (n : ℕ) → IsForest f → weight_of f n ≡ 1 + weight_of_children (weight_of f) (shown_children f n)
 unfolding weight_within
-weight_of_node f n k = sym (settled f k (λ levels. weight_within levels f) (weight_gone f) (weight_further f) n)
+weight_of_node f n k = sym (settled f k (λ n. nodes (shown_children f n)) (λ n m. shown_is_below f n m k) (λ levels. weight_within levels f) (weight_gone f) (weight_further f) n)
+
+-- more levels than nodes tell no more
+pub calls_settled : (f : Forest) (more n : ℕ) → IsForest f → calls_within (f.bound + more) f n ≡ calls_of f n
+calls_settled f more n k = settled_beyond f k (λ n. nodes (shown_children f n)) (λ n m. shown_is_below f n m k) (λ levels. calls_within levels f) (calls_gone f) (calls_further f) more n

@@ -1,6 +1,8 @@
 pub mod ArenaModel
 pub mod AttributeNames
 pub mod ChildTests
+pub mod Copies
+pub mod Copy
 pub mod Edits
 pub mod Html
 pub mod Kin

@@ -1,15 +1,17 @@
 //! Calls for those who edit a tree.
-ghost use Rattle.std.specs.Prelude.{◌≡◌, ◌≢◌, ℕ, IfErr, List, None, OnErr, OnOk, Some, is_some, length};
-ghost use Rattle.h5_interface.specs.Forest.{IsElement, attrs_of, children_of};
+ghost use Rattle.std.specs.Prelude.{◌≡◌, ◌≢◌, ◌≤◌, ℕ, IfErr, IfOk, List, None, OnErr, OnOk, Some, is_some, length};
+ghost use Rattle.h5_interface.specs.Forest.{DocumentNode, IsElement, IsNode, attrs_of, children_of, kind_of, parent_of};
 ghost use Rattle.h5_interface.specs.Seen.{CanAppend, CanInsertBefore, after_append, after_append_before, changed, child_of};
 ghost use Rattle.h5_arena.specs.ArenaModel.{IsHeld, IsNoChild, KeepsErrors, forest_seen, place, seen_of, value_of};
+ghost use Rattle.h5_arena.specs.Copy.{IsCopyOf, KeepsFromCopy};
 ghost use Rattle.h5_arena.specs.Edits.{KeepsFromAppend, KeepsFromInsert, edit_attrs, take_out, text_alone, with_text, with_value, without_named};
+ghost use Rattle.h5_arena.specs.Html.{outer_html};
 ghost use Rattle.h5_arena.specs.declared.fault.TreeFault.TheVariants.{Memory};
 
 use super::fault::TreeFault;
-use super::nodes::NodeId;
+use super::nodes::{Kind, NodeId};
 use super::tree::Arena;
-use super::{edit_attributes, edit_text, links, standing};
+use super::{copies, edit_attributes, edit_text, links, standing};
 use h5_interface::{NodeOrText, TreeSink};
 use std::alloc::AllocError;
 
@@ -85,6 +87,36 @@ impl Arena {
     {
         edit_text::set_text(&mut self.nodes, id, text)?;
         Ok(())
+    }
+
+    /// Copies a node with all that stands below it, the contents of templates too (DOM standard, section 4.4, "clone a node", with its
+    /// subtree). The copy has no parent, and what was there stays as it was. A copy is what its original is: of the same kind and name,
+    /// with the same attributes and flags, and a script has started where its original has; it has no form owner. It costs what is
+    /// copied, however deep that is. The fault is `IsDocument` for the document, and `Memory` where memory is refused; the arena is
+    /// then as it was.
+    pub fn copy(&mut self, id: NodeId) -> Result<NodeId, TreeFault>
+        requires { IsHeld self.old id }
+        ensures new { IfOk result (λ copy. copy.index ≡ length self.old.nodes) }
+        ensures held { IfOk result (λ copy. IsHeld self.new copy) }
+        ensures free { IfOk result (λ copy. parent_of (forest_seen self.new) copy.index ≡ None) }
+        ensures copy { IfOk result (λ copy. IsCopyOf (forest_seen self.old) (forest_seen self.new) id.index copy.index) }
+        ensures html { IfOk result (λ copy. outer_html (forest_seen self.new) copy.index ≡ outer_html (forest_seen self.old) id.index) }
+        ensures others { (n : ℕ) → IsNode (forest_seen self.old) n → (forest_seen self.new).node n ≡ (forest_seen self.old).node n }
+        ensures told { IfErr result (KeepsFromCopy (forest_seen self.old) id.index) }
+        ensures may { OnOk result (kind_of (forest_seen self.old) id.index ≢ Some DocumentNode) }
+        ensures err { OnErr result (self.new ≡ self.old) }
+        ensures quirks { self.new.quirks ≡ self.old.quirks }
+        ensures errors { KeepsErrors self.old self.new }
+        ensures grows { length self.old.nodes ≤ length self.new.nodes }
+        ensures elements { (n : ℕ) → IsElement (forest_seen self.old) n → IsElement (forest_seen self.new) n }
+    {
+        if matches!(self.kind(id), Kind::Document) {
+            return Err(TreeFault::IsDocument);
+        }
+        let index = self.nodes.len();
+        let mut copies = copies::copies(self.alloc, self.nodes.as_slice(), id)?;
+        self.nodes.append(&mut copies)?;
+        Ok(NodeId { index })
     }
 
     /// Makes a child the last child of a node, as `append` does, or tells why it can't stand there; a text is joined to a text

@@ -4,7 +4,7 @@
 //! what stands below it, and `shared` what elements of one name share. `makes` makes nodes; `link`, `links`, `children`
 //! and `moves` change parents and children. `kin` has what stands above, beside and below a node, and `html` a node as HTML.
 //! `attributes` reads and adds attributes, and `attribute_names` keeps the names of many in order. `edits` has the calls of
-//! those who edit a tree: `edit_attributes` and `edit_text` do their work, `standing` finds whether a child may stand below a
+//! those who edit a tree: `edit_attributes`, `edit_text` and `copies` do their work, `standing` finds whether a child may stand below a
 //! node, and `fault` says why not. `walk` is the walk of a serializer over a node (HTML standard, section 13.3), and `laws`
 //! has what holds of its calls.
 //!
@@ -17,6 +17,7 @@ mod attribute_names;
 mod attributes;
 mod below;
 mod children;
+mod copies;
 mod edit_attributes;
 mod edit_text;
 mod edits;

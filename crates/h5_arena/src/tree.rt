@@ -12,7 +12,7 @@ use std::alloc::{AllocError, Global};
 use std::marker::Model;
 
 /// A tree whose nodes lie in one vector, in the order in which they were made. The contents of a template
-/// are a node of their own, right after the template.
+/// are a node of their own, which comes after the template.
 #[derive(Drop)]
 pub struct Arena {
     pub(crate) nodes: Vec<NodeData>,
