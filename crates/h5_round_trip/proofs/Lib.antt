@@ -5,6 +5,7 @@ pub mod AttributeLaws
 pub mod TagLaws
 pub mod ShapeLaws
 pub mod DoubledLaws
+mod MarkLaws
 pub mod ReadingLaws
 pub mod JoinedLaws
 pub mod WrittenLaws

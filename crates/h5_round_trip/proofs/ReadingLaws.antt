@@ -1,10 +1,12 @@
 -- A plain document is read back.
-use Rattle.std.proofs.Common.{◌≡◌, ℕ, ◌<◌, Bool, true, false, List, [], ◌∷◌, ◌++◌, cond, length, refl, sym, ap, ◌∙◌, subst, arith, append_assoc, length-append, codes, None as Nothing}
+use Rattle.std.proofs.Common.{◌≡◌, ◌⊎◌, ℕ, ◌<◌, Bool, true, false, List, [], ◌∷◌, ◌++◌, cond, length, refl, sym, ap, ◌∙◌, subst, arith, append_assoc, length-append, codes, inl, inr, None as Nothing}
+use Rattle.std.proofs.lemmas.Bool.{false≢true}
 use Rattle.h5_names.specs.AttributeText.{AttributeText, is_same_text}
 use Rattle.h5_token.specs.TokenText.{TokenText, DoctypeIs, TagIs, CommentIs, Characters, NullCharacter, EndOfFile, ParseErrorIs}
 use Rattle.h5_token.specs.Reply.{Reply, Continues, TurnsRaw}
 use Rattle.h5_token.specs.declared.states.RawKind.TheVariants.{Rcdata}
-use Rattle.h5_markup.specs.Matching.{Found, Match}
+use Rattle.h5_markup.specs.Matching.{Found, Match, No, Open}
+use Rattle.h5_markup.proofs.Finds.{literal_gives}
 use Rattle.h5_serialize.specs.Escape.{escape}
 use Rattle.h5_markup.specs.Text.{text_of}
 use Rattle.h5_tokenizer.specs.declared.front.Mode.{Mode}
@@ -12,18 +14,21 @@ use Rattle.h5_tokenizer.specs.declared.front.Mode.TheVariants.{Data, RawData}
 use Rattle.h5_reading.specs.Answers.{goes_on}
 use Rattle.h5_reading.proofs.AnswerLaws.{unrefused}
 use Rattle.h5_tokenizer.specs.End.{settle}
-use Rattle.h5_tokenizer.specs.Front.{Piece, ReaderPlace, Whole, front}
+use Rattle.h5_standard.specs.Mark.{behind_mark, is_open}
+use Rattle.h5_standard.specs.Mark as standard
+use Rattle.h5_tokenizer.specs.Front.{Piece, ReaderPlace, Whole, front, mark}
 use Rattle.h5_reading.specs.Options.{default_options}
 use Rattle.h5_tokenizer.specs.Options.{first_place}
 use Rattle.h5_tokenizer.specs.Read.{Bits, Read, behind, chosen_mode, next_place, nothing_read, read_on, started, text_step, token_step, unmarked}
 use Rattle.h5_reading.specs.Lines.{line_behind}
-use Rattle.h5_tokenizer.specs.Whole.{ReadsToEnd, after_closing, closing, more_reading, no_reading}
-use Rattle.h5_plain.specs.Plain.{ArePlain, ElementThen, End, Nodes, PlainDocument, TextThen, as_written, document_tokens, end_tag, has_end_tag, is_start_of_title, plain_doctype, plain_reply, root_of, start_tag, tokens_before}
+use Rattle.h5_tokenizer.specs.Whole.{Readings, ReadsToEnd, after_closing, closing, more_reading, no_reading}
+use Rattle.h5_plain.specs.Plain.{ArePlain, ElementThen, End, Nodes, PlainDocument, TextThen, as_written, document_tokens, end_tag, fragment_tokens, has_end_tag, is_start_of_title, plain_doctype, plain_reply, root_of, start_tag, tokens_before}
 use Rattle.h5_round_trip.specs.Answers.{Answers}
 use Rattle.h5_round_trip.specs.Readable.{AreReadable, CanBeRead, IsReadable, IsReadableDocument}
 use Rattle.h5_round_trip.specs.Written.{tag_written, written_before, written_fragment, written_of}
 use Rattle.h5_round_trip.proofs.CharLaws.{some_written, text_mode, text_read}
 use Rattle.h5_round_trip.proofs.DoubledLaws.{read_written, shape_written}
+use Rattle.h5_round_trip.proofs.MarkLaws.{text_begins}
 use Rattle.h5_round_trip.proofs.ShapeLaws.{Element, None, Shape, Text, Title, Void, document_shape, is_title}
 use Rattle.h5_round_trip.proofs.TagLaws.{IsTagName, doctype_read, end_read, start_read, title_end_read}
 
@@ -200,26 +205,44 @@ module _ {M : Type 0} (reply_to : M → TokenText → Reply) (after : M → Toke
         (title_taken attrs (Characters (first ∷ words) ∷ end_tag (codes "title") ∷ tokens_before others more) (escape false (first ∷ words) ++ ending) plain c.0
         (known true (codes "title") attrs (TextThen (first ∷ words) End) others more rest is_title.ends r))))
 
-  nothing_settled : (place : ReaderPlace) (f : Bool) → In false place → settle place.mode place.last f [] ≡ Nothing
+  nothing_settled : (place : ReaderPlace) (f : Bool) → place.mode ≡ Data → settle place.mode place.last f [] ≡ Nothing
   unfolding text_of
-  nothing_settled place f i = ap (λ mode. settle mode place.last f []) i.1
+  nothing_settled place f i = ap (λ mode. settle mode place.last f []) i
 
-  -- the end
+  module _ {p : ReaderPlace} {m : M} {xs : List ℕ} {all : List TokenText} where
+    -- the end, in data, where nothing is left
+    closes : {place : ReaderPlace} {meaning : M} {handed : List TokenText} → Readings reply_to after foreign p m xs handed place meaning [] → place.mode ≡ Data → handed ++ EndOfFile ∷ [] ≡ all → (n : M) × ReadsToEnd reply_to after foreign ended p m xs all n
+    closes {place} {meaning} {handed} readings i whole =
+        let none = nothing_settled place (foreign meaning) i in (
+          ended (after_closing after meaning (settle place.mode place.last (foreign meaning) []) place.line (line_behind place.line [] [])),
+          record {
+            handed = handed;
+            place = place;
+            meaning = meaning;
+            rest = [];
+            readings = readings;
+            undecided = ((λ _. refl), (λ _. ap (λ mode. front mode place.last (foreign meaning) []) i));
+            tokens = sym whole ∙ ap (λ o. handed ++ closing o) (sym none);
+            closed = refl;
+          },
+        )
+
   pub ends : (p : ReaderPlace) (m : M) (xs : List ℕ) (all : List TokenText) → Reached p m xs all false (EndOfFile ∷ []) [] → (n : M) × ReadsToEnd reply_to after foreign ended p m xs all n
-  ends p m xs all r =
-      let none = nothing_settled r.place (foreign r.meaning) r.is_in in (
-        ended (after_closing after r.meaning (settle r.place.mode r.place.last (foreign r.meaning) []) r.place.line (line_behind r.place.line [] [])),
-        record {
-          handed = r.handed;
-          place = r.place;
-          meaning = r.meaning;
-          rest = [];
-          readings = more_reading no_reading r.read (unrefused r.reply r.goes);
-          undecided = ((λ _. refl), (λ _. ap (λ mode. front mode r.place.last (foreign r.meaning) []) r.is_in.1));
-          tokens = sym r.whole ∙ ap (λ o. r.handed ++ closing o) (sym none);
-          closed = refl;
-        },
-      )
+  ends p m xs all r = closes (more_reading no_reading r.read (unrefused r.reply r.goes)) r.is_in.1 r.whole
+
+  -- at the front, where no byte order mark stands
+  begun : (m : M) (xs : List ℕ) (all : List TokenText) → mark xs ≡ No → Answers reply_to after m all → Reached (first_place default_options) m xs all false all xs
+  begun m xs all none answers = record {
+    place = started (first_place default_options);
+    meaning = m;
+    handed = [];
+    reply = Continues;
+    goes = refl;
+    read = read_on nothing_read refl (unmarked refl none);
+    is_in = (refl, refl);
+    answers = answers;
+    whole = refl;
+  }
 
   -- a document's text is read to its end, as the tokens of the document
   pub document_read : (d : PlainDocument) (m : M) → IsReadableDocument d → Answers reply_to after m (document_tokens d) → (n : M) × ReadsToEnd reply_to after foreign ended (first_place default_options) m (written_of d) (document_tokens d) n
@@ -227,17 +250,33 @@ module _ {M : Type 0} (reply_to : M → TokenText → Reply) (after : M → Toke
       let p = first_place default_options in
       let xs = written_of d in
       let all = document_tokens d in
-      let first : Reached p m xs all false (document_tokens d) xs = record {
-        place = started p;
-        meaning = m;
-        handed = [];
-        reply = Continues;
-        goes = refl;
-        read = read_on nothing_read refl (unmarked refl refl);
-        is_in = (refl, refl);
-        answers = answers;
-        whole = refl;
-      } in
       ends p m xs all
       (nodes_taken p m xs all (as_written (root_of d)) (EndOfFile ∷ []) [] (shape_written (document_shape d)) (read_written (root_of d) readable)
-      (doctype_taken p m xs all (tokens_before (as_written (root_of d)) (EndOfFile ∷ [])) (written_fragment (root_of d)) first))
+      (doctype_taken p m xs all (tokens_before (as_written (root_of d)) (EndOfFile ∷ [])) (written_fragment (root_of d)) (begun m xs all refl answers)))
+
+  -- so is the text of nodes, unless it begins with the mark
+  nodes_read : {b : Bool} (ns : Nodes) (m : M) → Shape b ns → CanBeRead ns → behind_mark true (written_before ns []) ≡ written_before ns [] → Answers reply_to after m (tokens_before ns (EndOfFile ∷ []))
+      → (n : M) × ReadsToEnd reply_to after foreign ended (first_place default_options) m (written_before ns []) (tokens_before ns (EndOfFile ∷ [])) n
+  nodes_read ns m shape readable same answers = by (text_begins ns [] shape readable)
+    where
+      at : (found : Match (Unit {0})) → mark (written_before ns []) ≡ found → is_open found ≡ false
+          → (n : M) × ReadsToEnd reply_to after foreign ended (first_place default_options) m (written_before ns []) (tokens_before ns (EndOfFile ∷ [])) n
+      at Open e o = absurd (false≢true (sym o))
+      at No e o =
+          let p = first_place default_options in
+          let xs = written_before ns [] in
+          let all = tokens_before ns (EndOfFile ∷ []) in
+          ends p m xs all (nodes_taken p m xs all ns (EndOfFile ∷ []) [] shape readable (begun m xs all e answers))
+      at (Found found rest) e o =
+          let left : rest ≡ written_before ns [] = sym (ap (standard.behind (written_before ns [])) e) ∙ same in
+          absurd (omega (arith, ap length left, ap length (literal_gives (0xef ∷ 0xbb ∷ 0xbf ∷ []) (written_before ns []) rest e)))
+
+      by : (ns ≡ End) ⊎ (is_open (mark (written_before ns [])) ≡ false)
+          → (n : M) × ReadsToEnd reply_to after foreign ended (first_place default_options) m (written_before ns []) (tokens_before ns (EndOfFile ∷ [])) n
+      by (inl none) = subst (λ l. (n : M) × ReadsToEnd reply_to after foreign ended (first_place default_options) m (written_before l []) (tokens_before l (EndOfFile ∷ [])) n) (sym none) (closes no_reading refl refl)
+      by (inr known) = at (mark (written_before ns [])) refl known
+
+  -- and a fragment's
+  pub fragment_read : {b : Bool} (ns : Nodes) (m : M) → Shape b ns → CanBeRead ns → behind_mark true (written_fragment ns) ≡ written_fragment ns → Answers reply_to after m (fragment_tokens ns)
+      → (n : M) × ReadsToEnd reply_to after foreign ended (first_place default_options) m (written_fragment ns) (fragment_tokens ns) n
+  fragment_read ns m shape readable same answers = nodes_read (as_written ns) m (shape_written shape) (read_written ns readable) same answers

@@ -1,5 +1,5 @@
 -- What a taker answers to a part of a text.
-use Rattle.std.specs.Prelude.{◌≡◌, ℕ, List, [], ◌∷◌, ◌++◌}
+use Rattle.std.specs.Prelude.{◌≡◌, ℕ, List, ◌∷◌, ◌++◌}
 use Rattle.h5_token.specs.Reply.{Continues, Reply}
 use Rattle.h5_token.specs.TokenText.{Characters, TokenText}
 

@@ -6,16 +6,17 @@ ghost use Rattle.h5_markup.specs.Text.{text_of};
 ghost use Rattle.h5_reading.specs.Options.{default_options};
 ghost use Rattle.h5_tokenizer.specs.Options.{first_place};
 ghost use Rattle.h5_tokenizer.specs.Whole.{ReadsToEnd};
+ghost use Rattle.h5_standard.specs.Mark.{behind_mark};
 ghost use Rattle.h5_serialize.specs.Escape.{escape};
 ghost use Rattle.h5_serialize.specs.Standing.{new_standing, walk_text};
 ghost use Rattle.h5_serialize.specs.declared.options.SerializeOpts.{SerializeOpts};
 ghost use Rattle.h5_serialize.specs.declared.options.TraversalScope.TheVariants.{ChildrenOnly};
 ghost use Rattle.h5_arena.specs.NodeCalls.{walk_of};
-ghost use Rattle.h5_plain.specs.Plain.{PlainDocument, document_tokens, root_of};
+ghost use Rattle.h5_plain.specs.Plain.{Flow, IsPlain, Nodes, PlainDocument, document_tokens, fragment_tokens, nothing_open, root_of};
 ghost use Rattle.h5_plain.specs.Rebuilding.{DocumentStands};
 ghost use Rattle.h5_round_trip.specs.Answers.{Answers};
-ghost use Rattle.h5_round_trip.specs.Readable.{IsReadable, IsReadableDocument};
-ghost use Rattle.h5_round_trip.specs.Written.{KeepsNewlines, serialized_of, written_of};
+ghost use Rattle.h5_round_trip.specs.Readable.{CanBeRead, IsReadable, IsReadableDocument};
+ghost use Rattle.h5_round_trip.specs.Written.{KeepsNewlines, serialized_of, written_fragment, written_of};
 
 pub mod standard;
 
@@ -55,4 +56,11 @@ pub fn different_documents_have_different_texts()
 pub fn documents_are_read<S: TokenSink>()
     ensures { (d : PlainDocument) (m : S.Meaning) → IsReadableDocument d → Answers S.reply_to S.after m (document_tokens d)
         → (n : S.Meaning) × ReadsToEnd S.reply_to S.after S.is_foreign S.ended (first_place default_options) m (written_of d) (document_tokens d) n }
+{}
+
+/// So is the text of a fragment, unless it begins with U+FEFF, which a reader drops there.
+pub fn fragments_are_read<S: TokenSink>()
+    ensures { (nodes : Nodes) (m : S.Meaning) → IsPlain true (Flow false nothing_open) nodes → CanBeRead nodes
+        → behind_mark true (written_fragment nodes) ≡ written_fragment nodes → Answers S.reply_to S.after m (fragment_tokens nodes)
+        → (n : S.Meaning) × ReadsToEnd S.reply_to S.after S.is_foreign S.ended (first_place default_options) m (written_fragment nodes) (fragment_tokens nodes) n }
 {}
