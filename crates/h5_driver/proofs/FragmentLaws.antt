@@ -1,14 +1,13 @@
--- The text of a plain fragment, taken by a parser over the standard reader.
-use Rattle.std.proofs.Common.{◌≡◌, ◌≢◌, ℕ, Bool, cond, true, false, List, [], ◌∷◌, ◌++◌, map, refl, sym, ap, ◌∙◌, subst, Option, Some, None, codes}
+-- The text of a plain fragment, taken by a parser.
+use Rattle.std.proofs.Common.{◌≡◌, ◌≢◌, ℕ, Bool, cond, true, false, List, [], ◌∷◌, ◌++◌, refl, sym, ap, ◌∙◌, subst, Option, Some, None}
 use Rattle.std.specs.Option.{option_and_then, option_map, option_map_or}
 use Rattle.h5_names.specs.AttributeText.{AttributeText}
 use Rattle.h5_names.specs.declared.qualified.QualName.{QualName}
-use Rattle.h5_token.specs.Joins.{join}
 use Rattle.h5_token.specs.Reply.{Continues, Refuses, Reply}
 use Rattle.h5_token.specs.TokenText.{Characters, TokenText}
 use Rattle.h5_token.specs.declared.fault.BuildFault.{BuildFault}
 use Rattle.h5_token.specs.declared.fault.BuildFault.TheVariants.{AfterEnd, Failed, NotInText}
-use Rattle.h5_token.specs.declared.states.State.{State}
+use Rattle.h5_token.specs.declared.states.State.TheVariants.{Data}
 use Rattle.h5_interface.specs.Changes.{mark}
 use Rattle.h5_interface.specs.Forest.{ChildNode, DocumentNode, ElementNode, Forest, IsElement, IsForest, IsNode, Kind, Marks, Node, Child, children_of, kind_of}
 use Rattle.h5_interface.specs.NewElement.{flags_of}
@@ -18,42 +17,36 @@ use Rattle.h5_interface.specs.declared.marks.ElementFlags.{ElementFlags}
 use Rattle.h5_interface.proofs.ForestLaws.{document_is_node}
 use Rattle.h5_interface.proofs.MakingLaws.{made_kind, make_element_rearranges}
 use Rattle.h5_reading.specs.Options as reading
+use Rattle.h5_reading.specs.declared.options.TokenizerOpts.{TokenizerOpts}
 use Rattle.h5_tables.specs.Options as types
 use Rattle.h5_tables.specs.declared.modes.InsertionMode.TheVariants.{InBody}
 use Rattle.h5_rules.specs.Changes.{create_root, pop}
-use Rattle.h5_rules.specs.Run as r
 use Rattle.h5_rules.specs.Run.{IsFitting, View, after_all, refusal, step, taken, tell_or_refuse, without_lf}
-use Rattle.h5_rules.specs.Sound.{Fitting, Sound, situation_of}
+use Rattle.h5_rules.specs.Sound.{Fitting, Sound}
 use Rattle.h5_rules.specs.World.{World, current, name_in, name_of_found}
 use Rattle.h5_rules.specs.fitting.Reset.{reset_mode}
 use Rattle.h5_rules.specs.fitting.ResetByRoles.{reset}
 use Rattle.h5_rules.specs.fitting.Roles.{role_of, roles}
 use Rattle.h5_rules.specs.fitting.SituationChanges.{start_of}
-use Rattle.h5_rules.specs.formatting.FormattingNames.{html_name}
-use Rattle.h5_rules.proofs.roles.RoleLaws.{local_html, role_made}
 use Rattle.h5_laws.proofs.cuts.RunLaws.{step_reply, takes_text}
-use Rattle.h5_states.specs.ReferenceTable.{references}
-use Rattle.h5_states.specs.Whole.{ReadsToEnd}
-use Rattle.h5_standard.specs.Options.{first_place}
-use Rattle.h5_standard.specs.ReaderText.{ReaderText}
+use Rattle.h5_standard.specs.Mark.{behind_mark}
 use Rattle.h5_plain.specs.Plain.{Nodes, fragment_tokens}
-use Rattle.h5_plain.specs.Rebuilding.{ChangesOne, HoldsDocument, IsFragmentStart, Looks, Stands}
+use Rattle.h5_plain.specs.Rebuilding.{HoldsDocument, IsFragmentStart, Looks, Stands}
 use Rattle.h5_plain.proofs.FragmentLaws.{rebuilds_fragments}
 use Rattle.h5_plain.proofs.GrowthLaws.{Below, element_below, html, kinds_apart}
 use Rattle.h5_plain.proofs.LooksLaws.{apart_from, looks_marked, looks_node, unlike}
 use Rattle.h5_round_trip.specs.Fragment.{AnswersCuts}
 use Rattle.h5_round_trip.proofs.JoinedLaws.{fragment_joined}
 use Rattle.h5_round_trip.proofs.ShapeLaws.{shape}
-use Rattle.h5_round_trip.proofs.standard.ReadingLaws.{fragment_read}
+use Rattle.h5_round_trip.specs.Written.{written_fragment}
 use Rattle.h5_tree_builder.specs.Builder.{pop_each}
 use Rattle.h5_tree_builder.specs.Fragment.{context_modes, fragment_world, rooted_world, state_in_context}
 use Rattle.h5_tree_builder.proofs.FragmentLaws.{fragment_fits, rooted_names, rooted_situation, rooted_steady}
 use Rattle.h5_driver.specs.Fragments.{first_in_new, opts_in_context}
-use Rattle.h5_driver.specs.PlainFragments.{FragmentStands, FragmentsComeBack, IsBodyContext, IsFragmentText}
-use Rattle.h5_driver.specs.Reading.{Parses}
-use Rattle.h5_driver.specs.StandardReader.{Reads, first}
+use Rattle.h5_driver.specs.PlainFragments.{FragmentStands, FragmentsComeBackBy, IsBodyContext, IsFragmentText}
+use Rattle.h5_driver.specs.Reading.{AreReadings, Parses}
 use Rattle.h5_driver.specs.WholeTexts.{ParsesFragmentBy}
-use Rattle.h5_driver.specs.Working.{after, ended, foreign, replies}
+use Rattle.h5_driver.specs.Working.{replies}
 use Rattle.h5_driver.proofs.PlainLaws.{answers_by, same_children, sound_after, sound_popped, stand_marked}
 
 -- ---- where a text is taken, a part of it is
@@ -177,9 +170,9 @@ module _ (choices : SinkChoices) (seen : Seen) (name : QualName) (attrs : List A
   fitting = record { sound = sound; fits = fragment_fits made context None types.default_options rearranged.is_forest is_element no_form choices }
 
   -- its text is read as data
-  reads_data : (allows_scripting : Bool) → first (opts_in_context allows_scripting begun reading.default_options) ≡ first reading.default_options
+  reads_data : {T : Type 0} (first : TokenizerOpts → T) (allows_scripting : Bool) → first (opts_in_context allows_scripting begun reading.default_options) ≡ first (reading.beginning_in Data reading.default_options)
   unfolding create_root begins
-  reads_data allows_scripting =
+  reads_data first allows_scripting =
       ap (λ n. first (reading.beginning_in (state_in_context allows_scripting n) reading.default_options)) (ap name_of_found (begins.is_context))
       ∙ ap (λ s. first (reading.beginning_in s reading.default_options)) (b.is_data allows_scripting)
 
@@ -205,7 +198,8 @@ unfolding pop
 root_popped choices root nodes [] w s = s
 root_popped choices root nodes (n ∷ ns) w s = root_popped choices root nodes ns (pop choices w) (root_marked w.forest (choices.marks_after_pop w.forest (current w)) root nodes s)
 
-module _ (choices : SinkChoices) (seen told : Seen) (name : QualName) (attrs : List AttributeText) (allows_scripting : Bool) (nodes : Nodes) (text : List ℕ)
+module _ {T : Type 0} {choices : SinkChoices} {first : TokenizerOpts → T} {Readings : T → View → List ℕ → List TokenText → T → View → List ℕ → Type 0} {Reads : T → View → List ℕ → List TokenText → View → Type 0}
+    (law : AreReadings choices first Readings Reads) (seen told : Seen) (name : QualName) (attrs : List AttributeText) (allows_scripting : Bool) (nodes : Nodes) (text : List ℕ)
     (holds : HoldsDocument seen.forest) (b : IsBodyContext name) (t : IsFragmentText nodes text) where
   abbrev start : View
   start = record { world = begun choices seen name attrs holds b; ended = false; failed = false }
@@ -215,7 +209,7 @@ module _ (choices : SinkChoices) (seen told : Seen) (name : QualName) (attrs : L
   root_apart = kinds_apart (begun choices seen name attrs holds b).forest _ _ DocumentNode (ElementNode html) [] [] (ChildNode (choices.fresh (made choices seen name attrs holds b).forest) ∷ []) []
       (document_begun choices seen name attrs holds b) (begins choices seen name attrs holds b).is_root (λ e. cc)
 
-  comes_back : Parses (Reads choices) choices (first reading.default_options) start text told → FragmentStands told.forest nodes
+  comes_back : Parses Reads choices (first (reading.beginning_in Data reading.default_options)) start text told → FragmentStands told.forest nodes
   unfolding begins
   comes_back parses =
       let all = fragment_tokens nodes in
@@ -223,12 +217,15 @@ module _ (choices : SinkChoices) (seen told : Seen) (name : QualName) (attrs : L
       let k = fitting choices seen name attrs holds b in
       let joins = fragment_joined nodes (shape nodes t.plain) in
       let whole = rebuilds_fragments choices all start nodes s t.plain k refl refl joins in
-      let read = fragment_read (replies choices) (after choices) foreign (ended choices) nodes start (shape nodes t.plain) t.readable (cuts choices) (answers_by choices all start whole.answers) in
-      let again = rebuilds_fragments choices read.tokens start nodes s t.plain k refl refl (read.joined ∙ joins) in
-      let w = (after_all choices read.tokens start).world in
-      let reads : Reads choices (first reading.default_options) start text read.tokens read.meaning =
-      subst (λ (xs : List ℕ). ReadsToEnd references (replies choices) (after choices) foreign (ended choices) (first_place reading.default_options) start xs read.tokens read.meaning) (sym (t.unmarked ∙ t.written)) read.reads in
-      let same = parses.any read.tokens read.meaning reads in
+      let unmarked : behind_mark true (written_fragment nodes) ≡ written_fragment nodes = subst (λ xs. behind_mark true xs ≡ xs) t.written t.unmarked in
+      let read = law.fragments nodes start t.plain t.readable unmarked (cuts choices) (answers_by choices all start whole.answers) in
+      let tokens = read.0 in
+      let meaning = read.1.1.0 in
+      let opts = reading.beginning_in Data reading.default_options in
+      let again = rebuilds_fragments choices tokens start nodes s t.plain k refl refl (read.1.0 ∙ joins) in
+      let w = (after_all choices tokens start).world in
+      let reads : Reads (first opts) start text tokens meaning = subst (λ xs. Reads (first opts) start xs tokens meaning) (sym t.written) read.1.1.1 in
+      let same = parses.any tokens meaning reads in
       let document : Looks w.forest w.forest.document DocumentNode [] (ChildNode s.root ∷ []) =
       subst (λ (d : ℕ). Looks w.forest d DocumentNode [] (ChildNode s.root ∷ [])) (sym again.changes.document)
       (again.changes.others (begun choices seen name attrs holds b).forest.document DocumentNode [] (ChildNode s.root ∷ []) root_apart (document_begun choices seen name attrs holds b)) in
@@ -236,15 +233,16 @@ module _ (choices : SinkChoices) (seen told : Seen) (name : QualName) (attrs : L
       let final : told.forest ≡ (pop_each choices w.stack w).forest = same.1.0 ∙ ap (λ (u : View). u.world.forest) same.0 in
       let first_fits : IsFitting start = record { fitting = λ f e. k } in
       record {
-        is_forest = subst IsForest (sym final) (sound_popped choices w.stack w (sound_after choices read.tokens start first_fits refl refl)).stands.is_forest;
+        is_forest = subst IsForest (sym final) (sound_popped choices w.stack w (sound_after choices tokens start first_fits refl refl)).stands.is_forest;
         root = s.root;
         document = (subst (λ (f : Forest). RootStands f s.root nodes) (sym final) end).document;
         is_root = (subst (λ (f : Forest). RootStands f s.root nodes) (sym final) end).is_root;
         stands = (subst (λ (f : Forest). RootStands f s.root nodes) (sym final) end).stands;
       }
 
-pub fragments_stand : (choices : SinkChoices) → FragmentsComeBack choices
+pub fragments_stand : {T : Type 0} {choices : SinkChoices} {first : TokenizerOpts → T} {Readings : T → View → List ℕ → List TokenText → T → View → List ℕ → Type 0} {Reads : T → View → List ℕ → List TokenText → View → Type 0}
+    → AreReadings choices first Readings Reads → FragmentsComeBackBy Reads first choices
 unfolding ParsesFragmentBy first_in_new
-fragments_stand choices seen told name attrs allows_scripting nodes text holds b t parses =
-    comes_back choices seen told name attrs allows_scripting nodes text holds b t
-    (subst (λ (r : ReaderText). Parses (Reads choices) choices r (record { world = begun choices seen name attrs holds b; ended = false; failed = false }) text told) (reads_data choices seen name attrs holds b allows_scripting) parses)
+fragments_stand {T} {choices} {first} {Readings} {Reads} law seen told name attrs allows_scripting nodes text holds b t parses =
+    comes_back law seen told name attrs allows_scripting nodes text holds b t
+    (subst (λ (r : T). Parses Reads choices r (record { world = begun choices seen name attrs holds b; ended = false; failed = false }) text told) (reads_data choices seen name attrs holds b first allows_scripting) parses)

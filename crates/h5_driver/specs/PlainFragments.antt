@@ -1,13 +1,16 @@
--- What a parser over the standard reader makes of the text of a plain fragment.
+-- What a parser makes of the text of a plain fragment.
 use Rattle.std.specs.Prelude.{◌≡◌, ℕ, Bool, true, false, List, [], ◌∷◌, codes}
 use Rattle.h5_names.specs.AttributeText.{AttributeText}
 use Rattle.h5_names.specs.declared.qualified.QualName.{QualName}
+use Rattle.h5_token.specs.TokenText.{TokenText}
 use Rattle.h5_token.specs.declared.states.State.TheVariants.{Data}
 use Rattle.h5_interface.specs.Forest.{ChildNode, DocumentNode, ElementNode, Forest, IsForest, children_of}
 use Rattle.h5_interface.specs.NewElement.{is_html_template}
 use Rattle.h5_interface.specs.Seen.{Seen}
 use Rattle.h5_interface.specs.SinkChoices.{SinkChoices}
 use Rattle.h5_tables.specs.declared.modes.InsertionMode.TheVariants.{InBody}
+use Rattle.h5_reading.specs.declared.options.TokenizerOpts.{TokenizerOpts}
+use Rattle.h5_rules.specs.Run.{View}
 use Rattle.h5_rules.specs.fitting.Fits.{Situation}
 use Rattle.h5_rules.specs.fitting.NamesFit.{is_html_element}
 use Rattle.h5_rules.specs.fitting.ResetByRoles.{decide_root}
@@ -20,7 +23,8 @@ use Rattle.h5_plain.specs.Rebuilding.{HoldsDocument, Looks, Stands}
 use Rattle.h5_round_trip.specs.Readable.{CanBeRead}
 use Rattle.h5_round_trip.specs.Written.{written_fragment}
 use Rattle.h5_driver.specs.Options.{default_options}
-use Rattle.h5_driver.specs.StandardTexts.{ParsesFragment}
+use Rattle.h5_driver.specs.StandardReader.{Reads, first}
+use Rattle.h5_driver.specs.WholeTexts.{ParsesFragmentBy}
 
 -- the name of an element of HTML in whose context the mode is "in body", and text is data, as `div`, `body`, `span` and `li` are
 pub record IsBodyContext (name : QualName) : Type 0 where
@@ -46,8 +50,12 @@ pub record IsFragmentText (nodes : Nodes) (text : List ℕ) : Type 0 where
   pub unmarked : behind_mark true text ≡ text
 
 -- so it is where a parser of fragments over a sink that holds its document alone takes such a text, in such a context
-abbrev pub FragmentsComeBack : SinkChoices → Type 0
-FragmentsComeBack choices =
+abbrev pub FragmentsComeBackBy : {T : Type 0} → (T → View → List ℕ → List TokenText → View → Type 0) → (TokenizerOpts → T) → SinkChoices → Type 0
+FragmentsComeBackBy Reads first choices =
     (seen told : Seen) (name : QualName) (attrs : List AttributeText) (allows_scripting : Bool) (nodes : Nodes) (text : List ℕ)
     → HoldsDocument seen.forest → IsBodyContext name → IsFragmentText nodes text
-    → ParsesFragment choices seen default_options name attrs allows_scripting text told → FragmentStands told.forest nodes
+    → ParsesFragmentBy Reads first choices seen default_options name attrs allows_scripting text told → FragmentStands told.forest nodes
+
+-- by the standard reader
+abbrev pub FragmentsComeBack : SinkChoices → Type 0
+FragmentsComeBack choices = FragmentsComeBackBy (Reads choices) first choices

@@ -16,7 +16,9 @@ use Rattle.h5_tokenizer.specs.Read.{Read, Step, marked, nothing_read, read_on, s
 use Rattle.h5_tokenizer.specs.Whole.{Readings, ReadsToEnd, after_closing, closing, more_reading, no_reading}
 use Rattle.h5_tokenizer.proofs.KeptLaws.{readings_agree}
 use Rattle.h5_tokenizer.proofs.WholeLaws.{readings_go_on}
-use Rattle.h5_round_trip.proofs.ReadingLaws.{document_read}
+use Rattle.h5_round_trip.proofs.ReadingLaws.{document_read, fragment_read}
+use Rattle.h5_round_trip.proofs.ShapeLaws.{shape}
+use Rattle.h5_plain.specs.Plain.{fragment_tokens}
 use Rattle.h5_driver.specs.PlainReader as reader
 use Rattle.h5_driver.specs.Reading.{AreReadings}
 use Rattle.h5_driver.specs.Working.{after, ended, foreign, replies}
@@ -88,4 +90,5 @@ are_readings choices = record {
   agree = λ r v n o xs ts us ready a b.
       readings_agree (replies choices) (after choices) foreign IsFitting (λ w t line h. token_fitting choices t w h) (ended choices) (λ w t k l. refl) (λ w x y ys zs j k l h. token_cut choices x ys y zs w h) (record { fitting = λ f e. ready.fitting }) a b;
   documents = λ d v readable answers. document_read (replies choices) (after choices) foreign (ended choices) d v readable answers;
+  fragments = λ nodes v plain readable unmarked cuts answers. (fragment_tokens nodes, (refl, fragment_read (replies choices) (after choices) foreign (ended choices) nodes v (shape nodes plain) readable unmarked answers));
 }

@@ -1,15 +1,19 @@
 -- What a reader reads, whichever it is: readings up to a rest, and readings to the end.
-use Rattle.std.specs.Prelude.{◌≡◌, ℕ, List, [], ◌++◌}
+use Rattle.std.specs.Prelude.{◌≡◌, ℕ, true, false, List, [], ◌++◌}
+use Rattle.h5_token.specs.Joins.{join}
 use Rattle.h5_token.specs.TokenText.{TokenText}
+use Rattle.h5_token.specs.declared.states.State.TheVariants.{Data}
 use Rattle.h5_interface.specs.Seen.{Seen}
 use Rattle.h5_interface.specs.SinkChoices.{SinkChoices}
 use Rattle.h5_rules.specs.Run.{View, after_all}
-use Rattle.h5_reading.specs.Options.{default_options}
+use Rattle.h5_reading.specs.Options.{beginning_in, default_options}
 use Rattle.h5_reading.specs.declared.options.TokenizerOpts.{TokenizerOpts}
-use Rattle.h5_plain.specs.Plain.{PlainDocument, document_tokens}
+use Rattle.h5_standard.specs.Mark.{behind_mark}
+use Rattle.h5_plain.specs.Plain.{Flow, IsPlain, Nodes, PlainDocument, document_tokens, fragment_tokens, nothing_open}
 use Rattle.h5_round_trip.specs.Answers.{Answers}
-use Rattle.h5_round_trip.specs.Readable.{IsReadableDocument}
-use Rattle.h5_round_trip.specs.Written.{written_of}
+use Rattle.h5_round_trip.specs.Fragment.{AnswersCuts}
+use Rattle.h5_round_trip.specs.Readable.{CanBeRead, IsReadableDocument}
+use Rattle.h5_round_trip.specs.Written.{written_fragment, written_of}
 use Rattle.h5_driver.specs.Working.{IsReady, after, ended, replies}
 
 -- from a reader, a view and an input, some tokens are read, up to a reader, a view and the rest of the input
@@ -31,7 +35,8 @@ pub record Parses {T : Type 0} (Reads : T → View → List ℕ → List TokenTe
 
 -- What holds of readings over a builder. Of nothing nothing is read; whatever follows, the same is read; and one reading goes on
 -- where another stopped, also to the end. What is meant then is what the run of the tokens leaves, and it is the same for all
--- lists of tokens by which a text is read. The text of a plain document is read by its tokens.
+-- lists of tokens by which a text is read. The text of a plain document is read by its tokens, and so is a fragment's, from data on, but that
+-- a text may come in two parts.
 pub record AreReadings {T : Type 0} (choices : SinkChoices) (first : TokenizerOpts → T) (Readings : T → View → List ℕ → List TokenText → T → View → List ℕ → Type 0) (Reads : T → View → List ℕ → List TokenText → View → Type 0) : Type 0 where
   pub nothing : (r : T) (v : View) (xs : List ℕ) → Readings r v xs [] r v xs
   pub followed : (r s : T) (v w : View) (xs ys : List ℕ) (ts : List TokenText) (more : List ℕ) → Readings r v xs ts s w ys → Readings r v (xs ++ more) ts s w (ys ++ more)
@@ -40,3 +45,6 @@ pub record AreReadings {T : Type 0} (choices : SinkChoices) (first : TokenizerOp
   pub runs : (r : T) (v n : View) (xs : List ℕ) (ts : List TokenText) → Reads r v xs ts n → n ≡ ended choices (after_all choices ts v)
   pub agree : (r : T) (v n o : View) (xs : List ℕ) (ts us : List TokenText) → IsReady v → Reads r v xs ts n → Reads r v xs us o → n ≡ o
   pub documents : (d : PlainDocument) (v : View) → IsReadableDocument d → Answers (replies choices) (after choices) v (document_tokens d) → (n : View) × Reads (first default_options) v (written_of d) (document_tokens d) n
+  pub fragments : (nodes : Nodes) (v : View) → IsPlain true (Flow false nothing_open) nodes → CanBeRead nodes → behind_mark true (written_fragment nodes) ≡ written_fragment nodes
+      → AnswersCuts (replies choices) → Answers (replies choices) (after choices) v (fragment_tokens nodes)
+      → (tokens : List TokenText) × ((join tokens ≡ join (fragment_tokens nodes)) × ((n : View) × Reads (first (beginning_in Data default_options)) v (written_fragment nodes) tokens n))

@@ -13,7 +13,10 @@ use Rattle.h5_states.specs.End.{last_tokens}
 use Rattle.h5_states.specs.ReferenceTable.{references}
 use Rattle.h5_states.specs.Reading.{ReaderPlace, Step, quiet_step, text_step, token_step, ask_step, Read, nothing_read, read_on}
 use Rattle.h5_states.specs.Whole.{Readings, ReadsToEnd, more_reading, no_reading}
-use Rattle.h5_round_trip.proofs.standard.ReadingLaws.{document_read}
+use Rattle.h5_round_trip.proofs.standard.ReadingLaws.{document_read, fragment_read}
+use Rattle.h5_round_trip.proofs.ShapeLaws.{shape}
+use Rattle.h5_standard.specs.Options.{first_place}
+use Rattle.h5_reading.specs.Options.{default_options}
 use Rattle.h5_driver.specs.KeptReadings.{readings_agree}
 use Rattle.h5_driver.specs.Reading.{AreReadings}
 use Rattle.h5_driver.specs.StandardReader as reader
@@ -95,4 +98,7 @@ are_readings choices = record {
   agree = λ r v n o xs ts us ready a b.
       readings_agree references (replies choices) (after choices) foreign IsFitting (λ w t line h. token_fitting choices t w h) (ended choices) (λ w t k l. refl) (λ w x y ys zs j k l h. token_cut choices x ys y zs w h) (record { fitting = λ f e. ready.fitting }) a b;
   documents = λ d v readable answers. document_read (replies choices) (after choices) foreign (ended choices) d v readable answers;
+  fragments = λ nodes v plain readable unmarked cuts answers.
+      let r = fragment_read (replies choices) (after choices) foreign (ended choices) nodes v (shape nodes plain) readable cuts answers in
+      (r.tokens, (r.joined, (r.meaning, subst (λ xs. ReadsAt choices (first_place default_options) v xs r.tokens r.meaning) (sym unmarked) r.reads)));
 }

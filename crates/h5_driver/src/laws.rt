@@ -7,7 +7,7 @@ ghost use Rattle.h5_rules.specs.Run.{View};
 ghost use Rattle.h5_driver.specs.Bytes.{ParsingBytes, ProcessedAllBytes};
 ghost use Rattle.h5_driver.specs.Parsing.{Parsing, ProcessedAll, joined, text_of, view_of};
 ghost use Rattle.h5_driver.specs.PlainDocuments.{BringsBack};
-ghost use Rattle.h5_driver.specs.PlainFragments.{FragmentsComeBack};
+ghost use Rattle.h5_driver.specs.PlainFragments.{FragmentsComeBack, FragmentsComeBackBy};
 ghost use Rattle.h5_driver.specs.Reading.{Parses};
 
 use super::reader::Reader;
@@ -56,4 +56,9 @@ pub fn documents_come_back<R: Reader>()
 /// context of an element by which the mode is "in body", takes that text, the fragment stands below the root in what the sink tells.
 pub fn fragments_come_back()
     ensures { (choices : SinkChoices) → FragmentsComeBack choices }
+{}
+
+/// So it does over every reader, the plain one among them.
+pub fn fragments_come_back_over<R: Reader>()
+    ensures { FragmentsComeBackBy R.Reads R.first R.Sink.choices }
 {}

@@ -17,7 +17,7 @@ ghost use Rattle.h5_driver.specs.Reading.{Parses};
 use h5_driver::Reader;
 pub use h5_driver::laws::{
     a_text_has_one_tree, chunks_then_finish, documents_come_back, fragments_come_back,
-    pieces_then_finish,
+    fragments_come_back_over, pieces_then_finish,
 };
 pub use h5_laws::laws::{
     a_token_has_one_chain, cuts_agree, cuts_of_one_list_agree, reconstructed_elements_are_open,
