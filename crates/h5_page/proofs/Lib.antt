@@ -1,2 +1,4 @@
-pub mod LineLaws
+pub mod AttributeLaws
+pub mod LayoutLaws
 pub mod LinkLaws
+pub mod WrapLaws

@@ -1,4 +1,10 @@
-pub mod Blocks
+pub mod Attributes
+pub mod Counts
+pub mod Displays
+pub mod Layout
 pub mod Links
 pub mod LinksOfPage
+pub mod Numbers
+pub mod Text
 pub mod TextOfPage
+pub mod Wrapped

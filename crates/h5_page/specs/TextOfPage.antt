@@ -5,10 +5,10 @@ use Rattle.html_tree_builder.specs.ArenaModel.{ArenaView, arena_choices, forest_
 use Rattle.html_tree_builder.specs.NodeCalls.{walk_of}
 use Rattle.html_tree_builder.specs.Options.{default_options}
 use Rattle.html_tree_builder.specs.StandardTexts.{ParsesDocument}
-use Rattle.h5_page.specs.Blocks.{lines_of}
+use Rattle.h5_page.specs.Text.{plain_opts, text_of}
 
 -- lines are the text of a page: those of the tree that a parser with the default options makes of it
 pub record IsTextOf (page lines : List ℕ) : Type 0 where
   pub arena : ArenaView
   pub parsed : ParsesDocument arena_choices (seen_of new_arena) default_options page (seen_of arena)
-  pub text : lines ≡ lines_of (walk_of (forest_seen arena) 0 (ChildrenOnly None))
+  pub text : lines ≡ text_of plain_opts (walk_of (forest_seen arena) 0 (ChildrenOnly None))

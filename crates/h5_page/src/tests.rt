@@ -4,16 +4,16 @@ use super::page_text::text_of_page;
 use std::fmt::Write;
 use std::test::Fail;
 
-const BLOCKS: &str =
-    "<!DOCTYPE html>\n<title>A page</title>\n<style>p { color: red }</style>\n<h1>Trees &amp; text</h1>\n<p>One <b>bold</b> word,\nand a line.\n<p>\n<ul><li>first<li>second <i>item</i></ul>\n<table><tr><td>cell<td>other</table>\n<script>if (a < b) { run(); }</script>\nloose text\n";
+const SHOWN: &str =
+    "<!DOCTYPE html>\n<title>A page</title>\n<style>p { color: red }</style>\n<h1>Trees &amp; text</h1>\n<p>One <b>bold</b> word,\n  and   a line. \n<p>\n<ol start=9 reversed><li>first<li><p>second <i>item</i><ul><li>in it</ul></ol>\n<table><tr><td>cell<td><td>other</table>\n<script>if (a < b) { run(); }</script>\n<pre>  two\n\n  lines </pre>loose<br>text <img alt=\"a  picture\"><a href=here>link</a>\n";
 
 const TEXT: &str =
-    "A page\nTrees & text\nOne bold word,\nand a line.\nfirst\nsecond item\ncell\nother\nloose text\n";
+    "A page\n\nTrees & text\n\nOne bold word, and a line.\n\n9. first\n8. second item\n\n  - in it\n\ncell\t\tother\n\n  two\n\n  lines \n\nloose\ntext a picturelink\n";
 
 #[test]
-fn each_block_is_a_line(rt: HostRuntime) -> Result<(), Fail> {
+fn a_page_has_its_text(rt: HostRuntime) -> Result<(), Fail> {
     let alloc = rt.alloc();
-    let text = text_of_page(alloc, String::from_str(alloc, BLOCKS)?)?;
+    let text = text_of_page(alloc, String::from_str(alloc, SHOWN)?)?;
     assert_eq!(rt; text.as_str(), TEXT);
     Ok(())
 }

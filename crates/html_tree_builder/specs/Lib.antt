@@ -1,5 +1,8 @@
 -- What contracts cite of the crates below, handed on, so that a caller names this crate alone.
 pub use Rattle.h5_names.specs.AttributeText
+pub use Rattle.h5_names.specs.KnownNames
+pub use Rattle.h5_names.specs.Urls
+pub use Rattle.h5_names.specs.declared.known_name.KnownName.TheVariants as KnownVariants
 pub use Rattle.h5_token.specs.Reply
 pub use Rattle.h5_token.specs.TokenText
 pub use Rattle.h5_interface.specs.Forest

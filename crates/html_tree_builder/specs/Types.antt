@@ -1,4 +1,5 @@
 -- Types of the crates below that contracts cite.
+pub use Rattle.h5_names.specs.declared.known_name.KnownName.{KnownName}
 pub use Rattle.h5_names.specs.declared.qualified.QualName.{QualName}
 pub use Rattle.h5_token.specs.declared.fault.BuildFault.{BuildFault}
 pub use Rattle.h5_serialize.specs.declared.fault.SerializeFault.{SerializeFault}

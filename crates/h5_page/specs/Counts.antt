@@ -1,0 +1,48 @@
+-- How many items each list with numbers has: where numbers fall, the first is that many (HTML standard, section 4.4.5, "The ol element").
+use Rattle.std.specs.Prelude.{ℕ, nat_lt, if◌then◌else◌, length, List, [], ◌∷◌, ◌++◌, Option, None, Some, slice_index_or, slice_set}
+use Rattle.html_tree_builder.specs.Call.{Call, StartOf, EndOf}
+use Rattle.html_tree_builder.specs.Walk.{after_each}
+use Rattle.h5_page.specs.Displays.{display_of}
+use Rattle.h5_page.specs.Numbers.{one_more}
+use Rattle.h5_page.specs.declared.display.Display.{Display}
+use Rattle.h5_page.specs.declared.display.Display.TheVariants as show
+
+-- the counts, list by list in the order in which they begin; and of each element that is open, the innermost first, which of the lists
+-- it is, if it is one
+pub record Counted : Type 0 where
+  pub counts : List ℕ
+  pub elements : List (Option ℕ)
+
+abbrev pub nothing_counted : Counted
+nothing_counted = record { counts = []; elements = [] }
+
+abbrev pub raised : (list : ℕ) → List ℕ → List ℕ
+raised list counts = if nat_lt list (length counts) then slice_set counts list (one_more (slice_index_or counts list 0)) else counts
+
+-- an item counts for the element in which it stands, where that is a list with numbers
+abbrev pub raised_for : List (Option ℕ) → List ℕ → List ℕ
+raised_for (Some list ∷ elements) counts = raised list counts
+raised_for elements counts = counts
+
+abbrev pub entered : Option ℕ → Counted → Counted
+entered list k = record k { elements = list ∷ k.elements }
+
+abbrev pub started : Display → Counted → Counted
+started show.Numbered k = record { counts = k.counts ++ 0 ∷ []; elements = Some (length k.counts) ∷ k.elements }
+started show.Item k = entered None (record k { counts = raised_for k.elements k.counts })
+started display k = entered None k
+
+abbrev pub without_first : List (Option ℕ) → List (Option ℕ)
+without_first [] = []
+without_first (list ∷ elements) = elements
+
+abbrev pub stopped : Counted → Counted
+stopped k = record k { elements = without_first k.elements }
+
+abbrev pub after_call : Counted → Call → Counted
+after_call k (StartOf name attrs) = started (display_of name) k
+after_call k (EndOf name) = stopped k
+after_call k call = k
+
+abbrev pub counts_of : List Call → List ℕ
+counts_of calls = (after_each after_call nothing_counted calls).counts

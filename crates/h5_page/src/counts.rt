@@ -1,0 +1,154 @@
+//! How many items the lists of a page have.
+ghost use Rattle.std.specs.Prelude.{◌≡◌, OnOk};
+ghost use Rattle.h5_page.specs.Counts as c;
+
+use super::display::{Display, display_of};
+use super::number::one_more;
+use html_tree_builder::names::QualName;
+use html_tree_builder::serialize::{AttrRef, SerializeFault, Serializer};
+use std::alloc::{AllocError, Global};
+use std::marker::Model;
+
+/// Counts the items of each list with numbers; the lists come in the order in which they begin.
+#[derive(Drop)]
+pub struct ItemCounter {
+    counts: Vec<usize>,
+    // Of each element that is open which of the lists it is, if it is one; the innermost comes last.
+    elements: Vec<Option<usize>>,
+}
+
+impl Model for ItemCounter {
+    ghost use Rattle.std.specs.Prelude.{reverse};
+    ghost use Rattle.h5_page.specs.Counts.{Counted};
+
+    ghost Value = { Counted };
+
+    ghost view = { λ counter. record { counts = counter.counts.items; elements = reverse counter.elements.items } };
+}
+
+impl ItemCounter {
+    /// No list yet.
+    pub fn new(alloc: Global) -> ItemCounter
+        ensures { result ≡ c.nothing_counted }
+    {
+        ItemCounter {
+            counts: Vec::new(alloc),
+            elements: Vec::new(alloc),
+        }
+    }
+
+    /// The counts, list by list.
+    pub fn into_counts(self) -> Vec<usize>
+        ensures { result.items ≡ self.counts }
+    {
+        self.counts
+    }
+
+    // One item more of a list.
+    fn raise(&mut self, list: usize)
+        ensures { self.new ≡ record self.old { counts = c.raised list self.old.counts } }
+    {
+        if list < self.counts.len() {
+            self.counts[list] = one_more(self.counts[list]);
+        }
+    }
+
+    // An element begins, which is this list, if it is one.
+    fn enter(&mut self, list: Option<usize>) -> Result<(), AllocError>
+        ensures { OnOk result (self.new ≡ c.entered list self.old) }
+    {
+        self.elements.push(list)?;
+        Ok(())
+    }
+
+    // An item begins.
+    fn begin_item(&mut self) -> Result<(), AllocError>
+        ensures { OnOk result (self.new ≡ c.started Display.Item self.old) }
+    {
+        if let Some(Some(list)) = self.elements.last().copied() {
+            self.raise(list);
+        }
+        self.enter(None)
+    }
+
+    // A list with numbers begins.
+    fn begin_list(&mut self) -> Result<(), AllocError>
+        ensures { OnOk result (self.new ≡ c.started Display.Numbered self.old) }
+    {
+        let list = self.counts.len();
+        self.counts.push(0)?;
+        self.enter(Some(list))
+    }
+
+    // An element begins.
+    fn start(&mut self, display: Display) -> Result<(), AllocError>
+        ensures { OnOk result (self.new ≡ c.started display self.old) }
+    {
+        match display {
+            Display::Numbered => self.begin_list(),
+            Display::Item => self.begin_item(),
+            _ => self.enter(None),
+        }
+    }
+
+    // An element ends.
+    fn stop(&mut self)
+        ensures { self.new ≡ c.stopped self.old }
+    {
+        let _ = self.elements.pop();
+    }
+}
+
+impl Serializer for ItemCounter {
+    ghost use Rattle.std.specs.Prelude.{◌≡◌, [], None, Ok};
+    ghost use Rattle.html_tree_builder.specs.SerializeFaults.{Memory};
+    ghost use Rattle.h5_page.specs.Counts.{Counted, after_call};
+
+    ghost Meaning = { Counted };
+
+    ghost meaning = { λ counter. counter };
+
+    ghost contents = { λ counter. None };
+
+    ghost answer = { λ counter call. Ok tt };
+
+    ghost after = { after_call };
+
+    ghost writes = { λ counter call. [] };
+
+    ghost breaks = { λ before text call fault after written. fault ≡ Memory };
+
+    fn start_elem<T: AttrRef, I: Iterator<Item = T> + Drop>(
+        &mut self,
+        name: QualName,
+        _attrs: I,
+    ) -> Result<(), SerializeFault> {
+        self.start(display_of(&name))?;
+        Ok(())
+    }
+
+    fn end_elem(&mut self, _name: QualName) -> Result<(), SerializeFault> {
+        self.stop();
+        Ok(())
+    }
+
+    fn write_text(&mut self, _text: &str) -> Result<(), SerializeFault> {
+        Ok(())
+    }
+
+    fn write_comment(&mut self, _text: &str) -> Result<(), SerializeFault> {
+        Ok(())
+    }
+
+    fn write_doctype(&mut self, _name: &str) -> Result<(), SerializeFault> {
+        Ok(())
+    }
+
+    fn write_processing_instruction(
+        &mut self,
+        _target: &str,
+        _content: &str,
+    ) -> Result<(), SerializeFault> {
+        Ok(())
+    }
+}
