@@ -5,6 +5,7 @@ use h5_page::links_of;
 use html_tree_builder::QualName;
 use html_tree_builder::arena::NodeRef;
 use std::alloc::{AllocError, Global};
+use std::fmt::Write;
 use url::Url;
 
 // The attribute in which an element of HTML says where it leads, or what it takes in.
@@ -80,6 +81,26 @@ pub fn links(
         let mut item = Item::new(alloc);
         item.add("href", href.as_str())?;
         item.add("text", text.as_str())?;
+        found.push(item)?;
+    }
+    Ok(found)
+}
+
+/// What the numbers of links in a text stand for: the number, and where the link leads. An `AllocError` where memory is refused.
+pub fn references(
+    alloc: Global,
+    hrefs: &[String],
+    base: Option<&Url>,
+) -> Result<Vec<Item>, AllocError> {
+    let mut found = Vec::new(alloc);
+    for at in 0..hrefs.len() {
+        let href = lead(alloc, base, hrefs[at].as_str())?;
+        let mut mark = String::new(alloc);
+        let number = at + 1;
+        write!(mark, "[{number}]")?;
+        let mut item = Item::new(alloc);
+        item.add("number", mark.as_str())?;
+        item.add("href", href.as_str())?;
         found.push(item)?;
     }
     Ok(found)

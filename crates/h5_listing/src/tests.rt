@@ -1,9 +1,11 @@
 //! What is listed of a page.
 use super::item::{Form, Item, print_items};
-use super::leads::{all_links, base_of, links};
+use super::leads::{all_links, base_of, links, references};
+use super::nodes::node_lines;
 use super::outline::headings;
 use super::record::{Page, Record, begin_answer, end_answer};
 use super::said::about;
+use super::tokens::token_lines;
 use html_tree_builder::arena::Arena;
 use html_tree_builder::{ParseOpts, parse_document};
 use std::alloc::Global;
@@ -73,5 +75,40 @@ fn records_are_answered(rt: HostRuntime) -> Result<(), Fail> {
     end_answer(alloc, &mut answer, "links", "[]", true)?;
     assert_eq!(rt; answer.as_str(), "{\"line\":2,\"links\":[]}\n");
     assert!(rt; Record::parse(alloc, "no").is_err());
+    Ok(())
+}
+
+const NODES: &str =
+    "{\"level\":0,\"doctype\":\"html\"}\n{\"level\":0,\"element\":\"html\",\"attributes\":{}}\n{\"level\":1,\"element\":\"head\",\"attributes\":{}}\n{\"level\":1,\"element\":\"body\",\"attributes\":{}}\n{\"level\":2,\"element\":\"p\",\"attributes\":{\"class\":\"a\"}}\n{\"level\":3,\"text\":\"x\"}\n{\"level\":3,\"comment\":\"c\"}\n{\"level\":3,\"element\":\"svg svg\",\"attributes\":{}}\n";
+
+#[test]
+fn nodes_are_objects(rt: HostRuntime) -> Result<(), Fail> {
+    let alloc = rt.alloc();
+    let parser = parse_document(alloc, Arena::new(alloc)?, ParseOpts::default());
+    let arena = parser.one("<!DOCTYPE html><p class=a>x<!--c--><svg/>")?;
+    let lines = node_lines(alloc, &arena.at(arena.document()))?;
+    assert_eq!(rt; lines.as_str(), NODES);
+    Ok(())
+}
+
+#[test]
+fn tokens_are_objects(rt: HostRuntime) -> Result<(), Fail> {
+    let lines = token_lines(rt.alloc(), "S p\nA class a b\nT x\\ny\n")?;
+    assert_eq!(rt;
+        lines.as_str(),
+        "{\"start\":\"p\"}\n{\"attribute\":\"class\",\"value\":\"a b\"}\n{\"text\":\"x\\ny\"}\n"
+    );
+    Ok(())
+}
+
+#[test]
+fn references_have_numbers(rt: HostRuntime) -> Result<(), Fail> {
+    let alloc = rt.alloc();
+    let base = Url::parse(alloc, "https://e.example/x/y")?;
+    let mut hrefs = Vec::new(alloc);
+    hrefs.push(String::from_str(alloc, "z")?)?;
+    let found = references(alloc, hrefs.as_slice(), Some(&base))?;
+    let lines = printed(alloc, found.as_slice(), Form::Lines)?;
+    assert_eq!(rt; lines.as_str(), "[1]\thttps://e.example/x/z\n");
     Ok(())
 }

@@ -2,13 +2,15 @@
 use super::command::What;
 use super::fault::Fault;
 use super::select::{Selection, put_selected};
-use h5_listing::{Form, Item, about, all_links, base_of, headings, links, print_items};
-use h5_page::text_of;
+use h5_listing::{
+    Form, Item, about, all_links, base_of, headings, links, node_lines, print_items, references,
+};
+use h5_page::{TextOpts, text_with};
 use h5_print::{print_quirks, write_tree};
 use html_tree_builder::arena::NodeRef;
 use html_tree_builder::clean::{AllowList, TextPolicy, clean_tree};
 use html_tree_builder::serialize::{SerializeFault, serialize};
-use html_tree_builder::{Arena, SerializeOpts};
+use html_tree_builder::{Arena, QuirksMode, SerializeOpts};
 use std::alloc::{AllocError, Global};
 use std::io::{ErrorKind, Write};
 use url::Url;
@@ -22,6 +24,8 @@ pub struct Asked<'a> {
     pub context: Option<&'a str>,
     /// By which policy it is cleaned, if it isn't that of texts.
     pub policy: Option<&'a AllowList>,
+    /// How its text is laid out.
+    pub text: TextOpts,
     /// What is selected of it.
     pub selection: Option<Selection<'a>>,
     /// Whether items are lines or objects of JSON.
@@ -30,6 +34,8 @@ pub struct Asked<'a> {
     pub is_all: bool,
     /// From where links lead, if nothing in the page says it.
     pub base: Option<&'a Url>,
+    /// Whether each line begins with the name of its file.
+    pub has_name: bool,
     /// By which name records are answered, if the pages come in records.
     pub record: Option<&'a str>,
 }
@@ -58,11 +64,36 @@ fn links_asked(
     }
 }
 
+// The text that is asked for, and behind it where its links lead, if they have numbers.
+fn text_asked(alloc: Global, asked: &Asked<'_>, top: &NodeRef<'_>) -> Result<String, AllocError> {
+    let page = text_with(alloc, top, asked.text)?;
+    let mut text = page.text;
+    if !page.hrefs.is_empty() {
+        let base = base_of(alloc, top, asked.base)?;
+        let items = references(alloc, page.hrefs.as_slice(), base.as_ref())?;
+        text.push('\n')?;
+        print_items(items.as_slice(), &mut text, Form::Lines)?;
+    }
+    Ok(text)
+}
+
 // Items, as they are asked for.
 fn items_text(alloc: Global, items: &[Item], form: Form) -> Result<String, AllocError> {
     let mut text = String::new(alloc);
     print_items(items, &mut text, form)?;
     Ok(text)
+}
+
+// Writes a tree, an object of JSON for each node, and one that has its quirks mode.
+fn put_nodes<W: Write>(alloc: Global, top: &NodeRef<'_>, out: &mut W) -> Result<(), Fault> {
+    let mut lines = node_lines(alloc, top)?;
+    let mode = match top.arena.quirks() {
+        QuirksMode::Quirks => "Quirks",
+        QuirksMode::LimitedQuirks => "LimitedQuirks",
+        QuirksMode::NoQuirks => "NoQuirks",
+    };
+    write!(lines, "{{\"quirks\":\"{mode}\"}}\n").map_err(|_refused| Fault::Memory)?;
+    out.write_all(lines.as_bytes()).map_err(Fault::Write)
 }
 
 // Writes a tree, a line for each node, and its quirks mode. A deep tree has long lines, so it is written in parts.
@@ -103,7 +134,7 @@ pub fn put_answer<W: Write>(
     }
     let text = match asked.what {
         What::Html => serialize(alloc, Vec::new(alloc), &top, SerializeOpts::default())?,
-        What::Text => text_of(alloc, &top)?.into_bytes(),
+        What::Text => text_asked(alloc, asked, &top)?.into_bytes(),
         What::Links => {
             let items = links_asked(alloc, asked, &top)?;
             items_text(alloc, items.as_slice(), asked.form)?.into_bytes()
@@ -117,6 +148,7 @@ pub fn put_answer<W: Write>(
             items_text(alloc, items.as_slice(), asked.form)?.into_bytes()
         }
         What::Clean => cleaned(alloc, &top, asked.policy)?,
+        What::Tree if matches!(asked.form, Form::Json) => return put_nodes(alloc, &top, out),
         What::Tree | What::Tokens | What::Select => return put_tree(alloc, arena, out),
     };
     out.write_all(text.as_slice()).map_err(Fault::Write)

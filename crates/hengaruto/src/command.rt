@@ -9,7 +9,7 @@ pub enum What {
     Tree,
     /// Its tree, written as HTML.
     Html,
-    /// Its text, a line for each block.
+    /// Its text, as a browser shows it without a style sheet.
     Text,
     /// Its links, a line for each, with a tab in front of the text.
     Links,
@@ -52,12 +52,17 @@ fn with_input<'a>(alloc: Global, part: Command<'a>) -> Result<Command<'a>, Alloc
         .help(
             "Reads fragments, as inside of an element of this name; svg or math and a space may stand before it",
         );
+    let name = Arg::new(alloc, "with-name")
+        .long("with-name")
+        .short('H')
+        .action(ArgAction::SetTrue)
+        .help("Prints the name of the file in front of each line");
     let files = Arg::new(alloc, "file")
         .value_name("FILE")
         .action(ArgAction::Append)
         .num_args(0..)
         .help("The files to read");
-    part.after_help(AFTER).arg(context)?.arg(files)
+    part.after_help(AFTER).arg(context)?.arg(name)?.arg(files)
 }
 
 fn part<'a>(alloc: Global, name: &'a str, about: &'a str) -> Result<Command<'a>, AllocError> {
@@ -82,6 +87,25 @@ fn listing_part<'a>(
         .about(about)
         .arg(json_flag(alloc))?;
     with_input(alloc, part)
+}
+
+// The part of the program that prints texts.
+fn text_part<'a>(alloc: Global) -> Result<Command<'a>, AllocError> {
+    let width = Arg::new(alloc, "width")
+        .long("width")
+        .value_name("COLUMNS")
+        .help("Wraps lines at so many columns");
+    let links = Arg::new(alloc, "links")
+        .long("links")
+        .action(ArgAction::SetTrue)
+        .help("Numbers the links, and lists at the end where they lead");
+    part(
+        alloc,
+        "text",
+        "Prints the text, as a browser shows it without a style sheet",
+    )?
+    .arg(width)?
+    .arg(links)
 }
 
 // The part of the program that lists links.
@@ -148,13 +172,13 @@ fn select_part<'a>(alloc: Global) -> Result<Command<'a>, AllocError> {
 // A command with a part for each thing that can be printed.
 fn with_parts<'a>(alloc: Global, command: Command<'a>) -> Result<Command<'a>, AllocError> {
     command
-        .subcommand(part(
+        .subcommand(listing_part(
             alloc,
             "tree",
             "Prints the tree, a line for each node, and the quirks mode",
         )?)?
         .subcommand(part(alloc, "html", "Prints the tree as HTML")?)?
-        .subcommand(part(alloc, "text", "Prints the text, a line for each block")?)?
+        .subcommand(text_part(alloc)?)?
         .subcommand(links_part(alloc)?)?
         .subcommand(listing_part(
             alloc,
@@ -166,7 +190,7 @@ fn with_parts<'a>(alloc: Global, command: Command<'a>) -> Result<Command<'a>, Al
             "meta",
             "Prints what a page says of itself, a line for each: a name, a tab, and what it is",
         )?)?
-        .subcommand(part(alloc, "tokens", "Prints the tokens, a line for each")?)?
+        .subcommand(listing_part(alloc, "tokens", "Prints the tokens, a line for each")?)?
         .subcommand(clean_part(alloc)?)?
         .subcommand(select_part(alloc)?)
 }

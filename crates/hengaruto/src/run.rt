@@ -1,18 +1,36 @@
 //! A run of the program.
 use super::answer::{Asked, put_answer};
 use super::command::{What, what_named};
+use super::dress::dressed;
 use super::fault::Fault;
 use super::page::{is_context, tokens_of, tree_of};
 use super::policy_file::{policy_in, tell_policy};
 use super::records::show_records;
 use super::select::{Selection, Shown, tell_selector};
 use clap::ArgMatches;
-use h5_listing::Form;
+use h5_listing::{Form, token_lines};
+use h5_page::TextOpts;
 use html_tree_builder::select::Selector;
+use std::alloc::Global;
 use std::fs;
 use std::io::{ErrorKind, IsTerminal, Read, Write};
 use std::process::ExitCode;
 use url::Url;
+
+// Writes tokens, as they are asked for.
+fn put_tokens<W: Write>(
+    alloc: Global,
+    asked: &Asked<'_>,
+    text: Vec<u8>,
+    out: &mut W,
+) -> Result<(), Fault> {
+    if let Form::Json = asked.form {
+        let lines = String::from_utf8_lossy(alloc, text.as_slice())?;
+        let objects = token_lines(alloc, lines.as_str())?;
+        return out.write_all(objects.as_bytes()).map_err(Fault::Write);
+    }
+    out.write_all(text.as_slice()).map_err(Fault::Write)
+}
 
 /// Writes what is asked of the page of an input.
 pub fn put_input<R: Read, W: Write>(
@@ -23,38 +41,43 @@ pub fn put_input<R: Read, W: Write>(
 ) -> Result<(), Fault> {
     if let What::Tokens = asked.what {
         let text = tokens_of(rt, asked.context, input)?;
-        return out.write_all(text.as_slice()).map_err(Fault::Write);
+        return put_tokens(rt.alloc(), asked, text, out);
     }
     let arena = tree_of(rt, asked.context, input)?;
     put_answer(rt.alloc(), asked, &arena, out)
 }
 
-// Ends the line of what is HTML, where a terminal shows it.
-fn end_line(rt: &HostRuntime, what: What) -> Result<(), Fault> {
-    let mut out = rt.stdout();
-    if matches!(what, What::Html | What::Clean) && out.is_terminal() {
-        out.write_all(b"\n").map_err(Fault::Write)?;
-    }
-    Ok(())
-}
-
 // Shows an input, which is a page or has records of pages.
-fn show_input<R: Read + Drop>(rt: &HostRuntime, asked: &Asked<'_>, input: R) -> Result<(), Fault> {
-    if let Some(name) = asked.record {
-        return show_records(rt, asked, name, input);
+fn show_input<R: Read + Drop>(
+    rt: &HostRuntime,
+    asked: &Asked<'_>,
+    name: &str,
+    input: R,
+) -> Result<(), Fault> {
+    if let Some(word) = asked.record {
+        return show_records(rt, asked, word, input);
     }
     let mut input = input;
-    put_input(rt, asked, &mut input, &mut rt.stdout())?;
-    end_line(rt, asked.what)
+    let mut out = rt.stdout();
+    let is_terminal = out.is_terminal();
+    if !is_terminal && !asked.has_name {
+        return put_input(rt, asked, &mut input, &mut out);
+    }
+    let mut bytes = Vec::new(rt.alloc());
+    put_input(rt, asked, &mut input, &mut bytes)?;
+    let text = String::from_utf8_lossy(rt.alloc(), bytes.as_slice())?;
+    let front = asked.has_name.then_some(name);
+    let lines = dressed(rt.alloc(), text.as_str(), front, is_terminal)?;
+    out.write_all(lines.as_bytes()).map_err(Fault::Write)
 }
 
 // Shows a file, or standard input where its name is `-`.
 fn show(rt: &HostRuntime, asked: &Asked<'_>, name: &str) -> Result<(), Fault> {
     if name == "-" {
-        return show_input(rt, asked, rt.stdin());
+        return show_input(rt, asked, name, rt.stdin());
     }
     let file = fs::open(rt, name).map_err(Fault::Read)?;
-    show_input(rt, asked, file)
+    show_input(rt, asked, name, file)
 }
 
 // Says what went wrong. Whether it can be said is no matter.
@@ -149,7 +172,7 @@ fn form_by(what: What, is_record: bool, matches: &ArgMatches<'_>) -> Form {
     }
     let is_listing = matches!(
         what,
-        What::Links | What::Outline | What::Meta | What::Select
+        What::Links | What::Outline | What::Meta | What::Select | What::Tree | What::Tokens
     );
     if is_listing && matches.get_flag("json") {
         Form::Json
@@ -199,17 +222,38 @@ fn show_asked(rt: &HostRuntime, asked: &Asked<'_>, matches: &ArgMatches<'_>) -> 
     }
 }
 
+// How texts are laid out. None where the width that is said is no number of columns.
+fn text_opts(what: What, matches: &ArgMatches<'_>) -> Option<TextOpts> {
+    if !matches!(what, What::Text) {
+        return Some(TextOpts::plain());
+    }
+    let width = match matches.get_str("width") {
+        Some(text) => Some(text.parse::<usize>().ok()?),
+        None => None,
+    };
+    Some(TextOpts {
+        width,
+        has_numbers: matches.get_flag("links"),
+    })
+}
+
 // Shows what a word asks for, of pages or of records of them, and answers the status.
 fn show_word<'a>(rt: &HostRuntime, name: &'a str, is_record: bool, matches: &ArgMatches<'a>) -> u8 {
     let what = what_named(name);
+    let Some(text) = text_opts(what, matches) else {
+        let _told = writeln!(rt.stderr(), "hengaruto: no number of columns");
+        return 2;
+    };
     let asked = Asked {
         what,
         context: what.context(matches.get_str("fragment")),
         policy: None,
+        text,
         selection: None,
         form: form_by(what, is_record, matches),
         is_all: matches!(what, What::Links) && matches.get_flag("all"),
         base: None,
+        has_name: !is_record && matches.get_flag("with-name"),
         record: is_record.then_some(name),
     };
     show_asked(rt, &asked, matches)

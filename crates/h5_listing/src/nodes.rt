@@ -1,0 +1,153 @@
+//! The tree of a page, an object of JSON for each node.
+ghost use Rattle.std.specs.Iterator.{IsFinite};
+
+use super::item::write_json;
+use html_tree_builder::QualName;
+use html_tree_builder::arena::NodeRef;
+use html_tree_builder::serialize::{
+    AttrRef, Serialize, SerializeFault, Serializer, TraversalScope,
+};
+use std::alloc::{AllocError, Global};
+use std::fmt::Write;
+
+// Writes an object for each node that it is told of, on a line of its own.
+#[derive(Drop)]
+struct NodeLines {
+    out: String,
+    level: usize,
+    alloc: Global,
+}
+
+// The name of an element, behind `svg` or `math` where it is one of these.
+fn element_name(alloc: Global, name: &QualName) -> Result<String, AllocError> {
+    let mut text = String::new(alloc);
+    if name.ns.is_svg() {
+        text.push_str("svg ")?;
+    } else if name.ns.is_mathml() {
+        text.push_str("math ")?;
+    }
+    text.push_str(name.local.as_str())?;
+    Ok(text)
+}
+
+// The name of an attribute, behind its prefix.
+fn attribute_name(alloc: Global, name: &QualName) -> Result<String, AllocError> {
+    let mut text = String::new(alloc);
+    if let Some(prefix) = &name.prefix {
+        text.push_str(prefix.as_str())?;
+        text.push(':')?;
+    }
+    text.push_str(name.local.as_str())?;
+    Ok(text)
+}
+
+// Writes attributes, as one object.
+fn write_attributes<T: AttrRef, I: Iterator<Item = T> + Drop>(
+    alloc: Global,
+    out: &mut String,
+    attrs: I,
+) -> Result<(), AllocError>
+    requires can { I.can_next attrs }
+    requires ends { IsFinite (I.remaining attrs) }
+{
+    let mut front = "";
+    for attr in attrs {
+        out.push_str(front)?;
+        let name = attribute_name(alloc, attr.name())?;
+        write_json(alloc, out, name.as_str())?;
+        out.push(':')?;
+        write_json(alloc, out, attr.value())?;
+        front = ",";
+    }
+    Ok(())
+}
+
+impl NodeLines {
+    // Begins an object: its level, and what it is.
+    fn begin(&mut self, what: &str, text: &str) -> Result<(), AllocError> {
+        let level = self.level;
+        write!(self.out, "{{\"level\":{level},\"{what}\":")?;
+        write_json(self.alloc, &mut self.out, text)
+    }
+
+    // A node below which nothing stands.
+    fn add(&mut self, what: &str, text: &str) -> Result<(), AllocError> {
+        self.begin(what, text)?;
+        self.out.push_str("}\n")
+    }
+}
+
+impl Serializer for NodeLines {
+    ghost use Rattle.std.specs.Prelude.{[], None, Ok};
+
+    ghost Meaning = { Unit {0} };
+
+    ghost meaning = { λ _. tt };
+
+    ghost contents = { λ _. None };
+
+    ghost answer = { λ _ _. Ok tt };
+
+    ghost after = { λ _ _. tt };
+
+    ghost writes = { λ _ _. [] };
+
+    ghost breaks = { λ before text call fault after written. Unit {0} };
+
+    fn start_elem<T: AttrRef, I: Iterator<Item = T> + Drop>(
+        &mut self,
+        name: QualName,
+        attrs: I,
+    ) -> Result<(), SerializeFault> {
+        let name = element_name(self.alloc, &name)?;
+        self.begin("element", name.as_str())?;
+        self.out.push_str(",\"attributes\":{")?;
+        write_attributes(self.alloc, &mut self.out, attrs)?;
+        self.out.push_str("}}\n")?;
+        self.level = self.level.saturating_add(1);
+        Ok(())
+    }
+
+    fn end_elem(&mut self, _name: QualName) -> Result<(), SerializeFault> {
+        self.level = self.level.saturating_sub(1);
+        Ok(())
+    }
+
+    fn write_text(&mut self, text: &str) -> Result<(), SerializeFault> {
+        self.add("text", text)?;
+        Ok(())
+    }
+
+    fn write_comment(&mut self, text: &str) -> Result<(), SerializeFault> {
+        self.add("comment", text)?;
+        Ok(())
+    }
+
+    fn write_doctype(&mut self, name: &str) -> Result<(), SerializeFault> {
+        self.add("doctype", name)?;
+        Ok(())
+    }
+
+    fn write_processing_instruction(
+        &mut self,
+        target: &str,
+        _content: &str,
+    ) -> Result<(), SerializeFault> {
+        self.add("instruction", target)?;
+        Ok(())
+    }
+}
+
+/// The nodes below a node, in the order of the tree, an object of JSON on a line for each: its `level`, and its name as `element`, with
+/// its `attributes`, or else its `text`, `comment` or `doctype`. What a template contains stands below it. An `AllocError` where memory
+/// is refused.
+pub fn node_lines(alloc: Global, top: &NodeRef<'_>) -> Result<String, AllocError> {
+    let mut lines = NodeLines {
+        out: String::new(alloc),
+        level: 0,
+        alloc,
+    };
+    top.serialize(&mut lines, TraversalScope::ChildrenOnly(None))
+        .map_err(|_fault| AllocError)?;
+    Ok(lines.out)
+}

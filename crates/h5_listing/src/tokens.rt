@@ -1,0 +1,58 @@
+//! The tokens of a page, an object of JSON for each line.
+use super::item::write_json;
+use h5_print::read_escapes;
+use std::alloc::{AllocError, Global};
+
+// Writes a name, and a text that has escapes, as JSON has both.
+fn write_pair(alloc: Global, out: &mut String, name: &str, text: &str) -> Result<(), AllocError> {
+    write_json(alloc, out, name)?;
+    out.push(':')?;
+    match read_escapes(alloc, text)? {
+        Some(read) => write_json(alloc, out, read.as_str()),
+        None => write_json(alloc, out, text),
+    }
+}
+
+// What a line says, by the word that it begins with.
+fn name_of(word: &str) -> &'static str {
+    match word {
+        "D" => "doctype",
+        "Dp" => "public",
+        "Ds" => "system",
+        "Dq" => "quirks",
+        "S" => "start",
+        "E" => "end",
+        "T" => "text",
+        "C" => "comment",
+        "N" => "null",
+        "P" => "error",
+        "Z" => "eof",
+        "/" => "self-closing",
+        _ => "other",
+    }
+}
+
+// Writes the object of one line.
+fn write_token(alloc: Global, out: &mut String, line: &str) -> Result<(), AllocError> {
+    let (word, rest) = line.split_once(' ').unwrap_or((line, ""));
+    out.push('{')?;
+    if word == "A" {
+        let (name, value) = rest.split_once(' ').unwrap_or((rest, ""));
+        write_pair(alloc, out, "attribute", name)?;
+        out.push(',')?;
+        write_pair(alloc, out, "value", value)?;
+    } else {
+        write_pair(alloc, out, name_of(word), rest)?;
+    }
+    out.push_str("}\n")
+}
+
+/// The lines of tokens that `h5 tokens` reads, an object of JSON on a line for each: what it says, and of an attribute its `value`, too.
+/// An `AllocError` where memory is refused.
+pub fn token_lines(alloc: Global, lines: &str) -> Result<String, AllocError> {
+    let mut out = String::new(alloc);
+    for line in lines.lines() {
+        write_token(alloc, &mut out, line)?;
+    }
+    Ok(out)
+}

@@ -1,0 +1,43 @@
+//! What is printed, as a terminal shows it, and behind the name of its file.
+use std::alloc::{AllocError, Global};
+
+// Writes what begins each line.
+fn begin_line(out: &mut String, front: Option<&str>) -> Result<(), AllocError> {
+    if let Some(front) = front {
+        out.push_str(front)?;
+        out.push(':')?;
+    }
+    Ok(())
+}
+
+// A character as it is shown: on a terminal none that would steer it.
+fn shown(c: char, is_terminal: bool) -> char {
+    if is_terminal && c.is_control() && c != '\n' && c != '\t' {
+        '?'
+    } else {
+        c
+    }
+}
+
+/// Lines, each behind this text and a colon, if there is one; the last one ends, too. Where a terminal shows them, control characters
+/// are `?`. An `AllocError` where memory is refused.
+pub fn dressed(
+    alloc: Global,
+    text: &str,
+    front: Option<&str>,
+    is_terminal: bool,
+) -> Result<String, AllocError> {
+    let mut out = String::new(alloc);
+    let mut begins = true;
+    for c in text.chars() {
+        if begins {
+            begin_line(&mut out, front)?;
+        }
+        out.push(shown(c, is_terminal))?;
+        begins = c == '\n';
+    }
+    if !begins {
+        out.push('\n')?;
+    }
+    Ok(out)
+}
