@@ -12,14 +12,14 @@ use Rattle.h5_clean.specs.Texts.{readable, without_marks}
 
 -- ---- a text as it is left
 
-no_nul : (t : List ℕ) → NoNul (readable t)
+pub no_nul : (t : List ℕ) → NoNul (readable t)
 no_nul [] = tt
 no_nul (b ∷ t) = cond_both (b == 0) (readable t) (cond (b == 13) 10 b ∷ readable t) NoNul (λ e. no_nul t) (λ e. (some e, no_nul t))
   where
     some : (b == 0) ≡ false → cond (b == 13) 10 b ≢ 0
     some e = cond_both (b == 13) 10 b (λ x. x ≢ 0) (λ cr. λ h. omega arith) (λ cr. eqb-false b 0 e)
 
-no_cr : (t : List ℕ) → NoCr (readable t)
+pub no_cr : (t : List ℕ) → NoCr (readable t)
 no_cr [] = tt
 no_cr (b ∷ t) = cond_both (b == 0) (readable t) (cond (b == 13) 10 b ∷ readable t) NoCr (λ e. no_cr t) (λ e. (other, no_cr t))
   where

@@ -1,5 +1,5 @@
 //! A serializer that hands on what is let through to the one that writes HTML.
-ghost use Rattle.std.specs.Prelude.{◌≡◌, ◌&&◌, ℕ, [], List, None, IfOk, false, true, if◌then◌else◌};
+ghost use Rattle.std.specs.Prelude.{◌≡◌, ◌&&◌, ℕ, [], List, None, IfOk, IsOkUnless, false, true, if◌then◌else◌};
 ghost use Rattle.std.specs.Str.{is_utf8};
 ghost use Rattle.h5_serialize.specs.Call.{TextOf};
 ghost use Rattle.h5_serialize.specs.Names.{is_html};
@@ -87,6 +87,7 @@ impl<'a, P: Policy, Wr: Write + Drop> Cleaner<'a, P, Wr> {
         ensures state { IfOk result (λ cleaner. record { rules = P.rules cleaner.policy.now; elements = cleaner.elements; front = cleaner.front; standing = cleaner.html.standing }
             ≡ first_state (P.rules policy.now)) }
         ensures contents { IfOk result (λ cleaner. cleaner.html.contents ≡ Wr.contents writer) }
+        ensures fault { IsOkUnless result SerializeFault.Memory }
     {
         Ok(Cleaner {
             html: HtmlSerializer::new(alloc, writer, SerializeOpts::default())?,

@@ -9,6 +9,7 @@ ghost use Rattle.h5_plain.specs.Rebuilding.{HoldsDocument};
 ghost use Rattle.h5_driver.specs.Options.{default_options};
 ghost use Rattle.h5_driver.specs.PlainFragments.{FragmentStands, IsBodyContext};
 ghost use Rattle.h5_driver.specs.StandardTexts.{ParsesFragment};
+ghost use Rattle.h5_driver.specs.WholeTexts.{ParsesFragmentBy};
 ghost use Rattle.h5_clean.specs.Cleaned.{BuildsFragment, IsClean, IsCleaned};
 ghost use Rattle.h5_standard.specs.Mark.{behind_mark};
 ghost use Rattle.h5_serialize.specs.Walk.{text_of_each};
@@ -22,7 +23,8 @@ ghost use Rattle.h5_clean.specs.Source.{Source, calls_before, source_of};
 ghost use Rattle.h5_clean.specs.Texts.{readable, without_marks};
 
 use h5_arena::laws::calls_stand_around_those_of_children;
-use h5_driver::laws::fragments_come_back;
+use h5_driver::Reader;
+use h5_driver::laws::{fragments_come_back, fragments_come_back_over};
 
 /// What is left of a text is read as it was written, and all is left of a text that is read so.
 pub fn what_is_left_of_a_text_can_be_read()
@@ -98,6 +100,17 @@ pub fn what_is_left_comes_back()
         → FragmentStands told.forest (cleaned rules cleaned_is.source) }
 {
     fragments_come_back();
+}
+
+/// So it is over every reader, the plain one among them.
+pub fn what_is_left_comes_back_over<R: Reader>()
+    ensures { (rules : Rules) (html out : List ℕ) (cleaned_is : IsCleaned rules html out)
+        (seen told : Seen) (name : QualName) (attrs : List AttributeText) (allows_scripting : Bool) →
+        HoldsDocument seen.forest → IsBodyContext name
+        → ParsesFragmentBy R.Reads R.first R.Sink.choices seen default_options name attrs allows_scripting out told
+        → FragmentStands told.forest (cleaned rules cleaned_is.source) }
+{
+    fragments_come_back_over::<R>();
 }
 
 /// A cleaned text stays.

@@ -6,9 +6,10 @@ use super::place::Spot;
 use h5_state::is_blank_text;
 use std::alloc::{AllocError, Global};
 
-/// Whether a text has neither NUL nor CR.
+/// Whether a text has neither NUL nor CR: whether all of it is left.
 pub fn is_readable(text: &str) -> bool
-    ensures { result ≡ true → readable text.now ≡ text.now }
+    ensures left { result ≡ true → readable text.now ≡ text.now }
+    ensures all { readable text.now ≡ text.now → result ≡ true }
 {
     memchr::memchr2(0, b'\r', text.as_bytes()).is_none()
 }

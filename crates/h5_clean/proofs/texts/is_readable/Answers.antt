@@ -1,7 +1,10 @@
-use Rattle.std.proofs.Common.{◌≡◌, ℕ, suc, ◌<◌, ◌==◌, true, false, List, [], ◌∷◌, Option, None, Some, is_some, not, length, get_or, refl, ap, subst, ◌∙◌, arith}
-use Rattle.std.proofs.lemmas.Bool.{false_from_ne_true, true≢false, or_parts}
+use Rattle.std.proofs.Common.{◌≡◌, ℕ, zero, suc, ◌<◌, ◌==◌, Bool, true, false, List, [], ◌∷◌, Option, None, Some, is_some, not, length, get_or, refl, sym, ap, subst, ◌∙◌, arith}
+use Rattle.std.proofs.lemmas.Bool.{false_from_ne_true, true≢false, ne_eqb, or_from, or_parts}
 use Rattle.memchr.specs.Find.{IsFirstByte, is_byte2}
+use Rattle.h5_plain.specs.Plain.{NoNul}
+use Rattle.h5_round_trip.specs.Readable.{NoCr}
 use Rattle.h5_clean.specs.Texts.{readable}
+use Rattle.h5_clean.proofs.TextLaws.{no_cr, no_nul}
 use Rattle.h5_clean.proofs.texts.is_readable.Goals as goal
 
 none_of_them : (t : List ℕ) → ((k : ℕ) → k < length t → is_byte2 0 13 (get_or t k 0) ≡ true → ⊥) → readable t ≡ t
@@ -14,5 +17,22 @@ none_found : (t : List ℕ) (r : Option ℕ) → IsFirstByte (is_byte2 0 13) t r
 none_found t None h e = none_of_them t (λ k l. h k (omega arith) l)
 none_found t (Some k) h e = absurd (true≢false e)
 
-pub returns : goal.returns
-returns c = λ e. subst (λ t. readable t ≡ t) c.as_bytes.ensures.value (none_found c.as_bytes.result.now c.memchr2.result c.memchr2.ensures (c.is_none.ensures ∙ ap not e))
+pub returns-clause-left : goal.returns-clause-left
+returns-clause-left c = λ e. subst (λ t. readable t ≡ t) c.as_bytes.ensures.value (none_found c.as_bytes.result.now c.memchr2.result c.memchr2.ensures (c.is_none.ensures ∙ ap not e))
+
+-- and where all is left none of them is found
+other_byte : (t : List ℕ) → NoNul t → NoCr t → (k : ℕ) → k < length t → is_byte2 0 13 (get_or t k 0) ≡ false
+other_byte [] n c k l = absurd (omega (arith, l))
+other_byte (b ∷ t) n c zero l = or_from (b == 0) (b == 13) (ne_eqb b 0 n.0) (ne_eqb b 13 c.0)
+other_byte (b ∷ t) n c (suc k) l = other_byte t n.1 c.1 k (omega (arith, l))
+
+all_left : (t : List ℕ) (r : Option ℕ) → IsFirstByte (is_byte2 0 13) t r → readable t ≡ t → is_some r ≡ false
+all_left t None h e = refl
+all_left t (Some k) h e = absurd (true≢false (sym h.1 ∙ other_byte t (subst NoNul e (no_nul t)) (subst NoCr e (no_cr t)) k h.0.high))
+
+is_true : (b s : Bool) → s ≡ not b → s ≡ false → b ≡ true
+is_true true s e f = refl
+is_true false s e f = absurd (true≢false (sym e ∙ f))
+
+pub returns-clause-all : goal.returns-clause-all
+returns-clause-all c = λ e. is_true _ _ c.is_none.ensures (all_left c.as_bytes.result.now c.memchr2.result c.memchr2.ensures (subst (λ t. readable t ≡ t) (sym c.as_bytes.ensures.value) e))
