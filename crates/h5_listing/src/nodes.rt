@@ -50,14 +50,16 @@ fn write_attributes<T: AttrRef, I: Iterator<Item = T> + Drop>(
     requires can { I.can_next attrs }
     requires ends { IsFinite (I.remaining attrs) }
 {
-    let mut front = "";
+    let mut is_first = true;
     for attr in attrs {
-        out.push_str(front)?;
+        if !is_first {
+            out.push(',')?;
+        }
         let name = attribute_name(alloc, attr.name())?;
         write_json(alloc, out, name.as_str())?;
         out.push(':')?;
         write_json(alloc, out, attr.value())?;
-        front = ",";
+        is_first = false;
     }
     Ok(())
 }
