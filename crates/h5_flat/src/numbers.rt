@@ -1,0 +1,81 @@
+//! The numbers of kinds (`nodeType` of the DOM standard), of namespaces and of prefixes.
+use h5_names::{Namespace, namespaces};
+use std::alloc::AllocError;
+
+pub const ELEMENT: u32 = 1;
+
+pub const TEXT: u32 = 3;
+
+pub const INSTRUCTION: u32 = 7;
+
+pub const COMMENT: u32 = 8;
+
+pub const DOCUMENT: u32 = 9;
+
+pub const DOCTYPE: u32 = 10;
+
+pub const FRAGMENT: u32 = 11;
+
+/// No node, and no name.
+pub const NOTHING: u32 = 0xffff_ffff;
+
+/// Names lie above the kind in a word, so there are as many as it has room for.
+pub(crate) const KINDS: u32 = 256;
+
+/// The number of a namespace: 0 for none, 7 for one that HTML doesn't know.
+pub(crate) fn namespace_number(ns: &Namespace) -> u32 {
+    if ns.is_html() {
+        return 1;
+    }
+    match ns.as_str() {
+        namespaces::NONE => 0,
+        namespaces::MATHML => 2,
+        namespaces::SVG => 3,
+        namespaces::XLINK => 4,
+        namespaces::XML => 5,
+        namespaces::XMLNS => 6,
+        _ => 7,
+    }
+}
+
+/// The namespace of a number.
+pub(crate) fn namespace_url(number: u32) -> &'static str {
+    match number {
+        1 => namespaces::HTML,
+        2 => namespaces::MATHML,
+        3 => namespaces::SVG,
+        4 => namespaces::XLINK,
+        5 => namespaces::XML,
+        6 => namespaces::XMLNS,
+        _ => namespaces::NONE,
+    }
+}
+
+/// The number of a prefix: 4 for one that HTML doesn't know.
+pub(crate) fn prefix_number(prefix: &str) -> u32 {
+    match prefix {
+        "xlink" => 1,
+        "xml" => 2,
+        "xmlns" => 3,
+        _ => 4,
+    }
+}
+
+/// The prefix of a number.
+pub(crate) fn prefix_text(number: u32) -> Option<&'static str> {
+    match number {
+        1 => Some("xlink"),
+        2 => Some("xml"),
+        3 => Some("xmlns"),
+        _ => None,
+    }
+}
+
+/// A length as a word. The last word stands for nothing, so it is refused as want of memory, and so is what is longer.
+pub(crate) fn short(length: usize) -> Result<u32, AllocError> {
+    if length < NOTHING as usize {
+        Ok(length as u32)
+    } else {
+        Err(AllocError)
+    }
+}

@@ -1,0 +1,199 @@
+//! The arena of a block.
+use super::numbers::{COMMENT, DOCTYPE, DOCUMENT, ELEMENT, FRAGMENT, INSTRUCTION, TEXT, short};
+use super::view::View;
+use h5_arena::{Arena, NodeId, TreeFault};
+use h5_interface::{NodeOrText, QuirksMode, TreeSink, create_element};
+use h5_names::{LocalName, Namespace, QualName, namespaces};
+use std::alloc::{AllocError, Global};
+
+/// A tree that was made of a block. In a fragment an element `html` stands above what node 0 holds, as a parser makes it.
+#[derive(Drop)]
+pub struct Unpacked {
+    pub arena: Arena,
+    // Of each number the node of the arena. A text is none.
+    ids: Vec<Option<NodeId>>,
+}
+
+fn quirks_of(number: u32) -> QuirksMode {
+    match number {
+        1 => QuirksMode::LimitedQuirks,
+        2 => QuirksMode::Quirks,
+        _ => QuirksMode::NoQuirks,
+    }
+}
+
+impl Unpacked {
+    /// The node of a number. Nothing for a text, and where there is no such node.
+    pub fn id(&self, node: u32) -> Option<NodeId> {
+        self.ids.as_slice().get(node as usize).copied().flatten()
+    }
+
+    /// The numbers of nodes that stand in tree order. Nodes that have none, and such as stand in another order, are left out.
+    pub fn numbers(&self, alloc: Global, found: &[NodeId]) -> Result<Vec<u32>, AllocError> {
+        let mut numbers = Vec::new(alloc);
+        let mut left = found;
+        for (number, id) in self.ids.iter().enumerate() {
+            if let Some((first, rest)) = left.split_first() {
+                if *id == Some(*first) {
+                    numbers.push(short(number)?)?;
+                    left = rest;
+                }
+            }
+        }
+        Ok(numbers)
+    }
+
+    // The element below which a fragment stands.
+    fn make_root(&mut self, alloc: Global) -> Result<NodeId, AllocError> {
+        let ns = Namespace::new(alloc, namespaces::HTML)?;
+        let name = QualName::new(None, ns, LocalName::new(alloc, "html")?);
+        create_element(&mut self.arena, name, Vec::new(alloc))
+    }
+
+    // The contents of the template below which a fragment stands, or, where it stands below nothing, a root.
+    fn make_fragment(
+        &mut self,
+        alloc: Global,
+        parent: Option<NodeId>,
+    ) -> Result<Option<NodeId>, AllocError> {
+        match parent {
+            Some(parent) if self.arena.holds(parent) => Ok(self.arena.contents(parent)),
+            _ => Ok(Some(self.make_root(alloc)?)),
+        }
+    }
+
+    fn make_element(
+        &mut self,
+        alloc: Global,
+        view: &View<'_>,
+        node: u32,
+    ) -> Result<NodeId, AllocError> {
+        let name = view.qual_name(alloc, view.name(node))?;
+        let attrs = view.attributes(alloc, node)?;
+        create_element(&mut self.arena, name, attrs)
+    }
+
+    fn make_instruction(
+        &mut self,
+        alloc: Global,
+        view: &View<'_>,
+        node: u32,
+    ) -> Result<NodeId, AllocError> {
+        let target = String::from_str(alloc, view.value_of(node, 0))?;
+        let text = String::from_str(alloc, view.value_of(node, 1))?;
+        self.arena.create_pi(target, text)
+    }
+
+    fn append_doctype(
+        &mut self,
+        alloc: Global,
+        view: &View<'_>,
+        node: u32,
+    ) -> Result<(), AllocError> {
+        let name = String::from_str(alloc, view.value_of(node, 0))?;
+        let public_id = String::from_str(alloc, view.value_of(node, 1))?;
+        let system_id = String::from_str(alloc, view.value_of(node, 2))?;
+        self.arena
+            .append_doctype_to_document(name, public_id, system_id)
+    }
+
+    // Makes the node of a number. A text and a doctype are put where they stand, and have none.
+    fn make(
+        &mut self,
+        alloc: Global,
+        view: &View<'_>,
+        node: u32,
+    ) -> Result<Option<NodeId>, AllocError> {
+        let parent = self.id(view.parent(node));
+        match view.kind(node) {
+            DOCUMENT => Ok(Some(self.arena.document())),
+            FRAGMENT => self.make_fragment(alloc, parent),
+            ELEMENT => Ok(Some(self.make_element(alloc, view, node)?)),
+            INSTRUCTION => Ok(Some(self.make_instruction(alloc, view, node)?)),
+            COMMENT => {
+                let text = String::from_str(alloc, view.value_of(node, 0))?;
+                Ok(Some(self.arena.create_comment(text)?))
+            }
+            DOCTYPE => {
+                self.append_doctype(alloc, view, node)?;
+                Ok(None)
+            }
+            TEXT => {
+                let text = String::from_str(alloc, view.text_of(node))?;
+                self.append(parent, NodeOrText::AppendText(text))?;
+                Ok(None)
+            }
+            _ => Ok(None),
+        }
+    }
+
+    // Puts a child below its parent. What can't stand there stands nowhere.
+    fn append(
+        &mut self,
+        parent: Option<NodeId>,
+        child: NodeOrText<NodeId>,
+    ) -> Result<(), AllocError> {
+        let Some(parent) = parent else {
+            return Ok(());
+        };
+        match self.arena.try_append(parent, child) {
+            Err(TreeFault::Memory) => Err(AllocError),
+            _ => Ok(()),
+        }
+    }
+
+    // Puts the node of a number where it stands. All that stands below it does, and its parent stands nowhere yet, so no way up is
+    // long.
+    fn attach(&mut self, view: &View<'_>, node: u32) -> Result<(), AllocError> {
+        let Some(child) = self.id(node) else {
+            return Ok(());
+        };
+        if node == 0 {
+            let document = self.arena.document();
+            return self.append(Some(document), NodeOrText::AppendNode(child));
+        }
+        self.append(self.id(view.parent(node)), NodeOrText::AppendNode(child))
+    }
+
+    // Attaches the open nodes behind which a node stands.
+    fn attach_before(
+        &mut self,
+        view: &View<'_>,
+        open: &mut Vec<u32>,
+        node: u32,
+    ) -> Result<(), AllocError> {
+        for _ in 0..open.len() {
+            match open.pop() {
+                Some(last) if view.end(last) <= node => self.attach(view, last)?,
+                Some(last) => {
+                    open.push(last)?;
+                    return Ok(());
+                }
+                None => return Ok(()),
+            }
+        }
+        Ok(())
+    }
+
+    fn add_all(&mut self, alloc: Global, view: &View<'_>) -> Result<(), AllocError> {
+        let mut open: Vec<u32> = Vec::new(alloc);
+        for node in 0..view.node_count() {
+            self.attach_before(view, &mut open, node)?;
+            let id = self.make(alloc, view, node)?;
+            self.ids.push(id)?;
+            open.push(node)?;
+        }
+        self.attach_before(view, &mut open, view.node_count())
+    }
+}
+
+/// The tree of a block, in an arena. Of bytes that no tree was packed into it is some tree. An `AllocError` where memory is refused.
+pub fn arena_of(alloc: Global, view: &View<'_>) -> Result<Unpacked, AllocError> {
+    let mut unpacked = Unpacked {
+        arena: Arena::without_errors(alloc)?,
+        ids: Vec::new(alloc),
+    };
+    unpacked.arena.set_quirks_mode(quirks_of(view.quirks()));
+    unpacked.add_all(alloc, view)?;
+    Ok(unpacked)
+}
