@@ -1,0 +1,212 @@
+//! Reads of a block. Where it is none, or has no such node, each answers a status, 0 or `NOTHING`.
+ghost use Rattle.std.specs.Prelude.{◌≡◌, ◌<◌, ◌⊎◌};
+
+use super::status::{NO_NODE, NO_TREE, OK, give};
+use h5_flat::{NOTHING, Span, View, html_of};
+use std::alloc::Global;
+
+/// The HTML of a node, with itself or of what stands below it.
+#[unsafe(no_mangle)]
+pub extern "C" fn hengaruto_html(
+    alloc: Global,
+    block: &[u8],
+    node: u32,
+    outer: u32,
+    html: &mut *mut u8,
+    length: &mut usize,
+) -> u32 {
+    let Some(view) = View::of(block) else {
+        return NO_TREE;
+    };
+    if node >= view.node_count() {
+        return NO_NODE;
+    }
+    give(html_of(alloc, &view, node, outer != 0), html, length)
+}
+
+/// Whether a block is such as a parser makes. Looks at all of it.
+#[unsafe(no_mangle)]
+pub extern "C" fn hengaruto_check(block: &[u8]) -> u32 {
+    match View::of(block) {
+        Some(view) if view.is_sound() => OK,
+        _ => NO_TREE,
+    }
+}
+
+/// The quirks mode.
+#[unsafe(no_mangle)]
+pub extern "C" fn hengaruto_quirks(block: &[u8]) -> u32 {
+    match View::of(block) {
+        Some(view) => view.quirks(),
+        None => 0,
+    }
+}
+
+/// How many nodes there are.
+#[unsafe(no_mangle)]
+pub extern "C" fn hengaruto_node_count(block: &[u8]) -> u32 {
+    match View::of(block) {
+        Some(view) => view.node_count(),
+        None => 0,
+    }
+}
+
+/// The kind of a node.
+#[unsafe(no_mangle)]
+pub extern "C" fn hengaruto_kind(block: &[u8], node: u32) -> u32 {
+    match View::of(block) {
+        Some(view) => view.kind(node),
+        None => 0,
+    }
+}
+
+/// The node below which a node stands: a smaller number.
+#[unsafe(no_mangle)]
+pub extern "C" fn hengaruto_parent(block: &[u8], node: u32) -> u32
+    ensures { (result < node) ⊎ (result ≡ 4294967295) }
+{
+    match View::of(block) {
+        Some(view) => view.parent(node),
+        None => NOTHING,
+    }
+}
+
+/// The first child of a node: a greater number.
+#[unsafe(no_mangle)]
+pub extern "C" fn hengaruto_first_child(block: &[u8], node: u32) -> u32
+    ensures { (node < result) ⊎ (result ≡ 4294967295) }
+{
+    match View::of(block) {
+        Some(view) => view.first_child(node),
+        None => NOTHING,
+    }
+}
+
+/// The next sibling of a node: a greater number.
+#[unsafe(no_mangle)]
+pub extern "C" fn hengaruto_next(block: &[u8], node: u32) -> u32
+    ensures { (node < result) ⊎ (result ≡ 4294967295) }
+{
+    match View::of(block) {
+        Some(view) => view.next(node),
+        None => NOTHING,
+    }
+}
+
+/// The first node behind all that stands below a node: a greater number.
+#[unsafe(no_mangle)]
+pub extern "C" fn hengaruto_end(block: &[u8], node: u32) -> u32
+    ensures { (node < result) ⊎ (result ≡ 4294967295) }
+{
+    match View::of(block) {
+        Some(view) => view.end(node),
+        None => NOTHING,
+    }
+}
+
+/// The fragment that holds what stands in a template.
+#[unsafe(no_mangle)]
+pub extern "C" fn hengaruto_contents(block: &[u8], node: u32) -> u32 {
+    match View::of(block) {
+        Some(view) => view.contents(node),
+        None => NOTHING,
+    }
+}
+
+/// The number of the name of an element.
+#[unsafe(no_mangle)]
+pub extern "C" fn hengaruto_name(block: &[u8], node: u32) -> u32 {
+    match View::of(block) {
+        Some(view) => view.name(node),
+        None => NOTHING,
+    }
+}
+
+/// The number of the namespace of a name.
+#[unsafe(no_mangle)]
+pub extern "C" fn hengaruto_namespace(block: &[u8], name: u32) -> u32 {
+    match View::of(block) {
+        Some(view) => view.namespace(name),
+        None => 0,
+    }
+}
+
+/// The number of the prefix of a name.
+#[unsafe(no_mangle)]
+pub extern "C" fn hengaruto_prefix(block: &[u8], name: u32) -> u32 {
+    match View::of(block) {
+        Some(view) => view.prefix(name),
+        None => 0,
+    }
+}
+
+// Says where bytes lie, if anywhere.
+fn put(span: Option<Span>, at: &mut usize, count: &mut usize) -> u32 {
+    match span {
+        Some(span) => {
+            *at = span.at;
+            *count = span.count;
+            OK
+        }
+        None => NO_NODE,
+    }
+}
+
+/// Where the text of a name lies.
+#[unsafe(no_mangle)]
+pub extern "C" fn hengaruto_name_text(
+    block: &[u8],
+    name: u32,
+    at: &mut usize,
+    count: &mut usize,
+) -> u32 {
+    match View::of(block) {
+        Some(view) => put(view.name_text(name), at, count),
+        None => NO_TREE,
+    }
+}
+
+/// Where the text of a node and of all below it lies.
+#[unsafe(no_mangle)]
+pub extern "C" fn hengaruto_text(
+    block: &[u8],
+    node: u32,
+    at: &mut usize,
+    count: &mut usize,
+) -> u32 {
+    match View::of(block) {
+        Some(view) => put(view.text(node), at, count),
+        None => NO_TREE,
+    }
+}
+
+/// How many rows a node has.
+#[unsafe(no_mangle)]
+pub extern "C" fn hengaruto_row_count(block: &[u8], node: u32) -> u32 {
+    match View::of(block) {
+        Some(view) => view.row_count(node),
+        None => 0,
+    }
+}
+
+/// A row of a node: the number of its name, and where its value lies.
+#[unsafe(no_mangle)]
+pub extern "C" fn hengaruto_row(
+    block: &[u8],
+    node: u32,
+    index: u32,
+    name: &mut u32,
+    at: &mut usize,
+    count: &mut usize,
+) -> u32 {
+    let Some(view) = View::of(block) else {
+        return NO_TREE;
+    };
+    match view.row(node, index) {
+        Some(row) => {
+            *name = row.name;
+            put(Some(row.value), at, count)
+        }
+        None => NO_NODE,
+    }
+}
