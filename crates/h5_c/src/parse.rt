@@ -60,8 +60,9 @@ fn fragment_of(
     let arena = Arena::without_errors(alloc)?;
     let attrs = Vec::new(alloc);
     let scripting = is_scripting(options);
-    let parser = parse_fragment(alloc, arena, opts_of(options), context, attrs, scripting)
-        .map_err(|_| AllocError)?;
+    let parser = parse_fragment(alloc, arena, opts_of(options), context, attrs, scripting).map_err(
+        |_| AllocError,
+    )?;
     parser.from_utf8().one(page).map_err(|_| AllocError)
 }
 
@@ -105,5 +106,9 @@ pub extern "C" fn hengaruto_parse_fragment(
     else {
         return BAD_ARGUMENT;
     };
-    give(fragment_block_of(alloc, page, local, url, options), block, length)
+    give(
+        fragment_block_of(alloc, page, local, url, options),
+        block,
+        length,
+    )
 }

@@ -6,7 +6,12 @@ use std::alloc::{AllocError, Global};
 use std::fmt::Write;
 
 // The numbers of the elements below a node that a selector matches. Below a text stand none.
-fn select(alloc: Global, view: &View<'_>, node: u32, selector: &Selector) -> Result<Vec<u8>, AllocError> {
+fn select(
+    alloc: Global,
+    view: &View<'_>,
+    node: u32,
+    selector: &Selector,
+) -> Result<Vec<u8>, AllocError> {
     let unpacked = arena_of(alloc, view)?;
     let found = match unpacked.id(node) {
         Some(id) if unpacked.arena.holds(id) => selector.select(&unpacked.arena, id)?,

@@ -67,7 +67,9 @@ impl<'a> View<'a> {
     /// Whether a block is such as a tree is packed into: each read of it answers then, and a walk takes no more steps than it has
     /// words. Looks at each word once.
     pub fn is_sound(&self) -> bool {
-        let (names, values, texts) = self.byte_counts();
+        let names = self.values_begin.saturating_sub(self.names_begin);
+        let values = self.texts_begin.saturating_sub(self.values_begin);
+        let texts = self.block.len().saturating_sub(self.texts_begin);
         self.has_root()
             && self.are_nodes_sound()
             && self.text_place(self.nodes) as usize == texts
