@@ -1,5 +1,6 @@
 //! Reads of a block. Where it is none, or has no such node, each answers a status, 0 or `NOTHING`.
-ghost use Rattle.std.specs.Prelude.{◌≡◌, ◌<◌, ◌⊎◌};
+ghost use Rattle.std.specs.Prelude.{◌≡◌, ◌<◌, ◌⊎◌, if◌then◌else◌};
+ghost use Rattle.h5_flat.specs.Block as b;
 
 use super::status::{NO_NODE, NO_TREE, OK, give};
 use h5_flat::{NOTHING, Span, View, html_of};
@@ -35,7 +36,9 @@ pub extern "C" fn hengaruto_check(block: &[u8]) -> u32 {
 
 /// The quirks mode.
 #[unsafe(no_mangle)]
-pub extern "C" fn hengaruto_quirks(block: &[u8]) -> u32 {
+pub extern "C" fn hengaruto_quirks(block: &[u8]) -> u32
+    ensures { result ≡ (if b.is_block block.now then b.quirks_in block.now else 0) }
+{
     match View::of(block) {
         Some(view) => view.quirks(),
         None => 0,
@@ -44,7 +47,9 @@ pub extern "C" fn hengaruto_quirks(block: &[u8]) -> u32 {
 
 /// How many nodes there are.
 #[unsafe(no_mangle)]
-pub extern "C" fn hengaruto_node_count(block: &[u8]) -> u32 {
+pub extern "C" fn hengaruto_node_count(block: &[u8]) -> u32
+    ensures { result ≡ (if b.is_block block.now then b.nodes_in block.now else 0) }
+{
     match View::of(block) {
         Some(view) => view.node_count(),
         None => 0,
@@ -53,7 +58,9 @@ pub extern "C" fn hengaruto_node_count(block: &[u8]) -> u32 {
 
 /// The kind of a node.
 #[unsafe(no_mangle)]
-pub extern "C" fn hengaruto_kind(block: &[u8], node: u32) -> u32 {
+pub extern "C" fn hengaruto_kind(block: &[u8], node: u32) -> u32
+    ensures { result ≡ (if b.is_block block.now then b.kind_in block.now node else 0) }
+{
     match View::of(block) {
         Some(view) => view.kind(node),
         None => 0,
@@ -63,7 +70,8 @@ pub extern "C" fn hengaruto_kind(block: &[u8], node: u32) -> u32 {
 /// The node below which a node stands: a smaller number.
 #[unsafe(no_mangle)]
 pub extern "C" fn hengaruto_parent(block: &[u8], node: u32) -> u32
-    ensures { (result < node) ⊎ (result ≡ 4294967295) }
+    ensures read { result ≡ (if b.is_block block.now then b.parent_in block.now node else b.nothing) }
+    ensures before { (result < node) ⊎ (result ≡ 4294967295) }
 {
     match View::of(block) {
         Some(view) => view.parent(node),
@@ -74,7 +82,8 @@ pub extern "C" fn hengaruto_parent(block: &[u8], node: u32) -> u32
 /// The first child of a node: a greater number.
 #[unsafe(no_mangle)]
 pub extern "C" fn hengaruto_first_child(block: &[u8], node: u32) -> u32
-    ensures { (node < result) ⊎ (result ≡ 4294967295) }
+    ensures read { result ≡ (if b.is_block block.now then b.first_child_in block.now node else b.nothing) }
+    ensures behind { (node < result) ⊎ (result ≡ 4294967295) }
 {
     match View::of(block) {
         Some(view) => view.first_child(node),
@@ -85,7 +94,8 @@ pub extern "C" fn hengaruto_first_child(block: &[u8], node: u32) -> u32
 /// The next sibling of a node: a greater number.
 #[unsafe(no_mangle)]
 pub extern "C" fn hengaruto_next(block: &[u8], node: u32) -> u32
-    ensures { (node < result) ⊎ (result ≡ 4294967295) }
+    ensures read { result ≡ (if b.is_block block.now then b.next_in block.now node else b.nothing) }
+    ensures behind { (node < result) ⊎ (result ≡ 4294967295) }
 {
     match View::of(block) {
         Some(view) => view.next(node),
@@ -96,7 +106,8 @@ pub extern "C" fn hengaruto_next(block: &[u8], node: u32) -> u32
 /// The first node behind all that stands below a node: a greater number.
 #[unsafe(no_mangle)]
 pub extern "C" fn hengaruto_end(block: &[u8], node: u32) -> u32
-    ensures { (node < result) ⊎ (result ≡ 4294967295) }
+    ensures read { result ≡ (if b.is_block block.now then b.end_in block.now node else b.nothing) }
+    ensures behind { (node < result) ⊎ (result ≡ 4294967295) }
 {
     match View::of(block) {
         Some(view) => view.end(node),
@@ -106,7 +117,9 @@ pub extern "C" fn hengaruto_end(block: &[u8], node: u32) -> u32
 
 /// The fragment that holds what stands in a template.
 #[unsafe(no_mangle)]
-pub extern "C" fn hengaruto_contents(block: &[u8], node: u32) -> u32 {
+pub extern "C" fn hengaruto_contents(block: &[u8], node: u32) -> u32
+    ensures { result ≡ (if b.is_block block.now then b.contents_in block.now node else b.nothing) }
+{
     match View::of(block) {
         Some(view) => view.contents(node),
         None => NOTHING,
@@ -115,7 +128,9 @@ pub extern "C" fn hengaruto_contents(block: &[u8], node: u32) -> u32 {
 
 /// The number of the name of an element.
 #[unsafe(no_mangle)]
-pub extern "C" fn hengaruto_name(block: &[u8], node: u32) -> u32 {
+pub extern "C" fn hengaruto_name(block: &[u8], node: u32) -> u32
+    ensures { result ≡ (if b.is_block block.now then b.name_in block.now node else b.nothing) }
+{
     match View::of(block) {
         Some(view) => view.name(node),
         None => NOTHING,
@@ -124,7 +139,9 @@ pub extern "C" fn hengaruto_name(block: &[u8], node: u32) -> u32 {
 
 /// The number of the namespace of a name.
 #[unsafe(no_mangle)]
-pub extern "C" fn hengaruto_namespace(block: &[u8], name: u32) -> u32 {
+pub extern "C" fn hengaruto_namespace(block: &[u8], name: u32) -> u32
+    ensures { result ≡ (if b.is_block block.now then b.namespace_in block.now name else 0) }
+{
     match View::of(block) {
         Some(view) => view.namespace(name),
         None => 0,
@@ -133,7 +150,9 @@ pub extern "C" fn hengaruto_namespace(block: &[u8], name: u32) -> u32 {
 
 /// The number of the prefix of a name.
 #[unsafe(no_mangle)]
-pub extern "C" fn hengaruto_prefix(block: &[u8], name: u32) -> u32 {
+pub extern "C" fn hengaruto_prefix(block: &[u8], name: u32) -> u32
+    ensures { result ≡ (if b.is_block block.now then b.prefix_in block.now name else 0) }
+{
     match View::of(block) {
         Some(view) => view.prefix(name),
         None => 0,
@@ -182,7 +201,9 @@ pub extern "C" fn hengaruto_text(
 
 /// How many rows a node has.
 #[unsafe(no_mangle)]
-pub extern "C" fn hengaruto_row_count(block: &[u8], node: u32) -> u32 {
+pub extern "C" fn hengaruto_row_count(block: &[u8], node: u32) -> u32
+    ensures { result ≡ (if b.is_block block.now then b.row_count_in block.now node else 0) }
+{
     match View::of(block) {
         Some(view) => view.row_count(node),
         None => 0,

@@ -1,4 +1,6 @@
 //! The numbers of kinds (`nodeType` of the DOM standard), of namespaces and of prefixes.
+ghost use Rattle.std.specs.Prelude.{◌≡◌, IfOk};
+
 use h5_names::{Namespace, namespaces};
 use std::alloc::AllocError;
 
@@ -72,7 +74,9 @@ pub(crate) fn prefix_text(number: u32) -> Option<&'static str> {
 }
 
 /// A length as a word. The last word stands for nothing, so it is refused as want of memory, and so is what is longer.
-pub(crate) fn short(length: usize) -> Result<u32, AllocError> {
+pub(crate) fn short(length: usize) -> Result<u32, AllocError>
+    ensures { IfOk result (λ word. word ≡ length) }
+{
     if length < NOTHING as usize {
         Ok(length as u32)
     } else {

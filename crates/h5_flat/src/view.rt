@@ -237,7 +237,10 @@ impl<'a> View<'a> {
     pub(crate) fn first_row(&self, node: u32) -> u32
         ensures { result ≡ b.first_row_in self.now.block.now node }
     {
-        word_at(self.block, FRONT + 1 + 4 * self.nodes as usize + node as usize)
+        word_at(
+            self.block,
+            FRONT + 1 + 4 * self.nodes as usize + node as usize,
+        )
     }
 
     /// How many rows a node has: an element its attributes, a doctype three, a comment one, an instruction two.
@@ -268,7 +271,10 @@ impl<'a> View<'a> {
     pub(crate) fn value_end(&self, row: u32) -> u32
         ensures { result ≡ b.word_in self.now.block.now (b.row_ends_at (b.nodes_in self.now.block.now) (b.rows_in self.now.block.now) + row) }
     {
-        word_at(self.block, self.row_names_at() + self.rows as usize + row as usize)
+        word_at(
+            self.block,
+            self.row_names_at() + self.rows as usize + row as usize,
+        )
     }
 
     fn value(&self, row: u32) -> Option<Span>
@@ -321,7 +327,10 @@ impl<'a> View<'a> {
     pub(crate) fn name_end(&self, name: u32) -> u32
         ensures { result ≡ b.word_in self.now.block.now (b.name_ends_at self.now.block.now + name) }
     {
-        word_at(self.block, self.spaces_at() + self.names as usize + name as usize)
+        word_at(
+            self.block,
+            self.spaces_at() + self.names as usize + name as usize,
+        )
     }
 
     /// The local name of a name. Nothing where there is no such name.
@@ -331,16 +340,17 @@ impl<'a> View<'a> {
         if name >= self.names {
             return None;
         }
-        let from = if name == 0 { 0 } else { self.name_end(name - 1) };
+        let from = if name == 0 {
+            0
+        } else {
+            self.name_end(name - 1)
+        };
         between(self.block, self.names_begin, from, self.name_end(name))
     }
 
     /// The text of a span. It is empty where the span doesn't lie in the block, or isn't UTF-8.
     pub fn str_at(&self, span: Span) -> &'a str {
-        match self
-            .block
-            .get(span.at..span.at.saturating_add(span.count))
-        {
+        match self.block.get(span.at..span.at.saturating_add(span.count)) {
             Some(bytes) => std::str::from_utf8(bytes).unwrap_or(""),
             None => "",
         }
