@@ -317,9 +317,9 @@ fn holds_of_parent(formula: &Formula, query: &Query<'_>, id: NodeId) -> Result<b
     }
 }
 
-// Whether this holds of some element to which an element leads.
+/// Whether this holds of some element to which an element leads.
 #[cycle(holds)]
-fn holds_along(
+pub(crate) fn holds_along(
     formula: &Formula,
     query: &Query<'_>,
     way: Way,

@@ -1,8 +1,9 @@
 //! CSS selectors over the nodes of an arena (Selectors Level 4, without namespaces, pseudo-elements and what a user does).
 //!
 //! A selector is a formula about one element. `formula` has what it may ask, `ways` where one element leads to, `values` the tests of
-//! attributes, and `an_plus_b` indices. `holds` asks a formula of one element, and `selector` has the calls. Begin with
-//! `specs/Holds.antt`, and then `specs/Selected.antt`.
+//! attributes, and `an_plus_b` indices. `holds` asks a formula of one element. `rows` has a node and the elements below it, and `tables`
+//! asks a formula of all of them, a pass for each of its parts. `selector` has the calls. Begin with `specs/Holds.antt`, and then
+//! `specs/Selected.antt`.
 //!
 //! `scan` reads names, strings and numbers of a selector's text; `attributes`, `indices` and `parse` make the formula. Of these it is
 //! proved that they are safe and end, and that a fault lies in the text. That the formula is what the grammar says isn't proved.
@@ -15,8 +16,10 @@ mod formula;
 mod holds;
 mod indices;
 mod parse;
+mod rows;
 mod scan;
 mod selector;
+mod tables;
 mod values;
 mod ways;
 

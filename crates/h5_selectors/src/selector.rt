@@ -1,17 +1,21 @@
 //! The calls of a selector.
-ghost use Rattle.std.specs.Prelude.{◌≡◌, All, IfErr, IfOk, IfSome, length, map, slice_get};
+ghost use Rattle.std.specs.Prelude.{◌≡◌, ◌<◌, ℕ, All, Bool, IfErr, IfOk, IfSome, drop, false, length, map, not, slice_get, slice_index_or};
 ghost use Rattle.std.specs.List.{filter};
 ghost use Rattle.std.specs.Str.{chars};
 ghost use Rattle.h5_arena.specs.ArenaModel.{IsHeld, optional_place, place};
 ghost use Rattle.h5_selectors.specs.Fault.{IsWithin};
 ghost use Rattle.h5_selectors.specs.Query.{matches_by};
+ghost use Rattle.h5_selectors.specs.declared.rows.Row.{Row};
 
 use super::fault::SelectorFault;
 use super::formula::Formula;
 use super::holds::{Query, holds};
 use super::parse::parse;
+use super::rows::{Row, rows_below};
+use super::tables::unmatched;
 use super::ways::{ancestors, elements_below, is_element};
 use h5_arena::{Arena, NodeId};
+use h5_interface::TreeSink;
 use std::alloc::{AllocError, Global};
 use std::marker::Model;
 
@@ -51,27 +55,32 @@ fn matches_one(list: &[Formula], query: &Query<'_>, id: NodeId) -> Result<bool, 
     Ok(false)
 }
 
-// Those of some elements that one of the selectors matches.
-fn matching(
+// The nodes of the rows that aren't left over, those behind the first row.
+fn taken(
     alloc: Global,
-    list: &[Formula],
-    query: &Query<'_>,
-    elements: &[NodeId],
+    arena: &Arena,
+    rows: &[Row],
+    left: &[bool],
 ) -> Result<Vec<NodeId>, AllocError>
-    requires { All (IsHeld query.now.arena.now) elements.now }
-    ensures found { IfOk result (λ found. map place found.items ≡ filter (matches_by query.now list.now) (map place elements.now)) }
-    ensures held { IfOk result (λ found. All (IsHeld query.now.arena.now) found.items) }
+    requires some { 0 < length rows.now }
+    requires len { length left.now ≡ length rows.now }
+    requires held { All (λ row. IsHeld arena.now row.id) rows.now }
+    ensures found { IfOk result (λ found. (test : ℕ → Bool) → ((k : ℕ) (d : Row) → k < length rows.now
+        → slice_index_or left.now k false ≡ not (test (slice_index_or rows.now k d).id.index))
+        → map place found.items ≡ filter test (map (λ row. row.id.index) (drop 1 rows.now))) }
+    ensures held { IfOk result (λ found. All (IsHeld arena.now) found.items) }
 {
     let mut found = Vec::new(alloc);
-    for element in elements {
-        if matches_one(list, query, *element)? {
-            found.push(*element)?;
+    for at in 1..rows.len() {
+        let row = rows[at];
+        if !left[at] {
+            found.push(row.id)?;
         }
     }
     Ok(found)
 }
 
-// The first of them.
+// The first of some elements that one of the selectors matches.
 fn first_matching(
     list: &[Formula],
     query: &Query<'_>,
@@ -125,8 +134,11 @@ impl Selector {
         ensures held { IfOk result (λ found. All (IsHeld arena.now) found.items) }
     {
         let query = Query::new(self.alloc, arena, id);
-        let below = elements_below(self.alloc, arena, id)?;
-        matching(self.alloc, self.list.as_slice(), &query, below.as_slice())
+        // The nodes of an arena are a forest.
+        let _document = arena.get_document();
+        let rows = rows_below(self.alloc, arena, id)?;
+        let left = unmatched(self.list.as_slice(), &query, rows.as_slice())?;
+        taken(self.alloc, arena, rows.as_slice(), left.as_slice())
     }
 
     /// The first of those that `select` gives, or nothing where it gives none.
