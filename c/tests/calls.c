@@ -1,0 +1,329 @@
+/* calls.c: each call once, with each status that it answers. */
+#include "testing.h"
+
+#define SOME 0x5a5a5a5au
+
+static const char PAGE[] = "<!DOCTYPE html PUBLIC \"p\" \"s\"><title>A</title><p class=a id=b>One <b>two</b><!--c-->"
+                           "<template><i>x</i></template><svg xlink:href=y><a/></svg><math><mi>z</mi></math>";
+
+/* The first element of a name, or HENGARUTO_NONE. */
+static uint32_t element(struct given tree, const char *name)
+{
+    for (uint32_t node = 0; node < hengaruto_node_count(tree.bytes, tree.length); node++) {
+        size_t at, count;
+
+        if (hengaruto_kind(tree.bytes, tree.length, node) == HENGARUTO_ELEMENT &&
+            hengaruto_name_text(tree.bytes, tree.length, hengaruto_name(tree.bytes, tree.length, node), &at, &count) == HENGARUTO_OK &&
+            is_text(tree.bytes + at, count, name)) {
+            return node;
+        }
+    }
+    return HENGARUTO_NONE;
+}
+
+static uint32_t first_of(struct given tree, uint32_t kind)
+{
+    for (uint32_t node = 0; node < hengaruto_node_count(tree.bytes, tree.length); node++) {
+        if (hengaruto_kind(tree.bytes, tree.length, node) == kind) {
+            return node;
+        }
+    }
+    return HENGARUTO_NONE;
+}
+
+static int has_text(struct given tree, uint32_t node, const char *text)
+{
+    size_t at, count;
+
+    return hengaruto_text(tree.bytes, tree.length, node, &at, &count) == HENGARUTO_OK && is_text(tree.bytes + at, count, text);
+}
+
+/* Whether a row of a node has this name (NULL for none) and this value. */
+static int has_row(struct given tree, uint32_t node, uint32_t index, const char *name, const char *value)
+{
+    uint32_t number;
+    size_t at, count;
+
+    if (hengaruto_row(tree.bytes, tree.length, node, index, &number, &at, &count) != HENGARUTO_OK ||
+        !is_text(tree.bytes + at, count, value)) {
+        return 0;
+    }
+    if (name == NULL) {
+        return number == HENGARUTO_NONE;
+    }
+    return hengaruto_name_text(tree.bytes, tree.length, number, &at, &count) == HENGARUTO_OK && is_text(tree.bytes + at, count, name);
+}
+
+static struct given html_of(struct given tree, uint32_t node, uint32_t outer)
+{
+    struct given html;
+
+    REQUIRE(hengaruto_html(tree.bytes, tree.length, node, outer, &html.bytes, &html.length) == HENGARUTO_OK);
+    return html;
+}
+
+static void parse(void)
+{
+    struct given tree = parsed(PAGE, 0);
+
+    CHECK(hengaruto_check(tree.bytes, tree.length) == HENGARUTO_OK);
+    CHECK(tree.bytes[tree.length] == 0);
+    CHECK(hengaruto_quirks(tree.bytes, tree.length) == 0);
+    free(tree.bytes);
+
+    tree = parsed("", 0);
+    CHECK(hengaruto_node_count(tree.bytes, tree.length) == 4); /* the document, html, head, body */
+    CHECK(hengaruto_quirks(tree.bytes, tree.length) == 2);
+    free(tree.bytes);
+
+    tree = parsed("<!DOCTYPE html PUBLIC \"-//W3C//DTD XHTML 1.0 Transitional//\" \"\">", 0);
+    CHECK(hengaruto_quirks(tree.bytes, tree.length) == 1);
+    free(tree.bytes);
+
+    /* No UTF-8: each wrong byte is U+FFFD. */
+    tree = parsed("<p>\xff", 0);
+    CHECK(has_text(tree, element(tree, "p"), "\xef\xbf\xbd"));
+    free(tree.bytes);
+}
+
+static void options(void)
+{
+    struct given tree = parsed("<noscript><p>x</p></noscript>", 0);
+
+    CHECK(element(tree, "p") != HENGARUTO_NONE);
+    free(tree.bytes);
+    tree = parsed("<body><noscript><p>x</p></noscript>", HENGARUTO_SCRIPTING);
+    CHECK(element(tree, "p") == HENGARUTO_NONE);
+    CHECK(has_text(tree, element(tree, "noscript"), "<p>x</p>"));
+    free(tree.bytes);
+    tree = parsed("<p>x", HENGARUTO_IFRAME_SRCDOC);
+    CHECK(hengaruto_quirks(tree.bytes, tree.length) == 0);
+    free(tree.bytes);
+}
+
+static struct given fragment_of(const char *page, const char *context, uint32_t space)
+{
+    struct given tree;
+
+    REQUIRE(hengaruto_parse_fragment(bytes_of(page), strlen(page), bytes_of(context), strlen(context), space, 0, &tree.bytes,
+                                     &tree.length) == HENGARUTO_OK);
+    return tree;
+}
+
+static void fragments(void)
+{
+    struct given tree = fragment_of("<td>1", "tr", HENGARUTO_NS_HTML);
+    struct given none = {NULL, SOME};
+
+    CHECK(hengaruto_kind(tree.bytes, tree.length, 0) == HENGARUTO_FRAGMENT);
+    CHECK(gave(html_of(tree, 0, 0), "<td>1</td>"));
+    free(tree.bytes);
+    tree = fragment_of("<td>1", "div", HENGARUTO_NS_HTML);
+    CHECK(gave(html_of(tree, 0, 0), "1"));
+    free(tree.bytes);
+    tree = fragment_of("<path/>", "svg", HENGARUTO_NS_SVG);
+    CHECK(hengaruto_namespace(tree.bytes, tree.length, hengaruto_name(tree.bytes, tree.length, 1)) == HENGARUTO_NS_SVG);
+    free(tree.bytes);
+    tree = fragment_of("<mi>", "math", HENGARUTO_NS_MATHML);
+    CHECK(hengaruto_namespace(tree.bytes, tree.length, hengaruto_name(tree.bytes, tree.length, 1)) == HENGARUTO_NS_MATHML);
+    free(tree.bytes);
+
+    CHECK(hengaruto_parse_fragment(bytes_of("x"), 1, bytes_of("\xff"), 1, HENGARUTO_NS_HTML, 0, &none.bytes, &none.length) ==
+          HENGARUTO_BAD_ARGUMENT);
+    CHECK(hengaruto_parse_fragment(bytes_of("x"), 1, bytes_of("p"), 1, HENGARUTO_NS_NONE, 0, &none.bytes, &none.length) ==
+          HENGARUTO_BAD_ARGUMENT);
+    CHECK(hengaruto_parse_fragment(bytes_of("x"), 1, bytes_of("p"), 1, HENGARUTO_NS_XLINK, 0, &none.bytes, &none.length) ==
+          HENGARUTO_BAD_ARGUMENT);
+    CHECK(none.bytes == NULL && none.length == SOME);
+}
+
+static void html(void)
+{
+    struct given tree = parsed("<p title='a\"b'>x &lt; y<br></p>", 0), none = {NULL, SOME};
+    uint32_t p = element(tree, "p");
+
+    CHECK(gave(html_of(tree, 0, 0), "<html><head></head><body><p title=\"a&quot;b\">x &lt; y<br></p></body></html>"));
+    CHECK(gave(html_of(tree, p, 1), "<p title=\"a&quot;b\">x &lt; y<br></p>"));
+    CHECK(gave(html_of(tree, p, 0), "x &lt; y<br>"));
+    CHECK(gave(html_of(tree, element(tree, "br"), 0), ""));
+    CHECK(hengaruto_html(tree.bytes, tree.length, 1000, 1, &none.bytes, &none.length) == HENGARUTO_NO_NODE);
+    CHECK(hengaruto_html(bytes_of(""), 0, 0, 1, &none.bytes, &none.length) == HENGARUTO_NO_TREE);
+    CHECK(none.bytes == NULL && none.length == SOME);
+    free(tree.bytes);
+}
+
+static uint32_t select_of(struct given tree, uint32_t node, const char *selector, struct given *found)
+{
+    return hengaruto_select(tree.bytes, tree.length, node, bytes_of(selector), strlen(selector), &found->bytes, &found->length);
+}
+
+static void selects(void)
+{
+    struct given tree = parsed("<ul><li>1<li class=x>2<li>3</ul><p class=x>4", 0), found = {NULL, SOME};
+    uint32_t item;
+
+    CHECK(select_of(tree, 0, "li.x, p", &found) == HENGARUTO_OK);
+    REQUIRE(found.length == 8);
+    item = found.bytes[0] | (uint32_t)found.bytes[1] << 8;
+    CHECK(has_text(tree, item, "2"));
+    CHECK(found.bytes[4] == element(tree, "p") && found.bytes[5] + found.bytes[6] + found.bytes[7] == 0);
+    free(found.bytes);
+
+    CHECK(select_of(tree, element(tree, "ul"), ".x", &found) == HENGARUTO_OK && found.length == 4);
+    free(found.bytes);
+    CHECK(select_of(tree, 0, "table", &found) == HENGARUTO_OK && gave(found, ""));
+
+    found = (struct given){NULL, SOME};
+    CHECK(select_of(tree, 0, "li >", &found) == HENGARUTO_BAD_SELECTOR);
+    REQUIRE(found.bytes != NULL);
+    CHECK(found.length > 0 && strlen((const char *)found.bytes) == found.length);
+    free(found.bytes);
+
+    found = (struct given){NULL, SOME};
+    CHECK(select_of(tree, 0, "\xff", &found) == HENGARUTO_BAD_ARGUMENT);
+    CHECK(select_of(tree, 1000, "li", &found) == HENGARUTO_NO_NODE);
+    CHECK(hengaruto_select(bytes_of("x"), 1, 0, bytes_of("li"), 2, &found.bytes, &found.length) == HENGARUTO_NO_TREE);
+    CHECK(found.bytes == NULL && found.length == SOME);
+    free(tree.bytes);
+}
+
+static void pages(void)
+{
+    const char *page = "<title>t</title><p>one <a href='x?a&amp;b'>two</a><script>s</script><p>three";
+    struct given given;
+
+    CHECK(hengaruto_page_text(bytes_of(page), strlen(page), 0, &given.bytes, &given.length) == HENGARUTO_OK);
+    CHECK(strstr((const char *)given.bytes, "one two") != NULL && strstr((const char *)given.bytes, "three") != NULL);
+    CHECK(strlen((const char *)given.bytes) == given.length);
+    free(given.bytes);
+    CHECK(hengaruto_page_text(bytes_of("<p>one two three"), 16, 5, &given.bytes, &given.length) == HENGARUTO_OK);
+    CHECK(strstr((const char *)given.bytes, "one\ntwo") != NULL);
+    free(given.bytes);
+
+    CHECK(hengaruto_page_links(bytes_of(page), strlen(page), &given.bytes, &given.length) == HENGARUTO_OK);
+    CHECK(given.length == 10 && memcmp(given.bytes, "x?a&b\0two\0", 11) == 0);
+    free(given.bytes);
+    CHECK(hengaruto_page_links(bytes_of(""), 0, &given.bytes, &given.length) == HENGARUTO_OK && gave(given, ""));
+
+    CHECK(hengaruto_clean(bytes_of("<p onclick=x>a<script>b</script>"), 32, &given.bytes, &given.length) == HENGARUTO_OK);
+    CHECK(gave(given, "<p>a</p>"));
+    CHECK(hengaruto_clean(bytes_of(""), 0, &given.bytes, &given.length) == HENGARUTO_OK && gave(given, ""));
+}
+
+static void places(void)
+{
+    struct given tree = parsed(PAGE, 0);
+    uint32_t body = element(tree, "body"), p = element(tree, "p"), b = element(tree, "b"), contents, template = element(tree, "template");
+
+    CHECK(hengaruto_kind(tree.bytes, tree.length, 0) == HENGARUTO_DOCUMENT);
+    CHECK(hengaruto_parent(tree.bytes, tree.length, 0) == HENGARUTO_NONE);
+    CHECK(hengaruto_parent(tree.bytes, tree.length, p) == body);
+    CHECK(hengaruto_first_child(tree.bytes, tree.length, body) == p);
+    CHECK(hengaruto_kind(tree.bytes, tree.length, p + 1) == HENGARUTO_TEXT);
+    CHECK(hengaruto_next(tree.bytes, tree.length, p + 1) == b);
+    CHECK(hengaruto_first_child(tree.bytes, tree.length, p + 1) == HENGARUTO_NONE);
+    CHECK(hengaruto_end(tree.bytes, tree.length, b) == b + 2);
+    CHECK(hengaruto_end(tree.bytes, tree.length, 0) == hengaruto_node_count(tree.bytes, tree.length));
+    CHECK(hengaruto_next(tree.bytes, tree.length, 0) == HENGARUTO_NONE);
+    contents = hengaruto_contents(tree.bytes, tree.length, template);
+    CHECK(hengaruto_kind(tree.bytes, tree.length, contents) == HENGARUTO_FRAGMENT);
+    CHECK(hengaruto_first_child(tree.bytes, tree.length, contents) == element(tree, "i"));
+    CHECK(hengaruto_contents(tree.bytes, tree.length, p) == HENGARUTO_NONE);
+    free(tree.bytes);
+}
+
+static void names(void)
+{
+    struct given tree = parsed(PAGE, 0);
+    uint32_t p = element(tree, "p"), name = hengaruto_name(tree.bytes, tree.length, p), link;
+    size_t at = SOME, count = SOME;
+
+    CHECK(hengaruto_namespace(tree.bytes, tree.length, name) == HENGARUTO_NS_HTML);
+    CHECK(hengaruto_prefix(tree.bytes, tree.length, name) == 0);
+    CHECK(hengaruto_namespace(tree.bytes, tree.length, hengaruto_name(tree.bytes, tree.length, element(tree, "svg"))) == HENGARUTO_NS_SVG);
+    CHECK(hengaruto_namespace(tree.bytes, tree.length, hengaruto_name(tree.bytes, tree.length, element(tree, "mi"))) == HENGARUTO_NS_MATHML);
+    CHECK(hengaruto_name(tree.bytes, tree.length, p + 1) == HENGARUTO_NONE);
+    CHECK(hengaruto_name_text(tree.bytes, tree.length, HENGARUTO_NONE, &at, &count) == HENGARUTO_NO_NODE);
+    CHECK(hengaruto_name_text(bytes_of(""), 0, 0, &at, &count) == HENGARUTO_NO_TREE);
+    CHECK(hengaruto_row(tree.bytes, tree.length, element(tree, "svg"), 0, &link, &at, &count) == HENGARUTO_OK);
+    CHECK(hengaruto_namespace(tree.bytes, tree.length, link) == HENGARUTO_NS_XLINK);
+    CHECK(hengaruto_prefix(tree.bytes, tree.length, link) == 1);
+    free(tree.bytes);
+}
+
+static void rows(void)
+{
+    struct given tree = parsed(PAGE, 0);
+    uint32_t p = element(tree, "p"), number;
+    size_t at, count;
+
+    CHECK(hengaruto_row_count(tree.bytes, tree.length, p) == 2);
+    CHECK(has_row(tree, p, 0, "class", "a"));
+    CHECK(has_row(tree, p, 1, "id", "b"));
+    CHECK(hengaruto_row(tree.bytes, tree.length, p, 2, &number, &at, &count) == HENGARUTO_NO_NODE);
+    CHECK(hengaruto_row(bytes_of(""), 0, p, 0, &number, &at, &count) == HENGARUTO_NO_TREE);
+    CHECK(has_row(tree, first_of(tree, HENGARUTO_DOCTYPE), 0, NULL, "html"));
+    CHECK(has_row(tree, first_of(tree, HENGARUTO_DOCTYPE), 1, NULL, "p"));
+    CHECK(has_row(tree, first_of(tree, HENGARUTO_DOCTYPE), 2, NULL, "s"));
+    CHECK(has_row(tree, first_of(tree, HENGARUTO_COMMENT), 0, NULL, "c"));
+    CHECK(has_row(tree, element(tree, "svg"), 0, "href", "y"));
+    free(tree.bytes);
+}
+
+static void texts(void)
+{
+    struct given tree = parsed(PAGE, 0);
+    size_t at, count;
+
+    CHECK(has_text(tree, element(tree, "p"), "One twoxz"));
+    CHECK(has_text(tree, element(tree, "b"), "two"));
+    CHECK(has_text(tree, element(tree, "p") + 1, "One "));
+    CHECK(has_text(tree, 0, "AOne twoxz"));
+    CHECK(has_text(tree, first_of(tree, HENGARUTO_COMMENT), ""));
+    CHECK(hengaruto_text(tree.bytes, tree.length, 1000, &at, &count) == HENGARUTO_NO_NODE);
+    CHECK(hengaruto_text(bytes_of(""), 0, 0, &at, &count) == HENGARUTO_NO_TREE);
+    free(tree.bytes);
+}
+
+/* What each read answers of no block, and of no node. */
+static void wrong(void)
+{
+    struct given tree = parsed(PAGE, 0);
+
+    for (int i = 0; i < 2; i++) {
+        const unsigned char *block = i == 0 ? bytes_of("") : tree.bytes;
+        size_t length = i == 0 ? 0 : tree.length;
+
+        CHECK(hengaruto_kind(block, length, 1000) == 0);
+        CHECK(hengaruto_parent(block, length, 1000) == HENGARUTO_NONE);
+        CHECK(hengaruto_first_child(block, length, 1000) == HENGARUTO_NONE);
+        CHECK(hengaruto_next(block, length, 1000) == HENGARUTO_NONE);
+        CHECK(hengaruto_end(block, length, 1000) == HENGARUTO_NONE);
+        CHECK(hengaruto_contents(block, length, 1000) == HENGARUTO_NONE);
+        CHECK(hengaruto_name(block, length, 1000) == HENGARUTO_NONE);
+        CHECK(hengaruto_row_count(block, length, 1000) == 0);
+        CHECK(hengaruto_namespace(block, length, HENGARUTO_NONE) == 0);
+        CHECK(hengaruto_prefix(block, length, HENGARUTO_NONE) == 0);
+    }
+    CHECK(hengaruto_check(bytes_of(""), 0) == HENGARUTO_NO_TREE);
+    CHECK(hengaruto_check(tree.bytes, tree.length - 1) == HENGARUTO_NO_TREE);
+    CHECK(hengaruto_node_count(bytes_of(""), 0) == 0);
+    CHECK(hengaruto_quirks(bytes_of(""), 0) == 0);
+    free(tree.bytes);
+}
+
+int main(void)
+{
+    parse();
+    options();
+    fragments();
+    html();
+    selects();
+    pages();
+    places();
+    names();
+    rows();
+    texts();
+    wrong();
+    return ended("calls");
+}

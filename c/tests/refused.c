@@ -1,0 +1,152 @@
+/* refused.c: each request for memory is refused in turn. Each call then answers HENGARUTO_MEMORY, gives nothing, and what it had taken is
+ * given back. Link it with libhengaruto.a and -Wl,--wrap=malloc,--wrap=realloc,--wrap=free. */
+#include "testing.h"
+
+void *__real_malloc(size_t size);
+void *__real_realloc(void *memory, size_t size);
+void __real_free(void *memory);
+void *__wrap_malloc(size_t size);
+void *__wrap_realloc(void *memory, size_t size);
+void __wrap_free(void *memory);
+
+/* How many requests are granted before all are refused; none is while it is negative. */
+static long granted = -1;
+/* How many blocks of memory there are. */
+static long live;
+
+static int is_refused(void)
+{
+    if (granted > 0) {
+        granted--;
+        return 0;
+    }
+    return granted == 0;
+}
+
+void *__wrap_malloc(size_t size)
+{
+    void *memory = is_refused() ? NULL : __real_malloc(size);
+
+    live += memory != NULL;
+    return memory;
+}
+
+void *__wrap_realloc(void *memory, size_t size)
+{
+    void *grown = is_refused() ? NULL : __real_realloc(memory, size);
+
+    live += memory == NULL && grown != NULL;
+    return grown;
+}
+
+void __wrap_free(void *memory)
+{
+    live -= memory != NULL;
+    __real_free(memory);
+}
+
+static const char PAGE[] = "<!doctype html><title>t</title><p class=a id=b>one <b>two</b><!--c--><svg xlink:href=x><a/></svg><x-y><table>"
+                           "<td>q<template><i>x&amp;<a href=q>w</a></template><ul><li>1<li>2";
+static const char SELECTOR[] = "p.a > b, li:nth-child(2)", NO_SELECTOR[] = "p > [a=";
+static struct given tree;
+
+typedef uint32_t (*call)(struct given *given);
+
+static uint32_t parse(struct given *given)
+{
+    return hengaruto_parse(bytes_of(PAGE), sizeof PAGE - 1, 0, &given->bytes, &given->length);
+}
+
+static uint32_t parse_fragment(struct given *given)
+{
+    return hengaruto_parse_fragment(bytes_of(PAGE), sizeof PAGE - 1, bytes_of("div"), 3, HENGARUTO_NS_HTML, 0, &given->bytes,
+                                    &given->length);
+}
+
+static uint32_t html(struct given *given)
+{
+    return hengaruto_html(tree.bytes, tree.length, 0, 0, &given->bytes, &given->length);
+}
+
+static uint32_t selects(struct given *given)
+{
+    return hengaruto_select(tree.bytes, tree.length, 0, bytes_of(SELECTOR), sizeof SELECTOR - 1, &given->bytes, &given->length);
+}
+
+static uint32_t bad_selector(struct given *given)
+{
+    return hengaruto_select(tree.bytes, tree.length, 0, bytes_of(NO_SELECTOR), sizeof NO_SELECTOR - 1, &given->bytes, &given->length);
+}
+
+static uint32_t page_text(struct given *given)
+{
+    return hengaruto_page_text(bytes_of(PAGE), sizeof PAGE - 1, 0, &given->bytes, &given->length);
+}
+
+static uint32_t page_text_of_a_width(struct given *given)
+{
+    return hengaruto_page_text(bytes_of(PAGE), sizeof PAGE - 1, 10, &given->bytes, &given->length);
+}
+
+static uint32_t page_links(struct given *given)
+{
+    return hengaruto_page_links(bytes_of(PAGE), sizeof PAGE - 1, &given->bytes, &given->length);
+}
+
+static uint32_t clean(struct given *given)
+{
+    return hengaruto_clean(bytes_of(PAGE), sizeof PAGE - 1, &given->bytes, &given->length);
+}
+
+/* Refuses the first request of a call, then the second, and so on until none is. It answers how many there are. */
+static long refuse_each(const char *name, call made, uint32_t wanted)
+{
+    for (long request = 0;; request++) {
+        struct given given = {NULL, 0};
+        long before = live;
+
+        granted = request;
+        uint32_t status = made(&given);
+        granted = -1;
+        if (status == wanted) {
+            CHECK(given.bytes != NULL);
+            free(given.bytes);
+            CHECK(live == before);
+            return request;
+        }
+        CHECK(status == HENGARUTO_MEMORY);
+        CHECK(given.bytes == NULL && given.length == 0);
+        CHECK(live == before);
+        if (status != HENGARUTO_MEMORY || live != before) {
+            fprintf(stderr, "%s, request %ld: status %u, %ld blocks left\n", name, request, (unsigned)status, live - before);
+            return request;
+        }
+    }
+}
+
+int main(void)
+{
+    const struct {
+        const char *name;
+        call made;
+        uint32_t wanted;
+    } calls[] = {
+        {"parse", parse, HENGARUTO_OK},
+        {"parse_fragment", parse_fragment, HENGARUTO_OK},
+        {"html", html, HENGARUTO_OK},
+        {"select", selects, HENGARUTO_OK},
+        {"select, of a wrong selector", bad_selector, HENGARUTO_BAD_SELECTOR},
+        {"page_text", page_text, HENGARUTO_OK},
+        {"page_text, of a width", page_text_of_a_width, HENGARUTO_OK},
+        {"page_links", page_links, HENGARUTO_OK},
+        {"clean", clean, HENGARUTO_OK},
+    };
+
+    REQUIRE(parse(&tree) == HENGARUTO_OK);
+    for (size_t i = 0; i < sizeof calls / sizeof *calls; i++) {
+        printf("refused: %s, %ld requests\n", calls[i].name, refuse_each(calls[i].name, calls[i].made, calls[i].wanted));
+    }
+    free(tree.bytes);
+    CHECK(live == 0);
+    return ended("refused");
+}
