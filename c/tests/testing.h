@@ -10,13 +10,15 @@
 static int failures;
 static int checks;
 
-/* Tells a condition that doesn't hold, and goes on. */
+/* Tells a condition that doesn't hold, of the first twenty, and goes on. */
 #define CHECK(condition)                                                              \
     do {                                                                              \
         checks++;                                                                     \
         if (!(condition)) {                                                           \
             failures++;                                                               \
-            fprintf(stderr, "%s:%d: %s\n", __FILE__, __LINE__, #condition);           \
+            if (failures <= 20) {                                                     \
+                fprintf(stderr, "%s:%d: %s\n", __FILE__, __LINE__, #condition);       \
+            }                                                                         \
         }                                                                             \
     } while (0)
 
