@@ -1,0 +1,44 @@
+"""HTML parsing, cleaning and selecting by a proved library.
+
+>>> import hengaruto
+>>> doc = hengaruto.parse("<title>A page</title><p class=x>One <b>bold</b> word<p>Two")
+>>> doc.title
+'A page'
+>>> [p.text() for p in doc.find_all("p")]
+['One bold word', 'Two']
+>>> doc.select_first("p.x > b").to_html()
+'<b>bold</b>'
+>>> hengaruto.clean("<b onclick=x>bold</b><script>y</script>")
+'<b>bold</b>'
+
+`parse`, `parse_fragment` and `Parser` give a `Document`, whose nodes are `Node`s. `text`, `links` and `clean` answer for a whole page at
+once. `decode` finds the encoding of a page. `hengaruto.trees` makes trees of lxml, ElementTree and BeautifulSoup.
+
+Scripting is off by default: what stands in `noscript` is elements. Pages of bytes are UTF-8.
+"""
+from ._encoding import decode
+from ._input import Page
+from ._library import Error, SelectorError
+from ._pages import Parser, clean, links, text
+from ._tree import (
+    COMMENT,
+    DOCTYPE,
+    DOCUMENT,
+    ELEMENT,
+    FRAGMENT,
+    INSTRUCTION,
+    NAMESPACES,
+    TEXT,
+    Document,
+    Node,
+    load,
+    parse,
+    parse_fragment,
+)
+
+__version__ = "0.1.0"
+
+__all__ = [
+    "parse", "parse_fragment", "load", "Document", "Node", "Parser", "Page", "text", "links", "clean", "decode", "Error", "SelectorError",
+    "ELEMENT", "TEXT", "INSTRUCTION", "COMMENT", "DOCUMENT", "DOCTYPE", "FRAGMENT", "NAMESPACES",
+]

@@ -1,0 +1,75 @@
+"""The shared library, by ctypes: no compiler is needed, and other threads run during a call."""
+from __future__ import annotations
+
+import ctypes
+import os
+from typing import Any
+
+OK, MEMORY, NO_NODE, NO_TREE, BAD_ARGUMENT, BAD_SELECTOR = range(6)
+
+_U32, _SIZE, _BYTES = ctypes.c_uint32, ctypes.c_size_t, ctypes.c_char_p
+_OUT, _LENGTH = ctypes.POINTER(ctypes.c_void_p), ctypes.POINTER(ctypes.c_size_t)
+_SIGNATURES = {
+    "parse": [_BYTES, _SIZE, _U32, _OUT, _LENGTH],
+    "parse_fragment": [_BYTES, _SIZE, _BYTES, _SIZE, _U32, _U32, _OUT, _LENGTH],
+    "html": [_BYTES, _SIZE, _U32, _U32, _OUT, _LENGTH],
+    "select": [_BYTES, _SIZE, _U32, _BYTES, _SIZE, _OUT, _LENGTH],
+    "page_text": [_BYTES, _SIZE, _SIZE, _OUT, _LENGTH],
+    "page_links": [_BYTES, _SIZE, _OUT, _LENGTH],
+    "clean": [_BYTES, _SIZE, _OUT, _LENGTH],
+    "check": [_BYTES, _SIZE],
+}
+
+
+class Error(ValueError):
+    """What was given is no tree, or a wrong argument."""
+
+
+class SelectorError(Error):
+    """A selector that is none. The message says what is wrong, and where."""
+
+
+# They are shown, and pickled, by the names that callers know.
+Error.__module__ = SelectorError.__module__ = "hengaruto"
+
+_MESSAGES = {
+    NO_NODE: "there is no such node",
+    NO_TREE: "these bytes are no tree",
+    BAD_ARGUMENT: "a name that isn't UTF-8, or a namespace that isn't that of HTML, MathML or SVG",
+}
+
+
+def _loaded() -> Any:
+    path = os.environ.get("HENGARUTO_LIBRARY") or os.path.join(os.path.dirname(os.path.abspath(__file__)), "libhengaruto.so")
+    library = ctypes.CDLL(path)
+    for name, arguments in _SIGNATURES.items():
+        function = getattr(library, "hengaruto_" + name)
+        function.argtypes, function.restype = arguments, _U32
+    return library
+
+
+_library = _loaded()
+_free = ctypes.CDLL(None).free
+_free.argtypes, _free.restype = [ctypes.c_void_p], None
+
+
+def given(name: str, *arguments: Any) -> bytes:
+    """What a call gives. The library's memory is freed."""
+    out, length = ctypes.c_void_p(), ctypes.c_size_t()
+    status = getattr(_library, "hengaruto_" + name)(*arguments, ctypes.byref(out), ctypes.byref(length))
+    if status == MEMORY:
+        raise MemoryError("hengaruto: memory was refused, or the tree has 4 GiB or more")
+    if status not in (OK, BAD_SELECTOR):
+        raise Error(_MESSAGES.get(status, f"status {status}"))
+    try:
+        answer = ctypes.string_at(out, length.value)
+    finally:
+        _free(out)
+    if status == BAD_SELECTOR:
+        raise SelectorError(answer.decode("utf-8", "replace"))
+    return answer
+
+
+def is_tree(block: bytes) -> bool:
+    """Whether a block is such as `parse` makes. It looks at all of it."""
+    return _library.hengaruto_check(block, len(block)) == OK

@@ -1,0 +1,471 @@
+"""A tree: a block of bytes, and light objects that look into it."""
+from __future__ import annotations
+
+from typing import Any, Dict, Iterator, List, Optional, Tuple, Union
+
+from . import _library
+from ._input import Page, utf8
+
+ELEMENT, TEXT, INSTRUCTION, COMMENT, DOCUMENT, DOCTYPE, FRAGMENT = 1, 3, 7, 8, 9, 10, 11
+NONE = 0xFFFFFFFF
+
+NAMESPACES: Tuple[Optional[str], ...] = (
+    None,
+    "http://www.w3.org/1999/xhtml",
+    "http://www.w3.org/1998/Math/MathML",
+    "http://www.w3.org/2000/svg",
+    "http://www.w3.org/1999/xlink",
+    "http://www.w3.org/XML/1998/namespace",
+    "http://www.w3.org/2000/xmlns/",
+)
+_PREFIXES = ("", "xlink:", "xml:", "xmlns:")
+_KINDS = {
+    TEXT: "text",
+    INSTRUCTION: "instruction",
+    COMMENT: "comment",
+    DOCUMENT: "document",
+    DOCTYPE: "doctype",
+    FRAGMENT: "fragment",
+}
+_CONTEXTS = {"": 1, "math": 2, "svg": 3}
+_HEAD = 9
+
+
+def parse(page: Page, *, scripting: bool = False, iframe_srcdoc: bool = False) -> Document:
+    """The tree of a page, as browsers build it.
+
+    Bytes are UTF-8; those in another encoding are decoded first: `parse(decode(page))`. Scripting is off by default: what stands in
+    `noscript` is elements, as with html5lib and lxml. With `scripting=True` it is one text, as in a browser that runs scripts. With
+    `iframe_srcdoc=True` the page is the srcdoc of an iframe.
+
+    >>> parse("<title>A page</title><p>One <b>bold</b> word").to_html()
+    '<html><head><title>A page</title></head><body><p>One <b>bold</b> word</p></body></html>'
+    >>> parse("<noscript><p>x</p></noscript>").find("p").text()
+    'x'
+    >>> parse("<noscript><p>x</p></noscript>", scripting=True).find("p") is None
+    True
+    """
+    page = utf8(page)
+    return Document(_library.given("parse", page, len(page), _options(scripting, iframe_srcdoc)))
+
+
+def parse_fragment(page: Page, context: str = "div", *, scripting: bool = False) -> Document:
+    """The tree of a fragment, as innerHTML of an element `context` makes it: its name, behind `svg` or `math` and a blank where it is theirs.
+
+    >>> parse_fragment("<td>1", "tr").to_html()
+    '<td>1</td>'
+    >>> parse_fragment("<td>1").to_html()
+    '1'
+    >>> parse_fragment("<circle r=1>", "svg svg").find("circle").namespace
+    'http://www.w3.org/2000/svg'
+    """
+    page = utf8(page)
+    space, _, name = context.rpartition(" ")
+    if space not in _CONTEXTS:
+        raise _library.Error(f"no context: {context!r}")
+    local = utf8(name)
+    return Document(
+        _library.given("parse_fragment", page, len(page), local, len(local), _CONTEXTS[space], _options(scripting, False))
+    )
+
+
+def load(block: Union[bytes, bytearray, memoryview]) -> Document:
+    """The tree of a block, which `Document.block` gave: from a file, or from another process.
+
+    Any bytes may be given. The library looks at all of them once; an `Error`, which is a `ValueError`, says that they are no tree.
+
+    >>> load(parse("<p>x").block).find("p").text()
+    'x'
+    >>> load(b"a page")
+    Traceback (most recent call last):
+    ...
+    hengaruto.Error: these bytes are no tree
+    """
+    block = bytes(block)
+    if not _library.is_tree(block):
+        raise _library.Error("these bytes are no tree")
+    return Document(block)
+
+
+def _options(scripting: bool, iframe_srcdoc: bool) -> int:
+    return (1 if scripting else 0) | (2 if iframe_srcdoc else 0)
+
+
+class Document:
+    """A tree, as `parse`, `parse_fragment` and `load` make it. It never changes, any number of threads may read it, and it can be pickled.
+
+    >>> doc = parse("<!DOCTYPE html><title> A  page </title><p class=x>One<p>Two")
+    >>> doc
+    <hengaruto.Document of 11 nodes>
+    >>> doc.title, doc.quirks, len(doc)
+    ('A page', 0, 11)
+    >>> [node.name for node in doc.iter()]
+    ['html', 'head', 'title', 'body', 'p', 'p']
+    """
+
+    __slots__ = (
+        "block", "quirks", "_count", "_kinds", "_parents", "_ends", "_texts", "_rows", "_row_names", "_row_ends", "_spaces",
+        "_locals", "_keys", "_values_at", "_texts_at", "_words",
+    )
+
+    block: bytes
+    """The bytes that the tree is. `load` makes a Document of them."""
+    quirks: int
+    """0 no quirks, 1 limited quirks, 2 quirks."""
+
+    def __init__(self, block: bytes) -> None:
+        view = memoryview(block)
+        words = view[: len(block) // 4 * 4].cast("I")
+        if len(words) < _HEAD or view[:4] != b"HGT1":
+            raise _library.Error("these bytes are no tree")
+        nodes, rows, names = words[3], words[4], words[5]
+        pools = 4 * (_HEAD + 5 * nodes + 2 + 2 * rows + 2 * names)
+        if words[1] != len(block) or pools + words[6] + words[7] + words[8] != len(block):
+            raise _library.Error("these bytes are no tree")
+        self.block, self.quirks, self._count = block, words[2], nodes
+        parts, at = [], _HEAD
+        for count in (nodes, nodes, nodes, nodes + 1, nodes + 1, rows, rows, names, names):
+            parts.append(words[at : at + count])
+            at += count
+        self._kinds, self._parents, self._ends, self._texts, self._rows, self._row_names, self._row_ends, spaces, name_ends = parts
+        self._values_at = pools + words[6]
+        self._texts_at = self._values_at + words[7]
+        starts = [pools, *(pools + end for end in name_ends)]
+        self._spaces = [space & 255 for space in spaces]
+        self._locals = [str(view[starts[i] : starts[i + 1]], "utf-8", "replace") for i in range(names)]
+        self._keys = [_item(_PREFIXES, space >> 8, "") + local for space, local in zip(spaces, self._locals)]
+        self._words: Optional[Dict[str, List[int]]] = None
+
+    def __reduce__(self) -> Tuple[Any, ...]:
+        return load, (self.block,)
+
+    def __len__(self) -> int:
+        return self._count
+
+    def __repr__(self) -> str:
+        return f"<hengaruto.Document of {self._count} nodes>"
+
+    def __getitem__(self, index: int) -> Node:
+        """The node of a number, from 0, which is the document itself. Numbers go in tree order."""
+        if not 0 <= index < self._count:
+            raise IndexError(f"there is no node {index}")
+        return Node(self, index)
+
+    @property
+    def node(self) -> Node:
+        """The document node; of a fragment the fragment."""
+        return Node(self, 0)
+
+    @property
+    def root(self) -> Optional[Node]:
+        """The html element; of a fragment its first element, if it has one.
+
+        >>> parse("").root.name, parse_fragment("x").root
+        ('html', None)
+        """
+        return next((child for child in self.node.children() if child.kind == ELEMENT), None)
+
+    @property
+    def title(self) -> Optional[str]:
+        """The text of the first title of HTML, with one blank for each run of them, or None."""
+        html = NAMESPACES[1]
+        found = next((node for node in self.iter("title") if node.namespace == html), None)
+        return None if found is None else " ".join(found.text().split())
+
+    def iter(self, name: Optional[str] = None) -> Iterator[Node]:
+        """All elements in tree order, or those of a local name."""
+        return self.node.iter(name)
+
+    def find(self, name: str) -> Optional[Node]:
+        """The first element of a local name, or None."""
+        return self.node.find(name)
+
+    def find_all(self, name: str) -> List[Node]:
+        """All elements of a local name, in tree order."""
+        return self.node.find_all(name)
+
+    def select(self, selector: str) -> List[Node]:
+        """The elements that a CSS selector matches, each once, in tree order. A selector that is none is a `SelectorError`.
+
+        >>> doc = parse("<ul><li>1<li class=x>2<li>3</ul>")
+        >>> [node.text() for node in doc.select("li.x, li:first-child")]
+        ['1', '2']
+        """
+        return self.node.select(selector)
+
+    def select_first(self, selector: str) -> Optional[Node]:
+        """The first element that a CSS selector matches, or None."""
+        return self.node.select_first(selector)
+
+    def text(self) -> str:
+        """All texts, joined as they stand. `hengaruto.text` lays a page out as a browser shows it.
+
+        >>> parse("<p>One <b>bold</b><p>word").text()
+        'One boldword'
+        """
+        return self.node.text()
+
+    def to_html(self) -> str:
+        """The tree as HTML."""
+        return self.node.inner_html()
+
+    def links(self) -> Iterator[Tuple[str, str]]:
+        """Of each `a` of HTML that has an href: the href as it stands, and its text.
+
+        >>> list(parse("<p><a href='x?a&amp;b'>a <b>link</b></a>").links())
+        [('x?a&b', 'a link')]
+        """
+        html = NAMESPACES[1]
+        for node in self.iter("a"):
+            href = node.get("href")
+            if href is not None and node.namespace == html:
+                yield href, node.text()
+
+    def _words_of(self, name: str) -> List[int]:
+        """The kind words of the elements of a local name."""
+        if self._words is None:
+            words: Dict[str, List[int]] = {}
+            for number, local in enumerate(self._locals):
+                words.setdefault(local, []).append(ELEMENT + 256 * number)
+            self._words = words
+        return self._words.get(name, [])
+
+    def _text(self, node: int, end: int) -> str:
+        start, stop = self._texts[node], self._texts[min(end, self._count)]
+        return str(memoryview(self.block)[self._texts_at + start : self._texts_at + stop], "utf-8", "replace")
+
+    def _value(self, row: int) -> str:
+        start, stop = self._row_ends[row - 1] if row else 0, self._row_ends[row]
+        return str(memoryview(self.block)[self._values_at + start : self._values_at + stop], "utf-8", "replace")
+
+
+class Node:
+    """A node of a document: a number that looks into its block. Nodes are equal where they are one node of one document.
+
+    >>> p = parse("<p class=a id=b>One <b>bold</b> word").find("p")
+    >>> p
+    <hengaruto.Node p 4>
+    >>> p["class"], p.get("title"), "id" in p, p.attrs
+    ('a', None, True, {'class': 'a', 'id': 'b'})
+    >>> [child.kind == TEXT for child in p]
+    [True, False, True]
+    >>> p.find("b").parent == p
+    True
+    """
+
+    __slots__ = ("document", "index")
+
+    document: Document
+    index: int
+
+    def __init__(self, document: Document, index: int) -> None:
+        self.document, self.index = document, index
+
+    def __eq__(self, other: object) -> bool:
+        return isinstance(other, Node) and other.index == self.index and other.document is self.document
+
+    def __hash__(self) -> int:
+        return hash((id(self.document), self.index))
+
+    def __repr__(self) -> str:
+        kind = self.kind
+        name = self.name if kind == ELEMENT else "#" + _KINDS.get(kind, str(kind))
+        return f"<hengaruto.Node {name} {self.index}>"
+
+    @property
+    def kind(self) -> int:
+        """`ELEMENT`, `TEXT`, `COMMENT`, `DOCTYPE`, `DOCUMENT`, `FRAGMENT`: the nodeType of the DOM."""
+        return self.document._kinds[self.index] & 255
+
+    @property
+    def name(self) -> Optional[str]:
+        """The local name of an element, in small letters where it is one of HTML; the name of a doctype; else None."""
+        word = self.document._kinds[self.index]
+        if word & 255 == ELEMENT:
+            return _item(self.document._locals, word >> 8, "")
+        return self._row(0) if word & 255 == DOCTYPE else None
+
+    @property
+    def namespace(self) -> Optional[str]:
+        """The URL of an element's namespace; else None.
+
+        >>> parse("<svg>").find("svg").namespace
+        'http://www.w3.org/2000/svg'
+        """
+        word = self.document._kinds[self.index]
+        if word & 255 != ELEMENT:
+            return None
+        return _item(NAMESPACES, _item(self.document._spaces, word >> 8, 0), None)
+
+    @property
+    def attrs(self) -> Dict[str, str]:
+        """The attributes as a new dict, in their order. One in a namespace has its prefix, as `xlink:href`."""
+        document = self.document
+        if self.kind != ELEMENT:
+            return {}
+        keys, names = document._keys, document._row_names
+        return {_item(keys, names[row], ""): document._value(row) for row in self._row_range()}
+
+    def get(self, name: str, default: Optional[str] = None) -> Optional[str]:
+        """The value of an attribute, or `default`."""
+        document = self.document
+        if self.kind == ELEMENT:
+            keys, names = document._keys, document._row_names
+            for row in self._row_range():
+                if _item(keys, names[row], None) == name:
+                    return document._value(row)
+        return default
+
+    def __getitem__(self, name: str) -> str:
+        value = self.get(name)
+        if value is None:
+            raise KeyError(name)
+        return value
+
+    def __contains__(self, name: object) -> bool:
+        return isinstance(name, str) and self.get(name) is not None
+
+    @property
+    def data(self) -> Optional[str]:
+        """What a text, a comment or an instruction says; else None.
+
+        >>> parse("<!--c-->").node.children().__next__().data
+        'c'
+        """
+        kind = self.kind
+        if kind == TEXT:
+            return self.text()
+        return self._row(0) if kind == COMMENT else self._row(1) if kind == INSTRUCTION else None
+
+    @property
+    def public_id(self) -> Optional[str]:
+        """The public identifier of a doctype, empty if it has none; else None."""
+        return self._row(1) if self.kind == DOCTYPE else None
+
+    @property
+    def system_id(self) -> Optional[str]:
+        """The system identifier of a doctype, empty if it has none; else None."""
+        return self._row(2) if self.kind == DOCTYPE else None
+
+    @property
+    def parent(self) -> Optional[Node]:
+        """The node above, or None."""
+        above = self.document._parents[self.index]
+        return Node(self.document, above) if above < self.index else None
+
+    @property
+    def next(self) -> Optional[Node]:
+        """The next node with the same parent, or None."""
+        document, end = self.document, self._end()
+        if end < document._count and document._parents[end] == document._parents[self.index]:
+            return Node(document, end)
+        return None
+
+    def children(self) -> Iterator[Node]:
+        """The nodes right below, in their order. A template's only child is a FRAGMENT, its contents."""
+        document, at, end = self.document, self.index + 1, self._end()
+        while at < end:
+            child = Node(document, at)
+            yield child
+            at = child._end()
+
+    __iter__ = children
+
+    def ancestors(self) -> Iterator[Node]:
+        """The nodes above, the nearest first.
+
+        >>> [node.name for node in parse("<p><b>x").find("b").ancestors()]
+        ['p', 'body', 'html', None]
+        """
+        above = self.parent
+        while above is not None:
+            yield above
+            above = above.parent
+
+    def descendants(self) -> Iterator[Node]:
+        """All nodes below, of all kinds, in tree order."""
+        document = self.document
+        return (Node(document, index) for index in range(self.index + 1, self._end()))
+
+    def iter(self, name: Optional[str] = None) -> Iterator[Node]:
+        """All elements below in tree order, or those of a local name."""
+        document, start = self.document, self.index + 1
+        kinds = document._kinds[start : self._end()]
+        if name is None:
+            return (Node(document, index) for index, word in enumerate(kinds, start) if word & 255 == ELEMENT)
+        words = document._words_of(name)
+        if len(words) == 1:
+            wanted = words[0]
+            return (Node(document, index) for index, word in enumerate(kinds, start) if word == wanted)
+        return (Node(document, index) for index, word in enumerate(kinds, start) if word in words)
+
+    def find(self, name: str) -> Optional[Node]:
+        """The first element below of a local name, or None."""
+        return next(self.iter(name), None)
+
+    def find_all(self, name: str) -> List[Node]:
+        """All elements below of a local name, in tree order."""
+        return list(self.iter(name))
+
+    def select(self, selector: str) -> List[Node]:
+        """The elements below that a CSS selector matches, each once, in tree order. A selector that is none is a `SelectorError`.
+
+        >>> [node["href"] for node in parse("<nav><a href=x></a></nav><a href=y></a>").find("nav").select("a[href]")]
+        ['x']
+        """
+        document = self.document
+        return [Node(document, index) for index in self._selected(selector)]
+
+    def select_first(self, selector: str) -> Optional[Node]:
+        """The first element below that a CSS selector matches, or None.
+
+        >>> parse("<p>x<p>y").select_first("p + p").text()
+        'y'
+        """
+        found = self._selected(selector)
+        return Node(self.document, found[0]) if len(found) else None
+
+    def text(self) -> str:
+        """The texts of all that stands below, joined; of a text its own."""
+        return self.document._text(self.index, self._end())
+
+    def to_html(self) -> str:
+        """The HTML of the node with itself, as outerHTML.
+
+        >>> parse("<p>1 &lt; 2<br>").find("p").to_html()
+        '<p>1 &lt; 2<br></p>'
+        """
+        return self._html(1)
+
+    def inner_html(self) -> str:
+        """The HTML of what stands below the node, as innerHTML."""
+        return self._html(0)
+
+    def _html(self, outer: int) -> str:
+        block = self.document.block
+        return str(_library.given("html", block, len(block), self.index, outer), "utf-8", "replace")
+
+    def _selected(self, selector: str) -> memoryview:
+        block = self.document.block
+        try:
+            text = selector.encode("utf-8")
+        except UnicodeEncodeError as error:
+            raise _library.SelectorError(f"a surrogate behind {error.start} characters") from None
+        return memoryview(_library.given("select", block, len(block), self.index, text, len(text))).cast("I")
+
+    def _end(self) -> int:
+        """The number behind all that stands below."""
+        return max(self.document._ends[self.index], self.index + 1)
+
+    def _row_range(self) -> range:
+        rows = self.document._rows
+        return range(rows[self.index], min(rows[self.index + 1], len(self.document._row_names)))
+
+    def _row(self, index: int) -> Optional[str]:
+        rows = self._row_range()
+        return self.document._value(rows[index]) if index < len(rows) else None
+
+
+def _item(items: Any, index: int, default: Any) -> Any:
+    """An item, or the default where there is none: a block that was changed may name one."""
+    return items[index] if index < len(items) else default
