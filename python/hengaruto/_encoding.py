@@ -132,6 +132,8 @@ def _meta(head: bytes, at: int) -> Tuple[Optional[str], int]:
         if not name:
             break
         seen.setdefault(name, value)
+    if at >= len(head):
+        return None, at
     label: Optional[bytes] = seen.get(b"charset")
     if label is None and seen.get(b"http-equiv", b"").lower() == b"content-type":
         found = _CHARSET.search(seen.get(b"content", b""))

@@ -41,7 +41,10 @@ _MESSAGES = {
 
 def _loaded() -> Any:
     path = os.environ.get("HENGARUTO_LIBRARY") or os.path.join(os.path.dirname(os.path.abspath(__file__)), "libhengaruto.so")
-    library = ctypes.CDLL(path)
+    try:
+        library = ctypes.CDLL(path)
+    except OSError as error:
+        raise ImportError(f"{error}. The wheel has the library; HENGARUTO_LIBRARY may name another.") from None
     for name, arguments in _SIGNATURES.items():
         function = getattr(library, "hengaruto_" + name)
         function.argtypes, function.restype = arguments, _U32

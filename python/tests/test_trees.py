@@ -1,0 +1,115 @@
+"""Trees of other libraries, and the same tree as html5lib's of pages."""
+import glob
+import os
+import random
+
+import pytest
+
+import hengaruto
+from hengaruto.trees import register_soup, to_etree, to_lxml
+
+ROOT = os.path.dirname(os.path.dirname(os.path.dirname(os.path.abspath(__file__))))
+PAGE = (
+    "<!DOCTYPE html><!--front--><title>A</title><p class=a>One <b>bold</b> word<!--c-->tail<svg xlink:href=x><a/></svg>"
+    "<template><i>in</i></template>"
+)
+FOLDERS = [f"{ROOT}/examples", "/usr/share/doc"]
+# Words of random pages, of rules that html5lib 1.1 has as the standard has them.
+WORDS = [
+    "<p>", "</p>", "<div>", "</div>", "<b>", "</b>", "<i>", "</i>", "<a href=x>", "</a>", "<ul>", "<li>", "</ul>", "<table>", "<tr>", "<td>",
+    "</td>", "</table>", "<h1>", "</h1>", "<br>", "<img src=x>", "<!--c-->", "x", " ", "\n", "&amp;", "&eacute;", "é", "<dl>",
+    "<dt>", "<dd>", "</dl>", "<span title='a b'>", "</span>", "<form>", "</form>", "<button>", "</button>", "<textarea>", "</textarea>",
+]
+
+
+@pytest.fixture
+def doc():
+    return hengaruto.parse(PAGE)
+
+
+def same_in_both(root):
+    assert root.tag == "html" and [child.tag for child in root] == ["head", "body"]
+    p = root.find("body/p")
+    assert p.attrib == {"class": "a"} and p.text == "One " and p.find("b").tail == " word"
+    assert p.find("{http://www.w3.org/2000/svg}svg").attrib == {"{http://www.w3.org/1999/xlink}href": "x"}
+    assert [child.tail for child in p][1] == "tail" and p.find("template/i").text == "in"
+
+
+def test_etree(doc):
+    same_in_both(to_etree(doc))
+    assert to_etree(doc, namespaces=True).tag == "{http://www.w3.org/1999/xhtml}html"
+    assert to_etree(doc.find("b")).text == "bold" and to_etree(doc.find("b")).tail is None
+    assert to_etree(next(doc.find("b").children())) is None and to_etree(hengaruto.parse_fragment("x")) is None
+    assert to_etree(hengaruto.parse_fragment("<p>x<b>y")).findtext("b") == "y"
+
+
+def test_lxml(doc):
+    html = pytest.importorskip("lxml.html")
+    root = to_lxml(doc)
+    same_in_both(root)
+    assert isinstance(root, html.HtmlElement) and [link[2] for link in root.iterlinks()] == []
+    assert root.xpath("string(//p/b)") == "bold" and root.find(".//p").classes == {"a"}
+    assert to_lxml(doc, namespaces=True).tag == "{http://www.w3.org/1999/xhtml}html"
+    assert to_lxml(hengaruto.parse_fragment("x")) is None
+
+
+def test_lxml_takes_what_xml_does_not():
+    pytest.importorskip("lxml.html")
+    root = to_lxml(hengaruto.parse('<a<b 1x=\x01 :=y a"=z>\x0c\x0b<!--a--b---><!-----><svg><:g/></svg>'))
+    assert root.find("body")[0].tag == "aU0003Cb" and set(root.find("body")[0].attrib) == {"U00031x", "U0003A", "aU00022"}
+    assert "\ufffd" in root.find("body")[0].attrib.values()
+
+
+def test_cssselect(doc):
+    pytest.importorskip("lxml.html")
+    pytest.importorskip("cssselect")
+    assert [node.tag for node in to_lxml(doc).cssselect("p > b")] == ["b"]
+
+
+def test_soup():
+    bs4 = pytest.importorskip("bs4")
+    register_soup()
+    soup = bs4.BeautifulSoup(PAGE, "hengaruto")
+    assert soup.title.string == "A" and soup.p["class"] == ["a"] and soup.b.text == "bold" and soup.find("svg").name == "svg"
+    assert str(soup).startswith("<!DOCTYPE html>") and "<!--front-->" in str(soup) and soup.template.i.string == "in"
+    soup = bs4.BeautifulSoup("<p>é".encode("latin-1"), "hengaruto", from_encoding="latin1")
+    assert soup.p.text == "é" and soup.original_encoding == "cp1252"
+
+
+def shape_of(root):
+    """Names, attributes and texts of a tree. html5lib keeps attributes `xmlns`, which are left out."""
+    shape = []
+    for node in root.iter():
+        is_element = isinstance(node.tag, str)
+        attrs = sorted((key.split("}")[-1], value) for key, value in node.attrib.items()) if is_element else []
+        attrs = [pair for pair in attrs if not pair[0].startswith("xmlns")]
+        shape.append((node.tag.split("}")[-1] if is_element else "#comment", attrs, node.text or "", node.tail or ""))
+    return shape
+
+
+def same_as_html5lib(page):
+    import html5lib
+
+    ours = shape_of(to_etree(hengaruto.parse(page)))
+    theirs = shape_of(html5lib.parse(page, treebuilder="etree", namespaceHTMLElements=False))
+    # Comments behind the body stand below the document or the html: they hang elsewhere in both.
+    assert ours == theirs, next(pair for pair in zip(ours, theirs) if pair[0] != pair[1])
+
+
+def test_pages_beside_html5lib():
+    pytest.importorskip("html5lib")
+    paths = [path for folder in FOLDERS for path in sorted(glob.glob(f"{folder}/**/*.htm*", recursive=True))]
+    paths = [path for path in paths if path.endswith((".html", ".htm")) and os.path.isfile(path) and os.path.getsize(path) < 100_000]
+    random.Random(1).shuffle(paths)
+    for path in paths[:40]:
+        with open(path, "rb") as file:
+            page = hengaruto.decode(file.read())
+        if "<template" not in page and "<search" not in page:
+            same_as_html5lib(page)
+
+
+def test_random_pages_beside_html5lib():
+    pytest.importorskip("html5lib")
+    rand = random.Random(1)
+    for _ in range(500):
+        same_as_html5lib("<!DOCTYPE html><body>" + "".join(rand.choices(WORDS, k=rand.randint(1, 30))))
