@@ -8,7 +8,6 @@ from __future__ import annotations
 import gzip
 import json
 import os
-import resource
 import time
 from typing import Any, Dict, Iterator, List, NamedTuple, Optional, Tuple
 
@@ -132,6 +131,12 @@ def row_of(name: str, page: bytes, encoding: Optional[str]) -> Row:
         return {"id": name, "title": None, "text": None, "links": [], "html": None, "error": str(error)}
 
 
+def most_memory() -> int:
+    """The bytes of memory that this process took at the most."""
+    with open("/proc/self/status") as file:
+        return next(int(line.split()[1]) * 1024 for line in file if line.startswith("VmHWM"))
+
+
 def write_lines(rows: List[Row], path: str) -> None:
     with open(path, "w", encoding="utf-8") as file:
         for row in rows:
@@ -168,5 +173,5 @@ def write_part(task: List[Place], number: int, folder: str, parquet: bool = Fals
         "read": read,
         "written": os.path.getsize(path),
         "seconds": time.process_time() - begun,
-        "memory": resource.getrusage(resource.RUSAGE_SELF).ru_maxrss * 1024,
+        "memory": most_memory(),
     }
