@@ -240,8 +240,10 @@ static void names(void)
 
     CHECK(hengaruto_namespace(tree.bytes, tree.length, name) == HENGARUTO_NS_HTML);
     CHECK(hengaruto_prefix(tree.bytes, tree.length, name) == 0);
-    CHECK(hengaruto_namespace(tree.bytes, tree.length, hengaruto_name(tree.bytes, tree.length, element(tree, "svg"))) == HENGARUTO_NS_SVG);
-    CHECK(hengaruto_namespace(tree.bytes, tree.length, hengaruto_name(tree.bytes, tree.length, element(tree, "mi"))) == HENGARUTO_NS_MATHML);
+    name = hengaruto_name(tree.bytes, tree.length, element(tree, "svg"));
+    CHECK(hengaruto_namespace(tree.bytes, tree.length, name) == HENGARUTO_NS_SVG);
+    name = hengaruto_name(tree.bytes, tree.length, element(tree, "mi"));
+    CHECK(hengaruto_namespace(tree.bytes, tree.length, name) == HENGARUTO_NS_MATHML);
     CHECK(hengaruto_name(tree.bytes, tree.length, p + 1) == HENGARUTO_NONE);
     CHECK(hengaruto_name_text(tree.bytes, tree.length, HENGARUTO_NONE, &at, &count) == HENGARUTO_NO_NODE);
     CHECK(hengaruto_name_text(bytes_of(""), 0, 0, &at, &count) == HENGARUTO_NO_TREE);

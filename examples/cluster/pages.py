@@ -26,7 +26,9 @@ import extract  # noqa: E402
 Answer = Dict[str, Any]
 
 
-def run(client: Any, tasks: List[List[extract.Place]], folder: str, parquet: bool = False, told: Optional[Callable[[Answer], None]] = None) -> List[Answer]:
+def run(
+    client: Any, tasks: List[List[extract.Place]], folder: str, parquet: bool = False, told: Optional[Callable[[Answer], None]] = None
+) -> List[Answer]:
     """Does the tasks on a cluster, and answers what each took. A folder that all workers see gets the parts."""
     from distributed import as_completed
 
@@ -61,14 +63,17 @@ def summary(answers: List[Answer], tasks: List[List[extract.Place]], wall: float
 
 def tell(took: Dict[str, float], pages: Optional[int]) -> None:
     count = max(took["pages"], 1)
+    read, written, milliseconds = took["read"] / count / 1000, took["written"] / count / 1000, took["seconds"] / count * 1000
     print(f"{took['pages']} pages, {took['errors']} with an error, in {took['tasks']} tasks and {took['wall']:.1f} seconds")
-    print(f"a page: {took['read'] / count / 1000:.1f} KB read, {took['written'] / count / 1000:.1f} KB written, {took['seconds'] / count * 1000:.2f} ms of a processor")
+    print(f"a page: {read:.1f} KB read, {written:.1f} KB written, {milliseconds:.2f} ms of a processor")
     print(f"a task: {took['task']:.0f} bytes sent, {took['answer']:.0f} bytes answered; a worker: {took['memory'] / 1e6:.0f} MB at most")
     if pages:
-        each = pages / count
-        print(f"{pages:.0e} pages: {took['seconds'] * each / 3600:,.0f} processor hours, {took['read'] * each / 1e12:.1f} TB read, "
-              f"{took['written'] * each / 1e12:.1f} TB written, {took['tasks'] * each:,.0f} tasks, "
-              f"{(took['task'] + took['answer']) * took['tasks'] * each / 1e9:.2f} GB between scheduler and workers")
+        moved = (took["task"] + took["answer"]) * took["tasks"] * pages / count
+        print(
+            f"{pages:.0e} pages: {milliseconds * pages / 3.6e6:,.0f} processor hours, {read * pages / 1e9:.1f} TB read, "
+            f"{written * pages / 1e9:.1f} TB written, {took['tasks'] * pages / count:,.0f} tasks, {moved / 1e9:.2f} GB between "
+            "scheduler and workers"
+        )
 
 
 def main() -> int:
@@ -90,8 +95,9 @@ def main() -> int:
 
     begun = time.time()
     # One thread a worker: a process that dies takes one task with it.
-    with LocalCluster(n_workers=asked.workers, threads_per_worker=1, processes=True, dashboard_address=None) as cluster, Client(cluster) as client:
-        answers = run(client, tasks, os.path.abspath(asked.folder), asked.parquet)
+    with LocalCluster(n_workers=asked.workers, threads_per_worker=1, processes=True, dashboard_address=None) as cluster:
+        with Client(cluster) as client:
+            answers = run(client, tasks, os.path.abspath(asked.folder), asked.parquet)
     tell(summary(answers, tasks, time.time() - begun), int(asked.reckon) if asked.reckon else None)
     return 0
 

@@ -38,10 +38,11 @@ def made(size):
         number += 1
         rows = "".join(f"<tr><td>{number}.{i}</td><td class='n'>{i * 37 % 101}</td></tr>" for i in range(6))
         items = "".join(f"<li><a href='/item/{number}/{i}'>item {i}</a> &ndash; some words</li>" for i in range(5))
+        words = "Plain words of a paragraph, one behind the other. " * 4
         parts.append(
             f"<section id=s{number}><h2>Section {number}</h2>\n<p class='lead text'>Some <b>bold</b> and <i>leaning</i> words &amp; a "
             f"<a href='https://example.org/{number}?a=1&amp;b=2' title='a title'>link</a>, <code>x &lt; y</code>, a caf\u00e9.</p>\n"
-            f"<p>{'Plain words of a paragraph, one behind the other. ' * 4}</p><ul>{items}</ul><table>{rows}</table><!-- {number} --></section>\n"
+            f"<p>{words}</p><ul>{items}</ul><table>{rows}</table><!-- {number} --></section>\n"
         )
         count += len(parts[-1].encode("utf-8"))
     return "".join(parts + ["</body></html>\n"]).encode("utf-8")

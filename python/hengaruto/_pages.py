@@ -43,8 +43,8 @@ def links(page: Page) -> List[Tuple[str, str]]:
 def clean(html: Page) -> str:
     """The HTML that is safe to show of a fragment that somebody sent: phrases, links, images, headings, blocks, lists and tables.
 
-    Scripts, styles, forms and frames go, and links lead to http, https, mailto or a relative URL. It is meant for a place in a page of UTF-8
-    where blocks may stand. It is proved that a parser reads it as it was meant, and that it stays as it is when it is cleaned again.
+    Scripts, styles, forms and frames go, and links lead to http, https, mailto or a relative URL. It is meant for a place in a page of
+    UTF-8 where blocks may stand. It is proved that a parser reads it as it was meant, and that it stays as it is when it is cleaned again.
 
     >>> clean('<p onclick="alert(1)">A <b>nice</b> page<script>alert(2)</script>')
     '<p>A <b>nice</b> page</p>'

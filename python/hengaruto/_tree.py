@@ -50,7 +50,8 @@ def parse(page: Page, *, scripting: bool = False, iframe_srcdoc: bool = False) -
 
 
 def parse_fragment(page: Page, context: str = "div", *, scripting: bool = False) -> Document:
-    """The tree of a fragment, as innerHTML of an element `context` makes it: its name, behind `svg` or `math` and a blank where it is theirs.
+    """The tree of a fragment, as innerHTML of an element makes it. Its name is `context`, with `svg` or `math` and a blank in front where
+    it is one of theirs. Scripting is off by default, as with `parse`.
 
     >>> parse_fragment("<td>1", "tr").to_html()
     '<td>1</td>'

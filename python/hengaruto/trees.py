@@ -27,7 +27,8 @@ _NAME = re.compile(r"[^\W\d][\w.-]*\Z")
 def to_etree(tree: Union[Document, Node], *, namespaces: bool = False) -> Any:
     """The root element, or that of a Node, as `xml.etree.ElementTree` has it; None where there is no element.
 
-    Names of HTML's elements are plain, and with `namespaces=True` they have HTML's namespace in front; those of SVG and MathML always have theirs.
+    Names of HTML's elements are plain, and with `namespaces=True` they have HTML's namespace in front. Those of SVG and MathML always have
+    theirs.
 
     >>> [child.tag for child in to_etree(parse("<svg><a/></svg>")).find("body").iter()]
     ['body', '{http://www.w3.org/2000/svg}svg', '{http://www.w3.org/2000/svg}a']
