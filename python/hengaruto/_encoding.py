@@ -69,9 +69,9 @@ def decode(page: bytes, encoding: Optional[str] = None) -> str:
 
 def decoded(page: bytes, encoding: Optional[str] = None) -> Tuple[str, str]:
     """The text of a page, and Python's name of its encoding."""
-    for mark, codec in _MARKS:
+    for mark, marked in _MARKS:
         if page.startswith(mark):
-            return page[len(mark) :].decode(codec, "replace"), codec
+            return page[len(mark) :].decode(marked, "replace"), marked
     codec = codec_of(encoding) or prescanned(page[:_PRESCANNED])
     if codec is None:
         try:

@@ -75,4 +75,4 @@ def given(name: str, *arguments: Any) -> bytes:
 
 def is_tree(block: bytes) -> bool:
     """Whether a block is such as `parse` makes. It looks at all of it."""
-    return _library.hengaruto_check(block, len(block)) == OK
+    return bool(_library.hengaruto_check(block, len(block)) == OK)

@@ -1,7 +1,7 @@
 """A tree: a block of bytes, and light objects that look into it."""
 from __future__ import annotations
 
-from typing import Any, Dict, Iterator, List, Optional, Tuple, Union
+from typing import Any, Dict, Iterator, List, Optional, Sequence, Tuple, TypeVar, Union
 
 from . import _library
 from ._input import Page, utf8
@@ -29,6 +29,8 @@ _KINDS = {
 }
 _CONTEXTS = {"": 1, "math": 2, "svg": 3}
 _HEAD = 9
+_T = TypeVar("_T")
+_D = TypeVar("_D")
 
 
 def parse(page: Page, *, scripting: bool = False, iframe_srcdoc: bool = False) -> Document:
@@ -467,6 +469,6 @@ class Node:
         return self.document._value(rows[index]) if index < len(rows) else None
 
 
-def _item(items: Any, index: int, default: Any) -> Any:
+def _item(items: Sequence[_T], index: int, default: _D) -> Union[_T, _D]:
     """An item, or the default where there is none: a block that was changed may name one."""
     return items[index] if index < len(items) else default
