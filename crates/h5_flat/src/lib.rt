@@ -12,6 +12,8 @@ mod names;
 mod numbers;
 mod pack;
 mod soundness;
+#[cfg(test)]
+mod tests;
 mod unpack;
 mod view;
 
