@@ -1,12 +1,14 @@
 -- The words of a block that columns are packed into.
-use Rattle.std.proofs.Common.{◌≡◌, ◌∙◌, ℕ, zero, suc, ◌+◌, ◌*◌, ◌<◌, ◌^◌, true, List, [], ◌∷◌, ◌++◌, ap, arith, get_or, length}
+use Rattle.std.proofs.Common.{◌≡◌, ◌∙◌, ℕ, zero, suc, ◌+◌, ◌*◌, ◌<◌, ◌≤◌, ◌^◌, true, List, [], ◌∷◌, ◌++◌, ap, arith, drop, get_or, length, map, sym, take}
 use Rattle.std.specs.Prelude.{if◌then◌else◌, nat_le}
 use Rattle.std.specs.Int.{w32, from_le_bytes, to_le_bytes}
 use Rattle.std.proofs.lemmas.Bool.{le-leb}
 use Rattle.std.proofs.lemmas.Grind.{flat_map-append}
-use Rattle.std.proofs.lemmas.List.{get_or-append-add}
+use Rattle.std.proofs.lemmas.Grind.{get_or_head}
+use Rattle.std.proofs.lemmas.List.{append_assoc, drop_more, get_or-append-add, map-append, take_more}
 use Rattle.std.proofs.lemmas.Nat.{from_le_bytes-to_le_bytes_4}
 use Rattle.std.proofs.lemmas.List.Elements.{All-append}
+use Rattle.std.proofs.Math.Seq.{take-length}
 use Rattle.h5_flat.specs.Block.{word_in}
 use Rattle.h5_flat.specs.Packed.{AreWords, bytes_of_words}
 
@@ -20,8 +22,33 @@ bytes_of_three a b c = bytes_append (a ++ b) c ∙ ap (λ xs. xs ++ bytes_of_wor
 pub bytes_of_four : (a b c d : List ℕ) → bytes_of_words (a ++ b ++ c ++ d) ≡ bytes_of_words a ++ bytes_of_words b ++ bytes_of_words c ++ bytes_of_words d
 bytes_of_four a b c d = bytes_append (a ++ b ++ c) d ∙ ap (λ xs. xs ++ bytes_of_words d) (bytes_of_three a b c)
 
+word_alone : (w : ℕ) → w < 2 ^ 32 → AreWords (w ∷ [])
+word_alone w fits = λ k d h. rw (get_or_head w [] k d (omega (arith, h))) fits
+
 pub words_append : (xs ys : List ℕ) → AreWords xs → AreWords ys → AreWords (xs ++ ys)
 words_append xs ys = All-append (λ w. w < 2 ^ 32) xs ys
+
+pub words_of_four : (a b c d : List ℕ) → AreWords a → AreWords b → AreWords c → AreWords d → AreWords (a ++ b ++ c ++ d)
+words_of_four a b c d one two three four = words_append (a ++ b ++ c) d (words_append (a ++ b) c (words_append a b one two) three) four
+
+-- one more of the words of a list is put
+pub put_step : {X : Type 0} (f : X → ℕ) (xs : List X) (i : ℕ) (d : X) (old new total : List ℕ) → i < length xs → new ≡ old ++ to_le_bytes w32 (f (get_or xs i d))
+    → old ++ bytes_of_words (map f (drop i xs)) ≡ total → new ++ bytes_of_words (map f (drop (i + 1) xs)) ≡ total
+put_step f xs i d old new total lt put h =
+    let rest = bytes_of_words (map f (drop (i + 1) xs)) in
+    ap (λ n. n ++ rest) put
+    ∙ append_assoc old (to_le_bytes w32 (f (get_or xs i d))) rest
+    ∙ ap (λ ys. old ++ bytes_of_words (map f ys)) (sym (drop_more xs i d lt))
+    ∙ h
+
+pub words_more : {X : Type 0} (f : X → ℕ) (xs : List X) (i : ℕ) (d : X) → i < length xs → AreWords (map f (take i xs)) → f (get_or xs i d) < 2 ^ 32 → AreWords (map f (take (i + 1) xs))
+words_more f xs i d lt words fits =
+    rw (ap (map f) (take_more xs i d lt) ∙ map-append f (take i xs) (get_or xs i d ∷ [])) (words_append (map f (take i xs)) (f (get_or xs i d) ∷ []) words (word_alone (f (get_or xs i d)) fits))
+
+pub words_whole : {X : Type 0} (f : X → ℕ) (xs : List X) (i : ℕ) → length xs ≤ i → i ≤ length xs → AreWords (map f (take i xs)) → AreWords (map f xs)
+words_whole f xs i far near words =
+    let all : i ≡ length xs = omega (arith, far, near) in
+    rw (sym (ap (λ n. map f (take n xs)) all ∙ ap (map f) (take-length xs))) words
 
 -- four bytes a word
 pub length-bytes : (ws rest : List ℕ) → length (bytes_of_words ws ++ rest) ≡ length ws * 4 + length rest

@@ -1,6 +1,8 @@
 //! What takes the calls that tell of a tree, and keeps its nodes.
 ghost use Rattle.std.specs.Iterator.{IsFinite};
+ghost use Rattle.std.specs.Prelude.{◌≡◌};
 ghost use Rattle.h5_arena.specs.ArenaModel.{IsHeld};
+ghost use Rattle.h5_flat.specs.Packed.{word_of};
 
 use super::names::Names;
 use super::numbers::{
@@ -12,20 +14,57 @@ use h5_names::QualName;
 use h5_serialize::{AttrRef, Serialize, SerializeFault, Serializer, TraversalScope};
 use std::alloc::{AllocError, Global};
 
-/// The nodes of a tree, in tree order, as columns of words.
+/// A node of a tree, as words.
+#[derive(Clone, Copy)]
+pub(crate) struct FlatNode {
+    // The kind, with the number of the name of an element above.
+    pub(crate) kind: u32,
+    pub(crate) parent: u32,
+    // The first node behind all that stands below this one.
+    pub(crate) end: u32,
+    // Where the texts from this node on begin, and the first row from it on.
+    pub(crate) text: u32,
+    pub(crate) row: u32,
+}
+
+/// A word of a node.
+#[derive(Clone, Copy)]
+pub(crate) enum NodeWord {
+    Kind,
+    Parent,
+    End,
+    Text,
+    Row,
+}
+
+impl FlatNode {
+    pub(crate) fn word(&self, which: NodeWord) -> u32
+        ensures { result ≡ word_of which self.now }
+    {
+        match which {
+            NodeWord::Kind => self.kind,
+            NodeWord::Parent => self.parent,
+            NodeWord::End => self.end,
+            NodeWord::Text => self.text,
+            NodeWord::Row => self.row,
+        }
+    }
+}
+
+/// A row, or a name: a word about it, and where its bytes end.
+#[derive(Clone, Copy)]
+pub(crate) struct Ended {
+    pub(crate) word: u32,
+    pub(crate) end: u32,
+}
+
+/// The nodes of a tree, in tree order.
 #[derive(Drop)]
 pub struct Columns {
     pub(crate) quirks: u32,
-    // Of each node: its kind, with the number of its name above; its parent; the first node behind all that stands below it; where
-    // the texts from it on begin; the first row from it on.
-    pub(crate) kinds: Vec<u32>,
-    pub(crate) parents: Vec<u32>,
-    pub(crate) ends: Vec<u32>,
-    pub(crate) texts: Vec<u32>,
-    pub(crate) rows: Vec<u32>,
-    // Of each row: the number of its name, and where its value ends.
-    pub(crate) row_names: Vec<u32>,
-    pub(crate) row_ends: Vec<u32>,
+    pub(crate) nodes: Vec<FlatNode>,
+    // Of each row the number of its name, and where its value ends.
+    pub(crate) rows: Vec<Ended>,
     pub(crate) names: Names,
     pub(crate) values: Vec<u8>,
     pub(crate) text: Vec<u8>,
@@ -45,13 +84,8 @@ impl Columns {
     fn new(alloc: Global) -> Result<Columns, AllocError> {
         Ok(Columns {
             quirks: 0,
-            kinds: Vec::new(alloc),
-            parents: Vec::new(alloc),
-            ends: Vec::new(alloc),
-            texts: Vec::new(alloc),
+            nodes: Vec::new(alloc),
             rows: Vec::new(alloc),
-            row_names: Vec::new(alloc),
-            row_ends: Vec::new(alloc),
             names: Names::new(alloc)?,
             values: Vec::new(alloc),
             text: Vec::new(alloc),
@@ -63,13 +97,15 @@ impl Columns {
 
     // A new node below the current one, with nothing below it.
     fn add(&mut self, kind: u32) -> Result<u32, AllocError> {
-        let node = short(self.kinds.len())?;
-        self.kinds.push(kind)?;
-        self.parents.push(self.current)?;
-        self.ends.push(node.saturating_add(1))?;
-        self.texts.push(short(self.text.len())?)?;
-        self.rows.push(short(self.row_names.len())?)?;
-        Ok(node)
+        let index = short(self.nodes.len())?;
+        self.nodes.push(FlatNode {
+            kind,
+            parent: self.current,
+            end: index.saturating_add(1),
+            text: short(self.text.len())?,
+            row: short(self.rows.len())?,
+        })?;
+        Ok(index)
     }
 
     // A new node, below which the next ones stand.
@@ -80,11 +116,10 @@ impl Columns {
 
     // All that stands below the current node was told.
     fn close(&mut self) -> Result<(), AllocError> {
-        let end = short(self.kinds.len())?;
-        let current = self.current as usize;
-        if current < self.ends.len() && current < self.parents.len() {
-            self.ends[current] = end;
-            self.current = self.parents[current];
+        let end = short(self.nodes.len())?;
+        if let Some(node) = self.nodes.as_mut_slice().get_mut(self.current as usize) {
+            node.end = end;
+            self.current = node.parent;
         }
         Ok(())
     }
@@ -92,8 +127,8 @@ impl Columns {
     // A row of the newest node.
     fn add_row(&mut self, name: u32, value: &[u8]) -> Result<(), AllocError> {
         self.values.extend_from_slice(value)?;
-        self.row_names.push(name)?;
-        self.row_ends.push(short(self.values.len())?)?;
+        let end = short(self.values.len())?;
+        self.rows.push(Ended { word: name, end })?;
         Ok(())
     }
 
@@ -152,14 +187,6 @@ impl Columns {
     fn add_text(&mut self, text: &str) -> Result<(), AllocError> {
         let _node = self.add(TEXT)?;
         self.text.extend_from_slice(text.as_bytes())
-    }
-
-    // The root ends, and texts and rows end behind the last node.
-    fn end(&mut self) -> Result<(), AllocError> {
-        self.close()?;
-        self.texts.push(short(self.text.len())?)?;
-        self.rows.push(short(self.row_names.len())?)?;
-        Ok(())
     }
 }
 
@@ -262,7 +289,7 @@ fn quirks_number(quirks: QuirksMode) -> u32 {
     }
 }
 
-// Takes what stands below a node, which is the end of all.
+// Takes what stands below a node, and ends the root.
 fn take_below(columns: &mut Columns, arena: &Arena, root: NodeId) -> Result<(), AllocError>
     requires { IsHeld arena.now root }
 {
@@ -270,7 +297,7 @@ fn take_below(columns: &mut Columns, arena: &Arena, root: NodeId) -> Result<(), 
     if arena.at(root).serialize(columns, scope).is_err() {
         return Err(AllocError);
     }
-    columns.end()
+    columns.close()
 }
 
 /// The columns of a document. An `AllocError` where memory is refused, and where a column has more than 4,294,967,294 entries or
@@ -292,7 +319,7 @@ pub fn columns_of_fragment(alloc: Global, arena: &Arena) -> Result<Columns, Allo
     columns.open(FRAGMENT)?;
     match arena.fragment_root() {
         Some(root) => take_below(&mut columns, arena, root)?,
-        None => columns.end()?,
+        None => columns.close()?,
     }
     Ok(columns)
 }

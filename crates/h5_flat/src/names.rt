@@ -1,4 +1,5 @@
 //! The names of a tree, each with a number.
+use super::columns::Ended;
 use super::numbers::{NOTHING, namespace_number, prefix_number, short};
 use h5_names::{KnownName, QualName};
 use std::alloc::{AllocError, Global};
@@ -10,9 +11,8 @@ const KNOWN: usize = 8192;
 /// The names that were met, in the order in which they were.
 #[derive(Drop)]
 pub(crate) struct Names {
-    // Of each name: its namespace, and its prefix above; where its text ends.
-    pub(crate) spaces: Vec<u32>,
-    pub(crate) ends: Vec<u32>,
+    // Of each name its namespace, with its prefix above, and where its text ends.
+    pub(crate) list: Vec<Ended>,
     pub(crate) text: Vec<u8>,
     known: Vec<u32>,
     others: BTreeMap<QualName, u32>,
@@ -22,8 +22,7 @@ pub(crate) struct Names {
 impl Names {
     pub(crate) fn new(alloc: Global) -> Result<Names, AllocError> {
         Ok(Names {
-            spaces: Vec::new(alloc),
-            ends: Vec::new(alloc),
+            list: Vec::new(alloc),
             text: Vec::new(alloc),
             known: Vec::from_elem(alloc, NOTHING, KNOWN)?,
             others: BTreeMap::new(alloc),
@@ -33,11 +32,11 @@ impl Names {
 
     // A new name.
     fn add(&mut self, space: u32, prefix: u32, local: &str) -> Result<u32, AllocError> {
-        let number = short(self.spaces.len())?;
+        let number = short(self.list.len())?;
         self.text.extend_from_slice(local.as_bytes())?;
-        self.spaces
-            .push(space.saturating_add(prefix.saturating_mul(256)))?;
-        self.ends.push(short(self.text.len())?)?;
+        let end = short(self.text.len())?;
+        let word = space.saturating_add(prefix.saturating_mul(256));
+        self.list.push(Ended { word, end })?;
         Ok(number)
     }
 

@@ -1,9 +1,9 @@
 //! The block of a tree.
-ghost use Rattle.std.specs.Prelude.{◌≡◌, ◌++◌, ◌∷◌, [], IfOk, OnOk, length};
+ghost use Rattle.std.specs.Prelude.{◌≡◌, ◌<◌, ◌^◌, ◌++◌, ◌∷◌, [], IfOk, OnOk, length};
 ghost use Rattle.std.specs.Int.{w32, to_le_bytes};
-ghost use Rattle.h5_flat.specs.Packed.{AreWords, AreWordsOf, block_of, bytes_of_words, column_bytes, column_words, front_words, length_of, name_words, node_words, place_words, row_words, words_of};
+ghost use Rattle.h5_flat.specs.Packed.{AreWords, AreWordsOf, block_of, bytes_of_words, column, column_bytes, column_words, ends_in, front_words, length_of, node_words, place_words, words_in, words_of};
 
-use super::columns::Columns;
+use super::columns::{Columns, Ended, FlatNode, NodeWord};
 use super::numbers::{NOTHING, short};
 use std::alloc::{AllocError, Global};
 
@@ -14,9 +14,18 @@ pub(crate) const FRONT: usize = 9;
 pub(crate) const MAGIC: u32 = 0x3154_4748;
 
 fn put(block: &mut Vec<u8>, word: u32) -> Result<(), AllocError>
-    ensures { OnOk result (block.new.items ≡ block.old.items ++ to_le_bytes w32 word) }
+    ensures bytes { OnOk result (block.new.items ≡ block.old.items ++ to_le_bytes w32 word) }
+    ensures word { word < 2 ^ 32 }
 {
     block.extend_from_slice(&word.to_le_bytes())
+}
+
+// A length behind a column of places.
+fn put_length(block: &mut Vec<u8>, length: usize) -> Result<(), AllocError>
+    ensures bytes { OnOk result (block.new.items ≡ block.old.items ++ bytes_of_words (length ∷ [])) }
+    ensures words { OnOk result (AreWords (length ∷ [])) }
+{
+    put(block, short(length)?)
 }
 
 fn put_all(block: &mut Vec<u8>, words: &[u32]) -> Result<(), AllocError>
@@ -29,29 +38,48 @@ fn put_all(block: &mut Vec<u8>, words: &[u32]) -> Result<(), AllocError>
     Ok(())
 }
 
+// One word of each node.
+fn put_column(block: &mut Vec<u8>, nodes: &[FlatNode], which: NodeWord) -> Result<(), AllocError>
+    ensures bytes { OnOk result (block.new.items ≡ block.old.items ++ bytes_of_words (column which nodes.now)) }
+    ensures words { OnOk result (AreWords (column which nodes.now)) }
+{
+    for node in nodes {
+        put(block, node.word(which))?;
+    }
+    Ok(())
+}
+
+fn put_words(block: &mut Vec<u8>, list: &[Ended]) -> Result<(), AllocError>
+    ensures bytes { OnOk result (block.new.items ≡ block.old.items ++ bytes_of_words (words_in list.now)) }
+    ensures words { OnOk result (AreWords (words_in list.now)) }
+{
+    for one in list {
+        put(block, one.word)?;
+    }
+    Ok(())
+}
+
+fn put_ends(block: &mut Vec<u8>, list: &[Ended]) -> Result<(), AllocError>
+    ensures bytes { OnOk result (block.new.items ≡ block.old.items ++ bytes_of_words (ends_in list.now)) }
+    ensures words { OnOk result (AreWords (ends_in list.now)) }
+{
+    for one in list {
+        put(block, one.end)?;
+    }
+    Ok(())
+}
+
 impl Columns {
-    // How many words the columns have, and how many bytes stand behind them.
-    fn column_length(&self) -> u128
-        ensures { result ≡ length (column_words self.now) }
-    {
-        let nodes = self.kinds.len() as u128 + self.parents.len() as u128 + self.ends.len() as u128;
-        let places = self.texts.len() as u128 + self.rows.len() as u128;
-        let rows = self.row_names.len() as u128 + self.row_ends.len() as u128;
-        let names = self.names.spaces.len() as u128 + self.names.ends.len() as u128;
-        nodes + places + rows + names
-    }
-
-    fn byte_length(&self) -> u128
-        ensures { result ≡ length (column_bytes self.now) }
-    {
-        self.names.text.len() as u128 + self.values.len() as u128 + self.text.len() as u128
-    }
-
     // How many bytes the block has.
     fn block_length(&self) -> Result<u32, AllocError>
         ensures { IfOk result (λ n. n ≡ length_of self.now) }
     {
-        let length = (FRONT as u128 + self.column_length()) * 4 + self.byte_length();
+        let nodes = 5 * self.nodes.len() as u128;
+        let rows = 2 * self.rows.len() as u128;
+        let names = 2 * self.names.list.len() as u128;
+        let words = (FRONT as u128 + 2 + nodes + rows + names) * 4;
+        let values = self.names.text.len() as u128 + self.values.len() as u128;
+        let length = words + values + self.text.len() as u128;
         if length < NOTHING as u128 {
             Ok(length as u32)
         } else {
@@ -67,9 +95,9 @@ impl Columns {
             MAGIC,
             length,
             self.quirks,
-            short(self.kinds.len())?,
-            short(self.row_names.len())?,
-            short(self.names.spaces.len())?,
+            short(self.nodes.len())?,
+            short(self.rows.len())?,
+            short(self.names.list.len())?,
             short(self.names.text.len())?,
             short(self.values.len())?,
             short(self.text.len())?,
@@ -90,47 +118,40 @@ impl Columns {
         ensures bytes { OnOk result (block.new.items ≡ block.old.items ++ bytes_of_words (node_words self.now)) }
         ensures words { OnOk result (AreWords (node_words self.now)) }
     {
-        put_all(block, self.kinds.as_slice())?;
-        put_all(block, self.parents.as_slice())?;
-        put_all(block, self.ends.as_slice())
+        put_column(block, self.nodes.as_slice(), NodeWord::Kind)?;
+        put_column(block, self.nodes.as_slice(), NodeWord::Parent)?;
+        put_column(block, self.nodes.as_slice(), NodeWord::End)
     }
 
-    #[tactic(auto, using(crate::proofs::PackLaws::bytes_append, crate::proofs::PackLaws::words_append))]
+    #[tactic(auto, using(crate::proofs::PackLaws::bytes_of_four, crate::proofs::PackLaws::words_append))]
     fn put_places(&self, block: &mut Vec<u8>) -> Result<(), AllocError>
         ensures bytes { OnOk result (block.new.items ≡ block.old.items ++ bytes_of_words (place_words self.now)) }
         ensures words { OnOk result (AreWords (place_words self.now)) }
     {
-        put_all(block, self.texts.as_slice())?;
-        put_all(block, self.rows.as_slice())
+        put_column(block, self.nodes.as_slice(), NodeWord::Text)?;
+        put_length(block, self.text.len())?;
+        put_column(block, self.nodes.as_slice(), NodeWord::Row)?;
+        put_length(block, self.rows.len())
     }
 
     #[tactic(auto, using(crate::proofs::PackLaws::bytes_append, crate::proofs::PackLaws::words_append))]
-    fn put_rows(&self, block: &mut Vec<u8>) -> Result<(), AllocError>
-        ensures bytes { OnOk result (block.new.items ≡ block.old.items ++ bytes_of_words (row_words self.now)) }
-        ensures words { OnOk result (AreWords (row_words self.now)) }
+    fn put_list(block: &mut Vec<u8>, list: &[Ended]) -> Result<(), AllocError>
+        ensures bytes { OnOk result (block.new.items ≡ block.old.items ++ bytes_of_words (words_in list.now ++ ends_in list.now)) }
+        ensures words { OnOk result (AreWords (words_in list.now ++ ends_in list.now)) }
     {
-        put_all(block, self.row_names.as_slice())?;
-        put_all(block, self.row_ends.as_slice())
+        put_words(block, list)?;
+        put_ends(block, list)
     }
 
-    #[tactic(auto, using(crate::proofs::PackLaws::bytes_append, crate::proofs::PackLaws::words_append))]
-    fn put_names(&self, block: &mut Vec<u8>) -> Result<(), AllocError>
-        ensures bytes { OnOk result (block.new.items ≡ block.old.items ++ bytes_of_words (name_words self.now)) }
-        ensures words { OnOk result (AreWords (name_words self.now)) }
-    {
-        put_all(block, self.names.spaces.as_slice())?;
-        put_all(block, self.names.ends.as_slice())
-    }
-
-    #[tactic(auto, using(crate::proofs::PackLaws::bytes_of_four, crate::proofs::PackLaws::words_append))]
+    #[tactic(auto, using(crate::proofs::PackLaws::bytes_of_four, crate::proofs::PackLaws::words_of_four))]
     fn put_columns(&self, block: &mut Vec<u8>) -> Result<(), AllocError>
         ensures bytes { OnOk result (block.new.items ≡ block.old.items ++ bytes_of_words (column_words self.now)) }
         ensures words { OnOk result (AreWords (column_words self.now)) }
     {
         self.put_nodes(block)?;
         self.put_places(block)?;
-        self.put_rows(block)?;
-        self.put_names(block)
+        Columns::put_list(block, self.rows.as_slice())?;
+        Columns::put_list(block, self.names.list.as_slice())
     }
 
     fn put_bytes(&self, block: &mut Vec<u8>) -> Result<(), AllocError>
@@ -142,7 +163,7 @@ impl Columns {
     }
 
     /// The tree as one block. An `AllocError` where memory is refused, and where the block has more than 4,294,967,294 bytes.
-    #[tactic(auto, using(crate::proofs::PackLaws::bytes_append, crate::proofs::PackLaws::words_append))]
+    #[tactic(auto, using(crate::proofs::PackLaws::bytes_append))]
     pub fn pack(&self, alloc: Global) -> Result<Vec<u8>, AllocError>
         ensures block { IfOk result (λ block. block.items ≡ block_of self.now) }
         ensures words { IfOk result (λ block. AreWordsOf block.items (words_of self.now)) }
