@@ -40,7 +40,7 @@ def to_etree(tree: Union[Document, Node], *, namespaces: bool = False) -> Any:
         parent.append(node)
         return node
 
-    return _built(tree, etree.Element, etree.SubElement, comment, namespaces, str)
+    return _built(tree, etree.Element, etree.SubElement, comment, namespaces, str, str)
 
 
 def to_lxml(tree: Union[Document, Node], *, namespaces: bool = False) -> Any:
@@ -57,7 +57,7 @@ def to_lxml(tree: Union[Document, Node], *, namespaces: bool = False) -> Any:
         parent.append(node)
         return node
 
-    return _built(tree, lxml.html.html_parser.makeelement, lxml.etree.SubElement, comment, namespaces, _as_xml)
+    return _built(tree, lxml.html.html_parser.makeelement, lxml.etree.SubElement, comment, namespaces, _as_xml, _xml_name)
 
 
 def register_soup() -> type:
@@ -136,11 +136,6 @@ def _xml_name(local: str) -> str:
     return "".join(escaped)
 
 
-def _tag(space: Optional[str], local: str, namespaces: bool) -> str:
-    name = _xml_name(local)
-    return f"{{{space}}}{name}" if space and (namespaces or space != _HTML) else name
-
-
 def _built(
     tree: Union[Document, Node],
     make: Callable[..., Any],
@@ -148,8 +143,9 @@ def _built(
     comment: Callable[[Any, str], Any],
     namespaces: bool,
     allowed: Callable[[str], str],
+    named: Callable[[str], str],
 ) -> Any:
-    """Makes elements of an element and of what stands below it."""
+    """Makes elements of an element and of what stands below it, with texts and names as they are allowed."""
     top = tree.root if isinstance(tree, Document) else tree
     if top is None or top.kind != ELEMENT:
         return None
@@ -157,9 +153,13 @@ def _built(
     kinds, parents, rows, row_names = document._kinds, document._parents, document._rows, document._row_names
     value, text_of = document._value, document._text
     spaces = [NAMESPACES[space] for space in document._spaces]
-    tags = [_tag(space, local, namespaces) for space, local in zip(spaces, document._locals)]
+    plain = (None,) if namespaces else (None, _HTML)
+    tags = [
+        named(local) if space in plain else f"{{{space}}}{named(local)}"
+        for space, local in zip(spaces, document._locals)
+    ]
     keys = [
-        f"{{{space}}}{_xml_name(local)}" if space in _MARKED else _xml_name(key)
+        f"{{{space}}}{named(local)}" if space in _MARKED else named(key)
         for space, local, key in zip(spaces, document._locals, document._keys)
     ]
     made: Dict[int, Any] = {}

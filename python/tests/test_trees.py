@@ -60,6 +60,11 @@ def test_lxml_takes_what_xml_does_not():
     assert "\ufffd" in root.find("body")[0].attrib.values()
 
 
+def test_etree_takes_names_as_they_stand():
+    root = to_etree(hengaruto.parse("<html xml:lang=en><a<b 1x=y>"))
+    assert root.attrib == {"xml:lang": "en"} and root.find("body")[0].tag == "a<b" and root.find("body")[0].attrib == {"1x": "y"}
+
+
 def test_cssselect(doc):
     pytest.importorskip("lxml.html")
     pytest.importorskip("cssselect")
