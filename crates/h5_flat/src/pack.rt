@@ -1,7 +1,7 @@
 //! The block of a tree.
 ghost use Rattle.std.specs.Prelude.{◌≡◌, ◌<◌, ◌^◌, ◌++◌, ◌∷◌, [], IfOk, OnOk, length};
 ghost use Rattle.std.specs.Int.{w32, to_le_bytes};
-ghost use Rattle.h5_flat.specs.Packed.{AreWords, AreWordsOf, block_of, bytes_of_words, column, column_bytes, column_words, ends_in, front_words, length_of, node_words, place_words, words_in, words_of};
+ghost use Rattle.h5_flat.specs.Packed.{AreWords, AreWordsOf, IsReadAs, block_of, bytes_of_words, column, column_bytes, column_words, ends_in, front_words, length_of, node_words, place_words, words_in, words_of};
 
 use super::columns::{Columns, Ended, FlatNode, NodeWord};
 use super::numbers::{NOTHING, short};
@@ -167,6 +167,7 @@ impl Columns {
     pub fn pack(&self, alloc: Global) -> Result<Vec<u8>, AllocError>
         ensures block { IfOk result (λ block. block.items ≡ block_of self.now) }
         ensures words { IfOk result (λ block. AreWordsOf block.items (words_of self.now)) }
+        ensures read { IfOk result (λ block. IsReadAs block.items self.now) }
     {
         let length = self.block_length()?;
         let mut block = Vec::with_capacity(alloc, length as usize + 1)?;
