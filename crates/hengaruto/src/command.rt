@@ -43,26 +43,36 @@ const AFTER: &str =
 const RECORDS: &str =
     "Each line is an object with the HTML of a page as `html` or the name of its file as `path`. The answer has its `id`, or else the number of the line.";
 
-// A part of the program without what is particular to it: the context of fragments, and the files.
-fn with_input<'a>(alloc: Global, part: Command<'a>) -> Result<Command<'a>, AllocError> {
-    let context = Arg::new(alloc, "fragment")
+// The context of fragments, which may stand in any place.
+fn context_option<'a>(alloc: Global) -> Arg<'a> {
+    Arg::new(alloc, "fragment")
         .long("fragment")
         .short('f')
+        .global(true)
         .value_name("CONTEXT")
         .help(
             "Reads fragments, as inside of an element of this name; svg or math and a space may stand before it",
-        );
-    let name = Arg::new(alloc, "with-name")
+        )
+}
+
+// Whether the name of the file is printed; this may stand in any place, too.
+fn name_flag<'a>(alloc: Global) -> Arg<'a> {
+    Arg::new(alloc, "with-name")
         .long("with-name")
         .short('H')
+        .global(true)
         .action(ArgAction::SetTrue)
-        .help("Prints the name of the file in front of each line");
+        .help("Prints the name of the file in front of each line")
+}
+
+// A part of the program with the files that it reads.
+fn with_input<'a>(alloc: Global, part: Command<'a>) -> Result<Command<'a>, AllocError> {
     let files = Arg::new(alloc, "file")
         .value_name("FILE")
         .action(ArgAction::Append)
         .num_args(0..)
         .help("The files to read");
-    part.after_help(AFTER).arg(context)?.arg(name)?.arg(files)
+    part.after_help(AFTER).arg(files)
 }
 
 fn part<'a>(alloc: Global, name: &'a str, about: &'a str) -> Result<Command<'a>, AllocError> {
@@ -212,7 +222,9 @@ pub fn command<'a>(alloc: Global) -> Result<Command<'a>, AllocError> {
         .about(ABOUT)
         .after_help(AFTER)
         .subcommand_required(true)
-        .arg_required_else_help(true);
+        .arg_required_else_help(true)
+        .arg(context_option(alloc))?
+        .arg(name_flag(alloc))?;
     with_parts(alloc, command)?.subcommand(records_part(alloc)?)
 }
 
