@@ -78,7 +78,7 @@ uint32_t hengaruto_html(const unsigned char *block, size_t block_length, uint32_
 
 /* The elements below a node that a CSS selector matches, each once, in tree order: their numbers, 4 bytes each, the least first. Of
  * HENGARUTO_BAD_SELECTOR a message is given, which says what is wrong behind how many characters; it is to be freed, too. Each call
- * looks at the whole block. */
+ * makes a tree of the whole block again, with the time and memory that takes. */
 uint32_t hengaruto_select(const unsigned char *block, size_t block_length, uint32_t node, const unsigned char *selector,
                           size_t selector_length, unsigned char **found, size_t *length) HENGARUTO_GIVE;
 
@@ -86,7 +86,7 @@ uint32_t hengaruto_select(const unsigned char *block, size_t block_length, uint3
 uint32_t hengaruto_page_text(const unsigned char *page, size_t page_length, size_t width, unsigned char **text, size_t *length)
     HENGARUTO_GIVE;
 
-/* The links of a page: of each its href, a NUL, its text, a NUL. */
+/* The links of a page: of each its href, a NUL, its text, a NUL, as they stand in the page: blanks are not joined. */
 uint32_t hengaruto_page_links(const unsigned char *page, size_t page_length, unsigned char **links, size_t *length) HENGARUTO_GIVE;
 
 /* The HTML that is left of a fragment: phrases, links, images, headings, blocks, lists and tables, without scripts, styles, forms and
