@@ -1,6 +1,7 @@
 //! Reads of a block. Where it is none, or has no such node, each answers a status, 0 or `NOTHING`.
-ghost use Rattle.std.specs.Prelude.{◌≡◌, ◌<◌, ◌⊎◌, if◌then◌else◌};
+ghost use Rattle.std.specs.Prelude.{◌≡◌, ◌<◌, ◌⊎◌, ◌&&◌, MatchOption, false, if◌then◌else◌, true};
 ghost use Rattle.h5_flat.specs.Block as b;
+ghost use Rattle.h5_flat.specs.Sound.{is_sound};
 
 use super::status::{NO_NODE, NO_TREE, OK, give};
 use h5_flat::{NOTHING, Span, View, html_of};
@@ -27,7 +28,9 @@ pub extern "C" fn hengaruto_html(
 
 /// Whether a block is such as a parser makes. Looks at all of it.
 #[unsafe(no_mangle)]
-pub extern "C" fn hengaruto_check(block: &[u8]) -> u32 {
+pub extern "C" fn hengaruto_check(block: &[u8]) -> u32
+    ensures { result ≡ (if b.is_block block.now && is_sound block.now then 0 else 3) }
+{
     match View::of(block) {
         Some(view) if view.is_sound() => OK,
         _ => NO_TREE,
@@ -160,7 +163,9 @@ pub extern "C" fn hengaruto_prefix(block: &[u8], name: u32) -> u32
 }
 
 // Says where bytes lie, if anywhere.
-fn put(span: Option<Span>, at: &mut usize, count: &mut usize) -> u32 {
+fn put(span: Option<Span>, at: &mut usize, count: &mut usize) -> u32
+    ensures { MatchOption span (result ≡ 2) (λ span. (result ≡ 0) × (at.new ≡ span.at) × (count.new ≡ span.count)) }
+{
     match span {
         Some(span) => {
             *at = span.at;
@@ -178,7 +183,11 @@ pub extern "C" fn hengaruto_name_text(
     name: u32,
     at: &mut usize,
     count: &mut usize,
-) -> u32 {
+) -> u32
+    ensures is { b.is_block block.now ≡ true → MatchOption (b.name_text_in block.now name) (result ≡ 2)
+        (λ span. (result ≡ 0) × (at.new ≡ span.at) × (count.new ≡ span.count)) }
+    ensures none { b.is_block block.now ≡ false → result ≡ 3 }
+{
     match View::of(block) {
         Some(view) => put(view.name_text(name), at, count),
         None => NO_TREE,
@@ -187,12 +196,11 @@ pub extern "C" fn hengaruto_name_text(
 
 /// Where the text of a node and of all below it lies.
 #[unsafe(no_mangle)]
-pub extern "C" fn hengaruto_text(
-    block: &[u8],
-    node: u32,
-    at: &mut usize,
-    count: &mut usize,
-) -> u32 {
+pub extern "C" fn hengaruto_text(block: &[u8], node: u32, at: &mut usize, count: &mut usize) -> u32
+    ensures is { b.is_block block.now ≡ true → MatchOption (b.text_in block.now node) (result ≡ 2)
+        (λ span. (result ≡ 0) × (at.new ≡ span.at) × (count.new ≡ span.count)) }
+    ensures none { b.is_block block.now ≡ false → result ≡ 3 }
+{
     match View::of(block) {
         Some(view) => put(view.text(node), at, count),
         None => NO_TREE,
@@ -219,7 +227,11 @@ pub extern "C" fn hengaruto_row(
     name: &mut u32,
     at: &mut usize,
     count: &mut usize,
-) -> u32 {
+) -> u32
+    ensures is { b.is_block block.now ≡ true → MatchOption (b.row_in block.now node index) (result ≡ 2)
+        (λ row. (result ≡ 0) × (name.new ≡ row.name) × (at.new ≡ row.value.at) × (count.new ≡ row.value.count)) }
+    ensures none { b.is_block block.now ≡ false → result ≡ 3 }
+{
     let Some(view) = View::of(block) else {
         return NO_TREE;
     };

@@ -1,2 +1,3 @@
 pub mod PackLaws
 pub mod ReadLaws
+pub mod SoundLaws

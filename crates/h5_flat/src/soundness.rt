@@ -1,20 +1,16 @@
 //! Whether a block is one that a tree was packed into.
+ghost use Rattle.std.specs.Prelude.{◌≡◌, ◌≤◌};
+ghost use Rattle.h5_flat.specs.Block as b;
+ghost use Rattle.h5_flat.specs.Sound as s;
+
 use super::numbers::{DOCUMENT, FRAGMENT, NOTHING};
-use super::view::View;
+use super::view::{View, word_at};
 
 impl<'a> View<'a> {
-    // Whether a node stands in its parent, in front of its end, and has places and a name.
-    fn is_node_sound(&self, node: u32) -> bool {
-        let next = node.saturating_add(1);
-        let name = self.name(node);
-        self.stands(node)
-            && self.text_place(node) <= self.text_place(next)
-            && self.first_row(node) <= self.first_row(next)
-            && (name == NOTHING || name < self.names)
-    }
-
     // Whether a node ends behind itself, and inside of its parent. Node 0 has none, and holds all.
-    fn stands(&self, node: u32) -> bool {
+    fn stands(&self, node: u32) -> bool
+        ensures { result ≡ s.stands self.now.block.now node }
+    {
         let (parent, end) = (self.parent_word(node), self.end_word(node));
         if node == 0 {
             return parent == NOTHING && end == self.nodes;
@@ -22,34 +18,22 @@ impl<'a> View<'a> {
         node < end && parent < node && end <= self.end_word(parent)
     }
 
-    // Whether the ends of values grow, up to all of their bytes.
-    fn values_end(&self, bytes: usize) -> bool {
-        let mut last = 0;
-        for row in 0..self.rows {
-            let end = self.value_end(row);
-            if end < last {
-                return false;
-            }
-            last = end;
-        }
-        last as usize == bytes
-    }
-
-    // The same of the texts of names.
-    fn names_end(&self, bytes: usize) -> bool {
-        let mut last = 0;
-        for name in 0..self.names {
-            let end = self.name_end(name);
-            if end < last {
-                return false;
-            }
-            last = end;
-        }
-        last as usize == bytes
+    // Whether a node stands in its parent, and has places and a name.
+    fn is_node_sound(&self, node: u32) -> bool
+        requires { node ≤ 4294967294 }
+        ensures { result ≡ s.is_node_sound self.now.block.now node }
+    {
+        let (next, name) = (node + 1, self.name(node));
+        self.stands(node)
+            && self.text_place(node) <= self.text_place(next)
+            && self.first_row(node) <= self.first_row(next)
+            && (name == NOTHING || name < self.names)
     }
 
     // Whether each node stands as it has to.
-    fn are_nodes_sound(&self) -> bool {
+    fn are_nodes_sound(&self) -> bool
+        ensures { result ≡ s.all_below (s.is_node_sound self.now.block.now) (b.nodes_in self.now.block.now) }
+    {
         for node in 0..self.nodes {
             if !self.is_node_sound(node) {
                 return false;
@@ -58,23 +42,57 @@ impl<'a> View<'a> {
         true
     }
 
+    // Whether the ends of values grow.
+    fn do_values_grow(&self) -> bool
+        ensures { result ≡ s.all_below (s.does_grow self.now.block.now (b.row_ends_at (b.nodes_in self.now.block.now) (b.rows_in self.now.block.now))) (b.rows_in self.now.block.now) }
+    {
+        for row in 0..self.rows {
+            if self.value_end(row) < self.value_begin(row) {
+                return false;
+            }
+        }
+        true
+    }
+
+    // The same of the texts of names.
+    fn do_names_grow(&self) -> bool
+        ensures { result ≡ s.all_below (s.does_grow self.now.block.now (b.name_ends_at self.now.block.now)) (b.names_in self.now.block.now) }
+    {
+        for name in 0..self.names {
+            if self.name_end(name) < self.name_begin(name) {
+                return false;
+            }
+        }
+        true
+    }
+
     // Whether node 0 is a root, from which texts and rows begin.
-    fn has_root(&self) -> bool {
+    fn has_root(&self) -> bool
+        ensures { result ≡ s.has_root self.now.block.now }
+    {
         let kind = self.kind(0);
         (kind == DOCUMENT || kind == FRAGMENT) && self.text_place(0) == 0 && self.first_row(0) == 0
     }
 
+    // Whether texts and rows, and the bytes of values and names, end where they have to.
+    fn do_ends_fit(&self) -> bool
+        ensures { result ≡ s.do_ends_fit self.now.block.now }
+    {
+        self.text_place(self.nodes) == word_at(self.block, 8)
+            && self.first_row(self.nodes) == self.rows
+            && self.value_begin(self.rows) == word_at(self.block, 7)
+            && self.name_begin(self.names) == word_at(self.block, 6)
+    }
+
     /// Whether a block is such as a tree is packed into: each read of it answers then, and a walk takes no more steps than it has
     /// words. Looks at each word once.
-    pub fn is_sound(&self) -> bool {
-        let names = self.values_begin.saturating_sub(self.names_begin);
-        let values = self.texts_begin.saturating_sub(self.values_begin);
-        let texts = self.block.len().saturating_sub(self.texts_begin);
+    pub fn is_sound(&self) -> bool
+        ensures { result ≡ s.is_sound self.now.block.now }
+    {
         self.has_root()
+            && self.do_ends_fit()
             && self.are_nodes_sound()
-            && self.text_place(self.nodes) as usize == texts
-            && self.first_row(self.nodes) == self.rows
-            && self.values_end(values)
-            && self.names_end(names)
+            && self.do_values_grow()
+            && self.do_names_grow()
     }
 }

@@ -277,11 +277,18 @@ impl<'a> View<'a> {
         )
     }
 
+    /// Where the value of a row begins.
+    pub(crate) fn value_begin(&self, row: u32) -> u32
+        ensures { result ≡ b.end_before self.now.block.now (b.row_ends_at (b.nodes_in self.now.block.now) (b.rows_in self.now.block.now)) row }
+    {
+        if row == 0 { 0 } else { self.value_end(row - 1) }
+    }
+
     fn value(&self, row: u32) -> Option<Span>
         ensures { result ≡ b.value_in self.now.block.now row }
     {
-        let from = if row == 0 { 0 } else { self.value_end(row - 1) };
-        between(self.block, self.values_begin, from, self.value_end(row))
+        let (from, to) = (self.value_begin(row), self.value_end(row));
+        between(self.block, self.values_begin, from, to)
     }
 
     /// A row of a node. Nothing where it has no such row.
@@ -333,6 +340,17 @@ impl<'a> View<'a> {
         )
     }
 
+    /// Where the text of a name begins.
+    pub(crate) fn name_begin(&self, name: u32) -> u32
+        ensures { result ≡ b.end_before self.now.block.now (b.name_ends_at self.now.block.now) name }
+    {
+        if name == 0 {
+            0
+        } else {
+            self.name_end(name - 1)
+        }
+    }
+
     /// The local name of a name. Nothing where there is no such name.
     pub fn name_text(&self, name: u32) -> Option<Span>
         ensures { result ≡ b.name_text_in self.now.block.now name }
@@ -340,12 +358,8 @@ impl<'a> View<'a> {
         if name >= self.names {
             return None;
         }
-        let from = if name == 0 {
-            0
-        } else {
-            self.name_end(name - 1)
-        };
-        between(self.block, self.names_begin, from, self.name_end(name))
+        let (from, to) = (self.name_begin(name), self.name_end(name));
+        between(self.block, self.names_begin, from, to)
     }
 
     /// The text of a span. It is empty where the span doesn't lie in the block, or isn't UTF-8.
