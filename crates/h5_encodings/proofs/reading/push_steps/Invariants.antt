@@ -1,0 +1,15 @@
+use Rattle.std.proofs.Common.{◌≡◌, ◌++◌, ◌||◌, drop, string_bytes}
+use Rattle.h5_encodings.specs.Decoding.{reading_of}
+use Rattle.h5_encodings.specs.Steps.{has_errors, kept_after, text_so_far}
+use Rattle.h5_encodings.proofs.reading.push_steps.Given as goal
+
+-- what was appended and what is left are the whole
+abbrev pub invariant-loop-byte : goal.invariant-loop-byte
+invariant-loop-byte l =
+    let r = reading_of l.encoding in
+    let left = drop l.byte-index l.bytes in
+    record {
+      text : string_bytes l.text ++ text_so_far r l.behind.kept left ≡ string_bytes l.fn.text ++ text_so_far r l.fn.kept l.bytes;
+      kept : kept_after r l.behind.kept left ≡ kept_after r l.fn.kept l.bytes;
+      errors : (l.behind.has_errors || has_errors r l.behind.kept left) ≡ has_errors r l.fn.kept l.bytes;
+    }

@@ -1,0 +1,62 @@
+-- Bytes in an encoding as a text, where more bytes may follow.
+use Rattle.std.specs.Prelude.{◌≡◌, ℕ, Bool, true, false, List, [], ◌++◌, if◌then◌else◌}
+use Rattle.std.specs.Str.Lossy.{utf8_lossy}
+use Rattle.h5_encodings.specs.declared.encoding.Encoding.{Encoding}
+use Rattle.h5_encodings.specs.declared.encoding.Encoding.TheVariants as e
+use Rattle.h5_encodings.specs.declared.steps.Kept.{Kept}
+use Rattle.h5_encodings.specs.declared.steps.Kept.TheVariants as k
+use Rattle.h5_encodings.specs.declared.steps.Shown.TheVariants.{Nothing}
+use Rattle.h5_encodings.specs.declared.steps.Step.{Step}
+use Rattle.h5_encodings.specs.Steps.{Reading, text_of}
+use Rattle.h5_encodings.specs.SingleByte.{single_byte_step}
+use Rattle.h5_encodings.specs.Utf16.{utf_16_step, utf_16_breaks_off}
+use Rattle.h5_encodings.specs.UserDefined.{user_defined_step}
+use Rattle.h5_encodings.specs.Replacement.{replacement_step}
+
+-- UTF-8 has a definition of its own, and isn't read in steps
+abbrev pub is_utf8 : Encoding → Bool
+is_utf8 e.Utf8 = true
+is_utf8 e.Replacement = false
+is_utf8 e.Utf16be = false
+is_utf8 e.Utf16le = false
+is_utf8 e.XUserDefined = false
+is_utf8 (e.SingleByte encoding) = false
+
+abbrev pub step_in : Encoding → Kept → ℕ → Step
+step_in e.Utf8 kept b = record { shown = Nothing; kept = kept }
+step_in e.Replacement kept b = replacement_step kept
+step_in e.Utf16be kept b = utf_16_step true kept b
+step_in e.Utf16le kept b = utf_16_step false kept b
+step_in e.XUserDefined kept b = user_defined_step b
+step_in (e.SingleByte encoding) kept b = single_byte_step encoding b
+
+abbrev pub breaks_off_in : Encoding → Kept → Bool
+breaks_off_in e.Utf8 kept = false
+breaks_off_in e.Replacement kept = false
+breaks_off_in e.Utf16be kept = utf_16_breaks_off kept
+breaks_off_in e.Utf16le kept = utf_16_breaks_off kept
+breaks_off_in e.XUserDefined kept = false
+breaks_off_in (e.SingleByte encoding) kept = false
+
+unfoldable pub reading_of : Encoding → Reading
+reading_of encoding = record { step = step_in encoding; breaks_off = breaks_off_in encoding }
+
+-- where a decoder stands: its encoding, the bytes of a character that isn't finished, in UTF-8, and what it keeps in others; and
+-- whether U+FFFD has stood for bytes, which isn't told of UTF-8
+pub record State : Type 0 where
+  pub encoding : Encoding
+  pub unfinished : List ℕ
+  pub kept : Kept
+  pub has_errors : Bool
+
+abbrev pub start : Encoding → State
+start encoding = record { encoding = encoding; unfinished = []; kept = k.Nothing; has_errors = false }
+
+-- THE TEXT of bytes from there on, up to their end
+abbrev pub text_from : State → List ℕ → List ℕ
+text_from s bs = if is_utf8 s.encoding then utf8_lossy (s.unfinished ++ bs) else text_of (reading_of s.encoding) s.kept bs
+
+-- bytes were read as a text: whatever follows them, their text is this one and then that of what follows
+pub record Decodes (old : State) (bs text : List ℕ) (new : State) : Type 0 where
+  pub encoding : new.encoding ≡ old.encoding
+  pub decodes : (more : List ℕ) → text_from old (bs ++ more) ≡ text ++ text_from new more

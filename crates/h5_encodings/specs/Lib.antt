@@ -1,0 +1,15 @@
+pub mod Names
+pub mod UpperHalf
+pub mod Labels
+pub mod Steps
+pub mod SingleByte
+pub mod Utf16
+pub mod UserDefined
+pub mod Replacement
+pub mod Decoding
+pub mod Cuts
+pub mod Attributes
+pub mod Said
+pub mod XmlDeclaration
+pub mod Prescan
+pub mod Sniffing

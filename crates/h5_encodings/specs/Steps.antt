@@ -1,0 +1,52 @@
+-- Bytes that are read as a text, a step for each byte, and an end.
+use Rattle.std.specs.Prelude.{◌≡◌, ℕ, Bool, true, false, ◌||◌, List, [], ◌∷◌, ◌++◌, encode_utf8, if◌then◌else◌}
+use Rattle.h5_encodings.specs.declared.steps.Kept.{Kept}
+use Rattle.h5_encodings.specs.declared.steps.Shown.{Shown}
+use Rattle.h5_encodings.specs.declared.steps.Shown.TheVariants.{Nothing, Character, Error, ErrorAnd}
+use Rattle.h5_encodings.specs.declared.steps.Step.{Step}
+
+-- how an encoding reads: what a byte shows behind what is kept, and whether the end comes inside a character
+pub record Reading : Type 0 where
+  pub step : Kept → ℕ → Step
+  pub breaks_off : Kept → Bool
+
+abbrev pub replacement_character : ℕ
+replacement_character = 0xFFFD
+
+-- what is shown, as a text
+abbrev pub text_shown : Shown → List ℕ
+text_shown Nothing = []
+text_shown (Character c) = encode_utf8 c
+text_shown Error = encode_utf8 replacement_character
+text_shown (ErrorAnd c) = encode_utf8 replacement_character ++ encode_utf8 c
+
+-- whether U+FFFD stands for bytes in it
+abbrev pub is_error : Shown → Bool
+is_error Nothing = false
+is_error (Character c) = false
+is_error Error = true
+is_error (ErrorAnd c) = true
+
+-- THE TEXT of bytes behind what is kept, up to their end
+abbrev pub text_of : Reading → Kept → List ℕ → List ℕ
+text_of r kept [] = if r.breaks_off kept then encode_utf8 replacement_character else []
+text_of r kept (b ∷ bs) = text_shown (r.step kept b).shown ++ text_of r (r.step kept b).kept bs
+
+-- the text of bytes as far as it is decided, whatever follows them
+abbrev pub text_so_far : Reading → Kept → List ℕ → List ℕ
+text_so_far r kept [] = []
+text_so_far r kept (b ∷ bs) = text_shown (r.step kept b).shown ++ text_so_far r (r.step kept b).kept bs
+
+-- what is kept behind them
+abbrev pub kept_after : Reading → Kept → List ℕ → Kept
+kept_after r kept [] = kept
+kept_after r kept (b ∷ bs) = kept_after r (r.step kept b).kept bs
+
+-- whether U+FFFD stands for bytes in that text
+abbrev pub has_errors : Reading → Kept → List ℕ → Bool
+has_errors r kept [] = false
+has_errors r kept (b ∷ bs) = is_error (r.step kept b).shown || has_errors r (r.step kept b).kept bs
+
+-- how bytes are cut doesn't matter: whatever follows, the text is that so far, and then the one of what follows
+abbrev pub CutsDontMatter : Type 0
+CutsDontMatter = (r : Reading) (kept : Kept) (bs more : List ℕ) → text_of r kept (bs ++ more) ≡ text_so_far r kept bs ++ text_of r (kept_after r kept bs) more

@@ -1,0 +1,105 @@
+//! A decoder of bytes that come in chunks.
+ghost use Rattle.std.specs.Prelude.{◌≡◌, ◌||◌, [], false, true, string_bytes, IfOk, OnOk, OnErr};
+ghost use Rattle.h5_encodings.specs.Decoding.{Decodes, is_utf8, reading_of, start, text_from};
+ghost use Rattle.h5_encodings.specs.Steps.{has_errors};
+
+use super::encoding::Encoding;
+use super::reading::{breaks_off, push_steps};
+use super::steps::Kept;
+use h5_reading::Utf8LossyDecoder;
+use std::alloc::{AllocError, Global};
+use std::marker::Model;
+
+fn is_utf8(encoding: Encoding) -> bool
+    ensures { result ≡ is_utf8 encoding }
+{
+    match encoding {
+        Encoding::Utf8 => true,
+        Encoding::Replacement
+        | Encoding::Utf16be
+        | Encoding::Utf16le
+        | Encoding::XUserDefined
+        | Encoding::SingleByte(_) => false,
+    }
+}
+
+/// A decoder of bytes that come in chunks: U+FFFD stands for each error, as the decoder of the encoding tells them (Encoding
+/// Standard, section 6, "decode without BOM"). How the bytes are cut into chunks doesn't matter. A byte order mark is a
+/// character like others, and stays.
+#[derive(Drop)]
+pub struct Decoder {
+    encoding: Encoding,
+    utf8: Utf8LossyDecoder,
+    kept: Kept,
+    has_errors: bool,
+    alloc: Global,
+}
+
+impl Model for Decoder {
+    ghost use Rattle.h5_encodings.specs.Decoding.{State};
+
+    ghost Value = { State };
+
+    ghost view = { λ decoder. record { encoding = decoder.encoding; unfinished = decoder.utf8; kept = decoder.kept; has_errors = decoder.has_errors } };
+}
+
+impl Decoder {
+    /// A decoder that took nothing yet. It takes no memory.
+    pub fn new(alloc: Global, encoding: Encoding) -> Decoder
+        ensures { result ≡ start encoding }
+    {
+        Decoder {
+            encoding,
+            utf8: Utf8LossyDecoder::new(alloc),
+            kept: Kept::Nothing,
+            has_errors: false,
+            alloc,
+        }
+    }
+
+    /// The encoding that it reads.
+    pub fn encoding(&self) -> Encoding
+        ensures { result ≡ self.now.encoding }
+    {
+        self.encoding
+    }
+
+    /// Whether U+FFFD has stood for bytes that came, as far as their text is decided. It isn't told of UTF-8: `false` there.
+    pub fn has_errors(&self) -> bool
+        ensures { result ≡ self.now.has_errors }
+    {
+        self.has_errors
+    }
+
+    /// The text of the next bytes, as far as it is decided. Where it answers `AllocError`, nothing has changed.
+    pub fn decode(&mut self, bytes: &[u8]) -> Result<String, AllocError>
+        ensures decoded { IfOk result (λ text. Decodes self.old bytes.now (string_bytes text) self.new) }
+        ensures errors { OnOk result (is_utf8 self.old.encoding ≡ false →
+            self.new.has_errors ≡ (self.old.has_errors || has_errors (reading_of self.old.encoding) self.old.kept bytes.now)) }
+        ensures utf8 { OnOk result (is_utf8 self.old.encoding ≡ true → self.new.has_errors ≡ self.old.has_errors) }
+        ensures same { OnErr result (self.new ≡ self.old) }
+    {
+        if is_utf8(self.encoding) {
+            return self.utf8.decode(bytes);
+        }
+        let mut text = String::with_capacity(self.alloc, bytes.len())?;
+        let behind = push_steps(&mut text, self.encoding, self.kept, bytes)?;
+        self.kept = behind.kept;
+        self.has_errors = self.has_errors || behind.has_errors;
+        Ok(text)
+    }
+
+    /// The text of what is left at the end: U+FFFD where bytes are, and else none.
+    pub fn finish(self) -> &'static str
+        ensures { result.now ≡ text_from self [] }
+    {
+        if is_utf8(self.encoding) {
+            return self.utf8.finish();
+        }
+        if breaks_off(self.encoding, self.kept) {
+            "\u{FFFD}"
+        } else {
+            ""
+        }
+    }
+}

@@ -1,0 +1,100 @@
+//! Bytes that are read in steps.
+ghost use Rattle.std.specs.Prelude.{◌≡◌, ◌++◌, string_bytes, IfOk};
+ghost use Rattle.h5_encodings.specs.Decoding.{reading_of};
+ghost use Rattle.h5_encodings.specs.Steps.{has_errors, is_error, kept_after, text_shown, text_so_far};
+
+use super::encoding::Encoding;
+use super::replacement::replacement_step;
+use super::single_byte::single_byte_step;
+use super::steps::{Kept, Shown, Step};
+use super::user_defined::user_defined_step;
+use super::utf16::{utf_16_breaks_off, utf_16_step};
+use std::alloc::AllocError;
+
+// The step of a byte. UTF-8 has none, and shows nothing here.
+#[tactic(auto, unfolding(crate::specs::Decoding::reading_of))]
+fn step(encoding: Encoding, kept: Kept, byte: u8) -> Step
+    ensures { result ≡ (reading_of encoding).step kept byte }
+{
+    match encoding {
+        Encoding::Utf8 => Step {
+            shown: Shown::Nothing,
+            kept,
+        },
+        Encoding::Replacement => replacement_step(kept),
+        Encoding::Utf16be => utf_16_step(true, kept, byte),
+        Encoding::Utf16le => utf_16_step(false, kept, byte),
+        Encoding::XUserDefined => user_defined_step(byte),
+        Encoding::SingleByte(single) => single_byte_step(single, byte),
+    }
+}
+
+/// Whether the end comes inside a character, behind what is kept.
+#[tactic(auto, unfolding(crate::specs::Decoding::reading_of))]
+pub fn breaks_off(encoding: Encoding, kept: Kept) -> bool
+    ensures { result ≡ (reading_of encoding).breaks_off kept }
+{
+    match encoding {
+        Encoding::Utf16be | Encoding::Utf16le => utf_16_breaks_off(kept),
+        Encoding::Utf8 | Encoding::Replacement | Encoding::XUserDefined | Encoding::SingleByte(_) =>
+            false,
+    }
+}
+
+// Whether U+FFFD stands for bytes in it.
+fn is_error(shown: Shown) -> bool
+    ensures { result ≡ is_error shown }
+{
+    match shown {
+        Shown::Nothing | Shown::Character(_) => false,
+        Shown::Error | Shown::ErrorAnd(_) => true,
+    }
+}
+
+// Appends what is shown.
+fn push_shown(text: &mut String, shown: Shown) -> Result<(), AllocError>
+    ensures { IfOk result (λ _. string_bytes text.new ≡ string_bytes text.old ++ text_shown shown) }
+{
+    match shown {
+        Shown::Nothing => Ok(()),
+        Shown::Character(character) => text.push(character),
+        Shown::Error => text.push('\u{FFFD}'),
+        Shown::ErrorAnd(character) => {
+            text.push('\u{FFFD}')?;
+            text.push(character)
+        }
+    }
+}
+
+/// What is kept behind bytes, and whether U+FFFD stands for some of them.
+#[derive(Clone, Copy, Debug, PartialEq, Eq)]
+pub struct Behind {
+    pub kept: Kept,
+    pub has_errors: bool,
+}
+
+/// Appends the text of bytes as far as it is decided.
+pub fn push_steps(
+    text: &mut String,
+    encoding: Encoding,
+    kept: Kept,
+    bytes: &[u8],
+) -> Result<Behind, AllocError>
+    ensures text { IfOk result (λ _. string_bytes text.new ≡ string_bytes text.old ++ text_so_far (reading_of encoding) kept bytes.now) }
+    ensures kept { IfOk result (λ behind. behind.kept ≡ kept_after (reading_of encoding) kept bytes.now) }
+    ensures errors { IfOk result (λ behind. behind.has_errors ≡ has_errors (reading_of encoding) kept bytes.now) }
+{
+    let mut behind = Behind {
+        kept,
+        has_errors: false,
+    };
+    for &byte in bytes {
+        let next = step(encoding, behind.kept, byte);
+        push_shown(text, next.shown)?;
+        behind = Behind {
+            kept: next.kept,
+            has_errors: behind.has_errors || is_error(next.shown),
+        };
+    }
+    Ok(behind)
+}

@@ -1,0 +1,33 @@
+//! What a byte shows, and what is kept for the bytes behind it.
+
+/// What a decoder keeps of bytes whose text isn't decided yet.
+#[derive(Clone, Copy, Debug, PartialEq, Eq)]
+pub enum Kept {
+    Nothing,
+    /// The first byte of a code unit, in UTF-16.
+    Half(u8),
+    /// A leading surrogate, in UTF-16.
+    Leading(u16),
+    /// A leading surrogate, and the first byte of the code unit behind it.
+    LeadingHalf(u16, u8),
+    /// That the one error of "replacement" has been told.
+    Told,
+}
+
+/// What a byte shows.
+#[derive(Clone, Copy, Debug, PartialEq, Eq)]
+pub enum Shown {
+    Nothing,
+    Character(char),
+    /// U+FFFD, which stands for bytes that are no character.
+    Error,
+    /// That, and a character behind it.
+    ErrorAnd(char),
+}
+
+/// A step: what a byte shows, and what is kept behind it.
+#[derive(Clone, Copy, Debug, PartialEq, Eq)]
+pub struct Step {
+    pub shown: Shown,
+    pub kept: Kept,
+}

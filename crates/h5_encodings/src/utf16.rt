@@ -1,0 +1,102 @@
+//! UTF-16.
+ghost use Rattle.std.specs.Prelude.{◌≡◌};
+ghost use Rattle.h5_encodings.specs.Utf16.{behind_leading, of_unit, pair, unit_of, utf_16_breaks_off, utf_16_step};
+
+use super::steps::{Kept, Shown, Step};
+
+// The code unit of two bytes.
+fn unit_of(is_big_endian: bool, first: u8, second: u8) -> u16
+    ensures { result ≡ unit_of is_big_endian first second }
+{
+    if is_big_endian {
+        first as u16 * 256 + second as u16
+    } else {
+        second as u16 * 256 + first as u16
+    }
+}
+
+// A code unit that nothing is kept before.
+fn of_unit(unit: u16) -> Step
+    ensures { result ≡ of_unit unit }
+{
+    match char::from_u32(unit as u32) {
+        Some(character) => Step {
+            shown: Shown::Character(character),
+            kept: Kept::Nothing,
+        },
+        None => {
+            if unit < 0xdc00 {
+                Step {
+                    shown: Shown::Nothing,
+                    kept: Kept::Leading(unit),
+                }
+            } else {
+                Step {
+                    shown: Shown::Error,
+                    kept: Kept::Nothing,
+                }
+            }
+        }
+    }
+}
+
+// The character of two surrogates.
+fn pair(leading: u16, trailing: u16) -> char
+    ensures { result ≡ pair leading trailing }
+{
+    let high = (leading % 1024) as u32 * 1024;
+    let low = (trailing % 1024) as u32;
+    char::from_u32(0x10000 + high + low).unwrap()
+}
+
+// A code unit behind a leading surrogate.
+fn behind_leading(leading: u16, unit: u16) -> Step
+    ensures { result ≡ behind_leading leading unit }
+{
+    if 0xdc00 <= unit && unit <= 0xdfff {
+        return Step {
+            shown: Shown::Character(pair(leading, unit)),
+            kept: Kept::Nothing,
+        };
+    }
+    match char::from_u32(unit as u32) {
+        Some(character) => Step {
+            shown: Shown::ErrorAnd(character),
+            kept: Kept::Nothing,
+        },
+        None => Step {
+            shown: Shown::Error,
+            kept: Kept::Leading(unit),
+        },
+    }
+}
+
+/// The step of a byte in UTF-16 (Encoding Standard, section 14.2.1, "shared UTF-16 decoder").
+pub fn utf_16_step(is_big_endian: bool, kept: Kept, byte: u8) -> Step
+    ensures { result ≡ utf_16_step is_big_endian kept byte }
+{
+    match kept {
+        Kept::Nothing | Kept::Told => Step {
+            shown: Shown::Nothing,
+            kept: Kept::Half(byte),
+        },
+        Kept::Half(first) => of_unit(unit_of(is_big_endian, first, byte)),
+        Kept::Leading(leading) => Step {
+            shown: Shown::Nothing,
+            kept: Kept::LeadingHalf(leading, byte),
+        },
+        Kept::LeadingHalf(leading, first) => {
+            behind_leading(leading, unit_of(is_big_endian, first, byte))
+        }
+    }
+}
+
+/// Whether the end comes inside a character in UTF-16 (Encoding Standard, section 14.2.1, "shared UTF-16 decoder").
+pub fn utf_16_breaks_off(kept: Kept) -> bool
+    ensures { result ≡ utf_16_breaks_off kept }
+{
+    match kept {
+        Kept::Nothing | Kept::Told => false,
+        Kept::Half(_) | Kept::Leading(_) | Kept::LeadingHalf(_, _) => true,
+    }
+}

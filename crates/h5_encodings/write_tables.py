@@ -1,0 +1,196 @@
+#!/usr/bin/env python3
+"""Writes the encodings, their labels and the characters of the single-byte encodings out of encodings.txt.
+
+    write_tables.py           writes the files that differ
+    write_tables.py --check   writes nothing; the status is 1 where a file differs
+
+All of src/encoding.rt, src/labels.rt, src/upper_halves.rt, specs/Names.antt and specs/UpperHalf.antt is written here.
+"""
+import os
+import re
+import sys
+
+CRATE = os.path.dirname(os.path.abspath(__file__))
+WIDTH = 118
+
+ENCODING_HEAD = """//! The encodings. `write_tables.py` writes this file.
+ghost use Rattle.std.specs.Prelude.{◌≡◌};
+ghost use Rattle.h5_encodings.specs.Names.{name_of, single_byte_name};
+
+/// An encoding with one character for each byte (Encoding Standard, section 9, "Legacy single-byte encodings").
+#[derive(Clone, Copy, Debug, PartialEq, Eq)]
+pub enum SingleByte {
+"""
+
+ENCODING_MIDDLE = """}
+
+/// An encoding (Encoding Standard, section 4.2, "Names and labels").
+#[derive(Clone, Copy, Debug, PartialEq, Eq)]
+pub enum Encoding {
+"""
+
+LABELS_HEAD = """//! The labels of the encodings. `write_tables.py` writes this file.
+use super::encoding::{Encoding, SingleByte};
+
+/// The labels, in lower case (Encoding Standard, section 4.2, "Names and labels").
+#[rattlefmt::skip]
+"""
+
+HALVES_HEAD = """//! The characters of the bytes from 128 on in the single-byte encodings. U+FFFD stands where there is no character.
+//! `write_tables.py` writes this file.
+ghost use Rattle.std.specs.Prelude.{◌≡◌};
+ghost use Rattle.h5_encodings.specs.UpperHalf.{upper_half};
+
+use super::encoding::SingleByte;
+
+"""
+
+HALF_OF = """/// The characters of the bytes from 128 on (Encoding Standard, section 9, "Legacy single-byte encodings").
+#[tactic(auto, unfolding(crate::specs::UpperHalf::upper_half))]
+pub fn upper_half(encoding: SingleByte) -> &'static [char; 128]
+    ensures { result.now ≡ upper_half encoding }
+{
+    match encoding {
+"""
+
+
+def read():
+    """The encodings in their order: the name, the labels, and the characters of the upper half, if it has one."""
+    encodings = []
+    for line in open(os.path.join(CRATE, "encodings.txt"), encoding="utf-8"):
+        words = line.split()
+        if not words or words[0] == "#":
+            continue
+        if words[0] == "encoding":
+            encodings.append((words[1], [], []))
+        elif words[0] == "labels":
+            encodings[-1][1].extend(words[1:])
+        elif words[0] == "half":
+            encodings[-1][2].extend(int(word, 16) for word in words[1:])
+        else:
+            sys.exit(f"encodings.txt: a line begins with {words[0]}")
+    for name, labels, half in encodings:
+        if len(half) not in (0, 128):
+            sys.exit(f"encodings.txt: {name} has {len(half)} characters")
+    return encodings
+
+
+def variant(name):
+    """The name as that of a variant: digits are kept apart by an underscore."""
+    word = "".join(part[:1].upper() + part[1:].lower() for part in re.split("[-_]", name))
+    return re.sub(r"8859", "8859_", word) if name.startswith("ISO-8859-") else word
+
+
+def constant(name):
+    return name.upper().replace("-", "_")
+
+
+def filled(words):
+    lines, line = [], "   "
+    for word in words:
+        if len(line) + 1 + len(word) > WIDTH:
+            lines.append(line)
+            line = "   "
+        line += " " + word
+    return "\n".join(lines + [line]) + "\n"
+
+
+def listed(names):
+    return ", ".join(names)
+
+
+def value(name, half):
+    return f"Encoding::SingleByte(SingleByte::{variant(name)})" if half else f"Encoding::{variant(name)}"
+
+
+def encoding_file(encodings):
+    singles = [name for name, _, half in encodings if half]
+    others = [name for name, _, half in encodings if not half]
+    out = ENCODING_HEAD + "".join(f"    {variant(name)},\n" for name in singles) + ENCODING_MIDDLE
+    for name in others:
+        out += f"    {variant(name)},\n"
+    out += "    SingleByte(SingleByte),\n}\n\nimpl SingleByte {\n    /// Its name, as the standard writes it.\n    pub fn name(self) -> &'static str\n"
+    out += "        ensures { result.now ≡ single_byte_name self }\n    {\n        match self {\n"
+    out += "".join(f'            SingleByte::{variant(name)} => "{name}",\n' for name in singles)
+    out += "        }\n    }\n}\n\nimpl Encoding {\n    /// Its name, as the standard writes it.\n    pub fn name(self) -> &'static str\n"
+    out += "        ensures { result.now ≡ name_of self }\n    {\n        match self {\n"
+    out += "".join(f'            Encoding::{variant(name)} => "{name}",\n' for name in others)
+    return out + "            Encoding::SingleByte(encoding) => encoding.name(),\n        }\n    }\n}\n"
+
+
+def names_file(encodings):
+    singles = [name for name, _, half in encodings if half]
+    others = [name for name, _, half in encodings if not half]
+    out = "-- The names of the encodings (Encoding Standard, section 4.2, \"Names and labels\"). `write_tables.py` writes this file.\n"
+    out += "use Rattle.std.specs.Prelude.{ℕ, List, codes}\n"
+    out += "use Rattle.h5_encodings.specs.declared.encoding.Encoding.{Encoding}\n"
+    out += f"use Rattle.h5_encodings.specs.declared.encoding.Encoding.TheVariants as e\n"
+    out += "use Rattle.h5_encodings.specs.declared.encoding.SingleByte.{SingleByte}\n"
+    out += f"use Rattle.h5_encodings.specs.declared.encoding.SingleByte.TheVariants.{{{listed(map(variant, singles))}}}\n\n"
+    out += "abbrev pub single_byte_name : SingleByte → List ℕ\n"
+    out += "".join(f'single_byte_name {variant(name)} = codes "{name}"\n' for name in singles)
+    out += "\nabbrev pub name_of : Encoding → List ℕ\n"
+    out += "".join(f'name_of e.{variant(name)} = codes "{name}"\n' for name in others)
+    return out + "name_of (e.SingleByte encoding) = single_byte_name encoding\n"
+
+
+def labels_file(encodings):
+    rows = [(label, value(name, half)) for name, labels, half in encodings for label in labels]
+    out = LABELS_HEAD + f"pub static LABELS: [(&str, Encoding); {len(rows)}] = [\n"
+    return out + "".join(f'    ("{label}", {encoding}),\n' for label, encoding in rows) + "];\n"
+
+
+def halves_of(encodings):
+    """Each upper half once, and of each single-byte encoding the name of its own."""
+    first, names = {}, {}
+    for name, _, half in encodings:
+        if half:
+            names[name] = first.setdefault(tuple(half), constant(name))
+    return first, names
+
+
+def halves_file(encodings):
+    first, names = halves_of(encodings)
+    out = HALVES_HEAD
+    for half, name in first.items():
+        out += f"#[rattlefmt::skip]\npub static {name}: [char; 128] = [\n"
+        out += filled(f"'\\u{{{character:04X}}}'," for character in half) + "];\n\n"
+    out += HALF_OF + "".join(f"        SingleByte::{variant(name)} => &{half},\n" for name, half in names.items())
+    return out + "    }\n}\n"
+
+
+def half_file(encodings):
+    first, names = halves_of(encodings)
+    out = "-- The characters of the bytes from 128 on in the single-byte encodings: the tables that the code reads. It stays closed, so that\n"
+    out += "-- no proof computes with them. `write_tables.py` writes this file.\n"
+    out += "use Rattle.std.specs.Prelude.{ℕ, List}\n"
+    out += "use Rattle.h5_encodings.specs.declared.encoding.SingleByte.{SingleByte}\n"
+    out += f"use Rattle.h5_encodings.specs.declared.encoding.SingleByte.TheVariants.{{{listed(map(variant, names))}}}\n"
+    out += f"use Rattle.h5_encodings.specs.declared.upper_halves.TheConstants.{{{listed(first.values())}}}\n\n"
+    out += "unfoldable pub upper_half : SingleByte → List ℕ\n"
+    return out + "".join(f"upper_half {variant(name)} = {half}\n" for name, half in names.items())
+
+
+def main():
+    encodings = read()
+    files = {
+        "src/encoding.rt": encoding_file(encodings),
+        "src/labels.rt": labels_file(encodings),
+        "src/upper_halves.rt": halves_file(encodings),
+        "specs/Names.antt": names_file(encodings),
+        "specs/UpperHalf.antt": half_file(encodings),
+    }
+    differ = []
+    for path, text in files.items():
+        whole = os.path.join(CRATE, path)
+        old = open(whole, encoding="utf-8").read() if os.path.exists(whole) else None
+        if old != text:
+            differ.append(path)
+            if "--check" not in sys.argv[1:]:
+                with open(whole, "w", encoding="utf-8") as file:
+                    file.write(text)
+    if "--check" in sys.argv[1:] and differ:
+        sys.exit("differs from what write_tables.py writes: " + " ".join(differ))
+
+
+main()
