@@ -1,8 +1,7 @@
 -- Where an element leads to in a forest (DOM standard, section 1.1, "Trees"). Of nodes that are no elements nothing is asked.
 use Rattle.std.specs.Prelude.{ℕ, Bool, true, false, if◌then◌else◌, List, [], ◌∷◌, Option, None, Some, is_some}
-use Rattle.std.specs.List.{filter, flat_map}
-use Rattle.std.specs.Option.{option_and_then, option_map_or, option_to_list}
-use Prim.Native.Nat.{zero, suc}
+use Rattle.std.specs.List.{filter}
+use Rattle.std.specs.Option.{option_and_then, option_to_list}
 use Rattle.h5_names.specs.declared.qualified.QualName.{QualName}
 use Rattle.h5_interface.specs.Forest.{Child, ChildNode, ChildText, DocumentNode, Forest, Kind, children_of, kind_of, nodes}
 use Rattle.h5_arena.specs.ArenaModel.{name_of_kind}

@@ -155,8 +155,8 @@ pub(crate) fn is_scope(query: &Query<'_>, id: NodeId) -> bool
     }
 }
 
-// One more, where it counts.
-fn more(count: usize, counts: bool) -> usize
+/// One more, where it counts.
+pub(crate) fn more(count: usize, counts: bool) -> usize
     requires { count < 18446744073709551615 }
     ensures { result ≡ count + cond counts 1 0 }
 {
@@ -177,8 +177,8 @@ fn count_alike(query: &Query<'_>, id: NodeId, list: &[NodeId]) -> usize
     count
 }
 
-// Whether two elements have one name.
-fn is_alike(query: &Query<'_>, id: NodeId, other: NodeId) -> bool
+/// Whether two elements have one name.
+pub(crate) fn is_alike(query: &Query<'_>, id: NodeId, other: NodeId) -> bool
     requires held { IsHeld query.now.arena.now id }
     requires other_held { IsHeld query.now.arena.now other }
     ensures { result ≡ h.is_alike (seen_by query.now) (quirky_by query.now) (scope_by query.now) id.index other.index }
@@ -189,6 +189,7 @@ fn is_alike(query: &Query<'_>, id: NodeId, other: NodeId) -> bool
     }
 }
 
+/// Whether the index of an element among those siblings that have its name is one of these.
 pub(crate) fn is_nth_of_type(
     query: &Query<'_>,
     id: NodeId,
@@ -237,9 +238,9 @@ pub(crate) fn holds(formula: &Formula, query: &Query<'_>, id: NodeId) -> Result<
     }
 }
 
-// Whether this holds of an element, and of so many of its siblings.
+/// Whether this holds of an element, and of so many of its siblings.
 #[cycle(holds)]
-fn is_nth(
+pub(crate) fn is_nth(
     of: &Formula,
     query: &Query<'_>,
     id: NodeId,

@@ -1,8 +1,12 @@
 //! The text of a selector (Selectors Level 4, sections 4.1 and 17). Each combinator becomes a way: read backwards, or, inside `:has()`,
 //! forwards.
-ghost use Rattle.std.specs.Prelude.{◌≡◌, ◌<◌, ◌≤◌, IfErr, IfOk, OnOk, length};
+ghost use Rattle.std.specs.Prelude.{◌≡◌, ◌<◌, ◌≤◌, IfErr, IfNone, IfOk, MatchOption, OnOk, Some, None, length, option_map};
 ghost use Rattle.std.specs.Str.{chars};
+ghost use Rattle.h5_selectors.specs.Asking.{AskAnd, AskLeads, AskNot, AskNth, AskNthOfType, AskOr, asked, back, both, combinator_at, end_child, first, forth, function_of, leading_at, plain_of, sign_at, type_at};
 ghost use Rattle.h5_selectors.specs.Fault.{IsWithin};
+ghost use Rattle.h5_selectors.specs.Reads.{Reads};
+ghost use Rattle.h5_selectors.specs.Tokens.{behind_blanks, reading};
+ghost use Rattle.h5_selectors.specs.declared.formula.Side.TheVariants.{First, Last};
 
 use super::attributes::written;
 use super::fault::{Problem, Refusal, SelectorFault};
@@ -20,36 +24,50 @@ const FIRST: AnPlusB = AnPlusB {
     is_under: false,
 };
 
-fn boxed(alloc: Global, formula: Formula) -> Result<Box<Formula>, AllocError> {
+fn boxed(alloc: Global, formula: Formula) -> Result<Box<Formula>, AllocError>
+    ensures { IfOk result (λ kept. kept.value ≡ formula) }
+{
     let kept = Box::new(alloc, formula)?;
     Ok(kept)
 }
 
-fn negated(alloc: Global, formula: Formula) -> Result<Formula, AllocError> {
+fn negated(alloc: Global, formula: Formula) -> Result<Formula, AllocError>
+    ensures { IfOk result (λ made. asked made ≡ AskNot (asked formula)) }
+{
     Ok(Formula::Not(boxed(alloc, formula)?))
 }
 
-fn both(alloc: Global, one: Formula, other: Formula) -> Result<Formula, AllocError> {
+fn both(alloc: Global, one: Formula, other: Formula) -> Result<Formula, AllocError>
+    ensures { IfOk result (λ made. asked made ≡ both (asked one) (asked other)) }
+{
     match one {
         Formula::Any => Ok(other),
         _ => Ok(Formula::And(boxed(alloc, one)?, boxed(alloc, other)?)),
     }
 }
 
-fn either(alloc: Global, one: Formula, other: Formula) -> Result<Formula, AllocError> {
+fn either(alloc: Global, one: Formula, other: Formula) -> Result<Formula, AllocError>
+    ensures { IfOk result (λ made. asked made ≡ AskOr (asked one) (asked other)) }
+{
     Ok(Formula::Or(boxed(alloc, one)?, boxed(alloc, other)?))
 }
 
-fn along(alloc: Global, way: Way, formula: Formula) -> Result<Formula, AllocError> {
+fn along(alloc: Global, way: Way, formula: Formula) -> Result<Formula, AllocError>
+    ensures { IfOk result (λ made. asked made ≡ AskLeads way (asked formula)) }
+{
     Ok(Formula::Leads(way, boxed(alloc, formula)?))
 }
 
-fn nth(alloc: Global, indices: AnPlusB, side: Side, of: Formula) -> Result<Formula, AllocError> {
+fn nth(alloc: Global, indices: AnPlusB, side: Side, of: Formula) -> Result<Formula, AllocError>
+    ensures { IfOk result (λ made. asked made ≡ AskNth indices side (asked of)) }
+{
     Ok(Formula::Nth(indices, side, boxed(alloc, of)?))
 }
 
 // The first child, or the last one.
-fn first_child(alloc: Global, side: Side) -> Result<Formula, AllocError> {
+fn first_child(alloc: Global, side: Side) -> Result<Formula, AllocError>
+    ensures { IfOk result (λ made. asked made ≡ end_child side) }
+{
     nth(alloc, FIRST, side, Formula::Any)
 }
 
@@ -63,7 +81,9 @@ enum Combinator {
 }
 
 impl Combinator {
-    fn back(self) -> Way {
+    fn back(self) -> Way
+        ensures { result ≡ back self }
+    {
         match self {
             Combinator::Descendant => Way::Ancestor,
             Combinator::Child => Way::Parent,
@@ -72,7 +92,9 @@ impl Combinator {
         }
     }
 
-    fn forth(self) -> Way {
+    fn forth(self) -> Way
+        ensures { result ≡ forth self }
+    {
         match self {
             Combinator::Descendant => Way::Below,
             Combinator::Child => Way::Child,
@@ -84,7 +106,10 @@ impl Combinator {
 
 impl<'a> Scan<'a> {
     // A type or `*`, if one stands here.
-    fn type_or_any(&mut self, alloc: Global) -> Result<Option<Formula>, Refusal> {
+    #[tactic(auto, unfolding(crate::specs::Asking::type_at))]
+    fn type_or_any(&mut self, alloc: Global) -> Result<Option<Formula>, Refusal>
+        ensures { Reads (option_map asked) result self.new.rest.now (type_at self.old.rest.now) }
+    {
         if self.is_at_name() {
             let name = self.name_rest(alloc)?;
             self.no_namespace()?;
@@ -97,15 +122,15 @@ impl<'a> Scan<'a> {
         Ok(None)
     }
 
-    // A combinator, if one stands here.
-    fn combinator(&mut self) -> Option<Combinator> {
-        let is_blank = self.skip_blanks();
+    // `>`, `+` or `~`, and the blanks behind it, if one stands here.
+    fn sign(&mut self) -> Option<Combinator>
+        ensures sign { MatchOption result (sign_at self.old.rest.now ≡ None) (λ c. sign_at self.old.rest.now ≡ Some (reading c self.new.rest.now)) }
+        ensures none { IfNone result (self.new.rest.now ≡ self.old.rest.now) }
+    {
         let found = match self.peek() {
             Some('>') => Combinator::Child,
             Some('+') => Combinator::NextSibling,
             Some('~') => Combinator::SubsequentSibling,
-            None | Some(',') | Some(')') => return None,
-            _ if is_blank => return Some(Combinator::Descendant),
             _ => return None,
         };
         self.skip();
@@ -113,40 +138,63 @@ impl<'a> Scan<'a> {
         Some(found)
     }
 
-    // A combinator in front of a selector. It is a descendant's where none is written.
-    fn leading_combinator(&mut self) -> Combinator {
-        self.skip_blanks();
+    // A combinator, if one stands here.
+    #[tactic(auto, unfolding(crate::specs::Asking::combinator_at))]
+    fn combinator(&mut self) -> Option<Combinator>
+        ensures found { MatchOption result (combinator_at self.old.rest.now ≡ None) (λ c. combinator_at self.old.rest.now ≡ Some (reading c self.new.rest.now)) }
+        ensures none { IfNone result (self.new.rest.now ≡ behind_blanks self.old.rest.now) }
+    {
+        let is_blank = self.skip_blanks();
+        if let Some(found) = self.sign() {
+            return Some(found);
+        }
         match self.peek() {
-            Some('>') | Some('+') | Some('~') => self
-                .combinator()
-                .unwrap_or(Combinator::Descendant),
-            _ => Combinator::Descendant,
+            None | Some(',') | Some(')') => None,
+            _ if is_blank => Some(Combinator::Descendant),
+            _ => None,
+        }
+    }
+
+    // A combinator in front of a selector. It is a descendant's where none is written.
+    #[tactic(auto, unfolding(crate::specs::Asking::leading_at))]
+    fn leading_combinator(&mut self) -> Combinator
+        ensures found { result ≡ (leading_at self.old.rest.now).value }
+        ensures rest { self.new.rest.now ≡ (leading_at self.old.rest.now).rest }
+    {
+        self.skip_blanks();
+        match self.sign() {
+            Some(found) => found,
+            None => Combinator::Descendant,
         }
     }
 }
 
 // A pseudo-class without arguments, by its name in lower case.
-fn plain(alloc: Global, name: &str, begin: Scan<'_>) -> Result<Formula, Refusal> {
-    let formula = match name {
-        "root" => Formula::Root,
-        "scope" => Formula::Scope,
-        "empty" => Formula::Empty,
-        "any-link" | "link" => Formula::Link,
-        "first-child" => first_child(alloc, Side::First)?,
-        "last-child" => first_child(alloc, Side::Last)?,
-        "only-child" => only_child(alloc)?,
-        "first-of-type" => Formula::NthOfType(FIRST, Side::First),
-        "last-of-type" => Formula::NthOfType(FIRST, Side::Last),
-        "only-of-type" => only_of_type(alloc)?,
+#[tactic(auto, unfolding(crate::specs::Asking::plain_of))]
+fn plain(alloc: Global, name: &str, begin: Scan<'_>) -> Result<Formula, Refusal>
+    ensures { IfOk result (λ made. plain_of name.now ≡ Some (asked made)) }
+{
+    match name {
+        "root" => Ok(Formula::Root),
+        "scope" => Ok(Formula::Scope),
+        "empty" => Ok(Formula::Empty),
+        "any-link" | "link" => Ok(Formula::Link),
+        "first-child" => Ok(first_child(alloc, Side::First)?),
+        "last-child" => Ok(first_child(alloc, Side::Last)?),
+        "only-child" => Ok(only_child(alloc)?),
+        "first-of-type" => Ok(Formula::NthOfType(FIRST, Side::First)),
+        "last-of-type" => Ok(Formula::NthOfType(FIRST, Side::Last)),
+        "only-of-type" => Ok(only_of_type(alloc)?),
         "before" | "after" | "first-line" | "first-letter" => {
-            return Err(begin.refusal(Problem::PseudoElement));
+            Err(begin.refusal(Problem::PseudoElement))
         }
-        _ => return Err(begin.refusal(Problem::PseudoClass)),
-    };
-    Ok(formula)
+        _ => Err(begin.refusal(Problem::PseudoClass)),
+    }
 }
 
-fn only_child(alloc: Global) -> Result<Formula, AllocError> {
+fn only_child(alloc: Global) -> Result<Formula, AllocError>
+    ensures { IfOk result (λ made. asked made ≡ AskAnd (end_child First) (end_child Last)) }
+{
     both(
         alloc,
         first_child(alloc, Side::First)?,
@@ -154,12 +202,41 @@ fn only_child(alloc: Global) -> Result<Formula, AllocError> {
     )
 }
 
-fn only_of_type(alloc: Global) -> Result<Formula, AllocError> {
+fn only_of_type(alloc: Global) -> Result<Formula, AllocError>
+    ensures { IfOk result (λ made. asked made ≡ AskAnd (AskNthOfType first First) (AskNthOfType first Last)) }
+{
     both(
         alloc,
         Formula::NthOfType(FIRST, Side::First),
         Formula::NthOfType(FIRST, Side::Last),
     )
+}
+
+// A pseudo-class that has arguments.
+#[derive(Clone, Copy)]
+enum Function {
+    Not,
+    Is,
+    Has,
+    NthChild(Side),
+    NthOfType(Side),
+}
+
+// By its name in lower case.
+#[tactic(auto, unfolding(crate::specs::Asking::function_of))]
+fn function_of(name: &str) -> Option<Function>
+    ensures { result ≡ function_of name.now }
+{
+    match name {
+        "not" => Some(Function::Not),
+        "is" | "where" => Some(Function::Is),
+        "has" => Some(Function::Has),
+        "nth-child" => Some(Function::NthChild(Side::First)),
+        "nth-last-child" => Some(Function::NthChild(Side::Last)),
+        "nth-of-type" => Some(Function::NthOfType(Side::First)),
+        "nth-last-of-type" => Some(Function::NthOfType(Side::Last)),
+        _ => None,
+    }
 }
 
 // What is being read, and how many parts may still be.
@@ -189,15 +266,15 @@ impl<'a> Parser<'a> {
         ensures { self.new.parts ≤ self.old.parts }
     {
         let alloc = self.alloc;
-        match name {
-            "not" => Ok(negated(alloc, self.list(false)?)?),
-            "is" | "where" => self.list(true),
-            "has" => self.has(begin),
-            "nth-child" => self.nth_child(Side::First),
-            "nth-last-child" => self.nth_child(Side::Last),
-            "nth-of-type" => Ok(Formula::NthOfType(self.scan.indices(alloc)?, Side::First)),
-            "nth-last-of-type" => Ok(Formula::NthOfType(self.scan.indices(alloc)?, Side::Last)),
-            _ => Err(begin.refusal(Problem::PseudoClass)),
+        match function_of(name) {
+            Some(Function::Not) => Ok(negated(alloc, self.list(false)?)?),
+            Some(Function::Is) => self.list(true),
+            Some(Function::Has) => self.has(begin),
+            Some(Function::NthChild(side)) => self.nth_child(side),
+            Some(Function::NthOfType(side)) => {
+                Ok(Formula::NthOfType(self.scan.indices(alloc)?, side))
+            }
+            None => Err(begin.refusal(Problem::PseudoClass)),
         }
     }
 

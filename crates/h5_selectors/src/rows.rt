@@ -1,72 +1,275 @@
-//! A node and the elements below it, each with the row in which its parent stands.
-ghost use Rattle.std.specs.Prelude.{◌≡◌, ◌<◌, ℕ, ◌∷◌, All, IfOk, IfSome, Some, length, map, slice_index_or};
-ghost use Rattle.h5_arena.specs.ArenaModel.{IsHeld, forest_seen};
-ghost use Rattle.h5_arena.specs.Kin.{tree_parent};
-ghost use Rattle.h5_selectors.specs.Ways.{below};
-ghost use Rattle.h5_selectors.specs.declared.rows.Row.{Row};
+//! A node and the elements below it, each in a row, with the rows of those around it.
+ghost use Rattle.std.specs.Prelude.{◌≡◌, ◌≢◌, ◌<◌, List, None, ℕ, ◌∷◌, All, IfOk, IfSome, OnOk, Option, Some, get_or, length, map, true, vec_len};
+ghost use Rattle.h5_interface.specs.Forest.{Forest, IsForest};
+ghost use Rattle.h5_arena.specs.ArenaModel.{IsChildHeld, IsHeld, child_views, forest_seen, place};
+ghost use Rattle.h5_selectors.specs.Query.{seen_by};
+ghost use Rattle.h5_selectors.specs.Rows.{AreBare, AreBelow, AreBeside, AreChildRows, AreLinked, AreRising, AreRows, AreWithin, IsKnown, entry_before, entry_behind, node_in, node_of, nodes_in};
+ghost use Rattle.h5_selectors.specs.Ways.{below, child_elements};
+ghost use Rattle.h5_selectors.specs.declared.holds.Query.{Query as QueryAt};
 
-use super::ways::{elements_below, parent_of};
-use h5_arena::{Arena, NodeId};
+use super::holds::Query;
+use super::ways::{element_of, elements_below, is_element};
+use h5_arena::{Arena, Child, NodeId};
 use std::alloc::{AllocError, Global};
 
-/// A node, and the row before in which its parent stands, where it stands in one.
+/// The rows around that of an element.
 #[derive(Clone, Copy)]
-pub(crate) struct Row {
-    pub(crate) id: NodeId,
+pub(crate) struct Links {
     pub(crate) parent: Option<usize>,
+    // The siblings right before it and right behind it, where the parent is known.
+    pub(crate) previous: Option<usize>,
+    pub(crate) next: Option<usize>,
+    // The first child, where the children are known.
+    pub(crate) first: Option<usize>,
+    pub(crate) knows_children: bool,
+    // The first row behind those below it.
+    end: usize,
 }
 
-// The row of a node that the last row has above it.
-fn row_above(rows: &[Row], id: NodeId) -> Option<usize>
-    requires { (k p : ℕ) (d : Row) → k < length rows.now → (slice_index_or rows.now k d).parent ≡ Some p → p < k }
-    ensures within { IfSome result (λ k. k < length rows.now) }
-    ensures node { IfSome result (λ k. (d : Row) → (slice_index_or rows.now k d).id.index ≡ id.index) }
-{
-    let mut at = rows.len().checked_sub(1);
-    'upwards: for _step in 0..rows.len() {
-        let Some(above) = at else {
-            return None;
-        };
-        let row = rows[above];
-        if row.id == id {
-            return Some(above);
-        }
-        at = row.parent;
+/// A node and the elements below it, in tree order.
+#[derive(Drop)]
+pub(crate) struct Rows {
+    pub(crate) ids: Vec<NodeId>,
+    links: Vec<Links>,
+}
+
+impl Rows {
+    /// How many rows there are.
+    pub(crate) fn len(&self) -> usize
+        ensures { result ≡ length self.now.ids.items }
+    {
+        self.ids.len()
     }
-    None
+
+    /// The node of a row.
+    pub(crate) fn id(&self, row: usize) -> NodeId
+        requires { row < length self.now.ids.items }
+        ensures node { result.index ≡ node_of self.now row }
+        ensures held { (query : QueryAt) → AreRows query self.now → IsHeld query.arena.now result }
+    {
+        self.ids[row]
+    }
+
+    /// The links of a row.
+    pub(crate) fn links(&self, row: usize) -> Links
+        requires count { length self.now.links.items ≡ length self.now.ids.items }
+        requires within { row < length self.now.ids.items }
+        ensures { (query : QueryAt) → AreRows query self.now → IsKnown (seen_by query) (nodes_in self.now) row result }
+    {
+        self.links[row]
+    }
 }
 
-// The row of an element's parent, where the last row stands below that parent or is it.
-fn parent_row(arena: &Arena, rows: &[Row], id: NodeId) -> Option<usize>
-    requires held { IsHeld arena.now id }
-    requires parents { (k p : ℕ) (d : Row) → k < length rows.now → (slice_index_or rows.now k d).parent ≡ Some p → p < k }
-    ensures within { IfSome result (λ k. k < length rows.now) }
-    ensures parent { IfSome result (λ k. (d : Row) → tree_parent (forest_seen arena.now) id.index ≡ Some (slice_index_or rows.now k d).id.index) }
+// The links of so many rows, of which nothing is known.
+fn unlinked(alloc: Global, count: usize) -> Result<Vec<Links>, AllocError>
+    ensures count { IfOk result (λ links. vec_len links ≡ count) }
+    ensures links { IfOk result (λ links. (f : Forest) (ns : List ℕ) → AreLinked f ns links.items) }
 {
-    match parent_of(arena, id) {
-        Some(parent) => row_above(rows, parent),
+    let mut links = Vec::with_capacity(alloc, count)?;
+    for at in 0..count {
+        links.push(Links {
+            parent: None,
+            previous: None,
+            next: None,
+            first: None,
+            knows_children: false,
+            end: at + 1,
+        })?;
+    }
+    Ok(links)
+}
+
+// Whether those among children that are no elements have no children.
+fn are_bare(arena: &Arena, children: &[Child]) -> bool
+    requires { All (IsChildHeld arena.now) children.now }
+    ensures { result ≡ true → AreBare (forest_seen arena.now) (child_views children.now) }
+{
+    for child in children {
+        if let Child::Node(id) = child {
+            if !is_element(arena, *id) && !arena.children(*id).is_empty() {
+                return false;
+            }
+        }
+    }
+    true
+}
+
+// The rows of the child elements of the node in a row, and the first row behind them; nothing where they don't stand in the rows behind it,
+// each behind all that is below the one before.
+fn child_rows(
+    arena: &Arena,
+    ids: &[NodeId],
+    links: &[Links],
+    at: usize,
+    found: &mut Vec<usize>,
+) -> Result<Option<usize>, AllocError>
+    requires within { at < length ids.now }
+    requires count { length links.now ≡ length ids.now }
+    requires held { All (IsHeld arena.now) ids.now }
+    requires links { AreLinked (forest_seen arena.now) (map place ids.now) links.now }
+    ensures found { IfOk result (λ end. IfSome end (λ _. map (node_in (forest_seen arena.now) (map place ids.now)) found.new.items ≡ child_elements (forest_seen arena.now) (node_in (forest_seen arena.now) (map place ids.now) at))) }
+    ensures rising { OnOk result (AreRising found.new.items) }
+    ensures within { OnOk result (AreWithin at (length ids.now) found.new.items) }
+    ensures end { IfOk result (λ end. IfSome end (λ e. at < e)) }
+{
+    found.clear();
+    let mut row = at + 1;
+    for child in arena.children(ids[at]) {
+        if let Some(element) = element_of(arena, child) {
+            if row >= ids.len() || ids[row] != element {
+                return Ok(None);
+            }
+            found.push(row)?;
+            row = links[row].end;
+        }
+    }
+    Ok(Some(row))
+}
+
+// The links of a row to its parent, and to the siblings beside it, become these.
+fn set_beside(
+    links: &mut Vec<Links>,
+    row: usize,
+    parent: usize,
+    previous: Option<usize>,
+    next: Option<usize>,
+)
+    requires { row < length links.old.items }
+    ensures count { length links.new.items ≡ length links.old.items }
+    ensures links { (f : Forest) (ns : List ℕ) → AreLinked f ns links.old.items → AreBeside f ns row parent previous next → AreLinked f ns links.new.items }
+{
+    let changed = &mut links[row];
+    changed.parent = Some(parent);
+    changed.previous = previous;
+    changed.next = next;
+}
+
+// The link of a row to its first child becomes this one, and the first row behind those below it.
+fn set_first(links: &mut Vec<Links>, row: usize, first: Option<usize>, end: usize)
+    requires within { row < length links.old.items }
+    requires end { row < end }
+    ensures count { length links.new.items ≡ length links.old.items }
+    ensures links { (f : Forest) (ns : List ℕ) → AreLinked f ns links.old.items → AreBelow f ns row first → AreLinked f ns links.new.items }
+{
+    let changed = &mut links[row];
+    changed.first = first;
+    changed.knows_children = true;
+    changed.end = end;
+}
+
+// The one before an entry of a list, and the one behind it.
+fn before(list: &[usize], at: usize) -> Option<usize>
+    requires { at < length list.now }
+    ensures { result ≡ entry_before list.now at }
+{
+    match at.checked_sub(1) {
+        Some(previous) => Some(list[previous]),
         None => None,
     }
 }
 
-/// A node and the elements below it, in tree order.
-pub(crate) fn rows_below(alloc: Global, arena: &Arena, id: NodeId) -> Result<Vec<Row>, AllocError>
+fn behind(list: &[usize], at: usize) -> Option<usize>
+    requires { at < length list.now }
+    ensures { result ≡ entry_behind list.now at }
+{
+    if at + 1 < list.len() {
+        Some(list[at + 1])
+    } else {
+        None
+    }
+}
+
+// The rows of the children of a row are linked to it, and to one another.
+fn link_children(links: &mut Vec<Links>, parent: usize, children: &[usize])
+    requires within { AreWithin parent (length links.old.items) children.now }
+    ensures count { length links.new.items ≡ length links.old.items }
+    ensures links { (f : Forest) (ns : List ℕ) → AreLinked f ns links.old.items → AreChildRows f ns parent children.now → AreLinked f ns links.new.items }
+{
+    for at in 0..children.len() {
+        let previous = before(children, at);
+        set_beside(links, children[at], parent, previous, behind(children, at));
+    }
+}
+
+// The links of a row to its children, and of those to it and to one another, if they stand as its children do.
+fn link_row(
+    arena: &Arena,
+    ids: &[NodeId],
+    links: &mut Vec<Links>,
+    row: usize,
+    room: &mut Vec<usize>,
+) -> Result<(), AllocError>
+    requires forest { IsForest (forest_seen arena.now) }
+    requires within { row < length ids.now }
+    requires count { length links.old.items ≡ length ids.now }
+    requires held { All (IsHeld arena.now) ids.now }
+    requires links { AreLinked (forest_seen arena.now) (map place ids.now) links.old.items }
+    ensures count { OnOk result (length links.new.items ≡ length ids.now) }
+    ensures links { OnOk result (AreLinked (forest_seen arena.now) (map place ids.now) links.new.items) }
+{
+    if !are_bare(arena, arena.children(ids[row])) {
+        return Ok(());
+    }
+    let Some(end) = child_rows(arena, ids, links.as_slice(), row, room)? else {
+        return Ok(());
+    };
+    link_children(links, row, room.as_slice());
+    set_first(links, row, room.first().copied(), end);
+    Ok(())
+}
+
+// The links of rows, the last row first.
+fn linked(alloc: Global, arena: &Arena, ids: &[NodeId]) -> Result<Vec<Links>, AllocError>
+    requires forest { IsForest (forest_seen arena.now) }
+    requires held { All (IsHeld arena.now) ids.now }
+    ensures count { IfOk result (λ links. length links.items ≡ length ids.now) }
+    ensures links { IfOk result (λ links. AreLinked (forest_seen arena.now) (map place ids.now) links.items) }
+{
+    let mut links = unlinked(alloc, ids.len())?;
+    let mut room = Vec::new(alloc);
+    for step in 0..ids.len() {
+        link_row(arena, ids, &mut links, ids.len() - 1 - step, &mut room)?;
+    }
+    Ok(links)
+}
+
+// Whether all links are known, but those beside the first row.
+fn are_known(links: &[Links]) -> bool
+    ensures parents { result ≡ true → (k : ℕ) (d : Links) → 0 < k → k < length links.now → (get_or links.now k d).parent ≢ None }
+    ensures children { result ≡ true → (k : ℕ) (d : Links) → k < length links.now → (get_or links.now k d).knows_children ≡ true }
+{
+    for at in 0..links.len() {
+        if !links[at].knows_children || (at > 0 && links[at].parent.is_none()) {
+            return false;
+        }
+    }
+    true
+}
+
+// A node, and the elements below it, in tree order.
+fn with_below(alloc: Global, arena: &Arena, id: NodeId) -> Result<Vec<NodeId>, AllocError>
     requires { IsHeld arena.now id }
-    ensures rows { IfOk result (λ rows. map (λ row. row.id.index) rows.items ≡ id.index ∷ below (forest_seen arena.now) id.index) }
-    ensures held { IfOk result (λ rows. All (λ row. IsHeld arena.now row.id) rows.items) }
-    ensures earlier { IfOk result (λ rows. (k p : ℕ) (d : Row) → k < length rows.items → (slice_index_or rows.items k d).parent ≡ Some p → p < k) }
-    ensures parents { IfOk result (λ rows. (k p : ℕ) (d : Row) → k < length rows.items → (slice_index_or rows.items k d).parent ≡ Some p
-        → tree_parent (forest_seen arena.now) (slice_index_or rows.items k d).id.index ≡ Some (slice_index_or rows.items p d).id.index) }
+    ensures nodes { IfOk result (λ ids. map place ids.items ≡ id.index ∷ below (forest_seen arena.now) id.index) }
+    ensures held { IfOk result (λ ids. All (IsHeld arena.now) ids.items) }
 {
     let below = elements_below(alloc, arena, id)?;
-    let mut rows = Vec::new(alloc);
-    rows.push(Row { id, parent: None })?;
-    for element in below.as_slice() {
-        let parent = parent_row(arena, rows.as_slice(), *element);
-        rows.push(Row {
-            id: *element,
-            parent,
-        })?;
+    let mut ids = Vec::with_capacity(alloc, below.len() + 1)?;
+    ids.push(id)?;
+    ids.extend_from_slice(below.as_slice())?;
+    Ok(ids)
+}
+
+/// A node and the elements below it in rows; nothing where a link isn't known.
+pub(crate) fn rows_of(query: &Query<'_>, id: NodeId) -> Result<Option<Rows>, AllocError>
+    requires forest { IsForest (seen_by query.now) }
+    requires held { IsHeld query.now.arena.now id }
+    ensures rows { IfOk result (λ rows. IfSome rows (AreRows query.now)) }
+    ensures nodes { IfOk result (λ rows. IfSome rows (λ rows. nodes_in rows ≡ id.index ∷ below (seen_by query.now) id.index)) }
+{
+    let ids = with_below(query.alloc, query.arena, id)?;
+    let links = linked(query.alloc, query.arena, ids.as_slice())?;
+    if !are_known(links.as_slice()) {
+        return Ok(None);
     }
-    Ok(rows)
+    Ok(Some(Rows { ids, links }))
 }

@@ -1,17 +1,17 @@
 //! The calls of a selector.
-ghost use Rattle.std.specs.Prelude.{◌≡◌, ◌<◌, ℕ, All, Bool, IfErr, IfOk, IfSome, drop, false, length, map, not, slice_get, slice_index_or};
+ghost use Rattle.std.specs.Prelude.{◌≡◌, ◌<◌, ℕ, All, Bool, IfErr, IfOk, IfSome, drop, false, get_or, length, map, not, slice_get};
 ghost use Rattle.std.specs.List.{filter};
 ghost use Rattle.std.specs.Str.{chars};
 ghost use Rattle.h5_arena.specs.ArenaModel.{IsHeld, optional_place, place};
 ghost use Rattle.h5_selectors.specs.Fault.{IsWithin};
-ghost use Rattle.h5_selectors.specs.Query.{matches_by};
-ghost use Rattle.h5_selectors.specs.declared.rows.Row.{Row};
+ghost use Rattle.h5_selectors.specs.Query.{matches_by, seen_by};
+ghost use Rattle.h5_selectors.specs.Ways.{below};
 
 use super::fault::SelectorFault;
 use super::formula::Formula;
 use super::holds::{Query, holds};
 use super::parse::parse;
-use super::rows::{Row, rows_below};
+use super::rows::rows_of;
 use super::tables::unmatched;
 use super::ways::{ancestors, elements_below, is_element};
 use h5_arena::{Arena, NodeId};
@@ -59,22 +59,61 @@ fn matches_one(list: &[Formula], query: &Query<'_>, id: NodeId) -> Result<bool, 
 fn taken(
     alloc: Global,
     arena: &Arena,
-    rows: &[Row],
+    ids: &[NodeId],
     left: &[bool],
 ) -> Result<Vec<NodeId>, AllocError>
-    requires some { 0 < length rows.now }
-    requires len { length left.now ≡ length rows.now }
-    requires held { All (λ row. IsHeld arena.now row.id) rows.now }
-    ensures found { IfOk result (λ found. (test : ℕ → Bool) → ((k : ℕ) (d : Row) → k < length rows.now
-        → slice_index_or left.now k false ≡ not (test (slice_index_or rows.now k d).id.index))
-        → map place found.items ≡ filter test (map (λ row. row.id.index) (drop 1 rows.now))) }
+    requires some { 0 < length ids.now }
+    requires count { length left.now ≡ length ids.now }
+    requires held { All (IsHeld arena.now) ids.now }
+    ensures found { IfOk result (λ found. (test : ℕ → Bool) → ((k : ℕ) → k < length ids.now → get_or left.now k false ≡ not (test (get_or (map place ids.now) k 0)))
+        → map place found.items ≡ filter test (map place (drop 1 ids.now))) }
     ensures held { IfOk result (λ found. All (IsHeld arena.now) found.items) }
 {
     let mut found = Vec::new(alloc);
-    for at in 1..rows.len() {
-        let row = rows[at];
+    for at in 1..ids.len() {
         if !left[at] {
-            found.push(row.id)?;
+            found.push(ids[at])?;
+        }
+    }
+    Ok(found)
+}
+
+// Whether a selector asks of an element nothing but what stands in it, so that no row around it is needed.
+fn asks_alone(formula: &Formula) -> bool {
+    match formula {
+        Formula::Leads(_, _) | Formula::Nth(_, _, _) | Formula::NthOfType(_, _) => false,
+        Formula::And(one, other) | Formula::Or(one, other) => {
+            asks_alone(&**one) && asks_alone(&**other)
+        }
+        Formula::Not(inner) => asks_alone(&**inner),
+        _ => true,
+    }
+}
+
+// Whether each of some selectors does.
+fn all_ask_alone(list: &[Formula]) -> bool {
+    for formula in list {
+        if !asks_alone(formula) {
+            return false;
+        }
+    }
+    true
+}
+
+// Those of some elements that one of the selectors matches, each asked alone.
+fn all_matching(
+    list: &[Formula],
+    query: &Query<'_>,
+    elements: &[NodeId],
+) -> Result<Vec<NodeId>, AllocError>
+    requires { All (IsHeld query.now.arena.now) elements.now }
+    ensures found { IfOk result (λ found. map place found.items ≡ filter (matches_by query.now list.now) (map place elements.now)) }
+    ensures held { IfOk result (λ found. All (IsHeld query.now.arena.now) found.items) }
+{
+    let mut found = Vec::new(query.alloc);
+    for element in elements {
+        if matches_one(list, query, *element)? {
+            found.push(*element)?;
         }
     }
     Ok(found)
@@ -96,6 +135,16 @@ fn first_matching(
         }
     }
     Ok(None)
+}
+
+// Those of the elements below a node that one of the selectors matches, each asked alone.
+fn all_below(list: &[Formula], query: &Query<'_>, id: NodeId) -> Result<Vec<NodeId>, AllocError>
+    requires { IsHeld query.now.arena.now id }
+    ensures found { IfOk result (λ found. map place found.items ≡ filter (matches_by query.now list.now) (below (seen_by query.now) id.index)) }
+    ensures held { IfOk result (λ found. All (IsHeld query.now.arena.now) found.items) }
+{
+    let below = elements_below(query.alloc, query.arena, id)?;
+    all_matching(list, query, below.as_slice())
 }
 
 impl Selector {
@@ -136,9 +185,14 @@ impl Selector {
         let query = Query::new(self.alloc, arena, id);
         // The nodes of an arena are a forest.
         let _document = arena.get_document();
-        let rows = rows_below(self.alloc, arena, id)?;
-        let left = unmatched(self.list.as_slice(), &query, rows.as_slice())?;
-        taken(self.alloc, arena, rows.as_slice(), left.as_slice())
+        if all_ask_alone(self.list.as_slice()) {
+            return all_below(self.list.as_slice(), &query, id);
+        }
+        let Some(rows) = rows_of(&query, id)? else {
+            return all_below(self.list.as_slice(), &query, id);
+        };
+        let left = unmatched(self.list.as_slice(), &query, &rows)?;
+        taken(self.alloc, arena, rows.ids.as_slice(), left.as_slice())
     }
 
     /// The first of those that `select` gives, or nothing where it gives none.

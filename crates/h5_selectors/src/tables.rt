@@ -1,175 +1,485 @@
 //! What is asked of an element, asked of a node and of all elements below it at once: a pass over their rows for each part of a
 //! selector. The table of a part has, for each row, whether the part holds of it.
-ghost use Rattle.std.specs.Prelude.{◌≡◌, ◌<◌, ◌&&◌, ℕ, All, IfOk, Some, false, length, not, slice_index_or, true, vec_len};
-ghost use Rattle.std.specs.List.{list_any};
-ghost use Rattle.h5_interface.specs.Forest.{IsForest};
+ghost use Rattle.std.specs.Prelude.{◌≡◌, ◌<◌, ◌≤◌, ◌+◌, ◌∷◌, ◌++◌, [], ◌&&◌, ◌||◌, ℕ, All, Bool, IfOk, IfSome, List, OnOk, Option, cond, false, get_or, length, nat_lt, not, true, vec_len};
+ghost use Rattle.std.specs.List.{filter, list_any};
 ghost use Rattle.h5_arena.specs.ArenaModel.{IsHeld};
-ghost use Rattle.h5_arena.specs.Kin.{tree_parent};
 ghost use Rattle.h5_selectors.specs.Query.{holds_by, matches_by, seen_by};
+ghost use Rattle.h5_selectors.specs.Rows.{AreRows, node_of};
+ghost use Rattle.h5_selectors.specs.Tables.{Counts, CountsAlike, Narrows, Tells, TellsAhead, counted_at, is_nth_by, leads_out, link_to, there, told};
 ghost use Rattle.h5_selectors.specs.Ways.{is_element, led};
-ghost use Rattle.h5_selectors.specs.declared.rows.Row.{Row};
+ghost use Rattle.h5_selectors.specs.declared.formula.Formula.{Formula as FormulaAt};
+ghost use Rattle.h5_selectors.specs.declared.formula.Way.TheVariants.{Ancestor, Below, Earlier, Later, Parent};
+ghost use Rattle.h5_selectors.specs.declared.rows.Links.{Links};
 
-use super::formula::{Formula, Way};
-use super::holds::{Query, holds, holds_along};
-use super::rows::Row;
+use super::alike::counts_alike;
+use super::formula::{AnPlusB, Formula, Side, Way};
+use super::holds::{Query, holds, holds_along, is_nth, is_nth_of_type, more};
+use super::rows::{Links, Rows};
 use super::ways::is_element;
-use h5_arena::NodeId;
 use std::alloc::{AllocError, Global};
+
+// So many answers of one kind.
+fn answers(alloc: Global, count: usize, answer: bool) -> Result<Vec<bool>, AllocError>
+    ensures count { IfOk result (λ all. vec_len all ≡ count) }
+    ensures all { IfOk result (λ all. (k : ℕ) → k < count → get_or all.items k false ≡ answer) }
+{
+    let mut all = Vec::with_capacity(alloc, count)?;
+    for _at in 0..count {
+        all.push(answer)?;
+    }
+    Ok(all)
+}
 
 // The rows that are in a set, and not in another one.
 fn without(alloc: Global, set: &[bool], other: &[bool]) -> Result<Vec<bool>, AllocError>
     requires { length other.now ≡ length set.now }
-    ensures len { IfOk result (λ left. vec_len left ≡ length set.now) }
-    ensures left { IfOk result (λ left. (k : ℕ) → k < length set.now
-        → slice_index_or left.items k false ≡ (slice_index_or set.now k false && not (slice_index_or other.now k false))) }
+    ensures count { IfOk result (λ left. vec_len left ≡ length set.now) }
+    ensures left { IfOk result (λ left. (k : ℕ) → k < length set.now → get_or left.items k false ≡ (get_or set.now k false && not (get_or other.now k false))) }
 {
-    let mut left = Vec::new(alloc);
+    let mut left = Vec::with_capacity(alloc, set.len())?;
     for at in 0..set.len() {
         left.push(set[at] && !other[at])?;
     }
     Ok(left)
 }
 
-// Whether this holds of an element, where it is asked.
-fn asked_of(
-    is_asked: bool,
-    formula: &Formula,
-    query: &Query<'_>,
-    id: NodeId,
-) -> Result<bool, AllocError>
-    requires { IsHeld query.now.arena.now id }
-    ensures { IfOk result (λ answer. answer ≡ (is_asked && holds_by query.now formula.now id.index)) }
-{
-    if is_asked {
-        holds(formula, query, id)
-    } else {
-        Ok(false)
-    }
-}
-
 // The rows of a set of which this holds, asked of each alone.
 fn asked(
     formula: &Formula,
     query: &Query<'_>,
-    rows: &[Row],
+    rows: &Rows,
     set: &[bool],
 ) -> Result<Vec<bool>, AllocError>
-    requires len { length set.now ≡ length rows.now }
-    requires held { All (λ row. IsHeld query.now.arena.now row.id) rows.now }
-    ensures len { IfOk result (λ table. vec_len table ≡ length rows.now) }
-    ensures table { IfOk result (λ table. (k : ℕ) (d : Row) → k < length rows.now
-        → slice_index_or table.items k false ≡ (slice_index_or set.now k false && holds_by query.now formula.now (slice_index_or rows.now k d).id.index)) }
+    requires rows { AreRows query.now rows.now }
+    requires count { length set.now ≡ length rows.now.ids.items }
+    ensures count { IfOk result (λ table. vec_len table ≡ length rows.now.ids.items) }
+    ensures table { IfOk result (λ table. Narrows (holds_by query.now formula.now) rows.now set.now table.items) }
 {
-    let mut table = Vec::new(query.alloc);
-    for at in 0..rows.len() {
-        let row = rows[at];
-        table.push(asked_of(set[at], formula, query, row.id)?)?;
+    let mut table = Vec::with_capacity(query.alloc, set.len())?;
+    for at in 0..set.len() {
+        let answer = set[at] && holds(formula, query, rows.id(at))?;
+        table.push(answer)?;
     }
     Ok(table)
 }
 
-// Whether a row is one of a set, and an element.
-fn is_element_in(query: &Query<'_>, rows: &[Row], set: &[bool], at: usize) -> bool
-    requires within { at < length rows.now }
-    requires len { length set.now ≡ length rows.now }
-    requires held { All (λ row. IsHeld query.now.arena.now row.id) rows.now }
-    ensures { (d : Row) → result ≡ (is_element (seen_by query.now) (slice_index_or rows.now at d).id.index && slice_index_or set.now at false) }
+// The same set once more.
+fn copied(alloc: Global, set: &[bool]) -> Result<Vec<bool>, AllocError>
+    ensures { IfOk result (λ copy. copy.items ≡ set.now) }
 {
-    let row = rows[at];
-    is_element(query.arena, row.id) && set[at]
+    let mut copy = Vec::with_capacity(alloc, set.len())?;
+    copy.extend_from_slice(set)?;
+    Ok(copy)
 }
 
-// Whether the row behind those that are answered leads into a set. Where no row of its parent is known, or it leads another way, it is
-// asked alone.
+// What a table says of a row that is linked.
+fn told(table: &[bool], link: Option<usize>) -> bool
+    ensures { result ≡ told table.now link }
+{
+    match link {
+        Some(row) if row < table.len() => table[row],
+        _ => false,
+    }
+}
+
+// Whether a row is in a set, or a table says so of a row that is linked.
+fn or_told(is_in: bool, table: &[bool], link: Option<usize>) -> bool
+    ensures { result ≡ (is_in || told table.now link) }
+{
+    is_in || told(table, link)
+}
+
+// The elements of a set.
+fn elements_in(query: &Query<'_>, rows: &Rows, set: &[bool]) -> Result<Vec<bool>, AllocError>
+    requires rows { AreRows query.now rows.now }
+    requires count { length set.now ≡ length rows.now.ids.items }
+    ensures count { IfOk result (λ table. vec_len table ≡ length rows.now.ids.items) }
+    ensures table { IfOk result (λ table. (test : ℕ → Bool) → Tells test rows.now set.now → TellsAhead (seen_by query.now) test Parent rows.now table.items) }
+{
+    let mut table = Vec::with_capacity(query.alloc, set.len())?;
+    for at in 0..set.len() {
+        table.push(is_element(query.arena, rows.id(at)) && set[at])?;
+    }
+    Ok(table)
+}
+
+// Whether an element of a row, or one above it, is in a set of elements; those above the first row are asked alone.
+fn is_above(
+    inner: &Formula,
+    query: &Query<'_>,
+    rows: &Rows,
+    set: &[bool],
+    table: &[bool],
+) -> Result<bool, AllocError>
+    requires rows { AreRows query.now rows.now }
+    requires count { length set.now ≡ length rows.now.ids.items }
+    requires set { TellsAhead (seen_by query.now) (holds_by query.now inner.now) Parent rows.now set.now }
+    requires rest { length table.now < length rows.now.ids.items }
+    requires table { (k : ℕ) → k < length table.now → get_or table.now k false ≡ there (seen_by query.now) (holds_by query.now inner.now) Ancestor (node_of rows.now k) }
+    ensures { IfOk result (λ answer. answer ≡ there (seen_by query.now) (holds_by query.now inner.now) Ancestor (node_of rows.now (length table.now))) }
+{
+    let at = table.len();
+    if set[at] {
+        return Ok(true);
+    }
+    if at == 0 {
+        return holds_along(inner, query, Way::Ancestor, rows.id(at));
+    }
+    Ok(told(table, rows.links(at).parent))
+}
+
+// The same of each row.
+fn above(
+    inner: &Formula,
+    query: &Query<'_>,
+    rows: &Rows,
+    set: &[bool],
+) -> Result<Vec<bool>, AllocError>
+    requires rows { AreRows query.now rows.now }
+    requires count { length set.now ≡ length rows.now.ids.items }
+    requires set { TellsAhead (seen_by query.now) (holds_by query.now inner.now) Parent rows.now set.now }
+    ensures count { IfOk result (λ table. vec_len table ≡ length rows.now.ids.items) }
+    ensures table { IfOk result (λ table. TellsAhead (seen_by query.now) (holds_by query.now inner.now) Ancestor rows.now table.items) }
+{
+    let mut table = Vec::with_capacity(query.alloc, set.len())?;
+    for _row in set {
+        let answer = is_above(inner, query, rows, set, table.as_slice())?;
+        table.push(answer)?;
+    }
+    Ok(table)
+}
+
+// Whether each row, or a sibling before it, is in a set.
+fn earlier(query: &Query<'_>, rows: &Rows, set: &[bool]) -> Result<Vec<bool>, AllocError>
+    requires rows { AreRows query.now rows.now }
+    requires count { length set.now ≡ length rows.now.ids.items }
+    ensures count { IfOk result (λ table. vec_len table ≡ length rows.now.ids.items) }
+    ensures table { IfOk result (λ table. (test : ℕ → Bool) → Tells test rows.now set.now → TellsAhead (seen_by query.now) test Earlier rows.now table.items) }
+{
+    let mut table = Vec::with_capacity(query.alloc, set.len())?;
+    for at in 0..set.len() {
+        let answer = or_told(set[at], table.as_slice(), rows.links(at).previous);
+        table.push(answer)?;
+    }
+    Ok(table)
+}
+
+// Whether each row, or a sibling behind it, is in a set.
+fn later(query: &Query<'_>, rows: &Rows, set: &[bool]) -> Result<Vec<bool>, AllocError>
+    requires rows { AreRows query.now rows.now }
+    requires count { length set.now ≡ length rows.now.ids.items }
+    ensures count { IfOk result (λ table. vec_len table ≡ length rows.now.ids.items) }
+    ensures table { IfOk result (λ table. (test : ℕ → Bool) → Tells test rows.now set.now → TellsAhead (seen_by query.now) test Later rows.now table.items) }
+{
+    let mut table = answers(query.alloc, set.len(), false)?;
+    for step in 0..set.len() {
+        let at = set.len() - 1 - step;
+        let answer = or_told(set[at], table.as_slice(), rows.links(at).next);
+        table[at] = answer;
+    }
+    Ok(table)
+}
+
+// Whether each row, one below it, or a sibling behind it or one below that, is in a set.
+fn under(query: &Query<'_>, rows: &Rows, set: &[bool]) -> Result<Vec<bool>, AllocError>
+    requires rows { AreRows query.now rows.now }
+    requires count { length set.now ≡ length rows.now.ids.items }
+    ensures count { IfOk result (λ table. vec_len table ≡ length rows.now.ids.items) }
+    ensures table { IfOk result (λ table. (test : ℕ → Bool) → Tells test rows.now set.now → TellsAhead (seen_by query.now) test Below rows.now table.items) }
+{
+    let mut table = answers(query.alloc, set.len(), false)?;
+    for step in 0..set.len() {
+        let at = set.len() - 1 - step;
+        let links = rows.links(at);
+        let below = or_told(set[at], table.as_slice(), links.first);
+        let answer = or_told(below, table.as_slice(), links.next);
+        table[at] = answer;
+    }
+    Ok(table)
+}
+
+// What has to be known of the rows to which a way leads.
+fn ahead(
+    inner: &Formula,
+    query: &Query<'_>,
+    way: Way,
+    rows: &Rows,
+    set: &[bool],
+) -> Result<Vec<bool>, AllocError>
+    requires rows { AreRows query.now rows.now }
+    requires count { length set.now ≡ length rows.now.ids.items }
+    requires set { Tells (holds_by query.now inner.now) rows.now set.now }
+    ensures count { IfOk result (λ table. vec_len table ≡ length rows.now.ids.items) }
+    ensures table { IfOk result (λ table. TellsAhead (seen_by query.now) (holds_by query.now inner.now) way rows.now table.items) }
+{
+    match way {
+        Way::Parent => elements_in(query, rows, set),
+        Way::Ancestor => {
+            let elements = elements_in(query, rows, set)?;
+            above(inner, query, rows, elements.as_slice())
+        }
+        Way::Previous | Way::Next => copied(query.alloc, set),
+        Way::Earlier => earlier(query, rows, set),
+        Way::Later | Way::Child => later(query, rows, set),
+        Way::Below => under(query, rows, set),
+    }
+}
+
+// The link that is followed to where an element leads.
+fn link_to(way: Way, links: Links) -> Option<usize>
+    ensures { result ≡ link_to way links }
+{
+    match way {
+        Way::Parent | Way::Ancestor => links.parent,
+        Way::Previous | Way::Earlier => links.previous,
+        Way::Next | Way::Later => links.next,
+        Way::Child | Way::Below => links.first,
+    }
+}
+
+// Whether a way may lead from the first row to where there are no rows.
+fn leads_out(way: Way) -> bool
+    ensures { result ≡ leads_out way }
+{
+    !matches!(way, Way::Child | Way::Below)
+}
+
+// Whether a row is asked alone: the first one, where the way leads out.
+fn is_alone(row: usize, way: Way) -> bool
+    ensures { result ≡ false → leads_out way ≡ true → 0 < row }
+{
+    row == 0 && leads_out(way)
+}
+
+// Whether a row leads into a set. The first row is asked alone, where it may lead to where there are no rows.
 fn is_led(
     inner: &Formula,
     query: &Query<'_>,
     way: Way,
-    rows: &[Row],
-    set: &[bool],
-    answers: &[bool],
+    rows: &Rows,
+    table: &[bool],
+    at: usize,
 ) -> Result<bool, AllocError>
-    requires forest { IsForest (seen_by query.now) }
-    requires held { All (λ row. IsHeld query.now.arena.now row.id) rows.now }
-    requires earlier { (k p : ℕ) (d : Row) → k < length rows.now → (slice_index_or rows.now k d).parent ≡ Some p → p < k }
-    requires parents { (k p : ℕ) (d : Row) → k < length rows.now → (slice_index_or rows.now k d).parent ≡ Some p
-        → tree_parent (seen_by query.now) (slice_index_or rows.now k d).id.index ≡ Some (slice_index_or rows.now p d).id.index }
-    requires len { length set.now ≡ length rows.now }
-    requires set { (k : ℕ) (d : Row) → k < length rows.now
-        → slice_index_or set.now k false ≡ holds_by query.now inner.now (slice_index_or rows.now k d).id.index }
-    requires rest { length answers.now < length rows.now }
-    requires answers { (k : ℕ) (d : Row) → k < length answers.now
-        → slice_index_or answers.now k false ≡ list_any (holds_by query.now inner.now) (led way (seen_by query.now) (slice_index_or rows.now k d).id.index) }
-    ensures { IfOk result (λ answer. (d : Row) →
-        answer ≡ list_any (holds_by query.now inner.now) (led way (seen_by query.now) (slice_index_or rows.now (length answers.now) d).id.index)) }
+    requires rows { AreRows query.now rows.now }
+    requires table { TellsAhead (seen_by query.now) (holds_by query.now inner.now) way rows.now table.now }
+    requires within { at < length rows.now.ids.items }
+    ensures { IfOk result (λ answer. answer ≡ list_any (holds_by query.now inner.now) (led way (seen_by query.now) (node_of rows.now at))) }
 {
-    let row = rows[answers.len()];
-    let Some(above) = row.parent else {
-        return holds_along(inner, query, way, row.id);
-    };
-    match way {
-        Way::Parent => Ok(is_element_in(query, rows, set, above)),
-        Way::Ancestor => Ok(is_element_in(query, rows, set, above) || answers[above]),
-        _ => holds_along(inner, query, way, row.id),
+    if is_alone(at, way) {
+        return holds_along(inner, query, way, rows.id(at));
     }
+    Ok(told(table, link_to(way, rows.links(at))))
 }
 
-// The rows that lead into a set.
+// The rows of a set that lead into another one.
 fn leading(
     inner: &Formula,
     query: &Query<'_>,
     way: Way,
-    rows: &[Row],
+    rows: &Rows,
     set: &[bool],
+    into: &[bool],
 ) -> Result<Vec<bool>, AllocError>
-    requires forest { IsForest (seen_by query.now) }
-    requires held { All (λ row. IsHeld query.now.arena.now row.id) rows.now }
-    requires earlier { (k p : ℕ) (d : Row) → k < length rows.now → (slice_index_or rows.now k d).parent ≡ Some p → p < k }
-    requires parents { (k p : ℕ) (d : Row) → k < length rows.now → (slice_index_or rows.now k d).parent ≡ Some p
-        → tree_parent (seen_by query.now) (slice_index_or rows.now k d).id.index ≡ Some (slice_index_or rows.now p d).id.index }
-    requires len { length set.now ≡ length rows.now }
-    requires set { (k : ℕ) (d : Row) → k < length rows.now
-        → slice_index_or set.now k false ≡ holds_by query.now inner.now (slice_index_or rows.now k d).id.index }
-    ensures len { IfOk result (λ table. vec_len table ≡ length rows.now) }
-    ensures table { IfOk result (λ table. (k : ℕ) (d : Row) → k < length rows.now
-        → slice_index_or table.items k false ≡ list_any (holds_by query.now inner.now) (led way (seen_by query.now) (slice_index_or rows.now k d).id.index)) }
+    requires rows { AreRows query.now rows.now }
+    requires count { length set.now ≡ length rows.now.ids.items }
+    requires into_count { length into.now ≡ length rows.now.ids.items }
+    requires into { Tells (holds_by query.now inner.now) rows.now into.now }
+    ensures count { IfOk result (λ table. vec_len table ≡ length rows.now.ids.items) }
+    ensures table { IfOk result (λ table. Narrows (λ n. list_any (holds_by query.now inner.now) (led way (seen_by query.now) n)) rows.now set.now table.items) }
 {
-    let mut answers = Vec::new(query.alloc);
-    for _row in rows {
-        let answer = is_led(inner, query, way, rows, set, answers.as_slice())?;
-        answers.push(answer)?;
+    let ahead = ahead(inner, query, way, rows, into)?;
+    let mut table = Vec::with_capacity(query.alloc, set.len())?;
+    for at in 0..set.len() {
+        let answer = set[at] && is_led(inner, query, way, rows, ahead.as_slice(), at)?;
+        table.push(answer)?;
     }
-    Ok(answers)
+    Ok(table)
 }
 
-// All of so many rows.
-fn all_of(alloc: Global, count: usize) -> Result<Vec<bool>, AllocError>
-    ensures len { IfOk result (λ all. vec_len all ≡ count) }
-    ensures all { IfOk result (λ all. (k : ℕ) → k < count → slice_index_or all.items k false ≡ true) }
+/// How many are counted for a row; none behind the last one.
+pub(crate) fn count_of(counts: &[usize], row: usize) -> usize
+    ensures { result ≡ get_or counts.now row 0 }
 {
-    let mut all = Vec::new(alloc);
+    if row < counts.len() { counts[row] } else { 0 }
+}
+
+// How many are counted for a row that is linked, with that row where it is in a set.
+fn counted_at(counts: &[usize], set: &[bool], link: Option<usize>) -> usize
+    requires { (k : ℕ) → get_or counts.now k 0 < 18446744073709551615 }
+    ensures { result ≡ counted_at counts.now set.now link }
+{
+    match link {
+        Some(row) => more(count_of(counts, row), told(set, link)),
+        None => 0,
+    }
+}
+
+// How many siblings before each row are in a set.
+fn counts_before(query: &Query<'_>, rows: &Rows, set: &[bool]) -> Result<Vec<usize>, AllocError>
+    requires rows { AreRows query.now rows.now }
+    requires count { length set.now ≡ length rows.now.ids.items }
+    ensures count { IfOk result (λ counts. vec_len counts ≡ length rows.now.ids.items) }
+    ensures counts { IfOk result (λ counts. (test : ℕ → Bool) → Tells test rows.now set.now → Counts (seen_by query.now) test Side.First rows.now counts.items) }
+{
+    let mut counts = Vec::with_capacity(query.alloc, set.len())?;
+    for at in 0..set.len() {
+        let count = counted_at(counts.as_slice(), set, rows.links(at).previous);
+        counts.push(count)?;
+    }
+    Ok(counts)
+}
+
+/// No counts yet, of so many rows.
+pub(crate) fn zeros(alloc: Global, count: usize) -> Result<Vec<usize>, AllocError>
+    ensures count { IfOk result (λ all. vec_len all ≡ count) }
+    ensures all { IfOk result (λ all. (k : ℕ) → k < count → get_or all.items k 0 ≡ 0) }
+{
+    let mut all = Vec::with_capacity(alloc, count)?;
     for _at in 0..count {
-        all.push(true)?;
+        all.push(0)?;
     }
     Ok(all)
+}
+
+// How many siblings behind each row are in a set.
+fn counts_behind(query: &Query<'_>, rows: &Rows, set: &[bool]) -> Result<Vec<usize>, AllocError>
+    requires rows { AreRows query.now rows.now }
+    requires count { length set.now ≡ length rows.now.ids.items }
+    ensures count { IfOk result (λ counts. vec_len counts ≡ length rows.now.ids.items) }
+    ensures counts { IfOk result (λ counts. (test : ℕ → Bool) → Tells test rows.now set.now → Counts (seen_by query.now) test Side.Last rows.now counts.items) }
+{
+    let mut counts = zeros(query.alloc, set.len())?;
+    for step in 0..set.len() {
+        let at = set.len() - 1 - step;
+        let count = counted_at(counts.as_slice(), set, rows.links(at).next);
+        counts[at] = count;
+    }
+    Ok(counts)
+}
+
+fn counts(
+    query: &Query<'_>,
+    rows: &Rows,
+    side: Side,
+    set: &[bool],
+) -> Result<Vec<usize>, AllocError>
+    requires rows { AreRows query.now rows.now }
+    requires count { length set.now ≡ length rows.now.ids.items }
+    ensures count { IfOk result (λ counts. vec_len counts ≡ length rows.now.ids.items) }
+    ensures counts { IfOk result (λ counts. (test : ℕ → Bool) → Tells test rows.now set.now → Counts (seen_by query.now) test side rows.now counts.items) }
+{
+    match side {
+        Side::First => counts_before(query, rows, set),
+        Side::Last => counts_behind(query, rows, set),
+    }
+}
+
+// Whether a row is in a set, and its index among the siblings in it is one of these. The first row is asked alone.
+fn is_placed(
+    of: &Formula,
+    query: &Query<'_>,
+    indices: AnPlusB,
+    side: Side,
+    rows: &Rows,
+    among: &[bool],
+    counts: &[usize],
+    at: usize,
+) -> Result<bool, AllocError>
+    requires rows { AreRows query.now rows.now }
+    requires among_count { length among.now ≡ length rows.now.ids.items }
+    requires among { Tells (holds_by query.now of.now) rows.now among.now }
+    requires counts_count { length counts.now ≡ length rows.now.ids.items }
+    requires counts { Counts (seen_by query.now) (holds_by query.now of.now) side rows.now counts.now }
+    requires within { at < length rows.now.ids.items }
+    ensures { IfOk result (λ answer. answer ≡ is_nth_by query.now indices side of.now (node_of rows.now at)) }
+{
+    if at == 0 {
+        return is_nth(of, query, rows.id(at), indices, side);
+    }
+    Ok(among[at] && indices.has_behind(counts[at]))
+}
+
+// The rows of a set that are in another one, and whose index among the siblings in it is one of these.
+fn placed(
+    of: &Formula,
+    query: &Query<'_>,
+    indices: AnPlusB,
+    side: Side,
+    rows: &Rows,
+    set: &[bool],
+    among: &[bool],
+) -> Result<Vec<bool>, AllocError>
+    requires rows { AreRows query.now rows.now }
+    requires count { length set.now ≡ length rows.now.ids.items }
+    requires among_count { length among.now ≡ length rows.now.ids.items }
+    requires among { Tells (holds_by query.now of.now) rows.now among.now }
+    ensures count { IfOk result (λ table. vec_len table ≡ length rows.now.ids.items) }
+    ensures table { IfOk result (λ table. Narrows (is_nth_by query.now indices side of.now) rows.now set.now table.items) }
+{
+    let counts = counts(query, rows, side, among)?;
+    let mut table = Vec::with_capacity(query.alloc, set.len())?;
+    for at in 0..set.len() {
+        let answer = set[at]
+            && is_placed(of, query, indices, side, rows, among, counts.as_slice(), at)?;
+        table.push(answer)?;
+    }
+    Ok(table)
+}
+
+// Whether the index of a row's node among the siblings of its name is one of these. The first row is asked alone.
+fn is_placed_alike(
+    query: &Query<'_>,
+    indices: AnPlusB,
+    side: Side,
+    rows: &Rows,
+    counts: &[usize],
+    at: usize,
+) -> Result<bool, AllocError>
+    requires rows { AreRows query.now rows.now }
+    requires count { length counts.now ≡ length rows.now.ids.items }
+    requires counts { CountsAlike query.now side rows.now counts.now }
+    requires within { at < length rows.now.ids.items }
+    ensures { IfOk result (λ answer. answer ≡ holds_by query.now (FormulaAt.NthOfType indices side) (node_of rows.now at)) }
+{
+    if at == 0 {
+        return is_nth_of_type(query, rows.id(at), indices, side);
+    }
+    Ok(indices.has_behind(counts[at]))
+}
+
+// The rows of a set of which that holds.
+fn placed_alike(
+    query: &Query<'_>,
+    indices: AnPlusB,
+    side: Side,
+    rows: &Rows,
+    set: &[bool],
+) -> Result<Vec<bool>, AllocError>
+    requires rows { AreRows query.now rows.now }
+    requires count { length set.now ≡ length rows.now.ids.items }
+    ensures count { IfOk result (λ table. vec_len table ≡ length rows.now.ids.items) }
+    ensures table { IfOk result (λ table. Narrows (holds_by query.now (FormulaAt.NthOfType indices side)) rows.now set.now table.items) }
+{
+    let counts = counts_alike(query, rows, side)?;
+    let mut table = Vec::with_capacity(query.alloc, set.len())?;
+    for at in 0..set.len() {
+        let answer = set[at] && is_placed_alike(query, indices, side, rows, counts.as_slice(), at)?;
+        table.push(answer)?;
+    }
+    Ok(table)
 }
 
 // The rows of a set of which this holds.
 fn narrowed(
     formula: &Formula,
     query: &Query<'_>,
-    rows: &[Row],
+    rows: &Rows,
     set: &[bool],
 ) -> Result<Vec<bool>, AllocError>
-    requires forest { IsForest (seen_by query.now) }
-    requires held { All (λ row. IsHeld query.now.arena.now row.id) rows.now }
-    requires earlier { (k p : ℕ) (d : Row) → k < length rows.now → (slice_index_or rows.now k d).parent ≡ Some p → p < k }
-    requires parents { (k p : ℕ) (d : Row) → k < length rows.now → (slice_index_or rows.now k d).parent ≡ Some p
-        → tree_parent (seen_by query.now) (slice_index_or rows.now k d).id.index ≡ Some (slice_index_or rows.now p d).id.index }
-    requires len { length set.now ≡ length rows.now }
-    ensures len { IfOk result (λ table. vec_len table ≡ length rows.now) }
-    ensures table { IfOk result (λ table. (k : ℕ) (d : Row) → k < length rows.now
-        → slice_index_or table.items k false ≡ (slice_index_or set.now k false && holds_by query.now formula.now (slice_index_or rows.now k d).id.index)) }
+    requires rows { AreRows query.now rows.now }
+    requires count { length set.now ≡ length rows.now.ids.items }
+    ensures count { IfOk result (λ table. vec_len table ≡ length rows.now.ids.items) }
+    ensures table { IfOk result (λ table. Narrows (holds_by query.now formula.now) rows.now set.now table.items) }
 {
     match formula {
         Formula::And(one, other) => {
@@ -187,13 +497,17 @@ fn narrowed(
             let taken = narrowed(&**inner, query, rows, set)?;
             without(query.alloc, set, taken.as_slice())
         }
-        Formula::Leads(way, inner) if matches!(way, Way::Parent | Way::Ancestor) => {
-            let all = all_of(query.alloc, rows.len())?;
+        Formula::Leads(way, inner) => {
+            let all = answers(query.alloc, set.len(), true)?;
             let into = narrowed(&**inner, query, rows, all.as_slice())?;
-            let table = leading(&**inner, query, *way, rows, into.as_slice())?;
-            let left = without(query.alloc, set, table.as_slice())?;
-            without(query.alloc, set, left.as_slice())
+            leading(&**inner, query, *way, rows, set, into.as_slice())
         }
+        Formula::Nth(indices, side, of) => {
+            let all = answers(query.alloc, set.len(), true)?;
+            let among = narrowed(&**of, query, rows, all.as_slice())?;
+            placed(&**of, query, *indices, *side, rows, set, among.as_slice())
+        }
+        Formula::NthOfType(indices, side) => { placed_alike(query, *indices, *side, rows, set) }
         _ => asked(formula, query, rows, set),
     }
 }
@@ -202,18 +516,13 @@ fn narrowed(
 pub(crate) fn unmatched(
     list: &[Formula],
     query: &Query<'_>,
-    rows: &[Row],
+    rows: &Rows,
 ) -> Result<Vec<bool>, AllocError>
-    requires forest { IsForest (seen_by query.now) }
-    requires held { All (λ row. IsHeld query.now.arena.now row.id) rows.now }
-    requires earlier { (k p : ℕ) (d : Row) → k < length rows.now → (slice_index_or rows.now k d).parent ≡ Some p → p < k }
-    requires parents { (k p : ℕ) (d : Row) → k < length rows.now → (slice_index_or rows.now k d).parent ≡ Some p
-        → tree_parent (seen_by query.now) (slice_index_or rows.now k d).id.index ≡ Some (slice_index_or rows.now p d).id.index }
-    ensures len { IfOk result (λ left. vec_len left ≡ length rows.now) }
-    ensures left { IfOk result (λ left. (k : ℕ) (d : Row) → k < length rows.now
-        → slice_index_or left.items k false ≡ not (matches_by query.now list.now (slice_index_or rows.now k d).id.index)) }
+    requires { AreRows query.now rows.now }
+    ensures count { IfOk result (λ left. vec_len left ≡ length rows.now.ids.items) }
+    ensures left { IfOk result (λ left. Tells (λ n. not (matches_by query.now list.now n)) rows.now left.items) }
 {
-    let mut left = all_of(query.alloc, rows.len())?;
+    let mut left = answers(query.alloc, rows.len(), true)?;
     for formula in list {
         let matched = narrowed(formula, query, rows, left.as_slice())?;
         left = without(query.alloc, left.as_slice(), matched.as_slice())?;

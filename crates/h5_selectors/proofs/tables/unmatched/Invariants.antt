@@ -1,11 +1,11 @@
 use Rattle.std.proofs.Common.{◌≡◌, ℕ, ◌<◌, ◌||◌, drop, false, get_or, length, vec_len}
 use Rattle.std.specs.Prelude.{not}
 use Rattle.h5_selectors.specs.Query.{matches_by}
-use Rattle.h5_selectors.specs.declared.rows.Row.{Row}
+use Rattle.h5_selectors.specs.Rows.{node_of}
 use Rattle.h5_selectors.proofs.tables.unmatched.Given as goal
 
 abbrev pub invariant-loop-formula : goal.invariant-loop-formula
 invariant-loop-formula l =
-    (vec_len l.left ≡ length l.rows)
-    × ((k : ℕ) (d : Row) → k < length l.rows
-    → (not (get_or l.left.items k false) || matches_by l.query (drop l.formula-index l.list) (get_or l.rows k d).id.index) ≡ matches_by l.query l.list (get_or l.rows k d).id.index)
+    (vec_len l.left ≡ length l.rows.ids.items)
+    × ((k : ℕ) → k < length l.rows.ids.items
+    → (not (get_or l.left.items k false) || matches_by l.query (drop l.formula-index l.list) (node_of l.rows k)) ≡ matches_by l.query l.list (node_of l.rows k))

@@ -1,0 +1,9 @@
+use Rattle.std.proofs.Common.{◌≡◌, ℕ, ◌<◌, ◌&&◌, false, get_or, vec_len}
+use Rattle.h5_selectors.specs.Rows.{node_of}
+use Rattle.h5_selectors.specs.Tables.{is_nth_by}
+use Rattle.h5_selectors.proofs.tables.placed.Given as goal
+
+abbrev pub invariant-loop-at : goal.invariant-loop-at
+invariant-loop-at l =
+    (vec_len l.table ≡ l.at)
+    × ((k : ℕ) → k < l.at → get_or l.table.items k false ≡ (get_or l.set k false && is_nth_by l.query l.indices l.side l.of (node_of l.rows k)))

@@ -1,0 +1,108 @@
+-- A node and the elements below it, each in a row, and what is known of the rows around each.
+use Rattle.std.specs.Prelude.{◌≡◌, ◌≢◌, ◌<◌, ℕ, ◌+◌, All, List, [], ◌∷◌, ◌++◌, Option, None, Some, IfSome, get_or, false, length, map, slice_get, true}
+use Rattle.std.specs.List.{flat_map}
+use Prim.Native.Nat.{zero, suc}
+use Rattle.h5_interface.specs.Forest.{Child, ChildNode, ChildText, Forest, IsForest, children_of}
+use Rattle.h5_arena.specs.ArenaModel.{IsHeld, place}
+use Rattle.h5_arena.specs.Kin.{tree_parent}
+use Rattle.h5_selectors.specs.Query.{seen_by}
+use Rattle.h5_selectors.specs.Ways.{before, behind, below, child_elements, is_element}
+use Rattle.h5_selectors.specs.declared.holds.Query.{Query}
+use Rattle.h5_selectors.specs.declared.rows.Links.{Links}
+use Rattle.h5_selectors.specs.declared.rows.Rows.{Rows}
+
+-- those among children that are no elements have no children
+abbrev pub IsBare : Forest → Child → Type 0
+IsBare f (ChildText t) = Unit {0}
+IsBare f (ChildNode c) = is_element f c ≡ false → children_of f c ≡ []
+
+abbrev pub AreBare : Forest → List Child → Type 0
+AreBare f [] = Unit {0}
+AreBare f (c ∷ cs) = IsBare f c × AreBare f cs
+
+-- an element, and those below it
+abbrev pub with_below : Forest → ℕ → List ℕ
+with_below f n = n ∷ below f n
+
+-- in a forest, where these are the nodes of the rows
+module _ (f : Forest) (ns : List ℕ) where
+  abbrev pub node_in : ℕ → ℕ
+  node_in row = get_or ns row 0
+
+  -- no sibling element comes before that of a row, or the last one that does stands in an earlier row
+  abbrev pub IsBefore : (row : ℕ) → Option ℕ → Type 0
+  IsBefore k None = before f (node_in k) ≡ []
+  IsBefore k (Some q) = (0 < q) × (q < k) × (before f (node_in k) ≡ before f (node_in q) ++ node_in q ∷ [])
+
+  -- none comes behind it, or the first one that does stands in a later row
+  abbrev pub IsBehind : (row : ℕ) → Option ℕ → Type 0
+  IsBehind k None = behind f (node_in k) ≡ []
+  IsBehind k (Some r) = (k < r) × (r < length ns) × (behind f (node_in k) ≡ node_in r ∷ behind f (node_in r))
+
+  -- it has no child element, or the first one stands in a later row
+  abbrev pub IsFirst : (row : ℕ) → Option ℕ → Type 0
+  IsFirst k None = child_elements f (node_in k) ≡ []
+  IsFirst k (Some c) = (k < c) × (c < length ns) × (child_elements f (node_in k) ≡ node_in c ∷ behind f (node_in c))
+
+  -- the rows of the parent, and of the siblings beside it
+  pub record AreBeside (row parent : ℕ) (previous next : Option ℕ) : Type 0 where
+    pub earlier : parent < row
+    pub parent_is : tree_parent f (node_in row) ≡ Some (node_in parent)
+    pub previous_is : IsBefore row previous
+    pub next_is : IsBehind row next
+
+  -- the row of the first child; what stands below an element stands in its child elements
+  pub record AreBelow (row : ℕ) (first : Option ℕ) : Type 0 where
+    pub first_is : IsFirst row first
+    pub below_are : below f (node_in row) ≡ flat_map (with_below f) (child_elements f (node_in row))
+
+  -- what the links of a row say
+  pub record IsLinked (row : ℕ) (links : Links) : Type 0 where
+    pub beside : IfSome links.parent (λ p. AreBeside row p links.previous links.next)
+    pub children : links.knows_children ≡ true → AreBelow row links.first
+    pub end : row < links.end
+
+  -- links that are all known, but those beside the first row
+  pub record IsKnown (row : ℕ) (links : Links) : Type 0 where
+    pub children : AreBelow row links.first
+    pub beside : 0 < row → (p : ℕ) × (links.parent ≡ Some p) × AreBeside row p links.previous links.next
+
+  abbrev pub AreLinked : List Links → Type 0
+  AreLinked all = (k : ℕ) (d : Links) → k < length all → IsLinked k (get_or all k d)
+
+-- rows of the children of a row: each lies behind the one before
+abbrev pub AreRising : List ℕ → Type 0
+AreRising rows = (i : ℕ) → i + 1 < length rows → get_or rows i 0 < get_or rows (i + 1) 0
+
+-- rows behind a row, of so many in all
+abbrev pub AreWithin : (row count : ℕ) → List ℕ → Type 0
+AreWithin row count = All (λ r. (row < r) × (r < count))
+
+-- the entries around one
+abbrev pub entry_before : List ℕ → ℕ → Option ℕ
+entry_before rows zero = None
+entry_before rows (suc i) = Some (get_or rows i 0)
+
+abbrev pub entry_behind : List ℕ → ℕ → Option ℕ
+entry_behind rows i = slice_get rows (i + 1)
+
+-- a row's children stand in these rows
+abbrev pub AreChildRows : Forest → List ℕ → (parent : ℕ) → List ℕ → Type 0
+AreChildRows f ns parent rows = (i : ℕ) → i < length rows → AreBeside f ns (get_or rows i 0) parent (entry_before rows i) (entry_behind rows i)
+
+-- the nodes of rows
+abbrev pub nodes_in : Rows → List ℕ
+nodes_in rows = map place rows.ids.items
+
+-- the node of a row
+abbrev pub node_of : Rows → ℕ → ℕ
+node_of rows row = get_or (nodes_in rows) row 0
+
+-- rows of elements that a query can be asked about: all links are known, but those beside the first row
+pub record AreRows (query : Query) (rows : Rows) : Type 0 where
+  pub forest : IsForest (seen_by query)
+  pub held : All (IsHeld query.arena.now) rows.ids.items
+  pub count : length rows.links.items ≡ length rows.ids.items
+  pub links : AreLinked (seen_by query) (nodes_in rows) rows.links.items
+  pub parents : (k : ℕ) (d : Links) → 0 < k → k < length rows.links.items → (get_or rows.links.items k d).parent ≢ None
+  pub children : (k : ℕ) (d : Links) → k < length rows.links.items → (get_or rows.links.items k d).knows_children ≡ true

@@ -1,0 +1,196 @@
+-- The tokens of a selector's text, read character by character (CSS Syntax Level 3, section 4, "Tokenization"). What is read stands at the front of a text.
+use Rattle.std.specs.Prelude.{ℕ, ◌+◌, ◌*◌, ◌-◌, ◌^◌, ◌==◌, ◌&&◌, ◌||◌, Bool, true, false, if◌then◌else◌, List, [], ◌∷◌, ◌++◌, Option, None, Some, drop, length, min, nat_le, not, unwrap_or}
+use Prim.Native.Nat.{zero, suc}
+use Rattle.std.specs.Char.{digit_value, is_digit}
+use lib.Utf8.{scalar}
+use Rattle.std.specs.Str.{encode_utf8_all}
+
+-- what is read, and what is left behind it
+pub record Reading (A : Type 0) : Type 0 where
+  pub value : A
+  pub rest : List ℕ
+
+abbrev pub reading : {A : Type 0} → A → List ℕ → Reading A
+reading value rest = record { value = value; rest = rest }
+
+abbrev pub backslash : ℕ
+backslash = 92
+
+abbrev pub replacement : ℕ
+replacement = 0xfffd
+
+-- whether the first character passes a test
+abbrev pub begins : (ℕ → Bool) → List ℕ → Bool
+begins test [] = false
+begins test (c ∷ text) = test c
+
+abbrev pub begins_with : ℕ → List ℕ → Bool
+begins_with wanted = begins (λ c. c == wanted)
+
+-- a piece and what is read behind it; where there is none nothing is read
+abbrev pub joined : {A : Type 0} → Option (Reading (List A)) → (List ℕ → Reading (List A)) → List ℕ → Reading (List A)
+joined None behind text = reading [] text
+joined (Some piece) behind text = reading (piece.value ++ (behind piece.rest).value) (behind piece.rest).rest
+
+-- pieces one behind another, as many as stand there; there are no more than characters
+unfoldable pub pieces_within : {A : Type 0} → (List ℕ → Option (Reading (List A))) → ℕ → List ℕ → Reading (List A)
+pieces_within piece zero text = reading [] text
+pieces_within piece (suc n) text = joined (piece text) (pieces_within piece n) text
+
+abbrev pub pieces : {A : Type 0} → (List ℕ → Option (Reading (List A))) → List ℕ → Reading (List A)
+pieces piece text = pieces_within piece (length text) text
+
+-- section 4.2, "Definitions", where CR and FF are newlines yet (section 3.3)
+abbrev pub is_newline : ℕ → Bool
+is_newline c = c == 10 || (c == 13 || c == 12)
+
+abbrev pub is_blank : ℕ → Bool
+is_blank c = (c == 32 || c == 9) || is_newline c
+
+abbrev pub is_letter : ℕ → Bool
+is_letter c = (nat_le 97 c && nat_le c 122) || (nat_le 65 c && nat_le c 90)
+
+-- a NUL stands for U+FFFD
+abbrev pub begins_name : ℕ → Bool
+begins_name c = (is_letter c || (c == 95 || c == 0)) || nat_le 128 c
+
+abbrev pub is_in_name : ℕ → Bool
+is_in_name c = begins_name c || (is_digit c 10 || c == 45)
+
+abbrev pub cleaned : ℕ → ℕ
+cleaned c = if c == 0 then replacement else c
+
+-- from behind `/*` to behind the first `*/`, or to the end (section 4.3.2, "Consume comments")
+abbrev pub behind_comment : List ℕ → List ℕ
+behind_comment [] = []
+behind_comment (c ∷ text) = if c == 42 && begins_with 47 text then drop 1 text else behind_comment text
+
+abbrev pub is_comment : List ℕ → Bool
+is_comment text = begins_with 47 text && begins_with 42 (drop 1 text)
+
+-- a comment, which is nothing
+abbrev pub comment_at : List ℕ → Option (Reading (List ℕ))
+comment_at text = if is_comment text then Some (reading [] (behind_comment (drop 2 text))) else None
+
+-- a blank or a comment
+abbrev pub blank_at : List ℕ → Option (Reading (List ℕ))
+blank_at [] = None
+blank_at (c ∷ text) = if is_blank c then Some (reading (c ∷ []) text) else comment_at (c ∷ text)
+
+-- what comments leave; the blanks among comments and blanks, and what these leave
+unfoldable pub behind_comments : List ℕ → List ℕ
+behind_comments text = (pieces comment_at text).rest
+
+unfoldable pub blanks : List ℕ → Reading (List ℕ)
+blanks text = pieces blank_at text
+
+-- whether a blank stands here, maybe behind comments
+abbrev pub is_spaced : List ℕ → Bool
+is_spaced text = begins (λ _. true) (blanks text).value
+
+abbrev pub behind_blanks : List ℕ → List ℕ
+behind_blanks text = (blanks text).rest
+
+abbrev pub digit_at : (radix : ℕ) → List ℕ → Option (Reading (List ℕ))
+digit_at radix [] = None
+digit_at radix (c ∷ text) = if is_digit c radix then Some (reading (digit_value c ∷ []) text) else None
+
+-- a number with a digit behind it; one past the largest is the largest
+abbrev pub appended : (radix : ℕ) → Option ℕ → ℕ → ℕ
+appended radix number digit = min (unwrap_or number 0 * radix + digit) (2 ^ 32 - 1)
+
+-- the number that digits write behind another, if there is any
+abbrev pub with_digits : (radix : ℕ) → Option ℕ → List ℕ → Option ℕ
+with_digits radix number [] = number
+with_digits radix number (digit ∷ digits) = with_digits radix (Some (appended radix number digit)) digits
+
+-- at most so many digits
+unfoldable pub number_within : (radix most : ℕ) → List ℕ → Reading (Option ℕ)
+number_within radix most text = reading (with_digits radix None (pieces_within (digit_at radix) most text).value) (pieces_within (digit_at radix) most text).rest
+
+abbrev pub number_at : List ℕ → Reading (Option ℕ)
+number_at text = number_within 10 (length text) text
+
+-- one blank, if one stands here; CR and LF are one
+abbrev pub behind_blank : List ℕ → List ℕ
+behind_blank text =
+    if begins_with 13 text && begins_with 10 (drop 1 text) then drop 2 text
+    else (if begins is_blank text then drop 1 text else text)
+
+abbrev pub char_of : ℕ → ℕ
+char_of number = if number == 0 then replacement else (if scalar number then number else replacement)
+
+-- an escape, from behind its `\` (section 4.3.7, "Consume an escaped code point"); where a number isn't there, the character stands for itself
+abbrev pub escape_of : Reading (Option ℕ) → List ℕ → Reading ℕ
+escape_of number [] = reading replacement []
+escape_of number (c ∷ text) =
+    elim number.value [
+      | Some code ↦ reading (char_of code) (behind_blank number.rest)
+      | None ↦ reading (cleaned c) text
+    ]
+
+unfoldable pub escape_at : List ℕ → Reading ℕ
+escape_at text = escape_of (number_within 16 6 text) text
+
+-- section 4.3.8, "Check if two code points are a valid escape"
+abbrev pub is_escape : List ℕ → Bool
+is_escape text = begins_with backslash text && not (begins is_newline (drop 1 text))
+
+-- section 4.3.9, "Check if three code points would start an ident sequence"
+abbrev pub is_at_name : List ℕ → Bool
+is_at_name text =
+    if begins_with 45 text then begins (λ c. c == 45 || begins_name c) (drop 1 text) || is_escape (drop 1 text)
+    else begins begins_name text || is_escape text
+
+-- section 4.3.11, "Consume an ident sequence"
+abbrev pub name_piece_at : List ℕ → Option (Reading (List ℕ))
+name_piece_at [] = None
+name_piece_at (c ∷ text) =
+    if is_escape (c ∷ text) then Some (reading ((escape_at text).value ∷ []) (escape_at text).rest)
+    else (if is_in_name c then Some (reading (cleaned c ∷ []) text) else None)
+
+unfoldable pub name_at : List ℕ → Reading (List ℕ)
+name_at text = pieces name_piece_at text
+
+-- a newline; CR and LF are one
+abbrev pub behind_newline : List ℕ → List ℕ
+behind_newline text = if begins_with 13 text && begins_with 10 (drop 1 text) then drop 2 text else drop 1 text
+
+-- section 4.3.5, "Consume a string token": an escaped newline is nothing; an escape; a character
+abbrev pub string_escape_at : List ℕ → Option (Reading (List ℕ))
+string_escape_at [] = None
+string_escape_at (c ∷ text) =
+    if is_newline c then Some (reading [] (behind_newline (c ∷ text)))
+    else Some (reading ((escape_at (c ∷ text)).value ∷ []) (escape_at (c ∷ text)).rest)
+
+abbrev pub string_piece_at : (quote : ℕ) → List ℕ → Option (Reading (List ℕ))
+string_piece_at quote [] = None
+string_piece_at quote (c ∷ text) =
+    if c == backslash then string_escape_at text
+    else (if c == quote || is_newline c then None else Some (reading (cleaned c ∷ []) text))
+
+-- in UTF-8, as texts are kept
+abbrev pub in_utf8 : Reading (List ℕ) → Reading (List ℕ)
+in_utf8 read = reading (encode_utf8_all read.value) read.rest
+
+-- from behind its quote to behind the other; none where the other isn't there
+unfoldable pub string_at : (quote : ℕ) → List ℕ → Option (Reading (List ℕ))
+string_at quote text =
+    let body = pieces (string_piece_at quote) text in
+    if begins_with quote body.rest then Some (reading (encode_utf8_all body.value) (drop 1 body.rest)) else None
+
+-- a name, if one stands here
+unfoldable pub named_at : List ℕ → Option (Reading (List ℕ))
+named_at text = if is_at_name text then Some (in_utf8 (name_at text)) else None
+
+-- a closing bracket, maybe behind blanks
+unfoldable pub closed_at : (bracket : ℕ) → List ℕ → Option (Reading (Unit {0}))
+closed_at bracket text = if begins_with bracket (behind_blanks text) then Some (reading tt (drop 1 (behind_blanks text))) else None
+
+-- a namespace in front of a name, or behind `*`
+abbrev pub has_namespace : List ℕ → Bool
+has_namespace text = (begins_with 124 text && not (begins_with 61 (drop 1 text))) || (begins_with 42 text && begins_with 124 (drop 1 text))
+
+-- none is known
+unfoldable pub unqualified_at : List ℕ → Option (Reading (Unit {0}))
+unqualified_at text = if has_namespace text then None else Some (reading tt text)

@@ -1,0 +1,103 @@
+//! How many siblings of each row have the name of its node.
+ghost use Rattle.std.specs.Prelude.{◌≡◌, ◌<◌, ℕ, IfOk, get_or, length, vec_len};
+ghost use Rattle.h5_selectors.specs.Rows.{AreRows};
+ghost use Rattle.h5_selectors.specs.Tables.{CountsAlike, IsAlikeBefore, IsAlikeBehind, one_more};
+ghost use Rattle.h5_selectors.specs.declared.formula.Side.TheVariants.{First, Last};
+
+use super::formula::Side;
+use super::holds::{Query, is_alike};
+use super::rows::Rows;
+use super::tables::{count_of, zeros};
+use std::alloc::AllocError;
+
+// The nearest sibling before a row that has its name.
+fn alike_before(query: &Query<'_>, rows: &Rows, at: usize) -> Option<usize>
+    requires rows { AreRows query.now rows.now }
+    requires some { 0 < at }
+    requires within { at < length rows.now.ids.items }
+    ensures { IsAlikeBefore query.now rows.now at result }
+{
+    let id = rows.id(at);
+    let mut link = rows.links(at).previous;
+    'back: while let Some(row) = link {
+        if is_alike(query, id, rows.id(row)) {
+            return link;
+        }
+        link = rows.links(row).previous;
+    }
+    None
+}
+
+// The nearest one behind it.
+fn alike_behind(query: &Query<'_>, rows: &Rows, at: usize) -> Option<usize>
+    requires rows { AreRows query.now rows.now }
+    requires some { 0 < at }
+    requires within { at < length rows.now.ids.items }
+    ensures { IsAlikeBehind query.now rows.now at result }
+{
+    let id = rows.id(at);
+    let mut link = rows.links(at).next;
+    'forth: while let Some(row) = link {
+        if is_alike(query, id, rows.id(row)) {
+            return link;
+        }
+        link = rows.links(row).next;
+    }
+    None
+}
+
+// One more than are counted for a row, or none.
+fn one_more(counts: &[usize], link: Option<usize>) -> usize
+    requires { (k : ℕ) → get_or counts.now k 0 < 18446744073709551615 }
+    ensures { result ≡ one_more counts.now link }
+{
+    match link {
+        Some(row) => count_of(counts, row) + 1,
+        None => 0,
+    }
+}
+
+// Of each row, how many siblings before it have its name.
+fn before(query: &Query<'_>, rows: &Rows) -> Result<Vec<usize>, AllocError>
+    requires { AreRows query.now rows.now }
+    ensures count { IfOk result (λ counts. vec_len counts ≡ length rows.now.ids.items) }
+    ensures counts { IfOk result (λ counts. CountsAlike query.now First rows.now counts.items) }
+{
+    let mut counts = zeros(query.alloc, rows.len())?;
+    for at in 1..rows.len() {
+        let link = alike_before(query, rows, at);
+        counts[at] = one_more(counts.as_slice(), link);
+    }
+    Ok(counts)
+}
+
+// And behind it.
+fn behind(query: &Query<'_>, rows: &Rows) -> Result<Vec<usize>, AllocError>
+    requires { AreRows query.now rows.now }
+    ensures count { IfOk result (λ counts. vec_len counts ≡ length rows.now.ids.items) }
+    ensures counts { IfOk result (λ counts. CountsAlike query.now Last rows.now counts.items) }
+{
+    let mut counts = zeros(query.alloc, rows.len())?;
+    for step in 1..rows.len() {
+        let at = rows.len() - step;
+        let link = alike_behind(query, rows, at);
+        counts[at] = one_more(counts.as_slice(), link);
+    }
+    Ok(counts)
+}
+
+/// Of each row but the first, how many siblings on this side of it have its name.
+pub(crate) fn counts_alike(
+    query: &Query<'_>,
+    rows: &Rows,
+    side: Side,
+) -> Result<Vec<usize>, AllocError>
+    requires { AreRows query.now rows.now }
+    ensures count { IfOk result (λ counts. vec_len counts ≡ length rows.now.ids.items) }
+    ensures counts { IfOk result (λ counts. CountsAlike query.now side rows.now counts.items) }
+{
+    match side {
+        Side::First => before(query, rows),
+        Side::Last => behind(query, rows),
+    }
+}
