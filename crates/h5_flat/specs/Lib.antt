@@ -1,3 +1,9 @@
 pub mod Block
+pub mod Columns
+pub mod Html
+pub mod Ids
+pub mod Numbered
 pub mod Packed
+pub mod Read
 pub mod Sound
+pub mod Unpacked

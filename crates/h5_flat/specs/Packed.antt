@@ -5,6 +5,9 @@ use Rattle.std.specs.List.{flat_map}
 use Rattle.h5_flat.specs.Block.{ends_at, first_row_in, is_block, kind_word_in, name_ends_at, names_in, nodes_in, parents_at, quirks_in, row_ends_at, row_names_at, rows_in, space_word_in, texts_at, word_in}
 use Rattle.h5_flat.specs.declared.columns.Columns.{Columns}
 use Rattle.h5_flat.specs.declared.columns.Ended.{Ended}
+use Rattle.h5_flat.specs.declared.columns.EndedWord.{EndedWord}
+use Rattle.h5_flat.specs.declared.columns.EndedWord.TheVariants as ended
+use Rattle.h5_flat.specs.declared.columns.EndedWord.TheVariants.{About}
 use Rattle.h5_flat.specs.declared.columns.FlatNode.{FlatNode}
 use Rattle.h5_flat.specs.declared.columns.NodeWord.{NodeWord}
 use Rattle.h5_flat.specs.declared.columns.NodeWord.TheVariants.{End, Kind, Parent, Row, Text}
@@ -28,11 +31,18 @@ abbrev pub column : NodeWord → List FlatNode → List ℕ
 column which = map (word_of which)
 
 -- and one word of each row or name, and where its bytes end
+abbrev pub ended_word : EndedWord → Ended → ℕ
+ended_word About row = row.word
+ended_word ended.End row = row.end
+
+abbrev pub ended_column : EndedWord → List Ended → List ℕ
+ended_column which = map (ended_word which)
+
 abbrev pub words_in : List Ended → List ℕ
-words_in = map (λ row. row.word)
+words_in = ended_column About
 
 abbrev pub ends_in : List Ended → List ℕ
-ends_in = map (λ row. row.end)
+ends_in = ended_column ended.End
 
 -- the columns of nodes, of which texts and rows have one word more, those of rows, and those of names
 abbrev pub node_words : Columns → List ℕ

@@ -1,17 +1,19 @@
 //! What takes the calls that tell of a tree, and keeps its nodes.
-ghost use Rattle.std.specs.Iterator.{IsFinite};
-ghost use Rattle.std.specs.Prelude.{◌≡◌};
-ghost use Rattle.h5_arena.specs.ArenaModel.{IsHeld};
-ghost use Rattle.h5_flat.specs.Packed.{word_of};
+ghost use Rattle.std.specs.Prelude.{◌≡◌, List, IfOk, OnOk, length, map};
+ghost use Rattle.std.specs.Iterator.{Drains, IsFinite};
+ghost use Rattle.h5_serialize.specs.Call.{StartOf};
+ghost use Rattle.h5_flat.specs.Block as b;
+ghost use Rattle.h5_flat.specs.Columns as c;
+ghost use Rattle.h5_flat.specs.Columns.{held};
+ghost use Rattle.h5_flat.specs.Packed.{ended_word, word_of};
 
 use super::names::Names;
 use super::numbers::{
-    COMMENT, DOCTYPE, DOCUMENT, ELEMENT, FRAGMENT, INSTRUCTION, KINDS, NOTHING, TEXT, short,
+    COMMENT, DOCTYPE, ELEMENT, FRAGMENT, INSTRUCTION, KINDS, NOTHING, TEXT, quirks_number, short,
 };
-use h5_arena::{Arena, Child, Kind, NodeId};
 use h5_interface::QuirksMode;
 use h5_names::QualName;
-use h5_serialize::{AttrRef, Serialize, SerializeFault, Serializer, TraversalScope};
+use h5_serialize::{AttrRef, SerializeFault, Serializer};
 use std::alloc::{AllocError, Global};
 
 /// A node of a tree, as words.
@@ -58,6 +60,24 @@ pub(crate) struct Ended {
     pub(crate) end: u32,
 }
 
+/// A word of a row or a name.
+#[derive(Clone, Copy)]
+pub(crate) enum EndedWord {
+    About,
+    End,
+}
+
+impl Ended {
+    pub(crate) fn get(&self, which: EndedWord) -> u32
+        ensures { result ≡ ended_word which self.now }
+    {
+        match which {
+            EndedWord::About => self.word,
+            EndedWord::End => self.end,
+        }
+    }
+}
+
 /// The nodes of a tree, in tree order.
 #[derive(Drop)]
 pub struct Columns {
@@ -70,74 +90,119 @@ pub struct Columns {
     pub(crate) text: Vec<u8>,
     // The node below which the next ones stand.
     current: u32,
-    // The identifiers of the doctype.
+    // The identifiers of a doctype to come, of which the calls don't tell.
     public_id: Vec<u8>,
     system_id: Vec<u8>,
 }
 
 // Whether what stands below an element stands in its contents.
-fn is_template(name: &QualName) -> bool {
+fn is_template(name: &QualName) -> bool
+    ensures { result ≡ c.is_template name.now }
+{
     name.ns.is_html() && name.local.as_str() == "template"
 }
 
 impl Columns {
-    fn new(alloc: Global) -> Result<Columns, AllocError> {
+    /// Nothing yet, but the identifiers of a doctype to come.
+    #[tactic(auto, unfolding(crate::specs::Columns::held))]
+    pub(crate) fn new(
+        alloc: Global,
+        quirks: QuirksMode,
+        public_id: &str,
+        system_id: &str,
+    ) -> Result<Columns, AllocError>
+        ensures { IfOk result (λ columns. held columns ≡ c.nothing_held quirks (record { public_id = public_id.now; system_id = system_id.now })) }
+    {
         Ok(Columns {
-            quirks: 0,
+            quirks: quirks_number(quirks),
             nodes: Vec::new(alloc),
             rows: Vec::new(alloc),
             names: Names::new(alloc)?,
             values: Vec::new(alloc),
             text: Vec::new(alloc),
             current: NOTHING,
-            public_id: Vec::new(alloc),
-            system_id: Vec::new(alloc),
+            public_id: Vec::from_slice(alloc, public_id.as_bytes())?,
+            system_id: Vec::from_slice(alloc, system_id.as_bytes())?,
         })
     }
 
+    // The number of a name. One that is new gets the next one.
+    #[tactic(auto, unfolding(crate::specs::Columns::held, crate::specs::Columns::named))]
+    fn number(&mut self, name: &QualName) -> Result<u32, AllocError>
+        ensures number { IfOk result (λ number. number ≡ c.number_of (held self.old).names.met name.now) }
+        ensures named { OnOk result (held self.new ≡ c.named name.now (held self.old)) }
+    {
+        self.names.number(name)
+    }
+
     // A new node below the current one, with nothing below it.
-    fn add(&mut self, kind: u32) -> Result<u32, AllocError> {
+    #[tactic(auto, unfolding(crate::specs::Columns::held, crate::specs::Columns::with_node))]
+    fn add(&mut self, kind: u32) -> Result<u32, AllocError>
+        ensures index { IfOk result (λ index. index ≡ length self.old.nodes.items) }
+        ensures node { OnOk result (held self.new ≡ c.with_node kind (held self.old)) }
+    {
         let index = short(self.nodes.len())?;
         self.nodes.push(FlatNode {
             kind,
             parent: self.current,
-            end: index.saturating_add(1),
+            end: index + 1,
             text: short(self.text.len())?,
             row: short(self.rows.len())?,
         })?;
         Ok(index)
     }
 
-    // A new node, below which the next ones stand.
-    fn open(&mut self, kind: u32) -> Result<(), AllocError> {
+    /// A new node, below which the next ones stand.
+    #[tactic(auto, unfolding(crate::specs::Columns::held, crate::specs::Columns::opened))]
+    pub(crate) fn open(&mut self, kind: u32) -> Result<(), AllocError>
+        ensures { OnOk result (held self.new ≡ c.opened kind (held self.old)) }
+    {
         self.current = self.add(kind)?;
         Ok(())
     }
 
-    // All that stands below the current node was told.
-    fn close(&mut self) -> Result<(), AllocError> {
+    /// All that stands below the current node was told.
+    #[tactic(auto, unfolding(crate::specs::Columns::held, crate::specs::Columns::closed))]
+    pub(crate) fn close(&mut self) -> Result<(), AllocError>
+        ensures { OnOk result (held self.new ≡ c.closed (held self.old)) }
+    {
         let end = short(self.nodes.len())?;
-        if let Some(node) = self.nodes.as_mut_slice().get_mut(self.current as usize) {
-            node.end = end;
-            self.current = node.parent;
+        let current = self.current as usize;
+        if current < self.nodes.len() {
+            self.nodes[current].end = end;
+            self.current = self.nodes[current].parent;
         }
         Ok(())
     }
 
     // A row of the newest node.
-    fn add_row(&mut self, name: u32, value: &[u8]) -> Result<(), AllocError> {
+    #[tactic(auto, unfolding(crate::specs::Columns::held, crate::specs::Columns::with_row, crate::specs::Columns::with_text))]
+    fn add_row(&mut self, name: u32, value: &[u8]) -> Result<(), AllocError>
+        ensures { OnOk result (held self.new ≡ c.with_row name value.now (held self.old)) }
+    {
         self.values.extend_from_slice(value)?;
         let end = short(self.values.len())?;
         self.rows.push(Ended { word: name, end })?;
         Ok(())
     }
 
-    fn open_element(&mut self, name: &QualName) -> Result<(), AllocError> {
-        let number = self.names.number(name)?;
+    #[tactic(auto, unfolding(crate::specs::Columns::element_opened))]
+    fn open_element(&mut self, name: &QualName) -> Result<(), AllocError>
+        ensures { OnOk result (held self.new ≡ c.element_opened name.now (held self.old)) }
+    {
+        let number = self.number(name)?;
         if number >= NOTHING / KINDS {
             return Err(AllocError);
         }
-        self.open(number.saturating_mul(KINDS).saturating_add(ELEMENT))
+        self.open(number * KINDS + ELEMENT)
+    }
+
+    #[tactic(auto, unfolding(crate::specs::Columns::with_attribute))]
+    fn add_attribute<T: AttrRef>(&mut self, attr: &T) -> Result<(), AllocError>
+        ensures { OnOk result (held self.new ≡ c.with_attribute (held self.old) (T.attribute attr.now)) }
+    {
+        let number = self.number(attr.name())?;
+        self.add_row(number, attr.value().as_bytes())
     }
 
     fn add_attributes<T: AttrRef, I: Iterator<Item = T> + Drop>(
@@ -146,85 +211,128 @@ impl Columns {
     ) -> Result<(), AllocError>
         requires can { I.can_next attrs }
         requires ends { IsFinite (I.remaining attrs) }
+        ensures { OnOk result ((all : List _) × Drains I.next_gives attrs all
+            × (held self.new ≡ c.with_attributes (held self.old) (map T.attribute all))) }
     {
         for attr in attrs {
-            let number = self.names.number(attr.name())?;
-            self.add_row(number, attr.value().as_bytes())?;
+            self.add_attribute(&attr)?;
         }
         Ok(())
     }
 
     // What stands in a template stands below its contents.
-    fn open_contents(&mut self, is_template: bool) -> Result<(), AllocError> {
-        if is_template {
+    #[tactic(auto, unfolding(crate::specs::Columns::contents_opened))]
+    fn open_contents(&mut self, name: &QualName) -> Result<(), AllocError>
+        ensures { OnOk result (held self.new ≡ c.contents_opened name.now (held self.old)) }
+    {
+        if is_template(name) {
             self.open(FRAGMENT)?;
         }
         Ok(())
     }
 
-    fn close_element(&mut self, is_template: bool) -> Result<(), AllocError> {
-        if is_template {
+    // The start of an element.
+    fn start<T: AttrRef, I: Iterator<Item = T> + Drop>(
+        &mut self,
+        name: &QualName,
+        attrs: I,
+    ) -> Result<(), AllocError>
+        requires can { I.can_next attrs }
+        requires ends { IsFinite (I.remaining attrs) }
+        ensures { OnOk result ((all : List _) × Drains I.next_gives attrs all
+            × (held self.new ≡ c.after_call (held self.old) (StartOf name.now (map T.attribute all)))) }
+    {
+        self.open_element(name)?;
+        self.add_attributes(attrs)?;
+        self.open_contents(name)
+    }
+
+    #[tactic(auto, unfolding(crate::specs::Columns::element_closed))]
+    fn close_element(&mut self, name: &QualName) -> Result<(), AllocError>
+        ensures { OnOk result (held self.new ≡ c.element_closed name.now (held self.old)) }
+    {
+        if is_template(name) {
             self.close()?;
         }
         self.close()
     }
 
-    // The identifiers of the doctype, as its rows.
-    fn add_identifiers(&mut self) -> Result<(), AllocError> {
+    // The identifiers of the doctype that was to come. No other has any.
+    #[tactic(auto, unfolding(crate::specs::Columns::held))]
+    fn take_ids(&mut self) -> (Vec<u8>, Vec<u8>)
+        ensures public_id { result.0.items ≡ (held self.old).ids.public_id }
+        ensures system_id { result.1.items ≡ (held self.old).ids.system_id }
+        ensures rest { held self.new ≡ record (held self.old) { ids = c.no_ids } }
+    {
         let alloc = *self.values.allocator();
         let public_id = std::mem::replace(&mut self.public_id, Vec::new(alloc));
         let system_id = std::mem::replace(&mut self.system_id, Vec::new(alloc));
+        (public_id, system_id)
+    }
+
+    // The identifiers of the doctype, as its rows.
+    #[tactic(auto, unfolding(crate::specs::Columns::with_ids))]
+    fn add_ids(&mut self) -> Result<(), AllocError>
+        ensures { OnOk result (held self.new ≡ c.with_ids (held self.old)) }
+    {
+        let (public_id, system_id) = self.take_ids();
         self.add_row(NOTHING, public_id.as_slice())?;
         self.add_row(NOTHING, system_id.as_slice())
     }
 
     // A node that has no name, with its first row.
-    fn add_with_row(&mut self, kind: u32, row: &str) -> Result<(), AllocError> {
+    fn add_with_row(&mut self, kind: u32, row: &str) -> Result<(), AllocError>
+        ensures { OnOk result (held self.new ≡ c.with_row b.nothing row.now (c.with_node kind (held self.old))) }
+    {
         let _node = self.add(kind)?;
         self.add_row(NOTHING, row.as_bytes())
     }
 
-    fn add_text(&mut self, text: &str) -> Result<(), AllocError> {
-        let _node = self.add(TEXT)?;
+    // The text of the newest node.
+    #[tactic(auto, unfolding(crate::specs::Columns::held, crate::specs::Columns::with_bytes))]
+    fn add_bytes(&mut self, text: &str) -> Result<(), AllocError>
+        ensures { OnOk result (held self.new ≡ c.with_bytes text.now (held self.old)) }
+    {
         self.text.extend_from_slice(text.as_bytes())
     }
 }
 
 impl Serializer for Columns {
     ghost use Rattle.std.specs.Prelude.{[], None, Ok};
+    ghost use Rattle.h5_serialize.specs.declared.fault.SerializeFault.TheVariants.{Memory};
+    ghost use Rattle.h5_flat.specs.Columns.{Held, after_call, held};
 
-    ghost Meaning = { Unit {0} };
+    ghost Meaning = { Held };
 
-    ghost meaning = { λ _. tt };
+    ghost meaning = { held };
 
-    ghost contents = { λ _. None };
+    ghost contents = { λ columns. None };
 
-    ghost answer = { λ _ _. Ok tt };
+    ghost answer = { λ columns call. Ok tt };
 
-    ghost after = { λ _ _. tt };
+    ghost after = { after_call };
 
-    ghost writes = { λ _ _. [] };
+    ghost writes = { λ columns call. [] };
 
-    ghost breaks = { λ before text call fault after written. Unit {0} };
+    ghost breaks = { λ before text call fault after written. fault ≡ Memory };
 
     fn start_elem<T: AttrRef, I: Iterator<Item = T> + Drop>(
         &mut self,
         name: QualName,
         attrs: I,
     ) -> Result<(), SerializeFault> {
-        self.open_element(&name)?;
-        self.add_attributes(attrs)?;
-        self.open_contents(is_template(&name))?;
+        self.start(&name, attrs)?;
         Ok(())
     }
 
     fn end_elem(&mut self, name: QualName) -> Result<(), SerializeFault> {
-        self.close_element(is_template(&name))?;
+        self.close_element(&name)?;
         Ok(())
     }
 
     fn write_text(&mut self, text: &str) -> Result<(), SerializeFault> {
-        self.add_text(text)?;
+        let _node = self.add(TEXT)?;
+        self.add_bytes(text)?;
         Ok(())
     }
 
@@ -235,7 +343,7 @@ impl Serializer for Columns {
 
     fn write_doctype(&mut self, name: &str) -> Result<(), SerializeFault> {
         self.add_with_row(DOCTYPE, name)?;
-        self.add_identifiers()?;
+        self.add_ids()?;
         Ok(())
     }
 
@@ -248,78 +356,4 @@ impl Serializer for Columns {
         self.add_row(NOTHING, content.as_bytes())?;
         Ok(())
     }
-}
-
-// Keeps the identifiers of a doctype, of which the calls don't tell.
-fn keep_identifiers(columns: &mut Columns, kind: &Kind) -> Result<bool, AllocError> {
-    let Kind::Doctype {
-        public_id,
-        system_id,
-        ..
-    } = kind
-    else {
-        return Ok(false);
-    };
-    columns
-        .public_id
-        .extend_from_slice(public_id.as_str().as_bytes())?;
-    columns
-        .system_id
-        .extend_from_slice(system_id.as_str().as_bytes())?;
-    Ok(true)
-}
-
-// The same of the doctype of a document.
-fn take_doctype(columns: &mut Columns, arena: &Arena) -> Result<(), AllocError> {
-    for child in arena.children(arena.document()) {
-        if let Child::Node(id) = child {
-            if keep_identifiers(columns, arena.kind(*id))? {
-                return Ok(());
-            }
-        }
-    }
-    Ok(())
-}
-
-fn quirks_number(quirks: QuirksMode) -> u32 {
-    match quirks {
-        QuirksMode::NoQuirks => 0,
-        QuirksMode::LimitedQuirks => 1,
-        QuirksMode::Quirks => 2,
-    }
-}
-
-// Takes what stands below a node, and ends the root.
-fn take_below(columns: &mut Columns, arena: &Arena, root: NodeId) -> Result<(), AllocError>
-    requires { IsHeld arena.now root }
-{
-    let scope = TraversalScope::ChildrenOnly(None);
-    if arena.at(root).serialize(columns, scope).is_err() {
-        return Err(AllocError);
-    }
-    columns.close()
-}
-
-/// The columns of a document. An `AllocError` where memory is refused, and where a column has more than 4,294,967,294 entries or
-/// bytes, or the tree more than 16,777,214 names.
-pub fn columns_of_document(alloc: Global, arena: &Arena) -> Result<Columns, AllocError> {
-    let mut columns = Columns::new(alloc)?;
-    columns.quirks = quirks_number(arena.quirks());
-    columns.open(DOCUMENT)?;
-    take_doctype(&mut columns, arena)?;
-    take_below(&mut columns, arena, arena.document())?;
-    Ok(columns)
-}
-
-/// The columns of the fragment that stands below the root which the parser of a fragment made. Where there is none, it is empty. An
-/// `AllocError` as of [`columns_of_document`].
-pub fn columns_of_fragment(alloc: Global, arena: &Arena) -> Result<Columns, AllocError> {
-    let mut columns = Columns::new(alloc)?;
-    columns.quirks = quirks_number(arena.quirks());
-    columns.open(FRAGMENT)?;
-    match arena.fragment_root() {
-        Some(root) => take_below(&mut columns, arena, root)?,
-        None => columns.close()?,
-    }
-    Ok(columns)
 }

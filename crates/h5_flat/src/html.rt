@@ -1,4 +1,12 @@
 //! A node of a block, written as HTML.
+ghost use Rattle.std.specs.Prelude.{◌≡◌, ◌≤◌, [], ◌∷◌, IfOk, OnOk, reverse};
+ghost use Rattle.h5_names.specs.AttributeText.{attribute_text, attribute_texts};
+ghost use Rattle.h5_serialize.specs.Call.{StartOf};
+ghost use Rattle.h5_arena.specs.Html.{opts_for};
+ghost use Rattle.h5_flat.specs.Block as b;
+ghost use Rattle.h5_flat.specs.Html as h;
+ghost use Rattle.h5_flat.specs.Read as r;
+
 use super::numbers::{
     COMMENT, DOCTYPE, ELEMENT, INSTRUCTION, NOTHING, TEXT, namespace_url, prefix_text,
 };
@@ -11,7 +19,10 @@ type Html = HtmlSerializer<Vec<u8>>;
 
 impl<'a> View<'a> {
     /// The text of a text and of what stands below another node.
-    pub(crate) fn text_of(&self, node: u32) -> &'a str {
+    #[tactic(auto, unfolding(crate::specs::Read::text_of))]
+    pub(crate) fn text_of(&self, node: u32) -> &'a str
+        ensures { result.now ≡ r.text_of self.now.block.now node }
+    {
         match self.text(node) {
             Some(span) => self.str_at(span),
             None => "",
@@ -19,48 +30,70 @@ impl<'a> View<'a> {
     }
 
     /// The value of a row.
-    pub(crate) fn value_of(&self, node: u32, index: u32) -> &'a str {
+    #[tactic(auto, unfolding(crate::specs::Read::value_of))]
+    pub(crate) fn value_of(&self, node: u32, index: u32) -> &'a str
+        ensures { result.now ≡ r.value_of self.now.block.now node index }
+    {
         match self.row(node, index) {
             Some(row) => self.str_at(row.value),
             None => "",
         }
     }
 
-    fn prefix_of(&self, alloc: Global, name: u32) -> Result<Option<Prefix>, AllocError> {
+    fn prefix_of(&self, alloc: Global, name: u32) -> Result<Option<Prefix>, AllocError>
+        ensures { IfOk result (λ prefix. prefix ≡ r.prefix_named (b.prefix_in self.now.block.now name)) }
+    {
         match prefix_text(self.prefix(name)) {
             Some(text) => Ok(Some(Prefix::new(alloc, text)?)),
             None => Ok(None),
         }
     }
 
-    /// The name of a number.
-    pub(crate) fn qual_name(&self, alloc: Global, name: u32) -> Result<QualName, AllocError> {
-        let prefix = self.prefix_of(alloc, name)?;
-        let ns = Namespace::new(alloc, namespace_url(self.namespace(name)))?;
-        let local = match self.name_text(name) {
+    // The local name of a name.
+    fn local_of(&self, name: u32) -> &'a str
+        ensures { result.now ≡ r.local_of self.now.block.now name }
+    {
+        match self.name_text(name) {
             Some(span) => self.str_at(span),
             None => "",
-        };
-        Ok(QualName::new(prefix, ns, LocalName::new(alloc, local)?))
+        }
     }
 
-    fn attribute(&self, alloc: Global, node: u32, index: u32) -> Result<Attribute, AllocError> {
-        let number = match self.row(node, index) {
+    /// The name of a number.
+    #[tactic(auto, unfolding(crate::specs::Read::name_of))]
+    pub(crate) fn qual_name(&self, alloc: Global, name: u32) -> Result<QualName, AllocError>
+        ensures { IfOk result (λ result. result ≡ r.name_of self.now.block.now name) }
+    {
+        let prefix = self.prefix_of(alloc, name)?;
+        let ns = Namespace::new(alloc, namespace_url(self.namespace(name)))?;
+        let local = LocalName::new(alloc, self.local_of(name))?;
+        Ok(QualName::new(prefix, ns, local))
+    }
+
+    // The number of the name of a row.
+    fn row_name(&self, node: u32, index: u32) -> u32
+        ensures { result ≡ r.row_name_of self.now.block.now node index }
+    {
+        match self.row(node, index) {
             Some(row) => row.name,
             None => NOTHING,
-        };
+        }
+    }
+
+    #[tactic(auto, unfolding(crate::specs::Read::attribute_of))]
+    fn attribute(&self, alloc: Global, node: u32, index: u32) -> Result<Attribute, AllocError>
+        ensures { IfOk result (λ attribute. attribute_text attribute ≡ r.attribute_of self.now.block.now node index) }
+    {
         Ok(Attribute {
-            name: self.qual_name(alloc, number)?,
+            name: self.qual_name(alloc, self.row_name(node, index))?,
             value: String::from_str(alloc, self.value_of(node, index))?,
         })
     }
 
     /// The attributes of an element.
-    pub(crate) fn attributes(
-        &self,
-        alloc: Global,
-        node: u32,
-    ) -> Result<Vec<Attribute>, AllocError> {
+    pub(crate) fn attributes(&self, alloc: Global, node: u32) -> Result<Vec<Attribute>, AllocError>
+        ensures { IfOk result (λ attrs. attribute_texts attrs.items ≡ r.attributes_of self.now.block.now node) }
+    {
         let mut attrs = Vec::new(alloc);
         for index in 0..self.row_count(node) {
             attrs.push(self.attribute(alloc, node, index)?)?;
@@ -68,13 +101,17 @@ impl<'a> View<'a> {
         Ok(attrs)
     }
 
-    fn start(&self, alloc: Global, node: u32, html: &mut Html) -> Result<(), SerializeFault> {
+    fn start(&self, alloc: Global, node: u32, html: &mut Html) -> Result<(), SerializeFault>
+        ensures { OnOk result (h.AreTold (StartOf (r.name_of self.now.block.now (b.name_in self.now.block.now node)) (r.attributes_of self.now.block.now node) ∷ []) html.old html.new) }
+    {
         let attrs = self.attributes(alloc, node)?;
         html.start_elem(self.qual_name(alloc, self.name(node))?, attrs.iter())
     }
 
     // Writes the begin of a node: the start of an element, or all of another node.
-    fn begin(&self, alloc: Global, node: u32, html: &mut Html) -> Result<(), SerializeFault> {
+    fn begin(&self, alloc: Global, node: u32, html: &mut Html) -> Result<(), SerializeFault>
+        ensures { OnOk result (h.AreTold (h.begin_calls self.now.block.now node) html.old html.new) }
+    {
         match self.kind(node) {
             ELEMENT => self.start(alloc, node, html),
             TEXT => html.write_text(self.text_of(node)),
@@ -87,7 +124,9 @@ impl<'a> View<'a> {
         }
     }
 
-    fn close(&self, alloc: Global, node: u32, html: &mut Html) -> Result<(), SerializeFault> {
+    fn close(&self, alloc: Global, node: u32, html: &mut Html) -> Result<(), SerializeFault>
+        ensures { OnOk result (h.AreTold (h.end_calls self.now.block.now node) html.old html.new) }
+    {
         if self.kind(node) == ELEMENT {
             return html.end_elem(self.qual_name(alloc, self.name(node))?);
         }
@@ -98,19 +137,22 @@ impl<'a> View<'a> {
     fn close_before(
         &self,
         alloc: Global,
-        open: &mut Vec<u32>,
+        begun: &mut Vec<u32>,
         node: u32,
         html: &mut Html,
-    ) -> Result<(), SerializeFault> {
-        for _ in 0..open.len() {
-            match open.pop() {
-                Some(last) if self.end(last) <= node => self.close(alloc, last, html)?,
-                Some(last) => {
-                    open.push(last)?;
-                    return Ok(());
-                }
-                None => return Ok(()),
+    ) -> Result<(), SerializeFault>
+        ensures told { OnOk result (h.AreTold (h.ends_before self.now.block.now node (reverse begun.old.items)) html.old html.new) }
+        ensures left { OnOk result (reverse begun.new.items ≡ h.open_at self.now.block.now node (reverse begun.old.items)) }
+    {
+        for _step in 0..begun.len() {
+            let Some(last) = begun.pop() else {
+                return Ok(());
+            };
+            if self.end(last) > node {
+                begun.push(last)?;
+                return Ok(());
             }
+            self.close(alloc, last, html)?;
         }
         Ok(())
     }
@@ -122,23 +164,42 @@ impl<'a> View<'a> {
         from: u32,
         to: u32,
         html: &mut Html,
-    ) -> Result<(), SerializeFault> {
-        let mut open: Vec<u32> = Vec::new(alloc);
+    ) -> Result<(), SerializeFault>
+        requires { from ≤ to }
+        ensures { OnOk result (h.AreTold (h.calls_of self.now.block.now from to) html.old html.new) }
+    {
+        let mut begun: Vec<u32> = Vec::new(alloc);
         for node in from..to {
-            self.close_before(alloc, &mut open, node, html)?;
+            self.close_before(alloc, &mut begun, node, html)?;
             self.begin(alloc, node, html)?;
-            open.push(node)?;
+            begun.push(node)?;
         }
-        self.close_before(alloc, &mut open, to, html)
+        self.close_before(alloc, &mut begun, to, html)
     }
 
-    // The options for what stands below a node, or for all.
-    fn options(
+    // Writes a node with what stands below it, or what stands below it alone.
+    #[tactic(auto, unfolding(crate::specs::Html::calls_in))]
+    fn write_node(
         &self,
         alloc: Global,
         node: u32,
         is_outer: bool,
-    ) -> Result<SerializeOpts, AllocError> {
+        html: &mut Html,
+    ) -> Result<(), SerializeFault>
+        ensures { OnOk result (h.AreTold (h.calls_in self.now.block.now node is_outer) html.old html.new) }
+    {
+        if node >= self.node_count() {
+            return Ok(());
+        }
+        let from = if is_outer { node } else { node + 1 };
+        self.write(alloc, from, self.end(node), html)
+    }
+
+    // The options for what stands below a node, or for all.
+    #[tactic(auto, unfolding(crate::specs::Html::scope_in))]
+    fn options(&self, alloc: Global, node: u32, is_outer: bool) -> Result<SerializeOpts, AllocError>
+        ensures { IfOk result (λ opts. opts ≡ opts_for (h.scope_in self.now.block.now node is_outer)) }
+    {
         let mut opts = SerializeOpts::default();
         if !is_outer && self.kind(node) == ELEMENT {
             let parent = self.qual_name(alloc, self.name(node))?;
@@ -147,28 +208,28 @@ impl<'a> View<'a> {
         Ok(opts)
     }
 
-    fn html(&self, alloc: Global, node: u32, is_outer: bool) -> Result<Vec<u8>, SerializeFault> {
+    fn html(&self, alloc: Global, node: u32, is_outer: bool) -> Result<Vec<u8>, SerializeFault>
+        ensures { IfOk result (λ html. html.items ≡ h.html_of self.now.block.now node is_outer) }
+    {
         let opts = self.options(alloc, node, is_outer)?;
         let mut html = HtmlSerializer::new(alloc, Vec::new(alloc), opts)?;
-        if node < self.node_count() {
-            let from = if is_outer {
-                node
-            } else {
-                node.saturating_add(1)
-            };
-            self.write(alloc, from, self.end(node), &mut html)?;
-        }
+        self.write_node(alloc, node, is_outer, &mut html)?;
         Ok(html.writer)
     }
 }
 
-/// The HTML of a node with itself, or of what stands below it. Nothing is written where there is no such node. An `AllocError` where
-/// memory is refused.
+/// The HTML of a node with itself, or of what stands below it (HTML standard, section 13.3, "Serializing HTML fragments"). Nothing is
+/// written where there is no such node. An `AllocError` where memory is refused.
 pub fn html_of(
     alloc: Global,
     view: &View<'_>,
     node: u32,
     is_outer: bool,
-) -> Result<Vec<u8>, AllocError> {
-    view.html(alloc, node, is_outer).map_err(|_| AllocError)
+) -> Result<Vec<u8>, AllocError>
+    ensures { IfOk result (λ html. html.items ≡ h.html_of view.now.block.now node is_outer) }
+{
+    match view.html(alloc, node, is_outer) {
+        Ok(html) => Ok(html),
+        Err(_) => Err(AllocError),
+    }
 }

@@ -1,9 +1,12 @@
 //! The names of a tree, each with a number.
+ghost use Rattle.std.specs.Prelude.{◌≡◌, [], IfOk, OnOk, length};
+ghost use Rattle.h5_flat.specs.Columns.{names_held, no_texts, number_of, with_name};
+
 use super::columns::Ended;
-use super::numbers::{NOTHING, namespace_number, prefix_number, short};
+use super::numbered_names::NumberedNames;
+use super::numbers::{NOTHING, name_word, namespace_number, short};
 use h5_names::{KnownName, QualName};
 use std::alloc::{AllocError, Global};
-use std::collections::BTreeMap;
 
 // Room for each known name in each of eight namespaces.
 const KNOWN: usize = 8192;
@@ -14,66 +17,85 @@ pub(crate) struct Names {
     // Of each name its namespace, with its prefix above, and where its text ends.
     pub(crate) list: Vec<Ended>,
     pub(crate) text: Vec<u8>,
+    numbered: NumberedNames,
+    // The number that a known name without a prefix had last, where its search is spared if it has it yet.
     known: Vec<u32>,
-    others: BTreeMap<QualName, u32>,
-    alloc: Global,
+}
+
+// Where the number of a name is looked for first. Nothing for a name with a prefix, and for one that HTML doesn't know.
+fn slot(name: &QualName) -> Option<usize> {
+    let known = name.local.known();
+    if name.prefix.is_some() || known == KnownName::Other {
+        return None;
+    }
+    let space = namespace_number(&name.ns) as usize;
+    Some((known as usize).saturating_mul(8).saturating_add(space))
 }
 
 impl Names {
-    pub(crate) fn new(alloc: Global) -> Result<Names, AllocError> {
+    /// No name yet.
+    pub(crate) fn new(alloc: Global) -> Result<Names, AllocError>
+        ensures { IfOk result (λ names. names_held names ≡ record { met = []; texts = no_texts }) }
+    {
         Ok(Names {
             list: Vec::new(alloc),
             text: Vec::new(alloc),
+            numbered: NumberedNames::new(alloc),
             known: Vec::from_elem(alloc, NOTHING, KNOWN)?,
-            others: BTreeMap::new(alloc),
-            alloc,
         })
     }
 
-    // A new name.
-    fn add(&mut self, space: u32, prefix: u32, local: &str) -> Result<u32, AllocError> {
-        let number = short(self.list.len())?;
-        self.text.extend_from_slice(local.as_bytes())?;
+    // A name that is new.
+    fn add(&mut self, name: &QualName) -> Result<u32, AllocError>
+        requires { number_of (names_held self.old).met name.now ≡ length (names_held self.old).met }
+        ensures number { IfOk result (λ number. number ≡ length (names_held self.old).met) }
+        ensures names { OnOk result (names_held self.new ≡ with_name name.now (names_held self.old)) }
+    {
+        let number = self.numbered.add(name)?;
+        self.text.extend_from_slice(name.local.as_str().as_bytes())?;
         let end = short(self.text.len())?;
-        let word = space.saturating_add(prefix.saturating_mul(256));
+        let word = name_word(name);
         self.list.push(Ended { word, end })?;
         Ok(number)
     }
 
-    // The number of a name with a prefix, or of one that HTML doesn't know.
-    fn other(&mut self, name: &QualName, space: u32, prefix: u32) -> Result<u32, AllocError> {
-        if let Some(number) = self.others.get(name) {
-            return Ok(*number);
+    // The number of a name, by a search.
+    fn search(&mut self, name: &QualName) -> Result<u32, AllocError>
+        ensures number { IfOk result (λ number. number ≡ number_of (names_held self.old).met name.now) }
+        ensures names { OnOk result (names_held self.new ≡ with_name name.now (names_held self.old)) }
+    {
+        match self.numbered.find(name) {
+            Some(number) => Ok(number),
+            None => self.add(name),
         }
-        let key = name.clone()?;
-        let number = self.add(space, prefix, name.local.as_str())?;
-        self.others.insert(key, number)?;
-        Ok(number)
     }
 
-    /// The number of a name.
-    pub(crate) fn number(&mut self, name: &QualName) -> Result<u32, AllocError> {
-        let space = namespace_number(&name.ns);
-        if let Some(prefix) = &name.prefix {
-            let prefix = prefix_number(prefix.as_str());
-            return self.other(name, space, prefix);
-        }
-        let known = name.local.known();
-        if known == KnownName::Other {
-            return self.other(name, space, 0);
-        }
-        let slot = (known as usize)
-            .saturating_mul(8)
-            .saturating_add(space as usize);
-        if let Some(number) = self.known.as_slice().get(slot) {
-            if *number != NOTHING {
-                return Ok(*number);
+    // The number of a name that has a slot.
+    fn number_at(&mut self, slot: usize, name: &QualName) -> Result<u32, AllocError>
+        ensures number { IfOk result (λ number. number ≡ number_of (names_held self.old).met name.now) }
+        ensures names { OnOk result (names_held self.new ≡ with_name name.now (names_held self.old)) }
+    {
+        let last = self.known.as_slice().get(slot).copied();
+        if let Some(number) = last {
+            if self.numbered.is(number, name) {
+                return Ok(number);
             }
         }
-        let number = self.add(space, 0, name.local.as_str())?;
+        let number = self.search(name)?;
         if let Some(place) = self.known.as_mut_slice().get_mut(slot) {
             *place = number;
         }
         Ok(number)
+    }
+
+    /// The number of a name. One that is new gets the next one.
+    pub(crate) fn number(&mut self, name: &QualName) -> Result<u32, AllocError>
+        ensures number { IfOk result (λ number. number ≡ number_of (names_held self.old).met name.now) }
+        ensures names { OnOk result (names_held self.new ≡ with_name name.now (names_held self.old)) }
+    {
+        match slot(name) {
+            Some(slot) => self.number_at(slot, name),
+            None => self.search(name),
+        }
     }
 }

@@ -1,7 +1,10 @@
 //! The numbers of kinds (`nodeType` of the DOM standard), of namespaces and of prefixes.
-ghost use Rattle.std.specs.Prelude.{◌≡◌, IfOk};
+ghost use Rattle.std.specs.Prelude.{◌≡◌, ◌≤◌, ◌<◌, IfOk, option_copied};
+ghost use Rattle.h5_flat.specs.Columns as c;
+ghost use Rattle.h5_flat.specs.Read as r;
 
-use h5_names::{Namespace, namespaces};
+use h5_interface::QuirksMode;
+use h5_names::{Namespace, QualName, namespaces};
 use std::alloc::AllocError;
 
 pub const ELEMENT: u32 = 1;
@@ -25,7 +28,11 @@ pub const NOTHING: u32 = 0xffff_ffff;
 pub(crate) const KINDS: u32 = 256;
 
 /// The number of a namespace: 0 for none, 7 for one that HTML doesn't know.
-pub(crate) fn namespace_number(ns: &Namespace) -> u32 {
+#[tactic(auto, unfolding(crate::specs::Columns::namespace_number))]
+pub(crate) fn namespace_number(ns: &Namespace) -> u32
+    ensures number { result ≡ c.namespace_number ns.now }
+    ensures small { result ≤ 7 }
+{
     if ns.is_html() {
         return 1;
     }
@@ -41,7 +48,10 @@ pub(crate) fn namespace_number(ns: &Namespace) -> u32 {
 }
 
 /// The namespace of a number.
-pub(crate) fn namespace_url(number: u32) -> &'static str {
+#[tactic(auto, unfolding(crate::specs::Read::namespace_named))]
+pub(crate) fn namespace_url(number: u32) -> &'static str
+    ensures { result.now ≡ r.namespace_named number }
+{
     match number {
         1 => namespaces::HTML,
         2 => namespaces::MATHML,
@@ -54,7 +64,11 @@ pub(crate) fn namespace_url(number: u32) -> &'static str {
 }
 
 /// The number of a prefix: 4 for one that HTML doesn't know.
-pub(crate) fn prefix_number(prefix: &str) -> u32 {
+#[tactic(auto, unfolding(crate::specs::Columns::prefix_number))]
+pub(crate) fn prefix_number(prefix: &str) -> u32
+    ensures number { result ≡ c.prefix_number prefix.now }
+    ensures small { result ≤ 4 }
+{
     match prefix {
         "xlink" => 1,
         "xml" => 2,
@@ -63,8 +77,23 @@ pub(crate) fn prefix_number(prefix: &str) -> u32 {
     }
 }
 
+/// The numbers of the namespace and the prefix of a name in one word. No prefix is 0.
+#[tactic(auto, unfolding(crate::specs::Columns::name_word))]
+pub(crate) fn name_word(name: &QualName) -> u32
+    ensures { result ≡ c.name_word name.now }
+{
+    let prefix = match &name.prefix {
+        Some(prefix) => prefix_number(prefix.as_str()),
+        None => 0,
+    };
+    namespace_number(&name.ns) + prefix * 256
+}
+
 /// The prefix of a number.
-pub(crate) fn prefix_text(number: u32) -> Option<&'static str> {
+#[tactic(auto, unfolding(crate::specs::Read::prefix_named))]
+pub(crate) fn prefix_text(number: u32) -> Option<&'static str>
+    ensures { option_copied result ≡ r.prefix_named number }
+{
     match number {
         1 => Some("xlink"),
         2 => Some("xml"),
@@ -73,9 +102,21 @@ pub(crate) fn prefix_text(number: u32) -> Option<&'static str> {
     }
 }
 
+/// The number of a quirks mode.
+pub(crate) fn quirks_number(quirks: QuirksMode) -> u32
+    ensures { result ≡ c.quirks_number quirks }
+{
+    match quirks {
+        QuirksMode::NoQuirks => 0,
+        QuirksMode::LimitedQuirks => 1,
+        QuirksMode::Quirks => 2,
+    }
+}
+
 /// A length as a word. The last word stands for nothing, so it is refused as want of memory, and so is what is longer.
 pub(crate) fn short(length: usize) -> Result<u32, AllocError>
-    ensures { IfOk result (λ word. word ≡ length) }
+    ensures length { IfOk result (λ word. word ≡ length) }
+    ensures fits { IfOk result (λ word. word < 4294967295) }
 {
     if length < NOTHING as usize {
         Ok(length as u32)

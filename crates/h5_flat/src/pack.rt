@@ -1,9 +1,9 @@
 //! The block of a tree.
 ghost use Rattle.std.specs.Prelude.{◌≡◌, ◌<◌, ◌^◌, ◌++◌, ◌∷◌, [], IfOk, OnOk, length};
 ghost use Rattle.std.specs.Int.{w32, to_le_bytes};
-ghost use Rattle.h5_flat.specs.Packed.{AreWords, AreWordsOf, IsReadAs, block_of, bytes_of_words, column, column_bytes, column_words, ends_in, front_words, length_of, node_words, place_words, words_in, words_of};
+ghost use Rattle.h5_flat.specs.Packed.{AreWords, AreWordsOf, IsReadAs, block_of, bytes_of_words, column, column_bytes, column_words, ended_column, ends_in, front_words, length_of, node_words, place_words, words_in, words_of};
 
-use super::columns::{Columns, Ended, FlatNode, NodeWord};
+use super::columns::{Columns, Ended, EndedWord, FlatNode, NodeWord};
 use super::numbers::{NOTHING, short};
 use std::alloc::{AllocError, Global};
 
@@ -49,22 +49,13 @@ fn put_column(block: &mut Vec<u8>, nodes: &[FlatNode], which: NodeWord) -> Resul
     Ok(())
 }
 
-fn put_words(block: &mut Vec<u8>, list: &[Ended]) -> Result<(), AllocError>
-    ensures bytes { OnOk result (block.new.items ≡ block.old.items ++ bytes_of_words (words_in list.now)) }
-    ensures words { OnOk result (AreWords (words_in list.now)) }
+// One word of each row or name.
+fn put_ended(block: &mut Vec<u8>, list: &[Ended], which: EndedWord) -> Result<(), AllocError>
+    ensures bytes { OnOk result (block.new.items ≡ block.old.items ++ bytes_of_words (ended_column which list.now)) }
+    ensures words { OnOk result (AreWords (ended_column which list.now)) }
 {
     for one in list {
-        put(block, one.word)?;
-    }
-    Ok(())
-}
-
-fn put_ends(block: &mut Vec<u8>, list: &[Ended]) -> Result<(), AllocError>
-    ensures bytes { OnOk result (block.new.items ≡ block.old.items ++ bytes_of_words (ends_in list.now)) }
-    ensures words { OnOk result (AreWords (ends_in list.now)) }
-{
-    for one in list {
-        put(block, one.end)?;
+        put(block, one.get(which))?;
     }
     Ok(())
 }
@@ -139,8 +130,8 @@ impl Columns {
         ensures bytes { OnOk result (block.new.items ≡ block.old.items ++ bytes_of_words (words_in list.now ++ ends_in list.now)) }
         ensures words { OnOk result (AreWords (words_in list.now ++ ends_in list.now)) }
     {
-        put_words(block, list)?;
-        put_ends(block, list)
+        put_ended(block, list, EndedWord::About)?;
+        put_ended(block, list, EndedWord::End)
     }
 
     #[tactic(auto, using(crate::proofs::PackLaws::bytes_of_four, crate::proofs::PackLaws::words_of_four))]

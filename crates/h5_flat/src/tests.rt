@@ -1,7 +1,7 @@
 //! A tree as a block, and what is read of it.
-use super::columns::columns_of_document;
 use super::html::html_of;
 use super::numbers::{COMMENT, DOCUMENT, ELEMENT, NOTHING, TEXT};
+use super::of_arena::columns_of_document;
 use super::unpack::arena_of;
 use super::view::View;
 use h5_arena::{Arena, NodeId, TreeFault};

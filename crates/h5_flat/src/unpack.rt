@@ -1,4 +1,7 @@
 //! The arena of a block.
+ghost use Rattle.std.specs.Prelude.{◌≡◌};
+ghost use Rattle.h5_flat.specs.Unpacked.{id_of};
+
 use super::numbers::{COMMENT, DOCTYPE, DOCUMENT, ELEMENT, FRAGMENT, INSTRUCTION, TEXT, short};
 use super::view::View;
 use h5_arena::{Arena, NodeId, TreeFault};
@@ -24,7 +27,9 @@ fn quirks_of(number: u32) -> QuirksMode {
 
 impl Unpacked {
     /// The node of a number. Nothing for a text, and where there is no such node.
-    pub fn id(&self, node: u32) -> Option<NodeId> {
+    pub fn id(&self, node: u32) -> Option<NodeId>
+        ensures { result ≡ id_of self.now node }
+    {
         self.ids.as_slice().get(node as usize).copied().flatten()
     }
 

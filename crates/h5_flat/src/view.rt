@@ -1,6 +1,7 @@
 //! A block, read as a tree. Each read is checked, so any bytes may be a block.
 ghost use Rattle.std.specs.Prelude.{◌≡◌, ◌≤◌, ◌<◌, ◌⊎◌, ◌+◌, ◌^◌, IfSome, is_some, length};
 ghost use Rattle.h5_flat.specs.Block as b;
+ghost use Rattle.h5_flat.specs.Read as r;
 
 use super::numbers::{ELEMENT, FRAGMENT, KINDS, NOTHING};
 use super::pack::{FRONT, MAGIC};
@@ -362,11 +363,25 @@ impl<'a> View<'a> {
         between(self.block, self.names_begin, from, to)
     }
 
+    // The bytes of a span. There are none where it doesn't lie in the block.
+    #[tactic(auto, unfolding(crate::specs::Read::bytes_in))]
+    fn bytes_at(&self, span: Span) -> &'a [u8]
+        ensures { result.now ≡ r.bytes_in self.now.block.now span }
+    {
+        let block = self.block;
+        if span.at > block.len() || span.count > block.len() - span.at {
+            return &[];
+        }
+        &block[span.at..span.at + span.count]
+    }
+
     /// The text of a span. It is empty where the span doesn't lie in the block, or isn't UTF-8.
-    pub fn str_at(&self, span: Span) -> &'a str {
-        match self.block.get(span.at..span.at.saturating_add(span.count)) {
-            Some(bytes) => std::str::from_utf8(bytes).unwrap_or(""),
-            None => "",
+    pub fn str_at(&self, span: Span) -> &'a str
+        ensures { result.now ≡ r.str_in self.now.block.now span }
+    {
+        match std::str::from_utf8(self.bytes_at(span)) {
+            Ok(text) => text,
+            Err(_) => "",
         }
     }
 }
