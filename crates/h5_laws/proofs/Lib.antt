@@ -1,3 +1,4 @@
+pub mod LawfulRow
 pub mod RuleLaws
 pub mod cuts
 pub mod kept

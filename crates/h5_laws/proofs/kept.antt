@@ -3,4 +3,3 @@ pub mod DoctypeLaws
 pub mod FitsLaws
 pub mod FittingLaws
 pub mod ForeignFitLaws
-pub mod RowListsLaws

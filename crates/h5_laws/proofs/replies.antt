@@ -1,4 +1,4 @@
 -- What rules list and answer, whatever the world.
-pub mod ListableLaws
-pub mod SilentLaws
+pub mod SilentRowLaws
 pub mod TextReadLaws
+pub mod ToldBodyLaws

@@ -5,6 +5,6 @@ pub mod ForeignTurnLaws
 pub mod RankLaws
 pub mod RankWeightLaws
 pub mod Ranks
+pub mod RowLeadsLaws
 pub mod SettleLaws
-pub mod TableAgainLaws
 pub mod TurnLaws

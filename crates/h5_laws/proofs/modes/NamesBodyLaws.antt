@@ -1,9 +1,13 @@
 -- What modes that go by the body tell by names: the modes of the body fit where they do, and any other end tag in them.
 use Rattle.std.proofs.Common.{◌≡◌, ℕ, Bool, true, false, List, refl, ap, sym, subst, ◌∙◌}
+use Rattle.std.proofs.lemmas.Slice.Eq.{bytes_eq-Decides}
+use Rattle.h5_names.specs.KnownNames.{name_text}
+use Rattle.h5_names.specs.declared.known_name.KnownName.{KnownName}
 use Rattle.h5_names.specs.declared.qualified.QualName.{QualName}
 use Rattle.h5_tables.specs.TagSets.{is_html_named, is_special}
 use Rattle.h5_tables.specs.declared.modes.InsertionMode.{InsertionMode}
 use Rattle.h5_tables.specs.declared.modes.InsertionMode.TheVariants.{AfterAfterBody, AfterBody, InBody, InRow, InTable, InTableBody}
+use Rattle.h5_rules.specs.ByName.{named}
 use Rattle.h5_rules.specs.stack.Scope.{comes_before_special, cut_names, drop_while, is_implied_but}
 use Rattle.h5_rules.specs.fitting.Fits.{Situation, goes_by_body, is_table_mode}
 use Rattle.h5_rules.specs.fitting.Floors.{Grounded, above, in_head, on_body, on_root, on_template}
@@ -100,3 +104,7 @@ names_other_end s m local ns goes may h f = at (role_of_local local) refl may
     at BodyRole e k = absurd k
     at TemplateRole e k = absurd k
     at x e k = in_body x e refl k
+
+-- a known name's role
+pub role_known : (known : KnownName) (name : List ℕ) → named known name ≡ true → role_of_local name ≡ role_of_local (name_text known)
+role_known known name h = ap role_of_local ((bytes_eq-Decides name (name_text known)).0 h)

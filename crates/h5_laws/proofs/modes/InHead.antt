@@ -1,0 +1,88 @@
+-- HTML standard, section 13.2.6.4.4, the "in head" insertion mode: each of its rows is lawful.
+use Rattle.std.proofs.Common.{◌∷◌, ◌≡◌, Bool, [], codes, refl, subst, sym, true}
+use Rattle.h5_names.specs.declared.known_name.KnownName.TheVariants.{Noscript}
+use Rattle.h5_token.specs.TokenText.{TagText}
+use Rattle.h5_token.specs.declared.states.RawKind.TheVariants.{Rawtext}
+use Rattle.h5_token.specs.declared.tag.TagKind.{TagKind}
+use Rattle.h5_token.specs.declared.tag.TagKind.TheVariants.{EndTag, StartTag}
+use Rattle.h5_interface.specs.SinkChoices.{SinkChoices}
+use Rattle.h5_tables.specs.TagSets.{is_html_named}
+use Rattle.h5_tables.specs.TurnText.{CommentTurn, TagTurn, TextTurn, TurnText}
+use Rattle.h5_tables.specs.declared.modes.InsertionMode.TheVariants.{AfterHead, InHead, InHeadNoscript}
+use Rattle.h5_tables.specs.declared.modes.SplitStatus.TheVariants.{Whitespace}
+use Rattle.h5_rules.specs.ByName.{by_kind, by_name, ignored_tag, named}
+use Rattle.h5_rules.specs.Changes.{insert_element, pop}
+use Rattle.h5_rules.specs.Rows.{Again, Pop, row}
+use Rattle.h5_rules.specs.Sound.{Sound, situation_of}
+use Rattle.h5_rules.specs.World.{World, names_of}
+use Rattle.h5_rules.specs.fitting.NamesFit.{NamesFit}
+use Rattle.h5_rules.specs.formatting.FormattingNames.{html_name}
+use Rattle.h5_rules.specs.modes.InHead.{in_head, in_head_else, in_head_end, in_head_end_head, in_head_start_noscript, in_head_start_tag, in_head_tag}
+use Rattle.h5_rules.proofs.changes.NameLaws.{names-insert}
+use Rattle.h5_rules.proofs.changes.PopLaws.{names-pop}
+use Rattle.h5_rules.proofs.changes.SituationLaws.{situation_insert, situation_pop}
+use Rattle.h5_rules.proofs.fitting.NamesFitLaws.{names_head_popped, names_noscript_pushed}
+use Rattle.h5_rules.proofs.modes.BodyRowLaws.{row_head_start_by}
+use Rattle.h5_rules.proofs.modes.HeadContentLaws.{kept_head_start, kept_raw, noscript_plain}
+use Rattle.h5_rules.proofs.modes.TemplateRowLaws.{kept_end_in_head, kept_start_template}
+use Rattle.h5_rules.proofs.roles.RoleLaws.{made_named}
+use Rattle.h5_rules.proofs.rows.ByNameLaws.{holds_by_name, holds_chosen, of_named}
+use Rattle.h5_rules.proofs.rows.KeptLaws.{FitsAs, Kept, fits_at}
+use Rattle.h5_rules.proofs.rows.ToldLaws.{IsTold}
+use Rattle.h5_laws.proofs.LawfulRow.{IsLawfulFor, IsLawfulRow, IsLawfulTag, lawful_ignored, lawful_row}
+use Rattle.h5_laws.proofs.modes.BodyListsLaws.{stays, stays_head_start_by}
+use Rattle.h5_laws.proofs.modes.SharedRows.{comment_lawful, end_template_lawful, text_row_lawful}
+use Rattle.h5_laws.proofs.turns.AgainLaws.{kind_of_start, row_stops}
+use Rattle.h5_laws.proofs.turns.Ranks.{TurnKind}
+use Rattle.h5_laws.proofs.turns.RowLeadsLaws.{ByEdge, RowLeads, stops}
+use Rattle.h5_laws.proofs.turns.Ranks as edges
+
+module _ (choices : SinkChoices) (w : World) (sound : Sound w) where
+  -- the head is popped
+  head_popped : FitsAs InHead w → FitsAs AfterHead (pop choices w)
+  head_popped h =
+      fits_at AfterHead w (pop choices w) sound (situation_pop choices w)
+      (subst (NamesFit (situation_of w) AfterHead) (sym (names-pop choices w)) (names_head_popped (situation_of w) (names_of w) h))
+
+  -- a `noscript` is pushed
+  noscript_pushed : (tag : TagText) → named Noscript tag.name ≡ true → FitsAs InHead w → FitsAs InHeadNoscript (insert_element choices tag.name tag.attrs tag.had_duplicate_attributes w)
+  noscript_pushed tag p h =
+      fits_at InHeadNoscript w (insert_element choices tag.name tag.attrs tag.had_duplicate_attributes w) sound (situation_insert choices w tag.name tag.attrs tag.had_duplicate_attributes sound)
+      (subst (NamesFit (situation_of w) InHeadNoscript) (sym (names-insert choices tag.name tag.attrs tag.had_duplicate_attributes w sound))
+      (names_noscript_pushed (situation_of w) (html_name tag.name) (names_of w) is_noscript h))
+    where
+      is_noscript : is_html_named (codes "noscript") (html_name tag.name) ≡ true
+      is_noscript = of_named (λ n. is_html_named (codes "noscript") (html_name n) ≡ true) Noscript tag.name (made_named (codes "noscript")) p
+
+  -- a `noscript`, whose text is raw where scripts run
+  kept_noscript : w.mode ≡ InHead → (tag : TagText) → named Noscript tag.name ≡ true → Kept choices w InHead (in_head_start_noscript tag w)
+  unfolding in_head_start_noscript names_of
+  kept_noscript same tag p = holds_chosen (Kept choices w InHead) w.options.scripting_enabled _ _
+      (λ e. kept_raw choices w sound InHead same refl Rawtext tag (noscript_plain tag.name p)) (λ e. noscript_pushed tag p)
+
+else_lawful : {c : TurnKind} {starts : Bool} {given : Type 0} (w : World) → IsLawfulRow InHead c starts given w (row (Pop ∷ []) (Again AfterHead))
+else_lawful {c = c} w = lawful_row _ (tt, tt) (λ choices s. head_popped choices w s.sound) (tt, (refl, tt)) tt (edges.in_head c)
+
+start_lawful : (tag : TagText) (w : World) → IsLawfulTag StartTag tag InHead w (in_head_start_tag tag w)
+start_lawful tag w =
+    let c = kind_of_start tag.name in
+    record {
+      steady = λ choices s same some. stays_head_start_by choices w s InHead tag (λ n. stays choices w s InHead (in_head_else (TagTurn tag) w) (tt, tt));
+      fits = λ choices s same some. kept_head_start choices w s.sound InHead same refl tag (λ p. kept_noscript choices w s.sound same tag p) (λ p. kept_start_template choices w s.sound InHead tag refl) (λ n. head_popped choices w s.sound);
+      told = λ n. row_head_start_by tag w IsTold (λ r b. b.told) (λ n. (tt, (refl, tt)));
+      silent = λ n h. absurd (cc);
+      leads = row_head_start_by tag w (RowLeads c InHead w) (λ r b. stops c InHead w r (row_stops r b)) (λ n. ByEdge (edges.in_head c));
+    }
+
+tag_lawful : (k : TagKind) (tag : TagText) (w : World) → IsLawfulTag k tag InHead w (by_kind k (in_head_start_tag tag w) (by_name in_head_end ignored_tag tag w))
+unfolding in_head_end names_of
+tag_lawful StartTag tag w = start_lawful tag w
+tag_lawful EndTag tag w = holds_by_name (IsLawfulTag EndTag tag InHead w) in_head_end ignored_tag tag w
+    ((λ p. lawful_row (in_head_end_head tag w) (tt, (tt, tt)) (λ choices s. head_popped choices w s.sound) (tt, (refl, tt)) tt tt), ((λ p. else_lawful w), ((λ p. end_template_lawful InHead w tag (λ choices s. kept_end_in_head choices w tag)), tt))) (λ n. lawful_ignored)
+
+pub lawful_in_head : (t : TurnText) (w : World) → IsLawfulFor t InHead w (in_head t w)
+unfolding in_head_tag
+lawful_in_head (TagTurn tag) w = tag_lawful tag.kind tag w
+lawful_in_head (CommentTurn x) w = comment_lawful InHead w x
+lawful_in_head (TextTurn Whitespace x) w = text_row_lawful InHead w Whitespace x
+lawful_in_head t w = else_lawful w

@@ -1,0 +1,91 @@
+-- To which modes a row leads: of rows that are chosen, of templates, and at the end of the file by the rules of the body.
+use Rattle.std.proofs.Common.{◌++◌, ◌||◌, ◌∷◌, ◌≡◌, Bool, List, [], codes, false, refl, subst, true, ℕ}
+use Rattle.std.proofs.lemmas.Slice.Eq.{bytes_eq-Decides}
+use Rattle.h5_names.specs.AttributeText.{is_same_text}
+use Rattle.h5_names.specs.KnownNames.{name_text}
+use Rattle.h5_names.specs.declared.known_name.KnownName.{KnownName}
+use Rattle.h5_names.specs.declared.known_name.KnownName.TheVariants.{Col, Table}
+use Rattle.h5_token.specs.TokenText.{TagText}
+use Rattle.h5_tables.specs.TagSets.{is_one_of}
+use Rattle.h5_tables.specs.TurnText.{EofTurn}
+use Rattle.h5_tables.specs.declared.modes.InsertionMode.{InsertionMode}
+use Rattle.h5_tables.specs.declared.modes.InsertionMode.TheVariants.{InColumnGroup, InTable, InTableText, Text}
+use Rattle.h5_rules.specs.ByName.{NonePasses, named}
+use Rattle.h5_rules.specs.Rows.{Again, AgainBy, ClearActiveFormattingToMarker, IsDone, Pop, PopTemplateMode, PopUntilNamed, ResetMode, Row, TakePendingText, row}
+use Rattle.h5_rules.specs.World.{World, names_of}
+use Rattle.h5_rules.specs.fitting.Fits.{is_table_mode}
+use Rattle.h5_rules.specs.fitting.Reset.{reset_mode}
+use Rattle.h5_rules.specs.modes.InBody.{body_ends, in_body, no_template_mode}
+use Rattle.h5_rules.specs.modes.InHead.{in_head_end_template, in_head_start, in_head_start_tag, template_eof}
+use Rattle.h5_rules.specs.modes.InTableText.{pending_text, saved_mode}
+use Rattle.h5_rules.specs.modes.Shared.{current_is}
+use Rattle.h5_rules.specs.modes.Tables.{named_in_table_scope}
+use Rattle.h5_rules.specs.modes.TextMode.{marks_script}
+use Rattle.h5_rules.specs.stack.Scope.{has_template}
+use Rattle.h5_rules.proofs.modes.BodyRowLaws.{row_end_template, row_head_start}
+use Rattle.h5_rules.proofs.rows.ByNameLaws.{HoldsOfAll, holds_chosen, of_named}
+use Rattle.h5_laws.proofs.turns.AgainLaws.{Leads, RowStops, kind_of_end, part_end_names, row_stops, stops_leads}
+use Rattle.h5_laws.proofs.turns.RankWeightLaws.{closes_templates, is_text}
+use Rattle.h5_laws.proofs.turns.Ranks.{EndPartTurns, EofTurns, StartTableTurns, TurnKind}
+use Rattle.h5_laws.proofs.turns.Ranks as edges
+
+pub of_set : (P : List ℕ → Type 0) (set : List (List ℕ)) (l : List ℕ) → HoldsOfAll P set → is_one_of set l ≡ true → P l
+of_set P [] l a h = absurd (cc)
+of_set P (t ∷ set) l a h = at (is_same_text t l) refl h (of_set P set l a.1)
+  where
+    at : (b : Bool) → is_same_text t l ≡ b → (b || is_one_of set l) ≡ true → (is_one_of set l ≡ true → P l) → P l
+    at true e k f = subst P ((bytes_eq-Decides t l).0 e) a.0
+    at false e k f = f k
+
+-- a name that is in no set isn't any of its names
+pub not_named : (known : KnownName) (set : List (List ℕ)) (l : List ℕ) → is_one_of set (name_text known) ≡ true → is_one_of set l ≡ false → named known l ≡ false
+not_named known set l a h = at (named known l) refl
+  where
+    at : (b : Bool) → named known l ≡ b → b ≡ false
+    at false e = refl
+    at true e = absurd (let k = of_named (λ n. is_one_of set n ≡ true) known l a e in cc)
+
+-- what a row leads to: by an edge, or not: it closes a table, or a column group for a start tag `table`, or takes the
+-- text that was kept back, or closes a template, or the element of a text, at the end of the file
+pub data RowLeads (c : TurnKind) (m : InsertionMode) (w : World) (r : Row) : Type 0 where
+  ByEdge : Leads c m r.ending → RowLeads c m w r
+  ClosesTable : is_table_mode m ≡ true → c ≡ StartTableTurns → named_in_table_scope (codes "table") w ≡ true → r.changes ≡ PopUntilNamed (codes "table") ∷ [] → r.ending ≡ AgainBy reset_mode → RowLeads c m w r
+  ClosesColumnGroup : m ≡ InColumnGroup → c ≡ StartTableTurns → current_is (codes "colgroup") w ≡ true → r.changes ≡ Pop ∷ [] → r.ending ≡ Again InTable → RowLeads c m w r
+  TakesPending : m ≡ InTableText → is_text c ≡ false → r.changes ≡ TakePendingText ∷ (pending_text w.pending w).changes → r.ending ≡ AgainBy saved_mode → RowLeads c m w r
+  ClosesTemplate : closes_templates m ≡ true → c ≡ EofTurns → has_template (names_of w) ≡ true → r.changes ≡ PopUntilNamed (codes "template") ∷ ClearActiveFormattingToMarker ∷ PopTemplateMode ∷ ResetMode ∷ [] → r.ending ≡ AgainBy reset_mode → RowLeads c m w r
+  EndsText : m ≡ Text → c ≡ EofTurns → r.changes ≡ marks_script w ++ Pop ∷ [] → r.ending ≡ AgainBy saved_mode → RowLeads c m w r
+
+pub stops : (c : TurnKind) (m : InsertionMode) (w : World) (r : Row) → RowStops r → RowLeads c m w r
+stops c m w r h = ByEdge (stops_leads c m r.ending h)
+
+pub leads_end_template : (c : TurnKind) (m : InsertionMode) (tag : TagText) (w : World) → RowLeads c m w (in_head_end_template tag w)
+leads_end_template c m tag w = stops c m w (in_head_end_template tag w) (row_stops (in_head_end_template tag w) (row_end_template tag w))
+
+-- by the rules of the head, a start tag that has one there
+pub starts_by_head : (c : TurnKind) (m : InsertionMode) (tag : TagText) (w : World) → (NonePasses in_head_start tag.name → ⊥) → RowLeads c m w (in_head_start_tag tag w)
+starts_by_head c m tag w some = stops c m w (in_head_start_tag tag w) (row_stops (in_head_start_tag tag w) (row_head_start tag w some))
+
+-- where a template is open, it is closed
+pub eof_template : (m : InsertionMode) (w : World) → closes_templates m ≡ true → RowLeads EofTurns m w (template_eof w)
+unfolding template_eof
+eof_template m w h =
+    holds_chosen (RowLeads EofTurns m w) (has_template (names_of w)) _ (row [] IsDone)
+    (λ e. ClosesTemplate h refl e refl refl)
+    (λ e. ByEdge tt)
+
+pub eof_body : (m : InsertionMode) (w : World) → closes_templates m ≡ true → RowLeads EofTurns m w (in_body EofTurn w)
+eof_body m w h = holds_chosen (RowLeads EofTurns m w) (no_template_mode w.template_modes) (body_ends [] IsDone w) (template_eof w) (λ e. ByEdge tt) (λ e. eof_template m w h)
+
+-- an end tag "table"
+pub end_table : (m k : InsertionMode) (name : List ℕ) → edges.Again EndPartTurns m k → named Table name ≡ true → edges.Again (kind_of_end name) m k
+unfolding kind_of_end part_end_names
+end_table m k name e h = of_named (λ n. edges.Again (kind_of_end n) m k) Table name e h
+
+-- what is in no set of start tags that a row group or a row takes isn't one of a table's
+pub no_col : (set : List (List ℕ)) (A : Type 0) (name : List ℕ) → is_one_of set (name_text Col) ≡ true → is_one_of set name ≡ false → named Col name ≡ true → A
+no_col set A name a n h = absurd (let k = not_named Col set name a n in cc)
+
+-- of two tests one
+pub either_of : (a b : Bool) → (a || b) ≡ true → a ≡ false → b ≡ false → ⊥
+either_of true b h e f = absurd (cc)
+either_of false b h e f = absurd (cc)
