@@ -11,7 +11,7 @@ mod tree;
 
 use fragment::{fragment, fragment_in_an_element};
 use html_tree_builder::Arena;
-use page::{page, page_in_chunks};
+use page::{page, page_in_chunks, page_in_its_encoding};
 use serializer::count_elements;
 use std::io::Write;
 use tokens::tokens_without_a_tree;
@@ -39,6 +39,12 @@ fn print_arena(rt: &HostRuntime, arena: &Arena) -> anyhow::Result<()> {
 fn print_page(rt: &HostRuntime) -> anyhow::Result<()> {
     let html = page(rt.alloc(), "<p>One &amp; two<p>Three")?;
     print_html(rt, "page", html.as_slice())
+}
+
+// Reads a page from bytes that say in which encoding they are, and prints it.
+fn print_page_in_its_encoding(rt: &HostRuntime) -> anyhow::Result<()> {
+    let html = page_in_its_encoding(rt.alloc(), b"<meta charset=latin1><p>Caf\xE9")?;
+    print_html(rt, "page in its encoding", html.as_slice())
 }
 
 // Reads the page `stdin` in chunks, and prints what its tree holds.
@@ -85,6 +91,7 @@ fn print_trees(rt: &HostRuntime) -> anyhow::Result<()> {
 
 fn main(rt: HostRuntime) -> anyhow::Result<()> {
     print_page(&rt)?;
+    print_page_in_its_encoding(&rt)?;
     print_page_in_chunks(&rt)?;
     print_fragment(&rt)?;
     print_fragment_in_an_element(&rt)?;

@@ -1,4 +1,5 @@
 //! Pages.
+use html_tree_builder::encodings::{Decoder, EncodingOpts, sniff};
 use html_tree_builder::serialize::serialize;
 use html_tree_builder::{Arena, ParseOpts, SerializeOpts, Utf8Parser, parse_document};
 use std::alloc::Global;
@@ -16,6 +17,21 @@ pub fn page(alloc: Global, text: &str) -> anyhow::Result<Vec<u8>> {
     let parser = parse_document(alloc, Arena::new(alloc)?, ParseOpts::default());
     let arena = parser.one(text)?;
     write_page(alloc, &arena)
+}
+
+// The text of a page's bytes, in the encoding that they are in.
+fn text_of(alloc: Global, bytes: &[u8]) -> anyhow::Result<String> {
+    let (encoding, _source) = sniff(alloc, EncodingOpts::default(), bytes)?;
+    let mut decoder = Decoder::new(alloc, encoding);
+    let mut text = decoder.decode(bytes)?;
+    text.push_str(decoder.finish())?;
+    Ok(text)
+}
+
+/// A page, read from bytes in any encoding, and written as HTML.
+pub fn page_in_its_encoding(alloc: Global, bytes: &[u8]) -> anyhow::Result<Vec<u8>> {
+    let text = text_of(alloc, bytes)?;
+    page(alloc, text.as_str())
 }
 
 // The next bytes of an input; none at its end.

@@ -18,12 +18,14 @@ pub mod standard;
 
 pub use h5_arena as arena;
 pub use h5_arena::{Arena, NodeId};
+pub use h5_bytes as bytes;
 pub use h5_clean as clean;
 pub use h5_driver as driver;
 pub use h5_driver::standard::{
     Parser, StandardReader, Utf8Parser, parse_document, parse_fragment, parse_fragment_for_element,
 };
 pub use h5_driver::{ParseOpts, Reader};
+pub use h5_encodings as encodings;
 pub use h5_interface as interface;
 pub use h5_interface::{NodeOrText, QuirksMode, TreeSink};
 pub use h5_names as names;
