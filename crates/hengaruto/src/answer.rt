@@ -1,6 +1,7 @@
 //! What is printed of a tree.
 use super::command::What;
 use super::fault::Fault;
+use super::parts::Parts;
 use super::select::{Selection, put_selected};
 use h5_listing::{
     Form, Item, about, all_links, base_of, headings, links, node_lines, print_items, references,
@@ -9,6 +10,7 @@ use h5_page::{TextOpts, text_with};
 use h5_print::{print_quirks, write_tree};
 use html_tree_builder::arena::NodeRef;
 use html_tree_builder::clean::{AllowList, TextPolicy, clean_tree};
+use html_tree_builder::encodings::EncodingOpts;
 use html_tree_builder::serialize::{SerializeFault, serialize};
 use html_tree_builder::{Arena, QuirksMode, SerializeOpts};
 use std::alloc::{AllocError, Global};
@@ -20,6 +22,8 @@ use url::Url;
 pub struct Asked<'a> {
     /// What is printed of it.
     pub what: What,
+    /// In which encoding it is read.
+    pub encodings: EncodingOpts,
     /// In which element it is read, if it is a fragment.
     pub context: Option<&'a str>,
     /// By which policy it is cleaned, if it isn't that of texts.
@@ -38,6 +42,8 @@ pub struct Asked<'a> {
     pub has_name: bool,
     /// By which name records are answered, if the pages come in records.
     pub record: Option<&'a str>,
+    /// Whether the process ends behind this page, so that its tree needn't be taken apart.
+    pub is_last: bool,
 }
 
 // What the page stands below: the document, or the root of a fragment.
@@ -109,6 +115,15 @@ fn put_tree<W: Write>(alloc: Global, arena: &Arena, out: &mut W) -> Result<(), F
     out.write_all(quirks.as_bytes()).map_err(Fault::Write)
 }
 
+// Writes a tree as HTML, in parts.
+fn put_html<W: Write>(alloc: Global, top: &NodeRef<'_>, out: &mut W) -> Result<(), Fault> {
+    let mut parts = Parts::new(alloc, out);
+    if let Err(fault) = serialize(alloc, &mut parts, top, SerializeOpts::default()) {
+        return Err(parts.fault(fault));
+    }
+    parts.finish()
+}
+
 // What a policy, or else that of texts, lets through of a tree, written as HTML.
 fn cleaned(
     alloc: Global,
@@ -133,7 +148,7 @@ pub fn put_answer<W: Write>(
         return put_selected(alloc, &top, selection, asked.form, out);
     }
     let text = match asked.what {
-        What::Html => serialize(alloc, Vec::new(alloc), &top, SerializeOpts::default())?,
+        What::Html => return put_html(alloc, &top, out),
         What::Text => text_asked(alloc, asked, &top)?.into_bytes(),
         What::Links => {
             let items = links_asked(alloc, asked, &top)?;

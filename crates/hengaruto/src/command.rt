@@ -38,7 +38,7 @@ impl What {
 const ABOUT: &str = "Shows what a page of HTML is made of, as a browser reads it";
 
 const AFTER: &str =
-    "Without a FILE, or where FILE is -, standard input is read. Input is UTF-8; U+FFFD stands for what isn't.";
+    "Without a FILE, or where FILE is -, standard input is read. A page is read in the encoding that it says, or else as UTF-8.";
 
 const RECORDS: &str =
     "Each line is an object with the HTML of a page as `html` or the name of its file as `path`. The answer has its `id`, or else the number of the line.";
@@ -53,6 +53,15 @@ fn context_option<'a>(alloc: Global) -> Arg<'a> {
         .help(
             "Reads fragments, as inside of an element of this name; svg or math and a space may stand before it",
         )
+}
+
+// The encoding of bytes, which may stand in any place.
+fn encoding_option<'a>(alloc: Global) -> Arg<'a> {
+    Arg::new(alloc, "encoding")
+        .long("encoding")
+        .global(true)
+        .value_name("LABEL")
+        .help("Reads bytes in this encoding, whatever a page says of itself")
 }
 
 // Whether the name of the file is printed; this may stand in any place, too.
@@ -224,6 +233,7 @@ pub fn command<'a>(alloc: Global) -> Result<Command<'a>, AllocError> {
         .subcommand_required(true)
         .arg_required_else_help(true)
         .arg(context_option(alloc))?
+        .arg(encoding_option(alloc))?
         .arg(name_flag(alloc))?;
     with_parts(alloc, command)?.subcommand(records_part(alloc)?)
 }

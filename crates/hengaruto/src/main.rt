@@ -1,9 +1,10 @@
 //! The program `hengaruto`: what a page is made of, for people.
 //!
 //! `command` has the command line, `page` reads pages, `tokens` writes down tokens on their way, `answer` has what is printed of a
-//! page, `policy_file` reads the policies by which pages are cleaned, `select` writes what a selector matches, `records` answers pages
-//! that come in lines of JSON, `dress` writes lines as a terminal shows them, and `progress` tells how far a long input is. It stands
-//! on the library `html_tree_builder`, whose standard reader reads all of HTML. Begin with `src/command.rt`.
+//! page, `parts` hands on HTML in parts, `policy_file` reads the policies by which pages are cleaned, `select` writes what a selector
+//! matches, `records` answers pages that come in lines of JSON, `dress` writes lines as a terminal shows them, and `progress` tells how
+//! far a long input is. It stands on the library `html_tree_builder`, whose standard reader reads all of HTML. Begin with
+//! `src/command.rt`.
 #![tactic(auto)]
 
 mod answer;
@@ -11,6 +12,7 @@ mod command;
 mod dress;
 mod fault;
 mod page;
+mod parts;
 mod policy_file;
 mod progress;
 mod records;

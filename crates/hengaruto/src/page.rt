@@ -2,15 +2,14 @@
 use super::fault::Fault;
 use super::progress::Progress;
 use super::tokens::Written;
+use html_tree_builder::encodings::{Decoder, EncodingOpts, sniff};
 use html_tree_builder::interface::{TreeSink, create_element};
 use html_tree_builder::standard::{
-    BufferQueue, Parser, Tokenizer, TokenizerOpts, TokenizerResult, Utf8Parser, parse_document,
-    parse_fragment,
+    BufferQueue, Parser, Tokenizer, TokenizerOpts, TokenizerResult, parse_document, parse_fragment,
 };
 use html_tree_builder::token::BuildFault;
 use html_tree_builder::token::states::State;
 use html_tree_builder::tree_builder::{TreeBuilder, TreeBuilderOpts};
-use html_tree_builder::utf8::Utf8LossyDecoder;
 use html_tree_builder::{Arena, LocalName, Namespace, NodeId, ParseOpts, QualName, namespaces};
 use std::alloc::{AllocError, Global};
 use std::io::Read;
@@ -61,10 +60,34 @@ fn next_bytes<'c, R: Read>(input: &mut R, chunk: &'c mut Vec<u8>) -> Result<&'c 
     Ok(&chunk.as_slice()[..count])
 }
 
-// Hands all that can be read to a parser.
-fn read_all<R: Read>(
+// How many bytes decide the encoding of a page.
+const SNIFFED: usize = 1024;
+
+// The first bytes of an input: as many as decide its encoding, or somewhat more, or all.
+fn first_bytes<R: Read>(alloc: Global, input: &mut R) -> Result<Vec<u8>, Fault> {
+    let mut first = Vec::new(alloc);
+    let mut chunk = vec![in alloc; 0u8; SNIFFED]?;
+    for _ in 0..u64::MAX {
+        let bytes = next_bytes(input, &mut chunk)?;
+        first.extend_from_slice(bytes)?;
+        if bytes.is_empty() || first.len() >= SNIFFED {
+            break;
+        }
+    }
+    Ok(first)
+}
+
+// A decoder of an input with these first bytes.
+fn decoder_of(alloc: Global, opts: EncodingOpts, first: &[u8]) -> Result<Decoder, Fault> {
+    let (encoding, _source) = sniff(alloc, opts, first)?;
+    Ok(Decoder::new(alloc, encoding))
+}
+
+// Hands all that can still be read to a parser.
+fn read_rest<R: Read>(
     rt: &HostRuntime,
-    parser: &mut Utf8Parser<Arena>,
+    parser: &mut Parser<Arena>,
+    decoder: &mut Decoder,
     input: &mut R,
 ) -> Result<(), Fault> {
     let mut chunk = vec![in rt.alloc(); 0u8; 65_536]?;
@@ -75,20 +98,35 @@ fn read_all<R: Read>(
             break;
         }
         progress.add(rt, bytes.len());
-        parser.process(bytes)?;
+        parser.process_owned(decoder.decode(bytes)?)?;
     }
     progress.finish(rt);
     Ok(())
+}
+
+// Hands all that can be read to a parser.
+fn read_all<R: Read>(
+    rt: &HostRuntime,
+    opts: EncodingOpts,
+    parser: &mut Parser<Arena>,
+    input: &mut R,
+) -> Result<(), Fault> {
+    let first = first_bytes(rt.alloc(), input)?;
+    let mut decoder = decoder_of(rt.alloc(), opts, first.as_slice())?;
+    parser.process_owned(decoder.decode(first.as_slice())?)?;
+    read_rest(rt, parser, &mut decoder, input)?;
+    Ok(parser.process(decoder.finish())?)
 }
 
 /// The tree of a page.
 pub fn tree_of<R: Read>(
     rt: &HostRuntime,
     context: Option<&str>,
+    opts: EncodingOpts,
     input: &mut R,
 ) -> Result<Arena, Fault> {
-    let mut parser = parser_in(rt.alloc(), context)?.from_utf8();
-    read_all(rt, &mut parser, input)?;
+    let mut parser = parser_in(rt.alloc(), context)?;
+    read_all(rt, opts, &mut parser, input)?;
     Ok(parser.finish()?)
 }
 
@@ -142,12 +180,15 @@ fn feed(reader: &mut Reader, queue: &mut BufferQueue, piece: String) -> Result<(
     Ok(())
 }
 
-// Feeds all that can be read.
-fn feed_all<R: Read>(rt: &HostRuntime, reader: &mut Reader, input: &mut R) -> Result<(), Fault> {
-    let alloc = rt.alloc();
-    let mut chunk = vec![in alloc; 0u8; 65_536]?;
-    let mut decoder = Utf8LossyDecoder::new(alloc);
-    let mut queue = BufferQueue::new(alloc);
+// Feeds all that can still be read.
+fn feed_rest<R: Read>(
+    rt: &HostRuntime,
+    reader: &mut Reader,
+    queue: &mut BufferQueue,
+    decoder: &mut Decoder,
+    input: &mut R,
+) -> Result<(), Fault> {
+    let mut chunk = vec![in rt.alloc(); 0u8; 65_536]?;
     let mut progress = Progress::new(rt);
     for _ in 0..u64::MAX {
         let bytes = next_bytes(input, &mut chunk)?;
@@ -155,9 +196,25 @@ fn feed_all<R: Read>(rt: &HostRuntime, reader: &mut Reader, input: &mut R) -> Re
             break;
         }
         progress.add(rt, bytes.len());
-        feed(reader, &mut queue, decoder.decode(bytes)?)?;
+        feed(reader, queue, decoder.decode(bytes)?)?;
     }
     progress.finish(rt);
+    Ok(())
+}
+
+// Feeds all that can be read.
+fn feed_all<R: Read>(
+    rt: &HostRuntime,
+    opts: EncodingOpts,
+    reader: &mut Reader,
+    input: &mut R,
+) -> Result<(), Fault> {
+    let alloc = rt.alloc();
+    let first = first_bytes(alloc, input)?;
+    let mut decoder = decoder_of(alloc, opts, first.as_slice())?;
+    let mut queue = BufferQueue::new(alloc);
+    feed(reader, &mut queue, decoder.decode(first.as_slice())?)?;
+    feed_rest(rt, reader, &mut queue, &mut decoder, input)?;
     let rest = String::from_str(alloc, decoder.finish())?;
     feed(reader, &mut queue, rest)?;
     Ok(reader.end()?)
@@ -167,9 +224,10 @@ fn feed_all<R: Read>(rt: &HostRuntime, reader: &mut Reader, input: &mut R) -> Re
 pub fn tokens_of<R: Read>(
     rt: &HostRuntime,
     context: Option<&str>,
+    opts: EncodingOpts,
     input: &mut R,
 ) -> Result<Vec<u8>, Fault> {
     let mut reader = reader_in(rt.alloc(), context)?;
-    feed_all(rt, &mut reader, input)?;
+    feed_all(rt, opts, &mut reader, input)?;
     Ok(reader.sink.text.into_bytes())
 }

@@ -4,6 +4,7 @@ use super::command::What;
 use super::fault::Fault;
 use super::run::put_input;
 use h5_listing::{Page, Record, begin_answer, end_answer};
+use html_tree_builder::encodings::{Encoding, EncodingOpts};
 use std::fs;
 use std::io::{self, BufRead, BufReader, ErrorKind, Read, Write};
 
@@ -26,10 +27,21 @@ fn printed<R: Read>(rt: &HostRuntime, asked: &Asked<'_>, input: &mut R) -> Resul
     Ok(text)
 }
 
+// The same, asked of a text, which is UTF-8 whatever the page says of itself.
+fn of_text<'a>(asked: &Asked<'a>) -> Asked<'a> {
+    Asked {
+        encodings: EncodingOpts {
+            transport: Some(Encoding::Utf8),
+            ..asked.encodings
+        },
+        ..*asked
+    }
+}
+
 // What is printed of the page of a record.
 fn printed_of(rt: &HostRuntime, asked: &Asked<'_>, page: Page<'_>) -> Result<String, Fault> {
     match page {
-        Page::Html(html) => printed(rt, asked, &mut html.as_bytes()),
+        Page::Html(html) => printed(rt, &of_text(asked), &mut html.as_bytes()),
         Page::Path(name) => {
             let mut file = fs::open(rt, name).map_err(Fault::Read)?;
             printed(rt, asked, &mut file)

@@ -10,11 +10,12 @@ use super::select::{Selection, Shown, tell_selector};
 use clap::ArgMatches;
 use h5_listing::{Form, token_lines};
 use h5_page::TextOpts;
+use html_tree_builder::encodings::{Encoding, EncodingOpts};
 use html_tree_builder::select::Selector;
 use std::alloc::Global;
-use std::fs;
 use std::io::{ErrorKind, IsTerminal, Read, Write};
 use std::process::ExitCode;
+use std::{fs, mem};
 use url::Url;
 
 // Writes tokens, as they are asked for.
@@ -40,11 +41,15 @@ pub fn put_input<R: Read, W: Write>(
     out: &mut W,
 ) -> Result<(), Fault> {
     if let What::Tokens = asked.what {
-        let text = tokens_of(rt, asked.context, input)?;
+        let text = tokens_of(rt, asked.context, asked.encodings, input)?;
         return put_tokens(rt.alloc(), asked, text, out);
     }
-    let arena = tree_of(rt, asked.context, input)?;
-    put_answer(rt.alloc(), asked, &arena, out)
+    let arena = tree_of(rt, asked.context, asked.encodings, input)?;
+    let written = put_answer(rt.alloc(), asked, &arena, out);
+    if asked.is_last {
+        mem::forget(arena);
+    }
+    written
 }
 
 // Shows an input, which is a page or has records of pages.
@@ -100,8 +105,12 @@ fn is_closed(fault: &Fault) -> bool {
 // Shows each of these files, and answers the status. A file that can't be read is told of, and the others follow.
 fn show_each(rt: &HostRuntime, asked: &Asked<'_>, files: &[&str]) -> u8 {
     let mut status = 0;
-    for file in files {
-        if let Err(fault) = show(rt, asked, file) {
+    for (at, file) in files.iter().enumerate() {
+        let asked = Asked {
+            is_last: asked.record.is_none() && at + 1 == files.len(),
+            ..*asked
+        };
+        if let Err(fault) = show(rt, &asked, file) {
             if is_closed(&fault) {
                 return status;
             }
@@ -237,6 +246,20 @@ fn text_opts(what: What, matches: &ArgMatches<'_>) -> Option<TextOpts> {
     })
 }
 
+// In which encoding pages are read: one that is said, or that a page says, or else UTF-8, in which each fragment is. None where no
+// encoding has the label that is said.
+fn encodings_by(matches: &ArgMatches<'_>, is_fragment: bool) -> Option<EncodingOpts> {
+    let transport = match matches.get_str("encoding") {
+        Some(label) => Some(Encoding::for_label(label.as_bytes())?),
+        None if is_fragment => Some(Encoding::Utf8),
+        None => None,
+    };
+    Some(EncodingOpts {
+        transport,
+        default: Encoding::Utf8,
+    })
+}
+
 // Shows what a word asks for, of pages or of records of them, and answers the status.
 fn show_word<'a>(rt: &HostRuntime, name: &'a str, is_record: bool, matches: &ArgMatches<'a>) -> u8 {
     let what = what_named(name);
@@ -244,9 +267,15 @@ fn show_word<'a>(rt: &HostRuntime, name: &'a str, is_record: bool, matches: &Arg
         let _told = writeln!(rt.stderr(), "hengaruto: no number of columns");
         return 2;
     };
+    let context = what.context(matches.get_str("fragment"));
+    let Some(encodings) = encodings_by(matches, context.is_some()) else {
+        let _told = writeln!(rt.stderr(), "hengaruto: no encoding has this label");
+        return 2;
+    };
     let asked = Asked {
         what,
-        context: what.context(matches.get_str("fragment")),
+        encodings,
+        context,
         policy: None,
         text,
         selection: None,
@@ -255,6 +284,7 @@ fn show_word<'a>(rt: &HostRuntime, name: &'a str, is_record: bool, matches: &Arg
         base: None,
         has_name: !is_record && matches.get_flag("with-name"),
         record: is_record.then_some(name),
+        is_last: false,
     };
     show_asked(rt, &asked, matches)
 }
