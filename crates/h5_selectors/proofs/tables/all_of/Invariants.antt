@@ -1,5 +1,0 @@
-use Rattle.std.proofs.Common.{◌≡◌, ℕ, ◌<◌, false, get_or, true, vec_len}
-use Rattle.h5_selectors.proofs.tables.all_of.Given as goal
-
-abbrev pub invariant-loop-at : goal.invariant-loop-at
-invariant-loop-at l = (vec_len l.all ≡ l._at) × ((k : ℕ) → k < l._at → get_or l.all.items k false ≡ true)
