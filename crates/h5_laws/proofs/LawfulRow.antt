@@ -4,7 +4,7 @@ use Rattle.h5_token.specs.Reply.{Indicates, RunsScript, TurnsPlain, TurnsRaw}
 use Rattle.h5_token.specs.TokenText.{TagText}
 use Rattle.h5_token.specs.declared.tag.TagKind.{TagKind}
 use Rattle.h5_interface.specs.SinkChoices.{SinkChoices}
-use Rattle.h5_tables.specs.TurnText.{HasText, TurnText}
+use Rattle.h5_tables.specs.TurnText.{HasText, TagTurn, TurnText}
 use Rattle.h5_tables.specs.declared.modes.InsertionMode.{InsertionMode}
 use Rattle.h5_rules.specs.Changes.{set_foster}
 use Rattle.h5_rules.specs.Kinds.{is_start}
@@ -13,11 +13,11 @@ use Rattle.h5_rules.specs.World.{World, names_of}
 use Rattle.h5_rules.specs.modes.Tables.{foster}
 use Rattle.h5_rules.proofs.changes.ListsLaws.{IsSteady, NeedsOfAll, steady_changes}
 use Rattle.h5_rules.proofs.rows.ByNameLaws.{holds_chosen}
-use Rattle.h5_rules.proofs.rows.KeptLaws.{FitsAs, IsBlind, Kept, apply_append, kept_foster}
+use Rattle.h5_rules.proofs.rows.KeptLaws.{FitsAs, Kept, apply_append, kept_foster}
+use Rattle.h5_rules.proofs.rows.EndingLaws.{EndsTurn, RowStops, Silent, stops_blind}
 use Rattle.h5_rules.proofs.rows.ListedLaws.{AllListable}
 use Rattle.h5_rules.proofs.rows.ToldLaws.{IsTold, Tells, is_text, told_append}
-use Rattle.h5_laws.proofs.replies.SilentRowLaws.{Silent, is_start_turn}
-use Rattle.h5_laws.proofs.turns.AgainLaws.{Leads, RowStops, kind_of_tag, kind_of_turn, stops_leads}
+use Rattle.h5_laws.proofs.turns.AgainLaws.{Leads, kind_of_tag, kind_of_turn, stops_leads}
 use Rattle.h5_laws.proofs.turns.Ranks.{TurnKind}
 use Rattle.h5_laws.proofs.turns.RowLeadsLaws.{ByEdge, RowLeads, stops}
 
@@ -33,6 +33,10 @@ pub record IsLawfulRow (m : InsertionMode) (c : TurnKind) (starts : Bool) (given
   pub silent : is_text m ≡ false → starts ≡ false → Silent r.ending
   -- the mode of another turn is one of those that the token's kind may lead to
   pub leads : RowLeads c m w r
+
+abbrev pub is_start_turn : TurnText → Bool
+is_start_turn (TagTurn tag) = is_start tag.kind
+is_start_turn _ = false
 
 -- for a token, and for a tag of a kind
 abbrev pub IsLawfulFor : TurnText → InsertionMode → World → Row → Type 0
@@ -56,6 +60,17 @@ lawful_leading {w = w} r needs fits told silent leads = record {
 pub lawful_row : {m : InsertionMode} {c : TurnKind} {starts : Bool} {given : Type 0} {w : World} (r : Row)
     → NeedsOfAll r.changes → ((choices : SinkChoices) → IsSteady w → Kept choices w m r) → IsTold r → Silent r.ending → Leads c m r.ending → IsLawfulRow m c starts given w r
 lawful_row r needs fits told silent leads = lawful_leading r needs (λ choices k same. fits choices k) told silent (ByEdge leads)
+
+-- or where it ends the turn
+pub lawful_ending : {m : InsertionMode} {c : TurnKind} {starts : Bool} {given : Type 0} {w : World} (r : Row)
+    → EndsTurn starts r → ((choices : SinkChoices) → IsSteady w → w.mode ≡ m → Kept choices w m r) → IsLawfulRow m c starts given w r
+lawful_ending {m = m} {c = c} {w = w} r x fits = record {
+  steady = λ choices k same some h. steady_changes choices r.changes w x.needs k;
+  fits = λ choices k same some. fits choices k same;
+  told = λ n. x.told;
+  silent = λ n s. x.silent s;
+  leads = stops c m w r x.stops;
+}
 
 -- nothing happens
 pub lawful_nothing : {m : InsertionMode} {c : TurnKind} {starts : Bool} {given : Type 0} {w : World} (quiet : Bool) → IsLawfulRow m c starts given w (row_if quiet [] IsDone)
@@ -98,15 +113,15 @@ fostered_told rule t w h =
     told_foster true r.ending (r.changes ++ off) (told_append r.ending r.changes off h tt tt)
 
 pub lawful_foster : {m : InsertionMode} {c : TurnKind} {starts : Bool} {given : Type 0} (w : World) (rule : TurnText → World → Row) (t : TurnText)
-    → IsBlind (rule t (set_foster true w)) → RowStops (rule t (set_foster true w)) → IsLawfulRow m c starts given (set_foster true w) (rule t (set_foster true w)) → IsLawfulRow m c starts given w (foster rule t w)
+    → RowStops (rule t (set_foster true w)) → IsLawfulRow m c starts given (set_foster true w) (rule t (set_foster true w)) → IsLawfulRow m c starts given w (foster rule t w)
 unfolding names_of
-lawful_foster {m = m} {c = c} w rule t blind stops x =
+lawful_foster {m = m} {c = c} w rule t stops x =
     let u = set_foster true w in
     let r = rule t u in
     let off : List Change = SetFoster false ∷ [] in
     record {
       steady = λ choices k same some h. let one = x.steady choices (record { sound = k.sound; lists = k.lists }) same some h in subst IsSteady (sym (apply_append choices r.changes off u)) (record { sound = one.sound; lists = one.lists });
-      fits = λ choices k same some. kept_foster choices w m rule t blind (x.fits choices (record { sound = k.sound; lists = k.lists }) same some);
+      fits = λ choices k same some. kept_foster choices w m rule t (stops_blind r stops) (x.fits choices (record { sound = k.sound; lists = k.lists }) same some);
       told = λ n. fostered_told rule t w (x.told n);
       silent = x.silent;
       leads = ByEdge (stops_leads c m r.ending stops);

@@ -9,9 +9,10 @@ use Rattle.h5_rules.specs.Sound.{Fits, Sound}
 use Rattle.h5_rules.specs.World.{World}
 use Rattle.h5_rules.specs.modes.Modes.{rule}
 use Rattle.h5_rules.proofs.changes.ListsLaws.{IsSteady}
+use Rattle.h5_rules.proofs.rows.EndingLaws.{Silent}
 use Rattle.h5_rules.proofs.rows.KeptLaws.{FitsAs, changes_mode, mode_with}
 use Rattle.h5_rules.proofs.rows.ToldLaws.{IsTold, is_text}
-use Rattle.h5_laws.proofs.LawfulRow.{IsLawfulFor}
+use Rattle.h5_laws.proofs.LawfulRow.{IsLawfulFor, is_start_turn}
 use Rattle.h5_laws.proofs.kept.FitsLaws.{FitsAfter, fits_set}
 use Rattle.h5_laws.proofs.modes.AfterAfterBody.{lawful_after_after_body}
 use Rattle.h5_laws.proofs.modes.AfterAfterFrameset.{lawful_after_after_frameset}
@@ -34,7 +35,6 @@ use Rattle.h5_laws.proofs.modes.InTableText.{lawful_in_table_text}
 use Rattle.h5_laws.proofs.modes.InTemplate.{lawful_in_template}
 use Rattle.h5_laws.proofs.modes.InitialMode.{lawful_initial}
 use Rattle.h5_laws.proofs.modes.TextMode.{lawful_text_mode}
-use Rattle.h5_laws.proofs.replies.SilentRowLaws.{Silent, is_start_turn}
 use Rattle.h5_laws.proofs.turns.AgainLaws.{kind_of_turn}
 use Rattle.h5_laws.proofs.turns.RowLeadsLaws.{RowLeads}
 

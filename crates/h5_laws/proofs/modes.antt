@@ -6,11 +6,8 @@ pub mod AfterFrameset
 pub mod AfterHead
 pub mod BeforeHead
 pub mod BeforeHtml
-pub mod BodyFitsLaws
-pub mod BodyListsLaws
 pub mod ForeignModeLaws
 pub mod ForeignRowLaws
-pub mod FramesetRowLaws
 pub mod InBody
 pub mod InCaption
 pub mod InCell
@@ -24,7 +21,6 @@ pub mod InTableBody
 pub mod InTableText
 pub mod InTemplate
 pub mod InitialMode
-pub mod NamesBodyLaws
 pub mod SharedRows
 pub mod TablePartLaws
 pub mod TextMode

@@ -1,4 +1,2 @@
--- What rules list and answer, whatever the world.
-pub mod SilentRowLaws
+-- What rules answer, whatever the world.
 pub mod TextReadLaws
-pub mod ToldBodyLaws

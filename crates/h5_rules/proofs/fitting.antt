@@ -5,6 +5,7 @@ pub mod CutNameLaws
 pub mod EdgeLaws
 pub mod FrameLaws
 pub mod HeadLaws
+pub mod NamesBodyLaws
 pub mod NamesFitLaws
 pub mod NamesTableLaws
 pub mod OpenLaws

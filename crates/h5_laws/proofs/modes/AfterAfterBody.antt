@@ -12,7 +12,8 @@ use Rattle.h5_rules.specs.modes.AfterAfterBody.{after_after_body, after_after_bo
 use Rattle.h5_rules.specs.modes.AfterBody.{back_to_body}
 use Rattle.h5_rules.proofs.rows.ByNameLaws.{holds_by_name}
 use Rattle.h5_laws.proofs.LawfulRow.{IsLawfulFor, IsLawfulTag, lawful_nothing}
-use Rattle.h5_laws.proofs.modes.AfterBody.{back_lawful, blank_lawful}
+use Rattle.h5_laws.proofs.modes.InBody.{body_text_lawful}
+use Rattle.h5_laws.proofs.modes.AfterBody.{back_lawful}
 use Rattle.h5_laws.proofs.modes.SharedRows.{comment_to_document_lawful, start_html_lawful}
 use Rattle.h5_laws.proofs.turns.AgainLaws.{end_no_eof, kind_of_end, kind_of_start, start_no_eof}
 use Rattle.h5_laws.proofs.turns.Ranks.{TextTurns}
@@ -28,7 +29,7 @@ pub lawful_after_after_body : (t : TurnText) (w : World) → IsLawfulFor t After
 unfolding after_after_body_tag
 lawful_after_after_body (TagTurn tag) w = tag_lawful tag.kind tag w
 lawful_after_after_body (CommentTurn x) w = comment_to_document_lawful AfterAfterBody w x
-lawful_after_after_body (TextTurn Whitespace x) w = blank_lawful AfterAfterBody w refl x
+lawful_after_after_body (TextTurn Whitespace x) w = body_text_lawful AfterAfterBody refl w Whitespace x
 lawful_after_after_body EofTurn w = lawful_nothing true
 lawful_after_after_body (TextTurn NotWhitespace x) w = back_lawful AfterAfterBody w refl (edges.after_after_body TextTurns refl)
 lawful_after_after_body (TextTurn NotSplit x) w = back_lawful AfterAfterBody w refl (edges.after_after_body TextTurns refl)

@@ -27,12 +27,12 @@ use Rattle.h5_rules.proofs.changes.NameLaws.{names-append, names-insert}
 use Rattle.h5_rules.proofs.changes.SituationLaws.{situation_frameset, situation_text, situation_tree}
 use Rattle.h5_rules.proofs.changes.TreeLaws.{tree_insert_for}
 use Rattle.h5_rules.proofs.fitting.NamesTableLaws.{names_after_frameset_pushed}
+use Rattle.h5_rules.proofs.changes.ListsLaws.{steady_changes}
 use Rattle.h5_rules.proofs.modes.ReadyInLaws.{front_formatting}
 use Rattle.h5_rules.proofs.rows.KeptLaws.{FitsAs, Kept, as_before, fits_at}
 use Rattle.h5_laws.proofs.LawfulRow.{IsLawfulFor, IsLawfulTag, lawful_ignored, lawful_nothing}
 use Rattle.h5_laws.proofs.cuts.TableTextLaws.{formatting_role}
 use Rattle.h5_laws.proofs.modes.AfterFrameset.{after_start_lawful}
-use Rattle.h5_laws.proofs.modes.BodyListsLaws.{stays_text}
 use Rattle.h5_laws.proofs.modes.SharedRows.{comment_to_document_lawful}
 use Rattle.h5_laws.proofs.turns.RowLeadsLaws.{ByEdge}
 
@@ -75,7 +75,7 @@ unfolding after_after_frameset_tag
 lawful_after_after_frameset (TagTurn tag) w = tag_lawful tag.kind tag w
 lawful_after_after_frameset (CommentTurn x) w = comment_to_document_lawful AfterAfterFrameset w x
 lawful_after_after_frameset (TextTurn Whitespace x) w = record {
-  steady = λ choices s same some. stays_text choices w s AfterAfterFrameset x some;
+  steady = λ choices s same some h. steady_changes choices (in_body_text x w).changes w (tt, (tt, (some, tt))) s;
   fits = λ choices s same some. kept_blank choices w s.sound x some;
   told = λ n. (tt, tt);
   silent = λ n h. tt;

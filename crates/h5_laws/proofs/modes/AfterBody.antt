@@ -1,5 +1,5 @@
 -- HTML standard, section 13.2.6.4.17, the "after body" insertion mode: each of its rows is lawful.
-use Rattle.std.proofs.Common.{◌∷◌, ◌≡◌, Bool, List, [], is_some, refl, true, ℕ}
+use Rattle.std.proofs.Common.{◌∷◌, ◌≡◌, Bool, [], is_some, refl, true}
 use Rattle.h5_token.specs.TokenText.{TagText}
 use Rattle.h5_token.specs.declared.tag.TagKind.{TagKind}
 use Rattle.h5_token.specs.declared.tag.TagKind.TheVariants.{EndTag, StartTag}
@@ -13,31 +13,19 @@ use Rattle.h5_rules.specs.Sound.{situation_of}
 use Rattle.h5_rules.specs.World.{World, names_of}
 use Rattle.h5_rules.specs.fitting.Fits.{goes_by_body}
 use Rattle.h5_rules.specs.modes.AfterBody.{after_body, after_body_end, after_body_start, after_body_tag, back_to_body}
-use Rattle.h5_rules.specs.modes.Shared.{in_body_text}
 use Rattle.h5_rules.proofs.rows.ByNameLaws.{holds_by_name}
 use Rattle.h5_rules.proofs.rows.KeptLaws.{FitsAs, kept_comment_to_root}
 use Rattle.h5_laws.proofs.LawfulRow.{IsLawfulFor, IsLawfulRow, IsLawfulTag, lawful_if_not, lawful_nothing, lawful_row}
-use Rattle.h5_laws.proofs.modes.BodyFitsLaws.{kept_text_in_body}
-use Rattle.h5_laws.proofs.modes.NamesBodyLaws.{names_after_after_body, names_in_body}
+use Rattle.h5_laws.proofs.modes.InBody.{body_text_lawful}
+use Rattle.h5_rules.proofs.fitting.NamesBodyLaws.{names_after_after_body, names_in_body}
 use Rattle.h5_laws.proofs.modes.SharedRows.{start_html_lawful}
 use Rattle.h5_laws.proofs.turns.AgainLaws.{end_leaves, kind_of_end, kind_of_start, start_leaves}
 use Rattle.h5_laws.proofs.turns.Ranks.{TextTurns, TurnKind}
-use Rattle.h5_laws.proofs.turns.RowLeadsLaws.{ByEdge}
 use Rattle.h5_laws.proofs.turns.Ranks as edges
 
 -- anything else goes back to the body
 pub back_lawful : {c : TurnKind} {starts : Bool} {given : Type 0} (m : InsertionMode) (w : World) → goes_by_body m ≡ true → edges.Again c m InBody → IsLawfulRow m c starts given w (errs [] (Again InBody))
 back_lawful m w goes leads = lawful_row _ tt (λ choices s h. names_in_body (situation_of w) (names_of w) m goes h) (tt, (refl, tt)) tt leads
-
--- a text goes by the rules of the body
-pub blank_lawful : (m : InsertionMode) (w : World) → goes_by_body m ≡ true → (x : List ℕ) → IsLawfulFor (TextTurn Whitespace x) m w (in_body_text x w)
-blank_lawful m w goes x = record {
-  steady = λ choices s same some. (kept_text_in_body choices w s m goes same x some).steady;
-  fits = λ choices s same some. (kept_text_in_body choices w s m goes same x some).fits;
-  told = λ n. (tt, tt);
-  silent = λ n h. tt;
-  leads = ByEdge tt;
-}
 
 after_after_body_fits : (w : World) → FitsAs AfterBody w → FitsAs AfterAfterBody w
 after_after_body_fits w h = names_after_after_body (situation_of w) (names_of w) (names_in_body (situation_of w) (names_of w) AfterBody refl h)
@@ -53,7 +41,7 @@ pub lawful_after_body : (t : TurnText) (w : World) → IsLawfulFor t AfterBody w
 unfolding after_body_tag
 lawful_after_body (TagTurn tag) w = tag_lawful tag.kind tag w
 lawful_after_body (CommentTurn x) w = lawful_row _ (tt, tt) (λ choices s. kept_comment_to_root choices w s.sound AfterBody x) (tt, tt) tt tt
-lawful_after_body (TextTurn Whitespace x) w = blank_lawful AfterBody w refl x
+lawful_after_body (TextTurn Whitespace x) w = body_text_lawful AfterBody refl w Whitespace x
 lawful_after_body EofTurn w = lawful_nothing true
 lawful_after_body (TextTurn NotWhitespace x) w = back_lawful AfterBody w refl (edges.after_body TextTurns refl)
 lawful_after_body (TextTurn NotSplit x) w = back_lawful AfterBody w refl (edges.after_body TextTurns refl)

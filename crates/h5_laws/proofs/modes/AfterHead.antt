@@ -13,7 +13,7 @@ use Rattle.h5_tables.specs.declared.modes.InsertionMode.TheVariants.{AfterHead, 
 use Rattle.h5_tables.specs.declared.modes.SplitStatus.TheVariants.{Whitespace}
 use Rattle.h5_rules.specs.ByName.{by_kind, by_name, ignored_tag, named, of_tag}
 use Rattle.h5_rules.specs.Changes.{insert_element, push_head}
-use Rattle.h5_rules.specs.Rows.{Again, AgainBy, Answers, Change, Ending, InsertElement, IsAcknowledged, IsDone, PushHead, row}
+use Rattle.h5_rules.specs.Rows.{Again, AgainBy, Answers, Change, Ending, InsertElement, IsAcknowledged, IsDone, PushHead, apply_all, row}
 use Rattle.h5_rules.specs.Sound.{Fits, HasLists, Sound, situation_of}
 use Rattle.h5_rules.specs.World.{World, names_of}
 use Rattle.h5_rules.specs.fitting.NamesFit.{NamesFit}
@@ -26,21 +26,22 @@ use Rattle.h5_rules.proofs.changes.NameLaws.{names-insert}
 use Rattle.h5_rules.proofs.changes.SituationLaws.{situation_insert}
 use Rattle.h5_rules.proofs.fitting.NamesFitLaws.{names_body_pushed}
 use Rattle.h5_rules.proofs.modes.AfterHeadLaws.{kept_with_head, lists_with_head, sound_with_head}
-use Rattle.h5_rules.proofs.modes.BodyRowLaws.{head_start_passes, row_head_start}
-use Rattle.h5_rules.proofs.modes.TemplateRowLaws.{kept_end_after_head}
+use Rattle.h5_rules.proofs.modes.HeadContentLaws.{IsHeadRow, head_content}
+use Rattle.h5_rules.proofs.modes.TemplateRowLaws.{none_after_head}
 use Rattle.h5_rules.proofs.roles.RoleLaws.{role_made}
 use Rattle.h5_rules.proofs.rows.ByNameLaws.{holds_by_name}
+use Rattle.h5_rules.proofs.changes.ListsLaws.{IsSteady}
+use Rattle.h5_rules.proofs.rows.EndingLaws.{RowStops}
 use Rattle.h5_rules.proofs.rows.KeptLaws.{FitsAs, fits_at, fits_frameset_off}
 use Rattle.h5_rules.proofs.rows.ListedLaws.{AllListable}
 use Rattle.h5_rules.proofs.rows.ToldLaws.{IsTold, NoMode, Tells, told_append}
 use Rattle.h5_laws.proofs.LawfulRow.{IsLawfulFor, IsLawfulRow, IsLawfulTag, lawful_ignored, lawful_row}
-use Rattle.h5_laws.proofs.modes.BodyListsLaws.{Stays}
-use Rattle.h5_laws.proofs.modes.FramesetRowLaws.{kept_after_head_frameset}
-use Rattle.h5_laws.proofs.modes.SharedRows.{comment_lawful, end_template_lawful, start_html_lawful, text_row_lawful}
-use Rattle.h5_laws.proofs.turns.AgainLaws.{RowStops, kind_of_start, row_stops}
+use Rattle.h5_rules.proofs.modes.FramesetRowLaws.{kept_after_head_frameset}
+use Rattle.h5_laws.proofs.modes.SharedRows.{comment_lawful, no_template_lawful, start_html_lawful, text_row_lawful}
+use Rattle.h5_laws.proofs.turns.AgainLaws.{kind_of_start}
 use Rattle.h5_laws.proofs.turns.Ranks.{TurnKind}
 use Rattle.h5_laws.proofs.turns.RowLeadsLaws.{stops}
-use Rattle.h5_laws.proofs.modes.NamesBodyLaws.{role_known}
+use Rattle.h5_rules.proofs.fitting.NamesBodyLaws.{role_known}
 use Rattle.h5_laws.proofs.turns.Ranks as edges
 
 module _ (choices : SinkChoices) (w : World) (sound : Sound w) where
@@ -57,7 +58,7 @@ module _ (choices : SinkChoices) (w : World) (sound : Sound w) where
   named_body : (name : List ℕ) → named Body name ≡ true → role_of_local name ≡ BodyRole
   named_body name h = role_known Body name h ∙ is_body
 
-  stays_with_head : (lists : HasLists w) → w.mode ≡ AfterHead → (tag : TagText) → is_one_of head_start_names tag.name ≡ true → Stays choices w (record { sound = sound; lists = lists }) AfterHead (with_head in_head_start_tag tag w)
+  stays_with_head : (lists : HasLists w) → w.mode ≡ AfterHead → (tag : TagText) → is_one_of head_start_names tag.name ≡ true → FitsAs AfterHead w → IsSteady (apply_all choices (with_head in_head_start_tag tag w).changes w)
   stays_with_head lists is tag p h =
       let f : Fits w = record { mode = subst (λ m. FitsAs m w) (sym is) h; lists = lists } in
       record { sound = sound_with_head choices tag w sound f is p; lists = lists_with_head choices tag w sound f is p }
@@ -77,17 +78,20 @@ pushed (Answers (Indicates encoding)) xs h = h
 pushed (Answers (TurnsRaw kind)) xs h = h
 pushed (Answers _) xs h = h
 
+by_head : (tag : TagText) (w : World) → is_one_of head_start_names tag.name ≡ true → IsHeadRow AfterHead (push_head w) (in_head_start_tag tag (push_head w))
+by_head tag w p = head_content AfterHead refl tag (push_head w) p (λ q. refl)
+
 with_head_row : (tag : TagText) (w : World) → is_one_of head_start_names tag.name ≡ true → IsTold (with_head in_head_start_tag tag w)
 unfolding with_head
 with_head_row tag w p =
     let r = in_head_start_tag tag (push_head w) in
     let gone = removes_told w.head in
-    pushed r.ending (r.changes ++ removes_known w.head) (told_append r.ending r.changes (removes_known w.head) (row_head_start tag (push_head w) (head_start_passes tag.name p)).told gone.0 gone.1)
+    pushed r.ending (r.changes ++ removes_known w.head) (told_append r.ending r.changes (removes_known w.head) (by_head tag w p).ends.told gone.0 gone.1)
 
 -- a start tag by the rules of the head, with the head as the current node
 with_head_stops : (tag : TagText) (w : World) → is_one_of head_start_names tag.name ≡ true → RowStops (with_head in_head_start_tag tag w)
 unfolding with_head
-with_head_stops tag w p = row_stops (in_head_start_tag tag (push_head w)) (row_head_start tag (push_head w) (head_start_passes tag.name p))
+with_head_stops tag w p = (by_head tag w p).ends.stops
 
 -- THE ROWS
 
@@ -118,7 +122,7 @@ tag_lawful StartTag tag w = holds_by_name (IsLawfulTag StartTag tag AfterHead w)
 )
     (λ n. else_lawful w)
 tag_lawful EndTag tag w = holds_by_name (IsLawfulTag EndTag tag AfterHead w) after_head_end ignored_tag tag w
-    ((λ p. lawful_ignored), ((λ p. end_template_lawful AfterHead w tag (λ choices s. kept_end_after_head choices w tag)), ((λ p. else_lawful w), tt))) (λ n. lawful_ignored)
+    ((λ p. lawful_ignored), ((λ p. no_template_lawful AfterHead w tag (none_after_head w)), ((λ p. else_lawful w), tt))) (λ n. lawful_ignored)
 
 pub lawful_after_head : (t : TurnText) (w : World) → IsLawfulFor t AfterHead w (after_head t w)
 unfolding after_head_tag

@@ -29,7 +29,7 @@ use Rattle.h5_rules.specs.modes.ForeignContent.{Finds, ReachesHtml, search_end}
 use Rattle.h5_rules.specs.Sound.{situation_of}
 use Rattle.h5_rules.specs.World.{World, name_in, names_of}
 use Rattle.h5_rules.proofs.rows.KeptLaws.{FitsAs}
-use Rattle.h5_laws.proofs.modes.NamesBodyLaws.{table_goes}
+use Rattle.h5_rules.proofs.fitting.NamesBodyLaws.{table_goes}
 
 -- IN HTML: where the adjusted current node is an element of HTML no token is foreign
 abbrev pub IsHtmlAt : World → Option ℕ → Type 0

@@ -1,6 +1,6 @@
 -- HTML standard, section 13.2.6.4.11, the "in caption" insertion mode: each of its rows is lawful.
-use Rattle.std.proofs.Common.{◌∙◌, ◌∷◌, ◌≡◌, Bool, List, [], ap, codes, false, inl, inr, refl, subst, sym, true, ℕ}
-use Rattle.h5_names.specs.declared.known_name.KnownName.TheVariants.{Caption, Html, Table}
+use Rattle.std.proofs.Common.{◌∙◌, ◌∷◌, ◌≡◌, List, [], ap, codes, false, inl, inr, refl, subst, sym, true, ℕ}
+use Rattle.h5_names.specs.declared.known_name.KnownName.TheVariants.{Html}
 use Rattle.h5_names.specs.declared.qualified.QualName.{QualName}
 use Rattle.h5_token.specs.TokenText.{TagText}
 use Rattle.h5_token.specs.declared.tag.TagKind.{TagKind}
@@ -9,7 +9,7 @@ use Rattle.h5_interface.specs.SinkChoices.{SinkChoices}
 use Rattle.h5_tables.specs.TagSets.{cell_names, implied_names, is_html_named, is_implied, is_one_of, is_table_scope}
 use Rattle.h5_tables.specs.TurnText.{TagTurn, TurnText}
 use Rattle.h5_tables.specs.declared.modes.InsertionMode.TheVariants.{InCaption, InTable}
-use Rattle.h5_rules.specs.ByName.{NonePasses, by_kind, by_name, named, of_tag}
+use Rattle.h5_rules.specs.ByName.{NonePasses, by_kind, by_name, of_tag}
 use Rattle.h5_rules.specs.Changes.{pop_until_named}
 use Rattle.h5_rules.specs.Rows.{Again, IsDone, Row, SetMode}
 use Rattle.h5_rules.specs.Sound.{situation_of}
@@ -29,10 +29,10 @@ use Rattle.h5_rules.proofs.changes.NameLaws.{names-cut}
 use Rattle.h5_rules.proofs.fitting.NamesTableLaws.{names_caption_closed}
 use Rattle.h5_rules.proofs.modes.ReadyInLaws.{in_implied, ready_in}
 use Rattle.h5_rules.proofs.roles.RoleLaws.{Origin, origin}
-use Rattle.h5_rules.proofs.rows.ByNameLaws.{holds_by_name}
+use Rattle.h5_rules.proofs.rows.ByNameLaws.{holds_by_name, ruled}
 use Rattle.h5_rules.proofs.rows.KeptLaws.{FitsAs}
 use Rattle.h5_laws.proofs.LawfulRow.{IsLawfulFor, IsLawfulTag, lawful_if, lawful_ignored, lawful_row}
-use Rattle.h5_laws.proofs.modes.BodyFitsLaws.{apart, is_of_table}
+use Rattle.h5_rules.proofs.modes.InBody.{is_of_table}
 use Rattle.h5_laws.proofs.modes.InBody.{body_other_lawful, body_tag_lawful}
 use Rattle.h5_laws.proofs.modes.TablePartLaws.{fits_cleared, fits_cut_at}
 use Rattle.h5_laws.proofs.turns.AgainLaws.{kind_of_start, kind_of_tag, part_names}
@@ -51,19 +51,16 @@ no_part_in_caption : (l : List ℕ) → NonePasses in_caption_end l → is_of_ta
 unfolding in_caption_end in_caption_ignored_ends
 no_part_in_caption l n = at (role_of_local l) (origin l)
   where
-    ends : List ℕ → Bool
-    ends = is_one_of in_caption_ignored_ends
-
     at : (x : Role) → Origin x l → is_of_table x ≡ false
-    at CaptionRole o = absurd (apart (named Caption) (codes "caption") l refl o n.0)
-    at TableRole o = absurd (apart (named Table) (codes "table") l refl o n.1.0)
-    at ColgroupRole o = absurd (apart ends (codes "colgroup") l refl o n.1.1.0)
-    at SectionRole (inl o) = absurd (apart ends (codes "tbody") l refl o n.1.1.0)
-    at SectionRole (inr (inl o)) = absurd (apart ends (codes "tfoot") l refl o n.1.1.0)
-    at SectionRole (inr (inr o)) = absurd (apart ends (codes "thead") l refl o n.1.1.0)
-    at RowRole o = absurd (apart ends (codes "tr") l refl o n.1.1.0)
-    at CellRole (inl o) = absurd (apart ends (codes "td") l refl o n.1.1.0)
-    at CellRole (inr o) = absurd (apart ends (codes "th") l refl o n.1.1.0)
+    at CaptionRole o = absurd (ruled in_caption_end (codes "caption") l (λ k. cc) o n)
+    at TableRole o = absurd (ruled in_caption_end (codes "table") l (λ k. cc) o n)
+    at ColgroupRole o = absurd (ruled in_caption_end (codes "colgroup") l (λ k. cc) o n)
+    at SectionRole (inl o) = absurd (ruled in_caption_end (codes "tbody") l (λ k. cc) o n)
+    at SectionRole (inr (inl o)) = absurd (ruled in_caption_end (codes "tfoot") l (λ k. cc) o n)
+    at SectionRole (inr (inr o)) = absurd (ruled in_caption_end (codes "thead") l (λ k. cc) o n)
+    at RowRole o = absurd (ruled in_caption_end (codes "tr") l (λ k. cc) o n)
+    at CellRole (inl o) = absurd (ruled in_caption_end (codes "td") l (λ k. cc) o n)
+    at CellRole (inr o) = absurd (ruled in_caption_end (codes "th") l (λ k. cc) o n)
     at _ o = refl
 
 caption_structure : (name : List ℕ) → is_one_of table_structure_names name ≡ true → edges.Again (kind_of_start name) InCaption InTable
@@ -101,10 +98,10 @@ module _ (k : TagKind) (tag : TagText) (w : World) where
 tag_lawful : (k : TagKind) (tag : TagText) (w : World) → tag.kind ≡ k → IsLawfulTag k tag InCaption w (by_kind k (by_name in_caption_start (of_tag in_body) tag w) (by_name in_caption_end (of_tag in_body) tag w))
 unfolding in_caption_start in_caption_end in_caption_ignored_ends
 tag_lawful StartTag tag w e = holds_by_name (IsLawfulTag StartTag tag InCaption w) in_caption_start (of_tag in_body) tag w ((λ p. close_lawful StartTag tag w (caption_structure tag.name p)), tt)
-    (λ n. body_tag_lawful InCaption refl w StartTag tag e tt (λ f. absurd (cc)))
+    (λ n. body_tag_lawful InCaption refl w StartTag tag e tt refl)
 tag_lawful EndTag tag w e = holds_by_name (IsLawfulTag EndTag tag InCaption w) in_caption_end (of_tag in_body) tag w
     ((λ p. end_caption_lawful EndTag tag w), ((λ p. close_lawful EndTag tag w (end_table InCaption InTable tag.name edges.end_part_of_caption p)), ((λ p. lawful_ignored), tt)))
-    (λ n. body_tag_lawful InCaption refl w EndTag tag e (no_part_in_caption tag.name n) (λ f. not_named Html in_caption_ignored_ends tag.name refl n.1.1.0))
+    (λ n. body_tag_lawful InCaption refl w EndTag tag e (no_part_in_caption tag.name n) (not_named Html in_caption_ignored_ends tag.name refl n.1.1.0))
 
 pub lawful_in_caption : (t : TurnText) (w : World) → IsLawfulFor t InCaption w (in_caption t w)
 unfolding in_caption_tag

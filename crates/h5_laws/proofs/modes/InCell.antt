@@ -1,5 +1,5 @@
 -- HTML standard, section 13.2.6.4.15, the "in cell" insertion mode: each of its rows is lawful.
-use Rattle.std.proofs.Common.{◌≡◌, inl, inr, ℕ, Bool, true, false, List, codes, refl, ap, sym, subst, ◌∙◌}
+use Rattle.std.proofs.Common.{◌≡◌, inl, inr, ℕ, true, false, List, codes, refl, ap, sym, subst, ◌∙◌}
 use Rattle.h5_names.specs.declared.qualified.QualName.{QualName}
 use Rattle.h5_names.specs.declared.known_name.KnownName.TheVariants.{Html}
 use Rattle.h5_token.specs.TokenText.{TagText}
@@ -30,10 +30,10 @@ use Rattle.h5_rules.proofs.changes.NameLaws.{names-cut, names-until_cell}
 use Rattle.h5_rules.proofs.fitting.NamesTableLaws.{names_cell_closed, names_cell_ended}
 use Rattle.h5_rules.proofs.modes.ReadyInLaws.{in_implied, ready_in}
 use Rattle.h5_rules.proofs.roles.RoleLaws.{Origin, origin}
-use Rattle.h5_rules.proofs.rows.ByNameLaws.{holds_by_name}
+use Rattle.h5_rules.proofs.rows.ByNameLaws.{holds_by_name, ruled}
 use Rattle.h5_rules.proofs.rows.KeptLaws.{FitsAs, Kept}
 use Rattle.h5_laws.proofs.LawfulRow.{IsLawfulFor, IsLawfulTag, lawful_if, lawful_ignored, lawful_row}
-use Rattle.h5_laws.proofs.modes.BodyFitsLaws.{apart, is_of_table}
+use Rattle.h5_rules.proofs.modes.InBody.{is_of_table}
 use Rattle.h5_laws.proofs.modes.TablePartLaws.{fits_cleared, fits_cut_at}
 use Rattle.h5_laws.proofs.modes.InBody.{body_other_lawful, body_tag_lawful}
 use Rattle.h5_laws.proofs.modes.TablePartLaws.{cell_local}
@@ -53,22 +53,16 @@ no_part_in_cell : (l : List ℕ) → NonePasses in_cell_end l → is_of_table (r
 unfolding in_cell_end cell_names in_cell_closing_ends in_cell_ignored_ends
 no_part_in_cell l n = at (role_of_local l) (origin l)
   where
-    closing : List ℕ → Bool
-    closing = is_one_of in_cell_closing_ends
-
-    ends : List ℕ → Bool
-    ends = is_one_of in_cell_ignored_ends
-
     at : (x : Role) → Origin x l → is_of_table x ≡ false
-    at CellRole (inl o) = absurd (apart (is_one_of cell_names) (codes "td") l refl o n.0)
-    at CellRole (inr o) = absurd (apart (is_one_of cell_names) (codes "th") l refl o n.0)
-    at TableRole o = absurd (apart closing (codes "table") l refl o n.1.0)
-    at SectionRole (inl o) = absurd (apart closing (codes "tbody") l refl o n.1.0)
-    at SectionRole (inr (inl o)) = absurd (apart closing (codes "tfoot") l refl o n.1.0)
-    at SectionRole (inr (inr o)) = absurd (apart closing (codes "thead") l refl o n.1.0)
-    at RowRole o = absurd (apart closing (codes "tr") l refl o n.1.0)
-    at CaptionRole o = absurd (apart ends (codes "caption") l refl o n.1.1.0)
-    at ColgroupRole o = absurd (apart ends (codes "colgroup") l refl o n.1.1.0)
+    at CellRole (inl o) = absurd (ruled in_cell_end (codes "td") l (λ k. cc) o n)
+    at CellRole (inr o) = absurd (ruled in_cell_end (codes "th") l (λ k. cc) o n)
+    at TableRole o = absurd (ruled in_cell_end (codes "table") l (λ k. cc) o n)
+    at SectionRole (inl o) = absurd (ruled in_cell_end (codes "tbody") l (λ k. cc) o n)
+    at SectionRole (inr (inl o)) = absurd (ruled in_cell_end (codes "tfoot") l (λ k. cc) o n)
+    at SectionRole (inr (inr o)) = absurd (ruled in_cell_end (codes "thead") l (λ k. cc) o n)
+    at RowRole o = absurd (ruled in_cell_end (codes "tr") l (λ k. cc) o n)
+    at CaptionRole o = absurd (ruled in_cell_end (codes "caption") l (λ k. cc) o n)
+    at ColgroupRole o = absurd (ruled in_cell_end (codes "colgroup") l (λ k. cc) o n)
     at _ o = refl
 
 -- a start tag of a part of a table, and an end tag, lead to the row
@@ -131,10 +125,10 @@ tag_lawful : (k : TagKind) (tag : TagText) (w : World) → tag.kind ≡ k → Is
 unfolding in_cell_start in_cell_end in_cell_ignored_ends
 tag_lawful StartTag tag w e = holds_by_name (IsLawfulTag StartTag tag InCell w) in_cell_start (of_tag in_body) tag w
     ((λ p. start_structure_lawful StartTag tag w (cell_structure tag.name p)), tt)
-    (λ n. body_tag_lawful InCell refl w StartTag tag e tt (λ f. absurd (cc)))
+    (λ n. body_tag_lawful InCell refl w StartTag tag e tt refl)
 tag_lawful EndTag tag w e = holds_by_name (IsLawfulTag EndTag tag InCell w) in_cell_end (of_tag in_body) tag w
     ((λ p. end_cell_lawful EndTag tag w p), ((λ p. end_structure_lawful EndTag tag w (cell_closing_ends tag.name p)), ((λ p. lawful_ignored), tt)))
-    (λ n. body_tag_lawful InCell refl w EndTag tag e (no_part_in_cell tag.name n) (λ f. not_named Html in_cell_ignored_ends tag.name refl n.1.1.0))
+    (λ n. body_tag_lawful InCell refl w EndTag tag e (no_part_in_cell tag.name n) (not_named Html in_cell_ignored_ends tag.name refl n.1.1.0))
 
 pub lawful_in_cell : (t : TurnText) (w : World) → IsLawfulFor t InCell w (in_cell t w)
 unfolding in_cell_tag

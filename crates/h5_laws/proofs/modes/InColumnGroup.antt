@@ -18,22 +18,20 @@ use Rattle.h5_rules.specs.World.{World, names_of}
 use Rattle.h5_rules.specs.fitting.NamesFit.{NamesFit}
 use Rattle.h5_rules.specs.fitting.Roles.{ColgroupRole, role_of_local}
 use Rattle.h5_rules.specs.modes.InColumnGroup.{close_the_column_group, in_column_group, in_column_group_else, in_column_group_end, in_column_group_start, in_column_group_start_col, in_column_group_tag}
-use Rattle.h5_rules.specs.modes.InHead.{in_head_start_tag}
 use Rattle.h5_rules.specs.modes.Shared.{current_is, head_start_names}
 use Rattle.h5_rules.specs.stack.Scope.{first_passes, later_names}
 use Rattle.h5_rules.proofs.changes.ListsLaws.{IsSteady}
 use Rattle.h5_rules.proofs.changes.PopLaws.{names-pop}
 use Rattle.h5_rules.proofs.changes.SituationLaws.{situation_pop}
 use Rattle.h5_rules.proofs.fitting.NamesTableLaws.{names_colgroup_popped}
-use Rattle.h5_rules.proofs.modes.BodyRowLaws.{template_passes}
-use Rattle.h5_rules.proofs.modes.HeadContentLaws.{kept_head_content}
-use Rattle.h5_rules.proofs.modes.TemplateRowLaws.{kept_end_template}
+use Rattle.h5_rules.proofs.modes.HeadContentLaws.{head_content}
+use Rattle.h5_rules.proofs.modes.TemplateRowLaws.{closed_by_tag}
 use Rattle.h5_rules.proofs.roles.RoleLaws.{role_named}
 use Rattle.h5_rules.proofs.rows.ByNameLaws.{holds_by_name, of_named}
-use Rattle.h5_rules.proofs.rows.KeptLaws.{FitsAs, Kept, fits_at}
+use Rattle.h5_rules.proofs.rows.KeptLaws.{FitsAs, fits_at}
 use Rattle.h5_laws.proofs.LawfulRow.{IsLawfulFor, IsLawfulRow, IsLawfulTag, lawful_if, lawful_ignored, lawful_leading, lawful_row}
 use Rattle.h5_laws.proofs.modes.InBody.{body_other_lawful}
-use Rattle.h5_laws.proofs.modes.SharedRows.{comment_lawful, end_template_lawful, head_start_lawful, start_html_lawful, text_row_lawful}
+use Rattle.h5_laws.proofs.modes.SharedRows.{comment_lawful, end_template_lawful, head_row_lawful, start_html_lawful, text_row_lawful}
 use Rattle.h5_laws.proofs.modes.TablePartLaws.{leaf_fits}
 use Rattle.h5_laws.proofs.turns.AgainLaws.{kind_of_end, kind_of_start, part_end_names, part_names}
 use Rattle.h5_laws.proofs.turns.Ranks.{CellTurns, ColTurns, EndHtmlTurns, EndPartTurns, EofTurns, OtherTurns, PartTurns, RowTurns, StartTableTurns, TextTurns, TurnKind}
@@ -75,6 +73,10 @@ column_end name = at (named Html name) (is_one_of part_end_names name)
     at false true = edges.end_part_of_colgroup
     at false false = edges.other_of_colgroup
 
+template_content : (l : List ℕ) → named Template l ≡ true → is_one_of head_start_names l ≡ true
+unfolding head_start_names
+template_content l h = of_named (λ n. is_one_of head_start_names n ≡ true) Template l refl h
+
 is_colgroup : role_of_local (codes "colgroup") ≡ ColgroupRole
 unfolding role_of_local
 is_colgroup = refl
@@ -90,10 +92,6 @@ module _ (choices : SinkChoices) (w : World) (steady : IsSteady w) where
       at : (ns : List QualName) → first_passes (is_html_named (codes "colgroup")) ns ≡ true → NamesFit (situation_of w) InColumnGroup ns → NamesFit (situation_of w) InTable (later_names ns)
       at [] k f = absurd (cc)
       at (n ∷ ns) k f = names_colgroup_popped (situation_of w) ns n (role_named (codes "colgroup") n k ∙ is_colgroup) f
-
-  template_fits : w.mode ≡ InColumnGroup → (tag : TagText) → named Template tag.name ≡ true → Kept choices w InColumnGroup (in_head_start_tag tag w)
-  unfolding head_start_names
-  template_fits same tag p = kept_head_content choices w steady.sound InColumnGroup same refl tag (of_named (λ n. is_one_of head_start_names n ≡ true) Template tag.name refl p) (λ q. refl)
 
 -- THE ROWS
 
@@ -126,12 +124,12 @@ tag_lawful StartTag tag w = holds_by_name (IsLawfulTag StartTag tag InColumnGrou
   (λ p. start_html_lawful InColumnGroup w tag),
   (
     (λ p. lawful_row (in_column_group_start_col tag w) (tt, tt) (λ choices s. leaf_fits choices w s InColumnGroup tag) (tt, tt) tt tt),
-    ((λ p. head_start_lawful InColumnGroup w tag (template_passes tag.name p) (λ choices s same. template_fits choices w s same tag p)), tt),
+    ((λ p. head_row_lawful InColumnGroup w _ (head_content InColumnGroup refl tag w (template_content tag.name p) (λ q. refl))), tt),
   ),
 )
     (λ n. close_lawful (kind_of_start tag.name) true (Unit {0}) w (start_leads tag w n.1.0))
 tag_lawful EndTag tag w = holds_by_name (IsLawfulTag EndTag tag InColumnGroup w) in_column_group_end (of_tag in_column_group_else) tag w
-    ((λ p. end_colgroup_lawful tag w), ((λ p. lawful_ignored), ((λ p. end_template_lawful InColumnGroup w tag (λ choices s. kept_end_template choices w s.sound InColumnGroup refl tag)), tt)))
+    ((λ p. end_colgroup_lawful tag w), ((λ p. lawful_ignored), ((λ p. end_template_lawful InColumnGroup w tag (λ choices s. closed_by_tag choices w s.sound InColumnGroup refl)), tt)))
     (λ n. close_lawful (kind_of_end tag.name) false (Unit {0}) w (λ e. ByEdge (column_end tag.name)))
 
 text_lawful : (w : World) (given : Type 0) → IsLawfulRow InColumnGroup TextTurns false given w (close_the_column_group [] (Again InTable) w)

@@ -28,14 +28,13 @@ use Rattle.h5_rules.proofs.changes.NameLaws.{names-insert}
 use Rattle.h5_rules.proofs.changes.PopLaws.{names-pop}
 use Rattle.h5_rules.proofs.changes.SituationLaws.{situation_insert, situation_pop}
 use Rattle.h5_rules.proofs.fitting.NamesTableLaws.{names_frameset_left, names_frameset_popped, names_frameset_pushed}
-use Rattle.h5_rules.proofs.modes.BodyRowLaws.{noframes_passes}
-use Rattle.h5_rules.proofs.modes.HeadContentLaws.{kept_head_content}
+use Rattle.h5_rules.proofs.modes.HeadContentLaws.{head_content}
 use Rattle.h5_rules.proofs.roles.RoleLaws.{role_made}
 use Rattle.h5_rules.proofs.rows.ByNameLaws.{holds_by_name, of_named}
 use Rattle.h5_rules.proofs.rows.KeptLaws.{FitsAs, Kept, fits_at}
 use Rattle.h5_laws.proofs.LawfulRow.{IsLawfulFor, IsLawfulTag, lawful_choose, lawful_if_not, lawful_ignored, lawful_nothing, lawful_row}
-use Rattle.h5_laws.proofs.modes.FramesetRowLaws.{frameset_role}
-use Rattle.h5_laws.proofs.modes.SharedRows.{comment_lawful, head_start_lawful, start_html_lawful, text_row_lawful}
+use Rattle.h5_rules.proofs.modes.FramesetRowLaws.{frameset_role}
+use Rattle.h5_laws.proofs.modes.SharedRows.{comment_lawful, head_row_lawful, start_html_lawful, text_row_lawful}
 use Rattle.h5_laws.proofs.modes.TablePartLaws.{leaf_fits}
 
 -- `noframes` goes by the rules of the head, and is no template
@@ -48,7 +47,7 @@ noframes_apart A l h p = absurd (let out = of_named (λ n. named Template n ≡ 
 
 -- a start tag "noframes"
 pub noframes_lawful : (m : InsertionMode) (w : World) → may_be_left m ≡ true → (tag : TagText) → named Noframes tag.name ≡ true → IsLawfulTag StartTag tag m w (in_head_start_tag tag w)
-noframes_lawful m w left tag p = head_start_lawful m w tag (noframes_passes tag.name p) (λ choices s same. kept_head_content choices w s.sound m same left tag (noframes_content tag.name p) (λ q. noframes_apart _ tag.name p q))
+noframes_lawful m w left tag p = head_row_lawful m w _ (head_content m left tag w (noframes_content tag.name p) (λ q. noframes_apart _ tag.name p q))
 
 nonempty_pushed : (s : Situation) (n : QualName) (ns : List QualName) → role_of n ≡ FramesetRole → NamesFit s InFrameset ns → NamesFit s InFrameset (n ∷ ns)
 nonempty_pushed s n [] e f = absurd (let h = f.fits.place.0 in omega (arith, h))

@@ -17,24 +17,19 @@ use Rattle.h5_rules.specs.Sound.{Sound, situation_of}
 use Rattle.h5_rules.specs.World.{World, names_of}
 use Rattle.h5_rules.specs.fitting.NamesFit.{NamesFit}
 use Rattle.h5_rules.specs.formatting.FormattingNames.{html_name}
-use Rattle.h5_rules.specs.modes.InHead.{in_head, in_head_else, in_head_end, in_head_end_head, in_head_start_noscript, in_head_start_tag, in_head_tag}
+use Rattle.h5_rules.specs.modes.InHead.{in_head, in_head_end, in_head_end_head, in_head_start_noscript, in_head_start_tag, in_head_tag}
 use Rattle.h5_rules.proofs.changes.NameLaws.{names-insert}
 use Rattle.h5_rules.proofs.changes.PopLaws.{names-pop}
 use Rattle.h5_rules.proofs.changes.SituationLaws.{situation_insert, situation_pop}
 use Rattle.h5_rules.proofs.fitting.NamesFitLaws.{names_head_popped, names_noscript_pushed}
-use Rattle.h5_rules.proofs.modes.BodyRowLaws.{row_head_start_by}
-use Rattle.h5_rules.proofs.modes.HeadContentLaws.{kept_head_start, kept_raw, noscript_plain}
-use Rattle.h5_rules.proofs.modes.TemplateRowLaws.{kept_end_in_head, kept_start_template}
+use Rattle.h5_rules.proofs.modes.HeadContentLaws.{head_start_by, noscript_plain, raw_row}
+use Rattle.h5_rules.proofs.modes.TemplateRowLaws.{none_in_head}
 use Rattle.h5_rules.proofs.roles.RoleLaws.{made_named}
-use Rattle.h5_rules.proofs.rows.ByNameLaws.{holds_by_name, holds_chosen, of_named}
-use Rattle.h5_rules.proofs.rows.KeptLaws.{FitsAs, Kept, fits_at}
-use Rattle.h5_rules.proofs.rows.ToldLaws.{IsTold}
-use Rattle.h5_laws.proofs.LawfulRow.{IsLawfulFor, IsLawfulRow, IsLawfulTag, lawful_ignored, lawful_row}
-use Rattle.h5_laws.proofs.modes.BodyListsLaws.{stays, stays_head_start_by}
-use Rattle.h5_laws.proofs.modes.SharedRows.{comment_lawful, end_template_lawful, text_row_lawful}
-use Rattle.h5_laws.proofs.turns.AgainLaws.{kind_of_start, row_stops}
+use Rattle.h5_rules.proofs.rows.ByNameLaws.{holds_by_name, of_named}
+use Rattle.h5_rules.proofs.rows.KeptLaws.{FitsAs, fits_at}
+use Rattle.h5_laws.proofs.LawfulRow.{IsLawfulFor, IsLawfulRow, IsLawfulTag, lawful_choose, lawful_ignored, lawful_row}
+use Rattle.h5_laws.proofs.modes.SharedRows.{comment_lawful, head_row_lawful, no_template_lawful, text_row_lawful}
 use Rattle.h5_laws.proofs.turns.Ranks.{TurnKind}
-use Rattle.h5_laws.proofs.turns.RowLeadsLaws.{ByEdge, RowLeads, stops}
 use Rattle.h5_laws.proofs.turns.Ranks as edges
 
 module _ (choices : SinkChoices) (w : World) (sound : Sound w) where
@@ -54,31 +49,24 @@ module _ (choices : SinkChoices) (w : World) (sound : Sound w) where
       is_noscript : is_html_named (codes "noscript") (html_name tag.name) ≡ true
       is_noscript = of_named (λ n. is_html_named (codes "noscript") (html_name n) ≡ true) Noscript tag.name (made_named (codes "noscript")) p
 
-  -- a `noscript`, whose text is raw where scripts run
-  kept_noscript : w.mode ≡ InHead → (tag : TagText) → named Noscript tag.name ≡ true → Kept choices w InHead (in_head_start_noscript tag w)
-  unfolding in_head_start_noscript names_of
-  kept_noscript same tag p = holds_chosen (Kept choices w InHead) w.options.scripting_enabled _ _
-      (λ e. kept_raw choices w sound InHead same refl Rawtext tag (noscript_plain tag.name p)) (λ e. noscript_pushed tag p)
-
 else_lawful : {c : TurnKind} {starts : Bool} {given : Type 0} (w : World) → IsLawfulRow InHead c starts given w (row (Pop ∷ []) (Again AfterHead))
 else_lawful {c = c} w = lawful_row _ (tt, tt) (λ choices s. head_popped choices w s.sound) (tt, (refl, tt)) tt (edges.in_head c)
 
+-- a `noscript`, whose text is raw where scripts run
+noscript_lawful : (tag : TagText) (w : World) → named Noscript tag.name ≡ true → IsLawfulTag StartTag tag InHead w (in_head_start_noscript tag w)
+unfolding in_head_start_noscript names_of
+noscript_lawful tag w p = lawful_choose w.options.scripting_enabled _ _
+    (λ e. head_row_lawful InHead w _ (raw_row InHead refl tag w Rawtext (noscript_plain tag.name p)))
+    (λ e. lawful_row _ (tt, (tt, tt)) (λ choices s. noscript_pushed choices w s.sound tag p) (tt, (refl, tt)) tt tt)
+
 start_lawful : (tag : TagText) (w : World) → IsLawfulTag StartTag tag InHead w (in_head_start_tag tag w)
-start_lawful tag w =
-    let c = kind_of_start tag.name in
-    record {
-      steady = λ choices s same some. stays_head_start_by choices w s InHead tag (λ n. stays choices w s InHead (in_head_else (TagTurn tag) w) (tt, tt));
-      fits = λ choices s same some. kept_head_start choices w s.sound InHead same refl tag (λ p. kept_noscript choices w s.sound same tag p) (λ p. kept_start_template choices w s.sound InHead tag refl) (λ n. head_popped choices w s.sound);
-      told = λ n. row_head_start_by tag w IsTold (λ r b. b.told) (λ n. (tt, (refl, tt)));
-      silent = λ n h. absurd (cc);
-      leads = row_head_start_by tag w (RowLeads c InHead w) (λ r b. stops c InHead w r (row_stops r b)) (λ n. ByEdge (edges.in_head c));
-    }
+start_lawful tag w = head_start_by InHead refl tag w (IsLawfulTag StartTag tag InHead w) (λ r x. head_row_lawful InHead w r x) (λ p. refl) (λ p. noscript_lawful tag w p) (λ n. else_lawful w)
 
 tag_lawful : (k : TagKind) (tag : TagText) (w : World) → IsLawfulTag k tag InHead w (by_kind k (in_head_start_tag tag w) (by_name in_head_end ignored_tag tag w))
 unfolding in_head_end names_of
 tag_lawful StartTag tag w = start_lawful tag w
 tag_lawful EndTag tag w = holds_by_name (IsLawfulTag EndTag tag InHead w) in_head_end ignored_tag tag w
-    ((λ p. lawful_row (in_head_end_head tag w) (tt, (tt, tt)) (λ choices s. head_popped choices w s.sound) (tt, (refl, tt)) tt tt), ((λ p. else_lawful w), ((λ p. end_template_lawful InHead w tag (λ choices s. kept_end_in_head choices w tag)), tt))) (λ n. lawful_ignored)
+    ((λ p. lawful_row (in_head_end_head tag w) (tt, (tt, tt)) (λ choices s. head_popped choices w s.sound) (tt, (refl, tt)) tt tt), ((λ p. else_lawful w), ((λ p. no_template_lawful InHead w tag (none_in_head w)), tt))) (λ n. lawful_ignored)
 
 pub lawful_in_head : (t : TurnText) (w : World) → IsLawfulFor t InHead w (in_head t w)
 unfolding in_head_tag

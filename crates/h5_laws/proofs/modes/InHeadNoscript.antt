@@ -21,12 +21,11 @@ use Rattle.h5_rules.specs.modes.Shared.{head_start_names}
 use Rattle.h5_rules.proofs.changes.PopLaws.{names-pop}
 use Rattle.h5_rules.proofs.changes.SituationLaws.{situation_pop}
 use Rattle.h5_rules.proofs.fitting.NamesFitLaws.{names_noscript_popped}
-use Rattle.h5_rules.proofs.modes.BodyRowLaws.{noscript_content_passes}
-use Rattle.h5_rules.proofs.modes.HeadContentLaws.{kept_head_content}
+use Rattle.h5_rules.proofs.modes.HeadContentLaws.{head_content}
 use Rattle.h5_rules.proofs.rows.ByNameLaws.{holds_by_name, of_named, of_one}
 use Rattle.h5_rules.proofs.rows.KeptLaws.{FitsAs, fits_at}
 use Rattle.h5_laws.proofs.LawfulRow.{IsLawfulFor, IsLawfulRow, IsLawfulTag, lawful_ignored, lawful_row}
-use Rattle.h5_laws.proofs.modes.SharedRows.{comment_lawful, head_start_lawful, start_html_lawful, text_row_lawful}
+use Rattle.h5_laws.proofs.modes.SharedRows.{comment_lawful, head_row_lawful, start_html_lawful, text_row_lawful}
 use Rattle.h5_laws.proofs.turns.Ranks.{TurnKind}
 use Rattle.h5_laws.proofs.turns.Ranks as edges
 
@@ -54,7 +53,7 @@ unfolding in_head_noscript_start in_head_noscript_end names_of
 tag_lawful StartTag tag w = holds_by_name (IsLawfulTag StartTag tag InHeadNoscript w) in_head_noscript_start (of_tag in_head_noscript_else) tag w (
   (λ p. start_html_lawful InHeadNoscript w tag),
   (
-    (λ p. head_start_lawful InHeadNoscript w tag (noscript_content_passes tag.name p) (λ choices s same. kept_head_content choices w s.sound InHeadNoscript same refl tag (noscript_content tag.name p) (λ q. noscript_apart tag.name p q))),
+    (λ p. head_row_lawful InHeadNoscript w _ (head_content InHeadNoscript refl tag w (noscript_content tag.name p) (λ q. noscript_apart tag.name p q))),
     ((λ p. lawful_ignored), tt),
   ),
 )

@@ -1,6 +1,6 @@
 -- HTML standard, section 13.2.6.4.9, the "in table" insertion mode: each of its rows is lawful, also in a section and a row.
-use Rattle.std.proofs.Common.{◌||◌, ◌∙◌, ◌∷◌, ◌≡◌, Bool, List, [], codes, false, inl, inr, is_some, refl, subst, sym, true, ℕ}
-use Rattle.h5_names.specs.declared.known_name.KnownName.TheVariants.{Caption, Col, Colgroup, Html, Noscript, Table}
+use Rattle.std.proofs.Common.{◌||◌, ◌∙◌, ◌∷◌, ◌≡◌, List, [], codes, false, inl, inr, is_some, refl, subst, sym, true, ℕ}
+use Rattle.h5_names.specs.declared.known_name.KnownName.TheVariants.{Caption, Col, Colgroup, Html, Table}
 use Rattle.h5_token.specs.TokenText.{TagText}
 use Rattle.h5_token.specs.declared.tag.TagKind.{TagKind}
 use Rattle.h5_token.specs.declared.tag.TagKind.TheVariants.{EndTag, StartTag}
@@ -23,9 +23,8 @@ use Rattle.h5_rules.specs.fitting.SituationChanges.{with_saved}
 use Rattle.h5_rules.specs.formatting.Formatting.{insert_marker}
 use Rattle.h5_rules.specs.formatting.FormattingNames.{html_name}
 use Rattle.h5_rules.specs.modes.InBody.{in_body}
-use Rattle.h5_rules.specs.modes.InHead.{in_head_start_tag}
 use Rattle.h5_rules.specs.modes.InTable.{in_table, in_table_else, in_table_end, in_table_end_table, in_table_ignored_ends, in_table_start, in_table_start_caption, in_table_start_col, in_table_start_colgroup, in_table_start_form, in_table_start_input, in_table_start_row_part, in_table_start_section, in_table_start_table, in_table_tag, in_table_text_or_null, keeps_text, row_part_names, table_text_names}
-use Rattle.h5_rules.specs.modes.Shared.{is_type_hidden}
+use Rattle.h5_rules.specs.modes.Shared.{head_start_names, is_type_hidden}
 use Rattle.h5_rules.specs.modes.Tables.{foster, named_in_table_scope, table_section_names}
 use Rattle.h5_rules.specs.stack.Scope.{down_names, has_template}
 use Rattle.h5_rules.proofs.changes.ListsLaws.{IsSteady, steady_changes}
@@ -33,20 +32,20 @@ use Rattle.h5_rules.proofs.changes.NameLaws.{names-cut, names-form, names-until_
 use Rattle.h5_rules.proofs.changes.SituationLaws.{situation_then}
 use Rattle.h5_rules.proofs.fitting.NamesFitLaws.{names_table_text_begun}
 use Rattle.h5_rules.proofs.fitting.NamesTableLaws.{names_caption_put, names_colgroup_put, names_section_put, names_table_closed}
-use Rattle.h5_rules.proofs.modes.BodyRowLaws.{table_text_passes}
-use Rattle.h5_rules.proofs.modes.HeadContentLaws.{body_left, body_takes, kept_head_start}
-use Rattle.h5_rules.proofs.modes.TemplateRowLaws.{kept_end_template, kept_start_template}
+use Rattle.h5_rules.proofs.modes.HeadContentLaws.{body_left, body_takes, head_content}
+use Rattle.h5_rules.proofs.modes.InBody.{NoPartOf, is_end_html, is_of_table}
+use Rattle.h5_rules.proofs.modes.TemplateRowLaws.{closed_by_tag}
 use Rattle.h5_rules.proofs.roles.RoleLaws.{Origin, origin, role_made}
-use Rattle.h5_rules.proofs.rows.ByNameLaws.{holds_by_name, of_named}
+use Rattle.h5_rules.proofs.rows.ByNameLaws.{holds_by_name, of_named, of_one, ruled}
+use Rattle.h5_rules.proofs.rows.EndingLaws.{RowStops}
 use Rattle.h5_rules.proofs.rows.KeptLaws.{FitsAs, Kept, as_before}
 use Rattle.h5_rules.proofs.rows.ToldLaws.{reset_no_text}
 use Rattle.h5_laws.proofs.LawfulRow.{IsLawfulFor, IsLawfulTag, lawful_choose, lawful_foster, lawful_if, lawful_if_not, lawful_ignored, lawful_leading, lawful_row}
-use Rattle.h5_laws.proofs.modes.BodyFitsLaws.{NoPartOf, apart, blind_in_body, is_of_table}
-use Rattle.h5_laws.proofs.modes.InBody.{body_other_lawful, body_tag_lawful, is_tag}
-use Rattle.h5_laws.proofs.modes.NamesBodyLaws.{role_known, names_in_table, table_goes}
-use Rattle.h5_laws.proofs.modes.SharedRows.{comment_lawful, end_template_lawful, head_start_lawful}
+use Rattle.h5_laws.proofs.modes.InBody.{body_other_lawful, body_tag_lawful, body_tag_stops, is_tag}
+use Rattle.h5_rules.proofs.fitting.NamesBodyLaws.{role_known, names_in_table, table_goes}
+use Rattle.h5_laws.proofs.modes.SharedRows.{comment_lawful, end_template_lawful, head_row_lawful}
 use Rattle.h5_laws.proofs.modes.TablePartLaws.{down_situation, form_situation, leaf_fits, marker_names, marker_situation, pushed, put, section_local}
-use Rattle.h5_laws.proofs.turns.AgainLaws.{RowStops, kind_of_start, kind_of_turn, stops_body_tag}
+use Rattle.h5_laws.proofs.turns.AgainLaws.{kind_of_start, kind_of_turn}
 use Rattle.h5_laws.proofs.turns.RankWeightLaws.{closes_templates}
 use Rattle.h5_laws.proofs.turns.Ranks.{StartTableTurns, TextTurns}
 use Rattle.h5_laws.proofs.turns.RowLeadsLaws.{ByEdge, ClosesTable, not_named, of_set}
@@ -59,20 +58,22 @@ no_part_in_table : (l : List ℕ) → NonePasses in_table_end l → is_of_table 
 unfolding in_table_end in_table_ignored_ends
 no_part_in_table l n = at (role_of_local l) (origin l)
   where
-    ends : List ℕ → Bool
-    ends = is_one_of in_table_ignored_ends
-
     at : (x : Role) → Origin x l → is_of_table x ≡ false
-    at TableRole o = absurd (apart (named Table) (codes "table") l refl o n.0)
-    at CaptionRole o = absurd (apart ends (codes "caption") l refl o n.1.0)
-    at ColgroupRole o = absurd (apart ends (codes "colgroup") l refl o n.1.0)
-    at SectionRole (inl o) = absurd (apart ends (codes "tbody") l refl o n.1.0)
-    at SectionRole (inr (inl o)) = absurd (apart ends (codes "tfoot") l refl o n.1.0)
-    at SectionRole (inr (inr o)) = absurd (apart ends (codes "thead") l refl o n.1.0)
-    at RowRole o = absurd (apart ends (codes "tr") l refl o n.1.0)
-    at CellRole (inl o) = absurd (apart ends (codes "td") l refl o n.1.0)
-    at CellRole (inr o) = absurd (apart ends (codes "th") l refl o n.1.0)
+    at TableRole o = absurd (ruled in_table_end (codes "table") l (λ k. cc) o n)
+    at CaptionRole o = absurd (ruled in_table_end (codes "caption") l (λ k. cc) o n)
+    at ColgroupRole o = absurd (ruled in_table_end (codes "colgroup") l (λ k. cc) o n)
+    at SectionRole (inl o) = absurd (ruled in_table_end (codes "tbody") l (λ k. cc) o n)
+    at SectionRole (inr (inl o)) = absurd (ruled in_table_end (codes "tfoot") l (λ k. cc) o n)
+    at SectionRole (inr (inr o)) = absurd (ruled in_table_end (codes "thead") l (λ k. cc) o n)
+    at RowRole o = absurd (ruled in_table_end (codes "tr") l (λ k. cc) o n)
+    at CellRole (inl o) = absurd (ruled in_table_end (codes "td") l (λ k. cc) o n)
+    at CellRole (inr o) = absurd (ruled in_table_end (codes "th") l (λ k. cc) o n)
     at _ o = refl
+
+-- each name that goes by the rules of the head in a table goes so elsewhere, too
+table_text_content : (l : List ℕ) → is_one_of table_text_names l ≡ true → is_one_of head_start_names l ≡ true
+unfolding table_text_names head_start_names
+table_text_content l h = of_one (λ n. is_one_of head_start_names n ≡ true) table_text_names l (refl, (refl, (refl, tt))) h
 
 -- THE OPEN ELEMENTS
 
@@ -122,13 +123,6 @@ module _ (choices : SinkChoices) (w : World) (steady : IsSteady w) (m : Insertio
   unfolding names_of
   text_begun h = subst (λ k. NamesFit (with_saved k (situation_of w)) InTableText (names_of w)) (sym same) (names_table_text_begun (situation_of w) m (names_of w) table h)
 
-  -- a start tag "style", "script", "template"
-  text_start_fits : (tag : TagText) → is_one_of table_text_names tag.name ≡ true → Kept choices w m (in_head_start_tag tag w)
-  unfolding table_text_names
-  text_start_fits tag p =
-      kept_head_start choices w steady.sound m same (body_left m (table_goes m table)) tag
-      (λ q. let out = of_named (λ n. is_one_of table_text_names n ≡ false) Noscript tag.name refl q in absurd (cc)) (λ q. kept_start_template choices w steady.sound m tag (body_takes m (table_goes m table))) (λ n. absurd (table_text_passes tag.name p n))
-
 -- THE ROWS
 
 -- a text in a table is kept back
@@ -146,10 +140,9 @@ table_closes _ h = absurd (cc)
 
 module _ (m : InsertionMode) (table : is_table_mode m ≡ true) (w : World) where
   -- by the rules of the body, with foster parenting on
-  fostered_lawful : (k : TagKind) (tag : TagText) → tag.kind ≡ k → NoPartOf k tag.name → (k ≡ EndTag → named Html tag.name ≡ false) → IsLawfulTag k tag m w (foster in_body (TagTurn tag) w)
-  fostered_lawful k tag e part html =
-      lawful_foster w in_body (TagTurn tag) (blind_in_body (set_foster true w) (TagTurn tag)) (stops_body_tag tag (set_foster true w) (subst (λ j. j ≡ EndTag → named Html tag.name ≡ false) (sym e) html))
-      (body_tag_lawful m (table_goes m table) (set_foster true w) k tag e part html)
+  fostered_lawful : (k : TagKind) (tag : TagText) → tag.kind ≡ k → NoPartOf k tag.name → is_end_html k tag.name ≡ false → IsLawfulTag k tag m w (foster in_body (TagTurn tag) w)
+  fostered_lawful k tag e part apart =
+      lawful_foster w in_body (TagTurn tag) (body_tag_stops m (table_goes m table) (set_foster true w) k tag e apart) (body_tag_lawful m (table_goes m table) (set_foster true w) k tag e part apart)
 
   start_table_lawful : (tag : TagText) → named Table tag.name ≡ true → IsLawfulTag StartTag tag m w (in_table_start_table tag w)
   unfolding in_table_start_table kind_of_start
@@ -158,7 +151,7 @@ module _ (m : InsertionMode) (table : is_table_mode m ≡ true) (w : World) wher
 
   start_input_lawful : (tag : TagText) → tag.kind ≡ StartTag → IsLawfulTag StartTag tag m w (in_table_start_input tag w)
   unfolding in_table_start_input
-  start_input_lawful tag e = lawful_choose (is_type_hidden tag.attrs) _ (foster in_body (TagTurn tag) w) (λ h. lawful_row _ (tt, tt) (λ choices s. leaf_fits choices w s m tag) (tt, tt) tt tt) (λ h. fostered_lawful StartTag tag e tt (λ f. absurd (cc)))
+  start_input_lawful tag e = lawful_choose (is_type_hidden tag.attrs) _ (foster in_body (TagTurn tag) w) (λ h. lawful_row _ (tt, tt) (λ choices s. leaf_fits choices w s m tag) (tt, tt) tt tt) (λ h. fostered_lawful StartTag tag e tt refl)
 
   start_form_lawful : (tag : TagText) → IsLawfulTag StartTag tag m w (in_table_start_form tag w)
   unfolding in_table_start_form
@@ -172,7 +165,7 @@ module _ (m : InsertionMode) (table : is_table_mode m ≡ true) (w : World) wher
   text_lawful : (t : TurnText) → edges.Again (kind_of_turn t) m InTableText → RowStops (in_body t (set_foster true w)) → IsLawfulFor t m (set_foster true w) (in_body t (set_foster true w)) → IsLawfulFor t m w (in_table_text_or_null t w)
   unfolding in_table_text_or_null
   text_lawful t edge stops body = lawful_choose (keeps_text w) _ (foster in_body t w) (λ e. lawful_leading _ (tt, tt) (λ choices s same. text_begun choices w s m table same) (tt, (refl, tt)) tt (ByEdge edge))
-      (λ e. lawful_foster w in_body t (blind_in_body (set_foster true w) t) stops body)
+      (λ e. lawful_foster w in_body t stops body)
 
   -- a tag, where these lead to a column group and to a row group
   table_start_lawful : (tag : TagText) → tag.kind ≡ StartTag → (named Col tag.name ≡ true → edges.Again (kind_of_start tag.name) m InColumnGroup) → (is_one_of row_part_names tag.name ≡ true → edges.Again (kind_of_start tag.name) m InTableBody)
@@ -190,20 +183,20 @@ module _ (m : InsertionMode) (table : is_table_mode m ≡ true) (w : World) wher
             (λ p. lawful_leading (in_table_start_row_part tag w) (tt, (tt, tt)) (λ choices s same. row_part_put choices w s m table same tag) (tt, (refl, tt)) tt (ByEdge (part p))),
             (
               (λ p. start_table_lawful tag p),
-              ((λ p. head_start_lawful m w tag (table_text_passes tag.name p) (λ choices s same. text_start_fits choices w s m table same tag p)), ((λ p. start_input_lawful tag e), ((λ p. start_form_lawful tag), tt))),
+              ((λ p. head_row_lawful m w _ (head_content m (body_left m (table_goes m table)) tag w (table_text_content tag.name p) (λ q. body_takes m (table_goes m table)))), ((λ p. start_input_lawful tag e), ((λ p. start_form_lawful tag), tt))),
             ),
           ),
         ),
       ),
     ),
   )
-      (λ n. fostered_lawful StartTag tag e tt (λ f. absurd (cc)))
+      (λ n. fostered_lawful StartTag tag e tt refl)
 
   table_end_lawful : (tag : TagText) → tag.kind ≡ EndTag → IsLawfulTag EndTag tag m w (by_name in_table_end (of_tag in_table_else) tag w)
   unfolding in_table_end in_table_ignored_ends
   table_end_lawful tag e = holds_by_name (IsLawfulTag EndTag tag m w) in_table_end (of_tag in_table_else) tag w
-      ((λ p. end_table_lawful tag), ((λ p. lawful_ignored), ((λ p. end_template_lawful m w tag (λ choices s. kept_end_template choices w s.sound m (table_goes m table) tag)), tt)))
-      (λ n. fostered_lawful EndTag tag e (no_part_in_table tag.name n) (λ f. not_named Html in_table_ignored_ends tag.name refl n.1.0))
+      ((λ p. end_table_lawful tag), ((λ p. lawful_ignored), ((λ p. end_template_lawful m w tag (λ choices s. closed_by_tag choices w s.sound m (table_goes m table))), tt)))
+      (λ n. fostered_lawful EndTag tag e (no_part_in_table tag.name n) (not_named Html in_table_ignored_ends tag.name refl n.1.0))
 
   pub table_tag_lawful : (k : TagKind) (tag : TagText) → tag.kind ≡ k → (k ≡ StartTag → (named Col tag.name ≡ true → edges.Again (kind_of_start tag.name) m InColumnGroup) × (is_one_of row_part_names tag.name ≡ true → edges.Again (kind_of_start tag.name) m InTableBody))
       → IsLawfulTag k tag m w (in_table_tag tag w)

@@ -29,8 +29,7 @@ use Rattle.h5_rules.proofs.rows.KeptLaws.{FitsAs, as_before}
 use Rattle.h5_rules.proofs.rows.ListedLaws.{AllListable}
 use Rattle.h5_rules.proofs.rows.ToldLaws.{NoText}
 use Rattle.h5_laws.proofs.LawfulRow.{IsLawfulFor, fostered_told, lawful_ignored, lawful_row}
-use Rattle.h5_laws.proofs.modes.NamesBodyLaws.{table_goes}
-use Rattle.h5_laws.proofs.replies.ToldBodyLaws.{body_rows}
+use Rattle.h5_rules.proofs.fitting.NamesBodyLaws.{table_goes}
 use Rattle.h5_laws.proofs.turns.AgainLaws.{kind_of_end, kind_of_start, kind_of_tag, kind_of_turn, part_end_names, part_names}
 use Rattle.h5_laws.proofs.turns.Ranks.{CellTurns, ColTurns, EndHtmlTurns, EndPartTurns, OtherTurns, PartTurns, RowTurns, StartTableTurns}
 use Rattle.h5_laws.proofs.turns.RowLeadsLaws.{TakesPending}
@@ -103,7 +102,7 @@ pending_rows (b ∷ t) w = at (all_blank (b ∷ t))
   where
     at : (c : Bool) → AllListable (choose c (row (AppendText (b ∷ t) ∷ []) IsDone) (foster in_body (TextTurn NotSplit (b ∷ t)) w)).changes × NoText (choose c (row (AppendText (b ∷ t) ∷ []) IsDone) (foster in_body (TextTurn NotSplit (b ∷ t)) w)).changes
     at true = (tt, tt)
-    at false = fostered_told in_body (TextTurn NotSplit (b ∷ t)) w (body_rows (TextTurn NotSplit (b ∷ t)) (set_foster true w))
+    at false = fostered_told in_body (TextTurn NotSplit (b ∷ t)) w (tt, tt)
 
 else_lawful : (t : TurnText) (w : World) → is_text (kind_of_turn t) ≡ false → IsLawfulFor t InTableText w (in_table_text_else t w)
 unfolding in_table_text_else

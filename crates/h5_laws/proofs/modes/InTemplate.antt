@@ -11,22 +11,17 @@ use Rattle.h5_tables.specs.declared.modes.InsertionMode.TheVariants.{InBody, InC
 use Rattle.h5_rules.specs.ByName.{by_kind, by_name, ignored_tag, named}
 use Rattle.h5_rules.specs.World.{World}
 use Rattle.h5_rules.specs.fitting.Fits.{is_template_mode}
-use Rattle.h5_rules.specs.modes.InHead.{template_eof}
 use Rattle.h5_rules.specs.modes.InTemplate.{in_template, in_template_as, in_template_end, in_template_part_names, in_template_start, in_template_tag}
-use Rattle.h5_rules.proofs.modes.BodyRowLaws.{head_start_passes}
-use Rattle.h5_rules.proofs.modes.HeadContentLaws.{kept_head_content}
-use Rattle.h5_rules.proofs.modes.TemplateRowLaws.{kept_end_template, kept_template_eof, kept_template_mode}
+use Rattle.h5_rules.proofs.modes.HeadContentLaws.{head_content}
+use Rattle.h5_rules.proofs.modes.TemplateRowLaws.{closed_by_tag, kept_template_mode}
 use Rattle.h5_rules.proofs.rows.ByNameLaws.{holds_by_name, of_named}
 use Rattle.h5_rules.proofs.rows.ToldLaws.{is_text}
 use Rattle.h5_laws.proofs.LawfulRow.{IsLawfulFor, IsLawfulRow, IsLawfulTag, lawful_ignored, lawful_row}
-use Rattle.h5_laws.proofs.modes.BodyListsLaws.{stays_template_eof}
 use Rattle.h5_laws.proofs.modes.InBody.{body_other_lawful}
-use Rattle.h5_laws.proofs.modes.SharedRows.{end_template_lawful, head_start_lawful}
-use Rattle.h5_laws.proofs.replies.SilentRowLaws.{ends_file}
-use Rattle.h5_laws.proofs.replies.ToldBodyLaws.{told_template_eof}
+use Rattle.h5_laws.proofs.modes.SharedRows.{end_template_lawful, eof_template_lawful, head_row_lawful}
 use Rattle.h5_laws.proofs.turns.AgainLaws.{kind_of_start, part_names}
 use Rattle.h5_laws.proofs.turns.Ranks.{CellTurns, ColTurns, OtherTurns, PartTurns, RowTurns, StartTableTurns, TurnKind}
-use Rattle.h5_laws.proofs.turns.RowLeadsLaws.{eof_template, of_set}
+use Rattle.h5_laws.proofs.turns.RowLeadsLaws.{of_set}
 use Rattle.h5_laws.proofs.turns.Ranks as edges
 
 template_part : (name : List ℕ) → is_one_of in_template_part_names name ≡ true → edges.Again (kind_of_start name) InTemplate InTable
@@ -65,23 +60,14 @@ as_lawful m tag w h n leads = lawful_row _ (tt, tt) (λ choices s. kept_template
 tag_lawful : (k : TagKind) (tag : TagText) (w : World) → IsLawfulTag k tag InTemplate w (by_kind k (by_name in_template_start (in_template_as InBody) tag w) (by_name in_template_end ignored_tag tag w))
 unfolding in_template_start in_template_end
 tag_lawful StartTag tag w = holds_by_name (IsLawfulTag StartTag tag InTemplate w) in_template_start (in_template_as InBody) tag w (
-  (λ p. head_start_lawful InTemplate w tag (head_start_passes tag.name p) (λ choices s same. kept_head_content choices w s.sound InTemplate same refl tag p (λ q. refl))),
+  (λ p. head_row_lawful InTemplate w _ (head_content InTemplate refl tag w p (λ q. refl))),
   (
     (λ p. as_lawful InTable tag w refl refl (template_part tag.name p)),
     ((λ p. as_lawful InColumnGroup tag w refl refl (template_col tag.name p)), ((λ p. as_lawful InTableBody tag w refl refl (template_tr tag.name p)), ((λ p. as_lawful InRow tag w refl refl (template_cell tag.name p)), tt))),
   ),
 )
     (λ n. as_lawful InBody tag w refl refl (template_other tag.name n.1.0 n.1.1.0 n.1.1.1.0 n.1.1.1.1.0))
-tag_lawful EndTag tag w = holds_by_name (IsLawfulTag EndTag tag InTemplate w) in_template_end ignored_tag tag w ((λ p. end_template_lawful InTemplate w tag (λ choices s. kept_end_template choices w s.sound InTemplate refl tag)), tt) (λ n. lawful_ignored)
-
-eof_lawful : (w : World) → IsLawfulFor EofTurn InTemplate w (template_eof w)
-eof_lawful w = record {
-  steady = λ choices s same some. stays_template_eof choices w s InTemplate;
-  fits = λ choices s same some. kept_template_eof choices w s.sound InTemplate refl;
-  told = λ n. told_template_eof w;
-  silent = λ n h. ends_file w;
-  leads = eof_template InTemplate w refl;
-}
+tag_lawful EndTag tag w = holds_by_name (IsLawfulTag EndTag tag InTemplate w) in_template_end ignored_tag tag w ((λ p. end_template_lawful InTemplate w tag (λ choices s. closed_by_tag choices w s.sound InTemplate refl)), tt) (λ n. lawful_ignored)
 
 pub lawful_in_template : (t : TurnText) (w : World) → IsLawfulFor t InTemplate w (in_template t w)
 unfolding in_template_tag
@@ -89,4 +75,4 @@ lawful_in_template (TagTurn tag) w = tag_lawful tag.kind tag w
 lawful_in_template (CommentTurn x) w = body_other_lawful InTemplate refl w refl (CommentTurn x) refl
 lawful_in_template (TextTurn status x) w = body_other_lawful InTemplate refl w refl (TextTurn status x) refl
 lawful_in_template NullTurn w = lawful_ignored
-lawful_in_template EofTurn w = eof_lawful w
+lawful_in_template EofTurn w = eof_template_lawful InTemplate w refl refl

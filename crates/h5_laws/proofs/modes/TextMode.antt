@@ -19,16 +19,16 @@ use Rattle.h5_rules.specs.modes.InTableText.{saved_mode}
 use Rattle.h5_rules.specs.modes.Shared.{current_is}
 use Rattle.h5_rules.specs.modes.TextMode.{text_end, text_mode}
 use Rattle.h5_rules.specs.stack.Scope.{later_names}
-use Rattle.h5_rules.proofs.changes.ListsLaws.{NeedsOfAll}
+use Rattle.h5_rules.proofs.changes.ListsLaws.{NeedsOfAll, steady_changes}
 use Rattle.h5_rules.proofs.changes.NameLaws.{names_kept}
 use Rattle.h5_rules.proofs.changes.PopLaws.{names-pop}
 use Rattle.h5_rules.proofs.changes.SituationLaws.{KeepsSituation, situation_forest, situation_pop, situation_then}
 use Rattle.h5_rules.proofs.fitting.NamesFitLaws.{names_text_popped}
+use Rattle.h5_rules.proofs.rows.EndingLaws.{Stops}
 use Rattle.h5_rules.proofs.rows.KeptLaws.{FitsAs, Kept, fits_at}
 use Rattle.h5_laws.proofs.LawfulRow.{IsLawfulFor, IsLawfulTag, lawful_ignored}
-use Rattle.h5_laws.proofs.modes.BodyListsLaws.{stays}
 use Rattle.h5_laws.proofs.modes.SharedRows.{text_row_lawful}
-use Rattle.h5_laws.proofs.turns.AgainLaws.{Stops, kind_of_end}
+use Rattle.h5_laws.proofs.turns.AgainLaws.{kind_of_end}
 use Rattle.h5_laws.proofs.turns.RowLeadsLaws.{EndsText, stops}
 
 module _ (choices : SinkChoices) (w : World) (sound : Sound w) where
@@ -76,7 +76,7 @@ module _ (choices : SinkChoices) (w : World) (sound : Sound w) where
 -- an end tag
 end_lawful : (tag : TagText) (w : World) → IsLawfulTag EndTag tag Text w (text_end tag w)
 end_lawful tag w = record {
-  steady = λ choices s same some. stays choices w s Text (text_end tag w) (tt, (tt, tt));
+  steady = λ choices s same some h. steady_changes choices (text_end tag w).changes w (tt, (tt, tt)) s;
   fits = λ choices s same some. kept_text_end choices w s.sound tag;
   told = λ n. absurd (cc);
   silent = λ n h. absurd (cc);
@@ -94,7 +94,7 @@ tag_lawful EndTag tag w = end_lawful tag w
 -- and the end of the input
 eof_lawful : (w : World) → IsLawfulFor EofTurn Text w (text_mode EofTurn w)
 eof_lawful w = record {
-  steady = λ choices s same some. stays choices w s Text (text_mode EofTurn w) (at (current_is (codes "script") w));
+  steady = λ choices s same some h. steady_changes choices (text_mode EofTurn w).changes w (at (current_is (codes "script") w)) s;
   fits = λ choices s same some. kept_text_eof choices w s.sound;
   told = λ n. absurd (cc);
   silent = λ n h. tt;

@@ -32,7 +32,8 @@ use Rattle.h5_rules.proofs.changes.ForeignLaws.{tree_insert_and_pop_foreign, tre
 use Rattle.h5_rules.proofs.rows.KeptLaws.{FitsAs, changes_mode}
 use Rattle.h5_laws.proofs.RuleLaws.{lawful}
 use Rattle.h5_laws.proofs.turns.SettleLaws.{settle-first}
-use Rattle.h5_laws.proofs.replies.SilentRowLaws.{Silent, is_start_turn}
+use Rattle.h5_rules.proofs.rows.EndingLaws.{Silent}
+use Rattle.h5_laws.proofs.LawfulRow.{is_start_turn}
 use Rattle.h5_laws.proofs.cuts.TextKeptLaws.{IsKept, text_kept}
 use Rattle.h5_rules.proofs.rows.ToldLaws.{NoMode, NoText, NoTextBehind, Tells, TurnsToText, is_text, reset_no_text}
 use Rattle.h5_rules.proofs.changes.TreeLaws.{OnlyTree, tree_adoption, tree_cleared, tree_close_p, tree_close_p_in_scope, tree_format, tree_implied, tree_implied_except, tree_in_select, tree_list_item, tree_marker, tree_misnested_a_tags, tree_misnested_nobr_tags, tree_pop_heading, tree_reconstruct, tree_remove, tree_until_cell, tree_until_current, tree_until_heading, tree_implied_thoroughly, tree_remove_body}

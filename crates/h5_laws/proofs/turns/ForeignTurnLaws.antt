@@ -28,7 +28,8 @@ use Rattle.h5_rules.specs.fitting.NamesFit.{is_html_element}
 use Rattle.h5_laws.proofs.modes.ForeignRowLaws.{Steps, any_has, dispatch_holds, each_step, eof_html}
 use Rattle.h5_rules.proofs.rows.KeptLaws.{apply_append}
 use Rattle.h5_laws.proofs.RuleLaws.{lawful}
-use Rattle.h5_laws.proofs.replies.SilentRowLaws.{Silent, is_start_turn}
+use Rattle.h5_rules.proofs.rows.EndingLaws.{Silent}
+use Rattle.h5_laws.proofs.LawfulRow.{is_start_turn}
 use Rattle.h5_rules.proofs.rows.ToldLaws.{IsTold, Tells, is_text}
 
 -- leaving foreign content leaves the mode

@@ -1,30 +1,26 @@
--- To which modes a row leads: of rows that are chosen, of templates, and at the end of the file by the rules of the body.
+-- To which modes a row leads.
 use Rattle.std.proofs.Common.{◌++◌, ◌||◌, ◌∷◌, ◌≡◌, Bool, List, [], codes, false, refl, subst, true, ℕ}
 use Rattle.std.proofs.lemmas.Slice.Eq.{bytes_eq-Decides}
 use Rattle.h5_names.specs.AttributeText.{is_same_text}
 use Rattle.h5_names.specs.KnownNames.{name_text}
 use Rattle.h5_names.specs.declared.known_name.KnownName.{KnownName}
 use Rattle.h5_names.specs.declared.known_name.KnownName.TheVariants.{Col, Table}
-use Rattle.h5_token.specs.TokenText.{TagText}
 use Rattle.h5_tables.specs.TagSets.{is_one_of}
-use Rattle.h5_tables.specs.TurnText.{EofTurn}
 use Rattle.h5_tables.specs.declared.modes.InsertionMode.{InsertionMode}
 use Rattle.h5_tables.specs.declared.modes.InsertionMode.TheVariants.{InColumnGroup, InTable, InTableText, Text}
-use Rattle.h5_rules.specs.ByName.{NonePasses, named}
-use Rattle.h5_rules.specs.Rows.{Again, AgainBy, ClearActiveFormattingToMarker, IsDone, Pop, PopTemplateMode, PopUntilNamed, ResetMode, Row, TakePendingText, row}
+use Rattle.h5_rules.specs.ByName.{named}
+use Rattle.h5_rules.specs.Rows.{Again, AgainBy, ClearActiveFormattingToMarker, Pop, PopTemplateMode, PopUntilNamed, ResetMode, Row, TakePendingText}
 use Rattle.h5_rules.specs.World.{World, names_of}
 use Rattle.h5_rules.specs.fitting.Fits.{is_table_mode}
 use Rattle.h5_rules.specs.fitting.Reset.{reset_mode}
-use Rattle.h5_rules.specs.modes.InBody.{body_ends, in_body, no_template_mode}
-use Rattle.h5_rules.specs.modes.InHead.{in_head_end_template, in_head_start, in_head_start_tag, template_eof}
 use Rattle.h5_rules.specs.modes.InTableText.{pending_text, saved_mode}
 use Rattle.h5_rules.specs.modes.Shared.{current_is}
 use Rattle.h5_rules.specs.modes.Tables.{named_in_table_scope}
 use Rattle.h5_rules.specs.modes.TextMode.{marks_script}
 use Rattle.h5_rules.specs.stack.Scope.{has_template}
-use Rattle.h5_rules.proofs.modes.BodyRowLaws.{row_end_template, row_head_start}
-use Rattle.h5_rules.proofs.rows.ByNameLaws.{HoldsOfAll, holds_chosen, of_named}
-use Rattle.h5_laws.proofs.turns.AgainLaws.{Leads, RowStops, kind_of_end, part_end_names, row_stops, stops_leads}
+use Rattle.h5_rules.proofs.rows.ByNameLaws.{HoldsOfAll, of_named}
+use Rattle.h5_rules.proofs.rows.EndingLaws.{RowStops}
+use Rattle.h5_laws.proofs.turns.AgainLaws.{Leads, kind_of_end, part_end_names, stops_leads}
 use Rattle.h5_laws.proofs.turns.RankWeightLaws.{closes_templates, is_text}
 use Rattle.h5_laws.proofs.turns.Ranks.{EndPartTurns, EofTurns, StartTableTurns, TurnKind}
 use Rattle.h5_laws.proofs.turns.Ranks as edges
@@ -57,24 +53,6 @@ pub data RowLeads (c : TurnKind) (m : InsertionMode) (w : World) (r : Row) : Typ
 
 pub stops : (c : TurnKind) (m : InsertionMode) (w : World) (r : Row) → RowStops r → RowLeads c m w r
 stops c m w r h = ByEdge (stops_leads c m r.ending h)
-
-pub leads_end_template : (c : TurnKind) (m : InsertionMode) (tag : TagText) (w : World) → RowLeads c m w (in_head_end_template tag w)
-leads_end_template c m tag w = stops c m w (in_head_end_template tag w) (row_stops (in_head_end_template tag w) (row_end_template tag w))
-
--- by the rules of the head, a start tag that has one there
-pub starts_by_head : (c : TurnKind) (m : InsertionMode) (tag : TagText) (w : World) → (NonePasses in_head_start tag.name → ⊥) → RowLeads c m w (in_head_start_tag tag w)
-starts_by_head c m tag w some = stops c m w (in_head_start_tag tag w) (row_stops (in_head_start_tag tag w) (row_head_start tag w some))
-
--- where a template is open, it is closed
-pub eof_template : (m : InsertionMode) (w : World) → closes_templates m ≡ true → RowLeads EofTurns m w (template_eof w)
-unfolding template_eof
-eof_template m w h =
-    holds_chosen (RowLeads EofTurns m w) (has_template (names_of w)) _ (row [] IsDone)
-    (λ e. ClosesTemplate h refl e refl refl)
-    (λ e. ByEdge tt)
-
-pub eof_body : (m : InsertionMode) (w : World) → closes_templates m ≡ true → RowLeads EofTurns m w (in_body EofTurn w)
-eof_body m w h = holds_chosen (RowLeads EofTurns m w) (no_template_mode w.template_modes) (body_ends [] IsDone w) (template_eof w) (λ e. ByEdge tt) (λ e. eof_template m w h)
 
 -- an end tag "table"
 pub end_table : (m k : InsertionMode) (name : List ℕ) → edges.Again EndPartTurns m k → named Table name ≡ true → edges.Again (kind_of_end name) m k

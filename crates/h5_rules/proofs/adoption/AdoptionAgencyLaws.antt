@@ -31,7 +31,7 @@ use Rattle.h5_rules.proofs.adoption.AdoptionForest.{kinds_refl, kinds_trans, mar
 use Rattle.h5_rules.proofs.adoption.AdoptionPlace.{newest_is_plain, newest_of_tag, not_oldest, plain_not_html}
 use Rattle.h5_rules.proofs.adoption.AdoptionRound.{adopt_ready, map_same, map_some, open_after, open_before, open_behind, round_kinds, top_after, top_before, top_behind}
 use Rattle.h5_rules.proofs.changes.ClosingLaws.{pop_sound, while_holds}
-use Rattle.h5_rules.proofs.changes.FormattingLaws.{AllListedOpen, reconstruct_opens, reconstruct_ready}
+use Rattle.h5_rules.proofs.changes.FormattingLaws.{AllListedOpen, reconstruct_opens}
 use Rattle.h5_rules.proofs.changes.NameLaws.{names-cut, names-implied}
 use Rattle.h5_rules.proofs.changes.PopLaws.{all_cut, names-pop}
 use Rattle.h5_rules.proofs.changes.SoundLaws.{all_tail}
@@ -321,19 +321,7 @@ misnested_a_leaves choices w ready = at (newest_named (codes "a") w.formatting) 
         let plain = plain_not_html (name_in w.forest f.node) (newest_is_plain (codes "a") w e ready.sound) in
         leaves_trans w v (unlist_and_remove choices f.node v) one (removed_ready choices f.node v one.ready (ap (is_html_named (codes "html")) kept ∙ plain))
 
-pub misnested_a_ready : (choices : SinkChoices) (w : World) → HasHtmlRoot w → HasHtmlRoot (handle_misnested_a_tags choices w)
-misnested_a_ready choices w ready = (misnested_a_leaves choices w ready).ready
-
--- a `nobr` in scope is closed
-pub misnested_nobr_ready : (choices : SinkChoices) (w : World) → HasHtmlRoot w → HasHtmlRoot (handle_misnested_nobr_tags choices w)
-unfolding handle_misnested_nobr_tags
-misnested_nobr_ready choices w ready =
-    elim (in_scope (is_html_named (codes "nobr")) is_default_scope (names_of w)) as (λ b. HasHtmlRoot (cond b (reconstruct_active_formatting_elements choices (adoption_agency choices (codes "nobr") w)) w)) [
-      | true ↦ reconstruct_ready choices (adoption_agency choices (codes "nobr") w) (agency_ready choices (codes "nobr") w refl ready)
-      | false ↦ ready
-    ]
-
--- and where all that is listed after the last marker was open, it still is
+-- a `nobr` in scope is closed: where all that is listed after the last marker was open, it still is
 pub misnested_nobr_open : (choices : SinkChoices) (w : World) → HasHtmlRoot w → AllListedOpen w → AllListedOpen (handle_misnested_nobr_tags choices w)
 unfolding handle_misnested_nobr_tags
 misnested_nobr_open choices w ready all =

@@ -11,7 +11,7 @@ use Rattle.h5_tables.specs.TagSets.{block_end_names, heading_names, html_namespa
 use Rattle.h5_rules.specs.formatting.FormattingNames.{html_name}
 use Rattle.h5_rules.specs.stack.Order.{but_first}
 use Rattle.h5_rules.specs.stack.Scope.{cut_names, drop_while, first_passes, in_scope, is_implied_but, later_names}
-use Rattle.h5_rules.proofs.BoolLaws.{and_both, and_not, or_neither}
+use Rattle.h5_rules.proofs.BoolLaws.{and_both, or_neither}
 use Rattle.h5_rules.proofs.roles.RoleLaws.{made_named}
 use Rattle.h5_rules.proofs.roles.SetLaws.{in_set}
 use Rattle.h5_rules.specs.Changes.{generate_implied_end_except, pop, pop_while}

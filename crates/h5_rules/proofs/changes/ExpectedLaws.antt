@@ -1,21 +1,20 @@
 -- Whether an element that is closed is the current node by then: what the worlds on the way have for names.
-use Rattle.std.proofs.Common.{◌≡◌, ◌<◌, ◌≤◌, ◌&&◌, ℕ, Bool, true, false, cond, not, List, [], ◌∷◌, Option, None, Some, codes, refl, ap, ◌∙◌, arith}
+use Rattle.std.proofs.Common.{◌≡◌, ◌<◌, ◌≤◌, ◌&&◌, ℕ, Bool, true, false, cond, not, List, [], ◌∷◌, None, codes, refl, ap, ◌∙◌, arith}
 use Rattle.h5_names.specs.declared.qualified.QualName.{QualName}
 use Rattle.h5_interface.specs.SinkChoices.{SinkChoices}
 use Rattle.h5_tables.specs.TagSets.{is_html_named, is_implied}
-use Rattle.h5_rules.specs.Changes.{generate_implied_end_except, pop, pop_while}
+use Rattle.h5_rules.specs.Changes.{pop, pop_while}
 use Rattle.h5_rules.specs.formatting.Formatting.{insert_anew, names_anew, names_made_anew, reconstruct_active_formatting_elements}
 use Rattle.h5_rules.specs.formatting.FormattingList.{ElementEntry, Entry, MarkerEntry, closed_front}
 use Rattle.h5_rules.specs.formatting.FormattingNames.{html_name}
 use Rattle.h5_rules.specs.Sound.{Sound}
-use Rattle.h5_rules.specs.stack.Closing.{close_item, close_list_item, close_p_element, close_p_element_in_button_scope, generate_implied_end_tags, newest_item}
+use Rattle.h5_rules.specs.stack.Closing.{generate_implied_end_tags, newest_item}
 use Rattle.h5_rules.specs.stack.Expected.{first_is, is_expected, is_expected_item, is_expected_named, is_expected_node, is_expected_p, names_behind, names_behind_item, names_behind_named, names_behind_p}
 use Rattle.h5_rules.specs.stack.Order.{but_first}
-use Rattle.h5_rules.specs.stack.Scope.{cut_above, cut_names, drop_while, first_passes, has_p_in_button_scope, is_implied_but}
+use Rattle.h5_rules.specs.stack.Scope.{cut_above, drop_while, first_passes, has_p_in_button_scope, is_implied_but}
 use Rattle.h5_rules.specs.World.{World, names_of}
-use Rattle.h5_rules.proofs.changes.ClosingLaws.{names-close_p}
 use Rattle.h5_rules.proofs.changes.FormattingLaws.{sound_anew}
-use Rattle.h5_rules.proofs.changes.NameLaws.{names-cut, names-implied, names-insert}
+use Rattle.h5_rules.proofs.changes.NameLaws.{names-insert}
 use Rattle.h5_rules.proofs.changes.PopLaws.{pop_stack}
 
 -- what stays open where none is closed

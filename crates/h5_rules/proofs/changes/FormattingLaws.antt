@@ -282,8 +282,3 @@ format_ready choices tag w named all k = record {
   lists = lists_format choices tag w all k.sound k.lists;
   root = root_format choices tag w k.sound k.root;
 }
-
--- both, as most formatting tags have it
-pub reconstruct_format_ready : (choices : SinkChoices) (tag : TagText) (w : World) → IsTrue (is_one_of formatting_names tag.name) → HasHtmlRoot w → HasHtmlRoot (create_formatting_element choices tag (reconstruct_active_formatting_elements choices w))
-reconstruct_format_ready choices tag w named k =
-    format_ready choices tag (reconstruct_active_formatting_elements choices w) named (reconstruct_opens choices w k.lists) (reconstruct_ready choices w k)

@@ -5,9 +5,9 @@ use Rattle.h5_names.specs.declared.qualified.QualName.{QualName}
 use Rattle.h5_interface.specs.Changes.{mark}
 use Rattle.h5_interface.specs.Forest.{Forest, Marks, Node, kind_of}
 use Rattle.h5_interface.specs.SinkChoices.{SinkChoices}
-use Rattle.h5_tables.specs.TagSets.{is_implied, is_thorough_implied}
+use Rattle.h5_tables.specs.TagSets.{is_implied}
 use Rattle.h5_rules.specs.Changes.{generate_implied_end_except, mark_started, pop, pop_while}
-use Rattle.h5_rules.specs.stack.Closing.{generate_implied_end_tags, generate_implied_end_thoroughly}
+use Rattle.h5_rules.specs.stack.Closing.{generate_implied_end_tags}
 use Rattle.h5_rules.specs.stack.Scope.{cut_above, cut_through, first_passes, is_implied_but, later_names}
 use Rattle.h5_rules.specs.Sound.{AllStand}
 use Rattle.h5_rules.specs.World.{World, current, name_in, name_of_found, names_of}

@@ -37,10 +37,9 @@ use Rattle.h5_rules.specs.modes.Shared.{head_start_names}
 use Rattle.h5_rules.specs.Sound.{Fits, HasLists, HasHtmlRoot, Sound, situation_of}
 use Rattle.h5_rules.specs.insertion.Templates.{insert_template, push_template_mode}
 use Rattle.h5_rules.specs.World.{World, names_of, root}
-use Rattle.h5_rules.proofs.modes.BodyRowLaws.{head_start_passes}
 use Rattle.h5_rules.proofs.rows.ByNameLaws.{holds_by_name, of_named}
 use Rattle.h5_rules.proofs.changes.FormattingLaws.{all_listed}
-use Rattle.h5_rules.proofs.modes.HeadContentLaws.{head_raw_plain, script_plain, title_plain, indicates_next}
+use Rattle.h5_rules.proofs.modes.HeadContentLaws.{head_raw_plain, head_start_passes, script_plain, title_plain, indicates_next}
 use Rattle.h5_rules.proofs.rows.KeptLaws.{FitsAs, Kept, apply_append, as_before, fits_at, mode_after, mode_with}
 use Rattle.h5_rules.proofs.changes.ListsLaws.{NeedsOfAll, steady_changes}
 use Rattle.h5_rules.proofs.changes.NameLaws.{names-insert, names-insert_and_pop, names_pushed}

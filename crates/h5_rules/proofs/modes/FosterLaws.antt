@@ -1,26 +1,21 @@
 -- A token that goes by the rule of the body, with foster parenting on.
-use Rattle.std.proofs.Common.{◌≡◌, ◌<◌, ℕ, true, false, [], ◌∷◌, Some, refl, sym, subst, ap, ◌∙◌, codes}
+use Rattle.std.proofs.Common.{Bool, ◌≡◌, ◌<◌, ℕ, true, false, [], ◌∷◌, Some, refl, sym, subst, ap, ◌∙◌, codes}
 use Rattle.h5_interface.specs.SinkChoices.{SinkChoices}
 use Rattle.h5_rules.proofs.rows.ByNameLaws.{holds_chosen}
 use Rattle.h5_rules.proofs.rows.KeptLaws.{apply_append}
 use Rattle.h5_rules.proofs.rows.MarkLaws.{still_told}
-use Rattle.h5_rules.specs.ByName.{by_kind, by_name}
 use Rattle.h5_rules.specs.Changes.{set_foster}
-use Rattle.h5_rules.specs.modes.InBody.{body_ends, body_in_scope, if_body_in_scope, in_body, in_body_end, in_body_end_other, in_body_start, in_body_start_other, in_body_tag, no_template_mode}
+use Rattle.h5_rules.specs.modes.InBody.{body_ends, in_body, in_body_tag, no_template_mode}
 use Rattle.h5_rules.specs.modes.InHead.{template_eof}
 use Rattle.h5_rules.specs.fitting.Reset.{reset_mode}
-use Rattle.h5_rules.specs.Rows.{ClearActiveFormattingToMarker, PopTemplateMode, ResetMode, EndsAs, Again, AgainBy, Answers, Ending, Follows, IsAcknowledged, IsDone, PopUntilNamed, Row, SetFoster, errs, ignored, next_mode, row}
+use Rattle.h5_rules.specs.Rows.{ClearActiveFormattingToMarker, PopTemplateMode, ResetMode, EndsAs, Again, AgainBy, Answers, Ending, Follows, IsAcknowledged, IsDone, PopUntilNamed, Row, SetFoster, errs, next_mode, row}
 use Rattle.h5_rules.specs.modes.Tables.{foster}
 use Rattle.h5_rules.specs.World.{World, names_of}
 use Rattle.h5_rules.specs.stack.Scope.{has_template}
-use Rattle.h5_token.specs.TokenText.{TagText}
-use Rattle.h5_token.specs.declared.tag.TagKind.{TagKind}
-use Rattle.h5_token.specs.declared.tag.TagKind.TheVariants.{EndTag, StartTag}
 use Rattle.h5_tables.specs.TurnResult.{TurnResult}
 use Rattle.h5_tables.specs.TurnResult as results
 use Rattle.h5_tables.specs.TurnText.{CommentTurn, EofTurn, NullTurn, TagTurn, TextTurn, TurnText}
-use Rattle.h5_tables.specs.declared.modes.InsertionMode.TheVariants.{AfterBody}
-use Rattle.h5_rules.proofs.modes.BodyRowLaws.{EndsAtOnce, IsBodyRow, row_end_by, row_start}
+use Rattle.h5_rules.proofs.modes.InBody.{EndsBody, is_end_html, tag_row}
 
 -- an ending that doesn't look at the foster flag
 abbrev IsOutright : Ending → Type 0
@@ -30,23 +25,12 @@ IsOutright _ = Unit {0}
 abbrev RowIsOutright : Row → Type 0
 RowIsOutright r = IsOutright r.ending
 
-ends_outright : (x : Ending) → EndsAtOnce x → IsOutright x
-ends_outright IsDone h = tt
-ends_outright IsAcknowledged h = tt
-ends_outright (Answers answer) h = tt
-ends_outright (Again k) h = tt
-ends_outright (AgainBy mode) h = absurd h
-
-row_outright : (r : Row) → IsBodyRow r → RowIsOutright r
-row_outright r b = ends_outright r.ending b.ends
-
-outright_end_html : (w : World) → RowIsOutright (if_body_in_scope (body_ends [] (Again AfterBody) w) w)
-unfolding if_body_in_scope
-outright_end_html w = holds_chosen RowIsOutright (body_in_scope w) (body_ends [] (Again AfterBody) w) ignored (λ e. tt) (λ e. tt)
-
-outright_in_body : (k : TagKind) (tag : TagText) (w : World) → IsOutright (by_kind k (by_name in_body_start in_body_start_other tag w) (by_name in_body_end in_body_end_other tag w)).ending
-outright_in_body StartTag tag w = row_outright _ (row_start tag w)
-outright_in_body EndTag tag w = row_end_by tag w RowIsOutright row_outright (λ p. outright_end_html w)
+ends_outright : (html : Bool) (x : Ending) → EndsBody html x → IsOutright x
+ends_outright html IsDone h = tt
+ends_outright html IsAcknowledged h = tt
+ends_outright html (Answers answer) h = tt
+ends_outright html (Again k) h = tt
+ends_outright html (AgainBy mode) h = absurd h
 
 -- the mode that is reset to, behind a template that is closed
 reset_outright : (v : World) → reset_mode (set_foster false v) ≡ reset_mode v
@@ -62,7 +46,7 @@ outright_eof w =
 -- so does each rule of the body
 body_is_outright : (t : TurnText) (w : World) → IsOutright (in_body t w).ending
 unfolding in_body_tag
-body_is_outright (TagTurn tag) w = outright_in_body tag.kind tag w
+body_is_outright (TagTurn tag) w = ends_outright (is_end_html tag.kind tag.name) (in_body_tag tag w).ending (tag_row tag.kind tag w).ends
 body_is_outright (CommentTurn text) w = tt
 body_is_outright (TextTurn status text) w = tt
 body_is_outright NullTurn w = tt

@@ -1,6 +1,5 @@
--- Start tags that go by the rules of the head, in each mode that may be left for a text: after the row the open elements
--- fit the mode that it leaves.
-use Rattle.std.proofs.Common.{◌≡◌, ℕ, true, false, List, [], ◌∷◌, Option, Some, None, codes, refl, subst, sym}
+-- Start tags that go by the rules of the head, in each mode that may be left for a text.
+use Rattle.std.proofs.Common.{◌≡◌, ℕ, true, false, List, [], ◌∷◌, Option, Some, None, codes, refl}
 use Rattle.h5_names.specs.declared.known_name.KnownName.TheVariants.{Noscript, Template, Title}
 use Rattle.h5_token.specs.TokenText.{TagText}
 use Rattle.h5_token.specs.declared.states.RawKind.{RawKind}
@@ -8,26 +7,27 @@ use Rattle.h5_token.specs.declared.states.RawKind.TheVariants.{Rawtext, Rcdata}
 use Rattle.h5_interface.specs.SinkChoices.{SinkChoices}
 use Rattle.h5_tables.specs.declared.modes.InsertionMode.{InsertionMode}
 use Rattle.h5_tables.specs.declared.modes.InsertionMode.TheVariants.{AfterHead, BeforeHtml, InHead, InTableText, Initial, Text}
-use Rattle.h5_rules.specs.modes.Shared.{head_start_names, inserts, raw_text}
+use Rattle.h5_rules.specs.modes.Shared.{head_start_names, in_body_start_html, inserts, raw_text}
+use Rattle.h5_rules.specs.stack.Scope.{has_template}
 use Rattle.h5_rules.specs.fitting.Fits.{goes_by_body, is_before_root, may_be_left, takes_template}
-use Rattle.h5_rules.proofs.rows.KeptLaws.{FitsAs, Kept, as_before, kept_start_html, mode_with}
+use Rattle.h5_rules.proofs.rows.KeptLaws.{FitsAs, Kept, as_before}
 use Rattle.h5_rules.specs.World.{World, names_of}
 use Rattle.h5_rules.specs.Sound.{Sound, situation_of}
 use Rattle.h5_rules.specs.ByName.{NonePasses, named, of_tag}
-use Rattle.h5_rules.specs.modes.InHead.{in_head_else, in_head_raw, in_head_start, in_head_start_noscript, in_head_start_script, in_head_start_tag, in_head_start_template}
+use Rattle.h5_rules.specs.modes.InHead.{in_head_else, in_head_links, in_head_raw, in_head_start, in_head_start_noscript, in_head_start_script, in_head_start_tag, in_head_start_template}
 use Rattle.h5_rules.specs.stack.Root.{IsRootOpen}
-use Rattle.h5_rules.proofs.rows.ByNameLaws.{holds_by_name, of_named}
+use Rattle.h5_rules.proofs.rows.ByNameLaws.{◌&◌, holds_by_name, holds_chosen, of_named, of_one}
+use Rattle.h5_rules.proofs.rows.EndingLaws.{EndsTurn}
 use Rattle.h5_rules.proofs.modes.TemplateRowLaws.{kept_start_template}
 use Rattle.h5_rules.proofs.modes.TextBeginsLaws.{script_begins, text_begins}
 use Rattle.h5_rules.proofs.roles.PlainNameLaws.{set_plain}
 use Rattle.h5_rules.specs.fitting.Roles.{PlainRole, role_of_local}
-use Rattle.h5_rules.proofs.changes.NameLaws.{names-insert_and_pop}
+use Rattle.h5_rules.proofs.changes.NameLaws.{names-add_to_root, names-insert_and_pop}
 use Rattle.h5_rules.proofs.fitting.OpenLaws.{names_root_open}
-use Rattle.h5_rules.specs.Rows.{InsertAndPopElement, Row, next_mode, row}
-use Rattle.h5_rules.proofs.changes.SituationLaws.{situation_leaf}
-use Rattle.h5_rules.proofs.modes.BodyRowLaws.{head_start_passes}
+use Rattle.h5_rules.specs.Rows.{AddAttrsToHtml, InsertAndPopElement, IsDone, Row, errs, ignored, next_mode, row}
+use Rattle.h5_rules.proofs.changes.SituationLaws.{situation_add_to_root, situation_leaf}
 use Rattle.h5_tables.specs.TurnText.{TagTurn}
-use Rattle.h5_rules.specs.Changes.{insert_and_pop_element}
+use Rattle.h5_rules.specs.Changes.{add_attrs_to_html, insert_and_pop_element}
 use Rattle.h5_tables.specs.TagSets.{is_one_of}
 use Rattle.h5_rules.specs.NamedEncoding.{indicates, named_encoding}
 
@@ -79,62 +79,80 @@ pub script_plain : role_of_local (codes "script") ≡ PlainRole
 unfolding head_text_names
 script_plain = head_text_plain (codes "script") refl
 
-module _ (choices : SinkChoices) (w : World) (sound : Sound w) (m : InsertionMode) (is : w.mode ≡ m) (left : may_be_left m ≡ true) where
-  abbrev KeptHere : Row → Type 0
-  KeptHere r = Kept choices w m r
+-- each start tag that goes so elsewhere has a rule there, and none is `noscript`
+pub head_start_passes : (l : List ℕ) → is_one_of head_start_names l ≡ true → NonePasses in_head_start l → ⊥
+unfolding head_start_names in_head_start in_head_links in_head_raw
+head_start_passes l h = of_one (λ s. NonePasses in_head_start s → ⊥) head_start_names l ((λ n. cc) & (λ n. cc) & (λ n. cc) & (λ n. cc) & (λ n. cc) & (λ n. cc) & (λ n. cc) & (λ n. cc) & (λ n. cc) & (λ n. cc) & tt) h
 
-  root : FitsAs m w → IsRootOpen (names_of w)
-  root h = names_root_open (situation_of w) m (names_of w) (left_after_root m left) h
-
-  -- an element for a tag, and its text
-  pub kept_raw : (kind : RawKind) (tag : TagText) → role_of_local tag.name ≡ PlainRole → KeptHere (raw_text kind (inserts tag ∷ []))
-  kept_raw kind tag plain h = text_begins choices w m is left sound (root h) tag.name tag.attrs tag.had_duplicate_attributes plain h
-
-  kept_script : (tag : TagText) → KeptHere (in_head_start_script tag w)
-  kept_script tag h = script_begins choices w m is left sound (root h) tag.attrs tag.had_duplicate_attributes script_plain h
-
-  kept_leaf : (tag : TagText) (encoding : Option (List ℕ)) → KeptHere (row (InsertAndPopElement tag.name tag.attrs tag.had_duplicate_attributes ∷ []) (indicates encoding))
-  kept_leaf tag encoding h =
-      subst (λ o. FitsAs (mode_with m o) (insert_and_pop_element choices tag.name tag.attrs tag.had_duplicate_attributes w)) (sym (indicates_next encoding (insert_and_pop_element choices tag.name tag.attrs tag.had_duplicate_attributes w)))
-      (as_before m w (insert_and_pop_element choices tag.name tag.attrs tag.had_duplicate_attributes w) sound (situation_leaf choices w tag.name tag.attrs tag.had_duplicate_attributes sound)
-      (names-insert_and_pop choices tag.name tag.attrs tag.had_duplicate_attributes w sound) h)
-
-  -- by the rules of the head, where something is known of what isn't the same in all modes
-  pub kept_head_start : (tag : TagText) → (named Noscript tag.name ≡ true → KeptHere (in_head_start_noscript tag w)) → (named Template tag.name ≡ true → KeptHere (in_head_start_template tag w)) → (NonePasses in_head_start tag.name → KeptHere (in_head_else (TagTurn tag) w)) → KeptHere (in_head_start_tag tag w)
-  unfolding in_head_start in_head_start_tag
-  kept_head_start tag noscript template other = holds_by_name KeptHere in_head_start (of_tag in_head_else) tag w (
-    (λ p. kept_start_html choices w sound m tag),
-    (
-      (λ p. kept_leaf tag None),
-      (
-        (λ p. kept_leaf tag (named_encoding tag.attrs)),
-        (
-          (λ p. kept_raw Rcdata tag (title_plain tag.name p)),
-          (
-            (λ p. kept_raw Rawtext tag (head_raw_plain tag.name p)),
-            (
-              noscript,
-              (
-                (λ p. kept_script tag),
-                (
-                  template,
-                  ((λ p h. h), tt),
-                ),
-              ),
-            ),
-          ),
-        ),
-      ),
-    ),
-  )
-      other
-
--- no `noscript` goes so but in the head
 apart_noscript : (l : List ℕ) → is_one_of head_start_names l ≡ true → named Noscript l ≡ true → ⊥
 unfolding head_start_names
 apart_noscript l h p = let out = of_named (λ n. is_one_of head_start_names n ≡ false) Noscript l refl p in cc
 
-pub kept_head_content : (choices : SinkChoices) (w : World) (sound : Sound w) (m : InsertionMode) (is : w.mode ≡ m) (left : may_be_left m ≡ true) (tag : TagText) → is_one_of head_start_names tag.name ≡ true → (named Template tag.name ≡ true → takes_template m ≡ true)
-    → Kept choices w m (in_head_start_tag tag w)
-kept_head_content choices w sound m is left tag p takes =
-    kept_head_start choices w sound m is left tag (λ q. absurd (apart_noscript tag.name p q)) (λ q. kept_start_template choices w sound m tag (takes q)) (λ n. absurd (head_start_passes tag.name p n))
+-- ROWS: each ends the turn, and after it the open elements fit the mode that it leaves
+pub record IsHeadRow (m : InsertionMode) (w : World) (r : Row) : Type 0 where
+  pub ends : EndsTurn true r
+  pub fits : (choices : SinkChoices) → Sound w → w.mode ≡ m → Kept choices w m r
+
+ignored_row : (m : InsertionMode) (w : World) → IsHeadRow m w ignored
+ignored_row m w = record { ends = record { stops = tt; told = (tt, tt); silent = λ s. tt; needs = tt }; fits = λ choices sound is h. h }
+
+pub html_row : (m : InsertionMode) (tag : TagText) (w : World) → IsHeadRow m w (in_body_start_html tag w)
+unfolding in_body_start_html
+html_row m tag w = holds_chosen (IsHeadRow m w) (has_template (names_of w)) ignored (errs (AddAttrsToHtml tag.attrs ∷ []) IsDone) (λ e. ignored_row m w) (λ e. record {
+  ends = record { stops = tt; told = (tt, tt); silent = λ s. tt; needs = (tt, tt) };
+  fits = λ choices sound is. as_before m w (add_attrs_to_html tag.attrs w) sound (situation_add_to_root w tag.attrs sound) (names-add_to_root tag.attrs w sound);
+})
+
+module _ (m : InsertionMode) (left : may_be_left m ≡ true) (tag : TagText) (w : World) where
+  root : FitsAs m w → IsRootOpen (names_of w)
+  root h = names_root_open (situation_of w) m (names_of w) (left_after_root m left) h
+
+  -- an element for a tag, and its text
+  pub raw_row : (kind : RawKind) → role_of_local tag.name ≡ PlainRole → IsHeadRow m w (raw_text kind (inserts tag ∷ []))
+  raw_row kind plain = record {
+    ends = record { stops = tt; told = (tt, (refl, tt)); silent = λ s. absurd (cc); needs = (tt, (tt, (tt, tt))) };
+    fits = λ choices sound is h. text_begins choices w m is left sound (root h) tag.name tag.attrs tag.had_duplicate_attributes plain h;
+  }
+
+  script_row : IsHeadRow m w (in_head_start_script tag w)
+  script_row = record {
+    ends = record { stops = tt; told = (tt, (refl, tt)); silent = λ s. absurd (cc); needs = (tt, (tt, (tt, tt))) };
+    fits = λ choices sound is h. script_begins choices w m is left sound (root h) tag.attrs tag.had_duplicate_attributes script_plain h;
+  }
+
+  leaf_kept : (choices : SinkChoices) → Sound w → FitsAs m w → FitsAs m (insert_and_pop_element choices tag.name tag.attrs tag.had_duplicate_attributes w)
+  leaf_kept choices sound =
+      as_before m w (insert_and_pop_element choices tag.name tag.attrs tag.had_duplicate_attributes w) sound (situation_leaf choices w tag.name tag.attrs tag.had_duplicate_attributes sound)
+      (names-insert_and_pop choices tag.name tag.attrs tag.had_duplicate_attributes w sound)
+
+  leaf_row : (encoding : Option (List ℕ)) → IsHeadRow m w (row (InsertAndPopElement tag.name tag.attrs tag.had_duplicate_attributes ∷ []) (indicates encoding))
+  leaf_row None = record { ends = record { stops = tt; told = (tt, tt); silent = λ s. tt; needs = (tt, tt) }; fits = λ choices sound is. leaf_kept choices sound }
+  leaf_row (Some encoding) = record { ends = record { stops = tt; told = (tt, tt); silent = λ s. absurd (cc); needs = (tt, tt) }; fits = λ choices sound is. leaf_kept choices sound }
+
+  template_row : takes_template m ≡ true → IsHeadRow m w (in_head_start_template tag w)
+  template_row takes = record {
+    ends = record { stops = tt; told = (tt, (refl, (refl, tt))); silent = λ s. tt; needs = (tt, (tt, (tt, (tt, (tt, tt))))) };
+    fits = λ choices sound is. kept_start_template choices w sound m tag takes;
+  }
+
+  -- what holds of each such row, of that of a `noscript`, and of any other, holds of a start tag's
+  pub head_start_by : (P : Row → Type 0) → ((r : Row) → IsHeadRow m w r → P r) → (named Template tag.name ≡ true → takes_template m ≡ true) → (named Noscript tag.name ≡ true → P (in_head_start_noscript tag w))
+      → (NonePasses in_head_start tag.name → P (in_head_else (TagTurn tag) w)) → P (in_head_start_tag tag w)
+  unfolding in_head_start in_head_start_tag
+  head_start_by P of takes noscript other = holds_by_name P in_head_start (of_tag in_head_else) tag w (
+      (λ p. of _ (html_row m tag w))
+      & (λ p. of _ (leaf_row None))
+      & (λ p. of _ (leaf_row (named_encoding tag.attrs)))
+      & (λ p. of _ (raw_row Rcdata (title_plain tag.name p)))
+      & (λ p. of _ (raw_row Rawtext (head_raw_plain tag.name p)))
+      & noscript
+      & (λ p. of _ script_row)
+      & (λ p. of _ (template_row (takes p)))
+      & (λ p. of _ (ignored_row m w))
+      & tt
+      )
+      other
+
+  -- one that goes so elsewhere
+  pub head_content : is_one_of head_start_names tag.name ≡ true → (named Template tag.name ≡ true → takes_template m ≡ true) → IsHeadRow m w (in_head_start_tag tag w)
+  head_content p takes = head_start_by (IsHeadRow m w) (λ r x. x) takes (λ q. absurd (apart_noscript tag.name p q)) (λ n. absurd (head_start_passes tag.name p n))

@@ -1,5 +1,5 @@
 -- What the rows of templates keep: after each the open elements fit the mode that it leaves.
-use Rattle.std.proofs.Common.{◌≡◌, true, false, [], ◌∷◌, Option, codes, refl, ap, sym, subst, ◌∙◌}
+use Rattle.std.proofs.Common.{◌≡◌, true, false, ◌∷◌, Option, codes, refl, ap, sym, subst, ◌∙◌}
 use Rattle.h5_token.specs.TokenText.{TagText}
 use Rattle.h5_interface.specs.SinkChoices.{SinkChoices}
 use Rattle.h5_tables.specs.declared.modes.InsertionMode.{InsertionMode}
@@ -20,17 +20,15 @@ use Rattle.h5_rules.specs.formatting.AdoptionAgency.{KeepsKinds}
 use Rattle.h5_rules.specs.Changes.{pop_until_named, set_frameset_not_ok, set_mode}
 use Rattle.h5_rules.specs.stack.Closing.{generate_implied_end_thoroughly}
 use Rattle.h5_rules.specs.formatting.Formatting.{clear_active_formatting_to_marker, insert_marker}
-use Rattle.h5_rules.specs.modes.InHead.{in_head_end_template, in_head_start_template, template_eof}
+use Rattle.h5_rules.specs.modes.InHead.{in_head_start_template}
 use Rattle.h5_rules.specs.modes.InTemplate.{in_template_as}
 use Rattle.h5_rules.specs.fitting.Reset.{reset_mode}
-use Rattle.h5_rules.specs.Rows.{IsDone, apply_all, ignored, next_mode, row}
 use Rattle.h5_rules.specs.Sound.{Sound, situation_of}
 use Rattle.h5_rules.specs.insertion.Templates.{insert_template, pop_template_mode, push_template_mode}
 use Rattle.h5_rules.specs.World.{World, names_of}
 use Rattle.h5_rules.proofs.adoption.AdoptionForest.{kinds_refl}
-use Rattle.h5_rules.proofs.rows.ByNameLaws.{holds_chosen}
 use Rattle.h5_rules.proofs.changes.FormattingLaws.{all_listed}
-use Rattle.h5_rules.proofs.rows.KeptLaws.{FitsAs, Kept, fits_at, mode_after, mode_with}
+use Rattle.h5_rules.proofs.rows.KeptLaws.{FitsAs, Kept, fits_at}
 use Rattle.h5_rules.proofs.changes.NameLaws.{names-cut}
 use Rattle.h5_rules.proofs.changes.SituationLaws.{situation_later, situation_thorough}
 use Rattle.h5_rules.proofs.changes.TemplateLaws.{names-close_template, names-insert_template, situation_insert_template}
@@ -45,6 +43,10 @@ pub same_situation : (w v : World) → Sound w → OnlyTree w v → KeepsKinds w
 same_situation w v k e kinds =
     ap situation_of e
     ∙ ap (λ (o : Option Role). let s : Situation = record (situation_of w) { context = o } in s) (situation_later w (record w { forest = v.forest }) k (record { kinds = kinds; modes = refl; saved = refl; context = refl; head = λ h. h; ok = λ h. h })).context
+
+-- the newest template is closed by an end tag, and the mode is reset
+abbrev pub ClosedByTag : SinkChoices → World → Type 0
+ClosedByTag choices w = let x = pop_template_mode (clear_active_formatting_to_marker (pop_until_named (codes "template") (generate_implied_end_thoroughly choices w))) in FitsAs (reset_mode x) (set_mode (reset_mode x) x)
 
 module _ (choices : SinkChoices) (w : World) (sound : Sound w) (m : InsertionMode) where
   -- a template is put, with its mode, and a marker in the list
@@ -73,36 +75,25 @@ module _ (choices : SinkChoices) (w : World) (sound : Sound w) (m : InsertionMod
       (subst (λ ns. NamesFit (without_template (situation_of w)) (reset (without_template (situation_of w)) (roles ns)) ns) (sym names)
       (names_template_closed (situation_of w) (names_of w) m goes has h))
 
-  pub kept_end_template : goes_by_body m ≡ true → (tag : TagText) → Kept choices w m (in_head_end_template tag w)
-  unfolding in_head_end_template pop_until_named names_of
-  kept_end_template goes tag = holds_chosen (Kept choices w m) (has_template (names_of w)) _ ignored closed (λ e h. h)
-    where
-      closed : has_template (names_of w) ≡ true → FitsAs m w
-          → (let x = pop_template_mode (clear_active_formatting_to_marker (pop_until_named (codes "template") (generate_implied_end_thoroughly choices w))) in FitsAs (reset_mode x) (set_mode (reset_mode x) x))
-      closed has h =
-          let v = generate_implied_end_thoroughly choices w in
-          template_closed (pop_until_named (codes "template") v) goes (tree_then w v (pop_until_named (codes "template") v) (tree_implied_thoroughly choices w) refl) (situation_thorough choices w).kinds (names-close_template choices w) has h
+  -- by an end tag
+  pub closed_by_tag : goes_by_body m ≡ true → has_template (names_of w) ≡ true → FitsAs m w → ClosedByTag choices w
+  unfolding pop_until_named names_of
+  closed_by_tag goes has h =
+      let v = generate_implied_end_thoroughly choices w in
+      template_closed (pop_until_named (codes "template") v) goes (tree_then w v (pop_until_named (codes "template") v) (tree_implied_thoroughly choices w) refl) (situation_thorough choices w).kinds (names-close_template choices w) has h
 
-  pub kept_template_eof : goes_by_body m ≡ true → Kept choices w m (template_eof w)
-  unfolding template_eof pop_until_named names_of reset_mode
-  kept_template_eof goes = holds_chosen (Kept choices w m) (has_template (names_of w)) _ (row [] IsDone) closed (λ e h. h)
-    where
-      closed : has_template (names_of w) ≡ true → FitsAs m w
-          → (let x = pop_template_mode (clear_active_formatting_to_marker (pop_until_named (codes "template") w)) in FitsAs (reset_mode (set_mode (reset_mode x) x)) (set_mode (reset_mode x) x))
-      closed has h = template_closed (pop_until_named (codes "template") w) goes refl (kinds_refl w.forest) (names-cut (codes "template") w) has h
+  -- at the end of the file
+  pub closed_by_eof : goes_by_body m ≡ true → has_template (names_of w) ≡ true → FitsAs m w
+      → (let x = pop_template_mode (clear_active_formatting_to_marker (pop_until_named (codes "template") w)) in FitsAs (reset_mode (set_mode (reset_mode x) x)) (set_mode (reset_mode x) x))
+  unfolding pop_until_named names_of reset_mode
+  closed_by_eof goes has h = template_closed (pop_until_named (codes "template") w) goes refl (kinds_refl w.forest) (names-cut (codes "template") w) has h
 
--- where none can be open, an end tag is ignored
-pub kept_no_template : (choices : SinkChoices) (w : World) (m : InsertionMode) (tag : TagText) → (FitsAs m w → has_template (names_of w) ≡ false) → Kept choices w m (in_head_end_template tag w)
-unfolding in_head_end_template
-kept_no_template choices w m tag none h =
-    holds_chosen (λ r. FitsAs (mode_with (mode_after choices w m r.changes) (next_mode r.ending (apply_all choices r.changes w))) (apply_all choices r.changes w)) (has_template (names_of w)) _ ignored
-    (λ e. absurd (let clash = sym e ∙ none h in cc)) (λ e. h)
+-- none can be open in the head, and after it
+pub none_in_head : (w : World) → FitsAs InHead w → has_template (names_of w) ≡ false
+none_in_head w h = has_template_test (names_of w) ∙ ap (has_role is_template) h.fits.place.1
 
-pub kept_end_in_head : (choices : SinkChoices) (w : World) (tag : TagText) → Kept choices w InHead (in_head_end_template tag w)
-kept_end_in_head choices w tag = kept_no_template choices w InHead tag (λ h. has_template_test (names_of w) ∙ ap (has_role is_template) h.fits.place.1)
-
-pub kept_end_after_head : (choices : SinkChoices) (w : World) (tag : TagText) → Kept choices w AfterHead (in_head_end_template tag w)
-kept_end_after_head choices w tag = kept_no_template choices w AfterHead tag (λ h. has_template_test (names_of w) ∙ ap (has_role is_template) h.fits.place.1.0)
+pub none_after_head : (w : World) → FitsAs AfterHead w → has_template (names_of w) ≡ false
+none_after_head w h = has_template_test (names_of w) ∙ ap (has_role is_template) h.fits.place.1.0
 
 -- its mode gives way to another
 pub kept_template_mode : (choices : SinkChoices) (w : World) (tag : TagText) (m : InsertionMode) → is_template_mode m ≡ true → Kept choices w InTemplate (in_template_as m tag w)

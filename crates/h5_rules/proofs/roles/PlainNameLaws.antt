@@ -3,14 +3,18 @@ use Rattle.std.proofs.Common.{◌≡◌, ℕ, Bool, true, false, not, ◌||◌, 
 use Rattle.std.specs.List.{list_any}
 use Rattle.std.proofs.lemmas.Slice.Eq.{bytes_eq-Decides}
 use Rattle.h5_names.specs.AttributeText.{is_same_text}
+use Rattle.h5_names.specs.KnownNames.{name_text}
+use Rattle.h5_names.specs.declared.known_name.KnownName.{KnownName}
 use Rattle.h5_names.specs.declared.qualified.QualName.{QualName}
 use Rattle.h5_tables.specs.TagSets.{block_end_names, block_start_names, formatting_names, heading_names, implied_names, is_heading, is_html_named, is_implied, is_one_of}
+use Rattle.h5_rules.specs.ByName.{named}
 use Rattle.h5_rules.specs.stack.Scope.{drop_while, is_implied_but}
 use Rattle.h5_rules.specs.fitting.Frames.{Frame}
 use Rattle.h5_rules.specs.fitting.Roles.{PlainRole, Role, is_plain, role_of, role_of_local, roles}
 use Rattle.h5_rules.proofs.BoolLaws.{and_not, or_neither}
 use Rattle.h5_rules.proofs.roles.RoleNameLaws.{frame_while}
 use Rattle.h5_rules.proofs.roles.RoleSetLaws.{all_pass, set_passes}
+use Rattle.h5_rules.proofs.rows.ByNameLaws.{of_named}
 
 pub plain_only : (x : Role) → is_plain x ≡ true → x ≡ PlainRole
 plain_only PlainRole h = refl
@@ -31,6 +35,10 @@ set_plain (t ∷ set) l a h = at (is_same_text t l) refl h (set_plain set l both
     at : (b : Bool) → is_same_text t l ≡ b → (b || is_one_of set l) ≡ true → (is_one_of set l ≡ true → role_of_local l ≡ PlainRole) → role_of_local l ≡ PlainRole
     at true e k f = ap role_of_local (sym ((bytes_eq-Decides t l).0 e)) ∙ plain_only (role_of_local t) (not_not (is_plain (role_of_local t)) both.0)
     at false e k f = f k
+
+-- a known name that is plain
+pub known_plain : (known : KnownName) (l : List ℕ) → role_of_local (name_text known) ≡ PlainRole → named known l ≡ true → role_of_local l ≡ PlainRole
+known_plain known l e h = of_named (λ n. role_of_local n ≡ PlainRole) known l e h
 
 pub block_start_plain : (local : List ℕ) → is_one_of block_start_names local ≡ true → role_of_local local ≡ PlainRole
 unfolding role_of_local block_start_names

@@ -15,6 +15,11 @@ pub holds_chosen : (P : Row → Type 0) (b : Bool) (r s : Row) → (b ≡ true �
 holds_chosen P true r s x y = x refl
 holds_chosen P false r s x y = y refl
 
+-- one fact and another, where there are many
+infixr 30 ◌&◌
+pub ◌&◌ : {A B : Type 0} → A → B → A × B
+a & b = (a, b)
+
 -- of each rule whose names the tag's name is among
 abbrev pub HoldsOfEach : (Row → Type 0) → TagText → World → Rules → Type 0
 HoldsOfEach P tag w [] = Unit {0}
@@ -24,6 +29,10 @@ HoldsOfEach P tag w (x ∷ xs) = (is_among x.0 tag.name ≡ true → P (x.1 tag 
 pub holds_by_name : (P : Row → Type 0) (xs : Rules) (other : TagText → World → Row) (tag : TagText) (w : World) → HoldsOfEach P tag w xs → (NonePasses xs tag.name → P (other tag w)) → P (by_name xs other tag w)
 holds_by_name P [] other tag w k o = o tt
 holds_by_name P (x ∷ xs) other tag w k o = holds_chosen P (is_among x.0 tag.name) (x.1 tag w) (by_name xs other tag w) k.0 (λ e. holds_by_name P xs other tag w k.1 (λ n. o (e, n)))
+
+-- a name that some rule is for isn't one that none passes
+pub ruled : (rules : Rules) (t l : List ℕ) → (NonePasses rules t → ⊥) → l ≡ t → NonePasses rules l → ⊥
+ruled rules t l some e n = some (subst (NonePasses rules) e n)
 
 -- what holds of a known name holds of a name that is it
 pub of_named : (P : List ℕ → Type 0) (known : KnownName) (l : List ℕ) → P (name_text known) → named known l ≡ true → P l

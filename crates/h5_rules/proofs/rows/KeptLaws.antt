@@ -1,25 +1,21 @@
 -- What a row has to keep: after it the open elements fit the mode that it leaves.
 use Rattle.std.proofs.Common.{◌≡◌, ◌≢◌, ℕ, Bool, true, false, List, [], ◌∷◌, ◌++◌, Option, Some, None, refl, ap, sym, subst, ◌∙◌}
-use Rattle.h5_token.specs.TokenText.{TagText}
 use Rattle.h5_interface.specs.SinkChoices.{SinkChoices}
 use Rattle.h5_tables.specs.TurnText.{TurnText}
 use Rattle.h5_tables.specs.declared.modes.InsertionMode.{InsertionMode}
 use Rattle.h5_rules.specs.stack.Order.{second_from_last}
-use Rattle.h5_rules.specs.stack.Scope.{has_template}
 use Rattle.h5_rules.specs.fitting.NamesFit.{NamesFit}
 use Rattle.h5_rules.proofs.fitting.SituationRoleLaws.{names_later}
 use Rattle.h5_rules.specs.Changes.{add_attrs_at, add_attrs_to_html, add_attrs_to_second, append_comment, append_comment_to_doc, append_comment_to_html, append_pending_text, append_text, create_root, insert_and_pop_element, insert_and_pop_form, insert_element, insert_form, insert_head, insert_script, mark_started, pop, pop_until_named, set_foster, set_frameset_not_ok, set_frameset_ok_by_text, set_mode, set_quirks_mode}
 use Rattle.h5_rules.specs.stack.Closing.{copy_closed_option}
 use Rattle.h5_rules.specs.fitting.Reset.{reset_mode}
-use Rattle.h5_rules.specs.Rows.{AddAttrsToHtml, AddAttrsToSecond, AdoptionAgency, AppendComment, AppendCommentToDoc, AppendCommentToHtml, AppendPendingText, AppendText, Change, ClearActiveFormattingToMarker, ClearForm, CloseListItem, ClosePElement, ClosePElementInButtonScope, CopyClosedOption, CreateFormattingElement, CreateRoot, GenerateImpliedEnd, GenerateImpliedEndExcept, GenerateImpliedEndInSelect, GenerateImpliedEndThoroughly, HandleMisnestedATags, HandleMisnestedNobrTags, InsertAndPopElement, InsertAndPopForeignElement, InsertAndPopForm, InsertElement, InsertForeignElement, InsertForm, InsertHead, InsertMarker, InsertScript, InsertTemplate, IsDone, LeaveForeignContent, MarkStarted, Pop, PopHeading, PopTemplateMode, PopUntilCell, PopUntilCurrent, PopUntilHeading, PopUntilNamed, PopUntilNamedInAnyCase, PushHead, PushTemplateMode, ReconstructActiveFormattingElements, RemoveBody, RemoveFromStack, ResetMode, Row, SaveMode, SetFoster, SetFramesetNotOk, SetFramesetOkByText, SetIgnoreLf, SetMode, SetQuirksMode, SwitchTemplateMode, TakePendingText, apply, apply_all, errs, ignored, next_mode, row}
-use Rattle.h5_rules.specs.modes.Shared.{in_body_start_html}
+use Rattle.h5_rules.specs.Rows.{AddAttrsToHtml, AddAttrsToSecond, AdoptionAgency, AppendComment, AppendCommentToDoc, AppendCommentToHtml, AppendPendingText, AppendText, Change, ClearActiveFormattingToMarker, ClearForm, CloseListItem, ClosePElement, ClosePElementInButtonScope, CopyClosedOption, CreateFormattingElement, CreateRoot, GenerateImpliedEnd, GenerateImpliedEndExcept, GenerateImpliedEndInSelect, GenerateImpliedEndThoroughly, HandleMisnestedATags, HandleMisnestedNobrTags, InsertAndPopElement, InsertAndPopForeignElement, InsertAndPopForm, InsertElement, InsertForeignElement, InsertForm, InsertHead, InsertMarker, InsertScript, InsertTemplate, IsDone, LeaveForeignContent, MarkStarted, Pop, PopHeading, PopTemplateMode, PopUntilCell, PopUntilCurrent, PopUntilHeading, PopUntilNamed, PopUntilNamedInAnyCase, PushHead, PushTemplateMode, ReconstructActiveFormattingElements, RemoveBody, RemoveFromStack, ResetMode, Row, SaveMode, SetFoster, SetFramesetNotOk, SetFramesetOkByText, SetIgnoreLf, SetMode, SetQuirksMode, SwitchTemplateMode, TakePendingText, apply, apply_all, next_mode, row}
 use Rattle.h5_rules.specs.Sound.{Sound, situation_of}
 use Rattle.h5_rules.specs.modes.Tables.{foster}
 use Rattle.h5_rules.specs.World.{World, names_of}
-use Rattle.h5_rules.proofs.rows.ByNameLaws.{holds_chosen}
 use Rattle.h5_rules.proofs.changes.ForeignLaws.{tree_insert_and_pop_foreign, tree_insert_foreign, tree_leave, tree_until_in_any_case}
-use Rattle.h5_rules.proofs.changes.NameLaws.{names-add_to_root, names-append, names-append_comment, names-append_comment_to_document, names-append_comment_to_root}
-use Rattle.h5_rules.proofs.changes.SituationLaws.{KeepsSituation, situation_add_to_root, situation_comment, situation_comment_to_document, situation_comment_to_root, situation_later, situation_text}
+use Rattle.h5_rules.proofs.changes.NameLaws.{names-append, names-append_comment, names-append_comment_to_document, names-append_comment_to_root}
+use Rattle.h5_rules.proofs.changes.SituationLaws.{KeepsSituation, situation_comment, situation_comment_to_document, situation_comment_to_root, situation_later, situation_text}
 use Rattle.h5_rules.proofs.changes.TemplateLaws.{tree_insert_template}
 use Rattle.h5_rules.proofs.changes.TreeLaws.{OnlyTree, tree_adoption, tree_cleared, tree_close_p, tree_close_p_in_scope, tree_format, tree_implied, tree_implied_except, tree_implied_thoroughly, tree_in_select, tree_list_item, tree_marker, tree_misnested_a_tags, tree_misnested_nobr_tags, tree_pop_heading, tree_reconstruct, tree_remove, tree_remove_body, tree_until_cell, tree_until_current, tree_until_heading}
 
@@ -59,12 +55,6 @@ fits_frameset_off m w h =
 
 module _ (choices : SinkChoices) (w : World) (k : Sound w) (m : InsertionMode) where
   -- rows of several modes
-  pub kept_start_html : (tag : TagText) → Kept choices w m (in_body_start_html tag w)
-  unfolding in_body_start_html
-  kept_start_html tag = holds_chosen (Kept choices w m) (has_template (names_of w)) ignored (errs (AddAttrsToHtml tag.attrs ∷ []) IsDone)
-      (λ e h. h)
-      (λ e. as_before m w (add_attrs_to_html tag.attrs w) k (situation_add_to_root w tag.attrs k) (names-add_to_root tag.attrs w k))
-
   pub kept_append : (t : List ℕ) → t ≢ [] → Kept choices w m (row (AppendText t ∷ []) IsDone)
   kept_append t some = as_before m w (append_text t w) k (situation_text w t some k) (names-append t w some k)
 

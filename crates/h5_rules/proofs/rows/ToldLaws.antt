@@ -8,7 +8,7 @@ use Rattle.h5_rules.specs.fitting.Roles.{roles}
 use Rattle.h5_rules.proofs.fitting.NamesFitLaws.{is_silent, reset_silent}
 use Rattle.h5_rules.specs.modes.InTableText.{saved_mode}
 use Rattle.h5_rules.specs.fitting.Reset.{reset_mode}
-use Rattle.h5_rules.specs.Rows.{Again, AgainBy, Answers, Change, Ending, IsAcknowledged, IsDone, ResetMode, Row, SaveMode, SetMode, choose, PushTemplateMode, PopTemplateMode, SwitchTemplateMode}
+use Rattle.h5_rules.specs.Rows.{Again, AgainBy, Answers, Change, Ending, IsAcknowledged, IsDone, ResetMode, Row, SaveMode, SetMode, PushTemplateMode, PopTemplateMode, SwitchTemplateMode}
 use Rattle.h5_rules.specs.Sound.{situation_of}
 use Rattle.h5_rules.specs.World.{World, names_of}
 use Rattle.h5_rules.proofs.rows.ListedLaws.{AllListable, listable_append}
@@ -74,10 +74,6 @@ Tells (Answers _) xs = ⊥
 abbrev pub IsTold : Row → Type 0
 IsTold r = AllListable r.changes × Tells r.ending r.changes
 
-pub told_chosen : (b : Bool) (r s : Row) → IsTold r → IsTold s → IsTold (choose b r s)
-told_chosen true r s x y = x
-told_chosen false r s x y = y
-
 no_mode_append : (xs ys : List Change) → NoMode xs → NoMode ys → NoMode (xs ++ ys)
 no_mode_append [] ys h k = k
 no_mode_append (SetMode m ∷ xs) ys h k = absurd h
@@ -96,7 +92,7 @@ text_append (PopTemplateMode ∷ xs) ys h k = absurd h
 text_append (SwitchTemplateMode m ∷ xs) ys h k = absurd h
 text_append (_ ∷ xs) ys h k = text_append xs ys h k
 
-no_mode_no_text : (xs : List Change) → NoMode xs → NoText xs
+pub no_mode_no_text : (xs : List Change) → NoMode xs → NoText xs
 no_mode_no_text [] h = tt
 no_mode_no_text (SetMode m ∷ xs) h = absurd h
 no_mode_no_text (ResetMode ∷ xs) h = absurd h

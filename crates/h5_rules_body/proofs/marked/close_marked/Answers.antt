@@ -3,7 +3,7 @@ use Rattle.h5_tables.specs.TagSets.{is_html_named}
 use Rattle.h5_rules.specs.stack.Scope.{cut_through, first_passes}
 use Rattle.h5_rules.specs.World.{World, names_of}
 use Rattle.h5_rules_body.proofs.marked.close_marked.Goals as goal
-use Rattle.h5_rules.proofs.modes.BodyInLaws.{marked_not_implied}
+use Rattle.h5_rules.proofs.modes.InBody.{marked_not_implied}
 
 pub pop_until_named-requires-clause-place : goal.pop_until_named-requires-clause-place
 pop_until_named-requires-clause-place g c =

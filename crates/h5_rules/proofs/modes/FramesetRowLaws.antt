@@ -1,5 +1,5 @@
 -- A frameset after the head, and in place of the body: the open elements fit the mode that it leaves.
-use Rattle.std.proofs.Common.{◌&&◌, ◌∙◌, ◌∷◌, ◌≡◌, List, ap, codes, refl, subst, sym, true, ℕ}
+use Rattle.std.proofs.Common.{◌∙◌, ◌∷◌, ◌≡◌, List, ap, codes, refl, subst, sym, true, ℕ}
 use Rattle.h5_names.specs.declared.known_name.KnownName.TheVariants.{Frameset}
 use Rattle.h5_names.specs.declared.qualified.QualName.{QualName}
 use Rattle.h5_token.specs.TokenText.{TagText}
@@ -9,7 +9,6 @@ use Rattle.h5_tables.specs.declared.modes.InsertionMode.{InsertionMode}
 use Rattle.h5_tables.specs.declared.modes.InsertionMode.TheVariants.{AfterHead, InFrameset}
 use Rattle.h5_rules.specs.ByName.{named}
 use Rattle.h5_rules.specs.Changes.{insert_element, remove_body}
-use Rattle.h5_rules.specs.Rows.{ignored}
 use Rattle.h5_rules.specs.Sound.{Sound, situation_of}
 use Rattle.h5_rules.specs.World.{World, names_of}
 use Rattle.h5_rules.specs.fitting.Fits.{may_be_left}
@@ -17,9 +16,6 @@ use Rattle.h5_rules.specs.fitting.NamesFit.{NamesFit}
 use Rattle.h5_rules.specs.fitting.Roles.{FramesetRole, HtmlRole, role_of, role_of_local}
 use Rattle.h5_rules.specs.formatting.FormattingNames.{html_name}
 use Rattle.h5_rules.specs.modes.AfterHead.{after_head_start_frameset}
-use Rattle.h5_rules.specs.modes.InBody.{in_body_start_frameset}
-use Rattle.h5_rules.specs.stack.Scope.{second_is}
-use Rattle.h5_rules.proofs.BoolLaws.{and_both}
 use Rattle.h5_rules.proofs.changes.FramesetLaws.{remove_body_situation, remove_body_stands, root_stays}
 use Rattle.h5_rules.proofs.changes.NameLaws.{names-insert}
 use Rattle.h5_rules.proofs.changes.SituationLaws.{situation_insert, situation_then}
@@ -28,7 +24,7 @@ use Rattle.h5_rules.proofs.fitting.NamesTableLaws.{names_frameset_put}
 use Rattle.h5_rules.proofs.fitting.OpenLaws.{names_root_open}
 use Rattle.h5_rules.proofs.modes.HeadContentLaws.{left_after_root}
 use Rattle.h5_rules.proofs.roles.RoleLaws.{role_made, role_named}
-use Rattle.h5_rules.proofs.rows.ByNameLaws.{holds_chosen, of_named}
+use Rattle.h5_rules.proofs.rows.ByNameLaws.{of_named}
 use Rattle.h5_rules.proofs.rows.KeptLaws.{FitsAs, Kept, fits_at}
 
 pub frameset_role : (l : List ℕ) → named Frameset l ≡ true → role_of_local l ≡ FramesetRole
@@ -49,7 +45,7 @@ module _ (choices : SinkChoices) (w : World) (sound : Sound w) where
       (names_frameset_begun (situation_of w) (html_name tag.name) (names_of w) (role_made tag.name ∙ frameset_role tag.name p) h))
 
   -- in place of the body
-  body_replaced : (m : InsertionMode) → may_be_left m ≡ true → (tag : TagText) → named Frameset tag.name ≡ true → w.frameset_ok ≡ true → FitsAs m w → FitsAs InFrameset (insert_element choices tag.name tag.attrs tag.had_duplicate_attributes (remove_body w))
+  pub body_replaced : (m : InsertionMode) → may_be_left m ≡ true → (tag : TagText) → named Frameset tag.name ≡ true → w.frameset_ok ≡ true → FitsAs m w → FitsAs InFrameset (insert_element choices tag.name tag.attrs tag.had_duplicate_attributes (remove_body w))
   body_replaced m left tag p ok h =
       let u = remove_body w in
       let v = insert_element choices tag.name tag.attrs tag.had_duplicate_attributes u in
@@ -58,9 +54,3 @@ module _ (choices : SinkChoices) (w : World) (sound : Sound w) where
       fits_at InFrameset w v sound (situation_then w u v (remove_body_situation w sound) (situation_insert choices u tag.name tag.attrs tag.had_duplicate_attributes k))
       (subst (NamesFit (situation_of w) InFrameset) (sym (names-insert choices tag.name tag.attrs tag.had_duplicate_attributes u k ∙ ap (λ ns. html_name tag.name ∷ ns) stays.names))
       (names_frameset_put (situation_of w) (names_of w) (html_name tag.name) stays.root (role_made tag.name ∙ frameset_role tag.name p) (html_role stays.root stays.is_html) ok h.fits.known))
-
-  pub kept_body_frameset : (m : InsertionMode) → may_be_left m ≡ true → (tag : TagText) → named Frameset tag.name ≡ true → Kept choices w m (in_body_start_frameset tag w)
-  unfolding in_body_start_frameset names_of
-  kept_body_frameset m left tag p =
-      holds_chosen (Kept choices w m) (w.frameset_ok && second_is (codes "body") (names_of w)) _ ignored
-      (λ e h. body_replaced m left tag p (and_both w.frameset_ok (second_is (codes "body") (names_of w)) e).0 h) (λ e h. h)

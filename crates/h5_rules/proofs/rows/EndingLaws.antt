@@ -1,0 +1,41 @@
+-- How a row ends: whether another turn is taken, and whether something is answered.
+use Rattle.std.proofs.Common.{◌∙◌, ◌≡◌, Bool, None, false, refl, sym}
+use Rattle.h5_rules.specs.Changes.{set_foster}
+use Rattle.h5_rules.specs.Rows.{Again, AgainBy, Answers, Ending, IsAcknowledged, IsDone, Row, next_mode}
+use Rattle.h5_rules.specs.World.{World}
+use Rattle.h5_rules.proofs.changes.ListsLaws.{NeedsOfAll}
+use Rattle.h5_rules.proofs.rows.KeptLaws.{IsBlind}
+use Rattle.h5_rules.proofs.rows.ToldLaws.{IsTold}
+
+-- an ending after which no other turn is taken
+abbrev pub Stops : Ending → Type 0
+Stops IsDone = Unit {0}
+Stops IsAcknowledged = Unit {0}
+Stops (Answers answer) = Unit {0}
+Stops (Again k) = ⊥
+Stops (AgainBy mode) = ⊥
+
+abbrev pub RowStops : Row → Type 0
+RowStops r = Stops r.ending
+
+pub stops_next : (x : Ending) → Stops x → (v : World) → next_mode x v ≡ None
+stops_next IsDone h v = refl
+stops_next IsAcknowledged h v = refl
+stops_next (Answers answer) h v = refl
+stops_next (Again k) h v = absurd h
+stops_next (AgainBy mode) h v = absurd h
+
+pub stops_blind : (r : Row) → RowStops r → IsBlind r
+stops_blind r h on v = stops_next r.ending h (set_foster on v) ∙ sym (stops_next r.ending h v)
+
+-- an ending that answers nothing of its own
+abbrev pub Silent : Ending → Type 0
+Silent (Answers answer) = ⊥
+Silent _ = Unit {0}
+
+-- a row that ends the turn, by its changes and its ending alone; something may be answered to a start tag
+pub record EndsTurn (starts : Bool) (r : Row) : Type 0 where
+  pub stops : RowStops r
+  pub told : IsTold r
+  pub silent : starts ≡ false → Silent r.ending
+  pub needs : NeedsOfAll r.changes
