@@ -1,5 +1,5 @@
 -- What is proved of each row of a mode, in one record, and of rows that are made of others.
-use Rattle.std.proofs.Common.{◌++◌, ◌∷◌, ◌≡◌, Bool, List, [], false, subst, sym, true}
+use Rattle.std.proofs.Common.{Bool, List, [], false, subst, sym, true, ◌++◌, ◌∷◌, ◌≡◌}
 use Rattle.h5_token.specs.Reply.{Indicates, RunsScript, TurnsPlain, TurnsRaw}
 use Rattle.h5_token.specs.TokenText.{TagText}
 use Rattle.h5_token.specs.declared.tag.TagKind.{TagKind}
@@ -13,8 +13,8 @@ use Rattle.h5_rules.specs.World.{World, names_of}
 use Rattle.h5_rules.specs.modes.Tables.{foster}
 use Rattle.h5_rules.proofs.changes.ListsLaws.{IsSteady, NeedsOfAll, steady_changes}
 use Rattle.h5_rules.proofs.rows.ByNameLaws.{holds_chosen}
-use Rattle.h5_rules.proofs.rows.KeptLaws.{FitsAs, Kept, apply_append, kept_foster}
 use Rattle.h5_rules.proofs.rows.EndingLaws.{EndsTurn, RowStops, Silent, stops_blind}
+use Rattle.h5_rules.proofs.rows.KeptLaws.{FitsAs, Kept, apply_append, kept_foster}
 use Rattle.h5_rules.proofs.rows.ListedLaws.{AllListable}
 use Rattle.h5_rules.proofs.rows.ToldLaws.{IsTold, Tells, is_text, told_append}
 use Rattle.h5_laws.proofs.turns.AgainLaws.{Leads, kind_of_tag, kind_of_turn, stops_leads}

@@ -1,8 +1,8 @@
 -- HTML standard, section 13.2.6.4.20, the "after after body" insertion mode: each of its rows is lawful.
 use Rattle.std.proofs.Common.{refl, true}
 use Rattle.h5_token.specs.TokenText.{TagText}
-use Rattle.h5_token.specs.declared.tag.TagKind.{TagKind}
 use Rattle.h5_token.specs.declared.tag.TagKind.TheVariants.{EndTag, StartTag}
+use Rattle.h5_token.specs.declared.tag.TagKind.{TagKind}
 use Rattle.h5_tables.specs.TurnText.{CommentTurn, EofTurn, NullTurn, TagTurn, TextTurn, TurnText}
 use Rattle.h5_tables.specs.declared.modes.InsertionMode.TheVariants.{AfterAfterBody}
 use Rattle.h5_tables.specs.declared.modes.SplitStatus.TheVariants.{NotSplit, NotWhitespace, Whitespace}
@@ -12,8 +12,8 @@ use Rattle.h5_rules.specs.modes.AfterAfterBody.{after_after_body, after_after_bo
 use Rattle.h5_rules.specs.modes.AfterBody.{back_to_body}
 use Rattle.h5_rules.proofs.rows.ByNameLaws.{holds_by_name}
 use Rattle.h5_laws.proofs.LawfulRow.{IsLawfulFor, IsLawfulTag, lawful_nothing}
-use Rattle.h5_laws.proofs.modes.InBody.{body_text_lawful}
 use Rattle.h5_laws.proofs.modes.AfterBody.{back_lawful}
+use Rattle.h5_laws.proofs.modes.InBody.{body_text_lawful}
 use Rattle.h5_laws.proofs.modes.SharedRows.{comment_to_document_lawful, start_html_lawful}
 use Rattle.h5_laws.proofs.turns.AgainLaws.{end_no_eof, kind_of_end, kind_of_start, start_no_eof}
 use Rattle.h5_laws.proofs.turns.Ranks.{TextTurns}

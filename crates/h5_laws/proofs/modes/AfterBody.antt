@@ -1,11 +1,11 @@
 -- HTML standard, section 13.2.6.4.17, the "after body" insertion mode: each of its rows is lawful.
-use Rattle.std.proofs.Common.{◌∷◌, ◌≡◌, Bool, [], is_some, refl, true}
+use Rattle.std.proofs.Common.{Bool, [], is_some, refl, true, ◌∷◌, ◌≡◌}
 use Rattle.h5_token.specs.TokenText.{TagText}
-use Rattle.h5_token.specs.declared.tag.TagKind.{TagKind}
 use Rattle.h5_token.specs.declared.tag.TagKind.TheVariants.{EndTag, StartTag}
+use Rattle.h5_token.specs.declared.tag.TagKind.{TagKind}
 use Rattle.h5_tables.specs.TurnText.{CommentTurn, EofTurn, NullTurn, TagTurn, TextTurn, TurnText}
-use Rattle.h5_tables.specs.declared.modes.InsertionMode.{InsertionMode}
 use Rattle.h5_tables.specs.declared.modes.InsertionMode.TheVariants.{AfterAfterBody, AfterBody, InBody}
+use Rattle.h5_tables.specs.declared.modes.InsertionMode.{InsertionMode}
 use Rattle.h5_tables.specs.declared.modes.SplitStatus.TheVariants.{NotSplit, NotWhitespace, Whitespace}
 use Rattle.h5_rules.specs.ByName.{by_kind, by_name, of_tag}
 use Rattle.h5_rules.specs.Rows.{Again, IsDone, SetMode, errs, row}
@@ -13,11 +13,11 @@ use Rattle.h5_rules.specs.Sound.{situation_of}
 use Rattle.h5_rules.specs.World.{World, names_of}
 use Rattle.h5_rules.specs.fitting.Fits.{goes_by_body}
 use Rattle.h5_rules.specs.modes.AfterBody.{after_body, after_body_end, after_body_start, after_body_tag, back_to_body}
+use Rattle.h5_rules.proofs.fitting.NamesBodyLaws.{names_after_after_body, names_in_body}
 use Rattle.h5_rules.proofs.rows.ByNameLaws.{holds_by_name}
 use Rattle.h5_rules.proofs.rows.KeptLaws.{FitsAs, kept_comment_to_root}
 use Rattle.h5_laws.proofs.LawfulRow.{IsLawfulFor, IsLawfulRow, IsLawfulTag, lawful_if_not, lawful_nothing, lawful_row}
 use Rattle.h5_laws.proofs.modes.InBody.{body_text_lawful}
-use Rattle.h5_rules.proofs.fitting.NamesBodyLaws.{names_after_after_body, names_in_body}
 use Rattle.h5_laws.proofs.modes.SharedRows.{start_html_lawful}
 use Rattle.h5_laws.proofs.turns.AgainLaws.{end_leaves, kind_of_end, kind_of_start, start_leaves}
 use Rattle.h5_laws.proofs.turns.Ranks.{TextTurns, TurnKind}

@@ -1,11 +1,11 @@
 -- HTML standard, section 13.2.6.4.6, the "after head" insertion mode: each of its rows is lawful.
-use Rattle.std.proofs.Common.{◌++◌, ◌∙◌, ◌∷◌, ◌≡◌, Bool, List, None, Option, Some, [], codes, false, refl, subst, sym, true, ℕ}
+use Rattle.std.proofs.Common.{Bool, List, None, Option, Some, [], codes, false, refl, subst, sym, true, ℕ, ◌++◌, ◌∙◌, ◌∷◌, ◌≡◌}
 use Rattle.h5_names.specs.AttributeText.{AttributeText}
 use Rattle.h5_names.specs.declared.known_name.KnownName.TheVariants.{Body}
 use Rattle.h5_token.specs.Reply.{Indicates, RunsScript, TurnsPlain, TurnsRaw}
 use Rattle.h5_token.specs.TokenText.{TagText}
-use Rattle.h5_token.specs.declared.tag.TagKind.{TagKind}
 use Rattle.h5_token.specs.declared.tag.TagKind.TheVariants.{EndTag, StartTag}
+use Rattle.h5_token.specs.declared.tag.TagKind.{TagKind}
 use Rattle.h5_interface.specs.SinkChoices.{SinkChoices}
 use Rattle.h5_tables.specs.TagSets.{is_one_of}
 use Rattle.h5_tables.specs.TurnText.{CommentTurn, TagTurn, TextTurn, TurnText}
@@ -22,26 +22,26 @@ use Rattle.h5_rules.specs.formatting.FormattingNames.{html_name}
 use Rattle.h5_rules.specs.modes.AfterHead.{after_head, after_head_else, after_head_end, after_head_start, after_head_start_body, after_head_start_frameset, after_head_tag, removes_known, with_head}
 use Rattle.h5_rules.specs.modes.InHead.{in_head_start_tag}
 use Rattle.h5_rules.specs.modes.Shared.{head_start_names}
+use Rattle.h5_rules.proofs.changes.ListsLaws.{IsSteady}
 use Rattle.h5_rules.proofs.changes.NameLaws.{names-insert}
 use Rattle.h5_rules.proofs.changes.SituationLaws.{situation_insert}
+use Rattle.h5_rules.proofs.fitting.NamesBodyLaws.{role_known}
 use Rattle.h5_rules.proofs.fitting.NamesFitLaws.{names_body_pushed}
 use Rattle.h5_rules.proofs.modes.AfterHeadLaws.{kept_with_head, lists_with_head, sound_with_head}
+use Rattle.h5_rules.proofs.modes.FramesetRowLaws.{kept_after_head_frameset}
 use Rattle.h5_rules.proofs.modes.HeadContentLaws.{IsHeadRow, head_content}
 use Rattle.h5_rules.proofs.modes.TemplateRowLaws.{none_after_head}
 use Rattle.h5_rules.proofs.roles.RoleLaws.{role_made}
 use Rattle.h5_rules.proofs.rows.ByNameLaws.{holds_by_name}
-use Rattle.h5_rules.proofs.changes.ListsLaws.{IsSteady}
 use Rattle.h5_rules.proofs.rows.EndingLaws.{RowStops}
 use Rattle.h5_rules.proofs.rows.KeptLaws.{FitsAs, fits_at, fits_frameset_off}
 use Rattle.h5_rules.proofs.rows.ListedLaws.{AllListable}
 use Rattle.h5_rules.proofs.rows.ToldLaws.{IsTold, NoMode, Tells, told_append}
 use Rattle.h5_laws.proofs.LawfulRow.{IsLawfulFor, IsLawfulRow, IsLawfulTag, lawful_ignored, lawful_row}
-use Rattle.h5_rules.proofs.modes.FramesetRowLaws.{kept_after_head_frameset}
 use Rattle.h5_laws.proofs.modes.SharedRows.{comment_lawful, no_template_lawful, start_html_lawful, text_row_lawful}
 use Rattle.h5_laws.proofs.turns.AgainLaws.{kind_of_start}
 use Rattle.h5_laws.proofs.turns.Ranks.{TurnKind}
 use Rattle.h5_laws.proofs.turns.RowLeadsLaws.{stops}
-use Rattle.h5_rules.proofs.fitting.NamesBodyLaws.{role_known}
 use Rattle.h5_laws.proofs.turns.Ranks as edges
 
 module _ (choices : SinkChoices) (w : World) (sound : Sound w) where

@@ -1,11 +1,11 @@
 -- HTML standard, section 13.2.6.4.7, the "in body" insertion mode: each of its rows is lawful, in each mode that goes by them.
-use Rattle.std.proofs.Common.{◌∙◌, ◌≡◌, Bool, List, [], false, inl, inr, refl, subst, sym, true, ℕ}
+use Rattle.std.proofs.Common.{Bool, List, [], false, inl, inr, refl, subst, sym, true, ℕ, ◌∙◌, ◌≡◌}
 use Rattle.h5_token.specs.TokenText.{TagText}
-use Rattle.h5_token.specs.declared.tag.TagKind.{TagKind}
 use Rattle.h5_token.specs.declared.tag.TagKind.TheVariants.{EndTag, StartTag}
+use Rattle.h5_token.specs.declared.tag.TagKind.{TagKind}
 use Rattle.h5_tables.specs.TurnText.{CommentTurn, EofTurn, NullTurn, TagTurn, TextTurn, TurnText}
-use Rattle.h5_tables.specs.declared.modes.InsertionMode.{InsertionMode}
 use Rattle.h5_tables.specs.declared.modes.InsertionMode.TheVariants.{AfterBody, InBody}
+use Rattle.h5_tables.specs.declared.modes.InsertionMode.{InsertionMode}
 use Rattle.h5_tables.specs.declared.modes.SplitStatus.{SplitStatus}
 use Rattle.h5_rules.specs.ByName.{by_kind, by_name}
 use Rattle.h5_rules.specs.Kinds.{is_start}

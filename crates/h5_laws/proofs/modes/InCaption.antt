@@ -1,10 +1,10 @@
 -- HTML standard, section 13.2.6.4.11, the "in caption" insertion mode: each of its rows is lawful.
-use Rattle.std.proofs.Common.{◌∙◌, ◌∷◌, ◌≡◌, List, [], ap, codes, false, inl, inr, refl, subst, sym, true, ℕ}
+use Rattle.std.proofs.Common.{List, [], ap, codes, false, refl, subst, sym, true, ℕ, ◌∙◌, ◌∷◌, ◌≡◌}
 use Rattle.h5_names.specs.declared.known_name.KnownName.TheVariants.{Html}
 use Rattle.h5_names.specs.declared.qualified.QualName.{QualName}
 use Rattle.h5_token.specs.TokenText.{TagText}
-use Rattle.h5_token.specs.declared.tag.TagKind.{TagKind}
 use Rattle.h5_token.specs.declared.tag.TagKind.TheVariants.{EndTag, StartTag}
+use Rattle.h5_token.specs.declared.tag.TagKind.{TagKind}
 use Rattle.h5_interface.specs.SinkChoices.{SinkChoices}
 use Rattle.h5_tables.specs.TagSets.{cell_names, implied_names, is_html_named, is_implied, is_one_of, is_table_scope}
 use Rattle.h5_tables.specs.TurnText.{TagTurn, TurnText}
@@ -15,7 +15,7 @@ use Rattle.h5_rules.specs.Rows.{Again, IsDone, Row, SetMode}
 use Rattle.h5_rules.specs.Sound.{situation_of}
 use Rattle.h5_rules.specs.World.{World, names_of}
 use Rattle.h5_rules.specs.fitting.NamesFit.{NamesFit}
-use Rattle.h5_rules.specs.fitting.Roles.{CaptionRole, CellRole, ColgroupRole, Role, RowRole, SectionRole, TableRole, role_of_local}
+use Rattle.h5_rules.specs.fitting.Roles.{role_of_local}
 use Rattle.h5_rules.specs.formatting.Formatting.{clear_active_formatting_to_marker}
 use Rattle.h5_rules.specs.modes.InBody.{in_body}
 use Rattle.h5_rules.specs.modes.InCaption.{close_the_caption, in_caption, in_caption_end, in_caption_ignored_ends, in_caption_start, in_caption_tag}
@@ -26,13 +26,12 @@ use Rattle.h5_rules.specs.stack.Scope.{in_scope}
 use Rattle.h5_rules.proofs.changes.ClosingLaws.{named_not_implied, names-all_implied, still_in_scope}
 use Rattle.h5_rules.proofs.changes.ListsLaws.{IsSteady}
 use Rattle.h5_rules.proofs.changes.NameLaws.{names-cut}
+use Rattle.h5_rules.proofs.fitting.NamesBodyLaws.{is_of_table, no_part_where_ruled}
 use Rattle.h5_rules.proofs.fitting.NamesTableLaws.{names_caption_closed}
 use Rattle.h5_rules.proofs.modes.ReadyInLaws.{in_implied, ready_in}
-use Rattle.h5_rules.proofs.roles.RoleLaws.{Origin, origin}
-use Rattle.h5_rules.proofs.rows.ByNameLaws.{holds_by_name, ruled}
+use Rattle.h5_rules.proofs.rows.ByNameLaws.{holds_by_name, ◌&◌}
 use Rattle.h5_rules.proofs.rows.KeptLaws.{FitsAs}
 use Rattle.h5_laws.proofs.LawfulRow.{IsLawfulFor, IsLawfulTag, lawful_if, lawful_ignored, lawful_row}
-use Rattle.h5_rules.proofs.modes.InBody.{is_of_table}
 use Rattle.h5_laws.proofs.modes.InBody.{body_other_lawful, body_tag_lawful}
 use Rattle.h5_laws.proofs.modes.TablePartLaws.{fits_cleared, fits_cut_at}
 use Rattle.h5_laws.proofs.turns.AgainLaws.{kind_of_start, kind_of_tag, part_names}
@@ -49,19 +48,7 @@ caption_not_implied n h = named_not_implied (codes "caption" ∷ []) (codes "cap
 -- an end tag that a caption doesn't name is of no part of a table
 no_part_in_caption : (l : List ℕ) → NonePasses in_caption_end l → is_of_table (role_of_local l) ≡ false
 unfolding in_caption_end in_caption_ignored_ends
-no_part_in_caption l n = at (role_of_local l) (origin l)
-  where
-    at : (x : Role) → Origin x l → is_of_table x ≡ false
-    at CaptionRole o = absurd (ruled in_caption_end (codes "caption") l (λ k. cc) o n)
-    at TableRole o = absurd (ruled in_caption_end (codes "table") l (λ k. cc) o n)
-    at ColgroupRole o = absurd (ruled in_caption_end (codes "colgroup") l (λ k. cc) o n)
-    at SectionRole (inl o) = absurd (ruled in_caption_end (codes "tbody") l (λ k. cc) o n)
-    at SectionRole (inr (inl o)) = absurd (ruled in_caption_end (codes "tfoot") l (λ k. cc) o n)
-    at SectionRole (inr (inr o)) = absurd (ruled in_caption_end (codes "thead") l (λ k. cc) o n)
-    at RowRole o = absurd (ruled in_caption_end (codes "tr") l (λ k. cc) o n)
-    at CellRole (inl o) = absurd (ruled in_caption_end (codes "td") l (λ k. cc) o n)
-    at CellRole (inr o) = absurd (ruled in_caption_end (codes "th") l (λ k. cc) o n)
-    at _ o = refl
+no_part_in_caption l n = no_part_where_ruled in_caption_end l ((λ k. cc) & (λ k. cc) & (λ k. cc) & (λ k. cc) & (λ k. cc) & (λ k. cc) & (λ k. cc) & (λ k. cc) & (λ k. cc) & tt) n
 
 caption_structure : (name : List ℕ) → is_one_of table_structure_names name ≡ true → edges.Again (kind_of_start name) InCaption InTable
 unfolding kind_of_start part_names table_structure_names cell_names

@@ -1,45 +1,43 @@
 -- HTML standard, section 13.2.6.4.15, the "in cell" insertion mode: each of its rows is lawful.
-use Rattle.std.proofs.Common.{◌≡◌, inl, inr, ℕ, true, false, List, codes, refl, ap, sym, subst, ◌∙◌}
-use Rattle.h5_names.specs.declared.qualified.QualName.{QualName}
+use Rattle.std.proofs.Common.{List, ap, false, refl, subst, sym, true, ℕ, ◌∙◌, ◌≡◌}
 use Rattle.h5_names.specs.declared.known_name.KnownName.TheVariants.{Html}
+use Rattle.h5_names.specs.declared.qualified.QualName.{QualName}
 use Rattle.h5_token.specs.TokenText.{TagText}
+use Rattle.h5_token.specs.declared.tag.TagKind.TheVariants.{EndTag, StartTag}
 use Rattle.h5_token.specs.declared.tag.TagKind.{TagKind}
-use Rattle.h5_token.specs.declared.tag.TagKind.TheVariants.{StartTag, EndTag}
 use Rattle.h5_interface.specs.SinkChoices.{SinkChoices}
 use Rattle.h5_tables.specs.TagSets.{cell_names, implied_names, is_cell, is_html_named, is_implied, is_one_of, is_table_scope}
 use Rattle.h5_tables.specs.TurnText.{TagTurn, TurnText}
-use Rattle.h5_tables.specs.declared.modes.InsertionMode.{InsertionMode}
 use Rattle.h5_tables.specs.declared.modes.InsertionMode.TheVariants.{InCell, InRow}
-use Rattle.h5_rules.specs.stack.Closing.{generate_implied_end_tags, pop_until_cell}
-use Rattle.h5_rules.specs.stack.Scope.{in_scope}
-use Rattle.h5_rules.specs.fitting.NamesFit.{NamesFit}
-use Rattle.h5_rules.specs.fitting.Roles.{CaptionRole, CellRole, ColgroupRole, Role, RowRole, SectionRole, TableRole, role_of_local}
+use Rattle.h5_tables.specs.declared.modes.InsertionMode.{InsertionMode}
 use Rattle.h5_rules.specs.ByName.{NonePasses, by_kind, by_name, of_tag}
 use Rattle.h5_rules.specs.Changes.{pop_until_named}
 use Rattle.h5_rules.specs.Rows.{Row}
 use Rattle.h5_rules.specs.Sound.{situation_of}
 use Rattle.h5_rules.specs.World.{World, names_of}
+use Rattle.h5_rules.specs.fitting.NamesFit.{NamesFit}
+use Rattle.h5_rules.specs.fitting.Roles.{role_of_local}
 use Rattle.h5_rules.specs.formatting.Formatting.{clear_active_formatting_to_marker}
 use Rattle.h5_rules.specs.modes.InBody.{in_body}
 use Rattle.h5_rules.specs.modes.InCell.{close_the_cell, in_cell, in_cell_closing_ends, in_cell_end, in_cell_end_cell, in_cell_end_structure, in_cell_ignored_ends, in_cell_start, in_cell_start_structure, in_cell_tag}
 use Rattle.h5_rules.specs.modes.Shared.{table_structure_names}
 use Rattle.h5_rules.specs.modes.Tables.{in_table_scope, named_in_table_scope}
+use Rattle.h5_rules.specs.stack.Closing.{generate_implied_end_tags, pop_until_cell}
+use Rattle.h5_rules.specs.stack.Scope.{in_scope}
 use Rattle.h5_rules.proofs.changes.ClosingLaws.{named_not_implied, names-all_implied, still_in_scope}
 use Rattle.h5_rules.proofs.changes.ListsLaws.{IsSteady}
 use Rattle.h5_rules.proofs.changes.NameLaws.{names-cut, names-until_cell}
+use Rattle.h5_rules.proofs.fitting.NamesBodyLaws.{is_of_table, no_part_where_ruled}
 use Rattle.h5_rules.proofs.fitting.NamesTableLaws.{names_cell_closed, names_cell_ended}
 use Rattle.h5_rules.proofs.modes.ReadyInLaws.{in_implied, ready_in}
-use Rattle.h5_rules.proofs.roles.RoleLaws.{Origin, origin}
-use Rattle.h5_rules.proofs.rows.ByNameLaws.{holds_by_name, ruled}
+use Rattle.h5_rules.proofs.rows.ByNameLaws.{holds_by_name, ◌&◌}
 use Rattle.h5_rules.proofs.rows.KeptLaws.{FitsAs, Kept}
 use Rattle.h5_laws.proofs.LawfulRow.{IsLawfulFor, IsLawfulTag, lawful_if, lawful_ignored, lawful_row}
-use Rattle.h5_rules.proofs.modes.InBody.{is_of_table}
-use Rattle.h5_laws.proofs.modes.TablePartLaws.{fits_cleared, fits_cut_at}
 use Rattle.h5_laws.proofs.modes.InBody.{body_other_lawful, body_tag_lawful}
-use Rattle.h5_laws.proofs.modes.TablePartLaws.{cell_local}
+use Rattle.h5_laws.proofs.modes.TablePartLaws.{cell_local, fits_cleared, fits_cut_at}
 use Rattle.h5_laws.proofs.turns.AgainLaws.{kind_of_end, kind_of_start, kind_of_tag, part_end_names, part_names}
-use Rattle.h5_laws.proofs.turns.Ranks as edges
 use Rattle.h5_laws.proofs.turns.RowLeadsLaws.{not_named, of_set}
+use Rattle.h5_laws.proofs.turns.Ranks as edges
 
 -- NAMES
 
@@ -51,19 +49,7 @@ cell_named_not_implied local p n h = named_not_implied cell_names local n refl p
 -- an end tag that a cell doesn't name is of no part of a table
 no_part_in_cell : (l : List ℕ) → NonePasses in_cell_end l → is_of_table (role_of_local l) ≡ false
 unfolding in_cell_end cell_names in_cell_closing_ends in_cell_ignored_ends
-no_part_in_cell l n = at (role_of_local l) (origin l)
-  where
-    at : (x : Role) → Origin x l → is_of_table x ≡ false
-    at CellRole (inl o) = absurd (ruled in_cell_end (codes "td") l (λ k. cc) o n)
-    at CellRole (inr o) = absurd (ruled in_cell_end (codes "th") l (λ k. cc) o n)
-    at TableRole o = absurd (ruled in_cell_end (codes "table") l (λ k. cc) o n)
-    at SectionRole (inl o) = absurd (ruled in_cell_end (codes "tbody") l (λ k. cc) o n)
-    at SectionRole (inr (inl o)) = absurd (ruled in_cell_end (codes "tfoot") l (λ k. cc) o n)
-    at SectionRole (inr (inr o)) = absurd (ruled in_cell_end (codes "thead") l (λ k. cc) o n)
-    at RowRole o = absurd (ruled in_cell_end (codes "tr") l (λ k. cc) o n)
-    at CaptionRole o = absurd (ruled in_cell_end (codes "caption") l (λ k. cc) o n)
-    at ColgroupRole o = absurd (ruled in_cell_end (codes "colgroup") l (λ k. cc) o n)
-    at _ o = refl
+no_part_in_cell l n = no_part_where_ruled in_cell_end l ((λ k. cc) & (λ k. cc) & (λ k. cc) & (λ k. cc) & (λ k. cc) & (λ k. cc) & (λ k. cc) & (λ k. cc) & (λ k. cc) & tt) n
 
 -- a start tag of a part of a table, and an end tag, lead to the row
 cell_structure : (name : List ℕ) → is_one_of table_structure_names name ≡ true → edges.Again (kind_of_start name) InCell InRow

@@ -1,10 +1,10 @@
 -- HTML standard, section 13.2.6.4.4, the "in head" insertion mode: each of its rows is lawful.
-use Rattle.std.proofs.Common.{◌∷◌, ◌≡◌, Bool, [], codes, refl, subst, sym, true}
+use Rattle.std.proofs.Common.{Bool, [], codes, refl, subst, sym, true, ◌∷◌, ◌≡◌}
 use Rattle.h5_names.specs.declared.known_name.KnownName.TheVariants.{Noscript}
 use Rattle.h5_token.specs.TokenText.{TagText}
 use Rattle.h5_token.specs.declared.states.RawKind.TheVariants.{Rawtext}
-use Rattle.h5_token.specs.declared.tag.TagKind.{TagKind}
 use Rattle.h5_token.specs.declared.tag.TagKind.TheVariants.{EndTag, StartTag}
+use Rattle.h5_token.specs.declared.tag.TagKind.{TagKind}
 use Rattle.h5_interface.specs.SinkChoices.{SinkChoices}
 use Rattle.h5_tables.specs.TagSets.{is_html_named}
 use Rattle.h5_tables.specs.TurnText.{CommentTurn, TagTurn, TextTurn, TurnText}

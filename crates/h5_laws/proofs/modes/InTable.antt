@@ -1,14 +1,14 @@
 -- HTML standard, section 13.2.6.4.9, the "in table" insertion mode: each of its rows is lawful, also in a section and a row.
-use Rattle.std.proofs.Common.{◌||◌, ◌∙◌, ◌∷◌, ◌≡◌, List, [], codes, false, inl, inr, is_some, refl, subst, sym, true, ℕ}
+use Rattle.std.proofs.Common.{List, [], codes, false, is_some, refl, subst, sym, true, ℕ, ◌||◌, ◌∙◌, ◌∷◌, ◌≡◌}
 use Rattle.h5_names.specs.declared.known_name.KnownName.TheVariants.{Caption, Col, Colgroup, Html, Table}
 use Rattle.h5_token.specs.TokenText.{TagText}
-use Rattle.h5_token.specs.declared.tag.TagKind.{TagKind}
 use Rattle.h5_token.specs.declared.tag.TagKind.TheVariants.{EndTag, StartTag}
+use Rattle.h5_token.specs.declared.tag.TagKind.{TagKind}
 use Rattle.h5_interface.specs.SinkChoices.{SinkChoices}
 use Rattle.h5_tables.specs.TagSets.{cell_names, is_one_of, is_table_scope}
 use Rattle.h5_tables.specs.TurnText.{CommentTurn, EofTurn, NullTurn, TagTurn, TextTurn, TurnText}
-use Rattle.h5_tables.specs.declared.modes.InsertionMode.{InsertionMode}
 use Rattle.h5_tables.specs.declared.modes.InsertionMode.TheVariants.{InCaption, InColumnGroup, InRow, InTable, InTableBody, InTableText}
+use Rattle.h5_tables.specs.declared.modes.InsertionMode.{InsertionMode}
 use Rattle.h5_rules.specs.ByName.{NonePasses, by_kind, by_name, named, of_tag}
 use Rattle.h5_rules.specs.Changes.{insert_and_pop_form, pop_until_current, pop_until_named, save_mode, set_foster}
 use Rattle.h5_rules.specs.Rows.{InsertMarker, PopUntilCurrent}
@@ -18,7 +18,7 @@ use Rattle.h5_rules.specs.fitting.Fits.{is_table_mode}
 use Rattle.h5_rules.specs.fitting.NamesFit.{NamesFit}
 use Rattle.h5_rules.specs.fitting.Reset.{reset_mode}
 use Rattle.h5_rules.specs.fitting.ResetByRoles.{reset}
-use Rattle.h5_rules.specs.fitting.Roles.{CaptionRole, CellRole, ColgroupRole, Role, RowRole, SectionRole, TableRole, role_of_local, roles}
+use Rattle.h5_rules.specs.fitting.Roles.{role_of_local, roles}
 use Rattle.h5_rules.specs.fitting.SituationChanges.{with_saved}
 use Rattle.h5_rules.specs.formatting.Formatting.{insert_marker}
 use Rattle.h5_rules.specs.formatting.FormattingNames.{html_name}
@@ -30,19 +30,19 @@ use Rattle.h5_rules.specs.stack.Scope.{down_names, has_template}
 use Rattle.h5_rules.proofs.changes.ListsLaws.{IsSteady, steady_changes}
 use Rattle.h5_rules.proofs.changes.NameLaws.{names-cut, names-form, names-until_current}
 use Rattle.h5_rules.proofs.changes.SituationLaws.{situation_then}
+use Rattle.h5_rules.proofs.fitting.NamesBodyLaws.{is_of_table, names_in_table, no_part_where_ruled, role_known, table_goes}
 use Rattle.h5_rules.proofs.fitting.NamesFitLaws.{names_table_text_begun}
 use Rattle.h5_rules.proofs.fitting.NamesTableLaws.{names_caption_put, names_colgroup_put, names_section_put, names_table_closed}
 use Rattle.h5_rules.proofs.modes.HeadContentLaws.{body_left, body_takes, head_content}
-use Rattle.h5_rules.proofs.modes.InBody.{NoPartOf, is_end_html, is_of_table}
+use Rattle.h5_rules.proofs.modes.InBody.{NoPartOf, is_end_html}
 use Rattle.h5_rules.proofs.modes.TemplateRowLaws.{closed_by_tag}
-use Rattle.h5_rules.proofs.roles.RoleLaws.{Origin, origin, role_made}
-use Rattle.h5_rules.proofs.rows.ByNameLaws.{holds_by_name, of_named, of_one, ruled}
+use Rattle.h5_rules.proofs.roles.RoleLaws.{role_made}
+use Rattle.h5_rules.proofs.rows.ByNameLaws.{holds_by_name, of_named, of_one, ◌&◌}
 use Rattle.h5_rules.proofs.rows.EndingLaws.{RowStops}
 use Rattle.h5_rules.proofs.rows.KeptLaws.{FitsAs, Kept, as_before}
 use Rattle.h5_rules.proofs.rows.ToldLaws.{reset_no_text}
 use Rattle.h5_laws.proofs.LawfulRow.{IsLawfulFor, IsLawfulTag, lawful_choose, lawful_foster, lawful_if, lawful_if_not, lawful_ignored, lawful_leading, lawful_row}
 use Rattle.h5_laws.proofs.modes.InBody.{body_other_lawful, body_tag_lawful, body_tag_stops, is_tag}
-use Rattle.h5_rules.proofs.fitting.NamesBodyLaws.{role_known, names_in_table, table_goes}
 use Rattle.h5_laws.proofs.modes.SharedRows.{comment_lawful, end_template_lawful, head_row_lawful}
 use Rattle.h5_laws.proofs.modes.TablePartLaws.{down_situation, form_situation, leaf_fits, marker_names, marker_situation, pushed, put, section_local}
 use Rattle.h5_laws.proofs.turns.AgainLaws.{kind_of_start, kind_of_turn}
@@ -56,19 +56,7 @@ use Rattle.h5_laws.proofs.turns.Ranks as edges
 -- an end tag that a table doesn't name is of no part of it
 no_part_in_table : (l : List ℕ) → NonePasses in_table_end l → is_of_table (role_of_local l) ≡ false
 unfolding in_table_end in_table_ignored_ends
-no_part_in_table l n = at (role_of_local l) (origin l)
-  where
-    at : (x : Role) → Origin x l → is_of_table x ≡ false
-    at TableRole o = absurd (ruled in_table_end (codes "table") l (λ k. cc) o n)
-    at CaptionRole o = absurd (ruled in_table_end (codes "caption") l (λ k. cc) o n)
-    at ColgroupRole o = absurd (ruled in_table_end (codes "colgroup") l (λ k. cc) o n)
-    at SectionRole (inl o) = absurd (ruled in_table_end (codes "tbody") l (λ k. cc) o n)
-    at SectionRole (inr (inl o)) = absurd (ruled in_table_end (codes "tfoot") l (λ k. cc) o n)
-    at SectionRole (inr (inr o)) = absurd (ruled in_table_end (codes "thead") l (λ k. cc) o n)
-    at RowRole o = absurd (ruled in_table_end (codes "tr") l (λ k. cc) o n)
-    at CellRole (inl o) = absurd (ruled in_table_end (codes "td") l (λ k. cc) o n)
-    at CellRole (inr o) = absurd (ruled in_table_end (codes "th") l (λ k. cc) o n)
-    at _ o = refl
+no_part_in_table l n = no_part_where_ruled in_table_end l ((λ k. cc) & (λ k. cc) & (λ k. cc) & (λ k. cc) & (λ k. cc) & (λ k. cc) & (λ k. cc) & (λ k. cc) & (λ k. cc) & tt) n
 
 -- each name that goes by the rules of the head in a table goes so elsewhere, too
 table_text_content : (l : List ℕ) → is_one_of table_text_names l ≡ true → is_one_of head_start_names l ≡ true

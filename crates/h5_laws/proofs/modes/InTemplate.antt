@@ -1,13 +1,13 @@
 -- HTML standard, section 13.2.6.4.16, the "in template" insertion mode: each of its rows is lawful.
-use Rattle.std.proofs.Common.{◌≡◌, Bool, List, false, if◌then◌else◌, refl, true, ℕ}
+use Rattle.std.proofs.Common.{Bool, List, false, if◌then◌else◌, refl, true, ℕ, ◌≡◌}
 use Rattle.h5_names.specs.declared.known_name.KnownName.TheVariants.{Col, Table, Tr}
 use Rattle.h5_token.specs.TokenText.{TagText}
-use Rattle.h5_token.specs.declared.tag.TagKind.{TagKind}
 use Rattle.h5_token.specs.declared.tag.TagKind.TheVariants.{EndTag, StartTag}
+use Rattle.h5_token.specs.declared.tag.TagKind.{TagKind}
 use Rattle.h5_tables.specs.TagSets.{cell_names, is_one_of}
 use Rattle.h5_tables.specs.TurnText.{CommentTurn, EofTurn, NullTurn, TagTurn, TextTurn, TurnText}
-use Rattle.h5_tables.specs.declared.modes.InsertionMode.{InsertionMode}
 use Rattle.h5_tables.specs.declared.modes.InsertionMode.TheVariants.{InBody, InColumnGroup, InRow, InTable, InTableBody, InTemplate}
+use Rattle.h5_tables.specs.declared.modes.InsertionMode.{InsertionMode}
 use Rattle.h5_rules.specs.ByName.{by_kind, by_name, ignored_tag, named}
 use Rattle.h5_rules.specs.World.{World}
 use Rattle.h5_rules.specs.fitting.Fits.{is_template_mode}

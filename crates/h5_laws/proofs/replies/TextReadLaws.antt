@@ -1,51 +1,51 @@
 -- A builder that isn't in "text", and goes back to no "text", is led there by a start tag alone, which turns the reader to
 -- raw text; and out of it by an end tag and by the end of the file.
-use Rattle.std.proofs.Common.{◌≡◌, ℕ, zero, suc, ◌+◌, Bool, true, false, cond, List, [], ◌∷◌, ◌++◌, length, Option, Some, None, codes, refl, ap, sym, subst, ◌∙◌}
+use Rattle.std.proofs.Common.{Bool, List, None, Option, Some, [], ap, codes, cond, false, length, refl, subst, suc, sym, true, zero, ℕ, ◌++◌, ◌+◌, ◌∙◌, ◌∷◌, ◌≡◌}
 use Rattle.std.specs.Prelude.{unwrap_or}
 use Rattle.h5_names.specs.AttributeText.{is_same_text}
 use Rattle.h5_token.specs.Reply.{Continues, Indicates, Reply, RunsScript, TurnsPlain, TurnsRaw}
-use Rattle.h5_token.specs.TokenText.{TagText, TokenText, DoctypeIs, DoctypeText, TagIs, CommentIs, Characters, NullCharacter, EndOfFile, ParseErrorIs}
+use Rattle.h5_token.specs.TokenText.{Characters, CommentIs, DoctypeIs, DoctypeText, EndOfFile, NullCharacter, ParseErrorIs, TagIs, TagText, TokenText}
+use Rattle.h5_token.specs.declared.tag.TagKind.TheVariants.{EndTag, StartTag}
 use Rattle.h5_token.specs.declared.tag.TagKind.{TagKind}
-use Rattle.h5_token.specs.declared.tag.TagKind.TheVariants.{StartTag, EndTag}
 use Rattle.h5_interface.specs.SinkChoices.{SinkChoices}
-use Rattle.h5_tables.specs.TurnText.{TurnText, TagTurn, CommentTurn, TextTurn, NullTurn, EofTurn}
+use Rattle.h5_tables.specs.Doctypes.{is_good_doctype, quirks_of}
+use Rattle.h5_tables.specs.TurnText.{CommentTurn, EofTurn, NullTurn, TagTurn, TextTurn, TurnText}
+use Rattle.h5_tables.specs.declared.modes.InsertionMode.TheVariants.{BeforeHtml, InTable, Initial, Text}
 use Rattle.h5_tables.specs.declared.modes.InsertionMode.{InsertionMode}
-use Rattle.h5_tables.specs.declared.modes.InsertionMode.TheVariants.{BeforeHtml, Initial, InTable, Text}
 use Rattle.h5_tables.specs.declared.modes.SplitStatus.TheVariants.{NotWhitespace}
-use Rattle.h5_rules.specs.stack.Order.{second_from_last}
-use Rattle.h5_rules.specs.fitting.Fits.{AllKinds}
-use Rattle.h5_rules.specs.Changes.{add_attrs_at, add_attrs_to_html, add_attrs_to_second, append_comment, append_comment_to_doc, append_comment_to_html, append_pending_text, append_text, create_root, insert_and_pop_element, insert_and_pop_form, insert_doctype, insert_element, insert_form, insert_head, insert_script, mark_started, pop, pop_until_named, set_frameset_ok_by_text, set_mode, set_quirks_mode}
 use Rattle.h5_rules.specs.ByName.{by_kind}
-use Rattle.h5_rules.specs.stack.Closing.{copy_closed_option}
-use Rattle.h5_rules.specs.formatting.Formatting.{reconstruct_active_formatting_elements}
-use Rattle.h5_rules.specs.modes.InTableText.{saved_mode}
-use Rattle.h5_rules.specs.modes.Modes.{rule}
-use Rattle.h5_rules.specs.Rows.{AddAttrsToSecond, AdoptionAgency, Again, AgainBy, Answers, Change, ClearActiveFormattingToMarker, CloseListItem, ClosePElement, ClosePElementInButtonScope, CreateFormattingElement, Ending, GenerateImpliedEnd, GenerateImpliedEndExcept, GenerateImpliedEndInSelect, GenerateImpliedEndThoroughly, HandleMisnestedATags, HandleMisnestedNobrTags, InsertAndPopForeignElement, InsertForeignElement, InsertMarker, InsertTemplate, IsAcknowledged, IsDone, LeaveForeignContent, MarkStarted, Pop, PopHeading, PopTemplateMode, PopUntilCell, PopUntilCurrent, PopUntilHeading, PopUntilNamedInAnyCase, PushTemplateMode, ReconstructActiveFormattingElements, RemoveBody, RemoveFromStack, ResetMode, SaveMode, SetMode, SwitchTemplateMode, apply, apply_all, ignored, row}
+use Rattle.h5_rules.specs.Changes.{add_attrs_at, add_attrs_to_html, add_attrs_to_second, append_comment, append_comment_to_doc, append_comment_to_html, append_pending_text, append_text, create_root, insert_and_pop_element, insert_and_pop_form, insert_doctype, insert_element, insert_form, insert_head, insert_script, mark_started, pop, pop_until_named, set_frameset_ok_by_text, set_mode, set_quirks_mode}
 use Rattle.h5_rules.specs.Kinds.{is_start}
+use Rattle.h5_rules.specs.Rows.{AddAttrsToSecond, AdoptionAgency, Again, AgainBy, Answers, Change, ClearActiveFormattingToMarker, CloseListItem, ClosePElement, ClosePElementInButtonScope, CreateFormattingElement, Ending, GenerateImpliedEnd, GenerateImpliedEndExcept, GenerateImpliedEndInSelect, GenerateImpliedEndThoroughly, HandleMisnestedATags, HandleMisnestedNobrTags, InsertAndPopForeignElement, InsertForeignElement, InsertMarker, InsertTemplate, IsAcknowledged, IsDone, LeaveForeignContent, MarkStarted, Pop, PopHeading, PopTemplateMode, PopUntilCell, PopUntilCurrent, PopUntilHeading, PopUntilNamedInAnyCase, PushTemplateMode, ReconstructActiveFormattingElements, RemoveBody, RemoveFromStack, ResetMode, SaveMode, SetMode, SwitchTemplateMode, apply, apply_all, ignored, row}
 use Rattle.h5_rules.specs.Run.{at_once, doctype_in, is_refused_in_text, judged, refuses_in, step, taken, text_step, with_doctype, without_lf}
 use Rattle.h5_rules.specs.Settle.{Settled, by_row, settle, settle_within}
-use Rattle.h5_rules.specs.modes.Shared.{current_is}
-use Rattle.h5_rules.specs.Text.{after_row, foreign_text, is_quiet_text, text_in, text_in_body, text_rule}
-use Rattle.h5_rules.specs.modes.TextMode.{marks_script, text_end, text_mode}
-use Rattle.h5_rules.specs.World.{World, current, names_of}
-use Rattle.h5_rules.proofs.changes.ForeignLaws.{tree_insert_and_pop_foreign, tree_insert_foreign, tree_leave, tree_until_in_any_case}
-use Rattle.h5_rules.proofs.rows.KeptLaws.{FitsAs, changes_mode}
-use Rattle.h5_laws.proofs.RuleLaws.{lawful}
-use Rattle.h5_laws.proofs.turns.SettleLaws.{settle-first}
-use Rattle.h5_rules.proofs.rows.EndingLaws.{Silent}
-use Rattle.h5_laws.proofs.LawfulRow.{is_start_turn}
-use Rattle.h5_laws.proofs.cuts.TextKeptLaws.{IsKept, text_kept}
-use Rattle.h5_rules.proofs.rows.ToldLaws.{NoMode, NoText, NoTextBehind, Tells, TurnsToText, is_text, reset_no_text}
-use Rattle.h5_rules.proofs.changes.TreeLaws.{OnlyTree, tree_adoption, tree_cleared, tree_close_p, tree_close_p_in_scope, tree_format, tree_implied, tree_implied_except, tree_in_select, tree_list_item, tree_marker, tree_misnested_a_tags, tree_misnested_nobr_tags, tree_pop_heading, tree_reconstruct, tree_remove, tree_until_cell, tree_until_current, tree_until_heading, tree_implied_thoroughly, tree_remove_body}
-use Rattle.h5_rules.proofs.changes.TemplateLaws.{tree_insert_template}
-use Rattle.h5_rules.proofs.fitting.ChangeLaws.{later_kinds}
-use Rattle.h5_tables.specs.Doctypes.{is_good_doctype, quirks_of}
-use Rattle.h5_rules.specs.modes.ForeignContent.{dispatch}
-use Rattle.h5_rules.specs.insertion.Foreign.{is_foreign, is_foreign_text}
 use Rattle.h5_rules.specs.Sound.{Fits}
-use Rattle.h5_laws.proofs.modes.ForeignRowLaws.{dispatch_html, eof_html}
-use Rattle.h5_laws.proofs.turns.ForeignTurnLaws.{dispatch_told, dispatch_silent}
+use Rattle.h5_rules.specs.Text.{after_row, foreign_text, is_quiet_text, text_in, text_in_body, text_rule}
+use Rattle.h5_rules.specs.World.{World, current, names_of}
+use Rattle.h5_rules.specs.fitting.Fits.{AllKinds}
+use Rattle.h5_rules.specs.formatting.Formatting.{reconstruct_active_formatting_elements}
+use Rattle.h5_rules.specs.insertion.Foreign.{is_foreign, is_foreign_text}
+use Rattle.h5_rules.specs.modes.ForeignContent.{dispatch}
+use Rattle.h5_rules.specs.modes.InTableText.{saved_mode}
+use Rattle.h5_rules.specs.modes.Modes.{rule}
+use Rattle.h5_rules.specs.modes.Shared.{current_is}
+use Rattle.h5_rules.specs.modes.TextMode.{marks_script, text_end, text_mode}
+use Rattle.h5_rules.specs.stack.Closing.{copy_closed_option}
+use Rattle.h5_rules.specs.stack.Order.{second_from_last}
+use Rattle.h5_rules.proofs.changes.ForeignLaws.{tree_insert_and_pop_foreign, tree_insert_foreign, tree_leave, tree_until_in_any_case}
+use Rattle.h5_rules.proofs.changes.TemplateLaws.{tree_insert_template}
+use Rattle.h5_rules.proofs.changes.TreeLaws.{OnlyTree, tree_adoption, tree_cleared, tree_close_p, tree_close_p_in_scope, tree_format, tree_implied, tree_implied_except, tree_implied_thoroughly, tree_in_select, tree_list_item, tree_marker, tree_misnested_a_tags, tree_misnested_nobr_tags, tree_pop_heading, tree_reconstruct, tree_remove, tree_remove_body, tree_until_cell, tree_until_current, tree_until_heading}
+use Rattle.h5_rules.proofs.fitting.ChangeLaws.{later_kinds}
+use Rattle.h5_rules.proofs.rows.EndingLaws.{Silent}
+use Rattle.h5_rules.proofs.rows.KeptLaws.{FitsAs, changes_mode}
+use Rattle.h5_rules.proofs.rows.ToldLaws.{NoMode, NoText, NoTextBehind, Tells, TurnsToText, is_text, reset_no_text}
+use Rattle.h5_laws.proofs.LawfulRow.{is_start_turn}
+use Rattle.h5_laws.proofs.RuleLaws.{lawful}
+use Rattle.h5_laws.proofs.cuts.TextKeptLaws.{IsKept, text_kept}
 use Rattle.h5_laws.proofs.modes.ForeignModeLaws.{exact_html, html_not_foreign}
+use Rattle.h5_laws.proofs.modes.ForeignRowLaws.{dispatch_html, eof_html}
+use Rattle.h5_laws.proofs.turns.ForeignTurnLaws.{dispatch_silent, dispatch_told}
+use Rattle.h5_laws.proofs.turns.SettleLaws.{settle-first}
 
 -- ONE CHANGE, and the modes to go back to
 abbrev saved_after : Change → World → Option InsertionMode

@@ -1,8 +1,8 @@
 -- Which modes a rule leads to, by the kind of the token.
-use Rattle.std.proofs.Common.{◌∙◌, ◌∷◌, ◌≡◌, Bool, List, Some, [], ap, codes, false, if◌then◌else◌, refl, subst, true, ℕ}
+use Rattle.std.proofs.Common.{Bool, List, Some, [], ap, codes, false, if◌then◌else◌, refl, subst, true, ℕ, ◌∙◌, ◌∷◌, ◌≡◌}
 use Rattle.h5_names.specs.declared.known_name.KnownName.TheVariants.{Col, Html, Table, Tr}
-use Rattle.h5_token.specs.declared.tag.TagKind.{TagKind}
 use Rattle.h5_token.specs.declared.tag.TagKind.TheVariants.{EndTag, StartTag}
+use Rattle.h5_token.specs.declared.tag.TagKind.{TagKind}
 use Rattle.h5_tables.specs.TagSets.{cell_names, is_one_of}
 use Rattle.h5_tables.specs.TurnText.{CommentTurn, EofTurn, NullTurn, TagTurn, TextTurn, TurnText}
 use Rattle.h5_tables.specs.declared.modes.InsertionMode.{InsertionMode}

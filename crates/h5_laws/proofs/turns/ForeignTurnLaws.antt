@@ -1,36 +1,36 @@
 -- By whichever rule a token goes: what is listed, what is answered, and where another turn leads.
-use Rattle.std.proofs.Common.{◌≡◌, ◌<◌, ◌+◌, ℕ, ◌⊎◌, inl, inr, Bool, true, false, cond, List, [], ◌∷◌, Option, Some, None, suc, refl, ap, sym, subst, ◌∙◌}
+use Rattle.std.proofs.Common.{Bool, List, None, Option, Some, [], ap, cond, false, inl, inr, refl, subst, suc, sym, true, ℕ, ◌+◌, ◌<◌, ◌∙◌, ◌∷◌, ◌≡◌, ◌⊎◌}
 use Rattle.h5_names.specs.declared.qualified.QualName.{QualName}
 use Rattle.h5_token.specs.Reply.{Indicates, RunsScript, TurnsPlain, TurnsRaw}
 use Rattle.h5_interface.specs.SinkChoices.{SinkChoices}
 use Rattle.h5_tables.specs.TurnText.{EofTurn, TurnText}
-use Rattle.h5_tables.specs.declared.modes.InsertionMode.{InsertionMode}
 use Rattle.h5_tables.specs.declared.modes.InsertionMode.TheVariants.{InTableText, Text}
-use Rattle.h5_rules.specs.stack.Scope.{later_names}
-use Rattle.h5_rules.specs.fitting.Fits.{Situation}
-use Rattle.h5_rules.specs.fitting.Roles.{Role, count_roles, roles}
-use Rattle.h5_laws.proofs.turns.Ranks.{EofTurns, StartTableTurns, TextTurns, TurnKind, by_mode as by_table_mode, is_eof, is_table_like, outside, rank, rank_saved}
+use Rattle.h5_tables.specs.declared.modes.InsertionMode.{InsertionMode}
 use Rattle.h5_rules.specs.Changes.{pop, set_mode}
-use Rattle.h5_rules.specs.insertion.Foreign.{is_foreign, leave_foreign_content}
-use Rattle.h5_rules.specs.modes.ForeignContent.{by_mode, dispatch, row_of}
-use Rattle.h5_rules.specs.modes.Modes.{rule}
 use Rattle.h5_rules.specs.Rows.{Again, AgainBy, Answers, Change, Ending, IsAcknowledged, IsDone, LeaveForeignContent, Row, apply_all, changed_by, choose, next_mode}
 use Rattle.h5_rules.specs.Sound.{Fitting, situation_of}
 use Rattle.h5_rules.specs.World.{World, names_of}
-use Rattle.h5_laws.proofs.turns.AgainLaws.{kind_of_turn}
-use Rattle.h5_laws.proofs.turns.FallsLaws.{falls, rank_of, text_falls, turn_eof}
-use Rattle.h5_laws.proofs.kept.ForeignFitLaws.{leaves_fitting}
+use Rattle.h5_rules.specs.fitting.Fits.{Situation}
+use Rattle.h5_rules.specs.fitting.NamesFit.{is_html_element}
+use Rattle.h5_rules.specs.fitting.Roles.{Role, count_roles, roles}
+use Rattle.h5_rules.specs.insertion.Foreign.{is_foreign, leave_foreign_content}
+use Rattle.h5_rules.specs.modes.ForeignContent.{by_mode, dispatch, row_of}
+use Rattle.h5_rules.specs.modes.Modes.{rule}
+use Rattle.h5_rules.specs.stack.Scope.{later_names}
 use Rattle.h5_rules.proofs.changes.ForeignLaws.{leave_holds, tree_leave}
-use Rattle.h5_laws.proofs.modes.ForeignModeLaws.{foreign_mode}
 use Rattle.h5_rules.proofs.changes.PopLaws.{names-pop}
 use Rattle.h5_rules.proofs.roles.TestLaws.{foreign_plain}
-use Rattle.h5_rules.specs.fitting.NamesFit.{is_html_element}
-use Rattle.h5_laws.proofs.modes.ForeignRowLaws.{Steps, any_has, dispatch_holds, each_step, eof_html}
-use Rattle.h5_rules.proofs.rows.KeptLaws.{apply_append}
-use Rattle.h5_laws.proofs.RuleLaws.{lawful}
 use Rattle.h5_rules.proofs.rows.EndingLaws.{Silent}
-use Rattle.h5_laws.proofs.LawfulRow.{is_start_turn}
+use Rattle.h5_rules.proofs.rows.KeptLaws.{apply_append}
 use Rattle.h5_rules.proofs.rows.ToldLaws.{IsTold, Tells, is_text}
+use Rattle.h5_laws.proofs.LawfulRow.{is_start_turn}
+use Rattle.h5_laws.proofs.RuleLaws.{lawful}
+use Rattle.h5_laws.proofs.kept.ForeignFitLaws.{leaves_fitting}
+use Rattle.h5_laws.proofs.modes.ForeignModeLaws.{foreign_mode}
+use Rattle.h5_laws.proofs.modes.ForeignRowLaws.{Steps, any_has, dispatch_holds, each_step, eof_html}
+use Rattle.h5_laws.proofs.turns.AgainLaws.{kind_of_turn}
+use Rattle.h5_laws.proofs.turns.FallsLaws.{falls, rank_of, text_falls, turn_eof}
+use Rattle.h5_laws.proofs.turns.Ranks.{EofTurns, StartTableTurns, TextTurns, TurnKind, by_mode as by_table_mode, is_eof, is_table_like, outside, rank, rank_saved}
 
 -- leaving foreign content leaves the mode
 left_mode : (choices : SinkChoices) (w : World) → (leave_foreign_content choices w).mode ≡ w.mode

@@ -1,13 +1,13 @@
 -- To which modes a row leads.
-use Rattle.std.proofs.Common.{◌++◌, ◌||◌, ◌∷◌, ◌≡◌, Bool, List, [], codes, false, refl, subst, true, ℕ}
+use Rattle.std.proofs.Common.{Bool, List, [], codes, false, refl, subst, true, ℕ, ◌++◌, ◌||◌, ◌∷◌, ◌≡◌}
 use Rattle.std.proofs.lemmas.Slice.Eq.{bytes_eq-Decides}
 use Rattle.h5_names.specs.AttributeText.{is_same_text}
 use Rattle.h5_names.specs.KnownNames.{name_text}
-use Rattle.h5_names.specs.declared.known_name.KnownName.{KnownName}
 use Rattle.h5_names.specs.declared.known_name.KnownName.TheVariants.{Col, Table}
+use Rattle.h5_names.specs.declared.known_name.KnownName.{KnownName}
 use Rattle.h5_tables.specs.TagSets.{is_one_of}
-use Rattle.h5_tables.specs.declared.modes.InsertionMode.{InsertionMode}
 use Rattle.h5_tables.specs.declared.modes.InsertionMode.TheVariants.{InColumnGroup, InTable, InTableText, Text}
+use Rattle.h5_tables.specs.declared.modes.InsertionMode.{InsertionMode}
 use Rattle.h5_rules.specs.ByName.{named}
 use Rattle.h5_rules.specs.Rows.{Again, AgainBy, ClearActiveFormattingToMarker, Pop, PopTemplateMode, PopUntilNamed, ResetMode, Row, TakePendingText}
 use Rattle.h5_rules.specs.World.{World, names_of}

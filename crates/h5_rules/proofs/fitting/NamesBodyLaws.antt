@@ -1,25 +1,26 @@
--- What modes that go by the body tell by names: the modes of the body fit where they do, and any other end tag in them.
-use Rattle.std.proofs.Common.{◌≡◌, ℕ, Bool, true, false, List, refl, ap, sym, subst, ◌∙◌}
+-- What modes that go by the body tell by names: the modes of the body fit where they do, and tags that no rule names.
+use Rattle.std.proofs.Common.{Bool, List, [], ap, codes, false, inl, inr, refl, subst, sym, true, ℕ, ◌∙◌, ◌∷◌, ◌≡◌}
 use Rattle.std.proofs.lemmas.Slice.Eq.{bytes_eq-Decides}
 use Rattle.h5_names.specs.KnownNames.{name_text}
 use Rattle.h5_names.specs.declared.known_name.KnownName.{KnownName}
 use Rattle.h5_names.specs.declared.qualified.QualName.{QualName}
 use Rattle.h5_tables.specs.TagSets.{is_html_named, is_special}
-use Rattle.h5_tables.specs.declared.modes.InsertionMode.{InsertionMode}
 use Rattle.h5_tables.specs.declared.modes.InsertionMode.TheVariants.{AfterAfterBody, AfterBody, InBody, InRow, InTable, InTableBody}
-use Rattle.h5_rules.specs.ByName.{named}
-use Rattle.h5_rules.specs.stack.Scope.{comes_before_special, cut_names, drop_while, is_implied_but}
+use Rattle.h5_tables.specs.declared.modes.InsertionMode.{InsertionMode}
+use Rattle.h5_rules.specs.ByName.{NonePasses, Rules, named}
 use Rattle.h5_rules.specs.fitting.Fits.{Situation, goes_by_body, is_table_mode}
 use Rattle.h5_rules.specs.fitting.Floors.{Grounded, above, in_head, on_body, on_root, on_template}
 use Rattle.h5_rules.specs.fitting.Frames.{Cut, here, there}
 use Rattle.h5_rules.specs.fitting.NamesFit.{NamesFit}
-use Rattle.h5_rules.specs.fitting.Roles.{BodyRole, FramesetRole, HeadRole, HtmlRole, PlainRole, Role, TemplateRole, is_base, is_floor_name, is_plain, role_of, role_of_local, roles}
-use Rattle.h5_rules.proofs.roles.EndTagLaws.{frame_other_end}
-use Rattle.h5_rules.proofs.roles.RoleNameLaws.{cut_roles}
+use Rattle.h5_rules.specs.fitting.Roles.{BodyRole, CaptionRole, CellRole, ColgroupRole, FramesetRole, HeadRole, HtmlRole, PlainRole, Role, RowRole, SectionRole, TableRole, TemplateRole, is_base, is_floor_name, is_plain, is_table_part, role_of, role_of_local, roles}
+use Rattle.h5_rules.specs.stack.Scope.{comes_before_special, cut_names, drop_while, is_implied_but}
 use Rattle.h5_rules.proofs.fitting.NamesFitLaws.{names_ended, names_fit, names_frame}
 use Rattle.h5_rules.proofs.fitting.PlacedNameLaws.{fits_grounded}
-use Rattle.h5_rules.proofs.roles.RoleLaws.{role_named}
+use Rattle.h5_rules.proofs.roles.EndTagLaws.{frame_other_end}
+use Rattle.h5_rules.proofs.roles.RoleLaws.{Origin, origin, role_named}
+use Rattle.h5_rules.proofs.roles.RoleNameLaws.{cut_roles}
 use Rattle.h5_rules.proofs.roles.SetLaws.{ordinary_plain}
+use Rattle.h5_rules.proofs.rows.ByNameLaws.{HoldsOfAll, ruled}
 
 module _ (s : Situation) (ns : List QualName) where
   -- what fits a mode that goes by the body fits the body, and what comes after it
@@ -67,6 +68,46 @@ covered h (there n k c) on_root = absurd (cc)
 covered h (there n k c) on_body = absurd (cc)
 covered h (there n k c) on_template = absurd (cc)
 covered h (there n k c) in_head = absurd (cc)
+
+-- tables and their parts, which the modes of tables name in end tags themselves
+abbrev pub is_of_table : Role → Bool
+is_of_table TableRole = true
+is_of_table n = is_table_part n
+
+-- where some rules are for each name of a table and its parts, a name that none of them is for is of no such
+abbrev of_table_names : List (List ℕ)
+of_table_names = codes "table" ∷ codes "caption" ∷ codes "colgroup" ∷ codes "tbody" ∷ codes "tfoot" ∷ codes "thead" ∷ codes "tr" ∷ codes "td" ∷ codes "th" ∷ []
+
+pub no_part_where_ruled : (rules : Rules) (l : List ℕ) → HoldsOfAll (λ t. NonePasses rules t → ⊥) of_table_names → NonePasses rules l → is_of_table (role_of_local l) ≡ false
+no_part_where_ruled rules l h n = at (role_of_local l) (origin l)
+  where
+    at : (x : Role) → Origin x l → is_of_table x ≡ false
+    at TableRole o = absurd (ruled rules (codes "table") l h.0 o n)
+    at CaptionRole o = absurd (ruled rules (codes "caption") l h.1.0 o n)
+    at ColgroupRole o = absurd (ruled rules (codes "colgroup") l h.1.1.0 o n)
+    at SectionRole (inl o) = absurd (ruled rules (codes "tbody") l h.1.1.1.0 o n)
+    at SectionRole (inr (inl o)) = absurd (ruled rules (codes "tfoot") l h.1.1.1.1.0 o n)
+    at SectionRole (inr (inr o)) = absurd (ruled rules (codes "thead") l h.1.1.1.1.1.0 o n)
+    at RowRole o = absurd (ruled rules (codes "tr") l h.1.1.1.1.1.1.0 o n)
+    at CellRole (inl o) = absurd (ruled rules (codes "td") l h.1.1.1.1.1.1.1.0 o n)
+    at CellRole (inr o) = absurd (ruled rules (codes "th") l h.1.1.1.1.1.1.1.1.0 o n)
+    at _ o = refl
+
+-- and where they are for each name besides that has a role of its own, it is plain
+abbrev role_names : List (List ℕ)
+role_names = codes "html" ∷ codes "head" ∷ codes "body" ∷ codes "frameset" ∷ codes "template" ∷ of_table_names
+
+pub plain_where_ruled : (rules : Rules) (l : List ℕ) → HoldsOfAll (λ t. NonePasses rules t → ⊥) role_names → NonePasses rules l → role_of_local l ≡ PlainRole
+plain_where_ruled rules l h n = at (role_of_local l) (origin l) (no_part_where_ruled rules l h.1.1.1.1.1 n)
+  where
+    at : (x : Role) → Origin x l → is_of_table x ≡ false → x ≡ PlainRole
+    at PlainRole o p = refl
+    at HtmlRole o p = absurd (ruled rules (codes "html") l h.0 o n)
+    at HeadRole o p = absurd (ruled rules (codes "head") l h.1.0 o n)
+    at BodyRole o p = absurd (ruled rules (codes "body") l h.1.1.0 o n)
+    at FramesetRole o p = absurd (ruled rules (codes "frameset") l h.1.1.1.0 o n)
+    at TemplateRole o p = absurd (ruled rules (codes "template") l h.1.1.1.1.0 o n)
+    at _ o p = absurd (cc)
 
 -- what an end tag that no rule names may name, by its role: parts of tables in the body alone, since the other modes
 -- name them

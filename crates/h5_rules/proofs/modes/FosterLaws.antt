@@ -1,21 +1,21 @@
 -- A token that goes by the rule of the body, with foster parenting on.
-use Rattle.std.proofs.Common.{Bool, ◌≡◌, ◌<◌, ℕ, true, false, [], ◌∷◌, Some, refl, sym, subst, ap, ◌∙◌, codes}
+use Rattle.std.proofs.Common.{Bool, Some, [], ap, codes, false, refl, subst, sym, true, ℕ, ◌<◌, ◌∙◌, ◌∷◌, ◌≡◌}
 use Rattle.h5_interface.specs.SinkChoices.{SinkChoices}
+use Rattle.h5_tables.specs.TurnResult.{TurnResult}
+use Rattle.h5_tables.specs.TurnText.{CommentTurn, EofTurn, NullTurn, TagTurn, TextTurn, TurnText}
+use Rattle.h5_rules.specs.Changes.{set_foster}
+use Rattle.h5_rules.specs.Rows.{Again, AgainBy, Answers, ClearActiveFormattingToMarker, Ending, EndsAs, Follows, IsAcknowledged, IsDone, PopTemplateMode, PopUntilNamed, ResetMode, Row, SetFoster, errs, next_mode, row}
+use Rattle.h5_rules.specs.World.{World, names_of}
+use Rattle.h5_rules.specs.fitting.Reset.{reset_mode}
+use Rattle.h5_rules.specs.modes.InBody.{body_ends, in_body, in_body_tag, no_template_mode}
+use Rattle.h5_rules.specs.modes.InHead.{template_eof}
+use Rattle.h5_rules.specs.modes.Tables.{foster}
+use Rattle.h5_rules.specs.stack.Scope.{has_template}
+use Rattle.h5_rules.proofs.modes.InBody.{EndsBody, is_end_html, tag_row}
 use Rattle.h5_rules.proofs.rows.ByNameLaws.{holds_chosen}
 use Rattle.h5_rules.proofs.rows.KeptLaws.{apply_append}
 use Rattle.h5_rules.proofs.rows.MarkLaws.{still_told}
-use Rattle.h5_rules.specs.Changes.{set_foster}
-use Rattle.h5_rules.specs.modes.InBody.{body_ends, in_body, in_body_tag, no_template_mode}
-use Rattle.h5_rules.specs.modes.InHead.{template_eof}
-use Rattle.h5_rules.specs.fitting.Reset.{reset_mode}
-use Rattle.h5_rules.specs.Rows.{ClearActiveFormattingToMarker, PopTemplateMode, ResetMode, EndsAs, Again, AgainBy, Answers, Ending, Follows, IsAcknowledged, IsDone, PopUntilNamed, Row, SetFoster, errs, next_mode, row}
-use Rattle.h5_rules.specs.modes.Tables.{foster}
-use Rattle.h5_rules.specs.World.{World, names_of}
-use Rattle.h5_rules.specs.stack.Scope.{has_template}
-use Rattle.h5_tables.specs.TurnResult.{TurnResult}
 use Rattle.h5_tables.specs.TurnResult as results
-use Rattle.h5_tables.specs.TurnText.{CommentTurn, EofTurn, NullTurn, TagTurn, TextTurn, TurnText}
-use Rattle.h5_rules.proofs.modes.InBody.{EndsBody, is_end_html, tag_row}
 
 -- an ending that doesn't look at the foster flag
 abbrev IsOutright : Ending → Type 0

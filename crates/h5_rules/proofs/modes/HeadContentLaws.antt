@@ -1,35 +1,35 @@
 -- Start tags that go by the rules of the head, in each mode that may be left for a text.
-use Rattle.std.proofs.Common.{◌≡◌, ℕ, true, false, List, [], ◌∷◌, Option, Some, None, codes, refl}
+use Rattle.std.proofs.Common.{List, None, Option, Some, [], codes, false, refl, true, ℕ, ◌∷◌, ◌≡◌}
 use Rattle.h5_names.specs.declared.known_name.KnownName.TheVariants.{Noscript, Template, Title}
 use Rattle.h5_token.specs.TokenText.{TagText}
-use Rattle.h5_token.specs.declared.states.RawKind.{RawKind}
 use Rattle.h5_token.specs.declared.states.RawKind.TheVariants.{Rawtext, Rcdata}
+use Rattle.h5_token.specs.declared.states.RawKind.{RawKind}
 use Rattle.h5_interface.specs.SinkChoices.{SinkChoices}
-use Rattle.h5_tables.specs.declared.modes.InsertionMode.{InsertionMode}
+use Rattle.h5_tables.specs.TagSets.{is_one_of}
+use Rattle.h5_tables.specs.TurnText.{TagTurn}
 use Rattle.h5_tables.specs.declared.modes.InsertionMode.TheVariants.{AfterHead, BeforeHtml, InHead, InTableText, Initial, Text}
-use Rattle.h5_rules.specs.modes.Shared.{head_start_names, in_body_start_html, inserts, raw_text}
-use Rattle.h5_rules.specs.stack.Scope.{has_template}
-use Rattle.h5_rules.specs.fitting.Fits.{goes_by_body, is_before_root, may_be_left, takes_template}
-use Rattle.h5_rules.proofs.rows.KeptLaws.{FitsAs, Kept, as_before}
-use Rattle.h5_rules.specs.World.{World, names_of}
-use Rattle.h5_rules.specs.Sound.{Sound, situation_of}
+use Rattle.h5_tables.specs.declared.modes.InsertionMode.{InsertionMode}
 use Rattle.h5_rules.specs.ByName.{NonePasses, named, of_tag}
+use Rattle.h5_rules.specs.Changes.{add_attrs_to_html, insert_and_pop_element}
+use Rattle.h5_rules.specs.NamedEncoding.{indicates, named_encoding}
+use Rattle.h5_rules.specs.Rows.{AddAttrsToHtml, InsertAndPopElement, IsDone, Row, errs, ignored, next_mode, row}
+use Rattle.h5_rules.specs.Sound.{Sound, situation_of}
+use Rattle.h5_rules.specs.World.{World, names_of}
+use Rattle.h5_rules.specs.fitting.Fits.{goes_by_body, is_before_root, may_be_left, takes_template}
+use Rattle.h5_rules.specs.fitting.Roles.{PlainRole, role_of_local}
 use Rattle.h5_rules.specs.modes.InHead.{in_head_else, in_head_links, in_head_raw, in_head_start, in_head_start_noscript, in_head_start_script, in_head_start_tag, in_head_start_template}
+use Rattle.h5_rules.specs.modes.Shared.{head_start_names, in_body_start_html, inserts, raw_text}
 use Rattle.h5_rules.specs.stack.Root.{IsRootOpen}
-use Rattle.h5_rules.proofs.rows.ByNameLaws.{◌&◌, holds_by_name, holds_chosen, of_named, of_one}
-use Rattle.h5_rules.proofs.rows.EndingLaws.{EndsTurn}
+use Rattle.h5_rules.specs.stack.Scope.{has_template}
+use Rattle.h5_rules.proofs.changes.NameLaws.{names-add_to_root, names-insert_and_pop}
+use Rattle.h5_rules.proofs.changes.SituationLaws.{situation_add_to_root, situation_leaf}
+use Rattle.h5_rules.proofs.fitting.OpenLaws.{names_root_open}
 use Rattle.h5_rules.proofs.modes.TemplateRowLaws.{kept_start_template}
 use Rattle.h5_rules.proofs.modes.TextBeginsLaws.{script_begins, text_begins}
 use Rattle.h5_rules.proofs.roles.PlainNameLaws.{set_plain}
-use Rattle.h5_rules.specs.fitting.Roles.{PlainRole, role_of_local}
-use Rattle.h5_rules.proofs.changes.NameLaws.{names-add_to_root, names-insert_and_pop}
-use Rattle.h5_rules.proofs.fitting.OpenLaws.{names_root_open}
-use Rattle.h5_rules.specs.Rows.{AddAttrsToHtml, InsertAndPopElement, IsDone, Row, errs, ignored, next_mode, row}
-use Rattle.h5_rules.proofs.changes.SituationLaws.{situation_add_to_root, situation_leaf}
-use Rattle.h5_tables.specs.TurnText.{TagTurn}
-use Rattle.h5_rules.specs.Changes.{add_attrs_to_html, insert_and_pop_element}
-use Rattle.h5_tables.specs.TagSets.{is_one_of}
-use Rattle.h5_rules.specs.NamedEncoding.{indicates, named_encoding}
+use Rattle.h5_rules.proofs.rows.ByNameLaws.{holds_by_name, holds_chosen, of_named, of_one, ◌&◌}
+use Rattle.h5_rules.proofs.rows.EndingLaws.{EndsTurn}
+use Rattle.h5_rules.proofs.rows.KeptLaws.{FitsAs, Kept, as_before}
 
 -- such a mode comes after the root was made, and those that go by the body are some
 pub left_after_root : (m : InsertionMode) → may_be_left m ≡ true → is_before_root m ≡ false

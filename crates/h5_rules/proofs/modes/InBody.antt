@@ -3,95 +3,73 @@
 use Rattle.std.proofs.Common.{Bool, IsTrue, List, None, Option, Some, [], ap, codes, false, if◌then◌else◌, inl, inr, is_some, not, refl, subst, sym, true, ℕ, ◌&&◌, ◌∙◌, ◌∷◌, ◌≡◌, ◌≢◌, ◌⊎◌}
 use Rattle.h5_names.specs.AttributeText.{AttributeText}
 use Rattle.h5_names.specs.declared.known_name.KnownName.TheVariants.{A, Button, Frameset, Html, Iframe, Nobr, Noembed, Noscript, Optgroup, Plaintext, Select, Table, Textarea, Xmp}
-use Rattle.h5_tables.specs.declared.modes.InsertionMode.TheVariants.{AfterBody, InBody, InTable, Text}
-use Rattle.h5_token.specs.TokenText.{TagText}
-use Rattle.h5_tables.specs.TagSets.{block_end_names, block_start_names, formatting_names, heading_names, implied_names, is_default_scope, is_heading, is_html_named, is_implied, is_list_item_scope, is_one_of, mathml_namespace, svg_namespace}
 use Rattle.h5_names.specs.declared.qualified.QualName.{QualName}
-use Rattle.h5_rules.specs.modes.InBody.{body_ends, body_in_scope, close_open_form, close_the_form, copies_option, description_names, form_in_scope, if_body_in_scope, in_body_end, in_body_end_block, in_body_end_blocks, in_body_end_body, in_body_end_br, in_body_end_description, in_body_end_form, in_body_end_formatting, in_body_end_heading, in_body_end_html, in_body_end_inline, in_body_end_li, in_body_end_marked, in_body_end_option, in_body_end_other, in_body_end_p, in_body_ignored_starts, in_body_marked, in_body_opens, in_body_preformatted, in_body_ruby_bases, in_body_ruby_texts, in_body_start, in_body_start_a, in_body_start_block, in_body_start_blocks, in_body_start_body, in_body_start_button, in_body_start_embedded, in_body_start_foreign, in_body_start_form, in_body_start_formatting, in_body_start_frameset, in_body_start_heading, in_body_start_hr, in_body_start_iframe, in_body_start_image, in_body_start_inline, in_body_start_input, in_body_start_item, in_body_start_marked, in_body_start_nobr, in_body_start_noembed, in_body_start_noscript, in_body_start_optgroup, in_body_start_option, in_body_start_other, in_body_start_part, in_body_start_plaintext, in_body_start_preformatted, in_body_start_ruby_base, in_body_start_ruby_text, in_body_start_select, in_body_start_table, in_body_start_textarea, in_body_start_void, in_body_start_xmp, is_quirks, list_item_names, named_in_scope, oldest_option, outside_names}
-use Rattle.h5_rules.specs.stack.Scope.{comes_before_special, cut_names, has_p_in_button_scope, has_template, in_scope, is_implied_but, second_is}
-use Rattle.h5_rules.specs.Rows.{Again, AgainBy, Answers, Change, ClosePElementInButtonScope, Ending, GenerateImpliedEndExcept, InsertAndPopElement, IsAcknowledged, IsDone, Pop, PopTemplateMode, PopUntilNamed, PushTemplateMode, ReconstructActiveFormattingElements, ResetMode, Row, SaveMode, SetFramesetNotOk, SetMode, SwitchTemplateMode, apply, apply_all, choose, errs, ignored, next_mode, row, row_if}
-use Rattle.h5_rules.specs.modes.Shared.{current_is, head_start_names, in_body_start_html, in_body_text, is_context, is_type_hidden, table_structure_names}
-use Rattle.h5_rules.specs.World.{World, names_of}
-use Rattle.h5_rules.proofs.rows.ListedLaws.{AllListable}
-use Rattle.h5_rules.specs.ByName.{NonePasses, by_kind, by_name, named}
-use Rattle.h5_rules.proofs.rows.ByNameLaws.{ruled, holds_by_name, holds_chosen, of_named, ◌&◌}
-use Rattle.h5_rules.specs.modes.InHead.{in_head_end_template, in_head_start_tag}
-use Rattle.h5_rules.proofs.rows.ToldLaws.{IsTold, NoMode, NoText, Tells, no_mode_no_text}
-use Rattle.h5_names.specs.declared.known_name.KnownName.TheVariants as known
+use Rattle.h5_token.specs.TokenText.{TagText}
+use Rattle.h5_token.specs.declared.states.RawKind.TheVariants.{Rawtext}
+use Rattle.h5_token.specs.declared.tag.TagKind.TheVariants.{EndTag, StartTag}
+use Rattle.h5_token.specs.declared.tag.TagKind.{TagKind}
 use Rattle.h5_interface.specs.SinkChoices.{SinkChoices}
+use Rattle.h5_tables.specs.TagSets.{block_end_names, block_start_names, formatting_names, heading_names, implied_names, is_default_scope, is_heading, is_html_named, is_implied, is_list_item_scope, is_one_of, mathml_namespace, svg_namespace}
+use Rattle.h5_tables.specs.declared.modes.InsertionMode.TheVariants.{AfterBody, InBody, InTable, Text}
 use Rattle.h5_tables.specs.declared.modes.InsertionMode.{InsertionMode}
-use Rattle.h5_rules.specs.stack.Closing.{close_p_element_in_button_scope, generate_implied_end_tags}
-use Rattle.h5_rules.proofs.modes.ReadyInLaws.{ReadyIn, in_agency, in_close_heading, in_close_named, in_close_p, in_close_p_in_scope, in_format, in_frameset_off, in_frameset_text, in_implied, in_insert, in_insert_foreign, in_leaf, in_leaf_foreign, in_misnested_a, in_misnested_nobr, in_pop_heading, in_reconstruct, in_second_attrs, in_text}
-use Rattle.h5_rules.proofs.modes.CloseInLaws.{all_implied_keeps, in_cleared, in_close_except, in_close_other, in_copy, in_ignore_lf, in_implied_except, in_insert_form, in_list_item, in_marker, in_no_form, in_pop, in_remove_form, in_select, in_until, node_in_stack, oldest_is_open}
-use Rattle.h5_rules.specs.fitting.Fits.{goes_by_body}
-use Rattle.h5_rules.specs.formatting.Formatting.{reconstruct_active_formatting_elements}
+use Rattle.h5_rules.specs.ByName.{NonePasses, by_kind, by_name, named}
 use Rattle.h5_rules.specs.Changes.{clear_form, generate_implied_end_except, insert_and_pop_element, insert_element, pop, pop_until_named, save_mode, set_frameset_not_ok, set_frameset_ok_by_text, set_ignore_lf, set_mode}
+use Rattle.h5_rules.specs.Kinds.{is_start}
+use Rattle.h5_rules.specs.Rows.{Again, AgainBy, Answers, Change, ClosePElementInButtonScope, Ending, GenerateImpliedEndExcept, InsertAndPopElement, IsAcknowledged, IsDone, Pop, PopTemplateMode, PopUntilNamed, PushTemplateMode, ReconstructActiveFormattingElements, ResetMode, Row, SaveMode, SetFramesetNotOk, SetMode, SwitchTemplateMode, apply, apply_all, choose, errs, ignored, next_mode, row, row_if}
+use Rattle.h5_rules.specs.Sound.{situation_of}
+use Rattle.h5_rules.specs.World.{World, names_of}
+use Rattle.h5_rules.specs.fitting.Fits.{goes_by_body}
+use Rattle.h5_rules.specs.fitting.NamesFit.{NamesFit, is_html_element}
+use Rattle.h5_rules.specs.fitting.Roles.{BodyRole, FramesetRole, HeadRole, HtmlRole, PlainRole, Role, TemplateRole, role_of_local}
 use Rattle.h5_rules.specs.formatting.AdoptionAgency.{KeepsKinds, handle_misnested_a_tags, handle_misnested_nobr_tags, remove_from_stack}
-use Rattle.h5_rules.specs.fitting.Roles.{BodyRole, CaptionRole, CellRole, ColgroupRole, FramesetRole, HeadRole, HtmlRole, PlainRole, Role, RowRole, SectionRole, TableRole, TemplateRole, is_table_part, role_of_local}
-use Rattle.h5_rules.proofs.roles.TestLaws.{list_item_default}
-use Rattle.h5_rules.proofs.adoption.AdoptionAgencyLaws.{implied_keeps, misnested_nobr_open, until_named_keeps}
-use Rattle.h5_rules.proofs.changes.SoundLaws.{element_is_node}
+use Rattle.h5_rules.specs.formatting.Formatting.{reconstruct_active_formatting_elements}
 use Rattle.h5_rules.specs.formatting.FormattingNames.{html_name}
+use Rattle.h5_rules.specs.insertion.Foreign.{foreign_name}
+use Rattle.h5_rules.specs.modes.InBody.{body_ends, body_in_scope, close_open_form, close_the_form, copies_option, description_names, form_in_scope, if_body_in_scope, in_body_end, in_body_end_block, in_body_end_blocks, in_body_end_body, in_body_end_br, in_body_end_description, in_body_end_form, in_body_end_formatting, in_body_end_heading, in_body_end_html, in_body_end_inline, in_body_end_li, in_body_end_marked, in_body_end_option, in_body_end_other, in_body_end_p, in_body_ignored_starts, in_body_marked, in_body_opens, in_body_preformatted, in_body_ruby_bases, in_body_ruby_texts, in_body_start, in_body_start_a, in_body_start_block, in_body_start_blocks, in_body_start_body, in_body_start_button, in_body_start_embedded, in_body_start_foreign, in_body_start_form, in_body_start_formatting, in_body_start_frameset, in_body_start_heading, in_body_start_hr, in_body_start_iframe, in_body_start_image, in_body_start_inline, in_body_start_input, in_body_start_item, in_body_start_marked, in_body_start_nobr, in_body_start_noembed, in_body_start_noscript, in_body_start_optgroup, in_body_start_option, in_body_start_other, in_body_start_part, in_body_start_plaintext, in_body_start_preformatted, in_body_start_ruby_base, in_body_start_ruby_text, in_body_start_select, in_body_start_table, in_body_start_textarea, in_body_start_void, in_body_start_xmp, is_quirks, list_item_names, named_in_scope, oldest_option, outside_names}
+use Rattle.h5_rules.specs.modes.InHead.{in_head_end_template, in_head_start_tag}
+use Rattle.h5_rules.specs.modes.Shared.{current_is, head_start_names, in_body_start_html, in_body_text, is_context, is_type_hidden, table_structure_names}
+use Rattle.h5_rules.specs.stack.Closing.{close_p_element_in_button_scope, generate_implied_end_tags}
+use Rattle.h5_rules.specs.stack.Expected.{is_expected}
 use Rattle.h5_rules.specs.stack.Order.{IsIn}
+use Rattle.h5_rules.specs.stack.Root.{IsRootOpen}
+use Rattle.h5_rules.specs.stack.Scope.{comes_before_special, cut_names, has_p_in_button_scope, has_template, in_scope, is_implied_but, second_is}
+use Rattle.h5_rules.proofs.BoolLaws.{and_both}
+use Rattle.h5_rules.proofs.adoption.AdoptionAgencyLaws.{implied_keeps, misnested_nobr_open, until_named_keeps}
 use Rattle.h5_rules.proofs.adoption.AdoptionForest.{kinds_trans}
 use Rattle.h5_rules.proofs.changes.ClosingLaws.{block_not_implied, heading_not_implied, named_not_implied, new_p_in_scope}
-use Rattle.h5_rules.proofs.roles.PlainNameLaws.{block_end_plain, block_start_plain, heading_local_plain, known_plain, set_plain}
-use Rattle.h5_rules.specs.insertion.Foreign.{foreign_name}
-use Rattle.h5_rules.specs.fitting.NamesFit.{NamesFit, is_html_element}
-use Rattle.h5_token.specs.declared.tag.TagKind.{TagKind}
-use Rattle.h5_token.specs.declared.tag.TagKind.TheVariants.{EndTag, StartTag}
-use Rattle.h5_rules.specs.Sound.{situation_of}
-use Rattle.h5_rules.specs.stack.Expected.{is_expected}
-use Rattle.h5_rules.specs.stack.Root.{IsRootOpen}
 use Rattle.h5_rules.proofs.changes.ForeignLaws.{mathml_no_html, svg_no_html}
 use Rattle.h5_rules.proofs.changes.FormattingLaws.{reconstruct_opens}
 use Rattle.h5_rules.proofs.changes.ListsLaws.{IsSteady, NeedsOfAll, ready_steady, steady_changes}
 use Rattle.h5_rules.proofs.changes.NameLaws.{names-cut, names-implied, names-insert}
 use Rattle.h5_rules.proofs.changes.SituationLaws.{situation_insert, situation_tree}
+use Rattle.h5_rules.proofs.changes.SoundLaws.{element_is_node}
 use Rattle.h5_rules.proofs.changes.TreeLaws.{tree_implied_except, tree_then, tree_until}
+use Rattle.h5_rules.proofs.fitting.NamesBodyLaws.{MayEnd, is_of_table, names_after_body, names_in_body, names_other_end, plain_where_ruled, role_known}
 use Rattle.h5_rules.proofs.fitting.NamesTableLaws.{names_table_put}
+use Rattle.h5_rules.proofs.modes.CloseInLaws.{all_implied_keeps, in_cleared, in_close_except, in_close_other, in_copy, in_ignore_lf, in_implied_except, in_insert_form, in_list_item, in_marker, in_no_form, in_pop, in_remove_form, in_select, in_until, node_in_stack, oldest_is_open}
+use Rattle.h5_rules.proofs.modes.FramesetRowLaws.{body_replaced}
 use Rattle.h5_rules.proofs.modes.HeadContentLaws.{IsHeadRow, body_left, body_takes, head_content, html_row, noscript_plain, raw_row}
+use Rattle.h5_rules.proofs.modes.ReadyInLaws.{ReadyIn, in_agency, in_close_heading, in_close_named, in_close_p, in_close_p_in_scope, in_format, in_frameset_off, in_frameset_text, in_implied, in_insert, in_insert_foreign, in_leaf, in_leaf_foreign, in_misnested_a, in_misnested_nobr, in_pop_heading, in_reconstruct, in_second_attrs, in_text}
 use Rattle.h5_rules.proofs.modes.TemplateRowLaws.{closed_by_tag}
 use Rattle.h5_rules.proofs.modes.TextBeginsLaws.{text_begins}
+use Rattle.h5_rules.proofs.roles.PlainNameLaws.{block_end_plain, block_start_plain, heading_local_plain, known_plain, set_plain}
 use Rattle.h5_rules.proofs.roles.RoleLaws.{Origin, local_p, origin, role_made}
-use Rattle.h5_rules.proofs.rows.KeptLaws.{FitsAs, changes_mode, fits_at, fits_frameset_off, mode_after, mode_with}
-use Rattle.h5_token.specs.declared.states.RawKind.TheVariants.{Rawtext}
-use Rattle.h5_rules.specs.Kinds.{is_start}
-use Rattle.h5_rules.proofs.BoolLaws.{and_both}
-use Rattle.h5_rules.proofs.fitting.NamesBodyLaws.{MayEnd, names_after_body, names_in_body, names_other_end, role_known}
-use Rattle.h5_rules.proofs.modes.FramesetRowLaws.{body_replaced}
+use Rattle.h5_rules.proofs.roles.TestLaws.{list_item_default}
+use Rattle.h5_rules.proofs.rows.ByNameLaws.{holds_by_name, holds_chosen, of_named, ruled, ◌&◌}
 use Rattle.h5_rules.proofs.rows.EndingLaws.{EndsTurn, RowStops, Silent, Stops, stops_next}
+use Rattle.h5_rules.proofs.rows.KeptLaws.{FitsAs, FitsLeft, changes_mode, fits_at, fits_frameset_off, mode_after, mode_with}
+use Rattle.h5_rules.proofs.rows.ListedLaws.{AllListable}
+use Rattle.h5_rules.proofs.rows.ToldLaws.{IsTold, NoMode, NoText, Tells, no_mode_no_text}
+use Rattle.h5_names.specs.declared.known_name.KnownName.TheVariants as known
 
 -- NAMES
 
 -- any other start tag is of a plain name
 other_start_plain : (l : List ℕ) → NonePasses in_body_start l → role_of_local l ≡ PlainRole
 unfolding in_body_start in_body_start_blocks in_body_start_inline in_body_start_embedded in_body_ignored_starts table_structure_names outside_names head_start_names
-other_start_plain l n = at (role_of_local l) (origin l)
-  where
-    at : (x : Role) → Origin x l → x ≡ PlainRole
-    at PlainRole o = refl
-    at HtmlRole o = absurd (ruled in_body_start (codes "html") l (λ k. cc) o n)
-    at HeadRole o = absurd (ruled in_body_start (codes "head") l (λ k. cc) o n)
-    at BodyRole o = absurd (ruled in_body_start (codes "body") l (λ k. cc) o n)
-    at FramesetRole o = absurd (ruled in_body_start (codes "frameset") l (λ k. cc) o n)
-    at TableRole o = absurd (ruled in_body_start (codes "table") l (λ k. cc) o n)
-    at TemplateRole o = absurd (ruled in_body_start (codes "template") l (λ k. cc) o n)
-    at CaptionRole o = absurd (ruled in_body_start (codes "caption") l (λ k. cc) o n)
-    at ColgroupRole o = absurd (ruled in_body_start (codes "colgroup") l (λ k. cc) o n)
-    at SectionRole (inl o) = absurd (ruled in_body_start (codes "tbody") l (λ k. cc) o n)
-    at SectionRole (inr (inl o)) = absurd (ruled in_body_start (codes "tfoot") l (λ k. cc) o n)
-    at SectionRole (inr (inr o)) = absurd (ruled in_body_start (codes "thead") l (λ k. cc) o n)
-    at RowRole o = absurd (ruled in_body_start (codes "tr") l (λ k. cc) o n)
-    at CellRole (inl o) = absurd (ruled in_body_start (codes "td") l (λ k. cc) o n)
-    at CellRole (inr o) = absurd (ruled in_body_start (codes "th") l (λ k. cc) o n)
+other_start_plain l n = plain_where_ruled in_body_start l ((λ k. cc) & (λ k. cc) & (λ k. cc) & (λ k. cc) & (λ k. cc) & (λ k. cc) & (λ k. cc) & (λ k. cc) & (λ k. cc) & (λ k. cc) & (λ k. cc) & (λ k. cc) & (λ k. cc) & (λ k. cc) & tt) n
 
--- tables and their parts, which the modes of tables name in end tags themselves
-abbrev pub is_of_table : Role → Bool
-is_of_table TableRole = true
-is_of_table n = is_table_part n
-
--- an end tag may name them in the body alone
+-- an end tag may name tables and their parts in the body alone
 abbrev pub NoPartOf : TagKind → List ℕ → Type 0
 NoPartOf StartTag name = Unit {0}
 NoPartOf EndTag name = is_of_table (role_of_local name) ≡ false
@@ -152,10 +130,11 @@ EndsBody html (Answers answer) = Unit {0}
 EndsBody html (Again mode) = (mode ≡ AfterBody) × (html ≡ true)
 EndsBody html (AgainBy mode) = ⊥
 
--- after it all stands, the list agrees with the stack, and the open elements fit the mode that it leaves
+-- after it all stands, the list of active formatting elements agrees with the stack, and the open elements fit the mode
+-- that it leaves
 pub record Leaves (choices : SinkChoices) (m : InsertionMode) (w : World) (r : Row) : Type 0 where
   pub steady : IsSteady (apply_all choices r.changes w)
-  pub fits : FitsAs (mode_with (mode_after choices w m r.changes) (next_mode r.ending (apply_all choices r.changes w))) (apply_all choices r.changes w)
+  pub fits : FitsLeft choices w m r
 
 -- for a tag of a kind and a name
 pub record IsBodyRow (k : TagKind) (name : List ℕ) (w : World) (r : Row) : Type 0 where
@@ -173,7 +152,7 @@ stops_body html (AgainBy mode) h = absurd h
 
 -- a row that ends the turn, by what is left where it may stand
 row_ends : {k : TagKind} {name : List ℕ} {w : World} (r : Row) → EndsTurn (is_start k) r
-    → ((choices : SinkChoices) (m : InsertionMode) → goes_by_body m ≡ true → w.mode ≡ m → ReadyIn m w → NoPart m k name → FitsAs (mode_with (mode_after choices w m r.changes) (next_mode r.ending (apply_all choices r.changes w))) (apply_all choices r.changes w))
+    → ((choices : SinkChoices) (m : InsertionMode) → goes_by_body m ≡ true → w.mode ≡ m → ReadyIn m w → NoPart m k name → FitsLeft choices w m r)
     → IsBodyRow k name w r
 row_ends {k = k} {name = name} {w = w} r x fits = record {
   ends = stops_body (is_end_html k name) r.ending x.stops;
@@ -184,7 +163,7 @@ row_ends {k = k} {name = name} {w = w} r x fits = record {
 
 -- of a start tag, by what its changes need and by what it tells
 row_goes : {name : List ℕ} {w : World} (r : Row) → NeedsOfAll r.changes → IsTold r → RowStops r
-    → ((choices : SinkChoices) (m : InsertionMode) → goes_by_body m ≡ true → w.mode ≡ m → ReadyIn m w → FitsAs (mode_with (mode_after choices w m r.changes) (next_mode r.ending (apply_all choices r.changes w))) (apply_all choices r.changes w))
+    → ((choices : SinkChoices) (m : InsertionMode) → goes_by_body m ≡ true → w.mode ≡ m → ReadyIn m w → FitsLeft choices w m r)
     → IsBodyRow StartTag name w r
 row_goes r needs told stops fits = row_ends r (record { stops = stops; told = told; silent = λ s. absurd (cc); needs = needs }) (λ choices m goes same ready part. fits choices m goes same ready)
 

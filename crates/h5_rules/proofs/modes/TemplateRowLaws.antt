@@ -1,38 +1,38 @@
 -- What the rows of templates keep: after each the open elements fit the mode that it leaves.
-use Rattle.std.proofs.Common.{◌≡◌, true, false, ◌∷◌, Option, codes, refl, ap, sym, subst, ◌∙◌}
+use Rattle.std.proofs.Common.{Option, ap, codes, false, refl, subst, sym, true, ◌∙◌, ◌∷◌, ◌≡◌}
 use Rattle.h5_token.specs.TokenText.{TagText}
 use Rattle.h5_interface.specs.SinkChoices.{SinkChoices}
-use Rattle.h5_tables.specs.declared.modes.InsertionMode.{InsertionMode}
-use Rattle.h5_tables.specs.declared.modes.InsertionMode.TheVariants.{AfterHead, InHead, InTemplate}
-use Rattle.h5_rules.specs.formatting.FormattingList.{MarkerEntry}
-use Rattle.h5_rules.specs.formatting.FormattingNames.{html_name}
-use Rattle.h5_rules.specs.stack.Scope.{cut_names, has_template}
 use Rattle.h5_tables.specs.TagSets.{is_html_named}
-use Rattle.h5_rules.specs.fitting.SituationChanges.{without_template}
+use Rattle.h5_tables.specs.declared.modes.InsertionMode.TheVariants.{AfterHead, InHead, InTemplate}
+use Rattle.h5_tables.specs.declared.modes.InsertionMode.{InsertionMode}
+use Rattle.h5_rules.specs.Changes.{pop_until_named, set_frameset_not_ok, set_mode}
+use Rattle.h5_rules.specs.Sound.{Sound, situation_of}
+use Rattle.h5_rules.specs.World.{World, names_of}
 use Rattle.h5_rules.specs.fitting.Fits.{Situation, goes_by_body, is_template_mode, takes_template}
 use Rattle.h5_rules.specs.fitting.NamesFit.{NamesFit}
+use Rattle.h5_rules.specs.fitting.Reset.{reset_mode}
 use Rattle.h5_rules.specs.fitting.ResetByRoles.{reset}
 use Rattle.h5_rules.specs.fitting.Roles.{Role, TemplateRole, has_role, is_template, role_of_local, roles}
-use Rattle.h5_rules.proofs.fitting.NamesTableLaws.{names_template_closed, names_template_mode, names_template_put}
-use Rattle.h5_rules.proofs.roles.RoleLaws.{role_made}
-use Rattle.h5_rules.proofs.roles.TestLaws.{has_template_test}
+use Rattle.h5_rules.specs.fitting.SituationChanges.{without_template}
 use Rattle.h5_rules.specs.formatting.AdoptionAgency.{KeepsKinds}
-use Rattle.h5_rules.specs.Changes.{pop_until_named, set_frameset_not_ok, set_mode}
-use Rattle.h5_rules.specs.stack.Closing.{generate_implied_end_thoroughly}
 use Rattle.h5_rules.specs.formatting.Formatting.{clear_active_formatting_to_marker, insert_marker}
+use Rattle.h5_rules.specs.formatting.FormattingList.{MarkerEntry}
+use Rattle.h5_rules.specs.formatting.FormattingNames.{html_name}
+use Rattle.h5_rules.specs.insertion.Templates.{insert_template, pop_template_mode, push_template_mode}
 use Rattle.h5_rules.specs.modes.InHead.{in_head_start_template}
 use Rattle.h5_rules.specs.modes.InTemplate.{in_template_as}
-use Rattle.h5_rules.specs.fitting.Reset.{reset_mode}
-use Rattle.h5_rules.specs.Sound.{Sound, situation_of}
-use Rattle.h5_rules.specs.insertion.Templates.{insert_template, pop_template_mode, push_template_mode}
-use Rattle.h5_rules.specs.World.{World, names_of}
+use Rattle.h5_rules.specs.stack.Closing.{generate_implied_end_thoroughly}
+use Rattle.h5_rules.specs.stack.Scope.{cut_names, has_template}
 use Rattle.h5_rules.proofs.adoption.AdoptionForest.{kinds_refl}
 use Rattle.h5_rules.proofs.changes.FormattingLaws.{all_listed}
-use Rattle.h5_rules.proofs.rows.KeptLaws.{FitsAs, Kept, fits_at}
 use Rattle.h5_rules.proofs.changes.NameLaws.{names-cut}
 use Rattle.h5_rules.proofs.changes.SituationLaws.{situation_later, situation_thorough}
 use Rattle.h5_rules.proofs.changes.TemplateLaws.{names-close_template, names-insert_template, situation_insert_template}
 use Rattle.h5_rules.proofs.changes.TreeLaws.{OnlyTree, tree_implied_thoroughly, tree_then}
+use Rattle.h5_rules.proofs.fitting.NamesTableLaws.{names_template_closed, names_template_mode, names_template_put}
+use Rattle.h5_rules.proofs.roles.RoleLaws.{role_made}
+use Rattle.h5_rules.proofs.roles.TestLaws.{has_template_test}
+use Rattle.h5_rules.proofs.rows.KeptLaws.{FitsAs, Kept, fits_at}
 
 is_template_role : role_of_local (codes "template") ≡ TemplateRole
 unfolding role_of_local

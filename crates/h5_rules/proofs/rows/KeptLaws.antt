@@ -36,8 +36,11 @@ abbrev pub FitsAs : InsertionMode → World → Type 0
 FitsAs m w = NamesFit (situation_of w) m (names_of w)
 
 -- after a row in a mode they fit the mode that it leaves
+abbrev pub FitsLeft : SinkChoices → World → InsertionMode → Row → Type 0
+FitsLeft choices w m r = FitsAs (mode_with (mode_after choices w m r.changes) (next_mode r.ending (apply_all choices r.changes w))) (apply_all choices r.changes w)
+
 abbrev pub Kept : SinkChoices → World → InsertionMode → Row → Type 0
-Kept choices w m r = FitsAs m w → FitsAs (mode_with (mode_after choices w m r.changes) (next_mode r.ending (apply_all choices r.changes w))) (apply_all choices r.changes w)
+Kept choices w m r = FitsAs m w → FitsLeft choices w m r
 
 -- names that fit in the situation before fit in the one after
 pub fits_at : (m : InsertionMode) (w v : World) → Sound w → KeepsSituation w v → NamesFit (situation_of w) m (names_of v) → FitsAs m v
