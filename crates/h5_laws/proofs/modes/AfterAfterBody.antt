@@ -10,7 +10,7 @@ use Rattle.h5_rules.specs.ByName.{by_kind, by_name, of_tag}
 use Rattle.h5_rules.specs.World.{World}
 use Rattle.h5_rules.specs.modes.AfterAfterBody.{after_after_body, after_after_body_start, after_after_body_tag}
 use Rattle.h5_rules.specs.modes.AfterBody.{back_to_body}
-use Rattle.h5_rules.proofs.rows.ByNameLaws.{holds_by_name}
+use Rattle.h5_rules.proofs.rows.ByNameLaws.{◌&◌, holds_by_name}
 use Rattle.h5_laws.proofs.LawfulRow.{IsLawfulFor, IsLawfulTag, lawful_nothing}
 use Rattle.h5_laws.proofs.modes.AfterBody.{back_lawful}
 use Rattle.h5_laws.proofs.modes.InBody.{body_text_lawful}
@@ -22,7 +22,7 @@ use Rattle.h5_laws.proofs.turns.Ranks as edges
 tag_lawful : (k : TagKind) (tag : TagText) (w : World) → IsLawfulTag k tag AfterAfterBody w (by_kind k (by_name after_after_body_start (of_tag back_to_body) tag w) (back_to_body (TagTurn tag) w))
 unfolding after_after_body_start
 tag_lawful StartTag tag w = holds_by_name (IsLawfulTag StartTag tag AfterAfterBody w) after_after_body_start (of_tag back_to_body) tag w
-    ((λ p. start_html_lawful AfterAfterBody w tag), tt) (λ n. back_lawful AfterAfterBody w refl (edges.after_after_body (kind_of_start tag.name) (start_no_eof tag.name)))
+    ((λ p. start_html_lawful AfterAfterBody w tag) & tt) (λ n. back_lawful AfterAfterBody w refl (edges.after_after_body (kind_of_start tag.name) (start_no_eof tag.name)))
 tag_lawful EndTag tag w = back_lawful AfterAfterBody w refl (edges.after_after_body (kind_of_end tag.name) (end_no_eof tag.name))
 
 pub lawful_after_after_body : (t : TurnText) (w : World) → IsLawfulFor t AfterAfterBody w (after_after_body t w)

@@ -14,7 +14,7 @@ use Rattle.h5_rules.specs.World.{World, names_of}
 use Rattle.h5_rules.specs.fitting.Fits.{goes_by_body}
 use Rattle.h5_rules.specs.modes.AfterBody.{after_body, after_body_end, after_body_start, after_body_tag, back_to_body}
 use Rattle.h5_rules.proofs.fitting.NamesBodyLaws.{names_after_after_body, names_in_body}
-use Rattle.h5_rules.proofs.rows.ByNameLaws.{holds_by_name}
+use Rattle.h5_rules.proofs.rows.ByNameLaws.{◌&◌, holds_by_name}
 use Rattle.h5_rules.proofs.rows.KeptLaws.{FitsAs, kept_comment_to_root}
 use Rattle.h5_laws.proofs.LawfulRow.{IsLawfulFor, IsLawfulRow, IsLawfulTag, lawful_if_not, lawful_nothing, lawful_row}
 use Rattle.h5_laws.proofs.modes.InBody.{body_text_lawful}
@@ -32,9 +32,9 @@ after_after_body_fits w h = names_after_after_body (situation_of w) (names_of w)
 
 tag_lawful : (k : TagKind) (tag : TagText) (w : World) → IsLawfulTag k tag AfterBody w (by_kind k (by_name after_body_start (of_tag back_to_body) tag w) (by_name after_body_end (of_tag back_to_body) tag w))
 unfolding after_body_start after_body_end names_of
-tag_lawful StartTag tag w = holds_by_name (IsLawfulTag StartTag tag AfterBody w) after_body_start (of_tag back_to_body) tag w ((λ p. start_html_lawful AfterBody w tag), tt) (λ n. back_lawful AfterBody w refl (edges.after_body (kind_of_start tag.name) (start_leaves tag.name)))
+tag_lawful StartTag tag w = holds_by_name (IsLawfulTag StartTag tag AfterBody w) after_body_start (of_tag back_to_body) tag w ((λ p. start_html_lawful AfterBody w tag) & tt) (λ n. back_lawful AfterBody w refl (edges.after_body (kind_of_start tag.name) (start_leaves tag.name)))
 tag_lawful EndTag tag w = holds_by_name (IsLawfulTag EndTag tag AfterBody w) after_body_end (of_tag back_to_body) tag w
-    ((λ p. lawful_if_not (is_some w.context) _ (λ e. lawful_row (row (SetMode AfterAfterBody ∷ []) IsDone) (tt, tt) (λ choices s. after_after_body_fits w) (tt, (refl, tt)) tt tt)), tt)
+    ((λ p. lawful_if_not (is_some w.context) _ (λ e. lawful_row (row (SetMode AfterAfterBody ∷ []) IsDone) (tt, tt) (λ choices s. after_after_body_fits w) (tt, (refl, tt)) tt tt)) & tt)
     (λ n. back_lawful AfterBody w refl (edges.after_body (kind_of_end tag.name) (end_leaves tag.name n.0)))
 
 pub lawful_after_body : (t : TurnText) (w : World) → IsLawfulFor t AfterBody w (after_body t w)

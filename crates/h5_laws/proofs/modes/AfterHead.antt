@@ -32,7 +32,7 @@ use Rattle.h5_rules.proofs.modes.FramesetRowLaws.{kept_after_head_frameset}
 use Rattle.h5_rules.proofs.modes.HeadContentLaws.{IsHeadRow, head_content}
 use Rattle.h5_rules.proofs.modes.TemplateRowLaws.{none_after_head}
 use Rattle.h5_rules.proofs.roles.RoleLaws.{role_made}
-use Rattle.h5_rules.proofs.rows.ByNameLaws.{holds_by_name}
+use Rattle.h5_rules.proofs.rows.ByNameLaws.{◌&◌, holds_by_name}
 use Rattle.h5_rules.proofs.rows.EndingLaws.{RowStops}
 use Rattle.h5_rules.proofs.rows.KeptLaws.{FitsAs, fits_at, fits_frameset_off}
 use Rattle.h5_rules.proofs.rows.ListedLaws.{AllListable}
@@ -110,19 +110,22 @@ with_head_lawful tag w p = record {
 tag_lawful : (k : TagKind) (tag : TagText) (w : World) → IsLawfulTag k tag AfterHead w (by_kind k (by_name after_head_start (of_tag after_head_else) tag w) (by_name after_head_end ignored_tag tag w))
 unfolding after_head_start after_head_end names_of
 tag_lawful StartTag tag w = holds_by_name (IsLawfulTag StartTag tag AfterHead w) after_head_start (of_tag after_head_else) tag w (
-  (λ p. start_html_lawful AfterHead w tag),
-  (
-    (λ p. lawful_row (after_head_start_body tag w) (tt, (tt, (tt, tt)))
-        (λ choices s h. fits_frameset_off InBody (insert_element choices tag.name tag.attrs tag.had_duplicate_attributes w) (body_pushed choices w s.sound tag.name tag.attrs tag.had_duplicate_attributes (named_body choices w s.sound tag.name p) h)) (tt, (refl, tt)) tt tt),
-    (
-      (λ p. lawful_row (after_head_start_frameset tag w) (tt, (tt, tt)) (λ choices s. kept_after_head_frameset choices w s.sound tag p) (tt, (refl, tt)) tt tt),
-      ((λ p. with_head_lawful tag w p), ((λ p. lawful_ignored), tt)),
-    ),
-  ),
-)
+    (λ p. start_html_lawful AfterHead w tag)
+    & (λ p. lawful_row (after_head_start_body tag w) (tt, (tt, (tt, tt)))
+    (λ choices s h. fits_frameset_off InBody (insert_element choices tag.name tag.attrs tag.had_duplicate_attributes w) (body_pushed choices w s.sound tag.name tag.attrs tag.had_duplicate_attributes (named_body choices w s.sound tag.name p) h)) (tt, (refl, tt)) tt tt)
+    & (λ p. lawful_row (after_head_start_frameset tag w) (tt, (tt, tt)) (λ choices s. kept_after_head_frameset choices w s.sound tag p) (tt, (refl, tt)) tt tt)
+    & (λ p. with_head_lawful tag w p)
+    & (λ p. lawful_ignored)
+    & tt
+    )
     (λ n. else_lawful w)
 tag_lawful EndTag tag w = holds_by_name (IsLawfulTag EndTag tag AfterHead w) after_head_end ignored_tag tag w
-    ((λ p. lawful_ignored), ((λ p. no_template_lawful AfterHead w tag (none_after_head w)), ((λ p. else_lawful w), tt))) (λ n. lawful_ignored)
+    (
+    (λ p. lawful_ignored)
+    & (λ p. no_template_lawful AfterHead w tag (none_after_head w))
+    & (λ p. else_lawful w)
+    & tt
+    ) (λ n. lawful_ignored)
 
 pub lawful_after_head : (t : TurnText) (w : World) → IsLawfulFor t AfterHead w (after_head t w)
 unfolding after_head_tag

@@ -23,7 +23,7 @@ use Rattle.h5_rules.proofs.changes.SituationLaws.{situation_head, situation_late
 use Rattle.h5_rules.proofs.fitting.NamesFitLaws.{names_head_pushed}
 use Rattle.h5_rules.proofs.fitting.SituationRoleLaws.{names_later}
 use Rattle.h5_rules.proofs.roles.RoleLaws.{role_made}
-use Rattle.h5_rules.proofs.rows.ByNameLaws.{holds_by_name}
+use Rattle.h5_rules.proofs.rows.ByNameLaws.{◌&◌, holds_by_name}
 use Rattle.h5_rules.proofs.rows.KeptLaws.{FitsAs}
 use Rattle.h5_laws.proofs.LawfulRow.{IsLawfulFor, IsLawfulRow, IsLawfulTag, lawful_ignored, lawful_nothing, lawful_row}
 use Rattle.h5_laws.proofs.modes.SharedRows.{comment_lawful, start_html_lawful}
@@ -50,8 +50,12 @@ else_lawful {c = c} w = lawful_row _ (tt, tt) (λ choices s. head_pushed choices
 tag_lawful : (k : TagKind) (tag : TagText) (w : World) → IsLawfulTag k tag BeforeHead w (by_kind k (by_name before_head_start (of_tag before_head_else) tag w) (by_name before_head_end ignored_tag tag w))
 unfolding before_head_start before_head_end names_of
 tag_lawful StartTag tag w = holds_by_name (IsLawfulTag StartTag tag BeforeHead w) before_head_start (of_tag before_head_else) tag w
-    ((λ p. start_html_lawful BeforeHead w tag), ((λ p. lawful_row (before_head_start_head tag w) (tt, (tt, tt)) (λ choices s h. head_pushed choices w s.sound tag.attrs tag.had_duplicate_attributes h) (tt, (refl, tt)) tt tt), tt)) (λ n. else_lawful w)
-tag_lawful EndTag tag w = holds_by_name (IsLawfulTag EndTag tag BeforeHead w) before_head_end ignored_tag tag w ((λ p. else_lawful w), tt) (λ n. lawful_ignored)
+    (
+    (λ p. start_html_lawful BeforeHead w tag)
+    & (λ p. lawful_row (before_head_start_head tag w) (tt, (tt, tt)) (λ choices s h. head_pushed choices w s.sound tag.attrs tag.had_duplicate_attributes h) (tt, (refl, tt)) tt tt)
+    & tt
+    ) (λ n. else_lawful w)
+tag_lawful EndTag tag w = holds_by_name (IsLawfulTag EndTag tag BeforeHead w) before_head_end ignored_tag tag w ((λ p. else_lawful w) & tt) (λ n. lawful_ignored)
 
 pub lawful_before_head : (t : TurnText) (w : World) → IsLawfulFor t BeforeHead w (before_head t w)
 unfolding before_head_tag

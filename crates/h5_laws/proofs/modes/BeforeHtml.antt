@@ -18,7 +18,7 @@ use Rattle.h5_rules.specs.modes.BeforeHtml.{before_html, before_html_else, befor
 use Rattle.h5_rules.proofs.changes.NameLaws.{names-insert_root}
 use Rattle.h5_rules.proofs.changes.SituationLaws.{situation_root}
 use Rattle.h5_rules.proofs.fitting.NamesFitLaws.{names_root_pushed}
-use Rattle.h5_rules.proofs.rows.ByNameLaws.{holds_by_name}
+use Rattle.h5_rules.proofs.rows.ByNameLaws.{◌&◌, holds_by_name}
 use Rattle.h5_rules.proofs.rows.KeptLaws.{FitsAs, fits_at}
 use Rattle.h5_laws.proofs.LawfulRow.{IsLawfulFor, IsLawfulRow, IsLawfulTag, lawful_ignored, lawful_nothing, lawful_row}
 use Rattle.h5_laws.proofs.modes.SharedRows.{comment_to_document_lawful}
@@ -38,8 +38,8 @@ else_lawful {c = c} w = lawful_row _ (tt, tt) (λ choices s. root_made choices w
 tag_lawful : (k : TagKind) (tag : TagText) (w : World) → IsLawfulTag k tag BeforeHtml w (by_kind k (by_name before_html_start (of_tag before_html_else) tag w) (by_name before_html_end ignored_tag tag w))
 unfolding before_html_start before_html_end names_of
 tag_lawful StartTag tag w = holds_by_name (IsLawfulTag StartTag tag BeforeHtml w) before_html_start (of_tag before_html_else) tag w
-    ((λ p. lawful_row (before_html_start_html tag w) (tt, (tt, tt)) (λ choices s. root_made choices w s.sound tag.attrs) (tt, (refl, tt)) tt tt), tt) (λ n. else_lawful w)
-tag_lawful EndTag tag w = holds_by_name (IsLawfulTag EndTag tag BeforeHtml w) before_html_end ignored_tag tag w ((λ p. else_lawful w), tt) (λ n. lawful_ignored)
+    ((λ p. lawful_row (before_html_start_html tag w) (tt, (tt, tt)) (λ choices s. root_made choices w s.sound tag.attrs) (tt, (refl, tt)) tt tt) & tt) (λ n. else_lawful w)
+tag_lawful EndTag tag w = holds_by_name (IsLawfulTag EndTag tag BeforeHtml w) before_html_end ignored_tag tag w ((λ p. else_lawful w) & tt) (λ n. lawful_ignored)
 
 pub lawful_before_html : (t : TurnText) (w : World) → IsLawfulFor t BeforeHtml w (before_html t w)
 unfolding before_html_tag

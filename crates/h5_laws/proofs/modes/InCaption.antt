@@ -29,7 +29,7 @@ use Rattle.h5_rules.proofs.changes.NameLaws.{names-cut}
 use Rattle.h5_rules.proofs.fitting.NamesBodyLaws.{is_of_table, no_part_where_ruled}
 use Rattle.h5_rules.proofs.fitting.NamesTableLaws.{names_caption_closed}
 use Rattle.h5_rules.proofs.modes.ReadyInLaws.{in_implied, ready_in}
-use Rattle.h5_rules.proofs.rows.ByNameLaws.{holds_by_name, ◌&◌}
+use Rattle.h5_rules.proofs.rows.ByNameLaws.{holds_by_name, ◌&◌, not_ruled}
 use Rattle.h5_rules.proofs.rows.KeptLaws.{FitsAs}
 use Rattle.h5_laws.proofs.LawfulRow.{IsLawfulFor, IsLawfulTag, lawful_if, lawful_ignored, lawful_row}
 use Rattle.h5_laws.proofs.modes.InBody.{body_other_lawful, body_tag_lawful}
@@ -84,11 +84,16 @@ module _ (k : TagKind) (tag : TagText) (w : World) where
 
 tag_lawful : (k : TagKind) (tag : TagText) (w : World) → tag.kind ≡ k → IsLawfulTag k tag InCaption w (by_kind k (by_name in_caption_start (of_tag in_body) tag w) (by_name in_caption_end (of_tag in_body) tag w))
 unfolding in_caption_start in_caption_end in_caption_ignored_ends
-tag_lawful StartTag tag w e = holds_by_name (IsLawfulTag StartTag tag InCaption w) in_caption_start (of_tag in_body) tag w ((λ p. close_lawful StartTag tag w (caption_structure tag.name p)), tt)
+tag_lawful StartTag tag w e = holds_by_name (IsLawfulTag StartTag tag InCaption w) in_caption_start (of_tag in_body) tag w ((λ p. close_lawful StartTag tag w (caption_structure tag.name p)) & tt)
     (λ n. body_tag_lawful InCaption refl w StartTag tag e tt refl)
 tag_lawful EndTag tag w e = holds_by_name (IsLawfulTag EndTag tag InCaption w) in_caption_end (of_tag in_body) tag w
-    ((λ p. end_caption_lawful EndTag tag w), ((λ p. close_lawful EndTag tag w (end_table InCaption InTable tag.name edges.end_part_of_caption p)), ((λ p. lawful_ignored), tt)))
-    (λ n. body_tag_lawful InCaption refl w EndTag tag e (no_part_in_caption tag.name n) (not_named Html in_caption_ignored_ends tag.name refl n.1.1.0))
+    (
+    (λ p. end_caption_lawful EndTag tag w)
+    & (λ p. close_lawful EndTag tag w (end_table InCaption InTable tag.name edges.end_part_of_caption p))
+    & (λ p. lawful_ignored)
+    & tt
+    )
+    (λ n. body_tag_lawful InCaption refl w EndTag tag e (no_part_in_caption tag.name n) (not_ruled in_caption_end Html tag.name (λ k. cc) n))
 
 pub lawful_in_caption : (t : TurnText) (w : World) → IsLawfulFor t InCaption w (in_caption t w)
 unfolding in_caption_tag

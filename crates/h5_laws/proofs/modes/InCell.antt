@@ -30,7 +30,7 @@ use Rattle.h5_rules.proofs.changes.NameLaws.{names-cut, names-until_cell}
 use Rattle.h5_rules.proofs.fitting.NamesBodyLaws.{is_of_table, no_part_where_ruled}
 use Rattle.h5_rules.proofs.fitting.NamesTableLaws.{names_cell_closed, names_cell_ended}
 use Rattle.h5_rules.proofs.modes.ReadyInLaws.{in_implied, ready_in}
-use Rattle.h5_rules.proofs.rows.ByNameLaws.{holds_by_name, ◌&◌}
+use Rattle.h5_rules.proofs.rows.ByNameLaws.{holds_by_name, ◌&◌, not_ruled}
 use Rattle.h5_rules.proofs.rows.KeptLaws.{FitsAs, Kept}
 use Rattle.h5_laws.proofs.LawfulRow.{IsLawfulFor, IsLawfulTag, lawful_if, lawful_ignored, lawful_row}
 use Rattle.h5_laws.proofs.modes.InBody.{body_other_lawful, body_tag_lawful}
@@ -110,11 +110,16 @@ module _ (k : TagKind) (tag : TagText) (w : World) where
 tag_lawful : (k : TagKind) (tag : TagText) (w : World) → tag.kind ≡ k → IsLawfulTag k tag InCell w (by_kind k (by_name in_cell_start (of_tag in_body) tag w) (by_name in_cell_end (of_tag in_body) tag w))
 unfolding in_cell_start in_cell_end in_cell_ignored_ends
 tag_lawful StartTag tag w e = holds_by_name (IsLawfulTag StartTag tag InCell w) in_cell_start (of_tag in_body) tag w
-    ((λ p. start_structure_lawful StartTag tag w (cell_structure tag.name p)), tt)
+    ((λ p. start_structure_lawful StartTag tag w (cell_structure tag.name p)) & tt)
     (λ n. body_tag_lawful InCell refl w StartTag tag e tt refl)
 tag_lawful EndTag tag w e = holds_by_name (IsLawfulTag EndTag tag InCell w) in_cell_end (of_tag in_body) tag w
-    ((λ p. end_cell_lawful EndTag tag w p), ((λ p. end_structure_lawful EndTag tag w (cell_closing_ends tag.name p)), ((λ p. lawful_ignored), tt)))
-    (λ n. body_tag_lawful InCell refl w EndTag tag e (no_part_in_cell tag.name n) (not_named Html in_cell_ignored_ends tag.name refl n.1.1.0))
+    (
+    (λ p. end_cell_lawful EndTag tag w p)
+    & (λ p. end_structure_lawful EndTag tag w (cell_closing_ends tag.name p))
+    & (λ p. lawful_ignored)
+    & tt
+    )
+    (λ n. body_tag_lawful InCell refl w EndTag tag e (no_part_in_cell tag.name n) (not_ruled in_cell_end Html tag.name (λ k. cc) n))
 
 pub lawful_in_cell : (t : TurnText) (w : World) → IsLawfulFor t InCell w (in_cell t w)
 unfolding in_cell_tag

@@ -27,7 +27,7 @@ use Rattle.h5_rules.proofs.fitting.NamesTableLaws.{names_colgroup_popped}
 use Rattle.h5_rules.proofs.modes.HeadContentLaws.{head_content}
 use Rattle.h5_rules.proofs.modes.TemplateRowLaws.{closed_by_tag}
 use Rattle.h5_rules.proofs.roles.RoleLaws.{role_named}
-use Rattle.h5_rules.proofs.rows.ByNameLaws.{holds_by_name, of_named}
+use Rattle.h5_rules.proofs.rows.ByNameLaws.{◌&◌, holds_by_name, of_named}
 use Rattle.h5_rules.proofs.rows.KeptLaws.{FitsAs, fits_at}
 use Rattle.h5_laws.proofs.LawfulRow.{IsLawfulFor, IsLawfulRow, IsLawfulTag, lawful_if, lawful_ignored, lawful_leading, lawful_row}
 use Rattle.h5_laws.proofs.modes.InBody.{body_other_lawful}
@@ -121,15 +121,19 @@ end_colgroup_lawful tag w = lawful_if (current_is (codes "colgroup") w) _ (λ e.
 tag_lawful : (k : TagKind) (tag : TagText) (w : World) → IsLawfulTag k tag InColumnGroup w (by_kind k (by_name in_column_group_start (of_tag in_column_group_else) tag w) (by_name in_column_group_end (of_tag in_column_group_else) tag w))
 unfolding in_column_group_start in_column_group_end
 tag_lawful StartTag tag w = holds_by_name (IsLawfulTag StartTag tag InColumnGroup w) in_column_group_start (of_tag in_column_group_else) tag w (
-  (λ p. start_html_lawful InColumnGroup w tag),
-  (
-    (λ p. lawful_row (in_column_group_start_col tag w) (tt, tt) (λ choices s. leaf_fits choices w s InColumnGroup tag) (tt, tt) tt tt),
-    ((λ p. head_row_lawful InColumnGroup w _ (head_content InColumnGroup refl tag w (template_content tag.name p) (λ q. refl))), tt),
-  ),
-)
+    (λ p. start_html_lawful InColumnGroup w tag)
+    & (λ p. lawful_row (in_column_group_start_col tag w) (tt, tt) (λ choices s. leaf_fits choices w s InColumnGroup tag) (tt, tt) tt tt)
+    & (λ p. head_row_lawful InColumnGroup w _ (head_content InColumnGroup refl tag w (template_content tag.name p) (λ q. refl)))
+    & tt
+    )
     (λ n. close_lawful (kind_of_start tag.name) true (Unit {0}) w (start_leads tag w n.1.0))
 tag_lawful EndTag tag w = holds_by_name (IsLawfulTag EndTag tag InColumnGroup w) in_column_group_end (of_tag in_column_group_else) tag w
-    ((λ p. end_colgroup_lawful tag w), ((λ p. lawful_ignored), ((λ p. end_template_lawful InColumnGroup w tag (λ choices s. closed_by_tag choices w s.sound InColumnGroup refl)), tt)))
+    (
+    (λ p. end_colgroup_lawful tag w)
+    & (λ p. lawful_ignored)
+    & (λ p. end_template_lawful InColumnGroup w tag (λ choices s. closed_by_tag choices w s.sound InColumnGroup refl))
+    & tt
+    )
     (λ n. close_lawful (kind_of_end tag.name) false (Unit {0}) w (λ e. ByEdge (column_end tag.name)))
 
 text_lawful : (w : World) (given : Type 0) → IsLawfulRow InColumnGroup TextTurns false given w (close_the_column_group [] (Again InTable) w)

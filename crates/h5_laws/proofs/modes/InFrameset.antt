@@ -30,7 +30,7 @@ use Rattle.h5_rules.proofs.changes.SituationLaws.{situation_insert, situation_po
 use Rattle.h5_rules.proofs.fitting.NamesTableLaws.{names_frameset_left, names_frameset_popped, names_frameset_pushed}
 use Rattle.h5_rules.proofs.modes.HeadContentLaws.{head_content}
 use Rattle.h5_rules.proofs.roles.RoleLaws.{role_made}
-use Rattle.h5_rules.proofs.rows.ByNameLaws.{holds_by_name, of_named}
+use Rattle.h5_rules.proofs.rows.ByNameLaws.{◌&◌, holds_by_name, of_named}
 use Rattle.h5_rules.proofs.rows.KeptLaws.{FitsAs, Kept, fits_at}
 use Rattle.h5_laws.proofs.LawfulRow.{IsLawfulFor, IsLawfulTag, lawful_choose, lawful_if_not, lawful_ignored, lawful_nothing, lawful_row}
 use Rattle.h5_rules.proofs.modes.FramesetRowLaws.{frameset_role}
@@ -81,14 +81,14 @@ end_frameset_lawful tag w = lawful_if_not (is_root_alone (names_of w)) _ (λ e. 
 tag_lawful : (k : TagKind) (tag : TagText) (w : World) → IsLawfulTag k tag InFrameset w (by_kind k (by_name in_frameset_start ignored_tag tag w) (by_name in_frameset_end ignored_tag tag w))
 unfolding in_frameset_start in_frameset_end
 tag_lawful StartTag tag w = holds_by_name (IsLawfulTag StartTag tag InFrameset w) in_frameset_start ignored_tag tag w (
-  (λ p. start_html_lawful InFrameset w tag),
-  (
-    (λ p. lawful_row (in_frameset_start_frameset tag w) (tt, tt) (λ choices s. kept_frameset choices w s.sound tag p) (tt, tt) tt tt),
-    ((λ p. lawful_row (in_frameset_start_frame tag w) (tt, tt) (λ choices s. leaf_fits choices w s InFrameset tag) (tt, tt) tt tt), ((λ p. noframes_lawful InFrameset w refl tag p), tt)),
-  ),
-)
+    (λ p. start_html_lawful InFrameset w tag)
+    & (λ p. lawful_row (in_frameset_start_frameset tag w) (tt, tt) (λ choices s. kept_frameset choices w s.sound tag p) (tt, tt) tt tt)
+    & (λ p. lawful_row (in_frameset_start_frame tag w) (tt, tt) (λ choices s. leaf_fits choices w s InFrameset tag) (tt, tt) tt tt)
+    & (λ p. noframes_lawful InFrameset w refl tag p)
+    & tt
+    )
     (λ n. lawful_ignored)
-tag_lawful EndTag tag w = holds_by_name (IsLawfulTag EndTag tag InFrameset w) in_frameset_end ignored_tag tag w ((λ p. end_frameset_lawful tag w), tt) (λ n. lawful_ignored)
+tag_lawful EndTag tag w = holds_by_name (IsLawfulTag EndTag tag InFrameset w) in_frameset_end ignored_tag tag w ((λ p. end_frameset_lawful tag w) & tt) (λ n. lawful_ignored)
 
 pub lawful_in_frameset : (t : TurnText) (w : World) → IsLawfulFor t InFrameset w (in_frameset t w)
 unfolding in_frameset_tag

@@ -25,7 +25,7 @@ use Rattle.h5_rules.proofs.fitting.NamesFitLaws.{names_head_popped, names_noscri
 use Rattle.h5_rules.proofs.modes.HeadContentLaws.{head_start_by, noscript_plain, raw_row}
 use Rattle.h5_rules.proofs.modes.TemplateRowLaws.{none_in_head}
 use Rattle.h5_rules.proofs.roles.RoleLaws.{made_named}
-use Rattle.h5_rules.proofs.rows.ByNameLaws.{holds_by_name, of_named}
+use Rattle.h5_rules.proofs.rows.ByNameLaws.{◌&◌, holds_by_name, of_named}
 use Rattle.h5_rules.proofs.rows.KeptLaws.{FitsAs, fits_at}
 use Rattle.h5_laws.proofs.LawfulRow.{IsLawfulFor, IsLawfulRow, IsLawfulTag, lawful_choose, lawful_ignored, lawful_row}
 use Rattle.h5_laws.proofs.modes.SharedRows.{comment_lawful, head_row_lawful, no_template_lawful, text_row_lawful}
@@ -66,7 +66,12 @@ tag_lawful : (k : TagKind) (tag : TagText) (w : World) → IsLawfulTag k tag InH
 unfolding in_head_end names_of
 tag_lawful StartTag tag w = start_lawful tag w
 tag_lawful EndTag tag w = holds_by_name (IsLawfulTag EndTag tag InHead w) in_head_end ignored_tag tag w
-    ((λ p. lawful_row (in_head_end_head tag w) (tt, (tt, tt)) (λ choices s. head_popped choices w s.sound) (tt, (refl, tt)) tt tt), ((λ p. else_lawful w), ((λ p. no_template_lawful InHead w tag (none_in_head w)), tt))) (λ n. lawful_ignored)
+    (
+    (λ p. lawful_row (in_head_end_head tag w) (tt, (tt, tt)) (λ choices s. head_popped choices w s.sound) (tt, (refl, tt)) tt tt)
+    & (λ p. else_lawful w)
+    & (λ p. no_template_lawful InHead w tag (none_in_head w))
+    & tt
+    ) (λ n. lawful_ignored)
 
 pub lawful_in_head : (t : TurnText) (w : World) → IsLawfulFor t InHead w (in_head t w)
 unfolding in_head_tag

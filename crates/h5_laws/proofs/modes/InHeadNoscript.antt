@@ -22,7 +22,7 @@ use Rattle.h5_rules.proofs.changes.PopLaws.{names-pop}
 use Rattle.h5_rules.proofs.changes.SituationLaws.{situation_pop}
 use Rattle.h5_rules.proofs.fitting.NamesFitLaws.{names_noscript_popped}
 use Rattle.h5_rules.proofs.modes.HeadContentLaws.{head_content}
-use Rattle.h5_rules.proofs.rows.ByNameLaws.{holds_by_name, of_named, of_one}
+use Rattle.h5_rules.proofs.rows.ByNameLaws.{◌&◌, holds_by_name, of_named, of_one}
 use Rattle.h5_rules.proofs.rows.KeptLaws.{FitsAs, fits_at}
 use Rattle.h5_laws.proofs.LawfulRow.{IsLawfulFor, IsLawfulRow, IsLawfulTag, lawful_ignored, lawful_row}
 use Rattle.h5_laws.proofs.modes.SharedRows.{comment_lawful, head_row_lawful, start_html_lawful, text_row_lawful}
@@ -51,15 +51,18 @@ else_lawful {c = c} w = lawful_row _ (tt, tt) (λ choices s. noscript_popped cho
 tag_lawful : (k : TagKind) (tag : TagText) (w : World) → IsLawfulTag k tag InHeadNoscript w (by_kind k (by_name in_head_noscript_start (of_tag in_head_noscript_else) tag w) (by_name in_head_noscript_end ignored_tag tag w))
 unfolding in_head_noscript_start in_head_noscript_end names_of
 tag_lawful StartTag tag w = holds_by_name (IsLawfulTag StartTag tag InHeadNoscript w) in_head_noscript_start (of_tag in_head_noscript_else) tag w (
-  (λ p. start_html_lawful InHeadNoscript w tag),
-  (
-    (λ p. head_row_lawful InHeadNoscript w _ (head_content InHeadNoscript refl tag w (noscript_content tag.name p) (λ q. noscript_apart tag.name p q))),
-    ((λ p. lawful_ignored), tt),
-  ),
-)
+    (λ p. start_html_lawful InHeadNoscript w tag)
+    & (λ p. head_row_lawful InHeadNoscript w _ (head_content InHeadNoscript refl tag w (noscript_content tag.name p) (λ q. noscript_apart tag.name p q)))
+    & (λ p. lawful_ignored)
+    & tt
+    )
     (λ n. else_lawful w)
 tag_lawful EndTag tag w = holds_by_name (IsLawfulTag EndTag tag InHeadNoscript w) in_head_noscript_end ignored_tag tag w
-    ((λ p. lawful_row (in_head_noscript_end_noscript tag w) (tt, (tt, tt)) (λ choices s. noscript_popped choices w s.sound) (tt, (refl, tt)) tt tt), ((λ p. else_lawful w), tt)) (λ n. lawful_ignored)
+    (
+    (λ p. lawful_row (in_head_noscript_end_noscript tag w) (tt, (tt, tt)) (λ choices s. noscript_popped choices w s.sound) (tt, (refl, tt)) tt tt)
+    & (λ p. else_lawful w)
+    & tt
+    ) (λ n. lawful_ignored)
 
 pub lawful_in_head_noscript : (t : TurnText) (w : World) → IsLawfulFor t InHeadNoscript w (in_head_noscript t w)
 unfolding in_head_noscript_tag

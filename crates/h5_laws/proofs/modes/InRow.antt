@@ -22,7 +22,7 @@ use Rattle.h5_rules.specs.modes.Tables.{named_in_table_scope, table_section_name
 use Rattle.h5_rules.proofs.changes.ListsLaws.{IsSteady}
 use Rattle.h5_rules.proofs.fitting.NamesTableLaws.{names_cell_put, names_row_closed}
 use Rattle.h5_rules.proofs.roles.RoleLaws.{role_made}
-use Rattle.h5_rules.proofs.rows.ByNameLaws.{holds_by_name}
+use Rattle.h5_rules.proofs.rows.ByNameLaws.{◌&◌, holds_by_name}
 use Rattle.h5_rules.proofs.rows.KeptLaws.{FitsAs}
 use Rattle.h5_laws.proofs.LawfulRow.{IsLawfulFor, IsLawfulTag, lawful_if, lawful_ignored, lawful_row}
 use Rattle.h5_laws.proofs.modes.InTable.{table_other_lawful, table_tag_lawful}
@@ -82,10 +82,20 @@ module _ (k : TagKind) (tag : TagText) (w : World) where
 tag_lawful : (k : TagKind) (tag : TagText) (w : World) → tag.kind ≡ k → IsLawfulTag k tag InRow w (by_kind k (by_name in_row_start (of_tag in_table) tag w) (by_name in_row_end (of_tag in_table) tag w))
 unfolding in_row_start in_row_end
 tag_lawful StartTag tag w e = holds_by_name (IsLawfulTag StartTag tag InRow w) in_row_start (of_tag in_table) tag w
-    ((λ p. start_cell_lawful StartTag tag w p), ((λ p. close_lawful StartTag tag w (row_closing tag.name p)), tt))
+    (
+    (λ p. start_cell_lawful StartTag tag w p)
+    & (λ p. close_lawful StartTag tag w (row_closing tag.name p))
+    & tt
+    )
     (λ n. table_tag_lawful InRow refl w StartTag tag e (λ f. ((λ p. no_col row_closing_names (edges.Again (kind_of_start tag.name) InRow InColumnGroup) tag.name col_closes_row n.1.0 p), (λ p. row_no_part (edges.Again (kind_of_start tag.name) InRow InTableBody) tag.name n.0 n.1.0 p))))
 tag_lawful EndTag tag w e = holds_by_name (IsLawfulTag EndTag tag InRow w) in_row_end (of_tag in_table) tag w
-    ((λ p. end_row_lawful EndTag tag w), ((λ p. close_lawful EndTag tag w (end_table InRow InTableBody tag.name edges.end_part_of_row p)), ((λ p. end_section_lawful EndTag tag w (row_section_ends tag.name p)), ((λ p. lawful_ignored), tt))))
+    (
+    (λ p. end_row_lawful EndTag tag w)
+    & (λ p. close_lawful EndTag tag w (end_table InRow InTableBody tag.name edges.end_part_of_row p))
+    & (λ p. end_section_lawful EndTag tag w (row_section_ends tag.name p))
+    & (λ p. lawful_ignored)
+    & tt
+    )
     (λ n. table_tag_lawful InRow refl w EndTag tag e (λ f. absurd (cc)))
 
 pub lawful_in_row : (t : TurnText) (w : World) → IsLawfulFor t InRow w (in_row t w)

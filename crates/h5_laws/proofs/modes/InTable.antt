@@ -37,7 +37,7 @@ use Rattle.h5_rules.proofs.modes.HeadContentLaws.{body_left, body_takes, head_co
 use Rattle.h5_rules.proofs.modes.InBody.{NoPartOf, is_end_html}
 use Rattle.h5_rules.proofs.modes.TemplateRowLaws.{closed_by_tag}
 use Rattle.h5_rules.proofs.roles.RoleLaws.{role_made}
-use Rattle.h5_rules.proofs.rows.ByNameLaws.{holds_by_name, of_named, of_one, ◌&◌}
+use Rattle.h5_rules.proofs.rows.ByNameLaws.{holds_by_name, of_named, of_one, ◌&◌, not_ruled}
 use Rattle.h5_rules.proofs.rows.EndingLaws.{RowStops}
 use Rattle.h5_rules.proofs.rows.KeptLaws.{FitsAs, Kept, as_before}
 use Rattle.h5_rules.proofs.rows.ToldLaws.{reset_no_text}
@@ -160,31 +160,29 @@ module _ (m : InsertionMode) (table : is_table_mode m ≡ true) (w : World) wher
       → IsLawfulTag StartTag tag m w (by_name in_table_start (of_tag in_table_else) tag w)
   unfolding in_table_start
   table_start_lawful tag e col part = holds_by_name (IsLawfulTag StartTag tag m w) in_table_start (of_tag in_table_else) tag w (
-    (λ p. lawful_leading (in_table_start_caption tag w) (tt, (tt, (tt, (tt, tt)))) (λ choices s same. caption_put choices w s m table same tag p) (tt, (refl, tt)) tt (ByEdge tt)),
-    (
-      (λ p. lawful_leading (in_table_start_colgroup tag w) (tt, (tt, (tt, tt))) (λ choices s same. colgroup_put choices w s m table same tag p) (tt, (refl, tt)) tt (ByEdge tt)),
-      (
-        (λ p. lawful_leading (in_table_start_col tag w) (tt, (tt, tt)) (λ choices s same. col_put choices w s m table same tag) (tt, (refl, tt)) tt (ByEdge (col p))),
-        (
-          (λ p. lawful_leading (in_table_start_section tag w) (tt, (tt, (tt, tt))) (λ choices s same. section_put choices w s m table same tag p) (tt, (refl, tt)) tt (ByEdge tt)),
-          (
-            (λ p. lawful_leading (in_table_start_row_part tag w) (tt, (tt, tt)) (λ choices s same. row_part_put choices w s m table same tag) (tt, (refl, tt)) tt (ByEdge (part p))),
-            (
-              (λ p. start_table_lawful tag p),
-              ((λ p. head_row_lawful m w _ (head_content m (body_left m (table_goes m table)) tag w (table_text_content tag.name p) (λ q. body_takes m (table_goes m table)))), ((λ p. start_input_lawful tag e), ((λ p. start_form_lawful tag), tt))),
-            ),
-          ),
-        ),
-      ),
-    ),
-  )
+      (λ p. lawful_leading (in_table_start_caption tag w) (tt, (tt, (tt, (tt, tt)))) (λ choices s same. caption_put choices w s m table same tag p) (tt, (refl, tt)) tt (ByEdge tt))
+      & (λ p. lawful_leading (in_table_start_colgroup tag w) (tt, (tt, (tt, tt))) (λ choices s same. colgroup_put choices w s m table same tag p) (tt, (refl, tt)) tt (ByEdge tt))
+      & (λ p. lawful_leading (in_table_start_col tag w) (tt, (tt, tt)) (λ choices s same. col_put choices w s m table same tag) (tt, (refl, tt)) tt (ByEdge (col p)))
+      & (λ p. lawful_leading (in_table_start_section tag w) (tt, (tt, (tt, tt))) (λ choices s same. section_put choices w s m table same tag p) (tt, (refl, tt)) tt (ByEdge tt))
+      & (λ p. lawful_leading (in_table_start_row_part tag w) (tt, (tt, tt)) (λ choices s same. row_part_put choices w s m table same tag) (tt, (refl, tt)) tt (ByEdge (part p)))
+      & (λ p. start_table_lawful tag p)
+      & (λ p. head_row_lawful m w _ (head_content m (body_left m (table_goes m table)) tag w (table_text_content tag.name p) (λ q. body_takes m (table_goes m table))))
+      & (λ p. start_input_lawful tag e)
+      & (λ p. start_form_lawful tag)
+      & tt
+      )
       (λ n. fostered_lawful StartTag tag e tt refl)
 
   table_end_lawful : (tag : TagText) → tag.kind ≡ EndTag → IsLawfulTag EndTag tag m w (by_name in_table_end (of_tag in_table_else) tag w)
   unfolding in_table_end in_table_ignored_ends
   table_end_lawful tag e = holds_by_name (IsLawfulTag EndTag tag m w) in_table_end (of_tag in_table_else) tag w
-      ((λ p. end_table_lawful tag), ((λ p. lawful_ignored), ((λ p. end_template_lawful m w tag (λ choices s. closed_by_tag choices w s.sound m (table_goes m table))), tt)))
-      (λ n. fostered_lawful EndTag tag e (no_part_in_table tag.name n) (not_named Html in_table_ignored_ends tag.name refl n.1.0))
+      (
+      (λ p. end_table_lawful tag)
+      & (λ p. lawful_ignored)
+      & (λ p. end_template_lawful m w tag (λ choices s. closed_by_tag choices w s.sound m (table_goes m table)))
+      & tt
+      )
+      (λ n. fostered_lawful EndTag tag e (no_part_in_table tag.name n) (not_ruled in_table_end Html tag.name (λ k. cc) n))
 
   pub table_tag_lawful : (k : TagKind) (tag : TagText) → tag.kind ≡ k → (k ≡ StartTag → (named Col tag.name ≡ true → edges.Again (kind_of_start tag.name) m InColumnGroup) × (is_one_of row_part_names tag.name ≡ true → edges.Again (kind_of_start tag.name) m InTableBody))
       → IsLawfulTag k tag m w (in_table_tag tag w)

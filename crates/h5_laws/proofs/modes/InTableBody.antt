@@ -20,7 +20,7 @@ use Rattle.h5_rules.specs.modes.Tables.{in_table_scope, named_in_table_scope, ta
 use Rattle.h5_rules.proofs.fitting.NamesTableLaws.{names_row_put, names_section_closed, names_section_left}
 use Rattle.h5_rules.proofs.fitting.TableSectionLaws.{section_test}
 use Rattle.h5_rules.proofs.roles.RoleLaws.{role_made}
-use Rattle.h5_rules.proofs.rows.ByNameLaws.{holds_by_name}
+use Rattle.h5_rules.proofs.rows.ByNameLaws.{◌&◌, holds_by_name}
 use Rattle.h5_laws.proofs.LawfulRow.{IsLawfulFor, IsLawfulTag, lawful_if, lawful_ignored, lawful_row}
 use Rattle.h5_laws.proofs.modes.InTable.{table_other_lawful, table_tag_lawful}
 use Rattle.h5_laws.proofs.modes.TablePartLaws.{left_at, put, section_local}
@@ -78,10 +78,20 @@ module _ (k : TagKind) (tag : TagText) (w : World) where
 tag_lawful : (k : TagKind) (tag : TagText) (w : World) → tag.kind ≡ k → IsLawfulTag k tag InTableBody w (by_kind k (by_name in_table_body_start (of_tag in_table) tag w) (by_name in_table_body_end (of_tag in_table) tag w))
 unfolding in_table_body_start in_table_body_end
 tag_lawful StartTag tag w e = holds_by_name (IsLawfulTag StartTag tag InTableBody w) in_table_body_start (of_tag in_table) tag w
-    ((λ p. start_row_lawful StartTag tag w p), ((λ p. start_cell_lawful StartTag tag w (section_cells tag.name p)), ((λ p. close_lawful StartTag tag w (section_closing tag.name p)), tt)))
+    (
+    (λ p. start_row_lawful StartTag tag w p)
+    & (λ p. start_cell_lawful StartTag tag w (section_cells tag.name p))
+    & (λ p. close_lawful StartTag tag w (section_closing tag.name p))
+    & tt
+    )
     (λ n. table_tag_lawful InTableBody refl w StartTag tag e (λ f. ((λ p. no_col section_closing_names (edges.Again (kind_of_start tag.name) InTableBody InColumnGroup) tag.name col_closes_section n.1.1.0 p), (λ p. section_no_part (edges.Again (kind_of_start tag.name) InTableBody InTableBody) tag.name n.0 n.1.0 p))))
 tag_lawful EndTag tag w e = holds_by_name (IsLawfulTag EndTag tag InTableBody w) in_table_body_end (of_tag in_table) tag w
-    ((λ p. end_section_lawful EndTag tag w p), ((λ p. close_lawful EndTag tag w (end_table InTableBody InTable tag.name edges.end_part_of_section p)), ((λ p. lawful_ignored), tt)))
+    (
+    (λ p. end_section_lawful EndTag tag w p)
+    & (λ p. close_lawful EndTag tag w (end_table InTableBody InTable tag.name edges.end_part_of_section p))
+    & (λ p. lawful_ignored)
+    & tt
+    )
     (λ n. table_tag_lawful InTableBody refl w EndTag tag e (λ f. absurd (cc)))
 
 pub lawful_in_table_body : (t : TurnText) (w : World) → IsLawfulFor t InTableBody w (in_table_body t w)

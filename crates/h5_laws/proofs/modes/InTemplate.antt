@@ -14,7 +14,7 @@ use Rattle.h5_rules.specs.fitting.Fits.{is_template_mode}
 use Rattle.h5_rules.specs.modes.InTemplate.{in_template, in_template_as, in_template_end, in_template_part_names, in_template_start, in_template_tag}
 use Rattle.h5_rules.proofs.modes.HeadContentLaws.{head_content}
 use Rattle.h5_rules.proofs.modes.TemplateRowLaws.{closed_by_tag, kept_template_mode}
-use Rattle.h5_rules.proofs.rows.ByNameLaws.{holds_by_name, of_named}
+use Rattle.h5_rules.proofs.rows.ByNameLaws.{◌&◌, holds_by_name, of_named}
 use Rattle.h5_rules.proofs.rows.ToldLaws.{is_text}
 use Rattle.h5_laws.proofs.LawfulRow.{IsLawfulFor, IsLawfulRow, IsLawfulTag, lawful_ignored, lawful_row}
 use Rattle.h5_laws.proofs.modes.InBody.{body_other_lawful}
@@ -60,14 +60,15 @@ as_lawful m tag w h n leads = lawful_row _ (tt, tt) (λ choices s. kept_template
 tag_lawful : (k : TagKind) (tag : TagText) (w : World) → IsLawfulTag k tag InTemplate w (by_kind k (by_name in_template_start (in_template_as InBody) tag w) (by_name in_template_end ignored_tag tag w))
 unfolding in_template_start in_template_end
 tag_lawful StartTag tag w = holds_by_name (IsLawfulTag StartTag tag InTemplate w) in_template_start (in_template_as InBody) tag w (
-  (λ p. head_row_lawful InTemplate w _ (head_content InTemplate refl tag w p (λ q. refl))),
-  (
-    (λ p. as_lawful InTable tag w refl refl (template_part tag.name p)),
-    ((λ p. as_lawful InColumnGroup tag w refl refl (template_col tag.name p)), ((λ p. as_lawful InTableBody tag w refl refl (template_tr tag.name p)), ((λ p. as_lawful InRow tag w refl refl (template_cell tag.name p)), tt))),
-  ),
-)
+    (λ p. head_row_lawful InTemplate w _ (head_content InTemplate refl tag w p (λ q. refl)))
+    & (λ p. as_lawful InTable tag w refl refl (template_part tag.name p))
+    & (λ p. as_lawful InColumnGroup tag w refl refl (template_col tag.name p))
+    & (λ p. as_lawful InTableBody tag w refl refl (template_tr tag.name p))
+    & (λ p. as_lawful InRow tag w refl refl (template_cell tag.name p))
+    & tt
+    )
     (λ n. as_lawful InBody tag w refl refl (template_other tag.name n.1.0 n.1.1.0 n.1.1.1.0 n.1.1.1.1.0))
-tag_lawful EndTag tag w = holds_by_name (IsLawfulTag EndTag tag InTemplate w) in_template_end ignored_tag tag w ((λ p. end_template_lawful InTemplate w tag (λ choices s. closed_by_tag choices w s.sound InTemplate refl)), tt) (λ n. lawful_ignored)
+tag_lawful EndTag tag w = holds_by_name (IsLawfulTag EndTag tag InTemplate w) in_template_end ignored_tag tag w ((λ p. end_template_lawful InTemplate w tag (λ choices s. closed_by_tag choices w s.sound InTemplate refl)) & tt) (λ n. lawful_ignored)
 
 pub lawful_in_template : (t : TurnText) (w : World) → IsLawfulFor t InTemplate w (in_template t w)
 unfolding in_template_tag

@@ -37,7 +37,7 @@ use Rattle.h5_rules.specs.modes.Shared.{head_start_names}
 use Rattle.h5_rules.specs.Sound.{Fits, HasLists, HasHtmlRoot, Sound, situation_of}
 use Rattle.h5_rules.specs.insertion.Templates.{insert_template, push_template_mode}
 use Rattle.h5_rules.specs.World.{World, names_of, root}
-use Rattle.h5_rules.proofs.rows.ByNameLaws.{holds_by_name, of_named}
+use Rattle.h5_rules.proofs.rows.ByNameLaws.{◌&◌, holds_by_name, of_named}
 use Rattle.h5_rules.proofs.changes.FormattingLaws.{all_listed}
 use Rattle.h5_rules.proofs.modes.HeadContentLaws.{head_raw_plain, head_start_passes, script_plain, title_plain, indicates_next}
 use Rattle.h5_rules.proofs.rows.KeptLaws.{FitsAs, Kept, apply_append, as_before, fits_at, mode_after, mode_with}
@@ -69,26 +69,16 @@ unfolding in_head_start in_head_start_tag head_start_names
 content_row tag w p =
     let text = begins_text tag.name tag.attrs tag.had_duplicate_attributes in
     holds_by_name IsContentRow in_head_start (of_tag in_head_else) tag w (
-      (λ q. absurd (apart_known Html tag.name refl p q)),
-      (
-        (λ q. record { changes = puts_leaf tag.name tag.attrs tag.had_duplicate_attributes; ends = λ v. refl }),
-        (
-          (λ q. record { changes = puts_leaf tag.name tag.attrs tag.had_duplicate_attributes; ends = λ v. indicates_next (named_encoding tag.attrs) v }),
-          (
-            (λ q. record { changes = text (title_plain tag.name q); ends = λ v. refl }),
-            (
-              (λ q. record { changes = text (head_raw_plain tag.name q); ends = λ v. refl }),
-              (
-                (λ q. absurd (apart_known Noscript tag.name refl p q)),
-                (
-                  (λ q. record { changes = begins_script tag.attrs tag.had_duplicate_attributes script_plain; ends = λ v. refl }),
-                  ((λ q. record { changes = puts_template tag.attrs tag.had_duplicate_attributes; ends = λ v. refl }), ((λ q. absurd (apart_known Head tag.name refl p q)), tt)),
-                ),
-              ),
-            ),
-          ),
-        ),
-      ),
+    (λ q. absurd (apart_known Html tag.name refl p q))
+    & (λ q. record { changes = puts_leaf tag.name tag.attrs tag.had_duplicate_attributes; ends = λ v. refl })
+    & (λ q. record { changes = puts_leaf tag.name tag.attrs tag.had_duplicate_attributes; ends = λ v. indicates_next (named_encoding tag.attrs) v })
+    & (λ q. record { changes = text (title_plain tag.name q); ends = λ v. refl })
+    & (λ q. record { changes = text (head_raw_plain tag.name q); ends = λ v. refl })
+    & (λ q. absurd (apart_known Noscript tag.name refl p q))
+    & (λ q. record { changes = begins_script tag.attrs tag.had_duplicate_attributes script_plain; ends = λ v. refl })
+    & (λ q. record { changes = puts_template tag.attrs tag.had_duplicate_attributes; ends = λ v. refl })
+    & (λ q. absurd (apart_known Head tag.name refl p q))
+    & tt
     )
     (λ n. absurd (head_start_passes tag.name p n))
 

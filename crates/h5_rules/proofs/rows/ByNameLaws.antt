@@ -34,6 +34,14 @@ holds_by_name P (x ∷ xs) other tag w k o = holds_chosen P (is_among x.0 tag.na
 pub ruled : (rules : Rules) (t l : List ℕ) → (NonePasses rules t → ⊥) → l ≡ t → NonePasses rules l → ⊥
 ruled rules t l some e n = some (subst (NonePasses rules) e n)
 
+-- nor is one that none passes a known name that some rule is for
+pub not_ruled : (rules : Rules) (known : KnownName) (l : List ℕ) → (NonePasses rules (name_text known) → ⊥) → NonePasses rules l → named known l ≡ false
+not_ruled rules known l some n = at (named known l) refl
+  where
+    at : (b : Bool) → named known l ≡ b → b ≡ false
+    at false e = refl
+    at true e = absurd (ruled rules (name_text known) l some ((bytes_eq-Decides l (name_text known)).0 e) n)
+
 -- what holds of a known name holds of a name that is it
 pub of_named : (P : List ℕ → Type 0) (known : KnownName) (l : List ℕ) → P (name_text known) → named known l ≡ true → P l
 of_named P known l a h = subst P (sym ((bytes_eq-Decides l (name_text known)).0 h)) a
