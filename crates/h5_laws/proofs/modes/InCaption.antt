@@ -29,13 +29,13 @@ use Rattle.h5_rules.proofs.changes.NameLaws.{names-cut}
 use Rattle.h5_rules.proofs.fitting.NamesBodyLaws.{is_of_table, no_part_where_ruled}
 use Rattle.h5_rules.proofs.fitting.NamesTableLaws.{names_caption_closed}
 use Rattle.h5_rules.proofs.modes.ReadyInLaws.{in_implied, ready_in}
-use Rattle.h5_rules.proofs.rows.ByNameLaws.{holds_by_name, ◌&◌, not_ruled}
+use Rattle.h5_rules.proofs.rows.ByNameLaws.{holds_by_name, not_ruled, ◌&◌}
 use Rattle.h5_rules.proofs.rows.KeptLaws.{FitsAs}
 use Rattle.h5_laws.proofs.LawfulRow.{IsLawfulFor, IsLawfulTag, lawful_if, lawful_ignored, lawful_row}
 use Rattle.h5_laws.proofs.modes.InBody.{body_other_lawful, body_tag_lawful}
 use Rattle.h5_laws.proofs.modes.TablePartLaws.{fits_cleared, fits_cut_at}
 use Rattle.h5_laws.proofs.turns.AgainLaws.{kind_of_start, kind_of_tag, part_names}
-use Rattle.h5_laws.proofs.turns.RowLeadsLaws.{end_table, not_named, of_set}
+use Rattle.h5_laws.proofs.turns.RowLeadsLaws.{end_table, of_set}
 use Rattle.h5_laws.proofs.turns.Ranks as edges
 
 -- NAMES
@@ -48,7 +48,7 @@ caption_not_implied n h = named_not_implied (codes "caption" ∷ []) (codes "cap
 -- an end tag that a caption doesn't name is of no part of a table
 no_part_in_caption : (l : List ℕ) → NonePasses in_caption_end l → is_of_table (role_of_local l) ≡ false
 unfolding in_caption_end in_caption_ignored_ends
-no_part_in_caption l n = no_part_where_ruled in_caption_end l ((λ k. cc) & (λ k. cc) & (λ k. cc) & (λ k. cc) & (λ k. cc) & (λ k. cc) & (λ k. cc) & (λ k. cc) & (λ k. cc) & tt) n
+no_part_in_caption l n = no_part_where_ruled in_caption_end l refl n
 
 caption_structure : (name : List ℕ) → is_one_of table_structure_names name ≡ true → edges.Again (kind_of_start name) InCaption InTable
 unfolding kind_of_start part_names table_structure_names cell_names
@@ -93,7 +93,7 @@ tag_lawful EndTag tag w e = holds_by_name (IsLawfulTag EndTag tag InCaption w) i
     & (λ p. lawful_ignored)
     & tt
     )
-    (λ n. body_tag_lawful InCaption refl w EndTag tag e (no_part_in_caption tag.name n) (not_ruled in_caption_end Html tag.name (λ k. cc) n))
+    (λ n. body_tag_lawful InCaption refl w EndTag tag e (no_part_in_caption tag.name n) (not_ruled in_caption_end Html tag.name refl n))
 
 pub lawful_in_caption : (t : TurnText) (w : World) → IsLawfulFor t InCaption w (in_caption t w)
 unfolding in_caption_tag

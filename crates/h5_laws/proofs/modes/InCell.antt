@@ -30,13 +30,13 @@ use Rattle.h5_rules.proofs.changes.NameLaws.{names-cut, names-until_cell}
 use Rattle.h5_rules.proofs.fitting.NamesBodyLaws.{is_of_table, no_part_where_ruled}
 use Rattle.h5_rules.proofs.fitting.NamesTableLaws.{names_cell_closed, names_cell_ended}
 use Rattle.h5_rules.proofs.modes.ReadyInLaws.{in_implied, ready_in}
-use Rattle.h5_rules.proofs.rows.ByNameLaws.{holds_by_name, ◌&◌, not_ruled}
+use Rattle.h5_rules.proofs.rows.ByNameLaws.{holds_by_name, not_ruled, ◌&◌}
 use Rattle.h5_rules.proofs.rows.KeptLaws.{FitsAs, Kept}
 use Rattle.h5_laws.proofs.LawfulRow.{IsLawfulFor, IsLawfulTag, lawful_if, lawful_ignored, lawful_row}
 use Rattle.h5_laws.proofs.modes.InBody.{body_other_lawful, body_tag_lawful}
 use Rattle.h5_laws.proofs.modes.TablePartLaws.{cell_local, fits_cleared, fits_cut_at}
 use Rattle.h5_laws.proofs.turns.AgainLaws.{kind_of_end, kind_of_start, kind_of_tag, part_end_names, part_names}
-use Rattle.h5_laws.proofs.turns.RowLeadsLaws.{not_named, of_set}
+use Rattle.h5_laws.proofs.turns.RowLeadsLaws.{of_set}
 use Rattle.h5_laws.proofs.turns.Ranks as edges
 
 -- NAMES
@@ -49,7 +49,7 @@ cell_named_not_implied local p n h = named_not_implied cell_names local n refl p
 -- an end tag that a cell doesn't name is of no part of a table
 no_part_in_cell : (l : List ℕ) → NonePasses in_cell_end l → is_of_table (role_of_local l) ≡ false
 unfolding in_cell_end cell_names in_cell_closing_ends in_cell_ignored_ends
-no_part_in_cell l n = no_part_where_ruled in_cell_end l ((λ k. cc) & (λ k. cc) & (λ k. cc) & (λ k. cc) & (λ k. cc) & (λ k. cc) & (λ k. cc) & (λ k. cc) & (λ k. cc) & tt) n
+no_part_in_cell l n = no_part_where_ruled in_cell_end l refl n
 
 -- a start tag of a part of a table, and an end tag, lead to the row
 cell_structure : (name : List ℕ) → is_one_of table_structure_names name ≡ true → edges.Again (kind_of_start name) InCell InRow
@@ -108,7 +108,7 @@ module _ (k : TagKind) (tag : TagText) (w : World) where
   end_structure_lawful leads = lawful_if (named_in_table_scope tag.name w) (close_the_cell w) (λ e. close_lawful leads)
 
 tag_lawful : (k : TagKind) (tag : TagText) (w : World) → tag.kind ≡ k → IsLawfulTag k tag InCell w (by_kind k (by_name in_cell_start (of_tag in_body) tag w) (by_name in_cell_end (of_tag in_body) tag w))
-unfolding in_cell_start in_cell_end in_cell_ignored_ends
+unfolding in_cell_start in_cell_end cell_names in_cell_closing_ends in_cell_ignored_ends
 tag_lawful StartTag tag w e = holds_by_name (IsLawfulTag StartTag tag InCell w) in_cell_start (of_tag in_body) tag w
     ((λ p. start_structure_lawful StartTag tag w (cell_structure tag.name p)) & tt)
     (λ n. body_tag_lawful InCell refl w StartTag tag e tt refl)
@@ -119,7 +119,7 @@ tag_lawful EndTag tag w e = holds_by_name (IsLawfulTag EndTag tag InCell w) in_c
     & (λ p. lawful_ignored)
     & tt
     )
-    (λ n. body_tag_lawful InCell refl w EndTag tag e (no_part_in_cell tag.name n) (not_ruled in_cell_end Html tag.name (λ k. cc) n))
+    (λ n. body_tag_lawful InCell refl w EndTag tag e (no_part_in_cell tag.name n) (not_ruled in_cell_end Html tag.name refl n))
 
 pub lawful_in_cell : (t : TurnText) (w : World) → IsLawfulFor t InCell w (in_cell t w)
 unfolding in_cell_tag

@@ -37,7 +37,7 @@ use Rattle.h5_rules.proofs.modes.HeadContentLaws.{body_left, body_takes, head_co
 use Rattle.h5_rules.proofs.modes.InBody.{NoPartOf, is_end_html}
 use Rattle.h5_rules.proofs.modes.TemplateRowLaws.{closed_by_tag}
 use Rattle.h5_rules.proofs.roles.RoleLaws.{role_made}
-use Rattle.h5_rules.proofs.rows.ByNameLaws.{holds_by_name, of_named, of_one, ◌&◌, not_ruled}
+use Rattle.h5_rules.proofs.rows.ByNameLaws.{holds_by_name, not_ruled, of_named, of_one, ◌&◌}
 use Rattle.h5_rules.proofs.rows.EndingLaws.{RowStops}
 use Rattle.h5_rules.proofs.rows.KeptLaws.{FitsAs, Kept, as_before}
 use Rattle.h5_rules.proofs.rows.ToldLaws.{reset_no_text}
@@ -48,7 +48,7 @@ use Rattle.h5_laws.proofs.modes.TablePartLaws.{down_situation, form_situation, l
 use Rattle.h5_laws.proofs.turns.AgainLaws.{kind_of_start, kind_of_turn}
 use Rattle.h5_laws.proofs.turns.RankWeightLaws.{closes_templates}
 use Rattle.h5_laws.proofs.turns.Ranks.{StartTableTurns, TextTurns}
-use Rattle.h5_laws.proofs.turns.RowLeadsLaws.{ByEdge, ClosesTable, not_named, of_set}
+use Rattle.h5_laws.proofs.turns.RowLeadsLaws.{ByEdge, ClosesTable, of_set}
 use Rattle.h5_laws.proofs.turns.Ranks as edges
 
 -- NAMES
@@ -56,7 +56,7 @@ use Rattle.h5_laws.proofs.turns.Ranks as edges
 -- an end tag that a table doesn't name is of no part of it
 no_part_in_table : (l : List ℕ) → NonePasses in_table_end l → is_of_table (role_of_local l) ≡ false
 unfolding in_table_end in_table_ignored_ends
-no_part_in_table l n = no_part_where_ruled in_table_end l ((λ k. cc) & (λ k. cc) & (λ k. cc) & (λ k. cc) & (λ k. cc) & (λ k. cc) & (λ k. cc) & (λ k. cc) & (λ k. cc) & tt) n
+no_part_in_table l n = no_part_where_ruled in_table_end l refl n
 
 -- each name that goes by the rules of the head in a table goes so elsewhere, too
 table_text_content : (l : List ℕ) → is_one_of table_text_names l ≡ true → is_one_of head_start_names l ≡ true
@@ -182,7 +182,7 @@ module _ (m : InsertionMode) (table : is_table_mode m ≡ true) (w : World) wher
       & (λ p. end_template_lawful m w tag (λ choices s. closed_by_tag choices w s.sound m (table_goes m table)))
       & tt
       )
-      (λ n. fostered_lawful EndTag tag e (no_part_in_table tag.name n) (not_ruled in_table_end Html tag.name (λ k. cc) n))
+      (λ n. fostered_lawful EndTag tag e (no_part_in_table tag.name n) (not_ruled in_table_end Html tag.name refl n))
 
   pub table_tag_lawful : (k : TagKind) (tag : TagText) → tag.kind ≡ k → (k ≡ StartTag → (named Col tag.name ≡ true → edges.Again (kind_of_start tag.name) m InColumnGroup) × (is_one_of row_part_names tag.name ≡ true → edges.Again (kind_of_start tag.name) m InTableBody))
       → IsLawfulTag k tag m w (in_table_tag tag w)

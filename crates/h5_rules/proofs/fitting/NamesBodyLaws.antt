@@ -4,7 +4,7 @@ use Rattle.std.proofs.lemmas.Slice.Eq.{bytes_eq-Decides}
 use Rattle.h5_names.specs.KnownNames.{name_text}
 use Rattle.h5_names.specs.declared.known_name.KnownName.{KnownName}
 use Rattle.h5_names.specs.declared.qualified.QualName.{QualName}
-use Rattle.h5_tables.specs.TagSets.{is_html_named, is_special}
+use Rattle.h5_tables.specs.TagSets.{is_html_named, is_one_of, is_special}
 use Rattle.h5_tables.specs.declared.modes.InsertionMode.TheVariants.{AfterAfterBody, AfterBody, InBody, InRow, InTable, InTableBody}
 use Rattle.h5_tables.specs.declared.modes.InsertionMode.{InsertionMode}
 use Rattle.h5_rules.specs.ByName.{NonePasses, Rules, named}
@@ -20,7 +20,7 @@ use Rattle.h5_rules.proofs.roles.EndTagLaws.{frame_other_end}
 use Rattle.h5_rules.proofs.roles.RoleLaws.{Origin, origin, role_named}
 use Rattle.h5_rules.proofs.roles.RoleNameLaws.{cut_roles}
 use Rattle.h5_rules.proofs.roles.SetLaws.{ordinary_plain}
-use Rattle.h5_rules.proofs.rows.ByNameLaws.{HoldsOfAll, ruled}
+use Rattle.h5_rules.proofs.rows.ByNameLaws.{all_ruled, are_ruled}
 
 module _ (s : Situation) (ns : List QualName) where
   -- what fits a mode that goes by the body fits the body, and what comes after it
@@ -74,39 +74,45 @@ abbrev pub is_of_table : Role → Bool
 is_of_table TableRole = true
 is_of_table n = is_table_part n
 
--- where some rules are for each name of a table and its parts, a name that none of them is for is of no such
-abbrev of_table_names : List (List ℕ)
-of_table_names = codes "table" ∷ codes "caption" ∷ codes "colgroup" ∷ codes "tbody" ∷ codes "tfoot" ∷ codes "thead" ∷ codes "tr" ∷ codes "td" ∷ codes "th" ∷ []
+-- where some rule is for each name of a table and its parts, a name that no rule is for is none of them
+abbrev part_names : List (List ℕ)
+part_names = codes "table" ∷ codes "caption" ∷ codes "colgroup" ∷ codes "tbody" ∷ codes "tfoot" ∷ codes "thead" ∷ codes "tr" ∷ codes "td" ∷ codes "th" ∷ []
 
-pub no_part_where_ruled : (rules : Rules) (l : List ℕ) → HoldsOfAll (λ t. NonePasses rules t → ⊥) of_table_names → NonePasses rules l → is_of_table (role_of_local l) ≡ false
+pub no_part_where_ruled : (rules : Rules) (l : List ℕ) → are_ruled rules part_names ≡ true → NonePasses rules l → is_of_table (role_of_local l) ≡ false
 no_part_where_ruled rules l h n = at (role_of_local l) (origin l)
   where
+    never : {A : Type 0} (t : List ℕ) → is_one_of part_names t ≡ true → l ≡ t → A
+    never t i e = absurd (all_ruled rules part_names l h (subst (λ s. is_one_of part_names s ≡ true) (sym e) i) n)
+
     at : (x : Role) → Origin x l → is_of_table x ≡ false
-    at TableRole o = absurd (ruled rules (codes "table") l h.0 o n)
-    at CaptionRole o = absurd (ruled rules (codes "caption") l h.1.0 o n)
-    at ColgroupRole o = absurd (ruled rules (codes "colgroup") l h.1.1.0 o n)
-    at SectionRole (inl o) = absurd (ruled rules (codes "tbody") l h.1.1.1.0 o n)
-    at SectionRole (inr (inl o)) = absurd (ruled rules (codes "tfoot") l h.1.1.1.1.0 o n)
-    at SectionRole (inr (inr o)) = absurd (ruled rules (codes "thead") l h.1.1.1.1.1.0 o n)
-    at RowRole o = absurd (ruled rules (codes "tr") l h.1.1.1.1.1.1.0 o n)
-    at CellRole (inl o) = absurd (ruled rules (codes "td") l h.1.1.1.1.1.1.1.0 o n)
-    at CellRole (inr o) = absurd (ruled rules (codes "th") l h.1.1.1.1.1.1.1.1.0 o n)
+    at TableRole o = never (codes "table") refl o
+    at CaptionRole o = never (codes "caption") refl o
+    at ColgroupRole o = never (codes "colgroup") refl o
+    at SectionRole (inl o) = never (codes "tbody") refl o
+    at SectionRole (inr (inl o)) = never (codes "tfoot") refl o
+    at SectionRole (inr (inr o)) = never (codes "thead") refl o
+    at RowRole o = never (codes "tr") refl o
+    at CellRole (inl o) = never (codes "td") refl o
+    at CellRole (inr o) = never (codes "th") refl o
     at _ o = refl
 
--- and where they are for each name besides that has a role of its own, it is plain
-abbrev role_names : List (List ℕ)
-role_names = codes "html" ∷ codes "head" ∷ codes "body" ∷ codes "frameset" ∷ codes "template" ∷ of_table_names
+-- and where one is for each other name that has a role of its own, it is plain
+abbrev frame_names : List (List ℕ)
+frame_names = codes "html" ∷ codes "head" ∷ codes "body" ∷ codes "frameset" ∷ codes "template" ∷ []
 
-pub plain_where_ruled : (rules : Rules) (l : List ℕ) → HoldsOfAll (λ t. NonePasses rules t → ⊥) role_names → NonePasses rules l → role_of_local l ≡ PlainRole
-plain_where_ruled rules l h n = at (role_of_local l) (origin l) (no_part_where_ruled rules l h.1.1.1.1.1 n)
+pub plain_where_ruled : (rules : Rules) (l : List ℕ) → are_ruled rules part_names ≡ true → are_ruled rules frame_names ≡ true → NonePasses rules l → role_of_local l ≡ PlainRole
+plain_where_ruled rules l parts frame n = at (role_of_local l) (origin l) (no_part_where_ruled rules l parts n)
   where
+    never : {A : Type 0} (t : List ℕ) → is_one_of frame_names t ≡ true → l ≡ t → A
+    never t i e = absurd (all_ruled rules frame_names l frame (subst (λ s. is_one_of frame_names s ≡ true) (sym e) i) n)
+
     at : (x : Role) → Origin x l → is_of_table x ≡ false → x ≡ PlainRole
     at PlainRole o p = refl
-    at HtmlRole o p = absurd (ruled rules (codes "html") l h.0 o n)
-    at HeadRole o p = absurd (ruled rules (codes "head") l h.1.0 o n)
-    at BodyRole o p = absurd (ruled rules (codes "body") l h.1.1.0 o n)
-    at FramesetRole o p = absurd (ruled rules (codes "frameset") l h.1.1.1.0 o n)
-    at TemplateRole o p = absurd (ruled rules (codes "template") l h.1.1.1.1.0 o n)
+    at HtmlRole o p = never (codes "html") refl o
+    at HeadRole o p = never (codes "head") refl o
+    at BodyRole o p = never (codes "body") refl o
+    at FramesetRole o p = never (codes "frameset") refl o
+    at TemplateRole o p = never (codes "template") refl o
     at _ o p = absurd (cc)
 
 -- what an end tag that no rule names may name, by its role: parts of tables in the body alone, since the other modes

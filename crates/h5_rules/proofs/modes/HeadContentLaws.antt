@@ -27,7 +27,7 @@ use Rattle.h5_rules.proofs.fitting.OpenLaws.{names_root_open}
 use Rattle.h5_rules.proofs.modes.TemplateRowLaws.{kept_start_template}
 use Rattle.h5_rules.proofs.modes.TextBeginsLaws.{script_begins, text_begins}
 use Rattle.h5_rules.proofs.roles.PlainNameLaws.{set_plain}
-use Rattle.h5_rules.proofs.rows.ByNameLaws.{holds_by_name, holds_chosen, of_named, of_one, ◌&◌}
+use Rattle.h5_rules.proofs.rows.ByNameLaws.{all_ruled, holds_by_name, holds_chosen, of_named, ◌&◌}
 use Rattle.h5_rules.proofs.rows.EndingLaws.{EndsTurn}
 use Rattle.h5_rules.proofs.rows.KeptLaws.{FitsAs, Kept, as_before}
 
@@ -82,7 +82,7 @@ script_plain = head_text_plain (codes "script") refl
 -- each start tag that goes so elsewhere has a rule there, and none is `noscript`
 pub head_start_passes : (l : List ℕ) → is_one_of head_start_names l ≡ true → NonePasses in_head_start l → ⊥
 unfolding head_start_names in_head_start in_head_links in_head_raw
-head_start_passes l h = of_one (λ s. NonePasses in_head_start s → ⊥) head_start_names l ((λ n. cc) & (λ n. cc) & (λ n. cc) & (λ n. cc) & (λ n. cc) & (λ n. cc) & (λ n. cc) & (λ n. cc) & (λ n. cc) & (λ n. cc) & tt) h
+head_start_passes l h n = all_ruled in_head_start head_start_names l refl h n
 
 apart_noscript : (l : List ℕ) → is_one_of head_start_names l ≡ true → named Noscript l ≡ true → ⊥
 unfolding head_start_names

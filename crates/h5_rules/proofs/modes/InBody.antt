@@ -15,7 +15,7 @@ use Rattle.h5_tables.specs.declared.modes.InsertionMode.{InsertionMode}
 use Rattle.h5_rules.specs.ByName.{NonePasses, by_kind, by_name, named}
 use Rattle.h5_rules.specs.Changes.{clear_form, generate_implied_end_except, insert_and_pop_element, insert_element, pop, pop_until_named, save_mode, set_frameset_not_ok, set_frameset_ok_by_text, set_ignore_lf, set_mode}
 use Rattle.h5_rules.specs.Kinds.{is_start}
-use Rattle.h5_rules.specs.Rows.{Again, AgainBy, Answers, Change, ClosePElementInButtonScope, Ending, GenerateImpliedEndExcept, InsertAndPopElement, IsAcknowledged, IsDone, Pop, PopTemplateMode, PopUntilNamed, PushTemplateMode, ReconstructActiveFormattingElements, ResetMode, Row, SaveMode, SetFramesetNotOk, SetMode, SwitchTemplateMode, apply, apply_all, choose, errs, ignored, next_mode, row, row_if}
+use Rattle.h5_rules.specs.Rows.{Again, AgainBy, Answers, Change, ClosePElementInButtonScope, Ending, GenerateImpliedEndExcept, InsertAndPopElement, IsAcknowledged, IsDone, Pop, PopTemplateMode, PopUntilNamed, PushTemplateMode, ReconstructActiveFormattingElements, ResetMode, Row, SaveMode, SetFramesetNotOk, SetMode, SwitchTemplateMode, apply, apply_all, choose, errs, ignored, row, row_if}
 use Rattle.h5_rules.specs.Sound.{situation_of}
 use Rattle.h5_rules.specs.World.{World, names_of}
 use Rattle.h5_rules.specs.fitting.Fits.{goes_by_body}
@@ -25,7 +25,7 @@ use Rattle.h5_rules.specs.formatting.AdoptionAgency.{KeepsKinds, handle_misneste
 use Rattle.h5_rules.specs.formatting.Formatting.{reconstruct_active_formatting_elements}
 use Rattle.h5_rules.specs.formatting.FormattingNames.{html_name}
 use Rattle.h5_rules.specs.insertion.Foreign.{foreign_name}
-use Rattle.h5_rules.specs.modes.InBody.{body_ends, body_in_scope, close_open_form, close_the_form, copies_option, description_names, form_in_scope, if_body_in_scope, in_body_end, in_body_end_block, in_body_end_blocks, in_body_end_body, in_body_end_br, in_body_end_description, in_body_end_form, in_body_end_formatting, in_body_end_heading, in_body_end_html, in_body_end_inline, in_body_end_li, in_body_end_marked, in_body_end_option, in_body_end_other, in_body_end_p, in_body_ignored_starts, in_body_marked, in_body_opens, in_body_preformatted, in_body_ruby_bases, in_body_ruby_texts, in_body_start, in_body_start_a, in_body_start_block, in_body_start_blocks, in_body_start_body, in_body_start_button, in_body_start_embedded, in_body_start_foreign, in_body_start_form, in_body_start_formatting, in_body_start_frameset, in_body_start_heading, in_body_start_hr, in_body_start_iframe, in_body_start_image, in_body_start_inline, in_body_start_input, in_body_start_item, in_body_start_marked, in_body_start_nobr, in_body_start_noembed, in_body_start_noscript, in_body_start_optgroup, in_body_start_option, in_body_start_other, in_body_start_part, in_body_start_plaintext, in_body_start_preformatted, in_body_start_ruby_base, in_body_start_ruby_text, in_body_start_select, in_body_start_table, in_body_start_textarea, in_body_start_void, in_body_start_xmp, is_quirks, list_item_names, named_in_scope, oldest_option, outside_names}
+use Rattle.h5_rules.specs.modes.InBody.{body_ends, body_in_scope, close_open_form, close_the_form, copies_option, description_names, form_in_scope, if_body_in_scope, in_body_end, in_body_end_block, in_body_end_blocks, in_body_end_body, in_body_end_br, in_body_end_description, in_body_end_form, in_body_end_formatting, in_body_end_heading, in_body_end_html, in_body_end_inline, in_body_end_li, in_body_end_marked, in_body_end_option, in_body_end_other, in_body_end_p, in_body_ignored_starts, in_body_marked, in_body_opens, in_body_parts, in_body_preformatted, in_body_ruby_bases, in_body_ruby_texts, in_body_start, in_body_start_a, in_body_start_block, in_body_start_blocks, in_body_start_body, in_body_start_button, in_body_start_embedded, in_body_start_foreign, in_body_start_form, in_body_start_formatting, in_body_start_frameset, in_body_start_heading, in_body_start_hr, in_body_start_iframe, in_body_start_image, in_body_start_inline, in_body_start_input, in_body_start_item, in_body_start_marked, in_body_start_nobr, in_body_start_noembed, in_body_start_noscript, in_body_start_optgroup, in_body_start_option, in_body_start_other, in_body_start_part, in_body_start_plaintext, in_body_start_preformatted, in_body_start_ruby_base, in_body_start_ruby_text, in_body_start_select, in_body_start_table, in_body_start_textarea, in_body_start_void, in_body_start_xmp, in_body_void, is_quirks, list_item_names, named_in_scope, oldest_option, outside_names}
 use Rattle.h5_rules.specs.modes.InHead.{in_head_end_template, in_head_start_tag}
 use Rattle.h5_rules.specs.modes.Shared.{current_is, head_start_names, in_body_start_html, in_body_text, is_context, is_type_hidden, table_structure_names}
 use Rattle.h5_rules.specs.stack.Closing.{close_p_element_in_button_scope, generate_implied_end_tags}
@@ -66,8 +66,8 @@ use Rattle.h5_names.specs.declared.known_name.KnownName.TheVariants as known
 
 -- any other start tag is of a plain name
 other_start_plain : (l : List ℕ) → NonePasses in_body_start l → role_of_local l ≡ PlainRole
-unfolding in_body_start in_body_start_blocks in_body_start_inline in_body_start_embedded in_body_ignored_starts table_structure_names outside_names head_start_names
-other_start_plain l n = plain_where_ruled in_body_start l ((λ k. cc) & (λ k. cc) & (λ k. cc) & (λ k. cc) & (λ k. cc) & (λ k. cc) & (λ k. cc) & (λ k. cc) & (λ k. cc) & (λ k. cc) & (λ k. cc) & (λ k. cc) & (λ k. cc) & (λ k. cc) & tt) n
+unfolding in_body_start in_body_start_blocks in_body_start_inline in_body_start_embedded in_body_ignored_starts table_structure_names outside_names head_start_names block_start_names heading_names in_body_preformatted list_item_names description_names formatting_names in_body_marked in_body_void in_body_parts in_body_ruby_bases in_body_ruby_texts
+other_start_plain l n = plain_where_ruled in_body_start l refl refl n
 
 -- an end tag may name tables and their parts in the body alone
 abbrev pub NoPartOf : TagKind → List ℕ → Type 0
@@ -78,16 +78,16 @@ abbrev pub NoPart : InsertionMode → TagKind → List ℕ → Type 0
 NoPart m k name = (m ≡ InBody) ⊎ NoPartOf k name
 
 other_end : (m : InsertionMode) (l : List ℕ) → NonePasses in_body_end l → NoPart m EndTag l → MayEnd m (role_of_local l)
-unfolding in_body_end in_body_end_blocks in_body_end_inline
+unfolding in_body_end in_body_end_blocks in_body_end_inline block_end_names list_item_names description_names heading_names formatting_names in_body_marked
 other_end m l n part = at (role_of_local l) (origin l) part
   where
     at : (x : Role) → Origin x l → (m ≡ InBody) ⊎ (is_of_table x ≡ false) → MayEnd m x
     at PlainRole o p = tt
     at HeadRole o p = tt
     at FramesetRole o p = tt
-    at HtmlRole o p = ruled in_body_end (codes "html") l (λ k. cc) o n
-    at BodyRole o p = ruled in_body_end (codes "body") l (λ k. cc) o n
-    at TemplateRole o p = ruled in_body_end (codes "template") l (λ k. cc) o n
+    at HtmlRole o p = ruled in_body_end (codes "html") l refl o n
+    at BodyRole o p = ruled in_body_end (codes "body") l refl o n
+    at TemplateRole o p = ruled in_body_end (codes "template") l refl o n
     at _ o (inl e) = e
     at _ o (inr e) = absurd (cc)
 
