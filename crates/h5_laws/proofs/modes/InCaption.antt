@@ -29,13 +29,13 @@ use Rattle.h5_rules.proofs.changes.NameLaws.{names-cut}
 use Rattle.h5_rules.proofs.fitting.NamesBodyLaws.{is_of_table, no_part_where_ruled}
 use Rattle.h5_rules.proofs.fitting.NamesTableLaws.{names_caption_closed}
 use Rattle.h5_rules.proofs.modes.ReadyInLaws.{in_implied, ready_in}
-use Rattle.h5_rules.proofs.rows.ByNameLaws.{holds_by_name, not_ruled, ◌&◌}
+use Rattle.h5_rules.proofs.rows.ByNameLaws.{holds_by_name, not_ruled, of_one, ◌&◌}
 use Rattle.h5_rules.proofs.rows.KeptLaws.{FitsAs}
 use Rattle.h5_laws.proofs.LawfulRow.{IsLawfulFor, IsLawfulTag, lawful_if, lawful_ignored, lawful_row}
 use Rattle.h5_laws.proofs.modes.InBody.{body_other_lawful, body_tag_lawful}
 use Rattle.h5_laws.proofs.modes.TablePartLaws.{fits_cleared, fits_cut_at}
 use Rattle.h5_laws.proofs.turns.AgainLaws.{kind_of_start, kind_of_tag, part_names}
-use Rattle.h5_laws.proofs.turns.RowLeadsLaws.{end_table, of_set}
+use Rattle.h5_laws.proofs.turns.RowLeadsLaws.{end_table}
 use Rattle.h5_laws.proofs.turns.Ranks as edges
 
 -- NAMES
@@ -53,7 +53,7 @@ no_part_in_caption l n = no_part_where_ruled in_caption_end l refl n
 caption_structure : (name : List ℕ) → is_one_of table_structure_names name ≡ true → edges.Again (kind_of_start name) InCaption InTable
 unfolding kind_of_start part_names table_structure_names cell_names
 caption_structure name h =
-    of_set (λ n. edges.Again (kind_of_start n) InCaption InTable) table_structure_names name
+    of_one (λ n. edges.Again (kind_of_start n) InCaption InTable) table_structure_names name
     (edges.part_of_caption, (edges.col_of_caption, (edges.part_of_caption, (edges.part_of_caption, (edges.cell_of_caption, (edges.part_of_caption, (edges.cell_of_caption, (edges.part_of_caption, (edges.row_of_caption, tt))))))))) h
 
 -- THE OPEN ELEMENTS

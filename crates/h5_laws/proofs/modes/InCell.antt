@@ -30,13 +30,12 @@ use Rattle.h5_rules.proofs.changes.NameLaws.{names-cut, names-until_cell}
 use Rattle.h5_rules.proofs.fitting.NamesBodyLaws.{is_of_table, no_part_where_ruled}
 use Rattle.h5_rules.proofs.fitting.NamesTableLaws.{names_cell_closed, names_cell_ended}
 use Rattle.h5_rules.proofs.modes.ReadyInLaws.{in_implied, ready_in}
-use Rattle.h5_rules.proofs.rows.ByNameLaws.{holds_by_name, not_ruled, ◌&◌}
+use Rattle.h5_rules.proofs.rows.ByNameLaws.{holds_by_name, not_ruled, of_one, ◌&◌}
 use Rattle.h5_rules.proofs.rows.KeptLaws.{FitsAs, Kept}
 use Rattle.h5_laws.proofs.LawfulRow.{IsLawfulFor, IsLawfulTag, lawful_if, lawful_ignored, lawful_row}
 use Rattle.h5_laws.proofs.modes.InBody.{body_other_lawful, body_tag_lawful}
 use Rattle.h5_laws.proofs.modes.TablePartLaws.{cell_local, fits_cleared, fits_cut_at}
 use Rattle.h5_laws.proofs.turns.AgainLaws.{kind_of_end, kind_of_start, kind_of_tag, part_end_names, part_names}
-use Rattle.h5_laws.proofs.turns.RowLeadsLaws.{of_set}
 use Rattle.h5_laws.proofs.turns.Ranks as edges
 
 -- NAMES
@@ -55,13 +54,13 @@ no_part_in_cell l n = no_part_where_ruled in_cell_end l refl n
 cell_structure : (name : List ℕ) → is_one_of table_structure_names name ≡ true → edges.Again (kind_of_start name) InCell InRow
 unfolding kind_of_start part_names table_structure_names cell_names
 cell_structure name h =
-    of_set (λ n. edges.Again (kind_of_start n) InCell InRow) table_structure_names name
+    of_one (λ n. edges.Again (kind_of_start n) InCell InRow) table_structure_names name
     (edges.part_of_cell, (edges.col_of_cell, (edges.part_of_cell, (edges.part_of_cell, (edges.cell_of_cell, (edges.part_of_cell, (edges.cell_of_cell, (edges.part_of_cell, (edges.row_of_cell, tt))))))))) h
 
 cell_closing_ends : (name : List ℕ) → is_one_of in_cell_closing_ends name ≡ true → edges.Again (kind_of_end name) InCell InRow
 unfolding kind_of_end part_end_names in_cell_closing_ends
 cell_closing_ends name h =
-    of_set (λ n. edges.Again (kind_of_end n) InCell InRow) in_cell_closing_ends name
+    of_one (λ n. edges.Again (kind_of_end n) InCell InRow) in_cell_closing_ends name
     (edges.end_part_of_cell, (edges.end_part_of_cell, (edges.end_part_of_cell, (edges.end_part_of_cell, (edges.end_part_of_cell, tt))))) h
 
 -- THE OPEN ELEMENTS

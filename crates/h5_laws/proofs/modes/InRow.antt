@@ -22,13 +22,13 @@ use Rattle.h5_rules.specs.modes.Tables.{named_in_table_scope, table_section_name
 use Rattle.h5_rules.proofs.changes.ListsLaws.{IsSteady}
 use Rattle.h5_rules.proofs.fitting.NamesTableLaws.{names_cell_put, names_row_closed}
 use Rattle.h5_rules.proofs.roles.RoleLaws.{role_made}
-use Rattle.h5_rules.proofs.rows.ByNameLaws.{◌&◌, holds_by_name}
+use Rattle.h5_rules.proofs.rows.ByNameLaws.{holds_by_name, of_one, ◌&◌}
 use Rattle.h5_rules.proofs.rows.KeptLaws.{FitsAs}
 use Rattle.h5_laws.proofs.LawfulRow.{IsLawfulFor, IsLawfulTag, lawful_if, lawful_ignored, lawful_row}
 use Rattle.h5_laws.proofs.modes.InTable.{table_other_lawful, table_tag_lawful}
 use Rattle.h5_laws.proofs.modes.TablePartLaws.{cell_local, left_at, put}
 use Rattle.h5_laws.proofs.turns.AgainLaws.{kind_of_end, kind_of_start, kind_of_tag, part_end_names, part_names}
-use Rattle.h5_laws.proofs.turns.RowLeadsLaws.{either_of, end_table, no_col, of_set}
+use Rattle.h5_laws.proofs.turns.RowLeadsLaws.{either_of, end_table, no_col}
 use Rattle.h5_laws.proofs.turns.Ranks as edges
 
 -- NAMES
@@ -36,18 +36,18 @@ use Rattle.h5_laws.proofs.turns.Ranks as edges
 row_closing : (name : List ℕ) → is_one_of row_closing_names name ≡ true → edges.Again (kind_of_start name) InRow InTableBody
 unfolding kind_of_start part_names cell_names row_closing_names
 row_closing name h =
-    of_set (λ n. edges.Again (kind_of_start n) InRow InTableBody) row_closing_names name
+    of_one (λ n. edges.Again (kind_of_start n) InRow InTableBody) row_closing_names name
     (edges.part_of_row, (edges.col_of_row, (edges.part_of_row, (edges.part_of_row, (edges.part_of_row, (edges.part_of_row, (edges.row_of_row, tt))))))) h
 
 row_section_ends : (name : List ℕ) → is_one_of table_section_names name ≡ true → edges.Again (kind_of_end name) InRow InTableBody
 unfolding kind_of_end part_end_names table_section_names
 row_section_ends name h =
-    of_set (λ n. edges.Again (kind_of_end n) InRow InTableBody) table_section_names name (edges.end_part_of_row, (edges.end_part_of_row, (edges.end_part_of_row, tt))) h
+    of_one (λ n. edges.Again (kind_of_end n) InRow InTableBody) table_section_names name (edges.end_part_of_row, (edges.end_part_of_row, (edges.end_part_of_row, tt))) h
 
 row_no_part : (A : Type 0) (name : List ℕ) → is_one_of cell_names name ≡ false → is_one_of row_closing_names name ≡ false → is_one_of row_part_names name ≡ true → A
 unfolding cell_names row_part_names row_closing_names
 row_no_part A name a b h =
-    absurd (either_of (is_one_of cell_names name) (is_one_of row_closing_names name) (of_set (λ n. (is_one_of cell_names n || is_one_of row_closing_names n) ≡ true) row_part_names name (refl, (refl, (refl, tt))) h) a b)
+    absurd (either_of (is_one_of cell_names name) (is_one_of row_closing_names name) (of_one (λ n. (is_one_of cell_names n || is_one_of row_closing_names n) ≡ true) row_part_names name (refl, (refl, (refl, tt))) h) a b)
 
 col_closes_row : is_one_of row_closing_names (name_text Col) ≡ true
 unfolding row_closing_names

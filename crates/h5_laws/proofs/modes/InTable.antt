@@ -48,7 +48,7 @@ use Rattle.h5_laws.proofs.modes.TablePartLaws.{down_situation, form_situation, l
 use Rattle.h5_laws.proofs.turns.AgainLaws.{kind_of_start, kind_of_turn}
 use Rattle.h5_laws.proofs.turns.RankWeightLaws.{closes_templates}
 use Rattle.h5_laws.proofs.turns.Ranks.{StartTableTurns, TextTurns}
-use Rattle.h5_laws.proofs.turns.RowLeadsLaws.{ByEdge, ClosesTable, of_set}
+use Rattle.h5_laws.proofs.turns.RowLeadsLaws.{ByEdge, ClosesTable}
 use Rattle.h5_laws.proofs.turns.Ranks as edges
 
 -- NAMES
@@ -206,7 +206,7 @@ table_col name h = of_named (λ n. edges.Again (kind_of_start n) InTable InColum
 
 table_part : (name : List ℕ) → is_one_of row_part_names name ≡ true → edges.Again (kind_of_start name) InTable InTableBody
 unfolding kind_of_start cell_names row_part_names
-table_part name h = of_set (λ n. edges.Again (kind_of_start n) InTable InTableBody) row_part_names name (edges.cell_of_table, (edges.cell_of_table, (edges.row_of_table, tt))) h
+table_part name h = of_one (λ n. edges.Again (kind_of_start n) InTable InTableBody) row_part_names name (edges.cell_of_table, (edges.cell_of_table, (edges.row_of_table, tt))) h
 
 pub lawful_in_table : (t : TurnText) (w : World) → IsLawfulFor t InTable w (in_table t w)
 lawful_in_table (TagTurn tag) w = table_tag_lawful InTable refl w tag.kind tag refl (λ f. ((λ p. table_col tag.name p), (λ p. table_part tag.name p)))

@@ -20,12 +20,12 @@ use Rattle.h5_rules.specs.modes.Tables.{in_table_scope, named_in_table_scope, ta
 use Rattle.h5_rules.proofs.fitting.NamesTableLaws.{names_row_put, names_section_closed, names_section_left}
 use Rattle.h5_rules.proofs.fitting.TableSectionLaws.{section_test}
 use Rattle.h5_rules.proofs.roles.RoleLaws.{role_made}
-use Rattle.h5_rules.proofs.rows.ByNameLaws.{◌&◌, holds_by_name}
+use Rattle.h5_rules.proofs.rows.ByNameLaws.{holds_by_name, of_one, ◌&◌}
 use Rattle.h5_laws.proofs.LawfulRow.{IsLawfulFor, IsLawfulTag, lawful_if, lawful_ignored, lawful_row}
 use Rattle.h5_laws.proofs.modes.InTable.{table_other_lawful, table_tag_lawful}
 use Rattle.h5_laws.proofs.modes.TablePartLaws.{left_at, put, section_local}
 use Rattle.h5_laws.proofs.turns.AgainLaws.{kind_of_start, kind_of_tag, part_names}
-use Rattle.h5_laws.proofs.turns.RowLeadsLaws.{either_of, end_table, no_col, of_set}
+use Rattle.h5_laws.proofs.turns.RowLeadsLaws.{either_of, end_table, no_col}
 use Rattle.h5_rules.proofs.fitting.NamesBodyLaws.{role_known}
 use Rattle.h5_laws.proofs.turns.Ranks as edges
 
@@ -33,17 +33,17 @@ use Rattle.h5_laws.proofs.turns.Ranks as edges
 
 section_cells : (name : List ℕ) → is_one_of cell_names name ≡ true → edges.Again (kind_of_start name) InTableBody InRow
 unfolding kind_of_start cell_names
-section_cells name h = of_set (λ n. edges.Again (kind_of_start n) InTableBody InRow) cell_names name (edges.cell_of_section, (edges.cell_of_section, tt)) h
+section_cells name h = of_one (λ n. edges.Again (kind_of_start n) InTableBody InRow) cell_names name (edges.cell_of_section, (edges.cell_of_section, tt)) h
 
 section_closing : (name : List ℕ) → is_one_of section_closing_names name ≡ true → edges.Again (kind_of_start name) InTableBody InTable
 unfolding kind_of_start part_names cell_names section_closing_names
 section_closing name h =
-    of_set (λ n. edges.Again (kind_of_start n) InTableBody InTable) section_closing_names name
+    of_one (λ n. edges.Again (kind_of_start n) InTableBody InTable) section_closing_names name
     (edges.part_of_section, (edges.col_of_section, (edges.part_of_section, (edges.part_of_section, (edges.part_of_section, (edges.part_of_section, tt)))))) h
 
 section_no_part : (A : Type 0) (name : List ℕ) → named Tr name ≡ false → is_one_of cell_names name ≡ false → is_one_of row_part_names name ≡ true → A
 unfolding cell_names row_part_names
-section_no_part A name a b h = absurd (either_of (named Tr name) (is_one_of cell_names name) (of_set (λ n. (named Tr n || is_one_of cell_names n) ≡ true) row_part_names name (refl, (refl, (refl, tt))) h) a b)
+section_no_part A name a b h = absurd (either_of (named Tr name) (is_one_of cell_names name) (of_one (λ n. (named Tr n || is_one_of cell_names n) ≡ true) row_part_names name (refl, (refl, (refl, tt))) h) a b)
 
 col_closes_section : is_one_of section_closing_names (name_text Col) ≡ true
 unfolding section_closing_names

@@ -14,23 +14,22 @@ use Rattle.h5_rules.specs.fitting.Fits.{is_template_mode}
 use Rattle.h5_rules.specs.modes.InTemplate.{in_template, in_template_as, in_template_end, in_template_part_names, in_template_start, in_template_tag}
 use Rattle.h5_rules.proofs.modes.HeadContentLaws.{head_content}
 use Rattle.h5_rules.proofs.modes.TemplateRowLaws.{closed_by_tag, kept_template_mode}
-use Rattle.h5_rules.proofs.rows.ByNameLaws.{◌&◌, holds_by_name, of_named}
+use Rattle.h5_rules.proofs.rows.ByNameLaws.{holds_by_name, of_named, of_one, ◌&◌}
 use Rattle.h5_rules.proofs.rows.ToldLaws.{is_text}
 use Rattle.h5_laws.proofs.LawfulRow.{IsLawfulFor, IsLawfulRow, IsLawfulTag, lawful_ignored, lawful_row}
 use Rattle.h5_laws.proofs.modes.InBody.{body_other_lawful}
 use Rattle.h5_laws.proofs.modes.SharedRows.{end_template_lawful, eof_template_lawful, head_row_lawful}
 use Rattle.h5_laws.proofs.turns.AgainLaws.{kind_of_start, part_names}
 use Rattle.h5_laws.proofs.turns.Ranks.{CellTurns, ColTurns, OtherTurns, PartTurns, RowTurns, StartTableTurns, TurnKind}
-use Rattle.h5_laws.proofs.turns.RowLeadsLaws.{of_set}
 use Rattle.h5_laws.proofs.turns.Ranks as edges
 
 template_part : (name : List ℕ) → is_one_of in_template_part_names name ≡ true → edges.Again (kind_of_start name) InTemplate InTable
 unfolding kind_of_start part_names cell_names in_template_part_names
-template_part name h = of_set (λ n. edges.Again (kind_of_start n) InTemplate InTable) in_template_part_names name (edges.part_of_template, (edges.part_of_template, (edges.part_of_template, (edges.part_of_template, (edges.part_of_template, tt))))) h
+template_part name h = of_one (λ n. edges.Again (kind_of_start n) InTemplate InTable) in_template_part_names name (edges.part_of_template, (edges.part_of_template, (edges.part_of_template, (edges.part_of_template, (edges.part_of_template, tt))))) h
 
 template_cell : (name : List ℕ) → is_one_of cell_names name ≡ true → edges.Again (kind_of_start name) InTemplate InRow
 unfolding kind_of_start cell_names
-template_cell name h = of_set (λ n. edges.Again (kind_of_start n) InTemplate InRow) cell_names name (edges.cell_of_template, (edges.cell_of_template, tt)) h
+template_cell name h = of_one (λ n. edges.Again (kind_of_start n) InTemplate InRow) cell_names name (edges.cell_of_template, (edges.cell_of_template, tt)) h
 
 template_col : (name : List ℕ) → named Col name ≡ true → edges.Again (kind_of_start name) InTemplate InColumnGroup
 unfolding kind_of_start cell_names

@@ -1,7 +1,5 @@
 -- To which modes a row leads.
-use Rattle.std.proofs.Common.{Bool, List, [], codes, false, refl, subst, true, ℕ, ◌++◌, ◌||◌, ◌∷◌, ◌≡◌}
-use Rattle.std.proofs.lemmas.Slice.Eq.{bytes_eq-Decides}
-use Rattle.h5_names.specs.AttributeText.{is_same_text}
+use Rattle.std.proofs.Common.{Bool, List, [], codes, false, refl, true, ℕ, ◌++◌, ◌||◌, ◌∷◌, ◌≡◌}
 use Rattle.h5_names.specs.KnownNames.{name_text}
 use Rattle.h5_names.specs.declared.known_name.KnownName.TheVariants.{Col, Table}
 use Rattle.h5_names.specs.declared.known_name.KnownName.{KnownName}
@@ -18,20 +16,12 @@ use Rattle.h5_rules.specs.modes.Shared.{current_is}
 use Rattle.h5_rules.specs.modes.Tables.{named_in_table_scope}
 use Rattle.h5_rules.specs.modes.TextMode.{marks_script}
 use Rattle.h5_rules.specs.stack.Scope.{has_template}
-use Rattle.h5_rules.proofs.rows.ByNameLaws.{HoldsOfAll, of_named}
+use Rattle.h5_rules.proofs.rows.ByNameLaws.{of_named}
 use Rattle.h5_rules.proofs.rows.EndingLaws.{RowStops}
 use Rattle.h5_laws.proofs.turns.AgainLaws.{Leads, kind_of_end, part_end_names, stops_leads}
 use Rattle.h5_laws.proofs.turns.RankWeightLaws.{closes_templates, is_text}
 use Rattle.h5_laws.proofs.turns.Ranks.{EndPartTurns, EofTurns, StartTableTurns, TurnKind}
 use Rattle.h5_laws.proofs.turns.Ranks as edges
-
-pub of_set : (P : List ℕ → Type 0) (set : List (List ℕ)) (l : List ℕ) → HoldsOfAll P set → is_one_of set l ≡ true → P l
-of_set P [] l a h = absurd (cc)
-of_set P (t ∷ set) l a h = at (is_same_text t l) refl h (of_set P set l a.1)
-  where
-    at : (b : Bool) → is_same_text t l ≡ b → (b || is_one_of set l) ≡ true → (is_one_of set l ≡ true → P l) → P l
-    at true e k f = subst P ((bytes_eq-Decides t l).0 e) a.0
-    at false e k f = f k
 
 -- a name that is in no set isn't any of its names
 pub not_named : (known : KnownName) (set : List (List ℕ)) (l : List ℕ) → is_one_of set (name_text known) ≡ true → is_one_of set l ≡ false → named known l ≡ false

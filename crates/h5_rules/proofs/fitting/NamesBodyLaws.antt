@@ -75,14 +75,14 @@ is_of_table TableRole = true
 is_of_table n = is_table_part n
 
 -- where some rule is for each name of a table and its parts, a name that no rule is for is none of them
-abbrev part_names : List (List ℕ)
-part_names = codes "table" ∷ codes "caption" ∷ codes "colgroup" ∷ codes "tbody" ∷ codes "tfoot" ∷ codes "thead" ∷ codes "tr" ∷ codes "td" ∷ codes "th" ∷ []
+abbrev of_table_names : List (List ℕ)
+of_table_names = codes "table" ∷ codes "caption" ∷ codes "colgroup" ∷ codes "tbody" ∷ codes "tfoot" ∷ codes "thead" ∷ codes "tr" ∷ codes "td" ∷ codes "th" ∷ []
 
-pub no_part_where_ruled : (rules : Rules) (l : List ℕ) → are_ruled rules part_names ≡ true → NonePasses rules l → is_of_table (role_of_local l) ≡ false
+pub no_part_where_ruled : (rules : Rules) (l : List ℕ) → are_ruled rules of_table_names ≡ true → NonePasses rules l → is_of_table (role_of_local l) ≡ false
 no_part_where_ruled rules l h n = at (role_of_local l) (origin l)
   where
-    never : {A : Type 0} (t : List ℕ) → is_one_of part_names t ≡ true → l ≡ t → A
-    never t i e = absurd (all_ruled rules part_names l h (subst (λ s. is_one_of part_names s ≡ true) (sym e) i) n)
+    never : {A : Type 0} (t : List ℕ) → is_one_of of_table_names t ≡ true → l ≡ t → A
+    never t i e = absurd (all_ruled rules of_table_names l h (subst (λ s. is_one_of of_table_names s ≡ true) (sym e) i) n)
 
     at : (x : Role) → Origin x l → is_of_table x ≡ false
     at TableRole o = never (codes "table") refl o
@@ -100,7 +100,7 @@ no_part_where_ruled rules l h n = at (role_of_local l) (origin l)
 abbrev frame_names : List (List ℕ)
 frame_names = codes "html" ∷ codes "head" ∷ codes "body" ∷ codes "frameset" ∷ codes "template" ∷ []
 
-pub plain_where_ruled : (rules : Rules) (l : List ℕ) → are_ruled rules part_names ≡ true → are_ruled rules frame_names ≡ true → NonePasses rules l → role_of_local l ≡ PlainRole
+pub plain_where_ruled : (rules : Rules) (l : List ℕ) → are_ruled rules of_table_names ≡ true → are_ruled rules frame_names ≡ true → NonePasses rules l → role_of_local l ≡ PlainRole
 plain_where_ruled rules l parts frame n = at (role_of_local l) (origin l) (no_part_where_ruled rules l parts n)
   where
     never : {A : Type 0} (t : List ℕ) → is_one_of frame_names t ≡ true → l ≡ t → A
