@@ -9,7 +9,7 @@ use Rattle.h5_rules.specs.fitting.Reset.{reset_mode}
 use Rattle.h5_rules.specs.Run.{View}
 use Rattle.h5_rules.specs.Sound.{Fitting}
 use Rattle.h5_rules.specs.World.{World}
-use Rattle.h5_rules.proofs.rows.ToldLaws.{is_text, reset_no_text}
+use Rattle.h5_rules.proofs.rows.RowTexts.{is_text, reset_no_text}
 use Rattle.h5_tree_builder.specs.Builder.{first_building}
 use Rattle.h5_tree_builder.specs.Fragment.{first_fragment, rooted_world}
 use Rattle.h5_driver.specs.Working.{Begins, IsReady, IsWorking}

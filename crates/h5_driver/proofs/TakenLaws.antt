@@ -14,7 +14,7 @@ use Rattle.h5_rules.specs.Run.{View, after_token, is_refused_in_text, refuses_in
 use Rattle.h5_laws.proofs.kept.FittingLaws.{step_fitting}
 use Rattle.h5_laws.proofs.cuts.RunLaws.{is_taken}
 use Rattle.h5_laws.proofs.replies.TextReadLaws.{IsCalm, Leads, TagLeads, TokenLeads, mode_is_text, step_leads}
-use Rattle.h5_rules.proofs.rows.ToldLaws.{NoTextBehind, is_text}
+use Rattle.h5_rules.proofs.rows.RowTexts.{NoTextBehind, is_text}
 use Rattle.h5_reading.specs.Answers.{refuses}
 use Rattle.h5_reading.specs.Taking.{Finishes, Takes}
 use Rattle.h5_driver.specs.Working.{IsReady, after, ended, replies}

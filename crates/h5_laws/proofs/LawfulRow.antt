@@ -16,10 +16,10 @@ use Rattle.h5_rules.proofs.rows.ByNameLaws.{holds_chosen}
 use Rattle.h5_rules.proofs.rows.EndingLaws.{EndsTurn, RowStops, Silent, stops_blind}
 use Rattle.h5_rules.proofs.rows.KeptLaws.{FitsAs, Kept, apply_append, kept_foster}
 use Rattle.h5_rules.proofs.rows.ListedLaws.{AllListable}
-use Rattle.h5_rules.proofs.rows.ToldLaws.{IsTold, Tells, is_text, told_append}
+use Rattle.h5_rules.proofs.rows.RowTexts.{IsTold, Tells, is_text, told_append}
 use Rattle.h5_laws.proofs.turns.AgainLaws.{Leads, kind_of_tag, kind_of_turn, stops_leads}
 use Rattle.h5_laws.proofs.turns.Ranks.{TurnKind}
-use Rattle.h5_laws.proofs.turns.RowLeadsLaws.{ByEdge, RowLeads, stops}
+use Rattle.h5_laws.proofs.turns.RowEdges.{ByEdge, RowLeads, stops}
 
 -- of a row for a token of a kind, a start tag or not, where this is given of the token
 pub record IsLawfulRow (m : InsertionMode) (c : TurnKind) (starts : Bool) (given : Type 0) (w : World) (r : Row) : Type 0 where

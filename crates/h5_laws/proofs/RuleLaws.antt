@@ -11,9 +11,9 @@ use Rattle.h5_rules.specs.modes.Modes.{rule}
 use Rattle.h5_rules.proofs.changes.ListsLaws.{IsSteady}
 use Rattle.h5_rules.proofs.rows.EndingLaws.{Silent}
 use Rattle.h5_rules.proofs.rows.KeptLaws.{FitsAs, changes_mode, mode_with}
-use Rattle.h5_rules.proofs.rows.ToldLaws.{IsTold, is_text}
+use Rattle.h5_rules.proofs.rows.RowTexts.{IsTold, is_text}
 use Rattle.h5_laws.proofs.LawfulRow.{IsLawfulFor, is_start_turn}
-use Rattle.h5_laws.proofs.kept.FitsLaws.{FitsAfter, fits_set}
+use Rattle.h5_laws.proofs.kept.SetModeLaws.{FitsAfter, fits_set}
 use Rattle.h5_laws.proofs.modes.AfterAfterBody.{lawful_after_after_body}
 use Rattle.h5_laws.proofs.modes.AfterAfterFrameset.{lawful_after_after_frameset}
 use Rattle.h5_laws.proofs.modes.AfterBody.{lawful_after_body}
@@ -36,7 +36,7 @@ use Rattle.h5_laws.proofs.modes.InTemplate.{lawful_in_template}
 use Rattle.h5_laws.proofs.modes.InitialMode.{lawful_initial}
 use Rattle.h5_laws.proofs.modes.TextMode.{lawful_text_mode}
 use Rattle.h5_laws.proofs.turns.AgainLaws.{kind_of_turn}
-use Rattle.h5_laws.proofs.turns.RowLeadsLaws.{RowLeads}
+use Rattle.h5_laws.proofs.turns.RowEdges.{RowLeads}
 
 -- each row of each mode
 lawful_rule : (m : InsertionMode) (t : TurnText) (w : World) → IsLawfulFor t m w (rule m t w)

@@ -1,5 +1,5 @@
 -- What a builder keeps is kept by each rule, and so by each token.
 pub mod DoctypeLaws
-pub mod FitsLaws
+pub mod SetModeLaws
 pub mod FittingLaws
-pub mod ForeignFitLaws
+pub mod DispatchLaws

@@ -5,6 +5,6 @@ pub mod ForeignTurnLaws
 pub mod RankLaws
 pub mod RankWeightLaws
 pub mod Ranks
-pub mod RowLeadsLaws
+pub mod RowEdges
 pub mod SettleLaws
 pub mod TurnLaws

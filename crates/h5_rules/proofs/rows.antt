@@ -5,4 +5,4 @@ pub mod KeptLaws
 pub mod KnownRuleLaws
 pub mod ListedLaws
 pub mod MarkLaws
-pub mod ToldLaws
+pub mod RowTexts

@@ -13,7 +13,7 @@ use Rattle.h5_rules.specs.modes.Modes.{rule}
 use Rattle.h5_rules.specs.Rows.{Change, Follows, Row, apply_all}
 use Rattle.h5_rules.specs.Sound.{Fitting}
 use Rattle.h5_rules.specs.World.{World}
-use Rattle.h5_laws.proofs.kept.ForeignFitLaws.{leaves_fitting}
+use Rattle.h5_laws.proofs.kept.DispatchLaws.{leaves_fitting}
 use Rattle.h5_laws.proofs.modes.ForeignModeLaws.{foreign_mode}
 use Rattle.h5_laws.proofs.modes.ForeignRowLaws.{any_has, dispatch_foreign, dispatch_html, each_step}
 use Rattle.h5_rules.proofs.BoolLaws.{and_both}

@@ -42,7 +42,7 @@ use Rattle.h5_rules.specs.modes.Tables.{foster}
 use Rattle.h5_rules.specs.Text.{after_row, all_blanks, by_else, closes_column_group, dropped, foreign_text, fostered_text, if_any, in_next, split, text_after_body, text_after_head, text_before_head, text_before_html, text_in, text_in_body, text_in_column_group, text_in_head, text_in_head_noscript, text_in_table, text_in_table_text, text_initial, text_rule, unless_foreign}
 use Rattle.h5_rules.specs.insertion.Place.{place}
 use Rattle.h5_rules.specs.World.{World, name_in, name_of_found, names_of}
-use Rattle.h5_laws.proofs.kept.ForeignFitLaws.{KeptBy, rule_kept, text_fitting}
+use Rattle.h5_laws.proofs.kept.DispatchLaws.{KeptBy, rule_kept, text_fitting}
 use Rattle.h5_laws.proofs.modes.ForeignModeLaws.{foreign_mode, html_first, html_not_foreign}
 use Rattle.h5_rules.proofs.changes.FormattingLaws.{root_anew, sound_anew}
 use Rattle.h5_rules.proofs.rows.KeptLaws.{kept_append, mode_with}

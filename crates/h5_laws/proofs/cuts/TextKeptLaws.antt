@@ -21,7 +21,7 @@ use Rattle.h5_rules.specs.modes.Shared.{current_is}
 use Rattle.h5_rules.specs.insertion.Foreign.{is_foreign_text}
 use Rattle.h5_rules.specs.Text.{after_row, all_blanks, by_else, closes_column_group, dropped, foreign_text, fostered_text, if_any, split, unless_foreign, text_after_body, text_after_head, text_before_head, text_before_html, text_in, text_in_body, text_in_column_group, text_in_head, text_in_head_noscript, text_in_table, text_in_table_text, text_initial, text_rule}
 use Rattle.h5_rules.specs.World.{World}
-use Rattle.h5_rules.proofs.rows.ToldLaws.{is_text}
+use Rattle.h5_rules.proofs.rows.RowTexts.{is_text}
 
 -- what is true of a world stays true
 pub record IsKept (choices : SinkChoices) (P : World → Type 0) : Type 0 where

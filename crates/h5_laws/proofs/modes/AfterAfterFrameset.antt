@@ -34,7 +34,7 @@ use Rattle.h5_laws.proofs.LawfulRow.{IsLawfulFor, IsLawfulTag, lawful_ignored, l
 use Rattle.h5_laws.proofs.cuts.TableTextLaws.{formatting_role}
 use Rattle.h5_laws.proofs.modes.AfterFrameset.{after_start_lawful}
 use Rattle.h5_laws.proofs.modes.SharedRows.{comment_to_document_lawful}
-use Rattle.h5_laws.proofs.turns.RowLeadsLaws.{ByEdge}
+use Rattle.h5_laws.proofs.turns.RowEdges.{ByEdge}
 
 after_pushed : (s : Situation) (n : QualName) (ns : List QualName) → role_of n ≡ PlainRole → NamesFit s AfterAfterFrameset ns → NamesFit s AfterAfterFrameset (n ∷ ns)
 after_pushed s n [] e f = absurd (let h = f.fits.place in omega (arith, h))

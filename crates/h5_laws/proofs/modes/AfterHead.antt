@@ -36,12 +36,12 @@ use Rattle.h5_rules.proofs.rows.ByNameLaws.{◌&◌, holds_by_name}
 use Rattle.h5_rules.proofs.rows.EndingLaws.{RowStops}
 use Rattle.h5_rules.proofs.rows.KeptLaws.{FitsAs, fits_at, fits_frameset_off}
 use Rattle.h5_rules.proofs.rows.ListedLaws.{AllListable}
-use Rattle.h5_rules.proofs.rows.ToldLaws.{IsTold, NoMode, Tells, told_append}
+use Rattle.h5_rules.proofs.rows.RowTexts.{IsTold, NoMode, Tells, told_append}
 use Rattle.h5_laws.proofs.LawfulRow.{IsLawfulFor, IsLawfulRow, IsLawfulTag, lawful_ignored, lawful_row}
 use Rattle.h5_laws.proofs.modes.SharedRows.{comment_lawful, no_template_lawful, start_html_lawful, text_row_lawful}
 use Rattle.h5_laws.proofs.turns.AgainLaws.{kind_of_start}
 use Rattle.h5_laws.proofs.turns.Ranks.{TurnKind}
-use Rattle.h5_laws.proofs.turns.RowLeadsLaws.{stops}
+use Rattle.h5_laws.proofs.turns.RowEdges.{stops}
 use Rattle.h5_laws.proofs.turns.Ranks as edges
 
 module _ (choices : SinkChoices) (w : World) (sound : Sound w) where

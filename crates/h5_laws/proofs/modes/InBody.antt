@@ -24,7 +24,7 @@ use Rattle.h5_laws.proofs.modes.SharedRows.{comment_lawful, eof_template_lawful}
 use Rattle.h5_laws.proofs.turns.AgainLaws.{Leads, end_html_kind, kind_of_end, kind_of_tag}
 use Rattle.h5_laws.proofs.turns.RankWeightLaws.{closes_templates}
 use Rattle.h5_laws.proofs.turns.Ranks.{TurnKind}
-use Rattle.h5_laws.proofs.turns.RowLeadsLaws.{ByEdge, RowLeads, stops}
+use Rattle.h5_laws.proofs.turns.RowEdges.{ByEdge, RowLeads, stops}
 use Rattle.h5_laws.proofs.turns.Ranks as edges
 
 abbrev pub is_tag : TurnText → Bool

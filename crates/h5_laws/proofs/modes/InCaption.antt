@@ -35,7 +35,7 @@ use Rattle.h5_laws.proofs.LawfulRow.{IsLawfulFor, IsLawfulTag, lawful_if, lawful
 use Rattle.h5_laws.proofs.modes.InBody.{body_other_lawful, body_tag_lawful}
 use Rattle.h5_laws.proofs.modes.TablePartLaws.{fits_cleared, fits_cut_at}
 use Rattle.h5_laws.proofs.turns.AgainLaws.{kind_of_start, kind_of_tag, part_names}
-use Rattle.h5_laws.proofs.turns.RowLeadsLaws.{end_table}
+use Rattle.h5_laws.proofs.turns.RowEdges.{end_table}
 use Rattle.h5_laws.proofs.turns.Ranks as edges
 
 -- NAMES

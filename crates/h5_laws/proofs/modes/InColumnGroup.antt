@@ -35,7 +35,7 @@ use Rattle.h5_laws.proofs.modes.SharedRows.{comment_lawful, end_template_lawful,
 use Rattle.h5_laws.proofs.modes.TablePartLaws.{leaf_fits}
 use Rattle.h5_laws.proofs.turns.AgainLaws.{kind_of_end, kind_of_start, part_end_names, part_names}
 use Rattle.h5_laws.proofs.turns.Ranks.{CellTurns, ColTurns, EndHtmlTurns, EndPartTurns, EofTurns, OtherTurns, PartTurns, RowTurns, StartTableTurns, TextTurns, TurnKind}
-use Rattle.h5_laws.proofs.turns.RowLeadsLaws.{ByEdge, ClosesColumnGroup, RowLeads}
+use Rattle.h5_laws.proofs.turns.RowEdges.{ByEdge, ClosesColumnGroup, RowLeads}
 use Rattle.h5_laws.proofs.turns.Ranks as edges
 
 -- NAMES

@@ -28,7 +28,7 @@ use Rattle.h5_laws.proofs.LawfulRow.{IsLawfulFor, IsLawfulTag, lawful_if, lawful
 use Rattle.h5_laws.proofs.modes.InTable.{table_other_lawful, table_tag_lawful}
 use Rattle.h5_laws.proofs.modes.TablePartLaws.{cell_local, left_at, put}
 use Rattle.h5_laws.proofs.turns.AgainLaws.{kind_of_end, kind_of_start, kind_of_tag, part_end_names, part_names}
-use Rattle.h5_laws.proofs.turns.RowLeadsLaws.{either_of, end_table, no_col}
+use Rattle.h5_laws.proofs.turns.RowEdges.{either_of, end_table, no_col}
 use Rattle.h5_laws.proofs.turns.Ranks as edges
 
 -- NAMES

@@ -40,7 +40,7 @@ use Rattle.h5_rules.proofs.roles.RoleLaws.{role_made}
 use Rattle.h5_rules.proofs.rows.ByNameLaws.{holds_by_name, not_ruled, of_named, of_one, ◌&◌}
 use Rattle.h5_rules.proofs.rows.EndingLaws.{RowStops}
 use Rattle.h5_rules.proofs.rows.KeptLaws.{FitsAs, Kept, as_before}
-use Rattle.h5_rules.proofs.rows.ToldLaws.{reset_no_text}
+use Rattle.h5_rules.proofs.rows.RowTexts.{reset_no_text}
 use Rattle.h5_laws.proofs.LawfulRow.{IsLawfulFor, IsLawfulTag, lawful_choose, lawful_foster, lawful_if, lawful_if_not, lawful_ignored, lawful_leading, lawful_row}
 use Rattle.h5_laws.proofs.modes.InBody.{body_other_lawful, body_tag_lawful, body_tag_stops, is_tag}
 use Rattle.h5_laws.proofs.modes.SharedRows.{comment_lawful, end_template_lawful, head_row_lawful}
@@ -48,7 +48,7 @@ use Rattle.h5_laws.proofs.modes.TablePartLaws.{down_situation, form_situation, l
 use Rattle.h5_laws.proofs.turns.AgainLaws.{kind_of_start, kind_of_turn}
 use Rattle.h5_laws.proofs.turns.RankWeightLaws.{closes_templates}
 use Rattle.h5_laws.proofs.turns.Ranks.{StartTableTurns, TextTurns}
-use Rattle.h5_laws.proofs.turns.RowLeadsLaws.{ByEdge, ClosesTable}
+use Rattle.h5_laws.proofs.turns.RowEdges.{ByEdge, ClosesTable}
 use Rattle.h5_laws.proofs.turns.Ranks as edges
 
 -- NAMES

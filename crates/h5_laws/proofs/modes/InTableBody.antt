@@ -25,7 +25,7 @@ use Rattle.h5_laws.proofs.LawfulRow.{IsLawfulFor, IsLawfulTag, lawful_if, lawful
 use Rattle.h5_laws.proofs.modes.InTable.{table_other_lawful, table_tag_lawful}
 use Rattle.h5_laws.proofs.modes.TablePartLaws.{left_at, put, section_local}
 use Rattle.h5_laws.proofs.turns.AgainLaws.{kind_of_start, kind_of_tag, part_names}
-use Rattle.h5_laws.proofs.turns.RowLeadsLaws.{either_of, end_table, no_col}
+use Rattle.h5_laws.proofs.turns.RowEdges.{either_of, end_table, no_col}
 use Rattle.h5_rules.proofs.fitting.NamesBodyLaws.{role_known}
 use Rattle.h5_laws.proofs.turns.Ranks as edges
 

@@ -27,12 +27,12 @@ use Rattle.h5_rules.proofs.modes.ReadyInLaws.{ReadyIn, in_foster, in_frameset_te
 use Rattle.h5_rules.proofs.rows.ByNameLaws.{holds_chosen}
 use Rattle.h5_rules.proofs.rows.KeptLaws.{FitsAs, as_before}
 use Rattle.h5_rules.proofs.rows.ListedLaws.{AllListable}
-use Rattle.h5_rules.proofs.rows.ToldLaws.{NoText}
+use Rattle.h5_rules.proofs.rows.RowTexts.{NoText}
 use Rattle.h5_laws.proofs.LawfulRow.{IsLawfulFor, fostered_told, lawful_ignored, lawful_row}
 use Rattle.h5_rules.proofs.fitting.NamesBodyLaws.{table_goes}
 use Rattle.h5_laws.proofs.turns.AgainLaws.{kind_of_end, kind_of_start, kind_of_tag, kind_of_turn, part_end_names, part_names}
 use Rattle.h5_laws.proofs.turns.Ranks.{CellTurns, ColTurns, EndHtmlTurns, EndPartTurns, OtherTurns, PartTurns, RowTurns, StartTableTurns}
-use Rattle.h5_laws.proofs.turns.RowLeadsLaws.{TakesPending}
+use Rattle.h5_laws.proofs.turns.RowEdges.{TakesPending}
 use Rattle.h5_laws.proofs.turns.RankWeightLaws.{is_text}
 
 tag_no_text : (k : TagKind) (name : List ℕ) → is_text (kind_of_tag k name) ≡ false

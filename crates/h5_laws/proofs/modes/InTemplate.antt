@@ -15,7 +15,7 @@ use Rattle.h5_rules.specs.modes.InTemplate.{in_template, in_template_as, in_temp
 use Rattle.h5_rules.proofs.modes.HeadContentLaws.{head_content}
 use Rattle.h5_rules.proofs.modes.TemplateRowLaws.{closed_by_tag, kept_template_mode}
 use Rattle.h5_rules.proofs.rows.ByNameLaws.{holds_by_name, of_named, of_one, ◌&◌}
-use Rattle.h5_rules.proofs.rows.ToldLaws.{is_text}
+use Rattle.h5_rules.proofs.rows.RowTexts.{is_text}
 use Rattle.h5_laws.proofs.LawfulRow.{IsLawfulFor, IsLawfulRow, IsLawfulTag, lawful_ignored, lawful_row}
 use Rattle.h5_laws.proofs.modes.InBody.{body_other_lawful}
 use Rattle.h5_laws.proofs.modes.SharedRows.{end_template_lawful, eof_template_lawful, head_row_lawful}

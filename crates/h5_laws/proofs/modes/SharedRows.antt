@@ -16,11 +16,11 @@ use Rattle.h5_rules.proofs.changes.ListsLaws.{IsSteady, steady_changes}
 use Rattle.h5_rules.proofs.modes.HeadContentLaws.{IsHeadRow, html_row}
 use Rattle.h5_rules.proofs.modes.TemplateRowLaws.{ClosedByTag, closed_by_eof}
 use Rattle.h5_rules.proofs.rows.KeptLaws.{FitsAs, kept_append, kept_comment, kept_comment_to_document}
-use Rattle.h5_rules.proofs.rows.ToldLaws.{reset_no_text}
+use Rattle.h5_rules.proofs.rows.RowTexts.{reset_no_text}
 use Rattle.h5_laws.proofs.LawfulRow.{IsLawfulFor, IsLawfulRow, IsLawfulTag, lawful_choose, lawful_ending, lawful_if, lawful_leading, lawful_nothing, lawful_row}
 use Rattle.h5_laws.proofs.turns.RankWeightLaws.{closes_templates}
 use Rattle.h5_laws.proofs.turns.Ranks.{TurnKind}
-use Rattle.h5_laws.proofs.turns.RowLeadsLaws.{ByEdge, ClosesTemplate}
+use Rattle.h5_laws.proofs.turns.RowEdges.{ByEdge, ClosesTemplate}
 
 module _ (m : InsertionMode) (w : World) where
   -- of a start tag by the rules of the head

@@ -29,7 +29,7 @@ use Rattle.h5_rules.proofs.rows.KeptLaws.{FitsAs, Kept, fits_at}
 use Rattle.h5_laws.proofs.LawfulRow.{IsLawfulFor, IsLawfulTag, lawful_ignored}
 use Rattle.h5_laws.proofs.modes.SharedRows.{text_row_lawful}
 use Rattle.h5_laws.proofs.turns.AgainLaws.{kind_of_end}
-use Rattle.h5_laws.proofs.turns.RowLeadsLaws.{EndsText, stops}
+use Rattle.h5_laws.proofs.turns.RowEdges.{EndsText, stops}
 
 module _ (choices : SinkChoices) (w : World) (sound : Sound w) where
   -- the element is left: the mode that was left for it fits again

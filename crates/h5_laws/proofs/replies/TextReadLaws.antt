@@ -38,7 +38,7 @@ use Rattle.h5_rules.proofs.changes.TreeLaws.{OnlyTree, tree_adoption, tree_clear
 use Rattle.h5_rules.proofs.fitting.ChangeLaws.{later_kinds}
 use Rattle.h5_rules.proofs.rows.EndingLaws.{Silent}
 use Rattle.h5_rules.proofs.rows.KeptLaws.{FitsAs, changes_mode}
-use Rattle.h5_rules.proofs.rows.ToldLaws.{NoMode, NoText, NoTextBehind, Tells, TurnsToText, is_text, reset_no_text}
+use Rattle.h5_rules.proofs.rows.RowTexts.{NoMode, NoText, NoTextBehind, Tells, TurnsToText, is_text, reset_no_text}
 use Rattle.h5_laws.proofs.LawfulRow.{is_start_turn}
 use Rattle.h5_laws.proofs.RuleLaws.{lawful}
 use Rattle.h5_laws.proofs.cuts.TextKeptLaws.{IsKept, text_kept}

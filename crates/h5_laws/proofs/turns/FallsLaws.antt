@@ -49,7 +49,7 @@ use Rattle.h5_rules.proofs.changes.FormattingLaws.{sound_anew, sound_reconstruct
 use Rattle.h5_rules.proofs.changes.NameLaws.{names-append, names-cut, names-insert, names-insert_head, names-insert_root}
 use Rattle.h5_rules.proofs.changes.PopLaws.{names-mark_started, names-pop, names_length}
 use Rattle.h5_laws.proofs.RuleLaws.{lawful}
-use Rattle.h5_laws.proofs.turns.RowLeadsLaws.{ByEdge, ClosesColumnGroup, ClosesTable, ClosesTemplate, EndsText, RowLeads, TakesPending}
+use Rattle.h5_laws.proofs.turns.RowEdges.{ByEdge, ClosesColumnGroup, ClosesTable, ClosesTemplate, EndsText, RowLeads, TakesPending}
 use Rattle.h5_laws.proofs.cuts.TableTextLaws.{formatting_role}
 use Rattle.h5_rules.proofs.changes.TreeLaws.{tree_reconstruct}
 use Rattle.h5_rules.proofs.modes.ReadyInLaws.{front_formatting}

@@ -22,10 +22,10 @@ use Rattle.h5_rules.proofs.changes.PopLaws.{names-pop}
 use Rattle.h5_rules.proofs.roles.TestLaws.{foreign_plain}
 use Rattle.h5_rules.proofs.rows.EndingLaws.{Silent}
 use Rattle.h5_rules.proofs.rows.KeptLaws.{apply_append}
-use Rattle.h5_rules.proofs.rows.ToldLaws.{IsTold, Tells, is_text}
+use Rattle.h5_rules.proofs.rows.RowTexts.{IsTold, Tells, is_text}
 use Rattle.h5_laws.proofs.LawfulRow.{is_start_turn}
 use Rattle.h5_laws.proofs.RuleLaws.{lawful}
-use Rattle.h5_laws.proofs.kept.ForeignFitLaws.{leaves_fitting}
+use Rattle.h5_laws.proofs.kept.DispatchLaws.{leaves_fitting}
 use Rattle.h5_laws.proofs.modes.ForeignModeLaws.{foreign_mode}
 use Rattle.h5_laws.proofs.modes.ForeignRowLaws.{Steps, any_has, dispatch_holds, each_step, eof_html}
 use Rattle.h5_laws.proofs.turns.AgainLaws.{kind_of_turn}

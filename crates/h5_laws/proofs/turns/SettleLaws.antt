@@ -16,8 +16,8 @@ use Rattle.h5_rules.specs.Sound.{Fits, Fitting, Sound}
 use Rattle.h5_rules.specs.World.{World}
 use Rattle.h5_laws.proofs.turns.AgainLaws.{kind_of_turn}
 use Rattle.h5_laws.proofs.turns.FallsLaws.{rank_few, rank_of, rank_some, text_rank_few}
-use Rattle.h5_laws.proofs.kept.FitsLaws.{FitsAfter}
-use Rattle.h5_laws.proofs.kept.ForeignFitLaws.{dispatch_kept}
+use Rattle.h5_laws.proofs.kept.SetModeLaws.{FitsAfter}
+use Rattle.h5_laws.proofs.kept.DispatchLaws.{dispatch_kept}
 use Rattle.h5_laws.proofs.modes.ForeignRowLaws.{dispatch_html}
 use Rattle.h5_laws.proofs.turns.ForeignTurnLaws.{dispatch_falls, dispatch_text_falls}
 

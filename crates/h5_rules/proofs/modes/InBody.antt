@@ -59,7 +59,7 @@ use Rattle.h5_rules.proofs.rows.ByNameLaws.{holds_by_name, holds_chosen, of_name
 use Rattle.h5_rules.proofs.rows.EndingLaws.{EndsTurn, RowStops, Silent, Stops, stops_next}
 use Rattle.h5_rules.proofs.rows.KeptLaws.{FitsAs, FitsLeft, changes_mode, fits_at, fits_frameset_off, mode_after, mode_with}
 use Rattle.h5_rules.proofs.rows.ListedLaws.{AllListable}
-use Rattle.h5_rules.proofs.rows.ToldLaws.{IsTold, NoMode, NoText, Tells, no_mode_no_text}
+use Rattle.h5_rules.proofs.rows.RowTexts.{IsTold, NoMode, NoText, Tells, no_mode_no_text}
 use Rattle.h5_names.specs.declared.known_name.KnownName.TheVariants as known
 
 -- NAMES

@@ -5,7 +5,7 @@ use Rattle.h5_rules.specs.Rows.{Again, AgainBy, Answers, Ending, IsAcknowledged,
 use Rattle.h5_rules.specs.World.{World}
 use Rattle.h5_rules.proofs.changes.ListsLaws.{NeedsOfAll}
 use Rattle.h5_rules.proofs.rows.KeptLaws.{IsBlind}
-use Rattle.h5_rules.proofs.rows.ToldLaws.{IsTold}
+use Rattle.h5_rules.proofs.rows.RowTexts.{IsTold}
 
 -- an ending after which no other turn is taken
 abbrev pub Stops : Ending → Type 0

@@ -25,7 +25,7 @@ use Rattle.h5_rules.specs.modes.Modes.{rule}
 use Rattle.h5_rules.specs.Rows.{AppendComment, AppendText, Change, Follows, InsertAndPopForeignElement, InsertForeignElement, IsDone, LeaveForeignContent, PopUntilNamedInAnyCase, Row, SetFramesetOkByText, apply_all, changed_by, choose, errs, next_mode, row}
 use Rattle.h5_rules.specs.Sound.{Fits, Fitting, Sound, situation_of}
 use Rattle.h5_rules.specs.World.{World, names_of}
-use Rattle.h5_laws.proofs.kept.FitsLaws.{FitsAfter}
+use Rattle.h5_laws.proofs.kept.SetModeLaws.{FitsAfter}
 use Rattle.h5_rules.proofs.changes.ForeignLaws.{names-insert_and_pop_foreign, names-insert_foreign, names-until_in_any_case, situation_insert_and_pop_foreign, situation_insert_foreign, situation_leave, situation_until_in_any_case}
 use Rattle.h5_laws.proofs.modes.ForeignModeLaws.{foreign_mode, foreign_namespace, found_foreign, frame_leave, names_foreign_frame, open_leave, takes_foreign}
 use Rattle.h5_laws.proofs.modes.ForeignRowLaws.{Steps, dispatch_holds, each_step, foreign_end_found, some_has}
