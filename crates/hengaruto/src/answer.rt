@@ -1,8 +1,8 @@
 //! What is printed of a tree.
-use super::command::What;
 use super::fault::Fault;
 use super::parts::Parts;
 use super::select::{Selection, put_selected};
+use h5_command_line::What;
 use h5_listing::{
     Form, Item, about, all_links, base_of, headings, links, node_lines, print_items, references,
 };

@@ -1,14 +1,13 @@
 //! The program `hengaruto`: what a page is made of, for people.
 //!
-//! `command` has the command line, `page` reads pages, `tokens` writes down tokens on their way, `answer` has what is printed of a
+//! `h5_command_line` has the command line, `page` reads pages, `tokens` writes down tokens on their way, `answer` has what is printed of a
 //! page, `parts` hands on HTML in parts, `policy_file` reads the policies by which pages are cleaned, `select` writes what a selector
 //! matches, `records` answers pages that come in lines of JSON, `dress` writes lines as a terminal shows them, and `progress` tells how
 //! far a long input is. It stands on the library `html_tree_builder`, whose standard reader reads all of HTML. Begin with
-//! `src/command.rt`.
+//! `src/run.rt`.
 #![tactic(auto)]
 
 mod answer;
-mod command;
 mod dress;
 mod fault;
 mod page;
@@ -20,7 +19,7 @@ mod run;
 mod select;
 mod tokens;
 
-use command::command;
+use h5_command_line::command;
 use run::run;
 use std::env;
 use std::io::Write;

@@ -1,8 +1,8 @@
 //! Pages that come in records, and what is answered of each.
 use super::answer::Asked;
-use super::command::What;
 use super::fault::Fault;
 use super::run::put_input;
+use h5_command_line::What;
 use h5_listing::{Page, Record, begin_answer, end_answer};
 use html_tree_builder::encodings::{Encoding, EncodingOpts};
 use std::fs;

@@ -1,6 +1,5 @@
 //! A run of the program.
 use super::answer::{Asked, put_answer};
-use super::command::{What, what_named};
 use super::dress::dressed;
 use super::fault::Fault;
 use super::page::{is_context, tokens_of, tree_of};
@@ -8,6 +7,7 @@ use super::policy_file::{policy_in, tell_policy};
 use super::records::show_records;
 use super::select::{Selection, Shown, tell_selector};
 use clap::ArgMatches;
+use h5_command_line::{What, what_named};
 use h5_listing::{Form, token_lines};
 use h5_page::TextOpts;
 use html_tree_builder::encodings::{Encoding, EncodingOpts};
