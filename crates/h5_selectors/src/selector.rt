@@ -1,16 +1,18 @@
 //! The calls of a selector.
-ghost use Rattle.std.specs.Prelude.{◌≡◌, ◌<◌, ℕ, All, Bool, IfErr, IfOk, IfSome, drop, false, get_or, length, map, not, slice_get};
+ghost use Rattle.std.specs.Prelude.{◌≡◌, ◌<◌, ℕ, All, Bool, IfErr, IfOk, IfSome, Some, drop, false, get_or, length, map, not, slice_get};
 ghost use Rattle.std.specs.List.{filter};
 ghost use Rattle.std.specs.Str.{chars};
 ghost use Rattle.h5_arena.specs.ArenaModel.{IsHeld, optional_place, place};
-ghost use Rattle.h5_selectors.specs.Fault.{IsWithin};
+ghost use Rattle.h5_selector_text.specs.Asking.{asked};
+ghost use Rattle.h5_selector_text.specs.Fault.{IsWithin, Tells};
+ghost use Rattle.h5_selector_text.specs.Grammar.{selectors_of};
 ghost use Rattle.h5_selectors.specs.Query.{matches_by, seen_by};
 ghost use Rattle.h5_selectors.specs.Ways.{below};
 
-use super::fault::SelectorFault;
-use super::formula::Formula;
+use h5_selector_text::SelectorFault;
+use h5_selector_text::Formula;
 use super::holds::{Query, holds};
-use super::parse::parse;
+use h5_selector_text::parse;
 use super::rows::rows_of;
 use super::tables::unmatched;
 use super::ways::{ancestors, elements_below, is_element};
@@ -32,8 +34,8 @@ pub struct Selector {
 impl Model for Selector {
     ghost use Rattle.std.specs.Prelude.{List};
     ghost use Rattle.std.specs.Coded.{codes};
-    ghost use Rattle.h5_selectors.specs.contracts.formula.Formula as formula;
-    ghost use Rattle.h5_selectors.specs.declared.formula.Formula.{Formula};
+    ghost use Rattle.h5_selector_text.specs.contracts.formula.Formula as formula;
+    ghost use Rattle.h5_selector_text.specs.declared.formula.Formula.{Formula};
 
     ghost Value = { List Formula };
 
@@ -150,10 +152,13 @@ fn all_below(list: &[Formula], query: &Query<'_>, id: NodeId) -> Result<Vec<Node
 impl Selector {
     ghost use Rattle.h5_selectors.specs.Selected.{is_match, matching_upwards, selected};
 
-    /// The selectors of a text, in which commas stand between them. A text that is none is `Invalid`: the fault has what is wrong, and
-    /// behind how many of the text's characters. Where memory is refused, it is `Memory`.
+    /// The selectors of a text, in which commas stand between them (Selectors Level 4, section 17, "Grammar"). A text that is none is
+    /// `Invalid`: the fault has what is wrong, and behind how many of the text's characters. One of more than 1,000 parts is `TooLong`.
+    /// Where memory is refused, it is `Memory`.
     pub fn parse(alloc: Global, text: &str) -> Result<Selector, SelectorFault>
-        ensures { IfErr result (IsWithin (length (chars text.now))) }
+        ensures selectors { IfOk result (λ selector. selectors_of (chars text.now) ≡ Some (map asked selector.now)) }
+        ensures place { IfErr result (IsWithin (length (chars text.now))) }
+        ensures fault { IfErr result (λ fault. Tells fault (selectors_of (chars text.now))) }
     {
         Ok(Selector {
             list: parse(alloc, text)?,

@@ -1,0 +1,3 @@
+mod Linking
+mod Pieces
+mod Repeating
