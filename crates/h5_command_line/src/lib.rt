@@ -2,6 +2,6 @@
 //! proved again with each change of the program.
 #![tactic(auto)]
 
-mod command;
+mod words;
 
-pub use command::{What, command, what_named};
+pub use words::{What, command, what_named};
