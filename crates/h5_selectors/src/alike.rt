@@ -4,10 +4,10 @@ ghost use Rattle.h5_selectors.specs.Rows.{AreRows};
 ghost use Rattle.h5_selectors.specs.Tables.{CountsAlike, IsAlikeBefore, IsAlikeBehind, one_more};
 ghost use Rattle.h5_selector_text.specs.declared.formula.Side.TheVariants.{First, Last};
 
-use h5_selector_text::Side;
 use super::holds::{Query, is_alike};
 use super::rows::Rows;
 use super::tables::{count_of, zeros};
+use h5_selector_text::Side;
 use std::alloc::AllocError;
 
 // The nearest sibling before a row that has its name.

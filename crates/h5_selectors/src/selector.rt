@@ -9,15 +9,13 @@ ghost use Rattle.h5_selector_text.specs.Grammar.{selectors_of};
 ghost use Rattle.h5_selectors.specs.Query.{matches_by, seen_by};
 ghost use Rattle.h5_selectors.specs.Ways.{below};
 
-use h5_selector_text::SelectorFault;
-use h5_selector_text::Formula;
 use super::holds::{Query, holds};
-use h5_selector_text::parse;
 use super::rows::rows_of;
 use super::tables::unmatched;
 use super::ways::{ancestors, elements_below, is_element};
 use h5_arena::{Arena, NodeId};
 use h5_interface::TreeSink;
+use h5_selector_text::{Formula, SelectorFault, parse};
 use std::alloc::{AllocError, Global};
 use std::marker::Model;
 

@@ -12,10 +12,10 @@ ghost use Rattle.h5_selector_text.specs.declared.formula.Way.TheVariants.{Ancest
 ghost use Rattle.h5_selectors.specs.declared.rows.Links.{Links};
 
 use super::alike::counts_alike;
-use h5_selector_text::{AnPlusB, Formula, Side, Way};
 use super::holds::{Query, holds, holds_along, is_nth, is_nth_of_type, more};
 use super::rows::{Links, Rows};
 use super::ways::is_element;
+use h5_selector_text::{AnPlusB, Formula, Side, Way};
 use std::alloc::{AllocError, Global};
 
 // So many answers of one kind.
