@@ -56,19 +56,21 @@ pub(crate) fn is_html(name: &QualName) -> bool
     name.ns == Namespace::html()
 }
 
-impl Written {
-    /// The name that an element of HTML, or another, has to have.
-    pub(crate) fn name_for(&self, in_html: bool) -> &LocalName
-        ensures { result.now ≡ h.name_for self.now in_html }
-    {
-        if in_html { &self.lower } else { &self.exact }
+// The name that an element of HTML, or another, has to have.
+fn name_for(written: &Written, in_html: bool) -> &LocalName
+    ensures { result.now ≡ h.name_for written.now in_html }
+{
+    if in_html {
+        &written.lower
+    } else {
+        &written.exact
     }
+}
 
-    pub(crate) fn is_name_of(&self, name: &QualName) -> bool
-        ensures { result ≡ h.is_named self.now name.now }
-    {
-        name.local == *self.name_for(is_html(name))
-    }
+fn is_named(written: &Written, name: &QualName) -> bool
+    ensures { result ≡ h.is_named written.now name.now }
+{
+    name.local == *name_for(written, is_html(name))
 }
 
 // Whether an element has this name.
@@ -77,7 +79,7 @@ pub(crate) fn has_name(query: &Query<'_>, id: NodeId, written: &Written) -> bool
     ensures { result ≡ h.asks_name (seen_by query.now) (quirky_by query.now) (scope_by query.now) (h.is_named written.now) id.index }
 {
     match name_of(query.arena, id) {
-        Some(name) => written.is_name_of(name),
+        Some(name) => is_named(written, name),
         None => false,
     }
 }
@@ -96,7 +98,7 @@ pub(crate) fn has_attr(query: &Query<'_>, id: NodeId, test: &AttrTest) -> bool
     } else {
         test.ignores_case
     };
-    match query.arena.attr(id, test.name.name_for(in_html).as_str()) {
+    match query.arena.attr(id, name_for(&test.name, in_html).as_str()) {
         Some(value) => compares(test.operator, ignores_case, test.text.as_str(), value),
         None => false,
     }
