@@ -154,7 +154,7 @@ impl Selector {
     /// `Invalid`: the fault has what is wrong, and behind how many of the text's characters. One of more than 1,000 parts is `TooLong`.
     /// Where memory is refused, it is `Memory`.
     pub fn parse(alloc: Global, text: &str) -> Result<Selector, SelectorFault>
-        ensures selectors { IfOk result (λ selector. selectors_of (chars text.now) ≡ Some (map asked selector.now)) }
+        ensures selectors { IfOk result (λ selector. selectors_of (chars text.now) ≡ Some (map asked selector)) }
         ensures place { IfErr result (IsWithin (length (chars text.now))) }
         ensures fault { IfErr result (λ fault. Tells fault (selectors_of (chars text.now))) }
     {
